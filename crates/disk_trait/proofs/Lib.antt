@@ -1,0 +1,6 @@
+mod Growing
+mod Pieces
+mod Moments
+mod Replaying
+mod Calls
+pub mod Runs

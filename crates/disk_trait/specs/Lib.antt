@@ -1,0 +1,10 @@
+pub mod Files
+pub mod Device
+pub mod Steps
+pub mod Schedules
+pub mod Streams
+pub mod Memory
+pub mod Standing
+pub mod Pushed
+pub mod Kept
+pub mod Laws
