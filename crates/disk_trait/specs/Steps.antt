@@ -1,5 +1,5 @@
 -- What a write and a sync of one file do together.
-use Rattle.std.specs.Prelude.{◌≡◌, ℕ, ◌+◌, ◌-◌, ◌^◌, ◌≤◌, ◌<◌, List, Result, OnOk, OnErr}
+use Rattle.std.specs.Prelude.{◌≡◌, ℕ, ◌-◌, ◌^◌, ◌≤◌, ◌<◌, List, Result, OnOk, OnErr}
 use Rattle.disk_trait.specs.Files.{Files, part}
 use Rattle.disk_trait.specs.Device.{FileTorn, FileWritten, Durable, Rose}
 use Rattle.disk_trait.specs.declared.device.File.{File}

@@ -10,6 +10,8 @@ mod sink;
 mod source;
 mod step;
 mod stream;
+#[cfg(test)]
+mod tests;
 
 pub use device::{Disk, Failed, File};
 pub use disk::MemoryDisk;

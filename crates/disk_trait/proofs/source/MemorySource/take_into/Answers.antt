@@ -1,4 +1,4 @@
-use Rattle.std.proofs.Common.{rules, refl, ◌≡◌, ◌≤◌, ◌-◌, length, arith}
+use Rattle.std.proofs.Common.{rules, refl, ◌-◌, length, arith}
 use Rattle.disk_trait.proofs.Pieces.{piece_taken}
 use Rattle.disk_trait.proofs.source.MemorySource.take_into.Goals as goal
 
