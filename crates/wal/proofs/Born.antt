@@ -1,0 +1,78 @@
+-- What a crash leaves while a log is created.
+use Rattle.std.proofs.Common.{◌≡◌, ℕ, ◌<◌, List, [], ◌∷◌, ◌++◌, length, get_or, refl, sym, ap, ◌∙◌, subst, arith, inl, inr}
+use Rattle.std.proofs.lemmas.List.{drop_all}
+use Rattle.std.proofs.lemmas.Bool.{cases_eq, cases_lt}
+use Rattle.disk_trait.specs.Files.{Files, overwritten}
+use Rattle.disk_trait.specs.Device.{Torn}
+use Rattle.disk_trait.specs.declared.device.File.TheVariants.{Log}
+use Rattle.wal.specs.Batches.{IsUnborn, Counts, Opens}
+use Rattle.wal.specs.Settled.{LogIs, Settled}
+use Rattle.disk_trait.specs.Steps.{TornFrom, Stands}
+use Rattle.wal.specs.Creating.{name_and_gate, created, Shut, From}
+use Rattle.wal.proofs.Places.{torn_gate, written_behind, written_gate}
+
+-- the first write: what it leaves is too short for a log
+pub closing_torn : (L : List ℕ) (old : Files → Type 0) → length L < 18 → ((d : Files) → old d → d.log ≡ L) → (c : Files) → TornFrom Log 0 1 old c → From old IsUnborn c
+closing_torn L old short durable c torn =
+    let is : length torn.0.log ≡ length L = ap length (durable torn.0 torn.1) in
+    record { before = torn.0; was = torn.1; pages = torn.2.same; log = inl (omega (arith, is, torn.2.torn.no_longer)) }
+
+-- the second: the gate stays closed, and no more than 18 bytes stand there
+pub naming_torn : (L : List ℕ) (old : Files → Type 0) → Shut L → ((d : Files) → old d → d.log ≡ L) → (c : Files) → TornFrom Log 1 17 old c → From old (λ log. Opens log []) c
+naming_torn L old gate_shut durable c torn =
+    let is : torn.0.log ≡ gate_shut.gate ∷ gate_shut.rest = durable torn.0 torn.1 ∙ gate_shut.is in
+    let long = ap length is in
+    let gate : get_or c.log 0 0 ≡ gate_shut.gate = torn.2.torn.elsewhere 0 (omega (arith, long)) (inl (omega arith)) ∙ ap (λ (l : List ℕ). get_or l 0 0) is in
+    record {
+      before = torn.0;
+      was = torn.1;
+      pages = torn.2.same;
+      log = inl (
+        elim (cases_lt (length c.log) 18) [
+          | inl short ↦ inl (omega arith)
+          | inr full ↦ inr (omega (arith, long, torn.2.torn.no_longer, gate_shut.short), λ e. gate_shut.shut (sym gate ∙ e))
+        ],
+        refl,
+      );
+    }
+
+pub named : (L : List ℕ) (old new : Files) (images : Files → Type 0) → Shut L → old.log ≡ L → Stands Log 1 name_and_gate old new images → (gate : ℕ) × LogIs (gate ∷ name_and_gate) new images
+named L old new images gate_shut log stands =
+    let now : new.log ≡ gate_shut.gate ∷ name_and_gate =
+    stands.written.written ∙ ap (overwritten 1 name_and_gate) (log ∙ gate_shut.is) ∙ written_behind [] 0 gate_shut.gate gate_shut.rest refl name_and_gate
+    ∙ ap (λ (l : List ℕ). gate_shut.gate ∷ (name_and_gate ++ l)) (drop_all 17 gate_shut.rest gate_shut.short) in
+    (gate_shut.gate, record { now = now; durable = λ c left. stands.durable c left ∙ now })
+
+whole : (c : List ℕ) → c ≡ 1 ∷ name_and_gate → Counts c []
+whole c is = record { gate = 0; rest = []; split = is; shut = λ e. omega arith; fit = tt }
+
+-- the third: the store's gate
+pub opening_torn : (g : ℕ) (old mid : Files → Type 0) → ((d : Files) → mid d → d.log ≡ g ∷ name_and_gate) → ((d : Files) → mid d → (e : Files) × old e × (d.pages ≡ e.pages)) → (c : Files) → TornFrom Log 0 1 mid c → From old (λ log. Opens log []) c
+opening_torn g old mid durable pages c torn =
+    let at = torn_gate [] 0 g name_and_gate refl c.log (subst (λ (l : List ℕ). Torn 0 1 l c.log) (durable torn.0 torn.1) torn.2.torn) in
+    let from = pages torn.0 torn.1 in
+    record {
+      before = from.0;
+      was = from.1;
+      pages = torn.2.same ∙ from.2;
+      log = elim (cases_eq at.0 1) [
+        | inl is_open ↦ inr (whole c.log (at.1 ∙ ap (λ (k : ℕ). k ∷ name_and_gate) is_open))
+        | inr away ↦ inl (inr (ap length at.1, λ e. away (sym (ap (λ (l : List ℕ). get_or l 0 0) at.1) ∙ e)), refl)
+      ];
+    }
+
+pub opened_log : (g : ℕ) (old new : Files) (images : Files → Type 0) → old.log ≡ g ∷ name_and_gate → Stands Log 0 (1 ∷ []) old new images → LogIs created new images
+opened_log g old new images log stands =
+    let now : new.log ≡ created = stands.written.written ∙ ap (overwritten 0 (1 ∷ [])) log ∙ written_gate [] 0 g name_and_gate refl in
+    record { now = now; durable = λ c left. stands.durable c left ∙ now }
+
+pub created_settled : (new : Files) (images : Files → Type 0) → LogIs created new images → Settled [] 17 new images
+created_settled new images is = record { gate = 0; rest = []; log = is; shut = λ e. omega arith; fit = tt; ends = refl }
+
+pub unborn_opens : (old : Files → Type 0) (c : Files) → From old IsUnborn c → From old (λ log. Opens log []) c
+unborn_opens old c from = record { before = from.before; was = from.was; pages = from.pages; log = inl (from.log, refl) }
+
+pub from_both : (old mid : Files → Type 0) (P Q : List ℕ → Type 0) → ((d : Files) → mid d → From old P d) → (c : Files) → From mid Q c → From old Q c
+from_both old mid P Q earlier c from =
+    let first = earlier from.before from.was in
+    record { before = first.before; was = first.was; pages = from.pages ∙ first.pages; log = from.log }

@@ -1,0 +1,88 @@
+-- What a crash leaves in each of the two steps of a batch.
+use Rattle.std.proofs.Common.{◌≡◌, ◌≢◌, ◌⊎◌, ℕ, ◌+◌, ◌<◌, ◌^◌, List, [], ◌∷◌, ◌++◌, length, drop, sym, ap, ◌∙◌, subst, arith, inl, inr, length-append, append_assoc}
+use Rattle.std.proofs.lemmas.List.{append-nil}
+use Rattle.std.proofs.lemmas.Bool.{cases_eq}
+use Rattle.disk_trait.specs.Files.{Files, overwritten}
+use Rattle.disk_trait.specs.Device.{Torn}
+use Rattle.disk_trait.specs.declared.device.File.TheVariants.{Log}
+use Rattle.wal.specs.Batches.{header, sealed, blocks, front, AllFit, Counts, Opens}
+use Rattle.wal.specs.Settled.{LogIs, Settled, BeforeOrAfter}
+use Rattle.disk_trait.specs.Steps.{TornFrom, Stands}
+use Rattle.wal.proofs.Places.{torn_behind, torn_gate, written_behind, written_gate}
+
+pub fit_push : (batches : List (List ℕ)) (batch : List ℕ) → AllFit batches → 0 < length batch → length batch < 2 ^ 32 → AllFit (batches ++ batch ∷ [])
+fit_push [] batch fit some small = (some, small, tt)
+fit_push (b ∷ bs) batch fit some small = (fit.0, fit.1, fit_push bs batch fit.2 some small)
+
+blocks_push : (batches : List (List ℕ)) (batch tail : List ℕ) → blocks (batches ++ batch ∷ []) ++ tail ≡ blocks batches ++ 1 ∷ (sealed batch ++ tail)
+blocks_push [] batch tail = ap (λ (l : List ℕ). 1 ∷ (l ++ tail)) (append-nil (sealed batch))
+blocks_push (b ∷ bs) batch tail =
+    ap (λ (l : List ℕ). 1 ∷ l) (append_assoc (sealed b) (blocks (bs ++ batch ∷ [])) tail ∙ ap (λ (l : List ℕ). sealed b ++ l) (blocks_push bs batch tail) ∙ sym (append_assoc (sealed b) (blocks bs) (1 ∷ (sealed batch ++ tail))))
+
+pub front_push : (batches : List (List ℕ)) (batch tail : List ℕ) → front batches ++ 1 ∷ (sealed batch ++ tail) ≡ front (batches ++ batch ∷ []) ++ tail
+front_push batches batch tail = ap (λ (l : List ℕ). header ++ l) (sym (blocks_push batches batch tail))
+
+pub length-front_push : (batches : List (List ℕ)) (batch : List ℕ) → length (front (batches ++ batch ∷ [])) ≡ length (front batches) + 5 + length batch
+length-front_push batches batch =
+    let whole : length (front batches ++ 1 ∷ (sealed batch ++ [])) ≡ length (front (batches ++ batch ∷ []) ++ []) = ap length (front_push batches batch []) in
+    omega (arith, whole, length-append (front batches) (1 ∷ (sealed batch ++ [])), length-append (sealed batch) [], length-append (front (batches ++ batch ∷ [])) [])
+
+module _ (batches : List (List ℕ)) (batch chunk : List ℕ) (is : chunk ≡ sealed batch ++ 0 ∷ []) (some : 0 < length batch) (small : length batch < 2 ^ 32) (end : ℕ) (gate : ℕ) (rest : List ℕ) (shut : gate ≢ 1) (fit : AllFit batches)
+    (ends : length (front batches) ≡ end) where
+  -- the log once the chunk stands behind the gate
+  abbrev pub staged : ℕ → List ℕ
+  staged g = front batches ++ g ∷ (chunk ++ drop (length chunk) rest)
+
+  -- behind an open gate it counts
+  pub opened : staged 1 ≡ front (batches ++ batch ∷ []) ++ 0 ∷ drop (length chunk) rest
+  opened =
+      ap (λ (l : List ℕ). front batches ++ 1 ∷ (l ++ drop (length chunk) rest)) is
+      ∙ ap (λ (l : List ℕ). front batches ++ 1 ∷ l) (append_assoc (sealed batch) (0 ∷ []) (drop (length chunk) rest))
+      ∙ front_push batches batch (0 ∷ drop (length chunk) rest)
+
+  pub with_it : (c : List ℕ) → c ≡ staged 1 → Counts c (batches ++ batch ∷ [])
+  with_it c eq = record { gate = 0; rest = drop (length chunk) rest; split = eq ∙ opened; shut = λ e. omega arith; fit = fit_push batches batch fit some small }
+
+  pub without_it : (c r : List ℕ) (g : ℕ) → c ≡ front batches ++ g ∷ r → g ≢ 1 → Counts c batches
+  without_it c r g eq away = record { gate = g; rest = r; split = eq; shut = away; fit = fit }
+
+  pub any_gate : (c : List ℕ) (g : ℕ) → c ≡ staged g → Opens c batches ⊎ Opens c (batches ++ batch ∷ [])
+  any_gate c g eq = elim (cases_eq g 1) [
+    | inl open_gate ↦ inr (inr (with_it c (eq ∙ ap staged open_gate)))
+    | inr away ↦ inl (inr (without_it c (chunk ++ drop (length chunk) rest) g eq away))
+  ]
+
+  -- the first write, torn
+  pub first_torn : (old : Files → Type 0) → ((d : Files) → old d → d.log ≡ front batches ++ gate ∷ rest) → (c : Files) → TornFrom Log (end + 1) (length chunk) old c → BeforeOrAfter batches batch old c
+  first_torn old durable c torn =
+      let behind = torn_behind (front batches) end gate rest ends (length chunk) c.log (subst (λ (l : List ℕ). Torn (end + 1) (length chunk) l c.log) (durable torn.0 torn.1) torn.2.torn) in
+      record { before = torn.0; was = torn.1; pages = torn.2.same; log = inl (inr (without_it c.log behind.0 gate behind.1 shut)) }
+
+  -- the second, from what the first has left on the disk
+  pub second_torn : (old mid : Files → Type 0) → ((d : Files) → mid d → d.log ≡ staged gate) → ((d : Files) → mid d → (e : Files) × old e × (d.pages ≡ e.pages)) → (c : Files) → TornFrom Log end 1 mid c → BeforeOrAfter batches batch old c
+  second_torn old mid durable pages c torn =
+      let at = torn_gate (front batches) end gate (chunk ++ drop (length chunk) rest) ends c.log (subst (λ (l : List ℕ). Torn end 1 l c.log) (durable torn.0 torn.1) torn.2.torn) in
+      let from = pages torn.0 torn.1 in
+      record { before = from.0; was = from.1; pages = torn.2.same ∙ from.2; log = any_gate c.log at.0 at.1 }
+
+  -- what stands after the first
+  pub first_stands : (old new : Files) (images : Files → Type 0) → old.log ≡ front batches ++ gate ∷ rest → Stands Log (end + 1) chunk old new images → LogIs (staged gate) new images
+  first_stands old new images log stands =
+      let now : new.log ≡ staged gate = stands.written.written ∙ ap (overwritten (end + 1) chunk) log ∙ written_behind (front batches) end gate rest ends chunk in
+      record { now = now; durable = λ c left. stands.durable c left ∙ now }
+
+  pub second_stands : (old new : Files) (images : Files → Type 0) → old.log ≡ staged gate → Stands Log end (1 ∷ []) old new images → Settled (batches ++ batch ∷ []) (end + length chunk) new images
+  second_stands old new images log stands =
+      let now : new.log ≡ front (batches ++ batch ∷ []) ++ 0 ∷ drop (length chunk) rest =
+      stands.written.written ∙ ap (overwritten end (1 ∷ [])) log ∙ written_gate (front batches) end gate (chunk ++ drop (length chunk) rest) ends ∙ opened in
+      record {
+        gate = 0;
+        rest = drop (length chunk) rest;
+        log = record { now = now; durable = λ c left. stands.durable c left ∙ now };
+        shut = λ e. omega arith;
+        fit = fit_push batches batch fit some small;
+        ends = longer;
+      }
+    where
+      longer : length (front (batches ++ batch ∷ [])) ≡ end + length chunk
+      longer = omega (arith, length-front_push batches batch, ends, ap length is, length-append (sealed batch) (0 ∷ []))

@@ -1,0 +1,59 @@
+-- What the calls of a log answer, and what the device has counted then.
+use Rattle.std.specs.Prelude.{◌≡◌, ◌⊎◌, ℕ, ◌<◌, ◌≤◌, List, [], ◌++◌, Option, Some, None, Result, Ok, Err, IsErrOf}
+use Rattle.disk_trait.specs.Device.{Rose}
+use Rattle.wal.specs.Waiting.{waiting_then}
+use Rattle.wal.specs.declared.error.WalError.{WalError}
+use Rattle.wal.specs.declared.error.WalError.TheVariants.{DiskFault, LogFull, NotAStore, Down, OutOfMemory}
+
+-- the count rose exactly where DiskFault is answered
+abbrev pub RoseAtFault : {T : Type 0} → Result T WalError → ℕ → ℕ → Type 0
+RoseAtFault (Err DiskFault) before now = Rose before now
+RoseAtFault r before now = now ≡ before
+
+-- The counts of a call that writes. They never fall.
+pub record WriteHasCause {T : Type 0} (faults faults' writes writes' : ℕ) (result : Result T WalError) : Type 0 where
+  pub later : (faults ≤ faults') × (writes ≤ writes')
+  pub fault : IsErrOf result DiskFault → Rose faults faults'
+  pub write_fault : RoseAtFault result writes writes'
+
+-- The counts of a call that reads: no write failed.
+pub record ReadHasCause {T : Type 0} (faults faults' writes writes' : ℕ) (result : Result T WalError) : Type 0 where
+  pub later : faults ≤ faults'
+  pub fault : IsErrOf result DiskFault → Rose faults faults'
+  pub no_write : writes' ≡ writes
+
+-- the log goes down exactly where DiskFault is answered, with the device's count as it is then
+abbrev pub GoesDown : {T : Type 0} → Result T WalError → ℕ → Option ℕ → Option ℕ → Type 0
+GoesDown (Err DiskFault) faults old new = new ≡ Some faults
+GoesDown r faults old new = new ≡ old
+
+-- NotAStore exactly where P holds, if no fault and no want of memory is met. Nothing else is refused.
+abbrev pub NotAStoreWhere : {T : Type 0} → Type 0 → Result T WalError → Type 0
+NotAStoreWhere P (Ok x) = P → ⊥
+NotAStoreWhere P (Err NotAStore) = P
+NotAStoreWhere P (Err DiskFault) = Unit {0}
+NotAStoreWhere P (Err OutOfMemory) = Unit {0}
+NotAStoreWhere P (Err LogFull) = ⊥
+NotAStoreWhere P (Err (Down f)) = ⊥
+
+-- LogFull exactly where the log would pass its limit, if it isn't down and no fault is met. NotAStore is never answered.
+abbrev pub LogFullWhere : {T : Type 0} → ℕ → ℕ → Result T WalError → Type 0
+LogFullWhere limit len (Ok x) = len ≤ limit
+LogFullWhere limit len (Err LogFull) = limit < len
+LogFullWhere limit len (Err OutOfMemory) = len ≤ limit
+LogFullWhere limit len (Err DiskFault) = Unit {0}
+LogFullWhere limit len (Err (Down f)) = Unit {0}
+LogFullWhere limit len (Err NotAStore) = ⊥
+
+-- what waits after an append: of a refused entry nothing is there
+abbrev pub AppendLeaves : {T : Type 0} → List ℕ → List ℕ → Result T WalError → List ℕ → Type 0
+AppendLeaves w entry (Ok x) new = new ≡ waiting_then w ++ entry
+AppendLeaves w entry (Err DiskFault) new = new ≡ []
+AppendLeaves w entry (Err (Down f)) new = new ≡ w
+AppendLeaves w entry (Err e) new = new ≡ waiting_then w
+
+-- P, but where a fault is answered, of this call or of an earlier one
+abbrev pub UnlessFault : {T : Type 0} → Result T WalError → Type 0 → Type 0
+UnlessFault (Err DiskFault) P = Unit {0}
+UnlessFault (Err (Down f)) P = Unit {0}
+UnlessFault r P = P
