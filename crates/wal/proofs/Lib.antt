@@ -5,4 +5,5 @@ mod Born
 mod Lists
 mod Unique
 mod Walking
+mod Whole
 pub mod Keeping

@@ -2,7 +2,7 @@
 use Rattle.std.specs.Prelude.{◌≡◌, ◌≢◌, ◌⊎◌, ℕ, ◌+◌, ◌^◌, ◌<◌, ◌≤◌, List, [], ◌∷◌, ◌++◌, length, get_or, take, drop, false, None, Result, Ok, Err, true, Bool}
 use Rattle.disk_trait.specs.Files.{Files}
 use Rattle.disk_trait.specs.Device.{Past, LeavesOnly}
-use Rattle.wal.specs.Batches.{header, u32_bytes, sealed, front, AllFit}
+use Rattle.wal.specs.Batches.{header, u32_bytes, sealed, front, AllFit, Counts, Opens}
 use Rattle.wal.specs.Waiting.{end_of, limit_of, down_of, waiting, IsReady}
 use Rattle.wal.specs.declared.log.Wal.{Wal}
 
@@ -59,3 +59,10 @@ abbrev pub Gives : {E : Type 0} → Result Bool E → List ℕ → (List ℕ →
 Gives (Ok true) out P = P out
 Gives (Ok false) out P = out ≡ []
 Gives (Err e) out P = out ≡ []
+
+-- A log that opens to some batches is no foreign one, and behind the batches that were read no broken one stands.
+abbrev pub IsNeverForeign : Type 0
+IsNeverForeign = (log : List ℕ) (batches : List (List ℕ)) → Opens log batches → IsForeign log → ⊥
+
+abbrev pub IsNeverBroken : Type 0
+IsNeverBroken = (log rest : List ℕ) (read batches : List (List ℕ)) → AllFit read → log ≡ front read ++ rest → Counts log batches → IsBroken log (length (front read)) → ⊥

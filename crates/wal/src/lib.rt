@@ -11,7 +11,9 @@ mod error;
 mod laws;
 mod log;
 mod reading;
+#[cfg(test)]
+mod tests;
 
 pub use error::WalError;
-pub use laws::one_list;
+pub use laws::{never_refused, one_list};
 pub use log::{MOST_WAITING, Wal};
