@@ -110,3 +110,6 @@ pub fn normal_form_is_one()
 pub fn plain_text_has_one_value()
     ensures { PlainTextHasOneValue }
 {}
+
+#[cfg(test)]
+mod tests;

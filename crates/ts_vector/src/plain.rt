@@ -9,6 +9,9 @@ use crate::entries::Item;
 use std::alloc::Global;
 use ts_base::{LAST_POSITION, Lexeme, Position, Weight};
 
+/// The least digit with which a position's number begins.
+const FIRST_DIGIT: u8 = b'1';
+
 /// Whether the text is 1 to 32 letters a to z.
 pub fn is_plain_lexeme(text: &str) -> bool
     ensures { IsTrue result ↔ IsPlainLexeme text.now }
@@ -22,7 +25,7 @@ fn read_position(text: &str) -> Option<u16>
     ensures { MatchOption result ((n : ℕ) → 1 ≤ n → n ≤ 16383 → text.now ≢ decimal n) (λ n. (1 ≤ n) × (n ≤ 16383) × (text.now ≡ decimal n)) }
 {
     let bytes = text.as_bytes();
-    if bytes.is_empty() || bytes[0] < b'1' {
+    if bytes.is_empty() || bytes[0] < FIRST_DIGIT {
         return None;
     }
     match text.parse::<u16>() {
