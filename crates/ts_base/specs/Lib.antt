@@ -1,0 +1,5 @@
+pub mod Fault
+pub mod Leads
+pub mod Lexemes
+pub mod Vectors
+pub mod Bytes
