@@ -7,3 +7,4 @@ pub mod Tops
 pub mod Merging
 pub mod Settling
 pub mod Counts
+pub mod Values

@@ -91,6 +91,7 @@ impl TsVector {
     pub fn encode(&self, out: &mut Vec<u8>) -> Result<(), AllocError>
         ensures ok { OnOk result (out.new.items ≡ out.old.items ++ vector_bytes self.now) }
         ensures err { OnErr result (out.new.items ≡ out.old.items) }
+        ensures normal { IsNormal self.now }
     {
         let start = out.len();
         if let Err(error) = put_items(out, self.items.as_slice()) {

@@ -125,6 +125,13 @@ impl Wal {
         self.flush_waiting(disk)
     }
 
+    /// The device's count of faults just after the fault that brought the log down, if one did.
+    pub fn fault(&self) -> Option<u64>
+        ensures { result ≡ down_of self.now }
+    {
+        self.down
+    }
+
     /// The entry waits behind what waits, after a flush where much does. Of a refused entry nothing is there.
     pub fn append<D: Disk>(&mut self, disk: &mut D, bytes: &[u8]) -> Result<(), WalError>
         requires ready { IsReady self.old }

@@ -191,7 +191,7 @@ impl Wal {
         ensures settled { D.tells → (batches : List (List ℕ)) → IsReading self.old (D.seen disk.old).log batches
             → LogIs (D.seen disk.old).log (D.seen disk.old) (D.image disk.old (D.clock disk.old))
             → result ≡ Ok false → Settled batches (end_of self.new) (D.seen disk.new) (D.image disk.new (D.clock disk.new)) }
-        ensures ready { result ≡ Ok false → IsReady self.new }
+        ensures ready { result ≡ Ok false → IsReady self.new × (end_of self.new ≡ end_of self.old) }
         ensures again { IsReady self.old → (result ≡ Ok false) × (self.new ≡ self.old) × (disk.new ≡ disk.old) }
         ensures none { Gives result out.new.items (λ _. ⊤) }
         ensures same { IsSameBut self.old self.new }

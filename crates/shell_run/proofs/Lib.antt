@@ -1,0 +1,16 @@
+pub mod Front
+pub mod Cuts
+pub mod Spelling
+pub mod Streams
+pub mod Documents
+pub mod Runs
+pub mod Safety
+pub mod Logging
+pub mod Emptying
+pub mod Ending
+pub mod Held
+pub mod Refusing
+pub mod Going
+pub mod Progressing
+pub mod Meaning
+pub mod Askings

@@ -1,0 +1,202 @@
+-- A run grows by one statement.
+use Rattle.std.proofs.Common.{◌≡◌, ◌≢◌, ◌⊎◌, inl, inr, ℕ, zero, suc, ◌+◌, ◌<◌, ◌≤◌, Bool, true, false, cond, List, [], ◌∷◌, ◌++◌, length, length-append, append_assoc, arith, refl, sym, ◌∙◌, ap, subst, get_or}
+use Rattle.std.specs.Prelude.{Option, Some, None, IfSome, count_by, sum_by, ◌==◌}
+use Rattle.std.specs.List.{All, Any, slice_get}
+use Rattle.std.proofs.lemmas.List.{take-append-le, get_or_append_left}
+use Rattle.std.proofs.lemmas.List.Elements.{All-push, All-head, All-tail}
+use Rattle.std.proofs.lemmas.List.Sums.{sum_by_push, sum_by-cons}
+use Rattle.std.proofs.lemmas.Bool.{ne_eqb, eqb-false, eqb-true}
+use Rattle.ts_base.specs.Vectors.{Vector}
+use Rattle.shell_run.specs.Grammar.{Ask, insert, search as finding, nothing}
+use Rattle.shell_run.specs.History.{Document, Commit, History, IsLawful, Begins, docs, IsFull, found, insertion}
+use Rattle.shell_run.specs.Entries.{IsLogFull}
+use Rattle.shell_run.specs.Run.{Row, Note, Place, Counts, Reply, stored, lists, refused, store_full, log_full, down, device, memory, no_statement, Run, IsWithin, IsAnswered, IsInsertAnswered, IsSearchAnswered, MayHaveOwn, MetFault, IsDownSince, AsksStore, IsDownReply, IsSeenBy, Before, has_commit, is_at, seen_by, HasOwn}
+
+get_more : {X : Type 0} (xs ys : List X) (i : ℕ) (x : X) → slice_get xs i ≡ Some x → slice_get (xs ++ ys) i ≡ Some x
+get_more [] ys i x e = cc
+get_more (y ∷ xs) ys zero x e = e
+get_more (y ∷ xs) ys (suc i) x e = get_more xs ys i x e
+
+pub get_last : {X : Type 0} (xs : List X) (x : X) → slice_get (xs ++ x ∷ []) (length xs) ≡ Some x
+get_last [] x = refl
+get_last (y ∷ xs) x = get_last xs x
+
+pub seen_more : (commits more : History) (note : Note) → note.snapshot ≤ length commits → seen_by (commits ++ more) note ≡ seen_by commits note
+seen_more commits more note h = ap docs (take-append-le note.snapshot commits more h)
+
+own_more : (commits more : History) (note : Note) (c : Commit) → HasOwn commits note c → HasOwn (commits ++ more) note c
+own_more commits more note c h = (h.0, h.1, get_more commits more h.0 c h.2)
+
+-- counts of a longer part of a run
+pub record Grows (k l : Counts) : Type 0 where
+  pub faults : l.faults ≡ k.faults
+  pub writes : l.writes ≡ k.writes
+  pub faults_after : k.faults_after ≤ l.faults_after
+  pub writes_after : k.writes_after ≤ l.writes_after
+
+own_may : (commits more : History) (note : Note) (v : Vector) → MayHaveOwn commits note v → MayHaveOwn (commits ++ more) note v
+own_may commits more note v (inl n) = inl n
+own_may commits more note v (inr h) = inr (h.0, own_more commits more note (insertion (record { name = h.0; vector = v })) h.1)
+
+met_more : (k l : Counts) (note : Note) → Grows k l → MetFault k note → MetFault l note
+met_more k l note g (inl h) = inl h
+met_more k l note g (inr h) = inr (omega (arith, g.faults_after))
+
+down_more : (k l : Counts) (count : ℕ) → Grows k l → IsDownSince k count → IsDownSince l count
+down_more k l count g h = (omega (arith, g.faults, h.0), omega (arith, g.faults_after, h.1), omega (arith, g.writes, g.writes_after, h.2))
+
+not_full_more : (commits more : History) (note : Note) (P : List Document → Type 0) → note.snapshot ≤ length commits → (P (seen_by commits note) → ⊥) → P (seen_by (commits ++ more) note) → ⊥
+not_full_more commits more note P le h f = h (subst P (seen_more commits more note le) f)
+
+is_full_more : (commits more : History) (note : Note) (P : List Document → Type 0) → note.snapshot ≤ length commits → P (seen_by commits note) → P (seen_by (commits ++ more) note)
+is_full_more commits more note P le h = subst P (sym (seen_more commits more note le)) h
+
+insert_more : (k l : Counts) (commits more : History) (v : Vector) (reply : Reply) (note : Note) → Grows k l → note.snapshot ≤ length commits → IsInsertAnswered k commits v reply note → IsInsertAnswered l (commits ++ more) v reply note
+insert_more k l commits more v (stored name) note g le h = (
+  own_more commits more note (insertion (record { name = name; vector = v })) h.0,
+  not_full_more commits more note (λ ds. IsFull ds v) le h.1,
+  not_full_more commits more note (λ ds. IsLogFull ds v) le h.2,
+)
+insert_more k l commits more v (refused store_full) note g le h = (h.0, is_full_more commits more note (λ ds. IsFull ds v) le h.1)
+insert_more k l commits more v (refused log_full) note g le h = (h.0, not_full_more commits more note (λ ds. IsFull ds v) le h.1, is_full_more commits more note (λ ds. IsLogFull ds v) le h.2)
+insert_more k l commits more v (refused (down count)) note g le h = (own_may commits more note v h.0, down_more k l count g h.1)
+insert_more k l commits more v (refused device) note g le h = (own_may commits more note v h.0, met_more k l note g h.1)
+insert_more k l commits more v (refused memory) note g le h = h
+insert_more k l commits more v (lists names) note g le h = absurd h
+insert_more k l commits more v (refused (no_statement at)) note g le h = absurd h
+
+search_more : (k l : Counts) (commits more : History) (q : List ℕ) (reply : Reply) (note : Note) → Grows k l → note.snapshot ≤ length commits → IsSearchAnswered k commits q reply note → IsSearchAnswered l (commits ++ more) q reply note
+search_more k l commits more q (lists names) note g le h = (h.0, h.1 ∙ ap (λ ds. found ds q) (sym (seen_more commits more note le)))
+search_more k l commits more q (refused (down count)) note g le h = (h.0, down_more k l count g h.1)
+search_more k l commits more q (refused memory) note g le h = h
+search_more k l commits more q (stored name) note g le h = absurd h
+search_more k l commits more q (refused (no_statement at)) note g le h = absurd h
+search_more k l commits more q (refused store_full) note g le h = absurd h
+search_more k l commits more q (refused log_full) note g le h = absurd h
+search_more k l commits more q (refused device) note g le h = absurd h
+
+answered_more : (k l : Counts) (commits more : History) (place : Place) (ask : Ask) (reply : Reply) (note : Note) → Grows k l → note.snapshot ≤ length commits → IsAnswered k commits place ask reply note → IsAnswered l (commits ++ more) place ask reply note
+answered_more k l commits more place (insert v) reply note g le h = insert_more k l commits more v reply note g le h
+answered_more k l commits more place (finding q) reply note g le h = search_more k l commits more q reply note g le h
+answered_more k l commits more place nothing reply note g le h = h
+
+below_some : (o : Option ℕ) (s n m : ℕ) → n ≤ m → IfSome o (λ p. (s ≤ p) × (p < n)) → IfSome o (λ p. (s ≤ p) × (p < m))
+below_some None s n m le h = tt
+below_some (Some p) s n m le h = (h.0, omega arith)
+
+within_more : (low n m : ℕ) (note : Note) → n ≤ m → IsWithin low n note → IsWithin low m note
+within_more low n m note le h = record { low_is = h.low_is; high_is = omega (arith, h.high_is); own = below_some note.commit note.snapshot n m le h.own }
+
+-- a number is at most once a note's
+not_at : (k : ℕ) (o : Option ℕ) (s n : ℕ) → n ≤ k → IfSome o (λ p. (s ≤ p) × (p < n)) → is_at k o ≡ false
+not_at k None s n le h = refl
+not_at k (Some p) s n le h = ne_eqb p k (λ e. omega arith)
+
+none_yet : (low n : ℕ) (rows : List Row) → All (λ (r : Row). IsWithin low n r.note) rows → count_by (has_commit n) rows ≡ 0
+none_yet low n [] h = refl
+none_yet low n (r ∷ rows) h =
+    let first : IsWithin low n r.note = All-head (λ (r : Row). IsWithin low n r.note) r rows h in
+    sum_by-cons (λ (r : Row). cond (has_commit n r) 1 0) r rows
+    ∙ ap (λ b. cond b 1 0 + count_by (has_commit n) rows) (not_at n r.note.commit r.note.snapshot n (omega arith) first.own)
+    ∙ (let z : 0 + count_by (has_commit n) rows ≡ 0 = omega (arith, none_yet low n rows (All-tail (λ (r : Row). IsWithin low n r.note) r rows h)) in z)
+
+-- What is known of one statement more.
+pub record Step (k l : Counts) (first commits more : History) (rows : List Row) (row : Row) : Type 0 where
+  pub run : Run k first commits rows
+  pub grows : Grows k l
+  pub snapshot : row.note.snapshot ≡ length commits
+  pub answered : IsAnswered l (commits ++ more) row.place row.ask row.reply row.note
+  pub own : ((more ≡ []) × (row.note.commit ≡ None)) ⊎ ((c : Commit) × (more ≡ c ∷ []) × (row.note.commit ≡ Some (length commits)))
+  pub lawful : IsLawful (commits ++ more)
+  pub last : All (λ (r : Row). r.place.step < row.place.step) rows
+  pub finds_down : All (λ (r : Row). 0 < r.note.writes → AsksStore row.ask → IsDownReply row.reply) rows
+  pub down : IsDownReply row.reply → Any (λ (r : Row). 0 < r.note.writes) rows
+  pub faults : k.faults_after + row.note.faults ≤ l.faults_after
+  pub writes : k.writes_after + row.note.writes ≤ l.writes_after
+
+low_below : (first commits : History) → Begins first commits → length first ≤ length commits
+low_below first commits h = omega (arith, ap length h.1, length-append first h.0)
+
+within_new : (k l : Counts) (first commits more : History) (rows : List Row) (row : Row) → Step k l first commits more rows row → IsWithin (length first) (length (commits ++ more)) row.note
+within_new k l first commits more rows row h =
+    record {
+      low_is = omega (arith, h.snapshot, low_below first commits h.run.begins);
+      high_is = omega (arith, h.snapshot, length-append commits more);
+      own = elim h.own [
+        | inl n ↦ subst (λ o. IfSome o (λ p. (row.note.snapshot ≤ p) × (p < length (commits ++ more)))) (sym n.1) tt
+        | inr s ↦ subst (λ o. IfSome o (λ p. (row.note.snapshot ≤ p) × (p < length (commits ++ more)))) (sym s.2) (omega (arith, h.snapshot), omega (arith, length-append commits more, ap length s.1))
+      ];
+    }
+
+seen_new : (n : ℕ) (low : ℕ) (a b : Row) → IsWithin low n a.note → b.note.snapshot ≡ n → (0 < a.note.writes → AsksStore b.ask → IsDownReply b.reply) → IsSeenBy a b
+seen_new n low a b h e d = (omega (arith, h.high_is), λ ok. under a.note.commit h.own, d)
+  where
+    under : (o : Option ℕ) → IfSome o (λ p. (a.note.snapshot ≤ p) × (p < n)) → IfSome o (λ p. p < b.note.snapshot)
+    under None h = tt
+    under (Some p) h = omega arith
+
+not_before : (a b : Row) → b.place.step < a.place.step → Before a b → ⊥
+not_before a b l (inl h) = omega arith
+not_before a b l (inr h) = omega (arith, h.0)
+
+not_self : (a : Row) → Before a a → ⊥
+not_self a (inl h) = omega arith
+not_self a (inr h) = omega (arith, h.2)
+
+by_place : (j : Counts) (first commits : History) (rows : List Row) (k x : ℕ) (b : Bool) → Run j first commits rows → (length commits == k) ≡ b → x ≡ cond b 1 0 → length first ≤ k → k < length commits + 1 → count_by (has_commit k) rows + x ≡ 1
+by_place j first commits rows k x true run e p low high =
+    let same : length commits ≡ k = eqb-true (length commits) k e in
+    let none : count_by (has_commit k) rows ≡ 0 = subst (λ n. count_by (has_commit n) rows ≡ 0) same (none_yet (length first) (length commits) rows run.within) in
+    omega (arith, none, p)
+by_place j first commits rows k x false run e p low high =
+    let other : length commits ≢ k = eqb-false (length commits) k e in
+    let once : count_by (has_commit k) rows ≡ 1 = run.own k low (omega (arith, other)) in
+    omega (arith, once, p)
+
+abbrev mine : Bool → ℕ
+mine b = cond b 1 0
+
+own_new : (j l : Counts) (first commits more : History) (rows : List Row) (row : Row) → Step j l first commits more rows row → (k : ℕ) → length first ≤ k → k < length (commits ++ more) → count_by (has_commit k) (rows ++ row ∷ []) ≡ 1
+own_new j l first commits more rows row h k low high =
+    let pushed : count_by (has_commit k) (rows ++ row ∷ []) ≡ count_by (has_commit k) rows + mine (has_commit k row) = sum_by_push (λ (r : Row). mine (has_commit k r)) rows row in
+    elim h.own [
+      | inl n ↦
+          let high' : k < length commits = omega (arith, ap length n.0, length-append commits more) in
+          let no_own : mine (is_at k row.note.commit) ≡ 0 = ap (λ o. mine (is_at k o)) n.1 in
+          omega (arith, pushed, no_own, h.run.own k low high')
+      | inr s ↦
+          let same : mine (has_commit k row) ≡ mine (length commits == k) = ap (λ o. mine (is_at k o)) s.2 in
+          let high' : k < length commits + 1 = omega (arith, ap length s.1, length-append commits more) in
+          pushed ∙ by_place j first commits rows k (mine (has_commit k row)) (length commits == k) h.run refl same low high'
+    ]
+
+any_more : {X : Type 0} (P Q : X → Type 0) (xs ys : List X) → ((x : X) → P x → Q x) → Any P xs → Any Q (xs ++ ys)
+any_more P Q xs ys f h = (h.0, h.1, omega (arith, h.2, length-append xs ys), get_or_append_left xs ys h.1 h.0 h.2 ∙ h.3, f h.1 h.4)
+
+-- an earlier row is before the last one
+any_before : (rows : List Row) (row : Row) → All (λ (r : Row). r.place.step < row.place.step) rows → Any (λ (r : Row). 0 < r.note.writes) rows → Any (λ (r : Row). Before r row × (0 < r.note.writes)) (rows ++ row ∷ [])
+any_before rows row last h =
+    let step : h.1.place.step < row.place.step = subst (λ (r : Row). r.place.step < row.place.step) h.3 (last h.0 h.1 h.2) in
+    (h.0, h.1, omega (arith, h.2, length-append rows (row ∷ [])), get_or_append_left rows (row ∷ []) h.1 h.0 h.2 ∙ h.3, (inl step, h.4))
+
+sums_grow : (f : Row → ℕ) (rows : List Row) (row : Row) (start k l : ℕ) → start + sum_by f rows ≤ k → k + f row ≤ l → start + sum_by f (rows ++ row ∷ []) ≤ l
+sums_grow f rows row start k l h g = omega (arith, h, g, sum_by_push f rows row)
+
+pub run_step : (k l : Counts) (first commits more : History) (rows : List Row) (row : Row) → Step k l first commits more rows row → Run l first (commits ++ more) (rows ++ row ∷ [])
+run_step j l first commits more rows row h = record {
+  lawful = h.lawful;
+  begins = (h.run.begins.0 ++ more, sym (append_assoc first h.run.begins.0 more) ∙ ap (λ z. z ++ more) h.run.begins.1);
+  answers = All-push (λ (r : Row). IsAnswered l (commits ++ more) r.place r.ask r.reply r.note) rows row
+      (λ k d m. let r : Row = get_or rows k d in let w : IsWithin (length first) (length commits) r.note = h.run.within k d m in answered_more j l commits more r.place r.ask r.reply r.note h.grows w.high_is (h.run.answers k d m)) h.answered;
+  within = All-push (λ (r : Row). IsWithin (length first) (length (commits ++ more)) r.note) rows row
+      (λ k d m. let r : Row = get_or rows k d in within_more (length first) (length commits) (length (commits ++ more)) r.note (omega (arith, length-append commits more)) (h.run.within k d m)) (within_new j l first commits more rows row h);
+  own = own_new j l first commits more rows row h;
+  order = All-push (λ (a : Row). All (λ (b : Row). Before a b → IsSeenBy a b) (rows ++ row ∷ [])) rows row
+      (λ k d m. let a : Row = get_or rows k d in All-push (λ (b : Row). Before a b → IsSeenBy a b) rows row (h.run.order k d m) (λ before. seen_new (length commits) (length first) a row (h.run.within k d m) h.snapshot (h.finds_down k d m)))
+      (All-push (λ (b : Row). Before row b → IsSeenBy row b) rows row (λ k d m before. absurd (not_before row (get_or rows k d) (h.last k d m) before)) (λ before. absurd (not_self row before)));
+  down = All-push (λ (b : Row). IsDownReply b.reply → Any (λ (a : Row). Before a b × (0 < a.note.writes)) (rows ++ row ∷ [])) rows row
+      (λ k d m is. let b : Row = get_or rows k d in let P : Row → Type 0 = λ (a : Row). Before a b × (0 < a.note.writes) in any_more P P rows (row ∷ []) (λ x p. p) (h.run.down k d m is))
+      (λ is. any_before rows row h.last (h.down is));
+  faults = sums_grow (λ (r : Row). r.note.faults) rows row l.faults j.faults_after l.faults_after (subst (λ n. n + sum_by (λ (r : Row). r.note.faults) rows ≤ j.faults_after) (sym h.grows.faults) h.run.faults) h.faults;
+  writes = sums_grow (λ (r : Row). r.note.writes) rows row l.writes j.writes_after l.writes_after (subst (λ n. n + sum_by (λ (r : Row). r.note.writes) rows ≤ j.writes_after) (sym h.grows.writes) h.run.writes) h.writes;
+}

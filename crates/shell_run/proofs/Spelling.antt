@@ -1,0 +1,255 @@
+-- A line has one list of tokens.
+use Rattle.std.proofs.Common.{◌≡◌, inl, inr, ℕ, ◌==◌, ◌<◌, length, Bool, true, false, cond, List, [], ◌∷◌, ◌++◌, append-nil, append_assoc, arith, refl, sym, ◌∙◌, ap, subst}
+use Rattle.std.specs.List.{All}
+use Rattle.std.proofs.lemmas.Bool.{eqb-true, eqb-false}
+use Rattle.std.proofs.lemmas.List.Elements.{All-head, All-tail, All-nil, All-append}
+use Rattle.shell_run.proofs.Front.{same_front}
+use Rattle.shell_run.specs.Tokens.{IsBlank, IsWordByte, IsQuote, IsNoQuote, BeginsWithout, IsFirst, Token, word, quote, doubled, spelling, IsToken, EndsToken, IsSpelled}
+
+-- what begins with no blank, and is not empty
+abbrev pub BeginsToken : List ℕ → Type 0
+BeginsToken [] = ⊥
+BeginsToken (b ∷ bs) = IsBlank b → ⊥
+
+begins_unblank : (x : List ℕ) → BeginsToken x → BeginsWithout IsBlank x
+begins_unblank [] s = absurd s
+begins_unblank (b ∷ bs) s = s
+
+one_gap : (g h x y : List ℕ) → All IsBlank g → All IsBlank h → BeginsToken x → BeginsToken y → g ++ x ≡ h ++ y → (g ≡ h) × (x ≡ y)
+one_gap g h x y p q s t e = same_front IsBlank g h x y p q (begins_unblank x s) (begins_unblank y t) e
+
+blank_is_no_word : (b : ℕ) → IsBlank b → IsWordByte b → ⊥
+blank_is_no_word b (inl h) k = k.0 h
+blank_is_no_word b (inr h) k = k.1 h
+
+no_word_behind : (r : List ℕ) → EndsToken r → BeginsWithout IsWordByte r
+no_word_behind [] m = tt
+no_word_behind (b ∷ r) m = λ k. blank_is_no_word b m k
+
+one_word : (v w r s : List ℕ) → All IsWordByte v → All IsWordByte w → BeginsWithout IsWordByte r → BeginsWithout IsWordByte s → v ++ r ≡ w ++ s → (v ≡ w) × (r ≡ s)
+one_word v w r s p q m n e = same_front IsWordByte v w r s p q m n e
+
+blank_is_no_quote : (b : ℕ) → IsBlank b → IsQuote b → ⊥
+blank_is_no_quote b (inl h) e = omega arith
+blank_is_no_quote b (inr h) e = omega arith
+
+no_quote_behind : (r : List ℕ) → EndsToken r → BeginsWithout IsQuote r
+no_quote_behind [] m = tt
+no_quote_behind (b ∷ r) m = λ e. blank_is_no_quote b m e
+
+-- behind the closing quote no quote follows
+closes : (r x : List ℕ) → BeginsWithout IsQuote r → r ≡ 39 ∷ x → ⊥
+closes r x m e = subst (BeginsWithout IsQuote) e m refl
+
+one_quote : (t u r s : List ℕ) → BeginsWithout IsQuote r → BeginsWithout IsQuote s → doubled t ++ 39 ∷ r ≡ doubled u ++ 39 ∷ s → (t ≡ u) × (r ≡ s)
+one_quote [] [] r s m n e = (refl, cc)
+one_quote [] (c ∷ u) r s m n e = by (c == 39) refl e
+  where
+    by : (b : Bool) → (c == 39) ≡ b → 39 ∷ r ≡ cond b (39 ∷ 39 ∷ doubled u) (c ∷ doubled u) ++ 39 ∷ s → ([] ≡ c ∷ u) × (r ≡ s)
+    by true p e = let f : r ≡ 39 ∷ (doubled u ++ 39 ∷ s) = cc in absurd (closes r (doubled u ++ 39 ∷ s) m f)
+    by false p e = let f : 39 ≡ c = cc in absurd (eqb-false c 39 p (sym f))
+one_quote (c ∷ t) [] r s m n e = by (c == 39) refl e
+  where
+    by : (b : Bool) → (c == 39) ≡ b → cond b (39 ∷ 39 ∷ doubled t) (c ∷ doubled t) ++ 39 ∷ r ≡ 39 ∷ s → (c ∷ t ≡ []) × (r ≡ s)
+    by true p e = let f : s ≡ 39 ∷ (doubled t ++ 39 ∷ r) = cc in absurd (closes s (doubled t ++ 39 ∷ r) n f)
+    by false p e = let f : c ≡ 39 = cc in absurd (eqb-false c 39 p f)
+one_quote (c ∷ t) (d ∷ u) r s m n e = by (λ f. one_quote t u r s m n f) (c == 39) (d == 39) refl refl e
+  where
+    both : c ≡ d → (t ≡ u) × (r ≡ s) → (c ∷ t ≡ d ∷ u) × (r ≡ s)
+    both h k = (ap (λ z. z ∷ t) h ∙ ap (λ z. d ∷ z) k.0, k.1)
+
+    by : (doubled t ++ 39 ∷ r ≡ doubled u ++ 39 ∷ s → (t ≡ u) × (r ≡ s)) → (a b : Bool) → (c == 39) ≡ a → (d == 39) ≡ b → cond a (39 ∷ 39 ∷ doubled t) (c ∷ doubled t) ++ 39 ∷ r ≡ cond b (39 ∷ 39 ∷ doubled u) (d ∷ doubled u) ++ 39 ∷ s → (c ∷ t ≡ d ∷ u) × (r ≡ s)
+    by again true true p q e = let f : doubled t ++ 39 ∷ r ≡ doubled u ++ 39 ∷ s = cc in both (eqb-true c 39 p ∙ sym (eqb-true d 39 q)) (again f)
+    by again true false p q e = let f : 39 ≡ d = cc in absurd (eqb-false d 39 q (sym f))
+    by again false true p q e = let f : c ≡ 39 = cc in absurd (eqb-false c 39 p f)
+    by again false false p q e = let f : doubled t ++ 39 ∷ r ≡ doubled u ++ 39 ∷ s = cc in let h : c ≡ d = cc in both h (again f)
+
+begins : (t : Token) (rest : List ℕ) → IsToken t → BeginsToken (spelling t ++ rest)
+begins (word []) rest h = absurd (omega (arith, h.0))
+begins (word (b ∷ w)) rest h = λ k. blank_is_no_word b k (All-head IsWordByte b w h.1)
+begins (quote t) rest h = not_blank
+  where
+    not_blank : IsBlank 39 → ⊥
+    not_blank (inl h) = omega arith
+    not_blank (inr h) = omega arith
+
+one_token : (t u : Token) (r s : List ℕ) → IsToken t → IsToken u → EndsToken r → EndsToken s → spelling t ++ r ≡ spelling u ++ s → (t ≡ u) × (r ≡ s)
+one_token (word v) (word w) r s p q m n e = let k : (v ≡ w) × (r ≡ s) = one_word v w r s p.1 q.1 (no_word_behind r m) (no_word_behind s n) e in (ap word k.0, k.1)
+one_token (quote t) (quote u) r s p q m n e =
+    let f : (doubled t ++ 39 ∷ []) ++ r ≡ (doubled u ++ 39 ∷ []) ++ s = cc in
+    let k : (t ≡ u) × (r ≡ s) = one_quote t u r s (no_quote_behind r m) (no_quote_behind s n) (sym (append_assoc (doubled t) (39 ∷ []) r) ∙ f ∙ append_assoc (doubled u) (39 ∷ []) s) in (ap quote k.0, k.1)
+one_token (word []) (quote u) r s p q m n e = absurd (omega (arith, p.0))
+one_token (word (b ∷ v)) (quote u) r s p q m n e = let f : b ≡ 39 = cc in let k : IsWordByte b = All-head IsWordByte b v p.1 in absurd (k.2 f)
+one_token (quote t) (word []) r s p q m n e = absurd (omega (arith, q.0))
+one_token (quote t) (word (b ∷ v)) r s p q m n e = let f : b ≡ 39 = cc in let k : IsWordByte b = All-head IsWordByte b v q.1 in absurd (k.2 f)
+
+no_blank_in : (g x : List ℕ) → BeginsToken x → All IsBlank (g ++ x) → ⊥
+no_blank_in [] [] s h = s
+no_blank_in [] (b ∷ x) s h = s (All-head IsBlank b x h)
+no_blank_in (c ∷ g) x s h = no_blank_in g x s (All-tail IsBlank c (g ++ x) h)
+
+pub one_spelling : (line : List ℕ) (ts us : List Token) → IsSpelled line ts → IsSpelled line us → ts ≡ us
+one_spelling line [] [] h k = refl
+one_spelling line [] (u ∷ us) h k = absurd (no_blank_in k.0 (spelling u ++ k.1) (begins u k.1 k.3) (subst (All IsBlank) k.4 h))
+one_spelling line (t ∷ ts) [] h k = absurd (no_blank_in h.0 (spelling t ++ h.1) (begins t h.1 h.3) (subst (All IsBlank) h.4 k))
+one_spelling line (t ∷ ts) (u ∷ us) h k =
+    let gaps : (h.0 ≡ k.0) × (spelling t ++ h.1 ≡ spelling u ++ k.1) = one_gap h.0 k.0 (spelling t ++ h.1) (spelling u ++ k.1) h.2 k.2 (begins t h.1 h.3) (begins u k.1 k.3) (sym h.4 ∙ k.4) in
+    let tokens : (t ≡ u) × (h.1 ≡ k.1) = one_token t u h.1 k.1 h.3 k.3 h.5 k.5 gaps.1 in
+    let rest : ts ≡ us = one_spelling k.1 ts us (subst (λ z. IsSpelled z ts) tokens.1 h.6) k.6 in
+    ap (λ z. z ∷ ts) tokens.0 ∙ ap (λ z. u ∷ z) rest
+
+-- the quoted text that the program has read so far
+no_quote_in : (p x y : List ℕ) → All IsNoQuote p → p ≡ x ++ 39 ∷ y → ⊥
+no_quote_in [] [] y h e = cc
+no_quote_in [] (d ∷ x) y h e = cc
+no_quote_in (c ∷ p) [] y h e = All-head IsNoQuote c p h (cc)
+no_quote_in (c ∷ p) (d ∷ x) y h e = let r : p ≡ x ++ 39 ∷ y = cc in no_quote_in p x y (All-tail IsNoQuote c p h) r
+
+doubled_append : (s t : List ℕ) → doubled (s ++ t) ≡ doubled s ++ doubled t
+doubled_append [] t = refl
+doubled_append (c ∷ s) t = by (c == 39) (doubled_append s t)
+  where
+    by : (b : Bool) → doubled (s ++ t) ≡ doubled s ++ doubled t → cond b (39 ∷ 39 ∷ doubled (s ++ t)) (c ∷ doubled (s ++ t)) ≡ cond b (39 ∷ 39 ∷ doubled s) (c ∷ doubled s) ++ doubled t
+    by true e = ap (λ z. 39 ∷ 39 ∷ z) e
+    by false e = ap (λ z. c ∷ z) e
+
+doubled_plain : (s : List ℕ) → All IsNoQuote s → doubled s ≡ s
+doubled_plain [] h = refl
+doubled_plain (c ∷ s) h = by (c == 39) refl (doubled_plain s (All-tail IsNoQuote c s h))
+  where
+    by : (b : Bool) → (c == 39) ≡ b → doubled s ≡ s → cond b (39 ∷ 39 ∷ doubled s) (c ∷ doubled s) ≡ c ∷ s
+    by true p e = absurd (All-head IsNoQuote c s h (eqb-true c 39 p))
+    by false p e = ap (λ z. c ∷ z) e
+
+-- the text up to the next quote
+pub quote_piece : (text q rest piece more : List ℕ) → text ≡ doubled q ++ rest → rest ≡ piece ++ 39 ∷ more → All IsNoQuote piece → text ≡ doubled (q ++ piece) ++ 39 ∷ more
+quote_piece text q rest piece more e f free =
+    e ∙ ap (λ z. doubled q ++ z) (f ∙ ap (λ z. z ++ 39 ∷ more) (sym (doubled_plain piece free))) ∙ sym (append_assoc (doubled q) (doubled piece) (39 ∷ more)) ∙ ap (λ z. z ++ 39 ∷ more) (sym (doubled_append q piece))
+
+-- and a second quote behind that
+pub quote_pair : (text q more next : List ℕ) → text ≡ doubled q ++ 39 ∷ more → more ≡ 39 ∷ next → text ≡ doubled (q ++ 39 ∷ []) ++ next
+quote_pair text q more next e f =
+    e ∙ ap (λ z. doubled q ++ 39 ∷ z) f ∙ sym (append_assoc (doubled q) (39 ∷ 39 ∷ []) next) ∙ ap (λ z. z ++ next) (sym (doubled_append q (39 ∷ [])))
+
+pub quote_first : (text q more : List ℕ) → text ≡ doubled q ++ 39 ∷ more → EndsToken more → IsFirst (39 ∷ text) (quote q) more
+quote_first text q more e m = (tt, ap (λ z. 39 ∷ z) (e ∙ sym (append_assoc (doubled q) (39 ∷ []) more)), m)
+
+quote_inside : (text t r : List ℕ) → 39 ∷ text ≡ spelling (quote t) ++ r → text ≡ doubled t ++ 39 ∷ r
+quote_inside text t r e = let f : text ≡ (doubled t ++ 39 ∷ []) ++ r = cc in f ∙ append_assoc (doubled t) (39 ∷ []) r
+
+-- a quote begins no word
+no_word_first : (text w r : List ℕ) → IsToken (word w) → 39 ∷ text ≡ w ++ r → ⊥
+no_word_first text [] r h e = omega (arith, h.0)
+no_word_first text (b ∷ w) r h e = let f : b ≡ 39 = cc in let k : IsWordByte b = All-head IsWordByte b w h.1 in k.2 f
+
+-- something stands right behind the quoted text
+pub quote_fault : (text q more : List ℕ) → text ≡ doubled q ++ 39 ∷ more → BeginsWithout IsQuote more → (EndsToken more → ⊥) → (t : Token) (r : List ℕ) → IsFirst (39 ∷ text) t r → ⊥
+quote_fault text q more e m bad (word w) r h = no_word_first text w r h.0 h.1
+quote_fault text q more e m bad (quote t) r h =
+    let same : (q ≡ t) × (more ≡ r) = one_quote q t more r m (no_quote_behind r h.2) (sym e ∙ quote_inside text t r h.1) in
+    bad (subst EndsToken (sym same.1) h.2)
+
+unclosed : (q p t r : List ℕ) → All IsNoQuote p → BeginsWithout IsQuote r → doubled q ++ p ≡ doubled t ++ 39 ∷ r → ⊥
+unclosed [] p t r free m e = no_quote_in p (doubled t) r free e
+unclosed (c ∷ q) p [] r free m e = by (c == 39) refl e
+  where
+    by : (b : Bool) → (c == 39) ≡ b → cond b (39 ∷ 39 ∷ doubled q) (c ∷ doubled q) ++ p ≡ 39 ∷ r → ⊥
+    by true h e = let f : r ≡ 39 ∷ (doubled q ++ p) = cc in closes r (doubled q ++ p) m f
+    by false h e = let f : c ≡ 39 = cc in eqb-false c 39 h f
+unclosed (c ∷ q) p (d ∷ t) r free m e = by (λ f. unclosed q p t r free m f) (c == 39) (d == 39) refl refl e
+  where
+    by : (doubled q ++ p ≡ doubled t ++ 39 ∷ r → ⊥) → (a b : Bool) → (c == 39) ≡ a → (d == 39) ≡ b → cond a (39 ∷ 39 ∷ doubled q) (c ∷ doubled q) ++ p ≡ cond b (39 ∷ 39 ∷ doubled t) (d ∷ doubled t) ++ 39 ∷ r → ⊥
+    by again true true h k e = let f : doubled q ++ p ≡ doubled t ++ 39 ∷ r = cc in again f
+    by again true false h k e = let f : 39 ≡ d = cc in eqb-false d 39 k (sym f)
+    by again false true h k e = let f : c ≡ 39 = cc in eqb-false c 39 h f
+    by again false false h k e = let f : doubled q ++ p ≡ doubled t ++ 39 ∷ r = cc in again f
+
+-- the quoted text isn't closed
+pub quote_open : (text q rest : List ℕ) → text ≡ doubled q ++ rest → All IsNoQuote rest → (t : Token) (r : List ℕ) → IsFirst (39 ∷ text) t r → ⊥
+quote_open text q rest e free (word w) r h = no_word_first text w r h.0 h.1
+quote_open text q rest e free (quote t) r h = unclosed q rest t r free (no_quote_behind r h.2) (sym e ∙ quote_inside text t r h.1)
+
+begins_token : (x : List ℕ) → 0 < length x → BeginsWithout IsBlank x → BeginsToken x
+begins_token [] some m = omega arith
+begins_token (b ∷ x) some m = m
+
+no_end_here : (x : List ℕ) → BeginsToken x → EndsToken x → ⊥
+no_end_here [] s m = s
+no_end_here (b ∷ x) s m = s m
+
+pub word_first : (text w rest : List ℕ) → 0 < length text → BeginsWithout IsBlank text → text ≡ w ++ rest → All IsWordByte w → EndsToken rest → IsFirst text (word w) rest
+word_first text [] rest some m e h n = absurd (no_end_here text (begins_token text some m) (subst EndsToken (sym e) n))
+word_first text (b ∷ w) rest some m e h n = ((omega arith, h), e, n)
+
+-- something stands right behind the word
+pub word_fault : (text w rest : List ℕ) → BeginsWithout IsQuote text → text ≡ w ++ rest → All IsWordByte w → BeginsWithout IsWordByte rest → (EndsToken rest → ⊥) → (t : Token) (r : List ℕ) → IsFirst text t r → ⊥
+word_fault text w rest m e h n bad (word v) r k =
+    let same : (w ≡ v) × (rest ≡ r) = one_word w v rest r h k.0.1 n (no_word_behind r k.2) (sym e ∙ k.1) in
+    bad (subst EndsToken (sym same.1) k.2)
+word_fault text w rest m e h n bad (quote t) r k = closes text ((doubled t ++ 39 ∷ []) ++ r) m k.1
+
+-- whatever tokens the line has, they begin with those that are read, and the rest has the others
+pub record Read (line : List ℕ) (ts : List Token) (rest : List ℕ) : Type 0 where
+  pub whole : (us : List Token) → IsSpelled rest us → IsSpelled line (ts ++ us)
+  pub only : (us : List Token) → IsSpelled line us → (vs : List Token) × (us ≡ ts ++ vs) × IsSpelled rest vs
+
+add_blanks : (gap rest : List ℕ) (us : List Token) → All IsBlank gap → IsSpelled rest us → IsSpelled (gap ++ rest) us
+add_blanks gap rest [] h k = All-append IsBlank gap rest h k
+add_blanks gap rest (u ∷ us) h k = (gap ++ k.0, k.1, All-append IsBlank gap k.0 h k.2, k.3, ap (λ z. gap ++ z) k.4 ∙ sym (append_assoc gap k.0 (spelling u ++ k.1)), k.5, k.6)
+
+less_blank : (b : ℕ) (rest : List ℕ) (us : List Token) → IsBlank b → IsSpelled (b ∷ rest) us → IsSpelled rest us
+less_blank b rest [] h k = All-tail IsBlank b rest k
+less_blank b rest (u ∷ us) h k = by k.0 k.2 k.4
+  where
+    by : (gap : List ℕ) → All IsBlank gap → b ∷ rest ≡ gap ++ (spelling u ++ k.1) → IsSpelled rest (u ∷ us)
+    by [] g e = absurd (subst BeginsToken (sym e) (begins u k.1 k.3) h)
+    by (c ∷ gap) g e = let f : rest ≡ gap ++ (spelling u ++ k.1) = cc in (gap, k.1, All-tail IsBlank c gap g, k.3, f, k.5, k.6)
+
+less_blanks : (gap rest : List ℕ) (us : List Token) → All IsBlank gap → IsSpelled (gap ++ rest) us → IsSpelled rest us
+less_blanks [] rest us h k = k
+less_blanks (b ∷ gap) rest us h k = less_blanks gap rest us (All-tail IsBlank b gap h) (less_blank b (gap ++ rest) us (All-head IsBlank b gap h) k)
+
+pub read_none : (line gap rest : List ℕ) → All IsBlank gap → line ≡ gap ++ rest → Read line [] rest
+read_none line gap rest h e = record {
+  whole = λ us k. subst (λ z. IsSpelled z us) (sym e) (add_blanks gap rest us h k);
+  only = λ us k. (us, refl, less_blanks gap rest us h (subst (λ z. IsSpelled z us) e k));
+}
+
+-- the token in front of a text that begins with one
+front_of : (rest : List ℕ) (u : Token) (us : List Token) → BeginsWithout IsBlank rest → IsSpelled rest (u ∷ us) → (r : List ℕ) × IsFirst rest u r × IsSpelled r us
+front_of rest u us m k = by k.0 k.2 k.4
+  where
+    by : (gap : List ℕ) → All IsBlank gap → rest ≡ gap ++ (spelling u ++ k.1) → (r : List ℕ) × IsFirst rest u r × IsSpelled r us
+    by [] g e = (k.1, (k.3, e, k.5), k.6)
+    by (c ∷ gap) g e = absurd (subst (BeginsWithout IsBlank) e m (All-head IsBlank c gap g))
+
+no_blank_front : (rest : List ℕ) → 0 < length rest → BeginsWithout IsBlank rest → All IsBlank rest → ⊥
+no_blank_front [] some m h = omega arith
+no_blank_front (b ∷ rest) some m h = m (All-head IsBlank b rest h)
+
+pub read_more : (line : List ℕ) (ts : List Token) (rest : List ℕ) (t : Token) (more gap next : List ℕ) → Read line ts rest → 0 < length rest → BeginsWithout IsBlank rest → IsFirst rest t more → All IsBlank gap → more ≡ gap ++ next → Read line (ts ++ t ∷ []) next
+read_more line ts rest t more gap next h some m first blank e = record {
+  whole = λ us k.
+      let behind : IsSpelled more us = subst (λ z. IsSpelled z us) (sym e) (add_blanks gap next us blank k) in
+      let here : IsSpelled rest (t ∷ us) = ([], more, All-nil IsBlank, first.0, first.1, first.2, behind) in
+      subst (IsSpelled line) (sym (append_assoc ts (t ∷ []) us)) (h.whole (t ∷ us) here);
+  only = λ us k. let o = h.only us k in by us o.0 o.1 o.2;
+}
+  where
+    by : (us vs : List Token) → us ≡ ts ++ vs → IsSpelled rest vs → (ws : List Token) × (us ≡ (ts ++ t ∷ []) ++ ws) × IsSpelled next ws
+    by us [] f k = absurd (no_blank_front rest some m k)
+    by us (v ∷ ws) f k =
+        let front = front_of rest v ws m k in
+        let same : (v ≡ t) × (front.0 ≡ more) = one_token v t front.0 more front.1.0 first.0 front.1.2 first.2 (sym front.1.1 ∙ first.1) in
+        (ws, f ∙ ap (λ z. ts ++ z ∷ ws) same.0 ∙ sym (append_assoc ts (t ∷ []) ws), less_blanks gap next ws blank (subst (λ z. IsSpelled z ws) (same.1 ∙ e) front.2))
+
+pub read_all : (line : List ℕ) (ts : List Token) (rest : List ℕ) → Read line ts rest → length rest ≡ 0 → IsSpelled line ts
+read_all line ts [] h e = subst (IsSpelled line) (append-nil ts) (h.whole [] (All-nil IsBlank))
+read_all line ts (b ∷ rest) h e = absurd (omega arith)
+
+pub read_fault : (line : List ℕ) (ts : List Token) (rest : List ℕ) → Read line ts rest → 0 < length rest → BeginsWithout IsBlank rest → ((t : Token) (r : List ℕ) → IsFirst rest t r → ⊥) → (us : List Token) → IsSpelled line us → ⊥
+read_fault line ts rest h some m bad us k = let o = h.only us k in by o.0 o.2
+  where
+    by : (vs : List Token) → IsSpelled rest vs → ⊥
+    by [] k = no_blank_front rest some m k
+    by (v ∷ vs) k = let front = front_of rest v vs m k in bad v front.0 front.1

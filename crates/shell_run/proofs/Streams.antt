@@ -1,0 +1,72 @@
+-- Streams that are read, and written, piece by piece.
+use Rattle.std.proofs.Common.{◌≡◌, ℕ, take, drop, ◌<◌, List, [], ◌++◌, length, length-append, append_assoc, arith, refl, sym, ◌∙◌, ap, IfSome}
+use Rattle.std.specs.Prelude.{Option, Some, None, Bool, true, false}
+use Rattle.std.proofs.lemmas.List.{append-nil, take-append-drop}
+use Rattle.shell_run.specs.Printing.{Puts}
+use Rattle.std.specs.Io.KnownBytes.{Consumes, Appends, Keeps}
+
+pub consumes_then : (a b c : Option (List ℕ)) (xs ys : List ℕ) → Consumes a b xs → Consumes b c ys → Consumes a c (xs ++ ys)
+consumes_then None b c xs ys h k = tt
+consumes_then (Some a) None c xs ys h k = absurd h
+consumes_then (Some a) (Some b) None xs ys h k = absurd k
+consumes_then (Some a) (Some b) (Some c) xs ys h k = h ∙ ap (λ z. xs ++ z) k ∙ sym (append_assoc xs ys c)
+
+pub consumes_none : (a : Option (List ℕ)) → Consumes a a []
+consumes_none None = tt
+consumes_none (Some a) = refl
+
+pub consumes_long : (a b : Option (List ℕ)) (xs : List ℕ) (n : ℕ) → Consumes a b xs → n < length xs → IfSome a (λ bytes. n < length bytes)
+consumes_long None b xs n h k = tt
+consumes_long (Some a) None xs n h k = absurd h
+consumes_long (Some a) (Some b) xs n h k = omega (arith, ap length h, length-append xs b)
+
+pub appends_none : (a : Option (List ℕ)) → Appends a a []
+appends_none None = tt
+appends_none (Some a) = sym (append-nil a)
+
+pub appends_then : (a b c : Option (List ℕ)) (xs ys : List ℕ) → Appends a b xs → Appends b c ys → Appends a c (xs ++ ys)
+appends_then None b c xs ys h k = tt
+appends_then (Some a) None c xs ys h k = absurd h
+appends_then (Some a) (Some b) None xs ys h k = absurd k
+appends_then (Some a) (Some b) (Some c) xs ys h k = k ∙ ap (λ z. z ++ ys) h ∙ append_assoc a xs ys
+
+pub appends_kept : (a b : Option (List ℕ)) → Keeps a b → Appends a b []
+appends_kept None b h = tt
+appends_kept (Some a) None h = absurd h
+appends_kept (Some a) (Some b) h = h ∙ sym (append-nil a)
+
+pub puts_start : (a : Option (List ℕ)) (text : List ℕ) (b : Bool) → Puts a a text text b
+puts_start a text b = record { sent = []; unsent = text; all = refl; took = appends_none a; waits = λ e. refl }
+
+pub puts_more : (a b c : Option (List ℕ)) (text rest sent more : List ℕ) (w : Bool) → Puts a b text rest true → Appends b c sent → rest ≡ sent ++ more → Puts a c text more w
+puts_more a b c text rest sent more w h k e = record {
+  sent = h.sent ++ sent;
+  unsent = more;
+  all = append_assoc h.sent sent more ∙ ap (λ z. h.sent ++ z) (sym e ∙ sym (h.waits refl)) ∙ h.all;
+  took = appends_then a b c h.sent sent h.took k;
+  waits = λ e. refl;
+}
+
+pub puts_stop : (a b c : Option (List ℕ)) (text rest waiting : List ℕ) → Puts a b text rest true → Keeps b c → Puts a c text waiting false
+puts_stop a b c text rest waiting h k = record {
+  sent = h.sent ++ [];
+  unsent = h.unsent;
+  all = ap (λ z. z ++ h.unsent) (append-nil h.sent) ∙ h.all;
+  took = appends_then a b c h.sent [] h.took (appends_kept b c k);
+  waits = λ e. cc;
+}
+
+pub puts_kept : (a b c : Option (List ℕ)) (text rest : List ℕ) (w : Bool) → Puts a b text rest true → Puts b c rest [] w → Puts a c text [] w
+puts_kept a b c text rest w h k = record {
+  sent = h.sent ++ k.sent;
+  unsent = k.unsent;
+  all = append_assoc h.sent k.sent k.unsent ∙ ap (λ z. h.sent ++ z) (k.all ∙ sym (h.waits refl)) ∙ h.all;
+  took = appends_then a b c h.sent k.sent h.took k.took;
+  waits = k.waits;
+}
+
+pub puts_at_stop : (a b : Option (List ℕ)) (text x y : List ℕ) → Puts a b text x false → Puts a b text y false
+puts_at_stop a b text x y h = record { sent = h.sent; unsent = h.unsent; all = h.all; took = h.took; waits = λ e. cc }
+
+pub puts_drop : (a b c : Option (List ℕ)) (text rest : List ℕ) (n : ℕ) → Puts a b text rest true → Appends b c (take n rest) → Puts a c text (drop n rest) true
+puts_drop a b c text rest n h k = puts_more a b c text rest (take n rest) (drop n rest) true h k (sym (take-append-drop n rest))

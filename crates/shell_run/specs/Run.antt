@@ -1,0 +1,144 @@
+-- What a run is: each statement with its reply and its notes.
+use Rattle.std.specs.Prelude.{◌≡◌, ◌⊎◌, ℕ, ◌+◌, ◌-◌, ◌^◌, ◌<◌, ◌≤◌, Bool, false, ◌==◌, List, length, take, count_by, sum_by}
+use Rattle.std.specs.Prelude.{Option, Some, None, IfSome}
+use Rattle.std.specs.List.{All, Any, slice_get}
+use Rattle.ts_base.specs.Vectors.{Vector}
+use Rattle.shell_run.specs.Grammar.{Ask, insert, search, nothing}
+use Rattle.shell_run.specs.History.{Name, Document, Commit, History, insertion, docs, found, IsFull, Begins, IsLawful}
+use Rattle.shell_run.specs.Entries.{IsLogFull}
+
+-- The refusals: 1, 11, 12, 14 with the device's count just after the fault, 15 and 17.
+pub data Refusal : Type 0 where
+  no_statement : ℕ → Refusal
+  store_full : Refusal
+  log_full : Refusal
+  down : ℕ → Refusal
+  device : Refusal
+  memory : Refusal
+
+pub data Reply : Type 0 where
+  stored : Name → Reply
+  lists : List Name → Reply
+  refused : Refusal → Reply
+
+-- Where a statement stands: the step of the script, where a block is one step; the session; and its place there.
+pub record Place : Type 0 where
+  pub step : ℕ
+  pub session : ℕ
+  pub turn : ℕ
+
+-- The notes of a statement: how many commits it saw, and how many stand before its own, if it has one; by how much the
+-- device's count of faults and its count of failed writes and syncs rose in it; the device's clock at its answer.
+pub record Note : Type 0 where
+  pub snapshot : ℕ
+  pub commit : Option ℕ
+  pub faults : ℕ
+  pub writes : ℕ
+  pub clock : ℕ
+
+pub record Row : Type 0 where
+  pub place : Place
+  pub ask : Ask
+  pub reply : Reply
+  pub note : Note
+
+-- the device's counts at the beginning and at the end of the run
+pub record Counts : Type 0 where
+  pub faults : ℕ
+  pub faults_after : ℕ
+  pub writes : ℕ
+  pub writes_after : ℕ
+
+-- one ended before the other began
+abbrev pub Before : Row → Row → Type 0
+Before a b = (a.place.step < b.place.step) ⊎ ((a.place.step ≡ b.place.step) × (a.place.session ≡ b.place.session) × (a.place.turn < b.place.turn))
+
+-- the statement has this commit in the history
+abbrev pub HasOwn : History → Note → Commit → Type 0
+HasOwn commits note c = (p : ℕ) × (note.commit ≡ Some p) × (slice_get commits p ≡ Some c)
+
+-- the commit that a fault may have left of an insertion
+abbrev pub MayHaveOwn : History → Note → Vector → Type 0
+MayHaveOwn commits note v = (note.commit ≡ None) ⊎ ((name : Name) × HasOwn commits note (insertion (record { name = name; vector = v })))
+
+-- the documents that a statement saw
+abbrev pub seen_by : History → Note → List Document
+seen_by commits note = docs (take note.snapshot commits)
+
+-- the device's count rose in the statement, or stands at its last value
+abbrev pub MetFault : Counts → Note → Type 0
+MetFault counts note = (0 < note.faults) ⊎ (2 ^ 64 - 1 ≤ counts.faults_after)
+
+-- a count just after a fault of this run, and a write or a sync failed in it
+abbrev pub IsDownSince : Counts → ℕ → Type 0
+IsDownSince counts count = (counts.faults < count) × (count ≤ counts.faults_after) × (counts.writes < counts.writes_after)
+
+abbrev pub IsInsertAnswered : Counts → History → Vector → Reply → Note → Type 0
+IsInsertAnswered counts commits v (stored name) note = HasOwn commits note (insertion (record { name = name; vector = v })) × (IsFull (seen_by commits note) v → ⊥) × (IsLogFull (seen_by commits note) v → ⊥)
+IsInsertAnswered counts commits v (refused store_full) note = (note.commit ≡ None) × IsFull (seen_by commits note) v
+IsInsertAnswered counts commits v (refused log_full) note = (note.commit ≡ None) × (IsFull (seen_by commits note) v → ⊥) × IsLogFull (seen_by commits note) v
+IsInsertAnswered counts commits v (refused (down count)) note = MayHaveOwn commits note v × IsDownSince counts count
+IsInsertAnswered counts commits v (refused device) note = MayHaveOwn commits note v × MetFault counts note
+IsInsertAnswered counts commits v (refused memory) note = note.commit ≡ None
+IsInsertAnswered counts commits v reply note = ⊥
+
+abbrev pub IsSearchAnswered : Counts → History → List ℕ → Reply → Note → Type 0
+IsSearchAnswered counts commits lexeme (lists names) note = (note.commit ≡ None) × (names ≡ found (seen_by commits note) lexeme)
+IsSearchAnswered counts commits lexeme (refused (down count)) note = (note.commit ≡ None) × IsDownSince counts count
+IsSearchAnswered counts commits lexeme (refused memory) note = note.commit ≡ None
+IsSearchAnswered counts commits lexeme reply note = ⊥
+
+abbrev pub IsLineRefused : Place → Reply → Note → Type 0
+IsLineRefused place (refused (no_statement at)) note = (note.commit ≡ None) × (at ≡ place.step)
+IsLineRefused place reply note = ⊥
+
+abbrev pub IsAnswered : Counts → History → Place → Ask → Reply → Note → Type 0
+IsAnswered counts commits place (insert v) reply note = IsInsertAnswered counts commits v reply note
+IsAnswered counts commits place (search lexeme) reply note = IsSearchAnswered counts commits lexeme reply note
+IsAnswered counts commits place nothing reply note = IsLineRefused place reply note
+
+abbrev pub IsOkReply : Reply → Type 0
+IsOkReply (refused why) = ⊥
+IsOkReply (stored name) = Unit {0}
+IsOkReply (lists names) = Unit {0}
+
+abbrev pub IsDownReply : Reply → Type 0
+IsDownReply (refused (down count)) = Unit {0}
+IsDownReply reply = ⊥
+
+-- the statement is one of the store
+abbrev pub AsksStore : Ask → Type 0
+AsksStore (insert v) = Unit {0}
+AsksStore (search lexeme) = Unit {0}
+AsksStore nothing = ⊥
+
+abbrev pub is_at : ℕ → Option ℕ → Bool
+is_at k None = false
+is_at k (Some p) = p == k
+
+abbrev pub has_commit : ℕ → Row → Bool
+has_commit k row = is_at k row.note.commit
+
+-- what the one saw, and what it committed where it answered Ok, the other has seen; where a write or a sync failed in the one, the other finds the store down
+abbrev pub IsSeenBy : Row → Row → Type 0
+IsSeenBy a b = (a.note.snapshot ≤ b.note.snapshot) × (IsOkReply a.reply → IfSome a.note.commit (λ p. p < b.note.snapshot)) × (0 < a.note.writes → AsksStore b.ask → IsDownReply b.reply)
+
+-- A note that is within two lengths of the history, at the start and at the end of the run. A statement's own commit comes behind what it saw.
+pub record IsWithin (low high : ℕ) (note : Note) : Type 0 where
+  pub low_is : low ≤ note.snapshot
+  pub high_is : note.snapshot ≤ high
+  pub own : IfSome note.commit (λ p. (note.snapshot ≤ p) × (p < high))
+
+-- from the history `first` to `commits`
+pub record Run (counts : Counts) (first commits : History) (rows : List Row) : Type 0 where
+  pub lawful : IsLawful commits
+  pub begins : Begins first commits
+  pub answers : All (λ (r : Row). IsAnswered counts commits r.place r.ask r.reply r.note) rows
+  pub within : All (λ (r : Row). IsWithin (length first) (length commits) r.note) rows
+  -- each commit past the first is the commit of one statement
+  pub own : (k : ℕ) → length first ≤ k → k < length commits → count_by (has_commit k) rows ≡ 1
+  pub order : All (λ (a : Row). All (λ (b : Row). Before a b → IsSeenBy a b) rows) rows
+  -- a statement finds the store down only where a write or a sync failed in an earlier one
+  pub down : All (λ (b : Row). IsDownReply b.reply → Any (λ (a : Row). Before a b × (0 < a.note.writes)) rows) rows
+  pub faults : counts.faults + sum_by (λ (r : Row). r.note.faults) rows ≤ counts.faults_after
+  pub writes : counts.writes + sum_by (λ (r : Row). r.note.writes) rows ≤ counts.writes_after

@@ -1,0 +1,121 @@
+-- What the documents in memory stand for, and what a statement does to them, to the log and to the device.
+use Rattle.std.specs.Prelude.{◌≡◌, ◌⊎◌, ℕ, ◌+◌, ◌^◌, ◌<◌, ◌≤◌, List, [], ◌∷◌, ◌++◌, map, length, sum_by}
+use Rattle.std.specs.Prelude.{Some, None}
+use Rattle.std.specs.List.{All}
+use Rattle.disk_trait.specs.Files.{Files}
+use Rattle.disk_trait.specs.Device.{Past, Rose}
+use Rattle.wal.specs.Waiting.{end_of, down_of, IsReady}
+use Rattle.wal.specs.Reading.{IsFresh}
+use Rattle.wal.specs.declared.log.Wal.{Wal}
+use Rattle.ts_base.specs.Vectors.{Vector, IsNormal}
+use Rattle.ts_base.specs.Bytes.{vector_bytes}
+use Rattle.shell_run.specs.Logs.{Puts}
+use Rattle.shell_run.specs.Grammar.{Ask, insert, search, nothing}
+use Rattle.shell_run.specs.History.{Name, name_of, Document, History, insertion, room, found}
+use Rattle.shell_run.specs.Entries.{document_bytes}
+use Rattle.shell_run.specs.Run.{Reply, stored, lists, refused, store_full, log_full, down, device, memory, no_statement}
+use Rattle.shell_run.specs.declared.store.Store.{Store}
+
+-- the documents of vectors that stand from a place on
+abbrev pub numbered : ℕ → List Vector → List Document
+numbered place [] = []
+numbered place (v ∷ vs) = record { name = name_of place; vector = v } ∷ numbered (place + 1) vs
+
+abbrev pub documents_of : Store → List Document
+documents_of s = numbered 0 s.documents.items
+
+-- what a document adds to the log
+abbrev pub log_room : Vector → ℕ
+log_room v = 13 + length (vector_bytes v)
+
+-- The history that leaves these documents. Where the log is down, a commit in doubt may stand in it too.
+pub record Holds (s : Store) (commits : History) : Type 0 where
+  pub vectors : List Vector
+  pub all : commits ≡ map insertion (numbered 0 vectors)
+  pub normal : All IsNormal vectors
+  pub same : (down_of s.wal) ≡ None → vectors ≡ s.documents.items
+  pub used : s.used ≡ sum_by room s.documents.items
+  pub end : (down_of s.wal) ≡ None → (end_of s.wal) ≡ 17 + sum_by log_room s.documents.items
+
+-- a log that was just opened and has no entries
+pub record IsNew (wal : Wal) : Type 0 where
+  pub end : end_of wal ≡ 17
+  pub fresh : IsFresh wal (2 ^ 40)
+  pub ready : IsReady wal
+
+-- the answer to a search, which changes nothing
+abbrev pub IsFoundBy : Store → List ℕ → Reply → Type 0
+IsFoundBy s lexeme (lists names) = ((down_of s.wal) ≡ None) × (names ≡ found (documents_of s) lexeme)
+IsFoundBy s lexeme (refused (down count)) = (down_of s.wal) ≡ Some count
+IsFoundBy s lexeme (refused memory) = (down_of s.wal) ≡ None
+IsFoundBy s lexeme r = ⊥
+
+pub record IsSameStore (old new : Store) : Type 0 where
+  pub same : new.documents.items ≡ old.documents.items
+  pub used : new.used ≡ old.used
+  pub end : (end_of new.wal) ≡ (end_of old.wal)
+  pub down : (down_of new.wal) ≡ (down_of old.wal)
+
+module _ {D : Type 0} (tells : Type 0) (seen : D → Files) (clock : D → ℕ) (image : D → Past) (faults writes : D → ℕ) where
+  -- nothing of the store or of the device has changed
+  pub record Rests (old new : Store) (disk disk' : D) : Type 0 where
+    pub store : IsSameStore old new
+    pub device : disk' ≡ disk
+
+  -- the document's entry stands in the log, and its room is taken
+  pub record HasLogged (old new : Store) (disk disk' : D) (v : Vector) (name : Name) : Type 0 where
+    pub normal : IsNormal v
+    pub named : name ≡ name_of (length old.documents.items)
+    pub same : new.documents.items ≡ old.documents.items
+    pub used : new.used ≡ old.used + room v
+    pub short : length (vector_bytes v) ≤ 2000
+    pub fits : old.used + room v ≤ 8168
+    pub up : (down_of old.wal) ≡ None
+    pub still_up : (down_of new.wal) ≡ None
+    pub log_fits : (end_of old.wal) + 1 + log_room v ≤ 2 ^ 40
+    pub end : (end_of new.wal) ≡ (end_of old.wal) + log_room v
+    pub puts : Puts tells seen clock image (document_bytes (record { name = name; vector = v })) old.wal new.wal disk disk'
+    pub later : faults disk ≤ faults disk'
+    pub no_failure : writes disk' ≡ writes disk
+
+  -- and the document stands in the list
+  pub record HasStored (old new : Store) (disk disk' : D) (v : Vector) (name : Name) : Type 0 where
+    pub mid : Store
+    pub logged : HasLogged old mid disk disk' v name
+    pub documents : new.documents.items ≡ old.documents.items ++ v ∷ []
+    pub used : new.used ≡ mid.used
+    pub wal : new.wal ≡ mid.wal
+
+  -- the device failed, so that the entry may stand in the log or not
+  pub record HasFailed (old new : Store) (disk disk' : D) (v : Vector) : Type 0 where
+    pub normal : IsNormal v
+    pub documents : new.documents.items ≡ old.documents.items
+    pub used : new.used ≡ old.used
+    pub up : (down_of old.wal) ≡ None
+    pub down : (down_of new.wal) ≡ Some (faults disk')
+    pub puts : Puts tells seen clock image (document_bytes (record { name = name_of (length old.documents.items); vector = v })) old.wal new.wal disk disk'
+    pub later : (faults disk ≤ faults disk') × (writes disk ≤ writes disk')
+    pub rose : Rose (faults disk) (faults disk')
+    pub failure : Rose (writes disk) (writes disk')
+
+  abbrev pub IsTooLarge : Store → Vector → Type 0
+  IsTooLarge s v = (2000 < length (vector_bytes v)) ⊎ (8168 < s.used + room v)
+
+  abbrev pub HasInserted : Store → Store → D → D → Vector → Reply → Type 0
+  HasInserted old new disk disk' v (stored name) = HasStored old new disk disk' v name
+  HasInserted old new disk disk' v (refused store_full) = Rests old new disk disk' × ((down_of old.wal) ≡ None) × IsTooLarge old v
+  HasInserted old new disk disk' v (refused log_full) = Rests old new disk disk' × ((down_of old.wal) ≡ None) × (IsTooLarge old v → ⊥) × (2 ^ 40 < (end_of old.wal) + 1 + log_room v)
+  HasInserted old new disk disk' v (refused (down count)) = Rests old new disk disk' × ((down_of old.wal) ≡ Some count)
+  HasInserted old new disk disk' v (refused device) = HasFailed old new disk disk' v
+  HasInserted old new disk disk' v (refused memory) = Rests old new disk disk' × ((down_of old.wal) ≡ None)
+  HasInserted old new disk disk' v r = ⊥
+
+  abbrev pub HasSearched : Store → Store → D → D → List ℕ → Reply → Type 0
+  HasSearched old new disk disk' lexeme r = Rests old new disk disk' × IsFoundBy old lexeme r
+
+  -- what the statement of a line with this number is answered
+  abbrev pub HasAnswered : ℕ → Store → Store → D → D → Ask → Reply → Type 0
+  HasAnswered number old new disk disk' (insert v) r = HasInserted old new disk disk' v r
+  HasAnswered number old new disk disk' (search lexeme) r = HasSearched old new disk disk' lexeme r
+  HasAnswered number old new disk disk' nothing (refused (no_statement at)) = Rests old new disk disk' × (at ≡ number)
+  HasAnswered number old new disk disk' nothing r = ⊥
