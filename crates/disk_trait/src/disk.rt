@@ -1,7 +1,7 @@
 // The device over two files in memory.
-ghost use Rattle.std.specs.Prelude.{◌≡◌, ◌⊎◌, ◌↔◌, ℕ, ◌+◌, ◌-◌, ◌^◌, ◌<◌, ◌≤◌, min, max, length, take, drop, [], true, false, IsTrue, OnOk, OnErr, IfOk, IsErr, IsOk};
+ghost use Rattle.std.specs.Prelude.{◌≡◌, ◌⊎◌, ◌↔◌, ◌+◌, ◌-◌, ◌^◌, ◌<◌, ◌≤◌, min, length, take, drop, [], true, false, OnOk, OnErr, IfOk, IsErr, IsOk};
 ghost use Rattle.std.specs.Io.{ReadsAtMost};
-ghost use Rattle.disk_trait.specs.Memory.{newest, LeftAt};
+ghost use Rattle.disk_trait.specs.Memory.{newest};
 
 use crate::device::{Disk, Failed, File};
 use crate::memory::MemoryFile;
@@ -21,7 +21,7 @@ pub struct MemoryDisk {
 }
 
 impl MemoryDisk {
-    ghost use Rattle.disk_trait.specs.Schedules.{IsUnused, HasBegun, HasCounted, HasRisen, MustFail, GoesOn};
+    ghost use Rattle.disk_trait.specs.Schedules.{IsUnused, HasCounted, HasRisen, MustFail};
     ghost use Rattle.disk_trait.specs.Kept.{HasBegunCall, HasWrittenTo, HasSyncedFile, HasKept, IsIdle, is_done, KeepsWrite, KeepsSync, Tries, SameFiles};
     ghost use Rattle.disk_trait.specs.Files.{Files, part};
     ghost use Rattle.disk_trait.specs.Laws.{seen_of, image_of, schedule_of, clock_of, write_faults_of, with_fails};

@@ -1,5 +1,5 @@
 // The calls of an object in memory, which are numbered from 1.
-ghost use Rattle.std.specs.Prelude.{◌≡◌, ◌+◌, ◌-◌, ◌^◌, ◌≤◌, min, []};
+ghost use Rattle.std.specs.Prelude.{◌≡◌, ◌+◌, ◌-◌, ◌^◌, ◌≤◌, min};
 
 /// How many calls there were, which of them fail, and how many faults there were. A count stays at 2^64 - 1.
 #[derive(Drop)]

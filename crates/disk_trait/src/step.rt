@@ -1,5 +1,5 @@
 // A write that is synced at once.
-ghost use Rattle.std.specs.Prelude.{◌≡◌, ℕ, ◌+◌, ◌^◌, ◌≤◌, length, OnOk};
+ghost use Rattle.std.specs.Prelude.{◌+◌, ◌^◌, ◌≤◌, length, OnOk};
 ghost use Rattle.disk_trait.specs.Device.{LeavesOnly};
 ghost use Rattle.disk_trait.specs.Steps.{TornFrom, Stands, RunHasCause};
 

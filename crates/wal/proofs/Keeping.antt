@@ -1,5 +1,5 @@
 -- A device that is only read. For crates above.
-use Rattle.std.proofs.Common.{◌≡◌, ◌∙◌, ℕ, List, ap, arith}
+use Rattle.std.proofs.Common.{◌∙◌, ℕ, List, ap, arith}
 use Rattle.disk_trait.specs.Files.{Files}
 use Rattle.disk_trait.specs.Device.{Past}
 use Rattle.wal.specs.Settled.{LogIs}

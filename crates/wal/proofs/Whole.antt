@@ -1,7 +1,7 @@
 -- A log that opens is not refused.
-use Rattle.std.proofs.Common.{◌≡◌, ◌≢◌, ◌⊎◌, ℕ, ◌+◌, ◌<◌, ◌≤◌, ◌^◌, List, [], ◌∷◌, ◌++◌, length, take, drop, get_or, refl, sym, ap, ◌∙◌, append_assoc, length-append, arith, inl, inr, ⊎_elim}
-use Rattle.std.proofs.lemmas.List.{take_at, drop_at, drop-drop, get_or_at}
-use Rattle.wal.specs.Batches.{u32_bytes, header, sealed, blocks, front, AllFit, Counts, IsUnborn, Opens}
+use Rattle.std.proofs.Common.{◌≡◌, ◌≢◌, ◌⊎◌, ℕ, ◌+◌, ◌<◌, ◌≤◌, List, [], ◌∷◌, ◌++◌, length, take, drop, get_or, refl, sym, ap, ◌∙◌, append_assoc, length-append, arith, inl, inr, ⊎_elim}
+use Rattle.std.proofs.lemmas.List.{drop_at, drop-drop, get_or_at}
+use Rattle.wal.specs.Batches.{u32_bytes, header, blocks, front, AllFit, Counts, Opens}
 use Rattle.wal.specs.Reading.{IsForeign, HasLength, IsBroken}
 use Rattle.wal.proofs.Lists.{same_length}
 

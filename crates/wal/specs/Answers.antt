@@ -1,5 +1,5 @@
 -- What the calls of a log answer, and what the device has counted then.
-use Rattle.std.specs.Prelude.{◌≡◌, ◌⊎◌, ℕ, ◌<◌, ◌≤◌, List, [], ◌++◌, Option, Some, None, Result, Ok, Err, IsErrOf}
+use Rattle.std.specs.Prelude.{◌≡◌, ℕ, ◌<◌, ◌≤◌, List, [], ◌++◌, Option, Some, Result, Ok, Err, IsErrOf}
 use Rattle.disk_trait.specs.Device.{Rose}
 use Rattle.wal.specs.Waiting.{waiting_then}
 use Rattle.wal.specs.declared.error.WalError.{WalError}

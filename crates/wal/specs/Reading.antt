@@ -3,7 +3,7 @@ use Rattle.std.specs.Prelude.{◌≡◌, ◌≢◌, ◌⊎◌, ℕ, ◌+◌, ◌
 use Rattle.disk_trait.specs.Files.{Files}
 use Rattle.disk_trait.specs.Device.{Past, LeavesOnly}
 use Rattle.wal.specs.Batches.{header, u32_bytes, sealed, front, AllFit, Counts, Opens}
-use Rattle.wal.specs.Waiting.{end_of, limit_of, down_of, waiting, IsReady}
+use Rattle.wal.specs.Waiting.{end_of, limit_of, down_of, waiting}
 use Rattle.wal.specs.declared.log.Wal.{Wal}
 
 -- a device that is only read keeps what it has

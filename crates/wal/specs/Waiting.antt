@@ -1,5 +1,5 @@
 -- What waits in a log, and what a flush makes of it.
-use Rattle.std.specs.Prelude.{◌≡◌, ◌⊎◌, ℕ, ◌+◌, List, [], ◌∷◌, ◌++◌, length, drop, Bool, true, false, nat_le, if◌then◌else◌, Option}
+use Rattle.std.specs.Prelude.{◌≡◌, ℕ, ◌+◌, List, [], ◌∷◌, ◌++◌, length, drop, Bool, true, nat_le, if◌then◌else◌, Option}
 use Rattle.disk_trait.specs.Files.{Files}
 use Rattle.disk_trait.specs.Device.{Past, LeavesOnly}
 use Rattle.wal.specs.Settled.{Settled, BeforeOrAfter}

@@ -2,7 +2,7 @@
 ghost use Rattle.std.specs.Prelude.{◌≡◌, ℕ, ◌+◌, ◌^◌, ◌<◌, ◌≤◌, List, [], ◌∷◌, ◌++◌, length, OnOk};
 ghost use Rattle.disk_trait.specs.Device.{LeavesOnly};
 ghost use Rattle.disk_trait.specs.Steps.{RunHasCause};
-ghost use Rattle.wal.specs.Batches.{sealed, blocks};
+ghost use Rattle.wal.specs.Batches.{sealed};
 ghost use Rattle.wal.specs.Settled.{Settled, BeforeOrAfter};
 
 use disk_trait::{Disk, Failed, File, write_and_sync};

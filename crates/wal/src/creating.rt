@@ -1,5 +1,5 @@
 // A new log: the store's gate is closed, the name and the first batch's gate are written, and the store's gate is opened.
-ghost use Rattle.std.specs.Prelude.{◌≡◌, ℕ, ◌-◌, ◌^◌, ◌<◌, ◌≤◌, List, [], OnOk, OnErr, IfErr};
+ghost use Rattle.std.specs.Prelude.{◌≡◌, ◌-◌, ◌^◌, ◌<◌, [], OnOk, IfErr};
 ghost use Rattle.disk_trait.specs.Device.{LeavesOnly};
 ghost use Rattle.disk_trait.specs.Steps.{RunHasCause};
 ghost use Rattle.wal.specs.Batches.{IsUnborn, Opens};

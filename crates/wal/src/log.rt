@@ -1,8 +1,7 @@
 // A log that is open: where its next gate stands, and what waits for a flush.
-ghost use Rattle.std.specs.Prelude.{◌≡◌, ◌⊎◌, ◌↔◌, ℕ, ◌+◌, ◌-◌, ◌^◌, ◌<◌, ◌≤◌, List, [], ◌∷◌, ◌++◌, length, take, drop, OnOk, OnErr, IfOk, IfErr, IsErrOf, IsOk, Some, None, Option, vec_len, vec_capacity, Err, Ok, false};
-ghost use Rattle.byteorder.specs.Endian.{little_bytes};
+ghost use Rattle.std.specs.Prelude.{◌≡◌, ◌⊎◌, ◌↔◌, ℕ, ◌+◌, ◌-◌, ◌^◌, ◌<◌, ◌≤◌, List, [], ◌∷◌, ◌++◌, length, drop, OnOk, OnErr, IfErr, IsErrOf, IsOk, Some, None, Option, vec_len, vec_capacity, Err, Ok, false};
 ghost use Rattle.wal.specs.Batches.{u32_bytes};
-ghost use Rattle.wal.specs.declared.error.WalError.TheVariants.{DiskFault, LogFull, NotAStore, Down, OutOfMemory};
+ghost use Rattle.wal.specs.declared.error.WalError.TheVariants.{DiskFault, LogFull, Down, OutOfMemory};
 
 use crate::batch::put_batch;
 use crate::error::WalError;
@@ -133,6 +132,8 @@ impl Wal {
     }
 
     /// The entry waits behind what waits, after a flush where much does. Of a refused entry nothing is there.
+    /// The log is full where its length up to the own batch's gate, what waits and the entry, with four bytes for the length
+    /// and a gate on each side, would pass the limit.
     pub fn append<D: Disk>(&mut self, disk: &mut D, bytes: &[u8]) -> Result<(), WalError>
         requires ready { IsReady self.old }
         requires short { length bytes.now ≤ 4194304 }

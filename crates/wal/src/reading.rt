@@ -1,8 +1,8 @@
 // A log is opened, and its batches are read one after another.
-ghost use Rattle.std.specs.Prelude.{⊤, ◌≡◌, ◌≢◌, ◌⊎◌, ◌↔◌, ℕ, ◌+◌, ◌-◌, ◌^◌, ◌<◌, ◌≤◌, min, List, [], ◌∷◌, ◌++◌, length, take, drop, IfOk, OnOk, OnErr, IfErr, IsErrOf, IsErr, IsOk, IfSome, IfNone, IsTrue, Ok, Err, true, false, get_or, replicate};
-ghost use Rattle.disk_trait.specs.Files.{Files};
+ghost use Rattle.std.specs.Prelude.{⊤, ◌≡◌, ◌≢◌, ◌⊎◌, ◌↔◌, ℕ, ◌+◌, ◌-◌, ◌^◌, ◌<◌, ◌≤◌, min, List, [], ◌∷◌, ◌++◌, length, take, drop, IfOk, OnOk, OnErr, IfErr, IsErr, IfSome, IfNone, IsTrue, Ok, Err, true, false, get_or};
 ghost use Rattle.wal.specs.Answers.{ReadHasCause, NotAStoreWhere};
 ghost use Rattle.wal.specs.Batches.{header, u32_bytes, front, IsUnborn, Counts};
+ghost use Rattle.wal.specs.Reading.{Keeps, HasLength, IsBroken, IsBrokenHead};
 ghost use Rattle.wal.specs.Settled.{Settled, LogIs};
 ghost use Rattle.wal.specs.declared.error.WalError.TheVariants.{DiskFault, NotAStore, OutOfMemory};
 
@@ -10,15 +10,13 @@ use crate::error::WalError;
 use crate::log::{LENGTH_BYTES, Wal};
 use byteorder::{ByteOrder, LittleEndian};
 use disk_trait::{Disk, File};
-use std::alloc::{AllocError, Global};
+use std::alloc::Global;
 
 // The store's gate, open, and the name of the format.
 const HEADER: &[u8; 17] = b"\x01GINSH STORE 0001";
 
 // The log's length while it is created.
 pub(crate) const CREATED: u64 = 18;
-
-ghost use Rattle.wal.specs.Reading.{Keeps, HasLength, IsBroken, IsBrokenHead, IsBatchAt};
 
 // The log's bytes from a place on, as many as are there.
 fn read_log<D: Disk>(disk: &mut D, at: u64, buf: &mut [u8]) -> Result<usize, WalError>

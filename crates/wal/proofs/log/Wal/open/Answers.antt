@@ -4,7 +4,6 @@ use Rattle.disk_trait.specs.Files.{Files}
 use Rattle.wal.specs.Batches.{header}
 use Rattle.wal.specs.Waiting.{end_of}
 use Rattle.wal.specs.Reading.{IsReading}
-use Rattle.wal.specs.declared.log.Wal.{Wal}
 use Rattle.wal.proofs.Walking.{begun}
 use Rattle.wal.proofs.log.Wal.open.Goals as goal
 

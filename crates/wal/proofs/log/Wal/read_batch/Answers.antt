@@ -1,4 +1,4 @@
-use Rattle.std.proofs.Common.{rules, ◌≡◌, ◌≢◌, ◌∙◌, ◌+◌, ◌<◌, ◌≤◌, ap, sym, List, ℕ, get_or, take, drop, length, arith, refl}
+use Rattle.std.proofs.Common.{◌≡◌, ◌≢◌, ◌∙◌, ◌+◌, ◌≤◌, ap, sym, List, ℕ, get_or, take, drop, length, arith, refl}
 use Rattle.disk_trait.specs.Files.{Files}
 use Rattle.wal.specs.Reading.{HasLength}
 use Rattle.wal.proofs.Walking.{ended, settled, passed}
