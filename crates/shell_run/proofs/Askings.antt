@@ -1,5 +1,5 @@
 -- From the tokens of a line to what it asks.
-use Rattle.std.proofs.Common.{◌≡◌, ℕ, List, [], ◌∷◌, length, arith, sym, ◌∙◌, ap, subst}
+use Rattle.std.proofs.Common.{◌≡◌, ℕ, ◌≤◌, List, [], ◌∷◌, length, arith, sym, ◌∙◌, ap, subst}
 use Rattle.std.specs.Prelude.{Option, Some, None, Result, Ok, Err, IfOk, IfSome, IfNone}
 use Rattle.std.specs.declared.alloc.AllocError.{AllocError}
 use Rattle.std.specs.Str.{IsUtf8}
@@ -30,6 +30,11 @@ pub not_asked_line : (r : Found) (line : List ℕ) (ts : List Token) → IsSpell
 not_asked_line (Err e) line ts p h = tt
 not_asked_line (Ok (Some s)) line ts p h = tt
 not_asked_line (Ok None) line ts p h = λ s a k. h s k.2.0 a k.0 (one_spelling line ts (word (label s) ∷ k.2.0) p k.2.1) k.2.2
+
+pub few_asked : (ts : List Token) (a : Asked) → IsAsked ts a → length ts ≤ 3
+few_asked ts (insert v) k = let e : length ts ≡ 3 = ap length k.2 in omega arith
+few_asked ts (search lexeme) k = let e : length ts ≡ 2 = ap length k.1 in omega arith
+few_asked ts nothing k = absurd k
 
 abbrev pub Asking : Type 0
 Asking = Result (Option Read) AllocError

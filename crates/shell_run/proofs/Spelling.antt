@@ -1,5 +1,5 @@
 -- A line has one list of tokens.
-use Rattle.std.proofs.Common.{◌≡◌, inl, inr, ℕ, ◌==◌, ◌<◌, length, Bool, true, false, cond, List, [], ◌∷◌, ◌++◌, append-nil, append_assoc, arith, refl, sym, ◌∙◌, ap, subst}
+use Rattle.std.proofs.Common.{◌≡◌, inl, inr, ℕ, ◌==◌, ◌<◌, ◌+◌, ◌≤◌, length, length-append, Bool, true, false, cond, List, [], ◌∷◌, ◌++◌, append-nil, append_assoc, arith, refl, sym, ◌∙◌, ap, subst}
 use Rattle.std.specs.List.{All}
 use Rattle.std.proofs.lemmas.Bool.{eqb-true, eqb-false}
 use Rattle.std.proofs.lemmas.List.Elements.{All-head, All-tail, All-nil, All-append}
@@ -253,3 +253,11 @@ read_fault line ts rest h some m bad us k = let o = h.only us k in by o.0 o.2
     by : (vs : List Token) → IsSpelled rest vs → ⊥
     by [] k = no_blank_front rest some m k
     by (v ∷ vs) k = let front = front_of rest v vs m k in bad v front.0 front.1
+
+-- more tokens are there than so many
+pub read_too_many : (line : List ℕ) (ts : List Token) (rest : List ℕ) (most : ℕ) → Read line ts rest → 0 < length rest → BeginsWithout IsBlank rest → most ≤ length ts → (us : List Token) → length us ≤ most → IsSpelled line us → ⊥
+read_too_many line ts rest most h some m many us few k = let o = h.only us k in by o.0 o.1 o.2
+  where
+    by : (vs : List Token) → us ≡ ts ++ vs → IsSpelled rest vs → ⊥
+    by [] e k = no_blank_front rest some m k
+    by (v ∷ vs) e k = let f : length us ≡ length ts + length (v ∷ vs) = ap length e ∙ length-append ts (v ∷ vs) in omega arith

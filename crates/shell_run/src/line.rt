@@ -14,6 +14,9 @@ use std::alloc::{AllocError, Global};
 use std::str;
 use ts_vector::{TsVector, VectorError, is_plain_lexeme};
 
+// The most tokens of a statement: a label, two words and a quoted text.
+const MOST_TOKENS: usize = 4;
+
 /// What a statement asks of the store.
 #[derive(Debug, Drop)]
 pub enum Ask {
@@ -167,7 +170,7 @@ fn statement_of(alloc: Global, line: &[u8]) -> Result<Option<Statement>, AllocEr
     let Ok(text) = str::from_utf8(line) else {
         return Ok(None);
     };
-    match tokens_of(alloc, text)? {
+    match tokens_of(alloc, text, MOST_TOKENS)? {
         Some(tokens) => asked_by(alloc, tokens.as_slice()),
         None => Ok(None),
     }

@@ -144,13 +144,17 @@ fn first_token(alloc: Global, text: &str) -> Result<Option<(Token, &str)>, Alloc
 
 /// The tokens of a line, which stand between blanks.
 /// None where the line has none: a quote that isn't closed, a quote within a word, or something right behind a quote.
-pub fn tokens_of(alloc: Global, line: &str) -> Result<Option<Vec<Token>>, AllocError>
-    ensures some { IfOk result (λ found. IfSome found (λ v. IsSpelled line.now (map token v.items))) }
-    ensures none { IfOk result (λ found. IfNone found ((ts : List Spelled) → IsSpelled line.now ts → ⊥)) }
+/// None also where it has more than `most`, so that a long line takes no memory for tokens that nobody asks for.
+pub fn tokens_of(alloc: Global, line: &str, most: usize) -> Result<Option<Vec<Token>>, AllocError>
+    ensures some { IfOk result (λ found. IfSome found (λ v. IsSpelled line.now (map token v.items) × (length v.items ≤ most))) }
+    ensures none { IfOk result (λ found. IfNone found ((ts : List Spelled) → length ts ≤ most → IsSpelled line.now ts → ⊥)) }
 {
     let mut tokens = Vec::new(alloc);
     let mut rest = without_blanks(line);
     while !rest.is_empty() {
+        if tokens.len() >= most {
+            return Ok(None);
+        }
         let (token, more) = match first_token(alloc, rest) {
             Ok(Some(found)) => found,
             Ok(None) => return Ok(None),
@@ -173,7 +177,7 @@ mod tests {
     use std::test::Fail;
 
     fn shown(alloc: Global, line: &str) -> Result<String, AllocError> {
-        let tokens = tokens_of(alloc, line)?;
+        let tokens = tokens_of(alloc, line, 4)?;
         format!(in alloc; "{tokens:?}")
     }
 
