@@ -4,6 +4,8 @@
 mod case;
 mod compare;
 #[cfg(test)]
+mod device_tests;
+#[cfg(test)]
 mod tests;
 
 use anyhow::{Context, Result};
