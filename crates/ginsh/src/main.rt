@@ -6,7 +6,9 @@ ghost use Rattle.std.specs.IoError.{error_kind};
 ghost use Rattle.shell_run.specs.Reading.{HasRead};
 ghost use Rattle.shell_run.specs.Words.{IsForm};
 ghost use Rattle.shell_run.specs.Outcomes.{NotRun, Answered};
+ghost use Rattle.disk_trait.specs.Laws.{faults_of, write_faults_of};
 ghost use Rattle.shell_run.specs.Run.{Run, Row};
+ghost use Rattle.shell_run.specs.Opened.{counts_of};
 ghost use Rattle.shell_run.specs.History.{History, IsNumbered};
 
 mod streams;
@@ -49,12 +51,14 @@ fn answer<R: Threads + Wait + Sync, I: Read, O: Write>(
     ensures status_2 { (result.status ≡ 2) ↔ (IsForm words.now → ⊥) }
     ensures status_6 { result.status ≡ 6 → 0 < result.script.faults }
     ensures status_7 { result.status ≡ 7 → 0 < result.out.faults }
-    ensures range { (result.status ≤ 8) × (result.status ≢ 3) × (result.status ≢ 4) }
+    ensures status_3 { result.status ≡ 3 → 0 < faults_of result.store }
+    ensures range { (result.status ≤ 8) × (result.status ≢ 4) }
     ensures headline { NotRun result.status (O.contents writer) (O.contents result.out.writer)
         ⊎ ((text : List ℕ) × (rows : List Row) × (commits : History)
         × HasRead (I.remaining reader) (I.remaining result.script.reader) text
         × Answered text result.status (O.contents writer) (O.contents result.out.writer) rows
-        × Run [] commits rows × IsNumbered commits) }
+        × IsNumbered commits
+        × Run (counts_of 0 (faults_of result.store) 0 (write_faults_of result.store)) [] commits rows) }
 {
     run_shell(
         rt,
