@@ -1,0 +1,6 @@
+//! Queries: their values, their texts, and what joins them.
+#![tactic(auto)]
+
+mod query;
+
+pub use query::{Node, Operand, TsQuery};
