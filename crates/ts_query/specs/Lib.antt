@@ -1,2 +1,6 @@
 pub mod Queries
 pub mod Postfix
+pub mod Tokens
+pub mod Grammar
+pub mod Printing
+pub mod Frames
