@@ -4,3 +4,4 @@ pub mod Tokens
 pub mod Grammar
 pub mod Printing
 pub mod Frames
+pub mod Parsing

@@ -1,6 +1,7 @@
 //! Queries: their values, their texts, and what joins them.
 #![tactic(auto)]
 
+mod parser;
 mod query;
 
 pub use query::{Node, Operand, TsQuery};
