@@ -1,2 +1,4 @@
 pub mod Climbs
 pub mod Stacks
+pub mod Chars
+pub mod Lexing

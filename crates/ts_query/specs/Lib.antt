@@ -5,3 +5,4 @@ pub mod Grammar
 pub mod Printing
 pub mod Frames
 pub mod Parsing
+pub mod Lexer
