@@ -57,7 +57,7 @@ delimiter_124 = inr (inr (inr (inr (inl refl))))
 delimiter_60 : IsDelimiter 60
 delimiter_60 = inr (inr (inr (inr (inr (inl refl)))))
 
-delimiter_58 : IsDelimiter 58
+pub delimiter_58 : IsDelimiter 58
 delimiter_58 = inr (inr (inr (inr (inr (inr refl)))))
 
 delimiter_39 : ¬ IsDelimiter 39
@@ -75,7 +75,7 @@ end_plain c k (inl h) = k.no_white h
 end_plain c k (inr h) = k.no_delimiter h
 
 -- ── between tokens ──
-white_on : (n c : ℕ) (u : List ℕ) (ks : List Token) → IsWhite c → Lex n (c ∷ u) ks → Lex n u ks
+pub white_on : (n c : ℕ) (u : List ℕ) (ks : List Token) → IsWhite c → Lex n (c ∷ u) ks → Lex n u ks
 white_on n c u ks k (space _ _ _ _ h w) = w
 white_on n c u ks k (not_sign _ _ _ w) = absurd (white_33 k)
 white_on n c u ks k (open_sign _ _ _ w) = absurd (white_40 k)
@@ -92,24 +92,24 @@ colon_never n u ks (space _ _ _ _ h w) = white_58 h
 colon_never n u ks (plain _ _ _ _ _ _ _ _ p m q b w) = p.no_delimiter delimiter_58
 
 module _ (n : ℕ) where
-  lex_quote : (u : List ℕ) (ks : List Token) → Lex n (39 ∷ u) ks → QuotedOn n (offset n (39 ∷ u)) [] u ks
+  pub lex_quote : (u : List ℕ) (ks : List Token) → Lex n (39 ∷ u) ks → QuotedOn n (offset n (39 ∷ u)) [] u ks
   lex_quote u ks (space _ _ _ _ h w) = absurd (white_39 h)
   lex_quote u ks (quoted _ _ l m r o rest q ne b w) = (l, m, q, ne, (o, r, b, (rest, refl, w)))
   lex_quote u ks (plain _ _ _ _ _ _ _ _ p m q b w) = absurd (m refl)
 
-  quote_lex : (u : List ℕ) (ks : List Token) → QuotedOn n (offset n (39 ∷ u)) [] u ks → Lex n (39 ∷ u) ks
+  pub quote_lex : (u : List ℕ) (ks : List Token) → QuotedOn n (offset n (39 ∷ u)) [] u ks → Lex n (39 ∷ u) ks
   quote_lex u ks (l, m, q, ne, b) = let w = b.3 in subst (λ x. Lex n (39 ∷ u) x) (sym w.1) (quoted n u l m b.1 b.0 w.0 q ne b.2 w.2)
 
-  lex_escape : (u : List ℕ) (ks : List Token) → Lex n (92 ∷ u) ks → EscapedOn (PlainOn n (offset n (92 ∷ u))) [] u ks
+  pub lex_escape : (u : List ℕ) (ks : List Token) → Lex n (92 ∷ u) ks → EscapedOn (PlainOn n (offset n (92 ∷ u))) [] u ks
   lex_escape u ks (space _ _ _ _ h w) = absurd (white_92 h)
   lex_escape u ks (plain _ _ _ _ _ _ _ _ p m q b w) = absurd (p.no_escape refl)
   lex_escape u ks (escape _ c v l m r o rest q b w) = (l, m, q, (o, r, b, (rest, refl, w)))
 
-  escape_lex : (u : List ℕ) (ks : List Token) → EscapedOn (PlainOn n (offset n (92 ∷ u))) [] u ks → Lex n (92 ∷ u) ks
+  pub escape_lex : (u : List ℕ) (ks : List Token) → EscapedOn (PlainOn n (offset n (92 ∷ u))) [] u ks → Lex n (92 ∷ u) ks
   escape_lex [] ks h = absurd h
   escape_lex (c ∷ u) ks (l, m, q, b) = let w = b.3 in subst (λ x. Lex n (92 ∷ c ∷ u) x) (sym w.1) (escape n c u l m b.1 b.0 w.0 q b.2 w.2)
 
-  lex_plain : (c : ℕ) (u : List ℕ) (ks : List Token) → IsPlain c → c ≢ 39 → Lex n (c ∷ u) ks → PlainOn n (offset n (c ∷ u)) (c ∷ []) u ks
+  pub lex_plain : (c : ℕ) (u : List ℕ) (ks : List Token) → IsPlain c → c ≢ 39 → Lex n (c ∷ u) ks → PlainOn n (offset n (c ∷ u)) (c ∷ []) u ks
   lex_plain c u ks k e (space _ _ _ _ h w) = absurd (k.no_white h)
   lex_plain c u ks k e (not_sign _ _ _ w) = absurd (k.no_delimiter delimiter_33)
   lex_plain c u ks k e (open_sign _ _ _ w) = absurd (k.no_delimiter delimiter_40)
@@ -121,15 +121,15 @@ module _ (n : ℕ) where
   lex_plain c u ks k e (plain _ _ _ l m r o rest _ _ q b w) = (l, m, q, (o, r, b, (rest, refl, w)))
   lex_plain c u ks k e (escape _ _ _ _ _ _ _ _ q b w) = absurd (k.no_escape refl)
 
-  plain_lex : (c : ℕ) (u : List ℕ) (ks : List Token) → IsPlain c → c ≢ 39 → PlainOn n (offset n (c ∷ u)) (c ∷ []) u ks → Lex n (c ∷ u) ks
+  pub plain_lex : (c : ℕ) (u : List ℕ) (ks : List Token) → IsPlain c → c ≢ 39 → PlainOn n (offset n (c ∷ u)) (c ∷ []) u ks → Lex n (c ∷ u) ks
   plain_lex c u ks k e (l, m, q, b) = let w = b.3 in subst (λ x. Lex n (c ∷ u) x) (sym w.1) (plain n c u l m b.1 b.0 w.0 k e q b.2 w.2)
 
-  lex_less : (u : List ℕ) (ks : List Token) → Lex n (60 ∷ u) ks → LessOn n (offset n (60 ∷ u)) u ks
+  pub lex_less : (u : List ℕ) (ks : List Token) → Lex n (60 ∷ u) ks → LessOn n (offset n (60 ∷ u)) u ks
   lex_less u ks (space _ _ _ _ h w) = absurd (white_60 h)
   lex_less u ks (phrase_sign _ d _ r rest s w) = (d, r, s, (rest, refl, w))
   lex_less u ks (plain _ _ _ _ _ _ _ _ p m q b w) = absurd (p.no_delimiter delimiter_60)
 
-  less_lex : (u : List ℕ) (ks : List Token) → LessOn n (offset n (60 ∷ u)) u ks → Lex n (60 ∷ u) ks
+  pub less_lex : (u : List ℕ) (ks : List Token) → LessOn n (offset n (60 ∷ u)) u ks → Lex n (60 ∷ u) ks
   less_lex u ks (d, r, s, w) = subst (λ x. Lex n (60 ∷ u) x) (sym w.1) (phrase_sign n d u r w.0 s w.2)
 
   -- tokens of one byte
@@ -164,10 +164,10 @@ module _ (n : ℕ) where
     behind_colon u r o ks (bare _ _) h = absurd (colon_never n u h.0 h.2)
     behind_colon u r o ks (marked _ _ _ w p m) h = (w, p, r, m, h)
 
-    colon_to : (u : List ℕ) (ks : List Token) → BehindOn n s a (58 ∷ u) ks → MarksOn n s a no_weights false u ks
+    pub colon_to : (u : List ℕ) (ks : List Token) → BehindOn n s a (58 ∷ u) ks → MarksOn n s a no_weights false u ks
     colon_to u ks (o, r, b, h) = behind_colon u r o ks b h
 
-    colon_from : (u : List ℕ) (ks : List Token) → MarksOn n s a no_weights false u ks → BehindOn n s a (58 ∷ u) ks
+    pub colon_from : (u : List ℕ) (ks : List Token) → MarksOn n s a no_weights false u ks → BehindOn n s a (58 ∷ u) ks
     colon_from u ks (w, p, r, m, h) = (operand a w p, r, marked a u r w p m, h)
 
     behind_other : (c : ℕ) (u r : List ℕ) (o : Operand) (ks : List Token) → c ≢ 58 → Behind a (c ∷ u) o r → WordOn n s o r ks → WordOn n s (operand a no_weights false) (c ∷ u) ks
@@ -196,11 +196,11 @@ module _ (n : ℕ) where
     quote_end l r ks (closed _ _ m) ne w = (ne, w)
     quote_end l r ks (quoted_byte _ _ _ _ _ m _ q) ne w = absurd (m refl)
 
-    quoted_to : (u : List ℕ) (ks : List Token) → QuotedOn n s a (39 ∷ u) ks → QuoteOn n s a u ks
+    pub quoted_to : (u : List ℕ) (ks : List Token) → QuotedOn n s a (39 ∷ u) ks → QuoteOn n s a u ks
     quoted_to [] ks (l, r, q, ne, w) = quote_end l r ks q ne w
     quoted_to (c ∷ u) ks (l, r, q, ne, w) = quote_second c u l r ks q ne w
 
-    quoted_from : (u : List ℕ) (ks : List Token) → QuoteOn n s a u ks → QuotedOn n s a (39 ∷ u) ks
+    pub quoted_from : (u : List ℕ) (ks : List Token) → QuoteOn n s a u ks → QuotedOn n s a (39 ∷ u) ks
     quoted_from [] ks (ne, w) = (a, [], closed a [] (λ h. h), ne, w)
     quoted_from (c ∷ u) ks (inl (e, (l, r, q, ne, w))) = (l, r, subst (λ x. Quoted a (39 ∷ x ∷ u) l r) (sym e) (doubled a u l r q), ne, w)
     quoted_from (c ∷ u) ks (inr (m, ne, w)) = (a, c ∷ u, closed a (c ∷ u) m, ne, w)
@@ -209,10 +209,10 @@ module _ (n : ℕ) where
     quoted_92 u l r ks (quoted_escape c _ t _ _ q) ne w = (l, r, q, ne, w)
     quoted_92 u l r ks (quoted_byte _ _ _ _ _ _ m q) ne w = absurd (m refl)
 
-    quoted_92_to : (u : List ℕ) (ks : List Token) → QuotedOn n s a (92 ∷ u) ks → EscapedOn (QuotedOn n s) a u ks
+    pub quoted_92_to : (u : List ℕ) (ks : List Token) → QuotedOn n s a (92 ∷ u) ks → EscapedOn (QuotedOn n s) a u ks
     quoted_92_to u ks (l, r, q, ne, w) = quoted_92 u l r ks q ne w
 
-    quoted_92_from : (u : List ℕ) (ks : List Token) → EscapedOn (QuotedOn n s) a u ks → QuotedOn n s a (92 ∷ u) ks
+    pub quoted_92_from : (u : List ℕ) (ks : List Token) → EscapedOn (QuotedOn n s) a u ks → QuotedOn n s a (92 ∷ u) ks
     quoted_92_from [] ks h = absurd h
     quoted_92_from (c ∷ u) ks (l, r, q, ne, w) = (l, r, quoted_escape c a u l r q, ne, w)
 
@@ -229,11 +229,11 @@ module _ (n : ℕ) where
     quoted_byte_from c u ks e f (l, r, q, ne, w) = (l, r, quoted_byte c a u l r e f q, ne, w)
 
     -- ── behind a quote within ──
-    doubled_to : (u : List ℕ) (ks : List Token) → QuoteOn n s a (39 ∷ u) ks → QuotedOn n s (a ++ 39 ∷ []) u ks
+    pub doubled_to : (u : List ℕ) (ks : List Token) → QuoteOn n s a (39 ∷ u) ks → QuotedOn n s (a ++ 39 ∷ []) u ks
     doubled_to u ks (inl (e, h)) = h
     doubled_to u ks (inr (m, ne, w)) = absurd (m refl)
 
-    quote_other : (c : ℕ) (u : List ℕ) (ks : List Token) → c ≢ 39 → QuoteOn n s a (c ∷ u) ks → (a ≢ []) × BehindOn n s a (c ∷ u) ks
+    pub quote_other : (c : ℕ) (u : List ℕ) (ks : List Token) → c ≢ 39 → QuoteOn n s a (c ∷ u) ks → (a ≢ []) × BehindOn n s a (c ∷ u) ks
     quote_other c u ks e (inl (f, h)) = absurd (e f)
     quote_other c u ks e (inr (m, ne, w)) = (ne, w)
 
@@ -243,10 +243,10 @@ module _ (n : ℕ) where
     plain_92 u l r ks (plain_escape c _ t _ _ q) w = (l, r, q, w)
     plain_92 u l r ks (plain_byte _ _ _ _ _ p q) w = absurd (p.no_escape refl)
 
-    plain_92_to : (u : List ℕ) (ks : List Token) → PlainOn n s a (92 ∷ u) ks → EscapedOn (PlainOn n s) a u ks
+    pub plain_92_to : (u : List ℕ) (ks : List Token) → PlainOn n s a (92 ∷ u) ks → EscapedOn (PlainOn n s) a u ks
     plain_92_to u ks (l, r, q, w) = plain_92 u l r ks q w
 
-    plain_92_from : (u : List ℕ) (ks : List Token) → EscapedOn (PlainOn n s) a u ks → PlainOn n s a (92 ∷ u) ks
+    pub plain_92_from : (u : List ℕ) (ks : List Token) → EscapedOn (PlainOn n s) a u ks → PlainOn n s a (92 ∷ u) ks
     plain_92_from [] ks h = absurd h
     plain_92_from (c ∷ u) ks (l, r, q, w) = (l, r, plain_escape c a u l r q, w)
 
@@ -255,10 +255,10 @@ module _ (n : ℕ) where
     plain_over c u l r ks k (plain_escape _ _ _ _ _ q) w = absurd (end_92 k)
     plain_over c u l r ks k (plain_byte _ _ _ _ _ p q) w = absurd (end_plain c p k)
 
-    plain_over_to : (c : ℕ) (u : List ℕ) (ks : List Token) → IsWhite c ⊎ IsDelimiter c → PlainOn n s a (c ∷ u) ks → BehindOn n s a (c ∷ u) ks
+    pub plain_over_to : (c : ℕ) (u : List ℕ) (ks : List Token) → IsWhite c ⊎ IsDelimiter c → PlainOn n s a (c ∷ u) ks → BehindOn n s a (c ∷ u) ks
     plain_over_to c u ks k (l, r, q, w) = plain_over c u l r ks k q w
 
-    plain_over_from : (c : ℕ) (u : List ℕ) (ks : List Token) → IsWhite c ⊎ IsDelimiter c → BehindOn n s a (c ∷ u) ks → PlainOn n s a (c ∷ u) ks
+    pub plain_over_from : (c : ℕ) (u : List ℕ) (ks : List Token) → IsWhite c ⊎ IsDelimiter c → BehindOn n s a (c ∷ u) ks → PlainOn n s a (c ∷ u) ks
     plain_over_from c u ks k w = (a, c ∷ u, plain_end a (c ∷ u) k, w)
 
     plain_stops : (l r : List ℕ) (ks : List Token) → Plain a [] l r → BehindOn n s l r ks → BehindOn n s a [] ks
@@ -283,22 +283,22 @@ module _ (n : ℕ) where
 
   -- ── several bytes ──
   module _ (s : ℕ) where
-    quoted_bytes_to : (bs a u : List ℕ) (ks : List Token) → Each (λ b. (b ≢ 39) × (b ≢ 92)) bs → QuotedOn n s a (bs ++ u) ks → QuotedOn n s (a ++ bs) u ks
+    pub quoted_bytes_to : (bs a u : List ℕ) (ks : List Token) → Each (λ b. (b ≢ 39) × (b ≢ 92)) bs → QuotedOn n s a (bs ++ u) ks → QuotedOn n s (a ++ bs) u ks
     quoted_bytes_to [] a u ks h q = subst (λ x. QuotedOn n s x u ks) (sym (append-nil a)) q
     quoted_bytes_to (b ∷ bs) a u ks h q =
         subst (λ x. QuotedOn n s x u ks) (append_assoc a (b ∷ []) bs) (quoted_bytes_to bs (a ++ b ∷ []) u ks h.1 (quoted_byte_to s a b (bs ++ u) ks h.0.0 h.0.1 q))
 
-    quoted_bytes_from : (bs a u : List ℕ) (ks : List Token) → Each (λ b. (b ≢ 39) × (b ≢ 92)) bs → QuotedOn n s (a ++ bs) u ks → QuotedOn n s a (bs ++ u) ks
+    pub quoted_bytes_from : (bs a u : List ℕ) (ks : List Token) → Each (λ b. (b ≢ 39) × (b ≢ 92)) bs → QuotedOn n s (a ++ bs) u ks → QuotedOn n s a (bs ++ u) ks
     quoted_bytes_from [] a u ks h q = subst (λ x. QuotedOn n s x u ks) (append-nil a) q
     quoted_bytes_from (b ∷ bs) a u ks h q =
         quoted_byte_from s a b (bs ++ u) ks h.0.0 h.0.1 (quoted_bytes_from bs (a ++ b ∷ []) u ks h.1 (subst (λ x. QuotedOn n s x u ks) (sym (append_assoc a (b ∷ []) bs)) q))
 
-    plain_bytes_to : (bs a u : List ℕ) (ks : List Token) → Each IsPlain bs → PlainOn n s a (bs ++ u) ks → PlainOn n s (a ++ bs) u ks
+    pub plain_bytes_to : (bs a u : List ℕ) (ks : List Token) → Each IsPlain bs → PlainOn n s a (bs ++ u) ks → PlainOn n s (a ++ bs) u ks
     plain_bytes_to [] a u ks h q = subst (λ x. PlainOn n s x u ks) (sym (append-nil a)) q
     plain_bytes_to (b ∷ bs) a u ks h q =
         subst (λ x. PlainOn n s x u ks) (append_assoc a (b ∷ []) bs) (plain_bytes_to bs (a ++ b ∷ []) u ks h.1 (plain_byte_to s a b (bs ++ u) ks h.0 q))
 
-    plain_bytes_from : (bs a u : List ℕ) (ks : List Token) → Each IsPlain bs → PlainOn n s (a ++ bs) u ks → PlainOn n s a (bs ++ u) ks
+    pub plain_bytes_from : (bs a u : List ℕ) (ks : List Token) → Each IsPlain bs → PlainOn n s (a ++ bs) u ks → PlainOn n s a (bs ++ u) ks
     plain_bytes_from [] a u ks h q = subst (λ x. PlainOn n s x u ks) (append-nil a) q
     plain_bytes_from (b ∷ bs) a u ks h q =
         plain_byte_from s a b (bs ++ u) ks h.0 (plain_bytes_from bs (a ++ b ∷ []) u ks h.1 (subst (λ x. PlainOn n s x u ks) (sym (append_assoc a (b ∷ []) bs)) q))
@@ -334,10 +334,10 @@ module _ (n s : ℕ) (l : List ℕ) (w : Weights) (p : Bool) where
   star_on u r v q (star _ _ _ _ _ _ m) = m
   star_on u r v q (letter _ x _ _ _ _ _ _ k m) = absurd (letter_42 x k)
 
-  star_to : (u : List ℕ) (ks : List Token) → MarksOn n s l w p (42 ∷ u) ks → MarksOn n s l w true u ks
+  pub star_to : (u : List ℕ) (ks : List Token) → MarksOn n s l w p (42 ∷ u) ks → MarksOn n s l w true u ks
   star_to u ks (v, q, r, m, h) = (v, q, r, star_on u r v q m, h)
 
-  star_from : (u : List ℕ) (ks : List Token) → MarksOn n s l w true u ks → MarksOn n s l w p (42 ∷ u) ks
+  pub star_from : (u : List ℕ) (ks : List Token) → MarksOn n s l w true u ks → MarksOn n s l w p (42 ∷ u) ks
   star_from u ks (v, q, r, m, h) = (v, q, r, star w v p q u r m, h)
 
   letter_on : (c : ℕ) (x : Weight) (u r : List ℕ) (v : Weights) (q : Bool) → IsLetter c x → Marks w p (c ∷ u) v q r → Marks (with_weight x w) p u v q r
@@ -345,10 +345,10 @@ module _ (n s : ℕ) (l : List ℕ) (w : Weights) (p : Bool) where
   letter_on c x u r v q k (star _ _ _ _ _ _ m) = absurd (letter_42 x k)
   letter_on c x u r v q k (letter _ y _ _ _ _ _ _ h m) = subst (λ z. Marks (with_weight z w) p u v q r) (letter_one c y x h k) m
 
-  letter_to : (c : ℕ) (x : Weight) (u : List ℕ) (ks : List Token) → IsLetter c x → MarksOn n s l w p (c ∷ u) ks → MarksOn n s l (with_weight x w) p u ks
+  pub letter_to : (c : ℕ) (x : Weight) (u : List ℕ) (ks : List Token) → IsLetter c x → MarksOn n s l w p (c ∷ u) ks → MarksOn n s l (with_weight x w) p u ks
   letter_to c x u ks k (v, q, r, m, h) = (v, q, r, letter_on c x u r v q k m, h)
 
-  letter_from : (c : ℕ) (x : Weight) (u : List ℕ) (ks : List Token) → IsLetter c x → MarksOn n s l (with_weight x w) p u ks → MarksOn n s l w p (c ∷ u) ks
+  pub letter_from : (c : ℕ) (x : Weight) (u : List ℕ) (ks : List Token) → IsLetter c x → MarksOn n s l (with_weight x w) p u ks → MarksOn n s l w p (c ∷ u) ks
   letter_from c x u ks k (v, q, r, m, h) = (v, q, r, letter c x w v p q u r k m, h)
 
   marks_over : (u r : List ℕ) (v : Weights) (q : Bool) (ks : List Token) → ¬ BeginsWithMark u → Marks w p u v q r → WordOn n s (operand l v q) r ks → WordOn n s (operand l w p) u ks
@@ -374,10 +374,10 @@ module _ (n s : ℕ) where
   dash_on u d r ks (arrow _) h = (refl, h)
   dash_on u d r ks (number _ _ _ _ k m) h = absurd (digit_45 k)
 
-  dash_to : (u : List ℕ) (ks : List Token) → LessOn n s (45 ∷ u) ks → DashOn n s u ks
+  pub dash_to : (u : List ℕ) (ks : List Token) → LessOn n s (45 ∷ u) ks → DashOn n s u ks
   dash_to u ks (d, r, m, h) = dash_on u d r ks m h
 
-  dash_from : (u : List ℕ) (ks : List Token) → DashOn n s u ks → LessOn n s (45 ∷ u) ks
+  pub dash_from : (u : List ℕ) (ks : List Token) → DashOn n s u ks → LessOn n s (45 ∷ u) ks
   dash_from [] ks h = absurd h
   dash_from (c ∷ u) ks (e, h) = (1, u, subst (λ x. Distance (45 ∷ x ∷ u) 1 u) (sym e) (arrow u), h)
 
@@ -385,10 +385,10 @@ module _ (n s : ℕ) where
   number_on c u d r k (arrow _) = absurd (digit_45 k)
   number_on c u d r k (number _ _ _ _ _ m) = m
 
-  number_to : (c : ℕ) (u : List ℕ) (ks : List Token) → IsDigit c → LessOn n s (c ∷ u) ks → DigitsOn n s (with_digit 0 c) u ks
+  pub number_to : (c : ℕ) (u : List ℕ) (ks : List Token) → IsDigit c → LessOn n s (c ∷ u) ks → DigitsOn n s (with_digit 0 c) u ks
   number_to c u ks k (d, r, m, h) = (d, r, number_on c u d r k m, h)
 
-  number_from : (c : ℕ) (u : List ℕ) (ks : List Token) → IsDigit c → DigitsOn n s (with_digit 0 c) u ks → LessOn n s (c ∷ u) ks
+  pub number_from : (c : ℕ) (u : List ℕ) (ks : List Token) → IsDigit c → DigitsOn n s (with_digit 0 c) u ks → LessOn n s (c ∷ u) ks
   number_from c u ks k (d, r, m, h) = (d, r, number c d u r k m, h)
 
   less_other : (c : ℕ) (u : List ℕ) (d : ℕ) (r : List ℕ) → ¬ IsDigit c → c ≢ 45 → ¬ Distance (c ∷ u) d r
@@ -409,10 +409,10 @@ module _ (n s : ℕ) where
     digit_on c u d r k (over _ _) = absurd (digit_62 k)
     digit_on c u d r k (digit _ _ _ _ _ _ h) = h
 
-    digit_to : (c : ℕ) (u : List ℕ) (ks : List Token) → IsDigit c → DigitsOn n s m (c ∷ u) ks → DigitsOn n s (with_digit m c) u ks
+    pub digit_to : (c : ℕ) (u : List ℕ) (ks : List Token) → IsDigit c → DigitsOn n s m (c ∷ u) ks → DigitsOn n s (with_digit m c) u ks
     digit_to c u ks k (d, r, h, w) = (d, r, digit_on c u d r k h, w)
 
-    digit_from : (c : ℕ) (u : List ℕ) (ks : List Token) → IsDigit c → DigitsOn n s (with_digit m c) u ks → DigitsOn n s m (c ∷ u) ks
+    pub digit_from : (c : ℕ) (u : List ℕ) (ks : List Token) → IsDigit c → DigitsOn n s (with_digit m c) u ks → DigitsOn n s m (c ∷ u) ks
     digit_from c u ks k (d, r, h, w) = (d, r, digit c m d u r k h, w)
 
     digits_other : (c : ℕ) (u : List ℕ) (d : ℕ) (r : List ℕ) → ¬ IsDigit c → c ≢ 62 → ¬ Number m (c ∷ u) d r

@@ -2,3 +2,6 @@ pub mod Climbs
 pub mod Stacks
 pub mod Chars
 pub mod Lexing
+pub mod Steps
+pub mod Standing
+pub mod Beginnings

@@ -4,7 +4,7 @@ use Rattle.ts_query.specs.Queries.{Operand, Joint, or_joint, and_joint, phrase_j
 use Rattle.ts_query.specs.Tokens.{Token, word, bang, opening, closing, sign}
 use Rattle.ts_query.specs.Grammar.{level, Expr, Spells}
 use Rattle.ts_query.specs.Postfix.{Item, operand_item, not_item, joint_item, postfix, postfix_of}
-use Rattle.ts_query.specs.Frames.{Frame, open_frame, not_frame, joint_frame, need, After, at_end, at_close, at_not, at_joint, On, Want, want, Stops, Spot, start, due, held, Rest, Sorted, outs_of}
+use Rattle.ts_query.specs.Frames.{Frame, open_frame, not_frame, joint_frame, need, After, at_end, at_close, at_not, at_joint, On, Want, want, Stops, Spot, start, due, held, IsDue, IsHeld, Rest, Sorted, outs_of}
 use Rattle.ts_query.specs.Parsing.{link_joint, joint_link, word_operand, entry_item, ops_of, ShowsStart, ShowsDue, ShowsHeld, Shows, Takes, Took, Never, Same, Applied, Over, AppliedAll, Whole, Unfinished}
 use Rattle.ts_query.specs.declared.parser.Link.{Link}
 use Rattle.ts_query.specs.declared.parser.Link.TheVariants.{Or, And, Phrase}
@@ -215,7 +215,7 @@ open_came fs u (Some t) r = want_open fs u t r
 open_takes : (fs : List Frame) → Takes (due fs) opening (due (open_frame ∷ fs))
 open_takes fs = record { goes_on = open_goes fs; came_so = open_came fs }
 
-pub word_took : (p q : Parser) (s : Spot) (at : ℕ) (w : Word) → p.place ≢ Held → Shows p s → q.place ≡ Held → q.ops.items ≡ p.ops.items → q.out.items ≡ p.out.items ++ entry.Operand w ∷ []
+pub word_took : (p q : Parser) (s : Spot) (at : ℕ) (w : Word) → IsDue s → Shows p s → q.place ≡ Held → q.ops.items ≡ p.ops.items → q.out.items ≡ p.out.items ++ entry.Operand w ∷ []
     → Took s (word at (word_operand w)) q
 word_took p q start at w n s d o out = record {
   new = held [] (leaf (word_operand w));
@@ -227,9 +227,9 @@ word_took p q (due fs) at w n s d o out = record {
   shows = record { place = d; ops = o ∙ s.ops; out = out_more p.out.items q.out.items (entry.Operand w) out ∙ ap (λ v. v ++ operand_item (word_operand w) ∷ []) s.out; sorted = s.sorted; above = need_4 fs; below = omega arith };
   takes = word_takes fs at (word_operand w);
 }
-word_took p q (held fs y) at w n s d o out = absurd (n s.place)
+word_took p q (held fs y) at w n s d o out = absurd n
 
-pub not_took : (p q : Parser) (s : Spot) → p.place ≢ Held → Shows p s → q.place ≡ Due → q.ops.items ≡ p.ops.items ++ Not ∷ [] → q.out.items ≡ p.out.items → Took s bang q
+pub not_took : (p q : Parser) (s : Spot) → IsDue s → Shows p s → q.place ≡ Due → q.ops.items ≡ p.ops.items ++ Not ∷ [] → q.out.items ≡ p.out.items → Took s bang q
 not_took p q start n s d o out = record {
   new = due (not_frame ∷ []);
   shows = record { place = d; ops = o ∙ ap (λ v. v ++ Not ∷ []) s.ops; out = ap (λ v. map entry_item v) out ∙ s.out; sorted = tt };
@@ -240,9 +240,9 @@ not_took p q (due fs) n s d o out = record {
   shows = record { place = d; ops = o ∙ ap (λ v. v ++ Not ∷ []) s.ops; out = ap (λ v. map entry_item v) out ∙ s.out; sorted = s.sorted };
   takes = not_takes fs;
 }
-not_took p q (held fs y) n s d o out = absurd (n s.place)
+not_took p q (held fs y) n s d o out = absurd n
 
-pub open_took : (p q : Parser) (s : Spot) → p.place ≢ Held → Shows p s → q.place ≡ Due → q.ops.items ≡ p.ops.items ++ Open ∷ [] → q.out.items ≡ p.out.items → Took s opening q
+pub open_took : (p q : Parser) (s : Spot) → IsDue s → Shows p s → q.place ≡ Due → q.ops.items ≡ p.ops.items ++ Open ∷ [] → q.out.items ≡ p.out.items → Took s opening q
 open_took p q start n s d o out = record {
   new = due (open_frame ∷ []);
   shows = record { place = d; ops = o ∙ ap (λ v. v ++ Open ∷ []) s.ops; out = ap (λ v. map entry_item v) out ∙ s.out; sorted = tt };
@@ -253,7 +253,7 @@ open_took p q (due fs) n s d o out = record {
   shows = record { place = d; ops = o ∙ ap (λ v. v ++ Open ∷ []) s.ops; out = ap (λ v. map entry_item v) out ∙ s.out; sorted = s.sorted };
   takes = open_takes fs;
 }
-open_took p q (held fs y) n s d o out = absurd (n s.place)
+open_took p q (held fs y) n s d o out = absurd n
 
 -- ── tokens that can't come ──
 due_never : (fs : List Frame) (k : Token) (u : List Token) (q : Query) → ((t : Tree) → ¬ Want fs (k ∷ u) t) → ¬ Rest (due fs) (k ∷ u) q
@@ -261,25 +261,25 @@ due_never fs k u None f r = r
 due_never fs k u (Some t) f r = f t r
 
 -- an operator or a closing bracket where an operand is due
-pub sign_never : (p : Parser) (s : Spot) (at : ℕ) (j : Joint) → p.place ≢ Held → Shows p s → Never s (sign at j)
-sign_never p start at j n s = record { never = λ u q r. due_never [] (sign at j) u q (λ t. want_sign [] at j u t) (start_to (sign at j) u q r) }
-sign_never p (due fs) at j n s = record { never = λ u q r. due_never fs (sign at j) u q (λ t. want_sign fs at j u t) r }
-sign_never p (held fs y) at j n s = absurd (n s.place)
+pub sign_never : (s : Spot) (at : ℕ) (j : Joint) → IsDue s → Never s (sign at j)
+sign_never start at j n = record { never = λ u q r. due_never [] (sign at j) u q (λ t. want_sign [] at j u t) (start_to (sign at j) u q r) }
+sign_never (due fs) at j n = record { never = λ u q r. due_never fs (sign at j) u q (λ t. want_sign fs at j u t) r }
+sign_never (held fs y) at j n = absurd n
 
-pub close_due : (p : Parser) (s : Spot) → p.place ≢ Held → Shows p s → Never s closing
-close_due p start n s = record { never = λ u q r. due_never [] closing u q (λ t. want_close [] u t) (start_to closing u q r) }
-close_due p (due fs) n s = record { never = λ u q r. due_never fs closing u q (λ t. want_close fs u t) r }
-close_due p (held fs y) n s = absurd (n s.place)
+pub close_due : (s : Spot) → IsDue s → Never s closing
+close_due start n = record { never = λ u q r. due_never [] closing u q (λ t. want_close [] u t) (start_to closing u q r) }
+close_due (due fs) n = record { never = λ u q r. due_never fs closing u q (λ t. want_close fs u t) r }
+close_due (held fs y) n = absurd n
 
 held_never : (fs : List Frame) (y : Tree) (k : Token) (u : List Token) (q : Query) → ((t : Tree) → ¬ On 4 fs y (k ∷ u) t) → ¬ Rest (held fs y) (k ∷ u) q
 held_never fs y k u None f r = r
 held_never fs y k u (Some t) f r = f t r
 
 -- what begins an operand, behind one
-pub begin_never : (p : Parser) (s : Spot) (k : Token) → p.place ≡ Held → Shows p s → Begin k → Never s k
-begin_never p start k e s b = absurd (let f : p.place ≡ Start = s.place in let x : ⊥ = cc in x)
-begin_never p (due fs) k e s b = absurd (let f : p.place ≡ Due = s.place in let x : ⊥ = cc in x)
-begin_never p (held fs y) k e s b = record { never = λ u q r. held_never fs y k u q (λ t. on_begin 4 fs k y t u b) r }
+pub begin_never : (s : Spot) (k : Token) → IsHeld s → Begin k → Never s k
+begin_never start k e b = absurd e
+begin_never (due fs) k e b = absurd e
+begin_never (held fs y) k e b = record { never = λ u q r. held_never fs y k u q (λ t. on_begin 4 fs k y t u b) r }
 
 -- ── behind an operand ──
 sign_goes : (i : Joint) (at : ℕ) (fs gs : List Frame) (y z : Tree) (j : ℕ) → Same (level i) 4 fs y j gs z → need gs ≤ level i → level i < j → j ≤ 4
@@ -308,10 +308,10 @@ sign_took_at k at fs y q r a d o out =
       };
     }
 
-pub sign_took : (k : Link) (at : ℕ) (p q r : Parser) (s : Spot) → p.place ≡ Held → Shows p s → ((j : ℕ) (fs : List Frame) (y : Tree) → ShowsHeld p j fs y → AppliedAll (level (link_joint k)) j fs y q)
+pub sign_took : (k : Link) (at : ℕ) (p q r : Parser) (s : Spot) → IsHeld s → Shows p s → ((j : ℕ) (fs : List Frame) (y : Tree) → ShowsHeld p j fs y → AppliedAll (level (link_joint k)) j fs y q)
     → r.place ≡ Due → r.ops.items ≡ q.ops.items ++ Pending k ∷ [] → r.out.items ≡ q.out.items → Took s (sign at (link_joint k)) r
-sign_took k at p q r start e s a d o out = absurd (let f : p.place ≡ Start = s.place in let x : ⊥ = cc in x)
-sign_took k at p q r (due fs) e s a d o out = absurd (let f : p.place ≡ Due = s.place in let x : ⊥ = cc in x)
+sign_took k at p q r start e s a d o out = absurd e
+sign_took k at p q r (due fs) e s a d o out = absurd e
 sign_took k at p q r (held fs y) e s a d o out = sign_took_at k at fs y q r (a 4 fs y s) d o out
 
 close_goes : (fs gs : List Frame) (y z : Tree) (j : ℕ) → Same 0 4 fs y j (open_frame ∷ gs) z → j ≤ 4 → (u : List Token) (q : Query) → Rest (held gs z) u q → Rest (held fs y) (closing ∷ u) q
@@ -335,10 +335,10 @@ close_at j fs (open_frame ∷ gs) y z q r front op n s m e d o out =
       takes = record { goes_on = close_goes fs gs y z j m below; came_so = close_came fs gs y z j m };
     }
 
-pub close_took : (p q r : Parser) (s : Spot) (front : List Op) (op : Op) → p.place ≡ Held → Shows p s → ((j : ℕ) (fs : List Frame) (y : Tree) → ShowsHeld p j fs y → AppliedAll 0 j fs y q)
+pub close_took : (p q r : Parser) (s : Spot) (front : List Op) (op : Op) → IsHeld s → Shows p s → ((j : ℕ) (fs : List Frame) (y : Tree) → ShowsHeld p j fs y → AppliedAll 0 j fs y q)
     → q.ops.items ≡ front ++ op ∷ [] → r.place ≡ q.place → r.ops.items ≡ front → r.out.items ≡ q.out.items → Took s closing r
-close_took p q r start front op h s a e d o out = absurd (let f : p.place ≡ Start = s.place in let x : ⊥ = cc in x)
-close_took p q r (due fs) front op h s a e d o out = absurd (let f : p.place ≡ Due = s.place in let x : ⊥ = cc in x)
+close_took p q r start front op h s a e d o out = absurd h
+close_took p q r (due fs) front op h s a e d o out = absurd h
 close_took p q r (held fs y) front op h s a e d o out =
     let f = a 4 fs y s in let b = f.applied in close_at b.j' fs b.fs' y b.y' q r front op f.over b.shows b.same e d o out
 
@@ -354,9 +354,9 @@ close_bottom fs y q a e u t w =
     let n : b.fs' ≡ [] = no_frames b.fs' q.ops.items b.shows.ops e in
     bottom_close b.j' b.y' t u (subst (λ gs. On b.j' gs b.y' (closing ∷ u) t) n (b.same.to (closing ∷ u) t tt w))
 
-pub close_never : (p q : Parser) (s : Spot) → p.place ≡ Held → Shows p s → ((j : ℕ) (fs : List Frame) (y : Tree) → ShowsHeld p j fs y → AppliedAll 0 j fs y q) → q.ops.items ≡ [] → Never s closing
-close_never p q start h s a e = absurd (let f : p.place ≡ Start = s.place in let x : ⊥ = cc in x)
-close_never p q (due fs) h s a e = absurd (let f : p.place ≡ Due = s.place in let x : ⊥ = cc in x)
+pub close_never : (p q : Parser) (s : Spot) → IsHeld s → Shows p s → ((j : ℕ) (fs : List Frame) (y : Tree) → ShowsHeld p j fs y → AppliedAll 0 j fs y q) → q.ops.items ≡ [] → Never s closing
+close_never p q start h s a e = absurd h
+close_never p q (due fs) h s a e = absurd h
 close_never p q (held fs y) h s a e = record { never = λ u r w. held_never fs y closing u r (λ t. close_bottom fs y q (a 4 fs y s) e u t) w }
 
 -- ── the end ──

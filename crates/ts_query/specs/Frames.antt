@@ -55,6 +55,16 @@ pub data Spot : Type 0 where
   due : List Frame → Spot
   held : List Frame → Tree → Spot
 
+abbrev pub IsDue : Spot → Type 0
+IsDue start = Unit {0}
+IsDue (due fs) = Unit {0}
+IsDue (held fs y) = ⊥
+
+abbrev pub IsHeld : Spot → Type 0
+IsHeld start = ⊥
+IsHeld (due fs) = ⊥
+IsHeld (held fs y) = Unit {0}
+
 -- the tokens that may still follow, and the whole query
 abbrev pub Rest : Spot → List Token → Query → Type 0
 Rest start u q = Spells u q

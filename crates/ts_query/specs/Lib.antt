@@ -6,3 +6,5 @@ pub mod Printing
 pub mod Frames
 pub mod Parsing
 pub mod Lexer
+pub mod Limits
+pub mod Reader

@@ -3,5 +3,6 @@
 
 mod parser;
 mod query;
+mod reader;
 
 pub use query::{Node, Operand, TsQuery};

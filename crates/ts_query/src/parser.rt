@@ -1,9 +1,9 @@
 // From tokens to the postfix list of a query's tree: a stack of open operators, and what is put out.
-ghost use Rattle.std.specs.Prelude.{◌≡◌, ◌≢◌, ◌<◌, ◌+◌, ◌↔◌, ℕ, List, [], ◌∷◌, ◌++◌, map, IfOk, OnOk, MatchOption, option_map, vec_len, IsTrue};
+ghost use Rattle.std.specs.Prelude.{◌≡◌, ◌≢◌, ◌<◌, ◌+◌, ◌↔◌, ℕ, List, [], ◌∷◌, ◌++◌, map, IfOk, OnOk, MatchOption, option_map, vec_len, IsTrue, MatchBool};
 ghost use Rattle.ts_query.specs.Queries.{Tree};
 ghost use Rattle.ts_query.specs.Tokens.{word, bang, opening, closing, sign};
 ghost use Rattle.ts_query.specs.Grammar.{level};
-ghost use Rattle.ts_query.specs.Frames.{Frame, Spot};
+ghost use Rattle.ts_query.specs.Frames.{Frame, Spot, IsDue, IsHeld};
 ghost use Rattle.ts_query.specs.Parsing.{link_joint, word_operand, entry_item, Shows, ShowsHeld, Took, TookOrNever, AppliedOne, AppliedAll, Finished};
 ghost use Rattle.ts_query.specs.declared.parser.Op.{Op};
 
@@ -72,7 +72,7 @@ fn level_of(link: Link) -> u8
 impl Parser {
     /// Whether an operand may come next; else an operator may.
     pub fn is_due(&self) -> bool
-        ensures { IsTrue result ↔ (self.now.place ≢ Place.Held) }
+        ensures { (s : Spot) → Shows self.now s → MatchBool result (IsDue s) (IsHeld s) }
     {
         match self.place {
             Place::Start | Place::Due => true,
@@ -142,8 +142,7 @@ impl Parser {
     }
 
     pub fn operand(&mut self, operand: Word) -> Result<(), AllocError>
-        requires { self.old.place ≢ Place.Held }
-        ensures { OnOk result ((at : ℕ) (s : Spot) → Shows self.old s → Took s (word at (word_operand operand)) self.new) }
+        ensures { OnOk result ((at : ℕ) (s : Spot) → IsDue s → Shows self.old s → Took s (word at (word_operand operand)) self.new) }
     {
         self.out.push(Entry::Operand(operand))?;
         self.place = Place::Held;
@@ -151,8 +150,7 @@ impl Parser {
     }
 
     pub fn negation(&mut self) -> Result<(), AllocError>
-        requires { self.old.place ≢ Place.Held }
-        ensures { OnOk result ((s : Spot) → Shows self.old s → Took s bang self.new) }
+        ensures { OnOk result ((s : Spot) → IsDue s → Shows self.old s → Took s bang self.new) }
     {
         self.ops.push(Op::Not)?;
         self.place = Place::Due;
@@ -160,8 +158,7 @@ impl Parser {
     }
 
     pub fn open(&mut self) -> Result<(), AllocError>
-        requires { self.old.place ≢ Place.Held }
-        ensures { OnOk result ((s : Spot) → Shows self.old s → Took s opening self.new) }
+        ensures { OnOk result ((s : Spot) → IsDue s → Shows self.old s → Took s opening self.new) }
     {
         self.ops.push(Op::Open)?;
         self.place = Place::Due;
@@ -170,8 +167,7 @@ impl Parser {
 
     /// A binary operator behind an operand.
     pub fn link(&mut self, link: Link) -> Result<(), AllocError>
-        requires { self.old.place ≡ Place.Held }
-        ensures { OnOk result ((at : ℕ) (s : Spot) → Shows self.old s → Took s (sign at (link_joint link)) self.new) }
+        ensures { OnOk result ((at : ℕ) (s : Spot) → IsHeld s → Shows self.old s → Took s (sign at (link_joint link)) self.new) }
     {
         self.apply_all(level_of(link))?;
         self.ops.push(Op::Pending(link))?;
@@ -181,8 +177,7 @@ impl Parser {
 
     /// A closing bracket behind an operand; `false` where no bracket is open.
     pub fn close(&mut self) -> Result<bool, AllocError>
-        requires { self.old.place ≡ Place.Held }
-        ensures { IfOk result (λ ok. (s : Spot) → Shows self.old s → TookOrNever s closing ok self.new) }
+        ensures { IfOk result (λ ok. (s : Spot) → IsHeld s → Shows self.old s → TookOrNever s closing ok self.new) }
     {
         self.apply_all(0)?;
         match self.top() {

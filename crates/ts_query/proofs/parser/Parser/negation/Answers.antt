@@ -3,4 +3,4 @@ use Rattle.ts_query.proofs.Stacks.{not_took}
 use Rattle.ts_query.proofs.parser.Parser.negation.Goals as goal
 
 pub returns : goal.returns
-returns c s h = not_took c.args.self.now _ s c.requires h refl c.in_ok-push.ensures.items refl
+returns c s d h = not_took c.args.self.now _ s d h refl c.in_ok-push.ensures.items refl
