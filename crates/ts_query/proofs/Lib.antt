@@ -3,5 +3,6 @@ pub mod Stacks
 pub mod Chars
 pub mod Lexing
 pub mod Steps
+pub mod Past
 pub mod Standing
 pub mod Beginnings

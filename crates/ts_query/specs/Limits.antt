@@ -11,6 +11,11 @@ is_far (phrase_joint d) = nat_lt 16384 d
 abbrev pub is_long : Operand → Bool
 is_long o = nat_lt 2046 (length o.lexeme)
 
+-- the first, if there is one, else the second
+abbrev pub or_else : Option ℕ → Option ℕ → Option ℕ
+or_else None o = o
+or_else (Some s) o = Some s
+
 -- where the first operator starts whose distance is above 16384
 abbrev pub first_far : List Token → Option ℕ
 first_far [] = None

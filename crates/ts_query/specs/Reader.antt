@@ -75,6 +75,12 @@ pub record Holds (r : Reader) (s : Stand) : Type 0 where
   pub fits : Fits s.lexer s.spot
   pub tracks : Tracks r s.spot s.tokens
 
+-- what a character within a token leaves as it was
+pub record Keeps (old new : Reader) : Type 0 where
+  pub parser : new.parser ≡ old.parser
+  pub far : new.far ≡ old.far
+  pub long : new.long ≡ old.long
+
 -- the parser has got the token k
 pub record Gave (spot : Spot) (tokens : List Token) (k : Token) (r : Reader) : Type 0 where
   pub new : Spot
