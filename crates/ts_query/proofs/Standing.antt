@@ -2,15 +2,20 @@
 use Rattle.std.proofs.Common.{◌≡◌, ◌≢◌, ℕ, suc, ◌+◌, ◌-◌, ◌<◌, ◌≤◌, List, [], ◌∷◌, ◌++◌, length, ◌⊎◌, inl, inr, refl, sym, subst, ap, ◌∙◌, Bool, true, false, append_assoc, arith}
 use Rattle.std.proofs.lemmas.List.{append-nil}
 use Rattle.ts_query.specs.Queries.{Query}
-use Rattle.ts_query.specs.Tokens.{Token}
+use Rattle.ts_query.specs.Tokens.{Token, closing}
 use Rattle.ts_query.specs.Limits.{first_far, first_long}
 use Rattle.ts_query.specs.Frames.{Spot, Rest}
-use Rattle.ts_query.specs.Parsing.{Takes, Took, Never}
+use Rattle.ts_query.specs.Parsing.{Takes, Took, Never, TookOrNever}
 use Rattle.ts_query.specs.Lexer.{Lexer, between, Left, Silent, Ready}
 use Rattle.ts_query.specs.Reader.{Reading, Stand, Fits, RestIn, lexer_at, lexer_of, Tracks, Holds, Gave, Moves, Moved, Stuck, Stepped}
 use Rattle.ts_query.specs.declared.reader.State.{State}
 use Rattle.ts_query.specs.declared.reader.Reader.{Reader}
+use Rattle.ts_query.specs.declared.parser.Parser.{Parser}
+use Rattle.std.specs.Char.{encode_utf8}
 use Rattle.std.specs.String.{string_bytes}
+use Rattle.ts_query.proofs.Lexing.{close_ready}
+use Rattle.ts_query.proofs.Past.{first_far_same, first_long_same}
+use Rattle.ts_query.proofs.Steps.{one_byte}
 
 -- the lexer of a reader in a known state
 pub lexer_in : (r : Reader) (st : State) → r.state ≡ st → lexer_of r ≡ lexer_at st r.start (string_bytes r.word) r.weights r.prefix r.distance
@@ -131,3 +136,24 @@ start_stuck r s bytes b bs lx P e h f m never = record {
       let d = m n u x.tokens (subst (λ y. Left n lx (y ∷ u) x.tokens) (sym same) (subst (λ l. Left n l (c ∷ u) x.tokens) (stand_lexer r s lx h f) x.left)) in
       let z = never d.k d.kind in z.never d.rest v.1 (subst (λ y. Rest s.spot y v.1) d.is x.rest);
 }
+
+-- the lexer of a reader whose start and word are known
+pub lexer_with : (r : Reader) (make : ℕ → List ℕ → Lexer) (s : ℕ) (a : List ℕ) → lexer_of r ≡ make r.start (string_bytes r.word) → r.start ≡ s → string_bytes r.word ≡ a → lexer_of r ≡ make s a
+lexer_with r make s a e f g = e ∙ ap (λ x. make x (string_bytes r.word)) f ∙ ap (λ x. make s x) g
+
+pub fits_in : (r : Reader) (s : Stand) (lx : Lexer) → Holds r s → lexer_of r ≡ lx → Fits lx s.spot
+fits_in r s lx h e = subst (λ x. Fits x s.spot) (stand_lexer r s lx h e) h.fits
+
+-- ── a closing bracket ──
+close_ready_at : (c : ℕ) → c ≡ 41 → (n : ℕ) (u : List ℕ) → Ready n between closing (encode_utf8 c ++ u) u
+close_ready_at c e n u = subst (λ b. Ready n between closing (b ++ u) u) (sym (one_byte c 41 e (omega arith))) (close_ready n u)
+
+pub close_stepped : (r : Reader) (p : Parser) (s : Stand) (i c : ℕ) (ok : Bool) → c ≡ 41 → Holds r s → lexer_of r ≡ between → TookOrNever s.spot closing ok p → Stepped i s (encode_utf8 c) ok (record r { parser = p })
+close_stepped r p s i c true e h f t =
+    gave_moved r (record r { parser = p }) s i (encode_utf8 c) between closing h f f
+    (gave (record r { parser = p }) s.spot s.tokens closing t (first_far_same s.tokens closing r.far refl h.tracks.far) (first_long_same s.tokens closing r.long refl h.tracks.long))
+    (λ n u _. close_ready_at c e n u)
+close_stepped r p s i c false e h f t =
+    start_stuck r s (encode_utf8 c) 41 [] between (λ k. k ≡ closing) (one_byte c 41 e (omega arith)) h f
+    (λ n u ks w. let m = (close_ready n u).to ks w in record { k = closing; rest = m.0; is = m.1; kind = refl })
+    (λ k same. subst (λ x. Never s.spot x) (sym same) t)

@@ -13,7 +13,7 @@ use Rattle.ts_query.proofs.Lexing.{white_on, lex_quote, quote_lex, lex_escape, e
 pub one_byte : (c k : ℕ) → c ≡ k → k < 128 → encode_utf8 c ≡ k ∷ []
 one_byte c k e h = ap encode_utf8 e ∙ encode_ascii k h
 
-at_offset : (n i : ℕ) (v : List ℕ) → n ≡ i + length v → offset n v ≡ i
+pub at_offset : (n i : ℕ) (v : List ℕ) → n ≡ i + length v → offset n v ≡ i
 at_offset n i v e = omega arith
 
 -- ── tokens begin ──
