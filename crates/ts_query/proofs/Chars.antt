@@ -1,5 +1,5 @@
 -- The bytes of a character.
-use Rattle.std.proofs.Common.{◌≡◌, ℕ, ◌+◌, ◌/◌, ◌%◌, ◌<◌, ◌≤◌, ◌⊎◌, inl, inr, List, [], ◌∷◌, ◌++◌, Bool, true, false, cond, nat_lt, refl, sym, subst, ap, ◌∙◌, arith}
+use Rattle.std.proofs.Common.{◌≡◌, ℕ, ◌+◌, ◌/◌, ◌%◌, ◌<◌, ◌≤◌, ◌⊎◌, inl, inr, List, [], ◌∷◌, ◌++◌, length, Bool, true, false, cond, nat_lt, refl, sym, subst, ap, ◌∙◌, arith}
 use Rattle.std.proofs.lemmas.Bool.Decides.{nat_tests}
 use Rattle.std.specs.Char.{encode_utf8}
 use Rattle.std.proofs.lemmas.Str.{encode_ascii}
@@ -38,3 +38,7 @@ encode_some P c g f =
       | inl s ↦ (c, [], encode_ascii c s, g s, tt)
       | inr w ↦ encode_wide P c w f
     ]
+
+pub no_bytes : (l k : List ℕ) → k ≡ l → length k ≡ 0 → l ≡ []
+no_bytes [] k e h = refl
+no_bytes (x ∷ l) k e h = absurd (let f : length k ≡ length (x ∷ l) = ap length e in let no : ⊥ = grind arith in no)

@@ -310,6 +310,15 @@ letter_42 B h = grind arith
 letter_42 C h = grind arith
 letter_42 D h = grind arith
 
+pub letter_small : (c : ℕ) (x : Weight) → IsLetter c x → c < 128
+letter_small c A h = grind arith
+letter_small c B h = grind arith
+letter_small c C h = grind arith
+letter_small c D h = grind arith
+
+pub wide_no_letter : (c : ℕ) → 128 ≤ c → (x : Weight) → ¬ IsLetter c x
+wide_no_letter c w x h = let small = letter_small c x h in omega arith
+
 letter_one : (c : ℕ) (v w : Weight) → IsLetter c v → IsLetter c w → v ≡ w
 letter_one c A A h k = refl
 letter_one c B B h k = refl
@@ -466,6 +475,14 @@ module _ (n s : ℕ) (a : List ℕ) where
     to = λ ks h. end_to n s a ks (plain_stops_to n s a ks h);
     from = λ rest w. plain_stops_from n s a (word s (operand a no_weights false) ∷ rest) (word_from n s a [] rest w);
   }
+
+-- an empty quoted lexeme has to go on
+empty_other : (n s c : ℕ) (a u : List ℕ) (ks : List Token) → a ≡ [] → c ≢ 39 → ¬ QuoteOn n s a (c ∷ u) ks
+empty_other n s c a u ks e m (inl (f, h)) = m f
+empty_other n s c a u ks e m (inr (k, ne, w)) = ne e
+
+pub empty_quote_never : (n s c : ℕ) (a u : List ℕ) (ks : List Token) → a ≡ [] → c ≢ 39 → ¬ Left n (behind_quote s a) (c ∷ u) ks
+empty_quote_never n s c a u ks e m h = empty_other n s c a u ks e m h
 
 -- ── tokens of one byte ──
 module _ (n : ℕ) (u : List ℕ) where

@@ -77,6 +77,13 @@ fn is_delimiter(c: char) -> bool
     c == '!' || c == '&' || c == '(' || c == ')' || c == '|' || c == '<' || c == ':'
 }
 
+/// Whether a plain lexeme ends before this character.
+fn ends_plain(c: char) -> bool
+    ensures { IsTrue result ↔ (IsWhite c ⊎ IsDelimiter c) }
+{
+    is_white(c) || is_delimiter(c)
+}
+
 /// The weight that a letter names.
 fn weight_of(c: char) -> Option<Weight>
     ensures { MatchOption result ((w : Weight) → ¬ IsLetter c w) (IsLetter c) }
@@ -356,7 +363,7 @@ impl Reader {
             self.begin_marks();
             return Ok(true);
         }
-        if is_white(c) || is_delimiter(c) {
+        if ends_plain(c) {
             self.end_word(alloc, none(), false)?;
             let ok = self.between(at, c)?;
             return Ok(ok);
