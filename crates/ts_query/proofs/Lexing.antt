@@ -319,6 +319,25 @@ letter_small c D h = grind arith
 pub wide_no_letter : (c : ℕ) → 128 ≤ c → (x : Weight) → ¬ IsLetter c x
 wide_no_letter c w x h = let small = letter_small c x h in omega arith
 
+letter_end : (c : ℕ) (x : Weight) → IsWhite c ⊎ IsDelimiter c → ¬ IsLetter c x
+letter_end c A (inl h) k = grind arith
+letter_end c B (inl h) k = grind arith
+letter_end c C (inl h) k = grind arith
+letter_end c D (inl h) k = grind arith
+letter_end c A (inr h) k = grind arith
+letter_end c B (inr h) k = grind arith
+letter_end c C (inr h) k = grind arith
+letter_end c D (inr h) k = grind arith
+
+star_end : (c : ℕ) → IsWhite c ⊎ IsDelimiter c → c ≢ 42
+star_end c (inl h) k = grind arith
+star_end c (inr h) k = grind arith
+
+-- where a plain lexeme ends, no mark begins
+pub end_no_mark : (c : ℕ) → IsWhite c ⊎ IsDelimiter c → ¬ IsMark c
+end_no_mark c h (inl e) = star_end c h e
+end_no_mark c h (inr k) = letter_end c k.0 h k.1
+
 letter_one : (c : ℕ) (v w : Weight) → IsLetter c v → IsLetter c w → v ≡ w
 letter_one c A A h k = refl
 letter_one c B B h k = refl

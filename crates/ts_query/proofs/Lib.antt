@@ -6,3 +6,5 @@ pub mod Steps
 pub mod Past
 pub mod Standing
 pub mod Beginnings
+pub mod Ending
+pub mod Completions

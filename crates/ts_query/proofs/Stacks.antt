@@ -57,7 +57,7 @@ need_3 (open_frame ∷ fs) = omega arith
 need_3 (not_frame ∷ fs) = omega arith
 need_3 (joint_frame i x ∷ fs) = let b = level_3 i in omega arith
 
-need_4 : (fs : List Frame) → need fs ≤ 4
+pub need_4 : (fs : List Frame) → need fs ≤ 4
 need_4 fs = let b = need_3 fs in omega arith
 
 stops_up : (l k : ℕ) (u : List Token) → l ≤ k → Stops l u → Stops k u
@@ -175,7 +175,7 @@ start_to : (k : Token) (u : List Token) (q : Query) → Rest start (k ∷ u) q �
 start_to k u None h = no_token k u h
 start_to k u (Some t) h = spelled_want (k ∷ u) t h
 
-start_from : (k : Token) (u : List Token) (q : Query) → Rest (due []) (k ∷ u) q → Rest start (k ∷ u) q
+pub start_from : (k : Token) (u : List Token) (q : Query) → Rest (due []) (k ∷ u) q → Rest start (k ∷ u) q
 start_from k u None h = absurd h
 start_from k u (Some t) h = want_spelled (k ∷ u) t h
 

@@ -54,15 +54,15 @@ one_token : (all tokens ks rest : List Token) (k : Token) → all ≡ tokens ++ 
 one_token all tokens ks rest k e f = e ∙ ap (λ x. tokens ++ x) f ∙ sym (append_assoc tokens (k ∷ []) rest)
 
 module _ (s : Stand) (lx : Lexer) (is : s.lexer ≡ lx) (k : Token) (spot : Spot) (takes : Takes s.spot k spot) where
-  abbrev after : Stand
+  abbrev pub after : Stand
   after = record { lexer = between; spot = spot; tokens = s.tokens ++ k ∷ [] }
 
-  ready_to : (n : ℕ) (u r : List ℕ) (v : Reading) → Ready n lx k u r → RestIn n s u v → RestIn n after r v
+  pub ready_to : (n : ℕ) (u r : List ℕ) (v : Reading) → Ready n lx k u r → RestIn n s u v → RestIn n after r v
   ready_to n u r v m h =
       let f = m.to h.tokens (subst (λ l. Left n l u h.tokens) is h.left) in
       record { tokens = f.0; left = f.2; all = one_token v.0 s.tokens h.tokens f.0 k h.all f.1; rest = takes.came_so f.0 v.1 (subst (λ x. Rest s.spot x v.1) f.1 h.rest) }
 
-  ready_from : (n : ℕ) (u r : List ℕ) (v : Reading) → Ready n lx k u r → RestIn n after r v → RestIn n s u v
+  pub ready_from : (n : ℕ) (u r : List ℕ) (v : Reading) → Ready n lx k u r → RestIn n after r v → RestIn n s u v
   ready_from n u r v m h =
       record { tokens = k ∷ h.tokens; left = subst (λ l. Left n l u (k ∷ h.tokens)) (sym is) (m.from h.tokens h.left); all = more_tokens v.0 s.tokens h.tokens k h.all; rest = takes.goes_on h.tokens v.1 h.rest }
 

@@ -454,4 +454,71 @@ impl Reader {
             State::Digits => self.digits(c),
         }
     }
+
+    /// What was read, if the text may end between tokens.
+    fn close_up(self) -> Result<Option<Outcome>, AllocError>
+        requires { self.state ≡ State.Between }
+        ensures { IfOk result (λ r. (s : Stand) → Holds self s → Finished s r) }
+    {
+        match self.parser.finish()? {
+            Some(entries) => Ok(Some(Outcome {
+                entries,
+                far: self.far,
+                long: self.long,
+            })),
+            None => Ok(None),
+        }
+    }
+
+    /// What was read, if the text may end here.
+    fn finish(mut self, alloc: Global) -> Result<Option<Outcome>, AllocError>
+        ensures { IfOk result (λ r. (s : Stand) → Holds self s → Finished s r) }
+    {
+        match self.state {
+            State::Between => self.close_up(),
+            State::Quote => {
+                if self.word.as_str().is_empty() {
+                    return Ok(None);
+                }
+                self.end_word(alloc, none(), false)?;
+                let outcome = self.close_up()?;
+                Ok(outcome)
+            }
+            State::InPlain => {
+                self.end_word(alloc, none(), false)?;
+                let outcome = self.close_up()?;
+                Ok(outcome)
+            }
+            State::InMarks => {
+                let weights = self.weights;
+                let prefix = self.prefix;
+                self.end_word(alloc, weights, prefix)?;
+                let outcome = self.close_up()?;
+                Ok(outcome)
+            }
+            State::InQuoted
+            | State::QuotedEscape
+            | State::PlainEscape
+            | State::Less
+            | State::Dash
+            | State::Digits => Ok(None),
+        }
+    }
+}
+
+/// What a query's text has, or the place of its first fault.
+pub fn read(alloc: Global, text: &str) -> Result<Result<Outcome, usize>, AllocError>
+    ensures found { IfOk result (λ r. IfOk r (IsOutcome text.now)) }
+    ensures fault { IfOk result (λ r. IfErr r (FaultAt (Stands Reading IsReading) text.now)) }
+{
+    let mut reader = Reader::new(alloc);
+    for (at, c) in text.char_indices() {
+        if !reader.step(alloc, at, c)? {
+            return Ok(Err(at));
+        }
+    }
+    match reader.finish(alloc)? {
+        Some(outcome) => Ok(Ok(outcome)),
+        None => Ok(Err(text.len())),
+    }
 }
