@@ -8,3 +8,4 @@ pub mod Standing
 pub mod Beginnings
 pub mod Ending
 pub mod Completions
+pub mod Loop

@@ -129,3 +129,12 @@ pub record IsOutcome (text : List ℕ) (o : Outcome) : Type 0 where
   pub far : o.far ≡ first_far tokens
   pub long : o.long ≡ first_long tokens
   pub reads : Reads text tokens query
+
+-- the reader has read the text up to the rest, which begins at this offset
+pub record ReadTo (text rest : List ℕ) (at : ℕ) (r : Reader) : Type 0 where
+  pub front : List ℕ
+  pub split : text ≡ front ++ rest
+  pub place : length front ≡ at
+  pub stand : Stand
+  pub holds : Holds r stand
+  pub leads : Leads Reading IsReading front (λ u v. RestIn (at + length u) stand u v)
