@@ -66,11 +66,11 @@ delimiter_39 h = grind arith
 delimiter_92 : ¬ IsDelimiter 92
 delimiter_92 h = grind arith
 
-end_92 : ¬ (IsWhite 92 ⊎ IsDelimiter 92)
+pub end_92 : ¬ (IsWhite 92 ⊎ IsDelimiter 92)
 end_92 (inl h) = white_92 h
 end_92 (inr h) = delimiter_92 h
 
-end_plain : (c : ℕ) → IsPlain c → ¬ (IsWhite c ⊎ IsDelimiter c)
+pub end_plain : (c : ℕ) → IsPlain c → ¬ (IsWhite c ⊎ IsDelimiter c)
 end_plain c k (inl h) = k.no_white h
 end_plain c k (inr h) = k.no_delimiter h
 
@@ -133,27 +133,27 @@ module _ (n : ℕ) where
   less_lex u ks (d, r, s, w) = subst (λ x. Lex n (60 ∷ u) x) (sym w.1) (phrase_sign n d u r w.0 s w.2)
 
   -- tokens of one byte
-  lex_bang : (u : List ℕ) (ks : List Token) → Lex n (33 ∷ u) ks → (rest : List Token) × (ks ≡ bang ∷ rest) × Lex n u rest
+  pub lex_bang : (u : List ℕ) (ks : List Token) → Lex n (33 ∷ u) ks → (rest : List Token) × (ks ≡ bang ∷ rest) × Lex n u rest
   lex_bang u ks (space _ _ _ _ h w) = absurd (white_33 h)
   lex_bang u ks (not_sign _ _ rest w) = (rest, refl, w)
   lex_bang u ks (plain _ _ _ _ _ _ _ _ p m q b w) = absurd (p.no_delimiter delimiter_33)
 
-  lex_open : (u : List ℕ) (ks : List Token) → Lex n (40 ∷ u) ks → (rest : List Token) × (ks ≡ opening ∷ rest) × Lex n u rest
+  pub lex_open : (u : List ℕ) (ks : List Token) → Lex n (40 ∷ u) ks → (rest : List Token) × (ks ≡ opening ∷ rest) × Lex n u rest
   lex_open u ks (space _ _ _ _ h w) = absurd (white_40 h)
   lex_open u ks (open_sign _ _ rest w) = (rest, refl, w)
   lex_open u ks (plain _ _ _ _ _ _ _ _ p m q b w) = absurd (p.no_delimiter delimiter_40)
 
-  lex_close : (u : List ℕ) (ks : List Token) → Lex n (41 ∷ u) ks → (rest : List Token) × (ks ≡ closing ∷ rest) × Lex n u rest
+  pub lex_close : (u : List ℕ) (ks : List Token) → Lex n (41 ∷ u) ks → (rest : List Token) × (ks ≡ closing ∷ rest) × Lex n u rest
   lex_close u ks (space _ _ _ _ h w) = absurd (white_41 h)
   lex_close u ks (close_sign _ _ rest w) = (rest, refl, w)
   lex_close u ks (plain _ _ _ _ _ _ _ _ p m q b w) = absurd (p.no_delimiter delimiter_41)
 
-  lex_and : (u : List ℕ) (ks : List Token) → Lex n (38 ∷ u) ks → (rest : List Token) × (ks ≡ sign (offset n (38 ∷ u)) and_joint ∷ rest) × Lex n u rest
+  pub lex_and : (u : List ℕ) (ks : List Token) → Lex n (38 ∷ u) ks → (rest : List Token) × (ks ≡ sign (offset n (38 ∷ u)) and_joint ∷ rest) × Lex n u rest
   lex_and u ks (space _ _ _ _ h w) = absurd (white_38 h)
   lex_and u ks (and_sign _ _ rest w) = (rest, refl, w)
   lex_and u ks (plain _ _ _ _ _ _ _ _ p m q b w) = absurd (p.no_delimiter delimiter_38)
 
-  lex_or : (u : List ℕ) (ks : List Token) → Lex n (124 ∷ u) ks → (rest : List Token) × (ks ≡ sign (offset n (124 ∷ u)) or_joint ∷ rest) × Lex n u rest
+  pub lex_or : (u : List ℕ) (ks : List Token) → Lex n (124 ∷ u) ks → (rest : List Token) × (ks ≡ sign (offset n (124 ∷ u)) or_joint ∷ rest) × Lex n u rest
   lex_or u ks (space _ _ _ _ h w) = absurd (white_124 h)
   lex_or u ks (or_sign _ _ rest w) = (rest, refl, w)
   lex_or u ks (plain _ _ _ _ _ _ _ _ p m q b w) = absurd (p.no_delimiter delimiter_124)
@@ -357,7 +357,7 @@ letter_one c D B h k = absurd (let no : ⊥ = grind arith in no)
 letter_one c D C h k = absurd (let no : ⊥ = grind arith in no)
 
 module _ (n s : ℕ) (l : List ℕ) (w : Weights) (p : Bool) where
-  star_on : (u r : List ℕ) (v : Weights) (q : Bool) → Marks w p (42 ∷ u) v q r → Marks w true u v q r
+  pub star_on : (u r : List ℕ) (v : Weights) (q : Bool) → Marks w p (42 ∷ u) v q r → Marks w true u v q r
   star_on u r v q (unmarked _ _ _ m) = absurd (m (inl refl))
   star_on u r v q (star _ _ _ _ _ _ m) = m
   star_on u r v q (letter _ x _ _ _ _ _ _ k m) = absurd (letter_42 x k)
@@ -368,7 +368,7 @@ module _ (n s : ℕ) (l : List ℕ) (w : Weights) (p : Bool) where
   pub star_from : (u : List ℕ) (ks : List Token) → MarksOn n s l w true u ks → MarksOn n s l w p (42 ∷ u) ks
   star_from u ks (v, q, r, m, h) = (v, q, r, star w v p q u r m, h)
 
-  letter_on : (c : ℕ) (x : Weight) (u r : List ℕ) (v : Weights) (q : Bool) → IsLetter c x → Marks w p (c ∷ u) v q r → Marks (with_weight x w) p u v q r
+  pub letter_on : (c : ℕ) (x : Weight) (u r : List ℕ) (v : Weights) (q : Bool) → IsLetter c x → Marks w p (c ∷ u) v q r → Marks (with_weight x w) p u v q r
   letter_on c x u r v q k (unmarked _ _ _ m) = absurd (m (inr (x, k)))
   letter_on c x u r v q k (star _ _ _ _ _ _ m) = absurd (letter_42 x k)
   letter_on c x u r v q k (letter _ y _ _ _ _ _ _ h m) = subst (λ z. Marks (with_weight z w) p u v q r) (letter_one c y x h k) m
@@ -391,10 +391,10 @@ module _ (n s : ℕ) (l : List ℕ) (w : Weights) (p : Bool) where
   }
 
 -- ── `<N>` ──
-digit_45 : ¬ IsDigit 45
+pub digit_45 : ¬ IsDigit 45
 digit_45 h = omega arith
 
-digit_62 : ¬ IsDigit 62
+pub digit_62 : ¬ IsDigit 62
 digit_62 h = omega arith
 
 module _ (n s : ℕ) where
@@ -409,7 +409,7 @@ module _ (n s : ℕ) where
   dash_from [] ks h = absurd h
   dash_from (c ∷ u) ks (e, h) = (1, u, subst (λ x. Distance (45 ∷ x ∷ u) 1 u) (sym e) (arrow u), h)
 
-  number_on : (c : ℕ) (u : List ℕ) (d : ℕ) (r : List ℕ) → IsDigit c → Distance (c ∷ u) d r → Number (with_digit 0 c) u d r
+  pub number_on : (c : ℕ) (u : List ℕ) (d : ℕ) (r : List ℕ) → IsDigit c → Distance (c ∷ u) d r → Number (with_digit 0 c) u d r
   number_on c u d r k (arrow _) = absurd (digit_45 k)
   number_on c u d r k (number _ _ _ _ _ m) = m
 
@@ -433,7 +433,7 @@ module _ (n s : ℕ) where
   less_ends ks (d, r, m, h) = less_end d r m
 
   module _ (m : ℕ) where
-    digit_on : (c : ℕ) (u : List ℕ) (d : ℕ) (r : List ℕ) → IsDigit c → Number m (c ∷ u) d r → Number (with_digit m c) u d r
+    pub digit_on : (c : ℕ) (u : List ℕ) (d : ℕ) (r : List ℕ) → IsDigit c → Number m (c ∷ u) d r → Number (with_digit m c) u d r
     digit_on c u d r k (over _ _) = absurd (digit_62 k)
     digit_on c u d r k (digit _ _ _ _ _ _ h) = h
 

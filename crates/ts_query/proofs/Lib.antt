@@ -9,3 +9,4 @@ pub mod Beginnings
 pub mod Ending
 pub mod Completions
 pub mod Loop
+pub mod Once

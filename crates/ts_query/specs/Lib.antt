@@ -8,3 +8,4 @@ pub mod Parsing
 pub mod Lexer
 pub mod Limits
 pub mod Reader
+pub mod Laws
