@@ -10,3 +10,4 @@ pub mod Ending
 pub mod Completions
 pub mod Loop
 pub mod Once
+pub mod Unique

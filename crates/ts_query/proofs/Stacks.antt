@@ -162,10 +162,10 @@ applied_joint i l j (joint_frame k w ∷ fs) y p q front b s e d o out =
 end_of : (y t : Tree) (u m : List Token) → Expr 0 y u m → After [] y m t → Expr 0 t u []
 end_of y t u m e (at_end _) = e
 
-want_spelled : (u : List Token) (t : Tree) → Want [] u t → Expr 0 t u []
+pub want_spelled : (u : List Token) (t : Tree) → Want [] u t → Expr 0 t u []
 want_spelled u t (want _ y _ _ m e a) = end_of y t u m e a
 
-spelled_want : (u : List Token) (t : Tree) → Expr 0 t u [] → Want [] u t
+pub spelled_want : (u : List Token) (t : Tree) → Expr 0 t u [] → Want [] u t
 spelled_want u t e = want [] t t u [] e (at_end t)
 
 no_token : (k : Token) (u : List Token) → (k ∷ u) ≢ []
