@@ -11,3 +11,4 @@ pub mod Completions
 pub mod Loop
 pub mod Once
 pub mod Unique
+pub mod Printing
