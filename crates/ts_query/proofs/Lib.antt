@@ -12,3 +12,5 @@ pub mod Loop
 pub mod Once
 pub mod Unique
 pub mod Printing
+pub mod Built
+pub mod Joined

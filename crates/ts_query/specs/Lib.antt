@@ -9,3 +9,4 @@ pub mod Lexer
 pub mod Limits
 pub mod Reader
 pub mod Laws
+pub mod Building

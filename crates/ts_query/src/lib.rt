@@ -1,8 +1,10 @@
 //! Queries: their values, their texts, and what joins them.
 #![tactic(auto)]
 
+mod error;
 mod parser;
 mod query;
 mod reader;
 
+pub use error::QueryError;
 pub use query::{Node, Operand, TsQuery};
