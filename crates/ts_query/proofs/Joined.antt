@@ -74,7 +74,7 @@ no_operands k d h = absurd (let no : ⊥ = omega arith in no)
 pub empty_sound : IsSound None
 empty_sound = record { lexemes = no_operands; phrases = tt; nodes = omega arith }
 
-one_operand : (o : Operand) → HasLength o → All HasLength (o ∷ [])
+pub one_operand : (o : Operand) → HasLength o → All HasLength (o ∷ [])
 one_operand o h zero d k = h
 one_operand o h (suc n) d k = absurd (let no : ⊥ = omega arith in no)
 

@@ -14,3 +14,5 @@ pub mod Unique
 pub mod Printing
 pub mod Built
 pub mod Joined
+pub mod Sound
+pub mod Answer

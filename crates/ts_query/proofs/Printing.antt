@@ -269,10 +269,10 @@ prints (joined j x y) n l r ks g s p w =
         (prints y n (suc (level j)) v ls (omega arith) s.1.1 h k)
         (λ z ms i m. prints x n (level j) z ms (omega arith) s.1.0 i m)) p w
 
-all_left : (xs ys : List Operand) → All HasLength (xs ++ ys) → All HasLength xs
+pub all_left : (xs ys : List Operand) → All HasLength (xs ++ ys) → All HasLength xs
 all_left xs ys a k d h = let n : k < length (xs ++ ys) = omega (arith, length-append xs ys) in subst HasLength (get_or-append xs ys d k h) (a k d n)
 
-all_right : (xs ys : List Operand) → All HasLength (xs ++ ys) → All HasLength ys
+pub all_right : (xs ys : List Operand) → All HasLength (xs ++ ys) → All HasLength ys
 all_right xs ys a k d h = let n : length xs + k < length (xs ++ ys) = omega (arith, length-append xs ys) in subst HasLength (get_or-append-add xs ys k d) (a (length xs + k) d n)
 
 spelled : (t : Tree) → All HasLength (operands_in t) → HasNear t → Spelled t

@@ -10,3 +10,4 @@ pub mod Limits
 pub mod Reader
 pub mod Laws
 pub mod Building
+pub mod Refusals
