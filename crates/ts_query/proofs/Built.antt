@@ -254,7 +254,7 @@ copied_all q b0 b next left c e is h =
     let g : postfix_of q ≡ c.front = c.whole ∙ ap (λ l. c.front ++ l) f ∙ sym (no_items c.front) in
     subst (λ l. IsBuilt b (is ++ l)) (sym g) (c.built is h)
 
-operands_fewer : (is : List Item) → length (operands_from is) ≤ length is
+pub operands_fewer : (is : List Item) → length (operands_from is) ≤ length is
 operands_fewer [] = omega arith
 operands_fewer (operand_item o ∷ is) = let h = operands_fewer is in omega arith
 operands_fewer (not_item ∷ is) = let h = operands_fewer is in omega arith

@@ -16,3 +16,4 @@ pub mod Built
 pub mod Joined
 pub mod Sound
 pub mod Answer
+pub mod Entries

@@ -33,7 +33,7 @@ same_front (x ∷ xs) (y ∷ ys) a b e =
     let r = same_front xs ys a b t in
     (let p : xs ≡ ys = r.0 in let g : x ∷ xs ≡ y ∷ ys = cc in g, r.1)
 
-items_push : (xs : List Entry) (e : Entry) → map entry_item (xs ++ e ∷ []) ≡ map entry_item xs ++ entry_item e ∷ []
+pub items_push : (xs : List Entry) (e : Entry) → map entry_item (xs ++ e ∷ []) ≡ map entry_item xs ++ entry_item e ∷ []
 items_push [] e = refl
 items_push (x ∷ xs) e = ap (λ l. entry_item x ∷ l) (items_push xs e)
 

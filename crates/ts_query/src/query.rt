@@ -1,16 +1,18 @@
 // A query in memory.
-ghost use Rattle.std.specs.Prelude.{◌≡◌, ◌<◌, ◌≤◌, List, [], ◌∷◌, ◌++◌, OnOk, IfOk, IfErr, length};
-ghost use Rattle.ts_query.specs.Queries.{Query, or_joint, and_joint, phrase_joint, leaf, IsNear, IsSound, operands_of};
+ghost use Rattle.std.specs.Prelude.{◌≡◌, ◌<◌, ◌≤◌, List, [], ◌∷◌, ◌++◌, map, OnOk, IfOk, IfErr, length};
+ghost use Rattle.ts_query.specs.Queries.{Query, or_joint, and_joint, phrase_joint, leaf, IsNear, HasLength, IsSound, operands_of};
 ghost use Rattle.ts_query.specs.Tokens.{operand};
 ghost use Rattle.ts_query.specs.Postfix.{Item, operand_item, not_item, joint_item, joint_node, postfix_of, nodes_for};
-ghost use Rattle.ts_query.specs.Parsing.{link_joint};
+ghost use Rattle.ts_query.specs.Parsing.{link_joint, word_operand, entry_item};
+ghost use Rattle.ts_query.specs.Refusals.{IsReadAs, IsRefused};
 
 use std::alloc::{AllocError, Global};
 use std::marker::Model;
-use ts_base::{Lexeme, Weights};
+use ts_base::{Lexeme, LexemeError, Weights};
 
 use crate::error::QueryError;
-use crate::parser::Link;
+use crate::parser::{Entry, Link, Word};
+use crate::reader::read;
 
 /// A lexeme that a vector is asked for. With weights, one of its positions has one of them; `prefix` asks for a lexeme that begins so.
 #[derive(Clone, Debug, Drop)]
@@ -140,6 +142,21 @@ impl Builder {
     }
 }
 
+fn operand_of(alloc: Global, word: &Word) -> Result<Operand, AllocError>
+    requires { HasLength (word_operand word.now) }
+    ensures { IfOk result (λ o. o ≡ word_operand word.now) }
+{
+    match Lexeme::new(alloc, word.lexeme.as_str()) {
+        Ok(lexeme) => Ok(Operand {
+            lexeme,
+            weights: word.weights,
+            prefix: word.prefix,
+        }),
+        Err(LexemeError::OutOfMemory) => Err(AllocError),
+        Err(LexemeError::Empty | LexemeError::TooLong) => unreachable!(),
+    }
+}
+
 /// A query has fewer nodes than this.
 const MOST_NODES: usize = 32768;
 
@@ -171,6 +188,49 @@ impl TsQuery {
         ensures sound { IsSound self.now }
     {
         self.operands.as_slice()
+    }
+
+    /// The query that a text stands for. A fault of syntax comes before all other refusals, a distance that is too large
+    /// before a lexeme that is too long, and both before too many nodes.
+    pub fn parse(alloc: Global, text: &str) -> Result<TsQuery, QueryError>
+        ensures value { IfOk result (IsReadAs text.now) }
+        ensures refused { IfErr result (IsRefused text.now) }
+    {
+        let outcome = match read(alloc, text)? {
+            Ok(outcome) => outcome,
+            Err(at) => return Err(QueryError::Syntax { at }),
+        };
+        if let Some(at) = outcome.far {
+            return Err(QueryError::DistanceTooLarge { at });
+        }
+        if let Some(at) = outcome.long {
+            return Err(QueryError::LexemeTooLong { at });
+        }
+        if outcome.entries.as_slice().len() >= MOST_NODES {
+            return Err(QueryError::TooManyNodes);
+        }
+        let query = TsQuery::from_entries(alloc, outcome.entries.as_slice())?;
+        Ok(query)
+    }
+
+    /// The query with this postfix list.
+    fn from_entries(alloc: Global, entries: &[Entry]) -> Result<TsQuery, AllocError>
+        requires { (q : Query) × (map entry_item entries.now ≡ postfix_of q) × IsSound q }
+        ensures value { IfOk result (λ r. (q : Query) → map entry_item entries.now ≡ postfix_of q → r ≡ q) }
+        ensures sound { IfOk result IsSound }
+    {
+        let mut builder = Builder::new(alloc);
+        for entry in entries {
+            match entry {
+                Entry::Operand(word) => {
+                    let operand = operand_of(alloc, word)?;
+                    builder.leaf(operand)?;
+                }
+                Entry::Not => builder.not()?,
+                Entry::Joined(link) => builder.link(*link)?,
+            }
+        }
+        Ok(builder.finish())
     }
 
     /// The query of one operand. No weights stand for any weight.
