@@ -29,7 +29,7 @@ nodes_from-append k (joint_item j ∷ is) js = ap (λ l. joint_node j ∷ l) (no
 zero_more : (n : ℕ) → 0 + n ≡ n
 zero_more n = omega arith
 
-push_nodes : (is : List Item) (i : Item) → nodes_from 0 (is ++ i ∷ []) ≡ nodes_from 0 is ++ nodes_from (length (operands_from is)) (i ∷ [])
+pub push_nodes : (is : List Item) (i : Item) → nodes_from 0 (is ++ i ∷ []) ≡ nodes_from 0 is ++ nodes_from (length (operands_from is)) (i ∷ [])
 push_nodes is i = nodes_from-append 0 is (i ∷ []) ∙ ap (λ n. nodes_from 0 is ++ nodes_from n (i ∷ [])) (zero_more (length (operands_from is)))
 
 no_operand : (l : List Operand) → l ≡ l ++ []

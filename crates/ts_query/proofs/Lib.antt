@@ -17,3 +17,4 @@ pub mod Joined
 pub mod Sound
 pub mod Answer
 pub mod Entries
+pub mod Backwards

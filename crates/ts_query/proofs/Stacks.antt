@@ -45,7 +45,7 @@ link_back Or = refl
 link_back And = refl
 link_back (Phrase n) = refl
 
-joint_back : (j : Joint) → link_joint (joint_link j) ≡ j
+pub joint_back : (j : Joint) → link_joint (joint_link j) ≡ j
 joint_back or_joint = refl
 joint_back and_joint = refl
 joint_back (phrase_joint n) = refl

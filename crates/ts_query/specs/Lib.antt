@@ -11,3 +11,4 @@ pub mod Reader
 pub mod Laws
 pub mod Building
 pub mod Refusals
+pub mod Pieces

@@ -3,6 +3,7 @@
 
 mod error;
 mod parser;
+mod print;
 mod query;
 mod reader;
 

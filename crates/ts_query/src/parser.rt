@@ -58,7 +58,7 @@ pub struct Parser {
     pub out: Vec<Entry>,
 }
 
-fn level_of(link: Link) -> u8
+pub fn level_of(link: Link) -> u8
     ensures value { result ≡ level (link_joint link) }
     ensures below { result < 3 }
 {
