@@ -1,14 +1,14 @@
 -- A text has at most one answer.
-use Rattle.std.proofs.Common.{◌≡◌, ◌≢◌, ℕ, suc, ◌+◌, ◌<◌, ◌≤◌, List, [], ◌∷◌, ◌++◌, length, take, refl, sym, subst, ap, ◌∙◌, Option, Some, None, Result, Ok, Err, Bool, true, false, cond, nat_lt, All, arith}
+use Rattle.std.proofs.Common.{◌≡◌, ◌≢◌, ℕ, suc, ◌+◌, List, [], ◌∷◌, ◌++◌, take, refl, sym, subst, ap, ◌∙◌, Option, Some, None, Ok, Err, Bool, true, false, cond, All, arith}
 use Rattle.std.proofs.lemmas.Bool.Decides.{nat_tests}
-use Rattle.ts_base.specs.Fault.{FaultAt, Viable}
+use Rattle.ts_base.specs.Fault.{FaultAt}
 use Rattle.ts_base.specs.Leads.{Stands}
 use Rattle.ts_base.proofs.Faults.{fault_outside, fault_one}
-use Rattle.ts_query.specs.Queries.{Operand, Joint, or_joint, and_joint, phrase_joint, Tree, leaf, negated, joined, Query, operands_in, operands_of, nodes_of, IsNear, HasNear, HasNearPhrases, HasLength, IsSound}
-use Rattle.ts_query.specs.Tokens.{Token, word, bang, opening, closing, sign}
+use Rattle.ts_query.specs.Queries.{Operand, Joint, or_joint, and_joint, phrase_joint, Tree, joined, Query, operands_in, nodes_of, IsNear, HasNear, HasLength, IsSound}
+use Rattle.ts_query.specs.Tokens.{Token, closing, sign}
 use Rattle.ts_query.specs.Grammar.{level, Expr, one, bracket, primary, denied, binary, Tail, last, more, Spells, Reads, IsQueryText}
 use Rattle.ts_query.specs.Limits.{is_far, is_long, first_far, first_long}
-use Rattle.ts_query.specs.Refusals.{IsReadAs, IsTooFar, IsTooLong, IsTooMany, IsRefused, IsAnswer, OneAnswer}
+use Rattle.ts_query.specs.Refusals.{IsReadAs, IsTooFar, IsTooLong, IsTooMany, IsRefused, OneAnswer}
 use Rattle.ts_query.specs.Reader.{Reading, IsReading}
 use Rattle.ts_query.specs.declared.error.QueryError.{QueryError}
 use Rattle.ts_query.specs.declared.error.QueryError.TheVariants.{Syntax, DistanceTooLarge, TooManyNodes, LexemeTooLong, OutOfMemory}

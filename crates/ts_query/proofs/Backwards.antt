@@ -1,21 +1,19 @@
 -- The parts of a tree's printed form, from the last to the first.
-use Rattle.std.proofs.Common.{◌≡◌, ◌≢◌, ℕ, zero, suc, ◌+◌, ◌-◌, ◌*◌, ◌<◌, ◌≤◌, List, [], ◌∷◌, ◌++◌, length, take, drop, get_or, reverse, refl, sym, subst, ap, ◌∙◌, append_assoc, Bool, true, false, nat_lt, Option, Some, None, arith}
+use Rattle.std.proofs.Common.{◌≡◌, ◌≢◌, ℕ, suc, ◌+◌, ◌-◌, ◌≤◌, List, [], ◌∷◌, ◌++◌, length, take, drop, get_or, reverse, refl, sym, ap, ◌∙◌, append_assoc, Bool, true, false, nat_lt, Some, arith}
 use Rattle.std.proofs.lemmas.List.{length-append, reverse-append, append-nil, take-append-drop, length-take-le}
 use Rattle.std.proofs.Math.Seq.{take-length, take-append_seam, get_or-append_seam}
-use Rattle.ts_query.specs.Queries.{Operand, Joint, or_joint, and_joint, phrase_joint, Tree, leaf, negated, joined}
+use Rattle.ts_query.specs.Queries.{Joint, or_joint, and_joint, phrase_joint, Tree, leaf, negated, joined}
 use Rattle.ts_query.specs.Grammar.{level}
 use Rattle.ts_query.specs.Postfix.{Item, operand_item, not_item, joint_item, postfix, joint_node, nodes_from, nodes_for}
-use Rattle.ts_query.specs.Parsing.{joint_link, link_joint}
+use Rattle.ts_query.specs.Parsing.{joint_link}
 use Rattle.ts_query.specs.Building.{operands_from}
-use Rattle.ts_query.specs.Pieces.{in_brackets, pieces_at, tasks_around, around, link_tasks, expansion}
+use Rattle.ts_query.specs.Pieces.{in_brackets, pieces_at, tasks_around, around, expansion}
 use Rattle.ts_query.specs.declared.query.Node.{Node}
 use Rattle.ts_query.specs.declared.query.Node.TheVariants.{Leaf, Not, And, Or, Phrase}
-use Rattle.ts_query.specs.declared.parser.Link.{Link}
 use Rattle.ts_query.specs.declared.print.Piece.{Piece}
 use Rattle.ts_query.specs.declared.print.Piece.TheVariants.{Word, Bang, Joint as joint_piece, Open, Close}
 use Rattle.ts_query.specs.declared.print.Task.{Task}
 use Rattle.ts_query.specs.declared.print.Task.TheVariants.{Subtree, Part}
-use Rattle.ts_query.proofs.Stacks.{joint_back}
 use Rattle.ts_query.proofs.Built.{push_nodes}
 
 -- what is left to print, the last part first: a tree where one of a level is wanted, or a part

@@ -1,12 +1,12 @@
 -- Which tokens a byte can begin.
-use Rattle.std.proofs.Common.{◌≡◌, ◌≢◌, ℕ, ◌<◌, ◌≤◌, List, [], ◌∷◌, ◌⊎◌, inl, inr, refl, arith}
+use Rattle.std.proofs.Common.{◌≡◌, ◌≢◌, ℕ, List, ◌∷◌, ◌⊎◌, refl, arith}
 use Rattle.ts_query.specs.Queries.{Joint}
-use Rattle.ts_query.specs.Tokens.{Token, closing, sign, word, bang, opening, IsWhite, IsDelimiter, IsPlain}
-use Rattle.ts_query.specs.Tokens.{Lex, done, space, not_sign, open_sign, close_sign, and_sign, or_sign, phrase_sign, quoted, plain, escape}
-use Rattle.ts_query.specs.Frames.{Spot, IsDue, IsHeld}
+use Rattle.ts_query.specs.Tokens.{Token, closing, sign, bang, opening, IsWhite}
+use Rattle.ts_query.specs.Tokens.{Lex, space, not_sign, open_sign, close_sign, and_sign, or_sign, phrase_sign, quoted, plain, escape}
+use Rattle.ts_query.specs.Frames.{Spot, IsDue}
 use Rattle.ts_query.specs.Parsing.{Never}
 use Rattle.ts_query.proofs.Climbs.{Begin, word_begins, bang_begins, open_begins}
-use Rattle.ts_query.proofs.Stacks.{sign_never, close_due, begin_never}
+use Rattle.ts_query.proofs.Stacks.{sign_never, close_due}
 use Rattle.ts_query.proofs.Standing.{Starts}
 
 -- an operator, or a closing bracket

@@ -1,17 +1,16 @@
 -- From wherever the reader stands, some text of the grammar goes on.
-use Rattle.std.proofs.Common.{◌≡◌, ◌≢◌, ℕ, suc, ◌+◌, ◌<◌, ◌≤◌, ◌⊎◌, inl, inr, List, [], ◌∷◌, ◌++◌, refl, sym, subst, ap, ◌∙◌, Bool, true, false, Option, Some, None, arith}
-use Rattle.std.proofs.lemmas.List.{append-nil}
+use Rattle.std.proofs.Common.{◌≢◌, ℕ, suc, ◌<◌, ◌≤◌, ◌⊎◌, inl, inr, List, [], ◌∷◌, ◌++◌, refl, Bool, false, Some, None, arith}
 use Rattle.ts_base.specs.declared.Weights.{Weights}
-use Rattle.ts_query.specs.Queries.{Operand, Joint, or_joint, and_joint, phrase_joint, Tree, leaf, negated, joined, Query}
-use Rattle.ts_query.specs.Tokens.{Token, word, bang, opening, closing, sign, IsPlain, IsPlainEnd, BeginsWithQuote, BeginsWithMark, Quoted, closed, doubled, quoted_byte, Plain, plain_end, no_weights, Marks, unmarked, operand, bare, Number, over, digit, with_digit, number, offset, Lex, done, close_sign, plain}
+use Rattle.ts_query.specs.Queries.{Operand, Joint, phrase_joint, Tree, leaf, negated, joined, Query}
+use Rattle.ts_query.specs.Tokens.{Token, word, closing, sign, IsPlain, IsPlainEnd, BeginsWithQuote, BeginsWithMark, closed, quoted_byte, plain_end, no_weights, unmarked, operand, bare, over, number, offset, Lex, done, close_sign, plain}
 use Rattle.ts_query.specs.Grammar.{level}
-use Rattle.ts_query.specs.Frames.{Frame, open_frame, not_frame, joint_frame, need, After, at_end, at_close, at_not, at_joint, On, Want, Spot, start, due, held, IsDue, IsHeld, Rest, Sorted}
+use Rattle.ts_query.specs.Frames.{Frame, open_frame, not_frame, joint_frame, need, After, at_end, at_close, at_not, at_joint, On, Spot, start, due, held, IsDue, IsHeld, Rest, Sorted}
 use Rattle.ts_query.specs.Parsing.{Shows}
 use Rattle.ts_query.specs.Lexer.{Lexer, between, in_quoted, quoted_escaped, behind_quote, in_plain, plain_escaped, in_marks, behind_less, behind_dash, in_digits, Left}
 use Rattle.ts_query.specs.Reader.{Reading, Stand, Fits, RestIn, Holds}
 use Rattle.ts_query.specs.declared.reader.Reader.{Reader}
 use Rattle.ts_query.proofs.Lexing.{end_no_mark}
-use Rattle.ts_query.proofs.Climbs.{level_3, after_on, word_want, want_word, push_not, push_joint, joint_on}
+use Rattle.ts_query.proofs.Climbs.{level_3, after_on, word_want, push_not, push_joint, joint_on}
 use Rattle.ts_query.proofs.Stacks.{need_3, need_4, start_from}
 
 -- ── brackets that close what is open ──

@@ -1,12 +1,10 @@
 -- Where a text may end.
-use Rattle.std.proofs.Common.{◌≡◌, ◌≢◌, ℕ, List, [], ◌∷◌, ◌++◌, map, refl, sym, subst, ap, ◌∙◌, Option, Some, None}
+use Rattle.std.proofs.Common.{◌≡◌, ℕ, [], map, sym, subst, ◌∙◌, Option, Some, None}
 use Rattle.std.proofs.lemmas.List.{append-nil}
-use Rattle.ts_query.specs.Queries.{Query}
-use Rattle.ts_query.specs.Tokens.{Token, Lex, done}
-use Rattle.ts_query.specs.Frames.{Rest}
+use Rattle.ts_query.specs.Tokens.{Token, done}
 use Rattle.ts_query.specs.Parsing as parsing
 use Rattle.ts_query.specs.Lexer.{Lexer, between, Left, Ready}
-use Rattle.ts_query.specs.Reader.{Reading, Stand, RestIn, lexer_of, Holds, Gave, Whole, Unfinished, Finished}
+use Rattle.ts_query.specs.Reader.{Stand, lexer_of, Holds, Gave, Whole, Finished}
 use Rattle.ts_query.specs.declared.reader.Reader.{Reader}
 use Rattle.ts_query.specs.declared.reader.Outcome.{Outcome}
 use Rattle.ts_query.specs.Parsing.{entry_item}

@@ -1,16 +1,15 @@
 -- A query from the postfix list of a parser.
-use Rattle.std.proofs.Common.{◌≡◌, ◌≢◌, ℕ, suc, ◌+◌, ◌<◌, ◌≤◌, List, [], ◌∷◌, ◌++◌, length, take, drop, get_or, map, refl, sym, subst, ap, ◌∙◌, All, arith}
+use Rattle.std.proofs.Common.{◌≡◌, ℕ, suc, ◌<◌, List, [], ◌∷◌, ◌++◌, length, take, drop, get_or, map, refl, sym, subst, ap, ◌∙◌, All, arith}
 use Rattle.std.proofs.lemmas.List.{length-append, take-append-drop}
 use Rattle.std.proofs.Math.Seq.{get_or-append_seam, drop-cons}
 use Rattle.ts_query.specs.Queries.{Operand, Query, operands_of, nodes_of, HasLength, IsSound}
 use Rattle.ts_query.specs.Parsing.{word_operand, entry_item}
-use Rattle.ts_query.specs.Postfix.{Item, postfix_of}
+use Rattle.ts_query.specs.Postfix.{postfix_of}
 use Rattle.ts_query.specs.Building.{operands_from, IsBuilt}
 use Rattle.ts_query.specs.declared.parser.Word.{Word}
 use Rattle.ts_query.specs.declared.parser.Entry.{Entry}
 use Rattle.ts_query.specs.declared.parser.Entry.TheVariants as entry
 use Rattle.ts_query.specs.declared.query.Builder.{Builder}
-use Rattle.ts_query.proofs.Stacks.{items_push}
 use Rattle.ts_query.proofs.Built.{operands_from-append, operands_from-postfix_of, length-postfix_of, operands_fewer}
 
 items_append : (xs ys : List Entry) → map entry_item (xs ++ ys) ≡ map entry_item xs ++ map entry_item ys

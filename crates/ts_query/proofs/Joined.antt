@@ -1,11 +1,9 @@
 -- Queries made of queries.
-use Rattle.std.proofs.Common.{◌≡◌, ◌≢◌, ℕ, zero, suc, ◌+◌, ◌<◌, ◌≤◌, List, [], ◌∷◌, ◌++◌, length, refl, sym, subst, ap, ◌∙◌, Option, Some, None, All, arith}
+use Rattle.std.proofs.Common.{◌≡◌, ◌≢◌, ℕ, zero, suc, ◌+◌, ◌<◌, ◌≤◌, List, [], ◌∷◌, ◌++◌, length, refl, sym, ap, ◌∙◌, Some, None, All, arith}
 use Rattle.std.proofs.lemmas.List.Elements.{All-append}
-use Rattle.ts_base.specs.declared.Weights.{Weights}
-use Rattle.ts_query.specs.Queries.{Operand, Joint, or_joint, and_joint, phrase_joint, Tree, leaf, negated, joined, Query, operands_in, operands_of, nodes_in, nodes_of, IsNear, HasNearPhrases, HasLength, IsSound}
+use Rattle.ts_query.specs.Queries.{Operand, Joint, Tree, leaf, negated, joined, Query, operands_in, nodes_in, nodes_of, IsNear, HasLength, IsSound}
 use Rattle.ts_query.specs.Postfix.{Item, operand_item, not_item, joint_item, postfix_of, nodes_from, nodes_for}
 use Rattle.ts_query.specs.Building.{operands_from, IsBuilt, joined_queries, negated_query}
-use Rattle.ts_query.specs.declared.query.Node.{Node}
 use Rattle.ts_query.specs.declared.query.Builder.{Builder}
 use Rattle.ts_query.proofs.Built.{length-postfix_of, operands_from-postfix_of, few_operands}
 

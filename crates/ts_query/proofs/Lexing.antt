@@ -1,13 +1,13 @@
 -- Tokens byte by byte: what may follow before a byte, and behind it.
-use Rattle.std.proofs.Common.{◌≡◌, ◌≢◌, ℕ, suc, ◌+◌, ◌-◌, ◌<◌, ◌≤◌, List, [], ◌∷◌, ◌++◌, length, ◌⊎◌, inl, inr, refl, sym, subst, ap, ◌∙◌, Bool, true, false, append_assoc, arith}
+use Rattle.std.proofs.Common.{◌≡◌, ◌≢◌, ℕ, ◌<◌, ◌≤◌, List, [], ◌∷◌, ◌++◌, ◌⊎◌, inl, inr, refl, sym, subst, Bool, true, false, append_assoc, arith}
 use Rattle.std.proofs.lemmas.List.{append-nil}
 use Rattle.ts_base.specs.declared.Weight.{Weight}
 use Rattle.ts_base.specs.declared.Weight.TheVariants.{A, B, C, D}
 use Rattle.ts_base.specs.declared.Weights.{Weights}
-use Rattle.ts_query.specs.Queries.{Operand, Joint, or_joint, and_joint, phrase_joint}
-use Rattle.ts_query.specs.Tokens.{Token, word, bang, opening, closing, sign, IsWhite, IsDelimiter, IsDigit, IsLetter, IsPlain, IsPlainEnd, BeginsWithQuote, IsMark, BeginsWithMark, Quoted, closed, doubled, quoted_escape, quoted_byte, Plain, plain_end, plain_escape, plain_byte, no_weights, with_weight, Marks, unmarked, star, letter, operand, Behind, bare, marked, with_digit, Number, over, digit, Distance, arrow, number, offset}
-use Rattle.ts_query.specs.Tokens.{Lex, done, space, not_sign, open_sign, close_sign, and_sign, or_sign, phrase_sign, quoted, plain, escape}
-use Rattle.ts_query.specs.Lexer.{Lexer, between, in_quoted, quoted_escaped, behind_quote, in_plain, plain_escaped, in_marks, behind_less, behind_dash, in_digits, WordOn, BehindOn, QuotedOn, QuoteOn, PlainOn, EscapedOn, MarksOn, SignOn, LessOn, DashOn, DigitsOn, Left, Silent, Ready}
+use Rattle.ts_query.specs.Queries.{Operand, or_joint, and_joint, phrase_joint}
+use Rattle.ts_query.specs.Tokens.{Token, word, bang, opening, closing, sign, IsWhite, IsDelimiter, IsDigit, IsLetter, IsPlain, IsMark, BeginsWithMark, Quoted, closed, doubled, quoted_escape, quoted_byte, Plain, plain_end, plain_escape, plain_byte, no_weights, with_weight, Marks, unmarked, star, letter, operand, Behind, bare, marked, with_digit, Number, over, digit, Distance, arrow, number, offset}
+use Rattle.ts_query.specs.Tokens.{Lex, space, not_sign, open_sign, close_sign, and_sign, or_sign, phrase_sign, quoted, plain, escape}
+use Rattle.ts_query.specs.Lexer.{between, behind_quote, in_plain, in_marks, behind_dash, in_digits, WordOn, BehindOn, QuotedOn, QuoteOn, PlainOn, EscapedOn, MarksOn, SignOn, LessOn, DashOn, DigitsOn, Left, Ready}
 use Rattle.ts_query.proofs.Chars.{Each}
 
 -- ── kinds of bytes ──

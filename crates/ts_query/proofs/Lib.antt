@@ -18,3 +18,4 @@ pub mod Sound
 pub mod Answer
 pub mod Entries
 pub mod Backwards
+pub mod Texts

@@ -1,11 +1,10 @@
 -- The loop over a text's characters.
-use Rattle.std.proofs.Common.{◌≡◌, ◌≢◌, ℕ, suc, ◌+◌, ◌<◌, ◌≤◌, ◌⊎◌, inl, inr, List, [], ◌∷◌, ◌++◌, length, take, get_or, refl, sym, subst, ap, ◌∙◌, append_assoc, arith}
+use Rattle.std.proofs.Common.{◌≡◌, ℕ, ◌+◌, ◌<◌, List, [], ◌∷◌, ◌++◌, length, take, get_or, refl, sym, subst, ap, ◌∙◌, append_assoc, arith}
 use Rattle.std.proofs.lemmas.List.{append-nil, length-append}
 use Rattle.std.proofs.Math.Seq.{take-append_seam, get_or-append_seam, take-length}
 use Rattle.ts_base.specs.Fault.{FaultAt}
 use Rattle.ts_base.specs.Leads.{Leads, Stands}
 use Rattle.ts_base.proofs.Places.{fault_here, fault_ending}
-use Rattle.ts_query.specs.Queries.{Query}
 use Rattle.ts_query.specs.Tokens.{Token}
 use Rattle.ts_query.specs.Grammar.{Reads}
 use Rattle.ts_query.specs.Frames.{start}
@@ -13,7 +12,6 @@ use Rattle.ts_query.specs.Lexer.{between}
 use Rattle.ts_query.specs.Reader.{Reading, IsReading, Stand, RestIn, Holds, Moves, Moved, Stuck, Whole, Unfinished, IsOutcome, ReadTo}
 use Rattle.ts_query.specs.declared.reader.Reader.{Reader}
 use Rattle.ts_query.specs.declared.reader.Outcome.{Outcome}
-use Rattle.ts_query.proofs.Chars.{Some}
 use Rattle.ts_query.proofs.Completions.{completes}
 
 abbrev begin_stand : Stand

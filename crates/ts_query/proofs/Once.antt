@@ -1,5 +1,5 @@
 -- A text has one list of tokens.
-use Rattle.std.proofs.Common.{◌≡◌, ◌≢◌, ℕ, List, [], ◌∷◌, ◌++◌, ◌⊎◌, inl, inr, Bool, true, false, refl, sym, subst, ap, ◌∙◌}
+use Rattle.std.proofs.Common.{◌≡◌, ◌≢◌, ℕ, List, [], ◌∷◌, ◌++◌, inl, inr, Bool, true, false, refl, sym, subst, ap, ◌∙◌}
 use Rattle.ts_base.specs.declared.Weights.{Weights}
 use Rattle.ts_query.specs.Queries.{Operand, phrase_joint, and_joint, or_joint}
 use Rattle.ts_query.specs.Tokens.{Token, word, bang, opening, closing, sign, Quoted, closed, doubled, quoted_escape, quoted_byte, Plain, plain_end, plain_escape, plain_byte, no_weights, Marks, unmarked, star, letter, operand, Behind, bare, marked, Number, over, digit, Distance, arrow, number, offset}

@@ -1,6 +1,5 @@
 -- The first token past a limit, where one token more comes.
 use Rattle.std.proofs.Common.{◌≡◌, ℕ, List, [], ◌∷◌, ◌++◌, Bool, true, false, cond, refl, sym, ap, ◌∙◌, Option, Some, None}
-use Rattle.ts_query.specs.Queries.{Operand, Joint}
 use Rattle.ts_query.specs.Tokens.{Token, word, bang, opening, closing, sign}
 use Rattle.ts_query.specs.Limits.{is_far, is_long, or_else, first_far, first_long}
 

@@ -1,5 +1,5 @@
 -- What is printed is read again.
-use Rattle.std.proofs.Common.{◌≡◌, ◌≢◌, ℕ, suc, ◌+◌, ◌-◌, ◌*◌, ◌/◌, ◌%◌, ◌^◌, ◌<◌, ◌≤◌, List, [], ◌∷◌, ◌++◌, ◌⊎◌, inl, inr, refl, sym, subst, ap, ◌∙◌, Bool, true, false, cond, nat_lt, eqb, ◌||◌, append_assoc, arith, length, min, All, Option, Some, None, codes}
+use Rattle.std.proofs.Common.{◌≡◌, ◌≢◌, ℕ, suc, ◌+◌, ◌/◌, ◌%◌, ◌^◌, ◌<◌, ◌≤◌, List, [], ◌∷◌, ◌++◌, inl, inr, refl, sym, subst, ap, ◌∙◌, Bool, true, false, cond, nat_lt, eqb, ◌||◌, append_assoc, arith, length, All, Some, None, codes}
 use Rattle.std.proofs.lemmas.List.{append-nil, length-append, get_or-append-add}
 use Rattle.std.proofs.Math.ListN.{get_or-append}
 use Rattle.std.proofs.lemmas.Bool.Decides.{nat_tests}
@@ -9,10 +9,10 @@ use Rattle.std.specs.List.{flat_map}
 use Rattle.ts_base.specs.declared.Weight.{Weight}
 use Rattle.ts_base.specs.declared.Weight.TheVariants.{A, B, C, D}
 use Rattle.ts_base.specs.declared.Weights.{Weights}
-use Rattle.ts_query.specs.Queries.{Operand, Joint, or_joint, and_joint, phrase_joint, Tree, leaf, negated, joined, Query, operands_in, IsNear, HasNear, HasLength}
-use Rattle.ts_query.specs.Tokens.{IsDigit, IsLetter, IsMark, Token, word, bang, opening, closing, sign, BeginsWithQuote, BeginsWithMark, Quoted, closed, doubled, quoted_escape, quoted_byte, no_weights, with_weight, Marks, unmarked, star, letter, operand, Behind, bare, marked, with_digit, Number, over, digit, Distance, arrow, number, offset}
+use Rattle.ts_query.specs.Queries.{Operand, Joint, or_joint, and_joint, phrase_joint, Tree, leaf, negated, joined, operands_in, IsNear, HasNear, HasLength}
+use Rattle.ts_query.specs.Tokens.{IsDigit, IsLetter, IsMark, Token, word, bang, opening, closing, sign, BeginsWithQuote, BeginsWithMark, Quoted, closed, doubled, quoted_escape, quoted_byte, no_weights, Marks, unmarked, star, letter, operand, Behind, bare, marked, with_digit, Number, over, digit, Distance, arrow, number, offset}
 use Rattle.ts_query.specs.Tokens.{Lex, done, space, not_sign, open_sign, close_sign, and_sign, or_sign, phrase_sign, quoted}
-use Rattle.ts_query.specs.Printing.{doubled_byte, quoted_text, marks_of, marks_text, operand_text, joint_text, bracketed, printed_at, only_if}
+use Rattle.ts_query.specs.Printing.{doubled_byte, marks_of, marks_text, operand_text, joint_text, bracketed, printed_at, only_if}
 use Rattle.ts_query.specs.Grammar.{level, Expr, one, bracket, primary, denied, binary, Tail, last, more}
 use Rattle.ts_query.specs.Laws.{PrintsBack}
 use Rattle.ts_query.proofs.Climbs.{level_3, climb_here, climb_expr}

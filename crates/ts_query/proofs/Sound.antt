@@ -1,9 +1,9 @@
 -- The query of tokens within the limits is within the limits.
-use Rattle.std.proofs.Common.{◌≡◌, ◌≢◌, ℕ, suc, ◌+◌, ◌<◌, ◌≤◌, List, [], ◌∷◌, ◌++◌, length, refl, sym, subst, ap, ◌∙◌, Option, Some, None, Bool, true, false, cond, nat_lt, All, arith}
+use Rattle.std.proofs.Common.{◌≡◌, ◌≢◌, ℕ, suc, ◌<◌, ◌≤◌, List, [], ◌∷◌, ◌++◌, length, refl, ap, Option, Some, None, Bool, true, false, cond, All, arith}
 use Rattle.std.proofs.lemmas.List.{length-append}
 use Rattle.std.proofs.lemmas.List.Elements.{All-append, All-nil}
 use Rattle.std.proofs.lemmas.Bool.Decides.{nat_tests}
-use Rattle.ts_query.specs.Queries.{Operand, Joint, or_joint, and_joint, phrase_joint, Tree, leaf, negated, joined, Query, operands_in, operands_of, nodes_of, IsNear, HasNear, HasNearPhrases, HasLength, IsSound}
+use Rattle.ts_query.specs.Queries.{Operand, Joint, or_joint, and_joint, phrase_joint, Tree, negated, joined, Query, operands_in, operands_of, nodes_of, IsNear, HasNear, HasNearPhrases, HasLength, IsSound}
 use Rattle.ts_query.specs.Tokens.{Token, word, bang, opening, closing, sign, Plain, plain_end, plain_escape, plain_byte, Behind, bare, marked}
 use Rattle.ts_query.specs.Tokens.{Lex, done, space, not_sign, open_sign, close_sign, and_sign, or_sign, phrase_sign, quoted, plain, escape}
 use Rattle.ts_query.specs.Grammar.{level, Expr, one, bracket, primary, denied, binary, Tail, last, more, Spells, Reads}

@@ -1,11 +1,11 @@
 -- The two stacks of a parser, and the tokens that may follow.
-use Rattle.std.proofs.Common.{◌≡◌, ◌≢◌, ℕ, suc, ◌<◌, ◌≤◌, List, [], ◌∷◌, ◌++◌, map, refl, sym, subst, ap, ◌∙◌, Bool, true, false, Option, Some, None, append_assoc, arith}
+use Rattle.std.proofs.Common.{◌≡◌, ◌≢◌, ℕ, suc, ◌<◌, ◌≤◌, List, [], ◌∷◌, ◌++◌, map, refl, sym, subst, ap, ◌∙◌, Some, None, append_assoc, arith}
 use Rattle.ts_query.specs.Queries.{Operand, Joint, or_joint, and_joint, phrase_joint, Tree, leaf, negated, joined, Query}
 use Rattle.ts_query.specs.Tokens.{Token, word, bang, opening, closing, sign}
-use Rattle.ts_query.specs.Grammar.{level, Expr, Spells}
-use Rattle.ts_query.specs.Postfix.{Item, operand_item, not_item, joint_item, postfix, postfix_of}
-use Rattle.ts_query.specs.Frames.{Frame, open_frame, not_frame, joint_frame, need, After, at_end, at_close, at_not, at_joint, On, Want, want, Stops, Spot, start, due, held, IsDue, IsHeld, Rest, Sorted, outs_of}
-use Rattle.ts_query.specs.Parsing.{link_joint, joint_link, word_operand, entry_item, ops_of, ShowsStart, ShowsDue, ShowsHeld, Shows, Takes, Took, Never, Same, Applied, Over, AppliedAll, Whole, Unfinished}
+use Rattle.ts_query.specs.Grammar.{level, Expr}
+use Rattle.ts_query.specs.Postfix.{Item, operand_item, not_item, joint_item, postfix}
+use Rattle.ts_query.specs.Frames.{Frame, open_frame, not_frame, joint_frame, need, After, at_end, On, Want, want, Stops, Spot, start, due, held, IsDue, IsHeld, Rest, outs_of}
+use Rattle.ts_query.specs.Parsing.{link_joint, joint_link, word_operand, entry_item, ops_of, ShowsHeld, Shows, Takes, Took, Never, Same, Applied, Over, AppliedAll, Whole, Unfinished}
 use Rattle.ts_query.specs.declared.parser.Link.{Link}
 use Rattle.ts_query.specs.declared.parser.Link.TheVariants.{Or, And, Phrase}
 use Rattle.ts_query.specs.declared.parser.Op.{Op}
@@ -13,10 +13,9 @@ use Rattle.ts_query.specs.declared.parser.Op.TheVariants.{Open, Not, Pending}
 use Rattle.ts_query.specs.declared.parser.Word.{Word}
 use Rattle.ts_query.specs.declared.parser.Entry.{Entry}
 use Rattle.ts_query.specs.declared.parser.Entry.TheVariants as entry
-use Rattle.ts_query.specs.declared.parser.Place.{Place}
 use Rattle.ts_query.specs.declared.parser.Place.TheVariants.{Start, Due, Held}
 use Rattle.ts_query.specs.declared.parser.Parser.{Parser}
-use Rattle.ts_query.proofs.Climbs.{level_3, want_word, word_want, want_open, open_want, want_not, not_want, want_sign, want_close, want_nil, pop_not, push_not, pop_joint, push_joint, close_on, on_close, bottom_close, bottom_end, end_bottom, open_end, on_joint, joint_on, Begin, on_begin, after_on}
+use Rattle.ts_query.proofs.Climbs.{level_3, want_word, word_want, want_open, open_want, want_not, not_want, want_sign, want_close, want_nil, pop_not, push_not, pop_joint, push_joint, close_on, on_close, bottom_close, bottom_end, end_bottom, open_end, on_joint, joint_on, Begin, on_begin}
 
 -- ── lists ──
 push_not_nil : (xs : List Op) (a : Op) → (xs ++ a ∷ []) ≢ []

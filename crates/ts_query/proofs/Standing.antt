@@ -1,13 +1,11 @@
 -- Steps of a reader: within a token, and where one ends.
-use Rattle.std.proofs.Common.{◌≡◌, ◌≢◌, ℕ, suc, ◌+◌, ◌-◌, ◌<◌, ◌≤◌, List, [], ◌∷◌, ◌++◌, length, ◌⊎◌, inl, inr, refl, sym, subst, ap, ◌∙◌, Bool, true, false, append_assoc, arith}
-use Rattle.std.proofs.lemmas.List.{append-nil}
-use Rattle.ts_query.specs.Queries.{Query}
+use Rattle.std.proofs.Common.{◌≡◌, ℕ, ◌+◌, List, [], ◌∷◌, ◌++◌, length, refl, sym, subst, ap, ◌∙◌, Bool, true, false, append_assoc, arith}
 use Rattle.ts_query.specs.Tokens.{Token, closing}
 use Rattle.ts_query.specs.Limits.{first_far, first_long}
 use Rattle.ts_query.specs.Frames.{Spot, Rest}
 use Rattle.ts_query.specs.Parsing.{Takes, Took, Never, TookOrNever}
 use Rattle.ts_query.specs.Lexer.{Lexer, between, Left, Silent, Ready}
-use Rattle.ts_query.specs.Reader.{Reading, Stand, Fits, RestIn, lexer_at, lexer_of, Tracks, Holds, Gave, Moves, Moved, Stuck, Stepped}
+use Rattle.ts_query.specs.Reader.{Reading, Stand, Fits, RestIn, lexer_at, lexer_of, Holds, Gave, Moves, Moved, Stuck, Stepped}
 use Rattle.ts_query.specs.declared.reader.State.{State}
 use Rattle.ts_query.specs.declared.reader.Reader.{Reader}
 use Rattle.ts_query.specs.declared.parser.Parser.{Parser}

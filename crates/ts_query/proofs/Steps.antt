@@ -1,12 +1,12 @@
 -- Characters within a token.
-use Rattle.std.proofs.Common.{◌≡◌, ◌≢◌, ℕ, suc, ◌+◌, ◌-◌, ◌<◌, ◌≤◌, List, [], ◌∷◌, ◌++◌, length, ◌⊎◌, inl, inr, refl, sym, subst, ap, ◌∙◌, Bool, true, false, append_assoc, arith}
+use Rattle.std.proofs.Common.{◌≡◌, ◌≢◌, ℕ, ◌+◌, ◌<◌, ◌≤◌, List, [], ◌∷◌, ◌++◌, length, ◌⊎◌, inl, inr, refl, sym, subst, ap, ◌∙◌, Bool, true, false, append_assoc, arith}
 use Rattle.std.specs.Char.{encode_utf8}
 use Rattle.std.proofs.lemmas.Str.{encode_ascii}
 use Rattle.ts_base.specs.declared.Weight.{Weight}
 use Rattle.ts_base.specs.declared.Weights.{Weights}
-use Rattle.ts_query.specs.Tokens.{Token, IsWhite, IsDelimiter, IsDigit, IsLetter, IsPlain, no_weights, with_weight, with_digit, offset, Lex, space}
-use Rattle.ts_query.specs.Lexer.{Lexer, between, in_quoted, quoted_escaped, behind_quote, in_plain, plain_escaped, in_marks, behind_less, behind_dash, in_digits, QuotedOn, QuoteOn, PlainOn, EscapedOn, LessOn, Silent}
-use Rattle.ts_query.proofs.Chars.{Each, Some, encode_some}
+use Rattle.ts_query.specs.Tokens.{IsWhite, IsDigit, IsLetter, IsPlain, no_weights, with_weight, with_digit, offset, space}
+use Rattle.ts_query.specs.Lexer.{between, in_quoted, quoted_escaped, behind_quote, in_plain, plain_escaped, in_marks, behind_less, behind_dash, in_digits, QuotedOn, PlainOn, EscapedOn, LessOn, Silent}
+use Rattle.ts_query.proofs.Chars.{Each, encode_some}
 use Rattle.ts_query.proofs.Lexing.{white_on, lex_quote, quote_lex, lex_escape, escape_lex, lex_plain, plain_lex, lex_less, less_lex, colon_to, colon_from, quoted_to, quoted_from, quoted_92_to, quoted_92_from, doubled_to, quote_other, plain_92_to, plain_92_from, plain_over_to, plain_over_from, quoted_bytes_to, quoted_bytes_from, plain_bytes_to, plain_bytes_from, delimiter_58, star_to, star_from, letter_to, letter_from, dash_to, dash_from, number_to, number_from, digit_to, digit_from}
 
 -- the one byte of an ASCII character

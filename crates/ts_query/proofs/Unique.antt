@@ -1,8 +1,8 @@
 -- Tokens spell one query, and a text has one value.
-use Rattle.std.proofs.Common.{◌≡◌, ◌≢◌, ℕ, suc, ◌<◌, ◌≤◌, List, [], ◌∷◌, ◌⊎◌, inl, inr, refl, sym, subst, ap, ◌∙◌, Option, Some, None, length, arith}
+use Rattle.std.proofs.Common.{◌≡◌, ℕ, suc, ◌<◌, ◌≤◌, List, [], ◌∷◌, ◌⊎◌, inl, inr, refl, sym, subst, ap, ◌∙◌, Some, None, length, arith}
 use Rattle.ts_query.specs.Queries.{Joint, Tree, leaf, negated, joined, Query}
 use Rattle.ts_query.specs.Tokens.{Token, word, bang, opening, closing, sign}
-use Rattle.ts_query.specs.Grammar.{level, Expr, Spells, Reads, IsQueryText}
+use Rattle.ts_query.specs.Grammar.{level, Expr, Spells, Reads}
 use Rattle.ts_query.specs.Frames.{Frame, open_frame, not_frame, joint_frame, On, Want}
 use Rattle.ts_query.specs.Laws.{OneValue}
 use Rattle.ts_query.proofs.Climbs.{level_3, want_word, want_open, want_not, want_sign, want_close, want_nil, pop_not, pop_joint, close_on, bottom_close, bottom_end, open_end, on_joint, word_begins, bang_begins, open_begins, on_begin}

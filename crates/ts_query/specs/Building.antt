@@ -1,7 +1,7 @@
 -- The two lists of a query, made item by item.
-use Rattle.std.specs.Prelude.{◌≡◌, ◌≤◌, ℕ, List, [], ◌∷◌}
-use Rattle.ts_query.specs.Queries.{Operand, Joint, Tree, joined, negated, Query, nodes_of}
-use Rattle.std.specs.Prelude.{Option, Some, None}
+use Rattle.std.specs.Prelude.{◌≡◌, ◌≤◌, List, [], ◌∷◌}
+use Rattle.ts_query.specs.Queries.{Operand, Joint, joined, negated, Query, nodes_of}
+use Rattle.std.specs.Prelude.{Some, None}
 use Rattle.ts_query.specs.Postfix.{Item, operand_item, not_item, joint_item, nodes_from}
 use Rattle.ts_query.specs.declared.query.Builder.{Builder}
 use Rattle.ts_query.specs.declared.error.QueryError.{QueryError}

@@ -1,5 +1,5 @@
 -- What a parser has read, and what may still follow it.
-use Rattle.std.specs.Prelude.{◌≡◌, ℕ, suc, ◌<◌, ◌≤◌, List, [], ◌∷◌, ◌++◌, Option, Some, None}
+use Rattle.std.specs.Prelude.{ℕ, suc, ◌<◌, ◌≤◌, List, [], ◌∷◌, ◌++◌, Some, None}
 use Rattle.ts_query.specs.Queries.{Joint, Tree, negated, joined, Query}
 use Rattle.ts_query.specs.Tokens.{Token, word, bang, opening, closing, sign}
 use Rattle.ts_query.specs.Grammar.{level, Expr, Tail, Spells}

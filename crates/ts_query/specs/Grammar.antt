@@ -1,5 +1,5 @@
 -- The grammar of a query's text: `|`, `&` and phrases from the loosest on, each grouped to the left, then `!`, and brackets.
-use Rattle.std.specs.Prelude.{◌≡◌, ℕ, suc, ◌<◌, List, [], ◌∷◌, Option, Some, None, length}
+use Rattle.std.specs.Prelude.{◌≡◌, ℕ, suc, ◌<◌, List, [], ◌∷◌, Some, None, length}
 use Rattle.ts_query.specs.Queries.{Operand, Joint, or_joint, and_joint, phrase_joint, Tree, leaf, negated, joined, Query}
 use Rattle.ts_query.specs.Tokens.{Token, word, bang, opening, closing, sign, Lex}
 

@@ -1,5 +1,5 @@
 -- Tokens past a limit.
-use Rattle.std.specs.Prelude.{ℕ, List, [], ◌∷◌, Bool, true, false, nat_lt, if◌then◌else◌, length, Option, Some, None}
+use Rattle.std.specs.Prelude.{ℕ, List, [], ◌∷◌, Bool, false, nat_lt, if◌then◌else◌, length, Option, Some, None}
 use Rattle.ts_query.specs.Queries.{Operand, Joint, or_joint, and_joint, phrase_joint}
 use Rattle.ts_query.specs.Tokens.{Token, word, bang, opening, closing, sign}
 

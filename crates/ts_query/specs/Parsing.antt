@@ -3,7 +3,6 @@ use Rattle.std.specs.Prelude.{◌≡◌, ℕ, suc, ◌<◌, ◌≤◌, List, [],
 use Rattle.std.specs.String.{string_bytes}
 use Rattle.ts_query.specs.Queries.{Operand, Joint, or_joint, and_joint, phrase_joint, Tree, Query}
 use Rattle.ts_query.specs.Tokens.{Token, operand}
-use Rattle.ts_query.specs.Grammar.{level}
 use Rattle.ts_query.specs.Postfix.{Item, operand_item, not_item, joint_item, postfix, postfix_of}
 use Rattle.ts_query.specs.Frames.{Frame, open_frame, not_frame, joint_frame, need, On, Stops, Spot, start, due, held, Rest, Sorted, outs_of}
 use Rattle.ts_query.specs.declared.parser.Link.{Link}

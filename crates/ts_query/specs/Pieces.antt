@@ -1,6 +1,6 @@
 -- The parts of a query's printed form.
 use Rattle.std.specs.Prelude.{ℕ, suc, ◌+◌, List, [], ◌∷◌, ◌++◌, Bool, true, false, nat_lt, codes}
-use Rattle.ts_query.specs.Queries.{Operand, Joint, Tree, leaf, negated, joined}
+use Rattle.ts_query.specs.Queries.{Operand, Tree, leaf, negated, joined}
 use Rattle.ts_query.specs.Grammar.{level}
 use Rattle.ts_query.specs.Printing.{operand_text, joint_text}
 use Rattle.ts_query.specs.Parsing.{link_joint, joint_link}

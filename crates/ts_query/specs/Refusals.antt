@@ -1,5 +1,5 @@
 -- What a text is read as, and why one is refused.
-use Rattle.std.specs.Prelude.{◌≡◌, ◌≢◌, ◌≤◌, ℕ, List, Option, Some, None, Result, Ok, Err}
+use Rattle.std.specs.Prelude.{◌≡◌, ◌≢◌, ◌≤◌, ℕ, List, Some, None, Result, Ok, Err}
 use Rattle.ts_base.specs.Fault.{FaultAt}
 use Rattle.ts_base.specs.Leads.{Stands}
 use Rattle.ts_query.specs.Queries.{Query, nodes_of, IsSound}

@@ -1,9 +1,11 @@
 // A query in memory.
 ghost use Rattle.std.specs.Prelude.{◌≡◌, ◌<◌, ◌≤◌, List, [], ◌∷◌, ◌++◌, map, OnOk, IfOk, IfErr, length};
+ghost use Rattle.std.specs.String.{string_bytes};
 ghost use Rattle.ts_query.specs.Queries.{Query, or_joint, and_joint, phrase_joint, leaf, IsNear, HasLength, IsSound, operands_of};
 ghost use Rattle.ts_query.specs.Tokens.{operand};
 ghost use Rattle.ts_query.specs.Postfix.{Item, operand_item, not_item, joint_item, joint_node, postfix_of, nodes_for};
 ghost use Rattle.ts_query.specs.Parsing.{link_joint, word_operand, entry_item};
+ghost use Rattle.ts_query.specs.Printing.{printed};
 ghost use Rattle.ts_query.specs.Refusals.{IsReadAs, IsRefused};
 
 use std::alloc::{AllocError, Global};
@@ -12,6 +14,7 @@ use ts_base::{Lexeme, LexemeError, Weights};
 
 use crate::error::QueryError;
 use crate::parser::{Entry, Link, Word};
+use crate::print::print;
 use crate::reader::read;
 
 /// A lexeme that a vector is asked for. With weights, one of its positions has one of them; `prefix` asks for a lexeme that begins so.
@@ -293,6 +296,17 @@ impl TsQuery {
         builder.copy(self)?;
         builder.not()?;
         Ok(builder.finish())
+    }
+
+    /// The printed form: each lexeme in quotes, then its marks, brackets only where they are needed.
+    pub fn to_text(&self, alloc: Global) -> Result<String, AllocError>
+        ensures { IfOk result (λ text. string_bytes text ≡ printed self.now) }
+    {
+        if self.nodes().is_empty() {
+            return Ok(String::new(alloc));
+        }
+        let text = print(alloc, self.nodes(), self.operands())?;
+        Ok(text)
     }
 
     fn joined(&self, alloc: Global, link: Link, other: &TsQuery) -> Result<TsQuery, QueryError>

@@ -1,4 +1,4 @@
-use Rattle.std.proofs.Common.{ℕ, ◌≡◌, ◌≢◌, length, get_or, sym, subst, ap, ◌∙◌, refl}
+use Rattle.std.proofs.Common.{ℕ, sym, subst}
 use Rattle.std.specs.Str.Iter.{char_indices_rest, char_indices_offset}
 use Rattle.std.specs.Char.{encode_utf8}
 use Rattle.ts_base.specs.Fault.{FaultAt}

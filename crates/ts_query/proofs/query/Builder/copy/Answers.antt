@@ -1,8 +1,8 @@
-use Rattle.std.proofs.Common.{◌≡◌, ◌<◌, ◌*◌, ◌+◌, [], ◌∷◌, length, drop, get_or, ap, ◌∙◌, sym, subst, refl, arith}
+use Rattle.std.proofs.Common.{◌<◌, length, get_or, ap, ◌∙◌, sym, subst, arith}
 use Rattle.std.proofs.lemmas.List.{drop_all}
-use Rattle.ts_query.specs.Queries.{or_joint, and_joint, phrase_joint, operands_of}
+use Rattle.ts_query.specs.Queries.{or_joint, and_joint, phrase_joint}
 use Rattle.ts_query.specs.declared.query.Node.TheVariants.{Leaf, Not, And, Or, Phrase}
-use Rattle.ts_query.proofs.Built.{Leafed, leafed, leafed_there, leafed_is, copied_few, copied_below, copied_none, copied_leaf, copied_not, copied_joint, copied_all, copied_to, next_node, same_operand}
+use Rattle.ts_query.proofs.Built.{leafed, leafed_there, leafed_is, copied_few, copied_below, copied_none, copied_leaf, copied_not, copied_joint, copied_all, copied_to, next_node, same_operand}
 use Rattle.ts_query.proofs.query.Builder.copy.Goals.{in-Leaf+in_ok-clone-in-Leaf+in_ok-leaf-in-Leaf, in-Not+in_ok-not-in-Not, in-And+in_ok-link-in-And, in-Or+in_ok-link-in-Or, in-Phrase+in_ok-link-in-Phrase}
 use Rattle.ts_query.proofs.query.Builder.copy.Goals as goal
 

@@ -1,4 +1,4 @@
-use Rattle.std.proofs.Common.{length, ap, ◌∙◌}
+use Rattle.std.proofs.Common.{length, ap}
 use Rattle.ts_query.proofs.Built.{built_leaf}
 use Rattle.ts_query.proofs.query.Builder.leaf.Goals as goal
 

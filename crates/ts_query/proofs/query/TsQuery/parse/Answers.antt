@@ -1,8 +1,6 @@
-use Rattle.std.proofs.Common.{◌≡◌, ◌<◌, ◌≤◌, length, map, ap, subst, sym, ◌∙◌, Some, None, arith}
-use Rattle.ts_query.specs.Queries.{nodes_of}
+use Rattle.std.proofs.Common.{length, map, ap, subst, sym, ◌∙◌, arith}
 use Rattle.ts_query.specs.Parsing.{entry_item}
 use Rattle.ts_query.specs.Grammar.{IsQueryText}
-use Rattle.ts_query.specs.Limits.{first_far, first_long}
 use Rattle.ts_query.specs.Reader.{IsOutcome}
 use Rattle.ts_query.proofs.Answer.{query_fault}
 use Rattle.ts_query.proofs.Entries.{entries_nodes}

@@ -1,6 +1,5 @@
-use Rattle.std.proofs.Common.{ℕ, ◌≡◌, ◌≢◌, ◌<◌, List, [], ◌∷◌, ◌++◌, ap, ◌∙◌, sym, subst, refl, rules, arith}
+use Rattle.std.proofs.Common.{◌≢◌, ◌<◌, [], ◌++◌, ap, ◌∙◌, sym, subst, refl, arith}
 use Rattle.std.specs.Char.{encode_utf8}
-use Rattle.std.specs.String.{string_bytes}
 use Rattle.ts_query.specs.Tokens.{bang, opening, IsPlain}
 use Rattle.ts_query.specs.Lexer.{between, in_quoted, in_plain, plain_escaped, Ready}
 use Rattle.ts_query.specs.declared.reader.State.TheVariants.{Between, InQuoted, InPlain, PlainEscape}

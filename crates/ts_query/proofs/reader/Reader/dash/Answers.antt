@@ -1,4 +1,4 @@
-use Rattle.std.proofs.Common.{ℕ, ◌≡◌, ◌≢◌, List, [], ◌∷◌, ◌++◌, sym, subst, refl, arith}
+use Rattle.std.proofs.Common.{◌≢◌, ◌++◌, sym, subst, arith}
 use Rattle.ts_query.specs.Queries.{phrase_joint}
 use Rattle.ts_query.specs.Tokens.{sign}
 use Rattle.ts_query.specs.Lexer.{behind_dash, Ready}

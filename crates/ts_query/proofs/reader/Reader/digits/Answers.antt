@@ -1,4 +1,4 @@
-use Rattle.std.proofs.Common.{ℕ, ◌≡◌, ◌≢◌, List, [], ◌∷◌, ◌++◌, ap, ◌∙◌, sym, subst, refl, arith}
+use Rattle.std.proofs.Common.{ℕ, ◌≢◌, ◌++◌, ap, ◌∙◌, sym, subst, refl, arith}
 use Rattle.ts_query.specs.Queries.{phrase_joint}
 use Rattle.ts_query.specs.Tokens.{IsDigit, sign}
 use Rattle.ts_query.specs.Lexer.{in_digits, Ready}

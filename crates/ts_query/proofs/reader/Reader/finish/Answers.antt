@@ -1,4 +1,4 @@
-use Rattle.std.proofs.Common.{ℕ, ◌≡◌, ◌≢◌, List, [], ◌∷◌, length, ap, ◌∙◌, sym, subst, false, refl, arith}
+use Rattle.std.proofs.Common.{◌≢◌, [], length, ap, ◌∙◌, subst, false, arith}
 use Rattle.std.specs.String.{string_bytes}
 use Rattle.std.proofs.lemmas.Bool.Decides.{nat_tests}
 use Rattle.ts_query.specs.Tokens.{word, operand, no_weights}

@@ -1,10 +1,8 @@
-use Rattle.std.proofs.Common.{ℕ, ◌≡◌, ◌≢◌, ◌<◌, ◌⊎◌, inl, inr, List, [], ◌∷◌, ap, ◌∙◌, sym, subst, true, false, refl, rules, arith}
+use Rattle.std.proofs.Common.{ℕ, ◌≢◌, inl, inr, ◌∷◌, ap, ◌∙◌, true, refl, arith}
 use Rattle.std.specs.String.{string_bytes}
 use Rattle.ts_base.specs.declared.Weight.{Weight}
-use Rattle.ts_base.specs.declared.Weight.TheVariants.{A, B, C, D}
-use Rattle.ts_query.specs.Tokens.{word, operand, with_weight, IsLetter, IsMark}
+use Rattle.ts_query.specs.Tokens.{word, operand, IsLetter, IsMark}
 use Rattle.ts_query.specs.Lexer.{in_marks}
-use Rattle.ts_query.specs.Reader.{lexer_of}
 use Rattle.ts_query.specs.declared.reader.State.TheVariants.{InMarks, Between}
 use Rattle.ts_query.proofs.Chars.{encode_some}
 use Rattle.ts_query.proofs.Lexing.{marks_ready, letter_small, wide_no_letter}

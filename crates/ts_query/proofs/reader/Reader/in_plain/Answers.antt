@@ -1,4 +1,4 @@
-use Rattle.std.proofs.Common.{ℕ, ◌≡◌, ◌≢◌, ◌<◌, ◌⊎◌, inl, inr, List, [], ◌∷◌, ap, ◌∙◌, sym, subst, false, refl, rules, arith}
+use Rattle.std.proofs.Common.{◌<◌, ◌⊎◌, inl, inr, [], ap, subst, false, refl, rules, arith}
 use Rattle.std.proofs.lemmas.Str.{encode_ascii}
 use Rattle.std.specs.String.{string_bytes}
 use Rattle.ts_query.specs.Tokens.{word, operand, no_weights, IsPlain, IsWhite, IsDelimiter}

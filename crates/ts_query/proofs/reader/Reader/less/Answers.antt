@@ -1,5 +1,4 @@
-use Rattle.std.proofs.Common.{◌≢◌, ◌<◌, ap, refl, arith}
-use Rattle.std.proofs.Common.{lit<}
+use Rattle.std.proofs.Common.{◌≢◌, ap, refl, arith}
 use Rattle.ts_query.specs.Tokens.{IsDigit}
 use Rattle.ts_query.specs.Lexer.{behind_less, in_digits}
 use Rattle.ts_query.specs.declared.reader.State.TheVariants.{Less}

@@ -1,4 +1,4 @@
-use Rattle.std.proofs.Common.{ℕ, ◌≡◌, ◌≢◌, ◌<◌, List, [], ◌∷◌, length, ap, ◌∙◌, sym, subst, false, refl, arith}
+use Rattle.std.proofs.Common.{ℕ, ◌≡◌, ◌≢◌, [], length, ap, ◌∙◌, subst, false, arith}
 use Rattle.std.specs.String.{string_bytes}
 use Rattle.ts_query.specs.Tokens.{word, operand, no_weights}
 use Rattle.ts_query.specs.Lexer.{behind_quote, in_quoted}

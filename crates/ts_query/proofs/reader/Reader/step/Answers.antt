@@ -1,4 +1,3 @@
-use Rattle.std.proofs.Common.{ap, ◌∙◌, refl}
 use Rattle.std.specs.String.{string_bytes}
 use Rattle.ts_query.specs.Lexer.{in_quoted, in_plain}
 use Rattle.ts_query.specs.declared.reader.State.TheVariants.{QuotedEscape, InQuoted, PlainEscape, InPlain}
