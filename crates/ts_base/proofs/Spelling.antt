@@ -28,7 +28,7 @@ two_bytes_same m n x y p q e =
     let high : m / 256 % 256 ≡ n / 256 % 256 = cc in
     (omega arith, cc)
 
-weight_number_same : (v w : Weight) → weight_number v ≡ weight_number w → v ≡ w
+pub weight_number_same : (v w : Weight) → weight_number v ≡ weight_number w → v ≡ w
 weight_number_same D D e = refl
 weight_number_same C C e = refl
 weight_number_same B B e = refl

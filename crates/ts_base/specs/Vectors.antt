@@ -1,5 +1,5 @@
 -- A vector as contracts see it: its lexemes with their positions.
-use Rattle.std.specs.Prelude.{ℕ, ◌<◌, ◌≤◌, List, length, All, AllPairs}
+use Rattle.std.specs.Prelude.{ℕ, ◌+◌, ◌*◌, ◌<◌, ◌≤◌, List, length, All, AllPairs, sum_by}
 use Rattle.ts_base.specs.declared.Weight.{Weight}
 use Rattle.ts_base.specs.Lexemes.{IsLexeme, IsBefore}
 
@@ -31,3 +31,7 @@ pub record IsEntry (entry : Entry) : Type 0 where
 pub record IsNormal (vector : Vector) : Type 0 where
   pub entries : All IsEntry vector
   pub rising : AllPairs (λ a b. IsBefore a.lexeme b.lexeme) vector
+
+-- the bytes of all lexemes, and two for each position
+abbrev pub content_size : Vector → ℕ
+content_size vector = sum_by (λ entry. length entry.lexeme + 2 * length entry.positions) vector

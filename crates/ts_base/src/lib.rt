@@ -204,3 +204,47 @@ pub fn spelling_tells_vector()
 pub fn spelling_has_size()
     ensures { SpellingHasSize }
 {}
+
+#[cfg(test)]
+mod tests {
+    use super::*;
+    use std::test::Fail;
+
+    #[test]
+    fn lexemes(rt: HostRuntime) -> Result<(), Fail> {
+        let alloc = rt.alloc();
+        let cat = Lexeme::new(alloc, "cat")?;
+        assert_eq!(rt; cat.as_str(), "cat");
+        assert!(rt; cat.clone()? == cat);
+        assert!(rt; Lexeme::new(alloc, "ca")? < cat);
+        assert!(rt; cat < Lexeme::new(alloc, "cow")?);
+        assert!(rt; Lexeme::new(alloc, "z")? < Lexeme::new(alloc, "é")?);
+        assert!(rt; matches!(Lexeme::new(alloc, ""), Err(LexemeError::Empty)));
+        let mut long = String::new(alloc);
+        for _ in 0..2046 {
+            long.push_str("a")?;
+        }
+        assert_eq!(rt; Lexeme::new(alloc, long.as_str())?.as_str().len(), 2046);
+        long.push_str("a")?;
+        assert!(rt; matches!(Lexeme::new(alloc, long.as_str()), Err(LexemeError::TooLong)));
+        Ok(())
+    }
+
+    #[test]
+    fn positions(rt: HostRuntime) {
+        let last = Position::new(16383, Weight::A);
+        assert_eq!(rt; last.at(), 16383);
+        assert_eq!(rt; last.weight(), Weight::A);
+        assert_ne!(rt; last, Position::new(16383, Weight::D));
+        assert!(rt; Weight::D < Weight::C && Weight::C < Weight::B && Weight::B < Weight::A);
+        assert!(rt; Tri::False < Tri::Maybe && Tri::Maybe < Tri::True);
+        let none = Weights::default();
+        assert!(rt; !none.a && !none.b && !none.c && !none.d);
+    }
+
+    #[test]
+    fn laws() {
+        spelling_tells_vector();
+        spelling_has_size();
+    }
+}

@@ -1,0 +1,9 @@
+pub mod Rising
+pub mod Forms
+pub mod PlainItems
+pub mod Items
+pub mod Sorts
+pub mod Tops
+pub mod Merging
+pub mod Settling
+pub mod Counts

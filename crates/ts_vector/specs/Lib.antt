@@ -1,0 +1,5 @@
+pub mod Views
+pub mod Normal
+pub mod Plain
+pub mod Steps
+pub mod Extends
