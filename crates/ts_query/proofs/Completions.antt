@@ -176,29 +176,51 @@ word_adds r n a o lx p u s d l = record { tokens = word a o ∷ closers (frames 
 module _ (r : Reader) (n : ℕ) (p : Spot) (s : Shows r.parser p) where
   module _ (a : ℕ) (l : List ℕ) (d : IsDue p) where
     quoted_adds : Adds n (in_quoted a l) p (97 ∷ 39 ∷ brackets (frames p))
-    quoted_adds = word_adds r n a (operand (l ++ 97 ∷ []) no_weights false) (in_quoted a l) p (97 ∷ 39 ∷ brackets (frames p)) s d
-        (l ++ 97 ∷ [], brackets (frames p), quoted_byte 97 l (39 ∷ brackets (frames p)) (l ++ 97 ∷ []) (brackets (frames p)) (λ e. omega arith) (λ e. omega arith) (closed (l ++ 97 ∷ []) (brackets (frames p)) (brackets_quote (frames p))),
-        not_empty l 97, (operand (l ++ 97 ∷ []) no_weights false, brackets (frames p), bare (l ++ 97 ∷ []) (brackets (frames p)), (closers (frames p), refl, brackets_lex n (frames p))))
+    quoted_adds = word_adds r n a (operand (l ++ 97 ∷ []) no_weights false) (in_quoted a l) p (97 ∷ 39 ∷ brackets (frames p)) s d (
+      l ++ 97 ∷ [],
+      brackets (frames p),
+      quoted_byte 97 l (39 ∷ brackets (frames p)) (l ++ 97 ∷ []) (brackets (frames p)) (λ e. omega arith) (λ e. omega arith) (closed (l ++ 97 ∷ []) (brackets (frames p)) (brackets_quote (frames p))),
+      not_empty l 97,
+      (operand (l ++ 97 ∷ []) no_weights false, brackets (frames p), bare (l ++ 97 ∷ []) (brackets (frames p)), (closers (frames p), refl, brackets_lex n (frames p))),
+    )
 
     quoted_escaped_adds : Adds n (quoted_escaped a l) p (97 ∷ 39 ∷ brackets (frames p))
-    quoted_escaped_adds = word_adds r n a (operand (l ++ 97 ∷ []) no_weights false) (quoted_escaped a l) p (97 ∷ 39 ∷ brackets (frames p)) s d
-        (l ++ 97 ∷ [], brackets (frames p), closed (l ++ 97 ∷ []) (brackets (frames p)) (brackets_quote (frames p)),
-        not_empty l 97, (operand (l ++ 97 ∷ []) no_weights false, brackets (frames p), bare (l ++ 97 ∷ []) (brackets (frames p)), (closers (frames p), refl, brackets_lex n (frames p))))
+    quoted_escaped_adds = word_adds r n a (operand (l ++ 97 ∷ []) no_weights false) (quoted_escaped a l) p (97 ∷ 39 ∷ brackets (frames p)) s d (
+      l ++ 97 ∷ [],
+      brackets (frames p),
+      closed (l ++ 97 ∷ []) (brackets (frames p)) (brackets_quote (frames p)),
+      not_empty l 97,
+      (operand (l ++ 97 ∷ []) no_weights false, brackets (frames p), bare (l ++ 97 ∷ []) (brackets (frames p)), (closers (frames p), refl, brackets_lex n (frames p))),
+    )
 
     quote_adds : Adds n (behind_quote a l) p (39 ∷ 39 ∷ brackets (frames p))
     quote_adds = word_adds r n a (operand (l ++ 39 ∷ []) no_weights false) (behind_quote a l) p (39 ∷ 39 ∷ brackets (frames p)) s d
-        (inl (refl, (l ++ 39 ∷ [], brackets (frames p), closed (l ++ 39 ∷ []) (brackets (frames p)) (brackets_quote (frames p)),
-        not_empty l 39, (operand (l ++ 39 ∷ []) no_weights false, brackets (frames p), bare (l ++ 39 ∷ []) (brackets (frames p)), (closers (frames p), refl, brackets_lex n (frames p))))))
+        (inl (
+          refl,
+          (
+            l ++ 39 ∷ [],
+            brackets (frames p),
+            closed (l ++ 39 ∷ []) (brackets (frames p)) (brackets_quote (frames p)),
+            not_empty l 39,
+            (operand (l ++ 39 ∷ []) no_weights false, brackets (frames p), bare (l ++ 39 ∷ []) (brackets (frames p)), (closers (frames p), refl, brackets_lex n (frames p))),
+          ),
+        ))
 
     plain_adds : Adds n (in_plain a l) p (brackets (frames p))
-    plain_adds = word_adds r n a (operand l no_weights false) (in_plain a l) p (brackets (frames p)) s d
-        (l, brackets (frames p), plain_end l (brackets (frames p)) (brackets_end (frames p)),
-        (operand l no_weights false, brackets (frames p), bare l (brackets (frames p)), (closers (frames p), refl, brackets_lex n (frames p))))
+    plain_adds = word_adds r n a (operand l no_weights false) (in_plain a l) p (brackets (frames p)) s d (
+      l,
+      brackets (frames p),
+      plain_end l (brackets (frames p)) (brackets_end (frames p)),
+      (operand l no_weights false, brackets (frames p), bare l (brackets (frames p)), (closers (frames p), refl, brackets_lex n (frames p))),
+    )
 
     plain_escaped_adds : Adds n (plain_escaped a l) p (97 ∷ brackets (frames p))
-    plain_escaped_adds = word_adds r n a (operand (l ++ 97 ∷ []) no_weights false) (plain_escaped a l) p (97 ∷ brackets (frames p)) s d
-        (l ++ 97 ∷ [], brackets (frames p), plain_end (l ++ 97 ∷ []) (brackets (frames p)) (brackets_end (frames p)),
-        (operand (l ++ 97 ∷ []) no_weights false, brackets (frames p), bare (l ++ 97 ∷ []) (brackets (frames p)), (closers (frames p), refl, brackets_lex n (frames p))))
+    plain_escaped_adds = word_adds r n a (operand (l ++ 97 ∷ []) no_weights false) (plain_escaped a l) p (97 ∷ brackets (frames p)) s d (
+      l ++ 97 ∷ [],
+      brackets (frames p),
+      plain_end (l ++ 97 ∷ []) (brackets (frames p)) (brackets_end (frames p)),
+      (operand (l ++ 97 ∷ []) no_weights false, brackets (frames p), bare (l ++ 97 ∷ []) (brackets (frames p)), (closers (frames p), refl, brackets_lex n (frames p))),
+    )
 
     marks_adds : (w : Weights) (m : Bool) → Adds n (in_marks a l w m) p (brackets (frames p))
     marks_adds w m = word_adds r n a (operand l w m) (in_marks a l w m) p (brackets (frames p)) s d

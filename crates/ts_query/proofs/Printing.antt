@@ -132,11 +132,12 @@ word_prints : (n : ℕ) (o : Operand) (r : List ℕ) (ks : List Token) → 1 ≤
 word_prints n o r ks h p w =
     let u = flat_map doubled_byte o.lexeme in
     let m = marks_text (marks_of o) in
-    let rest = flat_map doubled_byte o.lexeme ++ (39 ∷ (marks_text (marks_of o) ++ r)) in
-    (offset n (39 ∷ (flat_map doubled_byte o.lexeme ++ (39 ∷ (marks_text (marks_of o) ++ r)))),
-    subst (λ x. Lex n x (word (offset n (39 ∷ (flat_map doubled_byte o.lexeme ++ (39 ∷ (marks_text (marks_of o) ++ r))))) o ∷ ks)) (sym (operand_assoc (flat_map doubled_byte o.lexeme) (39 ∷ []) (marks_text (marks_of o)) r))
-    (quoted n (flat_map doubled_byte o.lexeme ++ (39 ∷ (marks_text (marks_of o) ++ r))) o.lexeme (marks_text (marks_of o) ++ r) r o ks
-    (quoted_prints o.lexeme [] (marks_text (marks_of o) ++ r) (marks_quote (marks_of o) r p)) (not_empty o.lexeme h) (behind_prints o r p) w))
+    let rest = flat_map doubled_byte o.lexeme ++ (39 ∷ (marks_text (marks_of o) ++ r)) in (
+      offset n (39 ∷ (flat_map doubled_byte o.lexeme ++ (39 ∷ (marks_text (marks_of o) ++ r)))),
+      subst (λ x. Lex n x (word (offset n (39 ∷ (flat_map doubled_byte o.lexeme ++ (39 ∷ (marks_text (marks_of o) ++ r))))) o ∷ ks)) (sym (operand_assoc (flat_map doubled_byte o.lexeme) (39 ∷ []) (marks_text (marks_of o)) r))
+          (quoted n (flat_map doubled_byte o.lexeme ++ (39 ∷ (marks_text (marks_of o) ++ r))) o.lexeme (marks_text (marks_of o) ++ r) r o ks
+          (quoted_prints o.lexeme [] (marks_text (marks_of o) ++ r) (marks_quote (marks_of o) r p)) (not_empty o.lexeme h) (behind_prints o r p) w),
+    )
 
 -- ── operators ──
 abbrev ReadsNumber : ℕ → List ℕ → Type 0
@@ -166,16 +167,19 @@ phrase_text b n = cond b (codes " <-> ") (codes " <" ++ (decimal n ++ codes "> "
 phrase_prints : (b : Bool) (n d : ℕ) (r : List ℕ) (ks : List Token) → eqb d 1 ≡ b → d ≤ 16384 → Lex n r ks → (s : ℕ) × Lex n (phrase_text b d ++ r) (sign s (phrase_joint d) ∷ ks)
 unfolding phrase_text
 phrase_prints true n d r ks e h w =
-    let one : 1 ≡ d = grind (arith, nat_tests) in
-    (offset n (60 ∷ 45 ∷ 62 ∷ 32 ∷ r), space n 32 (60 ∷ 45 ∷ 62 ∷ 32 ∷ r) (sign (offset n (60 ∷ 45 ∷ 62 ∷ 32 ∷ r)) (phrase_joint d) ∷ ks) (inl refl)
-    (subst (λ x. Lex n (60 ∷ 45 ∷ 62 ∷ 32 ∷ r) (sign (offset n (60 ∷ 45 ∷ 62 ∷ 32 ∷ r)) (phrase_joint x) ∷ ks)) one
-    (phrase_sign n 1 (45 ∷ 62 ∷ 32 ∷ r) (32 ∷ r) ks (arrow (32 ∷ r)) (space n 32 r ks (inl refl) w))))
+    let one : 1 ≡ d = grind (arith, nat_tests) in (
+      offset n (60 ∷ 45 ∷ 62 ∷ 32 ∷ r),
+      space n 32 (60 ∷ 45 ∷ 62 ∷ 32 ∷ r) (sign (offset n (60 ∷ 45 ∷ 62 ∷ 32 ∷ r)) (phrase_joint d) ∷ ks) (inl refl)
+          (subst (λ x. Lex n (60 ∷ 45 ∷ 62 ∷ 32 ∷ r) (sign (offset n (60 ∷ 45 ∷ 62 ∷ 32 ∷ r)) (phrase_joint x) ∷ ks)) one
+          (phrase_sign n 1 (45 ∷ 62 ∷ 32 ∷ r) (32 ∷ r) ks (arrow (32 ∷ r)) (space n 32 r ks (inl refl) w))),
+    )
 phrase_prints false n d r ks e h w =
-    let v = decimal d ++ 62 ∷ 32 ∷ r in
-    (offset n (60 ∷ (decimal d ++ 62 ∷ 32 ∷ r)),
-    subst (λ x. Lex n (32 ∷ 60 ∷ x) (sign (offset n (60 ∷ (decimal d ++ 62 ∷ 32 ∷ r))) (phrase_joint d) ∷ ks)) (sym (append_assoc (decimal d) (62 ∷ 32 ∷ []) r))
-    (space n 32 (60 ∷ (decimal d ++ 62 ∷ 32 ∷ r)) (sign (offset n (60 ∷ (decimal d ++ 62 ∷ 32 ∷ r))) (phrase_joint d) ∷ ks) (inl refl)
-    (phrase_sign n d (decimal d ++ 62 ∷ 32 ∷ r) (32 ∷ r) ks (distance_prints d (32 ∷ r) h) (space n 32 r ks (inl refl) w))))
+    let v = decimal d ++ 62 ∷ 32 ∷ r in (
+      offset n (60 ∷ (decimal d ++ 62 ∷ 32 ∷ r)),
+      subst (λ x. Lex n (32 ∷ 60 ∷ x) (sign (offset n (60 ∷ (decimal d ++ 62 ∷ 32 ∷ r))) (phrase_joint d) ∷ ks)) (sym (append_assoc (decimal d) (62 ∷ 32 ∷ []) r))
+          (space n 32 (60 ∷ (decimal d ++ 62 ∷ 32 ∷ r)) (sign (offset n (60 ∷ (decimal d ++ 62 ∷ 32 ∷ r))) (phrase_joint d) ∷ ks) (inl refl)
+          (phrase_sign n d (decimal d ++ 62 ∷ 32 ∷ r) (32 ∷ r) ks (distance_prints d (32 ∷ r) h) (space n 32 r ks (inl refl) w))),
+    )
 
 joint_prints : (j : Joint) (n : ℕ) (r : List ℕ) (ks : List Token) → IsNear j → Lex n r ks → (s : ℕ) × Lex n (joint_text j ++ r) (sign s j ∷ ks)
 unfolding phrase_text
@@ -261,13 +265,13 @@ prints (leaf o) n l r ks g s p w =
 prints (negated x) n l r ks g s p w =
     bracketed_prints (nat_lt 3 l) n 3 l (negated x) (33 ∷ printed_at x 3) r ks (omega arith) g refl
     (λ v ls h k. let q = prints x n 3 v ls (omega arith) s h k in
-        record { tokens = bang ∷ q.tokens; has = not_sign n (printed_at x 3 ++ v) q.tokens q.has; expr = denied x q.tokens ls q.expr }) p w
+    record { tokens = bang ∷ q.tokens; has = not_sign n (printed_at x 3 ++ v) q.tokens q.has; expr = denied x q.tokens ls q.expr }) p w
 prints (joined j x y) n l r ks g s p w =
     let three = level_3 j in
     bracketed_prints (nat_lt (level j) l) n (level j) l (joined j x y) (printed_at x (level j) ++ (joint_text j ++ printed_at y (suc (level j)))) r ks (omega arith) g refl
     (λ v ls h k. joined_prints n j x y (printed_at x (level j)) (printed_at y (suc (level j))) v ls s.0 k
-        (prints y n (suc (level j)) v ls (omega arith) s.1.1 h k)
-        (λ z ms i m. prints x n (level j) z ms (omega arith) s.1.0 i m)) p w
+    (prints y n (suc (level j)) v ls (omega arith) s.1.1 h k)
+    (λ z ms i m. prints x n (level j) z ms (omega arith) s.1.0 i m)) p w
 
 pub all_left : (xs ys : List Operand) → All HasLength (xs ++ ys) → All HasLength xs
 all_left xs ys a k d h = let n : k < length (xs ++ ys) = omega (arith, length-append xs ys) in subst HasLength (get_or-append xs ys d k h) (a k d n)

@@ -73,12 +73,12 @@ writes (negated x) l = brackets_write (nat_lt 3 l) (Bang ∷ pieces_at x 3) (ope
 writes (joined j x y) l =
     brackets_write (nat_lt (level j) l) (pieces_at x (level j) ++ joint_piece (joint_link j) ∷ pieces_at y (suc (level j))) (operands_in x ++ operands_in y) (printed_at x (level j) ++ (joint_text j ++ printed_at y (suc (level j))))
     (λ qs more.
-        ap (λ v. text_of v ((operands_in x ++ operands_in y) ++ more)) (append_assoc (pieces_at x (level j)) (joint_piece (joint_link j) ∷ pieces_at y (suc (level j))) qs)
-        ∙ ap (λ v. text_of (pieces_at x (level j) ++ (joint_piece (joint_link j) ∷ (pieces_at y (suc (level j)) ++ qs))) v) (append_assoc (operands_in x) (operands_in y) more)
-        ∙ writes x (level j) (joint_piece (joint_link j) ∷ (pieces_at y (suc (level j)) ++ qs)) (operands_in y ++ more)
-        ∙ ap (λ v. printed_at x (level j) ++ (joint_text v ++ text_of (pieces_at y (suc (level j)) ++ qs) (operands_in y ++ more))) (joint_back j)
-        ∙ ap (λ v. printed_at x (level j) ++ (joint_text j ++ v)) (writes y (suc (level j)) qs more)
-        ∙ joined_assoc (printed_at x (level j)) (joint_text j) (printed_at y (suc (level j))) (text_of qs more))
+    ap (λ v. text_of v ((operands_in x ++ operands_in y) ++ more)) (append_assoc (pieces_at x (level j)) (joint_piece (joint_link j) ∷ pieces_at y (suc (level j))) qs)
+    ∙ ap (λ v. text_of (pieces_at x (level j) ++ (joint_piece (joint_link j) ∷ (pieces_at y (suc (level j)) ++ qs))) v) (append_assoc (operands_in x) (operands_in y) more)
+    ∙ writes x (level j) (joint_piece (joint_link j) ∷ (pieces_at y (suc (level j)) ++ qs)) (operands_in y ++ more)
+    ∙ ap (λ v. printed_at x (level j) ++ (joint_text v ++ text_of (pieces_at y (suc (level j)) ++ qs) (operands_in y ++ more))) (joint_back j)
+    ∙ ap (λ v. printed_at x (level j) ++ (joint_text j ++ v)) (writes y (suc (level j)) qs more)
+    ∙ joined_assoc (printed_at x (level j)) (joint_text j) (printed_at y (suc (level j))) (text_of qs more))
 
 pub writes_all : (t : Tree) → text_of (pieces_at t 0) (operands_in t) ≡ printed_at t 0
 writes_all t =

@@ -27,3 +27,6 @@ pub fn one_answer()
 pub fn prints_back()
     ensures { PrintsBack }
 {}
+
+#[cfg(test)]
+mod tests;

@@ -12,10 +12,9 @@ ghost use Rattle.ts_query.specs.declared.print.Task.{Task};
 ghost use Rattle.ts_query.specs.declared.print.Task.TheVariants.{Part};
 ghost use Rattle.ts_query.specs.declared.print.Piece.TheVariants.{Open, Close};
 
-use std::alloc::{AllocError, Global};
-
 use crate::parser::{Link, level_of};
 use crate::query::{Node, Operand};
+use std::alloc::{AllocError, Global};
 
 /// A part of the printed form. The operands come in their order.
 #[derive(Clone, Copy)]
@@ -73,7 +72,12 @@ fn expand(tasks: &mut Vec<Task>, node: Node, wanted: u8) -> Result<(), AllocErro
             tasks.push(Task::Part(Piece::Word))?;
             Ok(())
         }
-        Node::Not => add_around(tasks, 3, wanted, &[Task::Part(Piece::Bang), Task::Subtree(3)]),
+        Node::Not => add_around(
+            tasks,
+            3,
+            wanted,
+            &[Task::Part(Piece::Bang), Task::Subtree(3)],
+        ),
         Node::And => add_link(tasks, Link::And, wanted),
         Node::Or => add_link(tasks, Link::Or, wanted),
         Node::Phrase(distance) => add_link(tasks, Link::Phrase(distance), wanted),

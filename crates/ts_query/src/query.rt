@@ -8,14 +8,13 @@ ghost use Rattle.ts_query.specs.Parsing.{link_joint, word_operand, entry_item};
 ghost use Rattle.ts_query.specs.Printing.{printed};
 ghost use Rattle.ts_query.specs.Refusals.{IsReadAs, IsRefused};
 
-use std::alloc::{AllocError, Global};
-use std::marker::Model;
-use ts_base::{Lexeme, LexemeError, Weights};
-
 use crate::error::QueryError;
 use crate::parser::{Entry, Link, Word};
 use crate::print::print;
 use crate::reader::read;
+use std::alloc::{AllocError, Global};
+use std::marker::Model;
+use ts_base::{Lexeme, LexemeError, Weights};
 
 /// A lexeme that a vector is asked for. With weights, one of its positions has one of them; `prefix` asks for a lexeme that begins so.
 #[derive(Clone, Debug, Drop)]
@@ -237,7 +236,12 @@ impl TsQuery {
     }
 
     /// The query of one operand. No weights stand for any weight.
-    pub fn operand(alloc: Global, lexeme: &Lexeme, weights: Weights, prefix: bool) -> Result<TsQuery, AllocError>
+    pub fn operand(
+        alloc: Global,
+        lexeme: &Lexeme,
+        weights: Weights,
+        prefix: bool,
+    ) -> Result<TsQuery, AllocError>
         ensures value { IfOk result (λ q. q ≡ Some (leaf (operand lexeme.now weights prefix))) }
         ensures sound { IfOk result IsSound }
     {
@@ -271,7 +275,12 @@ impl TsQuery {
     }
 
     /// What holds where this query is followed by the other at the distance.
-    pub fn phrase(&self, alloc: Global, other: &TsQuery, distance: u16) -> Result<TsQuery, QueryError>
+    pub fn phrase(
+        &self,
+        alloc: Global,
+        other: &TsQuery,
+        distance: u16,
+    ) -> Result<TsQuery, QueryError>
         requires { distance ≤ 16384 }
         ensures value { IfOk result (λ q. q ≡ joined_queries (phrase_joint distance) self.now other.now) }
         ensures sound { IfOk result IsSound }

@@ -12,11 +12,10 @@ ghost use Rattle.ts_query.specs.Limits.{is_far, or_else};
 ghost use Rattle.ts_query.specs.Lexer.{between};
 ghost use Rattle.ts_query.specs.Reader.{Reading, IsReading, Stand, Holds, Keeps, Tracks, Gave, Stepped, Finished, IsOutcome};
 
+use crate::parser::{Entry, Link, Parser, Place, Word};
 use std::alloc::{AllocError, Global};
 use std::mem;
 use ts_base::{LONGEST_LEXEME, Weight, Weights};
-
-use crate::parser::{Entry, Link, Parser, Place, Word};
 
 /// The greatest distance of a phrase operator.
 pub const GREATEST_DISTANCE: u16 = 16384;
@@ -144,13 +143,7 @@ fn first_at(found: Option<usize>, past: bool, at: usize) -> Option<usize>
 {
     match found {
         Some(_) => found,
-        None => {
-            if past {
-                Some(at)
-            } else {
-                None
-            }
-        }
+        None => { if past { Some(at) } else { None } }
     }
 }
 
@@ -213,7 +206,11 @@ impl Reader {
         ensures state { OnOk result (self.new.state ≡ State.Between) }
         ensures gave { OnOk result ((p : Spot) (ts : List Token) → IsDue p → Tracks self.old p ts → Gave p ts (word self.old.start (operand (string_bytes self.old.word) weights prefix)) self.new) }
     {
-        self.long = first_at(self.long, self.word.as_str().len() > LONGEST_LEXEME, self.start);
+        self.long = first_at(
+            self.long,
+            self.word.as_str().len() > LONGEST_LEXEME,
+            self.start,
+        );
         let lexeme = mem::replace(&mut self.word, String::new(alloc));
         self.parser.operand(Word {
             lexeme,

@@ -40,10 +40,11 @@ finish-requires c =
     let f4 = ap length c.nodes-4.ensures.value ∙ length-nodes_for c.args.other.now in
     let y : nodes_of c.args.self.now ≢ 0 = λ x. grind (arith, nat_tests) in
     let z : nodes_of c.args.other.now ≢ 0 = λ x. grind (arith, nat_tests) in
-    let few : nodes_of c.args.self.now + nodes_of c.args.other.now + 1 < 32768 = omega arith in
-    (joined_queries (link_joint c.args.link) c.args.self.now c.args.other.now,
-    joined_built (link_joint c.args.link) c.args.self.now c.args.other.now c.link.new.self y z (c.in_ok-link.ensures _ (c.in_ok-copy-2.ensures.items _ (c.in_ok-copy.ensures.items [] c.new-builder.ensures))),
-    joined_sound (link_joint c.args.link) c.args.self.now c.args.other.now c.requires c.nodes.ensures.sound c.nodes-2.ensures.sound y z few)
+    let few : nodes_of c.args.self.now + nodes_of c.args.other.now + 1 < 32768 = omega arith in (
+      joined_queries (link_joint c.args.link) c.args.self.now c.args.other.now,
+      joined_built (link_joint c.args.link) c.args.self.now c.args.other.now c.link.new.self y z (c.in_ok-link.ensures _ (c.in_ok-copy-2.ensures.items _ (c.in_ok-copy.ensures.items [] c.new-builder.ensures))),
+      joined_sound (link_joint c.args.link) c.args.self.now c.args.other.now c.requires c.nodes.ensures.sound c.nodes-2.ensures.sound y z few,
+    )
 
 pub returns-clause-value : goal.returns-clause-value
 returns-clause-value c =

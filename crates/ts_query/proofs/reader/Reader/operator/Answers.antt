@@ -18,7 +18,7 @@ returns-in_ok-end_link-in-38 c s d h =
     gave_moved c.args.self.now c.end_link.new.self s c.args.at _ between (sign c.args.at and_joint) h (lexer_in c.args.self.now Between c.requires.between)
     (lexer_in c.end_link.new.self Between c.in_ok-end_link-in-38.ensures.state) (c.in_ok-end_link-in-38.ensures.gave s.spot s.tokens d h.tracks)
     (λ n u x. let size : n ≡ c.args.at + length (38 ∷ u) = subst (λ b. n ≡ c.args.at + length (b ++ u)) e x in
-        subst (λ b. Ready n between (sign c.args.at and_joint) (b ++ u) u) (sym e) (subst (λ a. Ready n between (sign a and_joint) (38 ∷ u) u) (at_offset n c.args.at (38 ∷ u) size) (and_ready n u)))
+    subst (λ b. Ready n between (sign c.args.at and_joint) (b ++ u) u) (sym e) (subst (λ a. Ready n between (sign a and_joint) (38 ∷ u) u) (at_offset n c.args.at (38 ∷ u) size) (and_ready n u)))
 
 pub returns-in_ok-end_link-in-124 : goal.returns-in_ok-end_link-in-124
 returns-in_ok-end_link-in-124 c s d h =
@@ -26,7 +26,7 @@ returns-in_ok-end_link-in-124 c s d h =
     gave_moved c.args.self.now c.end_link-in-124.new.self s c.args.at _ between (sign c.args.at or_joint) h (lexer_in c.args.self.now Between c.requires.between)
     (lexer_in c.end_link-in-124.new.self Between c.in_ok-end_link-in-124.ensures.state) (c.in_ok-end_link-in-124.ensures.gave s.spot s.tokens d h.tracks)
     (λ n u x. let size : n ≡ c.args.at + length (124 ∷ u) = subst (λ b. n ≡ c.args.at + length (b ++ u)) e x in
-        subst (λ b. Ready n between (sign c.args.at or_joint) (b ++ u) u) (sym e) (subst (λ a. Ready n between (sign a or_joint) (124 ∷ u) u) (at_offset n c.args.at (124 ∷ u) size) (or_ready n u)))
+    subst (λ b. Ready n between (sign c.args.at or_joint) (b ++ u) u) (sym e) (subst (λ a. Ready n between (sign a or_joint) (124 ∷ u) u) (at_offset n c.args.at (124 ∷ u) size) (or_ready n u)))
 
 pub returns-in-60 : goal.returns-in-60
 returns-in-60 c s d h =
