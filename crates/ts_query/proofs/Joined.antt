@@ -66,12 +66,6 @@ pub negated_sound : (q : Query) → IsSound q → nodes_of q ≢ 0 → nodes_of 
 negated_sound None s h l = absurd (h refl)
 negated_sound (Some x) s h l = record { lexemes = s.lexemes; phrases = s.phrases; nodes = omega arith }
 
-no_operands : All HasLength []
-no_operands k d h = absurd (let no : ⊥ = omega arith in no)
-
-pub empty_sound : IsSound None
-empty_sound = record { lexemes = no_operands; phrases = tt; nodes = omega arith }
-
 pub one_operand : (o : Operand) → HasLength o → All HasLength (o ∷ [])
 one_operand o h zero d k = h
 one_operand o h (suc n) d k = absurd (let no : ⊥ = omega arith in no)

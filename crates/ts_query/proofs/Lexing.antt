@@ -60,9 +60,6 @@ delimiter_60 = inr (inr (inr (inr (inr (inl refl)))))
 pub delimiter_58 : IsDelimiter 58
 delimiter_58 = inr (inr (inr (inr (inr (inr refl)))))
 
-delimiter_39 : ¬ IsDelimiter 39
-delimiter_39 h = grind arith
-
 delimiter_92 : ¬ IsDelimiter 92
 delimiter_92 h = grind arith
 

@@ -5,42 +5,10 @@ use Rattle.std.proofs.Math.Seq.{take-append_seam, get_or-append_seam, take-lengt
 use Rattle.ts_base.specs.Fault.{FaultAt}
 use Rattle.ts_base.specs.Leads.{Leads, Stands}
 use Rattle.ts_base.proofs.Places.{fault_here, fault_ending}
-use Rattle.ts_query.specs.Tokens.{Token}
-use Rattle.ts_query.specs.Grammar.{Reads}
-use Rattle.ts_query.specs.Frames.{start}
-use Rattle.ts_query.specs.Lexer.{between}
-use Rattle.ts_query.specs.Reader.{Reading, IsReading, Stand, RestIn, Holds, Moves, Moved, Stuck, Whole, Unfinished, IsOutcome, ReadTo}
+use Rattle.ts_query.specs.Reader.{Reading, IsReading, Stand, RestIn, Moves, Moved, Stuck, Whole, Unfinished, IsOutcome, ReadTo}
 use Rattle.ts_query.specs.declared.reader.Reader.{Reader}
 use Rattle.ts_query.specs.declared.reader.Outcome.{Outcome}
 use Rattle.ts_query.proofs.Completions.{completes}
-
-abbrev begin_stand : Stand
-begin_stand = record { lexer = between; spot = start; tokens = [] }
-
--- ── the start ──
-begin_to : (u : List ℕ) (v : Reading) → RestIn (0 + length u) begin_stand u v → IsReading u v
-begin_to u v h = record {
-  has = subst (λ ks. Rattle.ts_query.specs.Tokens.Lex (length u) u ks) (sym h.all) (let e : 0 + length u ≡ length u = omega arith in subst (λ n. Rattle.ts_query.specs.Tokens.Lex n u h.tokens) e h.left);
-  spells = subst (λ ks. Rattle.ts_query.specs.Grammar.Spells ks v.1) (sym h.all) h.rest;
-}
-
-begin_from : (u : List ℕ) (v : Reading) → IsReading u v → RestIn (0 + length u) begin_stand u v
-begin_from u v h = record {
-  tokens = v.0;
-  left = let e : length u ≡ 0 + length u = omega arith in subst (λ n. Rattle.ts_query.specs.Tokens.Lex n u v.0) e h.has;
-  all = refl;
-  rest = h.spells;
-}
-
-pub read_none : (text rest : List ℕ) (at : ℕ) (r : Reader) → Holds r begin_stand → rest ≡ text → at ≡ 0 → ReadTo text rest at r
-read_none text rest at r h e z = subst (λ n. ReadTo text rest n r) (sym z) (record {
-  front = [];
-  split = sym e;
-  place = refl;
-  stand = begin_stand;
-  holds = h;
-  leads = record { goes_on = begin_to; came_so = begin_from };
-})
 
 -- ── a character more ──
 sizes : (at : ℕ) (bytes u : List ℕ) (next : ℕ) → next ≡ at + length bytes → next + length u ≡ at + length (bytes ++ u)

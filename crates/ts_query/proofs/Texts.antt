@@ -1,16 +1,16 @@
 -- The bytes of a printed query.
-use Rattle.std.proofs.Common.{◌≡◌, ◌≢◌, ℕ, suc, List, [], ◌∷◌, ◌++◌, length, refl, sym, subst, ap, ◌∙◌, append_assoc, Bool, true, false, cond, eqb, nat_lt, ◌||◌, codes, arith}
+use Rattle.std.proofs.Common.{◌≡◌, ◌≢◌, ℕ, suc, List, [], ◌∷◌, ◌++◌, refl, sym, subst, ap, ◌∙◌, append_assoc, Bool, true, false, cond, eqb, nat_lt, ◌||◌, codes, arith}
 use Rattle.std.proofs.lemmas.List.{append-nil}
 use Rattle.std.proofs.lemmas.Bool.Decides.{nat_tests}
 use Rattle.std.specs.Char.{encode_utf8}
 use Rattle.std.specs.List.{flat_map}
 use Rattle.ts_query.specs.Queries.{Operand, Tree, leaf, negated, joined, operands_in}
 use Rattle.ts_query.specs.Grammar.{level}
-use Rattle.ts_query.specs.Printing.{doubled_byte, operand_text, joint_text, bracketed, printed_at}
+use Rattle.ts_query.specs.Printing.{doubled_byte, joint_text, bracketed, printed_at}
 use Rattle.ts_query.specs.Parsing.{joint_link}
 use Rattle.ts_query.specs.Pieces.{in_brackets, pieces_at, text_of}
 use Rattle.ts_query.specs.declared.print.Piece.{Piece}
-use Rattle.ts_query.specs.declared.print.Piece.TheVariants.{Word, Bang, Joint as joint_piece, Close}
+use Rattle.ts_query.specs.declared.print.Piece.TheVariants.{Bang, Joint as joint_piece, Close}
 use Rattle.ts_query.proofs.Chars.{Each, encode_some}
 use Rattle.ts_query.proofs.Stacks.{joint_back}
 
@@ -31,23 +31,7 @@ char_once c m k =
     let f = encode_some (λ b. (b ≢ 39) × (b ≢ 92)) c (λ _. (m, k)) (λ b h. ((λ e. omega arith), (λ e. omega arith))) in
     doubled_once (encode_utf8 c) (subst (λ v. Each (λ b. (b ≢ 39) × (b ≢ 92)) v) (sym f.2) (f.3, f.4))
 
-flat_map-both : (xs ys : List ℕ) → flat_map doubled_byte (xs ++ ys) ≡ flat_map doubled_byte xs ++ flat_map doubled_byte ys
-flat_map-both [] ys = refl
-flat_map-both (x ∷ xs) ys = ap (λ l. doubled_byte x ++ l) (flat_map-both xs ys) ∙ sym (append_assoc (doubled_byte x) (flat_map doubled_byte xs) (flat_map doubled_byte ys))
-
 -- a character more is written
-pub quoted_more : (out out2 all rest rest2 : List ℕ) (c : ℕ) → out ++ flat_map doubled_byte rest ≡ all → rest ≡ encode_utf8 c ++ rest2 → out2 ≡ out ++ flat_map doubled_byte (encode_utf8 c) → out2 ++ flat_map doubled_byte rest2 ≡ all
-quoted_more out out2 all rest rest2 c e f g =
-    ap (λ l. l ++ flat_map doubled_byte rest2) g ∙ append_assoc out (flat_map doubled_byte (encode_utf8 c)) (flat_map doubled_byte rest2)
-    ∙ ap (λ l. out ++ l) (sym (flat_map-both (encode_utf8 c) rest2)) ∙ ap (λ l. out ++ flat_map doubled_byte l) (sym f) ∙ e
-
-none_left : (rest : List ℕ) → length rest ≡ 0 → rest ≡ []
-none_left [] h = refl
-none_left (x ∷ rest) h = absurd (let no : ⊥ = omega arith in no)
-
-pub quoted_end : (out all rest : List ℕ) → out ++ flat_map doubled_byte rest ≡ all → length rest ≡ 0 → out ≡ all
-quoted_end out all rest e h = sym (append-nil out) ∙ ap (λ l. out ++ flat_map doubled_byte l) (sym (none_left rest h)) ∙ e
-
 -- ── parts ──
 wrapped_text : (ps qs : List Piece) (os : List Operand) → text_of ((ps ++ Close ∷ []) ++ qs) os ≡ text_of (ps ++ (Close ∷ qs)) os
 wrapped_text ps qs os = ap (λ l. text_of l os) (append_assoc ps (Close ∷ []) qs)
@@ -60,9 +44,6 @@ brackets_write : (b : Bool) (ps : List Piece) (os : List Operand) (text : List �
 brackets_write true ps os text h qs more =
     ap (λ l. 40 ∷ 32 ∷ l) (wrapped_text ps qs (os ++ more) ∙ h (Close ∷ qs) more ∙ sym (append_assoc text (codes " )") (text_of qs more)))
 brackets_write false ps os text h qs more = h qs more
-
-one_operand : (o : Operand) (ps : List Piece) (os : List Operand) → text_of (Word ∷ ps) (o ∷ os) ≡ operand_text o ++ text_of ps os
-one_operand o ps os = refl
 
 joined_assoc : (a b c d : List ℕ) → a ++ (b ++ (c ++ d)) ≡ (a ++ (b ++ c)) ++ d
 joined_assoc a b c d = simp append_assoc
