@@ -1,0 +1,6 @@
+use Rattle.std.proofs.Common.{refl}
+use Rattle.ts_query.proofs.Stacks.{not_took}
+use Rattle.ts_query.proofs.parser.Parser.negation.Goals as goal
+
+pub returns : goal.returns
+returns c s d h = not_took c.args.self.now _ s d h refl c.in_ok-push.ensures.items refl

@@ -1,0 +1,14 @@
+pub mod Queries
+pub mod Postfix
+pub mod Tokens
+pub mod Grammar
+pub mod Printing
+pub mod Frames
+pub mod Parsing
+pub mod Lexer
+pub mod Limits
+pub mod Reader
+pub mod Laws
+pub mod Building
+pub mod Refusals
+pub mod Pieces
