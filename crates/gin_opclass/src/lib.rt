@@ -1,0 +1,114 @@
+//! What an index asks of a class of queries: the order of its keys, and a judge that is sound.
+#![tactic(auto)]
+
+ghost use Rattle.std.specs.Prelude.{◌≡◌, List, Bool, length};
+ghost use Rattle.ts_base.specs.Vectors.{Vector};
+ghost use Rattle.ts_base.specs.declared.Tri.{Tri};
+ghost use Rattle.gin_opclass.specs.Keys.{IsKey, key_order, KeysRise};
+ghost use Rattle.gin_opclass.specs.Class.{Asked, meaning, IsSound};
+
+use std::cmp::Ordering;
+use std::marker::PhantomData;
+use ts_base::Tri;
+
+/// The keys that a query asks for, one for each operand, each with whether it is a prefix; and whether the whole index is read.
+#[derive(Debug, Drop)]
+pub struct QueryKeys {
+    pub keys: Vec<(Vec<u8>, bool)>,
+    pub all: bool,
+}
+
+/// What the queries of a class mean: the keys of a query, whether it reads the whole index,
+/// the vectors that satisfy it, and the answer of its judge to a value for each key.
+pub trait Meaning<Q> {
+    ghost asked: { Q → List Asked };
+
+    ghost all: { Q → Bool };
+
+    ghost satisfies: { Q → Vector → Type 0 };
+
+    ghost judged: { Q → List Tri → Tri };
+}
+
+/// A comparison of keys.
+pub trait CompareKeys {
+    /// The order of two keys.
+    fn compare(&self, a: &[u8], b: &[u8]) -> Ordering
+        requires a { IsKey a.now }
+        requires b { IsKey b.now }
+        ensures { result ≡ key_order a.now b.now };
+}
+
+/// A judge of queries whose meaning W names.
+pub trait Judge<Q, W: Meaning<Q>> {
+    /// The work can be used for the query.
+    ghost serves: { W → Q → Type 0 };
+
+    /// The answer for a query, by a value for each of its keys.
+    fn judge(&self, query: &Q, work: &mut W, values: &[Tri]) -> Tri
+        requires serves { serves work.old query.now }
+        requires each { length values.now ≡ length (W.asked query.now) }
+        ensures answer { result ≡ W.judged query.now values.now }
+        ensures serves { serves work.new query.now };
+
+    /// Its answers are sound.
+    ghost sound: { IsSound (meaning W.asked W.all W.satisfies W.judged) };
+}
+
+/// A comparison of keys and a sound judge.
+#[derive(Drop)]
+pub struct OpClass<Q, W, C, J> {
+    compare: C,
+    judge: J,
+    queries: PhantomData<Q>,
+    works: PhantomData<W>,
+}
+
+impl<Q, W: Meaning<Q>, C: CompareKeys, J: Judge<Q, W>> OpClass<Q, W, C, J> {
+    pub fn new(compare: C, judge: J) -> OpClass<Q, W, C, J>
+        ensures compare { result.compare ≡ compare }
+        ensures judge { result.judge ≡ judge }
+        ensures sound { IsSound (meaning W.asked W.all W.satisfies W.judged) }
+    {
+        OpClass {
+            compare,
+            judge,
+            queries: PhantomData,
+            works: PhantomData,
+        }
+    }
+
+    /// The order of two keys.
+    pub fn compare(&self, a: &[u8], b: &[u8]) -> Ordering
+        requires a { IsKey a.now }
+        requires b { IsKey b.now }
+        ensures { result ≡ key_order a.now b.now }
+    {
+        self.compare.compare(a, b)
+    }
+
+    /// The answer for a query, by a value for each of its keys.
+    pub fn judge(&self, query: &Q, work: &mut W, values: &[Tri]) -> Tri
+        requires serves { J.serves work.old query.now }
+        requires each { length values.now ≡ length (W.asked query.now) }
+        ensures answer { result ≡ W.judged query.now values.now }
+        ensures serves { J.serves work.new query.now }
+    {
+        self.judge.judge(query, work, values)
+    }
+}
+
+/// Keys by their bytes.
+#[derive(Clone, Copy, Debug, Default)]
+pub struct ByteOrder;
+
+impl CompareKeys for ByteOrder {
+    fn compare(&self, a: &[u8], b: &[u8]) -> Ordering {
+        a.cmp(b)
+    }
+}
+
+/// The keys of a vector are keys, and stand in key order, each once.
+pub fn keys_rise()
+    ensures { KeysRise }
+{}
