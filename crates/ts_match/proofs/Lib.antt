@@ -1,0 +1,14 @@
+pub mod Lists
+pub mod Places
+pub mod Candidates
+pub mod Searches
+pub mod Order
+pub mod Lexemes
+pub mod Lookups
+pub mod Stacks
+pub mod Plans
+pub mod Tables
+pub mod Hits
+pub mod Outer
+pub mod Answers
+pub mod KeyLists

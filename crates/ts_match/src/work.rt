@@ -1,0 +1,200 @@
+// What is made ready of a query before it is matched.
+ghost use Rattle.std.specs.Prelude.{◌≡◌, ◌+◌, ◌*◌, ◌^◌, ◌<◌, ◌≤◌, ◌∷◌, IfOk, All, length, reverse, vec_len, vec_capacity};
+ghost use Rattle.ts_query.specs.Queries.{or_joint, and_joint, phrase_joint};
+ghost use Rattle.ts_match.specs.Stacks.{total};
+ghost use Rattle.ts_match.specs.Plan.{plan_of, left_widths_of, left_width, measured, distance, spread_on, under_not, left_of, right_of, offset_of};
+
+use crate::found::Found;
+use crate::stack::{put, take_top};
+use std::alloc::{AllocError, Global};
+use std::marker::Model;
+use ts_base::Tri;
+use ts_query::{Node, TsQuery};
+
+/// Where a node of a query stands.
+#[derive(Clone, Copy, Debug, PartialEq, Eq)]
+pub enum Place {
+    /// Outside phrases.
+    Outside,
+    /// Within a phrase, this far behind its beginning; and whether the phrase needs it.
+    Within { offset: usize, needed: bool },
+}
+
+/// A node of a query and where it stands.
+#[derive(Clone, Copy, Debug, PartialEq, Eq)]
+pub struct Step {
+    pub node: Node,
+    pub place: Place,
+}
+
+/// Puts the width of a node on the stack in place of its operands' widths, and gives that of the left one.
+#[tactic(auto, using(crate::proofs::Stacks::top_and_below))]
+fn measure(stack: &mut Vec<u32>, node: Node) -> u32
+    requires room { vec_len stack.old < vec_capacity stack.old }
+    requires fits { total (reverse stack.old.items) + distance node < 2 ^ 32 }
+    ensures left { result ≡ left_width node (reverse stack.old.items) }
+    ensures stack { reverse stack.new.items ≡ measured node (reverse stack.old.items) }
+    ensures sum { total (reverse stack.new.items) ≤ total (reverse stack.old.items) + distance node }
+    ensures len { vec_len stack.new ≤ vec_len stack.old + 1 }
+    ensures capacity { vec_capacity stack.new ≡ vec_capacity stack.old }
+{
+    match node {
+        Node::Leaf(_) => {
+            put(stack, 0);
+            0
+        }
+        Node::Not => 0,
+        Node::And | Node::Or => {
+            let right = take_top(stack, 0);
+            let left = take_top(stack, 0);
+            put(stack, left.max(right));
+            left
+        }
+        Node::Phrase(distance) => {
+            let right = take_top(stack, 0);
+            let left = take_top(stack, 0);
+            put(stack, left + right + distance as u32);
+            left
+        }
+    }
+}
+
+/// Where the operand of a `!` stands.
+fn place_under_not(place: Place) -> Place
+    ensures { result ≡ under_not place }
+{
+    match place {
+        Place::Outside => Place::Outside,
+        Place::Within { offset, .. } => Place::Within {
+            offset,
+            needed: false,
+        },
+    }
+}
+
+/// Where the operands of a phrase operator stand; the right one begins behind the left one's width and the distance.
+fn places_in_phrase(place: Place, width: u32, distance: u16) -> (Place, Place)
+    requires { offset_of place < 2 ^ 63 }
+    ensures left { result.0 ≡ left_of (phrase_joint distance) place }
+    ensures right { result.1 ≡ right_of (phrase_joint distance) width place }
+{
+    let behind = width as usize + distance as usize;
+    match place {
+        Place::Outside => (
+            Place::Within {
+                offset: 0,
+                needed: true,
+            },
+            Place::Within {
+                offset: behind,
+                needed: true,
+            },
+        ),
+        Place::Within { offset, needed } => (
+            place,
+            Place::Within {
+                offset: offset + behind,
+                needed,
+            },
+        ),
+    }
+}
+
+/// Puts the places of a node's operands on the stack of those that are due, the right one on top.
+fn spread(due: &mut Vec<Place>, node: Node, width: u32, place: Place)
+    requires room { vec_len due.old + 2 ≤ vec_capacity due.old }
+    requires near { offset_of place < 2 ^ 63 }
+    ensures due { reverse due.new.items ≡ spread_on node width place (reverse due.old.items) }
+    ensures len { vec_len due.new ≤ vec_len due.old + 2 }
+    ensures capacity { vec_capacity due.new ≡ vec_capacity due.old }
+{
+    match node {
+        Node::Leaf(_) => {}
+        Node::Not => put(due, place_under_not(place)),
+        Node::And => {
+            put(due, place);
+            put(due, place);
+        }
+        Node::Or => {
+            put(due, place_under_not(place));
+            put(due, place_under_not(place));
+        }
+        Node::Phrase(distance) => {
+            let (left, right) = places_in_phrase(place, width, distance);
+            put(due, left);
+            put(due, right);
+        }
+    }
+}
+
+/// For each node in postfix order the width of its left operand.
+fn left_widths(alloc: Global, query: &TsQuery) -> Result<Vec<u32>, AllocError>
+    ensures { IfOk result (λ widths. widths.items ≡ left_widths_of query.now) }
+{
+    let nodes = query.nodes();
+    let mut stack = Vec::with_capacity(alloc, nodes.len())?;
+    let mut widths = Vec::with_capacity(alloc, nodes.len())?;
+    for node in nodes {
+        let left = measure(&mut stack, *node);
+        widths.push_reserved(left);
+    }
+    Ok(widths)
+}
+
+/// The nodes of a query, each with its place. The places are found from the last node back.
+fn lay_out(alloc: Global, query: &TsQuery, widths: &[u32]) -> Result<Vec<Step>, AllocError>
+    requires { widths.now ≡ left_widths_of query.now }
+    ensures { IfOk result (λ steps. steps.items ≡ plan_of query.now) }
+{
+    let nodes = query.nodes();
+    let mut due = Vec::with_capacity(alloc, nodes.len() + 2)?;
+    put(&mut due, Place::Outside);
+    let mut steps = Vec::with_capacity(alloc, nodes.len())?;
+    for i in (0..nodes.len()).rev() {
+        let place = take_top(&mut due, Place::Outside);
+        let node = nodes[i];
+        spread(&mut due, node, widths[i], place);
+        steps.push_reserved(Step { node, place });
+    }
+    steps.reverse();
+    Ok(steps)
+}
+
+/// Room to match one query, and where each of its nodes stands.
+#[derive(Debug, Drop)]
+pub struct MatchWork {
+    pub(crate) steps: Vec<Step>,
+    pub(crate) found: Vec<Found>,
+    pub(crate) outer: Vec<bool>,
+    pub(crate) inner: Vec<bool>,
+    pub(crate) answers: Vec<Tri>,
+}
+
+impl Model for MatchWork {
+    ghost use Rattle.std.specs.Prelude.{List, ◌≤◌, length, vec_capacity};
+    ghost use Rattle.ts_match.specs.declared.work.Step.{Step};
+
+    ghost Value = { List Step };
+
+    ghost view = { λ work. work.steps.items };
+
+    ghost invariant = { λ work. (length work.steps.items ≤ vec_capacity work.found) × (length work.steps.items ≤ vec_capacity work.outer) × (length work.steps.items ≤ vec_capacity work.inner) × (length work.steps.items ≤ vec_capacity work.answers) };
+}
+
+impl MatchWork {
+    /// Stacks that are large enough for the query.
+    pub fn new(alloc: Global, query: &TsQuery) -> Result<MatchWork, AllocError>
+        ensures { IfOk result (λ work. work ≡ plan_of query.now) }
+    {
+        let widths = left_widths(alloc, query)?;
+        let steps = lay_out(alloc, query, &widths)?;
+        let room = steps.len();
+        Ok(MatchWork {
+            found: Vec::with_capacity(alloc, room)?,
+            outer: Vec::with_capacity(alloc, room)?,
+            inner: Vec::with_capacity(alloc, room)?,
+            answers: Vec::with_capacity(alloc, room)?,
+            steps,
+        })
+    }
+}
