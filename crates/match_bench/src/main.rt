@@ -43,7 +43,9 @@ const QUERIES: [&str; 20] = [
 
 /// The next of a row of numbers that look random.
 fn draw(seed: &mut u64) -> u32 {
-    *seed = seed.wrapping_mul(6364136223846793005).wrapping_add(1442695040888963407);
+    *seed = seed
+        .wrapping_mul(6364136223846793005)
+        .wrapping_add(1442695040888963407);
     (*seed >> 33) as u32
 }
 
