@@ -3,7 +3,7 @@ use Rattle.std.specs.Prelude.{◌≡◌, ◌≢◌, ℕ, Bool, true, false, List
 use Rattle.ts_base.specs.declared.Tri.{Tri}
 use Rattle.ts_base.specs.declared.Tri.TheVariants.{False, Maybe, True}
 use Rattle.ts_base.specs.Vectors.{Vector}
-use Rattle.gin_opclass.specs.Keys.{Key, keys_of}
+use Rattle.ts_base.specs.Keys.{Key, keys_of}
 
 -- a key that a query asks for; a prefix stands for each key that begins with it
 pub record Asked : Type 0 where

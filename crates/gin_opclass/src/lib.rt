@@ -4,7 +4,7 @@
 ghost use Rattle.std.specs.Prelude.{◌≡◌, List, Bool, length};
 ghost use Rattle.ts_base.specs.Vectors.{Vector};
 ghost use Rattle.ts_base.specs.declared.Tri.{Tri};
-ghost use Rattle.gin_opclass.specs.Keys.{IsKey, key_order, KeysRise};
+ghost use Rattle.ts_base.specs.Keys.{IsKey, key_order};
 ghost use Rattle.gin_opclass.specs.Class.{Asked, meaning, IsSound};
 
 use std::cmp::Ordering;
@@ -107,8 +107,3 @@ impl CompareKeys for ByteOrder {
         a.cmp(b)
     }
 }
-
-/// The keys of a vector are keys, and stand in key order, each once.
-pub fn keys_rise()
-    ensures { KeysRise }
-{}

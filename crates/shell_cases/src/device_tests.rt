@@ -1,9 +1,9 @@
 // What a run leaves on a device, also where a crash or a failing call cuts it short.
-ghost use Rattle.std.specs.Prelude.{◌≡◌, ◌≤◌, false, IfOk, OnOk};
+ghost use Rattle.std.specs.Prelude.{◌≡◌, ◌≤◌, false, IfOk};
 ghost use Rattle.disk_trait.specs.Laws.{clock_of, seen_of};
 ghost use Rattle.wal.specs.Batches.{IsUnborn};
 
-use disk_trait::{Disk, Failed, File, MemoryDisk, MemorySink, MemorySource};
+use disk_trait::{Disk, File, MemoryDisk, MemorySink, MemorySource};
 use shell_run::{NoGate, Outcome, run_shell};
 use std::alloc::{AllocError, Global};
 use std::sync::Wait;
@@ -30,6 +30,40 @@ const ENTRIES: [&[u8]; 3] = [
     b"\x02\0\0\0\0\0\0\0\x01\0\0\0\x01\0a\x01\0\x01\0",
     b"\x03\0\0\0\0\0\0\0\x01\0\0\0\x01\0a\x01\0\x01\0",
 ];
+
+// Two inserts, and more behind them.
+const FAILING: &[u8] = b"@1 insert vector 'a:1'
+@1 insert vector 'b:1'
+show vector 'a:2' || strip vector 'b:1'
+ask 'a & b'
+@1 insert vector 'a:0'
+@2 insert vector 'a' || vector 'b:'
+@1 search 'a &'
+@2 search 'a <16385> b'
+show vector ':'
+ask 'a b'
+@3 insert vector 'c:1'
+@1 search '!a'
+@1 search ''
+@1 find 'a'
+";
+
+// What they are answered where the second insert fails.
+const FAILING_REPLIES: &[u8] = b"@1 ok 2/0#1
+@1 error 15 device
+vector 'a':2 'b'
+query 'a' & 'b'
+@1 error 2 vector 3
+@2 error 2 vector 2
+@1 error 3 query 3
+@2 error 3 query 2
+error 2 vector 0
+error 3 query 2
+@3 error 14 down 1
+@1 error 14 down 1
+@1 error 14 down 1
+error 1 statement 14
+";
 
 type Run = Outcome<MemorySource, MemorySink, MemoryDisk>;
 
@@ -156,19 +190,23 @@ fn a_device_fails_at_each_call(rt: HostRuntime) -> Result<(), Fail> {
     Ok(())
 }
 
-// An insert writes the batch, syncs it, writes its gate and syncs that.
+// An insert writes the batch, syncs it, writes its gate and syncs that. Behind a failure of one of these calls, texts
+// are still read, and a statement whose text is good is refused since the store is down.
 #[test]
-fn a_sync_that_fails_brings_the_store_down(rt: HostRuntime) -> Result<(), Fail> {
+fn a_call_of_an_insert_that_fails_brings_the_store_down(rt: HostRuntime) -> Result<(), Fail> {
     let alloc = rt.alloc();
-    let sync = calls_of(&rt, alloc, 1)?.saturating_add(2);
-    let script = b"@1 insert vector 'a:1'\n@1 insert vector 'b:1'\n@1 search 'a'\n";
-    let store = MemoryDisk::new(alloc, vec![in alloc; sync]?);
-    let run = run_on(&rt, alloc, script, store)?;
-    assert_eq!(rt;
-        run.out.bytes(),
-        b"@1 ok 2/0#1\n@1 error 15 device\n@1 error 14 down 1\n".as_slice()
-    );
-    assert_eq!(rt; run.status, 3);
+    let before = calls_of(&rt, alloc, 1)?;
+    for call in 1..=4 {
+        let fails = vec![in alloc; before.saturating_add(call)]?;
+        let run = run_on(&rt, alloc, FAILING, MemoryDisk::new(alloc, fails))?;
+        let printed = run.out.bytes();
+        assert!(rt;
+            printed == FAILING_REPLIES,
+            "call {call}: {}",
+            printed.escape_ascii()
+        );
+        assert_eq!(rt; run.status, 3, "call {call}");
+    }
     Ok(())
 }
 

@@ -6,6 +6,8 @@ mod compare;
 #[cfg(test)]
 mod device_tests;
 #[cfg(test)]
+mod large_tests;
+#[cfg(test)]
 mod tests;
 
 use anyhow::{Context, Result};

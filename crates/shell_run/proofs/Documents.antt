@@ -1,10 +1,10 @@
 -- The documents in memory.
-use Rattle.std.proofs.Common.{◌≡◌, ℕ, ◌+◌, ◌<◌, if◌then◌else◌, Bool, true, false, cond, List, [], ◌∷◌, ◌++◌, length, map, take, arith, refl, sym, ◌∙◌, ap, suc, subst, get_or}
-use Rattle.std.specs.List.{filter}
-use Rattle.std.proofs.lemmas.List.{append-nil, take_more, map-append, length-take-le}
-use Rattle.std.proofs.lemmas.List.Elements.{filter-append}
+use Rattle.std.proofs.Common.{◌≡◌, inl, inr, ℕ, ◌+◌, ◌<◌, List, [], ◌∷◌, ◌++◌, length, take, arith, refl, sym, ◌∙◌, ap, suc, subst, get_or}
+use Rattle.std.proofs.lemmas.List.{take_more, length-take-le}
 use Rattle.ts_base.specs.Vectors.{Vector}
-use Rattle.shell_run.specs.History.{Document, found, has_lexeme, name_of}
+use Rattle.ts_query.specs.Queries.{Query}
+use Rattle.ts_match.specs.Meaning.{Holds}
+use Rattle.shell_run.specs.History.{Name, Document, IsFound, name_of}
 use Rattle.shell_run.specs.Stores.{numbered}
 
 abbrev pub document : ℕ → Vector → Document
@@ -15,22 +15,32 @@ numbered_push k [] v = ap (λ n. (let d : Document = record { name = name_of n; 
 numbered_push k (w ∷ vs) v =
     ap (λ z. (let d : Document = record { name = name_of k; vector = w } in d) ∷ z) (numbered_push (k + 1) vs v ∙ ap (λ n. numbered (k + 1) vs ++ (let d : Document = record { name = name_of n; vector = v } in d) ∷ []) (let e : k + 1 + length vs ≡ k + suc (length vs) = omega arith in e))
 
-pub found_push : (ds : List Document) (d : Document) (lexeme : List ℕ) → found (ds ++ d ∷ []) lexeme ≡ found ds lexeme ++ (if has_lexeme lexeme d.vector then d.name ∷ [] else [])
-found_push ds d lexeme = ap (λ z. map (λ (d : Document). d.name) z) (filter-append (λ (d : Document). has_lexeme lexeme d.vector) ds (d ∷ [])) ∙ map-append (λ (d : Document). d.name) (filter (λ (d : Document). has_lexeme lexeme d.vector) ds) (filter (λ (d : Document). has_lexeme lexeme d.vector) (d ∷ [])) ∙ ap (λ z. found ds lexeme ++ z) (one (has_lexeme lexeme d.vector))
-  where
-    one : (b : Bool) → map (λ (d : Document). d.name) (cond b (d ∷ []) []) ≡ (if b then d.name ∷ [] else [])
-    one true = refl
-    one false = refl
+pub found_push_yes : (q : Query) (ds : List Document) (d : Document) (names : List Name) → Holds q d.vector → IsFound q ds names → IsFound q (ds ++ d ∷ []) (names ++ d.name ∷ [])
+found_push_yes q [] d names y h = inl (y, ([], ap (λ z. z ++ d.name ∷ []) h, refl))
+found_push_yes q (e ∷ ds) d names y (inl h) = inl (h.0, (h.1.0 ++ d.name ∷ [], ap (λ z. z ++ d.name ∷ []) h.1.1, found_push_yes q ds d h.1.0 y h.1.2))
+found_push_yes q (e ∷ ds) d names y (inr h) = inr (h.0, found_push_yes q ds d names y h.1)
 
-pub found_more : (ds : List Vector) (i : ℕ) (d : Vector) (lexeme : List ℕ) → i < length ds → d ≡ get_or ds i d → found (numbered 0 (take (i + 1) ds)) lexeme ≡ found (numbered 0 (take i ds)) lexeme ++ (if has_lexeme lexeme d then name_of i ∷ [] else [])
-found_more ds i d lexeme l e =
+pub found_push_no : (q : Query) (ds : List Document) (d : Document) (names : List Name) → ¬ Holds q d.vector → IsFound q ds names → IsFound q (ds ++ d ∷ []) names
+found_push_no q [] d names n h = inr (n, h)
+found_push_no q (e ∷ ds) d names n (inl h) = inl (h.0, (h.1.0, h.1.1, found_push_no q ds d h.1.0 n h.1.2))
+found_push_no q (e ∷ ds) d names n (inr h) = inr (h.0, found_push_no q ds d names n h.1)
+
+-- the list that a search gives is one
+pub found_once : (q : Query) (ds : List Document) (a b : List Name) → IsFound q ds a → IsFound q ds b → a ≡ b
+found_once q [] a b h k = h ∙ sym k
+found_once q (d ∷ ds) a b (inl h) (inl k) = h.1.1 ∙ ap (λ z. d.name ∷ z) (found_once q ds h.1.0 k.1.0 h.1.2 k.1.2) ∙ sym k.1.1
+found_once q (d ∷ ds) a b (inl h) (inr k) = absurd (k.0 h.0)
+found_once q (d ∷ ds) a b (inr h) (inl k) = absurd (h.0 k.0)
+found_once q (d ∷ ds) a b (inr h) (inr k) = found_once q ds a b h.1 k.1
+
+numbered_more : (ds : List Vector) (i : ℕ) (d : Vector) → i < length ds → d ≡ get_or ds i d → numbered 0 (take (i + 1) ds) ≡ numbered 0 (take i ds) ++ document i d ∷ []
+numbered_more ds i d l e =
     let shorter : length (take i ds) ≡ i = length-take-le i ds (omega arith) in
     let more : take (i + 1) ds ≡ take i ds ++ d ∷ [] = take_more ds i d l ∙ ap (λ x. take i ds ++ x ∷ []) (sym e) in
-    let named : numbered 0 (take (i + 1) ds) ≡ numbered 0 (take i ds) ++ document i d ∷ [] = ap (numbered 0) more ∙ numbered_push 0 (take i ds) d ∙ ap (λ n. numbered 0 (take i ds) ++ document n d ∷ []) (let z : 0 + length (take i ds) ≡ i = omega arith in z) in
-    ap (λ z. found z lexeme) named ∙ found_push (numbered 0 (take i ds)) (document i d) lexeme
+    ap (numbered 0) more ∙ numbered_push 0 (take i ds) d ∙ ap (λ n. numbered 0 (take i ds) ++ document n d ∷ []) (let z : 0 + length (take i ds) ≡ i = omega arith in z)
 
-pub found_yes : (ds rs : List Vector) (i : ℕ) (d : Vector) (b : Bool) (lexeme : List ℕ) → rs ≡ ds → i < length rs → d ≡ get_or rs i d → b ≡ has_lexeme lexeme d → b ≡ true → found (numbered 0 (take (i + 1) ds)) lexeme ≡ found (numbered 0 (take i ds)) lexeme ++ name_of i ∷ []
-found_yes ds rs i d b lexeme same l e t u = subst (λ z. found (numbered 0 (take (i + 1) z)) lexeme ≡ found (numbered 0 (take i z)) lexeme ++ name_of i ∷ []) same (found_more rs i d lexeme l e ∙ ap (λ b. found (numbered 0 (take i rs)) lexeme ++ (if b then name_of i ∷ [] else [])) (sym t ∙ u))
+pub found_yes : (q : Query) (ds rs : List Vector) (i : ℕ) (d : Vector) (names : List Name) → rs ≡ ds → i < length rs → d ≡ get_or rs i d → Holds q d → IsFound q (numbered 0 (take i ds)) names → IsFound q (numbered 0 (take (i + 1) ds)) (names ++ name_of i ∷ [])
+found_yes q ds rs i d names same l e y h = subst (λ z. IsFound q z (names ++ name_of i ∷ [])) (sym (ap (λ z. numbered 0 (take (i + 1) z)) (sym same) ∙ numbered_more rs i d l e ∙ ap (λ z. numbered 0 (take i z) ++ document i d ∷ []) same)) (found_push_yes q (numbered 0 (take i ds)) (document i d) names y h)
 
-pub found_no : (ds rs : List Vector) (i : ℕ) (d : Vector) (b : Bool) (lexeme : List ℕ) → rs ≡ ds → i < length rs → d ≡ get_or rs i d → b ≡ has_lexeme lexeme d → b ≡ false → found (numbered 0 (take (i + 1) ds)) lexeme ≡ found (numbered 0 (take i ds)) lexeme
-found_no ds rs i d b lexeme same l e t u = subst (λ z. found (numbered 0 (take (i + 1) z)) lexeme ≡ found (numbered 0 (take i z)) lexeme) same (found_more rs i d lexeme l e ∙ ap (λ b. found (numbered 0 (take i rs)) lexeme ++ (if b then name_of i ∷ [] else [])) (sym t ∙ u) ∙ append-nil (found (numbered 0 (take i rs)) lexeme))
+pub found_no : (q : Query) (ds rs : List Vector) (i : ℕ) (d : Vector) (names : List Name) → rs ≡ ds → i < length rs → d ≡ get_or rs i d → ¬ Holds q d → IsFound q (numbered 0 (take i ds)) names → IsFound q (numbered 0 (take (i + 1) ds)) names
+found_no q ds rs i d names same l e n h = subst (λ z. IsFound q z names) (sym (ap (λ z. numbered 0 (take (i + 1) z)) (sym same) ∙ numbered_more rs i d l e ∙ ap (λ z. numbered 0 (take i z) ++ document i d ∷ []) same)) (found_push_no q (numbered 0 (take i ds)) (document i d) names n h)

@@ -14,3 +14,4 @@ pub mod Going
 pub mod Progressing
 pub mod Meaning
 pub mod Askings
+pub mod OneAnswer

@@ -1,51 +1,56 @@
 -- A line has one meaning.
-use Rattle.std.proofs.Common.{◌≡◌, ℕ, ◌+◌, List, [], ◌∷◌, length, get_or, arith, refl, sym, ◌∙◌, ap, subst}
-use Rattle.ts_vector.specs.Plain.{IsPlainText}
-use Rattle.ts_vector.proofs.Values.{one_plain_text}
+use Rattle.std.proofs.Common.{◌≡◌, ◌⊎◌, inl, inr, ℕ, ◌+◌, List, [], ◌∷◌, codes, arith, refl, sym, ◌∙◌, ap}
 use Rattle.shell_run.specs.Tokens.{Token, word, quote}
-use Rattle.shell_run.specs.Grammar.{Ask, insert, search as finding, nothing, IsAsked, IsAskedBy, IsStatement, label}
+use Rattle.shell_run.specs.Grammar.{Ask, insert, show, query, nothing, IsAskedBy, IsStatement, HasSession, label, expr_tokens, statement_tokens}
+use Rattle.shell_run.specs.Grammar.{search as finding}
+use Rattle.shell_run.proofs.Askings.{exprs_same, insert_or_search, show_or_ask, label_or_show, label_or_ask}
 use Rattle.shell_run.proofs.Spelling.{one_spelling}
 
--- the quoted text at the end
-abbrev pub last_quote : List Token → List ℕ
-last_quote (a ∷ b ∷ quote t ∷ []) = t
-last_quote (a ∷ quote t ∷ []) = t
-last_quote ts = []
+labels_same : (s t : ℕ) (v w : List ℕ) (xs ys : List Token) → word (label s) ∷ word v ∷ xs ≡ word (label t) ∷ word w ∷ ys → (s ≡ t) × (v ≡ w) × (xs ≡ ys)
+labels_same s t v w xs ys e = let numbers : 48 + s ≡ 48 + t = cc in (omega arith, cc, cc)
 
-one_asked : (tokens : List Token) (a b : Ask) → IsAsked tokens a → IsAsked tokens b → a ≡ b
-one_asked tokens (insert v) (insert w) h k =
-    let texts : h.0 ≡ k.0 = ap last_quote (sym h.2 ∙ k.2) in
-    ap insert (one_plain_text k.0 v w (subst (λ t. IsPlainText t v) texts h.1) k.1)
-one_asked tokens (finding x) (finding y) h k = ap finding (ap last_quote (sym h.1 ∙ k.1))
-one_asked tokens (insert v) (finding y) h k = let three : (let n : ℕ = 3 in n) ≡ 2 = ap length (sym h.2 ∙ k.1) in absurd (omega arith)
-one_asked tokens (finding x) (insert w) h k = let three : (let n : ℕ = 3 in n) ≡ 2 = ap length (sym k.2 ∙ h.1) in absurd (omega arith)
-one_asked tokens (insert v) nothing h k = absurd k
-one_asked tokens (finding x) nothing h k = absurd k
-one_asked tokens nothing b h k = absurd h
+words_same : (v w : List ℕ) (xs ys : List Token) → word v ∷ xs ≡ word w ∷ ys → (v ≡ w) × (xs ≡ ys)
+words_same v w xs ys e = (cc, cc)
 
--- the number in the label at the front
-abbrev first_number : List Token → ℕ
-first_number (word w ∷ ts) = get_or w 1 0
-first_number ts = 0
+quotes_same : (t u : List ℕ) → quote t ∷ [] ≡ quote u ∷ [] → t ≡ u
+quotes_same t u e = cc
 
-abbrev behind_first : List Token → List Token
-behind_first [] = []
-behind_first (t ∷ ts) = ts
+one_asked : (s t : ℕ) (a b : Ask) → HasSession s a → HasSession t b → statement_tokens s a ≡ statement_tokens t b → (s ≡ t) × (a ≡ b)
+one_asked s t (insert d) (insert e) h k same = let o = labels_same s t (codes "insert") (codes "insert") (expr_tokens d) (expr_tokens e) same in (o.0, ap insert (exprs_same d e o.2))
+one_asked s t (finding x) (finding y) h k same = let o = labels_same s t (codes "search") (codes "search") (quote x ∷ []) (quote y ∷ []) same in (o.0, ap finding (quotes_same x y o.2))
+one_asked s t (show d) (show e) h k same = let o = words_same (codes "show") (codes "show") (expr_tokens d) (expr_tokens e) same in (h ∙ sym k, ap show (exprs_same d e o.1))
+one_asked s t (query x) (query y) h k same = let o = words_same (codes "ask") (codes "ask") (quote x ∷ []) (quote y ∷ []) same in (h ∙ sym k, ap query (quotes_same x y o.1))
+one_asked s t (insert d) (finding y) h k same = absurd (insert_or_search (labels_same s t (codes "insert") (codes "search") (expr_tokens d) (quote y ∷ []) same).1)
+one_asked s t (finding x) (insert e) h k same = absurd (insert_or_search (sym (labels_same s t (codes "search") (codes "insert") (quote x ∷ []) (expr_tokens e) same).1))
+one_asked s t (show d) (query y) h k same = absurd (show_or_ask (words_same (codes "show") (codes "ask") (expr_tokens d) (quote y ∷ []) same).0)
+one_asked s t (query x) (show e) h k same = absurd (show_or_ask (sym (words_same (codes "ask") (codes "show") (quote x ∷ []) (expr_tokens e) same).0))
+one_asked s t (insert d) (show e) h k same = absurd (label_or_show s (words_same (label s) (codes "show") (word (codes "insert") ∷ expr_tokens d) (expr_tokens e) same).0)
+one_asked s t (insert d) (query y) h k same = absurd (label_or_ask s (words_same (label s) (codes "ask") (word (codes "insert") ∷ expr_tokens d) (quote y ∷ []) same).0)
+one_asked s t (finding x) (show e) h k same = absurd (label_or_show s (words_same (label s) (codes "show") (word (codes "search") ∷ quote x ∷ []) (expr_tokens e) same).0)
+one_asked s t (finding x) (query y) h k same = absurd (label_or_ask s (words_same (label s) (codes "ask") (word (codes "search") ∷ quote x ∷ []) (quote y ∷ []) same).0)
+one_asked s t (show d) (insert e) h k same = absurd (label_or_show t (sym (words_same (codes "show") (label t) (expr_tokens d) (word (codes "insert") ∷ expr_tokens e) same).0))
+one_asked s t (show d) (finding y) h k same = absurd (label_or_show t (sym (words_same (codes "show") (label t) (expr_tokens d) (word (codes "search") ∷ quote y ∷ []) same).0))
+one_asked s t (query x) (insert e) h k same = absurd (label_or_ask t (sym (words_same (codes "ask") (label t) (quote x ∷ []) (word (codes "insert") ∷ expr_tokens e) same).0))
+one_asked s t (query x) (finding y) h k same = absurd (label_or_ask t (sym (words_same (codes "ask") (label t) (quote x ∷ []) (word (codes "search") ∷ quote y ∷ []) same).0))
+one_asked s t nothing b h k same = absurd h
+one_asked s t a nothing h k same = absurd k
 
 one_asked_by : (line : List ℕ) (s t : ℕ) (a b : Ask) → IsAskedBy line s a → IsAskedBy line t b → (s ≡ t) × (a ≡ b)
-one_asked_by line s t a b h k =
-    let same : word (label s) ∷ h.2.0 ≡ word (label t) ∷ k.2.0 = one_spelling line (word (label s) ∷ h.2.0) (word (label t) ∷ k.2.0) h.2.1 k.2.1 in
-    let numbers : 48 + s ≡ 48 + t = ap first_number same in
-    let rests : h.2.0 ≡ k.2.0 = ap behind_first same in
-    (omega arith, one_asked k.2.0 a b (subst (λ ts. IsAsked ts a) rests h.2.2) k.2.2)
+one_asked_by line s t a b h k = one_asked s t a b h.session k.session (one_spelling line (statement_tokens s a) (statement_tokens t b) h.spelled k.spelled)
+
+-- a line that asks nothing, or is asked by
+asks : (line : List ℕ) (s : ℕ) (a : Ask) → IsStatement line s a → IsAskedBy line s a ⊎ ((s ≡ 0) × (a ≡ nothing) × ((t : ℕ) (b : Ask) → IsAskedBy line t b → ⊥))
+asks line s (insert e) h = inl h
+asks line s (finding t) h = inl h
+asks line s (show e) h = inl h
+asks line s (query t) h = inl h
+asks line s nothing h = inr (h.0, refl, h.1)
 
 pub one_meaning : (line : List ℕ) (s t : ℕ) (a b : Ask) → IsStatement line s a → IsStatement line t b → (s ≡ t) × (a ≡ b)
-one_meaning line s t (insert v) (insert w) h k = one_asked_by line s t (insert v) (insert w) h k
-one_meaning line s t (insert v) (finding y) h k = one_asked_by line s t (insert v) (finding y) h k
-one_meaning line s t (finding x) (insert w) h k = one_asked_by line s t (finding x) (insert w) h k
-one_meaning line s t (finding x) (finding y) h k = one_asked_by line s t (finding x) (finding y) h k
-one_meaning line s t (insert v) nothing h k = absurd (k.1 s (insert v) h)
-one_meaning line s t (finding x) nothing h k = absurd (k.1 s (finding x) h)
-one_meaning line s t nothing (insert w) h k = absurd (h.1 t (insert w) k)
-one_meaning line s t nothing (finding y) h k = absurd (h.1 t (finding y) k)
-one_meaning line s t nothing nothing h k = (h.0 ∙ sym k.0, refl)
+one_meaning line s t a b h k = by (asks line s a h) (asks line t b k)
+  where
+    by : IsAskedBy line s a ⊎ ((s ≡ 0) × (a ≡ nothing) × ((n : ℕ) (e : Ask) → IsAskedBy line n e → ⊥)) → IsAskedBy line t b ⊎ ((t ≡ 0) × (b ≡ nothing) × ((n : ℕ) (e : Ask) → IsAskedBy line n e → ⊥)) → (s ≡ t) × (a ≡ b)
+    by (inl x) (inl y) = one_asked_by line s t a b x y
+    by (inl x) (inr y) = absurd (y.2 s a x)
+    by (inr x) (inl y) = absurd (x.2 t b y)
+    by (inr x) (inr y) = (x.0 ∙ sym y.0, x.1 ∙ sym y.1)

@@ -9,11 +9,11 @@ use Rattle.wal.specs.declared.error.WalError.TheVariants.{DiskFault, LogFull, No
 use Rattle.ts_base.specs.Vectors.{Vector, IsNormal}
 use Rattle.shell_run.specs.History.{name_of}
 use Rattle.shell_run.specs.Entries.{document_bytes}
-use Rattle.shell_run.specs.Run.{refused}
+use Rattle.shell_run.specs.Replies.{refused}
 use Rattle.shell_run.specs.Answers.{refusal}
 use Rattle.shell_run.specs.Logs.{Puts, IsSameLog, refusal_for}
 use Rattle.shell_run.specs.Stores.{Rests, HasInserted, IsTooLarge, log_room}
-use Rattle.shell_run.specs.declared.store.Refusal.{Refusal}
+use Rattle.shell_run.specs.declared.replies.Refusal.{Refusal}
 use Rattle.shell_run.specs.declared.store.Store.{Store}
 
 module _ {D : Type 0} (tells : Type 0) (seen : D → Files) (clock : D → ℕ) (image : D → Past) (faults writes : D → ℕ) where

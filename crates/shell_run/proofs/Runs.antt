@@ -7,10 +7,11 @@ use Rattle.std.proofs.lemmas.List.Elements.{All-push, All-head, All-tail}
 use Rattle.std.proofs.lemmas.List.Sums.{sum_by_push, sum_by-cons}
 use Rattle.std.proofs.lemmas.Bool.{ne_eqb, eqb-false, eqb-true}
 use Rattle.ts_base.specs.Vectors.{Vector}
-use Rattle.shell_run.specs.Grammar.{Ask, insert, search as finding, nothing}
-use Rattle.shell_run.specs.History.{Document, Commit, History, IsLawful, Begins, docs, IsFull, found, insertion}
+use Rattle.ts_query.specs.Queries.{Query}
+use Rattle.shell_run.specs.Grammar.{Ask, insert, search as finding, show, query, nothing}
+use Rattle.shell_run.specs.History.{Document, Commit, History, IsLawful, Begins, docs, IsFull, IsFound, insertion}
 use Rattle.shell_run.specs.Entries.{IsLogFull}
-use Rattle.shell_run.specs.Run.{Row, Note, Place, Counts, Reply, stored, lists, refused, store_full, log_full, down, device, memory, no_statement, Run, IsWithin, IsAnswered, IsInsertAnswered, IsSearchAnswered, MayHaveOwn, MetFault, IsDownSince, AsksStore, IsDownReply, IsSeenBy, Before, has_commit, is_at, seen_by, HasOwn}
+use Rattle.shell_run.specs.Run.{Row, Note, Place, Counts, Reply, stored, lists, shows_vector, shows_query, refused, bad_vector, bad_query, long_lexeme, large_vector, large_query, store_full, log_full, down, device, memory, no_statement, Run, IsWithin, IsAnswered, IsInserted, IsSearched, MayHaveOwn, MetFault, IsDownSince, FindsDown, IsDownReply, IsSeenBy, Before, has_commit, is_at, seen_by, HasOwn}
 
 get_more : {X : Type 0} (xs ys : List X) (i : ℕ) (x : X) → slice_get xs i ≡ Some x → slice_get (xs ++ ys) i ≡ Some x
 get_more [] ys i x e = cc
@@ -51,7 +52,7 @@ not_full_more commits more note P le h f = h (subst P (seen_more commits more no
 is_full_more : (commits more : History) (note : Note) (P : List Document → Type 0) → note.snapshot ≤ length commits → P (seen_by commits note) → P (seen_by (commits ++ more) note)
 is_full_more commits more note P le h = subst P (sym (seen_more commits more note le)) h
 
-insert_more : (k l : Counts) (commits more : History) (v : Vector) (reply : Reply) (note : Note) → Grows k l → note.snapshot ≤ length commits → IsInsertAnswered k commits v reply note → IsInsertAnswered l (commits ++ more) v reply note
+insert_more : (k l : Counts) (commits more : History) (v : Vector) (reply : Reply) (note : Note) → Grows k l → note.snapshot ≤ length commits → IsInserted k commits v reply note → IsInserted l (commits ++ more) v reply note
 insert_more k l commits more v (stored name) note g le h = (
   own_more commits more note (insertion (record { name = name; vector = v })) h.0,
   not_full_more commits more note (λ ds. IsFull ds v) le h.1,
@@ -63,21 +64,39 @@ insert_more k l commits more v (refused (down count)) note g le h = (own_may com
 insert_more k l commits more v (refused device) note g le h = (own_may commits more note v h.0, met_more k l note g h.1)
 insert_more k l commits more v (refused memory) note g le h = h
 insert_more k l commits more v (lists names) note g le h = absurd h
+insert_more k l commits more v (shows_vector text) note g le h = absurd h
+insert_more k l commits more v (shows_query text) note g le h = absurd h
 insert_more k l commits more v (refused (no_statement at)) note g le h = absurd h
+insert_more k l commits more v (refused (bad_vector at)) note g le h = absurd h
+insert_more k l commits more v (refused (bad_query at)) note g le h = absurd h
+insert_more k l commits more v (refused (long_lexeme at)) note g le h = absurd h
+insert_more k l commits more v (refused (large_vector bytes)) note g le h = absurd h
+insert_more k l commits more v (refused large_query) note g le h = absurd h
 
-search_more : (k l : Counts) (commits more : History) (q : List ℕ) (reply : Reply) (note : Note) → Grows k l → note.snapshot ≤ length commits → IsSearchAnswered k commits q reply note → IsSearchAnswered l (commits ++ more) q reply note
-search_more k l commits more q (lists names) note g le h = (h.0, h.1 ∙ ap (λ ds. found ds q) (sym (seen_more commits more note le)))
+search_more : (k l : Counts) (commits more : History) (q : Query) (reply : Reply) (note : Note) → Grows k l → note.snapshot ≤ length commits → IsSearched k commits q reply note → IsSearched l (commits ++ more) q reply note
+search_more k l commits more q (lists names) note g le h = (h.0, subst (λ ds. IsFound q ds names) (sym (seen_more commits more note le)) h.1)
 search_more k l commits more q (refused (down count)) note g le h = (h.0, down_more k l count g h.1)
 search_more k l commits more q (refused memory) note g le h = h
 search_more k l commits more q (stored name) note g le h = absurd h
+search_more k l commits more q (shows_vector text) note g le h = absurd h
+search_more k l commits more q (shows_query text) note g le h = absurd h
 search_more k l commits more q (refused (no_statement at)) note g le h = absurd h
+search_more k l commits more q (refused (bad_vector at)) note g le h = absurd h
+search_more k l commits more q (refused (bad_query at)) note g le h = absurd h
+search_more k l commits more q (refused (long_lexeme at)) note g le h = absurd h
+search_more k l commits more q (refused (large_vector bytes)) note g le h = absurd h
+search_more k l commits more q (refused large_query) note g le h = absurd h
 search_more k l commits more q (refused store_full) note g le h = absurd h
 search_more k l commits more q (refused log_full) note g le h = absurd h
 search_more k l commits more q (refused device) note g le h = absurd h
 
 answered_more : (k l : Counts) (commits more : History) (place : Place) (ask : Ask) (reply : Reply) (note : Note) → Grows k l → note.snapshot ≤ length commits → IsAnswered k commits place ask reply note → IsAnswered l (commits ++ more) place ask reply note
-answered_more k l commits more place (insert v) reply note g le h = insert_more k l commits more v reply note g le h
-answered_more k l commits more place (finding q) reply note g le h = search_more k l commits more q reply note g le h
+answered_more k l commits more place (insert e) reply note g le (inl h) = inl h
+answered_more k l commits more place (insert e) reply note g le (inr h) = inr (h.0, h.1, insert_more k l commits more h.0 reply note g le h.2)
+answered_more k l commits more place (finding text) reply note g le (inl h) = inl h
+answered_more k l commits more place (finding text) reply note g le (inr h) = inr (h.0, h.1, search_more k l commits more h.0 reply note g le h.2)
+answered_more k l commits more place (show e) reply note g le h = h
+answered_more k l commits more place (query text) reply note g le h = h
 answered_more k l commits more place nothing reply note g le h = h
 
 below_some : (o : Option ℕ) (s n m : ℕ) → n ≤ m → IfSome o (λ p. (s ≤ p) × (p < n)) → IfSome o (λ p. (s ≤ p) × (p < m))
@@ -109,7 +128,7 @@ pub record Step (k l : Counts) (first commits more : History) (rows : List Row) 
   pub own : ((more ≡ []) × (row.note.commit ≡ None)) ⊎ ((c : Commit) × (more ≡ c ∷ []) × (row.note.commit ≡ Some (length commits)))
   pub lawful : IsLawful (commits ++ more)
   pub last : All (λ (r : Row). r.place.step < row.place.step) rows
-  pub finds_down : All (λ (r : Row). 0 < r.note.writes → AsksStore row.ask → IsDownReply row.reply) rows
+  pub finds_down : All (λ (r : Row). 0 < r.note.writes → FindsDown row.ask row.reply) rows
   pub down : IsDownReply row.reply → Any (λ (r : Row). 0 < r.note.writes) rows
   pub faults : k.faults_after + row.note.faults ≤ l.faults_after
   pub writes : k.writes_after + row.note.writes ≤ l.writes_after
@@ -128,7 +147,7 @@ within_new k l first commits more rows row h =
       ];
     }
 
-seen_new : (n : ℕ) (low : ℕ) (a b : Row) → IsWithin low n a.note → b.note.snapshot ≡ n → (0 < a.note.writes → AsksStore b.ask → IsDownReply b.reply) → IsSeenBy a b
+seen_new : (n : ℕ) (low : ℕ) (a b : Row) → IsWithin low n a.note → b.note.snapshot ≡ n → (0 < a.note.writes → FindsDown b.ask b.reply) → IsSeenBy a b
 seen_new n low a b h e d = (omega (arith, h.high_is), λ ok. under a.note.commit h.own, d)
   where
     under : (o : Option ℕ) → IfSome o (λ p. (a.note.snapshot ≤ p) × (p < n)) → IfSome o (λ p. p < b.note.snapshot)

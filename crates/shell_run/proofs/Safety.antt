@@ -12,7 +12,7 @@ use Rattle.wal.specs.Settled.{Settled, BeforeOrAfter}
 use Rattle.ts_base.specs.Vectors.{IsNormal}
 use Rattle.shell_run.specs.History.{Document, Commit, History, inserts, Begins, IsNumbered}
 use Rattle.shell_run.specs.Entries.{entry, OpensTo}
-use Rattle.shell_run.specs.Run.{Row, IsOkReply, IsWithin}
+use Rattle.shell_run.specs.Run.{Row, IsOkOfStore, IsWithin}
 use Rattle.shell_run.specs.Crash.{IsKnownBy, Reaches}
 
 abbrev pub AreNormal : History → Type 0
@@ -23,8 +23,8 @@ some_below : (o : Option ℕ) (s n m : ℕ) → n ≤ m → IfSome o (λ p. (s �
 some_below None s n m le h = tt
 some_below (Some p) s n m le h = omega (arith, h.1)
 
-pub all_known : (m low n reached : ℕ) (rows : List Row) → n ≤ reached → All (λ (r : Row). IsWithin low n r.note) rows → All (λ (r : Row). IsOkReply r.reply → IsKnownBy m reached r) rows
-all_known m low n reached rows le h = All-weaker (λ (r : Row). IsWithin low n r.note) (λ (r : Row). IsOkReply r.reply → IsKnownBy m reached r) (λ r w ok by. (omega (arith, w.high_is), some_below r.note.commit r.note.snapshot n reached le w.own)) rows h
+pub all_known : (m low n reached : ℕ) (rows : List Row) → n ≤ reached → All (λ (r : Row). IsWithin low n r.note) rows → All (λ (r : Row). IsOkOfStore r.reply → IsKnownBy m reached r) rows
+all_known m low n reached rows le h = All-weaker (λ (r : Row). IsWithin low n r.note) (λ (r : Row). IsOkOfStore r.reply → IsKnownBy m reached r) (λ r w ok by. (omega (arith, w.high_is), some_below r.note.commit r.note.snapshot n reached le w.own)) rows h
 
 pub opens_to : (c : Files) (commits : History) → IsNumbered commits → AreNormal commits → Opens c.log (map entry commits) → OpensTo c commits
 opens_to c commits n a o = record { numbered = n; normal = a; log = o }
@@ -46,13 +46,13 @@ begins_same a = ([], append-nil a)
     append-nil (x ∷ l) = ap (λ z. x ∷ z) (append-nil l)
 
 -- one row more, which is not known at this moment
-unknown : (c : Files) (m : ℕ) (h0 commits more : History) (rows : List Row) (row : Row) → Reaches c m h0 commits rows → (IsOkReply row.reply → m < row.note.clock) → Reaches c m h0 (commits ++ more) (rows ++ row ∷ [])
+unknown : (c : Files) (m : ℕ) (h0 commits more : History) (rows : List Row) (row : Row) → Reaches c m h0 commits rows → (IsOkOfStore row.reply → m < row.note.clock) → Reaches c m h0 (commits ++ more) (rows ++ row ∷ [])
 unknown c m h0 commits more rows row r late = record {
   kept = r.kept;
   opens = r.opens;
   begins = begins_more r.kept commits more r.begins;
   since = r.since;
-  known = All-push (λ (x : Row). IsOkReply x.reply → IsKnownBy m (length r.kept) x) rows row r.known (λ ok by. absurd (let f : m < row.note.clock = late ok in let x : ⊥ = omega arith in x));
+  known = All-push (λ (x : Row). IsOkOfStore x.reply → IsKnownBy m (length r.kept) x) rows row r.known (λ ok by. absurd (let f : m < row.note.clock = late ok in let x : ⊥ = omega arith in x));
 }
 
 -- all of it is kept
@@ -70,7 +70,7 @@ module _ {D : Type 0} (seen : D → Files) (clock : D → ℕ) (image : D → Pa
   pub record Safe (first : D) (c0 : ℕ) (disk : D) (end : ℕ) (down : Option ℕ) (h0 commits : History) (rows : List Row) : Type 0 where
     pub began : (clock first ≤ c0) × (c0 ≤ clock disk)
     pub stands : down ≡ None → Settled (map entry commits) end (seen disk) (image disk (clock disk))
-    pub clocks : All (λ (r : Row). IsOkReply r.reply → (c0 ≤ r.note.clock) × (r.note.clock ≤ clock disk)) rows
+    pub clocks : All (λ (r : Row). IsOkOfStore r.reply → (c0 ≤ r.note.clock) × (r.note.clock ≤ clock disk)) rows
     pub early : (m : ℕ) (c : Files) → clock first ≤ m → m < c0 → image disk m c → image first (clock first) c
     pub late : (m : ℕ) (c : Files) → c0 ≤ m → m ≤ clock disk → image disk m c → Reaches c m h0 commits rows
 
@@ -90,11 +90,11 @@ module _ {D : Type 0} (seen : D → Files) (clock : D → ℕ) (image : D → Pa
 
   -- a statement for which the device was not called
   pub safe_rests : (first disk : D) (c0 end : ℕ) (down : Option ℕ) (h0 commits : History) (rows : List Row) (row : Row) → Safe first c0 disk end down h0 commits rows → Grown h0 (commits ++ []) (rows ++ row ∷ [])
-      → row.note.clock ≡ clock disk → (IsOkReply row.reply → down ≡ None) → Safe first c0 disk end down h0 (commits ++ []) (rows ++ row ∷ [])
+      → row.note.clock ≡ clock disk → (IsOkOfStore row.reply → down ≡ None) → Safe first c0 disk end down h0 (commits ++ []) (rows ++ row ∷ [])
   safe_rests first disk c0 end down h0 commits rows row s g at up = record {
     began = s.began;
     stands = λ d. subst (λ xs. Settled (map entry xs) end (seen disk) (image disk (clock disk))) (sym (nil commits)) (s.stands d);
-    clocks = All-push (λ (r : Row). IsOkReply r.reply → (c0 ≤ r.note.clock) × (r.note.clock ≤ clock disk)) rows row s.clocks (λ ok. (omega (arith, at, s.began.1), omega (arith, at)));
+    clocks = All-push (λ (r : Row). IsOkOfStore r.reply → (c0 ≤ r.note.clock) × (r.note.clock ≤ clock disk)) rows row s.clocks (λ ok. (omega (arith, at, s.began.1), omega (arith, at)));
     early = s.early;
     late = λ m c ge le left. elim (cases_lt m (clock disk)) [
       | inl lt ↦ unknown c m h0 commits [] rows row (s.late m c ge le left) (λ ok. omega (arith, at))
@@ -114,11 +114,11 @@ module _ {D : Type 0} (seen : D → Files) (clock : D → ℕ) (image : D → Pa
   pub safe_logs : (first disk disk' : D) (c0 end end' : ℕ) (down down' : Option ℕ) (h0 commits : History) (commit : Commit) (rows : List Row) (row : Row) → Safe first c0 disk end down h0 commits rows → Grown h0 commits rows → Grown h0 (commits ++ commit ∷ []) (rows ++ row ∷ [])
       → LeavesOnly clock image disk disk' (BeforeOrAfter (map entry commits) (entry commit) (image disk (clock disk)))
       → (down' ≡ None → Settled (map entry (commits ++ commit ∷ [])) end' (seen disk') (image disk' (clock disk')))
-      → row.note.clock ≡ clock disk' → (IsOkReply row.reply → down' ≡ None) → Safe first c0 disk' end' down' h0 (commits ++ commit ∷ []) (rows ++ row ∷ [])
+      → row.note.clock ≡ clock disk' → (IsOkOfStore row.reply → down' ≡ None) → Safe first c0 disk' end' down' h0 (commits ++ commit ∷ []) (rows ++ row ∷ [])
   safe_logs first disk disk' c0 end end' down down' h0 commits commit rows row s g g' moments stands at up = record {
     began = (s.began.0, omega (arith, s.began.1, moments.later));
     stands = stands;
-    clocks = All-push (λ (r : Row). IsOkReply r.reply → (c0 ≤ r.note.clock) × (r.note.clock ≤ clock disk')) rows row
+    clocks = All-push (λ (r : Row). IsOkOfStore r.reply → (c0 ≤ r.note.clock) × (r.note.clock ≤ clock disk')) rows row
         (λ k d l ok. let b : (c0 ≤ (get_or rows k d).note.clock) × ((get_or rows k d).note.clock ≤ clock disk) = s.clocks k d l ok in (b.0, omega (arith, b.1, moments.later))) (λ ok. (omega (arith, at, s.began.1, moments.later), omega (arith, at)));
     early = λ m c ge lt left. s.early m c ge lt (moments.before m c (omega (arith, s.began.1)) left);
     late = λ m c ge le left. elim (cases_lt m (clock disk')) [
@@ -130,11 +130,11 @@ module _ {D : Type 0} (seen : D → Files) (clock : D → ℕ) (image : D → Pa
       more : History
       more = commit ∷ []
 
-      old_known : (m reached : ℕ) → length commits ≤ reached → All (λ (r : Row). IsOkReply r.reply → IsKnownBy m reached r) rows
+      old_known : (m reached : ℕ) → length commits ≤ reached → All (λ (r : Row). IsOkOfStore r.reply → IsKnownBy m reached r) rows
       old_known m reached le = all_known m g.low (length commits) reached rows le g.within
 
       -- what the put has left so far
-      torn : (m : ℕ) (c : Files) → BeforeOrAfter (map entry commits) (entry commit) (image disk (clock disk)) c → (IsOkReply row.reply → m < row.note.clock) → Reaches c m h0 (commits ++ commit ∷ []) (rows ++ row ∷ [])
+      torn : (m : ℕ) (c : Files) → BeforeOrAfter (map entry commits) (entry commit) (image disk (clock disk)) c → (IsOkOfStore row.reply → m < row.note.clock) → Reaches c m h0 (commits ++ commit ∷ []) (rows ++ row ∷ [])
       torn m c b late = elim b.log [
         | inl o ↦ unknown c m h0 commits (commit ∷ []) rows row (whole c m g.low h0 commits rows g.since (opens_to c commits g.numbered g.normal o) g.within) late
         | inr o ↦ record {
@@ -142,7 +142,7 @@ module _ {D : Type 0} (seen : D → Files) (clock : D → ℕ) (image : D → Pa
           opens = opens_to c (commits ++ commit ∷ []) g'.numbered g'.normal (subst (Opens c.log) (sym (map-append entry commits (commit ∷ []))) o);
           begins = begins_same (commits ++ commit ∷ []);
           since = g'.since;
-          known = All-push (λ (x : Row). IsOkReply x.reply → IsKnownBy m (length (commits ++ commit ∷ [])) x) rows row (old_known m (length (commits ++ commit ∷ [])) (omega (arith, length-append commits (commit ∷ []))))
+          known = All-push (λ (x : Row). IsOkOfStore x.reply → IsKnownBy m (length (commits ++ commit ∷ [])) x) rows row (old_known m (length (commits ++ commit ∷ [])) (omega (arith, length-append commits (commit ∷ []))))
               (λ ok known_by. absurd (let f : m < row.note.clock = late ok in let x : ⊥ = omega arith in x));
         }
       ]

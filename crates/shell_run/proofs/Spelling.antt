@@ -1,10 +1,11 @@
 -- A line has one list of tokens.
-use Rattle.std.proofs.Common.{◌≡◌, inl, inr, ℕ, ◌==◌, ◌<◌, ◌+◌, ◌≤◌, length, length-append, Bool, true, false, cond, List, [], ◌∷◌, ◌++◌, append-nil, append_assoc, arith, refl, sym, ◌∙◌, ap, subst}
+use Rattle.std.proofs.Common.{◌≡◌, ◌↔◌, inl, inr, ℕ, ◌==◌, ◌<◌, length, length-append, Bool, true, false, cond, List, [], ◌∷◌, ◌++◌, append-nil, append_assoc, arith, refl, sym, ◌∙◌, ap, subst}
 use Rattle.std.specs.List.{All}
 use Rattle.std.proofs.lemmas.Bool.{eqb-true, eqb-false}
+use Rattle.std.proofs.lemmas.List.{append_cancel_left}
 use Rattle.std.proofs.lemmas.List.Elements.{All-head, All-tail, All-nil, All-append}
 use Rattle.shell_run.proofs.Front.{same_front}
-use Rattle.shell_run.specs.Tokens.{IsBlank, IsWordByte, IsQuote, IsNoQuote, BeginsWithout, IsFirst, Token, word, quote, doubled, spelling, IsToken, EndsToken, IsSpelled}
+use Rattle.shell_run.specs.Tokens.{IsBlank, IsWordByte, IsQuote, IsNoQuote, BeginsWithout, IsFirst, Fronts, Token, word, quote, doubled, spelling, IsToken, EndsToken, IsSpelled}
 
 -- what begins with no blank, and is not empty
 abbrev pub BeginsToken : List ℕ → Type 0
@@ -169,34 +170,6 @@ pub quote_open : (text q rest : List ℕ) → text ≡ doubled q ++ rest → All
 quote_open text q rest e free (word w) r h = no_word_first text w r h.0 h.1
 quote_open text q rest e free (quote t) r h = unclosed q rest t r free (no_quote_behind r h.2) (sym e ∙ quote_inside text t r h.1)
 
-begins_token : (x : List ℕ) → 0 < length x → BeginsWithout IsBlank x → BeginsToken x
-begins_token [] some m = omega arith
-begins_token (b ∷ x) some m = m
-
-no_end_here : (x : List ℕ) → BeginsToken x → EndsToken x → ⊥
-no_end_here [] s m = s
-no_end_here (b ∷ x) s m = s m
-
-pub word_first : (text w rest : List ℕ) → 0 < length text → BeginsWithout IsBlank text → text ≡ w ++ rest → All IsWordByte w → EndsToken rest → IsFirst text (word w) rest
-word_first text [] rest some m e h n = absurd (no_end_here text (begins_token text some m) (subst EndsToken (sym e) n))
-word_first text (b ∷ w) rest some m e h n = ((omega arith, h), e, n)
-
--- something stands right behind the word
-pub word_fault : (text w rest : List ℕ) → BeginsWithout IsQuote text → text ≡ w ++ rest → All IsWordByte w → BeginsWithout IsWordByte rest → (EndsToken rest → ⊥) → (t : Token) (r : List ℕ) → IsFirst text t r → ⊥
-word_fault text w rest m e h n bad (word v) r k =
-    let same : (w ≡ v) × (rest ≡ r) = one_word w v rest r h k.0.1 n (no_word_behind r k.2) (sym e ∙ k.1) in
-    bad (subst EndsToken (sym same.1) k.2)
-word_fault text w rest m e h n bad (quote t) r k = closes text ((doubled t ++ 39 ∷ []) ++ r) m k.1
-
--- whatever tokens the line has, they begin with those that are read, and the rest has the others
-pub record Read (line : List ℕ) (ts : List Token) (rest : List ℕ) : Type 0 where
-  pub whole : (us : List Token) → IsSpelled rest us → IsSpelled line (ts ++ us)
-  pub only : (us : List Token) → IsSpelled line us → (vs : List Token) × (us ≡ ts ++ vs) × IsSpelled rest vs
-
-add_blanks : (gap rest : List ℕ) (us : List Token) → All IsBlank gap → IsSpelled rest us → IsSpelled (gap ++ rest) us
-add_blanks gap rest [] h k = All-append IsBlank gap rest h k
-add_blanks gap rest (u ∷ us) h k = (gap ++ k.0, k.1, All-append IsBlank gap k.0 h k.2, k.3, ap (λ z. gap ++ z) k.4 ∙ sym (append_assoc gap k.0 (spelling u ++ k.1)), k.5, k.6)
-
 less_blank : (b : ℕ) (rest : List ℕ) (us : List Token) → IsBlank b → IsSpelled (b ∷ rest) us → IsSpelled rest us
 less_blank b rest [] h k = All-tail IsBlank b rest k
 less_blank b rest (u ∷ us) h k = by k.0 k.2 k.4
@@ -209,12 +182,6 @@ less_blanks : (gap rest : List ℕ) (us : List Token) → All IsBlank gap → Is
 less_blanks [] rest us h k = k
 less_blanks (b ∷ gap) rest us h k = less_blanks gap rest us (All-tail IsBlank b gap h) (less_blank b (gap ++ rest) us (All-head IsBlank b gap h) k)
 
-pub read_none : (line gap rest : List ℕ) → All IsBlank gap → line ≡ gap ++ rest → Read line [] rest
-read_none line gap rest h e = record {
-  whole = λ us k. subst (λ z. IsSpelled z us) (sym e) (add_blanks gap rest us h k);
-  only = λ us k. (us, refl, less_blanks gap rest us h (subst (λ z. IsSpelled z us) e k));
-}
-
 -- the token in front of a text that begins with one
 front_of : (rest : List ℕ) (u : Token) (us : List Token) → BeginsWithout IsBlank rest → IsSpelled rest (u ∷ us) → (r : List ℕ) × IsFirst rest u r × IsSpelled r us
 front_of rest u us m k = by k.0 k.2 k.4
@@ -223,41 +190,96 @@ front_of rest u us m k = by k.0 k.2 k.4
     by [] g e = (k.1, (k.3, e, k.5), k.6)
     by (c ∷ gap) g e = absurd (subst (BeginsWithout IsBlank) e m (All-head IsBlank c gap g))
 
-no_blank_front : (rest : List ℕ) → 0 < length rest → BeginsWithout IsBlank rest → All IsBlank rest → ⊥
-no_blank_front [] some m h = omega arith
-no_blank_front (b ∷ rest) some m h = m (All-head IsBlank b rest h)
+-- the token in front of a text that blanks stand before
+pub first_of : (text gap inner : List ℕ) → All IsBlank gap → text ≡ gap ++ inner → BeginsWithout IsBlank inner → (t : Token) (ts : List Token) → IsSpelled text (t ∷ ts) → (rest : List ℕ) × IsFirst inner t rest × IsSpelled rest ts
+first_of text gap inner blank e m t ts k = front_of inner t ts m (less_blanks gap inner (t ∷ ts) blank (subst (λ z. IsSpelled z (t ∷ ts)) e k))
 
-pub read_more : (line : List ℕ) (ts : List Token) (rest : List ℕ) (t : Token) (more gap next : List ℕ) → Read line ts rest → 0 < length rest → BeginsWithout IsBlank rest → IsFirst rest t more → All IsBlank gap → more ≡ gap ++ next → Read line (ts ++ t ∷ []) next
-read_more line ts rest t more gap next h some m first blank e = record {
-  whole = λ us k.
-      let behind : IsSpelled more us = subst (λ z. IsSpelled z us) (sym e) (add_blanks gap next us blank k) in
-      let here : IsSpelled rest (t ∷ us) = ([], more, All-nil IsBlank, first.0, first.1, first.2, behind) in
-      subst (IsSpelled line) (sym (append_assoc ts (t ∷ []) us)) (h.whole (t ∷ us) here);
-  only = λ us k. let o = h.only us k in by us o.0 o.1 o.2;
+some_bytes : (t : Token) → IsToken t → 0 < length (spelling t)
+some_bytes (word w) h = h.0
+some_bytes (quote t) h = omega arith
+
+pub front_token : (text gap inner : List ℕ) (t : Token) (rest : List ℕ) → All IsBlank gap → text ≡ gap ++ inner → BeginsWithout IsBlank inner → IsFirst inner t rest → Fronts text (t ∷ []) rest
+front_token text gap inner t rest blank e m first = record {
+  goes_on = λ ts k. (gap, rest, blank, first.0, whole, first.2, k);
+  came_so = λ us k. by us k;
+  takes = omega (arith, ap length whole, length-append gap (spelling t ++ rest), length-append (spelling t) rest, some_bytes t first.0);
 }
   where
-    by : (us vs : List Token) → us ≡ ts ++ vs → IsSpelled rest vs → (ws : List Token) × (us ≡ (ts ++ t ∷ []) ++ ws) × IsSpelled next ws
-    by us [] f k = absurd (no_blank_front rest some m k)
-    by us (v ∷ ws) f k =
-        let front = front_of rest v ws m k in
-        let same : (v ≡ t) × (front.0 ≡ more) = one_token v t front.0 more front.1.0 first.0 front.1.2 first.2 (sym front.1.1 ∙ first.1) in
-        (ws, f ∙ ap (λ z. ts ++ z ∷ ws) same.0 ∙ sym (append_assoc ts (t ∷ []) ws), less_blanks gap next ws blank (subst (λ z. IsSpelled z ws) (same.1 ∙ e) front.2))
+    whole : text ≡ gap ++ (spelling t ++ rest)
+    whole = e ∙ ap (λ z. gap ++ z) first.1
 
-pub read_all : (line : List ℕ) (ts : List Token) (rest : List ℕ) → Read line ts rest → length rest ≡ 0 → IsSpelled line ts
-read_all line ts [] h e = subst (IsSpelled line) (append-nil ts) (h.whole [] (All-nil IsBlank))
-read_all line ts (b ∷ rest) h e = absurd (omega arith)
+    by : (us : List Token) → IsSpelled text us → (ts : List Token) × (us ≡ t ∷ ts) × IsSpelled rest ts
+    by [] k = absurd (no_blank_in gap (spelling t ++ rest) (begins t rest first.0) (subst (All IsBlank) whole k))
+    by (u ∷ us) k =
+        let found = first_of text gap inner blank e m u us k in
+        let same : (u ≡ t) × (found.0 ≡ rest) = one_token u t found.0 rest found.1.0 first.0 found.1.2 first.2 (sym found.1.1 ∙ first.1) in
+        (us, ap (λ z. z ∷ us) same.0, subst (λ z. IsSpelled z us) same.1 found.2)
 
-pub read_fault : (line : List ℕ) (ts : List Token) (rest : List ℕ) → Read line ts rest → 0 < length rest → BeginsWithout IsBlank rest → ((t : Token) (r : List ℕ) → IsFirst rest t r → ⊥) → (us : List Token) → IsSpelled line us → ⊥
-read_fault line ts rest h some m bad us k = let o = h.only us k in by o.0 o.2
-  where
-    by : (vs : List Token) → IsSpelled rest vs → ⊥
-    by [] k = no_blank_front rest some m k
-    by (v ∷ vs) k = let front = front_of rest v vs m k in bad v front.0 front.1
+pub front_both : (a b c : List ℕ) (f g : List Token) → Fronts a f b → Fronts b g c → Fronts a (f ++ g) c
+front_both a b c f g p q = record {
+  goes_on = λ ts k. subst (IsSpelled a) (sym (append_assoc f g ts)) (p.goes_on (g ++ ts) (q.goes_on ts k));
+  came_so = λ us k.
+      let o = p.came_so us k in
+      let i = q.came_so o.0 o.2 in
+      (i.0, o.1 ∙ ap (λ z. f ++ z) i.1 ∙ sym (append_assoc f g i.0), i.2);
+  takes = omega (arith, length-append f g, p.takes, q.takes);
+}
 
--- more tokens are there than so many
-pub read_too_many : (line : List ℕ) (ts : List Token) (rest : List ℕ) (most : ℕ) → Read line ts rest → 0 < length rest → BeginsWithout IsBlank rest → most ≤ length ts → (us : List Token) → length us ≤ most → IsSpelled line us → ⊥
-read_too_many line ts rest most h some m many us few k = let o = h.only us k in by o.0 o.1 o.2
-  where
-    by : (vs : List Token) → us ≡ ts ++ vs → IsSpelled rest vs → ⊥
-    by [] e k = no_blank_front rest some m k
-    by (v ∷ vs) e k = let f : length us ≡ length ts + length (v ∷ vs) = ap length e ∙ length-append ts (v ∷ vs) in omega arith
+-- what stands behind the front
+pub front_rest : (text : List ℕ) (front : List Token) (rest : List ℕ) (ts : List Token) → Fronts text front rest → IsSpelled text (front ++ ts) → IsSpelled rest ts
+front_rest text front rest ts h k =
+    let o = h.came_so (front ++ ts) k in
+    subst (IsSpelled rest) (sym (append_cancel_left front ts o.0 o.1)) o.2
+
+-- nothing but the front stands there
+pub front_whole : (text : List ℕ) (front : List Token) (rest : List ℕ) → Fronts text front rest → All IsBlank rest → IsSpelled text front
+front_whole text front rest h blank = subst (IsSpelled text) (append-nil front) (h.goes_on [] blank)
+
+-- the first token, and the others behind it
+pub behind_one : (text : List ℕ) (t : Token) (rest : List ℕ) (u : Token) (us : List Token) → Fronts text (t ∷ []) rest → IsSpelled text (u ∷ us) → (u ≡ t) × IsSpelled rest us
+behind_one text t rest u us h k =
+    let o = h.came_so (u ∷ us) k in
+    let all : u ∷ us ≡ t ∷ o.0 = o.1 in
+    let same : o.0 ≡ us = cc in
+    (cc, subst (IsSpelled rest) same o.2)
+
+-- more than one token stands there
+pub front_fault : (text : List ℕ) (t : Token) (rest : List ℕ) → Fronts text (t ∷ []) rest → (All IsBlank rest → ⊥) → (u : Token) → IsSpelled text (u ∷ []) → ⊥
+front_fault text t rest h some u k = some (behind_one text t rest u [] h k).1
+
+word_of : (v w : List ℕ) → word w ≡ word v → v ≡ w
+word_of v w e = cc
+
+-- another word stands in front
+pub other_word : (text v w rest : List ℕ) (ts : List Token) → Fronts text (word v ∷ []) rest → (v ≡ w → ⊥) → IsSpelled text (word w ∷ ts) → ⊥
+other_word text v w rest ts h differ k = differ (word_of v w (behind_one text (word v) rest (word w) ts h k).0)
+
+pub blank_text : (text gap inner : List ℕ) → All IsBlank gap → text ≡ gap ++ inner → BeginsWithout IsBlank inner → (length inner ≡ 0) ↔ All IsBlank text
+blank_text text gap [] blank e m = (λ z. subst (All IsBlank) (sym e) (All-append IsBlank gap [] blank (All-nil IsBlank)), λ h. refl)
+blank_text text gap (b ∷ inner) blank e m = (λ z. absurd (omega arith), λ h. absurd (no_blank_in gap (b ∷ inner) m (subst (All IsBlank) e h)))
+
+-- the word in front, or none
+pub word_first : (text w rest : List ℕ) → 0 < length w → text ≡ w ++ rest → All IsWordByte w → EndsToken rest → IsFirst text (word w) rest
+word_first text w rest some e h n = ((some, h), e, n)
+
+pub word_fault : (text w rest : List ℕ) → text ≡ w ++ rest → All IsWordByte w → BeginsWithout IsWordByte rest → (0 < length w → EndsToken rest → ⊥) → (v r : List ℕ) → IsFirst text (word v) r → ⊥
+word_fault text w rest e h n bad v r k =
+    let same : (w ≡ v) × (rest ≡ r) = one_word w v rest r h k.0.1 n (no_word_behind r k.2) (sym e ∙ k.1) in
+    let lengths : length w ≡ length v = ap length same.0 in
+    bad (omega (arith, k.0.0)) (subst EndsToken (sym same.1) k.2)
+
+-- no word stands in front of a text that blanks stand before
+pub no_word : (text gap inner w rest : List ℕ) → All IsBlank gap → text ≡ gap ++ inner → BeginsWithout IsBlank inner → inner ≡ w ++ rest → All IsWordByte w → BeginsWithout IsWordByte rest → (0 < length w → EndsToken rest → ⊥) → (v : List ℕ) (ts : List Token) → IsSpelled text (word v ∷ ts) → ⊥
+no_word text gap inner w rest blank e m f h n bad v ts k =
+    let found = first_of text gap inner blank e m (word v) ts k in
+    word_fault inner w rest f h n bad v found.0 found.1
+
+-- nor a quoted text
+pub no_quoted : (text gap inner : List ℕ) → All IsBlank gap → text ≡ gap ++ inner → BeginsWithout IsBlank inner → ((t r : List ℕ) → IsFirst inner (quote t) r → ⊥) → (t : List ℕ) (ts : List Token) → IsSpelled text (quote t ∷ ts) → ⊥
+no_quoted text gap inner blank e m bad t ts k =
+    let found = first_of text gap inner blank e m (quote t) ts k in
+    bad t found.0 found.1
+
+-- a text with no quote in front begins with no quoted text
+pub no_quote_first : (text t r : List ℕ) → BeginsWithout IsQuote text → IsFirst text (quote t) r → ⊥
+no_quote_first text t r m k = closes text ((doubled t ++ 39 ∷ []) ++ r) m k.1

@@ -6,7 +6,7 @@ use Rattle.disk_trait.specs.Files.{Files}
 use Rattle.disk_trait.specs.Device.{Past}
 use Rattle.shell_run.specs.History.{History, Begins}
 use Rattle.shell_run.specs.Entries.{OpensTo}
-use Rattle.shell_run.specs.Run.{Row, Counts, IsOkReply}
+use Rattle.shell_run.specs.Run.{Row, Counts, IsOkOfStore}
 
 -- a device from which a run may start: what a read gives opens, and so does all that a crash may leave now
 pub record StartedFrom {D : Type 0} (seen : D → Files) (clock : D → ℕ) (image : D → Past) (d : D) : Type 0 where
@@ -23,13 +23,13 @@ pub record Reaches (files : Files) (m : ℕ) (first commits : History) (rows : L
   pub opens : OpensTo files kept
   pub begins : Begins kept commits
   pub since : Begins first kept
-  pub known : All (λ (r : Row). IsOkReply r.reply → IsKnownBy m (length kept) r) rows
+  pub known : All (λ (r : Row). IsOkOfStore r.reply → IsKnownBy m (length kept) r) rows
 
 -- The images of a device over a run: before c0 those of its entry, and from then on beginnings of the history.
 pub record CrashSafe {D : Type 0} (clock : D → ℕ) (image : D → Past) (old new : D) (first commits : History) (rows : List Row) : Type 0 where
   pub c0 : ℕ
   pub began : (clock old ≤ c0) × (c0 ≤ clock new)
-  pub clocks : All (λ (r : Row). IsOkReply r.reply → (c0 ≤ r.note.clock) × (r.note.clock ≤ clock new)) rows
+  pub clocks : All (λ (r : Row). IsOkOfStore r.reply → (c0 ≤ r.note.clock) × (r.note.clock ≤ clock new)) rows
   pub early : (m : ℕ) (c : Files) → clock old ≤ m → m < c0 → image new m c → image old (clock old) c
   pub late : (m : ℕ) (c : Files) → c0 ≤ m → m ≤ clock new → image new m c → Reaches c m first commits rows
 

@@ -1,9 +1,7 @@
 -- The grammar of a script's lines.
 use Rattle.std.specs.Prelude.{◌≡◌, ◌⊎◌, ◌↔◌, ℕ, ◌+◌, ◌<◌, ◌≤◌, length, Bool, true, false, List, [], ◌∷◌, ◌++◌, codes}
-use Rattle.std.specs.List.{All}
+use Rattle.std.specs.List.{All, flat_map}
 use Rattle.std.specs.Str.{IsUtf8}
-use Rattle.ts_base.specs.Vectors.{Vector}
-use Rattle.ts_vector.specs.Plain.{IsPlainText, IsPlainLexeme}
 use Rattle.shell_run.specs.Tokens.{Token, word, quote, IsBlank, EndsToken, IsSpelled}
 
 abbrev pub IsSession : ℕ → Type 0
@@ -13,21 +11,71 @@ IsSession s = (1 ≤ s) × (s ≤ 8)
 abbrev pub label : ℕ → List ℕ
 label s = 64 ∷ (48 + s) ∷ []
 
--- What a line asks of the store. Later kinds of statement are more cases.
+-- a part of an expression: the text of a vector, which may be stripped
+pub record Part : Type 0 where
+  pub stripped : Bool
+  pub text : List ℕ
+
+-- an expression: its parts are joined from the left
+pub record Expr : Type 0 where
+  pub first : Part
+  pub others : List Part
+
+abbrev pub strip_tokens : Bool → List Token
+strip_tokens true = word (codes "strip") ∷ []
+strip_tokens false = []
+
+abbrev pub part_tokens : Part → List Token
+part_tokens p = strip_tokens p.stripped ++ (word (codes "vector") ∷ quote p.text ∷ [])
+
+-- each part but the first stands behind `||`
+abbrev pub joined_tokens : Part → List Token
+joined_tokens p = word (codes "||") ∷ part_tokens p
+
+abbrev pub expr_tokens : Expr → List Token
+expr_tokens e = part_tokens e.first ++ flat_map joined_tokens e.others
+
+-- What a line asks. Later kinds of statement are more cases.
 pub data Ask : Type 0 where
-  insert : Vector → Ask
+  insert : Expr → Ask
   search : List ℕ → Ask
+  show : Expr → Ask
+  query : List ℕ → Ask
   nothing : Ask
 
--- what the tokens behind the label ask
-abbrev pub IsAsked : List Token → Ask → Type 0
-IsAsked tokens (insert v) = (text : List ℕ) × IsPlainText text v × (tokens ≡ word (codes "insert") ∷ word (codes "vector") ∷ quote text ∷ [])
-IsAsked tokens (search lexeme) = IsPlainLexeme lexeme × (tokens ≡ word (codes "search") ∷ quote lexeme ∷ [])
-IsAsked tokens nothing = ⊥
+-- the tokens of a statement
+abbrev pub statement_tokens : ℕ → Ask → List Token
+statement_tokens s (insert e) = word (label s) ∷ word (codes "insert") ∷ expr_tokens e
+statement_tokens s (search text) = word (label s) ∷ word (codes "search") ∷ quote text ∷ []
+statement_tokens s (show e) = word (codes "show") ∷ expr_tokens e
+statement_tokens s (query text) = word (codes "ask") ∷ quote text ∷ []
+statement_tokens s nothing = []
 
--- a text whose first token is the label of a session, and what it asks
-abbrev pub IsAskedBy : List ℕ → ℕ → Ask → Type 0
-IsAskedBy line s ask = IsSession s × IsUtf8 line × ((tokens : List Token) × IsSpelled line (word (label s) ∷ tokens) × IsAsked tokens ask)
+-- a statement of the store has a session, and another has none
+abbrev pub HasSession : ℕ → Ask → Type 0
+HasSession s (insert e) = IsSession s
+HasSession s (search text) = IsSession s
+HasSession s (show e) = s ≡ 0
+HasSession s (query text) = s ≡ 0
+HasSession s nothing = ⊥
+
+-- what stands behind a session's label
+abbrev pub IsAskedOfStore : List ℕ → Ask → Type 0
+IsAskedOfStore text (insert e) = IsSpelled text (word (codes "insert") ∷ expr_tokens e)
+IsAskedOfStore text (search t) = IsSpelled text (word (codes "search") ∷ quote t ∷ [])
+IsAskedOfStore text ask = ⊥
+
+-- what stands in a line with no label
+abbrev pub IsAskedAlone : List ℕ → Ask → Type 0
+IsAskedAlone text (show e) = IsSpelled text (word (codes "show") ∷ expr_tokens e)
+IsAskedAlone text (query t) = IsSpelled text (word (codes "ask") ∷ quote t ∷ [])
+IsAskedAlone text ask = ⊥
+
+-- a text whose tokens are those of a statement
+pub record IsAskedBy (line : List ℕ) (s : ℕ) (ask : Ask) : Type 0 where
+  pub session : HasSession s ask
+  pub utf8 : IsUtf8 line
+  pub spelled : IsSpelled line (statement_tokens s ask)
 
 -- empty, or a comment
 abbrev pub IsSkipped : List ℕ → Type 0

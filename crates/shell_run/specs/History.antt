@@ -1,10 +1,11 @@
 -- Documents, commits and what a search finds.
-use Rattle.std.specs.Prelude.{◌≡◌, ◌≢◌, ◌⊎◌, ℕ, ◌+◌, ◌<◌, Bool, not, if◌then◌else◌, nat_lt, nat_eq, ◌==◌, List, [], ◌∷◌, ◌++◌, map, length, take, sum_by}
+use Rattle.std.specs.Prelude.{◌≡◌, ◌≢◌, ◌⊎◌, ℕ, ◌+◌, ◌<◌, Bool, not, if◌then◌else◌, nat_lt, ◌==◌, List, [], ◌∷◌, ◌++◌, map, length, take, sum_by}
 use Rattle.std.specs.List.{flat_map, filter, All, AllPairs, Contains, list_any, slice_get}
-use Rattle.std.specs.Cmp.Lexicographic.{pointwise}
 use Rattle.std.specs.Prelude.{Some}
-use Rattle.ts_base.specs.Vectors.{Entry, Vector}
+use Rattle.ts_base.specs.Vectors.{Vector}
 use Rattle.ts_base.specs.Bytes.{vector_bytes}
+use Rattle.ts_query.specs.Queries.{Query}
+use Rattle.ts_match.specs.Meaning.{Holds}
 
 -- where a document lies, and its number
 pub record Name : Type 0 where
@@ -49,12 +50,10 @@ by_serial (d ∷ ds) = placed d (by_serial ds)
 abbrev pub docs : History → List Document
 docs commits = by_serial (filter (λ (d : Document). not (has_serial d.name.serial (deletes commits))) (inserts commits))
 
--- a vector has a lexeme
-abbrev pub has_lexeme : List ℕ → Vector → Bool
-has_lexeme lexeme v = list_any (λ (e : Entry). pointwise nat_eq e.lexeme lexeme) v
-
-abbrev pub found : List Document → List ℕ → List Name
-found ds lexeme = map (λ (d : Document). d.name) (filter (λ (d : Document). has_lexeme lexeme d.vector) ds)
+-- the names of the documents that satisfy the query, in their order
+abbrev pub IsFound : Query → List Document → List Name → Type 0
+IsFound q [] names = names ≡ []
+IsFound q (d ∷ ds) names = (Holds q d.vector × ((rest : List Name) × (names ≡ d.name ∷ rest) × IsFound q ds rest)) ⊎ (¬ Holds q d.vector × IsFound q ds names)
 
 -- the room that a document of this vector takes on its page
 abbrev pub room : Vector → ℕ

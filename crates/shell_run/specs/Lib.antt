@@ -2,6 +2,9 @@ pub mod Reading
 pub mod Grammar
 pub mod Views
 pub mod History
+pub mod Replies
+pub mod Values
+pub mod Refusing
 pub mod Run
 pub mod Script
 pub mod Answers

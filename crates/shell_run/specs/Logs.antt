@@ -8,8 +8,8 @@ use Rattle.wal.specs.Waiting.{end_of, down_of}
 use Rattle.wal.specs.declared.log.Wal.{Wal}
 use Rattle.wal.specs.declared.error.WalError.{WalError}
 use Rattle.wal.specs.declared.error.WalError.TheVariants.{DiskFault, LogFull, NotAStore, Down, OutOfMemory}
-use Rattle.shell_run.specs.declared.store.Refusal.{Refusal}
-use Rattle.shell_run.specs.declared.store.Refusal.TheVariants as refusals
+use Rattle.shell_run.specs.declared.replies.Refusal.{Refusal}
+use Rattle.shell_run.specs.declared.replies.Refusal.TheVariants as refusals
 
 -- a batch was put into the log, or was begun, or the device was not called
 pub record Puts {D : Type 0} (tells : Type 0) (seen : D → Files) (clock : D → ℕ) (image : D → Past) (batch : List ℕ) (old new : Wal) (disk disk' : D) : Type 0 where

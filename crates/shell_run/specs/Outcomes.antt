@@ -4,14 +4,14 @@ use Rattle.std.specs.Prelude.{Option}
 use Rattle.std.specs.List.{list_any}
 use Rattle.std.specs.Str.Lines.{lines}
 use Rattle.std.specs.Io.KnownBytes.{Appends}
-use Rattle.shell_run.specs.Run.{Row, Reply, stored, lists as finds, refused}
+use Rattle.shell_run.specs.Run.{Row}
+use Rattle.shell_run.specs.Replies.{Reply, refused}
 use Rattle.shell_run.specs.Script.{AreRows, printed_rows}
 use Rattle.shell_run.specs.Printing.{Puts}
 
 abbrev pub is_refusal : Reply → Bool
 is_refusal (refused why) = true
-is_refusal (stored name) = false
-is_refusal (finds names) = false
+is_refusal reply = false
 
 abbrev pub some_refused : List Row → Bool
 some_refused rows = list_any (λ (r : Row). is_refusal r.reply) rows

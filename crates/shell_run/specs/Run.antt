@@ -3,23 +3,14 @@ use Rattle.std.specs.Prelude.{◌≡◌, ◌⊎◌, ℕ, ◌+◌, ◌-◌, ◌^�
 use Rattle.std.specs.Prelude.{Option, Some, None, IfSome}
 use Rattle.std.specs.List.{All, Any, slice_get}
 use Rattle.ts_base.specs.Vectors.{Vector}
-use Rattle.shell_run.specs.Grammar.{Ask, insert, search, nothing}
-use Rattle.shell_run.specs.History.{Name, Document, Commit, History, insertion, docs, found, IsFull, Begins, IsLawful}
+use Rattle.ts_query.specs.Queries.{Query}
+use Rattle.ts_query.specs.Refusals.{IsReadAs}
+use Rattle.shell_run.specs.Grammar.{Ask, insert, search, show, query, nothing}
+use Rattle.shell_run.specs.History.{Name, Document, Commit, History, insertion, docs, IsFound, IsFull, Begins, IsLawful}
 use Rattle.shell_run.specs.Entries.{IsLogFull}
-
--- The refusals: 1, 11, 12, 14 with the device's count just after the fault, 15 and 17.
-pub data Refusal : Type 0 where
-  no_statement : ℕ → Refusal
-  store_full : Refusal
-  log_full : Refusal
-  down : ℕ → Refusal
-  device : Refusal
-  memory : Refusal
-
-pub data Reply : Type 0 where
-  stored : Name → Reply
-  lists : List Name → Reply
-  refused : Refusal → Reply
+pub use Rattle.shell_run.specs.Replies.{Refusal, no_statement, bad_vector, bad_query, long_lexeme, large_vector, large_query, store_full, log_full, down, device, memory}
+pub use Rattle.shell_run.specs.Replies.{Reply, stored, lists, shows_vector, shows_query, refused}
+use Rattle.shell_run.specs.Values.{IsValueOf, ExprFails, QueryFails, IsRefusedBy, IsShown, IsQueried}
 
 -- Where a statement stands: the step of the script, where a block is one step; the session; and its place there.
 pub record Place : Type 0 where
@@ -73,44 +64,54 @@ MetFault counts note = (0 < note.faults) ⊎ (2 ^ 64 - 1 ≤ counts.faults_after
 abbrev pub IsDownSince : Counts → ℕ → Type 0
 IsDownSince counts count = (counts.faults < count) × (count ≤ counts.faults_after) × (counts.writes < counts.writes_after)
 
-abbrev pub IsInsertAnswered : Counts → History → Vector → Reply → Note → Type 0
-IsInsertAnswered counts commits v (stored name) note = HasOwn commits note (insertion (record { name = name; vector = v })) × (IsFull (seen_by commits note) v → ⊥) × (IsLogFull (seen_by commits note) v → ⊥)
-IsInsertAnswered counts commits v (refused store_full) note = (note.commit ≡ None) × IsFull (seen_by commits note) v
-IsInsertAnswered counts commits v (refused log_full) note = (note.commit ≡ None) × (IsFull (seen_by commits note) v → ⊥) × IsLogFull (seen_by commits note) v
-IsInsertAnswered counts commits v (refused (down count)) note = MayHaveOwn commits note v × IsDownSince counts count
-IsInsertAnswered counts commits v (refused device) note = MayHaveOwn commits note v × MetFault counts note
-IsInsertAnswered counts commits v (refused memory) note = note.commit ≡ None
-IsInsertAnswered counts commits v reply note = ⊥
+-- what an insertion of the vector is answered
+abbrev pub IsInserted : Counts → History → Vector → Reply → Note → Type 0
+IsInserted counts commits v (stored name) note = HasOwn commits note (insertion (record { name = name; vector = v })) × (IsFull (seen_by commits note) v → ⊥) × (IsLogFull (seen_by commits note) v → ⊥)
+IsInserted counts commits v (refused store_full) note = (note.commit ≡ None) × IsFull (seen_by commits note) v
+IsInserted counts commits v (refused log_full) note = (note.commit ≡ None) × (IsFull (seen_by commits note) v → ⊥) × IsLogFull (seen_by commits note) v
+IsInserted counts commits v (refused (down count)) note = MayHaveOwn commits note v × IsDownSince counts count
+IsInserted counts commits v (refused device) note = MayHaveOwn commits note v × MetFault counts note
+IsInserted counts commits v (refused memory) note = note.commit ≡ None
+IsInserted counts commits v reply note = ⊥
 
-abbrev pub IsSearchAnswered : Counts → History → List ℕ → Reply → Note → Type 0
-IsSearchAnswered counts commits lexeme (lists names) note = (note.commit ≡ None) × (names ≡ found (seen_by commits note) lexeme)
-IsSearchAnswered counts commits lexeme (refused (down count)) note = (note.commit ≡ None) × IsDownSince counts count
-IsSearchAnswered counts commits lexeme (refused memory) note = note.commit ≡ None
-IsSearchAnswered counts commits lexeme reply note = ⊥
+-- what a search by the query is answered
+abbrev pub IsSearched : Counts → History → Query → Reply → Note → Type 0
+IsSearched counts commits q (lists names) note = (note.commit ≡ None) × IsFound q (seen_by commits note) names
+IsSearched counts commits q (refused (down count)) note = (note.commit ≡ None) × IsDownSince counts count
+IsSearched counts commits q (refused memory) note = note.commit ≡ None
+IsSearched counts commits q reply note = ⊥
 
 abbrev pub IsLineRefused : Place → Reply → Note → Type 0
 IsLineRefused place (refused (no_statement at)) note = (note.commit ≡ None) × (at ≡ place.step)
 IsLineRefused place reply note = ⊥
 
+-- A statement's texts are refused, or it is answered by what they stand for.
 abbrev pub IsAnswered : Counts → History → Place → Ask → Reply → Note → Type 0
-IsAnswered counts commits place (insert v) reply note = IsInsertAnswered counts commits v reply note
-IsAnswered counts commits place (search lexeme) reply note = IsSearchAnswered counts commits lexeme reply note
+IsAnswered counts commits place (insert e) reply note =
+    (IsRefusedBy (ExprFails e) reply × (note.commit ≡ None))
+    ⊎ ((v : Vector) × IsValueOf e v × IsInserted counts commits v reply note)
+IsAnswered counts commits place (search text) reply note =
+    (IsRefusedBy (QueryFails text) reply × (note.commit ≡ None))
+    ⊎ ((q : Query) × IsReadAs text q × IsSearched counts commits q reply note)
+IsAnswered counts commits place (show e) reply note = IsShown e reply × (note.commit ≡ None)
+IsAnswered counts commits place (query text) reply note = IsQueried text reply × (note.commit ≡ None)
 IsAnswered counts commits place nothing reply note = IsLineRefused place reply note
 
-abbrev pub IsOkReply : Reply → Type 0
-IsOkReply (refused why) = ⊥
-IsOkReply (stored name) = Unit {0}
-IsOkReply (lists names) = Unit {0}
+-- an answer Ok of the store
+abbrev pub IsOkOfStore : Reply → Type 0
+IsOkOfStore (stored name) = Unit {0}
+IsOkOfStore (lists names) = Unit {0}
+IsOkOfStore reply = ⊥
 
 abbrev pub IsDownReply : Reply → Type 0
 IsDownReply (refused (down count)) = Unit {0}
 IsDownReply reply = ⊥
 
--- the statement is one of the store
-abbrev pub AsksStore : Ask → Type 0
-AsksStore (insert v) = Unit {0}
-AsksStore (search lexeme) = Unit {0}
-AsksStore nothing = ⊥
+-- a statement of the store is answered that the store is down, if its texts are not refused before
+abbrev pub FindsDown : Ask → Reply → Type 0
+FindsDown (insert e) reply = IsDownReply reply ⊎ IsRefusedBy (ExprFails e) reply
+FindsDown (search text) reply = IsDownReply reply ⊎ IsRefusedBy (QueryFails text) reply
+FindsDown ask reply = Unit {0}
 
 abbrev pub is_at : ℕ → Option ℕ → Bool
 is_at k None = false
@@ -121,7 +122,7 @@ has_commit k row = is_at k row.note.commit
 
 -- what the one saw, and what it committed where it answered Ok, the other has seen; where a write or a sync failed in the one, the other finds the store down
 abbrev pub IsSeenBy : Row → Row → Type 0
-IsSeenBy a b = (a.note.snapshot ≤ b.note.snapshot) × (IsOkReply a.reply → IfSome a.note.commit (λ p. p < b.note.snapshot)) × (0 < a.note.writes → AsksStore b.ask → IsDownReply b.reply)
+IsSeenBy a b = (a.note.snapshot ≤ b.note.snapshot) × (IsOkOfStore a.reply → IfSome a.note.commit (λ p. p < b.note.snapshot)) × (0 < a.note.writes → FindsDown b.ask b.reply)
 
 -- A note that is within two lengths of the history, at the start and at the end of the run. A statement's own commit comes behind what it saw.
 pub record IsWithin (low high : ℕ) (note : Note) : Type 0 where

@@ -4,7 +4,7 @@ use Rattle.std.specs.Prelude.{Option}
 use Rattle.disk_trait.specs.Files.{Files}
 use Rattle.disk_trait.specs.Device.{Past}
 use Rattle.shell_run.specs.Grammar.{Ask, Asks, IsSkipped, Continues}
-use Rattle.shell_run.specs.Run.{Reply}
+use Rattle.shell_run.specs.Replies.{Reply}
 use Rattle.shell_run.specs.Script.{said}
 use Rattle.shell_run.specs.Printing.{Puts}
 use Rattle.shell_run.specs.Stores.{HasAnswered}

@@ -10,10 +10,13 @@ use Rattle.wal.specs.declared.log.Wal.{Wal}
 use Rattle.ts_base.specs.Vectors.{Vector, IsNormal}
 use Rattle.ts_base.specs.Bytes.{vector_bytes}
 use Rattle.shell_run.specs.Logs.{Puts}
-use Rattle.shell_run.specs.Grammar.{Ask, insert, search, nothing}
-use Rattle.shell_run.specs.History.{Name, name_of, Document, History, insertion, room, found}
+use Rattle.ts_query.specs.Queries.{Query}
+use Rattle.ts_query.specs.Refusals.{IsReadAs}
+use Rattle.shell_run.specs.Grammar.{Ask, insert, search, show, query, nothing}
+use Rattle.shell_run.specs.History.{Name, name_of, Document, History, insertion, room, IsFound}
 use Rattle.shell_run.specs.Entries.{document_bytes}
-use Rattle.shell_run.specs.Run.{Reply, stored, lists, refused, store_full, log_full, down, device, memory, no_statement}
+use Rattle.shell_run.specs.Replies.{Reply, stored, lists, refused, store_full, log_full, down, device, memory, no_statement}
+use Rattle.shell_run.specs.Values.{IsValueOf, ExprFails, QueryFails, IsRefusedBy, IsShown, IsQueried}
 use Rattle.shell_run.specs.declared.store.Store.{Store}
 
 -- the documents of vectors that stand from a place on
@@ -44,11 +47,11 @@ pub record IsNew (wal : Wal) : Type 0 where
   pub ready : IsReady wal
 
 -- the answer to a search, which changes nothing
-abbrev pub IsFoundBy : Store → List ℕ → Reply → Type 0
-IsFoundBy s lexeme (lists names) = ((down_of s.wal) ≡ None) × (names ≡ found (documents_of s) lexeme)
-IsFoundBy s lexeme (refused (down count)) = (down_of s.wal) ≡ Some count
-IsFoundBy s lexeme (refused memory) = (down_of s.wal) ≡ None
-IsFoundBy s lexeme r = ⊥
+abbrev pub IsFoundBy : Store → Query → Reply → Type 0
+IsFoundBy s q (lists names) = ((down_of s.wal) ≡ None) × IsFound q (documents_of s) names
+IsFoundBy s q (refused (down count)) = (down_of s.wal) ≡ Some count
+IsFoundBy s q (refused memory) = (down_of s.wal) ≡ None
+IsFoundBy s q r = ⊥
 
 pub record IsSameStore (old new : Store) : Type 0 where
   pub same : new.documents.items ≡ old.documents.items
@@ -110,12 +113,18 @@ module _ {D : Type 0} (tells : Type 0) (seen : D → Files) (clock : D → ℕ) 
   HasInserted old new disk disk' v (refused memory) = Rests old new disk disk' × ((down_of old.wal) ≡ None)
   HasInserted old new disk disk' v r = ⊥
 
-  abbrev pub HasSearched : Store → Store → D → D → List ℕ → Reply → Type 0
-  HasSearched old new disk disk' lexeme r = Rests old new disk disk' × IsFoundBy old lexeme r
+  abbrev pub HasSearched : Store → Store → D → D → Query → Reply → Type 0
+  HasSearched old new disk disk' q r = Rests old new disk disk' × IsFoundBy old q r
+
+  -- the store was not touched, and the reply is of this kind
+  abbrev pub HasOnlyAnswered : Store → Store → D → D → (Reply → Type 0) → Reply → Type 0
+  HasOnlyAnswered old new disk disk' P r = Rests old new disk disk' × P r
 
   -- what the statement of a line with this number is answered
   abbrev pub HasAnswered : ℕ → Store → Store → D → D → Ask → Reply → Type 0
-  HasAnswered number old new disk disk' (insert v) r = HasInserted old new disk disk' v r
-  HasAnswered number old new disk disk' (search lexeme) r = HasSearched old new disk disk' lexeme r
+  HasAnswered number old new disk disk' (insert e) r = HasOnlyAnswered old new disk disk' (IsRefusedBy (ExprFails e)) r ⊎ ((v : Vector) × IsValueOf e v × HasInserted old new disk disk' v r)
+  HasAnswered number old new disk disk' (search text) r = HasOnlyAnswered old new disk disk' (IsRefusedBy (QueryFails text)) r ⊎ ((q : Query) × IsReadAs text q × HasSearched old new disk disk' q r)
+  HasAnswered number old new disk disk' (show e) r = HasOnlyAnswered old new disk disk' (IsShown e) r
+  HasAnswered number old new disk disk' (query text) r = HasOnlyAnswered old new disk disk' (IsQueried text) r
   HasAnswered number old new disk disk' nothing (refused (no_statement at)) = Rests old new disk disk' × (at ≡ number)
   HasAnswered number old new disk disk' nothing r = ⊥

@@ -1,9 +1,6 @@
 -- A line as words and quoted texts between blanks.
-use Rattle.std.specs.Prelude.{◌≡◌, ◌≢◌, ◌⊎◌, ℕ, ◌<◌, ◌==◌, if◌then◌else◌, List, [], ◌∷◌, ◌++◌, length}
+use Rattle.std.specs.Prelude.{◌≡◌, ◌≢◌, ◌⊎◌, ℕ, ◌+◌, ◌<◌, ◌≤◌, ◌==◌, if◌then◌else◌, List, [], ◌∷◌, ◌++◌, length}
 use Rattle.std.specs.List.{All}
-use Rattle.std.specs.String.{string_bytes}
-use Rattle.shell_run.specs.declared.tokens.Token.{Token as Read}
-use Rattle.shell_run.specs.declared.tokens.Token.TheVariants.{Word, Quote}
 
 -- a space or a tab
 abbrev pub IsBlank : ℕ → Type 0
@@ -55,7 +52,9 @@ IsQuote b = b ≡ 39
 abbrev pub IsNoQuote : ℕ → Type 0
 IsNoQuote b = b ≢ 39
 
--- the token that the program holds
-abbrev pub token : Read → Token
-token (Word w) = word (string_bytes w)
-token (Quote t) = quote (string_bytes t)
+-- The text begins with these tokens, and whatever tokens the rest has stand behind them.
+-- Each token takes a byte at least.
+pub record Fronts (text : List ℕ) (front : List Token) (rest : List ℕ) : Type 0 where
+  pub goes_on : (ts : List Token) → IsSpelled rest ts → IsSpelled text (front ++ ts)
+  pub came_so : (us : List Token) → IsSpelled text us → (ts : List Token) × (us ≡ front ++ ts) × IsSpelled rest ts
+  pub takes : length front + length rest ≤ length text

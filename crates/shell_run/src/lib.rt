@@ -8,13 +8,16 @@ mod line;
 mod opening;
 mod printing;
 mod reading;
+mod replies;
 mod serving;
+mod statement;
 mod store;
 mod tokens;
 mod top;
 mod turns;
+mod values;
 
 pub use gate::{Gate, NoGate};
-pub use laws::one_meaning;
+pub use laws::{one_answer, one_list, one_meaning};
 pub use tokens::one_spelling;
 pub use top::{Outcome, run_shell};

@@ -3,12 +3,13 @@ ghost use Rattle.std.specs.Prelude.{◌≡◌, ℕ, ◌+◌, ◌<◌, ◌≤◌,
 ghost use Rattle.std.specs.Io.KnownBytes.{Appends};
 ghost use Rattle.std.specs.List.{flat_map};
 ghost use Rattle.disk_trait.specs.Device.{Rose};
-ghost use Rattle.shell_run.specs.Answers.{name, reply};
-ghost use Rattle.shell_run.specs.Script.{name_text, said};
+ghost use Rattle.shell_run.specs.Answers.{name, refusal, reply};
+ghost use Rattle.shell_run.specs.Script.{name_text, label_text, behind_space, refusal_text, reply_text, said};
+ghost use Rattle.shell_run.specs.Script.{refusal_words as words_of, refusal_detail as detail_of};
 ghost use Rattle.shell_run.specs.Printing.{Puts};
 ghost use Rattle.shell_run.specs.declared.printing.Halt.TheVariants.{Fault};
 
-use crate::store::{Name, Refusal, Reply};
+use crate::replies::{Name, Refusal, Reply};
 use disk_trait::{Failed, Sink};
 use itoa::Buffer;
 use std::alloc::{AllocError, Global};
@@ -57,11 +58,100 @@ fn push_names(text: &mut Vec<u8>, names: &[Name]) -> Result<(), AllocError>
     Ok(())
 }
 
-fn push_session(text: &mut Vec<u8>, session: u8) -> Result<(), AllocError>
-    ensures { OnOk result (text.new.items ≡ text.old.items ++ codes "@" ++ decimal session) }
+// The label of a session, which another statement has not.
+fn push_label(text: &mut Vec<u8>, session: u8) -> Result<(), AllocError>
+    ensures { OnOk result (text.new.items ≡ text.old.items ++ label_text session) }
 {
+    if session == 0 {
+        return Ok(());
+    }
     text.extend_from_slice(b"@")?;
-    push_number(text, session as u64)
+    push_number(text, u64::from(session))?;
+    text.extend_from_slice(b" ")
+}
+
+// What is shown, behind a space if it isn't empty.
+fn push_shown(text: &mut Vec<u8>, shown: &str) -> Result<(), AllocError>
+    ensures { OnOk result (text.new.items ≡ text.old.items ++ behind_space shown.now) }
+{
+    if shown.is_empty() {
+        return Ok(());
+    }
+    text.extend_from_slice(b" ")?;
+    text.extend_from_slice(shown.as_bytes())
+}
+
+fn refusal_words(why: &Refusal) -> &str
+    ensures { result.now ≡ words_of (refusal why.now) }
+{
+    match why {
+        Refusal::NoStatement(_) => "1 statement",
+        Refusal::BadVector(_) => "2 vector",
+        Refusal::BadQuery(_) => "3 query",
+        Refusal::LongLexeme(_) => "6 lexeme",
+        Refusal::LargeVector(_) => "7 vector size",
+        Refusal::LargeQuery => "8 query size",
+        Refusal::StoreFull => "11 store full",
+        Refusal::LogFull => "12 log full",
+        Refusal::Down(_) => "14 down",
+        Refusal::Device => "15 device",
+        Refusal::Memory => "17 memory",
+    }
+}
+
+fn refusal_detail(why: &Refusal) -> Option<u64>
+    ensures { result ≡ detail_of (refusal why.now) }
+{
+    match why {
+        Refusal::NoStatement(line) => Some(*line),
+        Refusal::BadVector(at) | Refusal::BadQuery(at) | Refusal::LongLexeme(at) => {
+            Some(*at as u64)
+        }
+        Refusal::LargeVector(bytes) => Some(*bytes as u64),
+        Refusal::Down(count) => Some(*count),
+        _ => None,
+    }
+}
+
+// The words of a refusal, and the number that it tells behind them.
+fn push_refusal(text: &mut Vec<u8>, why: &Refusal) -> Result<(), AllocError>
+    ensures { OnOk result (text.new.items ≡ text.old.items ++ refusal_text (refusal why.now)) }
+{
+    text.extend_from_slice(refusal_words(why).as_bytes())?;
+    match refusal_detail(why) {
+        Some(n) => {
+            text.extend_from_slice(b" ")?;
+            push_number(text, n)
+        }
+        None => Ok(()),
+    }
+}
+
+fn push_reply(text: &mut Vec<u8>, answer: &Reply) -> Result<(), AllocError>
+    ensures { OnOk result (text.new.items ≡ text.old.items ++ reply_text (reply answer.now)) }
+{
+    match answer {
+        Reply::Stored(name) => {
+            text.extend_from_slice(b"ok ")?;
+            push_name(text, name)
+        }
+        Reply::Lists(names) => {
+            text.extend_from_slice(b"found")?;
+            push_names(text, names.as_slice())
+        }
+        Reply::Vector(shown) => {
+            text.extend_from_slice(b"vector")?;
+            push_shown(text, shown.as_str())
+        }
+        Reply::Query(shown) => {
+            text.extend_from_slice(b"query")?;
+            push_shown(text, shown.as_str())
+        }
+        Reply::Refused(why) => {
+            text.extend_from_slice(b"error ")?;
+            push_refusal(text, why)
+        }
+    }
 }
 
 /// The line that a reply prints.
@@ -69,47 +159,9 @@ pub fn text_of(alloc: Global, session: u8, answer: &Reply) -> Result<Vec<u8>, Al
     ensures { IfOk result (λ text. text.items ≡ said session (reply answer.now)) }
 {
     let mut text = Vec::new(alloc);
-    match answer {
-        Reply::Stored(name) => {
-            push_session(&mut text, session)?;
-            text.extend_from_slice(b" ok ")?;
-            push_name(&mut text, name)?;
-            text.extend_from_slice(b"\n")?;
-        }
-        Reply::Lists(names) => {
-            push_session(&mut text, session)?;
-            text.extend_from_slice(b" found")?;
-            push_names(&mut text, names.as_slice())?;
-            text.extend_from_slice(b"\n")?;
-        }
-        Reply::Refused(Refusal::NoStatement(number)) => {
-            text.extend_from_slice(b"error 1 statement ")?;
-            push_number(&mut text, *number)?;
-            text.extend_from_slice(b"\n")?;
-        }
-        Reply::Refused(Refusal::StoreFull) => {
-            push_session(&mut text, session)?;
-            text.extend_from_slice(b" error 11 store full\n")?;
-        }
-        Reply::Refused(Refusal::LogFull) => {
-            push_session(&mut text, session)?;
-            text.extend_from_slice(b" error 12 log full\n")?;
-        }
-        Reply::Refused(Refusal::Down(count)) => {
-            push_session(&mut text, session)?;
-            text.extend_from_slice(b" error 14 down ")?;
-            push_number(&mut text, *count)?;
-            text.extend_from_slice(b"\n")?;
-        }
-        Reply::Refused(Refusal::Device) => {
-            push_session(&mut text, session)?;
-            text.extend_from_slice(b" error 15 device\n")?;
-        }
-        Reply::Refused(Refusal::Memory) => {
-            push_session(&mut text, session)?;
-            text.extend_from_slice(b" error 17 memory\n")?;
-        }
-    }
+    push_label(&mut text, session)?;
+    push_reply(&mut text, answer)?;
+    text.extend_from_slice(b"\n")?;
     Ok(text)
 }
 

@@ -15,9 +15,11 @@ ghost use Rattle.shell_run.specs.History.{History, IsNumbered};
 ghost use Rattle.shell_run.specs.declared.printing.Halt.TheVariants.{Fault};
 
 use crate::gate::Gate;
-use crate::line::{continues, is_skipped, parse_line};
+use crate::line::{continues, is_skipped};
 use crate::printing::{Halt, flush, put, text_of};
-use crate::store::{Reply, Store};
+use crate::replies::Reply;
+use crate::statement::parse_line;
+use crate::store::Store;
 use crate::turns::Turns;
 use disk_trait::{Disk, Sink};
 use memchr::memchr;

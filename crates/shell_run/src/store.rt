@@ -4,42 +4,21 @@ ghost use Rattle.ts_base.specs.Vectors.{Vector, IsNormal};
 ghost use Rattle.ts_base.specs.Bytes.{vector_bytes};
 ghost use Rattle.byteorder.specs.Endian.{little_bytes};
 ghost use Rattle.wal.specs.Waiting.{waiting, limit_of, IsReady};
-ghost use Rattle.shell_run.specs.History.{has_lexeme as has};
+ghost use Rattle.ts_query.specs.Queries.{Query};
+ghost use Rattle.ts_query.specs.Refusals.{IsReadAs};
 ghost use Rattle.shell_run.specs.Logs.{refusal_for};
 
 use crate::journal::log_entry;
-use crate::line::Ask;
+use crate::replies::{Name, Refusal, Reply};
+use crate::statement::Ask;
+use crate::values::{ask_query, expr_value, query_value, show};
 use byteorder::{ByteOrder, LittleEndian};
 use disk_trait::Disk;
 use std::alloc::{AllocError, Global};
+use ts_match::{MatchWork, matches};
+use ts_query::TsQuery;
 use ts_vector::TsVector;
 use wal::{Wal, WalError};
-
-/// Where a document lies, and its number.
-#[derive(Clone, Copy, Debug)]
-pub struct Name {
-    pub page: u32,
-    pub slot: u16,
-    pub serial: u64,
-}
-
-/// Why a statement was refused.
-#[derive(Debug, Drop)]
-pub enum Refusal {
-    NoStatement(u64),
-    StoreFull,
-    LogFull,
-    Down(u64),
-    Device,
-    Memory,
-}
-
-#[derive(Debug, Drop)]
-pub enum Reply {
-    Stored(Name),
-    Lists(Vec<Name>),
-    Refused(Refusal),
-}
 
 /// The most bytes of one vector, until documents may be longer than a page.
 const LONGEST: u64 = 2000;
@@ -59,17 +38,6 @@ fn refusal_of(error: WalError) -> Refusal
         WalError::OutOfMemory => Refusal::Memory,
         WalError::DiskFault | WalError::NotAStore => Refusal::Device,
     }
-}
-
-fn has_lexeme(vector: &TsVector, lexeme: &str) -> bool
-    ensures { result ≡ has lexeme.now vector.now }
-{
-    for k in 0..vector.count() {
-        if vector.lexeme(k).as_str() == lexeme {
-            return true;
-        }
-    }
-    false
 }
 
 // The entry of a document: its serial and its vector's bytes.
@@ -101,8 +69,8 @@ pub struct Store {
 impl Store {
     ghost use Rattle.shell_run.specs.Views.{ask};
     ghost use Rattle.shell_run.specs.Stores.{Holds, IsNew, HasLogged, HasInserted, IsFoundBy, HasAnswered, documents_of};
-    ghost use Rattle.shell_run.specs.History.{found, name_of};
-    ghost use Rattle.shell_run.specs.Run.{refused};
+    ghost use Rattle.shell_run.specs.History.{IsFound, name_of};
+    ghost use Rattle.shell_run.specs.Replies.{refused};
     ghost use Rattle.shell_run.specs.Answers.{name, refusal, reply};
 
     /// No documents, over a log without entries.
@@ -173,38 +141,47 @@ impl Store {
         }
     }
 
-    fn names(&self, lexeme: &str) -> Result<Vec<Name>, AllocError>
-        ensures { IfOk result (λ v. map name v.items ≡ found (documents_of self.now) lexeme.now) }
+    fn names(&self, query: &TsQuery) -> Result<Vec<Name>, AllocError>
+        ensures { IfOk result (λ v. IsFound query.now (documents_of self.now) (map name v.items)) }
     {
+        let mut work = MatchWork::new(self.alloc, query)?;
         let mut names = Vec::new(self.alloc);
         for (i, vector) in self.documents.iter().enumerate() {
-            if has_lexeme(vector, lexeme) {
+            if matches(query, &mut work, vector) {
                 names.push(self.name_at(i))?;
             }
         }
         Ok(names)
     }
 
-    /// The documents whose vector has this lexeme.
-    fn search(&self, lexeme: &str) -> Reply
-        ensures { IsFoundBy self.now lexeme.now (reply result) }
+    /// The documents that satisfy the query.
+    fn search(&self, query: &TsQuery) -> Reply
+        ensures { IsFoundBy self.now query.now (reply result) }
     {
         if let Some(count) = self.wal.fault() {
             return Reply::Refused(Refusal::Down(count));
         }
-        match self.names(lexeme) {
+        match self.names(query) {
             Ok(names) => Reply::Lists(names),
             Err(_) => Reply::Refused(Refusal::Memory),
         }
     }
 
-    /// What the statement of a line with this number is answered.
+    /// What the statement of a line with this number is answered. Texts are read before the store is touched.
     pub fn answer<D: Disk>(&mut self, disk: &mut D, number: u64, asked: Ask) -> Reply
         ensures { HasAnswered D.tells D.seen D.clock D.image D.fault_count D.write_fault_count number self.old self.new disk.old disk.new (ask asked) (reply result) }
     {
         match asked {
-            Ask::Insert(vector) => self.insert(disk, vector),
-            Ask::Search(lexeme) => self.search(lexeme.as_str()),
+            Ask::Insert(from) => match expr_value(self.alloc, &from) {
+                Ok(vector) => self.insert(disk, vector),
+                Err(why) => Reply::Refused(why),
+            },
+            Ask::Search(text) => match query_value(self.alloc, text.as_str()) {
+                Ok(query) => self.search(&query),
+                Err(why) => Reply::Refused(why),
+            },
+            Ask::Show(from) => show(self.alloc, &from),
+            Ask::Query(text) => ask_query(self.alloc, text.as_str()),
             Ask::Nothing => Reply::Refused(Refusal::NoStatement(number)),
         }
     }

@@ -1,19 +1,12 @@
 // The words and quoted texts of a line.
-ghost use Rattle.std.specs.Prelude.{◌≡◌, ℕ, ◌<◌, ◌≤◌, ◌↔◌, List, ◌∷◌, ◌++◌, length, map, take, drop, IfOk, IfSome, IfNone, IsTrue};
+ghost use Rattle.std.specs.Prelude.{◌≡◌, ℕ, ◌<◌, ◌≤◌, ◌↔◌, List, [], ◌∷◌, ◌++◌, length, take, drop, IfOk, IfSome, IfNone, IsTrue};
 ghost use Rattle.std.specs.List.{All};
 ghost use Rattle.std.specs.String.{string_bytes};
-ghost use Rattle.shell_run.specs.Tokens.{BeginsWithout, EndsToken, IsBlank, IsFirst, IsNoQuote, IsQuote, IsSpelled, IsWordByte, token};
+ghost use Rattle.shell_run.specs.Tokens.{BeginsWithout, EndsToken, Fronts, IsBlank, IsFirst, IsNoQuote, IsQuote, IsSpelled, IsWordByte, word, quote};
 ghost use Rattle.shell_run.specs.Tokens.{Token as Spelled};
 
 use memchr::memchr;
 use std::alloc::{AllocError, Global};
-
-/// A word of a line, or a text in quotes.
-#[derive(Debug, Drop)]
-pub enum Token {
-    Word(String),
-    Quote(String),
-}
 
 pub fn is_blank(byte: u8) -> bool
     ensures { IsTrue result ↔ IsBlank byte }
@@ -90,27 +83,9 @@ fn cut_at_quote(text: &str) -> Option<(&str, &str)>
     }
 }
 
-// The word at the front, and what stands behind it.
-fn first_word(alloc: Global, text: &str) -> Result<Option<(Token, &str)>, AllocError>
-    requires some { 0 < length text.now }
-    requires begins { BeginsWithout IsBlank text.now }
-    requires word { BeginsWithout IsQuote text.now }
-    ensures some { IfOk result (λ found. IfSome found (λ r. IsFirst text.now (token r.0) r.1.now)) }
-    ensures none { IfOk result (λ found. IfNone found ((t : Spelled) (rest : List ℕ) → IsFirst text.now t rest → ⊥)) }
-{
-    let (word, rest) = text.split_at(word_len(text.as_bytes()));
-    if !ends_token(rest) {
-        return Ok(None);
-    }
-    match String::from_str(alloc, word) {
-        Ok(word) => Ok(Some((Token::Word(word), rest))),
-        Err(error) => Err(error),
-    }
-}
-
 // The quoted text whose first quote has been read, and what stands behind it.
-fn first_quote(alloc: Global, text: &str) -> Result<Option<(Token, &str)>, AllocError>
-    ensures some { IfOk result (λ found. IfSome found (λ r. IsFirst (39 ∷ text.now) (token r.0) r.1.now)) }
+fn quote_inside(alloc: Global, text: &str) -> Result<Option<(String, &str)>, AllocError>
+    ensures some { IfOk result (λ found. IfSome found (λ r. IsFirst (39 ∷ text.now) (quote (string_bytes r.0)) r.1.now)) }
     ensures none { IfOk result (λ found. IfNone found ((t : Spelled) (rest : List ℕ) → IsFirst (39 ∷ text.now) t rest → ⊥)) }
 {
     let mut content = String::new(alloc);
@@ -121,7 +96,7 @@ fn first_quote(alloc: Global, text: &str) -> Result<Option<(Token, &str)>, Alloc
             if !ends_token(more) {
                 return Ok(None);
             }
-            return Ok(Some((Token::Quote(content), more)));
+            return Ok(Some((content, more)));
         };
         content.push('\'')?;
         rest = next;
@@ -129,86 +104,51 @@ fn first_quote(alloc: Global, text: &str) -> Result<Option<(Token, &str)>, Alloc
     Ok(None)
 }
 
-// The token at the front, and what stands behind it.
-fn first_token(alloc: Global, text: &str) -> Result<Option<(Token, &str)>, AllocError>
-    requires some { 0 < length text.now }
-    requires begins { BeginsWithout IsBlank text.now }
-    ensures some { IfOk result (λ found. IfSome found (λ r. IsFirst text.now (token r.0) r.1.now)) }
-    ensures none { IfOk result (λ found. IfNone found ((t : Spelled) (rest : List ℕ) → IsFirst text.now t rest → ⊥)) }
+/// Whether nothing but blanks stands in the text.
+pub fn is_all_blank(text: &str) -> bool
+    ensures { IsTrue result ↔ All IsBlank text.now }
 {
-    match behind_quote(text) {
-        Some(inside) => first_quote(alloc, inside),
-        None => first_word(alloc, text),
+    without_blanks(text).is_empty()
+}
+
+/// The word at the front, behind blanks, and what stands behind it.
+/// None where no word stands there, or a quote stands in it.
+pub fn front_word(text: &str) -> Option<(&str, &str)>
+    ensures some { IfSome result (λ r. Fronts text.now (word r.0.now ∷ []) r.1.now) }
+    ensures none { IfNone result ((w : List ℕ) (ts : List Spelled) → IsSpelled text.now (word w ∷ ts) → ⊥) }
+{
+    let text = without_blanks(text);
+    let (word, rest) = text.split_at(word_len(text.as_bytes()));
+    if word.is_empty() || !ends_token(rest) {
+        return None;
+    }
+    Some((word, rest))
+}
+
+/// What stands behind this word, where it is the one at the front.
+pub fn behind_word<'a>(text: &'a str, expected: &str) -> Option<&'a str>
+    ensures some { IfSome result (λ rest. Fronts text.now (word expected.now ∷ []) rest.now) }
+    ensures none { IfNone result ((ts : List Spelled) → IsSpelled text.now (word expected.now ∷ ts) → ⊥) }
+{
+    match front_word(text) {
+        Some((word, rest)) if word == expected => Some(rest),
+        _ => None,
     }
 }
 
-/// The tokens of a line, which stand between blanks.
-/// None where the line has none: a quote that isn't closed, a quote within a word, or something right behind a quote.
-/// None also where it has more than `most`, so that a long line takes no memory for tokens that nobody asks for.
-pub fn tokens_of(alloc: Global, line: &str, most: usize) -> Result<Option<Vec<Token>>, AllocError>
-    ensures some { IfOk result (λ found. IfSome found (λ v. IsSpelled line.now (map token v.items) × (length v.items ≤ most))) }
-    ensures none { IfOk result (λ found. IfNone found ((ts : List Spelled) → length ts ≤ most → IsSpelled line.now ts → ⊥)) }
+/// The quoted text at the front, behind blanks, and what stands behind it.
+/// None where none stands there, it isn't closed, or something stands right behind it.
+pub fn front_quote(alloc: Global, text: &str) -> Result<Option<(String, &str)>, AllocError>
+    ensures some { IfOk result (λ found. IfSome found (λ r. Fronts text.now (quote (string_bytes r.0) ∷ []) r.1.now)) }
+    ensures none { IfOk result (λ found. IfNone found ((t : List ℕ) (ts : List Spelled) → IsSpelled text.now (quote t ∷ ts) → ⊥)) }
 {
-    let mut tokens = Vec::new(alloc);
-    let mut rest = without_blanks(line);
-    while !rest.is_empty() {
-        if tokens.len() >= most {
-            return Ok(None);
-        }
-        let (token, more) = match first_token(alloc, rest) {
-            Ok(Some(found)) => found,
-            Ok(None) => return Ok(None),
-            Err(error) => return Err(error),
-        };
-        tokens.push(token)?;
-        rest = without_blanks(more);
+    match behind_quote(without_blanks(text)) {
+        Some(inside) => quote_inside(alloc, inside),
+        None => Ok(None),
     }
-    Ok(Some(tokens))
 }
 
 /// A line is one list of tokens at most.
 pub fn one_spelling()
     ensures { (line : List ℕ) (ts us : List Spelled) → IsSpelled line ts → IsSpelled line us → ts ≡ us }
 {}
-
-#[cfg(test)]
-mod tests {
-    use super::*;
-    use std::test::Fail;
-
-    fn shown(alloc: Global, line: &str) -> Result<String, AllocError> {
-        let tokens = tokens_of(alloc, line, 4)?;
-        format!(in alloc; "{tokens:?}")
-    }
-
-    #[test]
-    fn tokens(rt: HostRuntime) -> Result<(), Fail> {
-        let insert = shown(rt.alloc(), "@1 insert vector 'it''s'")?;
-        assert_eq!(rt;
-            insert.as_str(),
-            "Some([Word(\"@1\"), Word(\"insert\"), Word(\"vector\"), Quote(\"it's\")])"
-        );
-        let tabs = shown(rt.alloc(), " \t a\tb  '' \t")?;
-        assert_eq!(rt;
-            tabs.as_str(),
-            "Some([Word(\"a\"), Word(\"b\"), Quote(\"\")])"
-        );
-        let accents = shown(rt.alloc(), "né 'été ''là'''")?;
-        assert_eq!(rt;
-            accents.as_str(),
-            "Some([Word(\"né\"), Quote(\"été 'là'\")])"
-        );
-        let empty = shown(rt.alloc(), "")?;
-        assert_eq!(rt; empty.as_str(), "Some([])");
-        Ok(())
-    }
-
-    #[test]
-    fn no_tokens(rt: HostRuntime) -> Result<(), Fail> {
-        for line in ["'a''", "a'b", "'a'b", "'", "a '"] {
-            let none = shown(rt.alloc(), line)?;
-            assert_eq!(rt; none.as_str(), "None");
-        }
-        Ok(())
-    }
-}

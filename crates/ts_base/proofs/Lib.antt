@@ -2,3 +2,4 @@ pub mod Places
 pub mod Tokens
 pub mod Faults
 pub mod Spelling
+pub mod KeyOrder

@@ -5,10 +5,12 @@ ghost use Rattle.std.specs.Prelude.{◌≡◌, ◌<◌, ◌≤◌, ◌↔◌, []
 ghost use Rattle.std.specs.Cmp.{partial_equiv_from_equiv};
 ghost use Rattle.std.specs.Cmp.Lexicographic.{pointwise, slice_cmp, nat_list_eq_equiv, nat_list_cmp_total, texts_po, texts_ties};
 ghost use Rattle.std.specs.Ordering.{nat_cmp};
+ghost use Rattle.std.specs.String.{string_bytes, string_len};
 ghost use Rattle.std.proofs.Common.{rules};
 ghost use Rattle.ts_base.specs.Lexemes.{IsLexeme};
 ghost use Rattle.ts_base.specs.Vectors.{IsPosition};
 ghost use Rattle.ts_base.specs.Bytes.{SpellingTellsVector, SpellingHasSize};
+ghost use Rattle.ts_base.specs.Keys.{KeysRise};
 
 use std::alloc::{AllocError, Global};
 use std::cmp::Ordering;
@@ -66,6 +68,16 @@ impl Lexeme {
             Ok(text) => Ok(Lexeme { text }),
             Err(_) => Err(LexemeError::OutOfMemory),
         }
+    }
+
+    /// The lexeme with this text, which is not copied.
+    pub fn from_string(text: String) -> Lexeme
+        requires some { 1 ≤ string_len text }
+        requires most { string_len text ≤ LONGEST_LEXEME }
+        ensures value { result ≡ string_bytes text }
+        ensures valid { IsLexeme result }
+    {
+        Lexeme { text }
     }
 
     pub fn as_str(&self) -> &str
@@ -195,6 +207,37 @@ pub enum Tri {
     True,
 }
 
+/// A lexeme that a dictionary gives for a word. With `prefix` it stands in a query for each lexeme that begins with it.
+#[derive(Clone, Debug, Drop)]
+pub struct Found {
+    pub lexeme: Lexeme,
+    pub prefix: bool,
+}
+
+/// What a dictionary knows of a word.
+#[derive(Debug, Drop)]
+pub enum Answer {
+    Unknown,
+    Stop,
+    /// One or more lexemes, which stand for the word.
+    Lexemes(Vec<Found>),
+}
+
+/// What gives words their lexemes.
+pub trait Dictionary {
+    ghost use Rattle.std.specs.Prelude.{List, ℕ};
+    ghost use Rattle.ts_base.specs.Dictionary.{WordAnswer, answer_value, IsWordAnswer};
+
+    /// The answer to each word.
+    ghost answer: { Self → List ℕ → WordAnswer };
+
+    fn lexize(&self, alloc: Global, word: &str) -> Result<Answer, AllocError>
+        requires some { 1 ≤ length word.now }
+        requires most { length word.now ≤ LONGEST_LEXEME }
+        ensures value { IfOk result (λ a. answer_value a ≡ answer self.now word.now) }
+        ensures valid { IfOk result (λ a. IsWordAnswer (answer_value a)) };
+}
+
 /// Two vectors in normal form never share a spelling.
 pub fn spelling_tells_vector()
     ensures { SpellingTellsVector }
@@ -203,6 +246,11 @@ pub fn spelling_tells_vector()
 /// How many bytes a vector's spelling has.
 pub fn spelling_has_size()
     ensures { SpellingHasSize }
+{}
+
+/// The keys of a vector are keys, and stand in key order, each once.
+pub fn keys_rise()
+    ensures { KeysRise }
 {}
 
 #[cfg(test)]
@@ -219,6 +267,7 @@ mod tests {
         assert!(rt; Lexeme::new(alloc, "ca")? < cat);
         assert!(rt; cat < Lexeme::new(alloc, "cow")?);
         assert!(rt; Lexeme::new(alloc, "z")? < Lexeme::new(alloc, "é")?);
+        assert!(rt; Lexeme::from_string(String::from_str(alloc, "cat")?) == cat);
         assert!(rt; matches!(Lexeme::new(alloc, ""), Err(LexemeError::Empty)));
         let mut long = String::new(alloc);
         for _ in 0..2046 {
@@ -242,9 +291,64 @@ mod tests {
         assert!(rt; !none.a && !none.b && !none.c && !none.d);
     }
 
+    /// Has the stop word `the`, doesn't know `x`, and gives every other word as it is.
+    struct Plain;
+
+    impl Dictionary for Plain {
+        ghost use Rattle.std.specs.Prelude.{[], ◌∷◌, bytes_eq, if◌then◌else◌, false};
+        ghost use Rattle.ts_base.specs.Dictionary.{unknown_word, stop_word, word_lexemes};
+
+        ghost answer = { λ d word. (if bytes_eq word (116 ∷ 104 ∷ 101 ∷ []) then stop_word else
+            (if bytes_eq word (120 ∷ []) then unknown_word else
+            word_lexemes (record { lexeme = word; prefix = false } ∷ []))) };
+
+        fn lexize(&self, alloc: Global, word: &str) -> Result<Answer, AllocError> {
+            if word == "the" {
+                return Ok(Answer::Stop);
+            }
+            if word == "x" {
+                return Ok(Answer::Unknown);
+            }
+            let lexeme = Lexeme::from_string(String::from_str(alloc, word)?);
+            let mut found = Vec::new(alloc);
+            found.push(Found {
+                lexeme,
+                prefix: false,
+            })?;
+            Ok(Answer::Lexemes(found))
+        }
+    }
+
+    /// The lexeme that a dictionary gives for a word, where it is one.
+    fn only_lexeme<D: Dictionary>(
+        dictionary: &D,
+        alloc: Global,
+        word: &str,
+    ) -> Result<Option<Lexeme>, AllocError>
+        requires some { 1 ≤ length word.now }
+        requires most { length word.now ≤ LONGEST_LEXEME }
+    {
+        match dictionary.lexize(alloc, word)? {
+            Answer::Lexemes(mut found) if found.len() == 1 => Ok(found.pop().map(|f| f.lexeme)),
+            Answer::Lexemes(_) | Answer::Stop | Answer::Unknown => Ok(None),
+        }
+    }
+
+    #[test]
+    fn dictionaries(rt: HostRuntime) -> Result<(), Fail> {
+        let alloc = rt.alloc();
+        assert!(rt; matches!(Plain.lexize(alloc, "the")?, Answer::Stop));
+        assert!(rt; matches!(Plain.lexize(alloc, "x")?, Answer::Unknown));
+        let cat = only_lexeme(&Plain, alloc, "cat")?;
+        assert!(rt; cat.is_some_and(|lexeme| lexeme.as_str() == "cat"));
+        assert!(rt; only_lexeme(&Plain, alloc, "the")?.is_none());
+        Ok(())
+    }
+
     #[test]
     fn laws() {
         spelling_tells_vector();
         spelling_has_size();
+        keys_rise();
     }
 }

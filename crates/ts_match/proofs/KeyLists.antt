@@ -4,8 +4,8 @@ use Rattle.std.specs.Prelude.{All, AllPairs}
 use Rattle.std.specs.declared.cmp.Ordering.TheVariants.{Less}
 use Rattle.std.proofs.Math.Seq.{take-suc}
 use Rattle.ts_base.specs.Vectors.{Entry, Vector, IsNormal}
-use Rattle.gin_opclass.specs.Keys.{Key, IsKey, key_order, keys_of, lexeme_key, placeholder}
-use Rattle.gin_opclass.proofs.KeyOrder.{keys_rise_at}
+use Rattle.ts_base.specs.Keys.{Key, IsKey, key_order, keys_of, lexeme_key, placeholder}
+use Rattle.ts_base.proofs.KeyOrder.{keys_rise_at}
 
 map-append : {X Y : Type 0} (f : X → Y) (xs ys : List X) → map f (xs ++ ys) ≡ map f xs ++ map f ys
 map-append f [] ys = refl

@@ -4,7 +4,7 @@ use Rattle.ts_base.specs.declared.Tri.{Tri}
 use Rattle.ts_base.specs.declared.Tri.TheVariants.{False, Maybe, True}
 use Rattle.ts_query.specs.declared.query.Operand.{Operand}
 use Rattle.ts_query.specs.Queries.{Query, operands_of}
-use Rattle.gin_opclass.specs.Keys.{lexeme_key}
+use Rattle.ts_base.specs.Keys.{lexeme_key}
 use Rattle.gin_opclass.specs.Class.{Asked}
 use Rattle.ts_match.specs.Judging.{judged}
 

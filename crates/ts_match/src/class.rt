@@ -1,5 +1,8 @@
 // Queries as a class of an index.
-ghost use Rattle.std.specs.Prelude.{◌≡◌};
+ghost use Rattle.gin_opclass.specs.Class.{meaning, IsSound};
+ghost use Rattle.ts_match.specs.Meaning.{Holds};
+ghost use Rattle.ts_match.specs.Judging.{judged};
+ghost use Rattle.ts_match.specs.Class.{asked_of, reads_all};
 
 use crate::judging::judge;
 use crate::work::MatchWork;
@@ -39,7 +42,9 @@ impl Judge<TsQuery, MatchWork> for TextJudge {
     ghost sound = { is_sound };
 }
 
-/// The class of text queries: keys by their bytes, judged by `judge`.
-pub fn text_class() -> OpClass<TsQuery, MatchWork, ByteOrder, TextJudge> {
+/// The class of text queries: keys by their bytes, judged by `judge`. There is one such value, since neither part has a field.
+pub fn text_class() -> OpClass<TsQuery, MatchWork, ByteOrder, TextJudge>
+    ensures { IsSound (meaning asked_of reads_all Holds judged) }
+{
     OpClass::new(ByteOrder, TextJudge)
 }

@@ -2,7 +2,7 @@
 ghost use Rattle.std.specs.Prelude.{◌≡◌, [], ◌∷◌, ℕ, map, All, AllPairs, IfOk, length, not, replicate};
 ghost use Rattle.std.specs.declared.cmp.Ordering.TheVariants.{Less};
 ghost use Rattle.ts_base.specs.declared.Tri.TheVariants.{False};
-ghost use Rattle.gin_opclass.specs.Keys.{IsKey, keys_of, key_order, placeholder, lexeme_key as key_of};
+ghost use Rattle.ts_base.specs.Keys.{IsKey, keys_of, key_order, placeholder, lexeme_key as key_of};
 ghost use Rattle.ts_match.specs.Class.{asked_by, asked_of, is_false, reads_all};
 
 use crate::judging::judge;

@@ -8,7 +8,7 @@ use ts_query::{Node, Operand, TsQuery};
 use ts_vector::TsVector;
 
 /// Queries, vectors, and whether the vector satisfies the query.
-const ROWS: [(&str, &str, bool); 42] = [
+const ROWS: [(&str, &str, bool); 66] = [
     ("a", "a:1", true),
     ("a", "ab:1", false),
     ("a:*", "ab:1", true),
@@ -51,6 +51,30 @@ const ROWS: [(&str, &str, bool); 42] = [
     ("c:* <-> d", "ca:1 cb:5 d:6", true),
     ("c:* <-> d", "ca:1 cb:5 d:7", false),
     ("(a <-> b) | !c & d", "a:1 b:3 d:9", true),
+    ("", "a:1", false),
+    ("a:A", "a:1A", true),
+    ("a:B", "a:1A", false),
+    ("a:BA", "a:1,2A", true),
+    ("a:D", "a:1", true),
+    ("a:*B", "ab:1 ac:2B", true),
+    ("a:*B", "ab:1 b:2B", false),
+    ("a:A <-> b", "a:1A b:2", true),
+    ("a:A <-> b", "a:1 b:2 a:3A", false),
+    ("'a b' <-> c", "'a b':1 c:2", true),
+    ("a", "a", true),
+    ("a:ABCD", "a", false),
+    ("!a:A", "a", true),
+    ("a:* & c", "ab c", true),
+    ("a <-> a", "a", false),
+    ("!a <-> !b", "a", false),
+    ("!a <-> !b", "c", false),
+    ("!(a <-> b)", "a b", true),
+    ("!a <-> b", "a b:2", true),
+    ("a <-> b", "a b:2", false),
+    ("a:* <-> b", "ab:1 ac b:2", true),
+    ("!x", "", true),
+    ("x:*", "", false),
+    ("!x <-> !y", "", true),
 ];
 
 #[test]
@@ -93,14 +117,18 @@ fn truth(line: &Line, place: usize, back: usize) -> bool {
     line.truths.get(place - back).copied().unwrap_or(line.far)
 }
 
+fn asks_any(weights: Weights) -> bool {
+    !(weights.a || weights.b || weights.c || weights.d)
+}
+
 fn fits(weights: Weights, weight: Weight) -> bool {
-    let any = !(weights.a || weights.b || weights.c || weights.d);
-    any || match weight {
-        Weight::A => weights.a,
-        Weight::B => weights.b,
-        Weight::C => weights.c,
-        Weight::D => weights.d,
-    }
+    asks_any(weights)
+        || match weight {
+            Weight::A => weights.a,
+            Weight::B => weights.b,
+            Weight::C => weights.c,
+            Weight::D => weights.d,
+        }
 }
 
 fn names(operand: &Operand, vector: &TsVector, k: usize) -> bool
@@ -118,13 +146,9 @@ fn operand_line(
 ) -> Result<(bool, Line), AllocError> {
     let mut truths = vec![in alloc; false; PLACES]?;
     let mut met = false;
-    let weighed = !fits(operand.weights, Weight::A)
-        || !fits(operand.weights, Weight::B)
-        || !fits(operand.weights, Weight::C)
-        || !fits(operand.weights, Weight::D);
     for k in 0..vector.count() {
         if names(operand, vector, k) {
-            met = met || !weighed;
+            met = met || asks_any(operand.weights);
             for position in vector.positions(k) {
                 if fits(operand.weights, position.weight()) {
                     met = true;
@@ -253,7 +277,7 @@ fn slowly(alloc: Global, query: &TsQuery, vector: &TsVector) -> Result<bool, All
     }
 }
 
-const QUERIES: [&str; 24] = [
+const QUERIES: [&str; 32] = [
     "",
     "a",
     "!a",
@@ -278,9 +302,17 @@ const QUERIES: [&str; 24] = [
     "a:* <-> b",
     "(a:* & b) <2> !c",
     "(a <-> b) & !(b <-> c) | a",
+    "a:A",
+    "a:ABCD",
+    "a:*B & !b:D",
+    "a:A <-> b",
+    "!a:A <-> b:D",
+    "a:*B <2> b",
+    "(a:A | b) <-> !c",
+    "!(a:* <-> b:D)",
 ];
 
-const VECTORS: [&str; 12] = [
+const VECTORS: [&str; 20] = [
     "a:1",
     "b:2",
     "c:3",
@@ -293,6 +325,14 @@ const VECTORS: [&str; 12] = [
     "c:1 a:2",
     "b:1 c:2 a:3 b:5",
     "a:5 b:5 c:5",
+    "",
+    "a",
+    "a ab b c",
+    "a b:2",
+    "a:1A b:2",
+    "a:1B,3A ab:4B b:2C",
+    "a:2 ab:1A b c",
+    "'a':1A,2B 'b':2A,3 'c'",
 ];
 
 #[test]
@@ -367,6 +407,9 @@ fn keys(rt: HostRuntime) -> Result<(), Fail> {
     assert_eq!(rt; keys.len(), 2);
     assert_eq!(rt; keys[0].as_slice(), b"\0a".as_slice());
     assert_eq!(rt; keys[1].as_slice(), b"\0cat".as_slice());
+    let none = vector_keys(alloc, &TsVector::parse(alloc, "")?)?;
+    assert_eq!(rt; none.len(), 1);
+    assert_eq!(rt; none[0].as_slice(), b"\x01".as_slice());
 
     let query = TsQuery::parse(alloc, "cat & a:*B")?;
     let asked = query_keys(alloc, &query)?;

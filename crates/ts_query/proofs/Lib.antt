@@ -19,3 +19,4 @@ pub mod Answer
 pub mod Entries
 pub mod Backwards
 pub mod Texts
+pub mod Decimal

@@ -1,6 +1,8 @@
 -- Laws of the grammar.
-use Rattle.std.specs.Prelude.{◌≡◌, ℕ, List}
+use Rattle.std.specs.Prelude.{◌≡◌, ◌⊎◌, ◌↔◌, ℕ, List, ◌∷◌, ◌++◌, min}
+use Rattle.std.specs.Str.Parse.{IsNumeral, digits_value}
 use Rattle.ts_query.specs.Queries.{Query, IsSound}
+use Rattle.ts_query.specs.Tokens.{Distance}
 use Rattle.ts_query.specs.Grammar.{IsQueryText}
 use Rattle.ts_query.specs.Printing.{printed}
 
@@ -11,3 +13,19 @@ OneValue = (text : List ℕ) (p q : Query) → IsQueryText text p → IsQueryTex
 -- the printed text of a query is in the grammar, with that query as its value
 abbrev pub PrintsBack : Type 0
 PrintsBack = (q : Query) → IsSound q → IsQueryText (printed q) q
+
+-- behind `<`: `->`, for 1
+pub record IsArrow (u : List ℕ) (distance : ℕ) (rest : List ℕ) : Type 0 where
+  pub text : u ≡ 45 ∷ 62 ∷ rest
+  pub value : distance ≡ 1
+
+-- behind `<`: decimal digits and `>`, for the number that the digits write; from 16385 on all numbers count as one
+pub record IsDecimal (u : List ℕ) (distance : ℕ) (rest : List ℕ) : Type 0 where
+  pub digits : List ℕ
+  pub numeral : IsNumeral 10 digits
+  pub text : u ≡ digits ++ 62 ∷ rest
+  pub value : distance ≡ min (digits_value 10 digits) 16385
+
+-- a distance is an arrow or a decimal number, and nothing else
+abbrev pub DistanceIsDecimal : Type 0
+DistanceIsDecimal = (u : List ℕ) (distance : ℕ) (rest : List ℕ) → Distance u distance rest ↔ (IsArrow u distance rest ⊎ IsDecimal u distance rest)

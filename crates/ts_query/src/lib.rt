@@ -1,7 +1,7 @@
 //! Queries: their values, their texts, and what joins them.
 #![tactic(auto)]
 
-ghost use Rattle.ts_query.specs.Laws.{OneValue, PrintsBack};
+ghost use Rattle.ts_query.specs.Laws.{OneValue, PrintsBack, DistanceIsDecimal};
 ghost use Rattle.ts_query.specs.Refusals.{OneAnswer};
 
 mod error;
@@ -26,6 +26,11 @@ pub fn one_answer()
 /// The printed text of a query is in the grammar, with that query as its value.
 pub fn prints_back()
     ensures { PrintsBack }
+{}
+
+/// A distance is `->`, or the number that decimal digits write; from 16385 on all numbers count as one, which is too large.
+pub fn distance_is_decimal()
+    ensures { DistanceIsDecimal }
 {}
 
 #[cfg(test)]

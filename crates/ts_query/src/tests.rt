@@ -206,5 +206,6 @@ fn queries_of_queries(rt: HostRuntime) -> Result<(), Fail> {
 fn laws() {
     one_value();
     one_answer();
+    distance_is_decimal();
     prints_back();
 }

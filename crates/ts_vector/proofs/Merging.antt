@@ -94,13 +94,13 @@ module _ (P : Entry → Type 0) (front rest : List Entry) (last e both : Entry) 
 abbrev HasPlace : List ℕ → Position → Entry → Type 0
 HasPlace l p e = (e.lexeme ≡ l) × Any (λ q. capped q ≡ p) e.positions
 
-any_left : {X : Type 0} (P : X → Type 0) (xs ys : List X) → Any P xs → Any P (xs ++ ys)
+pub any_left : {X : Type 0} (P : X → Type 0) (xs ys : List X) → Any P xs → Any P (xs ++ ys)
 any_left P xs ys h = let x = of_any P xs h in any_of P (xs ++ ys) x.0 (Contains-append_left xs ys x.0 x.1) x.2
 
-any_right : {X : Type 0} (P : X → Type 0) (xs ys : List X) → Any P ys → Any P (xs ++ ys)
+pub any_right : {X : Type 0} (P : X → Type 0) (xs ys : List X) → Any P ys → Any P (xs ++ ys)
 any_right P xs ys h = let x = of_any P ys h in any_of P (xs ++ ys) x.0 (Contains-append_right xs ys x.0 x.1) x.2
 
-any_cases : {X : Type 0} (P : X → Type 0) (xs ys : List X) → Any P (xs ++ ys) → Any P xs ⊎ Any P ys
+pub any_cases : {X : Type 0} (P : X → Type 0) (xs ys : List X) → Any P (xs ++ ys) → Any P xs ⊎ Any P ys
 any_cases P xs ys h =
     let x = of_any P (xs ++ ys) h in
     elim (Contains-append_cases xs ys x.0 x.1) [ inl a ↦ inl (any_of P xs x.0 a x.2) | inr b ↦ inr (any_of P ys x.0 b x.2) ]
@@ -153,7 +153,7 @@ merge_end items out m = record {
   size = subst (λ t. content_size t ≤ content_size items) (append-nil out) m.size;
 }
 
-size-append : (xs ys : List Entry) → content_size (xs ++ ys) ≡ content_size xs + content_size ys
+pub size-append : (xs ys : List Entry) → content_size (xs ++ ys) ≡ content_size xs + content_size ys
 size-append xs ys = sum_by-append entry_size xs ys
 
 pub size-cons : (x : Entry) (xs : List Entry) → content_size (x ∷ xs) ≡ entry_size x + content_size xs

@@ -1,8 +1,41 @@
 // Items of a vector in memory.
+ghost use Rattle.std.specs.Prelude.{◌≡◌, All, IfOk};
+ghost use Rattle.ts_base.specs.Vectors.{IsPosition};
+ghost use Rattle.ts_vector.specs.Views.{views};
+ghost use Rattle.ts_vector.specs.Pairs.{pairs_of};
+ghost use Rattle.ts_vector.specs.Steps.{IsWritten};
+
+use std::alloc::{AllocError, Global};
 use ts_base::{Lexeme, Position};
 
 #[derive(Debug, Drop)]
 pub struct Item {
     pub lexeme: Lexeme,
     pub positions: Vec<Position>,
+}
+
+/// Looks at each position, so that its limits are known.
+fn see_positions(positions: &[Position])
+    ensures { All IsPosition positions.now }
+{
+    for position in positions {
+        position.at();
+    }
+}
+
+/// The items of pairs.
+pub fn from_pairs(
+    alloc: Global,
+    pairs: Vec<(Lexeme, Vec<Position>)>,
+) -> Result<Vec<Item>, AllocError>
+    ensures items { IfOk result (λ items. views items.items ≡ pairs_of pairs.items) }
+    ensures valid { IfOk result (λ items. All IsWritten (views items.items)) }
+{
+    let mut items = Vec::new(alloc);
+    for (lexeme, positions) in pairs {
+        lexeme.as_str();
+        see_positions(positions.as_slice());
+        items.push(Item { lexeme, positions })?;
+    }
+    Ok(items)
 }

@@ -1,26 +1,46 @@
 //! Vectors: lexemes in byte order, each with its positions.
 #![tactic(auto)]
 
-ghost use Rattle.std.specs.Prelude.{◌≡◌, ℕ, ◌<◌, ◌++◌, length, IfOk, IsErrOf, OnOk, OnErr, slice_index_or};
+ghost use Rattle.std.specs.Prelude.{◌≡◌, ℕ, ◌<◌, ◌++◌, length, IfOk, IfErr, OnOk, OnErr, slice_index_or};
+ghost use Rattle.std.specs.String.{string_bytes};
 ghost use Rattle.ts_base.specs.Vectors.{Entry, Vector, IsNormal, content_size};
 ghost use Rattle.ts_base.specs.Bytes.{vector_bytes};
-ghost use Rattle.ts_vector.specs.Normal.{NormalFormIsOne};
-ghost use Rattle.ts_vector.specs.Plain.{IsPlainText, PlainTextHasOneValue};
+ghost use Rattle.ts_vector.specs.Normal.{IsNormalFormOf, NormalFormIsOne};
+ghost use Rattle.ts_vector.specs.TextLaws.{TextHasOneList, TextHasOneValue, FaultHasOnePlace, FaultIsOutside};
+ghost use Rattle.ts_vector.specs.Text.{IsTextOf};
+ghost use Rattle.ts_vector.specs.Failures.{TextFails, ItemsFail, IsOver, JoinFails};
+ghost use Rattle.ts_vector.specs.Changes.{IsBuiltOf, stripped, reweighted, IsJoinOf};
+ghost use Rattle.ts_vector.specs.Pairs.{pairs_of};
+ghost use Rattle.ts_vector.specs.Decoded.{IsSpelling, DecodeFails, BadPlaceIsOne, BadBytesAreNoSpelling};
+ghost use Rattle.ts_vector.specs.Printed.{vector_text, PrintedTextIsRead};
+ghost use Rattle.ts_vector.specs.AnswerLaws.{TextHasOneAnswer, JoinHasOneAnswer};
+ghost use Rattle.ts_vector.specs.Views.{views};
 
+mod bytes;
+mod changes;
 mod codec;
+mod decoder;
 mod entries;
+mod limits;
 mod normal;
-mod plain;
+mod printer;
+mod reader;
 
+use bytes::Stop;
+use changes::{greatest, items_with_weight, joined, without_positions};
 use codec::put_items;
-use entries::Item;
+use decoder::read_items;
+use entries::{Item, from_pairs};
+use limits::{first_long, size_of, to_items};
 use normal::normal_form;
-pub use plain::is_plain_lexeme;
-use plain::read_items;
+use reader::read;
 use std::alloc::{AllocError, Global};
 use std::marker::Model;
 use thiserror::Error;
 pub use ts_base::{Lexeme, LexemeError, Position, Weight};
+
+/// The size of a vector's content is below this: the bytes of all lexemes and two for each position.
+pub const SIZE_LIMIT: usize = 1_048_576;
 
 /// A vector in normal form. Contracts see it as the list of its entries.
 #[derive(Debug, Drop)]
@@ -40,26 +60,111 @@ impl Model for TsVector {
     ghost invariant = { λ v. IsNormal (views v.items.items) × (content_size (views v.items.items) < 1048576) };
 }
 
-#[derive(Debug, Drop, Error)]
+#[derive(Debug, Drop, Error, PartialEq, Eq)]
 pub enum VectorError {
-    #[error("not a plain vector")]
-    NotPlain,
+    #[error("syntax error at {at}")]
+    Syntax { at: usize },
+    #[error("lexeme too long at {at}")]
+    LexemeTooLong { at: usize },
+    #[error("vector of {bytes} bytes")]
+    VectorTooLarge { bytes: usize },
+    #[error("bad bytes at {at}")]
+    BadBytes { at: usize },
     #[error("out of memory")]
     OutOfMemory,
 }
 
+/// The vector of items in normal form, if it is within the limit.
+fn within_limit(items: Vec<Item>) -> Result<TsVector, VectorError>
+    requires { IsNormal (views items.items) }
+    ensures value { IfOk result (λ v. (v ≡ views items.items) × (content_size v < 1048576)) }
+    ensures cause { IfErr result (IsOver (views items.items)) }
+{
+    let bytes = size_of(items.as_slice());
+    if bytes >= SIZE_LIMIT {
+        return Err(VectorError::VectorTooLarge { bytes });
+    }
+    Ok(TsVector { items })
+}
+
 impl TsVector {
-    /// The vector of a plain text: 1 to 256 items LEXEME:POSITION with one space between two, LEXEME 1 to 32
-    /// letters a to z and POSITION 1 to 16383 without a leading zero.
+    /// The vector of a text, in normal form.
     pub fn parse(alloc: Global, text: &str) -> Result<TsVector, VectorError>
-        ensures found { IfOk result (IsPlainText text.now) }
-        ensures refused { IsErrOf result VectorError.NotPlain → (v : Vector) → ¬ IsPlainText text.now v }
+        ensures value { IfOk result (IsTextOf text.now) }
+        ensures cause { IfErr result (TextFails text.now) }
     {
-        let items = read_items(alloc, text)?;
-        match normal_form(alloc, items) {
-            Ok(items) => Ok(TsVector { items }),
-            Err(_) => Err(VectorError::OutOfMemory),
+        let drafts = match read(alloc, text.as_bytes()) {
+            Ok(Ok(drafts)) => drafts,
+            Ok(Err(at)) => return Err(VectorError::Syntax { at }),
+            Err(_) => return Err(VectorError::OutOfMemory),
+        };
+        if let Some(at) = first_long(drafts.as_slice()) {
+            return Err(VectorError::LexemeTooLong { at });
         }
+        let Ok(items) = to_items(alloc, drafts) else {
+            return Err(VectorError::OutOfMemory);
+        };
+        let Ok(items) = normal_form(alloc, items) else {
+            return Err(VectorError::OutOfMemory);
+        };
+        within_limit(items)
+    }
+
+    /// The vector of these lexemes with these positions, in normal form.
+    pub fn build(
+        alloc: Global,
+        items: Vec<(Lexeme, Vec<Position>)>,
+    ) -> Result<TsVector, VectorError>
+        ensures value { IfOk result (IsBuiltOf (pairs_of items.items)) }
+        ensures cause { IfErr result (ItemsFail (pairs_of items.items)) }
+    {
+        let Ok(items) = from_pairs(alloc, items) else {
+            return Err(VectorError::OutOfMemory);
+        };
+        let Ok(items) = normal_form(alloc, items) else {
+            return Err(VectorError::OutOfMemory);
+        };
+        within_limit(items)
+    }
+
+    /// The entries of both, the other's positions behind this one's greatest, in normal form.
+    pub fn concat(&self, alloc: Global, other: &TsVector) -> Result<TsVector, VectorError>
+        ensures value { IfOk result (IsJoinOf self.now other.now) }
+        ensures cause { IfErr result (JoinFails self.now other.now) }
+    {
+        let by = greatest(self.items.as_slice());
+        let Ok(items) = joined(alloc, self.items.as_slice(), other.items.as_slice(), by) else {
+            return Err(VectorError::OutOfMemory);
+        };
+        let Ok(items) = normal_form(alloc, items) else {
+            return Err(VectorError::OutOfMemory);
+        };
+        within_limit(items)
+    }
+
+    /// The vector without positions.
+    pub fn strip(&self, alloc: Global) -> Result<TsVector, AllocError>
+        ensures { IfOk result (λ v. v ≡ stripped self.now) }
+    {
+        let items = without_positions(alloc, self.items.as_slice())?;
+        Ok(TsVector { items })
+    }
+
+    /// The vector with each position at this weight.
+    pub fn set_weight(&self, alloc: Global, weight: Weight) -> Result<TsVector, AllocError>
+        ensures { IfOk result (λ v. v ≡ reweighted weight self.now) }
+    {
+        let items = items_with_weight(alloc, self.items.as_slice(), weight)?;
+        Ok(TsVector { items })
+    }
+
+    /// The printed text: each lexeme in quotes with its positions, and one space between two.
+    pub fn to_text(&self, alloc: Global) -> Result<String, AllocError>
+        ensures { IfOk result (λ text. string_bytes text ≡ vector_text self.now) }
+    {
+        let mut out = Vec::new(alloc);
+        printer::put_items(&mut out, self.items.as_slice())?;
+        Ok(String::from_utf8(out).unwrap())
     }
 
     /// The number of lexemes.
@@ -100,6 +205,20 @@ impl TsVector {
         }
         Ok(())
     }
+
+    /// The vector with this spelling.
+    pub fn decode(alloc: Global, bytes: &[u8]) -> Result<TsVector, VectorError>
+        ensures value { IfOk result (IsSpelling bytes.now) }
+        ensures cause { IfErr result (DecodeFails bytes.now) }
+    {
+        match read_items(alloc, bytes) {
+            Ok(items) => Ok(TsVector { items }),
+            Err(Stop::Bad { left }) => Err(VectorError::BadBytes {
+                at: bytes.len() - left,
+            }),
+            Err(Stop::OutOfMemory) => Err(VectorError::OutOfMemory),
+        }
+    }
 }
 
 /// Items have one normal form.
@@ -107,9 +226,49 @@ pub fn normal_form_is_one()
     ensures { NormalFormIsOne }
 {}
 
-/// A plain text has one value.
-pub fn plain_text_has_one_value()
-    ensures { PlainTextHasOneValue }
+/// The printed text of a vector is a text of that vector.
+pub fn printed_text_is_read()
+    ensures { PrintedTextIsRead }
+{}
+
+/// Bytes go wrong at one place.
+pub fn bad_place_is_one()
+    ensures { BadPlaceIsOne }
+{}
+
+/// Bytes that go wrong are no spelling.
+pub fn bad_bytes_are_no_spelling()
+    ensures { BadBytesAreNoSpelling }
+{}
+
+/// A text has one list of items.
+pub fn text_has_one_list()
+    ensures { TextHasOneList }
+{}
+
+/// A text has one value.
+pub fn text_has_one_value()
+    ensures { TextHasOneValue }
+{}
+
+/// Want of memory aside, a text has one answer, so each refusal comes exactly where it has its cause.
+pub fn text_has_one_answer()
+    ensures { TextHasOneAnswer }
+{}
+
+/// Want of memory aside, a join has one answer.
+pub fn join_has_one_answer()
+    ensures { JoinHasOneAnswer }
+{}
+
+/// A fault has one place.
+pub fn fault_has_one_place()
+    ensures { FaultHasOnePlace }
+{}
+
+/// A text with a fault is outside the grammar.
+pub fn fault_is_outside()
+    ensures { FaultIsOutside }
 {}
 
 #[cfg(test)]

@@ -8,7 +8,7 @@ use Rattle.ts_base.specs.declared.Tri.TheVariants.{False, Maybe, True}
 use Rattle.ts_base.specs.Vectors.{Entry, Vector}
 use Rattle.ts_query.specs.declared.query.Operand.{Operand}
 use Rattle.ts_query.specs.Queries.{operands_of}
-use Rattle.gin_opclass.specs.Keys.{Key, lexeme_key, placeholder, keys_of}
+use Rattle.ts_base.specs.Keys.{Key, lexeme_key, placeholder, keys_of}
 use Rattle.gin_opclass.specs.Class.{Asked, Fits, HasKey, meaning, IsSound}
 use Rattle.gin_opclass.specs.Class.{SoundValue as SoundKey, SoundValues as SoundKeys}
 use Rattle.ts_match.specs.Meaning.{names, Holds}

@@ -1,6 +1,6 @@
 use Rattle.std.proofs.Common.{ℕ, Global, Vec, ap, ◌∙◌, arith}
 use Rattle.ts_base.specs.Vectors.{Entry}
-use Rattle.gin_opclass.specs.Keys.{lexeme_key}
+use Rattle.ts_base.specs.Keys.{lexeme_key}
 use Rattle.ts_match.proofs.Lookups.{nothing}
 use Rattle.ts_match.proofs.KeyLists.{map_more}
 use Rattle.ts_match.proofs.keys.lexeme_keys.Goals as goal

@@ -1,6 +1,6 @@
 use Rattle.std.proofs.Common.{◌≡◌, ℕ, Global, Vec, map, take}
 use Rattle.ts_base.specs.Vectors.{Entry}
-use Rattle.gin_opclass.specs.Keys.{lexeme_key}
+use Rattle.ts_base.specs.Keys.{lexeme_key}
 use Rattle.ts_match.proofs.keys.lexeme_keys.Given as goal
 
 abbrev pub invariant-loop-k : goal.invariant-loop-k

@@ -2,7 +2,7 @@ use Rattle.std.proofs.Common.{◌≡◌, ℕ, Global, Vec, List, map, sym, ◌�
 use Rattle.std.specs.Prelude.{All, AllPairs}
 use Rattle.std.specs.declared.cmp.Ordering.TheVariants.{Less}
 use Rattle.std.proofs.lemmas.Result.{IfOk-weaker}
-use Rattle.gin_opclass.specs.Keys.{IsKey, key_order, keys_of}
+use Rattle.ts_base.specs.Keys.{IsKey, key_order, keys_of}
 use Rattle.ts_match.proofs.KeyLists.{keys_without, keys_with, keys_valid, keys_order}
 use Rattle.ts_match.proofs.keys.vector_keys.Goals as goal
 

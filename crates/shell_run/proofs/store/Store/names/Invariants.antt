@@ -1,8 +1,9 @@
 use Rattle.std.proofs.Common.{◌≡◌, map, take}
 use Rattle.shell_run.specs.Answers.{name}
-use Rattle.shell_run.specs.History.{found}
+use Rattle.shell_run.specs.History.{IsFound}
 use Rattle.shell_run.specs.Stores.{numbered}
+use Rattle.ts_match.specs.Plan.{plan_of}
 use Rattle.shell_run.proofs.store.Store.names.Given as goal
 
 abbrev pub invariant-loop-i : goal.invariant-loop-i
-invariant-loop-i l = map name l.names.items ≡ found (numbered 0 (take l.i l.self.documents.items)) l.lexeme
+invariant-loop-i l = IsFound l.query (numbered 0 (take l.i l.self.documents.items)) (map name l.names.items) × (l.work ≡ plan_of l.query)

@@ -1,0 +1,28 @@
+-- That each refusal comes exactly where it has its cause.
+use Rattle.std.specs.Prelude.{◌≡◌, ◌≢◌, ℕ, List, Result, Ok, Err}
+use Rattle.ts_base.specs.Vectors.{Vector}
+use Rattle.ts_vector.specs.Text.{IsTextOf}
+use Rattle.ts_vector.specs.Changes.{IsJoinOf}
+use Rattle.ts_vector.specs.Failures.{TextFails, JoinFails}
+use Rattle.ts_vector.specs.declared.VectorError.{VectorError}
+use Rattle.ts_vector.specs.declared.VectorError.TheVariants.{OutOfMemory}
+
+-- what a text may be answered
+abbrev pub IsTextAnswer : List ℕ → Result Vector VectorError → Type 0
+IsTextAnswer text (Ok vector) = IsTextOf text vector
+IsTextAnswer text (Err error) = TextFails text error
+
+-- what two vectors that are joined may be answered
+abbrev pub IsJoinAnswer : Vector → Vector → Result Vector VectorError → Type 0
+IsJoinAnswer first second (Ok vector) = IsJoinOf first second vector
+IsJoinAnswer first second (Err error) = JoinFails first second error
+
+-- want of memory aside, there is one answer
+abbrev pub IsOneAnswer : (Result Vector VectorError → Type 0) → Type 0
+IsOneAnswer P = (a b : Result Vector VectorError) → a ≢ Err OutOfMemory → b ≢ Err OutOfMemory → P a → P b → a ≡ b
+
+abbrev pub TextHasOneAnswer : Type 0
+TextHasOneAnswer = (text : List ℕ) → IsOneAnswer (IsTextAnswer text)
+
+abbrev pub JoinHasOneAnswer : Type 0
+JoinHasOneAnswer = (first second : Vector) → IsOneAnswer (IsJoinAnswer first second)

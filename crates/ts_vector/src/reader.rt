@@ -1,0 +1,346 @@
+// Reads the text of a vector.
+ghost use Rattle.std.specs.Prelude.{◌≡◌, ◌<◌, ◌≤◌, ◌^◌, ℕ, length, List, [], ◌∷◌, ◌++◌, IfOk, IfErr, MatchOption, option_map, IsTrue, ◌↔◌, OnOk};
+ghost use Rattle.ts_base.specs.Fault.{FaultAt};
+ghost use Rattle.ts_base.specs.Leads.{Stands};
+ghost use Rattle.ts_base.specs.declared.Weight.{Weight};
+ghost use Rattle.ts_vector.specs.Text.{written, IsWhite, IsLetter, Written, IsVectorText};
+ghost use Rattle.ts_vector.specs.Drafts.{views};
+
+use std::alloc::{AllocError, Global};
+use std::mem;
+use ts_base::{Position, Weight};
+
+/// A lexeme as it is written: the offset at which it starts, its bytes and its positions.
+#[derive(Debug, Drop)]
+pub struct Draft {
+    pub start: usize,
+    pub lexeme: Vec<u8>,
+    pub positions: Vec<Position>,
+}
+
+#[derive(Clone, Copy, Debug, PartialEq, Eq)]
+enum State {
+    Between,
+    InQuoted,
+    QuotedEscape,
+    Quote,
+    InPlain,
+    PlainEscape,
+    Digits,
+    Weighted,
+}
+
+#[derive(Drop)]
+struct Reader {
+    state: State,
+    words: Vec<Draft>,
+    start: usize,
+    word: Vec<u8>,
+    positions: Vec<Position>,
+    value: u16,
+    ghost capped: { value ≤ 16383 },
+}
+
+/// White space: space, tab, LF, vertical tab, form feed and CR.
+fn is_white(byte: u8) -> bool
+    ensures { IsTrue result ↔ IsWhite byte }
+{
+    byte == b' ' || (9 <= byte && byte <= 13)
+}
+
+/// The weight that a letter names.
+fn weight_of(byte: u8) -> Option<Weight>
+    ensures { MatchOption result ((w : Weight) → ¬ IsLetter byte w) (IsLetter byte) }
+{
+    match byte {
+        b'A' | b'a' => Some(Weight::A),
+        b'B' | b'b' => Some(Weight::B),
+        b'C' | b'c' => Some(Weight::C),
+        b'D' | b'd' => Some(Weight::D),
+        _ => None,
+    }
+}
+
+impl Reader {
+    ghost use Rattle.ts_vector.specs.Rest.{shape, Stepped, Finished};
+
+    /// Ends an item that has no positions.
+    fn close_alone(&mut self, alloc: Global) -> Result<(), AllocError>
+        ensures items { OnOk result (views self.new.words.items ≡ views self.old.words.items ++ written self.old.start self.old.word.items [] ∷ []) }
+        ensures state { OnOk result (self.new.state ≡ State.Between) }
+    {
+        let lexeme = mem::replace(&mut self.word, Vec::new(alloc));
+        self.words.push(Draft {
+            start: self.start,
+            lexeme,
+            positions: Vec::new(alloc),
+        })?;
+        self.state = State::Between;
+        Ok(())
+    }
+
+    /// Ends an item that has positions.
+    fn close_at(&mut self, alloc: Global) -> Result<(), AllocError>
+        ensures items { OnOk result (views self.new.words.items ≡ views self.old.words.items ++ written self.old.start self.old.word.items self.old.positions.items ∷ []) }
+        ensures state { OnOk result (self.new.state ≡ State.Between) }
+    {
+        let lexeme = mem::replace(&mut self.word, Vec::new(alloc));
+        let positions = mem::replace(&mut self.positions, Vec::new(alloc));
+        self.words.push(Draft {
+            start: self.start,
+            lexeme,
+            positions,
+        })?;
+        self.state = State::Between;
+        Ok(())
+    }
+
+    /// Adds a byte to the lexeme.
+    fn put(&mut self, byte: u8, state: State) -> Result<(), AllocError>
+        ensures word { OnOk result (self.new.word.items ≡ self.old.word.items ++ byte ∷ []) }
+        ensures items { self.new.words.items ≡ self.old.words.items }
+        ensures start { self.new.start ≡ self.old.start }
+        ensures state { OnOk result (self.new.state ≡ state) }
+    {
+        self.word.push(byte)?;
+        self.state = state;
+        Ok(())
+    }
+
+    /// Begins a lexeme at the offset `at`.
+    fn begin(&mut self, at: usize, state: State)
+        ensures word { self.new.word.items ≡ [] }
+        ensures items { self.new.words.items ≡ self.old.words.items }
+        ensures start { self.new.start ≡ at }
+        ensures state { self.new.state ≡ state }
+        ensures positions { self.new.positions ≡ self.old.positions }
+        ensures value { self.new.value ≡ self.old.value }
+    {
+        self.word.clear();
+        self.start = at;
+        self.state = state;
+    }
+
+    fn begin_positions(&mut self)
+        ensures state { self.new.state ≡ State.Digits }
+        ensures items { self.new.words.items ≡ self.old.words.items }
+        ensures start { self.new.start ≡ self.old.start }
+        ensures word { self.new.word ≡ self.old.word }
+        ensures positions { self.new.positions.items ≡ [] }
+        ensures value { self.new.value ≡ 0 }
+    {
+        self.positions.clear();
+        self.value = 0;
+        self.state = State::Digits;
+    }
+
+    /// Between items, at the offset `at`.
+    fn between(&mut self, at: usize, byte: u8) -> Result<bool, AllocError>
+        requires { self.old.state ≡ State.Between }
+        ensures { IfOk result (λ ok. Stepped at (shape self.old) byte ok (shape self.new)) }
+    {
+        match byte {
+            b'\'' => {
+                self.begin(at, State::InQuoted);
+            }
+            b'\\' => {
+                self.begin(at, State::PlainEscape);
+            }
+            b':' => return Ok(false),
+            _ => {
+                if !is_white(byte) {
+                    self.begin(at, State::InPlain);
+                    self.put(byte, State::InPlain)?;
+                }
+            }
+        }
+        Ok(true)
+    }
+
+    /// Within a quoted lexeme.
+    fn in_quoted(&mut self, at: usize, byte: u8) -> Result<bool, AllocError>
+        requires { self.old.state ≡ State.InQuoted }
+        ensures { IfOk result (λ ok. Stepped at (shape self.old) byte ok (shape self.new)) }
+    {
+        match byte {
+            b'\'' => self.state = State::Quote,
+            b'\\' => self.state = State::QuotedEscape,
+            _ => self.put(byte, State::InQuoted)?,
+        }
+        Ok(true)
+    }
+
+    /// Behind a quote within a quoted lexeme: it ended there, or another quote follows.
+    fn quote(&mut self, alloc: Global, at: usize, byte: u8) -> Result<bool, AllocError>
+        requires { self.old.state ≡ State.Quote }
+        ensures { IfOk result (λ ok. Stepped at (shape self.old) byte ok (shape self.new)) }
+    {
+        if byte == b'\'' {
+            self.put(byte, State::InQuoted)?;
+            return Ok(true);
+        }
+        if self.word.is_empty() {
+            return Ok(false);
+        }
+        if byte == b':' {
+            self.begin_positions();
+            return Ok(true);
+        }
+        self.close_alone(alloc)?;
+        let ok = self.between(at, byte)?;
+        Ok(ok)
+    }
+
+    /// Within a plain lexeme.
+    fn in_plain(&mut self, alloc: Global, at: usize, byte: u8) -> Result<bool, AllocError>
+        requires { self.old.state ≡ State.InPlain }
+        ensures { IfOk result (λ ok. Stepped at (shape self.old) byte ok (shape self.new)) }
+    {
+        match byte {
+            b'\\' => self.state = State::PlainEscape,
+            b':' => self.begin_positions(),
+            _ => {
+                if is_white(byte) {
+                    self.close_alone(alloc)?;
+                } else {
+                    self.put(byte, State::InPlain)?;
+                }
+            }
+        }
+        Ok(true)
+    }
+
+    /// Within a position's number.
+    fn digits(&mut self, alloc: Global, at: usize, byte: u8) -> Result<bool, AllocError>
+        requires { self.old.state ≡ State.Digits }
+        ensures { IfOk result (λ ok. Stepped at (shape self.old) byte ok (shape self.new)) }
+    {
+        if b'0' <= byte && byte <= b'9' {
+            let value = (self.value as u32 * 10 + (byte - b'0') as u32).min(16383);
+            self.value = value as u16;
+            return Ok(true);
+        }
+        if self.value == 0 {
+            return Ok(false);
+        }
+        if let Some(weight) = weight_of(byte) {
+            let position = Position::new(self.value, weight);
+            self.positions.push(position)?;
+            self.state = State::Weighted;
+            return Ok(true);
+        }
+        if byte == b',' {
+            let position = Position::new(self.value, Weight::D);
+            self.positions.push(position)?;
+            self.value = 0;
+            return Ok(true);
+        }
+        if is_white(byte) {
+            let position = Position::new(self.value, Weight::D);
+            self.positions.push(position)?;
+            self.close_at(alloc)?;
+            return Ok(true);
+        }
+        Ok(false)
+    }
+
+    /// Behind a position's letter.
+    fn weighted(&mut self, alloc: Global, at: usize, byte: u8) -> Result<bool, AllocError>
+        requires { self.old.state ≡ State.Weighted }
+        ensures { IfOk result (λ ok. Stepped at (shape self.old) byte ok (shape self.new)) }
+    {
+        if byte == b',' {
+            self.value = 0;
+            self.state = State::Digits;
+            return Ok(true);
+        }
+        if is_white(byte) {
+            self.close_at(alloc)?;
+            return Ok(true);
+        }
+        Ok(false)
+    }
+
+    /// The byte at the offset `at`; `false` where it can't stand here.
+    fn step(&mut self, alloc: Global, at: usize, byte: u8) -> Result<bool, AllocError>
+        ensures { IfOk result (λ ok. Stepped at (shape self.old) byte ok (shape self.new)) }
+    {
+        match self.state {
+            State::Between => self.between(at, byte),
+            State::InQuoted => self.in_quoted(at, byte),
+            State::QuotedEscape => {
+                self.put(byte, State::InQuoted)?;
+                Ok(true)
+            }
+            State::Quote => self.quote(alloc, at, byte),
+            State::InPlain => self.in_plain(alloc, at, byte),
+            State::PlainEscape => {
+                self.put(byte, State::InPlain)?;
+                Ok(true)
+            }
+            State::Digits => self.digits(alloc, at, byte),
+            State::Weighted => self.weighted(alloc, at, byte),
+        }
+    }
+
+    /// The items, if the text may end here.
+    fn finish(mut self, alloc: Global) -> Result<Option<Vec<Draft>>, AllocError>
+        ensures { IfOk result (λ r. Finished (shape self) (option_map (λ v. views v.items) r)) }
+    {
+        match self.state {
+            State::Between => Ok(Some(self.words)),
+            State::Quote => {
+                if self.word.is_empty() {
+                    return Ok(None);
+                }
+                self.close_alone(alloc)?;
+                Ok(Some(self.words))
+            }
+            State::InPlain => {
+                self.close_alone(alloc)?;
+                Ok(Some(self.words))
+            }
+            State::Digits => {
+                if self.value == 0 {
+                    return Ok(None);
+                }
+                let position = Position::new(self.value, Weight::D);
+                self.positions.push(position)?;
+                self.close_at(alloc)?;
+                Ok(Some(self.words))
+            }
+            State::Weighted => {
+                self.close_at(alloc)?;
+                Ok(Some(self.words))
+            }
+            State::InQuoted | State::QuotedEscape | State::PlainEscape => Ok(None),
+        }
+    }
+}
+
+/// The items of a vector's text, in their order in the text, or the place of its first fault.
+pub fn read(alloc: Global, text: &[u8]) -> Result<Result<Vec<Draft>, usize>, AllocError>
+    // What is read is written so, and nothing else is.
+    ensures found { IfOk result (λ r. IfOk r (λ v. IsVectorText text.now (views v.items))) }
+    ensures bound { length text.now < 2 ^ 64 }
+    // A text outside the grammar is refused at its first fault.
+    ensures fault { IfOk result (λ r. IfErr r (λ at. FaultAt (Stands (List Written) IsVectorText) text.now at)) }
+{
+    let mut reader = Reader {
+        state: State::Between,
+        words: Vec::new(alloc),
+        start: 0,
+        word: Vec::new(alloc),
+        positions: Vec::new(alloc),
+        value: 0,
+    };
+    for (i, &byte) in text.iter().enumerate() {
+        if !reader.step(alloc, i, byte)? {
+            return Ok(Err(i));
+        }
+    }
+    match reader.finish(alloc)? {
+        Some(items) => Ok(Ok(items)),
+        None => Ok(Err(text.len())),
+    }
+}
