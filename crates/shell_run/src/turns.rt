@@ -1,5 +1,5 @@
 // How many statements each session has begun.
-ghost use Rattle.std.specs.Prelude.{◌≡◌, ℕ, ◌+◌, ◌-◌, ◌^◌, ◌≤◌, min, slice_index, slice_set};
+ghost use Rattle.std.specs.Prelude.{◌≡◌, ◌≢◌, ℕ, ◌+◌, ◌-◌, ◌^◌, ◌≤◌, min, replicate, slice_index, slice_set};
 
 use crate::gate::Gate;
 
@@ -10,7 +10,10 @@ pub struct Turns {
 }
 
 impl Turns {
-    pub fn new() -> Turns {
+    /// No statement was counted yet.
+    pub fn new() -> Turns
+        ensures { result.counts ≡ replicate 9 0 }
+    {
         Turns { counts: [0; 9] }
     }
 
@@ -28,6 +31,8 @@ impl Turns {
     /// A statement of a session passes the gate. A line without a session passes none.
     pub fn pass<G: Gate>(&mut self, gate: &G, session: u8)
         requires { session ≤ 8 }
+        ensures counted { session ≢ 0 → self.new.counts ≡ slice_set self.old.counts session (min (slice_index self.old.counts session + 1) (2 ^ 32 - 1)) }
+        ensures none { session ≡ 0 → self.new ≡ self.old }
     {
         if session == 0 {
             return;
