@@ -14,15 +14,13 @@ use Rattle.ts_query.specs.declared.error.QueryError.TheVariants as queries
 use Rattle.ts_query.proofs.Answer.{one_answer}
 use Rattle.shell_run.specs.Grammar.{Part, Expr}
 use Rattle.shell_run.specs.Replies.{Refusal, no_statement, bad_vector, bad_query, long_lexeme, large_vector, large_query, store_full, log_full, down, device, memory}
+use Rattle.shell_run.specs.Answers.{refusal}
+use Rattle.shell_run.specs.Refusing.{vector_refusal, query_refusal}
 use Rattle.shell_run.specs.Values.{IsPartOf, IsJoinedOf, PartFails, JoinIsRefused, OthersFail, QueryFails, IsExprAnswer, IsQueryAnswer, IsOneAnswer}
 
 -- the refusal that an error is shown as
 abbrev shown : VectorError → Refusal
-shown (vectors.Syntax at) = bad_vector at
-shown (vectors.LexemeTooLong at) = long_lexeme at
-shown (vectors.VectorTooLarge bytes) = large_vector bytes
-shown (vectors.BadBytes at) = bad_vector at
-shown vectors.OutOfMemory = memory
+shown e = refusal (vector_refusal e)
 
 -- a refusal other than want of memory is an error's
 abbrev Caused : (VectorError → Type 0) → Refusal → Type 0
@@ -157,11 +155,7 @@ expr_one e a b m n h k = first_one e a b m n (first_of e a h) (first_of e b k)
 
 -- ── queries ──
 abbrev shown_query : QueryError → Refusal
-shown_query (queries.Syntax at) = bad_query at
-shown_query (queries.DistanceTooLarge at) = bad_query at
-shown_query (queries.LexemeTooLong at) = long_lexeme at
-shown_query queries.TooManyNodes = large_query
-shown_query queries.OutOfMemory = memory
+shown_query e = refusal (query_refusal e)
 
 abbrev QueryCaused : List ℕ → Refusal → Type 0
 QueryCaused text why = (e : QueryError) × (e ≢ queries.OutOfMemory) × (why ≡ shown_query e) × IsRefused text e
