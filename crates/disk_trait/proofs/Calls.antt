@@ -1,13 +1,13 @@
 -- What a whole call of a device in memory does.
 use Rattle.std.proofs.Common.{◌≡◌, ℕ, ◌+◌, ◌-◌, ◌^◌, Bool, true, false, List, length, refl, sym, ap, ◌∙◌, subst, arith, inl, inr, ◌⊎◌, ⊎_elim, Result, Ok, Err, OnOk, OnErr, IsOk, IsErr}
-use Rattle.disk_trait.specs.Files.{Files, part}
+use Rattle.disk_trait.specs.Files.{Files, file_bytes}
 use Rattle.disk_trait.specs.Device.{FileTorn, FileWritten, Elapses, LeavesNoMore, LeavesAll, Durable}
-use Rattle.disk_trait.specs.Memory.{LeftAt}
-use Rattle.disk_trait.specs.Pushed.{IsSameFile, HasWritten, HasSynced}
-use Rattle.disk_trait.specs.Kept.{IsIdle, HasWrittenTo, HasSyncedFile, Steps, is_done, KeepsWrite, KeepsSync, SameFiles}
-use Rattle.disk_trait.specs.Laws.{seen_of, image_of}
+use Rattle.disk_trait.specs.Events.{LeftAt}
+use Rattle.disk_trait.specs.Inner.Pushed.{IsSameFile, HasWritten, HasSynced}
+use Rattle.disk_trait.specs.Inner.Kept.{IsIdle, HasWrittenTo, HasSyncedFile, Steps, is_done, KeepsWrite, KeepsSync, SameFiles}
+use Rattle.disk_trait.specs.MemoryDisk.{seen_of, image_of}
 use Rattle.disk_trait.proofs.Moments.{elapses, grown_same, grown_written, grown_synced, same_leaves, same_keeps, written_leaves, written_keeps, synced_keeps, synced_leaves, synced_no_more, bytes_same, bytes_written, bytes_failed, bytes_synced}
-use Rattle.disk_trait.specs.Standing.{torn_same}
+use Rattle.disk_trait.specs.Inner.Standing.{torn_same}
 use Rattle.disk_trait.specs.declared.device.File.{File}
 use Rattle.disk_trait.specs.declared.device.File.TheVariants.{Log, Pages}
 use Rattle.disk_trait.specs.declared.memory.MemoryFile.{MemoryFile}
@@ -105,7 +105,7 @@ wrote_seen d mid e begun at bytes Pages wrote = record {
 
 -- a sync that was taken up
 module _ (d mid e : MemoryDisk) (begun : Begun d mid) where
-  synced_crash : (file : File) → HasSyncedFile file mid e → (c : Files) → image_of e e.schedule.calls c → image_of d d.schedule.calls c × (part file c ≡ part file (seen_of d))
+  synced_crash : (file : File) → HasSyncedFile file mid e → (c : Files) → image_of e e.schedule.calls c → image_of d d.schedule.calls c × (file_bytes file c ≡ file_bytes file (seen_of d))
   synced_crash Log synced c left =
       let t : e.schedule.calls ≡ d.schedule.calls + 1 = ap (λ (s : Schedule). s.calls) synced.2.0 ∙ begun.2 in
       let now = subst (λ k. LeftAt e.log.first.items e.log.events.items k c.log) t left.0 in
@@ -119,7 +119,7 @@ module _ (d mid e : MemoryDisk) (begun : Begun d mid) where
       let rest = same_leaves d.schedule.calls e.schedule.calls d.log e.log c.log (same_from d.log mid.log e.log begun.0 synced.0) d.log_past (omega (arith, t)) left.0 in
       ((rest, synced_no_more d.schedule.calls d.pages e.pages c.pages step d.pages_past now), synced_leaves d.schedule.calls d.pages e.pages c.pages step d.pages_past now)
 
-  synced_all : (file : File) → HasSyncedFile file mid e → (c : Files) → image_of d d.schedule.calls c → part file c ≡ part file (seen_of d) → image_of e e.schedule.calls c
+  synced_all : (file : File) → HasSyncedFile file mid e → (c : Files) → image_of d d.schedule.calls c → file_bytes file c ≡ file_bytes file (seen_of d) → image_of e e.schedule.calls c
   synced_all Log synced c was is =
       let t : e.schedule.calls ≡ d.schedule.calls + 1 = ap (λ (s : Schedule). s.calls) synced.2.0 ∙ begun.2 in (
         subst (λ k. LeftAt e.log.first.items e.log.events.items k c.log) (sym t) (synced_keeps d.schedule.calls d.log e.log c.log (syncs_from d mid d.log mid.log e.log begun.2 begun.0 synced.0) d.log_past is),
@@ -156,7 +156,7 @@ Writes file at bytes done d e = ((done ≡ false) × IsIdle d e) ⊎ Steps (HasW
 abbrev Syncs : File → Bool → MemoryDisk → MemoryDisk → Type 0
 Syncs file done d e = ((done ≡ false) × IsIdle d e) ⊎ ((done ≡ true) × Steps (HasSyncedFile file) d e)
 
--- what a call is taken for, where its want of memory is no matter
+-- what a call is taken for, where it is no matter that memory ran out
 module _ {E : Type 0} where
   pub writes_way : (file : File) (at : ℕ) (bytes : List ℕ) (d e : MemoryDisk) (tried : Result Bool E) → KeepsWrite file at bytes d e tried → Writes file at bytes (is_done tried) d e
   writes_way file at bytes d e (Ok done) keeps = ⊎_elim (λ (idle : (done ≡ false) × (d.schedule.calls ≡ 2 ^ 64 - 1) × IsIdle d e). inl (idle.0, idle.2)) (λ (kept : Steps (HasWrittenTo file at bytes done) d e). inr kept) keeps
@@ -207,12 +207,12 @@ pub sync_crash : (file : File) (done : Bool) (d e : MemoryDisk) → Syncs file d
 sync_crash file done d e way c left = ⊎_elim (λ (idle : (done ≡ false) × IsIdle d e). idle_crash d e idle.1 c left)
     (λ (w : (done ≡ true) × Steps (HasSyncedFile file) d e). (synced_crash d w.1.0 e (w.1.1, w.1.2, w.1.3) file w.1.4 c left).0) way
 
-pub sync_durable : (file : File) (done : Bool) (d e : MemoryDisk) → Syncs file done d e → done ≡ true → Durable file (part file (seen_of d)) (image_of e e.schedule.calls)
+pub sync_durable : (file : File) (done : Bool) (d e : MemoryDisk) → Syncs file done d e → done ≡ true → Durable file (file_bytes file (seen_of d)) (image_of e e.schedule.calls)
 sync_durable file done d e way is c left = ⊎_elim (λ (idle : (done ≡ false) × IsIdle d e). let no = idle.0 in absurd (cc (no, is)))
     (λ (w : (done ≡ true) × Steps (HasSyncedFile file) d e). (synced_crash d w.1.0 e (w.1.1, w.1.2, w.1.3) file w.1.4 c left).1) way
 
 -- the other file stays as it was
-pub sync_all : (file : File) (done : Bool) (d e : MemoryDisk) → Syncs file done d e → (c : Files) → image_of d d.schedule.calls c → (done ≡ true → part file c ≡ part file (seen_of d)) → image_of e e.schedule.calls c
+pub sync_all : (file : File) (done : Bool) (d e : MemoryDisk) → Syncs file done d e → (c : Files) → image_of d d.schedule.calls c → (done ≡ true → file_bytes file c ≡ file_bytes file (seen_of d)) → image_of e e.schedule.calls c
 sync_all file done d e way c was is = ⊎_elim (λ (idle : (done ≡ false) × IsIdle d e). idle_keeps d e idle.1 c was)
     (λ (w : (done ≡ true) × Steps (HasSyncedFile file) d e). synced_all d w.1.0 e (w.1.1, w.1.2, w.1.3) file w.1.4 c was (is w.0)) way
 

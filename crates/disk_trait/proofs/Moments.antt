@@ -1,30 +1,26 @@
 -- What one call does to the past of a file in memory, and so to what a crash may have left.
-use Rattle.std.proofs.Common.{◌≡◌, ◌⊎◌, ℕ, ◌+◌, ◌≤◌, ◌<◌, Bool, true, false, cond, leb, List, [], ◌∷◌, ◌++◌, length, refl, sym, ap, ◌∙◌, subst, arith, inl, inr, ⊎_elim}
+use Rattle.std.proofs.Common.{◌≡◌, ◌⊎◌, ℕ, ◌+◌, ◌≤◌, Bool, true, false, leb, List, [], ◌∷◌, ◌++◌, length, refl, sym, ap, ◌∙◌, subst, arith, inl, inr, ⊎_elim}
 use Rattle.std.proofs.lemmas.Bool.Decides.{nat_tests}
 use Rattle.disk_trait.specs.Files.{overwritten}
 use Rattle.disk_trait.specs.Device.{Torn, Elapses}
-use Rattle.disk_trait.specs.Memory.{changed, content, Left, Images, until, newest, LeftAt}
-use Rattle.disk_trait.specs.Standing.{content_left, until_all}
-use Rattle.disk_trait.specs.Pushed.{event, IsSameFile, HasWritten, HasSynced}
-use Rattle.disk_trait.specs.Laws.{image_of}
+use Rattle.disk_trait.specs.Events.{changed, content, LeavesAfter, Images, until, newest, LeftAt}
+use Rattle.disk_trait.specs.Inner.Standing.{content_left, until_all}
+use Rattle.disk_trait.specs.Inner.Pushed.{event, IsSameFile, HasWritten, HasSynced}
+use Rattle.disk_trait.specs.MemoryDisk.{image_of}
 use Rattle.disk_trait.proofs.Growing.{content-push}
-use Rattle.disk_trait.proofs.Replaying.{images_on}
+use Rattle.disk_trait.proofs.Replaying.{images_on, until_off}
 use Rattle.disk_trait.specs.declared.past.Change.TheVariants.{Write, Sync}
 use Rattle.disk_trait.specs.declared.past.Event.{Event}
 use Rattle.disk_trait.specs.declared.memory.MemoryFile.{MemoryFile}
 use Rattle.disk_trait.specs.declared.disk.MemoryDisk.{MemoryDisk}
 
-until_before : (m : ℕ) (es : List Event) (e : Event) → m < e.moment → until m (es ++ e ∷ []) ≡ until m es
-until_before m [] e lt = let no : leb e.moment m ≡ false = grind (arith, nat_tests) in rw no refl
-until_before m (x ∷ es) e lt = ap (λ (l : List Event). cond (leb x.moment m) (x ∷ l) l) (until_before m es e lt)
-
 until_push : (m : ℕ) (es : List Event) (e : Event) → newest es ≤ m → e.moment ≤ m → until m (es ++ e ∷ []) ≡ es ++ e ∷ []
 until_push m [] e new le = let yes : leb e.moment m ≡ true = grind (arith, nat_tests) in rw yes refl
 until_push m (x ∷ es) e new le = let yes : leb x.moment m ≡ true = grind (arith, nat_tests) in rw yes (ap (λ (l : List Event). x ∷ l) (until_push m es e (omega arith) le))
 
-images_push : (es : List Event) (now : List ℕ) (may : List ℕ → Type 0) (e : Event) (c : List ℕ) → Images now may (es ++ e ∷ []) c → Left e.change (content now es) (Images now may es) c
+images_push : (es : List Event) (now : List ℕ) (may : List ℕ → Type 0) (e : Event) (c : List ℕ) → Images now may (es ++ e ∷ []) c → LeavesAfter e.change (content now es) (Images now may es) c
 images_push [] now may e c left = left
-images_push (x ∷ es) now may e c left = images_push es (changed x.change now) (Left x.change now may) e c left
+images_push (x ∷ es) now may e c left = images_push es (changed x.change now) (LeavesAfter x.change now may) e c left
 
 -- the images of a file that held `first`, after these events
 abbrev After : List ℕ → List Event → List ℕ → Type 0
@@ -39,14 +35,14 @@ pub record Grown (t : ℕ) (f f' : MemoryFile) : Type 0 where
   pub way : (f'.events.items ≡ f.events.items) ⊎ ((e : Event) × (e.moment ≡ t + 1) × (f'.events.items ≡ f.events.items ++ e ∷ []))
 
 same_past : (t m : ℕ) (f f' : MemoryFile) → Grown t f f' → m ≤ t → until m f'.events.items ≡ until m f.events.items
-same_past t m f f' grown le = ⊎_elim (λ (same : f'.events.items ≡ f.events.items). ap (until m) same)
-    (λ (w : (e : Event) × (e.moment ≡ t + 1) × (f'.events.items ≡ f.events.items ++ e ∷ [])). ap (until m) w.2 ∙ until_before m f.events.items w.0 (omega (arith, w.1))) grown.way
+same_past t m f f' padded le = ⊎_elim (λ (same : f'.events.items ≡ f.events.items). ap (until m) same)
+    (λ (w : (e : Event) × (e.moment ≡ t + 1) × (f'.events.items ≡ f.events.items ++ e ∷ [])). ap (until m) w.2 ∙ until_off m f.events.items w.0 (omega (arith, w.1))) padded.way
 
 past_is : (t m : ℕ) (f f' : MemoryFile) (c : List ℕ) → Grown t f f' → m ≤ t → LeftAt f'.first.items f'.events.items m c → LeftAt f.first.items f.events.items m c
-past_is t m f f' c grown le left = after_same f.first.items f'.first.items (until m f.events.items) (until m f'.events.items) c grown.first (same_past t m f f' grown le) left
+past_is t m f f' c padded le left = after_same f.first.items f'.first.items (until m f.events.items) (until m f'.events.items) c padded.first (same_past t m f f' padded le) left
 
 past_keeps : (t m : ℕ) (f f' : MemoryFile) (c : List ℕ) → Grown t f f' → m ≤ t → LeftAt f.first.items f.events.items m c → LeftAt f'.first.items f'.events.items m c
-past_keeps t m f f' c grown le left = after_same f'.first.items f.first.items (until m f'.events.items) (until m f.events.items) c (sym grown.first) (sym (same_past t m f f' grown le)) left
+past_keeps t m f f' c padded le left = after_same f'.first.items f.first.items (until m f'.events.items) (until m f.events.items) c (sym padded.first) (sym (same_past t m f f' padded le)) left
 
 -- time goes on
 pub elapses : (d d' : MemoryDisk) → Grown d.schedule.calls d.log d'.log → Grown d.schedule.calls d.pages d'.pages → d.schedule.calls ≤ d'.schedule.calls → d'.schedule.calls ≤ d.schedule.calls + 1 → Elapses d.schedule.calls d'.schedule.calls (image_of d) (image_of d')
@@ -71,13 +67,13 @@ same_keeps t t' f f' c same new le left = after_same f'.first.items f.first.item
 
 -- what is left of a file with one event more
 pushed_leaves : (t : ℕ) (f f' : MemoryFile) (e : Event) (c : List ℕ) → f'.first.items ≡ f.first.items → f'.events.items ≡ f.events.items ++ e ∷ [] → e.moment ≡ t + 1 → newest f.events.items ≤ t
-    → LeftAt f'.first.items f'.events.items (t + 1) c → Left e.change (content f.first.items f.events.items) (After f.first.items f.events.items) c
+    → LeftAt f'.first.items f'.events.items (t + 1) c → LeavesAfter e.change (content f.first.items f.events.items) (After f.first.items f.events.items) c
 pushed_leaves t f f' e c first events moment new left =
     images_push f.events.items f.first.items (λ d. d ≡ f.first.items) e c
     (after_same f.first.items f'.first.items (f.events.items ++ e ∷ []) (until (t + 1) f'.events.items) c first (ap (until (t + 1)) events ∙ until_push (t + 1) f.events.items e (omega arith) (omega (arith, moment))) left)
 
 pushed_keeps : (t : ℕ) (f f' : MemoryFile) (e : Event) (c : List ℕ) → f'.first.items ≡ f.first.items → f'.events.items ≡ f.events.items ++ e ∷ [] → e.moment ≡ t + 1 → newest f.events.items ≤ t
-    → Left e.change (content f.first.items f.events.items) (After f.first.items f.events.items) c → LeftAt f'.first.items f'.events.items (t + 1) c
+    → LeavesAfter e.change (content f.first.items f.events.items) (After f.first.items f.events.items) c → LeftAt f'.first.items f'.events.items (t + 1) c
 pushed_keeps t f f' e c first events moment new left =
     after_same f'.first.items f.first.items (until (t + 1) f'.events.items) (f.events.items ++ e ∷ []) c (sym first)
     (sym (ap (until (t + 1)) events ∙ until_push (t + 1) f.events.items e (omega arith) (omega (arith, moment)))) (images_on f.events.items f.first.items (λ d. d ≡ f.first.items) e c left)

@@ -1,10 +1,8 @@
 pub mod Files
 pub mod Device
-pub mod Steps
+pub mod Runs
 pub mod Schedules
 pub mod Streams
-pub mod Memory
-pub mod Standing
-pub mod Pushed
-pub mod Kept
-pub mod Laws
+pub mod Events
+pub mod MemoryDisk
+pub mod Inner

@@ -4,8 +4,8 @@ use Rattle.disk_trait.specs.declared.schedule.Schedule.{Schedule}
 use Rattle.disk_trait.specs.declared.source.MemorySource.{MemorySource}
 use Rattle.disk_trait.specs.declared.sink.MemorySink.{MemorySink}
 
-abbrev pub left_of : MemorySource → List ℕ
-left_of s = drop s.place s.bytes.items
+abbrev pub unread : MemorySource → List ℕ
+unread s = drop s.place s.bytes.items
 
 -- how many bytes a call gives at most
 abbrev pub piece_of : MemorySource → ℕ

@@ -1,7 +1,7 @@
 // The device over two files in memory.
 ghost use Rattle.std.specs.Prelude.{◌≡◌, ◌⊎◌, ◌↔◌, ◌+◌, ◌-◌, ◌^◌, ◌<◌, ◌≤◌, min, length, take, drop, [], true, false, OnOk, OnErr, IfOk, IsErr, IsOk};
 ghost use Rattle.std.specs.Io.{ReadsAtMost};
-ghost use Rattle.disk_trait.specs.Memory.{newest};
+ghost use Rattle.disk_trait.specs.Events.{newest};
 
 use crate::device::{Disk, Failed, File};
 use crate::memory::MemoryFile;
@@ -11,10 +11,15 @@ use std::alloc::{AllocError, Global};
 /// It starts empty. The calls in its list fail, and so does a write or a sync that finds no memory.
 #[derive(Drop)]
 pub struct MemoryDisk {
+    /// Where the files find memory.
     alloc: Global,
+    /// The calls, of which the number is the clock.
     schedule: Schedule,
+    /// How many writes and syncs have failed.
     write_faults: u64,
+    /// The file `Log`.
     log: MemoryFile,
+    /// The file `Pages`.
     pages: MemoryFile,
     ghost log_past: { newest log.events.items ≤ schedule.calls },
     ghost pages_past: { newest pages.events.items ≤ schedule.calls },
@@ -22,11 +27,12 @@ pub struct MemoryDisk {
 
 impl MemoryDisk {
     ghost use Rattle.disk_trait.specs.Schedules.{IsUnused, HasCounted, HasRisen, MustFail};
-    ghost use Rattle.disk_trait.specs.Kept.{HasBegunCall, HasWrittenTo, HasSyncedFile, HasKept, IsIdle, is_done, KeepsWrite, KeepsSync, Tries, SameFiles};
-    ghost use Rattle.disk_trait.specs.Files.{Files, part};
-    ghost use Rattle.disk_trait.specs.Laws.{seen_of, image_of, schedule_of, clock_of, write_faults_of, with_fails};
-    ghost use Rattle.disk_trait.specs.Device.{HasCause, CountsFailures};
+    ghost use Rattle.disk_trait.specs.Inner.Kept.{HasBegunCall, HasWrittenTo, HasSyncedFile, HasKept, IsIdle, is_done, KeepsWrite, KeepsSync, Tries, SameFiles};
+    ghost use Rattle.disk_trait.specs.Files.{Files, file_bytes, file_limit};
+    ghost use Rattle.disk_trait.specs.MemoryDisk.{seen_of, image_of, schedule_of, clock_of, write_faults_of, with_fails};
+    ghost use Rattle.disk_trait.specs.Device.{last_count, HasCause, CountsFailures, Elapses, LeavesNoMore};
 
+    /// Two empty files. The calls in the list fail.
     pub fn new(alloc: Global, fails: Vec<u64>) -> MemoryDisk
         ensures empty { ((seen_of result).log ≡ []) × ((seen_of result).pages ≡ []) }
         ensures settled { (c : Files) → image_of result 0 c → c ≡ seen_of result }
@@ -57,7 +63,8 @@ impl MemoryDisk {
 
     /// One of the images that a crash at this moment may have left, as a device of its own.
     /// 0 leaves each range that was not synced as it was at the last sync, with the least length;
-    /// 1 leaves what was written; 2 fills the ranges with the byte 1, any other with bytes drawn from it.
+    /// 1 leaves what was written; 2 fills the ranges with the byte 1, any other with bytes drawn
+    /// from it.
     pub fn image(&self, alloc: Global, moment: u64, pick: u64) -> Result<MemoryDisk, AllocError>
         requires { moment ≤ clock_of self.now }
         ensures image { IfOk result (λ d. image_of self.now moment (seen_of d)) }
@@ -75,7 +82,7 @@ impl MemoryDisk {
         })
     }
 
-    // Keeps a write. One that is not done is in what a crash may leave, and in no read.
+    /// Keeps a write. One that is not done is in what a crash may leave, and in no read.
     fn keep_write(
         &mut self,
         file: File,
@@ -83,7 +90,7 @@ impl MemoryDisk {
         bytes: &[u8],
         done: bool,
     ) -> Result<(), AllocError>
-        requires { at + length bytes.now ≤ 2 ^ 62 }
+        requires { at + length bytes.now ≤ file_limit }
         ensures ok { OnOk result (HasWrittenTo file at bytes.now done self.old self.new) }
         ensures err { OnErr result (HasKept self.old self.new) }
     {
@@ -97,6 +104,7 @@ impl MemoryDisk {
         }
     }
 
+    /// Keeps a sync.
     fn keep_sync(&mut self, file: File) -> Result<(), AllocError>
         ensures ok { OnOk result (HasSyncedFile file self.old self.new) }
         ensures err { OnErr result (HasKept self.old self.new) }
@@ -107,11 +115,12 @@ impl MemoryDisk {
         }
     }
 
-    // Counts a call that reads.
-    fn start(&mut self) -> Result<(), Failed>
+    /// Counts a call that reads.
+    fn begin_read(&mut self) -> Result<(), Failed>
         ensures idle { IsIdle self.old self.new }
         ensures seen { seen_of self.new ≡ seen_of self.old }
-        ensures cause { HasCause (schedule_of self.old).faults (schedule_of self.new).faults result }
+        ensures cause { HasCause (schedule_of self.old).faults
+            (schedule_of self.new).faults result }
         ensures writes { write_faults_of self.new ≡ write_faults_of self.old }
         ensures counted { HasCounted (schedule_of self.old) (schedule_of self.new) result }
         ensures fails { IsErr result ↔ MustFail (schedule_of self.old) }
@@ -123,10 +132,31 @@ impl MemoryDisk {
         Err(Failed)
     }
 
+    /// Counts a call that reads. A crash leaves what it could have left before.
+    fn start(&mut self) -> Result<(), Failed>
+        ensures crash { LeavesNoMore (image_of self.old (clock_of self.old))
+            (image_of self.new (clock_of self.new)) }
+        ensures keeps { LeavesNoMore (image_of self.new (clock_of self.new))
+            (image_of self.old (clock_of self.old)) }
+        ensures time { Elapses (clock_of self.old) (clock_of self.new) (image_of self.old)
+            (image_of self.new) }
+        ensures seen { seen_of self.new ≡ seen_of self.old }
+        ensures cause { HasCause (schedule_of self.old).faults
+            (schedule_of self.new).faults result }
+        ensures writes { write_faults_of self.new ≡ write_faults_of self.old }
+        ensures counted { HasCounted (schedule_of self.old) (schedule_of self.new) result }
+        ensures fails { IsErr result ↔ MustFail (schedule_of self.old) }
+    {
+        self.begin_read()
+    }
+
+    /// The bytes of a file from a place on, as many as fit.
     fn read_of(&self, file: File, at: u64, buf: &mut [u8]) -> usize
-        ensures count { result ≡ min (length buf.old) (length (part file (seen_of self.now)) - at) }
+        ensures count { result
+            ≡ min (length buf.old) (length (file_bytes file (seen_of self.now)) - at) }
         ensures len { length buf.new ≡ length buf.old }
-        ensures bytes { take result buf.new ≡ take result (drop at (part file (seen_of self.now))) }
+        ensures bytes { take result buf.new
+            ≡ take result (drop at (file_bytes file (seen_of self.now))) }
     {
         match file {
             File::Log => self.log.read(at, buf),
@@ -134,8 +164,9 @@ impl MemoryDisk {
         }
     }
 
+    /// The length of a file.
     fn len_of(&self, file: File) -> u64
-        ensures { result ≡ length (part file (seen_of self.now)) }
+        ensures { result ≡ length (file_bytes file (seen_of self.now)) }
     {
         match file {
             File::Log => self.log.len(),
@@ -143,16 +174,16 @@ impl MemoryDisk {
         }
     }
 
-    // Counts a call that writes, and says whether it goes on.
+    /// Counts a call that writes, and says whether it goes on.
     fn begin_write(&mut self) -> bool
         ensures { HasBegunCall self.old self.new result }
     {
         self.schedule.begin() && self.write_faults < u64::MAX
     }
 
-    // Whether it was done.
+    /// Whether it was done.
     fn try_write(&mut self, file: File, at: usize, bytes: &[u8]) -> Result<bool, AllocError>
-        requires { at + length bytes.now ≤ 2 ^ 62 }
+        requires { at + length bytes.now ≤ file_limit }
         ensures keeps { KeepsWrite file at bytes.now self.old self.new result }
         ensures counts { Tries self.old self.new result }
     {
@@ -167,7 +198,7 @@ impl MemoryDisk {
         }
     }
 
-    // Whether it was done.
+    /// Whether it was done.
     fn try_sync(&mut self, file: File) -> Result<bool, AllocError>
         ensures keeps { KeepsSync file self.old self.new result }
         ensures counts { Tries self.old self.new result }
@@ -181,17 +212,22 @@ impl MemoryDisk {
         }
     }
 
-    // Counts a write or a sync that failed, also for want of memory.
+    /// Counts a write or a sync that failed, also where memory runs out.
     fn answer(&mut self, tried: Result<bool, AllocError>) -> Result<(), Failed>
-        requires { is_done tried ≡ true → ((schedule_of self.old).faults < 2 ^ 64 - 1) × (write_faults_of self.old < 2 ^ 64 - 1) }
+        requires { is_done tried ≡ true → ((schedule_of self.old).faults < last_count)
+            × (write_faults_of self.old < last_count) }
         ensures ok { OnOk result (is_done tried ≡ true) }
         ensures err { OnErr result (is_done tried ≡ false) }
         ensures files { SameFiles self.old self.new }
         ensures list { (schedule_of self.new).fails ≡ (schedule_of self.old).fails }
-        ensures cause { HasCause (schedule_of self.old).faults (schedule_of self.new).faults result }
-        ensures writes { CountsFailures (write_faults_of self.old) (write_faults_of self.new) result }
-        ensures faults { HasRisen (schedule_of self.old).faults (schedule_of self.new).faults result }
-        ensures write_faults { HasRisen (write_faults_of self.old) (write_faults_of self.new) result }
+        ensures cause { HasCause (schedule_of self.old).faults
+            (schedule_of self.new).faults result }
+        ensures writes { CountsFailures (write_faults_of self.old)
+            (write_faults_of self.new) result }
+        ensures faults { HasRisen (schedule_of self.old).faults
+            (schedule_of self.new).faults result }
+        ensures write_faults { HasRisen (write_faults_of self.old)
+            (write_faults_of self.new) result }
     {
         if let Ok(true) = tried {
             return Ok(());
@@ -204,10 +240,11 @@ impl MemoryDisk {
 
 impl Disk for MemoryDisk {
     ghost use Rattle.disk_trait.specs.Schedules.{HasCounted, HasRisen, MustFail};
-    ghost use Rattle.disk_trait.specs.Kept.{MustFailWrite};
-    ghost use Rattle.disk_trait.specs.Files.{Files, part};
+    ghost use Rattle.disk_trait.specs.MemoryDisk.{MustFailWrite};
+    ghost use Rattle.disk_trait.specs.Files.{Files, file_bytes, file_limit};
     ghost use Rattle.disk_trait.specs.Device.{HasCause, CountsFailures, FileTorn, FileWritten, Reads, Elapses, LeavesNoMore, LeavesAll, Follows, Durable};
-    ghost use Rattle.disk_trait.specs.Laws.{seen_of, image_of, clock_of, faults_of, schedule_of, write_faults_of, seen_is_image};
+    ghost use Rattle.disk_trait.specs.MemoryDisk.{seen_of, image_of, clock_of, faults_of, schedule_of, write_faults_of};
+    ghost use Rattle.disk_trait.specs.Inner.Standing.{seen_is_image};
 
     ghost tells = { Unit {0} };
 
@@ -223,13 +260,17 @@ impl Disk for MemoryDisk {
 
     ghost seen_is_image = { λ d _. seen_is_image d };
 
+    /// A read fails where its call must, and then alone.
     fn read(&mut self, file: File, at: u64, buf: &mut [u8]) -> Result<usize, Failed>
         ensures bound { ReadsAtMost result buf.new }
-        ensures bytes { IfOk result (λ n. Reads (part file (seen_of self.old)) at buf.new n) }
+        ensures bytes { IfOk result (λ n. Reads (file_bytes file (seen_of self.old)) at buf.new n) }
         ensures seen { seen_of self.new ≡ seen_of self.old }
-        ensures crash { LeavesNoMore (image_of self.old (clock_of self.old)) (image_of self.new (clock_of self.new)) }
-        ensures keeps { LeavesNoMore (image_of self.new (clock_of self.new)) (image_of self.old (clock_of self.old)) }
-        ensures time { Elapses (clock_of self.old) (clock_of self.new) (image_of self.old) (image_of self.new) }
+        ensures crash { LeavesNoMore (image_of self.old (clock_of self.old))
+            (image_of self.new (clock_of self.new)) }
+        ensures keeps { LeavesNoMore (image_of self.new (clock_of self.new))
+            (image_of self.old (clock_of self.old)) }
+        ensures time { Elapses (clock_of self.old) (clock_of self.new) (image_of self.old)
+            (image_of self.new) }
         ensures cause { HasCause (faults_of self.old) (faults_of self.new) result }
         ensures writes { write_faults_of self.new ≡ write_faults_of self.old }
         ensures counted { HasCounted (schedule_of self.old) (schedule_of self.new) result }
@@ -239,48 +280,70 @@ impl Disk for MemoryDisk {
         Ok(self.read_of(file, at, buf))
     }
 
+    /// A write that failed is in no read, and in what a crash may leave if there was memory for it.
     fn write_at(&mut self, file: File, at: u64, bytes: &[u8]) -> Result<(), Failed>
-        requires { at + length bytes.now ≤ 2 ^ 62 }
-        ensures written { OnOk result (FileWritten file at bytes.now (seen_of self.old) (seen_of self.new)) }
+        requires { at + length bytes.now ≤ file_limit }
+        ensures written { OnOk result
+            (FileWritten file at bytes.now (seen_of self.old) (seen_of self.new)) }
         ensures unwritten { OnErr result (seen_of self.new ≡ seen_of self.old) }
-        ensures crash { Follows (FileTorn file at (length bytes.now)) (image_of self.old (clock_of self.old)) (image_of self.new (clock_of self.new)) }
+        ensures crash { Follows (FileTorn file at (length bytes.now))
+            (image_of self.old (clock_of self.old)) (image_of self.new (clock_of self.new)) }
         // One that failed may be torn too, if there was memory for it.
-        ensures torn { (IsErr result × LeavesNoMore (image_of self.new (clock_of self.new)) (image_of self.old (clock_of self.old)))
-            ⊎ LeavesAll (FileTorn file at (length bytes.now)) (image_of self.old (clock_of self.old)) (image_of self.new (clock_of self.new)) }
-        ensures time { Elapses (clock_of self.old) (clock_of self.new) (image_of self.old) (image_of self.new) }
+        ensures torn { (IsErr result
+            × LeavesNoMore (image_of self.new (clock_of self.new))
+            (image_of self.old (clock_of self.old)))
+            ⊎ LeavesAll (FileTorn file at (length bytes.now))
+            (image_of self.old (clock_of self.old)) (image_of self.new (clock_of self.new)) }
+        ensures time { Elapses (clock_of self.old) (clock_of self.new) (image_of self.old)
+            (image_of self.new) }
         ensures cause { HasCause (faults_of self.old) (faults_of self.new) result }
-        ensures writes { CountsFailures (write_faults_of self.old) (write_faults_of self.new) result }
+        ensures writes { CountsFailures (write_faults_of self.old)
+            (write_faults_of self.new) result }
         ensures counted { HasCounted (schedule_of self.old) (schedule_of self.new) result }
-        ensures counted_write { HasRisen (write_faults_of self.old) (write_faults_of self.new) result }
+        ensures counted_write { HasRisen (write_faults_of self.old)
+            (write_faults_of self.new) result }
         ensures fails { MustFailWrite self.old → IsErr result }
     {
         let tried = self.try_write(file, at as usize, bytes);
         self.answer(tried)
     }
 
+    /// A sync settles its own file.
     fn sync(&mut self, file: File) -> Result<(), Failed>
-        ensures durable { OnOk result (Durable file (part file (seen_of self.old)) (image_of self.new (clock_of self.new))) }
+        ensures durable { OnOk result
+            (Durable file (file_bytes file (seen_of self.old))
+            (image_of self.new (clock_of self.new))) }
         ensures seen { seen_of self.new ≡ seen_of self.old }
-        ensures crash { LeavesNoMore (image_of self.old (clock_of self.old)) (image_of self.new (clock_of self.new)) }
+        ensures crash { LeavesNoMore (image_of self.old (clock_of self.old))
+            (image_of self.new (clock_of self.new)) }
         // The other file is left as before, and this one too where it failed.
-        ensures keeps { (c : Files) → image_of self.old (clock_of self.old) c → (IsOk result → part file c ≡ part file (seen_of self.old)) → image_of self.new (clock_of self.new) c }
-        ensures time { Elapses (clock_of self.old) (clock_of self.new) (image_of self.old) (image_of self.new) }
+        ensures keeps { (c : Files) → image_of self.old (clock_of self.old) c
+            → (IsOk result → file_bytes file c ≡ file_bytes file (seen_of self.old))
+            → image_of self.new (clock_of self.new) c }
+        ensures time { Elapses (clock_of self.old) (clock_of self.new) (image_of self.old)
+            (image_of self.new) }
         ensures cause { HasCause (faults_of self.old) (faults_of self.new) result }
-        ensures writes { CountsFailures (write_faults_of self.old) (write_faults_of self.new) result }
+        ensures writes { CountsFailures (write_faults_of self.old)
+            (write_faults_of self.new) result }
         ensures counted { HasCounted (schedule_of self.old) (schedule_of self.new) result }
-        ensures counted_write { HasRisen (write_faults_of self.old) (write_faults_of self.new) result }
+        ensures counted_write { HasRisen (write_faults_of self.old)
+            (write_faults_of self.new) result }
         ensures fails { MustFailWrite self.old → IsErr result }
     {
         let tried = self.try_sync(file);
         self.answer(tried)
     }
 
+    /// The length, where the call does not fail.
     fn length(&mut self, file: File) -> Result<u64, Failed>
-        ensures length { IfOk result (λ n. n ≡ length (part file (seen_of self.old))) }
+        ensures length { IfOk result (λ n. n ≡ length (file_bytes file (seen_of self.old))) }
         ensures seen { seen_of self.new ≡ seen_of self.old }
-        ensures crash { LeavesNoMore (image_of self.old (clock_of self.old)) (image_of self.new (clock_of self.new)) }
-        ensures keeps { LeavesNoMore (image_of self.new (clock_of self.new)) (image_of self.old (clock_of self.old)) }
-        ensures time { Elapses (clock_of self.old) (clock_of self.new) (image_of self.old) (image_of self.new) }
+        ensures crash { LeavesNoMore (image_of self.old (clock_of self.old))
+            (image_of self.new (clock_of self.new)) }
+        ensures keeps { LeavesNoMore (image_of self.new (clock_of self.new))
+            (image_of self.old (clock_of self.old)) }
+        ensures time { Elapses (clock_of self.old) (clock_of self.new) (image_of self.old)
+            (image_of self.new) }
         ensures cause { HasCause (faults_of self.old) (faults_of self.new) result }
         ensures writes { write_faults_of self.new ≡ write_faults_of self.old }
         ensures counted { HasCounted (schedule_of self.old) (schedule_of self.new) result }
@@ -290,6 +353,7 @@ impl Disk for MemoryDisk {
         Ok(self.len_of(file))
     }
 
+    /// The count of the calls that failed.
     fn faults(&self) -> u64 {
         self.schedule.faults
     }

@@ -9,10 +9,13 @@ use crate::schedule::Schedule;
 use crate::stream::Sink;
 use std::alloc::Global;
 
-/// It keeps its bytes. The calls in its list fail, and so does a write that finds no memory: they take nothing.
+/// It keeps its bytes. The calls in its list fail, and so does a write that finds no memory: they
+/// take nothing.
 #[derive(Drop)]
 pub struct MemorySink {
+    /// What was taken.
     bytes: Vec<u8>,
+    /// The calls.
     schedule: Schedule,
 }
 
@@ -20,6 +23,7 @@ impl MemorySink {
     ghost use Rattle.disk_trait.specs.Schedules.{IsUnused};
     ghost use Rattle.disk_trait.specs.Streams.{taken_by, sink_schedule};
 
+    /// Nothing was taken so far.
     pub fn new(alloc: Global, fails: Vec<u64>) -> MemorySink
         ensures empty { taken_by result ≡ [] }
         ensures unused { IsUnused (sink_schedule result) fails.items }
@@ -46,13 +50,16 @@ impl Sink for MemorySink {
 
     ghost fault_count = { λ s. (sink_schedule s).faults };
 
-    // A write that is done takes all its bytes.
+    /// A write that is done takes all its bytes.
     fn write(&mut self, bytes: &[u8]) -> Result<usize, Failed>
         ensures bound { WritesAtMost result bytes.now }
         ensures some { IfOk result (λ n. 0 < length bytes.now → 0 < n) }
-        ensures bytes { WriteAppends (Some (taken_by self.old)) (Some (taken_by self.new)) result bytes.now }
-        ensures cause { HasCause (sink_schedule self.old).faults (sink_schedule self.new).faults result }
-        ensures all { IfOk result (λ n. (n ≡ length bytes.now) × (taken_by self.new ≡ taken_by self.old ++ bytes.now)) }
+        ensures bytes { WriteAppends (Some (taken_by self.old))
+            (Some (taken_by self.new)) result bytes.now }
+        ensures cause { HasCause (sink_schedule self.old).faults
+            (sink_schedule self.new).faults result }
+        ensures all { IfOk result (λ n. (n ≡ length bytes.now)
+            × (taken_by self.new ≡ taken_by self.old ++ bytes.now)) }
         ensures none { OnErr result (taken_by self.new ≡ taken_by self.old) }
         ensures counted { HasCounted (sink_schedule self.old) (sink_schedule self.new) result }
         ensures fails { MustFail (sink_schedule self.old) → IsErr result }

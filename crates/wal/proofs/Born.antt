@@ -5,10 +5,12 @@ use Rattle.std.proofs.lemmas.Bool.{cases_eq, cases_lt}
 use Rattle.disk_trait.specs.Files.{Files, overwritten}
 use Rattle.disk_trait.specs.Device.{Torn}
 use Rattle.disk_trait.specs.declared.device.File.TheVariants.{Log}
-use Rattle.wal.specs.Batches.{IsUnborn, Counts, Opens}
+use Rattle.wal.specs.Batches.{IsUnborn, HasBatches, Opens}
 use Rattle.wal.specs.Settled.{LogIs, Settled}
-use Rattle.disk_trait.specs.Steps.{TornFrom, Stands}
-use Rattle.wal.specs.Creating.{name_and_gate, created, Shut, From}
+use Rattle.disk_trait.specs.Runs.{TornFrom, IsWrittenThrough}
+use Rattle.disk_trait.specs.declared.device.Disk.{Ghosts as Disk}
+use Rattle.wal.specs.Creating.{created, From}
+use Rattle.wal.specs.Inner.Gates.{name_and_gate, Shut}
 use Rattle.wal.proofs.Places.{torn_gate, written_behind, written_gate}
 
 -- the first write: what it leaves is too short for a log
@@ -36,14 +38,14 @@ naming_torn L old gate_shut durable c torn =
       );
     }
 
-pub named : (L : List ℕ) (old new : Files) (images : Files → Type 0) → Shut L → old.log ≡ L → Stands Log 1 name_and_gate old new images → (gate : ℕ) × LogIs (gate ∷ name_and_gate) new images
-named L old new images gate_shut log stands =
-    let now : new.log ≡ gate_shut.gate ∷ name_and_gate =
+pub named : {D : Type 0} (device : Disk D) (L : List ℕ) (old new : D) → Shut L → (device.seen old).log ≡ L → IsWrittenThrough device Log 1 name_and_gate old new → (gate : ℕ) × LogIs device (gate ∷ name_and_gate) new
+named device L old new gate_shut log stands =
+    let now : (device.seen new).log ≡ gate_shut.gate ∷ name_and_gate =
     stands.written.written ∙ ap (overwritten 1 name_and_gate) (log ∙ gate_shut.is) ∙ written_behind [] 0 gate_shut.gate gate_shut.rest refl name_and_gate
     ∙ ap (λ (l : List ℕ). gate_shut.gate ∷ (name_and_gate ++ l)) (drop_all 17 gate_shut.rest gate_shut.short) in
     (gate_shut.gate, record { now = now; durable = λ c left. stands.durable c left ∙ now })
 
-whole : (c : List ℕ) → c ≡ 1 ∷ name_and_gate → Counts c []
+whole : (c : List ℕ) → c ≡ 1 ∷ name_and_gate → HasBatches c []
 whole c is = record { gate = 0; rest = []; split = is; shut = λ e. omega arith; fit = tt }
 
 -- the third: the store's gate
@@ -61,13 +63,13 @@ opening_torn g old mid durable pages c torn =
       ];
     }
 
-pub opened_log : (g : ℕ) (old new : Files) (images : Files → Type 0) → old.log ≡ g ∷ name_and_gate → Stands Log 0 (1 ∷ []) old new images → LogIs created new images
-opened_log g old new images log stands =
-    let now : new.log ≡ created = stands.written.written ∙ ap (overwritten 0 (1 ∷ [])) log ∙ written_gate [] 0 g name_and_gate refl in
+pub opened_log : {D : Type 0} (device : Disk D) (g : ℕ) (old new : D) → (device.seen old).log ≡ g ∷ name_and_gate → IsWrittenThrough device Log 0 (1 ∷ []) old new → LogIs device created new
+opened_log device g old new log stands =
+    let now : (device.seen new).log ≡ created = stands.written.written ∙ ap (overwritten 0 (1 ∷ [])) log ∙ written_gate [] 0 g name_and_gate refl in
     record { now = now; durable = λ c left. stands.durable c left ∙ now }
 
-pub created_settled : (new : Files) (images : Files → Type 0) → LogIs created new images → Settled [] 17 new images
-created_settled new images is = record { gate = 0; rest = []; log = is; shut = λ e. omega arith; fit = tt; ends = refl }
+pub created_settled : {D : Type 0} (device : Disk D) (new : D) → LogIs device created new → Settled device [] 17 new
+created_settled device new is = record { gate = 0; rest = []; log = is; shut = λ e. omega arith; fit = tt; ends = refl }
 
 pub unborn_opens : (old : Files → Type 0) (c : Files) → From old IsUnborn c → From old (λ log. Opens log []) c
 unborn_opens old c from = record { before = from.before; was = from.was; pages = from.pages; log = inl (from.log, refl) }

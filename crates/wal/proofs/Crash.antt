@@ -5,12 +5,13 @@ use Rattle.std.proofs.lemmas.Bool.{cases_eq}
 use Rattle.disk_trait.specs.Files.{Files, overwritten}
 use Rattle.disk_trait.specs.Device.{Torn}
 use Rattle.disk_trait.specs.declared.device.File.TheVariants.{Log}
-use Rattle.wal.specs.Batches.{header, sealed, blocks, front, AllFit, Counts, Opens}
+use Rattle.wal.specs.Batches.{header, sealed, blocks, front, AreBatches, HasBatches, Opens}
 use Rattle.wal.specs.Settled.{LogIs, Settled, BeforeOrAfter}
-use Rattle.disk_trait.specs.Steps.{TornFrom, Stands}
+use Rattle.disk_trait.specs.Runs.{TornFrom, IsWrittenThrough}
+use Rattle.disk_trait.specs.declared.device.Disk.{Ghosts as Disk}
 use Rattle.wal.proofs.Places.{torn_behind, torn_gate, written_behind, written_gate}
 
-pub fit_push : (batches : List (List ℕ)) (batch : List ℕ) → AllFit batches → 0 < length batch → length batch < 2 ^ 32 → AllFit (batches ++ batch ∷ [])
+pub fit_push : (batches : List (List ℕ)) (batch : List ℕ) → AreBatches batches → 0 < length batch → length batch < 2 ^ 32 → AreBatches (batches ++ batch ∷ [])
 fit_push [] batch fit some small = (some, small, tt)
 fit_push (b ∷ bs) batch fit some small = (fit.0, fit.1, fit_push bs batch fit.2 some small)
 
@@ -27,7 +28,7 @@ length-front_push batches batch =
     let whole : length (front batches ++ 1 ∷ (sealed batch ++ [])) ≡ length (front (batches ++ batch ∷ []) ++ []) = ap length (front_push batches batch []) in
     omega (arith, whole, length-append (front batches) (1 ∷ (sealed batch ++ [])), length-append (sealed batch) [], length-append (front (batches ++ batch ∷ [])) [])
 
-module _ (batches : List (List ℕ)) (batch chunk : List ℕ) (is : chunk ≡ sealed batch ++ 0 ∷ []) (some : 0 < length batch) (small : length batch < 2 ^ 32) (end : ℕ) (gate : ℕ) (rest : List ℕ) (shut : gate ≢ 1) (fit : AllFit batches)
+module _ (batches : List (List ℕ)) (batch chunk : List ℕ) (is : chunk ≡ sealed batch ++ 0 ∷ []) (some : 0 < length batch) (small : length batch < 2 ^ 32) (end : ℕ) (gate : ℕ) (rest : List ℕ) (shut : gate ≢ 1) (fit : AreBatches batches)
     (ends : length (front batches) ≡ end) where
   -- the log once the chunk stands behind the gate
   abbrev pub staged : ℕ → List ℕ
@@ -40,10 +41,10 @@ module _ (batches : List (List ℕ)) (batch chunk : List ℕ) (is : chunk ≡ se
       ∙ ap (λ (l : List ℕ). front batches ++ 1 ∷ l) (append_assoc (sealed batch) (0 ∷ []) (drop (length chunk) rest))
       ∙ front_push batches batch (0 ∷ drop (length chunk) rest)
 
-  pub with_it : (c : List ℕ) → c ≡ staged 1 → Counts c (batches ++ batch ∷ [])
+  pub with_it : (c : List ℕ) → c ≡ staged 1 → HasBatches c (batches ++ batch ∷ [])
   with_it c eq = record { gate = 0; rest = drop (length chunk) rest; split = eq ∙ opened; shut = λ e. omega arith; fit = fit_push batches batch fit some small }
 
-  pub without_it : (c r : List ℕ) (g : ℕ) → c ≡ front batches ++ g ∷ r → g ≢ 1 → Counts c batches
+  pub without_it : (c r : List ℕ) (g : ℕ) → c ≡ front batches ++ g ∷ r → g ≢ 1 → HasBatches c batches
   without_it c r g eq away = record { gate = g; rest = r; split = eq; shut = away; fit = fit }
 
   pub any_gate : (c : List ℕ) (g : ℕ) → c ≡ staged g → Opens c batches ⊎ Opens c (batches ++ batch ∷ [])
@@ -66,14 +67,14 @@ module _ (batches : List (List ℕ)) (batch chunk : List ℕ) (is : chunk ≡ se
       record { before = from.0; was = from.1; pages = torn.2.same ∙ from.2; log = any_gate c.log at.0 at.1 }
 
   -- what stands after the first
-  pub first_stands : (old new : Files) (images : Files → Type 0) → old.log ≡ front batches ++ gate ∷ rest → Stands Log (end + 1) chunk old new images → LogIs (staged gate) new images
-  first_stands old new images log stands =
-      let now : new.log ≡ staged gate = stands.written.written ∙ ap (overwritten (end + 1) chunk) log ∙ written_behind (front batches) end gate rest ends chunk in
+  pub first_stands : {D : Type 0} (device : Disk D) (old new : D) → (device.seen old).log ≡ front batches ++ gate ∷ rest → IsWrittenThrough device Log (end + 1) chunk old new → LogIs device (staged gate) new
+  first_stands device old new log stands =
+      let now : (device.seen new).log ≡ staged gate = stands.written.written ∙ ap (overwritten (end + 1) chunk) log ∙ written_behind (front batches) end gate rest ends chunk in
       record { now = now; durable = λ c left. stands.durable c left ∙ now }
 
-  pub second_stands : (old new : Files) (images : Files → Type 0) → old.log ≡ staged gate → Stands Log end (1 ∷ []) old new images → Settled (batches ++ batch ∷ []) (end + length chunk) new images
-  second_stands old new images log stands =
-      let now : new.log ≡ front (batches ++ batch ∷ []) ++ 0 ∷ drop (length chunk) rest =
+  pub second_stands : {D : Type 0} (device : Disk D) (old new : D) → (device.seen old).log ≡ staged gate → IsWrittenThrough device Log end (1 ∷ []) old new → Settled device (batches ++ batch ∷ []) (end + length chunk) new
+  second_stands device old new log stands =
+      let now : (device.seen new).log ≡ front (batches ++ batch ∷ []) ++ 0 ∷ drop (length chunk) rest =
       stands.written.written ∙ ap (overwritten end (1 ∷ [])) log ∙ written_gate (front batches) end gate (chunk ++ drop (length chunk) rest) ends ∙ opened in
       record {
         gate = 0;

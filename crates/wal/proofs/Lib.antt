@@ -7,3 +7,4 @@ mod Unique
 mod Walking
 mod Whole
 pub mod Keeping
+pub mod Paging

@@ -2,11 +2,14 @@
 use Rattle.std.proofs.Common.{◌≡◌, ◌≢◌, ℕ, ◌+◌, ◌<◌, false, List, [], ◌∷◌, ◌++◌, length, get_or, take, drop, refl, sym, ap, ◌∙◌, arith, length-append, take-append-drop}
 use Rattle.std.proofs.lemmas.List.{drop_at, get_or_at}
 use Rattle.std.proofs.Math.Seq.{drop-cons}
-use Rattle.disk_trait.specs.Files.{Files}
-use Rattle.wal.specs.Batches.{header, u32_bytes, sealed, front, Counts}
+use Rattle.byteorder.specs.Endian.{little_bytes}
+use Rattle.wal.specs.Batches.{header, sealed, front, HasBatches}
+use Rattle.disk_trait.specs.declared.device.Disk.{Ghosts as Disk}
 use Rattle.wal.specs.Settled.{LogIs, Settled}
-use Rattle.wal.specs.Reading.{IsReading, HasLength, IsBatchAt}
+use Rattle.wal.specs.Reading.{IsOnlyRead, IsReading, IsLengthAt}
+use Rattle.wal.specs.Inner.Gates.{IsBatchAt}
 use Rattle.wal.specs.declared.log.Wal.{Wal}
+use Rattle.wal.proofs.Keeping.{still_is}
 use Rattle.wal.proofs.Lists.{whole_batch}
 use Rattle.wal.proofs.Crash.{fit_push, front_push, length-front_push}
 
@@ -26,7 +29,7 @@ gate_there : (front rest log : List ℕ) (end : ℕ) → log ≡ front ++ rest �
 gate_there front [] log end is ends inside = absurd (omega (arith, ap length is, length-append front []))
 gate_there front (g ∷ r) log end is ends inside = (g, r, refl)
 
-pub ended : (wal : Wal) (log : List ℕ) (batches : List (List ℕ)) → IsReading wal log batches → wal.end < wal.size → get_or log wal.end 0 ≢ 1 → Counts log batches
+pub ended : (wal : Wal) (log : List ℕ) (batches : List (List ℕ)) → IsReading wal log batches → wal.end < wal.size → get_or log wal.end 0 ≢ 1 → HasBatches log batches
 ended wal log batches reading inside shut =
     let there = gate_there (front batches) reading.rest log wal.end reading.split (sym reading.place) (omega (arith, reading.size)) in
     let split : log ≡ front batches ++ there.0 ∷ there.1 = reading.split ∙ ap (λ (l : List ℕ). front batches ++ l) there.2 in
@@ -34,19 +37,21 @@ ended wal log batches reading inside shut =
     record { gate = there.0; rest = there.1; split = split; shut = λ e. shut (gate ∙ e); fit = reading.fit }
 
 -- where a crash leaves what is read
-pub settled : (log : List ℕ) (batches : List (List ℕ)) (end : ℕ) (old new : Files) (images images' : Files → Type 0) → Counts log batches → end ≡ length (front batches) → LogIs log old images → new ≡ old → ((c : Files) → images' c → images c) → Settled batches end new images'
-settled log batches end old new images images' counts place is same fewer = record {
-  gate = counts.gate;
-  rest = counts.rest;
-  log = record { now = ap (λ (f : Files). f.log) same ∙ is.now ∙ counts.split; durable = λ c left. is.durable c (fewer c left) ∙ counts.split };
-  shut = counts.shut;
-  fit = counts.fit;
-  ends = sym place;
-}
+pub settled : {D : Type 0} (device : Disk D) (old new : D) → device.tells → IsOnlyRead device old new → (log : List ℕ) (batches : List (List ℕ)) (end : ℕ) → HasBatches log batches → end ≡ length (front batches) → LogIs device log old → Settled device batches end new
+settled device old new told read log batches end counts place was =
+    let is = still_is device old new told read log was in
+    record {
+      gate = counts.gate;
+      rest = counts.rest;
+      log = record { now = is.now ∙ counts.split; durable = λ c left. is.durable c left ∙ counts.split };
+      shut = counts.shut;
+      fit = counts.fit;
+      ends = sym place;
+    }
 
 -- behind one batch more
 pub passed : (wal wal' : Wal) (log : List ℕ) (batches : List (List ℕ)) (n : ℕ) (batch : List ℕ) → IsReading wal log batches → wal'.ended ≡ false → wal'.size ≡ wal.size → wal'.end ≡ wal.end + (5 + n)
-    → get_or log wal.end 0 ≡ 1 → HasLength log wal.end n → 0 < n → wal.end + 5 + n < wal.size → batch ≡ take n (drop (wal.end + 5) log) → length batch ≡ n → IsReading wal' log (batches ++ batch ∷ [])
+    → get_or log wal.end 0 ≡ 1 → IsLengthAt log wal.end n → 0 < n → wal.end + 5 + n < wal.size → batch ≡ take n (drop (wal.end + 5) log) → length batch ≡ n → IsReading wal' log (batches ++ batch ∷ [])
 passed wal wal' log batches n batch reading on size end gate has some inside is long = record {
   on = on;
   size = size ∙ reading.size;
@@ -61,7 +66,7 @@ passed wal wal' log batches n batch reading on size end gate has some inside is 
     first = ap (take 1) (drop-cons log wal.end 0 (omega (arith, reading.size))) ∙ ap (λ (k : ℕ). k ∷ []) gate
 
     there : IsBatchAt log wal.end batch
-    there = whole_batch log wal.end n (1 ∷ []) (u32_bytes n) batch refl (sym first) refl (sym has.1) is long some has.0
+    there = whole_batch log wal.end n (1 ∷ []) (little_bytes 4 n) batch refl (sym first) refl (sym has.1) is long some has.0
 
     here : take (5 + length batch) reading.rest ≡ 1 ∷ sealed batch
     here = ap (take (5 + length batch)) (sym (ap (drop wal.end) reading.split ∙ drop_at (front batches) reading.rest wal.end (sym reading.place))) ∙ there.bytes

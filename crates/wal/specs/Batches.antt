@@ -1,17 +1,15 @@
 -- The bytes of a log: a header, batches behind open gates, and a closed gate.
-use Rattle.std.specs.Prelude.{◌≡◌, ◌≢◌, ◌⊎◌, ℕ, ◌/◌, ◌%◌, ◌^◌, ◌<◌, ◌≤◌, List, [], ◌∷◌, ◌++◌, length, get_or, codes}
+use Rattle.std.specs.Prelude.{◌≡◌, ◌≢◌, ◌⊎◌, ℕ, ◌<◌, ◌≤◌, List, [], ◌∷◌, ◌++◌, length, get_or, codes}
+use Rattle.byteorder.specs.Endian.{little_bytes}
+use Rattle.wal.specs.declared.sizes.TheConstants.{HEADER_BYTES, CREATED_BYTES, LENGTH_BYTES, BATCH_LIMIT}
 
 -- the gate of the store, open, and the name of the format
 abbrev pub header : List ℕ
 header = 1 ∷ codes "GINSH STORE 0001"
 
--- a u32, the little end first
-abbrev pub u32_bytes : ℕ → List ℕ
-u32_bytes n = n % 256 ∷ n / 256 % 256 ∷ n / 65536 % 256 ∷ n / 16777216 % 256 ∷ []
-
 -- a batch behind its gate
 abbrev pub sealed : List ℕ → List ℕ
-sealed batch = u32_bytes (length batch) ++ batch
+sealed batch = little_bytes LENGTH_BYTES (length batch) ++ batch
 
 abbrev pub blocks : List (List ℕ) → List ℕ
 blocks [] = []
@@ -21,29 +19,31 @@ blocks (batch ∷ batches) = 1 ∷ sealed batch ++ blocks batches
 abbrev pub front : List (List ℕ) → List ℕ
 front batches = header ++ blocks batches
 
-abbrev pub AllFit : List (List ℕ) → Type 0
-AllFit [] = Unit {0}
-AllFit (batch ∷ batches) = (0 < length batch) × (length batch < 2 ^ 32) × AllFit batches
+abbrev pub AreBatches : List (List ℕ) → Type 0
+AreBatches [] = Unit {0}
+AreBatches (batch ∷ batches) = (0 < length batch) × (length batch < BATCH_LIMIT) × AreBatches batches
 
 -- the log's batches, up to the first gate that is closed
-pub record Counts (bytes : List ℕ) (batches : List (List ℕ)) : Type 0 where
+pub record HasBatches (bytes : List ℕ) (batches : List (List ℕ)) : Type 0 where
   pub gate : ℕ
   pub rest : List ℕ
   pub split : bytes ≡ front batches ++ gate ∷ rest
   pub shut : gate ≢ 1
-  pub fit : AllFit batches
+  pub fit : AreBatches batches
 
 -- a log whose creation was cut short
 abbrev pub IsUnborn : List ℕ → Type 0
-IsUnborn bytes = (length bytes ≤ 17) ⊎ ((length bytes ≡ 18) × (get_or bytes 0 0 ≢ 1))
+IsUnborn bytes = (length bytes ≤ HEADER_BYTES) ⊎ ((length bytes ≡ CREATED_BYTES) × (get_or bytes 0 0 ≢ 1))
 
 -- what a log opens to
 abbrev pub Opens : List ℕ → List (List ℕ) → Type 0
-Opens bytes batches = (IsUnborn bytes × (batches ≡ [])) ⊎ Counts bytes batches
+Opens bytes batches = (IsUnborn bytes × (batches ≡ [])) ⊎ HasBatches bytes batches
 
 -- the bytes of a log determine its batches
 abbrev pub HasOneList : Type 0
-HasOneList = (bytes : List ℕ) (xs ys : List (List ℕ)) → Counts bytes xs → Counts bytes ys → xs ≡ ys
+HasOneList =
+    (bytes : List ℕ) (xs ys : List (List ℕ)) → HasBatches bytes xs → HasBatches bytes ys → xs ≡ ys
 
 abbrev pub OpensToOneList : Type 0
-OpensToOneList = (bytes : List ℕ) (xs ys : List (List ℕ)) → Opens bytes xs → Opens bytes ys → xs ≡ ys
+OpensToOneList =
+    (bytes : List ℕ) (xs ys : List (List ℕ)) → Opens bytes xs → Opens bytes ys → xs ≡ ys

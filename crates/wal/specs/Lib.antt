@@ -1,6 +1,12 @@
 pub mod Batches
 pub mod Settled
 pub mod Waiting
-pub mod Answers
+pub mod Causes
 pub mod Creating
 pub mod Reading
+pub mod Pages
+pub mod Inner
+pub use Rattle.disk_trait.specs.Files
+pub use Rattle.disk_trait.specs.Device
+pub use Rattle.disk_trait.specs.Runs
+pub use Rattle.byteorder.specs.Endian

@@ -1,9 +1,10 @@
 -- What waits in a log, and what a flush makes of it.
 use Rattle.std.specs.Prelude.{◌≡◌, ℕ, ◌+◌, List, [], ◌∷◌, ◌++◌, length, drop, Bool, true, nat_le, if◌then◌else◌, Option}
-use Rattle.disk_trait.specs.Files.{Files}
-use Rattle.disk_trait.specs.Device.{Past, LeavesOnly}
+use Rattle.disk_trait.specs.Runs.{images_now, IsSettled, LeavesOnly}
+use Rattle.disk_trait.specs.declared.device.Disk.{Ghosts as Disk}
 use Rattle.wal.specs.Settled.{Settled, BeforeOrAfter}
 use Rattle.wal.specs.declared.log.Wal.{Wal}
+use Rattle.wal.specs.declared.sizes.TheConstants.{LENGTH_BYTES, FRAME_BYTES, MOST_WAITING}
 
 -- where the next gate stands
 abbrev pub end_of : Wal → ℕ
@@ -17,11 +18,11 @@ abbrev pub down_of : Wal → Option ℕ
 down_of wal = wal.down
 
 abbrev pub waiting : Wal → List ℕ
-waiting wal = drop 4 wal.buffer.items
+waiting wal = drop LENGTH_BYTES wal.buffer.items
 
 -- its batches have been read
-abbrev pub IsReady : Wal → Type 0
-IsReady wal = wal.ended ≡ true
+abbrev pub IsReadToEnd : Wal → Type 0
+IsReadToEnd wal = wal.ended ≡ true
 
 -- what waited is one batch more, if there was something
 abbrev pub with_waiting : List (List ℕ) → List ℕ → List (List ℕ)
@@ -31,28 +32,35 @@ with_waiting batches (x ∷ xs) = batches ++ (x ∷ xs) ∷ []
 -- and the next gate stands behind it: a gate and a length are five bytes
 abbrev pub end_with : ℕ → List ℕ → ℕ
 end_with end [] = end
-end_with end (x ∷ xs) = end + 5 + length (x ∷ xs)
+end_with end (x ∷ xs) = end + FRAME_BYTES + length (x ∷ xs)
 
 -- A flush comes before an append where so many bytes wait.
 abbrev pub is_crowded : List ℕ → Bool
-is_crowded w = nat_le 4194304 (length w)
+is_crowded w = nat_le MOST_WAITING (length w)
 
 abbrev pub batches_then : List (List ℕ) → List ℕ → List (List ℕ)
 batches_then batches w = if is_crowded w then batches ++ w ∷ [] else batches
 
 abbrev pub end_then : ℕ → List ℕ → ℕ
-end_then end w = if is_crowded w then end + 5 + length w else end
+end_then end w = if is_crowded w then end + FRAME_BYTES + length w else end
 
 abbrev pub waiting_then : List ℕ → List ℕ
 waiting_then w = if is_crowded w then [] else w
 
--- The log's length with one entry more, up to and with the next gate: the own batch's gate, its length, what waits, the entry, and that gate.
+-- The log's length with one entry more, up to and with the next gate: the own batch's gate, its
+-- length, what waits, the entry, and that gate.
 abbrev pub length_with : Wal → List ℕ → ℕ
-length_with wal entry = end_then (end_of wal) (waiting wal) + 1 + 4 + length (waiting_then (waiting wal)) + length entry + 1
+length_with wal entry =
+    end_then (end_of wal) (waiting wal) + FRAME_BYTES + length (waiting_then (waiting wal)) + length entry + 1
 
-abbrev pub FlushLeaves : {D : Type 0} → (D → ℕ) → (D → Past) → List (List ℕ) → List ℕ → D → D → Type 0
-FlushLeaves clock image batches batch old new = LeavesOnly clock image old new (BeforeOrAfter batches batch (image old (clock old)))
+module _ {D : Type 0} (device : Disk D) where
+  -- at each moment of a flush a crash leaves the batches with the one that is put, or without it
+  abbrev pub FlushLeaves : List (List ℕ) → List ℕ → D → D → Type 0
+  FlushLeaves batches batch old new =
+      LeavesOnly device old new (BeforeOrAfter batches batch (images_now device old))
 
--- the batches stand, and no page was changed
-abbrev pub StandsNow : {D : Type 0} → (D → Files) → (D → ℕ) → (D → Past) → List (List ℕ) → ℕ → D → D → Type 0
-StandsNow seen clock image batches end old new = Settled batches end (seen new) (image new (clock new)) × ((seen new).pages ≡ (seen old).pages)
+  -- the batches stand, no page was changed, and both files are settled if they were
+  abbrev pub StandsNow : List (List ℕ) → ℕ → D → D → Type 0
+  StandsNow batches end old new =
+      Settled device batches end new × ((device.seen new).pages ≡ (device.seen old).pages)
+      × (IsSettled device old → IsSettled device new)

@@ -1,69 +1,95 @@
-// A new log: the store's gate is closed, the name and the first batch's gate are written, and the store's gate is opened.
+// A new log: the store's gate is closed, the name and the first batch's gate are written, and the
+// store's gate is opened.
 ghost use Rattle.std.specs.Prelude.{◌≡◌, ◌-◌, ◌^◌, ◌<◌, [], OnOk, IfErr};
-ghost use Rattle.disk_trait.specs.Device.{LeavesOnly};
-ghost use Rattle.disk_trait.specs.Steps.{RunHasCause};
+ghost use Rattle.disk_trait.specs.Runs.{images_now, IsSettled, LeavesOnly, RunHasCause};
 ghost use Rattle.wal.specs.Batches.{IsUnborn, Opens};
+ghost use Rattle.wal.specs.Pages.{KeepsPages};
 ghost use Rattle.wal.specs.Settled.{LogIs, Settled};
-ghost use Rattle.wal.specs.Creating.{Shut, From, CreateHasCause, created};
+ghost use Rattle.wal.specs.Creating.{From, CreateHasCause, created};
+ghost use Rattle.wal.specs.Inner.Gates.{Shut};
 ghost use Rattle.wal.specs.declared.error.WalError.TheVariants.{DiskFault};
 
 use crate::error::WalError;
 use crate::log::Wal;
-use crate::reading::CREATED;
+use crate::sizes::{CREATED_BYTES, HEADER_BYTES};
 use disk_trait::{Disk, Failed, File, write_and_sync};
 
+/// The name of the format, and the first batch's gate, closed.
 const NAME_AND_GATE: &[u8; 17] = b"GINSH STORE 0001\0";
 
-// The store's gate is closed, if it may be open: a write of it could open it by itself.
+/// The store's gate is closed, if it may be open: a write of it could open it by itself.
 fn shut<D: Disk>(disk: &mut D) -> Result<(), Failed>
-    ensures gate { D.tells → IsUnborn (D.seen disk.old).log → OnOk result (Shut (D.seen disk.new).log) }
-    ensures durable { D.tells → IsUnborn (D.seen disk.old).log → LogIs (D.seen disk.old).log (D.seen disk.old) (D.image disk.old (D.clock disk.old)) → OnOk result (LogIs (D.seen disk.new).log (D.seen disk.new) (D.image disk.new (D.clock disk.new))) }
+    ensures gate { D.tells → IsUnborn (D.seen disk.old).log
+        → OnOk result (Shut (D.seen disk.new).log) }
+    ensures durable { D.tells → IsUnborn (D.seen disk.old).log
+        → LogIs D.Disk (D.seen disk.old).log disk.old
+        → OnOk result (LogIs D.Disk (D.seen disk.new).log disk.new) }
     ensures pages { D.tells → OnOk result ((D.seen disk.new).pages ≡ (D.seen disk.old).pages) }
-    ensures any_moment { D.tells → IsUnborn (D.seen disk.old).log → LogIs (D.seen disk.old).log (D.seen disk.old) (D.image disk.old (D.clock disk.old)) → LeavesOnly D.clock D.image disk.old disk.new (From (D.image disk.old (D.clock disk.old)) IsUnborn) }
-    ensures cause { CreateHasCause (D.fault_count disk.old) (D.fault_count disk.new) (D.write_fault_count disk.old) (D.write_fault_count disk.new) result }
+    ensures any_moment { D.tells → IsUnborn (D.seen disk.old).log
+        → LogIs D.Disk (D.seen disk.old).log disk.old
+        → LeavesOnly D.Disk disk.old disk.new (From (images_now D.Disk disk.old) IsUnborn) }
+    ensures cause { CreateHasCause D.Disk disk.old disk.new result }
     ensures below_last { OnOk result (D.fault_count disk.old < 2 ^ 64 - 1) }
 {
-    if disk.length(File::Log)? < CREATED {
+    if disk.length(File::Log)? < CREATED_BYTES {
         return write_and_sync(disk, File::Log, 0, &[0]);
     }
     Ok(())
 }
 
+/// The name and the first gate are written, and then the store's gate is opened.
 fn write_name<D: Disk>(disk: &mut D) -> Result<(), Failed>
-    ensures stands { D.tells → Shut (D.seen disk.old).log → LogIs (D.seen disk.old).log (D.seen disk.old) (D.image disk.old (D.clock disk.old)) → OnOk result (LogIs created (D.seen disk.new) (D.image disk.new (D.clock disk.new))) }
+    ensures stands { D.tells → Shut (D.seen disk.old).log
+        → LogIs D.Disk (D.seen disk.old).log disk.old
+        → OnOk result (LogIs D.Disk created disk.new) }
     ensures pages { D.tells → OnOk result ((D.seen disk.new).pages ≡ (D.seen disk.old).pages) }
-    ensures any_moment { D.tells → Shut (D.seen disk.old).log → LogIs (D.seen disk.old).log (D.seen disk.old) (D.image disk.old (D.clock disk.old)) → LeavesOnly D.clock D.image disk.old disk.new (From (D.image disk.old (D.clock disk.old)) (λ log. Opens log [])) }
-    ensures cause { RunHasCause (D.fault_count disk.old) (D.fault_count disk.new) (D.write_fault_count disk.old) (D.write_fault_count disk.new) result }
+    ensures any_moment { D.tells → Shut (D.seen disk.old).log
+        → LogIs D.Disk (D.seen disk.old).log disk.old
+        → LeavesOnly D.Disk disk.old disk.new
+        (From (images_now D.Disk disk.old) (λ log. Opens log [])) }
+    ensures cause { RunHasCause D.Disk disk.old disk.new result }
 {
     write_and_sync(disk, File::Log, 1, NAME_AND_GATE)?;
     write_and_sync(disk, File::Log, 0, &[1])
 }
 
-// The three synced writes, of which the first is left out where the log has its whole length.
+/// The three synced writes, of which the first is left out where the log has its whole length.
 fn write_header<D: Disk>(disk: &mut D) -> Result<(), Failed>
-    requires { D.tells → IsUnborn (D.seen disk.old).log × LogIs (D.seen disk.old).log (D.seen disk.old) (D.image disk.old (D.clock disk.old)) }
-    ensures stands { D.tells → OnOk result (LogIs created (D.seen disk.new) (D.image disk.new (D.clock disk.new))) }
+    requires { D.tells → IsUnborn (D.seen disk.old).log
+        × LogIs D.Disk (D.seen disk.old).log disk.old }
+    ensures stands { D.tells → OnOk result (LogIs D.Disk created disk.new) }
     ensures pages { D.tells → OnOk result ((D.seen disk.new).pages ≡ (D.seen disk.old).pages) }
-    ensures any_moment { D.tells → LeavesOnly D.clock D.image disk.old disk.new (From (D.image disk.old (D.clock disk.old)) (λ log. Opens log [])) }
-    ensures cause { CreateHasCause (D.fault_count disk.old) (D.fault_count disk.new) (D.write_fault_count disk.old) (D.write_fault_count disk.new) result }
-    ensures below_last { OnOk result ((D.fault_count disk.old < 2 ^ 64 - 1) × (D.write_fault_count disk.old < 2 ^ 64 - 1)) }
+    ensures any_moment { D.tells
+        → LeavesOnly D.Disk disk.old disk.new
+        (From (images_now D.Disk disk.old) (λ log. Opens log [])) }
+    ensures cause { CreateHasCause D.Disk disk.old disk.new result }
+    ensures below_last { OnOk result ((D.fault_count disk.old < 2 ^ 64 - 1)
+        × (D.write_fault_count disk.old < 2 ^ 64 - 1)) }
 {
     shut(disk)?;
     write_name(disk)
 }
 
 impl Wal {
-    /// Makes an empty log of one whose creation was not begun or was cut short, and which is on the disk as it is read.
+    /// Makes an empty log of one whose creation was not begun or was cut short, and which is on the
+    /// disk as it is read.
     /// A crash in it leaves again such a log, or the empty one. It takes no memory.
     pub fn create<D: Disk>(disk: &mut D) -> Result<(), WalError>
-        requires { D.tells → IsUnborn (D.seen disk.old).log × LogIs (D.seen disk.old).log (D.seen disk.old) (D.image disk.old (D.clock disk.old)) }
-        ensures stands { D.tells → OnOk result (LogIs created (D.seen disk.new) (D.image disk.new (D.clock disk.new))) }
-        ensures settled { D.tells → OnOk result (Settled [] 17 (D.seen disk.new) (D.image disk.new (D.clock disk.new))) }
+        requires { D.tells → IsUnborn (D.seen disk.old).log
+            × LogIs D.Disk (D.seen disk.old).log disk.old }
+        ensures stands { D.tells → OnOk result (LogIs D.Disk created disk.new) }
+        ensures settled { D.tells → OnOk result (Settled D.Disk [] HEADER_BYTES disk.new) }
         ensures pages { D.tells → OnOk result ((D.seen disk.new).pages ≡ (D.seen disk.old).pages) }
-        ensures any_moment { D.tells → LeavesOnly D.clock D.image disk.old disk.new (From (D.image disk.old (D.clock disk.old)) (λ log. Opens log [])) }
+        ensures files { D.tells → IsSettled D.Disk disk.old
+            → OnOk result (IsSettled D.Disk disk.new) }
+        ensures keeps_pages { D.tells → KeepsPages D.Disk disk.old disk.new }
+        ensures any_moment { D.tells
+            → LeavesOnly D.Disk disk.old disk.new
+            (From (images_now D.Disk disk.old) (λ log. Opens log [])) }
         ensures error { IfErr result (λ e. e ≡ DiskFault) }
-        ensures cause { CreateHasCause (D.fault_count disk.old) (D.fault_count disk.new) (D.write_fault_count disk.old) (D.write_fault_count disk.new) result }
-        ensures below_last { OnOk result ((D.fault_count disk.old < 2 ^ 64 - 1) × (D.write_fault_count disk.old < 2 ^ 64 - 1)) }
+        ensures cause { CreateHasCause D.Disk disk.old disk.new result }
+        ensures below_last { OnOk result ((D.fault_count disk.old < 2 ^ 64 - 1)
+            × (D.write_fault_count disk.old < 2 ^ 64 - 1)) }
     {
         match write_header(disk) {
             Ok(()) => Ok(()),

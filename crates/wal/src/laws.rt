@@ -8,7 +8,8 @@ pub fn one_list()
     ensures opens { OpensToOneList }
 {}
 
-/// A log that stands for some list of batches is not refused as no store, neither at the opening nor behind any of its batches.
+/// A log that stands for some list of batches is not refused as no store, neither at the opening
+/// nor behind any of its batches.
 pub fn never_refused()
     ensures foreign { IsNeverForeign }
     ensures broken { IsNeverBroken }

@@ -1,7 +1,9 @@
 //! The write-ahead log: batches of bytes, each of which counts from its flush on.
 //!
-//! Byte 0 of the file is the store's gate, bytes 1 to 16 the text `GINSH STORE 0001`, byte 17 the gate of the first batch.
-//! A gate is open where its byte is 1. A batch is its gate, its length as a u32 (little end first, at least 1),
+//! Byte 0 of the file is the store's gate, bytes 1 to 16 the text `GINSH STORE 0001`, byte 17 the
+//! gate of the first batch.
+//! A gate is open where its byte is 1. A batch is its gate, its length as a u32 (little end first,
+//! at least 1),
 //! so many bytes, and the next gate.
 #![tactic(auto)]
 
@@ -11,9 +13,11 @@ mod error;
 mod laws;
 mod log;
 mod reading;
+mod sizes;
 #[cfg(test)]
 mod tests;
 
 pub use error::WalError;
 pub use laws::{never_refused, one_list};
-pub use log::{MOST_WAITING, Wal};
+pub use log::Wal;
+pub use sizes::{LOG_LIMIT, MOST_WAITING};

@@ -1,67 +1,77 @@
 // A log that is open: where its next gate stands, and what waits for a flush.
 ghost use Rattle.std.specs.Prelude.{◌≡◌, ◌⊎◌, ◌↔◌, ℕ, ◌+◌, ◌-◌, ◌^◌, ◌<◌, ◌≤◌, List, [], ◌∷◌, ◌++◌, length, drop, OnOk, OnErr, IfErr, IsErrOf, IsOk, Some, None, Option, vec_len, vec_capacity, Err, Ok, false};
-ghost use Rattle.wal.specs.Batches.{u32_bytes};
+ghost use Rattle.byteorder.specs.Endian.{little_bytes};
+ghost use Rattle.wal.specs.declared.sizes.TheConstants.{LENGTH_BYTES, LOG_LIMIT};
 ghost use Rattle.wal.specs.declared.error.WalError.TheVariants.{DiskFault, LogFull, Down, OutOfMemory};
 
 use crate::batch::put_batch;
 use crate::error::WalError;
+use crate::sizes::{FRAME_BYTES, LENGTH_BYTES, LOG_LIMIT, MOST_WAITING};
 use byteorder::{ByteOrder, LittleEndian};
 use disk_trait::Disk;
-
-/// Where so many bytes wait, a flush comes before the next append.
-pub const MOST_WAITING: usize = 4_194_304;
-
-/// What a batch has before its bytes: room for its length.
-pub(crate) const LENGTH_BYTES: usize = 4;
 
 /// A log whose batches are read, one after another, and to which entries are added then.
 #[derive(Drop)]
 pub struct Wal {
+    /// Where the next gate stands.
     pub(crate) end: u64,
-    // the file's length at the opening
+    /// the file's length at the opening
     pub(crate) size: u64,
+    /// The most bytes of the file.
     pub(crate) limit: u64,
-    // the batches have been read
+    /// the batches have been read
     pub(crate) ended: bool,
-    // four bytes for the length, and what waits
+    /// four bytes for the length, and what waits
     pub(crate) buffer: Vec<u8>,
+    /// The device's count of faults after the fault that brought the log down.
     pub(crate) down: Option<u64>,
-    ghost length_room: { 4 ≤ length buffer.items },
+    ghost length_room: { LENGTH_BYTES ≤ length buffer.items },
     ghost gate_room: { vec_len buffer < vec_capacity buffer },
-    ghost bound: { limit ≤ 2 ^ 40 },
+    ghost bound: { limit ≤ LOG_LIMIT },
     ghost fits: { length buffer.items ≤ 2 ^ 24 },
-    ghost below_limit: { 4 < length buffer.items → end + 2 + length buffer.items ≤ limit },
+    ghost below_limit: { LENGTH_BYTES < length buffer.items → end + 2 + length buffer.items ≤ limit },
     ghost inside: { ended ≡ false → end < size },
-    ghost idle: { ended ≡ false → length buffer.items ≡ 4 },
+    ghost idle: { ended ≡ false → length buffer.items ≡ LENGTH_BYTES },
 }
 
+/// The length of what waits, in front of it.
 fn put_length(buffer: &mut Vec<u8>)
-    requires { (4 ≤ length buffer.old.items) × (length buffer.old.items ≤ 2 ^ 24) }
-    ensures items { buffer.new.items ≡ u32_bytes (length buffer.old.items - 4) ++ drop 4 buffer.old.items }
-    ensures room { (vec_len buffer.new ≡ vec_len buffer.old) × (vec_capacity buffer.new ≡ vec_capacity buffer.old) }
+    requires { (LENGTH_BYTES ≤ length buffer.old.items) × (length buffer.old.items ≤ 2 ^ 24) }
+    ensures items { buffer.new.items ≡ little_bytes LENGTH_BYTES (length buffer.old.items - LENGTH_BYTES)
+        ++ drop LENGTH_BYTES buffer.old.items }
+    ensures room { (vec_len buffer.new ≡ vec_len buffer.old)
+        × (vec_capacity buffer.new ≡ vec_capacity buffer.old) }
 {
     let len = (buffer.len() - LENGTH_BYTES) as u32;
     LittleEndian::write_u32(buffer, len);
 }
 
 impl Wal {
-    ghost use Rattle.wal.specs.Waiting.{end_of, limit_of, down_of, waiting, IsReady, with_waiting, end_with, batches_then, end_then, waiting_then, length_with, FlushLeaves, StandsNow};
-    ghost use Rattle.wal.specs.Answers.{WriteHasCause, GoesDown, LogFullWhere, AppendLeaves, UnlessFault};
+    ghost use Rattle.wal.specs.Waiting.{end_of, limit_of, down_of, waiting, IsReadToEnd, with_waiting, end_with, batches_then, end_then, waiting_then, length_with, FlushLeaves, StandsNow};
+    ghost use Rattle.wal.specs.Causes.{WriteHasCause, GoesDown, LogFullWhere, AppendLeaves, UnlessFault};
     ghost use Rattle.wal.specs.Settled.{Settled};
+    ghost use Rattle.wal.specs.Pages.{KeepsPages};
 
-    // Nothing waits any more. What waited may count or not, where the device failed.
+    /// Nothing waits any more. What waited may count or not, where the device failed.
     fn flush_waiting<D: Disk>(&mut self, disk: &mut D) -> Result<(), WalError>
-        requires ready { IsReady self.old }
-        requires some { 4 < length self.old.buffer.items }
-        ensures counts { D.tells → (batches : List (List ℕ)) → Settled batches (end_of self.old) (D.seen disk.old) (D.image disk.old (D.clock disk.old))
-            → OnOk result (StandsNow D.seen D.clock D.image (batches ++ waiting self.old ∷ []) (end_of self.new) disk.old disk.new) }
-        ensures any_moment { D.tells → (batches : List (List ℕ)) → Settled batches (end_of self.old) (D.seen disk.old) (D.image disk.old (D.clock disk.old))
-            → FlushLeaves D.clock D.image batches (waiting self.old) disk.old disk.new }
+        requires ready { IsReadToEnd self.old }
+        requires some { LENGTH_BYTES < length self.old.buffer.items }
+        ensures counts { D.tells → (batches : List (List ℕ))
+            → Settled D.Disk batches (end_of self.old) disk.old
+            → OnOk result
+            (StandsNow D.Disk (batches ++ waiting self.old ∷ [])
+            (end_of self.new) disk.old disk.new) }
+        ensures pages { D.tells → KeepsPages D.Disk disk.old disk.new }
+        ensures any_moment { D.tells → (batches : List (List ℕ))
+            → Settled D.Disk batches (end_of self.old) disk.old
+            → FlushLeaves D.Disk batches (waiting self.old) disk.old disk.new }
         ensures empty { waiting self.new ≡ [] }
-        ensures end { OnOk result (end_of self.new ≡ end_of self.old + 5 + length (waiting self.old)) }
+        ensures end { OnOk result
+            (end_of self.new ≡ end_of self.old + FRAME_BYTES + length (waiting self.old)) }
         ensures same { (limit_of self.new ≡ limit_of self.old) × (self.new.ended ≡ self.old.ended) }
-        ensures down { GoesDown result (D.fault_count disk.new) (down_of self.old) (down_of self.new) }
-        ensures cause { WriteHasCause (D.fault_count disk.old) (D.fault_count disk.new) (D.write_fault_count disk.old) (D.write_fault_count disk.new) result }
+        ensures down { GoesDown result (D.fault_count disk.new) (down_of self.old)
+            (down_of self.new) }
+        ensures cause { WriteHasCause D.Disk disk.old disk.new result }
         ensures error { IfErr result (λ e. e ≡ DiskFault) }
     {
         put_length(&mut self.buffer);
@@ -81,15 +91,17 @@ impl Wal {
         }
     }
 
-    // The bytes wait behind those that do, if the log has room and there is memory.
+    /// The bytes wait behind those that do, if the log has room and there is memory.
     fn add(&mut self, bytes: &[u8]) -> Result<(), WalError>
-        requires ready { IsReady self.old }
-        requires short { length bytes.now ≤ 4194304 }
-        requires room { length (waiting self.old) < 4194304 }
+        requires ready { IsReadToEnd self.old }
+        requires short { length bytes.now ≤ MOST_WAITING }
+        requires room { length (waiting self.old) < MOST_WAITING }
         ensures ok { OnOk result (waiting self.new ≡ waiting self.old ++ bytes.now) }
         ensures err { OnErr result (waiting self.new ≡ waiting self.old) }
-        ensures same { (end_of self.new ≡ end_of self.old) × (limit_of self.new ≡ limit_of self.old) × (self.new.ended ≡ self.old.ended) × (down_of self.new ≡ down_of self.old) }
-        ensures full { LogFullWhere (limit_of self.old) (end_of self.old + 1 + 4 + length (waiting self.old) + length bytes.now + 1) result }
+        ensures same { (end_of self.new ≡ end_of self.old) × (limit_of self.new ≡ limit_of self.old)
+            × (self.new.ended ≡ self.old.ended) × (down_of self.new ≡ down_of self.old) }
+        ensures full { LogFullWhere (limit_of self.old)
+            (end_of self.old + FRAME_BYTES + length (waiting self.old) + length bytes.now + 1) result }
         ensures error { IfErr result (λ e. (e ≡ LogFull) ⊎ (e ≡ OutOfMemory)) }
     {
         let len = self.buffer.len() + bytes.len();
@@ -101,21 +113,29 @@ impl Wal {
         Ok(())
     }
 
-    // Fewer bytes than the most wait from now on.
+    /// Fewer bytes than the most wait from now on.
     fn make_room<D: Disk>(&mut self, disk: &mut D) -> Result<(), WalError>
-        requires { IsReady self.old }
-        ensures less { OnOk result (length (waiting self.new) < 4194304) }
+        requires { IsReadToEnd self.old }
+        ensures less { OnOk result (length (waiting self.new) < MOST_WAITING) }
         ensures waits { OnOk result (waiting self.new ≡ waiting_then (waiting self.old)) }
-        ensures end { OnOk result (end_of self.new ≡ end_then (end_of self.old) (waiting self.old)) }
-        ensures idle { length (waiting self.old) < 4194304 → IsOk result × (disk.new ≡ disk.old) }
+        ensures end { OnOk result
+            (end_of self.new ≡ end_then (end_of self.old) (waiting self.old)) }
+        ensures idle { length (waiting self.old) < MOST_WAITING → IsOk result × (disk.new ≡ disk.old) }
         ensures empty { OnErr result (waiting self.new ≡ []) }
-        ensures counts { D.tells → (batches : List (List ℕ)) → Settled batches (end_of self.old) (D.seen disk.old) (D.image disk.old (D.clock disk.old))
-            → OnOk result (StandsNow D.seen D.clock D.image (batches_then batches (waiting self.old)) (end_of self.new) disk.old disk.new) }
-        ensures any_moment { D.tells → (batches : List (List ℕ)) → Settled batches (end_of self.old) (D.seen disk.old) (D.image disk.old (D.clock disk.old))
-            → (disk.new ≡ disk.old) ⊎ FlushLeaves D.clock D.image batches (waiting self.old) disk.old disk.new }
+        ensures counts { D.tells → (batches : List (List ℕ))
+            → Settled D.Disk batches (end_of self.old) disk.old
+            → OnOk result
+            (StandsNow D.Disk (batches_then batches (waiting self.old))
+            (end_of self.new) disk.old disk.new) }
+        ensures pages { D.tells → KeepsPages D.Disk disk.old disk.new }
+        ensures any_moment { D.tells → (batches : List (List ℕ))
+            → Settled D.Disk batches (end_of self.old) disk.old
+            → (disk.new ≡ disk.old)
+            ⊎ FlushLeaves D.Disk batches (waiting self.old) disk.old disk.new }
         ensures same { (limit_of self.new ≡ limit_of self.old) × (self.new.ended ≡ self.old.ended) }
-        ensures down { GoesDown result (D.fault_count disk.new) (down_of self.old) (down_of self.new) }
-        ensures cause { WriteHasCause (D.fault_count disk.old) (D.fault_count disk.new) (D.write_fault_count disk.old) (D.write_fault_count disk.new) result }
+        ensures down { GoesDown result (D.fault_count disk.new) (down_of self.old)
+            (down_of self.new) }
+        ensures cause { WriteHasCause D.Disk disk.old disk.new result }
         ensures error { IfErr result (λ e. e ≡ DiskFault) }
     {
         if self.buffer.len() - LENGTH_BYTES < MOST_WAITING {
@@ -131,29 +151,41 @@ impl Wal {
         self.down
     }
 
-    /// The entry waits behind what waits, after a flush where much does. Of a refused entry nothing is there.
-    /// The log is full where its length up to the own batch's gate, what waits and the entry, with four bytes for the length
+    /// The entry waits behind what waits, after a flush where much does. Of a refused entry nothing
+    /// is there.
+    /// The log is full where its length up to the own batch's gate, what waits and the entry, with
+    /// four bytes for the length
     /// and a gate on each side, would pass the limit.
     pub fn append<D: Disk>(&mut self, disk: &mut D, bytes: &[u8]) -> Result<(), WalError>
-        requires ready { IsReady self.old }
-        requires short { length bytes.now ≤ 4194304 }
+        requires ready { IsReadToEnd self.old }
+        requires short { length bytes.now ≤ MOST_WAITING }
         ensures waits { AppendLeaves (waiting self.old) bytes.now result (waiting self.new) }
-        ensures end { UnlessFault result (end_of self.new ≡ end_then (end_of self.old) (waiting self.old)) }
-        ensures same { IsReady self.new × (limit_of self.new ≡ limit_of self.old) }
+        ensures end { UnlessFault result
+            (end_of self.new ≡ end_then (end_of self.old) (waiting self.old)) }
+        ensures same { IsReadToEnd self.new × (limit_of self.new ≡ limit_of self.old) }
 
         // The device: no call of it but for the flush.
-        ensures idle { length (waiting self.old) < 4194304 → (disk.new ≡ disk.old) × (IsErrOf result DiskFault → ⊥) }
-        ensures counts { D.tells → (batches : List (List ℕ)) → Settled batches (end_of self.old) (D.seen disk.old) (D.image disk.old (D.clock disk.old))
-            → UnlessFault result (StandsNow D.seen D.clock D.image (batches_then batches (waiting self.old)) (end_of self.new) disk.old disk.new) }
-        ensures any_moment { D.tells → (batches : List (List ℕ)) → Settled batches (end_of self.old) (D.seen disk.old) (D.image disk.old (D.clock disk.old))
-            → (disk.new ≡ disk.old) ⊎ FlushLeaves D.clock D.image batches (waiting self.old) disk.old disk.new }
+        ensures idle { length (waiting self.old) < MOST_WAITING → (disk.new ≡ disk.old)
+            × (IsErrOf result DiskFault → ⊥) }
+        ensures counts { D.tells → (batches : List (List ℕ))
+            → Settled D.Disk batches (end_of self.old) disk.old
+            → UnlessFault result
+            (StandsNow D.Disk (batches_then batches (waiting self.old))
+            (end_of self.new) disk.old disk.new) }
+        ensures pages { D.tells → KeepsPages D.Disk disk.old disk.new }
+        ensures any_moment { D.tells → (batches : List (List ℕ))
+            → Settled D.Disk batches (end_of self.old) disk.old
+            → (disk.new ≡ disk.old)
+            ⊎ FlushLeaves D.Disk batches (waiting self.old) disk.old disk.new }
 
         // The refusals.
         ensures full { LogFullWhere (limit_of self.old) (length_with self.old bytes.now) result }
         ensures is_down { (f : ℕ) → (result ≡ Err (Down f)) ↔ (down_of self.old ≡ Some f) }
-        ensures stays_down { (f : ℕ) → down_of self.old ≡ Some f → (disk.new ≡ disk.old) × (self.new ≡ self.old) }
-        ensures goes_down { GoesDown result (D.fault_count disk.new) (down_of self.old) (down_of self.new) }
-        ensures cause { WriteHasCause (D.fault_count disk.old) (D.fault_count disk.new) (D.write_fault_count disk.old) (D.write_fault_count disk.new) result }
+        ensures stays_down { (f : ℕ) → down_of self.old ≡ Some f → (disk.new ≡ disk.old)
+            × (self.new ≡ self.old) }
+        ensures goes_down { GoesDown result (D.fault_count disk.new) (down_of self.old)
+            (down_of self.new) }
+        ensures cause { WriteHasCause D.Disk disk.old disk.new result }
     {
         if let Some(fault) = self.down {
             return Err(WalError::Down { fault });
@@ -164,24 +196,35 @@ impl Wal {
 
     /// What waits counts from now on, as one batch. It takes no memory.
     pub fn flush<D: Disk>(&mut self, disk: &mut D) -> Result<(), WalError>
-        requires { IsReady self.old }
-        ensures ok { OnOk result ((waiting self.new ≡ []) × (end_of self.new ≡ end_with (end_of self.old) (waiting self.old))) }
-        ensures same { IsReady self.new × (limit_of self.new ≡ limit_of self.old) }
+        requires { IsReadToEnd self.old }
+        ensures ok { OnOk result ((waiting self.new ≡ [])
+            × (end_of self.new ≡ end_with (end_of self.old) (waiting self.old))) }
+        ensures same { IsReadToEnd self.new × (limit_of self.new ≡ limit_of self.old) }
 
         // The device: no call of it where nothing waits.
-        ensures idle { waiting self.old ≡ [] → (disk.new ≡ disk.old) × (self.new ≡ self.old) × (down_of self.old ≡ None → IsOk result) }
-        ensures counts { D.tells → (batches : List (List ℕ)) → Settled batches (end_of self.old) (D.seen disk.old) (D.image disk.old (D.clock disk.old))
-            → OnOk result (StandsNow D.seen D.clock D.image (with_waiting batches (waiting self.old)) (end_of self.new) disk.old disk.new) }
-        ensures any_moment { D.tells → (batches : List (List ℕ)) → Settled batches (end_of self.old) (D.seen disk.old) (D.image disk.old (D.clock disk.old))
-            → (disk.new ≡ disk.old) ⊎ ((0 < length (waiting self.old)) × FlushLeaves D.clock D.image batches (waiting self.old) disk.old disk.new) }
+        ensures idle { waiting self.old ≡ [] → (disk.new ≡ disk.old) × (self.new ≡ self.old)
+            × (down_of self.old ≡ None → IsOk result) }
+        ensures counts { D.tells → (batches : List (List ℕ))
+            → Settled D.Disk batches (end_of self.old) disk.old
+            → OnOk result
+            (StandsNow D.Disk (with_waiting batches (waiting self.old))
+            (end_of self.new) disk.old disk.new) }
+        ensures pages { D.tells → KeepsPages D.Disk disk.old disk.new }
+        ensures any_moment { D.tells → (batches : List (List ℕ))
+            → Settled D.Disk batches (end_of self.old) disk.old
+            → (disk.new ≡ disk.old)
+            ⊎ ((0 < length (waiting self.old))
+            × FlushLeaves D.Disk batches (waiting self.old) disk.old disk.new) }
 
         // The refusals: what waited waits no more after a fault of the device.
         ensures error { IfErr result (λ e. (e ≡ DiskFault) ⊎ ((f : ℕ) × (e ≡ Down f))) }
         ensures fault { IsErrOf result DiskFault → waiting self.new ≡ [] }
         ensures is_down { (f : ℕ) → (result ≡ Err (Down f)) ↔ (down_of self.old ≡ Some f) }
-        ensures stays_down { (f : ℕ) → down_of self.old ≡ Some f → (disk.new ≡ disk.old) × (self.new ≡ self.old) }
-        ensures goes_down { GoesDown result (D.fault_count disk.new) (down_of self.old) (down_of self.new) }
-        ensures cause { WriteHasCause (D.fault_count disk.old) (D.fault_count disk.new) (D.write_fault_count disk.old) (D.write_fault_count disk.new) result }
+        ensures stays_down { (f : ℕ) → down_of self.old ≡ Some f → (disk.new ≡ disk.old)
+            × (self.new ≡ self.old) }
+        ensures goes_down { GoesDown result (D.fault_count disk.new) (down_of self.old)
+            (down_of self.new) }
+        ensures cause { WriteHasCause D.Disk disk.old disk.new result }
     {
         if let Some(fault) = self.down {
             return Err(WalError::Down { fault });

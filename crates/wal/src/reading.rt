@@ -1,29 +1,34 @@
 // A log is opened, and its batches are read one after another.
 ghost use Rattle.std.specs.Prelude.{⊤, ◌≡◌, ◌≢◌, ◌⊎◌, ◌↔◌, ℕ, ◌+◌, ◌-◌, ◌^◌, ◌<◌, ◌≤◌, min, List, [], ◌∷◌, ◌++◌, length, take, drop, IfOk, OnOk, OnErr, IfErr, IsErr, IfSome, IfNone, IsTrue, Ok, Err, true, false, get_or};
-ghost use Rattle.wal.specs.Answers.{ReadHasCause, NotAStoreWhere};
-ghost use Rattle.wal.specs.Batches.{header, u32_bytes, front, IsUnborn, Counts};
-ghost use Rattle.wal.specs.Reading.{Keeps, HasLength, IsBroken, IsBrokenHead};
+ghost use Rattle.disk_trait.specs.Runs.{IsSettled};
+ghost use Rattle.wal.specs.Causes.{ReadHasCause, NotAStoreWhere};
+ghost use Rattle.byteorder.specs.Endian.{little_bytes};
+ghost use Rattle.wal.specs.Batches.{header, front, IsUnborn, HasBatches};
+ghost use Rattle.wal.specs.Reading.{IsOnlyRead, IsLengthAt, IsBroken};
+ghost use Rattle.wal.specs.Inner.Gates.{IsBrokenHead};
 ghost use Rattle.wal.specs.Settled.{Settled, LogIs};
 ghost use Rattle.wal.specs.declared.error.WalError.TheVariants.{DiskFault, NotAStore, OutOfMemory};
 
 use crate::error::WalError;
-use crate::log::{LENGTH_BYTES, Wal};
+use crate::log::Wal;
+use crate::sizes::{
+    BATCH_LIMIT, CREATED_BYTES, FRAME_BYTES, HEADER_BYTES, LENGTH_BYTES, LOG_LIMIT,
+};
 use byteorder::{ByteOrder, LittleEndian};
 use disk_trait::{Disk, File};
 use std::alloc::Global;
 
-// The store's gate, open, and the name of the format.
+/// The store's gate, open, and the name of the format.
 const HEADER: &[u8; 17] = b"\x01GINSH STORE 0001";
 
-// The log's length while it is created.
-pub(crate) const CREATED: u64 = 18;
-
-// The log's bytes from a place on, as many as are there.
+//// The log's bytes from a place on, as many as are there.
 fn read_log<D: Disk>(disk: &mut D, at: u64, buf: &mut [u8]) -> Result<usize, WalError>
     ensures bound { IfOk result (λ n. n ≤ length buf.old) }
-    ensures bytes { D.tells → IfOk result (λ n. (n ≡ min (length buf.old) (length (D.seen disk.old).log - at)) × (take n buf.new ≡ take n (drop at (D.seen disk.old).log))) }
-    ensures keeps { Keeps D.tells D.seen D.clock D.image disk.old disk.new }
-    ensures cause { ReadHasCause (D.fault_count disk.old) (D.fault_count disk.new) (D.write_fault_count disk.old) (D.write_fault_count disk.new) result }
+    ensures bytes { D.tells
+        → IfOk result (λ n. (n ≡ min (length buf.old) (length (D.seen disk.old).log - at))
+        × (take n buf.new ≡ take n (drop at (D.seen disk.old).log))) }
+    ensures keeps { IsOnlyRead D.Disk disk.old disk.new }
+    ensures cause { ReadHasCause D.Disk disk.old disk.new result }
     ensures error { IfErr result (λ e. e ≡ DiskFault) }
 {
     match disk.read(File::Log, at, buf) {
@@ -32,11 +37,11 @@ fn read_log<D: Disk>(disk: &mut D, at: u64, buf: &mut [u8]) -> Result<usize, Wal
     }
 }
 
-// The log's length.
+/// The log's length.
 fn log_length<D: Disk>(disk: &mut D) -> Result<u64, WalError>
     ensures length { D.tells → IfOk result (λ n. n ≡ length (D.seen disk.old).log) }
-    ensures keeps { Keeps D.tells D.seen D.clock D.image disk.old disk.new }
-    ensures cause { ReadHasCause (D.fault_count disk.old) (D.fault_count disk.new) (D.write_fault_count disk.old) (D.write_fault_count disk.new) result }
+    ensures keeps { IsOnlyRead D.Disk disk.old disk.new }
+    ensures cause { ReadHasCause D.Disk disk.old disk.new result }
     ensures error { IfErr result (λ e. e ≡ DiskFault) }
 {
     match disk.length(File::Log) {
@@ -45,34 +50,38 @@ fn log_length<D: Disk>(disk: &mut D) -> Result<u64, WalError>
     }
 }
 
-// Whether the log begins with the header.
+/// Whether the log begins with the header.
 fn has_header<D: Disk>(disk: &mut D) -> Result<bool, WalError>
-    ensures header { D.tells → IfOk result (λ b. IsTrue b ↔ (take 17 (D.seen disk.old).log ≡ header)) }
-    ensures keeps { Keeps D.tells D.seen D.clock D.image disk.old disk.new }
-    ensures cause { ReadHasCause (D.fault_count disk.old) (D.fault_count disk.new) (D.write_fault_count disk.old) (D.write_fault_count disk.new) result }
+    ensures header { D.tells
+        → IfOk result (λ b. IsTrue b ↔ (take HEADER_BYTES (D.seen disk.old).log ≡ header)) }
+    ensures keeps { IsOnlyRead D.Disk disk.old disk.new }
+    ensures cause { ReadHasCause D.Disk disk.old disk.new result }
     ensures error { IfErr result (λ e. e ≡ DiskFault) }
 {
-    let mut head = [0u8; 17];
+    let mut head = [0u8; HEADER_BYTES];
     match read_log(disk, 0, &mut head) {
-        Ok(n) => Ok(n == 17 && head.as_slice() == HEADER.as_slice()),
+        Ok(n) => Ok(n == HEADER_BYTES && head.as_slice() == HEADER.as_slice()),
         Err(e) => Err(e),
     }
 }
 
-// The number in the first four bytes.
+/// The number in the first four bytes.
 fn number_in(bytes: &[u8]) -> u32
-    requires { 4 ≤ length bytes.now }
-    ensures { u32_bytes result ≡ take 4 bytes.now }
+    requires { LENGTH_BYTES ≤ length bytes.now }
+    ensures { little_bytes LENGTH_BYTES result ≡ take LENGTH_BYTES bytes.now }
 {
     LittleEndian::read_u32(bytes)
 }
 
-// The length of a batch, if the gate before it is open. These are the gate and the length, as far as the file has them;
-// `room` is what the file has from the gate on.
+/// The length of a batch, if the gate before it is open. These are the gate and the length, as far
+/// as the file has them;
+/// `room` is what the file has from the gate on.
 fn length_in(head: &[u8], room: u64) -> Result<Option<usize>, WalError>
     ensures closed { IfOk result (λ some. IfNone some (get_or head.now 0 0 ≢ 1)) }
-    ensures open { IfOk result (λ some. IfSome some (λ n. (get_or head.now 0 0 ≡ 1) × (5 ≤ length head.now) × (u32_bytes n ≡ take 4 (drop 1 head.now)))) }
-    ensures size { IfOk result (λ some. IfSome some (λ n. (0 < n) × (n < 2 ^ 32) × (n + 5 < room))) }
+    ensures open { IfOk result (λ some. IfSome some (λ n. (get_or head.now 0 0 ≡ 1)
+        × (FRAME_BYTES ≤ length head.now) × (little_bytes LENGTH_BYTES n ≡ take LENGTH_BYTES (drop 1 head.now)))) }
+    ensures size { IfOk result (λ some. IfSome some (λ n. (0 < n) × (n < BATCH_LIMIT)
+        × (n + FRAME_BYTES < room))) }
     ensures broken { IsErr result → IsBrokenHead head.now room }
     ensures error { IfErr result (λ e. e ≡ NotAStore) }
 {
@@ -82,43 +91,50 @@ fn length_in(head: &[u8], room: u64) -> Result<Option<usize>, WalError>
     if head[0] != 1 {
         return Ok(None);
     }
-    if head.len() < 5 || room < 6 {
+    if head.len() < FRAME_BYTES || room < FRAME_BYTES as u64 + 1 {
         return Err(WalError::NotAStore);
     }
     let len = number_in(&head[1..]);
-    if len == 0 || room - 6 < len as u64 {
+    if len == 0 || room - FRAME_BYTES as u64 - 1 < len as u64 {
         return Err(WalError::NotAStore);
     }
     Ok(Some(len as usize))
 }
 
-// The length of the batch behind the gate at `at`, if that is open. `size` is the log's length.
+/// The length of the batch behind the gate at `at`, if that is open. `size` is the log's length.
 fn next_length<D: Disk>(disk: &mut D, at: u64, size: u64) -> Result<Option<usize>, WalError>
     requires { at < size }
-    ensures closed { D.tells → length (D.seen disk.old).log ≡ size → IfOk result (λ some. IfNone some (get_or (D.seen disk.old).log at 0 ≢ 1)) }
-    ensures open { D.tells → length (D.seen disk.old).log ≡ size → IfOk result (λ some. IfSome some (λ n. (get_or (D.seen disk.old).log at 0 ≡ 1) × HasLength (D.seen disk.old).log at n)) }
-    ensures size { IfOk result (λ some. IfSome some (λ n. (0 < n) × (n < 2 ^ 32) × (at + 5 + n < size))) }
-    ensures broken { D.tells → length (D.seen disk.old).log ≡ size → NotAStoreWhere (IsBroken (D.seen disk.old).log at) result }
-    ensures keeps { Keeps D.tells D.seen D.clock D.image disk.old disk.new }
-    ensures cause { ReadHasCause (D.fault_count disk.old) (D.fault_count disk.new) (D.write_fault_count disk.old) (D.write_fault_count disk.new) result }
+    ensures closed { D.tells → length (D.seen disk.old).log ≡ size
+        → IfOk result (λ some. IfNone some (get_or (D.seen disk.old).log at 0 ≢ 1)) }
+    ensures open { D.tells → length (D.seen disk.old).log ≡ size
+        → IfOk result (λ some. IfSome some (λ n. (get_or (D.seen disk.old).log at 0 ≡ 1)
+        × IsLengthAt (D.seen disk.old).log at n)) }
+    ensures size { IfOk result (λ some. IfSome some (λ n. (0 < n) × (n < BATCH_LIMIT)
+        × (at + FRAME_BYTES + n < size))) }
+    ensures broken { D.tells → length (D.seen disk.old).log ≡ size
+        → NotAStoreWhere (IsBroken (D.seen disk.old).log at) result }
+    ensures keeps { IsOnlyRead D.Disk disk.old disk.new }
+    ensures cause { ReadHasCause D.Disk disk.old disk.new result }
     ensures error { IfErr result (λ e. (e ≡ DiskFault) ⊎ (e ≡ NotAStore)) }
 {
-    let mut head = [0u8; 5];
+    let mut head = [0u8; FRAME_BYTES];
     match read_log(disk, at, &mut head) {
         Ok(n) => length_in(&head[..n], size - at),
         Err(e) => Err(e),
     }
 }
 
-// So many bytes of the log from a place on, and none where they are not had.
+/// So many bytes of the log from a place on, and none where they are not had.
 fn read_into<D: Disk>(disk: &mut D, at: u64, len: usize, out: &mut Vec<u8>) -> Result<(), WalError>
     requires { out.old.items ≡ [] }
-    ensures bytes { D.tells → at + len ≤ length (D.seen disk.old).log → OnOk result (out.new.items ≡ take len (drop at (D.seen disk.old).log)) }
+    ensures bytes { D.tells → at + len ≤ length (D.seen disk.old).log
+        → OnOk result (out.new.items ≡ take len (drop at (D.seen disk.old).log)) }
     ensures len { OnOk result (length out.new.items ≡ len) }
     ensures none { OnErr result (out.new.items ≡ []) }
-    ensures there { D.tells → at + len ≤ length (D.seen disk.old).log → IfErr result (λ e. (e ≡ DiskFault) ⊎ (e ≡ OutOfMemory)) }
-    ensures keeps { Keeps D.tells D.seen D.clock D.image disk.old disk.new }
-    ensures cause { ReadHasCause (D.fault_count disk.old) (D.fault_count disk.new) (D.write_fault_count disk.old) (D.write_fault_count disk.new) result }
+    ensures there { D.tells → at + len ≤ length (D.seen disk.old).log
+        → IfErr result (λ e. (e ≡ DiskFault) ⊎ (e ≡ OutOfMemory)) }
+    ensures keeps { IsOnlyRead D.Disk disk.old disk.new }
+    ensures cause { ReadHasCause D.Disk disk.old disk.new result }
     ensures error { IfErr result (λ e. (e ≡ DiskFault) ⊎ (e ≡ NotAStore) ⊎ (e ≡ OutOfMemory)) }
 {
     out.resize(len, 0)?;
@@ -136,21 +152,22 @@ fn read_into<D: Disk>(disk: &mut D, at: u64, len: usize, out: &mut Vec<u8>) -> R
 }
 
 impl Wal {
-    ghost use Rattle.wal.specs.Waiting.{end_of, IsReady};
+    ghost use Rattle.wal.specs.Waiting.{end_of, IsReadToEnd};
     ghost use Rattle.wal.specs.Reading.{IsReading, IsFresh, IsSameBut, IsForeign, Gives};
 
-    // At the first batch, with room for a length and a gate.
+    /// At the first batch, with room for a length and a gate.
     fn at_start(alloc: Global, size: u64, limit: u64) -> Result<Wal, WalError>
-        requires size { 17 < size }
-        requires limit { limit ≤ 2 ^ 40 }
-        ensures start { IfOk result (λ wal. (wal.ended ≡ false) × (wal.size ≡ size) × (end_of wal ≡ 17)) }
+        requires size { HEADER_BYTES < size }
+        requires limit { limit ≤ LOG_LIMIT }
+        ensures start { IfOk result (λ wal. (wal.ended ≡ false) × (wal.size ≡ size)
+            × (end_of wal ≡ HEADER_BYTES)) }
         ensures fresh { IfOk result (λ wal. IsFresh wal limit) }
         ensures error { IfErr result (λ e. e ≡ OutOfMemory) }
     {
         let mut buffer = Vec::with_capacity(alloc, LENGTH_BYTES + 1)?;
         buffer.resize(LENGTH_BYTES, 0u8)?;
         Ok(Wal {
-            end: 17,
+            end: HEADER_BYTES as u64,
             size,
             limit,
             ended: false,
@@ -159,47 +176,59 @@ impl Wal {
         })
     }
 
-    /// A log that is there, before its first batch. One whose creation was not begun, or was cut short, is created before.
+    /// A log that is there, before its first batch. One whose creation was not begun, or was cut
+    /// short, is created before.
     pub fn open<D: Disk>(alloc: Global, disk: &mut D, limit: u64) -> Result<Wal, WalError>
-        requires limit { limit ≤ 2 ^ 40 }
+        requires limit { limit ≤ LOG_LIMIT }
         requires born { D.tells → IsUnborn (D.seen disk.old).log → ⊥ }
         ensures reading { D.tells → IfOk result (λ wal. IsReading wal (D.seen disk.old).log []) }
-        ensures start { IfOk result (λ wal. (wal.ended ≡ false) × (end_of wal ≡ 17)) }
+        ensures start { IfOk result (λ wal. (wal.ended ≡ false) × (end_of wal ≡ HEADER_BYTES)) }
         ensures fresh { IfOk result (λ wal. IsFresh wal limit) }
         ensures no_store { D.tells → NotAStoreWhere (IsForeign (D.seen disk.old).log) result }
         ensures error { IfErr result (λ e. (e ≡ DiskFault) ⊎ (e ≡ NotAStore) ⊎ (e ≡ OutOfMemory)) }
-        ensures keeps { Keeps D.tells D.seen D.clock D.image disk.old disk.new }
-        ensures cause { ReadHasCause (D.fault_count disk.old) (D.fault_count disk.new) (D.write_fault_count disk.old) (D.write_fault_count disk.new) result }
+        // Whatever the files hold and whatever is answered, they stay as they were.
+        ensures keeps { IsOnlyRead D.Disk disk.old disk.new }
+        ensures files { D.tells → IsSettled D.Disk disk.old → IsSettled D.Disk disk.new }
+        ensures cause { ReadHasCause D.Disk disk.old disk.new result }
     {
         let size = log_length(disk)?;
-        if size < CREATED || !has_header(disk)? {
+        if size < CREATED_BYTES || !has_header(disk)? {
             return Err(WalError::NotAStore);
         }
         Wal::at_start(alloc, size, limit)
     }
 
-    /// The next batch, in place of what `out` held; false at the log's end. `out` is empty after all but a batch.
+    /// The next batch, in place of what `out` held; false at the log's end. `out` is empty after
+    /// all but a batch.
     /// A refusal leaves the reading where it was.
     pub fn read_batch<D: Disk>(&mut self, disk: &mut D, out: &mut Vec<u8>) -> Result<bool, WalError>
-        ensures given { D.tells → (batches : List (List ℕ)) → IsReading self.old (D.seen disk.old).log batches
-            → Gives result out.new.items (λ batch. IsReading self.new (D.seen disk.old).log (batches ++ batch ∷ [])) }
-        ensures end { D.tells → (batches : List (List ℕ)) → IsReading self.old (D.seen disk.old).log batches
-            → result ≡ Ok false → Counts (D.seen disk.old).log batches × (end_of self.new ≡ length (front batches)) }
+        ensures given { D.tells → (batches : List (List ℕ))
+            → IsReading self.old (D.seen disk.old).log batches
+            → Gives result out.new.items
+            (λ batch. IsReading self.new (D.seen disk.old).log (batches ++ batch ∷ [])) }
+        ensures end { D.tells → (batches : List (List ℕ))
+            → IsReading self.old (D.seen disk.old).log batches
+            → result ≡ Ok false → HasBatches (D.seen disk.old).log batches
+            × (end_of self.new ≡ length (front batches)) }
         // Where a crash leaves what is read, all stands.
-        ensures settled { D.tells → (batches : List (List ℕ)) → IsReading self.old (D.seen disk.old).log batches
-            → LogIs (D.seen disk.old).log (D.seen disk.old) (D.image disk.old (D.clock disk.old))
-            → result ≡ Ok false → Settled batches (end_of self.new) (D.seen disk.new) (D.image disk.new (D.clock disk.new)) }
-        ensures ready { result ≡ Ok false → IsReady self.new × (end_of self.new ≡ end_of self.old) }
-        ensures again { IsReady self.old → (result ≡ Ok false) × (self.new ≡ self.old) × (disk.new ≡ disk.old) }
+        ensures settled { D.tells → (batches : List (List ℕ))
+            → IsReading self.old (D.seen disk.old).log batches
+            → LogIs D.Disk (D.seen disk.old).log disk.old
+            → result ≡ Ok false → Settled D.Disk batches (end_of self.new) disk.new }
+        ensures ready { result ≡ Ok false → IsReadToEnd self.new
+            × (end_of self.new ≡ end_of self.old) }
+        ensures again { IsReadToEnd self.old → (result ≡ Ok false) × (self.new ≡ self.old)
+            × (disk.new ≡ disk.old) }
         ensures none { Gives result out.new.items (λ _. ⊤) }
         ensures same { IsSameBut self.old self.new }
 
-        ensures no_store { D.tells → (batches : List (List ℕ)) → IsReading self.old (D.seen disk.old).log batches
+        ensures no_store { D.tells → (batches : List (List ℕ))
+            → IsReading self.old (D.seen disk.old).log batches
             → NotAStoreWhere (IsBroken (D.seen disk.old).log (end_of self.old)) result }
         ensures refused { OnErr result (self.new ≡ self.old) }
         ensures error { IfErr result (λ e. (e ≡ DiskFault) ⊎ (e ≡ NotAStore) ⊎ (e ≡ OutOfMemory)) }
-        ensures keeps { Keeps D.tells D.seen D.clock D.image disk.old disk.new }
-        ensures cause { ReadHasCause (D.fault_count disk.old) (D.fault_count disk.new) (D.write_fault_count disk.old) (D.write_fault_count disk.new) result }
+        ensures keeps { IsOnlyRead D.Disk disk.old disk.new }
+        ensures cause { ReadHasCause D.Disk disk.old disk.new result }
     {
         out.clear();
         if self.ended {
@@ -209,8 +238,8 @@ impl Wal {
             self.ended = true;
             return Ok(false);
         };
-        read_into(disk, self.end + 5, len, out)?;
-        self.end += 5 + len as u64;
+        read_into(disk, self.end + FRAME_BYTES as u64, len, out)?;
+        self.end += FRAME_BYTES as u64 + len as u64;
         Ok(true)
     }
 }

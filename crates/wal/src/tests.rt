@@ -1,18 +1,20 @@
 ghost use Rattle.std.specs.Prelude.{◌+◌, ◌^◌, ◌≤◌, length, IfOk};
-ghost use Rattle.disk_trait.specs.Laws.{clock_of};
-ghost use Rattle.wal.specs.Waiting.{IsReady};
+ghost use Rattle.disk_trait.specs.Files.{file_limit};
+ghost use Rattle.disk_trait.specs.MemoryDisk.{clock_of};
+ghost use Rattle.wal.specs.Waiting.{IsReadToEnd};
 
-use crate::{MOST_WAITING, Wal, WalError};
+use crate::{LOG_LIMIT, MOST_WAITING, Wal, WalError};
 use disk_trait::{Disk, Failed, File, MemoryDisk};
 use std::alloc::Global;
+use std::process::Abort;
 use std::test::Fail;
 
-// A device in memory that tells nothing, so that a test may ask anything of it.
+/// A device in memory that tells nothing, so that a test may ask anything of it.
 #[derive(Drop)]
 struct Silent(MemoryDisk);
 
 impl Disk for Silent {
-    ghost use Rattle.disk_trait.specs.Laws.{seen_of, image_of, clock_of, faults_of, write_faults_of};
+    ghost use Rattle.disk_trait.specs.MemoryDisk.{seen_of, image_of, clock_of, faults_of, write_faults_of};
 
     ghost tells = { ⊥ };
 
@@ -28,32 +30,38 @@ impl Disk for Silent {
 
     ghost seen_is_image = { λ d told. absurd told };
 
+    /// As the device in memory does.
     fn read(&mut self, file: File, at: u64, buf: &mut [u8]) -> Result<usize, Failed> {
         self.0.read(file, at, buf)
     }
 
+    /// As the device in memory does.
     fn write_at(&mut self, file: File, at: u64, bytes: &[u8]) -> Result<(), Failed> {
         self.0.write_at(file, at, bytes)
     }
 
+    /// As the device in memory does.
     fn sync(&mut self, file: File) -> Result<(), Failed> {
         self.0.sync(file)
     }
 
+    /// As the device in memory does.
     fn length(&mut self, file: File) -> Result<u64, Failed> {
         self.0.length(file)
     }
 
+    /// As the device in memory does.
     fn faults(&self) -> u64 {
         self.0.faults()
     }
 }
 
-const LIMIT: u64 = 1 << 40;
+/// More than any log here has.
+const LIMIT: u64 = LOG_LIMIT;
 
-// A device whose log holds these bytes.
+/// A device whose log holds these bytes.
 fn holding(alloc: Global, bytes: &[u8]) -> Result<Silent, Fail>
-    requires { length bytes.now ≤ 2 ^ 62 }
+    requires { length bytes.now ≤ file_limit }
 {
     let mut disk = Silent(MemoryDisk::new(alloc, Vec::new(alloc)));
     disk.write_at(File::Log, 0, bytes)?;
@@ -61,7 +69,7 @@ fn holding(alloc: Global, bytes: &[u8]) -> Result<Silent, Fail>
     Ok(disk)
 }
 
-// The log's bytes, of which there are few.
+/// The log's bytes, of which there are few.
 fn content(alloc: Global, disk: &mut Silent) -> Result<Vec<u8>, Fail> {
     let mut bytes = vec![in alloc; 0u8; 64]?;
     let n = disk.read(File::Log, 0, &mut bytes)?;
@@ -69,11 +77,11 @@ fn content(alloc: Global, disk: &mut Silent) -> Result<Vec<u8>, Fail> {
     Ok(bytes)
 }
 
-// A log without a batch, ready for entries.
+/// A log without a batch, ready for entries.
 fn ready<D: Disk>(alloc: Global, disk: &mut D, limit: u64) -> Result<Wal, WalError>
     requires untold { D.tells → ⊥ }
-    requires limit { limit ≤ 2 ^ 40 }
-    ensures { IfOk result IsReady }
+    requires limit { limit ≤ LOG_LIMIT }
+    ensures { IfOk result IsReadToEnd }
 {
     let mut out = Vec::new(alloc);
     let mut wal = Wal::open(alloc, disk, limit)?;
@@ -84,16 +92,17 @@ fn ready<D: Disk>(alloc: Global, disk: &mut D, limit: u64) -> Result<Wal, WalErr
     }
 }
 
+/// The same, of a log that is created before.
 fn create_ready<D: Disk>(alloc: Global, disk: &mut D, limit: u64) -> Result<Wal, WalError>
     requires untold { D.tells → ⊥ }
-    requires limit { limit ≤ 2 ^ 40 }
-    ensures { IfOk result IsReady }
+    requires limit { limit ≤ LOG_LIMIT }
+    ensures { IfOk result IsReadToEnd }
 {
     Wal::create(disk)?;
     ready(alloc, disk, limit)
 }
 
-// The batches of a log, one after another, in one list with their lengths before them.
+/// The batches of a log, one after another, in one list with their lengths before them.
 fn batches(alloc: Global, disk: &mut Silent) -> Result<Vec<u8>, WalError> {
     let mut wal = Wal::open(alloc, disk, LIMIT)?;
     let mut all = Vec::new(alloc);
@@ -109,6 +118,7 @@ fn batches(alloc: Global, disk: &mut Silent) -> Result<Vec<u8>, WalError> {
     Ok(all)
 }
 
+/// A log is created over what was cut short.
 #[test]
 fn a_log_is_created_over_what_was_cut_short(rt: HostRuntime) -> Result<(), Fail> {
     let alloc = rt.alloc();
@@ -132,104 +142,162 @@ fn a_log_is_created_over_what_was_cut_short(rt: HostRuntime) -> Result<(), Fail>
     Ok(())
 }
 
+/// What is no log is refused, and what stands behind a closed gate is not looked at.
 #[test]
 fn what_is_no_log_is_refused(rt: HostRuntime) -> Result<(), Fail> {
     let alloc = rt.alloc();
-    let logs: [&[u8]; 7] = [
-        &[0; 19],
-        b"\x01GINSH STORE 0002\0",
-        b"\x01GINSH STORE 0001\x01\0\0\0\0\0",
-        b"\x01GINSH STORE 0001\x01\x05\0\0\0abc\0",
-        b"\x01GINSH STORE 0001\x01\x02\0\0\0ab",
-        b"\x01GINSH STORE 0001\x01\x02\0\0\0ab\x01",
-        b"\x01GINSH STORE 0001\x01\x02\0",
+    let rows: [(&[u8], Option<&[u8]>); 8] = [
+        (&[0; 19], None),
+        (b"\x01GINSH STORE 0002\0", None),
+        (b"\x01GINSH STORE 0001\x01\0\0\0\0\0", None),
+        (b"\x01GINSH STORE 0001\x01\x05\0\0\0abc\0", None),
+        (b"\x01GINSH STORE 0001\x01\x02\0\0\0ab", None),
+        (b"\x01GINSH STORE 0001\x01\x02\0\0\0ab\x01", None),
+        (b"\x01GINSH STORE 0001\x01\x02\0", None),
+        (
+            b"\x01GINSH STORE 0001\x01\x02\0\0\0ab\x02xyz",
+            Some(b"\x02ab"),
+        ),
     ];
-    for log in logs {
-        let mut disk = holding(alloc, log)?;
-        let got = batches(alloc, &mut disk);
-        assert_eq!(rt; got.err(), Some(WalError::NotAStore), "at {log:?}");
+    for (row, (log, wanted)) in rows.iter().enumerate() {
+        assert!(rt; opens_to(alloc, log, *wanted)?, "row {row}");
     }
-    let mut disk = holding(alloc, b"\x01GINSH STORE 0001\x01\x02\0\0\0ab\x02xyz")?;
-    assert_eq!(rt; batches(alloc, &mut disk)?.as_slice(), b"\x02ab".as_slice());
     Ok(())
 }
 
-// An entry in a flush of its own.
+/// Whether a log has these batches, or is refused as no store.
+fn opens_to(alloc: Global, log: &[u8], wanted: Option<&[u8]>) -> Result<bool, Fail> {
+    if MOST_WAITING < log.len() {
+        return Ok(false);
+    }
+    let mut disk = holding(alloc, log)?;
+    match (batches(alloc, &mut disk), wanted) {
+        (Ok(got), Some(wanted)) => Ok(got.as_slice() == wanted),
+        (Err(e), None) => Ok(e == WalError::NotAStore),
+        _ => Ok(false),
+    }
+}
+
+/// An entry in a flush of its own.
 fn put<D: Disk>(wal: &mut Wal, disk: &mut D, entry: &[u8]) -> Result<(), WalError>
-    requires ready { IsReady wal.old }
-    requires short { length entry.now ≤ 4194304 }
-    ensures { IsReady wal.new }
+    requires ready { IsReadToEnd wal.old }
+    requires short { length entry.now ≤ MOST_WAITING }
+    ensures { IsReadToEnd wal.new }
 {
     wal.append(disk, entry)?;
     wal.flush(disk)
 }
 
+/// A call of a log that is ready, or a look at its device, with what it gives.
+#[derive(Clone, Copy)]
+enum Step<'a> {
+    /// An entry, and whether there is room for it.
+    Append(&'a [u8], bool),
+    /// A flush that is done.
+    Flush,
+    /// How many calls of the device there were.
+    Calls(u64),
+    /// The log's length.
+    Length(u64),
+    /// All the bytes of a short log.
+    Holds(&'a [u8]),
+    /// The batches of the log, each with its length before it.
+    Batches(&'a [u8]),
+}
+
+/// Whether an append is done where it has room, and is refused where it has none.
+fn appends(wal: &mut Wal, disk: &mut Silent, entry: &[u8], room: bool) -> bool
+    requires { IsReadToEnd wal.old }
+    ensures { IsReadToEnd wal.new }
+{
+    if MOST_WAITING < entry.len() {
+        return false;
+    }
+    match wal.append(disk, entry) {
+        Ok(()) => room,
+        Err(e) => !room && e == WalError::LogFull,
+    }
+}
+
+/// Whether a step gives what its row says.
+fn gives(alloc: Global, wal: &mut Wal, disk: &mut Silent, step: Step) -> Result<bool, Fail>
+    requires { IsReadToEnd wal.old }
+    ensures { IsReadToEnd wal.new }
+{
+    match step {
+        Step::Append(entry, room) => Ok(appends(wal, disk, entry, room)),
+        Step::Flush => Ok(wal.flush(disk).is_ok()),
+        Step::Calls(calls) => Ok(disk.0.calls() == calls),
+        Step::Length(len) => Ok(disk.length(File::Log) == Ok(len)),
+        Step::Holds(bytes) => Ok(content(alloc, disk)?.as_slice() == bytes),
+        Step::Batches(all) => Ok(batches(alloc, disk)?.as_slice() == all),
+    }
+}
+
+/// Each step gives what its row says, from a new log on, which is ready after ten calls.
+fn follow(rt: &impl Abort, alloc: Global, limit: u64, steps: &[Step]) -> Result<(), Fail>
+    requires { limit ≤ LOG_LIMIT }
+{
+    let mut disk = Silent(MemoryDisk::new(alloc, Vec::new(alloc)));
+    let mut wal = create_ready(alloc, &mut disk, limit)?;
+    for (row, step) in steps.iter().enumerate() {
+        assert!(rt; gives(alloc, &mut wal, &mut disk, *step)?, "row {row}");
+    }
+    Ok(())
+}
+
+/// What waited is one batch. Where nothing waits, a flush calls no device.
 #[test]
 fn what_waited_is_one_batch(rt: HostRuntime) -> Result<(), Fail> {
-    let alloc = rt.alloc();
-    let mut disk = Silent(MemoryDisk::new(alloc, Vec::new(alloc)));
-    let mut wal = create_ready(alloc, &mut disk, LIMIT)?;
-    wal.append(&mut disk, b"ab")?;
-    put(&mut wal, &mut disk, b"c")?;
-    put(&mut wal, &mut disk, b"d")?;
-    let calls = disk.0.calls();
-    wal.flush(&mut disk)?;
-    assert_eq!(rt; disk.0.calls(), calls, "nothing waits");
-    let got = content(alloc, &mut disk)?;
-    assert_eq!(rt;
-        got.as_slice(),
-        b"\x01GINSH STORE 0001\x01\x03\0\0\0abc\x01\x01\0\0\0d\0".as_slice()
-    );
-    assert_eq!(rt;
-        batches(alloc, &mut disk)?.as_slice(),
-        b"\x03abc\x01d".as_slice()
-    );
-    let mut again = Wal::open(alloc, &mut disk, LIMIT)?;
-    let mut out = Vec::new(alloc);
-    assert_eq!(rt; again.read_batch(&mut disk, &mut out), Ok(true));
-    assert_eq!(rt; again.read_batch(&mut disk, &mut out), Ok(true));
-    assert_eq!(rt; out.as_slice(), b"d".as_slice());
-    assert_eq!(rt; again.read_batch(&mut disk, &mut out), Ok(false));
-    Ok(())
+    let steps = [
+        Step::Append(b"ab", true),
+        Step::Append(b"c", true),
+        Step::Calls(10),
+        Step::Flush,
+        Step::Calls(14),
+        Step::Append(b"d", true),
+        Step::Flush,
+        Step::Calls(18),
+        Step::Flush,
+        Step::Calls(18),
+        Step::Holds(b"\x01GINSH STORE 0001\x01\x03\0\0\0abc\x01\x01\0\0\0d\0"),
+        Step::Batches(b"\x03abc\x01d"),
+    ];
+    follow(&rt, rt.alloc(), LIMIT, &steps)
 }
 
-// A gate, a length, three bytes and the next gate behind the header are 26 bytes.
+/// A gate, a length, three bytes and the next gate behind the header are 26 bytes.
 #[test]
 fn a_log_is_full_at_the_first_byte_past_its_limit(rt: HostRuntime) -> Result<(), Fail> {
-    let alloc = rt.alloc();
-    let mut disk = Silent(MemoryDisk::new(alloc, Vec::new(alloc)));
-    let mut wal = create_ready(alloc, &mut disk, 26)?;
-    assert_eq!(rt; wal.append(&mut disk, b"abcd"), Err(WalError::LogFull));
-    assert_eq!(rt; wal.append(&mut disk, b"abc"), Ok(()));
-    assert_eq!(rt; wal.append(&mut disk, b"d"), Err(WalError::LogFull));
-    wal.flush(&mut disk)?;
-    assert_eq!(rt; wal.append(&mut disk, b""), Err(WalError::LogFull));
-    assert_eq!(rt;
-        batches(alloc, &mut disk)?.as_slice(),
-        b"\x03abc".as_slice()
-    );
-    Ok(())
+    let steps = [
+        Step::Append(b"abcd", false),
+        Step::Append(b"abc", true),
+        Step::Append(b"d", false),
+        Step::Flush,
+        Step::Append(b"", false),
+        Step::Batches(b"\x03abc"),
+    ];
+    follow(&rt, rt.alloc(), 26, &steps)
 }
 
+/// A flush comes first where much waits.
 #[test]
 fn a_flush_comes_first_where_much_waits(rt: HostRuntime) -> Result<(), Fail> {
     let alloc = rt.alloc();
-    let mut disk = Silent(MemoryDisk::new(alloc, Vec::new(alloc)));
-    let mut wal = create_ready(alloc, &mut disk, LIMIT)?;
     let large = vec![in alloc; 7u8; MOST_WAITING - 1]?;
-    assert_eq!(rt; large.len(), 4_194_303);
-    let calls = disk.0.calls();
-    wal.append(&mut disk, &large)?;
-    wal.append(&mut disk, b"a")?;
-    assert_eq!(rt; disk.0.calls(), calls);
-    wal.append(&mut disk, b"b")?;
-    assert_eq!(rt; Some(disk.0.calls()), calls.checked_add(4));
-    wal.flush(&mut disk)?;
-    assert_eq!(rt; disk.length(File::Log), Ok(17 + 5 + 4_194_304 + 5 + 1 + 1));
-    Ok(())
+    let steps = [
+        Step::Append(&large, true),
+        Step::Append(b"a", true),
+        Step::Calls(10),
+        Step::Append(b"b", true),
+        Step::Calls(14),
+        Step::Flush,
+        Step::Length(17 + 5 + 4_194_304 + 5 + 1 + 1),
+    ];
+    follow(&rt, alloc, LIMIT, &steps)
 }
 
-// Two entries in flushes of their own. Where the device fails, the log is down from then on.
+/// Two entries in flushes of their own. Where the device fails, the log is down from then on.
 fn run<D: Disk>(alloc: Global, disk: &mut D) -> Result<u8, u8>
     requires { D.tells → ⊥ }
 {
@@ -245,9 +313,9 @@ fn run<D: Disk>(alloc: Global, disk: &mut D) -> Result<u8, u8>
     }
 }
 
-// Whether both calls answer the count just after the fault, and call no device.
+/// Whether both calls answer the count just after the fault, and call no device.
 fn is_down<D: Disk>(wal: &mut Wal, disk: &mut D) -> u8
-    requires { IsReady wal.old }
+    requires { IsReadToEnd wal.old }
 {
     let down = Err(WalError::Down { fault: 1 });
     let appended = wal.append(disk, b"x");
@@ -259,7 +327,7 @@ fn is_down<D: Disk>(wal: &mut Wal, disk: &mut D) -> u8
     }
 }
 
-// Creation makes seven calls, opening two, reading one, and each flush four.
+/// Creation makes seven calls, opening two, reading one, and each flush four.
 #[test]
 fn a_device_fails_at_each_call(rt: HostRuntime) -> Result<(), Fail> {
     let alloc = rt.alloc();
@@ -278,7 +346,7 @@ fn a_device_fails_at_each_call(rt: HostRuntime) -> Result<(), Fail> {
     Ok(())
 }
 
-// The batches that an image opens to.
+/// The batches that an image opens to.
 fn kept(alloc: Global, disk: &MemoryDisk, moment: u64, pick: u64) -> Result<Vec<u8>, Fail>
     requires { moment ≤ clock_of disk.now }
 {
@@ -290,7 +358,7 @@ fn kept(alloc: Global, disk: &MemoryDisk, moment: u64, pick: u64) -> Result<Vec<
     Ok(batches(alloc, &mut image)?)
 }
 
-// The first flush ends with call 14, the second with call 18.
+/// The first flush ends with call 14, the second with call 18.
 #[test]
 fn a_crash_leaves_what_was_flushed(rt: HostRuntime) -> Result<(), Fail> {
     let alloc = rt.alloc();

@@ -1,5 +1,5 @@
 use Rattle.std.proofs.Common.{◌≡◌, ◌∙◌, true}
-use Rattle.disk_trait.specs.Kept.{is_done}
+use Rattle.disk_trait.specs.Inner.Kept.{is_done}
 use Rattle.disk_trait.proofs.Calls.{syncs_way, succeeded, sync_crash, sync_durable, sync_all, sync_time, sync_seen, answered_time, answered_now, answered_keeps, answered_seen}
 use Rattle.std.proofs.lemmas.Result.{on_ok_weaker}
 use Rattle.disk_trait.proofs.disk.MemoryDiskDisk.sync.Goals as goal

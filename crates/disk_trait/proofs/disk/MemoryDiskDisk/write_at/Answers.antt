@@ -1,8 +1,8 @@
 use Rattle.std.proofs.Common.{◌≡◌, ◌∙◌, true, false, subst, sym, inl, inr, ⊎_elim, length}
 use Rattle.disk_trait.proofs.Calls.{writes_way, failed, write_crash, write_time, write_seen, write_unseen, write_all, answered_time, answered_now, answered_keeps, answered_seen}
 use Rattle.disk_trait.specs.Device.{FileTorn, FileWritten, LeavesNoMore, LeavesAll}
-use Rattle.disk_trait.specs.Kept.{is_done}
-use Rattle.disk_trait.specs.Laws.{seen_of, image_of}
+use Rattle.disk_trait.specs.Inner.Kept.{is_done}
+use Rattle.disk_trait.specs.MemoryDisk.{seen_of, image_of}
 use Rattle.std.proofs.lemmas.Result.{on_ok_weaker, on_err_weaker}
 use Rattle.disk_trait.proofs.disk.MemoryDiskDisk.write_at.Goals as goal
 

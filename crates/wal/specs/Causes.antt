@@ -1,6 +1,7 @@
 -- What the calls of a log answer, and what the device has counted then.
 use Rattle.std.specs.Prelude.{◌≡◌, ℕ, ◌<◌, ◌≤◌, List, [], ◌++◌, Option, Some, Result, Ok, Err, IsErrOf}
 use Rattle.disk_trait.specs.Device.{Rose}
+use Rattle.disk_trait.specs.declared.device.Disk.{Ghosts as Disk}
 use Rattle.wal.specs.Waiting.{waiting_then}
 use Rattle.wal.specs.declared.error.WalError.{WalError}
 use Rattle.wal.specs.declared.error.WalError.TheVariants.{DiskFault, LogFull, NotAStore, Down, OutOfMemory}
@@ -10,24 +11,27 @@ abbrev pub RoseAtFault : {T : Type 0} → Result T WalError → ℕ → ℕ → 
 RoseAtFault (Err DiskFault) before now = Rose before now
 RoseAtFault r before now = now ≡ before
 
--- The counts of a call that writes. They never fall.
-pub record WriteHasCause {T : Type 0} (faults faults' writes writes' : ℕ) (result : Result T WalError) : Type 0 where
-  pub later : (faults ≤ faults') × (writes ≤ writes')
-  pub fault : IsErrOf result DiskFault → Rose faults faults'
-  pub write_fault : RoseAtFault result writes writes'
+module _ {D : Type 0} (device : Disk D) where
+  -- The counts of a call that writes. They never fall.
+  pub record WriteHasCause {T : Type 0} (old new : D) (result : Result T WalError) : Type 0 where
+    pub later : (device.fault_count old ≤ device.fault_count new)
+        × (device.write_fault_count old ≤ device.write_fault_count new)
+    pub fault : IsErrOf result DiskFault → Rose (device.fault_count old) (device.fault_count new)
+    pub write_fault : RoseAtFault result (device.write_fault_count old) (device.write_fault_count new)
 
--- The counts of a call that reads: no write failed.
-pub record ReadHasCause {T : Type 0} (faults faults' writes writes' : ℕ) (result : Result T WalError) : Type 0 where
-  pub later : faults ≤ faults'
-  pub fault : IsErrOf result DiskFault → Rose faults faults'
-  pub no_write : writes' ≡ writes
+  -- The counts of a call that reads: no write failed.
+  pub record ReadHasCause {T : Type 0} (old new : D) (result : Result T WalError) : Type 0 where
+    pub later : device.fault_count old ≤ device.fault_count new
+    pub fault : IsErrOf result DiskFault → Rose (device.fault_count old) (device.fault_count new)
+    pub no_write : device.write_fault_count new ≡ device.write_fault_count old
 
 -- the log goes down exactly where DiskFault is answered, with the device's count as it is then
 abbrev pub GoesDown : {T : Type 0} → Result T WalError → ℕ → Option ℕ → Option ℕ → Type 0
 GoesDown (Err DiskFault) faults old new = new ≡ Some faults
 GoesDown r faults old new = new ≡ old
 
--- NotAStore exactly where P holds, if no fault and no want of memory is met. Nothing else is refused.
+-- NotAStore exactly where P holds, if no fault is met and memory does not run out. Nothing else is
+-- refused.
 abbrev pub NotAStoreWhere : {T : Type 0} → Type 0 → Result T WalError → Type 0
 NotAStoreWhere P (Ok x) = P → ⊥
 NotAStoreWhere P (Err NotAStore) = P
@@ -36,7 +40,8 @@ NotAStoreWhere P (Err OutOfMemory) = Unit {0}
 NotAStoreWhere P (Err LogFull) = ⊥
 NotAStoreWhere P (Err (Down f)) = ⊥
 
--- LogFull exactly where the log would pass its limit, if it isn't down and no fault is met. NotAStore is never answered.
+-- LogFull exactly where the log would pass its limit, if it isn't down and no fault is met.
+-- NotAStore is never answered.
 abbrev pub LogFullWhere : {T : Type 0} → ℕ → ℕ → Result T WalError → Type 0
 LogFullWhere limit len (Ok x) = len ≤ limit
 LogFullWhere limit len (Err LogFull) = limit < len

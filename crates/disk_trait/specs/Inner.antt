@@ -1,0 +1,5 @@
+pub mod Begun
+pub mod Pushed
+pub mod Kept
+pub mod Tearing
+pub mod Standing
