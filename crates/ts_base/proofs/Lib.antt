@@ -1,5 +1,13 @@
 pub mod Places
 pub mod Tokens
 pub mod Faults
+pub mod ByteKinds
+pub mod Characters
+pub mod QuotedTexts
+pub mod PlainTexts
+pub mod TextLexemes
+pub mod Fronts
+pub mod LineWords
+pub mod LittleBytes
 pub mod Spelling
 pub mod KeyOrder

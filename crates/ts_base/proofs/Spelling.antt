@@ -1,5 +1,5 @@
 -- The spelling of a vector tells the vector, and has its size.
-use Rattle.std.proofs.Common.{◌≡◌, ℕ, ◌+◌, ◌*◌, ◌/◌, ◌%◌, ◌<◌, ◌≤◌, List, [], ◌∷◌, ◌++◌, length, refl, sym, ◌∙◌, arith, append_assoc, length-append}
+use Rattle.std.proofs.Common.{◌≡◌, ℕ, ◌+◌, ◌*◌, ◌<◌, ◌≤◌, List, [], ◌∷◌, ◌++◌, length, refl, sym, ◌∙◌, arith, append_assoc, length-append}
 use Rattle.std.specs.Prelude.{All, sum_by}
 use Rattle.std.specs.List.{flat_map}
 use Rattle.std.proofs.lemmas.List.Elements.{All-tail}
@@ -7,26 +7,9 @@ use Rattle.std.proofs.lemmas.List.Sums.{sum_by-cons}
 use Rattle.ts_base.specs.declared.Weight.{Weight}
 use Rattle.ts_base.specs.declared.Weight.TheVariants.{D, C, B, A}
 use Rattle.ts_base.specs.Vectors.{Position, Entry, Vector, IsPosition, IsEntry}
-use Rattle.ts_base.specs.Bytes.{two_bytes, weight_number, position_number, position_bytes, entry_bytes, entry_size, SpellingTellsVector, SpellingHasSize}
-
--- fronts of one length
-pub same_fronts : {X : Type 0} → (a b x y : List X) → length a ≡ length b → a ++ x ≡ b ++ y → (a ≡ b) × (x ≡ y)
-same_fronts [] [] x y n e = (refl, e)
-same_fronts [] (c ∷ b) x y n e = absurd (omega arith)
-same_fronts (c ∷ a) [] x y n e = absurd (omega arith)
-same_fronts (c ∷ a) (d ∷ b) x y n e =
-    let k : length a ≡ length b = omega arith in
-    let t : a ++ x ≡ b ++ y = cc in
-    let r = same_fronts a b x y k t in
-    let h : c ≡ d = cc in
-    (λ i. h i ∷ r.0 i, r.1)
-
--- a number below 65536, and what follows it
-pub two_bytes_same : (m n : ℕ) (x y : List ℕ) → m < 65536 → n < 65536 → two_bytes m ++ x ≡ two_bytes n ++ y → (m ≡ n) × (x ≡ y)
-two_bytes_same m n x y p q e =
-    let low : m % 256 ≡ n % 256 = cc in
-    let high : m / 256 % 256 ≡ n / 256 % 256 = cc in
-    (omega arith, cc)
+use Rattle.byteorder.specs.Endian.{little_bytes}
+use Rattle.ts_base.specs.Spelling.{weight_number, position_number, position_bytes, entry_bytes, entry_size, SpellingTellsVector, SpellingHasSize}
+use Rattle.ts_base.proofs.LittleBytes.{same_fronts, little_same}
 
 pub weight_number_same : (v w : Weight) → weight_number v ≡ weight_number w → v ≡ w
 weight_number_same D D e = refl
@@ -62,7 +45,7 @@ positions_same (p ∷ ps) [] x y n h k e = absurd (omega arith)
 positions_same (p ∷ ps) (q ∷ qs) x y n h k e =
     let hp : IsPosition p = h 0 p (omega arith) in
     let kq : IsPosition q = k 0 q (omega arith) in
-    let t = two_bytes_same (position_number p) (position_number q) (flat_map position_bytes ps ++ x) (flat_map position_bytes qs ++ y)
+    let t = little_same 2 (position_number p) (position_number q) (flat_map position_bytes ps ++ x) (flat_map position_bytes qs ++ y)
     (position_number_small p hp) (position_number_small q kq) e in
     let s = position_number_same p q hp kq t.0 in
     let r = positions_same ps qs x y (omega arith) (All-tail IsPosition p ps h) (All-tail IsPosition q qs k) t.1 in
@@ -71,13 +54,13 @@ positions_same (p ∷ ps) (q ∷ qs) x y n h k e =
 -- an entry, and what follows it
 pub entry_same : (e f : Entry) (x y : List ℕ) → IsEntry e → IsEntry f → entry_bytes e ++ x ≡ entry_bytes f ++ y → (e ≡ f) × (x ≡ y)
 entry_same e f x y h k is =
-    let tail : Entry → List ℕ = λ d. two_bytes (length d.positions) ++ flat_map position_bytes d.positions in
-    let lengths = two_bytes_same (length e.lexeme) (length f.lexeme) ((e.lexeme ++ tail e) ++ x) ((f.lexeme ++ tail f) ++ y)
+    let tail : Entry → List ℕ = λ d. little_bytes 2 (length d.positions) ++ flat_map position_bytes d.positions in
+    let lengths = little_same 2 (length e.lexeme) (length f.lexeme) ((e.lexeme ++ tail e) ++ x) ((f.lexeme ++ tail f) ++ y)
     (omega (arith, h.lexeme.most)) (omega (arith, k.lexeme.most)) is in
     let joined : e.lexeme ++ (tail e ++ x) ≡ f.lexeme ++ (tail f ++ y) =
     sym (append_assoc e.lexeme (tail e) x) ∙ lengths.1 ∙ append_assoc f.lexeme (tail f) y in
     let lexemes = same_fronts e.lexeme f.lexeme (tail e ++ x) (tail f ++ y) lengths.0 joined in
-    let counts = two_bytes_same (length e.positions) (length f.positions) (flat_map position_bytes e.positions ++ x) (flat_map position_bytes f.positions ++ y)
+    let counts = little_same 2 (length e.positions) (length f.positions) (flat_map position_bytes e.positions ++ x) (flat_map position_bytes f.positions ++ y)
     (omega (arith, h.few)) (omega (arith, k.few)) lexemes.1 in
     let places = positions_same e.positions f.positions x y counts.0 h.positions k.positions counts.1 in
     (λ i. record { lexeme = lexemes.0 i; positions = places.0 i }, places.1)
@@ -102,7 +85,7 @@ length-positions (p ∷ ps) = omega (arith, length-positions ps)
 
 pub length-entry_bytes : (e : Entry) → length (entry_bytes e) ≡ entry_size e
 length-entry_bytes e =
-    omega (arith, length-append e.lexeme (two_bytes (length e.positions) ++ flat_map position_bytes e.positions), length-positions e.positions)
+    omega (arith, length-append e.lexeme (little_bytes 2 (length e.positions) ++ flat_map position_bytes e.positions), length-positions e.positions)
 
 pub length-entries : (v : Vector) → length (flat_map entry_bytes v) ≡ sum_by entry_size v
 length-entries [] = refl

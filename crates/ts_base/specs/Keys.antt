@@ -37,4 +37,5 @@ keys_of v = or_placeholder (map (λ e. lexeme_key e.lexeme) v)
 
 -- a vector's keys are keys, and stand in key order, each once
 abbrev pub KeysRise : Type 0
-KeysRise = (v : Vector) → IsNormal v → All IsKey (keys_of v) × AllPairs (λ a b. key_order a b ≡ Less) (keys_of v)
+KeysRise =
+    (v : Vector) → IsNormal v → All IsKey (keys_of v) × AllPairs (λ a b. key_order a b ≡ Less) (keys_of v)

@@ -1,7 +1,14 @@
+pub use Rattle.byteorder.specs.Endian
 pub mod Fault
-pub mod Leads
+pub mod Bytes
+pub mod Quoted
+pub mod Plain
+pub mod Digits
+pub mod Words
+pub mod FirstLine
 pub mod Lexemes
 pub mod Vectors
-pub mod Bytes
+pub mod Spelling
 pub mod Keys
 pub mod Dictionary
+pub mod Inner

@@ -1,5 +1,6 @@
 -- A vector as contracts see it: its lexemes with their positions.
 use Rattle.std.specs.Prelude.{ℕ, ◌+◌, ◌*◌, ◌<◌, ◌≤◌, List, length, All, AllPairs, sum_by}
+use Rattle.ts_base.specs.declared.TheConstants.{LAST_POSITION, MOST_POSITIONS}
 use Rattle.ts_base.specs.declared.Weight.{Weight}
 use Rattle.ts_base.specs.Lexemes.{IsLexeme, IsBefore}
 
@@ -18,14 +19,14 @@ Vector = List Entry
 
 -- a position is numbered from 1 to 16383
 abbrev pub IsPosition : Position → Type 0
-IsPosition p = (1 ≤ p.at) × (p.at ≤ 16383)
+IsPosition p = (1 ≤ p.at) × (p.at ≤ LAST_POSITION)
 
 -- a lexeme with at most 256 positions, which rise
 pub record IsEntry (entry : Entry) : Type 0 where
   pub lexeme : IsLexeme entry.lexeme
   pub positions : All IsPosition entry.positions
   pub rising : AllPairs (λ p q. p.at < q.at) entry.positions
-  pub few : length entry.positions ≤ 256
+  pub few : length entry.positions ≤ MOST_POSITIONS
 
 -- normal form: the lexemes stand in byte order, each once
 pub record IsNormal (vector : Vector) : Type 0 where

@@ -1,4 +1,5 @@
-//! Lexemes, positions and weights, which all text crates share; what a vector is, and its bytes.
+//! Lexemes, positions and weights, which all text crates share; what a vector is, and its bytes; the
+//! grammar that texts share.
 #![tactic(auto)]
 
 ghost use Rattle.std.specs.Prelude.{◌≡◌, ◌<◌, ◌≤◌, ◌↔◌, [], length, nat_eq, Some, IfOk, IsErrOf};
@@ -9,13 +10,24 @@ ghost use Rattle.std.specs.String.{string_bytes, string_len};
 ghost use Rattle.std.proofs.Common.{rules};
 ghost use Rattle.ts_base.specs.Lexemes.{IsLexeme};
 ghost use Rattle.ts_base.specs.Vectors.{IsPosition};
-ghost use Rattle.ts_base.specs.Bytes.{SpellingTellsVector, SpellingHasSize};
-ghost use Rattle.ts_base.specs.Keys.{KeysRise};
 
+mod bytes;
+mod error;
+mod laws;
+mod quoting;
+mod words;
+
+pub use bytes::{is_blank, is_white, weight_of};
+pub use error::LexemeError;
+pub use laws::{
+    keys_rise, quoted_has_one_reading, quoted_is_read_back, spelling_has_size,
+    spelling_tells_vector, words_are_one,
+};
+pub use quoting::push_quoted;
 use std::alloc::{AllocError, Global};
 use std::cmp::Ordering;
 use std::marker::Model;
-use thiserror::Error;
+pub use words::{front_word, without_blanks};
 
 /// The most bytes that a lexeme has.
 pub const LONGEST_LEXEME: usize = 2046;
@@ -23,9 +35,16 @@ pub const LONGEST_LEXEME: usize = 2046;
 /// The greatest number of a position.
 pub const LAST_POSITION: u16 = 16383;
 
+/// The most positions of a lexeme.
+pub const MOST_POSITIONS: usize = 256;
+
+/// What a weight's number counts in the number of a position: the positions are below it.
+pub const WEIGHT_UNIT: u16 = 16384;
+
 /// A text of 1 to 2046 bytes. Contracts see it as the list of its bytes.
 #[derive(Debug, Drop)]
 pub struct Lexeme {
+    /// The lexeme's characters.
     text: String,
 }
 
@@ -37,17 +56,9 @@ impl Model for Lexeme {
 
     ghost view = { λ l. string_bytes l.text };
 
-    ghost invariant = { λ l. (1 ≤ string_len l.text) × (string_len l.text ≤ 2046) };
-}
+    ghost use Rattle.ts_base.specs.declared.TheConstants.{LONGEST_LEXEME};
 
-#[derive(Debug, Drop, Error)]
-pub enum LexemeError {
-    #[error("an empty lexeme")]
-    Empty,
-    #[error("a lexeme of more than {LONGEST_LEXEME} bytes")]
-    TooLong,
-    #[error("out of memory")]
-    OutOfMemory,
+    ghost invariant = { λ l. (1 ≤ string_len l.text) × (string_len l.text ≤ LONGEST_LEXEME) };
 }
 
 impl Lexeme {
@@ -80,6 +91,7 @@ impl Lexeme {
         Lexeme { text }
     }
 
+    /// The lexeme's text.
     pub fn as_str(&self) -> &str
         ensures value { result.now ≡ self.now }
         ensures valid { IsLexeme self.now }
@@ -91,6 +103,7 @@ impl Lexeme {
 impl Clone for Lexeme {
     ghost is_clone = { λ a b. b ≡ a };
 
+    /// The same lexeme.
     fn clone(&self) -> Result<Lexeme, AllocError> {
         let text = self.text.clone()?;
         Ok(Lexeme { text })
@@ -102,6 +115,7 @@ impl PartialEq for Lexeme {
 
     ghost laws = { partial_equiv_from_equiv nat_list_eq_equiv };
 
+    /// Whether both have the same bytes.
     fn eq(&self, other: &Lexeme) -> bool {
         self.as_str() == other.as_str()
     }
@@ -117,6 +131,7 @@ impl PartialOrd for Lexeme {
 
     ghost laws = { texts_po };
 
+    /// The order of both.
     fn partial_cmp(&self, other: &Lexeme) -> Option<Ordering> {
         Some(self.cmp(other))
     }
@@ -131,6 +146,7 @@ impl Ord for Lexeme {
 
     ghost matches_eq = { texts_ties };
 
+    /// The order of both.
     fn cmp(&self, other: &Lexeme) -> Ordering {
         self.as_str().cmp(other.as_str())
     }
@@ -139,16 +155,22 @@ impl Ord for Lexeme {
 /// How much a position counts, from the least to the most.
 #[derive(Clone, Copy, Debug, PartialEq, Eq, PartialOrd, Ord, Hash)]
 pub enum Weight {
+    /// The least, which a position has without a letter.
     D,
+    /// Above D.
     C,
+    /// Above C.
     B,
+    /// The most.
     A,
 }
 
 /// A place in a text, numbered from 1 to 16383, and its weight.
 #[derive(Clone, Copy, Debug, PartialEq, Eq)]
 pub struct Position {
+    /// The number of the place.
     at: u16,
+    /// How much it counts.
     weight: Weight,
 }
 
@@ -160,12 +182,15 @@ impl Model for Position {
 
     ghost view = { λ p. record { at = p.at; weight = p.weight } };
 
-    ghost invariant = { λ p. (1 ≤ p.at) × (p.at ≤ 16383) };
+    ghost use Rattle.ts_base.specs.declared.TheConstants.{LAST_POSITION};
+
+    ghost invariant = { λ p. (1 ≤ p.at) × (p.at ≤ LAST_POSITION) };
 
     ghost inverse = { λ p. record { at = p.at; weight = p.weight } };
 }
 
 impl Position {
+    /// The place with this number, at this weight.
     pub fn new(at: u16, weight: Weight) -> Position
         requires first { 1 ≤ at }
         requires last { at ≤ LAST_POSITION }
@@ -176,6 +201,7 @@ impl Position {
         Position { at, weight }
     }
 
+    /// The number of the place.
     pub fn at(&self) -> u16
         ensures value { result ≡ self.now.at }
         ensures valid { IsPosition self.now }
@@ -183,6 +209,7 @@ impl Position {
         self.at
     }
 
+    /// How much it counts.
     pub fn weight(&self) -> Weight
         ensures { result ≡ self.now.weight }
     {
@@ -193,31 +220,42 @@ impl Position {
 /// A set of weights. The empty set stands for any weight.
 #[derive(Clone, Copy, Debug, Default, PartialEq, Eq)]
 pub struct Weights {
+    /// Whether A is in the set.
     pub a: bool,
+    /// Whether B is in the set.
     pub b: bool,
+    /// Whether C is in the set.
     pub c: bool,
+    /// Whether D is in the set.
     pub d: bool,
 }
 
 /// What is known of a fact.
 #[derive(Clone, Copy, Debug, PartialEq, Eq, PartialOrd, Ord, Hash)]
 pub enum Tri {
+    /// It doesn't hold.
     False,
+    /// It isn't known.
     Maybe,
+    /// It holds.
     True,
 }
 
 /// A lexeme that a dictionary gives for a word. With `prefix` it stands in a query for each lexeme that begins with it.
 #[derive(Clone, Debug, Drop)]
 pub struct Found {
+    /// The lexeme.
     pub lexeme: Lexeme,
+    /// Whether it stands for each lexeme that begins with it.
     pub prefix: bool,
 }
 
 /// What a dictionary knows of a word.
 #[derive(Debug, Drop)]
 pub enum Answer {
+    /// It doesn't know the word.
     Unknown,
+    /// The word is left out.
     Stop,
     /// One or more lexemes, which stand for the word.
     Lexemes(Vec<Found>),
@@ -231,6 +269,7 @@ pub trait Dictionary {
     /// The answer to each word.
     ghost answer: { Self → List ℕ → WordAnswer };
 
+    /// What it knows of a word.
     fn lexize(&self, alloc: Global, word: &str) -> Result<Answer, AllocError>
         requires some { 1 ≤ length word.now }
         requires most { length word.now ≤ LONGEST_LEXEME }
@@ -238,26 +277,12 @@ pub trait Dictionary {
         ensures valid { IfOk result (λ a. IsWordAnswer (answer_value a)) };
 }
 
-/// Two vectors in normal form never share a spelling.
-pub fn spelling_tells_vector()
-    ensures { SpellingTellsVector }
-{}
-
-/// How many bytes a vector's spelling has.
-pub fn spelling_has_size()
-    ensures { SpellingHasSize }
-{}
-
-/// The keys of a vector are keys, and stand in key order, each once.
-pub fn keys_rise()
-    ensures { KeysRise }
-{}
-
 #[cfg(test)]
 mod tests {
     use super::*;
     use std::test::Fail;
 
+    /// Lexemes are made, copied and compared.
     #[test]
     fn lexemes(rt: HostRuntime) -> Result<(), Fail> {
         let alloc = rt.alloc();
@@ -279,6 +304,7 @@ mod tests {
         Ok(())
     }
 
+    /// Positions, weights and what is known of a fact.
     #[test]
     fn positions(rt: HostRuntime) {
         let last = Position::new(16383, Weight::A);
@@ -302,6 +328,7 @@ mod tests {
             (if bytes_eq word (120 ∷ []) then unknown_word else
             word_lexemes (record { lexeme = word; prefix = false } ∷ []))) };
 
+        /// What it knows of a word.
         fn lexize(&self, alloc: Global, word: &str) -> Result<Answer, AllocError> {
             if word == "the" {
                 return Ok(Answer::Stop);
@@ -334,6 +361,7 @@ mod tests {
         }
     }
 
+    /// A dictionary answers through its trait.
     #[test]
     fn dictionaries(rt: HostRuntime) -> Result<(), Fail> {
         let alloc = rt.alloc();
@@ -345,10 +373,42 @@ mod tests {
         Ok(())
     }
 
+    /// The laws are there to be cited.
     #[test]
     fn laws() {
         spelling_tells_vector();
         spelling_has_size();
         keys_rise();
+        quoted_has_one_reading();
+        quoted_is_read_back();
+        words_are_one();
+    }
+
+    /// The first word of a line is cut off.
+    #[test]
+    fn words(rt: HostRuntime) {
+        assert_eq!(rt; front_word(" \tthe cat"), Some(("the", " cat")));
+        assert_eq!(rt; front_word("'x'\t"), Some(("'x'", "\t")));
+        assert_eq!(rt; front_word("\u{a0}é"), Some(("\u{a0}é", "")));
+        assert_eq!(rt; front_word(" \t "), None);
+        assert_eq!(rt; front_word(""), None);
+        assert_eq!(rt; without_blanks(" \t a "), "a ");
+    }
+
+    /// Quotes and backslashes are doubled.
+    #[test]
+    fn quotes(rt: HostRuntime) -> Result<(), Fail> {
+        let mut out = String::from_str(rt.alloc(), "> ")?;
+        push_quoted(&mut out, "it's a \\ é")?;
+        assert_eq!(rt; out.as_str(), "> 'it''s a \\\\ é'");
+        Ok(())
+    }
+
+    /// Kinds of bytes.
+    #[test]
+    fn kinds(rt: HostRuntime) {
+        assert!(rt; is_white('\x0b') && !is_white('\u{a0}') && is_blank(b'\t') && !is_blank(b'\n'));
+        assert_eq!(rt; weight_of('b'), Some(Weight::B));
+        assert_eq!(rt; weight_of('e'), None);
     }
 }

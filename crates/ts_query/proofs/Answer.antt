@@ -1,15 +1,14 @@
 -- A text has at most one answer.
 use Rattle.std.proofs.Common.{◌≡◌, ◌≢◌, ℕ, suc, ◌+◌, List, [], ◌∷◌, ◌++◌, take, refl, sym, subst, ap, ◌∙◌, Option, Some, None, Ok, Err, Bool, true, false, cond, All, arith}
 use Rattle.std.proofs.lemmas.Bool.Decides.{nat_tests}
-use Rattle.ts_base.specs.Fault.{FaultAt}
-use Rattle.ts_base.specs.Leads.{Stands}
+use Rattle.ts_base.specs.Fault.{FaultAt, Stands}
 use Rattle.ts_base.proofs.Faults.{fault_outside, fault_one}
-use Rattle.ts_query.specs.Queries.{Operand, Joint, or_joint, and_joint, phrase_joint, Tree, joined, Query, operands_in, nodes_of, IsNear, HasNear, HasLength, IsSound}
-use Rattle.ts_query.specs.Tokens.{Token, closing, sign}
-use Rattle.ts_query.specs.Grammar.{level, Expr, one, bracket, primary, denied, binary, Tail, last, more, Spells, Reads, IsQueryText}
+use Rattle.ts_query.specs.Queries.{Operand, Joint, or_joint, and_joint, phrase_joint, Tree, joined, Query, operands_in, nodes_of, IsNear, HasNear, HasLexemeLength, IsSound}
+use Rattle.ts_query.specs.Tokens.{QueryToken, closing, sign}
+use Rattle.ts_query.specs.Grammar.{level, Expr, one, bracket, primary, denied, binary, Tail, last, more, Spells, ReadsQuery, IsQueryText}
 use Rattle.ts_query.specs.Limits.{is_far, is_long, first_far, first_long}
 use Rattle.ts_query.specs.Refusals.{IsReadAs, IsTooFar, IsTooLong, IsTooMany, IsRefused, OneAnswer}
-use Rattle.ts_query.specs.Reader.{Reading, IsReading}
+use Rattle.ts_query.specs.Inner.Reader.{Reading, ReadsPair}
 use Rattle.ts_query.specs.declared.error.QueryError.{QueryError}
 use Rattle.ts_query.specs.declared.error.QueryError.TheVariants.{Syntax, DistanceTooLarge, TooManyNodes, LexemeTooLong, OutOfMemory}
 use Rattle.ts_query.proofs.Printing.{all_left, all_right}
@@ -21,28 +20,28 @@ near_far or_joint h = refl
 near_far and_joint h = refl
 near_far (phrase_joint d) h = grind (arith, nat_tests)
 
-length_long : (o : Operand) → HasLength o → is_long o ≡ false
+length_long : (o : Operand) → HasLexemeLength o → is_long o ≡ false
 length_long o h = grind (arith, nat_tests)
 
 skip : (b : Bool) (s : ℕ) (o : Option ℕ) → b ≡ false → o ≡ None → cond b (Some s) o ≡ None
 skip true s o e f = absurd (let no : ⊥ = cc in no)
 skip false s o e f = f
 
-record Behind (x : Tree) (u : List Token) : Type 0 where
-  lexemes : All HasLength (operands_in x)
+record BehindLexeme (x : Tree) (u : List QueryToken) : Type 0 where
+  lexemes : All HasLexemeLength (operands_in x)
   phrases : HasNear x
   near : first_far u ≡ None
   short : first_long u ≡ None
 
-record Clear (u : List Token) : Type 0 where
+record Clear (u : List QueryToken) : Type 0 where
   near : first_far u ≡ None
   short : first_long u ≡ None
 
-sign_clear : (s : ℕ) (j : Joint) (u : List Token) → IsNear j → Clear u → Clear (sign s j ∷ u)
+sign_clear : (s : ℕ) (j : Joint) (u : List QueryToken) → IsNear j → Clear u → Clear (sign s j ∷ u)
 sign_clear s j u n c = record { near = skip (is_far j) s (first_far u) (near_far j n) c.near; short = c.short }
 
 mutual
-  expr_clear : (k : ℕ) (t : Tree) (u r : List Token) → Expr k t u r → All HasLength (operands_in t) → HasNear t → Clear r → Clear u
+  expr_clear : (k : ℕ) (t : Tree) (u r : List QueryToken) → Expr k t u r → All HasLexemeLength (operands_in t) → HasNear t → Clear r → Clear u
   expr_clear k t u r (one s o _) a h c = record { near = c.near; short = skip (is_long o) s (first_long r) (length_long o (a 0 o (omega arith))) c.short }
   expr_clear k t u r (bracket _ v _ e) a h c = let d = expr_clear 0 t v (closing ∷ r) e a h (record { near = c.near; short = c.short }) in record { near = d.near; short = d.short }
   expr_clear k t u r (primary _ _ _ e) a h c = expr_clear 4 t u r e a h c
@@ -50,7 +49,7 @@ mutual
   expr_clear k t u r (binary _ x _ _ m _ p e s) a h c =
       let b = tail_clear k x m t r s a h c in expr_clear (suc k) x u m e b.lexemes b.phrases (record { near = b.near; short = b.short })
 
-  tail_clear : (k : ℕ) (x : Tree) (u : List Token) (t : Tree) (r : List Token) → Tail k x u t r → All HasLength (operands_in t) → HasNear t → Clear r → Behind x u
+  tail_clear : (k : ℕ) (x : Tree) (u : List QueryToken) (t : Tree) (r : List QueryToken) → Tail k x u t r → All HasLexemeLength (operands_in t) → HasNear t → Clear r → BehindLexeme x u
   tail_clear k x u t r (last _ _ _) a h c = record { lexemes = a; phrases = h; near = c.near; short = c.short }
   tail_clear k x u t r (more s j _ y _ v m _ e q) a h c =
       let b = tail_clear (level j) (joined j x y) m t r q a h c in
@@ -61,7 +60,7 @@ mutual
 none_clear : Clear []
 none_clear = record { near = refl; short = refl }
 
-spells_clear : (ks : List Token) (q : Query) → Spells ks q → IsSound q → Clear ks
+spells_clear : (ks : List QueryToken) (q : Query) → Spells ks q → IsSound q → Clear ks
 spells_clear ks None e s = subst Clear (sym e) none_clear
 spells_clear ks (Some t) e s = expr_clear 0 t ks [] e s.lexemes s.phrases none_clear
 
@@ -75,17 +74,17 @@ module _ (G H : List ℕ → Type 0) (to : (t : List ℕ) → G t → H t) (from
     ending = λ e h. f.ending e (from text h);
   }
 
-stands_to : (t : List ℕ) → Stands Reading IsReading t → Stands Query IsQueryText t
+stands_to : (t : List ℕ) → Stands Reading ReadsPair t → Stands Query IsQueryText t
 stands_to t v = (v.0.1, (v.0.0, v.1))
 
-stands_from : (t : List ℕ) → Stands Query IsQueryText t → Stands Reading IsReading t
+stands_from : (t : List ℕ) → Stands Query IsQueryText t → Stands Reading ReadsPair t
 stands_from t v = ((v.1.0, v.0), v.1.1)
 
-pub query_fault : (text : List ℕ) (at : ℕ) → FaultAt (Stands Reading IsReading) text at → FaultAt (Stands Query IsQueryText) text at
-query_fault text at f = fault_same (Stands Reading IsReading) (Stands Query IsQueryText) stands_to stands_from text at f
+pub query_fault : (text : List ℕ) (at : ℕ) → FaultAt (Stands Reading ReadsPair) text at → FaultAt (Stands Query IsQueryText) text at
+query_fault text at f = fault_same (Stands Reading ReadsPair) (Stands Query IsQueryText) stands_to stands_from text at f
 
 -- ── one answer ──
-no_fault : (text : List ℕ) (at : ℕ) (ks : List Token) (q : Query) → FaultAt (Stands Query IsQueryText) text at → ¬ Reads text ks q
+no_fault : (text : List ℕ) (at : ℕ) (ks : List QueryToken) (q : Query) → FaultAt (Stands Query IsQueryText) text at → ¬ ReadsQuery text ks q
 no_fault text at ks q f r = fault_outside (Stands Query IsQueryText) text at f (q, (ks, r))
 
 some_none : (o : Option ℕ) (s : ℕ) → o ≡ Some s → ¬ (o ≡ None)
@@ -96,10 +95,10 @@ some_one o s t e f = cc
 
 module _ (text : List ℕ) where
   -- of two readings, both have one list of tokens
-  far_same : (ks ls : List Token) (p q : Query) → Reads text ks p → Reads text ls q → first_far ks ≡ first_far ls
+  far_same : (ks ls : List QueryToken) (p q : Query) → ReadsQuery text ks p → ReadsQuery text ls q → first_far ks ≡ first_far ls
   far_same ks ls p q a b = ap first_far (reads_tokens text ks ls p q a b)
 
-  long_same : (ks ls : List Token) (p q : Query) → Reads text ks p → Reads text ls q → first_long ks ≡ first_long ls
+  long_same : (ks ls : List QueryToken) (p q : Query) → ReadsQuery text ks p → ReadsQuery text ls q → first_long ks ≡ first_long ls
   long_same ks ls p q a b = ap first_long (reads_tokens text ks ls p q a b)
 
   read_near : (q : Query) (h : IsReadAs text q) → first_far h.value.0 ≡ None

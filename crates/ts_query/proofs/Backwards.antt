@@ -1,13 +1,13 @@
 -- The parts of a tree's printed form, from the last to the first.
-use Rattle.std.proofs.Common.{◌≡◌, ◌≢◌, ℕ, suc, ◌+◌, ◌-◌, ◌≤◌, List, [], ◌∷◌, ◌++◌, length, take, drop, get_or, reverse, refl, sym, ap, ◌∙◌, append_assoc, Bool, true, false, nat_lt, Some, arith}
+use Rattle.std.proofs.Common.{◌≡◌, ℕ, suc, ◌+◌, ◌-◌, ◌≤◌, List, [], ◌∷◌, ◌++◌, length, take, drop, get_or, reverse, refl, sym, ap, ◌∙◌, append_assoc, Bool, true, false, nat_lt, Some, arith}
 use Rattle.std.proofs.lemmas.List.{length-append, reverse-append, append-nil, take-append-drop, length-take-le}
 use Rattle.std.proofs.Math.Seq.{take-length, take-append_seam, get_or-append_seam}
 use Rattle.ts_query.specs.Queries.{Joint, or_joint, and_joint, phrase_joint, Tree, leaf, negated, joined}
 use Rattle.ts_query.specs.Grammar.{level}
 use Rattle.ts_query.specs.Postfix.{Item, operand_item, not_item, joint_item, postfix, joint_node, nodes_from, nodes_for}
-use Rattle.ts_query.specs.Parsing.{joint_link}
-use Rattle.ts_query.specs.Building.{operands_from}
-use Rattle.ts_query.specs.Pieces.{in_brackets, pieces_at, tasks_around, around, expansion}
+use Rattle.ts_query.specs.Inner.Parsing.{joint_link}
+use Rattle.ts_query.specs.Inner.Built.{operands_from}
+use Rattle.ts_query.specs.Inner.Pieces.{in_brackets, pieces_at, tasks_around, around, expansion}
 use Rattle.ts_query.specs.declared.query.Node.{Node}
 use Rattle.ts_query.specs.declared.query.Node.TheVariants.{Leaf, Not, And, Or, Phrase}
 use Rattle.ts_query.specs.declared.print.Piece.{Piece}
@@ -15,6 +15,7 @@ use Rattle.ts_query.specs.declared.print.Piece.TheVariants.{Word, Bang, Joint as
 use Rattle.ts_query.specs.declared.print.Task.{Task}
 use Rattle.ts_query.specs.declared.print.Task.TheVariants.{Subtree, Part}
 use Rattle.ts_query.proofs.Built.{push_nodes}
+use Rattle.ts_query.proofs.Stacks.{push_not_nil, same_ends}
 
 -- what is left to print, the last part first: a tree where one of a level is wanted, or a part
 pub data Job : Type 0 where
@@ -47,20 +48,6 @@ pub record Printing (t : Tree) (nodes : List Node) (left : ℕ) (tasks : List Ta
   pub within : left ≤ length nodes
   pub whole : pieces_of_jobs jobs ++ reverse pieces ≡ pieces_at t 0
 
-push_not_nil : (xs : List Task) (a : Task) → (xs ++ a ∷ []) ≢ []
-push_not_nil [] a e = cc
-push_not_nil (x ∷ xs) a e = cc
-
-same_front : (xs ys : List Task) (a b : Task) → xs ++ a ∷ [] ≡ ys ++ b ∷ [] → (xs ≡ ys) × (a ≡ b)
-same_front [] [] a b e = (refl, cc)
-same_front [] (y ∷ ys) a b e = absurd (push_not_nil ys b (let f : ys ++ b ∷ [] ≡ [] = cc in f))
-same_front (x ∷ xs) [] a b e = absurd (push_not_nil xs a (let f : xs ++ a ∷ [] ≡ [] = cc in f))
-same_front (x ∷ xs) (y ∷ ys) a b e =
-    let t : xs ++ a ∷ [] ≡ ys ++ b ∷ [] = cc in
-    let h : x ≡ y = cc in
-    let r = same_front xs ys a b t in
-    (let p : xs ≡ ys = r.0 in let g : x ∷ xs ≡ y ∷ ys = cc in g, r.1)
-
 -- the last task, and the others
 record Popped (jobs : List Job) (rest : List Task) (task : Task) : Type 0 where
   job : Job
@@ -71,7 +58,7 @@ record Popped (jobs : List Job) (rest : List Task) (task : Task) : Type 0 where
 
 popped : (jobs : List Job) (rest : List Task) (task : Task) → tasks_of jobs ≡ rest ++ task ∷ [] → Popped jobs rest task
 popped [] rest task e = absurd (push_not_nil rest task (sym e))
-popped (j ∷ js) rest task e = let f = same_front (tasks_of js) rest (task_of j) task e in record { job = j; others = js; is = refl; tasks = sym f.0; same = sym f.1 }
+popped (j ∷ js) rest task e = let f = same_ends (tasks_of js) rest (task_of j) task e in record { job = j; others = js; is = refl; tasks = sym f.0; same = sym f.1 }
 
 -- ── a part ──
 part_popped : (p : Piece) (j : Job) → Part p ≡ task_of j → j ≡ part_job p

@@ -1,20 +1,20 @@
 -- Which tokens a byte can begin.
-use Rattle.std.proofs.Common.{◌≡◌, ◌≢◌, ℕ, List, ◌∷◌, ◌⊎◌, refl, arith}
+use Rattle.std.proofs.Common.{◌≡◌, ◌≢◌, ℕ, List, ◌∷◌, ◌⊎◌, refl, arith, inr}
 use Rattle.ts_query.specs.Queries.{Joint}
-use Rattle.ts_query.specs.Tokens.{Token, closing, sign, bang, opening, IsWhite}
-use Rattle.ts_query.specs.Tokens.{Lex, space, not_sign, open_sign, close_sign, and_sign, or_sign, phrase_sign, quoted, plain, escape}
-use Rattle.ts_query.specs.Frames.{Spot, IsDue}
-use Rattle.ts_query.specs.Parsing.{Never}
+use Rattle.ts_query.specs.Tokens.{QueryToken, closing, sign, bang, opening, Lex, space, not_sign, open_sign, close_sign, and_sign, or_sign, phrase_sign, quoted, plain, escape, IsDelimiter}
+use Rattle.ts_base.specs.Bytes.{IsWhite}
+use Rattle.ts_query.specs.Inner.Frames.{Spot, IsDue}
+use Rattle.ts_query.specs.Inner.Parsing.{Never}
 use Rattle.ts_query.proofs.Climbs.{Begin, word_begins, bang_begins, open_begins}
 use Rattle.ts_query.proofs.Stacks.{sign_never, close_due}
 use Rattle.ts_query.proofs.Standing.{Starts}
 
 -- an operator, or a closing bracket
-pub data Behind : Token → Type 0 where
-  sign_behind : (s : ℕ) (j : Joint) → Behind (sign s j)
-  close_behind : Behind closing
+pub data BehindOperand : QueryToken → Type 0 where
+  sign_behind : (s : ℕ) (j : Joint) → BehindOperand (sign s j)
+  close_behind : BehindOperand closing
 
-pub behind_never : (s : Spot) (k : Token) → IsDue s → Behind k → Never s k
+pub behind_never : (s : Spot) (k : QueryToken) → IsDue s → BehindOperand k → Never s k
 behind_never s k d (sign_behind a j) = sign_never s a j d
 behind_never s k d close_behind = close_due s d
 
@@ -23,7 +23,7 @@ abbrev pub IsBehind : ℕ → Type 0
 IsBehind c = (c ≡ 38) ⊎ ((c ≡ 41) ⊎ ((c ≡ 124) ⊎ ((c ≡ 60) ⊎ (c ≡ 58))))
 
 -- such a byte between tokens begins no operand
-pub behind_starts : (n c : ℕ) (u : List ℕ) (ks : List Token) → IsBehind c → Lex n (c ∷ u) ks → Starts Behind ks
+pub behind_starts : (n c : ℕ) (u : List ℕ) (ks : List QueryToken) → IsBehind c → Lex n (c ∷ u) ks → Starts BehindOperand ks
 behind_starts n c u ks k (space _ _ _ _ h w) = absurd (let no : ⊥ = grind arith in no)
 behind_starts n c u ks k (not_sign _ _ _ w) = absurd (let no : ⊥ = grind arith in no)
 behind_starts n c u ks k (open_sign _ _ _ w) = absurd (let no : ⊥ = grind arith in no)
@@ -32,7 +32,7 @@ behind_starts n c u ks k (and_sign _ _ rest w) = record { k = _; rest = rest; is
 behind_starts n c u ks k (or_sign _ _ rest w) = record { k = _; rest = rest; is = refl; kind = sign_behind _ _ }
 behind_starts n c u ks k (phrase_sign _ _ _ _ rest d w) = record { k = _; rest = rest; is = refl; kind = sign_behind _ _ }
 behind_starts n c u ks k (quoted _ _ _ _ _ _ _ q ne b w) = absurd (let no : ⊥ = grind arith in no)
-behind_starts n c u ks k (plain _ _ _ _ _ _ _ _ p m q b w) = absurd (let d = p.no_delimiter in let no : ⊥ = grind arith in no)
+behind_starts n c u ks k (plain _ _ _ _ _ _ _ _ p m q b w) = absurd (let d : ¬ IsDelimiter c = λ x. p.no_end (inr x) in let no : ⊥ = grind arith in no)
 behind_starts n c u ks k (escape _ _ _ _ _ _ _ _ q b w) = absurd (let no : ⊥ = grind arith in no)
 
 -- neither white space nor one of `&`, `)`, `|` and `<`
@@ -44,7 +44,7 @@ pub record IsOther (c : ℕ) : Type 0 where
   pub no_less : c ≢ 60
 
 -- such a byte between tokens begins an operand, a bracket or `!`
-pub other_starts : (n c : ℕ) (u : List ℕ) (ks : List Token) → IsOther c → Lex n (c ∷ u) ks → Starts Begin ks
+pub other_starts : (n c : ℕ) (u : List ℕ) (ks : List QueryToken) → IsOther c → Lex n (c ∷ u) ks → Starts Begin ks
 other_starts n c u ks k (space _ _ _ _ h w) = absurd (k.no_white h)
 other_starts n c u ks k (not_sign _ _ rest w) = record { k = bang; rest = rest; is = refl; kind = bang_begins }
 other_starts n c u ks k (open_sign _ _ rest w) = record { k = opening; rest = rest; is = refl; kind = open_begins }

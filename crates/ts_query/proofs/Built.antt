@@ -5,7 +5,7 @@ use Rattle.std.proofs.Math.Seq.{get_or-append_seam, drop-cons}
 use Rattle.ts_base.specs.declared.Weights.{Weights}
 use Rattle.ts_query.specs.Queries.{Operand, Joint, or_joint, and_joint, phrase_joint, Tree, leaf, negated, joined, Query, operands_in, operands_of, nodes_in, nodes_of, IsSound}
 use Rattle.ts_query.specs.Postfix.{Item, operand_item, not_item, joint_item, postfix, postfix_of, query_from, query_from-postfix_of, joint_node, nodes_from, nodes_for, items_of, query_of, IsStored}
-use Rattle.ts_query.specs.Building.{operands_from, IsBuilt}
+use Rattle.ts_query.specs.Inner.Built.{operands_from, IsBuilt}
 use Rattle.ts_query.specs.declared.query.Node.{Node}
 use Rattle.ts_query.specs.declared.query.Node.TheVariants.{Leaf, Not}
 use Rattle.ts_query.specs.declared.query.Builder.{Builder}

@@ -2,19 +2,22 @@
 use Rattle.std.proofs.Common.{◌≢◌, ℕ, suc, ◌<◌, ◌≤◌, ◌⊎◌, inl, inr, List, [], ◌∷◌, ◌++◌, refl, Bool, false, Some, None, arith}
 use Rattle.ts_base.specs.declared.Weights.{Weights}
 use Rattle.ts_query.specs.Queries.{Operand, Joint, phrase_joint, Tree, leaf, negated, joined, Query}
-use Rattle.ts_query.specs.Tokens.{Token, word, closing, sign, IsPlain, IsPlainEnd, BeginsWithQuote, BeginsWithMark, closed, quoted_byte, plain_end, no_weights, unmarked, operand, bare, over, number, offset, Lex, done, close_sign, plain}
+use Rattle.ts_query.specs.Tokens.{QueryToken, word, closing, sign, BeginsWithMark, no_weights, unmarked, operand, bare, over, number, offset, Lex, done, close_sign, plain, EndsOperand}
+use Rattle.ts_base.specs.Plain.{IsPlain, IsPlainEnd, ended}
+use Rattle.ts_base.specs.Bytes.{BeginsWithQuote}
+use Rattle.ts_base.specs.Quoted.{closed, quoted_byte}
 use Rattle.ts_query.specs.Grammar.{level}
-use Rattle.ts_query.specs.Frames.{Frame, open_frame, not_frame, joint_frame, need, After, at_end, at_close, at_not, at_joint, On, Spot, start, due, held, IsDue, IsHeld, Rest, Sorted}
-use Rattle.ts_query.specs.Parsing.{Shows}
-use Rattle.ts_query.specs.Lexer.{Lexer, between, in_quoted, quoted_escaped, behind_quote, in_plain, plain_escaped, in_marks, behind_less, behind_dash, in_digits, Left}
-use Rattle.ts_query.specs.Reader.{Reading, Stand, Fits, RestIn, Holds}
+use Rattle.ts_query.specs.Inner.Frames.{Frame, open_frame, not_frame, joint_frame, need, After, at_end, at_close, at_not, at_joint, On, Spot, start, due, held, IsDue, IsHeld, SpotRest, Sorted}
+use Rattle.ts_query.specs.Inner.Parsing.{Shows}
+use Rattle.ts_query.specs.Inner.Lexer.{Lexer, between, in_quoted, quoted_escaped, behind_quote, in_plain, plain_escaped, in_marks, behind_less, behind_dash, in_digits, LexerRest}
+use Rattle.ts_query.specs.Inner.Reader.{Reading, Stand, FitsSpot, QueryRest, IsReaderAt}
 use Rattle.ts_query.specs.declared.reader.Reader.{Reader}
 use Rattle.ts_query.proofs.Lexing.{end_no_mark}
 use Rattle.ts_query.proofs.Climbs.{level_3, after_on, word_want, push_not, push_joint, joint_on}
 use Rattle.ts_query.proofs.Stacks.{need_3, need_4, start_from}
 
 -- ── brackets that close what is open ──
-closers : List Frame → List Token
+closers : List Frame → List QueryToken
 closers [] = []
 closers (open_frame ∷ fs) = closing ∷ closers fs
 closers (not_frame ∷ fs) = closers fs
@@ -33,7 +36,7 @@ brackets_lex n (open_frame ∷ fs) = close_sign n (brackets fs) (closers fs) (br
 brackets_lex n (not_frame ∷ fs) = brackets_lex n fs
 brackets_lex n (joint_frame i x ∷ fs) = brackets_lex n fs
 
-brackets_end : (fs : List Frame) → IsPlainEnd (brackets fs)
+brackets_end : (fs : List Frame) → IsPlainEnd EndsOperand (brackets fs)
 unfolding brackets
 brackets_end [] = tt
 brackets_end (open_frame ∷ fs) = inr (inr (inr (inr (inl refl))))
@@ -64,7 +67,7 @@ completed (joint_frame i x ∷ fs) y s = let b = completed fs (joined i x y) s.1
     let three = level_3 i in
     record { tree = b.tree; after = at_joint fs i x y b.tree (closers fs) (after_on (suc (level i)) fs (joined i x y) b.tree (closers fs) (omega arith) (omega arith) b.after) }
 
-record Held (j : ℕ) (fs : List Frame) (y : Tree) (ks : List Token) : Type 0 where
+record Held (j : ℕ) (fs : List Frame) (y : Tree) (ks : List QueryToken) : Type 0 where
   tree : Tree
   on : On j fs y ks tree
 
@@ -101,9 +104,9 @@ frames start = []
 frames (due fs) = fs
 frames (held fs y) = fs
 
-record Follows (p : Spot) (ks : List Token) : Type 0 where
+record Follows (p : Spot) (ks : List QueryToken) : Type 0 where
   query : Query
-  rest : Rest p ks query
+  rest : SpotRest p ks query
 
 -- an operand, where one is due
 word_follows : (r : Reader) (p : Spot) (a : ℕ) (o : Operand) → Shows r.parser p → IsDue p → Follows p (word a o ∷ closers (frames p))
@@ -130,8 +133,8 @@ joint_follows r (due fs) i a b o s d = absurd d
 joint_follows r (held fs y) i a b o s d = let e = level_3 i in let f = held_joins i a b o 4 fs y s.sorted s.above (omega arith) (omega arith) in record { query = Some f.tree; rest = f.on }
 
 -- ── bytes that go on ──
-plain_97 : IsPlain 97
-plain_97 = record { no_white = λ h. grind arith; no_delimiter = λ h. grind arith; no_escape = λ e. omega arith }
+plain_97 : IsPlain EndsOperand 97
+plain_97 = record { no_end = λ h. grind arith; no_escape = λ e. omega arith }
 
 -- the operand `a`
 an_operand : Operand
@@ -141,9 +144,9 @@ word_lex : (n : ℕ) (fs : List Frame) → Lex n (97 ∷ brackets fs) (word (off
 unfolding an_operand
 word_lex n fs =
     plain n 97 (brackets fs) (97 ∷ []) (brackets fs) (brackets fs) (operand (97 ∷ []) no_weights false) (closers fs) plain_97 (λ e. omega arith)
-    (plain_end (97 ∷ []) (brackets fs) (brackets_end fs)) (bare (97 ∷ []) (brackets fs)) (brackets_lex n fs)
+    (ended (97 ∷ []) (brackets fs) (brackets_end fs)) (bare (97 ∷ []) (brackets fs)) (brackets_lex n fs)
 
-no_mark_41 : (u : List ℕ) → IsPlainEnd u → ¬ BeginsWithMark u
+no_mark_41 : (u : List ℕ) → IsPlainEnd EndsOperand u → ¬ BeginsWithMark u
 no_mark_41 [] h m = m
 no_mark_41 (c ∷ u) h m = end_no_mark c h m
 
@@ -154,12 +157,12 @@ not_empty (x ∷ a) c e = cc
 pub record Completion (s : Stand) : Type 0 where
   pub bytes : List ℕ
   pub value : ℕ → Reading
-  pub rest : (n : ℕ) → RestIn n s bytes (value n)
+  pub rest : (n : ℕ) → QueryRest s n bytes (value n)
 
 -- the tokens that the bytes add
 record Adds (n : ℕ) (lx : Lexer) (p : Spot) (u : List ℕ) : Type 0 where
-  tokens : List Token
-  left : Left n lx u tokens
+  tokens : List QueryToken
+  left : LexerRest n lx u tokens
   follows : Follows p tokens
 
 adds : (s : Stand) (u : List ℕ) → ((n : ℕ) → Adds n s.lexer s.spot u) → Completion s
@@ -170,7 +173,7 @@ adds s u f = record {
 }
 
 -- an operand is over, and brackets follow
-word_adds : (r : Reader) (n a : ℕ) (o : Operand) (lx : Lexer) (p : Spot) (u : List ℕ) → Shows r.parser p → IsDue p → Left n lx u (word a o ∷ closers (frames p)) → Adds n lx p u
+word_adds : (r : Reader) (n a : ℕ) (o : Operand) (lx : Lexer) (p : Spot) (u : List ℕ) → Shows r.parser p → IsDue p → LexerRest n lx u (word a o ∷ closers (frames p)) → Adds n lx p u
 word_adds r n a o lx p u s d l = record { tokens = word a o ∷ closers (frames p); left = l; follows = word_follows r p a o s d }
 
 module _ (r : Reader) (n : ℕ) (p : Spot) (s : Shows r.parser p) where
@@ -210,7 +213,7 @@ module _ (r : Reader) (n : ℕ) (p : Spot) (s : Shows r.parser p) where
     plain_adds = word_adds r n a (operand l no_weights false) (in_plain a l) p (brackets (frames p)) s d (
       l,
       brackets (frames p),
-      plain_end l (brackets (frames p)) (brackets_end (frames p)),
+      ended l (brackets (frames p)) (brackets_end (frames p)),
       (operand l no_weights false, brackets (frames p), bare l (brackets (frames p)), (closers (frames p), refl, brackets_lex n (frames p))),
     )
 
@@ -218,7 +221,7 @@ module _ (r : Reader) (n : ℕ) (p : Spot) (s : Shows r.parser p) where
     plain_escaped_adds = word_adds r n a (operand (l ++ 97 ∷ []) no_weights false) (plain_escaped a l) p (97 ∷ brackets (frames p)) s d (
       l ++ 97 ∷ [],
       brackets (frames p),
-      plain_end (l ++ 97 ∷ []) (brackets (frames p)) (brackets_end (frames p)),
+      ended (l ++ 97 ∷ []) (brackets (frames p)) (brackets_end (frames p)),
       (operand (l ++ 97 ∷ []) no_weights false, brackets (frames p), bare (l ++ 97 ∷ []) (brackets (frames p)), (closers (frames p), refl, brackets_lex n (frames p))),
     )
 
@@ -228,7 +231,7 @@ module _ (r : Reader) (n : ℕ) (p : Spot) (s : Shows r.parser p) where
 
   module _ (a : ℕ) (h : IsHeld p) where
     sign_adds : (lx : Lexer) (d : ℕ) (u : List ℕ) → (Lex n (97 ∷ brackets (frames p)) (word (offset n (97 ∷ brackets (frames p))) an_operand ∷ closers (frames p))
-        → Left n lx u (sign a (phrase_joint d) ∷ word (offset n (97 ∷ brackets (frames p))) an_operand ∷ closers (frames p))) → Adds n lx p u
+        → LexerRest n lx u (sign a (phrase_joint d) ∷ word (offset n (97 ∷ brackets (frames p))) an_operand ∷ closers (frames p))) → Adds n lx p u
     sign_adds lx d u f = record {
       tokens = sign a (phrase_joint d) ∷ word (offset n (97 ∷ brackets (frames p))) an_operand ∷ closers (frames p);
       left = f (word_lex n (frames p));
@@ -269,7 +272,7 @@ bytes_of (behind_less a) p = 49 ∷ 62 ∷ 97 ∷ brackets (frames p)
 bytes_of (behind_dash a) p = 62 ∷ 97 ∷ brackets (frames p)
 bytes_of (in_digits a m) p = 62 ∷ 97 ∷ brackets (frames p)
 
-lexer_adds : (r : Reader) (n : ℕ) (lx : Lexer) (p : Spot) → Shows r.parser p → Fits lx p → Adds n lx p (bytes_of lx p)
+lexer_adds : (r : Reader) (n : ℕ) (lx : Lexer) (p : Spot) → Shows r.parser p → FitsSpot lx p → Adds n lx p (bytes_of lx p)
 unfolding bytes_of
 lexer_adds r n between p s f = between_adds r n p s
 lexer_adds r n (in_quoted a l) p s f = quoted_adds r n p s a l f
@@ -282,5 +285,5 @@ lexer_adds r n (behind_less a) p s f = less_adds r n p s a f
 lexer_adds r n (behind_dash a) p s f = dash_adds r n p s a f
 lexer_adds r n (in_digits a m) p s f = digits_adds r n p s a f m
 
-pub completes : (r : Reader) (s : Stand) → Holds r s → Completion s
+pub completes : (r : Reader) (s : Stand) → IsReaderAt r s → Completion s
 completes r s h = adds s (bytes_of s.lexer s.spot) (λ n. lexer_adds r n s.lexer s.spot h.tracks.shows h.fits)

@@ -1,6 +1,5 @@
 pub mod Climbs
 pub mod Stacks
-pub mod Chars
 pub mod Lexing
 pub mod Steps
 pub mod Past

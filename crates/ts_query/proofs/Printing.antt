@@ -1,5 +1,5 @@
 -- What is printed is read again.
-use Rattle.std.proofs.Common.{◌≡◌, ◌≢◌, ℕ, suc, ◌+◌, ◌/◌, ◌%◌, ◌^◌, ◌<◌, ◌≤◌, List, [], ◌∷◌, ◌++◌, inl, inr, refl, sym, subst, ap, ◌∙◌, Bool, true, false, cond, nat_lt, eqb, ◌||◌, append_assoc, arith, length, All, Some, None, codes}
+use Rattle.std.proofs.Common.{◌≡◌, ◌≢◌, ℕ, suc, ◌+◌, ◌/◌, ◌%◌, ◌^◌, ◌<◌, ◌≤◌, List, [], ◌∷◌, ◌++◌, inl, inr, refl, sym, subst, ap, ◌∙◌, Bool, true, false, cond, nat_lt, eqb, append_assoc, arith, length, All, Some, None, codes}
 use Rattle.std.proofs.lemmas.List.{append-nil, length-append, get_or-append-add}
 use Rattle.std.proofs.Math.ListN.{get_or-append}
 use Rattle.std.proofs.lemmas.Bool.Decides.{nat_tests}
@@ -9,13 +9,17 @@ use Rattle.std.specs.List.{flat_map}
 use Rattle.ts_base.specs.declared.Weight.{Weight}
 use Rattle.ts_base.specs.declared.Weight.TheVariants.{A, B, C, D}
 use Rattle.ts_base.specs.declared.Weights.{Weights}
-use Rattle.ts_query.specs.Queries.{Operand, Joint, or_joint, and_joint, phrase_joint, Tree, leaf, negated, joined, operands_in, IsNear, HasNear, HasLength}
-use Rattle.ts_query.specs.Tokens.{IsDigit, IsLetter, IsMark, Token, word, bang, opening, closing, sign, BeginsWithQuote, BeginsWithMark, Quoted, closed, doubled, quoted_escape, quoted_byte, no_weights, Marks, unmarked, star, letter, operand, Behind, bare, marked, with_digit, Number, over, digit, Distance, arrow, number, offset}
-use Rattle.ts_query.specs.Tokens.{Lex, done, space, not_sign, open_sign, close_sign, and_sign, or_sign, phrase_sign, quoted}
-use Rattle.ts_query.specs.Printing.{doubled_byte, marks_of, marks_text, operand_text, joint_text, bracketed, printed_at, only_if}
+use Rattle.ts_query.specs.Queries.{Operand, Joint, or_joint, and_joint, phrase_joint, Tree, leaf, negated, joined, operands_in, IsNear, HasNear, HasLexemeLength}
+use Rattle.ts_base.specs.Bytes.{IsDigit, IsLetter, BeginsWithQuote}
+use Rattle.ts_query.specs.Tokens.{IsMark, QueryToken, word, bang, opening, closing, sign, BeginsWithMark, no_weights, Marks, unmarked, star, letter, operand, BehindLexeme, bare, marked, DistanceNumber, over, digit, Distance, arrow, number, offset, Lex, done, space, not_sign, open_sign, close_sign, and_sign, or_sign, phrase_sign, quoted}
+use Rattle.ts_base.specs.Quoted.{doubled_byte}
+use Rattle.ts_base.specs.Digits.{with_digit}
+use Rattle.ts_query.specs.Printing.{marks_of, marks_text, operand_text, joint_text, bracketed, printed_at, only_if}
 use Rattle.ts_query.specs.Grammar.{level, Expr, one, bracket, primary, denied, binary, Tail, last, more}
 use Rattle.ts_query.specs.Laws.{PrintsBack}
 use Rattle.ts_query.proofs.Climbs.{level_3, climb_here, climb_expr}
+use Rattle.ts_base.proofs.QuotedTexts.{quoted_reads}
+use Rattle.ts_query.specs.declared.TheConstants.{PAST_DISTANCE, GREATEST_DISTANCE}
 
 -- the end, or a space
 abbrev pub IsParted : List ℕ → Type 0
@@ -39,24 +43,6 @@ mark_32 (inr k) = letter_32 k.0 k.1
 parted_mark : (r : List ℕ) → IsParted r → ¬ BeginsWithMark r
 parted_mark [] h m = m
 parted_mark (c ∷ r) h m = mark_32 (subst IsMark h m)
-
--- ── a quoted lexeme ──
-byte_tests : (x y : Bool) (c : ℕ) (a u l v : List ℕ) → eqb c 39 ≡ x → eqb c 92 ≡ y → Quoted (a ++ c ∷ []) u l v → Quoted a (cond (x || y) (c ∷ c ∷ []) (c ∷ []) ++ u) l v
-byte_tests true y c a u l v e f q = let s : c ≡ 39 = grind (arith, nat_tests) in
-    subst (λ x. Quoted (a ++ x ∷ []) u l v → Quoted a (x ∷ x ∷ u) l v) (sym s) (λ p. doubled a u l v p) q
-byte_tests false true c a u l v e f q = let s : c ≡ 92 = grind (arith, nat_tests) in
-    subst (λ x. Quoted (a ++ x ∷ []) u l v → Quoted a (x ∷ x ∷ u) l v) (sym s) (λ p. quoted_escape 92 a u l v p) q
-byte_tests false false c a u l v e f q = quoted_byte c a u l v (λ s. grind (arith, nat_tests)) (λ s. grind (arith, nat_tests)) q
-
-byte_prints : (c : ℕ) (a u l v : List ℕ) → Quoted (a ++ c ∷ []) u l v → Quoted a (doubled_byte c ++ u) l v
-byte_prints c a u l v q = byte_tests (eqb c 39) (eqb c 92) c a u l v refl refl q
-
-quoted_prints : (lexeme a v : List ℕ) → ¬ BeginsWithQuote v → Quoted a (flat_map doubled_byte lexeme ++ 39 ∷ v) (a ++ lexeme) v
-quoted_prints [] a v h = subst (λ l. Quoted a (39 ∷ v) l v) (sym (append-nil a)) (closed a v h)
-quoted_prints (c ∷ lexeme) a v h =
-    subst (λ u. Quoted a u (a ++ c ∷ lexeme) v) (sym (append_assoc (doubled_byte c) (flat_map doubled_byte lexeme) (39 ∷ v)))
-    (byte_prints c a (flat_map doubled_byte lexeme ++ 39 ∷ v) (a ++ c ∷ lexeme) v
-    (subst (λ l. Quoted (a ++ c ∷ []) (flat_map doubled_byte lexeme ++ 39 ∷ v) l v) (append_assoc a (c ∷ []) lexeme) (quoted_prints lexeme (a ++ c ∷ []) v h)))
 
 -- ── marks ──
 abbrev weights : Bool → Bool → Bool → Bool → Weights
@@ -110,11 +96,11 @@ unmarked_operand o e =
     sym (ap (λ x. operand o.lexeme o.weights x) p.0 ∙ ap (λ x. operand o.lexeme (weights x o.weights.b o.weights.c o.weights.d) false) a.0 ∙ ap (λ x. operand o.lexeme (weights false x o.weights.c o.weights.d) false) b.0
     ∙ ap (λ x. operand o.lexeme (weights false false x o.weights.d) false) c.0 ∙ ap (λ x. operand o.lexeme (weights false false false x) false) d)
 
-behind_marks : (o : Operand) (m r : List ℕ) → marks_of o ≡ m → Marks no_weights false (m ++ r) o.weights o.prefix r → Behind o.lexeme (marks_text m ++ r) o r
-behind_marks o [] r e k = subst (λ x. Behind o.lexeme r x r) (unmarked_operand o e) (bare o.lexeme r)
+behind_marks : (o : Operand) (m r : List ℕ) → marks_of o ≡ m → Marks no_weights false (m ++ r) o.weights o.prefix r → BehindLexeme o.lexeme (marks_text m ++ r) o r
+behind_marks o [] r e k = subst (λ x. BehindLexeme o.lexeme r x r) (unmarked_operand o e) (bare o.lexeme r)
 behind_marks o (c ∷ m) r e k = marked o.lexeme (c ∷ (m ++ r)) r o.weights o.prefix k
 
-behind_prints : (o : Operand) (r : List ℕ) → IsParted r → Behind o.lexeme (marks_text (marks_of o) ++ r) o r
+behind_prints : (o : Operand) (r : List ℕ) → IsParted r → BehindLexeme o.lexeme (marks_text (marks_of o) ++ r) o r
 behind_prints o r h = behind_marks o (marks_of o) r refl (marks_print o r h)
 
 marks_quote : (m r : List ℕ) → IsParted r → ¬ BeginsWithQuote (marks_text m ++ r)
@@ -128,7 +114,7 @@ not_empty (x ∷ l) h e = cc
 operand_assoc : (x y m r : List ℕ) → ((39 ∷ (x ++ y)) ++ m) ++ r ≡ 39 ∷ (x ++ (y ++ (m ++ r)))
 operand_assoc x y m r = ap (λ l. 39 ∷ l) (append_assoc (x ++ y) m r ∙ append_assoc x y (m ++ r))
 
-word_prints : (n : ℕ) (o : Operand) (r : List ℕ) (ks : List Token) → 1 ≤ length o.lexeme → IsParted r → Lex n r ks → (s : ℕ) × Lex n (operand_text o ++ r) (word s o ∷ ks)
+word_prints : (n : ℕ) (o : Operand) (r : List ℕ) (ks : List QueryToken) → 1 ≤ length o.lexeme → IsParted r → Lex n r ks → (s : ℕ) × Lex n (operand_text o ++ r) (word s o ∷ ks)
 word_prints n o r ks h p w =
     let u = flat_map doubled_byte o.lexeme in
     let m = marks_text (marks_of o) in
@@ -136,27 +122,27 @@ word_prints n o r ks h p w =
       offset n (39 ∷ (flat_map doubled_byte o.lexeme ++ (39 ∷ (marks_text (marks_of o) ++ r)))),
       subst (λ x. Lex n x (word (offset n (39 ∷ (flat_map doubled_byte o.lexeme ++ (39 ∷ (marks_text (marks_of o) ++ r))))) o ∷ ks)) (sym (operand_assoc (flat_map doubled_byte o.lexeme) (39 ∷ []) (marks_text (marks_of o)) r))
           (quoted n (flat_map doubled_byte o.lexeme ++ (39 ∷ (marks_text (marks_of o) ++ r))) o.lexeme (marks_text (marks_of o) ++ r) r o ks
-          (quoted_prints o.lexeme [] (marks_text (marks_of o) ++ r) (marks_quote (marks_of o) r p)) (not_empty o.lexeme h) (behind_prints o r p) w),
+          (quoted_reads o.lexeme [] (marks_text (marks_of o) ++ r) (marks_quote (marks_of o) r p)) (not_empty o.lexeme h) (behind_prints o r p) w),
     )
 
 -- ── operators ──
 abbrev ReadsNumber : ℕ → List ℕ → Type 0
-ReadsNumber n ds = n ≤ 16384 → (u : List ℕ) (m : ℕ) (r : List ℕ) → Number n u m r → Distance (ds ++ u) m r
+ReadsNumber n ds = n ≤ GREATEST_DISTANCE → (u : List ℕ) (m : ℕ) (r : List ℕ) → DistanceNumber n u m r → Distance (ds ++ u) m r
 
 one_digit : (n : ℕ) → n < 10 → ReadsNumber n ((48 + n) ∷ [])
 one_digit n h b u m r k =
     let d : IsDigit (48 + n) = (omega arith, omega arith) in
-    let e : n ≡ with_digit 0 (48 + n) = omega arith in
-    number (48 + n) m u r d (subst (λ x. Number x u m r) e k)
+    let e : n ≡ with_digit PAST_DISTANCE 0 (48 + n) = omega arith in
+    number (48 + n) m u r d (subst (λ x. DistanceNumber x u m r) e k)
 
 more_digits : (n : ℕ) (ds : List ℕ) → 10 ≤ n → ReadsNumber (n / 10) ds → ReadsNumber n (ds ++ (48 + n % 10) ∷ [])
 more_digits n ds h f b u m r k =
     let d : IsDigit (48 + n % 10) = (omega arith, omega arith) in
-    let e : n ≡ with_digit (n / 10) (48 + n % 10) = omega arith in
+    let e : n ≡ with_digit PAST_DISTANCE (n / 10) (48 + n % 10) = omega arith in
     subst (λ x. Distance x m r) (sym (append_assoc ds ((48 + n % 10) ∷ []) u))
-    (f (omega arith) ((48 + n % 10) ∷ u) m r (digit (48 + n % 10) (n / 10) m u r d (subst (λ x. Number x u m r) e k)))
+    (f (omega arith) ((48 + n % 10) ∷ u) m r (digit (48 + n % 10) (n / 10) m u r d (subst (λ x. DistanceNumber x u m r) e k)))
 
-distance_prints : (n : ℕ) (v : List ℕ) → n ≤ 16384 → Distance (decimal n ++ 62 ∷ v) n v
+distance_prints : (n : ℕ) (v : List ℕ) → n ≤ GREATEST_DISTANCE → Distance (decimal n ++ 62 ∷ v) n v
 distance_prints n v h =
     let small : n < 2 ^ 64 = omega arith in
     decimal_by_steps ReadsNumber one_digit more_digits n small h (62 ∷ v) n v (over n v)
@@ -164,7 +150,7 @@ distance_prints n v h =
 phrase_text : Bool → ℕ → List ℕ
 phrase_text b n = cond b (codes " <-> ") (codes " <" ++ (decimal n ++ codes "> "))
 
-phrase_prints : (b : Bool) (n d : ℕ) (r : List ℕ) (ks : List Token) → eqb d 1 ≡ b → d ≤ 16384 → Lex n r ks → (s : ℕ) × Lex n (phrase_text b d ++ r) (sign s (phrase_joint d) ∷ ks)
+phrase_prints : (b : Bool) (n d : ℕ) (r : List ℕ) (ks : List QueryToken) → eqb d 1 ≡ b → d ≤ GREATEST_DISTANCE → Lex n r ks → (s : ℕ) × Lex n (phrase_text b d ++ r) (sign s (phrase_joint d) ∷ ks)
 unfolding phrase_text
 phrase_prints true n d r ks e h w =
     let one : 1 ≡ d = grind (arith, nat_tests) in (
@@ -181,7 +167,7 @@ phrase_prints false n d r ks e h w =
           (phrase_sign n d (decimal d ++ 62 ∷ 32 ∷ r) (32 ∷ r) ks (distance_prints d (32 ∷ r) h) (space n 32 r ks (inl refl) w))),
     )
 
-joint_prints : (j : Joint) (n : ℕ) (r : List ℕ) (ks : List Token) → IsNear j → Lex n r ks → (s : ℕ) × Lex n (joint_text j ++ r) (sign s j ∷ ks)
+joint_prints : (j : Joint) (n : ℕ) (r : List ℕ) (ks : List QueryToken) → IsNear j → Lex n r ks → (s : ℕ) × Lex n (joint_text j ++ r) (sign s j ∷ ks)
 unfolding phrase_text
 joint_prints or_joint n r ks h w = (offset n (124 ∷ 32 ∷ r), space n 32 (124 ∷ 32 ∷ r) _ (inl refl) (or_sign n (32 ∷ r) ks (space n 32 r ks (inl refl) w)))
 joint_prints and_joint n r ks h w = (offset n (38 ∷ 32 ∷ r), space n 32 (38 ∷ 32 ∷ r) _ (inl refl) (and_sign n (32 ∷ r) ks (space n 32 r ks (inl refl) w)))
@@ -199,19 +185,19 @@ joint_parted and_joint r = refl
 joint_parted (phrase_joint d) r = phrase_parted (eqb d 1) d r
 
 -- ── trees ──
-tail_trans : (k : ℕ) (a x t : Tree) (u m r : List Token) → Tail k a u x m → Tail k x m t r → Tail k a u t r
+tail_trans : (k : ℕ) (a x t : Tree) (u m r : List QueryToken) → Tail k a u x m → Tail k x m t r → Tail k a u t r
 tail_trans k a x t u m r (last _ _ _) s = s
 tail_trans k a x t u m r (more c j _ y _ v q _ e b) s = more c j a y t v q r e (tail_trans (level j) (joined j a y) x t q m r b s)
 
 -- an operator more behind an expression of its level
-expr_tail : (k : ℕ) (x t : Tree) (u m r : List Token) → k < 3 → Expr k x u m → Tail k x m t r → Expr k t u r
+expr_tail : (k : ℕ) (x t : Tree) (u m r : List QueryToken) → k < 3 → Expr k x u m → Tail k x m t r → Expr k t u r
 expr_tail k x t u m r p (one _ _ _) s = absurd (let n : ⊥ = omega arith in n)
 expr_tail k x t u m r p (bracket _ _ _ _) s = absurd (let n : ⊥ = omega arith in n)
 expr_tail k x t u m r p (primary _ _ _ _) s = absurd (let n : ⊥ = omega arith in n)
 expr_tail k x t u m r p (denied _ _ _ _) s = absurd (let n : ⊥ = omega arith in n)
 expr_tail k x t u m r p (binary _ w _ _ q _ _ e b) s = binary k w t u q r p e (tail_trans k w x t q m r b s)
 
-lower : (j l : ℕ) (t : Tree) (u r : List Token) → l ≤ j → j ≤ 4 → Expr j t u r → Expr l t u r
+lower : (j l : ℕ) (t : Tree) (u r : List QueryToken) → l ≤ j → j ≤ 4 → Expr j t u r → Expr l t u r
 lower j l t u r h b e = climb_expr j l t t u r r e (climb_here j l t r h b)
 
 -- what the laws ask of a tree
@@ -221,8 +207,8 @@ Spelled (negated x) = Spelled x
 Spelled (joined j x y) = IsNear j × (Spelled x × Spelled y)
 
 -- the text of a tree of the level l has tokens that begin with an expression of that level
-record Prints (n l : ℕ) (t : Tree) (u : List ℕ) (ks : List Token) : Type 0 where
-  tokens : List Token
+record Prints (n l : ℕ) (t : Tree) (u : List ℕ) (ks : List QueryToken) : Type 0 where
+  tokens : List QueryToken
   has : Lex n u tokens
   expr : Expr l t tokens ks
 
@@ -232,8 +218,8 @@ lt_false a b e = grind (arith, nat_tests)
 brackets_assoc : (body r : List ℕ) → (codes "( " ++ (body ++ codes " )")) ++ r ≡ 40 ∷ 32 ∷ (body ++ (32 ∷ 41 ∷ r))
 brackets_assoc body r = ap (λ l. 40 ∷ 32 ∷ l) (append_assoc body (32 ∷ 41 ∷ []) r)
 
-bracketed_prints : (b : Bool) (n k l : ℕ) (t : Tree) (body r : List ℕ) (ks : List Token) → k ≤ 4 → l ≤ 4 → nat_lt k l ≡ b
-    → ((v : List ℕ) (ls : List Token) → IsParted v → Lex n v ls → Prints n k t (body ++ v) ls) → IsParted r → Lex n r ks → Prints n l t (bracketed b body ++ r) ks
+bracketed_prints : (b : Bool) (n k l : ℕ) (t : Tree) (body r : List ℕ) (ks : List QueryToken) → k ≤ 4 → l ≤ 4 → nat_lt k l ≡ b
+    → ((v : List ℕ) (ls : List QueryToken) → IsParted v → Lex n v ls → Prints n k t (body ++ v) ls) → IsParted r → Lex n r ks → Prints n l t (bracketed b body ++ r) ks
 bracketed_prints true n k l t body r ks h g e f p w =
     let q = f (32 ∷ 41 ∷ r) (closing ∷ ks) refl (space n 32 (41 ∷ r) (closing ∷ ks) (inl refl) (close_sign n r ks w)) in
     record {
@@ -247,8 +233,8 @@ bracketed_prints false n k l t body r ks h g e f p w =
 three_assoc : (a b c r : List ℕ) → (a ++ (b ++ c)) ++ r ≡ a ++ (b ++ (c ++ r))
 three_assoc a b c r = simp append_assoc
 
-joined_prints : (n : ℕ) (j : Joint) (x y : Tree) (a b v : List ℕ) (ls : List Token) → IsNear j → Lex n v ls → Prints n (suc (level j)) y (b ++ v) ls
-    → ((z : List ℕ) (ms : List Token) → IsParted z → Lex n z ms → Prints n (level j) x (a ++ z) ms) → Prints n (level j) (joined j x y) ((a ++ (joint_text j ++ b)) ++ v) ls
+joined_prints : (n : ℕ) (j : Joint) (x y : Tree) (a b v : List ℕ) (ls : List QueryToken) → IsNear j → Lex n v ls → Prints n (suc (level j)) y (b ++ v) ls
+    → ((z : List ℕ) (ms : List QueryToken) → IsParted z → Lex n z ms → Prints n (level j) x (a ++ z) ms) → Prints n (level j) (joined j x y) ((a ++ (joint_text j ++ b)) ++ v) ls
 joined_prints n j x y a b v ls h w q f =
     let s = joint_prints j n (b ++ v) q.tokens h q.has in
     let p = f (joint_text j ++ (b ++ v)) (sign s.0 j ∷ q.tokens) (joint_parted j (b ++ v)) s.1 in
@@ -258,7 +244,7 @@ joined_prints n j x y a b v ls h w q f =
       expr = expr_tail (level j) x (joined j x y) p.tokens (sign s.0 j ∷ q.tokens) ls (level_3 j) p.expr (more s.0 j x y (joined j x y) q.tokens ls ls q.expr (last (level j) (joined j x y) ls));
     }
 
-prints : (t : Tree) (n l : ℕ) (r : List ℕ) (ks : List Token) → l ≤ 4 → Spelled t → IsParted r → Lex n r ks → Prints n l t (printed_at t l ++ r) ks
+prints : (t : Tree) (n l : ℕ) (r : List ℕ) (ks : List QueryToken) → l ≤ 4 → Spelled t → IsParted r → Lex n r ks → Prints n l t (printed_at t l ++ r) ks
 unfolding Spelled
 prints (leaf o) n l r ks g s p w =
     let f = word_prints n o r ks s p w in record { tokens = word f.0 o ∷ ks; has = f.1; expr = lower 4 l (leaf o) (word f.0 o ∷ ks) ks g (omega arith) (one f.0 o ks) }
@@ -273,13 +259,13 @@ prints (joined j x y) n l r ks g s p w =
     (prints y n (suc (level j)) v ls (omega arith) s.1.1 h k)
     (λ z ms i m. prints x n (level j) z ms (omega arith) s.1.0 i m)) p w
 
-pub all_left : (xs ys : List Operand) → All HasLength (xs ++ ys) → All HasLength xs
-all_left xs ys a k d h = let n : k < length (xs ++ ys) = omega (arith, length-append xs ys) in subst HasLength (get_or-append xs ys d k h) (a k d n)
+pub all_left : (xs ys : List Operand) → All HasLexemeLength (xs ++ ys) → All HasLexemeLength xs
+all_left xs ys a k d h = let n : k < length (xs ++ ys) = omega (arith, length-append xs ys) in subst HasLexemeLength (get_or-append xs ys d k h) (a k d n)
 
-pub all_right : (xs ys : List Operand) → All HasLength (xs ++ ys) → All HasLength ys
-all_right xs ys a k d h = let n : length xs + k < length (xs ++ ys) = omega (arith, length-append xs ys) in subst HasLength (get_or-append-add xs ys k d) (a (length xs + k) d n)
+pub all_right : (xs ys : List Operand) → All HasLexemeLength (xs ++ ys) → All HasLexemeLength ys
+all_right xs ys a k d h = let n : length xs + k < length (xs ++ ys) = omega (arith, length-append xs ys) in subst HasLexemeLength (get_or-append-add xs ys k d) (a (length xs + k) d n)
 
-spelled : (t : Tree) → All HasLength (operands_in t) → HasNear t → Spelled t
+spelled : (t : Tree) → All HasLexemeLength (operands_in t) → HasNear t → Spelled t
 unfolding Spelled
 spelled (leaf o) a h = (a 0 o (omega arith)).0
 spelled (negated x) a h = spelled x a h

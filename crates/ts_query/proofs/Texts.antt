@@ -1,37 +1,15 @@
 -- The bytes of a printed query.
-use Rattle.std.proofs.Common.{◌≡◌, ◌≢◌, ℕ, suc, List, [], ◌∷◌, ◌++◌, refl, sym, subst, ap, ◌∙◌, append_assoc, Bool, true, false, cond, eqb, nat_lt, ◌||◌, codes, arith}
+use Rattle.std.proofs.Common.{◌≡◌, ℕ, suc, List, [], ◌∷◌, ◌++◌, refl, sym, ap, ◌∙◌, append_assoc, Bool, true, false, nat_lt, codes}
 use Rattle.std.proofs.lemmas.List.{append-nil}
-use Rattle.std.proofs.lemmas.Bool.Decides.{nat_tests}
-use Rattle.std.specs.Char.{encode_utf8}
-use Rattle.std.specs.List.{flat_map}
 use Rattle.ts_query.specs.Queries.{Operand, Tree, leaf, negated, joined, operands_in}
 use Rattle.ts_query.specs.Grammar.{level}
-use Rattle.ts_query.specs.Printing.{doubled_byte, joint_text, bracketed, printed_at}
-use Rattle.ts_query.specs.Parsing.{joint_link}
-use Rattle.ts_query.specs.Pieces.{in_brackets, pieces_at, text_of}
+use Rattle.ts_query.specs.Printing.{joint_text, bracketed, printed_at}
+use Rattle.ts_query.specs.Inner.Parsing.{joint_link}
+use Rattle.ts_query.specs.Inner.Pieces.{in_brackets, pieces_at, text_of}
 use Rattle.ts_query.specs.declared.print.Piece.{Piece}
 use Rattle.ts_query.specs.declared.print.Piece.TheVariants.{Bang, Joint as joint_piece, Close}
-use Rattle.ts_query.proofs.Chars.{Each, encode_some}
 use Rattle.ts_query.proofs.Stacks.{joint_back}
 
--- ── lexemes ──
-doubled_tests : (x y : Bool) (c : ℕ) → eqb c 39 ≡ x → eqb c 92 ≡ y → c ≢ 39 → c ≢ 92 → cond (x || y) (c ∷ c ∷ []) (c ∷ []) ≡ c ∷ []
-doubled_tests true y c e f m k = absurd (m (grind (arith, nat_tests)))
-doubled_tests false true c e f m k = absurd (k (grind (arith, nat_tests)))
-doubled_tests false false c e f m k = refl
-
-doubled_once : (bs : List ℕ) → Each (λ b. (b ≢ 39) × (b ≢ 92)) bs → flat_map doubled_byte bs ≡ bs
-doubled_once [] h = refl
-doubled_once (b ∷ bs) h =
-    ap (λ l. l ++ flat_map doubled_byte bs) (doubled_tests (eqb b 39) (eqb b 92) b refl refl h.0.0 h.0.1) ∙ ap (λ l. b ∷ l) (doubled_once bs h.1)
-
--- another character than a quote and a backslash is not doubled
-pub char_once : (c : ℕ) → c ≢ 39 → c ≢ 92 → flat_map doubled_byte (encode_utf8 c) ≡ encode_utf8 c
-char_once c m k =
-    let f = encode_some (λ b. (b ≢ 39) × (b ≢ 92)) c (λ _. (m, k)) (λ b h. ((λ e. omega arith), (λ e. omega arith))) in
-    doubled_once (encode_utf8 c) (subst (λ v. Each (λ b. (b ≢ 39) × (b ≢ 92)) v) (sym f.2) (f.3, f.4))
-
--- a character more is written
 -- ── parts ──
 wrapped_text : (ps qs : List Piece) (os : List Operand) → text_of ((ps ++ Close ∷ []) ++ qs) os ≡ text_of (ps ++ (Close ∷ qs)) os
 wrapped_text ps qs os = ap (λ l. text_of l os) (append_assoc ps (Close ∷ []) qs)

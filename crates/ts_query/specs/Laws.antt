@@ -1,6 +1,8 @@
 -- Laws of the grammar.
 use Rattle.std.specs.Prelude.{◌≡◌, ◌⊎◌, ◌↔◌, ℕ, List, ◌∷◌, ◌++◌, min}
 use Rattle.std.specs.Str.Parse.{IsNumeral, digits_value}
+use Rattle.ts_base.specs.Fault.{FaultAt, Stands}
+use Rattle.ts_query.specs.declared.TheConstants.{PAST_DISTANCE}
 use Rattle.ts_query.specs.Queries.{Query, IsSound}
 use Rattle.ts_query.specs.Tokens.{Distance}
 use Rattle.ts_query.specs.Grammar.{IsQueryText}
@@ -24,8 +26,22 @@ pub record IsDecimal (u : List ℕ) (distance : ℕ) (rest : List ℕ) : Type 0 
   pub digits : List ℕ
   pub numeral : IsNumeral 10 digits
   pub text : u ≡ digits ++ 62 ∷ rest
-  pub value : distance ≡ min (digits_value 10 digits) 16385
+  pub value : distance ≡ min (digits_value 10 digits) PAST_DISTANCE
 
 -- a distance is an arrow or a decimal number, and nothing else
 abbrev pub DistanceIsDecimal : Type 0
-DistanceIsDecimal = (u : List ℕ) (distance : ℕ) (rest : List ℕ) → Distance u distance rest ↔ (IsArrow u distance rest ⊎ IsDecimal u distance rest)
+DistanceIsDecimal =
+    (u : List ℕ) (distance : ℕ) (rest : List ℕ)
+    → Distance u distance rest ↔ (IsArrow u distance rest ⊎ IsDecimal u distance rest)
+
+-- a fault has one place
+abbrev pub QueryFaultHasOnePlace : Type 0
+QueryFaultHasOnePlace =
+    (text : List ℕ) (m n : ℕ)
+    → FaultAt (Stands Query IsQueryText) text m → FaultAt (Stands Query IsQueryText) text n → m ≡ n
+
+-- a text with a fault is outside the grammar
+abbrev pub QueryFaultIsOutside : Type 0
+QueryFaultIsOutside =
+    (text : List ℕ) (n : ℕ) → FaultAt (Stands Query IsQueryText) text n → (query : Query)
+    → ¬ IsQueryText text query

@@ -1,16 +1,9 @@
 -- The printed form of a query.
-use Rattle.std.specs.Prelude.{ℕ, suc, List, [], ◌∷◌, ◌++◌, Bool, true, false, ◌||◌, ◌==◌, nat_lt, if◌then◌else◌, codes, Some, None}
+use Rattle.std.specs.Prelude.{ℕ, suc, List, [], ◌∷◌, ◌++◌, Bool, true, false, ◌==◌, nat_lt, if◌then◌else◌, codes, Some, None}
 use Rattle.std.specs.Fmt.{decimal}
-use Rattle.std.specs.List.{flat_map}
+use Rattle.ts_base.specs.Quoted.{quoted_text}
 use Rattle.ts_query.specs.Queries.{Operand, Joint, or_joint, and_joint, phrase_joint, Tree, leaf, negated, joined, Query}
 use Rattle.ts_query.specs.Grammar.{level}
-
--- a quote or a backslash stands twice
-abbrev pub doubled_byte : ℕ → List ℕ
-doubled_byte c = if (c == 39) || (c == 92) then c ∷ c ∷ [] else c ∷ []
-
-abbrev pub quoted_text : List ℕ → List ℕ
-quoted_text lexeme = 39 ∷ (flat_map doubled_byte lexeme ++ 39 ∷ [])
 
 abbrev pub only_if : Bool → ℕ → List ℕ
 only_if true c = c ∷ []
@@ -18,7 +11,10 @@ only_if false c = []
 
 -- `*` first, then the weights from A to D
 abbrev pub marks_of : Operand → List ℕ
-marks_of o = only_if o.prefix 42 ++ (only_if o.weights.a 65 ++ (only_if o.weights.b 66 ++ (only_if o.weights.c 67 ++ only_if o.weights.d 68)))
+marks_of o =
+    only_if o.prefix 42
+    ++ (only_if o.weights.a 65
+    ++ (only_if o.weights.b 66 ++ (only_if o.weights.c 67 ++ only_if o.weights.d 68)))
 
 -- marks, if any, stand behind `:`
 abbrev pub marks_text : List ℕ → List ℕ
@@ -31,7 +27,8 @@ operand_text o = quoted_text o.lexeme ++ marks_text (marks_of o)
 abbrev pub joint_text : Joint → List ℕ
 joint_text or_joint = codes " | "
 joint_text and_joint = codes " & "
-joint_text (phrase_joint n) = if n == 1 then codes " <-> " else codes " <" ++ (decimal n ++ codes "> ")
+joint_text (phrase_joint n) =
+    if n == 1 then codes " <-> " else codes " <" ++ (decimal n ++ codes "> ")
 
 abbrev pub bracketed : Bool → List ℕ → List ℕ
 bracketed true text = codes "( " ++ (text ++ codes " )")
@@ -42,7 +39,9 @@ bracketed false text = text
 abbrev pub printed_at : Tree → ℕ → List ℕ
 printed_at (leaf o) l = operand_text o
 printed_at (negated x) l = bracketed (nat_lt 3 l) (33 ∷ printed_at x 3)
-printed_at (joined j x y) l = bracketed (nat_lt (level j) l) (printed_at x (level j) ++ (joint_text j ++ printed_at y (suc (level j))))
+printed_at (joined j x y) l =
+    bracketed (nat_lt (level j) l)
+    (printed_at x (level j) ++ (joint_text j ++ printed_at y (suc (level j))))
 
 -- the empty query prints nothing
 abbrev pub printed : Query → List ℕ

@@ -1,5 +1,7 @@
 -- A query as contracts see it: a tree of operands, or the empty query.
 use Rattle.std.specs.Prelude.{ℕ, suc, ◌+◌, ◌<◌, ◌≤◌, List, [], ◌∷◌, ◌++◌, length, Option, Some, None, All}
+use Rattle.ts_base.specs.declared.TheConstants.{LONGEST_LEXEME}
+use Rattle.ts_query.specs.declared.TheConstants.{GREATEST_DISTANCE, NODE_LIMIT}
 pub use Rattle.ts_query.specs.declared.query.Operand.{Operand}
 
 -- what joins two queries; a phrase has its distance
@@ -41,7 +43,7 @@ nodes_of (Some t) = nodes_in t
 abbrev pub IsNear : Joint → Type 0
 IsNear or_joint = Unit {0}
 IsNear and_joint = Unit {0}
-IsNear (phrase_joint n) = n ≤ 16384
+IsNear (phrase_joint n) = n ≤ GREATEST_DISTANCE
 
 abbrev pub HasNear : Tree → Type 0
 HasNear (leaf o) = Unit {0}
@@ -53,11 +55,11 @@ HasNearPhrases None = Unit {0}
 HasNearPhrases (Some t) = HasNear t
 
 -- a lexeme has 1 to 2046 bytes
-abbrev pub HasLength : Operand → Type 0
-HasLength o = (1 ≤ length o.lexeme) × (length o.lexeme ≤ 2046)
+abbrev pub HasLexemeLength : Operand → Type 0
+HasLexemeLength o = (1 ≤ length o.lexeme) × (length o.lexeme ≤ LONGEST_LEXEME)
 
 -- the limits of a query
 pub record IsSound (query : Query) : Type 0 where
-  pub lexemes : All HasLength (operands_of query)
+  pub lexemes : All HasLexemeLength (operands_of query)
   pub phrases : HasNearPhrases query
-  pub nodes : nodes_of query < 32768
+  pub nodes : nodes_of query < NODE_LIMIT

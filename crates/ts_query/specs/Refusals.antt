@@ -1,10 +1,10 @@
 -- What a text is read as, and why one is refused.
 use Rattle.std.specs.Prelude.{◌≡◌, ◌≢◌, ◌≤◌, ℕ, List, Some, None, Result, Ok, Err}
-use Rattle.ts_base.specs.Fault.{FaultAt}
-use Rattle.ts_base.specs.Leads.{Stands}
+use Rattle.ts_base.specs.Fault.{FaultAt, Stands}
+use Rattle.ts_query.specs.declared.TheConstants.{NODE_LIMIT}
 use Rattle.ts_query.specs.Queries.{Query, nodes_of, IsSound}
-use Rattle.ts_query.specs.Tokens.{Token}
-use Rattle.ts_query.specs.Grammar.{Reads, IsQueryText}
+use Rattle.ts_query.specs.Tokens.{QueryToken}
+use Rattle.ts_query.specs.Grammar.{ReadsQuery, IsQueryText}
 use Rattle.ts_query.specs.Limits.{first_far, first_long}
 use Rattle.ts_query.specs.declared.error.QueryError.{QueryError}
 use Rattle.ts_query.specs.declared.error.QueryError.TheVariants.{Syntax, DistanceTooLarge, TooManyNodes, LexemeTooLong, OutOfMemory}
@@ -16,27 +16,27 @@ pub record IsReadAs (text : List ℕ) (query : Query) : Type 0 where
 
 -- The text is in the grammar, and the first operator with a distance above 16384 starts there.
 pub record IsTooFar (text : List ℕ) (at : ℕ) : Type 0 where
-  pub tokens : List Token
+  pub tokens : List QueryToken
   pub query : Query
-  pub reads : Reads text tokens query
+  pub reads : ReadsQuery text tokens query
   pub far : first_far tokens ≡ Some at
 
 -- No distance is too large, and the first lexeme of more than 2046 bytes starts there.
 pub record IsTooLong (text : List ℕ) (at : ℕ) : Type 0 where
-  pub tokens : List Token
+  pub tokens : List QueryToken
   pub query : Query
-  pub reads : Reads text tokens query
+  pub reads : ReadsQuery text tokens query
   pub near : first_far tokens ≡ None
   pub long : first_long tokens ≡ Some at
 
 -- No distance and no lexeme is too large, and the tree has 32768 nodes or more.
 pub record IsTooMany (text : List ℕ) : Type 0 where
-  pub tokens : List Token
+  pub tokens : List QueryToken
   pub query : Query
-  pub reads : Reads text tokens query
+  pub reads : ReadsQuery text tokens query
   pub near : first_far tokens ≡ None
   pub short : first_long tokens ≡ None
-  pub many : 32768 ≤ nodes_of query
+  pub many : NODE_LIMIT ≤ nodes_of query
 
 abbrev pub IsRefused : List ℕ → QueryError → Type 0
 IsRefused text (Syntax at) = FaultAt (Stands Query IsQueryText) text at
@@ -49,6 +49,8 @@ abbrev pub IsAnswer : List ℕ → Result Query QueryError → Type 0
 IsAnswer text (Ok query) = IsReadAs text query
 IsAnswer text (Err error) = IsRefused text error
 
--- want of memory aside, a text has at most one answer
+-- running out of memory aside, a text has at most one answer
 abbrev pub OneAnswer : Type 0
-OneAnswer = (text : List ℕ) (a b : Result Query QueryError) → a ≢ Err OutOfMemory → b ≢ Err OutOfMemory → IsAnswer text a → IsAnswer text b → a ≡ b
+OneAnswer =
+    (text : List ℕ) (a b : Result Query QueryError) → a ≢ Err OutOfMemory → b ≢ Err OutOfMemory
+    → IsAnswer text a → IsAnswer text b → a ≡ b

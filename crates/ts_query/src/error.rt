@@ -5,20 +5,31 @@ ghost use Rattle.ts_query.specs.declared.error.QueryError.TheVariants.{OutOfMemo
 use std::alloc::AllocError;
 use thiserror::Error;
 
+/// Why a query is refused.
 #[derive(Clone, Copy, Debug, PartialEq, Eq, Error)]
 pub enum QueryError {
     /// The text is outside the grammar, and its first fault is at this offset.
-    #[error("a fault of syntax at {at}")]
-    Syntax { at: usize },
+    #[error("syntax error at {at}")]
+    Syntax {
+        /// The offset of the fault.
+        at: usize,
+    },
     /// The operator that starts at this offset has a distance above 16384.
-    #[error("a distance that is too large at {at}")]
-    DistanceTooLarge { at: usize },
+    #[error("distance too large at {at}")]
+    DistanceTooLarge {
+        /// Where the operator starts.
+        at: usize,
+    },
     /// The tree would have 32768 nodes or more.
     #[error("too many nodes")]
     TooManyNodes,
     /// The lexeme that starts at this offset has more than 2046 bytes.
-    #[error("a lexeme that is too long at {at}")]
-    LexemeTooLong { at: usize },
+    #[error("lexeme too long at {at}")]
+    LexemeTooLong {
+        /// Where the lexeme starts.
+        at: usize,
+    },
+    /// Memory ran out.
     #[error("out of memory")]
     OutOfMemory,
 }
@@ -26,6 +37,7 @@ pub enum QueryError {
 impl From<AllocError> for QueryError {
     ghost from_gives = { λ _ e. e ≡ OutOfMemory };
 
+    /// Memory ran out.
     fn from(_error: AllocError) -> QueryError {
         QueryError::OutOfMemory
     }

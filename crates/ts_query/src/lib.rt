@@ -1,37 +1,27 @@
 //! Queries: their values, their texts, and what joins them.
 #![tactic(auto)]
 
-ghost use Rattle.ts_query.specs.Laws.{OneValue, PrintsBack, DistanceIsDecimal};
-ghost use Rattle.ts_query.specs.Refusals.{OneAnswer};
-
 mod error;
+mod laws;
 mod parser;
 mod print;
 mod query;
 mod reader;
 
 pub use error::QueryError;
+pub use laws::{
+    distance_is_decimal, fault_has_one_place, fault_is_outside, one_answer, one_value, prints_back,
+};
 pub use query::{Node, Operand, TsQuery};
 
-/// A text has at most one value.
-pub fn one_value()
-    ensures { OneValue }
-{}
+/// The greatest distance of a phrase operator.
+pub const GREATEST_DISTANCE: u16 = 16384;
 
-/// Want of memory aside, a text has at most one answer, so each refusal comes exactly where it has its cause.
-pub fn one_answer()
-    ensures { OneAnswer }
-{}
+/// What stands for each distance above the greatest.
+const PAST_DISTANCE: u16 = 16385;
 
-/// The printed text of a query is in the grammar, with that query as its value.
-pub fn prints_back()
-    ensures { PrintsBack }
-{}
-
-/// A distance is `->`, or the number that decimal digits write; from 16385 on all numbers count as one, which is too large.
-pub fn distance_is_decimal()
-    ensures { DistanceIsDecimal }
-{}
+/// A query has fewer nodes than this.
+pub const NODE_LIMIT: usize = 32768;
 
 #[cfg(test)]
 mod tests;

@@ -3,8 +3,8 @@ ghost use Rattle.std.specs.Prelude.{◌≡◌, ◌≢◌, ◌<◌, ◌+◌, ◌�
 ghost use Rattle.ts_query.specs.Queries.{Tree};
 ghost use Rattle.ts_query.specs.Tokens.{word, bang, opening, closing, sign};
 ghost use Rattle.ts_query.specs.Grammar.{level};
-ghost use Rattle.ts_query.specs.Frames.{Frame, Spot, IsDue, IsHeld};
-ghost use Rattle.ts_query.specs.Parsing.{link_joint, word_operand, entry_item, Shows, ShowsHeld, Took, TookOrNever, AppliedOne, AppliedAll, Finished};
+ghost use Rattle.ts_query.specs.Inner.Frames.{Frame, Spot, IsDue, IsHeld};
+ghost use Rattle.ts_query.specs.Inner.Parsing.{link_joint, word_operand, entry_item, Shows, ShowsHeld, Took, TookOrNever, AppliedOne, AppliedAll, QueryEnd};
 ghost use Rattle.ts_query.specs.declared.parser.Op.{Op};
 
 use std::alloc::AllocError;
@@ -13,34 +13,48 @@ use ts_base::Weights;
 /// A binary operator.
 #[derive(Clone, Copy)]
 pub enum Link {
+    /// `|`.
     Or,
+    /// `&`.
     And,
+    /// A phrase with this distance.
     Phrase(u16),
 }
 
 /// An operator that waits for its right operand, or an open bracket.
 #[derive(Clone, Copy)]
 pub enum Op {
+    /// An open bracket.
     Open,
+    /// `!`.
     Not,
+    /// A binary operator whose left operand is out.
     Pending(Link),
 }
 
 /// An operand as the text has it; its lexeme may be too long.
 #[derive(Drop)]
 pub struct Word {
+    /// The lexeme.
     pub lexeme: String,
+    /// The weights that it is marked with.
     pub weights: Weights,
+    /// Whether it is marked as a prefix.
     pub prefix: bool,
 }
 
+/// An item of the postfix list.
 #[derive(Drop)]
 pub enum Entry {
+    /// An operand.
     Operand(Word),
+    /// `!`, behind its operand.
     Not,
+    /// A binary operator, behind its operands.
     Joined(Link),
 }
 
+/// Where the parser stands.
 #[derive(Clone, Copy)]
 pub enum Place {
     /// Nothing was read.
@@ -51,13 +65,18 @@ pub enum Place {
     Held,
 }
 
+/// A parser of tokens.
 #[derive(Drop)]
 pub struct Parser {
+    /// Where it stands.
     pub place: Place,
+    /// The open operators and brackets, the innermost last.
     pub ops: Vec<Op>,
+    /// The postfix list so far.
     pub out: Vec<Entry>,
 }
 
+/// The level of an operator: the tighter it binds, the higher.
 pub fn level_of(link: Link) -> u8
     ensures value { result ≡ level (link_joint link) }
     ensures below { result < 3 }
@@ -82,7 +101,8 @@ impl Parser {
 
     /// The innermost open operator.
     fn top(&self) -> Option<Op>
-        ensures { MatchOption result (self.now.ops.items ≡ []) (λ op. (front : List Op) × (self.now.ops.items ≡ front ++ op ∷ [])) }
+        ensures { MatchOption result (self.now.ops.items ≡ [])
+            (λ op. (front : List Op) × (self.now.ops.items ≡ front ++ op ∷ [])) }
     {
         self.ops.last().copied()
     }
@@ -91,7 +111,9 @@ impl Parser {
     fn apply(&mut self, entry: Entry) -> Result<(), AllocError>
         requires { 0 < vec_len self.old.ops }
         ensures place { OnOk result (self.new.place ≡ self.old.place) }
-        ensures ops { OnOk result ((op : Op) (front : List Op) → self.old.ops.items ≡ front ++ op ∷ [] → self.new.ops.items ≡ front) }
+        ensures ops { OnOk result
+            ((op : Op) (front : List Op) → self.old.ops.items ≡ front ++ op ∷ []
+            → self.new.ops.items ≡ front) }
         ensures len { OnOk result (vec_len self.new.ops + 1 ≡ vec_len self.old.ops) }
         ensures out { OnOk result (self.new.out.items ≡ self.old.out.items ++ entry ∷ []) }
     {
@@ -104,7 +126,8 @@ impl Parser {
     fn drop_top(&mut self)
         requires { 0 < vec_len self.old.ops }
         ensures place { self.new.place ≡ self.old.place }
-        ensures ops { (op : Op) (front : List Op) → self.old.ops.items ≡ front ++ op ∷ [] → self.new.ops.items ≡ front }
+        ensures ops { (op : Op) (front : List Op) → self.old.ops.items ≡ front ++ op ∷ []
+            → self.new.ops.items ≡ front }
         ensures out { self.new.out.items ≡ self.old.out.items }
     {
         self.ops.truncate(self.ops.len() - 1);
@@ -113,8 +136,11 @@ impl Parser {
     /// Applies the innermost operator, if its level is `least` or tighter.
     fn apply_one(&mut self, least: u8) -> Result<bool, AllocError>
         requires { least < 3 }
-        ensures applied { IfOk result (λ ok. (j : ℕ) (fs : List Frame) (y : Tree) → ShowsHeld self.old j fs y → AppliedOne ok least j fs y self.new) }
-        ensures falls { IfOk result (λ ok. IsTrue ok → vec_len self.new.ops < vec_len self.old.ops) }
+        ensures applied { IfOk result
+            (λ ok. (j : ℕ) (fs : List Frame) (y : Tree) → ShowsHeld self.old j fs y
+            → AppliedOne ok least j fs y self.new) }
+        ensures falls { IfOk result
+            (λ ok. IsTrue ok → vec_len self.new.ops < vec_len self.old.ops) }
     {
         match self.top() {
             None | Some(Op::Open) => Ok(false),
@@ -135,20 +161,26 @@ impl Parser {
     /// Applies the operators of the level `least` and tighter, up to a bracket or a looser one.
     fn apply_all(&mut self, least: u8) -> Result<(), AllocError>
         requires { least < 3 }
-        ensures { OnOk result ((j : ℕ) (fs : List Frame) (y : Tree) → ShowsHeld self.old j fs y → AppliedAll least j fs y self.new) }
+        ensures { OnOk result
+            ((j : ℕ) (fs : List Frame) (y : Tree) → ShowsHeld self.old j fs y
+            → AppliedAll least j fs y self.new) }
     {
         while self.apply_one(least)? {}
         Ok(())
     }
 
+    /// An operand.
     pub fn operand(&mut self, operand: Word) -> Result<(), AllocError>
-        ensures { OnOk result ((at : ℕ) (s : Spot) → IsDue s → Shows self.old s → Took s (word at (word_operand operand)) self.new) }
+        ensures { OnOk result
+            ((at : ℕ) (s : Spot) → IsDue s → Shows self.old s
+            → Took s (word at (word_operand operand)) self.new) }
     {
         self.out.push(Entry::Operand(operand))?;
         self.place = Place::Held;
         Ok(())
     }
 
+    /// `!`.
     pub fn negation(&mut self) -> Result<(), AllocError>
         ensures { OnOk result ((s : Spot) → IsDue s → Shows self.old s → Took s bang self.new) }
     {
@@ -157,6 +189,7 @@ impl Parser {
         Ok(())
     }
 
+    /// An opening bracket.
     pub fn open(&mut self) -> Result<(), AllocError>
         ensures { OnOk result ((s : Spot) → IsDue s → Shows self.old s → Took s opening self.new) }
     {
@@ -167,7 +200,9 @@ impl Parser {
 
     /// A binary operator behind an operand.
     pub fn link(&mut self, link: Link) -> Result<(), AllocError>
-        ensures { OnOk result ((at : ℕ) (s : Spot) → IsHeld s → Shows self.old s → Took s (sign at (link_joint link)) self.new) }
+        ensures { OnOk result
+            ((at : ℕ) (s : Spot) → IsHeld s → Shows self.old s
+            → Took s (sign at (link_joint link)) self.new) }
     {
         self.apply_all(level_of(link))?;
         self.ops.push(Op::Pending(link))?;
@@ -177,7 +212,8 @@ impl Parser {
 
     /// A closing bracket behind an operand; `false` where no bracket is open.
     pub fn close(&mut self) -> Result<bool, AllocError>
-        ensures { IfOk result (λ ok. (s : Spot) → IsHeld s → Shows self.old s → TookOrNever s closing ok self.new) }
+        ensures { IfOk result
+            (λ ok. (s : Spot) → IsHeld s → Shows self.old s → TookOrNever s closing ok self.new) }
     {
         self.apply_all(0)?;
         match self.top() {
@@ -191,7 +227,9 @@ impl Parser {
 
     /// The query's postfix list, if the tokens may end here.
     pub fn finish(mut self) -> Result<Option<Vec<Entry>>, AllocError>
-        ensures { IfOk result (λ r. (s : Spot) → Shows self s → Finished s (option_map (λ v. map entry_item v.items) r)) }
+        ensures { IfOk result
+            (λ r. (s : Spot) → Shows self s
+            → QueryEnd s (option_map (λ v. map entry_item v.items) r)) }
     {
         match self.place {
             Place::Start => Ok(Some(self.out)),

@@ -1,13 +1,12 @@
 // The printed form of a query. Its parts are found from the last to the first, since an operator stands behind its operands.
-ghost use Rattle.std.specs.Prelude.{◌≡◌, ◌<◌, ◌≤◌, ◌+◌, ◌↔◌, List, [], ◌∷◌, ◌++◌, IfOk, OnOk, IsTrue, length, reverse, encode_utf8, Some};
-ghost use Rattle.std.specs.List.{flat_map};
+ghost use Rattle.std.specs.Prelude.{◌≡◌, ◌<◌, ◌≤◌, ◌+◌, ◌↔◌, List, [], ◌∷◌, ◌++◌, IfOk, OnOk, IsTrue, length, reverse, Some};
 ghost use Rattle.std.specs.String.{string_bytes};
 ghost use Rattle.ts_query.specs.Queries.{Tree, operands_in};
 ghost use Rattle.ts_query.specs.Grammar.{level};
-ghost use Rattle.ts_query.specs.Printing.{doubled_byte, quoted_text, only_if, marks_of, marks_text, operand_text, joint_text, printed_at};
+ghost use Rattle.ts_query.specs.Printing.{only_if, marks_of, marks_text, operand_text, joint_text, printed_at};
 ghost use Rattle.ts_query.specs.Postfix.{nodes_for};
-ghost use Rattle.ts_query.specs.Parsing.{link_joint};
-ghost use Rattle.ts_query.specs.Pieces.{around, expansion, pieces_at, text_of};
+ghost use Rattle.ts_query.specs.Inner.Parsing.{link_joint};
+ghost use Rattle.ts_query.specs.Inner.Pieces.{around, link_tasks, expansion, pieces_at, text_of};
 ghost use Rattle.ts_query.specs.declared.print.Task.{Task};
 ghost use Rattle.ts_query.specs.declared.print.Task.TheVariants.{Part};
 ghost use Rattle.ts_query.specs.declared.print.Piece.TheVariants.{Open, Close};
@@ -15,21 +14,29 @@ ghost use Rattle.ts_query.specs.declared.print.Piece.TheVariants.{Open, Close};
 use crate::parser::{Link, level_of};
 use crate::query::{Node, Operand};
 use std::alloc::{AllocError, Global};
+use ts_base::push_quoted;
 
 /// A part of the printed form. The operands come in their order.
 #[derive(Clone, Copy)]
 pub enum Piece {
+    /// The next operand.
     Word,
+    /// `!`.
     Bang,
+    /// A binary operator.
     Joint(Link),
+    /// An opening bracket.
     Open,
+    /// A closing bracket.
     Close,
 }
 
 /// What is left to print: a tree where one of this level is wanted, or a part.
 #[derive(Clone, Copy)]
 pub enum Task {
+    /// A tree where one of this level is wanted.
     Subtree(u8),
+    /// A part.
     Part(Piece),
 }
 
@@ -47,8 +54,9 @@ fn add_around(tasks: &mut Vec<Task>, own: u8, wanted: u8, inner: &[Task]) -> Res
     Ok(())
 }
 
+/// Adds the parts of two trees with an operator between them.
 fn add_link(tasks: &mut Vec<Task>, link: Link, wanted: u8) -> Result<(), AllocError>
-    ensures { OnOk result (tasks.new.items ≡ tasks.old.items ++ around (level (link_joint link)) wanted (Task.Subtree (level (link_joint link)) ∷ Task.Part (Piece.Joint link) ∷ Task.Subtree (level (link_joint link) + 1) ∷ [])) }
+    ensures { OnOk result (tasks.new.items ≡ tasks.old.items ++ link_tasks link wanted) }
 {
     let own = level_of(link);
     add_around(
@@ -87,7 +95,8 @@ fn expand(tasks: &mut Vec<Task>, node: Node, wanted: u8) -> Result<(), AllocErro
 /// The parts of the tree with these nodes, from the last to the first.
 fn parts_back(alloc: Global, nodes: &[Node]) -> Result<Vec<Piece>, AllocError>
     requires { (t : Tree) × (nodes.now ≡ nodes_for (Some t)) }
-    ensures { IfOk result (λ v. (t : Tree) → nodes.now ≡ nodes_for (Some t) → reverse v.items ≡ pieces_at t 0) }
+    ensures { IfOk result
+        (λ v. (t : Tree) → nodes.now ≡ nodes_for (Some t) → reverse v.items ≡ pieces_at t 0) }
 {
     let mut pieces = Vec::new(alloc);
     let mut tasks = Vec::new(alloc);
@@ -105,31 +114,7 @@ fn parts_back(alloc: Global, nodes: &[Node]) -> Result<Vec<Piece>, AllocError>
     Ok(pieces)
 }
 
-/// The lexeme in quotes, with quotes and backslashes doubled.
-fn write_quoted(out: &mut String, text: &str) -> Result<(), AllocError>
-    ensures { OnOk result (string_bytes out.new ≡ string_bytes out.old ++ quoted_text text.now) }
-{
-    out.push('\'')?;
-    for c in text.chars() {
-        write_doubled(out, c)?;
-    }
-    out.push('\'')?;
-    Ok(())
-}
-
-/// The character, twice if it is a quote or a backslash.
-fn write_doubled(out: &mut String, c: char) -> Result<(), AllocError>
-    ensures { OnOk result (string_bytes out.new ≡ string_bytes out.old ++ flat_map doubled_byte (encode_utf8 c)) }
-{
-    if c == '\'' || c == '\\' {
-        out.push(c)?;
-        out.push(c)?;
-        return Ok(());
-    }
-    out.push(c)?;
-    Ok(())
-}
-
+/// Appends the character, if it is to stand.
 fn write_if(out: &mut String, is: bool, c: char) -> Result<(), AllocError>
     requires { c < 128 }
     ensures { OnOk result (string_bytes out.new ≡ string_bytes out.old ++ only_if is c) }
@@ -143,7 +128,8 @@ fn write_if(out: &mut String, is: bool, c: char) -> Result<(), AllocError>
 
 /// The mark for a prefix and the weights, behind `:`.
 fn write_marks(out: &mut String, operand: &Operand) -> Result<(), AllocError>
-    ensures { OnOk result (string_bytes out.new ≡ string_bytes out.old ++ marks_text (marks_of operand.now)) }
+    ensures { OnOk result
+        (string_bytes out.new ≡ string_bytes out.old ++ marks_text (marks_of operand.now)) }
 {
     let weights = operand.weights;
     if !(operand.prefix || weights.a || weights.b || weights.c || weights.d) {
@@ -158,16 +144,20 @@ fn write_marks(out: &mut String, operand: &Operand) -> Result<(), AllocError>
     Ok(())
 }
 
+/// Appends an operand: its lexeme in quotes, then its marks.
 fn write_operand(out: &mut String, operand: &Operand) -> Result<(), AllocError>
-    ensures { OnOk result (string_bytes out.new ≡ string_bytes out.old ++ operand_text operand.now) }
+    ensures { OnOk result
+        (string_bytes out.new ≡ string_bytes out.old ++ operand_text operand.now) }
 {
-    write_quoted(out, operand.lexeme.as_str())?;
+    push_quoted(out, operand.lexeme.as_str())?;
     write_marks(out, operand)?;
     Ok(())
 }
 
+/// Appends a binary operator between spaces.
 fn write_link(out: &mut String, link: Link) -> Result<(), AllocError>
-    ensures { OnOk result (string_bytes out.new ≡ string_bytes out.old ++ joint_text (link_joint link)) }
+    ensures { OnOk result
+        (string_bytes out.new ≡ string_bytes out.old ++ joint_text (link_joint link)) }
 {
     match link {
         Link::Or => out.push_str(" | "),
@@ -177,6 +167,7 @@ fn write_link(out: &mut String, link: Link) -> Result<(), AllocError>
     }
 }
 
+/// The text of parts, with the operands in their order.
 fn write_parts(alloc: Global, parts: &[Piece], operands: &[Operand]) -> Result<String, AllocError>
     ensures { IfOk result (λ s. string_bytes s ≡ text_of parts.now operands.now) }
 {
@@ -202,7 +193,9 @@ fn write_parts(alloc: Global, parts: &[Piece], operands: &[Operand]) -> Result<S
 /// The printed form of the query with these nodes and operands, which isn't empty.
 pub fn print(alloc: Global, nodes: &[Node], operands: &[Operand]) -> Result<String, AllocError>
     requires { (t : Tree) × (nodes.now ≡ nodes_for (Some t)) × (operands.now ≡ operands_in t) }
-    ensures { IfOk result (λ s. (t : Tree) → nodes.now ≡ nodes_for (Some t) → operands.now ≡ operands_in t → string_bytes s ≡ printed_at t 0) }
+    ensures { IfOk result
+        (λ s. (t : Tree) → nodes.now ≡ nodes_for (Some t) → operands.now ≡ operands_in t
+        → string_bytes s ≡ printed_at t 0) }
 {
     let mut parts = parts_back(alloc, nodes)?;
     parts.reverse();

@@ -1,10 +1,10 @@
 // A query in memory.
 ghost use Rattle.std.specs.Prelude.{◌≡◌, ◌<◌, ◌≤◌, List, [], ◌∷◌, ◌++◌, map, OnOk, IfOk, IfErr, length};
 ghost use Rattle.std.specs.String.{string_bytes};
-ghost use Rattle.ts_query.specs.Queries.{Query, or_joint, and_joint, phrase_joint, leaf, IsNear, HasLength, IsSound, operands_of};
+ghost use Rattle.ts_query.specs.Queries.{Query, or_joint, and_joint, phrase_joint, leaf, IsNear, HasLexemeLength, IsSound, operands_of};
 ghost use Rattle.ts_query.specs.Tokens.{operand};
 ghost use Rattle.ts_query.specs.Postfix.{Item, operand_item, not_item, joint_item, joint_node, postfix_of, nodes_for};
-ghost use Rattle.ts_query.specs.Parsing.{link_joint, word_operand, entry_item};
+ghost use Rattle.ts_query.specs.Inner.Parsing.{link_joint, word_operand, entry_item};
 ghost use Rattle.ts_query.specs.Printing.{printed};
 ghost use Rattle.ts_query.specs.Refusals.{IsReadAs, IsRefused};
 
@@ -12,6 +12,7 @@ use crate::error::QueryError;
 use crate::parser::{Entry, Link, Word};
 use crate::print::print;
 use crate::reader::read;
+use crate::{GREATEST_DISTANCE, NODE_LIMIT};
 use std::alloc::{AllocError, Global};
 use std::marker::Model;
 use ts_base::{Lexeme, LexemeError, Weights};
@@ -19,8 +20,11 @@ use ts_base::{Lexeme, LexemeError, Weights};
 /// A lexeme that a vector is asked for. With weights, one of its positions has one of them; `prefix` asks for a lexeme that begins so.
 #[derive(Clone, Debug, Drop)]
 pub struct Operand {
+    /// The lexeme.
     pub lexeme: Lexeme,
+    /// The weights; none stand for any.
     pub weights: Weights,
+    /// Whether it asks for a lexeme that begins so.
     pub prefix: bool,
 }
 
@@ -29,8 +33,11 @@ pub struct Operand {
 pub enum Node {
     /// The operand with this number, from 0 on in the order of the text.
     Leaf(u16),
+    /// What holds where the operand doesn't.
     Not,
+    /// What holds where both operands hold.
     And,
+    /// What holds where one of both operands holds.
     Or,
     /// A phrase with this distance.
     Phrase(u16),
@@ -39,7 +46,9 @@ pub enum Node {
 /// A query: a tree of operands, or the empty query.
 #[derive(Debug, Drop)]
 pub struct TsQuery {
+    /// The tree's nodes in postfix order.
     nodes: Vec<Node>,
+    /// The operands in the order of the text.
     operands: Vec<Operand>,
 }
 
@@ -54,9 +63,11 @@ impl Model for TsQuery {
 
     ghost view = { λ q. query_of q.operands.items q.nodes.items };
 
-    ghost invariant = { λ q. IsStored (query_of q.operands.items q.nodes.items) q.operands.items q.nodes.items };
+    ghost invariant = { λ q. IsStored (query_of q.operands.items q.nodes.items) q.operands.items
+        q.nodes.items };
 }
 
+/// The node of an operator.
 fn node_of(link: Link) -> Node
     ensures { result ≡ joint_node (link_joint link) }
 {
@@ -70,13 +81,16 @@ fn node_of(link: Link) -> Node
 /// The two lists of a query that is being made.
 #[derive(Drop)]
 pub struct Builder {
+    /// The nodes so far.
     pub nodes: Vec<Node>,
+    /// The operands so far.
     pub operands: Vec<Operand>,
 }
 
 impl Builder {
-    ghost use Rattle.ts_query.specs.Building.{operands_from, IsBuilt};
+    ghost use Rattle.ts_query.specs.Inner.Built.{operands_from, IsBuilt};
 
+    /// Two empty lists.
     fn new(alloc: Global) -> Builder
         ensures { IsBuilt result [] }
     {
@@ -86,9 +100,12 @@ impl Builder {
         }
     }
 
+    /// Adds an operand.
     fn leaf(&mut self, operand: Operand) -> Result<(), AllocError>
         requires { length self.old.operands.items < 65536 }
-        ensures { OnOk result ((is : List Item) → IsBuilt self.old is → IsBuilt self.new (is ++ operand_item operand ∷ [])) }
+        ensures { OnOk result
+            ((is : List Item) → IsBuilt self.old is
+            → IsBuilt self.new (is ++ operand_item operand ∷ [])) }
     {
         let number = self.operands.as_slice().len() as u16;
         self.nodes.push(Node::Leaf(number))?;
@@ -96,15 +113,20 @@ impl Builder {
         Ok(())
     }
 
+    /// Adds `!`, behind its operand.
     fn not(&mut self) -> Result<(), AllocError>
-        ensures { OnOk result ((is : List Item) → IsBuilt self.old is → IsBuilt self.new (is ++ not_item ∷ [])) }
+        ensures { OnOk result
+            ((is : List Item) → IsBuilt self.old is → IsBuilt self.new (is ++ not_item ∷ [])) }
     {
         self.nodes.push(Node::Not)?;
         Ok(())
     }
 
+    /// Adds a binary operator, behind its operands.
     fn link(&mut self, link: Link) -> Result<(), AllocError>
-        ensures { OnOk result ((is : List Item) → IsBuilt self.old is → IsBuilt self.new (is ++ joint_item (link_joint link) ∷ [])) }
+        ensures { OnOk result
+            ((is : List Item) → IsBuilt self.old is
+            → IsBuilt self.new (is ++ joint_item (link_joint link) ∷ [])) }
     {
         self.nodes.push(node_of(link))?;
         Ok(())
@@ -112,8 +134,11 @@ impl Builder {
 
     /// Adds all nodes of a query.
     fn copy(&mut self, query: &TsQuery) -> Result<(), AllocError>
-        requires { (is : List Item) × IsBuilt self.old is × (length (operands_from is) < 32768) }
-        ensures items { OnOk result ((is : List Item) → IsBuilt self.old is → IsBuilt self.new (is ++ postfix_of query.now)) }
+        requires { (is : List Item) × IsBuilt self.old is
+            × (length (operands_from is) < NODE_LIMIT) }
+        ensures items { OnOk result
+            ((is : List Item) → IsBuilt self.old is
+            → IsBuilt self.new (is ++ postfix_of query.now)) }
         ensures sound { IsSound query.now }
     {
         let mut next = 0;
@@ -132,6 +157,7 @@ impl Builder {
         Ok(())
     }
 
+    /// The query of the lists.
     fn finish(self) -> TsQuery
         requires { (q : Query) × IsBuilt self (postfix_of q) × IsSound q }
         ensures value { (q : Query) → IsBuilt self (postfix_of q) → result ≡ q }
@@ -144,8 +170,9 @@ impl Builder {
     }
 }
 
+/// The operand that a text has, whose lexeme is short enough.
 fn operand_of(alloc: Global, word: &Word) -> Result<Operand, AllocError>
-    requires { HasLength (word_operand word.now) }
+    requires { HasLexemeLength (word_operand word.now) }
     ensures { IfOk result (λ o. o ≡ word_operand word.now) }
 {
     match Lexeme::new(alloc, word.lexeme.as_str()) {
@@ -159,11 +186,8 @@ fn operand_of(alloc: Global, word: &Word) -> Result<Operand, AllocError>
     }
 }
 
-/// A query has fewer nodes than this.
-const MOST_NODES: usize = 32768;
-
 impl TsQuery {
-    ghost use Rattle.ts_query.specs.Building.{joined_queries, negated_query, IsOnlyTooLarge};
+    ghost use Rattle.ts_query.specs.Joining.{joined_queries, negated_query, IsOnlyTooLarge};
 
     /// The empty query, which holds of nothing.
     pub fn empty(alloc: Global) -> TsQuery
@@ -208,7 +232,7 @@ impl TsQuery {
         if let Some(at) = outcome.long {
             return Err(QueryError::LexemeTooLong { at });
         }
-        if outcome.entries.as_slice().len() >= MOST_NODES {
+        if outcome.entries.as_slice().len() >= NODE_LIMIT {
             return Err(QueryError::TooManyNodes);
         }
         let query = TsQuery::from_entries(alloc, outcome.entries.as_slice())?;
@@ -218,7 +242,8 @@ impl TsQuery {
     /// The query with this postfix list.
     fn from_entries(alloc: Global, entries: &[Entry]) -> Result<TsQuery, AllocError>
         requires { (q : Query) × (map entry_item entries.now ≡ postfix_of q) × IsSound q }
-        ensures value { IfOk result (λ r. (q : Query) → map entry_item entries.now ≡ postfix_of q → r ≡ q) }
+        ensures value { IfOk result
+            (λ r. (q : Query) → map entry_item entries.now ≡ postfix_of q → r ≡ q) }
         ensures sound { IfOk result IsSound }
     {
         let mut builder = Builder::new(alloc);
@@ -260,7 +285,8 @@ impl TsQuery {
     pub fn and(&self, alloc: Global, other: &TsQuery) -> Result<TsQuery, QueryError>
         ensures value { IfOk result (λ q. q ≡ joined_queries and_joint self.now other.now) }
         ensures sound { IfOk result IsSound }
-        ensures refused { IfErr result (IsOnlyTooLarge (joined_queries and_joint self.now other.now)) }
+        ensures refused { IfErr result
+            (IsOnlyTooLarge (joined_queries and_joint self.now other.now)) }
     {
         self.joined(alloc, Link::And, other)
     }
@@ -269,7 +295,8 @@ impl TsQuery {
     pub fn or(&self, alloc: Global, other: &TsQuery) -> Result<TsQuery, QueryError>
         ensures value { IfOk result (λ q. q ≡ joined_queries or_joint self.now other.now) }
         ensures sound { IfOk result IsSound }
-        ensures refused { IfErr result (IsOnlyTooLarge (joined_queries or_joint self.now other.now)) }
+        ensures refused { IfErr result
+            (IsOnlyTooLarge (joined_queries or_joint self.now other.now)) }
     {
         self.joined(alloc, Link::Or, other)
     }
@@ -281,10 +308,12 @@ impl TsQuery {
         other: &TsQuery,
         distance: u16,
     ) -> Result<TsQuery, QueryError>
-        requires { distance ≤ 16384 }
-        ensures value { IfOk result (λ q. q ≡ joined_queries (phrase_joint distance) self.now other.now) }
+        requires { distance ≤ GREATEST_DISTANCE }
+        ensures value { IfOk result
+            (λ q. q ≡ joined_queries (phrase_joint distance) self.now other.now) }
         ensures sound { IfOk result IsSound }
-        ensures refused { IfErr result (IsOnlyTooLarge (joined_queries (phrase_joint distance) self.now other.now)) }
+        ensures refused { IfErr result
+            (IsOnlyTooLarge (joined_queries (phrase_joint distance) self.now other.now)) }
     {
         self.joined(alloc, Link::Phrase(distance), other)
     }
@@ -298,7 +327,7 @@ impl TsQuery {
         if self.nodes().is_empty() {
             return Ok(TsQuery::empty(alloc));
         }
-        if self.nodes().len() + 1 >= MOST_NODES {
+        if self.nodes().len() + 1 >= NODE_LIMIT {
             return Err(QueryError::TooManyNodes);
         }
         let mut builder = Builder::new(alloc);
@@ -318,11 +347,13 @@ impl TsQuery {
         Ok(text)
     }
 
+    /// Both queries with an operator between them; beside an empty query the other.
     fn joined(&self, alloc: Global, link: Link, other: &TsQuery) -> Result<TsQuery, QueryError>
         requires { IsNear (link_joint link) }
         ensures value { IfOk result (λ q. q ≡ joined_queries (link_joint link) self.now other.now) }
         ensures sound { IfOk result IsSound }
-        ensures refused { IfErr result (IsOnlyTooLarge (joined_queries (link_joint link) self.now other.now)) }
+        ensures refused { IfErr result
+            (IsOnlyTooLarge (joined_queries (link_joint link) self.now other.now)) }
     {
         if self.nodes().is_empty() {
             let query = other.copied(alloc)?;
@@ -332,7 +363,7 @@ impl TsQuery {
             let query = self.copied(alloc)?;
             return Ok(query);
         }
-        if self.nodes().len() + other.nodes().len() + 1 >= MOST_NODES {
+        if self.nodes().len() + other.nodes().len() + 1 >= NODE_LIMIT {
             return Err(QueryError::TooManyNodes);
         }
         let mut builder = Builder::new(alloc);
@@ -342,6 +373,7 @@ impl TsQuery {
         Ok(builder.finish())
     }
 
+    /// The same query.
     fn copied(&self, alloc: Global) -> Result<TsQuery, QueryError>
         ensures value { IfOk result (λ q. q ≡ self.now) }
         ensures sound { IfOk result IsSound }

@@ -1,33 +1,37 @@
 // From the characters of a query's text to tokens, each given to the parser as soon as it ends.
-ghost use Rattle.std.specs.Prelude.{◌≡◌, ◌≢◌, ◌⊎◌, ◌↔◌, ◌≤◌, ℕ, List, [], ◌∷◌, ◌++◌, IfOk, IfErr, OnOk, MatchOption, IsTrue, true, false, if◌then◌else◌, Some, None, encode_utf8};
+ghost use Rattle.std.specs.Prelude.{◌≡◌, ◌≢◌, ◌⊎◌, ◌↔◌, ◌≤◌, ℕ, List, [], ◌∷◌, ◌++◌, IfOk, IfErr, OnOk, IsTrue, true, false, if◌then◌else◌, Some, None, encode_utf8};
 ghost use Rattle.std.specs.String.{string_bytes};
-ghost use Rattle.ts_base.specs.Fault.{FaultAt};
-ghost use Rattle.ts_base.specs.Leads.{Stands};
-ghost use Rattle.ts_base.specs.declared.Weight.{Weight};
+ghost use Rattle.ts_base.specs.Fault.{FaultAt, Stands};
 ghost use Rattle.ts_query.specs.Queries.{phrase_joint};
-ghost use Rattle.ts_query.specs.Tokens.{Token, word, sign, operand, no_weights, with_weight, with_digit, IsWhite, IsDelimiter, IsDigit, IsLetter};
-ghost use Rattle.ts_query.specs.Frames.{Spot, start, IsDue, IsHeld};
-ghost use Rattle.ts_query.specs.Parsing.{link_joint};
+ghost use Rattle.ts_query.specs.Tokens.{QueryToken, word, sign, operand, no_weights, with_weight, IsDelimiter};
+ghost use Rattle.ts_base.specs.Digits.{with_digit};
+ghost use Rattle.ts_base.specs.Bytes.{IsWhite, IsDigit};
+ghost use Rattle.ts_query.specs.Inner.Frames.{Spot, start, IsDue, IsHeld};
+ghost use Rattle.ts_query.specs.Inner.Parsing.{link_joint};
 ghost use Rattle.ts_query.specs.Limits.{is_far, or_else};
-ghost use Rattle.ts_query.specs.Lexer.{between};
-ghost use Rattle.ts_query.specs.Reader.{Reading, IsReading, Stand, Holds, Keeps, Tracks, Gave, Stepped, Finished, IsOutcome};
+ghost use Rattle.ts_query.specs.Inner.Lexer.{between};
+ghost use Rattle.ts_query.specs.Inner.Reader.{Reading, ReadsPair, Stand, IsReaderAt, KeepsParsed, Tracks, Gave, MovedOrStuck, EndsOrNot, IsOutcome};
 
 use crate::parser::{Entry, Link, Parser, Place, Word};
+use crate::{GREATEST_DISTANCE, PAST_DISTANCE};
 use std::alloc::{AllocError, Global};
 use std::mem;
-use ts_base::{LONGEST_LEXEME, Weight, Weights};
+use ts_base::{LONGEST_LEXEME, Weight, Weights, is_white, weight_of};
 
-/// The greatest distance of a phrase operator.
-pub const GREATEST_DISTANCE: u16 = 16384;
-
+/// Where a reader stands within a token.
 #[derive(Clone, Copy)]
 pub enum State {
+    /// Between tokens.
     Between,
+    /// In a quoted lexeme.
     InQuoted,
+    /// Behind `\` in a quoted lexeme.
     QuotedEscape,
     /// Behind a quote in a quoted lexeme.
     Quote,
+    /// In a plain lexeme.
     InPlain,
+    /// Behind `\` in a plain lexeme.
     PlainEscape,
     /// Behind the `:` of an operand.
     InMarks,
@@ -39,16 +43,22 @@ pub enum State {
     Digits,
 }
 
+/// A reader of characters.
 #[derive(Drop)]
 pub struct Reader {
+    /// Where it stands within a token.
     pub state: State,
     /// The offset where the token starts.
     pub start: usize,
+    /// The lexeme so far.
     pub word: String,
+    /// The weights so far.
     pub weights: Weights,
+    /// Whether the mark of a prefix was read.
     pub prefix: bool,
     /// The number so far, or 16385 where it is greater.
     pub distance: u16,
+    /// What the tokens so far lead to.
     pub parser: Parser,
     /// Where the first operator with a distance above 16384 starts.
     pub far: Option<usize>,
@@ -59,17 +69,15 @@ pub struct Reader {
 /// What was read of a text in the grammar.
 #[derive(Drop)]
 pub struct Outcome {
+    /// The query's postfix list.
     pub entries: Vec<Entry>,
+    /// Where the first operator with a distance above 16384 starts.
     pub far: Option<usize>,
+    /// Where the first operand with a lexeme that is too long starts.
     pub long: Option<usize>,
 }
 
-fn is_white(c: char) -> bool
-    ensures { IsTrue result ↔ IsWhite c }
-{
-    c == ' ' || ('\t' <= c && c <= '\r')
-}
-
+/// One of `! & ( ) | < :`.
 fn is_delimiter(c: char) -> bool
     ensures { IsTrue result ↔ IsDelimiter c }
 {
@@ -83,19 +91,7 @@ fn ends_plain(c: char) -> bool
     is_white(c) || is_delimiter(c)
 }
 
-/// The weight that a letter names.
-fn weight_of(c: char) -> Option<Weight>
-    ensures { MatchOption result ((w : Weight) → ¬ IsLetter c w) (IsLetter c) }
-{
-    match c {
-        'A' | 'a' => Some(Weight::A),
-        'B' | 'b' => Some(Weight::B),
-        'C' | 'c' => Some(Weight::C),
-        'D' | 'd' => Some(Weight::D),
-        _ => None,
-    }
-}
-
+/// The weights with one more.
 fn with(weights: Weights, weight: Weight) -> Weights
     ensures { result ≡ with_weight weight weights }
 {
@@ -122,12 +118,13 @@ fn none() -> Weights
 /// One digit more of a distance.
 fn longer(distance: u16, c: char) -> u16
     requires { IsDigit c }
-    ensures { result ≡ with_digit distance c }
+    ensures { result ≡ with_digit PAST_DISTANCE distance c }
 {
     let value = u32::from(distance) * 10 + (c as u32 - '0' as u32);
-    value.min(16385) as u16
+    value.min(u32::from(PAST_DISTANCE)) as u16
 }
 
+/// Whether the operator has a distance above the greatest.
 fn is_too_far(link: Link) -> bool
     ensures { result ≡ is_far (link_joint link) }
 {
@@ -148,8 +145,9 @@ fn first_at(found: Option<usize>, past: bool, at: usize) -> Option<usize>
 }
 
 impl Reader {
+    /// A reader before the first character.
     pub fn new(alloc: Global) -> Reader
-        ensures { Holds result (record { lexer = between; spot = start; tokens = [] }) }
+        ensures { IsReaderAt result (record { lexer = between; spot = start; tokens = [] }) }
     {
         Reader {
             state: State::Between,
@@ -173,7 +171,7 @@ impl Reader {
         ensures word { string_bytes self.new.word ≡ [] }
         ensures start { self.new.start ≡ at }
         ensures state { self.new.state ≡ state }
-        ensures keeps { Keeps self.old self.new }
+        ensures keeps { KeepsParsed self.old self.new }
     {
         self.word.clear();
         self.start = at;
@@ -182,10 +180,11 @@ impl Reader {
 
     /// One character more of the lexeme.
     fn put(&mut self, c: char, state: State) -> Result<(), AllocError>
-        ensures word { OnOk result (string_bytes self.new.word ≡ string_bytes self.old.word ++ encode_utf8 c) }
+        ensures word { OnOk result
+            (string_bytes self.new.word ≡ string_bytes self.old.word ++ encode_utf8 c) }
         ensures start { self.new.start ≡ self.old.start }
         ensures state { OnOk result (self.new.state ≡ state) }
-        ensures keeps { Keeps self.old self.new }
+        ensures keeps { KeepsParsed self.old self.new }
     {
         self.word.push(c)?;
         self.state = state;
@@ -194,7 +193,8 @@ impl Reader {
 
     /// Behind the `:` of an operand.
     fn begin_marks(&mut self)
-        ensures { self.new ≡ record self.old { state = State.InMarks; weights = no_weights; prefix = false } }
+        ensures { self.new
+            ≡ record self.old { state = State.InMarks; weights = no_weights; prefix = false } }
     {
         self.weights = none();
         self.prefix = false;
@@ -204,7 +204,10 @@ impl Reader {
     /// The operand is over.
     fn end_word(&mut self, alloc: Global, weights: Weights, prefix: bool) -> Result<(), AllocError>
         ensures state { OnOk result (self.new.state ≡ State.Between) }
-        ensures gave { OnOk result ((p : Spot) (ts : List Token) → IsDue p → Tracks self.old p ts → Gave p ts (word self.old.start (operand (string_bytes self.old.word) weights prefix)) self.new) }
+        ensures gave { OnOk result
+            ((p : Spot) (ts : List QueryToken) → IsDue p → Tracks self.old p ts
+            → Gave p ts (word self.old.start (operand (string_bytes self.old.word) weights prefix))
+            self.new) }
     {
         self.long = first_at(
             self.long,
@@ -224,7 +227,9 @@ impl Reader {
     /// A binary operator is over, which starts at `at`.
     fn end_link(&mut self, at: usize, link: Link) -> Result<(), AllocError>
         ensures state { OnOk result (self.new.state ≡ State.Between) }
-        ensures gave { OnOk result ((p : Spot) (ts : List Token) → IsHeld p → Tracks self.old p ts → Gave p ts (sign at (link_joint link)) self.new) }
+        ensures gave { OnOk result
+            ((p : Spot) (ts : List QueryToken) → IsHeld p → Tracks self.old p ts
+            → Gave p ts (sign at (link_joint link)) self.new) }
     {
         self.far = first_at(self.far, is_too_far(link), at);
         self.parser.link(link)?;
@@ -236,7 +241,9 @@ impl Reader {
     fn begin(&mut self, at: usize, c: char) -> Result<bool, AllocError>
         requires between { self.old.state ≡ State.Between }
         requires dark { ¬ IsWhite c }
-        ensures { IfOk result (λ ok. (s : Stand) → IsDue s.spot → Holds self.old s → Stepped at s (encode_utf8 c) ok self.new) }
+        ensures { IfOk result
+            (λ ok. (s : Stand) → IsDue s.spot → IsReaderAt self.old s
+            → MovedOrStuck at s (encode_utf8 c) ok self.new) }
     {
         match c {
             '\'' => {
@@ -268,7 +275,9 @@ impl Reader {
     fn operator(&mut self, at: usize, c: char) -> Result<bool, AllocError>
         requires between { self.old.state ≡ State.Between }
         requires dark { ¬ IsWhite c }
-        ensures { IfOk result (λ ok. (s : Stand) → IsHeld s.spot → Holds self.old s → Stepped at s (encode_utf8 c) ok self.new) }
+        ensures { IfOk result
+            (λ ok. (s : Stand) → IsHeld s.spot → IsReaderAt self.old s
+            → MovedOrStuck at s (encode_utf8 c) ok self.new) }
     {
         match c {
             '&' => {
@@ -292,9 +301,12 @@ impl Reader {
         }
     }
 
+    /// A character between tokens.
     fn between(&mut self, at: usize, c: char) -> Result<bool, AllocError>
         requires { self.old.state ≡ State.Between }
-        ensures { IfOk result (λ ok. (s : Stand) → Holds self.old s → Stepped at s (encode_utf8 c) ok self.new) }
+        ensures { IfOk result
+            (λ ok. (s : Stand) → IsReaderAt self.old s
+            → MovedOrStuck at s (encode_utf8 c) ok self.new) }
     {
         if is_white(c) {
             return Ok(true);
@@ -307,9 +319,12 @@ impl Reader {
         Ok(ok)
     }
 
+    /// A character in a quoted lexeme.
     fn in_quoted(&mut self, c: char) -> Result<bool, AllocError>
         requires { self.old.state ≡ State.InQuoted }
-        ensures { IfOk result (λ ok. (at : ℕ) (s : Stand) → Holds self.old s → Stepped at s (encode_utf8 c) ok self.new) }
+        ensures { IfOk result
+            (λ ok. (at : ℕ) (s : Stand) → IsReaderAt self.old s
+            → MovedOrStuck at s (encode_utf8 c) ok self.new) }
     {
         match c {
             '\'' => {
@@ -330,7 +345,9 @@ impl Reader {
     /// Behind a quote in a quoted lexeme: it ended there, or another quote follows.
     fn quote(&mut self, alloc: Global, at: usize, c: char) -> Result<bool, AllocError>
         requires { self.old.state ≡ State.Quote }
-        ensures { IfOk result (λ ok. (s : Stand) → Holds self.old s → Stepped at s (encode_utf8 c) ok self.new) }
+        ensures { IfOk result
+            (λ ok. (s : Stand) → IsReaderAt self.old s
+            → MovedOrStuck at s (encode_utf8 c) ok self.new) }
     {
         if c == '\'' {
             self.put(c, State::InQuoted)?;
@@ -348,9 +365,12 @@ impl Reader {
         Ok(ok)
     }
 
+    /// A character in a plain lexeme.
     fn in_plain(&mut self, alloc: Global, at: usize, c: char) -> Result<bool, AllocError>
         requires { self.old.state ≡ State.InPlain }
-        ensures { IfOk result (λ ok. (s : Stand) → Holds self.old s → Stepped at s (encode_utf8 c) ok self.new) }
+        ensures { IfOk result
+            (λ ok. (s : Stand) → IsReaderAt self.old s
+            → MovedOrStuck at s (encode_utf8 c) ok self.new) }
     {
         if c == '\\' {
             self.state = State::PlainEscape;
@@ -369,9 +389,12 @@ impl Reader {
         Ok(true)
     }
 
+    /// A character behind the `:` of an operand.
     fn in_marks(&mut self, alloc: Global, at: usize, c: char) -> Result<bool, AllocError>
         requires { self.old.state ≡ State.InMarks }
-        ensures { IfOk result (λ ok. (s : Stand) → Holds self.old s → Stepped at s (encode_utf8 c) ok self.new) }
+        ensures { IfOk result
+            (λ ok. (s : Stand) → IsReaderAt self.old s
+            → MovedOrStuck at s (encode_utf8 c) ok self.new) }
     {
         if c == '*' {
             self.prefix = true;
@@ -386,9 +409,12 @@ impl Reader {
         Ok(ok)
     }
 
+    /// A character behind `<`.
     fn less(&mut self, c: char) -> Result<bool, AllocError>
         requires { self.old.state ≡ State.Less }
-        ensures { IfOk result (λ ok. (at : ℕ) (s : Stand) → Holds self.old s → Stepped at s (encode_utf8 c) ok self.new) }
+        ensures { IfOk result
+            (λ ok. (at : ℕ) (s : Stand) → IsReaderAt self.old s
+            → MovedOrStuck at s (encode_utf8 c) ok self.new) }
     {
         if c == '-' {
             self.state = State::Dash;
@@ -402,9 +428,12 @@ impl Reader {
         Ok(false)
     }
 
+    /// A character behind `<-`.
     fn dash(&mut self, c: char) -> Result<bool, AllocError>
         requires { self.old.state ≡ State.Dash }
-        ensures { IfOk result (λ ok. (at : ℕ) (s : Stand) → Holds self.old s → Stepped at s (encode_utf8 c) ok self.new) }
+        ensures { IfOk result
+            (λ ok. (at : ℕ) (s : Stand) → IsReaderAt self.old s
+            → MovedOrStuck at s (encode_utf8 c) ok self.new) }
     {
         if c == '>' {
             self.end_link(self.start, Link::Phrase(1))?;
@@ -413,9 +442,12 @@ impl Reader {
         Ok(false)
     }
 
+    /// A character in the number of `<N>`.
     fn digits(&mut self, c: char) -> Result<bool, AllocError>
         requires { self.old.state ≡ State.Digits }
-        ensures { IfOk result (λ ok. (at : ℕ) (s : Stand) → Holds self.old s → Stepped at s (encode_utf8 c) ok self.new) }
+        ensures { IfOk result
+            (λ ok. (at : ℕ) (s : Stand) → IsReaderAt self.old s
+            → MovedOrStuck at s (encode_utf8 c) ok self.new) }
     {
         if '0' <= c && c <= '9' {
             self.distance = longer(self.distance, c);
@@ -430,7 +462,9 @@ impl Reader {
 
     /// The character at the offset `at`; `false` where it can't stand there.
     fn step(&mut self, alloc: Global, at: usize, c: char) -> Result<bool, AllocError>
-        ensures { IfOk result (λ ok. (s : Stand) → Holds self.old s → Stepped at s (encode_utf8 c) ok self.new) }
+        ensures { IfOk result
+            (λ ok. (s : Stand) → IsReaderAt self.old s
+            → MovedOrStuck at s (encode_utf8 c) ok self.new) }
     {
         match self.state {
             State::Between => self.between(at, c),
@@ -455,7 +489,7 @@ impl Reader {
     /// What was read, if the text may end between tokens.
     fn close_up(self) -> Result<Option<Outcome>, AllocError>
         requires { self.state ≡ State.Between }
-        ensures { IfOk result (λ r. (s : Stand) → Holds self s → Finished s r) }
+        ensures { IfOk result (λ r. (s : Stand) → IsReaderAt self s → EndsOrNot s r) }
     {
         match self.parser.finish()? {
             Some(entries) => Ok(Some(Outcome {
@@ -469,7 +503,7 @@ impl Reader {
 
     /// What was read, if the text may end here.
     fn finish(mut self, alloc: Global) -> Result<Option<Outcome>, AllocError>
-        ensures { IfOk result (λ r. (s : Stand) → Holds self s → Finished s r) }
+        ensures { IfOk result (λ r. (s : Stand) → IsReaderAt self s → EndsOrNot s r) }
     {
         match self.state {
             State::Between => self.close_up(),
@@ -506,7 +540,7 @@ impl Reader {
 /// What a query's text has, or the place of its first fault.
 pub fn read(alloc: Global, text: &str) -> Result<Result<Outcome, usize>, AllocError>
     ensures found { IfOk result (λ r. IfOk r (IsOutcome text.now)) }
-    ensures fault { IfOk result (λ r. IfErr r (FaultAt (Stands Reading IsReading) text.now)) }
+    ensures fault { IfOk result (λ r. IfErr r (FaultAt (Stands Reading ReadsPair) text.now)) }
 {
     let mut reader = Reader::new(alloc);
     for (at, c) in text.char_indices() {

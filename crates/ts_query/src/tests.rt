@@ -3,209 +3,147 @@ use std::alloc::{AllocError, Global};
 use std::test::Fail;
 use ts_base::{Lexeme, Weights};
 
-/// Why a text is refused.
-fn refusal(alloc: Global, text: &str) -> Option<QueryError> {
-    match TsQuery::parse(alloc, text) {
-        Ok(_) => None,
-        Err(error) => Some(error),
-    }
-}
+/// Texts and what they give, `text=outcome`, with `;` between two; `{x^n}` stands for n times x, and behind `#` stand
+/// steps that join operands.
+const ROWS: &str = concat!(
+    // What is printed.
+    "(fat | rat) & !cat:*A=( 'fat' | 'rat' ) & !'cat':*A;",
+    "a <16384> b='a' <16384> 'b';",
+    "a <-> 1.5 <1> b='a' <-> '1.5' <-> 'b';",
+    "cat <2> rat='cat' <2> 'rat';",
+    "fat <-> rat | cat & !dog='fat' <-> 'rat' | 'cat' & !'dog';",
+    "=; \t\n=;",
+    // The places of faults.
+    "a b=syntax error at 2;a & =syntax error at 4;()=syntax error at 1;(a=syntax error at 2;",
+    "a)=syntax error at 1;a!b=syntax error at 1;a(b=syntax error at 1;a<b=syntax error at 2;",
+    "a<-b=syntax error at 3;a<1b=syntax error at 3;a<=syntax error at 2;a<1=syntax error at 3;",
+    "a:Ae=syntax error at 3;'a'b=syntax error at 3;'a' b=syntax error at 4;&=syntax error at 0;",
+    "a:1=syntax error at 2;!=syntax error at 1;''=syntax error at 2;'' =syntax error at 2;",
+    "a:*A:=syntax error at 4;a <->=syntax error at 5;a & | b=syntax error at 4;",
+    "a < -> b=syntax error at 3;a <- > b=syntax error at 4;a:A(b)=syntax error at 3;",
+    "<->=syntax error at 0;é é=syntax error at 3;a: A=syntax error at 3;",
+    "(a | b=syntax error at 6;((a) & b))=syntax error at 9;a\\=syntax error at 2;",
+    "'a=syntax error at 2;a <--> b=syntax error at 4;a <> b=syntax error at 3;",
+    "! & a=syntax error at 2;a:A'b'=syntax error at 3;fat &=syntax error at 5;",
+    "a <16385> b &=syntax error at 13;",
+    // The limits.
+    "a <20000> b=distance too large at 2;",
+    "a <0016384> b <99999999999999999999> c <16385> d=distance too large at 14;",
+    "{a^2047} <16385> b=distance too large at 2048;",
+    "b <16384> {a^2047}=lexeme too long at 10;",
+    "b <16384> {a^2046}='b' <16384> '{a^2046}';",
+    "x{|x^16383}='x'{ | 'x'^16383};x{|x^16384}=too many nodes;",
+    // Deep texts.
+    "{(^1000000}=syntax error at 1000000;{(^1000000}a{)^1000000}='a';",
+    "{!^1000000}a=too many nodes;{!^32766}'a'={!^32766}'a';",
+    // Queries that are joined: each step is an operator and an operand, and `!` negates it.
+    "#|fat |rat &!cat=( 'fat' | 'rat' ) & !'cat':*A;#|fat -rat='fat' <-> 'rat';#|!=;#| &fat='fat'",
+);
 
-/// The text with more of a piece behind it.
-fn and_more(alloc: Global, front: &str, piece: &str, times: usize) -> Result<String, AllocError> {
-    let mut text = String::from_str(alloc, front)?;
-    for _ in 0..times {
-        text.push_str(piece)?;
+/// The text that a row stands for.
+fn expanded(alloc: Global, row: &str) -> Result<String, AllocError> {
+    let mut text = String::new(alloc);
+    for part in row.split('{') {
+        let (repeated, rest) = part.split_once('}').unwrap_or(("", part));
+        let (piece, times) = repeated.split_once('^').unwrap_or(("", "0"));
+        for _ in 0..times.parse::<u32>().unwrap_or(0) {
+            text.push_str(piece)?;
+        }
+        text.push_str(rest)?;
     }
     Ok(text)
 }
 
-#[test]
-fn printed_forms(rt: HostRuntime) -> Result<(), Fail> {
-    let alloc = rt.alloc();
-    for (text, printed) in [
-        ("(fat | rat) & !cat:*A", "( 'fat' | 'rat' ) & !'cat':*A"),
-        ("a <16384> b", "'a' <16384> 'b'"),
-        ("a <-> 1.5 <1> b", "'a' <-> '1.5' <-> 'b'"),
-        ("cat <2> rat", "'cat' <2> 'rat'"),
-        (
-            "fat <-> rat | cat & !dog",
-            "'fat' <-> 'rat' | 'cat' & !'dog'",
-        ),
-        ("", ""),
-        (" \t\n", ""),
-    ] {
-        let query = TsQuery::parse(alloc, text)?;
-        assert_eq!(rt; query.to_text(alloc)?.as_str(), printed, "{text}");
-    }
-    Ok(())
-}
-
-#[test]
-fn places_of_faults(rt: HostRuntime) {
-    let alloc = rt.alloc();
-    for (text, at) in [
-        ("a b", 2),
-        ("a & ", 4),
-        ("()", 1),
-        ("(a", 2),
-        ("a)", 1),
-        ("a!b", 1),
-        ("a(b", 1),
-        ("a<b", 2),
-        ("a<-b", 3),
-        ("a<1b", 3),
-        ("a<", 2),
-        ("a<1", 3),
-        ("a:Ae", 3),
-        ("'a'b", 3),
-        ("'a' b", 4),
-        ("&", 0),
-        ("a:1", 2),
-        ("!", 1),
-        ("''", 2),
-        ("'' ", 2),
-        ("a:*A:", 4),
-        ("a <->", 5),
-        ("a & | b", 4),
-        ("a < -> b", 3),
-        ("a <- > b", 4),
-        ("a:A(b)", 3),
-        ("<->", 0),
-        ("é é", 3),
-        ("a: A", 3),
-        ("(a | b", 6),
-        ("((a) & b))", 9),
-        ("a\\", 2),
-        ("'a", 2),
-        ("a <--> b", 4),
-        ("a <> b", 3),
-        ("! & a", 2),
-        ("a:A'b'", 3),
-        ("fat &", 5),
-        ("a <16385> b &", 13),
-    ] {
-        assert_eq!(rt;
-            refusal(alloc, text),
-            Some(QueryError::Syntax { at }),
-            "{text}"
-        );
-    }
-}
-
-#[test]
-fn limits(rt: HostRuntime) -> Result<(), Fail> {
-    let alloc = rt.alloc();
-    assert_eq!(rt;
-        refusal(alloc, "a <20000> b"),
-        Some(QueryError::DistanceTooLarge { at: 2 })
-    );
-    let far = "a <0016384> b <99999999999999999999> c <16385> d";
-    assert_eq!(rt;
-        refusal(alloc, far),
-        Some(QueryError::DistanceTooLarge { at: 14 })
-    );
-    let mut long = and_more(alloc, "", "a", 2047)?;
-    long.push_str(" <16385> b")?;
-    assert_eq!(rt;
-        refusal(alloc, long.as_str()),
-        Some(QueryError::DistanceTooLarge { at: 2048 })
-    );
-    let long = and_more(alloc, "b <16384> ", "a", 2047)?;
-    assert_eq!(rt;
-        refusal(alloc, long.as_str()),
-        Some(QueryError::LexemeTooLong { at: 10 })
-    );
-    let long = and_more(alloc, "b <16384> ", "a", 2046)?;
-    assert_eq!(rt; refusal(alloc, long.as_str()), None);
-    let many = and_more(alloc, "x", "|x", 16383)?;
-    assert_eq!(rt; refusal(alloc, many.as_str()), None);
-    let many = and_more(alloc, "x", "|x", 16384)?;
-    assert_eq!(rt;
-        refusal(alloc, many.as_str()),
-        Some(QueryError::TooManyNodes)
-    );
-    Ok(())
-}
-
-#[test]
-fn deep_texts(rt: HostRuntime) -> Result<(), Fail> {
-    let alloc = rt.alloc();
-    let deep = and_more(alloc, "", "(", 1000000)?;
-    assert_eq!(rt;
-        refusal(alloc, deep.as_str()),
-        Some(QueryError::Syntax { at: 1000000 })
-    );
-    let mut deep = and_more(alloc, deep.as_str(), "a", 1)?;
-    for _ in 0..1000000 {
-        deep.push_str(")")?;
-    }
-    assert_eq!(rt;
-        TsQuery::parse(alloc, deep.as_str())?
-            .to_text(alloc)?
-            .as_str(),
-        "'a'"
-    );
-    let mut deep = and_more(alloc, "", "!", 1000000)?;
-    deep.push_str("a")?;
-    assert_eq!(rt;
-        refusal(alloc, deep.as_str()),
-        Some(QueryError::TooManyNodes)
-    );
-    let mut deep = and_more(alloc, "", "!", 32766)?;
-    deep.push_str("'a'")?;
-    let query = TsQuery::parse(alloc, deep.as_str())?;
-    assert_eq!(rt; query.to_text(alloc)?.as_str(), deep.as_str());
-    Ok(())
-}
-
-#[test]
-fn queries_of_queries(rt: HostRuntime) -> Result<(), Fail> {
-    let alloc = rt.alloc();
-    let none = Weights {
-        a: false,
-        b: false,
-        c: false,
-        d: false,
+/// The query of one word, with marks for the word `cat`; the empty query for none.
+fn operand(alloc: Global, word: &str) -> Result<TsQuery, QueryError> {
+    let Ok(lexeme) = Lexeme::new(alloc, word) else {
+        return Ok(TsQuery::empty(alloc));
     };
-    let fat = TsQuery::operand(alloc, &Lexeme::new(alloc, "fat")?, none, false)?;
-    let rat = TsQuery::operand(alloc, &Lexeme::new(alloc, "rat")?, none, false)?;
-    let cat = TsQuery::operand(
-        alloc,
-        &Lexeme::new(alloc, "cat")?,
-        Weights { a: true, ..none },
-        true,
-    )?;
-    let query = fat.or(alloc, &rat)?.and(alloc, &cat.not(alloc)?)?;
-    assert_eq!(rt;
-        query.to_text(alloc)?.as_str(),
-        "( 'fat' | 'rat' ) & !'cat':*A"
-    );
-    assert_eq!(rt;
-        query.nodes(),
-        [
-            Node::Leaf(0),
-            Node::Leaf(1),
-            Node::Or,
-            Node::Leaf(2),
-            Node::Not,
-            Node::And
-        ]
-        .as_slice()
-    );
-    assert_eq!(rt; query.operands().len(), 3);
-    let phrase = fat.phrase(alloc, &rat, 1)?;
-    assert_eq!(rt; phrase.to_text(alloc)?.as_str(), "'fat' <-> 'rat'");
-    let empty = TsQuery::empty(alloc);
-    assert_eq!(rt; empty.not(alloc)?.to_text(alloc)?.as_str(), "");
-    assert_eq!(rt; empty.and(alloc, &fat)?.to_text(alloc)?.as_str(), "'fat'");
+    let marked = word == "cat";
+    let weights = Weights {
+        a: marked,
+        ..Weights::default()
+    };
+    let query = TsQuery::operand(alloc, &lexeme, weights, marked)?;
+    Ok(query)
+}
+
+/// The query that steps lead to, from the empty query on.
+fn built(alloc: Global, row: &str) -> Result<TsQuery, QueryError> {
+    let mut query = TsQuery::empty(alloc);
+    for step in row.split(' ') {
+        let mut word = step.chars();
+        let sign = word.next();
+        let negated = word.as_str().strip_prefix('!');
+        let mut next = operand(alloc, negated.unwrap_or(word.as_str()))?;
+        if negated.is_some() {
+            next = next.not(alloc)?;
+        }
+        query = match sign {
+            Some('|') => query.or(alloc, &next)?,
+            Some('&') => query.and(alloc, &next)?,
+            _ => query.phrase(alloc, &next, 1)?,
+        };
+    }
+    Ok(query)
+}
+
+/// The query of a row's text.
+fn query_of(alloc: Global, text: &str) -> Result<TsQuery, QueryError> {
+    match text.strip_prefix('#') {
+        Some(row) => built(alloc, row),
+        None => TsQuery::parse(alloc, text),
+    }
+}
+
+/// The printed form of a row's query, or why its text is refused.
+fn outcome(alloc: Global, text: &str) -> Result<String, AllocError> {
+    match query_of(alloc, text) {
+        Ok(query) => query.to_text(alloc),
+        Err(error) => format!(in alloc; "{error}"),
+    }
+}
+
+/// Each row gives its outcome.
+#[test]
+fn rows(rt: HostRuntime) -> Result<(), Fail> {
+    let alloc = rt.alloc();
+    let mut count = 0u32;
+    for row in ROWS.split(';') {
+        let (text, want) = row.split_once('=').unwrap_or((row, "="));
+        let text = expanded(alloc, text)?;
+        let given = outcome(alloc, text.as_str())?;
+        assert_eq!(rt; given.as_str(), expanded(alloc, want)?.as_str(), "{row}");
+        count = count.saturating_add(1);
+    }
+    assert_eq!(rt; count, 61);
     Ok(())
 }
 
+/// The nodes stand in postfix order.
+#[test]
+fn nodes(rt: HostRuntime) -> Result<(), Fail> {
+    let query = built(rt.alloc(), "|fat |rat &!cat")?;
+    let nodes = [
+        Node::Leaf(0),
+        Node::Leaf(1),
+        Node::Or,
+        Node::Leaf(2),
+        Node::Not,
+        Node::And,
+    ];
+    assert_eq!(rt; query.nodes(), nodes.as_slice());
+    assert_eq!(rt; query.operands().len(), 3);
+    Ok(())
+}
+
+/// The laws are there to be cited.
 #[test]
 fn laws() {
     one_value();
     one_answer();
     distance_is_decimal();
     prints_back();
+    fault_has_one_place();
+    fault_is_outside();
 }

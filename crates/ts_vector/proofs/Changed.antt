@@ -6,13 +6,14 @@ use Rattle.std.proofs.lemmas.List.Elements.{All-nil, All-head, All-tail, All-map
 use Rattle.ts_base.specs.declared.Weight.{Weight}
 use Rattle.ts_base.specs.Lexemes.{IsBefore}
 use Rattle.ts_base.specs.Vectors.{Position, Entry, Vector, IsPosition, IsEntry, IsNormal, content_size}
-use Rattle.ts_vector.specs.declared.VectorError.{VectorError}
-use Rattle.ts_vector.specs.declared.VectorError.TheVariants.{Syntax, LexemeTooLong, VectorTooLarge, BadBytes, OutOfMemory}
+use Rattle.ts_vector.specs.declared.error.VectorError.{VectorError}
+use Rattle.ts_vector.specs.declared.error.VectorError.TheVariants.{Syntax, LexemeTooLong, VectorTooLarge, BadBytes, OutOfMemory}
 use Rattle.ts_vector.specs.Normal.{capped, Names, IsHighest, IsPlaced, IsNormalFormOf}
-use Rattle.ts_vector.specs.Steps.{IsWritten, HaveSame}
-use Rattle.ts_vector.specs.Changes.{stripped, weighted, reweighted, moved, shifted, IsGreatest, IsJoinOf}
-use Rattle.ts_vector.specs.CappedForm.{moved_within, shifted_within}
-use Rattle.ts_vector.specs.Failures.{IsOver, JoinFails}
+use Rattle.ts_vector.specs.Inner.Steps.{IsWritten, HaveSame}
+use Rattle.ts_vector.specs.Changes.{stripped, weighted, reweighted, moved_position, shifted, IsGreatest, IsJoinOf}
+use Rattle.ts_vector.specs.Inner.CappedForm.{moved_within, shifted_within}
+use Rattle.ts_vector.specs.Inner.Over.{IsOver}
+use Rattle.ts_vector.specs.Failures.{JoinFails}
 use Rattle.ts_vector.proofs.Rising.{contains_head, contains_later, contains_cases, contains_none, any_of, of_any}
 use Rattle.ts_vector.proofs.Sorts.{pairs_map}
 use Rattle.ts_vector.proofs.Merging.{size-cons, any_left, any_right, any_cases}
@@ -116,7 +117,7 @@ capped_twice p = let e : min (min p.at 16383) 16383 ≡ min p.at 16383 = omega a
 
 module _ (n : ℕ) where
   abbrev move : Entry → Entry
-  move e = record { lexeme = e.lexeme; positions = map (moved n) e.positions }
+  move e = record { lexeme = e.lexeme; positions = map (moved_position n) e.positions }
 
   abbrev move_within : Entry → Entry
   move_within e = record { lexeme = e.lexeme; positions = map (moved_within n) e.positions }
@@ -128,15 +129,15 @@ module _ (n : ℕ) where
   place_to l p e (is, a) = (
     is,
     any_map_to (λ q. capped q ≡ p) (moved_within n) e.positions
-        (any_weaker (λ q. capped (moved n q) ≡ p) (λ q. capped (moved_within n q) ≡ p) (λ q k. capped_twice (moved n q) ∙ k) e.positions
-        (any_map_from (λ q. capped q ≡ p) (moved n) e.positions a)),
+        (any_weaker (λ q. capped (moved_position n q) ≡ p) (λ q. capped (moved_within n q) ≡ p) (λ q k. capped_twice (moved_position n q) ∙ k) e.positions
+        (any_map_from (λ q. capped q ≡ p) (moved_position n) e.positions a)),
   )
 
   place_from : (l : List ℕ) (p : Position) (e : Entry) → HasPlace l p (move_within e) → HasPlace l p (move e)
   place_from l p e (is, a) = (
     is,
-    any_map_to (λ q. capped q ≡ p) (moved n) e.positions
-        (any_weaker (λ q. capped (moved_within n q) ≡ p) (λ q. capped (moved n q) ≡ p) (λ q k. sym (capped_twice (moved n q)) ∙ k) e.positions
+    any_map_to (λ q. capped q ≡ p) (moved_position n) e.positions
+        (any_weaker (λ q. capped (moved_within n q) ≡ p) (λ q. capped (moved_position n q) ≡ p) (λ q k. sym (capped_twice (moved_position n q)) ∙ k) e.positions
         (any_map_from (λ q. capped q ≡ p) (moved_within n) e.positions a)),
   )
 

@@ -16,28 +16,28 @@ use Rattle.ts_base.specs.Lexemes.{IsLexeme, IsBefore}
 use Rattle.ts_base.specs.Vectors.{Position, Entry, Vector, IsPosition, IsEntry, IsNormal, content_size}
 use Rattle.ts_base.specs.declared.Weight.{Weight}
 use Rattle.ts_base.specs.declared.Weight.TheVariants.{D, C, B, A}
-use Rattle.ts_base.specs.Bytes.{two_bytes, four_bytes, weight_number, position_number, position_bytes, entry_bytes}
-use Rattle.ts_vector.specs.Decoded.{Part, Next, Width, IsBeginning, IsBehind, AreRising, Reads, IsSpelling, BadBytesAreNoSpelling, entry}
-use Rattle.ts_vector.specs.Decoded.{start, counted, measured, named, placed, count, measure, name, no_places, places, place, last_place, of_count, of_length, of_lexeme, of_number, of_place, begun, field}
-use Rattle.ts_vector.specs.Fields.{Goes, Spoils, Stops, IsShort, IsNext, NotNext, BytesStop, behind, Lists, ListStops, IsLast}
+use Rattle.ts_base.specs.Endian.{little_bytes}
+use Rattle.ts_base.specs.Spelling.{weight_number, position_number, position_bytes, entry_bytes}
+use Rattle.ts_vector.specs.Decoded.{DecodedPart, Next, Width, IsBeginning, IsBehind, AreRising, ReadsFields, IsSpelling, BadBytesAreNoSpelling, entry_with, start, counted, measured, named, placed, count, measure, name, no_places, places, place, last_place, of_count, of_length, of_lexeme, of_number, of_place, begun, field}
+use Rattle.ts_vector.specs.Inner.Fields.{Goes, Spoils, Stops, IsShort, IsNext, NotNext, BytesStop, behind, Lists, ListStops, IsLast}
 use Rattle.ts_vector.specs.declared.bytes.Stop.{Stop}
 use Rattle.ts_vector.specs.declared.bytes.Stop.TheVariants.{Bad, OutOfMemory}
 use Rattle.ts_vector.specs.declared.entries.Item.{Item}
-use Rattle.ts_vector.specs.Views.{view, views}
+use Rattle.ts_vector.specs.ItemEntries.{item_entry, item_entries}
 use Rattle.ts_vector.proofs.Rising.{pairs_head, pairs_tail}
 use Rattle.ts_vector.proofs.Merging.{size-append, size-cons}
 use Rattle.ts_vector.proofs.Counts.{length-le-content}
 use Rattle.ts_vector.proofs.Fields.{next_one, whole_not_bad}
 
 -- ── what the fields so far say ──
-abbrev pub Sound : Part → Type 0
+abbrev pub Sound : DecodedPart → Type 0
 Sound start = Unit {0}
 Sound (counted n v) = IsNormal v × (content_size v < 1048576)
 Sound (measured n v k) = IsNormal v × (content_size v + k < 1048576)
 Sound (named n v l) = IsNormal v × IsLexeme l × IsBehind v l × (content_size v + length l < 1048576)
 Sound (placed n v l m ps) = IsNormal v × IsLexeme l × IsBehind v l × (m ≤ 256) × (content_size v + length l + 2 * m < 1048576) × AreRising ps
 
-sound_next : (p q : Part) (f : List ℕ) → Next p f q → IsBeginning q → Sound p → Sound q
+sound_next : (p q : DecodedPart) (f : List ℕ) → Next p f q → IsBeginning q → Sound p → Sound q
 sound_next p q f (count n h) b s = b
 sound_next p q f (measure n k v lt h) b s = (s.0, b.2)
 sound_next p q f (name n k v l e) b s = (s.0, b.0, b.1, omega (arith, e, s.1))
@@ -46,22 +46,22 @@ sound_next p q f (places n m v l h k) b s = (s.0, s.1, s.2, b.0, b.1, b.2)
 sound_next p q f (place n m v l ps x h k) b s = (s.0, s.1, s.2, b.0, b.1, b.2)
 sound_next p q f (last_place n m v l ps x h k) b s = b
 
-pub sound : (bytes : List ℕ) (p : Part) (r : List ℕ) → Reads bytes p r → Sound p
+pub sound : (bytes : List ℕ) (p : DecodedPart) (r : List ℕ) → ReadsFields bytes p r → Sound p
 sound bytes p r begun = tt
 sound bytes p r (field q _ f _ h n b) = sound_next q p f n b (sound bytes q (f ++ r) h)
 
-pub rest_short : (bytes : List ℕ) (p : Part) (r : List ℕ) → Reads bytes p r → length r ≤ length bytes
+pub rest_short : (bytes : List ℕ) (p : DecodedPart) (r : List ℕ) → ReadsFields bytes p r → length r ≤ length bytes
 rest_short bytes p r begun = omega arith
 rest_short bytes p r (field q _ f _ h n b) = omega (arith, rest_short bytes q (f ++ r) h, length-append f r)
 
 -- ── a field ──
-pub goes : (p q : Part) (f r s : List ℕ) → r ≡ f ++ s → Next p f q → (Sound p → IsBeginning q) → Goes p r q s
+pub goes : (p q : DecodedPart) (f r s : List ℕ) → r ≡ f ++ s → Next p f q → (Sound p → IsBeginning q) → Goes p r q s
 goes p q f r s e n b = record {
   shorter = omega (arith, ap length e, length-append f s);
-  on = λ bytes h. field p q f s (subst (Reads bytes p) e h) n (b (sound bytes p r h));
+  on = λ bytes h. field p q f s (subst (ReadsFields bytes p) e h) n (b (sound bytes p r h));
 }
 
-pub cut : (p : Part) (w : ℕ) (r : List ℕ) → Width p w → length r < w → Spoils p r 0
+pub cut : (p : DecodedPart) (w : ℕ) (r : List ℕ) → Width p w → length r < w → Spoils p r 0
 cut p w r width lt = record {
   within = omega arith;
   bad = λ bytes h. record { part = p; rest = r; reads = h; cause = inl ((w, width, lt), omega arith) };
@@ -70,7 +70,7 @@ cut p w r width lt = record {
 at_left : (a b : ℕ) → a ≤ b → b - a + a ≡ b
 at_left a b h = omega arith
 
-pub wrong : (p q : Part) (f r s : List ℕ) → r ≡ f ++ s → Next p f q → Width p (length f) → (Sound p → ¬ IsBeginning q) → Spoils p r (length r)
+pub wrong : (p q : DecodedPart) (f r s : List ℕ) → r ≡ f ++ s → Next p f q → Width p (length f) → (Sound p → ¬ IsBeginning q) → Spoils p r (length r)
 wrong p q f r s e n width never = record {
   within = omega arith;
   bad = λ bytes h. record {
@@ -87,13 +87,13 @@ surplus n v r whole more = record {
   bad = λ bytes h. record { part = counted n v; rest = r; reads = h; cause = inr (inl (n, v, refl, whole, more), at_left (length r) (length bytes) (rest_short bytes (counted n v) r h)) };
 }
 
-pub goes_then : (p q x : Part) (r s t : List ℕ) → Goes p r q s → Goes q s x t → Goes p r x t
+pub goes_then : (p q x : DecodedPart) (r s t : List ℕ) → Goes p r q s → Goes q s x t → Goes p r x t
 goes_then p q x r s t a b = record { shorter = omega (arith, a.shorter, b.shorter); on = λ bytes h. b.on bytes (a.on bytes h) }
 
-pub spoils_then : (p q : Part) (r s : List ℕ) (left : ℕ) → Goes p r q s → Spoils q s left → Spoils p r left
+pub spoils_then : (p q : DecodedPart) (r s : List ℕ) (left : ℕ) → Goes p r q s → Spoils q s left → Spoils p r left
 spoils_then p q r s left a b = record { within = omega (arith, a.shorter, b.within); bad = λ bytes h. b.bad bytes (a.on bytes h) }
 
-pub stops_then : (p q : Part) (r s : List ℕ) (e : Stop) → Goes p r q s → Stops q s e → Stops p r e
+pub stops_then : (p q : DecodedPart) (r s : List ℕ) (e : Stop) → Goes p r q s → Stops q s e → Stops p r e
 stops_then p q r s (Bad left) a b = spoils_then p q r s left a b
 stops_then p q r s OutOfMemory a b = tt
 
@@ -113,21 +113,21 @@ last_entry v e n = subst IsEntry (get_or-append_seam v e [] e) (n.entries (lengt
 
 -- ── among the positions ──
 pub behind_more : (n : ℕ) (v : Vector) (l : List ℕ) (m : ℕ) (ps : List Position) → length ps < m → behind n v l m ps ≡ placed n v l m ps
-behind_more n v l m ps lt = ap (λ b. cond b (placed n v l m ps) (counted n (v ++ entry l ps ∷ []))) (lt-ltb (length ps) m lt)
+behind_more n v l m ps lt = ap (λ b. cond b (placed n v l m ps) (counted n (v ++ entry_with l ps ∷ []))) (lt-ltb (length ps) m lt)
 
-pub behind_all : (n : ℕ) (v : Vector) (l : List ℕ) (m : ℕ) (ps : List Position) → m ≤ length ps → behind n v l m ps ≡ counted n (v ++ entry l ps ∷ [])
-behind_all n v l m ps le = ap (λ b. cond b (placed n v l m ps) (counted n (v ++ entry l ps ∷ []))) (le-ltb (length ps) m le)
+pub behind_all : (n : ℕ) (v : Vector) (l : List ℕ) (m : ℕ) (ps : List Position) → m ≤ length ps → behind n v l m ps ≡ counted n (v ++ entry_with l ps ∷ [])
+behind_all n v l m ps le = ap (λ b. cond b (placed n v l m ps) (counted n (v ++ entry_with l ps ∷ []))) (le-ltb (length ps) m le)
 
 -- ── fields of an entry ──
 module _ (n : ℕ) (v : Vector) where
-  pub count_goes : (r s : List ℕ) → n < 2 ^ 32 → r ≡ four_bytes n ++ s → Goes start r (counted n []) s
-  count_goes r s h e = goes start (counted n []) (four_bytes n) r s e (count n h) (λ _. (record { entries = All-nil IsEntry; rising = λ i j d lt le. absurd (omega arith) }, omega arith))
+  pub count_goes : (r s : List ℕ) → n < 2 ^ 32 → r ≡ little_bytes 4 n ++ s → Goes start r (counted n []) s
+  count_goes r s h e = goes start (counted n []) (little_bytes 4 n) r s e (count n h) (λ _. (record { entries = All-nil IsEntry; rising = λ i j d lt le. absurd (omega arith) }, omega arith))
 
-  pub length_goes : (k : ℕ) (r s : List ℕ) → length v < n → r ≡ two_bytes k ++ s → 1 ≤ k → k ≤ 2046 → content_size v + k < 1048576 → Goes (counted n v) r (measured n v k) s
-  length_goes k r s lt e some most small = goes (counted n v) (measured n v k) (two_bytes k) r s e (measure n k v lt (omega arith)) (λ _. (some, most, small))
+  pub length_goes : (k : ℕ) (r s : List ℕ) → length v < n → r ≡ little_bytes 2 k ++ s → 1 ≤ k → k ≤ 2046 → content_size v + k < 1048576 → Goes (counted n v) r (measured n v k) s
+  length_goes k r s lt e some most small = goes (counted n v) (measured n v k) (little_bytes 2 k) r s e (measure n k v lt (omega arith)) (λ _. (some, most, small))
 
-  pub length_wrong : (k : ℕ) (r s : List ℕ) → length v < n → k < 65536 → r ≡ two_bytes k ++ s → ((1 ≤ k) → (k ≤ 2046) → content_size v + k < 1048576 → ⊥) → Spoils (counted n v) r (length r)
-  length_wrong k r s lt h e never = wrong (counted n v) (measured n v k) (two_bytes k) r s e (measure n k v lt h) (of_length n v lt) (λ _ b. never b.0 b.1 b.2)
+  pub length_wrong : (k : ℕ) (r s : List ℕ) → length v < n → k < 65536 → r ≡ little_bytes 2 k ++ s → ((1 ≤ k) → (k ≤ 2046) → content_size v + k < 1048576 → ⊥) → Spoils (counted n v) r (length r)
+  length_wrong k r s lt h e never = wrong (counted n v) (measured n v k) (little_bytes 2 k) r s e (measure n k v lt h) (of_length n v lt) (λ _ b. never b.0 b.1 b.2)
 
   module _ (l : List ℕ) where
     pub lexeme_goes : (k : ℕ) (r s : List ℕ) → r ≡ l ++ s → length l ≡ k → IsLexeme l → IsBehind v l → Goes (measured n v k) r (named n v l) s
@@ -136,24 +136,24 @@ module _ (n : ℕ) (v : Vector) where
     pub lexeme_wrong : (k : ℕ) (r s : List ℕ) → r ≡ l ++ s → length l ≡ k → (Sound (measured n v k) → IsLexeme l → IsBehind v l → ⊥) → Spoils (measured n v k) r (length r)
     lexeme_wrong k r s e len never = wrong (measured n v k) (named n v l) l r s e (name n k v l len) (subst (Width (measured n v k)) (sym len) (of_lexeme n k v)) (λ h b. never h b.0 b.1)
 
-    pub number_goes : (m : ℕ) (r s : List ℕ) → r ≡ two_bytes m ++ s → m ≤ 256 → content_size v + length l + 2 * m < 1048576 → Goes (named n v l) r (behind n v l m []) s
+    pub number_goes : (m : ℕ) (r s : List ℕ) → r ≡ little_bytes 2 m ++ s → m ≤ 256 → content_size v + length l + 2 * m < 1048576 → Goes (named n v l) r (behind n v l m []) s
     number_goes zero r s e few small = subst (λ q. Goes (named n v l) r q s) (sym (behind_all n v l 0 [] (omega arith))) (
-        goes (named n v l) (counted n (v ++ entry l [] ∷ [])) (two_bytes 0) r s e (no_places n v l) (λ h. (
-          entry_normal v (entry l []) h.0 (record { lexeme = h.1; positions = All-nil IsPosition; rising = λ i j d lt le. absurd (omega arith); few = omega arith }) h.2,
-          omega (arith, entry_size v (entry l []), h.3),
+        goes (named n v l) (counted n (v ++ entry_with l [] ∷ [])) (little_bytes 2 0) r s e (no_places n v l) (λ h. (
+          entry_normal v (entry_with l []) h.0 (record { lexeme = h.1; positions = All-nil IsPosition; rising = λ i j d lt le. absurd (omega arith); few = omega arith }) h.2,
+          omega (arith, entry_size v (entry_with l []), h.3),
         )))
     number_goes (suc m) r s e few small = subst (λ q. Goes (named n v l) r q s) (sym (behind_more n v l (suc m) [] (omega arith))) (
-        goes (named n v l) (placed n v l (suc m) []) (two_bytes (suc m)) r s e (places n (suc m) v l (omega arith) (omega arith)) (λ h. (
+        goes (named n v l) (placed n v l (suc m) []) (little_bytes 2 (suc m)) r s e (places n (suc m) v l (omega arith) (omega arith)) (λ h. (
           few,
           small,
           record { valid = All-nil IsPosition; rising = λ i j d lt le. absurd (omega arith) },
         )))
 
-    pub number_wrong : (m : ℕ) (r s : List ℕ) → r ≡ two_bytes m ++ s → m < 65536 → ((m ≤ 256) → content_size v + length l + 2 * m < 1048576 → ⊥) → Spoils (named n v l) r (length r)
+    pub number_wrong : (m : ℕ) (r s : List ℕ) → r ≡ little_bytes 2 m ++ s → m < 65536 → ((m ≤ 256) → content_size v + length l + 2 * m < 1048576 → ⊥) → Spoils (named n v l) r (length r)
     number_wrong zero r s e h never =
-        wrong (named n v l) (counted n (v ++ entry l [] ∷ [])) (two_bytes 0) r s e (no_places n v l) (of_number n v l) (λ h b. never (omega arith) (omega (arith, h.3)))
+        wrong (named n v l) (counted n (v ++ entry_with l [] ∷ [])) (little_bytes 2 0) r s e (no_places n v l) (of_number n v l) (λ h b. never (omega arith) (omega (arith, h.3)))
     number_wrong (suc m) r s e h never =
-        wrong (named n v l) (placed n v l (suc m) []) (two_bytes (suc m)) r s e (places n (suc m) v l (omega arith) h) (of_number n v l) (λ _ b. never b.0 b.1)
+        wrong (named n v l) (placed n v l (suc m) []) (little_bytes 2 (suc m)) r s e (places n (suc m) v l (omega arith) h) (of_number n v l) (λ _ b. never b.0 b.1)
 
 -- one more position that is greater than all before
 pub rising_more : (ps : List Position) (last : ℕ) (p : Position) → IsLast ps last → AreRising ps → last < p.at → p.at ≤ 16383 → AreRising (ps ++ p ∷ [])
@@ -190,10 +190,10 @@ module _ (n : ℕ) (v : Vector) (l : List ℕ) (m : ℕ) (ps : List Position) (l
         (goes (placed n v l m ps) (placed n v l m (ps ++ p ∷ [])) (position_bytes p) r s e (place n m v l ps p (omega arith) more)
         (λ h. (h.3, h.4, rising_more ps last p is h.5 up most)))
     | inr all ↦ subst (λ q. Goes (placed n v l m ps) r q s) (sym (behind_all n v l m (ps ++ p ∷ []) (omega (arith, length-append ps (p ∷ [])))))
-        (goes (placed n v l m ps) (counted n (v ++ entry l (ps ++ p ∷ []) ∷ [])) (position_bytes p) r s e (last_place n m v l ps p (omega arith) (omega arith))
+        (goes (placed n v l m ps) (counted n (v ++ entry_with l (ps ++ p ∷ []) ∷ [])) (position_bytes p) r s e (last_place n m v l ps p (omega arith) (omega arith))
         (λ h. let up = rising_more ps last p is h.5 up most in (
-          entry_normal v (entry l (ps ++ p ∷ [])) h.0 (record { lexeme = h.1; positions = up.valid; rising = up.rising; few = omega (arith, length-append ps (p ∷ []), h.3) }) h.2,
-          omega (arith, entry_size v (entry l (ps ++ p ∷ [])), length-append ps (p ∷ []), h.4),
+          entry_normal v (entry_with l (ps ++ p ∷ [])) h.0 (record { lexeme = h.1; positions = up.valid; rising = up.rising; few = omega (arith, length-append ps (p ∷ []), h.3) }) h.2,
+          omega (arith, entry_size v (entry_with l (ps ++ p ∷ [])), length-append ps (p ∷ []), h.4),
         )))
   ]
 
@@ -201,8 +201,8 @@ module _ (n : ℕ) (v : Vector) (l : List ℕ) (m : ℕ) (ps : List Position) (l
   placed_wrong lt is e low most = elim (cases_lt (length ps + 1) m) [
     | inl more ↦ wrong (placed n v l m ps) (placed n v l m (ps ++ p ∷ [])) (position_bytes p) r s e (place n m v l ps p most more) (of_place n m v l ps)
         (λ _ b. out_of_order ps last p is low b.2.valid b.2.rising)
-    | inr all ↦ wrong (placed n v l m ps) (counted n (v ++ entry l (ps ++ p ∷ []) ∷ [])) (position_bytes p) r s e (last_place n m v l ps p most (omega arith)) (of_place n m v l ps)
-        (λ _ b. let h = last_entry v (entry l (ps ++ p ∷ [])) b.0 in out_of_order ps last p is low h.positions h.rising)
+    | inr all ↦ wrong (placed n v l m ps) (counted n (v ++ entry_with l (ps ++ p ∷ []) ∷ [])) (position_bytes p) r s e (last_place n m v l ps p most (omega arith)) (of_place n m v l ps)
+        (λ _ b. let h = last_entry v (entry_with l (ps ++ p ∷ [])) b.0 in out_of_order ps last p is low h.positions h.rising)
   ]
 
 -- ── all positions of an entry ──
@@ -217,7 +217,7 @@ weight_at (suc (suc (suc (suc k)))) h = absurd (omega arith)
 place_of : (n : ℕ) → n < 65536 → (p : Position) × (n ≡ position_number p) × (p.at ≡ n % 16384)
 place_of n h = let w = weight_at (n / 16384) (omega arith) in (record { at = n % 16384; weight = w.0 }, omega (arith, w.1), refl)
 
-goes_nowhere : (p : Part) (r : List ℕ) → Goes p r p r
+goes_nowhere : (p : DecodedPart) (r : List ℕ) → Goes p r p r
 goes_nowhere p r = record { shorter = omega arith; on = λ bytes h. h }
 
 pub lists_none : (m : ℕ) (r : List ℕ) → Lists m r [] r
@@ -236,52 +236,52 @@ lists_cut m r t ps a lt short n v l =
     (subst (λ q. Spoils q t 0) (sym (behind_more n v l m ps lt)) (cut (placed n v l m ps) 2 t (of_place n m v l ps) short))
 
 -- or it is out of order
-pub lists_wrong : (m : ℕ) (r t s : List ℕ) (ps : List Position) (last number : ℕ) → Lists m r ps t → length ps < m → IsLast ps last → t ≡ two_bytes number ++ s → number < 65536 → number % 16384 ≤ last → (n : ℕ) (v : Vector) (l : List ℕ) → Spoils (behind n v l m []) r (length t)
+pub lists_wrong : (m : ℕ) (r t s : List ℕ) (ps : List Position) (last number : ℕ) → Lists m r ps t → length ps < m → IsLast ps last → t ≡ little_bytes 2 number ++ s → number < 65536 → number % 16384 ≤ last → (n : ℕ) (v : Vector) (l : List ℕ) → Spoils (behind n v l m []) r (length t)
 lists_wrong m r t s ps last number a lt is e h low n v l =
     let p = place_of number h in
     spoils_then (behind n v l m []) (behind n v l m ps) r t (length t) (a.on n v l)
-    (subst (λ q. Spoils q t (length t)) (sym (behind_more n v l m ps lt)) (placed_wrong n v l m ps last p.0 t s lt is (e ∙ ap (λ k. two_bytes k ++ s) p.1) (omega (arith, p.2)) (omega (arith, p.2))))
+    (subst (λ q. Spoils q t (length t)) (sym (behind_more n v l m ps lt)) (placed_wrong n v l m ps last p.0 t s lt is (e ∙ ap (λ k. little_bytes 2 k ++ s) p.1) (omega (arith, p.2)) (omega (arith, p.2))))
 
 -- ── the bytes of a whole vector ──
 abbrev front : ℕ → Vector → List ℕ
-front n v = four_bytes n ++ flat_map entry_bytes v
+front n v = little_bytes 4 n ++ flat_map entry_bytes v
 
-abbrev spelled : Part → List ℕ
+abbrev spelled : DecodedPart → List ℕ
 spelled start = []
 spelled (counted n v) = front n v
-spelled (measured n v k) = front n v ++ two_bytes k
-spelled (named n v l) = front n v ++ (two_bytes (length l) ++ l)
-spelled (placed n v l m ps) = front n v ++ (two_bytes (length l) ++ (l ++ (two_bytes m ++ flat_map position_bytes ps)))
+spelled (measured n v k) = front n v ++ little_bytes 2 k
+spelled (named n v l) = front n v ++ (little_bytes 2 (length l) ++ l)
+spelled (placed n v l m ps) = front n v ++ (little_bytes 2 (length l) ++ (l ++ (little_bytes 2 m ++ flat_map position_bytes ps)))
 
 front_more : (n : ℕ) (v : Vector) (e : Entry) → front n (v ++ e ∷ []) ≡ front n v ++ entry_bytes e
-front_more n v e = ap (λ t. four_bytes n ++ t) (flat_map-append entry_bytes v (e ∷ []) ∙ ap (λ t. flat_map entry_bytes v ++ t) (append-nil (entry_bytes e))) ∙ sym (append_assoc (four_bytes n) (flat_map entry_bytes v) (entry_bytes e))
+front_more n v e = ap (λ t. little_bytes 4 n ++ t) (flat_map-append entry_bytes v (e ∷ []) ∙ ap (λ t. flat_map entry_bytes v ++ t) (append-nil (entry_bytes e))) ∙ sym (append_assoc (little_bytes 4 n) (flat_map entry_bytes v) (entry_bytes e))
 
 places_bytes : (ps : List Position) (p : Position) → flat_map position_bytes (ps ++ p ∷ []) ≡ flat_map position_bytes ps ++ position_bytes p
 places_bytes ps p = flat_map-append position_bytes ps (p ∷ []) ∙ ap (λ t. flat_map position_bytes ps ++ t) (append-nil (position_bytes p))
 
 entry_more : (n : ℕ) (v : Vector) (l : List ℕ) (m : ℕ) (ps : List Position) (p : Position)
-    → front n v ++ (two_bytes (length l) ++ (l ++ (two_bytes m ++ flat_map position_bytes (ps ++ p ∷ [])))) ≡ spelled (placed n v l m ps) ++ position_bytes p
+    → front n v ++ (little_bytes 2 (length l) ++ (l ++ (little_bytes 2 m ++ flat_map position_bytes (ps ++ p ∷ [])))) ≡ spelled (placed n v l m ps) ++ position_bytes p
 entry_more n v l m ps p = rw (places_bytes ps p) (simp append_assoc)
 
-spelled_next : (p q : Part) (f : List ℕ) → Next p f q → spelled q ≡ spelled p ++ f
-spelled_next p q f (count n h) = append-nil (four_bytes n)
+spelled_next : (p q : DecodedPart) (f : List ℕ) → Next p f q → spelled q ≡ spelled p ++ f
+spelled_next p q f (count n h) = append-nil (little_bytes 4 n)
 spelled_next p q f (measure n k v lt h) = refl
-spelled_next p q f (name n k v l e) = ap (λ j. front n v ++ (two_bytes j ++ l)) e ∙ sym (append_assoc (front n v) (two_bytes k) l)
-spelled_next p q f (no_places n v l) = front_more n v (entry l []) ∙ simp (append_assoc, append-nil)
+spelled_next p q f (name n k v l e) = ap (λ j. front n v ++ (little_bytes 2 j ++ l)) e ∙ sym (append_assoc (front n v) (little_bytes 2 k) l)
+spelled_next p q f (no_places n v l) = front_more n v (entry_with l []) ∙ simp (append_assoc, append-nil)
 spelled_next p q f (places n m v l h k) = simp (append_assoc, append-nil)
 spelled_next p q f (place n m v l ps x h k) = entry_more n v l m ps x
 spelled_next p q f (last_place n m v l ps x h k) =
-    front_more n v (entry l (ps ++ x ∷ []))
-    ∙ ap (λ j. front n v ++ (two_bytes (length l) ++ (l ++ (two_bytes j ++ flat_map position_bytes (ps ++ x ∷ []))))) (length-append ps (x ∷ []) ∙ k)
+    front_more n v (entry_with l (ps ++ x ∷ []))
+    ∙ ap (λ j. front n v ++ (little_bytes 2 (length l) ++ (l ++ (little_bytes 2 j ++ flat_map position_bytes (ps ++ x ∷ []))))) (length-append ps (x ∷ []) ∙ k)
     ∙ entry_more n v l m ps x
 
-spelled_before : (bytes : List ℕ) (p : Part) (r : List ℕ) → Reads bytes p r → bytes ≡ spelled p ++ r
+spelled_before : (bytes : List ℕ) (p : DecodedPart) (r : List ℕ) → ReadsFields bytes p r → bytes ≡ spelled p ++ r
 spelled_before bytes p r begun = refl
 spelled_before bytes p r (field q _ f _ h n b) =
     spelled_before bytes q (f ++ r) h ∙ sym (append_assoc (spelled q) f r) ∙ ap (λ t. t ++ r) (sym (spelled_next q p f n))
 
 -- what was read to the end is the spelling
-pub whole_spelling : (bytes : List ℕ) (n : ℕ) (v : Vector) → Reads bytes (counted n v) [] → length v ≡ n → IsSpelling bytes v
+pub whole_spelling : (bytes : List ℕ) (n : ℕ) (v : Vector) → ReadsFields bytes (counted n v) [] → length v ≡ n → IsSpelling bytes v
 whole_spelling bytes n v h e =
     let s = sound bytes (counted n v) [] h in
     record { normal = s.0; small = s.1; bytes_of = spelled_before bytes (counted n v) [] h ∙ append-nil (front n v) ∙ ap (λ k. front k v) (sym e) }
@@ -328,9 +328,9 @@ module _ (n : ℕ) (v : Vector) (e : Entry) (s : List ℕ) where
       let size = entry_size v e in
       let l = e.lexeme in
       let ps = e.positions in
-      let tail : List ℕ = two_bytes (length ps) ++ (flat_map position_bytes ps ++ s) in
+      let tail : List ℕ = little_bytes 2 (length ps) ++ (flat_map position_bytes ps ++ s) in
       let one : Goes (counted n v) (entry_bytes e ++ s) (measured n v (length l)) (l ++ tail) =
-      length_goes n v (length l) (entry_bytes e ++ s) (l ++ tail) lt (ap (λ t. two_bytes (length l) ++ t) (append_assoc l (two_bytes (length ps) ++ flat_map position_bytes ps) s)) valid.lexeme.some valid.lexeme.most (omega arith) in
+      length_goes n v (length l) (entry_bytes e ++ s) (l ++ tail) lt (ap (λ t. little_bytes 2 (length l) ++ t) (append_assoc l (little_bytes 2 (length ps) ++ flat_map position_bytes ps) s)) valid.lexeme.some valid.lexeme.most (omega arith) in
       let two : Goes (measured n v (length l)) (l ++ tail) (named n v l) tail = lexeme_goes n v l (length l) (l ++ tail) tail refl refl valid.lexeme (last_behind v e normal) in
       let three : Goes (named n v l) tail (behind n v l (length ps) []) (flat_map position_bytes ps ++ s) = number_goes n v l (length ps) tail (flat_map position_bytes ps ++ s) refl valid.few (omega arith) in
       let four : Goes (behind n v l (length ps) []) (flat_map position_bytes ps ++ s) (behind n v l (length ps) ps) s = places_read n v l (length ps) [] ps 0 s (omega arith) last_none valid.positions valid.rising (above_none ps valid.positions) in
@@ -350,7 +350,7 @@ entries_read n v (e ∷ w) normal small le =
     let both = goes_then (counted n v) (counted n (v ++ e ∷ [])) (counted n ((v ++ e ∷ []) ++ w)) (entry_bytes e ++ flat_map entry_bytes w) (flat_map entry_bytes w) [] here later in
     subst (λ t. Goes (counted n v) (flat_map entry_bytes (e ∷ w)) (counted n t) []) join (subst (λ r. Goes (counted n v) r (counted n ((v ++ e ∷ []) ++ w)) []) (sym (flat_map-cons entry_bytes e w)) both)
 
-spelling_read : (bytes : List ℕ) (v : Vector) → IsSpelling bytes v → Reads bytes (counted (length v) v) []
+spelling_read : (bytes : List ℕ) (v : Vector) → IsSpelling bytes v → ReadsFields bytes (counted (length v) v) []
 spelling_read bytes v s =
     let few : length v < 2 ^ 32 = omega (arith, length-le-content v s.normal.entries, s.small) in
     let first = count_goes (length v) v bytes (flat_map entry_bytes v) few s.bytes_of in
@@ -361,7 +361,7 @@ pub bad_bytes_are_no_spelling : BadBytesAreNoSpelling
 bad_bytes_are_no_spelling bytes n bad v s = whole_not_bad bytes v (spelling_read bytes v s) n bad
 
 -- ── what a field that is not there does ──
-pub stops_short : (p : Part) (w : ℕ) (r : List ℕ) → Width p w → (e : Stop) → IsShort w r e → Stops p r e
+pub stops_short : (p : DecodedPart) (w : ℕ) (r : List ℕ) → Width p w → (e : Stop) → IsShort w r e → Stops p r e
 stops_short p w r width (Bad left) k = subst (Spoils p r) (sym k.0) (cut p w r width k.1)
 stops_short p w r width OutOfMemory k = absurd k
 
@@ -373,7 +373,7 @@ pub count_short : (r : List ℕ) (e : Stop) → IsShort 4 r e → Stops start r 
 count_short r e k = stops_short start 4 r of_count e k
 
 -- the bytes are bad behind the part that was read
-pub bytes_stop : (bytes : List ℕ) (p : Part) (r : List ℕ) → Reads bytes p r → (e : Stop) → Stops p r e → BytesStop bytes e
+pub bytes_stop : (bytes : List ℕ) (p : DecodedPart) (r : List ℕ) → ReadsFields bytes p r → (e : Stop) → Stops p r e → BytesStop bytes e
 bytes_stop bytes p r h (Bad left) k = (omega (arith, k.within, rest_short bytes p r h), k.bad bytes h)
 bytes_stop bytes p r h OutOfMemory k = tt
 
@@ -392,33 +392,33 @@ is_before Greater e = absurd (cc)
 last_of : (v : Vector) (k i : ℕ) (last d : Entry) → get_or v k last ≡ last → k < length v → i ≡ k → get_or v i d ≡ last
 last_of v k i last d read lt e = ap (λ j. get_or v j d) e ∙ get_or_default v k d last lt ∙ read
 
-pub behind_last : (items : List Item) (k : ℕ) (last : Item) (l : List ℕ) (b : Bool) → AllPairs (λ x y. IsBefore x.lexeme y.lexeme) (views items) → k + 1 ≡ length items → last ≡ get_or items k last → b ≡ is_lt (slice_cmp nat_cmp last.lexeme l)
-    → (b ≡ true → IsBehind (views items) l) × (IsBehind (views items) l → b ≡ true)
+pub behind_last : (items : List Item) (k : ℕ) (last : Item) (l : List ℕ) (b : Bool) → AllPairs (λ x y. IsBefore x.lexeme y.lexeme) (item_entries items) → k + 1 ≡ length items → last ≡ get_or items k last → b ≡ is_lt (slice_cmp nat_cmp last.lexeme l)
+    → (b ≡ true → IsBehind (item_entries items) l) × (IsBehind (item_entries items) l → b ≡ true)
 behind_last items k last l b up e read is =
-    let v = views items in
-    let len : length v ≡ length items = length-map items view in
-    let there : get_or v k (view last) ≡ view last = get_or-map view items k last (view last) (omega arith) ∙ ap view (sym read) in (
+    let v = item_entries items in
+    let len : length v ≡ length items = length-map items item_entry in
+    let there : get_or v k (item_entry last) ≡ item_entry last = get_or-map item_entry items k last (item_entry last) (omega arith) ∙ ap item_entry (sym read) in (
       λ yes i d lt.
-          let h : IsBefore (view last).lexeme l = is_before (slice_cmp nat_cmp last.lexeme l) (sym is ∙ yes) in
+          let h : IsBefore (item_entry last).lexeme l = is_before (slice_cmp nat_cmp last.lexeme l) (sym is ∙ yes) in
           elim (cases_lt i k) [
             | inl less ↦
                 let r = up i k d less (omega arith) in
-                let r' : IsBefore (get_or v i d).lexeme (view last).lexeme = subst (λ x. IsBefore (get_or v i d).lexeme x.lexeme) (last_of v k k (view last) d there (omega arith) refl) r in
-                nat_list_cmp_total.trans (get_or v i d).lexeme (view last).lexeme l r' h
-            | inr more ↦ subst (λ x. IsBefore x.lexeme l) (sym (last_of v k i (view last) d there (omega arith) (omega arith))) h
+                let r' : IsBefore (get_or v i d).lexeme (item_entry last).lexeme = subst (λ x. IsBefore (get_or v i d).lexeme x.lexeme) (last_of v k k (item_entry last) d there (omega arith) refl) r in
+                nat_list_cmp_total.trans (get_or v i d).lexeme (item_entry last).lexeme l r' h
+            | inr more ↦ subst (λ x. IsBefore x.lexeme l) (sym (last_of v k i (item_entry last) d there (omega arith) (omega arith))) h
           ],
       λ all.
-          let h : IsBefore (view last).lexeme l = subst (λ x. IsBefore x.lexeme l) there (all k (view last) (omega arith)) in
+          let h : IsBefore (item_entry last).lexeme l = subst (λ x. IsBefore x.lexeme l) there (all k (item_entry last) (omega arith)) in
           is ∙ ap is_lt h,
     )
 
 -- ── the next lexeme as it was answered ──
-pub some_next : (o : Option (List ℕ)) (xs ys : List Item) (bytes l : List ℕ) → xs ≡ ys → o ≡ Some l → MatchOption o (NotNext (views xs) bytes) (IsNext (views xs) bytes) → IsNext (views ys) bytes l
+pub some_next : (o : Option (List ℕ)) (xs ys : List Item) (bytes l : List ℕ) → xs ≡ ys → o ≡ Some l → MatchOption o (NotNext (item_entries xs) bytes) (IsNext (item_entries xs) bytes) → IsNext (item_entries ys) bytes l
 some_next o xs ys bytes l e s h =
-    let k : MatchOption (Some l) (NotNext (views xs) bytes) (IsNext (views xs) bytes) = subst (λ p. MatchOption p (NotNext (views xs) bytes) (IsNext (views xs) bytes)) s h in
-    subst (λ zs. IsNext (views zs) bytes l) e k
+    let k : MatchOption (Some l) (NotNext (item_entries xs) bytes) (IsNext (item_entries xs) bytes) = subst (λ p. MatchOption p (NotNext (item_entries xs) bytes) (IsNext (item_entries xs) bytes)) s h in
+    subst (λ zs. IsNext (item_entries zs) bytes l) e k
 
-pub none_next : (o : Option (List ℕ)) (xs ys : List Item) (bytes : List ℕ) → xs ≡ ys → o ≡ None → MatchOption o (NotNext (views xs) bytes) (IsNext (views xs) bytes) → NotNext (views ys) bytes
+pub none_next : (o : Option (List ℕ)) (xs ys : List Item) (bytes : List ℕ) → xs ≡ ys → o ≡ None → MatchOption o (NotNext (item_entries xs) bytes) (IsNext (item_entries xs) bytes) → NotNext (item_entries ys) bytes
 none_next o xs ys bytes e s h =
-    let k : MatchOption None (NotNext (views xs) bytes) (IsNext (views xs) bytes) = subst (λ p. MatchOption p (NotNext (views xs) bytes) (IsNext (views xs) bytes)) s h in
-    subst (λ zs. NotNext (views zs) bytes) e k
+    let k : MatchOption None (NotNext (item_entries xs) bytes) (IsNext (item_entries xs) bytes) = subst (λ p. MatchOption p (NotNext (item_entries xs) bytes) (IsNext (item_entries xs) bytes)) s h in
+    subst (λ zs. NotNext (item_entries zs) bytes) e k

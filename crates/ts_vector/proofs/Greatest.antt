@@ -5,7 +5,7 @@ use Rattle.std.proofs.lemmas.List.{take_more, map-append}
 use Rattle.std.proofs.lemmas.List.Elements.{All-push, All-weaker, Contains-push}
 use Rattle.ts_base.specs.Vectors.{Position}
 use Rattle.ts_vector.specs.declared.entries.Item.{Item}
-use Rattle.ts_vector.specs.Views.{view, views}
+use Rattle.ts_vector.specs.ItemEntries.{item_entry, item_entries}
 use Rattle.ts_vector.specs.Changes.{IsGreatest}
 use Rattle.ts_vector.proofs.Rising.{any_of}
 use Rattle.ts_vector.proofs.Merging.{any_left}
@@ -31,20 +31,20 @@ step_met ps k p from g h lt is e met =
       | inr s ↦ inr (subst (Any (λ q. q.at ≡ h)) (sym t) (any_of (λ q. q.at ≡ h) (take k ps ++ p ∷ []) p (Contains-push (take k ps) p) (sym (e ∙ s))))
     ]
 
-pub step_item : (items : List Item) (k : ℕ) (x : Item) (g h : ℕ) → k < length items → x ≡ get_or items k x → IsGreatest (views (take k items)) g → g ≤ h
-    → All (λ p. p.at ≤ h) x.positions.items → (h ≡ g) ⊎ Any (λ p. p.at ≡ h) x.positions.items → IsGreatest (views (take (k + 1) items)) h
+pub step_item : (items : List Item) (k : ℕ) (x : Item) (g h : ℕ) → k < length items → x ≡ get_or items k x → IsGreatest (item_entries (take k items)) g → g ≤ h
+    → All (λ p. p.at ≤ h) x.positions.items → (h ≡ g) ⊎ Any (λ p. p.at ≡ h) x.positions.items → IsGreatest (item_entries (take (k + 1) items)) h
 step_item items k x g h lt is greatest le bound met =
-    let t : views (take (k + 1) items) ≡ views (take k items) ++ view x ∷ [] =
-    ap views (take_more items k x lt ∙ ap (λ q. take k items ++ q ∷ []) (sym is)) ∙ map-append view (take k items) (x ∷ []) in
+    let t : item_entries (take (k + 1) items) ≡ item_entries (take k items) ++ item_entry x ∷ [] =
+    ap item_entries (take_more items k x lt ∙ ap (λ q. take k items ++ q ∷ []) (sym is)) ∙ map-append item_entry (take k items) (x ∷ []) in
     subst (λ v. IsGreatest v h) (sym t) (record {
-      bound = All-push (λ e. All (λ p. p.at ≤ h) e.positions) (views (take k items)) (view x)
+      bound = All-push (λ e. All (λ p. p.at ≤ h) e.positions) (item_entries (take k items)) (item_entry x)
           (All-weaker (λ e. All (λ p. p.at ≤ g) e.positions) (λ e. All (λ p. p.at ≤ h) e.positions)
-          (λ e a. All-weaker (λ p. p.at ≤ g) (λ p. p.at ≤ h) (λ p b. omega arith) e.positions a) (views (take k items)) greatest.bound) bound;
+          (λ e a. All-weaker (λ p. p.at ≤ g) (λ p. p.at ≤ h) (λ p b. omega arith) e.positions a) (item_entries (take k items)) greatest.bound) bound;
       met = elim met [
         | inl s ↦ elim greatest.met [
           | inl z ↦ inl (s ∙ z)
-          | inr a ↦ inr (any_left (λ e. Any (λ p. p.at ≡ h) e.positions) (views (take k items)) (view x ∷ []) (subst (λ n. Any (λ e. Any (λ p. p.at ≡ n) e.positions) (views (take k items))) (sym s) a))
+          | inr a ↦ inr (any_left (λ e. Any (λ p. p.at ≡ h) e.positions) (item_entries (take k items)) (item_entry x ∷ []) (subst (λ n. Any (λ e. Any (λ p. p.at ≡ n) e.positions) (item_entries (take k items))) (sym s) a))
         ]
-        | inr a ↦ inr (any_of (λ e. Any (λ p. p.at ≡ h) e.positions) (views (take k items) ++ view x ∷ []) (view x) (Contains-push (views (take k items)) (view x)) a)
+        | inr a ↦ inr (any_of (λ e. Any (λ p. p.at ≡ h) e.positions) (item_entries (take k items) ++ item_entry x ∷ []) (item_entry x) (Contains-push (item_entries (take k items)) (item_entry x)) a)
       ];
     })

@@ -5,10 +5,10 @@ use Rattle.std.proofs.lemmas.Bool.Decides.{eqb_tells}
 use Rattle.std.proofs.lemmas.List.{map-append}
 use Rattle.ts_base.specs.Vectors.{Entry}
 use Rattle.ts_vector.specs.declared.entries.Item.{Item}
-use Rattle.ts_vector.specs.Views.{view, views}
+use Rattle.ts_vector.specs.ItemEntries.{item_entry, item_entries}
 
-pub views_push : (items : List Item) (item : Item) (more : List Item) (entry : Entry) → more ≡ items ++ item ∷ [] → view item ≡ entry → views more ≡ views items ++ entry ∷ []
-views_push items item more entry e v = ap views e ∙ map-append view items (item ∷ []) ∙ ap (λ t. views items ++ t ∷ []) v
+pub views_push : (items : List Item) (item : Item) (more : List Item) (entry : Entry) → more ≡ items ++ item ∷ [] → item_entry item ≡ entry → item_entries more ≡ item_entries items ++ entry ∷ []
+views_push items item more entry e v = ap item_entries e ∙ map-append item_entry items (item ∷ []) ∙ ap (λ t. item_entries items ++ t ∷ []) v
 
 pub same_bytes : (a b : List ℕ) → pointwise eqb a b ≡ true → a ≡ b
 same_bytes [] [] e = refl

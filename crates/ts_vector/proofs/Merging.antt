@@ -14,7 +14,7 @@ use Rattle.std.proofs.Math.Seq.{append_snoc, get_or-append_seam}
 use Rattle.ts_base.specs.Lexemes.{IsBefore}
 use Rattle.ts_base.specs.Vectors.{Position, Entry, IsPosition, content_size}
 use Rattle.ts_vector.specs.Normal.{capped}
-use Rattle.ts_vector.specs.Steps.{IsWritten, IsNotAfter, joined, AddsTo, HaveSame, Merges}
+use Rattle.ts_vector.specs.Inner.Steps.{IsWritten, IsNotAfter, joined, AddsTo, HaveSame, Merges}
 use Rattle.ts_vector.proofs.Rising.{contains_head, contains_later, contains_cases, contains_none, any_of, of_any, pairs_tail, head_before}
 
 abbrev pub Before : Entry → Entry → Type 0

@@ -1,20 +1,20 @@
 -- Want of memory aside, a text and a join have one answer.
-use Rattle.std.proofs.Common.{◌≡◌, ◌≢◌, ◌⊎◌, inl, inr, ℕ, ◌<◌, ◌≤◌, List, [], ◌∷◌, ◌++◌, length, get_or, refl, sym, ◌∙◌, ap, subst, arith}
+use Rattle.std.proofs.Common.{◌≡◌, ◌≢◌, inl, inr, ℕ, ◌≤◌, List, [], ◌∷◌, ◌++◌, length, refl, sym, ◌∙◌, ap, subst, arith}
 use Rattle.std.specs.Prelude.{All, Any, Result, Ok, Err}
 use Rattle.std.proofs.lemmas.List.Elements.{All-head, All-tail}
 use Rattle.ts_base.specs.Vectors.{Position, Entry, Vector, content_size}
-use Rattle.ts_vector.specs.Text.{Written, IsVectorText, FirstLong, AllFit, entries, IsTextOf}
+use Rattle.ts_vector.specs.Text.{Written, IsVectorText, FirstLong, AllShort, entries, IsTextOf}
 use Rattle.ts_vector.specs.Normal.{IsNormalFormOf}
 use Rattle.ts_vector.specs.Changes.{IsGreatest, IsJoinOf, shifted}
 use Rattle.ts_vector.specs.Failures.{IsTooLargeText, IsTooLargeJoin}
 use Rattle.ts_vector.specs.AnswerLaws.{IsTextAnswer, IsJoinAnswer, TextHasOneAnswer, JoinHasOneAnswer}
-use Rattle.ts_vector.specs.declared.VectorError.{VectorError}
-use Rattle.ts_vector.specs.declared.VectorError.TheVariants.{Syntax, LexemeTooLong, VectorTooLarge, BadBytes, OutOfMemory}
+use Rattle.ts_vector.specs.declared.error.VectorError.{VectorError}
+use Rattle.ts_vector.specs.declared.error.VectorError.TheVariants.{Syntax, LexemeTooLong, VectorTooLarge, BadBytes, OutOfMemory}
 use Rattle.ts_vector.proofs.Forms.{normal_form_one}
 use Rattle.ts_vector.proofs.OneList as lists
 
 -- no lexeme is too long, and one is
-fit_or_long : (items : List Written) (n : ℕ) → AllFit items → FirstLong items n → ⊥
+fit_or_long : (items : List Written) (n : ℕ) → AllShort items → FirstLong items n → ⊥
 fit_or_long [] n h l = l
 fit_or_long (x ∷ items) n h (inl l) = let le : length x.lexeme ≤ 2046 = All-head (λ item. length item.lexeme ≤ 2046) x items h in omega (arith, l.0)
 fit_or_long (x ∷ items) n h (inr l) = fit_or_long items n (All-tail (λ item. length item.lexeme ≤ 2046) x items h) l.1
@@ -36,7 +36,7 @@ ok_large text v n h k =
     omega (arith, h.small, k.large, k.size, ap content_size f)
 
 ok_long : (text : List ℕ) (v : Vector) (n : ℕ) → IsTextOf text v → (items : List Written) × IsVectorText text items × FirstLong items n → ⊥
-ok_long text v n h k = fit_or_long k.0 n (subst AllFit (same_items text h.items k.0 h.text_of k.1) h.fit) k.2
+ok_long text v n h k = fit_or_long k.0 n (subst AllShort (same_items text h.items k.0 h.text_of k.1) h.fit) k.2
 
 long_large : (text : List ℕ) (m n : ℕ) → (items : List Written) × IsVectorText text items × FirstLong items m → IsTooLargeText text n → ⊥
 long_large text m n h k = fit_or_long k.items m k.fit (subst (λ i. FirstLong i m) (same_items text h.0 k.items h.1 k.text_of) h.2)

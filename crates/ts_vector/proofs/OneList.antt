@@ -1,49 +1,22 @@
 -- A text has one list of items.
 use Rattle.std.proofs.Common.{◌≡◌, ◌≢◌, ℕ, suc, ◌+◌, ◌<◌, List, [], ◌∷◌, ◌++◌, ◌⊎◌, inl, inr, length, refl, sym, ◌∙◌, subst, Bool, true, false, Option, Some, None, arith}
-use Rattle.ts_base.specs.declared.Weight.{Weight}
-use Rattle.ts_base.specs.declared.Weight.TheVariants.{A, B, C, D}
+use Rattle.ts_base.specs.declared.Weight.TheVariants.{D}
 use Rattle.ts_base.specs.Vectors.{Position}
 use Rattle.ts_base.proofs.Faults.{fault_one, fault_outside}
-use Rattle.ts_base.specs.Leads.{Stands}
-use Rattle.ts_vector.specs.Text.{Written, written, position, IsWhite, IsDigit, IsLetter, with_digit, IsVectorText, entries}
+use Rattle.ts_base.specs.Fault.{Stands}
+use Rattle.ts_vector.specs.Text.{Written, written, position, IsVectorText, entries}
+use Rattle.ts_base.specs.Digits.{with_digit}
 use Rattle.ts_vector.specs.Normal.{IsNormalFormOf}
-use Rattle.ts_vector.specs.Rest.{Rest, Shape, Stepped, Finished}
+use Rattle.ts_base.specs.Inner.Machine.{RestAt}
+use Rattle.ts_vector.specs.Inner.Shape.{Shape, ShapeSteps, ShapeEnds, VectorRest}
 use Rattle.ts_vector.specs.TextLaws.{TextHasOneList, TextHasOneValue, FaultHasOnePlace, FaultIsOutside}
 use Rattle.ts_vector.specs.declared.reader.State.{State}
 use Rattle.ts_vector.specs.declared.reader.State.TheVariants.{Between, InQuoted, QuotedEscape, Quote, InPlain, PlainEscape, Digits, Weighted}
 use Rattle.ts_vector.proofs.Forms.{normal_form_one}
 use Rattle.ts_vector.proofs.Reading
-
--- ── what a byte can be ──
-same_or : (m n : ℕ) → (m ≡ n) ⊎ (m ≢ n)
-same_or m n = grind arith
-
-white_or : (c : ℕ) → IsWhite c ⊎ (¬ IsWhite c)
-white_or c = grind arith
-
-digit_or : (c : ℕ) → IsDigit c ⊎ (¬ IsDigit c)
-digit_or c = grind arith
-
-letter_at : (c : ℕ) (w : Weight) → IsLetter c w ⊎ (¬ IsLetter c w)
-letter_at c A = grind arith
-letter_at c B = grind arith
-letter_at c C = grind arith
-letter_at c D = grind arith
-
-letter_or : (c : ℕ) → ((w : Weight) × IsLetter c w) ⊎ ((w : Weight) → ¬ IsLetter c w)
-letter_or c = elim (letter_at c A) [
-  | inl h ↦ inl (A, h)
-  | inr a ↦ elim (letter_at c B) [
-    | inl h ↦ inl (B, h)
-    | inr b ↦ elim (letter_at c C) [
-      | inl h ↦ inl (C, h)
-      | inr k ↦ elim (letter_at c D) [
-        | inl h ↦ inl (D, h)
-        | inr d ↦ inr (λ w. elim w as (λ x. ¬ IsLetter c x) [ A ↦ a | B ↦ b | C ↦ k | D ↦ d ])
-      ]
-    ]
-  ]
-]
+use Rattle.ts_base.proofs.ByteKinds.{same_or, white_or, digit_or, letter_or}
+use Rattle.ts_base.proofs.Places.{moves_to}
+use Rattle.ts_base.specs.declared.TheConstants.{LAST_POSITION}
 
 empty_or : (a : List ℕ) → (a ≡ []) ⊎ (a ≢ [])
 empty_or [] = inl refl
@@ -54,7 +27,7 @@ zero_or n = grind arith
 
 -- ── in each state each byte is taken or refused ──
 abbrev Step : ℕ → Shape → ℕ → Type 0
-Step o s c = (ok : Bool) × (t : Shape) × Stepped o s c ok t
+Step o s c = (ok : Bool) × (t : Shape) × ShapeSteps o s c ok t
 
 module _ (o : ℕ) (its : List Written) (s : ℕ) (a : List ℕ) (ps : List Position) (n c : ℕ) where
   at_between : Step o (Reading.mk Between its s a ps n) c
@@ -69,7 +42,7 @@ module _ (o : ℕ) (its : List Written) (s : ℕ) (a : List ℕ) (ps : List Posi
           | inr w ↦ (
             true,
             Reading.mk InPlain its o (c ∷ []) ps n,
-            Reading.opens_plain _ _ _ _ _ _ _ _ _ _ _ _ _ _ [] refl refl refl (record { no_white = w; no_colon = k; no_escape = b }) q refl refl refl,
+            Reading.opens_plain _ _ _ _ _ _ _ _ _ _ _ _ _ _ [] refl refl refl (record { no_end = λ x. elim x [ inl y ↦ w y | inr y ↦ k y ]; no_escape = b }) q refl refl refl,
           )
         ]
       ]
@@ -95,7 +68,7 @@ module _ (o : ℕ) (its : List Written) (s : ℕ) (a : List ℕ) (ps : List Posi
         | inr w ↦ (
           true,
           Reading.mk InPlain its s (a ++ c ∷ []) ps n,
-          Reading.plain_byte_on _ _ _ _ _ _ _ _ _ _ _ _ _ _ refl refl refl (record { no_white = w; no_colon = k; no_escape = b }) refl refl,
+          Reading.plain_byte_on _ _ _ _ _ _ _ _ _ _ _ _ _ _ refl refl refl (record { no_end = λ x. elim x [ inl y ↦ w y | inr y ↦ k y ]; no_escape = b }) refl refl,
         )
       ]
     ]
@@ -103,7 +76,7 @@ module _ (o : ℕ) (its : List Written) (s : ℕ) (a : List ℕ) (ps : List Posi
 
   at_digits : Step o (Reading.mk Digits its s a ps n) c
   at_digits = elim (digit_or c) [
-    | inl d ↦ (true, Reading.mk Digits its s a ps (with_digit n c), Reading.digit_more _ _ _ _ _ _ _ _ _ _ refl refl d refl)
+    | inl d ↦ (true, Reading.mk Digits its s a ps (with_digit LAST_POSITION n c), Reading.digit_more _ _ _ _ _ _ _ _ _ _ refl refl d refl)
     | inr d ↦ elim (zero_or n) [
       | inl z ↦ (false, Reading.mk Digits its s a ps n, Reading.zero_stuck _ _ _ _ _ _ _ refl z d)
       | inr p ↦ elim (letter_or c) [
@@ -152,7 +125,7 @@ step_of o PlainEscape its s a ps n c = (true, Reading.mk InPlain its s (a ++ c �
 step_of o Digits its s a ps n c = at_digits o its s a ps n c
 step_of o Weighted its s a ps n c = at_weighted o its s a ps n c
 
-end_of : (st : State) (its : List Written) (s : ℕ) (a : List ℕ) (ps : List Position) (n : ℕ) → (r : Option (List Written)) × Finished (Reading.mk st its s a ps n) r
+end_of : (st : State) (its : List Written) (s : ℕ) (a : List ℕ) (ps : List Position) (n : ℕ) → (r : Option (List Written)) × ShapeEnds (Reading.mk st its s a ps n) r
 end_of Between its s a ps n = (Some its, Reading.between_whole _ _ _ _ _ _ refl)
 end_of InQuoted its s a ps n = (None, Reading.quoted_unfinished _ _ _ _ _ _ refl)
 end_of QuotedEscape its s a ps n = (None, Reading.escape_unfinished _ _ _ _ _ _ refl)
@@ -169,16 +142,16 @@ end_of Digits its s a ps n = elim (zero_or n) [
 end_of Weighted its s a ps n = (Some (its ++ written s a ps ∷ []), Reading.weighted_whole _ _ _ _ _ _ _ refl refl)
 
 -- ── one list ──
-end_one : (i : ℕ) (s : Shape) (r : Option (List Written)) (v w : List Written) → Finished s r → Rest i s [] v → Rest i s [] w → v ≡ w
+end_one : (i : ℕ) (s : Shape) (r : Option (List Written)) (v w : List Written) → ShapeEnds s r → RestAt (List Written) (VectorRest s) i [] v → RestAt (List Written) (VectorRest s) i [] w → v ≡ w
 end_one i s (Some x) v w f h k = f.only (i + 0) v h ∙ sym (f.only (i + 0) w k)
 end_one i s None v w f h k = absurd (f.never (i + 0) v h)
 
 step_one : (i : ℕ) (s : Shape) (c : ℕ) (u : List ℕ) (v w : List Written) → Step i s c
-    → ((t : Shape) → Rest (i + 1) t u v → Rest (i + 1) t u w → v ≡ w) → Rest i s (c ∷ u) v → Rest i s (c ∷ u) w → v ≡ w
-step_one i s c u v w (true, t, m) then h k = then t (Reading.step_to i s t c m u v h) (Reading.step_to i s t c m u w k)
-step_one i s c u v w (false, t, m) then h k = absurd (m.never (i + suc (length u)) u v h)
+    → ((t : Shape) → RestAt (List Written) (VectorRest t) (i + 1) u v → RestAt (List Written) (VectorRest t) (i + 1) u w → v ≡ w) → RestAt (List Written) (VectorRest s) i (c ∷ u) v → RestAt (List Written) (VectorRest s) i (c ∷ u) w → v ≡ w
+step_one i s c u v w (true, t, m) then h k = then t (moves_to (List Written) IsVectorText Shape VectorRest i s t c m u v h) (moves_to (List Written) IsVectorText Shape VectorRest i s t c m u w k)
+step_one i s c u v w (false, t, m) then h k = absurd (m.never c [] refl (i + suc (length u)) u v h)
 
-one : (u : List ℕ) (i : ℕ) (s : Shape) (v w : List Written) → Rest i s u v → Rest i s u w → v ≡ w
+one : (u : List ℕ) (i : ℕ) (s : Shape) (v w : List Written) → RestAt (List Written) (VectorRest s) i u v → RestAt (List Written) (VectorRest s) i u w → v ≡ w
 one [] i s v w h k = let e = end_of s.state s.items s.start s.word s.positions s.value in end_one i s e.0 v w e.1 h k
 one (c ∷ u) i s v w h k = step_one i s c u v w (step_of i s.state s.items s.start s.word s.positions s.value c) (λ t p q. one u (i + 1) t v w p q) h k
 

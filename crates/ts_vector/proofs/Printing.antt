@@ -1,106 +1,70 @@
 -- The printed text of a vector is text, and it is read again.
-use Rattle.std.proofs.Common.{◌≡◌, ◌≢◌, ℕ, zero, suc, ◌+◌, ◌-◌, ◌/◌, ◌%◌, ◌<◌, ◌≤◌, ◌⊎◌, inl, inr, true, List, [], ◌∷◌, ◌++◌, length, get_or, take, map, refl, sym, ◌∙◌, ap, subst, arith, append_assoc}
-use Rattle.std.specs.Prelude.{All, Any, Contains, AllPairs, encode_utf8, encode_utf8_all}
-use Rattle.std.specs.Str.{IsUtf8}
+use Rattle.std.proofs.Common.{◌≡◌, ◌≢◌, ℕ, suc, ◌+◌, ◌-◌, ◌/◌, ◌%◌, ◌<◌, ◌≤◌, inl, inr, List, [], ◌∷◌, ◌++◌, length, take, map, refl, sym, ◌∙◌, ap, subst, arith, append_assoc}
+use Rattle.std.specs.Prelude.{All, Any, Contains, AllPairs}
 use Rattle.std.specs.List.{flat_map, join_with_byte}
 use Rattle.std.specs.Fmt.{decimal}
-use Rattle.std.proofs.lemmas.Fmt.{decimal_by_steps, IsAscii-decimal}
-use Rattle.std.specs.Char.{IsScalar}
-use Rattle.std.specs.Cmp.{first_so, second_so}
-use Rattle.std.proofs.Math.Utf8.{scalar, scalars}
-use Rattle.std.proofs.lemmas.Str.{IsUtf8-append, IsUtf8-encode, IsUtf8-nil, IsUtf8-from_ascii, encode_ascii, inside_one}
-use Rattle.std.proofs.lemmas.Grind.{flat_map-append}
-use Rattle.std.proofs.lemmas.List.{append-nil, get_or_default}
-use Rattle.ts_vector.proofs.TextFacts.{below_or}
-use Rattle.std.proofs.lemmas.List.Elements.{All-nil, All-cons, All-head, All-tail, All-contains, All-weaker, All-map}
-use Rattle.std.proofs.lemmas.Bool.Decides.{eqb_tells}
+use Rattle.std.proofs.lemmas.Fmt.{decimal_by_steps}
+use Rattle.std.proofs.lemmas.List.{append-nil, take_all}
+use Rattle.std.proofs.lemmas.List.Elements.{All-nil, All-cons, All-head, All-tail, All-contains}
 use Rattle.std.proofs.Math.Seq.{append_snoc}
-use Rattle.std.proofs.lemmas.List.{take_all}
 use Rattle.std.proofs.lemmas.Simd.{map-map}
 use Rattle.ts_base.specs.declared.Weight.{Weight}
 use Rattle.ts_base.specs.declared.Weight.TheVariants.{A, B, C, D}
 use Rattle.ts_base.specs.Vectors.{Position, Entry, Vector, IsPosition, IsEntry, IsNormal}
-use Rattle.ts_base.specs.Bytes.{weight_number}
+use Rattle.ts_base.specs.Spelling.{weight_number}
 use Rattle.ts_vector.specs.Normal.{capped, Names, Places, IsHighest, IsPlaced, IsNormalFormOf}
-use Rattle.ts_vector.specs.Text.{Written, written, position, IsDigit, IsParted, BeginsWithQuote, with_digit, Quoted, Number, Behind, Items, Word, AllFit, entry_of, entries}
-use Rattle.ts_vector.specs.Text.{closed, doubled, quoted_escape, quoted_byte, digit, letter, bare, last, comma, done, space, quoted, alone, numbered}
+use Rattle.ts_vector.specs.Text.{Written, written, position, IsParted, PositionNumber, BehindPosition, Items, LexemeTail, AllShort, entry_of, entries, digit, letter, bare, last, comma, done, space, quoted, alone, numbered}
+use Rattle.ts_base.specs.Bytes.{IsDigit, BeginsWithQuote}
+use Rattle.ts_base.specs.Digits.{with_digit}
+use Rattle.ts_base.specs.Quoted.{doubled_byte}
 use Rattle.ts_vector.specs.declared.entries.Item.{Item}
-use Rattle.ts_vector.specs.Views.{view, views}
-use Rattle.ts_vector.specs.Printed.{twice_if_special, quoted_text, weight_text, position_text, positions_text, entry_text, vector_text, PrintedTextIsRead}
+use Rattle.ts_vector.specs.ItemEntries.{item_entry, item_entries}
+use Rattle.ts_vector.specs.Printed.{weight_text, position_text, positions_text, entry_text, vector_text, PrintedTextIsRead}
 use Rattle.ts_vector.proofs.Rising.{any_of, of_any, contains_cases, contains_none, head_before, pairs_tail}
 use Rattle.ts_vector.proofs.Merging.{all_of}
 use Rattle.ts_vector.proofs.Settling.{capped_same, rising_one}
-
--- ── a lexeme in quotes ──
-special : (c : ℕ) → (c ≡ 39) ⊎ ((c ≡ 92) ⊎ ((c ≢ 39) × (c ≢ 92)))
-special c = grind arith
-
-twice_39 : twice_if_special 39 ≡ 39 ∷ 39 ∷ []
-twice_39 = refl
-
-once : (c : ℕ) → c ≢ 39 → c ≢ 92 → twice_if_special c ≡ c ∷ []
-once c m n = elim (eqb_tells c 39) [
-  | inl e ↦ absurd (m e.1)
-  | inr q ↦ elim (eqb_tells c 92) [ inl e ↦ absurd (n e.1) | inr b ↦ rw (q.0, b.0) refl ]
-]
-
-quoted_step : (c : ℕ) (a u l rest : List ℕ) → Quoted (a ++ c ∷ []) u l rest → Quoted a (twice_if_special c ++ u) l rest
-quoted_step c a u l rest q = elim (special c) [
-  | inl e ↦ subst (λ d. Quoted a (twice_if_special d ++ u) l rest) (sym e) (doubled a u l rest (subst (λ d. Quoted (a ++ d ∷ []) u l rest) e q))
-  | inr o ↦ elim o [
-    | inl e ↦ subst (λ d. Quoted a (twice_if_special d ++ u) l rest) (sym e) (quoted_escape 92 a u l rest (subst (λ d. Quoted (a ++ d ∷ []) u l rest) e q))
-    | inr n ↦ subst (λ t. Quoted a (t ++ u) l rest) (sym (once c n.0 n.1)) (quoted_byte c a u l rest n.0 n.1 q)
-  ]
-]
-
--- behind the beginning a of the lexeme
-quoted_on : (l a rest : List ℕ) → ¬ BeginsWithQuote rest → Quoted a (flat_map twice_if_special l ++ 39 ∷ rest) (a ++ l) rest
-quoted_on [] a rest n = subst (λ t. Quoted a (39 ∷ rest) t rest) (sym (append-nil a)) (closed a rest n)
-quoted_on (c ∷ l) a rest n =
-    let more : Quoted (a ++ c ∷ []) (flat_map twice_if_special l ++ 39 ∷ rest) (a ++ c ∷ l) rest =
-    subst (λ t. Quoted (a ++ c ∷ []) (flat_map twice_if_special l ++ 39 ∷ rest) t rest) (append_snoc a c l) (quoted_on l (a ++ c ∷ []) rest n) in
-    subst (λ u. Quoted a u (a ++ c ∷ l) rest) (sym (append_assoc (twice_if_special c) (flat_map twice_if_special l) (39 ∷ rest)))
-    (quoted_step c a (flat_map twice_if_special l ++ 39 ∷ rest) (a ++ c ∷ l) rest more)
+use Rattle.ts_base.proofs.QuotedTexts.{quoted_reads}
+use Rattle.ts_base.specs.declared.TheConstants.{LAST_POSITION}
 
 -- ── positions ──
 -- the digits of n lead to n
 abbrev LeadsTo : ℕ → List ℕ → Type 0
-LeadsTo n ds = n ≤ 16383 → (a : List Position) (t : List ℕ) (ps : List Position) (r : List ℕ) → Number n a t ps r → Number 0 a (ds ++ t) ps r
+LeadsTo n ds = n ≤ 16383 → (a : List Position) (t : List ℕ) (ps : List Position) (r : List ℕ) → PositionNumber n a t ps r → PositionNumber 0 a (ds ++ t) ps r
 
 one_digit : (n : ℕ) → n < 10 → LeadsTo n ((48 + n) ∷ [])
 one_digit n lt le a t ps r k =
-    let e : n ≡ with_digit 0 (48 + n) = omega arith in
+    let e : n ≡ with_digit LAST_POSITION 0 (48 + n) = omega arith in
     let d : IsDigit (48 + n) = omega arith in
-    digit (48 + n) 0 a t ps r d (subst (λ m. Number m a t ps r) e k)
+    digit (48 + n) 0 a t ps r d (subst (λ m. PositionNumber m a t ps r) e k)
 
 more_digits : (n : ℕ) (ds : List ℕ) → 10 ≤ n → LeadsTo (n / 10) ds → LeadsTo n (ds ++ (48 + n % 10) ∷ [])
 more_digits n ds ge front le a t ps r k =
-    let e : n ≡ with_digit (n / 10) (48 + n % 10) = omega arith in
+    let e : n ≡ with_digit LAST_POSITION (n / 10) (48 + n % 10) = omega arith in
     let d : IsDigit (48 + n % 10) = omega arith in
-    subst (λ u. Number 0 a u ps r) (sym (append_snoc ds (48 + n % 10) t))
-    (front (omega arith) a ((48 + n % 10) ∷ t) ps r (digit (48 + n % 10) (n / 10) a t ps r d (subst (λ m. Number m a t ps r) e k)))
+    subst (λ u. PositionNumber 0 a u ps r) (sym (append_snoc ds (48 + n % 10) t))
+    (front (omega arith) a ((48 + n % 10) ∷ t) ps r (digit (48 + n % 10) (n / 10) a t ps r d (subst (λ m. PositionNumber m a t ps r) e k)))
 
 decimal_leads : (n : ℕ) → n ≤ 16383 → LeadsTo n (decimal n)
 decimal_leads n le = decimal_by_steps LeadsTo one_digit more_digits n (omega arith)
 
-letter_leads : (n : ℕ) (w : Weight) (a : List Position) (t : List ℕ) (ps : List Position) (r : List ℕ) → 0 < n → Behind (a ++ position n w ∷ []) t ps r → Number n a (weight_text w ++ t) ps r
+letter_leads : (n : ℕ) (w : Weight) (a : List Position) (t : List ℕ) (ps : List Position) (r : List ℕ) → 0 < n → BehindPosition (a ++ position n w ∷ []) t ps r → PositionNumber n a (weight_text w ++ t) ps r
 letter_leads n D a t ps r p b = bare n a t ps r p b
 letter_leads n C a t ps r p b = letter 67 n C a t ps r p (inl refl) b
 letter_leads n B a t ps r p b = letter 66 n B a t ps r p (inl refl) b
 letter_leads n A a t ps r p b = letter 65 n A a t ps r p (inl refl) b
 
-position_leads : (p : Position) (a : List Position) (t : List ℕ) (ps : List Position) (r : List ℕ) → IsPosition p → Behind (a ++ p ∷ []) t ps r → Number 0 a (position_text p ++ t) ps r
+position_leads : (p : Position) (a : List Position) (t : List ℕ) (ps : List Position) (r : List ℕ) → IsPosition p → BehindPosition (a ++ p ∷ []) t ps r → PositionNumber 0 a (position_text p ++ t) ps r
 position_leads p a t ps r h b =
-    subst (λ u. Number 0 a u ps r) (sym (append_assoc (decimal p.at) (weight_text p.weight) t))
+    subst (λ u. PositionNumber 0 a u ps r) (sym (append_assoc (decimal p.at) (weight_text p.weight) t))
     (decimal_leads p.at h.1 h.1 a (weight_text p.weight ++ t) ps r (letter_leads p.at p.weight a t ps r h.0 b))
 
-positions_lead : (ps : List Position) (p : Position) (a : List Position) (r : List ℕ) → IsParted r → All IsPosition (p ∷ ps) → Number 0 a (join_with_byte 44 (map position_text (p ∷ ps)) ++ r) (a ++ p ∷ ps) r
+positions_lead : (ps : List Position) (p : Position) (a : List Position) (r : List ℕ) → IsParted r → All IsPosition (p ∷ ps) → PositionNumber 0 a (join_with_byte 44 (map position_text (p ∷ ps)) ++ r) (a ++ p ∷ ps) r
 positions_lead [] p a r e h = position_leads p a r (a ++ p ∷ []) r (All-head IsPosition p [] h) (last (a ++ p ∷ []) r e)
 positions_lead (q ∷ ps) p a r e h =
     let rest = join_with_byte 44 (map position_text (q ∷ ps)) in
-    let k : Number 0 (a ++ p ∷ []) (rest ++ r) (a ++ p ∷ q ∷ ps) r =
-    subst (λ l. Number 0 (a ++ p ∷ []) (rest ++ r) l r) (append_snoc a p (q ∷ ps)) (positions_lead ps q (a ++ p ∷ []) r e (All-tail IsPosition p (q ∷ ps) h)) in
-    subst (λ u. Number 0 a u (a ++ p ∷ q ∷ ps) r) (sym (append_assoc (position_text p) (44 ∷ rest) r))
+    let k : PositionNumber 0 (a ++ p ∷ []) (rest ++ r) (a ++ p ∷ q ∷ ps) r =
+    subst (λ l. PositionNumber 0 (a ++ p ∷ []) (rest ++ r) l r) (append_snoc a p (q ∷ ps)) (positions_lead ps q (a ++ p ∷ []) r e (All-tail IsPosition p (q ∷ ps) h)) in
+    subst (λ u. PositionNumber 0 a u (a ++ p ∷ q ∷ ps) r) (sym (append_assoc (position_text p) (44 ∷ rest) r))
     (position_leads p a (44 ∷ (rest ++ r)) (a ++ p ∷ q ∷ ps) r (All-head IsPosition p (q ∷ ps) h) (comma (a ++ p ∷ []) (rest ++ r) (a ++ p ∷ q ∷ ps) r k))
 
 -- ── entries ──
@@ -113,7 +77,7 @@ some_ne l h e = let n = ap length e in omega arith
 
 -- behind the lexeme stand its positions
 word_leads : (size s : ℕ) (a : List Written) (l : List ℕ) (ps : List Position) (r : List ℕ) (v : List Written) → IsParted r → All IsPosition ps
-    → Items size (a ++ written s l ps ∷ []) r v → Word size s a l (positions_text ps ++ r) v
+    → Items size (a ++ written s l ps ∷ []) r v → LexemeTail size s a l (positions_text ps ++ r) v
 word_leads size s a l [] r v e h k = alone s a l r v k
 word_leads size s a l (p ∷ ps) r v e h k = numbered s a l (join_with_byte 44 (map position_text (p ∷ ps)) ++ r) (p ∷ ps) r v (positions_lead ps p [] r e h) k
 
@@ -125,13 +89,13 @@ entry_leads : (size : ℕ) (e : Entry) (a : List Written) (r : List ℕ) → IsE
     → (s : ℕ) × ((v : List Written) → Items size (a ++ written s e.lexeme e.positions ∷ []) r v → Items size a (entry_text e ++ r) v)
 entry_leads size e a r h parted =
     let behind = positions_text e.positions ++ r in
-    let u = flat_map twice_if_special e.lexeme ++ 39 ∷ behind in
+    let u = flat_map doubled_byte e.lexeme ++ 39 ∷ behind in
     let s = size - suc (length u) in
-    let same : u ≡ ((flat_map twice_if_special e.lexeme ++ 39 ∷ []) ++ positions_text e.positions) ++ r =
-    sym (append_assoc (flat_map twice_if_special e.lexeme ++ 39 ∷ []) (positions_text e.positions) r ∙ append_snoc (flat_map twice_if_special e.lexeme) 39 behind) in (
+    let same : u ≡ ((flat_map doubled_byte e.lexeme ++ 39 ∷ []) ++ positions_text e.positions) ++ r =
+    sym (append_assoc (flat_map doubled_byte e.lexeme ++ 39 ∷ []) (positions_text e.positions) r ∙ append_snoc (flat_map doubled_byte e.lexeme) 39 behind) in (
       s,
       λ v k. subst (λ t. Items size a (39 ∷ t) v) same
-          (quoted a u e.lexeme behind v (quoted_on e.lexeme [] behind (behind_no_quote e.positions r parted)) (some_ne e.lexeme h.lexeme.some)
+          (quoted a u e.lexeme behind v (quoted_reads e.lexeme [] behind (behind_no_quote e.positions r parted)) (some_ne e.lexeme h.lexeme.some)
           (word_leads size s a e.lexeme e.positions r v parted h.positions k)),
     )
 
@@ -209,7 +173,7 @@ normal_itself v n = record {
   placed = all_of (IsPlaced v) v (placed_itself v n);
 }
 
-fit_entries : (items : List Written) → All IsEntry (entries items) → AllFit items
+fit_entries : (items : List Written) → All IsEntry (entries items) → AllShort items
 fit_entries [] h = All-nil (λ item. length item.lexeme ≤ 2046)
 fit_entries (w ∷ items) h =
     All-cons (λ item. length item.lexeme ≤ 2046) w items (All-head IsEntry (entry_of w) (entries items) h).lexeme.most
@@ -226,91 +190,13 @@ printed_text_is_read v n small =
       small = small;
     }
 
--- ── the printed text is UTF-8 ──
-ascii_text : (c : ℕ) → c < 128 → IsUtf8 (c ∷ [])
-ascii_text c lt = IsUtf8-from_ascii (c ∷ []) (λ i. one_low c lt i)
-  where
-    one_low : (d : ℕ) → d < 128 → (i : ℕ) → get_or (d ∷ []) i 0 < 128
-    one_low d h zero = h
-    one_low d h (suc i) = omega arith
-
-high_once : (bs : List ℕ) → All (λ b. 128 ≤ b) bs → flat_map twice_if_special bs ≡ bs
-high_once [] h = refl
-high_once (b ∷ bs) h =
-    let k = All-head (λ x. 128 ≤ x) b bs h in
-    let t = high_once bs (All-tail (λ x. 128 ≤ x) b bs h) in
-    ap (λ x. x ++ flat_map twice_if_special bs) (once b (λ e. omega arith) (λ e. omega arith)) ∙ ap (λ x. b ∷ x) t
-
-high_bytes : (c : ℕ) → 128 ≤ c → All (λ b. 128 ≤ b) (encode_utf8 c)
-high_bytes c ge k d lt =
-    let z : get_or (encode_utf8 c) k d ≡ get_or (encode_utf8 c) k 0 = get_or_default (encode_utf8 c) k d 0 lt in
-    rw z (elim (below_or (get_or (encode_utf8 c) k 0) 128) [
-      | inr h ↦ h
-      | inl low ↦ absurd (let e = inside_one c [] (encode_utf8 c) k (sym (append-nil (encode_utf8 c))) lt low in omega arith)
-    ])
-
-twice_text : (c : ℕ) → c < 128 → IsUtf8 (twice_if_special c)
-twice_text c lt = elim (special c) [
-  | inl e ↦ subst (λ d. IsUtf8 (twice_if_special d)) (sym e) (IsUtf8-append (39 ∷ []) (39 ∷ []) (ascii_text 39 (omega arith)) (ascii_text 39 (omega arith)))
-  | inr o ↦ elim o [
-    | inl e ↦ subst (λ d. IsUtf8 (twice_if_special d)) (sym e) (IsUtf8-append (92 ∷ []) (92 ∷ []) (ascii_text 92 (omega arith)) (ascii_text 92 (omega arith)))
-    | inr n ↦ subst IsUtf8 (sym (once c n.0 n.1)) (ascii_text c lt)
-  ]
-]
-
-character_text : (c : ℕ) → IsScalar c → IsUtf8 (flat_map twice_if_special (encode_utf8 c))
-character_text c s = elim (below_or c 128) [
-  | inl lt ↦ subst (λ bs. IsUtf8 (flat_map twice_if_special bs)) (sym (encode_ascii c lt)) (subst IsUtf8 (sym (append-nil (twice_if_special c))) (twice_text c lt))
-  | inr ge ↦ subst IsUtf8 (sym (high_once (encode_utf8 c) (high_bytes c ge))) (IsUtf8-encode c s)
-]
-
-characters_text : (cs : List ℕ) → scalars cs ≡ true → IsUtf8 (flat_map twice_if_special (encode_utf8_all cs))
-characters_text [] s = IsUtf8-nil
-characters_text (c ∷ cs) s =
-    subst IsUtf8 (sym (flat_map-append twice_if_special (encode_utf8 c) (encode_utf8_all cs)))
-    (IsUtf8-append (flat_map twice_if_special (encode_utf8 c)) (flat_map twice_if_special (encode_utf8_all cs))
-    (character_text c (first_so (scalar c) (scalars cs) s)) (characters_text cs (second_so (scalar c) (scalars cs) s)))
-
-lexeme_text : (l : List ℕ) → IsUtf8 l → IsUtf8 (quoted_text l)
-lexeme_text l (cs, (s, e)) =
-    let inner = subst (λ bs. IsUtf8 (flat_map twice_if_special bs)) e (characters_text cs s) in
-    IsUtf8-append (39 ∷ []) (flat_map twice_if_special l ++ 39 ∷ []) (ascii_text 39 (omega arith))
-    (IsUtf8-append (flat_map twice_if_special l) (39 ∷ []) inner (ascii_text 39 (omega arith)))
-
-weight_utf8 : (w : Weight) → IsUtf8 (weight_text w)
-weight_utf8 D = IsUtf8-nil
-weight_utf8 C = ascii_text 67 (omega arith)
-weight_utf8 B = ascii_text 66 (omega arith)
-weight_utf8 A = ascii_text 65 (omega arith)
-
-position_utf8 : (p : Position) → IsPosition p → IsUtf8 (position_text p)
-position_utf8 p h = IsUtf8-append (decimal p.at) (weight_text p.weight) (IsUtf8-from_ascii (decimal p.at) (IsAscii-decimal p.at (omega (arith, h.1)))) (weight_utf8 p.weight)
-
-joined_utf8 : (c : ℕ) → c < 128 → (pieces : List (List ℕ)) → All IsUtf8 pieces → IsUtf8 (join_with_byte c pieces)
-joined_utf8 c lt [] h = IsUtf8-nil
-joined_utf8 c lt (x ∷ []) h = All-head IsUtf8 x [] h
-joined_utf8 c lt (x ∷ y ∷ xs) h =
-    IsUtf8-append x (c ∷ join_with_byte c (y ∷ xs)) (All-head IsUtf8 x (y ∷ xs) h)
-    (IsUtf8-append (c ∷ []) (join_with_byte c (y ∷ xs)) (ascii_text c lt) (joined_utf8 c lt (y ∷ xs) (All-tail IsUtf8 x (y ∷ xs) h)))
-
-positions_utf8 : (ps : List Position) → All IsPosition ps → IsUtf8 (positions_text ps)
-positions_utf8 [] h = IsUtf8-nil
-positions_utf8 (p ∷ ps) h =
-    IsUtf8-append (58 ∷ []) (join_with_byte 44 (map position_text (p ∷ ps))) (ascii_text 58 (omega arith))
-    (joined_utf8 44 (omega arith) (map position_text (p ∷ ps)) (All-map IsUtf8 position_text (p ∷ ps) (All-weaker IsPosition (λ q. IsUtf8 (position_text q)) position_utf8 (p ∷ ps) h)))
-
-pub vector_utf8 : (v : Vector) → All IsEntry v → IsUtf8 (vector_text v)
-vector_utf8 v h =
-    joined_utf8 32 (omega arith) (map entry_text v) (All-map IsUtf8 entry_text v (All-weaker IsEntry (λ e. IsUtf8 (entry_text e))
-    (λ e k. IsUtf8-append (quoted_text e.lexeme) (positions_text e.positions) (lexeme_text e.lexeme k.lexeme.utf8) (positions_utf8 e.positions k.positions)) v h))
-
 -- ── as they are printed one after another ──
 pub join_is : {X : Type 0} (c : ℕ) (f : X → List ℕ) (x : X) (xs : List X) → join_with_byte c (map f (x ∷ xs)) ≡ f x ++ flat_map (λ y. c ∷ f y) xs
 join_is c f x [] = sym (append-nil (f x))
 join_is c f x (y ∷ xs) = ap (λ t. f x ++ c ∷ t) (join_is c f y xs)
 
-pub items_text : (x : Item) (xs : List Item) → vector_text (views (x ∷ xs)) ≡ entry_text (view x) ++ flat_map (λ y. 32 ∷ entry_text (view y)) xs
-items_text x xs = ap (join_with_byte 32) (map-map entry_text view (x ∷ xs)) ∙ join_is 32 (λ y. entry_text (view y)) x xs
+pub items_text : (x : Item) (xs : List Item) → vector_text (item_entries (x ∷ xs)) ≡ entry_text (item_entry x) ++ flat_map (λ y. 32 ∷ entry_text (item_entry y)) xs
+items_text x xs = ap (join_with_byte 32) (map-map entry_text item_entry (x ∷ xs)) ∙ join_is 32 (λ y. entry_text (item_entry y)) x xs
 
 pub positions_end : (old colon one out : List ℕ) (p : Position) (ps all : List Position) (k : ℕ) → all ≡ p ∷ ps → colon ≡ old ++ 58 ∷ [] → one ≡ colon ++ position_text p
     → out ≡ one ++ flat_map (λ q. 44 ∷ position_text q) (take k ps) → length ps ≤ k → out ≡ old ++ positions_text all
@@ -321,10 +207,10 @@ positions_end old colon one out p ps all k e a b h le =
     ∙ append_snoc old 58 (position_text p ++ flat_map (λ q. 44 ∷ position_text q) ps)
     ∙ ap (λ t. old ++ 58 ∷ t) (sym (join_is 44 position_text p ps)) ∙ ap (λ t. old ++ positions_text t) (sym e)
 
-pub items_end : (old one out : List ℕ) (x : Item) (xs all : List Item) (k : ℕ) → all ≡ x ∷ xs → one ≡ old ++ entry_text (view x)
-    → out ≡ one ++ flat_map (λ y. 32 ∷ entry_text (view y)) (take k xs) → length xs ≤ k → out ≡ old ++ vector_text (views all)
+pub items_end : (old one out : List ℕ) (x : Item) (xs all : List Item) (k : ℕ) → all ≡ x ∷ xs → one ≡ old ++ entry_text (item_entry x)
+    → out ≡ one ++ flat_map (λ y. 32 ∷ entry_text (item_entry y)) (take k xs) → length xs ≤ k → out ≡ old ++ vector_text (item_entries all)
 items_end old one out x xs all k e b h le =
-    h ∙ ap (λ t. one ++ flat_map (λ y. 32 ∷ entry_text (view y)) t) (take_all k xs le)
-    ∙ ap (λ t. t ++ flat_map (λ y. 32 ∷ entry_text (view y)) xs) b
-    ∙ append_assoc old (entry_text (view x)) (flat_map (λ y. 32 ∷ entry_text (view y)) xs)
-    ∙ ap (λ t. old ++ t) (sym (items_text x xs)) ∙ ap (λ t. old ++ vector_text (views t)) (sym e)
+    h ∙ ap (λ t. one ++ flat_map (λ y. 32 ∷ entry_text (item_entry y)) t) (take_all k xs le)
+    ∙ ap (λ t. t ++ flat_map (λ y. 32 ∷ entry_text (item_entry y)) xs) b
+    ∙ append_assoc old (entry_text (item_entry x)) (flat_map (λ y. 32 ∷ entry_text (item_entry y)) xs)
+    ∙ ap (λ t. old ++ t) (sym (items_text x xs)) ∙ ap (λ t. old ++ vector_text (item_entries t)) (sym e)

@@ -1,13 +1,14 @@
 -- Why texts and items are refused.
 use Rattle.std.proofs.Common.{◌<◌, ◌^◌, ℕ, List, arith}
 use Rattle.ts_base.specs.Vectors.{Entry, Vector, content_size}
-use Rattle.ts_vector.specs.declared.VectorError.{VectorError}
-use Rattle.ts_vector.specs.declared.VectorError.TheVariants.{Syntax, LexemeTooLong, VectorTooLarge, BadBytes, OutOfMemory}
+use Rattle.ts_vector.specs.declared.error.VectorError.{VectorError}
+use Rattle.ts_vector.specs.declared.error.VectorError.TheVariants.{Syntax, LexemeTooLong, VectorTooLarge, BadBytes, OutOfMemory}
 use Rattle.ts_vector.specs.Normal.{IsNormalFormOf}
-use Rattle.ts_vector.specs.Text.{Written, IsVectorText, AllFit, entries}
-use Rattle.ts_vector.specs.Failures.{TextFails, ItemsFail, IsOver}
+use Rattle.ts_vector.specs.Text.{Written, IsVectorText, AllShort, entries}
+use Rattle.ts_vector.specs.Failures.{TextFails, ItemsFail}
+use Rattle.ts_vector.specs.Inner.Over.{IsOver}
 
-pub over_text : (text : List ℕ) (items : List Written) (v : Vector) → IsVectorText text items → AllFit items → IsNormalFormOf (entries items) v → content_size v < 2 ^ 64
+pub over_text : (text : List ℕ) (items : List Written) (v : Vector) → IsVectorText text items → AllShort items → IsNormalFormOf (entries items) v → content_size v < 2 ^ 64
     → (e : VectorError) → IsOver v e → TextFails text e
 over_text text items v h fit form small (Syntax n) o = absurd o
 over_text text items v h fit form small (LexemeTooLong n) o = absurd o

@@ -4,8 +4,8 @@ use Rattle.ts_base.specs.Vectors.{Vector}
 use Rattle.ts_vector.specs.Text.{IsTextOf}
 use Rattle.ts_vector.specs.Changes.{IsJoinOf}
 use Rattle.ts_vector.specs.Failures.{TextFails, JoinFails}
-use Rattle.ts_vector.specs.declared.VectorError.{VectorError}
-use Rattle.ts_vector.specs.declared.VectorError.TheVariants.{OutOfMemory}
+use Rattle.ts_vector.specs.declared.error.VectorError.{VectorError}
+use Rattle.ts_vector.specs.declared.error.VectorError.TheVariants.{OutOfMemory}
 
 -- what a text may be answered
 abbrev pub IsTextAnswer : List ℕ → Result Vector VectorError → Type 0
@@ -17,12 +17,14 @@ abbrev pub IsJoinAnswer : Vector → Vector → Result Vector VectorError → Ty
 IsJoinAnswer first second (Ok vector) = IsJoinOf first second vector
 IsJoinAnswer first second (Err error) = JoinFails first second error
 
--- want of memory aside, there is one answer
-abbrev pub IsOneAnswer : (Result Vector VectorError → Type 0) → Type 0
-IsOneAnswer P = (a b : Result Vector VectorError) → a ≢ Err OutOfMemory → b ≢ Err OutOfMemory → P a → P b → a ≡ b
+-- running out of memory aside, there is one answer
+abbrev pub HasOneAnswer : (Result Vector VectorError → Type 0) → Type 0
+HasOneAnswer P =
+    (a b : Result Vector VectorError) → a ≢ Err OutOfMemory → b ≢ Err OutOfMemory → P a → P b
+    → a ≡ b
 
 abbrev pub TextHasOneAnswer : Type 0
-TextHasOneAnswer = (text : List ℕ) → IsOneAnswer (IsTextAnswer text)
+TextHasOneAnswer = (text : List ℕ) → HasOneAnswer (IsTextAnswer text)
 
 abbrev pub JoinHasOneAnswer : Type 0
-JoinHasOneAnswer = (first second : Vector) → IsOneAnswer (IsJoinAnswer first second)
+JoinHasOneAnswer = (first second : Vector) → HasOneAnswer (IsJoinAnswer first second)

@@ -1,19 +1,13 @@
 -- The printed text of a vector.
-use Rattle.std.specs.Prelude.{ℕ, ◌<◌, ◌==◌, ◌||◌, if◌then◌else◌, List, [], ◌∷◌, ◌++◌, map}
-use Rattle.std.specs.List.{flat_map, join_with_byte}
+use Rattle.std.specs.Prelude.{ℕ, ◌<◌, List, [], ◌∷◌, ◌++◌, map}
+use Rattle.std.specs.List.{join_with_byte}
 use Rattle.std.specs.Fmt.{decimal}
+use Rattle.ts_vector.specs.declared.TheConstants.{SIZE_LIMIT}
+use Rattle.ts_base.specs.Quoted.{quoted_text}
 use Rattle.ts_base.specs.declared.Weight.{Weight}
 use Rattle.ts_base.specs.declared.Weight.TheVariants.{A, B, C, D}
 use Rattle.ts_base.specs.Vectors.{Position, Entry, Vector, IsNormal, content_size}
 use Rattle.ts_vector.specs.Text.{IsTextOf}
-
--- a quote or a backslash stands twice
-abbrev pub twice_if_special : ℕ → List ℕ
-twice_if_special c = if (c == 39) || (c == 92) then c ∷ c ∷ [] else c ∷ []
-
--- the lexeme in quotes
-abbrev pub quoted_text : List ℕ → List ℕ
-quoted_text lexeme = 39 ∷ (flat_map twice_if_special lexeme ++ 39 ∷ [])
 
 -- the letter of a weight; D is not printed
 abbrev pub weight_text : Weight → List ℕ
@@ -39,4 +33,5 @@ vector_text vector = join_with_byte 32 (map entry_text vector)
 
 -- the printed text of a vector is a text of that vector
 abbrev pub PrintedTextIsRead : Type 0
-PrintedTextIsRead = (v : Vector) → IsNormal v → content_size v < 1048576 → IsTextOf (vector_text v) v
+PrintedTextIsRead = (v : Vector) → IsNormal v → content_size v < SIZE_LIMIT
+    → IsTextOf (vector_text v) v

@@ -1,21 +1,26 @@
 -- What holds of every text of a vector.
 use Rattle.std.specs.Prelude.{◌≡◌, ℕ, List}
-use Rattle.ts_base.specs.Fault.{FaultAt}
-use Rattle.ts_base.specs.Leads.{Stands}
+use Rattle.ts_base.specs.Fault.{FaultAt, Stands}
 use Rattle.ts_base.specs.Vectors.{Vector}
 use Rattle.ts_vector.specs.Text.{Written, IsVectorText, IsTextOf}
 
 -- a text has one list of items
 abbrev pub TextHasOneList : Type 0
-TextHasOneList = (text : List ℕ) (v w : List Written) → IsVectorText text v → IsVectorText text w → v ≡ w
+TextHasOneList =
+    (text : List ℕ) (v w : List Written) → IsVectorText text v → IsVectorText text w → v ≡ w
 
 -- a text has one value
 abbrev pub TextHasOneValue : Type 0
 TextHasOneValue = (text : List ℕ) (v w : Vector) → IsTextOf text v → IsTextOf text w → v ≡ w
 
--- a fault has one place, and a text with a fault is outside the grammar
+-- a fault has one place
 abbrev pub FaultHasOnePlace : Type 0
-FaultHasOnePlace = (text : List ℕ) (m n : ℕ) → FaultAt (Stands (List Written) IsVectorText) text m → FaultAt (Stands (List Written) IsVectorText) text n → m ≡ n
+FaultHasOnePlace =
+    (text : List ℕ) (m n : ℕ) → FaultAt (Stands (List Written) IsVectorText) text m
+    → FaultAt (Stands (List Written) IsVectorText) text n → m ≡ n
 
+-- a text with a fault is outside the grammar
 abbrev pub FaultIsOutside : Type 0
-FaultIsOutside = (text : List ℕ) (n : ℕ) → FaultAt (Stands (List Written) IsVectorText) text n → (v : List Written) → ¬ IsVectorText text v
+FaultIsOutside =
+    (text : List ℕ) (n : ℕ) → FaultAt (Stands (List Written) IsVectorText) text n
+    → (v : List Written) → ¬ IsVectorText text v

@@ -1,23 +1,29 @@
 // The fields of a vector's bytes.
 ghost use Rattle.std.specs.Prelude.{◌≡◌, ◌%◌, ◌^◌, ◌<◌, ◌≤◌, ◌++◌, length, MatchOption, IfOk, IfErr};
-ghost use Rattle.ts_base.specs.Bytes.{two_bytes, four_bytes, weight_number};
-ghost use Rattle.ts_vector.specs.Fields.{IsShort, IsPlaceAfter, Lists, ListStops};
+ghost use Rattle.ts_base.specs.Endian.{little_bytes};
+ghost use Rattle.ts_base.specs.Spelling.{weight_number};
+ghost use Rattle.ts_vector.specs.Inner.Fields.{IsShort, IsPlaceAfter, Lists, ListStops};
 ghost use Rattle.ts_vector.specs.declared.bytes.Stop.TheVariants.{OutOfMemory};
 
 use std::alloc::{AllocError, AllocFailed, Global};
-use ts_base::{Position, Weight};
+use ts_base::{Position, WEIGHT_UNIT, Weight};
 
 /// Why reading stopped.
 #[derive(Debug, Drop)]
 pub enum Stop {
-    /// The bytes go wrong so many bytes before their end.
-    Bad { left: usize },
+    /// The bytes go wrong.
+    Bad {
+        /// How many bytes before their end.
+        left: usize,
+    },
+    /// Memory ran out.
     OutOfMemory,
 }
 
 impl From<AllocError> for Stop {
     ghost from_gives = { λ _ e. e ≡ OutOfMemory };
 
+    /// Memory ran out.
     fn from(_e: AllocError) -> Stop {
         Stop::OutOfMemory
     }
@@ -26,6 +32,7 @@ impl From<AllocError> for Stop {
 impl<T: Drop> From<AllocFailed<T>> for Stop {
     ghost from_gives = { λ _ e. e ≡ OutOfMemory };
 
+    /// Memory ran out.
     fn from(_e: AllocFailed<T>) -> Stop {
         Stop::OutOfMemory
     }
@@ -45,7 +52,7 @@ pub fn take(bytes: &[u8], count: usize) -> Result<(&[u8], &[u8]), Stop>
 
 /// A number in two bytes, and the rest.
 pub fn two(bytes: &[u8]) -> Result<(u16, &[u8]), Stop>
-    ensures ok { IfOk result (λ x. bytes.now ≡ two_bytes x.0 ++ x.1.now) }
+    ensures ok { IfOk result (λ x. bytes.now ≡ little_bytes 2 x.0 ++ x.1.now) }
     ensures fits { IfOk result (λ x. x.0 < 65536) }
     ensures err { IfErr result (IsShort 2 bytes.now) }
 {
@@ -57,7 +64,7 @@ pub fn two(bytes: &[u8]) -> Result<(u16, &[u8]), Stop>
 
 /// A number in four bytes, and the rest.
 pub fn four(bytes: &[u8]) -> Result<(u32, &[u8]), Stop>
-    ensures ok { IfOk result (λ x. bytes.now ≡ four_bytes x.0 ++ x.1.now) }
+    ensures ok { IfOk result (λ x. bytes.now ≡ little_bytes 4 x.0 ++ x.1.now) }
     ensures fits { IfOk result (λ x. x.0 < 2 ^ 32) }
     ensures err { IfErr result (IsShort 4 bytes.now) }
 {
@@ -81,13 +88,13 @@ fn weight(number: u16) -> Weight
 
 /// The position that a number stands for, if it is behind the number `last`.
 fn position(last: u16, number: u16) -> Option<Position>
-    ensures { MatchOption result (number % 16384 ≤ last) (IsPlaceAfter last number) }
+    ensures { MatchOption result (number % WEIGHT_UNIT ≤ last) (IsPlaceAfter last number) }
 {
-    let at = number % 16384;
+    let at = number % WEIGHT_UNIT;
     if at <= last {
         return None;
     }
-    Some(Position::new(at, weight(number / 16384)))
+    Some(Position::new(at, weight(number / WEIGHT_UNIT)))
 }
 
 /// So many positions, and the rest.

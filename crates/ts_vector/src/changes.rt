@@ -2,10 +2,10 @@
 ghost use Rattle.std.specs.Prelude.{◌≡◌, ℕ, ◌≤◌, ◌++◌, ◌⊎◌, map, All, Any, IfOk, OnOk};
 ghost use Rattle.ts_base.specs.declared.Weight.{Weight};
 ghost use Rattle.ts_base.specs.Vectors.{IsPosition};
-ghost use Rattle.ts_vector.specs.Views.{views};
+ghost use Rattle.ts_vector.specs.ItemEntries.{item_entries};
 ghost use Rattle.ts_vector.specs.Normal.{capped};
-ghost use Rattle.ts_vector.specs.Changes.{stripped, weighted, reweighted, IsGreatest, moved};
-ghost use Rattle.ts_vector.specs.CappedForm.{moved_within, shifted_within};
+ghost use Rattle.ts_vector.specs.Changes.{stripped, weighted, reweighted, IsGreatest, moved_position};
+ghost use Rattle.ts_vector.specs.Inner.CappedForm.{moved_within, shifted_within};
 
 use crate::entries::Item;
 use std::alloc::{AllocError, Global};
@@ -13,7 +13,7 @@ use ts_base::{LAST_POSITION, Position, Weight};
 
 /// The items without their positions.
 pub fn without_positions(alloc: Global, items: &[Item]) -> Result<Vec<Item>, AllocError>
-    ensures { IfOk result (λ made. views made.items ≡ stripped (views items.now)) }
+    ensures { IfOk result (λ made. item_entries made.items ≡ stripped (item_entries items.now)) }
 {
     let mut made = Vec::new(alloc);
     for item in items {
@@ -26,6 +26,7 @@ pub fn without_positions(alloc: Global, items: &[Item]) -> Result<Vec<Item>, All
     Ok(made)
 }
 
+/// The positions at this weight.
 fn with_weight(
     alloc: Global,
     positions: &[Position],
@@ -46,7 +47,8 @@ pub fn items_with_weight(
     items: &[Item],
     weight: Weight,
 ) -> Result<Vec<Item>, AllocError>
-    ensures { IfOk result (λ made. views made.items ≡ reweighted weight (views items.now)) }
+    ensures { IfOk result
+        (λ made. item_entries made.items ≡ reweighted weight (item_entries items.now)) }
 {
     let mut made = Vec::new(alloc);
     for item in items {
@@ -59,9 +61,9 @@ pub fn items_with_weight(
 
 /// The greater of a number and the greatest number of these positions.
 fn greatest_from(positions: &[Position], from: u16) -> u16
-    requires { from ≤ 16383 }
+    requires { from ≤ LAST_POSITION }
     ensures lower { from ≤ result }
-    ensures upper { result ≤ 16383 }
+    ensures upper { result ≤ LAST_POSITION }
     ensures bound { All (λ p. p.at ≤ result) positions.now }
     ensures met { (result ≡ from) ⊎ Any (λ p. p.at ≡ result) positions.now }
 {
@@ -74,8 +76,8 @@ fn greatest_from(positions: &[Position], from: u16) -> u16
 
 /// The greatest number of a position, 0 where there is none.
 pub fn greatest(items: &[Item]) -> u16
-    ensures greatest { IsGreatest (views items.now) result }
-    ensures bound { result ≤ 16383 }
+    ensures greatest { IsGreatest (item_entries items.now) result }
+    ensures bound { result ≤ LAST_POSITION }
 {
     let mut greatest: u16 = 0;
     for item in items {
@@ -103,7 +105,9 @@ fn append_later(
     items: &[Item],
     by: u16,
 ) -> Result<(), AllocError>
-    ensures { OnOk result (views made.new.items ≡ views made.old.items ++ shifted_within by (views items.now)) }
+    ensures { OnOk result
+        (item_entries made.new.items
+        ≡ item_entries made.old.items ++ shifted_within by (item_entries items.now)) }
 {
     for item in items {
         let lexeme = item.lexeme.clone()?;
@@ -120,7 +124,10 @@ pub fn joined(
     second: &[Item],
     by: u16,
 ) -> Result<Vec<Item>, AllocError>
-    ensures { IfOk result (λ made. views made.items ≡ shifted_within 0 (views first.now) ++ shifted_within by (views second.now)) }
+    ensures { IfOk result
+        (λ made. item_entries made.items
+        ≡ shifted_within 0 (item_entries first.now)
+        ++ shifted_within by (item_entries second.now)) }
 {
     let mut made = Vec::new(alloc);
     append_later(alloc, &mut made, first, 0)?;

@@ -2,36 +2,35 @@
 ghost use Rattle.std.specs.Prelude.{◌≡◌, ◌+◌, ◌*◌, ◌<◌, ◌≤◌, ◌∷◌, [], ◌++◌, length, vec_len, AllPairs, MatchOption, IfOk, IfErr, OnOk, IsTrue, ◌↔◌};
 ghost use Rattle.ts_base.specs.Lexemes.{IsBefore};
 ghost use Rattle.ts_base.specs.Vectors.{IsNormal, content_size};
-ghost use Rattle.ts_vector.specs.Views.{view, views};
+ghost use Rattle.ts_vector.specs.declared.TheConstants.{SIZE_LIMIT};
+ghost use Rattle.ts_vector.specs.ItemEntries.{item_entry, item_entries};
 ghost use Rattle.ts_vector.specs.Decoded.{measured, named, IsBehind, IsSpelling};
-ghost use Rattle.ts_vector.specs.Fields.{Goes, Stops, NotNext, IsNext, behind, BytesStop};
+ghost use Rattle.ts_vector.specs.Inner.Fields.{Goes, Stops, NotNext, IsNext, behind, BytesStop};
 
 use crate::SIZE_LIMIT;
 use crate::bytes::{Stop, four, positions, take, two};
 use crate::entries::Item;
 use std::alloc::{AllocError, Global};
 use std::str;
-use ts_base::{LONGEST_LEXEME, Lexeme};
-
-/// The most positions of a lexeme.
-const MOST_POSITIONS: usize = 256;
+use ts_base::{LONGEST_LEXEME, Lexeme, MOST_POSITIONS};
 
 /// The items so far.
 #[derive(Drop)]
 struct Begun {
     /// How many lexemes the bytes announce.
     count: u32,
+    /// The items that were read.
     items: Vec<Item>,
     /// The size of the items' content.
     size: usize,
-    ghost exact: { size ≡ content_size (views items.items) },
-    ghost small: { size < 1048576 },
+    ghost exact: { size ≡ content_size (item_entries items.items) },
+    ghost small: { size < SIZE_LIMIT },
 }
 
 /// The lexeme is behind all of these items, which rise.
 fn is_behind(items: &[Item], lexeme: &Lexeme) -> bool
-    requires { AllPairs (λ a b. IsBefore a.lexeme b.lexeme) (views items.now) }
-    ensures { IsTrue result ↔ IsBehind (views items.now) lexeme.now }
+    requires { AllPairs (λ a b. IsBefore a.lexeme b.lexeme) (item_entries items.now) }
+    ensures { IsTrue result ↔ IsBehind (item_entries items.now) lexeme.now }
 {
     match items.last() {
         Some(last) => last.lexeme < *lexeme,
@@ -41,10 +40,12 @@ fn is_behind(items: &[Item], lexeme: &Lexeme) -> bool
 
 /// The lexeme with these bytes, if they are text and it is behind all of these items.
 fn lexeme(alloc: Global, items: &[Item], bytes: &[u8]) -> Result<Option<Lexeme>, AllocError>
-    requires rising { AllPairs (λ a b. IsBefore a.lexeme b.lexeme) (views items.now) }
+    requires rising { AllPairs (λ a b. IsBefore a.lexeme b.lexeme) (item_entries items.now) }
     requires some { 1 ≤ length bytes.now }
-    requires most { length bytes.now ≤ 2046 }
-    ensures { IfOk result (λ r. MatchOption r (NotNext (views items.now) bytes.now) (IsNext (views items.now) bytes.now)) }
+    requires most { length bytes.now ≤ LONGEST_LEXEME }
+    ensures { IfOk result
+        (λ r. MatchOption r (NotNext (item_entries items.now) bytes.now)
+        (IsNext (item_entries items.now) bytes.now)) }
 {
     let Ok(text) = str::from_utf8(bytes) else {
         return Ok(None);
@@ -57,14 +58,16 @@ fn lexeme(alloc: Global, items: &[Item], bytes: &[u8]) -> Result<Option<Lexeme>,
 }
 
 impl Begun {
-    ghost use Rattle.ts_vector.specs.Begun.{so_far};
+    ghost use Rattle.ts_vector.specs.Inner.Begun.{so_far};
 
     /// The length of the next lexeme, and the rest.
     fn length<'a>(&self, bytes: &'a [u8]) -> Result<(usize, &'a [u8]), Stop>
         requires { vec_len self.now.items < self.now.count }
         ensures some { IfOk result (λ x. 1 ≤ x.0) }
-        ensures most { IfOk result (λ x. x.0 ≤ 2046) }
-        ensures ok { IfOk result (λ x. Goes (so_far self.now) bytes.now (measured self.now.count (views self.now.items.items) x.0) x.1.now) }
+        ensures most { IfOk result (λ x. x.0 ≤ LONGEST_LEXEME) }
+        ensures ok { IfOk result
+            (λ x. Goes (so_far self.now) bytes.now
+            (measured self.now.count (item_entries self.now.items.items) x.0) x.1.now) }
         ensures err { IfErr result (Stops (so_far self.now) bytes.now) }
     {
         let (length, rest) = two(bytes)?;
@@ -77,9 +80,16 @@ impl Begun {
 
     /// The number of the lexeme's positions, and the rest.
     fn number<'a>(&self, lexeme: &Lexeme, bytes: &'a [u8]) -> Result<(usize, &'a [u8]), Stop>
-        ensures small { IfOk result (λ x. content_size (views self.now.items.items) + length lexeme.now + 2 * x.0 < 1048576) }
-        ensures ok { IfOk result (λ x. Goes (named self.now.count (views self.now.items.items) lexeme.now) bytes.now (behind self.now.count (views self.now.items.items) lexeme.now x.0 []) x.1.now) }
-        ensures err { IfErr result (Stops (named self.now.count (views self.now.items.items) lexeme.now) bytes.now) }
+        ensures small { IfOk result
+            (λ x. content_size (item_entries self.now.items.items) + length lexeme.now + 2 * x.0
+            < SIZE_LIMIT) }
+        ensures ok { IfOk result
+            (λ x. Goes
+            (named self.now.count (item_entries self.now.items.items) lexeme.now) bytes.now
+            (behind self.now.count (item_entries self.now.items.items) lexeme.now x.0 []) x.1.now) }
+        ensures err { IfErr result
+            (Stops (named self.now.count (item_entries self.now.items.items) lexeme.now)
+            bytes.now) }
     {
         let (number, rest) = two(bytes)?;
         let number = usize::from(number);
@@ -93,7 +103,7 @@ impl Begun {
     /// Adds the next item, and gives the rest.
     fn add<'a>(&mut self, alloc: Global, bytes: &'a [u8]) -> Result<&'a [u8], Stop>
         requires more { vec_len self.old.items < self.old.count }
-        requires normal { IsNormal (views self.old.items.items) }
+        requires normal { IsNormal (item_entries self.old.items.items) }
         ensures count { self.new.count ≡ self.old.count }
         ensures one { OnOk result (vec_len self.new.items ≡ vec_len self.old.items + 1) }
         ensures ok { IfOk result (λ rest. Goes (so_far self.old) bytes.now (so_far self.new) rest.now) }
@@ -110,8 +120,9 @@ impl Begun {
         Ok(rest)
     }
 
+    /// Adds an item.
     fn push(&mut self, item: Item) -> Result<(), AllocError>
-        requires { content_size (views self.old.items.items ++ view item ∷ []) < 1048576 }
+        requires { content_size (item_entries self.old.items.items ++ item_entry item ∷ []) < SIZE_LIMIT }
         ensures count { self.new.count ≡ self.old.count }
         ensures items { OnOk result (self.new.items.items ≡ self.old.items.items ++ item ∷ []) }
     {
@@ -124,7 +135,7 @@ impl Begun {
 
 /// The items of a vector's bytes.
 pub fn read_items(alloc: Global, bytes: &[u8]) -> Result<Vec<Item>, Stop>
-    ensures ok { IfOk result (λ items. IsSpelling bytes.now (views items.items)) }
+    ensures ok { IfOk result (λ items. IsSpelling bytes.now (item_entries items.items)) }
     ensures err { IfErr result (BytesStop bytes.now) }
 {
     let (count, mut rest) = four(bytes)?;

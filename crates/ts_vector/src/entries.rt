@@ -1,16 +1,19 @@
 // Items of a vector in memory.
 ghost use Rattle.std.specs.Prelude.{◌≡◌, All, IfOk};
 ghost use Rattle.ts_base.specs.Vectors.{IsPosition};
-ghost use Rattle.ts_vector.specs.Views.{views};
+ghost use Rattle.ts_vector.specs.ItemEntries.{item_entries};
 ghost use Rattle.ts_vector.specs.Pairs.{pairs_of};
-ghost use Rattle.ts_vector.specs.Steps.{IsWritten};
+ghost use Rattle.ts_vector.specs.Inner.Steps.{IsWritten};
 
 use std::alloc::{AllocError, Global};
 use ts_base::{Lexeme, Position};
 
+/// A lexeme and its positions.
 #[derive(Debug, Drop)]
 pub struct Item {
+    /// The lexeme.
     pub lexeme: Lexeme,
+    /// Its positions.
     pub positions: Vec<Position>,
 }
 
@@ -28,8 +31,8 @@ pub fn from_pairs(
     alloc: Global,
     pairs: Vec<(Lexeme, Vec<Position>)>,
 ) -> Result<Vec<Item>, AllocError>
-    ensures items { IfOk result (λ items. views items.items ≡ pairs_of pairs.items) }
-    ensures valid { IfOk result (λ items. All IsWritten (views items.items)) }
+    ensures items { IfOk result (λ items. item_entries items.items ≡ pairs_of pairs.items) }
+    ensures valid { IfOk result (λ items. All IsWritten (item_entries items.items)) }
 {
     let mut items = Vec::new(alloc);
     for (lexeme, positions) in pairs {

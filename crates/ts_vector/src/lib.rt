@@ -4,23 +4,24 @@
 ghost use Rattle.std.specs.Prelude.{◌≡◌, ℕ, ◌<◌, ◌++◌, length, IfOk, IfErr, OnOk, OnErr, slice_index_or};
 ghost use Rattle.std.specs.String.{string_bytes};
 ghost use Rattle.ts_base.specs.Vectors.{Entry, Vector, IsNormal, content_size};
-ghost use Rattle.ts_base.specs.Bytes.{vector_bytes};
-ghost use Rattle.ts_vector.specs.Normal.{IsNormalFormOf, NormalFormIsOne};
-ghost use Rattle.ts_vector.specs.TextLaws.{TextHasOneList, TextHasOneValue, FaultHasOnePlace, FaultIsOutside};
+ghost use Rattle.ts_base.specs.Spelling.{vector_bytes};
+ghost use Rattle.ts_vector.specs.Normal.{IsNormalFormOf};
 ghost use Rattle.ts_vector.specs.Text.{IsTextOf};
-ghost use Rattle.ts_vector.specs.Failures.{TextFails, ItemsFail, IsOver, JoinFails};
+ghost use Rattle.ts_vector.specs.Failures.{TextFails, ItemsFail, JoinFails};
+ghost use Rattle.ts_vector.specs.Inner.Over.{IsOver};
 ghost use Rattle.ts_vector.specs.Changes.{IsBuiltOf, stripped, reweighted, IsJoinOf};
 ghost use Rattle.ts_vector.specs.Pairs.{pairs_of};
-ghost use Rattle.ts_vector.specs.Decoded.{IsSpelling, DecodeFails, BadPlaceIsOne, BadBytesAreNoSpelling};
-ghost use Rattle.ts_vector.specs.Printed.{vector_text, PrintedTextIsRead};
-ghost use Rattle.ts_vector.specs.AnswerLaws.{TextHasOneAnswer, JoinHasOneAnswer};
-ghost use Rattle.ts_vector.specs.Views.{views};
+ghost use Rattle.ts_vector.specs.Decoded.{IsSpelling, DecodeFails};
+ghost use Rattle.ts_vector.specs.Printed.{vector_text};
+ghost use Rattle.ts_vector.specs.ItemEntries.{item_entries};
 
 mod bytes;
 mod changes;
 mod codec;
 mod decoder;
 mod entries;
+mod error;
+mod laws;
 mod limits;
 mod normal;
 mod printer;
@@ -31,12 +32,17 @@ use changes::{greatest, items_with_weight, joined, without_positions};
 use codec::put_items;
 use decoder::read_items;
 use entries::{Item, from_pairs};
+pub use error::VectorError;
+pub use laws::{
+    bad_bytes_are_no_spelling, bad_place_is_one, fault_has_one_place, fault_is_outside,
+    join_has_one_answer, normal_form_is_one, printed_text_is_read, text_has_one_answer,
+    text_has_one_list, text_has_one_value,
+};
 use limits::{first_long, size_of, to_items};
 use normal::normal_form;
 use reader::read;
 use std::alloc::{AllocError, Global};
 use std::marker::Model;
-use thiserror::Error;
 pub use ts_base::{Lexeme, LexemeError, Position, Weight};
 
 /// The size of a vector's content is below this: the bytes of all lexemes and two for each position.
@@ -45,40 +51,30 @@ pub const SIZE_LIMIT: usize = 1_048_576;
 /// A vector in normal form. Contracts see it as the list of its entries.
 #[derive(Debug, Drop)]
 pub struct TsVector {
+    /// Its items, in the order of their lexemes.
     items: Vec<Item>,
 }
 
 impl Model for TsVector {
     ghost use Rattle.std.specs.Prelude.{◌<◌};
     ghost use Rattle.ts_base.specs.Vectors.{Vector, IsNormal, content_size};
-    ghost use Rattle.ts_vector.specs.Views.{views};
+    ghost use Rattle.ts_vector.specs.ItemEntries.{item_entries};
 
     ghost Value = { Vector };
 
-    ghost view = { λ v. views v.items.items };
+    ghost view = { λ v. item_entries v.items.items };
 
-    ghost invariant = { λ v. IsNormal (views v.items.items) × (content_size (views v.items.items) < 1048576) };
-}
+    ghost use Rattle.ts_vector.specs.declared.TheConstants.{SIZE_LIMIT};
 
-#[derive(Debug, Drop, Error, PartialEq, Eq)]
-pub enum VectorError {
-    #[error("syntax error at {at}")]
-    Syntax { at: usize },
-    #[error("lexeme too long at {at}")]
-    LexemeTooLong { at: usize },
-    #[error("vector of {bytes} bytes")]
-    VectorTooLarge { bytes: usize },
-    #[error("bad bytes at {at}")]
-    BadBytes { at: usize },
-    #[error("out of memory")]
-    OutOfMemory,
+    ghost invariant = { λ v. IsNormal (item_entries v.items.items)
+        × (content_size (item_entries v.items.items) < SIZE_LIMIT) };
 }
 
 /// The vector of items in normal form, if it is within the limit.
 fn within_limit(items: Vec<Item>) -> Result<TsVector, VectorError>
-    requires { IsNormal (views items.items) }
-    ensures value { IfOk result (λ v. (v ≡ views items.items) × (content_size v < 1048576)) }
-    ensures cause { IfErr result (IsOver (views items.items)) }
+    requires { IsNormal (item_entries items.items) }
+    ensures value { IfOk result (λ v. (v ≡ item_entries items.items) × (content_size v < SIZE_LIMIT)) }
+    ensures cause { IfErr result (IsOver (item_entries items.items)) }
 {
     let bytes = size_of(items.as_slice());
     if bytes >= SIZE_LIMIT {
@@ -162,16 +158,16 @@ impl TsVector {
     pub fn to_text(&self, alloc: Global) -> Result<String, AllocError>
         ensures { IfOk result (λ text. string_bytes text ≡ vector_text self.now) }
     {
-        let mut out = Vec::new(alloc);
+        let mut out = String::new(alloc);
         printer::put_items(&mut out, self.items.as_slice())?;
-        Ok(String::from_utf8(out).unwrap())
+        Ok(out)
     }
 
     /// The number of lexemes.
     pub fn count(&self) -> usize
         ensures count { result ≡ length self.now }
         ensures normal { IsNormal self.now }
-        ensures limit { content_size self.now < 1048576 }
+        ensures limit { content_size self.now < SIZE_LIMIT }
     {
         self.items.len()
     }
@@ -220,56 +216,6 @@ impl TsVector {
         }
     }
 }
-
-/// Items have one normal form.
-pub fn normal_form_is_one()
-    ensures { NormalFormIsOne }
-{}
-
-/// The printed text of a vector is a text of that vector.
-pub fn printed_text_is_read()
-    ensures { PrintedTextIsRead }
-{}
-
-/// Bytes go wrong at one place.
-pub fn bad_place_is_one()
-    ensures { BadPlaceIsOne }
-{}
-
-/// Bytes that go wrong are no spelling.
-pub fn bad_bytes_are_no_spelling()
-    ensures { BadBytesAreNoSpelling }
-{}
-
-/// A text has one list of items.
-pub fn text_has_one_list()
-    ensures { TextHasOneList }
-{}
-
-/// A text has one value.
-pub fn text_has_one_value()
-    ensures { TextHasOneValue }
-{}
-
-/// Want of memory aside, a text has one answer, so each refusal comes exactly where it has its cause.
-pub fn text_has_one_answer()
-    ensures { TextHasOneAnswer }
-{}
-
-/// Want of memory aside, a join has one answer.
-pub fn join_has_one_answer()
-    ensures { JoinHasOneAnswer }
-{}
-
-/// A fault has one place.
-pub fn fault_has_one_place()
-    ensures { FaultHasOnePlace }
-{}
-
-/// A text with a fault is outside the grammar.
-pub fn fault_is_outside()
-    ensures { FaultIsOutside }
-{}
 
 #[cfg(test)]
 mod tests;

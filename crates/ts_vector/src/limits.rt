@@ -1,10 +1,10 @@
 // The limits of vectors.
 ghost use Rattle.std.specs.Prelude.{◌≡◌, ℕ, ◌^◌, ◌-◌, ◌≤◌, min, All, IfOk, MatchOption};
 ghost use Rattle.ts_base.specs.Vectors.{content_size};
-ghost use Rattle.ts_vector.specs.Views.{views as items_of};
-ghost use Rattle.ts_vector.specs.Text.{FirstLong, AllFit, entries};
-ghost use Rattle.ts_vector.specs.Drafts.{views as written_of};
-ghost use Rattle.ts_vector.specs.Steps.{IsShortText};
+ghost use Rattle.ts_vector.specs.ItemEntries.{item_entries};
+ghost use Rattle.ts_vector.specs.Text.{FirstLong, AllShort, entries};
+ghost use Rattle.ts_vector.specs.Inner.Drafts.{drafts_written};
+ghost use Rattle.ts_vector.specs.Inner.Steps.{IsShortText};
 
 use crate::entries::Item;
 use crate::reader::Draft;
@@ -13,7 +13,8 @@ use ts_base::{LONGEST_LEXEME, Lexeme};
 
 /// Where the first lexeme of more than 2046 bytes starts.
 pub fn first_long(drafts: &[Draft]) -> Option<usize>
-    ensures { MatchOption result (AllFit (written_of drafts.now)) (FirstLong (written_of drafts.now)) }
+    ensures { MatchOption result (AllShort (drafts_written drafts.now))
+        (FirstLong (drafts_written drafts.now)) }
 {
     for draft in drafts {
         if draft.lexeme.len() > LONGEST_LEXEME {
@@ -25,8 +26,9 @@ pub fn first_long(drafts: &[Draft]) -> Option<usize>
 
 /// The items with their lexemes as text.
 pub fn to_items(alloc: Global, drafts: Vec<Draft>) -> Result<Vec<Item>, AllocError>
-    requires { All IsShortText (written_of drafts.items) }
-    ensures { IfOk result (λ items. items_of items.items ≡ entries (written_of drafts.items)) }
+    requires { All IsShortText (drafts_written drafts.items) }
+    ensures { IfOk result
+        (λ items. item_entries items.items ≡ entries (drafts_written drafts.items)) }
 {
     let mut items = Vec::new(alloc);
     for draft in drafts {
@@ -41,7 +43,7 @@ pub fn to_items(alloc: Global, drafts: Vec<Draft>) -> Result<Vec<Item>, AllocErr
 
 /// The size of the content: the bytes of all lexemes and two for each position.
 pub fn size_of(items: &[Item]) -> usize
-    ensures { result ≡ min (content_size (items_of items.now)) (2 ^ 64 - 1) }
+    ensures { result ≡ min (content_size (item_entries items.now)) (2 ^ 64 - 1) }
 {
     let mut size: usize = 0;
     for item in items {

@@ -1,72 +1,73 @@
 // Reads the text of a vector.
-ghost use Rattle.std.specs.Prelude.{◌≡◌, ◌<◌, ◌≤◌, ◌^◌, ℕ, length, List, [], ◌∷◌, ◌++◌, IfOk, IfErr, MatchOption, option_map, IsTrue, ◌↔◌, OnOk};
-ghost use Rattle.ts_base.specs.Fault.{FaultAt};
-ghost use Rattle.ts_base.specs.Leads.{Stands};
-ghost use Rattle.ts_base.specs.declared.Weight.{Weight};
-ghost use Rattle.ts_vector.specs.Text.{written, IsWhite, IsLetter, Written, IsVectorText};
-ghost use Rattle.ts_vector.specs.Drafts.{views};
+ghost use Rattle.std.specs.Prelude.{◌≡◌, ◌<◌, ◌≤◌, ◌^◌, ℕ, length, List, [], ◌∷◌, ◌++◌, IfOk, IfErr, option_map, OnOk};
+ghost use Rattle.ts_base.specs.Fault.{FaultAt, Stands};
+ghost use Rattle.ts_base.specs.declared.TheConstants.{LAST_POSITION};
+ghost use Rattle.ts_vector.specs.Text.{written, Written, IsVectorText};
+ghost use Rattle.ts_vector.specs.Inner.Drafts.{drafts_written};
 
 use std::alloc::{AllocError, Global};
 use std::mem;
-use ts_base::{Position, Weight};
+use ts_base::{LAST_POSITION, Position, Weight, is_white, weight_of};
 
 /// A lexeme as it is written: the offset at which it starts, its bytes and its positions.
 #[derive(Debug, Drop)]
 pub struct Draft {
+    /// The offset at which it starts.
     pub start: usize,
+    /// The bytes of the lexeme.
     pub lexeme: Vec<u8>,
+    /// Its positions.
     pub positions: Vec<Position>,
 }
 
+/// Where a reader stands.
 #[derive(Clone, Copy, Debug, PartialEq, Eq)]
 enum State {
+    /// Between items.
     Between,
+    /// In a quoted lexeme.
     InQuoted,
+    /// Behind `\` in a quoted lexeme.
     QuotedEscape,
+    /// Behind a quote in a quoted lexeme.
     Quote,
+    /// In a plain lexeme.
     InPlain,
+    /// Behind `\` in a plain lexeme.
     PlainEscape,
+    /// In a position's number.
     Digits,
+    /// Behind a position's letter.
     Weighted,
 }
 
+/// A reader of bytes.
 #[derive(Drop)]
 struct Reader {
+    /// Where it stands.
     state: State,
+    /// The items so far.
     words: Vec<Draft>,
+    /// Where the item starts.
     start: usize,
+    /// The lexeme so far.
     word: Vec<u8>,
+    /// Its positions so far.
     positions: Vec<Position>,
+    /// The number so far.
     value: u16,
-    ghost capped: { value ≤ 16383 },
-}
-
-/// White space: space, tab, LF, vertical tab, form feed and CR.
-fn is_white(byte: u8) -> bool
-    ensures { IsTrue result ↔ IsWhite byte }
-{
-    byte == b' ' || (9 <= byte && byte <= 13)
-}
-
-/// The weight that a letter names.
-fn weight_of(byte: u8) -> Option<Weight>
-    ensures { MatchOption result ((w : Weight) → ¬ IsLetter byte w) (IsLetter byte) }
-{
-    match byte {
-        b'A' | b'a' => Some(Weight::A),
-        b'B' | b'b' => Some(Weight::B),
-        b'C' | b'c' => Some(Weight::C),
-        b'D' | b'd' => Some(Weight::D),
-        _ => None,
-    }
+    ghost capped: { value ≤ LAST_POSITION },
 }
 
 impl Reader {
-    ghost use Rattle.ts_vector.specs.Rest.{shape, Stepped, Finished};
+    ghost use Rattle.ts_vector.specs.Inner.Shape.{shape, ShapeSteps, ShapeEnds};
 
     /// Ends an item that has no positions.
     fn close_alone(&mut self, alloc: Global) -> Result<(), AllocError>
-        ensures items { OnOk result (views self.new.words.items ≡ views self.old.words.items ++ written self.old.start self.old.word.items [] ∷ []) }
+        ensures items { OnOk result
+            (drafts_written self.new.words.items
+            ≡ drafts_written self.old.words.items
+            ++ written self.old.start self.old.word.items [] ∷ []) }
         ensures state { OnOk result (self.new.state ≡ State.Between) }
     {
         let lexeme = mem::replace(&mut self.word, Vec::new(alloc));
@@ -81,7 +82,10 @@ impl Reader {
 
     /// Ends an item that has positions.
     fn close_at(&mut self, alloc: Global) -> Result<(), AllocError>
-        ensures items { OnOk result (views self.new.words.items ≡ views self.old.words.items ++ written self.old.start self.old.word.items self.old.positions.items ∷ []) }
+        ensures items { OnOk result
+            (drafts_written self.new.words.items
+            ≡ drafts_written self.old.words.items
+            ++ written self.old.start self.old.word.items self.old.positions.items ∷ []) }
         ensures state { OnOk result (self.new.state ≡ State.Between) }
     {
         let lexeme = mem::replace(&mut self.word, Vec::new(alloc));
@@ -121,6 +125,7 @@ impl Reader {
         self.state = state;
     }
 
+    /// Behind the `:` of an item.
     fn begin_positions(&mut self)
         ensures state { self.new.state ≡ State.Digits }
         ensures items { self.new.words.items ≡ self.old.words.items }
@@ -137,7 +142,7 @@ impl Reader {
     /// Between items, at the offset `at`.
     fn between(&mut self, at: usize, byte: u8) -> Result<bool, AllocError>
         requires { self.old.state ≡ State.Between }
-        ensures { IfOk result (λ ok. Stepped at (shape self.old) byte ok (shape self.new)) }
+        ensures { IfOk result (λ ok. ShapeSteps at (shape self.old) byte ok (shape self.new)) }
     {
         match byte {
             b'\'' => {
@@ -148,7 +153,7 @@ impl Reader {
             }
             b':' => return Ok(false),
             _ => {
-                if !is_white(byte) {
+                if !is_white(byte as char) {
                     self.begin(at, State::InPlain);
                     self.put(byte, State::InPlain)?;
                 }
@@ -160,7 +165,7 @@ impl Reader {
     /// Within a quoted lexeme.
     fn in_quoted(&mut self, at: usize, byte: u8) -> Result<bool, AllocError>
         requires { self.old.state ≡ State.InQuoted }
-        ensures { IfOk result (λ ok. Stepped at (shape self.old) byte ok (shape self.new)) }
+        ensures { IfOk result (λ ok. ShapeSteps at (shape self.old) byte ok (shape self.new)) }
     {
         match byte {
             b'\'' => self.state = State::Quote,
@@ -173,7 +178,7 @@ impl Reader {
     /// Behind a quote within a quoted lexeme: it ended there, or another quote follows.
     fn quote(&mut self, alloc: Global, at: usize, byte: u8) -> Result<bool, AllocError>
         requires { self.old.state ≡ State.Quote }
-        ensures { IfOk result (λ ok. Stepped at (shape self.old) byte ok (shape self.new)) }
+        ensures { IfOk result (λ ok. ShapeSteps at (shape self.old) byte ok (shape self.new)) }
     {
         if byte == b'\'' {
             self.put(byte, State::InQuoted)?;
@@ -194,13 +199,13 @@ impl Reader {
     /// Within a plain lexeme.
     fn in_plain(&mut self, alloc: Global, at: usize, byte: u8) -> Result<bool, AllocError>
         requires { self.old.state ≡ State.InPlain }
-        ensures { IfOk result (λ ok. Stepped at (shape self.old) byte ok (shape self.new)) }
+        ensures { IfOk result (λ ok. ShapeSteps at (shape self.old) byte ok (shape self.new)) }
     {
         match byte {
             b'\\' => self.state = State::PlainEscape,
             b':' => self.begin_positions(),
             _ => {
-                if is_white(byte) {
+                if is_white(byte as char) {
                     self.close_alone(alloc)?;
                 } else {
                     self.put(byte, State::InPlain)?;
@@ -213,17 +218,17 @@ impl Reader {
     /// Within a position's number.
     fn digits(&mut self, alloc: Global, at: usize, byte: u8) -> Result<bool, AllocError>
         requires { self.old.state ≡ State.Digits }
-        ensures { IfOk result (λ ok. Stepped at (shape self.old) byte ok (shape self.new)) }
+        ensures { IfOk result (λ ok. ShapeSteps at (shape self.old) byte ok (shape self.new)) }
     {
         if b'0' <= byte && byte <= b'9' {
-            let value = (self.value as u32 * 10 + (byte - b'0') as u32).min(16383);
+            let value = (self.value as u32 * 10 + (byte - b'0') as u32).min(LAST_POSITION as u32);
             self.value = value as u16;
             return Ok(true);
         }
         if self.value == 0 {
             return Ok(false);
         }
-        if let Some(weight) = weight_of(byte) {
+        if let Some(weight) = weight_of(byte as char) {
             let position = Position::new(self.value, weight);
             self.positions.push(position)?;
             self.state = State::Weighted;
@@ -235,7 +240,7 @@ impl Reader {
             self.value = 0;
             return Ok(true);
         }
-        if is_white(byte) {
+        if is_white(byte as char) {
             let position = Position::new(self.value, Weight::D);
             self.positions.push(position)?;
             self.close_at(alloc)?;
@@ -247,14 +252,14 @@ impl Reader {
     /// Behind a position's letter.
     fn weighted(&mut self, alloc: Global, at: usize, byte: u8) -> Result<bool, AllocError>
         requires { self.old.state ≡ State.Weighted }
-        ensures { IfOk result (λ ok. Stepped at (shape self.old) byte ok (shape self.new)) }
+        ensures { IfOk result (λ ok. ShapeSteps at (shape self.old) byte ok (shape self.new)) }
     {
         if byte == b',' {
             self.value = 0;
             self.state = State::Digits;
             return Ok(true);
         }
-        if is_white(byte) {
+        if is_white(byte as char) {
             self.close_at(alloc)?;
             return Ok(true);
         }
@@ -263,7 +268,7 @@ impl Reader {
 
     /// The byte at the offset `at`; `false` where it can't stand here.
     fn step(&mut self, alloc: Global, at: usize, byte: u8) -> Result<bool, AllocError>
-        ensures { IfOk result (λ ok. Stepped at (shape self.old) byte ok (shape self.new)) }
+        ensures { IfOk result (λ ok. ShapeSteps at (shape self.old) byte ok (shape self.new)) }
     {
         match self.state {
             State::Between => self.between(at, byte),
@@ -285,7 +290,8 @@ impl Reader {
 
     /// The items, if the text may end here.
     fn finish(mut self, alloc: Global) -> Result<Option<Vec<Draft>>, AllocError>
-        ensures { IfOk result (λ r. Finished (shape self) (option_map (λ v. views v.items) r)) }
+        ensures { IfOk result
+            (λ r. ShapeEnds (shape self) (option_map (λ v. drafts_written v.items) r)) }
     {
         match self.state {
             State::Between => Ok(Some(self.words)),
@@ -321,10 +327,12 @@ impl Reader {
 /// The items of a vector's text, in their order in the text, or the place of its first fault.
 pub fn read(alloc: Global, text: &[u8]) -> Result<Result<Vec<Draft>, usize>, AllocError>
     // What is read is written so, and nothing else is.
-    ensures found { IfOk result (λ r. IfOk r (λ v. IsVectorText text.now (views v.items))) }
+    ensures found { IfOk result
+        (λ r. IfOk r (λ v. IsVectorText text.now (drafts_written v.items))) }
     ensures bound { length text.now < 2 ^ 64 }
     // A text outside the grammar is refused at its first fault.
-    ensures fault { IfOk result (λ r. IfErr r (λ at. FaultAt (Stands (List Written) IsVectorText) text.now at)) }
+    ensures fault { IfOk result
+        (λ r. IfErr r (λ at. FaultAt (Stands (List Written) IsVectorText) text.now at)) }
 {
     let mut reader = Reader {
         state: State::Between,

@@ -1,120 +1,118 @@
 use super::*;
 use std::test::Fail;
 
-/// Why a text is refused.
-fn refusal(alloc: Global, text: &str) -> Option<VectorError> {
-    match TsVector::parse(alloc, text) {
-        Ok(_) => None,
-        Err(error) => Some(error),
-    }
-}
+/// Texts and what they give, `text=outcome`, with `;` between two; `{x^n}` stands for n times x, and `+` joins two vectors.
+const ROWS: &str = concat!(
+    // What is printed.
+    "=; b a\tb ='a' 'b';",
+    " \t\n\x0b\x0c\ra b\tc\nd\x0be\x0cf\rg='a' 'b' 'c' 'd' 'e' 'f' 'g';",
+    "a:16384,16383 b:1,1A='a':16383 'b':1A;",
+    "a:99999999999999999999999999 b:2b,2d,2C a:7 a='a':7,16383 'b':2B;",
+    "a:3 a:1d,2A b a:2,01c='a':1C,2A,3 'b';",
+    "'a''b'='a''b';'a''b':1='a''b':1;'a'b'c'd:2D='a' 'b''c''d':2;'a' 'b'c='a' 'b' 'c';",
+    "a\\ b\\\\ \\'c \\:1='''c' ':1' 'a b\\\\';'a \\'\\n\\\\:'='a ''n\\\\:';",
+    "é:3 z ab b a='a' 'ab' 'b' 'z' 'é':3;",
+    // The places of faults.
+    "a:0=syntax error at 3;a:=syntax error at 2;a: 1=syntax error at 2;a:x=syntax error at 2;",
+    ":a=syntax error at 0;a b:1,=syntax error at 6;a:1DA=syntax error at 4;",
+    "a:1 b:0 c=syntax error at 7;a:1b:2=syntax error at 4;'a':1'b'=syntax error at 5;",
+    "a\\=syntax error at 2;'a=syntax error at 2;'a\\'=syntax error at 4;'a''=syntax error at 4;",
+    "''=syntax error at 2;x '' a=syntax error at 4;'a' :1=syntax error at 4;",
+    // The limits.
+    "x:1 '{a^2046}'='{a^2046}' 'x':1;x:1 '{a^2047}' =lexeme too long at 4;",
+    "x:1 '{a^2047}' y:0=syntax error at 2057;",
+    // Joined vectors.
+    "a:1 b:3+a:1 c b:2A='a':1,4 'b':3,5A 'c';a+b:2='a' 'b':2;",
+    "a:16383+a:1B b:5='a':16383B 'b':16383;+=",
+);
 
-/// The text with more of a piece behind it.
-fn and_more(alloc: Global, front: &str, piece: &str, times: usize) -> Result<String, AllocError> {
-    let mut text = String::from_str(alloc, front)?;
-    for _ in 0..times {
-        text.push_str(piece)?;
+/// Bytes that are no spelling: the place where they go wrong, and the bytes.
+const BAD_BYTES: &str = concat!(
+    // The end comes too early.
+    "0;3 2 0 0;4 255 255 255 255;8 1 0 0 0 3 0 97 98;",
+    "15 2 0 0 0 1 0 97 1 0 1 192 1 0 98 0;",
+    // A byte too much.
+    "4 0 0 0 0 0;16 2 0 0 0 1 0 97 1 0 1 192 1 0 98 0 0 9;",
+    // The length of a lexeme.
+    "4 1 0 0 0 0 0;4 1 0 0 0 255 7;",
+    // A lexeme that is no text, and one out of order.
+    "6 1 0 0 0 1 0 255 0 0;11 2 0 0 0 1 0 98 0 0 1 0 97 0 0;11 2 0 0 0 1 0 97 0 0 1 0 97 0 0;",
+    // The number of positions.
+    "7 1 0 0 0 1 0 97 1 1;",
+    // No position, and positions out of order.
+    "9 1 0 0 0 1 0 97 1 0 0 192;11 1 0 0 0 1 0 97 2 0 2 0 1 0;11 1 0 0 0 1 0 97 2 0 2 0 2 192",
+);
+
+/// The text that a row stands for.
+fn expanded(alloc: Global, row: &str) -> Result<String, AllocError> {
+    let mut text = String::new(alloc);
+    for part in row.split('{') {
+        let (repeated, rest) = part.split_once('}').unwrap_or(("", part));
+        let (piece, times) = repeated.split_once('^').unwrap_or(("", "0"));
+        for _ in 0..times.parse::<u32>().unwrap_or(0) {
+            text.push_str(piece)?;
+        }
+        text.push_str(rest)?;
     }
     Ok(text)
 }
 
-#[test]
-fn printed_forms(rt: HostRuntime) -> Result<(), Fail> {
-    let alloc = rt.alloc();
-    for (text, printed) in [
-        ("", ""),
-        (" b a\tb ", "'a' 'b'"),
-        (
-            " \t\n\x0b\x0c\ra b\tc\nd\x0be\x0cf\rg",
-            "'a' 'b' 'c' 'd' 'e' 'f' 'g'",
-        ),
-        ("a:16384,16383 b:1,1A", "'a':16383 'b':1A"),
-        (
-            "a:99999999999999999999999999 b:2b,2d,2C a:7 a",
-            "'a':7,16383 'b':2B",
-        ),
-        ("a:3 a:1d,2A b a:2,01c", "'a':1C,2A,3 'b'"),
-        ("'a''b'", "'a''b'"),
-        ("'a''b':1", "'a''b':1"),
-        ("'a'b'c'd:2D", "'a' 'b''c''d':2"),
-        ("'a' 'b'c", "'a' 'b' 'c'"),
-        ("a\\ b\\\\ \\'c \\:1", "'''c' ':1' 'a b\\\\'"),
-        ("'a \\'\\n\\\\:'", "'a ''n\\\\:'"),
-        ("é:3 z ab b a", "'a' 'ab' 'b' 'z' 'é':3"),
-    ] {
-        let v = TsVector::parse(alloc, text)?;
-        assert_eq!(rt; v.to_text(alloc)?.as_str(), printed, "{text}");
+/// The vector of a text; `+` joins two.
+fn vector(alloc: Global, text: &str) -> Result<TsVector, VectorError> {
+    let Some((first, second)) = text.split_once('+') else {
+        return TsVector::parse(alloc, text);
+    };
+    let first = TsVector::parse(alloc, first)?;
+    let second = TsVector::parse(alloc, second)?;
+    first.concat(alloc, &second)
+}
+
+/// The printed form of a text's vector, or why the text is refused.
+fn outcome(alloc: Global, text: &str) -> Result<String, AllocError> {
+    match vector(alloc, text) {
+        Ok(vector) => vector.to_text(alloc),
+        Err(error) => format!(in alloc; "{error}"),
     }
+}
+
+/// Each row gives its outcome.
+#[test]
+fn rows(rt: HostRuntime) -> Result<(), Fail> {
+    let alloc = rt.alloc();
+    let mut count = 0u32;
+    for row in ROWS.split(';') {
+        let (text, want) = row.split_once('=').unwrap_or((row, "="));
+        let text = expanded(alloc, text)?;
+        let given = outcome(alloc, text.as_str())?;
+        assert_eq!(rt; given.as_str(), expanded(alloc, want)?.as_str(), "{row}");
+        count = count.saturating_add(1);
+    }
+    assert_eq!(rt; count, 37);
     Ok(())
 }
 
+/// The content has to stay below the limit.
 #[test]
-fn places_of_faults(rt: HostRuntime) {
+fn sizes(rt: HostRuntime) -> Result<(), Fail> {
     let alloc = rt.alloc();
-    for (text, at) in [
-        ("a:0", 3),
-        ("a:", 2),
-        ("a: 1", 2),
-        ("a:x", 2),
-        (":a", 0),
-        ("a b:1,", 6),
-        ("a:1DA", 4),
-        ("a:1 b:0 c", 7),
-        ("a:1b:2", 4),
-        ("'a':1'b'", 5),
-        ("a\\", 2),
-        ("'a", 2),
-        ("'a\\'", 4),
-        ("'a''", 4),
-        ("''", 2),
-        ("x '' a", 4),
-        ("'a' :1", 4),
-    ] {
-        assert_eq!(rt;
-            refusal(alloc, text),
-            Some(VectorError::Syntax { at }),
-            "{text}"
-        );
-    }
-}
-
-#[test]
-fn limits(rt: HostRuntime) -> Result<(), Fail> {
-    let alloc = rt.alloc();
-    let mut long = and_more(alloc, "x:1 '", "a", 2046)?;
-    long.push_str("'")?;
-    assert_eq!(rt; refusal(alloc, long.as_str()), None);
-    let mut long = and_more(alloc, "x:1 '", "a", 2047)?;
-    long.push_str("' ")?;
-    assert_eq!(rt;
-        refusal(alloc, long.as_str()),
-        Some(VectorError::LexemeTooLong { at: 4 })
-    );
-    long.push_str("y:0")?;
-    assert_eq!(rt;
-        refusal(alloc, long.as_str()),
-        Some(VectorError::Syntax { at: 2057 })
-    );
-    let mut large = String::new(alloc);
+    let word = expanded(alloc, "{a^2042}")?;
+    let mut text = String::new(alloc);
     for k in 1000..1512 {
-        large.push_str(format!(in alloc; " {k}")?.as_str())?;
-        for _ in 0..2042 {
-            large.push_str("a")?;
-        }
+        text.push_str(format!(in alloc; " {k}")?.as_str())?;
+        text.push_str(word.as_str())?;
     }
-    large.push_str(" ")?;
-    let mut full = and_more(alloc, large.as_str(), "b", 1022)?;
-    full.push_str(":1,1A")?;
+    text.push_str(" a:1,1A ")?;
+    text.push_str(expanded(alloc, "{b^1020}")?.as_str())?;
+    assert_eq!(rt; TsVector::parse(alloc, text.as_str())?.count(), 514);
+    text.push_str("b")?;
     assert_eq!(rt;
-        refusal(alloc, full.as_str()),
-        Some(VectorError::VectorTooLarge { bytes: 1_048_576 })
+        outcome(alloc, text.as_str())?.as_str(),
+        "vector of 1048576 bytes"
     );
-    let mut full = and_more(alloc, large.as_str(), "b", 1021)?;
-    full.push_str(":1,1A")?;
-    assert_eq!(rt; refusal(alloc, full.as_str()), None);
     Ok(())
 }
 
+/// A vector is spelled, and read back.
 #[test]
 fn bytes(rt: HostRuntime) -> Result<(), Fail> {
     let alloc = rt.alloc();
@@ -127,39 +125,27 @@ fn bytes(rt: HostRuntime) -> Result<(), Fail> {
     Ok(())
 }
 
+/// Each row is refused at its place.
 #[test]
-fn bad_bytes(rt: HostRuntime) {
+fn bad_bytes(rt: HostRuntime) -> Result<(), Fail> {
     let alloc = rt.alloc();
-    let cases: [(&[u8], usize); 16] = [
-        // The end comes too early.
-        (&[], 0),
-        (&[2, 0, 0], 3),
-        (&[255, 255, 255, 255], 4),
-        (&[1, 0, 0, 0, 3, 0, 97, 98], 8),
-        (&[2, 0, 0, 0, 1, 0, 97, 1, 0, 1, 192, 1, 0, 98, 0], 15),
-        // A byte too much.
-        (&[0, 0, 0, 0, 0], 4),
-        (&[2, 0, 0, 0, 1, 0, 97, 1, 0, 1, 192, 1, 0, 98, 0, 0, 9], 16),
-        // The length of a lexeme.
-        (&[1, 0, 0, 0, 0, 0], 4),
-        (&[1, 0, 0, 0, 255, 7], 4),
-        // A lexeme that is no text, and one out of order.
-        (&[1, 0, 0, 0, 1, 0, 255, 0, 0], 6),
-        (&[2, 0, 0, 0, 1, 0, 98, 0, 0, 1, 0, 97, 0, 0], 11),
-        (&[2, 0, 0, 0, 1, 0, 97, 0, 0, 1, 0, 97, 0, 0], 11),
-        // The number of positions.
-        (&[1, 0, 0, 0, 1, 0, 97, 1, 1], 7),
-        // No position, and positions out of order.
-        (&[1, 0, 0, 0, 1, 0, 97, 1, 0, 0, 192], 9),
-        (&[1, 0, 0, 0, 1, 0, 97, 2, 0, 2, 0, 1, 0], 11),
-        (&[1, 0, 0, 0, 1, 0, 97, 2, 0, 2, 0, 2, 192], 11),
-    ];
-    for (bytes, at) in cases {
-        let error = TsVector::decode(alloc, bytes).err();
-        assert_eq!(rt; error, Some(VectorError::BadBytes { at }), "{bytes:?}");
+    let mut count = 0u32;
+    for row in BAD_BYTES.split(';') {
+        let mut bytes = Vec::new(alloc);
+        let (place, rest) = row.split_once(' ').unwrap_or((row, ""));
+        for number in rest.split_ascii_whitespace() {
+            bytes.push(number.parse::<u8>().unwrap_or(0))?;
+        }
+        let at = place.parse::<usize>().unwrap_or(99);
+        let error = TsVector::decode(alloc, bytes.as_slice()).err();
+        assert_eq!(rt; error, Some(VectorError::BadBytes { at }), "{row}");
+        count = count.saturating_add(1);
     }
+    assert_eq!(rt; count, 16);
+    Ok(())
 }
 
+/// Of many positions the 256 least are kept.
 #[test]
 fn least_positions(rt: HostRuntime) -> Result<(), Fail> {
     let alloc = rt.alloc();
@@ -177,20 +163,10 @@ fn least_positions(rt: HostRuntime) -> Result<(), Fail> {
     Ok(())
 }
 
+/// A vector without positions, and with one weight.
 #[test]
-fn vectors_of_vectors(rt: HostRuntime) -> Result<(), Fail> {
+fn vectors_of_a_vector(rt: HostRuntime) -> Result<(), Fail> {
     let alloc = rt.alloc();
-    for (first, second, joined) in [
-        ("a:1 b:3", "a:1 c b:2A", "'a':1,4 'b':3,5A 'c'"),
-        ("a", "b:2", "'a' 'b':2"),
-        ("a:16383", "a:1B b:5", "'a':16383B 'b':16383"),
-        ("", "", ""),
-    ] {
-        let first = TsVector::parse(alloc, first)?;
-        let second = TsVector::parse(alloc, second)?;
-        let v = first.concat(alloc, &second)?;
-        assert_eq!(rt; v.to_text(alloc)?.as_str(), joined);
-    }
     let v = TsVector::parse(alloc, "a:1,2A b")?;
     assert_eq!(rt; v.strip(alloc)?.to_text(alloc)?.as_str(), "'a' 'b'");
     let v = v.set_weight(alloc, Weight::C)?;
@@ -198,6 +174,7 @@ fn vectors_of_vectors(rt: HostRuntime) -> Result<(), Fail> {
     Ok(())
 }
 
+/// The laws are there to be cited.
 #[test]
 fn laws() {
     normal_form_is_one();

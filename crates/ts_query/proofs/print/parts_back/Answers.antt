@@ -1,6 +1,6 @@
 use Rattle.std.proofs.Common.{◌≡◌, ◌∷◌, [], ◌++◌, ◌-◌, length, get_or, ap, ◌∙◌, arith}
 use Rattle.std.proofs.lemmas.List.{length-append, nil_from_length}
-use Rattle.ts_query.specs.Pieces.{expansion}
+use Rattle.ts_query.specs.Inner.Pieces.{expansion}
 use Rattle.ts_query.specs.declared.query.Node.TheVariants.{Leaf}
 use Rattle.ts_query.specs.declared.print.Task.TheVariants.{Subtree}
 use Rattle.ts_query.proofs.Backwards.{print_start, print_part, print_tree, print_end, expansion_few}

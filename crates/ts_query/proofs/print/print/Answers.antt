@@ -1,5 +1,5 @@
 use Rattle.std.proofs.Common.{ap, ◌∙◌}
-use Rattle.ts_query.specs.Pieces.{pieces_at, text_of}
+use Rattle.ts_query.specs.Inner.Pieces.{pieces_at, text_of}
 use Rattle.ts_query.proofs.Texts.{writes_all}
 use Rattle.ts_query.proofs.print.print.Goals as goal
 

@@ -1,6 +1,6 @@
 use Rattle.std.proofs.Common.{◌≡◌, ◌++◌, drop}
 use Rattle.std.specs.String.{string_bytes}
-use Rattle.ts_query.specs.Pieces.{text_of}
+use Rattle.ts_query.specs.Inner.Pieces.{text_of}
 use Rattle.ts_query.proofs.print.write_parts.Given as goal
 
 abbrev pub invariant-loop-part : goal.invariant-loop-part

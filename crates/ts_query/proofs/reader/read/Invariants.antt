@@ -1,5 +1,5 @@
 use Rattle.std.specs.Str.Iter.{char_indices_rest, char_indices_offset}
-use Rattle.ts_query.specs.Reader.{ReadTo}
+use Rattle.ts_query.specs.Inner.Reader.{ReadTo}
 use Rattle.ts_query.proofs.reader.read.Given as goal
 
 abbrev pub invariant-loop-at : goal.invariant-loop-at

@@ -1,8 +1,8 @@
 use Rattle.std.proofs.Common.{arith, ◌≡◌, ◌∷◌, [], ◌++◌, length, ap, sym, subst, length-append}
 use Rattle.std.proofs.lemmas.Grind.{common_steps}
 use Rattle.std.proofs.lemmas.Result.{err_from_is_err_and}
-use Rattle.ts_base.specs.Bytes.{two_bytes}
-use Rattle.ts_vector.specs.Fields.{Lists, IsLast}
+use Rattle.ts_base.specs.Endian.{little_bytes}
+use Rattle.ts_vector.specs.Inner.Fields.{Lists, IsLast}
 use Rattle.ts_vector.proofs.Decoding.{lists_short, lists_wrong, lists_more, last_more}
 use Rattle.ts_vector.proofs.bytes.positions.Goals as goal
 
@@ -22,7 +22,7 @@ loop-preserved c =
     let bytes = c.in_ok-number.ensures.ok in
     let last : c.at-last.result ≡ p.at = c.at-last.ensures.value in
     let more = lists_more c.args.count c.args.bytes.now c.loop.rest.now c.in_ok-number.after.now c.loop.found.items c.loop.last p c.loop.invariant.lists (omega arith) c.loop.invariant.last
-    (subst (λ k. c.loop.rest.now ≡ two_bytes k ++ c.in_ok-number.after.now) c.in-Some.ensures.0 bytes) c.in-Some.ensures.1 (omega (arith, c.in-Some.ensures.2)) in
+    (subst (λ k. c.loop.rest.now ≡ little_bytes 2 k ++ c.in_ok-number.after.now) c.in-Some.ensures.0 bytes) c.in-Some.ensures.1 (omega (arith, c.in-Some.ensures.2)) in
     record {
       lists = subst (λ t. Lists c.args.count c.args.bytes.now t c.in_ok-number.after.now) (sym e) more;
       number = omega (arith, ap length e, length-append c.loop.found.items (p ∷ []), c.loop.invariant.number);

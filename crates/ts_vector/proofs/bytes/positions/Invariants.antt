@@ -1,5 +1,5 @@
 use Rattle.std.proofs.Common.{◌≡◌, length}
-use Rattle.ts_vector.specs.Fields.{Lists, IsLast}
+use Rattle.ts_vector.specs.Inner.Fields.{Lists, IsLast}
 use Rattle.ts_vector.proofs.bytes.positions.Given as goal
 
 abbrev pub invariant-loop : goal.invariant-loop

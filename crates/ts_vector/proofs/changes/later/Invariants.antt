@@ -1,5 +1,5 @@
 use Rattle.std.proofs.Common.{◌≡◌, map, take}
-use Rattle.ts_vector.specs.CappedForm.{moved_within}
+use Rattle.ts_vector.specs.Inner.CappedForm.{moved_within}
 use Rattle.ts_vector.proofs.changes.later.Given as goal
 
 abbrev pub invariant-loop-position : goal.invariant-loop-position

@@ -2,9 +2,9 @@ use Rattle.std.proofs.Common.{arith, ◌≡◌, ◌≢◌, [], length, refl, ap,
 use Rattle.std.proofs.lemmas.List.{length-map, nil_from_length}
 use Rattle.std.proofs.lemmas.Result.{err_from_is_err_and}
 use Rattle.std.proofs.lemmas.Bool.{eqb-true, eqb-false}
-use Rattle.ts_vector.specs.Views.{view, views}
-use Rattle.ts_vector.specs.Decoded.{Reads, start, counted, begun}
-use Rattle.ts_vector.specs.Begun.{so_far}
+use Rattle.ts_vector.specs.ItemEntries.{item_entry, item_entries}
+use Rattle.ts_vector.specs.Decoded.{ReadsFields, start, counted, begun}
+use Rattle.ts_vector.specs.Inner.Begun.{so_far}
 use Rattle.ts_vector.specs.declared.bytes.Stop.TheVariants.{Bad}
 use Rattle.ts_vector.proofs.Decoding.{sound, count_short, count_goes, bytes_stop, surplus, whole_spelling}
 use Rattle.ts_vector.proofs.decoder.read_items.Goals as goal
@@ -21,7 +21,7 @@ loop-init c =
     record {
       count = refl;
       number = ap length c.new.ensures.items;
-      reads = subst (λ xs. Reads c.args.bytes.now (counted n (views xs)) c.in_ok-count.rest.now) (sym c.new.ensures.items) (first.on c.args.bytes.now begun);
+      reads = subst (λ xs. ReadsFields c.args.bytes.now (counted n (item_entries xs)) c.in_ok-count.rest.now) (sym c.new.ensures.items) (first.on c.args.bytes.now begun);
     }
 
 pub add-requires-clause-normal : goal.add-requires-clause-normal
@@ -34,15 +34,15 @@ returns-in_err-rest-clause-err c =
 
 pub returns-then-not-is_empty-clause-err : goal.returns-then-not-is_empty-clause-err
 returns-then-not-is_empty-clause-err c =
-    let v = views c.loop.begun.items.items in
+    let v = item_entries c.loop.begun.items.items in
     let rest = c.loop.rest.now in
-    let whole : length v ≡ c.loop.begun.count = omega (arith, length-map c.loop.begun.items.items view, c.loop.invariant.number, c.loop.invariant.count) in
+    let whole : length v ≡ c.loop.begun.count = omega (arith, length-map c.loop.begun.items.items item_entry, c.loop.invariant.number, c.loop.invariant.count) in
     let more : rest ≢ [] = λ e. eqb-false (length rest) 0 (sym c.if-not-is_empty.ensures) (ap length e) in
     bytes_stop c.args.bytes.now (so_far c.loop.begun) rest c.loop.invariant.reads (Bad (length rest)) (surplus c.loop.begun.count v rest whole more)
 
 pub returns-clause-ok : goal.returns-clause-ok
 returns-clause-ok c =
-    let v = views c.loop.begun.items.items in
-    let whole : length v ≡ c.loop.begun.count = omega (arith, length-map c.loop.begun.items.items view, c.loop.invariant.number, c.loop.invariant.count) in
+    let v = item_entries c.loop.begun.items.items in
+    let whole : length v ≡ c.loop.begun.count = omega (arith, length-map c.loop.begun.items.items item_entry, c.loop.invariant.number, c.loop.invariant.count) in
     let none : c.loop.rest.now ≡ [] = nil_from_length c.loop.rest.now (eqb-true (length c.loop.rest.now) 0 (sym c.if-not-is_empty.ensures)) in
-    whole_spelling c.args.bytes.now c.loop.begun.count v (subst (λ r. Reads c.args.bytes.now (so_far c.loop.begun) r) none c.loop.invariant.reads) whole
+    whole_spelling c.args.bytes.now c.loop.begun.count v (subst (λ r. ReadsFields c.args.bytes.now (so_far c.loop.begun) r) none c.loop.invariant.reads) whole

@@ -1,7 +1,7 @@
 use Rattle.std.proofs.Common.{ℕ, List, vec_len}
 use Rattle.ts_query.specs.Queries.{Tree}
-use Rattle.ts_query.specs.Frames.{Frame}
-use Rattle.ts_query.specs.Parsing.{ShowsHeld, Applied}
+use Rattle.ts_query.specs.Inner.Frames.{Frame}
+use Rattle.ts_query.specs.Inner.Parsing.{ShowsHeld, Applied}
 use Rattle.ts_query.proofs.parser.Parser.apply_all.Given as goal
 
 abbrev pub invariant-loop : goal.invariant-loop

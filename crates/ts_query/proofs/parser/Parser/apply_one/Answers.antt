@@ -1,6 +1,6 @@
 use Rattle.std.proofs.Common.{◌≤◌, ◌≡◌, ◌++◌, ◌∷◌, [], arith}
 use Rattle.ts_query.specs.Grammar.{level}
-use Rattle.ts_query.specs.Parsing.{link_joint}
+use Rattle.ts_query.specs.Inner.Parsing.{link_joint}
 use Rattle.ts_query.specs.declared.parser.Op.TheVariants.{Not, Pending}
 use Rattle.ts_query.proofs.Stacks.{applied_not, applied_joint}
 use Rattle.ts_query.proofs.parser.Parser.apply_one.Goals as goal

@@ -1,8 +1,8 @@
 use Rattle.std.proofs.Common.{ℕ, List, refl}
 use Rattle.ts_query.specs.Queries.{Tree}
 use Rattle.ts_query.specs.Grammar.{level}
-use Rattle.ts_query.specs.Frames.{Frame}
-use Rattle.ts_query.specs.Parsing.{link_joint, ShowsHeld, AppliedAll}
+use Rattle.ts_query.specs.Inner.Frames.{Frame}
+use Rattle.ts_query.specs.Inner.Parsing.{link_joint, ShowsHeld, AppliedAll}
 use Rattle.ts_query.proofs.Stacks.{sign_took}
 use Rattle.ts_query.proofs.parser.Parser.link.Goals as goal
 

@@ -1,5 +1,5 @@
 use Rattle.std.proofs.Common.{refl}
-use Rattle.ts_query.specs.Parsing.{link_joint}
+use Rattle.ts_query.specs.Inner.Parsing.{link_joint}
 use Rattle.ts_query.proofs.Built.{built_joint}
 use Rattle.ts_query.proofs.query.Builder.link.Goals as goal
 

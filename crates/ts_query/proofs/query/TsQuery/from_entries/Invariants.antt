@@ -1,6 +1,6 @@
 use Rattle.std.proofs.Common.{take, map}
-use Rattle.ts_query.specs.Parsing.{entry_item}
-use Rattle.ts_query.specs.Building.{IsBuilt}
+use Rattle.ts_query.specs.Inner.Parsing.{entry_item}
+use Rattle.ts_query.specs.Inner.Built.{IsBuilt}
 use Rattle.ts_query.proofs.query.TsQuery.from_entries.Given as goal
 
 abbrev pub invariant-loop-entry : goal.invariant-loop-entry

@@ -1,8 +1,8 @@
 use Rattle.std.proofs.Common.{◌≡◌, ◌≢◌, ◌+◌, ◌<◌, [], length, ap, ◌∙◌, arith}
 use Rattle.std.proofs.lemmas.Bool.Decides.{nat_tests}
 use Rattle.ts_query.specs.Queries.{nodes_of}
-use Rattle.ts_query.specs.Parsing.{link_joint}
-use Rattle.ts_query.specs.Building.{joined_queries}
+use Rattle.ts_query.specs.Inner.Parsing.{link_joint}
+use Rattle.ts_query.specs.Joining.{joined_queries}
 use Rattle.ts_query.proofs.Joined.{length-nodes_for, joined_empty, empty_joined, joined_size, joined_built, joined_sound, copied_operands}
 use Rattle.ts_query.proofs.query.TsQuery.joined.Goals as goal
 
@@ -18,8 +18,8 @@ returns-then-is_empty-2-clause-value c =
     let z : nodes_of c.args.other.now ≡ 0 = grind (arith, nat_tests) in
     c.in_ok-query-2.ensures.value ∙ empty_joined (link_joint c.args.link) c.args.self.now c.args.other.now z
 
-pub returns-then-nodes-ge-MOST_NODES-clause-refused : goal.returns-then-nodes-ge-MOST_NODES-clause-refused
-returns-then-nodes-ge-MOST_NODES-clause-refused c =
+pub returns-then-nodes-ge-NODE_LIMIT-clause-refused : goal.returns-then-nodes-ge-NODE_LIMIT-clause-refused
+returns-then-nodes-ge-NODE_LIMIT-clause-refused c =
     let e = ap length c.nodes.ensures.value ∙ length-nodes_for c.args.self.now in
     let f = ap length c.nodes-2.ensures.value ∙ length-nodes_for c.args.other.now in
     let e3 = ap length c.nodes-3.ensures.value ∙ length-nodes_for c.args.self.now in

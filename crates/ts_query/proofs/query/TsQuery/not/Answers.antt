@@ -1,7 +1,7 @@
 use Rattle.std.proofs.Common.{◌≡◌, ◌≢◌, ◌+◌, ◌<◌, [], length, ap, ◌∙◌, arith}
 use Rattle.std.proofs.lemmas.Bool.Decides.{nat_tests}
 use Rattle.ts_query.specs.Queries.{nodes_of}
-use Rattle.ts_query.specs.Building.{negated_query}
+use Rattle.ts_query.specs.Joining.{negated_query}
 use Rattle.ts_query.proofs.Joined.{length-nodes_for, negated_size, negated_empty, negated_built, negated_sound}
 use Rattle.ts_query.proofs.query.TsQuery.not.Goals as goal
 
@@ -11,8 +11,8 @@ returns-then-is_empty-clause-value c =
     let z : nodes_of c.args.self.now ≡ 0 = grind (arith, nat_tests) in
     c.empty.ensures.value ∙ negated_empty c.args.self.now z
 
-pub returns-then-nodes-ge-MOST_NODES-clause-refused : goal.returns-then-nodes-ge-MOST_NODES-clause-refused
-returns-then-nodes-ge-MOST_NODES-clause-refused c =
+pub returns-then-nodes-ge-NODE_LIMIT-clause-refused : goal.returns-then-nodes-ge-NODE_LIMIT-clause-refused
+returns-then-nodes-ge-NODE_LIMIT-clause-refused c =
     let e = ap length c.nodes.ensures.value ∙ length-nodes_for c.args.self.now in
     let f = ap length c.nodes-2.ensures.value ∙ length-nodes_for c.args.self.now in
     let z : nodes_of c.args.self.now ≢ 0 = λ x. grind (arith, nat_tests) in

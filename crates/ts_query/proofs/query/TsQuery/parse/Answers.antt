@@ -1,7 +1,7 @@
 use Rattle.std.proofs.Common.{length, map, ap, subst, sym, ◌∙◌, arith}
-use Rattle.ts_query.specs.Parsing.{entry_item}
+use Rattle.ts_query.specs.Inner.Parsing.{entry_item}
 use Rattle.ts_query.specs.Grammar.{IsQueryText}
-use Rattle.ts_query.specs.Reader.{IsOutcome}
+use Rattle.ts_query.specs.Inner.Reader.{IsOutcome}
 use Rattle.ts_query.proofs.Answer.{query_fault}
 use Rattle.ts_query.proofs.Entries.{entries_nodes}
 use Rattle.ts_query.proofs.Sound.{reads_sound}
@@ -10,8 +10,8 @@ use Rattle.ts_query.proofs.query.TsQuery.parse.Goals as goal
 pub returns-in-Err-clause-refused : goal.returns-in-Err-clause-refused
 returns-in-Err-clause-refused c = let f = rw c.in-Err.is at c.in_ok-outcome.ensures.fault in query_fault c.args.text.now c.in-Err.at f
 
-pub returns-then-as_slice-ge-MOST_NODES-clause-refused : goal.returns-then-as_slice-ge-MOST_NODES-clause-refused
-returns-then-as_slice-ge-MOST_NODES-clause-refused c =
+pub returns-then-as_slice-ge-NODE_LIMIT-clause-refused : goal.returns-then-as_slice-ge-NODE_LIMIT-clause-refused
+returns-then-as_slice-ge-NODE_LIMIT-clause-refused c =
     let f : IsOutcome c.args.text.now c.in-Ok.outcome = rw c.in-Ok.is at c.in_ok-outcome.ensures.found in
     let e = ap length c.as_slice.ensures.value ∙ entries_nodes c.in-Ok.outcome.entries.items f.query f.entries in
     record { tokens = f.tokens; query = f.query; reads = f.reads; near = sym f.far ∙ c.in_default.is; short = sym f.long ∙ c.in_default-long.is; many = omega arith }

@@ -1,14 +1,16 @@
-use Rattle.std.proofs.Common.{◌≢◌, ◌<◌, [], ◌++◌, ap, ◌∙◌, sym, subst, refl, arith}
+use Rattle.std.proofs.Common.{◌≢◌, ◌<◌, [], ◌++◌, ap, ◌∙◌, sym, subst, refl, arith, inl, inr}
 use Rattle.std.specs.Char.{encode_utf8}
-use Rattle.ts_query.specs.Tokens.{bang, opening, IsPlain}
-use Rattle.ts_query.specs.Lexer.{between, in_quoted, in_plain, plain_escaped, Ready}
+use Rattle.ts_query.specs.Tokens.{bang, opening, EndsOperand}
+use Rattle.ts_base.specs.Plain.{IsPlain}
+use Rattle.ts_query.specs.Inner.Lexer.{between, in_quoted, in_plain, plain_escaped, Ready}
 use Rattle.ts_query.specs.declared.reader.State.TheVariants.{Between, InQuoted, InPlain, PlainEscape}
 use Rattle.std.proofs.lemmas.Str.{encode_ascii}
 use Rattle.ts_query.proofs.Lexing.{bang_ready, open_ready}
-use Rattle.ts_query.proofs.Steps.{one_byte, quote_step, escape_step, plain_step}
+use Rattle.ts_base.proofs.Characters.{one_byte}
+use Rattle.ts_query.proofs.Steps.{quote_step, escape_step, plain_step}
 use Rattle.ts_query.proofs.Past.{first_far_same, first_long_same}
 use Rattle.ts_query.proofs.Standing.{lexer_in, lexer_with, gave, silent_moved, gave_moved, start_stuck}
-use Rattle.ts_query.proofs.Beginnings.{Behind, IsBehind, behind_never, behind_starts}
+use Rattle.ts_query.proofs.Beginnings.{BehindOperand, IsBehind, behind_never, behind_starts}
 use Rattle.ts_query.proofs.reader.Reader.begin.Goals as goal
 
 pub returns-in-39 : goal.returns-in-39
@@ -47,12 +49,12 @@ pub returns-in-38 : goal.returns-in-38
 returns-in-38 c s d h =
     let b : IsBehind c.args.c = grind arith in
     let small : c.args.c < 128 = grind arith in
-    start_stuck c.args.self.now s _ c.args.c [] between Behind (encode_ascii c.args.c small) h (lexer_in c.args.self.now Between c.requires.between)
+    start_stuck c.args.self.now s _ c.args.c [] between BehindOperand (encode_ascii c.args.c small) h (lexer_in c.args.self.now Between c.requires.between)
     (λ n u ks. behind_starts n c.args.c u ks b) (λ k. behind_never s.spot k d)
 
 pub returns-in_ok-put-in_default : goal.returns-in_ok-put-in_default
 returns-in_ok-put-in_default c s d h =
-    let k : IsPlain c.args.c = record { no_white = c.requires.dark; no_delimiter = λ x. grind arith; no_escape = omega arith } in
+    let k : IsPlain EndsOperand c.args.c = record { no_end = λ x. elim x [ inl w ↦ c.requires.dark w | inr d ↦ grind arith ]; no_escape = omega arith } in
     let m : c.args.c ≢ 39 = omega arith in
     let p = c.in_ok-put-in_default.ensures in
     let b = c.begin_word-in_default.ensures in

@@ -1,5 +1,5 @@
 use Rattle.std.proofs.Common.{rules, refl}
-use Rattle.ts_query.specs.Tokens.{IsWhite}
+use Rattle.ts_base.specs.Bytes.{IsWhite}
 use Rattle.ts_query.specs.declared.reader.State.TheVariants.{Between}
 use Rattle.ts_query.proofs.Steps.{white_step}
 use Rattle.ts_query.proofs.Standing.{lexer_in, silent_moved}

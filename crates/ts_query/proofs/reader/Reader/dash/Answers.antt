@@ -1,11 +1,10 @@
 use Rattle.std.proofs.Common.{◌≢◌, ◌++◌, sym, subst, arith}
 use Rattle.ts_query.specs.Queries.{phrase_joint}
 use Rattle.ts_query.specs.Tokens.{sign}
-use Rattle.ts_query.specs.Lexer.{behind_dash, Ready}
+use Rattle.ts_query.specs.Inner.Lexer.{behind_dash, Ready}
 use Rattle.ts_query.specs.declared.reader.State.TheVariants.{Dash, Between}
-use Rattle.ts_query.proofs.Chars.{encode_some}
+use Rattle.ts_base.proofs.Characters.{encode_some, one_byte}
 use Rattle.ts_query.proofs.Lexing.{dash_ready, dash_never}
-use Rattle.ts_query.proofs.Steps.{one_byte}
 use Rattle.ts_query.proofs.Standing.{lexer_in, fits_in, gave_moved, left_stuck}
 use Rattle.ts_query.proofs.reader.Reader.dash.Goals as goal
 

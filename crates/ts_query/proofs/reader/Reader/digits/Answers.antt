@@ -1,11 +1,12 @@
 use Rattle.std.proofs.Common.{ℕ, ◌≢◌, ◌++◌, ap, ◌∙◌, sym, subst, refl, arith}
 use Rattle.ts_query.specs.Queries.{phrase_joint}
-use Rattle.ts_query.specs.Tokens.{IsDigit, sign}
-use Rattle.ts_query.specs.Lexer.{in_digits, Ready}
+use Rattle.ts_base.specs.Bytes.{IsDigit}
+use Rattle.ts_query.specs.Tokens.{sign}
+use Rattle.ts_query.specs.Inner.Lexer.{in_digits, Ready}
 use Rattle.ts_query.specs.declared.reader.State.TheVariants.{Digits, Between}
-use Rattle.ts_query.proofs.Chars.{encode_some}
+use Rattle.ts_base.proofs.Characters.{encode_some, one_byte}
 use Rattle.ts_query.proofs.Lexing.{digits_ready, digits_never}
-use Rattle.ts_query.proofs.Steps.{one_byte, digit_step}
+use Rattle.ts_query.proofs.Steps.{digit_step}
 use Rattle.ts_query.proofs.Standing.{lexer_in, fits_in, silent_moved, gave_moved, left_stuck}
 use Rattle.ts_query.proofs.reader.Reader.digits.Goals as goal
 

@@ -1,6 +1,6 @@
 use Rattle.std.proofs.Common.{◌≡◌, [], ◌∷◌, ap, ◌∙◌, cond, Some, None, refl}
 use Rattle.ts_query.specs.Tokens.{sign}
-use Rattle.ts_query.specs.Parsing.{link_joint}
+use Rattle.ts_query.specs.Inner.Parsing.{link_joint}
 use Rattle.ts_query.specs.Limits.{or_else, first_far}
 use Rattle.ts_query.proofs.Past.{first_far_more, first_long_same}
 use Rattle.ts_query.proofs.Standing.{gave}

@@ -1,7 +1,7 @@
 use Rattle.std.proofs.Common.{◌≡◌, [], ◌∷◌, ap, ◌∙◌, subst, cond, nat_lt, Some, None, refl, length}
 use Rattle.std.specs.String.{string_bytes}
 use Rattle.ts_query.specs.Tokens.{word, operand}
-use Rattle.ts_query.specs.Parsing.{Took}
+use Rattle.ts_query.specs.Inner.Parsing.{Took}
 use Rattle.ts_query.specs.Limits.{or_else, first_long}
 use Rattle.ts_query.proofs.Past.{first_far_same, first_long_more}
 use Rattle.ts_query.proofs.Standing.{gave}

@@ -2,8 +2,8 @@ use Rattle.std.proofs.Common.{◌≢◌, [], length, ap, ◌∙◌, subst, false
 use Rattle.std.specs.String.{string_bytes}
 use Rattle.std.proofs.lemmas.Bool.Decides.{nat_tests}
 use Rattle.ts_query.specs.Tokens.{word, operand, no_weights}
-use Rattle.ts_query.specs.Lexer.{behind_quote, in_plain, in_marks}
-use Rattle.ts_query.specs.Reader.{Gave}
+use Rattle.ts_query.specs.Inner.Lexer.{behind_quote, in_plain, in_marks}
+use Rattle.ts_query.specs.Inner.Reader.{Gave}
 use Rattle.ts_query.specs.declared.reader.State.TheVariants.{Quote, InPlain, InMarks, Between}
 use Rattle.ts_query.proofs.Lexing.{quote_ready_end, plain_ready_end, marks_ready}
 use Rattle.ts_query.proofs.Ending.{gave_finished}

@@ -1,11 +1,13 @@
 use Rattle.std.proofs.Common.{ℕ, ◌≢◌, inl, inr, ◌∷◌, ap, ◌∙◌, true, refl, arith}
 use Rattle.std.specs.String.{string_bytes}
 use Rattle.ts_base.specs.declared.Weight.{Weight}
-use Rattle.ts_query.specs.Tokens.{word, operand, IsLetter, IsMark}
-use Rattle.ts_query.specs.Lexer.{in_marks}
+use Rattle.ts_query.specs.Tokens.{word, operand, IsMark}
+use Rattle.ts_base.specs.Bytes.{IsLetter}
+use Rattle.ts_query.specs.Inner.Lexer.{in_marks}
 use Rattle.ts_query.specs.declared.reader.State.TheVariants.{InMarks, Between}
-use Rattle.ts_query.proofs.Chars.{encode_some}
-use Rattle.ts_query.proofs.Lexing.{marks_ready, letter_small, wide_no_letter}
+use Rattle.ts_base.proofs.Characters.{encode_some}
+use Rattle.ts_query.proofs.Lexing.{marks_ready, wide_no_letter}
+use Rattle.ts_base.proofs.ByteKinds.{letter_ascii}
 use Rattle.ts_query.proofs.Steps.{star_step, letter_step}
 use Rattle.ts_query.proofs.Standing.{lexer_in, fits_in, silent_moved, gave_stepped, holds_after}
 use Rattle.ts_query.proofs.reader.Reader.in_marks.Goals as goal
@@ -19,7 +21,7 @@ pub returns-in-Some : goal.returns-in-Some
 returns-in-Some c s h =
     silent_moved c.args.self.now _ s c.args.at _ _ _ h (lexer_in c.args.self.now InMarks c.requires)
     (lexer_in (record c.args.self.now { weights = c.with-self.result }) InMarks c.requires ∙ ap (λ w. in_marks c.args.self.now.start (string_bytes c.args.self.now.word) w c.args.self.now.prefix) c.with-self.ensures) refl refl refl (λ f. f)
-    (letter_step c.args.at c.args.self.now.start (string_bytes c.args.self.now.word) c.args.self.now.weights c.args.self.now.prefix c.args.c c.in-Some.weight (letter_small c.args.c c.in-Some.weight c.in-Some.ensures) c.in-Some.ensures)
+    (letter_step c.args.at c.args.self.now.start (string_bytes c.args.self.now.word) c.args.self.now.weights c.args.self.now.prefix c.args.c c.in-Some.weight (letter_ascii c.args.c c.in-Some.weight c.in-Some.ensures) c.in-Some.ensures)
 
 no_mark : (b : ℕ) → ((w : Weight) → ¬ IsLetter b w) → b ≢ 42 → ¬ IsMark b
 no_mark b f m (inl e) = m e

@@ -1,9 +1,11 @@
-use Rattle.std.proofs.Common.{◌<◌, ◌⊎◌, inl, inr, [], ap, subst, false, refl, rules, arith}
+use Rattle.std.proofs.Common.{◌<◌, ◌⊎◌, [], ap, subst, false, refl, rules, arith}
 use Rattle.std.proofs.lemmas.Str.{encode_ascii}
 use Rattle.std.specs.String.{string_bytes}
-use Rattle.ts_query.specs.Tokens.{word, operand, no_weights, IsPlain, IsWhite, IsDelimiter}
-use Rattle.ts_query.specs.Lexer.{in_plain}
-use Rattle.ts_query.specs.Reader.{lexer_of, Gave}
+use Rattle.ts_query.specs.Tokens.{word, operand, no_weights, IsDelimiter, EndsOperand}
+use Rattle.ts_base.specs.Plain.{IsPlain}
+use Rattle.ts_base.specs.Bytes.{IsWhite}
+use Rattle.ts_query.specs.Inner.Lexer.{in_plain}
+use Rattle.ts_query.specs.Inner.Reader.{lexer_of, Gave}
 use Rattle.ts_query.specs.declared.reader.State.TheVariants.{InPlain, Between}
 use Rattle.ts_query.proofs.Lexing.{plain_ready}
 use Rattle.ts_query.proofs.Steps.{plain_escape_step, plain_colon_step, plain_more_step}
@@ -37,7 +39,7 @@ returns-then-ends_plain c s h =
 pub returns : goal.returns
 returns c s h =
     let e : ¬ (IsWhite c.args.c ⊎ IsDelimiter c.args.c) = search rules in
-    let k : IsPlain c.args.c = record { no_white = λ x. e (inl x); no_delimiter = λ x. e (inr x); no_escape = c.if-c-eq92.false } in
+    let k : IsPlain EndsOperand c.args.c = record { no_end = e; no_escape = c.if-c-eq92.false } in
     silent_moved c.args.self.now c.put.new.self s c.args.at _ _ _ h (lexer_in c.args.self.now InPlain c.requires)
     (lexer_with c.put.new.self in_plain _ _ (lexer_in c.put.new.self InPlain c.in_ok-put.ensures.state) c.in_ok-put.ensures.start c.in_ok-put.ensures.word)
     c.in_ok-put.ensures.keeps.parser c.in_ok-put.ensures.keeps.far c.in_ok-put.ensures.keeps.long (λ f. f)

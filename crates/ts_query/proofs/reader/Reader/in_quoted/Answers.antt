@@ -1,6 +1,6 @@
 use Rattle.std.proofs.Common.{◌≢◌, refl, arith}
 use Rattle.std.specs.String.{string_bytes}
-use Rattle.ts_query.specs.Lexer.{in_quoted}
+use Rattle.ts_query.specs.Inner.Lexer.{in_quoted}
 use Rattle.ts_query.specs.declared.reader.State.TheVariants.{InQuoted}
 use Rattle.ts_query.proofs.Steps.{quoted_quote_step, quoted_escape_step, quoted_step}
 use Rattle.ts_query.proofs.Standing.{lexer_in, lexer_with, silent_moved}

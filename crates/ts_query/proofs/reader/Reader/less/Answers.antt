@@ -1,8 +1,8 @@
 use Rattle.std.proofs.Common.{◌≢◌, ap, refl, arith}
-use Rattle.ts_query.specs.Tokens.{IsDigit}
-use Rattle.ts_query.specs.Lexer.{behind_less, in_digits}
+use Rattle.ts_base.specs.Bytes.{IsDigit}
+use Rattle.ts_query.specs.Inner.Lexer.{behind_less, in_digits}
 use Rattle.ts_query.specs.declared.reader.State.TheVariants.{Less}
-use Rattle.ts_query.proofs.Chars.{encode_some}
+use Rattle.ts_base.proofs.Characters.{encode_some}
 use Rattle.ts_query.proofs.Lexing.{less_never}
 use Rattle.ts_query.proofs.Steps.{dash_step, number_step}
 use Rattle.ts_query.proofs.Standing.{lexer_in, silent_moved, left_stuck}

@@ -1,13 +1,13 @@
 use Rattle.std.proofs.Common.{◌+◌, ◌≡◌, ◌∷◌, ◌++◌, length, sym, subst, refl, arith}
 use Rattle.ts_query.specs.Queries.{and_joint, or_joint}
 use Rattle.ts_query.specs.Tokens.{sign}
-use Rattle.ts_query.specs.Lexer.{between, Ready}
+use Rattle.ts_query.specs.Inner.Lexer.{between, Ready}
 use Rattle.ts_query.specs.declared.reader.State.TheVariants.{Between}
-use Rattle.ts_query.proofs.Chars.{encode_some}
+use Rattle.ts_base.proofs.Characters.{encode_some, one_byte}
 use Rattle.ts_query.proofs.Climbs.{Begin}
 use Rattle.ts_query.proofs.Stacks.{begin_never}
 use Rattle.ts_query.proofs.Lexing.{and_ready, or_ready}
-use Rattle.ts_query.proofs.Steps.{one_byte, at_offset, less_step}
+use Rattle.ts_query.proofs.Steps.{at_offset, less_step}
 use Rattle.ts_query.proofs.Standing.{lexer_in, silent_moved, gave_moved, start_stuck, close_stepped}
 use Rattle.ts_query.proofs.Beginnings.{IsOther, other_starts}
 use Rattle.ts_query.proofs.reader.Reader.operator.Goals as goal

@@ -1,11 +1,11 @@
 use Rattle.std.proofs.Common.{ℕ, ◌≡◌, ◌≢◌, [], length, ap, ◌∙◌, subst, false, arith}
 use Rattle.std.specs.String.{string_bytes}
 use Rattle.ts_query.specs.Tokens.{word, operand, no_weights}
-use Rattle.ts_query.specs.Lexer.{behind_quote, in_quoted}
-use Rattle.ts_query.specs.Reader.{lexer_of, Gave}
+use Rattle.ts_query.specs.Inner.Lexer.{behind_quote, in_quoted}
+use Rattle.ts_query.specs.Inner.Reader.{lexer_of, Gave}
 use Rattle.ts_query.specs.declared.reader.State.TheVariants.{Quote, InQuoted, Between}
 use Rattle.std.proofs.lemmas.Bool.Decides.{nat_tests}
-use Rattle.ts_query.proofs.Chars.{encode_some, no_bytes}
+use Rattle.ts_base.proofs.Characters.{encode_some, no_bytes}
 use Rattle.ts_query.proofs.Lexing.{quote_ready, empty_quote_never}
 use Rattle.ts_query.proofs.Steps.{doubled_step, quoted_colon_step}
 use Rattle.ts_query.proofs.Standing.{lexer_in, lexer_with, fits_in, silent_moved, gave_stepped, holds_after, left_stuck}

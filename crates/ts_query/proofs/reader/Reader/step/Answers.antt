@@ -1,5 +1,5 @@
 use Rattle.std.specs.String.{string_bytes}
-use Rattle.ts_query.specs.Lexer.{in_quoted, in_plain}
+use Rattle.ts_query.specs.Inner.Lexer.{in_quoted, in_plain}
 use Rattle.ts_query.specs.declared.reader.State.TheVariants.{QuotedEscape, InQuoted, PlainEscape, InPlain}
 use Rattle.ts_query.proofs.Steps.{quoted_escaped_step, plain_escaped_step}
 use Rattle.ts_query.proofs.Standing.{lexer_in, lexer_with, silent_moved}

@@ -1,13 +1,15 @@
 use Rattle.std.proofs.Common.{◌≡◌, ◌<◌, rules, arith, refl}
-use Rattle.ts_vector.specs.Text.{IsDigit, IsWhite, with_digit}
+use Rattle.ts_base.specs.Bytes.{IsDigit, IsWhite}
+use Rattle.ts_base.specs.Digits.{with_digit}
 use Rattle.ts_vector.proofs.Reading.{digit_more, digits_letter, digits_comma, digits_over, digits_stuck, pushed}
 use Rattle.ts_base.specs.declared.Weight.TheVariants.{D}
 use Rattle.ts_vector.proofs.reader.Reader.digits.Goals as goal
+use Rattle.ts_base.specs.declared.TheConstants.{LAST_POSITION}
 
 pub returns-then-byte-le57 : goal.returns-then-byte-le57
 returns-then-byte-le57 c =
     let d : IsDigit c.args.byte = omega arith in
-    let e : c.min-value.result ≡ with_digit c.args.self.now.value c.args.byte = search rules in
+    let e : c.min-value.result ≡ with_digit LAST_POSITION c.args.self.now.value c.args.byte = search rules in
     digit_more _ _ _ _ _ _ _ _ _ _ c.requires c.requires d e
 
 pub returns-in-Some : goal.returns-in-Some

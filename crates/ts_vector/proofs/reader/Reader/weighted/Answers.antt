@@ -1,5 +1,5 @@
 use Rattle.std.proofs.Common.{rules, refl}
-use Rattle.ts_vector.specs.Text.{IsWhite}
+use Rattle.ts_base.specs.Bytes.{IsWhite}
 use Rattle.ts_vector.proofs.Reading.{weighted_comma, weighted_over}
 use Rattle.ts_vector.proofs.reader.Reader.weighted.Goals as goal
 

@@ -1,0 +1,51 @@
+// The words of a line.
+ghost use Rattle.std.specs.Prelude.{◌≡◌, ℕ, ◌≤◌, List, ◌++◌, length, take, drop, All, IfSome, IfNone};
+ghost use Rattle.ts_base.specs.Bytes.{IsBlank, BeginsWithout};
+ghost use Rattle.ts_base.specs.Words.{BeginsWithWord};
+
+use crate::bytes::is_blank;
+
+/// How many blanks stand at the front.
+fn blanks_len(bytes: &[u8]) -> usize
+    ensures within { result ≤ length bytes.now }
+    ensures blank { All IsBlank (take result bytes.now) }
+    ensures all { BeginsWithout IsBlank (drop result bytes.now) }
+{
+    bytes
+        .iter()
+        .position(|byte| !is_blank(*byte))
+        .unwrap_or(bytes.len())
+}
+
+/// How many bytes of a word stand at the front.
+fn word_len(bytes: &[u8]) -> usize
+    ensures within { result ≤ length bytes.now }
+    ensures word { All (λ c. ¬ IsBlank c) (take result bytes.now) }
+    ensures all { BeginsWithout (λ c. ¬ IsBlank c) (drop result bytes.now) }
+{
+    bytes
+        .iter()
+        .position(|byte| is_blank(*byte))
+        .unwrap_or(bytes.len())
+}
+
+/// What stands behind the blanks at the front.
+pub fn without_blanks(text: &str) -> &str
+    ensures blanks { (gap : List ℕ) × All IsBlank gap × (text.now ≡ gap ++ result.now) }
+    ensures all { BeginsWithout IsBlank result.now }
+{
+    &text[blanks_len(text.as_bytes())..]
+}
+
+/// The first word of a line, and what stands behind it; none in a line of blanks.
+pub fn front_word(line: &str) -> Option<(&str, &str)>
+    ensures some { IfSome result (λ r. BeginsWithWord line.now r.0.now r.1.now) }
+    ensures none { IfNone result (All IsBlank line.now) }
+{
+    let text = without_blanks(line);
+    let (word, rest) = text.split_at(word_len(text.as_bytes()));
+    if word.is_empty() {
+        return None;
+    }
+    Some((word, rest))
+}

@@ -1,0 +1,6 @@
+pub mod Frames
+pub mod Parsing
+pub mod Lexer
+pub mod Reader
+pub mod Built
+pub mod Pieces

@@ -1,0 +1,5 @@
+use Rattle.ts_vector.proofs.OneList as law
+use Rattle.ts_vector.proofs.laws.text_has_one_list.Goals as goal
+
+pub returns : goal.returns
+returns c = law.text_has_one_list

@@ -1,5 +1,0 @@
-use Rattle.ts_vector.proofs.OneAnswer as law
-use Rattle.ts_vector.proofs.text_has_one_answer.Goals as goal
-
-pub returns : goal.returns
-returns c = law.text_has_one_answer

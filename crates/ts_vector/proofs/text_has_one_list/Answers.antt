@@ -1,5 +1,0 @@
-use Rattle.ts_vector.proofs.OneList as law
-use Rattle.ts_vector.proofs.text_has_one_list.Goals as goal
-
-pub returns : goal.returns
-returns c = law.text_has_one_list
