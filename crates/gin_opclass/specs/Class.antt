@@ -21,32 +21,32 @@ abbrev pub meaning : {Q : Type 0} → (Q → List Asked) → (Q → Bool) → (Q
 meaning a b c d = record { asked = a; all = b; satisfies = c; judged = d }
 
 -- the key that is asked for, or one that begins with it
-abbrev pub Fits : Asked → Key → Type 0
-Fits a k = by a.prefix
+abbrev pub FitsAsked : Asked → Key → Type 0
+FitsAsked a k = by a.prefix
   where
     by : Bool → Type 0
     by false = k ≡ a.key
     by true = (rest : List ℕ) × (k ≡ a.key ++ rest)
 
 abbrev pub HasKey : Vector → Asked → Type 0
-HasKey v a = (k : Key) × Contains (keys_of v) k × Fits a k
+HasKey v a = (k : Key) × Contains (keys_of v) k × FitsAsked a k
 
--- False is given only where the vector lacks the key, True only where it has it
-abbrev pub SoundValue : Vector → Asked → Tri → Type 0
-SoundValue v a False = ¬ HasKey v a
-SoundValue v a Maybe = ⊤
-SoundValue v a True = HasKey v a
+-- what is said of a fact: False only where it is not so, True only where it is
+abbrev pub SoundValue : Type 0 → Tri → Type 0
+SoundValue P False = ¬ P
+SoundValue P Maybe = ⊤
+SoundValue P True = P
 
--- a value for each key
-abbrev pub SoundValues : Vector → List Asked → List Tri → Type 0
-SoundValues v [] [] = ⊤
-SoundValues v [] (t ∷ ts) = ⊥
-SoundValues v (a ∷ as') [] = ⊥
-SoundValues v (a ∷ as') (t ∷ ts) = SoundValue v a t × SoundValues v as' ts
+-- a value for each element, of the fact on it
+abbrev pub SoundValues : {A : Type 0} → (A → Type 0) → List A → List Tri → Type 0
+SoundValues P [] [] = ⊤
+SoundValues P [] (t ∷ ts) = ⊥
+SoundValues P (x ∷ xs) [] = ⊥
+SoundValues P (x ∷ xs) (t ∷ ts) = SoundValue (P x) t × SoundValues P xs ts
 
 -- For sound values True says that the vector satisfies the query, and False that it does not.
 -- The whole index is read for a query of which not even False for each key excludes a vector.
-pub record IsSound {Q : Type 0} (M : Meaning Q) : Type 0 where
-  pub yes : (q : Q) (v : Vector) (values : List Tri) → SoundValues v (M.asked q) values → M.judged q values ≡ True → M.satisfies q v
-  pub no : (q : Q) (v : Vector) (values : List Tri) → SoundValues v (M.asked q) values → M.judged q values ≡ False → ¬ M.satisfies q v
+pub record JudgeIsSound {Q : Type 0} (M : Meaning Q) : Type 0 where
+  pub yes : (q : Q) (v : Vector) (values : List Tri) → SoundValues (HasKey v) (M.asked q) values → M.judged q values ≡ True → M.satisfies q v
+  pub no : (q : Q) (v : Vector) (values : List Tri) → SoundValues (HasKey v) (M.asked q) values → M.judged q values ≡ False → ¬ M.satisfies q v
   pub whole : (q : Q) → M.judged q (map (λ a. False) (M.asked q)) ≢ False → M.all q ≡ true

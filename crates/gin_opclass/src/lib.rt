@@ -4,8 +4,8 @@
 ghost use Rattle.std.specs.Prelude.{◌≡◌, List, Bool, length};
 ghost use Rattle.ts_base.specs.Vectors.{Vector};
 ghost use Rattle.ts_base.specs.declared.Tri.{Tri};
-ghost use Rattle.ts_base.specs.Keys.{IsKey, key_order};
-ghost use Rattle.gin_opclass.specs.Class.{Asked, meaning, IsSound};
+ghost use Rattle.ts_base.specs.Keys.{key_order};
+ghost use Rattle.gin_opclass.specs.Class.{Asked, meaning, JudgeIsSound};
 
 use std::cmp::Ordering;
 use std::marker::PhantomData;
@@ -14,28 +14,32 @@ use ts_base::Tri;
 /// The keys that a query asks for, one for each operand, each with whether it is a prefix; and whether the whole index is read.
 #[derive(Debug, Drop)]
 pub struct QueryKeys {
+    /// A key for each operand, and whether it is a prefix.
     pub keys: Vec<(Vec<u8>, bool)>,
+    /// Whether the whole index is read.
     pub all: bool,
 }
 
 /// What the queries of a class mean: the keys of a query, whether it reads the whole index,
 /// the vectors that satisfy it, and the answer of its judge to a value for each key.
 pub trait Meaning<Q> {
+    /// The keys that a query asks for.
     ghost asked: { Q → List Asked };
 
+    /// Whether a query reads the whole index.
     ghost all: { Q → Bool };
 
+    /// Which vectors satisfy a query.
     ghost satisfies: { Q → Vector → Type 0 };
 
+    /// The answer of the judge.
     ghost judged: { Q → List Tri → Tri };
 }
 
-/// A comparison of keys.
+/// A comparison of lists of bytes. A walk over a whole index begins with the empty list, which is no key.
 pub trait CompareKeys {
-    /// The order of two keys.
+    /// The order of two lists of bytes, keys or not.
     fn compare(&self, a: &[u8], b: &[u8]) -> Ordering
-        requires a { IsKey a.now }
-        requires b { IsKey b.now }
         ensures { result ≡ key_order a.now b.now };
 }
 
@@ -52,7 +56,7 @@ pub trait Judge<Q, W: Meaning<Q>> {
         ensures serves { serves work.new query.now };
 
     /// Its answers are sound.
-    ghost sound: { IsSound (meaning W.asked W.all W.satisfies W.judged) };
+    ghost sound: { JudgeIsSound (meaning W.asked W.all W.satisfies W.judged) };
 }
 
 /// A comparison of keys and a sound judge.
@@ -65,10 +69,11 @@ pub struct OpClass<Q, W, C, J> {
 }
 
 impl<Q, W: Meaning<Q>, C: CompareKeys, J: Judge<Q, W>> OpClass<Q, W, C, J> {
+    /// The class of these two.
     pub fn new(compare: C, judge: J) -> OpClass<Q, W, C, J>
         ensures compare { result.compare ≡ compare }
         ensures judge { result.judge ≡ judge }
-        ensures sound { IsSound (meaning W.asked W.all W.satisfies W.judged) }
+        ensures sound { JudgeIsSound (meaning W.asked W.all W.satisfies W.judged) }
     {
         OpClass {
             compare,
@@ -78,10 +83,8 @@ impl<Q, W: Meaning<Q>, C: CompareKeys, J: Judge<Q, W>> OpClass<Q, W, C, J> {
         }
     }
 
-    /// The order of two keys.
+    /// The order of two lists of bytes, keys or not.
     pub fn compare(&self, a: &[u8], b: &[u8]) -> Ordering
-        requires a { IsKey a.now }
-        requires b { IsKey b.now }
         ensures { result ≡ key_order a.now b.now }
     {
         self.compare.compare(a, b)
@@ -98,11 +101,11 @@ impl<Q, W: Meaning<Q>, C: CompareKeys, J: Judge<Q, W>> OpClass<Q, W, C, J> {
     }
 }
 
-/// Keys by their bytes.
+/// Keys by their bytes: the first byte that differs decides, and a proper prefix is first.
 #[derive(Clone, Copy, Debug, Default)]
-pub struct ByteOrder;
+pub struct Bytewise;
 
-impl CompareKeys for ByteOrder {
+impl CompareKeys for Bytewise {
     fn compare(&self, a: &[u8], b: &[u8]) -> Ordering {
         a.cmp(b)
     }

@@ -6,9 +6,14 @@ pub mod Order
 pub mod Lexemes
 pub mod Lookups
 pub mod Stacks
+pub mod Words
 pub mod Plans
 pub mod Tables
 pub mod Hits
-pub mod Outer
-pub mod Answers
+pub mod PlanSteps
+pub mod Units
+pub mod Reach
+pub mod Laid
+pub mod Prepared
+pub mod Weighed
 pub mod KeyLists

@@ -1,12 +1,12 @@
 -- The order of lexemes, and lexemes that begin alike.
-use Rattle.std.proofs.Common.{◌≡◌, ◌≢◌, ℕ, ◌<◌, true, eqb, List, [], ◌∷◌, length, take, inl, inr, refl, sym, ap, ◌∙◌, arith}
-use Rattle.std.specs.Prelude.{nat_eq}
+use Rattle.std.proofs.Common.{◌≡◌, ◌≢◌, ℕ, ◌<◌, ◌≤◌, ◌⊎◌, true, eqb, List, [], ◌∷◌, length, take, inl, inr, refl, sym, ap, ◌∙◌, arith}
+use Rattle.std.specs.Prelude.{nat_eq, max}
 use Rattle.std.specs.List.{starts_with}
 use Rattle.std.specs.Ordering.{nat_cmp}
 use Rattle.std.specs.Cmp.{nat_cmp_is}
 use Rattle.std.specs.Cmp.Lexicographic.{slice_cmp, pointwise, nat_list_cmp_total}
 use Rattle.std.specs.declared.cmp.Ordering.TheVariants.{Less, Equal, Greater}
-use Rattle.std.proofs.lemmas.Bool.{cases_order, eqb-true, eq-eqb, and_parts}
+use Rattle.std.proofs.lemmas.Bool.{cases_order, cases_lt, eqb-true, eq-eqb, and_parts}
 use Rattle.ts_base.specs.Lexemes.{IsBefore}
 
 tie : (x : ℕ) → nat_cmp x x ≡ Equal
@@ -56,3 +56,16 @@ between_prefix (x ∷ p) (y ∷ a) (z ∷ b) n h s =
       | inr (inl q) ↦ absurd (n (rw (less y x q) refl))
       | inr (inr q) ↦ absurd (let u : nat_cmp y z ≡ Greater = greater y z (let k = e in omega arith) in let v = rw u at h in let w : ⊥ = cc in w)
     ]
+
+-- the greater of two numbers
+pub record IsGreater (a b r : ℕ) : Type 0 where
+  pub left : a ≤ r
+  pub right : b ≤ r
+  pub one : (r ≡ a) ⊎ (r ≡ b)
+
+pub greater_is : (a b r : ℕ) → r ≡ max a b → IsGreater a b r
+greater_is a b r e = record {
+  left = omega arith;
+  right = omega arith;
+  one = elim (cases_lt a b) [ inl h ↦ inr (omega arith) | inr h ↦ inl (omega arith) ];
+}

@@ -1,7 +1,7 @@
 -- How a query is laid out, node by node.
 use Rattle.std.proofs.Common.{◌≡◌, ℕ, suc, ◌+◌, ◌^◌, ◌≤◌, ◌<◌, List, [], ◌∷◌, ◌++◌, length, take, drop, get_or, reverse, Some, None, refl, sym, ap, subst, ◌∙◌, arith, append_assoc, add-one, length-append, drop-cons}
 use Rattle.std.specs.Prelude.{All}
-use Rattle.std.proofs.lemmas.List.{append-nil, reverse-append}
+use Rattle.std.proofs.lemmas.List.{append-nil, reverse-append, length-reverse, length-take}
 use Rattle.std.proofs.Math.Seq.{take-suc}
 use Rattle.std.proofs.lemmas.List.Elements.{All-nil, All-cons, All-append}
 use Rattle.ts_query.specs.declared.query.Node.{Node}
@@ -12,8 +12,11 @@ use Rattle.ts_match.specs.declared.work.Place.{Place}
 use Rattle.ts_match.specs.declared.work.Place.TheVariants.{Outside, Within}
 use Rattle.ts_match.specs.declared.work.Step.{Step}
 use Rattle.ts_match.specs.Meaning.{width}
-use Rattle.ts_match.specs.Stacks.{top_or, below}
-use Rattle.ts_match.specs.Plan.{count_in, under_not, left_of, right_of, steps, plan_of, left_widths, left_widths_of, left_width, measured, distance, spread_on, offset_of}
+use Rattle.ts_match.specs.Inner.Stacks.{top_or, below}
+use Rattle.ts_match.specs.declared.work.Due.{Due}
+use Rattle.ts_match.specs.declared.work.Due.TheVariants.{At, LeftOfAnd, LeftOfOr}
+use Rattle.ts_match.specs.Plan.{count_in, under_not, left_place, right_place, steps, plan_of}
+use Rattle.ts_match.specs.Inner.Plan.{left_widths, left_widths_of, left_width, measured, distance, left_due, due_place, spread_on, offset_of}
 
 -- the nodes of a tree, its operands numbered from k on
 abbrev pub tree_nodes : ℕ → Tree → List Node
@@ -39,7 +42,7 @@ nodes_from-postfix k (joined j x y) is =
 pub nodes_for_tree : (t : Tree) → nodes_for (Some t) ≡ tree_nodes 0 t
 nodes_for_tree t = ap (nodes_from 0) (sym (append-nil (postfix t))) ∙ nodes_from-postfix 0 t [] ∙ append-nil (tree_nodes 0 t)
 
-length-tree_nodes : (k : ℕ) (t : Tree) → length (tree_nodes k t) ≡ nodes_in t
+pub length-tree_nodes : (k : ℕ) (t : Tree) → length (tree_nodes k t) ≡ nodes_in t
 length-tree_nodes k (leaf o) = refl
 length-tree_nodes k (negated x) = let h = length-tree_nodes k x in simp length-append (omega arith)
 length-tree_nodes k (joined j x y) =
@@ -107,16 +110,25 @@ pub length-left_widths_of : (q : Query) → length (left_widths_of q) ≡ nodes_
 length-left_widths_of None = refl
 length-left_widths_of (Some t) = length-left_widths t
 
--- from the last node back: the steps, the last one first
-abbrev pub lay_all : List Node → List ℕ → List Place → List Step
-lay_all [] ws due = []
-lay_all (n ∷ ns) [] due = []
-lay_all (n ∷ ns) (w ∷ ws) due = record { node = n; place = top_or Outside due } ∷ lay_all ns ws (spread_on n w (top_or Outside due) (below due))
+-- From the last node back: the steps, the last one first. The step behind a node has as its index how many nodes there are up to it.
+abbrev pub lay_all : Due → List Node → List ℕ → List Due → List Step
+lay_all r [] ws due = []
+lay_all r (n ∷ ns) [] due = []
+lay_all r (n ∷ ns) (w ∷ ws) due =
+    record { node = n; place = due_place (suc (length ns)) (top_or r due) } ∷ lay_all r ns ws (spread_on n w (due_place (suc (length ns)) (top_or r due)) (below due))
 
-spread_joint : (j : Joint) (w : ℕ) (p : Place) (due : List Place) → spread_on (joint_node j) w p due ≡ right_of j w p ∷ left_of j p ∷ due
+spread_joint : (j : Joint) (w : ℕ) (p : Place) (due : List Due) → spread_on (joint_node j) w p due ≡ At (right_place j w p) ∷ left_due j p ∷ due
 spread_joint or_joint w p due = refl
 spread_joint and_joint w p due = refl
 spread_joint (phrase_joint n) w p due = refl
+
+due_left : (j : Joint) (m : ℕ) (p : Place) → due_place m (left_due j p) ≡ left_place j m p
+due_left or_joint m (Outside on_true on_false) = refl
+due_left and_joint m (Outside on_true on_false) = refl
+due_left (phrase_joint n) m (Outside on_true on_false) = refl
+due_left or_joint m (Within o b) = refl
+due_left and_joint m (Within o b) = refl
+due_left (phrase_joint n) m (Within o b) = refl
 
 back_one : {X : Type 0} (xs : List X) (x : X) (ys : List X) → reverse (xs ++ x ∷ []) ++ ys ≡ x ∷ (reverse xs ++ ys)
 back_one xs x ys = ap (λ l. l ++ ys) (reverse-append xs (x ∷ []))
@@ -125,67 +137,104 @@ back_two : {X : Type 0} (xs ys : List X) (z : X) (us : List X) → reverse (xs +
 back_two xs ys z us =
     back_one (xs ++ ys) z us ∙ ap (λ l. z ∷ (l ++ us)) (reverse-append xs ys) ∙ ap (λ l. z ∷ l) (append_assoc (reverse ys) (reverse xs) us)
 
-lay_tree : (k : ℕ) (t : Tree) (p : Place) (ns : List Node) (ws : List ℕ) (due : List Place)
-    → lay_all (reverse (tree_nodes k t) ++ ns) (reverse (left_widths t) ++ ws) (p ∷ due) ≡ reverse (steps k p t) ++ lay_all ns ws due
-lay_tree k (leaf o) p ns ws due = refl
-lay_tree k (negated x) p ns ws due =
-    ap (λ l. lay_all l (reverse (left_widths x ++ 0 ∷ []) ++ ws) (p ∷ due)) (back_one (tree_nodes k x) Not ns)
-    ∙ ap (λ l. lay_all (Not ∷ (reverse (tree_nodes k x) ++ ns)) l (p ∷ due)) (back_one (left_widths x) 0 ws)
-    ∙ ap (λ l. record { node = Not; place = p } ∷ l) (lay_tree k x (under_not p) ns ws due)
-    ∙ sym (back_one (steps k (under_not p) x) (record { node = Not; place = p }) (lay_all ns ws due))
-lay_tree k (joined j x y) p ns ws due =
-    let m = k + count_in x in
+count_back : (k : ℕ) (t : Tree) (ns : List Node) → length (reverse (tree_nodes k t) ++ ns) ≡ nodes_in t + length ns
+count_back k t ns = length-append (reverse (tree_nodes k t)) ns ∙ ap (λ n. n + length ns) (length-reverse (tree_nodes k t) ∙ length-tree_nodes k t)
+
+lay_tree : (r : Due) (k m : ℕ) (t : Tree) (d : Due) (p : Place) (ns : List Node) (ws : List ℕ) (due : List Due) → length ns ≡ m → due_place (m + nodes_in t) d ≡ p
+    → lay_all r (reverse (tree_nodes k t) ++ ns) (reverse (left_widths t) ++ ws) (d ∷ due) ≡ reverse (steps k m p t) ++ lay_all r ns ws due
+lay_tree r k m (leaf o) d p ns ws due l e =
+    let i : suc (length ns) ≡ m + 1 = omega arith in
+    ap (λ q. record { node = Leaf k; place = q } ∷ lay_all r ns ws due) (ap (λ j. due_place j d) i ∙ e)
+lay_tree r k m (negated x) d p ns ws due l e =
+    let N = reverse (tree_nodes k x) ++ ns in
+    let W = reverse (left_widths x) ++ ws in
+    let i : suc (length (reverse (tree_nodes k x) ++ ns)) ≡ m + suc (nodes_in x) = omega (arith, count_back k x ns) in
+    ap (λ l. lay_all r l (reverse (left_widths x ++ 0 ∷ []) ++ ws) (d ∷ due)) (back_one (tree_nodes k x) Not ns)
+    ∙ ap (λ l. lay_all r (Not ∷ N) l (d ∷ due)) (back_one (left_widths x) 0 ws)
+    ∙ ap (λ q. record { node = Not; place = q } ∷ lay_all r N W (At (under_not q) ∷ due)) (ap (λ j. due_place j d) i ∙ e)
+    ∙ ap (λ l. record { node = Not; place = p } ∷ l) (lay_tree r k m x (At (under_not p)) (under_not p) ns ws due l refl)
+    ∙ sym (back_one (steps k m (under_not p) x) (record { node = Not; place = p }) (lay_all r ns ws due))
+lay_tree r k m (joined j x y) d p ns ws due l e =
+    let n = k + count_in x in
+    let h = m + nodes_in x in
     let q : Step = record { node = joint_node j; place = p } in
-    let sx = steps k (left_of j p) x in
-    let sy = steps m (right_of j (width x) p) y in
-    ap (λ l. lay_all l (reverse (left_widths x ++ left_widths y ++ width x ∷ []) ++ ws) (p ∷ due)) (back_two (tree_nodes k x) (tree_nodes m y) (joint_node j) ns)
-    ∙ ap (λ l. lay_all (joint_node j ∷ (reverse (tree_nodes m y) ++ (reverse (tree_nodes k x) ++ ns))) l (p ∷ due)) (back_two (left_widths x) (left_widths y) (width x) ws)
-    ∙ ap (λ d. q ∷ lay_all (reverse (tree_nodes m y) ++ (reverse (tree_nodes k x) ++ ns)) (reverse (left_widths y) ++ (reverse (left_widths x) ++ ws)) d) (spread_joint j (width x) p due)
-    ∙ ap (λ l. q ∷ l) (lay_tree m y (right_of j (width x) p) (reverse (tree_nodes k x) ++ ns) (reverse (left_widths x) ++ ws) (left_of j p ∷ due))
-    ∙ ap (λ l. q ∷ (reverse sy ++ l)) (lay_tree k x (left_of j p) ns ws due)
-    ∙ sym (back_two sx sy q (lay_all ns ws due))
+    let sx = steps k m (left_place j (m + nodes_in x) p) x in
+    let sy = steps n (m + nodes_in x) (right_place j (width x) p) y in
+    let M = reverse (tree_nodes k x) ++ ns in
+    let V = reverse (left_widths x) ++ ws in
+    let N = reverse (tree_nodes n y) ++ M in
+    let W = reverse (left_widths y) ++ V in
+    let cx = count_back k x ns in
+    let cy = count_back n y M in
+    let i : suc (length (reverse (tree_nodes n y) ++ M)) ≡ m + suc (nodes_in x + nodes_in y) = omega (arith, cx, cy) in
+    let f : length (reverse (tree_nodes k x) ++ ns) ≡ m + nodes_in x = omega (arith, cx) in
+    ap (λ l. lay_all r l (reverse (left_widths x ++ left_widths y ++ width x ∷ []) ++ ws) (d ∷ due)) (back_two (tree_nodes k x) (tree_nodes n y) (joint_node j) ns)
+    ∙ ap (λ l. lay_all r (joint_node j ∷ N) l (d ∷ due)) (back_two (left_widths x) (left_widths y) (width x) ws)
+    ∙ ap (λ z. record { node = joint_node j; place = z } ∷ lay_all r N W (spread_on (joint_node j) (width x) z due)) (ap (λ j. due_place j d) i ∙ e)
+    ∙ ap (λ z. q ∷ lay_all r N W z) (spread_joint j (width x) p due)
+    ∙ ap (λ l. q ∷ l) (lay_tree r n h y (At (right_place j (width x) p)) (right_place j (width x) p) M V (left_due j p ∷ due) f refl)
+    ∙ ap (λ l. q ∷ (reverse sy ++ l)) (lay_tree r k m x (left_due j p) (left_place j (m + nodes_in x) p) ns ws due l (due_left j (m + nodes_in x) p))
+    ∙ sym (back_two sx sy q (lay_all r ns ws due))
 
-pub lay_query : (q : Query) → lay_all (reverse (nodes_for q)) (reverse (left_widths_of q)) (Outside ∷ []) ≡ reverse (plan_of q)
-lay_query None = refl
-lay_query (Some t) =
-    ap (λ l. lay_all (reverse l) (reverse (left_widths t)) (Outside ∷ [])) (nodes_for_tree t)
-    ∙ ap (λ l. lay_all l (reverse (left_widths t)) (Outside ∷ [])) (sym (append-nil (reverse (tree_nodes 0 t))))
-    ∙ ap (λ l. lay_all (reverse (tree_nodes 0 t) ++ []) l (Outside ∷ [])) (sym (append-nil (reverse (left_widths t))))
-    ∙ lay_tree 0 t Outside [] [] [] ∙ append-nil (reverse (steps 0 Outside t))
+-- what is known of the root
+abbrev pub root_due : ℕ → Due
+root_due n = At (Outside n (n + 1))
 
--- no place on the stack is farther than m from its phrase's beginning
-abbrev pub WithinReach : ℕ → List Place → Type 0
+lay_root : (n : ℕ) (q : Query) → n ≡ nodes_of q → lay_all (root_due n) (reverse (nodes_for q)) (reverse (left_widths_of q)) (root_due n ∷ []) ≡ reverse (plan_of q)
+lay_root n None e = refl
+lay_root n (Some t) e =
+    let r = root_due n in
+    ap (λ l. lay_all r (reverse l) (reverse (left_widths t)) (r ∷ [])) (nodes_for_tree t)
+    ∙ ap (λ l. lay_all r l (reverse (left_widths t)) (r ∷ [])) (sym (append-nil (reverse (tree_nodes 0 t))))
+    ∙ ap (λ l. lay_all r (reverse (tree_nodes 0 t) ++ []) l (r ∷ [])) (sym (append-nil (reverse (left_widths t))))
+    ∙ lay_tree r 0 0 t r (Outside n (n + 1)) [] [] [] refl refl ∙ append-nil (reverse (steps 0 0 (Outside n (n + 1)) t))
+    ∙ ap (λ c. reverse (steps 0 0 (Outside c (c + 1)) t)) e
+
+pub lay_query : (q : Query) (ns : List Node) → ns ≡ nodes_for q → lay_all (root_due (length ns)) (reverse (nodes_for q)) (reverse (left_widths_of q)) (root_due (length ns) ∷ []) ≡ reverse (plan_of q)
+lay_query q ns e = lay_root (length ns) q (ap length e ∙ length-nodes_for q)
+
+-- how far what is due is from its phrase's beginning
+abbrev pub due_offset : Due → ℕ
+due_offset d = offset_of (due_place 0 d)
+
+pub due_offset_same : (m : ℕ) (d : Due) → offset_of (due_place m d) ≡ due_offset d
+due_offset_same m (At p) = refl
+due_offset_same m (LeftOfAnd on_false) = refl
+due_offset_same m (LeftOfOr on_true) = refl
+
+-- nothing on the stack is farther than m from its phrase's beginning
+abbrev pub WithinReach : ℕ → List Due → Type 0
 WithinReach m [] = Unit {0}
-WithinReach m (p ∷ ps) = (offset_of p ≤ m) × WithinReach m ps
+WithinReach m (d ∷ ds) = (due_offset d ≤ m) × WithinReach m ds
 
-reach_more : (m n : ℕ) (ps : List Place) → m ≤ n → WithinReach m ps → WithinReach n ps
+reach_more : (m n : ℕ) (ds : List Due) → m ≤ n → WithinReach m ds → WithinReach n ds
 reach_more m n [] h r = tt
-reach_more m n (p ∷ ps) h r = (let q = r.0 in omega arith, reach_more m n ps h r.1)
+reach_more m n (d ∷ ds) h r = (let q = r.0 in omega arith, reach_more m n ds h r.1)
 
-pub reach_top : (m : ℕ) (ps : List Place) → WithinReach m ps → offset_of (top_or Outside ps) ≤ m
-reach_top m [] r = omega arith
-reach_top m (p ∷ ps) r = r.0
+pub reach_top : (m n : ℕ) (ds : List Due) → WithinReach m ds → due_offset (top_or (root_due n) ds) ≤ m
+reach_top m n [] r = omega arith
+reach_top m n (d ∷ ds) r = r.0
 
-pub reach_below : (m : ℕ) (ps : List Place) → WithinReach m ps → WithinReach m (below ps)
+pub reach_below : (m : ℕ) (ds : List Due) → WithinReach m ds → WithinReach m (below ds)
 reach_below m [] r = tt
-reach_below m (p ∷ ps) r = r.1
+reach_below m (d ∷ ds) r = r.1
 
 under_not_near : (p : Place) → offset_of (under_not p) ≤ offset_of p
-under_not_near Outside = omega arith
+under_not_near (Outside on_true on_false) = omega arith
 under_not_near (Within o b) = omega arith
 
-left_near : (j : Joint) (p : Place) → offset_of (left_of j p) ≤ offset_of p
-left_near or_joint Outside = omega arith
-left_near and_joint Outside = omega arith
-left_near (phrase_joint n) Outside = omega arith
+left_near : (j : Joint) (p : Place) → due_offset (left_due j p) ≤ offset_of p
+left_near or_joint (Outside on_true on_false) = omega arith
+left_near and_joint (Outside on_true on_false) = omega arith
+left_near (phrase_joint n) (Outside on_true on_false) = omega arith
 left_near or_joint (Within o b) = omega arith
 left_near and_joint (Within o b) = omega arith
 left_near (phrase_joint n) (Within o b) = omega arith
 
-right_near : (j : Joint) (w : ℕ) (p : Place) → offset_of (right_of j w p) ≤ offset_of p + (w + distance (joint_node j))
-right_near or_joint w Outside = omega arith
-right_near and_joint w Outside = omega arith
-right_near (phrase_joint n) w Outside = omega arith
+right_near : (j : Joint) (w : ℕ) (p : Place) → offset_of (right_place j w p) ≤ offset_of p + (w + distance (joint_node j))
+right_near or_joint w (Outside on_true on_false) = omega arith
+right_near and_joint w (Outside on_true on_false) = omega arith
+right_near (phrase_joint n) w (Outside on_true on_false) = omega arith
 right_near or_joint w (Within o b) = omega arith
 right_near and_joint w (Within o b) = omega arith
 right_near (phrase_joint n) w (Within o b) = omega arith
@@ -194,11 +243,12 @@ right_near (phrase_joint n) w (Within o b) = omega arith
 abbrev pub STRIDE : ℕ
 STRIDE = 2 ^ 33
 
-reach_two : (j : Joint) (w m : ℕ) (p : Place) (due : List Place) → offset_of p ≤ m → WithinReach m due → w < 2 ^ 32 → distance (joint_node j) < 2 ^ 16 → WithinReach (m + STRIDE) (right_of j w p ∷ left_of j p ∷ due)
+reach_two : (j : Joint) (w m : ℕ) (p : Place) (due : List Due) → offset_of p ≤ m → WithinReach m due → w < 2 ^ 32 → distance (joint_node j) < 2 ^ 16
+    → WithinReach (m + STRIDE) (At (right_place j w p) ∷ left_due j p ∷ due)
 reach_two j w m p due h r lw ln =
     (let q = right_near j w p in omega arith, (let q = left_near j p in omega arith, reach_more m (m + STRIDE) due (omega arith) r))
 
-pub reach_spread : (n : Node) (w m : ℕ) (p : Place) (due : List Place) → offset_of p ≤ m → WithinReach m due → w < 2 ^ 32 → distance n < 2 ^ 16 → WithinReach (m + STRIDE) (spread_on n w p due)
+pub reach_spread : (n : Node) (w m : ℕ) (p : Place) (due : List Due) → offset_of p ≤ m → WithinReach m due → w < 2 ^ 32 → distance n < 2 ^ 16 → WithinReach (m + STRIDE) (spread_on n w p due)
 reach_spread (Leaf k) w m p due h r lw ln = reach_more m (m + STRIDE) due (omega arith) r
 reach_spread Not w m p due h r lw ln = (let q = under_not_near p in omega arith, reach_more m (m + STRIDE) due (omega arith) r)
 reach_spread And w m p due h r lw ln = reach_two and_joint w m p due h r lw ln
@@ -225,29 +275,40 @@ measure_more ns i d ws st l st' h p q =
 last_of : {X : Type 0} (xs : List X) (i : ℕ) (d : X) → i < length xs → reverse (take (suc i) xs) ≡ get_or xs i d ∷ reverse (take i xs)
 last_of xs i d h = ap reverse (take-suc xs i d h) ∙ reverse-append (take i xs) (get_or xs i d ∷ [])
 
-pub lay_more : (ns : List Node) (ws : List ℕ) (i : ℕ) (d : Node) (out : List Step) (due due' : List Place) (p : Place) → i < length ns → i < length ws
-    → p ≡ top_or Outside due → due' ≡ spread_on (get_or ns i d) (get_or ws i 0) p (below due)
-    → (out ++ record { node = get_or ns i d; place = p } ∷ []) ++ lay_all (reverse (take i ns)) (reverse (take i ws)) due' ≡ out ++ lay_all (reverse (take (suc i) ns)) (reverse (take (suc i) ws)) due
-lay_more ns ws i d out due due' p ln lw ep ed =
+pub lay_more : (r : Due) (ns : List Node) (ws : List ℕ) (i : ℕ) (d : Node) (out : List Step) (due due' : List Due) (p : Place) → i < length ns → i < length ws
+    → p ≡ due_place (i + 1) (top_or r due) → due' ≡ spread_on (get_or ns i d) (get_or ws i 0) p (below due)
+    → (out ++ record { node = get_or ns i d; place = p } ∷ []) ++ lay_all r (reverse (take i ns)) (reverse (take i ws)) due' ≡ out ++ lay_all r (reverse (take (suc i) ns)) (reverse (take (suc i) ws)) due
+lay_more r ns ws i d out due due' p ln lw ep ed =
     let n = get_or ns i d in
     let w = get_or ws i 0 in
     let N = reverse (take i ns) in
     let W = reverse (take i ws) in
-    append_assoc out (record { node = n; place = p } ∷ []) (lay_all N W due')
-    ∙ ap (λ d. out ++ (record { node = n; place = p } ∷ lay_all N W d)) ed
-    ∙ ap (λ q. out ++ (record { node = n; place = q } ∷ lay_all N W (spread_on n w q (below due)))) ep
-    ∙ ap (λ l. out ++ lay_all l (w ∷ W) due) (sym (last_of ns i d ln))
-    ∙ ap (λ l. out ++ lay_all (reverse (take (suc i) ns)) l due) (sym (last_of ws i 0 lw))
+    let count : length (reverse (take i ns)) ≡ i = length-reverse (take i ns) ∙ simp length-take (omega arith) in
+    let behind : i + 1 ≡ suc (length (reverse (take i ns))) = omega arith in
+    append_assoc out (record { node = n; place = p } ∷ []) (lay_all r N W due')
+    ∙ ap (λ d. out ++ (record { node = n; place = p } ∷ lay_all r N W d)) ed
+    ∙ ap (λ q. out ++ (record { node = n; place = q } ∷ lay_all r N W (spread_on n w q (below due)))) (ep ∙ ap (λ m. due_place m (top_or r due)) behind)
+    ∙ ap (λ l. out ++ lay_all r l (w ∷ W) due) (sym (last_of ns i d ln))
+    ∙ ap (λ l. out ++ lay_all r (reverse (take (suc i) ns)) l due) (sym (last_of ws i 0 lw))
 
--- a tree has at least as many steps as operands
-count_steps : (k : ℕ) (p : Place) (t : Tree) → count_in t ≤ length (steps k p t)
-count_steps k p (leaf o) = omega arith
-count_steps k p (negated x) = let a = count_steps k (under_not p) x in simp length-append (omega arith)
-count_steps k p (joined j x y) =
-    let a = count_steps k (left_of j p) x in
-    let b = count_steps (k + count_in x) (right_of j (width x) p) y in
+-- a tree has a step for each node, and no more operands than nodes
+pub length-steps : (k m : ℕ) (p : Place) (t : Tree) → length (steps k m p t) ≡ nodes_in t
+length-steps k m p (leaf o) = refl
+length-steps k m p (negated x) = let a = length-steps k m (under_not p) x in simp length-append (omega arith)
+length-steps k m p (joined j x y) =
+    let a = length-steps k m (left_place j (m + nodes_in x) p) x in
+    let b = length-steps (k + count_in x) (m + nodes_in x) (right_place j (width x) p) y in
     simp length-append (omega arith)
+
+count_nodes : (t : Tree) → count_in t ≤ nodes_in t
+count_nodes (leaf o) = omega arith
+count_nodes (negated x) = let a = count_nodes x in omega arith
+count_nodes (joined j x y) = let a = count_nodes x in let b = count_nodes y in simp length-append (omega arith)
+
+pub length-plan_of : (q : Query) → length (plan_of q) ≡ nodes_of q
+length-plan_of None = refl
+length-plan_of (Some t) = length-steps 0 0 (Outside (nodes_in t) (nodes_in t + 1)) t
 
 pub count_plan : (q : Query) → length (operands_of q) ≤ length (plan_of q)
 count_plan None = omega arith
-count_plan (Some t) = count_steps 0 Outside t
+count_plan (Some t) = let a = count_nodes t in let b = length-plan_of (Some t) in omega arith

@@ -8,20 +8,20 @@ use Rattle.std.proofs.lemmas.Option.{get_or_from_slice_get}
 use Rattle.ts_base.specs.Vectors.{Vector}
 use Rattle.ts_query.specs.declared.query.Node.TheVariants.{Leaf, Not, And, Or, Phrase}
 use Rattle.ts_query.specs.declared.query.Operand.{Operand}
-use Rattle.ts_query.specs.Queries.{Tree, leaf, negated, joined, or_joint, and_joint, phrase_joint}
+use Rattle.ts_query.specs.Queries.{Tree, leaf, negated, joined, or_joint, and_joint, phrase_joint, nodes_in}
 use Rattle.ts_match.specs.declared.found.TheConstants.{FARTHEST}
 use Rattle.ts_match.specs.declared.work.Place.TheVariants.{Outside, Within}
 use Rattle.ts_match.specs.declared.work.Step.{Step}
 use Rattle.ts_match.specs.Meaning.{width, at, places, is_place}
-use Rattle.ts_match.specs.Found.{stands_at}
+use Rattle.ts_match.specs.Inner.Found.{stands_at}
 use Rattle.ts_match.specs.Plan.{count_in, steps}
-use Rattle.ts_match.specs.Phrases.{IsNumbered, IsPhraseOf, place_from, no_operand, leaf_value, moved}
+use Rattle.ts_match.specs.Inner.Phrases.{HasNumbers, IsPhraseOf, place_from, no_operand, leaf_value, truth_step}
 use Rattle.ts_match.proofs.Places.{there, truth, at_start, agree}
 
 -- the truths that the steps leave on the stack
 abbrev pub run : (Step → Bool) → List Step → List Bool → List Bool
 run g [] st = st
-run g (s ∷ ss) st = run g ss (moved s.node (g s) st)
+run g (s ∷ ss) st = run g ss (truth_step s.node (g s) st)
 
 module _ (v : Vector) (os : List Operand) (from : ℕ) where
   abbrev pub here : Operand → ℕ → Bool
@@ -30,35 +30,35 @@ module _ (v : Vector) (os : List Operand) (from : ℕ) where
   leaf_is : (k e : ℕ) (b : Bool) (o : Operand) → slice_get os k ≡ Some o → leaf_value v os from (record { node = Leaf k; place = Within e b }) ≡ here o e
   leaf_is k e b o h = ap (λ x. stands_at x v (from + e)) (get_or_from_slice_get os k o no_operand h)
 
-  run_within : (k e : ℕ) (b : Bool) (t : Tree) (ss : List Step) (st : List Bool) → IsNumbered os k t → run (leaf_value v os from) (steps k (Within e b) t ++ ss) st ≡ run (leaf_value v os from) ss (truth here t e ∷ st)
-  run_within k e b (leaf o) ss st h = ap (λ x. run (leaf_value v os from) ss (x ∷ st)) (leaf_is k e b o h)
-  run_within k e b (negated x) ss st h =
-      ap (λ l. run (leaf_value v os from) l st) (append_assoc (steps k (Within e false) x) (record { node = Not; place = Within e b } ∷ []) ss)
-      ∙ run_within k e false x (record { node = Not; place = Within e b } ∷ ss) st h
-  run_within k e b (joined or_joint x y) ss st h =
+  run_within : (k i e : ℕ) (b : Bool) (t : Tree) (ss : List Step) (st : List Bool) → HasNumbers os k t → run (leaf_value v os from) (steps k i (Within e b) t ++ ss) st ≡ run (leaf_value v os from) ss (truth here t e ∷ st)
+  run_within k i e b (leaf o) ss st h = ap (λ x. run (leaf_value v os from) ss (x ∷ st)) (leaf_is k e b o h)
+  run_within k i e b (negated x) ss st h =
+      ap (λ l. run (leaf_value v os from) l st) (append_assoc (steps k i (Within e false) x) (record { node = Not; place = Within e b } ∷ []) ss)
+      ∙ run_within k i e false x (record { node = Not; place = Within e b } ∷ ss) st h
+  run_within k i e b (joined or_joint x y) ss st h =
       let q : Step = record { node = Or; place = Within e b } in
       let m = k + count_in x in
-      ap (λ l. run (leaf_value v os from) l st) (append_assoc (steps k (Within e false) x ++ steps m (Within e false) y) (q ∷ []) ss ∙ append_assoc (steps k (Within e false) x) (steps m (Within e false) y) (q ∷ ss))
-      ∙ run_within k e false x (steps m (Within e false) y ++ q ∷ ss) st h.0 ∙ run_within m e false y (q ∷ ss) (truth here x e ∷ st) h.1
-  run_within k e b (joined and_joint x y) ss st h =
+      ap (λ l. run (leaf_value v os from) l st) (append_assoc (steps k i (Within e false) x ++ steps m (i + nodes_in x) (Within e false) y) (q ∷ []) ss ∙ append_assoc (steps k i (Within e false) x) (steps m (i + nodes_in x) (Within e false) y) (q ∷ ss))
+      ∙ run_within k i e false x (steps m (i + nodes_in x) (Within e false) y ++ q ∷ ss) st h.0 ∙ run_within m (i + nodes_in x) e false y (q ∷ ss) (truth here x e ∷ st) h.1
+  run_within k i e b (joined and_joint x y) ss st h =
       let q : Step = record { node = And; place = Within e b } in
       let m = k + count_in x in
-      ap (λ l. run (leaf_value v os from) l st) (append_assoc (steps k (Within e b) x ++ steps m (Within e b) y) (q ∷ []) ss ∙ append_assoc (steps k (Within e b) x) (steps m (Within e b) y) (q ∷ ss))
-      ∙ run_within k e b x (steps m (Within e b) y ++ q ∷ ss) st h.0 ∙ run_within m e b y (q ∷ ss) (truth here x e ∷ st) h.1
-  run_within k e b (joined (phrase_joint n) x y) ss st h =
+      ap (λ l. run (leaf_value v os from) l st) (append_assoc (steps k i (Within e b) x ++ steps m (i + nodes_in x) (Within e b) y) (q ∷ []) ss ∙ append_assoc (steps k i (Within e b) x) (steps m (i + nodes_in x) (Within e b) y) (q ∷ ss))
+      ∙ run_within k i e b x (steps m (i + nodes_in x) (Within e b) y ++ q ∷ ss) st h.0 ∙ run_within m (i + nodes_in x) e b y (q ∷ ss) (truth here x e ∷ st) h.1
+  run_within k i e b (joined (phrase_joint n) x y) ss st h =
       let q : Step = record { node = Phrase n; place = Within e b } in
       let m = k + count_in x in
       let r = e + (width x + n) in
-      ap (λ l. run (leaf_value v os from) l st) (append_assoc (steps k (Within e b) x ++ steps m (Within r b) y) (q ∷ []) ss ∙ append_assoc (steps k (Within e b) x) (steps m (Within r b) y) (q ∷ ss))
-      ∙ run_within k e b x (steps m (Within r b) y ++ q ∷ ss) st h.0 ∙ run_within m r b y (q ∷ ss) (truth here x e ∷ st) h.1
+      ap (λ l. run (leaf_value v os from) l st) (append_assoc (steps k i (Within e b) x ++ steps m (i + nodes_in x) (Within r b) y) (q ∷ []) ss ∙ append_assoc (steps k i (Within e b) x) (steps m (i + nodes_in x) (Within r b) y) (q ∷ ss))
+      ∙ run_within k i e b x (steps m (i + nodes_in x) (Within r b) y ++ q ∷ ss) st h.0 ∙ run_within m (i + nodes_in x) r b y (q ∷ ss) (truth here x e ∷ st) h.1
 
-  run_phrase : (k n : ℕ) (x y : Tree) → IsNumbered os k (joined (phrase_joint n) x y) → run (leaf_value v os from) (steps k Outside (joined (phrase_joint n) x y)) [] ≡ truth here (joined (phrase_joint n) x y) 0 ∷ []
-  run_phrase k n x y h =
-      let q : Step = record { node = Phrase n; place = Outside } in
+  run_phrase : (k i on_true on_false n : ℕ) (x y : Tree) → HasNumbers os k (joined (phrase_joint n) x y) → run (leaf_value v os from) (steps k i (Outside on_true on_false) (joined (phrase_joint n) x y)) [] ≡ truth here (joined (phrase_joint n) x y) 0 ∷ []
+  run_phrase k i on_true on_false n x y h =
+      let q : Step = record { node = Phrase n; place = Outside on_true on_false } in
       let m = k + count_in x in
       let r = width x + n in
-      ap (λ l. run (leaf_value v os from) l []) (append_assoc (steps k (Within 0 true) x) (steps m (Within r true) y) (q ∷ []))
-      ∙ run_within k 0 true x (steps m (Within r true) y ++ q ∷ []) [] h.0 ∙ run_within m r true y (q ∷ []) (truth here x 0 ∷ []) h.1
+      ap (λ l. run (leaf_value v os from) l []) (append_assoc (steps k i (Within 0 true) x) (steps m (i + nodes_in x) (Within r true) y) (q ∷ []))
+      ∙ run_within k i 0 true x (steps m (i + nodes_in x) (Within r true) y ++ q ∷ []) [] h.0 ∙ run_within m (i + nodes_in x) r true y (q ∷ []) (truth here x 0 ∷ []) h.1
       ∙ ap (λ i. (truth here x 0 && truth here y i) ∷ []) (sym (zero-add r))
 
 -- counted as natural numbers
@@ -98,11 +98,11 @@ table_at v from t =
 pub phrase_at : (v : Vector) (os : List Operand) (from : ℕ) (ss : List Step) (t : Tree) → IsPhraseOf os ss t → run (leaf_value v os from) ss [] ≡ at v t (place_from t from) ∷ []
 phrase_at v os from ss t p =
     let u : Tree = joined (phrase_joint p.distance) p.left p.right in
-    let laid : ss ≡ steps p.first Outside u = p.laid ∙ ap (steps p.first Outside) p.phrase in
-    let numbered : IsNumbered os p.first u = subst (λ x. IsNumbered os p.first x) p.phrase p.numbered in
-    ap (λ l. run (leaf_value v os from) l []) laid ∙ run_phrase v os from p.first p.distance p.left p.right numbered
+    let laid : ss ≡ steps p.first p.start (Outside p.on_true p.on_false) u = p.laid ∙ ap (steps p.first p.start (Outside p.on_true p.on_false)) p.phrase in
+    let numbered : HasNumbers os p.first u = subst (λ x. HasNumbers os p.first x) p.phrase p.numbered in
+    ap (λ l. run (leaf_value v os from) l []) laid ∙ run_phrase v os from p.first p.start p.on_true p.on_false p.distance p.left p.right numbered
     ∙ ap (λ b. b ∷ []) (sym (table_at v from u)) ∙ ap (λ x. at v x (place_from x from) ∷ []) (sym p.phrase)
 
 -- one step more
-pub run_more : (g : Step → Bool) (ss : List Step) (i : ℕ) (d : Step) (st st' all : List Bool) → i < length ss → run g (drop i ss) st ≡ all → st' ≡ moved (get_or ss i d).node (g (get_or ss i d)) st → run g (drop (i + 1) ss) st' ≡ all
-run_more g ss i d st st' all h r e = ap (run g (drop (i + 1) ss)) e ∙ ap (λ k. run g (drop k ss) (moved (get_or ss i d).node (g (get_or ss i d)) st)) (add-one i) ∙ ap (λ l. run g l st) (sym (drop-cons ss i d h)) ∙ r
+pub run_more : (g : Step → Bool) (ss : List Step) (i : ℕ) (d : Step) (st st' all : List Bool) → i < length ss → run g (drop i ss) st ≡ all → st' ≡ truth_step (get_or ss i d).node (g (get_or ss i d)) st → run g (drop (i + 1) ss) st' ≡ all
+run_more g ss i d st st' all h r e = ap (run g (drop (i + 1) ss)) e ∙ ap (λ k. run g (drop k ss) (truth_step (get_or ss i d).node (g (get_or ss i d)) st)) (add-one i) ∙ ap (λ l. run g l st) (sym (drop-cons ss i d h)) ∙ r

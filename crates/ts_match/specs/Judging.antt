@@ -1,11 +1,12 @@
 -- What can be said of a query when of each operand only a little is known.
-use Rattle.std.specs.Prelude.{◌≡◌, Bool, true, false, if◌then◌else◌, List, [], ◌∷◌, drop, length, None, Some, ⊤}
+use Rattle.std.specs.Prelude.{◌≡◌, Bool, true, if◌then◌else◌, List, [], ◌∷◌, drop, length, None, Some}
 use Rattle.std.specs.List.{list_any}
 use Rattle.ts_base.specs.declared.Tri.{Tri}
 use Rattle.ts_base.specs.declared.Tri.TheVariants.{False, Maybe, True}
 use Rattle.ts_base.specs.Vectors.{Vector}
 use Rattle.ts_query.specs.declared.query.Operand.{Operand}
 use Rattle.ts_query.specs.Queries.{Tree, leaf, negated, joined, or_joint, and_joint, phrase_joint, Query, operands_in, operands_of}
+use Rattle.gin_opclass.specs.Class.{SoundValues}
 use Rattle.ts_match.specs.Meaning.{names, asks_any, Holds}
 
 -- False is below Maybe, and Maybe below True
@@ -66,23 +67,10 @@ judged (Some t) values = judged_of t values
 abbrev pub has_lexeme : Operand → Vector → Bool
 has_lexeme o v = list_any (λ e. names o e.lexeme) v
 
--- a value for an operand: True only where its lexeme is there, False only where it is not
-abbrev pub SoundValue : Vector → Operand → Tri → Type 0
-SoundValue v o False = has_lexeme o v ≡ false
-SoundValue v o Maybe = ⊤
-SoundValue v o True = has_lexeme o v ≡ true
-
--- a value for each operand
-abbrev pub SoundValues : Vector → List Operand → List Tri → Type 0
-SoundValues v [] [] = ⊤
-SoundValues v [] (t ∷ ts) = ⊥
-SoundValues v (o ∷ os) [] = ⊥
-SoundValues v (o ∷ os) (t ∷ ts) = SoundValue v o t × SoundValues v os ts
-
 pub record IsJudged (q : Query) (v : Vector) (answer : Tri) : Type 0 where
   pub yes : answer ≡ True → Holds q v
   pub never : answer ≡ False → ¬ Holds q v
 
--- for sound values, True says that the query holds, and False that it does not
+-- for sound values, by whether the vector has the lexeme of each operand, True says that the query holds, and False that it does not
 abbrev pub JudgesWell : Type 0
-JudgesWell = (q : Query) (v : Vector) (values : List Tri) → SoundValues v (operands_of q) values → IsJudged q v (judged q values)
+JudgesWell = (q : Query) (v : Vector) (values : List Tri) → SoundValues (λ o. has_lexeme o v ≡ true) (operands_of q) values → IsJudged q v (judged q values)

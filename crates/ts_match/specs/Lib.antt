@@ -1,11 +1,7 @@
 pub mod Meaning
 pub mod Candidates
 pub mod Judging
-pub mod Found
 pub mod Plan
-pub mod Stacks
-pub mod Phrases
-pub mod Outer
-pub mod Answers
 pub mod Class
+pub mod Inner
 pub mod Laws

@@ -1,12 +1,12 @@
 // Queries as a class of an index.
-ghost use Rattle.gin_opclass.specs.Class.{meaning, IsSound};
+ghost use Rattle.gin_opclass.specs.Class.{meaning, JudgeIsSound};
 ghost use Rattle.ts_match.specs.Meaning.{Holds};
 ghost use Rattle.ts_match.specs.Judging.{judged};
 ghost use Rattle.ts_match.specs.Class.{asked_of, reads_all};
 
 use crate::judging::judge;
 use crate::work::MatchWork;
-use gin_opclass::{ByteOrder, Judge, Meaning, OpClass};
+use gin_opclass::{Bytewise, Judge, Meaning, OpClass};
 use ts_base::Tri;
 use ts_query::TsQuery;
 
@@ -43,8 +43,8 @@ impl Judge<TsQuery, MatchWork> for TextJudge {
 }
 
 /// The class of text queries: keys by their bytes, judged by `judge`. There is one such value, since neither part has a field.
-pub fn text_class() -> OpClass<TsQuery, MatchWork, ByteOrder, TextJudge>
-    ensures { IsSound (meaning asked_of reads_all Holds judged) }
+pub fn text_class() -> OpClass<TsQuery, MatchWork, Bytewise, TextJudge>
+    ensures { JudgeIsSound (meaning asked_of reads_all Holds judged) }
 {
-    OpClass::new(ByteOrder, TextJudge)
+    OpClass::new(Bytewise, TextJudge)
 }

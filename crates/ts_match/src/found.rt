@@ -8,7 +8,7 @@ ghost use Rattle.std.specs.declared.cmp.Ordering.TheVariants.{Less};
 ghost use Rattle.ts_base.specs.Lexemes.{IsBefore};
 ghost use Rattle.ts_base.specs.Vectors.{Entry, IsNormal};
 ghost use Rattle.ts_match.specs.Meaning.{asks_any, asks_for, fits as fits_weight, is_met};
-ghost use Rattle.ts_match.specs.Found.{IsFound, stands_at};
+ghost use Rattle.ts_match.specs.Inner.Found.{NamesRange, stands_at};
 
 use std::cmp::Ordering;
 use ts_base::{Lexeme, Position, Weight, Weights};
@@ -21,15 +21,19 @@ pub const FARTHEST: usize = 536_870_912;
 /// The lexemes of a vector at the indices from `first` on and below `end`.
 #[derive(Clone, Copy, Debug, PartialEq, Eq)]
 pub struct Found {
+    /// The index of the first one.
     pub first: usize,
+    /// The index behind the last one.
     pub end: usize,
 }
 
 /// The index of the first lexeme that is not before this one.
 fn first_from(vector: &TsVector, lexeme: &Lexeme) -> usize
     ensures within { result ≤ length vector.now }
-    ensures below { (k : ℕ) (d : Entry) → k < result → IsBefore (slice_index_or vector.now k d).lexeme lexeme.now }
-    ensures above { (k : ℕ) (d : Entry) → result ≤ k → k < length vector.now → slice_cmp nat_cmp (slice_index_or vector.now k d).lexeme lexeme.now ≢ Less }
+    ensures below { (k : ℕ) (d : Entry) → k < result
+        → IsBefore (slice_index_or vector.now k d).lexeme lexeme.now }
+    ensures above { (k : ℕ) (d : Entry) → result ≤ k → k < length vector.now
+        → slice_cmp nat_cmp (slice_index_or vector.now k d).lexeme lexeme.now ≢ Less }
 {
     let mut low = 0;
     let mut high = vector.count();
@@ -43,6 +47,7 @@ fn first_from(vector: &TsVector, lexeme: &Lexeme) -> usize
     low
 }
 
+/// Whether a lexeme begins with the prefix.
 fn begins_with(lexeme: &Lexeme, prefix: &Lexeme) -> bool
     ensures { result ≡ starts_with nat_eq lexeme.now prefix.now }
 {
@@ -53,11 +58,14 @@ fn begins_with(lexeme: &Lexeme, prefix: &Lexeme) -> bool
 /// The index of the first lexeme from `first` on that does not begin with the prefix.
 fn end_of_prefix(vector: &TsVector, prefix: &Lexeme, first: usize) -> usize
     requires within { first ≤ length vector.now }
-    requires above { (k : ℕ) (d : Entry) → first ≤ k → k < length vector.now → slice_cmp nat_cmp (slice_index_or vector.now k d).lexeme prefix.now ≢ Less }
+    requires above { (k : ℕ) (d : Entry) → first ≤ k → k < length vector.now
+        → slice_cmp nat_cmp (slice_index_or vector.now k d).lexeme prefix.now ≢ Less }
     ensures from { first ≤ result }
     ensures within { result ≤ length vector.now }
-    ensures begin { (k : ℕ) (d : Entry) → first ≤ k → k < result → starts_with nat_eq (slice_index_or vector.now k d).lexeme prefix.now ≡ true }
-    ensures behind { (k : ℕ) (d : Entry) → result ≤ k → k < length vector.now → starts_with nat_eq (slice_index_or vector.now k d).lexeme prefix.now ≡ false }
+    ensures begin { (k : ℕ) (d : Entry) → first ≤ k → k < result
+        → starts_with nat_eq (slice_index_or vector.now k d).lexeme prefix.now ≡ true }
+    ensures behind { (k : ℕ) (d : Entry) → result ≤ k → k < length vector.now
+        → starts_with nat_eq (slice_index_or vector.now k d).lexeme prefix.now ≡ false }
 {
     let mut low = first;
     let mut high = vector.count();
@@ -75,11 +83,14 @@ fn end_of_prefix(vector: &TsVector, prefix: &Lexeme, first: usize) -> usize
 /// The index behind the lexeme where it stands at `first`, and else `first`.
 fn end_of_lexeme(vector: &TsVector, lexeme: &Lexeme, first: usize) -> usize
     requires within { first ≤ length vector.now }
-    requires above { (k : ℕ) (d : Entry) → first ≤ k → k < length vector.now → slice_cmp nat_cmp (slice_index_or vector.now k d).lexeme lexeme.now ≢ Less }
+    requires above { (k : ℕ) (d : Entry) → first ≤ k → k < length vector.now
+        → slice_cmp nat_cmp (slice_index_or vector.now k d).lexeme lexeme.now ≢ Less }
     ensures from { first ≤ result }
     ensures within { result ≤ length vector.now }
-    ensures same { (k : ℕ) (d : Entry) → first ≤ k → k < result → (slice_index_or vector.now k d).lexeme ≡ lexeme.now }
-    ensures behind { (k : ℕ) (d : Entry) → result ≤ k → k < length vector.now → (slice_index_or vector.now k d).lexeme ≢ lexeme.now }
+    ensures same { (k : ℕ) (d : Entry) → first ≤ k → k < result
+        → (slice_index_or vector.now k d).lexeme ≡ lexeme.now }
+    ensures behind { (k : ℕ) (d : Entry) → result ≤ k → k < length vector.now
+        → (slice_index_or vector.now k d).lexeme ≢ lexeme.now }
 {
     if first < vector.count() {
         if vector.lexeme(first) == lexeme {
@@ -91,7 +102,7 @@ fn end_of_lexeme(vector: &TsVector, lexeme: &Lexeme, first: usize) -> usize
 
 /// The lexemes that an operand names.
 pub fn find(vector: &TsVector, operand: &Operand) -> Found
-    ensures { IsFound vector.now operand.now result }
+    ensures { NamesRange vector.now operand.now result }
 {
     let first = first_from(vector, &operand.lexeme);
     if operand.prefix {
@@ -122,7 +133,7 @@ fn asked(weights: Weights, weight: Weight) -> bool
 }
 
 /// Whether a position of this weight fits.
-fn fits(weights: Weights, weight: Weight) -> bool
+pub fn fits(weights: Weights, weight: Weight) -> bool
     ensures { result ≡ fits_weight weights weight }
 {
     any_weight(weights) || asked(weights, weight)
@@ -154,7 +165,7 @@ fn has_position(positions: &[Position], at: usize, weights: Weights) -> bool
 /// Whether the operand has a position where `sum` says.
 pub fn stands(vector: &TsVector, operand: &Operand, found: Found, sum: usize) -> bool
     requires normal { IsNormal vector.now }
-    requires found { IsFound vector.now operand.now found }
+    requires found { NamesRange vector.now operand.now found }
     ensures { result ≡ stands_at operand.now vector.now sum }
 {
     if sum < FARTHEST {
@@ -178,7 +189,7 @@ fn has_weight(positions: &[Position], weights: Weights) -> bool
 
 /// Whether the operand holds of the vector.
 pub fn meets(vector: &TsVector, operand: &Operand, found: Found) -> bool
-    requires { IsFound vector.now operand.now found }
+    requires { NamesRange vector.now operand.now found }
     ensures { result ≡ is_met operand.now vector.now }
 {
     if any_weight(operand.weights) {

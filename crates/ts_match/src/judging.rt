@@ -4,9 +4,9 @@ ghost use Rattle.ts_base.specs.declared.Tri.TheVariants.{Maybe};
 ghost use Rattle.ts_query.specs.Queries.{operands_of};
 ghost use Rattle.ts_match.specs.Meaning.{asks_any};
 ghost use Rattle.ts_match.specs.Judging.{least as least_of, greatest as greatest_of, opposite as opposite_of, at_most_maybe as lowered_of, judged};
-ghost use Rattle.ts_match.specs.Phrases.{IsStep, HasOperand};
+ghost use Rattle.ts_match.specs.Inner.Phrases.{IsStep, HasOperand};
 ghost use Rattle.ts_match.specs.Plan.{plan_of};
-ghost use Rattle.ts_match.specs.Answers.{given_at, leaf_answer, negated_answer, weighed};
+ghost use Rattle.ts_match.specs.Inner.Weighing.{given_at, leaf_answer, negated_answer, weighed};
 
 use crate::found::any_weight;
 use crate::stack::{put, take_top};
@@ -14,7 +14,7 @@ use crate::work::{MatchWork, Place, Step};
 use ts_base::Tri;
 use ts_query::{Node, Operand, TsQuery};
 
-/// False is below Maybe, and Maybe below True.
+/// The lesser of two answers; False is below Maybe, and Maybe below True.
 fn least(a: Tri, b: Tri) -> Tri
     ensures { result ≡ least_of a b }
 {
@@ -25,6 +25,7 @@ fn least(a: Tri, b: Tri) -> Tri
     }
 }
 
+/// The greater of two answers.
 fn greatest(a: Tri, b: Tri) -> Tri
     ensures { result ≡ greatest_of a b }
 {
@@ -35,6 +36,7 @@ fn greatest(a: Tri, b: Tri) -> Tri
     }
 }
 
+/// The answer for what is negated.
 fn opposite(answer: Tri) -> Tri
     ensures { result ≡ opposite_of answer }
 {
@@ -45,6 +47,7 @@ fn opposite(answer: Tri) -> Tri
     }
 }
 
+/// The answer, but no more than Maybe.
 fn at_most_maybe(answer: Tri) -> Tri
     ensures { result ≡ lowered_of answer }
 {
@@ -54,6 +57,7 @@ fn at_most_maybe(answer: Tri) -> Tri
     }
 }
 
+/// The answer, but no less than Maybe.
 fn at_least_maybe(answer: Tri) -> Tri
     ensures { result ≡ greatest_of Maybe answer }
 {
@@ -68,7 +72,7 @@ fn leaf_at(place: Place, value: Tri) -> Tri
     ensures { result ≡ leaf_answer place value }
 {
     match place {
-        Place::Outside => value,
+        Place::Outside { .. } => value,
         Place::Within { .. } => at_most_maybe(value),
     }
 }
@@ -78,7 +82,7 @@ fn negated_at(place: Place, operand: Tri) -> Tri
     ensures { result ≡ negated_answer place operand }
 {
     match place {
-        Place::Outside => opposite(operand),
+        Place::Outside { .. } => opposite(operand),
         Place::Within { .. } => Tri::Maybe,
     }
 }
@@ -104,7 +108,8 @@ fn given(operands: &[Operand], values: &[Tri], node: Node) -> Tri
 /// Lets a node at a place work on a stack of answers.
 fn weigh(stack: &mut Vec<Tri>, step: Step, value: Tri)
     requires { vec_len stack.old < vec_capacity stack.old }
-    ensures stack { reverse stack.new.items ≡ weighed step.place step.node value (reverse stack.old.items) }
+    ensures stack { reverse stack.new.items
+        ≡ weighed step.place step.node value (reverse stack.old.items) }
     ensures len { vec_len stack.new ≤ vec_len stack.old + 1 }
     ensures capacity { vec_capacity stack.new ≡ vec_capacity stack.old }
 {

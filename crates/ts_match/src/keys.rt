@@ -1,7 +1,8 @@
 // The keys of vectors and queries.
-ghost use Rattle.std.specs.Prelude.{◌≡◌, [], ◌∷◌, ℕ, map, All, AllPairs, IfOk, length, not, replicate};
+ghost use Rattle.std.specs.Prelude.{◌≡◌, [], ◌∷◌, ℕ, map, All, AllPairs, IfOk, OnOk, length, not, replicate};
 ghost use Rattle.std.specs.declared.cmp.Ordering.TheVariants.{Less};
 ghost use Rattle.ts_base.specs.declared.Tri.TheVariants.{False};
+ghost use Rattle.ts_base.specs.Lexemes.{IsLexeme};
 ghost use Rattle.ts_base.specs.Keys.{IsKey, keys_of, key_order, placeholder, lexeme_key as key_of};
 ghost use Rattle.ts_match.specs.Class.{asked_by, asked_of, is_false, reads_all};
 
@@ -15,7 +16,8 @@ use ts_vector::TsVector;
 
 /// The key of a lexeme: the byte 0 and the lexeme.
 fn lexeme_key(alloc: Global, lexeme: &Lexeme) -> Result<Vec<u8>, AllocError>
-    ensures { IfOk result (λ key. key.items ≡ key_of lexeme.now) }
+    ensures key { IfOk result (λ key. key.items ≡ key_of lexeme.now) }
+    ensures text { OnOk result (IsLexeme lexeme.now) }
 {
     let mut key = vec![in alloc; 0]?;
     key.extend_from_slice(lexeme.as_str().as_bytes())?;
@@ -24,7 +26,8 @@ fn lexeme_key(alloc: Global, lexeme: &Lexeme) -> Result<Vec<u8>, AllocError>
 
 /// The keys of a vector's lexemes.
 fn lexeme_keys(alloc: Global, vector: &TsVector) -> Result<Vec<Vec<u8>>, AllocError>
-    ensures { IfOk result (λ keys. map (λ key. key.items) keys.items ≡ map (λ entry. key_of entry.lexeme) vector.now) }
+    ensures { IfOk result (λ keys. map (λ key. key.items) keys.items
+        ≡ map (λ entry. key_of entry.lexeme) vector.now) }
 {
     let mut keys = Vec::new(alloc);
     for k in 0..vector.count() {
@@ -46,7 +49,8 @@ fn placeholder_alone(alloc: Global) -> Result<Vec<Vec<u8>>, AllocError>
 pub fn vector_keys(alloc: Global, vector: &TsVector) -> Result<Vec<Vec<u8>>, AllocError>
     ensures keys { IfOk result (λ keys. map (λ key. key.items) keys.items ≡ keys_of vector.now) }
     ensures valid { IfOk result (λ keys. All IsKey (map (λ key. key.items) keys.items)) }
-    ensures order { IfOk result (λ keys. AllPairs (λ a b. key_order a b ≡ Less) (map (λ key. key.items) keys.items)) }
+    ensures order { IfOk result (λ keys. AllPairs (λ a b. key_order a b
+        ≡ Less) (map (λ key. key.items) keys.items)) }
 {
     if vector.count() == 0 {
         return placeholder_alone(alloc);
@@ -56,7 +60,9 @@ pub fn vector_keys(alloc: Global, vector: &TsVector) -> Result<Vec<Vec<u8>>, All
 
 /// The key of each operand, with whether it is a prefix.
 fn operand_keys(alloc: Global, operands: &[Operand]) -> Result<Vec<(Vec<u8>, bool)>, AllocError>
-    ensures { IfOk result (λ keys. map (λ key. record { key = key.0.items; prefix = key.1 }) keys.items ≡ map asked_by operands.now) }
+    ensures keys { IfOk result (λ keys. map (λ key. record { key = key.0.items; prefix = key.1 })
+        keys.items ≡ map asked_by operands.now) }
+    ensures valid { IfOk result (λ keys. All (λ key. IsKey key.0.items) keys.items) }
 {
     let mut keys = Vec::new(alloc);
     for operand in operands {
@@ -72,6 +78,7 @@ fn all_false(alloc: Global, count: usize) -> Result<Vec<Tri>, AllocError>
     vec![in alloc; Tri::False; count]
 }
 
+/// Whether an answer is not False.
 fn is_possible(answer: Tri) -> bool
     ensures { result ≡ not (is_false answer) }
 {
@@ -93,7 +100,9 @@ fn needs_all(alloc: Global, query: &TsQuery) -> Result<bool, AllocError>
 
 /// A key for each operand of the query in the order of the text, with whether it is a prefix; and whether the whole index is read.
 pub fn query_keys(alloc: Global, query: &TsQuery) -> Result<QueryKeys, AllocError>
-    ensures keys { IfOk result (λ k. map (λ key. record { key = key.0.items; prefix = key.1 }) k.keys.items ≡ asked_of query.now) }
+    ensures keys { IfOk result (λ k. map (λ key. record { key = key.0.items; prefix = key.1 })
+        k.keys.items ≡ asked_of query.now) }
+    ensures valid { IfOk result (λ k. All (λ key. IsKey key.0.items) k.keys.items) }
     ensures all { IfOk result (λ k. k.all ≡ reads_all query.now) }
 {
     let keys = operand_keys(alloc, query.operands())?;

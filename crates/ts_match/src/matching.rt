@@ -1,17 +1,19 @@
 // Whether a vector satisfies a query.
-ghost use Rattle.std.specs.Prelude.{◌≡◌, ℕ, ◌+◌, ◌<◌, ◌≤◌, ◌↔◌, false, IsTrue, length, reverse, slice_index_or, vec_len, vec_capacity};
+ghost use Rattle.std.specs.Prelude.{◌≡◌, ℕ, ◌+◌, ◌<◌, ◌≤◌, ◌↔◌, false, true, IsTrue, All, Contains, length, slice_index_or, vec_len, vec_capacity};
 ghost use Rattle.ts_base.specs.Vectors.{IsNormal};
 ghost use Rattle.ts_query.specs.declared.query.Node.TheVariants.{Leaf, Phrase as PhraseNode};
 ghost use Rattle.ts_query.specs.Queries.{Tree, operands_of};
-ghost use Rattle.ts_match.specs.Meaning.{is_met, is_stripped as stripped_vector, HoldsSomewhere, Holds};
-ghost use Rattle.ts_match.specs.Found.{IsFound};
+ghost use Rattle.ts_match.specs.Meaning.{is_met, is_stripped as stripped_vector, places, HoldsSomewhere, Holds};
 ghost use Rattle.ts_match.specs.Plan.{plan_of};
-ghost use Rattle.ts_match.specs.Phrases.{IsPhraseOf, IsReady, HasOperand, operand_at};
-ghost use Rattle.ts_match.specs.Outer.{settled};
+ghost use Rattle.ts_match.specs.declared.work.Place.TheVariants.{Within};
+ghost use Rattle.ts_match.specs.declared.work.Step.{Step as StepOf};
+ghost use Rattle.ts_match.specs.Inner.Plan.{next_of};
+ghost use Rattle.ts_match.specs.Inner.Phrases.{IsPhraseOf, IsStep, HasOperand, HasFound, StandsWithin, StandsOutside, IsUnitNode, operand_at};
 
 use crate::found::{Found, find, meets};
-use crate::phrase::{Phrase, apply, phrase_holds};
-use crate::stack::{put, take_top};
+use crate::layout::holds_by_rows;
+use crate::phrase::{Phrase, is_needed, phrase_holds};
+use crate::rows::Rows;
 use crate::work::{MatchWork, Place, Step};
 use ts_query::{Node, Operand, TsQuery};
 use ts_vector::TsVector;
@@ -33,93 +35,179 @@ fn is_stripped(vector: &TsVector) -> bool
     true
 }
 
-/// Finds the lexemes of each operand.
-fn find_all(vector: &TsVector, operands: &[Operand], found: &mut Vec<Found>)
-    requires { length operands.now ≤ vec_capacity found.old }
-    ensures same { length found.new.items ≡ length operands.now }
-    ensures found { (k : ℕ) (o : _) (f : _) → k < length operands.now → IsFound vector.now (slice_index_or operands.now k o) (slice_index_or found.new.items k f) }
-    ensures capacity { vec_capacity found.new ≡ vec_capacity found.old }
+/// Finds the lexemes of the operand of a leaf; false where there are none and the phrase needs one.
+fn find_leaf(vector: &TsVector, operands: &[Operand], step: Step, found: &mut Vec<Found>) -> bool
+    requires room { length operands.now ≤ vec_len found.old }
+    requires operand { HasOperand (length operands.now) step.node }
+    ensures here { HasFound vector.now operands.now found.new.items step }
+    ensures others { (s : StepOf) → HasFound vector.now operands.now found.old.items s
+        → HasFound vector.now operands.now found.new.items s }
+    ensures lacking { result ≡ false → (k : ℕ) × (e : ℕ) × (step
+        ≡ record { node = Leaf k; place = Within e true })
+        × ((p : ℕ) → Contains (places (operand_at operands.now k) vector.now) p → ⊥) }
+    ensures len { vec_len found.new ≡ vec_len found.old }
 {
-    found.clear();
-    for operand in operands {
-        found.push_reserved(find(vector, operand));
+    let Node::Leaf(k) = step.node else {
+        return true;
+    };
+    let k = k as usize;
+    let range = find(vector, &operands[k]);
+    found[k] = range;
+    if range.first < range.end {
+        return true;
     }
+    !is_needed(step)
 }
 
-/// The value of a node outside phrases: that of an operand, or of a phrase by its steps.
-fn value_of(part: &Phrase, node: Node, stripped: bool, inner: &mut Vec<bool>) -> bool
-    requires ready { IsReady part.now.vector.now part.now.operands.now part.now.found.now part.now.steps.now }
-    requires operand { HasOperand (length part.now.operands.now) node }
-    requires room { length part.now.steps.now ≤ vec_capacity inner.old }
-    ensures leaf { (k : ℕ) → node ≡ Leaf k → result ≡ is_met (operand_at part.now.operands.now k) part.now.vector.now }
-    ensures phrase { (n : ℕ) (t : Tree) → node ≡ PhraseNode n → IsPhraseOf part.now.operands.now part.now.steps.now t
-        → IsTrue result ↔ ((stripped ≡ false) × HoldsSomewhere part.now.vector.now t) }
-    ensures capacity { vec_capacity inner.new ≡ vec_capacity inner.old }
+/// Finds the lexemes of the operands of a phrase; false where the phrase needs one that the vector lacks.
+fn find_leaves(
+    vector: &TsVector,
+    operands: &[Operand],
+    steps: &[Step],
+    found: &mut Vec<Found>,
+) -> bool
+    requires room { length operands.now ≤ vec_len found.old }
+    requires steps { All (IsStep (length operands.now)) steps.now }
+    ensures found { IsTrue result
+        → All (HasFound vector.now operands.now found.new.items) steps.now }
+    ensures lacking { result ≡ false → IsNormal vector.now → (t : Tree)
+        → IsPhraseOf operands.now steps.now t → ¬ HoldsSomewhere vector.now t }
+    ensures len { vec_len found.new ≡ vec_len found.old }
 {
-    match node {
-        Node::Leaf(k) => meets(
-            part.vector,
-            &part.operands[k as usize],
-            part.found[k as usize],
-        ),
-        Node::Phrase(_) => {
-            if stripped {
-                return false;
-            }
-            phrase_holds(part, inner)
+    for step in steps {
+        if !find_leaf(vector, operands, *step, found) {
+            return false;
         }
-        _ => false,
+    }
+    true
+}
+
+/// Whether a phrase holds of a vector, by its steps.
+fn phrase_value(
+    vector: &TsVector,
+    operands: &[Operand],
+    steps: &[Step],
+    found: &mut Vec<Found>,
+    rows: &mut Rows,
+    truths: &mut Vec<bool>,
+) -> bool
+    requires found { length operands.now ≤ vec_len found.old }
+    requires steps { All (IsStep (length operands.now)) steps.now }
+    requires truths { length steps.now ≤ vec_capacity truths.old }
+    ensures meaning { (t : Tree) → IsPhraseOf operands.now steps.now t
+        → IsTrue result ↔ ((stripped_vector vector.now ≡ false) × HoldsSomewhere vector.now t) }
+    ensures found { vec_len found.new ≡ vec_len found.old }
+    ensures truths { vec_capacity truths.new ≡ vec_capacity truths.old }
+{
+    if is_stripped(vector) {
+        return false;
+    }
+    if !find_leaves(vector, operands, steps, found) {
+        return false;
+    }
+    let phrase = Phrase {
+        vector,
+        operands,
+        found: found.as_slice(),
+        steps,
+    };
+    match holds_by_rows(&phrase, rows) {
+        Some(holds) => holds,
+        None => phrase_holds(&phrase, truths),
     }
 }
 
-/// Lets a node outside phrases work on a stack of truths.
-fn settle(stack: &mut Vec<bool>, node: Node, value: bool)
-    requires { vec_len stack.old < vec_capacity stack.old }
-    ensures stack { reverse stack.new.items ≡ settled node value (reverse stack.old.items) }
-    ensures len { vec_len stack.new ≤ vec_len stack.old + 1 }
-    ensures capacity { vec_capacity stack.new ≡ vec_capacity stack.old }
+/// Whether the vector satisfies the part of a query whose steps these are: an operand outside phrases, or a phrase.
+fn unit_value(
+    vector: &TsVector,
+    operands: &[Operand],
+    steps: &[Step],
+    node: Node,
+    found: &mut Vec<Found>,
+    rows: &mut Rows,
+    truths: &mut Vec<bool>,
+) -> bool
+    requires kind { IsUnitNode node }
+    requires operand { HasOperand (length operands.now) node }
+    requires found { length operands.now ≤ vec_len found.old }
+    requires steps { All (IsStep (length operands.now)) steps.now }
+    requires truths { length steps.now ≤ vec_capacity truths.old }
+    ensures leaf { (k : ℕ) → node ≡ Leaf k → result
+        ≡ is_met (operand_at operands.now k) vector.now }
+    ensures phrase { (n : ℕ) (t : Tree) → node ≡ PhraseNode n → IsPhraseOf operands.now steps.now t
+        → IsTrue result ↔ ((stripped_vector vector.now ≡ false) × HoldsSomewhere vector.now t) }
+    ensures found { vec_len found.new ≡ vec_len found.old }
+    ensures truths { vec_capacity truths.new ≡ vec_capacity truths.old }
 {
     match node {
-        Node::Phrase(_) => put(stack, value),
-        _ => apply(stack, node, value),
+        Node::Leaf(k) => {
+            let operand = &operands[k as usize];
+            meets(vector, operand, find(vector, operand))
+        }
+        Node::Phrase(_) => phrase_value(vector, operands, steps, found, rows, truths),
+        _ => unreachable!(),
     }
 }
 
-/// Whether the query holds, by its plan and by what its operands find in the vector.
+/// The first step from an index on that stands outside phrases.
+fn end_of_unit(steps: &[Step], from: usize) -> usize
+    requires { from ≤ length steps.now }
+    ensures from { from ≤ result }
+    ensures within { result ≤ length steps.now }
+    ensures inner { (k : ℕ) (d : StepOf) → from ≤ k → k < result
+        → StandsWithin (slice_index_or steps.now k d).place }
+    ensures last { (d : StepOf) → result < length steps.now
+        → StandsOutside (slice_index_or steps.now result d).place }
+{
+    let mut end = from;
+    while end < steps.len() {
+        if let Place::Outside { .. } = steps[end].place {
+            return end;
+        }
+        end += 1;
+    }
+    end
+}
+
+/// The step that is next where a node has this truth.
+fn next_step(place: Place, value: bool) -> usize
+    ensures { result ≡ next_of place value }
+{
+    match place {
+        Place::Outside { on_true, on_false } => if value { on_true } else { on_false },
+        Place::Within { .. } => 0,
+    }
+}
+
+/// Whether the query holds, by its plan. An operand or a phrase is looked at only where what comes before it leaves the answer open.
 fn evaluate(
     query: &TsQuery,
     steps: &[Step],
     vector: &TsVector,
-    found: &[Found],
-    outer: &mut Vec<bool>,
-    inner: &mut Vec<bool>,
+    found: &mut Vec<Found>,
+    rows: &mut Rows,
+    truths: &mut Vec<bool>,
 ) -> bool
     requires plan { steps.now ≡ plan_of query.now }
-    requires same { length found.now ≡ length (operands_of query.now) }
-    requires found { (k : ℕ) (o : _) (f : _) → k < length (operands_of query.now) → IsFound vector.now (slice_index_or (operands_of query.now) k o) (slice_index_or found.now k f) }
-    requires outer { length steps.now ≤ vec_capacity outer.old }
-    requires inner { length steps.now ≤ vec_capacity inner.old }
+    requires found { length steps.now ≤ vec_len found.old }
+    requires truths { length steps.now ≤ vec_capacity truths.old }
     ensures meaning { IsTrue result ↔ Holds query.now vector.now }
-    ensures outer { vec_capacity outer.new ≡ vec_capacity outer.old }
-    ensures inner { vec_capacity inner.new ≡ vec_capacity inner.old }
+    ensures found { vec_len found.new ≡ vec_len found.old }
+    ensures truths { vec_capacity truths.new ≡ vec_capacity truths.old }
 {
     let operands = query.operands();
-    let stripped = is_stripped(vector);
-    outer.clear();
-    let mut from = 0;
-    for (i, step) in steps.iter().enumerate() {
-        let Place::Outside = step.place else { continue };
-        let part = Phrase {
-            vector,
-            operands,
-            found,
-            steps: &steps[from..i + 1],
-        };
-        let value = value_of(&part, step.node, stripped, inner);
-        settle(outer, step.node, value);
-        from = i + 1;
+    if steps.is_empty() {
+        return false;
     }
-    take_top(outer, false)
+    let mut from = 0;
+    while from < steps.len() {
+        let end = end_of_unit(steps, from);
+        let step = steps[end];
+        let unit = &steps[from..end + 1];
+        let value = unit_value(vector, operands, unit, step.node, found, rows, truths);
+        from = next_step(step.place, value);
+    }
+    from == steps.len()
 }
 
 /// Whether the vector satisfies the query, by work that was made for the query.
@@ -128,13 +216,12 @@ pub fn matches(query: &TsQuery, work: &mut MatchWork, vector: &TsVector) -> bool
     ensures meaning { IsTrue result ↔ Holds query.now vector.now }
     ensures work { work.new ≡ work.old }
 {
-    find_all(vector, query.operands(), &mut work.found);
     evaluate(
         query,
         &work.steps,
         vector,
-        &work.found,
-        &mut work.outer,
-        &mut work.inner,
+        &mut work.found,
+        &mut work.rows,
+        &mut work.truths,
     )
 }

@@ -5,8 +5,8 @@ ghost use Rattle.ts_query.specs.Queries.{Tree};
 ghost use Rattle.ts_match.specs.Meaning.{at, HoldsSomewhere};
 ghost use Rattle.ts_query.specs.declared.query.Node.TheVariants.{Leaf};
 ghost use Rattle.ts_match.specs.declared.work.Place.TheVariants.{Within};
-ghost use Rattle.ts_match.specs.Plan.{offset_of};
-ghost use Rattle.ts_match.specs.Phrases.{IsPhraseOf, IsStep, IsReady, IsNeeded, HoldsWith, place_from, leaf_value, moved};
+ghost use Rattle.ts_match.specs.Inner.Plan.{offset_of};
+ghost use Rattle.ts_match.specs.Inner.Phrases.{IsPhraseOf, IsStep, IsPrepared, IsNeeded, HasFound, HoldsWith, place_from, leaf_value, truth_step};
 
 use crate::found::{FARTHEST, Found, stands};
 use crate::stack::{put, take_top};
@@ -18,16 +18,20 @@ use ts_vector::TsVector;
 /// A phrase, and what its operands find in a vector.
 #[derive(Drop)]
 pub struct Phrase<'a> {
+    /// The vector.
     pub vector: &'a TsVector,
+    /// The operands of the query.
     pub operands: &'a [Operand],
+    /// What is found for each of them that the phrase has.
     pub found: &'a [Found],
+    /// The steps of the phrase.
     pub steps: &'a [Step],
 }
 
 /// Lets a node work on a stack of truths.
 pub fn apply(stack: &mut Vec<bool>, node: Node, value: bool)
     requires { vec_len stack.old < vec_capacity stack.old }
-    ensures stack { reverse stack.new.items ≡ moved node value (reverse stack.old.items) }
+    ensures stack { reverse stack.new.items ≡ truth_step node value (reverse stack.old.items) }
     ensures len { vec_len stack.new ≤ vec_len stack.old + 1 }
     ensures capacity { vec_capacity stack.new ≡ vec_capacity stack.old }
 {
@@ -51,19 +55,22 @@ pub fn apply(stack: &mut Vec<bool>, node: Node, value: bool)
 }
 
 /// How far behind the phrase's beginning a node stands.
-fn offset(place: StepPlace) -> usize
+pub fn offset(place: StepPlace) -> usize
     ensures { result ≡ offset_of place }
 {
     match place {
-        StepPlace::Outside => 0,
+        StepPlace::Outside { .. } => 0,
         StepPlace::Within { offset, .. } => offset,
     }
 }
 
 /// Whether the operand of a leaf stands at its offset, where the phrase's beginning is counted as `from`.
 fn leaf_at(phrase: &Phrase, step: Step, from: usize) -> bool
-    requires ready { IsReady phrase.now.vector.now phrase.now.operands.now phrase.now.found.now phrase.now.steps.now }
+    requires ready { IsPrepared phrase.now.vector.now phrase.now.operands.now phrase.now.found.now
+        phrase.now.steps.now }
     requires step { IsStep (length phrase.now.operands.now) step }
+    requires found { HasFound phrase.now.vector.now phrase.now.operands.now phrase.now.found.now
+        step }
     requires small { from < 2 ^ 32 }
     ensures { result ≡ leaf_value phrase.now.vector.now phrase.now.operands.now from step }
 {
@@ -79,10 +86,12 @@ fn leaf_at(phrase: &Phrase, step: Step, from: usize) -> bool
 
 /// Whether the phrase holds where its beginning is counted as `from`.
 fn holds_at(phrase: &Phrase, stack: &mut Vec<bool>, from: usize) -> bool
-    requires ready { IsReady phrase.now.vector.now phrase.now.operands.now phrase.now.found.now phrase.now.steps.now }
+    requires ready { IsPrepared phrase.now.vector.now phrase.now.operands.now phrase.now.found.now
+        phrase.now.steps.now }
     requires room { length phrase.now.steps.now ≤ vec_capacity stack.old }
     requires small { from < 2 ^ 32 }
-    ensures meaning { (t : Tree) → IsPhraseOf phrase.now.operands.now phrase.now.steps.now t → result ≡ at phrase.now.vector.now t (place_from t from) }
+    ensures meaning { (t : Tree) → IsPhraseOf phrase.now.operands.now phrase.now.steps.now t
+        → result ≡ at phrase.now.vector.now t (place_from t from) }
     ensures capacity { vec_capacity stack.new ≡ vec_capacity stack.old }
 {
     stack.clear();
@@ -100,12 +109,16 @@ fn holds_with_any(
     positions: &[Position],
     offset: usize,
 ) -> bool
-    requires ready { IsReady phrase.now.vector.now phrase.now.operands.now phrase.now.found.now phrase.now.steps.now }
+    requires ready { IsPrepared phrase.now.vector.now phrase.now.operands.now phrase.now.found.now
+        phrase.now.steps.now }
     requires room { length phrase.now.steps.now ≤ vec_capacity stack.old }
     requires near { offset ≤ FARTHEST }
-    ensures sound { (t : Tree) → IsPhraseOf phrase.now.operands.now phrase.now.steps.now t → IsTrue result → HoldsSomewhere phrase.now.vector.now t }
-    ensures whole { (t : Tree) (p : Place) → IsPhraseOf phrase.now.operands.now phrase.now.steps.now t → Contains positions.now p
-        → IsTrue (at phrase.now.vector.now t (place_from t (p.at + FARTHEST - offset))) → IsTrue result }
+    ensures sound { (t : Tree) → IsPhraseOf phrase.now.operands.now phrase.now.steps.now t
+        → IsTrue result → HoldsSomewhere phrase.now.vector.now t }
+    ensures whole { (t : Tree) (p : Place)
+        → IsPhraseOf phrase.now.operands.now phrase.now.steps.now t → Contains positions.now p
+        → IsTrue (at phrase.now.vector.now t (place_from t (p.at + FARTHEST - offset)))
+        → IsTrue result }
     ensures capacity { vec_capacity stack.new ≡ vec_capacity stack.old }
 {
     for position in positions {
@@ -119,13 +132,19 @@ fn holds_with_any(
 
 /// Whether the phrase holds where an operand of this offset stands at a position of what it found.
 fn holds_in(phrase: &Phrase, stack: &mut Vec<bool>, found: Found, offset: usize) -> bool
-    requires ready { IsReady phrase.now.vector.now phrase.now.operands.now phrase.now.found.now phrase.now.steps.now }
+    requires ready { IsPrepared phrase.now.vector.now phrase.now.operands.now phrase.now.found.now
+        phrase.now.steps.now }
     requires room { length phrase.now.steps.now ≤ vec_capacity stack.old }
     requires near { offset ≤ FARTHEST }
     requires within { found.end ≤ length phrase.now.vector.now }
-    ensures sound { (t : Tree) → IsPhraseOf phrase.now.operands.now phrase.now.steps.now t → IsTrue result → HoldsSomewhere phrase.now.vector.now t }
-    ensures whole { (t : Tree) (k : ℕ) (e : Entry) (p : Place) → IsPhraseOf phrase.now.operands.now phrase.now.steps.now t → found.first ≤ k → k < found.end
-        → Contains (slice_index_or phrase.now.vector.now k e).positions p → IsTrue (at phrase.now.vector.now t (place_from t (p.at + FARTHEST - offset))) → IsTrue result }
+    ensures sound { (t : Tree) → IsPhraseOf phrase.now.operands.now phrase.now.steps.now t
+        → IsTrue result → HoldsSomewhere phrase.now.vector.now t }
+    ensures whole { (t : Tree) (k : ℕ) (e : Entry) (p : Place)
+        → IsPhraseOf phrase.now.operands.now phrase.now.steps.now t → found.first ≤ k
+        → k < found.end
+        → Contains (slice_index_or phrase.now.vector.now k e).positions p
+        → IsTrue (at phrase.now.vector.now t (place_from t (p.at + FARTHEST - offset)))
+        → IsTrue result }
     ensures capacity { vec_capacity stack.new ≡ vec_capacity stack.old }
 {
     for k in found.first..found.end {
@@ -138,11 +157,16 @@ fn holds_in(phrase: &Phrase, stack: &mut Vec<bool>, found: Found, offset: usize)
 
 /// Whether the phrase holds where the operand of this step stands at one of its positions.
 fn holds_with(phrase: &Phrase, stack: &mut Vec<bool>, step: Step) -> bool
-    requires ready { IsReady phrase.now.vector.now phrase.now.operands.now phrase.now.found.now phrase.now.steps.now }
+    requires ready { IsPrepared phrase.now.vector.now phrase.now.operands.now phrase.now.found.now
+        phrase.now.steps.now }
     requires room { length phrase.now.steps.now ≤ vec_capacity stack.old }
     requires step { IsStep (length phrase.now.operands.now) step }
-    ensures sound { (t : Tree) → IsPhraseOf phrase.now.operands.now phrase.now.steps.now t → IsTrue result → HoldsSomewhere phrase.now.vector.now t }
-    ensures whole { (t : Tree) → IsPhraseOf phrase.now.operands.now phrase.now.steps.now t → HoldsWith phrase.now.vector.now phrase.now.operands.now t step → IsTrue result }
+    requires found { HasFound phrase.now.vector.now phrase.now.operands.now phrase.now.found.now
+        step }
+    ensures sound { (t : Tree) → IsPhraseOf phrase.now.operands.now phrase.now.steps.now t
+        → IsTrue result → HoldsSomewhere phrase.now.vector.now t }
+    ensures whole { (t : Tree) → IsPhraseOf phrase.now.operands.now phrase.now.steps.now t
+        → HoldsWith phrase.now.vector.now phrase.now.operands.now t step → IsTrue result }
     ensures capacity { vec_capacity stack.new ≡ vec_capacity stack.old }
 {
     match step.node {
@@ -153,7 +177,8 @@ fn holds_with(phrase: &Phrase, stack: &mut Vec<bool>, step: Step) -> bool
 
 /// The number of the operand where the step is the leaf of one that the phrase needs.
 fn needed_operand(step: Step) -> Option<u16>
-    ensures { IfSome result (λ k. (e : ℕ) × (step ≡ record { node = Leaf k; place = Within e true })) }
+    ensures { IfSome result (λ k. (e : ℕ) × (step
+        ≡ record { node = Leaf k; place = Within e true })) }
 {
     if let StepPlace::Within { needed: true, .. } = step.place {
         if let Node::Leaf(k) = step.node {
@@ -161,6 +186,13 @@ fn needed_operand(step: Step) -> Option<u16>
         }
     }
     None
+}
+
+/// Whether the phrase needs the operand of this leaf.
+pub fn is_needed(step: Step) -> bool
+    ensures { IsTrue result → (e : ℕ) × (step.place ≡ Within e true) }
+{
+    matches!(step.place, StepPlace::Within { needed: true, .. })
 }
 
 /// How many positions the found lexemes have.
@@ -176,7 +208,8 @@ fn count_positions(vector: &TsVector, found: Found) -> usize
 
 /// Of the operands that the phrase needs, the leaf of the one with the fewest positions.
 fn rarest(phrase: &Phrase) -> Option<Step>
-    requires { IsReady phrase.now.vector.now phrase.now.operands.now phrase.now.found.now phrase.now.steps.now }
+    requires { IsPrepared phrase.now.vector.now phrase.now.operands.now phrase.now.found.now
+        phrase.now.steps.now }
     ensures { IfSome result (IsNeeded phrase.now.steps.now) }
 {
     let mut best = None;
@@ -196,9 +229,11 @@ fn rarest(phrase: &Phrase) -> Option<Step>
 /// Whether the phrase holds. An operand that it needs stands wherever it holds, so the positions of the rarest such operand are
 /// tried, and where there is none those of every operand, and a beginning at which no operand stands.
 pub fn phrase_holds(phrase: &Phrase, stack: &mut Vec<bool>) -> bool
-    requires ready { IsReady phrase.now.vector.now phrase.now.operands.now phrase.now.found.now phrase.now.steps.now }
+    requires ready { IsPrepared phrase.now.vector.now phrase.now.operands.now phrase.now.found.now
+        phrase.now.steps.now }
     requires room { length phrase.now.steps.now ≤ vec_capacity stack.old }
-    ensures meaning { (t : Tree) → IsPhraseOf phrase.now.operands.now phrase.now.steps.now t → IsTrue result ↔ HoldsSomewhere phrase.now.vector.now t }
+    ensures meaning { (t : Tree) → IsPhraseOf phrase.now.operands.now phrase.now.steps.now t
+        → IsTrue result ↔ HoldsSomewhere phrase.now.vector.now t }
     ensures capacity { vec_capacity stack.new ≡ vec_capacity stack.old }
 {
     if let Some(step) = rarest(phrase) {

@@ -1,6 +1,6 @@
 // Stacks in lists that have room: the top is the last element.
 ghost use Rattle.std.specs.Prelude.{◌≡◌, ◌+◌, ◌-◌, ◌<◌, ◌∷◌, reverse, vec_len, vec_capacity};
-ghost use Rattle.ts_match.specs.Stacks.{top_or, below};
+ghost use Rattle.ts_match.specs.Inner.Stacks.{top_or, below};
 
 /// Puts a value on top.
 pub fn put<T>(stack: &mut Vec<T>, value: T)

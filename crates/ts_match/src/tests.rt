@@ -8,7 +8,7 @@ use ts_query::{Node, Operand, TsQuery};
 use ts_vector::TsVector;
 
 /// Queries, vectors, and whether the vector satisfies the query.
-const ROWS: [(&str, &str, bool); 66] = [
+const ROWS: [(&str, &str, bool); 96] = [
     ("a", "a:1", true),
     ("a", "ab:1", false),
     ("a:*", "ab:1", true),
@@ -75,41 +75,91 @@ const ROWS: [(&str, &str, bool); 66] = [
     ("!x", "", true),
     ("x:*", "", false),
     ("!x <-> !y", "", true),
+    ("a <63> b", "a:1 b:64", true),
+    ("a <63> b", "a:1 b:65", false),
+    ("a <64> b", "a:1 b:65", true),
+    ("a <64> b", "a:1 b:1", false),
+    ("a <64> b", "a:63 b:127", true),
+    ("a <65> b", "a:64 b:129", true),
+    ("a <65> b", "a:1 b:65", false),
+    ("a <16382> b", "a:1 b:16383", true),
+    ("a <16383> b", "a:1 b:16383", false),
+    ("a <16384> b", "a:1 b:16383", false),
+    ("!a <16384> b", "a:1 b:16383", true),
+    ("a <16384> !b", "a:16383 b:1", true),
+    ("!a <16383> !b", "a:1 b:2", true),
+    ("a <16384> !b <16384> !b <16384> !b <16384> !b", "a:1", true),
+    (
+        "a <16384> !b <16384> !b <16384> !b <16384> !b",
+        "b:1",
+        false,
+    ),
+    (
+        "a <16384> !b <16384> !b <16384> !b <16384> !b <-> !b",
+        "a:1",
+        true,
+    ),
+    (
+        "a <16384> !b <16384> !b <16384> !b <16384> !b <-> !b",
+        "b:1",
+        false,
+    ),
+    (
+        "!c <16384> !b <16384> !b <16384> !b <16384> !b <-> a",
+        "a:1",
+        true,
+    ),
+    ("(a | b | (c <2> d)) <-> e", "c:1 d:3 e:4", true),
+    ("(a | b | (c <2> d)) <-> e", "c:1 d:3 e:5", false),
+    ("(a | (b | c) <-> d) <-> e", "c:1 d:2 e:3", true),
+    ("a <-> a <-> a", "a:1,2,3", true),
+    ("a <-> a <-> a", "a:1,2,4,5", false),
+    ("a:* <-> ab:*", "a:1 abc:2", true),
+    ("ab:* <-> a:*", "ab:1 a:2", true),
+    ("ab:* <-> ab:*", "abc:1 abd:2", true),
+    ("a & b <-> c", "b:1 c:2", false),
+    ("!(a & b <-> c) | d", "a:1 b:1 c:2 d:4", true),
+    ("a | b & (c | !d)", "b:1 d:2", false),
+    ("(a | b) & !(c & d)", "b:1 d:2", true),
 ];
+
+/// Whether a vector satisfies a query, asked twice with one work.
+fn asked(alloc: Global, text: &str, document: &str) -> Result<(bool, bool), Fail> {
+    let query = TsQuery::parse(alloc, text)?;
+    let vector = TsVector::parse(alloc, document)?;
+    let mut work = MatchWork::new(alloc, &query)?;
+    let first = matches(&query, &mut work, &vector);
+    Ok((first, matches(&query, &mut work, &vector)))
+}
 
 #[test]
 fn rows_are_met(rt: HostRuntime) -> Result<(), Fail> {
-    let alloc = rt.alloc();
-    for (text, document, holds) in ROWS {
-        let query = TsQuery::parse(alloc, text)?;
-        let vector = TsVector::parse(alloc, document)?;
-        let mut work = MatchWork::new(alloc, &query)?;
-        assert_eq!(rt;
-            matches(&query, &mut work, &vector),
-            holds,
-            "{text} of {document}"
-        );
-        assert_eq!(rt;
-            matches(&query, &mut work, &vector),
-            holds,
-            "{text} of {document} again"
-        );
+    for &(text, document, holds) in &ROWS {
+        let (first, again) = asked(rt.alloc(), text, document)?;
+        assert_eq!(rt; first, holds, "{text} of {document}");
+        assert_eq!(rt; again, holds, "{text} of {document} again");
     }
     Ok(())
 }
 
-/// Where a part of a query holds within a phrase: the truth at each place from 24 before the first one on, and at all other places.
+/// Where a part of a query holds within a phrase: the truth at each place from 24 before 0 on, and at all other places.
 #[derive(Drop)]
 struct Line {
+    /// How far the part reaches back.
     width: usize,
+    /// The truth at all other places.
     far: bool,
+    /// The truths at the places.
     truths: Vec<bool>,
 }
 
-const PLACES: usize = 64;
+/// How many places a line has.
+const PLACES: usize = 320;
 
+/// How many of them are below 0.
 const BEFORE: usize = 24;
 
+/// The truth at a place, or as far back as this.
 fn truth(line: &Line, place: usize, back: usize) -> bool {
     if place < back {
         return line.far;
@@ -117,10 +167,12 @@ fn truth(line: &Line, place: usize, back: usize) -> bool {
     line.truths.get(place - back).copied().unwrap_or(line.far)
 }
 
+/// Whether no weight is asked for.
 fn asks_any(weights: Weights) -> bool {
     !(weights.a || weights.b || weights.c || weights.d)
 }
 
+/// Whether a weight fits.
 fn fits(weights: Weights, weight: Weight) -> bool {
     asks_any(weights)
         || match weight {
@@ -131,6 +183,7 @@ fn fits(weights: Weights, weight: Weight) -> bool {
         }
 }
 
+/// Whether an operand names the lexeme at the index k.
 fn names(operand: &Operand, vector: &TsVector, k: usize) -> bool
     requires { k < length vector.now }
 {
@@ -139,6 +192,7 @@ fn names(operand: &Operand, vector: &TsVector, k: usize) -> bool
     lexeme == wanted || (operand.prefix && lexeme.starts_with(wanted))
 }
 
+/// Whether an operand is met, and its line.
 fn operand_line(
     alloc: Global,
     operand: &Operand,
@@ -194,6 +248,7 @@ fn joined_line(
     Ok(Line { width, far, truths })
 }
 
+/// The line with each truth turned.
 fn negated_line(alloc: Global, line: &Line) -> Result<Line, AllocError> {
     let truths = line.truths.iter().map(|t| !*t).collect(alloc)?;
     Ok(Line {
@@ -203,6 +258,7 @@ fn negated_line(alloc: Global, line: &Line) -> Result<Line, AllocError> {
     })
 }
 
+/// Whether the vector has a lexeme and no position.
 fn is_stripped(vector: &TsVector) -> bool {
     for k in 0..vector.count() {
         if !vector.positions(k).is_empty() {
@@ -277,7 +333,8 @@ fn slowly(alloc: Global, query: &TsQuery, vector: &TsVector) -> Result<bool, All
     }
 }
 
-const QUERIES: [&str; 32] = [
+/// Queries that are tried on each of the vectors.
+const QUERIES: [&str; 42] = [
     "",
     "a",
     "!a",
@@ -310,9 +367,20 @@ const QUERIES: [&str; 32] = [
     "a:*B <2> b",
     "(a:A | b) <-> !c",
     "!(a:* <-> b:D)",
+    "a <63> b",
+    "!a <64> b",
+    "a <65> !b",
+    "(a <63> b) <65> !c",
+    "!(a <64> !b) <64> c",
+    "(a | b <64> c) <-> !a",
+    "!a <2> (b | !c) <62> a:*",
+    "a:* <-> ab:* | ab:* <-> a:*",
+    "(a & !b | c) <-> (b | a & c)",
+    "!(!a <-> !(b | !c))",
 ];
 
-const VECTORS: [&str; 20] = [
+/// The vectors.
+const VECTORS: [&str; 24] = [
     "a:1",
     "b:2",
     "c:3",
@@ -333,6 +401,10 @@ const VECTORS: [&str; 20] = [
     "a:1B,3A ab:4B b:2C",
     "a:2 ab:1A b c",
     "'a':1A,2B 'b':2A,3 'c'",
+    "a:1,64 b:64,65,127 c:128,129",
+    "a:63 b:126,127,128 c:191,192",
+    "a:1,2,65 b:65,66 c:66,67,130",
+    "ab:1,64 a:2,65 b:66",
 ];
 
 #[test]
@@ -399,34 +471,40 @@ fn judgements(rt: HostRuntime) -> Result<(), Fail> {
     Ok(())
 }
 
+/// Vectors and their keys.
+const VECTOR_KEYS: [(&str, &[&str]); 3] = [
+    ("cat:1 a:3 cat:2", &["\0a", "\0cat"]),
+    ("é b", &["\0b", "\0é"]),
+    ("", &["\x01"]),
+];
+
+/// Queries, their keys, each with whether it is a prefix, and whether the whole index is read.
+const QUERY_KEYS: [(&str, &[(&str, bool)], bool); 5] = [
+    ("cat & a:*B", &[("\0cat", false), ("\0a", true)], false),
+    ("!a", &[("\0a", false)], true),
+    ("", &[], false),
+    ("!a <-> b", &[("\0a", false), ("\0b", false)], false),
+    ("!a <-> !b", &[("\0a", false), ("\0b", false)], true),
+];
+
 #[test]
 fn keys(rt: HostRuntime) -> Result<(), Fail> {
     let alloc = rt.alloc();
-    let vector = TsVector::parse(alloc, "cat:1 a:3 cat:2")?;
-    let keys = vector_keys(alloc, &vector)?;
-    assert_eq!(rt; keys.len(), 2);
-    assert_eq!(rt; keys[0].as_slice(), b"\0a".as_slice());
-    assert_eq!(rt; keys[1].as_slice(), b"\0cat".as_slice());
-    let none = vector_keys(alloc, &TsVector::parse(alloc, "")?)?;
-    assert_eq!(rt; none.len(), 1);
-    assert_eq!(rt; none[0].as_slice(), b"\x01".as_slice());
-
-    let query = TsQuery::parse(alloc, "cat & a:*B")?;
-    let asked = query_keys(alloc, &query)?;
-    assert!(rt; !asked.all);
-    assert_eq!(rt; asked.keys.len(), 2);
-    assert_eq!(rt; asked.keys[0].0.as_slice(), b"\0cat".as_slice());
-    assert!(rt; !asked.keys[0].1);
-    assert_eq!(rt; asked.keys[1].0.as_slice(), b"\0a".as_slice());
-    assert!(rt; asked.keys[1].1);
-    for (text, all) in [
-        ("!a", true),
-        ("", false),
-        ("!a <-> b", false),
-        ("!a <-> !b", true),
-    ] {
-        let query = TsQuery::parse(alloc, text)?;
-        assert_eq!(rt; query_keys(alloc, &query)?.all, all, "{text}");
+    for (text, expected) in VECTOR_KEYS {
+        let keys = vector_keys(alloc, &TsVector::parse(alloc, text)?)?;
+        assert_eq!(rt; keys.len(), expected.len(), "{text}");
+        for (key, wanted) in keys.iter().zip(expected) {
+            assert_eq!(rt; key.as_slice(), wanted.as_bytes(), "{text}");
+        }
+    }
+    for (text, expected, all) in QUERY_KEYS {
+        let asked = query_keys(alloc, &TsQuery::parse(alloc, text)?)?;
+        assert_eq!(rt; asked.all, all, "{text}");
+        assert_eq!(rt; asked.keys.len(), expected.len(), "{text}");
+        for (key, wanted) in asked.keys.iter().zip(expected) {
+            assert_eq!(rt; key.0.as_slice(), wanted.0.as_bytes(), "{text}");
+            assert_eq!(rt; key.1, wanted.1, "{text}");
+        }
     }
     Ok(())
 }

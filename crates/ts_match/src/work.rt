@@ -1,10 +1,13 @@
 // What is made ready of a query before it is matched.
 ghost use Rattle.std.specs.Prelude.{◌≡◌, ◌+◌, ◌*◌, ◌^◌, ◌<◌, ◌≤◌, ◌∷◌, IfOk, All, length, reverse, vec_len, vec_capacity};
 ghost use Rattle.ts_query.specs.Queries.{or_joint, and_joint, phrase_joint};
-ghost use Rattle.ts_match.specs.Stacks.{total};
-ghost use Rattle.ts_match.specs.Plan.{plan_of, left_widths_of, left_width, measured, distance, spread_on, under_not, left_of, right_of, offset_of};
+ghost use Rattle.ts_match.specs.Inner.Stacks.{total};
+ghost use Rattle.ts_match.specs.declared.work.Due.TheVariants.{At};
+ghost use Rattle.ts_match.specs.Plan.{plan_of, under_not, right_place};
+ghost use Rattle.ts_match.specs.Inner.Plan.{left_widths_of, left_width, measured, distance, spread_on, left_due, due_place, offset_of};
 
 use crate::found::Found;
+use crate::rows::{Rows, make_rows};
 use crate::stack::{put, take_top};
 use std::alloc::{AllocError, Global};
 use std::marker::Model;
@@ -14,8 +17,8 @@ use ts_query::{Node, TsQuery};
 /// Where a node of a query stands.
 #[derive(Clone, Copy, Debug, PartialEq, Eq)]
 pub enum Place {
-    /// Outside phrases.
-    Outside,
+    /// Outside phrases; and the step that is next where the node is true, and where it is false.
+    Outside { on_true: usize, on_false: usize },
     /// Within a phrase, this far behind its beginning; and whether the phrase needs it.
     Within { offset: usize, needed: bool },
 }
@@ -23,8 +26,23 @@ pub enum Place {
 /// A node of a query and where it stands.
 #[derive(Clone, Copy, Debug, PartialEq, Eq)]
 pub struct Step {
+    /// The node.
     pub node: Node,
+    /// Where it stands.
     pub place: Place,
+}
+
+/// What is known of the place of a node that is still to be laid out.
+#[derive(Clone, Copy, Debug, PartialEq, Eq)]
+pub enum Due {
+    /// The place.
+    At(Place),
+    /// The left operand of a `&` outside phrases; and the step that is next where it is false.
+    /// Where it is true, the step behind it is next.
+    LeftOfAnd { on_false: usize },
+    /// The left operand of a `|` outside phrases; and the step that is next where it is true.
+    /// Where it is false, the step behind it is next.
+    LeftOfOr { on_true: usize },
 }
 
 /// Puts the width of a node on the stack in place of its operands' widths, and gives that of the left one.
@@ -34,7 +52,8 @@ fn measure(stack: &mut Vec<u32>, node: Node) -> u32
     requires fits { total (reverse stack.old.items) + distance node < 2 ^ 32 }
     ensures left { result ≡ left_width node (reverse stack.old.items) }
     ensures stack { reverse stack.new.items ≡ measured node (reverse stack.old.items) }
-    ensures sum { total (reverse stack.new.items) ≤ total (reverse stack.old.items) + distance node }
+    ensures sum { total (reverse stack.new.items) ≤ total (reverse stack.old.items) + distance
+        node }
     ensures len { vec_len stack.new ≤ vec_len stack.old + 1 }
     ensures capacity { vec_capacity stack.new ≡ vec_capacity stack.old }
 {
@@ -64,7 +83,10 @@ fn place_under_not(place: Place) -> Place
     ensures { result ≡ under_not place }
 {
     match place {
-        Place::Outside => Place::Outside,
+        Place::Outside { on_true, on_false } => Place::Outside {
+            on_true: on_false,
+            on_false: on_true,
+        },
         Place::Within { offset, .. } => Place::Within {
             offset,
             needed: false,
@@ -72,15 +94,45 @@ fn place_under_not(place: Place) -> Place
     }
 }
 
+/// What is known of the place of the left operand of a `&`.
+fn left_of_and(place: Place) -> Due
+    ensures { result ≡ left_due and_joint place }
+{
+    match place {
+        Place::Outside { on_false, .. } => Due::LeftOfAnd { on_false },
+        Place::Within { .. } => Due::At(place),
+    }
+}
+
+/// What is known of the place of the left operand of a `|`.
+fn left_of_or(place: Place) -> Due
+    ensures { result ≡ left_due or_joint place }
+{
+    match place {
+        Place::Outside { on_true, .. } => Due::LeftOfOr { on_true },
+        Place::Within { .. } => Due::At(place_under_not(place)),
+    }
+}
+
+/// Where the right operand of a `|` stands.
+fn right_of_or(place: Place) -> Place
+    ensures { result ≡ right_place or_joint 0 place }
+{
+    match place {
+        Place::Outside { .. } => place,
+        Place::Within { .. } => place_under_not(place),
+    }
+}
+
 /// Where the operands of a phrase operator stand; the right one begins behind the left one's width and the distance.
 fn places_in_phrase(place: Place, width: u32, distance: u16) -> (Place, Place)
     requires { offset_of place < 2 ^ 63 }
-    ensures left { result.0 ≡ left_of (phrase_joint distance) place }
-    ensures right { result.1 ≡ right_of (phrase_joint distance) width place }
+    ensures left { At result.0 ≡ left_due (phrase_joint distance) place }
+    ensures right { result.1 ≡ right_place (phrase_joint distance) width place }
 {
     let behind = width as usize + distance as usize;
     match place {
-        Place::Outside => (
+        Place::Outside { .. } => (
             Place::Within {
                 offset: 0,
                 needed: true,
@@ -100,8 +152,8 @@ fn places_in_phrase(place: Place, width: u32, distance: u16) -> (Place, Place)
     }
 }
 
-/// Puts the places of a node's operands on the stack of those that are due, the right one on top.
-fn spread(due: &mut Vec<Place>, node: Node, width: u32, place: Place)
+/// Puts what is known of the places of a node's operands on the stack of those that are due, the right one on top.
+fn spread(due: &mut Vec<Due>, node: Node, width: u32, place: Place)
     requires room { vec_len due.old + 2 ≤ vec_capacity due.old }
     requires near { offset_of place < 2 ^ 63 }
     ensures due { reverse due.new.items ≡ spread_on node width place (reverse due.old.items) }
@@ -110,20 +162,37 @@ fn spread(due: &mut Vec<Place>, node: Node, width: u32, place: Place)
 {
     match node {
         Node::Leaf(_) => {}
-        Node::Not => put(due, place_under_not(place)),
+        Node::Not => put(due, Due::At(place_under_not(place))),
         Node::And => {
-            put(due, place);
-            put(due, place);
+            put(due, left_of_and(place));
+            put(due, Due::At(place));
         }
         Node::Or => {
-            put(due, place_under_not(place));
-            put(due, place_under_not(place));
+            put(due, left_of_or(place));
+            put(due, Due::At(right_of_or(place)));
         }
         Node::Phrase(distance) => {
             let (left, right) = places_in_phrase(place, width, distance);
-            put(due, left);
-            put(due, right);
+            put(due, Due::At(left));
+            put(due, Due::At(right));
         }
+    }
+}
+
+/// The place of a node, where the step behind it has this index.
+fn place_before(due: Due, behind: usize) -> Place
+    ensures { result ≡ due_place behind due }
+{
+    match due {
+        Due::At(place) => place,
+        Due::LeftOfAnd { on_false } => Place::Outside {
+            on_true: behind,
+            on_false,
+        },
+        Due::LeftOfOr { on_true } => Place::Outside {
+            on_true,
+            on_false: behind,
+        },
     }
 }
 
@@ -142,16 +211,22 @@ fn left_widths(alloc: Global, query: &TsQuery) -> Result<Vec<u32>, AllocError>
 }
 
 /// The nodes of a query, each with its place. The places are found from the last node back.
+/// Behind the last step comes the end where the query holds, and behind that the one where it does not.
 fn lay_out(alloc: Global, query: &TsQuery, widths: &[u32]) -> Result<Vec<Step>, AllocError>
     requires { widths.now ≡ left_widths_of query.now }
     ensures { IfOk result (λ steps. steps.items ≡ plan_of query.now) }
 {
     let nodes = query.nodes();
-    let mut due = Vec::with_capacity(alloc, nodes.len() + 2)?;
-    put(&mut due, Place::Outside);
-    let mut steps = Vec::with_capacity(alloc, nodes.len())?;
-    for i in (0..nodes.len()).rev() {
-        let place = take_top(&mut due, Place::Outside);
+    let count = nodes.len();
+    let root = Due::At(Place::Outside {
+        on_true: count,
+        on_false: count + 1,
+    });
+    let mut due = Vec::with_capacity(alloc, count + 2)?;
+    put(&mut due, root);
+    let mut steps = Vec::with_capacity(alloc, count)?;
+    for i in (0..count).rev() {
+        let place = place_before(take_top(&mut due, root), i + 1);
         let node = nodes[i];
         spread(&mut due, node, widths[i], place);
         steps.push_reserved(Step { node, place });
@@ -165,34 +240,36 @@ fn lay_out(alloc: Global, query: &TsQuery, widths: &[u32]) -> Result<Vec<Step>, 
 pub struct MatchWork {
     pub(crate) steps: Vec<Step>,
     pub(crate) found: Vec<Found>,
-    pub(crate) outer: Vec<bool>,
-    pub(crate) inner: Vec<bool>,
+    pub(crate) rows: Rows,
+    pub(crate) truths: Vec<bool>,
     pub(crate) answers: Vec<Tri>,
 }
 
 impl Model for MatchWork {
-    ghost use Rattle.std.specs.Prelude.{List, ◌≤◌, length, vec_capacity};
+    ghost use Rattle.std.specs.Prelude.{List, ◌≤◌, length, vec_len, vec_capacity};
     ghost use Rattle.ts_match.specs.declared.work.Step.{Step};
 
     ghost Value = { List Step };
 
     ghost view = { λ work. work.steps.items };
 
-    ghost invariant = { λ work. (length work.steps.items ≤ vec_capacity work.found) × (length work.steps.items ≤ vec_capacity work.outer) × (length work.steps.items ≤ vec_capacity work.inner) × (length work.steps.items ≤ vec_capacity work.answers) };
+    ghost invariant = { λ work. (length work.steps.items ≤ vec_len work.found) ×
+        (length work.steps.items ≤ vec_capacity work.truths) × (length work.steps.items ≤ vec_capacity work.answers) };
 }
 
 impl MatchWork {
-    /// Stacks that are large enough for the query.
+    /// Stacks that are large enough for the query, and a row of places for each level of its phrases.
     pub fn new(alloc: Global, query: &TsQuery) -> Result<MatchWork, AllocError>
         ensures { IfOk result (λ work. work ≡ plan_of query.now) }
     {
         let widths = left_widths(alloc, query)?;
         let steps = lay_out(alloc, query, &widths)?;
         let room = steps.len();
+        let none = Found { first: 0, end: 0 };
         Ok(MatchWork {
-            found: Vec::with_capacity(alloc, room)?,
-            outer: Vec::with_capacity(alloc, room)?,
-            inner: Vec::with_capacity(alloc, room)?,
+            found: vec![in alloc; none; room]?,
+            rows: make_rows(alloc, &steps)?,
+            truths: Vec::with_capacity(alloc, room)?,
             answers: Vec::with_capacity(alloc, room)?,
             steps,
         })

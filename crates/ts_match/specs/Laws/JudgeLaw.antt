@@ -9,7 +9,8 @@ use Rattle.ts_base.specs.Vectors.{Position, Vector}
 use Rattle.ts_query.specs.declared.query.Operand.{Operand}
 use Rattle.ts_query.specs.Queries.{Tree, leaf, negated, joined, or_joint, and_joint, phrase_joint, operands_in}
 use Rattle.ts_match.specs.Meaning.{names, asks_any, asks_for, is_met, places, is_place, width, at, HoldsOf}
-use Rattle.ts_match.specs.Judging.{least, greatest, opposite, at_most_maybe, given, right_values, judged_in, judged_of, has_lexeme, SoundValue, SoundValues, JudgesWell}
+use Rattle.ts_match.specs.Judging.{least, greatest, opposite, at_most_maybe, given, right_values, judged_in, judged_of, has_lexeme, JudgesWell}
+use Rattle.gin_opclass.specs.Class.{SoundValue, SoundValues}
 
 least_false : (s t : Tri) → least s t ≡ False → (s ≡ False) ⊎ (t ≡ False)
 least_false False t e = inl refl
@@ -90,6 +91,10 @@ met o (e ∷ es) a h = elim (or_cases (names o e.lexeme) (has_lexeme o es) h) [
   | inr q ↦ or_right (names o e.lexeme && (asks_any o.weights || list_any (λ (p : Position). asks_for o.weights p.weight) e.positions)) (is_met o es) (met o es a q)
 ]
 
+false_from : (b : Bool) → (b ≡ true → ⊥) → b ≡ false
+false_from true n = absurd (n refl)
+false_from false n = refl
+
 nowhere : (i : ℤ) → is_place [] i ≡ false
 nowhere (pos n) = refl
 nowhere (negsuc n) = refl
@@ -102,44 +107,48 @@ given_true : (o : Operand) (t : Tri) (ts : List Tri) (b : Bool) → asks_any o.w
 given_true o t ts true a e = ((rw a at e), a)
 given_true o t ts false a e = absurd (maybe_true t (rw a at e))
 
+-- the vector has a lexeme that the operand names
+abbrev pub NamesSome : Vector → Operand → Type 0
+NamesSome v o = has_lexeme o v ≡ true
+
 -- the values begin with a sound one for each operand
-abbrev Begins : Vector → List Operand → List Tri → Type 0
-Begins v [] ts = Unit {0}
-Begins v (o ∷ os) [] = ⊥
-Begins v (o ∷ os) (t ∷ ts) = SoundValue v o t × Begins v os ts
+abbrev BeginsSound : Vector → List Operand → List Tri → Type 0
+BeginsSound v [] ts = Unit {0}
+BeginsSound v (o ∷ os) [] = ⊥
+BeginsSound v (o ∷ os) (t ∷ ts) = SoundValue (NamesSome v o) t × BeginsSound v os ts
 
 module _ (v : Vector) where
-  begins : (os : List Operand) (ts : List Tri) → SoundValues v os ts → Begins v os ts
+  begins : (os : List Operand) (ts : List Tri) → SoundValues (NamesSome v) os ts → BeginsSound v os ts
   begins [] [] h = tt
   begins [] (t ∷ ts) h = tt
   begins (o ∷ os) [] h = h
   begins (o ∷ os) (t ∷ ts) h = (h.0, begins os ts h.1)
 
-  sound_left : (os ps : List Operand) (ts : List Tri) → Begins v (os ++ ps) ts → Begins v os ts
+  sound_left : (os ps : List Operand) (ts : List Tri) → BeginsSound v (os ++ ps) ts → BeginsSound v os ts
   sound_left [] ps ts h = tt
   sound_left (o ∷ os) ps [] h = h
   sound_left (o ∷ os) ps (t ∷ ts) h = (h.0, sound_left os ps ts h.1)
 
-  sound_right : (os ps : List Operand) (ts : List Tri) → Begins v (os ++ ps) ts → Begins v ps (drop (length os) ts)
+  sound_right : (os ps : List Operand) (ts : List Tri) → BeginsSound v (os ++ ps) ts → BeginsSound v ps (drop (length os) ts)
   sound_right [] ps ts h = h
   sound_right (o ∷ os) ps [] h = absurd h
   sound_right (o ∷ os) ps (t ∷ ts) h = sound_right os ps ts h.1
 
-  says_false : (o : Operand) (t : Tri) → SoundValue v o t → t ≡ False → has_lexeme o v ≡ false
-  says_false o False s e = s
+  says_false : (o : Operand) (t : Tri) → SoundValue (NamesSome v o) t → t ≡ False → has_lexeme o v ≡ false
+  says_false o False s e = false_from (has_lexeme o v) s
   says_false o Maybe s e = absurd (let x : ⊥ = cc in x)
   says_false o True s e = absurd (let x : ⊥ = cc in x)
 
-  says_true : (o : Operand) (t : Tri) → SoundValue v o t → t ≡ True → has_lexeme o v ≡ true
+  says_true : (o : Operand) (t : Tri) → SoundValue (NamesSome v o) t → t ≡ True → has_lexeme o v ≡ true
   says_true o False s e = absurd (let x : ⊥ = cc in x)
   says_true o Maybe s e = absurd (let x : ⊥ = cc in x)
   says_true o True s e = s
 
-  leaf_false : (o : Operand) (ts : List Tri) → Begins v (o ∷ []) ts → given o ts ≡ False → has_lexeme o v ≡ false
+  leaf_false : (o : Operand) (ts : List Tri) → BeginsSound v (o ∷ []) ts → given o ts ≡ False → has_lexeme o v ≡ false
   leaf_false o [] s e = absurd s
   leaf_false o (t ∷ ts) s e = says_false o t s.0 (given_false o t ts (asks_any o.weights) refl e)
 
-  leaf_true : (o : Operand) (ts : List Tri) → Begins v (o ∷ []) ts → given o ts ≡ True → is_met o v ≡ true
+  leaf_true : (o : Operand) (ts : List Tri) → BeginsSound v (o ∷ []) ts → given o ts ≡ True → is_met o v ≡ true
   leaf_true o [] s e = absurd s
   leaf_true o (t ∷ ts) s e = let g = given_true o t ts (asks_any o.weights) refl e in met o v g.1 (says_true o t s.0 g.0)
 
@@ -153,7 +162,7 @@ module _ (v : Vector) where
   or_both a b e f = rw (e, f) refl
 
   -- within a phrase False says that it holds nowhere
-  in_false : (t : Tree) (ts : List Tri) (i : ℤ) → Begins v (operands_in t) ts → judged_in t ts ≡ False → at v t i ≡ false
+  in_false : (t : Tree) (ts : List Tri) (i : ℤ) → BeginsSound v (operands_in t) ts → judged_in t ts ≡ False → at v t i ≡ false
   in_false (leaf o) ts i s e = ap (λ l. is_place l i) (no_places o v (leaf_false o ts s (maybe_false (given o ts) e))) ∙ nowhere i
   in_false (negated x) ts i s e = absurd (let z : ⊥ = cc in z)
   in_false (joined or_joint x y) ts i s e =
@@ -188,7 +197,7 @@ module _ (v : Vector) where
   not_true : (b : Bool) → b ≡ false → ¬ IsTrue b
   not_true b e h = cc
 
-  says : (t : Tree) (ts : List Tri) → Begins v (operands_in t) ts → Says t (judged_of t ts)
+  says : (t : Tree) (ts : List Tri) → BeginsSound v (operands_in t) ts → Says t (judged_of t ts)
   says (leaf o) ts s = record {
     yes = leaf_true o ts s;
     never = λ e. not_true (is_met o v) (not_met o v (leaf_false o ts s e));

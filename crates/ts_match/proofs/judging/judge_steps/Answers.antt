@@ -5,15 +5,15 @@ use Rattle.ts_query.specs.declared.query.Node.TheVariants.{Leaf}
 use Rattle.ts_query.specs.declared.query.Operand.{Operand}
 use Rattle.ts_query.specs.Queries.{operands_of}
 use Rattle.ts_match.specs.declared.work.Place.TheVariants.{Outside}
-use Rattle.ts_match.specs.Stacks.{top_or}
-use Rattle.ts_match.proofs.Outer.{ready_steps}
-use Rattle.ts_match.proofs.Answers.{weigh_all, weigh_query}
+use Rattle.ts_match.specs.Inner.Stacks.{top_or}
+use Rattle.ts_match.proofs.PlanSteps.{ready_steps}
+use Rattle.ts_match.proofs.Weighed.{weigh_all, weigh_query}
 use Rattle.ts_match.proofs.judging.judge_steps.Goals as goal
 
 pub given-value-requires-clause-operand : goal.given-value-requires-clause-operand
 given-value-requires-clause-operand c =
     let a = ready_steps c.args.query.now c.args.steps.now c.operands-operands.result.now c.requires.plan c.operands-operands.ensures.value c.operands-operands.ensures.sound in
-    (a c.loop-step.step-index (record { node = Leaf 0; place = Outside }) c.loop-step-test.true).operand
+    (a c.loop-step.step-index (record { node = Leaf 0; place = Outside 0 0 }) c.loop-step-test.true).operand
 
 pub returns-clause-answer : goal.returns-clause-answer
 returns-clause-answer c =

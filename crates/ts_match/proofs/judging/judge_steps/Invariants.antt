@@ -1,5 +1,5 @@
 use Rattle.std.proofs.Common.{◌≡◌, ◌≤◌, [], drop, reverse, vec_len, vec_capacity}
-use Rattle.ts_match.proofs.Answers.{weigh_all}
+use Rattle.ts_match.proofs.Weighed.{weigh_all}
 use Rattle.ts_match.proofs.judging.judge_steps.Given as goal
 
 pub record Weighing (l : goal.Live-loop-step) : Type 0 where

@@ -1,93 +1,97 @@
-use Rattle.std.proofs.Common.{◌≡◌, ◌+◌, ◌-◌, ◌<◌, false, List, [], length, take, drop, get_or, reverse, refl, sym, ap, subst, ◌∙◌, arith, rules}
-use Rattle.std.specs.Prelude.{All, IsTrue, ◌↔◌}
+use Rattle.std.proofs.Common.{◌≡◌, ℕ, ◌<◌, false, eqb, inl, inr, None, Some, List, length, sym, ap, subst, ◌∙◌, refl, arith}
+use Rattle.std.proofs.lemmas.Bool.{cases_lt, eq-eqb, eqb-true}
 use Rattle.std.proofs.lemmas.List.Elements.{All-take, All-drop}
 use Rattle.ts_query.specs.declared.query.Node.TheVariants.{Leaf}
 use Rattle.ts_query.specs.declared.query.Operand.{Operand}
+use Rattle.ts_base.specs.Vectors.{Vector}
+use Rattle.ts_query.specs.Queries.{Query, leaf, negated, joined, operands_of}
 use Rattle.ts_match.specs.declared.work.Place.TheVariants.{Outside}
 use Rattle.ts_match.specs.declared.work.Step.{Step}
-use Rattle.ts_match.specs.Meaning.{HoldsSomewhere}
-use Rattle.ts_match.specs.Found.{IsFound}
-use Rattle.ts_match.specs.Phrases.{IsPhraseOf, IsStep}
-use Rattle.ts_match.specs.Stacks.{top_or}
-use Rattle.ts_match.specs.Outer.{settled}
-use Rattle.ts_match.proofs.Hits.{zero_free}
-use Rattle.ts_match.proofs.Outer.{IsPart, cut, settle_all, parts_of, cut_query, parts_are, cut_skip, cut_stop, behind, settled_same, same_truth, settled_all, query_is, ready_steps}
+use Rattle.ts_match.specs.Meaning.{Holds}
+use Rattle.ts_match.specs.Plan.{plan_of}
+use Rattle.ts_match.specs.Inner.Phrases.{IsStep}
+use Rattle.ts_match.proofs.PlanSteps.{ready_steps}
+use Rattle.ts_match.proofs.Plans.{count_plan, length-plan_of}
+use Rattle.ts_match.proofs.Units.{Way, way_of, at_end, unit_within, unit_kind, unit_next}
 use Rattle.ts_match.proofs.matching.evaluate.Goals as goal
 
 abbrev pub first : Step
-first = record { node = Leaf 0; place = Outside }
+first = record { node = Leaf 0; place = Outside 0 0 }
 
-pub loop-i-init : goal.loop-i-init
-loop-i-init c = record {
-  from_le = omega arith;
-  rest = parts_of c.args.vector.now c.args.query.now;
-  cut_is = ap (cut []) c.requires.plan ∙ cut_query c.args.vector.now c.args.query.now;
-  ok =
-      subst (λ (os : List Operand). All (IsPart c.args.vector.now os) (parts_of c.args.vector.now c.args.query.now)) (sym c.operands-operands.ensures.value)
-      (parts_are c.args.vector.now c.args.query.now (zero_free c.args.vector.now c.is_stripped-stripped.ensures.normal));
-  run = rw c.clear.ensures.items refl;
-  outer_len = search rules;
-  outer_room = search rules;
-  inner_room = refl;
-}
+some_steps : (n : ℕ) → eqb n 0 ≡ false → 0 < n
+some_steps n e = elim (cases_lt 0 n) [
+  | inl h ↦ h
+  | inr h ↦ let t = eq-eqb n 0 (omega arith) in absurd (let x : ⊥ = cc in x)
+]
 
-pub loop-i-preserved-in_default : goal.loop-i-preserved-in_default
-loop-i-preserved-in_default c = record {
-  from_le = omega (arith, c.loop-i.invariant.from_le);
-  rest = c.loop-i.invariant.rest;
-  cut_is = cut_skip c.args.steps.now c.loop-i.from c.loop-i.i _ _ _ c.loop-i.invariant.from_le c.loop-i-test.true refl c.in_default.not-Outside c.loop-i.invariant.cut_is;
-  ok = c.loop-i.invariant.ok;
-  run = c.loop-i.invariant.run;
-  outer_len = omega (arith, c.loop-i.invariant.outer_len);
-  outer_room = c.loop-i.invariant.outer_room;
-  inner_room = c.loop-i.invariant.inner_room;
-}
+no_steps : (v : Vector) (q : Query) → length (plan_of q) ≡ 0 → Holds q v → ⊥
+no_steps v None e h = h
+no_steps v (Some (leaf o)) e h = absurd (omega arith)
+no_steps v (Some (negated x)) e h = absurd (let n = length-plan_of (Some (negated x)) in omega arith)
+no_steps v (Some (joined j x y)) e h = absurd (let n = length-plan_of (Some (joined j x y)) in omega arith)
 
-pub value_of-value-requires-clause-ready : goal.value_of-value-requires-clause-ready
-value_of-value-requires-clause-ready c =
-    let e = c.operands-operands.ensures.value in
-    let a = ready_steps c.args.query.now c.args.steps.now c.operands-operands.result.now c.requires.plan e c.operands-operands.ensures.sound in record {
-      normal = c.is_stripped-stripped.ensures.normal;
-      same = c.requires.same ∙ sym (ap length e);
-      found = λ k o f l. subst (λ (x : List Operand). IsFound c.args.vector.now (get_or x k o) (get_or c.args.found.now k f)) (sym e) (c.requires.found k o f (subst (λ (x : List Operand). k < length x) e l));
-      steps = All-take (IsStep (length c.operands-operands.result.now)) _ _ (All-drop (IsStep (length c.operands-operands.result.now)) c.loop-i.from c.args.steps.now a);
+pub loop-from-init : goal.loop-from-init
+loop-from-init c =
+    let v = c.args.vector.now in
+    let q = c.args.query.now in
+    let some : 0 < length (plan_of q) = (let e = ap length c.requires.plan in some_steps (length (plan_of q)) (ap (λ n. eqb n 0) (sym e) ∙ sym c.is_empty.ensures ∙ c.if-is_empty.false)) in
+    record {
+      way = subst (λ (os : List Operand). Way v os c.args.steps.now (Holds q v) 0) (sym c.operands-operands.ensures.value)
+          (subst (λ (ss : List Step). Way v (operands_of q) ss (Holds q v) 0) (sym c.requires.plan) (way_of v q some));
+      found = refl;
+      truths = refl;
     }
 
-pub value_of-value-requires-clause-operand : goal.value_of-value-requires-clause-operand
-value_of-value-requires-clause-operand c =
-    let a = ready_steps c.args.query.now c.args.steps.now c.operands-operands.result.now c.requires.plan c.operands-operands.ensures.value c.operands-operands.ensures.sound in
-    (a c.loop-i.i first c.loop-i-test.true).operand
+pub returns-then-is_empty-clause-meaning : goal.returns-then-is_empty-clause-meaning
+returns-then-is_empty-clause-meaning c =
+    let e : length c.args.steps.now ≡ 0 = eqb-true (length c.args.steps.now) 0 (sym c.is_empty.ensures ∙ c.if-is_empty.true) in
+    (λ h. absurd (let x : ⊥ = cc in x), λ h. absurd (no_steps c.args.vector.now c.args.query.now (sym (ap length c.requires.plan) ∙ e) h))
 
-pub loop-i-preserved : goal.loop-i-preserved
-loop-i-preserved c =
-    let v = c.args.vector.now in
-    let os = c.operands-operands.result.now in
-    let node = (get_or c.args.steps.now c.loop-i.i first).node in
-    let segment = take (c.loop-i.i + 1 - c.loop-i.from) (drop c.loop-i.from c.args.steps.now) in
-    let b = behind v os _ _ _ c.loop-i.invariant.rest
-    (cut_stop c.args.steps.now c.loop-i.from c.loop-i.i first _ c.loop-i.invariant.from_le c.loop-i-test.true c.in-Outside.is c.loop-i.invariant.cut_is) c.loop-i.invariant.ok in
-    let st = reverse c.loop-i.outer.items in
-    let same = settled_same node c.value_of-value.result b.part.value st
-    (λ k e. c.value_of-value.ensures.leaf k e ∙ sym (b.known.leaf k (b.is_node ∙ e)))
-    (λ n e.
-    let p = b.known.phrase n (b.is_node ∙ e) in
-    let seg : IsPhraseOf c.operands-operands.result.now (take (c.loop-i.i + 1 - c.loop-i.from) (drop c.loop-i.from c.args.steps.now)) p.0 = subst (λ (x : List Step). IsPhraseOf os x p.0) b.is_segment p.1 in
-    let f = subst (λ s. IsTrue c.value_of-value.result ↔ ((s ≡ false) × HoldsSomewhere c.args.vector.now p.0)) c.is_stripped-stripped.ensures.stripped (c.value_of-value.ensures.phrase n p.0 e seg) in
-    same_truth c.value_of-value.result b.part.value _ f p.2) in record {
-      from_le = omega arith;
-      rest = b.more;
-      cut_is = b.cut_is;
-      ok = b.ok;
-      run =
-          ap (settle_all b.more) (c.settle.ensures.stack ∙ same ∙ ap (λ n. settled n b.part.value st) (sym b.is_node))
-          ∙ ap (λ x. settle_all x st) (sym b.split) ∙ c.loop-i.invariant.run;
-      outer_len = omega (arith, c.settle.ensures.len, c.loop-i.invariant.outer_len);
-      outer_room = c.settle.ensures.capacity ∙ c.loop-i.invariant.outer_room;
-      inner_room = c.value_of-value.ensures.capacity ∙ c.loop-i.invariant.inner_room;
+pub bounds-steps-end : goal.bounds-steps-end
+bounds-steps-end c = unit_within c.args.vector.now c.operands-operands.result.now c.args.steps.now (Holds c.args.query.now c.args.vector.now) c.loop-from.from c.end_of_unit-end.result c.loop-from.invariant.way c.loop-from-test.true c.end_of_unit-end.ensures.from c.end_of_unit-end.ensures.within c.end_of_unit-end.ensures.inner c.end_of_unit-end.ensures.last
+
+pub slice_bounds-unit-end : goal.slice_bounds-unit-end
+slice_bounds-unit-end c = let w = unit_within c.args.vector.now c.operands-operands.result.now c.args.steps.now (Holds c.args.query.now c.args.vector.now) c.loop-from.from c.end_of_unit-end.result c.loop-from.invariant.way c.loop-from-test.true c.end_of_unit-end.ensures.from c.end_of_unit-end.ensures.within c.end_of_unit-end.ensures.inner c.end_of_unit-end.ensures.last in omega arith
+
+pub unit_value-value-requires-clause-kind : goal.unit_value-value-requires-clause-kind
+unit_value-value-requires-clause-kind c = unit_kind c.args.vector.now c.operands-operands.result.now c.args.steps.now (Holds c.args.query.now c.args.vector.now) c.loop-from.from c.end_of_unit-end.result c.loop-from.invariant.way c.loop-from-test.true c.end_of_unit-end.ensures.from c.end_of_unit-end.ensures.within c.end_of_unit-end.ensures.inner c.end_of_unit-end.ensures.last first
+
+pub unit_value-value-requires-clause-operand : goal.unit_value-value-requires-clause-operand
+unit_value-value-requires-clause-operand c =
+    let a = ready_steps c.args.query.now c.args.steps.now c.operands-operands.result.now c.requires.plan c.operands-operands.ensures.value c.operands-operands.ensures.sound in
+    let w = unit_within c.args.vector.now c.operands-operands.result.now c.args.steps.now (Holds c.args.query.now c.args.vector.now) c.loop-from.from c.end_of_unit-end.result c.loop-from.invariant.way c.loop-from-test.true c.end_of_unit-end.ensures.from c.end_of_unit-end.ensures.within c.end_of_unit-end.ensures.inner c.end_of_unit-end.ensures.last in
+    (a c.end_of_unit-end.result first w).operand
+
+pub unit_value-value-requires-clause-found : goal.unit_value-value-requires-clause-found
+unit_value-value-requires-clause-found c =
+    let a = ap length c.operands-operands.ensures.value in
+    let b = count_plan c.args.query.now in
+    let d = ap length c.requires.plan in
+    let e = c.loop-from.invariant.found in
+    omega (arith, c.requires.found)
+
+pub unit_value-value-requires-clause-steps : goal.unit_value-value-requires-clause-steps
+unit_value-value-requires-clause-steps c =
+    let a = ready_steps c.args.query.now c.args.steps.now c.operands-operands.result.now c.requires.plan c.operands-operands.ensures.value c.operands-operands.ensures.sound in
+    All-take (IsStep (length c.operands-operands.result.now)) _ _ (All-drop (IsStep (length c.operands-operands.result.now)) c.loop-from.from c.args.steps.now a)
+
+pub loop-from-smaller : goal.loop-from-smaller
+loop-from-smaller c =
+    let n = unit_next c.args.vector.now c.operands-operands.result.now c.args.steps.now (Holds c.args.query.now c.args.vector.now) c.loop-from.from c.end_of_unit-end.result c.loop-from.invariant.way c.loop-from-test.true c.end_of_unit-end.ensures.from c.end_of_unit-end.ensures.within c.end_of_unit-end.ensures.inner c.end_of_unit-end.ensures.last first c.unit_value-value.result c.unit_value-value.ensures.leaf c.unit_value-value.ensures.phrase in
+    let a = n.1 in
+    let e = c.next_step-from.ensures in
+    let l = c.loop-from-test.true in
+    omega arith
+
+pub loop-from-preserved : goal.loop-from-preserved
+loop-from-preserved c =
+    let n = unit_next c.args.vector.now c.operands-operands.result.now c.args.steps.now (Holds c.args.query.now c.args.vector.now) c.loop-from.from c.end_of_unit-end.result c.loop-from.invariant.way c.loop-from-test.true c.end_of_unit-end.ensures.from c.end_of_unit-end.ensures.within c.end_of_unit-end.ensures.inner c.end_of_unit-end.ensures.last first c.unit_value-value.result c.unit_value-value.ensures.leaf c.unit_value-value.ensures.phrase in record {
+      way = subst (λ i. Way c.args.vector.now c.operands-operands.result.now c.args.steps.now (Holds c.args.query.now c.args.vector.now) i) (sym c.next_step-from.ensures) n.0;
+      found = c.unit_value-value.ensures.found ∙ c.loop-from.invariant.found;
+      truths = c.unit_value-value.ensures.truths ∙ c.loop-from.invariant.truths;
     }
 
 pub returns-clause-meaning : goal.returns-clause-meaning
 returns-clause-meaning c =
-    let e = c.take_top.ensures.top ∙ ap (top_or false) (settled_all c.args.vector.now c.args.query.now c.args.steps.now _ c.loop-i.i c.loop-i.invariant.rest (reverse c.loop-i.outer.items) c.loop-i-test.false c.loop-i.invariant.cut_is c.loop-i.invariant.run) in
-    let q = query_is c.args.vector.now c.args.query.now (zero_free c.args.vector.now c.is_stripped-stripped.ensures.normal) in
-    (λ h. q.0 (sym e ∙ h), λ h. e ∙ q.1 h)
+    let a = at_end c.args.vector.now c.operands-operands.result.now c.args.steps.now (Holds c.args.query.now c.args.vector.now) c.loop-from.from c.loop-from.invariant.way c.loop-from-test.false in
+    (λ h. a.0 (eqb-true c.loop-from.from (length c.args.steps.now) h), λ h. eq-eqb c.loop-from.from (length c.args.steps.now) (a.1 h))

@@ -1,7 +1,7 @@
 use Rattle.std.proofs.Common.{◌≤◌, false, length, reverse, sym, ap, ◌∙◌, arith}
 use Rattle.std.proofs.Math.ListN.{drop_of_length-le}
-use Rattle.ts_match.specs.Stacks.{top_or}
-use Rattle.ts_match.specs.Phrases.{leaf_value}
+use Rattle.ts_match.specs.Inner.Stacks.{top_or}
+use Rattle.ts_match.specs.Inner.Phrases.{leaf_value}
 use Rattle.ts_match.proofs.Tables.{run, phrase_at}
 use Rattle.ts_match.proofs.phrase.holds_at.Goals as goal
 

@@ -1,5 +1,5 @@
 use Rattle.std.proofs.Common.{◌≡◌, ◌≤◌, [], drop, reverse, vec_len, vec_capacity}
-use Rattle.ts_match.specs.Phrases.{leaf_value}
+use Rattle.ts_match.specs.Inner.Phrases.{leaf_value}
 use Rattle.ts_match.proofs.Tables.{run}
 use Rattle.ts_match.proofs.phrase.holds_at.Given as goal
 

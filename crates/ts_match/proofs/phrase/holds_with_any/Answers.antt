@@ -1,6 +1,6 @@
 use Rattle.std.proofs.Common.{◌+◌, ◌-◌, sym, ◌∙◌}
 use Rattle.ts_match.specs.declared.found.TheConstants.{FARTHEST}
-use Rattle.ts_match.specs.Phrases.{place_from}
+use Rattle.ts_match.specs.Inner.Phrases.{place_from}
 use Rattle.ts_match.proofs.phrase.holds_with_any.Goals as goal
 
 pub returns-then-holds_at-clause-sound : goal.returns-then-holds_at-clause-sound

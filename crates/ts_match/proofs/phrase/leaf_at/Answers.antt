@@ -1,7 +1,7 @@
-use Rattle.std.proofs.Common.{◌<◌, length}
+use Rattle.ts_match.proofs.Prepared.{leaf_found}
 use Rattle.ts_match.proofs.phrase.leaf_at.Goals as goal
 
 pub stands-requires-clause-found : goal.stands-requires-clause-found
 stands-requires-clause-found c =
-    let l : c.in-Leaf.k < length c.args.phrase.now.operands.now = rw c.in-Leaf.is at c.requires.step.operand in
-    c.requires.ready.found c.in-Leaf.k _ _ l
+    let p = c.args.phrase.now in
+    leaf_found p.vector.now p.operands.now p.found.now c.args.step.node c.in-Leaf.k c.in-Leaf.is c.requires.found _ _

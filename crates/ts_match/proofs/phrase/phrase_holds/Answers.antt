@@ -1,14 +1,14 @@
 use Rattle.std.proofs.Common.{◌≡◌, get_or, inl, inr, refl, sym, subst, ◌∙◌, arith}
 use Rattle.std.proofs.lemmas.Bool.{cases_lt, both_ways}
 use Rattle.std.proofs.lemmas.List.{get_or_default}
-use Rattle.ts_match.specs.Phrases.{HoldsWith, place_from}
+use Rattle.ts_match.specs.Inner.Phrases.{HoldsWith, place_from}
 use Rattle.ts_match.proofs.Hits.{with_needed, with_some}
 use Rattle.ts_match.proofs.phrase.phrase_holds.Goals as goal
 
 pub returns-in-Some-clause-meaning : goal.returns-in-Some-clause-meaning
 returns-in-Some-clause-meaning c t p =
     let q = c.args.phrase.now in
-    (λ h. c.holds_with.ensures.sound t p h, λ h. c.holds_with.ensures.whole t p (with_needed q.vector.now q.operands.now q.found.now q.steps.now c.requires.ready t c.in-Some.step p c.in-Some.ensures h))
+    (λ h. c.holds_with.ensures.sound t p h, λ h. c.holds_with.ensures.whole t p (with_needed q.vector.now q.operands.now q.steps.now c.requires.ready.normal c.requires.ready.steps t c.in-Some.step p c.in-Some.ensures h))
 
 pub returns-then-holds_at-clause-meaning : goal.returns-then-holds_at-clause-meaning
 returns-then-holds_at-clause-meaning c t p = (λ h. (place_from t 0, sym (c.holds_at.ensures.meaning t p) ∙ c.if-holds_at.true), λ h. refl)
@@ -31,7 +31,7 @@ pub returns-clause-meaning : goal.returns-clause-meaning
 returns-clause-meaning c t p =
     let q = c.args.phrase.now in (
       λ h. absurd (let x : ⊥ = cc in x),
-      λ h. elim (with_some q.vector.now q.operands.now q.found.now q.steps.now c.requires.ready t p h) [
+      λ h. elim (with_some q.vector.now q.operands.now q.steps.now c.requires.ready.normal c.requires.ready.steps t p h) [
         | inl w ↦ absurd (c.loop-step.invariant.none t w.there.0 w.step p (omega (arith, w.there.1)) (subst (λ s. HoldsWith q.vector.now q.operands.now t s) (sym w.there.2) w.holds))
         | inr a ↦ absurd (both_ways _ c.if-holds_at.false (c.holds_at.ensures.meaning t p ∙ a))
       ],

@@ -1,7 +1,7 @@
 use Rattle.std.proofs.Common.{◌≡◌, ℕ, ◌<◌, get_or, vec_capacity}
 use Rattle.ts_query.specs.Queries.{Tree}
 use Rattle.ts_match.specs.declared.work.Step.{Step}
-use Rattle.ts_match.specs.Phrases.{IsPhraseOf, HoldsWith}
+use Rattle.ts_match.specs.Inner.Phrases.{IsPhraseOf, HoldsWith}
 use Rattle.ts_match.proofs.phrase.phrase_holds.Given as goal
 
 pub record NoneYet (l : goal.Live-loop-step) : Type 0 where

@@ -1,6 +1,6 @@
 use Rattle.std.proofs.Common.{◌≡◌}
 use Rattle.std.specs.Prelude.{IfSome}
-use Rattle.ts_match.specs.Phrases.{IsNeeded}
+use Rattle.ts_match.specs.Inner.Phrases.{IsNeeded}
 use Rattle.ts_match.proofs.phrase.rarest.Given as goal
 
 pub record Best (l : goal.Live-loop-step) : Type 0 where

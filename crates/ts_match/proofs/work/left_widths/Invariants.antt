@@ -1,6 +1,6 @@
 use Rattle.std.proofs.Common.{◌≡◌, ◌*◌, ◌≤◌, ◌++◌, length, drop, reverse, vec_len, vec_capacity}
-use Rattle.ts_match.specs.Stacks.{total}
-use Rattle.ts_match.specs.Plan.{left_widths_of}
+use Rattle.ts_match.specs.Inner.Stacks.{total}
+use Rattle.ts_match.specs.Inner.Plan.{left_widths_of}
 use Rattle.ts_match.proofs.Plans.{measure_all}
 use Rattle.ts_match.proofs.work.left_widths.Given as goal
 

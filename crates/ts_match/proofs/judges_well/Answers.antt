@@ -1,5 +1,0 @@
-use Rattle.ts_match.specs.Laws.JudgeLaw.{judges}
-use Rattle.ts_match.proofs.judges_well.Goals as goal
-
-pub returns : goal.returns
-returns c = judges

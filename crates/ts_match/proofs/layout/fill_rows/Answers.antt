@@ -1,0 +1,35 @@
+use Rattle.std.proofs.Common.{◌≡◌, ℕ, ◌*◌, ◌≤◌, ◌<◌, [], ◌∷◌, length, reverse, refl, sym, ap, subst, ◌∙◌, arith}
+use Rattle.std.specs.Prelude.{pos, All}
+use Rattle.std.proofs.Math.ListN.{drop_of_length-le}
+use Rattle.ts_match.specs.declared.rows.TheConstants.{WORD}
+use Rattle.ts_match.specs.Meaning.{at, width}
+use Rattle.ts_match.specs.Inner.Rows.{truths_at, beginning}
+use Rattle.ts_match.specs.Inner.Phrases.{leaf_value, place_from, IsLaidOut}
+use Rattle.ts_match.proofs.Tables.{run, run_more, phrase_at}
+use Rattle.ts_match.proofs.Laid.{one_row, row_of, row_place}
+use Rattle.ts_match.proofs.layout.fill_rows.Goals as goal
+
+pub loop-step-preserved : goal.loop-step-preserved
+loop-step-preserved c =
+    let p = c.args.phrase.now in record {
+      run = λ j.
+          run_more (leaf_value p.vector.now p.operands.now (beginning c.args.reach j)) p.steps.now c.loop-step.step-index _ _ _ _ c.loop-step-test.true (c.loop-step.invariant.run j)
+          (c.work_on.ensures.truths c.if-not-work_on.false j);
+      wide = c.work_on.ensures.wide;
+      same = refl;
+    }
+
+pub returns-clause-row : goal.returns-clause-row
+returns-clause-row c = λ h t q.
+    let p = c.args.phrase.now in
+    let w : c.args.reach ≡ width t = c.requires.width t q in
+    let done = drop_of_length-le p.steps.now (let l : length c.args.phrase.now.steps.now ≤ c.loop-step.step-index = omega arith in l) in
+    let all = λ (j : ℕ).
+    let g = leaf_value p.vector.now p.operands.now (beginning c.args.reach j) in
+    ap (λ l. run g l (truths_at c.args.count j (reverse c.loop-step.rows.stack.items))) (sym done) ∙ c.loop-step.invariant.run j
+    ∙ phrase_at p.vector.now p.operands.now (beginning c.args.reach j) p.steps.now t q
+    ∙ ap (λ i. at p.vector.now t i ∷ []) (ap (λ r. place_from t (beginning r j)) w ∙ row_place (width t) j (let f = c.requires.far in omega arith)) in
+    let o = one_row c.args.count (λ j. at p.vector.now t (pos j)) c.loop-step.rows.stack.items all in
+    let placed = subst (λ r. All (IsLaidOut p.vector.now p.operands.now p.found.now r c.args.count) p.steps.now) w c.requires.placed in
+    let enough : width t < WORD * c.args.count = (let e = c.requires.enough in omega arith) in
+    (o.row, o.alone, row_of p.vector.now p.operands.now p.found.now p.steps.now t c.args.count q placed enough o.row o.value)

@@ -1,0 +1,4 @@
+use Rattle.ts_match.proofs.matching.unit_value.Goals as goal
+
+pub returns-in-Phrase-clause-phrase : goal.returns-in-Phrase-clause-phrase
+returns-in-Phrase-clause-phrase c = λ n t e p. c.phrase_value.ensures.meaning t p

@@ -1,0 +1,14 @@
+use Rattle.std.proofs.Common.{arith}
+use Rattle.ts_match.proofs.Words.{joined_row, or_by, or_not}
+use Rattle.ts_match.proofs.rows.join.Goals as goal
+use Rattle.ts_match.proofs.rows.join.Goals.{then-row, else-row}
+
+pub returns-clause-value : goal.returns-clause-value
+returns-clause-value c =
+    let a = c.args.row.now in
+    let b = c.args.other.now in
+    joined_row c.args.count a.words.items b.words.items c.loop-k.row.words.items a.rest b.rest c.if-row.row (λ k h. c.loop-k.invariant.below k (omega arith))
+    (elim c.if-row.branch [
+      | then-row w ↦ or_by _ _ _ _ c.loop-k.invariant.rest w.if-row.true w.row-is
+      | else-row w ↦ or_not _ _ _ _ c.loop-k.invariant.rest w.if-row.false w.row-is
+    ])

@@ -1,0 +1,7 @@
+-- Definitions that only private functions and proofs reach.
+pub mod Stacks
+pub mod Plan
+pub mod Found
+pub mod Rows
+pub mod Phrases
+pub mod Weighing
