@@ -1,19 +1,20 @@
 //! The program: a script on standard input, its replies on standard output.
 #![tactic(auto)]
 
-ghost use Rattle.std.specs.Prelude.{◌≡◌, ◌≢◌, ◌⊎◌, ◌↔◌, ℕ, ◌<◌, ◌≤◌, List, []};
+ghost use Rattle.std.specs.Prelude.{◌≡◌, ◌≢◌, ◌↔◌, ◌≤◌, drop, IfOk, IfErr};
 ghost use Rattle.std.specs.IoError.{error_kind};
-ghost use Rattle.shell_run.specs.Reading.{HasRead};
+ghost use Rattle.std.specs.Process.{exit_status};
+ghost use Rattle.shell_run.specs.RunMeets.{RunMeets};
 ghost use Rattle.shell_run.specs.Words.{IsForm};
-ghost use Rattle.shell_run.specs.Outcomes.{NotRun, Answered};
-ghost use Rattle.disk_trait.specs.Laws.{faults_of, write_faults_of};
-ghost use Rattle.shell_run.specs.Run.{Run, Row};
-ghost use Rattle.shell_run.specs.Opened.{counts_of};
-ghost use Rattle.shell_run.specs.History.{History, IsNumbered};
+ghost use Rattle.shell_run.specs.declared.words.Settings.{Settings};
+ghost use Rattle.disk_trait.specs.declared.disk.MemoryDisk.{MemoryDisk};
+ghost use Rattle.ginsh.specs.Started.{IsFrom, IsInto, IsNewDisk};
+ghost use Rattle.ginsh.specs.declared.streams.FromReader.{FromReader};
+ghost use Rattle.ginsh.specs.declared.streams.IntoWriter.{IntoWriter};
 
 mod streams;
 
-use disk_trait::MemoryDisk;
+use disk_trait::{Disk, MemoryDisk, Sink, Source};
 use shell_run::{NoGate, Outcome, run_shell};
 use std::alloc::Global;
 use std::io::{self, ErrorKind, Read, Write};
@@ -23,13 +24,23 @@ use std::sync::Wait;
 use std::thread::Threads;
 use streams::{FromReader, IntoWriter};
 
-// The words behind the program's name.
-fn words_of(rt: &(impl Env + AllocGlobal)) -> io::Result<Vec<String>> {
-    let words = std::env::args(rt)?;
-    Ok(words.skip(1).collect(rt.alloc())?)
+/// The words behind the program's name, which is the first.
+fn behind_name(words: Vec<String>) -> Vec<String>
+    ensures { result.items ≡ drop 1 words.items }
+{
+    let mut words = words;
+    if !words.is_empty() {
+        words.remove(0);
+    }
+    words
 }
 
-// Words that are no text have no form. Else memory was wanting.
+/// The words of the call.
+fn words_of(rt: &(impl Env + AllocGlobal)) -> io::Result<Vec<String>> {
+    Ok(behind_name(std::env::args(rt)?.collect(rt.alloc())?))
+}
+
+/// Words that are no text have no form. Else memory ran out.
 fn unread_status(error: &io::Error) -> u8
     ensures form { (result ≡ 2) ↔ (error_kind error.now ≡ ErrorKind.InvalidData) }
     ensures memory { (result ≡ 5) ↔ (error_kind error.now ≢ ErrorKind.InvalidData) }
@@ -40,7 +51,7 @@ fn unread_status(error: &io::Error) -> u8
     }
 }
 
-// The whole program, over an empty store.
+/// The whole program, over an empty store.
 fn answer<R: Threads + Wait + Sync, I: Read, O: Write>(
     rt: &R,
     alloc: Global,
@@ -48,34 +59,35 @@ fn answer<R: Threads + Wait + Sync, I: Read, O: Write>(
     reader: I,
     writer: O,
 ) -> Outcome<FromReader<I>, IntoWriter<O>, MemoryDisk>
-    ensures status_2 { (result.status ≡ 2) ↔ (IsForm words.now → ⊥) }
-    ensures status_6 { result.status ≡ 6 → 0 < result.script.faults }
-    ensures status_7 { result.status ≡ 7 → 0 < result.out.faults }
-    ensures status_3 { result.status ≡ 3 → 0 < faults_of result.store }
-    ensures range { (result.status ≤ 8) × (result.status ≢ 4) }
-    ensures headline { NotRun result.status (O.contents writer) (O.contents result.out.writer)
-        ⊎ ((text : List ℕ) × (rows : List Row) × (commits : History)
-        × HasRead (I.remaining reader) (I.remaining result.script.reader) text
-        × Answered text result.status (O.contents writer) (O.contents result.out.writer) rows
-        × IsNumbered commits
-        × Run (counts_of 0 (faults_of result.store) 0 (write_faults_of result.store)) [] commits rows) }
+    ensures { (script : FromReader I) × (out : IntoWriter O) × (disk : MemoryDisk)
+        × IsFrom script reader × IsInto out writer × IsNewDisk disk
+        × RunMeets ⟦<FromReader<I> as Source>⟧ ⟦<IntoWriter<O> as Sink>⟧ ⟦<MemoryDisk as Disk>⟧
+        words.now script out disk result }
 {
-    run_shell(
-        rt,
-        alloc,
-        words,
-        FromReader::new(reader),
-        IntoWriter::new(writer),
-        MemoryDisk::new(alloc, Vec::new(alloc)),
-        &NoGate,
-    )
+    let script = FromReader::new(reader);
+    let out = IntoWriter::new(writer);
+    let disk = MemoryDisk::new(alloc, Vec::new(alloc));
+    run_shell(rt, alloc, words, script, out, disk, &NoGate)
+}
+
+/// The program behind its words: it ends with the status of the run, if there is one.
+fn end_of<R: Threads + Wait + Sync, I: Read + Drop, O: Write + Drop>(
+    rt: &R,
+    alloc: Global,
+    words: io::Result<Vec<String>>,
+    reader: I,
+    writer: O,
+) -> ExitCode
+    ensures form { IfOk words (λ w. (exit_status result ≡ 2) ↔ ((settings : Settings) → IsForm w.items settings → ⊥)) }
+    ensures no_text { IfErr words (λ e. (exit_status result ≡ 2) ↔ (error_kind e ≡ ErrorKind.InvalidData)) }
+    ensures range { (exit_status result ≤ 8) × (exit_status result ≢ 4) }
+{
+    match words {
+        Ok(words) => ExitCode::from(answer(rt, alloc, &words, reader, writer).status),
+        Err(error) => ExitCode::from(unread_status(&error)),
+    }
 }
 
 fn main(rt: HostRuntime) -> ExitCode {
-    let words = match words_of(&rt) {
-        Ok(words) => words,
-        Err(error) => return ExitCode::from(unread_status(&error)),
-    };
-    let outcome = answer(&rt, rt.alloc(), &words, rt.stdin(), rt.stdout());
-    ExitCode::from(outcome.status)
+    end_of(&rt, rt.alloc(), words_of(&rt), rt.stdin(), rt.stdout())
 }

@@ -12,11 +12,14 @@ use std::io::{Read, Write};
 /// At the last number of its count it fails, and calls the reader no more.
 #[derive(Drop)]
 pub struct FromReader<R> {
+    /// Where the bytes come from.
     pub reader: R,
+    /// How often it has failed.
     pub faults: u64,
 }
 
 impl<R: Read> FromReader<R> {
+    /// A source that has not failed.
     pub fn new(reader: R) -> FromReader<R>
         ensures { (result.reader ≡ reader) × (result.faults ≡ 0) }
     {
@@ -53,11 +56,14 @@ impl<R: Read> Source for FromReader<R> {
 /// that has bytes. At the last number of its count it fails, and calls the writer no more.
 #[derive(Drop)]
 pub struct IntoWriter<W> {
+    /// Where the bytes go.
     pub writer: W,
+    /// How often it has failed.
     pub faults: u64,
 }
 
 impl<W: Write> IntoWriter<W> {
+    /// A sink that has not failed.
     pub fn new(writer: W) -> IntoWriter<W>
         ensures { (result.writer ≡ writer) × (result.faults ≡ 0) }
     {

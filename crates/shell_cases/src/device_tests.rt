@@ -1,6 +1,6 @@
-// What a run leaves on a device, also where a crash or a failing call cuts it short.
+// What a run leaves on a device, where a crash or a failing call cuts it short.
 ghost use Rattle.std.specs.Prelude.{◌≡◌, ◌≤◌, false, IfOk};
-ghost use Rattle.disk_trait.specs.Laws.{clock_of, seen_of};
+ghost use Rattle.disk_trait.specs.MemoryDisk.{clock_of, seen_of};
 ghost use Rattle.wal.specs.Batches.{IsUnborn};
 
 use disk_trait::{Disk, File, MemoryDisk, MemorySink, MemorySource};
@@ -16,13 +16,6 @@ const INSERT: &[u8] = b"@1 insert vector 'a:1'\n";
 // The most bytes of a log.
 const LIMIT: u64 = 1 << 40;
 
-// The store's gate, open, the name of the format, and the first batch's gate, closed.
-const NEW_LOG: &[u8] = b"\x01GINSH STORE 0001\0";
-
-// One insert behind the header: its gate, the entry's length, the entry, and the next gate, closed.
-const LOG_OF_ONE: &[u8] =
-    b"\x01GINSH STORE 0001\x01\x13\0\0\0\x01\0\0\0\0\0\0\0\x01\0\0\0\x01\0a\x01\0\x01\0\0";
-
 // What three inserts log, each in a batch of its own: the serial in eight bytes, then of the vector the count of its
 // lexemes in four, and of its one lexeme the length in two, its byte, the count of its positions in two and the position in two.
 const ENTRIES: [&[u8]; 3] = [
@@ -31,41 +24,7 @@ const ENTRIES: [&[u8]; 3] = [
     b"\x03\0\0\0\0\0\0\0\x01\0\0\0\x01\0a\x01\0\x01\0",
 ];
 
-// Two inserts, and more behind them.
-const FAILING: &[u8] = b"@1 insert vector 'a:1'
-@1 insert vector 'b:1'
-show vector 'a:2' || strip vector 'b:1'
-ask 'a & b'
-@1 insert vector 'a:0'
-@2 insert vector 'a' || vector 'b:'
-@1 search 'a &'
-@2 search 'a <16385> b'
-show vector ':'
-ask 'a b'
-@3 insert vector 'c:1'
-@1 search '!a'
-@1 search ''
-@1 find 'a'
-";
-
-// What they are answered where the second insert fails.
-const FAILING_REPLIES: &[u8] = b"@1 ok 2/0#1
-@1 error 15 device
-vector 'a':2 'b'
-query 'a' & 'b'
-@1 error 2 vector 3
-@2 error 2 vector 2
-@1 error 3 query 3
-@2 error 3 query 2
-error 2 vector 0
-error 3 query 2
-@3 error 14 down 1
-@1 error 14 down 1
-@1 error 14 down 1
-error 1 statement 14
-";
-
-type Run = Outcome<MemorySource, MemorySink, MemoryDisk>;
+pub type Run = Outcome<MemorySource, MemorySink, MemoryDisk>;
 
 fn run_on<R: Threads + Wait + Sync>(
     rt: &R,
@@ -94,17 +53,17 @@ fn run_inserts<R: Threads + Wait + Sync>(
 }
 
 // The calls of a run of so many inserts: the moment at which all of them are acknowledged.
-fn calls_of<R: Threads + Wait + Sync>(
+pub fn calls_of<R: Threads + Wait + Sync>(
     rt: &R,
     alloc: Global,
     count: usize,
 ) -> Result<u64, AllocError> {
     let run = run_inserts(rt, alloc, count, Vec::new(alloc))?;
-    Ok(run.store.calls())
+    Ok(run.device.calls())
 }
 
 // The bytes of the log.
-fn log_of(alloc: Global, disk: &mut MemoryDisk) -> Result<Vec<u8>, Fail>
+pub fn log_of(alloc: Global, disk: &mut MemoryDisk) -> Result<Vec<u8>, Fail>
     ensures bytes { IfOk result (λ v. v.items ≡ (seen_of disk.old).log) }
     ensures seen { seen_of disk.new ≡ seen_of disk.old }
 {
@@ -153,7 +112,7 @@ fn a_crash_leaves_what_was_acknowledged(rt: HostRuntime) -> Result<(), Fail> {
     for count in 1..=ENTRIES.len() {
         ends.push(calls_of(&rt, alloc, count)?)?;
     }
-    let disk = run_inserts(&rt, alloc, ENTRIES.len(), Vec::new(alloc))?.store;
+    let disk = run_inserts(&rt, alloc, ENTRIES.len(), Vec::new(alloc))?.device;
     let now = disk.calls();
     assert_eq!(rt; ends.last().copied(), Some(now));
     for moment in 0..=now {
@@ -168,17 +127,6 @@ fn a_crash_leaves_what_was_acknowledged(rt: HostRuntime) -> Result<(), Fail> {
 }
 
 #[test]
-fn an_empty_script_leaves_a_new_log(rt: HostRuntime) -> Result<(), Fail> {
-    let alloc = rt.alloc();
-    let mut run = run_inserts(&rt, alloc, 0, Vec::new(alloc))?;
-    assert_eq!(rt; run.status, 0);
-    assert_eq!(rt; run.out.bytes(), b"".as_slice());
-    assert_eq!(rt; NEW_LOG.len(), 18);
-    assert_eq!(rt; log_of(alloc, &mut run.store)?.as_slice(), NEW_LOG);
-    Ok(())
-}
-
-#[test]
 fn a_device_fails_at_each_call(rt: HostRuntime) -> Result<(), Fail> {
     let alloc = rt.alloc();
     let calls = calls_of(&rt, alloc, 3)?;
@@ -187,50 +135,5 @@ fn a_device_fails_at_each_call(rt: HostRuntime) -> Result<(), Fail> {
         let wanted = if k <= calls { 3 } else { 0 };
         assert_eq!(rt; run.status, wanted, "call {k} fails");
     }
-    Ok(())
-}
-
-// An insert writes the batch, syncs it, writes its gate and syncs that. Behind a failure of one of these calls, texts
-// are still read, and a statement whose text is good is refused since the store is down.
-#[test]
-fn a_call_of_an_insert_that_fails_brings_the_store_down(rt: HostRuntime) -> Result<(), Fail> {
-    let alloc = rt.alloc();
-    let before = calls_of(&rt, alloc, 1)?;
-    for call in 1..=4 {
-        let fails = vec![in alloc; before.saturating_add(call)]?;
-        let run = run_on(&rt, alloc, FAILING, MemoryDisk::new(alloc, fails))?;
-        let printed = run.out.bytes();
-        assert!(rt;
-            printed == FAILING_REPLIES,
-            "call {call}: {}",
-            printed.escape_ascii()
-        );
-        assert_eq!(rt; run.status, 3, "call {call}");
-    }
-    Ok(())
-}
-
-// A run that answers 4 prints nothing and leaves the log as it was.
-fn is_refused<R: Threads + Wait + Sync>(
-    rt: &R,
-    alloc: Global,
-    mut store: MemoryDisk,
-) -> Result<bool, Fail> {
-    let before = log_of(alloc, &mut store)?;
-    let mut run = run_on(rt, alloc, INSERT, store)?;
-    let after = log_of(alloc, &mut run.store)?;
-    Ok(run.status == 4 && run.out.bytes().is_empty() && after.as_slice() == before.as_slice())
-}
-
-#[test]
-fn a_log_that_is_there_is_refused(rt: HostRuntime) -> Result<(), Fail> {
-    let alloc = rt.alloc();
-    let mut zeros = MemoryDisk::new(alloc, Vec::new(alloc));
-    zeros.write_at(File::Log, 0, &[0; 19])?;
-    assert!(rt; is_refused(&rt, alloc, zeros)?);
-    let mut first = run_inserts(&rt, alloc, 1, Vec::new(alloc))?;
-    assert_eq!(rt; first.status, 0);
-    assert_eq!(rt; log_of(alloc, &mut first.store)?.as_slice(), LOG_OF_ONE);
-    assert!(rt; is_refused(&rt, alloc, first.store)?);
     Ok(())
 }

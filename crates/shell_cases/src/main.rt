@@ -8,6 +8,8 @@ mod device_tests;
 #[cfg(test)]
 mod large_tests;
 #[cfg(test)]
+mod row_tests;
+#[cfg(test)]
 mod tests;
 
 use anyhow::{Context, Result};

@@ -24,28 +24,6 @@ fn outcome_of<R: Threads + Wait + Sync, S: Source + Drop, G: Gate + Sync>(
     Ok(run_shell(rt, alloc, &words, script, out, store, gate))
 }
 
-#[test]
-fn a_read_that_fails_stops_the_run_before_its_statements(rt: HostRuntime) -> Result<(), Fail> {
-    let alloc = rt.alloc();
-    let bytes = STATEMENT.to_vec(alloc)?;
-    let pieces = STATEMENT.len() as u64;
-    let script = MemorySource::new(bytes, vec![in alloc; pieces]?, 1);
-    let outcome = outcome_of(&rt, alloc, script, Vec::new(alloc), &NoGate)?;
-    assert_eq!(rt; outcome.status, 6);
-    assert_eq!(rt; outcome.out.bytes().len(), 0);
-    Ok(())
-}
-
-#[test]
-fn a_write_that_fails_stops_the_run(rt: HostRuntime) -> Result<(), Fail> {
-    let alloc = rt.alloc();
-    let script = MemorySource::new(STATEMENT.to_vec(alloc)?, Vec::new(alloc), 4096);
-    let outcome = outcome_of(&rt, alloc, script, vec![in alloc; 1u64]?, &NoGate)?;
-    assert_eq!(rt; outcome.status, 7);
-    assert_eq!(rt; outcome.out.bytes().len(), 0);
-    Ok(())
-}
-
 // A statement, and zeros behind it.
 #[derive(Drop)]
 struct Zeros {

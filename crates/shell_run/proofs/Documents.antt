@@ -4,8 +4,9 @@ use Rattle.std.proofs.lemmas.List.{take_more, length-take-le}
 use Rattle.ts_base.specs.Vectors.{Vector}
 use Rattle.ts_query.specs.Queries.{Query}
 use Rattle.ts_match.specs.Meaning.{Holds}
-use Rattle.shell_run.specs.History.{Name, Document, IsFound, name_of}
-use Rattle.shell_run.specs.Stores.{numbered}
+use Rattle.shell_script.specs.Name.{Name}
+use Rattle.shell_run.specs.History.{Document, IsFound, name_of}
+use Rattle.shell_run.specs.Inner.Stores.{numbered}
 
 abbrev pub document : ℕ → Vector → Document
 document place v = record { name = name_of place; vector = v }

@@ -1,23 +1,17 @@
 -- From the rows of a run to its status.
-use Rattle.std.proofs.Common.{◌≡◌, ◌≢◌, ◌⊎◌, inl, inr, ℕ, Bool, true, false, List, arith, refl, sym, ◌∙◌}
-use Rattle.std.specs.Prelude.{Option}
+use Rattle.std.proofs.Common.{◌≡◌, ◌≢◌, ◌⊎◌, inl, inr, ℕ, Bool, true, false, List, arith, refl, sym, ◌∙◌, ap}
+use Rattle.std.specs.Prelude.{Option, Result, Err, IsErrOf}
 use Rattle.shell_run.specs.Run.{Row}
-use Rattle.shell_run.specs.Outcomes.{Ran, Answered, some_refused}
-use Rattle.shell_run.specs.Words.{ending_number, stop_number}
-use Rattle.shell_run.specs.declared.reading.Stop.{Stop}
-use Rattle.shell_run.specs.declared.reading.Stop.TheVariants.{Fault, TooLong, Memory}
+use Rattle.shell_run.specs.Outcomes.{Answered, some_refused}
+use Rattle.shell_run.specs.Inner.Serving.{Ran}
+use Rattle.shell_run.specs.Inner.Statuses.{ending_number, stop_number}
+use Rattle.shell_run.specs.declared.error.Stop.{Stop}
+use Rattle.shell_run.specs.declared.error.Stop.TheVariants.{SourceFault, TooLong, NotAStore, DiskFault, SinkFault, OutOfMemory}
 
 pub answered_stop : (text : List ℕ) (a c : Option (List ℕ)) (rows : List Row) (status : ℕ) → Ran text a c rows false → (status ≡ 5) ⊎ (status ≡ 7) → Answered text status a c rows
 answered_stop text a c rows status r s = record {
-  done = r.done;
-  left = r.left;
-  script = r.script;
-  behind = r.behind;
-  each = r.each;
-  sent = r.printed.sent;
-  unsent = r.printed.unsent;
-  printed = r.printed.all;
-  took = r.printed.took;
+  so_far = r.so_far;
+  statuses = elim s [ inl five ↦ inr (inr (inr (inl five))) | inr seven ↦ inr (inr (inr (inr seven))) ];
   whole = elim s [ inl five ↦ inl five | inr seven ↦ inr (inl seven) ];
   one = λ e. absurd (not_one s e);
   zero = λ e. absurd (not_zero s e);
@@ -43,22 +37,54 @@ zero_refused false false e = refl
 
 pub answered_end : (text : List ℕ) (a c : Option (List ℕ)) (rows : List Row) (status : ℕ) (failed refused : Bool) → Ran text a c rows true → refused ≡ some_refused rows → status ≡ ending_number failed refused → Answered text status a c rows
 answered_end text a c rows status failed refused r f s = record {
-  done = r.done;
-  left = r.left;
-  script = r.script;
-  behind = r.behind;
-  each = r.each;
-  sent = r.printed.sent;
-  unsent = r.printed.unsent;
-  printed = r.printed.all;
-  took = r.printed.took;
-  whole = inr (inr (r.whole refl, r.printed.waits refl));
+  so_far = r.so_far;
+  statuses = ending failed refused s;
+  whole = inr (inr (r.whole refl));
   one = λ e. sym f ∙ one_refused failed refused (sym s ∙ e);
   zero = λ e. sym f ∙ zero_refused failed refused (sym s ∙ e);
 }
+  where
+    ending : (failed refused : Bool) → status ≡ ending_number failed refused → (status ≡ 0) ⊎ (status ≡ 1) ⊎ (status ≡ 3) ⊎ (status ≡ 5) ⊎ (status ≡ 7)
+    ending true refused e = inr (inr (inl e))
+    ending false true e = inr (inl e)
+    ending false false e = inl e
 
 -- the status of a script that was not read to its end
-pub stopped_status : (stop : Stop) (status : ℕ) → status ≡ stop_number stop → (status ≢ 0) × (status ≢ 1) × (status ≢ 7)
-stopped_status Fault status e = (λ f. omega arith, λ f. omega arith, λ f. omega arith)
-stopped_status TooLong status e = (λ f. omega arith, λ f. omega arith, λ f. omega arith)
-stopped_status Memory status e = (λ f. omega arith, λ f. omega arith, λ f. omega arith)
+pub record Unread (stop : Stop) (status : ℕ) : Type 0 where
+  pub number : (status ≡ 6) ⊎ (status ≡ 8) ⊎ (status ≡ 5)
+  pub at_6 : status ≡ 6 → stop ≡ SourceFault
+  pub at_8 : status ≡ 8 → stop ≡ TooLong
+
+pub unread : (stop : Stop) (status : ℕ) → status ≡ stop_number stop → (stop ≡ SourceFault) ⊎ (stop ≡ TooLong) ⊎ (stop ≡ OutOfMemory) → Unread stop status
+unread stop status is (inl s) = record { number = inl (is ∙ ap stop_number s); at_6 = λ e. s; at_8 = λ e. absurd (let k : status ≡ 6 = is ∙ ap stop_number s in let x : ⊥ = omega arith in x) }
+unread stop status is (inr (inl s)) = record { number = inr (inl (is ∙ ap stop_number s)); at_6 = λ e. absurd (let k : status ≡ 8 = is ∙ ap stop_number s in let x : ⊥ = omega arith in x); at_8 = λ e. s }
+unread stop status is (inr (inr s)) = let k : status ≡ 5 = is ∙ ap stop_number s in record { number = inr (inr k); at_6 = λ e. absurd (let x : ⊥ = omega arith in x); at_8 = λ e. absurd (let x : ⊥ = omega arith in x) }
+
+-- the status of a store that was not opened
+pub record Unopened (stop : Stop) (status : ℕ) : Type 0 where
+  pub number : (status ≡ 4) ⊎ (status ≡ 3) ⊎ (status ≡ 5)
+  pub at_4 : status ≡ 4 → stop ≡ NotAStore
+  pub at_3 : status ≡ 3 → stop ≡ DiskFault
+
+pub unopened : (stop : Stop) (status : ℕ) → status ≡ stop_number stop → (stop ≡ NotAStore) ⊎ (stop ≡ DiskFault) ⊎ (stop ≡ OutOfMemory) → Unopened stop status
+unopened stop status is (inl s) = record { number = inl (is ∙ ap stop_number s); at_4 = λ e. s; at_3 = λ e. absurd (let k : status ≡ 4 = is ∙ ap stop_number s in let x : ⊥ = omega arith in x) }
+unopened stop status is (inr (inl s)) = record { number = inr (inl (is ∙ ap stop_number s)); at_4 = λ e. absurd (let k : status ≡ 3 = is ∙ ap stop_number s in let x : ⊥ = omega arith in x); at_3 = λ e. s }
+unopened stop status is (inr (inr s)) = let k : status ≡ 5 = is ∙ ap stop_number s in record { number = inr (inr k); at_4 = λ e. absurd (let x : ⊥ = omega arith in x); at_3 = λ e. absurd (let x : ⊥ = omega arith in x) }
+
+pub is_err : {T : Type 0} (a b : Stop) → a ≡ b → IsErrOf {T = T} (Err a) b
+is_err {T} a b e = ap (λ z. let r : Result T Stop = Err z in r) e
+
+pub not_run : (status : ℕ) → (status ≡ 6) ⊎ (status ≡ 8) ⊎ (status ≡ 5) → (status ≢ 0) × (status ≢ 1) × (status ≢ 7)
+not_run status (inl h) = (λ e. omega arith, λ e. omega arith, λ e. omega arith)
+not_run status (inr (inl h)) = (λ e. omega arith, λ e. omega arith, λ e. omega arith)
+not_run status (inr (inr h)) = (λ e. omega arith, λ e. omega arith, λ e. omega arith)
+
+-- the status of a run that stopped within its lines
+pub stopped_status : (stop : Stop) (status : ℕ) → (stop ≡ SinkFault) ⊎ (stop ≡ OutOfMemory) → status ≡ stop_number stop → (status ≡ 5) ⊎ (status ≡ 7)
+stopped_status stop status (inl s) e = inr (e ∙ ap stop_number s)
+stopped_status stop status (inr s) e = inl (e ∙ ap stop_number s)
+
+pub not_four : (failed refused : Bool) (status : ℕ) → status ≡ ending_number failed refused → status ≡ 4 → ⊥
+not_four true refused status e f = omega arith
+not_four false true status e f = omega arith
+not_four false false status e f = omega arith

@@ -7,14 +7,14 @@ use Rattle.std.proofs.lemmas.List.Elements.{All-nil, All-cons, All-push, All-hea
 use Rattle.std.proofs.lemmas.List.Kept.{AllPairs-cons}
 use Rattle.std.proofs.lemmas.List.Sums.{sum_by_push, sum_by-cons}
 use Rattle.std.proofs.lemmas.Bool.{lt-ltb}
-use Rattle.disk_trait.specs.Files.{Files}
-use Rattle.disk_trait.specs.Device.{Past}
+use Rattle.disk_trait.specs.declared.device.Disk.{Ghosts as Disk}
 use Rattle.ts_base.specs.Vectors.{Vector, IsNormal}
-use Rattle.ts_base.specs.Bytes.{vector_bytes}
-use Rattle.shell_run.specs.History.{IsNumbered, Name, Document, Commit, History, IsLawful, docs, IsFull, insertion, inserts, deletes, placed, by_serial, has_serial, room, name_of}
+use Rattle.ts_base.specs.Spelling.{vector_bytes}
+use Rattle.shell_run.specs.History.{IsNumbered, Document, Commit, History, IsLawful, docs, IsFull, insertion, inserts, deletes, placed, by_serial, has_serial, room, name_of}
+use Rattle.shell_script.specs.Name.{Name}
 use Rattle.shell_run.specs.Entries.{IsLogFull}
 use Rattle.shell_run.specs.Run.{Note, seen_by}
-use Rattle.shell_run.specs.Stores.{numbered, documents_of, log_room, Holds, IsSameStore, HasStored, HasFailed}
+use Rattle.shell_run.specs.Inner.Stores.{numbered, documents_of, log_room, StandsFor, IsSameStore, HasStored, IsInDoubt}
 use Rattle.wal.specs.Waiting.{end_of, down_of}
 use Rattle.shell_run.specs.declared.store.Store.{Store}
 use Rattle.shell_run.proofs.Documents.{numbered_push}
@@ -86,22 +86,22 @@ normal_of : (k : ℕ) (vs : List Vector) → All IsNormal vs → All (λ (d : Do
 normal_of k [] h = All-nil (λ (d : Document). IsNormal d.vector)
 normal_of k (v ∷ vs) h = All-cons (λ (d : Document). IsNormal d.vector) (let d : Document = record { name = name_of k; vector = v } in d) (numbered (k + 1) vs) (All-head IsNormal v vs h) (normal_of (k + 1) vs (All-tail IsNormal v vs h))
 
-pub held_lawful : (s : Store) (commits : History) → Holds s commits → IsLawful commits
+pub held_lawful : (s : Store) (commits : History) → StandsFor s commits → IsLawful commits
 held_lawful s commits h = subst IsLawful (sym h.all) (lawful_of h.vectors)
 
-pub held_length : (s : Store) (commits : History) (h : Holds s commits) → length commits ≡ length h.vectors
+pub held_length : (s : Store) (commits : History) (h : StandsFor s commits) → length commits ≡ length h.vectors
 held_length s commits h = ap length h.all ∙ length-map (numbered 0 h.vectors) insertion ∙ length_numbered 0 h.vectors
 
-pub held_normal : (s : Store) (commits : History) → Holds s commits → AreNormal commits
+pub held_normal : (s : Store) (commits : History) → StandsFor s commits → AreNormal commits
 held_normal s commits h = subst AreNormal (sym h.all) (subst (λ ds. All (λ (d : Document). IsNormal d.vector) ds) (sym (inserts_of (numbered 0 h.vectors))) (normal_of 0 h.vectors h.normal))
 
 -- what a statement sees that comes last, while the log is not down
-pub sees_all : (s : Store) (commits more : History) (note : Note) → Holds s commits → (down_of s.wal) ≡ None → note.snapshot ≡ length commits → seen_by (commits ++ more) note ≡ documents_of s
+pub sees_all : (s : Store) (commits more : History) (note : Note) → StandsFor s commits → (down_of s.wal) ≡ None → note.snapshot ≡ length commits → seen_by (commits ++ more) note ≡ documents_of s
 sees_all s commits more note h up e =
     ap (λ n. docs (take n (commits ++ more))) e ∙ ap docs (take_at commits more (length commits) refl) ∙ ap docs h.all ∙ docs_of h.vectors ∙ ap (numbered 0) (h.same up)
 
 -- the store after a statement that changes nothing
-pub held_same : (old new : Store) (commits : History) → Holds old commits → IsSameStore old new → Holds new (commits ++ [])
+pub held_same : (old new : Store) (commits : History) → StandsFor old commits → IsSameStore old new → StandsFor new (commits ++ [])
 held_same old new commits h s = record {
   vectors = h.vectors;
   all = append-nil commits ∙ h.all;
@@ -121,8 +121,8 @@ next_commit vs v = insertion (document (length vs) v)
 pushed : (vs : List Vector) (v : Vector) → map insertion (numbered 0 vs) ++ next_commit vs v ∷ [] ≡ map insertion (numbered 0 (vs ++ v ∷ []))
 pushed vs v = sym (ap (map insertion) (numbered_push 0 vs v ∙ ap (λ n. numbered 0 vs ++ document n v ∷ []) (let z : 0 + length vs ≡ length vs = omega arith in z)) ∙ map_push insertion (numbered 0 vs) (document (length vs) v))
 
-module _ {D : Type 0} (tells : Type 0) (seen : D → Files) (clock : D → ℕ) (image : D → Past) (faults writes : D → ℕ) where
-  pub held_stored : (old new : Store) (disk disk' : D) (commits : History) (v : Vector) (name : Name) → Holds old commits → IsNormal v → HasStored tells seen clock image faults writes old new disk disk' v name → Holds new (commits ++ next_commit old.documents.items v ∷ [])
+module _ {D : Type 0} (device : Disk D) where
+  pub held_stored : (old new : Store) (disk disk' : D) (commits : History) (v : Vector) (name : Name) → StandsFor old commits → IsNormal v → HasStored device old new disk disk' v name → StandsFor new (commits ++ next_commit old.documents.items v ∷ [])
   held_stored old new disk disk' commits v name h n i = record {
     vectors = old.documents.items ++ v ∷ [];
     all = ap (λ z. z ++ next_commit old.documents.items v ∷ []) (h.all ∙ ap (λ vs. map insertion (numbered 0 vs)) (h.same i.logged.up)) ∙ pushed old.documents.items v;
@@ -132,14 +132,14 @@ module _ {D : Type 0} (tells : Type 0) (seen : D → Files) (clock : D → ℕ) 
     end = λ up. ap end_of i.wal ∙ i.logged.end ∙ ap (λ n. n + log_room v) (h.end i.logged.up) ∙ (let z : 17 + sum_by log_room old.documents.items + log_room v ≡ 17 + sum_by log_room new.documents.items = omega (arith, ap (sum_by log_room) i.documents, sum_by_push log_room old.documents.items v) in z);
   }
 
-  pub held_failed : (old new : Store) (disk disk' : D) (commits : History) (v : Vector) → Holds old commits → IsNormal v → HasFailed tells seen clock image faults writes old new disk disk' v → Holds new (commits ++ next_commit old.documents.items v ∷ [])
+  pub held_failed : (old new : Store) (disk disk' : D) (commits : History) (v : Vector) → StandsFor old commits → IsNormal v → IsInDoubt device old new disk disk' v → StandsFor new (commits ++ next_commit old.documents.items v ∷ [])
   held_failed old new disk disk' commits v h n i = record {
     vectors = old.documents.items ++ v ∷ [];
     all = ap (λ z. z ++ next_commit old.documents.items v ∷ []) (h.all ∙ ap (λ vs. map insertion (numbered 0 vs)) (h.same i.up)) ∙ pushed old.documents.items v;
     normal = All-push IsNormal old.documents.items v (subst (All IsNormal) (h.same i.up) h.normal) n;
-    same = λ up. absurd (let x : None ≡ Some (faults disk') = sym up ∙ i.down in let y : ⊥ = cc in y);
+    same = λ up. absurd (let x : None ≡ Some (device.fault_count disk') = sym up ∙ i.down in let y : ⊥ = cc in y);
     used = i.used ∙ h.used ∙ ap (λ ds. sum_by room ds) (sym i.documents);
-    end = λ up. absurd (let x : None ≡ Some (faults disk') = sym up ∙ i.down in let y : ⊥ = cc in y);
+    end = λ up. absurd (let x : None ≡ Some (device.fault_count disk') = sym up ∙ i.down in let y : ⊥ = cc in y);
   }
 
 pub is_full : (s : Store) (v : Vector) → s.used ≡ sum_by room s.documents.items → (2000 < length (vector_bytes v)) ⊎ (8168 < s.used + room v) → IsFull (documents_of s) v
@@ -172,7 +172,7 @@ numbered_from j (w ∷ vs) (suc k) c e =
     let d : ℕ → Commit = λ n. insertion (record { name = name_of n; vector = r.0 }) in
     (r.0, r.1 ∙ ap d (let z : j + 1 + k ≡ j + suc k = omega arith in z))
 
-pub held_numbered : (s : Store) (commits : History) → Holds s commits → IsNumbered commits
+pub held_numbered : (s : Store) (commits : History) → StandsFor s commits → IsNumbered commits
 held_numbered s commits h = subst IsNumbered (sym h.all) (λ k c e.
     let r : (v : Vector) × (c ≡ insertion (let d : Document = record { name = name_of (0 + k); vector = v } in d)) = numbered_from 0 h.vectors k c e in
     let d : ℕ → Commit = λ n. insertion (record { name = name_of n; vector = r.0 }) in

@@ -1,6 +1,3 @@
-pub mod Front
-pub mod Cuts
-pub mod Spelling
 pub mod Streams
 pub mod Documents
 pub mod Runs
@@ -12,6 +9,5 @@ pub mod Held
 pub mod Refusing
 pub mod Going
 pub mod Progressing
-pub mod Meaning
-pub mod Askings
 pub mod OneAnswer
+pub mod Traces

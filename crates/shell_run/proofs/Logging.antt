@@ -1,16 +1,17 @@
 -- An entry is put into the log.
 use Rattle.std.proofs.Common.{◌≡◌, ◌⊎◌, inl, inr, ℕ, ◌+◌, ◌<◌, List, [], ◌∷◌, ◌++◌, length, arith, refl, sym, ◌∙◌, ap, subst}
 use Rattle.std.specs.Prelude.{Option, Some, None, Result, Ok, Err, IfErr, OnOk, IsOk, IsErrOf}
-use Rattle.disk_trait.specs.Files.{Files}
-use Rattle.disk_trait.specs.Device.{Past, LeavesOnly, Rose}
+use Rattle.disk_trait.specs.Device.{Rose}
+use Rattle.disk_trait.specs.Runs.{LeavesOnly}
+use Rattle.disk_trait.specs.declared.device.Disk.{Ghosts as Disk}
 use Rattle.disk_trait.proofs.Runs.{started}
 use Rattle.wal.specs.Settled.{Settled, BeforeOrAfter}
 use Rattle.wal.specs.Waiting.{waiting, waiting_then, end_of, end_then, down_of, with_waiting, end_with, FlushLeaves}
-use Rattle.wal.specs.Answers.{LogFullWhere, GoesDown, RoseAtFault}
+use Rattle.wal.specs.Causes.{LogFullWhere, GoesDown, RoseAtFault}
 use Rattle.wal.specs.declared.log.Wal.{Wal}
 use Rattle.wal.specs.declared.error.WalError.{WalError}
 use Rattle.wal.specs.declared.error.WalError.TheVariants.{DiskFault, LogFull, NotAStore, Down, OutOfMemory}
-use Rattle.shell_run.specs.Logs.{Puts}
+use Rattle.shell_run.specs.Inner.Logs.{PutsEntry}
 
 pub with_some : (batches : List (List ℕ)) (e : List ℕ) → 0 < length e → with_waiting batches e ≡ batches ++ e ∷ []
 with_some batches [] h = absurd (omega arith)
@@ -20,31 +21,31 @@ pub end_some : (end : ℕ) (e : List ℕ) → 0 < length e → end_with end e �
 end_some end [] h = absurd (omega arith)
 end_some end (x ∷ xs) h = refl
 
-module _ {D : Type 0} (seen : D → Files) (clock : D → ℕ) (image : D → Past) where
+module _ {D : Type 0} (device : Disk D) where
   -- what a flush, or no call, leaves at each moment
-  pub flush_leaves : (batches : List (List ℕ)) (batch : List ℕ) (end : ℕ) (old new : D) → Settled batches end (seen old) (image old (clock old)) → (new ≡ old) ⊎ ((0 < length batch) × FlushLeaves clock image batches batch old new)
-      → LeavesOnly clock image old new (BeforeOrAfter batches batch (image old (clock old)))
+  pub flush_leaves : (batches : List (List ℕ)) (batch : List ℕ) (end : ℕ) (old new : D) → Settled device batches end old → (new ≡ old) ⊎ ((0 < length batch) × FlushLeaves device batches batch old new)
+      → LeavesOnly device old new (BeforeOrAfter batches batch (device.image old (device.clock old)))
   flush_leaves batches batch end old new s (inr f) = f.1
   flush_leaves batches batch end old new s (inl e) =
-      let here : LeavesOnly clock image old old (BeforeOrAfter batches batch (image old (clock old))) = started clock image old (BeforeOrAfter batches batch (image old (clock old)))
+      let here : LeavesOnly device old old (BeforeOrAfter batches batch (device.image old (device.clock old))) = started device old (BeforeOrAfter batches batch (device.image old (device.clock old)))
       (λ c left. record { before = c; was = left; pages = refl; log = inl (inr (record { gate = s.gate; rest = s.rest; split = s.log.durable c left; shut = s.shut; fit = s.fit })) }) in
-      subst (λ d. LeavesOnly clock image old d (BeforeOrAfter batches batch (image old (clock old)))) (sym e) here
+      subst (λ d. LeavesOnly device old d (BeforeOrAfter batches batch (device.image old (device.clock old)))) (sym e) here
 
-module _ {D : Type 0} (tells : Type 0) (seen : D → Files) (clock : D → ℕ) (image : D → Past) where
+module _ {D : Type 0} (device : Disk D) where
   -- an append that calls no device, and then a flush
   pub puts_after : (entry : List ℕ) (w0 w1 w2 : Wal) (d0 d1 d2 : D) → 0 < length entry → d1 ≡ d0 → waiting w0 ≡ [] → waiting w1 ≡ waiting_then (waiting w0) ++ entry → end_of w1 ≡ end_then (end_of w0) (waiting w0)
-      → (tells → (batches : List (List ℕ)) → Settled batches (end_of w1) (seen d1) (image d1 (clock d1)) → (d2 ≡ d1) ⊎ ((0 < length (waiting w1)) × FlushLeaves clock image batches (waiting w1) d1 d2))
-      → (down_of w2 ≡ None → tells → (batches : List (List ℕ)) → Settled batches (end_of w1) (seen d1) (image d1 (clock d1)) → Settled (with_waiting batches (waiting w1)) (end_of w2) (seen d2) (image d2 (clock d2)))
-      → Puts tells seen clock image entry w0 w2 d0 d2
+      → (device.tells → (batches : List (List ℕ)) → Settled device batches (end_of w1) d1 → (d2 ≡ d1) ⊎ ((0 < length (waiting w1)) × FlushLeaves device batches (waiting w1) d1 d2))
+      → (down_of w2 ≡ None → device.tells → (batches : List (List ℕ)) → Settled device batches (end_of w1) d1 → Settled device (with_waiting batches (waiting w1)) (end_of w2) d2)
+      → PutsEntry device entry w0 w2 d0 d2
   puts_after entry w0 w1 w2 d0 d1 d2 some same idle waits end moments stands =
       let waits' : waiting w1 ≡ entry = waits ∙ ap (λ w. waiting_then w ++ entry) idle in
       let end' : end_of w1 ≡ end_of w0 = end ∙ ap (λ w. end_then (end_of w0) w) idle in
-      let here : (batches : List (List ℕ)) → Settled batches (end_of w0) (seen d0) (image d0 (clock d0)) → Settled batches (end_of w1) (seen d1) (image d1 (clock d1)) = λ batches s. subst (λ d. Settled batches (end_of w1) (seen d) (image d (clock d))) (sym same) (subst (λ e. Settled batches e (seen d0) (image d0 (clock d0))) (sym end') s) in
+      let here : (batches : List (List ℕ)) → Settled device batches (end_of w0) d0 → Settled device batches (end_of w1) d1 = λ batches s. subst (λ d. Settled device batches (end_of w1) d) (sym same) (subst (λ e. Settled device batches e d0) (sym end') s) in
       record {
         moments = λ t batches s.
-            let left : (d2 ≡ d1) ⊎ ((0 < length entry) × FlushLeaves clock image batches entry d1 d2) = subst (λ w. (d2 ≡ d1) ⊎ ((0 < length w) × FlushLeaves clock image batches w d1 d2)) waits' (moments t batches (here batches s)) in
-            subst (λ d. LeavesOnly clock image d d2 (BeforeOrAfter batches entry (image d (clock d)))) same (flush_leaves seen clock image batches entry (end_of w1) d1 d2 (here batches s) left);
-        stands = λ t batches up s. subst (λ bs. Settled bs (end_of w2) (seen d2) (image d2 (clock d2))) (ap (with_waiting batches) waits' ∙ with_some batches entry some) (stands up t batches (here batches s));
+            let left : (d2 ≡ d1) ⊎ ((0 < length entry) × FlushLeaves device batches entry d1 d2) = subst (λ w. (d2 ≡ d1) ⊎ ((0 < length w) × FlushLeaves device batches w d1 d2)) waits' (moments t batches (here batches s)) in
+            subst (λ d. LeavesOnly device d d2 (BeforeOrAfter batches entry (device.image d (device.clock d)))) same (flush_leaves device batches entry (end_of w1) d1 d2 (here batches s) left);
+        stands = λ t batches up s. subst (λ bs. Settled device bs (end_of w2) d2) (ap (with_waiting batches) waits' ∙ with_some batches entry some) (stands up t batches (here batches s));
       }
 
 pub ok_gives : {T E : Type 0} (r : Result T E) (P : Type 0) → IsOk r → OnOk r P → P

@@ -4,18 +4,19 @@ use Rattle.std.specs.Prelude.{Result, Ok, Err}
 use Rattle.ts_base.specs.Vectors.{Vector}
 use Rattle.ts_vector.specs.Changes.{stripped, IsJoinOf}
 use Rattle.ts_vector.specs.Failures.{TextFails, JoinFails}
-use Rattle.ts_vector.specs.declared.VectorError.{VectorError}
-use Rattle.ts_vector.specs.declared.VectorError.TheVariants as vectors
+use Rattle.ts_vector.specs.declared.error.VectorError.{VectorError}
+use Rattle.ts_vector.specs.declared.error.VectorError.TheVariants as vectors
 use Rattle.ts_vector.proofs.OneAnswer.{text_has_one_answer, join_has_one_answer}
 use Rattle.ts_query.specs.Queries.{Query}
 use Rattle.ts_query.specs.Refusals.{IsReadAs, IsRefused}
 use Rattle.ts_query.specs.declared.error.QueryError.{QueryError}
 use Rattle.ts_query.specs.declared.error.QueryError.TheVariants as queries
 use Rattle.ts_query.proofs.Answer.{one_answer}
-use Rattle.shell_run.specs.Grammar.{Part, Expr}
-use Rattle.shell_run.specs.Replies.{Refusal, no_statement, bad_vector, bad_query, long_lexeme, large_vector, large_query, store_full, log_full, down, device, memory}
-use Rattle.shell_run.specs.Answers.{refusal}
-use Rattle.shell_run.specs.Refusing.{vector_refusal, query_refusal}
+use Rattle.shell_script.specs.Grammar.{Part, Expr}
+use Rattle.shell_script.specs.Replies.{bad_vector, bad_query, long_lexeme, large_vector, large_query}
+use Rattle.shell_script.specs.Replies.{Refusal, no_statement, text_refused, store_full, log_full, down, device, memory}
+use Rattle.shell_script.specs.ReplyView.{refusal}
+use Rattle.shell_run.specs.Inner.Refusing.{vector_refusal, query_refusal}
 use Rattle.shell_run.specs.Values.{IsPartOf, IsJoinedOf, PartFails, JoinIsRefused, OthersFail, QueryFails, IsExprAnswer, IsQueryAnswer, IsOneAnswer}
 
 -- the refusal that an error is shown as
@@ -28,11 +29,11 @@ Caused P why = (e : VectorError) × (e ≢ vectors.OutOfMemory) × (why ≡ show
 
 part_caused : (p : Part) (why : Refusal) → why ≢ memory → PartFails p why → Caused (TextFails p.text) why
 part_caused p (no_statement line) m h = absurd h
-part_caused p (bad_vector at) m h = (vectors.Syntax at, (λ e. cc), refl, h)
-part_caused p (bad_query at) m h = absurd h
-part_caused p (long_lexeme at) m h = (vectors.LexemeTooLong at, (λ e. cc), refl, h)
-part_caused p (large_vector bytes) m h = (vectors.VectorTooLarge bytes, (λ e. cc), refl, h)
-part_caused p large_query m h = absurd h
+part_caused p (text_refused (bad_vector at)) m h = (vectors.Syntax at, (λ e. cc), refl, h)
+part_caused p (text_refused (bad_query at)) m h = absurd h
+part_caused p (text_refused (long_lexeme at)) m h = (vectors.LexemeTooLong at, (λ e. cc), refl, h)
+part_caused p (text_refused (large_vector bytes)) m h = (vectors.VectorTooLarge bytes, (λ e. cc), refl, h)
+part_caused p (text_refused large_query) m h = absurd h
 part_caused p store_full m h = absurd h
 part_caused p log_full m h = absurd h
 part_caused p (down count) m h = absurd h
@@ -41,11 +42,11 @@ part_caused p memory m h = absurd (m refl)
 
 join_caused : (v w : Vector) (why : Refusal) → why ≢ memory → JoinIsRefused v w why → Caused (JoinFails v w) why
 join_caused v w (no_statement line) m h = absurd h
-join_caused v w (bad_vector at) m h = absurd h
-join_caused v w (bad_query at) m h = absurd h
-join_caused v w (long_lexeme at) m h = absurd h
-join_caused v w (large_vector bytes) m h = (vectors.VectorTooLarge bytes, (λ e. cc), refl, h)
-join_caused v w large_query m h = absurd h
+join_caused v w (text_refused (bad_vector at)) m h = absurd h
+join_caused v w (text_refused (bad_query at)) m h = absurd h
+join_caused v w (text_refused (long_lexeme at)) m h = absurd h
+join_caused v w (text_refused (large_vector bytes)) m h = (vectors.VectorTooLarge bytes, (λ e. cc), refl, h)
+join_caused v w (text_refused large_query) m h = absurd h
 join_caused v w store_full m h = absurd h
 join_caused v w log_full m h = absurd h
 join_caused v w (down count) m h = absurd h
@@ -161,13 +162,13 @@ abbrev QueryCaused : List ℕ → Refusal → Type 0
 QueryCaused text why = (e : QueryError) × (e ≢ queries.OutOfMemory) × (why ≡ shown_query e) × IsRefused text e
 
 query_caused : (text : List ℕ) (why : Refusal) → why ≢ memory → QueryFails text why → QueryCaused text why
-query_caused text (bad_query at) m (inl h) = (queries.Syntax at, (λ e. cc), refl, h)
-query_caused text (bad_query at) m (inr h) = (queries.DistanceTooLarge at, (λ e. cc), refl, h)
+query_caused text (text_refused (bad_query at)) m (inl h) = (queries.Syntax at, (λ e. cc), refl, h)
+query_caused text (text_refused (bad_query at)) m (inr h) = (queries.DistanceTooLarge at, (λ e. cc), refl, h)
 query_caused text (no_statement line) m h = absurd h
-query_caused text (bad_vector at) m h = absurd h
-query_caused text (long_lexeme at) m h = (queries.LexemeTooLong at, (λ e. cc), refl, h)
-query_caused text (large_vector bytes) m h = absurd h
-query_caused text large_query m h = (queries.TooManyNodes, (λ e. cc), refl, h)
+query_caused text (text_refused (bad_vector at)) m h = absurd h
+query_caused text (text_refused (long_lexeme at)) m h = (queries.LexemeTooLong at, (λ e. cc), refl, h)
+query_caused text (text_refused (large_vector bytes)) m h = absurd h
+query_caused text (text_refused large_query) m h = (queries.TooManyNodes, (λ e. cc), refl, h)
 query_caused text store_full m h = absurd h
 query_caused text log_full m h = absurd h
 query_caused text (down count) m h = absurd h

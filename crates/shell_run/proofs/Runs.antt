@@ -1,6 +1,6 @@
 -- A run grows by one statement.
 use Rattle.std.proofs.Common.{◌≡◌, ◌≢◌, ◌⊎◌, inl, inr, ℕ, zero, suc, ◌+◌, ◌<◌, ◌≤◌, Bool, true, false, cond, List, [], ◌∷◌, ◌++◌, length, length-append, append_assoc, arith, refl, sym, ◌∙◌, ap, subst, get_or}
-use Rattle.std.specs.Prelude.{Option, Some, None, IfSome, count_by, sum_by, ◌==◌}
+use Rattle.std.specs.Prelude.{◌↔◌, Option, Some, None, IfSome, count_by, sum_by, ◌==◌}
 use Rattle.std.specs.List.{All, Any, slice_get}
 use Rattle.std.proofs.lemmas.List.{take-append-le, get_or_append_left}
 use Rattle.std.proofs.lemmas.List.Elements.{All-push, All-head, All-tail}
@@ -8,10 +8,10 @@ use Rattle.std.proofs.lemmas.List.Sums.{sum_by_push, sum_by-cons}
 use Rattle.std.proofs.lemmas.Bool.{ne_eqb, eqb-false, eqb-true}
 use Rattle.ts_base.specs.Vectors.{Vector}
 use Rattle.ts_query.specs.Queries.{Query}
-use Rattle.shell_run.specs.Grammar.{Ask, insert, search as finding, show, query, nothing}
+use Rattle.shell_script.specs.Grammar.{Statement, insert, search as finding, show, query, nothing}
 use Rattle.shell_run.specs.History.{Document, Commit, History, IsLawful, Begins, docs, IsFull, IsFound, insertion}
 use Rattle.shell_run.specs.Entries.{IsLogFull}
-use Rattle.shell_run.specs.Run.{Row, Note, Place, Counts, Reply, stored, lists, shows_vector, shows_query, refused, bad_vector, bad_query, long_lexeme, large_vector, large_query, store_full, log_full, down, device, memory, no_statement, Run, IsWithin, IsAnswered, IsInserted, IsSearched, MayHaveOwn, MetFault, IsDownSince, FindsDown, IsDownReply, IsSeenBy, Before, has_commit, is_at, seen_by, HasOwn}
+use Rattle.shell_run.specs.Run.{Row, Note, Counts, Reply, stored, lists, refused, store_full, log_full, down, device, memory, Run, IsWithin, IsAnswered, IsInserted, IsSearched, MayHaveOwn, MetFault, IsDownSince, FindsDown, HasFailed, HasCalled, IsSeenBy, Before, has_commit, is_at, seen_by, HasOwn}
 
 get_more : {X : Type 0} (xs ys : List X) (i : ℕ) (x : X) → slice_get xs i ≡ Some x → slice_get (xs ++ ys) i ≡ Some x
 get_more [] ys i x e = cc
@@ -31,6 +31,7 @@ own_more commits more note c h = (h.0, h.1, get_more commits more h.0 c h.2)
 -- counts of a longer part of a run
 pub record Grows (k l : Counts) : Type 0 where
   pub faults : l.faults ≡ k.faults
+  pub faults_opened : l.faults_opened ≡ k.faults_opened
   pub writes : l.writes ≡ k.writes
   pub faults_after : k.faults_after ≤ l.faults_after
   pub writes_after : k.writes_after ≤ l.writes_after
@@ -63,41 +64,22 @@ insert_more k l commits more v (refused log_full) note g le h = (h.0, not_full_m
 insert_more k l commits more v (refused (down count)) note g le h = (own_may commits more note v h.0, down_more k l count g h.1)
 insert_more k l commits more v (refused device) note g le h = (own_may commits more note v h.0, met_more k l note g h.1)
 insert_more k l commits more v (refused memory) note g le h = h
-insert_more k l commits more v (lists names) note g le h = absurd h
-insert_more k l commits more v (shows_vector text) note g le h = absurd h
-insert_more k l commits more v (shows_query text) note g le h = absurd h
-insert_more k l commits more v (refused (no_statement at)) note g le h = absurd h
-insert_more k l commits more v (refused (bad_vector at)) note g le h = absurd h
-insert_more k l commits more v (refused (bad_query at)) note g le h = absurd h
-insert_more k l commits more v (refused (long_lexeme at)) note g le h = absurd h
-insert_more k l commits more v (refused (large_vector bytes)) note g le h = absurd h
-insert_more k l commits more v (refused large_query) note g le h = absurd h
+insert_more k l commits more v reply note g le h = absurd h
 
 search_more : (k l : Counts) (commits more : History) (q : Query) (reply : Reply) (note : Note) → Grows k l → note.snapshot ≤ length commits → IsSearched k commits q reply note → IsSearched l (commits ++ more) q reply note
 search_more k l commits more q (lists names) note g le h = (h.0, subst (λ ds. IsFound q ds names) (sym (seen_more commits more note le)) h.1)
 search_more k l commits more q (refused (down count)) note g le h = (h.0, down_more k l count g h.1)
 search_more k l commits more q (refused memory) note g le h = h
-search_more k l commits more q (stored name) note g le h = absurd h
-search_more k l commits more q (shows_vector text) note g le h = absurd h
-search_more k l commits more q (shows_query text) note g le h = absurd h
-search_more k l commits more q (refused (no_statement at)) note g le h = absurd h
-search_more k l commits more q (refused (bad_vector at)) note g le h = absurd h
-search_more k l commits more q (refused (bad_query at)) note g le h = absurd h
-search_more k l commits more q (refused (long_lexeme at)) note g le h = absurd h
-search_more k l commits more q (refused (large_vector bytes)) note g le h = absurd h
-search_more k l commits more q (refused large_query) note g le h = absurd h
-search_more k l commits more q (refused store_full) note g le h = absurd h
-search_more k l commits more q (refused log_full) note g le h = absurd h
-search_more k l commits more q (refused device) note g le h = absurd h
+search_more k l commits more q reply note g le h = absurd h
 
-answered_more : (k l : Counts) (commits more : History) (place : Place) (ask : Ask) (reply : Reply) (note : Note) → Grows k l → note.snapshot ≤ length commits → IsAnswered k commits place ask reply note → IsAnswered l (commits ++ more) place ask reply note
-answered_more k l commits more place (insert e) reply note g le (inl h) = inl h
-answered_more k l commits more place (insert e) reply note g le (inr h) = inr (h.0, h.1, insert_more k l commits more h.0 reply note g le h.2)
-answered_more k l commits more place (finding text) reply note g le (inl h) = inl h
-answered_more k l commits more place (finding text) reply note g le (inr h) = inr (h.0, h.1, search_more k l commits more h.0 reply note g le h.2)
-answered_more k l commits more place (show e) reply note g le h = h
-answered_more k l commits more place (query text) reply note g le h = h
-answered_more k l commits more place nothing reply note g le h = h
+answered_more : (k l : Counts) (commits more : History) (line : ℕ) (statement : Statement) (reply : Reply) (note : Note) → Grows k l → note.snapshot ≤ length commits → IsAnswered k commits line statement reply note → IsAnswered l (commits ++ more) line statement reply note
+answered_more k l commits more line (insert e) reply note g le (inl h) = inl h
+answered_more k l commits more line (insert e) reply note g le (inr h) = inr (h.0, h.1, insert_more k l commits more h.0 reply note g le h.2)
+answered_more k l commits more line (finding text) reply note g le (inl h) = inl h
+answered_more k l commits more line (finding text) reply note g le (inr h) = inr (h.0, h.1, search_more k l commits more h.0 reply note g le h.2)
+answered_more k l commits more line (show e) reply note g le h = h
+answered_more k l commits more line (query text) reply note g le h = h
+answered_more k l commits more line nothing reply note g le h = h
 
 below_some : (o : Option ℕ) (s n m : ℕ) → n ≤ m → IfSome o (λ p. (s ≤ p) × (p < n)) → IfSome o (λ p. (s ≤ p) × (p < m))
 below_some None s n m le h = tt
@@ -124,14 +106,18 @@ pub record Step (k l : Counts) (first commits more : History) (rows : List Row) 
   pub run : Run k first commits rows
   pub grows : Grows k l
   pub snapshot : row.note.snapshot ≡ length commits
-  pub answered : IsAnswered l (commits ++ more) row.place row.ask row.reply row.note
+  pub answered : IsAnswered l (commits ++ more) row.line row.statement row.reply row.note
   pub own : ((more ≡ []) × (row.note.commit ≡ None)) ⊎ ((c : Commit) × (more ≡ c ∷ []) × (row.note.commit ≡ Some (length commits)))
   pub lawful : IsLawful (commits ++ more)
   pub last : All (λ (r : Row). r.place.step < row.place.step) rows
-  pub finds_down : All (λ (r : Row). 0 < r.note.writes → FindsDown row.ask row.reply) rows
-  pub down : IsDownReply row.reply → Any (λ (r : Row). 0 < r.note.writes) rows
-  pub faults : k.faults_after + row.note.faults ≤ l.faults_after
-  pub writes : k.writes_after + row.note.writes ≤ l.writes_after
+  pub finds_down : All (λ (r : Row). 0 < r.note.writes → FindsDown row.statement row.reply) rows
+  pub fell : (n : ℕ) → row.reply ≡ refused (down n) → Any (λ (r : Row). (0 < r.note.writes) × (r.note.count ≡ n)) rows
+  pub one_count : (n : ℕ) → row.reply ≡ refused (down n) → All (λ (r : Row). (m : ℕ) → r.reply ≡ refused (down m) → m ≡ n) rows
+  pub failed : (0 < row.note.writes) ↔ HasFailed row.statement row.reply
+  pub called : 0 < row.note.faults → HasCalled row.statement row.reply
+  pub count : row.note.count ≡ l.faults_after
+  pub faults : k.faults_after + row.note.faults ≡ l.faults_after
+  pub writes : k.writes_after + row.note.writes ≡ l.writes_after
 
 low_below : (first commits : History) → Begins first commits → length first ≤ length commits
 low_below first commits h = omega (arith, ap length h.1, length-append first h.0)
@@ -147,8 +133,8 @@ within_new k l first commits more rows row h =
       ];
     }
 
-seen_new : (n : ℕ) (low : ℕ) (a b : Row) → IsWithin low n a.note → b.note.snapshot ≡ n → (0 < a.note.writes → FindsDown b.ask b.reply) → IsSeenBy a b
-seen_new n low a b h e d = (omega (arith, h.high_is), λ ok. under a.note.commit h.own, d)
+seen_new : (n : ℕ) (low : ℕ) (a b : Row) → IsWithin low n a.note → b.note.snapshot ≡ n → (0 < a.note.writes → FindsDown b.statement b.reply) → a.note.count + b.note.faults ≤ b.note.count → IsSeenBy a b
+seen_new n low a b h e d c = record { snapshot = omega (arith, h.high_is); commit = λ ok. under a.note.commit h.own; down = d; count = c }
   where
     under : (o : Option ℕ) → IfSome o (λ p. (a.note.snapshot ≤ p) × (p < n)) → IfSome o (λ p. p < b.note.snapshot)
     under None h = tt
@@ -192,30 +178,58 @@ own_new j l first commits more rows row h k low high =
 any_more : {X : Type 0} (P Q : X → Type 0) (xs ys : List X) → ((x : X) → P x → Q x) → Any P xs → Any Q (xs ++ ys)
 any_more P Q xs ys f h = (h.0, h.1, omega (arith, h.2, length-append xs ys), get_or_append_left xs ys h.1 h.0 h.2 ∙ h.3, f h.1 h.4)
 
--- an earlier row is before the last one
-any_before : (rows : List Row) (row : Row) → All (λ (r : Row). r.place.step < row.place.step) rows → Any (λ (r : Row). 0 < r.note.writes) rows → Any (λ (r : Row). Before r row × (0 < r.note.writes)) (rows ++ row ∷ [])
-any_before rows row last h =
+-- an earlier row is not behind the last one
+any_before : (n : ℕ) (rows : List Row) (row : Row) → All (λ (r : Row). r.place.step < row.place.step) rows → Any (λ (r : Row). (0 < r.note.writes) × (r.note.count ≡ n)) rows
+    → Any (λ (r : Row). (Before row r → ⊥) × (0 < r.note.writes) × (r.note.count ≡ n)) (rows ++ row ∷ [])
+any_before n rows row last h =
     let step : h.1.place.step < row.place.step = subst (λ (r : Row). r.place.step < row.place.step) h.3 (last h.0 h.1 h.2) in
-    (h.0, h.1, omega (arith, h.2, length-append rows (row ∷ [])), get_or_append_left rows (row ∷ []) h.1 h.0 h.2 ∙ h.3, (inl step, h.4))
+    (h.0, h.1, omega (arith, h.2, length-append rows (row ∷ [])), get_or_append_left rows (row ∷ []) h.1 h.0 h.2 ∙ h.3, (λ b. not_before row h.1 step b, h.4.0, h.4.1))
 
-sums_grow : (f : Row → ℕ) (rows : List Row) (row : Row) (start k l : ℕ) → start + sum_by f rows ≤ k → k + f row ≤ l → start + sum_by f (rows ++ row ∷ []) ≤ l
+-- the sums of a run with one statement more
+sums_grow : (f : Row → ℕ) (rows : List Row) (row : Row) (start k l : ℕ) → start + sum_by f rows ≡ k → k + f row ≡ l → start + sum_by f (rows ++ row ∷ []) ≡ l
 sums_grow f rows row start k l h g = omega (arith, h, g, sum_by_push f rows row)
+
+-- what was counted before
+counted_more : (k l : Counts) (r : Row) → Grows k l → (k.faults_opened + r.note.faults ≤ r.note.count) × (r.note.count ≤ k.faults_after) → (l.faults_opened + r.note.faults ≤ r.note.count) × (r.note.count ≤ l.faults_after)
+counted_more k l r g h = (omega (arith, g.faults_opened, h.0), omega (arith, g.faults_after, h.1))
+
+-- all that tell a count tell one
+module _ (rows : List Row) (row : Row) where
+  abbrev Tells : ℕ → Row → Type 0
+  Tells n r = r.reply ≡ refused (down n)
+
+  abbrev HaveOneCount : Row → Row → Type 0
+  HaveOneCount a b = (m n : ℕ) → Tells m a → Tells n b → m ≡ n
+
+  one_count_more : All (λ (a : Row). All (λ (b : Row). HaveOneCount a b) rows) rows → ((n : ℕ) → Tells n row → All (λ (r : Row). (m : ℕ) → Tells m r → m ≡ n) rows)
+      → All (λ (a : Row). All (λ (b : Row). HaveOneCount a b) (rows ++ row ∷ [])) (rows ++ row ∷ [])
+  one_count_more old h = All-push (λ (a : Row). All (λ (b : Row). HaveOneCount a b) (rows ++ row ∷ [])) rows row
+      (λ k d l. All-push (λ (b : Row). HaveOneCount (get_or rows k d) b) rows row (old k d l) (λ m n a b. h n b k d l m a))
+      (All-push (λ (b : Row). HaveOneCount row b) rows row (λ k d l m n a b. sym (h m a k d l n b)) (λ m n a b. cc))
 
 pub run_step : (k l : Counts) (first commits more : History) (rows : List Row) (row : Row) → Step k l first commits more rows row → Run l first (commits ++ more) (rows ++ row ∷ [])
 run_step j l first commits more rows row h = record {
   lawful = h.lawful;
   begins = (h.run.begins.0 ++ more, sym (append_assoc first h.run.begins.0 more) ∙ ap (λ z. z ++ more) h.run.begins.1);
-  answers = All-push (λ (r : Row). IsAnswered l (commits ++ more) r.place r.ask r.reply r.note) rows row
-      (λ k d m. let r : Row = get_or rows k d in let w : IsWithin (length first) (length commits) r.note = h.run.within k d m in answered_more j l commits more r.place r.ask r.reply r.note h.grows w.high_is (h.run.answers k d m)) h.answered;
+  answers = All-push (λ (r : Row). IsAnswered l (commits ++ more) r.line r.statement r.reply r.note) rows row
+      (λ k d m. let r : Row = get_or rows k d in let w : IsWithin (length first) (length commits) r.note = h.run.within k d m in answered_more j l commits more r.line r.statement r.reply r.note h.grows w.high_is (h.run.answers k d m)) h.answered;
   within = All-push (λ (r : Row). IsWithin (length first) (length (commits ++ more)) r.note) rows row
       (λ k d m. let r : Row = get_or rows k d in within_more (length first) (length commits) (length (commits ++ more)) r.note (omega (arith, length-append commits more)) (h.run.within k d m)) (within_new j l first commits more rows row h);
   own = own_new j l first commits more rows row h;
   order = All-push (λ (a : Row). All (λ (b : Row). Before a b → IsSeenBy a b) (rows ++ row ∷ [])) rows row
-      (λ k d m. let a : Row = get_or rows k d in All-push (λ (b : Row). Before a b → IsSeenBy a b) rows row (h.run.order k d m) (λ before. seen_new (length commits) (length first) a row (h.run.within k d m) h.snapshot (h.finds_down k d m)))
+      (λ k d m. let a : Row = get_or rows k d in All-push (λ (b : Row). Before a b → IsSeenBy a b) rows row (h.run.order k d m)
+      (λ before. seen_new (length commits) (length first) a row (h.run.within k d m) h.snapshot (h.finds_down k d m) (omega (arith, (h.run.counted k d m).1, h.faults, h.count))))
       (All-push (λ (b : Row). Before row b → IsSeenBy row b) rows row (λ k d m before. absurd (not_before row (get_or rows k d) (h.last k d m) before)) (λ before. absurd (not_self row before)));
-  down = All-push (λ (b : Row). IsDownReply b.reply → Any (λ (a : Row). Before a b × (0 < a.note.writes)) (rows ++ row ∷ [])) rows row
-      (λ k d m is. let b : Row = get_or rows k d in let P : Row → Type 0 = λ (a : Row). Before a b × (0 < a.note.writes) in any_more P P rows (row ∷ []) (λ x p. p) (h.run.down k d m is))
-      (λ is. any_before rows row h.last (h.down is));
-  faults = sums_grow (λ (r : Row). r.note.faults) rows row l.faults j.faults_after l.faults_after (subst (λ n. n + sum_by (λ (r : Row). r.note.faults) rows ≤ j.faults_after) (sym h.grows.faults) h.run.faults) h.faults;
-  writes = sums_grow (λ (r : Row). r.note.writes) rows row l.writes j.writes_after l.writes_after (subst (λ n. n + sum_by (λ (r : Row). r.note.writes) rows ≤ j.writes_after) (sym h.grows.writes) h.run.writes) h.writes;
+  owed = All-push (λ (b : Row). (n : ℕ) → b.reply ≡ refused (down n) → Any (λ (a : Row). (Before b a → ⊥) × (0 < a.note.writes) × (a.note.count ≡ n)) (rows ++ row ∷ [])) rows row
+      (λ k d m n is. let b : Row = get_or rows k d in let P : Row → Type 0 = λ (a : Row). (Before b a → ⊥) × (0 < a.note.writes) × (a.note.count ≡ n) in any_more P P rows (row ∷ []) (λ x p. p) (h.run.owed k d m n is))
+      (λ n is. any_before n rows row h.last (h.fell n is));
+  one_count = one_count_more rows row h.run.one_count h.one_count;
+  failed = All-push (λ (r : Row). (0 < r.note.writes) ↔ HasFailed r.statement r.reply) rows row h.run.failed h.failed;
+  called = All-push (λ (r : Row). 0 < r.note.faults → HasCalled r.statement r.reply) rows row h.run.called h.called;
+  counted = All-push (λ (r : Row). (l.faults_opened + r.note.faults ≤ r.note.count) × (r.note.count ≤ l.faults_after)) rows row
+      (λ k d m. counted_more j l (get_or rows k d) h.grows (h.run.counted k d m))
+      (omega (arith, h.run.faults, h.grows.faults_opened, h.faults, h.count), omega (arith, h.count));
+  opening = omega (arith, h.run.opening, h.grows.faults, h.grows.faults_opened);
+  faults = sums_grow (λ (r : Row). r.note.faults) rows row l.faults_opened j.faults_after l.faults_after (subst (λ n. n + sum_by (λ (r : Row). r.note.faults) rows ≡ j.faults_after) (sym h.grows.faults_opened) h.run.faults) h.faults;
+  writes = sums_grow (λ (r : Row). r.note.writes) rows row l.writes j.writes_after l.writes_after (subst (λ n. n + sum_by (λ (r : Row). r.note.writes) rows ≡ j.writes_after) (sym h.grows.writes) h.run.writes) h.writes;
 }

@@ -2,7 +2,7 @@
 use Rattle.std.proofs.Common.{◌≡◌, ℕ, take, drop, ◌<◌, List, [], ◌++◌, length, length-append, append_assoc, arith, refl, sym, ◌∙◌, ap, IfSome}
 use Rattle.std.specs.Prelude.{Option, Some, None, Bool, true, false}
 use Rattle.std.proofs.lemmas.List.{append-nil, take-append-drop}
-use Rattle.shell_run.specs.Printing.{Puts}
+use Rattle.shell_run.specs.Inner.Sending.{Sends}
 use Rattle.std.specs.Io.KnownBytes.{Consumes, Appends, Keeps}
 
 pub consumes_then : (a b c : Option (List ℕ)) (xs ys : List ℕ) → Consumes a b xs → Consumes b c ys → Consumes a c (xs ++ ys)
@@ -35,10 +35,10 @@ appends_kept None b h = tt
 appends_kept (Some a) None h = absurd h
 appends_kept (Some a) (Some b) h = h ∙ sym (append-nil a)
 
-pub puts_start : (a : Option (List ℕ)) (text : List ℕ) (b : Bool) → Puts a a text text b
+pub puts_start : (a : Option (List ℕ)) (text : List ℕ) (b : Bool) → Sends a a text text b
 puts_start a text b = record { sent = []; unsent = text; all = refl; took = appends_none a; waits = λ e. refl }
 
-pub puts_more : (a b c : Option (List ℕ)) (text rest sent more : List ℕ) (w : Bool) → Puts a b text rest true → Appends b c sent → rest ≡ sent ++ more → Puts a c text more w
+pub puts_more : (a b c : Option (List ℕ)) (text rest sent more : List ℕ) (w : Bool) → Sends a b text rest true → Appends b c sent → rest ≡ sent ++ more → Sends a c text more w
 puts_more a b c text rest sent more w h k e = record {
   sent = h.sent ++ sent;
   unsent = more;
@@ -47,7 +47,7 @@ puts_more a b c text rest sent more w h k e = record {
   waits = λ e. refl;
 }
 
-pub puts_stop : (a b c : Option (List ℕ)) (text rest waiting : List ℕ) → Puts a b text rest true → Keeps b c → Puts a c text waiting false
+pub puts_stop : (a b c : Option (List ℕ)) (text rest waiting : List ℕ) → Sends a b text rest true → Keeps b c → Sends a c text waiting false
 puts_stop a b c text rest waiting h k = record {
   sent = h.sent ++ [];
   unsent = h.unsent;
@@ -56,7 +56,7 @@ puts_stop a b c text rest waiting h k = record {
   waits = λ e. cc;
 }
 
-pub puts_kept : (a b c : Option (List ℕ)) (text rest : List ℕ) (w : Bool) → Puts a b text rest true → Puts b c rest [] w → Puts a c text [] w
+pub puts_kept : (a b c : Option (List ℕ)) (text rest : List ℕ) (w : Bool) → Sends a b text rest true → Sends b c rest [] w → Sends a c text [] w
 puts_kept a b c text rest w h k = record {
   sent = h.sent ++ k.sent;
   unsent = k.unsent;
@@ -65,8 +65,8 @@ puts_kept a b c text rest w h k = record {
   waits = k.waits;
 }
 
-pub puts_at_stop : (a b : Option (List ℕ)) (text x y : List ℕ) → Puts a b text x false → Puts a b text y false
+pub puts_at_stop : (a b : Option (List ℕ)) (text x y : List ℕ) → Sends a b text x false → Sends a b text y false
 puts_at_stop a b text x y h = record { sent = h.sent; unsent = h.unsent; all = h.all; took = h.took; waits = λ e. cc }
 
-pub puts_drop : (a b c : Option (List ℕ)) (text rest : List ℕ) (n : ℕ) → Puts a b text rest true → Appends b c (take n rest) → Puts a c text (drop n rest) true
+pub puts_drop : (a b c : Option (List ℕ)) (text rest : List ℕ) (n : ℕ) → Sends a b text rest true → Appends b c (take n rest) → Sends a c text (drop n rest) true
 puts_drop a b c text rest n h k = puts_more a b c text rest (take n rest) (drop n rest) true h k (sym (take-append-drop n rest))

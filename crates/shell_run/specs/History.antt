@@ -3,15 +3,11 @@ use Rattle.std.specs.Prelude.{◌≡◌, ◌≢◌, ◌⊎◌, ℕ, ◌+◌, ◌
 use Rattle.std.specs.List.{flat_map, filter, All, AllPairs, Contains, list_any, slice_get}
 use Rattle.std.specs.Prelude.{Some}
 use Rattle.ts_base.specs.Vectors.{Vector}
-use Rattle.ts_base.specs.Bytes.{vector_bytes}
+use Rattle.ts_base.specs.Spelling.{vector_bytes}
 use Rattle.ts_query.specs.Queries.{Query}
 use Rattle.ts_match.specs.Meaning.{Holds}
-
--- where a document lies, and its number
-pub record Name : Type 0 where
-  pub page : ℕ
-  pub slot : ℕ
-  pub serial : ℕ
+use Rattle.shell_script.specs.Name.{Name}
+use Rattle.shell_run.specs.declared.store.TheConstants.{HEAD, LONGEST, PAGE_ROOM}
 
 pub record Document : Type 0 where
   pub name : Name
@@ -48,20 +44,25 @@ by_serial (d ∷ ds) = placed d (by_serial ds)
 
 -- the documents that are there after a history
 abbrev pub docs : History → List Document
-docs commits = by_serial (filter (λ (d : Document). not (has_serial d.name.serial (deletes commits))) (inserts commits))
+docs commits =
+    by_serial (filter (λ (d : Document). not (has_serial d.name.serial (deletes commits))) (inserts commits))
 
 -- the names of the documents that satisfy the query, in their order
 abbrev pub IsFound : Query → List Document → List Name → Type 0
 IsFound q [] names = names ≡ []
-IsFound q (d ∷ ds) names = (Holds q d.vector × ((rest : List Name) × (names ≡ d.name ∷ rest) × IsFound q ds rest)) ⊎ (¬ Holds q d.vector × IsFound q ds names)
+IsFound q (d ∷ ds) names =
+    (Holds q d.vector × ((rest : List Name) × (names ≡ d.name ∷ rest) × IsFound q ds rest))
+    ⊎ (¬ Holds q d.vector × IsFound q ds names)
 
 -- the room that a document of this vector takes on its page
 abbrev pub room : Vector → ℕ
-room v = 29 + length (vector_bytes v)
+room v = HEAD + length (vector_bytes v)
 
 -- until there are more pages: the vector is too long, or the one page has no room
 abbrev pub IsFull : List Document → Vector → Type 0
-IsFull ds v = (2000 < length (vector_bytes v)) ⊎ (8168 < sum_by (λ (d : Document). room d.vector) ds + room v)
+IsFull ds v =
+    (LONGEST < length (vector_bytes v))
+    ⊎ (PAGE_ROOM < sum_by (λ (d : Document). room d.vector) ds + room v)
 
 -- the first is a beginning of the second
 abbrev pub Begins : History → History → Type 0
@@ -73,7 +74,8 @@ serials commits = map (λ (d : Document). d.name.serial) (inserts commits)
 pub record IsLawful (commits : History) : Type 0 where
   pub apart : AllPairs (λ (a b : ℕ). a ≢ b) (serials commits)
   pub deleted_once : AllPairs (λ (a b : Name). a.serial ≢ b.serial) (deletes commits)
-  pub deleted_later : (k : ℕ) (c : Commit) → slice_get commits k ≡ Some c → All (λ (x : Name). Contains (map (λ (d : Document). d.name) (inserts (take k commits))) x) c.deleted
+  pub deleted_later : (k : ℕ) (c : Commit) → slice_get commits k ≡ Some c
+      → All (λ (x : Name). Contains (map (λ (d : Document). d.name) (inserts (take k commits))) x) c.deleted
 
 -- until documents lie in pages: the name of a document before which so many were inserted
 abbrev pub name_of : ℕ → Name
@@ -81,4 +83,5 @@ name_of place = record { page = 2; slot = place; serial = place + 1 }
 
 -- each commit inserts one document, which has its name from its place
 abbrev pub IsNumbered : History → Type 0
-IsNumbered commits = (k : ℕ) (c : Commit) → slice_get commits k ≡ Some c → (v : Vector) × (c ≡ insertion (record { name = name_of k; vector = v }))
+IsNumbered commits = (k : ℕ) (c : Commit) → slice_get commits k ≡ Some c
+    → (v : Vector) × (c ≡ insertion (record { name = name_of k; vector = v }))

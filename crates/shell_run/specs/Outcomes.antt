@@ -5,9 +5,8 @@ use Rattle.std.specs.List.{list_any}
 use Rattle.std.specs.Str.Lines.{lines}
 use Rattle.std.specs.Io.KnownBytes.{Appends}
 use Rattle.shell_run.specs.Run.{Row}
-use Rattle.shell_run.specs.Replies.{Reply, refused}
+use Rattle.shell_script.specs.Replies.{Reply, refused}
 use Rattle.shell_run.specs.Script.{AreRows, printed_rows}
-use Rattle.shell_run.specs.Printing.{Puts}
 
 abbrev pub is_refusal : Reply → Bool
 is_refusal (refused why) = true
@@ -16,23 +15,8 @@ is_refusal reply = false
 abbrev pub some_refused : List Row → Bool
 some_refused rows = list_any (λ (r : Row). is_refusal r.reply) rows
 
--- The rows are those of a script's first lines, of all of them where this went well, and the sink took a beginning of their text, all of it where this went well.
-pub record Ran (text : List ℕ) (before after : Option (List ℕ)) (rows : List Row) (well : Bool) : Type 0 where
-  pub done : List (List ℕ)
-  pub left : List (List ℕ)
-  pub script : lines text ≡ done ++ left
-  pub behind : Bool
-  pub each : AreRows 1 false done rows behind
-  pub printed : Puts before after (printed_rows rows) [] well
-  pub whole : well ≡ true → left ≡ []
-
--- nothing was run, and nothing was written
-pub record NotRun (status : ℕ) (before after : Option (List ℕ)) : Type 0 where
-  pub sink : Appends before after []
-  pub statuses : (status ≢ 0) × (status ≢ 1) × (status ≢ 7)
-
--- The rows are those of the script, and the sink took their text. With status 5 or 7 they are those of its first lines, and the sink took a beginning of their text.
-pub record Answered (text : List ℕ) (status : ℕ) (before after : Option (List ℕ)) (rows : List Row) : Type 0 where
+-- The rows are those of a script's first lines, and the sink took a beginning of their text.
+pub record HasPrinted (text : List ℕ) (before after : Option (List ℕ)) (rows : List Row) : Type 0 where
   pub done : List (List ℕ)
   pub left : List (List ℕ)
   pub script : lines text ≡ done ++ left
@@ -42,6 +26,18 @@ pub record Answered (text : List ℕ) (status : ℕ) (before after : Option (Lis
   pub unsent : List ℕ
   pub printed : sent ++ unsent ≡ printed_rows rows
   pub took : Appends before after sent
-  pub whole : (status ≡ 5) ⊎ (status ≡ 7) ⊎ ((left ≡ []) × (unsent ≡ []))
+
+-- nothing was run, and nothing was written
+pub record NotRun (status : ℕ) (before after : Option (List ℕ)) : Type 0 where
+  pub sink : Appends before after []
+  pub statuses : (status ≢ 0) × (status ≢ 1) × (status ≢ 7)
+
+-- The rows are those of the script, and the sink took their text. With status 5 or 7 they are those
+-- of its first lines, and the sink took a beginning of their text.
+pub record Answered (text : List ℕ) (status : ℕ) (before after : Option (List ℕ))
+    (rows : List Row) : Type 0 where
+  pub so_far : HasPrinted text before after rows
+  pub statuses : (status ≡ 0) ⊎ (status ≡ 1) ⊎ (status ≡ 3) ⊎ (status ≡ 5) ⊎ (status ≡ 7)
+  pub whole : (status ≡ 5) ⊎ (status ≡ 7) ⊎ ((so_far.left ≡ []) × (so_far.unsent ≡ []))
   pub one : status ≡ 1 → some_refused rows ≡ true
   pub zero : status ≡ 0 → some_refused rows ≡ false

@@ -1,48 +1,60 @@
 -- What a run is: each statement with its reply and its notes.
-use Rattle.std.specs.Prelude.{◌≡◌, ◌⊎◌, ℕ, ◌+◌, ◌-◌, ◌^◌, ◌<◌, ◌≤◌, Bool, false, ◌==◌, List, length, take, count_by, sum_by}
+use Rattle.std.specs.Prelude.{◌≡◌, ◌⊎◌, ◌↔◌, ℕ, ◌+◌, ◌-◌, ◌^◌, ◌<◌, ◌≤◌, Bool, false, ◌==◌, List, length, take, count_by, sum_by}
 use Rattle.std.specs.Prelude.{Option, Some, None, IfSome}
 use Rattle.std.specs.List.{All, Any, slice_get}
 use Rattle.ts_base.specs.Vectors.{Vector}
 use Rattle.ts_query.specs.Queries.{Query}
 use Rattle.ts_query.specs.Refusals.{IsReadAs}
-use Rattle.shell_run.specs.Grammar.{Ask, insert, search, show, query, nothing}
-use Rattle.shell_run.specs.History.{Name, Document, Commit, History, insertion, docs, IsFound, IsFull, Begins, IsLawful}
+use Rattle.shell_script.specs.Grammar.{Statement, insert, search, show, query, nothing}
+use Rattle.shell_script.specs.Name.{Name}
+use Rattle.shell_run.specs.History.{Document, Commit, History, insertion, docs, IsFound, IsFull, Begins, IsLawful}
 use Rattle.shell_run.specs.Entries.{IsLogFull}
-pub use Rattle.shell_run.specs.Replies.{Refusal, no_statement, bad_vector, bad_query, long_lexeme, large_vector, large_query, store_full, log_full, down, device, memory}
-pub use Rattle.shell_run.specs.Replies.{Reply, stored, lists, shows_vector, shows_query, refused}
+pub use Rattle.shell_script.specs.Replies.{Refusal, no_statement, store_full, log_full, down, device, memory, text_refused}
+pub use Rattle.shell_script.specs.Replies.{Reply, stored, lists, shows_vector, shows_query, refused}
 use Rattle.shell_run.specs.Values.{IsValueOf, ExprFails, QueryFails, IsRefusedBy, IsShown, IsQueried}
 
--- Where a statement stands: the step of the script, where a block is one step; the session; and its place there.
+-- Where a statement stands: the step of the script, where a block is one step; the session; and
+-- its place there.
 pub record Place : Type 0 where
   pub step : ℕ
   pub session : ℕ
   pub turn : ℕ
 
--- The notes of a statement: how many commits it saw, and how many stand before its own, if it has one; by how much the
--- device's count of faults and its count of failed writes and syncs rose in it; the device's clock at its answer.
+-- The notes of a statement: how many commits it saw, and how many stand before its own, if it has
+-- one; by how much the device's count of faults and its count of failed writes and syncs rose in it;
+-- the count of faults and the clock of the device at its answer.
 pub record Note : Type 0 where
   pub snapshot : ℕ
   pub commit : Option ℕ
   pub faults : ℕ
   pub writes : ℕ
+  pub count : ℕ
   pub clock : ℕ
 
+-- A statement with its reply. Its line, which its refusal may tell, is one of its step's.
 pub record Row : Type 0 where
   pub place : Place
-  pub ask : Ask
+  pub line : ℕ
+  pub statement : Statement
   pub reply : Reply
   pub note : Note
 
--- the device's counts at the beginning and at the end of the run
+-- the device's counts at the beginning and at the end of the run; of faults also just after the
+-- opening
 pub record Counts : Type 0 where
   pub faults : ℕ
+  pub faults_opened : ℕ
   pub faults_after : ℕ
   pub writes : ℕ
   pub writes_after : ℕ
 
 -- one ended before the other began
 abbrev pub Before : Row → Row → Type 0
-Before a b = (a.place.step < b.place.step) ⊎ ((a.place.step ≡ b.place.step) × (a.place.session ≡ b.place.session) × (a.place.turn < b.place.turn))
+Before a b =
+    (a.place.step < b.place.step)
+    ⊎ ((a.place.step ≡ b.place.step)
+    × (a.place.session ≡ b.place.session)
+    × (a.place.turn < b.place.turn))
 
 -- the statement has this commit in the history
 abbrev pub HasOwn : History → Note → Commit → Type 0
@@ -50,7 +62,9 @@ HasOwn commits note c = (p : ℕ) × (note.commit ≡ Some p) × (slice_get comm
 
 -- the commit that a fault may have left of an insertion
 abbrev pub MayHaveOwn : History → Note → Vector → Type 0
-MayHaveOwn commits note v = (note.commit ≡ None) ⊎ ((name : Name) × HasOwn commits note (insertion (record { name = name; vector = v })))
+MayHaveOwn commits note v =
+    (note.commit ≡ None)
+    ⊎ ((name : Name) × HasOwn commits note (insertion (record { name = name; vector = v })))
 
 -- the documents that a statement saw
 abbrev pub seen_by : History → Note → List Document
@@ -62,40 +76,52 @@ MetFault counts note = (0 < note.faults) ⊎ (2 ^ 64 - 1 ≤ counts.faults_after
 
 -- a count just after a fault of this run, and a write or a sync failed in it
 abbrev pub IsDownSince : Counts → ℕ → Type 0
-IsDownSince counts count = (counts.faults < count) × (count ≤ counts.faults_after) × (counts.writes < counts.writes_after)
+IsDownSince counts count =
+    (counts.faults < count) × (count ≤ counts.faults_after) × (counts.writes < counts.writes_after)
 
 -- what an insertion of the vector is answered
 abbrev pub IsInserted : Counts → History → Vector → Reply → Note → Type 0
-IsInserted counts commits v (stored name) note = HasOwn commits note (insertion (record { name = name; vector = v })) × (IsFull (seen_by commits note) v → ⊥) × (IsLogFull (seen_by commits note) v → ⊥)
-IsInserted counts commits v (refused store_full) note = (note.commit ≡ None) × IsFull (seen_by commits note) v
-IsInserted counts commits v (refused log_full) note = (note.commit ≡ None) × (IsFull (seen_by commits note) v → ⊥) × IsLogFull (seen_by commits note) v
-IsInserted counts commits v (refused (down count)) note = MayHaveOwn commits note v × IsDownSince counts count
-IsInserted counts commits v (refused device) note = MayHaveOwn commits note v × MetFault counts note
+IsInserted counts commits v (stored name) note =
+    HasOwn commits note (insertion (record { name = name; vector = v }))
+    × (IsFull (seen_by commits note) v → ⊥)
+    × (IsLogFull (seen_by commits note) v → ⊥)
+IsInserted counts commits v (refused store_full) note =
+    (note.commit ≡ None) × IsFull (seen_by commits note) v
+IsInserted counts commits v (refused log_full) note =
+    (note.commit ≡ None)
+    × (IsFull (seen_by commits note) v → ⊥)
+    × IsLogFull (seen_by commits note) v
+IsInserted counts commits v (refused (down count)) note =
+    MayHaveOwn commits note v × IsDownSince counts count
+IsInserted counts commits v (refused device) note =
+    MayHaveOwn commits note v × MetFault counts note
 IsInserted counts commits v (refused memory) note = note.commit ≡ None
 IsInserted counts commits v reply note = ⊥
 
 -- what a search by the query is answered
 abbrev pub IsSearched : Counts → History → Query → Reply → Note → Type 0
-IsSearched counts commits q (lists names) note = (note.commit ≡ None) × IsFound q (seen_by commits note) names
-IsSearched counts commits q (refused (down count)) note = (note.commit ≡ None) × IsDownSince counts count
+IsSearched counts commits q (lists names) note =
+    (note.commit ≡ None) × IsFound q (seen_by commits note) names
+IsSearched counts commits q (refused (down count)) note =
+    (note.commit ≡ None) × IsDownSince counts count
 IsSearched counts commits q (refused memory) note = note.commit ≡ None
 IsSearched counts commits q reply note = ⊥
 
-abbrev pub IsLineRefused : Place → Reply → Note → Type 0
-IsLineRefused place (refused (no_statement at)) note = (note.commit ≡ None) × (at ≡ place.step)
-IsLineRefused place reply note = ⊥
+abbrev pub IsLineRefused : ℕ → Reply → Note → Type 0
+IsLineRefused line (refused (no_statement at)) note = (note.commit ≡ None) × (at ≡ line)
+IsLineRefused line reply note = ⊥
 
 -- A statement's texts are refused, or it is answered by what they stand for.
-abbrev pub IsAnswered : Counts → History → Place → Ask → Reply → Note → Type 0
-IsAnswered counts commits place (insert e) reply note =
+abbrev pub IsAnswered : Counts → History → ℕ → Statement → Reply → Note → Type 0
+IsAnswered counts commits line (insert e) reply note =
     (IsRefusedBy (ExprFails e) reply × (note.commit ≡ None))
     ⊎ ((v : Vector) × IsValueOf e v × IsInserted counts commits v reply note)
-IsAnswered counts commits place (search text) reply note =
+IsAnswered counts commits line (search text) reply note =
     (IsRefusedBy (QueryFails text) reply × (note.commit ≡ None))
     ⊎ ((q : Query) × IsReadAs text q × IsSearched counts commits q reply note)
-IsAnswered counts commits place (show e) reply note = IsShown e reply × (note.commit ≡ None)
-IsAnswered counts commits place (query text) reply note = IsQueried text reply × (note.commit ≡ None)
-IsAnswered counts commits place nothing reply note = IsLineRefused place reply note
+IsAnswered counts commits line (show e) reply note = IsShown e reply × (note.commit ≡ None)
+IsAnswered counts commits line (query text) reply note = IsQueried text reply × (note.commit ≡ None)
+IsAnswered counts commits line nothing reply note = IsLineRefused line reply note
 
 -- an answer Ok of the store
 abbrev pub IsOkOfStore : Reply → Type 0
@@ -108,10 +134,21 @@ IsDownReply (refused (down count)) = Unit {0}
 IsDownReply reply = ⊥
 
 -- a statement of the store is answered that the store is down, if its texts are not refused before
-abbrev pub FindsDown : Ask → Reply → Type 0
+abbrev pub FindsDown : Statement → Reply → Type 0
 FindsDown (insert e) reply = IsDownReply reply ⊎ IsRefusedBy (ExprFails e) reply
 FindsDown (search text) reply = IsDownReply reply ⊎ IsRefusedBy (QueryFails text) reply
-FindsDown ask reply = Unit {0}
+FindsDown statement reply = Unit {0}
+
+-- A write or a sync failed in the statement: only an insertion makes them.
+abbrev pub HasFailed : Statement → Reply → Type 0
+HasFailed (insert e) (refused device) = Unit {0}
+HasFailed statement reply = ⊥
+
+-- The statement called the device: an insertion does, where it comes to the log.
+abbrev pub HasCalled : Statement → Reply → Type 0
+HasCalled (insert e) (stored name) = Unit {0}
+HasCalled (insert e) (refused device) = Unit {0}
+HasCalled statement reply = ⊥
 
 abbrev pub is_at : ℕ → Option ℕ → Bool
 is_at k None = false
@@ -120,11 +157,17 @@ is_at k (Some p) = p == k
 abbrev pub has_commit : ℕ → Row → Bool
 has_commit k row = is_at k row.note.commit
 
--- what the one saw, and what it committed where it answered Ok, the other has seen; where a write or a sync failed in the one, the other finds the store down
-abbrev pub IsSeenBy : Row → Row → Type 0
-IsSeenBy a b = (a.note.snapshot ≤ b.note.snapshot) × (IsOkOfStore a.reply → IfSome a.note.commit (λ p. p < b.note.snapshot)) × (0 < a.note.writes → FindsDown b.ask b.reply)
+-- what is known where the one ended before the other began
+pub record IsSeenBy (a b : Row) : Type 0 where
+  -- what the one saw, and what it committed where it answered Ok, the other has seen
+  pub snapshot : a.note.snapshot ≤ b.note.snapshot
+  pub commit : IsOkOfStore a.reply → IfSome a.note.commit (λ p. p < b.note.snapshot)
+  -- where a write or a sync failed in the one, the other finds the store down
+  pub down : 0 < a.note.writes → FindsDown b.statement b.reply
+  pub count : a.note.count + b.note.faults ≤ b.note.count
 
--- A note that is within two lengths of the history, at the start and at the end of the run. A statement's own commit comes behind what it saw.
+-- A note that is within two lengths of the history, at the start and at the end of the run.
+-- A statement's own commit comes behind what it saw.
 pub record IsWithin (low high : ℕ) (note : Note) : Type 0 where
   pub low_is : low ≤ note.snapshot
   pub high_is : note.snapshot ≤ high
@@ -134,12 +177,23 @@ pub record IsWithin (low high : ℕ) (note : Note) : Type 0 where
 pub record Run (counts : Counts) (first commits : History) (rows : List Row) : Type 0 where
   pub lawful : IsLawful commits
   pub begins : Begins first commits
-  pub answers : All (λ (r : Row). IsAnswered counts commits r.place r.ask r.reply r.note) rows
+  pub answers : All (λ (r : Row). IsAnswered counts commits r.line r.statement r.reply r.note) rows
   pub within : All (λ (r : Row). IsWithin (length first) (length commits) r.note) rows
   -- each commit past the first is the commit of one statement
   pub own : (k : ℕ) → length first ≤ k → k < length commits → count_by (has_commit k) rows ≡ 1
   pub order : All (λ (a : Row). All (λ (b : Row). Before a b → IsSeenBy a b) rows) rows
-  -- a statement finds the store down only where a write or a sync failed in an earlier one
-  pub down : All (λ (b : Row). IsDownReply b.reply → Any (λ (a : Row). Before a b × (0 < a.note.writes)) rows) rows
-  pub faults : counts.faults + sum_by (λ (r : Row). r.note.faults) rows ≤ counts.faults_after
-  pub writes : counts.writes + sum_by (λ (r : Row). r.note.writes) rows ≤ counts.writes_after
+  -- A statement finds the store down only where a write or a sync failed in one that did not come after it.
+  -- It tells the device's count just after that one, and all tell the same.
+  pub owed : All (λ (b : Row). (n : ℕ) → b.reply ≡ refused (down n)
+      → Any (λ (a : Row). (Before b a → ⊥) × (0 < a.note.writes) × (a.note.count ≡ n)) rows) rows
+  pub one_count : All (λ (a : Row). All (λ (b : Row). (m n : ℕ) → a.reply ≡ refused (down m)
+      → b.reply ≡ refused (down n) → m ≡ n) rows) rows
+  -- a write or a sync failed in a statement exactly where it is answered so
+  pub failed : All (λ (r : Row). (0 < r.note.writes) ↔ HasFailed r.statement r.reply) rows
+  pub called : All (λ (r : Row). 0 < r.note.faults → HasCalled r.statement r.reply) rows
+  -- each rise of the counts was in the opening or in a statement
+  pub counted : All (λ (r : Row). (counts.faults_opened + r.note.faults ≤ r.note.count)
+      × (r.note.count ≤ counts.faults_after)) rows
+  pub opening : counts.faults ≤ counts.faults_opened
+  pub faults : counts.faults_opened + sum_by (λ (r : Row). r.note.faults) rows ≡ counts.faults_after
+  pub writes : counts.writes + sum_by (λ (r : Row). r.note.writes) rows ≡ counts.writes_after

@@ -1,88 +1,30 @@
 -- The rows of a script, and the text that is printed of them.
-use Rattle.std.specs.Prelude.{◌≡◌, ◌⊎◌, ℕ, zero, suc, ◌+◌, Bool, List, [], ◌∷◌, ◌++◌, codes, decimal, Option, Some, None}
+use Rattle.std.specs.Prelude.{◌≡◌, ◌⊎◌, ℕ, ◌+◌, Bool, List, [], ◌∷◌}
 use Rattle.std.specs.List.{flat_map}
-use Rattle.shell_run.specs.Grammar.{IsSkipped, Asks, Continues}
-use Rattle.shell_run.specs.History.{Name}
+use Rattle.shell_script.specs.Grammar.{IsSkipped, Says, Continues}
+use Rattle.shell_script.specs.Texts.{said}
 use Rattle.shell_run.specs.Run.{Row}
-use Rattle.shell_run.specs.Replies.{Refusal, no_statement, bad_vector, bad_query, long_lexeme, large_vector, large_query, store_full, log_full, down, device, memory}
-use Rattle.shell_run.specs.Replies.{Reply, stored, lists, shows_vector, shows_query, refused}
 
 -- the row of a line that is not skipped
 pub record IsRowOf (number : ℕ) (within : Bool) (line : List ℕ) (row : Row) : Type 0 where
   pub step : row.place.step ≡ number
+  pub numbered : row.line ≡ number
   pub turn : row.place.turn ≡ 0
   pub counts : IsSkipped line → ⊥
-  pub asks : Asks within line row.place.session row.ask
+  pub says : Says within line row.place.session row.statement
 
--- The rows of lines, of which the first has this number; whether it is within a body, and whether the lines behind them are.
+-- The rows of lines, of which the first has this number; whether it is within a body, and whether
+-- the lines behind them are.
 abbrev pub AreRows : ℕ → Bool → List (List ℕ) → List Row → Bool → Type 0
 AreRows number within [] rows behind = (rows ≡ []) × (behind ≡ within)
 AreRows number within (line ∷ lines) rows behind =
     (IsSkipped line × AreRows (number + 1) within lines rows behind)
-    ⊎ ((row : Row) × (rest : List Row) × (next : Bool) × (rows ≡ row ∷ rest) × IsRowOf number within line row × Continues within line next × AreRows (number + 1) next lines rest behind)
+    ⊎ ((row : Row) × (rest : List Row) × (next : Bool) × (rows ≡ row ∷ rest)
+    × IsRowOf number within line row × Continues within line next
+    × AreRows (number + 1) next lines rest behind)
 
-abbrev pub name_text : Name → List ℕ
-name_text n = decimal n.page ++ codes "/" ++ decimal n.slot ++ codes "#" ++ decimal n.serial
-
--- a statement of a session is answered behind its label
-abbrev pub label_text : ℕ → List ℕ
-label_text zero = []
-label_text (suc n) = codes "@" ++ (decimal (suc n) ++ codes " ")
-
--- a text, if there is any, stands behind a space
-abbrev pub behind_space : List ℕ → List ℕ
-behind_space [] = []
-behind_space (c ∷ text) = 32 ∷ c ∷ text
-
--- the number of a refusal and its words
-abbrev pub refusal_words : Refusal → List ℕ
-refusal_words (no_statement line) = codes "1 statement"
-refusal_words (bad_vector at) = codes "2 vector"
-refusal_words (bad_query at) = codes "3 query"
-refusal_words (long_lexeme at) = codes "6 lexeme"
-refusal_words (large_vector bytes) = codes "7 vector size"
-refusal_words large_query = codes "8 query size"
-refusal_words store_full = codes "11 store full"
-refusal_words log_full = codes "12 log full"
-refusal_words (down count) = codes "14 down"
-refusal_words device = codes "15 device"
-refusal_words memory = codes "17 memory"
-
--- the line, offset, size or count that it tells
-abbrev pub refusal_detail : Refusal → Option ℕ
-refusal_detail (no_statement line) = Some line
-refusal_detail (bad_vector at) = Some at
-refusal_detail (bad_query at) = Some at
-refusal_detail (long_lexeme at) = Some at
-refusal_detail (large_vector bytes) = Some bytes
-refusal_detail large_query = None
-refusal_detail store_full = None
-refusal_detail log_full = None
-refusal_detail (down count) = Some count
-refusal_detail device = None
-refusal_detail memory = None
-
-abbrev pub detail_text : Option ℕ → List ℕ
-detail_text None = []
-detail_text (Some n) = codes " " ++ decimal n
-
-abbrev pub refusal_text : Refusal → List ℕ
-refusal_text why = refusal_words why ++ detail_text (refusal_detail why)
-
--- what a reply says
-abbrev pub reply_text : Reply → List ℕ
-reply_text (stored name) = codes "ok " ++ name_text name
-reply_text (lists names) = codes "found" ++ flat_map (λ (n : Name). codes " " ++ name_text n) names
-reply_text (shows_vector text) = codes "vector" ++ behind_space text
-reply_text (shows_query text) = codes "query" ++ behind_space text
-reply_text (refused why) = codes "error " ++ refusal_text why
-
--- one line for a reply
-abbrev pub said : ℕ → Reply → List ℕ
-said session reply = label_text session ++ (reply_text reply ++ codes "\n")
-
-abbrev pub printed : Row → List ℕ
-printed row = said row.place.session row.reply
+abbrev pub printed_row : Row → List ℕ
+printed_row row = said row.place.session row.reply
 
 abbrev pub printed_rows : List Row → List ℕ
-printed_rows rows = flat_map printed rows
+printed_rows rows = flat_map printed_row rows

@@ -5,14 +5,15 @@ use Rattle.ts_vector.specs.Text.{IsTextOf}
 use Rattle.ts_vector.specs.Changes.{stripped, IsJoinOf}
 use Rattle.ts_vector.specs.Failures.{TextFails, JoinFails}
 use Rattle.ts_vector.specs.Printed.{vector_text}
-use Rattle.ts_vector.specs.declared.VectorError.TheVariants as vectors
+use Rattle.ts_vector.specs.declared.error.VectorError.TheVariants as vectors
 use Rattle.ts_query.specs.Queries.{Query}
 use Rattle.ts_query.specs.Refusals.{IsReadAs, IsRefused}
 use Rattle.ts_query.specs.Printing.{printed}
 use Rattle.ts_query.specs.declared.error.QueryError.TheVariants as queries
-use Rattle.shell_run.specs.Grammar.{Part, Expr}
-use Rattle.shell_run.specs.Replies.{Refusal, bad_vector, bad_query, long_lexeme, large_vector, large_query, memory}
-use Rattle.shell_run.specs.Replies.{Reply, shows_vector, shows_query, refused}
+use Rattle.shell_script.specs.Grammar.{Part, Expr}
+use Rattle.shell_script.specs.Replies.{bad_vector, bad_query, long_lexeme, large_vector, large_query}
+use Rattle.shell_script.specs.Replies.{Refusal, text_refused, memory}
+use Rattle.shell_script.specs.Replies.{Reply, shows_vector, shows_query, refused}
 
 -- the vector of a part's text, stripped where the part says so
 abbrev pub IsPartOf : Part → Vector → Type 0
@@ -28,14 +29,14 @@ IsValueOf e x = (v : Vector) × IsPartOf e.first v × IsJoinedOf v e.others x
 
 -- a part is refused for its text; memory may always run out
 abbrev pub PartFails : Part → Refusal → Type 0
-PartFails p (bad_vector at) = TextFails p.text (vectors.Syntax at)
-PartFails p (long_lexeme at) = TextFails p.text (vectors.LexemeTooLong at)
-PartFails p (large_vector bytes) = TextFails p.text (vectors.VectorTooLarge bytes)
+PartFails p (text_refused (bad_vector at)) = TextFails p.text (vectors.Syntax at)
+PartFails p (text_refused (long_lexeme at)) = TextFails p.text (vectors.LexemeTooLong at)
+PartFails p (text_refused (large_vector bytes)) = TextFails p.text (vectors.VectorTooLarge bytes)
 PartFails p memory = Unit {0}
 PartFails p why = ⊥
 
 abbrev pub JoinIsRefused : Vector → Vector → Refusal → Type 0
-JoinIsRefused v w (large_vector bytes) = JoinFails v w (vectors.VectorTooLarge bytes)
+JoinIsRefused v w (text_refused (large_vector bytes)) = JoinFails v w (vectors.VectorTooLarge bytes)
 JoinIsRefused v w memory = Unit {0}
 JoinIsRefused v w why = ⊥
 
@@ -48,9 +49,9 @@ abbrev pub ExprFails : Expr → Refusal → Type 0
 ExprFails e why = PartFails e.first why ⊎ ((v : Vector) × IsPartOf e.first v × OthersFail v e.others why)
 
 abbrev pub QueryFails : List ℕ → Refusal → Type 0
-QueryFails text (bad_query at) = IsRefused text (queries.Syntax at) ⊎ IsRefused text (queries.DistanceTooLarge at)
-QueryFails text (long_lexeme at) = IsRefused text (queries.LexemeTooLong at)
-QueryFails text large_query = IsRefused text queries.TooManyNodes
+QueryFails text (text_refused (bad_query at)) = IsRefused text (queries.Syntax at) ⊎ IsRefused text (queries.DistanceTooLarge at)
+QueryFails text (text_refused (long_lexeme at)) = IsRefused text (queries.LexemeTooLong at)
+QueryFails text (text_refused large_query) = IsRefused text queries.TooManyNodes
 QueryFails text memory = Unit {0}
 QueryFails text why = ⊥
 

@@ -1,14 +1,13 @@
 // What holds of the definitions alone.
 ghost use Rattle.std.specs.Prelude.{◌≡◌, ℕ, List};
 ghost use Rattle.ts_query.specs.Queries.{Query};
-ghost use Rattle.shell_run.specs.Grammar.{Ask, Expr, IsStatement};
-ghost use Rattle.shell_run.specs.History.{Name, Document, IsFound};
+ghost use Rattle.shell_script.specs.Grammar.{Expr};
+ghost use Rattle.shell_script.specs.Name.{Name};
+ghost use Rattle.shell_run.specs.History.{Document, IsFound};
+ghost use Rattle.shell_run.specs.Traces.{NoneIsStoredAfterFailure, EachFailureIsNoted, OneCountIsTold, NothingIsPrintedWith4, NoLogIsWiped, NoPageIsWritten};
 ghost use Rattle.shell_run.specs.Values.{IsExprAnswer, IsQueryAnswer, IsOneAnswer};
 
-/// A line is one statement at most.
-pub fn one_meaning()
-    ensures { (line : List ℕ) (s t : ℕ) (a b : Ask) → IsStatement line s a → IsStatement line t b → (s ≡ t) × (a ≡ b) }
-{}
+use disk_trait::{Disk, Sink};
 
 /// Want of memory aside, an expression has one answer, and so has the text of a query.
 pub fn one_answer()
@@ -18,5 +17,16 @@ pub fn one_answer()
 
 /// A query finds one list of names in a row of documents.
 pub fn one_list()
-    ensures { (q : Query) (ds : List Document) (a b : List Name) → IsFound q ds a → IsFound q ds b → a ≡ b }
+    ensures { (q : Query) (ds : List Document) (a b : List Name) → IsFound q ds a → IsFound q ds b
+        → a ≡ b }
+{}
+
+/// Runs that the contract of a run rules out.
+pub fn ruled_out<K: Sink, D: Disk>()
+    ensures stored_after_failure { NoneIsStoredAfterFailure }
+    ensures unnoted { EachFailureIsNoted }
+    ensures two_counts { OneCountIsTold }
+    ensures printed_with_4 { NothingIsPrintedWith4 }
+    ensures wiped { NoLogIsWiped K.Sink D.Disk }
+    ensures page_written { NoPageIsWritten K.Sink D.Disk }
 {}

@@ -1,23 +1,22 @@
 //! A script from a source to a sink, over documents in memory.
 #![tactic(auto)]
 
+mod answers;
+mod entries;
+mod error;
 mod gate;
-mod journal;
 mod laws;
-mod line;
 mod opening;
-mod printing;
 mod reading;
-mod replies;
+mod sending;
 mod serving;
-mod statement;
 mod store;
-mod tokens;
 mod top;
 mod turns;
 mod values;
+mod words;
 
 pub use gate::{Gate, NoGate};
-pub use laws::{one_answer, one_list, one_meaning};
-pub use tokens::one_spelling;
+pub use laws::{one_answer, one_list, ruled_out};
 pub use top::{Outcome, run_shell};
+pub use words::Settings;

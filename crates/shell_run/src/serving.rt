@@ -1,68 +1,47 @@
 // A script's lines, one after another.
-ghost use Rattle.std.specs.Prelude.{◌≡◌, ◌⊎◌, ℕ, ◌+◌, ◌-◌, ◌^◌, ◌<◌, ◌≤◌, List, [], ◌++◌, ◌||◌, ◌∷◌, min, true, length, IfOk, OnOk, OnErr, IsErrOf, is_ok, IfSome, IfNone};
-ghost use Rattle.std.specs.List.{All};
-ghost use Rattle.std.specs.Str.Lines.{strip_carriage_return};
+ghost use Rattle.std.specs.Prelude.{◌≡◌, ◌⊎◌, ℕ, ◌+◌, ◌-◌, ◌^◌, ◌<◌, ◌≤◌, List, [], ◌++◌, ◌||◌, ◌∷◌, min, true, length, IfOk, IfErr, OnOk, OnErr, IsErrOf, is_ok, IfSome, IfNone};
 ghost use Rattle.disk_trait.specs.Device.{Rose};
-ghost use Rattle.shell_run.specs.Answers.{reply};
-ghost use Rattle.shell_run.specs.Serving.{Served, Passed};
-ghost use Rattle.shell_run.specs.Lines.{HasNo};
-ghost use Rattle.shell_run.specs.Outcomes.{Ran, is_refusal, some_refused};
-ghost use Rattle.shell_run.specs.Run.{Row};
-ghost use Rattle.wal.specs.Waiting.{end_of};
-ghost use Rattle.shell_run.specs.Opened.{OpenedAt, RanOn};
-ghost use Rattle.shell_run.specs.Stores.{IsNew};
-ghost use Rattle.shell_run.specs.History.{History, IsNumbered};
-ghost use Rattle.shell_run.specs.declared.printing.Halt.TheVariants.{Fault};
+ghost use Rattle.shell_script.specs.ReplyView.{reply};
+ghost use Rattle.shell_run.specs.Inner.Serving.{Served, Passed, HasRunLines};
+ghost use Rattle.shell_run.specs.Outcomes.{is_refusal};
+ghost use Rattle.wal.specs.Waiting.{end_of, down_of};
+ghost use Rattle.shell_run.specs.Inner.Stores.{StandsFor, log_of};
+ghost use Rattle.shell_run.specs.History.{History};
+ghost use Rattle.shell_run.specs.declared.error.Stop.TheVariants.{SinkFault, OutOfMemory};
 
+use crate::answers::answer;
+use crate::error::Stop;
 use crate::gate::Gate;
-use crate::line::{continues, is_skipped};
-use crate::printing::{Halt, flush, put, text_of};
-use crate::replies::Reply;
-use crate::statement::parse_line;
+use crate::sending::{flush, put};
 use crate::store::Store;
 use crate::turns::Turns;
 use disk_trait::{Disk, Sink};
-use memchr::memchr;
+use shell_script::{Reply, cut_at, is_skipped, read_line, text_of, without_return};
 use std::alloc::Global;
-use wal::Wal;
 
-/// What a run keeps: the documents, the text that is not yet written, whether a reply was a refusal,
-/// whether the next line is within a body, and the statements of each session so far.
+/// What a run keeps between two lines.
 #[derive(Drop)]
 pub struct Desk {
+    /// The documents and their log.
     pub store: Store,
+    /// The text that is not yet written.
     pub waiting: Vec<u8>,
+    /// Whether a reply was a refusal.
     pub refused: bool,
+    /// Whether the next line is within a body.
     pub within: bool,
+    /// The statements of each session so far.
     pub turns: Turns,
 }
 
-/// What stands before the first such byte, and behind it.
-fn cut_at(byte: u8, bytes: &[u8]) -> Option<(&[u8], &[u8])>
-    ensures some { IfSome result (λ r. (bytes.now ≡ r.0.now ++ byte ∷ r.1.now) × HasNo byte r.0.now) }
-    ensures none { IfNone result (HasNo byte bytes.now) }
-{
-    match memchr(byte, bytes) {
-        Some(at) => Some((&bytes[..at], &bytes[at + 1..])),
-        None => None,
-    }
-}
-
-fn without_return(line: &[u8]) -> &[u8]
-    ensures { result.now ≡ strip_carriage_return line.now }
-{
-    match line {
-        [front @ .., b'\r'] => front,
-        _ => line,
-    }
-}
-
+/// Whether the reply is a refusal.
 fn is_refused(answer: &Reply) -> bool
     ensures { result ≡ is_refusal (reply answer.now) }
 {
     matches!(answer, Reply::Refused(_))
 }
 
+/// Whether one of them holds.
 fn either(a: bool, b: bool) -> bool
     ensures { result ≡ (a || b) }
 {
@@ -70,7 +49,7 @@ fn either(a: bool, b: bool) -> bool
 }
 
 #[tactic(auto, using(crate::proofs::Streams::puts_start))]
-// One line.
+/// One line.
 fn serve_line<K: Sink, D: Disk, G: Gate>(
     alloc: Global,
     gate: &G,
@@ -79,25 +58,29 @@ fn serve_line<K: Sink, D: Disk, G: Gate>(
     disk: &mut D,
     number: u64,
     line: &[u8],
-) -> Result<(), Halt>
-    ensures served { Served D.tells D.seen D.clock D.image D.fault_count D.write_fault_count number line.now desk.old desk.new disk.old disk.new (K.taken out.old) (K.taken out.new) (is_ok result)
-        ⊎ Passed line.now desk.old desk.new disk.old disk.new (K.taken out.old) (K.taken out.new) (is_ok result) }
+) -> Result<(), Stop>
+    ensures served { Served D.Disk number line.now desk.old desk.new disk.old disk.new
+        (K.taken out.old) (K.taken out.new) (is_ok result)
+        ⊎ Passed line.now desk.old desk.new disk.old disk.new (K.taken out.old) (K.taken out.new)
+        (is_ok result) }
     ensures later { K.fault_count out.old ≤ K.fault_count out.new }
-    ensures fault { IsErrOf result Fault → Rose (K.fault_count out.old) (K.fault_count out.new) }
+    ensures error { IfErr result (λ e. (e ≡ SinkFault) ⊎ (e ≡ OutOfMemory)) }
+    ensures fault { IsErrOf result SinkFault
+        → Rose (K.fault_count out.old) (K.fault_count out.new) }
     ensures counts { D.fault_count disk.old ≤ D.fault_count disk.new }
 {
     if is_skipped(line) {
         return Ok(());
     }
-    let statement = parse_line(alloc, desk.within, line)?;
-    desk.within = continues(desk.within, line);
-    let session = statement.session;
+    let said = read_line(alloc, desk.within, line)?;
+    desk.within = said.within;
+    let session = said.session;
     desk.turns.pass(gate, session);
-    let answer = desk.store.answer(disk, number, statement.ask);
-    desk.refused = either(desk.refused, is_refused(&answer));
-    match text_of(alloc, session, &answer) {
+    let reply = answer(alloc, &mut desk.store, disk, number, said.statement);
+    desk.refused = either(desk.refused, is_refused(&reply));
+    match text_of(alloc, session, &reply) {
         Ok(text) => put(out, &mut desk.waiting, &text),
-        Err(_) => Err(Halt::Memory),
+        Err(_) => Err(Stop::OutOfMemory),
     }
 }
 
@@ -107,20 +90,21 @@ pub fn run_lines<K: Sink, D: Disk, G: Gate>(
     gate: &G,
     out: &mut K,
     disk: &mut D,
-    wal: Wal,
+    store: Store,
     text: &[u8],
-) -> Result<bool, Halt>
-    requires { IsNew wal }
-    ensures ran { (rows : List Row) × Ran text.now (K.taken out.old) (K.taken out.new) rows (is_ok result)
-        × ((commits : History) × IsNumbered commits × ((first : D) (c0 : ℕ) → OpenedAt D.tells D.seen D.clock D.image D.fault_count D.write_fault_count first c0 disk.old (end_of wal)
-        → RanOn D.tells D.seen D.clock D.image D.fault_count D.write_fault_count first disk.new commits rows))
-        × IfOk result (λ refused. refused ≡ some_refused rows) }
+) -> Result<bool, Stop>
+    requires { down_of (log_of store) ≡ None }
+    ensures ran { (history : History) → StandsFor store history
+        → HasRunLines D.Disk history text.now
+        (K.taken out.old) (K.taken out.new) disk.old disk.new (end_of (log_of store)) result }
     ensures counts { D.fault_count disk.old ≤ D.fault_count disk.new }
     ensures later { K.fault_count out.old ≤ K.fault_count out.new }
-    ensures fault { IsErrOf result Fault → Rose (K.fault_count out.old) (K.fault_count out.new) }
+    ensures error { IfErr result (λ e. (e ≡ SinkFault) ⊎ (e ≡ OutOfMemory)) }
+    ensures fault { IsErrOf result SinkFault
+        → Rose (K.fault_count out.old) (K.fault_count out.new) }
 {
     let mut desk = Desk {
-        store: Store::new(alloc, wal),
+        store,
         waiting: Vec::new(alloc),
         refused: false,
         within: false,
@@ -129,7 +113,7 @@ pub fn run_lines<K: Sink, D: Disk, G: Gate>(
     let mut rest = text;
     let mut number: u64 = 1;
     while let Some((line, more)) = cut_at(b'\n', rest) {
-        if let Err(halt) = serve_line(
+        if let Err(stop) = serve_line(
             alloc,
             gate,
             &mut desk,
@@ -138,16 +122,16 @@ pub fn run_lines<K: Sink, D: Disk, G: Gate>(
             number,
             without_return(line),
         ) {
-            return Err(halt);
+            return Err(stop);
         }
         rest = more;
         number += 1;
     }
-    if let Err(halt) = serve_line(alloc, gate, &mut desk, out, disk, number, rest) {
-        return Err(halt);
+    if let Err(stop) = serve_line(alloc, gate, &mut desk, out, disk, number, rest) {
+        return Err(stop);
     }
-    if let Err(halt) = flush(out, &mut desk.waiting) {
-        return Err(halt);
+    if let Err(stop) = flush(out, &mut desk.waiting) {
+        return Err(stop);
     }
     Ok(desk.refused)
 }

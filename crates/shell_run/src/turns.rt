@@ -31,7 +31,9 @@ impl Turns {
     /// A statement of a session passes the gate. A line without a session passes none.
     pub fn pass<G: Gate>(&mut self, gate: &G, session: u8)
         requires { session ≤ 8 }
-        ensures counted { session ≢ 0 → self.new.counts ≡ slice_set self.old.counts session (min (slice_index self.old.counts session + 1) (2 ^ 32 - 1)) }
+        ensures counted { session ≢ 0
+            → self.new.counts ≡ slice_set self.old.counts session
+            (min (slice_index self.old.counts session + 1) (2 ^ 32 - 1)) }
         ensures none { session ≡ 0 → self.new ≡ self.old }
     {
         if session == 0 {

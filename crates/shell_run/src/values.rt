@@ -5,39 +5,44 @@ ghost use Rattle.ts_base.specs.Vectors.{Vector};
 ghost use Rattle.ts_vector.specs.Changes.{IsJoinOf};
 ghost use Rattle.ts_query.specs.Refusals.{IsReadAs};
 ghost use Rattle.shell_run.specs.Values.{IsPartOf, PartFails, JoinIsRefused, IsValueOf, ExprFails, QueryFails, IsShown, IsQueried};
-ghost use Rattle.shell_run.specs.Refusing.{vector_refusal, query_refusal};
-ghost use Rattle.shell_run.specs.Answers.{refusal, reply};
-ghost use Rattle.shell_run.specs.Views.{part, expr};
+ghost use Rattle.shell_run.specs.Inner.Refusing.{vector_refusal, query_refusal};
+ghost use Rattle.shell_script.specs.ReplyView.{refusal, reply};
+ghost use Rattle.shell_script.specs.StatementView.{part, expr};
 
-use crate::replies::{Refusal, Reply};
-use crate::statement::{Expr, Part};
+use shell_script::{Expr, Part, Refusal, Reply, TextFault};
 use std::alloc::{AllocError, Global};
 use ts_query::{QueryError, TsQuery};
 use ts_vector::{TsVector, VectorError};
 
+/// The refusal that an error of a vector is printed as.
 fn vector_refused(error: VectorError) -> Refusal
     ensures { result ≡ vector_refusal error }
 {
     match error {
-        VectorError::Syntax { at } | VectorError::BadBytes { at } => Refusal::BadVector(at),
-        VectorError::LexemeTooLong { at } => Refusal::LongLexeme(at),
-        VectorError::VectorTooLarge { bytes } => Refusal::LargeVector(bytes),
+        VectorError::Syntax { at } | VectorError::BadBytes { at } => {
+            Refusal::Text(TextFault::BadVector(at))
+        }
+        VectorError::LexemeTooLong { at } => Refusal::Text(TextFault::LongLexeme(at)),
+        VectorError::VectorTooLarge { bytes } => Refusal::Text(TextFault::LargeVector(bytes)),
         VectorError::OutOfMemory => Refusal::Memory,
     }
 }
 
+/// The refusal that an error of a query is printed as.
 fn query_refused(error: QueryError) -> Refusal
     ensures { result ≡ query_refusal error }
 {
     match error {
-        QueryError::Syntax { at } | QueryError::DistanceTooLarge { at } => Refusal::BadQuery(at),
-        QueryError::LexemeTooLong { at } => Refusal::LongLexeme(at),
-        QueryError::TooManyNodes => Refusal::LargeQuery,
+        QueryError::Syntax { at } | QueryError::DistanceTooLarge { at } => {
+            Refusal::Text(TextFault::BadQuery(at))
+        }
+        QueryError::LexemeTooLong { at } => Refusal::Text(TextFault::LongLexeme(at)),
+        QueryError::TooManyNodes => Refusal::Text(TextFault::LargeQuery),
         QueryError::OutOfMemory => Refusal::Memory,
     }
 }
 
-// The vector of a part.
+/// The vector of a part.
 fn part_value(alloc: Global, from: &Part) -> Result<TsVector, Refusal>
     ensures value { IfOk result (IsPartOf (part from.now)) }
     ensures cause { IfErr result (λ why. PartFails (part from.now) (refusal why)) }
@@ -55,6 +60,7 @@ fn part_value(alloc: Global, from: &Part) -> Result<TsVector, Refusal>
     }
 }
 
+/// Both vectors joined.
 fn join(alloc: Global, first: &TsVector, second: &TsVector) -> Result<TsVector, Refusal>
     ensures value { IfOk result (IsJoinOf first.now second.now) }
     ensures cause { IfErr result (λ why. JoinIsRefused first.now second.now (refusal why)) }

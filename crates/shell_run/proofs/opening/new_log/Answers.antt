@@ -5,12 +5,12 @@ use Rattle.shell_run.proofs.Emptying.{creates, still_empty}
 use Rattle.shell_run.proofs.opening.new_log.Goals as goal
 
 pub returns-in_err-create-clause-any_moment : goal.returns-in_err-create-clause-any_moment
-returns-in_err-create-clause-any_moment g c t = creates g.D.Disk.seen g.D.Disk.clock g.D.Disk.image c.args.disk.now c.create.new.disk (c.create.ensures.any_moment t)
+returns-in_err-create-clause-any_moment g c t = creates g.D.Disk c.args.disk.now c.create.new.disk (g.D.Disk.seen c.args.disk.now).pages (c.requires.pages t) (c.create.ensures.any_moment t)
 
 pub returns-in_err-wal-clause-any_moment : goal.returns-in_err-wal-clause-any_moment
 returns-in_err-wal-clause-any_moment g c t =
-    still_empty g.D.Disk.seen g.D.Disk.clock g.D.Disk.image c.args.disk.now c.create.new.disk c.open.new.disk 17
-    (creates g.D.Disk.seen g.D.Disk.clock g.D.Disk.image c.args.disk.now c.create.new.disk (c.create.ensures.any_moment t)) (c.in_ok-create.ensures.settled t) (c.open.ensures.keeps.any_moment t)
+    still_empty g.D.Disk c.args.disk.now c.create.new.disk c.open.new.disk 17 (g.D.Disk.seen c.args.disk.now).pages
+    (creates g.D.Disk c.args.disk.now c.create.new.disk (g.D.Disk.seen c.args.disk.now).pages (c.requires.pages t) (c.create.ensures.any_moment t)) (c.in_ok-create.ensures.settled t) (c.open.ensures.keeps.any_moment t)
 
 pub returns-clause-new : goal.returns-clause-new
 returns-clause-new g c =

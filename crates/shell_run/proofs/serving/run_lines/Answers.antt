@@ -1,15 +1,13 @@
-use Rattle.std.proofs.Common.{◌≡◌, ◌+◌, length, arith, ◌∙◌, ap, ◌∷◌, length-append, sym, subst, refl, false}
+use Rattle.std.proofs.Common.{◌≡◌, ◌+◌, length, arith, ◌∙◌, ap, ◌∷◌, length-append, sym, refl, false}
 use Rattle.std.specs.Str.Lines.{lines}
-use Rattle.wal.specs.Waiting.{end_of}
 use Rattle.shell_run.specs.declared.serving.Desk.{Desk}
-use Rattle.shell_run.proofs.Progressing.{Progress, first_line, progress_start, progress_line, progress_stop, progress_last, last_stop, ended_stop, ended_out, stopped_out}
+use Rattle.shell_run.proofs.Progressing.{first_line, progress_start, progress_line, progress_stop, progress_last, last_stop, ended_stop, ended_out, stopped_out}
 use Rattle.shell_run.proofs.serving.run_lines.Goals as goal
 
 pub loop-line-init : goal.loop-line-init
 loop-line-init g c =
-    let desk : Desk = record { store = c.new.result; waiting = c.new-2.result; refused = false; within = false; turns = c.new-3.result } in (
-      subst (λ w. Progress g.D.Disk.tells g.D.Disk.seen g.D.Disk.clock g.D.Disk.image g.D.Disk.fault_count g.D.Disk.write_fault_count (g.K.Sink.taken c.args.out.now) (g.K.Sink.taken c.args.out.now) (end_of w) c.args.disk.now c.args.disk.now desk c.args.text.now c.args.text.now 1) c.new.ensures.wal
-          (progress_start _ _ _ _ _ _ (g.K.Sink.taken c.args.out.now) c.args.disk.now desk c.args.text.now c.new.ensures.empty c.new.ensures.new c.new-2.ensures.items refl refl),
+    let desk : Desk = record { store = c.args.store; waiting = c.new.result; refused = false; within = false; turns = c.new-2.result } in (
+      λ history held. progress_start g.D.Disk history (g.K.Sink.taken c.args.out.now) c.args.disk.now desk c.args.text.now held c.requires c.new.ensures.items refl refl,
       omega arith,
       omega arith,
       omega arith,
@@ -19,14 +17,14 @@ pub returns-in-Err-clause-ran : goal.returns-in-Err-clause-ran
 returns-in-Err-clause-ran g c =
     let cut = first_line c.loop-line.rest.now c.in-Some.line.now c.in-Some.more.now c.in-Some.ensures.some.0 c.in-Some.ensures.some.1 in
     let line = cut ∙ ap (λ z. z ∷ lines c.in-Some.more.now) (sym c.without_return.ensures) in
-    stopped_out _ _ _ _ _ _ _ _ _ _ _ c.args.text.now c.in-Err.halt (progress_stop _ _ _ _ _ _ g.met.D.Disk.seen_is_image _ _ _ _ _ _ _ _ _ c.args.text.now c.loop-line.rest.now c.without_return.result.now (lines c.in-Some.more.now) c.loop-line.number c.loop-line.invariant.0 line c.in-Err.ensures.served)
+    λ history held. stopped_out g.D.Disk history _ _ _ _ _ c.args.text.now c.in-Err.stop (progress_stop g.D.Disk history g.met.D.Disk.seen_is_image _ _ _ _ _ _ _ _ _ c.args.text.now c.loop-line.rest.now c.without_return.result.now (lines c.in-Some.more.now) c.loop-line.number (c.loop-line.invariant.0 history held) line c.in-Err.ensures.served)
 
 pub loop-line-preserved : goal.loop-line-preserved
 loop-line-preserved g c =
     let cut = first_line c.loop-line.rest.now c.in-Some.line.now c.in-Some.more.now c.in-Some.ensures.some.0 c.in-Some.ensures.some.1 in
     let line = cut ∙ ap (λ z. z ∷ lines c.in-Some.more.now) (sym c.without_return.ensures) in
     let long : length c.loop-line.rest.now ≡ length c.in-Some.line.now + length (10 ∷ c.in-Some.more.now) = ap length c.in-Some.ensures.some.0 ∙ length-append c.in-Some.line.now (10 ∷ c.in-Some.more.now) in (
-      progress_line _ _ _ _ _ _ _ _ _ _ _ _ _ _ _ c.args.text.now c.loop-line.rest.now c.without_return.result.now c.in-Some.more.now c.loop-line.number c.loop-line.invariant.0 line c.in_default-serve_line.ensures.served,
+      λ history held. progress_line g.D.Disk history _ _ _ _ _ _ _ _ _ c.args.text.now c.loop-line.rest.now c.without_return.result.now c.in-Some.more.now c.loop-line.number (c.loop-line.invariant.0 history held) line c.in_default-serve_line.ensures.served,
       omega (arith, long, c.loop-line.invariant.1),
       omega (arith, c.loop-line.invariant.2, c.serve_line.ensures.later),
       omega (arith, c.loop-line.invariant.3, c.serve_line.ensures.counts),
@@ -34,14 +32,14 @@ loop-line-preserved g c =
 
 pub returns-in-Err-serve_line-clause-ran : goal.returns-in-Err-serve_line-clause-ran
 returns-in-Err-serve_line-clause-ran g c =
-    stopped_out _ _ _ _ _ _ _ _ _ _ _ c.args.text.now c.in-Err-serve_line.halt (last_stop _ _ _ _ _ _ g.met.D.Disk.seen_is_image _ _ _ _ _ _ _ _ _ c.args.text.now c.loop-line.rest.now c.loop-line.number c.loop-line.invariant.0 c.in_default.ensures.none c.in-Err-serve_line.ensures.served)
+    λ history held. stopped_out g.D.Disk history _ _ _ _ _ c.args.text.now c.in-Err-serve_line.stop (last_stop g.D.Disk history g.met.D.Disk.seen_is_image _ _ _ _ _ _ _ _ _ c.args.text.now c.loop-line.rest.now c.loop-line.number (c.loop-line.invariant.0 history held) c.in_default.ensures.none c.in-Err-serve_line.ensures.served)
 
 pub returns-in-Err-flush-clause-ran : goal.returns-in-Err-flush-clause-ran
 returns-in-Err-flush-clause-ran g c =
-    let ended = progress_last _ _ _ _ _ _ _ _ _ _ _ _ _ _ _ c.args.text.now c.loop-line.rest.now c.loop-line.number c.loop-line.invariant.0 c.in_default.ensures.none c.in_default-serve_line-2.ensures.served in
-    stopped_out _ _ _ _ _ _ _ _ _ _ _ c.args.text.now c.in-Err-flush.halt (ended_stop _ _ _ _ _ _ g.met.D.Disk.seen_is_image _ _ _ _ _ _ _ c.args.text.now _ c.loop-line.number ended c.in-Err-flush.ensures.text)
+    λ history held. let ended = progress_last g.D.Disk history _ _ _ _ _ _ _ _ _ c.args.text.now c.loop-line.rest.now c.loop-line.number (c.loop-line.invariant.0 history held) c.in_default.ensures.none c.in_default-serve_line-2.ensures.served in
+    stopped_out g.D.Disk history _ _ _ _ _ c.args.text.now c.in-Err-flush.stop (ended_stop g.D.Disk history g.met.D.Disk.seen_is_image _ _ _ _ _ _ _ c.args.text.now _ c.loop-line.number ended c.in-Err-flush.ensures.text)
 
 pub returns-clause-ran : goal.returns-clause-ran
 returns-clause-ran g c =
-    let ended = progress_last _ _ _ _ _ _ _ _ _ _ _ _ _ _ _ c.args.text.now c.loop-line.rest.now c.loop-line.number c.loop-line.invariant.0 c.in_default.ensures.none c.in_default-serve_line-2.ensures.served in
-    ended_out _ _ _ _ _ _ g.met.D.Disk.seen_is_image _ _ _ _ _ _ _ c.args.text.now _ c.loop-line.number ended c.in_default-flush.ensures.text c.in_default-flush.ensures.empty
+    λ history held. let ended = progress_last g.D.Disk history _ _ _ _ _ _ _ _ _ c.args.text.now c.loop-line.rest.now c.loop-line.number (c.loop-line.invariant.0 history held) c.in_default.ensures.none c.in_default-serve_line-2.ensures.served in
+    ended_out g.D.Disk history g.met.D.Disk.seen_is_image _ _ _ _ _ _ _ c.args.text.now _ c.loop-line.number ended c.in_default-flush.ensures.text c.in_default-flush.ensures.empty

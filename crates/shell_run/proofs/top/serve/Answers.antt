@@ -1,21 +1,67 @@
-use Rattle.std.proofs.Common.{inl, inr, refl}
-use Rattle.shell_run.proofs.Ending.{answered_stop, answered_end}
+use Rattle.std.proofs.Common.{inl, inr, rules, arith, sym, subst, []}
+use Rattle.wal.specs.Waiting.{end_of}
+use Rattle.shell_run.specs.Inner.Opened.{OpenedAt}
+use Rattle.shell_run.specs.Inner.Stores.{StandsFor}
+use Rattle.shell_run.proofs.Ending.{answered_stop, answered_end, stopped_status, not_four, unopened, is_err}
+use Rattle.shell_run.proofs.Streams.{appends_none}
+use Rattle.shell_run.proofs.Emptying.{run_keeps_pages}
 use Rattle.shell_run.proofs.top.serve.Goals as goal
 
-pub returns-in-Err-Fault-clause-headline : goal.returns-in-Err-Fault-clause-headline
-returns-in-Err-Fault-clause-headline g c =
-    let r = c.in-Err-Fault.ensures.ran in
-    let o = c.in-Ok.ensures.opened in
-    inr (r.0, r.2.0, answered_stop _ _ _ r.0 7 r.1 (inr refl), r.2.1, r.2.2 c.args.store.now o.1.0 o.1.1)
+pub returns-in-Err : goal.returns-in-Err
+returns-in-Err g c =
+    let u = unopened c.in-Err.stop _ c.status.ensures c.in-Err.ensures.error in
+    let n = u.number in
+    record {
+      range = (omega (arith, n), λ e. omega (arith, n), λ e. omega (arith, n));
+      causes = record {
+        status_4 = λ t e. c.in-Err.ensures.no_store t (is_err _ _ (u.at_4 e));
+        no_store = λ t l. (λ e. omega (arith, n), λ e. omega (arith, n), λ e. omega (arith, n));
+        keeps_4 = λ e. c.in-Err.ensures.keeps (is_err _ _ (u.at_4 e));
+        status_7 = λ e. absurd (omega (arith, n));
+        status_3 = λ e. (λ three. c.in-Err.ensures.fault (is_err _ _ (u.at_3 three)), λ rose. omega (arith, n, e));
+        pages = λ t. c.in-Err.ensures.pages t;
+      };
+      headline = inl (record {
+        nothing = record { sink = appends_none (g.K.Sink.taken c.args.out.now); statuses = (λ e. omega (arith, n), λ e. omega (arith, n), λ e. omega (arith, n)) };
+        as_before = λ t s. c.in-Err.ensures.refused t s;
+      });
+    }
 
-pub returns-in-Err-Memory-clause-headline : goal.returns-in-Err-Memory-clause-headline
-returns-in-Err-Memory-clause-headline g c =
-    let r = c.in-Err-Memory.ensures.ran in
+pub returns-in-Err-run_lines : goal.returns-in-Err-run_lines
+returns-in-Err-run_lines g c =
     let o = c.in-Ok.ensures.opened in
-    inr (r.0, r.2.0, answered_stop _ _ _ r.0 5 r.1 (inl refl), r.2.1, r.2.2 c.args.store.now o.1.0 o.1.1)
+    let h : StandsFor c.new-documents.result [] = c.new-documents.ensures.empty in
+    let r = c.in-Err-run_lines.ensures.ran [] h in
+    let s = stopped_status c.in-Err-run_lines.stop _ c.in-Err-run_lines.ensures.error c.status-in-Err-run_lines.ensures in
+    let ran = r.over c.args.device.now o.1.0 (subst (λ w. OpenedAt g.D.Disk [] c.args.device.now o.1.0 c.open_store.new.disk (end_of w)) (sym c.new-documents.ensures.wal) o.1.1) in
+    record {
+      range = search rules;
+      causes = record {
+        status_4 = search rules;
+        no_store = search rules;
+        keeps_4 = search rules;
+        status_7 = search rules;
+        status_3 = search rules;
+        pages = λ t. run_keeps_pages g.D.Disk (λ d. g.met.D.Disk.seen_is_image d t) _ _ _ _ _ _ (ran.means t);
+      };
+      headline = inr (record { rows = r.rows; commits = r.commits; answered = answered_stop _ _ _ _ _ r.ran s; numbered = r.numbered; ran = ran });
+    }
 
-pub returns-in-Ok-run_lines-clause-headline : goal.returns-in-Ok-run_lines-clause-headline
-returns-in-Ok-run_lines-clause-headline g c =
-    let r = c.in-Ok-run_lines.ensures.ran in
+pub returns-in-Ok-run_lines : goal.returns-in-Ok-run_lines
+returns-in-Ok-run_lines g c =
     let o = c.in-Ok.ensures.opened in
-    inr (r.0, r.2.0, answered_end _ _ _ r.0 _ _ c.in-Ok-run_lines.refused r.1 r.3 c.ending_status.ensures, r.2.1, r.2.2 c.args.store.now o.1.0 o.1.1)
+    let h : StandsFor c.new-documents.result [] = c.new-documents.ensures.empty in
+    let r = c.in-Ok-run_lines.ensures.ran [] h in
+    let ran = r.over c.args.device.now o.1.0 (subst (λ w. OpenedAt g.D.Disk [] c.args.device.now o.1.0 c.open_store.new.disk (end_of w)) (sym c.new-documents.ensures.wal) o.1.1) in
+    record {
+      range = search rules;
+      causes = record {
+        status_4 = search rules;
+        no_store = search rules;
+        keeps_4 = λ e. absurd (not_four _ _ _ c.ending_status.ensures e);
+        status_7 = search rules;
+        status_3 = search rules;
+        pages = λ t. run_keeps_pages g.D.Disk (λ d. g.met.D.Disk.seen_is_image d t) _ _ _ _ _ _ (ran.means t);
+      };
+      headline = inr (record { rows = r.rows; commits = r.commits; answered = answered_end _ _ _ _ _ _ c.in-Ok-run_lines.refused r.ran r.flag c.ending_status.ensures; numbered = r.numbered; ran = ran });
+    }

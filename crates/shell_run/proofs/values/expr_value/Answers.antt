@@ -1,9 +1,9 @@
 use Rattle.std.proofs.Common.{◌≡◌, inl, inr, ◌+◌, ◌∷◌, List, map, drop, ap, ◌∙◌, sym, subst}
 use Rattle.std.proofs.lemmas.List.{drop_more}
-use Rattle.shell_run.specs.Grammar.{Part}
+use Rattle.shell_script.specs.Grammar.{Part}
 use Rattle.shell_run.specs.Values.{IsJoinedOf, OthersFail}
-use Rattle.shell_run.specs.Answers.{refusal}
-use Rattle.shell_run.specs.Views.{part}
+use Rattle.shell_script.specs.ReplyView.{refusal}
+use Rattle.shell_script.specs.StatementView.{part}
 use Rattle.shell_run.proofs.values.expr_value.Goals as goal
 
 pub returns-in-Err-clause-cause : goal.returns-in-Err-clause-cause

@@ -1,8 +1,8 @@
 use Rattle.std.proofs.Common.{map, drop}
 use Rattle.ts_base.specs.Vectors.{Vector}
-use Rattle.shell_run.specs.Replies.{Refusal}
+use Rattle.shell_script.specs.Replies.{Refusal}
 use Rattle.shell_run.specs.Values.{IsValueOf, ExprFails, IsJoinedOf, OthersFail}
-use Rattle.shell_run.specs.Views.{part, expr}
+use Rattle.shell_script.specs.StatementView.{part, expr}
 use Rattle.shell_run.proofs.values.expr_value.Given as goal
 
 abbrev pub invariant-loop-other : goal.invariant-loop-other

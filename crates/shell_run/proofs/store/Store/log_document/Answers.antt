@@ -1,10 +1,10 @@
 use Rattle.std.proofs.Common.{◌≡◌, ◌+◌, inl, inr, length, refl, sym, ◌∙◌, ap, subst, arith}
 use Rattle.std.specs.Prelude.{Result, Err}
 use Rattle.wal.specs.declared.error.WalError.{WalError}
-use Rattle.ts_base.specs.Bytes.{vector_bytes}
+use Rattle.ts_base.specs.Spelling.{vector_bytes}
 use Rattle.shell_run.specs.Entries.{document_bytes}
 use Rattle.shell_run.specs.History.{Document, name_of}
-use Rattle.shell_run.specs.Logs.{Puts}
+use Rattle.shell_run.specs.Inner.Logs.{PutsEntry}
 use Rattle.shell_run.proofs.Refusing.{refused_why}
 use Rattle.shell_run.proofs.store.Store.log_document.Goals as goal
 
@@ -23,7 +23,7 @@ returns-in-Ok-log_entry-clause-logged g c =
       still_up = done.2;
       log_fits = omega (arith, size, done.0, c.args.self.now.limit);
       end = omega (arith, size, done.1);
-      puts = subst (λ b. Puts g.D.Disk.tells g.D.Disk.seen g.D.Disk.clock g.D.Disk.image b c.args.self.now.wal c.log_entry.new.wal c.args.disk.now c.log_entry.new.disk) (c.deref.ensures.value ∙ c.in-Ok.ensures.entry) (c.in-Ok-log_entry.ensures.puts (inl refl));
+      puts = subst (λ b. PutsEntry g.D.Disk b c.args.self.now.wal c.log_entry.new.wal c.args.disk.now c.log_entry.new.disk) (c.deref.ensures.value ∙ c.in-Ok.ensures.entry) (c.in-Ok-log_entry.ensures.puts (inl refl));
       later = c.log_entry.ensures.later.0;
       no_failure = done.3;
     }
@@ -33,7 +33,7 @@ returns-clause-refused g c =
     let size : length c.deref.result.now ≡ 8 + length (vector_bytes c.args.vector.now) = ap length c.deref.ensures.value ∙ c.in-Ok.ensures.size in
     let n = c.name_at-name.ensures ∙ ap name_of (let z : c.len.result ≡ length c.args.self.now.documents.items = grind arith in z) in
     let err : (e : WalError) → Result (Unit {0}) WalError = λ e. Err e in
-    refused_why g.D.Disk.tells g.D.Disk.seen g.D.Disk.clock g.D.Disk.image g.D.Disk.fault_count g.D.Disk.write_fault_count c.args.self.now _ c.args.disk.now c.log_entry.new.disk c.args.vector.now c.in-Err.error c.refusal_of.result c.refusal_of.ensures (record {
+    refused_why g.D.Disk c.args.self.now _ c.args.disk.now c.log_entry.new.disk c.args.vector.now c.in-Err.error c.from.result c.from.ensures (record {
       normal = c.in-Ok.ensures.normal;
       same = c.reserve.ensures.items;
       used = refl;
@@ -47,7 +47,7 @@ returns-clause-refused g c =
       full = λ e. omega (arith, size, c.in-Err.ensures.full (ap err e), c.args.self.now.limit);
       down = λ e. (c.in-Err.ensures.fault (ap err e)).0;
       rose = λ e. let f = c.in-Err.ensures.fault (ap err e) in (f.1, f.2);
-      puts = λ e. subst (λ b. Puts g.D.Disk.tells g.D.Disk.seen g.D.Disk.clock g.D.Disk.image b c.args.self.now.wal c.log_entry.new.wal c.args.disk.now c.log_entry.new.disk)
+      puts = λ e. subst (λ b. PutsEntry g.D.Disk b c.args.self.now.wal c.log_entry.new.wal c.args.disk.now c.log_entry.new.disk)
           (c.deref.ensures.value ∙ c.in-Ok.ensures.entry ∙ ap (λ m. document_bytes (let d : Document = record { name = m; vector = c.args.vector.now } in d)) n) (c.in-Err.ensures.puts (inr (ap err e)));
       later = c.log_entry.ensures.later;
     })

@@ -1,8 +1,8 @@
 use Rattle.std.proofs.Common.{◌++◌, ◌∷◌, [], ap, ◌∙◌, sym, map, List}
 use Rattle.std.proofs.lemmas.Bool.{false≢true}
 use Rattle.std.proofs.lemmas.List.{map_push}
-use Rattle.shell_run.specs.Answers.{name}
-use Rattle.shell_run.specs.History.{Name}
+use Rattle.shell_script.specs.ReplyView.{name}
+use Rattle.shell_script.specs.Name.{Name}
 use Rattle.shell_run.proofs.Documents.{found_yes, found_no}
 use Rattle.shell_run.proofs.store.Store.names.Goals as goal
 use Rattle.shell_run.proofs.store.Store.names.Goals.{then-matches+in_ok-push, else-matches}

@@ -1,7 +1,7 @@
 use Rattle.std.proofs.Common.{◌≡◌, map, take}
-use Rattle.shell_run.specs.Answers.{name}
+use Rattle.shell_script.specs.ReplyView.{name}
 use Rattle.shell_run.specs.History.{IsFound}
-use Rattle.shell_run.specs.Stores.{numbered}
+use Rattle.shell_run.specs.Inner.Stores.{numbered}
 use Rattle.ts_match.specs.Plan.{plan_of}
 use Rattle.shell_run.proofs.store.Store.names.Given as goal
 

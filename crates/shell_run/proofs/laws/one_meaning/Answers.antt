@@ -1,5 +1,0 @@
-use Rattle.shell_run.proofs.Meaning.{one_meaning}
-use Rattle.shell_run.proofs.laws.one_meaning.Goals as goal
-
-pub returns : goal.returns
-returns c = one_meaning

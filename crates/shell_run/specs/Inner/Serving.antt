@@ -1,0 +1,59 @@
+-- What a line does to the documents and to the text on its way.
+use Rattle.std.specs.Prelude.{◌≡◌, ◌≢◌, ◌⊎◌, ◌≤◌, ℕ, List, [], ◌++◌, Bool, true, ◌||◌}
+use Rattle.std.specs.Prelude.{Option, Result, IfOk, is_ok}
+use Rattle.disk_trait.specs.declared.device.Disk.{Ghosts as Disk}
+use Rattle.shell_script.specs.Grammar.{Statement, Says, IsSkipped, Continues}
+use Rattle.shell_script.specs.Replies.{Reply}
+use Rattle.shell_script.specs.Texts.{said}
+use Rattle.shell_run.specs.Inner.Sending.{Sends}
+use Rattle.shell_run.specs.Inner.Stores.{HasAnswered}
+use Rattle.shell_run.specs.Outcomes.{HasPrinted, is_refusal, some_refused}
+use Rattle.shell_run.specs.History.{History, IsNumbered}
+use Rattle.shell_run.specs.Run.{Row}
+use Rattle.shell_run.specs.RanOn.{RanOn}
+use Rattle.shell_run.specs.RunMeets.{HasCauses, HasNotRun, HasRun}
+use Rattle.shell_run.specs.Inner.Opened.{OpenedAt}
+use Rattle.disk_trait.specs.declared.stream.Sink.{Ghosts as Sink}
+use Rattle.shell_run.specs.declared.serving.Desk.{Desk}
+
+-- the statement was answered, and its reply's text is on its way
+pub record Served {D : Type 0} (device : Disk D) (number : ℕ) (line : List ℕ) (old new : Desk) (disk disk' : D) (before after : Option (List ℕ)) (well : Bool) : Type 0 where
+  pub session : ℕ
+  pub statement : Statement
+  pub reply : Reply
+  pub counts : IsSkipped line → ⊥
+  pub says : Says old.within line session statement
+  pub continues : Continues old.within line new.within
+  pub answered : HasAnswered device number old.store new.store disk disk' statement reply
+  pub text : Sends before after (old.waiting.items ++ said session reply) new.waiting.items well
+  pub flag : new.refused ≡ (old.refused || is_refusal reply)
+
+-- nothing was done, since the line is to be skipped, or memory ran out
+pub record Passed {D : Type 0} (line : List ℕ) (old new : Desk) (disk disk' : D) (before after : Option (List ℕ)) (well : Bool) : Type 0 where
+  pub skipped : well ≡ true → IsSkipped line
+  pub same : new.store ≡ old.store
+  pub device : disk' ≡ disk
+  pub within : well ≡ true → new.within ≡ old.within
+  pub text : Sends before after old.waiting.items new.waiting.items well
+  pub flag : new.refused ≡ old.refused
+
+-- The rows are those of a first part of the lines. Where this went well, they are those of all, and the sink took all of their text.
+pub record Ran (text : List ℕ) (before after : Option (List ℕ)) (rows : List Row) (well : Bool) : Type 0 where
+  pub so_far : HasPrinted text before after rows
+  pub whole : well ≡ true → (so_far.left ≡ []) × (so_far.unsent ≡ [])
+
+-- The lines of a text were run over documents that had a history.
+pub record HasRunLines {D E : Type 0} (device : Disk D) (history : History) (text : List ℕ) (before after : Option (List ℕ)) (disk disk' : D) (end : ℕ) (result : Result Bool E) : Type 0 where
+  pub rows : List Row
+  pub commits : History
+  pub ran : Ran text before after rows (is_ok result)
+  pub flag : IfOk result (λ refused. refused ≡ some_refused rows)
+  pub numbered : IsNumbered commits
+  pub over : (first : D) (c0 : ℕ) → OpenedAt device history first c0 disk end → RanOn device history first disk' commits rows
+
+-- What a text is answered, where the words are right and the text is a whole script.
+pub record ServeMeets {K D : Type 0} (sink : Sink K) (device : Disk D) (text : List ℕ) (status : ℕ) (out out' : K) (disk disk' : D) : Type 0 where
+  pub range : (status ≤ 7) × (status ≢ 2) × (status ≢ 6)
+  pub causes : HasCauses sink device status out out' disk disk'
+  pub headline : HasNotRun sink device status out out' disk disk'
+      ⊎ HasRun sink device text status out out' disk disk'

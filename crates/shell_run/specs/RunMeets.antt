@@ -1,0 +1,75 @@
+-- The contract of a run, by what its source, its sink and its device tell.
+use Rattle.std.specs.Prelude.{◌≡◌, ◌≢◌, ◌⊎◌, ◌↔◌, ℕ, ◌<◌, ◌≤◌, List, [], length, IfSome, String}
+use Rattle.std.specs.Io.KnownBytes.{IsAtEnd}
+use Rattle.std.specs.declared.alloc.Global.{Global}
+use Rattle.disk_trait.specs.Device.{Rose}
+use Rattle.disk_trait.specs.declared.device.Disk.{Ghosts as Disk}
+use Rattle.disk_trait.specs.declared.stream.Source.{Ghosts as Source}
+use Rattle.disk_trait.specs.declared.stream.Sink.{Ghosts as Sink}
+use Rattle.shell_run.specs.HasRead.{HasRead}
+use Rattle.shell_run.specs.Words.{IsForm, IsEnding}
+use Rattle.shell_run.specs.Outcomes.{NotRun, Answered}
+use Rattle.shell_run.specs.Run.{Row}
+use Rattle.shell_run.specs.Crash.{StartedFrom, OpensAsBefore, HasSamePages}
+use Rattle.wal.specs.Reading.{IsOnlyRead}
+use Rattle.shell_run.specs.RanOn.{RanOn}
+use Rattle.shell_run.specs.History.{History, IsNumbered}
+use Rattle.shell_run.specs.declared.reading.TheConstants.{SCRIPT_LIMIT}
+use Rattle.shell_run.specs.declared.top.Outcome.{Outcome}
+use Rattle.shell_run.specs.declared.words.Settings.{Settings}
+
+module _ {K D : Type 0} (sink : Sink K) (device : Disk D) where
+  -- The causes of the statuses 3, 4 and 7.
+  pub record HasCauses (status : ℕ) (out out' : K) (disk disk' : D) : Type 0 where
+    -- 4: the log has a byte
+    pub status_4 : device.tells → status ≡ 4 → 0 < length (device.seen disk).log
+    pub no_store : device.tells → 0 < length (device.seen disk).log
+        → (status ≢ 0) × (status ≢ 1) × (status ≢ 7)
+    pub keeps_4 : status ≡ 4 → IsOnlyRead device disk disk'
+    -- 7: the sink failed
+    pub status_7 : status ≡ 7 → Rose (sink.fault_count out) (sink.fault_count out')
+    -- 3: the device failed
+    pub status_3 : IsEnding status
+        → ((status ≡ 3) ↔ Rose (device.fault_count disk) (device.fault_count disk'))
+    -- whatever the status
+    pub pages : device.tells → HasSamePages device disk disk'
+
+  -- Nothing was run: the store was not opened, or that was not tried.
+  pub record HasNotRun (status : ℕ) (out out' : K) (disk disk' : D) : Type 0 where
+    pub nothing : NotRun status (sink.taken out) (sink.taken out')
+    pub as_before : device.tells → StartedFrom device disk → OpensAsBefore device disk disk'
+
+  -- The text's statements were run, over a store with no documents at first.
+  pub record HasRun (text : List ℕ) (status : ℕ) (out out' : K) (disk disk' : D) : Type 0 where
+    pub rows : List Row
+    pub commits : History
+    pub answered : Answered text status (sink.taken out) (sink.taken out') rows
+    pub numbered : IsNumbered commits
+    pub ran : RanOn device [] disk disk' commits rows
+
+module _ {S K D : Type 0} (source : Source S) (sink : Sink K) (device : Disk D) where
+  -- Nothing was run, or the bytes of a script were read and answered.
+  abbrev pub Headline : S → K → D → Outcome S K D → Type 0
+  Headline script out disk r =
+      HasNotRun sink device r.status out r.out disk r.device
+      ⊎ ((text : List ℕ) × HasRead (source.left script) (source.left r.script) text
+      × HasRun sink device text r.status out r.out disk r.device)
+
+  -- What a run over a script, a sink and a device leaves, whatever the words.
+  pub record RunMeets (words : List (String Global)) (script : S) (out : K) (disk : D)
+      (r : Outcome S K D) : Type 0 where
+    pub range : r.status ≤ 8
+    -- 2: the words are of no form, and nothing was done
+    pub status_2 : (r.status ≡ 2) ↔ ((settings : Settings) → IsForm words settings → ⊥)
+    pub nothing_2 : r.status ≡ 2 → (r.script ≡ script) × (r.out ≡ out) × (r.device ≡ disk)
+    -- 6 and 8: the source failed, or has too many bytes, and nothing was run
+    pub status_6 : r.status ≡ 6 → Rose (source.fault_count script) (source.fault_count r.script)
+    pub status_8 : r.status ≡ 8 → IfSome (source.left script) (λ bytes. SCRIPT_LIMIT < length bytes)
+    pub too_long : r.status ≢ 2 → r.status ≢ 5 → r.status ≢ 6
+        → IfSome (source.left script) (λ bytes. SCRIPT_LIMIT < length bytes → r.status ≡ 8)
+    pub nothing_run : (r.status ≡ 6) ⊎ (r.status ≡ 8) → (r.out ≡ out) × (r.device ≡ disk)
+    pub causes : HasCauses sink device r.status out r.out disk r.device
+    -- the script is read to its end before the device is called
+    pub read : ((r.status ≢ 2) × (r.status ≢ 5) × (r.status ≢ 6) × (r.status ≢ 8))
+        ⊎ (device.clock disk < device.clock r.device) → IsAtEnd (source.left r.script)
+    pub headline : Headline script out disk r

@@ -1,0 +1,44 @@
+-- Runs that no call leaves: what each field of a run rules out.
+use Rattle.std.specs.Prelude.{◌≡◌, ◌≢◌, ℕ, ◌<◌, List, [], ◌∷◌, Option}
+use Rattle.disk_trait.specs.declared.device.Disk.{Ghosts as Disk}
+use Rattle.disk_trait.specs.declared.stream.Sink.{Ghosts as Sink}
+use Rattle.shell_script.specs.Grammar.{Expr, insert}
+use Rattle.shell_script.specs.Name.{Name}
+use Rattle.shell_run.specs.History.{History}
+use Rattle.shell_run.specs.Run.{Row, Counts, Before, Run, stored, refused, down, device}
+use Rattle.shell_run.specs.Outcomes.{Answered}
+use Rattle.shell_run.specs.RunMeets.{HasCauses}
+
+-- an insertion in which a write failed, and one behind it that is stored
+abbrev pub NoneIsStoredAfterFailure : Type 0
+NoneIsStoredAfterFailure = (counts : Counts) (first commits : History) (a b : Row) (e f : Expr) (n : Name)
+    → a.statement ≡ insert e → a.reply ≡ refused device → b.statement ≡ insert f → b.reply ≡ stored n → Before a b
+    → Run counts first commits (a ∷ b ∷ []) → ⊥
+
+-- a failed write or sync that no statement notes
+abbrev pub EachFailureIsNoted : Type 0
+EachFailureIsNoted = (counts : Counts) (first commits : History) (a b : Row)
+    → a.note.writes ≡ 0 → b.note.writes ≡ 0 → counts.writes < counts.writes_after
+    → Run counts first commits (a ∷ b ∷ []) → ⊥
+
+-- one failure that is told with two counts
+abbrev pub OneCountIsTold : Type 0
+OneCountIsTold = (counts : Counts) (first commits : History) (a b : Row) (m n : ℕ)
+    → a.reply ≡ refused (down m) → b.reply ≡ refused (down n) → m ≢ n
+    → Run counts first commits (a ∷ b ∷ []) → ⊥
+
+-- replies that are printed with status 4
+abbrev pub NothingIsPrintedWith4 : Type 0
+NothingIsPrintedWith4 = (text : List ℕ) (before after : Option (List ℕ)) (rows : List Row)
+    → Answered text 4 before after rows → ⊥
+
+module _ {K D : Type 0} (sink : Sink K) (disk : Disk D) where
+  -- a log that is written over, and status 4
+  abbrev pub NoLogIsWiped : Type 0
+  NoLogIsWiped = (out out' : K) (d d' : D) → disk.tells → (disk.seen d').log ≢ (disk.seen d).log
+      → HasCauses sink disk 4 out out' d d' → ⊥
+
+  -- a page file that is written to
+  abbrev pub NoPageIsWritten : Type 0
+  NoPageIsWritten = (status : ℕ) (out out' : K) (d d' : D) → disk.tells
+      → (disk.seen d').pages ≢ (disk.seen d).pages → HasCauses sink disk status out out' d d' → ⊥

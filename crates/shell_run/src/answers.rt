@@ -1,0 +1,73 @@
+// Which statement calls what, and how it is answered.
+ghost use Rattle.std.specs.Prelude.{◌≡◌};
+ghost use Rattle.shell_script.specs.ReplyView.{refusal, reply};
+ghost use Rattle.shell_script.specs.StatementView.{statement};
+ghost use Rattle.shell_run.specs.Inner.Refusing.{refusal_for, stored_reply, found_reply};
+ghost use Rattle.shell_run.specs.Inner.Stores.{HasAnswered};
+
+use crate::error::StoreError;
+use crate::store::Store;
+use crate::values::{ask_query, expr_value, query_value, show};
+use disk_trait::Disk;
+use shell_script::{Name, Refusal, Reply, Statement};
+use std::alloc::Global;
+
+/// The refusal that an error of the store is printed as.
+fn refusal_of(error: StoreError) -> Refusal
+    ensures { refusal result ≡ refusal_for error }
+{
+    match error {
+        StoreError::Full => Refusal::StoreFull,
+        StoreError::LogFull => Refusal::LogFull,
+        StoreError::Down { fault } => Refusal::Down(fault),
+        StoreError::Device => Refusal::Device,
+        StoreError::Memory => Refusal::Memory,
+    }
+}
+
+/// The reply to an insertion.
+fn stored(answer: Result<Name, StoreError>) -> Reply
+    ensures { reply result ≡ stored_reply answer }
+{
+    match answer {
+        Ok(name) => Reply::Stored(name),
+        Err(error) => Reply::Refused(refusal_of(error)),
+    }
+}
+
+/// The reply to a search.
+fn found(answer: Result<Vec<Name>, StoreError>) -> Reply
+    ensures { reply result ≡ found_reply answer }
+{
+    match answer {
+        Ok(names) => Reply::Lists(names),
+        Err(error) => Reply::Refused(refusal_of(error)),
+    }
+}
+
+/// What the statement of a line with this number is answered. Its texts are read before the store is touched,
+/// and a statement that is not of the store never reaches it.
+pub fn answer<D: Disk>(
+    alloc: Global,
+    store: &mut Store,
+    disk: &mut D,
+    line: u64,
+    asked: Statement,
+) -> Reply
+    ensures { HasAnswered D.Disk line store.old store.new disk.old disk.new (statement asked)
+        (reply result) }
+{
+    match asked {
+        Statement::Insert(from) => match expr_value(alloc, &from) {
+            Ok(vector) => stored(store.insert(disk, vector)),
+            Err(why) => Reply::Refused(why),
+        },
+        Statement::Search(text) => match query_value(alloc, text.as_str()) {
+            Ok(query) => found(store.search(&query)),
+            Err(why) => Reply::Refused(why),
+        },
+        Statement::Show(from) => show(alloc, &from),
+        Statement::Query(text) => ask_query(alloc, text.as_str()),
+        Statement::Nothing => Reply::Refused(Refusal::NoStatement(line)),
+    }
+}

@@ -1,0 +1,69 @@
+// Text into the sink.
+ghost use Rattle.std.specs.Prelude.{◌≡◌, ◌⊎◌, ℕ, ◌<◌, ◌≤◌, List, [], ◌++◌, length, IfErr, OnOk, IsErrOf, is_ok, drop};
+ghost use Rattle.disk_trait.specs.Device.{Rose};
+ghost use Rattle.shell_run.specs.Inner.Sending.{Sends};
+ghost use Rattle.shell_run.specs.declared.error.Stop.TheVariants.{SinkFault, OutOfMemory};
+
+use crate::error::Stop;
+use disk_trait::Sink;
+
+/// What stands behind the first n bytes.
+fn behind(bytes: &[u8], n: usize) -> &[u8]
+    requires { n ≤ length bytes.now }
+    ensures { result.now ≡ drop n bytes.now }
+{
+    &bytes[n..]
+}
+
+#[tactic(auto, using(crate::proofs::Streams::puts_start, crate::proofs::Streams::puts_drop, crate::proofs::Streams::puts_stop))]
+/// All of the bytes, or a beginning of them.
+fn write_all<K: Sink>(out: &mut K, bytes: &[u8]) -> Result<(), Stop>
+    ensures text { Sends (K.taken out.old) (K.taken out.new) bytes.now [] (is_ok result) }
+    ensures later { K.fault_count out.old ≤ K.fault_count out.new }
+    ensures error { IfErr result (λ e. (e ≡ SinkFault) ⊎ (e ≡ OutOfMemory)) }
+    ensures fault { IsErrOf result SinkFault
+        → Rose (K.fault_count out.old) (K.fault_count out.new) }
+{
+    let mut rest = bytes;
+    while !rest.is_empty() {
+        match out.write(rest) {
+            Err(_) => return Err(Stop::SinkFault),
+            Ok(n) => rest = behind(rest, n),
+        }
+    }
+    Ok(())
+}
+
+/// Where so many bytes wait, they are written.
+const ENOUGH: usize = 8192;
+
+/// What waits is written.
+pub fn flush<K: Sink>(out: &mut K, waiting: &mut Vec<u8>) -> Result<(), Stop>
+    ensures text { Sends (K.taken out.old) (K.taken out.new) waiting.old.items waiting.new.items
+        (is_ok result) }
+    ensures empty { OnOk result (waiting.new.items ≡ []) }
+    ensures later { K.fault_count out.old ≤ K.fault_count out.new }
+    ensures error { IfErr result (λ e. (e ≡ SinkFault) ⊎ (e ≡ OutOfMemory)) }
+    ensures fault { IsErrOf result SinkFault
+        → Rose (K.fault_count out.old) (K.fault_count out.new) }
+{
+    write_all(out, waiting.as_slice())?;
+    waiting.clear();
+    Ok(())
+}
+
+/// A text more behind what waits, which is written where it is enough.
+pub fn put<K: Sink>(out: &mut K, waiting: &mut Vec<u8>, text: &[u8]) -> Result<(), Stop>
+    ensures text { Sends (K.taken out.old) (K.taken out.new) (waiting.old.items ++ text.now)
+        waiting.new.items (is_ok result) }
+    ensures later { K.fault_count out.old ≤ K.fault_count out.new }
+    ensures error { IfErr result (λ e. (e ≡ SinkFault) ⊎ (e ≡ OutOfMemory)) }
+    ensures fault { IsErrOf result SinkFault
+        → Rose (K.fault_count out.old) (K.fault_count out.new) }
+{
+    waiting.extend_from_slice(text)?;
+    if waiting.len() >= ENOUGH {
+        return flush(out, waiting);
+    }
+    Ok(())
+}

@@ -1,0 +1,105 @@
+-- The grammar of a script's lines.
+use Rattle.std.specs.Prelude.{◌≡◌, ◌⊎◌, ◌↔◌, ℕ, zero, suc, ◌+◌, ◌≤◌, Bool, true, false, List, [], ◌∷◌, ◌++◌, codes}
+use Rattle.std.specs.List.{flat_map}
+use Rattle.std.specs.Str.{IsUtf8}
+use Rattle.ts_base.specs.Words.{BeginsWithWord}
+use Rattle.shell_script.specs.Tokens.{ScriptToken, word, quote, IsSpelled}
+
+abbrev pub IsSession : ℕ → Type 0
+IsSession s = (1 ≤ s) × (s ≤ 8)
+
+-- the label of a session
+abbrev pub label : ℕ → List ℕ
+label s = 64 ∷ (48 + s) ∷ []
+
+-- a part of an expression: the text of a vector, which may be stripped
+pub record Part : Type 0 where
+  pub stripped : Bool
+  pub text : List ℕ
+
+-- an expression: its parts are joined from the left
+pub record Expr : Type 0 where
+  pub first : Part
+  pub others : List Part
+
+abbrev pub strip_tokens : Bool → List ScriptToken
+strip_tokens true = word (codes "strip") ∷ []
+strip_tokens false = []
+
+abbrev pub part_tokens : Part → List ScriptToken
+part_tokens p = strip_tokens p.stripped ++ (word (codes "vector") ∷ quote p.text ∷ [])
+
+-- each part but the first stands behind `||`
+abbrev pub joined_tokens : Part → List ScriptToken
+joined_tokens p = word (codes "||") ∷ part_tokens p
+
+abbrev pub expr_tokens : Expr → List ScriptToken
+expr_tokens e = part_tokens e.first ++ flat_map joined_tokens e.others
+
+-- What a line says. Later kinds of statement are more cases.
+pub data Statement : Type 0 where
+  insert : Expr → Statement
+  search : List ℕ → Statement
+  show : Expr → Statement
+  query : List ℕ → Statement
+  nothing : Statement
+
+-- the tokens of a statement, but for a session's label
+abbrev pub body_tokens : Statement → List ScriptToken
+body_tokens (insert e) = word (codes "insert") ∷ expr_tokens e
+body_tokens (search text) = word (codes "search") ∷ quote text ∷ []
+body_tokens (show e) = word (codes "show") ∷ expr_tokens e
+body_tokens (query text) = word (codes "ask") ∷ quote text ∷ []
+body_tokens nothing = []
+
+-- the label of a session, where there is one
+abbrev pub label_tokens : ℕ → List ScriptToken
+label_tokens zero = []
+label_tokens (suc n) = word (label (suc n)) ∷ []
+
+abbrev pub statement_tokens : ℕ → Statement → List ScriptToken
+statement_tokens s statement = label_tokens s ++ body_tokens statement
+
+-- a statement of the store has a session, and another has none
+abbrev pub HasSession : ℕ → Statement → Type 0
+HasSession s (insert e) = IsSession s
+HasSession s (search text) = IsSession s
+HasSession s (show e) = s ≡ 0
+HasSession s (query text) = s ≡ 0
+HasSession s nothing = ⊥
+
+-- a text whose tokens are those of a statement
+pub record IsWrittenAs (line : List ℕ) (s : ℕ) (statement : Statement) : Type 0 where
+  pub session : HasSession s statement
+  pub utf8 : IsUtf8 line
+  pub spelled : IsSpelled line (statement_tokens s statement)
+
+-- empty, or a comment
+abbrev pub IsSkipped : List ℕ → Type 0
+IsSkipped [] = Unit {0}
+IsSkipped (b ∷ bytes) = b ≡ 35
+
+-- a line's session (0 where it has none) and its statement
+abbrev pub IsStatement : List ℕ → ℕ → Statement → Type 0
+IsStatement line s nothing =
+    (s ≡ 0) × ((t : ℕ) (statement : Statement) → IsWrittenAs line t statement → ⊥)
+IsStatement line s statement = IsWrittenAs line s statement
+
+-- what a line says: within a body nothing, since no kind of body is built yet
+abbrev pub Says : Bool → List ℕ → ℕ → Statement → Type 0
+Says true line s statement = (s ≡ 0) × (statement ≡ nothing)
+Says false line s statement = IsStatement line s statement
+
+-- the words that open a body
+abbrev pub IsOpening : List ℕ → Type 0
+IsOpening first = (first ≡ codes "dictionary") ⊎ (first ≡ codes "configuration") ⊎ (first ≡ codes "parallel")
+
+-- a line whose first word opens a body, whatever follows
+abbrev pub OpensBody : List ℕ → Type 0
+OpensBody line =
+    (first : List ℕ) × (rest : List ℕ) × BeginsWithWord line first rest × IsOpening first
+
+-- whether the lines behind this one are within a body, given whether it is itself
+abbrev pub Continues : Bool → List ℕ → Bool → Type 0
+Continues true line within = (within ≡ false) ↔ (line ≡ codes "end")
+Continues false line within = (within ≡ true) ↔ OpensBody line

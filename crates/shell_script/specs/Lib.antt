@@ -1,0 +1,9 @@
+pub mod Lines
+pub mod Tokens
+pub mod Grammar
+pub mod StatementView
+pub mod Name
+pub mod Replies
+pub mod ReplyView
+pub mod Texts
+pub mod Inner

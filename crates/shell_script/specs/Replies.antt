@@ -1,0 +1,31 @@
+-- The replies to statements.
+use Rattle.std.specs.Prelude.{ℕ, List}
+use Rattle.shell_script.specs.Name.{Name}
+
+-- What is at fault in a statement's text: refusals 2, 3 and 6 with the offset of the fault,
+-- 7 with the size of the vector, and 8.
+pub data TextFault : Type 0 where
+  bad_vector : ℕ → TextFault
+  bad_query : ℕ → TextFault
+  long_lexeme : ℕ → TextFault
+  large_vector : ℕ → TextFault
+  large_query : TextFault
+
+-- The refusals: 1 with the line's number; those of texts; 11, 12, 14 with the device's count just
+-- after the fault, 15 and 17.
+pub data Refusal : Type 0 where
+  no_statement : ℕ → Refusal
+  text_refused : TextFault → Refusal
+  store_full : Refusal
+  log_full : Refusal
+  down : ℕ → Refusal
+  device : Refusal
+  memory : Refusal
+
+-- a vector or a query is shown by its text
+pub data Reply : Type 0 where
+  stored : Name → Reply
+  lists : List Name → Reply
+  shows_vector : List ℕ → Reply
+  shows_query : List ℕ → Reply
+  refused : Refusal → Reply

@@ -1,0 +1,75 @@
+-- The text of each reply.
+use Rattle.std.specs.Prelude.{ℕ, zero, suc, List, [], ◌∷◌, ◌++◌, codes, decimal, Option, Some, None}
+use Rattle.std.specs.List.{flat_map}
+use Rattle.shell_script.specs.Name.{Name}
+use Rattle.shell_script.specs.Replies.{TextFault, bad_vector, bad_query, long_lexeme, large_vector, large_query}
+use Rattle.shell_script.specs.Replies.{Refusal, no_statement, text_refused, store_full, log_full, down, device, memory}
+use Rattle.shell_script.specs.Replies.{Reply, stored, lists, shows_vector, shows_query, refused}
+
+abbrev pub name_text : Name → List ℕ
+name_text n = decimal n.page ++ codes "/" ++ decimal n.slot ++ codes "#" ++ decimal n.serial
+
+-- a statement of a session is answered behind its label
+abbrev pub label_text : ℕ → List ℕ
+label_text zero = []
+label_text (suc n) = codes "@" ++ (decimal (suc n) ++ codes " ")
+
+-- a text, if there is any, stands behind a space
+abbrev pub behind_space : List ℕ → List ℕ
+behind_space [] = []
+behind_space (c ∷ text) = 32 ∷ c ∷ text
+
+-- the number of a text's refusal and its words
+abbrev pub fault_words : TextFault → List ℕ
+fault_words (bad_vector at) = codes "2 vector"
+fault_words (bad_query at) = codes "3 query"
+fault_words (long_lexeme at) = codes "6 lexeme"
+fault_words (large_vector bytes) = codes "7 vector size"
+fault_words large_query = codes "8 query size"
+
+-- the number of a refusal and its words
+abbrev pub refusal_words : Refusal → List ℕ
+refusal_words (no_statement line) = codes "1 statement"
+refusal_words (text_refused fault) = fault_words fault
+refusal_words store_full = codes "11 store full"
+refusal_words log_full = codes "12 log full"
+refusal_words (down count) = codes "14 down"
+refusal_words device = codes "15 device"
+refusal_words memory = codes "17 memory"
+
+-- the offset or size that a text's refusal tells
+abbrev pub fault_detail : TextFault → Option ℕ
+fault_detail (bad_vector at) = Some at
+fault_detail (bad_query at) = Some at
+fault_detail (long_lexeme at) = Some at
+fault_detail (large_vector bytes) = Some bytes
+fault_detail large_query = None
+
+-- the line, offset, size or count that it tells
+abbrev pub refusal_detail : Refusal → Option ℕ
+refusal_detail (no_statement line) = Some line
+refusal_detail (text_refused fault) = fault_detail fault
+refusal_detail store_full = None
+refusal_detail log_full = None
+refusal_detail (down count) = Some count
+refusal_detail device = None
+refusal_detail memory = None
+
+abbrev pub detail_text : Option ℕ → List ℕ
+detail_text None = []
+detail_text (Some n) = codes " " ++ decimal n
+
+abbrev pub refusal_text : Refusal → List ℕ
+refusal_text why = refusal_words why ++ detail_text (refusal_detail why)
+
+-- what a reply says
+abbrev pub reply_text : Reply → List ℕ
+reply_text (stored name) = codes "ok " ++ name_text name
+reply_text (lists names) = codes "found" ++ flat_map (λ (n : Name). codes " " ++ name_text n) names
+reply_text (shows_vector text) = codes "vector" ++ behind_space text
+reply_text (shows_query text) = codes "query" ++ behind_space text
+reply_text (refused why) = codes "error " ++ refusal_text why
+
+-- one line for a reply
+abbrev pub said : ℕ → Reply → List ℕ
+said session reply = label_text session ++ (reply_text reply ++ codes "\n")

@@ -1,0 +1,75 @@
+// The replies to statements.
+ghost use Rattle.std.specs.Prelude.{◌≡◌};
+
+use std::alloc::AllocError;
+
+/// Where a document lies, and its number.
+#[derive(Clone, Copy, Debug)]
+pub struct Name {
+    /// The page that it lies in.
+    pub page: u32,
+    /// Its slot there.
+    pub slot: u16,
+    /// Its number, from 1.
+    pub serial: u64,
+}
+
+/// What is at fault in a statement's text: the offset of the fault, or the size of the vector.
+#[derive(Debug, Drop)]
+pub enum TextFault {
+    /// No vector's text, with the offset of the fault.
+    BadVector(usize),
+    /// No query's text, with the offset of the fault.
+    BadQuery(usize),
+    /// A lexeme is too long, with its offset.
+    LongLexeme(usize),
+    /// The vector is too large, with its size.
+    LargeVector(usize),
+    /// The query has too many nodes.
+    LargeQuery,
+}
+
+/// Why a statement was refused.
+#[derive(Debug, Drop)]
+pub enum Refusal {
+    /// The line with this number is no statement.
+    NoStatement(u64),
+    /// A text of the statement is at fault.
+    Text(TextFault),
+    /// The store has no room for the document.
+    StoreFull,
+    /// The log has no room for the document.
+    LogFull,
+    /// The store is down since a fault of the device, after which its count was this.
+    Down(u64),
+    /// A call of the device failed.
+    Device,
+    /// Memory ran out.
+    Memory,
+}
+
+impl From<AllocError> for Refusal {
+    ghost use Rattle.shell_script.specs.declared.replies.Refusal.TheVariants.{Memory};
+
+    ghost from_gives = { λ _ e. e ≡ Memory };
+
+    /// Memory ran out.
+    fn from(_: AllocError) -> Refusal {
+        Refusal::Memory
+    }
+}
+
+/// What a statement is answered; a vector or a query by its text.
+#[derive(Debug, Drop)]
+pub enum Reply {
+    /// The document was stored under this name.
+    Stored(Name),
+    /// The documents that a search found.
+    Lists(Vec<Name>),
+    /// The vector that was asked for.
+    Vector(String),
+    /// The query that was asked for.
+    Query(String),
+    /// The statement was refused.
+    Refused(Refusal),
+}
