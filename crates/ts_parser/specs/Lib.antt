@@ -1,0 +1,13 @@
+pub mod Letters
+pub mod Kinds
+pub mod Numbers
+pub mod Words
+pub mod TokenList
+pub mod Rows
+pub mod Forms
+pub mod NumberForms
+pub mod WordForms
+pub mod TokensOf
+pub mod Covers
+pub mod Between
+pub mod Inner
