@@ -1,0 +1,6 @@
+pub mod Snoc
+pub mod Longest
+pub mod StepCases
+pub mod Lengths
+pub mod Small
+pub mod Some

@@ -1,0 +1,6 @@
+pub mod Letters
+pub mod Tables
+pub mod Stem
+pub mod Views
+pub mod Shapes
+pub mod Laws
