@@ -1,0 +1,12 @@
+pub mod Worked
+pub mod Cutting
+pub mod Joining
+pub mod Framing
+pub mod Telling
+pub mod PageTelling
+pub mod BodyTelling
+pub mod PageLaws
+pub mod RecordTelling
+pub mod ItemLists
+pub mod FieldReading
+pub mod Splicing

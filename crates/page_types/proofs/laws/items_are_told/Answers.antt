@@ -1,0 +1,8 @@
+use Rattle.page_types.proofs.ItemLists.{lists_are_told, have_lists}
+use Rattle.page_types.proofs.laws.items_are_told.Goals as goal
+
+pub returns-clause-one : goal.returns-clause-one
+returns-clause-one c = lists_are_told
+
+pub returns-clause-all : goal.returns-clause-all
+returns-clause-all c = have_lists

@@ -1,0 +1,13 @@
+pub mod Inner
+pub mod Numbers
+pub mod Keys
+pub mod Items
+pub mod Spelling
+pub mod Pages
+pub mod Records
+pub mod Edits
+pub mod Fields
+pub mod Views
+pub mod Writing
+pub mod Laws
+pub mod Parts

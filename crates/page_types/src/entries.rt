@@ -1,0 +1,130 @@
+// The entries of a leaf of the entry tree.
+ghost use Rattle.std.specs.Prelude.{◌≡◌, ◌≤◌, [], ◌∷◌, ◌++◌, length, OnOk, OnErr, IfSome, IfNone, Some};
+ghost use Rattle.std.specs.List.{slice_get};
+ghost use Rattle.page_types.specs.Inner.Joins.{postings_with};
+ghost use Rattle.page_types.specs.Parts.{postings_shown};
+
+use crate::pieces::Pieces;
+use std::alloc::{AllocError, Global};
+use std::marker::Model;
+
+/// Where an entry's items stand, the list by reference.
+#[derive(Clone, Copy, Debug)]
+pub enum PostingsRef<'a> {
+    /// In the entry, as an item list.
+    Inline(&'a [u8]),
+    /// In the posting tree with this root.
+    Root(u32),
+}
+
+/// An entry, by reference.
+#[derive(Clone, Copy, Debug)]
+pub struct EntryRef<'a> {
+    /// The key.
+    pub key: &'a [u8],
+    /// Its items.
+    pub postings: PostingsRef<'a>,
+}
+
+/// The entries of a leaf. Contracts see them as a list.
+#[derive(Debug, Drop)]
+pub struct Entries {
+    keys: Pieces,
+    roots: Vec<Option<u32>>,
+    lists: Pieces,
+}
+
+impl Model for Entries {
+    ghost use Rattle.std.specs.Prelude.{◌≡◌, List, length};
+    ghost use Rattle.page_types.specs.declared.page.Entry.{Entry};
+
+    ghost Value = { List Entry };
+
+    ghost use Rattle.page_types.specs.Inner.Joins.{joined, postings_with, entry_with};
+
+    ghost view = { λ e. joined entry_with e.keys (joined postings_with e.roots.items e.lists) };
+
+    ghost invariant = { λ e. (length e.keys ≡ length e.roots.items)
+        × (length e.lists ≡ length e.roots.items) };
+}
+
+// The two parts of what an entry leads to.
+fn parts_of<'a>(postings: PostingsRef<'a>) -> (Option<u32>, &'a [u8])
+    ensures { postings_with result.0 result.1.now ≡ postings_shown postings.entry }
+{
+    match postings {
+        PostingsRef::Inline(items) => (None, items),
+        PostingsRef::Root(root) => (Some(root), &[]),
+    }
+}
+
+impl Entries {
+    ghost use Rattle.page_types.specs.Parts.{entry_shown};
+
+    /// No entries.
+    pub fn new(alloc: Global) -> Entries
+        ensures { result ≡ [] }
+    {
+        Entries {
+            keys: Pieces::new(alloc),
+            roots: Vec::new(alloc),
+            lists: Pieces::new(alloc),
+        }
+    }
+
+    /// How many entries there are.
+    pub fn len(&self) -> usize
+        ensures { result ≡ length self.now }
+    {
+        self.roots.len()
+    }
+
+    /// The entry with this number, by reference.
+    pub fn get(&self, k: usize) -> Option<EntryRef<'_>>
+        ensures some { IfSome result (λ entry. slice_get self.now k ≡ Some (entry_shown entry)) }
+        ensures none { IfNone result (length self.now ≤ k) }
+    {
+        if k >= self.roots.len() {
+            return None;
+        }
+        let key = self.keys.at(k);
+        let items = self.lists.at(k);
+        let postings = match self.roots[k] {
+            None => PostingsRef::Inline(items),
+            Some(root) => PostingsRef::Root(root),
+        };
+        Some(EntryRef { key, postings })
+    }
+
+    /// One entry more, behind the others. Without memory they stay as they are.
+    pub fn push(&mut self, entry: EntryRef<'_>) -> Result<(), AllocError>
+        ensures ok { OnOk result (self.new ≡ self.old ++ entry_shown entry.entry ∷ []) }
+        ensures err { OnErr result (self.new ≡ self.old) }
+    {
+        let (root, items) = parts_of(entry.postings);
+        self.roots.reserve(1)?;
+        self.keys.push(entry.key)?;
+        match self.lists.push(items) {
+            Ok(()) => {
+                self.roots.push_reserved(root);
+                Ok(())
+            }
+            Err(e) => {
+                let n = self.roots.len();
+                self.keys.truncate(n);
+                Err(e)
+            }
+        }
+    }
+}
+
+impl Clone for Entries {
+    ghost is_clone = { λ a b. b ≡ a };
+
+    fn clone(&self) -> Result<Entries, AllocError> {
+        let keys = self.keys.clone()?;
+        let roots = self.roots.clone()?;
+        let lists = self.lists.clone()?;
+        Ok(Entries { keys, roots, lists })
+    }
+}

@@ -1,0 +1,150 @@
+// The children of inner pages.
+ghost use Rattle.std.specs.Prelude.{◌≡◌, ◌≤◌, [], ◌∷◌, ◌++◌, length, OnOk, OnErr, IfSome, IfNone, Some};
+ghost use Rattle.std.specs.List.{slice_get};
+
+use crate::page::PostChild;
+use crate::pieces::Pieces;
+use std::alloc::{AllocError, Global};
+use std::marker::Model;
+
+/// A child of an inner page of the entry tree, its bound by reference.
+#[derive(Clone, Copy, Debug)]
+pub struct EntryChildRef<'a> {
+    /// The child's page.
+    pub page: u32,
+    /// The greatest key that may stand below it; no bytes: there is no bound.
+    pub bound: &'a [u8],
+}
+
+/// The children of an inner page of the entry tree. Contracts see them as a list.
+#[derive(Debug, Drop)]
+pub struct EntryChildren {
+    pages: Vec<u32>,
+    bounds: Pieces,
+}
+
+impl Model for EntryChildren {
+    ghost use Rattle.std.specs.Prelude.{◌≡◌, List, length};
+    ghost use Rattle.page_types.specs.declared.page.EntryChild.{EntryChild};
+
+    ghost Value = { List EntryChild };
+
+    ghost use Rattle.page_types.specs.Inner.Joins.{joined, child_with};
+
+    ghost view = { λ c. joined child_with c.pages.items c.bounds };
+
+    ghost invariant = { λ c. length c.pages.items ≡ length c.bounds };
+}
+
+impl EntryChildren {
+    ghost use Rattle.page_types.specs.Parts.{child_shown};
+
+    /// No children.
+    pub fn new(alloc: Global) -> EntryChildren
+        ensures { result ≡ [] }
+    {
+        EntryChildren {
+            pages: Vec::new(alloc),
+            bounds: Pieces::new(alloc),
+        }
+    }
+
+    /// How many children there are.
+    pub fn len(&self) -> usize
+        ensures { result ≡ length self.now }
+    {
+        self.pages.len()
+    }
+
+    /// The child with this number, by reference.
+    pub fn get(&self, k: usize) -> Option<EntryChildRef<'_>>
+        ensures some { IfSome result (λ child. slice_get self.now k ≡ Some (child_shown child)) }
+        ensures none { IfNone result (length self.now ≤ k) }
+    {
+        if k >= self.pages.len() {
+            return None;
+        }
+        let bound = self.bounds.at(k);
+        let page = self.pages[k];
+        Some(EntryChildRef { page, bound })
+    }
+
+    /// One child more, behind the others. Without memory they stay as they are.
+    pub fn push(&mut self, child: EntryChildRef<'_>) -> Result<(), AllocError>
+        ensures ok { OnOk result (self.new ≡ self.old ++ child_shown child.entry ∷ []) }
+        ensures err { OnErr result (self.new ≡ self.old) }
+    {
+        self.pages.reserve(1)?;
+        self.bounds.push(child.bound)?;
+        self.pages.push_reserved(child.page);
+        Ok(())
+    }
+}
+
+impl Clone for EntryChildren {
+    ghost is_clone = { λ a b. b ≡ a };
+
+    fn clone(&self) -> Result<EntryChildren, AllocError> {
+        let pages = self.pages.clone()?;
+        let bounds = self.bounds.clone()?;
+        Ok(EntryChildren { pages, bounds })
+    }
+}
+
+/// The children of an inner page of a posting tree. Contracts see them as a list.
+#[derive(Debug, Drop)]
+pub struct PostChildren {
+    inner: Vec<PostChild>,
+}
+
+impl Model for PostChildren {
+    ghost use Rattle.std.specs.Prelude.{List};
+    ghost use Rattle.page_types.specs.declared.page.PostChild.{PostChild};
+
+    ghost Value = { List PostChild };
+
+    ghost view = { λ c. c.inner.items };
+}
+
+impl PostChildren {
+    /// No children.
+    pub fn new(alloc: Global) -> PostChildren
+        ensures { result ≡ [] }
+    {
+        PostChildren {
+            inner: Vec::new(alloc),
+        }
+    }
+
+    /// How many children there are.
+    pub fn len(&self) -> usize
+        ensures { result ≡ length self.now }
+    {
+        self.inner.len()
+    }
+
+    /// The child with this number.
+    pub fn get(&self, k: usize) -> Option<PostChild>
+        ensures { result ≡ slice_get self.now k }
+    {
+        self.inner.get(k).copied()
+    }
+
+    /// One child more, behind the others. Without memory they stay as they are.
+    pub fn push(&mut self, child: PostChild) -> Result<(), AllocError>
+        ensures ok { OnOk result (self.new ≡ self.old ++ child ∷ []) }
+        ensures err { OnErr result (self.new ≡ self.old) }
+    {
+        self.inner.push(child)?;
+        Ok(())
+    }
+}
+
+impl Clone for PostChildren {
+    ghost is_clone = { λ a b. b ≡ a };
+
+    fn clone(&self) -> Result<PostChildren, AllocError> {
+        let inner = self.inner.clone()?;
+        Ok(PostChildren { inner })
+    }
+}

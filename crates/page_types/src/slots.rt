@@ -1,0 +1,124 @@
+// The slots of a heap page.
+ghost use Rattle.std.specs.Prelude.{◌≡◌, [], ◌∷◌, ◌++◌, length, OnOk, OnErr};
+ghost use Rattle.std.specs.Option.{option_map};
+ghost use Rattle.page_types.specs.Parts.{head_shown};
+ghost use Rattle.page_types.specs.Inner.Joins.{slot_with};
+
+use crate::pieces::Pieces;
+use std::alloc::{AllocError, Global};
+use std::marker::Model;
+
+/// A head without its vector's bytes.
+#[derive(Clone, Copy, Debug, PartialEq, Eq)]
+pub struct HeadFields {
+    /// The document's serial number.
+    pub serial: u64,
+    /// The transaction that placed it.
+    pub inserted_by: u32,
+    /// The transaction that marked it deleted, or 0.
+    pub deleted_by: u32,
+    /// The first overflow page, or 0.
+    pub overflow: u32,
+    /// The first private pending page, or 0.
+    pub private: u32,
+    /// How many bytes the vector has.
+    pub bytes: u32,
+}
+
+/// A head, its vector's bytes by reference.
+#[derive(Clone, Copy, Debug)]
+pub struct HeadRef<'a> {
+    /// All but the vector.
+    pub fields: HeadFields,
+    /// The vector's bytes, where they are at most 2000; else none.
+    pub vector: &'a [u8],
+}
+
+/// The slots of a heap page: each is free, or has a head. Contracts see them as a list.
+#[derive(Debug, Drop)]
+pub struct Slots {
+    fields: Vec<Option<HeadFields>>,
+    vectors: Pieces,
+}
+
+impl Model for Slots {
+    ghost use Rattle.std.specs.Prelude.{◌≡◌, List, Option, length};
+    ghost use Rattle.page_types.specs.declared.page.Head.{Head};
+
+    ghost Value = { List (Option Head) };
+
+    ghost use Rattle.page_types.specs.Inner.Joins.{joined, slot_with};
+
+    ghost view = { λ s. joined slot_with s.fields.items s.vectors };
+
+    ghost invariant = { λ s. length s.fields.items ≡ length s.vectors };
+}
+
+// The two parts of a slot.
+fn parts_of<'a>(slot: Option<HeadRef<'a>>) -> (Option<HeadFields>, &'a [u8])
+    ensures { slot_with result.0 result.1.now ≡ option_map head_shown slot.entry }
+{
+    match slot {
+        None => (None, &[]),
+        Some(head) => (Some(head.fields), head.vector),
+    }
+}
+
+impl Slots {
+    ghost use Rattle.page_types.specs.Parts.{head_shown};
+    ghost use Rattle.page_types.specs.Views.{slot_at};
+
+    /// No slots.
+    pub fn new(alloc: Global) -> Slots
+        ensures { result ≡ [] }
+    {
+        Slots {
+            fields: Vec::new(alloc),
+            vectors: Pieces::new(alloc),
+        }
+    }
+
+    /// How many slots there are.
+    pub fn len(&self) -> usize
+        ensures { result ≡ length self.now }
+    {
+        self.fields.len()
+    }
+
+    /// The head in a slot, by reference; none where the slot is free or absent.
+    pub fn get(&self, k: usize) -> Option<HeadRef<'_>>
+        ensures { option_map head_shown result ≡ slot_at self.now k }
+    {
+        if k >= self.fields.len() {
+            return None;
+        }
+        let vector = self.vectors.at(k);
+        match self.fields[k] {
+            None => None,
+            Some(fields) => Some(HeadRef { fields, vector }),
+        }
+    }
+
+    /// One slot more, behind the others. Without memory they stay as they are.
+    pub fn push(&mut self, slot: Option<HeadRef<'_>>) -> Result<(), AllocError>
+        ensures ok { OnOk result (self.new ≡ self.old
+            ++ option_map head_shown slot.entry ∷ []) }
+        ensures err { OnErr result (self.new ≡ self.old) }
+    {
+        let (fields, vector) = parts_of(slot);
+        self.fields.reserve(1)?;
+        self.vectors.push(vector)?;
+        self.fields.push_reserved(fields);
+        Ok(())
+    }
+}
+
+impl Clone for Slots {
+    ghost is_clone = { λ a b. b ≡ a };
+
+    fn clone(&self) -> Result<Slots, AllocError> {
+        let fields = self.fields.clone()?;
+        let vectors = self.vectors.clone()?;
+        Ok(Slots { fields, vectors })
+    }
+}

@@ -1,0 +1,2 @@
+-- How an iterator over a list stands.
+pub mod States

@@ -1,0 +1,16 @@
+//! Item lists: rising items, written and read.
+//!
+//! A list is the differences of the items, the first from 0, each as a varbyte: seven bits at a time, the low ones first,
+//! the high bit set where more follow, in the fewest bytes. An empty list has no bytes.
+#![tactic(auto)]
+
+mod error;
+mod items;
+mod reading;
+#[cfg(test)]
+mod tests;
+mod writing;
+
+pub use error::ListError;
+pub use items::Items;
+pub use writing::encode_items;

@@ -1,0 +1,3 @@
+-- What the functions that read a field give: what no caller sees.
+pub mod Giving
+pub mod Growing

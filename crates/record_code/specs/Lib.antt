@@ -1,0 +1,5 @@
+pub mod Inner
+pub mod Fields
+pub mod Reading
+pub mod Decoding
+pub mod Laws
