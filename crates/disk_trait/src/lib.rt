@@ -10,8 +10,6 @@ mod sink;
 mod source;
 mod step;
 mod stream;
-#[cfg(test)]
-mod tests;
 
 pub use device::{Disk, Failed, File};
 pub use disk::MemoryDisk;

@@ -12,6 +12,3 @@ pub use laws::{
     longest_is_longest, stem_is_no_longer, stem_is_small, stem_is_some, tables_are_apart,
 };
 pub use steps::stem;
-
-#[cfg(test)]
-mod tests;

@@ -7,8 +7,6 @@
 mod error;
 mod items;
 mod reading;
-#[cfg(test)]
-mod tests;
 mod writing;
 
 pub use error::ListError;

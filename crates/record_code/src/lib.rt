@@ -15,8 +15,3 @@ pub use error::RecordError;
 pub use laws::spellings_are_read;
 pub use reading::decode_record;
 pub use writing::encode_record;
-
-#[cfg(test)]
-mod rows;
-#[cfg(test)]
-mod tests;

@@ -36,6 +36,3 @@ pub fn token_list(alloc: Global, text: &str) -> Result<Vec<Token>, AllocError>
 {
     tokens(text).collect(alloc)
 }
-
-#[cfg(test)]
-mod tests;

@@ -14,8 +14,6 @@ mod laws;
 mod log;
 mod reading;
 mod sizes;
-#[cfg(test)]
-mod tests;
 
 pub use error::WalError;
 pub use laws::{never_refused, one_list};

@@ -1,5 +1,8 @@
-use super::*;
 use std::test::Fail;
+use ts_parser::{
+    TokenType, names_tell_types, numbers_tell_types, one_token_list, token_list, tokens,
+    tokens_between, tokens_cover, tokens_few,
+};
 
 /// A text, and its tokens as type, start and length.
 struct Row {

@@ -1,4 +1,4 @@
-use super::*;
+use posting_code::{Items, ListError, encode_items};
 use std::test::Fail;
 
 const EXAMPLE: [u8; 7] = [0x01, 0x7f, 0x80, 0x01, 0x80, 0x80, 0x01];

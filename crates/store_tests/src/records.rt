@@ -1,9 +1,9 @@
 // Records of each kind and of whole logs, and bytes that are none.
 ghost use Rattle.std.specs.Prelude.{◌≡◌};
 
-use crate::rows::{FAULTS, KINDS, LOGS};
-use crate::{RecordError, decode_record, encode_record};
+use crate::record_rows::{FAULTS, KINDS, LOGS};
 use page_types::{Edit, Record};
+use record_code::{RecordError, decode_record, encode_record};
 use std::alloc::Global;
 use std::fmt::Write;
 use std::test::Fail;

@@ -3,11 +3,11 @@ ghost use Rattle.disk_trait.specs.Files.{file_limit};
 ghost use Rattle.disk_trait.specs.MemoryDisk.{clock_of};
 ghost use Rattle.wal.specs.Waiting.{IsReadToEnd};
 
-use crate::{LOG_LIMIT, MOST_WAITING, Wal, WalError};
 use disk_trait::{Disk, Failed, File, MemoryDisk};
 use std::alloc::Global;
 use std::process::Abort;
 use std::test::Fail;
+use wal::{LOG_LIMIT, MOST_WAITING, Wal, WalError};
 
 /// A device in memory that tells nothing, so that a test may ask anything of it.
 #[derive(Drop)]

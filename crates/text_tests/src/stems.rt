@@ -1,5 +1,5 @@
 // Worked stems, over all steps.
-use crate::stem;
+use porter_stem::stem;
 use std::test::Fail;
 
 /// Words, each with its stem.

@@ -1,7 +1,7 @@
 ghost use Rattle.std.specs.Prelude.{◌≤◌};
 ghost use Rattle.disk_trait.specs.MemoryDisk.{clock_of};
 
-use crate::{Disk, Failed, File, MemoryDisk, MemorySink, MemorySource, Sink, Source};
+use disk_trait::{Disk, Failed, File, MemoryDisk, MemorySink, MemorySource, Sink, Source};
 use std::alloc::Global;
 use std::process::Abort;
 use std::test::Fail;
@@ -71,7 +71,7 @@ fn writes(disk: &mut MemoryDisk, file: File, at: u64, bytes: &[u8]) -> bool {
 
 /// Whether a write at a small place is done and synced.
 fn writes_through(disk: &mut MemoryDisk, file: File, at: u64, bytes: &[u8]) -> bool {
-    at <= 1000 && bytes.len() <= 1000 && crate::write_and_sync(disk, file, at, bytes).is_ok()
+    at <= 1000 && bytes.len() <= 1000 && disk_trait::write_and_sync(disk, file, at, bytes).is_ok()
 }
 
 /// Whether a step gives what its row says.
@@ -182,7 +182,7 @@ fn a_sync_settles_its_own_file(rt: HostRuntime) -> Result<(), Fail> {
 fn a_pick_draws_bytes(rt: HostRuntime) -> Result<(), Fail> {
     let alloc = rt.alloc();
     let mut disk = MemoryDisk::new(alloc, Vec::new(alloc));
-    crate::write_and_sync(&mut disk, File::Log, 0, &[1, 2, 3, 4])?;
+    disk_trait::write_and_sync(&mut disk, File::Log, 0, &[1, 2, 3, 4])?;
     disk.write_at(File::Log, 1, &[9, 9])?;
     disk.write_at(File::Log, 5, &[7, 7])?;
     let drawn = left(alloc, &disk, File::Log, disk.calls(), 3)?;
