@@ -19,6 +19,3 @@ pub use keys::{query_keys, vector_keys};
 pub use laws::{candidates_suffice, judges_well, needed_have};
 pub use matching::matches;
 pub use work::MatchWork;
-
-#[cfg(test)]
-mod tests;

@@ -22,6 +22,3 @@ const PAST_DISTANCE: u16 = 16385;
 
 /// A query has fewer nodes than this.
 pub const NODE_LIMIT: usize = 32768;
-
-#[cfg(test)]
-mod tests;

@@ -1,7 +1,10 @@
-use super::*;
 use std::alloc::{AllocError, Global};
 use std::test::Fail;
 use ts_base::{Lexeme, Weights};
+use ts_query::{
+    Node, QueryError, TsQuery, distance_is_decimal, fault_has_one_place, fault_is_outside,
+    one_answer, one_value, prints_back,
+};
 
 /// Texts and what they give, `text=outcome`, with `;` between two; `{x^n}` stands for n times x, and behind `#` stand
 /// steps that join operands.

@@ -1,0 +1,18 @@
+//! Cases of texts and their meaning: rows that say what comes of them, and a second matcher that tries each place of a
+//! wide range.
+//!
+//! Tests stand in a crate of their own, since a crate with tests is proved twice.
+#![tactic(auto)]
+
+#[cfg(test)]
+mod base_tests;
+#[cfg(test)]
+mod match_tests;
+#[cfg(test)]
+mod parser_tests;
+#[cfg(test)]
+mod query_tests;
+#[cfg(test)]
+mod slow;
+#[cfg(test)]
+mod stem_tests;
