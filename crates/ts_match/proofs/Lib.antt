@@ -14,6 +14,8 @@ pub mod PlanSteps
 pub mod Units
 pub mod Reach
 pub mod Laid
+pub mod Heights
+pub mod Spares
 pub mod Prepared
 pub mod Weighed
 pub mod KeyLists

@@ -313,3 +313,9 @@ module _ (v : Vector) (os : List Operand) (ss : List Step) (P : Type 0) (a e : �
       let u = unit_truth v os ss P a unit_here.on_true unit_here.on_false unit_here.tree unit_here.is r (λ k h. f k (n ∙ h))
       (λ m t h i. g m t (n ∙ h) (subst (λ (x : List Step). IsPhraseOf os x t) (sym q) i)) in
       subst (λ i. Way v os ss P i × (a < i)) (sym (next_is (get_or ss e d).place unit_here.on_true unit_here.on_false r p)) (by_truth r u)
+
+  pub unit_phrase : (d : Step) (m : ℕ) → (get_or ss e d).node ≡ Phrase m → (t : Tree) × IsPhraseOf os (slice_range ss a (e + 1)) t
+  unit_phrase d m h = elim unit_here.is.kind [
+    | inl w ↦ absurd (let x : Leaf w.0 ≡ Phrase m = sym w.2 ∙ sym (ap (λ (s : Step). s.node) (unit_step d)) ∙ h in let z : ⊥ = cc in z)
+    | inr w ↦ (unit_here.tree, subst (λ i. IsPhraseOf os (slice_range ss a (i + 1)) unit_here.tree) (sym end_is) w.2)
+  ]

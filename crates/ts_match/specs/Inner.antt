@@ -3,5 +3,6 @@ pub mod Stacks
 pub mod Plan
 pub mod Found
 pub mod Rows
+pub mod Heights
 pub mod Phrases
 pub mod Weighing

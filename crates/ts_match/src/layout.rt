@@ -9,11 +9,12 @@ ghost use Rattle.ts_match.specs.Inner.Plan.{offset_of};
 ghost use Rattle.ts_match.specs.declared.rows.Row.{Row as RowOf};
 ghost use Rattle.ts_query.specs.declared.query.Node.TheVariants.{Not as NotNode, And as AndNode, Or as OrNode};
 ghost use Rattle.ts_match.specs.Inner.Rows.{row_value, truths_at, beginning, IsWide};
+ghost use Rattle.ts_match.specs.Inner.Heights.{height_behind, HasRoom, HaveRoom, AreWide, SameRows, HasRows};
 ghost use Rattle.ts_match.specs.Inner.Phrases.{IsPhraseOf, IsPrepared, IsLaidOut, SaysWhere, HasOperand, HasFound, HasPlaces, leaf_value, truth_step};
 
 use crate::found::{FARTHEST, Found, fits};
 use crate::phrase::{Phrase, offset};
-use crate::rows::{Row, Rows, WORD, clear, is_somewhere, join, meet, negate, set};
+use crate::rows::{Row, Rows, WIDEST, WORD, clear, is_somewhere, join, meet, negate, set};
 use crate::stack::put;
 use crate::work::Step;
 use ts_base::{LAST_POSITION, Position, Weights};
@@ -25,6 +26,8 @@ fn reach_of(phrase: &Phrase) -> usize
     requires { IsPrepared phrase.now.vector.now phrase.now.operands.now phrase.now.found.now
         phrase.now.steps.now }
     ensures near { All (λ s. offset_of s.place ≤ result) phrase.now.steps.now }
+    ensures least { (reach : ℕ) → All (λ s. offset_of s.place ≤ reach) phrase.now.steps.now
+        → result ≤ reach }
     ensures far { result ≤ FARTHEST }
     ensures width { (t : Tree) → IsPhraseOf phrase.now.operands.now phrase.now.steps.now t
         → result ≡ width t }
@@ -150,53 +153,45 @@ fn lay(phrase: &Phrase, step: Step, k: u16, reach: usize, count: usize, row: &mu
     }
 }
 
-/// Puts the row of an operand on the stack; false where there is no row for it.
-fn put_leaf(
-    phrase: &Phrase,
-    step: Step,
-    k: u16,
-    reach: usize,
-    count: usize,
-    rows: &mut Rows,
-) -> bool
+/// Puts the row of an operand on the stack.
+fn put_leaf(phrase: &Phrase, step: Step, k: u16, reach: usize, count: usize, rows: &mut Rows)
     requires normal { IsNormal phrase.now.vector.now }
     requires same { length phrase.now.operands.now ≤ length phrase.now.found.now }
     requires far { reach ≤ FARTHEST }
     requires leaf { step.node ≡ Leaf k }
     requires placed { IsLaidOut phrase.now.vector.now phrase.now.operands.now phrase.now.found.now
         reach count step }
-    requires wide { All (IsWide count) rows.old.stack.items }
-    ensures wide { All (IsWide count) rows.new.stack.items }
-    ensures truths { IsTrue result → (j : ℕ) → truths_at count j (reverse rows.new.stack.items)
+    requires wide { AreWide count rows.old.stack.items rows.old.spare.items }
+    requires room { 0 < length rows.old.spare.items }
+    ensures height { length rows.new.stack.items ≡ length rows.old.stack.items + 1 }
+    ensures same { SameRows rows.old.stack.items rows.old.spare.items rows.new.stack.items
+        rows.new.spare.items }
+    ensures truths { (j : ℕ) → truths_at count j (reverse rows.new.stack.items)
         ≡ leaf_value phrase.now.vector.now phrase.now.operands.now (beginning reach j) step ∷
         truths_at count j (reverse rows.old.stack.items) }
 {
     let Some(mut row) = rows.spare.pop() else {
-        return false;
+        unreachable!();
     };
-    if row.words.len() < count {
-        rows.spare.push_reserved(row);
-        return false;
-    }
     lay(phrase, step, k, reach, count, &mut row);
     put(&mut rows.stack, row);
-    true
 }
 
-/// Negates the row on top of the stack; false where there is none.
-fn negate_top(rows: &mut Rows, count: usize) -> bool
-    requires { All (IsWide count) rows.old.stack.items }
-    ensures wide { All (IsWide count) rows.new.stack.items }
-    ensures truths { (value : _) → IsTrue result → (j : ℕ)
-        → truths_at count j (reverse rows.new.stack.items)
+/// Negates the row on top of the stack.
+fn negate_top(rows: &mut Rows, count: usize)
+    requires wide { AreWide count rows.old.stack.items rows.old.spare.items }
+    requires operand { 0 < length rows.old.stack.items }
+    ensures height { length rows.new.stack.items ≡ length rows.old.stack.items }
+    ensures same { SameRows rows.old.stack.items rows.old.spare.items rows.new.stack.items
+        rows.new.spare.items }
+    ensures truths { (value : _) (j : ℕ) → truths_at count j (reverse rows.new.stack.items)
         ≡ truth_step NotNode value (truths_at count j (reverse rows.old.stack.items)) }
 {
     let Some(mut row) = rows.stack.pop() else {
-        return false;
+        unreachable!();
     };
     negate(&mut row, count);
     put(&mut rows.stack, row);
-    true
 }
 
 /// Lets a row be true where both are, or where one of both is.
@@ -215,38 +210,43 @@ fn combine(row: &mut Row, other: &Row, count: usize, both: bool)
     }
 }
 
-/// Puts one row in place of the two on top of the stack, true where both are or where one is; false where there are none.
-fn join_top(rows: &mut Rows, count: usize, both: bool) -> bool
-    requires { All (IsWide count) rows.old.stack.items }
-    ensures wide { All (IsWide count) rows.new.stack.items }
-    ensures truths { (value : _) → IsTrue result → (j : ℕ)
-        → truths_at count j (reverse rows.new.stack.items)
+/// Puts one row in place of the two on top of the stack, true where both are or where one is.
+fn join_top(rows: &mut Rows, count: usize, both: bool)
+    requires wide { AreWide count rows.old.stack.items rows.old.spare.items }
+    requires operands { 1 < length rows.old.stack.items }
+    ensures height { length rows.new.stack.items ≡ length rows.old.stack.items - 1 }
+    ensures same { SameRows rows.old.stack.items rows.old.spare.items rows.new.stack.items
+        rows.new.spare.items }
+    ensures truths { (value : _) (j : ℕ) → truths_at count j (reverse rows.new.stack.items)
         ≡ truth_step (if both then AndNode else OrNode) value (truths_at count j (reverse
         rows.old.stack.items)) }
 {
     let Some(right) = rows.stack.pop() else {
-        return false;
+        unreachable!();
     };
     let Some(mut left) = rows.stack.pop() else {
-        rows.stack.push_reserved(right);
-        return false;
+        unreachable!();
     };
     combine(&mut left, &right, count, both);
     put(&mut rows.stack, left);
     rows.spare.push_reserved(right);
-    true
 }
 
-/// Lets a step of a phrase work on the stack of rows; false where there are too few rows.
-fn work_on(phrase: &Phrase, step: Step, reach: usize, count: usize, rows: &mut Rows) -> bool
+/// Lets a step of a phrase work on the stack of rows.
+fn work_on(phrase: &Phrase, step: Step, reach: usize, count: usize, rows: &mut Rows)
     requires normal { IsNormal phrase.now.vector.now }
     requires same { length phrase.now.operands.now ≤ length phrase.now.found.now }
     requires far { reach ≤ FARTHEST }
     requires placed { IsLaidOut phrase.now.vector.now phrase.now.operands.now phrase.now.found.now
         reach count step }
-    requires wide { All (IsWide count) rows.old.stack.items }
-    ensures wide { All (IsWide count) rows.new.stack.items }
-    ensures truths { IsTrue result → (j : ℕ) → truths_at count j (reverse rows.new.stack.items)
+    requires wide { AreWide count rows.old.stack.items rows.old.spare.items }
+    requires room { HasRoom (length rows.old.stack.items + length rows.old.spare.items) step.node
+        (length rows.old.stack.items) }
+    ensures height { length rows.new.stack.items
+        ≡ height_behind step.node (length rows.old.stack.items) }
+    ensures same { SameRows rows.old.stack.items rows.old.spare.items rows.new.stack.items
+        rows.new.spare.items }
+    ensures truths { (j : ℕ) → truths_at count j (reverse rows.new.stack.items)
         ≡ truth_step step.node (leaf_value phrase.now.vector.now phrase.now.operands.now
         (beginning reach j) step)
         (truths_at count j (reverse rows.old.stack.items)) }
@@ -261,15 +261,17 @@ fn work_on(phrase: &Phrase, step: Step, reach: usize, count: usize, rows: &mut R
 
 /// Lets no row be in use.
 fn free_all(rows: &mut Rows)
-    ensures { rows.new.stack.items ≡ [] }
+    ensures free { rows.new.stack.items ≡ [] }
+    ensures same { SameRows rows.old.stack.items rows.old.spare.items rows.new.stack.items
+        rows.new.spare.items }
 {
     while let Some(row) = rows.stack.pop() {
         rows.spare.push_reserved(row);
     }
 }
 
-/// Leaves the row of the phrase alone on the stack; false where there are too few rows for it, or too short ones.
-fn fill_rows(phrase: &Phrase, reach: usize, count: usize, rows: &mut Rows) -> bool
+/// Leaves the row of the phrase alone on the stack.
+fn fill_rows(phrase: &Phrase, reach: usize, count: usize, rows: &mut Rows)
     requires prepared { IsPrepared phrase.now.vector.now phrase.now.operands.now
         phrase.now.found.now phrase.now.steps.now }
     requires far { reach ≤ FARTHEST }
@@ -278,34 +280,44 @@ fn fill_rows(phrase: &Phrase, reach: usize, count: usize, rows: &mut Rows) -> bo
     requires placed { All (IsLaidOut phrase.now.vector.now phrase.now.operands.now
         phrase.now.found.now reach count) phrase.now.steps.now }
     requires enough { reach < WORD * count }
-    ensures wide { All (IsWide count) rows.new.stack.items }
-    ensures row { IsTrue result → (t : Tree)
+    requires wide { AreWide count rows.old.stack.items rows.old.spare.items }
+    requires room { HaveRoom (length rows.old.stack.items + length rows.old.spare.items)
+        phrase.now.steps.now 0 }
+    ensures same { SameRows rows.old.stack.items rows.old.spare.items rows.new.stack.items
+        rows.new.spare.items }
+    ensures row { (t : Tree)
         → IsPhraseOf phrase.now.operands.now phrase.now.steps.now t
         → (row : RowOf) × (rows.new.stack.items ≡ row ∷ [])
         × SaysWhere phrase.now.vector.now t count row }
 {
     free_all(rows);
     for step in phrase.steps {
-        if !work_on(phrase, *step, reach, count, rows) {
-            return false;
-        }
+        work_on(phrase, *step, reach, count, rows);
     }
-    true
 }
 
-/// Whether the phrase holds, by a row for each node; None where there are too few rows for it, or too short ones.
+/// Whether the phrase holds, by a row for each node; None where its widths add up to more than rows are made for.
 pub fn holds_by_rows(phrase: &Phrase, rows: &mut Rows) -> Option<bool>
-    requires { IsPrepared phrase.now.vector.now phrase.now.operands.now phrase.now.found.now
-        phrase.now.steps.now }
-    ensures { IfSome result (λ holds. (t : Tree)
+    requires prepared { IsPrepared phrase.now.vector.now phrase.now.operands.now
+        phrase.now.found.now phrase.now.steps.now }
+    requires phrase { (t : Tree) × IsPhraseOf phrase.now.operands.now phrase.now.steps.now t }
+    requires rows { HasRows phrase.now.steps.now rows.old.stack.items rows.old.spare.items }
+    ensures meaning { IfSome result (λ holds. (t : Tree)
         → IsPhraseOf phrase.now.operands.now phrase.now.steps.now t
         → IsTrue holds ↔ HoldsSomewhere phrase.now.vector.now t) }
+    ensures none { (t : Tree) → IsPhraseOf phrase.now.operands.now phrase.now.steps.now t
+        → result ≡ None ↔ (WIDEST < width t) }
+    ensures same { SameRows rows.old.stack.items rows.old.spare.items rows.new.stack.items
+        rows.new.spare.items }
 {
     let reach = reach_of(phrase);
-    let count = (last_place(phrase) + reach) / WORD + 1;
-    if !fill_rows(phrase, reach, count, rows) {
+    if reach > WIDEST {
         return None;
     }
-    let row = rows.stack.last()?;
+    let count = (last_place(phrase) + reach) / WORD + 1;
+    fill_rows(phrase, reach, count, rows);
+    let Some(row) = rows.stack.last() else {
+        unreachable!();
+    };
     Some(is_somewhere(row, count))
 }

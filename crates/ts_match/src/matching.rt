@@ -8,6 +8,7 @@ ghost use Rattle.ts_match.specs.Plan.{plan_of};
 ghost use Rattle.ts_match.specs.declared.work.Place.TheVariants.{Within};
 ghost use Rattle.ts_match.specs.declared.work.Step.{Step as StepOf};
 ghost use Rattle.ts_match.specs.Inner.Plan.{next_of};
+ghost use Rattle.ts_match.specs.Inner.Heights.{SameRows, HasRows};
 ghost use Rattle.ts_match.specs.Inner.Phrases.{IsPhraseOf, IsStep, HasOperand, HasFound, StandsWithin, StandsOutside, IsUnitNode, operand_at};
 
 use crate::found::{Found, find, meets};
@@ -94,8 +95,12 @@ fn phrase_value(
     requires found { length operands.now ≤ vec_len found.old }
     requires steps { All (IsStep (length operands.now)) steps.now }
     requires truths { length steps.now ≤ vec_capacity truths.old }
+    requires phrase { (t : Tree) × IsPhraseOf operands.now steps.now t }
+    requires rows { HasRows steps.now rows.old.stack.items rows.old.spare.items }
     ensures meaning { (t : Tree) → IsPhraseOf operands.now steps.now t
         → IsTrue result ↔ ((stripped_vector vector.now ≡ false) × HoldsSomewhere vector.now t) }
+    ensures rows { SameRows rows.old.stack.items rows.old.spare.items rows.new.stack.items
+        rows.new.spare.items }
     ensures found { vec_len found.new ≡ vec_len found.old }
     ensures truths { vec_capacity truths.new ≡ vec_capacity truths.old }
 {
@@ -132,10 +137,15 @@ fn unit_value(
     requires found { length operands.now ≤ vec_len found.old }
     requires steps { All (IsStep (length operands.now)) steps.now }
     requires truths { length steps.now ≤ vec_capacity truths.old }
+    requires phrase { (n : ℕ) → node ≡ PhraseNode n
+        → (t : Tree) × IsPhraseOf operands.now steps.now t }
+    requires rows { HasRows steps.now rows.old.stack.items rows.old.spare.items }
     ensures leaf { (k : ℕ) → node ≡ Leaf k → result
         ≡ is_met (operand_at operands.now k) vector.now }
     ensures phrase { (n : ℕ) (t : Tree) → node ≡ PhraseNode n → IsPhraseOf operands.now steps.now t
         → IsTrue result ↔ ((stripped_vector vector.now ≡ false) × HoldsSomewhere vector.now t) }
+    ensures rows { SameRows rows.old.stack.items rows.old.spare.items rows.new.stack.items
+        rows.new.spare.items }
     ensures found { vec_len found.new ≡ vec_len found.old }
     ensures truths { vec_capacity truths.new ≡ vec_capacity truths.old }
 {
@@ -191,7 +201,10 @@ fn evaluate(
     requires plan { steps.now ≡ plan_of query.now }
     requires found { length steps.now ≤ vec_len found.old }
     requires truths { length steps.now ≤ vec_capacity truths.old }
+    requires rows { HasRows steps.now rows.old.stack.items rows.old.spare.items }
     ensures meaning { IsTrue result ↔ Holds query.now vector.now }
+    ensures rows { SameRows rows.old.stack.items rows.old.spare.items rows.new.stack.items
+        rows.new.spare.items }
     ensures found { vec_len found.new ≡ vec_len found.old }
     ensures truths { vec_capacity truths.new ≡ vec_capacity truths.old }
 {

@@ -1,8 +1,11 @@
 // Rows of places: a truth for each place below some number, and one for all others.
-ghost use Rattle.std.specs.Prelude.{◌≡◌, ℕ, ◌+◌, ◌-◌, ◌*◌, ◌<◌, ◌≤◌, ◌==◌, ◌&&◌, ◌||◌, ◌↔◌, IfOk, not, false, IsTrue, vec_len, vec_capacity};
+ghost use Rattle.std.specs.Prelude.{◌≡◌, ℕ, ◌+◌, ◌-◌, ◌*◌, ◌<◌, ◌≤◌, ◌==◌, ◌&&◌, ◌||◌, ◌↔◌, IfOk, not, false, IsTrue, All, vec_len, vec_capacity};
 ghost use Rattle.std.specs.Int.{bit_at};
-ghost use Rattle.ts_match.specs.Inner.Rows.{row_value};
+ghost use Rattle.ts_match.specs.Inner.Plan.{offset_of};
+ghost use Rattle.ts_match.specs.Inner.Rows.{row_value, IsWide, words_for as words_of};
+ghost use Rattle.ts_match.specs.Inner.Heights.{height_at, highest, HasRows};
 
+use crate::phrase::offset;
 use crate::work::{Place, Step};
 use std::alloc::{AllocError, Global};
 use ts_base::LAST_POSITION;
@@ -128,31 +131,58 @@ pub struct Rows {
     ghost spare_room: { vec_len stack + vec_len spare ≤ vec_capacity spare },
 }
 
-/// How far behind its beginning a phrase reaches at most, and how high the stack of its rows gets.
-fn reach_and_height(steps: &[Step]) -> (usize, usize) {
-    let mut reach: usize = 0;
-    let mut height: usize = 0;
-    let mut highest: usize = 0;
-    for step in steps {
-        let Place::Within { offset, .. } = step.place else {
-            height = 0;
-            continue;
-        };
-        reach = reach.max(offset);
-        match step.node {
-            Node::Leaf(_) => height = height.saturating_add(1),
-            Node::Not => {}
-            Node::And | Node::Or | Node::Phrase(_) => height = height.saturating_sub(1),
-        }
-        highest = highest.max(height);
+/// How high the stack of rows is behind a step; it is empty behind a step outside phrases.
+fn height_behind(step: Step, height: usize) -> usize
+    requires { height < usize.MAX }
+    ensures { result ≡ height_at step.place step.node height }
+{
+    match step.place {
+        Place::Outside { .. } => 0,
+        Place::Within { .. } => match step.node {
+            Node::Leaf(_) => height + 1,
+            Node::Not => height,
+            Node::And | Node::Or | Node::Phrase(_) => height.saturating_sub(1),
+        },
     }
-    (reach, highest)
+}
+
+/// How high the stack of rows gets.
+fn greatest_height(steps: &[Step]) -> usize
+    ensures { highest steps.now 0 ≤ result }
+{
+    let mut height: usize = 0;
+    let mut greatest: usize = 0;
+    for step in steps {
+        height = height_behind(*step, height);
+        greatest = greatest.max(height);
+    }
+    greatest
+}
+
+/// How far behind the beginning of its phrase a step stands at most.
+fn greatest_offset(steps: &[Step]) -> usize
+    ensures { All (λ s. offset_of s.place ≤ result) steps.now }
+{
+    let mut reach: usize = 0;
+    for step in steps {
+        reach = reach.max(offset(step.place));
+    }
+    reach
+}
+
+/// How many words a row has in which each position has a place, moved by `reach` at most.
+fn words_for(reach: usize) -> usize
+    requires { reach ≤ WIDEST }
+    ensures { result ≡ words_of reach }
+{
+    (LAST_POSITION as usize + reach) / WORD + 1
 }
 
 /// So many rows of so many words.
 fn spare_rows(alloc: Global, height: usize, count: usize) -> Result<Vec<Row>, AllocError>
     ensures len { IfOk result (λ rows. vec_len rows ≡ height) }
     ensures room { IfOk result (λ rows. vec_capacity rows ≡ height) }
+    ensures wide { IfOk result (λ rows. All (IsWide count) rows.items) }
 {
     let mut rows = Vec::with_capacity(alloc, height)?;
     for _ in 0..height {
@@ -163,9 +193,11 @@ fn spare_rows(alloc: Global, height: usize, count: usize) -> Result<Vec<Row>, Al
 }
 
 /// A row for each level of the stack that the phrases need, and in each a place for each position moved by their widths.
-pub fn make_rows(alloc: Global, steps: &[Step]) -> Result<Rows, AllocError> {
-    let (reach, height) = reach_and_height(steps);
-    let count = (LAST_POSITION as usize + reach.min(WIDEST)) / WORD + 1;
+pub fn make_rows(alloc: Global, steps: &[Step]) -> Result<Rows, AllocError>
+    ensures { IfOk result (λ rows. HasRows steps.now rows.stack.items rows.spare.items) }
+{
+    let height = greatest_height(steps);
+    let count = words_for(greatest_offset(steps).min(WIDEST));
     let stack = Vec::with_capacity(alloc, height)?;
     let spare = spare_rows(alloc, height, count)?;
     Ok(Rows { stack, spare })

@@ -248,13 +248,15 @@ pub struct MatchWork {
 impl Model for MatchWork {
     ghost use Rattle.std.specs.Prelude.{List, ◌≤◌, length, vec_len, vec_capacity};
     ghost use Rattle.ts_match.specs.declared.work.Step.{Step};
+    ghost use Rattle.ts_match.specs.Inner.Heights.{HasRows};
 
     ghost Value = { List Step };
 
     ghost view = { λ work. work.steps.items };
 
     ghost invariant = { λ work. (length work.steps.items ≤ vec_len work.found) ×
-        (length work.steps.items ≤ vec_capacity work.truths) × (length work.steps.items ≤ vec_capacity work.answers) };
+        (length work.steps.items ≤ vec_capacity work.truths) × (length work.steps.items ≤ vec_capacity work.answers) ×
+        HasRows work.steps.items work.rows.stack.items work.rows.spare.items };
 }
 
 impl MatchWork {

@@ -1,6 +1,7 @@
 -- A row of places as a function from places to truths.
 use Rattle.std.specs.Prelude.{ℕ, ◌+◌, ◌-◌, ◌*◌, ◌/◌, ◌%◌, ◌≤◌, ◌==◌, nat_lt, Bool, if◌then◌else◌, List, map, slice_index, vec_len}
 use Rattle.std.specs.Int.{bit_at}
+use Rattle.ts_base.specs.declared.TheConstants.{LAST_POSITION}
 use Rattle.ts_match.specs.declared.found.TheConstants.{FARTHEST}
 use Rattle.ts_match.specs.declared.rows.Row.{Row}
 use Rattle.ts_match.specs.declared.rows.TheConstants.{WORD}
@@ -27,3 +28,7 @@ IsWide count row = count ≤ vec_len row.words
 -- phrase begins at 0.
 abbrev pub beginning : ℕ → ℕ → ℕ
 beginning reach j = (j + FARTHEST) - reach
+
+-- how many words a row has in which each position has a place, moved by `reach` at most
+abbrev pub words_for : ℕ → ℕ
+words_for reach = (LAST_POSITION + reach) / WORD + 1

@@ -1,26 +1,54 @@
-use Rattle.std.proofs.Common.{◌≡◌, ℕ, ◌*◌, ◌≤◌, ◌<◌, [], ◌∷◌, length, reverse, refl, sym, ap, subst, ◌∙◌, arith}
+use Rattle.std.proofs.Common.{◌≡◌, ℕ, ◌+◌, ◌*◌, ◌≤◌, ◌<◌, List, [], ◌∷◌, length, reverse, refl, sym, ap, subst, ◌∙◌, arith}
 use Rattle.std.specs.Prelude.{pos, All}
 use Rattle.std.proofs.Math.ListN.{drop_of_length-le}
+use Rattle.ts_match.specs.declared.rows.Row.{Row}
 use Rattle.ts_match.specs.declared.rows.TheConstants.{WORD}
 use Rattle.ts_match.specs.Meaning.{at, width}
 use Rattle.ts_match.specs.Inner.Rows.{truths_at, beginning}
+use Rattle.ts_query.specs.declared.query.Node.TheVariants.{Leaf}
+use Rattle.ts_match.specs.declared.work.Place.TheVariants.{Outside}
+use Rattle.ts_match.specs.declared.work.Step.{Step}
+use Rattle.ts_match.specs.Inner.Heights.{HaveRoom}
 use Rattle.ts_match.specs.Inner.Phrases.{leaf_value, place_from, IsLaidOut}
 use Rattle.ts_match.proofs.Tables.{run, run_more, phrase_at}
 use Rattle.ts_match.proofs.Laid.{one_row, row_of, row_place}
+use Rattle.ts_match.proofs.Heights.{room_here, room_more}
+use Rattle.ts_match.proofs.Spares.{same_trans}
 use Rattle.ts_match.proofs.layout.fill_rows.Goals as goal
+
+abbrev first : Step
+first = record { node = Leaf 0; place = Outside 0 0 }
+
+pub loop-step-init : goal.loop-step-init
+loop-step-init c =
+    let p = c.args.phrase.now in record {
+      run = λ j. ap (λ (z : List Row). run (leaf_value p.vector.now p.operands.now (beginning c.args.reach j)) p.steps.now (truths_at c.args.count j (reverse z))) c.free_all.ensures.free;
+      kept = c.free_all.ensures.same;
+      room = subst (λ h. HaveRoom (length c.args.rows.now.stack.items + length c.args.rows.now.spare.items) p.steps.now h) (sym (ap length c.free_all.ensures.free)) c.requires.room;
+      same = refl;
+    }
+
+pub work_on-requires-clause-wide : goal.work_on-requires-clause-wide
+work_on-requires-clause-wide c = c.loop-step.invariant.kept.wide c.args.count c.requires.wide
+
+pub work_on-requires-clause-room : goal.work_on-requires-clause-room
+work_on-requires-clause-room c =
+    room_here (length c.loop-step.rows.stack.items + length c.loop-step.rows.spare.items) _ c.args.phrase.now.steps.now c.loop-step.step-index first (length c.loop-step.rows.stack.items) c.loop-step.invariant.kept.count
+    c.loop-step-test.true c.loop-step.invariant.room
 
 pub loop-step-preserved : goal.loop-step-preserved
 loop-step-preserved c =
     let p = c.args.phrase.now in record {
       run = λ j.
           run_more (leaf_value p.vector.now p.operands.now (beginning c.args.reach j)) p.steps.now c.loop-step.step-index _ _ _ _ c.loop-step-test.true (c.loop-step.invariant.run j)
-          (c.work_on.ensures.truths c.if-not-work_on.false j);
-      wide = c.work_on.ensures.wide;
+          (c.work_on.ensures.truths j);
+      kept = same_trans _ _ _ _ _ _ c.loop-step.invariant.kept c.work_on.ensures.same;
+      room = room_more _ p.steps.now c.loop-step.step-index _ _ _ c.loop-step-test.true c.loop-step.invariant.room c.work_on.ensures.height;
       same = refl;
     }
 
 pub returns-clause-row : goal.returns-clause-row
-returns-clause-row c = λ h t q.
+returns-clause-row c = λ t q.
     let p = c.args.phrase.now in
     let w : c.args.reach ≡ width t = c.requires.width t q in
     let done = drop_of_length-le p.steps.now (let l : length c.args.phrase.now.steps.now ≤ c.loop-step.step-index = omega arith in l) in

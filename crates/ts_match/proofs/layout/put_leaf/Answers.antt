@@ -1,11 +1,18 @@
-use Rattle.std.proofs.Common.{◌∷◌, ap, ◌∙◌, reverse, arith}
+use Rattle.std.proofs.Common.{◌∷◌, ap, ◌∙◌, reverse}
 use Rattle.ts_match.specs.Inner.Rows.{truths_at}
-use Rattle.ts_match.proofs.Laid.{push_wide}
+use Rattle.ts_match.proofs.Laid.{pop_wide}
+use Rattle.ts_match.proofs.Spares.{taken, height_pushed}
 use Rattle.ts_match.proofs.layout.put_leaf.Goals as goal
 
-pub returns-clause-wide : goal.returns-clause-wide
-returns-clause-wide c = push_wide c.args.count _ _ _ c.put.ensures.stack c.requires.wide (let e = c.lay.ensures.len in omega arith)
+pub lay-requires-clause-wide : goal.lay-requires-clause-wide
+lay-requires-clause-wide c = (pop_wide c.args.count _ _ c.in-Some.row c.in-Some.ensures.items c.requires.wide.spare).1
+
+pub returns-clause-height : goal.returns-clause-height
+returns-clause-height c = height_pushed _ _ _ c.put.ensures.stack
+
+pub returns-clause-same : goal.returns-clause-same
+returns-clause-same c = taken _ _ _ _ c.in-Some.row _ c.in-Some.ensures.items c.put.ensures.stack c.lay.ensures.len
 
 pub returns-clause-truths : goal.returns-clause-truths
-returns-clause-truths c = λ h j.
+returns-clause-truths c = λ j.
     ap (truths_at c.args.count j) c.put.ensures.stack ∙ ap (λ b. b ∷ truths_at c.args.count j (reverse c.args.rows.now.stack.items)) (c.lay.ensures.value j)

@@ -1,7 +1,7 @@
 use Rattle.std.proofs.Common.{◌≡◌, ◌≤◌, get_or, inl, inr, refl, sym, ap, ◌∙◌, arith}
 use Rattle.std.proofs.lemmas.Bool.{cases_lt}
 use Rattle.std.proofs.lemmas.List.{get_or_default}
-use Rattle.std.proofs.lemmas.List.Elements.{Contains-get_or}
+use Rattle.std.proofs.lemmas.List.Elements.{Contains-get_or, All-contains}
 use Rattle.ts_query.specs.declared.query.Node.TheVariants.{Leaf}
 use Rattle.ts_match.specs.declared.work.Place.TheVariants.{Outside}
 use Rattle.ts_match.specs.declared.work.Step.{Step}
@@ -45,3 +45,9 @@ returns-clause-far c = c.loop-step.invariant.far
 
 pub returns-clause-width : goal.returns-clause-width
 returns-clause-width c = λ t p. reach_is c.args.phrase.now.operands.now c.args.phrase.now.steps.now t p c.loop-step.reach (λ k d l. c.loop-step.invariant.near k d (omega arith)) c.loop-step.invariant.some
+
+pub returns-clause-least : goal.returns-clause-least
+returns-clause-least c = λ r a. elim c.loop-step.invariant.some [
+  | inl z ↦ omega arith
+  | inr s ↦ let x = All-contains (λ (s : Step). offset_of s.place ≤ r) c.args.phrase.now.steps.now s.0 a s.1 in omega (arith, s.2)
+]

@@ -1,4 +1,4 @@
-use Rattle.std.proofs.Common.{◌≡◌, ℕ, ◌<◌, false, eqb, inl, inr, None, Some, List, length, sym, ap, subst, ◌∙◌, refl, arith}
+use Rattle.std.proofs.Common.{◌≡◌, ℕ, ◌+◌, ◌<◌, false, eqb, inl, inr, None, Some, List, length, sym, ap, subst, ◌∙◌, refl, arith}
 use Rattle.std.proofs.lemmas.Bool.{cases_lt, eq-eqb, eqb-true}
 use Rattle.std.proofs.lemmas.List.Elements.{All-take, All-drop}
 use Rattle.ts_query.specs.declared.query.Node.TheVariants.{Leaf}
@@ -12,7 +12,9 @@ use Rattle.ts_match.specs.Plan.{plan_of}
 use Rattle.ts_match.specs.Inner.Phrases.{IsStep}
 use Rattle.ts_match.proofs.PlanSteps.{ready_steps}
 use Rattle.ts_match.proofs.Plans.{count_plan, length-plan_of}
-use Rattle.ts_match.proofs.Units.{Way, way_of, at_end, unit_within, unit_kind, unit_next}
+use Rattle.ts_match.proofs.Heights.{rows_of_part}
+use Rattle.ts_match.proofs.Spares.{same_refl, same_trans}
+use Rattle.ts_match.proofs.Units.{Way, way_of, at_end, unit_within, unit_kind, unit_phrase, unit_next}
 use Rattle.ts_match.proofs.matching.evaluate.Goals as goal
 
 abbrev pub first : Step
@@ -38,6 +40,7 @@ loop-from-init c =
     record {
       way = subst (λ (os : List Operand). Way v os c.args.steps.now (Holds q v) 0) (sym c.operands-operands.ensures.value)
           (subst (λ (ss : List Step). Way v (operands_of q) ss (Holds q v) 0) (sym c.requires.plan) (way_of v q some));
+      rows = same_refl _ _;
       found = refl;
       truths = refl;
     }
@@ -87,6 +90,7 @@ pub loop-from-preserved : goal.loop-from-preserved
 loop-from-preserved c =
     let n = unit_next c.args.vector.now c.operands-operands.result.now c.args.steps.now (Holds c.args.query.now c.args.vector.now) c.loop-from.from c.end_of_unit-end.result c.loop-from.invariant.way c.loop-from-test.true c.end_of_unit-end.ensures.from c.end_of_unit-end.ensures.within c.end_of_unit-end.ensures.inner c.end_of_unit-end.ensures.last first c.unit_value-value.result c.unit_value-value.ensures.leaf c.unit_value-value.ensures.phrase in record {
       way = subst (λ i. Way c.args.vector.now c.operands-operands.result.now c.args.steps.now (Holds c.args.query.now c.args.vector.now) i) (sym c.next_step-from.ensures) n.0;
+      rows = same_trans _ _ _ _ _ _ c.loop-from.invariant.rows c.unit_value-value.ensures.rows;
       found = c.unit_value-value.ensures.found ∙ c.loop-from.invariant.found;
       truths = c.unit_value-value.ensures.truths ∙ c.loop-from.invariant.truths;
     }
@@ -95,3 +99,12 @@ pub returns-clause-meaning : goal.returns-clause-meaning
 returns-clause-meaning c =
     let a = at_end c.args.vector.now c.operands-operands.result.now c.args.steps.now (Holds c.args.query.now c.args.vector.now) c.loop-from.from c.loop-from.invariant.way c.loop-from-test.false in
     (λ h. a.0 (eqb-true c.loop-from.from (length c.args.steps.now) h), λ h. eq-eqb c.loop-from.from (length c.args.steps.now) (a.1 h))
+
+pub unit_value-value-requires-clause-phrase : goal.unit_value-value-requires-clause-phrase
+unit_value-value-requires-clause-phrase c = unit_phrase c.args.vector.now c.operands-operands.result.now c.args.steps.now (Holds c.args.query.now c.args.vector.now) c.loop-from.from c.end_of_unit-end.result c.loop-from.invariant.way c.loop-from-test.true c.end_of_unit-end.ensures.from c.end_of_unit-end.ensures.within c.end_of_unit-end.ensures.inner c.end_of_unit-end.ensures.last first
+
+pub unit_value-value-requires-clause-rows : goal.unit_value-value-requires-clause-rows
+unit_value-value-requires-clause-rows c = rows_of_part c.args.steps.now _ _ _ _ c.loop-from.from (c.end_of_unit-end.result + 1) c.requires.rows c.loop-from.invariant.rows
+
+pub returns-then-is_empty-clause-rows : goal.returns-then-is_empty-clause-rows
+returns-then-is_empty-clause-rows c = same_refl _ _
