@@ -27,7 +27,7 @@ pub use quoting::push_quoted;
 use std::alloc::{AllocError, Global};
 use std::cmp::Ordering;
 use std::marker::Model;
-pub use words::{front_word, without_blanks};
+pub use words::{front_word, lower_case, without_blanks};
 
 /// The most bytes that a lexeme has.
 pub const LONGEST_LEXEME: usize = 2046;
@@ -393,6 +393,13 @@ mod tests {
         assert_eq!(rt; front_word(" \t "), None);
         assert_eq!(rt; front_word(""), None);
         assert_eq!(rt; without_blanks(" \t a "), "a ");
+    }
+
+    /// A to Z alone are lower-cased.
+    #[test]
+    fn lower(rt: HostRuntime) -> Result<(), AllocError> {
+        assert_eq!(rt; lower_case(rt.alloc(), "AZ[@`{É9")?.as_str(), "az[@`{É9");
+        Ok(())
     }
 
     /// Quotes and backslashes are doubled.
