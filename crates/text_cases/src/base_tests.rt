@@ -5,7 +5,7 @@ use std::alloc::{AllocError, Global};
 use std::test::Fail;
 use ts_base::{
     Answer, Dictionary, Found, LONGEST_LEXEME, Lexeme, LexemeError, Position, Tri, Weight, Weights,
-    front_word, is_blank, is_white, keys_rise, push_quoted, quoted_has_one_reading,
+    front_word, is_blank, is_white, lower_case, keys_rise, push_quoted, quoted_has_one_reading,
     quoted_is_read_back, spelling_has_size, spelling_tells_vector, weight_of, without_blanks,
     words_are_one,
 };
@@ -121,6 +121,13 @@ fn words(rt: HostRuntime) {
     assert_eq!(rt; front_word(" \t "), None);
     assert_eq!(rt; front_word(""), None);
     assert_eq!(rt; without_blanks(" \t a "), "a ");
+}
+
+/// A to Z alone are lower-cased.
+#[test]
+fn lower(rt: HostRuntime) -> Result<(), AllocError> {
+    assert_eq!(rt; lower_case(rt.alloc(), "AZ[@`{É9")?.as_str(), "az[@`{É9");
+    Ok(())
 }
 
 /// Quotes and backslashes are doubled.

@@ -8,6 +8,8 @@ pub mod PlainTexts
 pub mod TextLexemes
 pub mod Fronts
 pub mod LineWords
+pub mod TextLines
+pub mod FirstLines
 pub mod LittleBytes
 pub mod Spelling
 pub mod KeyOrder

@@ -7,7 +7,7 @@ use Rattle.std.proofs.lemmas.List.Elements.{All-head, All-tail}
 use Rattle.std.proofs.lemmas.Grind.{common_steps}
 use Rattle.std.proofs.lemmas.Str.{IsCharBoundary-start, IsCharBoundary-after_ascii}
 use Rattle.ts_base.specs.Bytes.{IsBlank, BeginsWithout}
-use Rattle.ts_base.specs.Words.{IsWord, EndsWord, BeginsWithWord, AreWords, WordsAreOne}
+use Rattle.ts_base.specs.Words.{IsWord, EndsWord, BeginsWithWord, IsFirstWord, AreWords, WordsAreOne}
 use Rattle.ts_base.proofs.ByteKinds.{blank_ascii}
 use Rattle.ts_base.proofs.Fronts.{same_front}
 
@@ -37,10 +37,18 @@ blanks_no_word [] [] rest w h = omega (arith, w.some)
 blanks_no_word [] (c ∷ word) rest w h = All-head IsDark c word w.dark (All-head IsBlank c (word ++ rest) h)
 blanks_no_word (c ∷ gap) word rest w h = blanks_no_word gap word rest w (All-tail IsBlank c (gap ++ (word ++ rest)) h)
 
-one_word : (line v w r s : List ℕ) → BeginsWithWord line v r → BeginsWithWord line w s → (v ≡ w) × (r ≡ s)
+-- a line begins with one word
+pub one_word : (line v w r s : List ℕ) → BeginsWithWord line v r → BeginsWithWord line w s → (v ≡ w) × (r ≡ s)
 one_word line v w r s h k =
     let gaps = same_front IsBlank h.gap k.gap (v ++ r) (w ++ s) h.blank k.blank (word_begins v r h.is_word) (word_begins w s k.is_word) (sym h.text ∙ k.text) in
     same_front IsDark v w r s h.is_word.dark k.is_word.dark (word_ends r h.ends) (word_ends s k.ends) gaps.1
+
+pub first_word_is_one : (line v w : List ℕ) → IsFirstWord line v → IsFirstWord line w → v ≡ w
+first_word_is_one line v w (r, h) (s, k) = (one_word line v w r s h k).0
+
+-- a line of blanks begins with none
+pub no_first_word : (line w : List ℕ) → All IsBlank line → ¬ IsFirstWord line w
+no_first_word line w h (r, b) = blanks_no_word b.gap w r b.is_word (subst (All IsBlank) b.text h)
 
 pub words_are_one : WordsAreOne
 words_are_one line [] [] h k = refl

@@ -25,6 +25,10 @@ pub record BeginsWithWord (line word rest : List ℕ) : Type 0 where
   pub text : line ≡ gap ++ (word ++ rest)
   pub ends : EndsWord rest
 
+-- the line's first word
+abbrev pub IsFirstWord : List ℕ → List ℕ → Type 0
+IsFirstWord line word = (rest : List ℕ) × BeginsWithWord line word rest
+
 -- the line has these words, and blanks around them
 abbrev pub AreWords : List ℕ → List (List ℕ) → Type 0
 AreWords line [] = All IsBlank line

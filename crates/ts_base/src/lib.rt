@@ -27,7 +27,7 @@ pub use quoting::push_quoted;
 use std::alloc::{AllocError, Global};
 use std::cmp::Ordering;
 use std::marker::Model;
-pub use words::{front_word, without_blanks};
+pub use words::{front_word, lower_case, without_blanks};
 
 /// The most bytes that a lexeme has.
 pub const LONGEST_LEXEME: usize = 2046;

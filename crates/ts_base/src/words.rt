@@ -1,9 +1,11 @@
 // The words of a line.
-ghost use Rattle.std.specs.Prelude.{◌≡◌, ℕ, ◌≤◌, List, ◌++◌, length, take, drop, All, IfSome, IfNone};
+ghost use Rattle.std.specs.Prelude.{◌≡◌, ℕ, ◌≤◌, List, ◌++◌, length, take, drop, All, IfSome, IfNone, IfOk};
+ghost use Rattle.std.specs.String.{string_bytes};
 ghost use Rattle.ts_base.specs.Bytes.{IsBlank, BeginsWithout};
-ghost use Rattle.ts_base.specs.Words.{BeginsWithWord};
+ghost use Rattle.ts_base.specs.Words.{BeginsWithWord, lower};
 
 use crate::bytes::is_blank;
+use std::alloc::{AllocError, Global};
 
 /// How many blanks stand at the front.
 fn blanks_len(bytes: &[u8]) -> usize
@@ -48,4 +50,13 @@ pub fn front_word(line: &str) -> Option<(&str, &str)>
         return None;
     }
     Some((word, rest))
+}
+
+/// The word with A to Z, and no other character, in lower case.
+pub fn lower_case(alloc: Global, word: &str) -> Result<String, AllocError>
+    ensures { IfOk result (λ lowered. string_bytes lowered ≡ lower word.now) }
+{
+    let mut lowered = String::from_str(alloc, word)?;
+    lowered.make_ascii_lowercase();
+    Ok(lowered)
 }

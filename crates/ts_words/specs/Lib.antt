@@ -1,0 +1,2 @@
+pub mod StopLists
+pub mod Simple
