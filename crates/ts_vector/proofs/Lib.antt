@@ -16,4 +16,5 @@ pub mod Changed
 pub mod Printing
 pub mod Fields
 pub mod Decoding
+pub mod Told
 pub mod OneAnswer

@@ -17,8 +17,8 @@ ghost use Rattle.ts_vector.specs.ItemEntries.{item_entries};
 
 mod bytes;
 mod changes;
+mod checker;
 mod codec;
-mod decoder;
 mod entries;
 mod error;
 mod laws;
@@ -26,12 +26,11 @@ mod limits;
 mod normal;
 mod printer;
 mod reader;
+mod spelled;
 
-use bytes::Stop;
 use changes::{greatest, items_with_weight, joined, without_positions};
 use codec::put_items;
-use decoder::read_items;
-use entries::{Item, from_pairs};
+use entries::{Item, from_entries, from_pairs};
 pub use error::VectorError;
 pub use laws::{
     bad_bytes_are_no_spelling, bad_place_is_one, fault_has_one_place, fault_is_outside,
@@ -41,6 +40,7 @@ pub use laws::{
 use limits::{first_long, size_of, to_items};
 use normal::normal_form;
 use reader::read;
+pub use spelled::{Entries, EntryBytes, Positions, VectorBytes};
 use std::alloc::{AllocError, Global};
 use std::marker::Model;
 pub use ts_base::{Lexeme, LexemeError, Position, Weight};
@@ -207,13 +207,11 @@ impl TsVector {
         ensures value { IfOk result (IsSpelling bytes.now) }
         ensures cause { IfErr result (DecodeFails bytes.now) }
     {
-        match read_items(alloc, bytes) {
-            Ok(items) => Ok(TsVector { items }),
-            Err(Stop::Bad { left }) => Err(VectorError::BadBytes {
-                at: bytes.len() - left,
-            }),
-            Err(Stop::OutOfMemory) => Err(VectorError::OutOfMemory),
-        }
+        let spelled = VectorBytes::new(bytes)?;
+        let Ok(items) = from_entries(alloc, spelled.entries()) else {
+            return Err(VectorError::OutOfMemory);
+        };
+        Ok(TsVector { items })
     }
 }
 
