@@ -1,0 +1,5 @@
+pub mod Showing
+pub mod Monotone
+pub mod Newest
+pub mod Histories
+pub mod Keys

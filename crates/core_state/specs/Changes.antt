@@ -1,5 +1,5 @@
 -- What the rows of several kinds ask of pages before and after a record.
-use Rattle.std.specs.Prelude.{◌≡◌, ◌≢◌, ◌⊎◌, ℕ, suc, ◌<◌, ◌≤◌, List, [], ◌∷◌, ◌++◌, length, max, map, Option, Some}
+use Rattle.std.specs.Prelude.{◌≡◌, ◌≢◌, ◌⊎◌, ℕ, suc, ◌<◌, ◌≤◌, List, [], length, max, map, Option, Some}
 use Rattle.page_types.specs.Keys.{KeyLess}
 use Rattle.page_types.specs.Views.{slot_at}
 use Rattle.page_types.specs.declared.page.Page.{Page}

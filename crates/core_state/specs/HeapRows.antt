@@ -1,5 +1,5 @@
 -- When a record of the kinds 6 to 8 may come next: heads are placed and marked, parts of long vectors are put.
-use Rattle.std.specs.Prelude.{◌≡◌, ◌≢◌, ◌⊎◌, ℕ, suc, ◌<◌, ◌≤◌, List, [], ◌∷◌, length, Option, Some, None}
+use Rattle.std.specs.Prelude.{◌≡◌, ◌≢◌, ◌⊎◌, ℕ, ◌<◌, ◌≤◌, List, [], ◌∷◌, length, Option, Some, None}
 use Rattle.ts_base.specs.Vectors.{Vector}
 use Rattle.page_types.specs.Numbers.{most_short, most_body}
 use Rattle.page_types.specs.Views.{slot_at}

@@ -1,10 +1,10 @@
 -- The pairs of the index: linked rows, entries, posting trees. No bound and no order of a tree enters.
-use Rattle.std.specs.Prelude.{◌≡◌, ◌⊎◌, ℕ, List, [], ◌∷◌, map}
+use Rattle.std.specs.Prelude.{◌≡◌, ◌⊎◌, ℕ, List, [], map}
 use Rattle.std.specs.List.{flat_map}
 use Rattle.ts_base.specs.Vectors.{Vector}
 use Rattle.ts_base.specs.Keys.{Key, keys_of}
 use Rattle.page_types.specs.Items.{items_of}
-use Rattle.page_types.specs.Views.{rows_of, entries_of, first_of, entry_children_in, post_children_in, posting_items_in}
+use Rattle.page_types.specs.Views.{rows_of, entries_of, first_of, posting_items_in}
 use Rattle.page_types.specs.declared.page.Row.{Row}
 use Rattle.page_types.specs.declared.page.Entry.{Entry}
 use Rattle.page_types.specs.declared.page.EntryChild.{EntryChild}

@@ -1,6 +1,5 @@
 -- What the rows ask of a log beside the pages that a record changes and the index: what the state of a log can answer.
 use Rattle.std.specs.Prelude.{ℕ, length}
-use Rattle.page_types.specs.declared.page.Page.{Page}
 use Rattle.page_types.specs.declared.page.Body.{Body}
 use Rattle.page_types.specs.declared.page.Body.TheVariants as body
 use Rattle.core_state.specs.Log.{Log, Pages, commits, next_xid, next_serial, fate, redo_of}

@@ -6,5 +6,7 @@
 #![tactic(auto)]
 
 mod answers;
+mod laws;
 
 pub use answers::{Fate, PageUse};
+pub use laws::{history_is_one, keys_are_one, newest_may_go, pages_are_shown, valid_is_monotone};
