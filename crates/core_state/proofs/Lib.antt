@@ -3,3 +3,4 @@ pub mod Monotone
 pub mod Newest
 pub mod Histories
 pub mod Keys
+pub mod Worked

@@ -21,7 +21,8 @@ untouched number (c ∷ cs) p old off =
     ap (λ b. after_changes number cs p (cond b (edited number c.edit old) old)) (is_other c.page p (λ e. off (inl e)))
     ∙ untouched number cs p old (λ i. off (inr i))
 
-replay_kept : (R : Log) (r : Record) (p : ℕ) → (In p (changed r) → ⊥) → replay (r ∷ R) p ≡ replay R p
+-- a record that doesn't name a page leaves its bytes
+pub replay_kept : (R : Log) (r : Record) (p : ℕ) → (In p (changed r) → ⊥) → replay (r ∷ R) p ≡ replay R p
 unfolding replay
 replay_kept R r p off = untouched r.number r.changes p (replay R p) off
 
