@@ -49,6 +49,7 @@ valid_more R r floor since floor' since' le le' v = record {
   after = v.after;
   shown = v.shown;
   shown_after = v.shown_after;
+  is_record = v.is_record;
   number = v.number;
   started = v.started;
   row = row_more R v.before v.after r floor since floor' since' le' v.row;

@@ -1,11 +1,15 @@
 -- The pages that a log shows.
-use Rattle.std.proofs.Common.{◌≡◌, ℕ, ◌==◌, false, cond, List, [], ◌∷◌, map, refl, sym, ap, ◌∙◌, inl, inr, arith}
+use Rattle.std.proofs.Common.{◌≡◌, ℕ, ◌==◌, false, cond, List, [], ◌∷◌, map, replicate, refl, sym, ap, ◌∙◌, inl, inr, arith}
 use Rattle.std.proofs.Math.Path.{fun_ext}
+use Rattle.page_types.specs.Numbers.{u16_bytes, u32_bytes, u64_bytes, zeros}
+use Rattle.page_types.specs.Spelling.{page_bytes, front_bytes, framed}
+use Rattle.page_types.specs.Pages.{IsPage}
+use Rattle.page_types.specs.Views.{free_page}
 use Rattle.page_types.specs.Edits.{edited}
 use Rattle.page_types.specs.declared.record.Change.{Change}
 use Rattle.page_types.specs.declared.record.Record.{Record}
 use Rattle.page_types.proofs.PageLaws.{page_told}
-use Rattle.core_state.specs.Log.{Log, In, changed, after_changes, replay}
+use Rattle.core_state.specs.Log.{Log, Pages, In, Shows, changed, after_changes, replay}
 use Rattle.core_state.specs.Laws.{ShownAreOne, OthersStay}
 
 pub shown_one : ShownAreOne
@@ -28,3 +32,18 @@ replay_kept R r p off = untouched r.number r.changes p (replay R p) off
 
 pub others_stay : OthersStay
 others_stay R r P Q f g p off = page_told (Q p) (P p) (g p).0 (f p).0 ((g p).1 ∙ replay_kept R r p off ∙ sym (f p).1)
+
+-- an empty log shows free pages
+abbrev pub none_yet : Pages
+none_yet p = free_page
+
+pub free_is : IsPage free_page
+free_is = record { right = omega arith; stamp = omega arith; body = (refl, refl); count = omega arith; fits = omega arith }
+
+free_bytes : page_bytes free_page ≡ replicate 8192 0
+unfolding page_bytes front_bytes framed u16_bytes u32_bytes u64_bytes zeros
+free_bytes = refl
+
+pub shown_none : Shows [] none_yet
+unfolding replay zeros
+shown_none p = (free_is, free_bytes)

@@ -9,10 +9,12 @@ use Rattle.std.proofs.lemmas.Str.Ascii.{IsAscii-nil, IsAscii-cons}
 use Rattle.ts_base.specs.declared.Weight.TheVariants.{D}
 use Rattle.ts_base.specs.Lexemes.{IsLexeme, IsBefore}
 use Rattle.ts_base.specs.Vectors.{Position, Entry, Vector, IsPosition, IsEntry, IsNormal}
-use Rattle.page_types.specs.Numbers.{u16_bytes, u32_bytes, u64_bytes, zeros}
+use Rattle.page_types.specs.Numbers.{page_limit, u16_bytes, u32_bytes, u64_bytes, zeros}
 use Rattle.page_types.specs.Spelling.{page_bytes, front_bytes, framed, head_bytes}
 use Rattle.page_types.specs.Pages.{IsPage, IsHead}
+use Rattle.page_types.specs.Records.{IsChange, IsRecord}
 use Rattle.page_types.specs.Edits.{edited}
+use Rattle.page_types.proofs.PageLaws.{has_parts}
 use Rattle.page_types.specs.Views.{free_page, entries_of, slots_of, slot_at}
 use Rattle.page_types.specs.declared.page.Page.{Page}
 use Rattle.page_types.specs.declared.page.Head.{Head}
@@ -31,7 +33,7 @@ use Rattle.core_state.specs.Known.{use_in}
 use Rattle.core_state.specs.Changes.{IsNew}
 use Rattle.core_state.specs.Legal.{IsRow, ChangesFrom, IsImageOf, ImagesFrom, RowsAreValid, IsLegal}
 use Rattle.core_state.specs.declared.answers.PageUse.TheVariants as usage
-use Rattle.core_state.proofs.Showing.{replay_kept}
+use Rattle.core_state.proofs.Showing.{replay_kept, none_yet, free_is, shown_none}
 
 -- the vector, and its bytes
 abbrev place : ℕ → Position
@@ -71,9 +73,6 @@ heap_page xid = record { right = 0; stamp = 3; body = body.Heap (Some (head xid)
 heap_bytes : page_bytes (heap_page 1) ≡ (2 ∷ 0 ∷ 1 ∷ 0 ∷ 0 ∷ 0 ∷ 0 ∷ 0 ∷ 3 ∷ 0 ∷ 0 ∷ 0 ∷ 0 ∷ 0 ∷ 0 ∷ 0 ∷ 51 ∷ 0 ∷ 0 ∷ 0 ∷ 0 ∷ 0 ∷ 0 ∷ 0 ∷ 1 ∷ 1 ∷ 0 ∷ 0 ∷ 0 ∷ 0 ∷ 0 ∷ 0 ∷ 0 ∷ 1 ∷ 0 ∷ 0 ∷ 0 ∷ 0 ∷ 0 ∷ 0 ∷ 0 ∷ 0 ∷ 0 ∷ 0 ∷ 0 ∷ 0 ∷ 0 ∷ 0 ∷ 0 ∷ 22 ∷ 0 ∷ 0 ∷ 0 ∷ 2 ∷ 0 ∷ 0 ∷ 0 ∷ 3 ∷ 0 ∷ 99 ∷ 97 ∷ 116 ∷ 1 ∷ 0 ∷ 1 ∷ 0 ∷ 3 ∷ 0 ∷ 102 ∷ 97 ∷ 116 ∷ 1 ∷ 0 ∷ 2 ∷ 0 ∷ []) ++ replicate 8117 0
 unfolding page_bytes front_bytes framed u16_bytes u32_bytes u64_bytes zeros head_bytes
 heap_bytes = refl
-
-abbrev none_yet : Pages
-none_yet p = free_page
 
 abbrev made : Pages
 made zero = meta_page
@@ -119,9 +118,6 @@ abbrev doc : Doc
 doc = record { item = 4096; serial = 1 }
 
 -- they are pages
-free_is : IsPage free_page
-free_is = record { right = omega arith; stamp = omega arith; body = (refl, refl); count = omega arith; fits = omega arith }
-
 meta_is : IsPage meta_page
 unfolding u32_bytes
 meta_is = record { right = omega arith; stamp = omega arith; body = record { first_page = omega arith; last_page = omega arith; number = omega arith }; count = omega arith; fits = omega arith }
@@ -137,14 +133,6 @@ unfolding head_bytes u32_bytes u64_bytes
 heap_is = record { right = omega arith; stamp = omega arith; body = (omega arith, (head_is, tt)); count = omega arith; fits = omega arith }
 
 -- the pages are what the records leave
-free_bytes : page_bytes free_page ≡ replicate 8192 0
-unfolding page_bytes front_bytes framed u16_bytes u32_bytes u64_bytes zeros
-free_bytes = refl
-
-shown_none : Shows [] none_yet
-unfolding replay zeros
-shown_none p = (free_is, free_bytes)
-
 behind_two : (p : ℕ) → In (suc (suc p)) (0 ∷ 1 ∷ []) → ⊥
 behind_two p (inl e) = omega (arith, e)
 behind_two p (inr (inl e)) = omega (arith, e)
@@ -276,6 +264,38 @@ ready d (inr i) = absurd i
 commit_row : (floor since : ℕ) → IsRow log_placed (placed_by 1) (placed_by 1) commit_record floor since
 commit_row floor since = IsRow.commit (record { here = record { kind_is = refl; pages = refl; runs = refl }; rest = ready })
 
+-- each is a record
+image_is : (p : ℕ) (page : Page) → p < page_limit → IsPage page → IsChange page.stamp (image p page)
+image_is p page small is =
+    let parts = has_parts page is in
+    record { page = small; edit = record { size = parts.size; stamp = parts.stamp } }
+
+create_is : IsRecord create_record
+create_is = record {
+  number = omega arith;
+  xid = omega arith;
+  kind = tt;
+  count = omega arith;
+  changes = (image_is 0 meta_page (omega arith) meta_is, (image_is 1 root_page (omega arith) root_is, tt));
+  once = (((λ e. omega (arith, e)), tt), (tt, tt));
+}
+
+begin_is : IsRecord (begin_record 1)
+begin_is = record { number = omega arith; xid = omega arith; kind = tt; count = omega arith; changes = tt; once = tt }
+
+head_record_is : IsRecord (head_record 1)
+head_record_is = record {
+  number = omega arith;
+  xid = omega arith;
+  kind = (omega arith, omega arith);
+  count = omega arith;
+  changes = (image_is 2 (heap_page 1) (omega arith) heap_is, tt);
+  once = (tt, tt);
+}
+
+commit_is : IsRecord commit_record
+commit_is = record { number = omega arith; xid = omega arith; kind = omega arith; count = omega arith; changes = tt; once = tt }
+
 -- so the log is legal
 rows_valid : RowsAreValid first_run
 rows_valid = ((
@@ -288,6 +308,7 @@ rows_valid = ((
           after = made;
           shown = shown_none;
           shown_after = shown_made;
+          is_record = create_is;
           number = refl;
           started = inl refl;
           row = create_row 0 1;
@@ -298,6 +319,7 @@ rows_valid = ((
         after = made;
         shown = shown_made;
         shown_after = shown_begun;
+        is_record = begin_is;
         number = refl;
         started = inr (λ e. cc);
         row = begin_row 0 2;
@@ -308,6 +330,7 @@ rows_valid = ((
       after = placed_by 1;
       shown = shown_begun;
       shown_after = shown_placed;
+      is_record = head_record_is;
       number = refl;
       started = inr (λ e. cc);
       row = head_row 0 3;
@@ -318,6 +341,7 @@ rows_valid = ((
     after = placed_by 1;
     shown = shown_placed;
     shown_after = shown_run;
+    is_record = commit_is;
     number = refl;
     started = inr (λ e. cc);
     row = commit_row 0 4;

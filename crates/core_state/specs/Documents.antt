@@ -77,25 +77,25 @@ pub record IsWhole (P : Pages) (h : Head) (v : Vector) : Type 0 where
 abbrev pub HasVector : Pages → Doc → Vector → Type 0
 HasVector P d v = (h : Head) × Has P d h × IsWhole P h v
 
--- the documents that a record of kind PlaceHead places come behind those before
-abbrev pub placed_with : Kind → List Doc → List Doc
-placed_with (kind.PlaceHead item serial) ds = ds ++ record { item = item; serial = serial } ∷ []
-placed_with _ ds = ds
+-- the documents that transaction x placed, by a record of this kind and xid more
+abbrev pub placed_with : Kind → ℕ → ℕ → List Doc → List Doc
+placed_with (kind.PlaceHead item serial) xid x ds = cond (xid == x) (ds ++ record { item = item; serial = serial } ∷ []) ds
+placed_with _ xid x ds = ds
 
 -- the documents that transaction x placed, in order
 abbrev pub placed : Log → ℕ → List Doc
 placed [] x = []
-placed (r ∷ R) x = cond (r.xid == x) (placed_with r.kind (placed R x)) (placed R x)
+placed (r ∷ R) x = placed_with r.kind r.xid x (placed R x)
 
--- the documents that a record of kind MarkDeleted marks come behind those before
-abbrev pub marked_with : Kind → List Doc → List Doc
-marked_with (kind.MarkDeleted item serial) ds = ds ++ record { item = item; serial = serial } ∷ []
-marked_with _ ds = ds
+-- the documents that transaction x marked deleted, by a record of this kind and xid more
+abbrev pub marked_with : Kind → ℕ → ℕ → List Doc → List Doc
+marked_with (kind.MarkDeleted item serial) xid x ds = cond (xid == x) (ds ++ record { item = item; serial = serial } ∷ []) ds
+marked_with _ xid x ds = ds
 
 -- the documents that transaction x marked deleted, in order
 abbrev pub marked : Log → ℕ → List Doc
 marked [] x = []
-marked (r ∷ R) x = cond (r.xid == x) (marked_with r.kind (marked R x)) (marked R x)
+marked (r ∷ R) x = marked_with r.kind r.xid x (marked R x)
 
 -- A document is dead where the transaction that placed it was aborted, or one that marked it is among the first
 -- `floor` commits. The log alone says so, so that what is dead stays dead when its slot is free or used again.

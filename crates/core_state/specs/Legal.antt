@@ -1,5 +1,6 @@
 -- Legal logs, and the pins that they keep.
 use Rattle.std.specs.Prelude.{◌≡◌, ◌≢◌, ◌⊎◌, ℕ, suc, ◌≤◌, List, [], ◌∷◌, length, ⊤}
+use Rattle.page_types.specs.Records.{IsRecord}
 use Rattle.page_types.specs.declared.record.Change.{Change}
 use Rattle.page_types.specs.declared.record.Edit.TheVariants.{Image}
 use Rattle.page_types.specs.declared.record.Record.{Record}
@@ -17,12 +18,14 @@ pub data IsRow (R : Log) (P Q : Pages) (r : Record) (floor since : ℕ) : Type 0
   abort : IsAbort R P Q r → IsRow R P Q r floor since
   place_head : IsPlaceHead R P Q r since → IsRow R P Q r floor since
 
--- the record may follow the log: it has the next number, it makes the store or the log isn't empty, and its row holds
+-- the record may follow the log: it is a record with the next number, it makes the store or the log isn't empty, and its row
+-- holds
 pub record Valid (R : Log) (r : Record) (floor since : ℕ) : Type 0 where
   pub before : Pages
   pub after : Pages
   pub shown : Shows R before
   pub shown_after : Shows (r ∷ R) after
+  pub is_record : IsRecord r
   pub number : r.number ≡ suc (length R)
   pub started : (r.kind ≡ kind.Create) ⊎ (R ≢ [])
   pub row : IsRow R before after r floor since

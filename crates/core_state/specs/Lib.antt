@@ -15,4 +15,5 @@ pub mod Bullets
 pub mod Readings
 pub mod Allowed
 pub mod Stores
+pub mod States
 pub mod Laws

@@ -1,5 +1,6 @@
 // What holds of all logs.
 ghost use Rattle.core_state.specs.Laws.{KeysAreOne, ShownAreOne, OthersStay, ValidIsMonotone, LegalWithoutNewest, KeepsWithoutNewest, HistoryIsOne};
+ghost use Rattle.core_state.specs.States.{StateFollows};
 
 /// The keys that stand on pages are those of vectors.
 pub fn keys_are_one()
@@ -26,4 +27,9 @@ pub fn newest_may_go()
 /// A log has one history at most.
 pub fn history_is_one()
     ensures { HistoryIsOne }
+{}
+
+/// The state of a legal log tells of it: the fates, the next numbers, the commits with their names, and the use of each page.
+pub fn state_follows()
+    ensures { StateFollows }
 {}

@@ -9,4 +9,6 @@ mod answers;
 mod laws;
 
 pub use answers::{Fate, PageUse};
-pub use laws::{history_is_one, keys_are_one, newest_may_go, pages_are_shown, valid_is_monotone};
+pub use laws::{
+    history_is_one, keys_are_one, newest_may_go, pages_are_shown, state_follows, valid_is_monotone,
+};
