@@ -1,0 +1,68 @@
+-- A log has one history at most.
+use Rattle.std.proofs.Common.{◌≡◌, ℕ, List, [], ◌∷◌, ◌++◌, refl, sym, ap, ap₂, subst, ◌∙◌, arith}
+use Rattle.std.specs.Prelude.{Some}
+use Rattle.ts_base.specs.Vectors.{Vector}
+use Rattle.ts_base.proofs.Spelling.{spelling_tells_vector}
+use Rattle.page_types.specs.declared.page.Head.{Head}
+use Rattle.page_types.specs.declared.page.Name.{Name}
+use Rattle.page_types.specs.declared.record.Kind.{Kind}
+use Rattle.page_types.specs.declared.record.Kind.TheVariants as kind
+use Rattle.core_state.specs.Log.{Log, Pages}
+use Rattle.core_state.specs.Documents.{Doc, Has, IsChain, HasBytes, IsWhole, HasVector, parts, placed}
+use Rattle.core_state.specs.History.{Document, Commit, History, AreInserts, IsCommitOf, IsHistoryWith, IsHistory}
+use Rattle.core_state.specs.Laws.{HistoryIsOne}
+use Rattle.core_state.proofs.Showing.{shown_one}
+
+pub chain_one : (P : Pages) (p : ℕ) (qs qs' : List ℕ) → IsChain P p qs → IsChain P p qs' → qs ≡ qs'
+chain_one P p [] [] a b = refl
+chain_one P p [] (q ∷ qs') a b = absurd (b.1 (sym b.0 ∙ a))
+chain_one P p (q ∷ qs) [] a b = absurd (a.1 (sym a.0 ∙ b))
+chain_one P p (q ∷ qs) (q' ∷ qs') a b =
+    let e : q ≡ q' = sym a.0 ∙ b.0 in
+    ap₂ ◌∷◌ e (chain_one P (P q).right qs qs' a.2 (subst (λ z. IsChain P (P z).right qs') (sym e) b.2))
+
+pub bytes_one : (P : Pages) (h : Head) (xs ys : List ℕ) → HasBytes P h xs → HasBytes P h ys → xs ≡ ys
+bytes_one P h xs ys (HasBytes.short a) (HasBytes.short b) = refl
+bytes_one P h xs ys (HasBytes.short a) (HasBytes.long b qs c) = absurd (omega (arith, a, b))
+bytes_one P h xs ys (HasBytes.long a qs c) (HasBytes.short b) = absurd (omega (arith, a, b))
+bytes_one P h xs ys (HasBytes.long a qs c) (HasBytes.long b qs' d) = ap (parts P) (chain_one P h.overflow qs qs' c d)
+
+pub whole_one : (P : Pages) (h : Head) (v w : Vector) → IsWhole P h v → IsWhole P h w → v ≡ w
+whole_one P h v w a b =
+    spelling_tells_vector v w a.spells.normal b.spells.normal (sym a.spells.bytes_of ∙ bytes_one P h a.bytes b.bytes a.there b.there ∙ b.spells.bytes_of)
+
+some_one : (h k : Head) → Some h ≡ Some k → h ≡ k
+some_one h k e = cc
+
+pub head_one : (P : Pages) (d : Doc) (h k : Head) → Has P d h → Has P d k → h ≡ k
+head_one P d h k a b = some_one h k (sym a.at ∙ b.at)
+
+pub vector_one : (P : Pages) (d : Doc) (v w : Vector) → HasVector P d v → HasVector P d w → v ≡ w
+vector_one P d v w a b = whole_one P a.0 v w a.2 (subst (λ h. IsWhole P h w) (head_one P d b.0 a.0 b.1 a.1) b.2)
+
+pub inserts_one : (P : Pages) (ds : List Doc) (xs ys : List Document) → AreInserts P ds xs → AreInserts P ds ys → xs ≡ ys
+inserts_one P [] [] [] a b = refl
+inserts_one P [] [] (y ∷ ys) a b = absurd b
+inserts_one P [] (x ∷ xs) ys a b = absurd a
+inserts_one P (d ∷ ds) [] ys a b = absurd a
+inserts_one P (d ∷ ds) (x ∷ xs) [] a b = absurd b
+inserts_one P (d ∷ ds) (x ∷ xs) (y ∷ ys) a b =
+    let name : x.name ≡ y.name = a.0 ∙ sym b.0 in
+    let vector : x.vector ≡ y.vector = vector_one P d x.vector y.vector a.1 b.1 in
+    let first : x ≡ y = ap₂ (λ (n : Name) (v : Vector). record { name = n; vector = v }) name vector in
+    ap₂ ◌∷◌ first (inserts_one P ds xs ys a.2 b.2)
+
+pub commit_one : (R : Log) (x : ℕ) (c d : Commit) → IsCommitOf R x c → IsCommitOf R x d → c ≡ d
+commit_one R x c d a b =
+    let pages : b.pages ≡ a.pages = shown_one R b.pages a.pages b.shown a.shown in
+    let inserted : c.inserted ≡ d.inserted = inserts_one a.pages (placed R x) c.inserted d.inserted a.inserted (subst (λ P. AreInserts P (placed R x) d.inserted) pages b.inserted) in
+    ap₂ (λ (ns : List Name) (ds : List Document). record { deleted = ns; inserted = ds }) (a.deleted ∙ sym b.deleted) inserted
+
+with_one : (k : Kind) (x : ℕ) (R : Log) → ((H H' : History) → IsHistory R H → IsHistory R H' → H ≡ H')
+    → (H H' : History) → IsHistoryWith k x R (IsHistory R) H → IsHistoryWith k x R (IsHistory R) H' → H ≡ H'
+with_one (kind.Commit n) x R one H H' a b = a.4 ∙ ap₂ (λ (K : History) (c : Commit). K ++ c ∷ []) (one a.0 b.0 a.2 b.2) (commit_one R x a.1 b.1 a.3 b.3) ∙ sym b.4
+with_one _ x R one H H' a b = one H H' a b
+
+pub history_one : HistoryIsOne
+history_one [] H H' a b = a ∙ sym b
+history_one (r ∷ R) H H' a b = with_one r.kind r.xid R (history_one R) H H' a b

@@ -1,0 +1,10 @@
+pub mod Showing
+pub mod Monotone
+pub mod Newest
+pub mod Histories
+pub mod Keys
+pub mod Transactions
+pub mod Following
+pub mod Uses
+pub mod StateTold
+pub mod Worked

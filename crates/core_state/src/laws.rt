@@ -1,0 +1,35 @@
+// What holds of all logs.
+ghost use Rattle.core_state.specs.Laws.{KeysAreOne, ShownAreOne, OthersStay, ValidIsMonotone, LegalWithoutNewest, KeepsWithoutNewest, HistoryIsOne};
+ghost use Rattle.core_state.specs.States.{StateFollows};
+
+/// The keys that stand on pages are those of vectors.
+pub fn keys_are_one()
+    ensures { KeysAreOne }
+{}
+
+/// A log shows one page at each number; a page that a record doesn't name is the same after it.
+pub fn pages_are_shown()
+    ensures one { ShownAreOne }
+    ensures others { OthersStay }
+{}
+
+/// A larger floor or since makes no valid record invalid.
+pub fn valid_is_monotone()
+    ensures { ValidIsMonotone }
+{}
+
+/// A legal log without its newest record is legal, and keeps the pins that were taken before that record.
+pub fn newest_may_go()
+    ensures legal { LegalWithoutNewest }
+    ensures keeps { KeepsWithoutNewest }
+{}
+
+/// A log has one history at most.
+pub fn history_is_one()
+    ensures { HistoryIsOne }
+{}
+
+/// The state of a legal log tells of it: the fates, the next numbers, the commits with their names, and the use of each page.
+pub fn state_follows()
+    ensures { StateFollows }
+{}

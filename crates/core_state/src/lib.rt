@@ -1,0 +1,14 @@
+//! What a log means: the pages that its records leave, the documents and their history, when a record may follow a
+//! log, what stays true of every log, and what a session may conclude from the part that it has seen.
+//!
+//! A log is a list of records, the newest first. `specs/` has the definitions, on which every proof of the store
+//! stands; the functions of `laws` hold what follows from them.
+#![tactic(auto)]
+
+mod answers;
+mod laws;
+
+pub use answers::{Fate, PageUse};
+pub use laws::{
+    history_is_one, keys_are_one, newest_may_go, pages_are_shown, state_follows, valid_is_monotone,
+};
