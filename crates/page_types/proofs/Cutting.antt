@@ -1,9 +1,9 @@
 -- Lists that are cut from one list at their ends: how many, each of them, and one more.
-use Rattle.std.proofs.Common.{◌≡◌, ℕ, zero, suc, ◌+◌, ◌-◌, ◌<◌, ◌≤◌, List, [], ◌∷◌, ◌++◌, length, take, drop, get_or, Some, refl, sym, ap, subst, ◌∙◌, arith}
+use Rattle.std.proofs.Common.{◌≡◌, ℕ, zero, suc, ◌+◌, ◌-◌, ◌^◌, ◌<◌, ◌≤◌, List, [], ◌∷◌, ◌++◌, length, take, drop, get_or, Some, refl, sym, ap, subst, ◌∙◌, arith}
 use Rattle.std.specs.List.{slice_get}
 use Rattle.std.proofs.lemmas.List.{drop_at, drop-append-le, take-append-le, take_all, length-drop, length-append, length-take-le, take-take, drop-take, take_more}
 use Rattle.std.proofs.lemmas.Option.{slice_get_within, get_or_from_slice_get}
-use Rattle.page_types.specs.Inner.Cuts.{cut_at, EndAt, start_at}
+use Rattle.page_types.specs.Inner.Cuts.{cut_at, EndAt, CanMove, start_at}
 
 pub length-cut_at : {A : Type 0} (from : ℕ) (es : List ℕ) (xs : List A) → length (cut_at from es xs) ≡ length es
 length-cut_at from [] xs = refl
@@ -132,3 +132,10 @@ pieces_front {A} ends ends' xs xs' n end h lt is front cut =
 pub take_get : {A : Type 0} (xs : List A) (i : ℕ) (x : A) → slice_get xs i ≡ Some x → take (i + 1) xs ≡ take i xs ++ x ∷ []
 take_get {A} xs i x e =
     take_more xs i x (slice_get_within xs i x e) ∙ ap (λ (y : A). take i xs ++ y ∷ []) (get_or_from_slice_get xs i x x e)
+
+-- each of the ends can be moved
+pub each_moves : (from to : ℕ) (es : List ℕ) → CanMove from to es → (k : ℕ) → k < length es → (from ≤ get_or es k 0) × (to + (get_or es k 0 - from) < 2 ^ 64)
+each_moves from to es can k lt =
+    let within = within_ends from es can.0 k can.1 lt in
+    let least = start_at-least from es can.0 k can.1 (omega arith) in
+    (omega arith, omega (arith, can.2))

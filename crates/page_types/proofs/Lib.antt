@@ -10,3 +10,5 @@ pub mod RecordTelling
 pub mod ItemLists
 pub mod FieldReading
 pub mod Splicing
+pub mod Replacing
+pub mod EndMoving

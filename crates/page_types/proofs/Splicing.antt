@@ -1,12 +1,10 @@
--- Lists that are cut from one list, where one of them is put in, taken out or replaced.
-use Rattle.std.proofs.Common.{◌≡◌, ℕ, zero, suc, ◌+◌, ◌-◌, ◌<◌, ◌≤◌, List, [], ◌∷◌, ◌++◌, length, take, drop, get_or, map, refl, sym, ap, subst, ◌∙◌, append_assoc, arith}
-use Rattle.std.proofs.lemmas.List.{drop_at, take_at, take_all, drop-append-le, take-append-le, length-drop, length-append, length-take-le, length-map, drop-drop, take-take, drop_all}
-use Rattle.page_types.specs.Inner.Cuts.{cut_at, EndAt, start_at}
-use Rattle.page_types.proofs.Cutting.{length-cut_at, begins, cut_at-front, EndAt-front, start_at-least, start_at-later, within_ends}
-
--- an end, moved with the place where its list began
-abbrev pub moved : ℕ → ℕ → ℕ → ℕ
-moved from to e = to + (e - from)
+-- Lists that are cut from one list, where others stand in place of some of them.
+use Rattle.std.proofs.Common.{◌≡◌, ℕ, zero, suc, ◌+◌, ◌-◌, ◌<◌, ◌≤◌, List, [], ◌∷◌, ◌++◌, length, take, drop, map, set, refl, add-one, sym, ap, subst, ◌∙◌, arith}
+use Rattle.std.proofs.lemmas.List.{set_split, drop_at, take_all, drop-append-le, take-append-le, length-drop, length-append, length-take-le, drop-drop}
+use Rattle.std.proofs.lemmas.List.Sums.{sum_by-cons}
+use Rattle.std.specs.List.{splice, slice_range, sum_by}
+use Rattle.page_types.specs.Inner.Cuts.{cut_at, EndAt, start_at, moved, ends_with}
+use Rattle.page_types.proofs.Cutting.{begins, cut_at-front, EndAt-front, start_at-least}
 
 -- the ends of lists behind a list that ends as given
 pub cut_at-append : {A : Type 0} (from : ℕ) (es fs : List ℕ) (last : ℕ) (xs : List A) → EndAt from es last → cut_at from (es ++ fs) xs ≡ cut_at from es xs ++ cut_at last fs xs
@@ -57,7 +55,7 @@ EndAt-append : (from : ℕ) (es fs : List ℕ) (mid last : ℕ) → EndAt from e
 EndAt-append from [] fs mid last h k = subst (λ n. EndAt n fs last) (sym h) k
 EndAt-append from (e ∷ es) fs mid last h k = (h.0, EndAt-append e es fs mid last h.1 k)
 
-EndAt-behind : (from : ℕ) (es : List ℕ) (last m : ℕ) → EndAt from es last → m ≤ length es → EndAt (start_at from es m) (drop m es) last
+pub EndAt-behind : (from : ℕ) (es : List ℕ) (last m : ℕ) → EndAt from es last → m ≤ length es → EndAt (start_at from es m) (drop m es) last
 EndAt-behind from es last zero h le = h
 EndAt-behind from [] last (suc m) h le = absurd (omega arith)
 EndAt-behind from (e ∷ es) last (suc m) h le = EndAt-behind e es last m h.1 (omega arith)
@@ -102,14 +100,17 @@ are_places {A} ends xs k m s t h le small is it =
     } in
     subst (λ a. P a t) (sym is) (subst (P (start_at 0 ends k)) (sym it) here)
 
--- what an edit leaves
-pub record Edited {A : Type 0} (ends' : List ℕ) (xs' : List A) (now : List (List A)) : Type 0 where
+pub splice_size : {A : Type 0} (xs p : List A) (s t : ℕ) → s ≤ t → t ≤ length xs → length (splice xs s t p) ≡ s + length p + (length xs - t)
+splice_size xs p s t le small = omega (arith, length-append (take s xs) (p ++ drop t xs), length-append p (drop t xs), length-drop t xs, length-take-le s xs (omega arith))
+
+-- what is left where lists stand in place of others
+pub record Spliced {A : Type 0} (ends' : List ℕ) (xs' : List A) (now : List (List A)) : Type 0 where
   pub ends_at : EndAt 0 ends' (length xs')
   pub cuts : cut_at 0 ends' xs' ≡ now
 
--- other lists in place of those from k up to m
-pub edit_made : {A : Type 0} (ends ends' more : List ℕ) (xs xs' p : List A) (now : List (List A)) (k m s t : ℕ) → ArePlaces ends xs k m s t → xs' ≡ take s xs ++ (p ++ drop t xs) → ends' ≡ take k ends ++ (more ++ map (moved t (s + length p)) (drop m ends))
-    → EndAt s more (s + length p) → cut_at s more (take s xs ++ (p ++ drop t xs)) ≡ now → Edited ends' xs' (take k (cut_at 0 ends xs) ++ (now ++ drop m (cut_at 0 ends xs)))
+-- other lists in place of those from k up to m, whose ends are `more`
+edit_made : {A : Type 0} (ends ends' more : List ℕ) (xs xs' p : List A) (now : List (List A)) (k m s t : ℕ) → ArePlaces ends xs k m s t → xs' ≡ take s xs ++ (p ++ drop t xs) → ends' ≡ take k ends ++ (more ++ map (moved t (s + length p)) (drop m ends))
+    → EndAt s more (s + length p) → cut_at s more (take s xs ++ (p ++ drop t xs)) ≡ now → Spliced ends' xs' (take k (cut_at 0 ends xs) ++ (now ++ drop m (cut_at 0 ends xs)))
 edit_made {A} ends ends' more xs xs' p now k m s t at bytes new mid heads =
     let size : length (take s xs) ≡ s = length-take-le s xs (let lo = at.in_order in let hi = at.within in omega arith) in
     let ys : List A = take s xs ++ (p ++ drop t xs) in
@@ -136,39 +137,46 @@ edit_made {A} ends ends' more xs xs' p now k m s t at bytes new mid heads =
           ∙ ap (P (take k (cut_at 0 ends xs)) now) back;
     }
 
--- the one list that an edit puts in
-one_put : {A : Type 0} (xs p tail : List A) (s : ℕ) → s ≤ length xs → cut_at s ((s + length p) ∷ []) (take s xs ++ (p ++ tail)) ≡ p ∷ []
-one_put {A} xs p tail s le =
-    let there = drop_at (take s xs) (p ++ tail) s (length-take-le s xs le) in
-    ap (λ (t : List A). t ∷ []) (ap (take (s + length p - s)) there ∙ take_at p tail (s + length p - s) (omega arith))
+-- lists that lie in p, in place of those from k up to m
+pub lists_spliced : {A : Type 0} (ends ends' new : List ℕ) (xs xs' p : List A) (k m s t : ℕ) → EndAt 0 ends (length xs) → k ≤ m → m ≤ length ends → EndAt 0 new (length p) → s ≡ start_at 0 ends k → t ≡ start_at 0 ends m
+    → xs' ≡ splice xs s t p → ends' ≡ ends_with ends k m new (length p) → Spliced ends' xs' (splice (cut_at 0 ends xs) k m (cut_at 0 new p))
+lists_spliced {A} ends ends' new xs xs' p k m s t h le small at is it bytes now =
+    let places = are_places ends xs k m s t h le small is it in
+    let low = places.in_order in
+    let high = places.within in
+    let end : EndAt s (map (moved 0 s) new) (s + length p) = subst (λ n. EndAt s (map (moved 0 s) new) (s + n)) (let z : length p - 0 ≡ length p = omega arith in z) (EndAt-moved 0 s new (length p) at) in
+    let there : drop s (take s xs ++ (p ++ drop t xs)) ≡ p ++ drop t xs = drop_at (take s xs) (p ++ drop t xs) s (length-take-le s xs (omega arith)) in
+    let cuts : cut_at s (map (moved 0 s) new) (take s xs ++ (p ++ drop t xs)) ≡ cut_at 0 new p = cut_at-moved 0 s new (length p) (p ++ drop t xs) (take s xs ++ (p ++ drop t xs)) at there ∙ cut_at-within 0 new p (drop t xs) at in
+    let P : ℕ → ℕ → List ℕ = λ a b. take k ends ++ (map (moved 0 a) new ++ map (moved b (a + length p)) (drop m ends)) in
+    let now' : ends' ≡ P s t = now ∙ ap (λ a. P a (start_at 0 ends m)) (sym is) ∙ ap (P s) (sym it) in
+    edit_made ends ends' (map (moved 0 s) new) xs xs' p (cut_at 0 new p) k m s t places bytes now' end cuts
 
-pub put_in : {A : Type 0} (ends ends' : List ℕ) (xs xs' p : List A) (k s : ℕ) → EndAt 0 ends (length xs) → k ≤ length ends → s ≡ start_at 0 ends k → xs' ≡ take s xs ++ (p ++ drop s xs)
-    → ends' ≡ take k ends ++ ((s + length p) ∷ map (moved s (s + length p)) (drop k ends)) → Edited ends' xs' (take k (cut_at 0 ends xs) ++ p ∷ drop k (cut_at 0 ends xs))
-put_in ends ends' xs xs' p k s h le is bytes new =
-    let at = are_places ends xs k k s s h (omega arith) le is is in
-    edit_made ends ends' ((s + length p) ∷ []) xs xs' p (p ∷ []) k k s s at bytes new (omega arith, refl) (one_put xs p (drop s xs) s at.within)
+-- how long the lists from k up to m are together
+front_total : {A : Type 0} (from : ℕ) (es : List ℕ) (xs : List A) (n : ℕ) → EndAt from es (length xs) → n ≤ length es → sum_by length (take n (cut_at from es xs)) + from ≡ start_at from es n
+front_total from es xs zero h le = omega arith
+front_total from [] xs (suc n) h le = absurd (omega arith)
+front_total {A} from (e ∷ es) xs (suc n) h le =
+    let rest = front_total e es xs n h.1 (omega arith) in
+    let last = begins e es (length xs) h.1 in
+    let here : length (take (e - from) (drop from xs)) ≡ e - from = length-take-le (e - from) (drop from xs) (omega (arith, length-drop from xs)) in
+    let parts : sum_by length (take (suc n) (cut_at from (e ∷ es) xs)) ≡ length (take (e - from) (drop from xs)) + sum_by length (take n (cut_at e es xs)) = sum_by-cons length (take (e - from) (drop from xs)) (take n (cut_at e es xs)) in
+    let start : start_at from (e ∷ es) (suc n) ≡ start_at e es n = refl in
+    omega (arith, rest, here, h.0)
 
-pub taken_out : {A : Type 0} (ends ends' : List ℕ) (xs xs' : List A) (k s t : ℕ) → EndAt 0 ends (length xs) → k < length ends → s ≡ start_at 0 ends k → t ≡ get_or ends k 0 → xs' ≡ take s xs ++ drop t xs
-    → ends' ≡ take k ends ++ map (moved t s) (drop (suc k) ends) → Edited ends' xs' (take k (cut_at 0 ends xs) ++ drop (suc k) (cut_at 0 ends xs))
-taken_out {A} ends ends' xs xs' k s t h lt is it bytes new =
-    let at = are_places ends xs k (suc k) s t h (omega arith) (omega arith) is (it ∙ sym (start_at-later 0 ends k lt)) in
-    let none : s + 0 ≡ s = omega arith in
-    let P : ℕ → Type 0 = λ n. Edited ends' xs' (take k (cut_at 0 ends xs) ++ drop (suc k) (cut_at 0 ends xs)) in
-    edit_made ends ends' [] xs xs' [] [] k (suc k) s t at bytes (new ∙ ap (λ n. take k ends ++ map (moved t n) (drop (suc k) ends)) (sym none)) (sym none) refl
+start_sum : (from : ℕ) (es : List ℕ) (k n : ℕ) → k + n ≤ length es → start_at (start_at from es k) (drop k es) n ≡ start_at from es (k + n)
+start_sum from es zero n le = ap (start_at from es) (let e : n ≡ 0 + n = omega arith in e)
+start_sum from [] (suc k) n le = absurd (omega arith)
+start_sum from (e ∷ es) (suc k) n le = start_sum e es k n (omega arith) ∙ ap (start_at from (e ∷ es)) (let s : suc (k + n) ≡ suc k + n = omega arith in s)
 
-drop-cons-at : (es : List ℕ) (k e : ℕ) → k < length es → e ≡ get_or es k 0 → drop k es ≡ e ∷ drop (suc k) es
-drop-cons-at [] k e lt is = absurd (omega arith)
-drop-cons-at (x ∷ es) zero e lt is = ap (λ y. y ∷ es) (sym is)
-drop-cons-at (x ∷ es) (suc k) e lt is = drop-cons-at es k e (omega arith) is
+pub lists_total : {A : Type 0} (ends : List ℕ) (xs : List A) (k m : ℕ) → EndAt 0 ends (length xs) → k ≤ m → m ≤ length ends → sum_by length (slice_range (cut_at 0 ends xs) k m) + start_at 0 ends k ≡ start_at 0 ends m
+lists_total {A} ends xs k m h le small =
+    let there : k + (m - k) ≡ m = omega arith in
+    ap (λ (l : List (List A)). sum_by length (take (m - k) l) + start_at 0 ends k) (cut_at-behind 0 ends xs k (omega arith))
+    ∙ front_total (start_at 0 ends k) (drop k ends) xs (m - k) (EndAt-behind 0 ends (length xs) k h (omega arith)) (omega (arith, length-drop k ends))
+    ∙ start_sum 0 ends k (m - k) (omega arith) ∙ ap (start_at 0 ends) there
 
-pub replaced : {A : Type 0} (ends ends' : List ℕ) (xs xs' p : List A) (k s t : ℕ) → EndAt 0 ends (length xs) → k < length ends → s ≡ start_at 0 ends k → t ≡ get_or ends k 0 → xs' ≡ take s xs ++ (p ++ drop t xs)
-    → ends' ≡ take k ends ++ map (moved t (s + length p)) (drop k ends) → Edited ends' xs' (take k (cut_at 0 ends xs) ++ p ∷ drop (suc k) (cut_at 0 ends xs))
-replaced {A} ends ends' xs xs' p k s t h lt is it bytes new =
-    let at = are_places ends xs k (suc k) s t h (omega arith) (omega arith) is (it ∙ sym (start_at-later 0 ends k lt)) in
-    let first : drop k ends ≡ t ∷ drop (suc k) ends = drop-cons-at ends k t lt it in
-    let head : moved t (s + length p) t ≡ s + length p = omega arith in
-    let low = at.in_order in
-    let high = at.within in
-    let small : s ≤ length xs = omega arith in
-    let there : map (moved t (s + length p)) (drop k ends) ≡ (s + length p) ∷ map (moved t (s + length p)) (drop (suc k) ends) = ap (map (moved t (s + length p))) first ∙ ap (λ n. n ∷ map (moved t (s + length p)) (drop (suc k) ends)) head in
-    edit_made ends ends' ((s + length p) ∷ []) xs xs' p (p ∷ []) k (suc k) s t at bytes (new ∙ ap (λ (r : List ℕ). take k ends ++ r) there) (omega arith, refl) (one_put xs p (drop t xs) s small)
+-- one list in place of one
+pub one_set : {A : Type 0} (xs : List (List A)) (p : List A) (k : ℕ) → k < length xs → splice xs k (k + 1) (cut_at 0 (length p ∷ []) p) ≡ set xs k p
+one_set {A} xs p k lt =
+    let P : List A → List (List A) → List (List A) = λ a b. take k xs ++ (a ∷ b) in
+    ap (λ a. P a (drop (k + 1) xs)) (take_all (length p - 0) p (omega arith)) ∙ ap (λ n. P p (drop n xs)) (add-one k) ∙ sym (set_split xs k p lt)

@@ -1,9 +1,11 @@
 -- What a page shows of each kind of content. Each view is empty at a page of another kind.
-use Rattle.std.specs.Prelude.{ℕ, zero, suc, Bool, true, false, List, [], ◌∷◌, Option, None}
+use Rattle.std.specs.Prelude.{ℕ, zero, suc, Bool, true, false, List, [], ◌∷◌, Option, Some, None}
 use Rattle.page_types.specs.declared.page.Page.{Page}
 use Rattle.page_types.specs.declared.page.Row.{Row}
 use Rattle.page_types.specs.declared.page.Head.{Head}
 use Rattle.page_types.specs.declared.page.Entry.{Entry}
+use Rattle.page_types.specs.declared.page.Postings.{Postings}
+use Rattle.page_types.specs.declared.page.Postings.TheVariants.{Inline, Root}
 use Rattle.page_types.specs.declared.page.EntryChild.{EntryChild}
 use Rattle.page_types.specs.declared.page.PostChild.{PostChild}
 use Rattle.page_types.specs.declared.page.Body.{Body}
@@ -45,6 +47,11 @@ slot_at [] k = None
 slot_at (h ∷ hs) zero = h
 slot_at (h ∷ hs) (suc k) = slot_at hs k
 
+-- the bytes of the vector in a slot, none where it is free
+abbrev pub vector_in : Option Head → List ℕ
+vector_in None = []
+vector_in (Some h) = h.vector
+
 -- the part of a vector that an overflow page holds
 abbrev pub part_in : Body → List ℕ
 part_in (Overflow bytes) = bytes
@@ -59,6 +66,17 @@ entries_in _ = []
 
 abbrev pub entries_of : Page → List Entry
 entries_of p = entries_in p.body
+
+-- the item list that stands in an entry, none where its items stand in a posting tree
+abbrev pub list_in : Postings → List ℕ
+list_in (Inline items) = items
+list_in (Root root) = []
+
+-- the entries, one of them with other items
+abbrev pub with_postings : List Entry → ℕ → Postings → List Entry
+with_postings [] k postings = []
+with_postings (e ∷ es) zero postings = record { key = e.key; postings = postings } ∷ es
+with_postings (e ∷ es) (suc k) postings = e ∷ with_postings es k postings
 
 abbrev pub entry_children_in : Body → List EntryChild
 entry_children_in (EntryInner children) = children

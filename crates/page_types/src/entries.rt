@@ -1,8 +1,9 @@
 // The entries of a leaf of the entry tree.
-ghost use Rattle.std.specs.Prelude.{◌≡◌, ◌≤◌, [], ◌∷◌, ◌++◌, length, OnOk, OnErr, IfSome, IfNone, Some};
-ghost use Rattle.std.specs.List.{slice_get};
+ghost use Rattle.std.specs.Prelude.{◌≡◌, ◌<◌, ◌≤◌, [], ◌∷◌, ◌++◌, length, IsOk, OnOk, OnErr, IfSome, IfNone, Some};
+ghost use Rattle.std.specs.List.{slice_get, insert, remove};
 ghost use Rattle.page_types.specs.Inner.Joins.{postings_with};
 ghost use Rattle.page_types.specs.Parts.{postings_shown};
+ghost use Rattle.page_types.specs.Views.{list_in};
 
 use crate::pieces::Pieces;
 use std::alloc::{AllocError, Global};
@@ -50,7 +51,8 @@ impl Model for Entries {
 
 // The two parts of what an entry leads to.
 fn parts_of<'a>(postings: PostingsRef<'a>) -> (Option<u32>, &'a [u8])
-    ensures { postings_with result.0 result.1.now ≡ postings_shown postings.entry }
+    ensures whole { postings_with result.0 result.1.now ≡ postings_shown postings.entry }
+    ensures list { result.1.now ≡ list_in (postings_shown postings.entry) }
 {
     match postings {
         PostingsRef::Inline(items) => (None, items),
@@ -60,6 +62,7 @@ fn parts_of<'a>(postings: PostingsRef<'a>) -> (Option<u32>, &'a [u8])
 
 impl Entries {
     ghost use Rattle.page_types.specs.Parts.{entry_shown};
+    ghost use Rattle.page_types.specs.Views.{with_postings};
 
     /// No entries.
     pub fn new(alloc: Global) -> Entries
@@ -115,6 +118,52 @@ impl Entries {
                 Err(e)
             }
         }
+    }
+
+    /// Other items of an entry; its key stays. Without memory all stay as they are; a list that is not longer, or a root, takes none.
+    pub fn set_postings(&mut self, k: usize, postings: PostingsRef<'_>) -> Result<(), AllocError>
+        requires { k < length self.old }
+        ensures ok { OnOk result (self.new
+            ≡ with_postings self.old k (postings_shown postings.entry)) }
+        ensures err { OnErr result (self.new ≡ self.old) }
+        ensures short { IfSome (slice_get self.old k) (λ e. length (list_in (postings_shown
+            postings.entry)) ≤ length (list_in e.postings)) → IsOk result }
+    {
+        let (root, items) = parts_of(postings);
+        self.lists.set(k, items)?;
+        self.roots[k] = root;
+        Ok(())
+    }
+
+    /// One entry more, in front of the one with this number, or behind all. Without memory they stay as they are.
+    pub fn insert(&mut self, k: usize, entry: EntryRef<'_>) -> Result<(), AllocError>
+        requires { k ≤ length self.old }
+        ensures ok { OnOk result (self.new ≡ insert self.old k (entry_shown entry.entry)) }
+        ensures err { OnErr result (self.new ≡ self.old) }
+    {
+        let (root, items) = parts_of(entry.postings);
+        self.roots.reserve(1)?;
+        self.keys.insert(k, entry.key)?;
+        match self.lists.insert(k, items) {
+            Ok(()) => {
+                self.roots.insert(k, root).unwrap();
+                Ok(())
+            }
+            Err(e) => {
+                self.keys.remove(k);
+                Err(e)
+            }
+        }
+    }
+
+    /// The entry with this number goes. It takes no memory.
+    pub fn remove(&mut self, k: usize)
+        requires { k < length self.old }
+        ensures { self.new ≡ remove self.old k }
+    {
+        self.keys.remove(k);
+        self.roots.remove(k);
+        self.lists.remove(k);
     }
 }
 

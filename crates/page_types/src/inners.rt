@@ -1,6 +1,6 @@
 // The children of inner pages.
-ghost use Rattle.std.specs.Prelude.{◌≡◌, ◌≤◌, [], ◌∷◌, ◌++◌, length, OnOk, OnErr, IfSome, IfNone, Some};
-ghost use Rattle.std.specs.List.{slice_get};
+ghost use Rattle.std.specs.Prelude.{◌≡◌, ◌<◌, ◌≤◌, [], ◌∷◌, ◌++◌, length, slice_set, IsOk, OnOk, OnErr, IfSome, IfNone, Some};
+ghost use Rattle.std.specs.List.{slice_get, insert, remove};
 
 use crate::page::PostChild;
 use crate::pieces::Pieces;
@@ -79,6 +79,40 @@ impl EntryChildren {
         self.pages.push_reserved(child.page);
         Ok(())
     }
+
+    /// Another child at a place. Without memory all stay as they are; a bound that is not longer takes none.
+    pub fn set(&mut self, k: usize, child: EntryChildRef<'_>) -> Result<(), AllocError>
+        requires { k < length self.old }
+        ensures ok { OnOk result (self.new ≡ slice_set self.old k (child_shown child.entry)) }
+        ensures err { OnErr result (self.new ≡ self.old) }
+        ensures short { IfSome (slice_get self.old k)
+            (λ c. length child.entry.bound.now ≤ length c.bound) → IsOk result }
+    {
+        self.bounds.set(k, child.bound)?;
+        self.pages[k] = child.page;
+        Ok(())
+    }
+
+    /// One child more, in front of the one with this number, or behind all. Without memory they stay as they are.
+    pub fn insert(&mut self, k: usize, child: EntryChildRef<'_>) -> Result<(), AllocError>
+        requires { k ≤ length self.old }
+        ensures ok { OnOk result (self.new ≡ insert self.old k (child_shown child.entry)) }
+        ensures err { OnErr result (self.new ≡ self.old) }
+    {
+        self.pages.reserve(1)?;
+        self.bounds.insert(k, child.bound)?;
+        self.pages.insert(k, child.page).unwrap();
+        Ok(())
+    }
+
+    /// The child with this number goes. It takes no memory.
+    pub fn remove(&mut self, k: usize)
+        requires { k < length self.old }
+        ensures { self.new ≡ remove self.old k }
+    {
+        self.pages.remove(k);
+        self.bounds.remove(k);
+    }
 }
 
 impl Clone for EntryChildren {
@@ -137,6 +171,32 @@ impl PostChildren {
     {
         self.inner.push(child)?;
         Ok(())
+    }
+
+    /// Another child at a place. It takes no memory.
+    pub fn set(&mut self, k: usize, child: PostChild)
+        requires { k < length self.old }
+        ensures { self.new ≡ slice_set self.old k child }
+    {
+        self.inner[k] = child;
+    }
+
+    /// One child more, in front of the one with this number, or behind all. Without memory they stay as they are.
+    pub fn insert(&mut self, k: usize, child: PostChild) -> Result<(), AllocError>
+        requires { k ≤ length self.old }
+        ensures ok { OnOk result (self.new ≡ insert self.old k child) }
+        ensures err { OnErr result (self.new ≡ self.old) }
+    {
+        self.inner.insert(k, child)?;
+        Ok(())
+    }
+
+    /// The child with this number goes. It takes no memory.
+    pub fn remove(&mut self, k: usize)
+        requires { k < length self.old }
+        ensures { self.new ≡ remove self.old k }
+    {
+        self.inner.remove(k);
     }
 }
 

@@ -7,6 +7,7 @@
 
 mod bytes;
 mod edits;
+mod ends;
 mod entries;
 mod error;
 mod fields;
@@ -17,6 +18,7 @@ mod pieces;
 mod record;
 mod rows;
 mod slots;
+mod splice;
 
 pub use bytes::Bytes;
 pub use edits::{apply, put};

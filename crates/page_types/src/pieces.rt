@@ -1,8 +1,10 @@
 // Byte strings that lie one behind the other in one buffer.
-ghost use Rattle.std.specs.Prelude.{◌≡◌, ◌-◌, ◌<◌, ◌≤◌, [], ◌∷◌, ◌++◌, length, take, drop, OnOk, OnErr, IfSome, IfNone, Some};
-ghost use Rattle.std.specs.List.{slice_get};
-ghost use Rattle.page_types.specs.Inner.Cuts.{start_at};
+ghost use Rattle.std.specs.Prelude.{◌≡◌, ◌-◌, ◌<◌, ◌≤◌, [], ◌∷◌, ◌++◌, ◌+◌, length, take, drop, slice_range, slice_set, slice_index_or, OnOk, OnErr, IsOk, IfSome, IfNone, Some};
+ghost use Rattle.std.specs.List.{slice_get, splice, insert, remove, sum_by};
+ghost use Rattle.page_types.specs.Inner.Cuts.{cut_at, EndAt};
 
+use crate::ends::{replace_ends, start_of};
+use crate::splice::replace_run;
 use std::alloc::{AllocError, Global};
 use std::marker::Model;
 
@@ -22,15 +24,6 @@ impl Model for Pieces {
     ghost view = { λ p. cut_at 0 p.ends.items p.bytes.items };
 
     ghost invariant = { λ p. EndAt 0 p.ends.items (length p.bytes.items) };
-}
-
-// Where the string with this number begins.
-#[tactic(auto, using(crate::proofs::Cutting::start_before))]
-pub(crate) fn start_of(ends: &[usize], k: usize) -> usize
-    requires { k ≤ length ends.now }
-    ensures { result ≡ start_at 0 ends.now k }
-{
-    if k == 0 { 0 } else { ends[k - 1] }
 }
 
 impl Pieces {
@@ -122,6 +115,68 @@ impl Pieces {
                 Err(e)
             }
         }
+    }
+
+    // Strings that lie in other bytes stand in place of so many from one number on.
+    pub(crate) fn replace(
+        &mut self,
+        from: usize,
+        count: usize,
+        bytes: &[u8],
+        ends: &[usize],
+    ) -> Result<(), AllocError>
+        requires within { from + count ≤ length self.old }
+        requires at { EndAt 0 ends.now (length bytes.now) }
+        ensures ok { OnOk result (self.new
+            ≡ splice self.old from (from + count) (cut_at 0 ends.now bytes.now)) }
+        ensures err { OnErr result (self.new ≡ self.old) }
+        ensures short { length ends.now ≤ count → length bytes.now
+            ≤ sum_by length (slice_range self.old from (from + count)) → IsOk result }
+    {
+        let start = start_of(&self.ends, from);
+        let to = from + count;
+        let end = start_of(&self.ends, to);
+        self.ends.reserve(ends.len().saturating_sub(count))?;
+        replace_run(&mut self.bytes, start, end, bytes)?;
+        replace_ends(&mut self.ends, from, to, ends, bytes.len());
+        Ok(())
+    }
+
+    /// Another string in place of the one with this number. Without memory all stay as they are; one that is not longer takes none.
+    pub fn set(&mut self, k: usize, piece: &[u8]) -> Result<(), AllocError>
+        requires { k < length self.old }
+        ensures ok { OnOk result (self.new ≡ slice_set self.old k piece.now) }
+        ensures err { OnErr result (self.new ≡ self.old) }
+        ensures short { length piece.now ≤ length (slice_index_or self.old k []) → IsOk result }
+    {
+        self.replace(k, 1, piece, &[piece.len()])
+    }
+
+    /// One string more, in front of the one with this number, or behind all. Without memory they stay as they are.
+    pub fn insert(&mut self, k: usize, piece: &[u8]) -> Result<(), AllocError>
+        requires { k ≤ length self.old }
+        ensures ok { OnOk result (self.new ≡ insert self.old k piece.now) }
+        ensures err { OnErr result (self.new ≡ self.old) }
+    {
+        self.replace(k, 0, piece, &[piece.len()])
+    }
+
+    /// The string with this number goes. It takes no memory.
+    pub fn remove(&mut self, k: usize)
+        requires { k < length self.old }
+        ensures { self.new ≡ remove self.old k }
+    {
+        self.replace(k, 1, &[], &[]).unwrap();
+    }
+
+    /// The strings of another list in place of those from one number up to another. Without memory they stay as they are.
+    pub fn splice(&mut self, from: usize, to: usize, with: &Pieces) -> Result<(), AllocError>
+        requires in_order { from ≤ to }
+        requires within { to ≤ length self.old }
+        ensures ok { OnOk result (self.new ≡ splice self.old from to with.now) }
+        ensures err { OnErr result (self.new ≡ self.old) }
+    {
+        self.replace(from, to - from, &with.bytes, &with.ends)
     }
 
     /// The strings from one number up to another, by reference.

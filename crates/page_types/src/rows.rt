@@ -2,7 +2,8 @@
 ghost use Rattle.std.specs.Prelude.{◌≡◌, ◌≤◌, [], ◌∷◌, ◌++◌, length, OnOk, OnErr, IfSome, IfNone, Some};
 ghost use Rattle.std.specs.List.{slice_get};
 
-use crate::pieces::{Pieces, PiecesRef, start_of};
+use crate::ends::start_of;
+use crate::pieces::{Pieces, PiecesRef};
 use std::alloc::{AllocError, Global};
 use std::marker::Model;
 

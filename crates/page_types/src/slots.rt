@@ -1,7 +1,9 @@
 // The slots of a heap page.
-ghost use Rattle.std.specs.Prelude.{◌≡◌, [], ◌∷◌, ◌++◌, length, OnOk, OnErr};
+ghost use Rattle.std.specs.Prelude.{◌≡◌, ◌<◌, ◌≤◌, [], ◌∷◌, ◌++◌, length, slice_set, OnOk, OnErr, IsOk, None};
+ghost use Rattle.std.specs.List.{insert, remove};
 ghost use Rattle.std.specs.Option.{option_map};
 ghost use Rattle.page_types.specs.Parts.{head_shown};
+ghost use Rattle.page_types.specs.Views.{vector_in};
 ghost use Rattle.page_types.specs.Inner.Joins.{slot_with};
 
 use crate::pieces::Pieces;
@@ -56,7 +58,8 @@ impl Model for Slots {
 
 // The two parts of a slot.
 fn parts_of<'a>(slot: Option<HeadRef<'a>>) -> (Option<HeadFields>, &'a [u8])
-    ensures { slot_with result.0 result.1.now ≡ option_map head_shown slot.entry }
+    ensures whole { slot_with result.0 result.1.now ≡ option_map head_shown slot.entry }
+    ensures vector { result.1.now ≡ vector_in (option_map head_shown slot.entry) }
 {
     match slot {
         None => (None, &[]),
@@ -65,8 +68,8 @@ fn parts_of<'a>(slot: Option<HeadRef<'a>>) -> (Option<HeadFields>, &'a [u8])
 }
 
 impl Slots {
-    ghost use Rattle.page_types.specs.Parts.{head_shown};
-    ghost use Rattle.page_types.specs.Views.{slot_at};
+    ghost use Rattle.page_types.specs.Parts.{head_shown, head_with};
+    ghost use Rattle.page_types.specs.Views.{slot_at, vector_in};
 
     /// No slots.
     pub fn new(alloc: Global) -> Slots
@@ -110,6 +113,62 @@ impl Slots {
         self.vectors.push(vector)?;
         self.fields.push_reserved(fields);
         Ok(())
+    }
+
+    /// A slot with other contents. Without memory all stay as they are; a vector that is not longer takes none.
+    pub fn set(&mut self, k: usize, slot: Option<HeadRef<'_>>) -> Result<(), AllocError>
+        requires { k < length self.old }
+        ensures ok { OnOk result (self.new ≡ slice_set self.old k
+            (option_map head_shown slot.entry)) }
+        ensures err { OnErr result (self.new ≡ self.old) }
+        ensures short { length (vector_in (option_map head_shown slot.entry))
+            ≤ length (vector_in (slot_at self.old k)) → IsOk result }
+    {
+        let (fields, vector) = parts_of(slot);
+        self.vectors.set(k, vector)?;
+        self.fields[k] = fields;
+        Ok(())
+    }
+
+    /// A head with other fields; its vector stays, and so does a free slot. It takes no memory.
+    pub fn set_fields(&mut self, k: usize, fields: HeadFields)
+        requires { k < length self.old }
+        ensures { self.new ≡ slice_set self.old k
+            (option_map (λ h. head_with fields h.vector) (slot_at self.old k)) }
+    {
+        if self.fields[k].is_some() {
+            self.fields[k] = Some(fields);
+        }
+    }
+
+    /// The slot is free from now on. It takes no memory.
+    pub fn free(&mut self, k: usize)
+        requires { k < length self.old }
+        ensures { self.new ≡ slice_set self.old k None }
+    {
+        self.set(k, None).unwrap();
+    }
+
+    /// One slot more, in front of the one with this number, or behind all. Without memory they stay as they are.
+    pub fn insert(&mut self, k: usize, slot: Option<HeadRef<'_>>) -> Result<(), AllocError>
+        requires { k ≤ length self.old }
+        ensures ok { OnOk result (self.new ≡ insert self.old k (option_map head_shown slot.entry)) }
+        ensures err { OnErr result (self.new ≡ self.old) }
+    {
+        let (fields, vector) = parts_of(slot);
+        self.fields.reserve(1)?;
+        self.vectors.insert(k, vector)?;
+        self.fields.insert(k, fields).unwrap();
+        Ok(())
+    }
+
+    /// The slot with this number goes; those behind it get a number less. It takes no memory.
+    pub fn remove(&mut self, k: usize)
+        requires { k < length self.old }
+        ensures { self.new ≡ remove self.old k }
+    {
+        self.fields.remove(k);
+        self.vectors.remove(k);
     }
 }
 
