@@ -1,0 +1,13 @@
+pub mod Tests
+pub mod Numbers
+pub mod ItemReading
+pub mod Loops
+pub mod Lists
+pub mod FieldLaws
+pub mod HeapLaws
+pub mod PendingLaws
+pub mod EntryLaws
+pub mod ChildLaws
+pub mod PostingLaws
+pub mod BodyLaws
+pub mod PageLaws

@@ -1,0 +1,7 @@
+pub mod Fields
+pub mod Items
+pub mod Forms
+pub mod Bodies
+pub mod Reading
+pub mod Decoding
+pub mod Laws

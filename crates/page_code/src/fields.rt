@@ -1,0 +1,104 @@
+// Fields that stand on pages, read from the front of the bytes.
+ghost use Rattle.std.specs.Prelude.{◌≡◌};
+ghost use Rattle.page_types.specs.Fields.{Gives};
+ghost use Rattle.page_code.specs.Fields.{below_at, are_zeros, zeros_at, is_key_text, is_key, is_above, sized_at, key_at, bound_at};
+
+use page_types::{MOST_KEY_TEXT, ReadError, slice_at, u16_at, u32_at};
+use std::cmp::Ordering;
+
+/// A number in four bytes that is below the limit.
+#[tactic(auto, unfolding(crate::specs::Fields::below_at))]
+pub fn below_of(limit: u32, bytes: &[u8]) -> Result<(u32, &[u8]), ReadError>
+    ensures { Gives (λ x. (x.0, x.1.now)) result (below_at limit bytes.now) }
+{
+    let (number, rest) = u32_at(bytes)?;
+    if number < limit {
+        Ok((number, rest))
+    } else {
+        Err(ReadError::Fault(bytes.len()))
+    }
+}
+
+/// Whether all of them are 0.
+fn all_zeros(bytes: &[u8]) -> bool
+    ensures { result ≡ are_zeros bytes.now }
+{
+    bytes.iter().all(|byte| *byte == 0)
+}
+
+/// So many zero bytes; what stands behind them is read.
+#[tactic(auto, unfolding(crate::specs::Fields::zeros_at))]
+pub fn zeros_of(size: usize, bytes: &[u8]) -> Result<&[u8], ReadError>
+    ensures { Gives (λ rest. rest.now) result (zeros_at size bytes.now) }
+{
+    let (gap, rest) = slice_at(size, bytes)?;
+    if all_zeros(gap) {
+        Ok(rest)
+    } else {
+        Err(ReadError::Fault(bytes.len()))
+    }
+}
+
+/// Whether this is a lexeme.
+fn is_lexeme(text: &[u8]) -> bool
+    ensures { result ≡ is_key_text text.now }
+{
+    !text.is_empty() && text.len() <= MOST_KEY_TEXT && str::from_utf8(text).is_ok()
+}
+
+/// Whether this is a key.
+fn is_key_of(bytes: &[u8]) -> bool
+    ensures { result ≡ is_key bytes.now }
+{
+    match bytes {
+        [0, text @ ..] => is_lexeme(text),
+        [1, rest @ ..] => rest.is_empty(),
+        _ => false,
+    }
+}
+
+/// Whether the key stands above the last.
+fn is_above_last(last: &[u8], key: &[u8]) -> bool
+    ensures { result ≡ is_above last.now key.now }
+{
+    last.cmp(key) == Ordering::Less
+}
+
+/// Bytes behind their length.
+#[tactic(auto, unfolding(crate::specs::Fields::sized_at))]
+fn sized_of(bytes: &[u8]) -> Result<(&[u8], &[u8]), ReadError>
+    ensures { Gives (λ x. (x.0.now, x.1.now)) result (sized_at bytes.now) }
+{
+    let (size, rest) = u16_at(bytes)?;
+    slice_at(usize::from(size), rest)
+}
+
+/// A key field whose key stands above the last.
+#[tactic(auto, unfolding(crate::specs::Fields::key_at))]
+pub fn key_of<'a>(last: &[u8], bytes: &'a [u8]) -> Result<(&'a [u8], &'a [u8]), ReadError>
+    ensures { Gives (λ x. (x.0.now, x.1.now)) result (key_at last.now bytes.now) }
+{
+    let (key, rest) = sized_of(bytes)?;
+    if is_key_of(key) && is_above_last(last, key) {
+        Ok((key, rest))
+    } else {
+        Err(ReadError::Fault(bytes.len()))
+    }
+}
+
+/// A bound that stands above the last, or none where it may lack.
+#[tactic(auto, unfolding(crate::specs::Fields::bound_at))]
+pub fn bound_of<'a>(
+    may_lack: bool,
+    last: &[u8],
+    bytes: &'a [u8],
+) -> Result<(&'a [u8], &'a [u8]), ReadError>
+    ensures { Gives (λ x. (x.0.now, x.1.now)) result (bound_at may_lack last.now bytes.now) }
+{
+    let (bound, rest) = sized_of(bytes)?;
+    if is_key_of(bound) && is_above_last(last, bound) || may_lack && bound.is_empty() {
+        Ok((bound, rest))
+    } else {
+        Err(ReadError::Fault(bytes.len()))
+    }
+}
