@@ -56,6 +56,7 @@ ask 'a b'
 @3 insert vector 'c:1'
 @1 search '!a'
 @1 search ''
+parse 'a-b 1.5'
 @1 find 'a'
 ";
 
@@ -73,7 +74,14 @@ error 3 query 2
 @3 error 14 down 1
 @1 error 14 down 1
 @1 error 14 down 1
-error 1 statement 14
+token 16 0 3
+token 11 0 1
+token 12 1 1
+token 11 2 1
+token 12 3 1
+token 20 4 3
+ok
+error 1 statement 15
 ";
 
 /// A run of one insert on a new store.

@@ -14,12 +14,12 @@ use Rattle.wal.specs.Settled.{Settled, BeforeOrAfter}
 use Rattle.ts_base.specs.Vectors.{Vector}
 use Rattle.ts_query.specs.Queries.{Query}
 use Rattle.ts_query.specs.Refusals.{IsReadAs}
-use Rattle.shell_script.specs.Grammar.{Part, Expr, Statement, insert, search as finding, show, query, nothing}
-use Rattle.shell_run.specs.Values.{IsValueOf, OthersFail, ExprFails, QueryFails, IsRefusedBy, IsShown, IsQueried}
+use Rattle.shell_script.specs.Grammar.{Part, Expr, Statement, insert, search as finding, show, query, parse, nothing}
+use Rattle.shell_run.specs.Values.{IsValueOf, OthersFail, ExprFails, QueryFails, IsRefusedBy, IsShown, IsQueried, IsParsed}
 use Rattle.shell_script.specs.Name.{Name}
 use Rattle.shell_run.specs.History.{Document, Commit, History, IsFull, IsFound, insertion, name_of}
 use Rattle.shell_run.specs.Entries.{entry, document_bytes, IsLogFull}
-use Rattle.shell_run.specs.Run.{Row, Note, Place, Counts, Refusal, Reply, stored, lists, shows_vector, shows_query, refused, store_full, log_full, down, device as device_fault, memory, no_statement, Run, IsAnswered, HasOwn, IsDownSince, FindsDown, HasFailed, HasCalled, IsOkOfStore, seen_by}
+use Rattle.shell_run.specs.Run.{Row, Note, Place, Counts, Refusal, Reply, stored, lists, shows_vector, shows_query, shows_tokens, refused, store_full, log_full, down, device as device_fault, memory, no_statement, Run, IsAnswered, HasOwn, IsDownSince, FindsDown, HasFailed, HasCalled, IsOkOfStore, seen_by}
 use Rattle.shell_run.specs.RanOn.{counts_over}
 use Rattle.shell_run.specs.Inner.Logs.{PutsEntry}
 use Rattle.shell_run.specs.Inner.Stores.{documents_of, StandsFor, Rests, HasLogged, HasStored, IsInDoubt, HasInserted, IsFoundBy, HasAnswered}
@@ -417,6 +417,10 @@ module _ {D : Type 0} (device : Disk D) (history : History) where
   queried_at fall text (refused why) i = of_text (QueryFails text) fall (query text) (refused why) (query_of_text text) (λ h. tt) i
   queried_at fall text reply i = absurd i
 
+  parsed_at : (fall : Option ℕ) (text : List ℕ) (reply : Reply) → IsParsed text reply → IsAnsweredAt fall (parse text) reply
+  parsed_at fall text (shows_tokens tokens) i = record { ok = λ ok. absurd ok; asks = inl tt; fell = λ n x. cc; no_failure = λ f. f }
+  parsed_at fall text reply i = absurd i
+
   -- a statement that does not touch the store
   only_answers : (old new : Store) (disk disk' : D) (commits : History) (rows : List Row) (place : Place) (line : ℕ) (statement : Statement) (reply : Reply) → StandsFor old commits → All (λ (r : Row). r.place.step < place.step) rows → Rests device old new disk disk'
       → IsAnsweredAt (down_of old.wal) statement reply → ((k : Counts) (note : Note) → note.commit ≡ None → IsAnswered k (commits ++ []) line statement reply note)
@@ -435,6 +439,7 @@ module _ {D : Type 0} (device : Disk D) (history : History) where
   goes old new disk disk' commits rows place line (finding text) reply h last (inr i) = subst (λ r. Goes commits rows old new disk disk' place line (finding text) r) (sym i.2.3) (searches old new disk disk' commits rows place line text i.0 i.2.0 i.1 h last i.2.1 i.2.2)
   goes old new disk disk' commits rows place line (show e) reply h last i = only_answers old new disk disk' commits rows place line (show e) reply h last i.0 (shown_at (down_of old.wal) e reply i.1) (λ k note n. (i.1, n))
   goes old new disk disk' commits rows place line (query text) reply h last i = only_answers old new disk disk' commits rows place line (query text) reply h last i.0 (queried_at (down_of old.wal) text reply i.1) (λ k note n. (i.1, n))
+  goes old new disk disk' commits rows place line (parse text) reply h last i = only_answers old new disk disk' commits rows place line (parse text) reply h last i.0 (parsed_at (down_of old.wal) text reply i.1) (λ k note n. (i.1, n))
   goes old new disk disk' commits rows place line nothing (refused (no_statement at)) h last i =
       only_answers old new disk disk' commits rows place line nothing (refused (no_statement at)) h last i.0 (record { ok = λ ok. absurd ok; asks = inl tt; fell = λ n x. cc; no_failure = λ f. f }) (λ k note n. (n, i.1))
   goes old new disk disk' commits rows place line nothing reply h last i = absurd i

@@ -25,7 +25,7 @@ use Rattle.shell_run.specs.Inner.Serving.{Served, Passed, HasRunLines}
 use Rattle.shell_run.specs.declared.serving.Desk.{Desk}
 use Rattle.wal.specs.Waiting.{end_of, down_of}
 use Rattle.shell_run.specs.declared.store.Store.{Store}
-use Rattle.shell_run.proofs.Streams.{puts_start, appends_then}
+use Rattle.shell_run.proofs.Streams.{puts_start, puts_behind, puts_on}
 use Rattle.shell_run.proofs.Held.{held_lawful, held_numbered, held_normal}
 use Rattle.shell_run.proofs.Safety.{Safe, opens_to, settled_now}
 use Rattle.shell_run.proofs.Going.{State, Goes, goes, row_of}
@@ -54,18 +54,6 @@ rows_more : (number : ℕ) (a b c : Bool) (ls ms : List (List ℕ)) (rows more :
 rows_more number a b c [] ms rows more h k = subst (λ z. AreRows number a ms (z ++ more) c) (sym h.0) (subst (λ w. AreRows number w ms more c) h.1 (subst (λ n. AreRows n b ms more c) (let z : number + 0 ≡ number = omega arith in z) k))
 rows_more number a b c (l ∷ ls) ms rows more (inl h) k = inl (h.0, rows_more (number + 1) a b c ls ms rows more h.1 (subst (λ n. AreRows n b ms more c) (let z : number + suc (length ls) ≡ number + 1 + length ls = omega arith in z) k))
 rows_more number a b c (l ∷ ls) ms rows more (inr h) k = inr (h.0, h.1 ++ more, h.2, ap (λ z. z ++ more) h.3, h.4, h.5, rows_more (number + 1) h.2 b c ls ms h.1 more h.6 (subst (λ n. AreRows n b ms more c) (let z : number + suc (length ls) ≡ number + 1 + length ls = omega arith in z) k))
-
-puts_behind : (a b c : Option (List ℕ)) (text rest t w : List ℕ) (well : Bool) → Sends a b text rest true → Sends b c (rest ++ t) w well → Sends a c (text ++ t) w well
-puts_behind a b c text rest t w well h k = record {
-  sent = h.sent ++ k.sent;
-  unsent = k.unsent;
-  all = append_assoc h.sent k.sent k.unsent ∙ ap (λ z. h.sent ++ z) (k.all ∙ ap (λ z. z ++ t) (sym (h.waits refl))) ∙ sym (append_assoc h.sent h.unsent t) ∙ ap (λ z. z ++ t) h.all;
-  took = appends_then a b c h.sent k.sent h.took k.took;
-  waits = k.waits;
-}
-
-puts_on : (a b c : Option (List ℕ)) (text rest w : List ℕ) (well : Bool) → Sends a b text rest true → Sends b c rest w well → Sends a c text w well
-puts_on a b c text rest w well h k = subst (λ z. Sends a c z w well) (append-nil text) (puts_behind a b c text rest [] w well h (subst (λ z. Sends b c z w well) (sym (append-nil rest)) k))
 
 any_push : {X : Type 0} (p : X → Bool) (xs : List X) (x : X) → list_any p (xs ++ x ∷ []) ≡ (list_any p xs || p x)
 any_push p [] x = or_false (p x)

@@ -8,7 +8,7 @@ use Rattle.std.proofs.lemmas.List.Sums.{sum_by_push, sum_by-cons}
 use Rattle.std.proofs.lemmas.Bool.{ne_eqb, eqb-false, eqb-true}
 use Rattle.ts_base.specs.Vectors.{Vector}
 use Rattle.ts_query.specs.Queries.{Query}
-use Rattle.shell_script.specs.Grammar.{Statement, insert, search as finding, show, query, nothing}
+use Rattle.shell_script.specs.Grammar.{Statement, insert, search as finding, show, query, parse, nothing}
 use Rattle.shell_run.specs.History.{Document, Commit, History, IsLawful, Begins, docs, IsFull, IsFound, insertion}
 use Rattle.shell_run.specs.Entries.{IsLogFull}
 use Rattle.shell_run.specs.Run.{Row, Note, Counts, Reply, stored, lists, refused, store_full, log_full, down, device, memory, Run, IsWithin, IsAnswered, IsInserted, IsSearched, MayHaveOwn, MetFault, IsDownSince, FindsDown, HasFailed, HasCalled, IsSeenBy, Before, has_commit, is_at, seen_by, HasOwn}
@@ -79,6 +79,7 @@ answered_more k l commits more line (finding text) reply note g le (inl h) = inl
 answered_more k l commits more line (finding text) reply note g le (inr h) = inr (h.0, h.1, search_more k l commits more h.0 reply note g le h.2)
 answered_more k l commits more line (show e) reply note g le h = h
 answered_more k l commits more line (query text) reply note g le h = h
+answered_more k l commits more line (parse text) reply note g le h = h
 answered_more k l commits more line nothing reply note g le h = h
 
 below_some : (o : Option ℕ) (s n m : ℕ) → n ≤ m → IfSome o (λ p. (s ≤ p) × (p < n)) → IfSome o (λ p. (s ≤ p) × (p < m))

@@ -1,5 +1,5 @@
 -- Streams that are read, and written, piece by piece.
-use Rattle.std.proofs.Common.{◌≡◌, ℕ, take, drop, ◌<◌, List, [], ◌++◌, length, length-append, append_assoc, arith, refl, sym, ◌∙◌, ap, IfSome}
+use Rattle.std.proofs.Common.{◌≡◌, ℕ, take, drop, ◌<◌, List, [], ◌++◌, length, length-append, append_assoc, arith, refl, sym, ◌∙◌, ap, subst, IfSome}
 use Rattle.std.specs.Prelude.{Option, Some, None, Bool, true, false}
 use Rattle.std.proofs.lemmas.List.{append-nil, take-append-drop}
 use Rattle.shell_run.specs.Inner.Sending.{Sends}
@@ -70,3 +70,26 @@ puts_at_stop a b text x y h = record { sent = h.sent; unsent = h.unsent; all = h
 
 pub puts_drop : (a b c : Option (List ℕ)) (text rest : List ℕ) (n : ℕ) → Sends a b text rest true → Appends b c (take n rest) → Sends a c text (drop n rest) true
 puts_drop a b c text rest n h k = puts_more a b c text rest (take n rest) (drop n rest) true h k (sym (take-append-drop n rest))
+
+-- a text more behind what waits
+pub puts_behind : (a b c : Option (List ℕ)) (text rest t w : List ℕ) (well : Bool) → Sends a b text rest true → Sends b c (rest ++ t) w well → Sends a c (text ++ t) w well
+puts_behind a b c text rest t w well h k = record {
+  sent = h.sent ++ k.sent;
+  unsent = k.unsent;
+  all = append_assoc h.sent k.sent k.unsent ∙ ap (λ z. h.sent ++ z) (k.all ∙ ap (λ z. z ++ t) (sym (h.waits refl))) ∙ sym (append_assoc h.sent h.unsent t) ∙ ap (λ z. z ++ t) h.all;
+  took = appends_then a b c h.sent k.sent h.took k.took;
+  waits = k.waits;
+}
+
+pub puts_on : (a b c : Option (List ℕ)) (text rest w : List ℕ) (well : Bool) → Sends a b text rest true → Sends b c rest w well → Sends a c text w well
+puts_on a b c text rest w well h k = subst (λ z. Sends a c z w well) (append-nil text) (puts_behind a b c text rest [] w well h (subst (λ z. Sends b c z w well) (sym (append-nil rest)) k))
+
+-- a run that stops has more to write, of which nothing is written
+pub puts_short : (a b : Option (List ℕ)) (text more waiting rest : List ℕ) (well : Bool) → Sends a b text waiting well → Sends a b (text ++ more) rest false
+puts_short a b text more waiting rest well h = record {
+  sent = h.sent;
+  unsent = h.unsent ++ more;
+  all = sym (append_assoc h.sent h.unsent more) ∙ ap (λ z. z ++ more) h.all;
+  took = h.took;
+  waits = λ e. cc;
+}

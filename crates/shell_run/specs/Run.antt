@@ -5,13 +5,13 @@ use Rattle.std.specs.List.{All, Any, slice_get}
 use Rattle.ts_base.specs.Vectors.{Vector}
 use Rattle.ts_query.specs.Queries.{Query}
 use Rattle.ts_query.specs.Refusals.{IsReadAs}
-use Rattle.shell_script.specs.Grammar.{Statement, insert, search, show, query, nothing}
+use Rattle.shell_script.specs.Grammar.{Statement, insert, search, show, query, parse, nothing}
 use Rattle.shell_script.specs.Name.{Name}
 use Rattle.shell_run.specs.History.{Document, Commit, History, insertion, docs, IsFound, IsFull, Begins, IsLawful}
 use Rattle.shell_run.specs.Entries.{IsLogFull}
 pub use Rattle.shell_script.specs.Replies.{Refusal, no_statement, store_full, log_full, down, device, memory, text_refused}
-pub use Rattle.shell_script.specs.Replies.{Reply, stored, lists, shows_vector, shows_query, refused}
-use Rattle.shell_run.specs.Values.{IsValueOf, ExprFails, QueryFails, IsRefusedBy, IsShown, IsQueried}
+pub use Rattle.shell_script.specs.Replies.{Reply, stored, lists, shows_vector, shows_query, shows_tokens, refused}
+use Rattle.shell_run.specs.Values.{IsValueOf, ExprFails, QueryFails, IsRefusedBy, IsShown, IsQueried, IsParsed}
 
 -- Where a statement stands: the step of the script, where a block is one step; the session; and
 -- its place there.
@@ -121,6 +121,7 @@ IsAnswered counts commits line (search text) reply note =
     ⊎ ((q : Query) × IsReadAs text q × IsSearched counts commits q reply note)
 IsAnswered counts commits line (show e) reply note = IsShown e reply × (note.commit ≡ None)
 IsAnswered counts commits line (query text) reply note = IsQueried text reply × (note.commit ≡ None)
+IsAnswered counts commits line (parse text) reply note = IsParsed text reply × (note.commit ≡ None)
 IsAnswered counts commits line nothing reply note = IsLineRefused line reply note
 
 -- an answer Ok of the store

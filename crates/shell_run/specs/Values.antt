@@ -9,11 +9,12 @@ use Rattle.ts_vector.specs.declared.error.VectorError.TheVariants as vectors
 use Rattle.ts_query.specs.Queries.{Query}
 use Rattle.ts_query.specs.Refusals.{IsReadAs, IsRefused}
 use Rattle.ts_query.specs.Printing.{printed}
+use Rattle.ts_parser.specs.TokenList.{IsTokenList}
 use Rattle.ts_query.specs.declared.error.QueryError.TheVariants as queries
 use Rattle.shell_script.specs.Grammar.{Part, Expr}
 use Rattle.shell_script.specs.Replies.{bad_vector, bad_query, long_lexeme, large_vector, large_query}
 use Rattle.shell_script.specs.Replies.{Refusal, text_refused, memory}
-use Rattle.shell_script.specs.Replies.{Reply, shows_vector, shows_query, refused}
+use Rattle.shell_script.specs.Replies.{Reply, shows_vector, shows_query, shows_tokens, refused}
 
 -- the vector of a part's text, stripped where the part says so
 abbrev pub IsPartOf : Part → Vector → Type 0
@@ -67,6 +68,11 @@ IsShown e reply = IsRefusedBy (ExprFails e) reply
 abbrev pub IsQueried : List ℕ → Reply → Type 0
 IsQueried text (shows_query shown) = (q : Query) × IsReadAs text q × (shown ≡ printed q)
 IsQueried text reply = IsRefusedBy (QueryFails text) reply
+
+-- the reply is the token list of the text: no refusal is one
+abbrev pub IsParsed : List ℕ → Reply → Type 0
+IsParsed text (shows_tokens tokens) = IsTokenList text tokens
+IsParsed text reply = ⊥
 
 -- what an expression and a query's text may be answered
 abbrev pub IsExprAnswer : Expr → Result Vector Refusal → Type 0

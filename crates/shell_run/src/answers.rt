@@ -68,6 +68,7 @@ pub fn answer<D: Disk>(
         },
         Statement::Show(from) => show(alloc, &from),
         Statement::Query(text) => ask_query(alloc, text.as_str()),
+        Statement::Parse(text) => Reply::Tokens(text),
         Statement::Nothing => Reply::Refused(Refusal::NoStatement(line)),
     }
 }

@@ -1,11 +1,18 @@
 // Text into the sink.
 ghost use Rattle.std.specs.Prelude.{◌≡◌, ◌⊎◌, ℕ, ◌<◌, ◌≤◌, List, [], ◌++◌, length, IfErr, OnOk, IsErrOf, is_ok, drop};
+ghost use Rattle.std.specs.List.{flat_map};
+ghost use Rattle.ts_parser.specs.TokensOf.{tokens_of};
+ghost use Rattle.shell_script.specs.ReplyView.{reply};
+ghost use Rattle.shell_script.specs.Texts.{token_line, token_lines, said};
 ghost use Rattle.disk_trait.specs.Device.{Rose};
 ghost use Rattle.shell_run.specs.Inner.Sending.{Sends};
 ghost use Rattle.shell_run.specs.declared.error.Stop.TheVariants.{SinkFault, OutOfMemory};
 
 use crate::error::Stop;
 use disk_trait::Sink;
+use shell_script::{Reply, last_line_of, push_token};
+use std::alloc::Global;
+use ts_parser::{Token, tokens};
 
 /// What stands behind the first n bytes.
 fn behind(bytes: &[u8], n: usize) -> &[u8]
@@ -66,4 +73,77 @@ pub fn put<K: Sink>(out: &mut K, waiting: &mut Vec<u8>, text: &[u8]) -> Result<(
         return flush(out, waiting);
     }
     Ok(())
+}
+
+/// The line of a token, which is put like a text.
+fn put_token<K: Sink>(out: &mut K, waiting: &mut Vec<u8>, token: Token) -> Result<(), Stop>
+    ensures text { Sends (K.taken out.old) (K.taken out.new)
+        (waiting.old.items ++ token_line token) waiting.new.items (is_ok result) }
+    ensures later { K.fault_count out.old ≤ K.fault_count out.new }
+    ensures error { IfErr result (λ e. (e ≡ SinkFault) ⊎ (e ≡ OutOfMemory)) }
+    ensures fault { IsErrOf result SinkFault
+        → Rose (K.fault_count out.old) (K.fault_count out.new) }
+{
+    push_token(waiting, token)?;
+    if waiting.len() >= ENOUGH {
+        return flush(out, waiting);
+    }
+    Ok(())
+}
+
+/// The lines of a text's tokens, one after another, so that few of them wait.
+fn put_tokens<K: Sink>(out: &mut K, waiting: &mut Vec<u8>, text: &str) -> Result<(), Stop>
+    ensures text { Sends (K.taken out.old) (K.taken out.new)
+        (waiting.old.items ++ flat_map token_line (tokens_of text.now)) waiting.new.items
+        (is_ok result) }
+    ensures later { K.fault_count out.old ≤ K.fault_count out.new }
+    ensures error { IfErr result (λ e. (e ≡ SinkFault) ⊎ (e ≡ OutOfMemory)) }
+    ensures fault { IsErrOf result SinkFault
+        → Rose (K.fault_count out.old) (K.fault_count out.new) }
+{
+    for token in tokens(text) {
+        if let Err(stop) = put_token(out, waiting, token) {
+            return Err(stop);
+        }
+    }
+    Ok(())
+}
+
+/// The lines of a reply's tokens, if it has any.
+fn put_token_lines<K: Sink>(out: &mut K, waiting: &mut Vec<u8>, answer: &Reply) -> Result<(), Stop>
+    ensures text { Sends (K.taken out.old) (K.taken out.new)
+        (waiting.old.items ++ token_lines (reply answer.now)) waiting.new.items (is_ok result) }
+    ensures later { K.fault_count out.old ≤ K.fault_count out.new }
+    ensures error { IfErr result (λ e. (e ≡ SinkFault) ⊎ (e ≡ OutOfMemory)) }
+    ensures fault { IsErrOf result SinkFault
+        → Rose (K.fault_count out.old) (K.fault_count out.new) }
+{
+    match answer {
+        Reply::Tokens(text) => put_tokens(out, waiting, text.as_str()),
+        _ => Ok(()),
+    }
+}
+
+/// A reply: the lines of its tokens, and its last line.
+pub fn put_reply<K: Sink>(
+    alloc: Global,
+    out: &mut K,
+    waiting: &mut Vec<u8>,
+    session: u8,
+    answer: &Reply,
+) -> Result<(), Stop>
+    ensures text { Sends (K.taken out.old) (K.taken out.new)
+        (waiting.old.items ++ said session (reply answer.now)) waiting.new.items (is_ok result) }
+    ensures later { K.fault_count out.old ≤ K.fault_count out.new }
+    ensures error { IfErr result (λ e. (e ≡ SinkFault) ⊎ (e ≡ OutOfMemory)) }
+    ensures fault { IsErrOf result SinkFault
+        → Rose (K.fault_count out.old) (K.fault_count out.new) }
+{
+    if let Err(stop) = put_token_lines(out, waiting, answer) {
+        return Err(stop);
+    }
+    match last_line_of(alloc, session, answer) {
+        Ok(line) => put(out, waiting, &line),
+        Err(_) => Err(Stop::OutOfMemory),
+    }
 }

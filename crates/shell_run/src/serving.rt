@@ -12,11 +12,11 @@ ghost use Rattle.shell_run.specs.declared.error.Stop.TheVariants.{SinkFault, Out
 use crate::answers::answer;
 use crate::error::Stop;
 use crate::gate::Gate;
-use crate::sending::{flush, put};
+use crate::sending::{flush, put_reply};
 use crate::store::Store;
 use crate::turns::Turns;
 use disk_trait::{Disk, Sink};
-use shell_script::{Reply, cut_at, is_skipped, read_line, text_of, without_return};
+use shell_script::{Reply, cut_at, is_skipped, read_line, without_return};
 use std::alloc::Global;
 
 /// What a run keeps between two lines.
@@ -78,10 +78,7 @@ fn serve_line<K: Sink, D: Disk, G: Gate>(
     desk.turns.pass(gate, session);
     let reply = answer(alloc, &mut desk.store, disk, number, said.statement);
     desk.refused = either(desk.refused, is_refused(&reply));
-    match text_of(alloc, session, &reply) {
-        Ok(text) => put(out, &mut desk.waiting, &text),
-        Err(_) => Err(Stop::OutOfMemory),
-    }
+    put_reply(alloc, out, &mut desk.waiting, session, &reply)
 }
 
 /// The lines of a script, from the first on: whether a reply was a refusal.

@@ -13,7 +13,7 @@ use Rattle.ts_base.specs.Words.{EndsWord, BeginsWithWord}
 use Rattle.ts_base.proofs.ByteKinds.{blank_ascii}
 use Rattle.shell_script.specs.Tokens.{ScriptToken, word, quote, IsSpelled}
 use Rattle.shell_script.specs.Lines.{HasNo}
-use Rattle.shell_script.specs.Grammar.{Statement, insert, search, show, query, nothing, IsSession, HasSession, IsOpening, IsWrittenAs, IsStatement, Says, OpensBody, Continues, label, expr_tokens, body_tokens, statement_tokens}
+use Rattle.shell_script.specs.Grammar.{Statement, insert, search, show, query, parse, nothing, IsSession, HasSession, IsOpening, IsWrittenAs, IsStatement, Says, OpensBody, Continues, label, expr_tokens, body_tokens, statement_tokens}
 use Rattle.shell_script.specs.Inner.Said.{IsSaidBehind}
 use Rattle.shell_script.specs.Inner.Fronts.{IsNoQuote}
 use Rattle.shell_script.proofs.Front.{one_first_word}
@@ -55,10 +55,18 @@ show_letters = more 115 (codes "how") (omega arith) (omega arith) (more 104 (cod
 ask_letters : AreLetters (codes "ask")
 ask_letters = more 97 (codes "sk") (omega arith) (omega arith) (more 115 (codes "k") (omega arith) (omega arith) (more 107 [] (omega arith) (omega arith) none))
 
+parse_letters : AreLetters (codes "parse")
+parse_letters = more 112 (codes "arse") (omega arith) (omega arith) (more 97 (codes "rse") (omega arith) (omega arith) (more 114 (codes "se") (omega arith) (omega arith) (more 115 (codes "e") (omega arith) (omega arith) (more 101 [] (omega arith) (omega arith) none))))
+
 no_opening : (w : List ℕ) → nat_eq (get_or w 0 0) 100 ≡ false → nat_eq (get_or w 0 0) 99 ≡ false → nat_eq (get_or w 0 0) 112 ≡ false → IsOpening w → ⊥
 no_opening w d c p (inl e) = heads_differ w (codes "dictionary") d e
 no_opening w d c p (inr (inl e)) = heads_differ w (codes "configuration") c e
 no_opening w d c p (inr (inr e)) = heads_differ w (codes "parallel") p e
+
+parse_opens_nothing : IsOpening (codes "parse") → ⊥
+parse_opens_nothing (inl e) = heads_differ (codes "parse") (codes "dictionary") refl e
+parse_opens_nothing (inr (inl e)) = heads_differ (codes "parse") (codes "configuration") refl e
+parse_opens_nothing (inr (inr e)) = eqb-false 115 97 refl (ap (λ (x : List ℕ). get_or x 3 0) e)
 
 -- a statement's first token is a word
 record FirstToken (s : ℕ) (statement : Statement) : Type 0 where
@@ -78,6 +86,7 @@ first_token s (insert e) h = by_label s (insert e) h
 first_token s (search t) h = by_label s (search t) h
 first_token s (show e) h = subst (λ n. FirstToken n (show e)) (sym h) (record { first = codes "show"; others = expr_tokens e; tokens = refl; some = omega arith; letters = show_letters; no_body = no_opening (codes "show") refl refl refl })
 first_token s (query t) h = subst (λ n. FirstToken n (query t)) (sym h) (record { first = codes "ask"; others = quote t ∷ []; tokens = refl; some = omega arith; letters = ask_letters; no_body = no_opening (codes "ask") refl refl refl })
+first_token s (parse t) h = subst (λ n. FirstToken n (parse t)) (sym h) (record { first = codes "parse"; others = quote t ∷ []; tokens = refl; some = omega arith; letters = parse_letters; no_body = parse_opens_nothing })
 first_token s nothing h = absurd h
 
 pub words_same : (v w : List ℕ) (xs ys : List ScriptToken) → word v ∷ xs ≡ word w ∷ ys → (v ≡ w) × (xs ≡ ys)
@@ -156,6 +165,7 @@ says_statement within line s a w h = subst (λ b. Says b line s a) (sym w) (by a
     by (search t) k = k
     by (show e) k = k
     by (query t) k = k
+    by (parse t) k = k
     by nothing k = absurd k.session
 
 -- a line that opens no body

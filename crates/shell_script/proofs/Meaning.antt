@@ -1,11 +1,11 @@
 -- A line has one meaning.
 use Rattle.std.proofs.Common.{◌≡◌, ◌⊎◌, inl, inr, ℕ, ◌+◌, List, [], ◌∷◌, Bool, true, false, codes, arith, refl, sym, ◌∙◌}
 use Rattle.shell_script.specs.Tokens.{ScriptToken, word, quote}
-use Rattle.shell_script.specs.Grammar.{Statement, insert, show, query, nothing, IsSession, IsWrittenAs, IsStatement, Says, OpensBody, Continues, HasSession, label, expr_tokens, body_tokens, statement_tokens}
+use Rattle.shell_script.specs.Grammar.{Statement, insert, show, query, parse, nothing, IsSession, IsWrittenAs, IsStatement, Says, OpensBody, Continues, HasSession, label, expr_tokens, body_tokens, statement_tokens}
 use Rattle.shell_script.specs.Grammar.{search as finding}
 use Rattle.shell_script.specs.Inner.Said.{IsOfSession, IsPlain}
 use Rattle.shell_script.proofs.FirstTokens.{words_same}
-use Rattle.shell_script.proofs.Saying.{one_of_session, one_plain, label_or_show, label_or_ask, labelled_tokens, plain_tokens}
+use Rattle.shell_script.proofs.Saying.{one_of_session, one_plain, label_or_show, label_or_ask, label_or_parse, labelled_tokens, plain_tokens}
 use Rattle.shell_script.proofs.Spelling.{one_spelling}
 
 labels_same : (s t : ℕ) → label s ≡ label t → s ≡ t
@@ -20,12 +20,14 @@ stands s (insert e) h = inl (tt, h, labelled_tokens s (insert e) h)
 stands s (finding t) h = inl (tt, h, labelled_tokens s (finding t) h)
 stands s (show e) h = inr (tt, h, plain_tokens s (show e) h)
 stands s (query t) h = inr (tt, h, plain_tokens s (query t) h)
+stands s (parse t) h = inr (tt, h, plain_tokens s (parse t) h)
 stands s nothing h = absurd h
 
 -- a label begins no plain statement
 label_or_plain : (s : ℕ) (ts : List ScriptToken) (b : Statement) → IsPlain b → word (label s) ∷ ts ≡ body_tokens b → ⊥
 label_or_plain s ts (show e) h same = label_or_show s (words_same (label s) (codes "show") ts (expr_tokens e) same).0
 label_or_plain s ts (query x) h same = label_or_ask s (words_same (label s) (codes "ask") ts (quote x ∷ []) same).0
+label_or_plain s ts (parse x) h same = label_or_parse s (words_same (label s) (codes "parse") ts (quote x ∷ []) same).0
 label_or_plain s ts (insert e) h same = h
 label_or_plain s ts (finding x) h same = h
 label_or_plain s ts nothing h same = h
@@ -47,6 +49,7 @@ says line s (insert e) h = inl h
 says line s (finding t) h = inl h
 says line s (show e) h = inl h
 says line s (query t) h = inl h
+says line s (parse t) h = inl h
 says line s nothing h = inr (h.0, refl, h.1)
 
 one_statement : (line : List ℕ) (s t : ℕ) (a b : Statement) → IsStatement line s a → IsStatement line t b → (s ≡ t) × (a ≡ b)

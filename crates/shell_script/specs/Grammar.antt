@@ -42,6 +42,7 @@ pub data Statement : Type 0 where
   search : List ℕ → Statement
   show : Expr → Statement
   query : List ℕ → Statement
+  parse : List ℕ → Statement
   nothing : Statement
 
 -- the tokens of a statement, but for a session's label
@@ -50,6 +51,7 @@ body_tokens (insert e) = word (codes "insert") ∷ expr_tokens e
 body_tokens (search text) = word (codes "search") ∷ quote text ∷ []
 body_tokens (show e) = word (codes "show") ∷ expr_tokens e
 body_tokens (query text) = word (codes "ask") ∷ quote text ∷ []
+body_tokens (parse text) = word (codes "parse") ∷ quote text ∷ []
 body_tokens nothing = []
 
 -- the label of a session, where there is one
@@ -66,6 +68,7 @@ HasSession s (insert e) = IsSession s
 HasSession s (search text) = IsSession s
 HasSession s (show e) = s ≡ 0
 HasSession s (query text) = s ≡ 0
+HasSession s (parse text) = s ≡ 0
 HasSession s nothing = ⊥
 
 -- a text whose tokens are those of a statement

@@ -1,5 +1,6 @@
 -- The replies to statements.
 use Rattle.std.specs.Prelude.{ℕ, List}
+use Rattle.ts_parser.specs.declared.iter.Token.{Token}
 use Rattle.shell_script.specs.Name.{Name}
 
 -- What is at fault in a statement's text: refusals 2, 3 and 6 with the offset of the fault,
@@ -22,10 +23,11 @@ pub data Refusal : Type 0 where
   device : Refusal
   memory : Refusal
 
--- a vector or a query is shown by its text
+-- a vector or a query is shown by its text, and a text by its tokens
 pub data Reply : Type 0 where
   stored : Name → Reply
   lists : List Name → Reply
   shows_vector : List ℕ → Reply
   shows_query : List ℕ → Reply
+  shows_tokens : List Token → Reply
   refused : Refusal → Reply

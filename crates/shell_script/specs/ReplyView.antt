@@ -1,6 +1,7 @@
 -- Replies without where they lie in memory.
 use Rattle.std.specs.Prelude.{map}
 use Rattle.std.specs.String.{string_bytes}
+use Rattle.ts_parser.specs.TokensOf.{tokens_of}
 use Rattle.shell_script.specs.Name as names
 use Rattle.shell_script.specs.Replies as replies
 use Rattle.shell_script.specs.declared.replies.Name.{Name}
@@ -9,7 +10,7 @@ use Rattle.shell_script.specs.declared.replies.TextFault.TheVariants.{BadVector,
 use Rattle.shell_script.specs.declared.replies.Refusal.{Refusal}
 use Rattle.shell_script.specs.declared.replies.Refusal.TheVariants.{NoStatement, Text, StoreFull, LogFull, Down, Device, Memory}
 use Rattle.shell_script.specs.declared.replies.Reply.{Reply}
-use Rattle.shell_script.specs.declared.replies.Reply.TheVariants.{Stored, Lists, Vector, Query, Refused}
+use Rattle.shell_script.specs.declared.replies.Reply.TheVariants.{Stored, Lists, Vector, Query, Tokens, Refused}
 
 abbrev pub name : Name → names.Name
 name n = record { page = n.page; slot = n.slot; serial = n.serial }
@@ -35,4 +36,5 @@ reply (Stored n) = replies.stored (name n)
 reply (Lists names) = replies.lists (map name names.items)
 reply (Vector text) = replies.shows_vector (string_bytes text)
 reply (Query text) = replies.shows_query (string_bytes text)
+reply (Tokens text) = replies.shows_tokens (tokens_of (string_bytes text))
 reply (Refused why) = replies.refused (refusal why)

@@ -5,7 +5,7 @@ use Rattle.shell_script.specs.Grammar as grammar
 use Rattle.shell_script.specs.declared.statement.Part.{Part}
 use Rattle.shell_script.specs.declared.statement.Expr.{Expr}
 use Rattle.shell_script.specs.declared.statement.Statement.{Statement}
-use Rattle.shell_script.specs.declared.statement.Statement.TheVariants.{Insert, Search, Show, Query, Nothing}
+use Rattle.shell_script.specs.declared.statement.Statement.TheVariants.{Insert, Search, Show, Query, Parse, Nothing}
 
 abbrev pub part : Part → grammar.Part
 part p = record { stripped = p.stripped; text = string_bytes p.text }
@@ -18,4 +18,5 @@ statement (Insert e) = grammar.insert (expr e)
 statement (Search text) = grammar.search (string_bytes text)
 statement (Show e) = grammar.show (expr e)
 statement (Query text) = grammar.query (string_bytes text)
+statement (Parse text) = grammar.parse (string_bytes text)
 statement Nothing = grammar.nothing

@@ -1,10 +1,12 @@
 -- The text of each reply.
 use Rattle.std.specs.Prelude.{ℕ, zero, suc, List, [], ◌∷◌, ◌++◌, codes, decimal, Option, Some, None}
 use Rattle.std.specs.List.{flat_map}
+use Rattle.ts_parser.specs.declared.iter.Token.{Token}
+use Rattle.ts_parser.specs.Kinds.{type_number}
 use Rattle.shell_script.specs.Name.{Name}
 use Rattle.shell_script.specs.Replies.{TextFault, bad_vector, bad_query, long_lexeme, large_vector, large_query}
 use Rattle.shell_script.specs.Replies.{Refusal, no_statement, text_refused, store_full, log_full, down, device, memory}
-use Rattle.shell_script.specs.Replies.{Reply, stored, lists, shows_vector, shows_query, refused}
+use Rattle.shell_script.specs.Replies.{Reply, stored, lists, shows_vector, shows_query, shows_tokens, refused}
 
 abbrev pub name_text : Name → List ℕ
 name_text n = decimal n.page ++ codes "/" ++ decimal n.slot ++ codes "#" ++ decimal n.serial
@@ -68,8 +70,24 @@ reply_text (stored name) = codes "ok " ++ name_text name
 reply_text (lists names) = codes "found" ++ flat_map (λ (n : Name). codes " " ++ name_text n) names
 reply_text (shows_vector text) = codes "vector" ++ behind_space text
 reply_text (shows_query text) = codes "query" ++ behind_space text
+reply_text (shows_tokens tokens) = codes "ok"
 reply_text (refused why) = codes "error " ++ refusal_text why
 
--- one line for a reply
+-- the line of a token: its type's number, the offset at which it starts, and its length
+abbrev pub token_line : Token → List ℕ
+token_line t =
+    codes "token " ++ (decimal (type_number t.kind) ++ (codes " " ++ (decimal t.start
+    ++ (codes " " ++ (decimal t.length ++ codes "\n")))))
+
+-- the lines of tokens stand before the line that says what a reply says
+abbrev pub token_lines : Reply → List ℕ
+token_lines (shows_tokens tokens) = flat_map token_line tokens
+token_lines reply = []
+
+-- the last line of a reply
+abbrev pub last_line : ℕ → Reply → List ℕ
+last_line session reply = label_text session ++ (reply_text reply ++ codes "\n")
+
+-- all that is printed of a reply
 abbrev pub said : ℕ → Reply → List ℕ
-said session reply = label_text session ++ (reply_text reply ++ codes "\n")
+said session reply = token_lines reply ++ last_line session reply

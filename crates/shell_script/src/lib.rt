@@ -12,4 +12,4 @@ pub use laws::{one_meaning, one_spelling};
 pub use line::{cut_at, is_skipped, without_return};
 pub use replies::{Name, Refusal, Reply, TextFault};
 pub use statement::{Expr, Part, ScriptLine, Statement, read_line};
-pub use texts::text_of;
+pub use texts::{last_line_of, push_token};

@@ -59,7 +59,7 @@ impl From<AllocError> for Refusal {
     }
 }
 
-/// What a statement is answered; a vector or a query by its text.
+/// What a statement is answered; a vector or a query by its text, tokens by the text that has them.
 #[derive(Debug, Drop)]
 pub enum Reply {
     /// The document was stored under this name.
@@ -70,6 +70,8 @@ pub enum Reply {
     Vector(String),
     /// The query that was asked for.
     Query(String),
+    /// The tokens of this text.
+    Tokens(String),
     /// The statement was refused.
     Refused(Refusal),
 }

@@ -43,6 +43,8 @@ pub enum Statement {
     Show(Expr),
     /// The printed form of a query is asked for.
     Query(String),
+    /// The tokens of a text are asked for.
+    Parse(String),
     /// The line is no statement.
     Nothing,
 }
@@ -200,6 +202,9 @@ fn plain_statement(alloc: Global, first: &[u8], rest: &str) -> Result<Option<Sta
     if is_word(first, "ask") {
         return Ok(quote_of(alloc, rest)?.map(Statement::Query));
     }
+    if is_word(first, "parse") {
+        return Ok(quote_of(alloc, rest)?.map(Statement::Parse));
+    }
     Ok(None)
 }
 
@@ -256,7 +261,7 @@ pub fn read_line(alloc: Global, within: bool, line: &[u8]) -> Result<ScriptLine,
 mod tests {
     use super::*;
 
-    const ASKING: [(&str, &str); 8] = [
+    const ASKING: [(&str, &str); 9] = [
         (
             "@1 insert strip vector 'a' || vector 'b:1'",
             r#"ScriptLine { session: 1, statement: Insert(Expr { first: Part { stripped: true, text: "a" }, others: [Part { stripped: false, text: "b:1" }] }), within: false }"#,
@@ -272,6 +277,10 @@ mod tests {
         (
             "ask 'a & b'",
             r#"ScriptLine { session: 0, statement: Query("a & b"), within: false }"#,
+        ),
+        (
+            "parse\t'a b' ",
+            r#"ScriptLine { session: 0, statement: Parse("a b"), within: false }"#,
         ),
         (
             "ask ''''",
@@ -291,7 +300,7 @@ mod tests {
         ),
     ];
 
-    const NO_STATEMENTS: [&[u8]; 36] = [
+    const NO_STATEMENTS: [&[u8]; 38] = [
         b"",
         b" \t",
         b"@1",
@@ -327,6 +336,8 @@ mod tests {
         b"@1 search a",
         b"@1 search strip vector 'a'",
         b"ask 'a' 'b'",
+        b"@1 parse 'a'",
+        b"parse vector 'a'",
         b"ask '\xff'",
     ];
 

@@ -2,12 +2,13 @@
 ghost use Rattle.std.specs.Prelude.{◌≡◌, List, [], ◌∷◌, ◌++◌, IfOk, OnOk, codes, decimal, map};
 ghost use Rattle.std.specs.List.{flat_map};
 ghost use Rattle.shell_script.specs.ReplyView.{name, text_fault, refusal, reply};
-ghost use Rattle.shell_script.specs.Texts.{name_text, label_text, behind_space, refusal_text, reply_text, said};
+ghost use Rattle.shell_script.specs.Texts.{name_text, label_text, behind_space, refusal_text, reply_text, token_line, last_line};
 ghost use Rattle.shell_script.specs.Texts.{fault_words as words_of_fault, fault_detail as detail_of_fault, refusal_words as words_of, refusal_detail as detail_of};
 
 use crate::replies::{Name, Refusal, Reply, TextFault};
 use itoa::Buffer;
 use std::alloc::{AllocError, Global};
+use ts_parser::Token;
 
 /// A number in decimal.
 fn push_number(text: &mut Vec<u8>, n: u64) -> Result<(), AllocError>
@@ -151,6 +152,7 @@ fn push_reply(text: &mut Vec<u8>, answer: &Reply) -> Result<(), AllocError>
             text.extend_from_slice(b"query")?;
             push_shown(text, shown.as_str())
         }
+        Reply::Tokens(_) => text.extend_from_slice(b"ok"),
         Reply::Refused(why) => {
             text.extend_from_slice(b"error ")?;
             push_refusal(text, why)
@@ -158,9 +160,22 @@ fn push_reply(text: &mut Vec<u8>, answer: &Reply) -> Result<(), AllocError>
     }
 }
 
-/// The line that a reply prints.
-pub fn text_of(alloc: Global, session: u8, answer: &Reply) -> Result<Vec<u8>, AllocError>
-    ensures { IfOk result (λ text. text.items ≡ said session (reply answer.now)) }
+/// Puts the line of a token behind a text. Such lines stand before the last line of a reply.
+pub fn push_token(text: &mut Vec<u8>, token: Token) -> Result<(), AllocError>
+    ensures { OnOk result (text.new.items ≡ text.old.items ++ token_line token) }
+{
+    text.extend_from_slice(b"token ")?;
+    push_number(text, u64::from(token.kind.number()))?;
+    text.extend_from_slice(b" ")?;
+    push_number(text, token.start as u64)?;
+    text.extend_from_slice(b" ")?;
+    push_number(text, token.length as u64)?;
+    text.extend_from_slice(b"\n")
+}
+
+/// The last line of a reply, which is all of it where it has no tokens.
+pub fn last_line_of(alloc: Global, session: u8, answer: &Reply) -> Result<Vec<u8>, AllocError>
+    ensures { IfOk result (λ text. text.items ≡ last_line session (reply answer.now)) }
 {
     let mut text = Vec::new(alloc);
     push_label(&mut text, session)?;

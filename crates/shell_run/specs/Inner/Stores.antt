@@ -13,7 +13,7 @@ use Rattle.ts_base.specs.Spelling.{vector_bytes}
 use Rattle.shell_run.specs.Inner.Logs.{PutsEntry}
 use Rattle.ts_query.specs.Queries.{Query}
 use Rattle.ts_query.specs.Refusals.{IsReadAs}
-use Rattle.shell_script.specs.Grammar.{Statement, insert, search, show, query, nothing}
+use Rattle.shell_script.specs.Grammar.{Statement, insert, search, show, query, parse, nothing}
 use Rattle.shell_script.specs.Name as names
 use Rattle.shell_run.specs.History.{name_of, Document, History, insertion, inserts, room, IsFound}
 use Rattle.shell_run.specs.Entries.{document_bytes}
@@ -23,7 +23,7 @@ use Rattle.shell_run.specs.Inner.Refusing.{stored_reply, found_reply}
 use Rattle.shell_script.specs.declared.replies.Name.{Name}
 use Rattle.shell_run.specs.declared.error.StoreError.{StoreError}
 use Rattle.shell_run.specs.declared.error.StoreError.TheVariants.{Full, LogFull, Down, Device, Memory}
-use Rattle.shell_run.specs.Values.{IsValueOf, ExprFails, QueryFails, IsRefusedBy, IsShown, IsQueried}
+use Rattle.shell_run.specs.Values.{IsValueOf, ExprFails, QueryFails, IsRefusedBy, IsShown, IsQueried, IsParsed}
 use Rattle.shell_run.specs.declared.store.Store.{Store}
 
 -- the documents of vectors that stand from a place on
@@ -134,5 +134,6 @@ module _ {D : Type 0} (device : Disk D) where
       ⊎ ((q : Query) × IsReadAs text q × ((answer : Result (Vec Name Global) StoreError) × Rests old new disk disk' × IsFoundBy old q answer × (r ≡ found_reply answer)))
   HasAnswered line old new disk disk' (show e) r = HasOnlyAnswered old new disk disk' (IsShown e) r
   HasAnswered line old new disk disk' (query text) r = HasOnlyAnswered old new disk disk' (IsQueried text) r
+  HasAnswered line old new disk disk' (parse text) r = HasOnlyAnswered old new disk disk' (IsParsed text) r
   HasAnswered line old new disk disk' nothing (refused (no_statement at)) = Rests old new disk disk' × (at ≡ line)
   HasAnswered line old new disk disk' nothing r = ⊥

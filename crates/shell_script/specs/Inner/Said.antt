@@ -2,7 +2,7 @@
 use Rattle.std.specs.Prelude.{◌≡◌, ℕ, List, ◌∷◌}
 use Rattle.std.specs.Str.{IsUtf8}
 use Rattle.shell_script.specs.Tokens.{ScriptToken, word, IsSpelled}
-use Rattle.shell_script.specs.Grammar.{Statement, insert, search, show, query, HasSession, body_tokens, statement_tokens}
+use Rattle.shell_script.specs.Grammar.{Statement, insert, search, show, query, parse, HasSession, body_tokens, statement_tokens}
 
 -- the statements that a session's label stands before
 abbrev pub IsOfSession : Statement → Type 0
@@ -14,6 +14,7 @@ IsOfSession statement = ⊥
 abbrev pub IsPlain : Statement → Type 0
 IsPlain (show e) = Unit {0}
 IsPlain (query text) = Unit {0}
+IsPlain (parse text) = Unit {0}
 IsPlain statement = ⊥
 
 -- the body of such a statement is this word and the tokens of what stands behind it

@@ -1,8 +1,6 @@
-use Rattle.std.proofs.Common.{inl, ◌∙◌, ap, arith, false, ◌||◌, ◌++◌}
+use Rattle.std.proofs.Common.{inl, ◌∙◌, ap, arith, ◌||◌}
 use Rattle.shell_script.specs.StatementView.{statement}
 use Rattle.shell_script.specs.ReplyView.{reply}
-use Rattle.shell_script.specs.Texts.{said}
-use Rattle.shell_run.proofs.Streams.{puts_start, puts_at_stop}
 use Rattle.shell_run.proofs.serving.serve_line.Goals as goal
 
 pub returns-clause-served : goal.returns-clause-served
@@ -14,6 +12,6 @@ returns-clause-served g c = inl (record {
   says = c.in_ok-said.ensures.says;
   continues = c.in_ok-said.ensures.continues;
   answered = c.answer-reply.ensures;
-  text = puts_at_stop _ _ _ _ _ (puts_start (g.K.Sink.taken c.args.out.now) (c.args.desk.now.waiting.items ++ said c.in_ok-said.said.session (reply c.answer-reply.result)) false);
+  text = c.put_reply.ensures.text;
   flag = c.either-desk.ensures ∙ ap (λ b. c.args.desk.now.refused || b) c.is_refused.ensures;
 })
