@@ -1,0 +1,4 @@
+pub mod Mappings
+pub mod Placing
+pub mod Within
+pub mod Names
