@@ -6,6 +6,7 @@ use Rattle.std.specs.Option.{option_map}
 use Rattle.std.specs.Map.{lookup, keys_of}
 use Rattle.std.specs.declared.alloc.Global.{Global}
 use Rattle.std.proofs.lemmas.Slice.Eq.{bytes_eq-Decides}
+use Rattle.std.proofs.lemmas.Bool.{true≢false}
 use Rattle.std.proofs.lemmas.List.Folds.{Any-from_list_any, list_any-from_Any}
 use Rattle.std.proofs.lemmas.List.{length-map, map-append}
 use Rattle.std.proofs.lemmas.List.Elements.{All-head, All-tail}
@@ -157,3 +158,7 @@ any_here P names i d l p = (i, string_bytes (get_or names i d), omega (arith, l,
     got [] j e k = absurd (omega (arith, k))
     got (n ∷ ns) zero e k = refl
     got (n ∷ ns) (suc j) e k = got ns j e (omega (arith, k))
+
+-- a name that isn't found isn't there
+pub absent : (name : List ℕ) (es : List (String Global × Mapping)) → None ≡ lookup (λ k. bytes_eq name (string_bytes k)) es → ¬ Any (λ c. c.name ≡ name) (map named_mapping es)
+absent name es e h = true≢false (sym (named_any (λ (c : NamedMapping). c.name) name (map named_mapping es) h) ∙ sym (mapping_key name es) ∙ ap is_some (sym e))

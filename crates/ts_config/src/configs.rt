@@ -1,9 +1,12 @@
 // Dictionaries and configurations by name.
-ghost use Rattle.std.specs.Prelude.{◌≡◌, ◌<◌, ◌↔◌, length, IfOk, IfErr, OnOk, IfSome, IsSome, option_copied};
+ghost use Rattle.std.specs.Prelude.{◌≡◌, ◌<◌, ◌≤◌, ◌↔◌, length, map, IfOk, IfErr, OnOk, IfSome, IsSome, MatchOption, option_copied, string_bytes};
+ghost use Rattle.std.specs.List.{Any};
 ghost use Rattle.std.specs.Option.{option_map};
+ghost use Rattle.ts_base.specs.Dictionary.{answer_value};
+ghost use Rattle.ts_config.specs.Answers.{answer_at as dictionary_answer};
 ghost use Rattle.ts_config.specs.Rules.{rules_of};
 ghost use Rattle.ts_config.specs.Mappings.{empty_mapping};
-ghost use Rattle.ts_config.specs.Known.{first_known, HasDictionary, HasConfiguration, place_of, rules_named, mapping_named, IsWithin, AddsDictionary, AddsConfiguration, RefusesDictionary, RefusesConfiguration};
+ghost use Rattle.ts_config.specs.Known.{first_known, HasDictionary, HasConfiguration, place_of, rules_named, mapping_named, ArePlaces, IsWithin, AddsDictionary, AddsConfiguration, AddsMapping, RefusesDictionary, RefusesConfiguration, RefusesMapping};
 
 use crate::config::Config;
 use crate::dictionaries::AnyDictionary;
@@ -11,6 +14,7 @@ use crate::error::ConfigError;
 use indexmap::IndexMap;
 use std::alloc::{AllocError, Global};
 use std::marker::Model;
+use ts_base::{Answer, Dictionary, LONGEST_LEXEME};
 use ts_parser::TokenType;
 use ts_words::{Simple, StopList};
 
@@ -156,5 +160,63 @@ impl Configs {
     {
         let config = Config::empty(alloc)?;
         self.put_configuration(alloc, name, config)
+    }
+
+    /// The places of the dictionaries of these names; none where one of them isn't there.
+    fn places(&self, alloc: Global, names: &[String]) -> Result<Option<Vec<usize>>, AllocError>
+        ensures { IfOk result (λ r. MatchOption r
+            (Any (λ name. ¬ HasDictionary self.now name) (map string_bytes names.now))
+            (λ places. ArePlaces self.now (map string_bytes names.now) places.items)) }
+    {
+        let mut places = Vec::new(alloc);
+        for name in names {
+            match self.place(name.as_str()) {
+                Some(place) => places.push(place)?,
+                None => return Ok(None),
+            }
+        }
+        Ok(Some(places))
+    }
+
+    /// Gives a type of tokens the dictionaries of these names, in place of those that it had in the
+    /// configuration. After a refusal nothing has changed.
+    pub fn add_mapping(
+        &mut self,
+        alloc: Global,
+        name: &str,
+        kind: TokenType,
+        dictionaries: &[String],
+    ) -> Result<(), ConfigError>
+        requires { HasConfiguration self.old name.now }
+        ensures added { OnOk result
+            (AddsMapping self.old name.now kind (map string_bytes dictionaries.now) self.new) }
+        ensures refused { IfErr result (λ e.
+            RefusesMapping self.old (map string_bytes dictionaries.now) e × (self.new ≡ self.old)) }
+    {
+        let Some(places) = self.places(alloc, dictionaries)? else {
+            return Err(ConfigError::UnknownDictionary);
+        };
+        if let Some(config) = self.configurations.get_mut(name) {
+            config.set(kind, places);
+        }
+        Ok(())
+    }
+
+    /// What the dictionary at a place knows of a word.
+    pub(crate) fn answer_at(
+        &self,
+        alloc: Global,
+        place: usize,
+        word: &str,
+    ) -> Result<Answer, AllocError>
+        requires within { place < length self.now.dictionaries }
+        requires some { 1 ≤ length word.now }
+        requires most { length word.now ≤ LONGEST_LEXEME }
+        ensures { IfOk result (λ a. answer_value a ≡ dictionary_answer self.now place word.now) }
+    {
+        match self.dictionaries.get_index(place) {
+            Some((_, dictionary)) => dictionary.lexize(alloc, word),
+            None => Ok(Answer::Unknown),
+        }
     }
 }

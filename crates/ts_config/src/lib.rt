@@ -17,3 +17,4 @@ pub use placed::Placed;
 
 /// How many types of tokens there are.
 pub const TYPES: usize = 15;
+
