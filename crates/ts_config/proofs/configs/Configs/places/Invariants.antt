@@ -1,0 +1,7 @@
+use Rattle.std.proofs.Common.{map, take}
+use Rattle.std.specs.Prelude.{string_bytes}
+use Rattle.ts_config.specs.Known.{ArePlaces}
+use Rattle.ts_config.proofs.configs.Configs.places.Given as goal
+
+abbrev pub invariant-loop-name : goal.invariant-loop-name
+invariant-loop-name l = ArePlaces l.self (map string_bytes (take l.name-index l.names)) l.places.items

@@ -1,0 +1,6 @@
+pub mod Rules
+pub mod Mappings
+pub mod Known
+pub mod Answers
+pub mod Placing
+pub mod Inner
