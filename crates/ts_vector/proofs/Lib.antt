@@ -18,3 +18,4 @@ pub mod Fields
 pub mod Decoding
 pub mod Told
 pub mod OneAnswer
+pub mod ColumnFacts

@@ -6,3 +6,4 @@ pub mod CappedForm
 pub mod Fields
 pub mod Over
 pub mod Told
+pub mod Columns

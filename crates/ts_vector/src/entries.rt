@@ -5,7 +5,8 @@ ghost use Rattle.ts_vector.specs.ItemEntries.{item_entries};
 ghost use Rattle.ts_vector.specs.Pairs.{pairs_of};
 ghost use Rattle.ts_vector.specs.Inner.Steps.{IsWritten};
 
-use crate::spelled::{Entries, Positions};
+use crate::columns::Columns;
+use crate::spelled::{Positions, VectorBytes};
 use std::alloc::{AllocError, Global};
 use ts_base::{Lexeme, Position};
 
@@ -55,18 +56,27 @@ fn from_places(alloc: Global, places: Positions<'_>) -> Result<Vec<Position>, Al
     Ok(positions)
 }
 
-/// The items of a spelling's entries.
-pub fn from_entries(alloc: Global, entries: Entries<'_>) -> Result<Vec<Item>, AllocError>
-    ensures { IfOk result (λ items. item_entries items.items ≡ entries.entry) }
+/// A spelling's entries, in memory.
+pub fn from_entries(alloc: Global, spelled: &VectorBytes<'_>) -> Result<Columns, AllocError>
+    ensures { IfOk result (λ columns. columns ≡ spelled.now) }
 {
-    let mut items = Vec::new(alloc);
-    for entry in entries {
-        let text = String::from_str(alloc, entry.lexeme())?;
+    let mut columns = Columns::new(alloc);
+    let (lexemes, positions) = spelled.lengths();
+    columns.reserve(spelled.count(), lexemes, positions)?;
+    for entry in spelled.entries() {
         let positions = from_places(alloc, entry.positions())?;
-        items.push(Item {
-            lexeme: Lexeme::from_string(text),
-            positions,
-        })?;
+        columns.push(entry.lexeme().as_bytes(), positions.as_slice())?;
     }
-    Ok(items)
+    Ok(columns)
+}
+
+/// Items in memory without a block for each.
+pub fn from_items(alloc: Global, items: &[Item]) -> Result<Columns, AllocError>
+    ensures { IfOk result (λ columns. columns ≡ item_entries items.now) }
+{
+    let mut columns = Columns::new(alloc);
+    for item in items {
+        columns.push(item.lexeme.as_str().as_bytes(), item.positions.as_slice())?;
+    }
+    Ok(columns)
 }

@@ -228,6 +228,18 @@ impl<'a> VectorBytes<'a> {
         self.count
     }
 
+    /// How many bytes its lexemes have together, and how many positions there are.
+    pub(crate) fn lengths(&self) -> (usize, usize) {
+        let mut positions: usize = 0;
+        for entry in self.entries() {
+            positions = positions.saturating_add(entry.positions().len());
+        }
+        let others = positions
+            .saturating_add(self.count.saturating_mul(2))
+            .saturating_mul(2);
+        (self.entries.len().saturating_sub(others), positions)
+    }
+
     /// The entries, in the order of their lexemes.
     pub fn entries(&self) -> Entries<'a>
         ensures { result ≡ self.now }

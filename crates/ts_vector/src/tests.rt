@@ -178,7 +178,7 @@ fn least_positions(rt: HostRuntime) -> Result<(), Fail> {
     items.push((Lexeme::new(alloc, "a")?, positions))?;
     let v = TsVector::build(alloc, items)?;
     assert!(rt; v.count() == 1);
-    assert_eq!(rt; v.lexeme(0).as_str(), "a");
+    assert_eq!(rt; v.lexeme(0), "a");
     assert_eq!(rt; v.positions(0).len(), 256);
     assert_eq!(rt; v.positions(0).last(), Some(&Position::new(256, Weight::D)));
     Ok(())
