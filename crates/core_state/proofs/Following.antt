@@ -14,7 +14,7 @@ use Rattle.core_state.specs.Legal.{IsRow, RowsAreValid}
 use Rattle.core_state.specs.States.{Transaction, StateValue, fate_at, with_fate, all_ended, uses_after, transaction, without, replaced, begun, committed, aborted, ended_all, placed_head, last_serial, step_of, state_of, names}
 use Rattle.core_state.specs.declared.answers.Fate.{Fate}
 use Rattle.core_state.specs.declared.answers.Fate.TheVariants.{Unused, Running, Aborted, Committed}
-use Rattle.core_state.proofs.Transactions.{same_or_other, on_same, on_other, is_other, with_fate_at, length-with_fate, past_fate, begun_at, joined_at, without_at, replaced_at, HaveBegun, ended_by, all_ended_at, length-all_ended}
+use Rattle.core_state.proofs.Transactions.{same_or_other, on_same, on_other, is_same, is_other, with_fate_at, length-with_fate, past_fate, begun_at, joined_at, without_at, replaced_at, HaveBegun, ended_by, all_ended_at, length-all_ended}
 
 -- what transaction x has done so far
 abbrev pub work : Log → ℕ → Transaction
@@ -138,22 +138,31 @@ ends_none R s x y f k off u = elim (same_or_other x y) [
 commit_kept : (R : Log) (s : StateValue) (n x : ℕ) (cs : List Change) → n ≡ suc (length R) → fate R x ≡ Running → Kept R s
     → Kept (rec_of n x (kind.Commit (suc (commits R))) cs ∷ R) (step_of (rec_of n x (kind.Commit (suc (commits R))) cs) s)
 commit_kept R s n x cs number runs k =
-    let kept : Kept (rec_of n x (kind.Commit (suc (commits R))) cs ∷ R) (committed (Some (work R x)) (before n cs s)) = record {
+    let c : ℕ = suc (commits R) in
+    let s1 : StateValue = before n cs s in
+    let s' : StateValue = record s1 {
+      fates = with_fate x (Committed c) s.fates;
+      deleted = s.deleted ++ map name_of (marked R x) ∷ [];
+      inserted = s.inserted ++ map name_of (placed R x) ∷ [];
+      running = without x s.running;
+    } in
+    let kept : Kept (rec_of n x (kind.Commit c) cs ∷ R) s' = record {
       records = number;
-      fates = λ y. with_fate_at s.fates x y (Committed (suc (length s.deleted))) (has_begun R s x k runs)
-          ∙ ap₂ (λ (c : ℕ) (f : Fate). cond (x == y) (Committed (suc c)) f) k.commits_are (k.fates y);
-      next_xid_is = ap suc (length-with_fate s.fates x (Committed (suc (length s.deleted)))) ∙ k.next_xid_is;
+      fates = λ y. with_fate_at s.fates x y (Committed c) (has_begun R s x k runs) ∙ ap (cond (x == y) (Committed c)) (k.fates y);
+      next_xid_is = ap suc (length-with_fate s.fates x (Committed c)) ∙ k.next_xid_is;
       next_serial_is = k.next_serial_is;
       redo_is = k.redo_is;
       commits_are = omega (arith, length-append s.deleted (map name_of (marked R x) ∷ []), k.commits_are);
-      running = λ y. ends_running R s x y (Committed (suc (commits R))) k (λ t. refl);
-      none_before = λ y u. ends_none R s x y (Committed (suc (commits R))) k (λ e. cc) u;
+      running = λ y. ends_running R s x y (Committed c) k (λ t. refl);
+      none_before = λ y u. ends_none R s x y (Committed c) k (λ e. cc) u;
       deleted = λ H h. ap₂ (λ (a : List (List Name)) (b : List Name). a ++ b ∷ []) (k.deleted h.0 h.2) (sym h.3.deleted)
           ∙ sym (map-append (λ (c : Commit). c.deleted) h.0 (h.1 ∷ [])) ∙ sym (ap (map (λ (c : Commit). c.deleted)) h.4);
       inserted = λ H h. ap₂ (λ (a : List (List Name)) (b : List Name). a ++ b ∷ []) (k.inserted h.0 h.2) (inserted_names h.3.pages (placed R x) h.1.inserted h.3.inserted)
           ∙ sym (map-append (λ (c : Commit). names c.inserted) h.0 (h.1 ∷ [])) ∙ sym (ap (map (λ (c : Commit). names c.inserted)) h.4);
     } in
-    subst (λ o. Kept (rec_of n x (kind.Commit (suc (commits R))) cs ∷ R) (committed o (before n cs s))) (sym (found_work R s x k runs)) kept
+    let tested : Kept (rec_of n x (kind.Commit c) cs ∷ R) (committed c (Some (work R x)) s1) =
+    subst (λ b. Kept (rec_of n x (kind.Commit c) cs ∷ R) (if b then s' else s1)) (sym (is_same c (suc (length s.deleted)) (ap suc (sym k.commits_are)))) kept in
+    subst (λ o. Kept (rec_of n x (kind.Commit c) cs ∷ R) (committed c o s1)) (sym (found_work R s x k runs)) tested
 
 -- abort
 not_zero : (R : Log) (s : StateValue) (x : ℕ) → Kept R s → fate R x ≡ Running → x ≢ 0

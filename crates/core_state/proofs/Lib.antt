@@ -8,3 +8,4 @@ pub mod Following
 pub mod Uses
 pub mod StateTold
 pub mod Worked
+pub mod WorkedMore

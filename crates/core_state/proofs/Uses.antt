@@ -158,9 +158,13 @@ row_written R P Q r floor since p (IsRow.place_head x) i = elim (written_at Q (c
 ]
 
 -- only changes turn uses
-committed_uses : (o : Option Transaction) (s : StateValue) → (committed o s).uses ≡ s.uses
-committed_uses None s = refl
-committed_uses (Some t) s = refl
+either_uses : (b : Bool) (s t : StateValue) → t.uses ≡ s.uses → (if b then t else s).uses ≡ s.uses
+either_uses true s t e = e
+either_uses false s t e = refl
+
+committed_uses : (n : ℕ) (o : Option Transaction) (s : StateValue) → (committed n o s).uses ≡ s.uses
+committed_uses n None s = refl
+committed_uses n (Some t) s = either_uses (n == suc (length s.deleted)) s _ refl
 
 aborted_uses : (o : Option Transaction) (s : StateValue) → (aborted o s).uses ≡ s.uses
 aborted_uses None s = refl
@@ -169,10 +173,6 @@ aborted_uses (Some t) s = refl
 marked_uses : (o : Option Transaction) (d : Doc) (s : StateValue) → (marked_head o d s).uses ≡ s.uses
 marked_uses None d s = refl
 marked_uses (Some t) d s = refl
-
-either_uses : (b : Bool) (s t : StateValue) → t.uses ≡ s.uses → (if b then t else s).uses ≡ s.uses
-either_uses true s t e = e
-either_uses false s t e = refl
 
 placed_uses : (o : Option Transaction) (d : Doc) (s : StateValue) → (placed_head o d s).uses ≡ s.uses
 placed_uses None d s = refl
@@ -184,7 +184,7 @@ ended_uses false o s = aborted_uses o s
 
 stepped_uses : (k : Kind) (x : ℕ) (ps : List ℕ) (s : StateValue) → (stepped k x ps s).uses ≡ s.uses
 stepped_uses kind.Begin x ps s = either_uses ((x == suc (length s.fates)) && nat_lt x xid_bound) s _ refl
-stepped_uses (kind.Commit n) x ps s = committed_uses (transaction x s.running) s
+stepped_uses (kind.Commit n) x ps s = committed_uses n (transaction x s.running) s
 stepped_uses kind.Abort x ps s = ended_uses (x == 0) (transaction x s.running) s
 stepped_uses (kind.PlaceHead item serial) x ps s = placed_uses (transaction x s.running) _ s
 stepped_uses (kind.MarkDeleted item serial) x ps s = marked_uses (transaction x s.running) _ s

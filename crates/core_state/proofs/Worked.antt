@@ -51,23 +51,23 @@ first_entry = record { lexeme = cat; positions = place 1 ∷ [] }
 abbrev second_entry : Entry
 second_entry = record { lexeme = fat; positions = place 2 ∷ [] }
 
-abbrev vector : Vector
+abbrev pub vector : Vector
 vector = first_entry ∷ second_entry ∷ []
 
-abbrev bytes : List ℕ
+abbrev pub bytes : List ℕ
 bytes = 2 ∷ 0 ∷ 0 ∷ 0 ∷ 3 ∷ 0 ∷ 99 ∷ 97 ∷ 116 ∷ 1 ∷ 0 ∷ 1 ∷ 0 ∷ 3 ∷ 0 ∷ 102 ∷ 97 ∷ 116 ∷ 1 ∷ 0 ∷ 2 ∷ 0 ∷ []
 
 -- the pages that the records leave
-abbrev meta_page : Page
+abbrev pub meta_page : Page
 meta_page = record { right = 0; stamp = 1; body = body.Meta 0 0 0 }
 
-abbrev root_page : Page
+abbrev pub root_page : Page
 root_page = record { right = 0; stamp = 1; body = body.EntryLeaf [] [] }
 
-abbrev head : ℕ → Head
+abbrev pub head : ℕ → Head
 head xid = record { serial = 1; inserted_by = xid; deleted_by = 0; overflow = 0; private = 0; bytes = 22; vector = bytes }
 
-abbrev heap_page : ℕ → Page
+abbrev pub heap_page : ℕ → Page
 heap_page xid = record { right = 0; stamp = 3; body = body.Heap (Some (head xid) ∷ []) }
 
 heap_bytes : page_bytes (heap_page 1) ≡ (2 ∷ 0 ∷ 1 ∷ 0 ∷ 0 ∷ 0 ∷ 0 ∷ 0 ∷ 3 ∷ 0 ∷ 0 ∷ 0 ∷ 0 ∷ 0 ∷ 0 ∷ 0 ∷ 51 ∷ 0 ∷ 0 ∷ 0 ∷ 0 ∷ 0 ∷ 0 ∷ 0 ∷ 1 ∷ 1 ∷ 0 ∷ 0 ∷ 0 ∷ 0 ∷ 0 ∷ 0 ∷ 0 ∷ 1 ∷ 0 ∷ 0 ∷ 0 ∷ 0 ∷ 0 ∷ 0 ∷ 0 ∷ 0 ∷ 0 ∷ 0 ∷ 0 ∷ 0 ∷ 0 ∷ 0 ∷ 0 ∷ 22 ∷ 0 ∷ 0 ∷ 0 ∷ 2 ∷ 0 ∷ 0 ∷ 0 ∷ 3 ∷ 0 ∷ 99 ∷ 97 ∷ 116 ∷ 1 ∷ 0 ∷ 1 ∷ 0 ∷ 3 ∷ 0 ∷ 102 ∷ 97 ∷ 116 ∷ 1 ∷ 0 ∷ 2 ∷ 0 ∷ []) ++ replicate 8117 0
@@ -79,14 +79,14 @@ made zero = meta_page
 made (suc zero) = root_page
 made (suc (suc p)) = free_page
 
-abbrev placed_by : ℕ → Pages
+abbrev pub placed_by : ℕ → Pages
 placed_by xid zero = meta_page
 placed_by xid (suc zero) = root_page
 placed_by xid (suc (suc zero)) = heap_page xid
 placed_by xid (suc (suc (suc p))) = free_page
 
 -- the records
-abbrev image : ℕ → Page → Change
+abbrev pub image : ℕ → Page → Change
 image p page = record { page = p; edit = Image (page_bytes page) }
 
 abbrev create_record : Record
@@ -111,21 +111,21 @@ log_begun = begin_record 1 ∷ log_made
 abbrev log_placed : Log
 log_placed = head_record 1 ∷ log_begun
 
-abbrev first_run : Log
+abbrev pub first_run : Log
 first_run = commit_record ∷ log_placed
 
-abbrev doc : Doc
+abbrev pub doc : Doc
 doc = record { item = 4096; serial = 1 }
 
 -- they are pages
-meta_is : IsPage meta_page
+pub meta_is : IsPage meta_page
 unfolding u32_bytes
 meta_is = record { right = omega arith; stamp = omega arith; body = record { first_page = omega arith; last_page = omega arith; number = omega arith }; count = omega arith; fits = omega arith }
 
-root_is : IsPage root_page
+pub root_is : IsPage root_page
 root_is = record { right = omega arith; stamp = omega arith; body = (inl (refl, refl), record { each = tt; rising = tt }); count = omega arith; fits = omega arith }
 
-head_is : IsHead (head 1)
+pub head_is : IsHead (head 1)
 head_is = record { serial = omega arith; inserted_by = omega arith; deleted_by = omega arith; overflow = omega arith; private = omega arith; bytes = omega arith; vector = inl (omega arith, refl) }
 
 heap_is : IsPage (heap_page 1)
@@ -138,7 +138,7 @@ behind_two p (inl e) = omega (arith, e)
 behind_two p (inr (inl e)) = omega (arith, e)
 behind_two p (inr (inr e)) = absurd e
 
-behind_three : (p : ℕ) → In (suc (suc (suc p))) (2 ∷ []) → ⊥
+pub behind_three : (p : ℕ) → In (suc (suc (suc p))) (2 ∷ []) → ⊥
 behind_three p (inl e) = omega (arith, e)
 behind_three p (inr e) = absurd e
 
@@ -159,12 +159,12 @@ shown_placed (suc zero) = (root_is, refl)
 shown_placed (suc (suc zero)) = (heap_is, refl)
 shown_placed (suc (suc (suc p))) = (free_is, (shown_begun (suc (suc (suc p)))).1 ∙ sym (replay_kept log_begun (head_record 1) (suc (suc (suc p))) (behind_three p)))
 
-shown_run : Shows first_run (placed_by 1)
+pub shown_run : Shows first_run (placed_by 1)
 unfolding replay
 shown_run p = shown_placed p
 
 -- no page of the index has anything on it
-in_no_chain : (P : Pages) (qs : List ℕ) (q : ℕ) → IsChain P 0 qs → In q qs → ⊥
+pub in_no_chain : (P : Pages) (qs : List ℕ) (q : ℕ) → IsChain P 0 qs → In q qs → ⊥
 in_no_chain P [] q c i = absurd i
 in_no_chain P (p ∷ qs) q c i = c.1 (sym c.0)
 
@@ -239,7 +239,7 @@ entry_is lexeme n l p = record {
 abbrev Before : Entry → Entry → Type 0
 Before a b = IsBefore a.lexeme b.lexeme
 
-vector_is : IsNormal vector
+pub vector_is : IsNormal vector
 vector_is = record {
   entries = All-cons IsEntry first_entry (second_entry ∷ []) (entry_is cat 1 cat_is (omega arith, omega arith)) (All-cons IsEntry second_entry [] (entry_is fat 2 fat_is (omega arith, omega arith)) (All-nil IsEntry));
   rising = AllPairs-cons Before first_entry (second_entry ∷ []) (All-cons (Before first_entry) second_entry [] refl (All-nil (Before first_entry))) (one_alone Before second_entry);
@@ -385,11 +385,11 @@ begin_of_two P Q floor since (IsRow.commit x) = let f = x.here.kind_is in cc
 begin_of_two P Q floor since (IsRow.abort x) = let f = x.here.kind_is in cc
 begin_of_two P Q floor since (IsRow.place_head x) = let f = x.here.kind_is in cc
 
-abbrev item_in : Kind → ℕ
+abbrev pub item_in : Kind → ℕ
 item_in (kind.PlaceHead item serial) = item
 item_in _ = 0
 
-abbrev first_slots : List Page → List (Option Head)
+abbrev pub first_slots : List Page → List (Option Head)
 first_slots [] = []
 first_slots (p ∷ ps) = slots_of p
 

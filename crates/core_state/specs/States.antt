@@ -138,15 +138,17 @@ begun x s = if (x == suc (length s.fates)) && nat_lt x xid_bound
     then record s { fates = s.fates ++ Running ∷ []; running = s.running ++ record { xid = x; deleted = []; inserted = [] } ∷ [] }
     else s
 
--- the transaction commits, if it runs
-abbrev pub committed : Option Transaction → StateValue → StateValue
-committed None s = s
-committed (Some t) s = record s {
-  fates = with_fate t.xid (Committed (suc (length s.deleted))) s.fates;
-  deleted = s.deleted ++ t.deleted ∷ [];
-  inserted = s.inserted ++ t.inserted ∷ [];
-  running = without t.xid s.running;
-}
+-- the transaction commits with this number, if it runs and the number is the next
+abbrev pub committed : ℕ → Option Transaction → StateValue → StateValue
+committed n None s = s
+committed n (Some t) s = if n == suc (length s.deleted)
+    then record s {
+      fates = with_fate t.xid (Committed n) s.fates;
+      deleted = s.deleted ++ t.deleted ∷ [];
+      inserted = s.inserted ++ t.inserted ∷ [];
+      running = without t.xid s.running;
+    }
+    else s
 
 -- the transaction is aborted, if it runs
 abbrev pub aborted : Option Transaction → StateValue → StateValue
@@ -181,7 +183,7 @@ marked_head (Some t) d s = record s { running = replaced (record t { deleted = t
 -- what a record of this kind and xid, which changes these pages, makes of a state
 abbrev pub stepped : Kind → ℕ → List ℕ → StateValue → StateValue
 stepped kind.Begin x ps s = begun x s
-stepped (kind.Commit n) x ps s = committed (transaction x s.running) s
+stepped (kind.Commit n) x ps s = committed n (transaction x s.running) s
 stepped kind.Abort x ps s = cond (x == 0) (ended_all s) (aborted (transaction x s.running) s)
 stepped (kind.Checkpoint redo) x ps s = record s { redo = redo }
 stepped (kind.PlaceHead item serial) x ps s = placed_head (transaction x s.running) (record { item = item; serial = serial }) s
