@@ -2,8 +2,8 @@
 use Rattle.std.proofs.Common.{◌≡◌, ℕ, zero, suc, ◌+◌, ◌-◌, ◌<◌, ◌≤◌, List, [], ◌∷◌, ◌++◌, length, take, drop, map, set, refl, add-one, sym, ap, subst, ◌∙◌, arith}
 use Rattle.std.proofs.lemmas.List.{set_split, drop_at, take_all, drop-append-le, take-append-le, length-drop, length-append, length-take-le, drop-drop}
 use Rattle.std.proofs.lemmas.List.Sums.{sum_by-cons}
-use Rattle.std.specs.List.{splice, slice_range, sum_by}
-use Rattle.page_types.specs.Inner.Cuts.{cut_at, EndAt, start_at, moved, ends_with}
+use Rattle.std.specs.List.{splice, insert, remove, slice_range, sum_by}
+use Rattle.page_types.specs.Inner.Cuts.{cut_at, EndAt, start_at, moved, ends_with, Cuts}
 use Rattle.page_types.proofs.Cutting.{begins, cut_at-front, EndAt-front, start_at-least}
 
 -- the ends of lists behind a list that ends as given
@@ -103,14 +103,9 @@ are_places {A} ends xs k m s t h le small is it =
 pub splice_size : {A : Type 0} (xs p : List A) (s t : ℕ) → s ≤ t → t ≤ length xs → length (splice xs s t p) ≡ s + length p + (length xs - t)
 splice_size xs p s t le small = omega (arith, length-append (take s xs) (p ++ drop t xs), length-append p (drop t xs), length-drop t xs, length-take-le s xs (omega arith))
 
--- what is left where lists stand in place of others
-pub record Spliced {A : Type 0} (ends' : List ℕ) (xs' : List A) (now : List (List A)) : Type 0 where
-  pub ends_at : EndAt 0 ends' (length xs')
-  pub cuts : cut_at 0 ends' xs' ≡ now
-
 -- other lists in place of those from k up to m, whose ends are `more`
 edit_made : {A : Type 0} (ends ends' more : List ℕ) (xs xs' p : List A) (now : List (List A)) (k m s t : ℕ) → ArePlaces ends xs k m s t → xs' ≡ take s xs ++ (p ++ drop t xs) → ends' ≡ take k ends ++ (more ++ map (moved t (s + length p)) (drop m ends))
-    → EndAt s more (s + length p) → cut_at s more (take s xs ++ (p ++ drop t xs)) ≡ now → Spliced ends' xs' (take k (cut_at 0 ends xs) ++ (now ++ drop m (cut_at 0 ends xs)))
+    → EndAt s more (s + length p) → cut_at s more (take s xs ++ (p ++ drop t xs)) ≡ now → Cuts ends' xs' (take k (cut_at 0 ends xs) ++ (now ++ drop m (cut_at 0 ends xs)))
 edit_made {A} ends ends' more xs xs' p now k m s t at bytes new mid heads =
     let size : length (take s xs) ≡ s = length-take-le s xs (let lo = at.in_order in let hi = at.within in omega arith) in
     let ys : List A = take s xs ++ (p ++ drop t xs) in
@@ -139,7 +134,7 @@ edit_made {A} ends ends' more xs xs' p now k m s t at bytes new mid heads =
 
 -- lists that lie in p, in place of those from k up to m
 pub lists_spliced : {A : Type 0} (ends ends' new : List ℕ) (xs xs' p : List A) (k m s t : ℕ) → EndAt 0 ends (length xs) → k ≤ m → m ≤ length ends → EndAt 0 new (length p) → s ≡ start_at 0 ends k → t ≡ start_at 0 ends m
-    → xs' ≡ splice xs s t p → ends' ≡ ends_with ends k m new (length p) → Spliced ends' xs' (splice (cut_at 0 ends xs) k m (cut_at 0 new p))
+    → xs' ≡ splice xs s t p → ends' ≡ ends_with ends k m new (length p) → Cuts ends' xs' (splice (cut_at 0 ends xs) k m (cut_at 0 new p))
 lists_spliced {A} ends ends' new xs xs' p k m s t h le small at is it bytes now =
     let places = are_places ends xs k m s t h le small is it in
     let low = places.in_order in
@@ -180,3 +175,19 @@ pub one_set : {A : Type 0} (xs : List (List A)) (p : List A) (k : ℕ) → k < l
 one_set {A} xs p k lt =
     let P : List A → List (List A) → List (List A) = λ a b. take k xs ++ (a ∷ b) in
     ap (λ a. P a (drop (k + 1) xs)) (take_all (length p - 0) p (omega arith)) ∙ ap (λ n. P p (drop n xs)) (add-one k) ∙ sym (set_split xs k p lt)
+
+-- one list more
+pub one_inserted : {A : Type 0} (xs : List (List A)) (p : List A) (k : ℕ) → splice xs k (k + 0) (cut_at 0 (length p ∷ []) p) ≡ insert xs k p
+one_inserted {A} xs p k =
+    let P : List A → List (List A) → List (List A) = λ a b. take k xs ++ (a ∷ b) in
+    let none : k + 0 ≡ k = omega arith in
+    ap (λ a. P a (drop (k + 0) xs)) (take_all (length p - 0) p (omega arith)) ∙ ap (λ n. P p (drop n xs)) none
+
+-- one list less
+pub one_removed : {A : Type 0} (xs : List (List A)) (k : ℕ) → splice xs k (k + 1) [] ≡ remove xs k
+one_removed {A} xs k = ap (λ n. take k xs ++ drop n xs) (add-one k)
+
+-- no lists have no elements
+pub no_lists : {A : Type 0} (ends : List ℕ) (xs : List A) → EndAt 0 ends (length xs) → cut_at 0 ends xs ≡ [] → (length ends ≡ 0) × (length xs ≡ 0)
+no_lists [] xs h none = (refl, sym h)
+no_lists (e ∷ es) xs h none = absurd cc

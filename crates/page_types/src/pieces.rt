@@ -169,12 +169,13 @@ impl Pieces {
         self.replace(k, 1, &[], &[]).unwrap();
     }
 
-    /// The strings of another list in place of those from one number up to another. Without memory they stay as they are.
+    /// The strings of another list in place of those from one number up to another. Without memory they stay as they are; none takes none.
     pub fn splice(&mut self, from: usize, to: usize, with: &Pieces) -> Result<(), AllocError>
         requires in_order { from ≤ to }
         requires within { to ≤ length self.old }
         ensures ok { OnOk result (self.new ≡ splice self.old from to with.now) }
         ensures err { OnErr result (self.new ≡ self.old) }
+        ensures none { with.now ≡ [] → IsOk result }
     {
         self.replace(from, to - from, &with.bytes, &with.ends)
     }

@@ -1,8 +1,9 @@
 // The rows of a pending page.
-ghost use Rattle.std.specs.Prelude.{◌≡◌, ◌≤◌, [], ◌∷◌, ◌++◌, length, OnOk, OnErr, IfSome, IfNone, Some};
-ghost use Rattle.std.specs.List.{slice_get};
+ghost use Rattle.std.specs.Prelude.{◌≡◌, ◌+◌, ◌<◌, ◌≤◌, [], ◌∷◌, ◌++◌, length, slice_set, IsOk, OnOk, OnErr, IfSome, IfNone, Some};
+ghost use Rattle.std.specs.List.{slice_get, splice, insert, remove};
+ghost use Rattle.page_types.specs.Inner.Cuts.{cut_at, EndAt, Cuts};
 
-use crate::ends::start_of;
+use crate::ends::{replace_ends, start_of};
 use crate::pieces::{Pieces, PiecesRef};
 use std::alloc::{AllocError, Global};
 use std::marker::Model;
@@ -37,6 +38,33 @@ impl Model for Rows {
 
     ghost invariant = { λ r. EndAt 0 r.ends.items (length r.keys)
         × (length r.items.items ≡ length r.ends.items) };
+}
+
+// The keys of other rows in place of those of so many rows from one number on.
+fn replace_keys(
+    ends: &mut Vec<usize>,
+    all: &mut Pieces,
+    k: usize,
+    count: usize,
+    keys: &Pieces,
+    new: &[usize],
+) -> Result<(), AllocError>
+    requires at { EndAt 0 ends.old.items (length all.old) }
+    requires within { k + count ≤ length ends.old.items }
+    requires new_at { EndAt 0 new.now (length keys.now) }
+    ensures ok { OnOk result (Cuts ends.new.items all.new
+        (splice (cut_at 0 ends.old.items all.old) k (k + count) (cut_at 0 new.now keys.now))) }
+    ensures err { OnErr result ((ends.new.items ≡ ends.old.items) × (all.new ≡ all.old)) }
+    ensures none { keys.now ≡ [] → length new.now ≤ count → IsOk result }
+{
+    let start = start_of(ends, k);
+    let to = k + count;
+    let end = start_of(ends, to);
+    let others = all.len() - (end - start);
+    ends.reserve(new.len().saturating_sub(count))?;
+    all.splice(start, end, keys)?;
+    replace_ends(ends, k, to, new, all.len() - others);
+    Ok(())
 }
 
 impl Rows {
@@ -89,6 +117,41 @@ impl Rows {
         self.items.push_reserved(item);
         self.ends.push_reserved(end);
         Ok(())
+    }
+
+    /// Another row at a place. Without memory all stay as they are.
+    pub fn set(&mut self, k: usize, item: u32, keys: &Pieces) -> Result<(), AllocError>
+        requires { k < length self.old }
+        ensures ok { OnOk result (self.new
+            ≡ slice_set self.old k (record { item = item; keys = keys.now })) }
+        ensures err { OnErr result (self.new ≡ self.old) }
+    {
+        replace_keys(&mut self.ends, &mut self.keys, k, 1, keys, &[keys.len()])?;
+        self.items[k] = item;
+        Ok(())
+    }
+
+    /// One row more, in front of the one with this number, or behind all. Without memory they stay as they are.
+    pub fn insert(&mut self, k: usize, item: u32, keys: &Pieces) -> Result<(), AllocError>
+        requires { k ≤ length self.old }
+        ensures ok { OnOk result (self.new
+            ≡ insert self.old k (record { item = item; keys = keys.now })) }
+        ensures err { OnErr result (self.new ≡ self.old) }
+    {
+        self.items.reserve(1)?;
+        replace_keys(&mut self.ends, &mut self.keys, k, 0, keys, &[keys.len()])?;
+        self.items.insert(k, item).unwrap();
+        Ok(())
+    }
+
+    /// The row with this number goes. It takes no memory.
+    pub fn remove(&mut self, k: usize)
+        requires { k < length self.old }
+        ensures { self.new ≡ remove self.old k }
+    {
+        let none = Pieces::new(*self.items.allocator());
+        replace_keys(&mut self.ends, &mut self.keys, k, 1, &none, &[]).unwrap();
+        self.items.remove(k);
     }
 }
 

@@ -1,5 +1,5 @@
 -- Lists that lie one behind the other in one list, cut at their ends.
-use Rattle.std.specs.Prelude.{◌≡◌, ℕ, zero, suc, ◌+◌, ◌-◌, ◌^◌, ◌<◌, ◌≤◌, List, [], ◌∷◌, ◌++◌, map, take, drop}
+use Rattle.std.specs.Prelude.{◌≡◌, ℕ, zero, suc, ◌+◌, ◌-◌, ◌^◌, ◌<◌, ◌≤◌, List, [], ◌∷◌, ◌++◌, length, map, take, drop}
 
 -- the lists from a place on that end at these places
 abbrev pub cut_at : {A : Type 0} → ℕ → List ℕ → List A → List (List A)
@@ -28,3 +28,8 @@ CanMove from to es = (last : ℕ) × EndAt from es last × (to + (last - from) <
 -- the ends where `new`, of lists with this size, stand in place of those from k up to m, and those behind have moved
 abbrev pub ends_with : List ℕ → ℕ → ℕ → List ℕ → ℕ → List ℕ
 ends_with ends k m new size = take k ends ++ (map (moved 0 (start_at 0 ends k)) new ++ map (moved (start_at 0 ends m) (start_at 0 ends k + size)) (drop m ends))
+
+-- the ends cut these lists
+pub record Cuts {A : Type 0} (ends : List ℕ) (xs : List A) (lists : List (List A)) : Type 0 where
+  pub ends_at : EndAt 0 ends (length xs)
+  pub cuts : cut_at 0 ends xs ≡ lists
