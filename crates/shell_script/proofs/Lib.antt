@@ -5,3 +5,7 @@ pub mod Exprs
 pub mod FirstTokens
 pub mod Saying
 pub mod Meaning
+pub mod TextLines
+pub mod Openings
+pub mod StepsLaw
+pub mod Bodies

@@ -1,2 +1,5 @@
+pub mod Cuts
 pub mod Fronts
+pub mod LinesLeft
 pub mod Said
+pub mod StepsLeft

@@ -1,6 +1,9 @@
 pub mod Lines
 pub mod Tokens
 pub mod Grammar
+pub mod Steps
+pub mod StepsOf
+pub mod StepView
 pub mod StatementView
 pub mod Name
 pub mod Replies

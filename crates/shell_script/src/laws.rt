@@ -1,6 +1,7 @@
 // What holds of the definitions alone.
 ghost use Rattle.std.specs.Prelude.{◌≡◌, ℕ, Bool, List};
 ghost use Rattle.shell_script.specs.Grammar.{Statement, Says, Continues};
+ghost use Rattle.shell_script.specs.StepsOf.{OneReading};
 ghost use Rattle.shell_script.specs.Tokens.{ScriptToken, IsSpelled};
 
 /// A line is one list of tokens at most.
@@ -15,4 +16,9 @@ pub fn one_meaning()
         → Says within line s a → Says within line t b → (s ≡ t) × (a ≡ b) }
     ensures continues { (within : Bool) (line : List ℕ) (a b : Bool)
         → Continues within line a → Continues within line b → a ≡ b }
+{}
+
+/// A script has exactly one list of steps.
+pub fn one_reading()
+    ensures { OneReading }
 {}

@@ -1,15 +1,32 @@
 //! What a script says, line by line, and the text of each reply.
 #![tactic(auto)]
 
+ghost use Rattle.std.specs.Prelude.{◌≡◌, false};
+ghost use Rattle.shell_script.specs.Lines.{script_lines};
+ghost use Rattle.shell_script.specs.Steps.{AreSteps};
+ghost use Rattle.shell_script.specs.StepsOf.{steps_of};
+
 mod laws;
 mod line;
+mod lines;
 mod replies;
+mod script;
 mod statement;
 mod texts;
 mod tokens;
 
-pub use laws::{one_meaning, one_spelling};
+pub use laws::{one_meaning, one_reading, one_spelling};
 pub use line::{cut_at, is_skipped, without_return};
+pub use lines::{Line, Lines};
 pub use replies::{Name, Refusal, Reply, TextFault};
+pub use script::{Step, Steps};
 pub use statement::{Expr, Part, ScriptLine, Statement, read_line};
 pub use texts::{last_line_of, push_token};
+
+/// The steps of a script, one after another, without memory.
+pub fn steps(text: &[u8]) -> Steps<'_>
+    ensures value { result ≡ steps_of text.now }
+    ensures list { AreSteps false (script_lines text.now) result }
+{
+    Steps::new(text)
+}
