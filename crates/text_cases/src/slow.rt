@@ -81,7 +81,7 @@ fn fits(weights: Weights, weight: Weight) -> bool {
 fn names(operand: &Operand, vector: &TsVector, k: usize) -> bool
     requires { k < length vector.now }
 {
-    let lexeme = vector.lexeme(k).as_str().as_bytes();
+    let lexeme = vector.lexeme(k).as_bytes();
     let wanted = operand.lexeme.as_str().as_bytes();
     lexeme == wanted || (operand.prefix && lexeme.starts_with(wanted))
 }

@@ -79,7 +79,7 @@ spelling_tells_vector v w n m e =
     let t : flat_map entry_bytes v ≡ flat_map entry_bytes w = cc in
     entries_same v w n.entries m.entries t
 
-length-positions : (ps : List Position) → length (flat_map position_bytes ps) ≡ 2 * length ps
+pub length-positions : (ps : List Position) → length (flat_map position_bytes ps) ≡ 2 * length ps
 length-positions [] = refl
 length-positions (p ∷ ps) = omega (arith, length-positions ps)
 

@@ -39,7 +39,7 @@ fn first_from(vector: &TsVector, lexeme: &Lexeme) -> usize
     let mut high = vector.count();
     while low < high {
         let mid = low + (high - low) / 2;
-        match vector.lexeme(mid).cmp(lexeme) {
+        match vector.lexeme(mid).cmp(lexeme.as_str()) {
             Ordering::Less => low = mid + 1,
             _ => high = mid,
         }
@@ -48,10 +48,10 @@ fn first_from(vector: &TsVector, lexeme: &Lexeme) -> usize
 }
 
 /// Whether a lexeme begins with the prefix.
-fn begins_with(lexeme: &Lexeme, prefix: &Lexeme) -> bool
+fn begins_with(lexeme: &str, prefix: &Lexeme) -> bool
     ensures { result ≡ starts_with nat_eq lexeme.now prefix.now }
 {
-    let bytes = lexeme.as_str().as_bytes();
+    let bytes = lexeme.as_bytes();
     bytes.starts_with(prefix.as_str().as_bytes())
 }
 
@@ -93,7 +93,7 @@ fn end_of_lexeme(vector: &TsVector, lexeme: &Lexeme, first: usize) -> usize
         → (slice_index_or vector.now k d).lexeme ≢ lexeme.now }
 {
     if first < vector.count() {
-        if vector.lexeme(first) == lexeme {
+        if vector.lexeme(first) == lexeme.as_str() {
             return first + 1;
         }
     }

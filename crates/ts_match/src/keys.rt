@@ -15,12 +15,11 @@ use ts_query::{Operand, TsQuery};
 use ts_vector::TsVector;
 
 /// The key of a lexeme: the byte 0 and the lexeme.
-fn lexeme_key(alloc: Global, lexeme: &Lexeme) -> Result<Vec<u8>, AllocError>
-    ensures key { IfOk result (λ key. key.items ≡ key_of lexeme.now) }
-    ensures text { OnOk result (IsLexeme lexeme.now) }
+fn lexeme_key(alloc: Global, lexeme: &str) -> Result<Vec<u8>, AllocError>
+    ensures { IfOk result (λ key. key.items ≡ key_of lexeme.now) }
 {
     let mut key = vec![in alloc; 0]?;
-    key.extend_from_slice(lexeme.as_str().as_bytes())?;
+    key.extend_from_slice(lexeme.as_bytes())?;
     Ok(key)
 }
 
@@ -66,7 +65,10 @@ fn operand_keys(alloc: Global, operands: &[Operand]) -> Result<Vec<(Vec<u8>, boo
 {
     let mut keys = Vec::new(alloc);
     for operand in operands {
-        keys.push((lexeme_key(alloc, &operand.lexeme)?, operand.prefix))?;
+        keys.push((
+            lexeme_key(alloc, operand.lexeme.as_str())?,
+            operand.prefix,
+        ))?;
     }
     Ok(keys)
 }

@@ -1,13 +1,14 @@
 -- Each field of a vector's bytes goes on, or spoils them.
 use Rattle.std.proofs.Common.{◌≡◌, ◌≢◌, ℕ, zero, suc, ◌+◌, ◌-◌, ◌*◌, ◌/◌, ◌%◌, ◌^◌, ◌<◌, ◌≤◌, inl, inr, List, [], ◌∷◌, ◌++◌, length, refl, sym, ◌∙◌, ap, subst, arith, append_assoc, append-nil, length-append, get_or, Bool, cond, true}
-use Rattle.std.specs.Prelude.{All, AllPairs, Option, Some, None, MatchOption}
+use Rattle.std.specs.Prelude.{All, AllPairs}
 use Rattle.std.specs.List.{flat_map}
 use Rattle.std.specs.Ordering.{nat_cmp, is_lt}
 use Rattle.std.specs.declared.cmp.Ordering.{Ordering}
 use Rattle.std.specs.declared.cmp.Ordering.TheVariants.{Less, Equal, Greater}
 use Rattle.std.specs.Cmp.Lexicographic.{slice_cmp, nat_list_cmp_total}
+use Rattle.std.specs.Str.{IsUtf8}
 use Rattle.std.proofs.Math.Seq.{get_or-append_seam}
-use Rattle.std.proofs.lemmas.List.{get_or_append_left, get_or_default, get_or-map, length-map}
+use Rattle.std.proofs.lemmas.List.{get_or_append_left}
 use Rattle.std.proofs.lemmas.Bool.{cases_lt, lt-ltb, le-ltb}
 use Rattle.std.proofs.lemmas.List.Concat.{flat_map-append, flat_map-cons}
 use Rattle.std.proofs.lemmas.List.Elements.{All-nil, All-push, All-head, All-tail}
@@ -18,12 +19,11 @@ use Rattle.ts_base.specs.declared.Weight.{Weight}
 use Rattle.ts_base.specs.declared.Weight.TheVariants.{D, C, B, A}
 use Rattle.ts_base.specs.Endian.{little_bytes}
 use Rattle.ts_base.specs.Spelling.{weight_number, position_number, position_bytes, entry_bytes}
+use Rattle.ts_base.proofs.LittleBytes.{same_fronts}
 use Rattle.ts_vector.specs.Decoded.{DecodedPart, Next, Width, IsBeginning, IsBehind, AreRising, ReadsFields, IsSpelling, BadBytesAreNoSpelling, entry_with, start, counted, measured, named, placed, count, measure, name, no_places, places, place, last_place, of_count, of_length, of_lexeme, of_number, of_place, begun, field}
-use Rattle.ts_vector.specs.Inner.Fields.{Goes, Spoils, Stops, IsShort, IsNext, NotNext, BytesStop, behind, Lists, ListStops, IsLast}
+use Rattle.ts_vector.specs.Inner.Fields.{Goes, Spoils, Stops, IsShort, BytesStop, behind, Lists, ListsSome, ListStops, IsLast, IsLastLexeme, no_lexeme, last_lexeme, IsFront, Adds}
 use Rattle.ts_vector.specs.declared.bytes.Stop.{Stop}
-use Rattle.ts_vector.specs.declared.bytes.Stop.TheVariants.{Bad, OutOfMemory}
-use Rattle.ts_vector.specs.declared.entries.Item.{Item}
-use Rattle.ts_vector.specs.ItemEntries.{item_entry, item_entries}
+use Rattle.ts_vector.specs.declared.checker.Front.{Front}
 use Rattle.ts_vector.proofs.Rising.{pairs_head, pairs_tail}
 use Rattle.ts_vector.proofs.Merging.{size-append, size-cons}
 use Rattle.ts_vector.proofs.Counts.{length-le-content}
@@ -94,8 +94,7 @@ pub spoils_then : (p q : DecodedPart) (r s : List ℕ) (left : ℕ) → Goes p r
 spoils_then p q r s left a b = record { within = omega (arith, a.shorter, b.within); bad = λ bytes h. b.bad bytes (a.on bytes h) }
 
 pub stops_then : (p q : DecodedPart) (r s : List ℕ) (e : Stop) → Goes p r q s → Stops q s e → Stops p r e
-stops_then p q r s (Bad left) a b = spoils_then p q r s left a b
-stops_then p q r s OutOfMemory a b = tt
+stops_then p q r s stop a b = spoils_then p q r s stop.left a b
 
 -- ── one more entry ──
 pub entry_size : (v : Vector) (e : Entry) → content_size (v ++ e ∷ []) ≡ content_size v + (length e.lexeme + 2 * length e.positions)
@@ -156,6 +155,9 @@ module _ (n : ℕ) (v : Vector) where
         wrong (named n v l) (placed n v l (suc m) []) (little_bytes 2 (suc m)) r s e (places n (suc m) v l (omega arith) h) (of_number n v l) (λ _ b. never b.0 b.1)
 
 -- one more position that is greater than all before
+pub none_rise : AreRising []
+none_rise = record { valid = All-nil IsPosition; rising = λ i j d lt le. absurd (omega arith) }
+
 pub rising_more : (ps : List Position) (last : ℕ) (p : Position) → IsLast ps last → AreRising ps → last < p.at → p.at ≤ 16383 → AreRising (ps ++ p ∷ [])
 rising_more ps last p is up lt most = record {
   valid = All-push IsPosition ps p up.valid (omega arith, most);
@@ -234,6 +236,19 @@ pub lists_cut : (m : ℕ) (r t : List ℕ) (ps : List Position) → Lists m r ps
 lists_cut m r t ps a lt short n v l =
     spoils_then (behind n v l m []) (behind n v l m ps) r t 0 (a.on n v l)
     (subst (λ q. Spoils q t 0) (sym (behind_more n v l m ps lt)) (cut (placed n v l m ps) 2 t (of_place n m v l ps) short))
+
+-- it is there
+pub lists_next : (m : ℕ) (r t s : List ℕ) (ps : List Position) (last number : ℕ) → Lists m r ps t → AreRising ps → length ps < m → IsLast ps last → t ≡ little_bytes 2 number ++ s → number < 65536 → last < number % 16384
+    → (qs : List Position) × (length qs ≡ length ps + 1) × AreRising qs × Lists m r qs s × IsLast qs (number % 16384)
+lists_next m r t s ps last number a up lt is e h more =
+    let p = place_of number h in
+    let at = p.2 in (
+      ps ++ p.0 ∷ [],
+      length-append ps (p.0 ∷ []),
+      rising_more ps last p.0 is up (omega arith) (omega arith),
+      lists_more m r t s ps last p.0 a lt is (e ∙ ap (λ k. little_bytes 2 k ++ s) p.1) (omega arith) (omega arith),
+      subst (IsLast (ps ++ p.0 ∷ [])) at (last_more ps last p.0 is (omega arith)),
+    )
 
 -- or it is out of order
 pub lists_wrong : (m : ℕ) (r t s : List ℕ) (ps : List Position) (last number : ℕ) → Lists m r ps t → length ps < m → IsLast ps last → t ≡ little_bytes 2 number ++ s → number < 65536 → number % 16384 ≤ last → (n : ℕ) (v : Vector) (l : List ℕ) → Spoils (behind n v l m []) r (length t)
@@ -362,63 +377,94 @@ bad_bytes_are_no_spelling bytes n bad v s = whole_not_bad bytes v (spelling_read
 
 -- ── what a field that is not there does ──
 pub stops_short : (p : DecodedPart) (w : ℕ) (r : List ℕ) → Width p w → (e : Stop) → IsShort w r e → Stops p r e
-stops_short p w r width (Bad left) k = subst (Spoils p r) (sym k.0) (cut p w r width k.1)
-stops_short p w r width OutOfMemory k = absurd k
+stops_short p w r width e k = subst (Spoils p r) (sym k.0) (cut p w r width k.1)
 
 pub lists_short : (m : ℕ) (r t : List ℕ) (ps : List Position) (e : Stop) → Lists m r ps t → length ps < m → IsShort 2 t e → ListStops m r e
-lists_short m r t ps (Bad left) a lt k n v l = subst (Spoils (behind n v l m []) r) (sym k.0) (lists_cut m r t ps a lt k.1 n v l)
-lists_short m r t ps OutOfMemory a lt k n v l = absurd k
+lists_short m r t ps e a lt k n v l = subst (Spoils (behind n v l m []) r) (sym k.0) (lists_cut m r t ps a lt k.1 n v l)
 
 pub count_short : (r : List ℕ) (e : Stop) → IsShort 4 r e → Stops start r e
 count_short r e k = stops_short start 4 r of_count e k
 
 -- the bytes are bad behind the part that was read
 pub bytes_stop : (bytes : List ℕ) (p : DecodedPart) (r : List ℕ) → ReadsFields bytes p r → (e : Stop) → Stops p r e → BytesStop bytes e
-bytes_stop bytes p r h (Bad left) k = (omega (arith, k.within, rest_short bytes p r h), k.bad bytes h)
-bytes_stop bytes p r h OutOfMemory k = tt
+bytes_stop bytes p r h e k = (omega (arith, k.within, rest_short bytes p r h), k.bad bytes h)
 
-pub lexeme_next : (n : ℕ) (v : Vector) (k : ℕ) (bytes l r s : List ℕ) → r ≡ bytes ++ s → length bytes ≡ k → IsNext v bytes l → Goes (measured n v k) r (named n v l) s
-lexeme_next n v k bytes l r s e len is = subst (λ t. Goes (measured n v k) r (named n v t) s) (sym is.0) (lexeme_goes n v bytes k r s e len is.1 is.2)
+-- ── behind the last lexeme is behind all ──
+none_behind : (l : List ℕ) → IsBehind [] l
+none_behind l = All-nil (λ e. IsBefore e.lexeme l)
 
-pub lexeme_not : (n : ℕ) (v : Vector) (k : ℕ) (bytes r s : List ℕ) → r ≡ bytes ++ s → length bytes ≡ k → NotNext v bytes → Spoils (measured n v k) r (length r)
-lexeme_not n v k bytes r s e len deny = lexeme_wrong n v bytes k r s e len (λ _ valid after. deny valid after)
+pub behind_last : (v : Vector) (last l : List ℕ) → IsNormal v → IsLastLexeme v last → IsBefore last l → IsBehind v l
+behind_last v last l normal no_lexeme h = none_behind l
+behind_last v last l normal (last_lexeme w e) h =
+    All-push (λ d. IsBefore d.lexeme l) w e
+    (λ k d lt. nat_list_cmp_total.trans (get_or w k d).lexeme e.lexeme l (last_behind w e normal k d lt) h) h
 
--- ── behind the last entry is behind all ──
+pub before_behind : (v : Vector) (last l : List ℕ) → 1 ≤ length l → IsLastLexeme v last → IsBehind v l → IsBefore last l
+before_behind v last [] some no_lexeme h = absurd (omega arith)
+before_behind v last (c ∷ l) some no_lexeme h = refl
+before_behind v last l some (last_lexeme w e) h =
+    subst (λ d. IsBefore d.lexeme l) (get_or-append_seam w e [] e) (h (length w) e (omega (arith, length-append w (e ∷ []))))
+
+-- ── one entry ──
+-- the lexeme that was read is no next one
+pub not_next : (n : ℕ) (v : Vector) (front : Front) (k : ℕ) (l r s : List ℕ) → IsFront v front → r ≡ l ++ s → length l ≡ k → 1 ≤ k → ¬ (IsBefore front.last.now l × IsUtf8 l) → Spoils (measured n v k) r (length r)
+not_next n v front k l r s is e len some deny =
+    lexeme_wrong n v l k r s e len (λ _ valid after. deny (before_behind v front.last.now l (omega arith) is.last after, valid.utf8))
+
+-- the bytes of an entry, field by field, behind the entries v
+module _ (n : ℕ) (v : Vector) (front : Front) (k : ℕ) (bytes r l after : List ℕ) where
+  pub named_so : length v < n → IsFront v front → bytes ≡ little_bytes 2 k ++ r → 1 ≤ k → k ≤ 2046 → front.size + k < 1048576
+      → r ≡ l ++ after → length l ≡ k → IsBefore front.last.now l × IsUtf8 l → Goes (counted n v) bytes (named n v l) after
+  named_so lt is e some most small whole len next =
+      let size = is.size in
+      goes_then (counted n v) (measured n v k) (named n v l) bytes r after
+      (length_goes n v k bytes r lt e some most (omega arith))
+      (lexeme_goes n v l k r after whole len (record { some = omega arith; most = omega arith; utf8 = next.1 }) (behind_last v front.last.now l is.normal is.last next.0))
+
+  pub placed_so : (m : ℕ) (after_number : List ℕ) → IsFront v front → Goes (counted n v) bytes (named n v l) after → after ≡ little_bytes 2 m ++ after_number
+      → m ≤ 256 → length l ≡ k → front.size + k + 2 * m < 1048576 → Goes (counted n v) bytes (behind n v l m []) after_number
+  placed_so m after_number is first e few len small =
+      let size = is.size in
+      goes_then (counted n v) (named n v l) (behind n v l m []) bytes after after_number first (number_goes n v l m after after_number e few (omega arith))
+
+  pub adds : (m : ℕ) (after_number rest : List ℕ) (new : Front) → IsFront v front → Goes (counted n v) bytes (behind n v l m []) after_number → 1 ≤ k → k ≤ 2046 → length l ≡ k → m ≤ 256
+      → IsBefore front.last.now l × IsUtf8 l → ListsSome m after_number rest → new.last.now ≡ l → new.size ≡ front.size + k + 2 * m → Adds n v bytes new rest
+  adds m after_number rest new is first some most len few next (ps, many, up, lists) last size =
+      let e = entry_with l ps in
+      let whole = goes_then (counted n v) (behind n v l m []) (behind n v l m ps) bytes after_number rest first (lists.on n v l) in
+      let valid : IsEntry e = record {
+        lexeme = record { some = omega arith; most = omega arith; utf8 = next.1 };
+        positions = up.valid;
+        rising = up.rising;
+        few = omega arith;
+      } in
+      let old = is.size in (
+        e,
+        subst (λ q. Goes (counted n v) bytes q rest) (behind_all n v l m ps (omega arith)) whole,
+        record {
+          normal = entry_normal v e is.normal valid (behind_last v front.last.now l is.normal is.last next.0);
+          size = omega (arith, entry_size v e);
+          last = subst (IsLastLexeme (v ++ e ∷ [])) (sym last) (last_lexeme v e);
+        },
+      )
+
+-- ── whether one text is before another ──
 is_before : (o : Ordering) → is_lt o ≡ true → o ≡ Less
 is_before Less e = refl
 is_before Equal e = absurd (cc)
 is_before Greater e = absurd (cc)
 
-last_of : (v : Vector) (k i : ℕ) (last d : Entry) → get_or v k last ≡ last → k < length v → i ≡ k → get_or v i d ≡ last
-last_of v k i last d read lt e = ap (λ j. get_or v j d) e ∙ get_or_default v k d last lt ∙ read
+pub before_tells : (a b : List ℕ) (answer : Bool) → answer ≡ is_lt (slice_cmp nat_cmp a b) → (answer ≡ true → IsBefore a b) × (IsBefore a b → answer ≡ true)
+before_tells a b answer e = (λ yes. is_before (slice_cmp nat_cmp a b) (sym e ∙ yes), λ h. e ∙ ap is_lt h)
 
-pub behind_last : (items : List Item) (k : ℕ) (last : Item) (l : List ℕ) (b : Bool) → AllPairs (λ x y. IsBefore x.lexeme y.lexeme) (item_entries items) → k + 1 ≡ length items → last ≡ get_or items k last → b ≡ is_lt (slice_cmp nat_cmp last.lexeme l)
-    → (b ≡ true → IsBehind (item_entries items) l) × (IsBehind (item_entries items) l → b ≡ true)
-behind_last items k last l b up e read is =
-    let v = item_entries items in
-    let len : length v ≡ length items = length-map items item_entry in
-    let there : get_or v k (item_entry last) ≡ item_entry last = get_or-map item_entry items k last (item_entry last) (omega arith) ∙ ap item_entry (sym read) in (
-      λ yes i d lt.
-          let h : IsBefore (item_entry last).lexeme l = is_before (slice_cmp nat_cmp last.lexeme l) (sym is ∙ yes) in
-          elim (cases_lt i k) [
-            | inl less ↦
-                let r = up i k d less (omega arith) in
-                let r' : IsBefore (get_or v i d).lexeme (item_entry last).lexeme = subst (λ x. IsBefore (get_or v i d).lexeme x.lexeme) (last_of v k k (item_entry last) d there (omega arith) refl) r in
-                nat_list_cmp_total.trans (get_or v i d).lexeme (item_entry last).lexeme l r' h
-            | inr more ↦ subst (λ x. IsBefore x.lexeme l) (sym (last_of v k i (item_entry last) d there (omega arith) (omega arith))) h
-          ],
-      λ all.
-          let h : IsBefore (item_entry last).lexeme l = subst (λ x. IsBefore x.lexeme l) there (all k (item_entry last) (omega arith)) in
-          is ∙ ap is_lt h,
-    )
+-- ── the whole ──
+pub none_front : (front : Front) → front.last.now ≡ [] → front.size ≡ 0 → IsFront [] front
+none_front front last size = record {
+  normal = record { entries = All-nil IsEntry; rising = λ i j d lt le. absurd (omega arith) };
+  size = size;
+  last = subst (IsLastLexeme []) (sym last) no_lexeme;
+}
 
--- ── the next lexeme as it was answered ──
-pub some_next : (o : Option (List ℕ)) (xs ys : List Item) (bytes l : List ℕ) → xs ≡ ys → o ≡ Some l → MatchOption o (NotNext (item_entries xs) bytes) (IsNext (item_entries xs) bytes) → IsNext (item_entries ys) bytes l
-some_next o xs ys bytes l e s h =
-    let k : MatchOption (Some l) (NotNext (item_entries xs) bytes) (IsNext (item_entries xs) bytes) = subst (λ p. MatchOption p (NotNext (item_entries xs) bytes) (IsNext (item_entries xs) bytes)) s h in
-    subst (λ zs. IsNext (item_entries zs) bytes l) e k
-
-pub none_next : (o : Option (List ℕ)) (xs ys : List Item) (bytes : List ℕ) → xs ≡ ys → o ≡ None → MatchOption o (NotNext (item_entries xs) bytes) (IsNext (item_entries xs) bytes) → NotNext (item_entries ys) bytes
-none_next o xs ys bytes e s h =
-    let k : MatchOption None (NotNext (item_entries xs) bytes) (IsNext (item_entries xs) bytes) = subst (λ p. MatchOption p (NotNext (item_entries xs) bytes) (IsNext (item_entries xs) bytes)) s h in
-    subst (λ zs. NotNext (item_entries zs) bytes) e k
+pub same_entries : (bytes : List ℕ) (n : ℕ) (entries : List ℕ) (v : Vector) → length v ≡ n → bytes ≡ little_bytes 4 n ++ entries → IsSpelling bytes v → entries ≡ flat_map entry_bytes v
+same_entries bytes n entries v many e is =
+    (same_fronts (little_bytes 4 n) (little_bytes 4 (length v)) entries (flat_map entry_bytes v) (ap (λ k. length (little_bytes 4 k)) (sym many)) (sym e ∙ is.bytes_of)).1

@@ -1,11 +1,9 @@
 -- The greatest number of a position, item by item.
 use Rattle.std.proofs.Common.{◌≡◌, ℕ, ◌+◌, ◌<◌, ◌≤◌, ◌⊎◌, inl, inr, max, List, [], ◌∷◌, ◌++◌, length, get_or, take, sym, ◌∙◌, ap, subst, arith}
 use Rattle.std.specs.Prelude.{All, Any}
-use Rattle.std.proofs.lemmas.List.{take_more, map-append}
+use Rattle.std.proofs.lemmas.List.{take_more}
 use Rattle.std.proofs.lemmas.List.Elements.{All-push, All-weaker, Contains-push}
-use Rattle.ts_base.specs.Vectors.{Position}
-use Rattle.ts_vector.specs.declared.entries.Item.{Item}
-use Rattle.ts_vector.specs.ItemEntries.{item_entry, item_entries}
+use Rattle.ts_base.specs.Vectors.{Position, Entry, Vector}
 use Rattle.ts_vector.specs.Changes.{IsGreatest}
 use Rattle.ts_vector.proofs.Rising.{any_of}
 use Rattle.ts_vector.proofs.Merging.{any_left}
@@ -31,20 +29,16 @@ step_met ps k p from g h lt is e met =
       | inr s ↦ inr (subst (Any (λ q. q.at ≡ h)) (sym t) (any_of (λ q. q.at ≡ h) (take k ps ++ p ∷ []) p (Contains-push (take k ps) p) (sym (e ∙ s))))
     ]
 
-pub step_item : (items : List Item) (k : ℕ) (x : Item) (g h : ℕ) → k < length items → x ≡ get_or items k x → IsGreatest (item_entries (take k items)) g → g ≤ h
-    → All (λ p. p.at ≤ h) x.positions.items → (h ≡ g) ⊎ Any (λ p. p.at ≡ h) x.positions.items → IsGreatest (item_entries (take (k + 1) items)) h
-step_item items k x g h lt is greatest le bound met =
-    let t : item_entries (take (k + 1) items) ≡ item_entries (take k items) ++ item_entry x ∷ [] =
-    ap item_entries (take_more items k x lt ∙ ap (λ q. take k items ++ q ∷ []) (sym is)) ∙ map-append item_entry (take k items) (x ∷ []) in
-    subst (λ v. IsGreatest v h) (sym t) (record {
-      bound = All-push (λ e. All (λ p. p.at ≤ h) e.positions) (item_entries (take k items)) (item_entry x)
-          (All-weaker (λ e. All (λ p. p.at ≤ g) e.positions) (λ e. All (λ p. p.at ≤ h) e.positions)
-          (λ e a. All-weaker (λ p. p.at ≤ g) (λ p. p.at ≤ h) (λ p b. omega arith) e.positions a) (item_entries (take k items)) greatest.bound) bound;
-      met = elim met [
-        | inl s ↦ elim greatest.met [
-          | inl z ↦ inl (s ∙ z)
-          | inr a ↦ inr (any_left (λ e. Any (λ p. p.at ≡ h) e.positions) (item_entries (take k items)) (item_entry x ∷ []) (subst (λ n. Any (λ e. Any (λ p. p.at ≡ n) e.positions) (item_entries (take k items))) (sym s) a))
-        ]
-        | inr a ↦ inr (any_of (λ e. Any (λ p. p.at ≡ h) e.positions) (item_entries (take k items) ++ item_entry x ∷ []) (item_entry x) (Contains-push (item_entries (take k items)) (item_entry x)) a)
-      ];
-    })
+pub step_entry : (done : Vector) (e : Entry) (g h : ℕ) → IsGreatest done g → g ≤ h → All (λ p. p.at ≤ h) e.positions → (h ≡ g) ⊎ Any (λ p. p.at ≡ h) e.positions → IsGreatest (done ++ e ∷ []) h
+step_entry done e g h greatest le bound met = record {
+  bound = All-push (λ e. All (λ p. p.at ≤ h) e.positions) done e
+      (All-weaker (λ e. All (λ p. p.at ≤ g) e.positions) (λ e. All (λ p. p.at ≤ h) e.positions)
+      (λ e a. All-weaker (λ p. p.at ≤ g) (λ p. p.at ≤ h) (λ p b. omega arith) e.positions a) done greatest.bound) bound;
+  met = elim met [
+    | inl s ↦ elim greatest.met [
+      | inl z ↦ inl (s ∙ z)
+      | inr a ↦ inr (any_left (λ e. Any (λ p. p.at ≡ h) e.positions) done (e ∷ []) (subst (λ n. Any (λ e. Any (λ p. p.at ≡ n) e.positions) done) (sym s) a))
+    ]
+    | inr a ↦ inr (any_of (λ e. Any (λ p. p.at ≡ h) e.positions) (done ++ e ∷ []) e (Contains-push done e) a)
+  ];
+}

@@ -16,4 +16,6 @@ pub mod Changed
 pub mod Printing
 pub mod Fields
 pub mod Decoding
+pub mod Told
 pub mod OneAnswer
+pub mod ColumnFacts

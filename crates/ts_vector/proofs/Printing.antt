@@ -7,7 +7,6 @@ use Rattle.std.proofs.lemmas.Fmt.{decimal_by_steps}
 use Rattle.std.proofs.lemmas.List.{append-nil, take_all}
 use Rattle.std.proofs.lemmas.List.Elements.{All-nil, All-cons, All-head, All-tail, All-contains}
 use Rattle.std.proofs.Math.Seq.{append_snoc}
-use Rattle.std.proofs.lemmas.Simd.{map-map}
 use Rattle.ts_base.specs.declared.Weight.{Weight}
 use Rattle.ts_base.specs.declared.Weight.TheVariants.{A, B, C, D}
 use Rattle.ts_base.specs.Vectors.{Position, Entry, Vector, IsPosition, IsEntry, IsNormal}
@@ -17,8 +16,6 @@ use Rattle.ts_vector.specs.Text.{Written, written, position, IsParted, PositionN
 use Rattle.ts_base.specs.Bytes.{IsDigit, BeginsWithQuote}
 use Rattle.ts_base.specs.Digits.{with_digit}
 use Rattle.ts_base.specs.Quoted.{doubled_byte}
-use Rattle.ts_vector.specs.declared.entries.Item.{Item}
-use Rattle.ts_vector.specs.ItemEntries.{item_entry, item_entries}
 use Rattle.ts_vector.specs.Printed.{weight_text, position_text, positions_text, entry_text, vector_text, PrintedTextIsRead}
 use Rattle.ts_vector.proofs.Rising.{any_of, of_any, contains_cases, contains_none, head_before, pairs_tail}
 use Rattle.ts_vector.proofs.Merging.{all_of}
@@ -195,9 +192,6 @@ pub join_is : {X : Type 0} (c : ℕ) (f : X → List ℕ) (x : X) (xs : List X) 
 join_is c f x [] = sym (append-nil (f x))
 join_is c f x (y ∷ xs) = ap (λ t. f x ++ c ∷ t) (join_is c f y xs)
 
-pub items_text : (x : Item) (xs : List Item) → vector_text (item_entries (x ∷ xs)) ≡ entry_text (item_entry x) ++ flat_map (λ y. 32 ∷ entry_text (item_entry y)) xs
-items_text x xs = ap (join_with_byte 32) (map-map entry_text item_entry (x ∷ xs)) ∙ join_is 32 (λ y. entry_text (item_entry y)) x xs
-
 pub positions_end : (old colon one out : List ℕ) (p : Position) (ps all : List Position) (k : ℕ) → all ≡ p ∷ ps → colon ≡ old ++ 58 ∷ [] → one ≡ colon ++ position_text p
     → out ≡ one ++ flat_map (λ q. 44 ∷ position_text q) (take k ps) → length ps ≤ k → out ≡ old ++ positions_text all
 positions_end old colon one out p ps all k e a b h le =
@@ -207,10 +201,10 @@ positions_end old colon one out p ps all k e a b h le =
     ∙ append_snoc old 58 (position_text p ++ flat_map (λ q. 44 ∷ position_text q) ps)
     ∙ ap (λ t. old ++ 58 ∷ t) (sym (join_is 44 position_text p ps)) ∙ ap (λ t. old ++ positions_text t) (sym e)
 
-pub items_end : (old one out : List ℕ) (x : Item) (xs all : List Item) (k : ℕ) → all ≡ x ∷ xs → one ≡ old ++ entry_text (item_entry x)
-    → out ≡ one ++ flat_map (λ y. 32 ∷ entry_text (item_entry y)) (take k xs) → length xs ≤ k → out ≡ old ++ vector_text (item_entries all)
-items_end old one out x xs all k e b h le =
-    h ∙ ap (λ t. one ++ flat_map (λ y. 32 ∷ entry_text (item_entry y)) t) (take_all k xs le)
-    ∙ ap (λ t. t ++ flat_map (λ y. 32 ∷ entry_text (item_entry y)) xs) b
-    ∙ append_assoc old (entry_text (item_entry x)) (flat_map (λ y. 32 ∷ entry_text (item_entry y)) xs)
-    ∙ ap (λ t. old ++ t) (sym (items_text x xs)) ∙ ap (λ t. old ++ vector_text (item_entries t)) (sym e)
+pub entries_end : (old one out : List ℕ) (x : Entry) (xs all : Vector) → x ∷ xs ≡ all → one ≡ old ++ entry_text x → out ≡ one ++ flat_map (λ y. 32 ∷ entry_text y) xs → out ≡ old ++ vector_text all
+entries_end old one out x xs all e b h =
+    h ∙ ap (λ t. t ++ flat_map (λ y. 32 ∷ entry_text y) xs) b ∙ append_assoc old (entry_text x) (flat_map (λ y. 32 ∷ entry_text y) xs)
+    ∙ ap (λ t. old ++ t) (sym (join_is 32 entry_text x xs)) ∙ ap (λ t. old ++ vector_text t) e
+
+pub next_end : (old spaced new t rest : List ℕ) → spaced ≡ old ++ 32 ∷ [] → new ≡ spaced ++ t → new ++ rest ≡ old ++ (32 ∷ (t ++ rest))
+next_end old spaced new t rest e h = ap (λ u. u ++ rest) (h ∙ ap (λ u. u ++ t) e) ∙ append_assoc (old ++ 32 ∷ []) t rest ∙ append_snoc old 32 (t ++ rest)

@@ -22,7 +22,7 @@ over_text text items v h fit form small (VectorTooLarge n) o = record {
   large = let s = o.0 in let l = o.1 in omega arith;
 }
 over_text text items v h fit form small (BadBytes n) o = absurd o
-over_text text items v h fit form small OutOfMemory o = absurd o
+over_text text items v h fit form small OutOfMemory o = tt
 
 pub over_items : (items : List Entry) (v : Vector) → IsNormalFormOf items v → (e : VectorError) → IsOver v e → ItemsFail items e
 over_items items v form (Syntax n) o = o

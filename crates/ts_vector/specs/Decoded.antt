@@ -89,12 +89,16 @@ pub record IsBadAt (bytes : List ℕ) (n : ℕ) : Type 0 where
       ⊎ ((IsSurplus part rest ⊎ IsWrong part rest) × (n + length rest ≡ length bytes))
 
 -- bytes are refused where they are no vector's spelling
+abbrev pub SpellingFails : List ℕ → VectorError → Type 0
+SpellingFails bytes (Syntax n) = ⊥
+SpellingFails bytes (LexemeTooLong n) = ⊥
+SpellingFails bytes (VectorTooLarge n) = ⊥
+SpellingFails bytes (BadBytes n) = IsBadAt bytes n
+SpellingFails bytes OutOfMemory = ⊥
+
+-- and where memory runs out
 abbrev pub DecodeFails : List ℕ → VectorError → Type 0
-DecodeFails bytes (Syntax n) = ⊥
-DecodeFails bytes (LexemeTooLong n) = ⊥
-DecodeFails bytes (VectorTooLarge n) = ⊥
-DecodeFails bytes (BadBytes n) = IsBadAt bytes n
-DecodeFails bytes OutOfMemory = Unit {0}
+DecodeFails bytes error = SpellingFails bytes error ⊎ (error ≡ OutOfMemory)
 
 -- the bytes are the spelling of the vector
 pub record IsSpelling (bytes : List ℕ) (vector : Vector) : Type 0 where

@@ -4,5 +4,6 @@ pub mod Extends
 pub mod Steps
 pub mod CappedForm
 pub mod Fields
-pub mod Begun
 pub mod Over
+pub mod Told
+pub mod Columns

@@ -1,41 +1,16 @@
 // The fields of a vector's bytes.
-ghost use Rattle.std.specs.Prelude.{◌≡◌, ◌%◌, ◌^◌, ◌<◌, ◌≤◌, ◌++◌, length, MatchOption, IfOk, IfErr};
+ghost use Rattle.std.specs.Prelude.{◌≡◌, ◌^◌, ◌<◌, ◌++◌, length, IfOk, IfErr};
 ghost use Rattle.ts_base.specs.Endian.{little_bytes};
 ghost use Rattle.ts_base.specs.Spelling.{weight_number};
-ghost use Rattle.ts_vector.specs.Inner.Fields.{IsShort, IsPlaceAfter, Lists, ListStops};
-ghost use Rattle.ts_vector.specs.declared.bytes.Stop.TheVariants.{OutOfMemory};
+ghost use Rattle.ts_vector.specs.Inner.Fields.{IsShort, ListsSome, ListStops};
 
-use std::alloc::{AllocError, AllocFailed, Global};
-use ts_base::{Position, WEIGHT_UNIT, Weight};
+use ts_base::{WEIGHT_UNIT, Weight};
 
-/// Why reading stopped.
-#[derive(Debug, Drop)]
-pub enum Stop {
-    /// The bytes go wrong.
-    Bad {
-        /// How many bytes before their end.
-        left: usize,
-    },
-    /// Memory ran out.
-    OutOfMemory,
-}
-
-impl From<AllocError> for Stop {
-    ghost from_gives = { λ _ e. e ≡ OutOfMemory };
-
-    /// Memory ran out.
-    fn from(_e: AllocError) -> Stop {
-        Stop::OutOfMemory
-    }
-}
-
-impl<T: Drop> From<AllocFailed<T>> for Stop {
-    ghost from_gives = { λ _ e. e ≡ OutOfMemory };
-
-    /// Memory ran out.
-    fn from(_e: AllocFailed<T>) -> Stop {
-        Stop::OutOfMemory
-    }
+/// Where the bytes go wrong.
+#[derive(Clone, Copy, Debug)]
+pub struct Stop {
+    /// How many bytes before their end.
+    pub left: usize,
 }
 
 /// The first bytes, so many, and the rest.
@@ -45,7 +20,7 @@ pub fn take(bytes: &[u8], count: usize) -> Result<(&[u8], &[u8]), Stop>
     ensures err { IfErr result (IsShort count bytes.now) }
 {
     if bytes.len() < count {
-        return Err(Stop::Bad { left: 0 });
+        return Err(Stop { left: 0 });
     }
     Ok(bytes.split_at(count))
 }
@@ -58,7 +33,7 @@ pub fn two(bytes: &[u8]) -> Result<(u16, &[u8]), Stop>
 {
     match bytes {
         [low, high, rest @ ..] => Ok((u16::from(*high) * 256 + u16::from(*low), rest)),
-        _ => Err(Stop::Bad { left: 0 }),
+        _ => Err(Stop { left: 0 }),
     }
 }
 
@@ -74,7 +49,7 @@ pub fn four(bytes: &[u8]) -> Result<(u32, &[u8]), Stop>
 }
 
 /// The weight with this number.
-fn weight(number: u16) -> Weight
+pub fn weight(number: u16) -> Weight
     requires { number < 4 }
     ensures { weight_number result ≡ number }
 {
@@ -86,34 +61,21 @@ fn weight(number: u16) -> Weight
     }
 }
 
-/// The position that a number stands for, if it is behind the number `last`.
-fn position(last: u16, number: u16) -> Option<Position>
-    ensures { MatchOption result (number % WEIGHT_UNIT ≤ last) (IsPlaceAfter last number) }
-{
-    let at = number % WEIGHT_UNIT;
-    if at <= last {
-        return None;
-    }
-    Some(Position::new(at, weight(number / WEIGHT_UNIT)))
-}
-
-/// So many positions, and the rest.
-pub fn positions(alloc: Global, count: usize, bytes: &[u8]) -> Result<(Vec<Position>, &[u8]), Stop>
-    ensures count { IfOk result (λ x. length x.0.items ≡ count) }
-    ensures ok { IfOk result (λ x. Lists count bytes.now x.0.items x.1.now) }
+/// Checks so many positions, and gives the rest.
+pub fn positions(count: usize, bytes: &[u8]) -> Result<&[u8], Stop>
+    ensures ok { IfOk result (λ rest. ListsSome count bytes.now rest.now) }
     ensures err { IfErr result (ListStops count bytes.now) }
 {
-    let mut found = Vec::new(alloc);
     let mut last = 0;
     let mut rest = bytes;
     for _ in 0..count {
         let (number, after) = two(rest)?;
-        let Some(place) = position(last, number) else {
-            return Err(Stop::Bad { left: rest.len() });
-        };
-        last = place.at();
-        found.push(place)?;
+        let at = number % WEIGHT_UNIT;
+        if at <= last {
+            return Err(Stop { left: rest.len() });
+        }
+        last = at;
         rest = after;
     }
-    Ok((found, rest))
+    Ok(rest)
 }

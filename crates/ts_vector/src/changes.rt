@@ -1,27 +1,25 @@
-// Items made of items.
+// Vectors made of vectors.
 ghost use Rattle.std.specs.Prelude.{◌≡◌, ℕ, ◌≤◌, ◌++◌, ◌⊎◌, map, All, Any, IfOk, OnOk};
 ghost use Rattle.ts_base.specs.declared.Weight.{Weight};
-ghost use Rattle.ts_base.specs.Vectors.{IsPosition};
+ghost use Rattle.ts_base.specs.Vectors.{IsPosition, IsNormal};
 ghost use Rattle.ts_vector.specs.ItemEntries.{item_entries};
 ghost use Rattle.ts_vector.specs.Normal.{capped};
 ghost use Rattle.ts_vector.specs.Changes.{stripped, weighted, reweighted, IsGreatest, moved_position};
 ghost use Rattle.ts_vector.specs.Inner.CappedForm.{moved_within, shifted_within};
 
+use crate::columns::Columns;
 use crate::entries::Item;
 use std::alloc::{AllocError, Global};
-use ts_base::{LAST_POSITION, Position, Weight};
+use std::str;
+use ts_base::{LAST_POSITION, Lexeme, Position, Weight};
 
-/// The items without their positions.
-pub fn without_positions(alloc: Global, items: &[Item]) -> Result<Vec<Item>, AllocError>
-    ensures { IfOk result (λ made. item_entries made.items ≡ stripped (item_entries items.now)) }
+/// The entries without their positions.
+pub fn without_positions(alloc: Global, entries: &Columns) -> Result<Columns, AllocError>
+    ensures { IfOk result (λ made. made ≡ stripped entries.now) }
 {
-    let mut made = Vec::new(alloc);
-    for item in items {
-        let lexeme = item.lexeme.clone()?;
-        made.push(Item {
-            lexeme,
-            positions: Vec::new(alloc),
-        })?;
+    let mut made = Columns::new(alloc);
+    for row in entries.rows() {
+        made.push(row.lexeme(), &[])?;
     }
     Ok(made)
 }
@@ -41,20 +39,18 @@ fn with_weight(
     Ok(made)
 }
 
-/// The items with each position at this weight.
-pub fn items_with_weight(
+/// The entries with each position at this weight.
+pub fn entries_with_weight(
     alloc: Global,
-    items: &[Item],
+    entries: &Columns,
     weight: Weight,
-) -> Result<Vec<Item>, AllocError>
-    ensures { IfOk result
-        (λ made. item_entries made.items ≡ reweighted weight (item_entries items.now)) }
+) -> Result<Columns, AllocError>
+    ensures { IfOk result (λ made. made ≡ reweighted weight entries.now) }
 {
-    let mut made = Vec::new(alloc);
-    for item in items {
-        let lexeme = item.lexeme.clone()?;
-        let positions = with_weight(alloc, item.positions.as_slice(), weight)?;
-        made.push(Item { lexeme, positions })?;
+    let mut made = Columns::new(alloc);
+    for row in entries.rows() {
+        let positions = with_weight(alloc, row.positions(), weight)?;
+        made.push(row.lexeme(), positions.as_slice())?;
     }
     Ok(made)
 }
@@ -75,13 +71,13 @@ fn greatest_from(positions: &[Position], from: u16) -> u16
 }
 
 /// The greatest number of a position, 0 where there is none.
-pub fn greatest(items: &[Item]) -> u16
-    ensures greatest { IsGreatest (item_entries items.now) result }
+pub fn greatest(entries: &Columns) -> u16
+    ensures greatest { IsGreatest entries.now result }
     ensures bound { result ≤ LAST_POSITION }
 {
     let mut greatest: u16 = 0;
-    for item in items {
-        greatest = greatest_from(item.positions.as_slice(), greatest);
+    for row in entries.rows() {
+        greatest = greatest_from(row.positions(), greatest);
     }
     greatest
 }
@@ -98,36 +94,39 @@ fn later(alloc: Global, positions: &[Position], by: u16) -> Result<Vec<Position>
     Ok(made)
 }
 
-/// Appends the items with each position so much later.
+/// Appends the entries, as items, with each position so much later.
 fn append_later(
     alloc: Global,
     made: &mut Vec<Item>,
-    items: &[Item],
+    entries: &Columns,
     by: u16,
 ) -> Result<(), AllocError>
+    requires { IsNormal entries.now }
     ensures { OnOk result
         (item_entries made.new.items
-        ≡ item_entries made.old.items ++ shifted_within by (item_entries items.now)) }
+        ≡ item_entries made.old.items ++ shifted_within by entries.now) }
 {
-    for item in items {
-        let lexeme = item.lexeme.clone()?;
-        let positions = later(alloc, item.positions.as_slice(), by)?;
+    for row in entries.rows() {
+        let text = unsafe { str::from_utf8_unchecked(row.lexeme()) };
+        let lexeme = Lexeme::from_string(String::from_str(alloc, text)?);
+        let positions = later(alloc, row.positions(), by)?;
         made.push(Item { lexeme, positions })?;
     }
     Ok(())
 }
 
-/// The first items, and then the second ones with each position so much later.
+/// The first entries, and then the second ones with each position so much later, as items.
 pub fn joined(
     alloc: Global,
-    first: &[Item],
-    second: &[Item],
+    first: &Columns,
+    second: &Columns,
     by: u16,
 ) -> Result<Vec<Item>, AllocError>
+    requires first { IsNormal first.now }
+    requires second { IsNormal second.now }
     ensures { IfOk result
         (λ made. item_entries made.items
-        ≡ shifted_within 0 (item_entries first.now)
-        ++ shifted_within by (item_entries second.now)) }
+        ≡ shifted_within 0 first.now ++ shifted_within by second.now) }
 {
     let mut made = Vec::new(alloc);
     append_later(alloc, &mut made, first, 0)?;

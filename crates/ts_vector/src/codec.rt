@@ -4,11 +4,10 @@ ghost use Rattle.std.specs.List.{flat_map};
 ghost use Rattle.ts_base.specs.Vectors.{IsEntry, IsNormal, content_size};
 ghost use Rattle.ts_base.specs.Endian.{little_bytes};
 ghost use Rattle.ts_base.specs.Spelling.{position_bytes, entry_bytes, vector_bytes};
-ghost use Rattle.ts_vector.specs.ItemEntries.{item_entry, item_entries};
 ghost use Rattle.ts_vector.specs.Inner.Extends.{Extends};
 
 use crate::SIZE_LIMIT;
-use crate::entries::Item;
+use crate::columns::{Columns, Row};
 use crate::normal::rank;
 use std::alloc::AllocError;
 use ts_base::{Position, WEIGHT_UNIT};
@@ -55,39 +54,37 @@ fn put_positions(out: &mut Vec<u8>, positions: &[Position]) -> Result<(), AllocE
 }
 
 /// Appends a lexeme and its positions.
-fn put_item(out: &mut Vec<u8>, item: &Item) -> Result<(), AllocError>
-    requires { IsEntry (item_entry item.now) }
-    ensures ok { OnOk result (out.new.items ≡ out.old.items ++ entry_bytes (item_entry item.now)) }
+fn put_entry(out: &mut Vec<u8>, row: &Row<'_>) -> Result<(), AllocError>
+    requires { IsEntry row.now }
+    ensures ok { OnOk result (out.new.items ≡ out.old.items ++ entry_bytes row.now) }
     ensures grows { Extends out.old.items out.new.items }
 {
-    let lexeme = item.lexeme.as_str();
+    let (lexeme, positions) = (row.lexeme(), row.positions());
     put_two(out, lexeme.len() as u16)?;
-    out.extend_from_slice(lexeme.as_bytes())?;
-    put_two(out, item.positions.len() as u16)?;
-    put_positions(out, item.positions.as_slice())
+    out.extend_from_slice(lexeme)?;
+    put_two(out, positions.len() as u16)?;
+    put_positions(out, positions)
 }
 
-/// Appends items, each with its positions.
-fn put_each(out: &mut Vec<u8>, items: &[Item]) -> Result<(), AllocError>
-    requires { All IsEntry (item_entries items.now) }
-    ensures ok { OnOk result
-        (out.new.items ≡ out.old.items ++ flat_map entry_bytes (item_entries items.now)) }
+/// Appends entries, each with its positions.
+fn put_each(out: &mut Vec<u8>, entries: &Columns) -> Result<(), AllocError>
+    requires { All IsEntry entries.now }
+    ensures ok { OnOk result (out.new.items ≡ out.old.items ++ flat_map entry_bytes entries.now) }
     ensures grows { Extends out.old.items out.new.items }
 {
-    for item in items {
-        put_item(out, item)?;
+    for row in entries.rows() {
+        put_entry(out, &row)?;
     }
     Ok(())
 }
 
-/// Appends the spelling of items in normal form.
-pub fn put_items(out: &mut Vec<u8>, items: &[Item]) -> Result<(), AllocError>
-    requires normal { IsNormal (item_entries items.now) }
-    requires limit { content_size (item_entries items.now) < SIZE_LIMIT }
-    ensures ok { OnOk result
-        (out.new.items ≡ out.old.items ++ vector_bytes (item_entries items.now)) }
+/// Appends the spelling of entries in normal form.
+pub fn put_entries(out: &mut Vec<u8>, entries: &Columns) -> Result<(), AllocError>
+    requires normal { IsNormal entries.now }
+    requires limit { content_size entries.now < SIZE_LIMIT }
+    ensures ok { OnOk result (out.new.items ≡ out.old.items ++ vector_bytes entries.now) }
     ensures grows { Extends out.old.items out.new.items }
 {
-    put_four(out, items.len() as u32)?;
-    put_each(out, items)
+    put_four(out, entries.len() as u32)?;
+    put_each(out, entries)
 }

@@ -17,8 +17,9 @@ ghost use Rattle.ts_vector.specs.ItemEntries.{item_entries};
 
 mod bytes;
 mod changes;
+mod checker;
 mod codec;
-mod decoder;
+mod columns;
 mod entries;
 mod error;
 mod laws;
@@ -26,12 +27,12 @@ mod limits;
 mod normal;
 mod printer;
 mod reader;
+mod spelled;
 
-use bytes::Stop;
-use changes::{greatest, items_with_weight, joined, without_positions};
-use codec::put_items;
-use decoder::read_items;
-use entries::{Item, from_pairs};
+use changes::{entries_with_weight, greatest, joined, without_positions};
+use codec::put_entries;
+use columns::Columns;
+use entries::{Item, from_entries, from_items, from_pairs};
 pub use error::VectorError;
 pub use laws::{
     bad_bytes_are_no_spelling, bad_place_is_one, fault_has_one_place, fault_is_outside,
@@ -41,8 +42,10 @@ pub use laws::{
 use limits::{first_long, size_of, to_items};
 use normal::normal_form;
 use reader::read;
+pub use spelled::{Entries, EntryBytes, Positions, VectorBytes};
 use std::alloc::{AllocError, Global};
 use std::marker::Model;
+use std::str;
 pub use ts_base::{Lexeme, LexemeError, Position, Weight};
 
 /// The size of a vector's content is below this: the bytes of all lexemes and two for each position.
@@ -51,27 +54,25 @@ pub const SIZE_LIMIT: usize = 1_048_576;
 /// A vector in normal form. Contracts see it as the list of its entries.
 #[derive(Debug, Drop)]
 pub struct TsVector {
-    /// Its items, in the order of their lexemes.
-    items: Vec<Item>,
+    /// Its entries, in the order of their lexemes.
+    entries: Columns,
 }
 
 impl Model for TsVector {
     ghost use Rattle.std.specs.Prelude.{◌<◌};
     ghost use Rattle.ts_base.specs.Vectors.{Vector, IsNormal, content_size};
-    ghost use Rattle.ts_vector.specs.ItemEntries.{item_entries};
 
     ghost Value = { Vector };
 
-    ghost view = { λ v. item_entries v.items.items };
+    ghost view = { λ v. v.entries };
 
     ghost use Rattle.ts_vector.specs.declared.TheConstants.{SIZE_LIMIT};
 
-    ghost invariant = { λ v. IsNormal (item_entries v.items.items)
-        × (content_size (item_entries v.items.items) < SIZE_LIMIT) };
+    ghost invariant = { λ v. IsNormal v.entries × (content_size v.entries < SIZE_LIMIT) };
 }
 
 /// The vector of items in normal form, if it is within the limit.
-fn within_limit(items: Vec<Item>) -> Result<TsVector, VectorError>
+fn within_limit(alloc: Global, items: Vec<Item>) -> Result<TsVector, VectorError>
     requires { IsNormal (item_entries items.items) }
     ensures value { IfOk result (λ v. (v ≡ item_entries items.items) × (content_size v < SIZE_LIMIT)) }
     ensures cause { IfErr result (IsOver (item_entries items.items)) }
@@ -80,7 +81,10 @@ fn within_limit(items: Vec<Item>) -> Result<TsVector, VectorError>
     if bytes >= SIZE_LIMIT {
         return Err(VectorError::VectorTooLarge { bytes });
     }
-    Ok(TsVector { items })
+    match from_items(alloc, items.as_slice()) {
+        Ok(entries) => Ok(TsVector { entries }),
+        Err(_) => Err(VectorError::OutOfMemory),
+    }
 }
 
 impl TsVector {
@@ -103,7 +107,7 @@ impl TsVector {
         let Ok(items) = normal_form(alloc, items) else {
             return Err(VectorError::OutOfMemory);
         };
-        within_limit(items)
+        within_limit(alloc, items)
     }
 
     /// The vector of these lexemes with these positions, in normal form.
@@ -120,7 +124,7 @@ impl TsVector {
         let Ok(items) = normal_form(alloc, items) else {
             return Err(VectorError::OutOfMemory);
         };
-        within_limit(items)
+        within_limit(alloc, items)
     }
 
     /// The entries of both, the other's positions behind this one's greatest, in normal form.
@@ -128,30 +132,30 @@ impl TsVector {
         ensures value { IfOk result (IsJoinOf self.now other.now) }
         ensures cause { IfErr result (JoinFails self.now other.now) }
     {
-        let by = greatest(self.items.as_slice());
-        let Ok(items) = joined(alloc, self.items.as_slice(), other.items.as_slice(), by) else {
+        let by = greatest(&self.entries);
+        let Ok(items) = joined(alloc, &self.entries, &other.entries, by) else {
             return Err(VectorError::OutOfMemory);
         };
         let Ok(items) = normal_form(alloc, items) else {
             return Err(VectorError::OutOfMemory);
         };
-        within_limit(items)
+        within_limit(alloc, items)
     }
 
     /// The vector without positions.
     pub fn strip(&self, alloc: Global) -> Result<TsVector, AllocError>
         ensures { IfOk result (λ v. v ≡ stripped self.now) }
     {
-        let items = without_positions(alloc, self.items.as_slice())?;
-        Ok(TsVector { items })
+        let entries = without_positions(alloc, &self.entries)?;
+        Ok(TsVector { entries })
     }
 
     /// The vector with each position at this weight.
     pub fn set_weight(&self, alloc: Global, weight: Weight) -> Result<TsVector, AllocError>
         ensures { IfOk result (λ v. v ≡ reweighted weight self.now) }
     {
-        let items = items_with_weight(alloc, self.items.as_slice(), weight)?;
-        Ok(TsVector { items })
+        let entries = entries_with_weight(alloc, &self.entries, weight)?;
+        Ok(TsVector { entries })
     }
 
     /// The printed text: each lexeme in quotes with its positions, and one space between two.
@@ -159,7 +163,7 @@ impl TsVector {
         ensures { IfOk result (λ text. string_bytes text ≡ vector_text self.now) }
     {
         let mut out = String::new(alloc);
-        printer::put_items(&mut out, self.items.as_slice())?;
+        printer::put_entries(&mut out, &self.entries)?;
         Ok(out)
     }
 
@@ -169,15 +173,16 @@ impl TsVector {
         ensures normal { IsNormal self.now }
         ensures limit { content_size self.now < SIZE_LIMIT }
     {
-        self.items.len()
+        self.entries.len()
     }
 
     /// The lexeme at the index k.
-    pub fn lexeme(&self, k: usize) -> &Lexeme
+    pub fn lexeme(&self, k: usize) -> &str
         requires { k < length self.now }
         ensures { (d : Entry) → result.now ≡ (slice_index_or self.now k d).lexeme }
     {
-        &self.items[k].lexeme
+        let bytes = self.entries.lexeme(k);
+        unsafe { str::from_utf8_unchecked(bytes) }
     }
 
     /// The positions of the lexeme at the index k.
@@ -185,7 +190,7 @@ impl TsVector {
         requires { k < length self.now }
         ensures { (d : Entry) → result.now ≡ (slice_index_or self.now k d).positions }
     {
-        self.items[k].positions.as_slice()
+        self.entries.positions(k)
     }
 
     /// Appends the vector's spelling; after an error nothing was appended.
@@ -195,7 +200,7 @@ impl TsVector {
         ensures normal { IsNormal self.now }
     {
         let start = out.len();
-        if let Err(error) = put_items(out, self.items.as_slice()) {
+        if let Err(error) = put_entries(out, &self.entries) {
             out.truncate(start);
             return Err(error);
         }
@@ -207,12 +212,10 @@ impl TsVector {
         ensures value { IfOk result (IsSpelling bytes.now) }
         ensures cause { IfErr result (DecodeFails bytes.now) }
     {
-        match read_items(alloc, bytes) {
-            Ok(items) => Ok(TsVector { items }),
-            Err(Stop::Bad { left }) => Err(VectorError::BadBytes {
-                at: bytes.len() - left,
-            }),
-            Err(Stop::OutOfMemory) => Err(VectorError::OutOfMemory),
+        let spelled = VectorBytes::new(bytes)?;
+        match from_entries(alloc, &spelled) {
+            Ok(entries) => Ok(TsVector { entries }),
+            Err(_) => Err(VectorError::OutOfMemory),
         }
     }
 }

@@ -1,12 +1,15 @@
 // Prints vectors.
-ghost use Rattle.std.specs.Prelude.{◌≡◌, ℕ, ◌<◌, ◌++◌, List, map, OnOk};
+ghost use Rattle.std.specs.Prelude.{◌≡◌, ◌∷◌, ◌++◌, All, OnOk};
+ghost use Rattle.std.specs.List.{flat_map};
 ghost use Rattle.std.specs.String.{string_bytes};
-ghost use Rattle.ts_vector.specs.ItemEntries.{item_entry, item_entries};
+ghost use Rattle.std.specs.Str.{IsUtf8};
+ghost use Rattle.ts_base.specs.Vectors.{IsEntry};
 ghost use Rattle.ts_vector.specs.Printed.{weight_text, position_text, positions_text, entry_text, vector_text};
 
-use crate::entries::Item;
+use crate::columns::{Columns, Row, Rows};
 use itoa::Buffer;
 use std::alloc::AllocError;
+use std::str;
 use ts_base::{Position, Weight, push_quoted};
 
 /// Appends the letter of a weight; D is not printed.
@@ -47,27 +50,38 @@ fn put_positions(out: &mut String, positions: &[Position]) -> Result<(), AllocEr
     Ok(())
 }
 
-/// Appends an item: its lexeme in quotes, then its positions.
-fn put_item(out: &mut String, item: &Item) -> Result<(), AllocError>
-    ensures { OnOk result
-        (string_bytes out.new ≡ string_bytes out.old ++ entry_text (item_entry item.now)) }
+/// Appends an entry: its lexeme in quotes, then its positions.
+fn put_entry(out: &mut String, row: &Row<'_>) -> Result<(), AllocError>
+    requires { IsUtf8 row.now.lexeme }
+    ensures { OnOk result (string_bytes out.new ≡ string_bytes out.old ++ entry_text row.now) }
 {
-    push_quoted(out, item.lexeme.as_str())?;
-    put_positions(out, item.positions.as_slice())
+    let text = unsafe { str::from_utf8_unchecked(row.lexeme()) };
+    push_quoted(out, text)?;
+    put_positions(out, row.positions())
 }
 
-/// Appends the items with one space between two.
-pub fn put_items(out: &mut String, items: &[Item]) -> Result<(), AllocError>
-    ensures { OnOk result
-        (string_bytes out.new ≡ string_bytes out.old ++ vector_text (item_entries items.now)) }
+/// Appends entries, each behind a space.
+fn put_others(out: &mut String, rows: Rows<'_>) -> Result<(), AllocError>
+    requires { All IsEntry rows }
+    ensures { OnOk result (string_bytes out.new
+        ≡ string_bytes out.old ++ flat_map (λ e. 32 ∷ entry_text e) rows.entry) }
 {
-    let Some((first, others)) = items.split_first() else {
-        return Ok(());
-    };
-    put_item(out, first)?;
-    for item in others {
+    for row in rows {
         out.push(' ')?;
-        put_item(out, item)?;
+        put_entry(out, &row)?;
     }
     Ok(())
+}
+
+/// Appends the entries with one space between two.
+pub fn put_entries(out: &mut String, entries: &Columns) -> Result<(), AllocError>
+    requires { All IsEntry entries.now }
+    ensures { OnOk result (string_bytes out.new ≡ string_bytes out.old ++ vector_text entries.now) }
+{
+    let mut rows = entries.rows();
+    let Some(first) = rows.next() else {
+        return Ok(());
+    };
+    put_entry(out, &first)?;
+    put_others(out, rows)
 }

@@ -125,6 +125,27 @@ fn bytes(rt: HostRuntime) -> Result<(), Fail> {
     Ok(())
 }
 
+/// A spelling is read where it lies.
+#[test]
+fn bytes_in_place(rt: HostRuntime) -> Result<(), Fail> {
+    let spelling = [2u8, 0, 0, 0, 1, 0, 97, 2, 0, 1, 192, 3, 0, 1, 0, 98, 0, 0];
+    let bytes = VectorBytes::new(spelling.as_slice())?;
+    assert_eq!(rt; bytes.count(), 2);
+    let mut entries = bytes.entries();
+    if let Some(first) = entries.next() {
+        assert_eq!(rt; first.lexeme(), "a");
+        let mut positions = first.positions();
+        assert!(rt; !positions.is_empty() && positions.len() == 2);
+        assert_eq!(rt; positions.next(), Some(Position::new(1, Weight::A)));
+        assert_eq!(rt; positions.next(), Some(Position::new(3, Weight::D)));
+        assert!(rt; positions.is_empty() && positions.next().is_none());
+    }
+    let second = entries.next();
+    assert!(rt; second.is_some_and(|entry| entry.lexeme() == "b" && entry.positions().is_empty()));
+    assert!(rt; entries.next().is_none());
+    Ok(())
+}
+
 /// Each row is refused at its place.
 #[test]
 fn bad_bytes(rt: HostRuntime) -> Result<(), Fail> {
@@ -137,7 +158,7 @@ fn bad_bytes(rt: HostRuntime) -> Result<(), Fail> {
             bytes.push(number.parse::<u8>().unwrap_or(0))?;
         }
         let at = place.parse::<usize>().unwrap_or(99);
-        let error = TsVector::decode(alloc, bytes.as_slice()).err();
+        let error = VectorBytes::new(bytes.as_slice()).err();
         assert_eq!(rt; error, Some(VectorError::BadBytes { at }), "{row}");
         count = count.saturating_add(1);
     }
@@ -157,7 +178,7 @@ fn least_positions(rt: HostRuntime) -> Result<(), Fail> {
     items.push((Lexeme::new(alloc, "a")?, positions))?;
     let v = TsVector::build(alloc, items)?;
     assert!(rt; v.count() == 1);
-    assert_eq!(rt; v.lexeme(0).as_str(), "a");
+    assert_eq!(rt; v.lexeme(0), "a");
     assert_eq!(rt; v.positions(0).len(), 256);
     assert_eq!(rt; v.positions(0).last(), Some(&Position::new(256, Weight::D)));
     Ok(())

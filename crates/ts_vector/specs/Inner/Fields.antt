@@ -1,12 +1,11 @@
 -- What one field after the other says to a decoder, whatever came before.
 use Rattle.std.specs.Prelude.{◌≡◌, ℕ, ◌-◌, ◌<◌, ◌≤◌, ◌⊎◌, if◌then◌else◌, List, [], ◌∷◌, ◌++◌, length, All, Any, nat_lt}
-use Rattle.ts_base.specs.declared.TheConstants.{WEIGHT_UNIT}
-use Rattle.ts_base.specs.Lexemes.{IsLexeme}
-use Rattle.ts_base.specs.Vectors.{Position, Vector}
-use Rattle.ts_base.specs.Spelling.{position_number}
-use Rattle.ts_vector.specs.Decoded.{DecodedPart, counted, placed, entry_with, IsBehind, ReadsFields, IsBadAt}
+use Rattle.std.specs.List.{flat_map}
+use Rattle.ts_base.specs.Vectors.{Position, Entry, Vector, IsNormal, content_size}
+use Rattle.ts_base.specs.Spelling.{entry_bytes}
+use Rattle.ts_vector.specs.Decoded.{DecodedPart, counted, placed, entry_with, AreRising, ReadsFields, IsBadAt, IsSpelling}
 use Rattle.ts_vector.specs.declared.bytes.Stop.{Stop}
-use Rattle.ts_vector.specs.declared.bytes.Stop.TheVariants.{Bad, OutOfMemory}
+use Rattle.ts_vector.specs.declared.checker.Front.{Front}
 
 -- from the part p with r left, fields lead to the part q with s left
 pub record Goes (p : DecodedPart) (r : List ℕ) (q : DecodedPart) (s : List ℕ) : Type 0 where
@@ -19,24 +18,11 @@ pub record Spoils (p : DecodedPart) (r : List ℕ) (left : ℕ) : Type 0 where
   pub bad : (bytes : List ℕ) → ReadsFields bytes p r → IsBadAt bytes (length bytes - left)
 
 abbrev pub Stops : DecodedPart → List ℕ → Stop → Type 0
-Stops p r (Bad left) = Spoils p r left
-Stops p r OutOfMemory = Unit {0}
+Stops p r stop = Spoils p r stop.left
 
 -- so many bytes are not there
 abbrev pub IsShort : ℕ → List ℕ → Stop → Type 0
-IsShort n r (Bad left) = (left ≡ 0) × (length r < n)
-IsShort n r OutOfMemory = ⊥
-
--- the position that the number stands for is behind the number `last`
-abbrev pub IsPlaceAfter : ℕ → ℕ → Position → Type 0
-IsPlaceAfter last number p = (number ≡ position_number p) × (last < p.at) × (p.at < WEIGHT_UNIT)
-
--- the next lexeme, behind those of v
-abbrev pub IsNext : Vector → List ℕ → List ℕ → Type 0
-IsNext v bytes l = (l ≡ bytes) × IsLexeme bytes × IsBehind v bytes
-
-abbrev pub NotNext : Vector → List ℕ → Type 0
-NotNext v bytes = IsLexeme bytes → ¬ IsBehind v bytes
+IsShort n r stop = (stop.left ≡ 0) × (length r < n)
 
 -- behind the positions ps of m
 abbrev pub behind : ℕ → Vector → List ℕ → ℕ → List Position → DecodedPart
@@ -46,6 +32,10 @@ behind n v l m ps =
 -- with r left before the first of m positions, they are ps, and s is left
 pub record Lists (m : ℕ) (r : List ℕ) (ps : List Position) (s : List ℕ) : Type 0 where
   pub on : (n : ℕ) (v : Vector) (l : List ℕ) → Goes (behind n v l m []) r (behind n v l m ps) s
+
+-- the bytes begin with m positions, and s is left
+abbrev pub ListsSome : ℕ → List ℕ → List ℕ → Type 0
+ListsSome m r s = (ps : List Position) × (length ps ≡ m) × AreRising ps × Lists m r ps s
 
 abbrev pub ListStops : ℕ → List ℕ → Stop → Type 0
 ListStops m r e = (n : ℕ) (v : Vector) (l : List ℕ) → Stops (behind n v l m []) r e
@@ -57,5 +47,25 @@ pub record IsLast (ps : List Position) (last : ℕ) : Type 0 where
 
 -- the bytes are bad so many bytes before their end
 abbrev pub BytesStop : List ℕ → Stop → Type 0
-BytesStop bytes (Bad left) = (left ≤ length bytes) × IsBadAt bytes (length bytes - left)
-BytesStop bytes OutOfMemory = Unit {0}
+BytesStop bytes stop = (stop.left ≤ length bytes) × IsBadAt bytes (length bytes - stop.left)
+
+-- the lexeme of the last entry, none where there is no entry
+pub data IsLastLexeme : Vector → List ℕ → Type 0 where
+  no_lexeme : IsLastLexeme [] []
+  last_lexeme : (v : Vector) (e : Entry) → IsLastLexeme (v ++ e ∷ []) e.lexeme
+
+-- what the entries so far leave to a decoder: their size and the last lexeme
+pub record IsFront (v : Vector) (front : Front) : Type 0 where
+  pub normal : IsNormal v
+  pub size : front.size ≡ content_size v
+  pub last : IsLastLexeme v front.last.now
+
+-- behind the entries v the bytes have one more entry, and the front and s are left
+abbrev pub Adds : ℕ → Vector → List ℕ → Front → List ℕ → Type 0
+Adds n v r front s = (e : Entry) × Goes (counted n v) r (counted n (v ++ e ∷ [])) s
+    × IsFront (v ++ e ∷ []) front
+
+-- the bytes are a spelling that has so many entries, with these bytes
+abbrev pub IsChecked : List ℕ → ℕ → List ℕ → Type 0
+IsChecked bytes count entries = (v : Vector) × IsSpelling bytes v × (length v ≡ count)
+    × (entries ≡ flat_map entry_bytes v)

@@ -5,11 +5,11 @@ use Rattle.ts_vector.specs.declared.TheConstants.{SIZE_LIMIT}
 use Rattle.ts_vector.specs.declared.error.VectorError.{VectorError}
 use Rattle.ts_vector.specs.declared.error.VectorError.TheVariants.{Syntax, LexemeTooLong, VectorTooLarge, BadBytes, OutOfMemory}
 
--- a vector in normal form is refused for its size alone
+-- a vector in normal form is refused for its size, or where memory runs out
 abbrev pub IsOver : Vector → VectorError → Type 0
 IsOver vector (Syntax n) = ⊥
 IsOver vector (LexemeTooLong n) = ⊥
 IsOver vector (VectorTooLarge n) = (n ≡ min (content_size vector) (2 ^ 64 - 1))
     × (SIZE_LIMIT ≤ content_size vector)
 IsOver vector (BadBytes n) = ⊥
-IsOver vector OutOfMemory = ⊥
+IsOver vector OutOfMemory = Unit {0}

@@ -14,37 +14,34 @@ use Rattle.ts_vector.proofs.TsVector.concat.Goals as goal
 
 pub normal_form-requires : goal.normal_form-requires
 normal_form-requires c =
-    let v = item_entries c.self.inside.items.items in
-    let w = item_entries c.other.inside.items.items in
+    let v = c.self.inside.entries in
+    let w = c.other.inside.entries in
     let n = c.greatest-by.result in
     let e : item_entries c.in-Ok.items.items ≡ v ++ shifted_within n w =
-    c.in-Ok.ensures ∙ ap (λ l. shifted_within 0 (item_entries l) ++ shifted_within n (item_entries c.as_slice-3.result.now)) c.as_slice-2.ensures.value
-    ∙ ap (λ l. shifted_within 0 v ++ shifted_within n (item_entries l)) c.as_slice-3.ensures.value ∙ ap (λ t. t ++ shifted_within n w) (unmoved v c.self.invariant.0.entries) in
+    c.in-Ok.ensures ∙ ap (λ t. t ++ shifted_within n w) (unmoved v c.self.invariant.0.entries) in
     subst (All IsWritten) (sym e) (All-append IsWritten v (shifted_within n w) (normal_written v c.self.invariant.0) (moved_written n w c.other.invariant.0))
 
 pub returns-clause-value : goal.returns-clause-value
 returns-clause-value c =
-    let v = item_entries c.self.inside.items.items in
-    let w = item_entries c.other.inside.items.items in
+    let v = c.self.inside.entries in
+    let w = c.other.inside.entries in
     let n = c.greatest-by.result in
     let e : item_entries c.in-Ok.items.items ≡ v ++ shifted_within n w =
-    c.in-Ok.ensures ∙ ap (λ l. shifted_within 0 (item_entries l) ++ shifted_within n (item_entries c.as_slice-3.result.now)) c.as_slice-2.ensures.value
-    ∙ ap (λ l. shifted_within 0 v ++ shifted_within n (item_entries l)) c.as_slice-3.ensures.value ∙ ap (λ t. t ++ shifted_within n w) (unmoved v c.self.invariant.0.entries) in
+    c.in-Ok.ensures ∙ ap (λ t. t ++ shifted_within n w) (unmoved v c.self.invariant.0.entries) in
     let made = item_entries c.in-Ok-normal_form.items.items in
-    let greatest : IsGreatest v n = subst (λ l. IsGreatest (item_entries l) n) c.as_slice.ensures.value c.greatest-by.ensures.greatest in
+    let greatest : IsGreatest v n = c.greatest-by.ensures.greatest in
     let form : IsNormalFormOf (v ++ shifted_within n w) made = subst (λ l. IsNormalFormOf l made) e c.in-Ok-normal_form.ensures.form in
     rw (← c.self.view_is, ← c.other.view_is) (IfOk-weaker c.within_limit.result (λ u. (u ≡ made) × (content_size u < 1048576)) (IsJoinOf v w) (λ u h. is_join v w n greatest made form u h.0 h.1) c.within_limit.ensures.value)
 
 pub returns-clause-cause : goal.returns-clause-cause
 returns-clause-cause c =
-    let v = item_entries c.self.inside.items.items in
-    let w = item_entries c.other.inside.items.items in
+    let v = c.self.inside.entries in
+    let w = c.other.inside.entries in
     let n = c.greatest-by.result in
     let e : item_entries c.in-Ok.items.items ≡ v ++ shifted_within n w =
-    c.in-Ok.ensures ∙ ap (λ l. shifted_within 0 (item_entries l) ++ shifted_within n (item_entries c.as_slice-3.result.now)) c.as_slice-2.ensures.value
-    ∙ ap (λ l. shifted_within 0 v ++ shifted_within n (item_entries l)) c.as_slice-3.ensures.value ∙ ap (λ t. t ++ shifted_within n w) (unmoved v c.self.invariant.0.entries) in
+    c.in-Ok.ensures ∙ ap (λ t. t ++ shifted_within n w) (unmoved v c.self.invariant.0.entries) in
     let made = item_entries c.in-Ok-normal_form.items.items in
-    let greatest : IsGreatest v n = subst (λ l. IsGreatest (item_entries l) n) c.as_slice.ensures.value c.greatest-by.ensures.greatest in
+    let greatest : IsGreatest v n = c.greatest-by.ensures.greatest in
     let form : IsNormalFormOf (v ++ shifted_within n w) made = subst (λ l. IsNormalFormOf l made) e c.in-Ok-normal_form.ensures.form in
     let size = subst (λ l. content_size made ≤ content_size l) e c.in-Ok-normal_form.ensures.size in
     let small : content_size made < 2 ^ 64 = omega (arith, size-append v (shifted_within n w), moved_size n w, c.self.invariant.1, c.other.invariant.1) in

@@ -1,15 +1,17 @@
-use Rattle.std.proofs.Common.{◌≡◌, ◌≤◌, ◌⊎◌, subst}
+use Rattle.std.proofs.Common.{◌≡◌, ◌≤◌, ◌⊎◌, ◌∷◌, [], ◌++◌, ap, sym, subst, ◌∙◌, append_assoc}
 use Rattle.std.specs.Prelude.{All, Any}
-use Rattle.ts_vector.proofs.Greatest.{step_item}
+use Rattle.ts_vector.proofs.Greatest.{step_entry}
 use Rattle.ts_vector.proofs.changes.greatest.Goals as goal
 
-pub loop-item-preserved : goal.loop-item-preserved
-loop-item-preserved c =
-    let x = c.item-item.result in
+pub loop-row-preserved : goal.loop-row-preserved
+loop-row-preserved c =
+    let is = c.loop-row.invariant in
+    let row = c.in-Some.row in
     let h = c.greatest_from-greatest.result in
-    let e = c.as_slice.ensures.value in (
-      step_item c.args.items.now c.loop-item.item-index x c.loop-item.greatest h c.loop-item-test.true c.item-item.is c.loop-item.invariant.0
-          c.greatest_from-greatest.ensures.lower (subst (All (λ p. p.at ≤ h)) e c.greatest_from-greatest.ensures.bound)
-          (subst (λ ps. (h ≡ c.loop-item.greatest) ⊎ Any (λ p. p.at ≡ h) ps) e c.greatest_from-greatest.ensures.met),
+    let e = c.positions.ensures in (
+      step_entry c.loop-row.yielded row c.loop-row.greatest h is.0 c.greatest_from-greatest.ensures.lower
+          (subst (All (λ p. p.at ≤ h)) e c.greatest_from-greatest.ensures.bound)
+          (subst (λ ps. (h ≡ c.loop-row.greatest) ⊎ Any (λ p. p.at ≡ h) ps) e c.greatest_from-greatest.ensures.met),
       c.greatest_from-greatest.ensures.upper,
+      append_assoc c.loop-row.yielded (row ∷ []) c.next.new.self ∙ ap (λ t. c.loop-row.yielded ++ t) (sym c.in-Some.ensures.steps) ∙ is.2,
     )

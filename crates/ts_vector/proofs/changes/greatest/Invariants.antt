@@ -1,7 +1,6 @@
-use Rattle.std.proofs.Common.{◌≤◌, take}
-use Rattle.ts_vector.specs.ItemEntries.{item_entries}
+use Rattle.std.proofs.Common.{◌≡◌, ◌≤◌, ◌++◌}
 use Rattle.ts_vector.specs.Changes.{IsGreatest}
 use Rattle.ts_vector.proofs.changes.greatest.Given as goal
 
-abbrev pub invariant-loop-item : goal.invariant-loop-item
-invariant-loop-item l = IsGreatest (item_entries (take l.item-index l.items)) l.greatest × (l.greatest ≤ 16383)
+abbrev pub invariant-loop-row : goal.invariant-loop-row
+invariant-loop-row l = IsGreatest l.yielded l.greatest × (l.greatest ≤ 16383) × (l.yielded ++ l.row-iterator ≡ l.entries)

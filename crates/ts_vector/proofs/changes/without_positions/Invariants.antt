@@ -1,7 +1,6 @@
-use Rattle.std.proofs.Common.{◌≡◌, take}
-use Rattle.ts_vector.specs.ItemEntries.{item_entries}
+use Rattle.std.proofs.Common.{◌≡◌, ◌++◌}
 use Rattle.ts_vector.specs.Changes.{stripped}
 use Rattle.ts_vector.proofs.changes.without_positions.Given as goal
 
-abbrev pub invariant-loop-item : goal.invariant-loop-item
-invariant-loop-item l = item_entries l.made.items ≡ stripped (item_entries (take l.item-index l.items))
+abbrev pub invariant-loop-row : goal.invariant-loop-row
+invariant-loop-row l = l.made ++ stripped l.row-iterator ≡ stripped l.entries

@@ -1,0 +1,110 @@
+// Checks the bytes of a vector, entry by entry.
+ghost use Rattle.std.specs.Prelude.{◌≡◌, ℕ, ◌+◌, ◌*◌, ◌<◌, ◌≤◌, List, ◌++◌, length, IfOk, IfErr, IsTrue, ◌↔◌};
+ghost use Rattle.std.specs.Str.{IsUtf8};
+ghost use Rattle.ts_base.specs.Endian.{little_bytes};
+ghost use Rattle.ts_base.specs.Lexemes.{IsBefore};
+ghost use Rattle.ts_base.specs.Vectors.{Vector, content_size};
+ghost use Rattle.ts_vector.specs.declared.TheConstants.{SIZE_LIMIT};
+ghost use Rattle.ts_vector.specs.Decoded.{counted, named};
+ghost use Rattle.ts_vector.specs.Inner.Fields.{Stops, IsFront, Adds, BytesStop, IsChecked};
+
+use crate::SIZE_LIMIT;
+use crate::bytes::{Stop, four, positions, take, two};
+use std::str;
+use ts_base::{LONGEST_LEXEME, MOST_POSITIONS};
+
+/// What is known of the entries so far.
+#[derive(Clone, Copy, Debug)]
+pub struct Front<'a> {
+    /// The last lexeme, empty where there is none.
+    last: &'a [u8],
+    /// The size of the entries' content.
+    size: usize,
+}
+
+/// The length of the next lexeme, behind entries of this size, and the rest.
+fn length(size: usize, bytes: &[u8]) -> Result<(usize, &[u8]), Stop>
+    requires { size < SIZE_LIMIT }
+    ensures some { IfOk result (λ x. 1 ≤ x.0) }
+    ensures most { IfOk result (λ x. x.0 ≤ LONGEST_LEXEME) }
+    ensures small { IfOk result (λ x. size + x.0 < SIZE_LIMIT) }
+    ensures ok { IfOk result (λ x. bytes.now ≡ little_bytes 2 x.0 ++ x.1.now) }
+    ensures err { IfErr result (λ stop. (n : ℕ) → (v : Vector) → length v < n
+        → size ≡ content_size v → Stops (counted n v) bytes.now stop) }
+{
+    let (length, rest) = two(bytes)?;
+    let length = usize::from(length);
+    if length == 0 || length > LONGEST_LEXEME || size + length >= SIZE_LIMIT {
+        return Err(Stop { left: bytes.len() });
+    }
+    Ok((length, rest))
+}
+
+/// Whether the bytes are text and behind the last lexeme.
+fn is_next(last: &[u8], bytes: &[u8]) -> bool
+    ensures { IsTrue result ↔ (IsBefore last.now bytes.now × IsUtf8 bytes.now) }
+{
+    match str::from_utf8(bytes) {
+        Ok(_) => last.cmp(bytes).is_lt(),
+        Err(_) => false,
+    }
+}
+
+/// The number of a lexeme's positions, behind entries and a lexeme of this size, and the rest.
+fn number(size: usize, bytes: &[u8]) -> Result<(usize, &[u8]), Stop>
+    requires { size < SIZE_LIMIT }
+    ensures few { IfOk result (λ x. x.0 ≤ MOST_POSITIONS) }
+    ensures small { IfOk result (λ x. size + 2 * x.0 < SIZE_LIMIT) }
+    ensures ok { IfOk result (λ x. bytes.now ≡ little_bytes 2 x.0 ++ x.1.now) }
+    ensures err { IfErr result (λ stop. (n : ℕ) → (v : Vector) → (l : List ℕ)
+        → size ≡ content_size v + length l → Stops (named n v l) bytes.now stop) }
+{
+    let (number, rest) = two(bytes)?;
+    let number = usize::from(number);
+    if number > MOST_POSITIONS || size + 2 * number >= SIZE_LIMIT {
+        return Err(Stop { left: bytes.len() });
+    }
+    Ok((number, rest))
+}
+
+impl<'a> Front<'a> {
+    /// Checks the next entry: what is known behind it, and the rest.
+    fn entry(self, bytes: &'a [u8]) -> Result<(Front<'a>, &'a [u8]), Stop>
+        requires { self.size < SIZE_LIMIT }
+        ensures small { IfOk result (λ x. x.0.size < SIZE_LIMIT) }
+        ensures ok { IfOk result (λ x. (n : ℕ) → (v : Vector) → length v < n → IsFront v self.entry
+            → Adds n v bytes.now x.0 x.1.now) }
+        ensures err { IfErr result (λ stop. (n : ℕ) → (v : Vector) → length v < n
+            → IsFront v self.entry → Stops (counted n v) bytes.now stop) }
+    {
+        let (length, rest) = length(self.size, bytes)?;
+        let (lexeme, after) = take(rest, length)?;
+        if !is_next(self.last, lexeme) {
+            return Err(Stop { left: rest.len() });
+        }
+        let (number, rest) = number(self.size + length, after)?;
+        let rest = positions(number, rest)?;
+        let size = self.size + length + 2 * number;
+        Ok((Front { last: lexeme, size }, rest))
+    }
+}
+
+/// Checks a vector's whole spelling, and gives the number of its entries and their bytes.
+pub fn checked(bytes: &[u8]) -> Result<(usize, &[u8]), Stop>
+    ensures ok { IfOk result (λ x. IsChecked bytes.now x.0 x.1.now) }
+    ensures err { IfErr result (BytesStop bytes.now) }
+{
+    let (count, entries) = four(bytes)?;
+    let mut rest = entries;
+    let mut front = Front {
+        last: &bytes[..0],
+        size: 0,
+    };
+    for _ in 0..count {
+        (front, rest) = front.entry(rest)?;
+    }
+    if !rest.is_empty() {
+        return Err(Stop { left: rest.len() });
+    }
+    Ok((count as usize, entries))
+}
