@@ -1,5 +1,5 @@
-//! Matches 1,000 made documents against 20 queries, and prints how many each query finds; then two matches that are hard.
-//! With the word `time` it also prints how many documents are matched in a second, and how long each hard match takes.
+//! Reads 1,000 made documents from their texts and from their spellings, matches them against 20 queries, and prints how many
+//! each query finds; then two matches that are hard. With the word `time` it also prints how long each of these takes.
 #![tactic(auto)]
 
 ghost use Rattle.std.specs.Prelude.{◌≡◌, ◌≤◌, length};
@@ -12,7 +12,7 @@ use std::rt::{Clock, Env};
 use std::time::Instant;
 use ts_match::{MatchWork, matches};
 use ts_query::TsQuery;
-use ts_vector::TsVector;
+use ts_vector::{TsVector, VectorBytes};
 
 /// How many documents are made.
 const DOCUMENTS: u32 = 1000;
@@ -82,15 +82,70 @@ fn make_document(alloc: Global, seed: &mut u64) -> Result<String, AllocError> {
     Ok(text)
 }
 
-/// The made documents.
-fn make_documents(alloc: Global) -> Result<Vec<TsVector>> {
+/// The texts of the made documents.
+fn make_texts(alloc: Global) -> Result<Vec<String>, AllocError> {
     let mut seed = 1;
-    let mut documents = Vec::new(alloc);
+    let mut texts = Vec::new(alloc);
     for _ in 0..DOCUMENTS {
-        let text = make_document(alloc, &mut seed)?;
-        documents.push(TsVector::parse(alloc, &text)?)?;
+        texts.push(make_document(alloc, &mut seed)?)?;
+    }
+    Ok(texts)
+}
+
+/// The documents of the texts.
+fn parse_all(alloc: Global, texts: &[String]) -> Result<Vec<TsVector>> {
+    let mut documents = Vec::new(alloc);
+    for text in texts {
+        documents.push(TsVector::parse(alloc, text)?)?;
     }
     Ok(documents)
+}
+
+/// The spellings of the documents.
+fn encode_all(alloc: Global, documents: &[TsVector]) -> Result<Vec<Vec<u8>>> {
+    let mut spellings = Vec::new(alloc);
+    for document in documents {
+        let mut bytes = Vec::new(alloc);
+        document.encode(&mut bytes)?;
+        spellings.push(bytes)?;
+    }
+    Ok(spellings)
+}
+
+/// How many bytes the texts have.
+fn text_size(texts: &[String]) -> usize {
+    let mut size: usize = 0;
+    for text in texts {
+        size = size.saturating_add(text.as_str().len());
+    }
+    size
+}
+
+/// How many bytes the spellings have.
+fn spelled_size(spellings: &[Vec<u8>]) -> usize {
+    let mut size: usize = 0;
+    for bytes in spellings {
+        size = size.saturating_add(bytes.len());
+    }
+    size
+}
+
+/// How many lexemes the spellings have, each decoded.
+fn decode_all(alloc: Global, spellings: &[Vec<u8>]) -> Result<usize> {
+    let mut lexemes: usize = 0;
+    for bytes in spellings {
+        lexemes = lexemes.saturating_add(TsVector::decode(alloc, bytes)?.count());
+    }
+    Ok(lexemes)
+}
+
+/// How many lexemes the spellings have, each checked where it lies.
+fn check_all(spellings: &[Vec<u8>]) -> Result<usize> {
+    let mut lexemes: usize = 0;
+    for bytes in spellings {
+        lexemes = lexemes.saturating_add(VectorBytes::new(bytes)?.count());
+    }
+    Ok(lexemes)
 }
 
 /// How many documents satisfy the query.
@@ -180,16 +235,74 @@ fn match_one(
     Ok(())
 }
 
+/// Says how long one document takes, if it is asked for.
+fn print_each(rt: &impl Print, seconds: f64, timed: bool) -> Result<()> {
+    if timed {
+        let each = seconds * 1_000_000.0 / f64::from(DOCUMENTS);
+        println!(rt; "{each:.2} microseconds a document")?;
+    }
+    Ok(())
+}
+
+/// Reads each document from its text.
+fn read_texts(rt: &(impl Print + Clock + AllocGlobal), timed: bool) -> Result<Vec<TsVector>> {
+    let texts = make_texts(rt.alloc())?;
+    let start = Instant::now(rt)?;
+    let documents = parse_all(rt.alloc(), &texts)?;
+    let seconds = start.elapsed(rt)?.as_secs_f64();
+    let size = text_size(&texts);
+    println!(rt; "{} texts of {size} bytes", documents.len())?;
+    print_each(rt, seconds, timed)?;
+    Ok(documents)
+}
+
+/// Decodes each spelling.
+fn decode_spellings(
+    rt: &(impl Print + Clock + AllocGlobal),
+    spellings: &[Vec<u8>],
+    timed: bool,
+) -> Result<()> {
+    let start = Instant::now(rt)?;
+    let lexemes = decode_all(rt.alloc(), spellings)?;
+    let seconds = start.elapsed(rt)?.as_secs_f64();
+    println!(rt; "{lexemes} lexemes decoded")?;
+    print_each(rt, seconds, timed)
+}
+
+/// Checks each spelling where it lies.
+fn check_spellings(rt: &(impl Print + Clock), spellings: &[Vec<u8>], timed: bool) -> Result<()> {
+    let start = Instant::now(rt)?;
+    let lexemes = check_all(spellings)?;
+    let seconds = start.elapsed(rt)?.as_secs_f64();
+    let size = spelled_size(spellings);
+    println!(rt; "{lexemes} lexemes of {size} bytes checked where they lie")?;
+    print_each(rt, seconds, timed)
+}
+
+/// Reads each document's spelling, decoded and where it lies.
+fn read_spellings(
+    rt: &(impl Print + Clock + AllocGlobal),
+    documents: &[TsVector],
+    timed: bool,
+) -> Result<()> {
+    let spellings = encode_all(rt.alloc(), documents)?;
+    decode_spellings(rt, &spellings, timed)?;
+    check_spellings(rt, &spellings, timed)
+}
+
 /// Matches each document against each query.
-fn match_all(rt: &(impl Print + Clock + AllocGlobal), timed: bool) -> Result<()> {
+fn match_all(
+    rt: &(impl Print + Clock + AllocGlobal),
+    documents: &[TsVector],
+    timed: bool,
+) -> Result<()> {
     let alloc = rt.alloc();
-    let documents = make_documents(alloc)?;
     let mut seconds = 0.0;
     for text in QUERIES {
         let query = TsQuery::parse(alloc, text)?;
         let mut work = MatchWork::new(alloc, &query)?;
         let start = Instant::now(rt)?;
-        let found = count(&query, &mut work, &documents);
+        let found = count(&query, &mut work, documents);
         let taken = start.elapsed(rt)?.as_secs_f64();
         seconds += taken;
         println!(rt; "{found} {text}")?;
@@ -209,7 +322,9 @@ fn match_all(rt: &(impl Print + Clock + AllocGlobal), timed: bool) -> Result<()>
 fn run(rt: &(impl Print + Env + Clock + AllocGlobal)) -> Result<()> {
     let alloc = rt.alloc();
     let timed = env::args(rt)?.skip(1).any(|word| word.as_str() == "time");
-    match_all(rt, timed)?;
+    let documents = read_texts(rt, timed)?;
+    read_spellings(rt, &documents, timed)?;
+    match_all(rt, &documents, timed)?;
     let wide = wide_phrase(alloc)?;
     let odd = odd_document(alloc)?;
     match_one(
