@@ -18,3 +18,5 @@ pub use placed::Placed;
 /// How many types of tokens there are.
 pub const TYPES: usize = 15;
 
+#[cfg(test)]
+mod tests;
