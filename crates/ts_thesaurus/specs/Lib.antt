@@ -1,0 +1,6 @@
+pub mod Rules
+pub mod Lines
+pub mod Faults
+pub mod Views
+pub mod Laws
+pub mod Inner

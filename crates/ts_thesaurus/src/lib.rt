@@ -1,0 +1,18 @@
+//! Thesaurus dictionaries, which replace phrases.
+#![tactic(auto)]
+
+mod error;
+mod laws;
+mod line;
+mod matching;
+mod reading;
+mod rule;
+mod thesaurus;
+mod words;
+
+pub use error::{LineError, ThesaurusError};
+pub use laws::{lines_have_one_reading, one_fits};
+pub use thesaurus::{Replaced, Thesaurus};
+
+#[cfg(test)]
+mod tests;

@@ -1,0 +1,158 @@
+// The dictionary.
+ghost use Rattle.std.specs.Prelude.{◌≡◌, ◌↔◌, ◌⊎◌, ℕ, ◌<◌, List, [], ◌∷◌, ◌++◌, map, IfOk, IfErr, IfSome, IfNone, IsTrue, OnOk, OnErr};
+ghost use Rattle.std.specs.Str.Lines.{lines};
+ghost use Rattle.ts_base.specs.Dictionary.{answer_value};
+ghost use Rattle.ts_thesaurus.specs.Rules.{IsBest, NoneFits, Continues};
+ghost use Rattle.ts_thesaurus.specs.Lines.{AreRules};
+ghost use Rattle.ts_thesaurus.specs.Faults.{IsFault, IsRefusal};
+ghost use Rattle.ts_thesaurus.specs.Inner.Best.{IsBestPlace};
+ghost use Rattle.ts_thesaurus.specs.Views.{rule_value};
+
+use crate::error::{LineError, ThesaurusError};
+use crate::line::read_line;
+use crate::matching::{fits_all, fits_first};
+use crate::rule::KeptRule;
+use std::alloc::{AllocError, Global};
+use std::marker::Model;
+use ts_base::{Answer, Dictionary, Found};
+
+/// A dictionary that replaces phrases. Contracts see it as the list of its rules, in the order of their lines.
+#[derive(Debug, Drop)]
+pub struct Thesaurus {
+    /// The rules.
+    rules: Vec<KeptRule>,
+}
+
+impl Model for Thesaurus {
+    ghost use Rattle.std.specs.Prelude.{List, map};
+    ghost use Rattle.ts_thesaurus.specs.Rules.{Rule};
+
+    ghost Value = { List Rule };
+
+    ghost use Rattle.ts_thesaurus.specs.Views.{rule_value};
+
+    ghost view = { λ t. map rule_value t.rules.items };
+}
+
+/// What is replaced: how many answers, and the words in their place.
+#[derive(Clone, Copy, Debug)]
+pub struct Replaced<'a> {
+    /// How many answers, from the first on.
+    pub tokens: usize,
+    /// The words in their place.
+    pub words: &'a [Found],
+}
+
+/// The place of the longest rule that fits the first answers, of equal ones the last.
+fn best_place(rules: &[KeptRule], answers: &[Answer]) -> Option<usize>
+    ensures { IsBestPlace rules.now (map answer_value answers.now) result }
+{
+    let mut best = None;
+    let mut longest = 0;
+    for (i, rule) in rules.iter().enumerate() {
+        let samples = rule.samples.as_slice();
+        if longest <= samples.len() && fits_first(samples, answers) {
+            longest = samples.len();
+            best = Some(i);
+        }
+    }
+    best
+}
+
+impl Thesaurus {
+    /// The thesaurus without rules.
+    pub fn new(alloc: Global) -> Thesaurus
+        ensures { result ≡ [] }
+    {
+        Thesaurus {
+            rules: Vec::new(alloc),
+        }
+    }
+
+    /// The rules of these lines, by the answers of the subdictionary.
+    pub fn read<D: Dictionary>(
+        alloc: Global,
+        text: &str,
+        sub: &D,
+    ) -> Result<Thesaurus, ThesaurusError>
+        ensures value { IfOk result (AreRules (D.answer sub.now) (lines text.now)) }
+        ensures bad { IfErr result (IsRefusal (D.answer sub.now) (lines text.now)) }
+    {
+        let mut thesaurus = Thesaurus::new(alloc);
+        let mut number = 0;
+        for line in text.lines() {
+            number += 1;
+            if let Err(error) = thesaurus.add_line(alloc, line, sub) {
+                return Err(error.at(number));
+            }
+        }
+        Ok(thesaurus)
+    }
+
+    /// Puts a rule behind the others.
+    fn keep(&mut self, rule: KeptRule) -> Result<(), AllocError>
+        ensures kept { OnOk result (self.new ≡ self.old ++ rule_value rule ∷ []) }
+        ensures failed { OnErr result (self.new ≡ self.old) }
+    {
+        self.rules.push(rule)?;
+        Ok(())
+    }
+
+    /// Takes the rule of one line more, by the answers of the subdictionary. A refused line changes nothing.
+    pub fn add_line<D: Dictionary>(
+        &mut self,
+        alloc: Global,
+        line: &str,
+        sub: &D,
+    ) -> Result<(), LineError>
+        ensures taken { OnOk result ((lines : List (List ℕ))
+            → AreRules (D.answer sub.now) lines self.old
+            → AreRules (D.answer sub.now) (lines ++ line.now ∷ []) self.new) }
+        ensures fault { IfErr result (IsFault (D.answer sub.now) line.now) }
+        ensures failed { OnErr result (self.new ≡ self.old) }
+    {
+        let Some(rule) = read_line(alloc, line, sub)? else {
+            return Ok(());
+        };
+        self.keep(rule)?;
+        Ok(())
+    }
+
+    /// What the longest rule that fits the first answers gives, of equally long ones the last; none where no rule fits.
+    pub fn best(&self, answers: &[Answer]) -> Option<Replaced<'_>>
+        ensures best { IfSome result (λ r. IsBest self.now (map answer_value answers.now)
+            (record { tokens = r.tokens; words = r.words.now })) }
+        ensures none { IfNone result (NoneFits self.now (map answer_value answers.now)) }
+    {
+        let place = best_place(&self.rules, answers)?;
+        let rule = &self.rules[place];
+        Some(Replaced {
+            tokens: rule.samples.as_slice().len(),
+            words: rule.words.as_slice(),
+        })
+    }
+
+    /// Whether some rule has a beginning that fits all of these answers.
+    pub fn continues(&self, answers: &[Answer]) -> bool
+        ensures { IsTrue result ↔ Continues self.now (map answer_value answers.now) }
+    {
+        for rule in &self.rules {
+            if fits_all(&rule.samples, answers) {
+                return true;
+            }
+        }
+        false
+    }
+}
+
+/// A thesaurus replaces phrases, and knows no single word.
+impl Dictionary for Thesaurus {
+    ghost use Rattle.ts_base.specs.Dictionary.{unknown_word};
+
+    ghost answer = { λ _ _. unknown_word };
+
+    /// Unknown.
+    fn lexize(&self, _alloc: Global, _word: &str) -> Result<Answer, AllocError> {
+        Ok(Answer::Unknown)
+    }
+}
