@@ -6,7 +6,11 @@
 #![tactic(auto)]
 
 mod answers;
+mod book;
 mod laws;
+mod names;
+mod transactions;
+mod uses;
 
 pub use answers::{Fate, PageUse};
 pub use laws::{
