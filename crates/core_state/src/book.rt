@@ -1,11 +1,11 @@
 // What is kept of a log's transactions, numbers and commits.
 ghost use Rattle.std.specs.Prelude.{◌≡◌, ◌≢◌, ◌↔◌, ◌≤◌, ◌-◌, suc, true, [], length, OnOk, OnErr, Some};
 ghost use Rattle.std.specs.List.{slice_get};
-ghost use Rattle.core_state.specs.States.{StateValue, empty_state, begun, ended_all, fate_of, heap_pages, run_started};
+ghost use Rattle.core_state.specs.States.{StateValue, empty_state, begun, aborted, transaction, ended_all, fate_of, heap_pages, run_started};
 
 use crate::answers::Fate;
 use crate::names::NameLists;
-use crate::transactions::{Names, Transaction, end_all, fate_in};
+use crate::transactions::{Names, Transaction, end_all, fate_in, leave, runs, set_fate};
 use page_types::Name;
 use std::alloc::{AllocError, Global};
 use std::marker::Model;
@@ -144,6 +144,34 @@ impl Book {
         self.fates.len() as u32 + 1
     }
 
+    // The serial that the next document gets.
+    pub(crate) fn next_serial(&self) -> u64
+        ensures { result ≡ self.now.next_serial }
+    {
+        self.next_serial
+    }
+
+    // The last redo number.
+    pub(crate) fn redo(&self) -> u64
+        ensures { result ≡ self.now.redo }
+    {
+        self.redo
+    }
+
+    // How many pages the store may have.
+    pub(crate) fn pages(&self) -> u32
+        ensures { result ≡ self.now.pages }
+    {
+        self.pages
+    }
+
+    // Where xids end.
+    pub(crate) fn xid_limit(&self) -> u32
+        ensures { result ≡ self.now.xid_limit }
+    {
+        self.xid_limit
+    }
+
     // Whether a transaction runs.
     pub(crate) fn has_running(&self) -> bool
         ensures { result ≡ true ↔ (self.now.running ≢ []) }
@@ -168,5 +196,15 @@ impl Book {
     {
         self.current = self.highest;
         self.freed.clear();
+    }
+
+    // Transaction xid is aborted, if it runs.
+    pub(crate) fn abort(&mut self, xid: u32)
+        ensures { self.new ≡ aborted xid (transaction xid self.old.running) self.old }
+    {
+        if runs(&self.running, xid) {
+            set_fate(&mut self.fates, xid, Fate::Aborted);
+            leave(&mut self.running, xid);
+        }
     }
 }

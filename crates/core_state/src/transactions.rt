@@ -1,5 +1,5 @@
 // Running transactions and the fates of xids.
-ghost use Rattle.std.specs.Prelude.{◌≡◌, ◌<◌, ◌≤◌, ◌++◌, ◌∷◌, [], length, Some, None, IfSome, IfNone, OnOk, OnErr};
+ghost use Rattle.std.specs.Prelude.{◌≡◌, ◌<◌, ◌≤◌, ◌++◌, ◌∷◌, [], length, Some, None, is_some, IfSome, IfNone, OnOk, OnErr};
 ghost use Rattle.std.specs.List.{slice_get};
 ghost use Rattle.core_state.specs.States.{fate_at, with_fate, all_ended, transaction, without};
 
@@ -72,6 +72,13 @@ pub(crate) fn place_of(running: &[Transaction], xid: u32) -> Option<usize>
         }
     }
     None
+}
+
+// Whether the transaction with this xid runs.
+pub(crate) fn runs(running: &[Transaction], xid: u32) -> bool
+    ensures { result ≡ is_some (transaction xid running.now) }
+{
+    place_of(running, xid).is_some()
 }
 
 // The fate of an xid.

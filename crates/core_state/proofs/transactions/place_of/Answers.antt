@@ -1,4 +1,4 @@
-use Rattle.std.proofs.Common.{◌≡◌, ◌∷◌, suc, length, drop, get_or, Some, List, sym, ap, ◌∙◌, arith}
+use Rattle.std.proofs.Common.{◌≡◌, ◌∷◌, suc, drop, Some, List, sym, ap, ◌∙◌}
 use Rattle.std.proofs.Math.Seq.{drop-cons}
 use Rattle.core_state.proofs.UseSteps.{element_at}
 use Rattle.core_state.specs.declared.transactions.Transaction.{Transaction}

@@ -1,4 +1,4 @@
-use Rattle.std.proofs.Common.{◌≡◌, ◌<◌, ◌≤◌, length, take, get_or, All, sym, ap, subst, ◌∙◌, arith}
+use Rattle.std.proofs.Common.{arith}
 use Rattle.core_state.proofs.UseSteps.{end_more, end_all}
 use Rattle.core_state.proofs.uses.pages_end.Goals as goal
 

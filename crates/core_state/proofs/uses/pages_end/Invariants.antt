@@ -1,4 +1,4 @@
-use Rattle.std.proofs.Common.{◌≡◌, ◌<◌, ◌≤◌, take, All}
+use Rattle.std.proofs.Common.{◌<◌, take, All}
 use Rattle.page_types.specs.Numbers.{page_limit}
 use Rattle.page_types.specs.declared.record.Change.{Change}
 use Rattle.core_state.proofs.uses.pages_end.Given as goal
