@@ -11,10 +11,11 @@ use Rattle.core_state.specs.Log.{Log, Pages, commits, next_xid, next_serial, ser
 use Rattle.core_state.specs.Documents.{Doc, name_of, placed, marked}
 use Rattle.core_state.specs.History.{Document, Commit, History, AreInserts, IsHistory}
 use Rattle.core_state.specs.Legal.{IsRow, RowsAreValid}
-use Rattle.core_state.specs.States.{Transaction, StateValue, fate_at, with_fate, all_ended, uses_after, transaction, without, replaced, begun, committed, aborted, ended_all, placed_head, last_serial, step_of, state_of, names}
+use Rattle.core_state.specs.States.{StateValue, fate_at, with_fate, all_ended, uses_after, transaction, without, replaced, begun, committed, aborted, ended_all, placed_head, last_serial, step_of, state_of, names}
+use Rattle.core_state.specs.declared.transactions.Transaction.{Transaction}
 use Rattle.core_state.specs.declared.answers.Fate.{Fate}
 use Rattle.core_state.specs.declared.answers.Fate.TheVariants.{Unused, Running, Aborted, Committed}
-use Rattle.core_state.proofs.Transactions.{same_or_other, on_same, on_other, is_same, is_other, with_fate_at, length-with_fate, past_fate, begun_at, joined_at, without_at, replaced_at, HaveBegun, ended_by, all_ended_at, length-all_ended}
+use Rattle.core_state.proofs.RunningOnes.{same_or_other, on_same, on_other, is_same, is_other, with_fate_at, length-with_fate, past_fate, begun_at, joined_at, without_at, replaced_at, HaveBegun, ended_by, all_ended_at, length-all_ended}
 
 -- what transaction x has done so far
 abbrev pub work : Log → ℕ → Transaction
@@ -160,9 +161,9 @@ commit_kept R s n x cs number runs k =
       inserted = λ H h. ap₂ (λ (a : List (List Name)) (b : List Name). a ++ b ∷ []) (k.inserted h.0 h.2) (inserted_names h.3.pages (placed R x) h.1.inserted h.3.inserted)
           ∙ sym (map-append (λ (c : Commit). names c.inserted) h.0 (h.1 ∷ [])) ∙ sym (ap (map (λ (c : Commit). names c.inserted)) h.4);
     } in
-    let tested : Kept (rec_of n x (kind.Commit c) cs ∷ R) (committed c (Some (work R x)) s1) =
+    let tested : Kept (rec_of n x (kind.Commit c) cs ∷ R) (committed c x (Some (work R x)) s1) =
     subst (λ b. Kept (rec_of n x (kind.Commit c) cs ∷ R) (if b then s' else s1)) (sym (is_same c (suc (length s.deleted)) (ap suc (sym k.commits_are)))) kept in
-    subst (λ o. Kept (rec_of n x (kind.Commit c) cs ∷ R) (committed c o s1)) (sym (found_work R s x k runs)) tested
+    subst (λ o. Kept (rec_of n x (kind.Commit c) cs ∷ R) (committed c x o s1)) (sym (found_work R s x k runs)) tested
 
 -- abort
 not_zero : (R : Log) (s : StateValue) (x : ℕ) → Kept R s → fate R x ≡ Running → x ≢ 0
@@ -174,7 +175,7 @@ abort_kept R s n x cs number runs k =
     let off : x ≢ 0 = not_zero R s x k runs in
     let same : (y : ℕ) → cond (x == 0) (ended (fate R y)) (cond (x == y) Aborted (fate R y)) ≡ cond (x == y) Aborted (fate R y) =
     λ y. on_other x 0 (ended (fate R y)) (cond (x == y) Aborted (fate R y)) off in
-    let kept : Kept (rec_of n x kind.Abort cs ∷ R) (aborted (Some (work R x)) (before n cs s)) = record {
+    let kept : Kept (rec_of n x kind.Abort cs ∷ R) (aborted x (Some (work R x)) (before n cs s)) = record {
       records = number;
       fates = λ y. with_fate_at s.fates x y Aborted (has_begun R s x k runs) ∙ ap (cond (x == y) Aborted) (k.fates y) ∙ sym (same y);
       next_xid_is = ap suc (length-with_fate s.fates x Aborted) ∙ k.next_xid_is;
@@ -186,9 +187,9 @@ abort_kept R s n x cs number runs k =
       deleted = k.deleted;
       inserted = k.inserted;
     } in
-    let one : Kept (rec_of n x kind.Abort cs ∷ R) (aborted (transaction x s.running) (before n cs s)) =
-    subst (λ o. Kept (rec_of n x kind.Abort cs ∷ R) (aborted o (before n cs s))) (sym (found_work R s x k runs)) kept in
-    subst (λ b. Kept (rec_of n x kind.Abort cs ∷ R) (cond b (ended_all (before n cs s)) (aborted (transaction x s.running) (before n cs s)))) (sym (is_other x 0 off)) one
+    let one : Kept (rec_of n x kind.Abort cs ∷ R) (aborted x (transaction x s.running) (before n cs s)) =
+    subst (λ o. Kept (rec_of n x kind.Abort cs ∷ R) (aborted x o (before n cs s))) (sym (found_work R s x k runs)) kept in
+    subst (λ b. Kept (rec_of n x kind.Abort cs ∷ R) (cond b (ended_all (before n cs s)) (aborted x (transaction x s.running) (before n cs s)))) (sym (is_other x 0 off)) one
 
 -- every running transaction is aborted
 ended_kept : (f : Fate) (t : Transaction) → ended_by (kept_by f t) f ≡ ended f

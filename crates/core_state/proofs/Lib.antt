@@ -3,9 +3,10 @@ pub mod Monotone
 pub mod Newest
 pub mod Histories
 pub mod Keys
-pub mod Transactions
+pub mod RunningOnes
 pub mod Following
-pub mod Uses
+pub mod PageUses
 pub mod StateTold
 pub mod Worked
 pub mod WorkedMore
+pub mod UseSteps

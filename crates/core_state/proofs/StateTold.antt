@@ -1,7 +1,7 @@
 -- The state of a legal log tells of it.
 use Rattle.core_state.specs.States.{StateFollows}
 use Rattle.core_state.proofs.Following.{kept}
-use Rattle.core_state.proofs.Uses.{uses_told}
+use Rattle.core_state.proofs.PageUses.{uses_told}
 
 pub state_told : StateFollows
 state_told pages xid_limit R l =

@@ -1,5 +1,6 @@
 -- What the program keeps of a log, and how it follows each record.
-use Rattle.std.specs.Prelude.{◌≡◌, ℕ, zero, suc, ◌-◌, ◌^◌, ◌&&◌, ◌==◌, nat_lt, cond, if◌then◌else◌, max, List, [], ◌∷◌, ◌++◌, length, get_or, set, map, replicate, Option, Some, None}
+use Rattle.std.specs.Prelude.{◌≡◌, ℕ, zero, suc, ◌-◌, ◌^◌, ◌&&◌, ◌==◌, not, nat_lt, cond, if◌then◌else◌, max, List, [], ◌∷◌, ◌++◌, length, get_or, set, map, replicate, Option, Some, None}
+use Rattle.std.specs.List.{filter}
 use Rattle.page_types.specs.Numbers.{page_limit}
 use Rattle.page_types.specs.declared.page.Name.{Name}
 use Rattle.page_types.specs.declared.record.Change.{Change}
@@ -13,16 +14,11 @@ use Rattle.core_state.specs.Documents.{Doc, page_of, name_of}
 use Rattle.core_state.specs.History.{Document, Commit, History, IsHistory}
 use Rattle.core_state.specs.Known.{use_in}
 use Rattle.core_state.specs.Legal.{IsLegal}
+use Rattle.core_state.specs.declared.transactions.Transaction.{Transaction}
 use Rattle.core_state.specs.declared.answers.Fate.{Fate}
 use Rattle.core_state.specs.declared.answers.Fate.TheVariants.{Unused, Running, Aborted, Committed}
 use Rattle.core_state.specs.declared.answers.PageUse.{PageUse}
 use Rattle.core_state.specs.declared.answers.PageUse.TheVariants as usage
-
--- a running transaction, with the names that it has marked and those that it has placed
-pub record Transaction : Type 0 where
-  pub xid : ℕ
-  pub deleted : List Name
-  pub inserted : List Name
 
 -- What is kept: how many pages a store may have, and where its xids end; the number of the last record; the fates of the
 -- xids 1, 2 and so on; the uses of the pages 0, 1 and so on; the next serial; the last redo number; the names that each
@@ -99,8 +95,7 @@ transaction x (t ∷ ts) = cond (t.xid == x) (Some t) (transaction x ts)
 
 -- the others
 abbrev pub without : ℕ → List Transaction → List Transaction
-without x [] = []
-without x (t ∷ ts) = cond (t.xid == x) (without x ts) (t ∷ without x ts)
+without x ts = filter (λ (t : Transaction). not (t.xid == x)) ts
 
 -- the transactions, with this one in place of that of its xid
 abbrev pub replaced : Transaction → List Transaction → List Transaction
@@ -138,22 +133,22 @@ begun x s = if (x == suc (length s.fates)) && nat_lt x xid_bound
     then record s { fates = s.fates ++ Running ∷ []; running = s.running ++ record { xid = x; deleted = []; inserted = [] } ∷ [] }
     else s
 
--- the transaction commits with this number, if it runs and the number is the next
-abbrev pub committed : ℕ → Option Transaction → StateValue → StateValue
-committed n None s = s
-committed n (Some t) s = if n == suc (length s.deleted)
+-- transaction x commits with this number, if it runs and the number is the next
+abbrev pub committed : ℕ → ℕ → Option Transaction → StateValue → StateValue
+committed n x None s = s
+committed n x (Some t) s = if n == suc (length s.deleted)
     then record s {
-      fates = with_fate t.xid (Committed n) s.fates;
+      fates = with_fate x (Committed n) s.fates;
       deleted = s.deleted ++ t.deleted ∷ [];
       inserted = s.inserted ++ t.inserted ∷ [];
-      running = without t.xid s.running;
+      running = without x s.running;
     }
     else s
 
--- the transaction is aborted, if it runs
-abbrev pub aborted : Option Transaction → StateValue → StateValue
-aborted None s = s
-aborted (Some t) s = record s { fates = with_fate t.xid Aborted s.fates; running = without t.xid s.running }
+-- transaction x is aborted, if it runs
+abbrev pub aborted : ℕ → Option Transaction → StateValue → StateValue
+aborted x None s = s
+aborted x (Some t) s = record s { fates = with_fate x Aborted s.fates; running = without x s.running }
 
 -- every running transaction is aborted
 abbrev pub ended_all : StateValue → StateValue
@@ -183,8 +178,8 @@ marked_head (Some t) d s = record s { running = replaced (record t { deleted = t
 -- what a record of this kind and xid, which changes these pages, makes of a state
 abbrev pub stepped : Kind → ℕ → List ℕ → StateValue → StateValue
 stepped kind.Begin x ps s = begun x s
-stepped (kind.Commit n) x ps s = committed n (transaction x s.running) s
-stepped kind.Abort x ps s = cond (x == 0) (ended_all s) (aborted (transaction x s.running) s)
+stepped (kind.Commit n) x ps s = committed n x (transaction x s.running) s
+stepped kind.Abort x ps s = cond (x == 0) (ended_all s) (aborted x (transaction x s.running) s)
 stepped (kind.Checkpoint redo) x ps s = record s { redo = redo }
 stepped (kind.PlaceHead item serial) x ps s = placed_head (transaction x s.running) (record { item = item; serial = serial }) s
 stepped (kind.MarkDeleted item serial) x ps s = marked_head (transaction x s.running) (record { item = item; serial = serial }) s

@@ -6,9 +6,19 @@
 #![tactic(auto)]
 
 mod answers;
+mod book;
 mod laws;
+mod names;
+mod state;
+mod transactions;
+mod uses;
 
 pub use answers::{Fate, PageUse};
 pub use laws::{
     history_is_one, keys_are_one, newest_may_go, pages_are_shown, state_follows, valid_is_monotone,
 };
+pub use state::State;
+pub use transactions::{Names, Transaction};
+
+#[cfg(test)]
+mod tests;

@@ -21,12 +21,13 @@ use Rattle.page_types.specs.declared.record.Kind.TheVariants as kind
 use Rattle.core_state.specs.Log.{Log, Pages, In, Shows, changed, after_changes, replay, commits, xid_bound}
 use Rattle.core_state.specs.Known.{use_by, use_in}
 use Rattle.core_state.specs.Legal.{IsRow, Valid, RowsAreValid}
-use Rattle.core_state.specs.States.{Transaction, StateValue, kind_byte, edited_use, with_use, uses_after, transaction, committed, aborted, ended_all, placed_head, marked_head, last_serial, stepped, state_of}
+use Rattle.core_state.specs.States.{StateValue, kind_byte, edited_use, with_use, uses_after, transaction, committed, aborted, ended_all, placed_head, marked_head, last_serial, stepped, state_of}
 use Rattle.core_state.specs.Documents.{Doc}
+use Rattle.core_state.specs.declared.transactions.Transaction.{Transaction}
 use Rattle.core_state.specs.declared.answers.PageUse.{PageUse}
 use Rattle.core_state.specs.declared.answers.PageUse.TheVariants as usage
 use Rattle.core_state.proofs.Showing.{shown_one, none_yet, shown_none, others_stay, untouched}
-use Rattle.core_state.proofs.Transactions.{same_or_other, on_same}
+use Rattle.core_state.proofs.RunningOnes.{same_or_other, on_same}
 
 below_or_past : (k n : ℕ) → (k < n) ⊎ (n ≤ k)
 below_or_past k n = grind arith
@@ -162,13 +163,13 @@ either_uses : (b : Bool) (s t : StateValue) → t.uses ≡ s.uses → (if b then
 either_uses true s t e = e
 either_uses false s t e = refl
 
-committed_uses : (n : ℕ) (o : Option Transaction) (s : StateValue) → (committed n o s).uses ≡ s.uses
-committed_uses n None s = refl
-committed_uses n (Some t) s = either_uses (n == suc (length s.deleted)) s _ refl
+committed_uses : (n x : ℕ) (o : Option Transaction) (s : StateValue) → (committed n x o s).uses ≡ s.uses
+committed_uses n x None s = refl
+committed_uses n x (Some t) s = either_uses (n == suc (length s.deleted)) s _ refl
 
-aborted_uses : (o : Option Transaction) (s : StateValue) → (aborted o s).uses ≡ s.uses
-aborted_uses None s = refl
-aborted_uses (Some t) s = refl
+aborted_uses : (x : ℕ) (o : Option Transaction) (s : StateValue) → (aborted x o s).uses ≡ s.uses
+aborted_uses x None s = refl
+aborted_uses x (Some t) s = refl
 
 marked_uses : (o : Option Transaction) (d : Doc) (s : StateValue) → (marked_head o d s).uses ≡ s.uses
 marked_uses None d s = refl
@@ -178,14 +179,14 @@ placed_uses : (o : Option Transaction) (d : Doc) (s : StateValue) → (placed_he
 placed_uses None d s = refl
 placed_uses (Some t) d s = either_uses ((d.serial == s.next_serial) && nat_lt d.serial (suc last_serial)) s _ refl
 
-ended_uses : (b : Bool) (o : Option Transaction) (s : StateValue) → (cond b (ended_all s) (aborted o s)).uses ≡ s.uses
-ended_uses true o s = refl
-ended_uses false o s = aborted_uses o s
+ended_uses : (b : Bool) (x : ℕ) (o : Option Transaction) (s : StateValue) → (cond b (ended_all s) (aborted x o s)).uses ≡ s.uses
+ended_uses true x o s = refl
+ended_uses false x o s = aborted_uses x o s
 
 stepped_uses : (k : Kind) (x : ℕ) (ps : List ℕ) (s : StateValue) → (stepped k x ps s).uses ≡ s.uses
 stepped_uses kind.Begin x ps s = either_uses ((x == suc (length s.fates)) && nat_lt x xid_bound) s _ refl
-stepped_uses (kind.Commit n) x ps s = committed_uses n (transaction x s.running) s
-stepped_uses kind.Abort x ps s = ended_uses (x == 0) (transaction x s.running) s
+stepped_uses (kind.Commit n) x ps s = committed_uses n x (transaction x s.running) s
+stepped_uses kind.Abort x ps s = ended_uses (x == 0) x (transaction x s.running) s
 stepped_uses (kind.PlaceHead item serial) x ps s = placed_uses (transaction x s.running) _ s
 stepped_uses (kind.MarkDeleted item serial) x ps s = marked_uses (transaction x s.running) _ s
 stepped_uses _ x ps s = refl

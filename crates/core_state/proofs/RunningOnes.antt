@@ -1,10 +1,11 @@
 -- Fates in a list, and running transactions.
-use Rattle.std.proofs.Common.{◌≡◌, ◌≢◌, ◌⊎◌, ◌<◌, ◌≤◌, ℕ, zero, suc, Bool, true, false, cond, ◌==◌, List, [], ◌∷◌, ◌++◌, length, get_or, refl, sym, ap, subst, ◌∙◌, inl, inr, arith}
+use Rattle.std.proofs.Common.{◌≡◌, ◌≢◌, ◌⊎◌, ◌<◌, ◌≤◌, ℕ, zero, suc, Bool, true, false, cond, not, ◌==◌, List, [], ◌∷◌, ◌++◌, length, get_or, refl, sym, ap, subst, ◌∙◌, inl, inr, arith}
 use Rattle.std.specs.Prelude.{Option, Some, None, ⊤}
 use Rattle.std.proofs.lemmas.List.{get_or-set_other, get_or_past, get_or_append_left, get_or-append_right, length-set}
 use Rattle.std.proofs.lemmas.Grind.{get_or-set_at}
 use Rattle.std.proofs.Math.Seq.{get_or-append_seam}
-use Rattle.core_state.specs.States.{Transaction, fate_at, with_fate, all_ended, transaction, without, replaced}
+use Rattle.core_state.specs.States.{fate_at, with_fate, all_ended, transaction, without, replaced}
+use Rattle.core_state.specs.declared.transactions.Transaction.{Transaction}
 use Rattle.core_state.specs.declared.answers.Fate.{Fate}
 use Rattle.core_state.specs.declared.answers.Fate.TheVariants.{Unused, Running, Aborted}
 
@@ -103,12 +104,18 @@ without_other u us x y off ih = elim (same_or_other u.xid y) [
   | inr d ↦ first_isnt u (without x us) y d ∙ ih ∙ sym (ap (cond (x == y) None) (first_isnt u us y d))
 ]
 
+first_goes : (u : Transaction) (us : List Transaction) (x : ℕ) → u.xid ≡ x → without x (u ∷ us) ≡ without x us
+first_goes u us x e = ap (λ (b : Bool). cond (not b) (u ∷ without x us) (without x us)) (is_same u.xid x e)
+
+first_stays : (u : Transaction) (us : List Transaction) (x : ℕ) → u.xid ≢ x → without x (u ∷ us) ≡ u ∷ without x us
+first_stays u us x d = ap (λ (b : Bool). cond (not b) (u ∷ without x us) (without x us)) (is_other u.xid x d)
+
 -- one less
 pub without_at : (ts : List Transaction) (x y : ℕ) → transaction y (without x ts) ≡ cond (x == y) None (transaction y ts)
 without_at [] x y = sym (cond_both (x == y) None)
 without_at (u ∷ us) x y = elim (same_or_other u.xid x) [
-  | inl e ↦ ap (transaction y) (on_same u.xid x (without x us) (u ∷ without x us) e) ∙ without_at us x y ∙ without_same u us x y e
-  | inr d ↦ ap (transaction y) (on_other u.xid x (without x us) (u ∷ without x us) d) ∙ without_other u us x y d (without_at us x y)
+  | inl e ↦ ap (transaction y) (first_goes u us x e) ∙ without_at us x y ∙ without_same u us x y e
+  | inr d ↦ ap (transaction y) (first_stays u us x d) ∙ without_other u us x y d (without_at us x y)
 ]
 
 replaced_same : (v : Transaction) (vs : List Transaction) (t : Transaction) (y : ℕ) → v.xid ≡ t.xid → transaction y (t ∷ vs) ≡ cond (t.xid == y) (Some t) (transaction y (v ∷ vs))
