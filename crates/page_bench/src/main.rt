@@ -1,0 +1,45 @@
+//! Clones full pages, and reads and writes a record with an image and a long item list, and prints counts of what it coded.
+//! With the word `time` it also prints how long each takes.
+#![tactic(auto)]
+
+mod pages;
+mod records;
+
+use anyhow::Result;
+use pages::{clone_page, entry_leaf, heap_page, pending_page};
+use records::{code_items, code_record};
+use std::env;
+use std::rt::{Clock, Env};
+
+/// Prints how many things were coded, and how long each took where that is asked for.
+pub(crate) fn report(
+    rt: &impl Print,
+    what: &str,
+    found: usize,
+    rounds: u32,
+    seconds: f64,
+    timed: bool,
+) -> Result<()> {
+    println!(rt; "{found} {what}")?;
+    if timed {
+        let each = seconds * 1_000_000_000.0 / f64::from(rounds);
+        println!(rt; "{each:.0} nanoseconds")?;
+    }
+    Ok(())
+}
+
+/// The whole program.
+fn run(rt: &(impl Print + Env + Clock + AllocGlobal)) -> Result<()> {
+    let alloc = rt.alloc();
+    let timed = env::args(rt)?.skip(1).any(|word| word.as_str() == "time");
+    clone_page(rt, "heads of a heap page cloned", &heap_page(alloc)?, timed)?;
+    clone_page(rt, "keys of a leaf cloned", &entry_leaf(alloc)?, timed)?;
+    clone_page(rt, "rows of ten keys cloned", &pending_page(alloc)?, timed)?;
+    code_record(rt, timed)?;
+    code_items(rt, timed)
+}
+
+/// The whole program, at the process's own input and output.
+fn main(rt: HostRuntime) -> Result<()> {
+    run(&rt)
+}
