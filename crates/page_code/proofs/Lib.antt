@@ -11,3 +11,6 @@ pub mod ChildLaws
 pub mod PostingLaws
 pub mod BodyLaws
 pub mod PageLaws
+pub mod Appending
+pub mod Sizes
+pub mod Counting

@@ -46,8 +46,8 @@ stamp_at form bytes = do
   tested (fits_free form n.0) bytes n
 
 -- the used length, and the zero gap behind it
-unfoldable pub used_at : List ℕ → Read ℕ
-used_at bytes = do
+unfoldable pub used_length_at : List ℕ → Read ℕ
+used_length_at bytes = do
   n ← number_at 2 bytes
   used ← tested (nat_le n.0 most_body) bytes n
   rest ← zeros_at 6 used.1
@@ -67,7 +67,7 @@ front_at bytes = do
   count ← count_at form.0 form.1
   right ← right_at form.0 count.1
   stamp ← stamp_at form.0 right.1
-  used ← used_at stamp.1
+  used ← used_length_at stamp.1
   body ← framed_at form.0 right.0 count.0 used.0 used.1
   Ok (record { right = right.0; stamp = stamp.0; body = body.0 }, body.1)
 
