@@ -24,7 +24,7 @@ use Rattle.page_code.specs.declared.form.Form.TheVariants as form
 use Rattle.page_code.specs.Fields.{Read, below_at, key_at, each_at}
 use Rattle.page_code.specs.Forms.{count_fits, fits_free}
 use Rattle.page_code.specs.Bodies.{meta_at, heap_slot_at, slots_at, row_at, rows_at, entries_at, high_key_at, entry_leaf_at, entry_children_at, post_children_at, posting_at, body_at, whole_body_at}
-use Rattle.page_code.proofs.Tests.{above_none}
+use Rattle.page_code.proofs.Passing.{above_none}
 use Rattle.page_code.proofs.FieldLaws.{below_takes, below_again, key_takes, key_again}
 use Rattle.page_code.proofs.Lists.{ok_is, all_take, all_again, each_fits, all_fit}
 use Rattle.page_code.proofs.HeapLaws.{slot_reader}

@@ -12,7 +12,7 @@ use Rattle.page_types.specs.declared.page.EntryChild.{EntryChild}
 use Rattle.page_types.proofs.FieldReading.{IsBytes, bind_ok, Takes, Takes-then}
 use Rattle.page_code.specs.Fields.{Read, below_at, bound_at}
 use Rattle.page_code.specs.Bodies.{may_lack_bound, entry_child_at, entry_children_at}
-use Rattle.page_code.proofs.Tests.{and_parts, and_both, above_none, above_trans}
+use Rattle.page_code.proofs.Passing.{and_parts, and_both, above_none, above_trans}
 use Rattle.page_code.proofs.FieldLaws.{below_takes, below_again, IsNextBound, bound_takes, bound_again}
 use Rattle.page_code.proofs.Lists.{ok_is, IsReader, AllFit, TakesAll, all_take, all_again, all_above}
 

@@ -18,7 +18,7 @@ use Rattle.page_types.proofs.FieldReading.{IsBytes, IsBytes-take, bind_ok, teste
 use Rattle.page_code.specs.Fields.{Read, below_at, key_at, bound_at}
 use Rattle.page_code.specs.Items.{list_at}
 use Rattle.page_code.specs.Bodies.{in_part, inline_size_at, inline_at, root_at, postings_at, entry_at, entries_at, may_lack_bound, entry_child_at, entry_children_at}
-use Rattle.page_code.proofs.Tests.{and_parts, and_both, above_none, above_trans}
+use Rattle.page_code.proofs.Passing.{and_parts, and_both, above_none, above_trans}
 use Rattle.page_code.proofs.FieldLaws.{tested_again, below_takes, below_again, key_takes, key_again, IsNextBound, bound_takes, bound_again}
 use Rattle.page_code.proofs.ItemReading.{list_takes, list_again}
 use Rattle.page_code.proofs.Lists.{ok_is, IsReader, AllFit, TakesAll, all_take, all_again, chain_above, above_chain}

@@ -1,4 +1,4 @@
-pub mod Tests
+pub mod Passing
 pub mod Numbers
 pub mod ItemReading
 pub mod Loops

@@ -24,7 +24,7 @@ use Rattle.page_code.specs.Bodies.{in_part, body_at, whole_body_at}
 use Rattle.page_code.specs.Reading.{kind_at, known_at, was_at, form_at, count_at, right_at, stamp_at, used_length_at, framed_at, front_at, page_at}
 use Rattle.page_code.specs.Decoding.{Answers, placed}
 use Rattle.page_code.specs.Laws.{AreBytes, Spells, ReadingIsSpelled, SpellingIsRead}
-use Rattle.page_code.proofs.Tests.{and_parts, and_both}
+use Rattle.page_code.proofs.Passing.{and_parts, and_both}
 use Rattle.page_code.proofs.FieldLaws.{tested_again, zeros_take, zeros_again}
 use Rattle.page_code.proofs.EntryLaws.{part_ok, part_fits}
 use Rattle.page_code.proofs.Lists.{ok_is}

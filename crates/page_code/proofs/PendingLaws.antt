@@ -11,7 +11,7 @@ use Rattle.page_types.specs.declared.page.Row.{Row}
 use Rattle.page_types.proofs.FieldReading.{IsBytes, bind_ok, tested_ok, Takes, Takes-then, u16_takes, u16_again}
 use Rattle.page_code.specs.Fields.{Read, below_at, key_at}
 use Rattle.page_code.specs.Bodies.{keys_at, some_at, row_at}
-use Rattle.page_code.proofs.Tests.{above_none, above_trans}
+use Rattle.page_code.proofs.Passing.{above_none, above_trans}
 use Rattle.page_code.proofs.FieldLaws.{tested_again, below_takes, below_again, key_takes, key_again}
 use Rattle.page_code.proofs.Lists.{ok_is, IsReader, AllFit, TakesAll, all_take, all_again, chain_above, above_chain}
 

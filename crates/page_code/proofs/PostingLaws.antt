@@ -14,7 +14,7 @@ use Rattle.page_types.proofs.FieldReading.{IsBytes, bind_ok, tested_ok, Takes, T
 use Rattle.page_code.specs.Fields.{Read, below_at}
 use Rattle.page_code.specs.Items.{items_at}
 use Rattle.page_code.specs.Bodies.{may_lack_bound, item_bound_at, post_child_at, post_children_at, is_high_item, high_item_at, front_of, posting_at}
-use Rattle.page_code.proofs.Tests.{and_parts, and_both, either, either_left, either_right}
+use Rattle.page_code.proofs.Passing.{and_parts, and_both, either, either_left, either_right}
 use Rattle.page_code.proofs.FieldLaws.{tested_again, below_takes, below_again}
 use Rattle.page_code.proofs.ItemReading.{front_takes, front_again}
 use Rattle.page_code.proofs.Lists.{ok_is, IsReader, AllFit, TakesAll, all_take, all_again, all_above}

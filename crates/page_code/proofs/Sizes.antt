@@ -18,7 +18,7 @@ use Rattle.page_types.proofs.PageLaws.{length-front_bytes}
 use Rattle.page_types.proofs.PageTelling.{key_short}
 use Rattle.page_code.specs.Inner.Putting.{Puts}
 use Rattle.page_code.proofs.Appending.{puts_none, puts_then}
-use Rattle.page_code.proofs.Tests.{none_from}
+use Rattle.page_code.proofs.Passing.{none_from}
 
 pub length-key_field : (key : List ℕ) → length (key_field key) ≡ 2 + length key
 unfolding key_field

@@ -20,3 +20,8 @@ pub use error::PageError;
 pub use laws::spellings_are_read;
 pub use reading::decode_page;
 pub use writing::encode_page;
+
+#[cfg(test)]
+mod rows;
+#[cfg(test)]
+mod tests;

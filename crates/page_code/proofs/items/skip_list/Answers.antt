@@ -1,7 +1,7 @@
 use Rattle.std.proofs.Common.{◌<◌, length}
 use Rattle.std.proofs.lemmas.Result.{err_from_is_err_and}
 use Rattle.page_code.proofs.ItemReading.{item_shorter}
-use Rattle.page_code.proofs.Tests.{some_from, none_from}
+use Rattle.page_code.proofs.Passing.{some_from, none_from}
 use Rattle.page_code.proofs.Loops.{reading_starts, reading_goes_on, reading_ends, reading_fails}
 use Rattle.page_code.proofs.items.skip_list.Goals as goal
 
