@@ -1,12 +1,12 @@
 -- What stands on a page of each form: what is read was spelled, and what is spelled is read.
-use Rattle.std.proofs.Common.{◌≡◌, ◌≢◌, ℕ, zero, suc, ◌^◌, ◌<◌, ◌≤◌, Bool, true, false, cond, eqb, ltb, List, [], ◌∷◌, ◌++◌, length, Option, Result, Ok, Err, refl, sym, ap, subst, ◌∙◌, append_assoc, arith, inl, inr}
+use Rattle.std.proofs.Common.{◌≡◌, ◌≢◌, ℕ, ◌<◌, ◌≤◌, Bool, true, false, cond, eqb, List, [], ◌∷◌, ◌++◌, length, Option, Ok, refl, sym, ap, subst, ◌∙◌, append_assoc, arith, inl, inr}
 use Rattle.std.specs.List.{flat_map, AllByRecursion}
 use Rattle.std.proofs.lemmas.Bool.{leb-true, ltb-true, eqb-true, eqb-false, eq-eqb, ne_eqb}
-use Rattle.std.proofs.lemmas.List.{append-nil, nil_from_length}
+use Rattle.std.proofs.lemmas.List.{append-nil}
 use Rattle.page_types.specs.Numbers.{u32_bytes}
 use Rattle.page_types.specs.Items.{items_of}
 use Rattle.page_types.specs.Keys.{IsKey}
-use Rattle.page_types.specs.Spelling.{key_field, slot_bytes, row_bytes, entry_bytes, entry_child_bytes, post_child_bytes, high_key_bytes, body_bytes, kind_of, was_of, count_of}
+use Rattle.page_types.specs.Spelling.{key_field, slot_bytes, row_bytes, entry_bytes, entry_child_bytes, post_child_bytes, high_key_bytes, body_bytes, count_of}
 use Rattle.page_types.specs.Pages.{IsSlot, IsRow, IsHighKey, IsMeta, IsGone, IsBody}
 use Rattle.page_types.specs.Fields.{◌>>=◌, number_at}
 use Rattle.page_types.specs.declared.page.Head.{Head}
@@ -21,15 +21,15 @@ use Rattle.page_types.specs.declared.page.Gone.TheVariants as gone
 use Rattle.page_types.proofs.FieldReading.{IsBytes, bind_ok, Takes, Takes-then, u32_takes, u32_again}
 use Rattle.page_code.specs.declared.form.Form.{Form}
 use Rattle.page_code.specs.declared.form.Form.TheVariants as form
-use Rattle.page_code.specs.Fields.{Read, below_at, key_at, each_at}
+use Rattle.page_code.specs.Fields.{Read, below_at, key_at}
 use Rattle.page_code.specs.Forms.{count_fits, fits_free}
-use Rattle.page_code.specs.Bodies.{meta_at, heap_slot_at, slots_at, row_at, rows_at, entries_at, high_key_at, entry_leaf_at, entry_children_at, post_children_at, posting_at, body_at, whole_body_at}
+use Rattle.page_code.specs.Bodies.{meta_at, heap_slot_at, slots_at, row_at, rows_at, entries_at, high_key_at, entry_leaf_at, entry_children_at, post_children_at, posting_at, body_at}
 use Rattle.page_code.proofs.Passing.{above_none}
 use Rattle.page_code.proofs.FieldLaws.{below_takes, below_again, key_takes, key_again}
 use Rattle.page_code.proofs.Lists.{ok_is, all_take, all_again, each_fits, all_fit}
 use Rattle.page_code.proofs.HeapLaws.{slot_reader}
 use Rattle.page_code.proofs.PendingLaws.{row_reader}
-use Rattle.page_code.proofs.EntryLaws.{TakesEntries, entries_take, entries_again}
+use Rattle.page_code.proofs.EntryLaws.{entries_take, entries_again}
 use Rattle.page_code.proofs.ChildLaws as keyed
 use Rattle.page_code.proofs.PostingLaws as posted
 

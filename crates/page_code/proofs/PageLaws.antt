@@ -1,19 +1,18 @@
 -- A page that is read is spelled so, and a page that is spelled so is read.
-use Rattle.std.proofs.Common.{◌≡◌, ◌≢◌, ℕ, zero, suc, ◌+◌, ◌-◌, ◌*◌, ◌^◌, ◌<◌, ◌≤◌, Bool, true, false, cond, eqb, ltb, List, [], ◌∷◌, ◌++◌, length, Option, Some, None, Result, Ok, Err, refl, sym, ap, subst, ◌∙◌, append_assoc, arith, inl, inr}
-use Rattle.std.specs.Prelude.{nat_le, ◌&&◌, IfOk}
+use Rattle.std.proofs.Common.{◌≡◌, ◌≢◌, ℕ, zero, suc, ◌+◌, ◌-◌, ◌*◌, ◌^◌, ◌<◌, ◌≤◌, Bool, true, false, cond, eqb, ltb, List, [], ◌∷◌, ◌++◌, length, Option, Some, None, Result, Ok, Err, refl, sym, ap, subst, ◌∙◌, append_assoc, arith}
+use Rattle.std.specs.Prelude.{nat_le, IfOk}
 use Rattle.std.specs.List.{slice_get}
-use Rattle.std.proofs.lemmas.Bool.{leb-true, le-leb, ltb-true, lt-ltb, le-ltb, eqb-true, eqb-false, eq-eqb}
-use Rattle.std.proofs.lemmas.List.{append-nil, nil_from_length, length-append}
+use Rattle.std.proofs.lemmas.Bool.{leb-true, le-leb, ltb-true, lt-ltb, le-ltb, eqb-true, eq-eqb}
+use Rattle.std.proofs.lemmas.List.{append-nil, nil_from_length}
 use Rattle.page_types.specs.Numbers.{u16_bytes, u32_bytes, u64_bytes, zeros}
 use Rattle.page_types.specs.Spelling.{kind_of, was_of, count_of, body_bytes, front_bytes, framed, page_bytes}
-use Rattle.page_types.specs.Pages.{IsGone, IsBody, IsPage}
+use Rattle.page_types.specs.Pages.{IsBody, IsPage}
 use Rattle.page_types.specs.Fields.{◌>>=◌, number_at, bytes_at, tested}
 use Rattle.page_types.specs.declared.page.Page.{Page}
 use Rattle.page_types.specs.declared.page.Body.{Body}
 use Rattle.page_types.specs.declared.page.Body.TheVariants as body
 use Rattle.page_types.specs.declared.page.Gone.{Gone}
 use Rattle.page_types.specs.declared.page.Gone.TheVariants as gone
-use Rattle.page_types.proofs.Framing.{length-zeros}
 use Rattle.page_types.proofs.FieldReading.{IsBytes, bind_ok, tested_ok, Takes, Takes-then, bytes_take, bytes_again, u16_takes, u32_takes, u64_takes, u16_again, u32_again, u64_again}
 use Rattle.page_code.specs.declared.form.Form.{Form}
 use Rattle.page_code.specs.declared.form.Form.TheVariants as form

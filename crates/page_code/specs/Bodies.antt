@@ -14,7 +14,7 @@ use Rattle.page_types.specs.declared.page.Body.TheVariants as body
 use Rattle.page_types.specs.declared.page.Gone.TheVariants as gone
 use Rattle.page_code.specs.declared.form.Form.{Form}
 use Rattle.page_code.specs.declared.form.Form.TheVariants as form
-use Rattle.page_code.specs.Fields.{Read, below_at, sized_at, key_at, bound_at, each_at}
+use Rattle.page_code.specs.Fields.{Read, below_at, key_at, bound_at, each_at}
 use Rattle.page_code.specs.Items.{items_at, list_at}
 
 unfoldable pub meta_at : List ℕ → Read Body

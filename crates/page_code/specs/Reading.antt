@@ -1,5 +1,5 @@
 -- A page, read from left to right, with the first fault that is met.
-use Rattle.std.specs.Prelude.{ℕ, ◌-◌, Bool, List, length, Option, Some, None, Result, Ok, Err, nat_lt, nat_le, ◌==◌, if◌then◌else◌}
+use Rattle.std.specs.Prelude.{ℕ, ◌-◌, List, length, Option, Some, None, Result, Ok, Err, nat_le, ◌==◌, if◌then◌else◌}
 use Rattle.page_types.specs.Numbers.{most_body}
 use Rattle.page_types.specs.Fields.{◌>>=◌, number_at, bytes_at, tested}
 use Rattle.page_types.specs.declared.page.Page.{Page}

@@ -1,5 +1,4 @@
-use Rattle.std.proofs.Common.{◌+◌, [], refl}
-use Rattle.std.specs.Option.{option_map}
+use Rattle.std.proofs.Common.{refl}
 use Rattle.std.proofs.lemmas.Result.{err_from_is_err_and}
 use Rattle.page_types.specs.Parts.{child_shown}
 use Rattle.page_code.specs.Bodies.{entry_child_at, entry_children_at}

@@ -1,5 +1,4 @@
 use Rattle.std.proofs.Common.{◌+◌, ap}
-use Rattle.std.specs.Option.{option_map}
 use Rattle.std.proofs.lemmas.Result.{err_from_is_err_and}
 use Rattle.page_code.specs.Bodies.{post_child_at, post_children_at}
 use Rattle.page_code.proofs.Loops.{goes_on, ends, is_done}

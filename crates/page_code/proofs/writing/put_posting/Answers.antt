@@ -1,4 +1,4 @@
-use Rattle.std.proofs.Common.{ap, arith}
+use Rattle.std.proofs.Common.{arith}
 use Rattle.page_types.specs.Numbers.{u32_bytes}
 use Rattle.page_code.proofs.Appending.{puts_then}
 use Rattle.page_code.proofs.writing.put_posting.Goals as goal

@@ -1,4 +1,4 @@
-use Rattle.std.proofs.Common.{◌∷◌, [], ◌≤◌, ◌+◌, length, arith}
+use Rattle.std.proofs.Common.{◌∷◌, [], arith}
 use Rattle.page_types.specs.Parts.{head_shown}
 use Rattle.page_types.specs.Spelling.{head_bytes}
 use Rattle.page_code.proofs.Appending.{puts_then}

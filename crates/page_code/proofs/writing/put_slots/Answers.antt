@@ -1,5 +1,4 @@
-use Rattle.std.proofs.Common.{◌≡◌, Some, length, sym, ap, ◌∙◌, arith}
-use Rattle.std.specs.List.{slice_get}
+use Rattle.std.proofs.Common.{arith}
 use Rattle.std.specs.Option.{option_map}
 use Rattle.page_types.specs.Parts.{head_shown}
 use Rattle.page_types.specs.Spelling.{slot_bytes}
