@@ -1,12 +1,12 @@
 -- What stands on a page of each form: what is read was spelled, and what is spelled is read.
-use Rattle.std.proofs.Common.{◌≡◌, ◌≢◌, ℕ, zero, suc, ◌^◌, ◌<◌, ◌≤◌, Bool, true, false, cond, eqb, ltb, List, [], ◌∷◌, ◌++◌, length, Option, Result, Ok, Err, refl, sym, ap, subst, ◌∙◌, append_assoc, arith, inl, inr}
+use Rattle.std.proofs.Common.{◌≡◌, ◌≢◌, ℕ, ◌<◌, ◌≤◌, Bool, true, false, cond, eqb, List, [], ◌∷◌, ◌++◌, length, Option, Ok, refl, sym, ap, subst, ◌∙◌, append_assoc, arith, inl, inr}
 use Rattle.std.specs.List.{flat_map, AllByRecursion}
 use Rattle.std.proofs.lemmas.Bool.{leb-true, ltb-true, eqb-true, eqb-false, eq-eqb, ne_eqb}
-use Rattle.std.proofs.lemmas.List.{append-nil, nil_from_length}
+use Rattle.std.proofs.lemmas.List.{append-nil}
 use Rattle.page_types.specs.Numbers.{u32_bytes}
 use Rattle.page_types.specs.Items.{items_of}
 use Rattle.page_types.specs.Keys.{IsKey}
-use Rattle.page_types.specs.Spelling.{key_field, slot_bytes, row_bytes, entry_bytes, entry_child_bytes, post_child_bytes, high_key_bytes, body_bytes, kind_of, was_of, count_of}
+use Rattle.page_types.specs.Spelling.{key_field, slot_bytes, row_bytes, entry_bytes, entry_child_bytes, post_child_bytes, high_key_bytes, body_bytes, count_of}
 use Rattle.page_types.specs.Pages.{IsSlot, IsRow, IsHighKey, IsMeta, IsGone, IsBody}
 use Rattle.page_types.specs.Fields.{◌>>=◌, number_at}
 use Rattle.page_types.specs.declared.page.Head.{Head}
@@ -21,15 +21,15 @@ use Rattle.page_types.specs.declared.page.Gone.TheVariants as gone
 use Rattle.page_types.proofs.FieldReading.{IsBytes, bind_ok, Takes, Takes-then, u32_takes, u32_again}
 use Rattle.page_code.specs.declared.form.Form.{Form}
 use Rattle.page_code.specs.declared.form.Form.TheVariants as form
-use Rattle.page_code.specs.Fields.{Read, below_at, key_at, each_at}
+use Rattle.page_code.specs.Fields.{Read, below_at, key_at}
 use Rattle.page_code.specs.Forms.{count_fits, fits_free}
-use Rattle.page_code.specs.Bodies.{meta_at, slot_at, slots_at, row_at, rows_at, entries_at, high_key_at, entry_leaf_at, entry_children_at, post_children_at, posting_at, body_at, whole_body_at}
-use Rattle.page_code.proofs.Tests.{above_none}
+use Rattle.page_code.specs.Bodies.{meta_at, heap_slot_at, slots_at, row_at, rows_at, entries_at, high_key_at, entry_leaf_at, entry_children_at, post_children_at, posting_at, body_at}
+use Rattle.page_code.proofs.Passing.{above_none}
 use Rattle.page_code.proofs.FieldLaws.{below_takes, below_again, key_takes, key_again}
 use Rattle.page_code.proofs.Lists.{ok_is, all_take, all_again, each_fits, all_fit}
 use Rattle.page_code.proofs.HeapLaws.{slot_reader}
 use Rattle.page_code.proofs.PendingLaws.{row_reader}
-use Rattle.page_code.proofs.EntryLaws.{TakesEntries, entries_take, entries_again}
+use Rattle.page_code.proofs.EntryLaws.{entries_take, entries_again}
 use Rattle.page_code.proofs.ChildLaws as keyed
 use Rattle.page_code.proofs.PostingLaws as posted
 
@@ -155,7 +155,7 @@ entry_leaf_takes right stamp count bytes x fits e =
 slots_take : (right stamp count : ℕ) (bytes : List ℕ) (x : Body × List ℕ) → IsBytes bytes → count ≤ 2048 → (slots_at count bytes >>= λ s. Ok (body.Heap s.0, s.1)) ≡ Ok x → TakesBody form.Heap right stamp count bytes x.0 x.1
 slots_take right stamp count bytes x fits le e =
     let s = bind_ok (slots_at count bytes) (λ s. Ok (body.Heap s.0, s.1)) x e in
-    let t = all_take (λ (_ : ℕ) _ rest. slot_at rest) slot_bytes (λ _ _ s. IsSlot s) (λ _. 0) slot_reader 0 count bytes s.0 fits s.1 in
+    let t = all_take (λ (_ : ℕ) _ rest. heap_slot_at rest) slot_bytes (λ _ _ s. IsSlot s) (λ _. 0) slot_reader 0 count bytes s.0 fits s.1 in
     let made : Body × List ℕ = (body.Heap s.0.0, s.0.1) in
     let whole : TakesBody form.Heap right stamp count bytes (body.Heap s.0.0) s.0.1 = record { takes = t.takes; fits = (omega (arith, t.count), each_fits IsSlot (λ _. 0) 0 s.0.0 t.fit); form_is = refl; many = t.count } in
     subst (λ (y : Body × List ℕ). TakesBody form.Heap right stamp count bytes y.0 y.1) (ok_is made x s.2) whole
@@ -177,7 +177,7 @@ rows_again rows rest each =
 
 slots_again : (slots : List (Option Head)) (rest : List ℕ) → AllByRecursion IsSlot slots → slots_at (length slots) (flat_map slot_bytes slots ++ rest) ≡ Ok (slots, rest)
 slots_again slots rest each =
-    all_again (λ (_ : ℕ) _ rest. slot_at rest) slot_bytes (λ _ _ s. IsSlot s) (λ _. 0) slot_reader 0 slots rest (all_fit IsSlot (λ _. 0) 0 slots each)
+    all_again (λ (_ : ℕ) _ rest. heap_slot_at rest) slot_bytes (λ _ _ s. IsSlot s) (λ _. 0) slot_reader 0 slots rest (all_fit IsSlot (λ _. 0) 0 slots each)
 
 pending_takes : (right stamp count : ℕ) (bytes : List ℕ) (x : Body × List ℕ) → IsBytes bytes → (rows_at count bytes >>= λ r. Ok (body.Pending r.0, r.1)) ≡ Ok x → TakesBody form.Pending right stamp count bytes x.0 x.1
 pending_takes right stamp count bytes x fits e =

@@ -1,6 +1,6 @@
 -- The children of an inner page of the entry tree: what is read was spelled, and what is spelled is read.
-use Rattle.std.proofs.Common.{◌≡◌, ◌≢◌, ℕ, zero, suc, ◌<◌, ◌≤◌, Bool, true, false, eqb, List, [], ◌∷◌, ◌++◌, length, Result, Ok, Err, refl, sym, ap, subst, ◌∙◌, append_assoc, arith, inl, inr}
-use Rattle.std.specs.Prelude.{◌&&◌, ◌⊎◌}
+use Rattle.std.proofs.Common.{◌≡◌, ◌≢◌, ℕ, ◌<◌, true, eqb, List, [], ◌∷◌, ◌++◌, length, Ok, refl, ap, subst, ◌∙◌, append_assoc, arith, inl, inr}
+use Rattle.std.specs.Prelude.{◌⊎◌}
 use Rattle.std.specs.List.{flat_map, AllByRecursion}
 use Rattle.std.proofs.lemmas.Bool.{eqb-true, eq-eqb}
 use Rattle.page_types.specs.Numbers.{u32_bytes}
@@ -12,9 +12,9 @@ use Rattle.page_types.specs.declared.page.EntryChild.{EntryChild}
 use Rattle.page_types.proofs.FieldReading.{IsBytes, bind_ok, Takes, Takes-then}
 use Rattle.page_code.specs.Fields.{Read, below_at, bound_at}
 use Rattle.page_code.specs.Bodies.{may_lack_bound, entry_child_at, entry_children_at}
-use Rattle.page_code.proofs.Tests.{and_parts, and_both, above_none, above_trans}
+use Rattle.page_code.proofs.Passing.{and_parts, and_both, above_none, above_trans}
 use Rattle.page_code.proofs.FieldLaws.{below_takes, below_again, IsNextBound, bound_takes, bound_again}
-use Rattle.page_code.proofs.Lists.{ok_is, IsReader, AllFit, TakesAll, all_take, all_again, all_above}
+use Rattle.page_code.proofs.Lists.{ok_is, IsReader, AllFit, all_take, all_again, all_above}
 
 abbrev pub IsNextChild : ℕ → List ℕ → ℕ → EntryChild → Type 0
 IsNextChild right last k c = (c.page < 1048576) × IsNextBound (may_lack_bound right k) last c.bound

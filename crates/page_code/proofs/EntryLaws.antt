@@ -1,27 +1,26 @@
 -- What stands on the pages of the entry tree: what is read was spelled, and what is spelled is read.
-use Rattle.std.proofs.Common.{◌≡◌, ◌≢◌, ℕ, zero, suc, ◌-◌, ◌^◌, ◌<◌, ◌≤◌, Bool, true, false, cond, eqb, List, [], ◌∷◌, ◌++◌, length, take, Result, Ok, Err, refl, sym, ap, subst, ◌∙◌, append_assoc, arith, inl, inr}
-use Rattle.std.specs.Prelude.{nat_le, ◌&&◌, ◌⊎◌}
+use Rattle.std.proofs.Common.{◌≡◌, ℕ, zero, suc, ◌<◌, ◌≤◌, List, [], ◌∷◌, ◌++◌, length, take, Result, Ok, Err, refl, ap, subst, ◌∙◌, append_assoc, arith}
+use Rattle.std.specs.Prelude.{nat_le}
 use Rattle.std.specs.List.{flat_map, AllByRecursion}
-use Rattle.std.proofs.lemmas.Bool.{leb-true, le-leb, eqb-true, eq-eqb}
+use Rattle.std.proofs.lemmas.Bool.{leb-true, le-leb}
 use Rattle.std.proofs.lemmas.List.{take_at}
 use Rattle.page_types.specs.Numbers.{u16_bytes, u32_bytes}
 use Rattle.page_types.specs.Items.{IsItemList}
-use Rattle.page_types.specs.Keys.{IsKey, KeyLess, BoundLess, Rising}
-use Rattle.page_types.specs.Spelling.{key_field, postings_bytes, entry_bytes, entry_child_bytes}
-use Rattle.page_types.specs.Pages.{ArePostings, IsEntry, AreEntries, IsEntryChild, AreEntryChildren}
+use Rattle.page_types.specs.Keys.{KeyLess}
+use Rattle.page_types.specs.Spelling.{key_field, postings_bytes, entry_bytes}
+use Rattle.page_types.specs.Pages.{ArePostings, IsEntry, AreEntries}
 use Rattle.page_types.specs.Fields.{◌>>=◌, number_at, bytes_at, tested}
 use Rattle.page_types.specs.declared.page.Entry.{Entry}
-use Rattle.page_types.specs.declared.page.EntryChild.{EntryChild}
 use Rattle.page_types.specs.declared.page.Postings.{Postings}
 use Rattle.page_types.specs.declared.page.Postings.TheVariants.{Inline, Root}
 use Rattle.page_types.proofs.FieldReading.{IsBytes, IsBytes-take, bind_ok, tested_ok, Takes, Takes-then, bytes_take, bytes_again, u16_takes, u16_again}
-use Rattle.page_code.specs.Fields.{Read, below_at, key_at, bound_at}
+use Rattle.page_code.specs.Fields.{Read, below_at, key_at}
 use Rattle.page_code.specs.Items.{list_at}
-use Rattle.page_code.specs.Bodies.{in_part, inline_size_at, inline_at, root_at, postings_at, entry_at, entries_at, may_lack_bound, entry_child_at, entry_children_at}
-use Rattle.page_code.proofs.Tests.{and_parts, and_both, above_none, above_trans}
-use Rattle.page_code.proofs.FieldLaws.{tested_again, below_takes, below_again, key_takes, key_again, IsNextBound, bound_takes, bound_again}
+use Rattle.page_code.specs.Bodies.{in_part, inline_size_at, inline_at, root_at, postings_at, entry_at, entries_at}
+use Rattle.page_code.proofs.Passing.{above_none, above_trans}
+use Rattle.page_code.proofs.FieldLaws.{tested_again, below_takes, below_again, key_takes, key_again}
 use Rattle.page_code.proofs.ItemReading.{list_takes, list_again}
-use Rattle.page_code.proofs.Lists.{ok_is, IsReader, AllFit, TakesAll, all_take, all_again, chain_above, above_chain}
+use Rattle.page_code.proofs.Lists.{ok_is, IsReader, all_take, all_again, chain_above, above_chain}
 
 size_takes : (bytes : List ℕ) (x : ℕ × List ℕ) → IsBytes bytes → inline_size_at bytes ≡ Ok x → Takes bytes (u16_bytes x.0) x.1 × (x.0 ≤ 1000)
 unfolding inline_size_at

@@ -1,5 +1,5 @@
 -- A field that is read was spelled, and what is spelled is read.
-use Rattle.std.proofs.Common.{◌≡◌, ℕ, zero, suc, ◌+◌, ◌^◌, ◌<◌, ◌≤◌, Bool, true, false, cond, ltb, eqb, List, [], ◌∷◌, ◌++◌, length, Result, Ok, Err, refl, sym, ap, subst, ◌∙◌, append_assoc, arith, inl, inr}
+use Rattle.std.proofs.Common.{◌≡◌, ℕ, ◌^◌, ◌<◌, ◌≤◌, Bool, true, ltb, eqb, List, [], ◌++◌, length, Ok, refl, ap, subst, ◌∙◌, append_assoc, arith, inl, inr}
 use Rattle.std.specs.Prelude.{◌&&◌, ◌||◌, ◌⊎◌}
 use Rattle.std.proofs.lemmas.Bool.{ltb-true, lt-ltb, eqb-true, eq-eqb}
 use Rattle.std.proofs.lemmas.List.{nil_from_length}
@@ -11,8 +11,7 @@ use Rattle.page_types.proofs.Framing.{length-zeros}
 use Rattle.page_types.proofs.PageTelling.{key_short}
 use Rattle.page_types.proofs.FieldReading.{IsBytes, bind_ok, tested_ok, Takes, Takes-then, bytes_take, bytes_again, u16_takes, u32_takes, u16_again, u32_again}
 use Rattle.page_code.specs.Fields.{Read, below_at, are_zeros, zeros_at, is_key, is_above, sized_at, key_at, bound_at}
-use Rattle.page_code.proofs.Tests.{and_parts, and_both, key_passed, key_passes, above_passed, above_passes, zeros_passed, zeros_pass, either, either_left, either_right}
-use Rattle.page_code.proofs.Lists.{ok_is}
+use Rattle.page_code.proofs.Passing.{and_parts, and_both, key_passed, key_passes, above_passed, above_passes, zeros_passed, zeros_pass, either, either_left, either_right}
 
 -- a test that passes
 pub tested_again : {A : Type 0} (passes : Bool) (bytes : List ℕ) (x : A) → passes ≡ true → tested passes bytes x ≡ Ok x

@@ -1,5 +1,5 @@
 -- A head and a slot that are read were spelled, and what is spelled is read.
-use Rattle.std.proofs.Common.{◌≡◌, ℕ, zero, suc, ◌^◌, ◌<◌, ◌≤◌, Bool, true, false, cond, List, [], ◌∷◌, ◌++◌, length, Option, Some, None, Result, Ok, Err, refl, sym, ap, subst, ◌∙◌, append_assoc, arith, inl, inr}
+use Rattle.std.proofs.Common.{◌≡◌, ℕ, zero, suc, ◌^◌, ◌<◌, Bool, true, false, cond, List, [], ◌∷◌, ◌++◌, Option, Some, None, Ok, refl, sym, ap, subst, ◌∙◌, append_assoc, arith, inl, inr}
 use Rattle.std.specs.Prelude.{nat_le}
 use Rattle.std.proofs.lemmas.Bool.{leb-true, leb-false, le-leb, lt-leb}
 use Rattle.page_types.specs.Numbers.{u32_bytes, u64_bytes}
@@ -9,7 +9,7 @@ use Rattle.page_types.specs.Fields.{◌>>=◌, number_at, bytes_at}
 use Rattle.page_types.specs.declared.page.Head.{Head}
 use Rattle.page_types.proofs.FieldReading.{IsBytes, bind_ok, Takes, Takes-then, bytes_take, bytes_again, u32_takes, u64_takes, u32_again, u64_again}
 use Rattle.page_code.specs.Fields.{Read, below_at}
-use Rattle.page_code.specs.Bodies.{vector_at, head_at, used_at, slot_at}
+use Rattle.page_code.specs.Bodies.{vector_at, head_at, used_slot_at, heap_slot_at}
 use Rattle.page_code.proofs.FieldLaws.{below_takes, below_again}
 use Rattle.page_code.proofs.Lists.{ok_is, IsReader}
 
@@ -120,8 +120,8 @@ head_again h rest is =
       u32_again h.bytes (h.vector ++ rest) is.bytes,
     ) (ap (λ (r : Read (List ℕ)). r >>= λ v. Ok (record { serial = h.serial; inserted_by = h.inserted_by; deleted_by = h.deleted_by; overflow = h.overflow; private = h.private; bytes = h.bytes; vector = v.0 }, v.1)) (vector_again h.bytes h.vector rest is.vector))
 
-used_takes : (bytes : List ℕ) (x : Option Head × List ℕ) → IsBytes bytes → used_at bytes ≡ Ok x → Takes (1 ∷ bytes) (slot_bytes x.0) x.1 × IsSlot x.0
-unfolding used_at
+used_takes : (bytes : List ℕ) (x : Option Head × List ℕ) → IsBytes bytes → used_slot_at bytes ≡ Ok x → Takes (1 ∷ bytes) (slot_bytes x.0) x.1 × IsSlot x.0
+unfolding used_slot_at
 used_takes bytes x fits e =
     let h = bind_ok (head_at bytes) (λ h. Ok (Some h.0, h.1)) x e in
     let t = head_takes bytes h.0 fits h.1 in
@@ -129,7 +129,7 @@ used_takes bytes x fits e =
     let whole : Takes (1 ∷ bytes) (slot_bytes (Some h.0.0)) h.0.1 = record { parts = ap (λ (l : List ℕ). 1 ∷ l) t.0.parts; rest_fits = t.0.rest_fits } in
     subst (λ (y : Option Head × List ℕ). Takes (1 ∷ bytes) (slot_bytes y.0) y.1 × IsSlot y.0) (ok_is made x h.2) (whole, t.1)
 
-slot_takes : (bytes : List ℕ) (x : Option Head × List ℕ) → IsBytes bytes → slot_at bytes ≡ Ok x → Takes bytes (slot_bytes x.0) x.1 × IsSlot x.0
+slot_takes : (bytes : List ℕ) (x : Option Head × List ℕ) → IsBytes bytes → heap_slot_at bytes ≡ Ok x → Takes bytes (slot_bytes x.0) x.1 × IsSlot x.0
 slot_takes [] x fits e = absurd cc
 slot_takes (zero ∷ bytes) x fits e =
     let made : Option Head × List ℕ = (None, bytes) in
@@ -137,10 +137,10 @@ slot_takes (zero ∷ bytes) x fits e =
 slot_takes (suc zero ∷ bytes) x fits e = used_takes bytes x (λ i. fits (suc i)) e
 slot_takes (suc (suc b) ∷ bytes) x fits e = absurd cc
 
-slot_again : (s : Option Head) (rest : List ℕ) → IsSlot s → slot_at (slot_bytes s ++ rest) ≡ Ok (s, rest)
-unfolding used_at
+slot_again : (s : Option Head) (rest : List ℕ) → IsSlot s → heap_slot_at (slot_bytes s ++ rest) ≡ Ok (s, rest)
+unfolding used_slot_at
 slot_again None rest is = refl
 slot_again (Some h) rest is = ap (λ (r : Read Head). r >>= λ h. Ok (Some h.0, h.1)) (head_again h rest is)
 
-pub slot_reader : IsReader (λ (_ : ℕ) _ rest. slot_at rest) slot_bytes (λ _ _ s. IsSlot s)
+pub slot_reader : IsReader (λ (_ : ℕ) _ rest. heap_slot_at rest) slot_bytes (λ _ _ s. IsSlot s)
 slot_reader = record { takes = λ last k bytes x fits e. slot_takes bytes x fits e; again = λ last k x rest is. slot_again x rest is }

@@ -1,4 +1,4 @@
-pub mod Tests
+pub mod Passing
 pub mod Numbers
 pub mod ItemReading
 pub mod Loops
@@ -11,3 +11,6 @@ pub mod ChildLaws
 pub mod PostingLaws
 pub mod BodyLaws
 pub mod PageLaws
+pub mod Appending
+pub mod Sizes
+pub mod Counting

@@ -1,19 +1,18 @@
 -- A page that is read is spelled so, and a page that is spelled so is read.
-use Rattle.std.proofs.Common.{◌≡◌, ◌≢◌, ℕ, zero, suc, ◌+◌, ◌-◌, ◌*◌, ◌^◌, ◌<◌, ◌≤◌, Bool, true, false, cond, eqb, ltb, List, [], ◌∷◌, ◌++◌, length, Option, Some, None, Result, Ok, Err, refl, sym, ap, subst, ◌∙◌, append_assoc, arith, inl, inr}
-use Rattle.std.specs.Prelude.{nat_le, ◌&&◌, IfOk}
+use Rattle.std.proofs.Common.{◌≡◌, ◌≢◌, ℕ, zero, suc, ◌+◌, ◌-◌, ◌*◌, ◌^◌, ◌<◌, ◌≤◌, Bool, true, false, cond, eqb, ltb, List, [], ◌∷◌, ◌++◌, length, Option, Some, None, Result, Ok, Err, refl, sym, ap, subst, ◌∙◌, append_assoc, arith}
+use Rattle.std.specs.Prelude.{nat_le, IfOk}
 use Rattle.std.specs.List.{slice_get}
-use Rattle.std.proofs.lemmas.Bool.{leb-true, le-leb, ltb-true, lt-ltb, le-ltb, eqb-true, eqb-false, eq-eqb}
-use Rattle.std.proofs.lemmas.List.{append-nil, nil_from_length, length-append}
+use Rattle.std.proofs.lemmas.Bool.{leb-true, le-leb, ltb-true, lt-ltb, le-ltb, eqb-true, eq-eqb}
+use Rattle.std.proofs.lemmas.List.{append-nil, nil_from_length}
 use Rattle.page_types.specs.Numbers.{u16_bytes, u32_bytes, u64_bytes, zeros}
 use Rattle.page_types.specs.Spelling.{kind_of, was_of, count_of, body_bytes, front_bytes, framed, page_bytes}
-use Rattle.page_types.specs.Pages.{IsGone, IsBody, IsPage}
+use Rattle.page_types.specs.Pages.{IsBody, IsPage}
 use Rattle.page_types.specs.Fields.{◌>>=◌, number_at, bytes_at, tested}
 use Rattle.page_types.specs.declared.page.Page.{Page}
 use Rattle.page_types.specs.declared.page.Body.{Body}
 use Rattle.page_types.specs.declared.page.Body.TheVariants as body
 use Rattle.page_types.specs.declared.page.Gone.{Gone}
 use Rattle.page_types.specs.declared.page.Gone.TheVariants as gone
-use Rattle.page_types.proofs.Framing.{length-zeros}
 use Rattle.page_types.proofs.FieldReading.{IsBytes, bind_ok, tested_ok, Takes, Takes-then, bytes_take, bytes_again, u16_takes, u32_takes, u64_takes, u16_again, u32_again, u64_again}
 use Rattle.page_code.specs.declared.form.Form.{Form}
 use Rattle.page_code.specs.declared.form.Form.TheVariants as form
@@ -21,10 +20,10 @@ use Rattle.page_code.specs.declared.error.PageError.{PageError}
 use Rattle.page_code.specs.Fields.{Read, zeros_at}
 use Rattle.page_code.specs.Forms.{gone_forms, live_forms, joined_option, live_form, form_with, count_fits, fits_free, right_fits}
 use Rattle.page_code.specs.Bodies.{in_part, body_at, whole_body_at}
-use Rattle.page_code.specs.Reading.{kind_at, known_at, was_at, form_at, count_at, right_at, stamp_at, used_at, framed_at, front_at, page_at}
+use Rattle.page_code.specs.Reading.{kind_at, known_at, was_at, form_at, count_at, right_at, stamp_at, used_length_at, framed_at, front_at, page_at}
 use Rattle.page_code.specs.Decoding.{Answers, placed}
 use Rattle.page_code.specs.Laws.{AreBytes, Spells, ReadingIsSpelled, SpellingIsRead}
-use Rattle.page_code.proofs.Tests.{and_parts, and_both}
+use Rattle.page_code.proofs.Passing.{and_parts, and_both}
 use Rattle.page_code.proofs.FieldLaws.{tested_again, zeros_take, zeros_again}
 use Rattle.page_code.proofs.EntryLaws.{part_ok, part_fits}
 use Rattle.page_code.proofs.Lists.{ok_is}
@@ -252,8 +251,8 @@ record TakesUsed (bytes : List ℕ) (used : ℕ) (rest : List ℕ) : Type 0 wher
   fits : used ≤ 8168
   gap_takes : Takes behind (zeros 6) rest
 
-used_take : (bytes : List ℕ) (x : ℕ × List ℕ) → IsBytes bytes → used_at bytes ≡ Ok x → TakesUsed bytes x.0 x.1
-unfolding used_at
+used_take : (bytes : List ℕ) (x : ℕ × List ℕ) → IsBytes bytes → used_length_at bytes ≡ Ok x → TakesUsed bytes x.0 x.1
+unfolding used_length_at
 used_take bytes x fits e =
     let a = bind_ok (number_at 2 bytes) (λ n. tested (nat_le n.0 8168) bytes n >>= λ u. zeros_at 6 u.1 >>= λ r. Ok (u.0, r)) x e in
     let u = bind_ok (tested (nat_le a.0.0 8168) bytes a.0) (λ u. zeros_at 6 u.1 >>= λ r. Ok (u.0, r)) x a.2 in
@@ -266,8 +265,8 @@ used_take bytes x fits e =
     let whole : TakesUsed bytes u.0.0 z.0 = record { behind = u.0.1; used_takes = t; fits = le; gap_takes = zeros_take 6 u.0.1 z.0 t.rest_fits z.1 } in
     subst (λ (y : ℕ × List ℕ). TakesUsed bytes y.0 y.1) (ok_is made x z.2) whole
 
-used_again : (n : ℕ) (rest : List ℕ) → n ≤ 8168 → used_at (u16_bytes n ++ (zeros 6 ++ rest)) ≡ Ok (n, rest)
-unfolding used_at
+used_again : (n : ℕ) (rest : List ℕ) → n ≤ 8168 → used_length_at (u16_bytes n ++ (zeros 6 ++ rest)) ≡ Ok (n, rest)
+unfolding used_length_at
 used_again n rest le =
     rw (u16_again n (zeros 6 ++ rest) (omega arith), le-leb n 8168 le) (ap (λ (r : Result (List ℕ) ℕ). r >>= λ t. Ok (n, t)) (zeros_again 6 rest))
 
@@ -372,12 +371,12 @@ record TakesLater (f : Form) (count : ℕ) (bytes : List ℕ) (p : Page) (rest :
   framed_takes : TakesFramed f right stamp count used r5 b rest
 
 later_takes : (f : Form) (count : ℕ) (bytes : List ℕ) (x : Page × List ℕ) → IsBytes bytes → count_fits f count ≡ true
-    → (right_at f bytes >>= λ r. stamp_at f r.1 >>= λ s. used_at s.1 >>= λ u. framed_at f r.0 count u.0 u.1 >>= λ b. Ok (record { right = r.0; stamp = s.0; body = b.0 }, b.1)) ≡ Ok x → TakesLater f count bytes x.0 x.1
+    → (right_at f bytes >>= λ r. stamp_at f r.1 >>= λ s. used_length_at s.1 >>= λ u. framed_at f r.0 count u.0 u.1 >>= λ b. Ok (record { right = r.0; stamp = s.0; body = b.0 }, b.1)) ≡ Ok x → TakesLater f count bytes x.0 x.1
 unfolding page_of
 later_takes f count bytes x fits counted e =
-    let r = bind_ok (right_at f bytes) (λ r. stamp_at f r.1 >>= λ s. used_at s.1 >>= λ u. framed_at f r.0 count u.0 u.1 >>= λ b. Ok (record { right = r.0; stamp = s.0; body = b.0 }, b.1)) x e in
-    let s = bind_ok (stamp_at f r.0.1) (λ s. used_at s.1 >>= λ u. framed_at f r.0.0 count u.0 u.1 >>= λ b. Ok (record { right = r.0.0; stamp = s.0; body = b.0 }, b.1)) x r.2 in
-    let u = bind_ok (used_at s.0.1) (λ u. framed_at f r.0.0 count u.0 u.1 >>= λ b. Ok (record { right = r.0.0; stamp = s.0.0; body = b.0 }, b.1)) x s.2 in
+    let r = bind_ok (right_at f bytes) (λ r. stamp_at f r.1 >>= λ s. used_length_at s.1 >>= λ u. framed_at f r.0 count u.0 u.1 >>= λ b. Ok (record { right = r.0; stamp = s.0; body = b.0 }, b.1)) x e in
+    let s = bind_ok (stamp_at f r.0.1) (λ s. used_length_at s.1 >>= λ u. framed_at f r.0.0 count u.0 u.1 >>= λ b. Ok (record { right = r.0.0; stamp = s.0; body = b.0 }, b.1)) x r.2 in
+    let u = bind_ok (used_length_at s.0.1) (λ u. framed_at f r.0.0 count u.0 u.1 >>= λ b. Ok (record { right = r.0.0; stamp = s.0.0; body = b.0 }, b.1)) x s.2 in
     let b = bind_ok (framed_at f r.0.0 count u.0.0 u.0.1) (λ b. Ok (record { right = r.0.0; stamp = s.0.0; body = b.0 }, b.1)) x u.2 in
     let t2 = right_takes f bytes r.0 fits r.1 in
     let t3 = stamp_takes f r.0.1 s.0 t2.0.rest_fits s.1 in
@@ -409,8 +408,8 @@ page_regrouped k w c r s u z b e t = simp append_assoc
 front_takes : (bytes : List ℕ) (x : Page × List ℕ) → IsBytes bytes → front_at bytes ≡ Ok x → Takes bytes (page_bytes x.0) x.1 × IsPage x.0
 unfolding front_at
 front_takes bytes x fits e =
-    let f = bind_ok (form_at bytes) (λ f. count_at f.0 f.1 >>= λ c. right_at f.0 c.1 >>= λ r. stamp_at f.0 r.1 >>= λ s. used_at s.1 >>= λ u. framed_at f.0 r.0 c.0 u.0 u.1 >>= λ b. Ok (record { right = r.0; stamp = s.0; body = b.0 }, b.1)) x e in
-    let c = bind_ok (count_at f.0.0 f.0.1) (λ c. right_at f.0.0 c.1 >>= λ r. stamp_at f.0.0 r.1 >>= λ s. used_at s.1 >>= λ u. framed_at f.0.0 r.0 c.0 u.0 u.1 >>= λ b. Ok (record { right = r.0; stamp = s.0; body = b.0 }, b.1)) x f.2 in
+    let f = bind_ok (form_at bytes) (λ f. count_at f.0 f.1 >>= λ c. right_at f.0 c.1 >>= λ r. stamp_at f.0 r.1 >>= λ s. used_length_at s.1 >>= λ u. framed_at f.0 r.0 c.0 u.0 u.1 >>= λ b. Ok (record { right = r.0; stamp = s.0; body = b.0 }, b.1)) x e in
+    let c = bind_ok (count_at f.0.0 f.0.1) (λ c. right_at f.0.0 c.1 >>= λ r. stamp_at f.0.0 r.1 >>= λ s. used_length_at s.1 >>= λ u. framed_at f.0.0 r.0 c.0 u.0 u.1 >>= λ b. Ok (record { right = r.0; stamp = s.0; body = b.0 }, b.1)) x f.2 in
     let t0 = form_takes bytes f.0 fits f.1 in
     let t1 = count_takes f.0.0 f.0.1 c.0 t0.rest_fits c.1 in
     let t = later_takes f.0.0 c.0.0 c.0.1 x t1.0.rest_fits t1.2 c.2 in

@@ -1,5 +1,5 @@
 -- Keys and rows that are read were spelled, and what is spelled is read.
-use Rattle.std.proofs.Common.{◌≡◌, ◌≢◌, ℕ, zero, suc, ◌^◌, ◌<◌, ◌≤◌, ltb, List, [], ◌∷◌, ◌++◌, length, Result, Ok, Err, refl, sym, ap, subst, ◌∙◌, append_assoc, arith}
+use Rattle.std.proofs.Common.{◌≡◌, ◌≢◌, ℕ, ◌^◌, ◌<◌, ltb, List, [], ◌∷◌, ◌++◌, length, Ok, refl, ap, subst, ◌∙◌, append_assoc, arith}
 use Rattle.std.specs.List.{flat_map, AllByRecursion}
 use Rattle.std.proofs.lemmas.Bool.{ltb-true, lt-ltb}
 use Rattle.page_types.specs.Numbers.{u16_bytes, u32_bytes}
@@ -11,9 +11,9 @@ use Rattle.page_types.specs.declared.page.Row.{Row}
 use Rattle.page_types.proofs.FieldReading.{IsBytes, bind_ok, tested_ok, Takes, Takes-then, u16_takes, u16_again}
 use Rattle.page_code.specs.Fields.{Read, below_at, key_at}
 use Rattle.page_code.specs.Bodies.{keys_at, some_at, row_at}
-use Rattle.page_code.proofs.Tests.{above_none, above_trans}
+use Rattle.page_code.proofs.Passing.{above_none, above_trans}
 use Rattle.page_code.proofs.FieldLaws.{tested_again, below_takes, below_again, key_takes, key_again}
-use Rattle.page_code.proofs.Lists.{ok_is, IsReader, AllFit, TakesAll, all_take, all_again, chain_above, above_chain}
+use Rattle.page_code.proofs.Lists.{ok_is, IsReader, all_take, all_again, chain_above, above_chain}
 
 abbrev pub IsNextKey : List ℕ → ℕ → List ℕ → Type 0
 IsNextKey last k key = IsKey key × KeyLess last key

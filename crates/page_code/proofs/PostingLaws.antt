@@ -1,8 +1,8 @@
 -- What stands on the pages of a posting tree: what is read was spelled, and what is spelled is read.
-use Rattle.std.proofs.Common.{◌≡◌, ◌≢◌, ℕ, zero, suc, ◌+◌, ◌-◌, ◌^◌, ◌<◌, ◌≤◌, Bool, true, false, cond, eqb, ltb, List, [], ◌∷◌, ◌++◌, length, Result, Ok, Err, refl, sym, ap, subst, ◌∙◌, append_assoc, arith, inl, inr}
+use Rattle.std.proofs.Common.{◌≡◌, ◌≢◌, ℕ, zero, suc, ◌+◌, ◌^◌, ◌<◌, ◌≤◌, Bool, true, false, cond, eqb, ltb, List, [], ◌∷◌, ◌++◌, length, Result, Ok, refl, ap, subst, ◌∙◌, append_assoc, arith, inl, inr}
 use Rattle.std.specs.Prelude.{nat_le, ◌&&◌, ◌||◌, ◌⊎◌}
 use Rattle.std.specs.List.{flat_map, AllByRecursion}
-use Rattle.std.proofs.lemmas.Bool.{leb-true, le-leb, ltb-true, lt-ltb, eqb-true, eqb-false, eq-eqb, ne_eqb}
+use Rattle.std.proofs.lemmas.Bool.{leb-true, le-leb, ltb-true, lt-ltb, eqb-true, eqb-false, eq-eqb}
 use Rattle.page_types.specs.Numbers.{u32_bytes}
 use Rattle.page_types.specs.Items.{items_of, IsItemList}
 use Rattle.page_types.specs.Keys.{Rising}
@@ -14,10 +14,10 @@ use Rattle.page_types.proofs.FieldReading.{IsBytes, bind_ok, tested_ok, Takes, T
 use Rattle.page_code.specs.Fields.{Read, below_at}
 use Rattle.page_code.specs.Items.{items_at}
 use Rattle.page_code.specs.Bodies.{may_lack_bound, item_bound_at, post_child_at, post_children_at, is_high_item, high_item_at, front_of, posting_at}
-use Rattle.page_code.proofs.Tests.{and_parts, and_both, either, either_left, either_right}
+use Rattle.page_code.proofs.Passing.{and_parts, and_both, either, either_left, either_right}
 use Rattle.page_code.proofs.FieldLaws.{tested_again, below_takes, below_again}
 use Rattle.page_code.proofs.ItemReading.{front_takes, front_again}
-use Rattle.page_code.proofs.Lists.{ok_is, IsReader, AllFit, TakesAll, all_take, all_again, all_above}
+use Rattle.page_code.proofs.Lists.{ok_is, IsReader, AllFit, all_take, all_again, all_above}
 
 -- a bound that is at least so great, or none where it may lack
 abbrev pub IsNextItem : Bool → ℕ → ℕ → Type 0

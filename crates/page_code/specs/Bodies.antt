@@ -14,7 +14,7 @@ use Rattle.page_types.specs.declared.page.Body.TheVariants as body
 use Rattle.page_types.specs.declared.page.Gone.TheVariants as gone
 use Rattle.page_code.specs.declared.form.Form.{Form}
 use Rattle.page_code.specs.declared.form.Form.TheVariants as form
-use Rattle.page_code.specs.Fields.{Read, below_at, sized_at, key_at, bound_at, each_at}
+use Rattle.page_code.specs.Fields.{Read, below_at, key_at, bound_at, each_at}
 use Rattle.page_code.specs.Items.{items_at, list_at}
 
 unfoldable pub meta_at : List ℕ → Read Body
@@ -40,19 +40,19 @@ head_at bytes = do
   Ok (record { serial = serial.0; inserted_by = inserted_by.0; deleted_by = deleted_by.0; overflow = overflow.0; private = private.0; bytes = size.0; vector = vector.0 }, vector.1)
 
 -- a used slot behind the byte 1
-unfoldable pub used_at : List ℕ → Read (Option Head)
-used_at bytes = do
+unfoldable pub used_slot_at : List ℕ → Read (Option Head)
+used_slot_at bytes = do
   head ← head_at bytes
   Ok (Some head.0, head.1)
 
-abbrev pub slot_at : List ℕ → Read (Option Head)
-slot_at [] = Err 0
-slot_at (zero ∷ rest) = Ok (None, rest)
-slot_at (suc zero ∷ rest) = used_at rest
-slot_at (suc (suc b) ∷ rest) = Err (suc (length rest))
+abbrev pub heap_slot_at : List ℕ → Read (Option Head)
+heap_slot_at [] = Err 0
+heap_slot_at (zero ∷ rest) = Ok (None, rest)
+heap_slot_at (suc zero ∷ rest) = used_slot_at rest
+heap_slot_at (suc (suc b) ∷ rest) = Err (suc (length rest))
 
 abbrev pub slots_at : ℕ → List ℕ → Read (List (Option Head))
-slots_at count bytes = each_at {M = ℕ} (λ _ _ rest. slot_at rest) (λ _. 0) 0 count [] bytes
+slots_at count bytes = each_at {M = ℕ} (λ _ _ rest. heap_slot_at rest) (λ _. 0) 0 count [] bytes
 
 -- so many keys, each above the last
 abbrev pub keys_at : ℕ → List ℕ → Read (List (List ℕ))

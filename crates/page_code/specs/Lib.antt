@@ -1,3 +1,4 @@
+pub mod Inner
 pub mod Fields
 pub mod Items
 pub mod Forms

@@ -1,5 +1,5 @@
 -- A page, read from left to right, with the first fault that is met.
-use Rattle.std.specs.Prelude.{ℕ, ◌-◌, Bool, List, length, Option, Some, None, Result, Ok, Err, nat_lt, nat_le, ◌==◌, if◌then◌else◌}
+use Rattle.std.specs.Prelude.{ℕ, ◌-◌, List, length, Option, Some, None, Result, Ok, Err, nat_le, ◌==◌, if◌then◌else◌}
 use Rattle.page_types.specs.Numbers.{most_body}
 use Rattle.page_types.specs.Fields.{◌>>=◌, number_at, bytes_at, tested}
 use Rattle.page_types.specs.declared.page.Page.{Page}
@@ -46,8 +46,8 @@ stamp_at form bytes = do
   tested (fits_free form n.0) bytes n
 
 -- the used length, and the zero gap behind it
-unfoldable pub used_at : List ℕ → Read ℕ
-used_at bytes = do
+unfoldable pub used_length_at : List ℕ → Read ℕ
+used_length_at bytes = do
   n ← number_at 2 bytes
   used ← tested (nat_le n.0 most_body) bytes n
   rest ← zeros_at 6 used.1
@@ -67,7 +67,7 @@ front_at bytes = do
   count ← count_at form.0 form.1
   right ← right_at form.0 count.1
   stamp ← stamp_at form.0 right.1
-  used ← used_at stamp.1
+  used ← used_length_at stamp.1
   body ← framed_at form.0 right.0 count.0 used.0 used.1
   Ok (record { right = right.0; stamp = stamp.0; body = body.0 }, body.1)
 

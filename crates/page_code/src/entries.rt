@@ -4,8 +4,8 @@ ghost use Rattle.page_types.specs.Fields.{Gives};
 ghost use Rattle.page_types.specs.Parts.{postings_shown, entry_shown, child_shown};
 ghost use Rattle.page_code.specs.Bodies.{inline_size_at, inline_at, root_at, postings_at, entry_at, entries_at, high_key_at, entry_leaf_at, may_lack_bound, entry_child_at, entry_children_at};
 
-use crate::fields::{below_of, bound_of, key_of};
-use crate::items::list_of;
+use crate::fields::{read_below, read_bound, read_key};
+use crate::items::skip_list;
 use page_types::{
     Body, Bytes, Entries, EntryChildRef, EntryChildren, EntryRef, MOST_INLINE_BYTES, PAGE_LIMIT,
     PostingsRef, ReadError, slice_at, u16_at,
@@ -14,7 +14,7 @@ use std::alloc::Global;
 
 /// The length of an inline item list.
 #[tactic(auto, unfolding(crate::specs::Bodies::inline_size_at))]
-fn inline_size_of(bytes: &[u8]) -> Result<(u16, &[u8]), ReadError>
+fn read_inline_size(bytes: &[u8]) -> Result<(u16, &[u8]), ReadError>
     ensures { Gives (λ x. (x.0, x.1.now)) result (inline_size_at bytes.now) }
 {
     let (size, rest) = u16_at(bytes)?;
@@ -27,12 +27,12 @@ fn inline_size_of(bytes: &[u8]) -> Result<(u16, &[u8]), ReadError>
 
 /// An inline item list behind the byte 0, read within its length.
 #[tactic(auto, unfolding(crate::specs::Bodies::inline_at))]
-fn inline_of(bytes: &[u8]) -> Result<(PostingsRef<'_>, &[u8]), ReadError>
+fn read_inline(bytes: &[u8]) -> Result<(PostingsRef<'_>, &[u8]), ReadError>
     ensures { Gives (λ x. (postings_shown x.0, x.1.now)) result (inline_at bytes.now) }
 {
-    let (size, whole) = inline_size_of(bytes)?;
+    let (size, whole) = read_inline_size(bytes)?;
     let (items, rest) = slice_at(usize::from(size), whole)?;
-    match list_of(items) {
+    match skip_list(items) {
         Ok(_) => Ok((PostingsRef::Inline(items), rest)),
         Err(ReadError::OutOfMemory) => Err(ReadError::OutOfMemory),
         Err(ReadError::Fault(left)) => Err(ReadError::Fault(
@@ -43,44 +43,44 @@ fn inline_of(bytes: &[u8]) -> Result<(PostingsRef<'_>, &[u8]), ReadError>
 
 /// The root of a posting tree behind the byte 1.
 #[tactic(auto, unfolding(crate::specs::Bodies::root_at))]
-fn root_of(bytes: &[u8]) -> Result<(PostingsRef<'_>, &[u8]), ReadError>
+fn read_root(bytes: &[u8]) -> Result<(PostingsRef<'_>, &[u8]), ReadError>
     ensures { Gives (λ x. (postings_shown x.0, x.1.now)) result (root_at bytes.now) }
 {
-    let (root, rest) = below_of(PAGE_LIMIT, bytes)?;
+    let (root, rest) = read_below(PAGE_LIMIT, bytes)?;
     Ok((PostingsRef::Root(root), rest))
 }
 
 /// An item list or a root, by the byte before it.
-fn postings_of(bytes: &[u8]) -> Result<(PostingsRef<'_>, &[u8]), ReadError>
+fn read_postings(bytes: &[u8]) -> Result<(PostingsRef<'_>, &[u8]), ReadError>
     ensures { Gives (λ x. (postings_shown x.0, x.1.now)) result (postings_at bytes.now) }
 {
     match bytes {
         [] => Err(ReadError::Fault(0)),
-        [0, rest @ ..] => inline_of(rest),
-        [1, rest @ ..] => root_of(rest),
+        [0, rest @ ..] => read_inline(rest),
+        [1, rest @ ..] => read_root(rest),
         [_, ..] => Err(ReadError::Fault(bytes.len())),
     }
 }
 
 /// An entry whose key stands above the last.
 #[tactic(auto, unfolding(crate::specs::Bodies::entry_at))]
-fn entry_of<'a>(last: &[u8], bytes: &'a [u8]) -> Result<(EntryRef<'a>, &'a [u8]), ReadError>
+fn read_entry<'a>(last: &[u8], bytes: &'a [u8]) -> Result<(EntryRef<'a>, &'a [u8]), ReadError>
     ensures { Gives (λ x. (entry_shown x.0, x.1.now)) result (entry_at last.now bytes.now) }
 {
-    let (key, rest) = key_of(last, bytes)?;
-    let (postings, rest) = postings_of(rest)?;
+    let (key, rest) = read_key(last, bytes)?;
+    let (postings, rest) = read_postings(rest)?;
     Ok((EntryRef { key, postings }, rest))
 }
 
 /// So many entries.
-fn entries_of(alloc: Global, count: u16, bytes: &[u8]) -> Result<(Entries, &[u8]), ReadError>
+fn read_entries(alloc: Global, count: u16, bytes: &[u8]) -> Result<(Entries, &[u8]), ReadError>
     ensures { Gives (λ x. (x.0, x.1.now)) result (entries_at count bytes.now) }
 {
     let mut entries = Entries::new(alloc);
     let mut last: &[u8] = &[];
     let mut rest = bytes;
     for _ in 0..count {
-        let (entry, behind) = entry_of(last, rest)?;
+        let (entry, behind) = read_entry(last, rest)?;
         entries.push(entry)?;
         last = entry.key;
         rest = behind;
@@ -89,19 +89,19 @@ fn entries_of(alloc: Global, count: u16, bytes: &[u8]) -> Result<(Entries, &[u8]
 }
 
 /// The high key of a leaf with a right link.
-fn high_key_of(right: u32, bytes: &[u8]) -> Result<(&[u8], &[u8]), ReadError>
+fn read_high_key(right: u32, bytes: &[u8]) -> Result<(&[u8], &[u8]), ReadError>
     ensures { Gives (λ x. (x.0.now, x.1.now)) result (high_key_at right bytes.now) }
 {
     if right == 0 {
         Ok((&[], bytes))
     } else {
-        key_of(&[], bytes)
+        read_key(&[], bytes)
     }
 }
 
 /// A leaf.
 #[tactic(auto, unfolding(crate::specs::Bodies::entry_leaf_at))]
-pub fn entry_leaf_of(
+pub fn read_entry_leaf(
     alloc: Global,
     right: u32,
     count: u16,
@@ -109,15 +109,15 @@ pub fn entry_leaf_of(
 ) -> Result<(Body, &[u8]), ReadError>
     ensures { Gives (λ x. (x.0, x.1.now)) result (entry_leaf_at right count bytes.now) }
 {
-    let (high, rest) = high_key_of(right, bytes)?;
-    let (entries, rest) = entries_of(alloc, count, rest)?;
+    let (high, rest) = read_high_key(right, bytes)?;
+    let (entries, rest) = read_entries(alloc, count, rest)?;
     let high = Bytes::from_slice(alloc, high)?;
     Ok((Body::EntryLeaf { high, entries }, rest))
 }
 
 /// A child whose bound stands above the last, with so many children behind it.
 #[tactic(auto, unfolding(crate::specs::Bodies::entry_child_at))]
-fn entry_child_of<'a>(
+fn read_entry_child<'a>(
     right: u32,
     last: &[u8],
     behind: u16,
@@ -125,13 +125,13 @@ fn entry_child_of<'a>(
 ) -> Result<(EntryChildRef<'a>, &'a [u8]), ReadError>
     ensures { Gives (λ x. (child_shown x.0, x.1.now)) result (entry_child_at right last.now behind bytes.now) }
 {
-    let (page, rest) = below_of(PAGE_LIMIT, bytes)?;
-    let (bound, rest) = bound_of(right == 0 && behind == 0, last, rest)?;
+    let (page, rest) = read_below(PAGE_LIMIT, bytes)?;
+    let (bound, rest) = read_bound(right == 0 && behind == 0, last, rest)?;
     Ok((EntryChildRef { page, bound }, rest))
 }
 
 /// So many children.
-pub fn entry_children_of(
+pub fn read_entry_children(
     alloc: Global,
     right: u32,
     count: u16,
@@ -143,7 +143,7 @@ pub fn entry_children_of(
     let mut last: &[u8] = &[];
     let mut rest = bytes;
     for i in 0..count {
-        let (child, behind) = entry_child_of(right, last, count - 1 - i, rest)?;
+        let (child, behind) = read_entry_child(right, last, count - 1 - i, rest)?;
         children.push(child)?;
         last = child.bound;
         rest = behind;

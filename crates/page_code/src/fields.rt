@@ -8,7 +8,7 @@ use std::cmp::Ordering;
 
 /// A number in four bytes that is below the limit.
 #[tactic(auto, unfolding(crate::specs::Fields::below_at))]
-pub fn below_of(limit: u32, bytes: &[u8]) -> Result<(u32, &[u8]), ReadError>
+pub fn read_below(limit: u32, bytes: &[u8]) -> Result<(u32, &[u8]), ReadError>
     ensures { Gives (λ x. (x.0, x.1.now)) result (below_at limit bytes.now) }
 {
     let (number, rest) = u32_at(bytes)?;
@@ -28,7 +28,7 @@ fn all_zeros(bytes: &[u8]) -> bool
 
 /// So many zero bytes; what stands behind them is read.
 #[tactic(auto, unfolding(crate::specs::Fields::zeros_at))]
-pub fn zeros_of(size: usize, bytes: &[u8]) -> Result<&[u8], ReadError>
+pub fn skip_zeros(size: usize, bytes: &[u8]) -> Result<&[u8], ReadError>
     ensures { Gives (λ rest. rest.now) result (zeros_at size bytes.now) }
 {
     let (gap, rest) = slice_at(size, bytes)?;
@@ -47,7 +47,7 @@ fn is_lexeme(text: &[u8]) -> bool
 }
 
 /// Whether this is a key.
-fn is_key_of(bytes: &[u8]) -> bool
+fn is_whole_key(bytes: &[u8]) -> bool
     ensures { result ≡ is_key bytes.now }
 {
     match bytes {
@@ -66,7 +66,7 @@ fn is_above_last(last: &[u8], key: &[u8]) -> bool
 
 /// Bytes behind their length.
 #[tactic(auto, unfolding(crate::specs::Fields::sized_at))]
-fn sized_of(bytes: &[u8]) -> Result<(&[u8], &[u8]), ReadError>
+fn read_sized(bytes: &[u8]) -> Result<(&[u8], &[u8]), ReadError>
     ensures { Gives (λ x. (x.0.now, x.1.now)) result (sized_at bytes.now) }
 {
     let (size, rest) = u16_at(bytes)?;
@@ -75,11 +75,11 @@ fn sized_of(bytes: &[u8]) -> Result<(&[u8], &[u8]), ReadError>
 
 /// A key field whose key stands above the last.
 #[tactic(auto, unfolding(crate::specs::Fields::key_at))]
-pub fn key_of<'a>(last: &[u8], bytes: &'a [u8]) -> Result<(&'a [u8], &'a [u8]), ReadError>
+pub fn read_key<'a>(last: &[u8], bytes: &'a [u8]) -> Result<(&'a [u8], &'a [u8]), ReadError>
     ensures { Gives (λ x. (x.0.now, x.1.now)) result (key_at last.now bytes.now) }
 {
-    let (key, rest) = sized_of(bytes)?;
-    if is_key_of(key) && is_above_last(last, key) {
+    let (key, rest) = read_sized(bytes)?;
+    if is_whole_key(key) && is_above_last(last, key) {
         Ok((key, rest))
     } else {
         Err(ReadError::Fault(bytes.len()))
@@ -88,15 +88,15 @@ pub fn key_of<'a>(last: &[u8], bytes: &'a [u8]) -> Result<(&'a [u8], &'a [u8]), 
 
 /// A bound that stands above the last, or none where it may lack.
 #[tactic(auto, unfolding(crate::specs::Fields::bound_at))]
-pub fn bound_of<'a>(
+pub fn read_bound<'a>(
     may_lack: bool,
     last: &[u8],
     bytes: &'a [u8],
 ) -> Result<(&'a [u8], &'a [u8]), ReadError>
     ensures { Gives (λ x. (x.0.now, x.1.now)) result (bound_at may_lack last.now bytes.now) }
 {
-    let (bound, rest) = sized_of(bytes)?;
-    if is_key_of(bound) && is_above_last(last, bound) || may_lack && bound.is_empty() {
+    let (bound, rest) = read_sized(bytes)?;
+    if is_whole_key(bound) && is_above_last(last, bound) || may_lack && bound.is_empty() {
         Ok((bound, rest))
     } else {
         Err(ReadError::Fault(bytes.len()))

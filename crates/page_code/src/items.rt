@@ -65,7 +65,7 @@ fn number_in(bytes: &[u8], most: u32) -> Option<(Option<u64>, &[u8])>
 
 /// The next item behind the last.
 #[tactic(auto, unfolding(crate::specs::Items::item_at))]
-fn item_of(last: u32, bytes: &[u8]) -> Result<(u32, &[u8]), ReadError>
+fn read_item(last: u32, bytes: &[u8]) -> Result<(u32, &[u8]), ReadError>
     ensures { Gives (λ x. (x.0, x.1.now)) result (item_at last bytes.now) }
 {
     match number_in(bytes, 5) {
@@ -82,13 +82,13 @@ fn item_of(last: u32, bytes: &[u8]) -> Result<(u32, &[u8]), ReadError>
 }
 
 /// So many items; what stands behind them is read.
-pub fn items_of(count: u16, bytes: &[u8]) -> Result<&[u8], ReadError>
+pub fn skip_items(count: u16, bytes: &[u8]) -> Result<&[u8], ReadError>
     ensures { Gives (λ rest. rest.now) result (items_at 0 count bytes.now) }
 {
     let mut last = 0;
     let mut rest = bytes;
     for _ in 0..count {
-        let (item, behind) = item_of(last, rest)?;
+        let (item, behind) = read_item(last, rest)?;
         last = item;
         rest = behind;
     }
@@ -96,13 +96,13 @@ pub fn items_of(count: u16, bytes: &[u8]) -> Result<&[u8], ReadError>
 }
 
 /// An item list, all of the bytes: nothing is left behind it.
-pub fn list_of(bytes: &[u8]) -> Result<&[u8], ReadError>
+pub fn skip_list(bytes: &[u8]) -> Result<&[u8], ReadError>
     ensures { Gives (λ rest. rest.now) result (list_at bytes.now) }
 {
     let mut last = 0;
     let mut rest = bytes;
     while !rest.is_empty() {
-        let (item, behind) = item_of(last, rest)?;
+        let (item, behind) = read_item(last, rest)?;
         last = item;
         rest = behind;
     }

@@ -14,7 +14,14 @@ mod laws;
 mod pending;
 mod postings;
 mod reading;
+mod writing;
 
 pub use error::PageError;
 pub use laws::spellings_are_read;
 pub use reading::decode_page;
+pub use writing::encode_page;
+
+#[cfg(test)]
+mod rows;
+#[cfg(test)]
+mod tests;

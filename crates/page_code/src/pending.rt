@@ -4,19 +4,19 @@ ghost use Rattle.page_types.specs.Fields.{Gives};
 ghost use Rattle.page_types.specs.declared.page.Row.{Row};
 ghost use Rattle.page_code.specs.Bodies.{keys_at, some_at, row_at, rows_at};
 
-use crate::fields::{below_of, key_of};
+use crate::fields::{read_below, read_key};
 use page_types::{ITEM_LIMIT, Pieces, ReadError, Rows, u16_at};
 use std::alloc::Global;
 
 /// So many keys, each above the last.
-fn keys_of(alloc: Global, count: u16, bytes: &[u8]) -> Result<(Pieces, &[u8]), ReadError>
+fn read_keys(alloc: Global, count: u16, bytes: &[u8]) -> Result<(Pieces, &[u8]), ReadError>
     ensures { Gives (λ x. (x.0, x.1.now)) result (keys_at count bytes.now) }
 {
     let mut keys = Pieces::new(alloc);
     let mut last: &[u8] = &[];
     let mut rest = bytes;
     for _ in 0..count {
-        let (key, behind) = key_of(last, rest)?;
+        let (key, behind) = read_key(last, rest)?;
         keys.push(key)?;
         last = key;
         rest = behind;
@@ -26,7 +26,7 @@ fn keys_of(alloc: Global, count: u16, bytes: &[u8]) -> Result<(Pieces, &[u8]), R
 
 /// How many keys a row has, at least one.
 #[tactic(auto, unfolding(crate::specs::Bodies::some_at))]
-fn some_of(bytes: &[u8]) -> Result<(u16, &[u8]), ReadError>
+fn read_some(bytes: &[u8]) -> Result<(u16, &[u8]), ReadError>
     ensures { Gives (λ x. (x.0, x.1.now)) result (some_at bytes.now) }
 {
     let (count, rest) = u16_at(bytes)?;
@@ -39,23 +39,23 @@ fn some_of(bytes: &[u8]) -> Result<(u16, &[u8]), ReadError>
 
 /// An item and its keys.
 #[tactic(auto, unfolding(crate::specs::Bodies::row_at))]
-fn row_of(alloc: Global, bytes: &[u8]) -> Result<((u32, Pieces), &[u8]), ReadError>
+fn read_row(alloc: Global, bytes: &[u8]) -> Result<((u32, Pieces), &[u8]), ReadError>
     ensures { Gives (λ x. (record { item = x.0.0; keys = x.0.1 }, x.1.now)) result (row_at bytes.now) }
 {
-    let (item, rest) = below_of(ITEM_LIMIT, bytes)?;
-    let (count, rest) = some_of(rest)?;
-    let (keys, rest) = keys_of(alloc, count, rest)?;
+    let (item, rest) = read_below(ITEM_LIMIT, bytes)?;
+    let (count, rest) = read_some(rest)?;
+    let (keys, rest) = read_keys(alloc, count, rest)?;
     Ok(((item, keys), rest))
 }
 
 /// So many rows.
-pub fn rows_of(alloc: Global, count: u16, bytes: &[u8]) -> Result<(Rows, &[u8]), ReadError>
+pub fn read_rows(alloc: Global, count: u16, bytes: &[u8]) -> Result<(Rows, &[u8]), ReadError>
     ensures { Gives (λ x. (x.0, x.1.now)) result (rows_at count bytes.now) }
 {
     let mut rows = Rows::new(alloc);
     let mut rest = bytes;
     for _ in 0..count {
-        let ((item, keys), behind) = row_of(alloc, rest)?;
+        let ((item, keys), behind) = read_row(alloc, rest)?;
         rows.push(item, &keys)?;
         rest = behind;
     }

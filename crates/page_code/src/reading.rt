@@ -5,18 +5,18 @@ ghost use Rattle.page_types.specs.Spelling.{page_bytes};
 ghost use Rattle.page_types.specs.Pages.{IsPage};
 ghost use Rattle.page_types.specs.declared.page.Page.{Page};
 ghost use Rattle.page_code.specs.Bodies.{meta_at, body_at, whole_body_at, in_part};
-ghost use Rattle.page_code.specs.Reading.{kind_at, was_at, form_at, count_at, right_at, stamp_at, used_at, framed_at, front_at, page_at};
+ghost use Rattle.page_code.specs.Reading.{kind_at, was_at, form_at, count_at, right_at, stamp_at, used_length_at, framed_at, front_at, page_at};
 ghost use Rattle.page_code.specs.Forms.{form_with, count_fits, fits_free};
 ghost use Rattle.page_code.specs.Decoding.{Answers, placed};
 ghost use Rattle.page_code.specs.Laws.{Spells};
 
-use crate::entries::{entry_children_of, entry_leaf_of};
+use crate::entries::{read_entry_children, read_entry_leaf};
 use crate::error::PageError;
-use crate::fields::{below_of, zeros_of};
+use crate::fields::{read_below, skip_zeros};
 use crate::form::Form;
-use crate::heap::slots_of;
-use crate::pending::rows_of;
-use crate::postings::{post_children_of, posting_of};
+use crate::heap::read_slots;
+use crate::pending::read_rows;
+use crate::postings::{read_post_children, read_posting};
 use page_types::{
     Body, Bytes, Gone, MOST_BODY_BYTES, MOST_SLOTS, PAGE_LIMIT, Page, ReadError, slice_at, u8_at,
     u16_at, u32_at, u64_at,
@@ -66,7 +66,7 @@ fn form_of_kinds(kind: u8, was: u8) -> Option<Form>
 
 /// The kind.
 #[tactic(auto, unfolding(crate::specs::Reading::kind_at))]
-fn kind_of(bytes: &[u8]) -> Result<(u8, &[u8]), ReadError>
+fn read_kind(bytes: &[u8]) -> Result<(u8, &[u8]), ReadError>
     ensures { Gives (λ x. (x.0, x.1.now)) result (kind_at bytes.now) }
 {
     let (kind, rest) = u8_at(bytes)?;
@@ -79,7 +79,7 @@ fn kind_of(bytes: &[u8]) -> Result<(u8, &[u8]), ReadError>
 
 /// The form of a page of this kind, by the kind before its deletion.
 #[tactic(auto, unfolding(crate::specs::Reading::was_at))]
-fn was_of(kind: u8, bytes: &[u8]) -> Result<(Form, &[u8]), ReadError>
+fn read_was(kind: u8, bytes: &[u8]) -> Result<(Form, &[u8]), ReadError>
     ensures { Gives (λ x. (x.0, x.1.now)) result (was_at kind bytes.now) }
 {
     let (was, rest) = u8_at(bytes)?;
@@ -91,11 +91,11 @@ fn was_of(kind: u8, bytes: &[u8]) -> Result<(Form, &[u8]), ReadError>
 
 /// The form.
 #[tactic(auto, unfolding(crate::specs::Reading::form_at))]
-fn form_of(bytes: &[u8]) -> Result<(Form, &[u8]), ReadError>
+fn read_form(bytes: &[u8]) -> Result<(Form, &[u8]), ReadError>
     ensures { Gives (λ x. (x.0, x.1.now)) result (form_at bytes.now) }
 {
-    let (kind, rest) = kind_of(bytes)?;
-    was_of(kind, rest)
+    let (kind, rest) = read_kind(bytes)?;
+    read_was(kind, rest)
 }
 
 /// Whether a page of this form may have so many slots, rows, entries, children or items.
@@ -111,7 +111,7 @@ fn may_have(form: Form, count: u16) -> bool
 }
 
 /// Whether the number is 0 or the page is not free.
-fn is_free_of(form: Form, number: u64) -> bool
+fn is_free_or(form: Form, number: u64) -> bool
     ensures { result ≡ fits_free form number }
 {
     match form {
@@ -122,7 +122,7 @@ fn is_free_of(form: Form, number: u64) -> bool
 
 /// The count.
 #[tactic(auto, unfolding(crate::specs::Reading::count_at))]
-fn count_of(form: Form, bytes: &[u8]) -> Result<(u16, &[u8]), ReadError>
+fn read_count(form: Form, bytes: &[u8]) -> Result<(u16, &[u8]), ReadError>
     ensures { Gives (λ x. (x.0, x.1.now)) result (count_at form bytes.now) }
 {
     let (count, rest) = u16_at(bytes)?;
@@ -135,11 +135,11 @@ fn count_of(form: Form, bytes: &[u8]) -> Result<(u16, &[u8]), ReadError>
 
 /// The right link.
 #[tactic(auto, unfolding(crate::specs::Reading::right_at))]
-fn right_of(form: Form, bytes: &[u8]) -> Result<(u32, &[u8]), ReadError>
+fn read_right(form: Form, bytes: &[u8]) -> Result<(u32, &[u8]), ReadError>
     ensures { Gives (λ x. (x.0, x.1.now)) result (right_at form bytes.now) }
 {
     let (right, rest) = u32_at(bytes)?;
-    if right < PAGE_LIMIT && is_free_of(form, u64::from(right)) {
+    if right < PAGE_LIMIT && is_free_or(form, u64::from(right)) {
         Ok((right, rest))
     } else {
         Err(ReadError::Fault(bytes.len()))
@@ -148,11 +148,11 @@ fn right_of(form: Form, bytes: &[u8]) -> Result<(u32, &[u8]), ReadError>
 
 /// The stamp.
 #[tactic(auto, unfolding(crate::specs::Reading::stamp_at))]
-fn stamp_of(form: Form, bytes: &[u8]) -> Result<(u64, &[u8]), ReadError>
+fn read_stamp(form: Form, bytes: &[u8]) -> Result<(u64, &[u8]), ReadError>
     ensures { Gives (λ x. (x.0, x.1.now)) result (stamp_at form bytes.now) }
 {
     let (stamp, rest) = u64_at(bytes)?;
-    if is_free_of(form, stamp) {
+    if is_free_or(form, stamp) {
         Ok((stamp, rest))
     } else {
         Err(ReadError::Fault(bytes.len()))
@@ -160,32 +160,32 @@ fn stamp_of(form: Form, bytes: &[u8]) -> Result<(u64, &[u8]), ReadError>
 }
 
 /// The used length; the zero gap behind it is read too.
-#[tactic(auto, unfolding(crate::specs::Reading::used_at))]
-fn used_of(bytes: &[u8]) -> Result<(u16, &[u8]), ReadError>
-    ensures { Gives (λ x. (x.0, x.1.now)) result (used_at bytes.now) }
+#[tactic(auto, unfolding(crate::specs::Reading::used_length_at))]
+fn read_used(bytes: &[u8]) -> Result<(u16, &[u8]), ReadError>
+    ensures { Gives (λ x. (x.0, x.1.now)) result (used_length_at bytes.now) }
 {
     let (used, rest) = u16_at(bytes)?;
     if usize::from(used) > MOST_BODY_BYTES {
         return Err(ReadError::Fault(bytes.len()));
     }
-    let rest = zeros_of(6, rest)?;
+    let rest = skip_zeros(6, rest)?;
     Ok((used, rest))
 }
 
 /// The fields of the metapage.
 #[tactic(auto, unfolding(crate::specs::Bodies::meta_at))]
-fn meta_of(bytes: &[u8]) -> Result<(Body, &[u8]), ReadError>
+fn read_meta(bytes: &[u8]) -> Result<(Body, &[u8]), ReadError>
     ensures { Gives (λ x. (x.0, x.1.now)) result (meta_at bytes.now) }
 {
-    let (first, rest) = below_of(PAGE_LIMIT, bytes)?;
-    let (last, rest) = below_of(PAGE_LIMIT, rest)?;
+    let (first, rest) = read_below(PAGE_LIMIT, bytes)?;
+    let (last, rest) = read_below(PAGE_LIMIT, rest)?;
     let (pages, rest) = u32_at(rest)?;
     Ok((Body::Meta { first, last, pages }, rest))
 }
 
 /// What stands on a page of this form.
 #[tactic(auto, unfolding(crate::specs::Bodies::body_at))]
-fn body_of(
+fn read_body(
     alloc: Global,
     form: Form,
     right: u32,
@@ -196,27 +196,27 @@ fn body_of(
 {
     match form {
         Form::Free => Ok((Body::Free, bytes)),
-        Form::Meta => meta_of(bytes),
+        Form::Meta => read_meta(bytes),
         Form::Heap => {
-            let (slots, rest) = slots_of(alloc, count, bytes)?;
+            let (slots, rest) = read_slots(alloc, count, bytes)?;
             Ok((Body::Heap(slots), rest))
         }
         Form::Overflow => Ok((Body::Overflow(Bytes::from_slice(alloc, bytes)?), &[])),
         Form::Pending => {
-            let (rows, rest) = rows_of(alloc, count, bytes)?;
+            let (rows, rest) = read_rows(alloc, count, bytes)?;
             Ok((Body::Pending(rows), rest))
         }
-        Form::EntryLeaf => entry_leaf_of(alloc, right, count, bytes),
+        Form::EntryLeaf => read_entry_leaf(alloc, right, count, bytes),
         Form::EntryInner => {
-            let (children, rest) = entry_children_of(alloc, right, count, bytes)?;
+            let (children, rest) = read_entry_children(alloc, right, count, bytes)?;
             Ok((Body::EntryInner(children), rest))
         }
         Form::PostLeaf => {
-            let ((high, items), rest) = posting_of(alloc, right, count, bytes)?;
+            let ((high, items), rest) = read_posting(alloc, right, count, bytes)?;
             Ok((Body::PostLeaf { high, items }, rest))
         }
         Form::PostInner => {
-            let (children, rest) = post_children_of(alloc, right, count, bytes)?;
+            let (children, rest) = read_post_children(alloc, right, count, bytes)?;
             Ok((Body::PostInner(children), rest))
         }
         Form::GoneOverflow => {
@@ -224,11 +224,11 @@ fn body_of(
             Ok((Body::Deleted(Gone::Overflow(part)), &[]))
         }
         Form::GonePending => {
-            let (rows, rest) = rows_of(alloc, count, bytes)?;
+            let (rows, rest) = read_rows(alloc, count, bytes)?;
             Ok((Body::Deleted(Gone::Pending(rows)), rest))
         }
         Form::GonePostLeaf => {
-            let ((high, items), rest) = posting_of(alloc, right, count, bytes)?;
+            let ((high, items), rest) = read_posting(alloc, right, count, bytes)?;
             Ok((Body::Deleted(Gone::PostLeaf { high, items }), rest))
         }
     }
@@ -236,7 +236,7 @@ fn body_of(
 
 /// What stands on a page of this form, all of the bytes.
 #[tactic(auto, unfolding(crate::specs::Bodies::whole_body_at))]
-fn whole_body_of(
+fn read_whole_body(
     alloc: Global,
     form: Form,
     right: u32,
@@ -245,7 +245,7 @@ fn whole_body_of(
 ) -> Result<Body, ReadError>
     ensures { Gives (λ b. b) result (whole_body_at form right count bytes.now) }
 {
-    let (body, rest) = body_of(alloc, form, right, count, bytes)?;
+    let (body, rest) = read_body(alloc, form, right, count, bytes)?;
     if rest.is_empty() {
         Ok(body)
     } else {
@@ -255,7 +255,7 @@ fn whole_body_of(
 
 /// A body of so many bytes; the zeros behind it are read too.
 #[tactic(auto, unfolding(crate::specs::Reading::framed_at))]
-fn framed_of(
+fn read_framed(
     alloc: Global,
     form: Form,
     right: u32,
@@ -266,9 +266,9 @@ fn framed_of(
     ensures { Gives (λ x. (x.0, x.1.now)) result (framed_at form right count used bytes.now) }
 {
     let (text, rest) = slice_at(usize::from(used), bytes)?;
-    match whole_body_of(alloc, form, right, count, text) {
+    match read_whole_body(alloc, form, right, count, text) {
         Ok(body) => {
-            let rest = zeros_of(MOST_BODY_BYTES.saturating_sub(usize::from(used)), rest)?;
+            let rest = skip_zeros(MOST_BODY_BYTES.saturating_sub(usize::from(used)), rest)?;
             Ok((body, rest))
         }
         Err(ReadError::OutOfMemory) => Err(ReadError::OutOfMemory),
@@ -280,24 +280,24 @@ fn framed_of(
 
 /// A page, and what stands behind it.
 #[tactic(auto, unfolding(crate::specs::Reading::front_at))]
-fn front_of(alloc: Global, bytes: &[u8]) -> Result<(Page, &[u8]), ReadError>
+fn read_front(alloc: Global, bytes: &[u8]) -> Result<(Page, &[u8]), ReadError>
     ensures { Gives (λ x. (x.0, x.1.now)) result (front_at bytes.now) }
 {
-    let (form, rest) = form_of(bytes)?;
-    let (count, rest) = count_of(form, rest)?;
-    let (right, rest) = right_of(form, rest)?;
-    let (stamp, rest) = stamp_of(form, rest)?;
-    let (used, rest) = used_of(rest)?;
-    let (body, rest) = framed_of(alloc, form, right, count, used, rest)?;
+    let (form, rest) = read_form(bytes)?;
+    let (count, rest) = read_count(form, rest)?;
+    let (right, rest) = read_right(form, rest)?;
+    let (stamp, rest) = read_stamp(form, rest)?;
+    let (used, rest) = read_used(rest)?;
+    let (body, rest) = read_framed(alloc, form, right, count, used, rest)?;
     Ok((Page { right, stamp, body }, rest))
 }
 
 /// A page, all of the bytes.
 #[tactic(auto, unfolding(crate::specs::Reading::page_at))]
-fn page_of(alloc: Global, bytes: &[u8]) -> Result<Page, PageError>
+fn read_page(alloc: Global, bytes: &[u8]) -> Result<Page, PageError>
     ensures { Answers result (placed (length bytes.now) (page_at bytes.now)) }
 {
-    match front_of(alloc, bytes) {
+    match read_front(alloc, bytes) {
         Ok((page, rest)) => {
             if rest.is_empty() {
                 Ok(page)
@@ -322,5 +322,5 @@ pub fn decode_page(alloc: Global, bytes: &[u8]) -> Result<Page, PageError>
     // Where the first fault is.
     ensures at { Answers result (placed (length bytes.now) (page_at bytes.now)) }
 {
-    page_of(alloc, bytes)
+    read_page(alloc, bytes)
 }

@@ -1,5 +1,5 @@
 use Rattle.std.proofs.Common.{◌≤◌, length}
-use Rattle.page_code.proofs.Tests.{some_from, lexeme_tested}
+use Rattle.page_code.proofs.Passing.{some_from, lexeme_tested}
 use Rattle.page_code.proofs.fields.is_lexeme.Goals as goal
 
 pub returns-then-text-le-MOST_KEY_TEXT : goal.returns-then-text-le-MOST_KEY_TEXT

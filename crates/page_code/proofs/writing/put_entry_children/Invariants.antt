@@ -1,0 +1,6 @@
+use Rattle.page_types.specs.Spelling.{entry_child_bytes}
+use Rattle.page_code.proofs.Appending.{PutsFirst}
+use Rattle.page_code.proofs.writing.put_entry_children.Given as goal
+
+abbrev pub invariant-loop-k : goal.invariant-loop-k
+invariant-loop-k l = PutsFirst entry_child_bytes l.children l.k l.at l.initial.out l.end l.out

@@ -1,0 +1,2 @@
+-- How bytes are written: what no caller sees.
+pub mod Putting
