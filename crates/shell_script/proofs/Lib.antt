@@ -9,3 +9,4 @@ pub mod TextLines
 pub mod Openings
 pub mod StepsLaw
 pub mod Bodies
+pub mod FirstLines

@@ -4,6 +4,8 @@ pub mod Grammar
 pub mod Steps
 pub mod StepsOf
 pub mod StepView
+pub mod Heads
+pub mod HeadView
 pub mod StatementView
 pub mod Name
 pub mod Replies

@@ -6,6 +6,7 @@ ghost use Rattle.shell_script.specs.Lines.{script_lines};
 ghost use Rattle.shell_script.specs.Steps.{AreSteps};
 ghost use Rattle.shell_script.specs.StepsOf.{steps_of};
 
+mod heads;
 mod laws;
 mod line;
 mod lines;
@@ -15,6 +16,7 @@ mod statement;
 mod texts;
 mod tokens;
 
+pub use heads::{Head, Kind, LONGEST_NAME, read_head};
 pub use laws::{one_meaning, one_reading, one_spelling};
 pub use line::{cut_at, is_skipped, without_return};
 pub use lines::{Line, Lines};

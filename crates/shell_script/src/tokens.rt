@@ -3,7 +3,7 @@ ghost use Rattle.std.specs.Prelude.{◌≡◌, ℕ, ◌↔◌, List, [], ◌∷�
 ghost use Rattle.std.specs.List.{All};
 ghost use Rattle.std.specs.String.{string_bytes};
 ghost use Rattle.ts_base.specs.Bytes.{BeginsWithout, IsBlank};
-ghost use Rattle.ts_base.specs.Words.{EndsWord};
+ghost use Rattle.ts_base.specs.Words.{EndsWord, BeginsWithWord};
 ghost use Rattle.shell_script.specs.Tokens.{IsSpelled, word, quote};
 ghost use Rattle.shell_script.specs.Inner.Fronts.{Fronts, IsFirst, IsNoQuote, IsQuote};
 ghost use Rattle.shell_script.specs.Tokens.{ScriptToken as Spelled};
@@ -79,6 +79,7 @@ pub fn is_all_blank(text: &str) -> bool
 /// None where no word stands there, or a quote stands in it.
 pub fn front_word(text: &str) -> Option<(&str, &str)>
     ensures some { IfSome result (λ r. Fronts text.now (word r.0.now ∷ []) r.1.now) }
+    ensures begins { IfSome result (λ r. BeginsWithWord text.now r.0.now r.1.now) }
     ensures none { IfNone result ((w : List ℕ) (ts : List Spelled)
         → IsSpelled text.now (word w ∷ ts) → ⊥) }
 {

@@ -1,0 +1,55 @@
+-- What the first line of a definition says, and a line of a configuration.
+use Rattle.std.specs.Prelude.{◌≡◌, ◌≢◌, ◌⊎◌, ℕ, ◌<◌, ◌≤◌, Bool, true, false, List, [], ◌∷◌, length, map, codes}
+use Rattle.std.specs.List.{All, join_with_byte}
+use Rattle.std.specs.Str.{IsUtf8}
+use Rattle.std.specs.Char.{IsAsciiDigit, IsAsciiAlphabetic}
+use Rattle.ts_base.specs.Bytes.{BeginsWithout}
+use Rattle.ts_parser.specs.declared.kinds.TokenType.{TokenType}
+use Rattle.ts_parser.specs.Kinds.{type_name}
+use Rattle.shell_script.specs.Tokens.{ScriptToken, word, IsSpelled}
+use Rattle.shell_script.specs.declared.heads.TheConstants.{LONGEST_NAME}
+use Rattle.shell_script.specs.declared.heads.Kind.{Kind}
+use Rattle.shell_script.specs.declared.heads.Kind.TheVariants.{Simple}
+
+abbrev pub IsNameByte : ℕ → Type 0
+IsNameByte c = IsAsciiAlphabetic c ⊎ IsAsciiDigit c ⊎ (c ≡ 95)
+
+-- An ASCII letter or `_`, and then letters, digits and `_`. Two words of expressions are no names.
+pub record IsName (name : List ℕ) : Type 0 where
+  pub some : 0 < length name
+  pub short : length name ≤ LONGEST_NAME
+  pub each : All IsNameByte name
+  pub first : BeginsWithout IsAsciiDigit name
+  pub free : (name ≢ codes "vector") × (name ≢ codes "strip")
+
+-- what the first line of a definition says
+pub data Head : Type 0 where
+  dictionary_head : List ℕ → Kind → Head
+  configuration_head : List ℕ → Head
+
+-- `pass` stands where words that are no stop words are not accepted
+abbrev pub kind_tokens : Kind → List ScriptToken
+kind_tokens (Simple true) = word (codes "simple") ∷ []
+kind_tokens (Simple false) = word (codes "simple") ∷ word (codes "pass") ∷ []
+
+abbrev pub head_tokens : Head → List ScriptToken
+head_tokens (dictionary_head name kind) = word (codes "dictionary") ∷ word name ∷ kind_tokens kind
+head_tokens (configuration_head name) = word (codes "configuration") ∷ word name ∷ []
+
+abbrev pub head_name : Head → List ℕ
+head_name (dictionary_head name kind) = name
+head_name (configuration_head name) = name
+
+pub record IsHead (line : List ℕ) (head : Head) : Type 0 where
+  pub utf8 : IsUtf8 line
+  pub name : IsName (head_name head)
+  pub spelled : IsSpelled line (head_tokens head)
+
+-- a line of a configuration: names of types with commas between them, and the names of the
+-- dictionaries that these types get
+pub record IsMapping (line : List ℕ) (types : List TokenType) (names : List (List ℕ)) : Type 0 where
+  pub utf8 : IsUtf8 line
+  pub some_type : 0 < length types
+  pub some_name : 0 < length names
+  pub named : All IsName names
+  pub spelled : IsSpelled line (word (join_with_byte 44 (map type_name types)) ∷ map word names)
