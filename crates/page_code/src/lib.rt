@@ -23,5 +23,3 @@ pub use writing::encode_page;
 
 #[cfg(test)]
 mod rows;
-#[cfg(test)]
-mod tests;

@@ -62,6 +62,3 @@ pub const MOST_KEY_TEXT: usize = 2046;
 
 /// The bound of the last child of an inner posting page without right link, where it has no limit.
 pub const NO_BOUND: u32 = 4_294_967_295;
-
-#[cfg(test)]
-mod tests;

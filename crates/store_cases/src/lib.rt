@@ -1,15 +1,21 @@
-//! Tests of the device in memory, of the log, and of records and item lists as bytes, by their public calls.
+//! Cases of the device in memory, of the log, and of pages, records and item lists, by their public calls.
 //!
-//! They stand in a crate of their own, since a crate with tests is proved twice.
+//! Tests stand in a crate of their own, since a crate with tests is proved twice.
 #![tactic(auto)]
 
 #[cfg(test)]
-mod batches;
+mod batch_tests;
 #[cfg(test)]
-mod device;
+mod device_tests;
 #[cfg(test)]
-mod items;
+mod item_tests;
+#[cfg(test)]
+mod page_rows;
+#[cfg(test)]
+mod page_tests;
 #[cfg(test)]
 mod record_rows;
 #[cfg(test)]
-mod records;
+mod record_tests;
+#[cfg(test)]
+mod spelling_tests;

@@ -5,7 +5,7 @@ use std::alloc::{AllocError, Global};
 use std::test::Fail;
 use ts_base::{
     Answer, Dictionary, Found, LONGEST_LEXEME, Lexeme, LexemeError, Position, Tri, Weight, Weights,
-    front_word, is_blank, is_white, lower_case, keys_rise, push_quoted, quoted_has_one_reading,
+    front_word, is_blank, is_white, keys_rise, lower_case, push_quoted, quoted_has_one_reading,
     quoted_is_read_back, spelling_has_size, spelling_tells_vector, weight_of, without_blanks,
     words_are_one,
 };

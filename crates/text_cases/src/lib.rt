@@ -7,6 +7,8 @@
 #[cfg(test)]
 mod base_tests;
 #[cfg(test)]
+mod config_tests;
+#[cfg(test)]
 mod match_tests;
 #[cfg(test)]
 mod parser_tests;
@@ -16,3 +18,11 @@ mod query_tests;
 mod slow;
 #[cfg(test)]
 mod stem_tests;
+#[cfg(test)]
+mod stop_tests;
+#[cfg(test)]
+mod synonym_tests;
+#[cfg(test)]
+mod thesaurus_tests;
+#[cfg(test)]
+mod vector_tests;

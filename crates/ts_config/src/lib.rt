@@ -17,6 +17,3 @@ pub use placed::Placed;
 
 /// How many types of tokens there are.
 pub const TYPES: usize = 15;
-
-#[cfg(test)]
-mod tests;

@@ -9,6 +9,3 @@ mod synonym;
 pub use error::SynonymError;
 pub use laws::lines_have_one_reading;
 pub use synonym::Synonym;
-
-#[cfg(test)]
-mod tests;

@@ -13,6 +13,3 @@ mod words;
 pub use error::{LineError, ThesaurusError};
 pub use laws::{lines_have_one_reading, one_fits};
 pub use thesaurus::{Replaced, Thesaurus};
-
-#[cfg(test)]
-mod tests;

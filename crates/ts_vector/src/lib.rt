@@ -219,6 +219,3 @@ impl TsVector {
         }
     }
 }
-
-#[cfg(test)]
-mod tests;

@@ -10,6 +10,3 @@ pub use error::WordsError;
 pub use laws::lines_have_one_reading;
 pub use simple::Simple;
 pub use stops::StopList;
-
-#[cfg(test)]
-mod tests;

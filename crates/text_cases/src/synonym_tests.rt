@@ -1,8 +1,8 @@
 // What lists of synonyms answer, and which are refused.
-use super::*;
 use std::alloc::{AllocError, Global};
 use std::test::Fail;
 use ts_base::{Answer, Dictionary, LONGEST_LEXEME};
+use ts_synonym::{Synonym, SynonymError, lines_have_one_reading};
 
 /// Lines, whether they are case sensitive, a word, and what stands for it: nothing where it is unknown.
 #[derive(Drop)]

@@ -1,8 +1,8 @@
 // Each kind of page, and bytes that are no pages.
 ghost use Rattle.std.specs.Prelude.{◌≡◌};
 
-use crate::rows::{EDITS, PAGES};
-use crate::{PageError, decode_page, encode_page};
+use crate::page_rows::{EDITS, PAGES};
+use page_code::{PageError, decode_page, encode_page};
 use page_types::PAGE_BYTES;
 use std::alloc::Global;
 use std::test::Fail;

@@ -1,7 +1,8 @@
-use super::*;
 use std::alloc::{AllocError, Global};
 use std::test::Fail;
 use ts_base::{Answer, Dictionary};
+use ts_synonym::lines_have_one_reading;
+use ts_words::{Simple, StopList};
 
 /// A text, words, and what comes of it: for each word 1 where the text's stop list has it, or why the text is refused. `=`
 /// stands between the three, `;` between two rows, and `{x^n}` for n times x.

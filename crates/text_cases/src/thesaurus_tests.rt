@@ -1,8 +1,9 @@
 // What thesauri replace, and which lines are refused.
-use super::*;
 use std::alloc::{AllocError, Global};
 use std::test::Fail;
 use ts_base::{Answer, Dictionary, Found, Lexeme};
+use ts_synonym::lines_have_one_reading;
+use ts_thesaurus::{LineError, Thesaurus, ThesaurusError, one_fits};
 
 /// Has the stop word `the`, doesn't know `no`, and gives each other word as it is, with a mark.
 struct Sub;

@@ -1,6 +1,9 @@
-use super::*;
 use std::alloc::{AllocError, Global};
 use std::test::Fail;
+use ts_config::{
+    AnyDictionary, Config, ConfigError, Configs, Placed, mapping_replaces_one, placed_are_one,
+    positions_rise, simple_maps_all_but_blank,
+};
 use ts_parser::TokenType;
 use ts_words::{Simple, StopList};
 

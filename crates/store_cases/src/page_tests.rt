@@ -1,7 +1,11 @@
 // What a change makes of a page's bytes, and what each list holds after its calls.
 ghost use Rattle.std.specs.Prelude.{◌≡◌, length, IfOk};
 
-use super::*;
+use page_types::{
+    Body, Bytes, Change, Changes, Edit, Entries, EntryChildRef, EntryChildren, EntryRef,
+    HeadFields, HeadRef, NO_BOUND, PAGE_BYTES, Page, PageBytes, Pieces, PostChild, PostChildren,
+    PostingsRef, Rows, Slots, apply,
+};
 use std::alloc::{AllocError, Global};
 use std::fmt::Write;
 use std::test::Fail;
