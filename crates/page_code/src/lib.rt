@@ -20,6 +20,3 @@ pub use error::PageError;
 pub use laws::spellings_are_read;
 pub use reading::decode_page;
 pub use writing::encode_page;
-
-#[cfg(test)]
-mod rows;

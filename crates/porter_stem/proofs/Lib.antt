@@ -4,3 +4,4 @@ pub mod StepCases
 pub mod Lengths
 pub mod Small
 pub mod Some
+pub mod Texts

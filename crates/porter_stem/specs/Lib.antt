@@ -4,3 +4,5 @@ pub mod Stem
 pub mod Views
 pub mod Shapes
 pub mod Laws
+pub mod Porter
+pub mod Worked

@@ -1,5 +1,7 @@
 // What holds of all stems, and of the tables.
 ghost use Rattle.porter_stem.specs.Laws.{StemIsNoLonger, StemIsSome, StemIsSmall, LongestIsLongest, TablesAreApart};
+ghost use Rattle.porter_stem.specs.Porter.{PorterKnowsAll};
+ghost use Rattle.porter_stem.specs.Worked.{StemsAreWorked};
 
 /// A stem is not longer than its word.
 pub fn stem_is_no_longer()
@@ -24,4 +26,14 @@ pub fn longest_is_longest()
 /// No table has a suffix twice.
 pub fn tables_are_apart()
     ensures { TablesAreApart }
+{}
+
+/// The stems of words over all steps, as they were worked out by hand.
+pub fn stems_are_worked()
+    ensures { StemsAreWorked }
+{}
+
+/// The dictionary of stems knows every word.
+pub fn porter_knows_all()
+    ensures { PorterKnowsAll }
 {}

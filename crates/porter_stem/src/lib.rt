@@ -1,6 +1,7 @@
 //! Porter's stemmer of 1980 for English words.
 #![tactic(auto)]
 
+mod dictionary;
 mod laws;
 mod rule;
 mod rules;
@@ -8,7 +9,9 @@ mod shape;
 mod steps;
 mod tables;
 
+pub use dictionary::Porter;
 pub use laws::{
-    longest_is_longest, stem_is_no_longer, stem_is_small, stem_is_some, tables_are_apart,
+    longest_is_longest, porter_knows_all, stem_is_no_longer, stem_is_small, stem_is_some,
+    stems_are_worked, tables_are_apart,
 };
 pub use steps::stem;

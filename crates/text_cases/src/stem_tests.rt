@@ -1,6 +1,9 @@
 // Worked stems, over all steps.
-use porter_stem::stem;
+use porter_stem::{Porter, stem};
+use std::alloc::Global;
 use std::test::Fail;
+use ts_base::{Answer, Dictionary, LONGEST_LEXEME};
+use ts_words::StopList;
 
 /// Words, each with its stem.
 const STEMS: [(&str, &str); 271] = [
@@ -296,4 +299,37 @@ fn words_have_their_stems(rt: HostRuntime) -> Result<(), Fail> {
         assert_eq!(rt; word.as_slice(), kept.as_bytes());
     }
     Ok(())
+}
+
+/// Lower case, then stop words, then the stem; a word with other bytes stays.
+#[test]
+fn dictionary(rt: HostRuntime) -> Result<(), Fail> {
+    let alloc = rt.alloc();
+    let porter = Porter::new(StopList::read(alloc, "The\na\n")?);
+    assert!(rt; matches!(porter.lexize(alloc, "tHE")?, Answer::Stop));
+    let rows = [
+        ("Cats", "cat"),
+        ("S", "s"),
+        ("naÏve", "naÏve"),
+        ("Rats2", "rats2"),
+        ("then", "then"),
+    ];
+    for (word, stem) in &rows {
+        assert!(rt; is_stem(alloc, &porter, word, stem)?, "{word}");
+    }
+    Ok(())
+}
+
+/// Whether the dictionary gives this stem for the word.
+fn is_stem(alloc: Global, porter: &Porter, word: &str, stem: &str) -> Result<bool, Fail> {
+    if word.is_empty() || word.len() > LONGEST_LEXEME {
+        return Ok(false);
+    }
+    match porter.lexize(alloc, word)? {
+        Answer::Lexemes(mut found) => match found.pop() {
+            Some(one) => Ok(found.is_empty() && one.lexeme.as_str() == stem && !one.prefix),
+            None => Ok(false),
+        },
+        Answer::Stop | Answer::Unknown => Ok(false),
+    }
 }
