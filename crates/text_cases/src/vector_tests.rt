@@ -215,4 +215,6 @@ fn laws() {
     fault_is_outside();
     text_has_one_answer();
     join_has_one_answer();
+    build_has_one_answer();
+    position_has_its_number();
 }

@@ -1,5 +1,5 @@
 -- Vectors made of vectors.
-use Rattle.std.proofs.Common.{◌≡◌, ℕ, ◌+◌, ◌<◌, ◌≤◌, inl, inr, min, List, [], ◌∷◌, ◌++◌, map, refl, sym, ◌∙◌, ap, subst, arith, ◌^◌, append_assoc}
+use Rattle.std.proofs.Common.{◌≡◌, ℕ, ◌+◌, ◌<◌, ◌≤◌, inl, inr, min, List, [], ◌∷◌, ◌++◌, map, refl, sym, ◌∙◌, subst, arith, ◌^◌}
 use Rattle.std.specs.Prelude.{All, Any}
 use Rattle.std.proofs.lemmas.List.{length-map}
 use Rattle.std.proofs.lemmas.List.Elements.{All-nil, All-head, All-tail, All-map, All-weaker}
@@ -16,9 +16,6 @@ use Rattle.ts_vector.specs.Inner.Over.{IsOver}
 use Rattle.ts_vector.specs.Failures.{JoinFails}
 use Rattle.ts_vector.proofs.Rising.{contains_head, contains_later, contains_cases, contains_none, any_of, of_any}
 use Rattle.ts_vector.proofs.Sorts.{pairs_map}
-use Rattle.ts_vector.specs.declared.entries.Item.{Item}
-use Rattle.ts_vector.specs.ItemEntries.{item_entry, item_entries}
-use Rattle.ts_vector.proofs.Items.{views_push}
 use Rattle.ts_vector.proofs.Merging.{size-cons, any_left, any_right, any_cases}
 
 -- ── entries with other positions ──
@@ -215,12 +212,3 @@ module _ (v w : Vector) (n : ℕ) (greatest : IsGreatest v n) (made : Vector) (f
   }
   over_join small (BadBytes n) o = o
   over_join small OutOfMemory o = tt
-
--- one more entry was moved and added
-pub later_next : (made : List Item) (item : Item) (more : List Item) (by : ℕ) (row : Entry) (next left old : List Entry) → more ≡ made ++ item ∷ []
-    → item_entry item ≡ record { lexeme = row.lexeme; positions = map (moved_within by) row.positions } → left ≡ row ∷ next
-    → item_entries made ++ shifted_within by left ≡ old → item_entries more ++ shifted_within by next ≡ old
-later_next made item more by row next left old e is split h =
-    let moved : Entry = record { lexeme = row.lexeme; positions = map (moved_within by) row.positions } in
-    ap (λ t. t ++ shifted_within by next) (views_push made item more moved e is) ∙ append_assoc (item_entries made) (moved ∷ []) (shifted_within by next)
-    ∙ ap (λ t. item_entries made ++ shifted_within by t) (sym split) ∙ h

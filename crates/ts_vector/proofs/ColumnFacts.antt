@@ -88,6 +88,9 @@ bounds_at s (e ∷ es) n m (suc (suc k)) c h lt = bounds_at e es n m (suc k) c h
 
 -- ── columns ──
 module _ (ls : List ℕ) (ps : List Position) (es : List Ends) (are : AreColumns ls ps es) where
+  pub columns_size : content_size (column_entries ls ps es) ≡ length ls + 2 * length ps
+  columns_size = omega (arith, entries_size ls ps origin es (length ls) (length ps) are (omega arith) (omega arith))
+
   pub columns_push : (l : List ℕ) (qs : List Position) (e : Ends) → e.lexeme ≡ length ls + length l → e.positions ≡ length ps + length qs
       → column_entries (ls ++ l) (ps ++ qs) (es ++ e ∷ []) ≡ column_entries ls ps es ++ entry l qs ∷ []
   columns_push l qs e a b =

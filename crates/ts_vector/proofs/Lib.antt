@@ -19,3 +19,5 @@ pub mod Decoding
 pub mod Told
 pub mod OneAnswer
 pub mod ColumnFacts
+pub mod Numbers
+pub mod Joining

@@ -91,7 +91,7 @@ module _ (P : Entry → Type 0) (front rest : List Entry) (last e both : Entry) 
       ]
 
 -- an item of a lexeme that stands at p
-abbrev HasPlace : List ℕ → Position → Entry → Type 0
+abbrev pub HasPlace : List ℕ → Position → Entry → Type 0
 HasPlace l p e = (e.lexeme ≡ l) × Any (λ q. capped q ≡ p) e.positions
 
 pub any_left : {X : Type 0} (P : X → Type 0) (xs ys : List X) → Any P xs → Any P (xs ++ ys)
@@ -106,13 +106,13 @@ any_cases P xs ys h =
     elim (Contains-append_cases xs ys x.0 x.1) [ inl a ↦ inl (any_of P xs x.0 a x.2) | inr b ↦ inr (any_of P ys x.0 b x.2) ]
 
 module _ (last e : Entry) (eq : last.lexeme ≡ e.lexeme) where
-  place_left : (l : List ℕ) (p : Position) → HasPlace l p last → HasPlace l p (joined last e)
+  pub place_left : (l : List ℕ) (p : Position) → HasPlace l p last → HasPlace l p (joined last e)
   place_left l p h = (h.0, any_left (λ q. capped q ≡ p) last.positions e.positions h.1)
 
-  place_right : (l : List ℕ) (p : Position) → HasPlace l p e → HasPlace l p (joined last e)
+  pub place_right : (l : List ℕ) (p : Position) → HasPlace l p e → HasPlace l p (joined last e)
   place_right l p h = (eq ∙ h.0, any_right (λ q. capped q ≡ p) last.positions e.positions h.1)
 
-  place_back : (l : List ℕ) (p : Position) → HasPlace l p (joined last e) → HasPlace l p last ⊎ HasPlace l p e
+  pub place_back : (l : List ℕ) (p : Position) → HasPlace l p (joined last e) → HasPlace l p last ⊎ HasPlace l p e
   place_back l p h = elim (any_cases (λ q. capped q ≡ p) last.positions e.positions h.1) [ inl a ↦ inl (h.0, a) | inr b ↦ inr (sym eq ∙ h.0, b) ]
 
   joined_same : (front rest : List Entry) → HaveSame ((front ++ last ∷ []) ++ e ∷ rest) ((front ++ joined last e ∷ []) ++ rest)

@@ -1,13 +1,13 @@
--- Want of memory aside, a text and a join have one answer.
-use Rattle.std.proofs.Common.{◌≡◌, ◌≢◌, inl, inr, ℕ, ◌≤◌, List, [], ◌∷◌, ◌++◌, length, refl, sym, ◌∙◌, ap, subst, arith}
+-- Want of memory aside, a text, items and a join have one answer.
+use Rattle.std.proofs.Common.{◌≡◌, ◌≢◌, inl, inr, ℕ, ◌-◌, ◌^◌, ◌≤◌, min, List, [], ◌∷◌, ◌++◌, length, refl, sym, ◌∙◌, ap, subst, arith}
 use Rattle.std.specs.Prelude.{All, Any, Result, Ok, Err}
 use Rattle.std.proofs.lemmas.List.Elements.{All-head, All-tail}
 use Rattle.ts_base.specs.Vectors.{Position, Entry, Vector, content_size}
 use Rattle.ts_vector.specs.Text.{Written, IsVectorText, FirstLong, AllShort, entries, IsTextOf}
 use Rattle.ts_vector.specs.Normal.{IsNormalFormOf}
-use Rattle.ts_vector.specs.Changes.{IsGreatest, IsJoinOf, shifted}
-use Rattle.ts_vector.specs.Failures.{IsTooLargeText, IsTooLargeJoin}
-use Rattle.ts_vector.specs.AnswerLaws.{IsTextAnswer, IsJoinAnswer, TextHasOneAnswer, JoinHasOneAnswer}
+use Rattle.ts_vector.specs.Changes.{IsBuiltOf, IsGreatest, IsJoinOf, shifted}
+use Rattle.ts_vector.specs.Failures.{IsTooLargeText, AreTooLarge, IsTooLargeJoin}
+use Rattle.ts_vector.specs.AnswerLaws.{IsTextAnswer, IsBuildAnswer, IsJoinAnswer, TextHasOneAnswer, BuildHasOneAnswer, JoinHasOneAnswer}
 use Rattle.ts_vector.specs.declared.error.VectorError.{VectorError}
 use Rattle.ts_vector.specs.declared.error.VectorError.TheVariants.{Syntax, LexemeTooLong, VectorTooLarge, BadBytes, OutOfMemory}
 use Rattle.ts_vector.proofs.Forms.{normal_form_one}
@@ -150,6 +150,53 @@ join_has_one_answer first second = by
     by (Err (VectorTooLarge m)) (Err (Syntax n)) na nb h k = absurd k
     by (Err (VectorTooLarge m)) (Err (LexemeTooLong n)) na nb h k = absurd k
     by (Err (VectorTooLarge m)) (Err (VectorTooLarge n)) na nb h k = ap (λ z. Err (VectorTooLarge z)) (large_joins first second m n h k)
+    by (Err (VectorTooLarge m)) (Err (BadBytes n)) na nb h k = absurd k
+    by (Err (VectorTooLarge m)) (Err OutOfMemory) na nb h k = absurd (nb refl)
+    by (Err (BadBytes m)) (Ok w) na nb h k = absurd h
+    by (Err (BadBytes m)) (Err (Syntax n)) na nb h k = absurd h
+    by (Err (BadBytes m)) (Err (LexemeTooLong n)) na nb h k = absurd h
+    by (Err (BadBytes m)) (Err (VectorTooLarge n)) na nb h k = absurd h
+    by (Err (BadBytes m)) (Err (BadBytes n)) na nb h k = absurd h
+    by (Err (BadBytes m)) (Err OutOfMemory) na nb h k = absurd (nb refl)
+    by (Err OutOfMemory) (Ok w) na nb h k = absurd (na refl)
+    by (Err OutOfMemory) (Err (Syntax n)) na nb h k = absurd (na refl)
+    by (Err OutOfMemory) (Err (LexemeTooLong n)) na nb h k = absurd (na refl)
+    by (Err OutOfMemory) (Err (VectorTooLarge n)) na nb h k = absurd (na refl)
+    by (Err OutOfMemory) (Err (BadBytes n)) na nb h k = absurd (na refl)
+    by (Err OutOfMemory) (Err OutOfMemory) na nb h k = absurd (na refl)
+
+built_large : (items : List Entry) (v : Vector) (n : ℕ) → IsBuiltOf items v → AreTooLarge items n → ⊥
+built_large items v n h k = omega (arith, h.small, k.large, ap content_size (normal_form_one items v k.vector h.form k.form))
+
+large_builds : (items : List Entry) (m n : ℕ) → AreTooLarge items m → AreTooLarge items n → m ≡ n
+large_builds items m n h k = h.size ∙ ap (λ v. min (content_size v) (2 ^ 64 - 1)) (normal_form_one items h.vector k.vector h.form k.form) ∙ sym k.size
+
+pub build_has_one_answer : BuildHasOneAnswer
+build_has_one_answer items = by
+  where
+    by : (a b : Result Vector VectorError) → a ≢ Err OutOfMemory → b ≢ Err OutOfMemory → IsBuildAnswer items a → IsBuildAnswer items b → a ≡ b
+    by (Ok v) (Ok w) na nb h k = ap Ok (normal_form_one items v w h.form k.form)
+    by (Ok v) (Err (Syntax n)) na nb h k = absurd k
+    by (Ok v) (Err (LexemeTooLong n)) na nb h k = absurd k
+    by (Ok v) (Err (VectorTooLarge n)) na nb h k = absurd (built_large items v n h k)
+    by (Ok v) (Err (BadBytes n)) na nb h k = absurd k
+    by (Ok v) (Err OutOfMemory) na nb h k = absurd (nb refl)
+    by (Err (Syntax m)) (Ok w) na nb h k = absurd h
+    by (Err (Syntax m)) (Err (Syntax n)) na nb h k = absurd h
+    by (Err (Syntax m)) (Err (LexemeTooLong n)) na nb h k = absurd h
+    by (Err (Syntax m)) (Err (VectorTooLarge n)) na nb h k = absurd h
+    by (Err (Syntax m)) (Err (BadBytes n)) na nb h k = absurd h
+    by (Err (Syntax m)) (Err OutOfMemory) na nb h k = absurd (nb refl)
+    by (Err (LexemeTooLong m)) (Ok w) na nb h k = absurd h
+    by (Err (LexemeTooLong m)) (Err (Syntax n)) na nb h k = absurd h
+    by (Err (LexemeTooLong m)) (Err (LexemeTooLong n)) na nb h k = absurd h
+    by (Err (LexemeTooLong m)) (Err (VectorTooLarge n)) na nb h k = absurd h
+    by (Err (LexemeTooLong m)) (Err (BadBytes n)) na nb h k = absurd h
+    by (Err (LexemeTooLong m)) (Err OutOfMemory) na nb h k = absurd (nb refl)
+    by (Err (VectorTooLarge m)) (Ok w) na nb h k = absurd (built_large items w m k h)
+    by (Err (VectorTooLarge m)) (Err (Syntax n)) na nb h k = absurd k
+    by (Err (VectorTooLarge m)) (Err (LexemeTooLong n)) na nb h k = absurd k
+    by (Err (VectorTooLarge m)) (Err (VectorTooLarge n)) na nb h k = ap (λ z. Err (VectorTooLarge z)) (large_builds items m n h k)
     by (Err (VectorTooLarge m)) (Err (BadBytes n)) na nb h k = absurd k
     by (Err (VectorTooLarge m)) (Err OutOfMemory) na nb h k = absurd (nb refl)
     by (Err (BadBytes m)) (Ok w) na nb h k = absurd h

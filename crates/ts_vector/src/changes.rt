@@ -1,17 +1,13 @@
 // Vectors made of vectors.
-ghost use Rattle.std.specs.Prelude.{◌≡◌, ℕ, ◌≤◌, ◌++◌, ◌⊎◌, map, All, Any, IfOk, OnOk};
+ghost use Rattle.std.specs.Prelude.{◌≡◌, ◌≤◌, ◌⊎◌, map, All, Any, IfOk};
 ghost use Rattle.ts_base.specs.declared.Weight.{Weight};
-ghost use Rattle.ts_base.specs.Vectors.{IsPosition, IsNormal};
-ghost use Rattle.ts_vector.specs.ItemEntries.{item_entries};
-ghost use Rattle.ts_vector.specs.Normal.{capped};
-ghost use Rattle.ts_vector.specs.Changes.{stripped, weighted, reweighted, IsGreatest, moved_position};
-ghost use Rattle.ts_vector.specs.Inner.CappedForm.{moved_within, shifted_within};
+ghost use Rattle.ts_base.specs.Vectors.{IsPosition};
+ghost use Rattle.ts_vector.specs.Changes.{stripped, weighted, reweighted, IsGreatest};
+ghost use Rattle.ts_vector.specs.Inner.CappedForm.{moved_within};
 
 use crate::columns::Columns;
-use crate::entries::Item;
 use std::alloc::{AllocError, Global};
-use std::str;
-use ts_base::{LAST_POSITION, Lexeme, Position, Weight};
+use ts_base::{LAST_POSITION, Position, Weight};
 
 /// The entries without their positions.
 pub fn without_positions(alloc: Global, entries: &Columns) -> Result<Columns, AllocError>
@@ -83,7 +79,7 @@ pub fn greatest(entries: &Columns) -> u16
 }
 
 /// Each position so much later, and at most 16383.
-fn later(alloc: Global, positions: &[Position], by: u16) -> Result<Vec<Position>, AllocError>
+pub fn later(alloc: Global, positions: &[Position], by: u16) -> Result<Vec<Position>, AllocError>
     ensures { IfOk result (λ made. made.items ≡ map (moved_within by) positions.now) }
 {
     let mut made = Vec::new(alloc);
@@ -91,45 +87,5 @@ fn later(alloc: Global, positions: &[Position], by: u16) -> Result<Vec<Position>
         let at = position.at().saturating_add(by).min(LAST_POSITION);
         made.push(Position::new(at, position.weight()))?;
     }
-    Ok(made)
-}
-
-/// Appends the entries, as items, with each position so much later.
-fn append_later(
-    alloc: Global,
-    made: &mut Vec<Item>,
-    entries: &Columns,
-    by: u16,
-) -> Result<(), AllocError>
-    requires { IsNormal entries.now }
-    ensures { OnOk result
-        (item_entries made.new.items
-        ≡ item_entries made.old.items ++ shifted_within by entries.now) }
-{
-    for row in entries.rows() {
-        let text = unsafe { str::from_utf8_unchecked(row.lexeme()) };
-        let lexeme = Lexeme::from_string(String::from_str(alloc, text)?);
-        let positions = later(alloc, row.positions(), by)?;
-        made.push(Item { lexeme, positions })?;
-    }
-    Ok(())
-}
-
-/// The first entries, and then the second ones with each position so much later, as items.
-pub fn joined(
-    alloc: Global,
-    first: &Columns,
-    second: &Columns,
-    by: u16,
-) -> Result<Vec<Item>, AllocError>
-    requires first { IsNormal first.now }
-    requires second { IsNormal second.now }
-    ensures { IfOk result
-        (λ made. item_entries made.items
-        ≡ shifted_within 0 first.now ++ shifted_within by second.now) }
-{
-    let mut made = Vec::new(alloc);
-    append_later(alloc, &mut made, first, 0)?;
-    append_later(alloc, &mut made, second, by)?;
     Ok(made)
 }

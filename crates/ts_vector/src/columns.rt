@@ -1,7 +1,7 @@
 // Entries in memory, without a block of memory for each.
-ghost use Rattle.std.specs.Prelude.{◌≡◌, ◌+◌, ◌<◌, ◌≤◌, ◌∷◌, [], ◌++◌, length, slice_index_or, IfOk, OnOk};
+ghost use Rattle.std.specs.Prelude.{◌≡◌, ◌+◌, ◌-◌, ◌^◌, min, ◌<◌, ◌≤◌, ◌∷◌, [], ◌++◌, length, slice_index_or, IfOk, OnOk};
 ghost use Rattle.std.specs.Iterator.{YieldsFirst, item_count};
-ghost use Rattle.ts_base.specs.Vectors.{Entry};
+ghost use Rattle.ts_base.specs.Vectors.{Entry, content_size};
 ghost use Rattle.ts_vector.specs.Inner.Columns.{origin, start_from, piece};
 
 use std::alloc::{AllocError, Global};
@@ -112,6 +112,14 @@ impl Columns {
         ensures { result ≡ length self.now }
     {
         self.ends.len()
+    }
+
+    /// The size of the content: the bytes of all lexemes and two for each position.
+    pub fn size(&self) -> usize
+        ensures { result ≡ min (content_size self.now) (2 ^ 64 - 1) }
+    {
+        let positions = self.positions.len().saturating_mul(2);
+        self.lexemes.len().saturating_add(positions)
     }
 
     /// The bytes of the lexeme at the index k.

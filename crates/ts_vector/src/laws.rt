@@ -1,9 +1,9 @@
 // What holds of every vector and every text.
 ghost use Rattle.ts_vector.specs.Normal.{NormalFormIsOne};
-ghost use Rattle.ts_vector.specs.TextLaws.{TextHasOneList, TextHasOneValue, FaultHasOnePlace, FaultIsOutside};
+ghost use Rattle.ts_vector.specs.TextLaws.{TextHasOneList, TextHasOneValue, FaultHasOnePlace, FaultIsOutside, PositionHasItsNumber};
 ghost use Rattle.ts_vector.specs.Decoded.{BadPlaceIsOne, BadBytesAreNoSpelling};
 ghost use Rattle.ts_vector.specs.Printed.{PrintedTextIsRead};
-ghost use Rattle.ts_vector.specs.AnswerLaws.{TextHasOneAnswer, JoinHasOneAnswer};
+ghost use Rattle.ts_vector.specs.AnswerLaws.{TextHasOneAnswer, BuildHasOneAnswer, JoinHasOneAnswer};
 
 /// Items have one normal form.
 pub fn normal_form_is_one()
@@ -53,4 +53,14 @@ pub fn fault_has_one_place()
 /// A text with a fault is outside the grammar.
 pub fn fault_is_outside()
     ensures { FaultIsOutside }
+{}
+
+/// Running out of memory aside, items that are built have one answer.
+pub fn build_has_one_answer()
+    ensures { BuildHasOneAnswer }
+{}
+
+/// A position's number is the decimal number of its digits, and 16383 where that is greater.
+pub fn position_has_its_number()
+    ensures { PositionHasItsNumber }
 {}

@@ -24,22 +24,24 @@ mod entries;
 mod error;
 mod laws;
 mod limits;
+mod merge;
 mod normal;
 mod printer;
 mod reader;
 mod spelled;
 
-use changes::{entries_with_weight, greatest, joined, without_positions};
+use changes::{entries_with_weight, greatest, without_positions};
 use codec::put_entries;
 use columns::Columns;
 use entries::{Item, from_entries, from_items, from_pairs};
 pub use error::VectorError;
 pub use laws::{
-    bad_bytes_are_no_spelling, bad_place_is_one, fault_has_one_place, fault_is_outside,
-    join_has_one_answer, normal_form_is_one, printed_text_is_read, text_has_one_answer,
-    text_has_one_list, text_has_one_value,
+    bad_bytes_are_no_spelling, bad_place_is_one, build_has_one_answer, fault_has_one_place,
+    fault_is_outside, join_has_one_answer, normal_form_is_one, position_has_its_number,
+    printed_text_is_read, text_has_one_answer, text_has_one_list, text_has_one_value,
 };
-use limits::{first_long, size_of, to_items};
+use limits::{first_long, to_items};
+use merge::merged;
 use normal::normal_form;
 use reader::read;
 pub use spelled::{Entries, EntryBytes, Positions, VectorBytes};
@@ -71,18 +73,27 @@ impl Model for TsVector {
     ghost invariant = { λ v. IsNormal v.entries × (content_size v.entries < SIZE_LIMIT) };
 }
 
+/// The vector of entries in normal form, if it is within the limit.
+fn within_limit(entries: Columns) -> Result<TsVector, VectorError>
+    requires { IsNormal entries }
+    ensures value { IfOk result (λ v. (v ≡ entries) × (content_size v < SIZE_LIMIT)) }
+    ensures cause { IfErr result (IsOver entries) }
+{
+    let bytes = entries.size();
+    if bytes >= SIZE_LIMIT {
+        return Err(VectorError::VectorTooLarge { bytes });
+    }
+    Ok(TsVector { entries })
+}
+
 /// The vector of items in normal form, if it is within the limit.
-fn within_limit(alloc: Global, items: Vec<Item>) -> Result<TsVector, VectorError>
+fn settled_within(alloc: Global, items: Vec<Item>) -> Result<TsVector, VectorError>
     requires { IsNormal (item_entries items.items) }
     ensures value { IfOk result (λ v. (v ≡ item_entries items.items) × (content_size v < SIZE_LIMIT)) }
     ensures cause { IfErr result (IsOver (item_entries items.items)) }
 {
-    let bytes = size_of(items.as_slice());
-    if bytes >= SIZE_LIMIT {
-        return Err(VectorError::VectorTooLarge { bytes });
-    }
     match from_items(alloc, items.as_slice()) {
-        Ok(entries) => Ok(TsVector { entries }),
+        Ok(entries) => within_limit(entries),
         Err(_) => Err(VectorError::OutOfMemory),
     }
 }
@@ -107,7 +118,7 @@ impl TsVector {
         let Ok(items) = normal_form(alloc, items) else {
             return Err(VectorError::OutOfMemory);
         };
-        within_limit(alloc, items)
+        settled_within(alloc, items)
     }
 
     /// The vector of these lexemes with these positions, in normal form.
@@ -124,7 +135,7 @@ impl TsVector {
         let Ok(items) = normal_form(alloc, items) else {
             return Err(VectorError::OutOfMemory);
         };
-        within_limit(alloc, items)
+        settled_within(alloc, items)
     }
 
     /// The entries of both, the other's positions behind this one's greatest, in normal form.
@@ -133,13 +144,10 @@ impl TsVector {
         ensures cause { IfErr result (JoinFails self.now other.now) }
     {
         let by = greatest(&self.entries);
-        let Ok(items) = joined(alloc, &self.entries, &other.entries, by) else {
-            return Err(VectorError::OutOfMemory);
-        };
-        let Ok(items) = normal_form(alloc, items) else {
-            return Err(VectorError::OutOfMemory);
-        };
-        within_limit(alloc, items)
+        match merged(alloc, &self.entries, &other.entries, by) {
+            Ok(entries) => within_limit(entries),
+            Err(_) => Err(VectorError::OutOfMemory),
+        }
     }
 
     /// The vector without positions.

@@ -1,6 +1,5 @@
 // The limits of vectors.
-ghost use Rattle.std.specs.Prelude.{◌≡◌, ℕ, ◌^◌, ◌-◌, ◌≤◌, min, All, IfOk, MatchOption};
-ghost use Rattle.ts_base.specs.Vectors.{content_size};
+ghost use Rattle.std.specs.Prelude.{◌≡◌, All, IfOk, MatchOption};
 ghost use Rattle.ts_vector.specs.ItemEntries.{item_entries};
 ghost use Rattle.ts_vector.specs.Text.{FirstLong, AllShort, entries};
 ghost use Rattle.ts_vector.specs.Inner.Drafts.{drafts_written};
@@ -39,17 +38,4 @@ pub fn to_items(alloc: Global, drafts: Vec<Draft>) -> Result<Vec<Item>, AllocErr
         })?;
     }
     Ok(items)
-}
-
-/// The size of the content: the bytes of all lexemes and two for each position.
-pub fn size_of(items: &[Item]) -> usize
-    ensures { result ≡ min (content_size (item_entries items.now)) (2 ^ 64 - 1) }
-{
-    let mut size: usize = 0;
-    for item in items {
-        let positions = item.positions.len().saturating_mul(2);
-        let entry = item.lexeme.as_str().len().saturating_add(positions);
-        size = size.saturating_add(entry);
-    }
-    size
 }

@@ -34,4 +34,4 @@ returns-clause-cause c =
     let size = subst (λ l. content_size made ≤ content_size l) c.in-Ok.ensures c.in-Ok-normal_form.ensures.size in
     let small : content_size made < 2 ^ 64 = omega (arith, c.read.ensures.bound) in
     let here : IsVectorText c.args.text.now (drafts.drafts_written c.in-Ok-Ok.drafts.items) = subst (λ t. IsVectorText t (drafts.drafts_written c.in-Ok-Ok.drafts.items)) c.as_bytes.ensures.value found in
-    MatchResult-weaker c.within_limit.result c.within_limit.ensures.cause (λ x p. p) (over_text c.args.text.now (drafts.drafts_written c.in-Ok-Ok.drafts.items) made here fit form small)
+    MatchResult-weaker c.settled_within.result c.settled_within.ensures.cause (λ x p. p) (over_text c.args.text.now (drafts.drafts_written c.in-Ok-Ok.drafts.items) made here fit form small)
