@@ -11,6 +11,8 @@ use Rattle.ts_query.specs.declared.query.Operand.{Operand}
 use Rattle.ts_match.specs.declared.found.Found.{Found}
 use Rattle.ts_query.specs.Queries.{Tree}
 use Rattle.ts_match.specs.declared.work.Place.{Place}
+use Rattle.ts_match.specs.declared.work.Place.TheVariants.{Outside, Within}
+use Rattle.ts_match.specs.Inner.Plan.{needs}
 use Rattle.ts_match.specs.declared.work.Step.{Step}
 use Rattle.ts_match.specs.Meaning.{places, HoldsSomewhere}
 use Rattle.ts_match.specs.Inner.Found.{NamesRange}
@@ -24,6 +26,11 @@ leaf_found v os fs n k e h = subst (λ (x : Node). FoundFor v os fs x) e h
 pub not-false : (b : Bool) → not b ≡ false → b ≡ true
 not-false true e = refl
 not-false false e = absurd (let x : ⊥ = cc in x)
+
+pub needs_within : (p : Place) → needs p ≡ true → (e : ℕ) × (p ≡ Within e true)
+needs_within (Outside on_true on_false) h = absurd (let x : ⊥ = cc in x)
+needs_within (Within e true) h = (e, refl)
+needs_within (Within e false) h = absurd (let x : ⊥ = cc in x)
 
 pub same_step : (s : Step) (n : Node) (p : Place) → s.node ≡ n → s.place ≡ p → s ≡ record { node = n; place = p }
 same_step s n p e f = ap (λ x. record { node = x; place = s.place }) e ∙ ap (λ x. record { node = n; place = x }) f

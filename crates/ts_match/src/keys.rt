@@ -65,10 +65,7 @@ fn operand_keys(alloc: Global, operands: &[Operand]) -> Result<Vec<(Vec<u8>, boo
 {
     let mut keys = Vec::new(alloc);
     for operand in operands {
-        keys.push((
-            lexeme_key(alloc, operand.lexeme.as_str())?,
-            operand.prefix,
-        ))?;
+        keys.push((lexeme_key(alloc, operand.lexeme.as_str())?, operand.prefix))?;
     }
     Ok(keys)
 }

@@ -5,7 +5,7 @@ ghost use Rattle.ts_query.specs.Queries.{Tree};
 ghost use Rattle.ts_match.specs.Meaning.{at, HoldsSomewhere};
 ghost use Rattle.ts_query.specs.declared.query.Node.TheVariants.{Leaf};
 ghost use Rattle.ts_match.specs.declared.work.Place.TheVariants.{Within};
-ghost use Rattle.ts_match.specs.Inner.Plan.{offset_of};
+ghost use Rattle.ts_match.specs.Inner.Plan.{offset_of, needs};
 ghost use Rattle.ts_match.specs.Inner.Phrases.{IsPhraseOf, IsStep, IsPrepared, IsNeeded, HasFound, HoldsWith, place_from, leaf_value, truth_step};
 
 use crate::found::{FARTHEST, Found, stands};
@@ -188,11 +188,14 @@ fn needed_operand(step: Step) -> Option<u16>
     None
 }
 
-/// Whether the phrase needs the operand of this leaf.
+/// Whether the phrase needs what stands here.
 pub fn is_needed(step: Step) -> bool
-    ensures { IsTrue result → (e : ℕ) × (step.place ≡ Within e true) }
+    ensures { result ≡ needs step.place }
 {
-    matches!(step.place, StepPlace::Within { needed: true, .. })
+    match step.place {
+        StepPlace::Outside { .. } => false,
+        StepPlace::Within { needed, .. } => needed,
+    }
 }
 
 /// How many positions the found lexemes have.

@@ -1,5 +1,5 @@
 -- How a plan is made, node by node.
-use Rattle.std.specs.Prelude.{ℕ, ◌+◌, max, Bool, if◌then◌else◌, List, [], ◌∷◌, ◌++◌, None, Some}
+use Rattle.std.specs.Prelude.{ℕ, ◌+◌, max, Bool, false, if◌then◌else◌, List, [], ◌∷◌, ◌++◌, None, Some}
 use Rattle.ts_query.specs.declared.query.Node.{Node}
 use Rattle.ts_query.specs.declared.query.Node.TheVariants.{Leaf, Not, And, Or, Phrase}
 use Rattle.ts_query.specs.Queries.{Tree, leaf, negated, joined, Joint, or_joint, and_joint, phrase_joint, Query}
@@ -66,6 +66,11 @@ spread_on (Phrase n) w p due = At (right_place (phrase_joint n) w p) ∷ left_du
 abbrev pub offset_of : Place → ℕ
 offset_of (Outside on_true on_false) = 0
 offset_of (Within offset needed) = offset
+
+-- whether the phrase needs what stands here
+abbrev pub needs : Place → Bool
+needs (Outside on_true on_false) = false
+needs (Within offset needed) = needed
 
 -- the step that is next where a node has this truth
 abbrev pub next_of : Place → Bool → ℕ

@@ -1,11 +1,11 @@
-use Rattle.std.proofs.Common.{◌<◌, true, length, get_or, refl, subst, arith}
+use Rattle.std.proofs.Common.{◌<◌, true, length, get_or, refl, sym, subst, ◌∙◌, arith}
 use Rattle.std.proofs.lemmas.List.{get_or_read}
 use Rattle.ts_query.specs.declared.query.Operand.{Operand}
 use Rattle.ts_match.specs.Inner.Found.{NamesRange}
 use Rattle.ts_query.specs.declared.query.Node.TheVariants.{Leaf}
 use Rattle.ts_match.specs.declared.work.Place.TheVariants.{Within}
 use Rattle.ts_match.specs.Inner.Phrases.{no_operand}
-use Rattle.ts_match.proofs.Prepared.{not-false, same_step, leaf_operand, found_here, found_kept, no_place}
+use Rattle.ts_match.proofs.Prepared.{not-false, needs_within, same_step, leaf_operand, found_here, found_kept, no_place}
 use Rattle.ts_match.proofs.matching.find_leaf.Goals as goal
 
 pub returns-then-range : goal.returns-then-range
@@ -41,5 +41,5 @@ returns-clause-lacking c = λ e.
     let os = c.args.operands.now in
     let l = leaf_operand (length os) c.args.step.node c.in-Leaf.k c.in-Leaf.is c.requires.operand in
     let named = subst (λ x. NamesRange c.args.vector.now x c.find-range.result) (get_or_read os c.in-Leaf.k _ l c.index-operands-k.is no_operand) c.find-range.ensures in
-    let n = c.is_needed.ensures (not-false c.is_needed.result e) in
+    let n = needs_within c.args.step.place (sym c.is_needed.ensures ∙ not-false c.is_needed.result e) in
     (c.in-Leaf.k, n.0, same_step c.args.step (Leaf c.in-Leaf.k) (Within n.0 true) c.in-Leaf.is n.1, no_place c.args.vector.now (get_or os c.in-Leaf.k no_operand) c.find-range.result named c.if-range.false)
