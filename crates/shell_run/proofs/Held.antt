@@ -12,9 +12,9 @@ use Rattle.ts_base.specs.Vectors.{Vector, IsNormal}
 use Rattle.ts_base.specs.Spelling.{vector_bytes}
 use Rattle.shell_run.specs.History.{IsNumbered, Document, Commit, History, IsLawful, docs, IsFull, insertion, inserts, deletes, placed, by_serial, has_serial, room, name_of}
 use Rattle.shell_script.specs.Name.{Name}
-use Rattle.shell_run.specs.Entries.{IsLogFull}
+use Rattle.shell_run.specs.Entries.{IsLogFull, log_room}
 use Rattle.shell_run.specs.Run.{Note, seen_by}
-use Rattle.shell_run.specs.Inner.Stores.{numbered, documents_of, log_room, StandsFor, IsSameStore, HasStored, IsInDoubt}
+use Rattle.shell_run.specs.Inner.Stores.{numbered, documents_of, StandsFor, IsSameStore, HasStored, IsInDoubt}
 use Rattle.wal.specs.Waiting.{end_of, down_of}
 use Rattle.shell_run.specs.declared.store.Store.{Store}
 use Rattle.shell_run.proofs.Documents.{numbered_push}

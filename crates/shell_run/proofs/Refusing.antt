@@ -8,10 +8,10 @@ use Rattle.wal.specs.declared.error.WalError.{WalError}
 use Rattle.wal.specs.declared.error.WalError.TheVariants.{DiskFault, LogFull, NotAStore, Down, OutOfMemory}
 use Rattle.ts_base.specs.Vectors.{Vector, IsNormal}
 use Rattle.shell_run.specs.History.{name_of}
-use Rattle.shell_run.specs.Entries.{document_bytes}
+use Rattle.shell_run.specs.Entries.{document_bytes, log_room}
 use Rattle.shell_run.specs.Inner.Logs.{PutsEntry, IsSameLog}
 use Rattle.shell_run.specs.Inner.Statuses.{store_error}
-use Rattle.shell_run.specs.Inner.Stores.{Rests, HasInserted, IsTooLarge, log_room}
+use Rattle.shell_run.specs.Inner.Stores.{Rests, HasInserted, IsTooLarge}
 use Rattle.shell_run.specs.declared.error.StoreError.{StoreError}
 use Rattle.shell_run.specs.declared.store.Store.{Store}
 

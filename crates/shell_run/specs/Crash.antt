@@ -23,14 +23,16 @@ IsKnownBy m reached row = row.note.clock ≤ m
 
 -- these files open to a beginning of the commits that reaches what each statement answered Ok by
 -- this moment has committed or seen
-pub record Reaches (files : Files) (m : ℕ) (first commits : History) (rows : List Row) : Type 0 where
+pub record Reaches (files : Files) (m : ℕ) (first commits : History)
+    (rows : List Row) : Type 0 where
   pub kept : History
   pub opens : OpensTo files kept
   pub begins : Begins kept commits
   pub since : Begins first kept
   pub known : All (λ (r : Row). IsOkOfStore r.reply → IsKnownBy m (length kept) r) rows
 
--- The images of a device over a run: before c0 those of its entry, and from then on beginnings of the history.
+-- The images of a device over a run: before c0 those of its entry, and from then on beginnings of
+-- the history.
 pub record CrashSafe {D : Type 0} (device : Disk D) (old new : D) (first commits : History)
     (rows : List Row) : Type 0 where
   pub c0 : ℕ
@@ -57,8 +59,8 @@ pub record Means {D : Type 0} (device : Disk D) (counts : Counts) (old new : D)
   pub in_doubt : 0 < length more → counts.faults < counts.faults_after
   pub crash : CrashSafe device old new first commits rows
 
--- Until documents lie in pages: what a read gives of the page file stays the same, and a crash leaves in it what it
--- could leave before.
+-- Until documents lie in pages: what a read gives of the page file stays the same, and a crash
+-- leaves in it what it could leave before.
 pub record HasSamePages {D : Type 0} (device : Disk D) (old new : D) : Type 0 where
   pub now : (device.seen new).pages ≡ (device.seen old).pages
   pub images : (m : ℕ) (c : Files) → device.clock old ≤ m → m ≤ device.clock new
@@ -66,5 +68,6 @@ pub record HasSamePages {D : Type 0} (device : Disk D) (old new : D) : Type 0 wh
 
 -- The store was not opened: each image opens to what some image on entry opens to.
 pub record OpensAsBefore {D : Type 0} (device : Disk D) (old new : D) : Type 0 where
-  pub images : (m : ℕ) (c : Files) → device.clock old ≤ m → m ≤ device.clock new → device.image new m c
-      → (kept : History) × OpensTo c kept × ((d : Files) × device.image old (device.clock old) d × OpensTo d kept)
+  pub images : (m : ℕ) (c : Files) → device.clock old ≤ m → m ≤ device.clock new
+      → device.image new m c → (kept : History) × OpensTo c kept
+      × ((d : Files) × device.image old (device.clock old) d × OpensTo d kept)

@@ -6,12 +6,16 @@ use Rattle.disk_trait.specs.Files.{Files}
 use Rattle.wal.specs.Batches.{Opens}
 use Rattle.ts_base.specs.Vectors.{Vector, IsNormal}
 use Rattle.ts_base.specs.Spelling.{vector_bytes}
-use Rattle.wal.specs.declared.sizes.TheConstants.{LOG_LIMIT}
+use Rattle.wal.specs.declared.sizes.TheConstants.{HEADER_BYTES, FRAME_BYTES, LOG_LIMIT}
 use Rattle.shell_run.specs.History.{Document, Commit, History, inserts, IsNumbered}
+
+-- the bytes of a serial
+abbrev pub serial_size : ℕ
+serial_size = 8
 
 -- a document's serial in eight bytes, the little end first, and its vector's bytes
 abbrev pub document_bytes : Document → List ℕ
-document_bytes d = little_bytes 8 d.name.serial ++ vector_bytes d.vector
+document_bytes d = little_bytes serial_size d.name.serial ++ vector_bytes d.vector
 
 -- the entry of a commit
 abbrev pub entry : Commit → List ℕ
@@ -23,8 +27,12 @@ pub record OpensTo (files : Files) (commits : History) : Type 0 where
   pub normal : All (λ (d : Document). IsNormal d.vector) (inserts commits)
   pub log : Opens files.log (map entry commits)
 
--- The log has no room for a document: its 17 bytes at the beginning, a batch's gate and length before each entry,
--- the entry's own, and the next gate would pass the limit.
+-- what a document takes in the log: a batch's gate and length, its serial and its vector's bytes
+abbrev pub log_room : Vector → ℕ
+log_room v = (FRAME_BYTES + serial_size) + length (vector_bytes v)
+
+-- The log has no room for a document: with its header, the documents that it has, the document and
+-- the gate behind it, it would pass its limit.
 abbrev pub IsLogFull : List Document → Vector → Type 0
 IsLogFull ds v =
-    LOG_LIMIT < sum_by (λ (d : Document). 13 + length (vector_bytes d.vector)) ds + (31 + length (vector_bytes v))
+    LOG_LIMIT < HEADER_BYTES + sum_by (λ (d : Document). log_room d.vector) ds + log_room v + 1

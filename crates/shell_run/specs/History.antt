@@ -45,7 +45,8 @@ by_serial (d ∷ ds) = placed d (by_serial ds)
 -- the documents that are there after a history
 abbrev pub docs : History → List Document
 docs commits =
-    by_serial (filter (λ (d : Document). not (has_serial d.name.serial (deletes commits))) (inserts commits))
+    by_serial (filter (λ (d : Document). not (has_serial d.name.serial (deletes commits)))
+    (inserts commits))
 
 -- the names of the documents that satisfy the query, in their order
 abbrev pub IsFound : Query → List Document → List Name → Type 0
@@ -75,7 +76,8 @@ pub record IsLawful (commits : History) : Type 0 where
   pub apart : AllPairs (λ (a b : ℕ). a ≢ b) (serials commits)
   pub deleted_once : AllPairs (λ (a b : Name). a.serial ≢ b.serial) (deletes commits)
   pub deleted_later : (k : ℕ) (c : Commit) → slice_get commits k ≡ Some c
-      → All (λ (x : Name). Contains (map (λ (d : Document). d.name) (inserts (take k commits))) x) c.deleted
+      → All (λ (x : Name). Contains (map (λ (d : Document). d.name) (inserts (take k commits))) x)
+      c.deleted
 
 -- until documents lie in pages: the name of a document before which so many were inserted
 abbrev pub name_of : ℕ → Name

@@ -16,7 +16,8 @@ abbrev pub some_refused : List Row → Bool
 some_refused rows = list_any (λ (r : Row). is_refusal r.reply) rows
 
 -- The rows are those of a script's first lines, and the sink took a beginning of their text.
-pub record HasPrinted (text : List ℕ) (before after : Option (List ℕ)) (rows : List Row) : Type 0 where
+pub record HasPrinted (text : List ℕ) (before after : Option (List ℕ))
+    (rows : List Row) : Type 0 where
   pub done : List (List ℕ)
   pub left : List (List ℕ)
   pub script : lines text ≡ done ++ left

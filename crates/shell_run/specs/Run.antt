@@ -21,8 +21,8 @@ pub record Place : Type 0 where
   pub turn : ℕ
 
 -- The notes of a statement: how many commits it saw, and how many stand before its own, if it has
--- one; by how much the device's count of faults and its count of failed writes and syncs rose in it;
--- the count of faults and the clock of the device at its answer.
+-- one; by how much the device's count of faults and its count of failed writes and syncs rose in
+-- it; the count of faults and the clock of the device at its answer.
 pub record Note : Type 0 where
   pub snapshot : ℕ
   pub commit : Option ℕ
@@ -70,9 +70,13 @@ MayHaveOwn commits note v =
 abbrev pub seen_by : History → Note → List Document
 seen_by commits note = docs (take note.snapshot commits)
 
+-- the last value of a device's count
+abbrev pub last_count : ℕ
+last_count = 2 ^ 64 - 1
+
 -- the device's count rose in the statement, or stands at its last value
 abbrev pub MetFault : Counts → Note → Type 0
-MetFault counts note = (0 < note.faults) ⊎ (2 ^ 64 - 1 ≤ counts.faults_after)
+MetFault counts note = (0 < note.faults) ⊎ (last_count ≤ counts.faults_after)
 
 -- a count just after a fault of this run, and a write or a sync failed in it
 abbrev pub IsDownSince : Counts → ℕ → Type 0
@@ -183,8 +187,8 @@ pub record Run (counts : Counts) (first commits : History) (rows : List Row) : T
   -- each commit past the first is the commit of one statement
   pub own : (k : ℕ) → length first ≤ k → k < length commits → count_by (has_commit k) rows ≡ 1
   pub order : All (λ (a : Row). All (λ (b : Row). Before a b → IsSeenBy a b) rows) rows
-  -- A statement finds the store down only where a write or a sync failed in one that did not come after it.
-  -- It tells the device's count just after that one, and all tell the same.
+  -- A statement finds the store down only where a write or a sync failed in one that did not come
+  -- after it. It tells the device's count just after that one, and all tell the same.
   pub owed : All (λ (b : Row). (n : ℕ) → b.reply ≡ refused (down n)
       → Any (λ (a : Row). (Before b a → ⊥) × (0 < a.note.writes) × (a.note.count ≡ n)) rows) rows
   pub one_count : All (λ (a : Row). All (λ (b : Row). (m n : ℕ) → a.reply ≡ refused (down m)

@@ -11,9 +11,9 @@ use Rattle.shell_run.specs.RunMeets.{HasCauses}
 
 -- an insertion in which a write failed, and one behind it that is stored
 abbrev pub NoneIsStoredAfterFailure : Type 0
-NoneIsStoredAfterFailure = (counts : Counts) (first commits : History) (a b : Row) (e f : Expr) (n : Name)
-    → a.statement ≡ insert e → a.reply ≡ refused device → b.statement ≡ insert f → b.reply ≡ stored n → Before a b
-    → Run counts first commits (a ∷ b ∷ []) → ⊥
+NoneIsStoredAfterFailure = (counts : Counts) (first commits : History) (a b : Row) (e f : Expr)
+    (n : Name) → a.statement ≡ insert e → a.reply ≡ refused device → b.statement ≡ insert f
+    → b.reply ≡ stored n → Before a b → Run counts first commits (a ∷ b ∷ []) → ⊥
 
 -- a failed write or sync that no statement notes
 abbrev pub EachFailureIsNoted : Type 0

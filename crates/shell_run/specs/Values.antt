@@ -23,7 +23,8 @@ IsPartOf p v = (w : Vector) × IsTextOf p.text w × (v ≡ (if p.stripped then s
 -- v joined with the parts, one after another
 abbrev pub IsJoinedOf : Vector → List Part → Vector → Type 0
 IsJoinedOf v [] x = x ≡ v
-IsJoinedOf v (p ∷ ps) x = (w : Vector) × (u : Vector) × IsPartOf p w × IsJoinOf v w u × IsJoinedOf u ps x
+IsJoinedOf v (p ∷ ps) x =
+    (w : Vector) × (u : Vector) × IsPartOf p w × IsJoinOf v w u × IsJoinedOf u ps x
 
 abbrev pub IsValueOf : Expr → Vector → Type 0
 IsValueOf e x = (v : Vector) × IsPartOf e.first v × IsJoinedOf v e.others x
@@ -44,13 +45,18 @@ JoinIsRefused v w why = ⊥
 -- behind v, the first refusal in turn: of the next part, of its join with v, or of what follows
 abbrev pub OthersFail : Vector → List Part → Refusal → Type 0
 OthersFail v [] why = ⊥
-OthersFail v (p ∷ ps) why = PartFails p why ⊎ ((w : Vector) × IsPartOf p w × (JoinIsRefused v w why ⊎ ((u : Vector) × IsJoinOf v w u × OthersFail u ps why)))
+OthersFail v (p ∷ ps) why =
+    PartFails p why
+    ⊎ ((w : Vector) × IsPartOf p w
+    × (JoinIsRefused v w why ⊎ ((u : Vector) × IsJoinOf v w u × OthersFail u ps why)))
 
 abbrev pub ExprFails : Expr → Refusal → Type 0
-ExprFails e why = PartFails e.first why ⊎ ((v : Vector) × IsPartOf e.first v × OthersFail v e.others why)
+ExprFails e why =
+    PartFails e.first why ⊎ ((v : Vector) × IsPartOf e.first v × OthersFail v e.others why)
 
 abbrev pub QueryFails : List ℕ → Refusal → Type 0
-QueryFails text (text_refused (bad_query at)) = IsRefused text (queries.Syntax at) ⊎ IsRefused text (queries.DistanceTooLarge at)
+QueryFails text (text_refused (bad_query at)) =
+    IsRefused text (queries.Syntax at) ⊎ IsRefused text (queries.DistanceTooLarge at)
 QueryFails text (text_refused (long_lexeme at)) = IsRefused text (queries.LexemeTooLong at)
 QueryFails text (text_refused large_query) = IsRefused text queries.TooManyNodes
 QueryFails text memory = Unit {0}

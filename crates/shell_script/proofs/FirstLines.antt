@@ -1,11 +1,10 @@
 -- What the first line of a definition says, by its first word.
-use Rattle.std.proofs.Common.{◌≡◌, List, ℕ, [], ◌∷◌, Bool, true, false, codes, refl, sym, ◌∙◌, subst}
+use Rattle.std.proofs.Common.{◌≡◌, List, ℕ, [], ◌∷◌, true, false, codes, refl, sym, ◌∙◌, subst}
 use Rattle.std.specs.Str.{IsUtf8}
-use Rattle.std.proofs.lemmas.Bool.{false≢true}
 use Rattle.std.specs.List.{All}
 use Rattle.ts_base.specs.Bytes.{IsBlank}
 use Rattle.shell_script.specs.Tokens.{ScriptToken, word, IsSpelled}
-use Rattle.shell_script.specs.Heads.{IsName, Head, dictionary_head, configuration_head, kind_tokens, head_tokens, head_name, IsHead}
+use Rattle.shell_script.specs.Heads.{IsName, Head, dictionary_head, configuration_head, kind_tokens, head_tokens, IsHead}
 use Rattle.shell_script.specs.declared.heads.Kind.{Kind}
 use Rattle.shell_script.specs.declared.heads.Kind.TheVariants.{Simple}
 use Rattle.shell_script.specs.Inner.Fronts.{Fronts}

@@ -10,3 +10,5 @@ pub mod Openings
 pub mod StepsLaw
 pub mod Bodies
 pub mod FirstLines
+pub mod TypeLists
+pub mod NameLists

@@ -37,7 +37,7 @@ dark_false b d = by (is_blank b) refl
     by false e = refl
 
 -- ── the first word ──
-word_before : (w rest : List ℕ) → All IsDark w → EndsWord rest → word_of (w ++ rest) ≡ w
+pub word_before : (w rest : List ℕ) → All IsDark w → EndsWord rest → word_of (w ++ rest) ≡ w
 word_before [] [] d e = refl
 word_before [] (b ∷ rest) d e = ap (λ x. if x then [] else b ∷ word_of rest) (blank_true b e)
 word_before (b ∷ w) rest d e =
@@ -57,7 +57,7 @@ pub first_is : (line w rest : List ℕ) → BeginsWithWord line w rest → first
 first_is line w rest h = ap first_word h.text ∙ first_at h.gap w rest h.blank h.is_word h.ends
 
 -- what stands behind the first word
-word_cut : (bytes : List ℕ) → (rest : List ℕ) × (bytes ≡ word_of bytes ++ rest) × EndsWord rest × All IsDark (word_of bytes)
+pub word_cut : (bytes : List ℕ) → (rest : List ℕ) × (bytes ≡ word_of bytes ++ rest) × EndsWord rest × All IsDark (word_of bytes)
 word_cut [] = ([], refl, tt, All-nil IsDark)
 word_cut (b ∷ bytes) = by (is_blank b) refl (word_cut bytes)
   where

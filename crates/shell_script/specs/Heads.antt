@@ -1,5 +1,5 @@
 -- What the first line of a definition says, and a line of a configuration.
-use Rattle.std.specs.Prelude.{◌≡◌, ◌≢◌, ◌⊎◌, ℕ, ◌<◌, ◌≤◌, Bool, true, false, List, [], ◌∷◌, length, map, codes}
+use Rattle.std.specs.Prelude.{◌≡◌, ◌≢◌, ◌⊎◌, ℕ, ◌<◌, ◌≤◌, true, false, List, [], ◌∷◌, length, map, codes}
 use Rattle.std.specs.List.{All, join_with_byte}
 use Rattle.std.specs.Str.{IsUtf8}
 use Rattle.std.specs.Char.{IsAsciiDigit, IsAsciiAlphabetic}

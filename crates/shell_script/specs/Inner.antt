@@ -1,5 +1,6 @@
 pub mod Cuts
 pub mod Fronts
 pub mod LinesLeft
+pub mod Parts
 pub mod Said
 pub mod StepsLeft

@@ -3,8 +3,10 @@ use Rattle.std.specs.Prelude.{◌≡◌, ℕ, List, ◌++◌, Bool, true}
 use Rattle.std.specs.Prelude.{Option}
 use Rattle.std.specs.Io.KnownBytes.{Appends}
 
--- Of a text that is to be written the sink took a beginning, and what is not written waits, where this went well.
-pub record Sends (before after : Option (List ℕ)) (text waiting : List ℕ) (well : Bool) : Type 0 where
+-- Of a text that is to be written the sink took a beginning, and what is not written waits, where
+-- this went well.
+pub record Sends (before after : Option (List ℕ)) (text waiting : List ℕ)
+    (well : Bool) : Type 0 where
   pub sent : List ℕ
   pub unsent : List ℕ
   pub all : sent ++ unsent ≡ text

@@ -17,7 +17,8 @@ use Rattle.disk_trait.specs.declared.stream.Sink.{Ghosts as Sink}
 use Rattle.shell_run.specs.declared.serving.Desk.{Desk}
 
 -- the statement was answered, and its reply's text is on its way
-pub record Served {D : Type 0} (device : Disk D) (number : ℕ) (line : List ℕ) (old new : Desk) (disk disk' : D) (before after : Option (List ℕ)) (well : Bool) : Type 0 where
+pub record Served {D : Type 0} (device : Disk D) (number : ℕ) (line : List ℕ) (old new : Desk)
+    (disk disk' : D) (before after : Option (List ℕ)) (well : Bool) : Type 0 where
   pub session : ℕ
   pub statement : Statement
   pub reply : Reply
@@ -29,7 +30,8 @@ pub record Served {D : Type 0} (device : Disk D) (number : ℕ) (line : List ℕ
   pub flag : new.refused ≡ (old.refused || is_refusal reply)
 
 -- nothing was done, since the line is to be skipped, or memory ran out
-pub record Passed {D : Type 0} (line : List ℕ) (old new : Desk) (disk disk' : D) (before after : Option (List ℕ)) (well : Bool) : Type 0 where
+pub record Passed {D : Type 0} (line : List ℕ) (old new : Desk) (disk disk' : D)
+    (before after : Option (List ℕ)) (well : Bool) : Type 0 where
   pub skipped : well ≡ true → IsSkipped line
   pub same : new.store ≡ old.store
   pub device : disk' ≡ disk
@@ -37,22 +39,28 @@ pub record Passed {D : Type 0} (line : List ℕ) (old new : Desk) (disk disk' : 
   pub text : Sends before after old.waiting.items new.waiting.items well
   pub flag : new.refused ≡ old.refused
 
--- The rows are those of a first part of the lines. Where this went well, they are those of all, and the sink took all of their text.
-pub record Ran (text : List ℕ) (before after : Option (List ℕ)) (rows : List Row) (well : Bool) : Type 0 where
+-- The rows are those of a first part of the lines. Where this went well, they are those of all, and
+-- the sink took all of their text.
+pub record Ran (text : List ℕ) (before after : Option (List ℕ)) (rows : List Row)
+    (well : Bool) : Type 0 where
   pub so_far : HasPrinted text before after rows
   pub whole : well ≡ true → (so_far.left ≡ []) × (so_far.unsent ≡ [])
 
 -- The lines of a text were run over documents that had a history.
-pub record HasRunLines {D E : Type 0} (device : Disk D) (history : History) (text : List ℕ) (before after : Option (List ℕ)) (disk disk' : D) (end : ℕ) (result : Result Bool E) : Type 0 where
+pub record HasRunLines {D E : Type 0} (device : Disk D) (history : History) (text : List ℕ)
+    (before after : Option (List ℕ)) (disk disk' : D) (end : ℕ)
+    (result : Result Bool E) : Type 0 where
   pub rows : List Row
   pub commits : History
   pub ran : Ran text before after rows (is_ok result)
   pub flag : IfOk result (λ refused. refused ≡ some_refused rows)
   pub numbered : IsNumbered commits
-  pub over : (first : D) (c0 : ℕ) → OpenedAt device history first c0 disk end → RanOn device history first disk' commits rows
+  pub over : (first : D) (c0 : ℕ) → OpenedAt device history first c0 disk end
+      → RanOn device history first disk' commits rows
 
 -- What a text is answered, where the words are right and the text is a whole script.
-pub record ServeMeets {K D : Type 0} (sink : Sink K) (device : Disk D) (text : List ℕ) (status : ℕ) (out out' : K) (disk disk' : D) : Type 0 where
+pub record ServeMeets {K D : Type 0} (sink : Sink K) (device : Disk D) (text : List ℕ) (status : ℕ)
+    (out out' : K) (disk disk' : D) : Type 0 where
   pub range : (status ≤ 7) × (status ≢ 2) × (status ≢ 6)
   pub causes : HasCauses sink device status out out' disk disk'
   pub headline : HasNotRun sink device status out out' disk disk'

@@ -16,7 +16,8 @@ stop_number DiskFault = 3
 stop_number SinkFault = 7
 stop_number OutOfMemory = 5
 
--- the status of a run that ended: whether the device failed in it, and whether a reply was a refusal
+-- the status of a run that ended: whether the device failed in it, and whether a reply was a
+-- refusal
 abbrev pub ending_number : Bool → Bool → ℕ
 ending_number true refused = 3
 ending_number false true = 1

@@ -2,10 +2,9 @@ use Rattle.std.proofs.Common.{◌≡◌, codes, sym, subst}
 use Rattle.std.specs.Str.{IsUtf8}
 use Rattle.shell_script.specs.Tokens.{IsSpelled}
 use Rattle.shell_script.specs.Heads.{IsHead, head_tokens, dictionary_head, configuration_head}
-use Rattle.shell_script.specs.HeadView.{head}
 use Rattle.shell_script.proofs.Exprs.{missed}
 use Rattle.shell_script.proofs.Openings.{bytes_same}
-use Rattle.shell_script.proofs.FirstLines.{head_first, no_dictionary, no_configuration, dictionary_is, configuration_is}
+use Rattle.shell_script.proofs.FirstLines.{head_first, no_dictionary, dictionary_is, configuration_is}
 use Rattle.shell_script.proofs.heads.read_head.Goals as goal
 
 pub returns-in_err-first-clause-none : goal.returns-in_err-first-clause-none
