@@ -19,6 +19,3 @@ pub use laws::{
 };
 pub use state::State;
 pub use transactions::{Names, Transaction};
-
-#[cfg(test)]
-mod tests;

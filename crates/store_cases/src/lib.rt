@@ -19,3 +19,5 @@ mod record_rows;
 mod record_tests;
 #[cfg(test)]
 mod spelling_tests;
+#[cfg(test)]
+mod state_tests;

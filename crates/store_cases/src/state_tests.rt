@@ -1,4 +1,7 @@
-use super::*;
+use core_state::{
+    Fate, PageUse, State, history_is_one, keys_are_one, newest_may_go, pages_are_shown,
+    state_follows, valid_is_monotone,
+};
 
 /// The state of an empty log.
 #[test]
