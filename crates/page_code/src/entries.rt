@@ -123,7 +123,8 @@ fn read_entry_child<'a>(
     behind: u16,
     bytes: &'a [u8],
 ) -> Result<(EntryChildRef<'a>, &'a [u8]), ReadError>
-    ensures { Gives (λ x. (child_shown x.0, x.1.now)) result (entry_child_at right last.now behind bytes.now) }
+    ensures { Gives (λ x. (child_shown x.0, x.1.now)) result
+        (entry_child_at right last.now behind bytes.now) }
 {
     let (page, rest) = read_below(PAGE_LIMIT, bytes)?;
     let (bound, rest) = read_bound(right == 0 && behind == 0, last, rest)?;

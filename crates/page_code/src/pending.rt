@@ -40,7 +40,8 @@ fn read_some(bytes: &[u8]) -> Result<(u16, &[u8]), ReadError>
 /// An item and its keys.
 #[tactic(auto, unfolding(crate::specs::Bodies::row_at))]
 fn read_row(alloc: Global, bytes: &[u8]) -> Result<((u32, Pieces), &[u8]), ReadError>
-    ensures { Gives (λ x. (record { item = x.0.0; keys = x.0.1 }, x.1.now)) result (row_at bytes.now) }
+    ensures { Gives (λ x. (record { item = x.0.0; keys = x.0.1 }, x.1.now)) result
+        (row_at bytes.now) }
 {
     let (item, rest) = read_below(ITEM_LIMIT, bytes)?;
     let (count, rest) = read_some(rest)?;

@@ -286,7 +286,8 @@ fn put_gone(out: &mut [u8], at: usize, gone: &Gone) -> usize
 /// Writes the fields of the metapage.
 fn put_meta(out: &mut [u8], at: usize, first: u32, last: u32, pages: u32) -> usize
     requires { at + 12 ≤ length out.old }
-    ensures { Puts at (u32_bytes first ++ (u32_bytes last ++ u32_bytes pages)) out.old result out.new }
+    ensures { Puts at (u32_bytes first ++ (u32_bytes last ++ u32_bytes pages)) out.old
+        result out.new }
 {
     let at = put_u32(out, at, first);
     let at = put_u32(out, at, last);
@@ -297,8 +298,10 @@ fn put_meta(out: &mut [u8], at: usize, first: u32, last: u32, pages: u32) -> usi
 fn put_leaf(out: &mut [u8], at: usize, high: &Bytes, entries: &Entries) -> usize
     requires high { length high.now < 2 ^ 16 }
     requires entries { AllByRecursion IsEntry entries.now }
-    requires room { at + length (high_key_bytes high.now ++ flat_map entry_bytes entries.now) ≤ length out.old }
-    ensures { Puts at (high_key_bytes high.now ++ flat_map entry_bytes entries.now) out.old result out.new }
+    requires room { at + length (high_key_bytes high.now ++ flat_map entry_bytes entries.now)
+        ≤ length out.old }
+    ensures { Puts at (high_key_bytes high.now ++ flat_map entry_bytes entries.now) out.old
+        result out.new }
 {
     let at = put_high_key(out, at, high.as_slice());
     put_entries(out, at, entries)
