@@ -11,7 +11,7 @@ use std::marker::Model;
 use ts_base::{Answer, Dictionary, Found, Lexeme, lower_case};
 
 /// A dictionary that replaces a word by one other.
-#[derive(Drop)]
+#[derive(Debug, Drop)]
 pub struct Synonym {
     /// Whether words are compared as they stand; else in lower case.
     sensitive: bool,
