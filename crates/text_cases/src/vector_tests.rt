@@ -4,8 +4,8 @@ use ts_base::{Lexeme, Position, Weight};
 use ts_query::{fault_has_one_place, fault_is_outside};
 use ts_vector::{
     TsVector, VectorBytes, VectorError, bad_bytes_are_no_spelling, bad_place_is_one,
-    join_has_one_answer, normal_form_is_one, printed_text_is_read, text_has_one_answer,
-    text_has_one_list, text_has_one_value,
+    build_has_one_answer, join_has_one_answer, normal_form_is_one, position_has_its_number,
+    printed_text_is_read, text_has_one_answer, text_has_one_list, text_has_one_value,
 };
 
 /// Texts and what they give, `text=outcome`, with `;` between two; `{x^n}` stands for n times x, and `+` joins two vectors.
