@@ -1,11 +1,11 @@
 -- The spelling of a vector as bytes. Numbers stand with their little end first.
-use Rattle.std.specs.Prelude.{◌≡◌, ℕ, ◌+◌, ◌*◌, List, ◌++◌, length, sum_by}
+use Rattle.std.specs.Prelude.{◌≡◌, ℕ, ◌+◌, ◌*◌, ◌<◌, List, ◌++◌, length, sum_by}
 use Rattle.std.specs.List.{flat_map}
 use Rattle.byteorder.specs.Endian.{little_bytes}
-use Rattle.ts_base.specs.declared.TheConstants.{WEIGHT_UNIT}
+use Rattle.ts_base.specs.declared.TheConstants.{SIZE_LIMIT, WEIGHT_UNIT}
 use Rattle.ts_base.specs.declared.Weight.{Weight}
 use Rattle.ts_base.specs.declared.Weight.TheVariants.{D, C, B, A}
-use Rattle.ts_base.specs.Vectors.{Position, Entry, Vector, IsNormal}
+use Rattle.ts_base.specs.Vectors.{Position, Entry, Vector, IsNormal, content_size}
 
 abbrev pub weight_number : Weight → ℕ
 weight_number D = 0
@@ -36,6 +36,12 @@ entry_size e = 2 + length e.lexeme + 2 + 2 * length e.positions
 -- how many bytes a vector's spelling has
 abbrev pub vector_size : Vector → ℕ
 vector_size v = 4 + sum_by entry_size v
+
+-- the bytes are the spelling of the vector, which is in normal form and not too large
+pub record IsSpelling (bytes : List ℕ) (vector : Vector) : Type 0 where
+  pub normal : IsNormal vector
+  pub small : content_size vector < SIZE_LIMIT
+  pub bytes_of : bytes ≡ vector_bytes vector
 
 -- two vectors in normal form never share a spelling
 abbrev pub SpellingTellsVector : Type 0

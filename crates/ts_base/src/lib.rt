@@ -38,6 +38,9 @@ pub const LAST_POSITION: u16 = 16383;
 /// The most positions of a lexeme.
 pub const MOST_POSITIONS: usize = 256;
 
+/// The size of a vector's content is below this: the bytes of all lexemes and two for each position.
+pub const SIZE_LIMIT: usize = 1_048_576;
+
 /// What a weight's number counts in the number of a position: the positions are below it.
 pub const WEIGHT_UNIT: u16 = 16384;
 
