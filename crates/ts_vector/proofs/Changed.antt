@@ -87,7 +87,7 @@ module _ (items others : List Entry) (same : HaveSame items others) where
   }
 
 -- ── moved positions, kept up to 16383 ──
-any_map_to : {X Y : Type 0} (P : Y → Type 0) (f : X → Y) (xs : List X) → Any (λ x. P (f x)) xs → Any P (map f xs)
+pub any_map_to : {X Y : Type 0} (P : Y → Type 0) (f : X → Y) (xs : List X) → Any (λ x. P (f x)) xs → Any P (map f xs)
 any_map_to P f [] h = absurd (contains_none (of_any (λ x. P (f x)) [] h).0 (of_any (λ x. P (f x)) [] h).1)
 any_map_to P f (x ∷ xs) h =
     let y = of_any (λ z. P (f z)) (x ∷ xs) h in
@@ -98,7 +98,7 @@ any_map_to P f (x ∷ xs) h =
           any_of P (f x ∷ map f xs) r.0 (contains_later (f x) r.0 (map f xs) r.1) r.2
     ]
 
-any_map_from : {X Y : Type 0} (P : Y → Type 0) (f : X → Y) (xs : List X) → Any P (map f xs) → Any (λ x. P (f x)) xs
+pub any_map_from : {X Y : Type 0} (P : Y → Type 0) (f : X → Y) (xs : List X) → Any P (map f xs) → Any (λ x. P (f x)) xs
 any_map_from P f [] h = absurd (contains_none (of_any P [] h).0 (of_any P [] h).1)
 any_map_from P f (x ∷ xs) h =
     let y = of_any P (f x ∷ map f xs) h in
@@ -193,7 +193,7 @@ unmoved (e ∷ v) h =
 
 -- ── joins ──
 module _ (v w : Vector) (n : ℕ) (greatest : IsGreatest v n) (made : Vector) (form : IsNormalFormOf (v ++ shifted_within n w) made) where
-  join_form : IsNormalFormOf (v ++ shifted n w) made
+  pub join_form : IsNormalFormOf (v ++ shifted n w) made
   join_form = form_same (v ++ shifted n w) (v ++ shifted_within n w) (moved_same n v w) made form
 
   pub is_join : (u : Vector) → u ≡ made → content_size u < 1048576 → IsJoinOf v w u

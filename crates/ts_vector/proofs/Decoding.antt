@@ -18,9 +18,9 @@ use Rattle.ts_base.specs.Vectors.{Position, Entry, Vector, IsPosition, IsEntry, 
 use Rattle.ts_base.specs.declared.Weight.{Weight}
 use Rattle.ts_base.specs.declared.Weight.TheVariants.{D, C, B, A}
 use Rattle.ts_base.specs.Endian.{little_bytes}
-use Rattle.ts_base.specs.Spelling.{weight_number, position_number, position_bytes, entry_bytes}
+use Rattle.ts_base.specs.Spelling.{weight_number, position_number, position_bytes, entry_bytes, IsSpelling}
 use Rattle.ts_base.proofs.LittleBytes.{same_fronts}
-use Rattle.ts_vector.specs.Decoded.{DecodedPart, Next, Width, IsBeginning, IsBehind, AreRising, ReadsFields, IsSpelling, BadBytesAreNoSpelling, entry_with, start, counted, measured, named, placed, count, measure, name, no_places, places, place, last_place, of_count, of_length, of_lexeme, of_number, of_place, begun, field}
+use Rattle.ts_vector.specs.Decoded.{DecodedPart, Next, Width, IsBeginning, IsBehind, AreRising, ReadsFields, BadBytesAreNoSpelling, entry_with, start, counted, measured, named, placed, count, measure, name, no_places, places, place, last_place, of_count, of_length, of_lexeme, of_number, of_place, begun, field}
 use Rattle.ts_vector.specs.Inner.Fields.{Goes, Spoils, Stops, IsShort, BytesStop, behind, Lists, ListsSome, ListStops, IsLast, IsLastLexeme, no_lexeme, last_lexeme, IsFront, Adds}
 use Rattle.ts_vector.specs.declared.bytes.Stop.{Stop}
 use Rattle.ts_vector.specs.declared.checker.Front.{Front}

@@ -230,7 +230,7 @@ pub record Merged (v w : List Entry) (by i j : ℕ) (out : List Entry) : Type 0 
   pub joining : Joining (shifted_within 0 v ++ shifted_within by w) made (shifted_within 0 (drop i v)) (shifted_within by (drop j w))
   pub settled : AllZip Settles made out
 
-up_moved : (n : ℕ) (v : List Entry) → AllPairs Before v → AllPairs Before (shifted_within n v)
+pub up_moved : (n : ℕ) (v : List Entry) → AllPairs Before v → AllPairs Before (shifted_within n v)
 up_moved n v up = pairs_map (moved n) (λ a b. IsBefore a.lexeme b.lexeme) v up
 
 pub merged_start : (v w : List Entry) (by : ℕ) → IsNormal v → IsNormal w → Merged v w by 0 0 []

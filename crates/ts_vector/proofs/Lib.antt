@@ -21,3 +21,6 @@ pub mod OneAnswer
 pub mod ColumnFacts
 pub mod Numbers
 pub mod Joining
+pub mod Inserting
+pub mod Keeping
+pub mod Gathering

@@ -1,5 +1,5 @@
 -- Lists whose elements rise by a relation, and what they contain.
-use Rattle.std.proofs.Common.{◌≡◌, zero, suc, ◌<◌, ◌⊎◌, inl, inr, List, [], ◌∷◌, refl, sym, subst, arith}
+use Rattle.std.proofs.Common.{◌≡◌, zero, suc, ◌<◌, ◌≤◌, ◌⊎◌, inl, inr, List, [], ◌∷◌, length, refl, sym, subst, arith}
 use Rattle.std.specs.Prelude.{All, AllPairs, Any, Contains}
 
 module _ {X : Type 0} where
@@ -64,3 +64,26 @@ module _ {X : Type 0} (R : X → X → Type 0) where
         let from' : (z : X) → Contains (x ∷ ys) z → Contains (x ∷ xs) z = λ z c. from z (subst (λ w. Contains (w ∷ ys) z) e c) in
         let t = same_rising xs ys (pairs_tail x xs h) (pairs_tail y ys k) (same_tails x xs ys h to') (same_tails x ys xs k' from') in
         λ i. e i ∷ t i
+
+    -- a rising list whose elements another one has is no longer than that
+    pub length_rising : (xs ys : List X) → AllPairs R xs → AllPairs R ys → ((x : X) → Contains xs x → Contains ys x) → length xs ≤ length ys
+    length_rising [] ys h k to = omega arith
+    length_rising (x ∷ xs) [] h k to = absurd (contains_none x (to x (contains_head x xs)))
+    length_rising (x ∷ xs) (y ∷ ys) h k to =
+        elim (contains_cases y x ys (to x (contains_head x xs))) [
+          | inl e ↦
+              let to' : (z : X) → Contains (x ∷ xs) z → Contains (x ∷ ys) z = λ z c. subst (λ w. Contains (w ∷ ys) z) e (to z c) in
+              let n = length_rising xs ys (pairs_tail x xs h) (pairs_tail y ys k) (same_tails x xs ys h to') in
+              omega arith
+          | inr t ↦
+              let le : R y x = head_before y x ys k t in
+              let to' : (z : X) → Contains (x ∷ xs) z → Contains ys z = λ z c. elim (contains_cases y z ys (to z c)) [
+                | inl e ↦ elim (contains_cases x z xs c) [
+                  | inl f ↦ subst (λ w. Contains ys w) f t
+                  | inr r ↦ absurd (one_way y x le (subst (λ w. R x w) (sym e) (head_before x z xs h r)))
+                ]
+                | inr r ↦ r
+              ] in
+              let n = length_rising (x ∷ xs) ys h (pairs_tail y ys k) to' in
+              omega arith
+        ]

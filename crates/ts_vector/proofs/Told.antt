@@ -9,10 +9,9 @@ use Rattle.ts_base.specs.declared.Weight.{Weight}
 use Rattle.ts_base.specs.declared.Weight.TheVariants.{D, C, B, A}
 use Rattle.ts_base.specs.Lexemes.{IsBefore}
 use Rattle.ts_base.specs.Vectors.{Position, Entry, Vector, IsPosition, IsEntry, IsNormal}
-use Rattle.ts_base.specs.Spelling.{weight_number, position_number, position_bytes, entry_bytes}
+use Rattle.ts_base.specs.Spelling.{weight_number, position_number, position_bytes, entry_bytes, IsSpelling}
 use Rattle.ts_base.proofs.LittleBytes.{same_fronts, little_same}
 use Rattle.ts_base.proofs.Spelling.{position_number_same, position_number_small, length-positions}
-use Rattle.ts_vector.specs.Decoded.{IsSpelling}
 use Rattle.ts_vector.specs.Inner.Fields.{IsChecked}
 use Rattle.ts_vector.specs.Inner.Told.{number_told, weight_told, place_told, places_told, lexeme_told, behind_lexeme, place_bytes, behind_places, entry_told, entries_told, ArePlaces, AreEntries, IsFirst}
 use Rattle.ts_vector.proofs.Rising.{pairs_tail}

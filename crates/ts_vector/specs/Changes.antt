@@ -1,6 +1,6 @@
 -- Vectors made of vectors.
 use Rattle.std.specs.Prelude.{◌≡◌, ℕ, ◌+◌, ◌<◌, ◌≤◌, ◌⊎◌, List, [], ◌++◌, map, All, Any}
-use Rattle.ts_vector.specs.declared.TheConstants.{SIZE_LIMIT}
+use Rattle.ts_base.specs.declared.TheConstants.{SIZE_LIMIT}
 use Rattle.ts_base.specs.declared.Weight.{Weight}
 use Rattle.ts_base.specs.Vectors.{Position, Entry, Vector, content_size}
 use Rattle.ts_vector.specs.Normal.{IsNormalFormOf}

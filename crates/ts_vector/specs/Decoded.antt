@@ -1,11 +1,10 @@
 -- Which bytes are no vector's spelling, and where they go wrong: field by field.
 use Rattle.std.specs.Prelude.{◌≡◌, ◌≢◌, ℕ, ◌+◌, ◌*◌, ◌^◌, ◌<◌, ◌≤◌, ◌⊎◌, List, [], ◌∷◌, ◌++◌, length, All, AllPairs}
-use Rattle.ts_base.specs.declared.TheConstants.{LONGEST_LEXEME, MOST_POSITIONS, WEIGHT_UNIT}
-use Rattle.ts_vector.specs.declared.TheConstants.{SIZE_LIMIT}
+use Rattle.ts_base.specs.declared.TheConstants.{LONGEST_LEXEME, MOST_POSITIONS, SIZE_LIMIT, WEIGHT_UNIT}
 use Rattle.ts_base.specs.Lexemes.{IsLexeme, IsBefore}
 use Rattle.ts_base.specs.Vectors.{Position, Entry, Vector, IsPosition, IsNormal, content_size}
 use Rattle.ts_base.specs.Endian.{little_bytes}
-use Rattle.ts_base.specs.Spelling.{position_bytes, vector_bytes}
+use Rattle.ts_base.specs.Spelling.{position_bytes, IsSpelling}
 use Rattle.ts_vector.specs.declared.error.VectorError.{VectorError}
 use Rattle.ts_vector.specs.declared.error.VectorError.TheVariants.{Syntax, LexemeTooLong, VectorTooLarge, BadBytes, OutOfMemory}
 
@@ -99,12 +98,6 @@ SpellingFails bytes OutOfMemory = ⊥
 -- and where memory runs out
 abbrev pub DecodeFails : List ℕ → VectorError → Type 0
 DecodeFails bytes error = SpellingFails bytes error ⊎ (error ≡ OutOfMemory)
-
--- the bytes are the spelling of the vector
-pub record IsSpelling (bytes : List ℕ) (vector : Vector) : Type 0 where
-  pub normal : IsNormal vector
-  pub small : content_size vector < SIZE_LIMIT
-  pub bytes_of : bytes ≡ vector_bytes vector
 
 -- bytes go wrong at one place, and then they are no spelling
 abbrev pub BadPlaceIsOne : Type 0

@@ -1,6 +1,6 @@
 -- Why a vector is refused.
 use Rattle.std.specs.Prelude.{◌≡◌, ℕ, ◌≤◌, ◌^◌, ◌-◌, min, List, ◌++◌}
-use Rattle.ts_vector.specs.declared.TheConstants.{SIZE_LIMIT}
+use Rattle.ts_base.specs.declared.TheConstants.{SIZE_LIMIT}
 use Rattle.ts_base.specs.Fault.{FaultAt, Stands}
 use Rattle.ts_base.specs.Vectors.{Entry, Vector, content_size}
 use Rattle.ts_vector.specs.declared.error.VectorError.{VectorError}

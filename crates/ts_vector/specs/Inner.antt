@@ -7,3 +7,4 @@ pub mod Fields
 pub mod Over
 pub mod Told
 pub mod Columns
+pub mod Gathered

@@ -2,7 +2,7 @@
 use Rattle.std.specs.Prelude.{ℕ, ◌<◌, List, [], ◌∷◌, ◌++◌, map}
 use Rattle.std.specs.List.{join_with_byte}
 use Rattle.std.specs.Fmt.{decimal}
-use Rattle.ts_vector.specs.declared.TheConstants.{SIZE_LIMIT}
+use Rattle.ts_base.specs.declared.TheConstants.{SIZE_LIMIT}
 use Rattle.ts_base.specs.Quoted.{quoted_text}
 use Rattle.ts_base.specs.declared.Weight.{Weight}
 use Rattle.ts_base.specs.declared.Weight.TheVariants.{A, B, C, D}

@@ -9,7 +9,7 @@ use Rattle.ts_base.specs.Digits.{with_digit}
 use Rattle.ts_base.specs.Quoted.{Quoted}
 use Rattle.ts_base.specs.Plain.{IsPlain, Plain}
 use Rattle.ts_base.specs.Vectors.{Position, Entry, Vector, content_size}
-use Rattle.ts_vector.specs.declared.TheConstants.{SIZE_LIMIT}
+use Rattle.ts_base.specs.declared.TheConstants.{SIZE_LIMIT}
 use Rattle.ts_vector.specs.Normal.{IsNormalFormOf}
 
 -- a lexeme as it is written, the offset at which it starts, and its positions

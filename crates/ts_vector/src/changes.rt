@@ -52,7 +52,7 @@ pub fn entries_with_weight(
 }
 
 /// The greater of a number and the greatest number of these positions.
-fn greatest_from(positions: &[Position], from: u16) -> u16
+pub fn greatest_from(positions: &[Position], from: u16) -> u16
     requires { from ≤ LAST_POSITION }
     ensures lower { from ≤ result }
     ensures upper { result ≤ LAST_POSITION }

@@ -4,7 +4,7 @@ ghost use Rattle.std.specs.Str.{IsUtf8};
 ghost use Rattle.ts_base.specs.Endian.{little_bytes};
 ghost use Rattle.ts_base.specs.Lexemes.{IsBefore};
 ghost use Rattle.ts_base.specs.Vectors.{Vector, content_size};
-ghost use Rattle.ts_vector.specs.declared.TheConstants.{SIZE_LIMIT};
+ghost use Rattle.ts_base.specs.declared.TheConstants.{SIZE_LIMIT};
 ghost use Rattle.ts_vector.specs.Decoded.{counted, named};
 ghost use Rattle.ts_vector.specs.Inner.Fields.{Stops, IsFront, Adds, BytesStop, IsChecked};
 

@@ -4,14 +4,14 @@
 ghost use Rattle.std.specs.Prelude.{◌≡◌, ℕ, ◌<◌, ◌++◌, length, IfOk, IfErr, OnOk, OnErr, slice_index_or};
 ghost use Rattle.std.specs.String.{string_bytes};
 ghost use Rattle.ts_base.specs.Vectors.{Entry, Vector, IsNormal, content_size};
-ghost use Rattle.ts_base.specs.Spelling.{vector_bytes};
+ghost use Rattle.ts_base.specs.Spelling.{vector_bytes, IsSpelling};
 ghost use Rattle.ts_vector.specs.Normal.{IsNormalFormOf};
 ghost use Rattle.ts_vector.specs.Text.{IsTextOf};
 ghost use Rattle.ts_vector.specs.Failures.{TextFails, ItemsFail, JoinFails};
 ghost use Rattle.ts_vector.specs.Inner.Over.{IsOver};
 ghost use Rattle.ts_vector.specs.Changes.{IsBuiltOf, stripped, reweighted, IsJoinOf};
 ghost use Rattle.ts_vector.specs.Pairs.{pairs_of};
-ghost use Rattle.ts_vector.specs.Decoded.{IsSpelling, DecodeFails};
+ghost use Rattle.ts_vector.specs.Decoded.{DecodeFails};
 ghost use Rattle.ts_vector.specs.Printed.{vector_text};
 ghost use Rattle.ts_vector.specs.ItemEntries.{item_entries};
 
@@ -22,10 +22,13 @@ mod codec;
 mod columns;
 mod entries;
 mod error;
+mod gathered;
+mod joined;
 mod laws;
 mod limits;
 mod merge;
 mod normal;
+mod places;
 mod printer;
 mod reader;
 mod spelled;
@@ -35,6 +38,7 @@ use codec::put_entries;
 use columns::Columns;
 use entries::{Item, from_entries, from_items, from_pairs};
 pub use error::VectorError;
+pub use joined::Joined;
 pub use laws::{
     bad_bytes_are_no_spelling, bad_place_is_one, build_has_one_answer, fault_has_one_place,
     fault_is_outside, join_has_one_answer, normal_form_is_one, position_has_its_number,
@@ -43,15 +47,13 @@ pub use laws::{
 use limits::{first_long, to_items};
 use merge::merged;
 use normal::normal_form;
+pub use places::Places;
 use reader::read;
 pub use spelled::{Entries, EntryBytes, Positions, VectorBytes};
 use std::alloc::{AllocError, Global};
 use std::marker::Model;
 use std::str;
-pub use ts_base::{Lexeme, LexemeError, Position, Weight};
-
-/// The size of a vector's content is below this: the bytes of all lexemes and two for each position.
-pub const SIZE_LIMIT: usize = 1_048_576;
+pub use ts_base::{Lexeme, LexemeError, Position, SIZE_LIMIT, Weight};
 
 /// A vector in normal form. Contracts see it as the list of its entries.
 #[derive(Debug, Drop)]
@@ -68,7 +70,7 @@ impl Model for TsVector {
 
     ghost view = { λ v. v.entries };
 
-    ghost use Rattle.ts_vector.specs.declared.TheConstants.{SIZE_LIMIT};
+    ghost use Rattle.ts_base.specs.declared.TheConstants.{SIZE_LIMIT};
 
     ghost invariant = { λ v. IsNormal v.entries × (content_size v.entries < SIZE_LIMIT) };
 }

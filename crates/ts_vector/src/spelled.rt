@@ -1,11 +1,11 @@
 // A vector's spelling, read where it lies.
-ghost use Rattle.std.specs.Prelude.{◌≡◌, ℕ, ◌<◌, ◌≤◌, ◌↔◌, ◌%◌, ◌++◌, [], List, length, IsTrue, IfOk, IfErr};
+ghost use Rattle.std.specs.Prelude.{◌≡◌, ℕ, ◌<◌, ◌≤◌, ◌↔◌, ◌%◌, ◌++◌, [], List, length, drop, IsTrue, IfOk, IfErr};
 ghost use Rattle.std.specs.Iterator.{YieldsFirst, item_count};
 ghost use Rattle.ts_base.specs.Endian.{little_bytes};
 ghost use Rattle.ts_base.specs.Vectors.{Entry, IsPosition, IsEntry, IsNormal, content_size};
-ghost use Rattle.ts_base.specs.Spelling.{position_number};
-ghost use Rattle.ts_vector.specs.declared.TheConstants.{SIZE_LIMIT};
-ghost use Rattle.ts_vector.specs.Decoded.{IsSpelling, SpellingFails};
+ghost use Rattle.ts_base.specs.Spelling.{position_number, IsSpelling};
+ghost use Rattle.ts_base.specs.declared.TheConstants.{SIZE_LIMIT};
+ghost use Rattle.ts_vector.specs.Decoded.{SpellingFails};
 ghost use Rattle.ts_vector.specs.Inner.Told.{IsFirst};
 
 use crate::bytes::{Stop, weight};
@@ -55,6 +55,13 @@ impl<'a> Model for Positions<'a> {
 }
 
 impl<'a> Positions<'a> {
+    /// No position.
+    pub(crate) fn none() -> Positions<'a>
+        ensures { result ≡ [] }
+    {
+        Positions { rest: &[] }
+    }
+
     /// How many positions are left.
     pub fn len(&self) -> usize
         ensures { result ≡ length self.now }
@@ -242,11 +249,25 @@ impl<'a> VectorBytes<'a> {
 
     /// The entries, in the order of their lexemes.
     pub fn entries(&self) -> Entries<'a>
-        ensures { result ≡ self.now }
+        ensures value { result ≡ self.now }
+        ensures normal { IsNormal self.now }
     {
         Entries {
             count: self.count,
             rest: self.entries,
         }
+    }
+
+    /// The entries from the index `first` on.
+    pub fn entries_from(&self, first: usize) -> Entries<'a>
+        ensures { result ≡ drop first self.now }
+    {
+        let mut entries = self.entries();
+        let mut skipped = 0;
+        while skipped < first {
+            entries.next();
+            skipped += 1;
+        }
+        entries
     }
 }

@@ -2,8 +2,8 @@
 use Rattle.std.specs.Prelude.{◌≡◌, ℕ, ◌-◌, ◌<◌, ◌≤◌, ◌⊎◌, if◌then◌else◌, List, [], ◌∷◌, ◌++◌, length, All, Any, nat_lt}
 use Rattle.std.specs.List.{flat_map}
 use Rattle.ts_base.specs.Vectors.{Position, Entry, Vector, IsNormal, content_size}
-use Rattle.ts_base.specs.Spelling.{entry_bytes}
-use Rattle.ts_vector.specs.Decoded.{DecodedPart, counted, placed, entry_with, AreRising, ReadsFields, IsBadAt, IsSpelling}
+use Rattle.ts_base.specs.Spelling.{entry_bytes, IsSpelling}
+use Rattle.ts_vector.specs.Decoded.{DecodedPart, counted, placed, entry_with, AreRising, ReadsFields, IsBadAt}
 use Rattle.ts_vector.specs.declared.bytes.Stop.{Stop}
 use Rattle.ts_vector.specs.declared.checker.Front.{Front}
 

@@ -6,7 +6,7 @@ use Rattle.ts_base.specs.declared.Weight.{Weight}
 use Rattle.ts_base.specs.declared.Weight.TheVariants.{D, C, B, A}
 use Rattle.ts_base.specs.Vectors.{Position, Entry, Vector, IsPosition, IsEntry, IsNormal, content_size}
 use Rattle.ts_base.specs.Spelling.{position_bytes, entry_bytes}
-use Rattle.ts_vector.specs.declared.TheConstants.{SIZE_LIMIT}
+use Rattle.ts_base.specs.declared.TheConstants.{SIZE_LIMIT}
 
 -- the number in the first two bytes, the little end first
 abbrev pub number_told : List ℕ → ℕ
