@@ -8,7 +8,7 @@ use Rattle.ts_query.specs.Joining.{joined_queries, negated_query}
 use Rattle.ts_query.specs.declared.query.Builder.{Builder}
 use Rattle.ts_query.proofs.Built.{length-postfix_of, operands_from-postfix_of, few_operands}
 
-length-nodes_from : (k : ℕ) (is : List Item) → length (nodes_from k is) ≡ length is
+pub length-nodes_from : (k : ℕ) (is : List Item) → length (nodes_from k is) ≡ length is
 length-nodes_from k [] = refl
 length-nodes_from k (operand_item o ∷ is) = ap suc (length-nodes_from (suc k) is)
 length-nodes_from k (not_item ∷ is) = ap suc (length-nodes_from k is)

@@ -13,6 +13,7 @@ pub mod Unique
 pub mod Printing
 pub mod Built
 pub mod Joined
+pub mod Building
 pub mod Sound
 pub mod Answer
 pub mod Entries

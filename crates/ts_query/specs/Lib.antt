@@ -12,5 +12,6 @@ pub mod Printing
 pub mod Limits
 pub mod Laws
 pub mod Joining
+pub mod Building
 pub mod Refusals
 pub mod Inner

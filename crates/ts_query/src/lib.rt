@@ -1,6 +1,7 @@
 //! Queries: their values, their texts, and what joins them.
 #![tactic(auto)]
 
+mod builder;
 mod error;
 mod laws;
 mod parser;
@@ -8,6 +9,7 @@ mod print;
 mod query;
 mod reader;
 
+pub use builder::QueryBuilder;
 pub use error::QueryError;
 pub use laws::{
     distance_is_decimal, fault_has_one_place, fault_is_outside, one_answer, one_value, prints_back,

@@ -1,5 +1,5 @@
 // A query in memory.
-ghost use Rattle.std.specs.Prelude.{◌≡◌, ◌<◌, ◌≤◌, List, [], ◌∷◌, ◌++◌, map, OnOk, IfOk, IfErr, length};
+ghost use Rattle.std.specs.Prelude.{◌≡◌, ◌<◌, ◌≤◌, List, [], ◌∷◌, ◌++◌, map, OnOk, OnErr, IfOk, IfErr, length};
 ghost use Rattle.std.specs.String.{string_bytes};
 ghost use Rattle.ts_query.specs.Queries.{Query, or_joint, and_joint, phrase_joint, leaf, IsNear, HasLexemeLength, IsSound, operands_of};
 ghost use Rattle.ts_query.specs.Tokens.{operand};
@@ -91,7 +91,7 @@ impl Builder {
     ghost use Rattle.ts_query.specs.Inner.Built.{operands_from, IsBuilt};
 
     /// Two empty lists.
-    fn new(alloc: Global) -> Builder
+    pub fn new(alloc: Global) -> Builder
         ensures { IsBuilt result [] }
     {
         Builder {
@@ -101,32 +101,41 @@ impl Builder {
     }
 
     /// Adds an operand.
-    fn leaf(&mut self, operand: Operand) -> Result<(), AllocError>
+    pub fn leaf(&mut self, operand: Operand) -> Result<(), AllocError>
         requires { length self.old.operands.items < 65536 }
-        ensures { OnOk result
+        ensures built { OnOk result
             ((is : List Item) → IsBuilt self.old is
             → IsBuilt self.new (is ++ operand_item operand ∷ [])) }
+        ensures same { OnErr result
+            ((is : List Item) → IsBuilt self.old is → IsBuilt self.new is) }
     {
         let number = self.operands.as_slice().len() as u16;
         self.nodes.push(Node::Leaf(number))?;
-        self.operands.push(operand)?;
+        let Ok(()) = self.operands.push(operand) else {
+            self.nodes.truncate(self.nodes.len() - 1);
+            return Err(AllocError);
+        };
         Ok(())
     }
 
     /// Adds `!`, behind its operand.
-    fn not(&mut self) -> Result<(), AllocError>
-        ensures { OnOk result
+    pub fn not(&mut self) -> Result<(), AllocError>
+        ensures built { OnOk result
             ((is : List Item) → IsBuilt self.old is → IsBuilt self.new (is ++ not_item ∷ [])) }
+        ensures same { OnErr result
+            ((is : List Item) → IsBuilt self.old is → IsBuilt self.new is) }
     {
         self.nodes.push(Node::Not)?;
         Ok(())
     }
 
     /// Adds a binary operator, behind its operands.
-    fn link(&mut self, link: Link) -> Result<(), AllocError>
-        ensures { OnOk result
+    pub fn link(&mut self, link: Link) -> Result<(), AllocError>
+        ensures built { OnOk result
             ((is : List Item) → IsBuilt self.old is
             → IsBuilt self.new (is ++ joint_item (link_joint link) ∷ [])) }
+        ensures same { OnErr result
+            ((is : List Item) → IsBuilt self.old is → IsBuilt self.new is) }
     {
         self.nodes.push(node_of(link))?;
         Ok(())
@@ -158,7 +167,7 @@ impl Builder {
     }
 
     /// The query of the lists.
-    fn finish(self) -> TsQuery
+    pub fn finish(self) -> TsQuery
         requires { (q : Query) × IsBuilt self (postfix_of q) × IsSound q }
         ensures value { (q : Query) → IsBuilt self (postfix_of q) → result ≡ q }
         ensures sound { IsSound result }

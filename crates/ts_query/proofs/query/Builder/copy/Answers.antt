@@ -45,23 +45,23 @@ loop-node-preserved c =
           let g = w.index-operands-next.is ∙ ap (λ l. get_or l c.loop-node.next w.index-operands-next.result) w.operands.ensures.value in
           copied_to _ _ w.leaf.new.self _ _ _ _ w.self-is w.next-is
           (copied_leaf c.args.query.now c.args.self.now c.loop-node.self w.leaf.new.self c.loop-node.next w.in-Leaf.field-0 _ _ c.loop-node.invariant e w.in_ok-clone-in-Leaf.field-0
-          (o ∙ g ∙ leafed_is c.args.query.now c.loop-node.next w.index-operands-next.result f) w.in_ok-leaf-in-Leaf.ensures))
+          (o ∙ g ∙ leafed_is c.args.query.now c.loop-node.next w.index-operands-next.result f) w.in_ok-leaf-in-Leaf.ensures.built))
       | in-Not+in_ok-not-in-Not w ↦
           copied_to _ _ w.not.new.self _ _ _ _ w.self-is w.next-is
           (copied_not c.args.query.now c.args.self.now c.loop-node.self w.not.new.self c.loop-node.next _ _ c.loop-node.invariant
-          (next_node c.nodes-node-items.result.now c.loop-node.node-index Not c.loop-node-test.true w.in-Not.is) w.in_ok-not-in-Not.ensures)
+          (next_node c.nodes-node-items.result.now c.loop-node.node-index Not c.loop-node-test.true w.in-Not.is) w.in_ok-not-in-Not.ensures.built)
       | in-And+in_ok-link-in-And w ↦
           copied_to _ _ w.link.new.self _ _ _ _ w.self-is w.next-is
           (copied_joint and_joint c.args.query.now c.args.self.now c.loop-node.self w.link.new.self c.loop-node.next _ _ c.loop-node.invariant
-          (next_node c.nodes-node-items.result.now c.loop-node.node-index And c.loop-node-test.true w.in-And.is) w.in_ok-link-in-And.ensures)
+          (next_node c.nodes-node-items.result.now c.loop-node.node-index And c.loop-node-test.true w.in-And.is) w.in_ok-link-in-And.ensures.built)
       | in-Or+in_ok-link-in-Or w ↦
           copied_to _ _ w.link-in-Or.new.self _ _ _ _ w.self-is w.next-is
           (copied_joint or_joint c.args.query.now c.args.self.now c.loop-node.self w.link-in-Or.new.self c.loop-node.next _ _ c.loop-node.invariant
-          (next_node c.nodes-node-items.result.now c.loop-node.node-index Or c.loop-node-test.true w.in-Or.is) w.in_ok-link-in-Or.ensures)
+          (next_node c.nodes-node-items.result.now c.loop-node.node-index Or c.loop-node-test.true w.in-Or.is) w.in_ok-link-in-Or.ensures.built)
       | in-Phrase+in_ok-link-in-Phrase w ↦
           copied_to _ _ w.link-in-Phrase.new.self _ _ _ _ w.self-is w.next-is
           (copied_joint (phrase_joint w.in-Phrase.distance) c.args.query.now c.args.self.now c.loop-node.self w.link-in-Phrase.new.self c.loop-node.next _ _ c.loop-node.invariant
-          (next_node c.nodes-node-items.result.now c.loop-node.node-index (Phrase w.in-Phrase.distance) c.loop-node-test.true w.in-Phrase.is) w.in_ok-link-in-Phrase.ensures)
+          (next_node c.nodes-node-items.result.now c.loop-node.node-index (Phrase w.in-Phrase.distance) c.loop-node-test.true w.in-Phrase.is) w.in_ok-link-in-Phrase.ensures.built)
     ]
 
 pub returns-clause-items : goal.returns-clause-items

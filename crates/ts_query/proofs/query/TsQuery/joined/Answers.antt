@@ -42,7 +42,7 @@ finish-requires c =
     let z : nodes_of c.args.other.now ≢ 0 = λ x. grind (arith, nat_tests) in
     let few : nodes_of c.args.self.now + nodes_of c.args.other.now + 1 < 32768 = omega arith in (
       joined_queries (link_joint c.args.link) c.args.self.now c.args.other.now,
-      joined_built (link_joint c.args.link) c.args.self.now c.args.other.now c.link.new.self y z (c.in_ok-link.ensures _ (c.in_ok-copy-2.ensures.items _ (c.in_ok-copy.ensures.items [] c.new-builder.ensures))),
+      joined_built (link_joint c.args.link) c.args.self.now c.args.other.now c.link.new.self y z (c.in_ok-link.ensures.built _ (c.in_ok-copy-2.ensures.items _ (c.in_ok-copy.ensures.items [] c.new-builder.ensures))),
       joined_sound (link_joint c.args.link) c.args.self.now c.args.other.now c.requires c.nodes.ensures.sound c.nodes-2.ensures.sound y z few,
     )
 
@@ -53,4 +53,4 @@ returns-clause-value c =
     let y : nodes_of c.args.self.now ≢ 0 = λ x. grind (arith, nat_tests) in
     let z : nodes_of c.args.other.now ≢ 0 = λ x. grind (arith, nat_tests) in
     c.finish.ensures.value (joined_queries (link_joint c.args.link) c.args.self.now c.args.other.now)
-    (joined_built (link_joint c.args.link) c.args.self.now c.args.other.now c.link.new.self y z (c.in_ok-link.ensures _ (c.in_ok-copy-2.ensures.items _ (c.in_ok-copy.ensures.items [] c.new-builder.ensures))))
+    (joined_built (link_joint c.args.link) c.args.self.now c.args.other.now c.link.new.self y z (c.in_ok-link.ensures.built _ (c.in_ok-copy-2.ensures.items _ (c.in_ok-copy.ensures.items [] c.new-builder.ensures))))

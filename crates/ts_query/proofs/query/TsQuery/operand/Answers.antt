@@ -9,9 +9,9 @@ finish-requires c =
     let v = c.as_str-text.ensures.valid in
     let h : HasLexemeLength (operand c.in_ok-lexeme.lexeme c.args.weights c.args.prefix) =
     subst (λ l. HasLexemeLength (operand l c.args.weights c.args.prefix)) (sym c.in_ok-lexeme.ensures.cases) (c.as_str-text.ensures.valid.some, c.as_str-text.ensures.valid.most) in
-    (Some (leaf (operand c.in_ok-lexeme.lexeme c.args.weights c.args.prefix)), c.in_ok-leaf.ensures [] c.new-builder.ensures, leaf_sound (operand c.in_ok-lexeme.lexeme c.args.weights c.args.prefix) h)
+    (Some (leaf (operand c.in_ok-lexeme.lexeme c.args.weights c.args.prefix)), c.in_ok-leaf.ensures.built [] c.new-builder.ensures, leaf_sound (operand c.in_ok-lexeme.lexeme c.args.weights c.args.prefix) h)
 
 pub returns-clause-value : goal.returns-clause-value
 returns-clause-value c =
-    c.finish.ensures.value (Some (leaf (operand c.in_ok-lexeme.lexeme c.args.weights c.args.prefix))) (c.in_ok-leaf.ensures [] c.new-builder.ensures)
+    c.finish.ensures.value (Some (leaf (operand c.in_ok-lexeme.lexeme c.args.weights c.args.prefix))) (c.in_ok-leaf.ensures.built [] c.new-builder.ensures)
     ∙ ap (λ l. Some (leaf (operand l c.args.weights c.args.prefix))) c.in_ok-lexeme.ensures.cases
