@@ -10,7 +10,7 @@ use std::alloc::{AllocError, Global};
 use std::env;
 use std::rt::{Clock, Env};
 use std::time::Instant;
-use ts_match::{MatchWork, matches};
+use ts_match::{MatchWork, matches, matches_in};
 use ts_query::TsQuery;
 use ts_vector::{TsVector, VectorBytes};
 
@@ -162,6 +162,29 @@ fn count(query: &TsQuery, work: &mut MatchWork, documents: &[TsVector]) -> usize
     found
 }
 
+/// The documents of the spellings, each checked where it lies.
+fn check_each<'a>(alloc: Global, spellings: &'a [Vec<u8>]) -> Result<Vec<VectorBytes<'a>>> {
+    let mut documents = Vec::new(alloc);
+    for bytes in spellings {
+        documents.push(VectorBytes::new(bytes)?)?;
+    }
+    Ok(documents)
+}
+
+/// How many documents satisfy the query, each read where it lies.
+fn count_in(query: &TsQuery, work: &mut MatchWork, documents: &[VectorBytes]) -> usize
+    requires { work.old ≡ plan_of query.now }
+    ensures { result ≤ length documents.now }
+{
+    let mut found = 0;
+    for document in documents {
+        if matches_in(query, work, document) {
+            found += 1;
+        }
+    }
+    found
+}
+
 /// A word so many times, with `|` between two, in brackets.
 fn push_operands(text: &mut String, word: &str) -> Result<(), AllocError> {
     text.push('(')?;
@@ -244,6 +267,16 @@ fn print_each(rt: &impl Print, seconds: f64, timed: bool) -> Result<()> {
     Ok(())
 }
 
+/// Says how many bytes a second were read, if it is asked for.
+fn print_rate(rt: &impl Print, size: usize, seconds: f64, timed: bool) -> Result<()> {
+    if timed {
+        let bytes = u32::try_from(size).unwrap_or(u32::MAX);
+        let rate = f64::from(bytes) / seconds / 1_000_000.0;
+        println!(rt; "{rate:.1} MB a second")?;
+    }
+    Ok(())
+}
+
 /// Reads each document from its text.
 fn read_texts(rt: &(impl Print + Clock + AllocGlobal), timed: bool) -> Result<Vec<TsVector>> {
     let texts = make_texts(rt.alloc())?;
@@ -253,6 +286,7 @@ fn read_texts(rt: &(impl Print + Clock + AllocGlobal), timed: bool) -> Result<Ve
     let size = text_size(&texts);
     println!(rt; "{} texts of {size} bytes", documents.len())?;
     print_each(rt, seconds, timed)?;
+    print_rate(rt, size, seconds, timed)?;
     Ok(documents)
 }
 
@@ -277,17 +311,6 @@ fn check_spellings(rt: &(impl Print + Clock), spellings: &[Vec<u8>], timed: bool
     let size = spelled_size(spellings);
     println!(rt; "{lexemes} lexemes of {size} bytes checked where they lie")?;
     print_each(rt, seconds, timed)
-}
-
-/// Reads each document's spelling, decoded and where it lies.
-fn read_spellings(
-    rt: &(impl Print + Clock + AllocGlobal),
-    documents: &[TsVector],
-    timed: bool,
-) -> Result<()> {
-    let spellings = encode_all(rt.alloc(), documents)?;
-    decode_spellings(rt, &spellings, timed)?;
-    check_spellings(rt, &spellings, timed)
 }
 
 /// Matches each document against each query.
@@ -318,13 +341,41 @@ fn match_all(
     Ok(())
 }
 
+/// Matches each spelled document against each query, where it lies.
+fn match_spelled(
+    rt: &(impl Print + Clock + AllocGlobal),
+    spellings: &[Vec<u8>],
+    timed: bool,
+) -> Result<()> {
+    let alloc = rt.alloc();
+    let documents = check_each(alloc, spellings)?;
+    let mut seconds = 0.0;
+    let mut found: usize = 0;
+    for text in QUERIES {
+        let query = TsQuery::parse(alloc, text)?;
+        let mut work = MatchWork::new(alloc, &query)?;
+        let start = Instant::now(rt)?;
+        found = found.saturating_add(count_in(&query, &mut work, &documents));
+        seconds += start.elapsed(rt)?.as_secs_f64();
+    }
+    println!(rt; "{found} found where the documents lie")?;
+    if timed {
+        let matched = 20_000.0 / seconds;
+        println!(rt; "{matched:.0} a second")?;
+    }
+    Ok(())
+}
+
 /// The whole program.
 fn run(rt: &(impl Print + Env + Clock + AllocGlobal)) -> Result<()> {
     let alloc = rt.alloc();
     let timed = env::args(rt)?.skip(1).any(|word| word.as_str() == "time");
     let documents = read_texts(rt, timed)?;
-    read_spellings(rt, &documents, timed)?;
+    let spellings = encode_all(alloc, &documents)?;
+    decode_spellings(rt, &spellings, timed)?;
+    check_spellings(rt, &spellings, timed)?;
     match_all(rt, &documents, timed)?;
+    match_spelled(rt, &spellings, timed)?;
     let wide = wide_phrase(alloc)?;
     let odd = odd_document(alloc)?;
     match_one(

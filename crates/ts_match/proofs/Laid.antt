@@ -112,6 +112,12 @@ or_none false = refl
 pub any_one : {X : Type 0} (p : X → Bool) (xs : List X) (x : X) → list_any p (xs ++ x ∷ []) ≡ (list_any p xs || p x)
 any_one p xs x = list_any-append p xs (x ∷ []) ∙ ap (λ b. list_any p xs || b) (or_none (p x))
 
+-- between a place and itself there is nothing
+pub none_between : {X : Type 0} (b : Bool) (p : X → Bool) (xs : List X) (a : ℕ) → b ≡ (b || list_any p (slice_range xs a a))
+none_between b p xs a =
+    let e : a - a ≡ 0 = omega arith in
+    sym (ap (λ k. b || list_any p (take k (drop a xs))) e ∙ or_none b)
+
 -- the row that is alone on a stack
 pub record OneRow (count : ℕ) (f : ℕ → Bool) (rows : List Row) : Type 0 where
   pub row : Row

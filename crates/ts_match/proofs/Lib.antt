@@ -5,6 +5,8 @@ pub mod Searches
 pub mod Order
 pub mod Lexemes
 pub mod Lookups
+pub mod Walks
+pub mod Passes
 pub mod Stacks
 pub mod Words
 pub mod Plans

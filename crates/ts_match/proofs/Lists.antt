@@ -2,7 +2,7 @@
 use Rattle.std.proofs.Common.{◌≡◌, ◌≢◌, ℕ, zero, suc, get_or, ◌+◌, ◌-◌, ◌<◌, ◌≤◌, Bool, true, false, ◌&&◌, ◌||◌, List, [], ◌∷◌, length, take, drop, map, ◌⊎◌, inl, inr, refl, sym, ap, subst, ◌∙◌, arith}
 use Rattle.std.specs.Prelude.{Contains, All, filter}
 use Rattle.std.specs.List.{flat_map, list_any, list_all}
-use Rattle.std.proofs.lemmas.List.Elements.{Contains-append_left, Contains-append_right, Contains-append_cases, All-nil, All-head, All-tail, All-append, All-from_get_or}
+use Rattle.std.proofs.lemmas.List.Elements.{Contains-append_left, Contains-append_right, Contains-append_cases, Contains-get_or, All-nil, All-head, All-tail, All-append, All-from_get_or}
 use Rattle.std.proofs.lemmas.List.Folds.{list_any_none, list_any-append}
 use Rattle.std.proofs.lemmas.List.{get_or-take, get_or-drop, length-take, length-drop}
 use Rattle.ts_match.specs.Laws.Elements.{Contains-here, Contains-there, Contains-none, Contains-cases, passes_at}
@@ -85,6 +85,13 @@ pub none_in_part : {X : Type 0} (test : X → Bool) (xs : List X) (a b : ℕ) �
 none_in_part test xs a b w n = list_any_none test (take (b - a) (drop a xs)) (λ i d l.
     let h : i < b - a = subst (λ m. i < m) (part_length xs a b w) l in
     ap test (part_at xs a b i d h) ∙ n (a + i) d (omega arith) (omega arith))
+
+-- an element of a part
+pub in_part : {X : Type 0} (xs : List X) (a b k : ℕ) (d : X) → b ≤ length xs → a ≤ k → k < b → Contains (take (b - a) (drop a xs)) (get_or xs k d)
+in_part xs a b k d w l m =
+    let e : a + (k - a) ≡ k = omega arith in
+    let f : get_or (take (b - a) (drop a xs)) (k - a) d ≡ get_or xs k d = part_at xs a b (k - a) d (omega arith) ∙ ap (λ j. get_or xs j d) e in
+    subst (λ x. Contains (take (b - a) (drop a xs)) x) f (Contains-get_or (take (b - a) (drop a xs)) (k - a) d (let n = part_length xs a b w in omega arith))
 
 pub some_in_part : {X : Type 0} (test : X → Bool) (xs : List X) (a b k : ℕ) (d : X) → b ≤ length xs → a ≤ k → k < b → test (get_or xs k d) ≡ true → list_any test (take (b - a) (drop a xs)) ≡ true
 some_in_part test xs a b k d w l m h =

@@ -17,7 +17,7 @@ use Rattle.ts_match.specs.Laws.Elements.{from_map}
 use Rattle.ts_match.proofs.Order.{not_before_itself, prefix_first}
 use Rattle.ts_match.proofs.Searches.{here}
 
-false_from : (b : Bool) → (b ≡ true → ⊥) → b ≡ false
+pub false_from : (b : Bool) → (b ≡ true → ⊥) → b ≡ false
 false_from true n = absurd (n refl)
 false_from false n = refl
 

@@ -2,6 +2,8 @@
 pub mod Stacks
 pub mod Plan
 pub mod Found
+pub mod Pass
+pub mod Seen
 pub mod Rows
 pub mod Heights
 pub mod Phrases

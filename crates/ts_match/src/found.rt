@@ -7,7 +7,7 @@ ghost use Rattle.std.specs.Prelude.{nat_eq};
 ghost use Rattle.std.specs.declared.cmp.Ordering.TheVariants.{Less};
 ghost use Rattle.ts_base.specs.Lexemes.{IsBefore};
 ghost use Rattle.ts_base.specs.Vectors.{Entry, IsNormal};
-ghost use Rattle.ts_match.specs.Meaning.{asks_any, asks_for, fits as fits_weight, is_met};
+ghost use Rattle.ts_match.specs.Meaning.{asks_any, asks_for, fits as fits_weight, is_met, is_stripped as stripped_vector};
 ghost use Rattle.ts_match.specs.Inner.Found.{NamesRange, stands_at};
 
 use std::cmp::Ordering;
@@ -48,7 +48,7 @@ fn first_from(vector: &TsVector, lexeme: &Lexeme) -> usize
 }
 
 /// Whether a lexeme begins with the prefix.
-fn begins_with(lexeme: &str, prefix: &Lexeme) -> bool
+pub fn begins_with(lexeme: &str, prefix: &Lexeme) -> bool
     ensures { result ≡ starts_with nat_eq lexeme.now prefix.now }
 {
     let bytes = lexeme.as_bytes();
@@ -121,7 +121,7 @@ pub fn any_weight(weights: Weights) -> bool
 }
 
 /// Whether this weight is asked for.
-fn asked(weights: Weights, weight: Weight) -> bool
+pub fn asked(weights: Weights, weight: Weight) -> bool
     ensures { result ≡ asks_for weights weight }
 {
     match weight {
@@ -201,4 +201,32 @@ pub fn meets(vector: &TsVector, operand: &Operand, found: Found) -> bool
         }
     }
     false
+}
+
+/// Whether the vector has a lexeme, and none has a position.
+pub fn is_stripped(vector: &TsVector) -> bool
+    ensures stripped { result ≡ stripped_vector vector.now }
+    ensures normal { IsNormal vector.now }
+{
+    let count = vector.count();
+    if count == 0 {
+        return false;
+    }
+    for k in 0..count {
+        if !vector.positions(k).is_empty() {
+            return false;
+        }
+    }
+    true
+}
+
+/// How many positions the found lexemes have.
+pub fn count_positions(vector: &TsVector, found: Found) -> usize
+    requires { found.end ≤ length vector.now }
+{
+    let mut count: usize = 0;
+    for k in found.first..found.end {
+        count = count.saturating_add(vector.positions(k).len());
+    }
+    count
 }

@@ -1,6 +1,6 @@
 // Whether a phrase holds of a vector, by a row of places for each of its nodes.
 ghost use Rattle.std.specs.Prelude.{◌≡◌, ◌∷◌, [], ℕ, ◌+◌, ◌-◌, ◌*◌, ◌<◌, ◌≤◌, ◌==◌, ◌&&◌, ◌||◌, ◌↔◌, if◌then◌else◌, IsTrue, IfSome, All, AllPairs, Contains, length, reverse, slice_index_or, vec_len};
-ghost use Rattle.std.specs.List.{list_any};
+ghost use Rattle.std.specs.List.{list_any, slice_range};
 ghost use Rattle.ts_base.specs.Vectors.{Position as PlaceOf, Entry, IsNormal};
 ghost use Rattle.ts_query.specs.declared.query.Node.TheVariants.{Leaf};
 ghost use Rattle.ts_query.specs.Queries.{Tree};
@@ -54,7 +54,7 @@ fn last_position(positions: &[Position]) -> usize
 }
 
 /// The greatest position of the lexemes that were found.
-fn last_in(vector: &TsVector, found: Found) -> usize
+pub fn last_in(vector: &TsVector, found: Found) -> usize
     requires normal { IsNormal vector.now }
     requires within { found.end ≤ length vector.now }
     ensures each { (i : ℕ) (e : Entry) (p : PlaceOf) → found.first ≤ i → i < found.end
@@ -80,7 +80,7 @@ fn last_of(phrase: &Phrase, step: Step) -> usize
     ensures small { result ≤ LAST_POSITION }
 {
     match step.node {
-        Node::Leaf(k) => last_in(phrase.vector, phrase.found[k as usize]),
+        Node::Leaf(k) => phrase.vector.last_in(phrase.found[k as usize]),
         _ => 0,
     }
 }
@@ -102,7 +102,7 @@ fn last_place(phrase: &Phrase) -> usize
 }
 
 /// Lets a row be true also at a position, moved by `by`, if it has a fitting weight.
-fn set_position(row: &mut Row, count: usize, position: Position, weights: Weights, by: usize)
+pub fn set_position(row: &mut Row, count: usize, position: Position, weights: Weights, by: usize)
     requires wide { IsWide count row.old }
     requires near { by ≤ FARTHEST }
     requires within { position.at + by < WORD * count }
@@ -131,6 +131,32 @@ fn set_positions(row: &mut Row, count: usize, positions: &[Position], weights: W
     }
 }
 
+/// Lets a row be true also at each position of a fitting weight that the found entries have, moved by `by`.
+pub fn set_found(
+    row: &mut Row,
+    count: usize,
+    vector: &TsVector,
+    found: Found,
+    weights: Weights,
+    by: usize,
+)
+    requires wide { IsWide count row.old }
+    requires near { by ≤ FARTHEST }
+    requires order { found.first ≤ found.end }
+    requires end { found.end ≤ length vector.now }
+    requires within { (i : ℕ) (e : Entry) (p : PlaceOf) → found.first ≤ i → i < found.end
+        → Contains (slice_index_or vector.now i e).positions p → p.at + by < WORD * count }
+    ensures value { (j : ℕ) → row_value count row.new j
+        ≡ (row_value count row.old j || list_any (λ e. list_any (λ p. (j == p.at + by)
+        && fits_weight weights p.weight) e.positions) (slice_range vector.now found.first
+        found.end)) }
+    ensures len { vec_len row.new.words ≡ vec_len row.old.words }
+{
+    for i in found.first..found.end {
+        set_positions(row, count, vector.positions(i), weights, by);
+    }
+}
+
 /// Lets a row be true where the operand of this step stands, and nowhere else.
 fn lay(phrase: &Phrase, step: Step, k: u16, reach: usize, count: usize, row: &mut Row)
     requires normal { IsNormal phrase.now.vector.now }
@@ -148,9 +174,7 @@ fn lay(phrase: &Phrase, step: Step, k: u16, reach: usize, count: usize, row: &mu
     let found = phrase.found[k as usize];
     let by = reach - offset(step.place);
     clear(row, count);
-    for i in found.first..found.end {
-        set_positions(row, count, phrase.vector.positions(i), weights, by);
-    }
+    phrase.vector.set_found(row, count, found, weights, by);
 }
 
 /// Puts the row of an operand on the stack.

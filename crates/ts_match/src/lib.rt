@@ -8,8 +8,11 @@ mod keys;
 mod laws;
 mod layout;
 mod matching;
+mod pass;
 mod phrase;
 mod rows;
+mod seen;
+mod spelled;
 mod stack;
 mod work;
 
@@ -17,5 +20,5 @@ pub use class::{TextJudge, text_class};
 pub use judging::judge;
 pub use keys::{query_keys, vector_keys};
 pub use laws::{candidates_suffice, judges_well, needed_have};
-pub use matching::matches;
+pub use matching::{matches, matches_in};
 pub use work::MatchWork;

@@ -9,37 +9,30 @@ ghost use Rattle.ts_match.specs.declared.work.Place.TheVariants.{Within};
 ghost use Rattle.ts_match.specs.declared.work.Step.{Step as StepOf};
 ghost use Rattle.ts_match.specs.Inner.Plan.{next_of};
 ghost use Rattle.ts_match.specs.Inner.Heights.{SameRows, HasRows};
+ghost use Rattle.ts_match.specs.Inner.Pass.{AreBounds};
 ghost use Rattle.ts_match.specs.Inner.Phrases.{IsPhraseOf, IsStep, HasOperand, HasFound, StandsWithin, StandsOutside, IsUnitNode, operand_at};
 
-use crate::found::{Found, find, meets};
+use crate::found::Found;
 use crate::layout::holds_by_rows;
+use crate::pass::{Bounds, find_bounds, found_for};
 use crate::phrase::{Phrase, is_needed, phrase_holds};
 use crate::rows::Rows;
+use crate::seen::Seen;
 use crate::work::{MatchWork, Place, Step};
 use ts_query::{Node, Operand, TsQuery};
-use ts_vector::TsVector;
-
-/// Whether the vector has a lexeme, and none has a position.
-fn is_stripped(vector: &TsVector) -> bool
-    ensures stripped { result ≡ stripped_vector vector.now }
-    ensures normal { IsNormal vector.now }
-{
-    let count = vector.count();
-    if count == 0 {
-        return false;
-    }
-    for k in 0..count {
-        if !vector.positions(k).is_empty() {
-            return false;
-        }
-    }
-    true
-}
+use ts_vector::{TsVector, VectorBytes};
 
 /// Finds the lexemes of the operand of a leaf; false where there are none and the phrase needs one.
-fn find_leaf(vector: &TsVector, operands: &[Operand], step: Step, found: &mut Vec<Found>) -> bool
+fn find_leaf(
+    vector: &Seen,
+    operands: &[Operand],
+    bounds: &[Bounds],
+    step: Step,
+    found: &mut Vec<Found>,
+) -> bool
     requires room { length operands.now ≤ vec_len found.old }
     requires operand { HasOperand (length operands.now) step.node }
+    requires bounds { AreBounds vector.now operands.now bounds.now }
     ensures here { HasFound vector.now operands.now found.new.items step }
     ensures others { (s : StepOf) → HasFound vector.now operands.now found.old.items s
         → HasFound vector.now operands.now found.new.items s }
@@ -52,7 +45,7 @@ fn find_leaf(vector: &TsVector, operands: &[Operand], step: Step, found: &mut Ve
         return true;
     };
     let k = k as usize;
-    let range = find(vector, &operands[k]);
+    let range = found_for(vector, operands, bounds, k);
     found[k] = range;
     if range.first < range.end {
         return true;
@@ -62,12 +55,14 @@ fn find_leaf(vector: &TsVector, operands: &[Operand], step: Step, found: &mut Ve
 
 /// Finds the lexemes of the operands of a phrase; false where the phrase needs one that the vector lacks.
 fn find_leaves(
-    vector: &TsVector,
+    vector: &Seen,
     operands: &[Operand],
+    bounds: &[Bounds],
     steps: &[Step],
     found: &mut Vec<Found>,
 ) -> bool
     requires room { length operands.now ≤ vec_len found.old }
+    requires bounds { AreBounds vector.now operands.now bounds.now }
     requires steps { All (IsStep (length operands.now)) steps.now }
     ensures found { IsTrue result
         → All (HasFound vector.now operands.now found.new.items) steps.now }
@@ -76,7 +71,7 @@ fn find_leaves(
     ensures len { vec_len found.new ≡ vec_len found.old }
 {
     for step in steps {
-        if !find_leaf(vector, operands, *step, found) {
+        if !find_leaf(vector, operands, bounds, *step, found) {
             return false;
         }
     }
@@ -85,13 +80,15 @@ fn find_leaves(
 
 /// Whether a phrase holds of a vector, by its steps.
 fn phrase_value(
-    vector: &TsVector,
+    vector: &Seen,
     operands: &[Operand],
+    bounds: &[Bounds],
     steps: &[Step],
     found: &mut Vec<Found>,
     rows: &mut Rows,
     truths: &mut Vec<bool>,
 ) -> bool
+    requires bounds { AreBounds vector.now operands.now bounds.now }
     requires found { length operands.now ≤ vec_len found.old }
     requires steps { All (IsStep (length operands.now)) steps.now }
     requires truths { length steps.now ≤ vec_capacity truths.old }
@@ -104,10 +101,10 @@ fn phrase_value(
     ensures found { vec_len found.new ≡ vec_len found.old }
     ensures truths { vec_capacity truths.new ≡ vec_capacity truths.old }
 {
-    if is_stripped(vector) {
+    if vector.is_stripped() {
         return false;
     }
-    if !find_leaves(vector, operands, steps, found) {
+    if !find_leaves(vector, operands, bounds, steps, found) {
         return false;
     }
     let phrase = Phrase {
@@ -124,14 +121,16 @@ fn phrase_value(
 
 /// Whether the vector satisfies the part of a query whose steps these are: an operand outside phrases, or a phrase.
 fn unit_value(
-    vector: &TsVector,
+    vector: &Seen,
     operands: &[Operand],
+    bounds: &[Bounds],
     steps: &[Step],
     node: Node,
     found: &mut Vec<Found>,
     rows: &mut Rows,
     truths: &mut Vec<bool>,
 ) -> bool
+    requires bounds { AreBounds vector.now operands.now bounds.now }
     requires kind { IsUnitNode node }
     requires operand { HasOperand (length operands.now) node }
     requires found { length operands.now ≤ vec_len found.old }
@@ -151,10 +150,11 @@ fn unit_value(
 {
     match node {
         Node::Leaf(k) => {
-            let operand = &operands[k as usize];
-            meets(vector, operand, find(vector, operand))
+            let k = k as usize;
+            let range = found_for(vector, operands, bounds, k);
+            vector.meets(&operands[k], range)
         }
-        Node::Phrase(_) => phrase_value(vector, operands, steps, found, rows, truths),
+        Node::Phrase(_) => phrase_value(vector, operands, bounds, steps, found, rows, truths),
         _ => unreachable!(),
     }
 }
@@ -193,12 +193,14 @@ fn next_step(place: Place, value: bool) -> usize
 fn evaluate(
     query: &TsQuery,
     steps: &[Step],
-    vector: &TsVector,
+    vector: &Seen,
+    bounds: &[Bounds],
     found: &mut Vec<Found>,
     rows: &mut Rows,
     truths: &mut Vec<bool>,
 ) -> bool
     requires plan { steps.now ≡ plan_of query.now }
+    requires bounds { AreBounds vector.now (operands_of query.now) bounds.now }
     requires found { length steps.now ≤ vec_len found.old }
     requires truths { length steps.now ≤ vec_capacity truths.old }
     requires rows { HasRows steps.now rows.old.stack.items rows.old.spare.items }
@@ -217,7 +219,9 @@ fn evaluate(
         let end = end_of_unit(steps, from);
         let step = steps[end];
         let unit = &steps[from..end + 1];
-        let value = unit_value(vector, operands, unit, step.node, found, rows, truths);
+        let value = unit_value(
+            vector, operands, bounds, unit, step.node, found, rows, truths,
+        );
         from = next_step(step.place, value);
     }
     from == steps.len()
@@ -232,7 +236,27 @@ pub fn matches(query: &TsQuery, work: &mut MatchWork, vector: &TsVector) -> bool
     evaluate(
         query,
         &work.steps,
-        vector,
+        &Seen::listed(vector),
+        &[],
+        &mut work.found,
+        &mut work.rows,
+        &mut work.truths,
+    )
+}
+
+/// Whether the vector with this spelling satisfies the query, by work that was made for the query.
+/// The spelling is read where it lies, and no memory is taken.
+pub fn matches_in(query: &TsQuery, work: &mut MatchWork, vector: &VectorBytes) -> bool
+    requires { work.old ≡ plan_of query.now }
+    ensures meaning { IsTrue result ↔ Holds query.now vector.now }
+    ensures work { work.new ≡ work.old }
+{
+    find_bounds(vector, query.operands(), &work.marks, &mut work.bounds);
+    evaluate(
+        query,
+        &work.steps,
+        &Seen::spelled(vector),
+        work.bounds.as_slice(),
         &mut work.found,
         &mut work.rows,
         &mut work.truths,

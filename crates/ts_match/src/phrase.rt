@@ -8,18 +8,19 @@ ghost use Rattle.ts_match.specs.declared.work.Place.TheVariants.{Within};
 ghost use Rattle.ts_match.specs.Inner.Plan.{offset_of, needs};
 ghost use Rattle.ts_match.specs.Inner.Phrases.{IsPhraseOf, IsStep, IsPrepared, IsNeeded, HasFound, HoldsWith, place_from, leaf_value, truth_step};
 
-use crate::found::{FARTHEST, Found, stands};
+use crate::found::{FARTHEST, Found};
+use crate::seen::{Kind, Seen};
 use crate::stack::{put, take_top};
 use crate::work::{Place as StepPlace, Step};
 use ts_base::Position;
 use ts_query::{Node, Operand};
-use ts_vector::TsVector;
+use ts_vector::{Places, TsVector};
 
 /// A phrase, and what its operands find in a vector.
 #[derive(Drop)]
 pub struct Phrase<'a> {
     /// The vector.
-    pub vector: &'a TsVector,
+    pub vector: &'a Seen<'a>,
     /// The operands of the query.
     pub operands: &'a [Operand],
     /// What is found for each of them that the phrase has.
@@ -78,7 +79,9 @@ fn leaf_at(phrase: &Phrase, step: Step, from: usize) -> bool
         Node::Leaf(k) => {
             let k = k as usize;
             let sum = from + offset(step.place);
-            stands(phrase.vector, &phrase.operands[k], phrase.found[k], sum)
+            phrase
+                .vector
+                .stands(&phrase.operands[k], phrase.found[k], sum)
         }
         _ => false,
     }
@@ -130,6 +133,59 @@ fn holds_with_any(
     false
 }
 
+/// Whether the phrase holds where an operand of this offset stands at one of the positions of a spelling.
+fn holds_with_places(phrase: &Phrase, stack: &mut Vec<bool>, places: Places, offset: usize) -> bool
+    requires ready { IsPrepared phrase.now.vector.now phrase.now.operands.now phrase.now.found.now
+        phrase.now.steps.now }
+    requires room { length phrase.now.steps.now ≤ vec_capacity stack.old }
+    requires near { offset ≤ FARTHEST }
+    ensures sound { (t : Tree) → IsPhraseOf phrase.now.operands.now phrase.now.steps.now t
+        → IsTrue result → HoldsSomewhere phrase.now.vector.now t }
+    ensures whole { (t : Tree) (p : Place)
+        → IsPhraseOf phrase.now.operands.now phrase.now.steps.now t → Contains places.entry p
+        → IsTrue (at phrase.now.vector.now t (place_from t (p.at + FARTHEST - offset)))
+        → IsTrue result }
+    ensures capacity { vec_capacity stack.new ≡ vec_capacity stack.old }
+{
+    for position in places {
+        let beginning = position.at() as usize + FARTHEST - offset;
+        if holds_at(phrase, stack, beginning) {
+            return true;
+        }
+    }
+    false
+}
+
+/// Whether the phrase holds where an operand of this offset stands at a position of what it found in a vector in memory.
+fn holds_in_lists(
+    phrase: &Phrase,
+    stack: &mut Vec<bool>,
+    vector: &TsVector,
+    found: Found,
+    offset: usize,
+) -> bool
+    requires ready { IsPrepared phrase.now.vector.now phrase.now.operands.now phrase.now.found.now
+        phrase.now.steps.now }
+    requires room { length phrase.now.steps.now ≤ vec_capacity stack.old }
+    requires near { offset ≤ FARTHEST }
+    requires within { found.end ≤ length vector.now }
+    ensures sound { (t : Tree) → IsPhraseOf phrase.now.operands.now phrase.now.steps.now t
+        → IsTrue result → HoldsSomewhere phrase.now.vector.now t }
+    ensures whole { (t : Tree) (k : ℕ) (e : Entry) (p : Place)
+        → IsPhraseOf phrase.now.operands.now phrase.now.steps.now t → found.first ≤ k
+        → k < found.end → Contains (slice_index_or vector.now k e).positions p
+        → IsTrue (at phrase.now.vector.now t (place_from t (p.at + FARTHEST - offset)))
+        → IsTrue result }
+    ensures capacity { vec_capacity stack.new ≡ vec_capacity stack.old }
+{
+    for k in found.first..found.end {
+        if holds_with_any(phrase, stack, vector.positions(k), offset) {
+            return true;
+        }
+    }
+    false
+}
+
 /// Whether the phrase holds where an operand of this offset stands at a position of what it found.
 fn holds_in(phrase: &Phrase, stack: &mut Vec<bool>, found: Found, offset: usize) -> bool
     requires ready { IsPrepared phrase.now.vector.now phrase.now.operands.now phrase.now.found.now
@@ -147,12 +203,13 @@ fn holds_in(phrase: &Phrase, stack: &mut Vec<bool>, found: Found, offset: usize)
         → IsTrue result }
     ensures capacity { vec_capacity stack.new ≡ vec_capacity stack.old }
 {
-    for k in found.first..found.end {
-        if holds_with_any(phrase, stack, phrase.vector.positions(k), offset) {
-            return true;
+    match phrase.vector.kind() {
+        Kind::Listed(vector) => holds_in_lists(phrase, stack, vector, found, offset),
+        Kind::Spelled(vector) => {
+            let places = vector.places(found.first, found.end);
+            holds_with_places(phrase, stack, places, offset)
         }
     }
-    false
 }
 
 /// Whether the phrase holds where the operand of this step stands at one of its positions.
@@ -198,17 +255,6 @@ pub fn is_needed(step: Step) -> bool
     }
 }
 
-/// How many positions the found lexemes have.
-fn count_positions(vector: &TsVector, found: Found) -> usize
-    requires { found.end ≤ length vector.now }
-{
-    let mut count: usize = 0;
-    for k in found.first..found.end {
-        count = count.saturating_add(vector.positions(k).len());
-    }
-    count
-}
-
 /// Of the operands that the phrase needs, the leaf of the one with the fewest positions.
 fn rarest(phrase: &Phrase) -> Option<Step>
     requires { IsPrepared phrase.now.vector.now phrase.now.operands.now phrase.now.found.now
@@ -219,7 +265,7 @@ fn rarest(phrase: &Phrase) -> Option<Step>
     let mut least = usize::MAX;
     for step in phrase.steps {
         if let Some(k) = needed_operand(*step) {
-            let count = count_positions(phrase.vector, phrase.found[k as usize]);
+            let count = phrase.vector.count_positions(phrase.found[k as usize]);
             if count <= least {
                 best = Some(*step);
                 least = count;

@@ -7,6 +7,7 @@ ghost use Rattle.ts_match.specs.Plan.{plan_of, under_not, right_place};
 ghost use Rattle.ts_match.specs.Inner.Plan.{left_widths_of, left_width, measured, distance, spread_on, left_due, due_place, offset_of};
 
 use crate::found::Found;
+use crate::pass::{Bounds, Mark, UNKNOWN, make_marks};
 use crate::rows::{Rows, make_rows};
 use crate::stack::{put, take_top};
 use std::alloc::{AllocError, Global};
@@ -239,6 +240,8 @@ fn lay_out(alloc: Global, query: &TsQuery, widths: &[u32]) -> Result<Vec<Step>, 
 #[derive(Debug, Drop)]
 pub struct MatchWork {
     pub(crate) steps: Vec<Step>,
+    pub(crate) marks: Vec<Mark>,
+    pub(crate) bounds: Vec<Bounds>,
     pub(crate) found: Vec<Found>,
     pub(crate) rows: Rows,
     pub(crate) truths: Vec<bool>,
@@ -260,7 +263,7 @@ impl Model for MatchWork {
 }
 
 impl MatchWork {
-    /// Stacks that are large enough for the query, and a row of places for each level of its phrases.
+    /// Stacks that are large enough for the query, a row of places for each level of its phrases, and its operands in the order of a walk.
     pub fn new(alloc: Global, query: &TsQuery) -> Result<MatchWork, AllocError>
         ensures { IfOk result (λ work. work ≡ plan_of query.now) }
     {
@@ -268,7 +271,10 @@ impl MatchWork {
         let steps = lay_out(alloc, query, &widths)?;
         let room = steps.len();
         let none = Found { first: 0, end: 0 };
+        let operands = query.operands();
         Ok(MatchWork {
+            marks: make_marks(alloc, operands)?,
+            bounds: vec![in alloc; UNKNOWN; operands.len()]?,
             found: vec![in alloc; none; room]?,
             rows: make_rows(alloc, &steps)?,
             truths: Vec::with_capacity(alloc, room)?,

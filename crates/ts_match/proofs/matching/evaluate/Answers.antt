@@ -10,6 +10,7 @@ use Rattle.ts_match.specs.declared.work.Step.{Step}
 use Rattle.ts_match.specs.Meaning.{Holds}
 use Rattle.ts_match.specs.Plan.{plan_of}
 use Rattle.ts_match.specs.Inner.Phrases.{IsStep}
+use Rattle.ts_match.specs.Inner.Pass.{AreBounds}
 use Rattle.ts_match.proofs.PlanSteps.{ready_steps}
 use Rattle.ts_match.proofs.Plans.{count_plan, length-plan_of}
 use Rattle.ts_match.proofs.Heights.{rows_of_part}
@@ -108,3 +109,6 @@ unit_value-value-requires-clause-rows c = rows_of_part c.args.steps.now _ _ _ _ 
 
 pub returns-then-is_empty-clause-rows : goal.returns-then-is_empty-clause-rows
 returns-then-is_empty-clause-rows c = same_refl _ _
+
+pub unit_value-value-requires-clause-bounds : goal.unit_value-value-requires-clause-bounds
+unit_value-value-requires-clause-bounds c = subst (λ (os : List Operand). AreBounds c.args.vector.now os c.args.bounds.now) (sym c.operands-operands.ensures.value) c.requires.bounds

@@ -1,25 +1,23 @@
-use Rattle.std.proofs.Common.{◌≡◌, Bool, true, false, List, get_or, inl, inr, refl, sym, subst, ◌∙◌, arith}
+use Rattle.std.proofs.Common.{◌≡◌, ◌≤◌, List, length, get_or, sym, ap, subst, ◌∙◌}
 use Rattle.std.specs.Prelude.{Contains}
-use Rattle.std.proofs.lemmas.Bool.{cases_lt, both_ways}
-use Rattle.ts_base.specs.Vectors.{Position}
+use Rattle.ts_base.specs.Vectors.{Position, Vector}
+use Rattle.ts_match.specs.Inner.Seen.{entries_of}
+use Rattle.ts_match.proofs.Walks.{positions_in, into_positions}
 use Rattle.ts_match.proofs.phrase.holds_in.Goals as goal
 
-false_from : (b : Bool) → (b ≡ true → false ≡ true) → b ≡ false
-false_from true n = sym (n refl)
-false_from false n = refl
+pub holds_in_lists-requires-clause-within : goal.holds_in_lists-requires-clause-within
+holds_in_lists-requires-clause-within c =
+    let same : c.in-Listed.vector.now ≡ c.args.phrase.now.vector.now = ap entries_of (sym c.in-Listed.is) ∙ c.kind.ensures in
+    subst (λ (v : Vector). c.args.found.end ≤ length v) (sym same) c.requires.within
 
-pub loop-k-preserved : goal.loop-k-preserved
-loop-k-preserved c = record {
-  none = λ t j e p ph l m h. elim (cases_lt j c.loop-k.k) [
-    | inl q ↦ c.loop-k.invariant.none t j e p ph l q h
-    | inr q ↦
-        let same : j ≡ c.loop-k.k = omega arith in
-        let here : Contains (get_or c.args.phrase.now.vector.now c.loop-k.k e).positions p = subst (λ i. Contains (get_or c.args.phrase.now.vector.now i e).positions p) same h in
-        let there : Contains c.positions.result.now p = subst (λ (ps : List Position). Contains ps p) (sym (c.positions.ensures e)) here in
-        false_from _ (λ a. sym c.if-holds_with_any.false ∙ c.holds_with_any.ensures.whole t p ph there a)
-  ];
-  capacity = c.holds_with_any.ensures.capacity ∙ c.loop-k.invariant.capacity;
-}
+pub returns-in-Listed-clause-whole : goal.returns-in-Listed-clause-whole
+returns-in-Listed-clause-whole c t k e p ph l m h a =
+    let same : c.in-Listed.vector.now ≡ c.args.phrase.now.vector.now = ap entries_of (sym c.in-Listed.is) ∙ c.kind.ensures in
+    c.holds_in_lists.ensures.whole t k e p ph l m (subst (λ (v : Vector). Contains (get_or v k e).positions p) (sym same) h) a
 
-pub returns-clause-whole : goal.returns-clause-whole
-returns-clause-whole c t k e p ph l m h a = absurd (both_ways _ (c.loop-k.invariant.none t k e p ph l (omega arith) h) a)
+pub returns-in-Spelled-clause-whole : goal.returns-in-Spelled-clause-whole
+returns-in-Spelled-clause-whole c t k e p ph l m h a =
+    let same : c.in-Spelled.vector.now ≡ c.args.phrase.now.vector.now = ap entries_of (sym c.in-Spelled.is) ∙ c.kind.ensures in
+    let places = c.places-places.ensures ∙ ap (λ (v : Vector). positions_in v c.args.found.first c.args.found.end) same in
+    c.holds_with_places.ensures.whole t p ph
+    (subst (λ (ps : List Position). Contains ps p) (sym places) (into_positions c.args.phrase.now.vector.now c.args.found.first c.args.found.end k e p c.requires.within l m h)) a

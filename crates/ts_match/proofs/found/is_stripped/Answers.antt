@@ -4,7 +4,7 @@ use Rattle.std.proofs.lemmas.Bool.{lt-ltb, eq-eqb, and_right, and_from}
 use Rattle.ts_base.specs.Vectors.{Position, Entry}
 use Rattle.ts_match.proofs.Lists.{all_pass, one_fails}
 use Rattle.ts_match.proofs.Lookups.{nothing}
-use Rattle.ts_match.proofs.matching.is_stripped.Goals as goal
+use Rattle.ts_match.proofs.found.is_stripped.Goals as goal
 
 abbrev bare : Entry → Bool
 bare e = eqb (length e.positions) 0

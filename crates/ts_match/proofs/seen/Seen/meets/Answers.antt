@@ -1,0 +1,26 @@
+use Rattle.std.proofs.Common.{◌≡◌, sym, ap, subst, ◌∙◌}
+use Rattle.ts_base.specs.Vectors.{Vector}
+use Rattle.ts_match.specs.Meaning.{is_met}
+use Rattle.ts_match.specs.Inner.Found.{NamesRange}
+use Rattle.ts_match.specs.Inner.Seen.{entries_of}
+use Rattle.ts_match.proofs.seen.Seen.meets.Goals as goal
+
+pub meets-requires : goal.meets-requires
+meets-requires c =
+    let same : c.in-Listed.vector.now ≡ c.args.self.now = ap entries_of (sym c.in-Listed.is) ∙ c.self.view_is in
+    subst (λ (v : Vector). NamesRange v c.args.operand.now c.args.found) (sym same) c.requires
+
+pub meets-requires-in-Spelled : goal.meets-requires-in-Spelled
+meets-requires-in-Spelled c =
+    let same : c.in-Spelled.vector.now ≡ c.args.self.now = ap entries_of (sym c.in-Spelled.is) ∙ c.self.view_is in
+    subst (λ (v : Vector). NamesRange v c.args.operand.now c.args.found) (sym same) c.requires
+
+pub returns-in-Listed : goal.returns-in-Listed
+returns-in-Listed c =
+    let same : c.in-Listed.vector.now ≡ c.args.self.now = ap entries_of (sym c.in-Listed.is) ∙ c.self.view_is in
+    c.meets.ensures ∙ ap (is_met c.args.operand.now) same
+
+pub returns-in-Spelled : goal.returns-in-Spelled
+returns-in-Spelled c =
+    let same : c.in-Spelled.vector.now ≡ c.args.self.now = ap entries_of (sym c.in-Spelled.is) ∙ c.self.view_is in
+    c.meets-in-Spelled.ensures ∙ ap (is_met c.args.operand.now) same
