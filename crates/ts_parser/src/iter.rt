@@ -109,6 +109,18 @@ impl<'a> Tokens<'a> {
             groups_end: 0,
         }
     }
+
+    /// The same tokens once more, to look ahead.
+    pub fn again(&self) -> Tokens<'a>
+        ensures { result ≡ self.now }
+    {
+        Tokens {
+            text: self.text,
+            part: self.part,
+            at: self.at,
+            groups_end: self.groups_end,
+        }
+    }
 }
 
 impl<'a> Iterator for Tokens<'a> {
