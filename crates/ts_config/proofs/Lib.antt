@@ -1,4 +1,10 @@
 pub mod Mappings
+pub mod Seen
+pub mod Whole
+pub mod Looking
+pub mod Replacing
+pub mod Parts
+pub mod Alone
 pub mod Placing
 pub mod Within
 pub mod Names

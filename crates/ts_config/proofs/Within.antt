@@ -1,12 +1,15 @@
 -- Mappings that have places of dictionaries alone.
-use Rattle.std.proofs.Common.{◌≡◌, ℕ, ◌<◌, ◌≤◌, List, [], ◌∷◌, Bool, true, false, cond, length, refl, sym, subst, arith}
+use Rattle.std.proofs.Common.{◌≡◌, ℕ, ◌<◌, ◌≤◌, List, [], ◌∷◌, Bool, true, false, cond, length, replicate, refl, sym, subst, arith}
 use Rattle.std.specs.Prelude.{All, Some, None, position, bytes_eq, nat_lt}
 use Rattle.std.specs.List.{position_or_len}
 use Rattle.std.proofs.lemmas.Bool.Decides.{nat_tests}
 use Rattle.std.proofs.lemmas.List.Elements.{All-nil, All-cons, All-set, All-weaker, All-replicate}
 use Rattle.ts_parser.specs.declared.kinds.TokenType.{TokenType}
 use Rattle.ts_config.specs.Mappings.{Mapping, type_place, empty_mapping, with_list, mapped}
-use Rattle.ts_config.specs.Known.{Known, IsWithin, ArePlaces, place_of}
+use Rattle.ts_config.specs.Known.{NamedRules, NamedMapping, Known, first_known, IsWithin, ArePlaces, place_of}
+use Rattle.ts_config.specs.Inner.Entries.{AllWithin}
+use Rattle.ts_config.specs.declared.TheConstants.{TYPES}
+use Rattle.ts_parser.specs.declared.kinds.TokenType.TheVariants.{Blank}
 
 abbrev AreBelow : ℕ → List ℕ → Type 0
 AreBelow n places = All (λ p. p < n) places
@@ -41,3 +44,12 @@ places_within known (n ∷ ns) places (p, ps, e, f, h) =
 -- one dictionary more leaves the places good
 pub within_more : (m n : ℕ) (mapping : Mapping) → m ≤ n → All (AreBelow m) mapping → All (AreBelow n) mapping
 within_more m n mapping le h = All-weaker (AreBelow m) (AreBelow n) (λ places k. All-weaker (λ p. p < m) (λ p. p < n) (λ p l. omega (arith, l, le)) places k) mapping h
+
+-- the configuration that is there from the start has the dictionary that is
+pub within_first : (ds : List NamedRules) (cs : List NamedMapping) → ds ≡ first_known.dictionaries → cs ≡ first_known.configurations → AllWithin (record { dictionaries = ds; configurations = cs })
+within_first ds cs e f =
+    let one : AreBelow 1 (0 ∷ []) = All-cons (λ p. p < 1) 0 [] (omega arith) (All-nil (λ p. p < 1)) in
+    let within = within_list first_known (replicate TYPES (0 ∷ [])) Blank [] (All-replicate (AreBelow 1) 15 (0 ∷ []) one) (All-nil (λ p. p < 1)) in
+    let all : AllWithin first_known = All-cons (λ c. IsWithin first_known c.mapping) _ [] within (All-nil (λ c. IsWithin first_known c.mapping)) in
+    let over : AllWithin (record { dictionaries = ds; configurations = first_known.configurations }) = subst (λ l. AllWithin (record { dictionaries = l; configurations = first_known.configurations })) (sym e) all in
+    subst (λ l. AllWithin (record { dictionaries = ds; configurations = l })) (sym f) over

@@ -30,6 +30,10 @@ first_answer known (p ∷ ps) word = or_answer (answer_at known p word) (first_a
 abbrev pub word_of : List ℕ → Token → List ℕ
 word_of text t = take t.length (drop t.start text)
 
--- A token of more bytes than a lexeme may have isn't shown to any dictionary.
+-- the dictionaries that are asked for a token: those of its type, but none where it is longer than a lexeme
+abbrev pub asked_for : Mapping → Token → List ℕ
+asked_for mapping t = if nat_lt LONGEST_LEXEME t.length then [] else list_for mapping t.kind
+
+-- what a token is answered where no thesaurus is asked
 abbrev pub token_answer : Known → Mapping → List ℕ → Token → WordAnswer
-token_answer known mapping text t = if nat_lt LONGEST_LEXEME t.length then unknown_word else first_answer known (list_for mapping t.kind) (word_of text t)
+token_answer known mapping text t = first_answer known (asked_for mapping t) (word_of text t)

@@ -1,2 +1,3 @@
 pub mod Entries
+pub mod Looking
 pub mod Positions

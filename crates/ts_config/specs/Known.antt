@@ -1,11 +1,11 @@
 -- What is defined: dictionaries and configurations by name, each in the order of their definitions.
-use Rattle.std.specs.Prelude.{◌≡◌, ℕ, ◌<◌, List, [], ◌∷◌, ◌++◌, length, true, if◌then◌else◌, bytes_eq, codes, position, Option, Some, All}
+use Rattle.std.specs.Prelude.{◌≡◌, ℕ, ◌<◌, List, [], ◌∷◌, ◌++◌, length, true, if◌then◌else◌, bytes_eq, codes, position, Option, Some, None, All}
 use Rattle.std.specs.List.{Any, find}
 use Rattle.std.specs.Option.{option_map}
 use Rattle.ts_parser.specs.declared.kinds.TokenType.{TokenType}
 use Rattle.ts_config.specs.declared.error.ConfigError.{ConfigError}
 use Rattle.ts_config.specs.declared.error.ConfigError.TheVariants.{UnknownDictionary, DuplicateName, OutOfMemory}
-use Rattle.ts_config.specs.Rules.{Rules, simple_rules}
+use Rattle.ts_config.specs.Rules.{Rules, simple_rules, synonym_rules, porter_rules, thesaurus_rules, is_thesaurus}
 use Rattle.ts_config.specs.Mappings.{Mapping, with_list, simple_mapping}
 
 pub record NamedRules : Type 0 where
@@ -49,6 +49,22 @@ abbrev pub ArePlaces : Known → List (List ℕ) → List ℕ → Type 0
 ArePlaces known [] places = places ≡ []
 ArePlaces known (n ∷ ns) places = (p : ℕ) × (ps : List ℕ) × (places ≡ p ∷ ps) × (place_of known n ≡ Some p) × ArePlaces known ns ps
 
+-- these rules, where they are no thesaurus's
+abbrev pub no_thesaurus : Option Rules → Option Rules
+no_thesaurus None = None
+no_thesaurus (Some rules) = if is_thesaurus rules then None else Some rules
+
+-- the rules of the dictionary of this name, where it may be a subdictionary: it is there, and is no thesaurus
+abbrev pub sub_named : Known → List ℕ → Option Rules
+sub_named known name = no_thesaurus (rules_named known name)
+
+-- these rules are of a thesaurus whose subdictionary isn't there, or is a thesaurus
+abbrev pub LacksSub : Known → Rules → Type 0
+LacksSub known (thesaurus_rules rules sub) = sub_named known sub ≡ None
+LacksSub known (simple_rules stops accept) = ⊥
+LacksSub known (synonym_rules kept) = ⊥
+LacksSub known (porter_rules stops) = ⊥
+
 -- each place that the mapping has is a dictionary's
 abbrev pub IsWithin : Known → Mapping → Type 0
 IsWithin known mapping = All (All (λ p. p < length known.dictionaries)) mapping
@@ -73,6 +89,7 @@ remapped name kind places (c ∷ cs) =
     if bytes_eq name c.name then record { name = c.name; mapping = with_list c.mapping kind places } ∷ cs else c ∷ remapped name kind places cs
 
 pub record AddsDictionary (old : Known) (name : List ℕ) (rules : Rules) (new : Known) : Type 0 where
+  pub sub : ¬ LacksSub old rules
   pub free : ¬ HasDictionary old name
   pub value : new ≡ with_dictionary old name rules
 
@@ -87,10 +104,10 @@ pub record AddsMapping (old : Known) (name : List ℕ) (kind : TokenType) (names
 
 -- ── refusals ──
 -- why a dictionary, a configuration or a mapping is refused; want of memory is no fault of theirs
-abbrev pub RefusesDictionary : Known → List ℕ → ConfigError → Type 0
-RefusesDictionary known name UnknownDictionary = ⊥
-RefusesDictionary known name DuplicateName = HasDictionary known name
-RefusesDictionary known name OutOfMemory = Unit {0}
+abbrev pub RefusesDictionary : Known → List ℕ → Rules → ConfigError → Type 0
+RefusesDictionary known name rules UnknownDictionary = LacksSub known rules
+RefusesDictionary known name rules DuplicateName = (¬ LacksSub known rules) × HasDictionary known name
+RefusesDictionary known name rules OutOfMemory = Unit {0}
 
 abbrev pub RefusesConfiguration : Known → List ℕ → ConfigError → Type 0
 RefusesConfiguration known name UnknownDictionary = ⊥

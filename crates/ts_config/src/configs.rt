@@ -1,12 +1,11 @@
 // Dictionaries and configurations by name.
-ghost use Rattle.std.specs.Prelude.{◌≡◌, ◌<◌, ◌≤◌, ◌↔◌, length, map, IfOk, IfErr, OnOk, IfSome, IsSome, MatchOption, option_copied, string_bytes};
+ghost use Rattle.std.specs.Prelude.{◌≡◌, ◌<◌, ◌≤◌, ◌↔◌, length, map, IfOk, IfErr, OnOk, IfSome, IsSome, IsTrue, MatchOption, option_copied, slice_get, string_bytes};
 ghost use Rattle.std.specs.List.{Any};
 ghost use Rattle.std.specs.Option.{option_map};
-ghost use Rattle.ts_base.specs.Dictionary.{answer_value};
-ghost use Rattle.ts_config.specs.Answers.{answer_at as dictionary_answer};
 ghost use Rattle.ts_config.specs.Rules.{rules_of};
 ghost use Rattle.ts_config.specs.Mappings.{empty_mapping};
-ghost use Rattle.ts_config.specs.Known.{first_known, HasDictionary, HasConfiguration, place_of, rules_named, mapping_named, ArePlaces, IsWithin, AddsDictionary, AddsConfiguration, AddsMapping, RefusesDictionary, RefusesConfiguration, RefusesMapping};
+ghost use Rattle.ts_config.specs.Inner.Entries.{named_rules, named_mapping};
+ghost use Rattle.ts_config.specs.Known.{first_known, HasDictionary, HasConfiguration, LacksSub, place_of, sub_named, rules_named, mapping_named, ArePlaces, IsWithin, AddsDictionary, AddsConfiguration, AddsMapping, RefusesDictionary, RefusesConfiguration, RefusesMapping};
 
 use crate::config::Config;
 use crate::dictionaries::AnyDictionary;
@@ -14,7 +13,6 @@ use crate::error::ConfigError;
 use indexmap::IndexMap;
 use std::alloc::{AllocError, Global};
 use std::marker::Model;
-use ts_base::{Answer, Dictionary, LONGEST_LEXEME};
 use ts_parser::TokenType;
 use ts_words::{Simple, StopList};
 
@@ -60,21 +58,37 @@ impl Model for Configs {
     ghost invariant = { λ c. AllWithin (known_of c) };
 }
 
+/// The dictionary `simple` alone.
+fn first_dictionaries(alloc: Global) -> Result<IndexMap<String, AnyDictionary>, AllocError>
+    ensures { IfOk result (λ all. map named_rules all.entries ≡ first_known.dictionaries) }
+{
+    let mut dictionaries = IndexMap::new(alloc);
+    let simple = Simple::new(StopList::new(alloc), true);
+    let name = String::from_str(alloc, SIMPLE)?;
+    dictionaries.insert(name, AnyDictionary::Simple(simple))?;
+    Ok(dictionaries)
+}
+
+/// The configuration `simple` alone.
+fn first_configurations(alloc: Global) -> Result<IndexMap<String, Config>, AllocError>
+    ensures { IfOk result (λ all. map named_mapping all.entries ≡ first_known.configurations) }
+{
+    let mut config = Config::empty(alloc)?;
+    config.map(alloc, &WORD_TYPES, &[0])?;
+    let mut configurations = IndexMap::new(alloc);
+    let name = String::from_str(alloc, SIMPLE)?;
+    configurations.insert(name, config)?;
+    Ok(configurations)
+}
+
 impl Configs {
     /// The dictionary and the configuration `simple`: it gives each word in lower case, and has no stop
     /// words; the configuration has it for every type but blank.
     pub fn new(alloc: Global) -> Result<Configs, AllocError>
         ensures { IfOk result (λ configs. configs ≡ first_known) }
     {
-        let mut dictionaries = IndexMap::new(alloc);
-        let simple = Simple::new(StopList::new(alloc), true);
-        let name = String::from_str(alloc, SIMPLE)?;
-        dictionaries.insert(name, AnyDictionary::Simple(simple))?;
-        let mut config = Config::empty(alloc)?;
-        config.map(alloc, &WORD_TYPES, &[0])?;
-        let mut configurations = IndexMap::new(alloc);
-        let name = String::from_str(alloc, SIMPLE)?;
-        configurations.insert(name, config)?;
+        let dictionaries = first_dictionaries(alloc)?;
+        let configurations = first_configurations(alloc)?;
         Ok(Configs {
             dictionaries,
             configurations,
@@ -109,7 +123,29 @@ impl Configs {
 }
 
 impl Configs {
-    /// Adds a dictionary. After a refusal nothing has changed.
+    /// The dictionary of this name, where a thesaurus can have it as its subdictionary: it is no thesaurus.
+    pub fn subdictionary(&self, name: &str) -> Option<&AnyDictionary>
+        ensures { option_map (λ d. rules_of d.now) result ≡ sub_named self.now name.now }
+    {
+        let dictionary = self.dictionary(name)?;
+        if dictionary.as_thesaurus().is_some() {
+            return None;
+        }
+        Some(dictionary)
+    }
+
+    /// Whether a dictionary is a thesaurus whose subdictionary isn't there, or is a thesaurus.
+    fn lacks_sub(&self, dictionary: &AnyDictionary) -> bool
+        ensures { IsTrue result ↔ LacksSub self.now (rules_of dictionary.now) }
+    {
+        match dictionary.as_thesaurus() {
+            Some((_, sub)) => self.subdictionary(sub).is_none(),
+            None => false,
+        }
+    }
+
+    /// Adds a dictionary: one that is a thesaurus needs its subdictionary, which is no thesaurus. After a
+    /// refusal nothing has changed.
     pub fn add_dictionary(
         &mut self,
         alloc: Global,
@@ -117,9 +153,12 @@ impl Configs {
         dictionary: AnyDictionary,
     ) -> Result<(), ConfigError>
         ensures added { OnOk result (AddsDictionary self.old name.now (rules_of dictionary) self.new) }
-        ensures refused { IfErr result (λ e. RefusesDictionary self.old name.now e
+        ensures refused { IfErr result (λ e. RefusesDictionary self.old name.now (rules_of dictionary) e
             × (self.new ≡ self.old)) }
     {
+        if self.lacks_sub(&dictionary) {
+            return Err(ConfigError::UnknownDictionary);
+        }
         if self.dictionaries.contains_key(name) {
             return Err(ConfigError::DuplicateName);
         }
@@ -202,21 +241,12 @@ impl Configs {
         Ok(())
     }
 
-    /// What the dictionary at a place knows of a word.
-    pub(crate) fn answer_at(
-        &self,
-        alloc: Global,
-        place: usize,
-        word: &str,
-    ) -> Result<Answer, AllocError>
-        requires within { place < length self.now.dictionaries }
-        requires some { 1 ≤ length word.now }
-        requires most { length word.now ≤ LONGEST_LEXEME }
-        ensures { IfOk result (λ a. answer_value a ≡ dictionary_answer self.now place word.now) }
+    /// The dictionary at a place.
+    pub(crate) fn dictionary_at(&self, place: usize) -> Option<&AnyDictionary>
+        ensures { option_map (λ d. rules_of d.now) result
+            ≡ option_map (λ d. d.rules) (slice_get self.now.dictionaries place) }
     {
-        match self.dictionaries.get_index(place) {
-            Some((_, dictionary)) => dictionary.lexize(alloc, word),
-            None => Ok(Answer::Unknown),
-        }
+        let (_, dictionary) = self.dictionaries.get_index(place)?;
+        Some(dictionary)
     }
 }

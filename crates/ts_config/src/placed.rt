@@ -1,18 +1,20 @@
 // The placed lexemes of a text.
-ghost use Rattle.std.specs.Prelude.{◌≡◌, ◌<◌, ◌≤◌, ◌+◌, [], ◌∷◌, ◌++◌, length, map, All, IfOk, OnOk};
+ghost use Rattle.std.specs.Prelude.{◌≡◌, ◌+◌, [], ◌∷◌, ◌++◌, map, true, All, IfOk, OnOk};
 ghost use Rattle.ts_base.specs.Dictionary.{answer_value};
-ghost use Rattle.ts_parser.specs.Between.{IsBetween};
-ghost use Rattle.ts_config.specs.Mappings.{list_for};
 ghost use Rattle.ts_config.specs.Known.{IsWithin};
-ghost use Rattle.ts_config.specs.Answers.{first_answer as first_of, token_answer as answer_of};
+ghost use Rattle.ts_config.specs.Answers.{asked_for};
+ghost use Rattle.ts_config.specs.Phrases.{lists};
+ghost use Rattle.ts_config.specs.Parts.{GivesAt, Decides};
+ghost use Rattle.ts_config.specs.Inner.Looking.{IsToken};
 ghost use Rattle.ts_config.specs.Placing.{placed_at, placed_from, ArePlaced};
 ghost use Rattle.ts_config.specs.Inner.Positions.{last_position};
 
 use crate::config::Config;
 use crate::configs::Configs;
+use crate::phrases::{Listed, answer_to};
 use std::alloc::{AllocError, Global};
-use ts_base::{Answer, Found, LONGEST_LEXEME, Lexeme};
-use ts_parser::{Token, tokens};
+use ts_base::{Answer, Found, Lexeme};
+use ts_parser::{Token, Tokens, tokens};
 
 /// A lexeme of a text, with its position.
 #[derive(Debug, Drop)]
@@ -65,20 +67,58 @@ fn place(out: &mut Vec<Placed>, answer: Answer, last: usize) -> Result<usize, Al
 }
 
 impl Configs {
-    /// The answer of the first of these dictionaries that knows the word.
-    fn first_answer(
+    /// What the dictionary at a place gives of a token: the answer to its word, or, where it is a thesaurus, the
+    /// words of the phrase that begins there, whose other tokens are passed over.
+    fn given_at(
         &self,
         alloc: Global,
-        places: &[usize],
-        word: &str,
+        place: usize,
+        config: &Config,
+        text: &str,
+        token: Token,
+        left: &mut Tokens<'_>,
     ) -> Result<Answer, AllocError>
-        requires within { All (λ place. place < length self.now.dictionaries) places.now }
-        requires some { 1 ≤ length word.now }
-        requires most { length word.now ≤ LONGEST_LEXEME }
-        ensures value { IfOk result (λ a. answer_value a ≡ first_of self.now places.now word.now) }
+        requires listed { lists config.now place token ≡ true }
+        requires token { IsToken text.now token }
+        requires rest { All (IsToken text.now) left.old }
+        ensures { IfOk result (λ a. GivesAt self.now config.now text.now place token left.old
+            (answer_value a) left.new) }
     {
+        let Some(dictionary) = self.dictionary_at(place) else {
+            return Ok(Answer::Unknown);
+        };
+        let Some((thesaurus, name)) = dictionary.as_thesaurus() else {
+            return answer_to(alloc, dictionary, text, token);
+        };
+        let Some(sub) = self.dictionary(name) else {
+            return Ok(Answer::Unknown);
+        };
+        let listed = Listed {
+            place,
+            thesaurus,
+            sub,
+        };
+        listed.phrase(alloc, config, text, token, left)
+    }
+
+    /// What the part that begins with a token is answered: the first dictionary of the token's list that knows
+    /// it decides. The other tokens of a phrase are passed over.
+    fn part(
+        &self,
+        alloc: Global,
+        config: &Config,
+        text: &str,
+        token: Token,
+        left: &mut Tokens<'_>,
+    ) -> Result<Answer, AllocError>
+        requires token { IsToken text.now token }
+        requires rest { All (IsToken text.now) left.old }
+        ensures { IfOk result (λ a. Decides self.now config.now text.now token left.old
+            (asked_for config.now token) (answer_value a) left.new) }
+    {
+        let places = config.asked_for(token);
         for place in places {
-            match self.answer_at(alloc, *place, word)? {
+            match self.given_at(alloc, *place, config, text, token, left)? {
                 Answer::Unknown => {}
                 answer => return Ok(answer),
             }
@@ -86,28 +126,12 @@ impl Configs {
         Ok(Answer::Unknown)
     }
 
-    /// What a token of a text is answered.
-    fn token_answer(
-        &self,
-        alloc: Global,
-        config: &Config,
-        text: &str,
-        token: Token,
-    ) -> Result<Answer, AllocError>
-        requires within { IsWithin self.now config.now }
-        requires between { IsBetween text.now token }
-        requires some { 1 ≤ token.length }
-        ensures value { IfOk result (λ a. answer_value a ≡ answer_of self.now config.now text.now token) }
-    {
-        if token.length > LONGEST_LEXEME {
-            return Ok(Answer::Unknown);
-        }
-        self.first_answer(alloc, config.list(token.kind), token.of(text))
-    }
-
     /// The lexemes of a text by a configuration of these, with their positions: for each token the first
     /// of its type's dictionaries that knows it decides. A stop word takes a position; a token that none
     /// of them knows, or of more than 2046 bytes, takes none; all lexemes of a token take one.
+    ///
+    /// A thesaurus replaces a phrase that begins with the token: its words take one position, and the tokens up to
+    /// its last one are passed over.
     pub fn lexize_all(
         &self,
         alloc: Global,
@@ -119,8 +143,9 @@ impl Configs {
     {
         let mut out = Vec::new(alloc);
         let mut position = 0;
-        for token in tokens(text) {
-            let answer = self.token_answer(alloc, config, text, token)?;
+        let mut left = tokens(text);
+        while let Some(token) = left.next() {
+            let answer = self.part(alloc, config, text, token, &mut left)?;
             position = place(&mut out, answer, position)?;
         }
         Ok(out)
