@@ -1,16 +1,20 @@
+use porter_stem::Porter;
 use std::alloc::{AllocError, Global};
 use std::test::Fail;
 use ts_config::{
-    AnyDictionary, Config, ConfigError, Configs, Placed, mapping_replaces_one, placed_are_one,
-    positions_rise, simple_maps_all_but_blank,
+    AnyDictionary, Config, ConfigError, Configs, Placed, mapping_replaces_one, parts_are_one,
+    phrases_are_whole, placed_are_one, positions_rise, simple_maps_all_but_blank, tokens_are_parts,
 };
 use ts_parser::TokenType;
+use ts_synonym::Synonym;
+use ts_thesaurus::Thesaurus;
 use ts_words::{Simple, StopList};
 
 /// Definitions and texts in turn, and what comes of each, `step=outcome`, with `;` between two. The step `D name accept words`
-/// defines a dictionary `simple` with these stop words, `C name` a configuration; `M name type dictionaries` maps a type of it,
-/// and `P name type dictionary` puts one in that was built apart; `? name text` places the lexemes of a text. `{x^n}` stands for
-/// n times x.
+/// defines a dictionary `simple` with these stop words, `O name words` one of stems, `S name lines` a case sensitive one of synonyms,
+/// and `T name sub lines` a thesaurus, where `|` stands between two lines; `C name` a configuration; `M name type dictionaries` maps a
+/// type of it, and `P name type dictionary` puts one in that was built apart; `? name text` places the lexemes of a text, and shows
+/// each with its position, and with `*` where it has the mark. `{x^n}` stands for n times x.
 const ROWS: &str = concat!(
     // The configuration that is there from the start.
     "? simple A fat Cat sat-on 1.5=a:1 fat:2 cat:3 sat-on:4 sat:5 on:6 1.5:7;? simple   , ...=;",
@@ -24,7 +28,22 @@ const ROWS: &str = concat!(
     // A name is taken once, but dictionaries and configurations have names apart; a refused step changes nothing.
     "P pass asciiword pass=ok;? pass of the cat=;D two 1 fat=ok;? two fat=fat:1;",
     "D simple 0 the=duplicate name;C c=duplicate name;P simple word stops=duplicate name;",
-    "M c asciiword simple none=unknown dictionary;? c the a=a:2;? simple the a=the:1 a:2;? none a=none",
+    "M c asciiword simple none=unknown dictionary;? c the a=a:2;? simple the a=the:1 a:2;? none a=none;",
+    // Stems and synonyms.
+    "O porter the=ok;S syn Cat Dog* rest|Cat Bird|alone|x x**=ok;D sub 1 the=ok;",
+    "C s=ok;M s asciiword syn sub=ok;? s Cat cat x Alone=Dog*:1 cat:2 x**:3 alone:4;",
+    "C p=ok;M p asciiword syn porter=ok;? p the Cat ponies=Dog*:2 poni:3;",
+    // A thesaurus replaces the longest phrase, the last of equal ones; a token without dictionaries is left out, and one whose list
+    // hasn't the thesaurus ends what it sees.
+    "T th sub new york : *NYC|new york city : big apple|? cat : *stopcat|x y : p q|x y : r=ok;",
+    "C t=ok;M t asciiword th sub=ok;M t uint sub=ok;",
+    "? t new york city new york=big:1 apple:1 NYC:2;? t new 7 york=new:1 7:2 york:3;? t NEW - York x y z=NYC:1 r:2 z:3;",
+    "? t the cat the dog=stopcat:1 dog:3;? t new 7.5 {n^2047} york new=NYC:1 new:2;? t new=new:1;? t york new york city=york:1 big:2 apple:2;",
+    // It is asked where the dictionaries before it don't know the first token.
+    "M t asciiword sub th=ok;? t new york=new:1 york:2;M t asciiword syn th sub=ok;? t x y new york=x**:1 y:2 NYC:3;",
+    "M t asciiword th th=ok;? t a new york=NYC:1;M t numword th=ok;? t new 7th york=;",
+    // A subdictionary has to be there, and is no thesaurus.
+    "T th none a : b=unknown dictionary;T more th ? : *b=unknown dictionary;T th sub a : b=duplicate name;? t x y=r:1",
 );
 
 /// The text that a row stands for.
@@ -55,6 +74,43 @@ fn simple(alloc: Global, stops: &str, accept: bool) -> Result<AnyDictionary, All
     Ok(AnyDictionary::Simple(Simple::new(list, accept)))
 }
 
+/// The dictionary of stems with these stop words.
+fn porter(alloc: Global, stops: &str) -> Result<AnyDictionary, AllocError> {
+    let mut list = StopList::new(alloc);
+    for word in stops.split(' ') {
+        list.add_line(alloc, word)?;
+    }
+    Ok(AnyDictionary::Porter(Porter::new(list)))
+}
+
+/// The case sensitive dictionary of these synonyms.
+fn synonym(alloc: Global, lines: &str) -> Result<AnyDictionary, AllocError> {
+    let mut list = Synonym::new(alloc, true);
+    for line in lines.split('|') {
+        list.add_line(alloc, line)?;
+    }
+    Ok(AnyDictionary::Synonym(list))
+}
+
+/// The thesaurus of these lines, by the subdictionary of this name.
+fn thesaurus(
+    alloc: Global,
+    configs: &Configs,
+    sub: &str,
+    lines: &str,
+) -> Result<AnyDictionary, ConfigError> {
+    let mut rules = Thesaurus::new(alloc);
+    if let Some(dictionary) = configs.subdictionary(sub) {
+        for line in lines.split('|') {
+            if rules.add_line(alloc, line, dictionary).is_err() {
+                return Err(ConfigError::OutOfMemory);
+            }
+        }
+    }
+    let name = String::from_str(alloc, sub)?;
+    Ok(AnyDictionary::Thesaurus(rules, name))
+}
+
 /// Names as texts of their own.
 fn texts(alloc: Global, names: &str) -> Result<Vec<String>, AllocError> {
     let mut out = Vec::new(alloc);
@@ -69,10 +125,21 @@ fn type_named(name: &str) -> TokenType {
     TokenType::from_name(name).unwrap_or(TokenType::Blank)
 }
 
-/// Defines a dictionary.
-fn define(alloc: Global, configs: &mut Configs, name: &str, rest: &str) -> Result<(), ConfigError> {
-    let (accept, stops) = cut(rest);
-    let dictionary = simple(alloc, stops, accept == "1")?;
+/// Defines a dictionary of this kind.
+fn define(
+    alloc: Global,
+    configs: &mut Configs,
+    kind: &str,
+    name: &str,
+    rest: &str,
+) -> Result<(), ConfigError> {
+    let (front, behind) = cut(rest);
+    let dictionary = match kind {
+        "O" => porter(alloc, rest)?,
+        "S" => synonym(alloc, rest)?,
+        "T" => thesaurus(alloc, configs, front, behind)?,
+        _ => simple(alloc, behind, front == "1")?,
+    };
     configs.add_dictionary(alloc, name, dictionary)
 }
 
@@ -101,18 +168,19 @@ fn step(alloc: Global, configs: &mut Configs, row: &str) -> Result<(), ConfigErr
     let (kind, rest) = cut(row);
     let (name, rest) = cut(rest);
     match kind {
-        "D" => define(alloc, configs, name, rest),
         "C" => configs.add_configuration(alloc, name),
         "M" => map(alloc, configs, name, rest),
-        _ => put(alloc, configs, name, rest),
+        "P" => put(alloc, configs, name, rest),
+        _ => define(alloc, configs, kind, name, rest),
     }
 }
 
 /// One placed lexeme, shown.
 fn push_shown(out: &mut String, placed: &Placed) -> Result<(), AllocError> {
     let lexeme = placed.lexeme.as_str();
+    let mark = if placed.prefix { "*" } else { "" };
     let position = placed.position;
-    write!(out, " {lexeme}:{position}")
+    write!(out, " {lexeme}{mark}:{position}")
 }
 
 /// The placed lexemes of a text, shown.
@@ -153,7 +221,7 @@ fn rows(rt: HostRuntime) -> Result<(), Fail> {
         assert_eq!(rt; given.as_str().trim_start(), want);
         count = count.saturating_add(1);
     }
-    assert_eq!(rt; count, 29);
+    assert_eq!(rt; count, 61);
     Ok(())
 }
 
@@ -183,6 +251,9 @@ fn lists(rt: HostRuntime) -> Result<(), Fail> {
 fn laws() {
     mapping_replaces_one();
     simple_maps_all_but_blank();
+    phrases_are_whole();
+    parts_are_one();
+    tokens_are_parts();
     placed_are_one();
     positions_rise();
 }

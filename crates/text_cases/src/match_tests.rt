@@ -2,9 +2,9 @@ use crate::slow::slowly;
 use std::alloc::{AllocError, Global};
 use std::test::Fail;
 use ts_base::Tri;
-use ts_match::{MatchWork, judge, matches, query_keys, text_class, vector_keys};
+use ts_match::{MatchWork, judge, matches, matches_in, query_keys, text_class, vector_keys};
 use ts_query::TsQuery;
-use ts_vector::TsVector;
+use ts_vector::{TsVector, VectorBytes};
 
 /// Queries, vectors, and whether the vector satisfies the query: `query @ vector=answer`.
 const MEANINGS: &str = "\
@@ -103,7 +103,15 @@ ab:* <-> ab:* @ abc:1 abd:2=true
 a & b <-> c @ b:1 c:2=false
 !(a & b <-> c) | d @ a:1 b:1 c:2 d:4=true
 a | b & (c | !d) @ b:1 d:2=false
-(a | b) & !(c & d) @ b:1 d:2=true";
+(a | b) & !(c & d) @ b:1 d:2=true
+abc & a:* & ab:* & b @ a:1 ab:2 abc:3 b:4=true
+abc & a:* & ab:* & b @ a:1 ab:2 b:4=false
+ab:* & !abd:* & abc @ abb abc abe=true
+a:* & a & a:* & !aa & !b:* @ a=true
+b | a | c @ aa ab bb=false
+é:* & a:* & !é @ aé éa=true
+abc:* <-> ab <-> a:* @ a:3 ab:2 abcd:1=true
+abc:* <-> ab <-> a:* @ a:4 ab:2 abcd:1=false";
 
 /// Queries, values for their operands, and the answer: `query @ values=answer`.
 const JUDGEMENTS: &str = "\
@@ -151,18 +159,30 @@ enum Kind {
     QueryKeys,
 }
 
-/// Whether a vector satisfies a query, asked twice with one work.
-fn meaning(alloc: Global, query: &TsQuery, vector: &TsVector) -> Result<Vec<u8>, AllocError> {
+/// Whether a vector satisfies a query, in memory and in its spelling, each asked twice with one work; None where answers differ.
+fn answer(alloc: Global, query: &TsQuery, vector: &TsVector) -> Result<Option<bool>, Fail> {
+    let mut bytes = Vec::new(alloc);
+    vector.encode(&mut bytes)?;
+    let spelled = VectorBytes::new(&bytes)?;
     let mut work = MatchWork::new(alloc, query)?;
-    let answers = (
-        matches(query, &mut work, vector),
-        matches(query, &mut work, vector),
-    );
-    match answers {
-        (true, true) => b"true".to_vec(alloc),
-        (false, false) => b"false".to_vec(alloc),
-        _ => b"another answer".to_vec(alloc),
+    let holds = matches(query, &mut work, vector);
+    let same_in = matches_in(query, &mut work, &spelled) == holds;
+    let again = matches(query, &mut work, vector) == holds;
+    let again_in = matches_in(query, &mut work, &spelled) == holds;
+    if same_in && again && again_in {
+        return Ok(Some(holds));
     }
+    Ok(None)
+}
+
+/// Whether a vector satisfies a query, as a word.
+fn meaning(alloc: Global, query: &TsQuery, vector: &TsVector) -> Result<Vec<u8>, Fail> {
+    let word = match answer(alloc, query, vector)? {
+        Some(true) => b"true".to_vec(alloc),
+        Some(false) => b"false".to_vec(alloc),
+        None => b"another answer".to_vec(alloc),
+    };
+    Ok(word?)
 }
 
 /// The value that a text names.
@@ -269,7 +289,7 @@ fn tried(
 #[test]
 fn rows(rt: HostRuntime) -> Result<(), Fail> {
     let alloc = rt.alloc();
-    assert_eq!(rt; tried(alloc, Kind::Meaning, MEANINGS)?, Ok(96));
+    assert_eq!(rt; tried(alloc, Kind::Meaning, MEANINGS)?, Ok(104));
     assert_eq!(rt; tried(alloc, Kind::Judgement, JUDGEMENTS)?, Ok(16));
     assert_eq!(rt; tried(alloc, Kind::VectorKeys, VECTOR_KEYS)?, Ok(3));
     assert_eq!(rt; tried(alloc, Kind::QueryKeys, QUERY_KEYS)?, Ok(5));
@@ -296,10 +316,9 @@ const VECTORS: &str = concat!(
 );
 
 /// Whether matching agrees with the table.
-fn agrees(alloc: Global, query: &TsQuery, vector: &TsVector) -> Result<bool, AllocError> {
-    let mut work = MatchWork::new(alloc, query)?;
+fn agrees(alloc: Global, query: &TsQuery, vector: &TsVector) -> Result<bool, Fail> {
     let expected = slowly(alloc, query, vector)?;
-    Ok(matches(query, &mut work, vector) == expected)
+    Ok(answer(alloc, query, vector)? == Some(expected))
 }
 
 /// On how many vectors matching agrees with the table, or the first on which it does not.

@@ -2,8 +2,8 @@ use std::alloc::{AllocError, Global};
 use std::test::Fail;
 use ts_base::{Lexeme, Weights};
 use ts_query::{
-    Node, QueryError, TsQuery, distance_is_decimal, fault_has_one_place, fault_is_outside,
-    one_answer, one_value, prints_back,
+    Node, QueryBuilder, QueryError, TsQuery, distance_is_decimal, fault_has_one_place,
+    fault_is_outside, one_answer, one_value, prints_back,
 };
 
 /// Texts and what they give, `text=outcome`, with `;` between two; `{x^n}` stands for n times x, and behind `#` stand
@@ -137,6 +137,35 @@ fn nodes(rt: HostRuntime) -> Result<(), Fail> {
     ];
     assert_eq!(rt; query.nodes(), nodes.as_slice());
     assert_eq!(rt; query.operands().len(), 3);
+    Ok(())
+}
+
+/// A lexeme that is short enough.
+fn lexeme(alloc: Global, text: &str) -> Result<Lexeme, QueryError> {
+    match Lexeme::new(alloc, text) {
+        Ok(lexeme) => Ok(lexeme),
+        Err(_) => Err(QueryError::OutOfMemory),
+    }
+}
+
+/// A query that is written node by node.
+fn written(alloc: Global) -> Result<TsQuery, QueryError> {
+    let mut builder = QueryBuilder::new(alloc);
+    builder.operand(lexeme(alloc, "fat")?, Weights::default(), false)?;
+    builder.operand(lexeme(alloc, "rat")?, Weights::default(), true)?;
+    builder.or()?;
+    builder.operand(lexeme(alloc, "cat")?, Weights::default(), false)?;
+    builder.not()?;
+    builder.phrase(2)?;
+    Ok(builder.finish())
+}
+
+/// Each operator stands behind its operands.
+#[test]
+fn builder(rt: HostRuntime) -> Result<(), Fail> {
+    let query = written(rt.alloc())?;
+    let text = query.to_text(rt.alloc())?;
+    assert_eq!(rt; text.as_str(), "( 'fat' | 'rat':* ) <2> !'cat'");
     Ok(())
 }
 

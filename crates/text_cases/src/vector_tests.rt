@@ -3,12 +3,12 @@ use std::test::Fail;
 use ts_base::{Lexeme, Position, Weight};
 use ts_query::{fault_has_one_place, fault_is_outside};
 use ts_vector::{
-    TsVector, VectorBytes, VectorError, bad_bytes_are_no_spelling, bad_place_is_one,
+    Joined, TsVector, VectorBytes, VectorError, bad_bytes_are_no_spelling, bad_place_is_one,
     build_has_one_answer, join_has_one_answer, normal_form_is_one, position_has_its_number,
     printed_text_is_read, text_has_one_answer, text_has_one_list, text_has_one_value,
 };
 
-/// Texts and what they give, `text=outcome`, with `;` between two; `{x^n}` stands for n times x, and `+` joins two vectors.
+/// Texts and what they give, `text=outcome`, with `;` between two; `{x^n}` stands for n times x, and `+` joins vectors.
 const ROWS: &str = concat!(
     // What is printed.
     "=; b a\tb ='a' 'b';",
@@ -30,7 +30,10 @@ const ROWS: &str = concat!(
     "x:1 '{a^2047}' y:0=syntax error at 2057;",
     // Joined vectors.
     "a:1 b:3+a:1 c b:2A='a':1,4 'b':3,5A 'c';a+b:2='a' 'b':2;",
-    "a:16383+a:1B b:5='a':16383B 'b':16383;+=",
+    "a:16383+a:1B b:5='a':16383B 'b':16383;+=;c+b+a='a' 'b' 'c';+a:2+='a':2;",
+    "a:1+a:1+a:1='a':1,2,3;a:1 b:3+a:1 c b:2A+a:1='a':1,4,6 'b':3,5A 'c';",
+    "a:16382+b:9+a:1B c:7='a':16382,16383B 'b':16383 'c':16383;a:7b+a+c:1='a':7B 'c':8;",
+    "a:1+b:x+c:=syntax error at 2",
 );
 
 /// Bytes that are no spelling: the place where they go wrong, and the bytes.
@@ -64,22 +67,45 @@ fn expanded(alloc: Global, row: &str) -> Result<String, AllocError> {
     Ok(text)
 }
 
-/// The vector of a text; `+` joins two.
+/// The vector of a text; `+` joins one more vector to all before it.
 fn vector(alloc: Global, text: &str) -> Result<TsVector, VectorError> {
-    let Some((first, second)) = text.split_once('+') else {
-        return TsVector::parse(alloc, text);
+    let mut parts = text.split('+');
+    let mut value = TsVector::parse(alloc, parts.next().unwrap_or(""))?;
+    for part in parts {
+        let part = TsVector::parse(alloc, part)?;
+        value = value.concat(alloc, &part)?;
+    }
+    Ok(value)
+}
+
+/// The same, joined in one value that grows.
+fn joined(alloc: Global, text: &str) -> Result<TsVector, VectorError> {
+    let mut parts = text.split('+');
+    let first = TsVector::parse(alloc, parts.next().unwrap_or(""))?;
+    let Ok(mut value) = Joined::new(alloc, &first) else {
+        return Err(VectorError::OutOfMemory);
     };
-    let first = TsVector::parse(alloc, first)?;
-    let second = TsVector::parse(alloc, second)?;
-    first.concat(alloc, &second)
+    for part in parts {
+        let part = TsVector::parse(alloc, part)?;
+        value = value.push(alloc, &part)?;
+    }
+    match value.finish(alloc) {
+        Ok(value) => Ok(value),
+        Err(_) => Err(VectorError::OutOfMemory),
+    }
+}
+
+/// The printed form of a vector, or why it is refused.
+fn printed(alloc: Global, vector: Result<TsVector, VectorError>) -> Result<String, AllocError> {
+    match vector {
+        Ok(vector) => vector.to_text(alloc),
+        Err(error) => format!(in alloc; "{error}"),
+    }
 }
 
 /// The printed form of a text's vector, or why the text is refused.
 fn outcome(alloc: Global, text: &str) -> Result<String, AllocError> {
-    match vector(alloc, text) {
-        Ok(vector) => vector.to_text(alloc),
-        Err(error) => format!(in alloc; "{error}"),
-    }
+    printed(alloc, vector(alloc, text))
 }
 
 /// Each row gives its outcome.
@@ -90,11 +116,14 @@ fn rows(rt: HostRuntime) -> Result<(), Fail> {
     for row in ROWS.split(';') {
         let (text, want) = row.split_once('=').unwrap_or((row, "="));
         let text = expanded(alloc, text)?;
+        let want = expanded(alloc, want)?;
         let given = outcome(alloc, text.as_str())?;
-        assert_eq!(rt; given.as_str(), expanded(alloc, want)?.as_str(), "{row}");
+        assert_eq!(rt; given.as_str(), want.as_str(), "{row}");
+        let given = printed(alloc, joined(alloc, text.as_str()))?;
+        assert_eq!(rt; given.as_str(), want.as_str(), "{row}");
         count = count.saturating_add(1);
     }
-    assert_eq!(rt; count, 37);
+    assert_eq!(rt; count, 44);
     Ok(())
 }
 
@@ -111,6 +140,15 @@ fn sizes(rt: HostRuntime) -> Result<(), Fail> {
     text.push_str(" a:1,1A ")?;
     text.push_str(expanded(alloc, "{b^1020}")?.as_str())?;
     assert_eq!(rt; TsVector::parse(alloc, text.as_str())?.count(), 514);
+    let full = joined(alloc, format!(in alloc; "{text}+a")?.as_str())?;
+    assert_eq!(rt; full.count(), 514);
+    text.push_str("+c")?;
+    let error = joined(alloc, text.as_str()).err();
+    assert_eq!(rt;
+        error,
+        Some(VectorError::VectorTooLarge { bytes: 1_048_576 })
+    );
+    text.truncate(text.len() - 2);
     text.push_str("b")?;
     assert_eq!(rt;
         outcome(alloc, text.as_str())?.as_str(),
@@ -188,6 +226,18 @@ fn least_positions(rt: HostRuntime) -> Result<(), Fail> {
     assert_eq!(rt; v.lexeme(0), "a");
     assert_eq!(rt; v.positions(0).len(), 256);
     assert_eq!(rt; v.positions(0).last(), Some(&Position::new(256, Weight::D)));
+    Ok(())
+}
+
+/// Of many positions the 256 least are kept at each join, and what follows is behind these.
+#[test]
+fn many_joins(rt: HostRuntime) -> Result<(), Fail> {
+    let alloc = rt.alloc();
+    let text = expanded(alloc, "a:1{+a:1^299}+b:1")?;
+    let v = joined(alloc, text.as_str())?;
+    assert!(rt; v.count() == 2);
+    assert_eq!(rt; v.positions(0).last(), Some(&Position::new(256, Weight::D)));
+    assert_eq!(rt; v.positions(1).last(), Some(&Position::new(257, Weight::D)));
     Ok(())
 }
 
