@@ -1,6 +1,6 @@
 -- The first token of a statement, and the first word of a line that says it.
-use Rattle.std.proofs.Common.{◌≡◌, inl, inr, ℕ, zero, suc, ◌+◌, ◌<◌, ◌≤◌, false, List, [], ◌∷◌, ◌++◌, length, length-append, get_or, codes, arith, refl, sym, ◌∙◌, ap, subst}
-use Rattle.std.specs.Prelude.{nat_eq, Bool, true}
+use Rattle.std.proofs.Common.{◌≡◌, ℕ, zero, suc, ◌+◌, ◌<◌, ◌≤◌, false, List, [], ◌∷◌, ◌++◌, length, length-append, get_or, codes, arith, refl, sym, ◌∙◌, ap, subst}
+use Rattle.std.specs.Prelude.{nat_eq}
 use Rattle.std.specs.List.{All}
 use Rattle.std.specs.Str.{IsUtf8, IsAscii, IsCharBoundary}
 use Rattle.std.proofs.Math.Seq.{drop-append_seam}
@@ -13,15 +13,18 @@ use Rattle.ts_base.specs.Words.{EndsWord, BeginsWithWord}
 use Rattle.ts_base.proofs.ByteKinds.{blank_ascii}
 use Rattle.shell_script.specs.Tokens.{ScriptToken, word, quote, IsSpelled}
 use Rattle.shell_script.specs.Lines.{HasNo}
-use Rattle.shell_script.specs.Grammar.{Statement, insert, search, show, query, parse, nothing, IsSession, HasSession, IsOpening, IsWrittenAs, IsStatement, Says, OpensBody, Continues, label, expr_tokens, body_tokens, statement_tokens}
+use Rattle.shell_script.specs.Grammar.{Statement, insert, search, show, query, parse, define, nothing, IsSession, HasSession, IsWrittenAs, IsStatement, label, expr_tokens, body_tokens, statement_tokens}
 use Rattle.shell_script.specs.Inner.Said.{IsSaidBehind}
 use Rattle.shell_script.specs.Inner.Fronts.{IsNoQuote}
 use Rattle.shell_script.proofs.Front.{one_first_word}
 use Rattle.shell_script.proofs.Spelling.{spelled_word}
 
--- words with other first bytes differ
+-- words with another byte at a place differ
+pub bytes_differ : (i : ℕ) (v w : List ℕ) → nat_eq (get_or v i 0) (get_or w i 0) ≡ false → v ≡ w → ⊥
+bytes_differ i v w f e = eqb-false (get_or v i 0) (get_or w i 0) f (ap (λ (x : List ℕ). get_or x i 0) e)
+
 pub heads_differ : (v w : List ℕ) → nat_eq (get_or v 0 0) (get_or w 0 0) ≡ false → v ≡ w → ⊥
-heads_differ v w f e = eqb-false (get_or v 0 0) (get_or w 0 0) f (ap (λ (x : List ℕ). get_or x 0 0) e)
+heads_differ v w f e = bytes_differ 0 v w f e
 
 blanks_ascii : (bs : List ℕ) → All IsBlank bs → IsAscii bs
 blanks_ascii [] h i = omega arith
@@ -58,16 +61,6 @@ ask_letters = more 97 (codes "sk") (omega arith) (omega arith) (more 115 (codes 
 parse_letters : AreLetters (codes "parse")
 parse_letters = more 112 (codes "arse") (omega arith) (omega arith) (more 97 (codes "rse") (omega arith) (omega arith) (more 114 (codes "se") (omega arith) (omega arith) (more 115 (codes "e") (omega arith) (omega arith) (more 101 [] (omega arith) (omega arith) none))))
 
-no_opening : (w : List ℕ) → nat_eq (get_or w 0 0) 100 ≡ false → nat_eq (get_or w 0 0) 99 ≡ false → nat_eq (get_or w 0 0) 112 ≡ false → IsOpening w → ⊥
-no_opening w d c p (inl e) = heads_differ w (codes "dictionary") d e
-no_opening w d c p (inr (inl e)) = heads_differ w (codes "configuration") c e
-no_opening w d c p (inr (inr e)) = heads_differ w (codes "parallel") p e
-
-parse_opens_nothing : IsOpening (codes "parse") → ⊥
-parse_opens_nothing (inl e) = heads_differ (codes "parse") (codes "dictionary") refl e
-parse_opens_nothing (inr (inl e)) = heads_differ (codes "parse") (codes "configuration") refl e
-parse_opens_nothing (inr (inr e)) = eqb-false 115 97 refl (ap (λ (x : List ℕ). get_or x 3 0) e)
-
 -- a statement's first token is a word
 record FirstToken (s : ℕ) (statement : Statement) : Type 0 where
   first : List ℕ
@@ -75,18 +68,18 @@ record FirstToken (s : ℕ) (statement : Statement) : Type 0 where
   tokens : statement_tokens s statement ≡ word first ∷ others
   some : 0 < length first
   letters : AreLetters first
-  no_body : IsOpening first → ⊥
 
 by_label : (s : ℕ) (statement : Statement) → IsSession s → FirstToken s statement
 by_label zero statement h = absurd (omega (arith, h.0))
-by_label (suc n) statement h = record { first = label (suc n); others = body_tokens statement; tokens = refl; some = omega arith; letters = label_letters (suc n) h; no_body = no_opening (label (suc n)) refl refl refl }
+by_label (suc n) statement h = record { first = label (suc n); others = body_tokens statement; tokens = refl; some = omega arith; letters = label_letters (suc n) h }
 
 first_token : (s : ℕ) (statement : Statement) → HasSession s statement → FirstToken s statement
 first_token s (insert e) h = by_label s (insert e) h
 first_token s (search t) h = by_label s (search t) h
-first_token s (show e) h = subst (λ n. FirstToken n (show e)) (sym h) (record { first = codes "show"; others = expr_tokens e; tokens = refl; some = omega arith; letters = show_letters; no_body = no_opening (codes "show") refl refl refl })
-first_token s (query t) h = subst (λ n. FirstToken n (query t)) (sym h) (record { first = codes "ask"; others = quote t ∷ []; tokens = refl; some = omega arith; letters = ask_letters; no_body = no_opening (codes "ask") refl refl refl })
-first_token s (parse t) h = subst (λ n. FirstToken n (parse t)) (sym h) (record { first = codes "parse"; others = quote t ∷ []; tokens = refl; some = omega arith; letters = parse_letters; no_body = parse_opens_nothing })
+first_token s (show e) h = subst (λ n. FirstToken n (show e)) (sym h) (record { first = codes "show"; others = expr_tokens e; tokens = refl; some = omega arith; letters = show_letters })
+first_token s (query t) h = subst (λ n. FirstToken n (query t)) (sym h) (record { first = codes "ask"; others = quote t ∷ []; tokens = refl; some = omega arith; letters = ask_letters })
+first_token s (parse t) h = subst (λ n. FirstToken n (parse t)) (sym h) (record { first = codes "parse"; others = quote t ∷ []; tokens = refl; some = omega arith; letters = parse_letters })
+first_token s (define head body) h = absurd h
 first_token s nothing h = absurd h
 
 pub words_same : (v w : List ℕ) (xs ys : List ScriptToken) → word v ∷ xs ≡ word w ∷ ys → (v ≡ w) × (xs ≡ ys)
@@ -140,13 +133,7 @@ said_behind line first rest s statement b k =
       spelled = subst (λ r. IsSpelled r f.others) same.1 found.2;
     }
 
--- a line that opens a body is no statement, and nor is one without a word
-pub opens_nothing : (line first rest : List ℕ) → BeginsWithWord line first rest → IsOpening first → (s : ℕ) (statement : Statement) → IsWrittenAs line s statement → ⊥
-opens_nothing line first rest b o s statement k =
-    let f : FirstToken s statement = first_token s statement k.session in
-    let found : (r : List ℕ) × BeginsWithWord line f.first r × IsSpelled r f.others = spelled_word line f.first f.others (subst (IsSpelled line) f.tokens k.spelled) in
-    f.no_body (subst IsOpening (sym (one_first_word line f.first first found.0 rest found.1 b).0) o)
-
+-- a line without a word is no statement
 pub no_word_says : (line : List ℕ) → ((first rest : List ℕ) → BeginsWithWord line first rest → ⊥) → (s : ℕ) (statement : Statement) → IsWrittenAs line s statement → ⊥
 no_word_says line wordless s statement k =
     let f : FirstToken s statement = first_token s statement k.session in
@@ -154,23 +141,14 @@ no_word_says line wordless s statement k =
     wordless f.first found.0 found.1
 
 -- what the program's answer for a line says
-pub says_nothing : (within : Bool) (line : List ℕ) (s : ℕ) (a : Statement) → within ≡ false → s ≡ 0 → a ≡ nothing → ((t : ℕ) (b : Statement) → IsWrittenAs line t b → ⊥) → Says within line s a
-says_nothing within line s a w e f none = subst (λ b. Says b line s a) (sym w) (subst (IsStatement line s) (sym f) (e, none))
+pub says_nothing : (line : List ℕ) (s : ℕ) (a : Statement) → s ≡ 0 → a ≡ nothing → ((t : ℕ) (b : Statement) → IsWrittenAs line t b → ⊥) → IsStatement line s a
+says_nothing line s a e f none = subst (IsStatement line s) (sym f) (e, none)
 
-pub says_statement : (within : Bool) (line : List ℕ) (s : ℕ) (a : Statement) → within ≡ false → IsWrittenAs line s a → Says within line s a
-says_statement within line s a w h = subst (λ b. Says b line s a) (sym w) (by a h)
-  where
-    by : (b : Statement) → IsWrittenAs line s b → IsStatement line s b
-    by (insert e) k = k
-    by (search t) k = k
-    by (show e) k = k
-    by (query t) k = k
-    by (parse t) k = k
-    by nothing k = absurd k.session
-
--- a line that opens no body
-pub opens_none : (within : Bool) (line : List ℕ) (next : Bool) → within ≡ false → next ≡ false → (OpensBody line → ⊥) → Continues within line next
-opens_none within line next w n none = subst (λ b. Continues b line next) (sym w) (λ e. absurd (let x : false ≡ true = sym n ∙ e in let y : ⊥ = cc in y), λ o. absurd (none o))
-
-pub not_opening : (line first rest : List ℕ) → BeginsWithWord line first rest → (IsOpening first → ⊥) → OpensBody line → ⊥
-not_opening line first rest b closed o = closed (subst IsOpening (one_first_word line o.0 first o.1 rest o.2 b).0 o.3)
+pub says_statement : (line : List ℕ) (s : ℕ) (a : Statement) → IsWrittenAs line s a → IsStatement line s a
+says_statement line s (insert e) k = k
+says_statement line s (search t) k = k
+says_statement line s (show e) k = k
+says_statement line s (query t) k = k
+says_statement line s (parse t) k = k
+says_statement line s (define head body) k = k
+says_statement line s nothing k = absurd k.session

@@ -12,3 +12,5 @@ pub mod Bodies
 pub mod FirstLines
 pub mod TypeLists
 pub mod NameLists
+pub mod Rising
+pub mod OneMapping

@@ -1,10 +1,15 @@
--- A line has one meaning.
-use Rattle.std.proofs.Common.{◌≡◌, ◌⊎◌, inl, inr, ℕ, ◌+◌, List, [], ◌∷◌, Bool, true, false, codes, arith, refl, sym, ◌∙◌}
+-- A step has one meaning.
+use Rattle.std.proofs.Common.{◌≡◌, ◌⊎◌, inl, inr, ℕ, ◌+◌, List, [], ◌∷◌, get_or, Bool, true, false, codes, arith, refl, sym, ◌∙◌, ap}
+use Rattle.std.specs.Prelude.{not}
 use Rattle.shell_script.specs.Tokens.{ScriptToken, word, quote}
-use Rattle.shell_script.specs.Grammar.{Statement, insert, show, query, parse, nothing, IsSession, IsWrittenAs, IsStatement, Says, OpensBody, Continues, HasSession, label, expr_tokens, body_tokens, statement_tokens}
+use Rattle.shell_script.specs.Grammar.{Statement, insert, show, query, parse, define, nothing, IsSession, IsWrittenAs, IsStatement, HasSession, label, expr_tokens, body_tokens, statement_tokens}
 use Rattle.shell_script.specs.Grammar.{search as finding}
+use Rattle.shell_script.specs.Lines.{Line}
+use Rattle.shell_script.specs.Heads.{Kind, simple_kind, porter_kind, synonym_kind, thesaurus_kind, Head, dictionary_head, configuration_head, mark_tokens, kind_tokens, head_tokens, IsHead}
+use Rattle.shell_script.specs.Steps.{Step, single, definition, stray}
+use Rattle.shell_script.specs.Says.{counted_lines, IsDefinition, Says}
 use Rattle.shell_script.specs.Inner.Said.{IsOfSession, IsPlain}
-use Rattle.shell_script.proofs.FirstTokens.{words_same}
+use Rattle.shell_script.proofs.FirstTokens.{heads_differ, words_same}
 use Rattle.shell_script.proofs.Saying.{one_of_session, one_plain, label_or_show, label_or_ask, label_or_parse, labelled_tokens, plain_tokens}
 use Rattle.shell_script.proofs.Spelling.{one_spelling}
 
@@ -21,6 +26,7 @@ stands s (finding t) h = inl (tt, h, labelled_tokens s (finding t) h)
 stands s (show e) h = inr (tt, h, plain_tokens s (show e) h)
 stands s (query t) h = inr (tt, h, plain_tokens s (query t) h)
 stands s (parse t) h = inr (tt, h, plain_tokens s (parse t) h)
+stands s (define head body) h = absurd h
 stands s nothing h = absurd h
 
 -- a label begins no plain statement
@@ -30,6 +36,7 @@ label_or_plain s ts (query x) h same = label_or_ask s (words_same (label s) (cod
 label_or_plain s ts (parse x) h same = label_or_parse s (words_same (label s) (codes "parse") ts (quote x ∷ []) same).0
 label_or_plain s ts (insert e) h same = h
 label_or_plain s ts (finding x) h same = h
+label_or_plain s ts (define head body) h same = h
 label_or_plain s ts nothing h same = h
 
 one_said : (s t : ℕ) (a b : Statement) → Stands s a → Stands t b → statement_tokens s a ≡ statement_tokens t b → (s ≡ t) × (a ≡ b)
@@ -50,6 +57,7 @@ says line s (finding t) h = inl h
 says line s (show e) h = inl h
 says line s (query t) h = inl h
 says line s (parse t) h = inl h
+says line s (define head body) h = inl h
 says line s nothing h = inr (h.0, refl, h.1)
 
 one_statement : (line : List ℕ) (s t : ℕ) (a b : Statement) → IsStatement line s a → IsStatement line t b → (s ≡ t) × (a ≡ b)
@@ -61,20 +69,101 @@ one_statement line s t a b h k = by (says line s a h) (says line t b k)
     by (inr x) (inl y) = absurd (x.2 t b y)
     by (inr x) (inr y) = (x.0 ∙ sym y.0, x.1 ∙ sym y.1)
 
-pub one_meaning : (within : Bool) (line : List ℕ) (s t : ℕ) (a b : Statement) → Says within line s a → Says within line t b → (s ≡ t) × (a ≡ b)
-one_meaning true line s t a b h k = (h.0 ∙ sym k.0, h.1 ∙ sym k.1)
-one_meaning false line s t a b h k = one_statement line s t a b h k
+-- ── definitions ──
+marks_tell : (a b : Bool) (mark : List ℕ) → mark_tokens a mark ≡ mark_tokens b mark → a ≡ b
+marks_tell true true mark same = refl
+marks_tell false false mark same = refl
+marks_tell true false mark same = cc
+marks_tell false true mark same = cc
 
-both_or_none : (P : Type 0) (c a b : Bool) → (a ≡ c → P) × (P → a ≡ c) → (b ≡ c → P) × (P → b ≡ c) → a ≡ b
-both_or_none P true true true h k = refl
-both_or_none P true false false h k = refl
-both_or_none P true true false h k = h.1 (h.0 refl) ∙ sym (k.1 (h.0 refl))
-both_or_none P true false true h k = h.1 (k.0 refl) ∙ sym (k.1 (k.0 refl))
-both_or_none P false true true h k = refl
-both_or_none P false false false h k = refl
-both_or_none P false false true h k = h.1 (h.0 refl) ∙ sym (k.1 (h.0 refl))
-both_or_none P false true false h k = h.1 (k.0 refl) ∙ sym (k.1 (k.0 refl))
+not_tells : (a b : Bool) → not a ≡ not b → a ≡ b
+not_tells true true e = refl
+not_tells false false e = refl
+not_tells true false e = sym e
+not_tells false true e = sym e
 
-pub one_next : (within : Bool) (line : List ℕ) (a b : Bool) → Continues within line a → Continues within line b → a ≡ b
-one_next true line a b h k = both_or_none (line ≡ codes "end") false a b h k
-one_next false line a b h k = both_or_none (OpensBody line) true a b h k
+-- the word that a kind begins with, and what stands behind it
+abbrev kind_word : Kind → List ℕ
+kind_word (simple_kind accept) = codes "simple"
+kind_word porter_kind = codes "porter"
+kind_word (synonym_kind cases) = codes "synonym"
+kind_word (thesaurus_kind sub) = codes "thesaurus"
+
+abbrev kind_rest : Kind → List ScriptToken
+kind_rest (simple_kind accept) = mark_tokens (not accept) (codes "pass")
+kind_rest porter_kind = []
+kind_rest (synonym_kind cases) = mark_tokens cases (codes "casesensitive")
+kind_rest (thesaurus_kind sub) = word sub ∷ []
+
+kind_cut : (k : Kind) → kind_tokens k ≡ word (kind_word k) ∷ kind_rest k
+kind_cut (simple_kind accept) = refl
+kind_cut porter_kind = refl
+kind_cut (synonym_kind cases) = refl
+kind_cut (thesaurus_kind sub) = refl
+
+-- the second byte tells them
+abbrev second : Kind → ℕ
+second k = get_or (kind_word k) 1 0
+
+kinds_tell : (j k : Kind) → second j ≡ second k → kind_rest j ≡ kind_rest k → j ≡ k
+kinds_tell (simple_kind a) (simple_kind b) e f = ap simple_kind (not_tells a b (marks_tell (not a) (not b) (codes "pass") f))
+kinds_tell porter_kind porter_kind e f = refl
+kinds_tell (synonym_kind a) (synonym_kind b) e f = ap synonym_kind (marks_tell a b (codes "casesensitive") f)
+kinds_tell (thesaurus_kind m) (thesaurus_kind n) e f = ap thesaurus_kind (words_same m n [] [] f).0
+kinds_tell (simple_kind a) porter_kind e f = absurd (omega (arith, e))
+kinds_tell (simple_kind a) (synonym_kind b) e f = absurd (omega (arith, e))
+kinds_tell (simple_kind a) (thesaurus_kind n) e f = absurd (omega (arith, e))
+kinds_tell porter_kind (simple_kind b) e f = absurd (omega (arith, e))
+kinds_tell porter_kind (synonym_kind b) e f = absurd (omega (arith, e))
+kinds_tell porter_kind (thesaurus_kind n) e f = absurd (omega (arith, e))
+kinds_tell (synonym_kind a) (simple_kind b) e f = absurd (omega (arith, e))
+kinds_tell (synonym_kind a) porter_kind e f = absurd (omega (arith, e))
+kinds_tell (synonym_kind a) (thesaurus_kind n) e f = absurd (omega (arith, e))
+kinds_tell (thesaurus_kind m) (simple_kind b) e f = absurd (omega (arith, e))
+kinds_tell (thesaurus_kind m) porter_kind e f = absurd (omega (arith, e))
+kinds_tell (thesaurus_kind m) (synonym_kind b) e f = absurd (omega (arith, e))
+
+one_kind : (j k : Kind) → kind_tokens j ≡ kind_tokens k → j ≡ k
+one_kind j k same =
+    let o = words_same (kind_word j) (kind_word k) (kind_rest j) (kind_rest k) (sym (kind_cut j) ∙ same ∙ kind_cut k) in
+    kinds_tell j k (ap (λ (w : List ℕ). get_or w 1 0) o.0) o.1
+
+tokens_tell : (h k : Head) → head_tokens h ≡ head_tokens k → h ≡ k
+tokens_tell (dictionary_head n i) (dictionary_head m j) same =
+    let o = words_same (codes "dictionary") (codes "dictionary") (word n ∷ kind_tokens i) (word m ∷ kind_tokens j) same in
+    let p = words_same n m (kind_tokens i) (kind_tokens j) o.1 in
+    ap (λ x. dictionary_head x i) p.0 ∙ ap (dictionary_head m) (one_kind i j p.1)
+tokens_tell (configuration_head n) (configuration_head m) same =
+    let o = words_same (codes "configuration") (codes "configuration") (word n ∷ []) (word m ∷ []) same in
+    ap configuration_head (words_same n m [] [] o.1).0
+tokens_tell (dictionary_head n i) (configuration_head m) same =
+    absurd (heads_differ (codes "dictionary") (codes "configuration") refl (words_same (codes "dictionary") (codes "configuration") (word n ∷ kind_tokens i) (word m ∷ []) same).0)
+tokens_tell (configuration_head n) (dictionary_head m j) same =
+    absurd (heads_differ (codes "configuration") (codes "dictionary") refl (words_same (codes "configuration") (codes "dictionary") (word n ∷ []) (word m ∷ kind_tokens j) same).0)
+
+pub one_head : (line : List ℕ) (h k : Head) → IsHead line h → IsHead line k → h ≡ k
+one_head line h k p q = tokens_tell h k (one_spelling line (head_tokens h) (head_tokens k) p.spelled q.spelled)
+
+-- a definition says its first line and its body, or nothing
+abbrev Defines : Line → List Line → Statement → Type 0
+Defines l body a = ((h : Head) × IsHead l.bytes h × (a ≡ define h (counted_lines body))) ⊎ ((a ≡ nothing) × ((h : Head) → IsHead l.bytes h → ⊥))
+
+defined : (l : Line) (body : List Line) (a : Statement) → IsDefinition l body a → Defines l body a
+defined l body (define h ls) d = inl (h, d.0, ap (define h) d.1)
+defined l body nothing d = inr (refl, d)
+defined l body (insert e) d = absurd d
+defined l body (finding t) d = absurd d
+defined l body (show e) d = absurd d
+defined l body (query t) d = absurd d
+defined l body (parse t) d = absurd d
+
+one_definition : (l : Line) (body : List Line) (a b : Statement) → Defines l body a → Defines l body b → a ≡ b
+one_definition l body a b (inl x) (inl y) = x.2 ∙ ap (λ h. define h (counted_lines body)) (one_head l.bytes x.0 y.0 x.1 y.1) ∙ sym y.2
+one_definition l body a b (inl x) (inr y) = absurd (y.1 x.0 x.1)
+one_definition l body a b (inr x) (inl y) = absurd (x.1 y.0 y.1)
+one_definition l body a b (inr x) (inr y) = x.0 ∙ sym y.0
+
+pub one_meaning : (step : Step) (s t : ℕ) (a b : Statement) → Says step s a → Says step t b → (s ≡ t) × (a ≡ b)
+one_meaning (single l) s t a b h k = one_statement l.bytes s t a b h k
+one_meaning (definition l body) s t a b h k = (h.0 ∙ sym k.0, one_definition l body a b (defined l body a h.1) (defined l body b k.1))
+one_meaning (stray l) s t a b h k = (h.0 ∙ sym k.0, h.1 ∙ sym k.1)

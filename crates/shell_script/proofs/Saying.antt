@@ -3,7 +3,7 @@ use Rattle.std.proofs.Common.{◌≡◌, ◌⊎◌, inl, inr, ℕ, zero, suc, ar
 use Rattle.std.specs.Prelude.{is_some, MatchOption, IsSomeAnd, Option, None, IfSome, IfNone}
 use Rattle.std.specs.Str.{IsUtf8}
 use Rattle.shell_script.specs.Tokens.{ScriptToken, word, quote, IsSpelled}
-use Rattle.shell_script.specs.Grammar.{Expr, Statement, insert, search, show, query, parse, nothing, IsSession, HasSession, label, expr_tokens, body_tokens, statement_tokens}
+use Rattle.shell_script.specs.Grammar.{Expr, Statement, insert, search, show, query, parse, define, nothing, IsSession, HasSession, label, expr_tokens, body_tokens, statement_tokens}
 use Rattle.shell_script.specs.Inner.Fronts.{Fronts}
 use Rattle.shell_script.specs.Inner.Said.{IsOfSession, IsPlain, IsBody, IsSaidBehind}
 use Rattle.shell_script.proofs.Exprs.{exprs_same, mapped_some, mapped_none}
@@ -68,6 +68,7 @@ session_cases (search t) h = inr (sought, t, refl)
 session_cases (show e) h = absurd h
 session_cases (query t) h = absurd h
 session_cases (parse t) h = absurd h
+session_cases (define head body) h = absurd h
 session_cases nothing h = absurd h
 
 pub plain_cases : (s : Statement) → IsPlain s → ((e : Expr) × (s ≡ show e)) ⊎ ((w : Shown) × (t : List ℕ) × (s ≡ plain_text w t))
@@ -76,6 +77,7 @@ plain_cases (query t) h = inr (asked, t, refl)
 plain_cases (parse t) h = inr (parsed, t, refl)
 plain_cases (insert e) h = absurd h
 plain_cases (search t) h = absurd h
+plain_cases (define head body) h = absurd h
 plain_cases nothing h = absurd h
 
 pub session_text_body : (w : Sought) (t : List ℕ) → body_tokens (session_text w t) ≡ word (session_word w) ∷ quote t ∷ []
@@ -195,6 +197,7 @@ said_by_label first rest w behind s statement u i e h k = record {
     by (show x) o = absurd o
     by (query x) o = absurd o
     by (parse x) o = absurd o
+    by (define head body) o = absurd o
     by nothing o = absurd o
 
 -- what is said behind a label is a statement of that session, in one word and what follows
@@ -212,6 +215,7 @@ none_by_label first rest w behind s e h bad t (search x) k =
 none_by_label first rest w behind s e h bad t (show x) k = label_or_show s (sym e ∙ sym (words_same (codes "show") first (expr_tokens x) k.others (sym (plain_tokens t (show x) k.session) ∙ k.tokens)).0)
 none_by_label first rest w behind s e h bad t (query x) k = label_or_ask s (sym e ∙ sym (words_same (codes "ask") first (quote x ∷ []) k.others (sym (plain_tokens t (query x) k.session) ∙ k.tokens)).0)
 none_by_label first rest w behind s e h bad t (parse x) k = label_or_parse s (sym e ∙ sym (words_same (codes "parse") first (quote x ∷ []) k.others (sym (plain_tokens t (parse x) k.session) ∙ k.tokens)).0)
+none_by_label first rest w behind s e h bad t (define head body) k = k.session
 none_by_label first rest w behind s e h bad t nothing k = k.session
 
 pub none_by_no_word : (first rest : List ℕ) (s : ℕ) → first ≡ label s → ((w : List ℕ) (ts : List ScriptToken) → IsSpelled rest (word w ∷ ts) → ⊥) → (t : ℕ) (a : Statement) → IsSaidBehind first rest t a → ⊥
@@ -220,6 +224,7 @@ none_by_no_word first rest s e bad t (search x) k = bad (codes "search") (quote 
 none_by_no_word first rest s e bad t (show x) k = label_or_show s (sym e ∙ sym (words_same (codes "show") first (expr_tokens x) k.others (sym (plain_tokens t (show x) k.session) ∙ k.tokens)).0)
 none_by_no_word first rest s e bad t (query x) k = label_or_ask s (sym e ∙ sym (words_same (codes "ask") first (quote x ∷ []) k.others (sym (plain_tokens t (query x) k.session) ∙ k.tokens)).0)
 none_by_no_word first rest s e bad t (parse x) k = label_or_parse s (sym e ∙ sym (words_same (codes "parse") first (quote x ∷ []) k.others (sym (plain_tokens t (parse x) k.session) ∙ k.tokens)).0)
+none_by_no_word first rest s e bad t (define head body) k = k.session
 none_by_no_word first rest s e bad t nothing k = k.session
 
 -- a statement without a label
@@ -232,6 +237,7 @@ said_plainly first rest statement u k = record { session = by statement k.0; utf
     by (parse x) o = refl
     by (insert x) o = absurd o
     by (search x) o = absurd o
+    by (define head body) o = absurd o
     by nothing o = absurd o
 
 pub none_plainly : (first rest : List ℕ) → ((s : ℕ) → IsSession s → first ≡ label s → ⊥) → ((a : Statement) → IsBody IsPlain first rest a → ⊥) → (t : ℕ) (a : Statement) → IsSaidBehind first rest t a → ⊥
@@ -248,4 +254,5 @@ none_plainly first rest unlabelled bad t (search x) k = labelled t k.session k.t
 none_plainly first rest unlabelled bad t (show x) k = bad (show x) (tt, (k.others, sym (plain_tokens t (show x) k.session) ∙ k.tokens, k.spelled))
 none_plainly first rest unlabelled bad t (query x) k = bad (query x) (tt, (k.others, sym (plain_tokens t (query x) k.session) ∙ k.tokens, k.spelled))
 none_plainly first rest unlabelled bad t (parse x) k = bad (parse x) (tt, (k.others, sym (plain_tokens t (parse x) k.session) ∙ k.tokens, k.spelled))
+none_plainly first rest unlabelled bad t (define head body) k = k.session
 none_plainly first rest unlabelled bad t nothing k = k.session

@@ -1,9 +1,10 @@
 -- The grammar of a script's lines.
-use Rattle.std.specs.Prelude.{◌≡◌, ◌⊎◌, ◌↔◌, ℕ, zero, suc, ◌+◌, ◌≤◌, Bool, true, false, List, [], ◌∷◌, ◌++◌, codes}
+use Rattle.std.specs.Prelude.{◌≡◌, ℕ, zero, suc, ◌+◌, ◌≤◌, Bool, true, false, List, [], ◌∷◌, ◌++◌, codes}
 use Rattle.std.specs.List.{flat_map}
 use Rattle.std.specs.Str.{IsUtf8}
-use Rattle.ts_base.specs.Words.{BeginsWithWord}
 use Rattle.shell_script.specs.Tokens.{ScriptToken, word, quote, IsSpelled}
+use Rattle.shell_script.specs.Lines.{Line}
+use Rattle.shell_script.specs.Heads.{Head}
 
 abbrev pub IsSession : ℕ → Type 0
 IsSession s = (1 ≤ s) × (s ≤ 8)
@@ -36,22 +37,25 @@ joined_tokens p = word (codes "||") ∷ part_tokens p
 abbrev pub expr_tokens : Expr → List ScriptToken
 expr_tokens e = part_tokens e.first ++ flat_map joined_tokens e.others
 
--- What a line says. Later kinds of statement are more cases.
+-- What a line or a definition says. A definition has its first line and the lines of its body that
+-- count. Later kinds of statement are more cases.
 pub data Statement : Type 0 where
   insert : Expr → Statement
   search : List ℕ → Statement
   show : Expr → Statement
   query : List ℕ → Statement
   parse : List ℕ → Statement
+  define : Head → List Line → Statement
   nothing : Statement
 
--- the tokens of a statement, but for a session's label
+-- the tokens of a statement of one line, but for a session's label
 abbrev pub body_tokens : Statement → List ScriptToken
 body_tokens (insert e) = word (codes "insert") ∷ expr_tokens e
 body_tokens (search text) = word (codes "search") ∷ quote text ∷ []
 body_tokens (show e) = word (codes "show") ∷ expr_tokens e
 body_tokens (query text) = word (codes "ask") ∷ quote text ∷ []
 body_tokens (parse text) = word (codes "parse") ∷ quote text ∷ []
+body_tokens (define head body) = []
 body_tokens nothing = []
 
 -- the label of a session, where there is one
@@ -62,13 +66,14 @@ label_tokens (suc n) = word (label (suc n)) ∷ []
 abbrev pub statement_tokens : ℕ → Statement → List ScriptToken
 statement_tokens s statement = label_tokens s ++ body_tokens statement
 
--- a statement of the store has a session, and another has none
+-- a statement of the store has a session, and another of one line has none
 abbrev pub HasSession : ℕ → Statement → Type 0
 HasSession s (insert e) = IsSession s
 HasSession s (search text) = IsSession s
 HasSession s (show e) = s ≡ 0
 HasSession s (query text) = s ≡ 0
 HasSession s (parse text) = s ≡ 0
+HasSession s (define head body) = ⊥
 HasSession s nothing = ⊥
 
 -- a text whose tokens are those of a statement
@@ -87,22 +92,3 @@ abbrev pub IsStatement : List ℕ → ℕ → Statement → Type 0
 IsStatement line s nothing =
     (s ≡ 0) × ((t : ℕ) (statement : Statement) → IsWrittenAs line t statement → ⊥)
 IsStatement line s statement = IsWrittenAs line s statement
-
--- what a line says: within a body nothing, since no kind of body is built yet
-abbrev pub Says : Bool → List ℕ → ℕ → Statement → Type 0
-Says true line s statement = (s ≡ 0) × (statement ≡ nothing)
-Says false line s statement = IsStatement line s statement
-
--- the words that open a body
-abbrev pub IsOpening : List ℕ → Type 0
-IsOpening first = (first ≡ codes "dictionary") ⊎ (first ≡ codes "configuration") ⊎ (first ≡ codes "parallel")
-
--- a line whose first word opens a body, whatever follows
-abbrev pub OpensBody : List ℕ → Type 0
-OpensBody line =
-    (first : List ℕ) × (rest : List ℕ) × BeginsWithWord line first rest × IsOpening first
-
--- whether the lines behind this one are within a body, given whether it is itself
-abbrev pub Continues : Bool → List ℕ → Bool → Type 0
-Continues true line within = (within ≡ false) ↔ (line ≡ codes "end")
-Continues false line within = (within ≡ true) ↔ OpensBody line

@@ -1,5 +1,5 @@
 -- What the first line of a definition says, and a line of a configuration.
-use Rattle.std.specs.Prelude.{◌≡◌, ◌≢◌, ◌⊎◌, ℕ, ◌<◌, ◌≤◌, true, false, List, [], ◌∷◌, length, map, codes}
+use Rattle.std.specs.Prelude.{◌≡◌, ◌≢◌, ◌⊎◌, ℕ, ◌<◌, ◌≤◌, Bool, true, false, not, List, [], ◌∷◌, length, map, codes}
 use Rattle.std.specs.List.{All, join_with_byte}
 use Rattle.std.specs.Str.{IsUtf8}
 use Rattle.std.specs.Char.{IsAsciiDigit, IsAsciiAlphabetic}
@@ -8,8 +8,6 @@ use Rattle.ts_parser.specs.declared.kinds.TokenType.{TokenType}
 use Rattle.ts_parser.specs.Kinds.{type_name}
 use Rattle.shell_script.specs.Tokens.{ScriptToken, word, IsSpelled}
 use Rattle.shell_script.specs.declared.heads.TheConstants.{LONGEST_NAME}
-use Rattle.shell_script.specs.declared.heads.Kind.{Kind}
-use Rattle.shell_script.specs.declared.heads.Kind.TheVariants.{Simple}
 
 abbrev pub IsNameByte : ℕ → Type 0
 IsNameByte c = IsAsciiAlphabetic c ⊎ IsAsciiDigit c ⊎ (c ≡ 95)
@@ -22,27 +20,48 @@ pub record IsName (name : List ℕ) : Type 0 where
   pub first : BeginsWithout IsAsciiDigit name
   pub free : (name ≢ codes "vector") × (name ≢ codes "strip")
 
+-- The kind of a dictionary: words in lower case, where others than stop words may be accepted or not;
+-- stems; synonyms, where the case may count; phrases, over the dictionary of a name.
+pub data Kind : Type 0 where
+  simple_kind : Bool → Kind
+  porter_kind : Kind
+  synonym_kind : Bool → Kind
+  thesaurus_kind : List ℕ → Kind
+
 -- what the first line of a definition says
 pub data Head : Type 0 where
   dictionary_head : List ℕ → Kind → Head
   configuration_head : List ℕ → Head
 
+-- a word that stands there or doesn't
+abbrev pub mark_tokens : Bool → List ℕ → List ScriptToken
+mark_tokens true mark = word mark ∷ []
+mark_tokens false mark = []
+
 -- `pass` stands where words that are no stop words are not accepted
 abbrev pub kind_tokens : Kind → List ScriptToken
-kind_tokens (Simple true) = word (codes "simple") ∷ []
-kind_tokens (Simple false) = word (codes "simple") ∷ word (codes "pass") ∷ []
+kind_tokens (simple_kind accept) = word (codes "simple") ∷ mark_tokens (not accept) (codes "pass")
+kind_tokens porter_kind = word (codes "porter") ∷ []
+kind_tokens (synonym_kind cases) =
+    word (codes "synonym") ∷ mark_tokens cases (codes "casesensitive")
+kind_tokens (thesaurus_kind sub) = word (codes "thesaurus") ∷ word sub ∷ []
 
 abbrev pub head_tokens : Head → List ScriptToken
 head_tokens (dictionary_head name kind) = word (codes "dictionary") ∷ word name ∷ kind_tokens kind
 head_tokens (configuration_head name) = word (codes "configuration") ∷ word name ∷ []
 
-abbrev pub head_name : Head → List ℕ
-head_name (dictionary_head name kind) = name
-head_name (configuration_head name) = name
+-- what a kind names is a NAME
+abbrev pub IsKind : Kind → Type 0
+IsKind (thesaurus_kind sub) = IsName sub
+IsKind kind = Unit {0}
+
+abbrev pub IsNamed : Head → Type 0
+IsNamed (dictionary_head name kind) = IsName name × IsKind kind
+IsNamed (configuration_head name) = IsName name
 
 pub record IsHead (line : List ℕ) (head : Head) : Type 0 where
   pub utf8 : IsUtf8 line
-  pub name : IsName (head_name head)
+  pub named : IsNamed head
   pub spelled : IsSpelled line (head_tokens head)
 
 -- a line of a configuration: names of types with commas between them, and the names of the

@@ -3,6 +3,7 @@ pub mod Tokens
 pub mod Grammar
 pub mod Steps
 pub mod StepsOf
+pub mod Says
 pub mod StepView
 pub mod Heads
 pub mod HeadView

@@ -12,10 +12,12 @@ pub data TextFault : Type 0 where
   large_vector : ℕ → TextFault
   large_query : TextFault
 
--- The refusals: 1 with the line's number; those of texts; 11, 12, 14 with the device's count just
--- after the fault, 15 and 17.
+-- The refusals: 1 with the line's number; 4 and 5, where a configuration or a dictionary isn't there;
+-- those of texts; 11, 12, 14 with the device's count just after the fault, 15 and 17.
 pub data Refusal : Type 0 where
   no_statement : ℕ → Refusal
+  no_configuration : Refusal
+  no_dictionary : Refusal
   text_refused : TextFault → Refusal
   store_full : Refusal
   log_full : Refusal
@@ -23,11 +25,12 @@ pub data Refusal : Type 0 where
   device : Refusal
   memory : Refusal
 
--- a vector or a query is shown by its text, and a text by its tokens
+-- A vector or a query is shown by its text, and a text by its tokens. A definition is done.
 pub data Reply : Type 0 where
   stored : Name → Reply
   lists : List Name → Reply
   shows_vector : List ℕ → Reply
   shows_query : List ℕ → Reply
   shows_tokens : List Token → Reply
+  done : Reply
   refused : Refusal → Reply

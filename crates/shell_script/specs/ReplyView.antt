@@ -8,9 +8,9 @@ use Rattle.shell_script.specs.declared.replies.Name.{Name}
 use Rattle.shell_script.specs.declared.replies.TextFault.{TextFault}
 use Rattle.shell_script.specs.declared.replies.TextFault.TheVariants.{BadVector, BadQuery, LongLexeme, LargeVector, LargeQuery}
 use Rattle.shell_script.specs.declared.replies.Refusal.{Refusal}
-use Rattle.shell_script.specs.declared.replies.Refusal.TheVariants.{NoStatement, Text, StoreFull, LogFull, Down, Device, Memory}
+use Rattle.shell_script.specs.declared.replies.Refusal.TheVariants.{NoStatement, NoConfiguration, NoDictionary, Text, StoreFull, LogFull, Down, Device, Memory}
 use Rattle.shell_script.specs.declared.replies.Reply.{Reply}
-use Rattle.shell_script.specs.declared.replies.Reply.TheVariants.{Stored, Lists, Vector, Query, Tokens, Refused}
+use Rattle.shell_script.specs.declared.replies.Reply.TheVariants.{Stored, Lists, Vector, Query, Tokens, Done, Refused}
 
 abbrev pub name : Name → names.Name
 name n = record { page = n.page; slot = n.slot; serial = n.serial }
@@ -24,6 +24,8 @@ text_fault LargeQuery = replies.large_query
 
 abbrev pub refusal : Refusal → replies.Refusal
 refusal (NoStatement number) = replies.no_statement number
+refusal NoConfiguration = replies.no_configuration
+refusal NoDictionary = replies.no_dictionary
 refusal (Text fault) = replies.text_refused (text_fault fault)
 refusal StoreFull = replies.store_full
 refusal LogFull = replies.log_full
@@ -37,4 +39,5 @@ reply (Lists names) = replies.lists (map name names.items)
 reply (Vector text) = replies.shows_vector (string_bytes text)
 reply (Query text) = replies.shows_query (string_bytes text)
 reply (Tokens text) = replies.shows_tokens (tokens_of (string_bytes text))
+reply Done = replies.done
 reply (Refused why) = replies.refused (refusal why)

@@ -5,8 +5,8 @@ use Rattle.ts_parser.specs.declared.iter.Token.{Token}
 use Rattle.ts_parser.specs.Kinds.{type_number}
 use Rattle.shell_script.specs.Name.{Name}
 use Rattle.shell_script.specs.Replies.{TextFault, bad_vector, bad_query, long_lexeme, large_vector, large_query}
-use Rattle.shell_script.specs.Replies.{Refusal, no_statement, text_refused, store_full, log_full, down, device, memory}
-use Rattle.shell_script.specs.Replies.{Reply, stored, lists, shows_vector, shows_query, shows_tokens, refused}
+use Rattle.shell_script.specs.Replies.{Refusal, no_statement, no_configuration, no_dictionary, text_refused, store_full, log_full, down, device, memory}
+use Rattle.shell_script.specs.Replies.{Reply, stored, lists, shows_vector, shows_query, shows_tokens, done, refused}
 
 abbrev pub name_text : Name → List ℕ
 name_text n = decimal n.page ++ codes "/" ++ decimal n.slot ++ codes "#" ++ decimal n.serial
@@ -32,6 +32,8 @@ fault_words large_query = codes "8 query size"
 -- the number of a refusal and its words
 abbrev pub refusal_words : Refusal → List ℕ
 refusal_words (no_statement line) = codes "1 statement"
+refusal_words no_configuration = codes "4 configuration"
+refusal_words no_dictionary = codes "5 dictionary"
 refusal_words (text_refused fault) = fault_words fault
 refusal_words store_full = codes "11 store full"
 refusal_words log_full = codes "12 log full"
@@ -50,6 +52,8 @@ fault_detail large_query = None
 -- the line, offset, size or count that it tells
 abbrev pub refusal_detail : Refusal → Option ℕ
 refusal_detail (no_statement line) = Some line
+refusal_detail no_configuration = None
+refusal_detail no_dictionary = None
 refusal_detail (text_refused fault) = fault_detail fault
 refusal_detail store_full = None
 refusal_detail log_full = None
@@ -71,6 +75,7 @@ reply_text (lists names) = codes "found" ++ flat_map (λ (n : Name). codes " " +
 reply_text (shows_vector text) = codes "vector" ++ behind_space text
 reply_text (shows_query text) = codes "query" ++ behind_space text
 reply_text (shows_tokens tokens) = codes "ok"
+reply_text done = codes "ok"
 reply_text (refused why) = codes "error " ++ refusal_text why
 
 -- the line of a token: its type's number, the offset at which it starts, and its length

@@ -1,13 +1,12 @@
 // The first lines of definitions.
-ghost use Rattle.std.specs.Prelude.{◌≡◌, ◌↔◌, ℕ, List, [], ◌∷◌, IfSome, IfNone, IsTrue, IsUtf8};
+ghost use Rattle.std.specs.Prelude.{◌≡◌, ◌↔◌, ℕ, Bool, List, [], ◌∷◌, IfSome, IfNone, IsTrue, IsUtf8};
 ghost use Rattle.std.specs.Char.{IsAsciiDigit};
 ghost use Rattle.ts_base.specs.Bytes.{BeginsWithout};
 ghost use Rattle.ts_base.specs.Words.{BeginsWithWord};
 ghost use Rattle.shell_script.specs.Tokens.{ScriptToken, IsSpelled, word};
-ghost use Rattle.shell_script.specs.Heads.{IsNameByte, IsName, IsHead, Head as Said, kind_tokens};
-ghost use Rattle.shell_script.specs.HeadView.{head};
+ghost use Rattle.shell_script.specs.Heads.{IsNameByte, IsName, IsKind, IsHead, Head as Said, Kind as KindOf, mark_tokens, kind_tokens};
+ghost use Rattle.shell_script.specs.HeadView.{head, kind};
 ghost use Rattle.shell_script.specs.Inner.Fronts.{Fronts};
-ghost use Rattle.shell_script.specs.declared.heads.Kind.{Kind as KindOf};
 
 use crate::tokens::{behind_word, front_word, is_all_blank};
 use std::str;
@@ -15,13 +14,25 @@ use std::str;
 /// The most bytes of a name.
 pub const LONGEST_NAME: usize = 64;
 
-/// The kind of a dictionary.
+/// The kind of a dictionary. A name in it lies in the line.
 #[derive(Clone, Copy, Debug, PartialEq, Eq)]
-pub enum Kind {
+pub enum Kind<'a> {
     /// Words in lower case.
     Simple {
         /// Whether a word that is no stop word is accepted.
         accept: bool,
+    },
+    /// Stems.
+    Porter,
+    /// Synonyms.
+    Synonym {
+        /// Whether the case of a word counts.
+        case_sensitive: bool,
+    },
+    /// Phrases.
+    Thesaurus {
+        /// The name of the dictionary that words are passed through.
+        sub: &'a str,
     },
 }
 
@@ -33,7 +44,7 @@ pub enum Head<'a> {
         /// Its name.
         name: &'a str,
         /// Its kind.
-        kind: Kind,
+        kind: Kind<'a>,
     },
     /// A configuration.
     Configuration {
@@ -88,22 +99,6 @@ pub(crate) fn front_name(text: &str) -> Option<(&str, &str)>
     }
 }
 
-/// The kind that the text is.
-fn kind_of(text: &str) -> Option<Kind>
-    ensures some { IfSome result (λ k. IsSpelled text.now (kind_tokens k)) }
-    ensures none { IfNone result ((k : KindOf) → IsSpelled text.now (kind_tokens k) → ⊥) }
-{
-    let rest = behind_word(text, "simple")?;
-    if is_all_blank(rest) {
-        return Some(Kind::Simple { accept: true });
-    }
-    let rest = behind_word(rest, "pass")?;
-    if !is_all_blank(rest) {
-        return None;
-    }
-    Some(Kind::Simple { accept: false })
-}
-
 /// The name that the text is.
 fn name_alone(text: &str) -> Option<&str>
     ensures some { IfSome result (λ n. IsName n.now × IsSpelled text.now (word n.now ∷ [])) }
@@ -116,11 +111,52 @@ fn name_alone(text: &str) -> Option<&str>
     Some(name)
 }
 
-/// The name and the kind that the text is.
-fn name_and_kind(text: &str) -> Option<(&str, Kind)>
+/// Whether the text is this word, or nothing; None where it is something else.
+fn mark_of(text: &str, mark: &str) -> Option<bool>
+    ensures some { IfSome result (λ m. IsSpelled text.now (mark_tokens m mark.now)) }
+    ensures none { IfNone result ((m : Bool) → IsSpelled text.now (mark_tokens m mark.now) → ⊥) }
+{
+    if is_all_blank(text) {
+        return Some(false);
+    }
+    let rest = behind_word(text, mark)?;
+    if !is_all_blank(rest) {
+        return None;
+    }
+    Some(true)
+}
+
+/// The kind that the text is.
+fn kind_of(text: &str) -> Option<Kind<'_>>
     ensures some { IfSome result
-        (λ r. IsName r.0.now × IsSpelled text.now (word r.0.now ∷ kind_tokens r.1)) }
-    ensures none { IfNone result ((n : List ℕ) (k : KindOf) → IsName n
+        (λ k. IsKind (kind k) × IsSpelled text.now (kind_tokens (kind k))) }
+    ensures none { IfNone result ((k : KindOf) → IsKind k → IsSpelled text.now (kind_tokens k)
+        → ⊥) }
+{
+    let (first, rest) = front_word(text)?;
+    if first == "simple" {
+        let pass = mark_of(rest, "pass")?;
+        return Some(Kind::Simple { accept: !pass });
+    }
+    if first == "synonym" {
+        let case_sensitive = mark_of(rest, "casesensitive")?;
+        return Some(Kind::Synonym { case_sensitive });
+    }
+    if first == "thesaurus" {
+        let sub = name_alone(rest)?;
+        return Some(Kind::Thesaurus { sub });
+    }
+    if first == "porter" && is_all_blank(rest) {
+        return Some(Kind::Porter);
+    }
+    None
+}
+
+/// The name and the kind that the text is.
+fn name_and_kind(text: &str) -> Option<(&str, Kind<'_>)>
+    ensures some { IfSome result (λ r. IsName r.0.now × IsKind (kind r.1)
+        × IsSpelled text.now (word r.0.now ∷ kind_tokens (kind r.1))) }
+    ensures none { IfNone result ((n : List ℕ) (k : KindOf) → IsName n → IsKind k
         → IsSpelled text.now (word n ∷ kind_tokens k) → ⊥) }
 {
     let (name, rest) = front_name(text)?;

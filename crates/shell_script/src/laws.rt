@@ -1,6 +1,8 @@
 // What holds of the definitions alone.
-ghost use Rattle.std.specs.Prelude.{◌≡◌, ℕ, Bool, List};
-ghost use Rattle.shell_script.specs.Grammar.{Statement, Says, Continues};
+ghost use Rattle.std.specs.Prelude.{◌≡◌, ℕ, List};
+ghost use Rattle.shell_script.specs.Grammar.{Statement};
+ghost use Rattle.shell_script.specs.Steps.{Step};
+ghost use Rattle.shell_script.specs.Says.{Says};
 ghost use Rattle.shell_script.specs.StepsOf.{OneReading};
 ghost use Rattle.shell_script.specs.Tokens.{ScriptToken, IsSpelled};
 
@@ -10,12 +12,10 @@ pub fn one_spelling()
         → IsSpelled line ts → IsSpelled line us → ts ≡ us }
 {}
 
-/// A line says one thing, and the lines behind it are within a body or not.
+/// A step says one thing.
 pub fn one_meaning()
-    ensures says { (within : Bool) (line : List ℕ) (s t : ℕ) (a b : Statement)
-        → Says within line s a → Says within line t b → (s ≡ t) × (a ≡ b) }
-    ensures continues { (within : Bool) (line : List ℕ) (a b : Bool)
-        → Continues within line a → Continues within line b → a ≡ b }
+    ensures { (step : Step) (s t : ℕ) (a b : Statement) → Says step s a → Says step t b
+        → (s ≡ t) × (a ≡ b) }
 {}
 
 /// A script has exactly one list of steps.

@@ -14,12 +14,14 @@ mod mappings;
 mod replies;
 mod script;
 mod statement;
+#[cfg(test)]
+mod tests;
 mod texts;
 mod tokens;
 
 pub use heads::{Head, Kind, LONGEST_NAME, read_head};
 pub use laws::{one_meaning, one_reading, one_spelling};
-pub use line::{cut_at, is_skipped, without_return};
+pub use line::is_skipped;
 pub use lines::{Line, Lines};
 pub use mappings::{Mapping, Names, Types, read_mapping};
 pub use replies::{Name, Refusal, Reply, TextFault};

@@ -1,9 +1,9 @@
-// Lines: where they end, which are skipped, and which stand within a body.
+// Lines: where they end, and which are skipped.
 ghost use Rattle.std.specs.Prelude.{◌≡◌, ◌≤◌, ◌↔◌, ◌++◌, ◌∷◌, ℕ, List, length, IfSome, IfNone, IsTrue, take, drop};
 ghost use Rattle.std.specs.List.{All};
 ghost use Rattle.std.specs.Str.Lines.{strip_carriage_return};
 ghost use Rattle.shell_script.specs.Lines.{HasNo};
-ghost use Rattle.shell_script.specs.Grammar.{IsSkipped, IsOpening};
+ghost use Rattle.shell_script.specs.Grammar.{IsSkipped};
 ghost use Rattle.ts_base.specs.Bytes.{IsBlank, BeginsWithout};
 ghost use Rattle.ts_base.specs.Words.{EndsWord, BeginsWithWord};
 
@@ -75,13 +75,4 @@ pub fn first_word(line: &[u8]) -> Option<(&[u8], &[u8])>
         return None;
     }
     Some(rest.split_at(word_length(rest)))
-}
-
-/// Whether a body is opened by this first word.
-pub fn is_opening(first: &[u8]) -> bool
-    ensures { IsTrue result ↔ IsOpening first.now }
-{
-    first == b"dictionary".as_slice()
-        || first == b"configuration".as_slice()
-        || first == b"parallel".as_slice()
 }

@@ -34,6 +34,10 @@ pub enum TextFault {
 pub enum Refusal {
     /// The line with this number is no statement.
     NoStatement(u64),
+    /// A configuration that the statement names isn't there.
+    NoConfiguration,
+    /// A dictionary that the definition names isn't there.
+    NoDictionary,
     /// A text of the statement is at fault.
     Text(TextFault),
     /// The store has no room for the document.
@@ -72,6 +76,8 @@ pub enum Reply {
     Query(String),
     /// The tokens of this text.
     Tokens(String),
+    /// The definition is done.
+    Done,
     /// The statement was refused.
     Refused(Refusal),
 }

@@ -1,6 +1,6 @@
 // What a line says.
 ghost use Rattle.std.specs.Prelude.{◌≡◌, ◌↔◌, ℕ, List, [], ◌∷◌, ◌++◌, IfOk, IfSome, IfNone, IsTrue, codes, map, string_bytes};
-ghost use Rattle.shell_script.specs.Grammar.{IsSession, Says, Continues, label, strip_tokens, part_tokens, joined_tokens, expr_tokens};
+ghost use Rattle.shell_script.specs.Grammar.{IsSession, IsStatement, label, strip_tokens, part_tokens, joined_tokens, expr_tokens};
 ghost use Rattle.shell_script.specs.Grammar.{Statement as Said, Part as Parted, Expr as Joined};
 ghost use Rattle.shell_script.specs.Tokens.{IsSpelled, word, quote};
 ghost use Rattle.shell_script.specs.Inner.Fronts.{Fronts};
@@ -9,7 +9,7 @@ ghost use Rattle.shell_script.specs.Inner.Said.{IsOfSession, IsPlain, IsBody, Is
 ghost use Rattle.shell_script.specs.declared.statement.Statement.TheVariants.{Nothing};
 ghost use Rattle.shell_script.specs.StatementView.{statement, part, expr};
 
-use crate::line::{first_word, is_opening};
+use crate::line::first_word;
 use crate::tokens::{behind_word, front_quote, front_word, is_all_blank};
 use std::alloc::{AllocError, Global};
 use std::str;
@@ -32,7 +32,7 @@ pub struct Expr {
     pub others: Vec<Part>,
 }
 
-/// A statement.
+/// A statement of one line.
 #[derive(Debug, Drop)]
 pub enum Statement {
     /// A document is to be stored.
@@ -56,21 +56,17 @@ pub struct ScriptLine {
     pub session: u8,
     /// What is said.
     pub statement: Statement,
-    /// Whether the lines behind it are within a body.
-    pub within: bool,
 }
 
 impl ScriptLine {
     /// A line that is no statement.
-    fn nothing(within: bool) -> ScriptLine
+    fn nothing() -> ScriptLine
         ensures session { result.session ≡ 0 }
         ensures statement { result.statement ≡ Nothing }
-        ensures within { result.within ≡ within }
     {
         ScriptLine {
             session: 0,
             statement: Statement::Nothing,
-            within,
         }
     }
 }
@@ -232,28 +228,17 @@ fn statement_of(
     Ok(session_statement(alloc, word.as_bytes(), rest)?.map(|statement| (session, statement)))
 }
 
-/// What a line says, given whether it is within a body. Its first word is read once.
-pub fn read_line(alloc: Global, within: bool, line: &[u8]) -> Result<ScriptLine, AllocError>
-    ensures says { IfOk result
-        (λ read. Says within line.now read.session (statement read.statement)) }
-    ensures continues { IfOk result (λ read. Continues within line.now read.within) }
+/// What a line by itself says. Its first word is read once.
+pub fn read_line(alloc: Global, line: &[u8]) -> Result<ScriptLine, AllocError>
+    ensures { IfOk result
+        (λ read. IsStatement line.now read.session (statement read.statement)) }
 {
-    if within {
-        return Ok(ScriptLine::nothing(line != b"end".as_slice()));
-    }
     let Some((first, rest)) = first_word(line) else {
-        return Ok(ScriptLine::nothing(false));
+        return Ok(ScriptLine::nothing());
     };
-    if is_opening(first) {
-        return Ok(ScriptLine::nothing(true));
-    }
     match statement_of(alloc, first, rest)? {
-        Some((session, statement)) => Ok(ScriptLine {
-            session,
-            statement,
-            within: false,
-        }),
-        None => Ok(ScriptLine::nothing(false)),
+        Some((session, statement)) => Ok(ScriptLine { session, statement }),
+        None => Ok(ScriptLine::nothing()),
     }
 }
 
@@ -264,43 +249,43 @@ mod tests {
     const ASKING: [(&str, &str); 9] = [
         (
             "@1 insert strip vector 'a' || vector 'b:1'",
-            r#"ScriptLine { session: 1, statement: Insert(Expr { first: Part { stripped: true, text: "a" }, others: [Part { stripped: false, text: "b:1" }] }), within: false }"#,
+            r#"ScriptLine { session: 1, statement: Insert(Expr { first: Part { stripped: true, text: "a" }, others: [Part { stripped: false, text: "b:1" }] }) }"#,
         ),
         (
             "show vector ''",
-            r#"ScriptLine { session: 0, statement: Show(Expr { first: Part { stripped: false, text: "" }, others: [] }), within: false }"#,
+            r#"ScriptLine { session: 0, statement: Show(Expr { first: Part { stripped: false, text: "" }, others: [] }) }"#,
         ),
         (
             "\t show\tstrip  vector 'a'\t||\tstrip vector 'b' || vector 'c' ",
-            r#"ScriptLine { session: 0, statement: Show(Expr { first: Part { stripped: true, text: "a" }, others: [Part { stripped: true, text: "b" }, Part { stripped: false, text: "c" }] }), within: false }"#,
+            r#"ScriptLine { session: 0, statement: Show(Expr { first: Part { stripped: true, text: "a" }, others: [Part { stripped: true, text: "b" }, Part { stripped: false, text: "c" }] }) }"#,
         ),
         (
             "ask 'a & b'",
-            r#"ScriptLine { session: 0, statement: Query("a & b"), within: false }"#,
+            r#"ScriptLine { session: 0, statement: Query("a & b") }"#,
         ),
         (
             "parse\t'a b' ",
-            r#"ScriptLine { session: 0, statement: Parse("a b"), within: false }"#,
+            r#"ScriptLine { session: 0, statement: Parse("a b") }"#,
         ),
         (
             "ask ''''",
-            r#"ScriptLine { session: 0, statement: Query("'"), within: false }"#,
+            r#"ScriptLine { session: 0, statement: Query("'") }"#,
         ),
         (
             " \t@8 search 'it''s' \t",
-            r#"ScriptLine { session: 8, statement: Search("it's"), within: false }"#,
+            r#"ScriptLine { session: 8, statement: Search("it's") }"#,
         ),
         (
             "@2 search 'end || @1'",
-            r#"ScriptLine { session: 2, statement: Search("end || @1"), within: false }"#,
+            r#"ScriptLine { session: 2, statement: Search("end || @1") }"#,
         ),
         (
             "@3\tinsert\tvector\t'é'\t",
-            r#"ScriptLine { session: 3, statement: Insert(Expr { first: Part { stripped: false, text: "é" }, others: [] }), within: false }"#,
+            r#"ScriptLine { session: 3, statement: Insert(Expr { first: Part { stripped: false, text: "é" }, others: [] }) }"#,
         ),
     ];
 
-    const NO_STATEMENTS: [&[u8]; 38] = [
+    const NO_STATEMENTS: [&[u8]; 41] = [
         b"",
         b" \t",
         b"@1",
@@ -339,12 +324,15 @@ mod tests {
         b"@1 parse 'a'",
         b"parse vector 'a'",
         b"ask '\xff'",
+        b"dictionary d simple",
+        b"configuration c",
+        b"parallel",
     ];
 
     #[test]
     fn statements_read(rt: HostRuntime) -> Result<(), AllocError> {
         for (line, read) in ASKING {
-            let statement = read_line(rt.alloc(), false, line.as_bytes())?;
+            let statement = read_line(rt.alloc(), line.as_bytes())?;
             let shown = format!(in rt.alloc(); "{statement:?}")?;
             assert_eq!(rt; shown.as_str(), read, "{line}");
         }
@@ -354,21 +342,12 @@ mod tests {
     #[test]
     fn lines_that_are_no_statements(rt: HostRuntime) -> Result<(), AllocError> {
         for (place, line) in NO_STATEMENTS.into_iter().enumerate() {
-            let statement = read_line(rt.alloc(), false, line)?;
+            let statement = read_line(rt.alloc(), line)?;
             assert!(rt;
                 matches!(statement.statement, Statement::Nothing),
                 "{place}"
             );
             assert_eq!(rt; statement.session, 0, "{place}");
-        }
-        Ok(())
-    }
-
-    #[test]
-    fn lines_within_a_body(rt: HostRuntime) -> Result<(), AllocError> {
-        for (line, _) in ASKING {
-            let statement = read_line(rt.alloc(), true, line.as_bytes())?;
-            assert!(rt; matches!(statement.statement, Statement::Nothing), "{line}");
         }
         Ok(())
     }

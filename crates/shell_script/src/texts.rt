@@ -83,6 +83,8 @@ fn refusal_words(why: &Refusal) -> &str
 {
     match why {
         Refusal::NoStatement(_) => "1 statement",
+        Refusal::NoConfiguration => "4 configuration",
+        Refusal::NoDictionary => "5 dictionary",
         Refusal::Text(fault) => fault_words(fault),
         Refusal::StoreFull => "11 store full",
         Refusal::LogFull => "12 log full",
@@ -152,7 +154,7 @@ fn push_reply(text: &mut Vec<u8>, answer: &Reply) -> Result<(), AllocError>
             text.extend_from_slice(b"query")?;
             push_shown(text, shown.as_str())
         }
-        Reply::Tokens(_) => text.extend_from_slice(b"ok"),
+        Reply::Tokens(_) | Reply::Done => text.extend_from_slice(b"ok"),
         Reply::Refused(why) => {
             text.extend_from_slice(b"error ")?;
             push_refusal(text, why)

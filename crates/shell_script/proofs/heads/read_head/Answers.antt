@@ -2,9 +2,10 @@ use Rattle.std.proofs.Common.{◌≡◌, codes, sym, subst}
 use Rattle.std.specs.Str.{IsUtf8}
 use Rattle.shell_script.specs.Tokens.{IsSpelled}
 use Rattle.shell_script.specs.Heads.{IsHead, head_tokens, dictionary_head, configuration_head}
+use Rattle.shell_script.specs.HeadView.{kind}
 use Rattle.shell_script.proofs.Exprs.{missed}
 use Rattle.shell_script.proofs.Openings.{bytes_same}
-use Rattle.shell_script.proofs.FirstLines.{head_first, no_dictionary, dictionary_is, configuration_is}
+use Rattle.shell_script.proofs.FirstLines.{head_first, dictionary_outside, dictionary_is, configuration_is}
 use Rattle.shell_script.proofs.heads.read_head.Goals as goal
 
 pub returns-in_err-first-clause-none : goal.returns-in_err-first-clause-none
@@ -18,7 +19,7 @@ pub returns-in_err-name-clause-none : goal.returns-in_err-name-clause-none
 returns-in_err-name-clause-none c =
     let same : c.in-Ok.text.now ≡ c.args.line.now = c.in-Ok.ensures.cases.0 in
     missed c.from_residual-in_err-name.result _ (λ h k.
-    no_dictionary c.in-Ok.text.now c.in_ok-first.first.now c.in_ok-first.rest.now c.in_ok-first.ensures.some (bytes_same c.in_ok-first.first.now (codes "dictionary") (sym c.if-eq.ensures)) c.in_err-name.ensures.none h
+    dictionary_outside c.in-Ok.text.now c.in_ok-first.first.now c.in_ok-first.rest.now c.in_ok-first.ensures.some (bytes_same c.in_ok-first.first.now (codes "dictionary") (sym c.if-eq.ensures)) c.in_err-name.ensures.none h
     (subst (λ z. IsHead z h) (sym same) k))
 
 pub returns-then-eq-clause-some : goal.returns-then-eq-clause-some
@@ -26,8 +27,8 @@ returns-then-eq-clause-some c =
     let same : c.in-Ok.text.now ≡ c.args.line.now = c.in-Ok.ensures.cases.0 in
     let utf8 : IsUtf8 c.in-Ok.text.now = subst IsUtf8 (sym same) c.in-Ok.ensures.cases.1 in
     let found = c.in_ok-name.ensures.some in
-    subst (λ z. IsHead z (dictionary_head c.in_ok-name.name.now c.in_ok-name.kind)) same
-    (dictionary_is c.in-Ok.text.now c.in_ok-first.first.now c.in_ok-first.rest.now c.in_ok-name.name.now c.in_ok-name.kind utf8 c.in_ok-first.ensures.some (bytes_same c.in_ok-first.first.now (codes "dictionary") (sym c.if-eq.ensures)) found.0 found.1)
+    subst (λ z. IsHead z (dictionary_head c.in_ok-name.name.now (kind c.in_ok-name.kind))) same
+    (dictionary_is c.in-Ok.text.now c.in_ok-first.first.now c.in_ok-first.rest.now c.in_ok-name.name.now (kind c.in_ok-name.kind) utf8 c.in_ok-first.ensures.some (bytes_same c.in_ok-first.first.now (codes "dictionary") (sym c.if-eq.ensures)) found.0 found.1 found.2)
 
 pub returns-then-eq-2-clause-some : goal.returns-then-eq-2-clause-some
 returns-then-eq-2-clause-some c =
