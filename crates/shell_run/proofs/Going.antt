@@ -14,7 +14,11 @@ use Rattle.wal.specs.Settled.{Settled, BeforeOrAfter}
 use Rattle.ts_base.specs.Vectors.{Vector}
 use Rattle.ts_query.specs.Queries.{Query}
 use Rattle.ts_query.specs.Refusals.{IsReadAs}
-use Rattle.shell_script.specs.Grammar.{Part, Expr, Statement, insert, search as finding, show, query, parse, nothing}
+use Rattle.shell_script.specs.Grammar.{Part, Expr, Statement, insert, search as finding, show, query, parse, define, nothing}
+use Rattle.shell_script.specs.Lines.{Line}
+use Rattle.shell_script.specs.Heads.{Head, dictionary_head, configuration_head}
+use Rattle.ts_config.specs.Known.{Known}
+use Rattle.shell_run.specs.Defining.{IsDefined}
 use Rattle.shell_run.specs.Values.{IsValueOf, OthersFail, ExprFails, QueryFails, IsRefusedBy, IsShown, IsQueried, IsParsed}
 use Rattle.shell_script.specs.Name.{Name}
 use Rattle.shell_run.specs.History.{Document, Commit, History, IsFull, IsFound, insertion, name_of}
@@ -34,8 +38,8 @@ use Rattle.shell_run.proofs.Runs.{run_step, get_last}
 use Rattle.shell_run.proofs.Safety.{Safe, Grown, safe_rests, safe_logs}
 use Rattle.shell_run.proofs.Held.{held_lawful, held_normal, held_numbered, held_same, held_stored, held_failed, sees_all, is_full, not_full, too_large, log_is_full, log_not_full, document, next_commit}
 
-abbrev pub row_of : Place → ℕ → Statement → Reply → Note → Row
-row_of place line statement reply note = record { place = place; line = line; statement = statement; reply = reply; note = note }
+abbrev pub row_of : Place → Known → ℕ → Statement → Reply → Note → Row
+row_of place known line statement reply note = record { place = place; line = line; known = known; statement = statement; reply = reply; note = note }
 
 abbrev Tells : ℕ → Row → Type 0
 Tells n r = r.reply ≡ refused (down n)
@@ -95,11 +99,11 @@ module _ {D : Type 0} (device : Disk D) (history : History) where
     pub safe : device.tells → Safe device first c0 disk (end_of s.wal) (down_of s.wal) history commits rows
 
   -- The run with one statement more, which is what the documents hold now.
-  pub record Goes (commits : History) (rows : List Row) (old new : Store) (disk disk' : D) (place : Place) (line : ℕ) (statement : Statement) (reply : Reply) : Type 0 where
+  pub record Goes (commits : History) (rows : List Row) (old new : Store) (disk disk' : D) (place : Place) (known : Known) (line : ℕ) (statement : Statement) (reply : Reply) : Type 0 where
     pub note : Note
     pub more : History
     pub held : StandsFor new (commits ++ more)
-    pub state : (first : D) (c0 : ℕ) (opened : D) → State first c0 opened disk old commits rows → State first c0 opened disk' new (commits ++ more) (rows ++ row_of place line statement reply note ∷ [])
+    pub state : (first : D) (c0 : ℕ) (opened : D) → State first c0 opened disk old commits rows → State first c0 opened disk' new (commits ++ more) (rows ++ row_of place known line statement reply note ∷ [])
 
   grown : (s : Store) (k : Counts) (commits : History) (rows : List Row) → StandsFor s commits → Run k history commits rows → Grown device history commits rows
   grown s k commits rows h run = record {
@@ -113,13 +117,13 @@ module _ {D : Type 0} (device : Disk D) (history : History) where
   quiet_note : D → History → Note
   quiet_note disk commits = record { snapshot = length commits; commit = None; faults = 0; writes = 0; count = device.fault_count disk; clock = device.clock disk }
 
-  quiet_state : (old new : Store) (disk disk' first : D) (c0 : ℕ) (opened : D) (commits : History) (rows : List Row) (place : Place) (line : ℕ) (statement : Statement) (reply : Reply) → StandsFor old commits → All (λ (r : Row). r.place.step < place.step) rows → Rests device old new disk disk'
+  quiet_state : (old new : Store) (disk disk' first : D) (c0 : ℕ) (opened : D) (commits : History) (rows : List Row) (place : Place) (known : Known) (line : ℕ) (statement : Statement) (reply : Reply) → StandsFor old commits → All (λ (r : Row). r.place.step < place.step) rows → Rests device old new disk disk'
       → IsAnsweredAt (down_of old.wal) statement reply
-      → IsAnswered (counts_over device first opened disk) (commits ++ []) line statement reply (quiet_note disk commits)
-      → State first c0 opened disk old commits rows → State first c0 opened disk' new (commits ++ []) (rows ++ row_of place line statement reply (quiet_note disk commits) ∷ [])
+      → IsAnswered (counts_over device first opened disk) (commits ++ []) known line statement reply (quiet_note disk commits)
+      → State first c0 opened disk old commits rows → State first c0 opened disk' new (commits ++ []) (rows ++ row_of place known line statement reply (quiet_note disk commits) ∷ [])
   unfolding quiet_note
-  quiet_state old new disk disk' first c0 opened commits rows place line statement reply h last r q answered s =
-      let row : Row = row_of place line statement reply (quiet_note disk commits) in
+  quiet_state old new disk disk' first c0 opened commits rows place known line statement reply h last r q answered s =
+      let row : Row = row_of place known line statement reply (quiet_note disk commits) in
       let k : Counts = counts_over device first opened disk in
       let held : StandsFor new (commits ++ []) = held_same old new commits h r.store in
       let run : Run k history (commits ++ []) (rows ++ row ∷ []) = run_step k k history commits [] rows row (record {
@@ -149,15 +153,15 @@ module _ {D : Type 0} (device : Disk D) (history : History) where
       subst (λ d. State first c0 opened d new (commits ++ []) (rows ++ row ∷ [])) (sym r.same_disk) here
 
   -- a statement for which the device was not called, whatever else is known of it
-  quiet : (old new : Store) (disk disk' : D) (commits : History) (rows : List Row) (place : Place) (line : ℕ) (statement : Statement) (reply : Reply) → StandsFor old commits → All (λ (r : Row). r.place.step < place.step) rows → Rests device old new disk disk'
+  quiet : (old new : Store) (disk disk' : D) (commits : History) (rows : List Row) (place : Place) (known : Known) (line : ℕ) (statement : Statement) (reply : Reply) → StandsFor old commits → All (λ (r : Row). r.place.step < place.step) rows → Rests device old new disk disk'
       → IsAnsweredAt (down_of old.wal) statement reply
-      → ((first : D) (c0 : ℕ) (opened : D) → State first c0 opened disk old commits rows → IsAnswered (counts_over device first opened disk) (commits ++ []) line statement reply (quiet_note disk commits))
-      → Goes commits rows old new disk disk' place line statement reply
-  quiet old new disk disk' commits rows place line statement reply h last r q answered = record {
+      → ((first : D) (c0 : ℕ) (opened : D) → State first c0 opened disk old commits rows → IsAnswered (counts_over device first opened disk) (commits ++ []) known line statement reply (quiet_note disk commits))
+      → Goes commits rows old new disk disk' place known line statement reply
+  quiet old new disk disk' commits rows place known line statement reply h last r q answered = record {
     note = quiet_note disk commits;
     more = [];
     held = held_same old new commits h r.store;
-    state = λ first c0 opened s. quiet_state old new disk disk' first c0 opened commits rows place line statement reply h last r q (answered first c0 opened s) s;
+    state = λ first c0 opened s. quiet_state old new disk disk' first c0 opened commits rows place known line statement reply h last r q (answered first c0 opened s) s;
   }
 
   -- a refusal of the store while it is up
@@ -165,12 +169,12 @@ module _ {D : Type 0} (device : Disk D) (history : History) where
   stands_up fall statement reply up not_down no_failure = record { ok = λ ok. up; asks = inr up; fell = λ n e. absurd (not_down n e); no_failure = no_failure }
 
   -- a statement that finds the store down
-  finds_it_down : (old new : Store) (disk disk' : D) (commits : History) (rows : List Row) (place : Place) (line : ℕ) (statement : Statement) (count : ℕ) → StandsFor old commits → All (λ (r : Row). r.place.step < place.step) rows → Rests device old new disk disk' → (down_of old.wal) ≡ Some count
-      → FindsDown statement (refused (down count)) → (HasFailed statement (refused (down count)) → ⊥) → ((k : Counts) (note : Note) → note.commit ≡ None → IsDownSince k count → IsAnswered k (commits ++ []) line statement (refused (down count)) note)
-      → Goes commits rows old new disk disk' place line statement (refused (down count))
+  finds_it_down : (old new : Store) (disk disk' : D) (commits : History) (rows : List Row) (place : Place) (known : Known) (line : ℕ) (statement : Statement) (count : ℕ) → StandsFor old commits → All (λ (r : Row). r.place.step < place.step) rows → Rests device old new disk disk' → (down_of old.wal) ≡ Some count
+      → FindsDown statement (refused (down count)) → (HasFailed statement (refused (down count)) → ⊥) → ((k : Counts) (note : Note) → note.commit ≡ None → IsDownSince k count → IsAnswered k (commits ++ []) known line statement (refused (down count)) note)
+      → Goes commits rows old new disk disk' place known line statement (refused (down count))
   unfolding quiet_note
-  finds_it_down old new disk disk' commits rows place line statement count h last r is finds no_failure answered =
-      quiet old new disk disk' commits rows place line statement (refused (down count)) h last r
+  finds_it_down old new disk disk' commits rows place known line statement count h last r is finds no_failure answered =
+      quiet old new disk disk' commits rows place known line statement (refused (down count)) h last r
       (record { ok = λ ok. absurd ok; asks = inl finds; fell = λ n e. let same : count ≡ n = cc in is ∙ ap (λ m. Some m) same; no_failure = no_failure })
       (λ first c0 opened s. let k : (device.fault_count first < count) × (count ≤ device.fault_count disk) × (device.write_fault_count first < device.write_fault_count disk) × Any (FailedAt count) rows = s.counted.fallen count is in
       answered (counts_over device first opened disk) (quiet_note disk commits) refl (k.0, k.1, k.2))
@@ -194,17 +198,17 @@ module _ {D : Type 0} (device : Disk D) (history : History) where
     called : (e : Expr) → HasCalled (insert e) reply
 
   -- a statement that puts a document into the log
-  logs_state : (old new : Store) (disk disk' first : D) (c0 : ℕ) (opened : D) (commits : History) (rows : List Row) (place : Place) (line : ℕ) (reply : Reply) (e : Expr) (v : Vector) (note : Note) → (held' : StandsFor new (commits ++ next_commit old.documents.items v ∷ []))
+  logs_state : (old new : Store) (disk disk' first : D) (c0 : ℕ) (opened : D) (commits : History) (rows : List Row) (place : Place) (known : Known) (line : ℕ) (reply : Reply) (e : Expr) (v : Vector) (note : Note) → (held' : StandsFor new (commits ++ next_commit old.documents.items v ∷ []))
       → StandsFor old commits → All (λ (r : Row). r.place.step < place.step) rows
       → PutsEntry device (document_bytes (document (length old.documents.items) v)) old.wal new.wal disk disk'
       → (down_of old.wal) ≡ None → (IsOkOfStore reply → (down_of new.wal) ≡ None)
       → IsNoteOf disk disk' commits reply note
-      → IsAnswered (counts_over device first opened disk') (commits ++ next_commit old.documents.items v ∷ []) line (insert e) reply note
-      → Counted (down_of new.wal) (rows ++ row_of place line (insert e) reply note ∷ []) (device.fault_count first) (device.write_fault_count first) (device.fault_count disk') (device.write_fault_count disk')
-      → State first c0 opened disk old commits rows → State first c0 opened disk' new (commits ++ next_commit old.documents.items v ∷ []) (rows ++ row_of place line (insert e) reply note ∷ [])
-  logs_state old new disk disk' first c0 opened commits rows place line reply e v note held' h last p up ok n answered counted s =
+      → IsAnswered (counts_over device first opened disk') (commits ++ next_commit old.documents.items v ∷ []) known line (insert e) reply note
+      → Counted (down_of new.wal) (rows ++ row_of place known line (insert e) reply note ∷ []) (device.fault_count first) (device.write_fault_count first) (device.fault_count disk') (device.write_fault_count disk')
+      → State first c0 opened disk old commits rows → State first c0 opened disk' new (commits ++ next_commit old.documents.items v ∷ []) (rows ++ row_of place known line (insert e) reply note ∷ [])
+  logs_state old new disk disk' first c0 opened commits rows place known line reply e v note held' h last p up ok n answered counted s =
       let c : Commit = next_commit old.documents.items v in
-      let row : Row = row_of place line (insert e) reply note in
+      let row : Row = row_of place known line (insert e) reply note in
       let k : Counts = counts_over device first opened disk in
       let l : Counts = counts_over device first opened disk' in
       let run : Run l history (commits ++ c ∷ []) (rows ++ row ∷ []) = run_step k l history commits (c ∷ []) rows row (record {
@@ -241,12 +245,12 @@ module _ {D : Type 0} (device : Disk D) (history : History) where
   own_of : (old new : Store) (commits : History) (v : Vector) (note : Note) → note.commit ≡ Some (length commits) → HasOwn (commits ++ next_commit old.documents.items v ∷ []) note (next_commit old.documents.items v)
   own_of old new commits v note e = (length commits, e, get_last commits (next_commit old.documents.items v))
 
-  stores : (old new : Store) (disk disk' : D) (commits : History) (rows : List Row) (place : Place) (line : ℕ) (e : Expr) (v : Vector) (name : Name) → IsValueOf e v → StandsFor old commits → All (λ (r : Row). r.place.step < place.step) rows → HasStored device old new disk disk' v name → Goes commits rows old new disk disk' place line (insert e) (stored name)
-  stores old new disk disk' commits rows place line e v name value h last i =
+  stores : (old new : Store) (disk disk' : D) (commits : History) (rows : List Row) (place : Place) (known : Known) (line : ℕ) (e : Expr) (v : Vector) (name : Name) → IsValueOf e v → StandsFor old commits → All (λ (r : Row). r.place.step < place.step) rows → HasStored device old new disk disk' v name → Goes commits rows old new disk disk' place known line (insert e) (stored name)
+  stores old new disk disk' commits rows place known line e v name value h last i =
       let l : HasLogged device old i.mid disk disk' v name = i.logged in
       let c : Commit = next_commit old.documents.items v in
       let note : Note = record { snapshot = length commits; commit = Some (length commits); faults = device.fault_count disk' - device.fault_count disk; writes = 0; count = device.fault_count disk'; clock = device.clock disk' } in
-      let row : Row = row_of place line (insert e) (stored name) note in
+      let row : Row = row_of place known line (insert e) (stored name) note in
       let held' : StandsFor new (commits ++ c ∷ []) = held_stored device old new disk disk' commits v name h i.logged.normal i in
       let named : document (length old.documents.items) v ≡ (let d : Document = record { name = name; vector = v } in d) = ap (λ x. let d : Document = record { name = x; vector = v } in d) (sym l.named) in
       let sees : seen_by (commits ++ c ∷ []) note ≡ documents_of old = sees_all old commits (c ∷ []) note h l.up refl in
@@ -255,7 +259,7 @@ module _ {D : Type 0} (device : Disk D) (history : History) where
         note = note;
         more = c ∷ [];
         held = held';
-        state = λ first c0 opened s. logs_state old new disk disk' first c0 opened commits rows place line (stored name) e v note held' h last
+        state = λ first c0 opened s. logs_state old new disk disk' first c0 opened commits rows place known line (stored name) e v note held' h last
             (subst (λ d. PutsEntry device (document_bytes d) old.wal new.wal disk disk') (sym named) (subst (λ w. PutsEntry device (document_bytes (let d : Document = record { name = name; vector = v } in d)) old.wal w disk disk') (sym i.wal) l.puts)) l.up (λ ok. still_up)
             (record {
               snapshot = refl;
@@ -288,11 +292,11 @@ module _ {D : Type 0} (device : Disk D) (history : History) where
   rises : (n m : ℕ) → n < 2 ^ 64 - 1 → Rose n m → n < m
   rises n m l r = omega (arith, l, r)
 
-  fails : (old new : Store) (disk disk' : D) (commits : History) (rows : List Row) (place : Place) (line : ℕ) (e : Expr) (v : Vector) → IsValueOf e v → StandsFor old commits → All (λ (r : Row). r.place.step < place.step) rows → IsInDoubt device old new disk disk' v → Goes commits rows old new disk disk' place line (insert e) (refused device_fault)
-  fails old new disk disk' commits rows place line e v value h last i =
+  fails : (old new : Store) (disk disk' : D) (commits : History) (rows : List Row) (place : Place) (known : Known) (line : ℕ) (e : Expr) (v : Vector) → IsValueOf e v → StandsFor old commits → All (λ (r : Row). r.place.step < place.step) rows → IsInDoubt device old new disk disk' v → Goes commits rows old new disk disk' place known line (insert e) (refused device_fault)
+  fails old new disk disk' commits rows place known line e v value h last i =
       let c : Commit = next_commit old.documents.items v in
       let note : Note = record { snapshot = length commits; commit = Some (length commits); faults = device.fault_count disk' - device.fault_count disk; writes = device.write_fault_count disk' - device.write_fault_count disk; count = device.fault_count disk'; clock = device.clock disk' } in
-      let row : Row = row_of place line (insert e) (refused device_fault) note in
+      let row : Row = row_of place known line (insert e) (refused device_fault) note in
       let held' : StandsFor new (commits ++ c ∷ []) = held_failed device old new disk disk' commits v h i.normal i in
       record {
         note = note;
@@ -304,7 +308,7 @@ module _ {D : Type 0} (device : Disk D) (history : History) where
             let some : 0 < device.write_fault_count disk' - device.write_fault_count disk = omega (arith, failed) in
             let low : device.fault_count first < 2 ^ 64 - 1 = s.counted.room in
             let above : device.fault_count first < device.fault_count disk' = omega (arith, s.counted.low.0, low, i.rose) in
-            logs_state old new disk disk' first c0 opened commits rows place line (refused device_fault) e v note held' h last
+            logs_state old new disk disk' first c0 opened commits rows place known line (refused device_fault) e v note held' h last
             i.puts i.up (λ ok. absurd ok)
             (record {
               snapshot = refl;
@@ -339,16 +343,16 @@ module _ {D : Type 0} (device : Disk D) (history : History) where
       }
 
   -- an insertion, by what the store answered
-  inserts : (old new : Store) (disk disk' : D) (commits : History) (rows : List Row) (place : Place) (line : ℕ) (e : Expr) (v : Vector) (answer : Result answers.Name StoreError) → IsValueOf e v → StandsFor old commits → All (λ (r : Row). r.place.step < place.step) rows
-      → HasInserted device old new disk disk' v answer → Goes commits rows old new disk disk' place line (insert e) (stored_reply answer)
+  inserts : (old new : Store) (disk disk' : D) (commits : History) (rows : List Row) (place : Place) (known : Known) (line : ℕ) (e : Expr) (v : Vector) (answer : Result answers.Name StoreError) → IsValueOf e v → StandsFor old commits → All (λ (r : Row). r.place.step < place.step) rows
+      → HasInserted device old new disk disk' v answer → Goes commits rows old new disk disk' place known line (insert e) (stored_reply answer)
   unfolding quiet_note
-  inserts old new disk disk' commits rows place line e v (Ok n) value h last i = stores old new disk disk' commits rows place line e v (name n) value h last i
-  inserts old new disk disk' commits rows place line e v (Err errors.Device) value h last i = fails old new disk disk' commits rows place line e v value h last i
-  inserts old new disk disk' commits rows place line e v (Err errors.Full) value h last i =
-      quiet old new disk disk' commits rows place line (insert e) (refused store_full) h last i.0 (stands_up (down_of old.wal) (insert e) (refused store_full) i.1 (λ n x. cc) (λ f. f))
+  inserts old new disk disk' commits rows place known line e v (Ok n) value h last i = stores old new disk disk' commits rows place known line e v (name n) value h last i
+  inserts old new disk disk' commits rows place known line e v (Err errors.Device) value h last i = fails old new disk disk' commits rows place known line e v value h last i
+  inserts old new disk disk' commits rows place known line e v (Err errors.Full) value h last i =
+      quiet old new disk disk' commits rows place known line (insert e) (refused store_full) h last i.0 (stands_up (down_of old.wal) (insert e) (refused store_full) i.1 (λ n x. cc) (λ f. f))
       (λ first c0 opened s. inr (v, value, (refl, subst (λ ds. IsFull ds v) (sym (sees_all old commits [] (quiet_note disk commits) h i.1 refl)) (is_full old v h.used i.2))))
-  inserts old new disk disk' commits rows place line e v (Err errors.LogFull) value h last i =
-      quiet old new disk disk' commits rows place line (insert e) (refused log_full) h last i.0 (stands_up (down_of old.wal) (insert e) (refused log_full) i.1 (λ n x. cc) (λ f. f))
+  inserts old new disk disk' commits rows place known line e v (Err errors.LogFull) value h last i =
+      quiet old new disk disk' commits rows place known line (insert e) (refused log_full) h last i.0 (stands_up (down_of old.wal) (insert e) (refused log_full) i.1 (λ n x. cc) (λ f. f))
       (λ first c0 opened s. inr (
         v,
         value,
@@ -358,21 +362,21 @@ module _ {D : Type 0} (device : Disk D) (history : History) where
           subst (λ ds. IsLogFull ds v) (sym (sees_all old commits [] (quiet_note disk commits) h i.1 refl)) (log_is_full old v (h.end i.1) i.3),
         ),
       ))
-  inserts old new disk disk' commits rows place line e v (Err (errors.Down count)) value h last i = finds_it_down old new disk disk' commits rows place line (insert e) count h last i.0 i.1 (inl tt) (λ f. f) (λ k note n d. inr (v, value, (inl n, d)))
-  inserts old new disk disk' commits rows place line e v (Err errors.Memory) value h last i =
-      quiet old new disk disk' commits rows place line (insert e) (refused memory) h last i.0 (stands_up (down_of old.wal) (insert e) (refused memory) i.1 (λ n x. cc) (λ f. f)) (λ first c0 opened s. inr (v, value, refl))
+  inserts old new disk disk' commits rows place known line e v (Err (errors.Down count)) value h last i = finds_it_down old new disk disk' commits rows place known line (insert e) count h last i.0 i.1 (inl tt) (λ f. f) (λ k note n d. inr (v, value, (inl n, d)))
+  inserts old new disk disk' commits rows place known line e v (Err errors.Memory) value h last i =
+      quiet old new disk disk' commits rows place known line (insert e) (refused memory) h last i.0 (stands_up (down_of old.wal) (insert e) (refused memory) i.1 (λ n x. cc) (λ f. f)) (λ first c0 opened s. inr (v, value, refl))
 
   -- a search, by what the store answered
-  searches : (old new : Store) (disk disk' : D) (commits : History) (rows : List Row) (place : Place) (line : ℕ) (text : List ℕ) (q : Query) (answer : Result (Vec answers.Name Global) StoreError) → IsReadAs text q → StandsFor old commits → All (λ (r : Row). r.place.step < place.step) rows
-      → Rests device old new disk disk' → IsFoundBy old q answer → Goes commits rows old new disk disk' place line (finding text) (found_reply answer)
+  searches : (old new : Store) (disk disk' : D) (commits : History) (rows : List Row) (place : Place) (known : Known) (line : ℕ) (text : List ℕ) (q : Query) (answer : Result (Vec answers.Name Global) StoreError) → IsReadAs text q → StandsFor old commits → All (λ (r : Row). r.place.step < place.step) rows
+      → Rests device old new disk disk' → IsFoundBy old q answer → Goes commits rows old new disk disk' place known line (finding text) (found_reply answer)
   unfolding quiet_note
-  searches old new disk disk' commits rows place line text q (Ok names) value h last r i =
-      quiet old new disk disk' commits rows place line (finding text) (lists (map name names.items)) h last r (stands_up (down_of old.wal) (finding text) (lists (map name names.items)) i.0 (λ n x. cc) (λ f. f))
+  searches old new disk disk' commits rows place known line text q (Ok names) value h last r i =
+      quiet old new disk disk' commits rows place known line (finding text) (lists (map name names.items)) h last r (stands_up (down_of old.wal) (finding text) (lists (map name names.items)) i.0 (λ n x. cc) (λ f. f))
       (λ first c0 opened s. inr (q, value, (refl, subst (λ ds. IsFound q ds (map name names.items)) (sym (sees_all old commits [] (quiet_note disk commits) h i.0 refl)) i.1)))
-  searches old new disk disk' commits rows place line text q (Err (errors.Down count)) value h last r i = finds_it_down old new disk disk' commits rows place line (finding text) count h last r i (inl tt) (λ f. f) (λ k note n d. inr (q, value, (n, d)))
-  searches old new disk disk' commits rows place line text q (Err errors.Memory) value h last r i =
-      quiet old new disk disk' commits rows place line (finding text) (refused memory) h last r (stands_up (down_of old.wal) (finding text) (refused memory) i (λ n x. cc) (λ f. f)) (λ first c0 opened s. inr (q, value, refl))
-  searches old new disk disk' commits rows place line text q (Err e) value h last r i = absurd i
+  searches old new disk disk' commits rows place known line text q (Err (errors.Down count)) value h last r i = finds_it_down old new disk disk' commits rows place known line (finding text) count h last r i (inl tt) (λ f. f) (λ k note n d. inr (q, value, (n, d)))
+  searches old new disk disk' commits rows place known line text q (Err errors.Memory) value h last r i =
+      quiet old new disk disk' commits rows place known line (finding text) (refused memory) h last r (stands_up (down_of old.wal) (finding text) (refused memory) i (λ n x. cc) (λ f. f)) (λ first c0 opened s. inr (q, value, refl))
+  searches old new disk disk' commits rows place known line text q (Err e) value h last r i = absurd i
 
   -- the cause of a refusal is a text, and neither the log nor the device
   abbrev IsOfText : (Refusal → Type 0) → Type 0
@@ -421,25 +425,35 @@ module _ {D : Type 0} (device : Disk D) (history : History) where
   parsed_at fall text (shows_tokens tokens) i = record { ok = λ ok. absurd ok; asks = inl tt; fell = λ n x. cc; no_failure = λ f. f }
   parsed_at fall text reply i = absurd i
 
-  -- a statement that does not touch the store
-  only_answers : (old new : Store) (disk disk' : D) (commits : History) (rows : List Row) (place : Place) (line : ℕ) (statement : Statement) (reply : Reply) → StandsFor old commits → All (λ (r : Row). r.place.step < place.step) rows → Rests device old new disk disk'
-      → IsAnsweredAt (down_of old.wal) statement reply → ((k : Counts) (note : Note) → note.commit ≡ None → IsAnswered k (commits ++ []) line statement reply note)
-      → Goes commits rows old new disk disk' place line statement reply
-  unfolding quiet_note
-  only_answers old new disk disk' commits rows place line statement reply h last r at answered =
-      quiet old new disk disk' commits rows place line statement reply h last r at (λ first c0 opened s. answered (counts_over device first opened disk) (quiet_note disk commits) refl)
+  defined_at : (fall : Option ℕ) (known : Known) (line : ℕ) (head : Head) (ls : List Line) (reply : Reply) → IsDefined known line head ls reply → IsAnsweredAt fall (define head ls) reply
+  defined_at fall known line (dictionary_head name kind) ls (refused (down count)) i = absurd i
+  defined_at fall known line (configuration_head name) ls (refused (down count)) i = absurd i
+  defined_at fall known line (dictionary_head name kind) ls (stored n) i = absurd i
+  defined_at fall known line (configuration_head name) ls (stored n) i = absurd i
+  defined_at fall known line (dictionary_head name kind) ls (lists ns) i = absurd i
+  defined_at fall known line (configuration_head name) ls (lists ns) i = absurd i
+  defined_at fall known line head ls reply i = record { ok = λ ok. absurd ok; asks = inl tt; fell = λ n x. cc; no_failure = λ f. f }
 
-  pub goes : (old new : Store) (disk disk' : D) (commits : History) (rows : List Row) (place : Place) (line : ℕ) (statement : Statement) (reply : Reply) → StandsFor old commits → All (λ (r : Row). r.place.step < place.step) rows → HasAnswered device line old new disk disk' statement reply → Goes commits rows old new disk disk' place line statement reply
+  -- a statement that does not touch the store
+  only_answers : (old new : Store) (disk disk' : D) (commits : History) (rows : List Row) (place : Place) (known : Known) (line : ℕ) (statement : Statement) (reply : Reply) → StandsFor old commits → All (λ (r : Row). r.place.step < place.step) rows → Rests device old new disk disk'
+      → IsAnsweredAt (down_of old.wal) statement reply → ((k : Counts) (note : Note) → note.commit ≡ None → IsAnswered k (commits ++ []) known line statement reply note)
+      → Goes commits rows old new disk disk' place known line statement reply
   unfolding quiet_note
-  goes old new disk disk' commits rows place line (insert e) reply h last (inl i) =
-      only_answers old new disk disk' commits rows place line (insert e) reply h last i.0 (of_text (ExprFails e) (down_of old.wal) (insert e) reply (expr_of_text e) (λ r. inr r) i.1) (λ k note n. inl (i.1, n))
-  goes old new disk disk' commits rows place line (insert e) reply h last (inr i) = subst (λ r. Goes commits rows old new disk disk' place line (insert e) r) (sym i.2.2) (inserts old new disk disk' commits rows place line e i.0 i.2.0 i.1 h last i.2.1)
-  goes old new disk disk' commits rows place line (finding text) reply h last (inl i) =
-      only_answers old new disk disk' commits rows place line (finding text) reply h last i.0 (of_text (QueryFails text) (down_of old.wal) (finding text) reply (query_of_text text) (λ r. inr r) i.1) (λ k note n. inl (i.1, n))
-  goes old new disk disk' commits rows place line (finding text) reply h last (inr i) = subst (λ r. Goes commits rows old new disk disk' place line (finding text) r) (sym i.2.3) (searches old new disk disk' commits rows place line text i.0 i.2.0 i.1 h last i.2.1 i.2.2)
-  goes old new disk disk' commits rows place line (show e) reply h last i = only_answers old new disk disk' commits rows place line (show e) reply h last i.0 (shown_at (down_of old.wal) e reply i.1) (λ k note n. (i.1, n))
-  goes old new disk disk' commits rows place line (query text) reply h last i = only_answers old new disk disk' commits rows place line (query text) reply h last i.0 (queried_at (down_of old.wal) text reply i.1) (λ k note n. (i.1, n))
-  goes old new disk disk' commits rows place line (parse text) reply h last i = only_answers old new disk disk' commits rows place line (parse text) reply h last i.0 (parsed_at (down_of old.wal) text reply i.1) (λ k note n. (i.1, n))
-  goes old new disk disk' commits rows place line nothing (refused (no_statement at)) h last i =
-      only_answers old new disk disk' commits rows place line nothing (refused (no_statement at)) h last i.0 (record { ok = λ ok. absurd ok; asks = inl tt; fell = λ n x. cc; no_failure = λ f. f }) (λ k note n. (n, i.1))
-  goes old new disk disk' commits rows place line nothing reply h last i = absurd i
+  only_answers old new disk disk' commits rows place known line statement reply h last r at answered =
+      quiet old new disk disk' commits rows place known line statement reply h last r at (λ first c0 opened s. answered (counts_over device first opened disk) (quiet_note disk commits) refl)
+
+  pub goes : (old new : Store) (disk disk' : D) (commits : History) (rows : List Row) (place : Place) (known : Known) (line : ℕ) (statement : Statement) (reply : Reply) → StandsFor old commits → All (λ (r : Row). r.place.step < place.step) rows → HasAnswered device known line old new disk disk' statement reply → Goes commits rows old new disk disk' place known line statement reply
+  unfolding quiet_note
+  goes old new disk disk' commits rows place known line (insert e) reply h last (inl i) =
+      only_answers old new disk disk' commits rows place known line (insert e) reply h last i.0 (of_text (ExprFails e) (down_of old.wal) (insert e) reply (expr_of_text e) (λ r. inr r) i.1) (λ k note n. inl (i.1, n))
+  goes old new disk disk' commits rows place known line (insert e) reply h last (inr i) = subst (λ r. Goes commits rows old new disk disk' place known line (insert e) r) (sym i.2.2) (inserts old new disk disk' commits rows place known line e i.0 i.2.0 i.1 h last i.2.1)
+  goes old new disk disk' commits rows place known line (finding text) reply h last (inl i) =
+      only_answers old new disk disk' commits rows place known line (finding text) reply h last i.0 (of_text (QueryFails text) (down_of old.wal) (finding text) reply (query_of_text text) (λ r. inr r) i.1) (λ k note n. inl (i.1, n))
+  goes old new disk disk' commits rows place known line (finding text) reply h last (inr i) = subst (λ r. Goes commits rows old new disk disk' place known line (finding text) r) (sym i.2.3) (searches old new disk disk' commits rows place known line text i.0 i.2.0 i.1 h last i.2.1 i.2.2)
+  goes old new disk disk' commits rows place known line (show e) reply h last i = only_answers old new disk disk' commits rows place known line (show e) reply h last i.0 (shown_at (down_of old.wal) e reply i.1) (λ k note n. (i.1, n))
+  goes old new disk disk' commits rows place known line (query text) reply h last i = only_answers old new disk disk' commits rows place known line (query text) reply h last i.0 (queried_at (down_of old.wal) text reply i.1) (λ k note n. (i.1, n))
+  goes old new disk disk' commits rows place known line (parse text) reply h last i = only_answers old new disk disk' commits rows place known line (parse text) reply h last i.0 (parsed_at (down_of old.wal) text reply i.1) (λ k note n. (i.1, n))
+  goes old new disk disk' commits rows place known line (define head ls) reply h last i = only_answers old new disk disk' commits rows place known line (define head ls) reply h last i.0 (defined_at (down_of old.wal) known line head ls reply i.1) (λ k note n. (i.1, n))
+  goes old new disk disk' commits rows place known line nothing (refused (no_statement at)) h last i =
+      only_answers old new disk disk' commits rows place known line nothing (refused (no_statement at)) h last i.0 (record { ok = λ ok. absurd ok; asks = inl tt; fell = λ n x. cc; no_failure = λ f. f }) (λ k note n. (n, i.1))
+  goes old new disk disk' commits rows place known line nothing reply h last i = absurd i

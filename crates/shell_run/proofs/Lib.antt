@@ -11,3 +11,6 @@ pub mod Going
 pub mod Progressing
 pub mod OneAnswer
 pub mod Traces
+mod Bodies
+mod Turning
+mod OneDefinition

@@ -14,7 +14,7 @@ use Rattle.ts_query.specs.declared.error.QueryError.TheVariants as queries
 use Rattle.ts_query.proofs.Answer.{one_answer}
 use Rattle.shell_script.specs.Grammar.{Part, Expr}
 use Rattle.shell_script.specs.Replies.{bad_vector, bad_query, long_lexeme, large_vector, large_query}
-use Rattle.shell_script.specs.Replies.{Refusal, no_statement, text_refused, store_full, log_full, down, device, memory}
+use Rattle.shell_script.specs.Replies.{Refusal, no_statement, no_configuration, no_dictionary, text_refused, store_full, log_full, down, device, memory}
 use Rattle.shell_script.specs.ReplyView.{refusal}
 use Rattle.shell_run.specs.Inner.Refusing.{vector_refusal, query_refusal}
 use Rattle.shell_run.specs.Values.{IsPartOf, IsJoinedOf, PartFails, JoinIsRefused, OthersFail, QueryFails, IsExprAnswer, IsQueryAnswer, IsOneAnswer}
@@ -34,6 +34,8 @@ part_caused p (text_refused (bad_query at)) m h = absurd h
 part_caused p (text_refused (long_lexeme at)) m h = (vectors.LexemeTooLong at, (λ e. cc), refl, h)
 part_caused p (text_refused (large_vector bytes)) m h = (vectors.VectorTooLarge bytes, (λ e. cc), refl, h)
 part_caused p (text_refused large_query) m h = absurd h
+part_caused p no_configuration m h = absurd h
+part_caused p no_dictionary m h = absurd h
 part_caused p store_full m h = absurd h
 part_caused p log_full m h = absurd h
 part_caused p (down count) m h = absurd h
@@ -47,6 +49,8 @@ join_caused v w (text_refused (bad_query at)) m h = absurd h
 join_caused v w (text_refused (long_lexeme at)) m h = absurd h
 join_caused v w (text_refused (large_vector bytes)) m h = (vectors.VectorTooLarge bytes, (λ e. cc), refl, h)
 join_caused v w (text_refused large_query) m h = absurd h
+join_caused v w no_configuration m h = absurd h
+join_caused v w no_dictionary m h = absurd h
 join_caused v w store_full m h = absurd h
 join_caused v w log_full m h = absurd h
 join_caused v w (down count) m h = absurd h
@@ -169,6 +173,8 @@ query_caused text (text_refused (bad_vector at)) m h = absurd h
 query_caused text (text_refused (long_lexeme at)) m h = (queries.LexemeTooLong at, (λ e. cc), refl, h)
 query_caused text (text_refused (large_vector bytes)) m h = absurd h
 query_caused text (text_refused large_query) m h = (queries.TooManyNodes, (λ e. cc), refl, h)
+query_caused text no_configuration m h = absurd h
+query_caused text no_dictionary m h = absurd h
 query_caused text store_full m h = absurd h
 query_caused text log_full m h = absurd h
 query_caused text (down count) m h = absurd h

@@ -8,7 +8,8 @@ use Rattle.std.proofs.lemmas.List.Sums.{sum_by_push, sum_by-cons}
 use Rattle.std.proofs.lemmas.Bool.{ne_eqb, eqb-false, eqb-true}
 use Rattle.ts_base.specs.Vectors.{Vector}
 use Rattle.ts_query.specs.Queries.{Query}
-use Rattle.shell_script.specs.Grammar.{Statement, insert, search as finding, show, query, parse, nothing}
+use Rattle.shell_script.specs.Grammar.{Statement, insert, search as finding, show, query, parse, define, nothing}
+use Rattle.ts_config.specs.Known.{Known}
 use Rattle.shell_run.specs.History.{Document, Commit, History, IsLawful, Begins, docs, IsFull, IsFound, insertion}
 use Rattle.shell_run.specs.Entries.{IsLogFull}
 use Rattle.shell_run.specs.Run.{Row, Note, Counts, Reply, stored, lists, refused, store_full, log_full, down, device, memory, Run, IsWithin, IsAnswered, IsInserted, IsSearched, MayHaveOwn, MetFault, IsDownSince, FindsDown, HasFailed, HasCalled, IsSeenBy, Before, has_commit, is_at, seen_by, HasOwn}
@@ -72,15 +73,16 @@ search_more k l commits more q (refused (down count)) note g le h = (h.0, down_m
 search_more k l commits more q (refused memory) note g le h = h
 search_more k l commits more q reply note g le h = absurd h
 
-answered_more : (k l : Counts) (commits more : History) (line : ℕ) (statement : Statement) (reply : Reply) (note : Note) → Grows k l → note.snapshot ≤ length commits → IsAnswered k commits line statement reply note → IsAnswered l (commits ++ more) line statement reply note
-answered_more k l commits more line (insert e) reply note g le (inl h) = inl h
-answered_more k l commits more line (insert e) reply note g le (inr h) = inr (h.0, h.1, insert_more k l commits more h.0 reply note g le h.2)
-answered_more k l commits more line (finding text) reply note g le (inl h) = inl h
-answered_more k l commits more line (finding text) reply note g le (inr h) = inr (h.0, h.1, search_more k l commits more h.0 reply note g le h.2)
-answered_more k l commits more line (show e) reply note g le h = h
-answered_more k l commits more line (query text) reply note g le h = h
-answered_more k l commits more line (parse text) reply note g le h = h
-answered_more k l commits more line nothing reply note g le h = h
+answered_more : (k l : Counts) (commits more : History) (known : Known) (line : ℕ) (statement : Statement) (reply : Reply) (note : Note) → Grows k l → note.snapshot ≤ length commits → IsAnswered k commits known line statement reply note → IsAnswered l (commits ++ more) known line statement reply note
+answered_more k l commits more known line (insert e) reply note g le (inl h) = inl h
+answered_more k l commits more known line (insert e) reply note g le (inr h) = inr (h.0, h.1, insert_more k l commits more h.0 reply note g le h.2)
+answered_more k l commits more known line (finding text) reply note g le (inl h) = inl h
+answered_more k l commits more known line (finding text) reply note g le (inr h) = inr (h.0, h.1, search_more k l commits more h.0 reply note g le h.2)
+answered_more k l commits more known line (show e) reply note g le h = h
+answered_more k l commits more known line (query text) reply note g le h = h
+answered_more k l commits more known line (parse text) reply note g le h = h
+answered_more k l commits more known line (define head ls) reply note g le h = h
+answered_more k l commits more known line nothing reply note g le h = h
 
 below_some : (o : Option ℕ) (s n m : ℕ) → n ≤ m → IfSome o (λ p. (s ≤ p) × (p < n)) → IfSome o (λ p. (s ≤ p) × (p < m))
 below_some None s n m le h = tt
@@ -107,7 +109,7 @@ pub record Step (k l : Counts) (first commits more : History) (rows : List Row) 
   pub run : Run k first commits rows
   pub grows : Grows k l
   pub snapshot : row.note.snapshot ≡ length commits
-  pub answered : IsAnswered l (commits ++ more) row.line row.statement row.reply row.note
+  pub answered : IsAnswered l (commits ++ more) row.known row.line row.statement row.reply row.note
   pub own : ((more ≡ []) × (row.note.commit ≡ None)) ⊎ ((c : Commit) × (more ≡ c ∷ []) × (row.note.commit ≡ Some (length commits)))
   pub lawful : IsLawful (commits ++ more)
   pub last : All (λ (r : Row). r.place.step < row.place.step) rows
@@ -212,8 +214,8 @@ pub run_step : (k l : Counts) (first commits more : History) (rows : List Row) (
 run_step j l first commits more rows row h = record {
   lawful = h.lawful;
   begins = (h.run.begins.0 ++ more, sym (append_assoc first h.run.begins.0 more) ∙ ap (λ z. z ++ more) h.run.begins.1);
-  answers = All-push (λ (r : Row). IsAnswered l (commits ++ more) r.line r.statement r.reply r.note) rows row
-      (λ k d m. let r : Row = get_or rows k d in let w : IsWithin (length first) (length commits) r.note = h.run.within k d m in answered_more j l commits more r.line r.statement r.reply r.note h.grows w.high_is (h.run.answers k d m)) h.answered;
+  answers = All-push (λ (r : Row). IsAnswered l (commits ++ more) r.known r.line r.statement r.reply r.note) rows row
+      (λ k d m. let r : Row = get_or rows k d in let w : IsWithin (length first) (length commits) r.note = h.run.within k d m in answered_more j l commits more r.known r.line r.statement r.reply r.note h.grows w.high_is (h.run.answers k d m)) h.answered;
   within = All-push (λ (r : Row). IsWithin (length first) (length (commits ++ more)) r.note) rows row
       (λ k d m. let r : Row = get_or rows k d in within_more (length first) (length commits) (length (commits ++ more)) r.note (omega (arith, length-append commits more)) (h.run.within k d m)) (within_new j l first commits more rows row h);
   own = own_new j l first commits more rows row h;

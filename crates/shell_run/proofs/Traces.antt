@@ -1,13 +1,19 @@
 -- Runs that no call leaves.
-use Rattle.std.proofs.Common.{◌<◌, inl, inr, [], ◌∷◌, arith, refl, sym, ap, subst}
+use Rattle.std.proofs.Common.{◌≡◌, ◌<◌, ℕ, inl, inr, List, [], ◌∷◌, arith, refl, sym, ◌∙◌, ap, subst}
+use Rattle.std.proofs.lemmas.List.Quantifiers.{Any-push}
 use Rattle.std.proofs.lemmas.List.Sums.{sum_by-cons}
 use Rattle.disk_trait.specs.declared.device.Disk.{Ghosts as Disk}
 use Rattle.disk_trait.specs.declared.stream.Sink.{Ghosts as Sink}
 use Rattle.disk_trait.specs.Files.{Files}
-use Rattle.shell_script.specs.Grammar.{Expr, insert}
+use Rattle.ts_config.specs.Known.{Known, NamedRules, HasDictionary}
+use Rattle.shell_script.specs.Lines.{Line}
+use Rattle.shell_script.specs.Heads.{Kind, dictionary_head}
+use Rattle.shell_script.specs.Grammar.{Expr, insert, define}
 use Rattle.shell_script.specs.Name.{Name}
-use Rattle.shell_run.specs.Run.{Row, stored, HasFailed, FindsDown}
-use Rattle.shell_run.specs.Traces.{NoneIsStoredAfterFailure, EachFailureIsNoted, OneCountIsTold, NothingIsPrintedWith4, NoLogIsWiped, NoPageIsWritten}
+use Rattle.shell_run.specs.Defining.{Becomes}
+use Rattle.shell_run.specs.Run.{Row, Note, Counts, IsAnswered, stored, done, HasFailed, FindsDown}
+use Rattle.shell_run.specs.History.{History}
+use Rattle.shell_run.specs.Traces.{NoNameIsTakenTwice, NoneIsStoredAfterFailure, EachFailureIsNoted, OneCountIsTold, NothingIsPrintedWith4, NoLogIsWiped, NoPageIsWritten}
 
 pub none_stored_after_failure : NoneIsStoredAfterFailure
 none_stored_after_failure counts first commits a b e f n statement reply ask' reply' before run =
@@ -34,6 +40,29 @@ nothing_is_printed_with_4 text before after rows h = elim h.statuses [
   | inr (inr (inr (inl e))) ↦ omega arith
   | inr (inr (inr (inr e))) ↦ omega arith
 ]
+
+-- what is defined behind a dictionary that is done has its name
+name_taken : (known next : Known) (name : List ℕ) (k : Kind) (ls : List Line) → Becomes known (define (dictionary_head name k) ls) done next → HasDictionary next name
+name_taken known next name k ls h =
+    subst (λ n. HasDictionary n name) (sym h.2) (Any-push (λ (d : NamedRules). d.name ≡ name) known.dictionaries (record { name = name; rules = h.0 }) refl)
+
+name_free : (counts : Counts) (commits : History) (known : Known) (line : ℕ) (name : List ℕ) (k : Kind) (ls : List Line) (note : Note) → IsAnswered counts commits known line (define (dictionary_head name k) ls) done note → ¬ HasDictionary known name
+name_free counts commits known line name k ls note h = h.0.1
+
+first_is : {X : Type 0} (x y : X) (xs ys : List X) → x ∷ xs ≡ y ∷ ys → (x ≡ y) × (xs ≡ ys)
+first_is x y xs ys e = (cc, cc)
+
+pub no_name_is_taken_twice : NoNameIsTakenTwice
+no_name_is_taken_twice counts first commits known last s t a b name j k ls ms asked replied asked' replied' rows run =
+    let head : (a ≡ rows.0) × (b ∷ [] ≡ rows.1) = first_is a rows.0 (b ∷ []) rows.1 rows.3 in
+    let becomes : Becomes known a.statement a.reply rows.2 = subst (λ (r : Row). Becomes known r.statement r.reply rows.2) (sym head.0) rows.5 in
+    let taken : HasDictionary rows.2 name = name_taken known rows.2 name j ls (subst (λ r. Becomes known (define (dictionary_head name j) ls) r rows.2) replied (subst (λ q. Becomes known q a.reply rows.2) asked becomes)) in
+    let next = rows.6 in
+    let tail : (b ≡ next.0) × ([] ≡ next.1) = first_is b next.0 [] next.1 (head.1 ∙ next.3) in
+    let before : b.known ≡ rows.2 = subst (λ (r : Row). r.known ≡ rows.2) (sym tail.0) next.4.before in
+    let answered : IsAnswered counts commits b.known b.line b.statement b.reply b.note = run.answers 1 b (omega arith) in
+    let free : ¬ HasDictionary b.known name = name_free counts commits b.known b.line name k ms b.note (subst (λ r. IsAnswered counts commits b.known b.line (define (dictionary_head name k) ms) r b.note) replied' (subst (λ q. IsAnswered counts commits b.known b.line q b.reply b.note) asked' answered)) in
+    free (subst (λ n. HasDictionary n name) (sym before) taken)
 
 module _ {K D : Type 0} (sink : Sink K) (disk : Disk D) where
   pub no_log_is_wiped : NoLogIsWiped sink disk

@@ -1,3 +1,4 @@
+pub mod Definitions
 pub mod Logs
 pub mod Opened
 pub mod Sending

@@ -1,6 +1,7 @@
 pub mod HasRead
 pub mod History
 pub mod Values
+pub mod Defining
 pub mod Run
 pub mod Script
 pub mod Outcomes
@@ -20,6 +21,9 @@ pub use Rattle.ts_base.specs.Vectors
 pub use Rattle.ts_base.specs.Bytes
 pub use Rattle.ts_query.specs.Queries
 pub use Rattle.ts_match.specs.Meaning
+pub use Rattle.ts_config.specs.Known
+pub use Rattle.shell_script.specs.Steps
+pub use Rattle.shell_script.specs.Says
 pub use Rattle.shell_script.specs.Grammar
 pub use Rattle.shell_script.specs.Name
 pub use Rattle.shell_script.specs.Replies

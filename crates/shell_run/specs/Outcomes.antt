@@ -2,10 +2,12 @@
 use Rattle.std.specs.Prelude.{◌≡◌, ◌≢◌, ◌⊎◌, ℕ, List, [], ◌++◌, Bool, true, false}
 use Rattle.std.specs.Prelude.{Option}
 use Rattle.std.specs.List.{list_any}
-use Rattle.std.specs.Str.Lines.{lines}
 use Rattle.std.specs.Io.KnownBytes.{Appends}
-use Rattle.shell_run.specs.Run.{Row}
+use Rattle.ts_config.specs.Known.{Known, first_known}
+use Rattle.shell_script.specs.Lines.{script_lines}
+use Rattle.shell_script.specs.Steps.{Step, AreSteps}
 use Rattle.shell_script.specs.Replies.{Reply, refused}
+use Rattle.shell_run.specs.Run.{Row}
 use Rattle.shell_run.specs.Script.{AreRows, printed_rows}
 
 abbrev pub is_refusal : Reply → Bool
@@ -15,14 +17,15 @@ is_refusal reply = false
 abbrev pub some_refused : List Row → Bool
 some_refused rows = list_any (λ (r : Row). is_refusal r.reply) rows
 
--- The rows are those of a script's first lines, and the sink took a beginning of their text.
+-- The rows are those of a script's first steps, and the sink took a beginning of their text.
 pub record HasPrinted (text : List ℕ) (before after : Option (List ℕ))
     (rows : List Row) : Type 0 where
-  pub done : List (List ℕ)
-  pub left : List (List ℕ)
-  pub script : lines text ≡ done ++ left
-  pub behind : Bool
-  pub each : AreRows 1 false done rows behind
+  pub done : List Step
+  pub left : List Step
+  pub script : AreSteps false (script_lines text) (done ++ left)
+  -- what is defined behind them
+  pub known : Known
+  pub each : AreRows first_known done rows known
   pub sent : List ℕ
   pub unsent : List ℕ
   pub printed : sent ++ unsent ≡ printed_rows rows
@@ -34,7 +37,7 @@ pub record NotRun (status : ℕ) (before after : Option (List ℕ)) : Type 0 whe
   pub statuses : (status ≢ 0) × (status ≢ 1) × (status ≢ 7)
 
 -- The rows are those of the script, and the sink took their text. With status 5 or 7 they are those
--- of its first lines, and the sink took a beginning of their text.
+-- of its first steps, and the sink took a beginning of their text.
 pub record Answered (text : List ℕ) (status : ℕ) (before after : Option (List ℕ))
     (rows : List Row) : Type 0 where
   pub so_far : HasPrinted text before after rows

@@ -5,12 +5,14 @@ use Rattle.std.specs.List.{All, Any, slice_get}
 use Rattle.ts_base.specs.Vectors.{Vector}
 use Rattle.ts_query.specs.Queries.{Query}
 use Rattle.ts_query.specs.Refusals.{IsReadAs}
-use Rattle.shell_script.specs.Grammar.{Statement, insert, search, show, query, parse, nothing}
+use Rattle.ts_config.specs.Known.{Known}
+use Rattle.shell_script.specs.Grammar.{Statement, insert, search, show, query, parse, define, nothing}
 use Rattle.shell_script.specs.Name.{Name}
 use Rattle.shell_run.specs.History.{Document, Commit, History, insertion, docs, IsFound, IsFull, Begins, IsLawful}
 use Rattle.shell_run.specs.Entries.{IsLogFull}
-pub use Rattle.shell_script.specs.Replies.{Refusal, no_statement, store_full, log_full, down, device, memory, text_refused}
-pub use Rattle.shell_script.specs.Replies.{Reply, stored, lists, shows_vector, shows_query, shows_tokens, refused}
+use Rattle.shell_run.specs.Defining.{IsDefined}
+pub use Rattle.shell_script.specs.Replies.{Refusal, no_statement, no_configuration, no_dictionary, store_full, log_full, down, device, memory, text_refused}
+pub use Rattle.shell_script.specs.Replies.{Reply, stored, lists, shows_vector, shows_query, shows_tokens, done, refused}
 use Rattle.shell_run.specs.Values.{IsValueOf, ExprFails, QueryFails, IsRefusedBy, IsShown, IsQueried, IsParsed}
 
 -- Where a statement stands: the step of the script, where a block is one step; the session; and
@@ -31,10 +33,12 @@ pub record Note : Type 0 where
   pub count : ℕ
   pub clock : ℕ
 
--- A statement with its reply. Its line, which its refusal may tell, is one of its step's.
+-- A statement with its reply. Its line, which its refusal may tell, is one of its step's. `known` is
+-- what is defined before it.
 pub record Row : Type 0 where
   pub place : Place
   pub line : ℕ
+  pub known : Known
   pub statement : Statement
   pub reply : Reply
   pub note : Note
@@ -115,18 +119,23 @@ abbrev pub IsLineRefused : ℕ → Reply → Note → Type 0
 IsLineRefused line (refused (no_statement at)) note = (note.commit ≡ None) × (at ≡ line)
 IsLineRefused line reply note = ⊥
 
--- A statement's texts are refused, or it is answered by what they stand for.
-abbrev pub IsAnswered : Counts → History → ℕ → Statement → Reply → Note → Type 0
-IsAnswered counts commits line (insert e) reply note =
+-- A statement's texts are refused, or it is answered by what they stand for. A definition is
+-- answered by what is defined before it.
+abbrev pub IsAnswered : Counts → History → Known → ℕ → Statement → Reply → Note → Type 0
+IsAnswered counts commits known line (insert e) reply note =
     (IsRefusedBy (ExprFails e) reply × (note.commit ≡ None))
     ⊎ ((v : Vector) × IsValueOf e v × IsInserted counts commits v reply note)
-IsAnswered counts commits line (search text) reply note =
+IsAnswered counts commits known line (search text) reply note =
     (IsRefusedBy (QueryFails text) reply × (note.commit ≡ None))
     ⊎ ((q : Query) × IsReadAs text q × IsSearched counts commits q reply note)
-IsAnswered counts commits line (show e) reply note = IsShown e reply × (note.commit ≡ None)
-IsAnswered counts commits line (query text) reply note = IsQueried text reply × (note.commit ≡ None)
-IsAnswered counts commits line (parse text) reply note = IsParsed text reply × (note.commit ≡ None)
-IsAnswered counts commits line nothing reply note = IsLineRefused line reply note
+IsAnswered counts commits known line (show e) reply note = IsShown e reply × (note.commit ≡ None)
+IsAnswered counts commits known line (query text) reply note =
+    IsQueried text reply × (note.commit ≡ None)
+IsAnswered counts commits known line (parse text) reply note =
+    IsParsed text reply × (note.commit ≡ None)
+IsAnswered counts commits known line (define head ls) reply note =
+    IsDefined known line head ls reply × (note.commit ≡ None)
+IsAnswered counts commits known line nothing reply note = IsLineRefused line reply note
 
 -- an answer Ok of the store
 abbrev pub IsOkOfStore : Reply → Type 0
@@ -182,7 +191,7 @@ pub record IsWithin (low high : ℕ) (note : Note) : Type 0 where
 pub record Run (counts : Counts) (first commits : History) (rows : List Row) : Type 0 where
   pub lawful : IsLawful commits
   pub begins : Begins first commits
-  pub answers : All (λ (r : Row). IsAnswered counts commits r.line r.statement r.reply r.note) rows
+  pub answers : All (λ (r : Row). IsAnswered counts commits r.known r.line r.statement r.reply r.note) rows
   pub within : All (λ (r : Row). IsWithin (length first) (length commits) r.note) rows
   -- each commit past the first is the commit of one statement
   pub own : (k : ℕ) → length first ≤ k → k < length commits → count_by (has_commit k) rows ≡ 1

@@ -2,10 +2,15 @@
 use Rattle.std.specs.Prelude.{◌≡◌, ◌≢◌, ℕ, ◌<◌, List, [], ◌∷◌, Option}
 use Rattle.disk_trait.specs.declared.device.Disk.{Ghosts as Disk}
 use Rattle.disk_trait.specs.declared.stream.Sink.{Ghosts as Sink}
-use Rattle.shell_script.specs.Grammar.{Expr, insert}
+use Rattle.ts_config.specs.Known.{Known}
+use Rattle.shell_script.specs.Lines.{Line}
+use Rattle.shell_script.specs.Heads.{Kind, dictionary_head}
+use Rattle.shell_script.specs.Steps.{Step}
+use Rattle.shell_script.specs.Grammar.{Expr, insert, define}
 use Rattle.shell_script.specs.Name.{Name}
 use Rattle.shell_run.specs.History.{History}
-use Rattle.shell_run.specs.Run.{Row, Counts, Before, Run, stored, refused, down, device}
+use Rattle.shell_run.specs.Run.{Row, Counts, Before, Run, stored, done, refused, down, device}
+use Rattle.shell_run.specs.Script.{AreRows}
 use Rattle.shell_run.specs.Outcomes.{Answered}
 use Rattle.shell_run.specs.RunMeets.{HasCauses}
 
@@ -31,6 +36,14 @@ OneCountIsTold = (counts : Counts) (first commits : History) (a b : Row) (m n : 
 abbrev pub NothingIsPrintedWith4 : Type 0
 NothingIsPrintedWith4 = (text : List ℕ) (before after : Option (List ℕ)) (rows : List Row)
     → Answered text 4 before after rows → ⊥
+
+-- two dictionaries of one name, one after the other, that are done
+abbrev pub NoNameIsTakenTwice : Type 0
+NoNameIsTakenTwice = (counts : Counts) (first commits : History) (known last : Known) (s t : Step)
+    (a b : Row) (name : List ℕ) (j k : Kind) (ls ms : List Line)
+    → a.statement ≡ define (dictionary_head name j) ls → a.reply ≡ done
+    → b.statement ≡ define (dictionary_head name k) ms → b.reply ≡ done
+    → AreRows known (s ∷ t ∷ []) (a ∷ b ∷ []) last → Run counts first commits (a ∷ b ∷ []) → ⊥
 
 module _ {K D : Type 0} (sink : Sink K) (disk : Disk D) where
   -- a log that is written over, and status 4

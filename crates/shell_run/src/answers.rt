@@ -3,6 +3,7 @@ ghost use Rattle.std.specs.Prelude.{◌≡◌};
 ghost use Rattle.shell_script.specs.ReplyView.{refusal, reply};
 ghost use Rattle.shell_script.specs.StatementView.{statement};
 ghost use Rattle.shell_run.specs.Inner.Refusing.{refusal_for, stored_reply, found_reply};
+ghost use Rattle.ts_config.specs.Known.{Known};
 ghost use Rattle.shell_run.specs.Inner.Stores.{HasAnswered};
 
 use crate::error::StoreError;
@@ -54,8 +55,8 @@ pub fn answer<D: Disk>(
     line: u64,
     asked: Statement,
 ) -> Reply
-    ensures { HasAnswered D.Disk line store.old store.new disk.old disk.new (statement asked)
-        (reply result) }
+    ensures { (known : Known) → HasAnswered D.Disk known line store.old store.new disk.old disk.new
+        (statement asked) (reply result) }
 {
     match asked {
         Statement::Insert(from) => match expr_value(alloc, &from) {

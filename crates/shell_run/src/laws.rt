@@ -1,18 +1,25 @@
 // What holds of the definitions alone.
 ghost use Rattle.std.specs.Prelude.{◌≡◌, ℕ, List};
 ghost use Rattle.ts_query.specs.Queries.{Query};
+ghost use Rattle.ts_config.specs.Known.{Known};
+ghost use Rattle.shell_script.specs.Lines.{Line};
+ghost use Rattle.shell_script.specs.Heads.{Head};
 ghost use Rattle.shell_script.specs.Grammar.{Expr};
 ghost use Rattle.shell_script.specs.Name.{Name};
 ghost use Rattle.shell_run.specs.History.{Document, IsFound};
-ghost use Rattle.shell_run.specs.Traces.{NoneIsStoredAfterFailure, EachFailureIsNoted, OneCountIsTold, NothingIsPrintedWith4, NoLogIsWiped, NoPageIsWritten};
+ghost use Rattle.shell_run.specs.Traces.{NoneIsStoredAfterFailure, EachFailureIsNoted, OneCountIsTold, NothingIsPrintedWith4, NoNameIsTakenTwice, NoLogIsWiped, NoPageIsWritten};
+ghost use Rattle.shell_run.specs.Defining.{HasOneAnswer};
 ghost use Rattle.shell_run.specs.Values.{IsExprAnswer, IsQueryAnswer, IsOneAnswer};
 
 use disk_trait::{Disk, Sink};
 
-/// Want of memory aside, an expression has one answer, and so has the text of a query.
+/// Want of memory aside, an expression has one answer, and so have the text of a query and a
+/// definition.
 pub fn one_answer()
     ensures expressions { (e : Expr) → IsOneAnswer (IsExprAnswer e) }
     ensures queries { (text : List ℕ) → IsOneAnswer (IsQueryAnswer text) }
+    ensures definitions { (known : Known) (number : ℕ) (head : Head) (lines : List Line)
+        → HasOneAnswer known number head lines }
 {}
 
 /// A query finds one list of names in a row of documents.
@@ -27,6 +34,7 @@ pub fn ruled_out<K: Sink, D: Disk>()
     ensures unnoted { EachFailureIsNoted }
     ensures two_counts { OneCountIsTold }
     ensures printed_with_4 { NothingIsPrintedWith4 }
+    ensures taken_twice { NoNameIsTakenTwice }
     ensures wiped { NoLogIsWiped K.Sink D.Disk }
     ensures page_written { NoPageIsWritten K.Sink D.Disk }
 {}

@@ -2,6 +2,8 @@
 #![tactic(auto)]
 
 mod answers;
+mod defining;
+mod dictionaries;
 mod entries;
 mod error;
 mod gate;

@@ -1,8 +1,10 @@
-// A script's lines, one after another.
+// A script's steps, one after another.
 ghost use Rattle.std.specs.Prelude.{◌≡◌, ◌⊎◌, ℕ, ◌+◌, ◌-◌, ◌^◌, ◌<◌, ◌≤◌, List, [], ◌++◌, ◌||◌, ◌∷◌, min, true, length, IfOk, IfErr, OnOk, OnErr, IsErrOf, is_ok, IfSome, IfNone};
 ghost use Rattle.disk_trait.specs.Device.{Rose};
 ghost use Rattle.shell_script.specs.ReplyView.{reply};
-ghost use Rattle.shell_run.specs.Inner.Serving.{Served, Passed, HasRunLines};
+ghost use Rattle.shell_script.specs.StepView.{step as shown};
+ghost use Rattle.ts_config.specs.Known.{first_known};
+ghost use Rattle.shell_run.specs.Inner.Serving.{HasTurned, Served, Passed, HasRunSteps};
 ghost use Rattle.shell_run.specs.Outcomes.{is_refusal};
 ghost use Rattle.wal.specs.Waiting.{end_of, down_of};
 ghost use Rattle.shell_run.specs.Inner.Stores.{StandsFor, log_of};
@@ -10,26 +12,28 @@ ghost use Rattle.shell_run.specs.History.{History};
 ghost use Rattle.shell_run.specs.declared.error.Stop.TheVariants.{SinkFault, OutOfMemory};
 
 use crate::answers::answer;
+use crate::defining::define;
 use crate::error::Stop;
 use crate::gate::Gate;
 use crate::sending::{flush, put_reply};
 use crate::store::Store;
 use crate::turns::Turns;
 use disk_trait::{Disk, Sink};
-use shell_script::{Reply, cut_at, is_skipped, read_line, without_return};
-use std::alloc::Global;
+use shell_script::{Refusal, Reply, Step, read_head, read_line, steps};
+use std::alloc::{AllocError, Global};
+use ts_config::Configs;
 
-/// What a run keeps between two lines.
+/// What a run keeps between two steps.
 #[derive(Drop)]
 pub struct Desk {
     /// The documents and their log.
     pub store: Store,
+    /// What is defined.
+    pub configs: Configs,
     /// The text that is not yet written.
     pub waiting: Vec<u8>,
     /// Whether a reply was a refusal.
     pub refused: bool,
-    /// Whether the next line is within a body.
-    pub within: bool,
     /// The statements of each session so far.
     pub turns: Turns,
 }
@@ -48,20 +52,49 @@ fn either(a: bool, b: bool) -> bool
     a || b
 }
 
+/// What a step is answered, and its session. Nothing is done where memory runs out.
+fn turn<D: Disk, G: Gate>(
+    alloc: Global,
+    gate: &G,
+    desk: &mut Desk,
+    disk: &mut D,
+    step: Step<'_>,
+) -> Result<(u8, Reply), AllocError>
+    ensures turned { IfOk result (λ r. HasTurned D.Disk (shown step.entry) desk.old desk.new disk.old
+        disk.new r.0 (reply r.1)) }
+    ensures short { OnErr result ((desk.new ≡ desk.old) × (disk.new ≡ disk.old)) }
+    ensures waiting { desk.new.waiting ≡ desk.old.waiting }
+    ensures refused { desk.new.refused ≡ desk.old.refused }
+    ensures counts { D.fault_count disk.old ≤ D.fault_count disk.new }
+{
+    match step {
+        Step::Single(line) => {
+            let said = read_line(alloc, line.bytes)?;
+            desk.turns.pass(gate, said.session);
+            let reply = answer(alloc, &mut desk.store, disk, line.number, said.statement);
+            Ok((said.session, reply))
+        }
+        Step::Definition(line, body) => match read_head(line.bytes) {
+            Some(head) => Ok((0, define(alloc, &mut desk.configs, line.number, head, body))),
+            None => Ok((0, Reply::Refused(Refusal::NoStatement(line.number)))),
+        },
+        Step::Stray(line) => Ok((0, Reply::Refused(Refusal::NoStatement(line.number)))),
+    }
+}
+
 #[tactic(auto, using(crate::proofs::Streams::puts_start))]
-/// One line.
-fn serve_line<K: Sink, D: Disk, G: Gate>(
+/// One step.
+fn serve_step<K: Sink, D: Disk, G: Gate>(
     alloc: Global,
     gate: &G,
     desk: &mut Desk,
     out: &mut K,
     disk: &mut D,
-    number: u64,
-    line: &[u8],
+    step: Step<'_>,
 ) -> Result<(), Stop>
-    ensures served { Served D.Disk number line.now desk.old desk.new disk.old disk.new
+    ensures served { Served D.Disk (shown step.entry) desk.old desk.new disk.old disk.new
         (K.taken out.old) (K.taken out.new) (is_ok result)
-        ⊎ Passed line.now desk.old desk.new disk.old disk.new (K.taken out.old) (K.taken out.new)
+        ⊎ Passed desk.old desk.new disk.old disk.new (K.taken out.old) (K.taken out.new)
         (is_ok result) }
     ensures later { K.fault_count out.old ≤ K.fault_count out.new }
     ensures error { IfErr result (λ e. (e ≡ SinkFault) ⊎ (e ≡ OutOfMemory)) }
@@ -69,30 +102,25 @@ fn serve_line<K: Sink, D: Disk, G: Gate>(
         → Rose (K.fault_count out.old) (K.fault_count out.new) }
     ensures counts { D.fault_count disk.old ≤ D.fault_count disk.new }
 {
-    if is_skipped(line) {
-        return Ok(());
-    }
-    let said = read_line(alloc, desk.within, line)?;
-    desk.within = said.within;
-    let session = said.session;
-    desk.turns.pass(gate, session);
-    let reply = answer(alloc, &mut desk.store, disk, number, said.statement);
+    let (session, reply) = turn(alloc, gate, desk, disk, step)?;
     desk.refused = either(desk.refused, is_refused(&reply));
     put_reply(alloc, out, &mut desk.waiting, session, &reply)
 }
 
-/// The lines of a script, from the first on: whether a reply was a refusal.
-pub fn run_lines<K: Sink, D: Disk, G: Gate>(
+/// The steps of a script, from the first on: whether a reply was a refusal.
+pub fn run_steps<K: Sink, D: Disk, G: Gate>(
     alloc: Global,
     gate: &G,
     out: &mut K,
     disk: &mut D,
     store: Store,
+    configs: Configs,
     text: &[u8],
 ) -> Result<bool, Stop>
-    requires { down_of (log_of store) ≡ None }
+    requires up { down_of (log_of store) ≡ None }
+    requires first { configs ≡ first_known }
     ensures ran { (history : History) → StandsFor store history
-        → HasRunLines D.Disk history text.now
+        → HasRunSteps D.Disk history text.now
         (K.taken out.old) (K.taken out.new) disk.old disk.new (end_of (log_of store)) result }
     ensures counts { D.fault_count disk.old ≤ D.fault_count disk.new }
     ensures later { K.fault_count out.old ≤ K.fault_count out.new }
@@ -102,30 +130,15 @@ pub fn run_lines<K: Sink, D: Disk, G: Gate>(
 {
     let mut desk = Desk {
         store,
+        configs,
         waiting: Vec::new(alloc),
         refused: false,
-        within: false,
         turns: Turns::new(),
     };
-    let mut rest = text;
-    let mut number: u64 = 1;
-    while let Some((line, more)) = cut_at(b'\n', rest) {
-        if let Err(stop) = serve_line(
-            alloc,
-            gate,
-            &mut desk,
-            out,
-            disk,
-            number,
-            without_return(line),
-        ) {
+    for step in steps(text) {
+        if let Err(stop) = serve_step(alloc, gate, &mut desk, out, disk, step) {
             return Err(stop);
         }
-        rest = more;
-        number += 1;
-    }
-    if let Err(stop) = serve_line(alloc, gate, &mut desk, out, disk, number, rest) {
-        return Err(stop);
     }
     if let Err(stop) = flush(out, &mut desk.waiting) {
         return Err(stop);

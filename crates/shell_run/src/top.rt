@@ -4,16 +4,18 @@ ghost use Rattle.shell_run.specs.RunMeets.{RunMeets};
 ghost use Rattle.shell_run.specs.Inner.Statuses.{ending_number};
 ghost use Rattle.shell_run.specs.Inner.Serving.{ServeMeets};
 
+use crate::error::Stop;
 use crate::gate::Gate;
 use crate::opening::open_store;
 use crate::reading::read_script;
-use crate::serving::run_lines;
+use crate::serving::run_steps;
 use crate::store::Store;
 use crate::words::settings_of;
 use disk_trait::{Disk, Sink, Source};
 use std::alloc::Global;
 use std::sync::Wait;
 use std::thread::Threads;
+use ts_config::Configs;
 
 /// The status of a run, and the three objects as it leaves them.
 #[derive(Drop)]
@@ -48,13 +50,16 @@ fn serve<K: Sink, D: Disk, G: Gate>(
 ) -> u8
     ensures { ServeMeets K.Sink D.Disk text.now result out.old out.new device.old device.new }
 {
+    let Ok(configs) = Configs::new(alloc) else {
+        return Stop::OutOfMemory.status();
+    };
     let before = device.faults();
     let log = match open_store(alloc, device) {
         Ok(log) => log,
         Err(stop) => return stop.status(),
     };
     let documents = Store::new(alloc, log);
-    match run_lines(alloc, gate, out, device, documents, text) {
+    match run_steps(alloc, gate, out, device, documents, configs, text) {
         Err(stop) => stop.status(),
         Ok(refused) => ending_status(device.faults() > before, refused),
     }

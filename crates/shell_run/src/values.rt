@@ -12,7 +12,7 @@ ghost use Rattle.shell_script.specs.StatementView.{part, expr};
 use shell_script::{Expr, Part, Refusal, Reply, TextFault};
 use std::alloc::{AllocError, Global};
 use ts_query::{QueryError, TsQuery};
-use ts_vector::{TsVector, VectorError};
+use ts_vector::{Joined, TsVector, VectorError};
 
 /// The refusal that an error of a vector is printed as.
 fn vector_refused(error: VectorError) -> Refusal
@@ -61,13 +61,35 @@ fn part_value(alloc: Global, from: &Part) -> Result<TsVector, Refusal>
 }
 
 /// Both vectors joined.
-fn join(alloc: Global, first: &TsVector, second: &TsVector) -> Result<TsVector, Refusal>
-    ensures value { IfOk result (IsJoinOf first.now second.now) }
-    ensures cause { IfErr result (λ why. JoinIsRefused first.now second.now (refusal why)) }
+fn join(alloc: Global, first: Joined, second: &TsVector) -> Result<Joined, Refusal>
+    ensures value { IfOk result (IsJoinOf first second.now) }
+    ensures cause { IfErr result (λ why. JoinIsRefused first second.now (refusal why)) }
 {
-    match first.concat(alloc, second) {
+    match first.push(alloc, second) {
         Ok(vector) => Ok(vector),
         Err(error) => Err(vector_refused(error)),
+    }
+}
+
+/// The vector, to which others are joined.
+fn begun(alloc: Global, first: &TsVector) -> Result<Joined, Refusal>
+    ensures value { IfOk result (λ value. value ≡ first.now) }
+    ensures memory { IfErr result (λ why. why ≡ Refusal.Memory) }
+{
+    match Joined::new(alloc, first) {
+        Ok(value) => Ok(value),
+        Err(_) => Err(Refusal::Memory),
+    }
+}
+
+/// The vector with all that was joined to it.
+fn finished(alloc: Global, value: Joined) -> Result<TsVector, Refusal>
+    ensures value { IfOk result (λ vector. vector ≡ value) }
+    ensures memory { IfErr result (λ why. why ≡ Refusal.Memory) }
+{
+    match value.finish(alloc) {
+        Ok(vector) => Ok(vector),
+        Err(_) => Err(Refusal::Memory),
     }
 }
 
@@ -76,15 +98,16 @@ pub fn expr_value(alloc: Global, from: &Expr) -> Result<TsVector, Refusal>
     ensures value { IfOk result (IsValueOf (expr from.now)) }
     ensures cause { IfErr result (λ why. ExprFails (expr from.now) (refusal why)) }
 {
-    let mut value = part_value(alloc, &from.first)?;
+    let first = part_value(alloc, &from.first)?;
+    let mut value = begun(alloc, &first)?;
     for other in &from.others {
         let next = part_value(alloc, other)?;
-        match join(alloc, &value, &next) {
+        match join(alloc, value, &next) {
             Ok(joined) => value = joined,
             Err(why) => return Err(why),
         }
     }
-    Ok(value)
+    finished(alloc, value)
 }
 
 /// The query of a text.

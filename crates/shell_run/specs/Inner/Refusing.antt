@@ -1,10 +1,12 @@
 -- The refusals that errors are printed as, and the replies of the store.
-use Rattle.std.specs.Prelude.{map, Result, Ok, Err, Vec}
+use Rattle.std.specs.Prelude.{ℕ, map, Result, Ok, Err, Vec}
 use Rattle.std.specs.declared.alloc.Global.{Global}
 use Rattle.ts_vector.specs.declared.error.VectorError.{VectorError}
 use Rattle.ts_vector.specs.declared.error.VectorError.TheVariants as vectors
 use Rattle.ts_query.specs.declared.error.QueryError.{QueryError}
 use Rattle.ts_query.specs.declared.error.QueryError.TheVariants as queries
+use Rattle.ts_thesaurus.specs.declared.error.LineError.{LineError}
+use Rattle.ts_thesaurus.specs.declared.error.LineError.TheVariants as lines
 use Rattle.shell_script.specs.Replies as replies
 use Rattle.shell_script.specs.ReplyView.{name}
 use Rattle.shell_run.specs.declared.error.StoreError.{StoreError}
@@ -27,6 +29,13 @@ query_refusal (queries.DistanceTooLarge at) = Text (BadQuery at)
 query_refusal (queries.TooManyNodes) = Text LargeQuery
 query_refusal (queries.LexemeTooLong at) = Text (LongLexeme at)
 query_refusal queries.OutOfMemory = Memory
+
+-- the refusal that a fault of a thesaurus' line of this number is printed as
+abbrev pub rule_refusal : LineError → ℕ → replies.Refusal
+rule_refusal lines.Bad number = replies.no_statement number
+rule_refusal lines.StopInSample number = replies.no_statement number
+rule_refusal lines.UnknownInSample number = replies.no_statement number
+rule_refusal lines.Memory number = replies.memory
 
 -- the refusal that an error of the store is printed as
 abbrev pub refusal_for : StoreError → replies.Refusal

@@ -1,12 +1,15 @@
--- What a line does to the documents and to the text on its way.
-use Rattle.std.specs.Prelude.{◌≡◌, ◌≢◌, ◌⊎◌, ◌≤◌, ℕ, List, [], ◌++◌, Bool, true, ◌||◌}
+-- What a step does to the documents and to the text on its way.
+use Rattle.std.specs.Prelude.{◌≡◌, ◌≢◌, ◌⊎◌, ◌≤◌, ℕ, List, [], ◌++◌, Bool, true, false, ◌||◌}
 use Rattle.std.specs.Prelude.{Option, Result, IfOk, is_ok}
 use Rattle.disk_trait.specs.declared.device.Disk.{Ghosts as Disk}
-use Rattle.shell_script.specs.Grammar.{Statement, Says, IsSkipped, Continues}
+use Rattle.shell_script.specs.Grammar.{Statement}
+use Rattle.shell_script.specs.Steps.{Step}
+use Rattle.shell_script.specs.Says.{Says, line_of}
 use Rattle.shell_script.specs.Replies.{Reply}
 use Rattle.shell_script.specs.Texts.{said}
 use Rattle.shell_run.specs.Inner.Sending.{Sends}
 use Rattle.shell_run.specs.Inner.Stores.{HasAnswered}
+use Rattle.shell_run.specs.Defining.{Becomes}
 use Rattle.shell_run.specs.Outcomes.{HasPrinted, is_refusal, some_refused}
 use Rattle.shell_run.specs.History.{History, IsNumbered}
 use Rattle.shell_run.specs.Run.{Row}
@@ -16,38 +19,41 @@ use Rattle.shell_run.specs.Inner.Opened.{OpenedAt}
 use Rattle.disk_trait.specs.declared.stream.Sink.{Ghosts as Sink}
 use Rattle.shell_run.specs.declared.serving.Desk.{Desk}
 
--- the statement was answered, and its reply's text is on its way
-pub record Served {D : Type 0} (device : Disk D) (number : ℕ) (line : List ℕ) (old new : Desk)
-    (disk disk' : D) (before after : Option (List ℕ)) (well : Bool) : Type 0 where
-  pub session : ℕ
+-- what a step says is answered, and what is defined then
+pub record HasTurned {D : Type 0} (device : Disk D) (step : Step) (old new : Desk) (disk disk' : D)
+    (session : ℕ) (reply : Reply) : Type 0 where
   pub statement : Statement
+  pub says : Says step session statement
+  pub answered : HasAnswered device old.configs (line_of step).number old.store new.store disk disk'
+      statement reply
+  pub becomes : Becomes old.configs statement reply new.configs
+
+-- the step was answered, and its reply's text is on its way
+pub record Served {D : Type 0} (device : Disk D) (step : Step) (old new : Desk) (disk disk' : D)
+    (before after : Option (List ℕ)) (well : Bool) : Type 0 where
+  pub session : ℕ
   pub reply : Reply
-  pub counts : IsSkipped line → ⊥
-  pub says : Says old.within line session statement
-  pub continues : Continues old.within line new.within
-  pub answered : HasAnswered device number old.store new.store disk disk' statement reply
+  pub turned : HasTurned device step old new disk disk' session reply
   pub text : Sends before after (old.waiting.items ++ said session reply) new.waiting.items well
   pub flag : new.refused ≡ (old.refused || is_refusal reply)
 
--- nothing was done, since the line is to be skipped, or memory ran out
-pub record Passed {D : Type 0} (line : List ℕ) (old new : Desk) (disk disk' : D)
-    (before after : Option (List ℕ)) (well : Bool) : Type 0 where
-  pub skipped : well ≡ true → IsSkipped line
-  pub same : new.store ≡ old.store
+-- nothing was done, since memory ran out
+pub record Passed {D : Type 0} (old new : Desk) (disk disk' : D) (before after : Option (List ℕ))
+    (well : Bool) : Type 0 where
+  pub short : well ≡ false
+  pub same : (new.store ≡ old.store) × (new.configs ≡ old.configs) × (new.refused ≡ old.refused)
   pub device : disk' ≡ disk
-  pub within : well ≡ true → new.within ≡ old.within
   pub text : Sends before after old.waiting.items new.waiting.items well
-  pub flag : new.refused ≡ old.refused
 
--- The rows are those of a first part of the lines. Where this went well, they are those of all, and
+-- The rows are those of a first part of the steps. Where this went well, they are those of all, and
 -- the sink took all of their text.
 pub record Ran (text : List ℕ) (before after : Option (List ℕ)) (rows : List Row)
     (well : Bool) : Type 0 where
   pub so_far : HasPrinted text before after rows
   pub whole : well ≡ true → (so_far.left ≡ []) × (so_far.unsent ≡ [])
 
--- The lines of a text were run over documents that had a history.
-pub record HasRunLines {D E : Type 0} (device : Disk D) (history : History) (text : List ℕ)
+-- The steps of a text were run over documents that had a history.
+pub record HasRunSteps {D E : Type 0} (device : Disk D) (history : History) (text : List ℕ)
     (before after : Option (List ℕ)) (disk disk' : D) (end : ℕ)
     (result : Result Bool E) : Type 0 where
   pub rows : List Row

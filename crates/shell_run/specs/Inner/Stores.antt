@@ -15,7 +15,7 @@ use Rattle.ts_base.specs.Spelling.{vector_bytes}
 use Rattle.shell_run.specs.Inner.Logs.{PutsEntry}
 use Rattle.ts_query.specs.Queries.{Query}
 use Rattle.ts_query.specs.Refusals.{IsReadAs}
-use Rattle.shell_script.specs.Grammar.{Statement, insert, search, show, query, parse, nothing}
+use Rattle.shell_script.specs.Grammar.{Statement, insert, search, show, query, parse, define, nothing}
 use Rattle.shell_script.specs.Name as names
 use Rattle.shell_run.specs.History.{name_of, Document, History, insertion, inserts, room, IsFound}
 use Rattle.shell_run.specs.Entries.{document_bytes, log_room}
@@ -25,6 +25,8 @@ use Rattle.shell_run.specs.Inner.Refusing.{stored_reply, found_reply}
 use Rattle.shell_script.specs.declared.replies.Name.{Name}
 use Rattle.shell_run.specs.declared.error.StoreError.{StoreError}
 use Rattle.shell_run.specs.declared.error.StoreError.TheVariants.{Full, LogFull, Down, Device, Memory}
+use Rattle.ts_config.specs.Known.{Known}
+use Rattle.shell_run.specs.Defining.{IsDefined}
 use Rattle.shell_run.specs.Values.{IsValueOf, ExprFails, QueryFails, IsRefusedBy, IsShown, IsQueried, IsParsed}
 use Rattle.shell_run.specs.declared.store.Store.{Store}
 use Rattle.shell_run.specs.declared.store.TheConstants.{LONGEST, PAGE_ROOM}
@@ -138,21 +140,24 @@ module _ {D : Type 0} (device : Disk D) where
   abbrev pub HasOnlyAnswered : Store → Store → D → D → (Reply → Type 0) → Reply → Type 0
   HasOnlyAnswered old new disk disk' P r = Rests old new disk disk' × P r
 
-  -- what the statement of this line is answered
-  abbrev pub HasAnswered : ℕ → Store → Store → D → D → Statement → Reply → Type 0
-  HasAnswered line old new disk disk' (insert e) r =
+  -- what the statement of this line is answered, before which this is defined
+  abbrev pub HasAnswered : Known → ℕ → Store → Store → D → D → Statement → Reply → Type 0
+  HasAnswered known line old new disk disk' (insert e) r =
       HasOnlyAnswered old new disk disk' (IsRefusedBy (ExprFails e)) r
       ⊎ ((v : Vector) × IsValueOf e v × ((answer : Result Name StoreError)
       × HasInserted old new disk disk' v answer × (r ≡ stored_reply answer)))
-  HasAnswered line old new disk disk' (search text) r =
+  HasAnswered known line old new disk disk' (search text) r =
       HasOnlyAnswered old new disk disk' (IsRefusedBy (QueryFails text)) r
       ⊎ ((q : Query) × IsReadAs text q × ((answer : Result (Vec Name Global) StoreError)
       × Rests old new disk disk' × IsFoundBy old q answer × (r ≡ found_reply answer)))
-  HasAnswered line old new disk disk' (show e) r = HasOnlyAnswered old new disk disk' (IsShown e) r
-  HasAnswered line old new disk disk' (query text) r =
+  HasAnswered known line old new disk disk' (show e) r =
+      HasOnlyAnswered old new disk disk' (IsShown e) r
+  HasAnswered known line old new disk disk' (query text) r =
       HasOnlyAnswered old new disk disk' (IsQueried text) r
-  HasAnswered line old new disk disk' (parse text) r =
+  HasAnswered known line old new disk disk' (parse text) r =
       HasOnlyAnswered old new disk disk' (IsParsed text) r
-  HasAnswered line old new disk disk' nothing (refused (no_statement at)) =
+  HasAnswered known line old new disk disk' (define head ls) r =
+      HasOnlyAnswered old new disk disk' (IsDefined known line head ls) r
+  HasAnswered known line old new disk disk' nothing (refused (no_statement at)) =
       Rests old new disk disk' × (at ≡ line)
-  HasAnswered line old new disk disk' nothing r = ⊥
+  HasAnswered known line old new disk disk' nothing r = ⊥

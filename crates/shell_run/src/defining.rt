@@ -1,0 +1,129 @@
+// Definitions of configurations, from the lines of their bodies.
+ghost use Rattle.std.specs.Prelude.{IfOk, IfErr, OnOk, MatchOption};
+ghost use Rattle.std.specs.List.{Any};
+ghost use Rattle.ts_config.specs.Mappings.{empty_mapping};
+ghost use Rattle.ts_config.specs.Known.{HasDictionary, ArePlaces, IsWithin};
+ghost use Rattle.shell_script.specs.Grammar.{define as defines};
+ghost use Rattle.shell_script.specs.Heads.{configuration_head};
+ghost use Rattle.shell_script.specs.HeadView.{head as head_of};
+ghost use Rattle.shell_script.specs.StepView.{line as shown};
+ghost use Rattle.shell_script.specs.Says.{counted_lines};
+ghost use Rattle.shell_script.specs.ReplyView.{refusal, reply};
+ghost use Rattle.shell_run.specs.Defining.{MapsLine, Maps, IsDefined, Becomes};
+ghost use Rattle.shell_run.specs.Inner.Definitions.{MapFails, MapsFail};
+
+use crate::dictionaries::define_dictionary;
+use shell_script::{Head, Line, Lines, Mapping, Names, Refusal, Reply, is_skipped, read_mapping};
+use std::alloc::{AllocError, Global};
+use ts_config::{Config, Configs};
+use ts_parser::TokenType;
+
+#[tactic(auto, using(crate::proofs::Bodies::places_start))]
+/// The places of the dictionaries of these names; none where one of them isn't there.
+fn places_of(
+    alloc: Global,
+    configs: &Configs,
+    names: Names<'_>,
+) -> Result<Option<Vec<usize>>, AllocError>
+    ensures { IfOk result (λ found. MatchOption found
+        (Any (λ name. ¬ HasDictionary configs.now name) names.entry)
+        (λ places. ArePlaces configs.now names.entry places.items)) }
+{
+    let mut places = Vec::new(alloc);
+    for name in names {
+        match configs.place(name) {
+            Some(place) => places.push(place)?,
+            None => return Ok(None),
+        }
+    }
+    Ok(Some(places))
+}
+
+/// Gives the types of a line the dictionaries that it names.
+fn map_line(
+    alloc: Global,
+    configs: &Configs,
+    draft: &mut Config,
+    line: Line<'_>,
+) -> Result<(), Refusal>
+    ensures mapped { OnOk result (MapsLine configs.now draft.old (shown line.entry) draft.new) }
+    ensures refused { IfErr result (λ why. MapFails configs.now (shown line.entry) (refusal why)) }
+{
+    let Some(Mapping { types, names }) = read_mapping(line.bytes) else {
+        return Err(Refusal::NoStatement(line.number));
+    };
+    let Some(places) = places_of(alloc, configs, names)? else {
+        return Err(Refusal::NoDictionary);
+    };
+    let types: Vec<TokenType> = types.collect(alloc)?;
+    draft.map(alloc, &types, &places)?;
+    Ok(())
+}
+
+#[tactic(auto, using(crate::proofs::Bodies::mapped_start))]
+/// The mapping of a configuration's body, built apart.
+fn mapping_of(alloc: Global, configs: &Configs, body: Lines<'_>) -> Result<Config, Refusal>
+    ensures maps { IfOk result (λ draft. Maps configs.now empty_mapping (counted_lines body.entry) draft) }
+    ensures within { IfOk result (λ draft. IsWithin configs.now draft) }
+    ensures refused { IfErr result
+        (λ why. MapsFail configs.now empty_mapping (counted_lines body.entry) (refusal why)) }
+{
+    let mut draft = Config::empty(alloc)?;
+    for line in body {
+        if is_skipped(line.bytes) {
+            continue;
+        }
+        if let Err(why) = map_line(alloc, configs, &mut draft, line) {
+            return Err(why);
+        }
+    }
+    Ok(draft)
+}
+
+/// Defines a configuration. Where that is refused nothing has changed.
+fn define_configuration(
+    alloc: Global,
+    configs: &mut Configs,
+    number: u64,
+    name: &str,
+    body: Lines<'_>,
+) -> Reply
+    ensures answered { IsDefined configs.old number (configuration_head name.now)
+        (counted_lines body.entry) (reply result) }
+    ensures becomes { Becomes configs.old
+        (defines (configuration_head name.now) (counted_lines body.entry)) (reply result) configs.new }
+{
+    if configs.config(name).is_some() {
+        return Reply::Refused(Refusal::NoStatement(number));
+    }
+    let mapping = match mapping_of(alloc, configs, body) {
+        Ok(mapping) => mapping,
+        Err(why) => return Reply::Refused(why),
+    };
+    match configs.put_configuration(alloc, name, mapping) {
+        Ok(()) => Reply::Done,
+        Err(_) => Reply::Refused(Refusal::Memory),
+    }
+}
+
+/// Defines what the first line says, which has this number, by the lines of the body that are not
+/// skipped: that it is done, or why it is refused. Where it is refused nothing has changed.
+pub fn define(
+    alloc: Global,
+    configs: &mut Configs,
+    number: u64,
+    head: Head<'_>,
+    body: Lines<'_>,
+) -> Reply
+    ensures answered { IsDefined configs.old number (head_of head.entry) (counted_lines body.entry)
+        (reply result) }
+    ensures becomes { Becomes configs.old (defines (head_of head.entry) (counted_lines body.entry))
+        (reply result) configs.new }
+{
+    match head {
+        Head::Dictionary { name, kind } => {
+            define_dictionary(alloc, configs, number, name, kind, body)
+        }
+        Head::Configuration { name } => define_configuration(alloc, configs, number, name, body),
+    }
+}

@@ -1,0 +1,256 @@
+// Definitions of dictionaries, from the lines of their bodies.
+ghost use Rattle.std.specs.Prelude.{◌≡◌, ◌↔◌, ◌++◌, ◌∷◌, [], ℕ, Bool, List, All, IfOk, IfErr, OnOk, IsTrue};
+ghost use Rattle.std.specs.Str.{IsUtf8};
+ghost use Rattle.ts_words.specs.StopLists.{IsBadLine as IsBadStopLine, IsStopList, Adds};
+ghost use Rattle.ts_synonym.specs.Synonyms.{IsBadLine as IsBadSynonymLine, IsSynonymList};
+ghost use Rattle.ts_thesaurus.specs.Lines.{AreRules, IsRefused};
+ghost use Rattle.ts_config.specs.Rules.{rules_of, answer_by};
+ghost use Rattle.shell_script.specs.Grammar.{define as defines};
+ghost use Rattle.shell_script.specs.Heads.{dictionary_head, thesaurus_kind};
+ghost use Rattle.shell_script.specs.HeadView.{kind as kind_of};
+ghost use Rattle.shell_script.specs.StepView.{line as shown};
+ghost use Rattle.shell_script.specs.Says.{counted_lines};
+ghost use Rattle.shell_script.specs.ReplyView.{refusal, reply};
+ghost use Rattle.shell_run.specs.Defining.{IsNoLine, LacksOne, IsBadFor, IsDictionaryOf, IsDefined, Becomes};
+ghost use Rattle.shell_run.specs.Inner.Definitions.{IsMadeOf, LineBad, LinesBad};
+ghost use Rattle.shell_run.specs.Inner.Refusing.{rule_refusal};
+
+use porter_stem::Porter;
+use shell_script::{Kind, Line, Lines, Refusal, Reply, is_skipped};
+use std::alloc::Global;
+use std::str;
+use ts_config::{AnyDictionary, Configs};
+use ts_synonym::Synonym;
+use ts_thesaurus::{LineError, Thesaurus};
+use ts_words::{Simple, StopList};
+
+/// Adds the stop word of a line.
+fn add_stop(alloc: Global, stops: &mut StopList, line: Line<'_>) -> Result<(), Refusal>
+    ensures added { OnOk result ((¬ IsNoLine IsBadStopLine (shown line.entry))
+        × Adds line.entry.bytes.now stops.old stops.new) }
+    ensures refused { IfErr result
+        (λ why. LineBad (IsNoLine IsBadStopLine) (shown line.entry) (refusal why)) }
+{
+    let Ok(text) = str::from_utf8(line.bytes) else {
+        return Err(Refusal::NoStatement(line.number));
+    };
+    match stops.add_line(alloc, text) {
+        Ok(true) => Ok(()),
+        Ok(false) => Err(Refusal::NoStatement(line.number)),
+        Err(_) => Err(Refusal::Memory),
+    }
+}
+
+#[tactic(auto, using(crate::proofs::Bodies::stops_start))]
+/// The stop words of a body.
+fn stop_words(alloc: Global, body: Lines<'_>) -> Result<StopList, Refusal>
+    ensures stops { IfOk result
+        (IsMadeOf (IsNoLine IsBadStopLine) IsStopList (counted_lines body.entry)) }
+    ensures refused { IfErr result
+        (λ why. LinesBad (IsNoLine IsBadStopLine) (counted_lines body.entry) (refusal why)) }
+{
+    let mut stops = StopList::new(alloc);
+    for line in body {
+        if is_skipped(line.bytes) {
+            continue;
+        }
+        if let Err(why) = add_stop(alloc, &mut stops, line) {
+            return Err(why);
+        }
+    }
+    Ok(stops)
+}
+
+/// Adds the synonym of a line.
+fn add_synonym(alloc: Global, synonym: &mut Synonym, line: Line<'_>) -> Result<(), Refusal>
+    ensures added { OnOk result ((¬ IsNoLine IsBadSynonymLine (shown line.entry))
+        × ((cases : Bool) (lines : List (List ℕ)) → IsSynonymList cases lines synonym.old
+        → IsSynonymList cases (lines ++ line.entry.bytes.now ∷ []) synonym.new)) }
+    ensures refused { IfErr result
+        (λ why. LineBad (IsNoLine IsBadSynonymLine) (shown line.entry) (refusal why)) }
+{
+    let Ok(text) = str::from_utf8(line.bytes) else {
+        return Err(Refusal::NoStatement(line.number));
+    };
+    match synonym.add_line(alloc, text) {
+        Ok(true) => Ok(()),
+        Ok(false) => Err(Refusal::NoStatement(line.number)),
+        Err(_) => Err(Refusal::Memory),
+    }
+}
+
+#[tactic(auto, using(crate::proofs::Bodies::synonyms_start))]
+/// The synonyms of a body.
+fn synonyms_of(alloc: Global, case_sensitive: bool, body: Lines<'_>) -> Result<Synonym, Refusal>
+    ensures list { IfOk result
+        (IsMadeOf (IsNoLine IsBadSynonymLine) (IsSynonymList case_sensitive) (counted_lines body.entry)) }
+    ensures refused { IfErr result
+        (λ why. LinesBad (IsNoLine IsBadSynonymLine) (counted_lines body.entry) (refusal why)) }
+{
+    let mut synonym = Synonym::new(alloc, case_sensitive);
+    for line in body {
+        if is_skipped(line.bytes) {
+            continue;
+        }
+        if let Err(why) = add_synonym(alloc, &mut synonym, line) {
+            return Err(why);
+        }
+    }
+    Ok(synonym)
+}
+
+/// The refusal that a fault in the line of this number is printed as.
+fn rule_refused(error: LineError, number: u64) -> Refusal
+    ensures { refusal result ≡ rule_refusal error number }
+{
+    match error {
+        LineError::Bad | LineError::StopInSample | LineError::UnknownInSample => {
+            Refusal::NoStatement(number)
+        }
+        LineError::Memory => Refusal::Memory,
+    }
+}
+
+/// Adds the rule of a line, over this dictionary.
+fn add_rule(
+    alloc: Global,
+    thesaurus: &mut Thesaurus,
+    sub: &AnyDictionary,
+    line: Line<'_>,
+) -> Result<(), Refusal>
+    ensures added { OnOk result (IsUtf8 line.entry.bytes.now × ((lines : List (List ℕ))
+        → AreRules (answer_by (rules_of sub.now)) lines thesaurus.old
+        → AreRules (answer_by (rules_of sub.now)) (lines ++ line.entry.bytes.now ∷ []) thesaurus.new)) }
+    ensures refused { IfErr result (λ why. LineBad (IsNoLine (IsRefused (answer_by (rules_of sub.now))))
+        (shown line.entry) (refusal why)) }
+{
+    let Ok(text) = str::from_utf8(line.bytes) else {
+        return Err(Refusal::NoStatement(line.number));
+    };
+    match thesaurus.add_line(alloc, text, sub) {
+        Ok(()) => Ok(()),
+        Err(error) => Err(rule_refused(error, line.number)),
+    }
+}
+
+#[tactic(auto, using(crate::proofs::Bodies::rules_start))]
+/// The rules of a body, over this dictionary.
+fn rules_in(alloc: Global, sub: &AnyDictionary, body: Lines<'_>) -> Result<Thesaurus, Refusal>
+    ensures rules { IfOk result (IsMadeOf (IsNoLine (IsRefused (answer_by (rules_of sub.now))))
+        (AreRules (answer_by (rules_of sub.now))) (counted_lines body.entry)) }
+    ensures refused { IfErr result (λ why. LinesBad
+        (IsNoLine (IsRefused (answer_by (rules_of sub.now)))) (counted_lines body.entry) (refusal why)) }
+{
+    let mut thesaurus = Thesaurus::new(alloc);
+    for line in body {
+        if is_skipped(line.bytes) {
+            continue;
+        }
+        if let Err(why) = add_rule(alloc, &mut thesaurus, sub, line) {
+            return Err(why);
+        }
+    }
+    Ok(thesaurus)
+}
+
+/// Whether a kind goes over a dictionary that isn't there, or is a thesaurus.
+fn lacks_one(configs: &Configs, kind: Kind<'_>) -> bool
+    ensures { IsTrue result ↔ LacksOne configs.now (kind_of kind.entry) }
+{
+    match kind {
+        Kind::Simple { .. } | Kind::Porter | Kind::Synonym { .. } => false,
+        Kind::Thesaurus { sub } => configs.subdictionary(sub).is_none(),
+    }
+}
+
+/// The thesaurus that has these lines, over the dictionary of this name.
+fn thesaurus_of(
+    alloc: Global,
+    configs: &Configs,
+    sub: &str,
+    body: Lines<'_>,
+) -> Result<AnyDictionary, Refusal>
+    requires { ¬ LacksOne configs.now (thesaurus_kind sub.now) }
+    ensures good { IfOk result (λ d. All (λ l. ¬ IsBadFor configs.now (thesaurus_kind sub.now) l)
+        (counted_lines body.entry)) }
+    ensures made { IfOk result (λ d. IsDictionaryOf configs.now (thesaurus_kind sub.now)
+        (counted_lines body.entry) (rules_of d)) }
+    ensures refused { IfErr result (λ why. LinesBad
+        (λ l. IsBadFor configs.now (thesaurus_kind sub.now) l) (counted_lines body.entry)
+        (refusal why)) }
+{
+    let Some(dictionary) = configs.subdictionary(sub) else {
+        unreachable!()
+    };
+    let thesaurus = match rules_in(alloc, dictionary, body) {
+        Ok(thesaurus) => thesaurus,
+        Err(why) => return Err(why),
+    };
+    match String::from_str(alloc, sub) {
+        Ok(sub) => Ok(AnyDictionary::Thesaurus(thesaurus, sub)),
+        Err(_) => Err(Refusal::Memory),
+    }
+}
+
+/// The dictionary of a kind that has these lines.
+fn dictionary_of(
+    alloc: Global,
+    configs: &Configs,
+    kind: Kind<'_>,
+    body: Lines<'_>,
+) -> Result<AnyDictionary, Refusal>
+    requires { ¬ LacksOne configs.now (kind_of kind) }
+    ensures good { IfOk result
+        (λ d. All (λ l. ¬ IsBadFor configs.now (kind_of kind.entry) l) (counted_lines body.entry)) }
+    ensures made { IfOk result (λ d. IsDictionaryOf configs.now (kind_of kind.entry)
+        (counted_lines body.entry) (rules_of d)) }
+    ensures refused { IfErr result (λ why. LinesBad (λ l. IsBadFor configs.now (kind_of kind.entry) l)
+        (counted_lines body.entry) (refusal why)) }
+{
+    match kind {
+        Kind::Simple { accept } => match stop_words(alloc, body) {
+            Ok(stops) => Ok(AnyDictionary::Simple(Simple::new(stops, accept))),
+            Err(why) => Err(why),
+        },
+        Kind::Porter => match stop_words(alloc, body) {
+            Ok(stops) => Ok(AnyDictionary::Porter(Porter::new(stops))),
+            Err(why) => Err(why),
+        },
+        Kind::Synonym { case_sensitive } => match synonyms_of(alloc, case_sensitive, body) {
+            Ok(synonym) => Ok(AnyDictionary::Synonym(synonym)),
+            Err(why) => Err(why),
+        },
+        Kind::Thesaurus { sub } => thesaurus_of(alloc, configs, sub, body),
+    }
+}
+
+/// Defines a dictionary. Where that is refused nothing has changed.
+pub fn define_dictionary(
+    alloc: Global,
+    configs: &mut Configs,
+    number: u64,
+    name: &str,
+    kind: Kind<'_>,
+    body: Lines<'_>,
+) -> Reply
+    ensures answered { IsDefined configs.old number (dictionary_head name.now (kind_of kind.entry))
+        (counted_lines body.entry) (reply result) }
+    ensures becomes { Becomes configs.old
+        (defines (dictionary_head name.now (kind_of kind.entry)) (counted_lines body.entry))
+        (reply result) configs.new }
+{
+    if lacks_one(configs, kind) {
+        return Reply::Refused(Refusal::NoDictionary);
+    }
+    if configs.dictionary(name).is_some() {
+        return Reply::Refused(Refusal::NoStatement(number));
+    }
+    let dictionary = match dictionary_of(alloc, configs, kind, body) {
+        Ok(dictionary) => dictionary,
+        Err(why) => return Reply::Refused(why),
+    };
+    match configs.add_dictionary(alloc, name, dictionary) {
+        Ok(()) => Reply::Done,
+        Err(_) => Reply::Refused(Refusal::Memory),
+    }
+}
