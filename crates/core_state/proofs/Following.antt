@@ -10,7 +10,7 @@ use Rattle.page_types.specs.declared.page.Name.{Name}
 use Rattle.core_state.specs.Log.{Log, Pages, commits, next_xid, next_serial, serial_behind, fate, redo_of, ended, xid_bound}
 use Rattle.core_state.specs.Documents.{Doc, name_of, placed, marked}
 use Rattle.core_state.specs.History.{Document, Commit, History, AreInserts, IsHistory}
-use Rattle.core_state.specs.Legal.{IsRow, RowsAreValid}
+use Rattle.core_state.specs.Legal.{RowHolds, RowsAreValid}
 use Rattle.core_state.specs.States.{StateValue, fate_at, with_fate, all_ended, uses_after, transaction, without, replaced, begun, committed, aborted, ended_all, placed_head, last_serial, step_of, state_of, names}
 use Rattle.core_state.specs.declared.transactions.Transaction.{Transaction}
 use Rattle.core_state.specs.declared.answers.Fate.{Fate}
@@ -308,17 +308,17 @@ turned : (R : Log) (s : StateValue) (r : Record) (k : Kind) → r.kind ≡ k
 turned R s r k e kept = subst (λ k. Kept (rec_of r.number r.xid k r.changes ∷ R) (step_of (rec_of r.number r.xid k r.changes) s)) (sym e) kept
 
 row_kept : (R : Log) (s : StateValue) (r : Record) (P Q : Pages) (floor since : ℕ) → RowsAreValid R → r.number ≡ suc (length R) → r.number < 2 ^ 64
-    → (r.kind ≡ kind.Create) ⊎ (R ≢ []) → Kept R s → IsRow R P Q r floor since → Kept (r ∷ R) (step_of r s)
-row_kept R s r P Q floor since v number fits started k (IsRow.create x) = turned R s r kind.Create x.here.kind_is (create_kept R s r.number r.xid r.changes number k)
-row_kept R s r P Q floor since v number fits started k (IsRow.begin x) =
+    → (r.kind ≡ kind.Create) ⊎ (R ≢ []) → Kept R s → RowHolds R P Q r floor since → Kept (r ∷ R) (step_of r s)
+row_kept R s r P Q floor since v number fits started k (RowHolds.create x) = turned R s r kind.Create x.here.kind_is (create_kept R s r.number r.xid r.changes number k)
+row_kept R s r P Q floor since v number fits started k (RowHolds.begin x) =
     turned R s r kind.Begin x.here.kind_is (begin_kept R s r.number r.xid r.changes number x.here.next x.here.bound k)
-row_kept R s r P Q floor since v number fits started k (IsRow.commit x) =
+row_kept R s r P Q floor since v number fits started k (RowHolds.commit x) =
     turned R s r (kind.Commit (suc (commits R))) x.here.kind_is (commit_kept R s r.number r.xid r.changes number x.here.runs k)
-row_kept R s r P Q floor since v number fits started k (IsRow.abort x) = turned R s r kind.Abort x.here.kind_is (elim x.here.runs [
+row_kept R s r P Q floor since v number fits started k (RowHolds.abort x) = turned R s r kind.Abort x.here.kind_is (elim x.here.runs [
   | inl runs ↦ abort_kept R s r.number r.xid r.changes number runs k
   | inr zero_is ↦ subst (λ z. Kept (rec_of r.number z kind.Abort r.changes ∷ R) (step_of (rec_of r.number z kind.Abort r.changes) s)) (sym zero_is) (abort_all_kept R s r.number r.changes number k)
 ])
-row_kept R s r P Q floor since v number fits started k (IsRow.place_head x) =
+row_kept R s r P Q floor since v number fits started k (RowHolds.place_head x) =
     let kind_is = x.here.kind_is in
     let some : R ≢ [] = elim started [ inl e ↦ absurd (place_create x.here.doc.item x.here.doc.serial (sym kind_is ∙ e)) | inr some ↦ some ] in
     turned R s r (kind.PlaceHead x.here.doc.item x.here.doc.serial) kind_is

@@ -1,16 +1,18 @@
--- A log has one history at most.
-use Rattle.std.proofs.Common.{◌≡◌, ℕ, List, [], ◌∷◌, ◌++◌, refl, sym, ap, ap₂, subst, ◌∙◌, arith}
+-- A log has one history at most, and a legal one has one.
+use Rattle.std.proofs.Common.{◌≡◌, ℕ, suc, List, [], ◌∷◌, ◌++◌, length, map, refl, sym, ap, ap₂, subst, ◌∙◌, inl, inr, arith}
 use Rattle.std.specs.Prelude.{Some}
 use Rattle.ts_base.specs.Vectors.{Vector}
 use Rattle.ts_base.proofs.Spelling.{spelling_tells_vector}
 use Rattle.page_types.specs.declared.page.Head.{Head}
 use Rattle.page_types.specs.declared.page.Name.{Name}
+use Rattle.page_types.specs.declared.record.Record.{Record}
 use Rattle.page_types.specs.declared.record.Kind.{Kind}
 use Rattle.page_types.specs.declared.record.Kind.TheVariants as kind
-use Rattle.core_state.specs.Log.{Log, Pages}
-use Rattle.core_state.specs.Documents.{Doc, Has, IsChain, HasBytes, IsWhole, HasVector, parts, placed}
+use Rattle.core_state.specs.Log.{Log, Pages, In, Shows, commits}
+use Rattle.core_state.specs.Documents.{Doc, Has, IsChain, HasBytes, IsWhole, HasVector, name_of, parts, placed, marked}
 use Rattle.core_state.specs.History.{Document, Commit, History, AreInserts, IsCommitOf, IsHistoryWith, IsHistory}
-use Rattle.core_state.specs.Laws.{HistoryIsOne}
+use Rattle.core_state.specs.Legal.{RowHolds, RowsAreValid}
+use Rattle.core_state.specs.Laws.{HistoryIsOne, LegalHasHistory}
 use Rattle.core_state.proofs.Showing.{shown_one}
 
 pub chain_one : (P : Pages) (p : ℕ) (qs qs' : List ℕ) → IsChain P p qs → IsChain P p qs' → qs ≡ qs'
@@ -66,3 +68,36 @@ with_one _ x R one H H' a b = one H H' a b
 pub history_one : HistoryIsOne
 history_one [] H H' a b = a ∙ sym b
 history_one (r ∷ R) H H' a b = with_one r.kind r.xid R (history_one R) H H' a b
+
+-- documents that are whole are inserts with their vectors
+whole_inserts : (P : Pages) (ds : List Doc) → ((d : Doc) → In d ds → (v : Vector) × HasVector P d v) → (is : List Document) × AreInserts P ds is
+whole_inserts P [] whole = ([], tt)
+whole_inserts P (d ∷ ds) whole =
+    let first = whole d (inl refl) in
+    let others = whole_inserts P ds (λ e i. whole e (inr i)) in
+    (record { name = name_of d; vector = first.0 } ∷ others.0, (refl, first.1, others.1))
+
+-- some history of the log
+abbrev HasHistory : Log → Type 0
+HasHistory R = (H : History) × IsHistory R H
+
+of_kind : (R : Log) (r : Record) (k : Kind) → r.kind ≡ k → (H : History) × IsHistoryWith k r.xid R (IsHistory R) H → HasHistory (r ∷ R)
+of_kind R r k e h = subst (λ j. (H : History) × IsHistoryWith j r.xid R (IsHistory R) H) (sym e) h
+
+row_history : (R : Log) (r : Record) (P Q : Pages) (floor since : ℕ) → Shows R P → RowHolds R P Q r floor since → HasHistory R → HasHistory (r ∷ R)
+row_history R r P Q floor since shown (RowHolds.create x) h = of_kind R r kind.Create x.here.kind_is h
+row_history R r P Q floor since shown (RowHolds.begin x) h = of_kind R r kind.Begin x.here.kind_is h
+row_history R r P Q floor since shown (RowHolds.commit x) h =
+    let inserts = whole_inserts P (placed R r.xid) x.rest in
+    let c : Commit = record { deleted = map name_of (marked R r.xid); inserted = inserts.0 } in
+    of_kind R r (kind.Commit (suc (commits R))) x.here.kind_is
+    (h.0 ++ c ∷ [], (h.0, c, h.1, record { pages = P; shown = shown; deleted = refl; inserted = inserts.1 }, refl))
+row_history R r P Q floor since shown (RowHolds.abort x) h = of_kind R r kind.Abort x.here.kind_is h
+row_history R r P Q floor since shown (RowHolds.place_head x) h = of_kind R r (kind.PlaceHead x.here.doc.item x.here.doc.serial) x.here.kind_is h
+
+rows_history : (R : Log) → RowsAreValid R → HasHistory R
+rows_history [] v = ([], refl)
+rows_history (r ∷ R) v = row_history R r v.1.before v.1.after (commits R) (suc (length R)) v.1.shown v.1.row (rows_history R v.0)
+
+pub legal_history : LegalHasHistory
+legal_history R l = rows_history R l.valid

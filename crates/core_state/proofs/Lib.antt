@@ -1,4 +1,6 @@
+pub mod Taken
 pub mod Showing
+pub mod Leaving
 pub mod Monotone
 pub mod Newest
 pub mod Histories
@@ -9,4 +11,13 @@ pub mod PageUses
 pub mod StateTold
 pub mod Worked
 pub mod WorkedMore
+pub mod WorkedSplit
+pub mod WorkedLong
+pub mod WorkedPending
+pub mod WorkedMaintenance
 pub mod UseSteps
+pub mod Framing
+pub mod RisingPages
+pub mod Noting
+pub mod LowestUse
+pub mod PlacedHeads

@@ -6,7 +6,7 @@ use Rattle.core_state.specs.Log.{Log, Pages}
 use Rattle.core_state.specs.Known.{Known}
 use Rattle.core_state.specs.Changes.{IsNew}
 use Rattle.core_state.specs.HeapRows.{IsPlaceHeadHere}
-use Rattle.core_state.specs.Legal.{IsRow}
+use Rattle.core_state.specs.Legal.{RowHolds}
 use Rattle.core_state.specs.Laws.{ValidIsMonotone}
 use Rattle.core_state.specs.declared.answers.PageUse.{PageUse}
 
@@ -35,13 +35,13 @@ place_more since since' k r before after le h = record {
   after_is = h.after_is;
 }
 
-pub row_more : (R : Log) (P Q : Pages) (r : Record) (floor since floor' since' : ℕ) → since ≤ since' → IsRow R P Q r floor since → IsRow R P Q r floor' since'
+pub row_more : (R : Log) (P Q : Pages) (r : Record) (floor since floor' since' : ℕ) → since ≤ since' → RowHolds R P Q r floor since → RowHolds R P Q r floor' since'
 unfolding place_more
-row_more R P Q r floor since floor' since' le (IsRow.create x) = IsRow.create x
-row_more R P Q r floor since floor' since' le (IsRow.begin x) = IsRow.begin x
-row_more R P Q r floor since floor' since' le (IsRow.commit x) = IsRow.commit x
-row_more R P Q r floor since floor' since' le (IsRow.abort x) = IsRow.abort x
-row_more R P Q r floor since floor' since' le (IsRow.place_head x) = IsRow.place_head (record { here = place_more since since' _ r _ _ le x.here; rest = x.rest })
+row_more R P Q r floor since floor' since' le (RowHolds.create x) = RowHolds.create x
+row_more R P Q r floor since floor' since' le (RowHolds.begin x) = RowHolds.begin x
+row_more R P Q r floor since floor' since' le (RowHolds.commit x) = RowHolds.commit x
+row_more R P Q r floor since floor' since' le (RowHolds.abort x) = RowHolds.abort x
+row_more R P Q r floor since floor' since' le (RowHolds.place_head x) = RowHolds.place_head (record { here = place_more since since' _ r _ _ le x.here; rest = x.rest })
 
 pub valid_more : ValidIsMonotone
 valid_more R r floor since floor' since' le le' v = record {
@@ -50,6 +50,7 @@ valid_more R r floor since floor' since' le le' v = record {
   shown = v.shown;
   shown_after = v.shown_after;
   is_record = v.is_record;
+  can_edit = v.can_edit;
   number = v.number;
   started = v.started;
   row = row_more R v.before v.after r floor since floor' since' le' v.row;

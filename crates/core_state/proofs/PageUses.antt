@@ -20,7 +20,7 @@ use Rattle.page_types.specs.declared.record.Kind.{Kind}
 use Rattle.page_types.specs.declared.record.Kind.TheVariants as kind
 use Rattle.core_state.specs.Log.{Log, Pages, In, Shows, changed, after_changes, replay, commits, xid_bound}
 use Rattle.core_state.specs.Known.{use_by, use_in}
-use Rattle.core_state.specs.Legal.{IsRow, Valid, RowsAreValid}
+use Rattle.core_state.specs.Legal.{RowHolds, Valid, RowsAreValid}
 use Rattle.core_state.specs.States.{StateValue, kind_byte, edited_use, with_use, uses_after, transaction, committed, aborted, ended_all, placed_head, marked_head, last_serial, stepped, state_of}
 use Rattle.core_state.specs.Documents.{Doc}
 use Rattle.core_state.specs.declared.transactions.Transaction.{Transaction}
@@ -145,15 +145,15 @@ is_written number q a e w = subst (IsWritten number) (sym e) w
 nothing_changed : (r : Record) (p : ℕ) → changed r ≡ [] → In p (changed r) → ⊥
 nothing_changed r p e i = subst (In p) e i
 
-row_written : (R : Log) (P Q : Pages) (r : Record) (floor since p : ℕ) → IsRow R P Q r floor since → In p (changed r) → IsWritten r.number (Q p)
-row_written R P Q r floor since p (IsRow.create x) i = elim (written_at Q (changed r) _ p x.here.after_is i) [
+row_written : (R : Log) (P Q : Pages) (r : Record) (floor since p : ℕ) → RowHolds R P Q r floor since → In p (changed r) → IsWritten r.number (Q p)
+row_written R P Q r floor since p (RowHolds.create x) i = elim (written_at Q (changed r) _ p x.here.after_is i) [
   | inl e ↦ is_written r.number (Q p) _ e (refl, λ f. cc)
   | inr j ↦ elim j [ inl e ↦ is_written r.number (Q p) _ e (refl, λ f. cc) | inr n ↦ absurd n ]
 ]
-row_written R P Q r floor since p (IsRow.begin x) i = absurd (nothing_changed r p x.here.pages i)
-row_written R P Q r floor since p (IsRow.commit x) i = absurd (nothing_changed r p x.here.pages i)
-row_written R P Q r floor since p (IsRow.abort x) i = absurd (nothing_changed r p x.here.pages i)
-row_written R P Q r floor since p (IsRow.place_head x) i = elim (written_at Q (changed r) _ p x.here.after_is i) [
+row_written R P Q r floor since p (RowHolds.begin x) i = absurd (nothing_changed r p x.here.pages i)
+row_written R P Q r floor since p (RowHolds.commit x) i = absurd (nothing_changed r p x.here.pages i)
+row_written R P Q r floor since p (RowHolds.abort x) i = absurd (nothing_changed r p x.here.pages i)
+row_written R P Q r floor since p (RowHolds.place_head x) i = elim (written_at Q (changed r) _ p x.here.after_is i) [
   | inl e ↦ is_written r.number (Q p) _ e (refl, λ f. cc)
   | inr n ↦ absurd n
 ]

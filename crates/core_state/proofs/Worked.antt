@@ -13,7 +13,7 @@ use Rattle.page_types.specs.Numbers.{page_limit, u16_bytes, u32_bytes, u64_bytes
 use Rattle.page_types.specs.Spelling.{page_bytes, front_bytes, framed, head_bytes}
 use Rattle.page_types.specs.Pages.{IsPage, IsHead}
 use Rattle.page_types.specs.Records.{IsChange, IsRecord}
-use Rattle.page_types.specs.Edits.{edited}
+use Rattle.page_types.specs.Edits.{edited, CanEdit}
 use Rattle.page_types.proofs.PageLaws.{has_parts}
 use Rattle.page_types.specs.Views.{free_page, entries_of, slots_of, slot_at}
 use Rattle.page_types.specs.declared.page.Page.{Page}
@@ -31,7 +31,7 @@ use Rattle.core_state.specs.History.{IsHistory}
 use Rattle.core_state.specs.Index.{NoPair}
 use Rattle.core_state.specs.Known.{use_in}
 use Rattle.core_state.specs.Changes.{IsNew}
-use Rattle.core_state.specs.Legal.{IsRow, ChangesFrom, IsImageOf, ImagesFrom, RowsAreValid, IsLegal}
+use Rattle.core_state.specs.Legal.{RowHolds, ChangesFrom, IsImageOf, ImagesFrom, RowsAreValid, IsLegal}
 use Rattle.core_state.specs.declared.answers.PageUse.TheVariants as usage
 use Rattle.core_state.proofs.Showing.{replay_kept, none_yet, free_is, shown_none}
 
@@ -105,10 +105,10 @@ commit_record = record { number = 4; xid = 1; kind = kind.Commit 1; changes = []
 abbrev log_made : Log
 log_made = create_record ∷ []
 
-abbrev log_begun : Log
+abbrev pub log_begun : Log
 log_begun = begin_record 1 ∷ log_made
 
-abbrev log_placed : Log
+abbrev pub log_placed : Log
 log_placed = head_record 1 ∷ log_begun
 
 abbrev pub first_run : Log
@@ -180,11 +180,11 @@ no_pair i = record {
 }
 
 -- the rows of the four records
-create_row : (floor since : ℕ) → IsRow [] none_yet made create_record floor since
-create_row floor since = IsRow.create (record { here = record { kind_is = refl; pages = refl; empty = refl; after_is = refl } })
+create_row : (floor since : ℕ) → RowHolds [] none_yet made create_record floor since
+create_row floor since = RowHolds.create (record { here = record { kind_is = refl; pages = refl; empty = refl; after_is = refl } })
 
-begin_row : (floor since : ℕ) → IsRow log_made made made (begin_record 1) floor since
-begin_row floor since = IsRow.begin (record { here = record { kind_is = refl; pages = refl; next = refl; bound = omega arith } })
+begin_row : (floor since : ℕ) → RowHolds log_made made made (begin_record 1) floor since
+begin_row floor since = RowHolds.begin (record { here = record { kind_is = refl; pages = refl; next = refl; bound = omega arith } })
 
 used_below : (q : ℕ) → q < 2 → use_in made q ≢ usage.Unused
 used_below zero l e = cc
@@ -195,8 +195,8 @@ others_free : (j : ℕ) → j ≢ 0 → slot_at (Some (head 1) ∷ []) j ≡ slo
 others_free zero off = absurd (off refl)
 others_free (suc j) off = refl
 
-head_row : (floor since : ℕ) → IsRow log_begun made (placed_by 1) (head_record 1) floor since
-head_row floor since = IsRow.place_head (record {
+head_row : (floor since : ℕ) → RowHolds log_begun made (placed_by 1) (head_record 1) floor since
+head_row floor since = RowHolds.place_head (record {
   here = record {
     doc = doc;
     head = head 1;
@@ -261,8 +261,8 @@ ready : (d : Doc) → In d (doc ∷ []) → (v : Vector) × HasVector (placed_by
 ready d (inl e) = (vector, subst (λ x. HasVector (placed_by 1) x vector) (sym e) vector_there)
 ready d (inr i) = absurd i
 
-commit_row : (floor since : ℕ) → IsRow log_placed (placed_by 1) (placed_by 1) commit_record floor since
-commit_row floor since = IsRow.commit (record { here = record { kind_is = refl; pages = refl; runs = refl }; rest = ready })
+commit_row : (floor since : ℕ) → RowHolds log_placed (placed_by 1) (placed_by 1) commit_record floor since
+commit_row floor since = RowHolds.commit (record { here = record { kind_is = refl; pages = refl; runs = refl }; rest = ready })
 
 -- each is a record
 image_is : (p : ℕ) (page : Page) → p < page_limit → IsPage page → IsChange page.stamp (image p page)
@@ -296,6 +296,19 @@ head_record_is = record {
 commit_is : IsRecord commit_record
 commit_is = record { number = omega arith; xid = omega arith; kind = omega arith; count = omega arith; changes = tt; once = tt }
 
+-- each change can be made
+can_image : (p : ℕ) (page : Page) (old : List ℕ) (c : Change) → c ≡ image p page → CanEdit c.edit old
+can_image p page old c e = subst (λ (x : Change). CanEdit x.edit old) (sym e) tt
+
+create_can : (c : Change) → In c create_record.changes → CanEdit c.edit (replay [] c.page)
+create_can c (inl e) = can_image 0 meta_page (replay [] c.page) c e
+create_can c (inr (inl e)) = can_image 1 root_page (replay [] c.page) c e
+create_can c (inr (inr e)) = absurd e
+
+head_record_can : (c : Change) → In c (head_record 1).changes → CanEdit c.edit (replay log_begun c.page)
+head_record_can c (inl e) = can_image 2 (heap_page 1) (replay log_begun c.page) c e
+head_record_can c (inr e) = absurd e
+
 -- so the log is legal
 rows_valid : RowsAreValid first_run
 rows_valid = ((
@@ -309,6 +322,7 @@ rows_valid = ((
           shown = shown_none;
           shown_after = shown_made;
           is_record = create_is;
+          can_edit = create_can;
           number = refl;
           started = inl refl;
           row = create_row 0 1;
@@ -320,6 +334,7 @@ rows_valid = ((
         shown = shown_made;
         shown_after = shown_begun;
         is_record = begin_is;
+        can_edit = λ c i. absurd i;
         number = refl;
         started = inr (λ e. cc);
         row = begin_row 0 2;
@@ -331,6 +346,7 @@ rows_valid = ((
       shown = shown_begun;
       shown_after = shown_placed;
       is_record = head_record_is;
+      can_edit = λ c i. head_record_can c i;
       number = refl;
       started = inr (λ e. cc);
       row = head_row 0 3;
@@ -342,6 +358,7 @@ rows_valid = ((
     shown = shown_placed;
     shown_after = shown_run;
     is_record = commit_is;
+    can_edit = λ c i. absurd i;
     number = refl;
     started = inr (λ e. cc);
     row = commit_row 0 4;
@@ -378,12 +395,12 @@ history : IsHistory first_run (record { deleted = []; inserted = record { name =
 history = ([], record { deleted = []; inserted = record { name = record { page = 2; slot = 0; serial = 1 }; vector = vector } ∷ [] }, refl, record { pages = placed_by 1; shown = shown_placed; deleted = refl; inserted = (refl, vector_there, tt) }, refl)
 
 -- the second record with the xid 2 is not valid
-begin_of_two : (P Q : Pages) (floor since : ℕ) → IsRow log_made P Q (begin_record 2) floor since → ⊥
-begin_of_two P Q floor since (IsRow.create x) = let f = x.here.kind_is in cc
-begin_of_two P Q floor since (IsRow.begin x) = omega (arith, x.here.next)
-begin_of_two P Q floor since (IsRow.commit x) = let f = x.here.kind_is in cc
-begin_of_two P Q floor since (IsRow.abort x) = let f = x.here.kind_is in cc
-begin_of_two P Q floor since (IsRow.place_head x) = let f = x.here.kind_is in cc
+begin_of_two : (P Q : Pages) (floor since : ℕ) → RowHolds log_made P Q (begin_record 2) floor since → ⊥
+begin_of_two P Q floor since (RowHolds.create x) = let f = x.here.kind_is in cc
+begin_of_two P Q floor since (RowHolds.begin x) = omega (arith, x.here.next)
+begin_of_two P Q floor since (RowHolds.commit x) = let f = x.here.kind_is in cc
+begin_of_two P Q floor since (RowHolds.abort x) = let f = x.here.kind_is in cc
+begin_of_two P Q floor since (RowHolds.place_head x) = let f = x.here.kind_is in cc
 
 abbrev pub item_in : Kind → ℕ
 item_in (kind.PlaceHead item serial) = item
@@ -398,12 +415,12 @@ inserted_in None = 0
 inserted_in (Some h) = h.inserted_by
 
 -- a head of xid 2 in the record of xid 1 is not valid
-head_of_two : (P : Pages) (floor since : ℕ) → IsRow log_begun P (placed_by 2) (head_record 2) floor since → ⊥
-head_of_two P floor since (IsRow.create x) = let f = x.here.kind_is in cc
-head_of_two P floor since (IsRow.begin x) = let f = x.here.kind_is in cc
-head_of_two P floor since (IsRow.commit x) = let f = x.here.kind_is in cc
-head_of_two P floor since (IsRow.abort x) = let f = x.here.kind_is in cc
-head_of_two P floor since (IsRow.place_head x) =
+head_of_two : (P : Pages) (floor since : ℕ) → RowHolds log_begun P (placed_by 2) (head_record 2) floor since → ⊥
+head_of_two P floor since (RowHolds.create x) = let f = x.here.kind_is in cc
+head_of_two P floor since (RowHolds.begin x) = let f = x.here.kind_is in cc
+head_of_two P floor since (RowHolds.commit x) = let f = x.here.kind_is in cc
+head_of_two P floor since (RowHolds.abort x) = let f = x.here.kind_is in cc
+head_of_two P floor since (RowHolds.place_head x) =
     let item : 4096 ≡ x.here.doc.item = ap item_in x.here.kind_is in
     let slots : Some (head 2) ∷ [] ≡ x.here.new_slots = ap first_slots x.here.after_is in
     let there : Some (head 2) ≡ slot_at x.here.new_slots (slot_of x.here.doc.item) = ap (λ s. slot_at s 0) slots ∙ ap (λ i. slot_at x.here.new_slots (slot_of i)) item in

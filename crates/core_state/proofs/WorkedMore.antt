@@ -1,16 +1,18 @@
 -- The definitions at the same store opened again: a second run ends what runs, and inserts once more.
-use Rattle.std.proofs.Common.{◌≡◌, ◌≢◌, ℕ, zero, suc, List, [], ◌∷◌, refl, sym, ap, subst, ◌∙◌, inl, inr, arith}
+use Rattle.std.proofs.Common.{◌≡◌, ◌≢◌, ℕ, zero, suc, ◌+◌, ◌≤◌, List, [], ◌∷◌, refl, sym, ap, subst, ◌∙◌, inl, inr, arith}
 use Rattle.std.specs.Prelude.{Option, Some, None}
 use Rattle.ts_base.specs.Vectors.{Vector}
-use Rattle.page_types.specs.Numbers.{u32_bytes, u64_bytes}
-use Rattle.page_types.specs.Spelling.{head_bytes}
+use Rattle.page_types.specs.Numbers.{u16_bytes, u32_bytes, u64_bytes, zeros}
+use Rattle.page_types.specs.Spelling.{page_bytes, front_bytes, framed, head_bytes}
 use Rattle.page_types.specs.Pages.{IsPage, IsHead}
-use Rattle.page_types.specs.Edits.{edited}
+use Rattle.page_types.specs.Edits.{used_in, body_in, edited}
 use Rattle.page_types.specs.Views.{free_page, entries_of, slots_in, slots_of, slot_at}
 use Rattle.page_types.specs.declared.page.Page.{Page}
 use Rattle.page_types.specs.declared.page.Head.{Head}
 use Rattle.page_types.specs.declared.page.Entry as on_page
 use Rattle.page_types.specs.declared.page.Body.TheVariants as body
+use Rattle.page_types.specs.declared.record.Edit.{Edit}
+use Rattle.page_types.specs.declared.record.Edit.TheVariants.{Image, Delta}
 use Rattle.page_types.specs.declared.record.Record.{Record}
 use Rattle.page_types.specs.declared.record.Kind.TheVariants as kind
 use Rattle.core_state.specs.Log.{Log, Pages, In, Shows, replay}
@@ -20,7 +22,7 @@ use Rattle.core_state.specs.Known.{use_in}
 use Rattle.core_state.specs.Changes.{IsNew}
 use Rattle.core_state.specs.declared.answers.PageUse.TheVariants as usage
 use Rattle.core_state.specs.HeapRows.{IsMarkDeleted}
-use Rattle.core_state.specs.Legal.{IsRow}
+use Rattle.core_state.specs.Legal.{RowHolds, Valid}
 use Rattle.core_state.proofs.Showing.{replay_kept, free_is}
 use Rattle.core_state.proofs.Worked as first
 
@@ -47,8 +49,11 @@ abort_record xid = record { number = 5; xid = xid; kind = kind.Abort; changes = 
 abbrev begin_record : Record
 begin_record = record { number = 6; xid = 2; kind = kind.Begin; changes = [] }
 
+abbrev edit_record : ℕ → Edit → Record
+edit_record item edit = record { number = 7; xid = 2; kind = kind.PlaceHead item 2; changes = record { page = 2; edit = edit } ∷ [] }
+
 abbrev head_record : ℕ → Record
-head_record item = record { number = 7; xid = 2; kind = kind.PlaceHead item 2; changes = first.image 2 two_heads ∷ [] }
+head_record item = edit_record item (Image (page_bytes two_heads))
 
 abbrev commit_record : ℕ → Record
 commit_record xid = record { number = 8; xid = xid; kind = kind.Commit 2; changes = [] }
@@ -100,26 +105,26 @@ no_entry (suc zero) e i = absurd i
 no_entry (suc (suc zero)) e i = absurd i
 no_entry (suc (suc (suc p))) e i = absurd i
 
-no_pair : (i : ℕ) → NoPair (first.placed_by 1) i
+pub no_pair : (i : ℕ) → NoPair (first.placed_by 1) i
 no_pair i = record {
   no_row = λ r. first.in_no_chain (first.placed_by 1) r.linked.line r.linked.page r.linked.is_line r.linked.on;
   no_posting = λ k m. no_entry m.page m.entry m.on;
 }
 
 -- the rows of the four records
-abort_row : (floor since : ℕ) → IsRow first.first_run (first.placed_by 1) (first.placed_by 1) (abort_record 0) floor since
-abort_row floor since = IsRow.abort (record { here = record { kind_is = refl; pages = refl; runs = inr refl } })
+abort_row : (floor since : ℕ) → RowHolds first.first_run (first.placed_by 1) (first.placed_by 1) (abort_record 0) floor since
+abort_row floor since = RowHolds.abort (record { here = record { kind_is = refl; pages = refl; runs = inr refl } })
 
-begin_row : (floor since : ℕ) → IsRow log_ended (first.placed_by 1) (first.placed_by 1) begin_record floor since
-begin_row floor since = IsRow.begin (record { here = record { kind_is = refl; pages = refl; next = refl; bound = omega arith } })
+begin_row : (floor since : ℕ) → RowHolds log_ended (first.placed_by 1) (first.placed_by 1) begin_record floor since
+begin_row floor since = RowHolds.begin (record { here = record { kind_is = refl; pages = refl; next = refl; bound = omega arith } })
 
 others_stay : (j : ℕ) → j ≢ 1 → slot_at two_slots j ≡ slot_at (Some (first.head 1) ∷ []) j
 others_stay zero off = refl
 others_stay (suc zero) off = absurd (off refl)
 others_stay (suc (suc j)) off = refl
 
-head_row : (floor since : ℕ) → IsRow log_begun (first.placed_by 1) with_two (head_record 4097) floor since
-head_row floor since = IsRow.place_head (record {
+head_row : (edit : Edit) (floor since : ℕ) → RowHolds log_begun (first.placed_by 1) with_two (edit_record 4097 edit) floor since
+head_row edit floor since = RowHolds.place_head (record {
   here = record {
     doc = doc;
     head = second_head;
@@ -158,28 +163,28 @@ ready : (d : Doc) → In d (doc ∷ []) → (v : Vector) × HasVector with_two d
 ready d (inl e) = (first.vector, subst (λ x. HasVector with_two x first.vector) (sym e) vector_there)
 ready d (inr i) = absurd i
 
-commit_row : (floor since : ℕ) → IsRow log_placed with_two with_two (commit_record 2) floor since
-commit_row floor since = IsRow.commit (record { here = record { kind_is = refl; pages = refl; runs = refl }; rest = ready })
+commit_row : (floor since : ℕ) → RowHolds log_placed with_two with_two (commit_record 2) floor since
+commit_row floor since = RowHolds.commit (record { here = record { kind_is = refl; pages = refl; runs = refl }; rest = ready })
 
 -- an abort of the transaction that has committed is not valid
-abort_of_one : (P Q : Pages) (floor since : ℕ) → IsRow first.first_run P Q (abort_record 1) floor since → ⊥
-abort_of_one P Q floor since (IsRow.create x) = let f = x.here.kind_is in cc
-abort_of_one P Q floor since (IsRow.begin x) = let f = x.here.kind_is in cc
-abort_of_one P Q floor since (IsRow.commit x) = let f = x.here.kind_is in cc
-abort_of_one P Q floor since (IsRow.abort x) = elim x.here.runs [ inl e ↦ cc | inr z ↦ omega (arith, z) ]
-abort_of_one P Q floor since (IsRow.place_head x) = let f = x.here.kind_is in cc
+abort_of_one : (P Q : Pages) (floor since : ℕ) → RowHolds first.first_run P Q (abort_record 1) floor since → ⊥
+abort_of_one P Q floor since (RowHolds.create x) = let f = x.here.kind_is in cc
+abort_of_one P Q floor since (RowHolds.begin x) = let f = x.here.kind_is in cc
+abort_of_one P Q floor since (RowHolds.commit x) = let f = x.here.kind_is in cc
+abort_of_one P Q floor since (RowHolds.abort x) = elim x.here.runs [ inl e ↦ cc | inr z ↦ omega (arith, z) ]
+abort_of_one P Q floor since (RowHolds.place_head x) = let f = x.here.kind_is in cc
 
 in_use : (since p : ℕ) → 2 ≡ p → IsNew (use_in (first.placed_by 1)) since p → ⊥
 in_use since p e (IsNew.unused u low) = let f : use_in (first.placed_by 1) 2 ≡ usage.Unused = ap (use_in (first.placed_by 1)) e ∙ u in cc
 in_use since p e (IsNew.deleted stamp u small) = let f : use_in (first.placed_by 1) 2 ≡ usage.Deleted stamp = ap (use_in (first.placed_by 1)) e ∙ u in cc
 
 -- a head in a used slot is not valid
-head_in_use : (Q : Pages) (floor since : ℕ) → IsRow log_begun (first.placed_by 1) Q (head_record 4096) floor since → ⊥
-head_in_use Q floor since (IsRow.create x) = let f = x.here.kind_is in cc
-head_in_use Q floor since (IsRow.begin x) = let f = x.here.kind_is in cc
-head_in_use Q floor since (IsRow.commit x) = let f = x.here.kind_is in cc
-head_in_use Q floor since (IsRow.abort x) = let f = x.here.kind_is in cc
-head_in_use Q floor since (IsRow.place_head x) =
+head_in_use : (Q : Pages) (floor since : ℕ) → RowHolds log_begun (first.placed_by 1) Q (head_record 4096) floor since → ⊥
+head_in_use Q floor since (RowHolds.create x) = let f = x.here.kind_is in cc
+head_in_use Q floor since (RowHolds.begin x) = let f = x.here.kind_is in cc
+head_in_use Q floor since (RowHolds.commit x) = let f = x.here.kind_is in cc
+head_in_use Q floor since (RowHolds.abort x) = let f = x.here.kind_is in cc
+head_in_use Q floor since (RowHolds.place_head x) =
     let item : 4096 ≡ x.here.doc.item = ap first.item_in x.here.kind_is in
     let old : Some (first.head 1) ∷ [] ≡ slots_of x.here.old = ap first.first_slots x.here.before_is in
     elim x.here.page [
@@ -190,13 +195,31 @@ head_in_use Q floor since (IsRow.place_head x) =
       | inr b ↦ in_use since (page_of x.here.doc.item) (ap page_of item) b.2
     ]
 
+-- The second head as a delta that starts behind the used length: its bytes would be those of the page, and its row holds, but
+-- the change can't be made, and the record is not valid.
+abbrev behind_used : Edit
+behind_used = Delta (2 ∷ 0 ∷ 2 ∷ 0 ∷ 0 ∷ 0 ∷ 0 ∷ 0 ∷ []) 52 0 (1 ∷ head_bytes second_head)
+
+would_be_shown : page_bytes two_heads ≡ edited 7 behind_used (page_bytes (first.heap_page 1))
+unfolding edited used_in body_in page_bytes front_bytes framed u16_bytes u32_bytes u64_bytes zeros head_bytes
+would_be_shown = refl
+
+used_before : used_in (page_bytes (first.heap_page 1)) ≡ 51
+unfolding used_in page_bytes front_bytes framed u16_bytes u32_bytes u64_bytes zeros head_bytes
+used_before = refl
+
+delta_refused : (floor since : ℕ) → Valid log_begun (edit_record 4097 behind_used) floor since → ⊥
+delta_refused floor since v =
+    let within : 52 + 0 ≤ used_in (replay log_begun 2) = (v.can_edit (record { page = 2; edit = behind_used }) (inl refl)).1 in
+    omega (arith, within, used_before, ap used_in (shown_begun 2).1)
+
 -- a second commit of transaction 1 is not valid
-commit_of_one : (P Q : Pages) (floor since : ℕ) → IsRow log_placed P Q (commit_record 1) floor since → ⊥
-commit_of_one P Q floor since (IsRow.create x) = let f = x.here.kind_is in cc
-commit_of_one P Q floor since (IsRow.begin x) = let f = x.here.kind_is in cc
-commit_of_one P Q floor since (IsRow.commit x) = let f = x.here.runs in cc
-commit_of_one P Q floor since (IsRow.abort x) = let f = x.here.kind_is in cc
-commit_of_one P Q floor since (IsRow.place_head x) = let f = x.here.kind_is in cc
+commit_of_one : (P Q : Pages) (floor since : ℕ) → RowHolds log_placed P Q (commit_record 1) floor since → ⊥
+commit_of_one P Q floor since (RowHolds.create x) = let f = x.here.kind_is in cc
+commit_of_one P Q floor since (RowHolds.begin x) = let f = x.here.kind_is in cc
+commit_of_one P Q floor since (RowHolds.commit x) = let f = x.here.runs in cc
+commit_of_one P Q floor since (RowHolds.abort x) = let f = x.here.kind_is in cc
+commit_of_one P Q floor since (RowHolds.place_head x) = let f = x.here.kind_is in cc
 
 -- a transaction 3 marks the first document: the row of MarkDeleted holds
 abbrev log_third : Log

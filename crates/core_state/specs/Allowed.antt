@@ -1,5 +1,7 @@
 -- What a session knows of the log, the logs that may be the store's as far as it knows, and what it may log.
 use Rattle.std.specs.Prelude.{◌≡◌, ◌≢◌, ◌⊎◌, ℕ, zero, suc, ◌<◌, List, [], ◌∷◌, ◌++◌, length, map, Option, Some, None, IfSome, ⊤}
+use Rattle.page_types.specs.Keys.{Rising}
+use Rattle.page_types.specs.Pages.{IsPage}
 use Rattle.page_types.specs.declared.page.Page.{Page}
 use Rattle.page_types.specs.declared.page.Head.{Head}
 use Rattle.page_types.specs.declared.page.Body.{Body}
@@ -9,9 +11,9 @@ use Rattle.page_types.specs.declared.record.Kind.{Kind}
 use Rattle.page_types.specs.declared.record.Kind.TheVariants as kind
 use Rattle.core_state.specs.Log.{Log, Pages, In, Shows, changed, commits, next_xid, next_serial, xid_bound}
 use Rattle.core_state.specs.Documents.{slot_of}
-use Rattle.core_state.specs.Legal.{IsRow, IsLegal, Pin, Keeps}
+use Rattle.core_state.specs.Legal.{RowHolds, IsLegal, Pin, Keeps}
 use Rattle.core_state.specs.Steady.{IsMaintenance}
-use Rattle.core_state.specs.Readings.{Read, IsReading}
+use Rattle.core_state.specs.Readings.{Read, AreReads}
 
 -- a page as a session holds it, or will leave it
 pub record Sheet : Type 0 where
@@ -35,33 +37,33 @@ pub record View : Type 0 where
 
 -- another session may have logged the record: it isn't of an own xid, ends no own transaction that was begun since the
 -- opening, and is no maintenance since the session has the right of it
-pub record IsForeign (v : View) (r : Record) : Type 0 where
+pub record IsOthers (v : View) (r : Record) : Type 0 where
   pub not_own : In r.xid v.xids → ⊥
   pub not_all : v.begun ≢ [] → r.kind ≡ kind.Abort → r.xid ≢ 0
   pub not_work : (at : ℕ) → v.work ≡ Some at → at < r.number → IsMaintenance r.kind → ⊥
 
--- each of these records is foreign
-abbrev pub AreForeign : View → Log → Type 0
-AreForeign v [] = ⊤
-AreForeign v (r ∷ rs) = IsForeign v r × AreForeign v rs
+-- other sessions may have logged these records
+abbrev pub AreOthers : View → Log → Type 0
+AreOthers v [] = ⊤
+AreOthers v (r ∷ rs) = IsOthers v r × AreOthers v rs
 
 -- the pages show these contents
 abbrev pub AreHeld : Pages → List Sheet → Type 0
 AreHeld P [] = ⊤
 AreHeld P (s ∷ ss) = (P s.page ≡ s.content) × AreHeld P ss
 
--- The log may be the store's: it is legal, keeps the session's pin, goes on after what it has seen by foreign records, shows
+-- The log may be the store's: it is legal, keeps the session's pin, goes on after what it has seen by records of others, shows
 -- the pages that it holds, and has its readings.
 pub record IsAllowed (v : View) (R : Log) : Type 0 where
   pub later : Log
   pub goes_on : R ≡ later ++ v.seen
-  pub foreign : AreForeign v later
+  pub others : AreOthers v later
   pub legal : IsLegal R
   pub keeps : IfSome v.pin (Keeps R)
   pub pages : Pages
   pub shown : Shows R pages
   pub held : AreHeld pages v.held
-  pub read : IsReading R v.from v.readings
+  pub read : AreReads R v.from v.readings
 
 -- What is to be logged: its kind, its xid and the pages that it leaves. Its numbers, the stamps of its pages and a new head's
 -- serial are drawn when it is.
@@ -125,13 +127,16 @@ pub record Leaves (P Q : Pages) (r : Record) (s : Step) : Type 0 where
 
 -- the step is valid behind each log that is allowed to the session
 abbrev pub MayLog : View → Step → Type 0
-MayLog v s = (R : Log) (a : IsAllowed v R) (r : Record) (Q : Pages) → IsDrawn R s r → Leaves a.pages Q r s → IsRow R a.pages Q r v.floor v.since
+MayLog v s = (R : Log) (a : IsAllowed v R) (r : Record) (Q : Pages) → IsDrawn R s r → Leaves a.pages Q r s → RowHolds R a.pages Q r v.floor v.since
 
 -- What a session owes of a step besides: the log isn't empty, or the step makes the store; it holds the pages that the step
--- leaves; the xid is 0, drawn or its own; maintenance needs the right; and it doesn't end every running transaction.
+-- leaves, each once, and each has a spelling; the xid is 0, drawn or its own; maintenance needs the right; and it doesn't end
+-- every running transaction. Of a checkpoint's redo number nothing is asked yet: no session logs one.
 pub record Owes (v : View) (s : Step) : Type 0 where
   pub started : (v.seen ≢ []) ⊎ (s.kind ≡ kind.Create)
   pub pages : (p : ℕ) → In p (sheet_pages s.after) → In p (sheet_pages v.held)
+  pub once : Rising (λ (p q : ℕ). p ≢ q) (sheet_pages s.after)
+  pub fits : (x : Sheet) → In x s.after → IsPage x.content
   pub xid : (s.xid ≡ 0) ⊎ ((s.kind ≡ kind.Begin) ⊎ In s.xid v.xids)
   pub work : IsMaintenance s.kind → (at : ℕ) × (v.work ≡ Some at)
   pub not_all : s.kind ≡ kind.Abort → s.xid ≢ 0

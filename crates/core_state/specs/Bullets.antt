@@ -58,8 +58,12 @@ pub data Rightward (P : Pages) (p : ℕ) : ℕ → Type 0 where
 pub record TreesAreBounded (P : Pages) : Type 0 where
   pub entries : (page : ℕ) (high : Key) (es : List Entry) (e : Entry) → (P page).body ≡ body.EntryLeaf high es → In e es
       → Toward P e.key 1 page × UpTo e.key high
-  pub postings : (k : Key) (root page high : ℕ) (items : List ℕ) (i : ℕ) → IsRoot P root → Below P root page → (P page).body ≡ body.PostLeaf high items
+  pub postings : (root page high : ℕ) (items : List ℕ) (i : ℕ) → IsRoot P root → Below P root page → (P page).body ≡ body.PostLeaf high items
       → In i (items_of items) → TowardItem P i root page × ItemUpTo i high
+
+-- each posting leaf is below a root that an entry names
+abbrev pub LeavesAreNamed : Pages → Type 0
+LeavesAreNamed P = (p high : ℕ) (items : List ℕ) → (P p).body ≡ body.PostLeaf high items → (root : ℕ) × IsRoot P root × (root ≢ 1) × Below P root p
 
 -- each leaf of a tree leads along right links to what stands behind it
 pub record LeavesLead (P : Pages) : Type 0 where
@@ -127,6 +131,7 @@ pub record Bullets (R : Log) (P : Pages) : Type 0 where
   pub owned : PairsAreOwned P
   pub indexed : StaysIndexed R P (commits R)
   pub indexed_under : (pin : Pin) → Keeps R pin → StaysIndexed R P pin.commits
+  pub named : LeavesAreNamed P
   pub bounded : TreesAreBounded P
   pub lead : LeavesLead P
   pub deleted_lead : (pin : Pin) → Keeps R pin → DeletedLeavesLead R P pin

@@ -1,7 +1,7 @@
 -- Documents: their names, heads and chains, the vectors that stand there, and who is dead.
 use Rattle.std.specs.Prelude.{◌≡◌, ◌≢◌, ℕ, ◌+◌, ◌*◌, ◌/◌, ◌%◌, ◌<◌, ◌≤◌, ◌==◌, cond, List, [], ◌∷◌, ◌++◌, length, Option, Some}
-use Rattle.ts_base.specs.Vectors.{Vector, IsNormal, content_size}
-use Rattle.ts_base.specs.Spelling.{vector_bytes}
+use Rattle.ts_base.specs.Vectors.{Vector}
+use Rattle.ts_base.specs.Spelling.{IsSpelling}
 use Rattle.page_types.specs.Numbers.{most_slots, most_short}
 use Rattle.page_types.specs.Views.{slots_of, slot_at, part_of}
 use Rattle.page_types.specs.declared.page.Head.{Head}
@@ -55,16 +55,6 @@ parts P (q ∷ qs) = part_of (P q) ++ parts P qs
 pub data HasBytes (P : Pages) (h : Head) : List ℕ → Type 0 where
   short : h.bytes ≤ most_short → HasBytes P h h.vector
   long : most_short < h.bytes → (qs : List ℕ) → IsChain P h.overflow qs → HasBytes P h (parts P qs)
-
--- a vector's size is below this
-abbrev pub size_limit : ℕ
-size_limit = 1048576
-
--- the bytes are the spelling of the vector, which is in normal form and not too large
-pub record IsSpelling (bytes : List ℕ) (vector : Vector) : Type 0 where
-  pub normal : IsNormal vector
-  pub small : content_size vector < size_limit
-  pub bytes_of : bytes ≡ vector_bytes vector
 
 -- exactly the head's length of bytes is there, and they are the spelling of v
 pub record IsWhole (P : Pages) (h : Head) (v : Vector) : Type 0 where

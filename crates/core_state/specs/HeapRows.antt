@@ -91,6 +91,6 @@ pub record IsMarkDeletedHere (k : Known) (r : Record) (before after : List Page)
   pub head_after : IsHeadChange r doc old head (record head { deleted_by = r.xid }) left
   pub after_is : after ≡ left ∷ []
 
--- 8 MarkDeleted
+-- 8 MarkDeleted: nothing is asked beside that
 pub record IsMarkDeleted (R : Log) (P Q : Pages) (r : Record) : Type 0 where
   pub here : Here IsMarkDeletedHere R P Q r

@@ -1,11 +1,16 @@
 -- What follows from the definitions.
-use Rattle.std.specs.Prelude.{◌≡◌, ◌↔◌, ℕ, ◌≤◌, List, ◌∷◌, length}
+use Rattle.std.specs.Prelude.{◌≡◌, ◌≢◌, ◌↔◌, ℕ, ◌≤◌, List, ◌∷◌, length}
 use Rattle.ts_base.specs.Keys as texts
 use Rattle.page_types.specs.Keys as pages
+use Rattle.page_types.specs.Pages.{IsPage}
+use Rattle.page_types.specs.Records.{IsRecord}
+use Rattle.page_types.specs.declared.page.Page.{Page}
+use Rattle.page_types.specs.declared.page.Body.TheVariants as body
 use Rattle.page_types.specs.declared.record.Record.{Record}
 use Rattle.core_state.specs.Log.{Log, Pages, In, Shows, changed}
 use Rattle.core_state.specs.History.{History, IsHistory}
 use Rattle.core_state.specs.Legal.{Valid, IsLegal, Pin, Keeps}
+use Rattle.core_state.specs.Allowed.{left_by}
 
 -- pages' keys are those of vectors
 abbrev pub KeysAreOne : Type 0
@@ -18,6 +23,10 @@ ShownAreOne = (R : Log) (P Q : Pages) → Shows R P → Shows R Q → P ≡ Q
 -- a page that a record doesn't name is the same after it
 abbrev pub OthersStay : Type 0
 OthersStay = (R : Log) (r : Record) (P Q : Pages) → Shows R P → Shows (r ∷ R) Q → (p : ℕ) → (In p (changed r) → ⊥) → Q p ≡ P p
+
+-- a page of a step that has a spelling, and isn't free, has one as a record leaves it
+abbrev pub LeftIsPage : Type 0
+LeftIsPage = (r : Record) (c : Page) → IsRecord r → c.body ≢ body.Free → IsPage c → IsPage (left_by r c)
 
 -- a larger floor or since makes no valid record invalid
 abbrev pub ValidIsMonotone : Type 0
@@ -34,3 +43,7 @@ KeepsWithoutNewest = (r : Record) (R : Log) (pin : Pin) → pin.length ≤ lengt
 -- a log has one history at most
 abbrev pub HistoryIsOne : Type 0
 HistoryIsOne = (R : Log) (H H' : History) → IsHistory R H → IsHistory R H' → H ≡ H'
+
+-- a legal log has a history
+abbrev pub LegalHasHistory : Type 0
+LegalHasHistory = (R : Log) → IsLegal R → (H : History) × IsHistory R H

@@ -1,34 +1,36 @@
 -- Legal logs, and the pins that they keep.
 use Rattle.std.specs.Prelude.{◌≡◌, ◌≢◌, ◌⊎◌, ℕ, suc, ◌≤◌, List, [], ◌∷◌, length, ⊤}
+use Rattle.page_types.specs.Edits.{CanEdit}
 use Rattle.page_types.specs.Records.{IsRecord}
 use Rattle.page_types.specs.declared.record.Change.{Change}
 use Rattle.page_types.specs.declared.record.Edit.TheVariants.{Image}
 use Rattle.page_types.specs.declared.record.Record.{Record}
 use Rattle.page_types.specs.declared.record.Kind.TheVariants as kind
-use Rattle.core_state.specs.Log.{Log, Pages, In, Shows, changed, commits, cut}
+use Rattle.core_state.specs.Log.{Log, Pages, In, Shows, changed, commits, cut, replay}
 use Rattle.core_state.specs.TransactionRows.{IsCreate, IsBegin, IsCommit, IsAbort}
 use Rattle.core_state.specs.HeapRows.{IsPlaceHead}
 
 -- The row of the record's kind holds: P are the pages before it, Q those behind it; `floor` is the number of commits by
 -- which a document is dead, and `since` the number of the last record whose deleted pages may be taken again.
-pub data IsRow (R : Log) (P Q : Pages) (r : Record) (floor since : ℕ) : Type 0 where
-  create : IsCreate R P Q r → IsRow R P Q r floor since
-  begin : IsBegin R P Q r → IsRow R P Q r floor since
-  commit : IsCommit R P Q r → IsRow R P Q r floor since
-  abort : IsAbort R P Q r → IsRow R P Q r floor since
-  place_head : IsPlaceHead R P Q r since → IsRow R P Q r floor since
+pub data RowHolds (R : Log) (P Q : Pages) (r : Record) (floor since : ℕ) : Type 0 where
+  create : IsCreate R P Q r → RowHolds R P Q r floor since
+  begin : IsBegin R P Q r → RowHolds R P Q r floor since
+  commit : IsCommit R P Q r → RowHolds R P Q r floor since
+  abort : IsAbort R P Q r → RowHolds R P Q r floor since
+  place_head : IsPlaceHead R P Q r since → RowHolds R P Q r floor since
 
--- the record may follow the log: it is a record with the next number, it makes the store or the log isn't empty, and its row
--- holds
+-- the record may follow the log: it is a record with the next number, each of its changes can be made, it makes the store or
+-- the log isn't empty, and its row holds
 pub record Valid (R : Log) (r : Record) (floor since : ℕ) : Type 0 where
   pub before : Pages
   pub after : Pages
   pub shown : Shows R before
   pub shown_after : Shows (r ∷ R) after
   pub is_record : IsRecord r
+  pub can_edit : (c : Change) → In c r.changes → CanEdit c.edit (replay R c.page)
   pub number : r.number ≡ suc (length R)
   pub started : (r.kind ≡ kind.Create) ⊎ (R ≢ [])
-  pub row : IsRow R before after r floor since
+  pub row : RowHolds R before after r floor since
 
 -- some record of number n or more changes the page
 abbrev pub ChangesFrom : ℕ → Log → ℕ → Type 0

@@ -16,4 +16,6 @@ pub mod Readings
 pub mod Allowed
 pub mod Stores
 pub mod States
+pub mod Rooms
+pub mod Inner
 pub mod Laws

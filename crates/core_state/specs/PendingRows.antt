@@ -17,8 +17,8 @@ use Rattle.core_state.specs.Known.{Known}
 use Rattle.core_state.specs.Changes.{Here, left_with, IsNew, IsHeadChange, IsOwn}
 use Rattle.core_state.specs.declared.answers.Fate.TheVariants.{Running}
 
--- The transaction placed the head and runs; the new page has one row or more, each with the document's item, and leads
--- to the head's first private page; it becomes the first.
+-- The transaction placed the head and runs; the new page has one row or more, each with the document's item, whose keys
+-- rise from row to row, and leads to the head's first private page; it becomes the first.
 pub record IsPutPendingHere (since : ℕ) (k : Known) (r : Record) (before after : List Page) : Type 0 where
   pub doc : Doc
   pub head : Head
@@ -33,6 +33,7 @@ pub record IsPutPendingHere (since : ℕ) (k : Known) (r : Record) (before after
   pub is_new : IsNew k.uses since new
   pub some_row : rows ≢ []
   pub items : (w : Row) → In w rows → w.item ≡ doc.item
+  pub rising : Rising KeyLess (keys_on rows)
   pub before_is : before ≡ old ∷ was ∷ []
   pub head_after : IsHeadChange r doc old head (record head { private = new }) left
   pub after_is : after ≡ left ∷ left_with r head.private (body.Pending rows) ∷ []
@@ -48,7 +49,7 @@ pub record IsPutPendingRest (P : Pages) (doc : Doc) (head : Head) (rows : List R
   pub is_chain : IsChain P head.private chain
   pub rising : Rising KeyLess (keys_on (rows ++ rows_on P chain))
 
--- 9 PutPending
+-- 9 PutPending: its pages, and what they lack of the document and its rows
 pub record IsPutPending (R : Log) (P Q : Pages) (r : Record) (since : ℕ) : Type 0 where
   pub here : Here (IsPutPendingHere since) R P Q r
   pub rest : IsPutPendingRest P here.doc here.head here.rows
@@ -81,7 +82,7 @@ pub record IsAddRowRest (P : Pages) (xid : ℕ) (doc : Doc) (row : Row) (last : 
   pub front : List ℕ
   pub is_last : Line P (front ++ last ∷ [])
 
--- 10 AddRow
+-- 10 AddRow: its page, and what it lacks of the document and of the pending list
 pub record IsAddRow (R : Log) (P Q : Pages) (r : Record) : Type 0 where
   pub here : Here IsAddRowHere R P Q r
   pub rest : IsAddRowRest P r.xid here.doc here.row here.last
@@ -90,14 +91,15 @@ pub record IsAddRow (R : Log) (P Q : Pages) (r : Record) : Type 0 where
 -- its number rises; where there is no last page Meta's first becomes `to`, else the last page's right link does. The
 -- changed pages behind the heap page, before and after.
 pub data IsLinkHere (r : Record) (to end added : ℕ) : List ℕ → List Page → List Page → Type 0 where
-  empty : (meta : Page) (last count : ℕ) → meta.body ≡ body.Meta 0 last count
+  empty : (meta : Page) (count : ℕ) → meta.body ≡ body.Meta 0 0 count
       → IsLinkHere r to end added (0 ∷ []) (meta ∷ []) (left_with r meta.right (body.Meta to end (count + added)) ∷ [])
   behind : (meta page : Page) (first last count : ℕ) (rows : List Row) → meta.body ≡ body.Meta first last count → first ≢ 0
       → page.body ≡ body.Pending rows
       → IsLinkHere r to end added (0 ∷ last ∷ []) (meta ∷ page ∷ [])
       (left_with r meta.right (body.Meta first end (count + added)) ∷ left_with r to (body.Pending rows) ∷ [])
 
--- the transaction placed the head and runs; its private chain comes behind the last page, and the head has none then
+-- the transaction placed the head and runs; its private chain, which has a page or more, comes behind the last page, and the
+-- head has none then
 pub record IsLinkPendingHere (k : Known) (r : Record) (before after : List Page) : Type 0 where
   pub doc : Doc
   pub head : Head
@@ -111,6 +113,8 @@ pub record IsLinkPendingHere (k : Known) (r : Record) (before after : List Page)
   pub kind_is : r.kind ≡ kind.LinkPending doc.item doc.serial
   pub pages : changed r ≡ page_of doc.item ∷ others
   pub own : IsOwn k r head
+  pub some_page : head.private ≢ 0
+  pub some_added : added ≢ 0
   pub linked : IsLinkHere r head.private end added others others_before others_after
   pub before_is : before ≡ old ∷ others_before
   pub head_after : IsHeadChange r doc old head (record head { private = 0 }) left
@@ -128,7 +132,7 @@ pub record IsLinkPendingRest (P : Pages) (doc : Doc) (head : Head) (end added : 
   pub all_keys : (k : Key) → In k (keys_of vector) → InRows (rows_on P (front ++ end ∷ [])) k doc.item
   pub is_last : (last : ℕ) → others ≡ 0 ∷ last ∷ [] → (line : List ℕ) × Line P (line ++ last ∷ [])
 
--- 11 LinkPending
+-- 11 LinkPending: its pages, and what they lack of the document and of both lists
 pub record IsLinkPending (R : Log) (P Q : Pages) (r : Record) : Type 0 where
   pub here : Here IsLinkPendingHere R P Q r
   pub rest : IsLinkPendingRest P here.doc here.head here.end here.added here.others

@@ -14,6 +14,6 @@ abbrev pub WasShown : Log → Read → Type 0
 WasShown R x = (P : Pages) × Shows (cut x.length R) P × (P x.page ≡ x.content)
 
 -- these pages were read, the oldest read first, at lengths of the log that don't fall, from `from` on
-abbrev pub IsReading : Log → ℕ → List Read → Type 0
-IsReading R from [] = ⊤
-IsReading R from (x ∷ xs) = (from ≤ x.length) × (x.length ≤ length R) × WasShown R x × IsReading R x.length xs
+abbrev pub AreReads : Log → ℕ → List Read → Type 0
+AreReads R from [] = ⊤
+AreReads R from (x ∷ xs) = (from ≤ x.length) × (x.length ≤ length R) × WasShown R x × AreReads R x.length xs

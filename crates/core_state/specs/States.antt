@@ -12,7 +12,7 @@ use Rattle.page_types.specs.declared.record.Kind.TheVariants as kind
 use Rattle.core_state.specs.Log.{Log, Pages, Shows, changed, xid_bound, commits, next_xid, next_serial, fate, redo_of}
 use Rattle.core_state.specs.Documents.{Doc, page_of, name_of}
 use Rattle.core_state.specs.History.{Document, Commit, History, IsHistory}
-use Rattle.core_state.specs.Known.{use_in}
+use Rattle.core_state.specs.Known.{Known, use_in}
 use Rattle.core_state.specs.Legal.{IsLegal}
 use Rattle.core_state.specs.declared.transactions.Transaction.{Transaction}
 use Rattle.core_state.specs.declared.answers.Fate.{Fate}
@@ -70,6 +70,18 @@ fate_of s x = fate_at s.fates x
 abbrev pub use_of : StateValue → ℕ → PageUse
 use_of s p = get_or s.uses p usage.Unused
 
+-- what a state knows of its log and of the pages
+abbrev pub known_by : StateValue → Known
+known_by s = record {
+  records = s.records;
+  commits = length s.deleted;
+  fates = fate_of s;
+  next_xid = suc (length s.fates);
+  next_serial = s.next_serial;
+  redo = s.redo;
+  uses = use_of s;
+}
+
 -- the byte 0 of what an edit leaves: the kind of the page
 abbrev pub kind_byte : Edit → ℕ
 kind_byte (Image bytes) = get_or bytes 0 0
@@ -101,6 +113,14 @@ without x ts = filter (λ (t : Transaction). not (t.xid == x)) ts
 abbrev pub replaced : Transaction → List Transaction → List Transaction
 replaced t [] = []
 replaced t (u ∷ us) = cond (u.xid == t.xid) (t ∷ us) (u ∷ replaced t us)
+
+-- a transaction with one name more that it has placed
+abbrev pub with_placed : Name → Transaction → Transaction
+with_placed n t = record t { inserted = t.inserted ++ n ∷ [] }
+
+-- a transaction with one name more that it has marked
+abbrev pub with_marked : Name → Transaction → Transaction
+with_marked n t = record t { deleted = t.deleted ++ n ∷ [] }
 
 -- the fates with that of an xid
 abbrev pub with_fate : ℕ → Fate → List Fate → List Fate
@@ -164,7 +184,7 @@ placed_head None d s = s
 placed_head (Some t) d s = if (d.serial == s.next_serial) && nat_lt d.serial (suc last_serial)
     then record s {
       next_serial = suc d.serial;
-      running = replaced (record t { inserted = t.inserted ++ name_of d ∷ [] }) s.running;
+      running = replaced (with_placed (name_of d) t) s.running;
       current = Some (page_of d.item);
       highest = higher (page_of d.item) s.highest;
     }
@@ -173,7 +193,11 @@ placed_head (Some t) d s = if (d.serial == s.next_serial) && nat_lt d.serial (su
 -- the transaction marks a document, if it runs
 abbrev pub marked_head : Option Transaction → Doc → StateValue → StateValue
 marked_head None d s = s
-marked_head (Some t) d s = record s { running = replaced (record t { deleted = t.deleted ++ name_of d ∷ [] }) s.running }
+marked_head (Some t) d s = record s { running = replaced (with_marked (name_of d) t) s.running }
+
+-- the pages of changes
+abbrev pub pages_of : List Change → List ℕ
+pages_of cs = map (λ (c : Change). c.page) cs
 
 -- what a record of this kind and xid, which changes these pages, makes of a state
 abbrev pub stepped : Kind → ℕ → List ℕ → StateValue → StateValue
@@ -186,7 +210,8 @@ stepped (kind.MarkDeleted item serial) x ps s = marked_head (transaction x s.run
 stepped kind.FreeSlots x ps s = record s { freed = with_pages ps s.freed }
 stepped _ x ps s = s
 
--- the state after a record, valid or not: what a valid one could not do changes the number and the uses alone
+-- The state after a record, valid or not. An xid or a number that isn't the next, and an xid that doesn't run, change the number
+-- and the uses alone; a checkpoint's redo number and the pages of freed slots are taken as they come.
 abbrev pub step_of : Record → StateValue → StateValue
 step_of r s = stepped r.kind r.xid (changed r) (record s { records = r.number; uses = uses_after r.number r.changes s.uses })
 
@@ -213,7 +238,7 @@ abbrev pub names : List Document → List Name
 names ds = map (λ (d : Document). d.name) ds
 
 -- what the state of a log tells of it
-pub record Follows (R : Log) (s : StateValue) : Type 0 where
+pub record StateTells (R : Log) (s : StateValue) : Type 0 where
   pub records : s.records ≡ length R
   pub fates : (x : ℕ) → fate_of s x ≡ fate R x
   pub next_xid : suc (length s.fates) ≡ next_xid R
@@ -226,4 +251,4 @@ pub record Follows (R : Log) (s : StateValue) : Type 0 where
 
 -- the state of a legal log tells of it
 abbrev pub StateFollows : Type 0
-StateFollows = (pages xid_limit : ℕ) (R : Log) → IsLegal R → Follows R (state_of pages xid_limit R)
+StateFollows = (pages xid_limit : ℕ) (R : Log) → IsLegal R → StateTells R (state_of pages xid_limit R)

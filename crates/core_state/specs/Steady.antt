@@ -58,11 +58,12 @@ pub record EndsStay (R R' : Log) : Type 0 where
   pub aborted_stays : (x : ℕ) → fate R x ≡ Aborted → fate R' x ≡ Aborted
   pub dead_stays : (d : Doc) (floor : ℕ) → IsDead R floor d → IsDead R' floor d
 
--- Without later records of the kinds 12 to 21 the main part and the pages of trees are the same, linked rows stay linked,
--- whole documents keep their vectors, and dead ones their chains and rows and get no more.
+-- Without later records of the kinds 12 to 21 the main part and the pages of trees are the same, and no page comes into a tree;
+-- linked rows stay linked, whole documents keep their vectors, and dead ones their chains and rows and get no more.
 pub record IndexStays (R R' : Log) (P P' : Pages) : Type 0 where
   pub main : (k : Key) (i : ℕ) → Main P k i ↔ Main P' k i
   pub trees : (root p : ℕ) → IsRoot P root → Below P root p → P' p ≡ P p
+  pub no_more_trees : (root p : ℕ) → IsRoot P' root → Below P' root p → IsRoot P root × Below P root p
   pub rows : (w : Row) → IsLinked P w → IsLinked P' w
   pub whole : (d : Doc) (v : Vector) → HasVector P d v → HasVector P' d v
   pub dead : (d : Doc) (h : Head) (floor : ℕ) → IsDead R floor d → Has P d h → KeepsHead P P' d h

@@ -18,7 +18,7 @@ pub record IsCreateHere (k : Known) (r : Record) (before after : List Page) : Ty
   pub empty : k.records ≡ 0
   pub after_is : after ≡ left_with r 0 (body.Meta 0 0 0) ∷ left_with r 0 (body.EntryLeaf [] []) ∷ []
 
--- 1 Create
+-- 1 Create: nothing is asked beside that
 pub record IsCreate (R : Log) (P Q : Pages) (r : Record) : Type 0 where
   pub here : Here IsCreateHere R P Q r
 
@@ -29,7 +29,7 @@ pub record IsBeginHere (k : Known) (r : Record) (before after : List Page) : Typ
   pub next : r.xid ≡ k.next_xid
   pub bound : r.xid < xid_bound
 
--- 2 Begin
+-- 2 Begin: nothing is asked beside that
 pub record IsBegin (R : Log) (P Q : Pages) (r : Record) : Type 0 where
   pub here : Here IsBeginHere R P Q r
 
@@ -50,7 +50,7 @@ pub record IsAbortHere (k : Known) (r : Record) (before after : List Page) : Typ
   pub pages : changed r ≡ []
   pub runs : (k.fates r.xid ≡ Running) ⊎ (r.xid ≡ 0)
 
--- 4 Abort
+-- 4 Abort: nothing is asked beside that
 pub record IsAbort (R : Log) (P Q : Pages) (r : Record) : Type 0 where
   pub here : Here IsAbortHere R P Q r
 
@@ -62,6 +62,6 @@ pub record IsCheckpointHere (k : Known) (r : Record) (before after : List Page) 
   pub after_last : k.redo ≤ redo
   pub before_own : redo ≤ r.number
 
--- 5 Checkpoint
+-- 5 Checkpoint: nothing is asked beside that
 pub record IsCheckpoint (R : Log) (P Q : Pages) (r : Record) : Type 0 where
   pub here : Here IsCheckpointHere R P Q r

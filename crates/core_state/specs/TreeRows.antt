@@ -4,7 +4,7 @@ use Rattle.std.specs.Prelude.{◌≡◌, ◌≢◌, ◌⊎◌, ◌↔◌, ℕ, �
 use Rattle.std.specs.List.{flat_map}
 use Rattle.ts_base.specs.Keys.{Key}
 use Rattle.page_types.specs.Numbers.{most_inline, most_body, no_bound}
-use Rattle.page_types.specs.Items.{items_of}
+use Rattle.page_types.specs.Items.{items_of, IsItemList}
 use Rattle.page_types.specs.Keys.{KeyLess, Rising}
 use Rattle.page_types.specs.Spelling.{body_bytes, count_of, entry_bytes, entry_child_bytes, post_child_bytes}
 use Rattle.page_types.specs.declared.page.Page.{Page}
@@ -74,7 +74,7 @@ pub record IsAddItemsRest (P : Pages) (key : Key) (items : List ℕ) (page : ℕ
   pub place : Toward P key 1 page
   pub rows : (i : ℕ) → In i items → Pending P key i
 
--- 13 AddItems
+-- 13 AddItems: its page, and what the way down and the rows tell
 pub record IsAddItems (R : Log) (P Q : Pages) (r : Record) : Type 0 where
   pub here : Here IsAddItemsHere R P Q r
   pub rest : IsAddItemsRest P here.key here.items here.page
@@ -98,7 +98,7 @@ pub record IsMakeTreeHere (since : ℕ) (k : Known) (r : Record) (before after :
   pub after_is : after ≡ left_with r old.right (body.EntryLeaf high (front ++ record { key = key; postings = Root new } ∷ back))
       ∷ left_with r 0 (body.PostLeaf 0 items) ∷ []
 
--- 14 MakeTree
+-- 14 MakeTree: nothing is asked beside that
 pub record IsMakeTree (R : Log) (P Q : Pages) (r : Record) (since : ℕ) : Type 0 where
   pub here : Here (IsMakeTreeHere since) R P Q r
 
@@ -127,7 +127,7 @@ pub record IsAddPostingsRest (P : Pages) (items : List ℕ) (page : ℕ) : Type 
   pub place : (i : ℕ) → In i items → TowardItem P i root page
   pub rows : (i : ℕ) → In i items → Pending P key i
 
--- 15 AddPostings
+-- 15 AddPostings: its page, and what the entry, the way down and the rows tell
 pub record IsAddPostings (R : Log) (P Q : Pages) (r : Record) : Type 0 where
   pub here : Here IsAddPostingsHere R P Q r
   pub rest : IsAddPostingsRest P here.items here.page
@@ -185,10 +185,18 @@ pub data PostHalves (mid : ℕ) : Body → Body → Body → Type 0 where
   inners : (last : PostChild) (front back : List PostChild) → back ≢ [] → last.bound ≡ mid
       → PostHalves mid (body.PostInner (front ++ last ∷ back)) (body.PostInner (front ++ last ∷ [])) (body.PostInner back)
 
--- a page's content in two parts
+-- A page's content in two parts, neither of them empty, divided at the end of the first: a leaf of entries at its last key,
+-- an inner page at its last child's bound. That some other key would divide as well is not asked.
 pub data Halves : Body → Body → Body → Type 0 where
-  of_entries : (mid : Key) {whole left right : Body} → EntryHalves mid whole left right → Halves whole left right
-  of_postings : (mid : ℕ) {whole left right : Body} → PostHalves mid whole left right → Halves whole left right
+  of_leaf : (high : Key) (last : Entry) (front back : List Entry) → back ≢ []
+      → Halves (body.EntryLeaf high (front ++ last ∷ back)) (body.EntryLeaf last.key (front ++ last ∷ [])) (body.EntryLeaf high back)
+  of_inner : (mid : Key) (children : List EntryChild) {left right : Body} → EntryHalves mid (body.EntryInner children) left right
+      → Halves (body.EntryInner children) left right
+  of_post_leaf : (high mid : ℕ) (items front back : List ℕ) → IsItemList front → IsItemList back
+      → PostHalves mid (body.PostLeaf high items) (body.PostLeaf mid front) (body.PostLeaf high back)
+      → Halves (body.PostLeaf high items) (body.PostLeaf mid front) (body.PostLeaf high back)
+  of_post_inner : (mid : ℕ) (children : List PostChild) {left right : Body} → PostHalves mid (body.PostInner children) left right
+      → Halves (body.PostInner children) left right
 
 -- the bytes of what a tree page lists: its entries, children or items
 abbrev pub listed_bytes : Body → List ℕ
@@ -203,14 +211,15 @@ abbrev pub KeepsHalf : Body → Body → Type 0
 KeepsHalf whole left = length (listed_bytes whole) ≤ 2 * length (listed_bytes left)
 
 -- the content fits on a page
-abbrev pub Fits : Body → Type 0
-Fits content = length (body_bytes content) ≤ most_body
+abbrev pub FitsPage : Body → Type 0
+FitsPage content = length (body_bytes content) ≤ most_body
 
--- The first part has at least half of the bytes, and both fit; where no such parts are, it is the longest that fits.
+-- The first part has at least half of the bytes. Or it has less: then no division at the end of such a part has two sides that
+-- fit, and the first part is the longest that fits.
 pub data IsSplitPlace (whole left : Body) : Type 0 where
   half : KeepsHalf whole left → IsSplitPlace whole left
-  longest : ((l r : Body) → Halves whole l r → KeepsHalf whole l → Fits l → Fits r → ⊥)
-      → ((l r : Body) → Halves whole l r → Fits l → count_of l ≤ count_of left) → IsSplitPlace whole left
+  longest : ((l r : Body) → Halves whole l r → KeepsHalf whole l → FitsPage l → FitsPage r → ⊥)
+      → ((l r : Body) → Halves whole l r → FitsPage l → count_of l ≤ count_of left) → IsSplitPlace whole left
 
 -- the parent of a split page of the entry tree, before and after: the new page comes behind the page and takes its bound
 pub record EntryParent (page new : ℕ) (mid : Key) (old left : Body) : Type 0 where
@@ -256,7 +265,7 @@ pub record IsSplitHere (since : ℕ) (k : Known) (r : Record) (before after : Li
   pub split_place : IsSplitPlace old.body left
   pub after_is : after ≡ left_with r new left ∷ left_with r old.right right ∷ left_with r old_parent.right parent_after ∷ []
 
--- 17 Split
+-- 17 Split: nothing is asked beside that
 pub record IsSplit (R : Log) (P Q : Pages) (r : Record) (since : ℕ) : Type 0 where
   pub here : Here (IsSplitHere since) R P Q r
 

@@ -78,9 +78,9 @@ pub data IsDropped (head : Head) (page right : ℕ) : Head → Type 0 where
   private : head.private ≡ page → IsDropped head page right (record head { private = right })
 
 -- a chain page's content, kept as it is deleted
-pub data IsKept : Body → Gone → Type 0 where
-  of_overflow : (bytes : List ℕ) → IsKept (body.Overflow bytes) (gone.Overflow bytes)
-  of_pending : (rows : List Row) → IsKept (body.Pending rows) (gone.Pending rows)
+pub data IsGoneOf : Body → Gone → Type 0 where
+  of_overflow : (bytes : List ℕ) → IsGoneOf (body.Overflow bytes) (gone.Overflow bytes)
+  of_pending : (rows : List Row) → IsGoneOf (body.Pending rows) (gone.Pending rows)
 
 -- the head is a dead document's, and the first page of one of its chains is deleted
 pub record IsDropPageHere (floor : ℕ) (k : Known) (r : Record) (before after : List Page) : Type 0 where
@@ -98,7 +98,7 @@ pub record IsDropPageHere (floor : ℕ) (k : Known) (r : Record) (before after :
   pub dead : IsDeadHead k.fates floor head
   pub not_none : page ≢ 0
   pub dropped : IsDropped head page was.right head_then
-  pub kept : IsKept was.body content
+  pub kept : IsGoneOf was.body content
   pub head_after : IsHeadChange r doc old head head_then left
   pub after_is : after ≡ left ∷ left_with r was.right (body.Deleted content) ∷ []
 
@@ -107,7 +107,7 @@ pub record IsGoneFrom (R : Log) (P : Pages) (floor : ℕ) (doc : Doc) : Type 0 w
   pub dead : IsDead R floor doc
   pub no_pair : NoPair P doc.item
 
--- 20 DropPage
+-- 20 DropPage: the document is dead by the log, and no row and no posting has its item
 pub record IsDropPage (R : Log) (P Q : Pages) (r : Record) (floor : ℕ) : Type 0 where
   pub here : Here (IsDropPageHere floor) R P Q r
   pub rest : IsGoneFrom R P floor here.doc

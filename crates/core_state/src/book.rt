@@ -1,17 +1,25 @@
 // What is kept of a log's transactions, numbers and commits.
-ghost use Rattle.std.specs.Prelude.{◌≡◌, ◌≢◌, ◌↔◌, ◌≤◌, ◌-◌, suc, true, [], length, OnOk, OnErr, Some};
+ghost use Rattle.std.specs.Prelude.{◌≡◌, ◌≢◌, ◌↔◌, ◌<◌, ◌≤◌, ◌+◌, ◌-◌, ℕ, suc, true, [], length, IfSome, OnOk, IsOk, Some};
 ghost use Rattle.std.specs.List.{slice_get};
-ghost use Rattle.core_state.specs.States.{StateValue, empty_state, begun, aborted, transaction, ended_all, fate_of, heap_pages, run_started};
+ghost use Rattle.core_state.specs.States.{empty_state, begun, committed, aborted, placed_head, marked_head, transaction, ended_all, stepped, with_fate, without, fate_of, heap_pages, run_started, pages_of};
+ghost use Rattle.core_state.specs.Documents as documents;
+ghost use Rattle.core_state.specs.Rooms.{FitsCommit, FitsPlaced, FitsMarked, HasRoomFor};
 
 use crate::answers::Fate;
+use crate::freed::note_freed;
 use crate::names::NameLists;
-use crate::transactions::{Names, Transaction, end_all, fate_in, leave, runs, set_fate};
-use page_types::Name;
+use crate::transactions::{
+    Names, Transaction, end_all, fate_in, leave, note_marked, note_placed, place_of, runs, set_fate,
+};
+use page_types::{Change, Kind, Name};
 use std::alloc::{AllocError, Global};
 use std::marker::Model;
 
 /// Xids are below this.
 pub(crate) const XID_BOUND: u32 = 16_777_216;
+
+/// A heap page has at most this many slots.
+const MOST_SLOTS: u32 = 2048;
 
 /// What is kept of a log, but for the number of its last record and the uses of pages.
 #[derive(Debug, Drop)]
@@ -25,42 +33,70 @@ pub(crate) struct Book {
     pub(crate) deleted: NameLists,
     pub(crate) inserted: NameLists,
     pub(crate) running: Vec<Transaction>,
+    pub(crate) spare: Vec<Name>,
     pub(crate) current: Option<u32>,
     pub(crate) highest: Option<u32>,
     pub(crate) freed: Vec<u32>,
 }
 
 impl Model for Book {
-    ghost use Rattle.std.specs.Prelude.{[]};
-    ghost use Rattle.core_state.specs.States.{StateValue};
+    ghost use Rattle.std.specs.Prelude.{◌≡◌, ◌<◌, ◌^◌, [], length};
+    ghost use Rattle.std.specs.Vec.{vec_capacity};
+    ghost use Rattle.core_state.specs.Inner.Rising.{AreRising};
+    ghost use Rattle.core_state.specs.Rooms.{Held};
 
-    ghost Value = { StateValue };
+    ghost Value = { Held };
 
     ghost view = { λ b. record {
-      pages = b.pages;
-      xid_limit = b.xid_limit;
-      records = 0;
-      fates = b.fates.items;
-      uses = [];
-      next_serial = b.next_serial;
-      redo = b.redo;
-      deleted = b.deleted;
-      inserted = b.inserted;
-      running = b.running.items;
-      current = b.current;
-      highest = b.highest;
-      freed = b.freed.items;
+      value = record {
+        pages = b.pages;
+        xid_limit = b.xid_limit;
+        records = 0;
+        fates = b.fates.items;
+        uses = [];
+        next_serial = b.next_serial;
+        redo = b.redo;
+        deleted = b.deleted.lists;
+        inserted = b.inserted.lists;
+        running = b.running.items;
+        current = b.current;
+        highest = b.highest;
+        freed = b.freed.items;
+      };
+      room = record {
+        pages = 0;
+        fates = vec_capacity b.fates;
+        running = vec_capacity b.running;
+        freed = vec_capacity b.freed;
+        names = vec_capacity b.spare;
+        deletes = b.deleted.lists_left;
+        deleted = b.deleted.names_left;
+        inserts = b.inserted.lists_left;
+        inserted = b.inserted.names_left;
+      };
     } };
 
-    ghost use Rattle.std.specs.Prelude.{◌≡◌, ◌<◌, ◌^◌, length};
+    ghost invariant = { λ b. (length b.fates.items < 2 ^ 24)
+        × (length b.deleted.lists < 2 ^ 32)
+        × (length b.inserted.lists ≡ length b.deleted.lists)
+        × AreRising b.freed.items };
+}
 
-    ghost invariant = { λ b. (length b.fates.items < 2 ^ 24) × (length b.deleted < 2 ^ 32) × (length b.inserted ≡ length b.deleted) };
+// The name of the document with this item and serial.
+pub(crate) fn name_of(item: u32, serial: u64) -> Name
+    ensures { result ≡ documents.name_of (record { item = item; serial = serial }) }
+{
+    Name {
+        page: item / MOST_SLOTS,
+        slot: (item % MOST_SLOTS) as u16,
+        serial,
+    }
 }
 
 impl Book {
     // That of an empty log.
     pub(crate) fn new(alloc: Global, pages: u32, xid_limit: u32) -> Book
-        ensures { result ≡ empty_state pages xid_limit }
+        ensures { result.value ≡ empty_state pages xid_limit }
     {
         Book {
             alloc,
@@ -72,34 +108,187 @@ impl Book {
             deleted: NameLists::new(alloc),
             inserted: NameLists::new(alloc),
             running: Vec::new(alloc),
+            spare: Vec::new(alloc),
             current: None,
             highest: None,
             freed: Vec::new(alloc),
         }
     }
 
+    // Makes room for the names of transaction xid, if it runs, among those of commits.
+    fn reserve_commit(&mut self, xid: u32) -> Result<(), AllocError>
+        ensures same { self.new.value ≡ self.old.value }
+        ensures room { OnOk result
+            (IfSome (transaction xid self.old.value.running) (FitsCommit self.new.room)) }
+        ensures ok { IfSome (transaction xid self.old.value.running)
+            (FitsCommit self.old.room) → IsOk result }
+    {
+        let Some(i) = place_of(&self.running, xid) else {
+            return Ok(());
+        };
+        let t = &self.running[i];
+        self.deleted.reserve(t.deleted.as_slice().len())?;
+        self.inserted.reserve(t.inserted.as_slice().len())
+    }
+
+    // Makes room for one name more that transaction xid places, if it runs.
+    fn reserve_placed(&mut self, xid: u32) -> Result<(), AllocError>
+        ensures same { self.new.value ≡ self.old.value }
+        ensures room { OnOk result
+            (IfSome (transaction xid self.old.value.running) (FitsPlaced self.new.room)) }
+        ensures ok { IfSome (transaction xid self.old.value.running)
+            (FitsPlaced self.old.room) → IsOk result }
+    {
+        let Some(i) = place_of(&self.running, xid) else {
+            return Ok(());
+        };
+        let names = self.running[i].inserted.as_slice().len();
+        self.spare.clear();
+        self.spare.reserve(names + 1)
+    }
+
+    // Makes room for one name more that transaction xid marks, if it runs.
+    fn reserve_marked(&mut self, xid: u32) -> Result<(), AllocError>
+        ensures same { self.new.value ≡ self.old.value }
+        ensures room { OnOk result
+            (IfSome (transaction xid self.old.value.running) (FitsMarked self.new.room)) }
+        ensures ok { IfSome (transaction xid self.old.value.running)
+            (FitsMarked self.old.room) → IsOk result }
+    {
+        let Some(i) = place_of(&self.running, xid) else {
+            return Ok(());
+        };
+        let names = self.running[i].deleted.as_slice().len();
+        self.spare.clear();
+        self.spare.reserve(names + 1)
+    }
+
+    // Makes room for what a record of this kind and xid, with so many changes, adds.
+    pub(crate) fn make_room(
+        &mut self,
+        kind: &Kind,
+        xid: u32,
+        changes: usize,
+    ) -> Result<(), AllocError>
+        ensures same { self.new.value ≡ self.old.value }
+        ensures room { OnOk result (HasRoomFor kind.now xid changes self.new) }
+        ensures ok { HasRoomFor kind.now xid changes self.old → IsOk result }
+    {
+        match *kind {
+            Kind::Begin => {
+                self.fates.reserve(1)?;
+                self.running.reserve(1)
+            }
+            Kind::Commit { .. } => self.reserve_commit(xid),
+            Kind::PlaceHead { .. } => self.reserve_placed(xid),
+            Kind::MarkDeleted { .. } => self.reserve_marked(xid),
+            Kind::FreeSlots => self.freed.reserve(changes),
+            _ => Ok(()),
+        }
+    }
+
+    // What a record of this kind and xid, with these changes, makes of the book, which has room for it.
+    pub(crate) fn turn(&mut self, kind: &Kind, xid: u32, changes: &[Change])
+        requires { HasRoomFor kind.now xid (length changes.now) self.old }
+        ensures { self.new.value ≡ stepped kind.now xid (pages_of changes.now) self.old.value }
+    {
+        match *kind {
+            Kind::Begin => self.begin(xid),
+            Kind::Commit { commit } => self.commit(commit, xid),
+            Kind::Abort if xid == 0 => self.end_running(),
+            Kind::Abort => self.abort(xid),
+            Kind::Checkpoint { redo } => self.redo = redo,
+            Kind::PlaceHead { item, serial } => self.place(xid, item, serial),
+            Kind::MarkDeleted { item, serial } => self.mark(xid, item, serial),
+            Kind::FreeSlots => note_freed(&mut self.freed, changes),
+            _ => {}
+        }
+    }
+
     // The next xid begins.
-    pub(crate) fn begin(&mut self, xid: u32) -> Result<(), AllocError>
-        ensures ok { OnOk result (self.new ≡ begun xid self.old) }
-        ensures err { OnErr result (self.new ≡ self.old) }
+    fn begin(&mut self, xid: u32)
+        requires fates { length self.old.value.fates < self.old.room.fates }
+        requires running { length self.old.value.running < self.old.room.running }
+        ensures { self.new.value ≡ begun xid self.old.value }
     {
         if xid as usize != self.fates.len() + 1 || xid >= XID_BOUND {
-            return Ok(());
+            return;
         }
-        self.fates.reserve(1)?;
-        self.running.reserve(1)?;
         self.fates.push_reserved(Fate::Running);
         self.running.push_reserved(Transaction {
             xid,
             deleted: Names::new(self.alloc),
             inserted: Names::new(self.alloc),
         });
-        Ok(())
+    }
+
+    // Transaction xid commits with this number, if it runs and the number is the next.
+    fn commit(&mut self, number: u32, xid: u32)
+        requires { IfSome (transaction xid self.old.value.running) (FitsCommit self.old.room) }
+        ensures { self.new.value
+            ≡ committed number xid (transaction xid self.old.value.running) self.old.value }
+    {
+        let Some(i) = place_of(&self.running, xid) else {
+            return;
+        };
+        if number as usize != self.deleted.len() + 1 {
+            return;
+        }
+        let t = &self.running[i];
+        self.deleted.push(t.deleted.as_slice());
+        self.inserted.push(t.inserted.as_slice());
+        self.end(xid, Fate::Committed(number));
+    }
+
+    // Transaction xid gets its fate, and runs no more.
+    fn end(&mut self, xid: u32, fate: Fate)
+        ensures { self.new.value ≡ record self.old.value {
+          fates = with_fate xid fate self.old.value.fates;
+          running = without xid self.old.value.running;
+        } }
+    {
+        set_fate(&mut self.fates, xid, fate);
+        leave(&mut self.running, xid);
+    }
+
+    // Transaction xid places a head, if it runs and the serial is the next.
+    fn place(&mut self, xid: u32, item: u32, serial: u64)
+        requires { IfSome (transaction xid self.old.value.running) (FitsPlaced self.old.room) }
+        ensures { self.new.value ≡ placed_head (transaction xid self.old.value.running)
+            (record { item = item; serial = serial }) self.old.value }
+    {
+        if !runs(&self.running, xid) || serial != self.next_serial || serial == u64::MAX {
+            return;
+        }
+        let name = name_of(item, serial);
+        note_placed(&mut self.running, xid, name, &mut self.spare);
+        self.next_serial = serial + 1;
+        self.current = Some(name.page);
+        self.highest = Some(match self.highest {
+            None => name.page,
+            Some(page) => name.page.max(page),
+        });
+    }
+
+    // Transaction xid marks a document, if it runs.
+    fn mark(&mut self, xid: u32, item: u32, serial: u64)
+        requires { IfSome (transaction xid self.old.value.running) (FitsMarked self.old.room) }
+        ensures { self.new.value ≡ marked_head (transaction xid self.old.value.running)
+            (record { item = item; serial = serial }) self.old.value }
+    {
+        if runs(&self.running, xid) {
+            note_marked(
+                &mut self.running,
+                xid,
+                name_of(item, serial),
+                &mut self.spare,
+            );
+        }
     }
 
     // Every running transaction is aborted.
     pub(crate) fn end_running(&mut self)
-        ensures { self.new ≡ ended_all self.old }
+        ensures { self.new.value ≡ ended_all self.old.value }
     {
         end_all(&mut self.fates, &self.running);
         self.running.clear();
@@ -107,14 +296,14 @@ impl Book {
 
     // The fate of an xid.
     pub(crate) fn fate(&self, xid: u32) -> Fate
-        ensures { result ≡ fate_of self.now xid }
+        ensures { result ≡ fate_of self.now.value xid }
     {
         fate_in(&self.fates, xid)
     }
 
     // How many commits there are.
     pub(crate) fn commits(&self) -> u32
-        ensures { result ≡ length self.now.deleted }
+        ensures { result ≡ length self.now.value.deleted }
     {
         self.deleted.len() as u32
     }
@@ -122,8 +311,8 @@ impl Book {
     // The names that a commit deleted.
     pub(crate) fn deleted_by(&self, commit: u32) -> &[Name]
         requires first { 1 ≤ commit }
-        requires last { commit ≤ length self.now.deleted }
-        ensures { slice_get self.now.deleted (commit - 1) ≡ Some result.now }
+        requires last { commit ≤ length self.now.value.deleted }
+        ensures { slice_get self.now.value.deleted (commit - 1) ≡ Some result.now }
     {
         self.deleted.at(commit as usize - 1)
     }
@@ -131,57 +320,57 @@ impl Book {
     // The names that a commit inserted.
     pub(crate) fn inserted_by(&self, commit: u32) -> &[Name]
         requires first { 1 ≤ commit }
-        requires last { commit ≤ length self.now.deleted }
-        ensures { slice_get self.now.inserted (commit - 1) ≡ Some result.now }
+        requires last { commit ≤ length self.now.value.deleted }
+        ensures { slice_get self.now.value.inserted (commit - 1) ≡ Some result.now }
     {
         self.inserted.at(commit as usize - 1)
     }
 
     // The xid that the next transaction gets.
     pub(crate) fn next_xid(&self) -> u32
-        ensures { result ≡ suc (length self.now.fates) }
+        ensures { result ≡ suc (length self.now.value.fates) }
     {
         self.fates.len() as u32 + 1
     }
 
     // The serial that the next document gets.
     pub(crate) fn next_serial(&self) -> u64
-        ensures { result ≡ self.now.next_serial }
+        ensures { result ≡ self.now.value.next_serial }
     {
         self.next_serial
     }
 
     // The last redo number.
     pub(crate) fn redo(&self) -> u64
-        ensures { result ≡ self.now.redo }
+        ensures { result ≡ self.now.value.redo }
     {
         self.redo
     }
 
     // How many pages the store may have.
     pub(crate) fn pages(&self) -> u32
-        ensures { result ≡ self.now.pages }
+        ensures { result ≡ self.now.value.pages }
     {
         self.pages
     }
 
     // Where xids end.
     pub(crate) fn xid_limit(&self) -> u32
-        ensures { result ≡ self.now.xid_limit }
+        ensures { result ≡ self.now.value.xid_limit }
     {
         self.xid_limit
     }
 
     // Whether a transaction runs.
     pub(crate) fn has_running(&self) -> bool
-        ensures { result ≡ true ↔ (self.now.running ≢ []) }
+        ensures { result ≡ true ↔ (self.now.value.running ≢ []) }
     {
         !self.running.is_empty()
     }
 
     // The old heap page with this number that a head is tried on.
     pub(crate) fn heap_page(&self, k: usize) -> Option<u32>
-        ensures { result ≡ slice_get (heap_pages self.now) k }
+        ensures { result ≡ slice_get (heap_pages self.now.value) k }
     {
         match self.current {
             None => self.freed.get(k).copied(),
@@ -192,7 +381,7 @@ impl Book {
 
     // A run begins.
     pub(crate) fn start_run(&mut self)
-        ensures { self.new ≡ run_started self.old }
+        ensures { self.new.value ≡ run_started self.old.value }
     {
         self.current = self.highest;
         self.freed.clear();
@@ -200,11 +389,11 @@ impl Book {
 
     // Transaction xid is aborted, if it runs.
     pub(crate) fn abort(&mut self, xid: u32)
-        ensures { self.new ≡ aborted xid (transaction xid self.old.running) self.old }
+        ensures { self.new.value
+            ≡ aborted xid (transaction xid self.old.value.running) self.old.value }
     {
         if runs(&self.running, xid) {
-            set_fate(&mut self.fates, xid, Fate::Aborted);
-            leave(&mut self.running, xid);
+            self.end(xid, Fate::Aborted);
         }
     }
 }

@@ -7,15 +7,20 @@
 
 mod answers;
 mod book;
+mod freed;
 mod laws;
 mod names;
+mod placing;
 mod state;
 mod transactions;
 mod uses;
+mod valid;
 
 pub use answers::{Fate, PageUse};
 pub use laws::{
     history_is_one, keys_are_one, newest_may_go, pages_are_shown, state_follows, valid_is_monotone,
 };
+pub use placing::valid_place_head;
 pub use state::State;
 pub use transactions::{Names, Transaction};
+pub use valid::{valid_abort, valid_begin, valid_commit, valid_create};

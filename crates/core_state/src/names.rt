@@ -1,5 +1,5 @@
 // Lists of names that lie one behind the other in one list.
-ghost use Rattle.std.specs.Prelude.{◌≡◌, ◌-◌, ◌<◌, ◌≤◌, [], ◌∷◌, ◌++◌, length, take, drop, OnOk, OnErr, Some};
+ghost use Rattle.std.specs.Prelude.{◌≡◌, ◌-◌, ◌<◌, ◌≤◌, [], ◌∷◌, ◌++◌, length, OnOk, IsOk, Some};
 ghost use Rattle.std.specs.List.{slice_get};
 ghost use Rattle.page_types.specs.Inner.Cuts.{start_at};
 
@@ -7,7 +7,7 @@ use page_types::Name;
 use std::alloc::{AllocError, Global};
 use std::marker::Model;
 
-/// Lists of names in one list, cut at their ends. Contracts see them as a list of lists.
+/// Lists of names in one list, cut at their ends. Contracts see them as a list of lists, with the room for more.
 #[derive(Debug, Drop)]
 pub struct NameLists {
     names: Vec<Name>,
@@ -15,13 +15,18 @@ pub struct NameLists {
 }
 
 impl Model for NameLists {
-    ghost use Rattle.std.specs.Prelude.{List, ℕ, length};
+    ghost use Rattle.std.specs.Prelude.{◌-◌, length};
+    ghost use Rattle.std.specs.Vec.{vec_capacity};
     ghost use Rattle.page_types.specs.Inner.Cuts.{cut_at, EndAt};
-    ghost use Rattle.page_types.specs.declared.page.Name.{Name};
+    ghost use Rattle.core_state.specs.Inner.Lists.{Listed};
 
-    ghost Value = { List (List Name) };
+    ghost Value = { Listed };
 
-    ghost view = { λ p. cut_at 0 p.ends.items p.names.items };
+    ghost view = { λ p. record {
+      lists = cut_at 0 p.ends.items p.names.items;
+      lists_left = vec_capacity p.ends - length p.ends.items;
+      names_left = vec_capacity p.names - length p.names.items;
+    } };
 
     ghost invariant = { λ p. EndAt 0 p.ends.items (length p.names.items) };
 }
@@ -38,7 +43,7 @@ fn start_of(ends: &[usize], k: usize) -> usize
 impl NameLists {
     /// No lists.
     pub fn new(alloc: Global) -> NameLists
-        ensures { result ≡ [] }
+        ensures { result.lists ≡ [] }
     {
         NameLists {
             names: Vec::new(alloc),
@@ -48,41 +53,40 @@ impl NameLists {
 
     /// How many lists there are.
     pub fn len(&self) -> usize
-        ensures { result ≡ length self.now }
+        ensures { result ≡ length self.now.lists }
     {
         self.ends.len()
     }
 
     /// The list with this number, by reference.
     pub fn at(&self, k: usize) -> &[Name]
-        requires { k < length self.now }
-        ensures { slice_get self.now k ≡ Some result.now }
+        requires { k < length self.now.lists }
+        ensures { slice_get self.now.lists k ≡ Some result.now }
     {
         let from = start_of(&self.ends, k);
         let to = self.ends[k];
         &self.names[from..to]
     }
 
-    /// One list more, behind the others. Without memory they stay as they are.
-    pub fn push(&mut self, names: &[Name]) -> Result<(), AllocError>
-        ensures ok { OnOk result (self.new ≡ self.old ++ names.now ∷ []) }
-        ensures err { OnErr result (self.new ≡ self.old) }
+    /// Makes room for one list more, with so many names. The lists stay.
+    pub fn reserve(&mut self, names: usize) -> Result<(), AllocError>
+        ensures same { self.new.lists ≡ self.old.lists }
+        ensures lists { OnOk result (0 < self.new.lists_left) }
+        ensures names { OnOk result (names ≤ self.new.names_left) }
+        ensures ok { 0 < self.old.lists_left → names ≤ self.old.names_left → IsOk result }
     {
         self.ends.reserve(1)?;
-        self.names.extend_from_slice(names)?;
-        let end = self.names.len();
-        self.ends.push_reserved(end);
-        Ok(())
+        self.names.reserve(names)
     }
 
-    /// The first n lists stay, or all where there are fewer. It takes no memory.
-    pub fn truncate(&mut self, n: usize)
-        ensures { self.new ≡ take n self.old }
+    /// One list more, behind the others, for which there is room.
+    pub fn push(&mut self, names: &[Name])
+        requires list { 0 < self.old.lists_left }
+        requires names { length names.now ≤ self.old.names_left }
+        ensures { self.new.lists ≡ self.old.lists ++ names.now ∷ [] }
     {
-        if n < self.ends.len() {
-            let end = start_of(&self.ends, n);
-            self.ends.truncate(n);
-            self.names.truncate(end);
-        }
+        let _ = self.names.extend_from_slice(names);
+        let end = self.names.len();
+        self.ends.push_reserved(end);
     }
 }

@@ -1,12 +1,15 @@
 // The state of a log.
-ghost use Rattle.std.specs.Prelude.{◌≡◌, ◌≢◌, ◌↔◌, ◌≤◌, ◌-◌, suc, true, [], length, Some};
+ghost use Rattle.std.specs.Prelude.{◌≡◌, ◌≢◌, ◌↔◌, ◌≤◌, ◌-◌, suc, true, [], length, Some, OnOk, OnErr, IsOk};
 ghost use Rattle.std.specs.List.{slice_get};
-ghost use Rattle.core_state.specs.States.{empty_state, fate_of, use_of, heap_pages, run_started};
+ghost use Rattle.core_state.specs.States.{empty_state, step_of, fate_of, use_of, heap_pages, run_started};
+ghost use Rattle.core_state.specs.Changes.{IsNew};
+ghost use Rattle.core_state.specs.Rooms.{HasRoom};
 
 use crate::answers::{Fate, PageUse};
 use crate::book::Book;
-use page_types::Name;
-use std::alloc::Global;
+use crate::uses::{lowest_from, note_uses, pages_end};
+use page_types::{Name, Record};
+use std::alloc::{AllocError, Global};
 use std::marker::Model;
 
 /// What is kept of a log: the fates of xids, the uses of pages, the names of each commit, and the numbers that are drawn next.
@@ -14,39 +17,85 @@ use std::marker::Model;
 pub struct State {
     records: u64,
     uses: Vec<PageUse>,
+    lowest: usize,
     book: Book,
 }
 
 impl Model for State {
-    ghost use Rattle.core_state.specs.States.{StateValue};
+    ghost use Rattle.std.specs.Vec.{vec_capacity};
+    ghost use Rattle.core_state.specs.Inner.Lowest.{IsLowest};
+    ghost use Rattle.core_state.specs.Rooms.{Held};
 
-    ghost Value = { StateValue };
+    ghost Value = { Held };
 
-    ghost view = { λ s. record s.book { records = s.records; uses = s.uses.items } };
+    ghost view = { λ s. record {
+      value = record s.book.value { records = s.records; uses = s.uses.items };
+      room = record s.book.room { pages = vec_capacity s.uses };
+    } };
+
+    ghost invariant = { λ s. IsLowest s.uses.items s.lowest };
 }
 
 impl State {
     /// The state of an empty log, for a store of so many pages, whose xids end at this limit. It takes no memory.
     pub fn new(alloc: Global, pages: u32, xid_limit: u32) -> State
-        ensures { result ≡ empty_state pages xid_limit }
+        ensures { result.value ≡ empty_state pages xid_limit }
     {
         State {
             records: 0,
             uses: Vec::new(alloc),
+            lowest: 0,
             book: Book::new(alloc, pages, xid_limit),
         }
     }
 
+    /// Makes room for a record, so that the step by it takes no memory. The state stays as it is.
+    pub fn make_room(&mut self, rec: &Record) -> Result<(), AllocError>
+        ensures same { self.new.value ≡ self.old.value }
+        ensures room { OnOk result (HasRoom self.new rec.now) }
+        ensures ok { HasRoom self.old rec.now → IsOk result }
+    {
+        let changes = rec.changes.as_slice();
+        let more = pages_end(changes).saturating_sub(self.uses.len());
+        self.uses.reserve(more)?;
+        self.book.make_room(&rec.kind, rec.xid, changes.len())?;
+        Ok(())
+    }
+
+    /// The next record, valid or not. Without memory the state stays as it is; where room was made the step succeeds.
+    pub fn step(&mut self, rec: &Record) -> Result<(), AllocError>
+        ensures stepped { OnOk result (self.new.value ≡ step_of rec.now self.old.value) }
+        ensures refused { OnErr result (self.new.value ≡ self.old.value) }
+        ensures ok { HasRoom self.old rec.now → IsOk result }
+    {
+        self.make_room(rec)?;
+        self.apply(rec);
+        Ok(())
+    }
+
+    // The next record, for which there is room.
+    #[tactic(auto, using(crate::proofs::Framing::framed_step))]
+    fn apply(&mut self, rec: &Record)
+        requires { HasRoom self.old rec.now }
+        ensures { self.new.value ≡ step_of rec.now self.old.value }
+    {
+        let changes = rec.changes.as_slice();
+        self.book.turn(&rec.kind, rec.xid, changes);
+        note_uses(&mut self.uses, rec.number, changes);
+        self.lowest = lowest_from(&self.uses, self.lowest);
+        self.records = rec.number;
+    }
+
     /// What became of the transaction with this xid.
     pub fn fate(&self, xid: u32) -> Fate
-        ensures { result ≡ fate_of self.now xid }
+        ensures { result ≡ fate_of self.now.value xid }
     {
         self.book.fate(xid)
     }
 
     /// What use a page is of.
     pub fn use_of(&self, page: u32) -> PageUse
-        ensures { result ≡ use_of self.now page }
+        ensures { result ≡ use_of self.now.value page }
     {
         match self.uses.get(page as usize) {
             Some(known) => *known,
@@ -54,9 +103,20 @@ impl State {
         }
     }
 
+    // Whether a page is a new one: the lowest unused, or deleted by a record of number `since` at most.
+    pub(crate) fn is_new(&self, page: u32, since: u64) -> bool
+        ensures { result ≡ true ↔ IsNew (use_of self.now.value) since page }
+    {
+        match self.use_of(page) {
+            PageUse::Unused => page as usize == self.lowest,
+            PageUse::Used => false,
+            PageUse::Deleted(stamp) => stamp <= since,
+        }
+    }
+
     /// How many commits the log has.
     pub fn commits(&self) -> u32
-        ensures { result ≡ length self.now.deleted }
+        ensures { result ≡ length self.now.value.deleted }
     {
         self.book.commits()
     }
@@ -64,8 +124,8 @@ impl State {
     /// The names that a commit deleted. Commits count from 1.
     pub fn deleted(&self, commit: u32) -> &[Name]
         requires first { 1 ≤ commit }
-        requires last { commit ≤ length self.now.deleted }
-        ensures { slice_get self.now.deleted (commit - 1) ≡ Some result.now }
+        requires last { commit ≤ length self.now.value.deleted }
+        ensures { slice_get self.now.value.deleted (commit - 1) ≡ Some result.now }
     {
         self.book.deleted_by(commit)
     }
@@ -73,57 +133,57 @@ impl State {
     /// The names that a commit inserted. Commits count from 1.
     pub fn inserted(&self, commit: u32) -> &[Name]
         requires first { 1 ≤ commit }
-        requires last { commit ≤ length self.now.deleted }
-        ensures { slice_get self.now.inserted (commit - 1) ≡ Some result.now }
+        requires last { commit ≤ length self.now.value.deleted }
+        ensures { slice_get self.now.value.inserted (commit - 1) ≡ Some result.now }
     {
         self.book.inserted_by(commit)
     }
 
     /// The xid that the next transaction gets.
     pub fn next_xid(&self) -> u32
-        ensures { result ≡ suc (length self.now.fates) }
+        ensures { result ≡ suc (length self.now.value.fates) }
     {
         self.book.next_xid()
     }
 
     /// The serial that the next document gets.
     pub fn next_serial(&self) -> u64
-        ensures { result ≡ self.now.next_serial }
+        ensures { result ≡ self.now.value.next_serial }
     {
         self.book.next_serial()
     }
 
     /// How many records the log has: the number of the last.
     pub fn length(&self) -> u64
-        ensures { result ≡ self.now.records }
+        ensures { result ≡ self.now.value.records }
     {
         self.records
     }
 
     /// The redo number of the last checkpoint, 1 where there is none.
     pub fn redo(&self) -> u64
-        ensures { result ≡ self.now.redo }
+        ensures { result ≡ self.now.value.redo }
     {
         self.book.redo()
     }
 
     /// Whether a transaction runs.
     pub fn has_running(&self) -> bool
-        ensures { result ≡ true ↔ (self.now.running ≢ []) }
+        ensures { result ≡ true ↔ (self.now.value.running ≢ []) }
     {
         self.book.has_running()
     }
 
     /// How many pages the store may have.
     pub fn pages(&self) -> u32
-        ensures { result ≡ self.now.pages }
+        ensures { result ≡ self.now.value.pages }
     {
         self.book.pages()
     }
 
     /// Where xids end.
     pub fn xid_limit(&self) -> u32
-        ensures { result ≡ self.now.xid_limit }
+        ensures { result ≡ self.now.value.xid_limit }
     {
         self.book.xid_limit()
     }
@@ -131,14 +191,14 @@ impl State {
     /// The old heap page with this number, from 0, that a head is tried on: that of the last placed head, and then in
     /// rising order those where this run freed a slot.
     pub fn heap_page(&self, k: u32) -> Option<u32>
-        ensures { result ≡ slice_get (heap_pages self.now) k }
+        ensures { result ≡ slice_get (heap_pages self.now.value) k }
     {
         self.book.heap_page(k as usize)
     }
 
     /// A run begins: the highest heap page comes first, and no slot was freed.
     pub fn start_run(&mut self)
-        ensures { self.new ≡ run_started self.old }
+        ensures { self.new.value ≡ run_started self.old.value }
     {
         self.book.start_run();
     }

@@ -1,11 +1,13 @@
 // Running transactions and the fates of xids.
-ghost use Rattle.std.specs.Prelude.{◌≡◌, ◌<◌, ◌≤◌, ◌++◌, ◌∷◌, [], length, Some, None, is_some, IfSome, IfNone, OnOk, OnErr};
+ghost use Rattle.std.specs.Prelude.{◌≡◌, ◌≢◌, ◌<◌, ◌≤◌, ◌++◌, ◌∷◌, ℕ, [], length, get_or, Some, None, is_some, IfSome, IfNone};
 ghost use Rattle.std.specs.List.{slice_get};
-ghost use Rattle.core_state.specs.States.{fate_at, with_fate, all_ended, transaction, without};
+ghost use Rattle.std.specs.Vec.{vec_capacity};
+ghost use Rattle.core_state.specs.States.{fate_at, with_fate, all_ended, transaction, without, replaced, with_placed, with_marked};
+ghost use Rattle.core_state.specs.declared.transactions.Transaction.{Transaction as Entry};
 
 use crate::answers::Fate;
 use page_types::Name;
-use std::alloc::{AllocError, Global};
+use std::alloc::Global;
 use std::marker::Model;
 
 /// Names. Contracts see them as a list.
@@ -40,13 +42,17 @@ impl Names {
         self.inner.as_slice()
     }
 
-    /// One name more, behind the others. Without memory they stay as they are.
-    pub fn push(&mut self, name: Name) -> Result<(), AllocError>
-        ensures ok { OnOk result (self.new ≡ self.old ++ name ∷ []) }
-        ensures err { OnErr result (self.new ≡ self.old) }
+    // One name more, behind the others. Without room for it they move to the spare list, which has room.
+    pub(crate) fn add(&mut self, name: Name, spare: &mut Vec<Name>)
+        requires { length self.old < vec_capacity spare.old }
+        ensures { self.new ≡ self.old ++ name ∷ [] }
     {
-        self.inner.push(name)?;
-        Ok(())
+        if self.inner.len() == self.inner.capacity() {
+            spare.clear();
+            let _ = spare.append(&mut self.inner);
+            std::mem::swap(&mut self.inner, spare);
+        }
+        self.inner.push_reserved(name);
     }
 }
 
@@ -61,9 +67,12 @@ pub struct Transaction {
     pub inserted: Names,
 }
 
-// The place of the running transaction with this xid.
+// The place of the first running transaction with this xid.
 pub(crate) fn place_of(running: &[Transaction], xid: u32) -> Option<usize>
-    ensures some { IfSome result (λ i. (i < length running.now) × (transaction xid running.now ≡ slice_get running.now i)) }
+    ensures some { IfSome result (λ i. (i < length running.now)
+        × (transaction xid running.now ≡ slice_get running.now i)) }
+    ensures first { IfSome result (λ i. (k : ℕ) (d : Entry) → k < i
+        → (get_or running.now k d).xid ≢ xid) }
     ensures none { IfNone result (transaction xid running.now ≡ None) }
 {
     for (i, t) in running.iter().enumerate() {
@@ -79,6 +88,32 @@ pub(crate) fn runs(running: &[Transaction], xid: u32) -> bool
     ensures { result ≡ is_some (transaction xid running.now) }
 {
     place_of(running, xid).is_some()
+}
+
+// One name more that the running transaction with this xid has placed.
+pub(crate) fn note_placed(running: &mut [Transaction], xid: u32, name: Name, spare: &mut Vec<Name>)
+    requires { IfSome (transaction xid running.old)
+        (λ (t : Entry). length t.inserted < vec_capacity spare.old) }
+    ensures { IfSome (transaction xid running.old)
+        (λ (t : Entry). running.new ≡ replaced (with_placed name t) running.old) }
+{
+    if let Some(i) = place_of(running, xid) {
+        let t = &mut running[i];
+        t.inserted.add(name, spare);
+    }
+}
+
+// One name more that the running transaction with this xid has marked.
+pub(crate) fn note_marked(running: &mut [Transaction], xid: u32, name: Name, spare: &mut Vec<Name>)
+    requires { IfSome (transaction xid running.old)
+        (λ (t : Entry). length t.deleted < vec_capacity spare.old) }
+    ensures { IfSome (transaction xid running.old)
+        (λ (t : Entry). running.new ≡ replaced (with_marked name t) running.old) }
+{
+    if let Some(i) = place_of(running, xid) {
+        let t = &mut running[i];
+        t.deleted.add(name, spare);
+    }
 }
 
 // The fate of an xid.

@@ -1,12 +1,12 @@
 // The uses of pages, and what changes make of them.
-ghost use Rattle.std.specs.Prelude.{◌≡◌, ◌<◌, ◌≤◌, length, OnOk, All, get_or};
+ghost use Rattle.std.specs.Prelude.{◌≡◌, ◌<◌, ◌≤◌, ℕ, All};
 ghost use Rattle.std.specs.Vec.{vec_capacity};
 ghost use Rattle.page_types.specs.Numbers.{page_limit};
 ghost use Rattle.core_state.specs.States.{edited_use, with_use, uses_after};
+ghost use Rattle.core_state.specs.Inner.Lowest.{AreUsedBelow, IsLowest};
 
 use crate::answers::PageUse;
 use page_types::{Change, Edit, PAGE_LIMIT};
-use std::alloc::AllocError;
 
 /// The kind of a page that is deleted.
 const DELETED: u8 = 9;
@@ -26,10 +26,11 @@ pub(crate) fn use_of_edit(number: u64, edit: &Edit) -> PageUse
     }
 }
 
-// A number above the page of a change; 0 where that is no page.
+// The least number above the page of a change; 0 where that is no page.
 fn page_end(change: &Change) -> usize
     ensures page { change.now.page < page_limit → change.now.page < result }
-    ensures most { result ≤ page_limit }
+    ensures least { (most : ℕ) → (change.now.page < page_limit → change.now.page < most)
+        → result ≤ most }
 {
     if change.page < PAGE_LIMIT {
         change.page as usize + 1
@@ -38,10 +39,12 @@ fn page_end(change: &Change) -> usize
     }
 }
 
-// A number above the pages of these changes, but for those that are no pages.
+// The least number above the pages of these changes, but for those that are no pages.
 #[tactic(auto, using(crate::proofs::UseSteps::end_more))]
 pub(crate) fn pages_end(changes: &[Change]) -> usize
-    ensures { All (λ c. c.page < page_limit → c.page < result) changes.now }
+    ensures above { All (λ c. c.page < page_limit → c.page < result) changes.now }
+    ensures least { (most : ℕ) → All (λ c. c.page < page_limit → c.page < most) changes.now
+        → result ≤ most }
 {
     let mut end = 0;
     for change in changes {
@@ -79,4 +82,17 @@ pub(crate) fn note_uses(uses: &mut Vec<PageUse>, number: u64, changes: &[Change]
             );
         }
     }
+}
+
+// The lowest unused page, where each page below `from` is or was in use.
+pub(crate) fn lowest_from(uses: &[PageUse], from: usize) -> usize
+    requires { AreUsedBelow uses.now from }
+    ensures { IsLowest uses.now result }
+{
+    for page in from..uses.len() {
+        if let PageUse::Unused = uses[page] {
+            return page;
+        }
+    }
+    uses.len()
 }

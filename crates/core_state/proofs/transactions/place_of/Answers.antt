@@ -12,4 +12,4 @@ returns-then-t-xid-clause-some c =
     let ts : List Transaction = c.args.running.now in
     let rest : drop c.loop-i.i ts ≡ t ∷ drop (suc c.loop-i.i) ts = drop-cons ts c.loop-i.i t c.loop-i-test.true ∙ ap (λ (u : Transaction). u ∷ drop (suc c.loop-i.i) ts) (sym c.index-running-i.is) in
     let first : transaction c.args.xid (drop c.loop-i.i ts) ≡ Some t = ap (transaction c.args.xid) rest ∙ on_same t.xid c.args.xid (Some t) _ c.if-t-xid.true in
-    (c.loop-i-test.true, c.loop-i.invariant ∙ first ∙ sym (element_at ts c.loop-i.i t c.loop-i-test.true c.index-running-i.is))
+    (c.loop-i-test.true, c.loop-i.invariant.found ∙ first ∙ sym (element_at ts c.loop-i.i t c.loop-i-test.true c.index-running-i.is))

@@ -1,0 +1,12 @@
+-- Pages in rising order, each once.
+use Rattle.std.specs.Prelude.{ℕ, ◌<◌, ⊤, List, [], ◌∷◌}
+
+-- each of these pages is above p
+abbrev pub AreAbove : ℕ → List ℕ → Type 0
+AreAbove p [] = ⊤
+AreAbove p (q ∷ qs) = (p < q) × AreAbove p qs
+
+-- each page is below those behind it
+abbrev pub AreRising : List ℕ → Type 0
+AreRising [] = ⊤
+AreRising (p ∷ ps) = AreAbove p ps × AreRising ps

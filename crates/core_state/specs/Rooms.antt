@@ -1,0 +1,57 @@
+-- What the program holds of a log: its state, and how much more it has room for without more memory.
+use Rattle.std.specs.Prelude.{ℕ, ◌+◌, ◌<◌, ◌≤◌, ⊤, length, All, IfSome}
+use Rattle.page_types.specs.Numbers.{page_limit}
+use Rattle.page_types.specs.declared.record.Change.{Change}
+use Rattle.page_types.specs.declared.record.Record.{Record}
+use Rattle.page_types.specs.declared.record.Kind.{Kind}
+use Rattle.page_types.specs.declared.record.Kind.TheVariants as kind
+use Rattle.core_state.specs.States.{StateValue, transaction}
+use Rattle.core_state.specs.declared.transactions.Transaction.{Transaction}
+
+-- How much has room: the uses of the pages below `pages`; so many fates, running transactions, freed pages, and names of
+-- one running transaction, those that are there included; and so many more commits, with so many more names that they
+-- delete or insert.
+pub record Room : Type 0 where
+  pub pages : ℕ
+  pub fates : ℕ
+  pub running : ℕ
+  pub freed : ℕ
+  pub names : ℕ
+  pub deletes : ℕ
+  pub deleted : ℕ
+  pub inserts : ℕ
+  pub inserted : ℕ
+
+-- a state and its room
+pub record Held : Type 0 where
+  pub value : StateValue
+  pub room : Room
+
+-- the transaction's commit has room
+pub record FitsCommit (m : Room) (t : Transaction) : Type 0 where
+  pub deletes : 0 < m.deletes
+  pub deleted : length t.deleted ≤ m.deleted
+  pub inserts : 0 < m.inserts
+  pub inserted : length t.inserted ≤ m.inserted
+
+-- one name more that the transaction places has room
+abbrev pub FitsPlaced : Room → Transaction → Type 0
+FitsPlaced m t = length t.inserted < m.names
+
+-- one name more that the transaction marks has room
+abbrev pub FitsMarked : Room → Transaction → Type 0
+FitsMarked m t = length t.deleted < m.names
+
+-- what a record of this kind and xid, with so many changes, adds beside the uses of pages has room
+abbrev pub HasRoomFor : Kind → ℕ → ℕ → Held → Type 0
+HasRoomFor kind.Begin x n h = (length h.value.fates < h.room.fates) × (length h.value.running < h.room.running)
+HasRoomFor (kind.Commit number) x n h = IfSome (transaction x h.value.running) (FitsCommit h.room)
+HasRoomFor (kind.PlaceHead item serial) x n h = IfSome (transaction x h.value.running) (FitsPlaced h.room)
+HasRoomFor (kind.MarkDeleted item serial) x n h = IfSome (transaction x h.value.running) (FitsMarked h.room)
+HasRoomFor kind.FreeSlots x n h = length h.value.freed + n ≤ h.room.freed
+HasRoomFor _ x n h = ⊤
+
+-- the step by this record takes no more memory
+pub record HasRoom (h : Held) (r : Record) : Type 0 where
+  pub pages : All (λ (c : Change). c.page < page_limit → c.page < h.room.pages) r.changes
+  pub rest : HasRoomFor r.kind r.xid (length r.changes) h
