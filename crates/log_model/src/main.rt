@@ -1,0 +1,71 @@
+//! Reads logs and tests each condition of each record's row by plain walks over decoded pages, as an independent check
+//! of the definitions of a legal log.
+//!
+//! In `logs` and `index-logs` each folder has
+//!
+//! - `ginsh.log`, a whole log file, and `about`, what the run did;
+//! - `records`, a record a line: number, kind, xid, fields, changed pages (`i` an image, `d` a delta);
+//! - `commits`, its history: a commit a line, with the names that it deletes and those that it inserts;
+//! - `edits`, an edit a line: `OFFSET BYTES ..; what it does; verdict`. The bytes, in base 16, stand at the offset in
+//!   place of the log's, or behind them. A verdict is `legal`, `not a store`, or `record N is not valid`: the records
+//!   before N are a legal log, and N may not follow them.
+//!
+//! In `index-logs` a commit asks that its documents are indexed, in `logs` not. Printed are each record of the log with
+//! its verdict, the history, and what is not as it was wanted. The first word names the folder of these two, which else
+//! are where the program runs. With the second word `why` each edit's verdict is printed, with the rule that is broken.
+#![tactic(auto)]
+
+mod edits;
+mod folder;
+mod history;
+mod images;
+mod judge;
+mod prefix;
+mod same;
+
+use anyhow::Result;
+use folder::{Asks, names_in, test_folder};
+use std::env;
+use std::path::Path;
+use std::process::ExitCode;
+use std::rt::{Env, Files};
+
+/// The folders of logs, and whether a commit asks for indexed documents in their logs.
+const GROUPS: [(&str, bool); 2] = [("logs", false), ("index-logs", true)];
+
+/// The folder of the logs' folders, the first word, or the one that this runs in; and whether the second word is `why`.
+fn words(rt: &(impl Env + AllocGlobal)) -> Result<(String, bool)> {
+    let mut words = env::args(rt)?.skip(1);
+    let folder = match words.next() {
+        Some(folder) => folder,
+        None => String::from_str(rt.alloc(), ".")?,
+    };
+    let why = words.any(|word| word.as_str() == "why");
+    Ok((folder, why))
+}
+
+/// All logs; it tells how many lines differ.
+fn run<R: Files + Print + Env + AllocGlobal + Clone + Drop>(rt: &R) -> Result<usize> {
+    let alloc = rt.alloc();
+    let (folder, why) = words(rt)?;
+    let mut differ = 0usize;
+    for (group, index) in GROUPS {
+        let group = Path::new(&folder).join(alloc, group)?;
+        for name in &names_in(rt, group.as_path())? {
+            let folder = group.join(alloc, name.as_str())?;
+            let lines = test_folder(rt, name.as_str(), folder.as_path(), Asks { index, why })?;
+            differ = differ.saturating_add(lines);
+        }
+    }
+    println!(rt; "{differ} lines differ")?;
+    Ok(differ)
+}
+
+/// The whole program.
+fn main(rt: HostRuntime) -> Result<ExitCode> {
+    if run(&rt)? == 0 {
+        Ok(ExitCode::SUCCESS)
+    } else {
+        Ok(ExitCode::FAILURE)
+    }
+}

@@ -1,0 +1,146 @@
+// A log as far as it is valid, and whether a record may come behind it.
+use crate::images::must_have_images;
+use log_rows::{Changed, Step, row};
+use log_walks::{Fault, Ledger, PlainPage, Store, must, page_in};
+use page_types::{Kind, PageBytes, Record};
+use std::alloc::{AllocError, Global};
+
+/// A log as far as it is valid.
+#[derive(Drop)]
+pub(crate) struct Prefix {
+    /// Its pages.
+    pub(crate) store: Store,
+    /// Its transactions.
+    pub(crate) ledger: Ledger,
+}
+
+/// The bytes of the pages behind a record, in its order.
+fn bytes_behind(
+    alloc: Global,
+    store: &Store,
+    record: &Record,
+) -> Result<Vec<(u32, PageBytes)>, Fault> {
+    let mut all = Vec::new(alloc);
+    for change in record.changes.as_slice() {
+        let bytes = store.changed(alloc, record.number, change)?;
+        all.push((change.page, bytes))?;
+    }
+    Ok(all)
+}
+
+/// The changed pages, before the record and behind it.
+fn changed_pages<'a>(
+    alloc: Global,
+    store: &'a Store,
+    number: u64,
+    bytes: &[(u32, PageBytes)],
+) -> Result<Vec<Changed<'a>>, Fault> {
+    let mut all = Vec::new(alloc);
+    for (page, bytes) in bytes {
+        let left = page_in(alloc, bytes)?;
+        must(
+            left.stamp == number,
+            "the stamp of a changed page is the record's number",
+        )?;
+        all.push(Changed {
+            page: *page,
+            was: store.page(*page),
+            left,
+        })?;
+    }
+    Ok(all)
+}
+
+impl Prefix {
+    /// The empty log.
+    pub(crate) fn new(alloc: Global) -> Prefix {
+        Prefix {
+            store: Store::new(alloc),
+            ledger: Ledger::new(alloc),
+        }
+    }
+
+    /// The record's changes of bytes.
+    pub(crate) fn change_bytes(&mut self, alloc: Global, record: &Record) -> Result<(), Fault> {
+        for (page, bytes) in bytes_behind(alloc, &self.store, record)? {
+            self.store.put_bytes(page, bytes)?;
+        }
+        Ok(())
+    }
+
+    /// The log with these records, which are valid and leave these pages.
+    pub(crate) fn again(alloc: Global, records: &[Record], pages: &Store) -> Result<Prefix, Fault> {
+        let mut prefix = Prefix::new(alloc);
+        for record in records {
+            prefix.change_bytes(alloc, record)?;
+            prefix.ledger.note(alloc, record)?;
+        }
+        for (page, left) in pages.pages() {
+            prefix.store.put(*page, left.clone()?)?;
+        }
+        Ok(prefix)
+    }
+
+    /// The pages that a record with these bytes of changed pages leaves, where it may follow.
+    fn pages_behind(
+        &self,
+        alloc: Global,
+        record: &Record,
+        bytes: &[(u32, PageBytes)],
+        asks_index: bool,
+    ) -> Result<Vec<(u32, PlainPage)>, Fault> {
+        let step = Step {
+            alloc,
+            store: &self.store,
+            ledger: &self.ledger,
+            record,
+            changed: changed_pages(alloc, &self.store, record.number, bytes)?,
+            floor: self.ledger.commits,
+            since: record.number,
+            asks_index,
+        };
+        row(&step)?;
+        let mut left = Vec::new(alloc);
+        for change in step.changed {
+            left.push((change.page, change.left))?;
+        }
+        Ok(left)
+    }
+
+    /// The last of these records comes behind the others, of which this is the log, where it is valid.
+    pub(crate) fn follow(
+        &mut self,
+        alloc: Global,
+        records: &[Record],
+        asks_index: bool,
+    ) -> Result<(), Fault> {
+        let Some(record) = records.last() else {
+            return Ok(());
+        };
+        let started = matches!(record.kind, Kind::Create) || self.ledger.records > 0;
+        must(started, "a log begins with Create")?;
+        let bytes = bytes_behind(alloc, &self.store, record)?;
+        let pages = self.pages_behind(alloc, record, &bytes, asks_index)?;
+        must_have_images(alloc, &self.store, self.ledger.redo, records)?;
+        for (page, left) in pages {
+            self.store.put(page, left)?;
+        }
+        for (page, bytes) in bytes {
+            self.store.put_bytes(page, bytes)?;
+        }
+        Ok(self.ledger.note(alloc, record)?)
+    }
+}
+
+/// Whether each delta of the records applies to its page.
+pub(crate) fn deltas_apply(alloc: Global, records: &[Record]) -> Result<bool, AllocError> {
+    let mut prefix = Prefix::new(alloc);
+    for record in records {
+        match prefix.change_bytes(alloc, record) {
+            Ok(()) => {}
+            Err(Fault::OutOfMemory) => return Err(AllocError),
+            Err(Fault::Broken(_)) => return Ok(false),
+        }
+    }
+    Ok(true)
+}

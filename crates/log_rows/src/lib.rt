@@ -1,0 +1,16 @@
+//! When a record may follow a log: every condition of the row of its kind, tested by plain walks over decoded pages.
+#![tactic(auto)]
+
+mod cuts;
+mod heap_rows;
+mod item_rows;
+mod pending_rows;
+mod rows;
+mod shape_rows;
+mod sizes;
+mod step;
+mod transaction_rows;
+mod vacuum_rows;
+
+pub use rows::{here, row};
+pub use step::{Changed, Step};

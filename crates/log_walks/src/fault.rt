@@ -1,0 +1,44 @@
+// Why a record may not follow a log.
+ghost use Rattle.std.specs.Prelude.{◌↔◌, IsOk, IsTrue};
+
+use std::alloc::{AllocError, AllocFailed};
+
+/// Why a record was not found valid.
+#[derive(Clone, Copy, Debug)]
+pub enum Fault {
+    /// Memory ran out.
+    OutOfMemory,
+    /// This rule is broken.
+    Broken(&'static str),
+}
+
+impl From<AllocError> for Fault {
+    fn from(_: AllocError) -> Self {
+        Fault::OutOfMemory
+    }
+}
+
+impl<T: Drop> From<AllocFailed<T>> for Fault {
+    fn from(_: AllocFailed<T>) -> Self {
+        Fault::OutOfMemory
+    }
+}
+
+/// The rule is broken where this doesn't hold.
+pub fn must(holds: bool, rule: &'static str) -> Result<(), Fault>
+    ensures { IsOk result ↔ IsTrue holds }
+{
+    if holds {
+        Ok(())
+    } else {
+        Err(Fault::Broken(rule))
+    }
+}
+
+/// What was found; the rule is broken where nothing was.
+pub fn need<T>(found: Option<T>, rule: &'static str) -> Result<T, Fault> {
+    match found {
+        Some(found) => Ok(found),
+        None => Err(Fault::Broken(rule)),
+    }
+}

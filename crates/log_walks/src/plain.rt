@@ -1,0 +1,98 @@
+// Pages in lists that can be compared and changed.
+use page_types::{HeadFields, PostChild};
+
+/// A head, and the vector's bytes that stand in it.
+#[derive(Clone, Debug, PartialEq, Eq, Drop)]
+pub struct PlainHead {
+    /// All but the vector.
+    pub fields: HeadFields,
+    /// The vector's bytes, where they are at most 2000; else none.
+    pub vector: Vec<u8>,
+}
+
+/// A row of the pending list.
+#[derive(Clone, Debug, PartialEq, Eq, Drop)]
+pub struct PlainRow {
+    /// The document's item.
+    pub item: u32,
+    /// Keys of it.
+    pub keys: Vec<Vec<u8>>,
+}
+
+/// Where an entry's items stand.
+#[derive(Clone, Debug, PartialEq, Eq, Drop)]
+pub enum PlainPostings {
+    /// In the entry.
+    Inline(Vec<u32>),
+    /// In the posting tree with this root.
+    Root(u32),
+}
+
+/// An entry of a leaf of the entry tree.
+#[derive(Clone, Debug, PartialEq, Eq, Drop)]
+pub struct PlainEntry {
+    /// The key.
+    pub key: Vec<u8>,
+    /// Its items.
+    pub postings: PlainPostings,
+}
+
+/// A child of an inner page of the entry tree.
+#[derive(Clone, Debug, PartialEq, Eq, Drop)]
+pub struct PlainChild {
+    /// The child's page.
+    pub page: u32,
+    /// The greatest key that may stand below it; no bytes: there is no bound.
+    pub bound: Vec<u8>,
+}
+
+/// What stands on a page that some record has changed.
+#[derive(Clone, Debug, PartialEq, Eq, Drop)]
+pub enum PlainBody {
+    /// The pending list: its first and its last page (0: none), and how many it has.
+    Meta {
+        first: u32,
+        last: u32,
+        pages: u32,
+    },
+    /// Slots, each free or with a head.
+    Heap(Vec<Option<PlainHead>>),
+    /// A part of a vector.
+    Overflow(Vec<u8>),
+    /// Rows of the pending list.
+    Pending(Vec<PlainRow>),
+    /// A leaf of the entry tree: its high key (none without right link) and its entries.
+    EntryLeaf {
+        high: Vec<u8>,
+        entries: Vec<PlainEntry>,
+    },
+    /// An inner page of the entry tree.
+    EntryInner(Vec<PlainChild>),
+    /// A leaf of a posting tree: its high item (0 without right link) and its items.
+    PostLeaf {
+        high: u32,
+        items: Vec<u32>,
+    },
+    /// An inner page of a posting tree.
+    PostInner(Vec<PostChild>),
+}
+
+/// A page that some record has changed.
+#[derive(Clone, Debug, PartialEq, Eq, Drop)]
+pub struct PlainPage {
+    /// The right link, or 0.
+    pub right: u32,
+    /// The number of the last record that changed it.
+    pub stamp: u64,
+    /// It was deleted; the body stays.
+    pub deleted: bool,
+    /// What stands on it, or stood there when it was deleted.
+    pub body: PlainBody,
+}
+
+impl PlainPage {
+    /// What stands on it, unless it was deleted.
+    pub fn live(&self) -> Option<&PlainBody> {
+        if self.deleted { None } else { Some(&self.body) }
+    }
+}
