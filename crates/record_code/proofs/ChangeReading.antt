@@ -1,12 +1,12 @@
 -- Changes that are read, and changes that are read again.
-use Rattle.std.proofs.Common.{◌≡◌, ◌≢◌, ℕ, zero, suc, ◌^◌, ◌<◌, Bool, true, false, cond, ltb, eqb, List, [], ◌∷◌, ◌++◌, length, drop, Result, Ok, Err, refl, sym, ap, subst, ◌∙◌, append_assoc, arith}
+use Rattle.std.proofs.Common.{◌≡◌, ◌≢◌, ℕ, zero, suc, ◌^◌, ◌<◌, Bool, true, false, cond, ltb, eqb, List, [], ◌∷◌, ◌++◌, length, take, drop, Result, Ok, Err, refl, sym, ap, subst, ◌∙◌, append_assoc, arith}
 use Rattle.std.specs.Prelude.{◌||◌}
 use Rattle.std.specs.List.{flat_map, AllByRecursion}
 use Rattle.std.proofs.lemmas.Bool.{ltb-true, lt-ltb, eqb-true, eqb-false, eq-eqb, ne_eqb, or_parts}
-use Rattle.std.proofs.lemmas.List.{length-drop, append-nil, take-append-drop}
+use Rattle.std.proofs.lemmas.List.{length-drop, length-take-le, append-nil, take-append-drop, take_at}
 use Rattle.std.proofs.lemmas.List.Concat.{flat_map-cons}
 use Rattle.byteorder.specs.Endian.{little_number, little_bytes}
-use Rattle.byteorder.specs.Numbers.{little_number-reads_back}
+use Rattle.byteorder.specs.Numbers.{little_number-reads_back, little_from-take}
 use Rattle.page_types.specs.Numbers.{u16_bytes, u32_bytes, u64_bytes}
 use Rattle.page_types.specs.Keys.{Rising}
 use Rattle.page_types.specs.Records.{edit_bytes, change_bytes, stamp_in, IsImage, IsDelta, IsEdit, IsChange}
@@ -14,10 +14,10 @@ use Rattle.page_types.specs.declared.record.Change.{Change}
 use Rattle.page_types.specs.declared.record.Edit.{Edit}
 use Rattle.page_types.specs.declared.record.Edit.TheVariants.{Image, Delta}
 use Rattle.record_code.specs.Laws.{AreBytes}
-use Rattle.record_code.specs.Fields.{◌>>=◌, number_at, bytes_at}
+use Rattle.page_types.specs.Fields.{◌>>=◌, number_at, bytes_at}
+use Rattle.page_types.proofs.FieldReading.{bind_ok, IsBytes-drop, IsBytes-take, wide8, Takes, Takes-then, u16_takes, u32_takes, u16_again, u32_again, bytes_take, bytes_again}
 use Rattle.record_code.specs.Reading.{stands, page_at, image_at, delta_at, edit_at, change_at, changes_at}
-use Rattle.record_code.proofs.Steps.{bind_ok, guard_ok, guard_held, ok_is, Takes, Takes-then}
-use Rattle.record_code.proofs.Numbers.{AreBytes-drop, wide8, u16_takes, u32_takes, u16_again, u32_again, bytes_take, bytes_again}
+use Rattle.record_code.proofs.Steps.{guard_ok, guard_held, ok_is}
 
 page_takes : (before : List Change) (bytes : List ℕ) (p : ℕ) (rest : List ℕ) → AreBytes bytes → page_at before bytes ≡ Ok (p, rest) → Takes bytes (u32_bytes p) rest × (p < 1048576) × (stands p before ≡ false)
 unfolding page_at
@@ -39,7 +39,9 @@ page_again before p rest lt new =
 stamp_read : (image : List ℕ) (number : ℕ) → length image ≡ 8192 → AreBytes image → little_number 8 (drop 8 image) ≡ number → stamp_in image ≡ u64_bytes number
 unfolding u64_bytes
 stamp_read image number len fits e =
-    sym (wide8.back (drop 8 image) (omega (arith, length-drop 8 image)) (AreBytes-drop 8 image fits)) ∙ ap (little_bytes 8) e
+    let behind : AreBytes (drop 8 image) = IsBytes-drop 8 image fits in
+    let size : length (stamp_in image) ≡ 8 = length-take-le 8 (drop 8 image) (omega (arith, length-drop 8 image)) in
+    sym (wide8.back (stamp_in image) size (IsBytes-take 8 (drop 8 image) behind)) ∙ ap (little_bytes 8) (little_from-take 0 8 8 (drop 8 image) (omega arith) ∙ e)
 
 stamp_again : (image : List ℕ) (number : ℕ) → number < 2 ^ 64 → stamp_in image ≡ u64_bytes number → little_number 8 (drop 8 image) ≡ number
 unfolding u64_bytes
@@ -54,7 +56,8 @@ image_takes number bytes x fits e =
     let made : Edit × List ℕ = (Image a.0.0, a.0.1) in
     let g = guard_held (eqb (little_number 8 (drop 8 a.0.0)) number) (length bytes) (Ok made) x a.2 in
     let t = bytes_take 8192 bytes a.0.0 a.0.1 fits a.1 in
-    let stamp = stamp_read a.0.0 number t.1 t.2 (eqb-true _ _ g.0) in
+    let fits_too : AreBytes a.0.0 = subst AreBytes (ap (take 8192) t.0.parts ∙ take_at a.0.0 a.0.1 8192 t.1) (IsBytes-take 8192 bytes fits) in
+    let stamp = stamp_read a.0.0 number t.1 fits_too (eqb-true _ _ g.0) in
     let parts : 0 ∷ bytes ≡ (0 ∷ a.0.0) ++ a.0.1 = ap (λ (w : List ℕ). 0 ∷ w) t.0.parts in
     let whole : Takes (0 ∷ bytes) (edit_bytes (Image a.0.0)) a.0.1 = record { parts = parts; rest_fits = t.0.rest_fits } in
     subst (λ (y : Edit × List ℕ). Takes (0 ∷ bytes) (edit_bytes y.0) y.1 × IsEdit number y.0) (ok_is made x g.1) (whole, record { size = t.1; stamp = stamp })

@@ -12,10 +12,10 @@ use Rattle.page_types.specs.Records.{kind_number, document_bytes, kind_bytes, Is
 use Rattle.page_types.specs.declared.record.Kind.{Kind}
 use Rattle.page_types.specs.declared.record.Kind.TheVariants as kind
 use Rattle.record_code.specs.Laws.{AreBytes}
-use Rattle.record_code.specs.Fields.{◌>>=◌, number_at}
+use Rattle.page_types.specs.Fields.{◌>>=◌, number_at}
+use Rattle.page_types.proofs.FieldReading.{bind_ok, Takes, Takes-then, u32_takes, u64_takes, u32_again, u64_again}
 use Rattle.record_code.specs.Reading.{kinds, kind_with_number, known_at, kind_at, item_at, document_at, named_at, fields_at}
-use Rattle.record_code.proofs.Steps.{bind_ok, guard_held, done, ok_is, Takes, Takes-then}
-use Rattle.record_code.proofs.Numbers.{u32_takes, u64_takes, u32_again, u64_again}
+use Rattle.record_code.proofs.Steps.{guard_held, done, ok_is}
 
 -- kinds with the numbers from this one on
 abbrev AreNumbered : ℕ → List Kind → Type 0

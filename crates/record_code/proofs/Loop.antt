@@ -1,10 +1,9 @@
 -- Changes that are read one after the other, as a loop reads them.
 use Rattle.std.proofs.Common.{◌≡◌, ℕ, suc, ◌-◌, ◌+◌, ◌≤◌, ◌<◌, List, [], ◌∷◌, ◌++◌, Result, Ok, Err, sym, ap, ◌∙◌, arith}
 use Rattle.page_types.specs.declared.record.Change.{Change}
-use Rattle.record_code.specs.declared.refusal.Refusal.{Refusal}
-use Rattle.record_code.specs.declared.refusal.Refusal.TheVariants.{Memory, Fault}
-use Rattle.record_code.specs.Inner.Giving.{Fails}
-use Rattle.record_code.specs.Fields.{◌>>=◌}
+use Rattle.page_types.specs.declared.fields.ReadError.{ReadError}
+use Rattle.page_types.specs.declared.fields.ReadError.TheVariants.{OutOfMemory, Fault}
+use Rattle.page_types.specs.Fields.{◌>>=◌, Fails}
 use Rattle.record_code.specs.Reading.{change_at, changes_at}
 
 one_less : (number left : ℕ) (before : List Change) (bytes : List ℕ) (c : Change) (after : List ℕ) → change_at number before bytes ≡ Ok (c, after)
@@ -24,9 +23,9 @@ unfolding changes_at
 stops number left f before bytes h =
     ap (λ (r : Result (Change × List ℕ) ℕ). r >>= λ x. changes_at number left (before ++ x.0 ∷ []) x.1) h
 
-pub ends : (e : Refusal) (number count i : ℕ) (before : List Change) (bytes : List ℕ) (total : Result (List Change × List ℕ) ℕ) → i < count
+pub ends : (e : ReadError) (number count i : ℕ) (before : List Change) (bytes : List ℕ) (total : Result (List Change × List ℕ) ℕ) → i < count
     → Fails e (change_at number before bytes) → changes_at number (count - i) before bytes ≡ total → Fails e total
-ends Memory number count i before bytes total lt h so_far = tt
+ends OutOfMemory number count i before bytes total lt h so_far = tt
 ends (Fault f) number count i before bytes total lt h so_far =
     let k : count - i ≡ suc (count - (i + 1)) = omega arith in
     sym so_far ∙ ap (λ n. changes_at number n before bytes) k ∙ stops number (count - (i + 1)) f before bytes h

@@ -1,5 +1,5 @@
 -- A record that is read is spelled so, and a record that is spelled so is read.
-use Rattle.std.proofs.Common.{◌≡◌, ℕ, ◌+◌, ◌^◌, ◌<◌, ◌≤◌, Bool, true, false, cond, ltb, eqb, List, [], ◌∷◌, ◌++◌, length, take, drop, Result, Ok, Err, refl, sym, ap, subst, ◌∙◌, append_assoc, arith}
+use Rattle.std.proofs.Common.{◌≡◌, ℕ, suc, ◌+◌, ◌^◌, ◌<◌, ◌≤◌, Bool, true, false, cond, ltb, eqb, List, [], ◌∷◌, ◌++◌, length, take, drop, Result, Ok, Err, refl, sym, ap, subst, ◌∙◌, append_assoc, arith}
 use Rattle.std.specs.Prelude.{◌&&◌, IfOk}
 use Rattle.std.specs.List.{flat_map, AllByRecursion}
 use Rattle.std.proofs.lemmas.Bool.{ltb-false, le-ltb, eqb-true, eq-eqb}
@@ -15,12 +15,22 @@ use Rattle.page_types.proofs.RecordTelling.{length-record_rest}
 use Rattle.record_code.specs.declared.error.RecordError.{RecordError}
 use Rattle.record_code.specs.Decoding.{Answers}
 use Rattle.record_code.specs.Laws.{AreBytes, Begins, ReadingIsSpelled, SpellingIsRead}
-use Rattle.record_code.specs.Fields.{◌>>=◌, number_at, byte_at}
+use Rattle.page_types.specs.Fields.{◌>>=◌, number_at}
+use Rattle.page_types.proofs.FieldReading.{bind_ok, IsBytes-take, IsBytes-drop, Takes, Takes-then, u32_takes, u64_takes, u32_again, u64_again}
+use Rattle.record_code.specs.Fields.{byte_at}
 use Rattle.record_code.specs.Reading.{kind_at, fields_at, changes_at, rest_at, whole_at, placed, record_in, record_at}
-use Rattle.record_code.proofs.Steps.{bind_ok, guard_held, ok_is, Takes, Takes-then}
-use Rattle.record_code.proofs.Numbers.{AreBytes-take, AreBytes-drop, u32_takes, u64_takes, u32_again, u64_again, byte_takes}
+use Rattle.record_code.proofs.Steps.{guard_held, ok_is}
 use Rattle.record_code.proofs.KindReading.{TakesKind, kind_takes, fields_take, kind_again, kind_at-again}
 use Rattle.record_code.proofs.ChangeReading.{TakesChanges, changes_take, changes_again}
+
+byte_takes : (bytes : List ℕ) (b : ℕ) (rest : List ℕ) → AreBytes bytes → byte_at bytes ≡ Ok (b, rest) → Takes bytes (b ∷ []) rest × (b < 256)
+byte_takes [] b rest fits e = absurd cc
+byte_takes (x ∷ bytes) b rest fits e =
+    let g = ok_is (x, bytes) (b, rest) e in
+    let b-is : x ≡ b = ap (λ (p : ℕ × List ℕ). p.0) g in
+    let rest-is : bytes ≡ rest = ap (λ (p : ℕ × List ℕ). p.1) g in
+    let later : AreBytes bytes = λ i. fits (suc i) in
+    (record { parts = rw (b-is, rest-is) refl; rest_fits = rw (← rest-is) later }, rw (← b-is) (fits 0))
 
 -- the fields of a record, each taken in its turn
 rest_spelled : (bytes r0 r1 r2 r3 r4 rest : List ℕ) (blank kind : Kind) (xid number count : ℕ) (changes : List Change) → Takes bytes (kind_number blank ∷ []) r0
@@ -137,7 +147,7 @@ reading_is_spelled bytes r n fits e =
     let g = short_or (ltb (length bytes) 4) (length bytes) (record_in (little_number 4 bytes) (take (little_number 4 bytes) (drop 4 bytes))) (r, n) e in
     let long : 4 ≤ length bytes = ltb-false _ _ g.0 in
     let p = placed_ok (little_number 4 bytes) (4 + length (take (little_number 4 bytes) (drop 4 bytes))) (whole_at (little_number 4 bytes) (take (little_number 4 bytes) (drop 4 bytes))) r n g.1 in
-    let w = whole_takes (little_number 4 bytes) (take (little_number 4 bytes) (drop 4 bytes)) r (AreBytes-take (little_number 4 bytes) (drop 4 bytes) (AreBytes-drop 4 bytes fits)) p.0 in
+    let w = whole_takes (little_number 4 bytes) (take (little_number 4 bytes) (drop 4 bytes)) r (IsBytes-take (little_number 4 bytes) (drop 4 bytes) (IsBytes-drop 4 bytes fits)) p.0 in
     let cut : bytes ≡ u32_bytes (little_number 4 bytes) ++ (take (little_number 4 bytes) (drop 4 bytes) ++ drop (little_number 4 bytes) (drop 4 bytes)) =
     number-front bytes fits long ∙ ap (λ (l : List ℕ). u32_bytes (little_number 4 bytes) ++ l) (sym (take-append-drop (little_number 4 bytes) (drop 4 bytes))) in
     begins bytes (take (little_number 4 bytes) (drop 4 bytes)) (drop (little_number 4 bytes) (drop 4 bytes)) (little_number 4 bytes) n r cut w.0 w.1 p.1 w.2

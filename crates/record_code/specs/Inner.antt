@@ -1,3 +1,2 @@
--- What the functions that read a field give: what no caller sees.
-pub mod Giving
+-- What no caller sees.
 pub mod Growing

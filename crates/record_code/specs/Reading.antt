@@ -9,7 +9,8 @@ use Rattle.page_types.specs.declared.record.Edit.{Edit}
 use Rattle.page_types.specs.declared.record.Edit.TheVariants.{Image, Delta}
 use Rattle.page_types.specs.declared.record.Kind.{Kind}
 use Rattle.page_types.specs.declared.record.Kind.TheVariants as kind
-use Rattle.record_code.specs.Fields.{◌>>=◌, Read, number_at, bytes_at, byte_at}
+use Rattle.page_types.specs.Fields.{◌>>=◌, number_at, bytes_at}
+use Rattle.record_code.specs.Fields.{Read, byte_at}
 
 -- the kinds in the order of their numbers, which begin at 1, with fields of 0
 abbrev pub kinds : List Kind

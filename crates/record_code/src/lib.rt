@@ -8,7 +8,6 @@ mod error;
 mod fields;
 mod laws;
 mod reading;
-mod refusal;
 mod writing;
 
 pub use error::RecordError;

@@ -1,7 +1,7 @@
 // Records, read from left to right.
 ghost use Rattle.std.specs.Prelude.{◌≡◌, ◌≢◌, ℕ, ◌++◌, List, [], length, IfOk, Ok};
 ghost use Rattle.record_code.specs.Reading.{kind_with_number, kind_at, item_at, document_at, fields_at, stands, page_at, image_at, delta_at, edit_at, change_at, changes_at, rest_at, whole_at, record_at};
-ghost use Rattle.record_code.specs.Inner.Giving.{Gives};
+ghost use Rattle.page_types.specs.Fields.{Gives};
 ghost use Rattle.record_code.specs.Decoding.{Answers};
 ghost use Rattle.record_code.specs.Laws.{Begins};
 ghost use Rattle.page_types.specs.Records.{record_bytes, IsRecord};
@@ -9,11 +9,11 @@ ghost use Rattle.page_types.specs.declared.record.Record.{Record};
 ghost use Rattle.record_code.specs.declared.error.RecordError.TheVariants.{BadRecord};
 
 use crate::error::RecordError;
-use crate::fields::{byte_of, bytes_of, u16_of, u32_of, u64_of};
-use crate::refusal::Refusal;
+use crate::fields::{byte_of, bytes_of};
 use byteorder::{ByteOrder, LittleEndian};
 use page_types::{
-    Bytes, Change, Changes, Edit, ITEM_LIMIT, Kind, PAGE_BYTES, PAGE_LIMIT, PageBytes, Record,
+    Bytes, Change, Changes, Edit, ITEM_LIMIT, Kind, PAGE_BYTES, PAGE_LIMIT, PageBytes, ReadError,
+    Record, u16_at, u32_at, u64_at,
 };
 use std::alloc::Global;
 
@@ -53,53 +53,53 @@ fn kind_with(number: u8) -> Option<Kind>
 }
 
 /// The kind with the number that stands there, with fields of 0.
-fn kind_of(bytes: &[u8]) -> Result<(Kind, &[u8]), Refusal>
+fn kind_of(bytes: &[u8]) -> Result<(Kind, &[u8]), ReadError>
     ensures { Gives (λ x. (x.0, x.1.now)) result (kind_at bytes.now) }
 {
     match bytes {
-        [] => Err(Refusal::Fault(0)),
+        [] => Err(ReadError::Fault(0)),
         [number, rest @ ..] => match kind_with(*number) {
             Some(kind) => Ok((kind, rest)),
-            None => Err(Refusal::Fault(bytes.len())),
+            None => Err(ReadError::Fault(bytes.len())),
         },
     }
 }
 
 /// An item.
 #[tactic(auto, unfolding(crate::specs::Reading::item_at))]
-fn item_of(bytes: &[u8]) -> Result<(u32, &[u8]), Refusal>
+fn item_of(bytes: &[u8]) -> Result<(u32, &[u8]), ReadError>
     ensures { Gives (λ x. (x.0, x.1.now)) result (item_at bytes.now) }
 {
-    let (item, rest) = u32_of(bytes)?;
+    let (item, rest) = u32_at(bytes)?;
     if item < ITEM_LIMIT {
         Ok((item, rest))
     } else {
-        Err(Refusal::Fault(bytes.len()))
+        Err(ReadError::Fault(bytes.len()))
     }
 }
 
 /// A document's item and serial.
 #[tactic(auto, unfolding(crate::specs::Reading::document_at))]
-fn document_of(bytes: &[u8]) -> Result<((u32, u64), &[u8]), Refusal>
+fn document_of(bytes: &[u8]) -> Result<((u32, u64), &[u8]), ReadError>
     ensures { Gives (λ x. (x.0, x.1.now)) result (document_at bytes.now) }
 {
     let (item, rest) = item_of(bytes)?;
-    let (serial, rest) = u64_of(rest)?;
+    let (serial, rest) = u64_at(rest)?;
     Ok(((item, serial), rest))
 }
 
 /// The kind with its fields.
 #[tactic(auto, unfolding(crate::specs::Reading::fields_at))]
-fn fields_of(kind: Kind, bytes: &[u8]) -> Result<(Kind, &[u8]), Refusal>
+fn fields_of(kind: Kind, bytes: &[u8]) -> Result<(Kind, &[u8]), ReadError>
     ensures { Gives (λ x. (x.0, x.1.now)) result (fields_at kind bytes.now) }
 {
     match kind {
         Kind::Commit { .. } => {
-            let (commit, rest) = u32_of(bytes)?;
+            let (commit, rest) = u32_at(bytes)?;
             Ok((Kind::Commit { commit }, rest))
         }
         Kind::Checkpoint { .. } => {
-            let (redo, rest) = u64_of(bytes)?;
+            let (redo, rest) = u64_at(bytes)?;
             Ok((Kind::Checkpoint { redo }, rest))
         }
         Kind::PlaceHead { .. } => {
@@ -143,38 +143,38 @@ fn is_among(page: u32, changes: &[Change]) -> bool
 
 /// A page's number, which stands in none of the changes before.
 #[tactic(auto, unfolding(crate::specs::Reading::page_at))]
-fn page_of<'a>(before: &[Change], bytes: &'a [u8]) -> Result<(u32, &'a [u8]), Refusal>
+fn page_of<'a>(before: &[Change], bytes: &'a [u8]) -> Result<(u32, &'a [u8]), ReadError>
     ensures { Gives (λ x. (x.0, x.1.now)) result (page_at before.now bytes.now) }
 {
-    let (page, rest) = u32_of(bytes)?;
+    let (page, rest) = u32_at(bytes)?;
     if page < PAGE_LIMIT && !is_among(page, before) {
         Ok((page, rest))
     } else {
-        Err(Refusal::Fault(bytes.len()))
+        Err(ReadError::Fault(bytes.len()))
     }
 }
 
 /// An image with this stamp.
 #[tactic(auto, unfolding(crate::specs::Reading::image_at))]
-fn image_of(alloc: Global, number: u64, bytes: &[u8]) -> Result<(Edit, &[u8]), Refusal>
+fn image_of(alloc: Global, number: u64, bytes: &[u8]) -> Result<(Edit, &[u8]), ReadError>
     ensures { Gives (λ x. (x.0, x.1.now)) result (image_at number bytes.now) }
 {
     let (image, rest) = bytes_of(PAGE_BYTES, bytes)?;
     if LittleEndian::read_u64(&image[8..]) != number {
-        return Err(Refusal::Fault(bytes.len()));
+        return Err(ReadError::Fault(bytes.len()));
     }
     Ok((Edit::Image(PageBytes::from_slice(alloc, image)?), rest))
 }
 
 /// A delta.
 #[tactic(auto, unfolding(crate::specs::Reading::delta_at))]
-fn delta_of(alloc: Global, bytes: &[u8]) -> Result<(Edit, &[u8]), Refusal>
+fn delta_of(alloc: Global, bytes: &[u8]) -> Result<(Edit, &[u8]), ReadError>
     ensures { Gives (λ x. (x.0, x.1.now)) result (delta_at bytes.now) }
 {
     let (head, rest) = bytes_of(8, bytes)?;
-    let (start, rest) = u16_of(rest)?;
-    let (cut, rest) = u16_of(rest)?;
-    let (size, rest) = u16_of(rest)?;
+    let (start, rest) = u16_at(rest)?;
+    let (cut, rest) = u16_at(rest)?;
+    let (size, rest) = u16_at(rest)?;
     let (new, rest) = bytes_of(usize::from(size), rest)?;
     let mut front = [0; 8];
     front.copy_from_slice(head);
@@ -191,14 +191,14 @@ fn delta_of(alloc: Global, bytes: &[u8]) -> Result<(Edit, &[u8]), Refusal>
 }
 
 /// An image or a delta, by the byte before it.
-fn edit_of(alloc: Global, number: u64, bytes: &[u8]) -> Result<(Edit, &[u8]), Refusal>
+fn edit_of(alloc: Global, number: u64, bytes: &[u8]) -> Result<(Edit, &[u8]), ReadError>
     ensures { Gives (λ x. (x.0, x.1.now)) result (edit_at number bytes.now) }
 {
     match bytes {
-        [] => Err(Refusal::Fault(0)),
+        [] => Err(ReadError::Fault(0)),
         [0, rest @ ..] => image_of(alloc, number, rest),
         [1, rest @ ..] => delta_of(alloc, rest),
-        [_, ..] => Err(Refusal::Fault(bytes.len())),
+        [_, ..] => Err(ReadError::Fault(bytes.len())),
     }
 }
 
@@ -209,7 +209,7 @@ fn change_of<'a>(
     number: u64,
     before: &[Change],
     bytes: &'a [u8],
-) -> Result<(Change, &'a [u8]), Refusal>
+) -> Result<(Change, &'a [u8]), ReadError>
     ensures { Gives (λ x. (x.0, x.1.now)) result (change_at number before.now bytes.now) }
 {
     let (page, rest) = page_of(before, bytes)?;
@@ -223,7 +223,7 @@ fn changes_of(
     number: u64,
     count: u8,
     bytes: &[u8],
-) -> Result<(Changes, &[u8]), Refusal>
+) -> Result<(Changes, &[u8]), ReadError>
     ensures { Gives (λ x. (x.0, x.1.now)) result (changes_at number count [] bytes.now) }
 {
     let mut changes = Changes::new(alloc);
@@ -238,12 +238,12 @@ fn changes_of(
 
 /// What stands behind a record's length.
 #[tactic(auto, unfolding(crate::specs::Reading::rest_at))]
-fn rest_of(alloc: Global, bytes: &[u8]) -> Result<(Record, &[u8]), Refusal>
+fn rest_of(alloc: Global, bytes: &[u8]) -> Result<(Record, &[u8]), ReadError>
     ensures { Gives (λ x. (x.0, x.1.now)) result (rest_at bytes.now) }
 {
     let (kind, rest) = kind_of(bytes)?;
-    let (xid, rest) = u32_of(rest)?;
-    let (number, rest) = u64_of(rest)?;
+    let (xid, rest) = u32_at(rest)?;
+    let (number, rest) = u64_at(rest)?;
     let (kind, rest) = fields_of(kind, rest)?;
     let (count, rest) = byte_of(rest)?;
     let (changes, rest) = changes_of(alloc, number, count, rest)?;
@@ -260,14 +260,14 @@ fn rest_of(alloc: Global, bytes: &[u8]) -> Result<(Record, &[u8]), Refusal>
 
 /// The bytes that are there of a rest of this length.
 #[tactic(auto, unfolding(crate::specs::Reading::whole_at))]
-fn whole_of(alloc: Global, size: usize, bytes: &[u8]) -> Result<Record, Refusal>
+fn whole_of(alloc: Global, size: usize, bytes: &[u8]) -> Result<Record, ReadError>
     ensures { Gives (λ x. x) result (whole_at size bytes.now) }
 {
     let (record, rest) = rest_of(alloc, bytes)?;
     if rest.is_empty() && bytes.len() == size {
         Ok(record)
     } else {
-        Err(Refusal::Fault(rest.len()))
+        Err(ReadError::Fault(rest.len()))
     }
 }
 
@@ -284,8 +284,8 @@ fn record_of(alloc: Global, bytes: &[u8]) -> Result<(Record, usize), RecordError
     let rest = &behind[..size.min(behind.len())];
     match whole_of(alloc, size, rest) {
         Ok(record) => Ok((record, 4 + size)),
-        Err(Refusal::Memory) => Err(RecordError::OutOfMemory),
-        Err(Refusal::Fault(left)) => Err(RecordError::BadRecord {
+        Err(ReadError::OutOfMemory) => Err(RecordError::OutOfMemory),
+        Err(ReadError::Fault(left)) => Err(RecordError::BadRecord {
             at: (4 + rest.len()).saturating_sub(left),
         }),
     }
