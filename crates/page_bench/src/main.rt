@@ -1,4 +1,4 @@
-//! Clones full pages, and reads and writes a record with an image and a long item list, and prints counts of what it coded.
+//! Reads, writes and clones full pages, reads and writes a record with an image and a long item list, and prints counts of what it coded.
 //! With the word `time` it also prints how long each takes.
 #![tactic(auto)]
 
@@ -6,7 +6,7 @@ mod pages;
 mod records;
 
 use anyhow::Result;
-use pages::{clone_page, entry_leaf, heap_page, pending_page};
+use pages::{code_page, entry_leaf, heap_page, pending_page};
 use records::{code_items, code_record};
 use std::env;
 use std::rt::{Clock, Env};
@@ -32,9 +32,14 @@ pub(crate) fn report(
 fn run(rt: &(impl Print + Env + Clock + AllocGlobal)) -> Result<()> {
     let alloc = rt.alloc();
     let timed = env::args(rt)?.skip(1).any(|word| word.as_str() == "time");
-    clone_page(rt, "heads of a heap page cloned", &heap_page(alloc)?, timed)?;
-    clone_page(rt, "keys of a leaf cloned", &entry_leaf(alloc)?, timed)?;
-    clone_page(rt, "rows of ten keys cloned", &pending_page(alloc)?, timed)?;
+    code_page(rt, "a heap page", &heap_page(alloc)?, timed)?;
+    code_page(rt, "a leaf of 300 keys", &entry_leaf(alloc)?, timed)?;
+    code_page(
+        rt,
+        "a pending page of 300 keys",
+        &pending_page(alloc)?,
+        timed,
+    )?;
     code_record(rt, timed)?;
     code_items(rt, timed)
 }
