@@ -3,7 +3,7 @@ use Rattle.std.proofs.Common.{◌≡◌, ◌≢◌, ℕ, suc, ◌+◌, List, [],
 use Rattle.std.proofs.lemmas.Bool.Decides.{nat_tests}
 use Rattle.ts_base.specs.Fault.{FaultAt, Stands}
 use Rattle.ts_base.proofs.Faults.{fault_outside, fault_one}
-use Rattle.ts_query.specs.Queries.{Operand, Joint, or_joint, and_joint, phrase_joint, Tree, joined, Query, operands_in, nodes_of, IsNear, HasNear, HasLexemeLength, IsSound}
+use Rattle.ts_query.specs.Queries.{Operand, Joint, or_joint, and_joint, phrase_joint, Tree, joined, Query, operands_in, nodes_of, IsNear, HasNear, HasLexeme, IsSound}
 use Rattle.ts_query.specs.Tokens.{QueryToken, closing, sign}
 use Rattle.ts_query.specs.Grammar.{level, Expr, one, bracket, primary, denied, binary, Tail, last, more, Spells, ReadsQuery, IsQueryText}
 use Rattle.ts_query.specs.Limits.{is_far, is_long, first_far, first_long}
@@ -20,15 +20,15 @@ near_far or_joint h = refl
 near_far and_joint h = refl
 near_far (phrase_joint d) h = grind (arith, nat_tests)
 
-length_long : (o : Operand) → HasLexemeLength o → is_long o ≡ false
-length_long o h = grind (arith, nat_tests)
+length_long : (o : Operand) → HasLexeme o → is_long o ≡ false
+length_long o h = let m = h.most in grind (arith, nat_tests)
 
 skip : (b : Bool) (s : ℕ) (o : Option ℕ) → b ≡ false → o ≡ None → cond b (Some s) o ≡ None
 skip true s o e f = absurd (let no : ⊥ = cc in no)
 skip false s o e f = f
 
 record BehindLexeme (x : Tree) (u : List QueryToken) : Type 0 where
-  lexemes : All HasLexemeLength (operands_in x)
+  lexemes : All HasLexeme (operands_in x)
   phrases : HasNear x
   near : first_far u ≡ None
   short : first_long u ≡ None
@@ -41,7 +41,7 @@ sign_clear : (s : ℕ) (j : Joint) (u : List QueryToken) → IsNear j → Clear 
 sign_clear s j u n c = record { near = skip (is_far j) s (first_far u) (near_far j n) c.near; short = c.short }
 
 mutual
-  expr_clear : (k : ℕ) (t : Tree) (u r : List QueryToken) → Expr k t u r → All HasLexemeLength (operands_in t) → HasNear t → Clear r → Clear u
+  expr_clear : (k : ℕ) (t : Tree) (u r : List QueryToken) → Expr k t u r → All HasLexeme (operands_in t) → HasNear t → Clear r → Clear u
   expr_clear k t u r (one s o _) a h c = record { near = c.near; short = skip (is_long o) s (first_long r) (length_long o (a 0 o (omega arith))) c.short }
   expr_clear k t u r (bracket _ v _ e) a h c = let d = expr_clear 0 t v (closing ∷ r) e a h (record { near = c.near; short = c.short }) in record { near = d.near; short = d.short }
   expr_clear k t u r (primary _ _ _ e) a h c = expr_clear 4 t u r e a h c
@@ -49,7 +49,7 @@ mutual
   expr_clear k t u r (binary _ x _ _ m _ p e s) a h c =
       let b = tail_clear k x m t r s a h c in expr_clear (suc k) x u m e b.lexemes b.phrases (record { near = b.near; short = b.short })
 
-  tail_clear : (k : ℕ) (x : Tree) (u : List QueryToken) (t : Tree) (r : List QueryToken) → Tail k x u t r → All HasLexemeLength (operands_in t) → HasNear t → Clear r → BehindLexeme x u
+  tail_clear : (k : ℕ) (x : Tree) (u : List QueryToken) (t : Tree) (r : List QueryToken) → Tail k x u t r → All HasLexeme (operands_in t) → HasNear t → Clear r → BehindLexeme x u
   tail_clear k x u t r (last _ _ _) a h c = record { lexemes = a; phrases = h; near = c.near; short = c.short }
   tail_clear k x u t r (more s j _ y _ v m _ e q) a h c =
       let b = tail_clear (level j) (joined j x y) m t r q a h c in

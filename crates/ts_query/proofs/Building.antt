@@ -3,7 +3,7 @@ use Rattle.std.proofs.Common.{◌≡◌, ℕ, zero, suc, ◌+◌, ◌<◌, ◌�
 use Rattle.std.specs.Prelude.{Result, Ok, Err, OnErr}
 use Rattle.std.proofs.lemmas.List.{length-append}
 use Rattle.std.proofs.lemmas.List.Elements.{All-append}
-use Rattle.ts_query.specs.Queries.{Operand, Joint, Tree, leaf, negated, joined, operands_in, nodes_in, IsNear, HasLexemeLength, IsSound}
+use Rattle.ts_query.specs.Queries.{Operand, Joint, Tree, leaf, negated, joined, operands_in, nodes_in, IsNear, HasLexeme, IsSound}
 use Rattle.ts_query.specs.Postfix.{Item, operand_item, not_item, joint_item, postfix, postfix_of, top, nodes_from, items_of}
 use Rattle.ts_query.specs.Building.{with_not, with_joint, nodes_among, operands_among, HasNearAmong, AreSound, items_among, trees_from, trees_from-items_among}
 use Rattle.ts_query.specs.Inner.Built.{operands_from, IsBuilt, trees_in, IsWritten}
@@ -40,9 +40,9 @@ operands_below b ts h s =
 pub none_sound : AreSound []
 none_sound = record { lexemes = λ n d k. absurd (let no : ⊥ = omega arith in no); phrases = tt; nodes = omega arith }
 
-pub leaf_more : (o : Operand) (ts : List Tree) → HasLexemeLength o → nodes_among ts + 1 < 32768 → AreSound ts → AreSound (leaf o ∷ ts)
+pub leaf_more : (o : Operand) (ts : List Tree) → HasLexeme o → nodes_among ts + 1 < 32768 → AreSound ts → AreSound (leaf o ∷ ts)
 leaf_more o ts h n s = record {
-  lexemes = All-append HasLexemeLength (operands_among ts) (o ∷ []) s.lexemes (one_operand o h);
+  lexemes = All-append HasLexeme (operands_among ts) (o ∷ []) s.lexemes (one_operand o h);
   phrases = (tt, s.phrases);
   nodes = omega arith;
 }
@@ -66,7 +66,7 @@ pub joint_more : (j : Joint) (ts : List Tree) → IsNear j → 2 ≤ length ts �
 joint_more j [] d h n s = absurd (let no : ⊥ = omega arith in no)
 joint_more j (y ∷ []) d h n s = absurd (let no : ⊥ = omega arith in no)
 joint_more j (y ∷ x ∷ ts) d h n s = record {
-  lexemes = subst (All HasLexemeLength) (append_assoc (operands_among ts) (operands_in x) (operands_in y)) s.lexemes;
+  lexemes = subst (All HasLexeme) (append_assoc (operands_among ts) (operands_in x) (operands_in y)) s.lexemes;
   phrases = ((d, s.phrases.1.0, s.phrases.0), s.phrases.1.1);
   nodes = omega arith;
 }

@@ -2,7 +2,7 @@
 use Rattle.std.proofs.Common.{◌≡◌, ℕ, suc, ◌<◌, List, [], ◌∷◌, ◌++◌, length, take, drop, get_or, map, refl, sym, subst, ap, ◌∙◌, All, arith}
 use Rattle.std.proofs.lemmas.List.{length-append, take-append-drop}
 use Rattle.std.proofs.Math.Seq.{get_or-append_seam, drop-cons}
-use Rattle.ts_query.specs.Queries.{Operand, Query, operands_of, nodes_of, HasLexemeLength, IsSound}
+use Rattle.ts_query.specs.Queries.{Operand, Query, operands_of, nodes_of, HasLexeme, IsSound}
 use Rattle.ts_query.specs.Inner.Parsing.{word_operand, entry_item}
 use Rattle.ts_query.specs.Postfix.{postfix_of}
 use Rattle.ts_query.specs.Inner.Built.{operands_from, IsBuilt}
@@ -30,14 +30,14 @@ operand_there entries i d w q h g e =
     sym (operands_from-postfix_of q) ∙ ap operands_from (sym e) ∙ ap (λ l. operands_from (map entry_item l)) (parted entries i d (entry.Operand w) h g)
     ∙ ap operands_from (items_append (take i entries) (entry.Operand w ∷ drop (suc i) entries)) ∙ operands_from-append (map entry_item (take i entries)) (map entry_item (entry.Operand w ∷ drop (suc i) entries))
 
-all_at : (before behind : List Operand) (o : Operand) → All HasLexemeLength (before ++ o ∷ behind) → HasLexemeLength o
+all_at : (before behind : List Operand) (o : Operand) → All HasLexeme (before ++ o ∷ behind) → HasLexeme o
 all_at before behind o a =
     let n : length before < length (before ++ o ∷ behind) = omega (arith, length-append before (o ∷ behind)) in
-    subst HasLexemeLength (get_or-append_seam before o behind o) (a (length before) o n)
+    subst HasLexeme (get_or-append_seam before o behind o) (a (length before) o n)
 
-pub entry_length : (entries : List Entry) (i : ℕ) (d : Entry) (w : Word) (q : Query) → i < length entries → get_or entries i d ≡ entry.Operand w → map entry_item entries ≡ postfix_of q → IsSound q → HasLexemeLength (word_operand w)
+pub entry_length : (entries : List Entry) (i : ℕ) (d : Entry) (w : Word) (q : Query) → i < length entries → get_or entries i d ≡ entry.Operand w → map entry_item entries ≡ postfix_of q → IsSound q → HasLexeme (word_operand w)
 entry_length entries i d w q h g e s =
-    all_at (operands_from (map entry_item (take i entries))) (operands_from (map entry_item (drop (suc i) entries))) (word_operand w) (subst (λ l. All HasLexemeLength l) (operand_there entries i d w q h g e) s.lexemes)
+    all_at (operands_from (map entry_item (take i entries))) (operands_from (map entry_item (drop (suc i) entries))) (word_operand w) (subst (λ l. All HasLexeme l) (operand_there entries i d w q h g e) s.lexemes)
 
 pub entry_few : (entries : List Entry) (i : ℕ) (q : Query) (b : Builder) → map entry_item entries ≡ postfix_of q → IsSound q → IsBuilt b (map entry_item (take i entries)) → length b.operands.items < 65536
 entry_few entries i q b e s h =

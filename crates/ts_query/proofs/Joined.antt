@@ -1,7 +1,7 @@
 -- Queries made of queries.
 use Rattle.std.proofs.Common.{◌≡◌, ◌≢◌, ℕ, zero, suc, ◌+◌, ◌<◌, ◌≤◌, List, [], ◌∷◌, ◌++◌, length, refl, sym, ap, ◌∙◌, Some, None, All, arith}
 use Rattle.std.proofs.lemmas.List.Elements.{All-append}
-use Rattle.ts_query.specs.Queries.{Operand, Joint, Tree, leaf, negated, joined, Query, operands_in, nodes_in, nodes_of, IsNear, HasLexemeLength, IsSound}
+use Rattle.ts_query.specs.Queries.{Operand, Joint, Tree, leaf, negated, joined, Query, operands_in, nodes_in, nodes_of, IsNear, HasLexeme, IsSound}
 use Rattle.ts_query.specs.Postfix.{Item, operand_item, not_item, joint_item, postfix_of, nodes_from, nodes_for}
 use Rattle.ts_query.specs.Inner.Built.{operands_from, IsBuilt}
 use Rattle.ts_query.specs.Joining.{joined_queries, negated_query}
@@ -50,7 +50,7 @@ joined_built j (Some x) (Some y) b h k e = e
 pub joined_sound : (j : Joint) (p q : Query) → IsNear j → IsSound p → IsSound q → nodes_of p ≢ 0 → nodes_of q ≢ 0 → nodes_of p + nodes_of q + 1 < 32768 → IsSound (joined_queries j p q)
 joined_sound j None q n s t h k l = absurd (h refl)
 joined_sound j (Some x) None n s t h k l = absurd (k refl)
-joined_sound j (Some x) (Some y) n s t h k l = record { lexemes = All-append HasLexemeLength (operands_in x) (operands_in y) s.lexemes t.lexemes; phrases = (n, s.phrases, t.phrases); nodes = omega arith }
+joined_sound j (Some x) (Some y) n s t h k l = record { lexemes = All-append HasLexeme (operands_in x) (operands_in y) s.lexemes t.lexemes; phrases = (n, s.phrases, t.phrases); nodes = omega arith }
 
 pub negated_size : (q : Query) → nodes_of q ≢ 0 → nodes_of (negated_query q) ≡ nodes_of q + 1
 negated_size None h = absurd (h refl)
@@ -67,11 +67,11 @@ pub negated_sound : (q : Query) → IsSound q → nodes_of q ≢ 0 → nodes_of 
 negated_sound None s h l = absurd (h refl)
 negated_sound (Some x) s h l = record { lexemes = s.lexemes; phrases = s.phrases; nodes = omega arith }
 
-pub one_operand : (o : Operand) → HasLexemeLength o → All HasLexemeLength (o ∷ [])
+pub one_operand : (o : Operand) → HasLexeme o → All HasLexeme (o ∷ [])
 one_operand o h zero d k = h
 one_operand o h (suc n) d k = absurd (let no : ⊥ = omega arith in no)
 
-pub leaf_sound : (o : Operand) → HasLexemeLength o → IsSound (Some (leaf o))
+pub leaf_sound : (o : Operand) → HasLexeme o → IsSound (Some (leaf o))
 leaf_sound o h = record { lexemes = one_operand o h; phrases = tt; nodes = omega arith }
 
 pub copied_operands : (q : Query) → IsSound q → length (operands_from ([] ++ postfix_of q)) < 32768

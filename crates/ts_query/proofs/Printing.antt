@@ -9,7 +9,7 @@ use Rattle.std.specs.List.{flat_map}
 use Rattle.ts_base.specs.declared.Weight.{Weight}
 use Rattle.ts_base.specs.declared.Weight.TheVariants.{A, B, C, D}
 use Rattle.ts_base.specs.declared.Weights.{Weights}
-use Rattle.ts_query.specs.Queries.{Operand, Joint, or_joint, and_joint, phrase_joint, Tree, leaf, negated, joined, operands_in, IsNear, HasNear, HasLexemeLength}
+use Rattle.ts_query.specs.Queries.{Operand, Joint, or_joint, and_joint, phrase_joint, Tree, leaf, negated, joined, operands_in, IsNear, HasNear, HasLexeme}
 use Rattle.ts_base.specs.Bytes.{IsDigit, IsLetter, BeginsWithQuote}
 use Rattle.ts_query.specs.Tokens.{IsMark, QueryToken, word, bang, opening, closing, sign, BeginsWithMark, no_weights, Marks, unmarked, star, letter, operand, BehindLexeme, bare, marked, DistanceNumber, over, digit, Distance, arrow, number, offset, Lex, done, space, not_sign, open_sign, close_sign, and_sign, or_sign, phrase_sign, quoted}
 use Rattle.ts_base.specs.Quoted.{doubled_byte}
@@ -259,15 +259,15 @@ prints (joined j x y) n l r ks g s p w =
     (prints y n (suc (level j)) v ls (omega arith) s.1.1 h k)
     (λ z ms i m. prints x n (level j) z ms (omega arith) s.1.0 i m)) p w
 
-pub all_left : (xs ys : List Operand) → All HasLexemeLength (xs ++ ys) → All HasLexemeLength xs
-all_left xs ys a k d h = let n : k < length (xs ++ ys) = omega (arith, length-append xs ys) in subst HasLexemeLength (get_or-append xs ys d k h) (a k d n)
+pub all_left : (xs ys : List Operand) → All HasLexeme (xs ++ ys) → All HasLexeme xs
+all_left xs ys a k d h = let n : k < length (xs ++ ys) = omega (arith, length-append xs ys) in subst HasLexeme (get_or-append xs ys d k h) (a k d n)
 
-pub all_right : (xs ys : List Operand) → All HasLexemeLength (xs ++ ys) → All HasLexemeLength ys
-all_right xs ys a k d h = let n : length xs + k < length (xs ++ ys) = omega (arith, length-append xs ys) in subst HasLexemeLength (get_or-append-add xs ys k d) (a (length xs + k) d n)
+pub all_right : (xs ys : List Operand) → All HasLexeme (xs ++ ys) → All HasLexeme ys
+all_right xs ys a k d h = let n : length xs + k < length (xs ++ ys) = omega (arith, length-append xs ys) in subst HasLexeme (get_or-append-add xs ys k d) (a (length xs + k) d n)
 
-spelled : (t : Tree) → All HasLexemeLength (operands_in t) → HasNear t → Spelled t
+spelled : (t : Tree) → All HasLexeme (operands_in t) → HasNear t → Spelled t
 unfolding Spelled
-spelled (leaf o) a h = (a 0 o (omega arith)).0
+spelled (leaf o) a h = (a 0 o (omega arith)).some
 spelled (negated x) a h = spelled x a h
 spelled (joined j x y) a h = (h.0, (spelled x (all_left (operands_in x) (operands_in y) a) h.1, spelled y (all_right (operands_in x) (operands_in y) a) h.2))
 

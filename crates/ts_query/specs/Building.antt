@@ -5,7 +5,7 @@ use Rattle.std.specs.Coded.{Coded, code_by, coded_list}
 use Rattle.ts_query.specs.declared.TheConstants.{NODE_LIMIT}
 use Rattle.ts_query.specs.declared.error.QueryError.{QueryError}
 use Rattle.ts_query.specs.declared.error.QueryError.TheVariants.{Syntax, DistanceTooLarge, TooManyNodes, LexemeTooLong, OutOfMemory}
-use Rattle.ts_query.specs.Queries.{Operand, Joint, Tree, negated, joined, operands_in, nodes_in, HasNear, HasLexemeLength}
+use Rattle.ts_query.specs.Queries.{Operand, Joint, Tree, negated, joined, operands_in, nodes_in, HasNear, HasLexeme}
 use Rattle.ts_query.specs.Postfix.{Item, item_code, postfix, run, run-postfix}
 
 -- the last tree is negated
@@ -34,7 +34,7 @@ HasNearAmong (x ∷ ts) = HasNear x × HasNearAmong ts
 
 -- the limits of a query, of all trees together
 pub record AreSound (trees : List Tree) : Type 0 where
-  pub lexemes : All HasLexemeLength (operands_among trees)
+  pub lexemes : All HasLexeme (operands_among trees)
   pub phrases : HasNearAmong trees
   pub nodes : nodes_among trees < NODE_LIMIT
 

@@ -1,6 +1,6 @@
 -- A query as contracts see it: a tree of operands, or the empty query.
-use Rattle.std.specs.Prelude.{ℕ, suc, ◌+◌, ◌<◌, ◌≤◌, List, [], ◌∷◌, ◌++◌, length, Option, Some, None, All}
-use Rattle.ts_base.specs.declared.TheConstants.{LONGEST_LEXEME}
+use Rattle.std.specs.Prelude.{ℕ, suc, ◌+◌, ◌<◌, ◌≤◌, List, [], ◌∷◌, ◌++◌, Option, Some, None, All}
+use Rattle.ts_base.specs.Lexemes.{IsLexeme}
 use Rattle.ts_query.specs.declared.TheConstants.{GREATEST_DISTANCE, NODE_LIMIT}
 pub use Rattle.ts_query.specs.declared.query.Operand.{Operand}
 
@@ -54,12 +54,12 @@ abbrev pub HasNearPhrases : Query → Type 0
 HasNearPhrases None = Unit {0}
 HasNearPhrases (Some t) = HasNear t
 
--- a lexeme has 1 to 2046 bytes
-abbrev pub HasLexemeLength : Operand → Type 0
-HasLexemeLength o = (1 ≤ length o.lexeme) × (length o.lexeme ≤ LONGEST_LEXEME)
+-- what is asked for is a lexeme
+abbrev pub HasLexeme : Operand → Type 0
+HasLexeme o = IsLexeme o.lexeme
 
 -- the limits of a query
 pub record IsSound (query : Query) : Type 0 where
-  pub lexemes : All HasLexemeLength (operands_of query)
+  pub lexemes : All HasLexeme (operands_of query)
   pub phrases : HasNearPhrases query
   pub nodes : nodes_of query < NODE_LIMIT

@@ -12,7 +12,7 @@ use crate::query::{Builder, Operand, TsQuery};
 use crate::{GREATEST_DISTANCE, NODE_LIMIT};
 use std::alloc::Global;
 use std::marker::Model;
-use ts_base::{Lexeme, Weights};
+use ts_base::{LONGEST_LEXEME, Lexeme, Weights};
 
 /// A query that is written node by node, each operator behind its operands. What was written so far stands as a list of trees;
 /// an operator takes the last of them. A refused node leaves it unchanged.
@@ -68,7 +68,7 @@ impl QueryBuilder {
         ensures same { OnErr result (self.new ≡ self.old) }
         ensures refused { IfErr result (IsOnlyFull self.old) }
     {
-        let _text = lexeme.as_str();
+        prove!(lexeme.as_str().len() <= LONGEST_LEXEME);
         if self.node_count() + 1 >= NODE_LIMIT {
             return Err(QueryError::TooManyNodes);
         }

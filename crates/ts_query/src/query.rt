@@ -1,7 +1,7 @@
 // A query in memory.
 ghost use Rattle.std.specs.Prelude.{◌≡◌, ◌<◌, ◌≤◌, List, [], ◌∷◌, ◌++◌, map, OnOk, OnErr, IfOk, IfErr, length};
 ghost use Rattle.std.specs.String.{string_bytes};
-ghost use Rattle.ts_query.specs.Queries.{Query, or_joint, and_joint, phrase_joint, leaf, IsNear, HasLexemeLength, IsSound, operands_of};
+ghost use Rattle.ts_query.specs.Queries.{Query, or_joint, and_joint, phrase_joint, leaf, IsNear, HasLexeme, IsSound, operands_of};
 ghost use Rattle.ts_query.specs.Tokens.{operand};
 ghost use Rattle.ts_query.specs.Postfix.{Item, operand_item, not_item, joint_item, joint_node, postfix_of, nodes_for};
 ghost use Rattle.ts_query.specs.Inner.Parsing.{link_joint, word_operand, entry_item};
@@ -15,7 +15,7 @@ use crate::reader::read;
 use crate::{GREATEST_DISTANCE, NODE_LIMIT};
 use std::alloc::{AllocError, Global};
 use std::marker::Model;
-use ts_base::{Lexeme, LexemeError, Weights};
+use ts_base::{LONGEST_LEXEME, Lexeme, LexemeError, Weights};
 
 /// A lexeme that a vector is asked for. With weights, one of its positions has one of them; `prefix` asks for a lexeme that begins so.
 #[derive(Clone, Debug, Drop)]
@@ -181,7 +181,7 @@ impl Builder {
 
 /// The operand that a text has, whose lexeme is short enough.
 fn operand_of(alloc: Global, word: &Word) -> Result<Operand, AllocError>
-    requires { HasLexemeLength (word_operand word.now) }
+    requires { HasLexeme (word_operand word.now) }
     ensures { IfOk result (λ o. o ≡ word_operand word.now) }
 {
     match Lexeme::new(alloc, word.lexeme.as_str()) {
@@ -279,7 +279,7 @@ impl TsQuery {
         ensures value { IfOk result (λ q. q ≡ Some (leaf (operand lexeme.now weights prefix))) }
         ensures sound { IfOk result IsSound }
     {
-        let _text = lexeme.as_str();
+        prove!(lexeme.as_str().len() <= LONGEST_LEXEME);
         let lexeme = lexeme.clone()?;
         let mut builder = Builder::new(alloc);
         builder.leaf(Operand {

@@ -1,15 +1,17 @@
 pub mod Rising
 pub mod Forms
-pub mod Items
+pub mod SameBytes
+pub mod ByteOrder
 pub mod Sorts
 pub mod Tops
 pub mod Merging
 pub mod Settling
+pub mod OneEach
 pub mod Counts
 pub mod Reading
 pub mod OneList
 pub mod TextFacts
-pub mod LongLexemes
+pub mod DraftFacts
 pub mod Refusing
 pub mod Greatest
 pub mod Changed
@@ -17,6 +19,7 @@ pub mod Printing
 pub mod Fields
 pub mod Decoding
 pub mod Told
+pub mod LastEntries
 pub mod OneAnswer
 pub mod ColumnFacts
 pub mod Numbers
@@ -24,3 +27,4 @@ pub mod Joining
 pub mod Inserting
 pub mod Keeping
 pub mod Gathering
+pub mod FullLists

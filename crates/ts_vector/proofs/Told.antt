@@ -177,7 +177,7 @@ checked_spells bytes n entries (v, is, count, rest) =
     subst (IsSpelling bytes) (sym (told n entries v (record { normal = is.normal; small = is.small; counted = count; bytes_of = rest }))) is
 
 -- the entries behind the first
-tail_normal : (e : Entry) (v : Vector) → IsNormal (e ∷ v) → IsNormal v
+pub tail_normal : (e : Entry) (v : Vector) → IsNormal (e ∷ v) → IsNormal v
 tail_normal e v n = record { entries = All-tail IsEntry e v n.entries; rising = pairs_tail (λ x y. IsBefore x.lexeme y.lexeme) e v n.rising }
 
 -- what is known before an entry is read

@@ -7,7 +7,6 @@ pub use Rattle.ts_base.specs.Digits
 pub use Rattle.ts_base.specs.Lexemes
 pub use Rattle.ts_base.specs.Vectors
 pub use Rattle.ts_base.specs.Spelling
-pub mod ItemEntries
 pub mod Normal
 pub mod Text
 pub mod TextLaws

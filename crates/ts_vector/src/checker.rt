@@ -1,6 +1,6 @@
 // Checks the bytes of a vector, entry by entry.
 ghost use Rattle.std.specs.Prelude.{◌≡◌, ℕ, ◌+◌, ◌*◌, ◌<◌, ◌≤◌, List, ◌++◌, length, IfOk, IfErr, IsTrue, ◌↔◌};
-ghost use Rattle.std.specs.Str.{IsUtf8};
+ghost use Rattle.std.specs.Str.{IsAscii, IsUtf8};
 ghost use Rattle.ts_base.specs.Endian.{little_bytes};
 ghost use Rattle.ts_base.specs.Lexemes.{IsBefore};
 ghost use Rattle.ts_base.specs.Vectors.{Vector, content_size};
@@ -20,6 +20,8 @@ pub struct Front<'a> {
     last: &'a [u8],
     /// The size of the entries' content.
     size: usize,
+    /// How many positions they have.
+    places: usize,
 }
 
 /// The length of the next lexeme, behind entries of this size, and the rest.
@@ -40,14 +42,48 @@ fn length(size: usize, bytes: &[u8]) -> Result<(usize, &[u8]), Stop>
     Ok((length, rest))
 }
 
+/// Whether no byte is above 127. Most lexemes are so, and so short that a loop is the fastest.
+fn is_ascii(bytes: &[u8]) -> bool
+    ensures { IsTrue result → IsAscii bytes.now }
+{
+    for byte in bytes {
+        if *byte > 127 {
+            return false;
+        }
+    }
+    true
+}
+
+/// Whether the bytes are text.
+fn is_text(bytes: &[u8]) -> bool
+    ensures { IsTrue result ↔ IsUtf8 bytes.now }
+{
+    if is_ascii(bytes) {
+        return true;
+    }
+    str::from_utf8(bytes).is_ok()
+}
+
+/// Whether the first bytes are before the second ones. Most lexemes are so short that a loop is
+/// the fastest.
+fn is_before(first: &[u8], second: &[u8]) -> bool
+    ensures { IsTrue result ↔ IsBefore first.now second.now }
+{
+    let shorter = first.len().min(second.len());
+    for i in 0..shorter {
+        let (a, b) = (first[i], second[i]);
+        if a != b {
+            return a < b;
+        }
+    }
+    first.len() < second.len()
+}
+
 /// Whether the bytes are text and behind the last lexeme.
 fn is_next(last: &[u8], bytes: &[u8]) -> bool
     ensures { IsTrue result ↔ (IsBefore last.now bytes.now × IsUtf8 bytes.now) }
 {
-    match str::from_utf8(bytes) {
-        Ok(_) => last.cmp(bytes).is_lt(),
-        Err(_) => false,
-    }
+    is_before(last, bytes) && is_text(bytes)
 }
 
 /// The number of a lexeme's positions, behind entries and a lexeme of this size, and the rest.
@@ -70,8 +106,10 @@ fn number(size: usize, bytes: &[u8]) -> Result<(usize, &[u8]), Stop>
 impl<'a> Front<'a> {
     /// Checks the next entry: what is known behind it, and the rest.
     fn entry(self, bytes: &'a [u8]) -> Result<(Front<'a>, &'a [u8]), Stop>
-        requires { self.size < SIZE_LIMIT }
+        requires small { self.size < SIZE_LIMIT }
+        requires few { 2 * self.places ≤ self.size }
         ensures small { IfOk result (λ x. x.0.size < SIZE_LIMIT) }
+        ensures few { IfOk result (λ x. 2 * x.0.places ≤ x.0.size) }
         ensures ok { IfOk result (λ x. (n : ℕ) → (v : Vector) → length v < n → IsFront v self.entry
             → Adds n v bytes.now x.0 x.1.now) }
         ensures err { IfErr result (λ stop. (n : ℕ) → (v : Vector) → length v < n
@@ -84,14 +122,19 @@ impl<'a> Front<'a> {
         }
         let (number, rest) = number(self.size + length, after)?;
         let rest = positions(number, rest)?;
-        let size = self.size + length + 2 * number;
-        Ok((Front { last: lexeme, size }, rest))
+        let front = Front {
+            last: lexeme,
+            size: self.size + length + 2 * number,
+            places: self.places + number,
+        };
+        Ok((front, rest))
     }
 }
 
-/// Checks a vector's whole spelling, and gives the number of its entries and their bytes.
-pub fn checked(bytes: &[u8]) -> Result<(usize, &[u8]), Stop>
-    ensures ok { IfOk result (λ x. IsChecked bytes.now x.0 x.1.now) }
+/// Checks a vector's whole spelling, and gives the number of its entries, that of their positions,
+/// and their bytes.
+pub fn checked(bytes: &[u8]) -> Result<(usize, usize, &[u8]), Stop>
+    ensures ok { IfOk result (λ x. IsChecked bytes.now x.0 x.2.now) }
     ensures err { IfErr result (BytesStop bytes.now) }
 {
     let (count, entries) = four(bytes)?;
@@ -99,6 +142,7 @@ pub fn checked(bytes: &[u8]) -> Result<(usize, &[u8]), Stop>
     let mut front = Front {
         last: &bytes[..0],
         size: 0,
+        places: 0,
     };
     for _ in 0..count {
         (front, rest) = front.entry(rest)?;
@@ -106,5 +150,5 @@ pub fn checked(bytes: &[u8]) -> Result<(usize, &[u8]), Stop>
     if !rest.is_empty() {
         return Err(Stop { left: rest.len() });
     }
-    Ok((count as usize, entries))
+    Ok((count as usize, front.places, entries))
 }

@@ -1,9 +1,10 @@
 // Entries in memory, without a block of memory for each.
-ghost use Rattle.std.specs.Prelude.{◌≡◌, ◌+◌, ◌-◌, ◌^◌, min, ◌<◌, ◌≤◌, ◌∷◌, [], ◌++◌, length, slice_index_or, IfOk, OnOk};
+ghost use Rattle.std.specs.Prelude.{◌≡◌, ◌+◌, ◌-◌, ◌^◌, min, ◌<◌, ◌≤◌, ◌∷◌, [], ◌++◌, length, slice_index_or, IfOk, OnOk, OnErr};
 ghost use Rattle.std.specs.Iterator.{YieldsFirst, item_count};
 ghost use Rattle.ts_base.specs.Vectors.{Entry, content_size};
 ghost use Rattle.ts_vector.specs.Inner.Columns.{origin, start_from, piece};
 
+use crate::spelled::{Positions, VectorBytes};
 use std::alloc::{AllocError, Global};
 use std::marker::Model;
 use ts_base::Position;
@@ -58,6 +59,28 @@ fn end(len: usize, more: usize) -> Result<u32, AllocError>
     u32::try_from(end).map_err(|_| AllocError)
 }
 
+/// The ends of an entry that is the last in columns so long. A column of 4 GiB counts as the end
+/// of memory.
+fn ends_at(lexemes: usize, positions: usize) -> Result<Ends, AllocError>
+    ensures lexeme { IfOk result (λ ends. ends.lexeme ≡ lexemes) }
+    ensures positions { IfOk result (λ ends. ends.positions ≡ positions) }
+{
+    Ok(Ends {
+        lexeme: end(lexemes, 0)?,
+        positions: end(positions, 0)?,
+    })
+}
+
+/// Appends the positions of a spelling.
+fn put_places(list: &mut Vec<Position>, places: Positions<'_>) -> Result<(), AllocError>
+    ensures { OnOk result (list.new.items ≡ list.old.items ++ places.entry) }
+{
+    for place in places {
+        list.push(place)?;
+    }
+    Ok(())
+}
+
 /// Where the entry at the index k starts, and where it ends.
 fn bounds(ends: &[Ends], k: usize) -> (Ends, Ends)
     requires { k < length ends.now }
@@ -80,7 +103,7 @@ fn part<T>(items: &[T], from: u32, to: u32) -> &[T]
 }
 
 impl Columns {
-    ghost use Rattle.ts_vector.specs.Inner.Columns.{entry};
+    ghost use Rattle.ts_vector.specs.Inner.Columns.{entry, entry_at};
 
     /// No entry.
     pub fn new(alloc: Global) -> Columns
@@ -93,18 +116,24 @@ impl Columns {
         }
     }
 
-    /// Makes room for so many more entries, with lexemes of so many bytes and so many positions.
-    pub fn reserve(
-        &mut self,
-        entries: usize,
-        bytes: usize,
-        positions: usize,
-    ) -> Result<(), AllocError>
-        ensures { self.new ≡ self.old }
+    /// A spelling's entries.
+    pub fn of_spelling(alloc: Global, spelled: &VectorBytes<'_>) -> Result<Columns, AllocError>
+        ensures { IfOk result (λ columns. columns ≡ spelled.now) }
     {
-        self.lexemes.reserve_exact(bytes)?;
-        self.positions.reserve_exact(positions)?;
-        self.ends.reserve_exact(entries)
+        let (bytes, places) = spelled.lengths();
+        let mut lexemes = Vec::with_capacity(alloc, bytes)?;
+        let mut positions = Vec::with_capacity(alloc, places)?;
+        let mut ends = Vec::with_capacity(alloc, spelled.count())?;
+        for entry in spelled.entries() {
+            lexemes.extend_from_slice(entry.lexeme().as_bytes())?;
+            put_places(&mut positions, entry.positions())?;
+            ends.push(ends_at(lexemes.len(), positions.len())?)?;
+        }
+        Ok(Columns {
+            lexemes,
+            positions,
+            ends,
+        })
     }
 
     /// How many entries there are.
@@ -140,6 +169,22 @@ impl Columns {
         part(self.positions.as_slice(), start.positions, end.positions)
     }
 
+    /// The entry at the index k; behind the last one there is an empty one.
+    pub fn row(&self, k: usize) -> Row<'_>
+        ensures { result ≡ entry_at self.now k }
+    {
+        if k >= self.len() {
+            return Row {
+                lexeme: &[],
+                positions: &[],
+            };
+        }
+        Row {
+            lexeme: self.lexeme(k),
+            positions: self.positions(k),
+        }
+    }
+
     /// The entries, one after another.
     pub fn rows(&self) -> Rows<'_>
         ensures { result ≡ self.now }
@@ -154,7 +199,8 @@ impl Columns {
 
     /// Adds an entry at the end. A column of 4 GiB counts as the end of memory.
     pub fn push(&mut self, lexeme: &[u8], positions: &[Position]) -> Result<(), AllocError>
-        ensures { OnOk result (self.new ≡ self.old ++ entry lexeme.now positions.now ∷ []) }
+        ensures ok { OnOk result (self.new ≡ self.old ++ entry lexeme.now positions.now ∷ []) }
+        ensures err { OnErr result (self.new ≡ self.old) }
     {
         let ends = Ends {
             lexeme: end(self.lexemes.len(), lexeme.len())?,

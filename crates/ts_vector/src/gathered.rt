@@ -1,12 +1,12 @@
 // Entries by their lexemes, to which others are joined.
-ghost use Rattle.std.specs.Prelude.{◌≡◌, ℕ, ◌+◌, ◌*◌, ◌^◌, ◌<◌, [], ◌++◌, length, All, IfOk, OnOk};
+ghost use Rattle.std.specs.Prelude.{◌≡◌, ℕ, ◌+◌, ◌*◌, ◌^◌, ◌<◌, [], ◌++◌, length, All, IfOk, IsTrue, OnOk};
 ghost use Rattle.ts_base.specs.Lexemes.{IsLexeme};
 ghost use Rattle.ts_base.specs.Vectors.{IsPosition, IsNormal, content_size};
 ghost use Rattle.ts_vector.specs.Changes.{IsGreatest};
 ghost use Rattle.ts_vector.specs.Normal.{IsNormalFormOf};
 ghost use Rattle.ts_vector.specs.Inner.CappedForm.{shifted_within};
 ghost use Rattle.ts_vector.specs.Inner.Columns.{entry};
-ghost use Rattle.ts_vector.specs.Inner.Gathered.{IsHeld, Puts, AreBehind};
+ghost use Rattle.ts_vector.specs.Inner.Gathered.{IsHeld, IsFull, Puts, AreBehind};
 
 use crate::changes::{greatest_from, later};
 use crate::columns::Columns;
@@ -15,7 +15,7 @@ use std::alloc::{AllocError, Global};
 use std::collections::BTreeMap;
 use std::marker::Model;
 use std::str;
-use ts_base::{Lexeme, Position};
+use ts_base::{Lexeme, MOST_POSITIONS, Position};
 
 /// Entries by their lexemes. Contracts see them as the list of the entries.
 #[derive(Debug, Drop)]
@@ -51,6 +51,22 @@ fn lexeme_of(alloc: Global, bytes: &[u8]) -> Result<Lexeme, AllocError>
 {
     let text = unsafe { str::from_utf8_unchecked(bytes) };
     Ok(Lexeme::from_string(String::from_str(alloc, text)?))
+}
+
+/// Whether there are 256 positions, and others stand behind all of them.
+fn is_full(positions: &[Position], others: &[Position]) -> bool
+    ensures { IsTrue result → IsFull positions.now others.now }
+{
+    if positions.len() < MOST_POSITIONS {
+        return false;
+    }
+    let last = positions[positions.len() - 1].at();
+    for other in others {
+        if other.at() <= last {
+            return false;
+        }
+    }
+    true
 }
 
 impl Gathered {
@@ -101,6 +117,9 @@ impl Gathered {
     {
         let lexeme = lexeme_of(alloc, lexeme)?;
         let (before, held) = self.held(&lexeme);
+        if is_full(before, positions) {
+            return Ok(());
+        }
         let mut all = Vec::new(alloc);
         all.extend_from_slice(before)?;
         all.extend_from_slice(positions)?;

@@ -13,19 +13,18 @@ ghost use Rattle.ts_vector.specs.Changes.{IsBuiltOf, stripped, reweighted, IsJoi
 ghost use Rattle.ts_vector.specs.Pairs.{pairs_of};
 ghost use Rattle.ts_vector.specs.Decoded.{DecodeFails};
 ghost use Rattle.ts_vector.specs.Printed.{vector_text};
-ghost use Rattle.ts_vector.specs.ItemEntries.{item_entries};
 
 mod bytes;
 mod changes;
 mod checker;
 mod codec;
 mod columns;
+mod drafts;
 mod entries;
 mod error;
 mod gathered;
 mod joined;
 mod laws;
-mod limits;
 mod merge;
 mod normal;
 mod places;
@@ -36,7 +35,7 @@ mod spelled;
 use changes::{entries_with_weight, greatest, without_positions};
 use codec::put_entries;
 use columns::Columns;
-use entries::{Item, from_entries, from_items, from_pairs};
+use entries::from_pairs;
 pub use error::VectorError;
 pub use joined::Joined;
 pub use laws::{
@@ -44,7 +43,6 @@ pub use laws::{
     fault_is_outside, join_has_one_answer, normal_form_is_one, position_has_its_number,
     printed_text_is_read, text_has_one_answer, text_has_one_list, text_has_one_value,
 };
-use limits::{first_long, to_items};
 use merge::merged;
 use normal::normal_form;
 pub use places::Places;
@@ -88,18 +86,6 @@ fn within_limit(entries: Columns) -> Result<TsVector, VectorError>
     Ok(TsVector { entries })
 }
 
-/// The vector of items in normal form, if it is within the limit.
-fn settled_within(alloc: Global, items: Vec<Item>) -> Result<TsVector, VectorError>
-    requires { IsNormal (item_entries items.items) }
-    ensures value { IfOk result (λ v. (v ≡ item_entries items.items) × (content_size v < SIZE_LIMIT)) }
-    ensures cause { IfErr result (IsOver (item_entries items.items)) }
-{
-    match from_items(alloc, items.as_slice()) {
-        Ok(entries) => within_limit(entries),
-        Err(_) => Err(VectorError::OutOfMemory),
-    }
-}
-
 impl TsVector {
     /// The vector of a text, in normal form.
     pub fn parse(alloc: Global, text: &str) -> Result<TsVector, VectorError>
@@ -111,16 +97,13 @@ impl TsVector {
             Ok(Err(at)) => return Err(VectorError::Syntax { at }),
             Err(_) => return Err(VectorError::OutOfMemory),
         };
-        if let Some(at) = first_long(drafts.as_slice()) {
+        if let Some(at) = drafts.first_long() {
             return Err(VectorError::LexemeTooLong { at });
         }
-        let Ok(items) = to_items(alloc, drafts) else {
-            return Err(VectorError::OutOfMemory);
-        };
-        let Ok(items) = normal_form(alloc, items) else {
-            return Err(VectorError::OutOfMemory);
-        };
-        settled_within(alloc, items)
+        match normal_form(alloc, drafts.into_entries()) {
+            Ok(entries) => within_limit(entries),
+            Err(_) => Err(VectorError::OutOfMemory),
+        }
     }
 
     /// The vector of these lexemes with these positions, in normal form.
@@ -131,13 +114,13 @@ impl TsVector {
         ensures value { IfOk result (IsBuiltOf (pairs_of items.items)) }
         ensures cause { IfErr result (ItemsFail (pairs_of items.items)) }
     {
-        let Ok(items) = from_pairs(alloc, items) else {
+        let Ok(entries) = from_pairs(alloc, items) else {
             return Err(VectorError::OutOfMemory);
         };
-        let Ok(items) = normal_form(alloc, items) else {
-            return Err(VectorError::OutOfMemory);
-        };
-        settled_within(alloc, items)
+        match normal_form(alloc, entries) {
+            Ok(entries) => within_limit(entries),
+            Err(_) => Err(VectorError::OutOfMemory),
+        }
     }
 
     /// The entries of both, the other's positions behind this one's greatest, in normal form.
@@ -223,7 +206,7 @@ impl TsVector {
         ensures cause { IfErr result (DecodeFails bytes.now) }
     {
         let spelled = VectorBytes::new(bytes)?;
-        match from_entries(alloc, &spelled) {
+        match Columns::of_spelling(alloc, &spelled) {
             Ok(entries) => Ok(TsVector { entries }),
             Err(_) => Err(VectorError::OutOfMemory),
         }

@@ -1,17 +1,15 @@
 // Two vectors in one.
-ghost use Rattle.std.specs.Prelude.{◌<◌, ◌≤◌, ◌⊎◌, ◌++◌, length, IfOk, OnOk};
+ghost use Rattle.std.specs.Prelude.{◌<◌, ◌≤◌, ◌⊎◌, ◌++◌, length, IfOk};
 ghost use Rattle.ts_base.specs.Vectors.{IsNormal, content_size};
 ghost use Rattle.ts_vector.specs.Normal.{IsNormalFormOf};
 ghost use Rattle.ts_vector.specs.Inner.CappedForm.{shifted_within};
-ghost use Rattle.ts_vector.specs.Inner.Columns.{entry};
-ghost use Rattle.ts_vector.specs.Inner.Steps.{PutsSettled, HeadsStand};
+ghost use Rattle.ts_vector.specs.Inner.Steps.{HeadsStand};
 
 use crate::changes::later;
 use crate::columns::Columns;
-use crate::normal::settle;
+use crate::normal::put;
 use std::alloc::{AllocError, Global};
 use std::cmp::Ordering;
-use ts_base::Position;
 
 /// Which entry comes next: the one at i of the first list, the one at j of the second, or both as one.
 fn order(first: &Columns, i: usize, second: &Columns, j: usize) -> Ordering
@@ -25,15 +23,6 @@ fn order(first: &Columns, i: usize, second: &Columns, j: usize) -> Ordering
         return Ordering::Greater;
     }
     first.lexeme(i).cmp(second.lexeme(j))
-}
-
-/// Adds an entry, with its positions settled.
-fn put(out: &mut Columns, lexeme: &[u8], positions: Vec<Position>) -> Result<(), AllocError>
-    ensures { OnOk result (PutsSettled out.old (entry lexeme.now positions.items) out.new) }
-{
-    let mut positions = positions;
-    settle(&mut positions);
-    out.push(lexeme, positions.as_slice())
 }
 
 /// The entries of both lists in one, the second ones with each position so much later.
@@ -58,21 +47,21 @@ pub fn merged(
         let order = order(first, i, second, j);
         match order {
             Ordering::Less => {
-                let positions = later(alloc, first.positions(i), 0)?;
-                put(&mut out, first.lexeme(i), positions)?;
+                let mut positions = later(alloc, first.positions(i), 0)?;
+                put(&mut out, first.lexeme(i), &mut positions)?;
                 i += 1;
             }
             Ordering::Equal => {
                 let mut positions = later(alloc, first.positions(i), 0)?;
                 let others = later(alloc, second.positions(j), by)?;
                 positions.extend_from_slice(others.as_slice())?;
-                put(&mut out, first.lexeme(i), positions)?;
+                put(&mut out, first.lexeme(i), &mut positions)?;
                 i += 1;
                 j += 1;
             }
             Ordering::Greater => {
-                let positions = later(alloc, second.positions(j), by)?;
-                put(&mut out, second.lexeme(j), positions)?;
+                let mut positions = later(alloc, second.positions(j), by)?;
+                put(&mut out, second.lexeme(j), &mut positions)?;
                 j += 1;
             }
         }

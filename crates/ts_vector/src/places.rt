@@ -1,5 +1,5 @@
 // The positions of neighbouring entries of a spelling.
-ghost use Rattle.std.specs.Prelude.{◌≡◌};
+ghost use Rattle.std.specs.Prelude.{◌≡◌, take};
 ghost use Rattle.std.specs.List.{flat_map, slice_range};
 ghost use Rattle.std.specs.Iterator.{YieldsFirst, item_count};
 
@@ -49,15 +49,24 @@ impl<'a> Iterator for Places<'a> {
     }
 }
 
+impl<'a> Entries<'a> {
+    /// The positions of the first entries that are left, so many.
+    pub fn places(self, count: usize) -> Places<'a>
+        ensures { result ≡ flat_map (λ e. e.positions) (take count self.entry) }
+    {
+        Places {
+            here: Positions::none(),
+            entries: self,
+            count,
+        }
+    }
+}
+
 impl<'a> VectorBytes<'a> {
     /// The positions of the entries from the index `first` on and below `end`.
     pub fn places(&self, first: usize, end: usize) -> Places<'a>
         ensures { result ≡ flat_map (λ e. e.positions) (slice_range self.now first end) }
     {
-        Places {
-            here: Positions::none(),
-            entries: self.entries_from(first),
-            count: end.saturating_sub(first),
-        }
+        self.entries_from(first).places(end.saturating_sub(first))
     }
 }

@@ -1,24 +1,12 @@
 // Reads the text of a vector.
-ghost use Rattle.std.specs.Prelude.{◌≡◌, ◌<◌, ◌≤◌, ◌^◌, ℕ, length, List, [], ◌∷◌, ◌++◌, IfOk, IfErr, option_map, OnOk};
+ghost use Rattle.std.specs.Prelude.{◌≡◌, ◌<◌, ◌≤◌, ◌^◌, ℕ, length, List, [], ◌∷◌, ◌++◌, IfOk, IfErr, OnOk};
 ghost use Rattle.ts_base.specs.Fault.{FaultAt, Stands};
 ghost use Rattle.ts_base.specs.declared.TheConstants.{LAST_POSITION};
 ghost use Rattle.ts_vector.specs.Text.{written, Written, IsVectorText};
-ghost use Rattle.ts_vector.specs.Inner.Drafts.{drafts_written};
 
+use crate::drafts::Drafts;
 use std::alloc::{AllocError, Global};
-use std::mem;
 use ts_base::{LAST_POSITION, Position, Weight, is_white, weight_of};
-
-/// A lexeme as it is written: the offset at which it starts, its bytes and its positions.
-#[derive(Debug, Drop)]
-pub struct Draft {
-    /// The offset at which it starts.
-    pub start: usize,
-    /// The bytes of the lexeme.
-    pub lexeme: Vec<u8>,
-    /// Its positions.
-    pub positions: Vec<Position>,
-}
 
 /// Where a reader stands.
 #[derive(Clone, Copy, Debug, PartialEq, Eq)]
@@ -47,7 +35,7 @@ struct Reader {
     /// Where it stands.
     state: State,
     /// The items so far.
-    words: Vec<Draft>,
+    words: Drafts,
     /// Where the item starts.
     start: usize,
     /// The lexeme so far.
@@ -63,38 +51,28 @@ impl Reader {
     ghost use Rattle.ts_vector.specs.Inner.Shape.{shape, ShapeSteps, ShapeEnds};
 
     /// Ends an item that has no positions.
-    fn close_alone(&mut self, alloc: Global) -> Result<(), AllocError>
+    fn close_alone(&mut self) -> Result<(), AllocError>
         ensures items { OnOk result
-            (drafts_written self.new.words.items
-            ≡ drafts_written self.old.words.items
-            ++ written self.old.start self.old.word.items [] ∷ []) }
+            (self.new.words
+            ≡ self.old.words ++ written self.old.start self.old.word.items [] ∷ []) }
         ensures state { OnOk result (self.new.state ≡ State.Between) }
     {
-        let lexeme = mem::replace(&mut self.word, Vec::new(alloc));
-        self.words.push(Draft {
-            start: self.start,
-            lexeme,
-            positions: Vec::new(alloc),
-        })?;
+        self.words.push(self.start, self.word.as_slice(), &[])?;
         self.state = State::Between;
         Ok(())
     }
 
     /// Ends an item that has positions.
-    fn close_at(&mut self, alloc: Global) -> Result<(), AllocError>
+    fn close_at(&mut self) -> Result<(), AllocError>
         ensures items { OnOk result
-            (drafts_written self.new.words.items
-            ≡ drafts_written self.old.words.items
+            (self.new.words
+            ≡ self.old.words
             ++ written self.old.start self.old.word.items self.old.positions.items ∷ []) }
         ensures state { OnOk result (self.new.state ≡ State.Between) }
     {
-        let lexeme = mem::replace(&mut self.word, Vec::new(alloc));
-        let positions = mem::replace(&mut self.positions, Vec::new(alloc));
-        self.words.push(Draft {
-            start: self.start,
-            lexeme,
-            positions,
-        })?;
+        let positions = self.positions.as_slice();
+        self.words
+            .push(self.start, self.word.as_slice(), positions)?;
         self.state = State::Between;
         Ok(())
     }
@@ -102,7 +80,7 @@ impl Reader {
     /// Adds a byte to the lexeme.
     fn put(&mut self, byte: u8, state: State) -> Result<(), AllocError>
         ensures word { OnOk result (self.new.word.items ≡ self.old.word.items ++ byte ∷ []) }
-        ensures items { self.new.words.items ≡ self.old.words.items }
+        ensures items { self.new.words ≡ self.old.words }
         ensures start { self.new.start ≡ self.old.start }
         ensures state { OnOk result (self.new.state ≡ state) }
     {
@@ -114,7 +92,7 @@ impl Reader {
     /// Begins a lexeme at the offset `at`.
     fn begin(&mut self, at: usize, state: State)
         ensures word { self.new.word.items ≡ [] }
-        ensures items { self.new.words.items ≡ self.old.words.items }
+        ensures items { self.new.words ≡ self.old.words }
         ensures start { self.new.start ≡ at }
         ensures state { self.new.state ≡ state }
         ensures positions { self.new.positions ≡ self.old.positions }
@@ -128,7 +106,7 @@ impl Reader {
     /// Behind the `:` of an item.
     fn begin_positions(&mut self)
         ensures state { self.new.state ≡ State.Digits }
-        ensures items { self.new.words.items ≡ self.old.words.items }
+        ensures items { self.new.words ≡ self.old.words }
         ensures start { self.new.start ≡ self.old.start }
         ensures word { self.new.word ≡ self.old.word }
         ensures positions { self.new.positions.items ≡ [] }
@@ -176,7 +154,7 @@ impl Reader {
     }
 
     /// Behind a quote within a quoted lexeme: it ended there, or another quote follows.
-    fn quote(&mut self, alloc: Global, at: usize, byte: u8) -> Result<bool, AllocError>
+    fn quote(&mut self, at: usize, byte: u8) -> Result<bool, AllocError>
         requires { self.old.state ≡ State.Quote }
         ensures { IfOk result (λ ok. ShapeSteps at (shape self.old) byte ok (shape self.new)) }
     {
@@ -191,13 +169,13 @@ impl Reader {
             self.begin_positions();
             return Ok(true);
         }
-        self.close_alone(alloc)?;
+        self.close_alone()?;
         let ok = self.between(at, byte)?;
         Ok(ok)
     }
 
     /// Within a plain lexeme.
-    fn in_plain(&mut self, alloc: Global, at: usize, byte: u8) -> Result<bool, AllocError>
+    fn in_plain(&mut self, at: usize, byte: u8) -> Result<bool, AllocError>
         requires { self.old.state ≡ State.InPlain }
         ensures { IfOk result (λ ok. ShapeSteps at (shape self.old) byte ok (shape self.new)) }
     {
@@ -206,7 +184,7 @@ impl Reader {
             b':' => self.begin_positions(),
             _ => {
                 if is_white(byte as char) {
-                    self.close_alone(alloc)?;
+                    self.close_alone()?;
                 } else {
                     self.put(byte, State::InPlain)?;
                 }
@@ -216,7 +194,7 @@ impl Reader {
     }
 
     /// Within a position's number.
-    fn digits(&mut self, alloc: Global, at: usize, byte: u8) -> Result<bool, AllocError>
+    fn digits(&mut self, at: usize, byte: u8) -> Result<bool, AllocError>
         requires { self.old.state ≡ State.Digits }
         ensures { IfOk result (λ ok. ShapeSteps at (shape self.old) byte ok (shape self.new)) }
     {
@@ -243,14 +221,14 @@ impl Reader {
         if is_white(byte as char) {
             let position = Position::new(self.value, Weight::D);
             self.positions.push(position)?;
-            self.close_at(alloc)?;
+            self.close_at()?;
             return Ok(true);
         }
         Ok(false)
     }
 
     /// Behind a position's letter.
-    fn weighted(&mut self, alloc: Global, at: usize, byte: u8) -> Result<bool, AllocError>
+    fn weighted(&mut self, at: usize, byte: u8) -> Result<bool, AllocError>
         requires { self.old.state ≡ State.Weighted }
         ensures { IfOk result (λ ok. ShapeSteps at (shape self.old) byte ok (shape self.new)) }
     {
@@ -260,14 +238,14 @@ impl Reader {
             return Ok(true);
         }
         if is_white(byte as char) {
-            self.close_at(alloc)?;
+            self.close_at()?;
             return Ok(true);
         }
         Ok(false)
     }
 
     /// The byte at the offset `at`; `false` where it can't stand here.
-    fn step(&mut self, alloc: Global, at: usize, byte: u8) -> Result<bool, AllocError>
+    fn step(&mut self, at: usize, byte: u8) -> Result<bool, AllocError>
         ensures { IfOk result (λ ok. ShapeSteps at (shape self.old) byte ok (shape self.new)) }
     {
         match self.state {
@@ -277,21 +255,21 @@ impl Reader {
                 self.put(byte, State::InQuoted)?;
                 Ok(true)
             }
-            State::Quote => self.quote(alloc, at, byte),
-            State::InPlain => self.in_plain(alloc, at, byte),
+            State::Quote => self.quote(at, byte),
+            State::InPlain => self.in_plain(at, byte),
             State::PlainEscape => {
                 self.put(byte, State::InPlain)?;
                 Ok(true)
             }
-            State::Digits => self.digits(alloc, at, byte),
-            State::Weighted => self.weighted(alloc, at, byte),
+            State::Digits => self.digits(at, byte),
+            State::Weighted => self.weighted(at, byte),
         }
     }
 
     /// The items, if the text may end here.
-    fn finish(mut self, alloc: Global) -> Result<Option<Vec<Draft>>, AllocError>
+    fn finish(mut self) -> Result<Option<Drafts>, AllocError>
         ensures { IfOk result
-            (λ r. ShapeEnds (shape self) (option_map (λ v. drafts_written v.items) r)) }
+            (λ r. ShapeEnds (shape self) r) }
     {
         match self.state {
             State::Between => Ok(Some(self.words)),
@@ -299,11 +277,11 @@ impl Reader {
                 if self.word.is_empty() {
                     return Ok(None);
                 }
-                self.close_alone(alloc)?;
+                self.close_alone()?;
                 Ok(Some(self.words))
             }
             State::InPlain => {
-                self.close_alone(alloc)?;
+                self.close_alone()?;
                 Ok(Some(self.words))
             }
             State::Digits => {
@@ -312,11 +290,11 @@ impl Reader {
                 }
                 let position = Position::new(self.value, Weight::D);
                 self.positions.push(position)?;
-                self.close_at(alloc)?;
+                self.close_at()?;
                 Ok(Some(self.words))
             }
             State::Weighted => {
-                self.close_at(alloc)?;
+                self.close_at()?;
                 Ok(Some(self.words))
             }
             State::InQuoted | State::QuotedEscape | State::PlainEscape => Ok(None),
@@ -325,10 +303,10 @@ impl Reader {
 }
 
 /// The items of a vector's text, in their order in the text, or the place of its first fault.
-pub fn read(alloc: Global, text: &[u8]) -> Result<Result<Vec<Draft>, usize>, AllocError>
+pub fn read(alloc: Global, text: &[u8]) -> Result<Result<Drafts, usize>, AllocError>
     // What is read is written so, and nothing else is.
     ensures found { IfOk result
-        (λ r. IfOk r (λ v. IsVectorText text.now (drafts_written v.items))) }
+        (λ r. IfOk r (IsVectorText text.now)) }
     ensures bound { length text.now < 2 ^ 64 }
     // A text outside the grammar is refused at its first fault.
     ensures fault { IfOk result
@@ -336,18 +314,18 @@ pub fn read(alloc: Global, text: &[u8]) -> Result<Result<Vec<Draft>, usize>, All
 {
     let mut reader = Reader {
         state: State::Between,
-        words: Vec::new(alloc),
+        words: Drafts::new(alloc),
         start: 0,
         word: Vec::new(alloc),
         positions: Vec::new(alloc),
         value: 0,
     };
     for (i, &byte) in text.iter().enumerate() {
-        if !reader.step(alloc, i, byte)? {
+        if !reader.step(i, byte)? {
             return Ok(Err(i));
         }
     }
-    match reader.finish(alloc)? {
+    match reader.finish()? {
         Some(items) => Ok(Ok(items)),
         None => Ok(Err(text.len())),
     }

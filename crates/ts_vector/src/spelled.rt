@@ -1,9 +1,9 @@
 // A vector's spelling, read where it lies.
-ghost use Rattle.std.specs.Prelude.{◌≡◌, ℕ, ◌<◌, ◌≤◌, ◌↔◌, ◌%◌, ◌++◌, [], List, length, drop, IsTrue, IfOk, IfErr};
+ghost use Rattle.std.specs.Prelude.{◌≡◌, ℕ, ◌<◌, ◌≤◌, ◌↔◌, ◌%◌, ◌++◌, [], List, length, drop, sum_by, IsTrue, IfOk, IfErr};
 ghost use Rattle.std.specs.Iterator.{YieldsFirst, item_count};
 ghost use Rattle.ts_base.specs.Endian.{little_bytes};
 ghost use Rattle.ts_base.specs.Vectors.{Entry, IsPosition, IsEntry, IsNormal, content_size};
-ghost use Rattle.ts_base.specs.Spelling.{position_number, IsSpelling};
+ghost use Rattle.ts_base.specs.Spelling.{position_number, entry_size, IsSpelling};
 ghost use Rattle.ts_base.specs.declared.TheConstants.{SIZE_LIMIT};
 ghost use Rattle.ts_vector.specs.Decoded.{SpellingFails};
 ghost use Rattle.ts_vector.specs.Inner.Told.{IsFirst};
@@ -172,6 +172,15 @@ impl<'a> Model for Entries<'a> {
     ghost invariant = { λ e. AreEntries e.count e.rest.now (entries_told e.count e.rest.now) };
 }
 
+impl<'a> Entries<'a> {
+    /// How many bytes the entries that are left have.
+    pub fn bytes_left(&self) -> usize
+        ensures { result ≡ sum_by entry_size self.now }
+    {
+        self.rest.len()
+    }
+}
+
 impl<'a> Iterator for Entries<'a> {
     type Item = EntryBytes<'a>;
 
@@ -195,6 +204,8 @@ impl<'a> Iterator for Entries<'a> {
 pub struct VectorBytes<'a> {
     /// How many entries it has.
     count: usize,
+    /// How many positions they have.
+    places: usize,
     /// Their bytes.
     entries: &'a [u8],
 }
@@ -219,7 +230,11 @@ impl<'a> VectorBytes<'a> {
         ensures cause { IfErr result (SpellingFails bytes.now) }
     {
         match checked(bytes) {
-            Ok((count, entries)) => Ok(VectorBytes { count, entries }),
+            Ok((count, places, entries)) => Ok(VectorBytes {
+                count,
+                places,
+                entries,
+            }),
             Err(Stop { left }) => Err(VectorError::BadBytes {
                 at: bytes.len() - left,
             }),
@@ -237,14 +252,9 @@ impl<'a> VectorBytes<'a> {
 
     /// How many bytes its lexemes have together, and how many positions there are.
     pub(crate) fn lengths(&self) -> (usize, usize) {
-        let mut positions: usize = 0;
-        for entry in self.entries() {
-            positions = positions.saturating_add(entry.positions().len());
-        }
-        let others = positions
-            .saturating_add(self.count.saturating_mul(2))
-            .saturating_mul(2);
-        (self.entries.len().saturating_sub(others), positions)
+        let others = self.places.saturating_add(self.count.saturating_mul(2));
+        let lexemes = self.entries.len().saturating_sub(others.saturating_mul(2));
+        (lexemes, self.places)
     }
 
     /// The entries, in the order of their lexemes.
@@ -269,5 +279,18 @@ impl<'a> VectorBytes<'a> {
             skipped += 1;
         }
         entries
+    }
+
+    /// The entries from the index `first` on, which have so many bytes. It walks over none.
+    pub fn last_entries(&self, first: usize, bytes_left: usize) -> Entries<'a>
+        requires within { first ≤ length self.now }
+        requires bytes { bytes_left ≡ sum_by entry_size (drop first self.now) }
+        ensures { result ≡ drop first self.now }
+    {
+        let (_, rest) = self.entries.split_at(self.entries.len() - bytes_left);
+        Entries {
+            count: self.count - first,
+            rest,
+        }
     }
 }

@@ -1,5 +1,5 @@
 -- Entries in memory: the bytes of all lexemes, all positions, and where each entry ends in both.
-use Rattle.std.specs.Prelude.{◌≡◌, ℕ, zero, suc, ◌-◌, ◌≤◌, List, [], ◌∷◌, length, take, drop, get_or}
+use Rattle.std.specs.Prelude.{◌≡◌, ℕ, zero, suc, ◌-◌, ◌≤◌, List, [], ◌∷◌, length, map, take, drop, get_or}
 use Rattle.ts_base.specs.Vectors.{Position, Entry}
 use Rattle.ts_vector.specs.declared.columns.Ends.{Ends}
 
@@ -38,3 +38,10 @@ AreColumns ls ps es = AreEnds origin es (length ls) (length ps)
 
 abbrev pub entry : List ℕ → List Position → Entry
 entry l ps = record { lexeme = l; positions = ps }
+
+-- the entry at the index k, and those at some indexes; behind the last one there are empty ones
+abbrev pub entry_at : List Entry → ℕ → Entry
+entry_at es k = get_or es k (entry [] [])
+
+abbrev pub entries_at : List Entry → List ℕ → List Entry
+entries_at es order = map (entry_at es) order

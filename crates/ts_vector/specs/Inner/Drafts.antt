@@ -1,11 +1,10 @@
--- A lexeme as it is written, as it lies in memory.
-use Rattle.std.specs.Prelude.{List, map}
-use Rattle.ts_vector.specs.Text.{Written}
-use Rattle.ts_vector.specs.declared.reader.Draft.{Draft}
+-- Lexemes as they are written, as they lie in memory.
+use Rattle.std.specs.Prelude.{ℕ, List, [], ◌∷◌}
+use Rattle.ts_base.specs.Vectors.{Entry}
+use Rattle.ts_vector.specs.Text.{Written, written}
 
-abbrev pub draft_written : Draft → Written
-draft_written draft =
-    record { start = draft.start; lexeme = draft.lexeme.items; positions = draft.positions.items }
-
-abbrev pub drafts_written : List Draft → List Written
-drafts_written drafts = map draft_written drafts
+-- entries, each with the offset at which it starts
+abbrev pub drafts_written : List ℕ → List Entry → List Written
+drafts_written [] es = []
+drafts_written (s ∷ ss) [] = []
+drafts_written (s ∷ ss) (e ∷ es) = written s e.lexeme e.positions ∷ drafts_written ss es

@@ -1,6 +1,7 @@
 -- Entries by their lexemes, to which others are added.
-use Rattle.std.specs.Prelude.{◌≡◌, ◌≢◌, ℕ, ◌+◌, ◌*◌, ◌≤◌, ◌⊎◌, List, [], ◌++◌, length, All, AllPairs, Contains}
+use Rattle.std.specs.Prelude.{◌≡◌, ◌≢◌, ℕ, ◌+◌, ◌-◌, ◌*◌, ◌<◌, ◌≤◌, ◌⊎◌, List, [], ◌++◌, length, get_or, All, AllPairs, Contains}
 use Rattle.ts_base.specs.Lexemes.{IsBefore}
+use Rattle.ts_base.specs.declared.TheConstants.{MOST_POSITIONS}
 use Rattle.ts_base.specs.Vectors.{Position, Entry, Vector, content_size}
 use Rattle.ts_vector.specs.Normal.{Names}
 use Rattle.ts_vector.specs.Inner.Columns.{entry}
@@ -33,3 +34,8 @@ pub record Puts (old : Vector) (e : Entry) (new : Vector) : Type 0 where
   pub from : (x : Entry) → Contains new x → (x ≡ put) ⊎ ((x.lexeme ≢ e.lexeme) × Contains old x)
   pub to : (x : Entry) → Contains old x → (x.lexeme ≡ e.lexeme) ⊎ Contains new x
   pub size : content_size new ≤ content_size old + (length e.lexeme + 2 * length e.positions)
+
+-- the list has 256 positions or more, and others stand behind the last one
+pub record IsFull (ps others : List Position) : Type 0 where
+  pub long : MOST_POSITIONS ≤ length ps
+  pub behind : (d : Position) → All (λ p. (get_or ps (length ps - 1) d).at < p.at) others

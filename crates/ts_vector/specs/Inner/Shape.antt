@@ -4,7 +4,6 @@ use Rattle.ts_base.specs.Vectors.{Position}
 use Rattle.ts_base.specs.Inner.Residuals.{QuotedOn, QuoteOn, PlainOn, EscapedOn}
 use Rattle.ts_base.specs.Inner.Machine.{Moves, Stuck, Stepped, Finished}
 use Rattle.ts_vector.specs.Text.{Written, written, EndsItem, PositionNumber, BehindPosition, Items, LexemeTail}
-use Rattle.ts_vector.specs.Inner.Drafts.{drafts_written}
 use Rattle.ts_vector.specs.declared.reader.State.{State}
 use Rattle.ts_vector.specs.declared.reader.State.TheVariants.{Between, InQuoted, QuotedEscape, Quote, InPlain, PlainEscape, Digits, Weighted}
 use Rattle.ts_vector.specs.declared.reader.Reader.{Reader}
@@ -54,7 +53,7 @@ abbrev pub shape : Reader → Shape
 shape r =
     record {
       state = r.state;
-      items = drafts_written r.words.items;
+      items = r.words;
       start = r.start;
       word = r.word.items;
       positions = r.positions.items;

@@ -15,7 +15,7 @@ pub loop-init : goal.loop-init
 loop-init c =
     let n = c.in_ok-count.count in
     let first = count_goes n [] c.args.bytes.now c.in_ok-count.entries.now c.in_ok-count.ensures.fits c.in_ok-count.ensures.ok in
-    ([], refl, none_front _ refl refl, omega arith, first.on c.args.bytes.now begun)
+    ([], refl, none_front _ refl refl, omega arith, first.on c.args.bytes.now begun, omega arith)
 
 pub returns-in_err-front-clause-err : goal.returns-in_err-front-clause-err
 returns-in_err-front-clause-err c =
@@ -29,7 +29,7 @@ loop-preserved c =
     let is = c.loop.invariant in
     let n = c.in_ok-count.count in
     let next = c.in_ok-front.ensures.ok n is.0 (omega (arith, is.1)) is.2 in
-    (is.0 ++ next.0 ∷ [], omega (arith, is.1, length-append is.0 (next.0 ∷ [])), next.2, c.in_ok-front.ensures.small, next.1.on c.args.bytes.now is.4)
+    (is.0 ++ next.0 ∷ [], omega (arith, is.1, length-append is.0 (next.0 ∷ [])), next.2, c.in_ok-front.ensures.small, next.1.on c.args.bytes.now is.4, c.in_ok-front.ensures.few)
 
 pub returns-then-not-is_empty-clause-err : goal.returns-then-not-is_empty-clause-err
 returns-then-not-is_empty-clause-err c =

@@ -19,7 +19,7 @@ loop-i-preserved-in-Less c =
     let same : (d : Entry) → entry c.lexeme.result.now c.in_ok-positions-in-Less.positions.items ≡ moved 0 (get_or v i d) =
     λ d. let ps = c.in_ok-positions-in-Less.ensures ∙ ap (map (moved_within 0)) (c.positions.ensures d) in λ t. record { lexeme = c.lexeme.ensures d t; positions = ps t } in
     merged_first v c.args.second.now c.args.by i c.loop-i.j c.loop-i.out c.put.new.out c.loop-i.invariant c.in-Less.ensures
-    (λ d. subst (λ e. PutsSettled c.loop-i.out e c.put.new.out) (same d) c.in_ok-put-in-Less.ensures)
+    (λ d. subst (λ e. PutsSettled c.loop-i.out e c.put.new.out) (same d) c.in_ok-put-in-Less.ensures.ok)
 
 pub overflow_add-j : goal.overflow_add-j
 overflow_add-j c = omega (arith, c.in-Equal.ensures.1, c.len-seconds.ensures, c.len-seconds.type_inv)
@@ -38,7 +38,7 @@ loop-i-preserved-in-Equal c =
     let both = all ∙ (λ t. ps t ++ qs t) in
     λ t. record { lexeme = c.lexeme-in-Equal.ensures d t; positions = both t } in
     merged_both v w c.args.by i j c.loop-i.out c.put-in-Equal.new.out c.loop-i.invariant c.in-Equal.ensures
-    (λ d. subst (λ e. PutsSettled c.loop-i.out e c.put-in-Equal.new.out) (same d) c.in_ok-put-in-Equal.ensures)
+    (λ d. subst (λ e. PutsSettled c.loop-i.out e c.put-in-Equal.new.out) (same d) c.in_ok-put-in-Equal.ensures.ok)
 
 pub overflow_add-j-in-Greater : goal.overflow_add-j-in-Greater
 overflow_add-j-in-Greater c = omega (arith, c.in-Greater.ensures.0, c.len-seconds.ensures, c.len-seconds.type_inv)
@@ -50,7 +50,7 @@ loop-i-preserved c =
     let same : (d : Entry) → entry c.lexeme-in-Greater.result.now c.in_ok-positions-in-Greater.positions.items ≡ moved c.args.by (get_or w j d) =
     λ d. let ps = c.in_ok-positions-in-Greater.ensures ∙ ap (map (moved_within c.args.by)) (c.positions-in-Greater.ensures d) in λ t. record { lexeme = c.lexeme-in-Greater.ensures d t; positions = ps t } in
     merged_second c.args.first.now w c.args.by c.loop-i.i j c.loop-i.out c.put-in-Greater.new.out c.loop-i.invariant c.in-Greater.ensures
-    (λ d. subst (λ e. PutsSettled c.loop-i.out e c.put-in-Greater.new.out) (same d) c.in_ok-put-in-Greater.ensures)
+    (λ d. subst (λ e. PutsSettled c.loop-i.out e c.put-in-Greater.new.out) (same d) c.in_ok-put-in-Greater.ensures.ok)
 
 pub returns-clause-form : goal.returns-clause-form
 returns-clause-form c =

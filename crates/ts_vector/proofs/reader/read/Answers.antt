@@ -3,7 +3,6 @@ use Rattle.ts_base.specs.Inner.Machine.{Unfinished, Whole}
 use Rattle.ts_base.proofs.Places.{fault_stuck, fault_unfinished, found_finished, leads_moved}
 use Rattle.std.proofs.Common.{List}
 use Rattle.ts_vector.specs.Text.{Written, IsVectorText}
-use Rattle.ts_vector.specs.Inner.Drafts.{drafts_written}
 use Rattle.ts_vector.specs.Inner.Shape.{VectorRest, ShapeStuck, ShapeMoves, shape, Shape}
 use Rattle.ts_vector.proofs.Reading.{completes}
 use Rattle.ts_vector.proofs.reader.read.Goals as goal
@@ -21,9 +20,9 @@ loop-i-preserved c =
 
 pub returns-in-Some-clause-found : goal.returns-in-Some-clause-found
 returns-in-Some-clause-found c =
-    let w : Whole Shape (List Written) VectorRest (shape c.loop-i.reader) (drafts_written c.in-Some.items.items) = rw c.in-Some.is at c.in_ok-items.ensures in
+    let w : Whole Shape (List Written) VectorRest (shape c.loop-i.reader) c.in-Some.items = rw c.in-Some.is at c.in_ok-items.ensures in
     let e : c.loop-i.i ≡ length c.args.text.now = omega arith in
-    found_finished (List Written) IsVectorText Shape VectorRest c.args.text.now c.loop-i.i (shape c.loop-i.reader) (drafts_written c.in-Some.items.items) e c.loop-i.invariant w
+    found_finished (List Written) IsVectorText Shape VectorRest c.args.text.now c.loop-i.i (shape c.loop-i.reader) c.in-Some.items e c.loop-i.invariant w
 
 pub returns-in-None-clause-fault : goal.returns-in-None-clause-fault
 returns-in-None-clause-fault c =

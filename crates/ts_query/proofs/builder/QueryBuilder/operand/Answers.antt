@@ -1,5 +1,5 @@
 use Rattle.std.proofs.Common.{◌+◌, ◌<◌, ◌∷◌, ap, ◌∙◌, arith}
-use Rattle.ts_query.specs.Queries.{leaf, HasLexemeLength}
+use Rattle.ts_query.specs.Queries.{leaf, HasLexeme}
 use Rattle.ts_query.specs.Tokens.{operand}
 use Rattle.ts_query.specs.Building.{nodes_among}
 use Rattle.ts_query.specs.Inner.Built.{trees_in}
@@ -19,7 +19,7 @@ invariant_of-self-2 c =
     let n = c.node_count.ensures.value in
     let v = ap nodes_among c.self.view_is in
     let room : nodes_among ts + 1 < 32768 = omega arith in
-    let l : HasLexemeLength o = (c.as_str-text.ensures.valid.some, c.as_str-text.ensures.valid.most) in
+    let l : HasLexeme o = c.as_str.ensures.valid in
     written c.leaf.new.self (leaf o ∷ ts) (c.in_ok-leaf.ensures.built _ c.self.invariant.built) (leaf_more o ts l room c.self.invariant.sound)
 
 pub returns-in_err-leaf-clause-same : goal.returns-in_err-leaf-clause-same
@@ -38,5 +38,5 @@ returns-clause-room c =
     let n = c.node_count.ensures.value in
     let v = ap nodes_among c.self.view_is in
     let room : nodes_among ts + 1 < 32768 = omega arith in
-    let l : HasLexemeLength o = (c.as_str-text.ensures.valid.some, c.as_str-text.ensures.valid.most) in
+    let l : HasLexeme o = c.as_str.ensures.valid in
     (written c.leaf.new.self (leaf o ∷ ts) (c.in_ok-leaf.ensures.built _ c.self.invariant.built) (leaf_more o ts l room c.self.invariant.sound)).sound.nodes

@@ -1,14 +1,13 @@
 use Rattle.std.proofs.Common.{[], ap, sym, subst, ◌∙◌, Some}
-use Rattle.ts_query.specs.Queries.{leaf, HasLexemeLength}
+use Rattle.ts_query.specs.Queries.{leaf, HasLexeme}
 use Rattle.ts_query.specs.Tokens.{operand}
 use Rattle.ts_query.proofs.Joined.{leaf_sound}
 use Rattle.ts_query.proofs.query.TsQuery.operand.Goals as goal
 
 pub finish-requires : goal.finish-requires
 finish-requires c =
-    let v = c.as_str-text.ensures.valid in
-    let h : HasLexemeLength (operand c.in_ok-lexeme.lexeme c.args.weights c.args.prefix) =
-    subst (λ l. HasLexemeLength (operand l c.args.weights c.args.prefix)) (sym c.in_ok-lexeme.ensures.cases) (c.as_str-text.ensures.valid.some, c.as_str-text.ensures.valid.most) in
+    let h : HasLexeme (operand c.in_ok-lexeme.lexeme c.args.weights c.args.prefix) =
+    subst (λ l. HasLexeme (operand l c.args.weights c.args.prefix)) (sym c.in_ok-lexeme.ensures.cases) c.as_str.ensures.valid in
     (Some (leaf (operand c.in_ok-lexeme.lexeme c.args.weights c.args.prefix)), c.in_ok-leaf.ensures.built [] c.new-builder.ensures, leaf_sound (operand c.in_ok-lexeme.lexeme c.args.weights c.args.prefix) h)
 
 pub returns-clause-value : goal.returns-clause-value

@@ -20,7 +20,7 @@ pub from_entries-requires : goal.from_entries-requires
 from_entries-requires c =
     let f : IsOutcome c.args.text.now c.in-Ok.outcome = rw c.in-Ok.is at c.in_ok-outcome.ensures.found in
     let e = ap length c.as_slice.ensures.value ∙ entries_nodes c.in-Ok.outcome.entries.items f.query f.entries in
-    (f.query, ap (λ l. map entry_item l) c.as_slice-2.ensures.value ∙ f.entries, reads_sound c.args.text.now f.tokens f.query f.reads (sym f.far ∙ c.in_default.is) (sym f.long ∙ c.in_default-long.is) (omega arith))
+    (f.query, ap (λ l. map entry_item l) c.as_slice-2.ensures.value ∙ f.entries, reads_sound c.args.text.now f.tokens f.query c.utf8.text f.reads (sym f.far ∙ c.in_default.is) (sym f.long ∙ c.in_default-long.is) (omega arith))
 
 pub returns-clause-value : goal.returns-clause-value
 returns-clause-value c =

@@ -16,8 +16,8 @@ invariant_of-self-2 c =
     let p : ends.positions ≡ length f.positions.items + length c.args.positions.now = omega (arith, c.in_ok-end-2.ensures, c.len-2.ensures, f.positions.ok.0) in
     rw (a, b, d) (push_are f.lexemes.items f.positions.items f.ends.items c.self.invariant c.args.lexeme.now c.args.positions.now ends l p)
 
-pub returns : goal.returns
-returns c =
+pub returns-clause-ok : goal.returns-clause-ok
+returns-clause-ok c =
     let f = c.self.inside in
     let ends : Ends = record { lexeme = c.in_ok-end.field-0; positions = c.in_ok-end-2.field-0 } in
     let a : c.extend_from_slice.new.self.items ≡ f.lexemes.items ++ c.args.lexeme.now = grind (arith, common_steps) in

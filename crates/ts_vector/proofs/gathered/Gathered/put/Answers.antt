@@ -2,7 +2,8 @@ use Rattle.std.proofs.Common.{◌≡◌, ◌≤◌, ◌⊎◌, ◌++◌, arith, 
 use Rattle.std.specs.Prelude.{All, Any}
 use Rattle.std.proofs.lemmas.Grind.{common_steps}
 use Rattle.ts_base.specs.Lexemes.{IsLexeme}
-use Rattle.ts_base.specs.Vectors.{content_size}
+use Rattle.ts_base.specs.Vectors.{IsNormal, content_size}
+use Rattle.ts_vector.proofs.FullLists.{kept}
 use Rattle.ts_vector.specs.Pairs.{pairs_of}
 use Rattle.ts_vector.specs.Inner.Columns.{entry}
 use Rattle.ts_vector.specs.Inner.Gathered.{IsHeld, Puts, AreBehind}
@@ -78,3 +79,12 @@ returns c =
     subst (λ w. Puts w (entry c.args.lexeme.now ps) (pairs_of new)) c.self.view_is
     (subst (λ l. Puts (pairs_of es) (entry l ps) (pairs_of new)) ke
     (puts es new k ps before held v is c.self.invariant.0 at settles fewer))
+
+pub returns-then-is_full : goal.returns-then-is_full
+returns-then-is_full c =
+    let v = c.args.self.now in
+    let ps = c.args.positions.now in
+    let before = c.held-held.result.0.now in
+    let held = c.held-held.result.1 in
+    let at : IsHeld v c.args.lexeme.now before held = subst (λ l. IsHeld v l before held) c.in_ok-lexeme.ensures c.held-held.ensures in
+    kept v c.args.lexeme.now before ps held (subst IsNormal c.self.view_is c.self.invariant.0) at (c.is_full.ensures (let yes = c.if-is_full.true in cc))

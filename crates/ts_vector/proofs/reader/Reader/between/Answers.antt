@@ -1,18 +1,17 @@
-use Rattle.std.proofs.Common.{◌≢◌, rules, arith, ap, ◌∙◌, inl, inr}
+use Rattle.std.proofs.Common.{◌≢◌, rules, arith, ◌∙◌, inl, inr}
 use Rattle.ts_base.specs.Plain.{IsPlain}
 use Rattle.ts_base.specs.Bytes.{IsWhite}
-use Rattle.ts_vector.specs.Inner.Drafts.{drafts_written}
 use Rattle.ts_vector.proofs.Reading.{opens_quote, opens_escape, opens_plain, skips_white}
 use Rattle.ts_vector.proofs.reader.Reader.between.Goals as goal
 use Rattle.ts_vector.specs.Text.{EndsItem}
 
 pub returns-in-39 : goal.returns-in-39
 returns-in-39 c =
-    opens_quote _ _ _ _ _ _ _ _ _ _ _ _ _ _ (ap drafts_written c.begin.ensures.items) c.begin.ensures.start c.requires c.in-39.is c.begin.ensures.state c.begin.ensures.word
+    opens_quote _ _ _ _ _ _ _ _ _ _ _ _ _ _ c.begin.ensures.items c.begin.ensures.start c.requires c.in-39.is c.begin.ensures.state c.begin.ensures.word
 
 pub returns-in-92 : goal.returns-in-92
 returns-in-92 c =
-    opens_escape _ _ _ _ _ _ _ _ _ _ _ _ _ _ (ap drafts_written c.begin-in-92.ensures.items) c.begin-in-92.ensures.start c.requires c.in-92.is
+    opens_escape _ _ _ _ _ _ _ _ _ _ _ _ _ _ c.begin-in-92.ensures.items c.begin-in-92.ensures.start c.requires c.in-92.is
     c.begin-in-92.ensures.state c.begin-in-92.ensures.word
 
 pub returns-else-not-is_white : goal.returns-else-not-is_white
@@ -25,5 +24,5 @@ returns-in_ok-put-in_default c =
     let n : c.args.byte ≢ 39 = omega arith in
     let b = c.begin-then-not-is_white in
     let p = c.in_ok-put-in_default in
-    opens_plain _ _ _ _ _ _ _ _ _ _ _ _ _ _ _ (ap drafts_written (p.ensures.items ∙ b.ensures.items)) (p.ensures.start ∙ b.ensures.start) c.requires k n
+    opens_plain _ _ _ _ _ _ _ _ _ _ _ _ _ _ _ (p.ensures.items ∙ b.ensures.items) (p.ensures.start ∙ b.ensures.start) c.requires k n
     b.ensures.word p.ensures.state p.ensures.word

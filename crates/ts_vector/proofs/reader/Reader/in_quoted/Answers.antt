@@ -1,5 +1,4 @@
-use Rattle.std.proofs.Common.{◌≢◌, arith, ap}
-use Rattle.ts_vector.specs.Inner.Drafts.{drafts_written}
+use Rattle.std.proofs.Common.{◌≢◌, arith}
 use Rattle.ts_vector.proofs.Reading.{quote_within, escape_within, byte_within}
 use Rattle.ts_vector.proofs.reader.Reader.in_quoted.Goals as goal
 
@@ -13,5 +12,5 @@ pub returns-in_ok-put-in_default : goal.returns-in_ok-put-in_default
 returns-in_ok-put-in_default c =
     let m : c.args.byte ≢ 39 = omega arith in
     let n : c.args.byte ≢ 92 = omega arith in
-    byte_within _ _ _ _ _ _ _ _ _ _ _ _ _ _ (ap drafts_written c.in_ok-put-in_default.ensures.items) c.in_ok-put-in_default.ensures.start c.requires m n
+    byte_within _ _ _ _ _ _ _ _ _ _ _ _ _ _ c.in_ok-put-in_default.ensures.items c.in_ok-put-in_default.ensures.start c.requires m n
     c.in_ok-put-in_default.ensures.state c.in_ok-put-in_default.ensures.word
