@@ -60,10 +60,14 @@ no_text text true h e = absurd (h (IsUtf8-from_is_utf8 text e))
 no_text text false h e = refl
 
 -- what reading a text as UTF-8 tells
-pub lexeme_tested : {T E : Type 0} (P : T → Type 0) (Q : E → Type 0) (text : List ℕ) (r : Result T E) (passes : Bool) → 1 ≤ length text → length text ≤ 2046
-    → MatchResult r (λ s. P s × IsUtf8 text) (λ e. (IsUtf8 text → ⊥) × Q e) → passes ≡ is_ok r → passes ≡ is_key_text text
-lexeme_tested P Q text (Ok s) passes some most h is = is ∙ sym (rw (le-leb 1 (length text) some, le-leb (length text) 2046 most) (is_utf8-from_IsUtf8 text h.1))
-lexeme_tested P Q text (Err e) passes some most h is = is ∙ sym (rw (le-leb 1 (length text) some, le-leb (length text) 2046 most) (no_text text (is_utf8 text) h.0 refl))
+pub text_tested : {T E : Type 0} (P : T → Type 0) (Q : E → Type 0) (text : List ℕ) (r : Result T E) (passes : Bool)
+    → MatchResult r (λ s. P s × IsUtf8 text) (λ e. (IsUtf8 text → ⊥) × Q e) → passes ≡ is_ok r → passes ≡ is_utf8 text
+text_tested P Q text (Ok s) passes h is = is ∙ sym (is_utf8-from_IsUtf8 text h.1)
+text_tested P Q text (Err e) passes h is = is ∙ sym (no_text text (is_utf8 text) h.0 refl)
+
+-- what the test for UTF-8 tells of a text of a lexeme's length
+pub lexeme_tested : (text : List ℕ) (passes : Bool) → 1 ≤ length text → length text ≤ 2046 → passes ≡ is_utf8 text → passes ≡ is_key_text text
+lexeme_tested text passes some most is = rw (le-leb 1 (length text) some, le-leb (length text) 2046 most) is
 
 less_by : (o : Ordering) → is_lt o ≡ true → o ≡ Less
 less_by Less e = refl

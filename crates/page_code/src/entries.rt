@@ -72,11 +72,15 @@ fn read_entry<'a>(last: &[u8], bytes: &'a [u8]) -> Result<(EntryRef<'a>, &'a [u8
     Ok((EntryRef { key, postings }, rest))
 }
 
-/// So many entries.
+/// The least bytes of an entry: a key of one byte behind its length, and an empty list behind a byte and its length.
+const LEAST_ENTRY_BYTES: usize = 6;
+
+/// So many entries. Room is taken for as many as the bytes can have.
 fn read_entries(alloc: Global, count: u16, bytes: &[u8]) -> Result<(Entries, &[u8]), ReadError>
     ensures { Gives (λ x. (x.0, x.1.now)) result (entries_at count bytes.now) }
 {
-    let mut entries = Entries::new(alloc);
+    let most = usize::from(count).min(bytes.len() / LEAST_ENTRY_BYTES);
+    let mut entries = Entries::with_room(alloc, most, bytes.len())?;
     let mut last: &[u8] = &[];
     let mut rest = bytes;
     for _ in 0..count {

@@ -1,5 +1,6 @@
 // Fields that stand on pages, read from the front of the bytes.
-ghost use Rattle.std.specs.Prelude.{◌≡◌};
+ghost use Rattle.std.specs.Prelude.{◌≡◌, IsTrue};
+ghost use Rattle.std.specs.Str.{IsAscii, is_utf8};
 ghost use Rattle.page_types.specs.Fields.{Gives};
 ghost use Rattle.page_code.specs.Fields.{below_at, are_zeros, zeros_at, is_key_text, is_key, is_above, sized_at, key_at, bound_at};
 
@@ -19,11 +20,15 @@ pub fn read_below(limit: u32, bytes: &[u8]) -> Result<(u32, &[u8]), ReadError>
     }
 }
 
-/// Whether all of them are 0.
+/// Whether all of them are 0. All are looked at, since many can be at once.
 fn all_zeros(bytes: &[u8]) -> bool
     ensures { result ≡ are_zeros bytes.now }
 {
-    bytes.iter().all(|byte| *byte == 0)
+    let mut most = 0;
+    for byte in bytes {
+        most = most.max(*byte);
+    }
+    most == 0
 }
 
 /// So many zero bytes; what stands behind them is read.
@@ -39,11 +44,28 @@ pub fn skip_zeros(size: usize, bytes: &[u8]) -> Result<&[u8], ReadError>
     }
 }
 
+/// Whether all of them are below 128.
+fn is_ascii(bytes: &[u8]) -> bool
+    ensures { IsTrue result → IsAscii bytes.now }
+{
+    bytes.iter().all(|byte| *byte < 128)
+}
+
+/// Whether this is a text in UTF-8, which most often is in ASCII.
+fn is_text(bytes: &[u8]) -> bool
+    ensures { result ≡ is_utf8 bytes.now }
+{
+    if is_ascii(bytes) {
+        return true;
+    }
+    str::from_utf8(bytes).is_ok()
+}
+
 /// Whether this is a lexeme.
 fn is_lexeme(text: &[u8]) -> bool
     ensures { result ≡ is_key_text text.now }
 {
-    !text.is_empty() && text.len() <= MOST_KEY_TEXT && str::from_utf8(text).is_ok()
+    !text.is_empty() && text.len() <= MOST_KEY_TEXT && is_text(text)
 }
 
 /// Whether this is a key.
@@ -58,6 +80,7 @@ fn is_whole_key(bytes: &[u8]) -> bool
 }
 
 /// Whether the key stands above the last.
+#[inline(always)]
 fn is_above_last(last: &[u8], key: &[u8]) -> bool
     ensures { result ≡ is_above last.now key.now }
 {

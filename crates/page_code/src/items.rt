@@ -63,12 +63,28 @@ fn number_in(bytes: &[u8], most: u32) -> Option<(Option<u64>, &[u8])>
     }
 }
 
+/// The varbyte that the bytes begin with, of at most five bytes, and the bytes behind it. Most often it
+/// has one or two.
+fn first_number(bytes: &[u8]) -> Option<(Option<u64>, &[u8])>
+    ensures value { option_map (λ x. (x.0, x.1.now)) result ≡ number_within 5 bytes.now }
+    ensures bound { IfSome result (λ x. IfSome x.0 (λ n. n < 128 ^ 5)) }
+{
+    match bytes {
+        [low, rest @ ..] if *low < 128 => Some((Some(u64::from(*low)), rest)),
+        [low, high, rest @ ..] if *low >= 128 && *high < 128 => {
+            let low = u64::from(*low - 128);
+            Some((raise(low, Some(u64::from(*high)), 1), rest))
+        }
+        _ => number_in(bytes, 5),
+    }
+}
+
 /// The next item behind the last.
 #[tactic(auto, unfolding(crate::specs::Items::item_at))]
 fn read_item(last: u32, bytes: &[u8]) -> Result<(u32, &[u8]), ReadError>
     ensures { Gives (λ x. (x.0, x.1.now)) result (item_at last bytes.now) }
 {
-    match number_in(bytes, 5) {
+    match first_number(bytes) {
         None => Err(ReadError::Fault(0)),
         Some((None, _)) => Err(ReadError::Fault(bytes.len())),
         Some((Some(n), rest)) => {

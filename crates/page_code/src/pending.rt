@@ -8,11 +8,11 @@ use crate::fields::{read_below, read_key};
 use page_types::{ITEM_LIMIT, Pieces, ReadError, Rows, u16_at};
 use std::alloc::Global;
 
-/// So many keys, each above the last.
-fn read_keys(alloc: Global, count: u16, bytes: &[u8]) -> Result<(Pieces, &[u8]), ReadError>
-    ensures { Gives (λ x. (x.0, x.1.now)) result (keys_at count bytes.now) }
+/// So many keys in place of those that were there, each above the last.
+fn read_keys<'a>(keys: &mut Pieces, count: u16, bytes: &'a [u8]) -> Result<&'a [u8], ReadError>
+    ensures { Gives (λ rest. (keys.new, rest.now)) result (keys_at count bytes.now) }
 {
-    let mut keys = Pieces::new(alloc);
+    keys.truncate(0);
     let mut last: &[u8] = &[];
     let mut rest = bytes;
     for _ in 0..count {
@@ -21,7 +21,7 @@ fn read_keys(alloc: Global, count: u16, bytes: &[u8]) -> Result<(Pieces, &[u8]),
         last = key;
         rest = behind;
     }
-    Ok((keys, rest))
+    Ok(rest)
 }
 
 /// How many keys a row has, at least one.
@@ -37,16 +37,16 @@ fn read_some(bytes: &[u8]) -> Result<(u16, &[u8]), ReadError>
     }
 }
 
-/// An item and its keys.
+/// An item and its keys, which stand in place of those that were there.
 #[tactic(auto, unfolding(crate::specs::Bodies::row_at))]
-fn read_row(alloc: Global, bytes: &[u8]) -> Result<((u32, Pieces), &[u8]), ReadError>
-    ensures { Gives (λ x. (record { item = x.0.0; keys = x.0.1 }, x.1.now)) result
+fn read_row<'a>(keys: &mut Pieces, bytes: &'a [u8]) -> Result<(u32, &'a [u8]), ReadError>
+    ensures { Gives (λ x. (record { item = x.0; keys = keys.new }, x.1.now)) result
         (row_at bytes.now) }
 {
     let (item, rest) = read_below(ITEM_LIMIT, bytes)?;
     let (count, rest) = read_some(rest)?;
-    let (keys, rest) = read_keys(alloc, count, rest)?;
-    Ok(((item, keys), rest))
+    let rest = read_keys(keys, count, rest)?;
+    Ok((item, rest))
 }
 
 /// So many rows.
@@ -54,9 +54,10 @@ pub fn read_rows(alloc: Global, count: u16, bytes: &[u8]) -> Result<(Rows, &[u8]
     ensures { Gives (λ x. (x.0, x.1.now)) result (rows_at count bytes.now) }
 {
     let mut rows = Rows::new(alloc);
+    let mut keys = Pieces::new(alloc);
     let mut rest = bytes;
     for _ in 0..count {
-        let ((item, keys), behind) = read_row(alloc, rest)?;
+        let (item, behind) = read_row(&mut keys, rest)?;
         rows.push(item, &keys)?;
         rest = behind;
     }

@@ -1,9 +1,13 @@
 -- Values that are joined of two lists of one length: how many, each of them, and one more.
-use Rattle.std.proofs.Common.{◌≡◌, ℕ, zero, suc, ◌<◌, ◌≤◌, List, [], ◌∷◌, ◌++◌, length, set, get_or, Option, Some, None, is_some, true, false, refl, sym, ap, ◌∙◌, arith}
+use Rattle.std.proofs.Common.{◌≡◌, ℕ, zero, suc, ◌+◌, ◌-◌, ◌<◌, ◌≤◌, List, [], ◌∷◌, ◌++◌, length, drop, set, get_or, slice_range, Option, Some, None, is_some, true, false, refl, sym, ap, subst, ◌∙◌, arith}
 use Rattle.std.proofs.lemmas.Bool.{false≢true}
+use Rattle.std.proofs.lemmas.List.{length-drop, length-take-le}
+use Rattle.std.proofs.lemmas.Option.{slice_get-get_or}
 use Rattle.std.specs.Option.{IfSome, option_map}
-use Rattle.std.specs.List.{slice_get, insert, remove}
-use Rattle.page_types.specs.Inner.Joins.{joined, slot_with, child_with, postings_with, entry_with}
+use Rattle.std.specs.List.{slice_get, insert, remove, sum_by}
+use Rattle.page_types.specs.Inner.Cuts.{cut_at, start_at, EndAt}
+use Rattle.page_types.specs.Inner.Joins.{joined, slot_with, row_with, child_with, postings_with, entry_with}
+use Rattle.page_types.proofs.Cutting.{piece_at, start_at-later}
 use Rattle.page_types.specs.Parts.{head_with}
 use Rattle.page_types.specs.Views.{slot_at, vector_in, list_in, with_postings}
 use Rattle.page_types.specs.declared.page.Head.{Head}
@@ -91,6 +95,20 @@ within_bound [] bounds k n e lt h = absurd (omega arith)
 within_bound (p ∷ pages) [] k n e lt h = absurd (omega arith)
 within_bound (p ∷ pages) (b ∷ bounds) zero n e lt h = h
 within_bound (p ∷ pages) (b ∷ bounds) (suc k) n e lt h = within_bound pages bounds k n (omega arith) (omega arith) h
+
+-- the same of the keys of a row, which are a part of all keys
+pub within_row : (items ends : List ℕ) (all : List (List ℕ)) (k n m : ℕ) → EndAt 0 ends (length all) → length items ≡ length ends → k < length items
+    → IfSome (slice_get (joined row_with items (cut_at 0 ends all)) k) (λ r. (n ≤ length r.keys) × (m ≤ sum_by length r.keys))
+    → (n ≤ start_at 0 ends (k + 1) - start_at 0 ends k) × (m ≤ sum_by length (slice_range all (start_at 0 ends k) (start_at 0 ends (k + 1))))
+within_row items ends all k n m h same lt small =
+    let lt' : k < length ends = omega arith in
+    let next : k + 1 ≡ suc k = omega arith in
+    let later : start_at 0 ends (k + 1) ≡ get_or ends k 0 = ap (start_at 0 ends) next ∙ start_at-later 0 ends k lt' in
+    let piece = piece_at ends all k (start_at 0 ends k) (get_or ends k 0) h lt' refl refl in
+    let is = joined-get row_with items (cut_at 0 ends all) k (get_or items k 0) _ (slice_get-get_or items k 0 lt) piece.2 in
+    let fits = rw is at small in
+    let size = length-take-le (get_or ends k 0 - start_at 0 ends k) (drop (start_at 0 ends k) all) (omega (arith, length-drop (start_at 0 ends k) all, piece.0, piece.1)) in
+    (omega (arith, fits.0, size, later), subst (λ t. m ≤ sum_by length (slice_range all (start_at 0 ends k) t)) (sym later) fits.1)
 
 -- the same of the vector in a slot
 pub within_vector : (fields : List (Option HeadFields)) (vectors : List (List ℕ)) (k n : ℕ) → length fields ≡ length vectors → k < length fields → n ≤ length (vector_in (slot_at (joined slot_with fields vectors) k)) → n ≤ length (get_or vectors k [])

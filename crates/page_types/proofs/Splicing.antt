@@ -4,7 +4,7 @@ use Rattle.std.proofs.lemmas.List.{set_split, drop_at, take_all, drop-append-le,
 use Rattle.std.proofs.lemmas.List.Sums.{sum_by-cons}
 use Rattle.std.specs.List.{splice, insert, remove, slice_range, sum_by}
 use Rattle.page_types.specs.Inner.Cuts.{cut_at, EndAt, start_at, moved, ends_with, Cuts}
-use Rattle.page_types.proofs.Cutting.{begins, cut_at-front, EndAt-front, start_at-least}
+use Rattle.page_types.proofs.Cutting.{length-cut_at, start_at-end, begins, cut_at-front, EndAt-front, start_at-least}
 
 -- the ends of lists behind a list that ends as given
 pub cut_at-append : {A : Type 0} (from : ℕ) (es fs : List ℕ) (last : ℕ) (xs : List A) → EndAt from es last → cut_at from (es ++ fs) xs ≡ cut_at from es xs ++ cut_at last fs xs
@@ -169,6 +169,13 @@ lists_total {A} ends xs k m h le small =
     ap (λ (l : List (List A)). sum_by length (take (m - k) l) + start_at 0 ends k) (cut_at-behind 0 ends xs k (omega arith))
     ∙ front_total (start_at 0 ends k) (drop k ends) xs (m - k) (EndAt-behind 0 ends (length xs) k h (omega arith)) (omega (arith, length-drop k ends))
     ∙ start_sum 0 ends k (m - k) (omega arith) ∙ ap (start_at 0 ends) there
+
+-- how long all lists are together
+pub all_total : {A : Type 0} (ends : List ℕ) (xs : List A) → EndAt 0 ends (length xs) → sum_by length (cut_at 0 ends xs) ≡ length xs
+all_total {A} ends xs h =
+    let all : take (length ends) (cut_at 0 ends xs) ≡ cut_at 0 ends xs = take_all (length ends) (cut_at 0 ends xs) (omega (arith, length-cut_at 0 ends xs)) in
+    let none : sum_by length (take (length ends) (cut_at 0 ends xs)) ≡ sum_by length (take (length ends) (cut_at 0 ends xs)) + 0 = omega arith in
+    ap (λ (l : List (List A)). sum_by length l) (sym all) ∙ none ∙ front_total 0 ends xs (length ends) h (omega arith) ∙ start_at-end 0 ends (length xs) h
 
 -- one list in place of one
 pub one_set : {A : Type 0} (xs : List (List A)) (p : List A) (k : ℕ) → k < length xs → splice xs k (k + 1) (cut_at 0 (length p ∷ []) p) ≡ set xs k p

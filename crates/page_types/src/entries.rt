@@ -1,5 +1,5 @@
 // The entries of a leaf of the entry tree.
-ghost use Rattle.std.specs.Prelude.{◌≡◌, ◌<◌, ◌≤◌, [], ◌∷◌, ◌++◌, length, IsOk, OnOk, OnErr, IfSome, IfNone, Some};
+ghost use Rattle.std.specs.Prelude.{◌≡◌, ◌<◌, ◌≤◌, [], ◌∷◌, ◌++◌, length, IsOk, IfOk, OnOk, OnErr, IfSome, IfNone, Some};
 ghost use Rattle.std.specs.List.{slice_get, insert, remove};
 ghost use Rattle.page_types.specs.Inner.Joins.{postings_with};
 ghost use Rattle.page_types.specs.Parts.{postings_shown};
@@ -73,6 +73,16 @@ impl Entries {
             roots: Vec::new(alloc),
             lists: Pieces::new(alloc),
         }
+    }
+
+    /// No entries, with room for so many whose keys have so many bytes together, and their lists too.
+    pub fn with_room(alloc: Global, count: usize, size: usize) -> Result<Entries, AllocError>
+        ensures { IfOk result (λ entries. entries ≡ []) }
+    {
+        let keys = Pieces::with_room(alloc, count, size)?;
+        let roots = Vec::with_capacity(alloc, count)?;
+        let lists = Pieces::with_room(alloc, count, size)?;
+        Ok(Entries { keys, roots, lists })
     }
 
     /// How many entries there are.

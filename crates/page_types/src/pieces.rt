@@ -1,5 +1,5 @@
 // Byte strings that lie one behind the other in one buffer.
-ghost use Rattle.std.specs.Prelude.{◌≡◌, ◌-◌, ◌<◌, ◌≤◌, [], ◌∷◌, ◌++◌, ◌+◌, length, take, drop, slice_range, slice_set, slice_index_or, OnOk, OnErr, IsOk, IfSome, IfNone, Some};
+ghost use Rattle.std.specs.Prelude.{◌≡◌, ◌-◌, ◌<◌, ◌≤◌, [], ◌∷◌, ◌++◌, ◌+◌, length, take, drop, slice_range, slice_set, slice_index_or, OnOk, OnErr, IsOk, IfOk, IfSome, IfNone, Some};
 ghost use Rattle.std.specs.List.{slice_get, splice, insert, remove, sum_by};
 ghost use Rattle.page_types.specs.Inner.Cuts.{cut_at, EndAt};
 
@@ -37,6 +37,15 @@ impl Pieces {
             bytes: Vec::new(alloc),
             ends: Vec::new(alloc),
         }
+    }
+
+    /// No strings, with room for so many of so many bytes together.
+    pub fn with_room(alloc: Global, count: usize, size: usize) -> Result<Pieces, AllocError>
+        ensures { IfOk result (λ pieces. pieces ≡ []) }
+    {
+        let bytes = Vec::with_capacity(alloc, size)?;
+        let ends = Vec::with_capacity(alloc, count)?;
+        Ok(Pieces { bytes, ends })
     }
 
     /// How many strings there are.
@@ -91,30 +100,13 @@ impl Pieces {
         }
     }
 
-    // The strings of another list, behind the others, as many as there is memory for.
-    fn push_all(&mut self, more: &Pieces) -> Result<(), AllocError>
-        ensures ok { OnOk result (self.new ≡ self.old ++ more.now) }
-        ensures front { take (length self.old) self.new ≡ self.old }
-    {
-        for i in 0..more.len() {
-            self.push(more.at(i))?;
-        }
-        Ok(())
-    }
-
     /// The strings of another list, behind the others. Without memory they stay as they are.
     pub fn append(&mut self, more: &Pieces) -> Result<(), AllocError>
         ensures ok { OnOk result (self.new ≡ self.old ++ more.now) }
         ensures err { OnErr result (self.new ≡ self.old) }
     {
         let n = self.len();
-        match self.push_all(more) {
-            Ok(()) => Ok(()),
-            Err(e) => {
-                self.truncate(n);
-                Err(e)
-            }
-        }
+        self.splice(n, n, more)
     }
 
     // Strings that lie in other bytes stand in place of so many from one number on.
@@ -169,13 +161,15 @@ impl Pieces {
         self.replace(k, 1, &[], &[]).unwrap();
     }
 
-    /// The strings of another list in place of those from one number up to another. Without memory they stay as they are; none takes none.
+    /// The strings of another list in place of those from one number up to another. Without memory they stay as they are; as many or fewer that are not longer take none.
     pub fn splice(&mut self, from: usize, to: usize, with: &Pieces) -> Result<(), AllocError>
         requires in_order { from ≤ to }
         requires within { to ≤ length self.old }
         ensures ok { OnOk result (self.new ≡ splice self.old from to with.now) }
         ensures err { OnErr result (self.new ≡ self.old) }
         ensures none { with.now ≡ [] → IsOk result }
+        ensures short { length with.now ≤ to - from → sum_by length with.now
+            ≤ sum_by length (slice_range self.old from to) → IsOk result }
     {
         self.replace(from, to - from, &with.bytes, &with.ends)
     }

@@ -1,7 +1,7 @@
 // The rows of a pending page.
-ghost use Rattle.std.specs.Prelude.{◌≡◌, ◌+◌, ◌<◌, ◌≤◌, [], ◌∷◌, ◌++◌, length, slice_set, IsOk, OnOk, OnErr, IfSome, IfNone, Some};
-ghost use Rattle.std.specs.List.{slice_get, splice, insert, remove};
-ghost use Rattle.page_types.specs.Inner.Cuts.{cut_at, EndAt, Cuts};
+ghost use Rattle.std.specs.Prelude.{◌≡◌, ◌+◌, ◌-◌, ◌<◌, ◌≤◌, [], ◌∷◌, ◌++◌, length, slice_range, slice_set, IsOk, OnOk, OnErr, IfSome, IfNone, Some};
+ghost use Rattle.std.specs.List.{slice_get, splice, insert, remove, sum_by};
+ghost use Rattle.page_types.specs.Inner.Cuts.{cut_at, start_at, EndAt, Cuts};
 
 use crate::ends::{replace_ends, start_of};
 use crate::pieces::{Pieces, PiecesRef};
@@ -56,6 +56,11 @@ fn replace_keys(
         (splice (cut_at 0 ends.old.items all.old) k (k + count) (cut_at 0 new.now keys.now))) }
     ensures err { OnErr result ((ends.new.items ≡ ends.old.items) × (all.new ≡ all.old)) }
     ensures none { keys.now ≡ [] → length new.now ≤ count → IsOk result }
+    ensures short { length new.now ≤ count
+        → length keys.now ≤ start_at 0 ends.old.items (k + count) - start_at 0 ends.old.items k
+        → sum_by length keys.now ≤ sum_by length (slice_range all.old
+        (start_at 0 ends.old.items k) (start_at 0 ends.old.items (k + count)))
+        → IsOk result }
 {
     let start = start_of(ends, k);
     let to = k + count;
@@ -119,12 +124,14 @@ impl Rows {
         Ok(())
     }
 
-    /// Another row at a place. Without memory all stay as they are.
+    /// Another row at a place. Without memory all stay as they are; as many keys or fewer that are not longer take none.
     pub fn set(&mut self, k: usize, item: u32, keys: &Pieces) -> Result<(), AllocError>
         requires { k < length self.old }
         ensures ok { OnOk result (self.new
             ≡ slice_set self.old k (record { item = item; keys = keys.now })) }
         ensures err { OnErr result (self.new ≡ self.old) }
+        ensures short { IfSome (slice_get self.old k) (λ row. (length keys.now ≤ length row.keys)
+            × (sum_by length keys.now ≤ sum_by length row.keys)) → IsOk result }
     {
         replace_keys(&mut self.ends, &mut self.keys, k, 1, keys, &[keys.len()])?;
         self.items[k] = item;

@@ -72,7 +72,7 @@ pub const PAGES: [(&str, &str, &str); 14] = [
 
 /// A page with other bytes from a place on: its name, the place, the bytes, what they make of it, and where it is
 /// refused, if it is.
-pub const EDITS: [(&str, usize, &str, &str, Option<usize>); 73] = [
+pub const EDITS: [(&str, usize, &str, &str, Option<usize>); 78] = [
     ("free", 100, "01", "a byte that is not 0", Some(24)),
     ("free", 8, "01", "a stamp", Some(8)),
     ("meta", 0, "0a", "kind 10", Some(0)),
@@ -326,4 +326,39 @@ pub const EDITS: [(&str, usize, &str, &str, Option<usize>); 73] = [
     ),
     ("pending", 2, "03", "one row more", Some(52)),
     ("pending", 2, "01", "one row fewer", Some(43)),
+    (
+        "deleted-pending",
+        24,
+        "00000080",
+        "item 2,147,483,648",
+        Some(24),
+    ),
+    (
+        "deleted-pending",
+        28,
+        "0000",
+        "a row without keys",
+        Some(28),
+    ),
+    (
+        "deleted-pending",
+        32,
+        "02",
+        "a key that begins with 2",
+        Some(30),
+    ),
+    (
+        "deleted-post-leaf",
+        2,
+        "01",
+        "one item more than the list has",
+        Some(28),
+    ),
+    (
+        "deleted-overflow",
+        27,
+        "01",
+        "a byte behind the body",
+        Some(27),
+    ),
 ];

@@ -7,7 +7,7 @@ use page_types::{
     PostingsRef, Rows, Slots, apply,
 };
 use std::alloc::{AllocError, Global};
-use std::fmt::Write;
+use std::fmt::{self, Write};
 use std::test::Fail;
 
 /// A page with right link 4, stamp 14 and the six bytes of a body.
@@ -122,7 +122,7 @@ fn an_image_is_all_bytes(rt: HostRuntime) -> Result<(), Fail> {
 }
 
 /// A head with this serial and this vector.
-fn head(serial: u64, vector: &[u8]) -> HeadRef<'_> {
+pub(crate) fn head(serial: u64, vector: &[u8]) -> HeadRef<'_> {
     let fields = HeadFields {
         serial,
         inserted_by: 2,
@@ -135,7 +135,7 @@ fn head(serial: u64, vector: &[u8]) -> HeadRef<'_> {
 }
 
 /// The serials and vectors of the slots.
-fn told_slots(alloc: Global, slots: &Slots) -> Result<String, Fail> {
+pub(crate) fn told_slots(alloc: Global, slots: &Slots) -> Result<String, fmt::Error> {
     let mut text = String::new(alloc);
     for k in 0..slots.len() {
         match slots.get(k) {
@@ -151,7 +151,7 @@ fn told_slots(alloc: Global, slots: &Slots) -> Result<String, Fail> {
 }
 
 /// The items and keys of the rows.
-fn told_rows(alloc: Global, rows: &Rows) -> Result<String, Fail> {
+pub(crate) fn told_rows(alloc: Global, rows: &Rows) -> Result<String, fmt::Error> {
     let mut text = String::new(alloc);
     for k in 0..rows.len() {
         if let Some(row) = rows.get(k) {
@@ -167,7 +167,7 @@ fn told_rows(alloc: Global, rows: &Rows) -> Result<String, Fail> {
 }
 
 /// The keys of the entries, and what they lead to.
-fn told_entries(alloc: Global, entries: &Entries) -> Result<String, Fail> {
+pub(crate) fn told_entries(alloc: Global, entries: &Entries) -> Result<String, fmt::Error> {
     let mut text = String::new(alloc);
     for k in 0..entries.len() {
         if let Some(entry) = entries.get(k) {
@@ -182,7 +182,7 @@ fn told_entries(alloc: Global, entries: &Entries) -> Result<String, Fail> {
 }
 
 /// The pages and bounds of the children.
-fn told_children(alloc: Global, children: &EntryChildren) -> Result<String, Fail> {
+pub(crate) fn told_children(alloc: Global, children: &EntryChildren) -> Result<String, fmt::Error> {
     let mut text = String::new(alloc);
     for k in 0..children.len() {
         if let Some(child) = children.get(k) {

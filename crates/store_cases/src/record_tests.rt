@@ -4,7 +4,7 @@ ghost use Rattle.std.specs.Prelude.{◌≡◌};
 use crate::record_rows::{FAULTS, KINDS, LOGS};
 use page_types::{Edit, Record};
 use record_code::{RecordError, decode_record, encode_record};
-use std::alloc::Global;
+use std::alloc::{AllocError, Global};
 use std::fmt::Write;
 use std::test::Fail;
 
@@ -18,9 +18,9 @@ fn digit(byte: u8) -> u8 {
 }
 
 /// Appends the bytes that a word stands for: two digits a byte, or a byte and how many times it stands there.
-fn put_word(out: &mut Vec<u8>, word: &str) -> Result<(), Fail> {
+fn put_word(out: &mut Vec<u8>, word: &str) -> Result<(), AllocError> {
     let (digits, times) = word.split_once('*').unwrap_or((word, "1"));
-    let times = times.parse::<usize>().ok().ok_or("no number")?;
+    let times = times.parse::<usize>().unwrap_or(0);
     let mut high = None;
     for byte in digits.bytes() {
         let low = digit(byte);
@@ -36,7 +36,7 @@ fn put_word(out: &mut Vec<u8>, word: &str) -> Result<(), Fail> {
 }
 
 /// The bytes that words stand for.
-fn bytes_of(alloc: Global, words: &str) -> Result<Vec<u8>, Fail> {
+pub(crate) fn bytes_of(alloc: Global, words: &str) -> Result<Vec<u8>, AllocError> {
     let mut out = Vec::new(alloc);
     for word in words.split(' ') {
         put_word(&mut out, word)?;

@@ -4,7 +4,7 @@ ghost use Rattle.std.specs.Prelude.{◌≡◌};
 use crate::page_rows::{EDITS, PAGES};
 use page_code::{PageError, decode_page, encode_page};
 use page_types::PAGE_BYTES;
-use std::alloc::Global;
+use std::alloc::{AllocError, Global};
 use std::test::Fail;
 
 /// The number that a digit of hexadecimal stands for.
@@ -17,7 +17,7 @@ fn digit(byte: u8) -> u8 {
 }
 
 /// The bytes that digits stand for, two a byte.
-fn bytes_of(alloc: Global, digits: &str) -> Result<Vec<u8>, Fail> {
+fn bytes_of(alloc: Global, digits: &str) -> Result<Vec<u8>, AllocError> {
     let mut out = Vec::new(alloc);
     let mut high = None;
     for byte in digits.bytes() {
@@ -31,7 +31,7 @@ fn bytes_of(alloc: Global, digits: &str) -> Result<Vec<u8>, Fail> {
 }
 
 /// A whole page with these bytes first, which zeros follow.
-fn page_with(alloc: Global, digits: &str) -> Result<Vec<u8>, Fail> {
+pub(crate) fn page_with(alloc: Global, digits: &str) -> Result<Vec<u8>, AllocError> {
     let mut bytes = bytes_of(alloc, digits)?;
     bytes.resize(PAGE_BYTES, 0)?;
     Ok(bytes)
@@ -41,7 +41,7 @@ fn page_with(alloc: Global, digits: &str) -> Result<Vec<u8>, Fail> {
 fn page_named(alloc: Global, name: &str) -> Result<Vec<u8>, Fail> {
     for (other, _, digits) in &PAGES {
         if *other == name {
-            return page_with(alloc, digits);
+            return Ok(page_with(alloc, digits)?);
         }
     }
     Err("no such page".into())

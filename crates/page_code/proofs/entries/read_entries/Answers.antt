@@ -7,7 +7,7 @@ use Rattle.page_code.proofs.entries.read_entries.Goals as goal
 
 pub returns-in_err-entry : goal.returns-in_err-entry
 returns-in_err-entry c =
-    let p = err_from_is_err_and c.from_residual.result c.from_residual.ensures.1 in
+    let p = err_from_is_err_and c.from_residual-in_err-entry.result c.from_residual-in_err-entry.ensures.1 in
     rw (p.1, p.2) (ends (λ last _ rest. entry_at last rest) (λ e. e.key) c.in_err-entry.field-0.0 c.loop.last.now c.args.count c.loop.counter c.loop.entries c.loop.rest.now (entries_at c.args.count c.args.bytes.now) c.loop-test.true c.in_err-entry.ensures c.loop.invariant)
 
 pub loop-preserved : goal.loop-preserved

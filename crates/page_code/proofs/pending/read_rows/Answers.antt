@@ -11,7 +11,7 @@ returns-in_err-item c =
 
 pub loop-preserved : goal.loop-preserved
 loop-preserved c =
-    rw c.in_ok-push.ensures.ok (goes_on (λ (_ : ℕ) _ rest. row_at rest) (λ _. 0) 0 0 c.args.count c.loop.counter c.loop.rows c.loop.rest.now (record { item = c.in_ok-item.item; keys = c.in_ok-item.keys }) c.in_ok-item.behind.now (rows_at c.args.count c.args.bytes.now) c.loop-test.true c.in_ok-item.ensures refl c.loop.invariant)
+    rw c.in_ok-push.ensures.ok (goes_on (λ (_ : ℕ) _ rest. row_at rest) (λ _. 0) 0 0 c.args.count c.loop.counter c.loop.rows c.loop.rest.now (record { item = c.in_ok-item.item; keys = c.read_row.new.keys }) c.in_ok-item.behind.now (rows_at c.args.count c.args.bytes.now) c.loop-test.true c.in_ok-item.ensures refl c.loop.invariant)
 
 pub returns : goal.returns
 returns c = is_done (λ (_ : ℕ) _ rest. row_at rest) (λ _. 0) 0 c.args.count c.loop.counter c.loop.rows c.loop.rest.now (rows_at c.args.count c.args.bytes.now) c.loop-test.false c.loop.invariant

@@ -19,6 +19,13 @@ splice-requires-clause-within c =
     let places = are_places c.args.ends.now.items c.args.all.now c.args.k (c.args.k + c.args.count) c.start_of-start.result c.start_of-end.result c.requires.at (omega arith) within start end in
     places.within
 
+pub returns-in_err-splice-clause-short : goal.returns-in_err-splice-clause-short
+returns-in_err-splice-clause-short c =
+    let within : c.args.k + c.args.count ≤ length c.args.ends.now.items = c.requires.within in
+    let start : c.start_of-start.result ≡ start_at 0 c.args.ends.now.items c.args.k = c.start_of-start.ensures ∙ ap (λ es. start_at 0 es c.args.k) c.deref.ensures.value in
+    let end : c.start_of-end.result ≡ start_at 0 c.args.ends.now.items (c.args.k + c.args.count) = c.start_of-end.ensures ∙ ap (λ es. start_at 0 es (c.args.k + c.args.count)) c.deref-2.ensures.value in
+    λ few fits small. cc (c.in_err-splice.ensures.short (rw (start, end) fits) (rw (start, end) small))
+
 pub overflow_sub-others : goal.overflow_sub-others
 overflow_sub-others c =
     let within : c.args.k + c.args.count ≤ length c.args.ends.now.items = c.requires.within in
