@@ -6,6 +6,8 @@ pub mod Newest
 pub mod Histories
 pub mod Keys
 pub mod RunningOnes
+pub mod BegunOnes
+pub mod BegunSteps
 pub mod Following
 pub mod PageUses
 pub mod StateTold
@@ -15,9 +17,9 @@ pub mod WorkedSplit
 pub mod WorkedLong
 pub mod WorkedPending
 pub mod WorkedMaintenance
+pub mod WorkedTrees
 pub mod UseSteps
 pub mod Framing
 pub mod RisingPages
-pub mod Noting
 pub mod LowestUse
 pub mod PlacedHeads

@@ -18,7 +18,7 @@ is_other a b off = grind (arith, off)
 pub same_or_other : (a b : ℕ) → (a ≡ b) ⊎ (a ≢ b)
 same_or_other a b = grind arith
 
-below_or_past : (k n : ℕ) → (k < n) ⊎ (n ≤ k)
+pub below_or_past : (k n : ℕ) → (k < n) ⊎ (n ≤ k)
 below_or_past k n = grind arith
 
 pub on_same : {A : Type 0} (a b : ℕ) (x y : A) → a ≡ b → cond (a == b) x y ≡ x
@@ -68,13 +68,13 @@ cond_both false x = refl
 some_none : {A : Type 0} (x : A) → Some x ≡ None → ⊥
 some_none x e = cc
 
-first_is : (u : Transaction) (us : List Transaction) (y : ℕ) → u.xid ≡ y → transaction y (u ∷ us) ≡ Some u
+pub first_is : (u : Transaction) (us : List Transaction) (y : ℕ) → u.xid ≡ y → transaction y (u ∷ us) ≡ Some u
 first_is u us y e = on_same u.xid y (Some u) (transaction y us) e
 
-first_isnt : (u : Transaction) (us : List Transaction) (y : ℕ) → u.xid ≢ y → transaction y (u ∷ us) ≡ transaction y us
+pub first_isnt : (u : Transaction) (us : List Transaction) (y : ℕ) → u.xid ≢ y → transaction y (u ∷ us) ≡ transaction y us
 first_isnt u us y d = on_other u.xid y (Some u) (transaction y us) d
 
-none_behind : (u : Transaction) (us : List Transaction) (x : ℕ) → transaction x (u ∷ us) ≡ None → (u.xid ≢ x) × (transaction x us ≡ None)
+pub none_behind : (u : Transaction) (us : List Transaction) (x : ℕ) → transaction x (u ∷ us) ≡ None → (u.xid ≢ x) × (transaction x us ≡ None)
 none_behind u us x off = elim (same_or_other u.xid x) [
   | inl e ↦ absurd (some_none u (sym (first_is u us x e) ∙ off))
   | inr d ↦ (d, sym (first_isnt u us x d) ∙ off)
@@ -104,10 +104,10 @@ without_other u us x y off ih = elim (same_or_other u.xid y) [
   | inr d ↦ first_isnt u (without x us) y d ∙ ih ∙ sym (ap (cond (x == y) None) (first_isnt u us y d))
 ]
 
-first_goes : (u : Transaction) (us : List Transaction) (x : ℕ) → u.xid ≡ x → without x (u ∷ us) ≡ without x us
+pub first_goes : (u : Transaction) (us : List Transaction) (x : ℕ) → u.xid ≡ x → without x (u ∷ us) ≡ without x us
 first_goes u us x e = ap (λ (b : Bool). cond (not b) (u ∷ without x us) (without x us)) (is_same u.xid x e)
 
-first_stays : (u : Transaction) (us : List Transaction) (x : ℕ) → u.xid ≢ x → without x (u ∷ us) ≡ u ∷ without x us
+pub first_stays : (u : Transaction) (us : List Transaction) (x : ℕ) → u.xid ≢ x → without x (u ∷ us) ≡ u ∷ without x us
 first_stays u us x d = ap (λ (b : Bool). cond (not b) (u ∷ without x us) (without x us)) (is_other u.xid x d)
 
 -- one less

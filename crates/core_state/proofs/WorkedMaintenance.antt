@@ -1,26 +1,30 @@
 -- The rows of maintenance, at pages that the document of the first run leaves: checkpoints, trees of postings, and what is
 -- removed where its transaction was aborted.
-use Rattle.std.proofs.Common.{◌≡◌, ◌≢◌, ℕ, zero, suc, ◌<◌, ◌≤◌, List, [], ◌∷◌, length, refl, sym, ap, subst, ◌∙◌, inl, inr, arith}
+use Rattle.std.proofs.Common.{◌≡◌, ◌≢◌, ℕ, zero, suc, ◌<◌, ◌≤◌, List, [], ◌∷◌, length, get_or, refl, sym, ap, subst, ◌∙◌, inl, inr, arith}
+use Rattle.std.specs.Prelude.{Option, Some}
 use Rattle.page_types.specs.Numbers.{no_bound}
 use Rattle.page_types.specs.Keys.{Rising}
-use Rattle.page_types.specs.Views.{free_page, entries_of, list_in}
+use Rattle.page_types.specs.Views.{free_page, entries_of, list_in, slots_in, slot_at}
 use Rattle.page_types.specs.declared.page.Page.{Page}
 use Rattle.page_types.specs.declared.page.Entry as on_page
 use Rattle.page_types.specs.declared.page.PostChild.{PostChild}
 use Rattle.page_types.specs.declared.page.Postings.TheVariants.{Inline, Root}
 use Rattle.page_types.specs.declared.page.Body.{Body}
 use Rattle.page_types.specs.declared.page.Body.TheVariants as body
+use Rattle.page_types.specs.declared.page.Gone.{Gone}
 use Rattle.page_types.specs.declared.page.Gone.TheVariants as gone
+use Rattle.page_types.specs.declared.page.Head.{Head}
+use Rattle.page_types.specs.declared.page.Row.{Row}
 use Rattle.page_types.specs.declared.record.Record.{Record}
 use Rattle.page_types.specs.declared.record.Kind.TheVariants as kind
 use Rattle.ts_base.specs.Keys.{Key}
 use Rattle.core_state.specs.Log.{Log, Pages, In}
-use Rattle.core_state.specs.Documents.{IsDead}
+use Rattle.core_state.specs.Documents.{IsDead, slot_of}
 use Rattle.core_state.specs.Known.{use_in}
 use Rattle.core_state.specs.Changes.{IsNew, IsDeadHead}
 use Rattle.core_state.specs.TransactionRows.{IsCheckpoint}
 use Rattle.core_state.specs.TreeRows.{IsMakeTree, IsLeftLeaf, IsUnlinked, IsDeletePost}
-use Rattle.core_state.specs.VacuumRows.{ItemsLeave, EntryLoses, ListsLose, MayLeave, IsRemoveItems, IsDropped, IsGoneOf, IsDropPage}
+use Rattle.core_state.specs.VacuumRows.{ItemsLeave, EntryLoses, ListsLose, MayLeave, IsRemoveItems, IsDropped, IsDropPage}
 use Rattle.core_state.specs.declared.answers.PageUse.TheVariants as usage
 use Rattle.core_state.proofs.Worked as first
 use Rattle.core_state.proofs.WorkedPending as rows
@@ -270,8 +274,7 @@ drop_row floor = record {
     before_is = refl;
     dead = IsDeadHead.insert_aborted refl;
     not_none = λ e. omega (arith, e);
-    dropped = IsDropped.private refl;
-    kept = IsGoneOf.of_pending (rows.row ∷ []);
+    dropped = IsDropped.private (rows.row ∷ []) refl;
     head_after = rows.head_changes drop_record 4 3 0;
     after_is = refl;
   };
@@ -283,3 +286,45 @@ drop_row floor = record {
     };
   };
 }
+
+-- a page of another kind than its chain's is none of it: an overflow page that the head names as its
+-- first private page isn't dropped
+abbrev misled : Pages
+misled zero = first.meta_page
+misled (suc zero) = first.root_page
+misled (suc (suc zero)) = rows.heap_page 4 3
+misled (suc (suc (suc zero))) = record { right = 0; stamp = 4; body = body.Overflow (1 ∷ []) }
+misled (suc (suc (suc (suc p)))) = free_page
+
+not_pending : (ws : List Row) (bytes : List ℕ) → body.Pending ws ≡ body.Overflow bytes → ⊥
+not_pending ws bytes e = cc
+
+of_overflow : (head then : Head) (page right : ℕ) (b : Body) (content : Gone) (bytes : List ℕ)
+    → IsDropped head page right b content then → b ≡ body.Overflow bytes → head.overflow ≡ page
+of_overflow head then page right b content bytes (IsDropped.overflow part e) f = e
+of_overflow head then page right b content bytes (IsDropped.private ws e) f = absurd (not_pending ws bytes f)
+
+same_item : (a b c d : ℕ) → kind.DropPage a b ≡ kind.DropPage c d → a ≡ c
+same_item a b c d e = cc
+
+same_head : (a b : Head) → Some a ≡ Some b → a ≡ b
+same_head a b e = cc
+
+abbrev second_body : List Page → Body
+second_body (p ∷ q ∷ ps) = q.body
+second_body _ = body.Free
+
+misled_drop : (R : Log) (Q : Pages) (floor : ℕ) → IsDropPage R misled Q drop_record floor → ⊥
+misled_drop R Q floor x =
+    let h = x.here in
+    let page : 3 ≡ h.page = ap (λ (ps : List ℕ). get_or ps 1 0) h.pages in
+    let item : 4096 ≡ h.doc.item = same_item 4096 1 h.doc.item h.doc.serial h.kind_is in
+    let slots : Some (rows.head 3) ∷ [] ≡ h.head_after.slots =
+    ap first.first_slots h.before_is ∙ ap slots_in h.head_after.before in
+    let head : rows.head 3 ≡ h.head =
+    same_head (rows.head 3) h.head (ap (λ (ss : List (Option Head)). slot_at ss 0) slots
+    ∙ ap (λ i. slot_at h.head_after.slots (slot_of i)) item ∙ h.head_after.head) in
+    let none : 0 ≡ h.head.overflow = ap (λ (k : Head). k.overflow) head in
+    let named : h.head.overflow ≡ h.page =
+    of_overflow h.head h.head_then h.page h.was.right h.was.body h.content (1 ∷ []) h.dropped (sym (ap second_body h.before_is)) in
+    omega (arith, page, none, named)

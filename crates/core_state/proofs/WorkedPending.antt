@@ -115,7 +115,7 @@ abbrev pub shift_record : Record
 shift_record = record { number = 8; xid = 0; kind = kind.Shift; changes = first.image 0 (shifted 0) ∷ first.image 3 (shifted 3) ∷ [] }
 
 -- the document is whole wherever its head stands
-whole : (P : Pages) (private : ℕ) → IsWhole P (head private) first.vector
+pub whole : (P : Pages) (private : ℕ) → IsWhole P (head private) first.vector
 whole P private = record {
   bytes = first.bytes;
   there = HasBytes.short (omega arith);
@@ -260,7 +260,7 @@ pub none_is : items_of [] ≡ []
 unfolding items_of
 none_is = refl
 
-added : ItemsAdded [] (128 ∷ 32 ∷ []) (4096 ∷ [])
+pub added : ItemsAdded [] (128 ∷ 32 ∷ []) (4096 ∷ [])
 added = record {
   rises = subst (Rising (λ (i j : ℕ). i < j)) (sym list_is) (tt, tt);
   just = λ i. (λ there. inr (subst (In i) list_is there), λ either. elim either [ inl old ↦ absurd (subst (In i) none_is old) | inr new ↦ subst (In i) (sym list_is) new ]);

@@ -25,7 +25,7 @@ use Rattle.core_state.specs.declared.answers.PageUse.TheVariants as usage
 use Rattle.core_state.proofs.Worked.{meta_page, image}
 
 -- four entries of such sizes, of which the third has the longest key
-record AreLarge (a b c d : Entry) : Type 0 where
+pub record AreLarge (a b c d : Entry) : Type 0 where
   pub first : length (entry_bytes a) ≡ 61
   pub second : length (entry_bytes b) ≡ 3052
   pub third : length (entry_bytes c) ≡ 3052
@@ -34,7 +34,7 @@ record AreLarge (a b c d : Entry) : Type 0 where
   pub third_key : length c.key ≡ 2047
 
 -- the last leaf with these entries, and a first part of it
-abbrev leaf : List Entry → Body
+abbrev pub leaf : List Entry → Body
 leaf entries = body.EntryLeaf [] entries
 
 abbrev part : List Entry → Entry → Body
@@ -103,7 +103,7 @@ three_are_too_many a b c d s fits =
       s.third_key,
     )
 
-all_listed : (a b c d : Entry) → AreLarge a b c d → length (flat_map entry_bytes (a ∷ b ∷ c ∷ d ∷ [])) ≡ 8168
+pub all_listed : (a b c d : Entry) → AreLarge a b c d → length (flat_map entry_bytes (a ∷ b ∷ c ∷ d ∷ [])) ≡ 8168
 all_listed a b c d s = omega (arith, listed a (b ∷ c ∷ d ∷ []), listed b (c ∷ d ∷ []), listed c (d ∷ []), listed d [], none_listed, s.first, s.second, s.third, s.fourth)
 
 two_are_less : (a b c d : Entry) → AreLarge a b c d → KeepsHalf (leaf (a ∷ b ∷ c ∷ d ∷ [])) (part (a ∷ []) b) → ⊥
@@ -146,7 +146,7 @@ not_one a b c d s (IsSplitPlace.longest none most) =
     omega (arith, more)
 
 -- the pages before the split and behind it
-abbrev child : ℕ → Key → EntryChild
+abbrev pub child : ℕ → Key → EntryChild
 child page bound = record { page = page; bound = bound }
 
 abbrev before : List Entry → Pages

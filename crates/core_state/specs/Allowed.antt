@@ -1,4 +1,5 @@
--- What a session knows of the log, the logs that may be the store's as far as it knows, and what it may log.
+-- What a session knows of the log, the logs that may be the store's as far as it knows, and what it
+-- may log.
 use Rattle.std.specs.Prelude.{◌≡◌, ◌≢◌, ◌⊎◌, ℕ, zero, suc, ◌<◌, List, [], ◌∷◌, ◌++◌, length, map, Option, Some, None, IfSome, ⊤}
 use Rattle.page_types.specs.Keys.{Rising}
 use Rattle.page_types.specs.Pages.{IsPage}
@@ -20,9 +21,9 @@ pub record Sheet : Type 0 where
   pub page : ℕ
   pub content : Page
 
--- What a session knows: the log that it has seen; its pin, floor and since; the log's length at its last pin, and what it
--- read since; the pages that it holds; its xids, and those of them that were begun since the opening; and the log's length
--- when it got the right of maintenance, if it has it.
+-- What a session knows: the log that it has seen; its pin, floor and since; the log's length at its
+-- last pin, and what it read since; the pages that it holds; its xids, and those of them that were
+-- begun since the opening; and the log's length when it got the right of maintenance, if it has it.
 pub record View : Type 0 where
   pub seen : Log
   pub pin : Option Pin
@@ -35,8 +36,8 @@ pub record View : Type 0 where
   pub begun : List ℕ
   pub work : Option ℕ
 
--- another session may have logged the record: it isn't of an own xid, ends no own transaction that was begun since the
--- opening, and is no maintenance since the session has the right of it
+-- another session may have logged the record: it isn't of an own xid, ends no own transaction that
+-- was begun since the opening, and is no maintenance since the session has the right of it
 pub record IsOthers (v : View) (r : Record) : Type 0 where
   pub not_own : In r.xid v.xids → ⊥
   pub not_all : v.begun ≢ [] → r.kind ≡ kind.Abort → r.xid ≢ 0
@@ -52,8 +53,8 @@ abbrev pub AreHeld : Pages → List Sheet → Type 0
 AreHeld P [] = ⊤
 AreHeld P (s ∷ ss) = (P s.page ≡ s.content) × AreHeld P ss
 
--- The log may be the store's: it is legal, keeps the session's pin, goes on after what it has seen by records of others, shows
--- the pages that it holds, and has its readings.
+-- The log may be the store's: it is legal, keeps the session's pin, goes on after what it has seen
+-- by records of others, shows the pages that it holds, and has its readings.
 pub record IsAllowed (v : View) (R : Log) : Type 0 where
   pub later : Log
   pub goes_on : R ≡ later ++ v.seen
@@ -65,8 +66,8 @@ pub record IsAllowed (v : View) (R : Log) : Type 0 where
   pub held : AreHeld pages v.held
   pub read : AreReads R v.from v.readings
 
--- What is to be logged: its kind, its xid and the pages that it leaves. Its numbers, the stamps of its pages and a new head's
--- serial are drawn when it is.
+-- What is to be logged: its kind, its xid and the pages that it leaves. Its numbers, the stamps of
+-- its pages and a new head's serial are drawn when it is.
 pub record Step : Type 0 where
   pub kind : Kind
   pub xid : ℕ
@@ -87,7 +88,8 @@ abbrev pub drawn_xid : Log → Kind → ℕ → ℕ
 drawn_xid R kind.Begin xid = next_xid R
 drawn_xid R k xid = xid
 
--- the record is the step behind this log; that an xid which is drawn is below its bound the call tests
+-- the record is the step behind this log; that an xid which is drawn is below its bound the call
+-- tests
 pub record IsDrawn (R : Log) (s : Step) (r : Record) : Type 0 where
   pub number : r.number ≡ suc (length R)
   pub fits : s.kind ≡ kind.Begin → r.xid < xid_bound
@@ -108,7 +110,8 @@ numbered (h ∷ hs) (suc k) serial = h ∷ numbered hs k serial
 
 -- a page's content as a record of this kind leaves it
 abbrev pub drawn_body : Kind → Body → Body
-drawn_body (kind.PlaceHead item serial) (body.Heap slots) = body.Heap (numbered slots (slot_of item) serial)
+drawn_body (kind.PlaceHead item serial) (body.Heap slots) =
+    body.Heap (numbered slots (slot_of item) serial)
 drawn_body k content = content
 
 -- the page as the record leaves it: its stamp is the record's number
@@ -127,11 +130,14 @@ pub record Leaves (P Q : Pages) (r : Record) (s : Step) : Type 0 where
 
 -- the step is valid behind each log that is allowed to the session
 abbrev pub MayLog : View → Step → Type 0
-MayLog v s = (R : Log) (a : IsAllowed v R) (r : Record) (Q : Pages) → IsDrawn R s r → Leaves a.pages Q r s → RowHolds R a.pages Q r v.floor v.since
+MayLog v s =
+    (R : Log) (a : IsAllowed v R) (r : Record) (Q : Pages) → IsDrawn R s r → Leaves a.pages Q r s
+    → RowHolds R a.pages Q r v.floor v.since
 
--- What a session owes of a step besides: the log isn't empty, or the step makes the store; it holds the pages that the step
--- leaves, each once, and each has a spelling; the xid is 0, drawn or its own; maintenance needs the right; and it doesn't end
--- every running transaction. Of a checkpoint's redo number nothing is asked yet: no session logs one.
+-- What a session owes of a step besides: the log isn't empty, or the step makes the store; it holds
+-- the pages that the step leaves, each once, and each has a spelling; the xid is 0, drawn or its
+-- own; maintenance needs the right; and it doesn't end every running transaction. Of a checkpoint's
+-- redo number nothing is asked yet: no session logs one.
 pub record Owes (v : View) (s : Step) : Type 0 where
   pub started : (v.seen ≢ []) ⊎ (s.kind ≡ kind.Create)
   pub pages : (p : ℕ) → In p (sheet_pages s.after) → In p (sheet_pages v.held)

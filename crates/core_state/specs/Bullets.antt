@@ -54,23 +54,31 @@ pub data Rightward (P : Pages) (p : ℕ) : ℕ → Type 0 where
   here : Rightward P p p
   next : {q : ℕ} → Rightward P p q → (P q).right ≢ 0 → Rightward P p (P q).right
 
--- each key and each item on a leaf is within the bounds on the way down to it, and within the leaf's
+-- each key and each item on a leaf is within the bounds on the way down to it, and within the
+-- leaf's
 pub record TreesAreBounded (P : Pages) : Type 0 where
-  pub entries : (page : ℕ) (high : Key) (es : List Entry) (e : Entry) → (P page).body ≡ body.EntryLeaf high es → In e es
+  pub entries : (page : ℕ) (high : Key) (es : List Entry) (e : Entry)
+      → (P page).body ≡ body.EntryLeaf high es → In e es
       → Toward P e.key 1 page × UpTo e.key high
-  pub postings : (root page high : ℕ) (items : List ℕ) (i : ℕ) → IsRoot P root → Below P root page → (P page).body ≡ body.PostLeaf high items
+  pub postings : (root page high : ℕ) (items : List ℕ) (i : ℕ) → IsRoot P root → Below P root page
+      → (P page).body ≡ body.PostLeaf high items
       → In i (items_of items) → TowardItem P i root page × ItemUpTo i high
 
 -- each posting leaf is below a root that an entry names
 abbrev pub LeavesAreNamed : Pages → Type 0
-LeavesAreNamed P = (p high : ℕ) (items : List ℕ) → (P p).body ≡ body.PostLeaf high items → (root : ℕ) × IsRoot P root × (root ≢ 1) × Below P root p
+LeavesAreNamed P =
+    (p high : ℕ) (items : List ℕ) → (P p).body ≡ body.PostLeaf high items
+    → (root : ℕ) × IsRoot P root × (root ≢ 1) × Below P root p
 
 -- each leaf of a tree leads along right links to what stands behind it
 pub record LeavesLead (P : Pages) : Type 0 where
-  pub entries : (p q : ℕ) (high high' : Key) (es fs : List Entry) (e : Entry) → (P p).body ≡ body.EntryLeaf high es → (P q).body ≡ body.EntryLeaf high' fs
+  pub entries : (p q : ℕ) (high high' : Key) (es fs : List Entry) (e : Entry)
+      → (P p).body ≡ body.EntryLeaf high es → (P q).body ≡ body.EntryLeaf high' fs
       → In e fs → (UpTo e.key high → ⊥) → Rightward P p q
-  pub postings : (root p q high high' : ℕ) (items items' : List ℕ) (i : ℕ) → IsRoot P root → Below P root p → Below P root q
-      → (P p).body ≡ body.PostLeaf high items → (P q).body ≡ body.PostLeaf high' items' → In i (items_of items') → (ItemUpTo i high → ⊥) → Rightward P p q
+  pub postings : (root p q high high' : ℕ) (items items' : List ℕ) (i : ℕ) → IsRoot P root
+      → Below P root p → Below P root q
+      → (P p).body ≡ body.PostLeaf high items → (P q).body ≡ body.PostLeaf high' items'
+      → In i (items_of items') → (ItemUpTo i high → ⊥) → Rightward P p q
 
 -- the record of this number deleted page p, a leaf below the root in the pages before it
 pub record WasDeleted (R : Log) (p root : ℕ) (then : Pages) (number : ℕ) : Type 0 where
@@ -86,16 +94,23 @@ pub record WasDeleted (R : Log) (p root : ℕ) (then : Pages) (number : ℕ) : T
 
 -- the item stood at the leaf's place or behind it, in the pages before the leaf was deleted
 abbrev pub StoodFrom : Pages → ℕ → ℕ → ℕ → Type 0
-StoodFrom then root p i = TowardItem then i root p ⊎ ((high : ℕ) × (items : List ℕ) × ((then p).body ≡ body.PostLeaf high items) × (ItemUpTo i high → ⊥))
+StoodFrom then root p i =
+    TowardItem then i root p
+    ⊎ ((high : ℕ) × (items : List ℕ) × ((then p).body ≡ body.PostLeaf high items)
+    × (ItemUpTo i high → ⊥))
 
 -- a leaf that was deleted since the pin leads along right links to what stands behind it
 abbrev pub DeletedLeavesLead : Log → Pages → Pin → Type 0
-DeletedLeavesLead R P pin = (p root number : ℕ) (then : Pages) → WasDeleted R p root then number → pin.length < number
-    → (q i high : ℕ) (items : List ℕ) → Below P root q → (P q).body ≡ body.PostLeaf high items → In i (items_of items) → StoodFrom then root p i → Rightward P p q
+DeletedLeavesLead R P pin =
+    (p root number : ℕ) (then : Pages) → WasDeleted R p root then number → pin.length < number
+    → (q i high : ℕ) (items : List ℕ) → Below P root q → (P q).body ≡ body.PostLeaf high items
+    → In i (items_of items) → StoodFrom then root p i → Rightward P p q
 
 -- a page that was deleted since the pin is as it was when it was deleted
 abbrev pub DeletedStays : Log → Pages → Pin → Type 0
-DeletedStays R P pin = (p : ℕ) (g : Gone) (then later : Log) (P' : Pages) → R ≡ later ++ then → Shows then P' → (P' p).body ≡ body.Deleted g
+DeletedStays R P pin =
+    (p : ℕ) (g : Gone) (then later : Log) (P' : Pages) → R ≡ later ++ then → Shows then P'
+    → (P' p).body ≡ body.Deleted g
     → pin.length < (P' p).stamp → P p ≡ P' p
 
 -- where a page may stand
@@ -110,7 +125,9 @@ pub data Place : Type 0 where
 
 -- the page is on a chain of the document with the item, where `from` names the chain
 abbrev pub StandsOnChain : (Head → ℕ) → Pages → ℕ → ℕ → Type 0
-StandsOnChain from P p item = (d : Doc) × (h : Head) × (qs : List ℕ) × (d.item ≡ item) × Has P d h × IsChain P (from h) qs × In p qs
+StandsOnChain from P p item =
+    (d : Doc) × (h : Head) × (qs : List ℕ) × (d.item ≡ item) × Has P d h × IsChain P (from h) qs
+    × In p qs
 
 -- page p stands in this place
 abbrev pub StandsIn : Pages → ℕ → Place → Type 0

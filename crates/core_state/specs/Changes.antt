@@ -16,11 +16,14 @@ use Rattle.core_state.specs.declared.answers.Fate.TheVariants.{Running, Aborted,
 use Rattle.core_state.specs.declared.answers.PageUse.{PageUse}
 use Rattle.core_state.specs.declared.answers.PageUse.TheVariants as usage
 
--- a row's part that speaks of the changed pages alone, at a log with its pages P and the pages Q behind the record
-abbrev pub Here : (Known → Record → List Page → List Page → Type 0) → Log → Pages → Pages → Record → Type 0
+-- a row's part that speaks of the changed pages alone, at a log with its pages P and the pages Q
+-- behind the record
+abbrev pub Here : (Known → Record → List Page → List Page → Type 0) → Log → Pages → Pages → Record
+    → Type 0
 Here Part R P Q r = Part (known R P) r (map P (changed r)) (map Q (changed r))
 
--- the page that a record leaves with this right link and this content; its stamp is the record's number
+-- the page that a record leaves with this right link and this content; its stamp is the record's
+-- number
 abbrev pub left_with : Record → ℕ → Body → Page
 left_with r right content = record { right = right; stamp = r.number; body = content }
 
@@ -30,13 +33,16 @@ pub data IsNew (uses : ℕ → PageUse) (since p : ℕ) : Type 0 where
   deleted : (stamp : ℕ) → uses p ≡ usage.Deleted stamp → stamp ≤ since → IsNew uses since p
 
 -- slot k becomes h, and the others stay
-pub record PutsSlot (slots : List (Option Head)) (k : ℕ) (h : Option Head) (new : List (Option Head)) : Type 0 where
+pub record PutsSlot (slots : List (Option Head)) (k : ℕ) (h : Option Head)
+    (new : List (Option Head)) : Type 0 where
   pub put : slot_at new k ≡ h
   pub others : (j : ℕ) → j ≢ k → slot_at new j ≡ slot_at slots j
   pub size : length new ≡ max (length slots) (suc k)
 
--- the head of the document, which has its slot on this page, changes, and nothing else of the page but its stamp
-pub record IsHeadChange (r : Record) (d : Doc) (old : Page) (h h' : Head) (new : Page) : Type 0 where
+-- the head of the document, which has its slot on this page, changes, and nothing else of the page
+-- but its stamp
+pub record IsHeadChange (r : Record) (d : Doc) (old : Page) (h h' : Head)
+    (new : Page) : Type 0 where
   pub slots : List (Option Head)
   pub new_slots : List (Option Head)
   pub before : old.body ≡ body.Heap slots
@@ -50,7 +56,8 @@ pub record IsOwn (k : Known) (r : Record) (h : Head) : Type 0 where
   pub by : h.inserted_by ≡ r.xid
   pub runs : k.fates r.xid ≡ Running
 
--- a document is dead as its head tells: its insert was aborted, or its delete is among the first `floor` commits
+-- a document is dead as its head tells: its insert was aborted, or its delete is among the first
+-- `floor` commits
 pub data IsDeadHead (fates : ℕ → Fate) (floor : ℕ) (h : Head) : Type 0 where
   insert_aborted : fates h.inserted_by ≡ Aborted → IsDeadHead fates floor h
   delete_counted : (n : ℕ) → fates h.deleted_by ≡ Committed n → n ≤ floor → IsDeadHead fates floor h

@@ -69,7 +69,8 @@ HasVector P d v = (h : Head) × Has P d h × IsWhole P h v
 
 -- the documents that transaction x placed, by a record of this kind and xid more
 abbrev pub placed_with : Kind → ℕ → ℕ → List Doc → List Doc
-placed_with (kind.PlaceHead item serial) xid x ds = cond (xid == x) (ds ++ record { item = item; serial = serial } ∷ []) ds
+placed_with (kind.PlaceHead item serial) xid x ds =
+    cond (xid == x) (ds ++ record { item = item; serial = serial } ∷ []) ds
 placed_with _ xid x ds = ds
 
 -- the documents that transaction x placed, in order
@@ -79,7 +80,8 @@ placed (r ∷ R) x = placed_with r.kind r.xid x (placed R x)
 
 -- the documents that transaction x marked deleted, by a record of this kind and xid more
 abbrev pub marked_with : Kind → ℕ → ℕ → List Doc → List Doc
-marked_with (kind.MarkDeleted item serial) xid x ds = cond (xid == x) (ds ++ record { item = item; serial = serial } ∷ []) ds
+marked_with (kind.MarkDeleted item serial) xid x ds =
+    cond (xid == x) (ds ++ record { item = item; serial = serial } ∷ []) ds
 marked_with _ xid x ds = ds
 
 -- the documents that transaction x marked deleted, in order
@@ -87,8 +89,10 @@ abbrev pub marked : Log → ℕ → List Doc
 marked [] x = []
 marked (r ∷ R) x = marked_with r.kind r.xid x (marked R x)
 
--- A document is dead where the transaction that placed it was aborted, or one that marked it is among the first
--- `floor` commits. The log alone says so, so that what is dead stays dead when its slot is free or used again.
+-- A document is dead where the transaction that placed it was aborted, or one that marked it is
+-- among the first `floor` commits. The log alone says so, so that what is dead stays dead when its
+-- slot is free or used again.
 pub data IsDead (R : Log) (floor : ℕ) (d : Doc) : Type 0 where
   insert_aborted : (x : ℕ) → fate R x ≡ Aborted → In d (placed R x) → IsDead R floor d
-  delete_counted : (x n : ℕ) → fate R x ≡ Committed n → n ≤ floor → In d (marked R x) → IsDead R floor d
+  delete_counted : (x n : ℕ) → fate R x ≡ Committed n → n ≤ floor → In d (marked R x)
+      → IsDead R floor d

@@ -1,4 +1,5 @@
--- When a record of the kinds 6 to 8 may come next: heads are placed and marked, parts of long vectors are put.
+-- When a record of the kinds 6 to 8 may come next: heads are placed and marked, parts of long
+-- vectors are put.
 use Rattle.std.specs.Prelude.{◌≡◌, ◌≢◌, ◌⊎◌, ℕ, ◌<◌, ◌≤◌, List, [], ◌∷◌, length, Option, Some, None}
 use Rattle.ts_base.specs.Vectors.{Vector}
 use Rattle.page_types.specs.Numbers.{most_short, most_body}
@@ -23,9 +24,11 @@ pub record IsNewHead (head : Head) (serial xid : ℕ) : Type 0 where
   pub overflow : head.overflow ≡ 0
   pub private : head.private ≡ 0
 
--- The transaction runs, the serial is the next, the slot is free or the next, and the page an old heap page or a new
--- page; the new head has this serial and xid, the deleting xid 0 and two empty chains.
-pub record IsPlaceHeadHere (since : ℕ) (k : Known) (r : Record) (before after : List Page) : Type 0 where
+-- The transaction runs, the serial is the next, the slot is free or the next, and the page an old
+-- heap page or a new page; the new head has this serial and xid, the deleting xid 0 and two empty
+-- chains.
+pub record IsPlaceHeadHere (since : ℕ) (k : Known) (r : Record)
+    (before after : List Page) : Type 0 where
   pub doc : Doc
   pub head : Head
   pub old : Page
@@ -37,7 +40,8 @@ pub record IsPlaceHeadHere (since : ℕ) (k : Known) (r : Record) (before after 
   pub runs : k.fates r.xid ≡ Running
   pub next : doc.serial ≡ k.next_serial
   pub before_is : before ≡ old ∷ []
-  pub page : ((old.body ≡ body.Heap slots) × (right ≡ old.right)) ⊎ ((slots ≡ []) × (right ≡ 0) × IsNew k.uses since (page_of doc.item))
+  pub page : ((old.body ≡ body.Heap slots) × (right ≡ old.right))
+      ⊎ ((slots ≡ []) × (right ≡ 0) × IsNew k.uses since (page_of doc.item))
   pub was_free : slot_at slots (slot_of doc.item) ≡ None
   pub in_row : slot_of doc.item ≤ length slots
   pub new_head : IsNewHead head doc.serial r.xid
@@ -49,9 +53,11 @@ pub record IsPlaceHead (R : Log) (P Q : Pages) (r : Record) (since : ℕ) : Type
   pub here : Here (IsPlaceHeadHere since) R P Q r
   pub rest : NoPair P here.doc.item
 
--- The transaction placed the head and runs; the vector is too long for its head; the new page leads to the head's
--- first overflow page, and becomes the first; unless it is the last of the chain it is full.
-pub record IsPutOverflowHere (since : ℕ) (k : Known) (r : Record) (before after : List Page) : Type 0 where
+-- The transaction placed the head and runs; the vector is too long for its head; the new page leads
+-- to the head's first overflow page, and becomes the first; unless it is the last of the chain it
+-- is full.
+pub record IsPutOverflowHere (since : ℕ) (k : Known) (r : Record)
+    (before after : List Page) : Type 0 where
   pub doc : Doc
   pub head : Head
   pub new : ℕ
@@ -74,8 +80,8 @@ pub record IsPutOverflow (R : Log) (P Q : Pages) (r : Record) (since : ℕ) : Ty
   pub here : Here (IsPutOverflowHere since) R P Q r
   pub rest : (v : Vector) → IsWhole P here.head v → ⊥
 
--- The transaction runs; the slot's head has the serial, its inserting xid has committed, and its deleting xid was 0
--- or an aborted one; it becomes the record's xid.
+-- The transaction runs; the slot's head has the serial, its inserting xid has committed, and its
+-- deleting xid was 0 or an aborted one; it becomes the record's xid.
 pub record IsMarkDeletedHere (k : Known) (r : Record) (before after : List Page) : Type 0 where
   pub doc : Doc
   pub head : Head

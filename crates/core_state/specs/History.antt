@@ -26,6 +26,10 @@ History = List Commit
 abbrev pub inserts : History → List Document
 inserts commits = flat_map (λ (c : Commit). c.inserted) commits
 
+-- their names
+abbrev pub inserted_names : History → List Name
+inserted_names commits = map (λ (d : Document). d.name) (inserts commits)
+
 -- all names that it deletes
 abbrev pub deletes : History → List Name
 deletes commits = flat_map (λ (c : Commit). c.deleted) commits
@@ -37,16 +41,22 @@ has_serial s names = list_any (λ (x : Name). x.serial == s) names
 -- the documents with one more, at its place by serials
 abbrev pub with_document : Document → List Document → List Document
 with_document d [] = d ∷ []
-with_document d (e ∷ es) = if nat_lt d.name.serial e.name.serial then d ∷ e ∷ es else e ∷ with_document d es
+with_document d (e ∷ es) =
+    if nat_lt d.name.serial e.name.serial then d ∷ e ∷ es else e ∷ with_document d es
 
 -- the documents in the order of their serials
 abbrev pub by_serial : List Document → List Document
 by_serial [] = []
 by_serial (d ∷ ds) = with_document d (by_serial ds)
 
+-- none of the names has the document's serial
+abbrev pub stays : Document → List Name → Bool
+stays d names = not (has_serial d.name.serial names)
+
 -- the documents that are there after a history: inserted and not deleted, by serial
 abbrev pub docs : History → List Document
-docs commits = by_serial (filter (λ (d : Document). not (has_serial d.name.serial (deletes commits))) (inserts commits))
+docs commits =
+    by_serial (filter (λ (d : Document). stays d (deletes commits)) (inserts commits))
 
 -- the first is a beginning of the second
 abbrev pub Begins : History → History → Type 0
@@ -60,16 +70,19 @@ serials commits = map (λ (d : Document). d.name.serial) (inserts commits)
 abbrev pub AreApart : Name → Name → Type 0
 AreApart a b = (a.page ≢ b.page) ⊎ (a.slot ≢ b.slot)
 
--- No two inserts have one serial, each deleted name was inserted by an earlier commit, and no name is deleted
--- twice; of the documents that are there after any number of commits no two have one page and slot.
+-- No two inserts have one serial, each deleted name was inserted by an earlier commit, and no name
+-- is deleted twice; of the documents that are there after any number of commits no two have one
+-- page and slot.
 pub record IsLawful (commits : History) : Type 0 where
   pub apart : AllPairs (λ (a b : ℕ). a ≢ b) (serials commits)
   pub deleted_once : AllPairs (λ (a b : Name). a.serial ≢ b.serial) (deletes commits)
   pub deleted_later : (k : ℕ) (c : Commit) → slice_get commits k ≡ Some c
-      → All (λ (x : Name). Contains (map (λ (d : Document). d.name) (inserts (take k commits))) x) c.deleted
-  pub apart_places : (n : ℕ) → AllPairs (λ (a b : Document). AreApart a.name b.name) (docs (take n commits))
+      → All (λ (x : Name). Contains (inserted_names (take k commits)) x) c.deleted
+  pub apart_places : (n : ℕ)
+      → AllPairs (λ (a b : Document). AreApart a.name b.name) (docs (take n commits))
 
--- these are the documents that a transaction placed, each with the vector that stands in these pages
+-- these are the documents that a transaction placed, each with the vector that stands in these
+-- pages
 abbrev pub AreInserts : Pages → List Doc → List Document → Type 0
 AreInserts P [] [] = ⊤
 AreInserts P [] (i ∷ is) = ⊥
@@ -83,13 +96,15 @@ pub record IsCommitOf (R : Log) (x : ℕ) (c : Commit) : Type 0 where
   pub deleted : c.deleted ≡ map name_of (marked R x)
   pub inserted : AreInserts pages (placed R x) c.inserted
 
--- H is the history behind a record of this kind and xid, where `Before` is that of the log before it, which is R
+-- H is the history behind a record of this kind and xid, where `Before` is that of the log before
+-- it, which is R
 abbrev pub IsHistoryWith : Kind → ℕ → Log → (History → Type 0) → History → Type 0
-IsHistoryWith (kind.Commit n) x R Before H = (H' : History) × (c : Commit) × Before H' × IsCommitOf R x c × (H ≡ H' ++ c ∷ [])
+IsHistoryWith (kind.Commit n) x R Before H =
+    (H' : History) × (c : Commit) × Before H' × IsCommitOf R x c × (H ≡ H' ++ c ∷ [])
 IsHistoryWith _ x R Before H = Before H
 
--- H is the history of the log: a commit for each of its records of kind Commit, with the names that its transaction
--- marked and the documents that it placed
+-- H is the history of the log: a commit for each of its records of kind Commit, with the names that
+-- its transaction marked and the documents that it placed
 abbrev pub IsHistory : Log → History → Type 0
 IsHistory [] H = H ≡ []
 IsHistory (r ∷ R) H = IsHistoryWith r.kind r.xid R (IsHistory R) H

@@ -1,4 +1,5 @@
--- The pairs of the index: linked rows, entries, posting trees. No bound and no order of a tree enters.
+-- The pairs of the index: linked rows, entries, posting trees. No bound and no order of a tree
+-- enters.
 use Rattle.std.specs.Prelude.{◌≡◌, ◌⊎◌, ℕ, List, [], map}
 use Rattle.std.specs.List.{flat_map}
 use Rattle.ts_base.specs.Vectors.{Vector}
@@ -66,7 +67,8 @@ pub data Below (P : Pages) (r : ℕ) : ℕ → Type 0 where
 -- what stands under an entry: its inline items, or those of the posting leaves below its root
 pub data Under (P : Pages) (e : Entry) (i : ℕ) : Type 0 where
   inline : (bytes : List ℕ) → e.postings ≡ Inline bytes → In i (items_of bytes) → Under P e i
-  posted : (r q : ℕ) → e.postings ≡ Root r → Below P r q → In i (posting_items_in (P q).body) → Under P e i
+  posted : (r q : ℕ) → e.postings ≡ Root r → Below P r q → In i (posting_items_in (P q).body)
+      → Under P e i
 
 -- the pair of this key and item is in the main part: an entry of some entry leaf has it
 pub record Main (P : Pages) (k : Key) (i : ℕ) : Type 0 where

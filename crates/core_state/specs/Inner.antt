@@ -3,3 +3,4 @@ pub mod Lists
 pub mod Rising
 pub mod Placing
 pub mod Lowest
+pub mod Begun

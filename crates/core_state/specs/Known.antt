@@ -1,4 +1,5 @@
--- What the rows ask of a log beside the pages that a record changes and the index: what the state of a log can answer.
+-- What the rows ask of a log beside the pages that a record changes and the index: what the state
+-- of a log can answer.
 use Rattle.std.specs.Prelude.{ℕ, length}
 use Rattle.page_types.specs.declared.page.Body.{Body}
 use Rattle.page_types.specs.declared.page.Body.TheVariants as body
@@ -17,8 +18,8 @@ use_by stamp _ = usage.Used
 abbrev pub use_in : Pages → ℕ → PageUse
 use_in P p = use_by (P p).stamp (P p).body
 
--- how many records and commits there are, the fate of each xid, the numbers that are drawn next, the last redo
--- number, and the use of each page
+-- how many records and commits there are, the fate of each xid, the numbers that are drawn next,
+-- the last redo number, and the use of each page
 pub record Known : Type 0 where
   pub records : ℕ
   pub commits : ℕ

@@ -22,15 +22,20 @@ ShownAreOne = (R : Log) (P Q : Pages) → Shows R P → Shows R Q → P ≡ Q
 
 -- a page that a record doesn't name is the same after it
 abbrev pub OthersStay : Type 0
-OthersStay = (R : Log) (r : Record) (P Q : Pages) → Shows R P → Shows (r ∷ R) Q → (p : ℕ) → (In p (changed r) → ⊥) → Q p ≡ P p
+OthersStay =
+    (R : Log) (r : Record) (P Q : Pages) → Shows R P → Shows (r ∷ R) Q → (p : ℕ)
+    → (In p (changed r) → ⊥) → Q p ≡ P p
 
 -- a page of a step that has a spelling, and isn't free, has one as a record leaves it
 abbrev pub LeftIsPage : Type 0
-LeftIsPage = (r : Record) (c : Page) → IsRecord r → c.body ≢ body.Free → IsPage c → IsPage (left_by r c)
+LeftIsPage =
+    (r : Record) (c : Page) → IsRecord r → c.body ≢ body.Free → IsPage c → IsPage (left_by r c)
 
 -- a larger floor or since makes no valid record invalid
 abbrev pub ValidIsMonotone : Type 0
-ValidIsMonotone = (R : Log) (r : Record) (floor since floor' since' : ℕ) → floor ≤ floor' → since ≤ since' → Valid R r floor since → Valid R r floor' since'
+ValidIsMonotone =
+    (R : Log) (r : Record) (floor since floor' since' : ℕ) → floor ≤ floor' → since ≤ since'
+    → Valid R r floor since → Valid R r floor' since'
 
 -- a legal log without its newest record is legal
 abbrev pub LegalWithoutNewest : Type 0
@@ -38,7 +43,8 @@ LegalWithoutNewest = (r : Record) (R : Log) → IsLegal (r ∷ R) → IsLegal R
 
 -- and it keeps its pins that were taken before that record
 abbrev pub KeepsWithoutNewest : Type 0
-KeepsWithoutNewest = (r : Record) (R : Log) (pin : Pin) → pin.length ≤ length R → Keeps (r ∷ R) pin → Keeps R pin
+KeepsWithoutNewest =
+    (r : Record) (R : Log) (pin : Pin) → pin.length ≤ length R → Keeps (r ∷ R) pin → Keeps R pin
 
 -- a log has one history at most
 abbrev pub HistoryIsOne : Type 0

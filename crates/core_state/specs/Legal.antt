@@ -10,8 +10,9 @@ use Rattle.core_state.specs.Log.{Log, Pages, In, Shows, changed, commits, cut, r
 use Rattle.core_state.specs.TransactionRows.{IsCreate, IsBegin, IsCommit, IsAbort}
 use Rattle.core_state.specs.HeapRows.{IsPlaceHead}
 
--- The row of the record's kind holds: P are the pages before it, Q those behind it; `floor` is the number of commits by
--- which a document is dead, and `since` the number of the last record whose deleted pages may be taken again.
+-- The row of the record's kind holds: P are the pages before it, Q those behind it; `floor` is the
+-- number of commits by which a document is dead, and `since` the number of the last record whose
+-- deleted pages may be taken again.
 pub data RowHolds (R : Log) (P Q : Pages) (r : Record) (floor since : ℕ) : Type 0 where
   create : IsCreate R P Q r → RowHolds R P Q r floor since
   begin : IsBegin R P Q r → RowHolds R P Q r floor since
@@ -19,8 +20,8 @@ pub data RowHolds (R : Log) (P Q : Pages) (r : Record) (floor since : ℕ) : Typ
   abort : IsAbort R P Q r → RowHolds R P Q r floor since
   place_head : IsPlaceHead R P Q r since → RowHolds R P Q r floor since
 
--- the record may follow the log: it is a record with the next number, each of its changes can be made, it makes the store or
--- the log isn't empty, and its row holds
+-- the record may follow the log: it is a record with the next number, each of its changes can be
+-- made, it makes the store or the log isn't empty, and its row holds
 pub record Valid (R : Log) (r : Record) (floor since : ℕ) : Type 0 where
   pub before : Pages
   pub after : Pages
@@ -43,19 +44,23 @@ IsImageOf c = (bytes : List ℕ) × (c.edit ≡ Image bytes)
 -- the first change of each page from number n on is an image
 abbrev pub ImagesFrom : ℕ → Log → Type 0
 ImagesFrom n [] = ⊤
-ImagesFrom n (r ∷ R) = ImagesFrom n R × ((c : Change) → In c r.changes → n ≤ r.number → ChangesFrom n R c.page ⊎ IsImageOf c)
+ImagesFrom n (r ∷ R) =
+    ImagesFrom n R
+    × ((c : Change) → In c r.changes → n ≤ r.number → ChangesFrom n R c.page ⊎ IsImageOf c)
 
--- each record is valid behind those before it, with their commits as floor and its own number as since
+-- each record is valid behind those before it, with their commits as floor and its own number as
+-- since
 abbrev pub RowsAreValid : Log → Type 0
 RowsAreValid [] = ⊤
 RowsAreValid (r ∷ R) = RowsAreValid R × Valid R r (commits R) (suc (length R))
 
--- A log is legal where its records are valid, and the first change of each page is an image, from number 1 on and from the
--- redo number of each checkpoint on.
+-- A log is legal where its records are valid, and the first change of each page is an image, from
+-- number 1 on and from the redo number of each checkpoint on.
 pub record IsLegal (R : Log) : Type 0 where
   pub valid : RowsAreValid R
   pub images : ImagesFrom 1 R
-  pub redo_images : (r : Record) (redo : ℕ) → In r R → r.kind ≡ kind.Checkpoint redo → ImagesFrom redo R
+  pub redo_images : (r : Record) (redo : ℕ) → In r R → r.kind ≡ kind.Checkpoint redo
+      → ImagesFrom redo R
 
 -- a pin: a snapshot, which is a number of first commits, and the log's length when it was taken
 pub record Pin : Type 0 where
@@ -69,7 +74,9 @@ ValidUnder pin R r since = (floor : ℕ) × (floor ≤ pin.commits) × Valid R r
 -- each record is valid under the pin, and each past its length also with that length as since
 abbrev pub KeepsEach : Pin → Log → Type 0
 KeepsEach pin [] = ⊤
-KeepsEach pin (r ∷ R) = KeepsEach pin R × ValidUnder pin R r (suc (length R)) × (pin.length ≤ length R → ValidUnder pin R r pin.length)
+KeepsEach pin (r ∷ R) =
+    KeepsEach pin R × ValidUnder pin R r (suc (length R))
+    × (pin.length ≤ length R → ValidUnder pin R r pin.length)
 
 -- the log keeps the pin, within whose length its commits stand
 pub record Keeps (R : Log) (pin : Pin) : Type 0 where

@@ -1,4 +1,5 @@
--- The log, the pages that it leaves, and what became of each transaction. The newest record stands first.
+-- The log, the pages that it leaves, and what became of each transaction. The newest record stands
+-- first.
 use Rattle.std.specs.Prelude.{◌≡◌, ◌⊎◌, ℕ, suc, ◌-◌, ◌^◌, ◌==◌, cond, List, [], ◌∷◌, length, drop, map}
 use Rattle.page_types.specs.Numbers.{zeros, page_size}
 use Rattle.page_types.specs.Spelling.{page_bytes}
@@ -36,7 +37,8 @@ changed r = map (λ (c : Change). c.page) r.changes
 -- the bytes of page p after these changes in their order, where they were `old`
 abbrev pub after_changes : ℕ → List Change → ℕ → List ℕ → List ℕ
 after_changes number [] p old = old
-after_changes number (c ∷ cs) p old = after_changes number cs p (cond (c.page == p) (edited number c.edit old) old)
+after_changes number (c ∷ cs) p old =
+    after_changes number cs p (cond (c.page == p) (edited number c.edit old) old)
 
 -- the bytes of each page after all changes of the log in order, starting from zeros
 unfoldable pub replay : Log → ℕ → List ℕ
@@ -86,7 +88,8 @@ abbrev pub ended : Fate → Fate
 ended Running = Aborted
 ended f = f
 
--- what becomes of transaction x, which had this fate, by a record of this kind and xid; Abort with xid 0 ends all that run
+-- what becomes of transaction x, which had this fate, by a record of this kind and xid; Abort with
+-- xid 0 ends all that run
 abbrev pub fate_with : Kind → ℕ → ℕ → Fate → Fate
 fate_with kind.Begin xid x f = cond (xid == x) Running f
 fate_with (kind.Commit n) xid x f = cond (xid == x) (Committed n) f

@@ -1,4 +1,5 @@
--- When a record of the kinds 9 to 12 may come next: rows of documents are put and linked, and leave the pending list.
+-- When a record of the kinds 9 to 12 may come next: rows of documents are put and linked, and leave
+-- the pending list.
 use Rattle.std.specs.Prelude.{◌≡◌, ◌≢◌, ℕ, suc, ◌+◌, List, [], ◌∷◌, ◌++◌, length}
 use Rattle.ts_base.specs.Vectors.{Vector}
 use Rattle.ts_base.specs.Keys.{Key, keys_of}
@@ -17,9 +18,11 @@ use Rattle.core_state.specs.Known.{Known}
 use Rattle.core_state.specs.Changes.{Here, left_with, IsNew, IsHeadChange, IsOwn}
 use Rattle.core_state.specs.declared.answers.Fate.TheVariants.{Running}
 
--- The transaction placed the head and runs; the new page has one row or more, each with the document's item, whose keys
--- rise from row to row, and leads to the head's first private page; it becomes the first.
-pub record IsPutPendingHere (since : ℕ) (k : Known) (r : Record) (before after : List Page) : Type 0 where
+-- The transaction placed the head and runs; the new page has one row or more, each with the
+-- document's item, whose keys rise from row to row, and leads to the head's first private page; it
+-- becomes the first.
+pub record IsPutPendingHere (since : ℕ) (k : Known) (r : Record)
+    (before after : List Page) : Type 0 where
   pub doc : Doc
   pub head : Head
   pub new : ℕ
@@ -38,8 +41,8 @@ pub record IsPutPendingHere (since : ℕ) (k : Known) (r : Record) (before after
   pub head_after : IsHeadChange r doc old head (record head { private = new }) left
   pub after_is : after ≡ left ∷ left_with r head.private (body.Pending rows) ∷ []
 
--- The document is whole with this vector, no row of it is linked, and the rows have keys of it alone, which come in
--- key order, each once, before those of the head's private chain.
+-- The document is whole with this vector, no row of it is linked, and the rows have keys of it
+-- alone, which come in key order, each once, before those of the head's private chain.
 pub record IsPutPendingRest (P : Pages) (doc : Doc) (head : Head) (rows : List Row) : Type 0 where
   pub vector : Vector
   pub whole : IsWhole P head vector
@@ -69,8 +72,8 @@ pub record IsAddRowHere (k : Known) (r : Record) (before after : List Page) : Ty
   pub was : old.body ≡ body.Pending rows
   pub after_is : after ≡ left_with r old.right (body.Pending (rows ++ row ∷ [])) ∷ []
 
--- The transaction placed the document's head; it is whole, and no row of it is linked; the row has exactly its keys;
--- the page is the last of the pending list.
+-- The transaction placed the document's head; it is whole, and no row of it is linked; the row has
+-- exactly its keys; the page is the last of the pending list.
 pub record IsAddRowRest (P : Pages) (xid : ℕ) (doc : Doc) (row : Row) (last : ℕ) : Type 0 where
   pub head : Head
   pub has : Has P doc head
@@ -87,19 +90,22 @@ pub record IsAddRow (R : Log) (P Q : Pages) (r : Record) : Type 0 where
   pub here : Here IsAddRowHere R P Q r
   pub rest : IsAddRowRest P r.xid here.doc here.row here.last
 
--- Pages `added`, of which the first is `to` and the last `end`, come behind the last page: Meta's last becomes `end` and
--- its number rises; where there is no last page Meta's first becomes `to`, else the last page's right link does. The
--- changed pages behind the heap page, before and after.
+-- Pages `added`, of which the first is `to` and the last `end`, come behind the last page: Meta's
+-- last becomes `end` and its number rises; where there is no last page Meta's first becomes `to`,
+-- else the last page's right link does. The changed pages behind the heap page, before and after.
 pub data IsLinkHere (r : Record) (to end added : ℕ) : List ℕ → List Page → List Page → Type 0 where
   empty : (meta : Page) (count : ℕ) → meta.body ≡ body.Meta 0 0 count
-      → IsLinkHere r to end added (0 ∷ []) (meta ∷ []) (left_with r meta.right (body.Meta to end (count + added)) ∷ [])
-  behind : (meta page : Page) (first last count : ℕ) (rows : List Row) → meta.body ≡ body.Meta first last count → first ≢ 0
+      → IsLinkHere r to end added (0 ∷ []) (meta ∷ [])
+      (left_with r meta.right (body.Meta to end (count + added)) ∷ [])
+  behind : (meta page : Page) (first last count : ℕ) (rows : List Row)
+      → meta.body ≡ body.Meta first last count → first ≢ 0
       → page.body ≡ body.Pending rows
       → IsLinkHere r to end added (0 ∷ last ∷ []) (meta ∷ page ∷ [])
-      (left_with r meta.right (body.Meta first end (count + added)) ∷ left_with r to (body.Pending rows) ∷ [])
+      (left_with r meta.right (body.Meta first end (count + added))
+      ∷ left_with r to (body.Pending rows) ∷ [])
 
--- the transaction placed the head and runs; its private chain, which has a page or more, comes behind the last page, and the
--- head has none then
+-- the transaction placed the head and runs; its private chain, which has a page or more, comes
+-- behind the last page, and the head has none then
 pub record IsLinkPendingHere (k : Known) (r : Record) (before after : List Page) : Type 0 where
   pub doc : Doc
   pub head : Head
@@ -120,16 +126,19 @@ pub record IsLinkPendingHere (k : Known) (r : Record) (before after : List Page)
   pub head_after : IsHeadChange r doc old head (record head { private = 0 }) left
   pub after_is : after ≡ left ∷ others_after
 
--- The document is whole with this vector, and no row of it is linked; its private chain has `added` pages, of which
--- `end` is the last, and their rows have all its keys; where another page is changed it is the last of the pending list.
-pub record IsLinkPendingRest (P : Pages) (doc : Doc) (head : Head) (end added : ℕ) (others : List ℕ) : Type 0 where
+-- The document is whole with this vector, and no row of it is linked; its private chain has `added`
+-- pages, of which `end` is the last, and their rows have all its keys; where another page is
+-- changed it is the last of the pending list.
+pub record IsLinkPendingRest (P : Pages) (doc : Doc) (head : Head) (end added : ℕ)
+    (others : List ℕ) : Type 0 where
   pub vector : Vector
   pub whole : IsWhole P head vector
   pub no_row : HasRow P doc.item → ⊥
   pub front : List ℕ
   pub is_chain : IsChain P head.private (front ++ end ∷ [])
   pub pages : added ≡ length (front ++ end ∷ [])
-  pub all_keys : (k : Key) → In k (keys_of vector) → InRows (rows_on P (front ++ end ∷ [])) k doc.item
+  pub all_keys : (k : Key) → In k (keys_of vector)
+      → InRows (rows_on P (front ++ end ∷ [])) k doc.item
   pub is_last : (last : ℕ) → others ≡ 0 ∷ last ∷ [] → (line : List ℕ) × Line P (line ++ last ∷ [])
 
 -- 11 LinkPending: its pages, and what they lack of the document and of both lists
@@ -137,12 +146,14 @@ pub record IsLinkPending (R : Log) (P Q : Pages) (r : Record) : Type 0 where
   pub here : Here IsLinkPendingHere R P Q r
   pub rest : IsLinkPendingRest P here.doc here.head here.end here.added here.others
 
--- the page is the last of the pending list, which has none then, or another is, which stays the last
+-- the page is the last of the pending list, which has none then, or another is, which stays the
+-- last
 pub data IsLastAfter (right last : ℕ) : ℕ → Type 0 where
   none : right ≡ 0 → IsLastAfter right last 0
   same : right ≢ 0 → IsLastAfter right last last
 
--- the first page of the pending list is deleted and keeps its rows; Meta's first becomes its right link
+-- the first page of the pending list is deleted and keeps its rows; Meta's first becomes its right
+-- link
 pub record IsShiftHere (k : Known) (r : Record) (before after : List Page) : Type 0 where
   pub page : ℕ
   pub last : ℕ
@@ -157,9 +168,12 @@ pub record IsShiftHere (k : Known) (r : Record) (before after : List Page) : Typ
   pub first : meta.body ≡ body.Meta page last (suc count)
   pub was : old.body ≡ body.Pending rows
   pub last_is : IsLastAfter old.right last new_last
-  pub after_is : after ≡ left_with r meta.right (body.Meta old.right new_last count) ∷ left_with r old.right (body.Deleted (gone.Pending rows)) ∷ []
+  pub after_is : after
+      ≡ left_with r meta.right (body.Meta old.right new_last count)
+      ∷ left_with r old.right (body.Deleted (gone.Pending rows)) ∷ []
 
 -- 12 Shift: the document of each row on the page has all its keys in the main part
 pub record IsShift (R : Log) (P Q : Pages) (r : Record) : Type 0 where
   pub here : Here IsShiftHere R P Q r
-  pub rest : (w : Row) → In w here.rows → (d : Doc) × (v : Vector) × (d.item ≡ w.item) × HasVector P d v × AllMain P w.item v
+  pub rest : (w : Row) → In w here.rows
+      → (d : Doc) × (v : Vector) × (d.item ≡ w.item) × HasVector P d v × AllMain P w.item v

@@ -13,7 +13,9 @@ pub record Read : Type 0 where
 abbrev pub WasShown : Log → Read → Type 0
 WasShown R x = (P : Pages) × Shows (cut x.length R) P × (P x.page ≡ x.content)
 
--- these pages were read, the oldest read first, at lengths of the log that don't fall, from `from` on
+-- these pages were read, the oldest read first, at lengths of the log that don't fall, from `from`
+-- on
 abbrev pub AreReads : Log → ℕ → List Read → Type 0
 AreReads R from [] = ⊤
-AreReads R from (x ∷ xs) = (from ≤ x.length) × (x.length ≤ length R) × WasShown R x × AreReads R x.length xs
+AreReads R from (x ∷ xs) =
+    (from ≤ x.length) × (x.length ≤ length R) × WasShown R x × AreReads R x.length xs

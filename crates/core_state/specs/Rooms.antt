@@ -1,4 +1,5 @@
--- What the program holds of a log: its state, and how much more it has room for without more memory.
+-- What the program holds of a log: its state, and how much more it has room for without more
+-- memory.
 use Rattle.std.specs.Prelude.{ℕ, ◌+◌, ◌<◌, ◌≤◌, ⊤, length, All, IfSome}
 use Rattle.page_types.specs.Numbers.{page_limit}
 use Rattle.page_types.specs.declared.record.Change.{Change}
@@ -8,9 +9,9 @@ use Rattle.page_types.specs.declared.record.Kind.TheVariants as kind
 use Rattle.core_state.specs.States.{StateValue, transaction}
 use Rattle.core_state.specs.declared.transactions.Transaction.{Transaction}
 
--- How much has room: the uses of the pages below `pages`; so many fates, running transactions, freed pages, and names of
--- one running transaction, those that are there included; and so many more commits, with so many more names that they
--- delete or insert.
+-- How much has room: the uses of the pages below `pages`; so many fates, freed pages, and names of
+-- one running transaction, those that are there included; and so many more running transactions,
+-- and commits, with so many more names that they delete or insert.
 pub record Room : Type 0 where
   pub pages : ℕ
   pub fates : ℕ
@@ -44,10 +45,12 @@ FitsMarked m t = length t.deleted < m.names
 
 -- what a record of this kind and xid, with so many changes, adds beside the uses of pages has room
 abbrev pub HasRoomFor : Kind → ℕ → ℕ → Held → Type 0
-HasRoomFor kind.Begin x n h = (length h.value.fates < h.room.fates) × (length h.value.running < h.room.running)
+HasRoomFor kind.Begin x n h = (length h.value.fates < h.room.fates) × (0 < h.room.running)
 HasRoomFor (kind.Commit number) x n h = IfSome (transaction x h.value.running) (FitsCommit h.room)
-HasRoomFor (kind.PlaceHead item serial) x n h = IfSome (transaction x h.value.running) (FitsPlaced h.room)
-HasRoomFor (kind.MarkDeleted item serial) x n h = IfSome (transaction x h.value.running) (FitsMarked h.room)
+HasRoomFor (kind.PlaceHead item serial) x n h =
+    IfSome (transaction x h.value.running) (FitsPlaced h.room)
+HasRoomFor (kind.MarkDeleted item serial) x n h =
+    IfSome (transaction x h.value.running) (FitsMarked h.room)
 HasRoomFor kind.FreeSlots x n h = length h.value.freed + n ≤ h.room.freed
 HasRoomFor _ x n h = ⊤
 

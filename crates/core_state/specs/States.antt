@@ -20,10 +20,11 @@ use Rattle.core_state.specs.declared.answers.Fate.TheVariants.{Unused, Running, 
 use Rattle.core_state.specs.declared.answers.PageUse.{PageUse}
 use Rattle.core_state.specs.declared.answers.PageUse.TheVariants as usage
 
--- What is kept: how many pages a store may have, and where its xids end; the number of the last record; the fates of the
--- xids 1, 2 and so on; the uses of the pages 0, 1 and so on; the next serial; the last redo number; the names that each
--- commit deleted, and those that it inserted; the running transactions; the page of the last placed head, or that with which
--- the run began; the highest heap page; and the heap pages where this run freed a slot, in rising order.
+-- What is kept: how many pages a store may have, and where its xids end; the number of the last
+-- record; the fates of the xids 1, 2 and so on; the uses of the pages 0, 1 and so on; the next
+-- serial; the last redo number; the names that each commit deleted, and those that it inserted; the
+-- running transactions; the page of the last placed head, or that with which the run began; the
+-- highest heap page; and the heap pages where this run freed a slot, in rising order.
 pub record StateValue : Type 0 where
   pub pages : ℕ
   pub xid_limit : ℕ
@@ -57,7 +58,8 @@ empty_state pages xid_limit = record {
   freed = [];
 }
 
--- the fate of an xid, where these are the fates of the xids 1, 2 and so on; those that haven't begun are unused
+-- the fate of an xid, where these are the fates of the xids 1, 2 and so on; those that haven't
+-- begun are unused
 abbrev pub fate_at : List Fate → ℕ → Fate
 fate_at fs zero = Unused
 fate_at fs (suc k) = get_or fs k Unused
@@ -98,7 +100,9 @@ with_use p u us = set (us ++ replicate (suc p - length us) usage.Unused) p u
 -- the uses after changes; a page that has no number is left out
 abbrev pub uses_after : ℕ → List Change → List PageUse → List PageUse
 uses_after number [] us = us
-uses_after number (c ∷ cs) us = uses_after number cs (if nat_lt c.page page_limit then with_use c.page (edited_use number c.edit) us else us)
+uses_after number (c ∷ cs) us =
+    uses_after number cs
+    (if nat_lt c.page page_limit then with_use c.page (edited_use number c.edit) us else us)
 
 -- the running transaction of an xid
 abbrev pub transaction : ℕ → List Transaction → Option Transaction
@@ -135,7 +139,8 @@ all_ended (t ∷ ts) fs = all_ended ts (with_fate t.xid Aborted fs)
 -- a page in a rising list, once
 abbrev pub with_page : ℕ → List ℕ → List ℕ
 with_page p [] = p ∷ []
-with_page p (q ∷ qs) = if nat_lt p q then p ∷ q ∷ qs else (if nat_lt q p then q ∷ with_page p qs else q ∷ qs)
+with_page p (q ∷ qs) =
+    if nat_lt p q then p ∷ q ∷ qs else (if nat_lt q p then q ∷ with_page p qs else q ∷ qs)
 
 -- pages in a rising list
 abbrev pub with_pages : List ℕ → List ℕ → List ℕ
@@ -150,7 +155,10 @@ higher p (Some q) = Some (max p q)
 -- the next xid begins
 abbrev pub begun : ℕ → StateValue → StateValue
 begun x s = if (x == suc (length s.fates)) && nat_lt x xid_bound
-    then record s { fates = s.fates ++ Running ∷ []; running = s.running ++ record { xid = x; deleted = []; inserted = [] } ∷ [] }
+    then record s {
+      fates = s.fates ++ Running ∷ [];
+      running = s.running ++ record { xid = x; deleted = []; inserted = [] } ∷ [];
+    }
     else s
 
 -- transaction x commits with this number, if it runs and the number is the next
@@ -168,7 +176,8 @@ committed n x (Some t) s = if n == suc (length s.deleted)
 -- transaction x is aborted, if it runs
 abbrev pub aborted : ℕ → Option Transaction → StateValue → StateValue
 aborted x None s = s
-aborted x (Some t) s = record s { fates = with_fate x Aborted s.fates; running = without x s.running }
+aborted x (Some t) s =
+    record s { fates = with_fate x Aborted s.fates; running = without x s.running }
 
 -- every running transaction is aborted
 abbrev pub ended_all : StateValue → StateValue
@@ -205,15 +214,20 @@ stepped kind.Begin x ps s = begun x s
 stepped (kind.Commit n) x ps s = committed n x (transaction x s.running) s
 stepped kind.Abort x ps s = cond (x == 0) (ended_all s) (aborted x (transaction x s.running) s)
 stepped (kind.Checkpoint redo) x ps s = record s { redo = redo }
-stepped (kind.PlaceHead item serial) x ps s = placed_head (transaction x s.running) (record { item = item; serial = serial }) s
-stepped (kind.MarkDeleted item serial) x ps s = marked_head (transaction x s.running) (record { item = item; serial = serial }) s
+stepped (kind.PlaceHead item serial) x ps s =
+    placed_head (transaction x s.running) (record { item = item; serial = serial }) s
+stepped (kind.MarkDeleted item serial) x ps s =
+    marked_head (transaction x s.running) (record { item = item; serial = serial }) s
 stepped kind.FreeSlots x ps s = record s { freed = with_pages ps s.freed }
 stepped _ x ps s = s
 
--- The state after a record, valid or not. An xid or a number that isn't the next, and an xid that doesn't run, change the number
--- and the uses alone; a checkpoint's redo number and the pages of freed slots are taken as they come.
+-- The state after a record, valid or not. An xid or a number that isn't the next, and an xid that
+-- doesn't run, change the number and the uses alone; a checkpoint's redo number and the pages of
+-- freed slots are taken as they come.
 abbrev pub step_of : Record → StateValue → StateValue
-step_of r s = stepped r.kind r.xid (changed r) (record s { records = r.number; uses = uses_after r.number r.changes s.uses })
+step_of r s =
+    stepped r.kind r.xid (changed r)
+    (record s { records = r.number; uses = uses_after r.number r.changes s.uses })
 
 -- the state that follows a log
 abbrev pub state_of : ℕ → ℕ → Log → StateValue
@@ -246,9 +260,11 @@ pub record StateTells (R : Log) (s : StateValue) : Type 0 where
   pub redo : s.redo ≡ redo_of R
   pub commits : length s.deleted ≡ commits R
   pub deleted : (H : History) → IsHistory R H → s.deleted ≡ map (λ (c : Commit). c.deleted) H
-  pub inserted : (H : History) → IsHistory R H → s.inserted ≡ map (λ (c : Commit). names c.inserted) H
+  pub inserted : (H : History) → IsHistory R H
+      → s.inserted ≡ map (λ (c : Commit). names c.inserted) H
   pub uses : (P : Pages) → Shows R P → (p : ℕ) → use_of s p ≡ use_in P p
 
 -- the state of a legal log tells of it
 abbrev pub StateFollows : Type 0
-StateFollows = (pages xid_limit : ℕ) (R : Log) → IsLegal R → StateTells R (state_of pages xid_limit R)
+StateFollows =
+    (pages xid_limit : ℕ) (R : Log) → IsLegal R → StateTells R (state_of pages xid_limit R)

@@ -36,7 +36,8 @@ LeavesIndex later = (r : Record) → In r later → IsIndexWork r.kind → ⊥
 
 -- the chain from p on is the same, and so are its pages
 abbrev pub SameChain : Pages → Pages → ℕ → Type 0
-SameChain P P' p = (qs : List ℕ) → IsChain P p qs → IsChain P' p qs × ((q : ℕ) → In q qs → P' q ≡ P q)
+SameChain P P' p =
+    (qs : List ℕ) → IsChain P p qs → IsChain P' p qs × ((q : ℕ) → In q qs → P' q ≡ P q)
 
 -- the document has the same head, the same chains and the same vector
 pub record KeepsHead (P P' : Pages) (d : Doc) (h : Head) : Type 0 where
@@ -45,7 +46,8 @@ pub record KeepsHead (P P' : Pages) (d : Doc) (h : Head) : Type 0 where
   pub private : SameChain P P' h.private
   pub vector : (v : Vector) → IsWhole P h v → IsWhole P' h v
 
--- a transaction that runs and of which no later record is runs on, and its documents stay as they are
+-- a transaction that runs and of which no later record is runs on, and its documents stay as they
+-- are
 pub record RunsOn (R R' : Log) (P P' : Pages) (x : ℕ) : Type 0 where
   pub runs : fate R' x ≡ Running
   pub heads : (d : Doc) → In d (placed R x) → (h : Head) × Has P d h × KeepsHead P P' d h
@@ -58,16 +60,19 @@ pub record EndsStay (R R' : Log) : Type 0 where
   pub aborted_stays : (x : ℕ) → fate R x ≡ Aborted → fate R' x ≡ Aborted
   pub dead_stays : (d : Doc) (floor : ℕ) → IsDead R floor d → IsDead R' floor d
 
--- Without later records of the kinds 12 to 21 the main part and the pages of trees are the same, and no page comes into a tree;
--- linked rows stay linked, whole documents keep their vectors, and dead ones their chains and rows and get no more.
+-- Without later records of the kinds 12 to 21 the main part and the pages of trees are the same,
+-- and no page comes into a tree; linked rows stay linked, whole documents keep their vectors, and
+-- dead ones their chains and rows and get no more.
 pub record IndexStays (R R' : Log) (P P' : Pages) : Type 0 where
   pub main : (k : Key) (i : ℕ) → Main P k i ↔ Main P' k i
   pub trees : (root p : ℕ) → IsRoot P root → Below P root p → P' p ≡ P p
-  pub no_more_trees : (root p : ℕ) → IsRoot P' root → Below P' root p → IsRoot P root × Below P root p
+  pub no_more_trees : (root p : ℕ) → IsRoot P' root → Below P' root p
+      → IsRoot P root × Below P root p
   pub rows : (w : Row) → IsLinked P w → IsLinked P' w
   pub whole : (d : Doc) (v : Vector) → HasVector P d v → HasVector P' d v
   pub dead : (d : Doc) (h : Head) (floor : ℕ) → IsDead R floor d → Has P d h → KeepsHead P P' d h
-  pub dead_rows : (d : Doc) (h : Head) (floor : ℕ) → IsDead R floor d → Has P d h → (w : Row) → w.item ≡ d.item → IsLinked P' w → IsLinked P w
+  pub dead_rows : (d : Doc) (h : Head) (floor : ℕ) → IsDead R floor d → Has P d h → (w : Row)
+      → w.item ≡ d.item → IsLinked P' w → IsLinked P w
 
 -- a page that is shown as free was changed by no record
 abbrev pub FreeIsUntouched : Log → Pages → Type 0
@@ -82,4 +87,6 @@ pub record SteadyFacts (R later R' : Log) (P P' : Pages) : Type 0 where
 
 -- they hold of any two legal logs of which the first isn't empty and begins the second
 abbrev pub SteadyHold : Type 0
-SteadyHold = (R later R' : Log) (P P' : Pages) → R' ≡ later ++ R → R ≢ [] → IsLegal R → IsLegal R' → Shows R P → Shows R' P' → SteadyFacts R later R' P P'
+SteadyHold =
+    (R later R' : Log) (P P' : Pages) → R' ≡ later ++ R → R ≢ [] → IsLegal R → IsLegal R'
+    → Shows R P → Shows R' P' → SteadyFacts R later R' P P'

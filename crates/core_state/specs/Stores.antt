@@ -21,8 +21,10 @@ pub record StandsWhole (file : List ℕ) (p : ℕ) (bytes : List ℕ) : Type 0 w
   pub whole : (p + 1) * page_size ≤ length file
   pub same : page_in file p ≡ bytes
 
--- Beside a log stands a page file where each page that some record changes, and none from the redo number on, stands whole
--- and is its replay, and each page that no record changes shows zeros.
+-- Beside a log stands a page file where each page that some record changes, and none from the redo
+-- number on, stands whole and is its replay, and each page that no record changes shows zeros.
 pub record PagesStand (R : Log) (file : List ℕ) : Type 0 where
-  pub settled : (p : ℕ) → ChangesFrom 0 R p → (ChangesFrom (redo_of R) R p → ⊥) → StandsWhole file p (replay R p)
-  pub untouched : (p : ℕ) → (ChangesFrom 0 R p → ⊥) → AllByRecursion (λ (b : ℕ). b ≡ 0) (page_in file p)
+  pub settled : (p : ℕ) → ChangesFrom 0 R p → (ChangesFrom (redo_of R) R p → ⊥)
+      → StandsWhole file p (replay R p)
+  pub untouched : (p : ℕ) → (ChangesFrom 0 R p → ⊥)
+      → AllByRecursion (λ (b : ℕ). b ≡ 0) (page_in file p)

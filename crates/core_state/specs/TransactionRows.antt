@@ -1,4 +1,5 @@
--- When a record of the kinds 1 to 5 may come next: the store is made, transactions begin and end, checkpoints.
+-- When a record of the kinds 1 to 5 may come next: the store is made, transactions begin and end,
+-- checkpoints.
 use Rattle.std.specs.Prelude.{◌≡◌, ◌⊎◌, ℕ, suc, ◌<◌, ◌≤◌, List, [], ◌∷◌}
 use Rattle.ts_base.specs.Vectors.{Vector}
 use Rattle.page_types.specs.declared.page.Page.{Page}
@@ -54,7 +55,8 @@ pub record IsAbortHere (k : Known) (r : Record) (before after : List Page) : Typ
 pub record IsAbort (R : Log) (P Q : Pages) (r : Record) : Type 0 where
   pub here : Here IsAbortHere R P Q r
 
--- the redo number is at least the last one, which is 1 without a checkpoint, and at most the record's own number
+-- the redo number is at least the last one, which is 1 without a checkpoint, and at most the
+-- record's own number
 pub record IsCheckpointHere (k : Known) (r : Record) (before after : List Page) : Type 0 where
   pub redo : ℕ
   pub kind_is : r.kind ≡ kind.Checkpoint redo

@@ -1,5 +1,5 @@
--- When a record of the kinds 18, 20 and 21 may come next: items of dead documents leave their lists, their chains lose
--- pages, and their slots become free.
+-- When a record of the kinds 18, 20 and 21 may come next: items of dead documents leave their
+-- lists, their chains lose pages, and their slots become free.
 use Rattle.std.specs.Prelude.{◌≡◌, ◌≢◌, ◌⊎◌, ℕ, ◌<◌, List, [], ◌∷◌, length, Option, Some, None, ⊤}
 use Rattle.ts_base.specs.Keys.{Key}
 use Rattle.page_types.specs.Items.{items_of}
@@ -31,7 +31,8 @@ pub record ItemsLeave (removed old new : List ℕ) : Type 0 where
 -- the entry stays as it is, or items left its inline list
 pub data EntryLoses (removed : List ℕ) (old new : Entry) : Type 0 where
   same : old ≡ new → EntryLoses removed old new
-  less : (a b : List ℕ) → old.key ≡ new.key → old.postings ≡ Inline a → new.postings ≡ Inline b → ItemsLeave removed a b → EntryLoses removed old new
+  less : (a b : List ℕ) → old.key ≡ new.key → old.postings ≡ Inline a → new.postings ≡ Inline b
+      → ItemsLeave removed a b → EntryLoses removed old new
 
 -- entry by entry
 abbrev pub EntriesLose : List ℕ → List Entry → List Entry → Type 0
@@ -42,8 +43,10 @@ EntriesLose removed (e ∷ es) (f ∷ fs) = EntryLoses removed e f × EntriesLos
 
 -- items left the lists of an entry leaf, or the list of a posting leaf
 pub data ListsLose (removed : List ℕ) : Body → Body → Type 0 where
-  entries : (high : Key) (old new : List Entry) → EntriesLose removed old new → ListsLose removed (body.EntryLeaf high old) (body.EntryLeaf high new)
-  postings : (high : ℕ) (old new : List ℕ) → ItemsLeave removed old new → ListsLose removed (body.PostLeaf high old) (body.PostLeaf high new)
+  entries : (high : Key) (old new : List Entry) → EntriesLose removed old new
+      → ListsLose removed (body.EntryLeaf high old) (body.EntryLeaf high new)
+  postings : (high : ℕ) (old new : List ℕ) → ItemsLeave removed old new
+      → ListsLose removed (body.PostLeaf high old) (body.PostLeaf high new)
 
 -- items leave the lists of a leaf, at least one
 pub record IsRemoveItemsHere (k : Known) (r : Record) (before after : List Page) : Type 0 where
@@ -72,18 +75,19 @@ pub record IsRemoveItems (R : Log) (P Q : Pages) (r : Record) (floor : ℕ) : Ty
   pub here : Here IsRemoveItemsHere R P Q r
   pub rest : (i : ℕ) → In i here.removed → MayLeave R P floor i
 
--- the page is the first of one of the head's chains, which goes on to the next
-pub data IsDropped (head : Head) (page right : ℕ) : Head → Type 0 where
-  overflow : head.overflow ≡ page → IsDropped head page right (record head { overflow = right })
-  private : head.private ≡ page → IsDropped head page right (record head { private = right })
-
--- a chain page's content, kept as it is deleted
-pub data IsGoneOf : Body → Gone → Type 0 where
-  of_overflow : (bytes : List ℕ) → IsGoneOf (body.Overflow bytes) (gone.Overflow bytes)
-  of_pending : (rows : List Row) → IsGoneOf (body.Pending rows) (gone.Pending rows)
+-- the page is the first of one of the head's chains, which goes on to the next; it has content of
+-- that chain's kind, and keeps it as it is deleted
+pub data IsDropped (head : Head) (page right : ℕ) : Body → Gone → Head → Type 0 where
+  overflow : (bytes : List ℕ) → head.overflow ≡ page
+      → IsDropped head page right (body.Overflow bytes) (gone.Overflow bytes)
+      (record head { overflow = right })
+  private : (rows : List Row) → head.private ≡ page
+      → IsDropped head page right (body.Pending rows) (gone.Pending rows)
+      (record head { private = right })
 
 -- the head is a dead document's, and the first page of one of its chains is deleted
-pub record IsDropPageHere (floor : ℕ) (k : Known) (r : Record) (before after : List Page) : Type 0 where
+pub record IsDropPageHere (floor : ℕ) (k : Known) (r : Record)
+    (before after : List Page) : Type 0 where
   pub doc : Doc
   pub head : Head
   pub head_then : Head
@@ -97,8 +101,7 @@ pub record IsDropPageHere (floor : ℕ) (k : Known) (r : Record) (before after :
   pub before_is : before ≡ old ∷ was ∷ []
   pub dead : IsDeadHead k.fates floor head
   pub not_none : page ≢ 0
-  pub dropped : IsDropped head page was.right head_then
-  pub kept : IsGoneOf was.body content
+  pub dropped : IsDropped head page was.right was.body content head_then
   pub head_after : IsHeadChange r doc old head head_then left
   pub after_is : after ≡ left ∷ left_with r was.right (body.Deleted content) ∷ []
 
@@ -124,7 +127,8 @@ pub data SlotLoses (k : Known) (floor : ℕ) (old new : Option Head) : Type 0 wh
   freed : (h : Head) → old ≡ Some h → new ≡ None → MayFree k floor h → SlotLoses k floor old new
 
 -- slots of dead documents become free, at least one
-pub record IsFreeSlotsHere (floor : ℕ) (k : Known) (r : Record) (before after : List Page) : Type 0 where
+pub record IsFreeSlotsHere (floor : ℕ) (k : Known) (r : Record)
+    (before after : List Page) : Type 0 where
   pub page : ℕ
   pub slots : List (Option Head)
   pub new_slots : List (Option Head)
@@ -141,5 +145,6 @@ pub record IsFreeSlotsHere (floor : ℕ) (k : Known) (r : Record) (before after 
 -- 21 FreeSlots: each freed document is dead, and no row and no posting has its item
 pub record IsFreeSlots (R : Log) (P Q : Pages) (r : Record) (floor : ℕ) : Type 0 where
   pub here : Here (IsFreeSlotsHere floor) R P Q r
-  pub rest : (slot : ℕ) (h : Head) → slot_at here.slots slot ≡ Some h → slot_at here.new_slots slot ≡ None
+  pub rest : (slot : ℕ) (h : Head) → slot_at here.slots slot ≡ Some h
+      → slot_at here.new_slots slot ≡ None
       → IsGoneFrom R P floor (record { item = item_at here.page slot; serial = h.serial })

@@ -8,9 +8,8 @@ ghost use Rattle.core_state.specs.Rooms.{FitsCommit, FitsPlaced, FitsMarked, Has
 use crate::answers::Fate;
 use crate::freed::note_freed;
 use crate::names::NameLists;
-use crate::transactions::{
-    Names, Transaction, end_all, fate_in, leave, note_marked, note_placed, place_of, runs, set_fate,
-};
+use crate::running::RunningOnes;
+use crate::transactions::{fate_in, set_fate};
 use page_types::{Change, Kind, Name};
 use std::alloc::{AllocError, Global};
 use std::marker::Model;
@@ -32,7 +31,7 @@ pub(crate) struct Book {
     pub(crate) redo: u64,
     pub(crate) deleted: NameLists,
     pub(crate) inserted: NameLists,
-    pub(crate) running: Vec<Transaction>,
+    pub(crate) running: RunningOnes,
     pub(crate) spare: Vec<Name>,
     pub(crate) current: Option<u32>,
     pub(crate) highest: Option<u32>,
@@ -40,7 +39,7 @@ pub(crate) struct Book {
 }
 
 impl Model for Book {
-    ghost use Rattle.std.specs.Prelude.{◌≡◌, ◌<◌, ◌^◌, [], length};
+    ghost use Rattle.std.specs.Prelude.{◌≡◌, ◌<◌, ◌≤◌, ◌^◌, suc, [], length};
     ghost use Rattle.std.specs.Vec.{vec_capacity};
     ghost use Rattle.core_state.specs.Inner.Rising.{AreRising};
     ghost use Rattle.core_state.specs.Rooms.{Held};
@@ -58,7 +57,7 @@ impl Model for Book {
         redo = b.redo;
         deleted = b.deleted.lists;
         inserted = b.inserted.lists;
-        running = b.running.items;
+        running = b.running.list;
         current = b.current;
         highest = b.highest;
         freed = b.freed.items;
@@ -66,7 +65,7 @@ impl Model for Book {
       room = record {
         pages = 0;
         fates = vec_capacity b.fates;
-        running = vec_capacity b.running;
+        running = b.running.left;
         freed = vec_capacity b.freed;
         names = vec_capacity b.spare;
         deletes = b.deleted.lists_left;
@@ -79,6 +78,7 @@ impl Model for Book {
     ghost invariant = { λ b. (length b.fates.items < 2 ^ 24)
         × (length b.deleted.lists < 2 ^ 32)
         × (length b.inserted.lists ≡ length b.deleted.lists)
+        × (b.running.end ≤ suc (length b.fates.items))
         × AreRising b.freed.items };
 }
 
@@ -107,7 +107,7 @@ impl Book {
             redo: 1,
             deleted: NameLists::new(alloc),
             inserted: NameLists::new(alloc),
-            running: Vec::new(alloc),
+            running: RunningOnes::new(alloc),
             spare: Vec::new(alloc),
             current: None,
             highest: None,
@@ -123,10 +123,9 @@ impl Book {
         ensures ok { IfSome (transaction xid self.old.value.running)
             (FitsCommit self.old.room) → IsOk result }
     {
-        let Some(i) = place_of(&self.running, xid) else {
+        let Some(t) = self.running.find(xid) else {
             return Ok(());
         };
-        let t = &self.running[i];
         self.deleted.reserve(t.deleted.as_slice().len())?;
         self.inserted.reserve(t.inserted.as_slice().len())
     }
@@ -139,10 +138,10 @@ impl Book {
         ensures ok { IfSome (transaction xid self.old.value.running)
             (FitsPlaced self.old.room) → IsOk result }
     {
-        let Some(i) = place_of(&self.running, xid) else {
+        let Some(t) = self.running.find(xid) else {
             return Ok(());
         };
-        let names = self.running[i].inserted.as_slice().len();
+        let names = t.inserted.as_slice().len();
         self.spare.clear();
         self.spare.reserve(names + 1)
     }
@@ -155,10 +154,10 @@ impl Book {
         ensures ok { IfSome (transaction xid self.old.value.running)
             (FitsMarked self.old.room) → IsOk result }
     {
-        let Some(i) = place_of(&self.running, xid) else {
+        let Some(t) = self.running.find(xid) else {
             return Ok(());
         };
-        let names = self.running[i].deleted.as_slice().len();
+        let names = t.deleted.as_slice().len();
         self.spare.clear();
         self.spare.reserve(names + 1)
     }
@@ -177,7 +176,7 @@ impl Book {
         match *kind {
             Kind::Begin => {
                 self.fates.reserve(1)?;
-                self.running.reserve(1)
+                self.running.reserve()
             }
             Kind::Commit { .. } => self.reserve_commit(xid),
             Kind::PlaceHead { .. } => self.reserve_placed(xid),
@@ -187,7 +186,8 @@ impl Book {
         }
     }
 
-    // What a record of this kind and xid, with these changes, makes of the book, which has room for it.
+    // What a record of this kind and xid, with these changes, makes of the book, which has room for
+    // it.
     pub(crate) fn turn(&mut self, kind: &Kind, xid: u32, changes: &[Change])
         requires { HasRoomFor kind.now xid (length changes.now) self.old }
         ensures { self.new.value ≡ stepped kind.now xid (pages_of changes.now) self.old.value }
@@ -208,18 +208,14 @@ impl Book {
     // The next xid begins.
     fn begin(&mut self, xid: u32)
         requires fates { length self.old.value.fates < self.old.room.fates }
-        requires running { length self.old.value.running < self.old.room.running }
+        requires running { 0 < self.old.room.running }
         ensures { self.new.value ≡ begun xid self.old.value }
     {
         if xid as usize != self.fates.len() + 1 || xid >= XID_BOUND {
             return;
         }
         self.fates.push_reserved(Fate::Running);
-        self.running.push_reserved(Transaction {
-            xid,
-            deleted: Names::new(self.alloc),
-            inserted: Names::new(self.alloc),
-        });
+        self.running.begin(self.alloc, xid);
     }
 
     // Transaction xid commits with this number, if it runs and the number is the next.
@@ -228,13 +224,12 @@ impl Book {
         ensures { self.new.value
             ≡ committed number xid (transaction xid self.old.value.running) self.old.value }
     {
-        let Some(i) = place_of(&self.running, xid) else {
+        let Some(t) = self.running.find(xid) else {
             return;
         };
         if number as usize != self.deleted.len() + 1 {
             return;
         }
-        let t = &self.running[i];
         self.deleted.push(t.deleted.as_slice());
         self.inserted.push(t.inserted.as_slice());
         self.end(xid, Fate::Committed(number));
@@ -248,7 +243,7 @@ impl Book {
         } }
     {
         set_fate(&mut self.fates, xid, fate);
-        leave(&mut self.running, xid);
+        self.running.leave(self.alloc, xid);
     }
 
     // Transaction xid places a head, if it runs and the serial is the next.
@@ -257,11 +252,11 @@ impl Book {
         ensures { self.new.value ≡ placed_head (transaction xid self.old.value.running)
             (record { item = item; serial = serial }) self.old.value }
     {
-        if !runs(&self.running, xid) || serial != self.next_serial || serial == u64::MAX {
+        if self.running.find(xid).is_none() || serial != self.next_serial || serial == u64::MAX {
             return;
         }
         let name = name_of(item, serial);
-        note_placed(&mut self.running, xid, name, &mut self.spare);
+        self.running.note_placed(xid, name, &mut self.spare);
         self.next_serial = serial + 1;
         self.current = Some(name.page);
         self.highest = Some(match self.highest {
@@ -276,13 +271,9 @@ impl Book {
         ensures { self.new.value ≡ marked_head (transaction xid self.old.value.running)
             (record { item = item; serial = serial }) self.old.value }
     {
-        if runs(&self.running, xid) {
-            note_marked(
-                &mut self.running,
-                xid,
-                name_of(item, serial),
-                &mut self.spare,
-            );
+        if self.running.find(xid).is_some() {
+            let name = name_of(item, serial);
+            self.running.note_marked(xid, name, &mut self.spare);
         }
     }
 
@@ -290,8 +281,7 @@ impl Book {
     pub(crate) fn end_running(&mut self)
         ensures { self.new.value ≡ ended_all self.old.value }
     {
-        end_all(&mut self.fates, &self.running);
-        self.running.clear();
+        self.running.end_all(&mut self.fates);
     }
 
     // The fate of an xid.
@@ -392,7 +382,7 @@ impl Book {
         ensures { self.new.value
             ≡ aborted xid (transaction xid self.old.value.running) self.old.value }
     {
-        if runs(&self.running, xid) {
+        if self.running.find(xid).is_some() {
             self.end(xid, Fate::Aborted);
         }
     }

@@ -1,8 +1,9 @@
-//! What a log means: the pages that its records leave, the documents and their history, when a record may follow a
-//! log, what stays true of every log, and what a session may conclude from the part that it has seen.
+//! What a log means: the pages that its records leave, the documents and their history, when a
+//! record may follow a log, what stays true of every log, and what a session may conclude from the
+//! part that it has seen.
 //!
-//! A log is a list of records, the newest first. `specs/` has the definitions, on which every proof of the store
-//! stands; the functions of `laws` hold what follows from them.
+//! A log is a list of records, the newest first. `specs/` has the definitions, on which every proof
+//! of the store stands; the functions of `laws` hold what follows from them.
 #![tactic(auto)]
 
 mod answers;
@@ -11,6 +12,7 @@ mod freed;
 mod laws;
 mod names;
 mod placing;
+mod running;
 mod state;
 mod transactions;
 mod uses;

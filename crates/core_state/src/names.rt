@@ -7,7 +7,8 @@ use page_types::Name;
 use std::alloc::{AllocError, Global};
 use std::marker::Model;
 
-/// Lists of names in one list, cut at their ends. Contracts see them as a list of lists, with the room for more.
+/// Lists of names in one list, cut at their ends. Contracts see them as a list of lists, with the
+/// room for more.
 #[derive(Debug, Drop)]
 pub struct NameLists {
     names: Vec<Name>,

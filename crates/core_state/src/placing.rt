@@ -1,4 +1,5 @@
-// When a record PlaceHead may come next, as far as the record, its heap page before and after, and the state of the log tell.
+// When a record PlaceHead may come next, as far as the record, its heap page before and after, and
+// the state of the log tell.
 ghost use Rattle.std.specs.Prelude.{◌≡◌, ◌≢◌, ◌↔◌, ℕ, true, IsOkAnd};
 ghost use Rattle.std.specs.Option.{option_map};
 ghost use Rattle.page_types.specs.Parts.{head_shown};
@@ -50,7 +51,8 @@ fn is_new_head(head: HeadRef<'_>, serial: u64, xid: u32) -> bool
         && fields.private == 0
 }
 
-// Whether a slot, which was free or is the next, gets a new head with this serial, of this transaction, and the others stay.
+// Whether a slot, which was free or is the next, gets a new head with this serial, of this
+// transaction, and the others stay.
 fn places_head(slots: &Slots, slot: u16, new: &Slots, serial: u64, xid: u32) -> bool
     ensures { result ≡ true ↔ PlacesHead slots.now slot new.now serial xid }
 {
@@ -64,7 +66,8 @@ fn places_head(slots: &Slots, slot: u16, new: &Slots, serial: u64, xid: u32) -> 
     is_new_head(head, serial, xid) && others_stay(slots, k, new)
 }
 
-// Whether a record leaves the page of this name, which is an old heap page or a new page, with a new head in its slot.
+// Whether a record leaves the page of this name, which is an old heap page or a new page, with a
+// new head in its slot.
 fn leaves_head(
     alloc: Global,
     state: &State,
@@ -74,7 +77,8 @@ fn leaves_head(
     new: &Page,
     since: u64,
 ) -> bool
-    ensures { result ≡ true ↔ LeavesHead (use_of state.now.value) since rec.now name old.now new.now }
+    ensures { result ≡ true
+        ↔ LeavesHead (use_of state.now.value) since rec.now name old.now new.now }
 {
     let Body::Heap(new_slots) = &new.body else {
         return false;
@@ -100,8 +104,8 @@ fn leaves_head(
         )
 }
 
-/// Whether PlaceHead may come next: its transaction runs, its serial is the next, and a new head comes into a slot that is
-/// free or the next, of an old heap page or a new page.
+/// Whether PlaceHead may come next: its transaction runs, its serial is the next, and a new head
+/// comes into a slot that is free or the next, of an old heap page or a new page.
 pub fn valid_place_head(
     alloc: Global,
     state: &State,

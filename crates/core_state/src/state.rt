@@ -12,7 +12,8 @@ use page_types::{Name, Record};
 use std::alloc::{AllocError, Global};
 use std::marker::Model;
 
-/// What is kept of a log: the fates of xids, the uses of pages, the names of each commit, and the numbers that are drawn next.
+/// What is kept of a log: the fates of xids, the uses of pages, the names of each commit, and the
+/// numbers that are drawn next.
 #[derive(Debug, Drop)]
 pub struct State {
     records: u64,
@@ -37,7 +38,8 @@ impl Model for State {
 }
 
 impl State {
-    /// The state of an empty log, for a store of so many pages, whose xids end at this limit. It takes no memory.
+    /// The state of an empty log, for a store of so many pages, whose xids end at this limit. It
+    /// takes no memory.
     pub fn new(alloc: Global, pages: u32, xid_limit: u32) -> State
         ensures { result.value ≡ empty_state pages xid_limit }
     {
@@ -62,7 +64,8 @@ impl State {
         Ok(())
     }
 
-    /// The next record, valid or not. Without memory the state stays as it is; where room was made the step succeeds.
+    /// The next record, valid or not. Without memory the state stays as it is; where room was made
+    /// the step succeeds.
     pub fn step(&mut self, rec: &Record) -> Result<(), AllocError>
         ensures stepped { OnOk result (self.new.value ≡ step_of rec.now self.old.value) }
         ensures refused { OnErr result (self.new.value ≡ self.old.value) }
@@ -103,7 +106,8 @@ impl State {
         }
     }
 
-    // Whether a page is a new one: the lowest unused, or deleted by a record of number `since` at most.
+    // Whether a page is a new one: the lowest unused, or deleted by a record of number `since` at
+    // most.
     pub(crate) fn is_new(&self, page: u32, since: u64) -> bool
         ensures { result ≡ true ↔ IsNew (use_of self.now.value) since page }
     {
@@ -188,8 +192,8 @@ impl State {
         self.book.xid_limit()
     }
 
-    /// The old heap page with this number, from 0, that a head is tried on: that of the last placed head, and then in
-    /// rising order those where this run freed a slot.
+    /// The old heap page with this number, from 0, that a head is tried on: that of the last placed
+    /// head, and then in rising order those where this run freed a slot.
     pub fn heap_page(&self, k: u32) -> Option<u32>
         ensures { result ≡ slice_get (heap_pages self.now.value) k }
     {

@@ -1,4 +1,5 @@
-// When a record may come next, as far as the record, its pages before and after, and the state of the log tell.
+// When a record may come next, as far as the record, its pages before and after, and the state of
+// the log tell.
 ghost use Rattle.std.specs.Prelude.{◌≡◌, ◌↔◌, true, [], IsOkAnd};
 ghost use Rattle.page_types.specs.declared.page.Body.TheVariants as body;
 ghost use Rattle.core_state.specs.Log.{changed, xid_bound};
@@ -52,7 +53,8 @@ fn is_first_leaf(rec: &Record, page: &Page) -> bool
     }
 }
 
-/// Whether Create may come next: the log is empty, and an empty metapage and an empty leaf of the entry tree are made.
+/// Whether Create may come next: the log is empty, and an empty metapage and an empty leaf of the
+/// entry tree are made.
 pub fn valid_create(
     _alloc: Global,
     state: &State,
@@ -62,7 +64,8 @@ pub fn valid_create(
     _floor: u32,
     _since: u64,
 ) -> Result<bool, AllocError>
-    ensures { IsOkAnd result (λ b. b ≡ true ↔ IsCreateHere (known_by state.now.value) rec.now before.now after.now) }
+    ensures { IsOkAnd result (λ b. b ≡ true
+        ↔ IsCreateHere (known_by state.now.value) rec.now before.now after.now) }
 {
     let Kind::Create = rec.kind else {
         return Ok(false);
@@ -73,7 +76,8 @@ pub fn valid_create(
     Ok(is_first_meta(rec, &after[0]) && is_first_leaf(rec, &after[1]))
 }
 
-/// Whether Begin may come next: its xid is the next one and below the bound of xids, and it changes no page.
+/// Whether Begin may come next: its xid is the next one and below the bound of xids, and it changes
+/// no page.
 pub fn valid_begin(
     _alloc: Global,
     state: &State,
@@ -83,7 +87,8 @@ pub fn valid_begin(
     _floor: u32,
     _since: u64,
 ) -> Result<bool, AllocError>
-    ensures { IsOkAnd result (λ b. b ≡ true ↔ IsBeginHere (known_by state.now.value) rec.now before.now after.now) }
+    ensures { IsOkAnd result (λ b. b ≡ true
+        ↔ IsBeginHere (known_by state.now.value) rec.now before.now after.now) }
 {
     let Kind::Begin = rec.kind else {
         return Ok(false);
@@ -91,7 +96,8 @@ pub fn valid_begin(
     Ok(changes_pages(rec, &[]) && rec.xid == state.next_xid() && rec.xid < XID_BOUND)
 }
 
-/// Whether Commit may come next: its transaction runs, its number is the next, and it changes no page.
+/// Whether Commit may come next: its transaction runs, its number is the next, and it changes no
+/// page.
 pub fn valid_commit(
     _alloc: Global,
     state: &State,
@@ -101,7 +107,8 @@ pub fn valid_commit(
     _floor: u32,
     _since: u64,
 ) -> Result<bool, AllocError>
-    ensures { IsOkAnd result (λ b. b ≡ true ↔ IsCommitHere (known_by state.now.value) rec.now before.now after.now) }
+    ensures { IsOkAnd result (λ b. b ≡ true
+        ↔ IsCommitHere (known_by state.now.value) rec.now before.now after.now) }
 {
     let Kind::Commit { commit } = rec.kind else {
         return Ok(false);
@@ -120,7 +127,8 @@ pub fn valid_abort(
     _floor: u32,
     _since: u64,
 ) -> Result<bool, AllocError>
-    ensures { IsOkAnd result (λ b. b ≡ true ↔ IsAbortHere (known_by state.now.value) rec.now before.now after.now) }
+    ensures { IsOkAnd result (λ b. b ≡ true
+        ↔ IsAbortHere (known_by state.now.value) rec.now before.now after.now) }
 {
     let Kind::Abort = rec.kind else {
         return Ok(false);

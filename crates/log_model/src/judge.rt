@@ -1,6 +1,7 @@
 // Whether a log is legal.
 use crate::prefix::{Prefix, deltas_apply};
 use crate::same::same_in_front;
+use crate::told::CORE_DIFFERS;
 use log_walks::{Fault, Ledger, LogError, Store, read_log};
 use page_types::Record;
 use std::alloc::{AllocError, Global};
@@ -22,6 +23,9 @@ impl fmt::Display for Verdict {
         match self {
             Verdict::Legal => write!(f, "legal"),
             Verdict::NotAStore => write!(f, "not a store"),
+            Verdict::NotValid { number, rule } if *rule == CORE_DIFFERS => {
+                write!(f, "record {number} is another to the core")
+            }
             Verdict::NotValid { number, .. } => write!(f, "record {number} is not valid"),
         }
     }
@@ -140,6 +144,7 @@ fn judge_records(
     let Prefix {
         store: pages,
         ledger,
+        ..
     } = prefix;
     Ok(Judged {
         records,

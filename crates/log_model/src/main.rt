@@ -10,6 +10,10 @@
 //!   place of the log's, or behind them. A verdict is `legal`, `not a store`, or `record N is not valid`: the records
 //!   before N are a legal log, and N may not follow them.
 //!
+//! Of the kinds of records of which the core has a test it is asked too, and has to find what the walks find; and its
+//! state has to tell what they tell behind each record. Where it doesn't the verdict is `record N is another to the
+//! core`.
+//!
 //! In `index-logs` a commit asks that its documents are indexed, in `logs` not. Printed are each record of the log with
 //! its verdict, the history, and what is not as it was wanted. The first word names the folder of these two, which else
 //! are where the program runs. With the second word `why` each edit's verdict is printed, with the rule that is broken.
@@ -22,6 +26,7 @@ mod images;
 mod judge;
 mod prefix;
 mod same;
+mod told;
 
 use anyhow::Result;
 use folder::{Asks, names_in, test_folder};

@@ -1,6 +1,8 @@
 // A log as far as it is valid, and whether a record may come behind it.
 use crate::images::must_have_images;
-use log_rows::{Changed, Step, row};
+use crate::told::{empty_state, must_find, must_tell};
+use core_state::State;
+use log_rows::{Changed, Step, here, row};
 use log_walks::{Fault, Ledger, PlainPage, Store, must, page_in};
 use page_types::{Kind, PageBytes, Record};
 use std::alloc::{AllocError, Global};
@@ -12,6 +14,8 @@ pub(crate) struct Prefix {
     pub(crate) store: Store,
     /// Its transactions.
     pub(crate) ledger: Ledger,
+    /// The core's state.
+    state: State,
 }
 
 /// The bytes of the pages behind a record, in its order.
@@ -57,6 +61,7 @@ impl Prefix {
         Prefix {
             store: Store::new(alloc),
             ledger: Ledger::new(alloc),
+            state: empty_state(alloc),
         }
     }
 
@@ -74,6 +79,7 @@ impl Prefix {
         for record in records {
             prefix.change_bytes(alloc, record)?;
             prefix.ledger.note(alloc, record)?;
+            prefix.state.step(record)?;
         }
         for (page, left) in pages.pages() {
             prefix.store.put(*page, left.clone()?)?;
@@ -99,6 +105,7 @@ impl Prefix {
             since: record.number,
             asks_index,
         };
+        must_find(alloc, &self.state, &self.store, record, bytes, here(&step))?;
         row(&step)?;
         let mut left = Vec::new(alloc);
         for change in step.changed {
@@ -122,13 +129,16 @@ impl Prefix {
         let bytes = bytes_behind(alloc, &self.store, record)?;
         let pages = self.pages_behind(alloc, record, &bytes, asks_index)?;
         must_have_images(alloc, &self.store, self.ledger.redo, records)?;
+        self.ledger.note(alloc, record)?;
+        self.state.step(record)?;
+        must_tell(&self.state, &self.ledger, record, &pages)?;
         for (page, left) in pages {
             self.store.put(page, left)?;
         }
         for (page, bytes) in bytes {
             self.store.put_bytes(page, bytes)?;
         }
-        Ok(self.ledger.note(alloc, record)?)
+        Ok(())
     }
 }
 

@@ -108,8 +108,17 @@ pub(crate) fn add_row(step: &Step<'_>, doc: Doc) -> Result<(), Fault> {
 fn meta_with(meta: &Changed<'_>, to: u32, end: u32, added: usize) -> Option<PlainBody> {
     let added = u32::try_from(added).ok()?;
     match meta.was_live()? {
-        PlainBody::Meta { first, pages, .. } => Some(PlainBody::Meta {
-            first: if *first == 0 { to } else { *first },
+        PlainBody::Meta {
+            first: 0,
+            last: 0,
+            pages,
+        } => Some(PlainBody::Meta {
+            first: to,
+            last: end,
+            pages: pages.checked_add(added)?,
+        }),
+        PlainBody::Meta { first, pages, .. } if *first != 0 => Some(PlainBody::Meta {
+            first: *first,
             last: end,
             pages: pages.checked_add(added)?,
         }),

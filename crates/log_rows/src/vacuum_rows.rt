@@ -2,14 +2,29 @@
 // slots become free.
 use crate::step::{Changed, Step};
 use log_walks::{
-    Doc, Fault, PlainBody, PlainEntry, PlainHead, PlainPostings, document_at, has_no_pair, has_row,
-    head_of, item_at, must, need,
+    Doc, Fate, Fault, PlainBody, PlainEntry, PlainHead, PlainPostings, document_at, has_no_pair,
+    has_row, head_of, item_at, must, need,
 };
 use page_types::HeadFields;
 
 /// The document is dead.
 fn must_be_dead(step: &Step<'_>, doc: Doc) -> Result<(), Fault> {
     must(step.ledger.is_dead(doc, step.floor), "the document is dead")
+}
+
+/// The document is dead, and its head tells so too: its inserting xid was aborted, or its deleting xid is among the first
+/// `floor` commits.
+fn must_be_dead_head(step: &Step<'_>, doc: Doc, fields: HeadFields) -> Result<(), Fault> {
+    must_be_dead(step, doc)?;
+    let aborted = step.ledger.fate(fields.inserted_by) == Fate::Aborted;
+    let deleted = match step.ledger.fate(fields.deleted_by) {
+        Fate::Committed(number) => number <= step.floor,
+        _ => false,
+    };
+    must(
+        aborted || deleted,
+        "the head tells that the document is dead",
+    )
 }
 
 /// The item may leave a list: its document is dead and has no linked row.
@@ -108,7 +123,7 @@ fn without_page(fields: HeadFields, page: &Changed<'_>) -> Result<HeadFields, Fa
 pub(crate) fn drop_page(step: &Step<'_>, doc: Doc) -> Result<(), Fault> {
     let (heap, page) = step.two()?;
     let head = need(head_of(step.store, doc), "the document has its slot")?;
-    must_be_dead(step, doc)?;
+    must_be_dead_head(step, doc, head.fields)?;
     let no_pair = has_no_pair(step.alloc, step.store, doc.item)?;
     must(no_pair, "no row and no posting has the item")?;
     page.must_be_deleted()?;
@@ -120,7 +135,7 @@ pub(crate) fn drop_page(step: &Step<'_>, doc: Doc) -> Result<(), Fault> {
 fn may_free(step: &Step<'_>, item: u32, head: &PlainHead) -> Result<(), Fault> {
     let fields = head.fields;
     let serial = fields.serial;
-    must_be_dead(step, Doc { item, serial })?;
+    must_be_dead_head(step, Doc { item, serial }, fields)?;
     let empty = fields.overflow == 0 && fields.private == 0;
     must(empty, "the chains of a freed document are empty")?;
     let no_pair = has_no_pair(step.alloc, step.store, item)?;

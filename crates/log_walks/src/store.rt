@@ -30,6 +30,11 @@ impl Store {
         self.pages.get(&page)
     }
 
+    /// The page's bytes, unless no record has changed it.
+    pub fn bytes(&self, page: u32) -> Option<&PageBytes> {
+        self.bytes.get(&page)
+    }
+
     /// All pages, by their numbers.
     pub fn pages(&self) -> &BTreeMap<u32, PlainPage> {
         &self.pages

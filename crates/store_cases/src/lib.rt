@@ -10,6 +10,8 @@ mod device_tests;
 #[cfg(test)]
 mod item_tests;
 #[cfg(test)]
+mod memory_tests;
+#[cfg(test)]
 mod page_rows;
 #[cfg(test)]
 mod page_tests;
@@ -19,5 +21,7 @@ mod record_rows;
 mod record_tests;
 #[cfg(test)]
 mod spelling_tests;
+#[cfg(test)]
+mod state_memory_tests;
 #[cfg(test)]
 mod state_tests;

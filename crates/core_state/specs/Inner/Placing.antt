@@ -10,8 +10,10 @@ use Rattle.core_state.specs.Changes.{left_with, IsNew, PutsSlot}
 use Rattle.core_state.specs.HeapRows.{IsNewHead}
 use Rattle.core_state.specs.declared.answers.PageUse.{PageUse}
 
--- slot k, which was free or is the next, gets a new head with this serial, of this transaction, and the others stay
-pub record PlacesHead (slots : List (Option Head)) (k : ℕ) (new : List (Option Head)) (serial xid : ℕ) : Type 0 where
+-- slot k, which was free or is the next, gets a new head with this serial, of this transaction, and
+-- the others stay
+pub record PlacesHead (slots : List (Option Head)) (k : ℕ) (new : List (Option Head))
+    (serial xid : ℕ) : Type 0 where
   pub head : Head
   pub was_free : slot_at slots k ≡ None
   pub in_row : k ≤ length slots
@@ -19,10 +21,12 @@ pub record PlacesHead (slots : List (Option Head)) (k : ℕ) (new : List (Option
   pub put : PutsSlot slots k (Some head) new
 
 -- an old heap page, or a new page, is left with a new head in the slot of this name
-pub record LeavesHead (uses : ℕ → PageUse) (since : ℕ) (r : Record) (n : Name) (old new : Page) : Type 0 where
+pub record LeavesHead (uses : ℕ → PageUse) (since : ℕ) (r : Record) (n : Name)
+    (old new : Page) : Type 0 where
   pub slots : List (Option Head)
   pub new_slots : List (Option Head)
   pub right : ℕ
-  pub page : ((old.body ≡ body.Heap slots) × (right ≡ old.right)) ⊎ ((slots ≡ []) × (right ≡ 0) × IsNew uses since n.page)
+  pub page : ((old.body ≡ body.Heap slots) × (right ≡ old.right))
+      ⊎ ((slots ≡ []) × (right ≡ 0) × IsNew uses since n.page)
   pub places : PlacesHead slots n.slot new_slots n.serial r.xid
   pub after : new ≡ left_with r right (body.Heap new_slots)

@@ -1,0 +1,94 @@
+//! Follows two logs by the core's state, and prints counts of what it tells then: one of a document
+//! for each transaction, and one of as many transactions that all run beside each other, which
+//! place a document, mark it, and then commit, abort or are ended with all others. With the word
+//! `time` there are a million in place of 10,000, and it is also printed how long each log takes;
+//! with the word `documents` only the first log is followed.
+#![tactic(auto)]
+
+mod logs;
+
+use anyhow::Result;
+use core_state::{Fate, State};
+use logs::{Follower, follow_documents, follow_runners};
+use std::alloc::Global;
+use std::env;
+use std::rt::{Clock, Env};
+use std::time::Instant;
+
+/// How many transactions a log has.
+const SOME: u32 = 10_000;
+
+/// How many it has where time is asked for.
+const MANY: u32 = 1_000_000;
+
+/// What is asked for.
+#[derive(Drop)]
+struct Asked {
+    /// How long each log takes.
+    timed: bool,
+    /// The first log alone.
+    documents: bool,
+}
+
+/// The words behind the program's name.
+fn words(rt: &(impl Env + AllocGlobal)) -> Result<Asked> {
+    let mut asked = Asked {
+        timed: false,
+        documents: false,
+    };
+    for word in env::args(rt)?.skip(1) {
+        match word.as_str() {
+            "time" => asked.timed = true,
+            "documents" => asked.documents = true,
+            _ => {}
+        }
+    }
+    Ok(asked)
+}
+
+/// How many of the first xids have committed.
+fn committed(state: &State, xids: u32) -> u32 {
+    let mut count = 0u32;
+    for xid in 1..xids {
+        if let Fate::Committed(_) = state.fate(xid) {
+            count = count.saturating_add(1);
+        }
+    }
+    count
+}
+
+/// Prints what the state tells, and how long the log took where that is asked for.
+fn report(rt: &impl Print, what: &str, state: &State, seconds: f64, timed: bool) -> Result<()> {
+    let commits = committed(state, state.next_xid());
+    let (records, serial) = (state.length(), state.next_serial());
+    println!(rt; "{what}: {records} records, {commits} commits, next serial {serial}")?;
+    if timed {
+        println!(rt; "{seconds:.3} seconds")?;
+    }
+    Ok(())
+}
+
+/// The whole program.
+fn run(rt: &(impl Print + Env + Clock + AllocGlobal)) -> Result<()> {
+    let alloc: Global = rt.alloc();
+    let Asked { timed, documents } = words(rt)?;
+    let count = if timed { MANY } else { SOME };
+    let start = Instant::now(rt)?;
+    let mut follower = Follower::new(alloc)?;
+    follow_documents(&mut follower, count)?;
+    let seconds = start.elapsed(rt)?.as_secs_f64();
+    report(rt, "one by one", &follower.state, seconds, timed)?;
+    if documents {
+        return Ok(());
+    }
+    let start = Instant::now(rt)?;
+    let mut follower = Follower::new(alloc)?;
+    follow_runners(&mut follower, count)?;
+    let seconds = start.elapsed(rt)?.as_secs_f64();
+    report(rt, "all at once", &follower.state, seconds, timed)
+}
+
+/// The whole program, at the process's own input and output.
+fn main(rt: HostRuntime) -> Result<()> {
+    run(&rt)
+}
