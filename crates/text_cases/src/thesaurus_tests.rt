@@ -105,6 +105,10 @@ fn best(rt: HostRuntime) -> Result<(), Fail> {
         Row(LINES, "red", 1, "p*"),
         Row("a b:c : d", "a b", 2, "c* :* d*"),
         Row("a : ? **b", "a", 1, "?* *b"),
+        Row("a b c : d\na b : e\na b c d : f", "a b c e", 3, "d*"),
+        Row("a b c : d\na b : e", "a b d", 2, "e*"),
+        Row("a : b\nc : d\na : e\nd : f", "a c", 1, "e*"),
+        Row("? ? : a\n? : b", "? ? ?", 2, "a*"),
     ];
     for row in &rows {
         assert!(rt; is_right(rt.alloc(), row)?, "{} of {}", row.1, row.0);
@@ -127,6 +131,11 @@ fn continues(rt: HostRuntime) -> Result<(), Fail> {
     for (text, goes_on) in &rows {
         let answers = answers_of(alloc, text)?;
         assert_eq!(rt; thesaurus.continues(&answers), *goes_on, "{text}");
+        let mut walk = thesaurus.walk(alloc);
+        for answer in answers {
+            walk.push(answer)?;
+        }
+        assert_eq!(rt; walk.continues(), *goes_on, "{text}");
     }
     assert!(rt; thesaurus.continues(&[]));
     assert!(rt; !Thesaurus::new(alloc).continues(&[]));

@@ -1,10 +1,9 @@
 -- Looking ahead among the tokens of a text.
-use Rattle.std.proofs.Common.{◌≡◌, inl, inr, ℕ, ◌<◌, List, [], ◌∷◌, ◌++◌, true, false, length, map, refl, sym, ◌∙◌, ap, subst, append_assoc, arith}
+use Rattle.std.proofs.Common.{◌≡◌, inl, inr, ℕ, ◌<◌, List, [], ◌∷◌, ◌++◌, true, false, length, refl, sym, ◌∙◌, ap, subst, append_assoc, arith}
 use Rattle.std.specs.Prelude.{All}
 use Rattle.std.proofs.lemmas.List.Elements.{All-head, All-tail}
-use Rattle.std.proofs.lemmas.List.{length-append, map-append}
-use Rattle.ts_base.specs.declared.Answer.{Answer}
-use Rattle.ts_base.specs.Dictionary.{WordAnswer, answer_value}
+use Rattle.std.proofs.lemmas.List.{length-append}
+use Rattle.ts_base.specs.Dictionary.{WordAnswer}
 use Rattle.ts_thesaurus.specs.Rules.{Rule, Continues}
 use Rattle.ts_parser.specs.declared.iter.Token.{Token}
 use Rattle.ts_config.specs.Mappings.{Mapping}
@@ -62,22 +61,24 @@ module _ (m : Mapping) (text : List ℕ) (answer : List ℕ → WordAnswer) (p :
   abbrev pub given_to : List Token → List WordAnswer
   given_to ts = answers_to answer text (seen m p ts)
 
-  pub asked_start : (t : Token) (ts : List Token) (a : Answer) (answers : List Answer) → lists m p t ≡ true → answer_value a ≡ answer (word_of text t) → answers ≡ a ∷ []
-      → given_to (t ∷ ts) ≡ map answer_value answers ++ given_to ts
-  asked_start t ts a answers l e f =
-      ap (answers_to answer text) (seen_takes m p t ts l) ∙ ap (λ b. b ∷ given_to ts) (sym e) ∙ ap (λ bs. map answer_value bs ++ given_to ts) (sym f)
+  pub asked_start : (t : Token) (ts : List Token) (a : WordAnswer) (answers : List WordAnswer) → lists m p t ≡ true → a ≡ answer (word_of text t) → answers ≡ a ∷ []
+      → given_to (t ∷ ts) ≡ answers ++ given_to ts
+  asked_start t ts a answers l e f = ap (answers_to answer text) (seen_takes m p t ts l) ∙ ap (λ b. b ∷ given_to ts) (sym e) ∙ ap (λ bs. bs ++ given_to ts) (sym f)
 
-  module _ (all : List WordAnswer) (answers : List Answer) (ahead : List Token) (so_far : all ≡ map answer_value answers ++ given_to ahead) where
-    pub asked_more : (t : Token) (new : List Token) (a : Answer) (next : List Answer) → IsNextSeen m p ahead t new → answer_value a ≡ answer (word_of text t) → next ≡ answers ++ a ∷ []
-        → all ≡ map answer_value next ++ given_to new
+  module _ (all answers : List WordAnswer) (ahead : List Token) (so_far : all ≡ answers ++ given_to ahead) where
+    pub asked_more : (t : Token) (new : List Token) (a : WordAnswer) (next : List WordAnswer) → IsNextSeen m p ahead t new → a ≡ answer (word_of text t) → next ≡ answers ++ a ∷ []
+        → all ≡ next ++ given_to new
     asked_more t new a next n e f =
-        so_far ∙ ap (λ bs. map answer_value answers ++ answers_to answer text bs) n.value ∙ ap (λ b. map answer_value answers ++ b ∷ given_to new) (sym e)
-        ∙ sym (append_assoc (map answer_value answers) (answer_value a ∷ []) (given_to new))
-        ∙ ap (λ bs. bs ++ given_to new) (sym (map-append answer_value answers (a ∷ []))) ∙ ap (λ bs. map answer_value bs ++ given_to new) (sym f)
+        so_far ∙ ap (λ bs. answers ++ answers_to answer text bs) n.value ∙ ap (λ b. answers ++ b ∷ given_to new) (sym e)
+        ∙ sym (append_assoc answers (a ∷ []) (given_to new)) ∙ ap (λ bs. bs ++ given_to new) (sym f)
 
-    module _ (rules : List Rule) where
-      pub asked_end : seen m p ahead ≡ [] → AreSeen rules all (map answer_value answers)
-      asked_end e = record { more = given_to ahead; split = so_far; enough = inl (ap (answers_to answer text) e) }
+    -- what was given is these answers
+    module _ (rules : List Rule) (given : List WordAnswer) (is : given ≡ answers) where
+      whole : all ≡ given ++ given_to ahead
+      whole = so_far ∙ ap (λ z. z ++ given_to ahead) (sym is)
 
-      pub asked_enough : ¬ Continues rules (map answer_value answers) → AreSeen rules all (map answer_value answers)
-      asked_enough n = record { more = given_to ahead; split = so_far; enough = inr n }
+      pub asked_end : seen m p ahead ≡ [] → AreSeen rules all given
+      asked_end e = record { more = given_to ahead; split = whole; enough = inl (ap (answers_to answer text) e) }
+
+      pub asked_enough : (walked : List Rule) → walked ≡ rules → ¬ Continues walked answers → AreSeen rules all given
+      asked_enough walked same n = record { more = given_to ahead; split = whole; enough = inr (λ c. n (subst (Continues walked) is (subst (λ z. Continues z given) (sym same) c))) }

@@ -129,15 +129,15 @@ impl Listed<'_> {
             (map answer_value answers.items)) }
     {
         let mut ahead = left.again();
-        let mut answers = Vec::new(alloc);
-        answers.push(answer_to(alloc, self.sub, text, first)?)?;
-        while self.thesaurus.continues(&answers) {
+        let mut walk = self.thesaurus.walk(alloc);
+        walk.push(answer_to(alloc, self.sub, text, first)?)?;
+        while walk.continues() {
             let Some(next) = next_seen(config, self.place, &mut ahead) else {
-                return Ok(answers);
+                return Ok(walk.into_answers());
             };
-            answers.push(answer_to(alloc, self.sub, text, next)?)?;
+            walk.push(answer_to(alloc, self.sub, text, next)?)?;
         }
-        Ok(answers)
+        Ok(walk.into_answers())
     }
 
     /// The words of the phrase that begins with a token, whose other tokens are passed over; unknown where none does.

@@ -11,6 +11,7 @@ use Rattle.ts_thesaurus.specs.declared.rule.KeptRule.{KeptRule}
 use Rattle.ts_thesaurus.specs.Rules.{Rule, lexemes_of, FitsFirst, FitsAll, Replacement, IsBest, NoneFits, Continues}
 use Rattle.ts_thesaurus.specs.Views.{sample_value, rule_value}
 use Rattle.ts_thesaurus.specs.Inner.Best.{Suits, size, IsBestOf, IsBestPlace}
+use Rattle.ts_thesaurus.specs.Inner.Walks.{IsBestUpTo}
 
 -- ── lexemes ──
 module _ (left right : List Found) (i : ℕ) (d e : Found) (h : i < length left) (k : i < length right) where
@@ -105,32 +106,47 @@ kept_at rules k rule e = by (slice_get rules k) refl
 length-viewed : (rule : KeptRule) → length (rule_value rule).samples ≡ size rule
 length-viewed rule = length-map rule.samples.items sample_value
 
-pub best_none : (rules : List KeptRule) (answers : List WordAnswer) → IsBestPlace rules answers None → NoneFits (viewed rules) answers
-best_none rules answers (longest, b) k rule e fits =
+-- the best of all rules is so among those of any length
+pub best_up_to : (rules : List KeptRule) (answers : List WordAnswer) (best : Option ℕ) → IsBestPlace rules answers best → (n : ℕ) → IsBestUpTo (viewed rules) answers n best
+best_up_to rules answers None (longest, b) n = λ k rule e le fits.
     let kept = kept_at rules k rule e in
     b.1 k kept.0 (slice_get_within rules k kept.0 kept.1) kept.1 (subst (λ r. FitsFirst r.samples answers) (sym kept.2) fits)
+best_up_to rules answers (Some place) (longest, b) n = (
+  rule_value b.rule,
+  viewed_at rules place b.rule b.there,
+  b.suits,
+  λ k other f le fits.
+      let kept = kept_at rules k other f in
+      let o = b.others k kept.0 (slice_get_within rules k kept.0 kept.1) kept.1 (subst (λ r. FitsFirst r.samples answers) (sym kept.2) fits) in
+      let sizes : length other.samples ≡ size kept.0 = sym (ap (λ r. length r.samples) kept.2) ∙ length-viewed kept.0 in
+      let mine : length (rule_value b.rule).samples ≡ longest = length-viewed b.rule ∙ sym b.longest_is in
+      ⊎_elim (λ l. inl (let z : length other.samples < length (rule_value b.rule).samples = omega arith in z)) (λ s. inr (sizes ∙ s.0 ∙ sym mine, s.1)) o,
+)
 
-pub place_within : (rules : List KeptRule) (answers : List WordAnswer) (place : ℕ) → IsBestPlace rules answers (Some place) → place < length rules
-place_within rules answers place (longest, b) = slice_get_within rules place b.rule b.there
+module _ (rules : List Rule) (answers : List WordAnswer) where
+  pub best_none : ((n : ℕ) → IsBestUpTo rules answers n None) → NoneFits rules answers
+  best_none all k rule e fits = all (length rule.samples) k rule e (omega arith) fits
 
-pub best_some : (rules : List KeptRule) (answers : List WordAnswer) (place : ℕ) (rule : KeptRule) (r : Replacement) → IsBestPlace rules answers (Some place) → slice_get rules place ≡ Some rule
-    → r.tokens ≡ size rule → r.words ≡ rule.words.items → IsBest (viewed rules) answers r
-best_some rules answers place rule r (longest, b) e tokens words =
-    let same : b.rule ≡ rule = (let x : Some b.rule ≡ Some rule = sym b.there ∙ e in cc) in
-    record {
-      place = place;
-      rule = rule_value rule;
-      there = viewed_at rules place rule e;
-      fits = subst (Suits answers) same b.suits;
-      longest = λ k other f fits.
-          let kept = kept_at rules k other f in
-          let o = b.others k kept.0 (slice_get_within rules k kept.0 kept.1) kept.1 (subst (λ r. FitsFirst r.samples answers) (sym kept.2) fits) in
-          let sizes : length other.samples ≡ size kept.0 = sym (ap (λ r. length r.samples) kept.2) ∙ length-viewed kept.0 in
-          let mine : length (rule_value rule).samples ≡ longest = length-viewed rule ∙ ap size (sym same) ∙ sym b.longest_is in
-          ⊎_elim (λ l. inl (let z : length other.samples < length (rule_value rule).samples = omega arith in z)) (λ s. inr (sizes ∙ s.0 ∙ sym mine, s.1)) o;
-      tokens = tokens ∙ sym (length-viewed rule);
-      words = words;
-    }
+  pub best_some : (place : ℕ) (rule : Rule) (r : Replacement) → ((n : ℕ) → IsBestUpTo rules answers n (Some place)) → slice_get rules place ≡ Some rule
+      → r.tokens ≡ length rule.samples → r.words ≡ rule.words → IsBest rules answers r
+  best_some place rule r all at tokens words = record {
+    place = place;
+    rule = rule;
+    there = at;
+    fits = (let b = all 0 in subst (λ q. FitsFirst q.samples answers) (one b.0 b.1) b.2);
+    longest = λ k other f fits.
+        let b = all (length other.samples) in
+        subst (λ q. (length other.samples < length q.samples) ⊎ ((length other.samples ≡ length q.samples) × (k ≤ place))) (one b.0 b.1)
+        (b.3 k other f (omega arith) fits);
+    tokens = tokens;
+    words = words;
+  }
+    where
+      one : (q : Rule) → slice_get rules place ≡ Some q → q ≡ rule
+      one q e = let x : Some q ≡ Some rule = sym e ∙ at in cc
+
+pub place_within : (rules : List KeptRule) (answers : List WordAnswer) (place : ℕ) → ((n : ℕ) → IsBestUpTo (viewed rules) answers n (Some place)) → place < length rules
+place_within rules answers place all = let b = all 0 in let k = kept_at rules place b.0 b.1 in slice_get_within rules place k.0 k.1
 
 -- ── going on ──
 -- none of the rules before a place goes on

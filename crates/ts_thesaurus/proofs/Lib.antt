@@ -5,3 +5,12 @@ pub mod Fitting
 pub mod Best
 pub mod Progress
 pub mod Readings
+pub mod Naming
+pub mod Growing
+pub mod Entering
+pub mod Indexed
+pub mod Joining
+pub mod Walking
+pub mod Finding
+pub mod GoingOn
+pub mod Chosen

@@ -8,7 +8,7 @@ use Rattle.ts_thesaurus.specs.Laws.{OneFits, LinesHaveOneReading}
 use Rattle.ts_thesaurus.proofs.Sides.{one_sides}
 use Rattle.ts_thesaurus.proofs.Progress.{none_refused}
 
-one_sample : (answer : WordAnswer) (a b : SampleWord) → Fits a answer → Fits b answer → a ≡ b
+pub one_sample : (answer : WordAnswer) (a b : SampleWord) → Fits a answer → Fits b answer → a ≡ b
 one_sample unknown_word any_stop b f g = absurd f
 one_sample unknown_word (with_lexemes l) b f g = absurd f
 one_sample stop_word any_stop any_stop f g = refl

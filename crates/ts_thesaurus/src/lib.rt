@@ -8,8 +8,11 @@ mod matching;
 mod reading;
 mod rule;
 mod thesaurus;
+mod tree;
+mod walk;
 mod words;
 
 pub use error::{LineError, ThesaurusError};
 pub use laws::{lines_have_one_reading, one_fits};
 pub use thesaurus::{Replaced, Thesaurus};
+pub use walk::Walk;

@@ -1,10 +1,10 @@
 // How samples fit answers.
 ghost use Rattle.std.specs.Prelude.{◌≡◌, ◌↔◌, map, IsTrue};
 ghost use Rattle.ts_base.specs.Dictionary.{answer_value};
-ghost use Rattle.ts_thesaurus.specs.Rules.{lexemes_of, Fits, FitsFirst, FitsAll};
-ghost use Rattle.ts_thesaurus.specs.Views.{sample_value};
+ghost use Rattle.ts_thesaurus.specs.Rules.{lexemes_of, Fits, FitsFirst, FitsAll, Continues};
+ghost use Rattle.ts_thesaurus.specs.Views.{sample_value, rule_value};
 
-use crate::rule::Sample;
+use crate::rule::{KeptRule, Sample};
 use ts_base::{Answer, Found};
 
 /// Whether both have the same lexemes, marks aside.
@@ -55,4 +55,16 @@ pub fn fits_all(samples: &[Sample], answers: &[Answer]) -> bool
         }
     }
     true
+}
+
+/// Whether some rule has a beginning that fits all of these answers.
+pub fn goes_on(rules: &[KeptRule], answers: &[Answer]) -> bool
+    ensures { IsTrue result ↔ Continues (map rule_value rules.now) (map answer_value answers.now) }
+{
+    for rule in rules {
+        if fits_all(&rule.samples, answers) {
+            return true;
+        }
+    }
+    false
 }

@@ -1,17 +1,22 @@
 // The dictionary.
-ghost use Rattle.std.specs.Prelude.{◌≡◌, ◌↔◌, ◌⊎◌, ℕ, ◌<◌, List, [], ◌∷◌, ◌++◌, map, IfOk, IfErr, IfSome, IfNone, IsTrue, OnOk, OnErr};
+ghost use Rattle.std.specs.Prelude.{◌≡◌, ◌↔◌, ◌⊎◌, ℕ, ◌<◌, List, [], ◌∷◌, ◌++◌, map, is_some, IfOk, IfErr, IfSome, IfNone, IsTrue, OnOk, OnErr};
 ghost use Rattle.std.specs.Str.Lines.{lines};
 ghost use Rattle.ts_base.specs.Dictionary.{answer_value};
 ghost use Rattle.ts_thesaurus.specs.Rules.{IsBest, NoneFits, Continues};
 ghost use Rattle.ts_thesaurus.specs.Lines.{AreRules};
 ghost use Rattle.ts_thesaurus.specs.Faults.{IsFault, IsRefusal};
 ghost use Rattle.ts_thesaurus.specs.Inner.Best.{IsBestPlace};
+ghost use Rattle.ts_thesaurus.specs.Inner.Walks.{IsBestUpTo};
+ghost use Rattle.ts_thesaurus.specs.Inner.States.{HasTree};
+ghost use Rattle.ts_thesaurus.specs.Inner.Index.{MayHaveTree};
 ghost use Rattle.ts_thesaurus.specs.Views.{rule_value};
 
 use crate::error::{LineError, ThesaurusError};
 use crate::line::read_line;
-use crate::matching::{fits_all, fits_first};
+use crate::matching::{fits_first, goes_on};
 use crate::rule::KeptRule;
+use crate::tree::Tree;
+use crate::walk::Walk;
 use std::alloc::{AllocError, Global};
 use std::marker::Model;
 use ts_base::{Answer, Dictionary, Found};
@@ -21,6 +26,8 @@ use ts_base::{Answer, Dictionary, Found};
 pub struct Thesaurus {
     /// The rules.
     rules: Vec<KeptRule>,
+    /// Their samples as a tree; none where memory once ran out while a rule was added.
+    tree: Option<Tree>,
 }
 
 impl Model for Thesaurus {
@@ -30,8 +37,11 @@ impl Model for Thesaurus {
     ghost Value = { List Rule };
 
     ghost use Rattle.ts_thesaurus.specs.Views.{rule_value};
+    ghost use Rattle.ts_thesaurus.specs.Inner.Index.{MayHaveTree};
 
     ghost view = { λ t. map rule_value t.rules.items };
+
+    ghost invariant = { λ t. MayHaveTree (map rule_value t.rules.items) t.tree };
 }
 
 /// What is replaced: how many answers, and the words in their place.
@@ -59,6 +69,32 @@ fn best_place(rules: &[KeptRule], answers: &[Answer]) -> Option<usize>
     best
 }
 
+/// Whether some rule has a beginning that fits all of these answers, by the tree of the rules.
+fn goes_on_in(tree: &Tree, rules: &[KeptRule], answers: &[Answer]) -> bool
+    requires { HasTree (map rule_value rules.now) tree.now.states.items }
+    ensures { IsTrue result ↔ Continues (map rule_value rules.now) (map answer_value answers.now) }
+{
+    !rules.is_empty() && tree.behind_all(answers).is_some()
+}
+
+/// The tree of these rules, if there is one, with the samples of one rule more.
+fn grown(
+    alloc: Global,
+    tree: Option<Tree>,
+    rules: &[KeptRule],
+    rule: &KeptRule,
+) -> Result<Option<Tree>, AllocError>
+    requires { MayHaveTree (map rule_value rules.now) tree }
+    ensures tree { IfOk result
+        (MayHaveTree (map rule_value rules.now ++ rule_value rule.now ∷ [])) }
+    ensures stays { IfOk result (λ r. is_some r ≡ is_some tree) }
+{
+    match tree {
+        Some(tree) => Ok(Some(tree.with(alloc, rules, rule)?)),
+        None => Ok(None),
+    }
+}
+
 impl Thesaurus {
     /// The thesaurus without rules.
     pub fn new(alloc: Global) -> Thesaurus
@@ -66,6 +102,7 @@ impl Thesaurus {
     {
         Thesaurus {
             rules: Vec::new(alloc),
+            tree: Some(Tree::new(alloc)),
         }
     }
 
@@ -90,11 +127,13 @@ impl Thesaurus {
     }
 
     /// Puts a rule behind the others.
-    fn keep(&mut self, rule: KeptRule) -> Result<(), AllocError>
+    fn keep(&mut self, alloc: Global, rule: KeptRule) -> Result<(), AllocError>
         ensures kept { OnOk result (self.new ≡ self.old ++ rule_value rule ∷ []) }
         ensures failed { OnErr result (self.new ≡ self.old) }
     {
+        let tree = grown(alloc, self.tree.take(), &self.rules, &rule)?;
         self.rules.push(rule)?;
+        self.tree = tree;
         Ok(())
     }
 
@@ -114,8 +153,18 @@ impl Thesaurus {
         let Some(rule) = read_line(alloc, line, sub)? else {
             return Ok(());
         };
-        self.keep(rule)?;
+        self.keep(alloc, rule)?;
         Ok(())
+    }
+
+    /// The place of the longest rule that fits the first answers, of equal ones the last.
+    fn best_at(&self, answers: &[Answer]) -> Option<usize>
+        ensures { (n : ℕ) → IsBestUpTo self.now (map answer_value answers.now) n result }
+    {
+        match &self.tree {
+            Some(tree) => tree.best(answers),
+            None => best_place(&self.rules, answers),
+        }
     }
 
     /// What the longest rule that fits the first answers gives, of equally long ones the last; none where no rule fits.
@@ -124,7 +173,7 @@ impl Thesaurus {
             (record { tokens = r.tokens; words = r.words.now })) }
         ensures none { IfNone result (NoneFits self.now (map answer_value answers.now)) }
     {
-        let place = best_place(&self.rules, answers)?;
+        let place = self.best_at(answers)?;
         let rule = &self.rules[place];
         Some(Replaced {
             tokens: rule.samples.as_slice().len(),
@@ -136,12 +185,17 @@ impl Thesaurus {
     pub fn continues(&self, answers: &[Answer]) -> bool
         ensures { IsTrue result ↔ Continues self.now (map answer_value answers.now) }
     {
-        for rule in &self.rules {
-            if fits_all(&rule.samples, answers) {
-                return true;
-            }
+        match &self.tree {
+            Some(tree) => goes_on_in(tree, &self.rules, answers),
+            None => goes_on(&self.rules, answers),
         }
-        false
+    }
+
+    /// A walk along answers to come.
+    pub fn walk(&self, alloc: Global) -> Walk<'_>
+        ensures { result ≡ record { rules = self.now; answers = [] } }
+    {
+        Walk::new(alloc, &self.rules, self.tree.as_ref())
     }
 }
 

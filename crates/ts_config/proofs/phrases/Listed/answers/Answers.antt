@@ -1,5 +1,6 @@
 use Rattle.std.proofs.Common.{◌++◌, ◌∷◌, [], sym, ◌∙◌, ap, subst}
 use Rattle.std.specs.Prelude.{All}
+use Rattle.ts_base.specs.Dictionary.{answer_value}
 use Rattle.ts_config.specs.Rules.{answer_by, rules_of}
 use Rattle.ts_config.specs.Inner.Looking.{IsToken}
 use Rattle.ts_config.proofs.Seen.{lists_short}
@@ -15,11 +16,12 @@ loop-ahead-init c =
     let text = c.args.text.now in
     let answer = answer_by (rules_of c.args.self.now.sub.now) in
     let p = c.args.self.now.place in
-    let a = c.in_ok-answer_to.field-0 in
-    let pushed = c.in_ok-push.ensures.items ∙ ap (λ l. l ++ a ∷ []) c.new-answers.ensures.items in
-    let start = asked_start m text answer p c.args.first c.again-ahead.result a c.push.new.self.items c.requires.listed c.in_ok-answer_to.ensures pushed in
+    let a = answer_value c.in_ok-answer_to.field-0 in
+    let pushed = ap (λ w. w.answers) c.in_ok-push.ensures.pushed ∙ ap (λ w. w.answers ++ a ∷ []) c.walk-walk.ensures in
+    let start = asked_start m text answer p c.args.first c.again-ahead.result a c.push.new.self.answers c.requires.listed c.in_ok-answer_to.ensures pushed in
     record {
       tokens = subst (All (IsToken text)) (sym c.again-ahead.ensures) c.requires.rest;
+      rules = ap (λ w. w.rules) c.in_ok-push.ensures.pushed ∙ ap (λ w. w.rules) c.walk-walk.ensures;
       so_far = ap (λ l. given_to m text answer p (c.args.first ∷ l)) (sym c.again-ahead.ensures) ∙ start;
     }
 
@@ -39,5 +41,6 @@ loop-ahead-preserved c =
     let step = c.in-Some.ensures in
     record {
       tokens = (next_all (IsToken text) m p c.loop-ahead.ahead c.next_seen.new.ahead c.in-Some.next c.loop-ahead.invariant.tokens step).1;
-      so_far = asked_more m text (answer_by (rules_of c.args.self.now.sub.now)) p _ c.loop-ahead.answers.items c.loop-ahead.ahead c.loop-ahead.invariant.so_far c.in-Some.next c.next_seen.new.ahead _ c.push-in-loop-ahead.new.self.items step c.in_ok-answer_to-2.ensures c.in_ok-push-2.ensures.items;
+      rules = ap (λ w. w.rules) c.in_ok-push-2.ensures.pushed ∙ c.loop-ahead.invariant.rules;
+      so_far = asked_more m text (answer_by (rules_of c.args.self.now.sub.now)) p _ c.loop-ahead.walk.answers c.loop-ahead.ahead c.loop-ahead.invariant.so_far c.in-Some.next c.next_seen.new.ahead _ c.push-in-loop-ahead.new.self.answers step c.in_ok-answer_to-2.ensures (ap (λ w. w.answers) c.in_ok-push-2.ensures.pushed);
     }
