@@ -9,6 +9,8 @@ mod base_tests;
 #[cfg(test)]
 mod config_tests;
 #[cfg(test)]
+mod make_tests;
+#[cfg(test)]
 mod match_tests;
 #[cfg(test)]
 mod parser_tests;

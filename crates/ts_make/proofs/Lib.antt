@@ -1,0 +1,12 @@
+pub mod Removal
+pub mod Grouping
+pub mod Trees
+pub mod Worked
+pub mod Made
+pub mod Writing
+pub mod Making
+pub mod Steps
+pub mod Operators
+pub mod GroupQueries
+pub mod Nodes
+pub mod Remaking

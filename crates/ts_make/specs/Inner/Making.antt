@@ -1,0 +1,51 @@
+-- What is kept of two parts with an operator between them; drafts of trees.
+use Rattle.std.specs.Prelude.{ℕ, ◌+◌, List, [], ◌∷◌, Bool, true, false, max}
+use Rattle.ts_query.specs.Queries.{Joint, or_joint, and_joint, phrase_joint, Tree}
+use Rattle.ts_config.specs.Mappings.{Mapping}
+use Rattle.ts_config.specs.Known.{Known}
+use Rattle.ts_make.specs.Trees.{near}
+use Rattle.ts_make.specs.Made.{IsDrafted}
+use Rattle.ts_make.specs.Removal.{Draft}
+pub use Rattle.ts_make.specs.Making.{with_left, nodes_drafted, IsMaking, OperandFails}
+use Rattle.ts_make.specs.declared.maker.Part.{Part}
+use Rattle.ts_make.specs.declared.maker.Link.{Link}
+use Rattle.ts_make.specs.declared.maker.Link.TheVariants.{And, Or, Phrase}
+
+abbrev pub link_joint : Link → Joint
+link_joint And = and_joint
+link_joint Or = or_joint
+link_joint (Phrase n) = phrase_joint n
+
+abbrev pub part : Bool → ℕ → ℕ → Part
+part there left right = record { there = there; left = near left; right = near right }
+
+abbrev pub joined_phrase : ℕ → Part → Part → Bool → Bool → Part
+joined_phrase n x y true true = part true x.left y.right
+joined_phrase n x y true false = part true x.left (x.right + n + y.right)
+joined_phrase n x y false true = part true (x.left + n + y.left) y.right
+joined_phrase n x y false false = part false (x.left + n + y.left) (x.left + n + y.left)
+
+abbrev pub joined_pair : Part → Part → Bool → Bool → Part
+joined_pair x y true true = part true 0 0
+joined_pair x y true false = x
+joined_pair x y false true = y
+joined_pair x y false false = part false (max x.left y.left) (max x.left y.left)
+
+abbrev pub joined_part : Joint → Part → Part → Part
+joined_part (phrase_joint n) x y = joined_phrase n x y x.there y.there
+joined_part and_joint x y = joined_pair x y x.there y.there
+joined_part or_joint x y = joined_pair x y x.there y.there
+
+-- the operator between two parts that are both left
+abbrev pub kept_joint : Joint → Part → Part → Joint
+kept_joint (phrase_joint n) x y = phrase_joint (near (n + x.right + y.left))
+kept_joint and_joint x y = and_joint
+kept_joint or_joint x y = or_joint
+
+-- trees and their drafts, one by one
+abbrev pub AreDrafted : Known → Mapping → List Tree → List Draft → Type 0
+AreDrafted known mapping [] [] = Unit {0}
+AreDrafted known mapping [] (d ∷ ds) = ⊥
+AreDrafted known mapping (t ∷ ts) [] = ⊥
+AreDrafted known mapping (t ∷ ts) (d ∷ ds) =
+    IsDrafted known mapping t d × AreDrafted known mapping ts ds

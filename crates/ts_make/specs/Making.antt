@@ -1,0 +1,66 @@
+-- A query that is made node by node: the drafts that a maker has made, and what it holds of them.
+use Rattle.std.specs.Prelude.{◌≡◌, ℕ, ◌+◌, ◌≤◌, ◌<◌, List, [], ◌∷◌, ◌++◌, map, Bool, true, false, Some, None}
+use Rattle.ts_query.specs.declared.TheConstants.{NODE_LIMIT}
+use Rattle.ts_query.specs.Queries.{Tree, Query}
+use Rattle.ts_query.specs.Building.{nodes_among}
+use Rattle.ts_query.specs.declared.error.QueryError.{QueryError}
+use Rattle.ts_query.specs.declared.error.QueryError.TheVariants.{Syntax, DistanceTooLarge, TooManyNodes, LexemeTooLong, OutOfMemory}
+use Rattle.ts_base.specs.declared.Weights.{Weights}
+use Rattle.ts_config.specs.Mappings.{Mapping}
+use Rattle.ts_config.specs.Known.{Known}
+use Rattle.ts_make.specs.Groups.{Group}
+use Rattle.ts_make.specs.Trees.{phrase_of}
+use Rattle.ts_make.specs.Made.{HasGroups, drafted}
+use Rattle.ts_make.specs.Removal.{Draft, draft_nodes, Cleaned, clean}
+use Rattle.ts_make.specs.declared.maker.Part.{Part}
+use Rattle.ts_make.specs.declared.maker.QueryMaker.{QueryMaker}
+
+abbrev pub is_left : Query → Bool
+is_left None = false
+is_left (Some t) = true
+
+-- what is kept of the part that is left of a draft, beside its tree
+abbrev pub part_of : Cleaned → Part
+part_of c = record { there = is_left c.query; left = c.left; right = c.right }
+
+-- the parts of what is left, the last of them at the end
+abbrev pub parts_of : List Cleaned → List Part
+parts_of [] = []
+parts_of (c ∷ cs) = parts_of cs ++ part_of c ∷ []
+
+abbrev pub with_left : Query → List Tree → List Tree
+with_left None ts = ts
+with_left (Some t) ts = t ∷ ts
+
+-- the trees that are left, the last of them first
+abbrev pub trees_left : List Cleaned → List Tree
+trees_left [] = []
+trees_left (c ∷ cs) = with_left c.query (trees_left cs)
+
+abbrev pub nodes_drafted : List Draft → ℕ
+nodes_drafted [] = 0
+nodes_drafted (d ∷ ds) = nodes_drafted ds + draft_nodes d
+
+-- these parts, trees and the number of removed nodes are those of the drafts
+pub record IsKept (parts : List Part) (trees : List Tree) (removed : ℕ)
+    (drafts : List Draft) : Type 0 where
+  pub has_parts : parts ≡ parts_of (map clean drafts)
+  pub has_trees : trees ≡ trees_left (map clean drafts)
+  pub count : removed + nodes_among trees ≡ nodes_drafted drafts
+
+-- the drafts that were made so far, the last of them first
+pub record IsMaking (maker : QueryMaker) (drafts : List Draft) : Type 0 where
+  pub kept : IsKept maker.parts.items maker.builder maker.removed drafts
+  pub few : nodes_drafted drafts < NODE_LIMIT
+
+-- an operand whose text has groups that are too many, or want of memory
+abbrev pub OperandFails : Known → Mapping → List ℕ → Weights → Bool → QueryMaker → QueryError
+    → Type 0
+OperandFails known mapping text weights prefix maker TooManyNodes =
+    (groups : List Group) × HasGroups known mapping text groups
+    × ((ds : List Draft) → IsMaking maker ds
+    → NODE_LIMIT ≤ nodes_drafted (drafted (phrase_of weights prefix groups) ∷ ds))
+OperandFails known mapping text weights prefix maker OutOfMemory = Unit {0}
+OperandFails known mapping text weights prefix maker (Syntax at) = ⊥
+OperandFails known mapping text weights prefix maker (DistanceTooLarge at) = ⊥
+OperandFails known mapping text weights prefix maker (LexemeTooLong at) = ⊥

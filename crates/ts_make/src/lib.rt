@@ -1,0 +1,17 @@
+//! Vectors and queries that are made of texts, by a configuration.
+#![tactic(auto)]
+
+mod joining;
+mod laws;
+mod maker;
+mod queries;
+mod vector;
+
+pub use laws::{
+    drafts_have_no_fewer, groups_are_near, groups_are_one, groups_keep_lexemes, join_answer_is_one,
+    query_answer_is_one, removal_is_sound, removal_keeps_the_rest, vector_answer_is_one,
+    whole_trees_stay,
+};
+pub use maker::QueryMaker;
+pub use queries::{phraseto_tsquery, plainto_tsquery, to_tsquery};
+pub use vector::to_tsvector;

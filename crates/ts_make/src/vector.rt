@@ -1,0 +1,67 @@
+// Vectors that are made of texts.
+ghost use Rattle.std.specs.Prelude.{◌≡◌, ◌≤◌, All, map, min, IfOk, IfErr};
+ghost use Rattle.ts_base.specs.declared.Weight.TheVariants.{D};
+ghost use Rattle.ts_base.specs.Vectors.{IsPosition};
+ghost use Rattle.ts_vector.specs.Pairs.{pairs_of};
+ghost use Rattle.ts_config.specs.Known.{IsWithin};
+ghost use Rattle.ts_make.specs.Made.{made_entry, IsMadeVector, MadeVectorFails};
+
+use std::alloc::{AllocError, Global};
+use ts_base::{LAST_POSITION, Lexeme, Position, Weight};
+use ts_config::{Config, Configs, Placed};
+use ts_vector::{TsVector, VectorError};
+
+/// The position of a lexeme in a vector: 16383 stands for each above it, and its weight is D.
+fn position_of(at: usize) -> Position
+    requires { 1 ≤ at }
+    ensures at { result.at ≡ min at LAST_POSITION }
+    ensures weight { result.weight ≡ D }
+    ensures valid { IsPosition result }
+{
+    if at < LAST_POSITION as usize {
+        return Position::new(at as u16, Weight::D);
+    }
+    Position::new(LAST_POSITION, Weight::D)
+}
+
+/// Each lexeme with its position.
+fn vector_items(
+    alloc: Global,
+    placed: Vec<Placed>,
+) -> Result<Vec<(Lexeme, Vec<Position>)>, AllocError>
+    requires { All (λ p. 1 ≤ p.position) placed.items }
+    ensures { IfOk result (λ items. pairs_of items.items ≡ map made_entry placed.items) }
+{
+    let mut items = Vec::with_capacity(alloc, placed.len())?;
+    for Placed {
+        lexeme,
+        position,
+        ..
+    } in placed {
+        let mut positions = Vec::with_capacity(alloc, 1)?;
+        positions.push(position_of(position))?;
+        items.push((lexeme, positions))?;
+    }
+    Ok(items)
+}
+
+/// The vector that a text is made by a configuration of these: its placed lexemes in normal form,
+/// each position with the weight D. The mark of a prefix means nothing here.
+pub fn to_tsvector(
+    alloc: Global,
+    configs: &Configs,
+    config: &Config,
+    text: &str,
+) -> Result<TsVector, VectorError>
+    requires { IsWithin configs.now config.now }
+    ensures value { IfOk result (IsMadeVector configs.now config.now text.now) }
+    ensures refused { IfErr result (MadeVectorFails configs.now config.now text.now) }
+{
+    let Ok(placed) = configs.lexize_all(alloc, config, text) else {
+        return Err(VectorError::OutOfMemory);
+    };
+    let Ok(items) = vector_items(alloc, placed) else {
+        return Err(VectorError::OutOfMemory);
+    };
+    TsVector::build(alloc, items)
+}

@@ -1,0 +1,9 @@
+pub mod ItemLists
+pub mod Cutting
+pub mod Worked
+pub mod Rows
+pub mod Made
+pub mod Stacks
+pub mod Adding
+pub mod Reading
+pub mod Operators
