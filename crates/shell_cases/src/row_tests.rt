@@ -56,6 +56,10 @@ ask 'a b'
 @3 insert vector 'c:1'
 @1 search '!a'
 @1 search ''
+@3 insert simple A 'c' || nope 'd'
+@1 search to nope 'a &'
+@2 search plain simple 'c'
+@3 insert strip simple 'c'
 parse 'a-b 1.5'
 @1 find 'a'
 ";
@@ -74,6 +78,10 @@ error 3 query 2
 @3 error 14 down 1
 @1 error 14 down 1
 @1 error 14 down 1
+@3 error 4 configuration
+@1 error 4 configuration
+@2 error 14 down 1
+@3 error 14 down 1
 token 16 0 3
 token 11 0 1
 token 12 1 1
@@ -81,7 +89,7 @@ token 11 2 1
 token 12 3 1
 token 20 4 3
 ok
-error 1 statement 15
+error 1 statement 19
 ";
 
 /// A run of one insert on a new store.

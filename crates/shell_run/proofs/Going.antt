@@ -13,13 +13,12 @@ use Rattle.disk_trait.specs.declared.device.Disk.{Ghosts as Disk}
 use Rattle.wal.specs.Settled.{Settled, BeforeOrAfter}
 use Rattle.ts_base.specs.Vectors.{Vector}
 use Rattle.ts_query.specs.Queries.{Query}
-use Rattle.ts_query.specs.Refusals.{IsReadAs}
-use Rattle.shell_script.specs.Grammar.{Part, Expr, Statement, insert, search as finding, show, query, parse, define, nothing}
+use Rattle.shell_script.specs.Grammar.{VectorSource, vector_text, vector_by, QuerySource, query_text, query_by, Part, Expr, Statement, insert, search as finding, show, query, parse, define, nothing}
 use Rattle.shell_script.specs.Lines.{Line}
 use Rattle.shell_script.specs.Heads.{Head, dictionary_head, configuration_head}
 use Rattle.ts_config.specs.Known.{Known}
 use Rattle.shell_run.specs.Defining.{IsDefined}
-use Rattle.shell_run.specs.Values.{IsValueOf, OthersFail, ExprFails, QueryFails, IsRefusedBy, IsShown, IsQueried, IsParsed}
+use Rattle.shell_run.specs.Values.{IsValueOf, SourceFails, OthersFail, ExprFails, IsQueryOf, QueryFails, IsRefusedBy, IsShown, IsQueried, IsParsed}
 use Rattle.shell_script.specs.Name.{Name}
 use Rattle.shell_run.specs.History.{Document, Commit, History, IsFull, IsFound, insertion, name_of}
 use Rattle.shell_run.specs.Entries.{entry, document_bytes, IsLogFull}
@@ -80,14 +79,14 @@ told_one : (fall : Option ℕ) (rows : List Row) (n : ℕ) → All (IsToldBy fal
 told_one fall rows n h is k d l m e = let x : Some m ≡ Some n = sym (h k d l m e) ∙ is in cc
 
 -- rows in which no write or sync failed statement nothing of the next
-finds_up : (fall : Option ℕ) (rows : List Row) (faults0 writes0 faults writes : ℕ) (statement : Statement) (reply : Reply) → Counted fall rows faults0 writes0 faults writes → FindsDown statement reply ⊎ (fall ≡ None) → All (λ (r : Row). 0 < r.note.writes → FindsDown statement reply) rows
-finds_up fall rows faults0 writes0 faults writes statement reply h (inl is) k d l some = is
-finds_up fall rows faults0 writes0 faults writes statement reply h (inr u) k d l some = absurd (let e : (get_or rows k d).note.writes ≡ 0 = (h.up u).1 k d l in let x : ⊥ = omega arith in x)
+finds_up : (fall : Option ℕ) (rows : List Row) (faults0 writes0 faults writes : ℕ) (known : Known) (statement : Statement) (reply : Reply) → Counted fall rows faults0 writes0 faults writes → FindsDown known statement reply ⊎ (fall ≡ None) → All (λ (r : Row). 0 < r.note.writes → FindsDown known statement reply) rows
+finds_up fall rows faults0 writes0 faults writes known statement reply h (inl is) k d l some = is
+finds_up fall rows faults0 writes0 faults writes known statement reply h (inr u) k d l some = absurd (let e : (get_or rows k d).note.writes ≡ 0 = (h.up u).1 k d l in let x : ⊥ = omega arith in x)
 
 -- what is known of the answer of a statement for which the device was not called
-pub record IsAnsweredAt (fall : Option ℕ) (statement : Statement) (reply : Reply) : Type 0 where
+pub record IsAnsweredAt (fall : Option ℕ) (known : Known) (statement : Statement) (reply : Reply) : Type 0 where
   pub ok : IsOkOfStore reply → fall ≡ None
-  pub asks : FindsDown statement reply ⊎ (fall ≡ None)
+  pub asks : FindsDown known statement reply ⊎ (fall ≡ None)
   pub fell : (n : ℕ) → reply ≡ refused (down n) → fall ≡ Some n
   pub no_failure : HasFailed statement reply → ⊥
 
@@ -118,7 +117,7 @@ module _ {D : Type 0} (device : Disk D) (history : History) where
   quiet_note disk commits = record { snapshot = length commits; commit = None; faults = 0; writes = 0; count = device.fault_count disk; clock = device.clock disk }
 
   quiet_state : (old new : Store) (disk disk' first : D) (c0 : ℕ) (opened : D) (commits : History) (rows : List Row) (place : Place) (known : Known) (line : ℕ) (statement : Statement) (reply : Reply) → StandsFor old commits → All (λ (r : Row). r.place.step < place.step) rows → Rests device old new disk disk'
-      → IsAnsweredAt (down_of old.wal) statement reply
+      → IsAnsweredAt (down_of old.wal) known statement reply
       → IsAnswered (counts_over device first opened disk) (commits ++ []) known line statement reply (quiet_note disk commits)
       → State first c0 opened disk old commits rows → State first c0 opened disk' new (commits ++ []) (rows ++ row_of place known line statement reply (quiet_note disk commits) ∷ [])
   unfolding quiet_note
@@ -134,7 +133,7 @@ module _ {D : Type 0} (device : Disk D) (history : History) where
         own = inl (refl, refl);
         lawful = held_lawful new (commits ++ []) held;
         last = last;
-        finds_down = finds_up (down_of old.wal) rows (device.fault_count first) (device.write_fault_count first) (device.fault_count disk) (device.write_fault_count disk) statement reply s.counted q.asks;
+        finds_down = finds_up (down_of old.wal) rows (device.fault_count first) (device.write_fault_count first) (device.fault_count disk) (device.write_fault_count disk) known statement reply s.counted q.asks;
         fell = λ n is. (s.counted.fallen n (q.fell n is)).3;
         one_count = λ n is. told_one (down_of old.wal) rows n s.counted.told (q.fell n is);
         failed = (λ l. absurd (let x : ⊥ = omega arith in x), λ f. absurd (q.no_failure f));
@@ -154,7 +153,7 @@ module _ {D : Type 0} (device : Disk D) (history : History) where
 
   -- a statement for which the device was not called, whatever else is known of it
   quiet : (old new : Store) (disk disk' : D) (commits : History) (rows : List Row) (place : Place) (known : Known) (line : ℕ) (statement : Statement) (reply : Reply) → StandsFor old commits → All (λ (r : Row). r.place.step < place.step) rows → Rests device old new disk disk'
-      → IsAnsweredAt (down_of old.wal) statement reply
+      → IsAnsweredAt (down_of old.wal) known statement reply
       → ((first : D) (c0 : ℕ) (opened : D) → State first c0 opened disk old commits rows → IsAnswered (counts_over device first opened disk) (commits ++ []) known line statement reply (quiet_note disk commits))
       → Goes commits rows old new disk disk' place known line statement reply
   quiet old new disk disk' commits rows place known line statement reply h last r q answered = record {
@@ -165,12 +164,12 @@ module _ {D : Type 0} (device : Disk D) (history : History) where
   }
 
   -- a refusal of the store while it is up
-  stands_up : (fall : Option ℕ) (statement : Statement) (reply : Reply) → fall ≡ None → ((n : ℕ) → reply ≡ refused (down n) → ⊥) → (HasFailed statement reply → ⊥) → IsAnsweredAt fall statement reply
-  stands_up fall statement reply up not_down no_failure = record { ok = λ ok. up; asks = inr up; fell = λ n e. absurd (not_down n e); no_failure = no_failure }
+  stands_up : (fall : Option ℕ) (known : Known) (statement : Statement) (reply : Reply) → fall ≡ None → ((n : ℕ) → reply ≡ refused (down n) → ⊥) → (HasFailed statement reply → ⊥) → IsAnsweredAt fall known statement reply
+  stands_up fall known statement reply up not_down no_failure = record { ok = λ ok. up; asks = inr up; fell = λ n e. absurd (not_down n e); no_failure = no_failure }
 
   -- a statement that finds the store down
   finds_it_down : (old new : Store) (disk disk' : D) (commits : History) (rows : List Row) (place : Place) (known : Known) (line : ℕ) (statement : Statement) (count : ℕ) → StandsFor old commits → All (λ (r : Row). r.place.step < place.step) rows → Rests device old new disk disk' → (down_of old.wal) ≡ Some count
-      → FindsDown statement (refused (down count)) → (HasFailed statement (refused (down count)) → ⊥) → ((k : Counts) (note : Note) → note.commit ≡ None → IsDownSince k count → IsAnswered k (commits ++ []) known line statement (refused (down count)) note)
+      → FindsDown known statement (refused (down count)) → (HasFailed statement (refused (down count)) → ⊥) → ((k : Counts) (note : Note) → note.commit ≡ None → IsDownSince k count → IsAnswered k (commits ++ []) known line statement (refused (down count)) note)
       → Goes commits rows old new disk disk' place known line statement (refused (down count))
   unfolding quiet_note
   finds_it_down old new disk disk' commits rows place known line statement count h last r is finds no_failure answered =
@@ -219,7 +218,7 @@ module _ {D : Type 0} (device : Disk D) (history : History) where
         own = inr (c, refl, n.own);
         lawful = held_lawful new (commits ++ c ∷ []) held';
         last = last;
-        finds_down = finds_up (down_of old.wal) rows (device.fault_count first) (device.write_fault_count first) (device.fault_count disk) (device.write_fault_count disk) (insert e) reply s.counted (inr up);
+        finds_down = finds_up (down_of old.wal) rows (device.fault_count first) (device.write_fault_count first) (device.fault_count disk) (device.write_fault_count disk) known (insert e) reply s.counted (inr up);
         fell = λ m is. absurd (n.not_down m is);
         one_count = λ m is. absurd (n.not_down m is);
         failed = n.failed e;
@@ -245,7 +244,7 @@ module _ {D : Type 0} (device : Disk D) (history : History) where
   own_of : (old new : Store) (commits : History) (v : Vector) (note : Note) → note.commit ≡ Some (length commits) → HasOwn (commits ++ next_commit old.documents.items v ∷ []) note (next_commit old.documents.items v)
   own_of old new commits v note e = (length commits, e, get_last commits (next_commit old.documents.items v))
 
-  stores : (old new : Store) (disk disk' : D) (commits : History) (rows : List Row) (place : Place) (known : Known) (line : ℕ) (e : Expr) (v : Vector) (name : Name) → IsValueOf e v → StandsFor old commits → All (λ (r : Row). r.place.step < place.step) rows → HasStored device old new disk disk' v name → Goes commits rows old new disk disk' place known line (insert e) (stored name)
+  stores : (old new : Store) (disk disk' : D) (commits : History) (rows : List Row) (place : Place) (known : Known) (line : ℕ) (e : Expr) (v : Vector) (name : Name) → IsValueOf known e v → StandsFor old commits → All (λ (r : Row). r.place.step < place.step) rows → HasStored device old new disk disk' v name → Goes commits rows old new disk disk' place known line (insert e) (stored name)
   stores old new disk disk' commits rows place known line e v name value h last i =
       let l : HasLogged device old i.mid disk disk' v name = i.logged in
       let c : Commit = next_commit old.documents.items v in
@@ -292,7 +291,7 @@ module _ {D : Type 0} (device : Disk D) (history : History) where
   rises : (n m : ℕ) → n < 2 ^ 64 - 1 → Rose n m → n < m
   rises n m l r = omega (arith, l, r)
 
-  fails : (old new : Store) (disk disk' : D) (commits : History) (rows : List Row) (place : Place) (known : Known) (line : ℕ) (e : Expr) (v : Vector) → IsValueOf e v → StandsFor old commits → All (λ (r : Row). r.place.step < place.step) rows → IsInDoubt device old new disk disk' v → Goes commits rows old new disk disk' place known line (insert e) (refused device_fault)
+  fails : (old new : Store) (disk disk' : D) (commits : History) (rows : List Row) (place : Place) (known : Known) (line : ℕ) (e : Expr) (v : Vector) → IsValueOf known e v → StandsFor old commits → All (λ (r : Row). r.place.step < place.step) rows → IsInDoubt device old new disk disk' v → Goes commits rows old new disk disk' place known line (insert e) (refused device_fault)
   fails old new disk disk' commits rows place known line e v value h last i =
       let c : Commit = next_commit old.documents.items v in
       let note : Note = record { snapshot = length commits; commit = Some (length commits); faults = device.fault_count disk' - device.fault_count disk; writes = device.write_fault_count disk' - device.write_fault_count disk; count = device.fault_count disk'; clock = device.clock disk' } in
@@ -343,16 +342,16 @@ module _ {D : Type 0} (device : Disk D) (history : History) where
       }
 
   -- an insertion, by what the store answered
-  inserts : (old new : Store) (disk disk' : D) (commits : History) (rows : List Row) (place : Place) (known : Known) (line : ℕ) (e : Expr) (v : Vector) (answer : Result answers.Name StoreError) → IsValueOf e v → StandsFor old commits → All (λ (r : Row). r.place.step < place.step) rows
+  inserts : (old new : Store) (disk disk' : D) (commits : History) (rows : List Row) (place : Place) (known : Known) (line : ℕ) (e : Expr) (v : Vector) (answer : Result answers.Name StoreError) → IsValueOf known e v → StandsFor old commits → All (λ (r : Row). r.place.step < place.step) rows
       → HasInserted device old new disk disk' v answer → Goes commits rows old new disk disk' place known line (insert e) (stored_reply answer)
   unfolding quiet_note
   inserts old new disk disk' commits rows place known line e v (Ok n) value h last i = stores old new disk disk' commits rows place known line e v (name n) value h last i
   inserts old new disk disk' commits rows place known line e v (Err errors.Device) value h last i = fails old new disk disk' commits rows place known line e v value h last i
   inserts old new disk disk' commits rows place known line e v (Err errors.Full) value h last i =
-      quiet old new disk disk' commits rows place known line (insert e) (refused store_full) h last i.0 (stands_up (down_of old.wal) (insert e) (refused store_full) i.1 (λ n x. cc) (λ f. f))
+      quiet old new disk disk' commits rows place known line (insert e) (refused store_full) h last i.0 (stands_up (down_of old.wal) known (insert e) (refused store_full) i.1 (λ n x. cc) (λ f. f))
       (λ first c0 opened s. inr (v, value, (refl, subst (λ ds. IsFull ds v) (sym (sees_all old commits [] (quiet_note disk commits) h i.1 refl)) (is_full old v h.used i.2))))
   inserts old new disk disk' commits rows place known line e v (Err errors.LogFull) value h last i =
-      quiet old new disk disk' commits rows place known line (insert e) (refused log_full) h last i.0 (stands_up (down_of old.wal) (insert e) (refused log_full) i.1 (λ n x. cc) (λ f. f))
+      quiet old new disk disk' commits rows place known line (insert e) (refused log_full) h last i.0 (stands_up (down_of old.wal) known (insert e) (refused log_full) i.1 (λ n x. cc) (λ f. f))
       (λ first c0 opened s. inr (
         v,
         value,
@@ -364,19 +363,19 @@ module _ {D : Type 0} (device : Disk D) (history : History) where
       ))
   inserts old new disk disk' commits rows place known line e v (Err (errors.Down count)) value h last i = finds_it_down old new disk disk' commits rows place known line (insert e) count h last i.0 i.1 (inl tt) (λ f. f) (λ k note n d. inr (v, value, (inl n, d)))
   inserts old new disk disk' commits rows place known line e v (Err errors.Memory) value h last i =
-      quiet old new disk disk' commits rows place known line (insert e) (refused memory) h last i.0 (stands_up (down_of old.wal) (insert e) (refused memory) i.1 (λ n x. cc) (λ f. f)) (λ first c0 opened s. inr (v, value, refl))
+      quiet old new disk disk' commits rows place known line (insert e) (refused memory) h last i.0 (stands_up (down_of old.wal) known (insert e) (refused memory) i.1 (λ n x. cc) (λ f. f)) (λ first c0 opened s. inr (v, value, refl))
 
   -- a search, by what the store answered
-  searches : (old new : Store) (disk disk' : D) (commits : History) (rows : List Row) (place : Place) (known : Known) (line : ℕ) (text : List ℕ) (q : Query) (answer : Result (Vec answers.Name Global) StoreError) → IsReadAs text q → StandsFor old commits → All (λ (r : Row). r.place.step < place.step) rows
-      → Rests device old new disk disk' → IsFoundBy old q answer → Goes commits rows old new disk disk' place known line (finding text) (found_reply answer)
+  searches : (old new : Store) (disk disk' : D) (commits : History) (rows : List Row) (place : Place) (known : Known) (line : ℕ) (s : QuerySource) (q : Query) (answer : Result (Vec answers.Name Global) StoreError) → IsQueryOf known s q → StandsFor old commits → All (λ (r : Row). r.place.step < place.step) rows
+      → Rests device old new disk disk' → IsFoundBy old q answer → Goes commits rows old new disk disk' place known line (finding s) (found_reply answer)
   unfolding quiet_note
-  searches old new disk disk' commits rows place known line text q (Ok names) value h last r i =
-      quiet old new disk disk' commits rows place known line (finding text) (lists (map name names.items)) h last r (stands_up (down_of old.wal) (finding text) (lists (map name names.items)) i.0 (λ n x. cc) (λ f. f))
-      (λ first c0 opened s. inr (q, value, (refl, subst (λ ds. IsFound q ds (map name names.items)) (sym (sees_all old commits [] (quiet_note disk commits) h i.0 refl)) i.1)))
-  searches old new disk disk' commits rows place known line text q (Err (errors.Down count)) value h last r i = finds_it_down old new disk disk' commits rows place known line (finding text) count h last r i (inl tt) (λ f. f) (λ k note n d. inr (q, value, (n, d)))
-  searches old new disk disk' commits rows place known line text q (Err errors.Memory) value h last r i =
-      quiet old new disk disk' commits rows place known line (finding text) (refused memory) h last r (stands_up (down_of old.wal) (finding text) (refused memory) i (λ n x. cc) (λ f. f)) (λ first c0 opened s. inr (q, value, refl))
-  searches old new disk disk' commits rows place known line text q (Err e) value h last r i = absurd i
+  searches old new disk disk' commits rows place known line s q (Ok names) value h last r i =
+      quiet old new disk disk' commits rows place known line (finding s) (lists (map name names.items)) h last r (stands_up (down_of old.wal) known (finding s) (lists (map name names.items)) i.0 (λ n x. cc) (λ f. f))
+      (λ first c0 opened t. inr (q, value, (refl, subst (λ ds. IsFound q ds (map name names.items)) (sym (sees_all old commits [] (quiet_note disk commits) h i.0 refl)) i.1)))
+  searches old new disk disk' commits rows place known line s q (Err (errors.Down count)) value h last r i = finds_it_down old new disk disk' commits rows place known line (finding s) count h last r i (inl tt) (λ f. f) (λ k note n d. inr (q, value, (n, d)))
+  searches old new disk disk' commits rows place known line s q (Err errors.Memory) value h last r i =
+      quiet old new disk disk' commits rows place known line (finding s) (refused memory) h last r (stands_up (down_of old.wal) known (finding s) (refused memory) i (λ n x. cc) (λ f. f)) (λ first c0 opened t. inr (q, value, refl))
+  searches old new disk disk' commits rows place known line s q (Err e) value h last r i = absurd i
 
   -- the cause of a refusal is a text, and neither the log nor the device
   abbrev IsOfText : (Refusal → Type 0) → Type 0
@@ -386,46 +385,51 @@ module _ {D : Type 0} (device : Disk D) (history : History) where
   failed_is (insert e) device_fault f = refl
   failed_is statement why f = absurd f
 
-  of_text : (P : Refusal → Type 0) (fall : Option ℕ) (statement : Statement) (reply : Reply) → IsOfText P → (IsRefusedBy P reply → FindsDown statement reply) → IsRefusedBy P reply → IsAnsweredAt fall statement reply
-  of_text P fall statement (refused why) of finds h = record {
+  of_text : (P : Refusal → Type 0) (fall : Option ℕ) (known : Known) (statement : Statement) (reply : Reply) → IsOfText P → (IsRefusedBy P reply → FindsDown known statement reply) → IsRefusedBy P reply → IsAnsweredAt fall known statement reply
+  of_text P fall known statement (refused why) of finds h = record {
     ok = λ ok. absurd ok;
     asks = inl (finds h);
     fell = λ n e. let same : why ≡ down n = cc in absurd (of.0 n (subst P same h));
     no_failure = λ f. of.1 (subst P (failed_is statement why f) h);
   }
-  of_text P fall statement reply of finds h = absurd h
+  of_text P fall known statement reply of finds h = absurd h
 
-  others_of_text : (v : Vector) (ps : List Part) → IsOfText (OthersFail v ps)
-  others_of_text v [] = (λ n h. h, λ h. h)
-  others_of_text v (p ∷ ps) = (
-    λ n h. elim h [ inl x ↦ x | inr r ↦ elim r.2 [ inl x ↦ x | inr s ↦ (others_of_text s.0 ps).0 n s.2 ] ],
-    λ h. elim h [ inl x ↦ x | inr r ↦ elim r.2 [ inl x ↦ x | inr s ↦ (others_of_text s.0 ps).1 s.2 ] ],
+  source_of_text : (known : Known) (s : VectorSource) → IsOfText (SourceFails known s)
+  source_of_text known (vector_text text) = (λ n h. h, λ h. h)
+  source_of_text known (vector_by config weight text) = (λ n h. h, λ h. h)
+
+  others_of_text : (known : Known) (v : Vector) (ps : List Part) → IsOfText (OthersFail known v ps)
+  others_of_text known v [] = (λ n h. h, λ h. h)
+  others_of_text known v (p ∷ ps) = (
+    λ n h. elim h [ inl x ↦ (source_of_text known p.source).0 n x | inr r ↦ elim r.2 [ inl x ↦ x | inr s ↦ (others_of_text known s.0 ps).0 n s.2 ] ],
+    λ h. elim h [ inl x ↦ (source_of_text known p.source).1 x | inr r ↦ elim r.2 [ inl x ↦ x | inr s ↦ (others_of_text known s.0 ps).1 s.2 ] ],
   )
 
-  expr_of_text : (e : Expr) → IsOfText (ExprFails e)
-  expr_of_text e = (
-    λ n h. elim h [ inl x ↦ x | inr r ↦ (others_of_text r.0 e.others).0 n r.2 ],
-    λ h. elim h [ inl x ↦ x | inr r ↦ (others_of_text r.0 e.others).1 r.2 ],
+  expr_of_text : (known : Known) (e : Expr) → IsOfText (ExprFails known e)
+  expr_of_text known e = (
+    λ n h. elim h [ inl x ↦ (source_of_text known e.first.source).0 n x | inr r ↦ (others_of_text known r.0 e.others).0 n r.2 ],
+    λ h. elim h [ inl x ↦ (source_of_text known e.first.source).1 x | inr r ↦ (others_of_text known r.0 e.others).1 r.2 ],
   )
 
-  query_of_text : (text : List ℕ) → IsOfText (QueryFails text)
-  query_of_text text = (λ n h. h, λ h. h)
+  query_of_text : (known : Known) (s : QuerySource) → IsOfText (QueryFails known s)
+  query_of_text known (query_text text) = (λ n h. h, λ h. h)
+  query_of_text known (query_by maker config text) = (λ n h. h, λ h. h)
 
-  shown_at : (fall : Option ℕ) (e : Expr) (reply : Reply) → IsShown e reply → IsAnsweredAt fall (show e) reply
-  shown_at fall e (shows_vector text) i = record { ok = λ ok. absurd ok; asks = inl tt; fell = λ n x. cc; no_failure = λ f. f }
-  shown_at fall e (refused why) i = of_text (ExprFails e) fall (show e) (refused why) (expr_of_text e) (λ h. tt) i
-  shown_at fall e reply i = absurd i
+  shown_at : (fall : Option ℕ) (known : Known) (e : Expr) (reply : Reply) → IsShown known e reply → IsAnsweredAt fall known (show e) reply
+  shown_at fall known e (shows_vector text) i = record { ok = λ ok. absurd ok; asks = inl tt; fell = λ n x. cc; no_failure = λ f. f }
+  shown_at fall known e (refused why) i = of_text (ExprFails known e) fall known (show e) (refused why) (expr_of_text known e) (λ h. tt) i
+  shown_at fall known e reply i = absurd i
 
-  queried_at : (fall : Option ℕ) (text : List ℕ) (reply : Reply) → IsQueried text reply → IsAnsweredAt fall (query text) reply
-  queried_at fall text (shows_query shown) i = record { ok = λ ok. absurd ok; asks = inl tt; fell = λ n x. cc; no_failure = λ f. f }
-  queried_at fall text (refused why) i = of_text (QueryFails text) fall (query text) (refused why) (query_of_text text) (λ h. tt) i
-  queried_at fall text reply i = absurd i
+  queried_at : (fall : Option ℕ) (known : Known) (s : QuerySource) (reply : Reply) → IsQueried known s reply → IsAnsweredAt fall known (query s) reply
+  queried_at fall known s (shows_query shown) i = record { ok = λ ok. absurd ok; asks = inl tt; fell = λ n x. cc; no_failure = λ f. f }
+  queried_at fall known s (refused why) i = of_text (QueryFails known s) fall known (query s) (refused why) (query_of_text known s) (λ h. tt) i
+  queried_at fall known s reply i = absurd i
 
-  parsed_at : (fall : Option ℕ) (text : List ℕ) (reply : Reply) → IsParsed text reply → IsAnsweredAt fall (parse text) reply
-  parsed_at fall text (shows_tokens tokens) i = record { ok = λ ok. absurd ok; asks = inl tt; fell = λ n x. cc; no_failure = λ f. f }
-  parsed_at fall text reply i = absurd i
+  parsed_at : (fall : Option ℕ) (known : Known) (text : List ℕ) (reply : Reply) → IsParsed text reply → IsAnsweredAt fall known (parse text) reply
+  parsed_at fall known text (shows_tokens tokens) i = record { ok = λ ok. absurd ok; asks = inl tt; fell = λ n x. cc; no_failure = λ f. f }
+  parsed_at fall known text reply i = absurd i
 
-  defined_at : (fall : Option ℕ) (known : Known) (line : ℕ) (head : Head) (ls : List Line) (reply : Reply) → IsDefined known line head ls reply → IsAnsweredAt fall (define head ls) reply
+  defined_at : (fall : Option ℕ) (known : Known) (line : ℕ) (head : Head) (ls : List Line) (reply : Reply) → IsDefined known line head ls reply → IsAnsweredAt fall known (define head ls) reply
   defined_at fall known line (dictionary_head name kind) ls (refused (down count)) i = absurd i
   defined_at fall known line (configuration_head name) ls (refused (down count)) i = absurd i
   defined_at fall known line (dictionary_head name kind) ls (stored n) i = absurd i
@@ -436,7 +440,7 @@ module _ {D : Type 0} (device : Disk D) (history : History) where
 
   -- a statement that does not touch the store
   only_answers : (old new : Store) (disk disk' : D) (commits : History) (rows : List Row) (place : Place) (known : Known) (line : ℕ) (statement : Statement) (reply : Reply) → StandsFor old commits → All (λ (r : Row). r.place.step < place.step) rows → Rests device old new disk disk'
-      → IsAnsweredAt (down_of old.wal) statement reply → ((k : Counts) (note : Note) → note.commit ≡ None → IsAnswered k (commits ++ []) known line statement reply note)
+      → IsAnsweredAt (down_of old.wal) known statement reply → ((k : Counts) (note : Note) → note.commit ≡ None → IsAnswered k (commits ++ []) known line statement reply note)
       → Goes commits rows old new disk disk' place known line statement reply
   unfolding quiet_note
   only_answers old new disk disk' commits rows place known line statement reply h last r at answered =
@@ -445,14 +449,14 @@ module _ {D : Type 0} (device : Disk D) (history : History) where
   pub goes : (old new : Store) (disk disk' : D) (commits : History) (rows : List Row) (place : Place) (known : Known) (line : ℕ) (statement : Statement) (reply : Reply) → StandsFor old commits → All (λ (r : Row). r.place.step < place.step) rows → HasAnswered device known line old new disk disk' statement reply → Goes commits rows old new disk disk' place known line statement reply
   unfolding quiet_note
   goes old new disk disk' commits rows place known line (insert e) reply h last (inl i) =
-      only_answers old new disk disk' commits rows place known line (insert e) reply h last i.0 (of_text (ExprFails e) (down_of old.wal) (insert e) reply (expr_of_text e) (λ r. inr r) i.1) (λ k note n. inl (i.1, n))
+      only_answers old new disk disk' commits rows place known line (insert e) reply h last i.0 (of_text (ExprFails known e) (down_of old.wal) known (insert e) reply (expr_of_text known e) (λ r. inr r) i.1) (λ k note n. inl (i.1, n))
   goes old new disk disk' commits rows place known line (insert e) reply h last (inr i) = subst (λ r. Goes commits rows old new disk disk' place known line (insert e) r) (sym i.2.2) (inserts old new disk disk' commits rows place known line e i.0 i.2.0 i.1 h last i.2.1)
-  goes old new disk disk' commits rows place known line (finding text) reply h last (inl i) =
-      only_answers old new disk disk' commits rows place known line (finding text) reply h last i.0 (of_text (QueryFails text) (down_of old.wal) (finding text) reply (query_of_text text) (λ r. inr r) i.1) (λ k note n. inl (i.1, n))
-  goes old new disk disk' commits rows place known line (finding text) reply h last (inr i) = subst (λ r. Goes commits rows old new disk disk' place known line (finding text) r) (sym i.2.3) (searches old new disk disk' commits rows place known line text i.0 i.2.0 i.1 h last i.2.1 i.2.2)
-  goes old new disk disk' commits rows place known line (show e) reply h last i = only_answers old new disk disk' commits rows place known line (show e) reply h last i.0 (shown_at (down_of old.wal) e reply i.1) (λ k note n. (i.1, n))
-  goes old new disk disk' commits rows place known line (query text) reply h last i = only_answers old new disk disk' commits rows place known line (query text) reply h last i.0 (queried_at (down_of old.wal) text reply i.1) (λ k note n. (i.1, n))
-  goes old new disk disk' commits rows place known line (parse text) reply h last i = only_answers old new disk disk' commits rows place known line (parse text) reply h last i.0 (parsed_at (down_of old.wal) text reply i.1) (λ k note n. (i.1, n))
+  goes old new disk disk' commits rows place known line (finding s) reply h last (inl i) =
+      only_answers old new disk disk' commits rows place known line (finding s) reply h last i.0 (of_text (QueryFails known s) (down_of old.wal) known (finding s) reply (query_of_text known s) (λ r. inr r) i.1) (λ k note n. inl (i.1, n))
+  goes old new disk disk' commits rows place known line (finding s) reply h last (inr i) = subst (λ r. Goes commits rows old new disk disk' place known line (finding s) r) (sym i.2.3) (searches old new disk disk' commits rows place known line s i.0 i.2.0 i.1 h last i.2.1 i.2.2)
+  goes old new disk disk' commits rows place known line (show e) reply h last i = only_answers old new disk disk' commits rows place known line (show e) reply h last i.0 (shown_at (down_of old.wal) known e reply i.1) (λ k note n. (i.1, n))
+  goes old new disk disk' commits rows place known line (query s) reply h last i = only_answers old new disk disk' commits rows place known line (query s) reply h last i.0 (queried_at (down_of old.wal) known s reply i.1) (λ k note n. (i.1, n))
+  goes old new disk disk' commits rows place known line (parse text) reply h last i = only_answers old new disk disk' commits rows place known line (parse text) reply h last i.0 (parsed_at (down_of old.wal) known text reply i.1) (λ k note n. (i.1, n))
   goes old new disk disk' commits rows place known line (define head ls) reply h last i = only_answers old new disk disk' commits rows place known line (define head ls) reply h last i.0 (defined_at (down_of old.wal) known line head ls reply i.1) (λ k note n. (i.1, n))
   goes old new disk disk' commits rows place known line nothing (refused (no_statement at)) h last i =
       only_answers old new disk disk' commits rows place known line nothing (refused (no_statement at)) h last i.0 (record { ok = λ ok. absurd ok; asks = inl tt; fell = λ n x. cc; no_failure = λ f. f }) (λ k note n. (n, i.1))

@@ -113,7 +113,7 @@ pub record Step (k l : Counts) (first commits more : History) (rows : List Row) 
   pub own : ((more ≡ []) × (row.note.commit ≡ None)) ⊎ ((c : Commit) × (more ≡ c ∷ []) × (row.note.commit ≡ Some (length commits)))
   pub lawful : IsLawful (commits ++ more)
   pub last : All (λ (r : Row). r.place.step < row.place.step) rows
-  pub finds_down : All (λ (r : Row). 0 < r.note.writes → FindsDown row.statement row.reply) rows
+  pub finds_down : All (λ (r : Row). 0 < r.note.writes → FindsDown row.known row.statement row.reply) rows
   pub fell : (n : ℕ) → row.reply ≡ refused (down n) → Any (λ (r : Row). (0 < r.note.writes) × (r.note.count ≡ n)) rows
   pub one_count : (n : ℕ) → row.reply ≡ refused (down n) → All (λ (r : Row). (m : ℕ) → r.reply ≡ refused (down m) → m ≡ n) rows
   pub failed : (0 < row.note.writes) ↔ HasFailed row.statement row.reply
@@ -136,7 +136,7 @@ within_new k l first commits more rows row h =
       ];
     }
 
-seen_new : (n : ℕ) (low : ℕ) (a b : Row) → IsWithin low n a.note → b.note.snapshot ≡ n → (0 < a.note.writes → FindsDown b.statement b.reply) → a.note.count + b.note.faults ≤ b.note.count → IsSeenBy a b
+seen_new : (n : ℕ) (low : ℕ) (a b : Row) → IsWithin low n a.note → b.note.snapshot ≡ n → (0 < a.note.writes → FindsDown b.known b.statement b.reply) → a.note.count + b.note.faults ≤ b.note.count → IsSeenBy a b
 seen_new n low a b h e d c = record { snapshot = omega (arith, h.high_is); commit = λ ok. under a.note.commit h.own; down = d; count = c }
   where
     under : (o : Option ℕ) → IfSome o (λ p. (a.note.snapshot ≤ p) × (p < n)) → IfSome o (λ p. p < b.note.snapshot)

@@ -18,12 +18,12 @@ use Rattle.shell_run.specs.Traces.{NoNameIsTakenTwice, NoneIsStoredAfterFailure,
 pub none_stored_after_failure : NoneIsStoredAfterFailure
 none_stored_after_failure counts first commits a b e f n statement reply ask' reply' before run =
     let failed : 0 < a.note.writes = (run.failed 0 a (omega arith)).1 (subst (λ q. HasFailed q a.reply) (sym statement) (subst (HasFailed (insert e)) (sym reply) tt)) in
-    let finds : FindsDown b.statement b.reply = (run.order 0 a (omega arith) 1 b (omega arith) before).down failed in
-    not_down f n (subst (FindsDown (insert f)) reply' (subst (λ q. FindsDown q b.reply) ask' finds))
+    let finds : FindsDown b.known b.statement b.reply = (run.order 0 a (omega arith) 1 b (omega arith) before).down failed in
+    not_down b.known f n (subst (FindsDown b.known (insert f)) reply' (subst (λ q. FindsDown b.known q b.reply) ask' finds))
   where
-    not_down : (f : Expr) (n : Name) → FindsDown (insert f) (stored n) → ⊥
-    not_down f n (inl h) = h
-    not_down f n (inr h) = h
+    not_down : (known : Known) (f : Expr) (n : Name) → FindsDown known (insert f) (stored n) → ⊥
+    not_down known f n (inl h) = h
+    not_down known f n (inr h) = h
 
 pub each_failure_is_noted : EachFailureIsNoted
 each_failure_is_noted counts first commits a b e f rose run =

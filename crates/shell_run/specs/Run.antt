@@ -4,7 +4,6 @@ use Rattle.std.specs.Prelude.{Option, Some, None, IfSome}
 use Rattle.std.specs.List.{All, Any, slice_get}
 use Rattle.ts_base.specs.Vectors.{Vector}
 use Rattle.ts_query.specs.Queries.{Query}
-use Rattle.ts_query.specs.Refusals.{IsReadAs}
 use Rattle.ts_config.specs.Known.{Known}
 use Rattle.shell_script.specs.Grammar.{Statement, insert, search, show, query, parse, define, nothing}
 use Rattle.shell_script.specs.Name.{Name}
@@ -13,7 +12,7 @@ use Rattle.shell_run.specs.Entries.{IsLogFull}
 use Rattle.shell_run.specs.Defining.{IsDefined}
 pub use Rattle.shell_script.specs.Replies.{Refusal, no_statement, no_configuration, no_dictionary, store_full, log_full, down, device, memory, text_refused}
 pub use Rattle.shell_script.specs.Replies.{Reply, stored, lists, shows_vector, shows_query, shows_tokens, done, refused}
-use Rattle.shell_run.specs.Values.{IsValueOf, ExprFails, QueryFails, IsRefusedBy, IsShown, IsQueried, IsParsed}
+use Rattle.shell_run.specs.Values.{IsValueOf, ExprFails, IsQueryOf, QueryFails, IsRefusedBy, IsShown, IsQueried, IsParsed}
 
 -- Where a statement stands: the step of the script, where a block is one step; the session; and
 -- its place there.
@@ -123,14 +122,15 @@ IsLineRefused line reply note = ⊥
 -- answered by what is defined before it.
 abbrev pub IsAnswered : Counts → History → Known → ℕ → Statement → Reply → Note → Type 0
 IsAnswered counts commits known line (insert e) reply note =
-    (IsRefusedBy (ExprFails e) reply × (note.commit ≡ None))
-    ⊎ ((v : Vector) × IsValueOf e v × IsInserted counts commits v reply note)
-IsAnswered counts commits known line (search text) reply note =
-    (IsRefusedBy (QueryFails text) reply × (note.commit ≡ None))
-    ⊎ ((q : Query) × IsReadAs text q × IsSearched counts commits q reply note)
-IsAnswered counts commits known line (show e) reply note = IsShown e reply × (note.commit ≡ None)
-IsAnswered counts commits known line (query text) reply note =
-    IsQueried text reply × (note.commit ≡ None)
+    (IsRefusedBy (ExprFails known e) reply × (note.commit ≡ None))
+    ⊎ ((v : Vector) × IsValueOf known e v × IsInserted counts commits v reply note)
+IsAnswered counts commits known line (search s) reply note =
+    (IsRefusedBy (QueryFails known s) reply × (note.commit ≡ None))
+    ⊎ ((q : Query) × IsQueryOf known s q × IsSearched counts commits q reply note)
+IsAnswered counts commits known line (show e) reply note =
+    IsShown known e reply × (note.commit ≡ None)
+IsAnswered counts commits known line (query s) reply note =
+    IsQueried known s reply × (note.commit ≡ None)
 IsAnswered counts commits known line (parse text) reply note =
     IsParsed text reply × (note.commit ≡ None)
 IsAnswered counts commits known line (define head ls) reply note =
@@ -148,10 +148,10 @@ IsDownReply (refused (down count)) = Unit {0}
 IsDownReply reply = ⊥
 
 -- a statement of the store is answered that the store is down, if its texts are not refused before
-abbrev pub FindsDown : Statement → Reply → Type 0
-FindsDown (insert e) reply = IsDownReply reply ⊎ IsRefusedBy (ExprFails e) reply
-FindsDown (search text) reply = IsDownReply reply ⊎ IsRefusedBy (QueryFails text) reply
-FindsDown statement reply = Unit {0}
+abbrev pub FindsDown : Known → Statement → Reply → Type 0
+FindsDown known (insert e) reply = IsDownReply reply ⊎ IsRefusedBy (ExprFails known e) reply
+FindsDown known (search s) reply = IsDownReply reply ⊎ IsRefusedBy (QueryFails known s) reply
+FindsDown known statement reply = Unit {0}
 
 -- A write or a sync failed in the statement: only an insertion makes them.
 abbrev pub HasFailed : Statement → Reply → Type 0
@@ -177,7 +177,7 @@ pub record IsSeenBy (a b : Row) : Type 0 where
   pub snapshot : a.note.snapshot ≤ b.note.snapshot
   pub commit : IsOkOfStore a.reply → IfSome a.note.commit (λ p. p < b.note.snapshot)
   -- where a write or a sync failed in the one, the other finds the store down
-  pub down : 0 < a.note.writes → FindsDown b.statement b.reply
+  pub down : 0 < a.note.writes → FindsDown b.known b.statement b.reply
   pub count : a.note.count + b.note.faults ≤ b.note.count
 
 -- A note that is within two lengths of the history, at the start and at the end of the run.

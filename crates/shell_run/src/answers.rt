@@ -3,7 +3,6 @@ ghost use Rattle.std.specs.Prelude.{◌≡◌};
 ghost use Rattle.shell_script.specs.ReplyView.{refusal, reply};
 ghost use Rattle.shell_script.specs.StatementView.{statement};
 ghost use Rattle.shell_run.specs.Inner.Refusing.{refusal_for, stored_reply, found_reply};
-ghost use Rattle.ts_config.specs.Known.{Known};
 ghost use Rattle.shell_run.specs.Inner.Stores.{HasAnswered};
 
 use crate::error::StoreError;
@@ -12,6 +11,7 @@ use crate::values::{ask_query, expr_value, query_value, show};
 use disk_trait::Disk;
 use shell_script::{Name, Refusal, Reply, Statement};
 use std::alloc::Global;
+use ts_config::Configs;
 
 /// The refusal that an error of the store is printed as.
 fn refusal_of(error: StoreError) -> Refusal
@@ -46,29 +46,30 @@ fn found(answer: Result<Vec<Name>, StoreError>) -> Reply
     }
 }
 
-/// What the statement of a line with this number is answered. Its texts are read before the store is touched,
-/// and a statement that is not of the store never reaches it.
+/// What the statement of a line with this number is answered, where this is defined. Its texts are
+/// read before the store is touched, and a statement that is not of the store never reaches it.
 pub fn answer<D: Disk>(
     alloc: Global,
+    configs: &Configs,
     store: &mut Store,
     disk: &mut D,
     line: u64,
-    asked: Statement,
+    asked: Statement<'_>,
 ) -> Reply
-    ensures { (known : Known) → HasAnswered D.Disk known line store.old store.new disk.old disk.new
-        (statement asked) (reply result) }
+    ensures { HasAnswered D.Disk configs.now line store.old store.new disk.old disk.new
+        (statement asked.entry) (reply result) }
 {
     match asked {
-        Statement::Insert(from) => match expr_value(alloc, &from) {
+        Statement::Insert(from) => match expr_value(alloc, configs, &from) {
             Ok(vector) => stored(store.insert(disk, vector)),
             Err(why) => Reply::Refused(why),
         },
-        Statement::Search(text) => match query_value(alloc, text.as_str()) {
+        Statement::Search(from) => match query_value(alloc, configs, &from) {
             Ok(query) => found(store.search(&query)),
             Err(why) => Reply::Refused(why),
         },
-        Statement::Show(from) => show(alloc, &from),
-        Statement::Query(text) => ask_query(alloc, text.as_str()),
+        Statement::Show(from) => show(alloc, configs, &from),
+        Statement::Query(from) => ask_query(alloc, configs, &from),
         Statement::Parse(text) => Reply::Tokens(text),
         Statement::Nothing => Reply::Refused(Refusal::NoStatement(line)),
     }

@@ -4,7 +4,7 @@ ghost use Rattle.ts_query.specs.Queries.{Query};
 ghost use Rattle.ts_config.specs.Known.{Known};
 ghost use Rattle.shell_script.specs.Lines.{Line};
 ghost use Rattle.shell_script.specs.Heads.{Head};
-ghost use Rattle.shell_script.specs.Grammar.{Expr};
+ghost use Rattle.shell_script.specs.Grammar.{Expr, QuerySource};
 ghost use Rattle.shell_script.specs.Name.{Name};
 ghost use Rattle.shell_run.specs.History.{Document, IsFound};
 ghost use Rattle.shell_run.specs.Traces.{NoneIsStoredAfterFailure, EachFailureIsNoted, OneCountIsTold, NothingIsPrintedWith4, NoNameIsTakenTwice, NoLogIsWiped, NoPageIsWritten};
@@ -13,11 +13,10 @@ ghost use Rattle.shell_run.specs.Values.{IsExprAnswer, IsQueryAnswer, IsOneAnswe
 
 use disk_trait::{Disk, Sink};
 
-/// Want of memory aside, an expression has one answer, and so have the text of a query and a
-/// definition.
+/// Want of memory aside, an expression has one answer, and so have a query and a definition.
 pub fn one_answer()
-    ensures expressions { (e : Expr) → IsOneAnswer (IsExprAnswer e) }
-    ensures queries { (text : List ℕ) → IsOneAnswer (IsQueryAnswer text) }
+    ensures expressions { (known : Known) (e : Expr) → IsOneAnswer (IsExprAnswer known e) }
+    ensures queries { (known : Known) (q : QuerySource) → IsOneAnswer (IsQueryAnswer known q) }
     ensures definitions { (known : Known) (number : ℕ) (head : Head) (lines : List Line)
         → HasOneAnswer known number head lines }
 {}

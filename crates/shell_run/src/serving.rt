@@ -71,7 +71,14 @@ fn turn<D: Disk, G: Gate>(
         Step::Single(line) => {
             let said = read_line(alloc, line.bytes)?;
             desk.turns.pass(gate, said.session);
-            let reply = answer(alloc, &mut desk.store, disk, line.number, said.statement);
+            let reply = answer(
+                alloc,
+                &desk.configs,
+                &mut desk.store,
+                disk,
+                line.number,
+                said.statement,
+            );
             Ok((said.session, reply))
         }
         Step::Definition(line, body) => match read_head(line.bytes) {

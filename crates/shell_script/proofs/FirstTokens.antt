@@ -13,7 +13,7 @@ use Rattle.ts_base.specs.Words.{EndsWord, BeginsWithWord}
 use Rattle.ts_base.proofs.ByteKinds.{blank_ascii}
 use Rattle.shell_script.specs.Tokens.{ScriptToken, word, quote, IsSpelled}
 use Rattle.shell_script.specs.Lines.{HasNo}
-use Rattle.shell_script.specs.Grammar.{Statement, insert, search, show, query, parse, define, nothing, IsSession, HasSession, IsWrittenAs, IsStatement, label, expr_tokens, body_tokens, statement_tokens}
+use Rattle.shell_script.specs.Grammar.{Statement, insert, search, show, query, parse, define, nothing, IsSession, HasSession, IsWrittenAs, IsStatement, label, expr_tokens, query_tokens, body_tokens, statement_tokens}
 use Rattle.shell_script.specs.Inner.Said.{IsSaidBehind}
 use Rattle.shell_script.specs.Inner.Fronts.{IsNoQuote}
 use Rattle.shell_script.proofs.Front.{one_first_word}
@@ -77,7 +77,7 @@ first_token : (s : ℕ) (statement : Statement) → HasSession s statement → F
 first_token s (insert e) h = by_label s (insert e) h
 first_token s (search t) h = by_label s (search t) h
 first_token s (show e) h = subst (λ n. FirstToken n (show e)) (sym h) (record { first = codes "show"; others = expr_tokens e; tokens = refl; some = omega arith; letters = show_letters })
-first_token s (query t) h = subst (λ n. FirstToken n (query t)) (sym h) (record { first = codes "ask"; others = quote t ∷ []; tokens = refl; some = omega arith; letters = ask_letters })
+first_token s (query t) h = subst (λ n. FirstToken n (query t)) (sym h) (record { first = codes "ask"; others = query_tokens t; tokens = refl; some = omega arith; letters = ask_letters })
 first_token s (parse t) h = subst (λ n. FirstToken n (parse t)) (sym h) (record { first = codes "parse"; others = quote t ∷ []; tokens = refl; some = omega arith; letters = parse_letters })
 first_token s (define head body) h = absurd h
 first_token s nothing h = absurd h
@@ -116,6 +116,7 @@ said_line line first rest s statement b k =
     let letters : AreLetters first = subst AreLetters (words_same f.first first f.others k.others (sym f.tokens ∙ k.tokens)).0 f.letters in
     record {
       session = k.session;
+      named = k.named;
       utf8 = line_utf8 line first rest b letters k.utf8;
       spelled = subst (IsSpelled line) (sym k.tokens) (b.gap, rest, b.blank, (b.is_word, letters.free), b.text, b.ends, k.spelled);
     }
@@ -127,6 +128,7 @@ said_behind line first rest s statement b k =
     let same : (f.first ≡ first) × (found.0 ≡ rest) = one_first_word line f.first first found.0 rest found.1 b in
     record {
       session = k.session;
+      named = k.named;
       utf8 = rest_utf8 line first rest b k.utf8;
       others = f.others;
       tokens = f.tokens ∙ ap (λ w. word w ∷ f.others) same.0;

@@ -3,6 +3,7 @@ pub mod Cuts
 pub mod Spelling
 pub mod Exprs
 pub mod FirstTokens
+pub mod Made
 pub mod Saying
 pub mod Meaning
 pub mod TextLines

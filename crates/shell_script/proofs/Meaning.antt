@@ -2,7 +2,7 @@
 use Rattle.std.proofs.Common.{◌≡◌, ◌⊎◌, inl, inr, ℕ, ◌+◌, List, [], ◌∷◌, get_or, Bool, true, false, codes, arith, refl, sym, ◌∙◌, ap}
 use Rattle.std.specs.Prelude.{not}
 use Rattle.shell_script.specs.Tokens.{ScriptToken, word, quote}
-use Rattle.shell_script.specs.Grammar.{Statement, insert, show, query, parse, define, nothing, IsSession, IsWrittenAs, IsStatement, HasSession, label, expr_tokens, body_tokens, statement_tokens}
+use Rattle.shell_script.specs.Grammar.{Statement, insert, show, query, parse, define, nothing, IsSession, IsWrittenAs, IsStatement, HasSession, IsNamed, label, expr_tokens, query_tokens, body_tokens, statement_tokens}
 use Rattle.shell_script.specs.Grammar.{search as finding}
 use Rattle.shell_script.specs.Lines.{Line}
 use Rattle.shell_script.specs.Heads.{Kind, simple_kind, porter_kind, synonym_kind, thesaurus_kind, Head, dictionary_head, configuration_head, mark_tokens, kind_tokens, head_tokens, IsHead}
@@ -20,19 +20,19 @@ labels_same s t e = let numbers : 48 + s ≡ 48 + t = cc in omega arith
 abbrev Stands : ℕ → Statement → Type 0
 Stands s a = (IsOfSession a × IsSession s × (statement_tokens s a ≡ word (label s) ∷ body_tokens a)) ⊎ (IsPlain a × (s ≡ 0) × (statement_tokens s a ≡ body_tokens a))
 
-stands : (s : ℕ) (a : Statement) → HasSession s a → Stands s a
-stands s (insert e) h = inl (tt, h, labelled_tokens s (insert e) h)
-stands s (finding t) h = inl (tt, h, labelled_tokens s (finding t) h)
-stands s (show e) h = inr (tt, h, plain_tokens s (show e) h)
-stands s (query t) h = inr (tt, h, plain_tokens s (query t) h)
-stands s (parse t) h = inr (tt, h, plain_tokens s (parse t) h)
-stands s (define head body) h = absurd h
-stands s nothing h = absurd h
+stands : (s : ℕ) (a : Statement) → HasSession s a → IsNamed a → Stands s a
+stands s (insert e) h n = inl (n, h, labelled_tokens s (insert e) h)
+stands s (finding q) h n = inl (n, h, labelled_tokens s (finding q) h)
+stands s (show e) h n = inr (n, h, plain_tokens s (show e) h)
+stands s (query q) h n = inr (n, h, plain_tokens s (query q) h)
+stands s (parse t) h n = inr (tt, h, plain_tokens s (parse t) h)
+stands s (define head body) h n = absurd h
+stands s nothing h n = absurd h
 
 -- a label begins no plain statement
 label_or_plain : (s : ℕ) (ts : List ScriptToken) (b : Statement) → IsPlain b → word (label s) ∷ ts ≡ body_tokens b → ⊥
 label_or_plain s ts (show e) h same = label_or_show s (words_same (label s) (codes "show") ts (expr_tokens e) same).0
-label_or_plain s ts (query x) h same = label_or_ask s (words_same (label s) (codes "ask") ts (quote x ∷ []) same).0
+label_or_plain s ts (query x) h same = label_or_ask s (words_same (label s) (codes "ask") ts (query_tokens x) same).0
 label_or_plain s ts (parse x) h same = label_or_parse s (words_same (label s) (codes "parse") ts (quote x ∷ []) same).0
 label_or_plain s ts (insert e) h same = h
 label_or_plain s ts (finding x) h same = h
@@ -48,7 +48,7 @@ one_said s t a b (inl h) (inr k) same = absurd (label_or_plain s (body_tokens a)
 one_said s t a b (inr h) (inl k) same = absurd (label_or_plain t (body_tokens b) a h.0 (sym k.2 ∙ sym same ∙ h.2))
 
 one_written : (line : List ℕ) (s t : ℕ) (a b : Statement) → IsWrittenAs line s a → IsWrittenAs line t b → (s ≡ t) × (a ≡ b)
-one_written line s t a b h k = one_said s t a b (stands s a h.session) (stands t b k.session) (one_spelling line (statement_tokens s a) (statement_tokens t b) h.spelled k.spelled)
+one_written line s t a b h k = one_said s t a b (stands s a h.session h.named) (stands t b k.session k.named) (one_spelling line (statement_tokens s a) (statement_tokens t b) h.spelled k.spelled)
 
 -- a line that says nothing, or a statement
 says : (line : List ℕ) (s : ℕ) (a : Statement) → IsStatement line s a → IsWrittenAs line s a ⊎ ((s ≡ 0) × (a ≡ nothing) × ((t : ℕ) (b : Statement) → IsWrittenAs line t b → ⊥))

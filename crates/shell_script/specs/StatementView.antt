@@ -2,21 +2,35 @@
 use Rattle.std.specs.Prelude.{map}
 use Rattle.std.specs.String.{string_bytes}
 use Rattle.shell_script.specs.Grammar as grammar
-use Rattle.shell_script.specs.declared.statement.Part.{Part}
-use Rattle.shell_script.specs.declared.statement.Expr.{Expr}
+use Rattle.shell_script.specs.declared.sources.VectorSource.{VectorSource}
+use Rattle.shell_script.specs.declared.sources.VectorSource.TheVariants as vectors
+use Rattle.shell_script.specs.declared.sources.QuerySource.{QuerySource}
+use Rattle.shell_script.specs.declared.sources.QuerySource.TheVariants as queries
+use Rattle.shell_script.specs.declared.sources.Part.{Part}
+use Rattle.shell_script.specs.declared.sources.Expr.{Expr}
 use Rattle.shell_script.specs.declared.statement.Statement.{Statement}
 use Rattle.shell_script.specs.declared.statement.Statement.TheVariants.{Insert, Search, Show, Query, Parse, Nothing}
 
+abbrev pub vector_source : VectorSource → grammar.VectorSource
+vector_source (vectors.Text text) = grammar.vector_text (string_bytes text)
+vector_source (vectors.Made config weight text) =
+    grammar.vector_by config.now weight (string_bytes text)
+
+abbrev pub query_source : QuerySource → grammar.QuerySource
+query_source (queries.Text text) = grammar.query_text (string_bytes text)
+query_source (queries.Made maker config text) =
+    grammar.query_by maker config.now (string_bytes text)
+
 abbrev pub part : Part → grammar.Part
-part p = record { stripped = p.stripped; text = string_bytes p.text }
+part p = record { stripped = p.stripped; source = vector_source p.source }
 
 abbrev pub expr : Expr → grammar.Expr
 expr e = record { first = part e.first; others = map part e.others.items }
 
 abbrev pub statement : Statement → grammar.Statement
 statement (Insert e) = grammar.insert (expr e)
-statement (Search text) = grammar.search (string_bytes text)
+statement (Search q) = grammar.search (query_source q)
 statement (Show e) = grammar.show (expr e)
-statement (Query text) = grammar.query (string_bytes text)
+statement (Query q) = grammar.query (query_source q)
 statement (Parse text) = grammar.parse (string_bytes text)
 statement Nothing = grammar.nothing

@@ -13,6 +13,7 @@ mod lines;
 mod mappings;
 mod replies;
 mod script;
+mod sources;
 mod statement;
 #[cfg(test)]
 mod tests;
@@ -26,7 +27,8 @@ pub use lines::{Line, Lines};
 pub use mappings::{Mapping, Names, Types, read_mapping};
 pub use replies::{Name, Refusal, Reply, TextFault};
 pub use script::{Step, Steps};
-pub use statement::{Expr, Part, ScriptLine, Statement, read_line};
+pub use sources::{Expr, Maker, Part, QuerySource, VectorSource};
+pub use statement::{ScriptLine, Statement, read_line};
 pub use texts::{last_line_of, push_token};
 
 /// The steps of a script, one after another, without memory.

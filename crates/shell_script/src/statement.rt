@@ -1,7 +1,7 @@
 // What a line says.
 ghost use Rattle.std.specs.Prelude.{◌≡◌, ◌↔◌, ℕ, List, [], ◌∷◌, ◌++◌, IfOk, IfSome, IfNone, IsTrue, codes, map, string_bytes};
-ghost use Rattle.shell_script.specs.Grammar.{IsSession, IsStatement, label, strip_tokens, part_tokens, joined_tokens, expr_tokens};
-ghost use Rattle.shell_script.specs.Grammar.{Statement as Said, Part as Parted, Expr as Joined};
+ghost use Rattle.shell_script.specs.Grammar.{IsSession, IsStatement, label};
+ghost use Rattle.shell_script.specs.Grammar.{Statement as Said};
 ghost use Rattle.shell_script.specs.Tokens.{IsSpelled, word, quote};
 ghost use Rattle.shell_script.specs.Inner.Fronts.{Fronts};
 ghost use Rattle.shell_script.specs.Tokens.{ScriptToken as Spelled};
@@ -10,39 +10,22 @@ ghost use Rattle.shell_script.specs.declared.statement.Statement.TheVariants.{No
 ghost use Rattle.shell_script.specs.StatementView.{statement, part, expr};
 
 use crate::line::first_word;
-use crate::tokens::{behind_word, front_quote, front_word, is_all_blank};
+use crate::sources::{Expr, QuerySource, expr_of, query_of, quote_of};
+use crate::tokens::front_word;
 use std::alloc::{AllocError, Global};
 use std::str;
 
-/// A part of an expression: the text of a vector, which may be stripped.
-#[derive(Debug, Drop)]
-pub struct Part {
-    /// Whether it is taken without its positions.
-    pub stripped: bool,
-    /// The text of a vector.
-    pub text: String,
-}
-
-/// An expression: its parts are joined from the left.
-#[derive(Debug, Drop)]
-pub struct Expr {
-    /// The first part.
-    pub first: Part,
-    /// Those behind it, in their order.
-    pub others: Vec<Part>,
-}
-
 /// A statement of one line.
 #[derive(Debug, Drop)]
-pub enum Statement {
+pub enum Statement<'a> {
     /// A document is to be stored.
-    Insert(Expr),
+    Insert(Expr<'a>),
     /// The documents are asked for that satisfy a query.
-    Search(String),
+    Search(QuerySource<'a>),
     /// The text of an expression's vector is asked for.
-    Show(Expr),
+    Show(Expr<'a>),
     /// The printed form of a query is asked for.
-    Query(String),
+    Query(QuerySource<'a>),
     /// The tokens of a text are asked for.
     Parse(String),
     /// The line is no statement.
@@ -51,16 +34,16 @@ pub enum Statement {
 
 /// What a line says.
 #[derive(Debug, Drop)]
-pub struct ScriptLine {
+pub struct ScriptLine<'a> {
     /// The session, from 1 to 8, or 0 where it names none.
     pub session: u8,
     /// What is said.
-    pub statement: Statement,
+    pub statement: Statement<'a>,
 }
 
-impl ScriptLine {
+impl ScriptLine<'_> {
     /// A line that is no statement.
-    fn nothing() -> ScriptLine
+    fn nothing() -> Self
         ensures session { result.session ≡ 0 }
         ensures statement { result.statement ≡ Nothing }
     {
@@ -82,82 +65,6 @@ fn session_number(text: &[u8]) -> Option<u8>
     }
 }
 
-/// The mark of a stripped part, if it stands at the front, and what stands behind it.
-fn front_strip(text: &str) -> (bool, &str)
-    ensures front { Fronts text.now (strip_tokens result.0) result.1.now }
-    ensures first { (b : _) (ts : List Spelled)
-        → IsSpelled text.now (strip_tokens b ++ (word (codes "vector") ∷ ts)) → b ≡ result.0 }
-{
-    match behind_word(text, "strip") {
-        Some(rest) => (true, rest),
-        None => (false, text),
-    }
-}
-
-/// The part at the front, and what stands behind it.
-fn front_part(alloc: Global, text: &str) -> Result<Option<(Part, &str)>, AllocError>
-    ensures some { IfOk result (λ found. IfSome found
-        (λ r. Fronts text.now (part_tokens (part r.0)) r.1.now)) }
-    ensures none { IfOk result (λ found. IfNone found ((p : Parted) (ts : List Spelled)
-        → IsSpelled text.now (part_tokens p ++ ts) → ⊥)) }
-{
-    let (stripped, rest) = front_strip(text);
-    let Some(rest) = behind_word(rest, "vector") else {
-        return Ok(None);
-    };
-    match front_quote(alloc, rest)? {
-        Some((text, rest)) => Ok(Some((Part { stripped, text }, rest))),
-        None => Ok(None),
-    }
-}
-
-/// The part behind `||` at the front, and what stands behind it.
-fn front_joined(alloc: Global, text: &str) -> Result<Option<(Part, &str)>, AllocError>
-    ensures some { IfOk result (λ found. IfSome found
-        (λ r. Fronts text.now (joined_tokens (part r.0)) r.1.now)) }
-    ensures none { IfOk result (λ found. IfNone found ((p : Parted) (ts : List Spelled)
-        → IsSpelled text.now (joined_tokens p ++ ts) → ⊥)) }
-{
-    match behind_word(text, "||") {
-        Some(rest) => front_part(alloc, rest),
-        None => Ok(None),
-    }
-}
-
-/// The expression that the text is.
-fn expr_of(alloc: Global, text: &str) -> Result<Option<Expr>, AllocError>
-    ensures some { IfOk result (λ found. IfSome found
-        (λ e. IsSpelled text.now (expr_tokens (expr e)))) }
-    ensures none { IfOk result (λ found. IfNone found ((e : Joined)
-        → IsSpelled text.now (expr_tokens e) → ⊥)) }
-{
-    let Some((first, mut rest)) = front_part(alloc, text)? else {
-        return Ok(None);
-    };
-    let mut others = Vec::new(alloc);
-    while !is_all_blank(rest) {
-        let Some((part, more)) = front_joined(alloc, rest)? else {
-            return Ok(None);
-        };
-        others.push(part)?;
-        rest = more;
-    }
-    Ok(Some(Expr { first, others }))
-}
-
-/// The quoted text that the text is.
-fn quote_of(alloc: Global, text: &str) -> Result<Option<String>, AllocError>
-    ensures some { IfOk result (λ found. IfSome found
-        (λ t. IsSpelled text.now (quote (string_bytes t) ∷ []))) }
-    ensures none { IfOk result (λ found. IfNone found ((t : List ℕ)
-        → IsSpelled text.now (quote t ∷ []) → ⊥)) }
-{
-    match front_quote(alloc, text)? {
-        Some((found, rest)) if is_all_blank(rest) => Ok(Some(found)),
-        _ => Ok(None),
-    }
-}
-
 /// Whether a word is this one.
 fn is_word(found: &[u8], word: &str) -> bool
     ensures { IsTrue result ↔ (found.now ≡ word.now) }
@@ -166,51 +73,70 @@ fn is_word(found: &[u8], word: &str) -> bool
 }
 
 /// The statement behind a session's label, by its first word and what stands behind it.
-fn session_statement(
+fn session_statement<'a>(
     alloc: Global,
     first: &[u8],
-    rest: &str,
-) -> Result<Option<Statement>, AllocError>
+    rest: &'a str,
+) -> Result<Option<Statement<'a>>, AllocError>
     ensures some { IfOk result (λ found. IfSome found
         (λ s. IsBody IsOfSession first.now rest.now (statement s))) }
     ensures none { IfOk result (λ found. IfNone found ((s : Said)
         → IsBody IsOfSession first.now rest.now s → ⊥)) }
 {
     if is_word(first, "insert") {
-        return Ok(expr_of(alloc, rest)?.map(Statement::Insert));
+        let Some(expr) = expr_of(alloc, rest)? else {
+            return Ok(None);
+        };
+        return Ok(Some(Statement::Insert(expr)));
     }
     if is_word(first, "search") {
-        return Ok(quote_of(alloc, rest)?.map(Statement::Search));
+        let Some(query) = query_of(alloc, rest)? else {
+            return Ok(None);
+        };
+        return Ok(Some(Statement::Search(query)));
     }
     Ok(None)
 }
 
 /// A statement without a session, by its first word and what stands behind it.
-fn plain_statement(alloc: Global, first: &[u8], rest: &str) -> Result<Option<Statement>, AllocError>
+fn plain_statement<'a>(
+    alloc: Global,
+    first: &[u8],
+    rest: &'a str,
+) -> Result<Option<Statement<'a>>, AllocError>
     ensures some { IfOk result (λ found. IfSome found
         (λ s. IsBody IsPlain first.now rest.now (statement s))) }
     ensures none { IfOk result (λ found. IfNone found ((s : Said)
         → IsBody IsPlain first.now rest.now s → ⊥)) }
 {
     if is_word(first, "show") {
-        return Ok(expr_of(alloc, rest)?.map(Statement::Show));
+        let Some(expr) = expr_of(alloc, rest)? else {
+            return Ok(None);
+        };
+        return Ok(Some(Statement::Show(expr)));
     }
     if is_word(first, "ask") {
-        return Ok(quote_of(alloc, rest)?.map(Statement::Query));
+        let Some(query) = query_of(alloc, rest)? else {
+            return Ok(None);
+        };
+        return Ok(Some(Statement::Query(query)));
     }
     if is_word(first, "parse") {
-        return Ok(quote_of(alloc, rest)?.map(Statement::Parse));
+        let Some(text) = quote_of(alloc, rest)? else {
+            return Ok(None);
+        };
+        return Ok(Some(Statement::Parse(text)));
     }
     Ok(None)
 }
 
 /// The session and the statement of a line, by its first word and what stands behind it.
 /// None where it is no statement.
-fn statement_of(
+fn statement_of<'a>(
     alloc: Global,
     first: &[u8],
-    rest: &[u8],
-) -> Result<Option<(u8, Statement)>, AllocError>
+    rest: &'a [u8],
+) -> Result<Option<(u8, Statement<'a>)>, AllocError>
     ensures some { IfOk result (λ found. IfSome found
         (λ r. IsSaidBehind first.now rest.now r.0 (statement r.1))) }
     ensures none { IfOk result (λ found. IfNone found ((s : ℕ) (a : Said)
@@ -220,16 +146,22 @@ fn statement_of(
         return Ok(None);
     };
     let Some(session) = session_number(first) else {
-        return Ok(plain_statement(alloc, first, rest)?.map(|statement| (0, statement)));
+        return match plain_statement(alloc, first, rest)? {
+            Some(statement) => Ok(Some((0, statement))),
+            None => Ok(None),
+        };
     };
     let Some((word, rest)) = front_word(rest) else {
         return Ok(None);
     };
-    Ok(session_statement(alloc, word.as_bytes(), rest)?.map(|statement| (session, statement)))
+    match session_statement(alloc, word.as_bytes(), rest)? {
+        Some(statement) => Ok(Some((session, statement))),
+        None => Ok(None),
+    }
 }
 
 /// What a line by itself says. Its first word is read once.
-pub fn read_line(alloc: Global, line: &[u8]) -> Result<ScriptLine, AllocError>
+pub fn read_line(alloc: Global, line: &[u8]) -> Result<ScriptLine<'_>, AllocError>
     ensures { IfOk result
         (λ read. IsStatement line.now read.session (statement read.statement)) }
 {
@@ -246,22 +178,22 @@ pub fn read_line(alloc: Global, line: &[u8]) -> Result<ScriptLine, AllocError>
 mod tests {
     use super::*;
 
-    const ASKING: [(&str, &str); 9] = [
+    const ASKING: [(&str, &str); 15] = [
         (
             "@1 insert strip vector 'a' || vector 'b:1'",
-            r#"ScriptLine { session: 1, statement: Insert(Expr { first: Part { stripped: true, text: "a" }, others: [Part { stripped: false, text: "b:1" }] }) }"#,
+            r#"ScriptLine { session: 1, statement: Insert(Expr { first: Part { stripped: true, source: Text("a") }, others: [Part { stripped: false, source: Text("b:1") }] }) }"#,
         ),
         (
             "show vector ''",
-            r#"ScriptLine { session: 0, statement: Show(Expr { first: Part { stripped: false, text: "" }, others: [] }) }"#,
+            r#"ScriptLine { session: 0, statement: Show(Expr { first: Part { stripped: false, source: Text("") }, others: [] }) }"#,
         ),
         (
             "\t show\tstrip  vector 'a'\t||\tstrip vector 'b' || vector 'c' ",
-            r#"ScriptLine { session: 0, statement: Show(Expr { first: Part { stripped: true, text: "a" }, others: [Part { stripped: true, text: "b" }, Part { stripped: false, text: "c" }] }) }"#,
+            r#"ScriptLine { session: 0, statement: Show(Expr { first: Part { stripped: true, source: Text("a") }, others: [Part { stripped: true, source: Text("b") }, Part { stripped: false, source: Text("c") }] }) }"#,
         ),
         (
             "ask 'a & b'",
-            r#"ScriptLine { session: 0, statement: Query("a & b") }"#,
+            r#"ScriptLine { session: 0, statement: Query(Text("a & b")) }"#,
         ),
         (
             "parse\t'a b' ",
@@ -269,23 +201,47 @@ mod tests {
         ),
         (
             "ask ''''",
-            r#"ScriptLine { session: 0, statement: Query("'") }"#,
+            r#"ScriptLine { session: 0, statement: Query(Text("'")) }"#,
         ),
         (
             " \t@8 search 'it''s' \t",
-            r#"ScriptLine { session: 8, statement: Search("it's") }"#,
+            r#"ScriptLine { session: 8, statement: Search(Text("it's")) }"#,
         ),
         (
             "@2 search 'end || @1'",
-            r#"ScriptLine { session: 2, statement: Search("end || @1") }"#,
+            r#"ScriptLine { session: 2, statement: Search(Text("end || @1")) }"#,
         ),
         (
             "@3\tinsert\tvector\t'é'\t",
-            r#"ScriptLine { session: 3, statement: Insert(Expr { first: Part { stripped: false, text: "é" }, others: [] }) }"#,
+            r#"ScriptLine { session: 3, statement: Insert(Expr { first: Part { stripped: false, source: Text("é") }, others: [] }) }"#,
+        ),
+        (
+            "show c 'a b' || strip _d B 'c'",
+            r#"ScriptLine { session: 0, statement: Show(Expr { first: Part { stripped: false, source: Made { config: "c", weight: None, text: "a b" } }, others: [Part { stripped: true, source: Made { config: "_d", weight: Some(B), text: "c" } }] }) }"#,
+        ),
+        (
+            "@4 insert strip A A ''''",
+            r#"ScriptLine { session: 4, statement: Insert(Expr { first: Part { stripped: true, source: Made { config: "A", weight: Some(A), text: "'" } }, others: [] }) }"#,
+        ),
+        (
+            "ask to c 'x & y'",
+            r#"ScriptLine { session: 0, statement: Query(Made { maker: To, config: "c", text: "x & y" }) }"#,
+        ),
+        (
+            "ask plain to ''",
+            r#"ScriptLine { session: 0, statement: Query(Made { maker: Plain, config: "to", text: "" }) }"#,
+        ),
+        (
+            "@1 search phrase D 'x'",
+            r#"ScriptLine { session: 1, statement: Search(Made { maker: Phrase, config: "D", text: "x" }) }"#,
+        ),
+        (
+            "@1 search\tweb\tweb 'x' ",
+            r#"ScriptLine { session: 1, statement: Search(Made { maker: Web, config: "web", text: "x" }) }"#,
         ),
     ];
 
-    const NO_STATEMENTS: [&[u8]; 41] = [
+    const NO_STATEMENTS: [&[u8]; 54] = [
         b"",
         b" \t",
         b"@1",
@@ -327,6 +283,19 @@ mod tests {
         b"dictionary d simple",
         b"configuration c",
         b"parallel",
+        b"show c a 'x'",
+        b"show c E 'x'",
+        b"show c A B 'x'",
+        b"show 9 'x'",
+        b"show c A",
+        b"show c 'x' || A strip 'x'",
+        b"ask c 'x'",
+        b"ask to 'x'",
+        b"ask to c",
+        b"ask to vector 'x'",
+        b"ask To c 'x'",
+        b"ask to c A 'x'",
+        b"ask web c 'x' 'x'",
     ];
 
     #[test]

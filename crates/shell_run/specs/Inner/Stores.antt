@@ -14,7 +14,6 @@ use Rattle.ts_base.specs.Vectors.{Vector, IsNormal}
 use Rattle.ts_base.specs.Spelling.{vector_bytes}
 use Rattle.shell_run.specs.Inner.Logs.{PutsEntry}
 use Rattle.ts_query.specs.Queries.{Query}
-use Rattle.ts_query.specs.Refusals.{IsReadAs}
 use Rattle.shell_script.specs.Grammar.{Statement, insert, search, show, query, parse, define, nothing}
 use Rattle.shell_script.specs.Name as names
 use Rattle.shell_run.specs.History.{name_of, Document, History, insertion, inserts, room, IsFound}
@@ -27,7 +26,7 @@ use Rattle.shell_run.specs.declared.error.StoreError.{StoreError}
 use Rattle.shell_run.specs.declared.error.StoreError.TheVariants.{Full, LogFull, Down, Device, Memory}
 use Rattle.ts_config.specs.Known.{Known}
 use Rattle.shell_run.specs.Defining.{IsDefined}
-use Rattle.shell_run.specs.Values.{IsValueOf, ExprFails, QueryFails, IsRefusedBy, IsShown, IsQueried, IsParsed}
+use Rattle.shell_run.specs.Values.{IsValueOf, ExprFails, IsQueryOf, QueryFails, IsRefusedBy, IsShown, IsQueried, IsParsed}
 use Rattle.shell_run.specs.declared.store.Store.{Store}
 use Rattle.shell_run.specs.declared.store.TheConstants.{LONGEST, PAGE_ROOM}
 
@@ -143,17 +142,17 @@ module _ {D : Type 0} (device : Disk D) where
   -- what the statement of this line is answered, before which this is defined
   abbrev pub HasAnswered : Known → ℕ → Store → Store → D → D → Statement → Reply → Type 0
   HasAnswered known line old new disk disk' (insert e) r =
-      HasOnlyAnswered old new disk disk' (IsRefusedBy (ExprFails e)) r
-      ⊎ ((v : Vector) × IsValueOf e v × ((answer : Result Name StoreError)
+      HasOnlyAnswered old new disk disk' (IsRefusedBy (ExprFails known e)) r
+      ⊎ ((v : Vector) × IsValueOf known e v × ((answer : Result Name StoreError)
       × HasInserted old new disk disk' v answer × (r ≡ stored_reply answer)))
-  HasAnswered known line old new disk disk' (search text) r =
-      HasOnlyAnswered old new disk disk' (IsRefusedBy (QueryFails text)) r
-      ⊎ ((q : Query) × IsReadAs text q × ((answer : Result (Vec Name Global) StoreError)
+  HasAnswered known line old new disk disk' (search s) r =
+      HasOnlyAnswered old new disk disk' (IsRefusedBy (QueryFails known s)) r
+      ⊎ ((q : Query) × IsQueryOf known s q × ((answer : Result (Vec Name Global) StoreError)
       × Rests old new disk disk' × IsFoundBy old q answer × (r ≡ found_reply answer)))
   HasAnswered known line old new disk disk' (show e) r =
-      HasOnlyAnswered old new disk disk' (IsShown e) r
-  HasAnswered known line old new disk disk' (query text) r =
-      HasOnlyAnswered old new disk disk' (IsQueried text) r
+      HasOnlyAnswered old new disk disk' (IsShown known e) r
+  HasAnswered known line old new disk disk' (query s) r =
+      HasOnlyAnswered old new disk disk' (IsQueried known s) r
   HasAnswered known line old new disk disk' (parse text) r =
       HasOnlyAnswered old new disk disk' (IsParsed text) r
   HasAnswered known line old new disk disk' (define head ls) r =

@@ -9,4 +9,4 @@ pub returns-in-Parse : goal.returns-in-Parse
 returns-in-Parse g c =
     let text = string_bytes c.in-Parse.text in
     let rests : Rests g.D.Disk c.args.store.now c.args.store.now c.args.disk.now c.args.disk.now = record { store = record { same = refl; used = refl; end = refl; down = refl }; same_disk = refl } in
-    rw c.in-Parse.is (λ known. (rests, (one_token_list_lem text (tokens_of text)).1 refl))
+    rw c.in-Parse.is (rests, (one_token_list_lem text (tokens_of text)).1 refl)

@@ -9,11 +9,11 @@ use Rattle.shell_run.proofs.serving.turn.Goals as goal
 
 pub returns-in_ok-said-in-Single-clause-turned : goal.returns-in_ok-said-in-Single-clause-turned
 returns-in_ok-said-in-Single-clause-turned g c =
-    rw c.in-Single.is (turned_line g.D.Disk (shown c.in-Single.line) c.args.desk.now _ c.args.disk.now c.answer-reply.new.disk c.in_ok-said-in-Single.said.session c.in_ok-said-in-Single.said.statement (reply c.answer-reply.result) c.in_ok-said-in-Single.ensures (c.answer-reply.ensures c.args.desk.now.configs) refl)
+    rw c.in-Single.is (turned_line g.D.Disk (shown c.in-Single.line) c.args.desk.now _ c.args.disk.now c.answer-reply.new.disk c.in_ok-said-in-Single.said.session c.in_ok-said-in-Single.said.statement (reply c.answer-reply.result) c.in_ok-said-in-Single.ensures c.answer-reply.ensures refl)
 
 pub returns-in_ok-said-in-Single-clause-counts : goal.returns-in_ok-said-in-Single-clause-counts
 returns-in_ok-said-in-Single-clause-counts g c =
-    answered_counts g.D.Disk c.args.desk.now.configs c.in-Single.line.number c.args.desk.now.store c.answer-reply.new.store c.args.disk.now c.answer-reply.new.disk (statement c.in_ok-said-in-Single.said.statement) (reply c.answer-reply.result) (c.answer-reply.ensures c.args.desk.now.configs)
+    answered_counts g.D.Disk c.args.desk.now.configs c.in-Single.line.number c.args.desk.now.store c.answer-reply.new.store c.args.disk.now c.answer-reply.new.disk (statement c.in_ok-said-in-Single.said.statement) (reply c.answer-reply.result) c.answer-reply.ensures
 
 pub returns-in-Some-clause-turned : goal.returns-in-Some-clause-turned
 returns-in-Some-clause-turned g c =
