@@ -1,13 +1,27 @@
-//! Reads made English text: prints how many tokens and placed lexemes it has, and how many of its words a long stop list has.
-//! With the word `time` it also prints how fast each of these is.
+//! Reads made English text, and dictionaries of a hundred thousand lines: prints how many tokens and
+//! placed lexemes the text has, how many words the dictionaries know, and how large the vectors and
+//! queries are that texts are made. With the word `time` it also prints how fast each of these is, and
+//! reads bad input.
 #![tactic(auto)]
 
+mod bad;
+mod dictionaries;
+mod figures;
+mod making;
+mod placing;
+
+use crate::bad::{run_lines, run_long_phrase, run_long_queries};
+use crate::dictionaries::{LINES, run_phrases, run_stems, run_synonyms};
+use crate::figures::{print_speed, print_time};
+use crate::making::{run_query, run_vectors, run_web};
+use crate::placing::{define, run_lexemes};
 use anyhow::Result;
+use porter_stem::Porter;
 use std::alloc::{AllocError, Global};
 use std::env;
 use std::rt::{Clock, Env};
 use std::time::Instant;
-use ts_config::Configs;
+use ts_config::{AnyDictionary, Configs};
 use ts_parser::tokens;
 use ts_words::StopList;
 
@@ -24,13 +38,16 @@ const PARAGRAPH: &str = concat!(
 /// How many paragraphs the text has.
 const PARAGRAPHS: u32 = 12_000;
 
-/// How many lines the stop list has.
-const LINES: u32 = 100_000;
+/// How many paragraphs a document has.
+const IN_A_DOCUMENT: u32 = 15;
 
-/// The text.
-fn make_text(alloc: Global) -> Result<String, AllocError> {
+/// How many paragraphs a web text has.
+const IN_A_WEB_TEXT: u32 = 120;
+
+/// A text of so many paragraphs.
+fn make_text(alloc: Global, paragraphs: u32) -> Result<String, AllocError> {
     let mut text = String::new(alloc);
-    for _ in 0..PARAGRAPHS {
+    for _ in 0..paragraphs {
         text.push_str(PARAGRAPH)?;
     }
     Ok(text)
@@ -57,14 +74,6 @@ fn count_stops(alloc: Global, stops: &StopList) -> Result<u32, AllocError> {
     Ok(found)
 }
 
-/// Prints how fast so many bytes were read.
-fn print_speed(rt: &impl Print, bytes: usize, seconds: f64) -> Result<()> {
-    let kilobytes = (bytes / 1000).min(1_000_000) as u32;
-    let megabytes = f64::from(kilobytes) / 1000.0 / seconds;
-    println!(rt; "{megabytes:.0} MB a second")?;
-    Ok(())
-}
-
 /// Counts the tokens of the text.
 fn run_tokens(rt: &(impl Print + Clock), text: &str, timed: bool) -> Result<()> {
     let start = Instant::now(rt)?;
@@ -82,25 +91,6 @@ fn run_tokens(rt: &(impl Print + Clock), text: &str, timed: bool) -> Result<()> 
     Ok(())
 }
 
-/// Counts the placed lexemes of the text by the configuration `simple`.
-fn run_lexemes(rt: &(impl Print + Clock + AllocGlobal), text: &str, timed: bool) -> Result<()> {
-    let alloc = rt.alloc();
-    let configs = Configs::new(alloc)?;
-    let Some(config) = configs.config("simple") else {
-        return Ok(());
-    };
-    let start = Instant::now(rt)?;
-    let placed = configs.lexize_all(alloc, config, text)?;
-    let seconds = start.elapsed(rt)?.as_secs_f64();
-    let last = placed.last().map_or(0, |p| p.position);
-    let count = placed.len();
-    println!(rt; "{count} placed lexemes, the last at {last}")?;
-    if timed {
-        print_speed(rt, text.len(), seconds)?;
-    }
-    Ok(())
-}
-
 /// Reads the stop list.
 fn run_stops(rt: &(impl Print + Clock + AllocGlobal), timed: bool) -> Result<()> {
     let alloc = rt.alloc();
@@ -111,8 +101,48 @@ fn run_stops(rt: &(impl Print + Clock + AllocGlobal), timed: bool) -> Result<()>
     let found = count_stops(alloc, &stops)?;
     println!(rt; "{found} of {LINES} stop words found")?;
     if timed {
-        let milliseconds = seconds * 1000.0;
-        println!(rt; "read in {milliseconds:.0} milliseconds")?;
+        print_time(rt, seconds)?;
+    }
+    Ok(())
+}
+
+/// The configuration `simple`, and `english`, which has the words' stems.
+fn make_configs(alloc: Global) -> Result<Configs> {
+    let mut configs = Configs::new(alloc)?;
+    let porter = Porter::new(StopList::new(alloc));
+    define(
+        alloc,
+        &mut configs,
+        "english",
+        AnyDictionary::Porter(porter),
+    )?;
+    Ok(configs)
+}
+
+/// Counts the lexemes of the text by both configurations.
+fn run_placed(rt: &(impl Print + Clock + AllocGlobal), text: &str, timed: bool) -> Result<()> {
+    let configs = make_configs(rt.alloc())?;
+    run_lexemes(rt, &configs, "simple", text, timed)?;
+    run_lexemes(rt, &configs, "english", text, timed)
+}
+
+/// Makes vectors and queries by both configurations.
+fn run_made(rt: &(impl Print + Clock + AllocGlobal), timed: bool) -> Result<()> {
+    let configs = make_configs(rt.alloc())?;
+    let document = make_text(rt.alloc(), IN_A_DOCUMENT)?;
+    run_vectors(rt, &configs, "simple", &document, timed)?;
+    run_vectors(rt, &configs, "english", &document, timed)?;
+    run_query(rt, &configs, timed)?;
+    let web = make_text(rt.alloc(), IN_A_WEB_TEXT)?;
+    run_web(rt, &configs, &web, timed)
+}
+
+/// Reads input that is to take much time.
+fn run_bad(rt: &(impl Print + Clock + AllocGlobal), timed: bool) -> Result<()> {
+    if timed {
+        run_lines(rt)?;
+        run_long_phrase(rt)?;
+        run_long_queries(rt)?;
     }
     Ok(())
 }
@@ -120,10 +150,15 @@ fn run_stops(rt: &(impl Print + Clock + AllocGlobal), timed: bool) -> Result<()>
 /// The whole program.
 fn run(rt: &(impl Print + Env + Clock + AllocGlobal)) -> Result<()> {
     let timed = env::args(rt)?.skip(1).any(|word| word.as_str() == "time");
-    let text = make_text(rt.alloc())?;
+    let text = make_text(rt.alloc(), PARAGRAPHS)?;
     run_tokens(rt, &text, timed)?;
-    run_lexemes(rt, &text, timed)?;
-    run_stops(rt, timed)
+    run_placed(rt, &text, timed)?;
+    run_stops(rt, timed)?;
+    run_stems(rt, timed)?;
+    run_synonyms(rt, timed)?;
+    run_phrases(rt, timed)?;
+    run_made(rt, timed)?;
+    run_bad(rt, timed)
 }
 
 /// The whole program, at the process's own input and output.
