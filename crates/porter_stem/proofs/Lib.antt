@@ -5,3 +5,4 @@ pub mod Lengths
 pub mod Small
 pub mod Some
 pub mod Texts
+pub mod Answering

@@ -277,5 +277,6 @@ pub trait Dictionary {
         requires some { 1 ≤ length word.now }
         requires most { length word.now ≤ LONGEST_LEXEME }
         ensures value { IfOk result (λ a. answer_value a ≡ answer self.now word.now) }
-        ensures valid { IfOk result (λ a. IsWordAnswer (answer_value a)) };
+        ensures valid { IfOk result (λ a. IsWordAnswer (answer_value a)) }
+        ensures named { IsWordAnswer (answer self.now word.now) };
 }

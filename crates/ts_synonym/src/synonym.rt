@@ -1,7 +1,8 @@
 // The dictionary.
 ghost use Rattle.std.specs.Prelude.{◌≡◌, ◌↔◌, ℕ, Bool, List, [], ◌∷◌, ◌++◌, true, false, IfOk, IfErr, OnErr, option_copied};
 ghost use Rattle.std.specs.Str.Lines.{lines};
-ghost use Rattle.ts_synonym.specs.Synonyms.{cased as cased_of, given_for, IsBadLine, IsSynonymList, IsRefusal};
+ghost use Rattle.ts_base.specs.Dictionary.{IsWordAnswer};
+ghost use Rattle.ts_synonym.specs.Synonyms.{cased as cased_of, given_for, synonym_answer, IsBadLine, IsSynonymList, IsRefusal};
 
 use crate::error::SynonymError;
 use crate::line::{cased, is_bad, two_words, without_mark};
@@ -20,7 +21,8 @@ pub struct Synonym {
 }
 
 impl Model for Synonym {
-    ghost use Rattle.std.specs.Prelude.{map};
+    ghost use Rattle.std.specs.Prelude.{map, All};
+    ghost use Rattle.ts_base.specs.Lexemes.{IsLexeme};
     ghost use Rattle.ts_synonym.specs.Synonyms.{Synonyms};
 
     ghost Value = { Synonyms };
@@ -28,6 +30,8 @@ impl Model for Synonym {
     ghost use Rattle.ts_synonym.specs.Views.{pair};
 
     ghost view = { λ s. record { sensitive = s.sensitive; pairs = map pair s.pairs.entries } };
+
+    ghost invariant = { λ s. All (λ e. IsLexeme e.1.lexeme) s.pairs.entries };
 }
 
 impl Synonym {
@@ -87,8 +91,9 @@ impl Synonym {
 
     /// What stands for a word.
     fn find(&self, alloc: Global, word: &str) -> Result<Option<&Found>, AllocError>
-        ensures { IfOk result (λ r. option_copied r
+        ensures value { IfOk result (λ r. option_copied r
             ≡ given_for self.now (cased_of self.now.sensitive word.now)) }
+        ensures named { IsWordAnswer (synonym_answer self.now word.now) }
     {
         if self.sensitive {
             return Ok(self.pairs.get(word));

@@ -1,3 +1,5 @@
 pub mod Members
 pub mod Lists
 pub mod Words
+pub mod Lowered
+pub mod Answers

@@ -12,6 +12,7 @@ use Rattle.ts_words.specs.Simple.{is_stop, plain}
 use Rattle.porter_stem.specs.Stem.{stem}
 use Rattle.porter_stem.proofs.Some.{stem_some}
 use Rattle.porter_stem.proofs.Lengths.{stem_length}
+use Rattle.porter_stem.proofs.Answering.{porter_valid}
 use Rattle.porter_stem.proofs.dictionary.PorterDictionary.lexize.Goals as goal
 
 pub from_string-lexeme-requires-clause-some : goal.from_string-lexeme-requires-clause-some
@@ -45,3 +46,15 @@ returns-clause-valid c =
     let items : c.push.new.self.items ≡ found ∷ [] = c.in_ok-push.ensures.items ∙ ap (λ z. z ++ (found ∷ [])) c.new-found.ensures.items in
     subst (λ z. IsWordAnswer (word_lexemes z)) (sym items)
     ((λ e. cc), All-cons (λ (f : Found). IsLexeme f.lexeme) found [] c.from_string-lexeme.ensures.valid (All-nil (λ (f : Found). IsLexeme f.lexeme)))
+
+pub returns-in_err-lowered-clause-named : goal.returns-in_err-lowered-clause-named
+returns-in_err-lowered-clause-named c = porter_valid c.args.self.now.stops c.args.word.now c.requires.some c.requires.most c.utf8.word
+
+pub returns-then-contains-clause-named : goal.returns-then-contains-clause-named
+returns-then-contains-clause-named c = porter_valid c.args.self.now.stops c.args.word.now c.requires.some c.requires.most c.utf8.word
+
+pub returns-in_err-push-clause-named : goal.returns-in_err-push-clause-named
+returns-in_err-push-clause-named c = porter_valid c.args.self.now.stops c.args.word.now c.requires.some c.requires.most c.utf8.word
+
+pub returns-clause-named : goal.returns-clause-named
+returns-clause-named c = porter_valid c.args.self.now.stops c.args.word.now c.requires.some c.requires.most c.utf8.word

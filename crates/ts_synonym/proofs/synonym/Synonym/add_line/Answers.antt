@@ -6,6 +6,7 @@ use Rattle.ts_synonym.specs.Synonyms.{cased, given_for, IsBadLine, IsSynonymList
 use Rattle.ts_synonym.specs.Views.{pair}
 use Rattle.ts_synonym.proofs.Said.{no_bad}
 use Rattle.ts_synonym.proofs.Kept.{looked_up, fewer_words, fewer_stays, present_stays, none_of, view_more, list_grows}
+use Rattle.ts_synonym.proofs.Lexemes.{entry_kept}
 use Rattle.ts_synonym.proofs.synonym.Synonym.add_line.Goals as goal
 
 pub returns-in_default-clause-added : goal.returns-in_default-clause-added
@@ -59,3 +60,7 @@ pub returns-clause-bad : goal.returns-clause-bad
 returns-clause-bad c =
     let good : ¬ IsBadLine c.args.line.now = no_bad c.args.line.now _ _ c.in-Some.ensures.some (λ w. true≢false (sym (c.is_bad.ensures.1 w) ∙ c.if-is_bad.false)) in
     ((λ e. absurd (true≢false e)), (λ b. absurd (good b)))
+
+pub invariant_of-self-2 : goal.invariant_of-self-2
+invariant_of-self-2 c = rw c.in_ok-insert.ensures.entries
+    (entry_kept _ c.self.inside.pairs.entries c.in_ok-word.word _ c.self.invariant c.from_string-lexeme.ensures.valid)
