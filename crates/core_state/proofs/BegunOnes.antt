@@ -59,6 +59,11 @@ none_runs (c ∷ cs) x off =
     skipped c.runs c.transaction (running_of cs) x (off 0 c (omega arith))
     ∙ none_runs cs x (λ i d lt. off (suc i) d (omega (arith, lt)))
 
+-- the end is above all of them
+end_above : (bs : List Begun) (n : ℕ) → AreBegun n bs → n ≤ end_of n bs
+end_above [] n up = omega arith
+end_above (c ∷ cs) n up = omega (arith, up.0, end_above cs (suc c.transaction.xid) up.1)
+
 -- nor with one below all of them
 none_above : (bs : List Begun) (n x : ℕ) → AreBegun n bs → x < n
     → transaction x (running_of bs) ≡ None
@@ -66,6 +71,16 @@ none_above [] n x up lt = refl
 none_above (c ∷ cs) n x up lt =
     skipped c.runs c.transaction (running_of cs) x (λ e. omega (arith, up.0, lt, e))
     ∙ none_above cs (suc c.transaction.xid) x up.1 (omega (arith, up.0, lt))
+
+-- nor with one from the end on
+pub none_past : (bs : List Begun) (n x : ℕ) → AreBegun n bs → end_of n bs ≤ x
+    → transaction x (running_of bs) ≡ None
+none_past [] n x up le = refl
+none_past (c ∷ cs) n x up le =
+    let past : suc c.transaction.xid ≤ end_of (suc c.transaction.xid) cs =
+    end_above cs (suc c.transaction.xid) up.1 in
+    skipped c.runs c.transaction (running_of cs) x (λ e. omega (arith, past, le, e))
+    ∙ none_past cs (suc c.transaction.xid) x up.1 le
 
 -- nor with that of one that has ended
 pub ended_runs_not : (bs : List Begun) (n x i : ℕ) (b : Begun) → AreBegun n bs

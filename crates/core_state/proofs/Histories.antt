@@ -31,7 +31,8 @@ bytes_one P h xs ys (HasBytes.long a qs c) (HasBytes.long b qs' d) = ap (parts P
 
 pub whole_one : (P : Pages) (h : Head) (v w : Vector) → IsWhole P h v → IsWhole P h w → v ≡ w
 whole_one P h v w a b =
-    spelling_tells_vector v w a.spells.normal b.spells.normal (sym a.spells.bytes_of ∙ bytes_one P h a.bytes b.bytes a.there b.there ∙ b.spells.bytes_of)
+    spelling_tells_vector v w a.spells.normal b.spells.normal
+    (sym a.spells.bytes_of ∙ bytes_one P h a.bytes b.bytes a.there b.there ∙ b.spells.bytes_of)
 
 some_one : (h k : Head) → Some h ≡ Some k → h ≡ k
 some_one h k e = cc
@@ -42,7 +43,8 @@ head_one P d h k a b = some_one h k (sym a.at ∙ b.at)
 pub vector_one : (P : Pages) (d : Doc) (v w : Vector) → HasVector P d v → HasVector P d w → v ≡ w
 vector_one P d v w a b = whole_one P a.0 v w a.2 (subst (λ h. IsWhole P h w) (head_one P d b.0 a.0 b.1 a.1) b.2)
 
-pub inserts_one : (P : Pages) (ds : List Doc) (xs ys : List Document) → AreInserts P ds xs → AreInserts P ds ys → xs ≡ ys
+pub inserts_one : (P : Pages) (ds : List Doc) (xs ys : List Document) → AreInserts P ds xs → AreInserts P ds ys
+    → xs ≡ ys
 inserts_one P [] [] [] a b = refl
 inserts_one P [] [] (y ∷ ys) a b = absurd b
 inserts_one P [] (x ∷ xs) ys a b = absurd a
@@ -57,12 +59,15 @@ inserts_one P (d ∷ ds) (x ∷ xs) (y ∷ ys) a b =
 pub commit_one : (R : Log) (x : ℕ) (c d : Commit) → IsCommitOf R x c → IsCommitOf R x d → c ≡ d
 commit_one R x c d a b =
     let pages : b.pages ≡ a.pages = shown_one R b.pages a.pages b.shown a.shown in
-    let inserted : c.inserted ≡ d.inserted = inserts_one a.pages (placed R x) c.inserted d.inserted a.inserted (subst (λ P. AreInserts P (placed R x) d.inserted) pages b.inserted) in
-    ap₂ (λ (ns : List Name) (ds : List Document). record { deleted = ns; inserted = ds }) (a.deleted ∙ sym b.deleted) inserted
+    let inserted : c.inserted ≡ d.inserted = inserts_one a.pages (placed R x) c.inserted d.inserted a.inserted
+    (subst (λ P. AreInserts P (placed R x) d.inserted) pages b.inserted) in
+    ap₂ (λ (ns : List Name) (ds : List Document). record { deleted = ns; inserted = ds })
+    (a.deleted ∙ sym b.deleted) inserted
 
 with_one : (k : Kind) (x : ℕ) (R : Log) → ((H H' : History) → IsHistory R H → IsHistory R H' → H ≡ H')
     → (H H' : History) → IsHistoryWith k x R (IsHistory R) H → IsHistoryWith k x R (IsHistory R) H' → H ≡ H'
-with_one (kind.Commit n) x R one H H' a b = a.4 ∙ ap₂ (λ (K : History) (c : Commit). K ++ c ∷ []) (one a.0 b.0 a.2 b.2) (commit_one R x a.1 b.1 a.3 b.3) ∙ sym b.4
+with_one (kind.Commit n) x R one H H' a b = a.4 ∙ ap₂ (λ (K : History) (c : Commit). K ++ c ∷ [])
+    (one a.0 b.0 a.2 b.2) (commit_one R x a.1 b.1 a.3 b.3) ∙ sym b.4
 with_one _ x R one H H' a b = one H H' a b
 
 pub history_one : HistoryIsOne
@@ -70,7 +75,8 @@ history_one [] H H' a b = a ∙ sym b
 history_one (r ∷ R) H H' a b = with_one r.kind r.xid R (history_one R) H H' a b
 
 -- documents that are whole are inserts with their vectors
-whole_inserts : (P : Pages) (ds : List Doc) → ((d : Doc) → In d ds → (v : Vector) × HasVector P d v) → (is : List Document) × AreInserts P ds is
+whole_inserts : (P : Pages) (ds : List Doc) → ((d : Doc) → In d ds → (v : Vector) × HasVector P d v)
+    → (is : List Document) × AreInserts P ds is
 whole_inserts P [] whole = ([], tt)
 whole_inserts P (d ∷ ds) whole =
     let first = whole d (inl refl) in
@@ -81,10 +87,12 @@ whole_inserts P (d ∷ ds) whole =
 abbrev HasHistory : Log → Type 0
 HasHistory R = (H : History) × IsHistory R H
 
-of_kind : (R : Log) (r : Record) (k : Kind) → r.kind ≡ k → (H : History) × IsHistoryWith k r.xid R (IsHistory R) H → HasHistory (r ∷ R)
+of_kind : (R : Log) (r : Record) (k : Kind) → r.kind ≡ k → (H : History) × IsHistoryWith k r.xid R (IsHistory R) H
+    → HasHistory (r ∷ R)
 of_kind R r k e h = subst (λ j. (H : History) × IsHistoryWith j r.xid R (IsHistory R) H) (sym e) h
 
-row_history : (R : Log) (r : Record) (P Q : Pages) (floor since : ℕ) → Shows R P → RowHolds R P Q r floor since → HasHistory R → HasHistory (r ∷ R)
+row_history : (R : Log) (r : Record) (P Q : Pages) (floor since : ℕ) → Shows R P → RowHolds R P Q r floor since
+    → HasHistory R → HasHistory (r ∷ R)
 row_history R r P Q floor since shown (RowHolds.create x) h = of_kind R r kind.Create x.here.kind_is h
 row_history R r P Q floor since shown (RowHolds.begin x) h = of_kind R r kind.Begin x.here.kind_is h
 row_history R r P Q floor since shown (RowHolds.commit x) h =
@@ -93,11 +101,36 @@ row_history R r P Q floor since shown (RowHolds.commit x) h =
     of_kind R r (kind.Commit (suc (commits R))) x.here.kind_is
     (h.0 ++ c ∷ [], (h.0, c, h.1, record { pages = P; shown = shown; deleted = refl; inserted = inserts.1 }, refl))
 row_history R r P Q floor since shown (RowHolds.abort x) h = of_kind R r kind.Abort x.here.kind_is h
-row_history R r P Q floor since shown (RowHolds.place_head x) h = of_kind R r (kind.PlaceHead x.here.doc.item x.here.doc.serial) x.here.kind_is h
+row_history R r P Q floor since shown (RowHolds.place_head x) h = of_kind R r
+    (kind.PlaceHead x.here.doc.item x.here.doc.serial) x.here.kind_is h
+row_history R r P Q floor since shown (RowHolds.checkpoint x) h = of_kind R r
+    (kind.Checkpoint x.here.redo) x.here.kind_is h
+row_history R r P Q floor since shown (RowHolds.put_overflow x) h = of_kind R r
+    (kind.PutOverflow x.here.doc.item x.here.doc.serial) x.here.kind_is h
+row_history R r P Q floor since shown (RowHolds.mark_deleted x) h = of_kind R r
+    (kind.MarkDeleted x.here.doc.item x.here.doc.serial) x.here.kind_is h
+row_history R r P Q floor since shown (RowHolds.put_pending x) h = of_kind R r
+    (kind.PutPending x.here.doc.item x.here.doc.serial) x.here.kind_is h
+row_history R r P Q floor since shown (RowHolds.add_row x) h = of_kind R r
+    (kind.AddRow x.here.doc.item x.here.doc.serial) x.here.kind_is h
+row_history R r P Q floor since shown (RowHolds.link_pending x) h = of_kind R r
+    (kind.LinkPending x.here.doc.item x.here.doc.serial) x.here.kind_is h
+row_history R r P Q floor since shown (RowHolds.drop_page x) h = of_kind R r
+    (kind.DropPage x.here.doc.item x.here.doc.serial) x.here.kind_is h
+row_history R r P Q floor since shown (RowHolds.shift x) h = of_kind R r kind.Shift x.here.kind_is h
+row_history R r P Q floor since shown (RowHolds.add_items x) h = of_kind R r kind.AddItems x.here.kind_is h
+row_history R r P Q floor since shown (RowHolds.make_tree x) h = of_kind R r kind.MakeTree x.here.kind_is h
+row_history R r P Q floor since shown (RowHolds.add_postings x) h = of_kind R r kind.AddPostings x.here.kind_is h
+row_history R r P Q floor since shown (RowHolds.grow_root x) h = of_kind R r kind.GrowRoot x.here.kind_is h
+row_history R r P Q floor since shown (RowHolds.split x) h = of_kind R r kind.Split x.here.kind_is h
+row_history R r P Q floor since shown (RowHolds.remove_items x) h = of_kind R r kind.RemoveItems x.here.kind_is h
+row_history R r P Q floor since shown (RowHolds.delete_post x) h = of_kind R r kind.DeletePost x.here.kind_is h
+row_history R r P Q floor since shown (RowHolds.free_slots x) h = of_kind R r kind.FreeSlots x.here.kind_is h
 
 rows_history : (R : Log) → RowsAreValid R → HasHistory R
 rows_history [] v = ([], refl)
-rows_history (r ∷ R) v = row_history R r v.1.before v.1.after (commits R) (suc (length R)) v.1.shown v.1.row (rows_history R v.0)
+rows_history (r ∷ R) v = row_history R r v.1.before v.1.after (commits R) (suc (length R)) v.1.shown v.1.row
+    (rows_history R v.0)
 
 pub legal_history : LegalHasHistory
 legal_history R l = rows_history R l.valid

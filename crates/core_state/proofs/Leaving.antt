@@ -31,16 +31,25 @@ serial_slot (Some h) serial small is = record {
 }
 
 abbrev behind_serial : Head → List ℕ
-behind_serial h = u32_bytes h.inserted_by ++ (u32_bytes h.deleted_by ++ (u32_bytes h.overflow ++ (u32_bytes h.private ++ (u32_bytes h.bytes ++ h.vector))))
+behind_serial h = u32_bytes h.inserted_by ++
+    (u32_bytes h.deleted_by ++ (u32_bytes h.overflow ++ (u32_bytes h.private ++ (u32_bytes h.bytes ++ h.vector))))
 
 serial_size : (h : Option Head) (serial : ℕ) → length (slot_bytes (with_serial h serial)) ≡ length (slot_bytes h)
 unfolding head_bytes
 serial_size None serial = refl
 serial_size (Some h) serial =
-    omega (arith, length-append (u64_bytes serial) (behind_serial h), length-append (u64_bytes h.serial) (behind_serial h), length-u64_bytes serial, length-u64_bytes h.serial)
+    omega (
+      arith,
+      length-append (u64_bytes serial) (behind_serial h),
+      length-append (u64_bytes h.serial)
+          (behind_serial h),
+      length-u64_bytes serial,
+      length-u64_bytes h.serial,
+    )
 
 -- slots, one of them with another serial
-numbered_slots : (hs : List (Option Head)) (k serial : ℕ) → serial < 2 ^ 64 → AllByRecursion IsSlot hs → AllByRecursion IsSlot (numbered hs k serial)
+numbered_slots : (hs : List (Option Head)) (k serial : ℕ) → serial < 2 ^ 64 → AllByRecursion IsSlot hs
+    → AllByRecursion IsSlot (numbered hs k serial)
 numbered_slots [] k serial small all = tt
 numbered_slots (h ∷ hs) zero serial small all = (serial_slot h serial small all.0, all.1)
 numbered_slots (h ∷ hs) (suc k) serial small all = (all.0, numbered_slots hs k serial small all.1)
@@ -50,7 +59,8 @@ numbered_length [] k serial = refl
 numbered_length (h ∷ hs) zero serial = refl
 numbered_length (h ∷ hs) (suc k) serial = ap suc (numbered_length hs k serial)
 
-numbered_size : (hs : List (Option Head)) (k serial : ℕ) → length (flat_map slot_bytes (numbered hs k serial)) ≡ length (flat_map slot_bytes hs)
+numbered_size : (hs : List (Option Head)) (k serial : ℕ)
+    → length (flat_map slot_bytes (numbered hs k serial)) ≡ length (flat_map slot_bytes hs)
 numbered_size [] k serial = refl
 numbered_size (h ∷ hs) zero serial = omega (
   arith,
@@ -82,31 +92,55 @@ stamped_body right stamp number (body.Deleted gone) off is = is
 abbrev IsPageOf : ℕ → ℕ → Body → Type 0
 IsPageOf right stamp b = IsPage (record { right = right; stamp = stamp; body = b })
 
-stamped : (right stamp number : ℕ) (b : Body) → number < 2 ^ 64 → b ≢ body.Free → IsPageOf right stamp b → IsPageOf right number b
-stamped right stamp number b small off is = record { right = is.right; stamp = small; body = stamped_body right stamp number b off is.body; count = is.count; fits = is.fits }
+stamped : (right stamp number : ℕ) (b : Body) → number < 2 ^ 64 → b ≢ body.Free → IsPageOf right stamp b
+    → IsPageOf right number b
+stamped right stamp number b small off is = record {
+  right = is.right;
+  stamp = small;
+  body = stamped_body right stamp number b off is.body;
+  count = is.count;
+  fits =
+      is.fits;
+}
 
-placed_page : (right stamp number item serial : ℕ) (b : Body) → serial < 2 ^ 64 → number < 2 ^ 64 → b ≢ body.Free → IsPageOf right stamp b
+placed_page : (right stamp number item serial : ℕ) (b : Body) → serial < 2 ^ 64 → number < 2 ^ 64 → b ≢ body.Free
+    → IsPageOf right stamp b
     → IsPageOf right number (drawn_body (kind.PlaceHead item serial) b)
 placed_page right stamp number item serial body.Free drawn small off is = absurd (off refl)
-placed_page right stamp number item serial (body.Meta first last pages) drawn small off is = stamped right stamp number (body.Meta first last pages) small off is
+placed_page right stamp number item serial (body.Meta first last pages) drawn small off is = stamped right stamp
+    number (body.Meta first last pages) small off is
 placed_page right stamp number item serial (body.Heap slots) drawn small off is = record {
   right = is.right;
   stamp = small;
-  body = (omega (arith, numbered_length slots (slot_of item) serial, is.body.0), numbered_slots slots (slot_of item) serial drawn is.body.1);
+  body = (
+    omega (arith, numbered_length slots (slot_of item) serial, is.body.0),
+    numbered_slots slots
+        (slot_of item) serial drawn is.body.1,
+  );
   count = omega (arith, numbered_length slots (slot_of item) serial, is.count);
   fits = omega (arith, numbered_size slots (slot_of item) serial, is.fits);
 }
-placed_page right stamp number item serial (body.Overflow bytes) drawn small off is = stamped right stamp number (body.Overflow bytes) small off is
-placed_page right stamp number item serial (body.Pending rows) drawn small off is = stamped right stamp number (body.Pending rows) small off is
-placed_page right stamp number item serial (body.EntryLeaf high entries) drawn small off is = stamped right stamp number (body.EntryLeaf high entries) small off is
-placed_page right stamp number item serial (body.EntryInner children) drawn small off is = stamped right stamp number (body.EntryInner children) small off is
-placed_page right stamp number item serial (body.PostLeaf high items) drawn small off is = stamped right stamp number (body.PostLeaf high items) small off is
-placed_page right stamp number item serial (body.PostInner children) drawn small off is = stamped right stamp number (body.PostInner children) small off is
-placed_page right stamp number item serial (body.Deleted gone) drawn small off is = stamped right stamp number (body.Deleted gone) small off is
+placed_page right stamp number item serial (body.Overflow bytes) drawn small off is = stamped right stamp number
+    (body.Overflow bytes) small off is
+placed_page right stamp number item serial (body.Pending rows) drawn small off is = stamped right stamp number
+    (body.Pending rows) small off is
+placed_page right stamp number item serial (body.EntryLeaf high entries) drawn small off is = stamped right stamp
+    number (body.EntryLeaf high entries) small off is
+placed_page right stamp number item serial (body.EntryInner children) drawn small off is = stamped right stamp number
+    (body.EntryInner children) small off is
+placed_page right stamp number item serial (body.PostLeaf high items) drawn small off is = stamped right stamp number
+    (body.PostLeaf high items) small off is
+placed_page right stamp number item serial (body.PostInner children) drawn small off is = stamped right stamp number
+    (body.PostInner children) small off is
+placed_page right stamp number item serial (body.Deleted gone) drawn small off is = stamped right stamp number
+    (body.Deleted gone) small off is
 
-drawn_page : (k : Kind) (right stamp number : ℕ) (b : Body) → IsKind k → number < 2 ^ 64 → b ≢ body.Free → IsPageOf right stamp b → IsPageOf right number (drawn_body k b)
-drawn_page (kind.PlaceHead item serial) right stamp number b is_kind small off is = placed_page right stamp number item serial b is_kind.1 small off is
+drawn_page : (k : Kind) (right stamp number : ℕ) (b : Body) → IsKind k → number < 2 ^ 64 → b ≢ body.Free
+    → IsPageOf right stamp b → IsPageOf right number (drawn_body k b)
+drawn_page (kind.PlaceHead item serial) right stamp number b is_kind small off is = placed_page right stamp number
+    item serial b is_kind.1 small off is
 drawn_page _ right stamp number b is_kind small off is = stamped right stamp number b small off is
 
 pub left_is_page : LeftIsPage
-left_is_page r c is_record off is = drawn_page r.kind c.right c.stamp r.number c.body is_record.kind is_record.number off is
+left_is_page r c is_record off is = drawn_page r.kind c.right c.stamp r.number c.body is_record.kind is_record.number
+    off is

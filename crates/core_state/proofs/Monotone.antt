@@ -1,20 +1,28 @@
 -- A larger floor or since makes no valid record invalid.
 use Rattle.std.proofs.Common.{ℕ, ◌≤◌, List, inl, inr, arith}
+use Rattle.std.specs.Prelude.{Option}
 use Rattle.page_types.specs.declared.page.Page.{Page}
+use Rattle.page_types.specs.declared.page.Head.{Head}
 use Rattle.page_types.specs.declared.record.Record.{Record}
 use Rattle.core_state.specs.Log.{Log, Pages}
 use Rattle.core_state.specs.Known.{Known}
-use Rattle.core_state.specs.Changes.{IsNew}
-use Rattle.core_state.specs.HeapRows.{IsPlaceHeadHere}
+use Rattle.core_state.specs.Changes.{IsNew, IsDeadHead}
+use Rattle.core_state.specs.Documents.{Doc, IsDead}
+use Rattle.core_state.specs.HeapRows.{IsPlaceHeadHere, IsPutOverflowHere}
+use Rattle.core_state.specs.PendingRows.{IsPutPendingHere}
+use Rattle.core_state.specs.TreeRows.{IsMakeTreeHere, IsGrowRootHere, IsSplitHere}
+use Rattle.core_state.specs.VacuumRows.{MayLeave, IsGoneFrom, SlotLoses, IsDropPageHere, IsFreeSlotsHere}
 use Rattle.core_state.specs.Legal.{RowHolds}
 use Rattle.core_state.specs.Laws.{ValidIsMonotone}
+use Rattle.core_state.specs.declared.answers.Fate.{Fate}
 use Rattle.core_state.specs.declared.answers.PageUse.{PageUse}
 
 pub new_more : (uses : ℕ → PageUse) (since since' p : ℕ) → since ≤ since' → IsNew uses since p → IsNew uses since' p
 new_more uses since since' p le (IsNew.unused e low) = IsNew.unused e low
 new_more uses since since' p le (IsNew.deleted stamp e small) = IsNew.deleted stamp e (omega (arith, small, le))
 
-place_more : (since since' : ℕ) (k : Known) (r : Record) (before after : List Page) → since ≤ since' → IsPlaceHeadHere since k r before after → IsPlaceHeadHere since' k r before after
+place_more : (since since' : ℕ) (k : Known) (r : Record) (before after : List Page) → since ≤ since'
+    → IsPlaceHeadHere since k r before after → IsPlaceHeadHere since' k r before after
 place_more since since' k r before after le h = record {
   doc = h.doc;
   head = h.head;
@@ -35,13 +43,223 @@ place_more since since' k r before after le h = record {
   after_is = h.after_is;
 }
 
-pub row_more : (R : Log) (P Q : Pages) (r : Record) (floor since floor' since' : ℕ) → since ≤ since' → RowHolds R P Q r floor since → RowHolds R P Q r floor' since'
-unfolding place_more
-row_more R P Q r floor since floor' since' le (RowHolds.create x) = RowHolds.create x
-row_more R P Q r floor since floor' since' le (RowHolds.begin x) = RowHolds.begin x
-row_more R P Q r floor since floor' since' le (RowHolds.commit x) = RowHolds.commit x
-row_more R P Q r floor since floor' since' le (RowHolds.abort x) = RowHolds.abort x
-row_more R P Q r floor since floor' since' le (RowHolds.place_head x) = RowHolds.place_head (record { here = place_more since since' _ r _ _ le x.here; rest = x.rest })
+overflow_more : (since since' : ℕ) (k : Known) (r : Record) (before after : List Page) → since ≤ since'
+    → IsPutOverflowHere since k r before after → IsPutOverflowHere since' k r before after
+overflow_more since since' k r before after le h = record {
+  doc = h.doc;
+  head = h.head;
+  new = h.new;
+  part = h.part;
+  old = h.old;
+  was = h.was;
+  left = h.left;
+  kind_is = h.kind_is;
+  pages = h.pages;
+  own = h.own;
+  long = h.long;
+  full = h.full;
+  is_new = new_more k.uses since since' h.new le h.is_new;
+  before_is = h.before_is;
+  head_after = h.head_after;
+  after_is = h.after_is;
+}
+
+pending_more : (since since' : ℕ) (k : Known) (r : Record) (before after : List Page) → since ≤ since'
+    → IsPutPendingHere since k r before after → IsPutPendingHere since' k r before after
+pending_more since since' k r before after le h = record {
+  doc = h.doc;
+  head = h.head;
+  new = h.new;
+  rows = h.rows;
+  old = h.old;
+  was = h.was;
+  left = h.left;
+  kind_is = h.kind_is;
+  pages = h.pages;
+  own = h.own;
+  is_new = new_more k.uses since since' h.new le h.is_new;
+  some_row = h.some_row;
+  items = h.items;
+  rising = h.rising;
+  before_is = h.before_is;
+  head_after = h.head_after;
+  after_is = h.after_is;
+}
+
+tree_more : (since since' : ℕ) (k : Known) (r : Record) (before after : List Page) → since ≤ since'
+    → IsMakeTreeHere since k r before after → IsMakeTreeHere since' k r before after
+tree_more since since' k r before after le h = record {
+  page = h.page;
+  new = h.new;
+  key = h.key;
+  high = h.high;
+  items = h.items;
+  front = h.front;
+  back = h.back;
+  old = h.old;
+  was = h.was;
+  kind_is = h.kind_is;
+  pages = h.pages;
+  is_new = new_more k.uses since since' h.new le h.is_new;
+  before_is = h.before_is;
+  inline = h.inline;
+  after_is = h.after_is;
+}
+
+root_more : (since since' : ℕ) (k : Known) (r : Record) (before after : List Page) → since ≤ since'
+    → IsGrowRootHere since k r before after → IsGrowRootHere since' k r before after
+root_more since since' k r before after le h = record {
+  root = h.root;
+  new = h.new;
+  inner = h.inner;
+  old = h.old;
+  was = h.was;
+  kind_is = h.kind_is;
+  pages = h.pages;
+  is_new = new_more k.uses since since' h.new le h.is_new;
+  before_is = h.before_is;
+  large = h.large;
+  one_child = h.one_child;
+  after_is = h.after_is;
+}
+
+split_more : (since since' : ℕ) (k : Known) (r : Record) (before after : List Page) → since ≤ since'
+    → IsSplitHere since k r before after → IsSplitHere since' k r before after
+split_more since since' k r before after le h = record {
+  page = h.page;
+  new = h.new;
+  parent = h.parent;
+  old = h.old;
+  was = h.was;
+  old_parent = h.old_parent;
+  left = h.left;
+  right = h.right;
+  parent_after = h.parent_after;
+  kind_is = h.kind_is;
+  pages = h.pages;
+  is_new = new_more k.uses since since' h.new le h.is_new;
+  before_is = h.before_is;
+  large = h.large;
+  divided = h.divided;
+  split_place = h.split_place;
+  after_is = h.after_is;
+}
+
+dead_head_more : (fates : ℕ → Fate) (floor floor' : ℕ) (h : Head) → floor ≤ floor' → IsDeadHead fates floor h
+    → IsDeadHead fates floor' h
+dead_head_more fates floor floor' h le (IsDeadHead.insert_aborted a) = IsDeadHead.insert_aborted a
+dead_head_more fates floor floor' h le (IsDeadHead.delete_counted n a b) = IsDeadHead.delete_counted n a
+    (omega (arith, b, le))
+
+dead_more : (R : Log) (floor floor' : ℕ) (d : Doc) → floor ≤ floor' → IsDead R floor d → IsDead R floor' d
+dead_more R floor floor' d le (IsDead.insert_aborted x a b) = IsDead.insert_aborted x a b
+dead_more R floor floor' d le (IsDead.delete_counted x n a b c) = IsDead.delete_counted x n a (omega (arith, b, le)) c
+
+leave_more : (R : Log) (P : Pages) (floor floor' i : ℕ) → floor ≤ floor' → MayLeave R P floor i
+    → MayLeave R P floor' i
+leave_more R P floor floor' i le m = record {
+  doc = m.doc;
+  head = m.head;
+  item = m.item;
+  has = m.has;
+  dead = dead_more R floor floor' m.doc le m.dead;
+  no_row = m.no_row;
+}
+
+gone_more : (R : Log) (P : Pages) (floor floor' : ℕ) (d : Doc) → floor ≤ floor' → IsGoneFrom R P floor d
+    → IsGoneFrom R P floor' d
+gone_more R P floor floor' d le g = record { dead = dead_more R floor floor' d le g.dead; no_pair = g.no_pair }
+
+slot_more : (k : Known) (floor floor' : ℕ) (old new : Option Head) → floor ≤ floor' → SlotLoses k floor old new
+    → SlotLoses k floor' old new
+slot_more k floor floor' old new le (SlotLoses.same e) = SlotLoses.same e
+slot_more k floor floor' old new le (SlotLoses.freed h a b m) =
+    SlotLoses.freed h a b (record {
+      dead = dead_head_more k.fates floor floor' h le m.dead;
+      no_overflow = m.no_overflow;
+      no_private =
+          m.no_private;
+    })
+
+drop_more : (floor floor' : ℕ) (k : Known) (r : Record) (before after : List Page) → floor ≤ floor'
+    → IsDropPageHere floor k r before after → IsDropPageHere floor' k r before after
+drop_more floor floor' k r before after le h = record {
+  doc = h.doc;
+  head = h.head;
+  head_then = h.head_then;
+  page = h.page;
+  content = h.content;
+  old = h.old;
+  left = h.left;
+  was = h.was;
+  kind_is = h.kind_is;
+  pages = h.pages;
+  before_is = h.before_is;
+  dead = dead_head_more k.fates floor floor' h.head le h.dead;
+  not_none = h.not_none;
+  dropped = h.dropped;
+  head_after = h.head_after;
+  after_is = h.after_is;
+}
+
+free_more : (floor floor' : ℕ) (k : Known) (r : Record) (before after : List Page) → floor ≤ floor'
+    → IsFreeSlotsHere floor k r before after → IsFreeSlotsHere floor' k r before after
+free_more floor floor' k r before after le h = record {
+  page = h.page;
+  slots = h.slots;
+  new_slots = h.new_slots;
+  old = h.old;
+  kind_is = h.kind_is;
+  pages = h.pages;
+  before_is = h.before_is;
+  was = h.was;
+  same_length = h.same_length;
+  each = λ j. slot_more k floor floor' _ _ le (h.each j);
+  some = h.some;
+  after_is = h.after_is;
+}
+
+pub row_more : (R : Log) (P Q : Pages) (r : Record) (floor since floor' since' : ℕ) → floor ≤ floor' → since ≤ since'
+    → RowHolds R P Q r floor since → RowHolds R P Q r floor' since'
+unfolding place_more overflow_more pending_more tree_more root_more split_more drop_more free_more
+row_more R P Q r floor since floor' since' low le (RowHolds.create x) = RowHolds.create x
+row_more R P Q r floor since floor' since' low le (RowHolds.begin x) = RowHolds.begin x
+row_more R P Q r floor since floor' since' low le (RowHolds.commit x) = RowHolds.commit x
+row_more R P Q r floor since floor' since' low le (RowHolds.abort x) = RowHolds.abort x
+row_more R P Q r floor since floor' since' low le (RowHolds.place_head x) = RowHolds.place_head
+    (record { here = place_more since since' _ r _ _ le x.here; rest = x.rest })
+row_more R P Q r floor since floor' since' low le (RowHolds.checkpoint x) = RowHolds.checkpoint x
+row_more R P Q r floor since floor' since' low le (RowHolds.mark_deleted x) = RowHolds.mark_deleted x
+row_more R P Q r floor since floor' since' low le (RowHolds.add_row x) = RowHolds.add_row x
+row_more R P Q r floor since floor' since' low le (RowHolds.link_pending x) = RowHolds.link_pending x
+row_more R P Q r floor since floor' since' low le (RowHolds.shift x) = RowHolds.shift x
+row_more R P Q r floor since floor' since' low le (RowHolds.add_items x) = RowHolds.add_items x
+row_more R P Q r floor since floor' since' low le (RowHolds.add_postings x) = RowHolds.add_postings x
+row_more R P Q r floor since floor' since' low le (RowHolds.delete_post x) = RowHolds.delete_post x
+row_more R P Q r floor since floor' since' low le (RowHolds.put_overflow x) = RowHolds.put_overflow
+    (record { here = overflow_more since since' _ r _ _ le x.here; rest = x.rest })
+row_more R P Q r floor since floor' since' low le (RowHolds.put_pending x) = RowHolds.put_pending
+    (record { here = pending_more since since' _ r _ _ le x.here; rest = x.rest })
+row_more R P Q r floor since floor' since' low le (RowHolds.make_tree x) = RowHolds.make_tree
+    (record { here = tree_more since since' _ r _ _ le x.here })
+row_more R P Q r floor since floor' since' low le (RowHolds.grow_root x) = RowHolds.grow_root
+    (record { here = root_more since since' _ r _ _ le x.here; rest = x.rest })
+row_more R P Q r floor since floor' since' low le (RowHolds.split x) = RowHolds.split
+    (record { here = split_more since since' _ r _ _ le x.here })
+row_more R P Q r floor since floor' since' low le (RowHolds.remove_items x) = RowHolds.remove_items
+    (record { here = x.here; rest = λ i j. leave_more R P floor floor' i low (x.rest i j) })
+row_more R P Q r floor since floor' since' low le (RowHolds.drop_page x) = RowHolds.drop_page
+    (record {
+      here = drop_more floor floor' _ r _ _ low x.here;
+      rest = gone_more R P floor floor' x.here.doc low
+          x.rest;
+    })
+row_more R P Q r floor since floor' since' low le (RowHolds.free_slots x) = RowHolds.free_slots
+    (record {
+      here = free_more floor floor' _ r _ _ low x.here;
+      rest = λ j h a b. gone_more R P floor floor' _ low
+          (x.rest j h a b);
+    })
 
 pub valid_more : ValidIsMonotone
 valid_more R r floor since floor' since' le le' v = record {
@@ -53,5 +271,5 @@ valid_more R r floor since floor' since' le le' v = record {
   can_edit = v.can_edit;
   number = v.number;
   started = v.started;
-  row = row_more R v.before v.after r floor since floor' since' le' v.row;
+  row = row_more R v.before v.after r floor since floor' since' le le' v.row;
 }

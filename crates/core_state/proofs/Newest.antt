@@ -5,7 +5,12 @@ use Rattle.core_state.specs.Log.{Log, commits, cut}
 use Rattle.core_state.specs.Laws.{LegalWithoutNewest, KeepsWithoutNewest}
 
 pub legal_less : LegalWithoutNewest
-legal_less r R l = record { valid = l.valid.0; images = l.images.0; redo_images = λ s redo i k. (l.redo_images s redo (inr i) k).0 }
+legal_less r R l = record {
+  valid = l.valid.0;
+  images = l.images.0;
+  redo_images = λ s redo i k.
+      (l.redo_images s redo (inr i) k).0;
+}
 
 -- the first n records are the same where the newest isn't among them
 pub cut_less : (n : ℕ) (r : Record) (R : Log) → n ≤ length R → cut n (r ∷ R) ≡ cut n R

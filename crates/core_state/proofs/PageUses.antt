@@ -20,14 +20,17 @@ use Rattle.page_types.specs.declared.record.Kind.{Kind}
 use Rattle.page_types.specs.declared.record.Kind.TheVariants as kind
 use Rattle.core_state.specs.Log.{Log, Pages, In, Shows, changed, after_changes, replay, commits, xid_bound}
 use Rattle.core_state.specs.Known.{use_by, use_in}
-use Rattle.core_state.specs.Legal.{RowHolds, Valid, RowsAreValid}
+use Rattle.core_state.specs.Legal.{Valid, RowsAreValid}
 use Rattle.core_state.specs.States.{StateValue, kind_byte, edited_use, with_use, uses_after, transaction, committed, aborted, ended_all, placed_head, marked_head, last_serial, stepped, state_of}
 use Rattle.core_state.specs.Documents.{Doc}
 use Rattle.core_state.specs.declared.transactions.Transaction.{Transaction}
 use Rattle.core_state.specs.declared.answers.PageUse.{PageUse}
 use Rattle.core_state.specs.declared.answers.PageUse.TheVariants as usage
 use Rattle.core_state.proofs.Showing.{shown_one, none_yet, shown_none, others_stay, untouched}
-use Rattle.core_state.proofs.RunningOnes.{same_or_other, on_same}
+use Rattle.core_state.proofs.RunningOnes.{on_same}
+use Rattle.core_state.proofs.PageLists.{in_or_not}
+use Rattle.core_state.proofs.LivePages.{body_not_free}
+use Rattle.core_state.proofs.SteadyPages.{touches}
 
 below_or_past : (k n : ℕ) → (k < n) ⊎ (n ≤ k)
 below_or_past k n = grind arith
@@ -35,39 +38,52 @@ below_or_past k n = grind arith
 is_below : (a b : ℕ) → a < b → nat_lt a b ≡ true
 is_below a b l = grind (arith, l)
 
-grown_at : (us : List PageUse) (n q : ℕ) → get_or (us ++ replicate n usage.Unused) q usage.Unused ≡ get_or us q usage.Unused
+grown_at : (us : List PageUse) (n q : ℕ)
+    → get_or (us ++ replicate n usage.Unused) q usage.Unused ≡ get_or us q usage.Unused
 grown_at us n q = elim (below_or_past q (length us)) [
   | inl l ↦ get_or_append_left us (replicate n usage.Unused) usage.Unused q l
-  | inr p ↦ get_or-append_right us (replicate n usage.Unused) (length us) q usage.Unused refl p ∙ behind (q - length us) ∙ sym (get_or_past us q usage.Unused p)
+  | inr p ↦ get_or-append_right us (replicate n usage.Unused) (length us) q usage.Unused refl p
+      ∙ behind (q - length us) ∙ sym (get_or_past us q usage.Unused p)
 ]
   where
     behind : (k : ℕ) → get_or (replicate n usage.Unused) k usage.Unused ≡ usage.Unused
     behind k = elim (below_or_past k n) [
       | inl l ↦ get_or-replicate n k usage.Unused usage.Unused l
-      | inr p ↦ get_or_past (replicate n usage.Unused) k usage.Unused (omega (arith, p, length-replicate n usage.Unused))
+      | inr p ↦ get_or_past (replicate n usage.Unused) k usage.Unused
+          (omega (arith, p, length-replicate n usage.Unused))
     ]
 
 pub use_set : (us : List PageUse) (p : ℕ) (u : PageUse) → get_or (with_use p u us) p usage.Unused ≡ u
 use_set us p u =
     get_or-set_at (us ++ replicate (suc p - length us) usage.Unused) p p u usage.Unused refl
-    (omega (arith, length-append us (replicate (suc p - length us) usage.Unused), length-replicate (suc p - length us) usage.Unused))
+    (omega (
+      arith,
+      length-append us (replicate (suc p - length us) usage.Unused),
+      length-replicate
+          (suc p - length us) usage.Unused,
+    ))
 
-pub use_other : (us : List PageUse) (p q : ℕ) (u : PageUse) → q ≢ p → get_or (with_use p u us) q usage.Unused ≡ get_or us q usage.Unused
-use_other us p q u off = get_or-set_other (us ++ replicate (suc p - length us) usage.Unused) p q u usage.Unused off ∙ grown_at us (suc p - length us) q
+pub use_other : (us : List PageUse) (p q : ℕ) (u : PageUse) → q ≢ p
+    → get_or (with_use p u us) q usage.Unused ≡ get_or us q usage.Unused
+use_other us p q u off = get_or-set_other (us ++ replicate (suc p - length us) usage.Unused) p q u usage.Unused off
+    ∙ grown_at us (suc p - length us) q
 
 -- changes of other pages leave a page's use
 abbrev one_use : ℕ → Change → List PageUse → List PageUse
 one_use number c us = if nat_lt c.page page_limit then with_use c.page (edited_use number c.edit) us else us
 
-one_other : (b : Bool) (us : List PageUse) (p q : ℕ) (u : PageUse) → q ≢ p → get_or (if b then with_use p u us else us) q usage.Unused ≡ get_or us q usage.Unused
+one_other : (b : Bool) (us : List PageUse) (p q : ℕ) (u : PageUse) → q ≢ p
+    → get_or (if b then with_use p u us else us) q usage.Unused ≡ get_or us q usage.Unused
 one_other true us p q u off = use_other us p q u off
 one_other false us p q u off = refl
 
-pub uses_kept : (number : ℕ) (cs : List Change) (us : List PageUse) (p : ℕ) → (In p (map (λ (c : Change). c.page) cs) → ⊥)
+pub uses_kept : (number : ℕ) (cs : List Change) (us : List PageUse) (p : ℕ)
+    → (In p (map (λ (c : Change). c.page) cs) → ⊥)
     → get_or (uses_after number cs us) p usage.Unused ≡ get_or us p usage.Unused
 uses_kept number [] us p off = refl
 uses_kept number (c ∷ cs) us p off =
-    uses_kept number cs (one_use number c us) p (λ i. off (inr i)) ∙ one_other (nat_lt c.page page_limit) us c.page p (edited_use number c.edit) (λ e. off (inl e))
+    uses_kept number cs (one_use number c us) p (λ i. off (inr i)) ∙ one_other (nat_lt c.page page_limit) us c.page p
+    (edited_use number c.edit) (λ e. off (inl e))
 
 -- a page that is changed has the use of its change
 pub record ChangedBy (number : ℕ) (cs : List Change) (us : List PageUse) (p : ℕ) (old : List ℕ) : Type 0 where
@@ -77,30 +93,38 @@ pub record ChangedBy (number : ℕ) (cs : List Change) (us : List PageUse) (p : 
   pub uses : get_or (uses_after number cs us) p usage.Unused ≡ edited_use number edit
   pub bytes : after_changes number cs p old ≡ edited number edit was
 
-not_again : (c : Change) (cs : List Change) → AllByRecursion (λ (d : Change). c.page ≢ d.page) cs → In c.page (map (λ (d : Change). d.page) cs) → ⊥
+not_again : (c : Change) (cs : List Change) → AllByRecursion (λ (d : Change). c.page ≢ d.page) cs
+    → In c.page (map (λ (d : Change). d.page) cs) → ⊥
 not_again c [] a i = i
 not_again c (d ∷ ds) a (inl e) = a.0 e
 not_again c (d ∷ ds) a (inr i) = not_again c ds a.1 i
 
-first_changed : (number : ℕ) (c : Change) (cs : List Change) (us : List PageUse) (old : List ℕ) → IsChange number c → (In c.page (map (λ (d : Change). d.page) cs) → ⊥)
+first_changed : (number : ℕ) (c : Change) (cs : List Change) (us : List PageUse) (old : List ℕ) → IsChange number c
+    → (In c.page (map (λ (d : Change). d.page) cs) → ⊥)
     → ChangedBy number (c ∷ cs) us c.page old
 first_changed number c cs us old is off = record {
   edit = c.edit;
   is_edit = is.edit;
   was = old;
   uses = uses_kept number cs (one_use number c us) c.page off
-      ∙ ap (λ b. get_or (if b then with_use c.page (edited_use number c.edit) us else us) c.page usage.Unused) (is_below c.page page_limit is.page)
+      ∙ ap (λ b. get_or (if b then with_use c.page (edited_use number c.edit) us else us) c.page usage.Unused)
+      (is_below c.page page_limit is.page)
       ∙ use_set us c.page (edited_use number c.edit);
-  bytes = untouched number cs c.page (cond (c.page == c.page) (edited number c.edit old) old) off ∙ on_same c.page c.page (edited number c.edit old) old refl;
+  bytes = untouched number cs c.page (cond (c.page == c.page) (edited number c.edit old) old) off
+      ∙ on_same c.page c.page (edited number c.edit old) old refl;
 }
 
-changed_by : (number : ℕ) (cs : List Change) (us : List PageUse) (p : ℕ) (old : List ℕ) → AllByRecursion (IsChange number) cs
-    → Rising (λ (c d : Change). c.page ≢ d.page) cs → In p (map (λ (c : Change). c.page) cs) → ChangedBy number cs us p old
+changed_by : (number : ℕ) (cs : List Change) (us : List PageUse) (p : ℕ) (old : List ℕ)
+    → AllByRecursion (IsChange number) cs
+    → Rising (λ (c d : Change). c.page ≢ d.page) cs → In p (map (λ (c : Change). c.page) cs)
+    → ChangedBy number cs us p old
 changed_by number [] us p old is once i = absurd i
 changed_by number (c ∷ cs) us p old is once (inl e) =
-    subst (λ q. ChangedBy number (c ∷ cs) us q old) (sym e) (first_changed number c cs us old is.0 (not_again c cs once.0))
+    subst (λ q. ChangedBy number (c ∷ cs) us q old) (sym e)
+    (first_changed number c cs us old is.0 (not_again c cs once.0))
 changed_by number (c ∷ cs) us p old is once (inr i) =
-    let there = changed_by number cs (one_use number c us) p (cond (c.page == p) (edited number c.edit old) old) is.1 once.1 i in
+    let there = changed_by number cs (one_use number c us) p (cond (c.page == p) (edited number c.edit old) old) is.1
+    once.1 i in
     record { edit = there.edit; is_edit = there.is_edit; was = there.was; uses = there.uses; bytes = there.bytes }
 
 -- the first byte of a page is its kind
@@ -108,14 +132,16 @@ first_byte : (q : Page) → get_or (page_bytes q) 0 0 ≡ kind_of q.body
 unfolding page_bytes front_bytes framed
 first_byte q = refl
 
-first_of_edit : (number : ℕ) (e : Edit) (old : List ℕ) → IsEdit number e → get_or (edited number e old) 0 0 ≡ kind_byte e
+first_of_edit : (number : ℕ) (e : Edit) (old : List ℕ) → IsEdit number e
+    → get_or (edited number e old) 0 0 ≡ kind_byte e
 unfolding edited framed
 first_of_edit number (Image bytes) old is = refl
 first_of_edit number (Delta [] start cut bytes) old is = absurd (omega (arith, is.front_size))
 first_of_edit number (Delta (b ∷ front) start cut bytes) old is = refl
 
 -- the use of a page that isn't free and has this stamp
-used : (number : ℕ) (stamp : ℕ) (b : Body) → stamp ≡ number → b ≢ body.Free → use_by stamp b ≡ cond (kind_of b == 9) (usage.Deleted number) usage.Used
+used : (number : ℕ) (stamp : ℕ) (b : Body) → stamp ≡ number → b ≢ body.Free
+    → use_by stamp b ≡ cond (kind_of b == 9) (usage.Deleted number) usage.Used
 used number stamp body.Free e off = absurd (off refl)
 used number stamp (body.Meta first last pages) e off = refl
 used number stamp (body.Heap slots) e off = refl
@@ -126,37 +152,6 @@ used number stamp (body.EntryInner children) e off = refl
 used number stamp (body.PostLeaf high items) e off = refl
 used number stamp (body.PostInner children) e off = refl
 used number stamp (body.Deleted gone) e off = ap usage.Deleted e
-
--- the pages that a record leaves are written by it, and none is free
-written_at : (Q : Pages) (ps : List ℕ) (pages : List Page) (p : ℕ) → map Q ps ≡ pages → In p ps → In (Q p) pages
-written_at Q ps pages p e i = subst (In (Q p)) e (mapped ps i)
-  where
-    mapped : (ps : List ℕ) → In p ps → In (Q p) (map Q ps)
-    mapped [] i = absurd i
-    mapped (q ∷ qs) (inl e) = inl (ap Q e)
-    mapped (q ∷ qs) (inr i) = inr (mapped qs i)
-
-abbrev IsWritten : ℕ → Page → Type 0
-IsWritten number q = (q.stamp ≡ number) × (q.body ≢ body.Free)
-
-is_written : (number : ℕ) (q a : Page) → q ≡ a → IsWritten number a → IsWritten number q
-is_written number q a e w = subst (IsWritten number) (sym e) w
-
-nothing_changed : (r : Record) (p : ℕ) → changed r ≡ [] → In p (changed r) → ⊥
-nothing_changed r p e i = subst (In p) e i
-
-row_written : (R : Log) (P Q : Pages) (r : Record) (floor since p : ℕ) → RowHolds R P Q r floor since → In p (changed r) → IsWritten r.number (Q p)
-row_written R P Q r floor since p (RowHolds.create x) i = elim (written_at Q (changed r) _ p x.here.after_is i) [
-  | inl e ↦ is_written r.number (Q p) _ e (refl, λ f. cc)
-  | inr j ↦ elim j [ inl e ↦ is_written r.number (Q p) _ e (refl, λ f. cc) | inr n ↦ absurd n ]
-]
-row_written R P Q r floor since p (RowHolds.begin x) i = absurd (nothing_changed r p x.here.pages i)
-row_written R P Q r floor since p (RowHolds.commit x) i = absurd (nothing_changed r p x.here.pages i)
-row_written R P Q r floor since p (RowHolds.abort x) i = absurd (nothing_changed r p x.here.pages i)
-row_written R P Q r floor since p (RowHolds.place_head x) i = elim (written_at Q (changed r) _ p x.here.after_is i) [
-  | inl e ↦ is_written r.number (Q p) _ e (refl, λ f. cc)
-  | inr n ↦ absurd n
-]
 
 -- only changes turn uses
 either_uses : (b : Bool) (s t : StateValue) → t.uses ≡ s.uses → (if b then t else s).uses ≡ s.uses
@@ -179,7 +174,8 @@ placed_uses : (o : Option Transaction) (d : Doc) (s : StateValue) → (placed_he
 placed_uses None d s = refl
 placed_uses (Some t) d s = either_uses ((d.serial == s.next_serial) && nat_lt d.serial (suc last_serial)) s _ refl
 
-ended_uses : (b : Bool) (x : ℕ) (o : Option Transaction) (s : StateValue) → (cond b (ended_all s) (aborted x o s)).uses ≡ s.uses
+ended_uses : (b : Bool) (x : ℕ) (o : Option Transaction) (s : StateValue)
+    → (cond b (ended_all s) (aborted x o s)).uses ≡ s.uses
 ended_uses true x o s = refl
 ended_uses false x o s = aborted_uses x o s
 
@@ -191,33 +187,33 @@ stepped_uses (kind.PlaceHead item serial) x ps s = placed_uses (transaction x s.
 stepped_uses (kind.MarkDeleted item serial) x ps s = marked_uses (transaction x s.running) _ s
 stepped_uses _ x ps s = refl
 
-in_or_not : (p : ℕ) (ps : List ℕ) → In p ps ⊎ (In p ps → ⊥)
-in_or_not p [] = inr (λ i. i)
-in_or_not p (q ∷ qs) = elim (same_or_other p q) [
-  | inl e ↦ inl (inl e)
-  | inr d ↦ elim (in_or_not p qs) [ inl i ↦ inl (inr i) | inr off ↦ inr (λ i. elim i [ inl e ↦ d e | inr j ↦ off j ]) ]
-]
-
-shown_kind : (R : Log) (r : Record) (Q : Pages) (us : List PageUse) (p : ℕ) → Shows (r ∷ R) Q → (c : ChangedBy r.number r.changes us p (replay R p)) → kind_byte c.edit ≡ kind_of (Q p).body
+shown_kind : (R : Log) (r : Record) (Q : Pages) (us : List PageUse) (p : ℕ) → Shows (r ∷ R) Q
+    → (c : ChangedBy r.number r.changes us p (replay R p)) → kind_byte c.edit ≡ kind_of (Q p).body
 unfolding replay
 shown_kind R r Q us p shown c =
-    sym (first_of_edit r.number c.edit c.was c.is_edit) ∙ ap (λ bytes. get_or bytes 0 0) (sym ((shown p).1 ∙ c.bytes)) ∙ first_byte (Q p)
+    sym (first_of_edit r.number c.edit c.was c.is_edit)
+    ∙ ap (λ bytes. get_or bytes 0 0) (sym ((shown p).1 ∙ c.bytes)) ∙ first_byte (Q p)
 
-record_uses : (R : Log) (r : Record) (us : List PageUse) (v : Valid R r (commits R) (suc (length R))) → ((p : ℕ) → get_or us p usage.Unused ≡ use_in v.before p)
+record_uses : (R : Log) (r : Record) (us : List PageUse) (v : Valid R r (commits R) (suc (length R)))
+    → ((p : ℕ) → get_or us p usage.Unused ≡ use_in v.before p)
     → (p : ℕ) → get_or (uses_after r.number r.changes us) p usage.Unused ≡ use_in v.after p
 record_uses R r us v before p = elim (in_or_not p (changed r)) [
   | inl i ↦
       let c = changed_by r.number r.changes us p (replay R p) v.is_record.changes v.is_record.once i in
-      let w = row_written R v.before v.after r (commits R) (suc (length R)) p v.row i in
-      c.uses ∙ ap (λ k. cond (k == 9) (usage.Deleted r.number) usage.Used) (shown_kind R r v.after us p v.shown_after c)
-      ∙ sym (used r.number (v.after p).stamp (v.after p).body w.0 w.1)
+      let t = touches R r (commits R) (suc (length R)) v p i in
+      c.uses ∙ ap (λ k. cond (k == 9) (usage.Deleted r.number) usage.Used)
+      (shown_kind R r v.after us p v.shown_after c)
+      ∙ sym (used r.number (v.after p).stamp (v.after p).body t.stamp
+      (body_not_free v.before v.after r (suc (length R)) p t))
   | inr off ↦ uses_kept r.number r.changes us p off ∙ before p
       ∙ ap (λ (q : Page). use_by q.stamp q.body) (sym (others_stay R r v.before v.after v.shown v.shown_after p off))
 ]
 
-pub uses_told : (pages xid_limit : ℕ) (R : Log) → RowsAreValid R → (P : Pages) → Shows R P → (p : ℕ) → get_or (state_of pages xid_limit R).uses p usage.Unused ≡ use_in P p
+pub uses_told : (pages xid_limit : ℕ) (R : Log) → RowsAreValid R → (P : Pages) → Shows R P → (p : ℕ)
+    → get_or (state_of pages xid_limit R).uses p usage.Unused ≡ use_in P p
 uses_told pages xid_limit [] v P shown p =
-    get_or_past [] p usage.Unused (omega arith) ∙ ap (λ (S : Pages). use_in S p) (shown_one [] none_yet P shown_none shown)
+    get_or_past [] p usage.Unused (omega arith)
+    ∙ ap (λ (S : Pages). use_in S p) (shown_one [] none_yet P shown_none shown)
 uses_told pages xid_limit (r ∷ R) v P shown p =
     ap (λ us. get_or us p usage.Unused) (stepped_uses r.kind r.xid (changed r) _)
     ∙ record_uses R r (state_of pages xid_limit R).uses v.1 (uses_told pages xid_limit R v.0 v.1.before v.1.shown) p

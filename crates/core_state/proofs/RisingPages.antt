@@ -16,18 +16,21 @@ order a b = grind arith
 
 -- a page below the first one
 at_front : (p q : ℕ) (qs : List ℕ) → p < q → with_page p (q ∷ qs) ≡ p ∷ q ∷ qs
-at_front p q qs l = ap (λ (b : Bool). if b then p ∷ q ∷ qs else (if nat_lt q p then q ∷ with_page p qs else q ∷ qs)) (below p q l)
+at_front p q qs l = ap (λ (b : Bool). if b then p ∷ q ∷ qs else (if nat_lt q p then q ∷ with_page p qs else q ∷ qs))
+    (below p q l)
 
 -- a page above the first one
 behind : (p q : ℕ) (qs : List ℕ) → q < p → with_page p (q ∷ qs) ≡ q ∷ with_page p qs
 behind p q qs l =
-    ap (λ (b : Bool). if b then p ∷ q ∷ qs else (if nat_lt q p then q ∷ with_page p qs else q ∷ qs)) (not_below p q (omega (arith, l)))
+    ap (λ (b : Bool). if b then p ∷ q ∷ qs else (if nat_lt q p then q ∷ with_page p qs else q ∷ qs))
+    (not_below p q (omega (arith, l)))
     ∙ ap (λ (b : Bool). if b then q ∷ with_page p qs else q ∷ qs) (below q p l)
 
 -- the first one
 first : (p q : ℕ) (qs : List ℕ) → p ≡ q → with_page p (q ∷ qs) ≡ q ∷ qs
 first p q qs e =
-    ap (λ (b : Bool). if b then p ∷ q ∷ qs else (if nat_lt q p then q ∷ with_page p qs else q ∷ qs)) (not_below p q (omega (arith, e)))
+    ap (λ (b : Bool). if b then p ∷ q ∷ qs else (if nat_lt q p then q ∷ with_page p qs else q ∷ qs))
+    (not_below p q (omega (arith, e)))
     ∙ ap (λ (b : Bool). if b then q ∷ with_page p qs else q ∷ qs) (not_below q p (omega (arith, e)))
 
 lower : (p q : ℕ) (qs : List ℕ) → p < q → AreAbove q qs → AreAbove p qs
@@ -74,14 +77,18 @@ page_there [] i p a lt e = absurd (omega (arith, lt))
 page_there (q ∷ qs) zero p a lt e = first p q qs (sym e)
 page_there (q ∷ qs) (suc i) p a lt e =
     let above : q < get_or qs i 0 = above_at q qs i a.0 (omega (arith, lt)) in
-    behind p q qs (omega (arith, above, e)) ∙ ap (λ (rs : List ℕ). q ∷ rs) (page_there qs i p a.1 (omega (arith, lt)) e)
+    behind p q qs (omega (arith, above, e))
+    ∙ ap (λ (rs : List ℕ). q ∷ rs) (page_there qs i p a.1 (omega (arith, lt)) e)
 
 -- a page at its place
-pub page_put : (qs : List ℕ) (i p : ℕ) → i ≤ length qs → ((k : ℕ) → k < i → get_or qs k 0 < p) → ((k : ℕ) → i ≤ k → k < length qs → p < get_or qs k 0)
+pub page_put : (qs : List ℕ) (i p : ℕ) → i ≤ length qs → ((k : ℕ) → k < i → get_or qs k 0 < p)
+    → ((k : ℕ) → i ≤ k → k < length qs → p < get_or qs k 0)
     → with_page p qs ≡ insert qs i p
 page_put [] zero p le low high = refl
 page_put [] (suc i) p le low high = absurd (omega (arith, le))
 page_put (q ∷ qs) zero p le low high = at_front p q qs (high 0 (omega arith) (omega arith))
 page_put (q ∷ qs) (suc i) p le low high =
     behind p q qs (low 0 (omega arith))
-    ∙ ap (λ (rs : List ℕ). q ∷ rs) (page_put qs i p (omega (arith, le)) (λ k l. low (suc k) (omega (arith, l))) (λ k l m. high (suc k) (omega (arith, l)) (omega (arith, m))))
+    ∙ ap (λ (rs : List ℕ). q ∷ rs)
+    (page_put qs i p (omega (arith, le)) (λ k l. low (suc k) (omega (arith, l)))
+    (λ k l m. high (suc k) (omega (arith, l)) (omega (arith, m))))

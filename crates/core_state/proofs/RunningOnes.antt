@@ -31,12 +31,15 @@ within : (fs : List Fate) (k : ℕ) → get_or fs k Unused ≢ Unused → k < le
 within fs k off = elim (below_or_past k (length fs)) [ inl l ↦ l | inr p ↦ absurd (off (get_or_past fs k Unused p)) ]
 
 -- a fate that is set, of an xid that has begun
-pub with_fate_at : (fs : List Fate) (x y : ℕ) (f : Fate) → fate_at fs x ≢ Unused → fate_at (with_fate x f fs) y ≡ cond (x == y) f (fate_at fs y)
+pub with_fate_at : (fs : List Fate) (x y : ℕ) (f : Fate) → fate_at fs x ≢ Unused
+    → fate_at (with_fate x f fs) y ≡ cond (x == y) f (fate_at fs y)
 with_fate_at fs zero y f off = absurd (off refl)
 with_fate_at fs (suc k) zero f off = sym (on_other (suc k) 0 f Unused (λ e. omega (arith, e)))
 with_fate_at fs (suc k) (suc j) f off = elim (same_or_other k j) [
-  | inl e ↦ get_or-set_at fs k j f Unused (sym e) (within fs k off) ∙ sym (on_same (suc k) (suc j) f (get_or fs j Unused) (ap suc e))
-  | inr d ↦ get_or-set_other fs k j f Unused (λ e. d (sym e)) ∙ sym (on_other (suc k) (suc j) f (get_or fs j Unused) (λ e. omega (arith, e, d)))
+  | inl e ↦ get_or-set_at fs k j f Unused (sym e) (within fs k off)
+      ∙ sym (on_same (suc k) (suc j) f (get_or fs j Unused) (ap suc e))
+  | inr d ↦ get_or-set_other fs k j f Unused (λ e. d (sym e))
+      ∙ sym (on_other (suc k) (suc j) f (get_or fs j Unused) (λ e. omega (arith, e, d)))
 ]
 
 pub length-with_fate : (fs : List Fate) (x : ℕ) (f : Fate) → length (with_fate x f fs) ≡ length fs
@@ -48,17 +51,22 @@ pub past_fate : (fs : List Fate) → fate_at fs (suc (length fs)) ≡ Unused
 past_fate fs = get_or_past fs (length fs) Unused (omega arith)
 
 -- one fate more
-pub begun_at : (fs : List Fate) (y : ℕ) → fate_at (fs ++ Running ∷ []) y ≡ cond (suc (length fs) == y) Running (fate_at fs y)
+pub begun_at : (fs : List Fate) (y : ℕ) → fate_at (fs ++ Running ∷ []) y ≡ cond (suc (length fs) == y) Running
+    (fate_at fs y)
 begun_at fs zero = sym (on_other (suc (length fs)) 0 Running Unused (λ e. omega (arith, e)))
 begun_at fs (suc j) = elim (same_or_other (length fs) j) [
-  | inl e ↦ subst (λ i. get_or (fs ++ Running ∷ []) i Unused ≡ Running) e (get_or-append_seam fs Running [] Unused) ∙ sym (on_same (suc (length fs)) (suc j) Running (get_or fs j Unused) (ap suc e))
-  | inr d ↦ elsewhere j d ∙ sym (on_other (suc (length fs)) (suc j) Running (get_or fs j Unused) (λ e. omega (arith, e, d)))
+  | inl e ↦ subst (λ i. get_or (fs ++ Running ∷ []) i Unused ≡ Running) e (get_or-append_seam fs Running [] Unused)
+      ∙ sym (on_same (suc (length fs)) (suc j) Running (get_or fs j Unused) (ap suc e))
+  | inr d ↦ elsewhere j d ∙ sym
+      (on_other (suc (length fs)) (suc j) Running (get_or fs j Unused) (λ e. omega (arith, e, d)))
 ]
   where
     elsewhere : (j : ℕ) → length fs ≢ j → get_or (fs ++ Running ∷ []) j Unused ≡ get_or fs j Unused
     elsewhere j d = elim (below_or_past j (length fs)) [
       | inl l ↦ get_or_append_left fs (Running ∷ []) Unused j l
-      | inr p ↦ get_or_past (fs ++ Running ∷ []) j Unused (omega (arith, p, d, Rattle.std.proofs.lemmas.List.length-append fs (Running ∷ []))) ∙ sym (get_or_past fs j Unused p)
+      | inr p ↦ get_or_past (fs ++ Running ∷ []) j Unused
+          (omega (arith, p, d, Rattle.std.proofs.lemmas.List.length-append fs (Running ∷ [])))
+          ∙ sym (get_or_past fs j Unused p)
     ]
 
 cond_both : {A : Type 0} (b : Bool) (x : A) → cond b x x ≡ x
@@ -71,23 +79,28 @@ some_none x e = cc
 pub first_is : (u : Transaction) (us : List Transaction) (y : ℕ) → u.xid ≡ y → transaction y (u ∷ us) ≡ Some u
 first_is u us y e = on_same u.xid y (Some u) (transaction y us) e
 
-pub first_isnt : (u : Transaction) (us : List Transaction) (y : ℕ) → u.xid ≢ y → transaction y (u ∷ us) ≡ transaction y us
+pub first_isnt : (u : Transaction) (us : List Transaction) (y : ℕ) → u.xid ≢ y
+    → transaction y (u ∷ us) ≡ transaction y us
 first_isnt u us y d = on_other u.xid y (Some u) (transaction y us) d
 
-pub none_behind : (u : Transaction) (us : List Transaction) (x : ℕ) → transaction x (u ∷ us) ≡ None → (u.xid ≢ x) × (transaction x us ≡ None)
+pub none_behind : (u : Transaction) (us : List Transaction) (x : ℕ) → transaction x (u ∷ us) ≡ None
+    → (u.xid ≢ x) × (transaction x us ≡ None)
 none_behind u us x off = elim (same_or_other u.xid x) [
   | inl e ↦ absurd (some_none u (sym (first_is u us x e) ∙ off))
   | inr d ↦ (d, sym (first_isnt u us x d) ∙ off)
 ]
 
 -- one transaction more
-pub joined_at : (ts : List Transaction) (t : Transaction) (y : ℕ) → transaction t.xid ts ≡ None → transaction y (ts ++ t ∷ []) ≡ cond (t.xid == y) (Some t) (transaction y ts)
+pub joined_at : (ts : List Transaction) (t : Transaction) (y : ℕ) → transaction t.xid ts ≡ None
+    → transaction y (ts ++ t ∷ []) ≡ cond (t.xid == y) (Some t) (transaction y ts)
 joined_at [] t y off = refl
 joined_at (u ∷ us) t y off =
     let behind = none_behind u us t.xid off in
     elim (same_or_other u.xid y) [
-      | inl e ↦ first_is u (us ++ t ∷ []) y e ∙ sym (on_other t.xid y (Some t) (transaction y (u ∷ us)) (λ f. behind.0 (e ∙ sym f)) ∙ first_is u us y e)
-      | inr d ↦ first_isnt u (us ++ t ∷ []) y d ∙ joined_at us t y behind.1 ∙ sym (ap (cond (t.xid == y) (Some t)) (first_isnt u us y d))
+      | inl e ↦ first_is u (us ++ t ∷ []) y e
+          ∙ sym (on_other t.xid y (Some t) (transaction y (u ∷ us)) (λ f. behind.0 (e ∙ sym f)) ∙ first_is u us y e)
+      | inr d ↦ first_isnt u (us ++ t ∷ []) y d ∙ joined_at us t y behind.1
+          ∙ sym (ap (cond (t.xid == y) (Some t)) (first_isnt u us y d))
     ]
 
 without_same : (u : Transaction) (us : List Transaction) (x y : ℕ) → u.xid ≡ x
@@ -97,42 +110,50 @@ without_same u us x y e = elim (same_or_other x y) [
   | inr d ↦ sym (ap (cond (x == y) None) (first_isnt u us y (λ f. d (sym e ∙ f))))
 ]
 
-without_other : (u : Transaction) (us : List Transaction) (x y : ℕ) → u.xid ≢ x → transaction y (without x us) ≡ cond (x == y) None (transaction y us)
+without_other : (u : Transaction) (us : List Transaction) (x y : ℕ) → u.xid ≢ x
+    → transaction y (without x us) ≡ cond (x == y) None (transaction y us)
     → transaction y (u ∷ without x us) ≡ cond (x == y) None (transaction y (u ∷ us))
 without_other u us x y off ih = elim (same_or_other u.xid y) [
-  | inl e ↦ first_is u (without x us) y e ∙ sym (on_other x y None (transaction y (u ∷ us)) (λ f. off (e ∙ sym f)) ∙ first_is u us y e)
+  | inl e ↦ first_is u (without x us) y e
+      ∙ sym (on_other x y None (transaction y (u ∷ us)) (λ f. off (e ∙ sym f)) ∙ first_is u us y e)
   | inr d ↦ first_isnt u (without x us) y d ∙ ih ∙ sym (ap (cond (x == y) None) (first_isnt u us y d))
 ]
 
 pub first_goes : (u : Transaction) (us : List Transaction) (x : ℕ) → u.xid ≡ x → without x (u ∷ us) ≡ without x us
 first_goes u us x e = ap (λ (b : Bool). cond (not b) (u ∷ without x us) (without x us)) (is_same u.xid x e)
 
-pub first_stays : (u : Transaction) (us : List Transaction) (x : ℕ) → u.xid ≢ x → without x (u ∷ us) ≡ u ∷ without x us
+pub first_stays : (u : Transaction) (us : List Transaction) (x : ℕ) → u.xid ≢ x
+    → without x (u ∷ us) ≡ u ∷ without x us
 first_stays u us x d = ap (λ (b : Bool). cond (not b) (u ∷ without x us) (without x us)) (is_other u.xid x d)
 
 -- one less
-pub without_at : (ts : List Transaction) (x y : ℕ) → transaction y (without x ts) ≡ cond (x == y) None (transaction y ts)
+pub without_at : (ts : List Transaction) (x y : ℕ) → transaction y (without x ts) ≡ cond (x == y) None
+    (transaction y ts)
 without_at [] x y = sym (cond_both (x == y) None)
 without_at (u ∷ us) x y = elim (same_or_other u.xid x) [
   | inl e ↦ ap (transaction y) (first_goes u us x e) ∙ without_at us x y ∙ without_same u us x y e
   | inr d ↦ ap (transaction y) (first_stays u us x d) ∙ without_other u us x y d (without_at us x y)
 ]
 
-replaced_same : (v : Transaction) (vs : List Transaction) (t : Transaction) (y : ℕ) → v.xid ≡ t.xid → transaction y (t ∷ vs) ≡ cond (t.xid == y) (Some t) (transaction y (v ∷ vs))
+replaced_same : (v : Transaction) (vs : List Transaction) (t : Transaction) (y : ℕ) → v.xid ≡ t.xid
+    → transaction y (t ∷ vs) ≡ cond (t.xid == y) (Some t) (transaction y (v ∷ vs))
 replaced_same v vs t y e = elim (same_or_other t.xid y) [
   | inl f ↦ first_is t vs y f ∙ sym (on_same t.xid y (Some t) (transaction y (v ∷ vs)) f)
   | inr d ↦ ap (cond (t.xid == y) (Some t)) (sym (first_isnt v vs y (λ f. d (sym e ∙ f))))
 ]
 
-replaced_other : (v : Transaction) (vs : List Transaction) (t : Transaction) (y : ℕ) → v.xid ≢ t.xid → transaction y (replaced t vs) ≡ cond (t.xid == y) (Some t) (transaction y vs)
+replaced_other : (v : Transaction) (vs : List Transaction) (t : Transaction) (y : ℕ) → v.xid ≢ t.xid
+    → transaction y (replaced t vs) ≡ cond (t.xid == y) (Some t) (transaction y vs)
     → transaction y (v ∷ replaced t vs) ≡ cond (t.xid == y) (Some t) (transaction y (v ∷ vs))
 replaced_other v vs t y off ih = elim (same_or_other v.xid y) [
-  | inl e ↦ first_is v (replaced t vs) y e ∙ sym (on_other t.xid y (Some t) (transaction y (v ∷ vs)) (λ f. off (e ∙ sym f)) ∙ first_is v vs y e)
+  | inl e ↦ first_is v (replaced t vs) y e
+      ∙ sym (on_other t.xid y (Some t) (transaction y (v ∷ vs)) (λ f. off (e ∙ sym f)) ∙ first_is v vs y e)
   | inr d ↦ first_isnt v (replaced t vs) y d ∙ ih ∙ sym (ap (cond (t.xid == y) (Some t)) (first_isnt v vs y d))
 ]
 
 -- one in place of another
-pub replaced_at : (ts : List Transaction) (t u : Transaction) (y : ℕ) → transaction t.xid ts ≡ Some u → transaction y (replaced t ts) ≡ cond (t.xid == y) (Some t) (transaction y ts)
+pub replaced_at : (ts : List Transaction) (t u : Transaction) (y : ℕ) → transaction t.xid ts ≡ Some u
+    → transaction y (replaced t ts) ≡ cond (t.xid == y) (Some t) (transaction y ts)
 replaced_at [] t u y e = absurd (some_none u (sym e))
 replaced_at (v ∷ vs) t u y e = elim (same_or_other v.xid t.xid) [
   | inl f ↦ ap (transaction y) (on_same v.xid t.xid (t ∷ vs) (v ∷ replaced t vs) f) ∙ replaced_same v vs t y f
@@ -158,19 +179,25 @@ aborted_begun : (b : Bool) (f : Fate) → f ≢ Unused → cond b Aborted f ≢ 
 aborted_begun true f off = λ e. cc
 aborted_begun false f off = off
 
-begun_still : (ts : List Transaction) (fs : List Fate) (x : ℕ) → fate_at fs x ≢ Unused → HaveBegun fs ts → HaveBegun (with_fate x Aborted fs) ts
+begun_still : (ts : List Transaction) (fs : List Fate) (x : ℕ) → fate_at fs x ≢ Unused → HaveBegun fs ts
+    → HaveBegun (with_fate x Aborted fs) ts
 begun_still [] fs x off b = tt
-begun_still (t ∷ ts) fs x off b =
-    ((λ e. aborted_begun (x == t.xid) (fate_at fs t.xid) b.0 (sym (with_fate_at fs x t.xid Aborted off) ∙ e)), begun_still ts fs x off b.1)
+begun_still (t ∷ ts) fs x off b = (
+  (λ e. aborted_begun (x == t.xid) (fate_at fs t.xid) b.0 (sym (with_fate_at fs x t.xid Aborted off) ∙ e)),
+  begun_still ts fs x off b.1,
+)
 
-pub all_ended_at : (ts : List Transaction) (fs : List Fate) (y : ℕ) → HaveBegun fs ts → fate_at (all_ended ts fs) y ≡ ended_by (transaction y ts) (fate_at fs y)
+pub all_ended_at : (ts : List Transaction) (fs : List Fate) (y : ℕ) → HaveBegun fs ts
+    → fate_at (all_ended ts fs) y ≡ ended_by (transaction y ts) (fate_at fs y)
 all_ended_at [] fs y b = refl
 all_ended_at (t ∷ ts) fs y b =
     all_ended_at ts (with_fate t.xid Aborted fs) y (begun_still ts fs t.xid b.0 b.1)
     ∙ elim (same_or_other t.xid y) [
-      | inl e ↦ ap (ended_by (transaction y ts)) (with_fate_at fs t.xid y Aborted b.0 ∙ on_same t.xid y Aborted (fate_at fs y) e)
+      | inl e ↦ ap (ended_by (transaction y ts))
+          (with_fate_at fs t.xid y Aborted b.0 ∙ on_same t.xid y Aborted (fate_at fs y) e)
           ∙ ended_aborted (transaction y ts) ∙ sym (ap (λ o. ended_by o (fate_at fs y)) (first_is t ts y e))
-      | inr d ↦ ap (ended_by (transaction y ts)) (with_fate_at fs t.xid y Aborted b.0 ∙ on_other t.xid y Aborted (fate_at fs y) d)
+      | inr d ↦ ap (ended_by (transaction y ts))
+          (with_fate_at fs t.xid y Aborted b.0 ∙ on_other t.xid y Aborted (fate_at fs y) d)
           ∙ sym (ap (λ o. ended_by o (fate_at fs y)) (first_isnt t ts y d))
     ]
 

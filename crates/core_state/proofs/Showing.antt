@@ -19,7 +19,8 @@ is_other : (a b : ℕ) → (b ≡ a → ⊥) → (a == b) ≡ false
 is_other a b off = grind (arith, off)
 
 -- changes of other pages leave a page's bytes
-pub untouched : (number : ℕ) (cs : List Change) (p : ℕ) (old : List ℕ) → (In p (map (λ (c : Change). c.page) cs) → ⊥) → after_changes number cs p old ≡ old
+pub untouched : (number : ℕ) (cs : List Change) (p : ℕ) (old : List ℕ) → (In p (map (λ (c : Change). c.page) cs) → ⊥)
+    → after_changes number cs p old ≡ old
 untouched number [] p old off = refl
 untouched number (c ∷ cs) p old off =
     ap (λ b. after_changes number cs p (cond b (edited number c.edit old) old)) (is_other c.page p (λ e. off (inl e)))
@@ -38,7 +39,14 @@ abbrev pub none_yet : Pages
 none_yet p = free_page
 
 pub free_is : IsPage free_page
-free_is = record { right = omega arith; stamp = omega arith; body = (refl, refl); count = omega arith; fits = omega arith }
+free_is = record {
+  right = omega arith;
+  stamp = omega arith;
+  body =
+      (refl, refl);
+  count = omega arith;
+  fits = omega arith;
+}
 
 free_bytes : page_bytes free_page ≡ replicate 8192 0
 unfolding page_bytes front_bytes framed u16_bytes u32_bytes u64_bytes zeros

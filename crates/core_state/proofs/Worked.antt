@@ -1,4 +1,5 @@
--- The definitions at a log whose bytes were worked out apart from them: one insert of 'cat':1 'fat':2 on an empty store.
+-- The definitions at a log whose bytes were worked out apart from them: one insert of 'cat':1 'fat':2 on an empty
+-- store.
 use Rattle.std.proofs.Common.{◌≡◌, ◌≢◌, ◌<◌, ◌≤◌, ◌⊎◌, ℕ, zero, suc, List, [], ◌∷◌, ◌++◌, replicate, refl, sym, ap, subst, ◌∙◌, inl, inr, arith}
 use Rattle.std.specs.Prelude.{Option, Some, None}
 use Rattle.std.specs.List.{AllPairs}
@@ -65,12 +66,24 @@ abbrev pub root_page : Page
 root_page = record { right = 0; stamp = 1; body = body.EntryLeaf [] [] }
 
 abbrev pub head : ℕ → Head
-head xid = record { serial = 1; inserted_by = xid; deleted_by = 0; overflow = 0; private = 0; bytes = 22; vector = bytes }
+head xid = record {
+  serial = 1;
+  inserted_by = xid;
+  deleted_by = 0;
+  overflow = 0;
+  private = 0;
+  bytes = 22;
+  vector =
+      bytes;
+}
 
 abbrev pub heap_page : ℕ → Page
 heap_page xid = record { right = 0; stamp = 3; body = body.Heap (Some (head xid) ∷ []) }
 
-heap_bytes : page_bytes (heap_page 1) ≡ (2 ∷ 0 ∷ 1 ∷ 0 ∷ 0 ∷ 0 ∷ 0 ∷ 0 ∷ 3 ∷ 0 ∷ 0 ∷ 0 ∷ 0 ∷ 0 ∷ 0 ∷ 0 ∷ 51 ∷ 0 ∷ 0 ∷ 0 ∷ 0 ∷ 0 ∷ 0 ∷ 0 ∷ 1 ∷ 1 ∷ 0 ∷ 0 ∷ 0 ∷ 0 ∷ 0 ∷ 0 ∷ 0 ∷ 1 ∷ 0 ∷ 0 ∷ 0 ∷ 0 ∷ 0 ∷ 0 ∷ 0 ∷ 0 ∷ 0 ∷ 0 ∷ 0 ∷ 0 ∷ 0 ∷ 0 ∷ 0 ∷ 22 ∷ 0 ∷ 0 ∷ 0 ∷ 2 ∷ 0 ∷ 0 ∷ 0 ∷ 3 ∷ 0 ∷ 99 ∷ 97 ∷ 116 ∷ 1 ∷ 0 ∷ 1 ∷ 0 ∷ 3 ∷ 0 ∷ 102 ∷ 97 ∷ 116 ∷ 1 ∷ 0 ∷ 2 ∷ 0 ∷ []) ++ replicate 8117 0
+heap_bytes : page_bytes (heap_page 1) ≡ (2 ∷ 0 ∷ 1 ∷ 0 ∷ 0 ∷ 0 ∷ 0 ∷ 0 ∷ 3 ∷ 0 ∷ 0 ∷ 0 ∷ 0 ∷ 0 ∷ 0 ∷ 0 ∷ 51 ∷ 0 ∷ 0 ∷
+    0 ∷ 0 ∷ 0 ∷ 0 ∷ 0 ∷ 1 ∷ 1 ∷ 0 ∷ 0 ∷ 0 ∷ 0 ∷ 0 ∷ 0 ∷ 0 ∷ 1 ∷ 0 ∷ 0 ∷ 0 ∷ 0 ∷ 0 ∷ 0 ∷ 0 ∷ 0 ∷ 0 ∷ 0 ∷ 0 ∷ 0 ∷ 0 ∷
+    0 ∷ 0 ∷ 22 ∷ 0 ∷ 0 ∷ 0 ∷ 2 ∷ 0 ∷ 0 ∷ 0 ∷ 3 ∷ 0 ∷ 99 ∷ 97 ∷ 116 ∷ 1 ∷ 0 ∷ 1 ∷ 0 ∷ 3 ∷ 0 ∷ 102 ∷ 97 ∷ 116 ∷ 1 ∷ 0 ∷
+    2 ∷ 0 ∷ []) ++ replicate 8117 0
 unfolding page_bytes front_bytes framed u16_bytes u32_bytes u64_bytes zeros head_bytes
 heap_bytes = refl
 
@@ -90,7 +103,13 @@ abbrev pub image : ℕ → Page → Change
 image p page = record { page = p; edit = Image (page_bytes page) }
 
 abbrev create_record : Record
-create_record = record { number = 1; xid = 0; kind = kind.Create; changes = image 0 meta_page ∷ image 1 root_page ∷ [] }
+create_record = record {
+  number = 1;
+  xid = 0;
+  kind = kind.Create;
+  changes = image 0 meta_page ∷ image 1 root_page ∷
+      [];
+}
 
 abbrev begin_record : ℕ → Record
 begin_record xid = record { number = 2; xid = xid; kind = kind.Begin; changes = [] }
@@ -120,17 +139,47 @@ doc = record { item = 4096; serial = 1 }
 -- they are pages
 pub meta_is : IsPage meta_page
 unfolding u32_bytes
-meta_is = record { right = omega arith; stamp = omega arith; body = record { first_page = omega arith; last_page = omega arith; number = omega arith }; count = omega arith; fits = omega arith }
+meta_is = record {
+  right = omega arith;
+  stamp = omega arith;
+  body = record
+      { first_page = omega arith; last_page = omega arith; number = omega arith };
+  count = omega arith;
+  fits = omega
+      arith;
+}
 
 pub root_is : IsPage root_page
-root_is = record { right = omega arith; stamp = omega arith; body = (inl (refl, refl), record { each = tt; rising = tt }); count = omega arith; fits = omega arith }
+root_is = record {
+  right = omega arith;
+  stamp = omega arith;
+  body =
+      (inl (refl, refl), record { each = tt; rising = tt });
+  count = omega arith;
+  fits = omega arith;
+}
 
 pub head_is : IsHead (head 1)
-head_is = record { serial = omega arith; inserted_by = omega arith; deleted_by = omega arith; overflow = omega arith; private = omega arith; bytes = omega arith; vector = inl (omega arith, refl) }
+head_is = record {
+  serial = omega arith;
+  inserted_by = omega arith;
+  deleted_by = omega arith;
+  overflow = omega arith;
+  private = omega arith;
+  bytes = omega arith;
+  vector = inl (omega arith, refl);
+}
 
 heap_is : IsPage (heap_page 1)
 unfolding head_bytes u32_bytes u64_bytes
-heap_is = record { right = omega arith; stamp = omega arith; body = (omega arith, (head_is, tt)); count = omega arith; fits = omega arith }
+heap_is = record {
+  right = omega arith;
+  stamp = omega arith;
+  body =
+      (omega arith, (head_is, tt));
+  count = omega arith;
+  fits = omega arith;
+}
 
 -- the pages are what the records leave
 behind_two : (p : ℕ) → In (suc (suc p)) (0 ∷ 1 ∷ []) → ⊥
@@ -146,7 +195,8 @@ shown_made : Shows log_made made
 unfolding replay edited
 shown_made zero = (meta_is, refl)
 shown_made (suc zero) = (root_is, refl)
-shown_made (suc (suc p)) = (free_is, (shown_none (suc (suc p))).1 ∙ sym (replay_kept [] create_record (suc (suc p)) (behind_two p)))
+shown_made (suc (suc p)) =
+    (free_is, (shown_none (suc (suc p))).1 ∙ sym (replay_kept [] create_record (suc (suc p)) (behind_two p)))
 
 shown_begun : Shows log_begun made
 unfolding replay
@@ -157,7 +207,11 @@ unfolding replay edited
 shown_placed zero = (meta_is, refl)
 shown_placed (suc zero) = (root_is, refl)
 shown_placed (suc (suc zero)) = (heap_is, refl)
-shown_placed (suc (suc (suc p))) = (free_is, (shown_begun (suc (suc (suc p)))).1 ∙ sym (replay_kept log_begun (head_record 1) (suc (suc (suc p))) (behind_three p)))
+shown_placed (suc (suc (suc p))) = (
+  free_is,
+  (shown_begun (suc (suc (suc p)))).1
+      ∙ sym (replay_kept log_begun (head_record 1) (suc (suc (suc p))) (behind_three p)),
+)
 
 pub shown_run : Shows first_run (placed_by 1)
 unfolding replay
@@ -181,10 +235,12 @@ no_pair i = record {
 
 -- the rows of the four records
 create_row : (floor since : ℕ) → RowHolds [] none_yet made create_record floor since
-create_row floor since = RowHolds.create (record { here = record { kind_is = refl; pages = refl; empty = refl; after_is = refl } })
+create_row floor since = RowHolds.create
+    (record { here = record { kind_is = refl; pages = refl; empty = refl; after_is = refl } })
 
 begin_row : (floor since : ℕ) → RowHolds log_made made made (begin_record 1) floor since
-begin_row floor since = RowHolds.begin (record { here = record { kind_is = refl; pages = refl; next = refl; bound = omega arith } })
+begin_row floor since = RowHolds.begin
+    (record { here = record { kind_is = refl; pages = refl; next = refl; bound = omega arith } })
 
 used_below : (q : ℕ) → q < 2 → use_in made q ≢ usage.Unused
 used_below zero l e = cc
@@ -220,15 +276,28 @@ head_row floor since = RowHolds.place_head (record {
 })
 
 cat_is : IsLexeme cat
-cat_is = record { some = omega arith; most = omega arith; utf8 = IsUtf8-from_ascii cat (IsAscii-cons 99 (97 ∷ 116 ∷ []) (omega arith) (IsAscii-cons 97 (116 ∷ []) (omega arith) (IsAscii-cons 116 [] (omega arith) IsAscii-nil))) }
+cat_is = record {
+  some = omega arith;
+  most = omega arith;
+  utf8 = IsUtf8-from_ascii cat
+      (IsAscii-cons 99 (97 ∷ 116 ∷ []) (omega arith)
+      (IsAscii-cons 97 (116 ∷ []) (omega arith) (IsAscii-cons 116 [] (omega arith) IsAscii-nil)));
+}
 
 fat_is : IsLexeme fat
-fat_is = record { some = omega arith; most = omega arith; utf8 = IsUtf8-from_ascii fat (IsAscii-cons 102 (97 ∷ 116 ∷ []) (omega arith) (IsAscii-cons 97 (116 ∷ []) (omega arith) (IsAscii-cons 116 [] (omega arith) IsAscii-nil))) }
+fat_is = record {
+  some = omega arith;
+  most = omega arith;
+  utf8 = IsUtf8-from_ascii fat
+      (IsAscii-cons 102 (97 ∷ 116 ∷ []) (omega arith)
+      (IsAscii-cons 97 (116 ∷ []) (omega arith) (IsAscii-cons 116 [] (omega arith) IsAscii-nil)));
+}
 
 one_alone : {A : Type 0} (Rel : A → A → Type 0) (x : A) → AllPairs Rel (x ∷ [])
 one_alone Rel x i j d a b = absurd (omega (arith, a, b))
 
-entry_is : (lexeme : List ℕ) (n : ℕ) → IsLexeme lexeme → IsPosition (place n) → IsEntry (record { lexeme = lexeme; positions = place n ∷ [] })
+entry_is : (lexeme : List ℕ) (n : ℕ) → IsLexeme lexeme → IsPosition (place n)
+    → IsEntry (record { lexeme = lexeme; positions = place n ∷ [] })
 entry_is lexeme n l p = record {
   lexeme = l;
   positions = All-cons IsPosition (place n) [] p (All-nil IsPosition);
@@ -241,8 +310,11 @@ Before a b = IsBefore a.lexeme b.lexeme
 
 pub vector_is : IsNormal vector
 vector_is = record {
-  entries = All-cons IsEntry first_entry (second_entry ∷ []) (entry_is cat 1 cat_is (omega arith, omega arith)) (All-cons IsEntry second_entry [] (entry_is fat 2 fat_is (omega arith, omega arith)) (All-nil IsEntry));
-  rising = AllPairs-cons Before first_entry (second_entry ∷ []) (All-cons (Before first_entry) second_entry [] refl (All-nil (Before first_entry))) (one_alone Before second_entry);
+  entries = All-cons IsEntry first_entry (second_entry ∷ []) (entry_is cat 1 cat_is (omega arith, omega arith))
+      (All-cons IsEntry second_entry [] (entry_is fat 2 fat_is (omega arith, omega arith)) (All-nil IsEntry));
+  rising = AllPairs-cons Before first_entry (second_entry ∷ [])
+      (All-cons (Before first_entry) second_entry [] refl (All-nil (Before first_entry)))
+      (one_alone Before second_entry);
 }
 
 vector_there : HasVector (placed_by 1) doc vector
@@ -262,7 +334,8 @@ ready d (inl e) = (vector, subst (λ x. HasVector (placed_by 1) x vector) (sym e
 ready d (inr i) = absurd i
 
 commit_row : (floor since : ℕ) → RowHolds log_placed (placed_by 1) (placed_by 1) commit_record floor since
-commit_row floor since = RowHolds.commit (record { here = record { kind_is = refl; pages = refl; runs = refl }; rest = ready })
+commit_row floor since = RowHolds.commit
+    (record { here = record { kind_is = refl; pages = refl; runs = refl }; rest = ready })
 
 -- each is a record
 image_is : (p : ℕ) (page : Page) → p < page_limit → IsPage page → IsChange page.stamp (image p page)
@@ -294,7 +367,14 @@ head_record_is = record {
 }
 
 commit_is : IsRecord commit_record
-commit_is = record { number = omega arith; xid = omega arith; kind = omega arith; count = omega arith; changes = tt; once = tt }
+commit_is = record {
+  number = omega arith;
+  xid = omega arith;
+  kind = omega arith;
+  count = omega arith;
+  changes = tt;
+  once = tt;
+}
 
 -- each change can be made
 can_image : (p : ℕ) (page : Page) (old : List ℕ) (c : Change) → c ≡ image p page → CanEdit c.edit old
@@ -369,7 +449,11 @@ image_of : (p : ℕ) (page : Page) (c : Change) → c ≡ image p page → IsIma
 image_of p page c e = (page_bytes page, ap (λ (x : Change). x.edit) e)
 
 are_images : ImagesFrom 1 first_run
-are_images = ((((tt, made_by), λ c i l. absurd i), λ c i l. inr (image_of 2 (heap_page 1) c (only c i))), λ c i l. absurd i)
+are_images = (
+  (((tt, made_by), λ c i l. absurd i), λ c i l. inr (image_of 2 (heap_page 1) c (only c i))),
+  λ c i l.
+      absurd i,
+)
   where
     made_by : (c : Change) → In c create_record.changes → 1 ≤ 1 → ChangesFrom 1 [] c.page ⊎ IsImageOf c
     made_by c (inl e) l = inr (image_of 0 meta_page c e)
@@ -388,11 +472,32 @@ no_checkpoint r redo (inr (inr (inr (inl e)))) k = let f = sym (ap (λ (x : Reco
 no_checkpoint r redo (inr (inr (inr (inr e)))) k = absurd e
 
 legal : IsLegal first_run
-legal = record { valid = rows_valid; images = are_images; redo_images = λ r redo i k. absurd (no_checkpoint r redo i k) }
+legal = record {
+  valid = rows_valid;
+  images = are_images;
+  redo_images = λ r redo i k. absurd
+      (no_checkpoint r redo i k);
+}
 
 -- its history is one insert
-history : IsHistory first_run (record { deleted = []; inserted = record { name = record { page = 2; slot = 0; serial = 1 }; vector = vector } ∷ [] } ∷ [])
-history = ([], record { deleted = []; inserted = record { name = record { page = 2; slot = 0; serial = 1 }; vector = vector } ∷ [] }, refl, record { pages = placed_by 1; shown = shown_placed; deleted = refl; inserted = (refl, vector_there, tt) }, refl)
+history : IsHistory first_run
+    (record {
+      deleted = [];
+      inserted = record { name = record { page = 2; slot = 0; serial = 1 }; vector = vector } ∷
+          [];
+    } ∷ [])
+history = (
+  [],
+  record {
+    deleted = [];
+    inserted = record
+        { name = record { page = 2; slot = 0; serial = 1 }; vector = vector } ∷ [];
+  },
+  refl,
+  record
+      { pages = placed_by 1; shown = shown_placed; deleted = refl; inserted = (refl, vector_there, tt) },
+  refl,
+)
 
 -- the second record with the xid 2 is not valid
 begin_of_two : (P Q : Pages) (floor since : ℕ) → RowHolds log_made P Q (begin_record 2) floor since → ⊥
@@ -401,6 +506,22 @@ begin_of_two P Q floor since (RowHolds.begin x) = omega (arith, x.here.next)
 begin_of_two P Q floor since (RowHolds.commit x) = let f = x.here.kind_is in cc
 begin_of_two P Q floor since (RowHolds.abort x) = let f = x.here.kind_is in cc
 begin_of_two P Q floor since (RowHolds.place_head x) = let f = x.here.kind_is in cc
+begin_of_two P Q floor since (RowHolds.checkpoint x) = let f = x.here.kind_is in cc
+begin_of_two P Q floor since (RowHolds.put_overflow x) = let f = x.here.kind_is in cc
+begin_of_two P Q floor since (RowHolds.mark_deleted x) = let f = x.here.kind_is in cc
+begin_of_two P Q floor since (RowHolds.put_pending x) = let f = x.here.kind_is in cc
+begin_of_two P Q floor since (RowHolds.add_row x) = let f = x.here.kind_is in cc
+begin_of_two P Q floor since (RowHolds.link_pending x) = let f = x.here.kind_is in cc
+begin_of_two P Q floor since (RowHolds.shift x) = let f = x.here.kind_is in cc
+begin_of_two P Q floor since (RowHolds.add_items x) = let f = x.here.kind_is in cc
+begin_of_two P Q floor since (RowHolds.make_tree x) = let f = x.here.kind_is in cc
+begin_of_two P Q floor since (RowHolds.add_postings x) = let f = x.here.kind_is in cc
+begin_of_two P Q floor since (RowHolds.grow_root x) = let f = x.here.kind_is in cc
+begin_of_two P Q floor since (RowHolds.split x) = let f = x.here.kind_is in cc
+begin_of_two P Q floor since (RowHolds.remove_items x) = let f = x.here.kind_is in cc
+begin_of_two P Q floor since (RowHolds.delete_post x) = let f = x.here.kind_is in cc
+begin_of_two P Q floor since (RowHolds.drop_page x) = let f = x.here.kind_is in cc
+begin_of_two P Q floor since (RowHolds.free_slots x) = let f = x.here.kind_is in cc
 
 abbrev pub item_in : Kind → ℕ
 item_in (kind.PlaceHead item serial) = item
@@ -420,9 +541,26 @@ head_of_two P floor since (RowHolds.create x) = let f = x.here.kind_is in cc
 head_of_two P floor since (RowHolds.begin x) = let f = x.here.kind_is in cc
 head_of_two P floor since (RowHolds.commit x) = let f = x.here.kind_is in cc
 head_of_two P floor since (RowHolds.abort x) = let f = x.here.kind_is in cc
+head_of_two P floor since (RowHolds.checkpoint x) = let f = x.here.kind_is in cc
+head_of_two P floor since (RowHolds.put_overflow x) = let f = x.here.kind_is in cc
+head_of_two P floor since (RowHolds.mark_deleted x) = let f = x.here.kind_is in cc
+head_of_two P floor since (RowHolds.put_pending x) = let f = x.here.kind_is in cc
+head_of_two P floor since (RowHolds.add_row x) = let f = x.here.kind_is in cc
+head_of_two P floor since (RowHolds.link_pending x) = let f = x.here.kind_is in cc
+head_of_two P floor since (RowHolds.shift x) = let f = x.here.kind_is in cc
+head_of_two P floor since (RowHolds.add_items x) = let f = x.here.kind_is in cc
+head_of_two P floor since (RowHolds.make_tree x) = let f = x.here.kind_is in cc
+head_of_two P floor since (RowHolds.add_postings x) = let f = x.here.kind_is in cc
+head_of_two P floor since (RowHolds.grow_root x) = let f = x.here.kind_is in cc
+head_of_two P floor since (RowHolds.split x) = let f = x.here.kind_is in cc
+head_of_two P floor since (RowHolds.remove_items x) = let f = x.here.kind_is in cc
+head_of_two P floor since (RowHolds.delete_post x) = let f = x.here.kind_is in cc
+head_of_two P floor since (RowHolds.drop_page x) = let f = x.here.kind_is in cc
+head_of_two P floor since (RowHolds.free_slots x) = let f = x.here.kind_is in cc
 head_of_two P floor since (RowHolds.place_head x) =
     let item : 4096 ≡ x.here.doc.item = ap item_in x.here.kind_is in
     let slots : Some (head 2) ∷ [] ≡ x.here.new_slots = ap first_slots x.here.after_is in
-    let there : Some (head 2) ≡ slot_at x.here.new_slots (slot_of x.here.doc.item) = ap (λ s. slot_at s 0) slots ∙ ap (λ i. slot_at x.here.new_slots (slot_of i)) item in
+    let there : Some (head 2) ≡ slot_at x.here.new_slots (slot_of x.here.doc.item) = ap (λ s. slot_at s 0) slots
+    ∙ ap (λ i. slot_at x.here.new_slots (slot_of i)) item in
     let two : 2 ≡ x.here.head.inserted_by = ap inserted_in (there ∙ x.here.put.put) in
     omega (arith, two, x.here.new_head.inserted_by)

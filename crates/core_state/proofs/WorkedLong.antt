@@ -25,7 +25,16 @@ abbrev doc : ℕ → Doc
 doc serial = record { item = 4096; serial = serial }
 
 abbrev head : ℕ → Head
-head overflow = record { serial = 1; inserted_by = 1; deleted_by = 0; overflow = overflow; private = 0; bytes = 20044; vector = [] }
+head overflow = record {
+  serial = 1;
+  inserted_by = 1;
+  deleted_by = 0;
+  overflow = overflow;
+  private = 0;
+  bytes =
+      20044;
+  vector = [];
+}
 
 abbrev heap_page : ℕ → ℕ → Page
 heap_page stamp overflow = record { right = 0; stamp = stamp; body = body.Heap (Some (head overflow) ∷ []) }
@@ -66,13 +75,25 @@ three_parts last middle front (suc (suc (suc (suc (suc (suc p)))))) = free_page
 
 -- the records
 abbrev head_record : Record
-head_record = record { number = 3; xid = 1; kind = kind.PlaceHead 4096 1; changes = first.image 2 (heap_page 3 0) ∷ [] }
+head_record = record {
+  number = 3;
+  xid = 1;
+  kind = kind.PlaceHead 4096 1;
+  changes = first.image 2
+      (heap_page 3 0) ∷ [];
+}
 
 abbrev log_placed : Log
 log_placed = head_record ∷ first.log_begun
 
 abbrev put_record : ℕ → ℕ → ℕ → Pages → Record
-put_record serial number page Q = record { number = number; xid = 1; kind = kind.PutOverflow 4096 serial; changes = first.image 2 (Q 2) ∷ first.image page (Q page) ∷ [] }
+put_record serial number page Q = record {
+  number = number;
+  xid = 1;
+  kind = kind.PutOverflow 4096 serial;
+  changes = first.image 2 (Q 2) ∷ first.image page
+      (Q page) ∷ [];
+}
 
 abbrev log_one : List ℕ → Log
 log_one last = put_record 1 4 3 (one_part 0 last) ∷ log_placed
@@ -81,11 +102,14 @@ abbrev log_two : List ℕ → List ℕ → Log
 log_two last middle = put_record 1 5 4 (two_parts last middle) ∷ log_one last
 
 -- a long head's document isn't whole while its chain has less
-few_bytes : (P : Pages) (h : Head) (bytes qs : List ℕ) → HasBytes P h bytes → most_short < h.bytes → IsChain P h.overflow qs → length (parts P qs) < h.bytes → length bytes < h.bytes
+few_bytes : (P : Pages) (h : Head) (bytes qs : List ℕ) → HasBytes P h bytes → most_short < h.bytes
+    → IsChain P h.overflow qs → length (parts P qs) < h.bytes → length bytes < h.bytes
 few_bytes P h bytes qs (HasBytes.short le) long chain few = absurd (omega (arith, le, long))
-few_bytes P h bytes qs (HasBytes.long l qs' chain') long chain few = subst (λ xs. length (parts P xs) < h.bytes) (chain_one P h.overflow qs qs' chain chain') few
+few_bytes P h bytes qs (HasBytes.long l qs' chain') long chain few = subst (λ xs. length (parts P xs) < h.bytes)
+    (chain_one P h.overflow qs qs' chain chain') few
 
-not_whole : (P : Pages) (h : Head) (qs : List ℕ) → most_short < h.bytes → IsChain P h.overflow qs → length (parts P qs) < h.bytes → (v : Vector) → IsWhole P h v → ⊥
+not_whole : (P : Pages) (h : Head) (qs : List ℕ) → most_short < h.bytes → IsChain P h.overflow qs
+    → length (parts P qs) < h.bytes → (v : Vector) → IsWhole P h v → ⊥
 not_whole P h qs long chain few v w = omega (arith, few_bytes P h w.bytes qs w.there long chain few, w.size)
 
 others_stay : (a b j : ℕ) → j ≢ 0 → slot_at (Some (head b) ∷ []) j ≡ slot_at (Some (head a) ∷ []) j
@@ -93,7 +117,8 @@ others_stay a b zero off = absurd (off refl)
 others_stay a b (suc j) off = refl
 
 -- the head changes from the chain that begins at page a to that at page b
-head_changes : (r : Record) (stamp a b : ℕ) → IsHeadChange r (doc 1) (heap_page stamp a) (head a) (head b) (heap_page r.number b)
+head_changes : (r : Record) (stamp a b : ℕ) → IsHeadChange r (doc 1) (heap_page stamp a) (head a) (head b)
+    (heap_page r.number b)
 head_changes r stamp a b = record {
   slots = Some (head a) ∷ [];
   new_slots = Some (head b) ∷ [];
@@ -126,7 +151,8 @@ used_in_two last middle (suc (suc (suc (suc zero)))) l e = cc
 used_in_two last middle (suc (suc (suc (suc (suc q))))) l e = absurd (omega (arith, l))
 
 -- the rows of the three records
-last_row : (last : List ℕ) (since : ℕ) → IsPutOverflow log_placed placed (one_part 0 last) (put_record 1 4 3 (one_part 0 last)) since
+last_row : (last : List ℕ) (since : ℕ) → IsPutOverflow log_placed placed (one_part 0 last)
+    (put_record 1 4 3 (one_part 0 last)) since
 last_row last since = record {
   here = record {
     doc = doc 1;
@@ -150,7 +176,8 @@ last_row last since = record {
 }
 
 middle_row : (last middle : List ℕ) (since : ℕ) → length last ≡ 3708 → length middle ≡ 8168
-    → IsPutOverflow (log_one last) (one_part 0 last) (two_parts last middle) (put_record 1 5 4 (two_parts last middle)) since
+    → IsPutOverflow (log_one last) (one_part 0 last) (two_parts last middle)
+    (put_record 1 5 4 (two_parts last middle)) since
 middle_row last middle since size full = record {
   here = record {
     doc = doc 1;
@@ -170,11 +197,13 @@ middle_row last middle since size full = record {
     head_after = head_changes (put_record 1 5 4 (two_parts last middle)) 4 3 4;
     after_is = refl;
   };
-  rest = not_whole (one_part 0 last) (head 3) (3 ∷ []) (omega arith) (refl, (λ e. omega (arith, e)), refl) (omega (arith, size, length-append last []));
+  rest = not_whole (one_part 0 last) (head 3) (3 ∷ []) (omega arith) (refl, (λ e. omega (arith, e)), refl)
+      (omega (arith, size, length-append last []));
 }
 
 first_row : (last middle front : List ℕ) (since : ℕ) → length last ≡ 3708 → length middle ≡ 8168 → length front ≡ 8168
-    → IsPutOverflow (log_two last middle) (two_parts last middle) (three_parts last middle front) (put_record 1 6 5 (three_parts last middle front)) since
+    → IsPutOverflow (log_two last middle) (two_parts last middle) (three_parts last middle front)
+    (put_record 1 6 5 (three_parts last middle front)) since
 first_row last middle front since size size' full = record {
   here = record {
     doc = doc 1;
@@ -221,30 +250,39 @@ serial_of None = 0
 serial_of (Some h) = h.serial
 
 -- the head is that on the heap page before the record
-head_there : (R : Log) (P Q : Pages) (serial number page since stamp a : ℕ) → P 2 ≡ heap_page stamp a → (x : IsPutOverflow R P Q (put_record serial number page Q) since)
+head_there : (R : Log) (P Q : Pages) (serial number page since stamp a : ℕ) → P 2 ≡ heap_page stamp a
+    → (x : IsPutOverflow R P Q (put_record serial number page Q) since)
     → Some (head a) ≡ Some x.here.head
 head_there R P Q serial number page since stamp a e x =
     let item : 4096 ≡ x.here.doc.item = ap item_in x.here.kind_is in
-    let slots : Some (head a) ∷ [] ≡ x.here.head_after.slots = ap slots_of (sym e) ∙ ap first.first_slots x.here.before_is ∙ ap slots_in x.here.head_after.before in
+    let slots : Some (head a) ∷ [] ≡ x.here.head_after.slots = ap slots_of (sym e)
+    ∙ ap first.first_slots x.here.before_is ∙ ap slots_in x.here.head_after.before in
     ap (λ s. slot_at s 0) slots ∙ ap (λ i. slot_at x.here.head_after.slots (slot_of i)) item ∙ x.here.head_after.head
 
 -- a last part whose page leads to another is not valid
-end_leads_on : (last : List ℕ) (since : ℕ) → IsPutOverflow log_placed placed (one_part 2 last) (put_record 1 4 3 (one_part 2 last)) since → ⊥
+end_leads_on : (last : List ℕ) (since : ℕ) → IsPutOverflow log_placed placed (one_part 2 last)
+    (put_record 1 4 3 (one_part 2 last)) since → ⊥
 end_leads_on last since x =
     let right : 2 ≡ x.here.head.overflow = ap (λ ps. (second ps).right) x.here.after_is in
-    let none : 0 ≡ x.here.head.overflow = ap overflow_in (head_there log_placed placed (one_part 2 last) 1 4 3 since 3 0 refl x) in
+    let none : 0 ≡ x.here.head.overflow = ap overflow_in
+    (head_there log_placed placed (one_part 2 last) 1 4 3 since 3 0 refl x) in
     omega (arith, right, none)
 
 -- the serial of another document is not valid
-serial_of_two : (last : List ℕ) (since : ℕ) → IsPutOverflow log_placed placed (one_part 0 last) (put_record 2 4 3 (one_part 0 last)) since → ⊥
+serial_of_two : (last : List ℕ) (since : ℕ) → IsPutOverflow log_placed placed (one_part 0 last)
+    (put_record 2 4 3 (one_part 0 last)) since → ⊥
 serial_of_two last since x =
     let named : 2 ≡ x.here.doc.serial = ap serial_in x.here.kind_is in
-    let there : 1 ≡ x.here.head.serial = ap serial_of (head_there log_placed placed (one_part 0 last) 2 4 3 since 3 0 refl x) in
+    let there : 1 ≡ x.here.head.serial = ap serial_of
+    (head_there log_placed placed (one_part 0 last) 2 4 3 since 3 0 refl x) in
     omega (arith, named, there, x.here.head_after.serial)
 
 -- a part before another has 8168 bytes
-middle_is_full : (last middle : List ℕ) (since : ℕ) → IsPutOverflow (log_one last) (one_part 0 last) (two_parts last middle) (put_record 1 5 4 (two_parts last middle)) since → length middle ≡ 8168
+middle_is_full : (last middle : List ℕ) (since : ℕ)
+    → IsPutOverflow (log_one last) (one_part 0 last) (two_parts last middle)
+    (put_record 1 5 4 (two_parts last middle)) since → length middle ≡ 8168
 middle_is_full last middle since x =
-    let there : 3 ≡ x.here.head.overflow = ap overflow_in (head_there (log_one last) (one_part 0 last) (two_parts last middle) 1 5 4 since 4 3 refl x) in
+    let there : 3 ≡ x.here.head.overflow = ap overflow_in
+    (head_there (log_one last) (one_part 0 last) (two_parts last middle) 1 5 4 since 4 3 refl x) in
     let same : middle ≡ x.here.part = ap (λ ps. part_in (second ps).body) x.here.after_is in
     ap length same ∙ x.here.full (λ e. omega (arith, there, e))

@@ -1,4 +1,5 @@
--- The rows of maintenance, at pages that the document of the first run leaves: checkpoints, trees of postings, and what is
+-- The rows of maintenance, at pages that the document of the first run leaves: checkpoints, trees of postings, and
+-- what is
 -- removed where its transaction was aborted.
 use Rattle.std.proofs.Common.{◌≡◌, ◌≢◌, ℕ, zero, suc, ◌<◌, ◌≤◌, List, [], ◌∷◌, length, get_or, refl, sym, ap, subst, ◌∙◌, inl, inr, arith}
 use Rattle.std.specs.Prelude.{Option, Some}
@@ -34,7 +35,8 @@ abbrev checkpoint : ℕ → Record
 checkpoint redo = record { number = 4; xid = 0; kind = kind.Checkpoint redo; changes = [] }
 
 checkpoint_row : (P Q : Pages) → IsCheckpoint first.log_placed P Q (checkpoint 3)
-checkpoint_row P Q = record { here = record { redo = 3; kind_is = refl; pages = refl; after_last = omega arith; before_own = omega arith } }
+checkpoint_row P Q = record
+    { here = record { redo = 3; kind_is = refl; pages = refl; after_last = omega arith; before_own = omega arith } }
 
 same_redo : (a b : ℕ) → kind.Checkpoint a ≡ kind.Checkpoint b → a ≡ b
 same_redo a b e = cc
@@ -54,11 +56,22 @@ with_tree right zero = rows.meta_page 5 3 3 1
 with_tree right (suc zero) = rows.leaf_page 7 (record { key = rows.cat_key; postings = Root 4 } ∷ [])
 with_tree right (suc (suc zero)) = rows.heap_page 5 0
 with_tree right (suc (suc (suc zero))) = rows.row_page rows.row
-with_tree right (suc (suc (suc (suc zero)))) = record { right = right; stamp = 7; body = body.PostLeaf 0 (128 ∷ 32 ∷ []) }
+with_tree right (suc (suc (suc (suc zero)))) = record {
+  right = right;
+  stamp = 7;
+  body = body.PostLeaf 0
+      (128 ∷ 32 ∷ []);
+}
 with_tree right (suc (suc (suc (suc (suc p))))) = free_page
 
 abbrev tree_record : ℕ → Record
-tree_record right = record { number = 7; xid = 0; kind = kind.MakeTree; changes = first.image 1 (with_tree right 1) ∷ first.image 4 (with_tree right 4) ∷ [] }
+tree_record right = record {
+  number = 7;
+  xid = 0;
+  kind = kind.MakeTree;
+  changes = first.image 1
+      (with_tree right 1) ∷ first.image 4 (with_tree right 4) ∷ [];
+}
 
 used_below : (q : ℕ) → q < 4 → use_in rows.with_cat q ≢ usage.Unused
 used_below zero l e = cc
@@ -118,7 +131,13 @@ with_leaf entries (suc (suc (suc zero))) = rows.shifted 3
 with_leaf entries (suc (suc (suc (suc p)))) = free_page
 
 abbrev remove_record : List on_page.Entry → Record
-remove_record entries = record { number = 10; xid = 0; kind = kind.RemoveItems; changes = first.image 1 (with_leaf entries 1) ∷ [] }
+remove_record entries = record {
+  number = 10;
+  xid = 0;
+  kind = kind.RemoveItems;
+  changes = first.image 1
+      (with_leaf entries 1) ∷ [];
+}
 
 leaves : ItemsLeave (4096 ∷ []) (128 ∷ 32 ∷ []) []
 leaves = record {
@@ -189,7 +208,12 @@ post_tree zero = first.meta_page
 post_tree (suc zero) = rows.leaf_page 7 (record { key = rows.cat_key; postings = Root 4 } ∷ [])
 post_tree (suc (suc zero)) = post_leaf 3 9 []
 post_tree (suc (suc (suc zero))) = post_leaf 0 0 (128 ∷ 32 ∷ [])
-post_tree (suc (suc (suc (suc zero)))) = record { right = 0; stamp = 7; body = body.PostInner (child_of 2 9 ∷ child_of 3 no_bound ∷ []) }
+post_tree (suc (suc (suc (suc zero)))) = record {
+  right = 0;
+  stamp = 7;
+  body = body.PostInner
+      (child_of 2 9 ∷ child_of 3 no_bound ∷ []);
+}
 post_tree (suc (suc (suc (suc (suc p))))) = free_page
 
 abbrev left_tree : Pages
@@ -197,11 +221,22 @@ left_tree zero = first.meta_page
 left_tree (suc zero) = rows.leaf_page 7 (record { key = rows.cat_key; postings = Root 4 } ∷ [])
 left_tree (suc (suc zero)) = record { right = 3; stamp = 8; body = body.Deleted (gone.PostLeaf 9 []) }
 left_tree (suc (suc (suc zero))) = post_leaf 0 0 (128 ∷ 32 ∷ [])
-left_tree (suc (suc (suc (suc zero)))) = record { right = 0; stamp = 8; body = body.PostInner (child_of 3 no_bound ∷ []) }
+left_tree (suc (suc (suc (suc zero)))) = record {
+  right = 0;
+  stamp = 8;
+  body = body.PostInner
+      (child_of 3 no_bound ∷ []);
+}
 left_tree (suc (suc (suc (suc (suc p))))) = free_page
 
 abbrev delete_record : Record
-delete_record = record { number = 8; xid = 0; kind = kind.DeletePost; changes = first.image 2 (left_tree 2) ∷ first.image 4 (left_tree 4) ∷ [] }
+delete_record = record {
+  number = 8;
+  xid = 0;
+  kind = kind.DeletePost;
+  changes = first.image 2
+      (left_tree 2) ∷ first.image 4 (left_tree 4) ∷ [];
+}
 
 no_left : (q : ℕ) → IsLeftLeaf post_tree q 2 → ⊥
 no_left zero l = let b = l.body_is in cc
@@ -249,7 +284,13 @@ dropped (suc (suc (suc zero))) = record { right = 0; stamp = 6; body = body.Dele
 dropped (suc (suc (suc (suc p)))) = free_page
 
 abbrev drop_record : Record
-drop_record = record { number = 6; xid = 0; kind = kind.DropPage 4096 1; changes = first.image 2 (dropped 2) ∷ first.image 3 (dropped 3) ∷ [] }
+drop_record = record {
+  number = 6;
+  xid = 0;
+  kind = kind.DropPage 4096 1;
+  changes = first.image 2
+      (dropped 2) ∷ first.image 3 (dropped 3) ∷ [];
+}
 
 no_entry : (p : ℕ) (e : on_page.Entry) → In e (entries_of (rows.with_row rows.row p)) → ⊥
 no_entry zero e i = absurd i
@@ -326,5 +367,6 @@ misled_drop R Q floor x =
     ∙ ap (λ i. slot_at h.head_after.slots (slot_of i)) item ∙ h.head_after.head) in
     let none : 0 ≡ h.head.overflow = ap (λ (k : Head). k.overflow) head in
     let named : h.head.overflow ≡ h.page =
-    of_overflow h.head h.head_then h.page h.was.right h.was.body h.content (1 ∷ []) h.dropped (sym (ap second_body h.before_is)) in
+    of_overflow h.head h.head_then h.page h.was.right h.was.body h.content (1 ∷ []) h.dropped
+    (sym (ap second_body h.before_is)) in
     omega (arith, page, none, named)

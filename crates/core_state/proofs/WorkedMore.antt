@@ -28,7 +28,16 @@ use Rattle.core_state.proofs.Worked as first
 
 -- the heap page with a second head
 abbrev second_head : Head
-second_head = record { serial = 2; inserted_by = 2; deleted_by = 0; overflow = 0; private = 0; bytes = 22; vector = first.bytes }
+second_head = record {
+  serial = 2;
+  inserted_by = 2;
+  deleted_by = 0;
+  overflow = 0;
+  private = 0;
+  bytes = 22;
+  vector =
+      first.bytes;
+}
 
 abbrev two_slots : List (Option Head)
 two_slots = Some (first.head 1) ∷ Some second_head ∷ []
@@ -50,7 +59,8 @@ abbrev begin_record : Record
 begin_record = record { number = 6; xid = 2; kind = kind.Begin; changes = [] }
 
 abbrev edit_record : ℕ → Edit → Record
-edit_record item edit = record { number = 7; xid = 2; kind = kind.PlaceHead item 2; changes = record { page = 2; edit = edit } ∷ [] }
+edit_record item edit = record
+    { number = 7; xid = 2; kind = kind.PlaceHead item 2; changes = record { page = 2; edit = edit } ∷ [] }
 
 abbrev head_record : ℕ → Record
 head_record item = edit_record item (Image (page_bytes two_heads))
@@ -74,11 +84,26 @@ abbrev doc : Doc
 doc = record { item = 4097; serial = 2 }
 
 head_is : IsHead second_head
-head_is = record { serial = omega arith; inserted_by = omega arith; deleted_by = omega arith; overflow = omega arith; private = omega arith; bytes = omega arith; vector = inl (omega arith, refl) }
+head_is = record {
+  serial = omega arith;
+  inserted_by = omega arith;
+  deleted_by = omega arith;
+  overflow = omega arith;
+  private = omega arith;
+  bytes = omega arith;
+  vector = inl (omega arith, refl);
+}
 
 two_is : IsPage two_heads
 unfolding head_bytes u32_bytes u64_bytes
-two_is = record { right = omega arith; stamp = omega arith; body = (omega arith, (first.head_is, (head_is, tt))); count = omega arith; fits = omega arith }
+two_is = record {
+  right = omega arith;
+  stamp = omega arith;
+  body =
+      (omega arith, (first.head_is, (head_is, tt)));
+  count = omega arith;
+  fits = omega arith;
+}
 
 shown_begun : Shows log_begun (first.placed_by 1)
 unfolding replay
@@ -90,10 +115,22 @@ shown_ended p = first.shown_run p
 
 shown_placed : Shows log_placed with_two
 unfolding replay edited
-shown_placed zero = (first.meta_is, (shown_begun 0).1 ∙ sym (replay_kept log_begun (head_record 4097) 0 (λ i. elim i [ inl e ↦ omega (arith, e) | inr n ↦ absurd n ])))
-shown_placed (suc zero) = (first.root_is, (shown_begun 1).1 ∙ sym (replay_kept log_begun (head_record 4097) 1 (λ i. elim i [ inl e ↦ omega (arith, e) | inr n ↦ absurd n ])))
+shown_placed zero = (
+  first.meta_is,
+  (shown_begun 0).1
+      ∙ sym (replay_kept log_begun (head_record 4097) 0 (λ i. elim i [ inl e ↦ omega (arith, e) | inr n ↦ absurd n ])),
+)
+shown_placed (suc zero) = (
+  first.root_is,
+  (shown_begun 1).1
+      ∙ sym (replay_kept log_begun (head_record 4097) 1 (λ i. elim i [ inl e ↦ omega (arith, e) | inr n ↦ absurd n ])),
+)
 shown_placed (suc (suc zero)) = (two_is, refl)
-shown_placed (suc (suc (suc p))) = (free_is, (shown_begun (suc (suc (suc p)))).1 ∙ sym (replay_kept log_begun (head_record 4097) (suc (suc (suc p))) (first.behind_three p)))
+shown_placed (suc (suc (suc p))) = (
+  free_is,
+  (shown_begun (suc (suc (suc p)))).1
+      ∙ sym (replay_kept log_begun (head_record 4097) (suc (suc (suc p))) (first.behind_three p)),
+)
 
 shown_run : Shows second_run with_two
 unfolding replay
@@ -112,18 +149,21 @@ no_pair i = record {
 }
 
 -- the rows of the four records
-abort_row : (floor since : ℕ) → RowHolds first.first_run (first.placed_by 1) (first.placed_by 1) (abort_record 0) floor since
+abort_row : (floor since : ℕ) → RowHolds first.first_run (first.placed_by 1) (first.placed_by 1)
+    (abort_record 0) floor since
 abort_row floor since = RowHolds.abort (record { here = record { kind_is = refl; pages = refl; runs = inr refl } })
 
 begin_row : (floor since : ℕ) → RowHolds log_ended (first.placed_by 1) (first.placed_by 1) begin_record floor since
-begin_row floor since = RowHolds.begin (record { here = record { kind_is = refl; pages = refl; next = refl; bound = omega arith } })
+begin_row floor since = RowHolds.begin
+    (record { here = record { kind_is = refl; pages = refl; next = refl; bound = omega arith } })
 
 others_stay : (j : ℕ) → j ≢ 1 → slot_at two_slots j ≡ slot_at (Some (first.head 1) ∷ []) j
 others_stay zero off = refl
 others_stay (suc zero) off = absurd (off refl)
 others_stay (suc (suc j)) off = refl
 
-head_row : (edit : Edit) (floor since : ℕ) → RowHolds log_begun (first.placed_by 1) with_two (edit_record 4097 edit) floor since
+head_row : (edit : Edit) (floor since : ℕ)
+    → RowHolds log_begun (first.placed_by 1) with_two (edit_record 4097 edit) floor since
 head_row edit floor since = RowHolds.place_head (record {
   here = record {
     doc = doc;
@@ -164,7 +204,8 @@ ready d (inl e) = (first.vector, subst (λ x. HasVector with_two x first.vector)
 ready d (inr i) = absurd i
 
 commit_row : (floor since : ℕ) → RowHolds log_placed with_two with_two (commit_record 2) floor since
-commit_row floor since = RowHolds.commit (record { here = record { kind_is = refl; pages = refl; runs = refl }; rest = ready })
+commit_row floor since = RowHolds.commit
+    (record { here = record { kind_is = refl; pages = refl; runs = refl }; rest = ready })
 
 -- an abort of the transaction that has committed is not valid
 abort_of_one : (P Q : Pages) (floor since : ℕ) → RowHolds first.first_run P Q (abort_record 1) floor since → ⊥
@@ -173,29 +214,66 @@ abort_of_one P Q floor since (RowHolds.begin x) = let f = x.here.kind_is in cc
 abort_of_one P Q floor since (RowHolds.commit x) = let f = x.here.kind_is in cc
 abort_of_one P Q floor since (RowHolds.abort x) = elim x.here.runs [ inl e ↦ cc | inr z ↦ omega (arith, z) ]
 abort_of_one P Q floor since (RowHolds.place_head x) = let f = x.here.kind_is in cc
+abort_of_one P Q floor since (RowHolds.checkpoint x) = let f = x.here.kind_is in cc
+abort_of_one P Q floor since (RowHolds.put_overflow x) = let f = x.here.kind_is in cc
+abort_of_one P Q floor since (RowHolds.mark_deleted x) = let f = x.here.kind_is in cc
+abort_of_one P Q floor since (RowHolds.put_pending x) = let f = x.here.kind_is in cc
+abort_of_one P Q floor since (RowHolds.add_row x) = let f = x.here.kind_is in cc
+abort_of_one P Q floor since (RowHolds.link_pending x) = let f = x.here.kind_is in cc
+abort_of_one P Q floor since (RowHolds.shift x) = let f = x.here.kind_is in cc
+abort_of_one P Q floor since (RowHolds.add_items x) = let f = x.here.kind_is in cc
+abort_of_one P Q floor since (RowHolds.make_tree x) = let f = x.here.kind_is in cc
+abort_of_one P Q floor since (RowHolds.add_postings x) = let f = x.here.kind_is in cc
+abort_of_one P Q floor since (RowHolds.grow_root x) = let f = x.here.kind_is in cc
+abort_of_one P Q floor since (RowHolds.split x) = let f = x.here.kind_is in cc
+abort_of_one P Q floor since (RowHolds.remove_items x) = let f = x.here.kind_is in cc
+abort_of_one P Q floor since (RowHolds.delete_post x) = let f = x.here.kind_is in cc
+abort_of_one P Q floor since (RowHolds.drop_page x) = let f = x.here.kind_is in cc
+abort_of_one P Q floor since (RowHolds.free_slots x) = let f = x.here.kind_is in cc
 
 in_use : (since p : ℕ) → 2 ≡ p → IsNew (use_in (first.placed_by 1)) since p → ⊥
-in_use since p e (IsNew.unused u low) = let f : use_in (first.placed_by 1) 2 ≡ usage.Unused = ap (use_in (first.placed_by 1)) e ∙ u in cc
-in_use since p e (IsNew.deleted stamp u small) = let f : use_in (first.placed_by 1) 2 ≡ usage.Deleted stamp = ap (use_in (first.placed_by 1)) e ∙ u in cc
+in_use since p e (IsNew.unused u low) = let f : use_in (first.placed_by 1) 2 ≡ usage.Unused = ap
+    (use_in (first.placed_by 1)) e ∙ u in cc
+in_use since p e (IsNew.deleted stamp u small) = let f : use_in (first.placed_by 1) 2 ≡ usage.Deleted stamp = ap
+    (use_in (first.placed_by 1)) e ∙ u in cc
 
 -- a head in a used slot is not valid
-head_in_use : (Q : Pages) (floor since : ℕ) → RowHolds log_begun (first.placed_by 1) Q (head_record 4096) floor since → ⊥
+head_in_use : (Q : Pages) (floor since : ℕ) → RowHolds log_begun (first.placed_by 1) Q (head_record 4096) floor since
+    → ⊥
 head_in_use Q floor since (RowHolds.create x) = let f = x.here.kind_is in cc
 head_in_use Q floor since (RowHolds.begin x) = let f = x.here.kind_is in cc
 head_in_use Q floor since (RowHolds.commit x) = let f = x.here.kind_is in cc
 head_in_use Q floor since (RowHolds.abort x) = let f = x.here.kind_is in cc
+head_in_use Q floor since (RowHolds.checkpoint x) = let f = x.here.kind_is in cc
+head_in_use Q floor since (RowHolds.put_overflow x) = let f = x.here.kind_is in cc
+head_in_use Q floor since (RowHolds.mark_deleted x) = let f = x.here.kind_is in cc
+head_in_use Q floor since (RowHolds.put_pending x) = let f = x.here.kind_is in cc
+head_in_use Q floor since (RowHolds.add_row x) = let f = x.here.kind_is in cc
+head_in_use Q floor since (RowHolds.link_pending x) = let f = x.here.kind_is in cc
+head_in_use Q floor since (RowHolds.shift x) = let f = x.here.kind_is in cc
+head_in_use Q floor since (RowHolds.add_items x) = let f = x.here.kind_is in cc
+head_in_use Q floor since (RowHolds.make_tree x) = let f = x.here.kind_is in cc
+head_in_use Q floor since (RowHolds.add_postings x) = let f = x.here.kind_is in cc
+head_in_use Q floor since (RowHolds.grow_root x) = let f = x.here.kind_is in cc
+head_in_use Q floor since (RowHolds.split x) = let f = x.here.kind_is in cc
+head_in_use Q floor since (RowHolds.remove_items x) = let f = x.here.kind_is in cc
+head_in_use Q floor since (RowHolds.delete_post x) = let f = x.here.kind_is in cc
+head_in_use Q floor since (RowHolds.drop_page x) = let f = x.here.kind_is in cc
+head_in_use Q floor since (RowHolds.free_slots x) = let f = x.here.kind_is in cc
 head_in_use Q floor since (RowHolds.place_head x) =
     let item : 4096 ≡ x.here.doc.item = ap first.item_in x.here.kind_is in
     let old : Some (first.head 1) ∷ [] ≡ slots_of x.here.old = ap first.first_slots x.here.before_is in
     elim x.here.page [
       | inl b ↦
           let slots : Some (first.head 1) ∷ [] ≡ x.here.slots = old ∙ ap slots_in b.0 in
-          let there : Some (first.head 1) ≡ None = ap (λ s. slot_at s 0) slots ∙ ap (λ i. slot_at x.here.slots (slot_of i)) item ∙ x.here.was_free in
+          let there : Some (first.head 1) ≡ None = ap (λ s. slot_at s 0) slots
+          ∙ ap (λ i. slot_at x.here.slots (slot_of i)) item ∙ x.here.was_free in
           cc
       | inr b ↦ in_use since (page_of x.here.doc.item) (ap page_of item) b.2
     ]
 
--- The second head as a delta that starts behind the used length: its bytes would be those of the page, and its row holds, but
+-- The second head as a delta that starts behind the used length: its bytes would be those of the page, and its row
+-- holds, but
 -- the change can't be made, and the record is not valid.
 abbrev behind_used : Edit
 behind_used = Delta (2 ∷ 0 ∷ 2 ∷ 0 ∷ 0 ∷ 0 ∷ 0 ∷ 0 ∷ []) 52 0 (1 ∷ head_bytes second_head)
@@ -210,7 +288,8 @@ used_before = refl
 
 delta_refused : (floor since : ℕ) → Valid log_begun (edit_record 4097 behind_used) floor since → ⊥
 delta_refused floor since v =
-    let within : 52 + 0 ≤ used_in (replay log_begun 2) = (v.can_edit (record { page = 2; edit = behind_used }) (inl refl)).1 in
+    let within : 52 + 0 ≤ used_in (replay log_begun 2) =
+    (v.can_edit (record { page = 2; edit = behind_used }) (inl refl)).1 in
     omega (arith, within, used_before, ap used_in (shown_begun 2).1)
 
 -- a second commit of transaction 1 is not valid
@@ -220,6 +299,22 @@ commit_of_one P Q floor since (RowHolds.begin x) = let f = x.here.kind_is in cc
 commit_of_one P Q floor since (RowHolds.commit x) = let f = x.here.runs in cc
 commit_of_one P Q floor since (RowHolds.abort x) = let f = x.here.kind_is in cc
 commit_of_one P Q floor since (RowHolds.place_head x) = let f = x.here.kind_is in cc
+commit_of_one P Q floor since (RowHolds.checkpoint x) = let f = x.here.kind_is in cc
+commit_of_one P Q floor since (RowHolds.put_overflow x) = let f = x.here.kind_is in cc
+commit_of_one P Q floor since (RowHolds.mark_deleted x) = let f = x.here.kind_is in cc
+commit_of_one P Q floor since (RowHolds.put_pending x) = let f = x.here.kind_is in cc
+commit_of_one P Q floor since (RowHolds.add_row x) = let f = x.here.kind_is in cc
+commit_of_one P Q floor since (RowHolds.link_pending x) = let f = x.here.kind_is in cc
+commit_of_one P Q floor since (RowHolds.shift x) = let f = x.here.kind_is in cc
+commit_of_one P Q floor since (RowHolds.add_items x) = let f = x.here.kind_is in cc
+commit_of_one P Q floor since (RowHolds.make_tree x) = let f = x.here.kind_is in cc
+commit_of_one P Q floor since (RowHolds.add_postings x) = let f = x.here.kind_is in cc
+commit_of_one P Q floor since (RowHolds.grow_root x) = let f = x.here.kind_is in cc
+commit_of_one P Q floor since (RowHolds.split x) = let f = x.here.kind_is in cc
+commit_of_one P Q floor since (RowHolds.remove_items x) = let f = x.here.kind_is in cc
+commit_of_one P Q floor since (RowHolds.delete_post x) = let f = x.here.kind_is in cc
+commit_of_one P Q floor since (RowHolds.drop_page x) = let f = x.here.kind_is in cc
+commit_of_one P Q floor since (RowHolds.free_slots x) = let f = x.here.kind_is in cc
 
 -- a transaction 3 marks the first document: the row of MarkDeleted holds
 abbrev log_third : Log
@@ -238,7 +333,12 @@ with_mark (suc (suc zero)) = marked_page
 with_mark (suc (suc (suc p))) = free_page
 
 abbrev mark_record : Record
-mark_record = record { number = 10; xid = 3; kind = kind.MarkDeleted 4096 1; changes = first.image 2 marked_page ∷ [] }
+mark_record = record {
+  number = 10;
+  xid = 3;
+  kind = kind.MarkDeleted 4096 1;
+  changes = first.image 2 marked_page ∷ [];
+}
 
 other_slots : (j : ℕ) → j ≢ 0 → slot_at marked_slots j ≡ slot_at two_slots j
 other_slots zero off = absurd (off refl)

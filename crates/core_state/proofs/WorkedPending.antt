@@ -1,4 +1,5 @@
--- The rows of kinds that no worked log has yet, at the document of the first run: its row is put and linked, and moves to the
+-- The rows of kinds that no worked log has yet, at the document of the first run: its row is put and linked, and
+-- moves to the
 -- tree of keys; and where its transaction is aborted its slot becomes free.
 use Rattle.std.proofs.Common.{◌≡◌, ◌≢◌, ℕ, zero, suc, ◌<◌, List, [], ◌∷◌, length, get_or, refl, sym, ap, subst, ◌∙◌, inl, inr, arith}
 use Rattle.std.specs.Prelude.{Option, Some, None}
@@ -94,13 +95,25 @@ shifted (suc (suc (suc (suc p)))) = free_page
 
 -- the records
 abbrev put_record : Row → Record
-put_record w = record { number = 4; xid = 1; kind = kind.PutPending 4096 1; changes = first.image 2 (heap_page 4 3) ∷ first.image 3 (row_page w) ∷ [] }
+put_record w = record {
+  number = 4;
+  xid = 1;
+  kind = kind.PutPending 4096 1;
+  changes = first.image 2
+      (heap_page 4 3) ∷ first.image 3 (row_page w) ∷ [];
+}
 
 abbrev pub log_put : Log
 log_put = put_record row ∷ first.log_placed
 
 abbrev link_record : Record
-link_record = record { number = 5; xid = 1; kind = kind.LinkPending 4096 1; changes = first.image 2 (heap_page 5 0) ∷ first.image 0 (meta_page 5 3 3 1) ∷ [] }
+link_record = record {
+  number = 5;
+  xid = 1;
+  kind = kind.LinkPending 4096 1;
+  changes = first.image 2
+      (heap_page 5 0) ∷ first.image 0 (meta_page 5 3 3 1) ∷ [];
+}
 
 abbrev pub log_linked : Log
 log_linked = link_record ∷ log_put
@@ -112,7 +125,13 @@ abbrev pub log_added : Log
 log_added = add_record 7 with_both ∷ add_record 6 with_cat ∷ log_linked
 
 abbrev pub shift_record : Record
-shift_record = record { number = 8; xid = 0; kind = kind.Shift; changes = first.image 0 (shifted 0) ∷ first.image 3 (shifted 3) ∷ [] }
+shift_record = record {
+  number = 8;
+  xid = 0;
+  kind = kind.Shift;
+  changes = first.image 0 (shifted 0) ∷ first.image 3
+      (shifted 3) ∷ [];
+}
 
 -- the document is whole wherever its head stands
 pub whole : (P : Pages) (private : ℕ) → IsWhole P (head private) first.vector
@@ -127,7 +146,8 @@ others_stay : (a b j : ℕ) → j ≢ 0 → slot_at (Some (head b) ∷ []) j ≡
 others_stay a b zero off = absurd (off refl)
 others_stay a b (suc j) off = refl
 
-pub head_changes : (r : Record) (stamp a b : ℕ) → IsHeadChange r first.doc (heap_page stamp a) (head a) (head b) (heap_page r.number b)
+pub head_changes : (r : Record) (stamp a b : ℕ) → IsHeadChange r first.doc (heap_page stamp a) (head a) (head b)
+    (heap_page r.number b)
 head_changes r stamp a b = record {
   slots = Some (head a) ∷ [];
   new_slots = Some (head b) ∷ [];
@@ -150,7 +170,8 @@ item_is w (inl e) = ap (λ (x : Row). x.item) e
 item_is w (inr e) = absurd e
 
 pub no_row : (P : Pages) → P 0 ≡ first.meta_page → (i : ℕ) → HasRow P i → ⊥
-no_row P e i h = first.in_no_chain P h.linked.line h.linked.page (subst (λ (m : Page). IsChain P (first_of m) h.linked.line) e h.linked.is_line) h.linked.on
+no_row P e i h = first.in_no_chain P h.linked.line h.linked.page
+    (subst (λ (m : Page). IsChain P (first_of m) h.linked.line) e h.linked.is_line) h.linked.on
 
 put_row : (since : ℕ) → IsPutPending first.log_placed (first.placed_by 1) (with_row row) (put_record row) since
 put_row since = record {
@@ -195,7 +216,8 @@ falls keys e rising =
     let less : KeyLess fat_key cat_key = rise.0.0 in
     cc
 
-put_of_falling : (R : Log) (P : Pages) (since : ℕ) → IsPutPending R P (with_row (row_with (fat_key ∷ cat_key ∷ []))) (put_record (row_with (fat_key ∷ cat_key ∷ []))) since → ⊥
+put_of_falling : (R : Log) (P : Pages) (since : ℕ) → IsPutPending R P (with_row (row_with (fat_key ∷ cat_key ∷ [])))
+    (put_record (row_with (fat_key ∷ cat_key ∷ []))) since → ⊥
 put_of_falling R P since x = falls x.here.rows (ap second_rows x.here.after_is) x.here.rising
 
 -- 11: it is linked
@@ -243,12 +265,20 @@ link_row = record {
 pending_there : (leaf : Page) (k : Key) → In k (keys_of first.vector) → Pending (linked leaf) k 4096
 pending_there leaf k i = record {
   row = row;
-  linked = record { line = 3 ∷ []; is_line = (refl, (λ e. omega (arith, e)), refl); page = 3; on = inl refl; there = inl refl };
+  linked = record {
+    line = 3 ∷ [];
+    is_line = (refl, (λ e. omega (arith, e)), refl);
+    page = 3;
+    on = inl refl;
+    there =
+        inl refl;
+  };
   item = refl;
   key = i;
 }
 
-the_rows : (leaf : Page) (k : Key) → In k (keys_of first.vector) → (i : ℕ) → In i (4096 ∷ []) → Pending (linked leaf) k i
+the_rows : (leaf : Page) (k : Key) → In k (keys_of first.vector) → (i : ℕ) → In i (4096 ∷ [])
+    → Pending (linked leaf) k i
 the_rows leaf k is i (inl e) = subst (Pending (linked leaf) k) (sym e) (pending_there leaf k is)
 the_rows leaf k is i (inr e) = absurd e
 
@@ -263,7 +293,11 @@ none_is = refl
 pub added : ItemsAdded [] (128 ∷ 32 ∷ []) (4096 ∷ [])
 added = record {
   rises = subst (Rising (λ (i j : ℕ). i < j)) (sym list_is) (tt, tt);
-  just = λ i. (λ there. inr (subst (In i) list_is there), λ either. elim either [ inl old ↦ absurd (subst (In i) none_is old) | inr new ↦ subst (In i) (sym list_is) new ]);
+  just = λ i. (
+    λ there. inr (subst (In i) list_is there),
+    λ either. elim either
+        [ inl old ↦ absurd (subst (In i) none_is old) | inr new ↦ subst (In i) (sym list_is) new ],
+  );
   adds = (4096, inl refl, λ old. subst (In 4096) none_is old);
 }
 
@@ -334,12 +368,14 @@ main_there k e is on = record {
   entry = e;
   on = on;
   key = ap (λ (x : on_page.Entry). x.key) is;
-  under = Under.inline (128 ∷ 32 ∷ []) (ap (λ (x : on_page.Entry). x.postings) is) (subst (In 4096) (sym list_is) (inl refl));
+  under = Under.inline (128 ∷ 32 ∷ []) (ap (λ (x : on_page.Entry). x.postings) is)
+      (subst (In 4096) (sym list_is) (inl refl));
 }
 
 all_main : (k : Key) → In k (keys_of first.vector) → Main with_both k 4096
 all_main k (inl e) = subst (λ x. Main with_both x 4096) (sym e) (main_there cat_key (entry cat_key) refl (inl refl))
-all_main k (inr (inl e)) = subst (λ x. Main with_both x 4096) (sym e) (main_there fat_key (entry fat_key) refl (inr (inl refl)))
+all_main k (inr (inl e)) = subst (λ x. Main with_both x 4096) (sym e)
+    (main_there fat_key (entry fat_key) refl (inr (inl refl)))
 all_main k (inr (inr e)) = absurd e
 
 vector_there : HasVector with_both first.doc first.vector
@@ -363,7 +399,14 @@ shift_row = record {
     last_is = IsLastAfter.none refl;
     after_is = refl;
   };
-  rest = λ w i. (first.doc, first.vector, sym (item_is w i), vector_there, λ k j. subst (Main with_both k) (sym (item_is w i)) (all_main k j));
+  rest = λ w i. (
+    first.doc,
+    first.vector,
+    sym (item_is w i),
+    vector_there,
+    λ k j. subst (Main with_both k)
+        (sym (item_is w i)) (all_main k j),
+  );
 }
 
 some_one : (h k : Head) → Some h ≡ Some k → h ≡ k
@@ -389,7 +432,8 @@ the_head d x e there = some_one x (head 0) (sym there ∙ ap (head_of with_cat) 
 has_fat : (d : Doc) (v : Vector) → d.item ≡ 4096 → HasVector with_cat d v → In fat_key (keys_of v)
 has_fat d v e h =
     let there : IsWhole with_cat (head 0) v = subst (λ x. IsWhole with_cat x v) (the_head d h.0 e h.1.at) h.2 in
-    subst (λ w. In fat_key (keys_of w)) (whole_one with_cat (head 0) first.vector v (whole with_cat 0) there) (inr (inl refl))
+    subst (λ w. In fat_key (keys_of w)) (whole_one with_cat (head 0) first.vector v (whole with_cat 0) there)
+    (inr (inl refl))
 
 shift_too_early : (R : Log) (Q : Pages) → IsShift R with_cat Q shift_record → ⊥
 shift_too_early R Q x =
@@ -417,8 +461,10 @@ freed (suc (suc (suc p))) = free_page
 abbrev free_record : Record
 free_record = record { number = 5; xid = 0; kind = kind.FreeSlots; changes = first.image 2 free_slots ∷ [] }
 
-each_slot : (floor slot : ℕ) → SlotLoses (known log_aborted (first.placed_by 1)) floor (slot_at (Some (first.head 1) ∷ []) slot) (slot_at (None ∷ []) slot)
-each_slot floor zero = SlotLoses.freed (first.head 1) refl refl (record { dead = IsDeadHead.insert_aborted refl; no_overflow = refl; no_private = refl })
+each_slot : (floor slot : ℕ) → SlotLoses (known log_aborted (first.placed_by 1)) floor
+    (slot_at (Some (first.head 1) ∷ []) slot) (slot_at (None ∷ []) slot)
+each_slot floor zero = SlotLoses.freed (first.head 1) refl refl
+    (record { dead = IsDeadHead.insert_aborted refl; no_overflow = refl; no_private = refl })
 each_slot floor (suc slot) = SlotLoses.same refl
 
 none_some : (h : Head) → None ≡ Some h → ⊥
@@ -443,7 +489,8 @@ free_row floor = record {
   rest = gone_doc;
 }
   where
-    gone_doc : (slot : ℕ) (h : Head) → slot_at (Some (first.head 1) ∷ []) slot ≡ Some h → slot_at (None ∷ []) slot ≡ None
+    gone_doc : (slot : ℕ) (h : Head) → slot_at (Some (first.head 1) ∷ []) slot ≡ Some h
+        → slot_at (None ∷ []) slot ≡ None
         → IsGoneFrom log_aborted (first.placed_by 1) floor (record { item = item_at 2 slot; serial = h.serial })
     gone_doc zero h e f = record {
       dead = IsDead.insert_aborted 1 refl (inl (ap (λ s. record { item = 4096; serial = s }) (sym (ap serial_of e))));

@@ -40,7 +40,8 @@ leaf entries = body.EntryLeaf [] entries
 abbrev part : List Entry → Entry → Body
 part front last = body.EntryLeaf last.key (front ++ last ∷ [])
 
-listed : (e : Entry) (es : List Entry) → length (flat_map entry_bytes (e ∷ es)) ≡ length (entry_bytes e) + length (flat_map entry_bytes es)
+listed : (e : Entry) (es : List Entry) → length (flat_map entry_bytes (e ∷ es)) ≡ length (entry_bytes e) + length
+    (flat_map entry_bytes es)
 listed e es = length-append (entry_bytes e) (flat_map entry_bytes es)
 
 none_listed : length (flat_map entry_bytes []) ≡ 0
@@ -49,13 +50,16 @@ none_listed = refl
 high_size : (k : Key) → 0 < length k → length (high_key_bytes k) ≡ 2 + length k
 unfolding key_field
 high_size [] some = absurd (omega (arith, some))
-high_size (b ∷ bs) some = omega (arith, length-append (u16_bytes (length (b ∷ bs))) (b ∷ bs), length-u16_bytes (length (b ∷ bs)))
+high_size (b ∷ bs) some = omega
+    (arith, length-append (u16_bytes (length (b ∷ bs))) (b ∷ bs), length-u16_bytes (length (b ∷ bs)))
 
 -- the first parts of four entries
 first_parts : (a b c d last : Entry) (front back : List Entry) → back ≢ [] → a ∷ b ∷ c ∷ d ∷ [] ≡ front ++ last ∷ back
     → (part front last ≡ part [] a) ⊎ ((part front last ≡ part (a ∷ []) b) ⊎ (part front last ≡ part (a ∷ b ∷ []) c))
 first_parts a b c d last [] back some e = inl (ap (part []) (sym (ap (λ es. get_or es 0 a) e)))
-first_parts a b c d last (x ∷ []) back some e = inr (inl (ap₂ (λ y z. part (y ∷ []) z) (sym (ap (λ es. get_or es 0 a) e)) (sym (ap (λ es. get_or es 1 a) e))))
+first_parts a b c d last
+    (x ∷ []) back some e = inr (inl
+    (ap₂ (λ y z. part (y ∷ []) z) (sym (ap (λ es. get_or es 0 a) e)) (sym (ap (λ es. get_or es 1 a) e))))
 first_parts a b c d last (x ∷ y ∷ []) back some e =
     let x_is : x ≡ a = sym (ap (λ es. get_or es 0 a) e) in
     let y_is : y ≡ b = sym (ap (λ es. get_or es 1 a) e) in
@@ -69,20 +73,25 @@ first_parts a b c d last (x ∷ y ∷ z ∷ w ∷ ws) back some e =
     let n : 4 ≡ suc (suc (suc (suc (length (ws ++ last ∷ back))))) = ap length e in
     absurd (omega (arith, n, length-append ws (last ∷ back)))
 
-not_inner : (children : List EntryChild) (high : Key) (entries : List Entry) → body.EntryInner children ≡ body.EntryLeaf high entries → ⊥
+not_inner : (children : List EntryChild) (high : Key) (entries : List Entry)
+    → body.EntryInner children ≡ body.EntryLeaf high entries → ⊥
 not_inner children high entries e = cc
 
-not_postings : (high : ℕ) (items : List ℕ) (key : Key) (entries : List Entry) → body.PostLeaf high items ≡ body.EntryLeaf key entries → ⊥
+not_postings : (high : ℕ) (items : List ℕ) (key : Key) (entries : List Entry)
+    → body.PostLeaf high items ≡ body.EntryLeaf key entries → ⊥
 not_postings high items key entries e = cc
 
-not_post_inner : (children : List PostChild) (key : Key) (entries : List Entry) → body.PostInner children ≡ body.EntryLeaf key entries → ⊥
+not_post_inner : (children : List PostChild) (key : Key) (entries : List Entry)
+    → body.PostInner children ≡ body.EntryLeaf key entries → ⊥
 not_post_inner children key entries e = cc
 
 left_is : (a b c d : Entry) (whole l r : Body) → Halves whole l r → whole ≡ leaf (a ∷ b ∷ c ∷ d ∷ [])
     → (l ≡ part [] a) ⊎ ((l ≡ part (a ∷ []) b) ⊎ (l ≡ part (a ∷ b ∷ []) c))
-left_is a b c d whole l r (Halves.of_leaf high last front back some) e = first_parts a b c d last front back some (sym (ap entries_in e))
+left_is a b c d whole l r (Halves.of_leaf high last front back some) e = first_parts a b c d last front back some
+    (sym (ap entries_in e))
 left_is a b c d whole l r (Halves.of_inner mid children h) e = absurd (not_inner children [] _ e)
-left_is a b c d whole l r (Halves.of_post_leaf high mid items front back f g h) e = absurd (not_postings high items [] _ e)
+left_is a b c d whole l r (Halves.of_post_leaf high mid items front back f g h) e = absurd
+    (not_postings high items [] _ e)
 left_is a b c d whole l r (Halves.of_post_inner mid children h) e = absurd (not_post_inner children [] _ e)
 
 -- three of them don't fit, and two are less than half
@@ -104,19 +113,44 @@ three_are_too_many a b c d s fits =
     )
 
 pub all_listed : (a b c d : Entry) → AreLarge a b c d → length (flat_map entry_bytes (a ∷ b ∷ c ∷ d ∷ [])) ≡ 8168
-all_listed a b c d s = omega (arith, listed a (b ∷ c ∷ d ∷ []), listed b (c ∷ d ∷ []), listed c (d ∷ []), listed d [], none_listed, s.first, s.second, s.third, s.fourth)
+all_listed a b c d s = omega (
+  arith,
+  listed a (b ∷ c ∷ d ∷ []),
+  listed b (c ∷ d ∷ []),
+  listed c
+      (d ∷ []),
+  listed d [],
+  none_listed,
+  s.first,
+  s.second,
+  s.third,
+  s.fourth,
+)
 
 two_are_less : (a b c d : Entry) → AreLarge a b c d → KeepsHalf (leaf (a ∷ b ∷ c ∷ d ∷ [])) (part (a ∷ []) b) → ⊥
-two_are_less a b c d s keeps = omega (arith, keeps, all_listed a b c d s, listed a (b ∷ []), listed b [], none_listed, s.first, s.second)
+two_are_less a b c d s keeps = omega
+    (arith, keeps, all_listed a b c d s, listed a (b ∷ []), listed b [], none_listed, s.first, s.second)
 
 one_is_less : (a b c d : Entry) → AreLarge a b c d → KeepsHalf (leaf (a ∷ b ∷ c ∷ d ∷ [])) (part [] a) → ⊥
 one_is_less a b c d s keeps = omega (arith, keeps, all_listed a b c d s, listed a [], none_listed, s.first)
 
 two_fit : (a b c d : Entry) → AreLarge a b c d → FitsPage (part (a ∷ []) b)
 two_fit a b c d s =
-    omega (arith, length-append (high_key_bytes b.key) (flat_map entry_bytes (a ∷ b ∷ [])), high_size b.key (omega (arith, s.second_key)), listed a (b ∷ []), listed b [], none_listed, s.first, s.second, s.second_key)
+    omega (
+      arith,
+      length-append (high_key_bytes b.key) (flat_map entry_bytes (a ∷ b ∷ [])),
+      high_size b.key
+          (omega (arith, s.second_key)),
+      listed a (b ∷ []),
+      listed b [],
+      none_listed,
+      s.first,
+      s.second,
+      s.second_key,
+    )
 
-no_half : (a b c d : Entry) → AreLarge a b c d → (l r : Body) → Halves (leaf (a ∷ b ∷ c ∷ d ∷ [])) l r → KeepsHalf (leaf (a ∷ b ∷ c ∷ d ∷ [])) l → FitsPage l → ⊥
+no_half : (a b c d : Entry) → AreLarge a b c d → (l r : Body) → Halves (leaf (a ∷ b ∷ c ∷ d ∷ [])) l r
+    → KeepsHalf (leaf (a ∷ b ∷ c ∷ d ∷ [])) l → FitsPage l → ⊥
 no_half a b c d s l r h keeps fits = elim (left_is a b c d (leaf (a ∷ b ∷ c ∷ d ∷ [])) l r h refl) [
   | inl e ↦ one_is_less a b c d s (subst (KeepsHalf (leaf (a ∷ b ∷ c ∷ d ∷ []))) e keeps)
   | inr f ↦ elim f [
@@ -125,7 +159,8 @@ no_half a b c d s l r h keeps fits = elim (left_is a b c d (leaf (a ∷ b ∷ c 
   ]
 ]
 
-no_longer : (a b c d : Entry) → AreLarge a b c d → (l r : Body) → Halves (leaf (a ∷ b ∷ c ∷ d ∷ [])) l r → FitsPage l → count_of l ≤ 2
+no_longer : (a b c d : Entry) → AreLarge a b c d → (l r : Body) → Halves (leaf (a ∷ b ∷ c ∷ d ∷ [])) l r → FitsPage l
+    → count_of l ≤ 2
 no_longer a b c d s l r h fits = elim (left_is a b c d (leaf (a ∷ b ∷ c ∷ d ∷ [])) l r h refl) [
   | inl e ↦ subst (λ x. count_of x ≤ 2) (sym e) (omega arith)
   | inr f ↦ elim f [
@@ -136,13 +171,15 @@ no_longer a b c d s l r h fits = elim (left_is a b c d (leaf (a ∷ b ∷ c ∷ 
 
 -- so two may stay
 two_stay : (a b c d : Entry) → AreLarge a b c d → IsSplitPlace (leaf (a ∷ b ∷ c ∷ d ∷ [])) (part (a ∷ []) b)
-two_stay a b c d s = IsSplitPlace.longest (λ l r h keeps fits other. no_half a b c d s l r h keeps fits) (λ l r h fits. no_longer a b c d s l r h fits)
+two_stay a b c d s = IsSplitPlace.longest (λ l r h keeps fits other. no_half a b c d s l r h keeps fits)
+    (λ l r h fits. no_longer a b c d s l r h fits)
 
 -- and not one alone
 not_one : (a b c d : Entry) → AreLarge a b c d → IsSplitPlace (leaf (a ∷ b ∷ c ∷ d ∷ [])) (part [] a) → ⊥
 not_one a b c d s (IsSplitPlace.half keeps) = one_is_less a b c d s keeps
 not_one a b c d s (IsSplitPlace.longest none most) =
-    let more : 2 ≤ 1 = most (part (a ∷ []) b) (leaf (c ∷ d ∷ [])) (Halves.of_leaf [] b (a ∷ []) (c ∷ d ∷ []) (λ e. cc)) (two_fit a b c d s) in
+    let more : 2 ≤ 1 = most (part (a ∷ []) b) (leaf (c ∷ d ∷ []))
+    (Halves.of_leaf [] b (a ∷ []) (c ∷ d ∷ []) (λ e. cc)) (two_fit a b c d s) in
     omega (arith, more)
 
 -- the pages before the split and behind it
@@ -172,7 +209,13 @@ behind a b c d (suc (suc (suc zero))) = right_page c d
 behind a b c d (suc (suc (suc (suc p)))) = free_page
 
 abbrev split_record : Entry → Entry → Entry → Entry → Record
-split_record a b c d = record { number = 9; xid = 0; kind = kind.Split; changes = image 2 (left_page a b) ∷ image 3 (right_page c d) ∷ image 1 (parent_page b.key) ∷ [] }
+split_record a b c d = record {
+  number = 9;
+  xid = 0;
+  kind = kind.Split;
+  changes = image 2 (left_page a b) ∷ image 3
+      (right_page c d) ∷ image 1 (parent_page b.key) ∷ [];
+}
 
 used_below : (entries : List Entry) (q : ℕ) → q < 3 → use_in (before entries) q ≢ usage.Unused
 used_below entries zero l e = cc
@@ -186,7 +229,8 @@ record KeysRise (a b c d : Entry) : Type 0 where
   pub third : KeyLess b.key c.key
   pub fourth : KeyLess b.key d.key
 
-divided : (a b c d : Entry) → KeysRise a b c d → EntryHalves b.key (leaf (a ∷ b ∷ c ∷ d ∷ [])) (part (a ∷ []) b) (leaf (c ∷ d ∷ []))
+divided : (a b c d : Entry) → KeysRise a b c d → EntryHalves b.key (leaf (a ∷ b ∷ c ∷ d ∷ [])) (part (a ∷ []) b)
+    (leaf (c ∷ d ∷ []))
 divided a b c d k = EntryHalves.leaves [] (a ∷ b ∷ []) (c ∷ d ∷ []) (λ e. cc) (λ e. cc) at_most above
   where
     at_most : (e : Entry) → In e (a ∷ b ∷ []) → (KeyLess e.key b.key) ⊎ (e.key ≡ b.key)
@@ -218,7 +262,8 @@ split_row R a b c d since s k = record {
     is_new = IsNew.unused refl (used_below (a ∷ b ∷ c ∷ d ∷ []));
     before_is = refl;
     large = omega (arith, all_listed a b c d s);
-    divided = IsDivided.in_entries b.key (divided a b c d k) (record { bound = []; front = []; back = []; before = refl; after = refl });
+    divided = IsDivided.in_entries b.key (divided a b c d k)
+        (record { bound = []; front = []; back = []; before = refl; after = refl });
     split_place = two_stay a b c d s;
     after_is = refl;
   };
@@ -249,7 +294,8 @@ entry_size key n = omega (
   bytes_are n 1,
 )
 
-are_large : AreLarge (entry (text 1 97) 54) (entry (text 2046 98) 1000) (entry (text 2046 99) 1000) (entry (text 997 100) 1000)
+are_large : AreLarge (entry (text 1 97) 54) (entry (text 2046 98) 1000) (entry (text 2046 99) 1000)
+    (entry (text 997 100) 1000)
 are_large = record {
   first = omega (arith, entry_size (text 1 97) 54, bytes_are 1 97);
   second = omega (arith, entry_size (text 2046 98) 1000, bytes_are 2046 98);
@@ -259,5 +305,6 @@ are_large = record {
   third_key = omega (arith, bytes_are 2046 99);
 }
 
-keys_rise : KeysRise (entry (text 1 97) 54) (entry (text 2046 98) 1000) (entry (text 2046 99) 1000) (entry (text 997 100) 1000)
+keys_rise : KeysRise (entry (text 1 97) 54) (entry (text 2046 98) 1000) (entry (text 2046 99) 1000)
+    (entry (text 997 100) 1000)
 keys_rise = record { first = refl; third = refl; fourth = refl }

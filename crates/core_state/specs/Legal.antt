@@ -7,8 +7,11 @@ use Rattle.page_types.specs.declared.record.Edit.TheVariants.{Image}
 use Rattle.page_types.specs.declared.record.Record.{Record}
 use Rattle.page_types.specs.declared.record.Kind.TheVariants as kind
 use Rattle.core_state.specs.Log.{Log, Pages, In, Shows, changed, commits, cut, replay}
-use Rattle.core_state.specs.TransactionRows.{IsCreate, IsBegin, IsCommit, IsAbort}
-use Rattle.core_state.specs.HeapRows.{IsPlaceHead}
+use Rattle.core_state.specs.TransactionRows.{IsCreate, IsBegin, IsCommit, IsAbort, IsCheckpoint}
+use Rattle.core_state.specs.HeapRows.{IsPlaceHead, IsPutOverflow, IsMarkDeleted}
+use Rattle.core_state.specs.PendingRows.{IsPutPending, IsAddRow, IsLinkPending, IsShift}
+use Rattle.core_state.specs.TreeRows.{IsAddItems, IsMakeTree, IsAddPostings, IsGrowRoot, IsSplit, IsDeletePost}
+use Rattle.core_state.specs.VacuumRows.{IsRemoveItems, IsDropPage, IsFreeSlots}
 
 -- The row of the record's kind holds: P are the pages before it, Q those behind it; `floor` is the
 -- number of commits by which a document is dead, and `since` the number of the last record whose
@@ -18,7 +21,23 @@ pub data RowHolds (R : Log) (P Q : Pages) (r : Record) (floor since : ℕ) : Typ
   begin : IsBegin R P Q r → RowHolds R P Q r floor since
   commit : IsCommit R P Q r → RowHolds R P Q r floor since
   abort : IsAbort R P Q r → RowHolds R P Q r floor since
+  checkpoint : IsCheckpoint R P Q r → RowHolds R P Q r floor since
   place_head : IsPlaceHead R P Q r since → RowHolds R P Q r floor since
+  put_overflow : IsPutOverflow R P Q r since → RowHolds R P Q r floor since
+  mark_deleted : IsMarkDeleted R P Q r → RowHolds R P Q r floor since
+  put_pending : IsPutPending R P Q r since → RowHolds R P Q r floor since
+  add_row : IsAddRow R P Q r → RowHolds R P Q r floor since
+  link_pending : IsLinkPending R P Q r → RowHolds R P Q r floor since
+  shift : IsShift R P Q r → RowHolds R P Q r floor since
+  add_items : IsAddItems R P Q r → RowHolds R P Q r floor since
+  make_tree : IsMakeTree R P Q r since → RowHolds R P Q r floor since
+  add_postings : IsAddPostings R P Q r → RowHolds R P Q r floor since
+  grow_root : IsGrowRoot R P Q r since → RowHolds R P Q r floor since
+  split : IsSplit R P Q r since → RowHolds R P Q r floor since
+  remove_items : IsRemoveItems R P Q r floor → RowHolds R P Q r floor since
+  delete_post : IsDeletePost R P Q r → RowHolds R P Q r floor since
+  drop_page : IsDropPage R P Q r floor → RowHolds R P Q r floor since
+  free_slots : IsFreeSlots R P Q r floor → RowHolds R P Q r floor since
 
 -- the record may follow the log: it is a record with the next number, each of its changes can be
 -- made, it makes the store or the log isn't empty, and its row holds

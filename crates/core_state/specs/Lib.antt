@@ -12,6 +12,7 @@ pub mod VacuumRows
 pub mod Legal
 pub mod Steady
 pub mod Bullets
+pub mod Standing
 pub mod Readings
 pub mod Allowed
 pub mod Stores

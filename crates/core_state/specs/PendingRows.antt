@@ -80,7 +80,7 @@ pub record IsAddRowRest (P : Pages) (xid : ℕ) (doc : Doc) (row : Row) (last : 
   pub by : head.inserted_by ≡ xid
   pub vector : Vector
   pub whole : IsWhole P head vector
-  pub no_row : HasRow P doc.item → ⊥
+  pub no_row : HasRow P row.item → ⊥
   pub keys : row.keys ≡ keys_of vector
   pub front : List ℕ
   pub is_last : Line P (front ++ last ∷ [])

@@ -1,6 +1,6 @@
 -- What the program holds of a log: its state, and how much more it has room for without more
 -- memory.
-use Rattle.std.specs.Prelude.{ℕ, ◌+◌, ◌<◌, ◌≤◌, ⊤, length, All, IfSome}
+use Rattle.std.specs.Prelude.{◌≡◌, ℕ, suc, None, ◌+◌, ◌<◌, ◌≤◌, ⊤, length, All, IfSome}
 use Rattle.page_types.specs.Numbers.{page_limit}
 use Rattle.page_types.specs.declared.record.Change.{Change}
 use Rattle.page_types.specs.declared.record.Record.{Record}
@@ -58,3 +58,34 @@ HasRoomFor _ x n h = ⊤
 pub record HasRoom (h : Held) (r : Record) : Type 0 where
   pub pages : All (λ (c : Change). c.page < page_limit → c.page < h.room.pages) r.changes
   pub rest : HasRoomFor r.kind r.xid (length r.changes) h
+
+-- the uses of the pages that the record changes take no more memory
+abbrev pub HasRoomForPages : ℕ → Record → Type 0
+HasRoomForPages pages r = All (λ (c : Change). c.page < page_limit → c.page < pages) r.changes
+
+-- Beside the uses of pages, a transaction that begins next, places one document and commits takes no
+-- more memory. None of its xid runs.
+pub record HasRoomToInsert (h : Held) : Type 0 where
+  pub fresh : transaction (suc (length h.value.fates)) h.value.running ≡ None
+  pub fates : length h.value.fates < h.room.fates
+  pub running : 0 < h.room.running
+  pub names : 0 < h.room.names
+  pub deletes : 0 < h.room.deletes
+  pub inserts : 0 < h.room.inserts
+  pub inserted : 0 < h.room.inserted
+
+-- the room for commits stays
+pub record KeepsLists (old new : Room) : Type 0 where
+  pub deletes : new.deletes ≡ old.deletes
+  pub deleted : new.deleted ≡ old.deleted
+  pub inserts : new.inserts ≡ old.inserts
+  pub inserted : new.inserted ≡ old.inserted
+
+-- what a record of this kind and xid leaves of the room, beside that of pages
+abbrev pub LeavesRoom : Kind → ℕ → Room → Room → Type 0
+LeavesRoom kind.Begin x old new = KeepsLists old new × (new.names ≡ old.names)
+LeavesRoom (kind.PlaceHead item serial) x old new = KeepsLists old new
+LeavesRoom kind.Abort x old new =
+    x ≡ 0 → KeepsLists old new × (new.names ≡ old.names) × (new.fates ≡ old.fates)
+    × (old.running ≤ new.running)
+LeavesRoom _ x old new = ⊤

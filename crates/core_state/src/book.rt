@@ -3,7 +3,8 @@ ghost use Rattle.std.specs.Prelude.{◌≡◌, ◌≢◌, ◌↔◌, ◌<◌, �
 ghost use Rattle.std.specs.List.{slice_get};
 ghost use Rattle.core_state.specs.States.{empty_state, begun, committed, aborted, placed_head, marked_head, transaction, ended_all, stepped, with_fate, without, fate_of, heap_pages, run_started, pages_of};
 ghost use Rattle.core_state.specs.Documents as documents;
-ghost use Rattle.core_state.specs.Rooms.{FitsCommit, FitsPlaced, FitsMarked, HasRoomFor};
+ghost use Rattle.page_types.specs.declared.record.Kind.TheVariants as kind;
+ghost use Rattle.core_state.specs.Rooms.{FitsCommit, FitsPlaced, FitsMarked, HasRoomFor, HasRoomToInsert, LeavesRoom};
 
 use crate::answers::Fate;
 use crate::freed::note_freed;
@@ -42,6 +43,7 @@ impl Model for Book {
     ghost use Rattle.std.specs.Prelude.{◌≡◌, ◌<◌, ◌≤◌, ◌^◌, suc, [], length};
     ghost use Rattle.std.specs.Vec.{vec_capacity};
     ghost use Rattle.core_state.specs.Inner.Rising.{AreRising};
+    ghost use Rattle.page_types.specs.declared.record.Kind.TheVariants as kind;
     ghost use Rattle.core_state.specs.Rooms.{Held};
 
     ghost Value = { Held };
@@ -186,11 +188,27 @@ impl Book {
         }
     }
 
+    // Makes room for a transaction that begins next, places one document and commits.
+    pub(crate) fn make_room_to_insert(&mut self) -> Result<(), AllocError>
+        ensures same { self.new.value ≡ self.old.value }
+        ensures pages { self.new.room.pages ≡ self.old.room.pages }
+        ensures room { OnOk result (HasRoomToInsert self.new) }
+    {
+        self.fates.reserve(1)?;
+        self.running.reserve()?;
+        self.spare.clear();
+        self.spare.reserve(1)?;
+        self.deleted.reserve(0)?;
+        self.inserted.reserve(1)
+    }
+
     // What a record of this kind and xid, with these changes, makes of the book, which has room for
     // it.
     pub(crate) fn turn(&mut self, kind: &Kind, xid: u32, changes: &[Change])
         requires { HasRoomFor kind.now xid (length changes.now) self.old }
-        ensures { self.new.value ≡ stepped kind.now xid (pages_of changes.now) self.old.value }
+        ensures value { self.new.value
+            ≡ stepped kind.now xid (pages_of changes.now) self.old.value }
+        ensures room { LeavesRoom kind.now xid self.old.room self.new.room }
     {
         match *kind {
             Kind::Begin => self.begin(xid),
@@ -209,7 +227,8 @@ impl Book {
     fn begin(&mut self, xid: u32)
         requires fates { length self.old.value.fates < self.old.room.fates }
         requires running { 0 < self.old.room.running }
-        ensures { self.new.value ≡ begun xid self.old.value }
+        ensures value { self.new.value ≡ begun xid self.old.value }
+        ensures room { LeavesRoom kind.Begin xid self.old.room self.new.room }
     {
         if xid as usize != self.fates.len() + 1 || xid >= XID_BOUND {
             return;
@@ -249,8 +268,9 @@ impl Book {
     // Transaction xid places a head, if it runs and the serial is the next.
     fn place(&mut self, xid: u32, item: u32, serial: u64)
         requires { IfSome (transaction xid self.old.value.running) (FitsPlaced self.old.room) }
-        ensures { self.new.value ≡ placed_head (transaction xid self.old.value.running)
+        ensures value { self.new.value ≡ placed_head (transaction xid self.old.value.running)
             (record { item = item; serial = serial }) self.old.value }
+        ensures room { LeavesRoom (kind.PlaceHead item serial) xid self.old.room self.new.room }
     {
         if self.running.find(xid).is_none() || serial != self.next_serial || serial == u64::MAX {
             return;
@@ -279,7 +299,8 @@ impl Book {
 
     // Every running transaction is aborted.
     pub(crate) fn end_running(&mut self)
-        ensures { self.new.value ≡ ended_all self.old.value }
+        ensures value { self.new.value ≡ ended_all self.old.value }
+        ensures room { LeavesRoom kind.Abort 0 self.old.room self.new.room }
     {
         self.running.end_all(&mut self.fates);
     }

@@ -1,6 +1,9 @@
 // What holds of all logs.
 ghost use Rattle.core_state.specs.Laws.{KeysAreOne, ShownAreOne, OthersStay, LeftIsPage, ValidIsMonotone, LegalWithoutNewest, KeepsWithoutNewest, HistoryIsOne, LegalHasHistory};
 ghost use Rattle.core_state.specs.States.{StateFollows};
+ghost use Rattle.core_state.specs.Bullets.{BulletsHold};
+ghost use Rattle.core_state.specs.Standing.{DocumentsHold};
+ghost use Rattle.core_state.specs.Steady.{SteadyHold};
 
 /// The keys that stand on pages are those of vectors.
 pub fn keys_are_one()
@@ -37,4 +40,24 @@ pub fn history_is_one()
 /// and the use of each page.
 pub fn state_follows()
     ensures { StateFollows }
+{}
+
+/// What holds in every legal log, also under each pin that it keeps: to whom each pair of the index
+/// belongs, that what was indexed stays so, the bounds of the trees and where their leaves lead, that a
+/// page has one place, and that a deleted page stays as it was.
+pub fn bullets_hold()
+    ensures { BulletsHold }
+{}
+
+/// What later records leave as it is: a running transaction's documents, what is committed, aborted or
+/// dead, the trees and rows where nothing moves or removes them, and that a free page was never
+/// changed.
+pub fn steady_hold()
+    ensures { SteadyHold }
+{}
+
+/// A document that is committed and not dead has its slot, is whole, and no other has its slot, also
+/// under each pin that the log keeps; a head's deleting xid is 0 or has marked the document.
+pub fn documents_hold()
+    ensures { DocumentsHold }
 {}

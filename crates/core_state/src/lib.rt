@@ -13,6 +13,7 @@ mod laws;
 mod names;
 mod placing;
 mod running;
+mod settings;
 mod state;
 mod transactions;
 mod uses;
@@ -20,9 +21,11 @@ mod valid;
 
 pub use answers::{Fate, PageUse};
 pub use laws::{
-    history_is_one, keys_are_one, newest_may_go, pages_are_shown, state_follows, valid_is_monotone,
+    bullets_hold, documents_hold, history_is_one, keys_are_one, newest_may_go, pages_are_shown,
+    state_follows, steady_hold, valid_is_monotone,
 };
 pub use placing::valid_place_head;
+pub use settings::Settings;
 pub use state::State;
 pub use transactions::{Names, Transaction};
 pub use valid::{valid_abort, valid_begin, valid_commit, valid_create};

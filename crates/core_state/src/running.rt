@@ -1,5 +1,5 @@
 // The running transactions, found by their xids.
-ghost use Rattle.std.specs.Prelude.{◌≡◌, ◌↔◌, ◌<◌, ◌≤◌, ◌++◌, ◌∷◌, suc, true, [], length, OnOk, IsOk, IfSome, IfNone, None, option_copied};
+ghost use Rattle.std.specs.Prelude.{◌≡◌, ◌↔◌, ◌<◌, ◌≤◌, ◌++◌, ◌∷◌, ℕ, suc, true, [], length, OnOk, IsOk, IfSome, IfNone, None, option_copied};
 ghost use Rattle.std.specs.Vec.{vec_capacity};
 ghost use Rattle.core_state.specs.States.{all_ended, transaction, without, replaced, with_placed, with_marked};
 ghost use Rattle.core_state.specs.Inner.Begun.{running_of, kept, AreBegun, IsRunningAt};
@@ -105,6 +105,7 @@ impl RunningOnes {
         ensures list { self.new.list ≡ self.old.list }
         ensures end { self.new.end ≡ self.old.end }
         ensures room { OnOk result (0 < self.new.left) }
+        ensures fresh { (xid : ℕ) → self.old.end ≤ xid → transaction xid self.old.list ≡ None }
         ensures ok { 0 < self.old.left → IsOk result }
     {
         self.begun.reserve(1)
@@ -178,6 +179,7 @@ impl RunningOnes {
         ensures fates { fates.new ≡ all_ended self.old.list fates.old }
         ensures list { self.new.list ≡ [] }
         ensures end { self.new.end ≡ 0 }
+        ensures room { self.old.left ≤ self.new.left }
     {
         abort_running(fates, &self.begun);
         self.begun.clear();

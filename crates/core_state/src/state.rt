@@ -3,7 +3,7 @@ ghost use Rattle.std.specs.Prelude.{◌≡◌, ◌≢◌, ◌↔◌, ◌≤◌, 
 ghost use Rattle.std.specs.List.{slice_get};
 ghost use Rattle.core_state.specs.States.{empty_state, step_of, fate_of, use_of, heap_pages, run_started};
 ghost use Rattle.core_state.specs.Changes.{IsNew};
-ghost use Rattle.core_state.specs.Rooms.{HasRoom};
+ghost use Rattle.core_state.specs.Rooms.{HasRoom, HasRoomForPages, HasRoomToInsert, LeavesRoom};
 
 use crate::answers::{Fate, PageUse};
 use crate::book::Book;
@@ -72,15 +72,48 @@ impl State {
         ensures ok { HasRoom self.old rec.now → IsOk result }
     {
         self.make_room(rec)?;
-        self.apply(rec);
+        self.step_reserved(rec);
         Ok(())
     }
 
-    // The next record, for which there is room.
+    /// Makes room for the pages of a record.
+    fn make_room_for_pages(&mut self, rec: &Record) -> Result<(), AllocError>
+        ensures same { self.new.value ≡ self.old.value }
+        ensures room { OnOk result (HasRoomForPages self.new.room.pages rec.now) }
+        ensures more { self.old.room.pages ≤ self.new.room.pages }
+    {
+        let changes = rec.changes.as_slice();
+        let more = pages_end(changes).saturating_sub(self.uses.len());
+        self.uses.reserve(more)
+    }
+
+    /// Makes room for a transaction that begins next, places one document and commits, by these
+    /// three records. The state stays as it is.
+    pub fn make_room_to_insert(
+        &mut self,
+        begin: &Record,
+        place: &Record,
+        commit: &Record,
+    ) -> Result<(), AllocError>
+        ensures same { self.new.value ≡ self.old.value }
+        ensures begin { OnOk result (HasRoomForPages self.new.room.pages begin.now) }
+        ensures place { OnOk result (HasRoomForPages self.new.room.pages place.now) }
+        ensures commit { OnOk result (HasRoomForPages self.new.room.pages commit.now) }
+        ensures room { OnOk result (HasRoomToInsert self.new) }
+    {
+        self.make_room_for_pages(begin)?;
+        self.make_room_for_pages(place)?;
+        self.make_room_for_pages(commit)?;
+        self.book.make_room_to_insert()
+    }
+
+    /// The next record, valid or not, for which there is room.
     #[tactic(auto, using(crate::proofs::Framing::framed_step))]
-    fn apply(&mut self, rec: &Record)
+    pub fn step_reserved(&mut self, rec: &Record)
         requires { HasRoom self.old rec.now }
-        ensures { self.new.value ≡ step_of rec.now self.old.value }
+        ensures stepped { self.new.value ≡ step_of rec.now self.old.value }
+        ensures pages { self.new.room.pages ≡ self.old.room.pages }
+        ensures room { LeavesRoom rec.now.kind rec.now.xid self.old.room self.new.room }
     {
         let changes = rec.changes.as_slice();
         self.book.turn(&rec.kind, rec.xid, changes);

@@ -71,7 +71,8 @@ pub(crate) fn note_use(uses: &mut Vec<PageUse>, page: usize, new: PageUse)
 // The uses after changes, for which there is room.
 pub(crate) fn note_uses(uses: &mut Vec<PageUse>, number: u64, changes: &[Change])
     requires { All (λ c. c.page < page_limit → c.page < vec_capacity uses.old) changes.now }
-    ensures { uses.new.items ≡ uses_after number changes.now uses.old.items }
+    ensures items { uses.new.items ≡ uses_after number changes.now uses.old.items }
+    ensures room { vec_capacity uses.new ≡ vec_capacity uses.old }
 {
     for change in changes {
         if change.page < PAGE_LIMIT {

@@ -5,4 +5,5 @@ use Rattle.core_state.proofs.uses.note_uses.Given as goal
 
 abbrev pub invariant-loop-change : goal.invariant-loop-change
 invariant-loop-change l =
-    (uses_after l.number (drop l.change-index l.changes) l.uses.items ≡ uses_after l.number l.changes l.initial.uses.items) × (vec_capacity l.uses ≡ vec_capacity l.initial.uses)
+    (uses_after l.number (drop l.change-index l.changes) l.uses.items ≡ uses_after l.number l.changes
+    l.initial.uses.items) × (vec_capacity l.uses ≡ vec_capacity l.initial.uses)

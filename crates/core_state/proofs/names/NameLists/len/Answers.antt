@@ -4,4 +4,10 @@ use Rattle.page_types.proofs.Cutting.{length-cut_at}
 use Rattle.core_state.proofs.names.NameLists.len.Goals as goal
 
 pub returns : goal.returns
-returns c = omega (arith, length-cut_at 0 c.self.inside.ends.items c.self.inside.names.items, ap (λ (v : Listed). length v.lists) c.self.view_is, c.len.ensures)
+returns c = omega (
+  arith,
+  length-cut_at 0 c.self.inside.ends.items c.self.inside.names.items,
+  ap
+      (λ (v : Listed). length v.lists) c.self.view_is,
+  c.len.ensures,
+)
