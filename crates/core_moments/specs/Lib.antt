@@ -1,0 +1,5 @@
+pub mod Walk
+pub mod Judging
+pub mod Law
+pub use Rattle.gin_opclass.specs.Class
+pub use Rattle.core_state.specs.Readings
