@@ -1,8 +1,9 @@
-// A folder with a log, what is wanted of it, and its edits.
+// A folder with a log, what is wanted of it, its walks and its edits.
 use crate::edits::EditLine;
 use crate::history::{history_lines, record_line};
 use crate::judge::{Beginning, Judged, Verdict, judge, records_of};
 use crate::same::same_in_front;
+use crate::walks::test_walks;
 use anyhow::{Context, Result};
 use page_types::Record;
 use std::alloc::{AllocError, Global};
@@ -191,7 +192,7 @@ fn test_edits<R: Files + Print + AllocGlobal>(
     Ok(differ)
 }
 
-/// Tests the log of a folder and its edits; it tells how many lines differ.
+/// Tests the log of a folder, its walks and its edits; it tells how many lines differ.
 pub(crate) fn test_folder<R: Files + Print + AllocGlobal>(
     rt: &R,
     name: &str,
@@ -207,6 +208,12 @@ pub(crate) fn test_folder<R: Files + Print + AllocGlobal>(
     let rule = rule_line(alloc, verdict)?;
     println!(rt; "{verdict}{rule}")?;
     let history = print_history(rt, folder, &judged)?;
+    let walks = test_walks(rt, folder, &judged.records)?;
     let edits = test_edits(rt, folder, &log, &judged, asks)?;
-    Ok(records.saturating_add(history).saturating_add(edits))
+    Ok(
+        records
+            .saturating_add(history)
+            .saturating_add(walks)
+            .saturating_add(edits),
+    )
 }

@@ -1,5 +1,5 @@
-//! Reads logs and tests each condition of each record's row by plain walks over decoded pages, as an independent check
-//! of the definitions of a legal log.
+//! Reads logs and tests each condition of each record's row by plain walks over decoded pages, as an independent
+//! check of the definitions of a legal log.
 //!
 //! In `logs` and `index-logs` each folder has
 //!
@@ -8,15 +8,26 @@
 //! - `commits`, its history: a commit a line, with the names that it deletes and those that it inserts;
 //! - `edits`, an edit a line: `OFFSET BYTES ..; what it does; verdict`. The bytes, in base 16, stand at the offset in
 //!   place of the log's, or behind them. A verdict is `legal`, `not a store`, or `record N is not valid`: the records
-//!   before N are a legal log, and N may not follow them.
+//!   before N are a legal log, and N may not follow them;
+//! - `walks`, where it has any: the walk of a search in five lines, with an empty line between two. They are `walk:`
+//!   what it shows; `query:` lexemes with `!`, `&`, `|` and brackets; `pin: COMMITS commits at LENGTH`; `reads:` a
+//!   moment `LENGTH:PAGE` for each page that is read, which is as the first LENGTH records leave it; and `found:`
+//!   what the walk has to find. In a lexeme `x{9}` is nine times the letter x, and `*` at its end asks for all that
+//!   begin with it. What is found is `kept ITEMS, yes ITEMS`, an item being its page and slot, and `2/0-3` four of
+//!   them; or `no walk at read N`, where the Nth page is not the one that has to come next, or is missing; or `no
+//!   walk, broken: RULE`, where the moments or the pin can't be. What is a walk and what it finds is said in
+//!   `log_scans`.
 //!
 //! Of the kinds of records of which the core has a test it is asked too, and has to find what the walks find; and its
 //! state has to tell what they tell behind each record. Where it doesn't the verdict is `record N is another to the
 //! core`.
 //!
-//! In `index-logs` a commit asks that its documents are indexed, in `logs` not. Printed are each record of the log with
-//! its verdict, the history, and what is not as it was wanted. The first word names the folder of these two, which else
-//! are where the program runs. With the second word `why` each edit's verdict is printed, with the rule that is broken.
+//! Each document of a walk's snapshot that satisfies the query has to be kept, and each that has a yes to satisfy it.
+//!
+//! In `index-logs` a commit asks that its documents are indexed, in `logs` not. Printed are each record of the log
+//! with its verdict, the history, what each walk finds, and what is not as it was wanted. The first word names the
+//! folder of these two, which else are where the program runs. With the second word `why` each edit's verdict is
+//! printed, with the rule that is broken.
 #![tactic(auto)]
 
 mod edits;
@@ -27,6 +38,7 @@ mod judge;
 mod prefix;
 mod same;
 mod told;
+mod walks;
 
 use anyhow::Result;
 use folder::{Asks, names_in, test_folder};

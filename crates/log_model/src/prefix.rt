@@ -2,8 +2,9 @@
 use crate::images::must_have_images;
 use crate::told::{empty_state, must_find, must_tell};
 use core_state::State;
-use log_rows::{Changed, Step, here, row};
-use log_walks::{Fault, Ledger, PlainPage, Store, must, page_in};
+use log_rows::{Step, here, row};
+use log_scans::{bytes_behind, changed_pages};
+use log_walks::{Fault, Ledger, PlainPage, Store, must};
 use page_types::{Kind, PageBytes, Record};
 use std::alloc::{AllocError, Global};
 
@@ -16,43 +17,6 @@ pub(crate) struct Prefix {
     pub(crate) ledger: Ledger,
     /// The core's state.
     state: State,
-}
-
-/// The bytes of the pages behind a record, in its order.
-fn bytes_behind(
-    alloc: Global,
-    store: &Store,
-    record: &Record,
-) -> Result<Vec<(u32, PageBytes)>, Fault> {
-    let mut all = Vec::new(alloc);
-    for change in record.changes.as_slice() {
-        let bytes = store.changed(alloc, record.number, change)?;
-        all.push((change.page, bytes))?;
-    }
-    Ok(all)
-}
-
-/// The changed pages, before the record and behind it.
-fn changed_pages<'a>(
-    alloc: Global,
-    store: &'a Store,
-    number: u64,
-    bytes: &[(u32, PageBytes)],
-) -> Result<Vec<Changed<'a>>, Fault> {
-    let mut all = Vec::new(alloc);
-    for (page, bytes) in bytes {
-        let left = page_in(alloc, bytes)?;
-        must(
-            left.stamp == number,
-            "the stamp of a changed page is the record's number",
-        )?;
-        all.push(Changed {
-            page: *page,
-            was: store.page(*page),
-            left,
-        })?;
-    }
-    Ok(all)
 }
 
 impl Prefix {
