@@ -1,4 +1,4 @@
-//! Cases of the device in memory, of the log, and of pages, records and item lists, by their public calls.
+//! Cases of the device in memory, of the log and its journal, and of pages, records and item lists, by their public calls.
 //!
 //! Tests stand in a crate of their own, since a crate with tests is proved twice.
 #![tactic(auto)]
@@ -9,6 +9,8 @@ mod batch_tests;
 mod device_tests;
 #[cfg(test)]
 mod item_tests;
+#[cfg(test)]
+mod journal_tests;
 #[cfg(test)]
 mod memory_tests;
 #[cfg(test)]

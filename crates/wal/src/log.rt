@@ -151,6 +151,13 @@ impl Wal {
         self.down
     }
 
+    /// How many bytes wait.
+    pub fn waits(&self) -> usize
+        ensures { result ≡ length (waiting self.now) }
+    {
+        self.buffer.len() - LENGTH_BYTES
+    }
+
     /// The entry waits behind what waits, after a flush where much does. Of a refused entry nothing
     /// is there.
     /// The log is full where its length up to the own batch's gate, what waits and the entry, with

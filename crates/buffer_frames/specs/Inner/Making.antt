@@ -1,0 +1,85 @@
+-- The steps of an opening.
+use Rattle.std.specs.Prelude.{◌≡◌, ◌⊎◌, ℕ, Bool, true, false, ◌<◌, ◌≤◌, List, [], Result, OnOk, IsErrOf}
+use Rattle.disk_trait.specs.Files.{Files}
+use Rattle.disk_trait.specs.Device.{Rose, last_count}
+use Rattle.disk_trait.specs.Runs.{images_now, LeavesOnly}
+use Rattle.disk_trait.specs.declared.device.Disk.{Ghosts as Disk}
+use Rattle.wal.specs.Batches.{IsUnborn, Opens}
+use Rattle.wal.specs.Creating.{From, created}
+use Rattle.wal.specs.Reading.{IsFresh}
+use Rattle.wal.specs.Settled.{LogIs, Settled}
+use Rattle.wal.specs.Waiting.{waiting, end_of, limit_of, down_of, IsReadToEnd}
+use Rattle.wal.specs.declared.log.Wal.{Wal}
+use Rattle.page_types.specs.Records.{record_bytes}
+use Rattle.core_state.specs.Log.{Log}
+use Rattle.core_state.specs.States.{StateValue, state_of, step_of}
+use Rattle.core_state.specs.declared.settings.Settings.{Settings}
+use Rattle.buffer_frames.specs.Counted.{AreNumbered, AreRecords}
+use Rattle.buffer_frames.specs.First.{first_record}
+use Rattle.buffer_frames.specs.NoStore.{IsStoreOf}
+use Rattle.buffer_frames.specs.Maps.{HasApplied}
+use Rattle.buffer_frames.specs.declared.page_map.PageMap.{PageMap}
+use Rattle.buffer_frames.specs.declared.error.OpenFault.{OpenFault}
+use Rattle.buffer_frames.specs.declared.error.OpenFault.TheVariants.{DiskFault}
+
+-- a log as it was, or, where its creation was not begun or was cut short, one without batches
+abbrev pub IsLogBefore : List ℕ → List ℕ → Type 0
+IsLogBefore old new = (new ≡ old) ⊎ (IsUnborn old × Opens new [])
+
+-- What an opening does to a log and to the state of its records: where there are some an Abort is
+-- owed, and else the first one waits.
+abbrev pub HasBegun : Bool → Wal → Wal → StateValue → StateValue → Type 0
+HasBegun true wal wal' s s' = (0 < s.records) × (wal' ≡ wal) × (s' ≡ s)
+HasBegun false wal wal' s s' =
+    (s.records ≡ 0) × (waiting wal' ≡ record_bytes first_record) × (end_of wal' ≡ end_of wal)
+    × (limit_of wal' ≡ limit_of wal) × (down_of wal' ≡ down_of wal) × (s' ≡ step_of first_record s)
+
+-- The counts of a run of calls that may write.
+pub record MakesHasCause {D T : Type 0} (device : Disk D) (old new : D)
+    (result : Result T OpenFault) : Type 0 where
+  pub later : device.fault_count old ≤ device.fault_count new
+  pub fault : IsErrOf result DiskFault → Rose (device.fault_count old) (device.fault_count new)
+  pub at_ok : OnOk result (device.write_fault_count new ≡ device.write_fault_count old)
+
+module _ {D : Type 0} (device : Disk D) where
+  -- an image of an opening: the pages of an earlier one, and its log or an empty one
+  abbrev pub IsImageBefore : D → Files → Type 0
+  IsImageBefore old c = From (images_now device old) (IsLogBefore (device.seen old).log) c
+
+  -- the log is there, on the device as it is read, and the pages are as they were
+  pub record IsMade (old new : D) : Type 0 where
+    pub pages : (device.seen new).pages ≡ (device.seen old).pages
+    pub log_is : ((device.seen new).log ≡ (device.seen old).log)
+        ⊎ (IsUnborn (device.seen old).log × ((device.seen new).log ≡ created))
+    pub born : IsUnborn (device.seen new).log → ⊥
+    pub durable : LogIs device (device.seen new).log new
+
+  -- Both files were synced up to `mid`, at c0. From then on a crash leaves the pages as they are read,
+  -- and the log or an empty one.
+  pub record HasRun (first : D) (c0 : ℕ) (disk : D) : Type 0 where
+    pub mid : D
+    pub at : device.clock mid ≡ c0
+    pub synced : LeavesOnly device first mid (images_now device first)
+    pub rest : LeavesOnly device mid disk (λ (c : Files). (c.pages ≡ (device.seen first).pages)
+        × IsLogBefore (device.seen first).log c.log)
+
+  -- nothing was written, or both files were synced before
+  abbrev pub RunsFrom : D → D → Type 0
+  RunsFrom first disk =
+      LeavesOnly device first disk (images_now device first) ⊎ ((c0 : ℕ) × HasRun first c0 disk)
+
+  -- the records of the files, read into a state and a map of pages
+  pub record IsReadAs (settings : Settings) (old new : D) (wal : Wal) (state : StateValue)
+      (map : PageMap) (R : Log) : Type 0 where
+    pub numbered : AreNumbered R
+    pub state_is : state ≡ state_of settings.pages settings.xid_limit R
+    pub to_end : IsReadToEnd wal
+    pub fresh : IsFresh wal settings.log_limit
+    pub store : device.tells → IsStoreOf (device.seen old) R
+    pub applied : device.tells → HasApplied (device.seen old).pages R map
+    pub settled : device.tells → (batches : List (List ℕ)) × Settled device batches (end_of wal) new
+        × AreRecords batches R
+
+  pub record AreBelowLast (old new : D) : Type 0 where
+    pub faults : device.fault_count old < last_count
+    pub write_faults : device.write_fault_count new < last_count

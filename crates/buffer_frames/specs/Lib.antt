@@ -1,0 +1,16 @@
+pub mod Counted
+pub mod Applied
+pub mod NoStore
+pub mod Opens
+pub mod First
+pub mod Journals
+pub mod LogCauses
+pub mod Logging
+pub mod Opening
+pub mod Inner
+pub use Rattle.disk_trait.specs.Files
+pub use Rattle.disk_trait.specs.Device
+pub use Rattle.disk_trait.specs.Runs
+pub mod Maps
+pub mod Causes
+pub mod Records

@@ -1,0 +1,33 @@
+// Why a call on a journal is refused.
+ghost use Rattle.std.specs.Prelude.{◌≡◌};
+ghost use Rattle.buffer_frames.specs.declared.log_error.LogError.TheVariants.{OutOfMemory};
+
+use std::alloc::AllocError;
+use thiserror::Error;
+
+/// Why a call on a journal is refused.
+#[derive(Clone, Copy, Debug, PartialEq, Eq, Error)]
+pub enum LogError {
+    /// The device failed in this call.
+    #[error("device")]
+    DiskFault,
+    /// The log would pass its limit.
+    #[error("log full")]
+    LogFull,
+    /// A write or a sync failed in an earlier call. The device's count of faults stood at this
+    /// number after it.
+    #[error("down {fault}")]
+    Down { fault: u64 },
+    /// There was no memory for this call.
+    #[error("out of memory")]
+    OutOfMemory,
+}
+
+impl From<AllocError> for LogError {
+    ghost from_gives = { λ _ e. e ≡ OutOfMemory };
+
+    /// An allocation that failed.
+    fn from(_: AllocError) -> Self {
+        LogError::OutOfMemory
+    }
+}
