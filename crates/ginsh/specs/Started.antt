@@ -3,16 +3,16 @@ use Rattle.std.specs.Prelude.{◌≡◌, ℕ, []}
 use Rattle.disk_trait.specs.Schedules.{IsUnused}
 use Rattle.disk_trait.specs.MemoryDisk.{schedule_of, write_faults_of, seen_of}
 use Rattle.disk_trait.specs.declared.disk.MemoryDisk.{MemoryDisk}
-use Rattle.ginsh.specs.declared.streams.FromReader.{FromReader}
-use Rattle.ginsh.specs.declared.streams.IntoWriter.{IntoWriter}
+use Rattle.disk_file.specs.declared.streams.StdSource.{StdSource}
+use Rattle.disk_file.specs.declared.streams.StdSink.{StdSink}
 
 -- a source over this reader that has not failed
-pub record IsFrom {R : Type 0} (script : FromReader R) (reader : R) : Type 0 where
+pub record IsFrom {R : Type 0} (script : StdSource R) (reader : R) : Type 0 where
   pub over : script.reader ≡ reader
   pub no_fault : script.faults ≡ 0
 
 -- a sink over this writer that has not failed
-pub record IsInto {W : Type 0} (out : IntoWriter W) (writer : W) : Type 0 where
+pub record IsInto {W : Type 0} (out : StdSink W) (writer : W) : Type 0 where
   pub over : out.writer ≡ writer
   pub no_fault : out.faults ≡ 0
 

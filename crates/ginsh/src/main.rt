@@ -9,11 +9,10 @@ ghost use Rattle.shell_run.specs.Words.{IsForm};
 ghost use Rattle.shell_run.specs.declared.words.Settings.{Settings};
 ghost use Rattle.disk_trait.specs.declared.disk.MemoryDisk.{MemoryDisk};
 ghost use Rattle.ginsh.specs.Started.{IsFrom, IsInto, IsNewDisk};
-ghost use Rattle.ginsh.specs.declared.streams.FromReader.{FromReader};
-ghost use Rattle.ginsh.specs.declared.streams.IntoWriter.{IntoWriter};
+ghost use Rattle.disk_file.specs.declared.streams.StdSource.{StdSource};
+ghost use Rattle.disk_file.specs.declared.streams.StdSink.{StdSink};
 
-mod streams;
-
+use disk_file::{StdSink, StdSource};
 use disk_trait::{Disk, MemoryDisk, Sink, Source};
 use shell_run::{NoGate, Outcome, run_shell};
 use std::alloc::Global;
@@ -22,7 +21,6 @@ use std::process::ExitCode;
 use std::rt::Env;
 use std::sync::Wait;
 use std::thread::Threads;
-use streams::{FromReader, IntoWriter};
 
 /// The words behind the program's name, which is the first.
 fn behind_name(words: Vec<String>) -> Vec<String>
@@ -58,14 +56,14 @@ fn answer<R: Threads + Wait + Sync, I: Read, O: Write>(
     words: &[String],
     reader: I,
     writer: O,
-) -> Outcome<FromReader<I>, IntoWriter<O>, MemoryDisk>
-    ensures { (script : FromReader I) × (out : IntoWriter O) × (disk : MemoryDisk)
+) -> Outcome<StdSource<I>, StdSink<O>, MemoryDisk>
+    ensures { (script : StdSource I) × (out : StdSink O) × (disk : MemoryDisk)
         × IsFrom script reader × IsInto out writer × IsNewDisk disk
-        × RunMeets ⟦<FromReader<I> as Source>⟧ ⟦<IntoWriter<O> as Sink>⟧ ⟦<MemoryDisk as Disk>⟧
+        × RunMeets ⟦<StdSource<I> as Source>⟧ ⟦<StdSink<O> as Sink>⟧ ⟦<MemoryDisk as Disk>⟧
         words.now script out disk result }
 {
-    let script = FromReader::new(reader);
-    let out = IntoWriter::new(writer);
+    let script = StdSource::new(reader);
+    let out = StdSink::new(writer);
     let disk = MemoryDisk::new(alloc, Vec::new(alloc));
     run_shell(rt, alloc, words, script, out, disk, &NoGate)
 }

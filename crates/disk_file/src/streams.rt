@@ -1,5 +1,5 @@
 // A reader as a source, and a writer as a sink. Each counts its errors.
-ghost use Rattle.std.specs.Prelude.{◌≡◌, ℕ, ◌-◌, ◌^◌, ◌<◌, length, IfOk, IsErr};
+ghost use Rattle.std.specs.Prelude.{◌≡◌, ◌-◌, ◌^◌, ◌<◌, length, IfOk, IsErr};
 ghost use Rattle.std.specs.Io.{ReadsAtMost, WritesAtMost};
 ghost use Rattle.std.specs.Io.KnownBytes.{ReadConsumes, WriteAppends};
 ghost use Rattle.disk_trait.specs.Device.{HasCause};
@@ -11,23 +11,23 @@ use std::io::{Read, Write};
 /// A source over any reader. Each `Err` of the reader is a fault.
 /// At the last number of its count it fails, and calls the reader no more.
 #[derive(Drop)]
-pub struct FromReader<R> {
+pub struct StdSource<R> {
     /// Where the bytes come from.
     pub reader: R,
     /// How often it has failed.
     pub faults: u64,
 }
 
-impl<R: Read> FromReader<R> {
+impl<R: Read> StdSource<R> {
     /// A source that has not failed.
-    pub fn new(reader: R) -> FromReader<R>
+    pub fn new(reader: R) -> StdSource<R>
         ensures { (result.reader ≡ reader) × (result.faults ≡ 0) }
     {
-        FromReader { reader, faults: 0 }
+        StdSource { reader, faults: 0 }
     }
 }
 
-impl<R: Read> Source for FromReader<R> {
+impl<R: Read> Source for StdSource<R> {
     ghost left = { λ s. R.remaining s.reader };
 
     ghost fault_count = { λ s. s.faults };
@@ -55,23 +55,23 @@ impl<R: Read> Source for FromReader<R> {
 /// A sink over any writer. Each `Err` of the writer is a fault, and so is a write that takes nothing of a piece
 /// that has bytes. At the last number of its count it fails, and calls the writer no more.
 #[derive(Drop)]
-pub struct IntoWriter<W> {
+pub struct StdSink<W> {
     /// Where the bytes go.
     pub writer: W,
     /// How often it has failed.
     pub faults: u64,
 }
 
-impl<W: Write> IntoWriter<W> {
+impl<W: Write> StdSink<W> {
     /// A sink that has not failed.
-    pub fn new(writer: W) -> IntoWriter<W>
+    pub fn new(writer: W) -> StdSink<W>
         ensures { (result.writer ≡ writer) × (result.faults ≡ 0) }
     {
-        IntoWriter { writer, faults: 0 }
+        StdSink { writer, faults: 0 }
     }
 }
 
-impl<W: Write> Sink for IntoWriter<W> {
+impl<W: Write> Sink for StdSink<W> {
     ghost taken = { λ s. W.contents s.writer };
 
     ghost fault_count = { λ s. s.faults };
