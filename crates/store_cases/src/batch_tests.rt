@@ -3,58 +3,12 @@ ghost use Rattle.disk_trait.specs.Files.{file_limit};
 ghost use Rattle.disk_trait.specs.MemoryDisk.{clock_of};
 ghost use Rattle.wal.specs.Waiting.{IsReadToEnd};
 
-use disk_trait::{Disk, Failed, File, MemoryDisk};
+use crate::silent::Silent;
+use disk_trait::{Disk, File, MemoryDisk};
 use std::alloc::Global;
 use std::process::Abort;
 use std::test::Fail;
 use wal::{LOG_LIMIT, MOST_WAITING, Wal, WalError};
-
-/// A device in memory that tells nothing, so that a test may ask anything of it.
-#[derive(Drop)]
-struct Silent(MemoryDisk);
-
-impl Disk for Silent {
-    ghost use Rattle.disk_trait.specs.MemoryDisk.{seen_of, image_of, clock_of, faults_of, write_faults_of};
-
-    ghost tells = { ⊥ };
-
-    ghost seen = { λ d. seen_of d.0 };
-
-    ghost clock = { λ d. clock_of d.0 };
-
-    ghost image = { λ d. image_of d.0 };
-
-    ghost fault_count = { λ d. faults_of d.0 };
-
-    ghost write_fault_count = { λ d. write_faults_of d.0 };
-
-    ghost seen_is_image = { λ d told. absurd told };
-
-    /// As the device in memory does.
-    fn read(&mut self, file: File, at: u64, buf: &mut [u8]) -> Result<usize, Failed> {
-        self.0.read(file, at, buf)
-    }
-
-    /// As the device in memory does.
-    fn write_at(&mut self, file: File, at: u64, bytes: &[u8]) -> Result<(), Failed> {
-        self.0.write_at(file, at, bytes)
-    }
-
-    /// As the device in memory does.
-    fn sync(&mut self, file: File) -> Result<(), Failed> {
-        self.0.sync(file)
-    }
-
-    /// As the device in memory does.
-    fn length(&mut self, file: File) -> Result<u64, Failed> {
-        self.0.length(file)
-    }
-
-    /// As the device in memory does.
-    fn faults(&self) -> u64 {
-        self.0.faults()
-    }
-}
 
 /// More than any log here has.
 const LIMIT: u64 = LOG_LIMIT;
@@ -133,7 +87,7 @@ fn a_log_is_created_over_what_was_cut_short(rt: HostRuntime) -> Result<(), Fail>
             let got = content(alloc, &mut disk)?;
             assert_eq!(rt;
                 got.as_slice(),
-                b"\x01GINSH STORE 0001\0".as_slice(),
+                b"\x01GINSH DRAFT 0001\0".as_slice(),
                 "over {len} bytes"
             );
             assert_eq!(rt; batches(alloc, &mut disk)?.len(), 0);
@@ -149,13 +103,13 @@ fn what_is_no_log_is_refused(rt: HostRuntime) -> Result<(), Fail> {
     let rows: [(&[u8], Option<&[u8]>); 8] = [
         (&[0; 19], None),
         (b"\x01GINSH STORE 0002\0", None),
-        (b"\x01GINSH STORE 0001\x01\0\0\0\0\0", None),
-        (b"\x01GINSH STORE 0001\x01\x05\0\0\0abc\0", None),
-        (b"\x01GINSH STORE 0001\x01\x02\0\0\0ab", None),
-        (b"\x01GINSH STORE 0001\x01\x02\0\0\0ab\x01", None),
-        (b"\x01GINSH STORE 0001\x01\x02\0", None),
+        (b"\x01GINSH DRAFT 0001\x01\0\0\0\0\0", None),
+        (b"\x01GINSH DRAFT 0001\x01\x05\0\0\0abc\0", None),
+        (b"\x01GINSH DRAFT 0001\x01\x02\0\0\0ab", None),
+        (b"\x01GINSH DRAFT 0001\x01\x02\0\0\0ab\x01", None),
+        (b"\x01GINSH DRAFT 0001\x01\x02\0", None),
         (
-            b"\x01GINSH STORE 0001\x01\x02\0\0\0ab\x02xyz",
+            b"\x01GINSH DRAFT 0001\x01\x02\0\0\0ab\x02xyz",
             Some(b"\x02ab"),
         ),
     ];
@@ -260,7 +214,7 @@ fn what_waited_is_one_batch(rt: HostRuntime) -> Result<(), Fail> {
         Step::Calls(18),
         Step::Flush,
         Step::Calls(18),
-        Step::Holds(b"\x01GINSH STORE 0001\x01\x03\0\0\0abc\x01\x01\0\0\0d\0"),
+        Step::Holds(b"\x01GINSH DRAFT 0001\x01\x03\0\0\0abc\x01\x01\0\0\0d\0"),
         Step::Batches(b"\x03abc\x01d"),
     ];
     follow(&rt, rt.alloc(), LIMIT, &steps)

@@ -22,6 +22,8 @@ mod record_rows;
 #[cfg(test)]
 mod record_tests;
 #[cfg(test)]
+mod silent;
+#[cfg(test)]
 mod spelling_tests;
 #[cfg(test)]
 mod state_memory_tests;

@@ -5,7 +5,7 @@ use Rattle.wal.specs.declared.sizes.TheConstants.{HEADER_BYTES, CREATED_BYTES, L
 
 -- the gate of the store, open, and the name of the format
 abbrev pub header : List ℕ
-header = 1 ∷ codes "GINSH STORE 0001"
+header = 1 ∷ codes "GINSH DRAFT 0001"
 
 -- a batch behind its gate
 abbrev pub sealed : List ℕ → List ℕ

@@ -15,7 +15,7 @@ use crate::sizes::{CREATED_BYTES, HEADER_BYTES};
 use disk_trait::{Disk, Failed, File, write_and_sync};
 
 /// The name of the format, and the first batch's gate, closed.
-const NAME_AND_GATE: &[u8; 17] = b"GINSH STORE 0001\0";
+const NAME_AND_GATE: &[u8; 17] = b"GINSH DRAFT 0001\0";
 
 /// The store's gate is closed, if it may be open: a write of it could open it by itself.
 fn shut<D: Disk>(disk: &mut D) -> Result<(), Failed>

@@ -1,6 +1,6 @@
 //! The write-ahead log: batches of bytes, each of which counts from its flush on.
 //!
-//! Byte 0 of the file is the store's gate, bytes 1 to 16 the text `GINSH STORE 0001`, byte 17 the
+//! Byte 0 of the file is the store's gate, bytes 1 to 16 the text `GINSH DRAFT 0001`, byte 17 the
 //! gate of the first batch.
 //! A gate is open where its byte is 1. A batch is its gate, its length as a u32 (little end first,
 //! at least 1),

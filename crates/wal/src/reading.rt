@@ -19,7 +19,7 @@ use disk_trait::{Disk, File};
 use std::alloc::Global;
 
 /// The store's gate, open, and the name of the format.
-const HEADER: &[u8; 17] = b"\x01GINSH STORE 0001";
+const HEADER: &[u8; 17] = b"\x01GINSH DRAFT 0001";
 
 //// The log's bytes from a place on, as many as are there.
 fn read_log<D: Disk>(disk: &mut D, at: u64, buf: &mut [u8]) -> Result<usize, WalError>

@@ -6,7 +6,7 @@ use Rattle.wal.specs.declared.sizes.TheConstants.{HEADER_BYTES, LENGTH_BYTES, FR
 
 -- the name of the format and the first batch's gate, closed
 abbrev pub name_and_gate : List ℕ
-name_and_gate = codes "GINSH STORE 0001" ++ 0 ∷ []
+name_and_gate = codes "GINSH DRAFT 0001" ++ 0 ∷ []
 
 -- the store's gate is there and closed
 pub record Shut (log : List ℕ) : Type 0 where
