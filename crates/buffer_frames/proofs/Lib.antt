@@ -14,6 +14,7 @@ pub mod Standing
 pub mod Refused
 pub mod Flushing
 pub mod Opened
+pub mod Beginning
 pub mod Stepping
 pub mod Logged
 pub mod Batching

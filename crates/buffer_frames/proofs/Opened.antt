@@ -32,12 +32,17 @@ use Rattle.buffer_frames.proofs.StoreBefore.{counted_empty}
 
 module _ {D : Type 0} (device : Disk D) where
   -- each image has the pages of one on entry
-  pub runs_keep : ((d : D) → images_now device d (device.seen d)) → (first disk : D) → RunsFrom device first disk → KeepsPages device first disk
-  runs_keep law first disk (inl run) = weaker_run device first disk (images_now device first) (HasPagesOf (images_now device first)) run (λ c here. (c, here, refl))
-  runs_keep law first disk (inr (c0, run)) =
+  pub runs_keep : device.tells → ((d : D) → images_now device d (device.seen d)) → (first disk : D) → RunsFrom device first disk → KeepsPages device first disk
+  runs_keep told law first disk (inl only) = weaker_run device first disk (images_now device first) (HasPagesOf (images_now device first)) (only.any_moment told) (λ c here. (c, here, refl))
+  runs_keep told law first disk (inr (c0, run)) =
       then device first run.mid disk (HasPagesOf (images_now device first)) _
       (weaker_run device first run.mid (images_now device first) (HasPagesOf (images_now device first)) run.synced (λ c here. (c, here, refl)))
       run.rest (λ c left. (device.seen first, law first, left.0))
+
+  -- what a read gives of the page file is as it was
+  pub runs_seen : device.tells → ((d : D) → images_now device d (device.seen d)) → (first disk : D) → RunsFrom device first disk → (device.seen disk).pages ≡ (device.seen first).pages
+  runs_seen told law first disk (inl only) = ap (λ (f : Files). f.pages) (only.same told)
+  runs_seen told law first disk (inr (c0, run)) = (run.rest.each (device.clock disk) (device.seen disk) run.rest.later (omega arith) (law disk)).0
 
   -- an image of it opens to what the files did
   image_opens : OpensToOneList → (first : D) (c : Files) (H : History) → (c.pages ≡ (device.seen first).pages) × IsLogBefore (device.seen first).log c.log → OpensTo (device.seen first) H → OpensTo c H
@@ -49,14 +54,14 @@ module _ {D : Type 0} (device : Disk D) where
     pages = subst (λ (l : List ℕ). PagesStand opens.records l) (sym left.0) opens.pages;
   }
 
-  pub runs_open : OpensToOneList → ((d : D) → images_now device d (device.seen d)) → (first disk : D) → RunsFrom device first disk → StartedFrom device first → OpensAsBefore device first disk
-  runs_open one law first disk (inl run) s = record {
+  pub runs_open : device.tells → OpensToOneList → ((d : D) → images_now device d (device.seen d)) → (first disk : D) → RunsFrom device first disk → StartedFrom device first → OpensAsBefore device first disk
+  runs_open told one law first disk (inl only) s = record {
     images = λ m c ge le left.
-        let here : images_now device first c = run.each m c ge le left in
+        let here : images_now device first c = (only.any_moment told).each m c ge le left in
         let k : (H : History) × OpensTo c H = s.images c here in
         (k.0, k.1, (c, here, k.1));
   }
-  runs_open one law first disk (inr (c0, run)) s = record {
+  runs_open told one law first disk (inr (c0, run)) s = record {
     images = λ m c ge le left. elim (cases_lt (device.clock run.mid) m) [
       | inl lt ↦
           let now = run.rest.each m c (omega arith) le left in
@@ -106,7 +111,7 @@ module _ {D : Type 0} (device : Disk D) where
   }
 
   -- what the journal stands for where records were read
-  goes_on : (settings : Settings) (first disk : D) (wal : Wal) (v : StateValue) (map : PageMap) (R : Log) (n : ℕ) → IsReadAs device settings first disk wal v map R → n ≡ length v.deleted → Stands device (seen_as disk wal v n true) R
+  goes_on : (settings : Settings) (first disk : D) (wal : Wal) (v : StateValue) (map : PageMap) (R : Log) (n : ℕ) → IsReadAs device settings first disk wal v map R → n ≡ length v.deleted → Stands device (seen_as disk wal v n true disk) R
   goes_on settings first disk wal v map R n read count =
       let b = state_bounds settings.pages settings.xid_limit R in
       let pages : v.pages ≡ settings.pages = ap (λ (s : StateValue). s.pages) read.state_is ∙ b.0 in
@@ -125,7 +130,7 @@ module _ {D : Type 0} (device : Disk D) where
 
   -- and where there was none
   starts : (settings : Settings) (first disk : D) (wal wal' : Wal) (v v' : StateValue) (map : PageMap) (n : ℕ) → IsReadAs device settings first disk wal v map [] → n ≡ length v.deleted → waiting wal' ≡ record_bytes first_record → end_of wal' ≡ end_of wal → v' ≡ step_of first_record v
-      → Stands device (seen_as disk wal' v' n false) (first_record ∷ [])
+      → Stands device (seen_as disk wal' v' n false disk) (first_record ∷ [])
   starts settings first disk wal wal' v v' map n read count waits end state =
       let p : ℕ = settings.pages in
       let x : ℕ = settings.xid_limit in
@@ -145,7 +150,7 @@ module _ {D : Type 0} (device : Disk D) where
       }
 
   pub opened_at : OpensToOneList → (settings : Settings) (first disk : D) (wal wal' : Wal) (v v' : StateValue) (map : PageMap) (R : Log) (n : ℕ) (owes : Bool) → (device.tells → (d : D) → images_now device d (device.seen d)) → IsReadAs device settings first disk wal v map R → (c0 : ℕ) → (device.tells → HasRun device first c0 disk)
-      → device.fault_count first ≤ device.fault_count disk → device.write_fault_count disk ≡ device.write_fault_count first → AreBelowLast device first disk → n ≡ length v.deleted → HasBegun owes wal wal' v v' → IsOpenedAt device settings first c0 (seen_as disk wal' v' n owes) map
+      → device.fault_count first ≤ device.fault_count disk → device.write_fault_count disk ≡ device.write_fault_count first → AreBelowLast device first disk → n ≡ length v.deleted → HasBegun owes wal wal' v v' → IsOpenedAt device settings first c0 (seen_as disk wal' v' n owes disk) map
   unfolding starts goes_on
   opened_at one settings first disk wal wal' v v' map [] n false law read c0 run later writes below count begun =
       let now : v' ≡ state_of settings.pages settings.xid_limit (first_record ∷ []) = begun.5 ∙ ap (step_of first_record) read.state_is in
@@ -172,8 +177,8 @@ module _ {D : Type 0} (device : Disk D) where
       let b = state_bounds settings.pages settings.xid_limit (r ∷ R) in
       let same : v' ≡ v = begun.2 in
       let wals : wal' ≡ wal = begun.1 in
-      subst (λ (w : Wal). IsOpenedAt device settings first c0 (seen_as disk w v' n true) map) (sym wals)
-      (subst (λ (s : StateValue). IsOpenedAt device settings first c0 (seen_as disk wal s n true) map) (sym same) (record {
+      subst (λ (w : Wal). IsOpenedAt device settings first c0 (seen_as disk w v' n true disk) map) (sym wals)
+      (subst (λ (s : StateValue). IsOpenedAt device settings first c0 (seen_as disk wal s n true disk) map) (sym same) (record {
         counted = r ∷ R;
         stands = goes_on settings first disk wal v map (r ∷ R) n read count;
         none_lost = refl;

@@ -12,6 +12,7 @@ use Rattle.wal.specs.Reading.{IsOnlyRead}
 use Rattle.wal.specs.Settled.{LogIs}
 use Rattle.wal.proofs.Keeping.{no_more, still_is}
 use Rattle.buffer_frames.specs.Inner.Making.{IsLogBefore, IsImageBefore, IsMade, HasRun, RunsFrom}
+use Rattle.buffer_frames.proofs.Only.{read_then}
 
 -- a new log has no batch
 pub created_opens : Opens created []
@@ -49,7 +50,7 @@ module _ {D : Type 0} (device : Disk D) where
   }
 
   pub runs_on : (first mid new : D) → device.tells → RunsFrom device first mid → IsOnlyRead device mid new → RunsFrom device first new
-  runs_on first mid new told (inl run) read = inl (then device first mid new (images_now device first) (images_now device mid) run (read.any_moment told) (λ c here. run.each (device.clock mid) c run.later (omega arith) here))
+  runs_on first mid new told (inl only) read = inl (read_then device first mid new only read)
   runs_on first mid new told (inr (c0, run)) read = inr (c0, run_reads first c0 mid new told run read)
 
   pub made_from : (first mid m new : D) → device.tells → IsOnlyRead device first mid → IsMade device mid m → IsOnlyRead device m new → IsMade device first new

@@ -6,7 +6,8 @@ use Rattle.buffer_frames.specs.declared.error.OpenFault.{OpenFault}
 use Rattle.buffer_frames.specs.declared.error.OpenFault.TheVariants.{NotAStore, DiskFault, OutOfMemory}
 
 -- The counts of a call that reads: no write failed.
-pub record ReadHasCause {D T : Type 0} (device : Disk D) (old new : D) (result : Result T OpenFault) : Type 0 where
+pub record ReadHasCause {D T : Type 0} (device : Disk D) (old new : D)
+    (result : Result T OpenFault) : Type 0 where
   pub later : device.fault_count old ≤ device.fault_count new
   pub fault : IsErrOf result DiskFault → Rose (device.fault_count old) (device.fault_count new)
   pub no_write : device.write_fault_count new ≡ device.write_fault_count old

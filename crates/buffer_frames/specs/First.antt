@@ -23,5 +23,8 @@ first_record = record {
   number = 1;
   xid = 0;
   kind = kind.Create;
-  changes = imaged 0 (first_page (body.Meta 0 0 0)) ∷ imaged 1 (first_page (body.EntryLeaf [] [])) ∷ [];
+  changes =
+      imaged 0 (first_page (body.Meta 0 0 0))
+      ∷ imaged 1 (first_page (body.EntryLeaf [] []))
+      ∷ [];
 }

@@ -17,16 +17,18 @@ use Rattle.buffer_frames.specs.Counted.{AreNumbered, AreRecords, IsCounted}
 use Rattle.buffer_frames.specs.Opens.{IsLogOf}
 
 -- What contracts see of a journal: the device, the open log, the state of its records, how many
--- commits are flushed, and whether the opening's Abort is still owed.
+-- commits are flushed, whether the opening's Abort is still owed, and the device just after the
+-- opening.
 pub record JournalValue (D : Type 0) : Type 0 where
   pub disk : D
   pub wal : Wal
   pub state : StateValue
   pub flushed : ℕ
   pub owes : Bool
+  pub opened : D
 
--- how many commits the state of these records has, for a store of the same bounds; of a legal log as
--- many as it has records of kind Commit
+-- how many commits the state of these records has, for a store of the same bounds; of a legal log
+-- as many as it has records of kind Commit
 abbrev pub commits_in : StateValue → Log → ℕ
 commits_in s R = length (state_of s.pages s.xid_limit R).deleted
 
@@ -93,7 +95,8 @@ MayFollow device j records =
 
 -- The files' pages are those of an image before, and their log counts the records of the one log or
 -- of the other.
-pub record CountsEither {D : Type 0} (device : Disk D) (d : D) (R R' : Log) (c : Files) : Type 0 where
+pub record CountsEither {D : Type 0} (device : Disk D) (d : D) (R R' : Log) (c : Files)
+    : Type 0 where
   pub before : Files
   pub was : images_now device d before
   pub pages : c.pages ≡ before.pages

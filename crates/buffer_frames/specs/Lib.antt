@@ -4,6 +4,7 @@ pub mod NoStore
 pub mod Opens
 pub mod First
 pub mod Journals
+pub mod Beginnings
 pub mod LogCauses
 pub mod Logging
 pub mod Opening

@@ -8,11 +8,14 @@ ghost use Rattle.std.specs.List.{AllByRecursion};
 ghost use Rattle.page_types.specs.Records.{IsRecord, record_bytes};
 ghost use Rattle.core_state.specs.Log.{Log};
 ghost use Rattle.buffer_frames.specs.Journals.{Stands, logged, logged_bytes, next_number, AreNext, IsOneInsert, MayFollow, CountsEither};
+ghost use Rattle.buffer_frames.specs.Beginnings.{KeepsHistory};
 ghost use Rattle.buffer_frames.specs.Logging.{IsSameJournal, HasLogged};
 ghost use Rattle.buffer_frames.specs.LogCauses.{WriteHasCause, GoesDown, LogFullWhere};
+ghost use Rattle.buffer_frames.specs.Inner.Following.{MayGoOn};
 ghost use Rattle.buffer_frames.specs.declared.log_error.LogError.TheVariants.{DiskFault, LogFull, Down, OutOfMemory};
 
 use crate::inserting::{owed_abort, spell, step_insert, step_owed};
+use crate::laws::counted_are_one;
 use crate::log_error::LogError;
 use crate::refusals::refusal_of;
 use core_state::State;
@@ -38,14 +41,15 @@ pub struct Journal<D: Disk> {
     pub(crate) flushed: u32,
     // an Abort comes before the next records
     pub(crate) owes: bool,
-    // the device at the opening
-    pub(crate) first: Snapshot<D>,
+    // the device just after the opening
+    pub(crate) opened: Snapshot<D>,
 }
 
 impl<D: Disk> Model for Journal<D> {
     ghost use Rattle.std.specs.Prelude.{◌+◌, ◌^◌, ◌≤◌};
     ghost use Rattle.wal.specs.Waiting.{IsReadToEnd};
     ghost use Rattle.buffer_frames.specs.Journals.{JournalValue};
+    ghost use Rattle.buffer_frames.specs.Beginnings.{KeepsHistory};
 
     ghost Value = { JournalValue D };
 
@@ -55,9 +59,18 @@ impl<D: Disk> Model for Journal<D> {
       state = j.state.value;
       flushed = j.flushed;
       owes = j.owes;
+      opened = j.opened.value;
     } };
 
-    ghost invariant = { λ j. IsReadToEnd j.wal × (j.state.value.records + 2 ≤ 2 ^ 63) };
+    ghost invariant = { λ j. IsReadToEnd j.wal × (j.state.value.records + 2 ≤ 2 ^ 63)
+        × KeepsHistory D.Disk (record {
+          disk = j.disk;
+          wal = j.wal;
+          state = j.state.value;
+          flushed = j.flushed;
+          owes = j.owes;
+          opened = j.opened.value;
+        }) };
 }
 
 impl<D: Disk> Journal<D> {
@@ -73,6 +86,7 @@ impl<D: Disk> Journal<D> {
             → OnOk result (Stands D.Disk self.new (logged self.old.owes records.now R)) }
         ensures owes { OnOk result (self.new.owes ≡ false) }
         ensures same { limit_of self.new.wal ≡ limit_of self.old.wal }
+        ensures opened { self.new.opened ≡ self.old.opened }
 
         // The device: no call of it but for the flush.
         ensures idle { length (waiting self.old.wal) < MOST_WAITING
@@ -118,6 +132,7 @@ impl<D: Disk> Journal<D> {
         ensures up { OnOk result (down_of self.new.wal ≡ None) }
         ensures same { (self.new.state ≡ self.old.state) × (self.new.owes ≡ self.old.owes)
             × (limit_of self.new.wal ≡ limit_of self.old.wal) }
+        ensures opened { self.new.opened ≡ self.old.opened }
         ensures idle { length (waiting self.old.wal) < MOST_WAITING
             → IsOk result × (self.new ≡ self.old) }
         ensures any_moment { D.tells → (R : Log) (s : Stands D.Disk self.old R)
@@ -143,13 +158,16 @@ impl<D: Disk> Journal<D> {
         requires short { length (logged_bytes self.old records.now) ≤ MOST_WAITING }
         requires few { length (waiting self.old.wal) < MOST_WAITING }
         requires up { down_of self.old.wal ≡ None }
+        requires follow { MayGoOn D.Disk self.old records.now }
         ensures ok { OnOk result (HasLogged self.old self.new records.now) }
         ensures refused { OnErr result (IsSameJournal self.old self.new) }
+        ensures opened { self.new.opened ≡ self.old.opened }
         ensures full { LogFullWhere (limit_of self.old.wal)
             (end_of self.old.wal + FRAME_BYTES + length (waiting self.old.wal)
             + length (logged_bytes self.old records.now) + 1) result }
         ensures error { IfErr result (λ e. (e ≡ LogFull) ⊎ (e ≡ OutOfMemory)) }
     {
+        counted_are_one();
         let number = self.state.length() + 1;
         if number > MOST_RECORDS {
             return Err(LogError::OutOfMemory);
@@ -190,6 +208,7 @@ impl<D: Disk> Journal<D> {
             × (self.new.flushed ≡ length self.old.state.deleted)) }
         ensures same { (self.new.state ≡ self.old.state) × (self.new.owes ≡ self.old.owes)
             × (limit_of self.new.wal ≡ limit_of self.old.wal) }
+        ensures opened { self.new.opened ≡ self.old.opened }
 
         // The device: no call of it where nothing waits.
         ensures idle { waiting self.old.wal ≡ [] → (self.new.disk ≡ self.old.disk)
@@ -208,6 +227,7 @@ impl<D: Disk> Journal<D> {
             (down_of self.new.wal) }
         ensures cause { WriteHasCause D.Disk self.old.disk self.new.disk result }
     {
+        counted_are_one();
         match self.wal.flush(&mut self.disk) {
             Ok(()) => {
                 self.flushed = self.state.commits();
@@ -215,6 +235,13 @@ impl<D: Disk> Journal<D> {
             }
             Err(error) => Err(refusal_of(error)),
         }
+    }
+
+    /// What a crash at a moment since the opening leaves opens to a beginning of the history.
+    pub fn keeps_history(&self)
+        ensures { KeepsHistory D.Disk self.now }
+    {
+        let _ = &self.opened;
     }
 
     /// The state of all records, those included that wait.

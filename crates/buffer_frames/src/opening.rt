@@ -11,18 +11,19 @@ ghost use Rattle.wal.specs.Waiting.{waiting, end_of, limit_of, down_of, IsReadTo
 ghost use Rattle.wal.specs.declared.sizes.TheConstants.{LOG_LIMIT};
 ghost use Rattle.page_types.specs.Records.{record_bytes};
 ghost use Rattle.core_state.specs.Log.{Log};
+ghost use Rattle.core_state.specs.History.{History};
 ghost use Rattle.core_state.specs.States.{step_of};
 ghost use Rattle.buffer_frames.specs.Causes.{ReadHasCause, NotAStoreWhere};
 ghost use Rattle.buffer_frames.specs.First.{first_record as first};
 ghost use Rattle.buffer_frames.specs.NoStore.{IsNoStore};
-ghost use Rattle.buffer_frames.specs.Opens.{StartedFrom, OpensAsBefore};
+ghost use Rattle.buffer_frames.specs.Opens.{OpensTo, StartedFrom, OpensAsBefore};
 ghost use Rattle.buffer_frames.specs.Opening.{IsOpenedAt, without_disk};
 ghost use Rattle.buffer_frames.specs.Inner.Making.{IsImageBefore, IsMade, HasRun, RunsFrom, IsReadAs, HasBegun, MakesHasCause, AreBelowLast};
 ghost use Rattle.buffer_frames.specs.declared.error.OpenFault.TheVariants.{NotAStore, DiskFault, OutOfMemory};
 
 use crate::error::OpenFault;
 use crate::journal::{Journal, MOST_RECORDS};
-use crate::laws::stores_are_known;
+use crate::laws::{counted_are_one, stores_are_known};
 use crate::making::first_record;
 use crate::page_map::PageMap;
 use crate::reading::read_records;
@@ -202,6 +203,7 @@ fn open_parts<D: Disk>(alloc: Global, disk: &mut D, settings: &Settings) -> Resu
           state = (x.state).value;
           flushed = x.flushed;
           owes = x.owes;
+          opened = disk.new;
         }) x.map) }
     ensures ready { IfOk result (λ x. IsReadToEnd x.wal) }
     ensures fits { IfOk result (λ x. ((x.state).value).records + 2 ≤ 2 ^ 63) }
@@ -237,22 +239,28 @@ pub fn open<D: Disk>(
     ensures opened { IfOk result
         (λ x. (c0 : ℕ) × IsOpenedAt D.Disk settings.now disk c0 x.0 x.1) }
     ensures keeps_pages { D.tells → IfOk result (λ x. KeepsPages D.Disk disk (x.0).disk) }
+    ensures since { IfOk result (λ x. (x.0).opened ≡ (x.0).disk) }
+    ensures opens_on { D.tells → IfOk result (λ x. (H : History) → OpensTo (D.seen disk) H
+        → OpensTo (D.seen (x.0).disk) H) }
 
     // The refusals.
     ensures no_store { D.tells → NotAStoreWhere (IsNoStore (D.seen disk)) (without_disk result) }
     ensures refused { D.tells → StartedFrom D.Disk disk
         → IfErr result (λ e. OpensAsBefore D.Disk disk e.0) }
     ensures refused_pages { D.tells → IfErr result (λ e. KeepsPages D.Disk disk e.0) }
+    ensures refused_seen { D.tells
+        → IfErr result (λ e. (D.seen e.0).pages ≡ (D.seen disk).pages) }
     ensures only_read { IfErr result (λ e. e.1 ≡ NotAStore → IsOnlyRead D.Disk disk e.0) }
     ensures fault { IfErr result (λ e. e.1 ≡ DiskFault
         → Rose (D.fault_count disk) (D.fault_count e.0)) }
     ensures later { IfErr result (λ e. D.fault_count disk ≤ D.fault_count e.0) }
 {
     one_list();
+    counted_are_one();
     let mut disk = disk;
-    let first = Snapshot::of(&disk);
     match open_parts(alloc, &mut disk, settings) {
         Ok(parts) => {
+            let opened = Snapshot::of(&disk);
             let journal = Journal {
                 alloc,
                 disk,
@@ -260,7 +268,7 @@ pub fn open<D: Disk>(
                 state: parts.state,
                 flushed: parts.flushed,
                 owes: parts.owes,
-                first,
+                opened,
             };
             Ok((journal, parts.map))
         }

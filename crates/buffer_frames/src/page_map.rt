@@ -96,12 +96,13 @@ impl PageMap {
         Ok(())
     }
 
-    /// Changes a page that is there, as the record with this number does. A refusal leaves all as it
-    /// is.
+    /// Changes a page that is there, as the record with this number does. A refusal leaves all as
+    /// it is.
     pub(crate) fn change(&mut self, number: u64, change: &Change) -> Result<(), BadChange>
         ensures done { OnOk result ((b : List ℕ) → lookup self.old change.now.page ≡ Some b
             → (p : ℕ) → lookup self.new p
-            ≡ cond (change.now.page == p) (Some (edited number change.now.edit b)) (lookup self.old p)) }
+            ≡ cond (change.now.page == p) (Some (edited number change.now.edit b))
+            (lookup self.old p)) }
         ensures ok { (b : List ℕ) → lookup self.old change.now.page ≡ Some b
             → IsOk result ↔ CanEdit change.now.edit b }
         ensures same { OnErr result ((p : ℕ) → lookup self.new p ≡ lookup self.old p) }

@@ -38,7 +38,8 @@ fn empty_page(alloc: Global) -> Result<Vec<u8>, AllocError>
 
 /// A page as it stands in the page file, with zeros past the end.
 fn read_page<D: Disk>(alloc: Global, disk: &mut D, page: u32) -> Result<RawPage, OpenFault>
-    ensures bytes { D.tells → IfOk result (λ raw. raw ≡ page_or_zeros (D.seen disk.old).pages page) }
+    ensures bytes { D.tells
+        → IfOk result (λ raw. raw ≡ page_or_zeros (D.seen disk.old).pages page) }
     ensures error { IfErr result (λ e. (e ≡ DiskFault) ⊎ (e ≡ OutOfMemory)) }
     ensures keeps { IsOnlyRead D.Disk disk.old disk.new }
     ensures cause { ReadHasCause D.Disk disk.old disk.new result }
@@ -188,8 +189,8 @@ fn read_row<D: Disk>(
     Ok(())
 }
 
-/// All records of a log that was just opened, each of them into the state and into the pages that it
-/// changes. A page whose first change is a delta begins as it stands in the page file.
+/// All records of a log that was just opened, each of them into the state and into the pages that
+/// it changes. A page whose first change is a delta begins as it stands in the page file.
 pub(crate) fn read_records<D: Disk>(
     alloc: Global,
     disk: &mut D,

@@ -1,6 +1,10 @@
+ghost use Rattle.std.specs.Prelude.{◌≡◌, []};
+
+use crate::silent::Silent;
 use buffer_frames::{Journal, LogError, OpenFault, PageMap, open};
 use core_state::Settings;
 use disk_trait::{Disk, File, MemoryDisk};
+use page_types::{Changes, Kind, Record};
 use std::alloc::Global;
 use std::test::Fail;
 
@@ -14,7 +18,7 @@ const SETTINGS: Settings = Settings {
 };
 
 /// The journal of a device, and the pages of its log.
-fn opened(alloc: Global, disk: MemoryDisk) -> Result<(Journal<MemoryDisk>, PageMap), OpenFault> {
+fn opened<D: Disk + Drop>(alloc: Global, disk: D) -> Result<(Journal<D>, PageMap), OpenFault> {
     match open(alloc, disk, &SETTINGS) {
         Ok(opened) => Ok(opened),
         Err((_, fault)) => Err(fault),
@@ -42,6 +46,66 @@ fn a_journal_is_opened_again(rt: HostRuntime) -> Result<(), Fail> {
     assert_eq!(rt; kinds(&pages), [Some(1), Some(5), None]);
     assert_eq!(rt; (journal.state().length(), journal.next_number()), (1, 3));
     assert_eq!(rt; (journal.state().commits(), journal.fault()), (0, None));
+    Ok(())
+}
+
+/// A record that changes no page.
+fn plain(alloc: Global, number: u64, xid: u32, kind: Kind) -> Record
+    ensures { result ≡ record { number = number; xid = xid; kind = kind; changes = [] } }
+{
+    Record {
+        number,
+        xid,
+        kind,
+        changes: Changes::new(alloc),
+    }
+}
+
+/// Logs the records of an insert that changes no page.
+fn log_insert(alloc: Global, journal: &mut Journal<Silent>) -> Result<(), LogError> {
+    let number = journal.next_number();
+    let xid = journal.state().next_xid();
+    if xid >= SETTINGS.xid_limit {
+        return Err(LogError::OutOfMemory);
+    }
+    let place = Kind::PlaceHead {
+        item: 8192,
+        serial: 1,
+    };
+    let commit = journal.state().commits().saturating_add(1);
+    let records = [
+        plain(alloc, number, xid, Kind::Begin),
+        plain(alloc, number + 1, xid, place),
+        plain(alloc, number + 2, xid, Kind::Commit { commit }),
+    ];
+    journal.log(&records)
+}
+
+/// The records of two inserts wait, the first behind the owed Abort. Behind a flush an opening finds
+/// them.
+#[test]
+fn inserts_are_logged(rt: HostRuntime) -> Result<(), Fail> {
+    let alloc = rt.alloc();
+    let disk = Silent(MemoryDisk::new(alloc, Vec::new(alloc)));
+    let (mut journal, _) = opened(alloc, disk)?;
+    journal.flush()?;
+    let (mut journal, _) = opened(alloc, journal.close())?;
+    assert_eq!(rt; journal.next_number(), 3);
+    for (length, commits) in [(5, 1), (8, 2)] {
+        log_insert(alloc, &mut journal)?;
+        assert_eq!(rt;
+            (journal.state().length(), journal.state().commits()),
+            (length, commits)
+        );
+        assert_eq!(rt; journal.flushed(), 0);
+    }
+    journal.flush()?;
+    assert_eq!(rt; journal.flushed(), 2);
+    let (journal, _) = opened(alloc, journal.close())?;
+    assert_eq!(rt;
+        (journal.state().length(), journal.state().commits()),
+        (8, 2)
+    );
     Ok(())
 }
 

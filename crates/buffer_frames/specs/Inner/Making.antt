@@ -6,7 +6,7 @@ use Rattle.disk_trait.specs.Runs.{images_now, LeavesOnly}
 use Rattle.disk_trait.specs.declared.device.Disk.{Ghosts as Disk}
 use Rattle.wal.specs.Batches.{IsUnborn, Opens}
 use Rattle.wal.specs.Creating.{From, created}
-use Rattle.wal.specs.Reading.{IsFresh}
+use Rattle.wal.specs.Reading.{IsFresh, IsOnlyRead}
 use Rattle.wal.specs.Settled.{LogIs, Settled}
 use Rattle.wal.specs.Waiting.{waiting, end_of, limit_of, down_of, IsReadToEnd}
 use Rattle.wal.specs.declared.log.Wal.{Wal}
@@ -54,8 +54,8 @@ module _ {D : Type 0} (device : Disk D) where
     pub born : IsUnborn (device.seen new).log → ⊥
     pub durable : LogIs device (device.seen new).log new
 
-  -- Both files were synced up to `mid`, at c0. From then on a crash leaves the pages as they are read,
-  -- and the log or an empty one.
+  -- Both files were synced up to `mid`, at c0. From then on a crash leaves the pages as they are
+  -- read, and the log or an empty one.
   pub record HasRun (first : D) (c0 : ℕ) (disk : D) : Type 0 where
     pub mid : D
     pub at : device.clock mid ≡ c0
@@ -65,8 +65,7 @@ module _ {D : Type 0} (device : Disk D) where
 
   -- nothing was written, or both files were synced before
   abbrev pub RunsFrom : D → D → Type 0
-  RunsFrom first disk =
-      LeavesOnly device first disk (images_now device first) ⊎ ((c0 : ℕ) × HasRun first c0 disk)
+  RunsFrom first disk = IsOnlyRead device first disk ⊎ ((c0 : ℕ) × HasRun first c0 disk)
 
   -- the records of the files, read into a state and a map of pages
   pub record IsReadAs (settings : Settings) (old new : D) (wal : Wal) (state : StateValue)

@@ -47,7 +47,8 @@ pub record IsSlotOf (slots : List (Option Head)) (H : History) (place : ℕ) : T
   pub head : Head
   pub vector : Vector
   pub slot : slot_at slots place ≡ Some head
-  pub commit : slice_get H place ≡ Some (insertion (record { name = name_of place; vector = vector }))
+  pub commit : slice_get H place
+      ≡ Some (insertion (record { name = name_of place; vector = vector }))
   pub is_head : IsHeadOf place vector head
 
 -- The slots of the heap page are the heads of the history's documents, in order; without one the
@@ -155,7 +156,8 @@ RoomIsEnough =
     (R : Log) (H : History) (P : Pages) (number place : ℕ) (v : Vector) (h : Head) → IsLogOf R H
     → Shows R P → number + 1 < 2 ^ 64 → place ≡ length H → IsHeadOf place v h
     → h.inserted_by < xid_bound
-    → sum_by head_room (inserts H) + head_room (record { name = name_of place; vector = v }) ≤ most_body
+    → sum_by head_room (inserts H) + head_room (record { name = name_of place; vector = v })
+    ≤ most_body
     → IsPage (heap_with (number + 1) (slots_of (P heap_page) ++ Some h ∷ []))
 
 -- the first document changes the heap page
@@ -182,15 +184,16 @@ pub record Draws (s : StateValue) (owes : Bool) (number xid : ℕ) : Type 0 wher
   pub xid_is : xid ≡ suc (length s.fates)
   pub xid_fits : xid < xid_bound
 
--- So the records of an insert, with numbers that the state gave and a document that has room, may be
--- logged, and the history is one document longer.
+-- So the records of an insert, with numbers that the state gave and a document that has room, may
+-- be logged, and the history is one document longer.
 abbrev pub InsertFollows : Type 0
 InsertFollows =
     (owes : Bool) (R : Log) (H : History) (P : Pages) (s : StateValue) (number xid place : ℕ)
     (v : Vector) (h : Head)
     → IsLogOf R H → R ≢ [] → Shows R P → IsStateOf R H s → Draws s owes number xid
     → place ≡ length H → IsHeadOf place v h → h.inserted_by ≡ xid
-    → sum_by head_room (inserts H) + head_room (record { name = name_of place; vector = v }) ≤ most_body
+    → sum_by head_room (inserts H) + head_room (record { name = name_of place; vector = v })
+    ≤ most_body
     → IsLogOf (logged owes (inserting number xid place (slots_of (P heap_page) ++ Some h ∷ [])) R)
     (H ++ insertion (record { name = name_of place; vector = v }) ∷ [])
     × AreNext number (inserting number xid place (slots_of (P heap_page) ++ Some h ∷ []))

@@ -40,7 +40,8 @@ BeginsAs (Image bytes) old bytes' = ⊤
 BeginsAs (Delta front start cut bytes) old bytes' = old ≡ bytes'
 
 -- these changes were made to the map, each of them to the page as it stood before them all
-pub record MakesChanges (file : List ℕ) (map map' : PageMap) (number : ℕ) (cs : List Change) : Type 0 where
+pub record MakesChanges (file : List ℕ) (map map' : PageMap) (number : ℕ) (cs : List Change)
+    : Type 0 where
   pub can : (c : Change) → In c cs → CanEdit c.edit (bytes_over file map c.page)
   pub bytes : (p : ℕ) → bytes_over file map' p ≡ after_changes number cs p (bytes_over file map p)
   pub there : (p : ℕ) → is_some (lookup map' p) ≡ (stands p cs || is_some (lookup map p))
