@@ -1,6 +1,7 @@
 // Texts about the limits, which are made here since they are too large for files.
-use crate::case::{Case, Wanted, run};
+use crate::case::{Turn, Wanted, run};
 use crate::compare::report;
+use disk_trait::MemoryDisk;
 use std::alloc::{AllocError, Global};
 use std::ops::Range;
 use std::test::Fail;
@@ -31,18 +32,19 @@ fn operands(alloc: Global, count: usize, quote: &str, between: &str) -> Result<S
 }
 
 // A script that has refusals, with what it is to print.
-fn case_of(alloc: Global, script: String, expected: String) -> Result<Case, AllocError> {
-    Ok(Case {
+fn turn_of(alloc: Global, script: String, expected: String) -> Result<Turn, AllocError> {
+    Ok(Turn {
         words: vec![in alloc; String::from_str(alloc, "run")?]?,
         script: script.into_bytes(),
         wanted: Wanted {
             text: expected.into_bytes(),
             status: 1,
+            left: None,
         },
     })
 }
 
-fn shown_vectors(alloc: Global) -> Result<Case, AllocError> {
+fn shown_vectors(alloc: Global) -> Result<Turn, AllocError> {
     let all = lexemes(alloc, 0..513, "", "")?;
     let most = lexemes(alloc, 0..512, "", "")?;
     let first = lexemes(alloc, 0..256, "", "")?;
@@ -55,11 +57,11 @@ fn shown_vectors(alloc: Global) -> Result<Case, AllocError> {
     let expected = format!(in alloc;
         "error 7 vector size 1049598\nvector {most}\nerror 7 vector size 1049598\nvector {first}\n"
     )?;
-    case_of(alloc, script, expected)
+    turn_of(alloc, script, expected)
 }
 
 // 512 of these lexemes and 512 positions are just too much, also where they are stripped.
-fn stripped_vectors(alloc: Global) -> Result<Case, AllocError> {
+fn stripped_vectors(alloc: Global) -> Result<Turn, AllocError> {
     let all = lexemes(alloc, 0..512, "", ":1")?;
     let most = lexemes(alloc, 0..511, "", ":1")?;
     let last = lexemes(alloc, 511..512, "", "")?;
@@ -68,10 +70,10 @@ fn stripped_vectors(alloc: Global) -> Result<Case, AllocError> {
     )?;
     let shown = lexemes(alloc, 0..512, "'", "")?;
     let expected = format!(in alloc; "error 7 vector size 1048576\nvector {shown}\n")?;
-    case_of(alloc, script, expected)
+    turn_of(alloc, script, expected)
 }
 
-fn asked_queries(alloc: Global) -> Result<Case, AllocError> {
+fn asked_queries(alloc: Global) -> Result<Turn, AllocError> {
     let many = operands(alloc, 16385, "", "|")?;
     let most = operands(alloc, 16384, "", "|")?;
     let marks = "!".repeat(alloc, 32766)?;
@@ -84,11 +86,11 @@ fn asked_queries(alloc: Global) -> Result<Case, AllocError> {
     let expected = format!(in alloc;
         "query {most}\nerror 8 query size\nquery {marks}'a'\nerror 8 query size\nquery 'a'\n"
     )?;
-    case_of(alloc, script, expected)
+    turn_of(alloc, script, expected)
 }
 
 // A join that is too large comes before a fault of the part behind it. What is refused is not stored.
-fn statements_of_sessions(alloc: Global) -> Result<Case, AllocError> {
+fn statements_of_sessions(alloc: Global) -> Result<Turn, AllocError> {
     let first = lexemes(alloc, 0..256, "", "")?;
     let second = lexemes(alloc, 256..513, "", "")?;
     let marks = "!".repeat(alloc, 32766)?;
@@ -98,26 +100,28 @@ fn statements_of_sessions(alloc: Global) -> Result<Case, AllocError> {
     let expected = format!(in alloc;
         "@1 error 7 vector size 1049598\n@2 error 7 vector size 1049598\n@3 error 2 vector 2\n@4 error 8 query size\n@1 ok 2/0#1\n@5 found 2/0#1\n"
     )?;
-    case_of(alloc, script, expected)
+    turn_of(alloc, script, expected)
 }
 
 #[test]
 fn texts_about_the_limits(rt: HostRuntime) -> Result<(), Fail> {
     let alloc = rt.alloc();
-    let cases = [
+    let turns = [
         ("shown vectors", shown_vectors(alloc)?),
         ("stripped vectors", stripped_vectors(alloc)?),
         ("asked queries", asked_queries(alloc)?),
         ("statements of sessions", statements_of_sessions(alloc)?),
     ];
-    for (name, case) in cases {
-        let Case {
+    for (name, turn) in turns {
+        let Turn {
             words,
             script,
             wanted,
-        } = case;
-        let outcome = run(&rt, alloc, &words, script);
-        let agrees = report(&rt, name, &wanted, outcome.status, outcome.out.bytes())?;
+        } = turn;
+        let store = MemoryDisk::new(alloc, Vec::new(alloc));
+        let ended = run(&rt, alloc, &words, script, store);
+        let text = ended.out.bytes();
+        let agrees = report(&rt, name, &wanted, ended.status, text, b"")?;
         assert!(rt; agrees, "{name}");
     }
     Ok(())

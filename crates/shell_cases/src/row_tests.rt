@@ -1,8 +1,9 @@
 // Runs over devices, sources and sinks of which calls fail, or over a log that has bytes.
-use crate::device_tests::{Run, calls_of, log_of};
+use crate::case::{Ended, log_of};
+use crate::device_tests::{INSERT, run_on};
 use disk_trait::{Disk, File, MemoryDisk, MemorySink, MemorySource};
 use shell_run::{NoGate, run_shell};
-use std::alloc::Global;
+use std::alloc::{AllocError, Global};
 use std::sync::Wait;
 use std::test::Fail;
 use std::thread::Threads;
@@ -12,8 +13,10 @@ use std::thread::Threads;
 struct Row {
     /// What it shows.
     about: &'static str,
-    /// The log's bytes before the run.
+    /// The log's bytes before it.
     log: &'static [u8],
+    /// How many runs of one insert come before it.
+    before: u32,
     /// The script.
     script: &'static [u8],
     /// How many bytes of it a read gives.
@@ -22,7 +25,7 @@ struct Row {
     reads: &'static [u64],
     /// The writes to the sink that fail.
     writes: &'static [u64],
-    /// The call of the device that fails, counted behind those of a run of one insert; 0 for none.
+    /// The call of the device that fails, counted behind those of one run more of one insert; 0 for none.
     call: u64,
     /// The status.
     status: u8,
@@ -32,15 +35,12 @@ struct Row {
     left: Option<&'static [u8]>,
 }
 
-/// A statement.
-const INSERT: &[u8] = b"@1 insert vector 'a:1'\n";
-
 // The store's gate, open, the name of the format, and the first batch's gate, closed.
-const NEW_LOG: &[u8] = b"\x01GINSH STORE 0001\0";
+const NEW_LOG: &[u8] = b"\x01GINSH DRAFT 0001\0";
 
-// One insert behind the header: its gate, the entry's length, the entry, and the next gate, closed.
-const LOG_OF_ONE: &[u8] =
-    b"\x01GINSH STORE 0001\x01\x13\0\0\0\x01\0\0\0\0\0\0\0\x01\0\0\0\x01\0a\x01\0\x01\0\0";
+// A log whose batch has no records: its gate, a length, a document's serial and bytes, and the next gate, closed.
+const OTHER_LOG: &[u8] =
+    b"\x01GINSH DRAFT 0001\x01\x13\0\0\0\x01\0\0\0\0\0\0\0\x01\0\0\0\x01\0a\x01\0\x01\0\0";
 
 // Two inserts, and more behind them.
 const FAILING: &[u8] = b"@1 insert vector 'a:1'
@@ -92,10 +92,23 @@ ok
 error 1 statement 19
 ";
 
+// Two inserts and a search, in a second run.
+const SECOND: &[u8] = b"@1 insert vector 'a:1'
+@1 insert vector 'b:1'
+@1 search 'a'
+";
+
+// What they are answered where the second insert fails.
+const SECOND_REPLIES: &[u8] = b"@1 ok 2/1#2
+@1 error 15 device
+@1 error 14 down 1
+";
+
 /// A run of one insert on a new store.
 const PLAIN: Row = Row {
     about: "one insert",
     log: b"",
+    before: 0,
     script: INSERT,
     piece: 4096,
     reads: &[],
@@ -103,10 +116,10 @@ const PLAIN: Row = Row {
     call: 0,
     status: 0,
     text: b"@1 ok 2/0#1\n",
-    left: Some(LOG_OF_ONE),
+    left: None,
 };
 
-/// A run in which a call of the second insert fails. An insert writes the batch, syncs it, writes its gate and syncs that.
+/// A run in which a call of the second insert fails. An insert writes a batch, syncs it, writes its gate and syncs it.
 /// Texts are still read behind the failure, and a statement whose text is good is refused since the store is down.
 const DOWN: Row = Row {
     about: "the second insert's write fails",
@@ -114,7 +127,6 @@ const DOWN: Row = Row {
     call: 1,
     status: 3,
     text: FAILING_REPLIES,
-    left: None,
     ..PLAIN
 };
 
@@ -128,7 +140,7 @@ const REFUSED: Row = Row {
     ..PLAIN
 };
 
-const ROWS: [Row; 10] = [
+const ROWS: [Row; 11] = [
     PLAIN,
     Row {
         about: "an empty script leaves a new log",
@@ -169,30 +181,59 @@ const ROWS: [Row; 10] = [
         call: 4,
         ..DOWN
     },
+    Row {
+        about: "an insert's write fails in the second run",
+        before: 1,
+        script: SECOND,
+        text: SECOND_REPLIES,
+        ..DOWN
+    },
     REFUSED,
     Row {
-        about: "a log of one insert",
-        log: LOG_OF_ONE,
-        left: Some(LOG_OF_ONE),
+        about: "a log of another form",
+        log: OTHER_LOG,
+        left: Some(OTHER_LOG),
         ..REFUSED
     },
 ];
 
-/// The run of a row, where a run of one insert makes so many calls of the device.
-fn run_of<R: Threads + Wait + Sync>(
+/// So many runs of one insert.
+fn run_before<R: Threads + Wait + Sync>(
+    rt: &R,
+    alloc: Global,
+    count: u32,
+    store: MemoryDisk,
+) -> Result<MemoryDisk, AllocError> {
+    let mut store = store;
+    for _ in 0..count {
+        store = run_on(rt, alloc, INSERT, store)?.device;
+    }
+    Ok(store)
+}
+
+/// The calls of a row's device that fail.
+fn fails_of<R: Threads + Wait + Sync>(
     rt: &R,
     alloc: Global,
     row: Row,
-    calls: u64,
-) -> Result<Run, Fail> {
+) -> Result<Vec<u64>, AllocError> {
     let mut fails = Vec::new(alloc);
     if row.call > 0 {
+        let empty = MemoryDisk::new(alloc, Vec::new(alloc));
+        let count = row.before.saturating_add(1);
+        let calls = run_before(rt, alloc, count, empty)?.calls();
         fails.push(calls.saturating_add(row.call))?;
     }
-    let mut store = MemoryDisk::new(alloc, fails);
+    Ok(fails)
+}
+
+/// The run of a row.
+fn run_of<R: Threads + Wait + Sync>(rt: &R, alloc: Global, row: Row) -> Result<Ended, Fail> {
+    let mut store = MemoryDisk::new(alloc, fails_of(rt, alloc, row)?);
     if !row.log.is_empty() && row.log.len() <= 4096 {
         store.write_at(File::Log, 0, row.log)?;
     }
+    let store = run_before(rt, alloc, row.before, store)?;
     let words = vec![in alloc; String::from_str(alloc, "run")?]?;
     let script = MemorySource::new(
         row.script.to_vec(alloc)?,
@@ -212,13 +253,8 @@ fn has_left(alloc: Global, disk: &mut MemoryDisk, left: Option<&[u8]>) -> Result
 }
 
 /// Whether the run of a row ends and prints as it is to, and leaves the log so.
-fn holds<R: Threads + Wait + Sync>(
-    rt: &R,
-    alloc: Global,
-    row: Row,
-    calls: u64,
-) -> Result<bool, Fail> {
-    let mut run = run_of(rt, alloc, row, calls)?;
+fn holds<R: Threads + Wait + Sync>(rt: &R, alloc: Global, row: Row) -> Result<bool, Fail> {
+    let mut run = run_of(rt, alloc, row)?;
     let left = has_left(alloc, &mut run.device, row.left)?;
     Ok(left && run.status == row.status && run.out.bytes() == row.text)
 }
@@ -226,10 +262,9 @@ fn holds<R: Threads + Wait + Sync>(
 #[test]
 fn runs_over_devices(rt: HostRuntime) -> Result<(), Fail> {
     let alloc = rt.alloc();
-    let calls = calls_of(&rt, alloc, 1)?;
     for place in 0..ROWS.len() {
         let row = ROWS[place];
-        assert!(rt; holds(&rt, alloc, row, calls)?, "{}", row.about);
+        assert!(rt; holds(&rt, alloc, row)?, "{}", row.about);
     }
     Ok(())
 }

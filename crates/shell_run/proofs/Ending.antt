@@ -80,11 +80,16 @@ not_run status (inr (inl h)) = (λ e. omega arith, λ e. omega arith, λ e. omeg
 not_run status (inr (inr h)) = (λ e. omega arith, λ e. omega arith, λ e. omega arith)
 
 -- the status of a run that stopped within its lines
-pub stopped_status : (stop : Stop) (status : ℕ) → (stop ≡ SinkFault) ⊎ (stop ≡ OutOfMemory) → status ≡ stop_number stop → (status ≡ 5) ⊎ (status ≡ 7)
-stopped_status stop status (inl s) e = inr (e ∙ ap stop_number s)
-stopped_status stop status (inr s) e = inl (e ∙ ap stop_number s)
+pub record Stopped (stop : Stop) (status : ℕ) : Type 0 where
+  pub number : (status ≡ 5) ⊎ (status ≡ 7)
+  pub at_7 : status ≡ 7 → stop ≡ SinkFault
 
-pub not_four : (failed refused : Bool) (status : ℕ) → status ≡ ending_number failed refused → status ≡ 4 → ⊥
-not_four true refused status e f = omega arith
-not_four false true status e f = omega arith
-not_four false false status e f = omega arith
+pub stopped : (stop : Stop) (status : ℕ) → (stop ≡ SinkFault) ⊎ (stop ≡ OutOfMemory) → status ≡ stop_number stop → Stopped stop status
+stopped stop status (inl s) is = record { number = inr (is ∙ ap stop_number s); at_7 = λ e. s }
+stopped stop status (inr s) is = let k : status ≡ 5 = is ∙ ap stop_number s in record { number = inl k; at_7 = λ e. absurd (let x : ⊥ = omega arith in x) }
+
+-- the status of a run that ended
+pub ended : (failed refused : Bool) (status : ℕ) → status ≡ ending_number failed refused → (status ≡ 0) ⊎ (status ≡ 1) ⊎ (status ≡ 3)
+ended true refused status e = inr (inr e)
+ended false true status e = inr (inl e)
+ended false false status e = inl e

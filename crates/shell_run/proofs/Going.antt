@@ -3,14 +3,12 @@ use Rattle.std.proofs.Common.{◌≡◌, ◌⊎◌, inl, inr, ℕ, ◌+◌, ◌^
 use Rattle.std.specs.Prelude.{◌↔◌, Option, Some, None, Result, Ok, Err, Vec}
 use Rattle.std.specs.declared.alloc.Global.{Global}
 use Rattle.std.specs.List.{All, Any}
-use Rattle.std.proofs.lemmas.List.{append-nil, map_push, get_or_append_left}
+use Rattle.std.proofs.lemmas.List.{get_or_append_left}
 use Rattle.std.proofs.lemmas.List.Elements.{All-push}
 use Rattle.std.proofs.lemmas.List.Quantifiers.{Any-push}
 use Rattle.std.proofs.lemmas.Bool.{cases_lt}
 use Rattle.disk_trait.specs.Device.{Rose}
-use Rattle.disk_trait.specs.Runs.{LeavesOnly}
 use Rattle.disk_trait.specs.declared.device.Disk.{Ghosts as Disk}
-use Rattle.wal.specs.Settled.{Settled, BeforeOrAfter}
 use Rattle.ts_base.specs.Vectors.{Vector}
 use Rattle.ts_query.specs.Queries.{Query}
 use Rattle.shell_script.specs.Grammar.{VectorSource, vector_text, vector_by, QuerySource, query_text, query_by, Part, Expr, Statement, insert, search as finding, show, query, parse, define, nothing}
@@ -20,22 +18,22 @@ use Rattle.ts_config.specs.Known.{Known}
 use Rattle.shell_run.specs.Defining.{IsDefined}
 use Rattle.shell_run.specs.Values.{IsValueOf, SourceFails, OthersFail, ExprFails, IsQueryOf, QueryFails, IsRefusedBy, IsShown, IsQueried, IsParsed}
 use Rattle.shell_script.specs.Name.{Name}
-use Rattle.shell_run.specs.History.{Document, Commit, History, IsFull, IsFound, insertion, name_of}
-use Rattle.shell_run.specs.Entries.{entry, document_bytes, IsLogFull}
-use Rattle.shell_run.specs.Run.{Row, Note, Place, Counts, Refusal, Reply, stored, lists, shows_vector, shows_query, shows_tokens, refused, store_full, log_full, down, device as device_fault, memory, no_statement, Run, IsAnswered, HasOwn, IsDownSince, FindsDown, HasFailed, HasCalled, IsOkOfStore, seen_by}
+use Rattle.shell_run.specs.Finding.{Commit, History, IsFull, IsFound}
+use Rattle.shell_run.specs.Found.{Found}
+use Rattle.shell_run.specs.Crash.{StartedFrom}
+use Rattle.shell_run.specs.Run.{Row, Note, Place, Counts, Refusal, Reply, stored, lists, shows_vector, shows_query, shows_tokens, refused, store_full, log_full, transactions_spent, down, device as device_fault, memory, no_statement, Run, IsAnswered, HasOwn, IsDownSince, FindsDown, HasFailed, HasCalled, IsOkOfStore, seen_by}
 use Rattle.shell_run.specs.RanOn.{counts_over}
-use Rattle.shell_run.specs.Inner.Logs.{PutsEntry}
-use Rattle.shell_run.specs.Inner.Stores.{documents_of, StandsFor, Rests, HasLogged, HasStored, IsInDoubt, HasInserted, IsFoundBy, HasAnswered}
-use Rattle.wal.specs.Waiting.{end_of, down_of}
+use Rattle.shell_run.specs.Inner.Opened.{IsFixedSince}
+use Rattle.shell_run.specs.Inner.Stores.{documents_of, disk_of, fault_of, IsUp, StandsFor, PutsCommit, Rests, HasStored, IsInDoubt, HasInserted, IsFoundBy, HasAnswered, next_document}
 use Rattle.shell_script.specs.ReplyView.{name}
 use Rattle.shell_run.specs.Inner.Refusing.{stored_reply, found_reply}
 use Rattle.shell_script.specs.declared.replies.Name as answers
 use Rattle.shell_run.specs.declared.error.StoreError.{StoreError}
 use Rattle.shell_run.specs.declared.error.StoreError.TheVariants as errors
-use Rattle.shell_run.specs.declared.store.Store.{Store}
+use Rattle.shell_run.specs.Inner.StoreValue.{StoreValue}
 use Rattle.shell_run.proofs.Runs.{run_step, get_last}
-use Rattle.shell_run.proofs.Safety.{Safe, Grown, safe_rests, safe_logs}
-use Rattle.shell_run.proofs.Held.{held_lawful, held_normal, held_numbered, held_same, held_stored, held_failed, sees_all, is_full, not_full, too_large, log_is_full, log_not_full, document, next_commit}
+use Rattle.shell_run.proofs.Safety.{Safe, Grown, safe_rests, safe_logs, fixed_on}
+use Rattle.shell_run.proofs.Held.{held_lawful, held_same, held_stored, held_failed, sees_all, is_full, too_large, log_is_full, log_not_full, xids_spent, xids_left, next_commit}
 
 abbrev pub row_of : Place → Known → ℕ → Statement → Reply → Note → Row
 row_of place known line statement reply note = record { place = place; line = line; known = known; statement = statement; reply = reply; note = note }
@@ -90,77 +88,73 @@ pub record IsAnsweredAt (fall : Option ℕ) (known : Known) (statement : Stateme
   pub fell : (n : ℕ) → reply ≡ refused (down n) → fall ≡ Some n
   pub no_failure : HasFailed statement reply → ⊥
 
-module _ {D : Type 0} (device : Disk D) (history : History) where
+module _ {D : Type 0} (device : Disk D) (found : Found) (history : History) where
   -- how a run stands between two statements
-  pub record State (first : D) (c0 : ℕ) (opened disk : D) (s : Store) (commits : History) (rows : List Row) : Type 0 where
-    pub run : Run (counts_over device first opened disk) history commits rows
-    pub counted : Counted (down_of s.wal) rows (device.fault_count first) (device.write_fault_count first) (device.fault_count disk) (device.write_fault_count disk)
-    pub safe : device.tells → Safe device first c0 disk (end_of s.wal) (down_of s.wal) history commits rows
+  pub record State (first : D) (c0 : ℕ) (opened : D) (s : StoreValue D) (commits : History) (rows : List Row) : Type 0 where
+    pub run : Run (counts_over device found first opened (disk_of s)) history commits rows
+    pub counted : Counted (fault_of s) rows (device.fault_count first) (device.write_fault_count first) (device.fault_count (disk_of s)) (device.write_fault_count (disk_of s))
+    pub fixed : device.tells → IsFixedSince device first c0 (disk_of s)
+    pub safe : device.tells → StartedFrom device first → Safe device first c0 s history commits rows
 
   -- The run with one statement more, which is what the documents hold now.
-  pub record Goes (commits : History) (rows : List Row) (old new : Store) (disk disk' : D) (place : Place) (known : Known) (line : ℕ) (statement : Statement) (reply : Reply) : Type 0 where
+  pub record Goes (commits : History) (rows : List Row) (old new : StoreValue D) (place : Place) (known : Known) (line : ℕ) (statement : Statement) (reply : Reply) : Type 0 where
     pub note : Note
     pub more : History
-    pub held : StandsFor new (commits ++ more)
-    pub state : (first : D) (c0 : ℕ) (opened : D) → State first c0 opened disk old commits rows → State first c0 opened disk' new (commits ++ more) (rows ++ row_of place known line statement reply note ∷ [])
+    pub held : StandsFor found new (commits ++ more)
+    pub state : (first : D) (c0 : ℕ) (opened : D) → State first c0 opened old commits rows → State first c0 opened new (commits ++ more) (rows ++ row_of place known line statement reply note ∷ [])
 
-  grown : (s : Store) (k : Counts) (commits : History) (rows : List Row) → StandsFor s commits → Run k history commits rows → Grown device history commits rows
-  grown s k commits rows h run = record {
-    low = length history;
-    since = run.begins;
-    numbered = held_numbered s commits h;
-    normal = held_normal s commits h;
-    within = run.within;
-  }
+  grown : (k : Counts) (commits : History) (rows : List Row) → Run k history commits rows → Grown device history commits rows
+  grown k commits rows run = record { low = length history; since = run.begins; within = run.within }
 
   quiet_note : D → History → Note
   quiet_note disk commits = record { snapshot = length commits; commit = None; faults = 0; writes = 0; count = device.fault_count disk; clock = device.clock disk }
 
-  quiet_state : (old new : Store) (disk disk' first : D) (c0 : ℕ) (opened : D) (commits : History) (rows : List Row) (place : Place) (known : Known) (line : ℕ) (statement : Statement) (reply : Reply) → StandsFor old commits → All (λ (r : Row). r.place.step < place.step) rows → Rests device old new disk disk'
-      → IsAnsweredAt (down_of old.wal) known statement reply
-      → IsAnswered (counts_over device first opened disk) (commits ++ []) known line statement reply (quiet_note disk commits)
-      → State first c0 opened disk old commits rows → State first c0 opened disk' new (commits ++ []) (rows ++ row_of place known line statement reply (quiet_note disk commits) ∷ [])
+  quiet_state : (old new : StoreValue D) (first : D) (c0 : ℕ) (opened : D) (commits : History) (rows : List Row) (place : Place) (known : Known) (line : ℕ) (statement : Statement) (reply : Reply) → StandsFor found old commits → All (λ (r : Row). r.place.step < place.step) rows → Rests device old new
+      → IsAnsweredAt (fault_of old) known statement reply
+      → IsAnswered (counts_over device found first opened (disk_of old)) (commits ++ []) known line statement reply (quiet_note (disk_of old) commits)
+      → State first c0 opened old commits rows → State first c0 opened new (commits ++ []) (rows ++ row_of place known line statement reply (quiet_note (disk_of old) commits) ∷ [])
   unfolding quiet_note
-  quiet_state old new disk disk' first c0 opened commits rows place known line statement reply h last r q answered s =
-      let row : Row = row_of place known line statement reply (quiet_note disk commits) in
-      let k : Counts = counts_over device first opened disk in
-      let held : StandsFor new (commits ++ []) = held_same old new commits h r.store in
+  quiet_state old new first c0 opened commits rows place known line statement reply h last r q answered s =
+      let row : Row = row_of place known line statement reply (quiet_note (disk_of old) commits) in
+      let k : Counts = counts_over device found first opened (disk_of old) in
+      let held : StandsFor found new (commits ++ []) = held_same device found old new commits h r in
       let run : Run k history (commits ++ []) (rows ++ row ∷ []) = run_step k k history commits [] rows row (record {
         run = s.run;
-        grows = record { faults = refl; faults_opened = refl; writes = refl; faults_after = omega arith; writes_after = omega arith };
+        grows = record { faults = refl; faults_opened = refl; writes = refl; found = refl; faults_after = omega arith; writes_after = omega arith };
         snapshot = refl;
         answered = answered;
         own = inl (refl, refl);
-        lawful = held_lawful new (commits ++ []) held;
+        lawful = held_lawful device found new (commits ++ []) held;
         last = last;
-        finds_down = finds_up (down_of old.wal) rows (device.fault_count first) (device.write_fault_count first) (device.fault_count disk) (device.write_fault_count disk) known statement reply s.counted q.asks;
+        finds_down = finds_up (fault_of old) rows (device.fault_count first) (device.write_fault_count first) (device.fault_count (disk_of old)) (device.write_fault_count (disk_of old)) known statement reply s.counted q.asks;
         fell = λ n is. (s.counted.fallen n (q.fell n is)).3;
-        one_count = λ n is. told_one (down_of old.wal) rows n s.counted.told (q.fell n is);
+        one_count = λ n is. told_one (fault_of old) rows n s.counted.told (q.fell n is);
         failed = (λ l. absurd (let x : ⊥ = omega arith in x), λ f. absurd (q.no_failure f));
         called = λ l. absurd (let x : ⊥ = omega arith in x);
         count = refl;
         faults = omega arith;
         writes = omega arith;
       }) in
-      let here : State first c0 opened disk new (commits ++ []) (rows ++ row ∷ []) = record {
-        run = run;
-        counted = subst (λ d. Counted d (rows ++ row ∷ []) (device.fault_count first) (device.write_fault_count first) (device.fault_count disk) (device.write_fault_count disk)) (sym r.store.down)
-            (counted_rests (down_of old.wal) rows row (device.fault_count first) (device.write_fault_count first) (device.fault_count disk) (device.write_fault_count disk) s.counted refl q.fell);
-        safe = λ t. subst (λ d. Safe device first c0 disk (end_of new.wal) d history (commits ++ []) (rows ++ row ∷ [])) (sym r.store.down) (subst (λ e. Safe device first c0 disk e (down_of old.wal) history (commits ++ []) (rows ++ row ∷ [])) (sym r.store.end)
-            (safe_rests device first disk c0 (end_of old.wal) (down_of old.wal) history commits rows row (s.safe t) (grown new k (commits ++ []) (rows ++ row ∷ []) held run) refl q.ok));
-      } in
-      subst (λ d. State first c0 opened d new (commits ++ []) (rows ++ row ∷ [])) (sym r.same_disk) here
+      let counted : Counted (fault_of new) (rows ++ row ∷ []) (device.fault_count first) (device.write_fault_count first) (device.fault_count (disk_of old)) (device.write_fault_count (disk_of old)) =
+      subst (λ d. Counted d (rows ++ row ∷ []) (device.fault_count first) (device.write_fault_count first) (device.fault_count (disk_of old)) (device.write_fault_count (disk_of old))) (sym r.journal.down)
+      (counted_rests (fault_of old) rows row (device.fault_count first) (device.write_fault_count first) (device.fault_count (disk_of old)) (device.write_fault_count (disk_of old)) s.counted refl q.fell) in
+      record {
+        run = subst (λ d. Run (counts_over device found first opened d) history (commits ++ []) (rows ++ row ∷ [])) (sym r.journal.disk) run;
+        counted = subst (λ d. Counted (fault_of new) (rows ++ row ∷ []) (device.fault_count first) (device.write_fault_count first) (device.fault_count d) (device.write_fault_count d)) (sym r.journal.disk) counted;
+        fixed = λ t. subst (λ d. IsFixedSince device first c0 d) (sym r.journal.disk) (s.fixed t);
+        safe = λ t f. safe_rests device first c0 old new history commits rows row t (s.safe t f) (grown k (commits ++ []) (rows ++ row ∷ []) run) r refl q.ok;
+      }
 
   -- a statement for which the device was not called, whatever else is known of it
-  quiet : (old new : Store) (disk disk' : D) (commits : History) (rows : List Row) (place : Place) (known : Known) (line : ℕ) (statement : Statement) (reply : Reply) → StandsFor old commits → All (λ (r : Row). r.place.step < place.step) rows → Rests device old new disk disk'
-      → IsAnsweredAt (down_of old.wal) known statement reply
-      → ((first : D) (c0 : ℕ) (opened : D) → State first c0 opened disk old commits rows → IsAnswered (counts_over device first opened disk) (commits ++ []) known line statement reply (quiet_note disk commits))
-      → Goes commits rows old new disk disk' place known line statement reply
-  quiet old new disk disk' commits rows place known line statement reply h last r q answered = record {
-    note = quiet_note disk commits;
+  quiet : (old new : StoreValue D) (commits : History) (rows : List Row) (place : Place) (known : Known) (line : ℕ) (statement : Statement) (reply : Reply) → StandsFor found old commits → All (λ (r : Row). r.place.step < place.step) rows → Rests device old new
+      → IsAnsweredAt (fault_of old) known statement reply
+      → ((first : D) (c0 : ℕ) (opened : D) → State first c0 opened old commits rows → IsAnswered (counts_over device found first opened (disk_of old)) (commits ++ []) known line statement reply (quiet_note (disk_of old) commits))
+      → Goes commits rows old new place known line statement reply
+  quiet old new commits rows place known line statement reply h last r q answered = record {
+    note = quiet_note (disk_of old) commits;
     more = [];
-    held = held_same old new commits h r.store;
-    state = λ first c0 opened s. quiet_state old new disk disk' first c0 opened commits rows place known line statement reply h last r q (answered first c0 opened s) s;
+    held = held_same device found old new commits h r;
+    state = λ first c0 opened s. quiet_state old new first c0 opened commits rows place known line statement reply h last r q (answered first c0 opened s) s;
   }
 
   -- a refusal of the store while it is up
@@ -168,21 +162,15 @@ module _ {D : Type 0} (device : Disk D) (history : History) where
   stands_up fall known statement reply up not_down no_failure = record { ok = λ ok. up; asks = inr up; fell = λ n e. absurd (not_down n e); no_failure = no_failure }
 
   -- a statement that finds the store down
-  finds_it_down : (old new : Store) (disk disk' : D) (commits : History) (rows : List Row) (place : Place) (known : Known) (line : ℕ) (statement : Statement) (count : ℕ) → StandsFor old commits → All (λ (r : Row). r.place.step < place.step) rows → Rests device old new disk disk' → (down_of old.wal) ≡ Some count
+  finds_it_down : (old new : StoreValue D) (commits : History) (rows : List Row) (place : Place) (known : Known) (line : ℕ) (statement : Statement) (count : ℕ) → StandsFor found old commits → All (λ (r : Row). r.place.step < place.step) rows → Rests device old new → fault_of old ≡ Some count
       → FindsDown known statement (refused (down count)) → (HasFailed statement (refused (down count)) → ⊥) → ((k : Counts) (note : Note) → note.commit ≡ None → IsDownSince k count → IsAnswered k (commits ++ []) known line statement (refused (down count)) note)
-      → Goes commits rows old new disk disk' place known line statement (refused (down count))
+      → Goes commits rows old new place known line statement (refused (down count))
   unfolding quiet_note
-  finds_it_down old new disk disk' commits rows place known line statement count h last r is finds no_failure answered =
-      quiet old new disk disk' commits rows place known line statement (refused (down count)) h last r
+  finds_it_down old new commits rows place known line statement count h last r is finds no_failure answered =
+      quiet old new commits rows place known line statement (refused (down count)) h last r
       (record { ok = λ ok. absurd ok; asks = inl finds; fell = λ n e. let same : count ≡ n = cc in is ∙ ap (λ m. Some m) same; no_failure = no_failure })
-      (λ first c0 opened s. let k : (device.fault_count first < count) × (count ≤ device.fault_count disk) × (device.write_fault_count first < device.write_fault_count disk) × Any (FailedAt count) rows = s.counted.fallen count is in
-      answered (counts_over device first opened disk) (quiet_note disk commits) refl (k.0, k.1, k.2))
-
-  entry_is : (d : Document) → entry (insertion d) ≡ document_bytes d
-  entry_is d = append-nil (document_bytes d)
-
-  entries_more : (commits : History) (c : Commit) → map entry (commits ++ c ∷ []) ≡ map entry commits ++ entry c ∷ []
-  entries_more commits c = map_push entry commits c
+      (λ first c0 opened s. let k : (device.fault_count first < count) × (count ≤ device.fault_count (disk_of old)) × (device.write_fault_count first < device.write_fault_count (disk_of old)) × Any (FailedAt count) rows = s.counted.fallen count is in
+      answered (counts_over device found first opened (disk_of old)) (quiet_note (disk_of old) commits) refl (k.0, k.1, k.2))
 
   -- the notes of a statement that puts a document into the log, or begins to
   record IsNoteOf (disk disk' : D) (commits : History) (reply : Reply) (note : Note) : Type 0 where
@@ -197,28 +185,28 @@ module _ {D : Type 0} (device : Disk D) (history : History) where
     called : (e : Expr) → HasCalled (insert e) reply
 
   -- a statement that puts a document into the log
-  logs_state : (old new : Store) (disk disk' first : D) (c0 : ℕ) (opened : D) (commits : History) (rows : List Row) (place : Place) (known : Known) (line : ℕ) (reply : Reply) (e : Expr) (v : Vector) (note : Note) → (held' : StandsFor new (commits ++ next_commit old.documents.items v ∷ []))
-      → StandsFor old commits → All (λ (r : Row). r.place.step < place.step) rows
-      → PutsEntry device (document_bytes (document (length old.documents.items) v)) old.wal new.wal disk disk'
-      → (down_of old.wal) ≡ None → (IsOkOfStore reply → (down_of new.wal) ≡ None)
-      → IsNoteOf disk disk' commits reply note
-      → IsAnswered (counts_over device first opened disk') (commits ++ next_commit old.documents.items v ∷ []) known line (insert e) reply note
-      → Counted (down_of new.wal) (rows ++ row_of place known line (insert e) reply note ∷ []) (device.fault_count first) (device.write_fault_count first) (device.fault_count disk') (device.write_fault_count disk')
-      → State first c0 opened disk old commits rows → State first c0 opened disk' new (commits ++ next_commit old.documents.items v ∷ []) (rows ++ row_of place known line (insert e) reply note ∷ [])
-  logs_state old new disk disk' first c0 opened commits rows place known line reply e v note held' h last p up ok n answered counted s =
-      let c : Commit = next_commit old.documents.items v in
+  logs_state : (old new : StoreValue D) (first : D) (c0 : ℕ) (opened : D) (commits : History) (rows : List Row) (place : Place) (known : Known) (line : ℕ) (reply : Reply) (e : Expr) (v : Vector) (note : Note) → (held' : StandsFor found new (commits ++ next_commit device found old v ∷ []))
+      → All (λ (r : Row). r.place.step < place.step) rows
+      → PutsCommit device (next_commit device found old v) old new
+      → IsUp old → (IsOkOfStore reply → IsUp new)
+      → IsNoteOf (disk_of old) (disk_of new) commits reply note
+      → IsAnswered (counts_over device found first opened (disk_of new)) (commits ++ next_commit device found old v ∷ []) known line (insert e) reply note
+      → Counted (fault_of new) (rows ++ row_of place known line (insert e) reply note ∷ []) (device.fault_count first) (device.write_fault_count first) (device.fault_count (disk_of new)) (device.write_fault_count (disk_of new))
+      → State first c0 opened old commits rows → State first c0 opened new (commits ++ next_commit device found old v ∷ []) (rows ++ row_of place known line (insert e) reply note ∷ [])
+  logs_state old new first c0 opened commits rows place known line reply e v note held' last p up ok n answered counted s =
+      let c : Commit = next_commit device found old v in
       let row : Row = row_of place known line (insert e) reply note in
-      let k : Counts = counts_over device first opened disk in
-      let l : Counts = counts_over device first opened disk' in
+      let k : Counts = counts_over device found first opened (disk_of old) in
+      let l : Counts = counts_over device found first opened (disk_of new) in
       let run : Run l history (commits ++ c ∷ []) (rows ++ row ∷ []) = run_step k l history commits (c ∷ []) rows row (record {
         run = s.run;
-        grows = record { faults = refl; faults_opened = refl; writes = refl; faults_after = omega (arith, n.faults); writes_after = omega (arith, n.writes) };
+        grows = record { faults = refl; faults_opened = refl; writes = refl; found = refl; faults_after = omega (arith, n.faults); writes_after = omega (arith, n.writes) };
         snapshot = n.snapshot;
         answered = answered;
         own = inr (c, refl, n.own);
-        lawful = held_lawful new (commits ++ c ∷ []) held';
+        lawful = held_lawful device found new (commits ++ c ∷ []) held';
         last = last;
-        finds_down = finds_up (down_of old.wal) rows (device.fault_count first) (device.write_fault_count first) (device.fault_count disk) (device.write_fault_count disk) known (insert e) reply s.counted (inr up);
+        finds_down = finds_up (fault_of old) rows (device.fault_count first) (device.write_fault_count first) (device.fault_count (disk_of old)) (device.write_fault_count (disk_of old)) known (insert e) reply s.counted (inr up);
         fell = λ m is. absurd (n.not_down m is);
         one_count = λ m is. absurd (n.not_down m is);
         failed = n.failed e;
@@ -230,36 +218,26 @@ module _ {D : Type 0} (device : Disk D) (history : History) where
       record {
         run = run;
         counted = counted;
-        safe = λ t.
-            let safe : Safe device first c0 disk (end_of old.wal) (down_of old.wal) history commits rows = s.safe t in
-            let settled : Settled device (map entry commits) (end_of old.wal) disk = safe.stands up in
-            let same : document_bytes (document (length old.documents.items) v) ≡ entry c = sym (entry_is (document (length old.documents.items) v)) in
-            safe_logs device first disk disk' c0 (end_of old.wal) (end_of new.wal) (down_of old.wal) (down_of new.wal) history commits c rows row safe
-            (grown old k commits rows h s.run) (grown new l (commits ++ c ∷ []) (rows ++ row ∷ []) held' run)
-            (subst (λ e. LeavesOnly device disk disk' (BeforeOrAfter (map entry commits) e (device.image disk (device.clock disk)))) same (p.moments t (map entry commits) settled))
-            (λ still. subst (λ es. Settled device es (end_of new.wal) disk') (ap (λ e. map entry commits ++ e ∷ []) same ∙ sym (entries_more commits c)) (p.stands t (map entry commits) still settled))
-            n.clock ok;
+        fixed = λ t. fixed_on device first (disk_of old) (disk_of new) c0 (s.fixed t) (p.keeps t);
+        safe = λ t f. safe_logs device first c0 old new history commits c rows row t up (s.safe t f) (grown k commits rows s.run) (grown l (commits ++ c ∷ []) (rows ++ row ∷ []) run) p n.clock ok;
       }
 
-  own_of : (old new : Store) (commits : History) (v : Vector) (note : Note) → note.commit ≡ Some (length commits) → HasOwn (commits ++ next_commit old.documents.items v ∷ []) note (next_commit old.documents.items v)
-  own_of old new commits v note e = (length commits, e, get_last commits (next_commit old.documents.items v))
+  own_of : (old : StoreValue D) (commits : History) (v : Vector) (note : Note) → note.commit ≡ Some (length commits) → HasOwn (commits ++ next_commit device found old v ∷ []) note (next_commit device found old v)
+  own_of old commits v note e = (length commits, e, get_last commits (next_commit device found old v))
 
-  stores : (old new : Store) (disk disk' : D) (commits : History) (rows : List Row) (place : Place) (known : Known) (line : ℕ) (e : Expr) (v : Vector) (name : Name) → IsValueOf known e v → StandsFor old commits → All (λ (r : Row). r.place.step < place.step) rows → HasStored device old new disk disk' v name → Goes commits rows old new disk disk' place known line (insert e) (stored name)
-  stores old new disk disk' commits rows place known line e v name value h last i =
-      let l : HasLogged device old i.mid disk disk' v name = i.logged in
-      let c : Commit = next_commit old.documents.items v in
-      let note : Note = record { snapshot = length commits; commit = Some (length commits); faults = device.fault_count disk' - device.fault_count disk; writes = 0; count = device.fault_count disk'; clock = device.clock disk' } in
+  stores : (old new : StoreValue D) (commits : History) (rows : List Row) (place : Place) (known : Known) (line : ℕ) (e : Expr) (v : Vector) (name : Name) → IsValueOf known e v → StandsFor found old commits → All (λ (r : Row). r.place.step < place.step) rows → HasStored device old new v name → Goes commits rows old new place known line (insert e) (stored name)
+  stores old new commits rows place known line e v name value h last i =
+      let l : HasStored device old new v name = i in
+      let c : Commit = next_commit device found old v in
+      let note : Note = record { snapshot = length commits; commit = Some (length commits); faults = device.fault_count (disk_of new) - device.fault_count (disk_of old); writes = 0; count = device.fault_count (disk_of new); clock = device.clock (disk_of new) } in
       let row : Row = row_of place known line (insert e) (stored name) note in
-      let held' : StandsFor new (commits ++ c ∷ []) = held_stored device old new disk disk' commits v name h i.logged.normal i in
-      let named : document (length old.documents.items) v ≡ (let d : Document = record { name = name; vector = v } in d) = ap (λ x. let d : Document = record { name = x; vector = v } in d) (sym l.named) in
-      let sees : seen_by (commits ++ c ∷ []) note ≡ documents_of old = sees_all old commits (c ∷ []) note h l.up refl in
-      let still_up : down_of new.wal ≡ None = ap down_of i.wal ∙ l.still_up in
+      let held' : StandsFor found new (commits ++ c ∷ []) = held_stored device found old new commits v name h i in
+      let sees : seen_by (commits ++ c ∷ []) note ≡ documents_of old = sees_all device found old commits (c ∷ []) note h l.up refl in
       record {
         note = note;
         more = c ∷ [];
         held = held';
-        state = λ first c0 opened s. logs_state old new disk disk' first c0 opened commits rows place known line (stored name) e v note held' h last
-            (subst (λ d. PutsEntry device (document_bytes d) old.wal new.wal disk disk') (sym named) (subst (λ w. PutsEntry device (document_bytes (let d : Document = record { name = name; vector = v } in d)) old.wal w disk disk') (sym i.wal) l.puts)) l.up (λ ok. still_up)
+        state = λ first c0 opened s. logs_state old new first c0 opened commits rows place known line (stored name) e v note held' last l.puts l.up (λ ok. l.still_up)
             (record {
               snapshot = refl;
               own = refl;
@@ -274,40 +252,41 @@ module _ {D : Type 0} (device : Disk D) (history : History) where
               v,
               value,
               (
-                subst (λ d. HasOwn (commits ++ c ∷ []) note (insertion d)) named (own_of old new commits v note refl),
-                λ f. not_full old v h.used l.short l.fits (subst (λ ds. IsFull ds v) sees f),
-                λ f. log_not_full old v (h.end l.up) l.log_fits (subst (λ ds. IsLogFull ds v) sees f),
+                ((next_document old v).name, l.named, own_of old commits v note refl),
+                xids_left device found old commits (length commits) h l.up refl (λ s. omega (arith, s, l.some_xid)),
+                λ f. l.fits (too_large device found old v (subst (λ ds. IsFull ds v) sees f)),
+                log_not_full device found old commits (length commits) h l.up refl (omega (arith, l.log_fits)),
               ),
             ))
             (record {
               low = (omega (arith, s.counted.low.0, l.later), omega (arith, s.counted.low.1, l.no_failure));
               room = s.counted.room;
-              up = λ u. let k : (device.write_fault_count disk < 2 ^ 64 - 1) × All (λ (r : Row). r.note.writes ≡ 0) rows = s.counted.up l.up in (subst (λ w. w < 2 ^ 64 - 1) (sym l.no_failure) k.0, All-push (λ (r : Row). r.note.writes ≡ 0) rows row k.1 refl);
-              fallen = λ f d. absurd (let x : None ≡ Some f = sym still_up ∙ d in let y : ⊥ = cc in y);
-              told = told_up (down_of old.wal) (down_of new.wal) rows row l.up s.counted.told (λ n x. cc);
+              up = λ u. let k : (device.write_fault_count (disk_of old) < 2 ^ 64 - 1) × All (λ (r : Row). r.note.writes ≡ 0) rows = s.counted.up l.up in (subst (λ w. w < 2 ^ 64 - 1) (sym l.no_failure) k.0, All-push (λ (r : Row). r.note.writes ≡ 0) rows row k.1 refl);
+              fallen = λ f d. absurd (let x : None ≡ Some f = sym l.still_up ∙ d in let y : ⊥ = cc in y);
+              told = told_up (fault_of old) (fault_of new) rows row l.up s.counted.told (λ n x. cc);
             }) s;
       }
 
   rises : (n m : ℕ) → n < 2 ^ 64 - 1 → Rose n m → n < m
   rises n m l r = omega (arith, l, r)
 
-  fails : (old new : Store) (disk disk' : D) (commits : History) (rows : List Row) (place : Place) (known : Known) (line : ℕ) (e : Expr) (v : Vector) → IsValueOf known e v → StandsFor old commits → All (λ (r : Row). r.place.step < place.step) rows → IsInDoubt device old new disk disk' v → Goes commits rows old new disk disk' place known line (insert e) (refused device_fault)
-  fails old new disk disk' commits rows place known line e v value h last i =
-      let c : Commit = next_commit old.documents.items v in
-      let note : Note = record { snapshot = length commits; commit = Some (length commits); faults = device.fault_count disk' - device.fault_count disk; writes = device.write_fault_count disk' - device.write_fault_count disk; count = device.fault_count disk'; clock = device.clock disk' } in
+  fails : (old new : StoreValue D) (commits : History) (rows : List Row) (place : Place) (known : Known) (line : ℕ) (e : Expr) (v : Vector) → IsValueOf known e v → StandsFor found old commits → All (λ (r : Row). r.place.step < place.step) rows → IsInDoubt device old new v → Goes commits rows old new place known line (insert e) (refused device_fault)
+  fails old new commits rows place known line e v value h last i =
+      let c : Commit = next_commit device found old v in
+      let note : Note = record { snapshot = length commits; commit = Some (length commits); faults = device.fault_count (disk_of new) - device.fault_count (disk_of old); writes = device.write_fault_count (disk_of new) - device.write_fault_count (disk_of old); count = device.fault_count (disk_of new); clock = device.clock (disk_of new) } in
       let row : Row = row_of place known line (insert e) (refused device_fault) note in
-      let held' : StandsFor new (commits ++ c ∷ []) = held_failed device old new disk disk' commits v h i.normal i in
+      let held' : StandsFor found new (commits ++ c ∷ []) = held_failed device found old new commits v h i in
       record {
         note = note;
         more = c ∷ [];
         held = held';
         state = λ first c0 opened s.
-            let up : (device.write_fault_count disk < 2 ^ 64 - 1) × All (λ (r : Row). r.note.writes ≡ 0) rows = s.counted.up i.up in
-            let failed : device.write_fault_count disk < device.write_fault_count disk' = rises (device.write_fault_count disk) (device.write_fault_count disk') up.0 i.failure in
-            let some : 0 < device.write_fault_count disk' - device.write_fault_count disk = omega (arith, failed) in
+            let up : (device.write_fault_count (disk_of old) < 2 ^ 64 - 1) × All (λ (r : Row). r.note.writes ≡ 0) rows = s.counted.up i.up in
+            let failed : device.write_fault_count (disk_of old) < device.write_fault_count (disk_of new) = rises (device.write_fault_count (disk_of old)) (device.write_fault_count (disk_of new)) up.0 i.failure in
+            let some : 0 < device.write_fault_count (disk_of new) - device.write_fault_count (disk_of old) = omega (arith, failed) in
             let low : device.fault_count first < 2 ^ 64 - 1 = s.counted.room in
-            let above : device.fault_count first < device.fault_count disk' = omega (arith, s.counted.low.0, low, i.rose) in
-            logs_state old new disk disk' first c0 opened commits rows place known line (refused device_fault) e v note held' h last
+            let above : device.fault_count first < device.fault_count (disk_of new) = omega (arith, s.counted.low.0, low, i.rose) in
+            logs_state old new first c0 opened commits rows place known line (refused device_fault) e v note held' last
             i.puts i.up (λ ok. absurd ok)
             (record {
               snapshot = refl;
@@ -323,8 +302,8 @@ module _ {D : Type 0} (device : Disk D) (history : History) where
               v,
               value,
               (
-                inr (name_of (length old.documents.items), own_of old new commits v note refl),
-                elim (cases_lt (device.fault_count disk) (device.fault_count disk')) [
+                inr ((next_document old v).name, own_of old commits v note refl),
+                elim (cases_lt (device.fault_count (disk_of old)) (device.fault_count (disk_of new))) [
                   | inl lt ↦ inl (omega arith)
                   | inr ge ↦ inr (omega (arith, i.rose))
                 ],
@@ -333,49 +312,61 @@ module _ {D : Type 0} (device : Disk D) (history : History) where
             (record {
               low = (omega (arith, s.counted.low.0, i.later.0), omega (arith, s.counted.low.1, i.later.1));
               room = s.counted.room;
-              up = λ u. absurd (let x : None ≡ Some (device.fault_count disk') = sym u ∙ i.down in let y : ⊥ = cc in y);
+              up = λ u. absurd (let x : None ≡ Some (device.fault_count (disk_of new)) = sym u ∙ i.down in let y : ⊥ = cc in y);
               fallen = λ f d.
-                  let same : f ≡ device.fault_count disk' = let x : Some f ≡ Some (device.fault_count disk') = sym d ∙ i.down in cc in
+                  let same : f ≡ device.fault_count (disk_of new) = let x : Some f ≡ Some (device.fault_count (disk_of new)) = sym d ∙ i.down in cc in
                   (omega (arith, same, above), omega (arith, same), omega (arith, s.counted.low.1, failed), Any-push (FailedAt f) rows row (some, sym same));
-              told = told_up (down_of old.wal) (down_of new.wal) rows row i.up s.counted.told (λ n x. cc);
+              told = told_up (fault_of old) (fault_of new) rows row i.up s.counted.told (λ n x. cc);
             }) s;
       }
 
   -- an insertion, by what the store answered
-  inserts : (old new : Store) (disk disk' : D) (commits : History) (rows : List Row) (place : Place) (known : Known) (line : ℕ) (e : Expr) (v : Vector) (answer : Result answers.Name StoreError) → IsValueOf known e v → StandsFor old commits → All (λ (r : Row). r.place.step < place.step) rows
-      → HasInserted device old new disk disk' v answer → Goes commits rows old new disk disk' place known line (insert e) (stored_reply answer)
+  inserts : (old new : StoreValue D) (commits : History) (rows : List Row) (place : Place) (known : Known) (line : ℕ) (e : Expr) (v : Vector) (answer : Result answers.Name StoreError) → IsValueOf known e v → StandsFor found old commits → All (λ (r : Row). r.place.step < place.step) rows
+      → HasInserted device old new v answer → Goes commits rows old new place known line (insert e) (stored_reply answer)
   unfolding quiet_note
-  inserts old new disk disk' commits rows place known line e v (Ok n) value h last i = stores old new disk disk' commits rows place known line e v (name n) value h last i
-  inserts old new disk disk' commits rows place known line e v (Err errors.Device) value h last i = fails old new disk disk' commits rows place known line e v value h last i
-  inserts old new disk disk' commits rows place known line e v (Err errors.Full) value h last i =
-      quiet old new disk disk' commits rows place known line (insert e) (refused store_full) h last i.0 (stands_up (down_of old.wal) known (insert e) (refused store_full) i.1 (λ n x. cc) (λ f. f))
-      (λ first c0 opened s. inr (v, value, (refl, subst (λ ds. IsFull ds v) (sym (sees_all old commits [] (quiet_note disk commits) h i.1 refl)) (is_full old v h.used i.2))))
-  inserts old new disk disk' commits rows place known line e v (Err errors.LogFull) value h last i =
-      quiet old new disk disk' commits rows place known line (insert e) (refused log_full) h last i.0 (stands_up (down_of old.wal) known (insert e) (refused log_full) i.1 (λ n x. cc) (λ f. f))
+  inserts old new commits rows place known line e v (Ok n) value h last i = stores old new commits rows place known line e v (name n) value h last i
+  inserts old new commits rows place known line e v (Err errors.Device) value h last i = fails old new commits rows place known line e v value h last i
+  inserts old new commits rows place known line e v (Err errors.Spent) value h last i =
+      quiet old new commits rows place known line (insert e) (refused transactions_spent) h last i.0 (stands_up (fault_of old) known (insert e) (refused transactions_spent) i.1 (λ n x. cc) (λ f. f))
+      (λ first c0 opened s. inr (v, value, (refl, xids_spent device found old commits (length commits) h i.1 refl i.2)))
+  inserts old new commits rows place known line e v (Err errors.Full) value h last i =
+      quiet old new commits rows place known line (insert e) (refused store_full) h last i.0 (stands_up (fault_of old) known (insert e) (refused store_full) i.1 (λ n x. cc) (λ f. f))
       (λ first c0 opened s. inr (
         v,
         value,
         (
           refl,
-          λ f. i.2 (too_large old v h.used (subst (λ ds. IsFull ds v) (sees_all old commits [] (quiet_note disk commits) h i.1 refl) f)),
-          subst (λ ds. IsLogFull ds v) (sym (sees_all old commits [] (quiet_note disk commits) h i.1 refl)) (log_is_full old v (h.end i.1) i.3),
+          xids_left device found old commits (length commits) h i.1 refl i.2,
+          subst (λ ds. IsFull ds v) (sym (sees_all device found old commits [] (quiet_note (disk_of old) commits) h i.1 refl)) (is_full device found old v i.3),
         ),
       ))
-  inserts old new disk disk' commits rows place known line e v (Err (errors.Down count)) value h last i = finds_it_down old new disk disk' commits rows place known line (insert e) count h last i.0 i.1 (inl tt) (λ f. f) (λ k note n d. inr (v, value, (inl n, d)))
-  inserts old new disk disk' commits rows place known line e v (Err errors.Memory) value h last i =
-      quiet old new disk disk' commits rows place known line (insert e) (refused memory) h last i.0 (stands_up (down_of old.wal) known (insert e) (refused memory) i.1 (λ n x. cc) (λ f. f)) (λ first c0 opened s. inr (v, value, refl))
+  inserts old new commits rows place known line e v (Err errors.LogFull) value h last i =
+      quiet old new commits rows place known line (insert e) (refused log_full) h last i.0 (stands_up (fault_of old) known (insert e) (refused log_full) i.1 (λ n x. cc) (λ f. f))
+      (λ first c0 opened s. inr (
+        v,
+        value,
+        (
+          refl,
+          xids_left device found old commits (length commits) h i.1 refl i.2,
+          λ f. i.3 (too_large device found old v (subst (λ ds. IsFull ds v) (sees_all device found old commits [] (quiet_note (disk_of old) commits) h i.1 refl) f)),
+          log_is_full device found old commits (length commits) h i.1 refl (omega (arith, i.4)),
+        ),
+      ))
+  inserts old new commits rows place known line e v (Err (errors.Down count)) value h last i = finds_it_down old new commits rows place known line (insert e) count h last i.0 i.1 (inl tt) (λ f. f) (λ k note n d. inr (v, value, (inl n, d)))
+  inserts old new commits rows place known line e v (Err errors.Memory) value h last i =
+      quiet old new commits rows place known line (insert e) (refused memory) h last i.0 (stands_up (fault_of old) known (insert e) (refused memory) i.1 (λ n x. cc) (λ f. f)) (λ first c0 opened s. inr (v, value, refl))
 
   -- a search, by what the store answered
-  searches : (old new : Store) (disk disk' : D) (commits : History) (rows : List Row) (place : Place) (known : Known) (line : ℕ) (s : QuerySource) (q : Query) (answer : Result (Vec answers.Name Global) StoreError) → IsQueryOf known s q → StandsFor old commits → All (λ (r : Row). r.place.step < place.step) rows
-      → Rests device old new disk disk' → IsFoundBy old q answer → Goes commits rows old new disk disk' place known line (finding s) (found_reply answer)
+  searches : (old new : StoreValue D) (commits : History) (rows : List Row) (place : Place) (known : Known) (line : ℕ) (s : QuerySource) (q : Query) (answer : Result (Vec answers.Name Global) StoreError) → IsQueryOf known s q → StandsFor found old commits → All (λ (r : Row). r.place.step < place.step) rows
+      → Rests device old new → IsFoundBy old q answer → Goes commits rows old new place known line (finding s) (found_reply answer)
   unfolding quiet_note
-  searches old new disk disk' commits rows place known line s q (Ok names) value h last r i =
-      quiet old new disk disk' commits rows place known line (finding s) (lists (map name names.items)) h last r (stands_up (down_of old.wal) known (finding s) (lists (map name names.items)) i.0 (λ n x. cc) (λ f. f))
-      (λ first c0 opened t. inr (q, value, (refl, subst (λ ds. IsFound q ds (map name names.items)) (sym (sees_all old commits [] (quiet_note disk commits) h i.0 refl)) i.1)))
-  searches old new disk disk' commits rows place known line s q (Err (errors.Down count)) value h last r i = finds_it_down old new disk disk' commits rows place known line (finding s) count h last r i (inl tt) (λ f. f) (λ k note n d. inr (q, value, (n, d)))
-  searches old new disk disk' commits rows place known line s q (Err errors.Memory) value h last r i =
-      quiet old new disk disk' commits rows place known line (finding s) (refused memory) h last r (stands_up (down_of old.wal) known (finding s) (refused memory) i (λ n x. cc) (λ f. f)) (λ first c0 opened t. inr (q, value, refl))
-  searches old new disk disk' commits rows place known line s q (Err e) value h last r i = absurd i
+  searches old new commits rows place known line s q (Ok names) value h last r i =
+      quiet old new commits rows place known line (finding s) (lists (map name names.items)) h last r (stands_up (fault_of old) known (finding s) (lists (map name names.items)) i.0 (λ n x. cc) (λ f. f))
+      (λ first c0 opened t. inr (q, value, (refl, subst (λ ds. IsFound q ds (map name names.items)) (sym (sees_all device found old commits [] (quiet_note (disk_of old) commits) h i.0 refl)) i.1)))
+  searches old new commits rows place known line s q (Err (errors.Down count)) value h last r i = finds_it_down old new commits rows place known line (finding s) count h last r i (inl tt) (λ f. f) (λ k note n d. inr (q, value, (n, d)))
+  searches old new commits rows place known line s q (Err errors.Memory) value h last r i =
+      quiet old new commits rows place known line (finding s) (refused memory) h last r (stands_up (fault_of old) known (finding s) (refused memory) i (λ n x. cc) (λ f. f)) (λ first c0 opened t. inr (q, value, refl))
+  searches old new commits rows place known line s q (Err e) value h last r i = absurd i
 
   -- the cause of a refusal is a text, and neither the log nor the device
   abbrev IsOfText : (Refusal → Type 0) → Type 0
@@ -439,25 +430,25 @@ module _ {D : Type 0} (device : Disk D) (history : History) where
   defined_at fall known line head ls reply i = record { ok = λ ok. absurd ok; asks = inl tt; fell = λ n x. cc; no_failure = λ f. f }
 
   -- a statement that does not touch the store
-  only_answers : (old new : Store) (disk disk' : D) (commits : History) (rows : List Row) (place : Place) (known : Known) (line : ℕ) (statement : Statement) (reply : Reply) → StandsFor old commits → All (λ (r : Row). r.place.step < place.step) rows → Rests device old new disk disk'
-      → IsAnsweredAt (down_of old.wal) known statement reply → ((k : Counts) (note : Note) → note.commit ≡ None → IsAnswered k (commits ++ []) known line statement reply note)
-      → Goes commits rows old new disk disk' place known line statement reply
+  only_answers : (old new : StoreValue D) (commits : History) (rows : List Row) (place : Place) (known : Known) (line : ℕ) (statement : Statement) (reply : Reply) → StandsFor found old commits → All (λ (r : Row). r.place.step < place.step) rows → Rests device old new
+      → IsAnsweredAt (fault_of old) known statement reply → ((k : Counts) (note : Note) → note.commit ≡ None → IsAnswered k (commits ++ []) known line statement reply note)
+      → Goes commits rows old new place known line statement reply
   unfolding quiet_note
-  only_answers old new disk disk' commits rows place known line statement reply h last r at answered =
-      quiet old new disk disk' commits rows place known line statement reply h last r at (λ first c0 opened s. answered (counts_over device first opened disk) (quiet_note disk commits) refl)
+  only_answers old new commits rows place known line statement reply h last r at answered =
+      quiet old new commits rows place known line statement reply h last r at (λ first c0 opened s. answered (counts_over device found first opened (disk_of old)) (quiet_note (disk_of old) commits) refl)
 
-  pub goes : (old new : Store) (disk disk' : D) (commits : History) (rows : List Row) (place : Place) (known : Known) (line : ℕ) (statement : Statement) (reply : Reply) → StandsFor old commits → All (λ (r : Row). r.place.step < place.step) rows → HasAnswered device known line old new disk disk' statement reply → Goes commits rows old new disk disk' place known line statement reply
+  pub goes : (old new : StoreValue D) (commits : History) (rows : List Row) (place : Place) (known : Known) (line : ℕ) (statement : Statement) (reply : Reply) → StandsFor found old commits → All (λ (r : Row). r.place.step < place.step) rows → HasAnswered device known line old new statement reply → Goes commits rows old new place known line statement reply
   unfolding quiet_note
-  goes old new disk disk' commits rows place known line (insert e) reply h last (inl i) =
-      only_answers old new disk disk' commits rows place known line (insert e) reply h last i.0 (of_text (ExprFails known e) (down_of old.wal) known (insert e) reply (expr_of_text known e) (λ r. inr r) i.1) (λ k note n. inl (i.1, n))
-  goes old new disk disk' commits rows place known line (insert e) reply h last (inr i) = subst (λ r. Goes commits rows old new disk disk' place known line (insert e) r) (sym i.2.2) (inserts old new disk disk' commits rows place known line e i.0 i.2.0 i.1 h last i.2.1)
-  goes old new disk disk' commits rows place known line (finding s) reply h last (inl i) =
-      only_answers old new disk disk' commits rows place known line (finding s) reply h last i.0 (of_text (QueryFails known s) (down_of old.wal) known (finding s) reply (query_of_text known s) (λ r. inr r) i.1) (λ k note n. inl (i.1, n))
-  goes old new disk disk' commits rows place known line (finding s) reply h last (inr i) = subst (λ r. Goes commits rows old new disk disk' place known line (finding s) r) (sym i.2.3) (searches old new disk disk' commits rows place known line s i.0 i.2.0 i.1 h last i.2.1 i.2.2)
-  goes old new disk disk' commits rows place known line (show e) reply h last i = only_answers old new disk disk' commits rows place known line (show e) reply h last i.0 (shown_at (down_of old.wal) known e reply i.1) (λ k note n. (i.1, n))
-  goes old new disk disk' commits rows place known line (query s) reply h last i = only_answers old new disk disk' commits rows place known line (query s) reply h last i.0 (queried_at (down_of old.wal) known s reply i.1) (λ k note n. (i.1, n))
-  goes old new disk disk' commits rows place known line (parse text) reply h last i = only_answers old new disk disk' commits rows place known line (parse text) reply h last i.0 (parsed_at (down_of old.wal) known text reply i.1) (λ k note n. (i.1, n))
-  goes old new disk disk' commits rows place known line (define head ls) reply h last i = only_answers old new disk disk' commits rows place known line (define head ls) reply h last i.0 (defined_at (down_of old.wal) known line head ls reply i.1) (λ k note n. (i.1, n))
-  goes old new disk disk' commits rows place known line nothing (refused (no_statement at)) h last i =
-      only_answers old new disk disk' commits rows place known line nothing (refused (no_statement at)) h last i.0 (record { ok = λ ok. absurd ok; asks = inl tt; fell = λ n x. cc; no_failure = λ f. f }) (λ k note n. (n, i.1))
-  goes old new disk disk' commits rows place known line nothing reply h last i = absurd i
+  goes old new commits rows place known line (insert e) reply h last (inl i) =
+      only_answers old new commits rows place known line (insert e) reply h last i.0 (of_text (ExprFails known e) (fault_of old) known (insert e) reply (expr_of_text known e) (λ r. inr r) i.1) (λ k note n. inl (i.1, n))
+  goes old new commits rows place known line (insert e) reply h last (inr i) = subst (λ r. Goes commits rows old new place known line (insert e) r) (sym i.2.2) (inserts old new commits rows place known line e i.0 i.2.0 i.1 h last i.2.1)
+  goes old new commits rows place known line (finding s) reply h last (inl i) =
+      only_answers old new commits rows place known line (finding s) reply h last i.0 (of_text (QueryFails known s) (fault_of old) known (finding s) reply (query_of_text known s) (λ r. inr r) i.1) (λ k note n. inl (i.1, n))
+  goes old new commits rows place known line (finding s) reply h last (inr i) = subst (λ r. Goes commits rows old new place known line (finding s) r) (sym i.2.3) (searches old new commits rows place known line s i.0 i.2.0 i.1 h last i.2.1 i.2.2)
+  goes old new commits rows place known line (show e) reply h last i = only_answers old new commits rows place known line (show e) reply h last i.0 (shown_at (fault_of old) known e reply i.1) (λ k note n. (i.1, n))
+  goes old new commits rows place known line (query s) reply h last i = only_answers old new commits rows place known line (query s) reply h last i.0 (queried_at (fault_of old) known s reply i.1) (λ k note n. (i.1, n))
+  goes old new commits rows place known line (parse text) reply h last i = only_answers old new commits rows place known line (parse text) reply h last i.0 (parsed_at (fault_of old) known text reply i.1) (λ k note n. (i.1, n))
+  goes old new commits rows place known line (define head ls) reply h last i = only_answers old new commits rows place known line (define head ls) reply h last i.0 (defined_at (fault_of old) known line head ls reply i.1) (λ k note n. (i.1, n))
+  goes old new commits rows place known line nothing (refused (no_statement at)) h last i =
+      only_answers old new commits rows place known line nothing (refused (no_statement at)) h last i.0 (record { ok = λ ok. absurd ok; asks = inl tt; fell = λ n x. cc; no_failure = λ f. f }) (λ k note n. (n, i.1))
+  goes old new commits rows place known line nothing reply h last i = absurd i

@@ -1,26 +1,27 @@
 -- What the documents in memory have of a history.
-use Rattle.std.proofs.Common.{◌≡◌, ◌≢◌, ◌⊎◌, inl, inr, ℕ, zero, suc, ◌+◌, ◌^◌, ◌<◌, ◌≤◌, not, cond, List, [], ◌∷◌, ◌++◌, length, map, take, arith, refl, sym, ◌∙◌, ap, subst}
+use Rattle.std.proofs.Common.{◌≡◌, ◌≢◌, inl, inr, ℕ, zero, suc, ◌+◌, ◌^◌, ◌<◌, ◌≤◌, cond, List, [], ◌∷◌, ◌++◌, length, length-append, map, take, arith, refl, sym, ◌∙◌, ap, subst}
 use Rattle.std.specs.Prelude.{Some, None, sum_by}
 use Rattle.std.specs.List.{All, AllPairs, Contains, slice_get, filter}
-use Rattle.std.proofs.lemmas.List.{append-nil, take_at, map_push, length-map}
+use Rattle.std.proofs.lemmas.List.{append-nil, take_at, take-map, map_push, length-map}
 use Rattle.std.proofs.lemmas.List.Elements.{All-nil, All-cons, All-push, All-head, All-tail, All-weaker}
 use Rattle.std.proofs.lemmas.List.Kept.{AllPairs-cons}
-use Rattle.std.proofs.lemmas.List.Sums.{sum_by_push, sum_by-cons}
+use Rattle.std.proofs.lemmas.List.Sums.{sum_by-cons}
 use Rattle.std.proofs.lemmas.Bool.{lt-ltb}
+use Rattle.ts_base.specs.Vectors.{Vector}
+use Rattle.page_types.specs.declared.page.Name.{Name}
 use Rattle.disk_trait.specs.declared.device.Disk.{Ghosts as Disk}
-use Rattle.ts_base.specs.Vectors.{Vector, IsNormal}
-use Rattle.ts_base.specs.Spelling.{vector_bytes}
-use Rattle.shell_run.specs.History.{IsNumbered, Document, Commit, History, IsLawful, docs, IsFull, insertion, inserts, deletes, placed, by_serial, has_serial, room, name_of}
-use Rattle.shell_script.specs.Name.{Name}
-use Rattle.shell_run.specs.Entries.{IsLogFull, log_room}
+use Rattle.shell_script.specs.Name as names
+use Rattle.shell_run.specs.Finding.{Document, Commit, History, IsLawful, AreApart, inserted_names, docs, IsFull, insertion, inserts, deletes, with_document, by_serial, stays, room}
+use Rattle.shell_run.specs.Found.{Found, record_size, IsLogFull, AreXidsSpent}
 use Rattle.shell_run.specs.Run.{Note, seen_by}
-use Rattle.shell_run.specs.Inner.Stores.{numbered, documents_of, StandsFor, IsSameStore, HasStored, IsInDoubt}
-use Rattle.wal.specs.Waiting.{end_of, down_of}
-use Rattle.shell_run.specs.declared.store.Store.{Store}
-use Rattle.shell_run.proofs.Documents.{numbered_push}
-use Rattle.shell_run.proofs.Safety.{AreNormal}
+use Rattle.shell_run.specs.Inner.Kept.{document_at, documents_from, SerialsRise, room_of}
+use Rattle.shell_run.specs.Inner.Stores.{documents_of, StandsFor, IsUp, fault_of, next_serial_of, end_ahead, next_document, Rests, HasStored, IsInDoubt, IsTooLarge, IsSpent}
+use Rattle.shell_run.specs.declared.store.Kept.{Kept}
+use Rattle.shell_run.specs.Inner.StoreValue.{StoreValue}
+use Rattle.shell_run.proofs.Documents.{documents_push}
 
-inserts_of : (ds : List Document) → inserts (map insertion ds) ≡ ds
+-- ── commits that insert documents ──
+pub inserts_of : (ds : List Document) → inserts (map insertion ds) ≡ ds
 inserts_of [] = refl
 inserts_of (d ∷ ds) = ap (λ z. d ∷ z) (inserts_of ds)
 
@@ -28,152 +29,196 @@ deletes_of : (ds : List Document) → deletes (map insertion ds) ≡ []
 deletes_of [] = refl
 deletes_of (d ∷ ds) = deletes_of ds
 
-all_kept : (ds : List Document) → filter (λ (d : Document). not (has_serial d.name.serial [])) ds ≡ ds
+all_kept : (ds : List Document) → filter (λ (d : Document). stays d []) ds ≡ ds
 all_kept [] = refl
 all_kept (d ∷ ds) = ap (λ z. d ∷ z) (all_kept ds)
 
-in_order : (k : ℕ) (vs : List Vector) → by_serial (numbered k vs) ≡ numbered k vs
-in_order k [] = refl
-in_order k (v ∷ vs) = ap (placed (let d : Document = record { name = name_of k; vector = v } in d)) (in_order (k + 1) vs) ∙ first k v vs
+in_order : (k low : ℕ) (ks : List Kept) → SerialsRise low ks → by_serial (documents_from k ks) ≡ documents_from k ks
+in_order k low [] h = refl
+in_order k low (x ∷ ks) h = ap (with_document (document_at k x)) (in_order (k + 1) x.serial ks h.1) ∙ first k x ks h.1
   where
-    first : (k : ℕ) (v : Vector) (vs : List Vector) → let d : Document = record { name = name_of k; vector = v } in placed d (numbered (k + 1) vs) ≡ d ∷ numbered (k + 1) vs
-    first k v [] = refl
-    first k v (w ∷ ws) =
-        let d : Document = record { name = name_of k; vector = v } in
-        let e : Document = record { name = name_of (k + 1); vector = w } in
-        ap (λ b. cond b (d ∷ e ∷ numbered (k + 1 + 1) ws) (e ∷ placed d (numbered (k + 1 + 1) ws))) (lt-ltb (k + 1) (k + 1 + 1) (omega arith))
+    first : (k : ℕ) (x : Kept) (ks : List Kept) → SerialsRise x.serial ks → with_document (document_at k x) (documents_from (k + 1) ks) ≡ document_at k x ∷ documents_from (k + 1) ks
+    first k x [] h = refl
+    first k x (y ∷ ys) h =
+        ap (λ b. cond b (document_at k x ∷ document_at (k + 1) y ∷ documents_from (k + 1 + 1) ys) (document_at (k + 1) y ∷ with_document (document_at k x) (documents_from (k + 1 + 1) ys))) (lt-ltb x.serial y.serial h.0)
 
-docs_of : (vs : List Vector) → docs (map insertion (numbered 0 vs)) ≡ numbered 0 vs
-docs_of vs =
-    let ds : List Document = numbered 0 vs in
-    ap by_serial (ap (λ x. filter (λ (d : Document). not (has_serial d.name.serial x)) (inserts (map insertion ds))) (deletes_of ds) ∙ all_kept (inserts (map insertion ds)) ∙ inserts_of ds) ∙ in_order 0 vs
+pub docs_of : (ks : List Kept) → SerialsRise 0 ks → docs (map insertion (documents_from 0 ks)) ≡ documents_from 0 ks
+docs_of ks h =
+    let ds : List Document = documents_from 0 ks in
+    ap by_serial (ap (λ x. filter (λ (d : Document). stays d x) (inserts (map insertion ds))) (deletes_of ds) ∙ all_kept (inserts (map insertion ds)) ∙ inserts_of ds) ∙ in_order 0 0 ks h
 
-above : (k low : ℕ) (vs : List Vector) → low ≤ k → All (λ (s : ℕ). s ≢ low) (map (λ (d : Document). d.name.serial) (numbered k vs))
-above k low [] h = All-nil (λ (s : ℕ). s ≢ low)
-above k low (v ∷ vs) h = All-cons (λ (s : ℕ). s ≢ low) (k + 1) (map (λ (d : Document). d.name.serial) (numbered (k + 1) vs)) (λ e. omega arith) (above (k + 1) low vs (omega arith))
+abbrev serials_in : List Document → List ℕ
+serials_in ds = map (λ (d : Document). d.name.serial) ds
 
-apart_from : (k : ℕ) (vs : List Vector) → AllPairs (λ (a b : ℕ). a ≢ b) (map (λ (d : Document). d.name.serial) (numbered k vs))
-apart_from k [] = λ i j d l m. absurd (omega arith)
-apart_from k (v ∷ vs) = AllPairs-cons (λ (a b : ℕ). a ≢ b) (k + 1) (map (λ (d : Document). d.name.serial) (numbered (k + 1) vs)) (All-weaker (λ (s : ℕ). s ≢ k + 1) (λ (s : ℕ). k + 1 ≢ s) (λ s ne e. ne (sym e)) (map (λ (d : Document). d.name.serial) (numbered (k + 1) vs)) (above (k + 1) (k + 1) vs (omega arith))) (apart_from (k + 1) vs)
+above : (k low : ℕ) (ks : List Kept) → SerialsRise low ks → All (λ (s : ℕ). low < s) (serials_in (documents_from k ks))
+above k low [] h = All-nil (λ (s : ℕ). low < s)
+above k low (x ∷ ks) h =
+    All-cons (λ (s : ℕ). low < s) x.serial (serials_in (documents_from (k + 1) ks)) h.0
+    (All-weaker (λ (s : ℕ). x.serial < s) (λ (s : ℕ). low < s) (λ s l. omega (arith, l, h.0)) (serials_in (documents_from (k + 1) ks)) (above (k + 1) x.serial ks h.1))
+
+serials_apart : (k low : ℕ) (ks : List Kept) → SerialsRise low ks → AllPairs (λ (a b : ℕ). a ≢ b) (serials_in (documents_from k ks))
+serials_apart k low [] h = λ i j d l m. absurd (omega arith)
+serials_apart k low (x ∷ ks) h =
+    AllPairs-cons (λ (a b : ℕ). a ≢ b) x.serial (serials_in (documents_from (k + 1) ks))
+    (All-weaker (λ (s : ℕ). x.serial < s) (λ (s : ℕ). x.serial ≢ s) (λ s l e. omega (arith, l, e)) (serials_in (documents_from (k + 1) ks)) (above (k + 1) x.serial ks h.1))
+    (serials_apart (k + 1) x.serial ks h.1)
+
+slots_above : (k low : ℕ) (ks : List Kept) → low ≤ k → All (λ (d : Document). low ≤ d.name.slot) (documents_from k ks)
+slots_above k low [] h = All-nil (λ (d : Document). low ≤ d.name.slot)
+slots_above k low (x ∷ ks) h = All-cons (λ (d : Document). low ≤ d.name.slot) (document_at k x) (documents_from (k + 1) ks) h (slots_above (k + 1) low ks (omega (arith, h)))
+
+abbrev LieApart : Document → Document → Type 0
+LieApart a b = AreApart a.name b.name
+
+places_apart : (k : ℕ) (ks : List Kept) → AllPairs LieApart (documents_from k ks)
+places_apart k [] = λ i j d l m. absurd (omega arith)
+places_apart k (x ∷ ks) =
+    AllPairs-cons LieApart (document_at k x) (documents_from (k + 1) ks)
+    (All-weaker (λ (d : Document). k + 1 ≤ d.name.slot) (λ (d : Document). LieApart (document_at k x) d) (λ d l. inr (λ e. omega (arith, l, e))) (documents_from (k + 1) ks) (slots_above (k + 1) (k + 1) ks (omega arith)))
+    (places_apart (k + 1) ks)
+
+take_documents : (n k : ℕ) (ks : List Kept) → take n (documents_from k ks) ≡ documents_from k (take n ks)
+take_documents zero k ks = refl
+take_documents (suc n) k [] = refl
+take_documents (suc n) k (x ∷ ks) = ap (λ z. document_at k x ∷ z) (take_documents n (k + 1) ks)
+
+take_rises : (n low : ℕ) (ks : List Kept) → SerialsRise low ks → SerialsRise low (take n ks)
+take_rises zero low ks h = tt
+take_rises (suc n) low [] h = tt
+take_rises (suc n) low (x ∷ ks) h = (h.0, take_rises n x.serial ks h.1)
 
 none_deleted : (ds : List Document) (k : ℕ) (c : Commit) → slice_get (map insertion ds) k ≡ Some c → c.deleted ≡ []
 none_deleted [] k c e = cc
 none_deleted (d ∷ ds) zero c e = let same : insertion d ≡ c = cc in ap (λ (c : Commit). c.deleted) (sym same)
 none_deleted (d ∷ ds) (suc k) c e = none_deleted ds k c e
 
-lawful_of : (vs : List Vector) → IsLawful (map insertion (numbered 0 vs))
-lawful_of vs = record {
-  apart = subst (λ ds. AllPairs (λ (a b : ℕ). a ≢ b) (map (λ (d : Document). d.name.serial) ds)) (sym (inserts_of (numbered 0 vs))) (apart_from 0 vs);
-  deleted_once = subst (λ ns. AllPairs (λ (a b : Name). a.serial ≢ b.serial) ns) (sym (deletes_of (numbered 0 vs))) (λ i j d l m. absurd (omega arith));
-  deleted_later = λ k c e.
-      let P : Name → Type 0 = λ x. Contains (map (λ (d : Document). d.name) (inserts (take k (map insertion (numbered 0 vs))))) x in
-      subst (λ ns. All P ns) (sym (none_deleted (numbered 0 vs) k c e)) (All-nil P);
-}
+lawful_of : (ks : List Kept) → SerialsRise 0 ks → IsLawful (map insertion (documents_from 0 ks))
+lawful_of ks h =
+    let ds : List Document = documents_from 0 ks in
+    record {
+      apart = subst (λ es. AllPairs (λ (a b : ℕ). a ≢ b) (serials_in es)) (sym (inserts_of ds)) (serials_apart 0 0 ks h);
+      deleted_once = subst (λ ns. AllPairs (λ (a b : Name). a.serial ≢ b.serial) ns) (sym (deletes_of ds)) (λ i j d l m. absurd (omega arith));
+      deleted_later = λ k c e.
+          let P : Name → Type 0 = λ x. Contains (inserted_names (take k (map insertion ds))) x in
+          subst (λ ns. All P ns) (sym (none_deleted ds k c e)) (All-nil P);
+      apart_places = λ n.
+          subst (AllPairs LieApart) (sym (ap docs (take-map insertion n ds ∙ ap (map insertion) (take_documents n 0 ks)) ∙ docs_of (take n ks) (take_rises n 0 ks h))) (places_apart 0 (take n ks));
+    }
 
-length_numbered : (k : ℕ) (vs : List Vector) → length (numbered k vs) ≡ length vs
-length_numbered k [] = refl
-length_numbered k (v ∷ vs) = ap suc (length_numbered (k + 1) vs)
+pub length_documents : (k : ℕ) (ks : List Kept) → length (documents_from k ks) ≡ length ks
+length_documents k [] = refl
+length_documents k (x ∷ ks) = ap suc (length_documents (k + 1) ks)
 
-rooms : (k : ℕ) (vs : List Vector) → sum_by (λ (d : Document). room d.vector) (numbered k vs) ≡ sum_by room vs
+pub rooms : (k : ℕ) (ks : List Kept) → sum_by (λ (d : Document). room d.vector) (documents_from k ks) ≡ sum_by room_of ks
 rooms k [] = refl
-rooms k (v ∷ vs) = sum_by-cons (λ (d : Document). room d.vector) (let d : Document = record { name = name_of k; vector = v } in d) (numbered (k + 1) vs) ∙ ap (λ n. room v + n) (rooms (k + 1) vs) ∙ sym (sum_by-cons room v vs)
+rooms k (x ∷ ks) = sum_by-cons (λ (d : Document). room d.vector) (document_at k x) (documents_from (k + 1) ks) ∙ ap (λ n. room_of x + n) (rooms (k + 1) ks) ∙ sym (sum_by-cons room_of x ks)
 
-log_rooms : (k : ℕ) (vs : List Vector) → sum_by (λ (d : Document). 13 + length (vector_bytes d.vector)) (numbered k vs) ≡ sum_by log_room vs
-log_rooms k [] = refl
-log_rooms k (v ∷ vs) = sum_by-cons (λ (d : Document). 13 + length (vector_bytes d.vector)) (let d : Document = record { name = name_of k; vector = v } in d) (numbered (k + 1) vs) ∙ ap (λ n. log_room v + n) (log_rooms (k + 1) vs) ∙ sym (sum_by-cons log_room v vs)
+pub rises_push : (low : ℕ) (ks : List Kept) (x : Kept) → SerialsRise low ks → low < x.serial → All (λ (k : Kept). k.serial < x.serial) ks → SerialsRise low (ks ++ x ∷ [])
+rises_push low [] x h l all = (l, tt)
+rises_push low (y ∷ ks) x h l all = (h.0, rises_push y.serial ks x h.1 (All-head (λ (k : Kept). k.serial < x.serial) y ks all) (All-tail (λ (k : Kept). k.serial < x.serial) y ks all))
 
-normal_of : (k : ℕ) (vs : List Vector) → All IsNormal vs → All (λ (d : Document). IsNormal d.vector) (numbered k vs)
-normal_of k [] h = All-nil (λ (d : Document). IsNormal d.vector)
-normal_of k (v ∷ vs) h = All-cons (λ (d : Document). IsNormal d.vector) (let d : Document = record { name = name_of k; vector = v } in d) (numbered (k + 1) vs) (All-head IsNormal v vs h) (normal_of (k + 1) vs (All-tail IsNormal v vs h))
+pub pushed : (ks : List Kept) (x : Kept) → map insertion (documents_from 0 ks) ++ insertion (document_at (length ks) x) ∷ [] ≡ map insertion (documents_from 0 (ks ++ x ∷ []))
+pushed ks x = sym (ap (map insertion) (documents_push 0 ks x ∙ ap (λ n. documents_from 0 ks ++ document_at n x ∷ []) (let z : 0 + length ks ≡ length ks = omega arith in z)) ∙ map_push insertion (documents_from 0 ks) (document_at (length ks) x))
 
-pub held_lawful : (s : Store) (commits : History) → StandsFor s commits → IsLawful commits
-held_lawful s commits h = subst IsLawful (sym h.all) (lawful_of h.vectors)
+module _ {D : Type 0} (device : Disk D) (found : Found) where
+  pub held_lawful : (s : StoreValue D) (commits : History) → StandsFor found s commits → IsLawful commits
+  held_lawful s commits h = subst IsLawful (sym h.all) (lawful_of h.kept h.rises)
 
-pub held_length : (s : Store) (commits : History) (h : StandsFor s commits) → length commits ≡ length h.vectors
-held_length s commits h = ap length h.all ∙ length-map (numbered 0 h.vectors) insertion ∙ length_numbered 0 h.vectors
+  pub held_length : (s : StoreValue D) (commits : History) (h : StandsFor found s commits) → length commits ≡ length h.kept
+  held_length s commits h = ap length h.all ∙ length-map (documents_from 0 h.kept) insertion ∙ length_documents 0 h.kept
 
-pub held_normal : (s : Store) (commits : History) → StandsFor s commits → AreNormal commits
-held_normal s commits h = subst AreNormal (sym h.all) (subst (λ ds. All (λ (d : Document). IsNormal d.vector) ds) (sym (inserts_of (numbered 0 h.vectors))) (normal_of 0 h.vectors h.normal))
+  -- what a statement sees that comes last, while the store is up
+  pub sees_all : (s : StoreValue D) (commits more : History) (note : Note) → StandsFor found s commits → IsUp s → note.snapshot ≡ length commits → seen_by (commits ++ more) note ≡ documents_of s
+  sees_all s commits more note h up e =
+      ap (λ n. docs (take n (commits ++ more))) e ∙ ap docs (take_at commits more (length commits) refl) ∙ ap docs h.all ∙ docs_of h.kept h.rises ∙ ap (documents_from 0) (h.same up)
 
--- what a statement sees that comes last, while the log is not down
-pub sees_all : (s : Store) (commits more : History) (note : Note) → StandsFor s commits → (down_of s.wal) ≡ None → note.snapshot ≡ length commits → seen_by (commits ++ more) note ≡ documents_of s
-sees_all s commits more note h up e =
-    ap (λ n. docs (take n (commits ++ more))) e ∙ ap docs (take_at commits more (length commits) refl) ∙ ap docs h.all ∙ docs_of h.vectors ∙ ap (numbered 0) (h.same up)
+  end_same : (old new : StoreValue D) → Rests device old new → end_ahead new ≡ end_ahead old
+  end_same old new r = omega (arith, r.journal.end, ap length r.journal.waits, ap (λ b. cond b (record_size 0 0) 0) r.journal.owes)
 
--- the store after a statement that changes nothing
-pub held_same : (old new : Store) (commits : History) → StandsFor old commits → IsSameStore old new → StandsFor new (commits ++ [])
-held_same old new commits h s = record {
-  vectors = h.vectors;
-  all = append-nil commits ∙ h.all;
-  normal = h.normal;
-  same = λ up. h.same (sym s.down ∙ up) ∙ sym s.same;
-  used = s.used ∙ h.used ∙ ap (λ ds. sum_by room ds) (sym s.same);
-  end = λ up. s.end ∙ h.end (sym s.down ∙ up) ∙ ap (λ ds. 17 + sum_by log_room ds) (sym s.same);
-}
+  -- the store after a statement that changes nothing
+  pub held_same : (old new : StoreValue D) (commits : History) → StandsFor found old commits → Rests device old new → StandsFor found new (commits ++ [])
+  held_same old new commits h r =
+      let again : commits ++ [] ≡ commits = append-nil commits in
+      let down : fault_of new ≡ fault_of old = r.journal.down in
+      let serial : next_serial_of new ≡ next_serial_of old = ap (λ z. z.next_serial) r.journal.state in
+      record {
+        kept = h.kept;
+        more = subst (λ z. found.commits ≤ length z) (sym again) h.more;
+        all = again ∙ h.all;
+        rises = h.rises;
+        same = λ up. h.same (sym down ∙ up) ∙ sym r.documents;
+        some = λ up. subst (λ n. 0 < n) (sym serial) (h.some (sym down ∙ up));
+        below = λ up. subst (λ n. All (λ (k : Kept). k.serial < n) h.kept) (sym serial) (h.below (sym down ∙ up));
+        end = λ up. omega (arith, end_same old new r, ap length again, h.end (sym down ∙ up));
+        xids = λ up. omega (arith, ap (λ z. length z.fates) r.journal.state, ap length again, h.xids (sym down ∙ up));
+      }
 
-abbrev pub document : ℕ → Vector → Document
-document place v = record { name = name_of place; vector = v }
+  -- the store with one document more, or with one in doubt
+  abbrev next_kept : StoreValue D → Vector → Kept
+  next_kept s v = record { serial = next_serial_of s; vector = v }
 
--- the commit behind those of some vectors
-abbrev pub next_commit : List Vector → Vector → Commit
-next_commit vs v = insertion (document (length vs) v)
+  abbrev pub next_commit : StoreValue D → Vector → Commit
+  next_commit s v = insertion (next_document s v)
 
-pushed : (vs : List Vector) (v : Vector) → map insertion (numbered 0 vs) ++ next_commit vs v ∷ [] ≡ map insertion (numbered 0 (vs ++ v ∷ []))
-pushed vs v = sym (ap (map insertion) (numbered_push 0 vs v ∙ ap (λ n. numbered 0 vs ++ document n v ∷ []) (let z : 0 + length vs ≡ length vs = omega arith in z)) ∙ map_push insertion (numbered 0 vs) (document (length vs) v))
+  all_more : (s : StoreValue D) (commits : History) (v : Vector) → StandsFor found s commits → IsUp s → commits ++ next_commit s v ∷ [] ≡ map insertion (documents_from 0 (s.documents ++ next_kept s v ∷ []))
+  all_more s commits v h up = ap (λ z. z ++ next_commit s v ∷ []) (h.all ∙ ap (λ ks. map insertion (documents_from 0 ks)) (h.same up)) ∙ pushed s.documents (next_kept s v)
 
-module _ {D : Type 0} (device : Disk D) where
-  pub held_stored : (old new : Store) (disk disk' : D) (commits : History) (v : Vector) (name : Name) → StandsFor old commits → IsNormal v → HasStored device old new disk disk' v name → StandsFor new (commits ++ next_commit old.documents.items v ∷ [])
-  held_stored old new disk disk' commits v name h n i = record {
-    vectors = old.documents.items ++ v ∷ [];
-    all = ap (λ z. z ++ next_commit old.documents.items v ∷ []) (h.all ∙ ap (λ vs. map insertion (numbered 0 vs)) (h.same i.logged.up)) ∙ pushed old.documents.items v;
-    normal = All-push IsNormal old.documents.items v (subst (All IsNormal) (h.same i.logged.up) h.normal) n;
-    same = λ up. sym i.documents;
-    used = i.used ∙ i.logged.used ∙ ap (λ n. n + room v) h.used ∙ sym (ap (sum_by room) i.documents ∙ sum_by_push room old.documents.items v);
-    end = λ up. ap end_of i.wal ∙ i.logged.end ∙ ap (λ n. n + log_room v) (h.end i.logged.up) ∙ (let z : 17 + sum_by log_room old.documents.items + log_room v ≡ 17 + sum_by log_room new.documents.items = omega (arith, ap (sum_by log_room) i.documents, sum_by_push log_room old.documents.items v) in z);
-  }
+  rises_more : (s : StoreValue D) (commits : History) (v : Vector) → StandsFor found s commits → IsUp s → SerialsRise 0 (s.documents ++ next_kept s v ∷ [])
+  rises_more s commits v h up =
+      rises_push 0 s.documents (next_kept s v) (subst (SerialsRise 0) (h.same up) h.rises) (h.some up) (subst (All (λ (k : Kept). k.serial < next_serial_of s)) (h.same up) (h.below up))
 
-  pub held_failed : (old new : Store) (disk disk' : D) (commits : History) (v : Vector) → StandsFor old commits → IsNormal v → IsInDoubt device old new disk disk' v → StandsFor new (commits ++ next_commit old.documents.items v ∷ [])
-  held_failed old new disk disk' commits v h n i = record {
-    vectors = old.documents.items ++ v ∷ [];
-    all = ap (λ z. z ++ next_commit old.documents.items v ∷ []) (h.all ∙ ap (λ vs. map insertion (numbered 0 vs)) (h.same i.up)) ∙ pushed old.documents.items v;
-    normal = All-push IsNormal old.documents.items v (subst (All IsNormal) (h.same i.up) h.normal) n;
-    same = λ up. absurd (let x : None ≡ Some (device.fault_count disk') = sym up ∙ i.down in let y : ⊥ = cc in y);
-    used = i.used ∙ h.used ∙ ap (λ ds. sum_by room ds) (sym i.documents);
-    end = λ up. absurd (let x : None ≡ Some (device.fault_count disk') = sym up ∙ i.down in let y : ⊥ = cc in y);
-  }
+  pub held_stored : (old new : StoreValue D) (commits : History) (v : Vector) (name : names.Name) → StandsFor found old commits → HasStored device old new v name → StandsFor found new (commits ++ next_commit old v ∷ [])
+  held_stored old new commits v name h i =
+      let up : IsUp old = i.up in
+      let serial : next_serial_of old < next_serial_of new = i.next_serial in
+      record {
+        kept = old.documents ++ next_kept old v ∷ [];
+        more = omega (arith, h.more, length-append commits (next_commit old v ∷ []));
+        all = all_more old commits v h up;
+        rises = rises_more old commits v h up;
+        same = λ still. sym i.documents;
+        some = λ still. omega (arith, serial);
+        below = λ still.
+            All-push (λ (k : Kept). k.serial < next_serial_of new) old.documents (next_kept old v)
+            (All-weaker (λ (k : Kept). k.serial < next_serial_of old) (λ (k : Kept). k.serial < next_serial_of new) (λ k l. omega (arith, l, serial)) old.documents (subst (All (λ (k : Kept). k.serial < next_serial_of old)) (h.same up) (h.below up)))
+            serial;
+        end = λ still. omega (arith, i.end, h.end up, length-append commits (next_commit old v ∷ []));
+        xids = λ still. omega (arith, i.next_xid, h.xids up, length-append commits (next_commit old v ∷ []));
+      }
 
-pub is_full : (s : Store) (v : Vector) → s.used ≡ sum_by room s.documents.items → (2000 < length (vector_bytes v)) ⊎ (8168 < s.used + room v) → IsFull (documents_of s) v
-is_full s v u (inl b) = inl b
-is_full s v u (inr b) = inr (omega (arith, u, rooms 0 s.documents.items))
+  pub held_failed : (old new : StoreValue D) (commits : History) (v : Vector) → StandsFor found old commits → IsInDoubt device old new v → StandsFor found new (commits ++ next_commit old v ∷ [])
+  held_failed old new commits v h i =
+      record {
+        kept = old.documents ++ next_kept old v ∷ [];
+        more = omega (arith, h.more, length-append commits (next_commit old v ∷ []));
+        all = all_more old commits v h i.up;
+        rises = rises_more old commits v h i.up;
+        same = λ up. absurd (fell up);
+        some = λ up. absurd (fell up);
+        below = λ up. absurd (fell up);
+        end = λ up. absurd (fell up);
+        xids = λ up. absurd (fell up);
+      }
+    where
+      fell : IsUp new → ⊥
+      fell up = let x : None ≡ Some (device.fault_count new.journal.disk) = sym up ∙ i.down in cc
 
-pub too_large : (s : Store) (v : Vector) → s.used ≡ sum_by room s.documents.items → IsFull (documents_of s) v → (2000 < length (vector_bytes v)) ⊎ (8168 < s.used + room v)
-too_large s v u (inl b) = inl b
-too_large s v u (inr b) = inr (omega (arith, u, rooms 0 s.documents.items))
+  pub is_full : (s : StoreValue D) (v : Vector) → IsTooLarge s v → IsFull (documents_of s) v
+  is_full s v (inl b) = inl b
+  is_full s v (inr b) = inr (omega (arith, b, rooms 0 s.documents))
 
-pub not_full : (s : Store) (v : Vector) → s.used ≡ sum_by room s.documents.items → length (vector_bytes v) ≤ 2000 → s.used + room v ≤ 8168 → IsFull (documents_of s) v → ⊥
-not_full s v u a b (inl f) = omega arith
-not_full s v u a b (inr f) = omega (arith, u, rooms 0 s.documents.items)
+  pub too_large : (s : StoreValue D) (v : Vector) → IsFull (documents_of s) v → IsTooLarge s v
+  too_large s v (inl b) = inl b
+  too_large s v (inr b) = inr (omega (arith, b, rooms 0 s.documents))
 
-pub log_is_full : (s : Store) (v : Vector) → (end_of s.wal) ≡ 17 + sum_by log_room s.documents.items → 2 ^ 40 < (end_of s.wal) + 1 + log_room v → IsLogFull (documents_of s) v
-log_is_full s v e b = omega (arith, e, log_rooms 0 s.documents.items)
+  pub log_is_full : (s : StoreValue D) (commits : History) (n : ℕ) → StandsFor found s commits → IsUp s → n ≡ length commits → 2 ^ 40 < end_ahead s + 8273 → IsLogFull found n
+  log_is_full s commits n h up e b = omega (arith, e, b, h.more, h.end up)
 
-pub log_not_full : (s : Store) (v : Vector) → (end_of s.wal) ≡ 17 + sum_by log_room s.documents.items → (end_of s.wal) + 1 + log_room v ≤ 2 ^ 40 → IsLogFull (documents_of s) v → ⊥
-log_not_full s v e b f = omega (arith, e, log_rooms 0 s.documents.items)
+  pub log_not_full : (s : StoreValue D) (commits : History) (n : ℕ) → StandsFor found s commits → IsUp s → n ≡ length commits → end_ahead s + 8273 ≤ 2 ^ 40 → IsLogFull found n → ⊥
+  log_not_full s commits n h up e b f = omega (arith, e, b, f, h.more, h.end up)
 
--- the commits are named from their places
-numbered_from : (j : ℕ) (vs : List Vector) (k : ℕ) (c : Commit) → slice_get (map insertion (numbered j vs)) k ≡ Some c → (v : Vector) × (c ≡ insertion (let d : Document = record { name = name_of (j + k); vector = v } in d))
-numbered_from j [] k c e = cc
-numbered_from j (v ∷ vs) zero c e =
-    let d : ℕ → Commit = λ n. insertion (record { name = name_of n; vector = v }) in
-    let same : d j ≡ c = cc in
-    (v, sym same ∙ ap d (let z : j ≡ j + 0 = omega arith in z))
-numbered_from j (w ∷ vs) (suc k) c e =
-    let r : (v : Vector) × (c ≡ insertion (let d : Document = record { name = name_of (j + 1 + k); vector = v } in d)) = numbered_from (j + 1) vs k c e in
-    let d : ℕ → Commit = λ n. insertion (record { name = name_of n; vector = r.0 }) in
-    (r.0, r.1 ∙ ap d (let z : j + 1 + k ≡ j + suc k = omega arith in z))
+  pub xids_spent : (s : StoreValue D) (commits : History) (n : ℕ) → StandsFor found s commits → IsUp s → n ≡ length commits → IsSpent s → AreXidsSpent found n
+  xids_spent s commits n h up e b = omega (arith, e, b, h.more, h.xids up)
 
-pub held_numbered : (s : Store) (commits : History) → StandsFor s commits → IsNumbered commits
-held_numbered s commits h = subst IsNumbered (sym h.all) (λ k c e.
-    let r : (v : Vector) × (c ≡ insertion (let d : Document = record { name = name_of (0 + k); vector = v } in d)) = numbered_from 0 h.vectors k c e in
-    let d : ℕ → Commit = λ n. insertion (record { name = name_of n; vector = r.0 }) in
-    (r.0, r.1 ∙ ap d (let z : 0 + k ≡ k = omega arith in z)))
+  pub xids_left : (s : StoreValue D) (commits : History) (n : ℕ) → StandsFor found s commits → IsUp s → n ≡ length commits → (IsSpent s → ⊥) → AreXidsSpent found n → ⊥
+  xids_left s commits n h up e b f = b (omega (arith, e, f, h.more, h.xids up))

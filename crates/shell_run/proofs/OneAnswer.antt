@@ -25,7 +25,7 @@ use Rattle.shell_script.specs.Grammar.{VectorSource, vector_text, vector_by, Que
 use Rattle.shell_script.specs.declared.sources.Maker.{Maker}
 use Rattle.shell_script.specs.declared.sources.Maker.TheVariants.{To, Plain, Phrase, Web}
 use Rattle.shell_script.specs.Replies.{bad_vector, bad_query, long_lexeme, large_vector, large_query}
-use Rattle.shell_script.specs.Replies.{Refusal, no_statement, no_configuration, no_dictionary, text_refused, store_full, log_full, down, device, memory}
+use Rattle.shell_script.specs.Replies.{Refusal, no_statement, no_configuration, no_dictionary, text_refused, store_full, log_full, transactions_spent, down, device, memory}
 use Rattle.shell_script.specs.ReplyView.{refusal}
 use Rattle.shell_run.specs.Inner.Refusing.{vector_refusal, query_refusal}
 use Rattle.shell_run.specs.Values.{IsConfig, with_weight, IsSourceOf, SourceFails, IsPartOf, IsJoinedOf, PartFails, JoinIsRefused, OthersFail, IsMadeBy, MakingFails, IsExprAnswer, IsQueryAnswer, IsOneAnswer}
@@ -97,6 +97,7 @@ text_told known text (Err no_configuration) m h = absurd h
 text_told known text (Err no_dictionary) m h = absurd h
 text_told known text (Err store_full) m h = absurd h
 text_told known text (Err log_full) m h = absurd h
+text_told known text (Err transactions_spent) m h = absurd h
 text_told known text (Err (down count)) m h = absurd h
 text_told known text (Err device) m h = absurd h
 text_told known text (Err memory) m h = absurd (m refl)
@@ -129,6 +130,7 @@ made_told known config weight text (Err no_configuration) m h = (Err no_configur
 made_told known config weight text (Err no_dictionary) m h = absurd h
 made_told known config weight text (Err store_full) m h = absurd h
 made_told known config weight text (Err log_full) m h = absurd h
+made_told known config weight text (Err transactions_spent) m h = absurd h
 made_told known config weight text (Err (down count)) m h = absurd h
 made_told known config weight text (Err device) m h = absurd h
 made_told known config weight text (Err memory) m h = absurd (m refl)
@@ -177,6 +179,7 @@ join_told v w (Err no_configuration) m h = absurd h
 join_told v w (Err no_dictionary) m h = absurd h
 join_told v w (Err store_full) m h = absurd h
 join_told v w (Err log_full) m h = absurd h
+join_told v w (Err transactions_spent) m h = absurd h
 join_told v w (Err (down count)) m h = absurd h
 join_told v w (Err device) m h = absurd h
 join_told v w (Err memory) m h = absurd (m refl)
@@ -246,6 +249,7 @@ read_told known text (Err no_configuration) m h = absurd h
 read_told known text (Err no_dictionary) m h = absurd h
 read_told known text (Err store_full) m h = absurd h
 read_told known text (Err log_full) m h = absurd h
+read_told known text (Err transactions_spent) m h = absurd h
 read_told known text (Err (down count)) m h = absurd h
 read_told known text (Err device) m h = absurd h
 read_told known text (Err memory) m h = absurd (m refl)
@@ -294,6 +298,7 @@ by_told known maker config text (Err no_configuration) m h = inl (refl, h)
 by_told known maker config text (Err no_dictionary) m h = absurd h
 by_told known maker config text (Err store_full) m h = absurd h
 by_told known maker config text (Err log_full) m h = absurd h
+by_told known maker config text (Err transactions_spent) m h = absurd h
 by_told known maker config text (Err (down count)) m h = absurd h
 by_told known maker config text (Err device) m h = absurd h
 by_told known maker config text (Err memory) m h = absurd (m refl)

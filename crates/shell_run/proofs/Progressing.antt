@@ -4,6 +4,7 @@ use Rattle.std.specs.Prelude.{Option, Some, None, Ok, Err}
 use Rattle.std.specs.List.{All, list_any}
 use Rattle.std.specs.Str.Lines.{lines}
 use Rattle.std.proofs.lemmas.List.{append-nil, flat_map_more}
+use Rattle.std.proofs.lemmas.Bool.{cases_lt}
 use Rattle.std.proofs.lemmas.List.Elements.{All-nil, All-push, All-weaker}
 use Rattle.disk_trait.specs.declared.device.Disk.{Ghosts as Disk}
 use Rattle.ts_config.specs.Known.{Known, first_known}
@@ -14,22 +15,22 @@ use Rattle.shell_script.proofs.StepsLaw.{one_reading}
 use Rattle.shell_script.proofs.Rising.{Rise, number_of, steps_rise}
 use Rattle.shell_run.specs.declared.error.Stop.{Stop}
 use Rattle.shell_run.specs.Defining.{Becomes}
-use Rattle.shell_run.specs.History.{History}
+use Rattle.shell_run.specs.Finding.{History}
 use Rattle.shell_run.specs.Run.{Row, Place}
-use Rattle.shell_run.specs.Crash.{Reaches, CrashSafe, Means}
+use Rattle.shell_run.specs.Found.{Found}
+use Rattle.shell_run.specs.Crash.{StartedFrom, HasSamePages, Reaches, CrashSafe, Means}
 use Rattle.shell_run.specs.RanOn.{counts_over, RanOn}
-use Rattle.shell_run.specs.Inner.Opened.{IsSettledSince, OpenedAt}
+use Rattle.shell_run.specs.Inner.Opened.{IsFixedSince, IsLawfulSince, OpenedAt}
 use Rattle.shell_run.specs.Script.{IsRowOf, AreRows, printed_row, printed_rows}
 use Rattle.shell_run.specs.Inner.Sending.{Sends}
-use Rattle.shell_run.specs.Inner.Stores.{StandsFor}
+use Rattle.shell_run.specs.Inner.Stores.{StandsFor, IsUp, disk_of, fault_of}
 use Rattle.shell_run.specs.Outcomes.{HasPrinted, is_refusal, some_refused}
 use Rattle.shell_run.specs.Inner.Serving.{Served, Passed, HasRunSteps}
 use Rattle.shell_run.specs.declared.serving.Desk.{Desk}
-use Rattle.wal.specs.Waiting.{end_of, down_of}
-use Rattle.shell_run.specs.declared.store.Store.{Store}
+use Rattle.shell_run.specs.Inner.StoreValue.{StoreValue}
 use Rattle.shell_run.proofs.Streams.{puts_start, puts_behind, puts_on}
-use Rattle.shell_run.proofs.Held.{held_lawful, held_numbered, held_normal}
-use Rattle.shell_run.proofs.Safety.{Safe, opens_to, settled_now}
+use Rattle.shell_run.proofs.Held.{held_lawful}
+use Rattle.shell_run.proofs.Safety.{Safe, opens_now}
 use Rattle.shell_run.proofs.Going.{State, Goes, goes, row_of}
 
 -- a step more at the end
@@ -65,12 +66,12 @@ has_printed a c text rows done left known waiting well e h k = record {
   took = k.took;
 }
 
-module _ {D : Type 0} (device : Disk D) (history : History) where
+module _ {D : Type 0} (device : Disk D) (found : Found) (history : History) where
   -- the steps so far were answered, and these are left
-  pub record Progress (before now : Option (List ℕ)) (end : ℕ) (opened disk : D) (desk : Desk) (text : List ℕ) (left : List Step) (well : Bool) : Type 0 where
+  pub record Progress (before now : Option (List ℕ)) (opened : StoreValue D) (desk : Desk D) (text : List ℕ) (left : List Step) (well : Bool) : Type 0 where
     pub commits : History
     pub rows : List Row
-    pub held : StandsFor desk.store commits
+    pub held : StandsFor found desk.store commits
     pub high : ℕ
     pub last : All (λ (r : Row). r.place.step < high) rows
     pub rise : Rise high left
@@ -79,10 +80,10 @@ module _ {D : Type 0} (device : Disk D) (history : History) where
     pub each : AreRows first_known done rows desk.configs
     pub printed : Sends before now (printed_rows rows) desk.waiting.items well
     pub flag : desk.refused ≡ some_refused rows
-    pub state : (first : D) (c0 : ℕ) → OpenedAt device history first c0 opened end → State device history first c0 opened disk desk.store commits rows
+    pub state : (first : D) (c0 : ℕ) → OpenedAt device found history first c0 opened → State device found history first c0 (disk_of opened) desk.store commits rows
 
-  pub progress_start : (a : Option (List ℕ)) (disk : D) (desk : Desk) (text : List ℕ) → StandsFor desk.store history → down_of desk.store.wal ≡ None → desk.configs ≡ first_known → desk.waiting.items ≡ [] → desk.refused ≡ false → Progress a a (end_of desk.store.wal) disk disk desk text (steps_of text) true
-  progress_start a disk desk text h up k w f = record {
+  pub progress_start : (a : Option (List ℕ)) (desk : Desk D) (text : List ℕ) → StandsFor found desk.store history → IsUp desk.store → desk.configs ≡ first_known → desk.waiting.items ≡ [] → desk.refused ≡ false → Progress a a desk.store desk text (steps_of text) true
+  progress_start a desk text h up k w f = record {
     commits = history;
     rows = [];
     held = h;
@@ -96,7 +97,7 @@ module _ {D : Type 0} (device : Disk D) (history : History) where
     flag = f;
     state = λ first c0 o. record {
       run = record {
-        lawful = held_lawful desk.store history h;
+        lawful = held_lawful device found desk.store history h;
         begins = ([], append-nil history);
         answers = All-nil _;
         within = All-nil _;
@@ -118,78 +119,100 @@ module _ {D : Type 0} (device : Disk D) (history : History) where
         fallen = λ f d. absurd (let x : None ≡ Some f = sym up ∙ d in let y : ⊥ = cc in y);
         told = All-nil _;
       };
-      safe = λ t.
-          let e : IsSettledSince device history first c0 disk (end_of desk.store.wal) = o.settled t in
+      fixed = o.fixed;
+      safe = λ t s.
+          let e : IsLawfulSince device history first c0 desk.store = o.lawful t s in
           record {
-            began = e.began;
+            began = (o.fixed t).began.1;
             stands = λ u. e.stands;
+            numbered = e.stands.log_of.numbered;
             clocks = All-nil _;
-            early = e.early;
             late = λ m c ge le left. record {
               kept = history;
-              opens = (e.late m c ge le left).0;
+              opens = e.late m c ge le left;
               begins = ([], append-nil history);
               since = ([], append-nil history);
               known = All-nil _;
             };
-            pages = λ m c ge le left. (e.late m c ge le left).1;
           };
     };
   }
 
-  -- the meaning of a run over a device, at its end
-  finish : ((d : D) → device.tells → device.image d (device.clock d) (device.seen d)) → (end : ℕ) (first opened disk : D) (c0 : ℕ) (s : Store) (commits : History) (rows : List Row) → OpenedAt device history first c0 opened end → StandsFor s commits
-      → State device history first c0 opened disk s commits rows → RanOn device history first disk commits rows
-  finish law end first opened disk c0 s commits rows o h st = record {
-    opened = opened;
-    run = st.run;
-    means = λ t. by t (down_of s.wal) refl;
+  -- a run keeps the page file
+  kept_pages : ((d : D) → device.tells → device.image d (device.clock d) (device.seen d)) → (first disk : D) (c0 : ℕ) → device.tells → IsFixedSince device first c0 disk → HasSamePages device first disk
+  kept_pages law first disk c0 t f = record {
+    now = f.pages (device.clock disk) (device.seen disk) f.began.1 (omega arith) (law disk t);
+    images = λ m c ge le left. elim (cases_lt m c0) [
+      | inl lt ↦ (c, f.early m c ge lt left, refl)
+      | inr above ↦ (device.seen first, law first t, f.pages m c above le left)
+    ];
   }
-    where
-      crash : device.tells → CrashSafe device first disk history commits rows
-      crash t = let safe : Safe device first c0 disk (end_of s.wal) (down_of s.wal) history commits rows = st.safe t in record {
-        c0 = c0;
-        began = safe.began;
-        clocks = safe.clocks;
-        early = safe.early;
-        late = safe.late;
-        pages = safe.pages;
-      }
 
-      by : device.tells → (d : Option ℕ) → (down_of s.wal) ≡ d → Means device (counts_over device first opened disk) first disk history commits rows
-      by t None is = let safe : Safe device first c0 disk (end_of s.wal) (down_of s.wal) history commits rows = st.safe t in record {
-        is_first = (o.settled t).entry;
-        last = commits;
-        more = [];
-        all = append-nil commits;
-        is_last = opens_to (device.seen disk) commits (held_numbered s commits h) (held_normal s commits h) (settled_now device commits (end_of s.wal) disk (safe.stands is));
-        in_doubt = λ l. absurd (omega arith);
-        crash = crash t;
-      }
-      by t (Some f) is =
-          let safe : Safe device first c0 disk (end_of s.wal) (down_of s.wal) history commits rows = st.safe t in
-          let r : Reaches (device.seen disk) (device.clock disk) history commits rows = safe.late (device.clock disk) (device.seen disk) safe.began.1 (omega arith) (law disk t) in
+  -- the meaning of a run over a device, at its end
+  finish : ((d : D) → device.tells → device.image d (device.clock d) (device.seen d)) → (first : D) (opened : StoreValue D) (c0 : ℕ) (s : StoreValue D) (commits : History) (rows : List Row) → OpenedAt device found history first c0 opened
+      → State device found history first c0 (disk_of opened) s commits rows → RanOn device history first (disk_of s) commits rows × (device.tells → HasSamePages device first (disk_of s))
+  finish law first opened c0 s commits rows o st = (
+    record {
+      opened = disk_of opened;
+      found = found;
+      found_commits = o.found_commits;
+      found_in = o.found_in;
+      run = st.run;
+      numbered = λ t f. (st.safe t f).numbered;
+      means = λ t f. by t f (fault_of s) refl;
+    },
+    λ t. kept_pages law first (disk_of s) c0 t (st.fixed t),
+  )
+    where
+      crash : device.tells → StartedFrom device first → CrashSafe device first (disk_of s) history commits rows
+      crash t f =
+          let safe : Safe device first c0 s history commits rows = st.safe t f in
+          let fixed : IsFixedSince device first c0 (disk_of s) = st.fixed t in
           record {
-            is_first = (o.settled t).entry;
+            c0 = c0;
+            began = fixed.began;
+            clocks = safe.clocks;
+            early = fixed.early;
+            late = safe.late;
+            pages = fixed.pages;
+          }
+
+      by : device.tells → StartedFrom device first → (d : Option ℕ) → fault_of s ≡ d → Means device (counts_over device found first (disk_of opened) (disk_of s)) first (disk_of s) history commits rows
+      by t f None is =
+          let safe : Safe device first c0 s history commits rows = st.safe t f in
+          record {
+            is_first = (o.lawful t f).entry;
+            last = commits;
+            more = [];
+            all = append-nil commits;
+            is_last = opens_now device (device.seen first).pages s commits (device.seen (disk_of s)) t is (safe.stands is) (law (disk_of s) t);
+            in_doubt = λ l. absurd (omega arith);
+            crash = crash t f;
+          }
+      by t f (Some n) is =
+          let safe : Safe device first c0 s history commits rows = st.safe t f in
+          let r : Reaches (device.seen (disk_of s)) (device.clock (disk_of s)) history commits rows = safe.late (device.clock (disk_of s)) (device.seen (disk_of s)) safe.began (omega arith) (law (disk_of s) t) in
+          record {
+            is_first = (o.lawful t f).entry;
             last = r.kept;
             more = r.begins.0;
             all = r.begins.1;
             is_last = r.opens;
-            in_doubt = λ l. omega (arith, (st.counted.fallen f is).0, (st.counted.fallen f is).1);
-            crash = crash t;
+            in_doubt = λ l. omega (arith, (st.counted.fallen n is).0, (st.counted.fallen n is).1);
+            crash = crash t f;
           }
 
-  ran_by : ((d : D) → device.tells → device.image d (device.clock d) (device.seen d)) → (a c : Option (List ℕ)) (end : ℕ) (opened disk : D) (desk : Desk) (text : List ℕ) (left : List Step) (well : Bool) (h : Progress a c end opened disk desk text left well)
-      → (first : D) (c0 : ℕ) → OpenedAt device history first c0 opened end → RanOn device history first disk h.commits h.rows
-  ran_by law a c end opened disk desk text left well h first c0 o = finish law end first opened disk c0 desk.store h.commits h.rows o h.held (h.state first c0 o)
+  ran_by : ((d : D) → device.tells → device.image d (device.clock d) (device.seen d)) → (a c : Option (List ℕ)) (opened : StoreValue D) (desk : Desk D) (text : List ℕ) (left : List Step) (well : Bool) (h : Progress a c opened desk text left well)
+      → (first : D) (c0 : ℕ) → OpenedAt device found history first c0 opened → RanOn device history first (disk_of desk.store) h.commits h.rows × (device.tells → HasSamePages device first (disk_of desk.store))
+  ran_by law a c opened desk text left well h first c0 o = finish law first opened c0 desk.store h.commits h.rows o (h.state first c0 o)
 
   -- one step more was answered
-  pub progress_step : (a b c : Option (List ℕ)) (end : ℕ) (opened disk disk' : D) (old new : Desk) (text : List ℕ) (s : Step) (left : List Step) (well : Bool) → Progress a b end opened disk old text (s ∷ left) true → Served device s old new disk disk' b c well → Progress a c end opened disk' new text left well
-  progress_step a b c end opened disk disk' old new text s left well p t =
+  pub progress_step : (a b c : Option (List ℕ)) (opened : StoreValue D) (old new : Desk D) (text : List ℕ) (s : Step) (left : List Step) (well : Bool) → Progress a b opened old text (s ∷ left) true → Served device s old new b c well → Progress a c opened new text left well
+  progress_step a b c opened old new text s left well p t =
       let number : ℕ = number_of s in
       let place : Place = record { step = number; session = t.session; turn = 0 } in
       let lower : All (λ (r : Row). r.place.step < number) p.rows = All-weaker (λ (r : Row). r.place.step < p.high) (λ (r : Row). r.place.step < number) (λ r l. omega (arith, l, p.rise.0)) p.rows p.last in
-      let g : Goes device history p.commits p.rows old.store new.store disk disk' place old.configs number t.turned.statement t.reply = goes device history old.store new.store disk disk' p.commits p.rows place old.configs number t.turned.statement t.reply p.held lower t.turned.answered in
+      let g : Goes device found history p.commits p.rows old.store new.store place old.configs number t.turned.statement t.reply = goes device found history old.store new.store p.commits p.rows place old.configs number t.turned.statement t.reply p.held lower t.turned.answered in
       let row : Row = row_of place old.configs number t.turned.statement t.reply g.note in
       record {
         commits = p.commits ++ g.more;
@@ -203,28 +226,27 @@ module _ {D : Type 0} (device : Disk D) (history : History) where
         each = rows_more first_known old.configs new.configs p.done p.rows s row p.each (record { step = refl; numbered = refl; turn = refl; before = refl; says = t.turned.says }) t.turned.becomes;
         printed = subst (λ z. Sends a c z new.waiting.items well) (flat_map_more printed_row [] p.rows row) (puts_behind a b c (printed_rows p.rows) old.waiting.items (said t.session t.reply) new.waiting.items well p.printed t.text);
         flag = t.flag ∙ ap (λ b. b || is_refusal t.reply) p.flag ∙ sym (any_push (λ (r : Row). is_refusal r.reply) p.rows row);
-        state = λ first c0 o. g.state first c0 opened (p.state first c0 o);
+        state = λ first c0 o. g.state first c0 (disk_of opened) (p.state first c0 o);
       }
 
-  -- the clause of `run_steps`, where the run stopped
-  pub stopped_out : ((d : D) → device.tells → device.image d (device.clock d) (device.seen d)) → (a c : Option (List ℕ)) (end : ℕ) (opened disk : D) (desk : Desk) (text : List ℕ) (left : List Step) (stop : Stop) → Progress a c end opened disk desk text left false
-      → HasRunSteps {E = Stop} device history text a c opened disk end (Err stop)
-  stopped_out law a c end opened disk desk text left stop p = record {
+  -- the clause of `serve_steps`, where the run stopped
+  pub stopped_out : ((d : D) → device.tells → device.image d (device.clock d) (device.seen d)) → (a c : Option (List ℕ)) (opened : StoreValue D) (desk : Desk D) (text : List ℕ) (left : List Step) (stop : Stop) → Progress a c opened desk text left false
+      → HasRunSteps {E = Stop} device found history text a c opened (disk_of desk.store) (Err stop)
+  stopped_out law a c opened desk text left stop p = record {
     rows = p.rows;
     commits = p.commits;
     ran = record { so_far = has_printed a c text p.rows p.done left desk.configs desk.waiting.items false p.script p.each p.printed; whole = λ e. cc };
     flag = tt;
-    numbered = held_numbered desk.store p.commits p.held;
-    over = ran_by law a c end opened disk desk text left false p;
+    over = ran_by law a c opened desk text left false p;
   }
 
   -- more was written of what waits
-  pub progress_sent : (a b c : Option (List ℕ)) (end : ℕ) (opened disk disk' : D) (old new : Desk) (text : List ℕ) (left : List Step) (well : Bool) → Progress a b end opened disk old text left true → disk' ≡ disk → new.store ≡ old.store → new.configs ≡ old.configs → new.refused ≡ old.refused
-      → Sends b c old.waiting.items new.waiting.items well → Progress a c end opened disk' new text left well
-  progress_sent a b c end opened disk disk' old new text left well p d s k f t = record {
+  pub progress_sent : (a b c : Option (List ℕ)) (opened : StoreValue D) (old new : Desk D) (text : List ℕ) (left : List Step) (well : Bool) → Progress a b opened old text left true → new.store ≡ old.store → new.configs ≡ old.configs → new.refused ≡ old.refused
+      → Sends b c old.waiting.items new.waiting.items well → Progress a c opened new text left well
+  progress_sent a b c opened old new text left well p s k f t = record {
     commits = p.commits;
     rows = p.rows;
-    held = subst (λ x. StandsFor x p.commits) (sym s) p.held;
+    held = subst (λ x. StandsFor found x p.commits) (sym s) p.held;
     high = p.high;
     last = p.last;
     rise = p.rise;
@@ -233,33 +255,31 @@ module _ {D : Type 0} (device : Disk D) (history : History) where
     each = subst (AreRows first_known p.done p.rows) (sym k) p.each;
     printed = puts_on a b c (printed_rows p.rows) old.waiting.items new.waiting.items well p.printed t;
     flag = f ∙ p.flag;
-    state = λ first c0 o. subst (λ z. State device history first c0 opened z new.store p.commits p.rows) (sym d) (subst (λ x. State device history first c0 opened disk x p.commits p.rows) (sym s) (p.state first c0 o));
+    state = λ first c0 o. subst (λ x. State device found history first c0 (disk_of opened) x p.commits p.rows) (sym s) (p.state first c0 o);
   }
 
-  pub progress_left : (a b : Option (List ℕ)) (end : ℕ) (opened disk : D) (desk : Desk) (text : List ℕ) (left other : List Step) (well : Bool) → Progress a b end opened disk desk text left well → left ≡ other → Progress a b end opened disk desk text other well
-  progress_left a b end opened disk desk text left other well p e = subst (λ z. Progress a b end opened disk desk text z well) e p
+  pub progress_left : (a b : Option (List ℕ)) (opened : StoreValue D) (desk : Desk D) (text : List ℕ) (left other : List Step) (well : Bool) → Progress a b opened desk text left well → left ≡ other → Progress a b opened desk text other well
+  progress_left a b opened desk text left other well p e = subst (λ z. Progress a b opened desk text z well) e p
 
   -- the run stopped in a step
-  pub step_stop : ((d : D) → device.tells → device.image d (device.clock d) (device.seen d)) → (a b c : Option (List ℕ)) (end : ℕ) (opened disk disk' : D) (old new : Desk) (text : List ℕ) (s : Step) (left : List Step) (stop : Stop) → Progress a b end opened disk old text (s ∷ left) true
-      → Served device s old new disk disk' b c false ⊎ Passed old new disk disk' b c false → HasRunSteps {E = Stop} device history text a c opened disk' end (Err stop)
-  step_stop law a b c end opened disk disk' old new text s left stop p (inl t) = stopped_out law a c end opened disk' new text left stop (progress_step a b c end opened disk disk' old new text s left false p t)
-  step_stop law a b c end opened disk disk' old new text s left stop p (inr t) =
-      stopped_out law a c end opened disk' new text (s ∷ left) stop (progress_sent a b c end opened disk disk' old new text (s ∷ left) false p t.device t.same.0 t.same.1 t.same.2 t.text)
+  pub step_stop : ((d : D) → device.tells → device.image d (device.clock d) (device.seen d)) → (a b c : Option (List ℕ)) (opened : StoreValue D) (old new : Desk D) (text : List ℕ) (s : Step) (left : List Step) (stop : Stop) → Progress a b opened old text (s ∷ left) true
+      → Served device s old new b c false ⊎ Passed old new b c false → HasRunSteps {E = Stop} device found history text a c opened (disk_of new.store) (Err stop)
+  step_stop law a b c opened old new text s left stop p (inl t) = stopped_out law a c opened new text left stop (progress_step a b c opened old new text s left false p t)
+  step_stop law a b c opened old new text s left stop p (inr t) = stopped_out law a c opened new text (s ∷ left) stop (progress_sent a b c opened old new text (s ∷ left) false p t.same.0 t.same.1 t.same.2 t.text)
 
-  pub step_goes : (a b c : Option (List ℕ)) (end : ℕ) (opened disk disk' : D) (old new : Desk) (text : List ℕ) (s : Step) (left : List Step) → Progress a b end opened disk old text (s ∷ left) true
-      → Served device s old new disk disk' b c true ⊎ Passed old new disk disk' b c true → Progress a c end opened disk' new text left true
-  step_goes a b c end opened disk disk' old new text s left p (inl t) = progress_step a b c end opened disk disk' old new text s left true p t
-  step_goes a b c end opened disk disk' old new text s left p (inr t) = absurd (let e : true ≡ false = t.short in let x : ⊥ = cc in x)
+  pub step_goes : (a b c : Option (List ℕ)) (opened : StoreValue D) (old new : Desk D) (text : List ℕ) (s : Step) (left : List Step) → Progress a b opened old text (s ∷ left) true
+      → Served device s old new b c true ⊎ Passed old new b c true → Progress a c opened new text left true
+  step_goes a b c opened old new text s left p (inl t) = progress_step a b c opened old new text s left true p t
+  step_goes a b c opened old new text s left p (inr t) = absurd (let e : true ≡ false = t.short in let x : ⊥ = cc in x)
 
-  -- the clause of `run_steps`, where all steps were answered and all text was written
-  pub ended_out : ((d : D) → device.tells → device.image d (device.clock d) (device.seen d)) → (a c : Option (List ℕ)) (end : ℕ) (opened disk : D) (desk : Desk) (text : List ℕ) → Progress a c end opened disk desk text [] true → desk.waiting.items ≡ []
-      → HasRunSteps {E = Stop} device history text a c opened disk end (Ok desk.refused)
+  -- the clause of `serve_steps`, where all steps were answered and all text was written
+  pub ended_out : ((d : D) → device.tells → device.image d (device.clock d) (device.seen d)) → (a c : Option (List ℕ)) (opened : StoreValue D) (desk : Desk D) (text : List ℕ) → Progress a c opened desk text [] true → desk.waiting.items ≡ []
+      → HasRunSteps {E = Stop} device found history text a c opened (disk_of desk.store) (Ok desk.refused)
   unfolding has_printed
-  ended_out law a c end opened disk desk text p empty = record {
+  ended_out law a c opened desk text p empty = record {
     rows = p.rows;
     commits = p.commits;
     ran = record { so_far = has_printed a c text p.rows p.done [] desk.configs desk.waiting.items true p.script p.each p.printed; whole = λ t. (refl, p.printed.waits refl ∙ empty) };
     flag = p.flag;
-    numbered = held_numbered desk.store p.commits p.held;
-    over = ran_by law a c end opened disk desk text [] true p;
+    over = ran_by law a c opened desk text [] true p;
   }

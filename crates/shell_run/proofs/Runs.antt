@@ -10,9 +10,9 @@ use Rattle.ts_base.specs.Vectors.{Vector}
 use Rattle.ts_query.specs.Queries.{Query}
 use Rattle.shell_script.specs.Grammar.{Statement, insert, search as finding, show, query, parse, define, nothing}
 use Rattle.ts_config.specs.Known.{Known}
-use Rattle.shell_run.specs.History.{Document, Commit, History, IsLawful, Begins, docs, IsFull, IsFound, insertion}
-use Rattle.shell_run.specs.Entries.{IsLogFull}
-use Rattle.shell_run.specs.Run.{Row, Note, Counts, Reply, stored, lists, refused, store_full, log_full, down, device, memory, Run, IsWithin, IsAnswered, IsInserted, IsSearched, MayHaveOwn, MetFault, IsDownSince, FindsDown, HasFailed, HasCalled, IsSeenBy, Before, has_commit, is_at, seen_by, HasOwn}
+use Rattle.shell_run.specs.Finding.{Document, Commit, History, IsLawful, Begins, docs, IsFull, IsFound, insertion}
+use Rattle.shell_run.specs.Found.{IsLogFull, AreXidsSpent}
+use Rattle.shell_run.specs.Run.{Row, Note, Counts, Reply, stored, lists, refused, store_full, log_full, transactions_spent, down, device, memory, Run, IsWithin, IsAnswered, IsInserted, IsSearched, MayHaveOwn, MetFault, IsDownSince, FindsDown, HasFailed, HasCalled, IsSeenBy, Before, has_commit, is_at, seen_by, HasOwn}
 
 get_more : {X : Type 0} (xs ys : List X) (i : ℕ) (x : X) → slice_get xs i ≡ Some x → slice_get (xs ++ ys) i ≡ Some x
 get_more [] ys i x e = cc
@@ -34,6 +34,7 @@ pub record Grows (k l : Counts) : Type 0 where
   pub faults : l.faults ≡ k.faults
   pub faults_opened : l.faults_opened ≡ k.faults_opened
   pub writes : l.writes ≡ k.writes
+  pub found : l.found ≡ k.found
   pub faults_after : k.faults_after ≤ l.faults_after
   pub writes_after : k.writes_after ≤ l.writes_after
 
@@ -56,12 +57,19 @@ is_full_more commits more note P le h = subst P (sym (seen_more commits more not
 
 insert_more : (k l : Counts) (commits more : History) (v : Vector) (reply : Reply) (note : Note) → Grows k l → note.snapshot ≤ length commits → IsInserted k commits v reply note → IsInserted l (commits ++ more) v reply note
 insert_more k l commits more v (stored name) note g le h = (
-  own_more commits more note (insertion (record { name = name; vector = v })) h.0,
-  not_full_more commits more note (λ ds. IsFull ds v) le h.1,
-  not_full_more commits more note (λ ds. IsLogFull ds v) le h.2,
+  (h.0.0, h.0.1, own_more commits more note (insertion (record { name = h.0.0; vector = v })) h.0.2),
+  subst (λ f. AreXidsSpent f note.snapshot → ⊥) (sym g.found) h.1,
+  not_full_more commits more note (λ ds. IsFull ds v) le h.2,
+  subst (λ f. IsLogFull f note.snapshot → ⊥) (sym g.found) h.3,
 )
-insert_more k l commits more v (refused store_full) note g le h = (h.0, is_full_more commits more note (λ ds. IsFull ds v) le h.1)
-insert_more k l commits more v (refused log_full) note g le h = (h.0, not_full_more commits more note (λ ds. IsFull ds v) le h.1, is_full_more commits more note (λ ds. IsLogFull ds v) le h.2)
+insert_more k l commits more v (refused transactions_spent) note g le h = (h.0, subst (λ f. AreXidsSpent f note.snapshot) (sym g.found) h.1)
+insert_more k l commits more v (refused store_full) note g le h = (h.0, subst (λ f. AreXidsSpent f note.snapshot → ⊥) (sym g.found) h.1, is_full_more commits more note (λ ds. IsFull ds v) le h.2)
+insert_more k l commits more v (refused log_full) note g le h = (
+  h.0,
+  subst (λ f. AreXidsSpent f note.snapshot → ⊥) (sym g.found) h.1,
+  not_full_more commits more note (λ ds. IsFull ds v) le h.2,
+  subst (λ f. IsLogFull f note.snapshot) (sym g.found) h.3,
+)
 insert_more k l commits more v (refused (down count)) note g le h = (own_may commits more note v h.0, down_more k l count g h.1)
 insert_more k l commits more v (refused device) note g le h = (own_may commits more note v h.0, met_more k l note g h.1)
 insert_more k l commits more v (refused memory) note g le h = h

@@ -12,7 +12,7 @@ use Rattle.shell_script.specs.Grammar.{Expr, insert, define}
 use Rattle.shell_script.specs.Name.{Name}
 use Rattle.shell_run.specs.Defining.{Becomes}
 use Rattle.shell_run.specs.Run.{Row, Note, Counts, IsAnswered, stored, done, HasFailed, FindsDown}
-use Rattle.shell_run.specs.History.{History}
+use Rattle.shell_run.specs.Finding.{History}
 use Rattle.shell_run.specs.Traces.{NoNameIsTakenTwice, NoneIsStoredAfterFailure, EachFailureIsNoted, OneCountIsTold, NothingIsPrintedWith4, NoLogIsWiped, NoPageIsWritten}
 
 pub none_stored_after_failure : NoneIsStoredAfterFailure

@@ -5,16 +5,9 @@ use Rattle.std.specs.List.{All}
 use Rattle.disk_trait.specs.Files.{Files}
 use Rattle.disk_trait.specs.declared.device.Disk.{Ghosts as Disk}
 use Rattle.wal.specs.Pages.{HasPagesOf}
-use Rattle.shell_run.specs.History.{History, Begins}
-use Rattle.shell_run.specs.Entries.{OpensTo}
+use Rattle.shell_run.specs.Finding.{History, Begins}
+pub use Rattle.buffer_frames.specs.Opens.{OpensTo, StartedFrom, OpensAsBefore}
 use Rattle.shell_run.specs.Run.{Row, Counts, IsOkOfStore}
-
--- a device from which a run may start: what a read gives opens, and so does all that a crash may
--- leave now
-pub record StartedFrom {D : Type 0} (device : Disk D) (d : D) : Type 0 where
-  pub now : (commits : History) × OpensTo (device.seen d) commits
-  pub images : (c : Files) → device.image d (device.clock d) c
-      → (commits : History) × OpensTo c commits
 
 -- at a moment not before its answer, what the statement saw and what it committed are there
 abbrev pub IsKnownBy : ℕ → ℕ → Row → Type 0
@@ -43,7 +36,7 @@ pub record CrashSafe {D : Type 0} (device : Disk D) (old new : D) (first commits
       → device.image old (device.clock old) c
   pub late : (m : ℕ) (c : Files) → c0 ≤ m → m ≤ device.clock new → device.image new m c
       → Reaches c m first commits rows
-  -- until documents lie in pages
+  -- until pages are written to the page file
   pub pages : (m : ℕ) (c : Files) → c0 ≤ m → m ≤ device.clock new → device.image new m c
       → c.pages ≡ (device.seen old).pages
 
@@ -59,15 +52,9 @@ pub record Means {D : Type 0} (device : Disk D) (counts : Counts) (old new : D)
   pub in_doubt : 0 < length more → counts.faults < counts.faults_after
   pub crash : CrashSafe device old new first commits rows
 
--- Until documents lie in pages: what a read gives of the page file stays the same, and a crash
+-- Until pages are written to the page file: what a read gives of it stays the same, and a crash
 -- leaves in it what it could leave before.
 pub record HasSamePages {D : Type 0} (device : Disk D) (old new : D) : Type 0 where
   pub now : (device.seen new).pages ≡ (device.seen old).pages
   pub images : (m : ℕ) (c : Files) → device.clock old ≤ m → m ≤ device.clock new
       → device.image new m c → HasPagesOf (device.image old (device.clock old)) c
-
--- The store was not opened: each image opens to what some image on entry opens to.
-pub record OpensAsBefore {D : Type 0} (device : Disk D) (old new : D) : Type 0 where
-  pub images : (m : ℕ) (c : Files) → device.clock old ≤ m → m ≤ device.clock new
-      → device.image new m c → (kept : History) × OpensTo c kept
-      × ((d : Files) × device.image old (device.clock old) d × OpensTo d kept)

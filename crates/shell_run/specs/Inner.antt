@@ -1,8 +1,13 @@
 pub mod Definitions
-pub mod Logs
+pub mod Documents
+pub mod Drafts
+pub mod Heaps
+pub mod Kept
 pub mod Opened
+pub mod Plain
 pub mod Sending
 pub mod Refusing
 pub mod Serving
 pub mod Statuses
+pub mod StoreValue
 pub mod Stores

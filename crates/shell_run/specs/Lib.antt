@@ -1,12 +1,12 @@
 pub mod HasRead
-pub mod History
+pub mod Finding
 pub mod Values
 pub mod Defining
 pub mod Run
 pub mod Script
 pub mod Outcomes
 pub mod Words
-pub mod Entries
+pub mod Found
 pub mod Crash
 pub mod RanOn
 pub mod RunMeets
@@ -15,6 +15,9 @@ pub mod Inner
 pub use Rattle.disk_trait.specs.Files
 pub use Rattle.disk_trait.specs.Device
 pub use Rattle.wal.specs.Batches
+pub use Rattle.core_state.specs.History
+pub use Rattle.buffer_frames.specs.Opens
+pub use Rattle.buffer_frames.specs.NoStore
 pub use Rattle.wal.specs.Pages
 pub use Rattle.wal.specs.Reading
 pub use Rattle.ts_base.specs.Vectors

@@ -6,11 +6,11 @@ use Rattle.ts_base.specs.Vectors.{Vector}
 use Rattle.ts_query.specs.Queries.{Query}
 use Rattle.ts_config.specs.Known.{Known}
 use Rattle.shell_script.specs.Grammar.{Statement, insert, search, show, query, parse, define, nothing}
-use Rattle.shell_script.specs.Name.{Name}
-use Rattle.shell_run.specs.History.{Document, Commit, History, insertion, docs, IsFound, IsFull, Begins, IsLawful}
-use Rattle.shell_run.specs.Entries.{IsLogFull}
+use Rattle.page_types.specs.declared.page.Name as pages
+use Rattle.shell_run.specs.Finding.{Document, Commit, History, insertion, docs, told, IsFound, IsFull, Begins, IsLawful}
+use Rattle.shell_run.specs.Found.{Found, IsLogFull, AreXidsSpent}
 use Rattle.shell_run.specs.Defining.{IsDefined}
-pub use Rattle.shell_script.specs.Replies.{Refusal, no_statement, no_configuration, no_dictionary, store_full, log_full, down, device, memory, text_refused}
+pub use Rattle.shell_script.specs.Replies.{Refusal, no_statement, no_configuration, no_dictionary, store_full, log_full, transactions_spent, down, device, memory, text_refused}
 pub use Rattle.shell_script.specs.Replies.{Reply, stored, lists, shows_vector, shows_query, shows_tokens, done, refused}
 use Rattle.shell_run.specs.Values.{IsValueOf, ExprFails, IsQueryOf, QueryFails, IsRefusedBy, IsShown, IsQueried, IsParsed}
 
@@ -42,14 +42,15 @@ pub record Row : Type 0 where
   pub reply : Reply
   pub note : Note
 
--- the device's counts at the beginning and at the end of the run; of faults also just after the
--- opening
+-- the device's counts at the beginning and at the end of the run, of faults also just after the
+-- opening; and what the opening found
 pub record Counts : Type 0 where
   pub faults : ℕ
   pub faults_opened : ℕ
   pub faults_after : ℕ
   pub writes : ℕ
   pub writes_after : ℕ
+  pub found : Found
 
 -- one ended before the other began
 abbrev pub Before : Row → Row → Type 0
@@ -67,7 +68,7 @@ HasOwn commits note c = (p : ℕ) × (note.commit ≡ Some p) × (slice_get comm
 abbrev pub MayHaveOwn : History → Note → Vector → Type 0
 MayHaveOwn commits note v =
     (note.commit ≡ None)
-    ⊎ ((name : Name) × HasOwn commits note (insertion (record { name = name; vector = v })))
+    ⊎ ((name : pages.Name) × HasOwn commits note (insertion (record { name = name; vector = v })))
 
 -- the documents that a statement saw
 abbrev pub seen_by : History → Note → List Document
@@ -89,15 +90,22 @@ IsDownSince counts count =
 -- what an insertion of the vector is answered
 abbrev pub IsInserted : Counts → History → Vector → Reply → Note → Type 0
 IsInserted counts commits v (stored name) note =
-    HasOwn commits note (insertion (record { name = name; vector = v }))
+    ((n : pages.Name) × (name ≡ told n)
+    × HasOwn commits note (insertion (record { name = n; vector = v })))
+    × (AreXidsSpent counts.found note.snapshot → ⊥)
     × (IsFull (seen_by commits note) v → ⊥)
-    × (IsLogFull (seen_by commits note) v → ⊥)
+    × (IsLogFull counts.found note.snapshot → ⊥)
+IsInserted counts commits v (refused transactions_spent) note =
+    (note.commit ≡ None) × AreXidsSpent counts.found note.snapshot
 IsInserted counts commits v (refused store_full) note =
-    (note.commit ≡ None) × IsFull (seen_by commits note) v
+    (note.commit ≡ None)
+    × (AreXidsSpent counts.found note.snapshot → ⊥)
+    × IsFull (seen_by commits note) v
 IsInserted counts commits v (refused log_full) note =
     (note.commit ≡ None)
+    × (AreXidsSpent counts.found note.snapshot → ⊥)
     × (IsFull (seen_by commits note) v → ⊥)
-    × IsLogFull (seen_by commits note) v
+    × IsLogFull counts.found note.snapshot
 IsInserted counts commits v (refused (down count)) note =
     MayHaveOwn commits note v × IsDownSince counts count
 IsInserted counts commits v (refused device) note =

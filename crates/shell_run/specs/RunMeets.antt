@@ -1,5 +1,5 @@
 -- The contract of a run, by what its source, its sink and its device tell.
-use Rattle.std.specs.Prelude.{◌≡◌, ◌≢◌, ◌⊎◌, ◌↔◌, ℕ, ◌<◌, ◌≤◌, List, [], length, IfSome, String}
+use Rattle.std.specs.Prelude.{◌≡◌, ◌≢◌, ◌⊎◌, ◌↔◌, ℕ, ◌<◌, ◌≤◌, List, length, IfSome, String}
 use Rattle.std.specs.Io.KnownBytes.{IsAtEnd}
 use Rattle.std.specs.declared.alloc.Global.{Global}
 use Rattle.disk_trait.specs.Device.{Rose}
@@ -12,8 +12,9 @@ use Rattle.shell_run.specs.Outcomes.{NotRun, Answered}
 use Rattle.shell_run.specs.Run.{Row}
 use Rattle.shell_run.specs.Crash.{StartedFrom, OpensAsBefore, HasSamePages}
 use Rattle.wal.specs.Reading.{IsOnlyRead}
+use Rattle.buffer_frames.specs.NoStore.{IsNoStore}
 use Rattle.shell_run.specs.RanOn.{RanOn}
-use Rattle.shell_run.specs.History.{History, IsNumbered}
+use Rattle.shell_run.specs.Finding.{History}
 use Rattle.shell_run.specs.declared.reading.TheConstants.{SCRIPT_LIMIT}
 use Rattle.shell_run.specs.declared.top.Outcome.{Outcome}
 use Rattle.shell_run.specs.declared.words.Settings.{Settings}
@@ -21,9 +22,9 @@ use Rattle.shell_run.specs.declared.words.Settings.{Settings}
 module _ {K D : Type 0} (sink : Sink K) (device : Disk D) where
   -- The causes of the statuses 3, 4 and 7.
   pub record HasCauses (status : ℕ) (out out' : K) (disk disk' : D) : Type 0 where
-    -- 4: the log has a byte
-    pub status_4 : device.tells → status ≡ 4 → 0 < length (device.seen disk).log
-    pub no_store : device.tells → 0 < length (device.seen disk).log
+    -- 4: the files are no store
+    pub status_4 : device.tells → status ≡ 4 → IsNoStore (device.seen disk)
+    pub no_store : device.tells → IsNoStore (device.seen disk)
         → (status ≢ 0) × (status ≢ 1) × (status ≢ 7)
     pub keeps_4 : status ≡ 4 → IsOnlyRead device disk disk'
     -- 7: the sink failed
@@ -39,13 +40,13 @@ module _ {K D : Type 0} (sink : Sink K) (device : Disk D) where
     pub nothing : NotRun status (sink.taken out) (sink.taken out')
     pub as_before : device.tells → StartedFrom device disk → OpensAsBefore device disk disk'
 
-  -- The text's statements were run, over a store with no documents at first.
+  -- The text's statements were run, over a store that had a history.
   pub record HasRun (text : List ℕ) (status : ℕ) (out out' : K) (disk disk' : D) : Type 0 where
     pub rows : List Row
+    pub first : History
     pub commits : History
     pub answered : Answered text status (sink.taken out) (sink.taken out') rows
-    pub numbered : IsNumbered commits
-    pub ran : RanOn device [] disk disk' commits rows
+    pub ran : RanOn device first disk disk' commits rows
 
 module _ {S K D : Type 0} (source : Source S) (sink : Sink K) (device : Disk D) where
   -- Nothing was run, or the bytes of a script were read and answered.

@@ -8,7 +8,7 @@ use Rattle.shell_script.specs.Heads.{Kind, dictionary_head}
 use Rattle.shell_script.specs.Steps.{Step}
 use Rattle.shell_script.specs.Grammar.{Expr, insert, define}
 use Rattle.shell_script.specs.Name.{Name}
-use Rattle.shell_run.specs.History.{History}
+use Rattle.shell_run.specs.Finding.{History}
 use Rattle.shell_run.specs.Run.{Row, Counts, Before, Run, stored, done, refused, down, device}
 use Rattle.shell_run.specs.Script.{AreRows}
 use Rattle.shell_run.specs.Outcomes.{Answered}

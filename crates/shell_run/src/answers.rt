@@ -20,6 +20,7 @@ fn refusal_of(error: StoreError) -> Refusal
     match error {
         StoreError::Full => Refusal::StoreFull,
         StoreError::LogFull => Refusal::LogFull,
+        StoreError::Spent => Refusal::TransactionsSpent,
         StoreError::Down { fault } => Refusal::Down(fault),
         StoreError::Device => Refusal::Device,
         StoreError::Memory => Refusal::Memory,
@@ -51,17 +52,16 @@ fn found(answer: Result<Vec<Name>, StoreError>) -> Reply
 pub fn answer<D: Disk>(
     alloc: Global,
     configs: &Configs,
-    store: &mut Store,
-    disk: &mut D,
+    store: &mut Store<D>,
     line: u64,
     asked: Statement<'_>,
 ) -> Reply
-    ensures { HasAnswered D.Disk configs.now line store.old store.new disk.old disk.new
-        (statement asked.entry) (reply result) }
+    ensures { HasAnswered D.Disk configs.now line store.old store.new (statement asked.entry)
+        (reply result) }
 {
     match asked {
         Statement::Insert(from) => match expr_value(alloc, configs, &from) {
-            Ok(vector) => stored(store.insert(disk, vector)),
+            Ok(vector) => stored(store.insert(vector)),
             Err(why) => Reply::Refused(why),
         },
         Statement::Search(from) => match query_value(alloc, configs, &from) {

@@ -1,13 +1,12 @@
 // Why a run stops, and why the store refuses a statement.
 ghost use Rattle.std.specs.Prelude.{◌≡◌};
 ghost use Rattle.shell_run.specs.Inner.Statuses.{stop_number, stop_at, store_error};
-ghost use Rattle.shell_run.specs.declared.error.Stop.TheVariants.{OutOfMemory, DiskFault};
+ghost use Rattle.shell_run.specs.declared.error.Stop.TheVariants.{OutOfMemory};
 ghost use Rattle.shell_run.specs.declared.error.StoreError.TheVariants.{Memory};
 
-use disk_trait::Failed;
+use buffer_frames::{LogError, OpenFault};
 use std::alloc::AllocError;
 use thiserror::Error;
-use wal::WalError;
 
 /// Why a run stops before its end.
 #[derive(Clone, Copy, Debug, PartialEq, Eq, Error)]
@@ -18,7 +17,7 @@ pub enum Stop {
     /// The script has more bytes than a script may have.
     #[error("script too long")]
     TooLong,
-    /// The log is no log of a store that can be opened.
+    /// The files are no store.
     #[error("not a store")]
     NotAStore,
     /// The device failed in the opening.
@@ -56,23 +55,14 @@ impl From<AllocError> for Stop {
     }
 }
 
-impl From<Failed> for Stop {
-    ghost from_gives = { λ _ e. e ≡ DiskFault };
+impl From<OpenFault> for Stop {
+    ghost from_gives = { λ f e. e ≡ stop_at f };
 
-    fn from(_: Failed) -> Stop {
-        Stop::DiskFault
-    }
-}
-
-impl From<WalError> for Stop {
-    ghost from_gives = { λ w e. e ≡ stop_at w };
-
-    fn from(error: WalError) -> Stop {
-        match error {
-            WalError::OutOfMemory => Stop::OutOfMemory,
-            WalError::NotAStore => Stop::NotAStore,
-            WalError::DiskFault | WalError::LogFull | WalError::Down { fault: _ } =>
-                Stop::DiskFault,
+    fn from(fault: OpenFault) -> Stop {
+        match fault {
+            OpenFault::NotAStore => Stop::NotAStore,
+            OpenFault::DiskFault => Stop::DiskFault,
+            OpenFault::OutOfMemory => Stop::OutOfMemory,
         }
     }
 }
@@ -86,6 +76,9 @@ pub enum StoreError {
     /// The log would pass its limit.
     #[error("log full")]
     LogFull,
+    /// The next xid isn't below its bound.
+    #[error("transactions spent")]
+    Spent,
     /// A write or a sync failed in an earlier call. The device's count of faults stood at this number after it.
     #[error("down {fault}")]
     Down { fault: u64 },
@@ -105,15 +98,15 @@ impl From<AllocError> for StoreError {
     }
 }
 
-impl From<WalError> for StoreError {
+impl From<LogError> for StoreError {
     ghost from_gives = { λ w e. e ≡ store_error w };
 
-    fn from(error: WalError) -> StoreError {
+    fn from(error: LogError) -> StoreError {
         match error {
-            WalError::LogFull => StoreError::LogFull,
-            WalError::Down { fault } => StoreError::Down { fault },
-            WalError::OutOfMemory => StoreError::Memory,
-            WalError::DiskFault | WalError::NotAStore => StoreError::Device,
+            LogError::LogFull => StoreError::LogFull,
+            LogError::Down { fault } => StoreError::Down { fault },
+            LogError::OutOfMemory => StoreError::Memory,
+            LogError::DiskFault => StoreError::Device,
         }
     }
 }

@@ -6,7 +6,7 @@ ghost use Rattle.shell_script.specs.Lines.{Line};
 ghost use Rattle.shell_script.specs.Heads.{Head};
 ghost use Rattle.shell_script.specs.Grammar.{Expr, QuerySource};
 ghost use Rattle.shell_script.specs.Name.{Name};
-ghost use Rattle.shell_run.specs.History.{Document, IsFound};
+ghost use Rattle.shell_run.specs.Finding.{Document, IsFound};
 ghost use Rattle.shell_run.specs.Traces.{NoneIsStoredAfterFailure, EachFailureIsNoted, OneCountIsTold, NothingIsPrintedWith4, NoNameIsTakenTwice, NoLogIsWiped, NoPageIsWritten};
 ghost use Rattle.shell_run.specs.Defining.{HasOneAnswer};
 ghost use Rattle.shell_run.specs.Values.{IsExprAnswer, IsQueryAnswer, IsOneAnswer};

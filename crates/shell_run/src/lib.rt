@@ -4,12 +4,12 @@
 mod answers;
 mod defining;
 mod dictionaries;
-mod entries;
 mod error;
 mod gate;
 mod laws;
 mod opening;
 mod reading;
+mod records;
 mod sending;
 mod serving;
 mod store;

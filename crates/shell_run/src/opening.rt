@@ -1,87 +1,247 @@
-// The opening of a store.
-ghost use Rattle.std.specs.Prelude.{◌≡◌, ◌⊎◌, ℕ, ◌<◌, ◌≤◌, ◌-◌, ◌^◌, [], length, IfOk, IfErr, OnOk, OnErr, IsErrOf};
-ghost use Rattle.disk_trait.specs.Device.{Rose, Durable};
-ghost use Rattle.disk_trait.specs.Runs.{LeavesOnly};
-ghost use Rattle.disk_trait.specs.Files.{Files};
-ghost use Rattle.disk_trait.specs.declared.device.File.TheVariants.{Pages};
+// The opening of a store: its journal, and the documents that lie on its pages.
+ghost use Rattle.std.specs.Prelude.{◌≡◌, ◌⊎◌, ℕ, ◌+◌, ◌^◌, ◌≤◌, length, IfOk, IfErr};
+ghost use Rattle.std.specs.Prelude.{◌<◌, ◌-◌, true, false, List, [], ◌∷◌, Some, None};
+ghost use Rattle.std.specs.Prelude.{IfSome, IfNone};
+ghost use Rattle.std.specs.List.{flat_map, slice_get, AllByRecursion};
+ghost use Rattle.disk_trait.specs.Device.{Rose};
+ghost use Rattle.page_types.specs.Pages.{IsPage, IsSlot};
+ghost use Rattle.page_types.specs.Parts.{head_shown};
+ghost use Rattle.page_types.specs.Spelling.{page_bytes, slot_bytes};
+ghost use Rattle.page_types.specs.Views.{slots_of, slot_at};
+ghost use Rattle.page_types.specs.declared.page.Head.{Head};
+ghost use Rattle.page_types.specs.declared.page.Page.{Page};
+ghost use Rattle.ts_base.specs.Vectors.{Vector};
+ghost use Rattle.ts_base.specs.Spelling.{IsSpelling};
+ghost use Rattle.core_state.specs.Log.{Log};
+ghost use Rattle.core_state.specs.States.{state_of};
+ghost use Rattle.core_state.specs.Stores.{PagesStand};
+ghost use Rattle.buffer_frames.specs.Maps.{lookup, HasApplied};
+ghost use Rattle.buffer_frames.specs.Opening.{opened_log};
+ghost use Rattle.buffer_frames.specs.Opens.{name_of, IsLogOf};
+ghost use Rattle.shell_run.specs.Inner.Documents.{AreDocuments};
+ghost use Rattle.shell_run.specs.Inner.Heaps.{IsHeapOf};
+ghost use Rattle.shell_run.specs.Inner.Plain.{IsPlain};
 ghost use Rattle.wal.specs.Reading.{IsOnlyRead};
-ghost use Rattle.wal.specs.Settled.{LogIs, Settled};
-ghost use Rattle.wal.specs.Waiting.{end_of};
+ghost use Rattle.buffer_frames.specs.NoStore.{IsNoStore};
 ghost use Rattle.shell_run.specs.Crash.{StartedFrom, OpensAsBefore, HasSamePages};
-ghost use Rattle.shell_run.specs.Inner.Opened.{OpenedAt, IsEmptyBeside};
-ghost use Rattle.shell_run.specs.Inner.Stores.{IsOpened};
-ghost use Rattle.shell_run.specs.declared.error.Stop.TheVariants.{NotAStore, DiskFault, OutOfMemory};
+ghost use Rattle.shell_run.specs.Found.{Found};
+ghost use Rattle.shell_run.specs.Finding.{History};
+ghost use Rattle.shell_run.specs.Inner.Opened.{OpenedAt};
+ghost use Rattle.shell_run.specs.Inner.Stores.{StandsFor, IsUp};
+ghost use Rattle.shell_run.specs.declared.error.Stop.TheVariants.{NotAStore, DiskFault};
+ghost use Rattle.shell_run.specs.declared.error.Stop.TheVariants.{OutOfMemory};
 
 use crate::error::Stop;
-use disk_trait::{Disk, Failed, File};
-use std::alloc::Global;
-use wal::{LOG_LIMIT, Wal};
+use crate::store::{HEAD, HEAP_PAGE, Kept, LONGEST, Store};
+use buffer_frames::{PageMap, counted_are_one, open};
+use core_state::{Settings, State};
+use disk_trait::Disk;
+use page_code::{PageError, decode_page};
+use page_types::{Body, HeadRef, Name, Slots};
+use std::alloc::{AllocError, Global};
+use ts_vector::{TsVector, VectorError};
 
-/// Both files are synced, so that a crash leaves what a read gives.
-fn sync_both<D: Disk>(disk: &mut D) -> Result<(), Failed>
-    ensures durable { D.tells → OnOk result (LogIs D.Disk (D.seen disk.old).log disk.new) }
-    ensures durable_pages { D.tells
-        → OnOk result (Durable Pages (D.seen disk.old).pages (D.image disk.new (D.clock disk.new))) }
-    ensures seen { D.tells → D.seen disk.new ≡ D.seen disk.old }
-    ensures any_moment { D.tells
-        → LeavesOnly D.Disk disk.old disk.new (D.image disk.old (D.clock disk.old)) }
-    ensures later { (D.fault_count disk.old ≤ D.fault_count disk.new)
-        × (D.write_fault_count disk.old ≤ D.write_fault_count disk.new) }
-    ensures fault { OnErr result (Rose (D.fault_count disk.old) (D.fault_count disk.new)) }
-    ensures below_last { OnOk result ((D.fault_count disk.old < 2 ^ 64 - 1)
-        × (D.write_fault_count disk.new ≡ D.write_fault_count disk.old)
-        × (D.write_fault_count disk.new < 2 ^ 64 - 1)) }
-{
-    disk.sync(File::Log)?;
-    disk.sync(File::Pages)
+/// What a store is opened with.
+const SETTINGS: Settings = Settings {
+    pages: 65_536,
+    frames: 1024,
+    pending: 512,
+    log_limit: 1 << 40,
+    xid_limit: 16_777_216,
+};
+
+/// The documents that were read, with their heads.
+#[derive(Drop)]
+struct Documents {
+    /// Their serials and vectors.
+    kept: Vec<Kept>,
+    /// Their heads, in the same order.
+    heap: Slots,
+    /// The bytes of the page that they take.
+    used: u64,
 }
 
-#[tactic(auto, using(crate::proofs::Emptying::stop_of_log))]
-/// A log without entries, in an empty file that both a read and a crash now leave so.
-fn new_log<D: Disk>(alloc: Global, disk: &mut D) -> Result<Wal, Stop>
-    requires empty { D.tells → LogIs D.Disk [] disk.old }
-    requires pages { D.tells
-        → Durable Pages (D.seen disk.old).pages (D.image disk.old (D.clock disk.old)) }
-    ensures new { IfOk result (IsOpened []) }
-    ensures stands { D.tells → IfOk result (λ wal. Settled D.Disk [] (end_of wal) disk.new) }
-    ensures any_moment { D.tells
-        → LeavesOnly D.Disk disk.old disk.new (IsEmptyBeside (D.seen disk.old).pages) }
-    ensures no_store { D.tells → IsErrOf result NotAStore → ⊥ }
-    ensures fault { IsErrOf result DiskFault
-        → Rose (D.fault_count disk.old) (D.fault_count disk.new) }
-    ensures error { IfErr result (λ e. (e ≡ NotAStore) ⊎ (e ≡ DiskFault) ⊎ (e ≡ OutOfMemory)) }
-    ensures later { (D.fault_count disk.old ≤ D.fault_count disk.new)
-        × (D.write_fault_count disk.old ≤ D.write_fault_count disk.new) }
-    ensures writes { OnOk result (D.write_fault_count disk.new ≡ D.write_fault_count disk.old) }
+/// The slots of the heap page, none where it isn't there or is no heap page.
+fn heap_slots(alloc: Global, pages: &PageMap) -> Result<Slots, AllocError>
+    ensures fits { IfOk result (λ slots. AllByRecursion IsSlot slots
+        × (length (flat_map slot_bytes slots) ≤ 8168)) }
+    ensures none { lookup pages.now 2 ≡ None → IfOk result (λ slots. slots ≡ []) }
+    ensures page { (p : Page) → IsPage p → lookup pages.now 2 ≡ Some (page_bytes p)
+        → IfOk result (λ slots. slots ≡ slots_of p) }
 {
-    Wal::create(disk)?;
-    let mut wal = Wal::open(alloc, disk, LOG_LIMIT)?;
-    let mut batch = Vec::new(alloc);
-    if wal.read_batch(disk, &mut batch)? {
-        return Err(Stop::NotAStore);
+    let Some(bytes) = pages.get(HEAP_PAGE) else {
+        return Ok(Slots::new(alloc));
+    };
+    match decode_page(alloc, bytes) {
+        Ok(page) => match page.body {
+            Body::Heap(slots) => Ok(slots),
+            _ => Ok(Slots::new(alloc)),
+        },
+        Err(PageError::OutOfMemory) => Err(AllocError),
+        Err(PageError::BadPage { at: _ }) => Ok(Slots::new(alloc)),
     }
-    Ok(wal)
 }
 
-/// The log of a new store. A store whose log has a byte is refused until a log can be read into documents.
-pub fn open_store<D: Disk>(alloc: Global, disk: &mut D) -> Result<Wal, Stop>
-    ensures opened { IfOk result
-        (λ wal. IsOpened [] wal × ((c0 : ℕ)
-        × OpenedAt D.Disk [] disk.old c0 disk.new (end_of wal))) }
-    ensures empty { D.tells → OnOk result ((D.seen disk.old).log ≡ []) }
-    ensures refused { D.tells → StartedFrom D.Disk disk.old
-        → OnErr result (OpensAsBefore D.Disk disk.old disk.new) }
-    ensures pages { D.tells → OnErr result (HasSamePages D.Disk disk.old disk.new) }
-    ensures no_store { D.tells → IsErrOf result NotAStore → 0 < length (D.seen disk.old).log }
-    ensures keeps { IsErrOf result NotAStore → IsOnlyRead D.Disk disk.old disk.new }
-    ensures fault { IsErrOf result DiskFault
-        → Rose (D.fault_count disk.old) (D.fault_count disk.new) }
-    ensures error { IfErr result (λ e. (e ≡ NotAStore) ⊎ (e ≡ DiskFault) ⊎ (e ≡ OutOfMemory)) }
-    ensures later { D.fault_count disk.old ≤ D.fault_count disk.new }
+/// The name that a commit inserted, if it is that of a store in which each commit inserts one
+/// document. Commits count from 1.
+fn name_at(state: &State, commit: u32) -> Option<Name>
+    requires first { 1 ≤ commit }
+    requires last { commit ≤ length state.now.value.deleted }
+    ensures some { IfSome result (λ n. (n ≡ name_of (commit - 1))
+        × (n.serial < state.now.value.next_serial)) }
+    ensures none { IfNone result
+        (slice_get state.now.value.inserted (commit - 1) ≡ Some (name_of (commit - 1) ∷ [])
+        → commit < state.now.value.next_serial → ⊥) }
 {
-    sync_both(disk)?;
-    if disk.length(File::Log)? != 0 {
-        return Err(Stop::NotAStore);
+    match state.inserted(commit) {
+        [name]
+            if name.page == HEAP_PAGE
+                && u32::from(name.slot) == commit - 1
+                && name.serial == u64::from(commit)
+                && name.serial < state.next_serial() => Some(*name),
+        _ => None,
     }
-    new_log(alloc, disk)
+}
+
+/// The head of the document of this name, if it is whole and was not deleted.
+fn head_of<'a>(slots: &'a Slots, name: Name) -> Option<HeadRef<'a>>
+    ensures some { IfSome result (λ h. (slot_at slots.now name.slot ≡ Some (head_shown h))
+        × IsPlain (head_shown h) name.serial) }
+    ensures none { IfNone result ((h : Head) → slot_at slots.now name.slot ≡ Some h
+        → IsPlain h name.serial → ⊥) }
+{
+    let head = slots.get(usize::from(name.slot))?;
+    let fields = head.fields;
+    if fields.serial != name.serial
+        || fields.deleted_by != 0
+        || fields.overflow != 0
+        || fields.private != 0
+        || u64::from(fields.bytes) > LONGEST
+    {
+        return None;
+    }
+    Some(head)
+}
+
+/// The vector of a head; none where its bytes are no vector.
+fn vector_of(alloc: Global, head: HeadRef<'_>) -> Result<Option<TsVector>, AllocError>
+    ensures some { IfOk result (λ o. IfSome o (λ v. IsSpelling head.entry.vector.now v)) }
+    ensures none { IfOk result (λ o. IfNone o
+        ((v : Vector) → IsSpelling head.entry.vector.now v → ⊥)) }
+{
+    match TsVector::decode(alloc, head.vector) {
+        Ok(vector) => Ok(Some(vector)),
+        Err(error) => match error {
+            VectorError::OutOfMemory => Err(AllocError),
+            _ => Ok(None),
+        },
+    }
+}
+
+impl Documents {
+    ghost use Rattle.shell_run.specs.Inner.Documents.{HasAdded, IsMissing, AreRead, IsReadUpTo};
+
+    /// One document more, that of a commit, if it stands at the next place.
+    fn add(
+        &mut self,
+        alloc: Global,
+        state: &State,
+        slots: &Slots,
+        commit: u32,
+    ) -> Result<bool, AllocError>
+        requires first { 1 ≤ commit }
+        requires last { commit ≤ length state.now.value.deleted }
+        requires room { self.old.used ≤ 2 ^ 48 }
+        ensures added { IfOk result (λ more. more ≡ true
+            → HasAdded self.old self.new slots.now (commit - 1) state.now.value.next_serial) }
+        ensures missing { IfOk result (λ more. more ≡ false
+            → (self.new ≡ self.old) × IsMissing state.now.value slots.now (commit - 1)) }
+    {
+        let Some(name) = name_at(state, commit) else {
+            return Ok(false);
+        };
+        let Some(head) = head_of(slots, name) else {
+            return Ok(false);
+        };
+        let Some(vector) = vector_of(alloc, head)? else {
+            return Ok(false);
+        };
+        self.kept.reserve(1)?;
+        self.heap.push(Some(head))?;
+        self.kept.push_reserved(Kept {
+            serial: name.serial,
+            vector,
+        });
+        self.used += HEAD + u64::from(head.fields.bytes);
+        Ok(true)
+    }
+
+    /// The documents of the commits, in their order, up to the first that isn't there.
+    fn read(alloc: Global, state: &State, slots: &Slots) -> Result<Documents, AllocError>
+        requires each { AllByRecursion IsSlot slots.now }
+        requires fits { length (flat_map slot_bytes slots.now) ≤ 8168 }
+        ensures read { IfOk result (λ d.
+            AreRead slots.now state.now.value.next_serial d.kept.items d.heap d.used) }
+        ensures all { IfOk result (λ d.
+            IsReadUpTo state.now.value slots.now (length d.kept.items)) }
+    {
+        let mut documents = Documents {
+            kept: Vec::new(alloc),
+            heap: Slots::new(alloc),
+            used: 0,
+        };
+        for place in 0..state.commits() {
+            if !documents.add(alloc, state, slots, place + 1)? {
+                break;
+            }
+        }
+        Ok(documents)
+    }
+}
+
+/// The documents of a store's commits, with their heads on the heap page.
+fn read_documents(alloc: Global, state: &State, pages: &PageMap) -> Result<Documents, AllocError>
+    ensures read { IfOk result
+        (λ d. AreDocuments d.kept.items d.heap d.used state.now.value.next_serial) }
+    ensures known { IfOk result (λ d. (file : List ℕ) (R : Log) (H : History)
+        → state.now.value ≡ state_of state.now.value.pages state.now.value.xid_limit (opened_log R)
+        → HasApplied file R pages.now → PagesStand R file → IsLogOf R H
+        → IsHeapOf (opened_log R) H d.kept.items d.heap) }
+{
+    let slots = heap_slots(alloc, pages)?;
+    Documents::read(alloc, state, &slots)
+}
+
+/// The store on a device, created if it is none yet. A refusal gives the device back.
+pub fn open_store<D: Disk>(alloc: Global, device: D) -> Result<Store<D>, (D, Stop)>
+    ensures opened { IfOk result (λ s. IsUp s × ((found : Found) × (history : History) × (c0 : ℕ)
+        × OpenedAt D.Disk found history device c0 s × StandsFor found s history)) }
+    ensures store { D.tells → IfOk result (λ _. IsNoStore (D.seen device) → ⊥) }
+    ensures no_store { D.tells
+        → IfErr result (λ e. e.1 ≡ NotAStore → IsNoStore (D.seen device)) }
+    ensures refused { D.tells → StartedFrom D.Disk device
+        → IfErr result (λ e. OpensAsBefore D.Disk device e.0) }
+    ensures pages { D.tells → IfErr result (λ e. HasSamePages D.Disk device e.0) }
+    ensures keeps { IfErr result (λ e. e.1 ≡ NotAStore → IsOnlyRead D.Disk device e.0) }
+    ensures fault { IfErr result (λ e. e.1 ≡ DiskFault
+        → Rose (D.fault_count device) (D.fault_count e.0)) }
+    ensures error { IfErr result
+        (λ e. (e.1 ≡ NotAStore) ⊎ (e.1 ≡ DiskFault) ⊎ (e.1 ≡ OutOfMemory)) }
+    ensures later { IfErr result (λ e. D.fault_count device ≤ D.fault_count e.0) }
+{
+    counted_are_one();
+    let (journal, pages) = match open(alloc, device, &SETTINGS) {
+        Ok(opened) => opened,
+        Err((device, fault)) => return Err((device, Stop::from(fault))),
+    };
+    match read_documents(alloc, journal.state(), &pages) {
+        Ok(documents) => Ok(Store {
+            alloc,
+            documents: documents.kept,
+            heap: documents.heap,
+            used: documents.used,
+            journal,
+        }),
+        Err(_) => Err((journal.close(), Stop::OutOfMemory)),
+    }
 }

@@ -1,14 +1,14 @@
 // A script's steps, one after another.
-ghost use Rattle.std.specs.Prelude.{◌≡◌, ◌⊎◌, ℕ, ◌+◌, ◌-◌, ◌^◌, ◌<◌, ◌≤◌, List, [], ◌++◌, ◌||◌, ◌∷◌, min, true, length, IfOk, IfErr, OnOk, OnErr, IsErrOf, is_ok, IfSome, IfNone};
+ghost use Rattle.std.specs.Prelude.{◌≡◌, ◌⊎◌, ℕ, ◌+◌, ◌-◌, ◌^◌, ◌<◌, ◌≤◌, List, [], ◌++◌, ◌||◌, ◌∷◌, min, true, false, length, IfOk, IfErr, OnOk, OnErr, IsErrOf, is_ok, IfSome, IfNone};
 ghost use Rattle.disk_trait.specs.Device.{Rose};
 ghost use Rattle.shell_script.specs.ReplyView.{reply};
 ghost use Rattle.shell_script.specs.StepView.{step as shown};
 ghost use Rattle.ts_config.specs.Known.{first_known};
 ghost use Rattle.shell_run.specs.Inner.Serving.{HasTurned, Served, Passed, HasRunSteps};
 ghost use Rattle.shell_run.specs.Outcomes.{is_refusal};
-ghost use Rattle.wal.specs.Waiting.{end_of, down_of};
-ghost use Rattle.shell_run.specs.Inner.Stores.{StandsFor, log_of};
-ghost use Rattle.shell_run.specs.History.{History};
+ghost use Rattle.shell_run.specs.Inner.Stores.{StandsFor, IsUp, disk_of};
+ghost use Rattle.shell_run.specs.Finding.{History};
+ghost use Rattle.shell_run.specs.Found.{Found};
 ghost use Rattle.shell_run.specs.declared.error.Stop.TheVariants.{SinkFault, OutOfMemory};
 
 use crate::answers::answer;
@@ -25,9 +25,9 @@ use ts_config::Configs;
 
 /// What a run keeps between two steps.
 #[derive(Drop)]
-pub struct Desk {
-    /// The documents and their log.
-    pub store: Store,
+pub struct Desk<D: Disk> {
+    /// The store.
+    pub store: Store<D>,
     /// What is defined.
     pub configs: Configs,
     /// The text that is not yet written.
@@ -56,16 +56,15 @@ fn either(a: bool, b: bool) -> bool
 fn turn<D: Disk, G: Gate>(
     alloc: Global,
     gate: &G,
-    desk: &mut Desk,
-    disk: &mut D,
+    desk: &mut Desk<D>,
     step: Step<'_>,
 ) -> Result<(u8, Reply), AllocError>
-    ensures turned { IfOk result (λ r. HasTurned D.Disk (shown step.entry) desk.old desk.new disk.old
-        disk.new r.0 (reply r.1)) }
-    ensures short { OnErr result ((desk.new ≡ desk.old) × (disk.new ≡ disk.old)) }
+    ensures turned { IfOk result
+        (λ r. HasTurned D.Disk (shown step.entry) desk.old desk.new r.0 (reply r.1)) }
+    ensures short { OnErr result (desk.new ≡ desk.old) }
     ensures waiting { desk.new.waiting ≡ desk.old.waiting }
     ensures refused { desk.new.refused ≡ desk.old.refused }
-    ensures counts { D.fault_count disk.old ≤ D.fault_count disk.new }
+    ensures counts { D.fault_count (disk_of desk.old.store) ≤ D.fault_count (disk_of desk.new.store) }
 {
     match step {
         Step::Single(line) => {
@@ -75,7 +74,6 @@ fn turn<D: Disk, G: Gate>(
                 alloc,
                 &desk.configs,
                 &mut desk.store,
-                disk,
                 line.number,
                 said.statement,
             );
@@ -94,45 +92,74 @@ fn turn<D: Disk, G: Gate>(
 fn serve_step<K: Sink, D: Disk, G: Gate>(
     alloc: Global,
     gate: &G,
-    desk: &mut Desk,
+    desk: &mut Desk<D>,
     out: &mut K,
-    disk: &mut D,
     step: Step<'_>,
 ) -> Result<(), Stop>
-    ensures served { Served D.Disk (shown step.entry) desk.old desk.new disk.old disk.new
-        (K.taken out.old) (K.taken out.new) (is_ok result)
-        ⊎ Passed desk.old desk.new disk.old disk.new (K.taken out.old) (K.taken out.new)
-        (is_ok result) }
+    ensures served { Served D.Disk (shown step.entry) desk.old desk.new (K.taken out.old)
+        (K.taken out.new) (is_ok result)
+        ⊎ Passed desk.old desk.new (K.taken out.old) (K.taken out.new) (is_ok result) }
     ensures later { K.fault_count out.old ≤ K.fault_count out.new }
     ensures error { IfErr result (λ e. (e ≡ SinkFault) ⊎ (e ≡ OutOfMemory)) }
     ensures fault { IsErrOf result SinkFault
         → Rose (K.fault_count out.old) (K.fault_count out.new) }
-    ensures counts { D.fault_count disk.old ≤ D.fault_count disk.new }
+    ensures counts { D.fault_count (disk_of desk.old.store) ≤ D.fault_count (disk_of desk.new.store) }
 {
-    let (session, reply) = turn(alloc, gate, desk, disk, step)?;
+    let (session, reply) = turn(alloc, gate, desk, step)?;
     desk.refused = either(desk.refused, is_refused(&reply));
     put_reply(alloc, out, &mut desk.waiting, session, &reply)
 }
 
-/// The steps of a script, from the first on: whether a reply was a refusal.
+/// The steps of a script, one after another: whether a reply was a refusal.
+fn serve_steps<K: Sink, D: Disk, G: Gate>(
+    alloc: Global,
+    gate: &G,
+    out: &mut K,
+    desk: &mut Desk<D>,
+    text: &[u8],
+) -> Result<bool, Stop>
+    requires up { IsUp desk.old.store }
+    requires first { desk.old.configs ≡ first_known }
+    requires fresh { (desk.old.waiting.items ≡ []) × (desk.old.refused ≡ false) }
+    ensures ran { (found : Found) (history : History) → StandsFor found desk.old.store history
+        → HasRunSteps D.Disk found history text.now (K.taken out.old) (K.taken out.new)
+        desk.old.store (disk_of desk.new.store) result }
+    ensures counts { D.fault_count (disk_of desk.old.store) ≤ D.fault_count (disk_of desk.new.store) }
+    ensures later { K.fault_count out.old ≤ K.fault_count out.new }
+    ensures error { IfErr result (λ e. (e ≡ SinkFault) ⊎ (e ≡ OutOfMemory)) }
+    ensures fault { IsErrOf result SinkFault
+        → Rose (K.fault_count out.old) (K.fault_count out.new) }
+{
+    for step in steps(text) {
+        if let Err(stop) = serve_step(alloc, gate, desk, out, step) {
+            return Err(stop);
+        }
+    }
+    if let Err(stop) = flush(out, &mut desk.waiting) {
+        return Err(stop);
+    }
+    Ok(desk.refused)
+}
+
+/// The steps of a script, from the first on: the device as they leave it, and whether a reply was a
+/// refusal.
 pub fn run_steps<K: Sink, D: Disk, G: Gate>(
     alloc: Global,
     gate: &G,
     out: &mut K,
-    disk: &mut D,
-    store: Store,
+    store: Store<D>,
     configs: Configs,
     text: &[u8],
-) -> Result<bool, Stop>
-    requires up { down_of (log_of store) ≡ None }
+) -> (D, Result<bool, Stop>)
+    requires up { IsUp store }
     requires first { configs ≡ first_known }
-    ensures ran { (history : History) → StandsFor store history
-        → HasRunSteps D.Disk history text.now
-        (K.taken out.old) (K.taken out.new) disk.old disk.new (end_of (log_of store)) result }
-    ensures counts { D.fault_count disk.old ≤ D.fault_count disk.new }
+    ensures ran { (found : Found) (history : History) → StandsFor found store history
+        → HasRunSteps D.Disk found history text.now (K.taken out.old) (K.taken out.new) store
+        result.0 result.1 }
+    ensures counts { D.fault_count (disk_of store) ≤ D.fault_count result.0 }
     ensures later { K.fault_count out.old ≤ K.fault_count out.new }
-    ensures error { IfErr result (λ e. (e ≡ SinkFault) ⊎ (e ≡ OutOfMemory)) }
-    ensures fault { IsErrOf result SinkFault
+    ensures error { IfErr result.1 (λ e. (e ≡ SinkFault) ⊎ (e ≡ OutOfMemory)) }
+    ensures fault { IsErrOf result.1 SinkFault
         → Rose (K.fault_count out.old) (K.fault_count out.new) }
 {
     let mut desk = Desk {
@@ -142,13 +169,6 @@ pub fn run_steps<K: Sink, D: Disk, G: Gate>(
         refused: false,
         turns: Turns::new(),
     };
-    for step in steps(text) {
-        if let Err(stop) = serve_step(alloc, gate, &mut desk, out, disk, step) {
-            return Err(stop);
-        }
-    }
-    if let Err(stop) = flush(out, &mut desk.waiting) {
-        return Err(stop);
-    }
-    Ok(desk.refused)
+    let ran = serve_steps(alloc, gate, out, &mut desk, text);
+    (desk.store.close(), ran)
 }

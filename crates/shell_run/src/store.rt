@@ -1,133 +1,156 @@
-// The documents, in memory.
+// The documents in memory, and the journal that keeps them.
 ghost use Rattle.std.specs.Prelude.{◌≡◌, ℕ, ◌+◌, ◌*◌, ◌<◌, ◌≤◌, ◌^◌, List, [], ◌∷◌, ◌++◌, length, IfOk, IfErr, OnOk, take, map, vec_len, vec_capacity};
-ghost use Rattle.ts_base.specs.Vectors.{Vector, IsNormal};
-ghost use Rattle.ts_base.specs.Spelling.{vector_bytes};
-ghost use Rattle.byteorder.specs.Endian.{little_bytes};
-ghost use Rattle.wal.specs.Waiting.{waiting, limit_of, IsReadToEnd};
+ghost use Rattle.shell_run.specs.Finding.{heap_page};
+ghost use Rattle.shell_script.specs.ReplyView.{name};
 
-use crate::entries::log_entry;
 use crate::error::StoreError;
-use byteorder::{ByteOrder, LittleEndian};
+use crate::records::{Insertion, with_head};
+use buffer_frames::{Journal, counted_are_one};
 use disk_trait::Disk;
+use page_types::{Record, Slots};
 use shell_script::Name;
 use std::alloc::{AllocError, Global};
+use std::marker::Model;
 use ts_match::{MatchWork, matches};
 use ts_query::TsQuery;
 use ts_vector::TsVector;
-use wal::Wal;
 
 /// The most bytes of one vector, until documents may be longer than a page.
-const LONGEST: u64 = 2000;
+pub const LONGEST: u64 = 2000;
 
 /// The bytes of a page that its documents share.
 const PAGE_ROOM: u64 = 8168;
 
 /// What a document takes beside the bytes of its vector.
-const HEAD: u64 = 29;
+pub const HEAD: u64 = 29;
 
-/// The entry of a document: its serial and its vector's bytes.
-fn entry_of(alloc: Global, serial: u64, vector: &TsVector) -> Result<Vec<u8>, AllocError>
-    ensures entry { IfOk result
-        (λ entry. entry.items ≡ little_bytes 8 serial ++ vector_bytes vector.now) }
-    ensures size { IfOk result
-        (λ entry. length entry.items ≡ 8 + length (vector_bytes vector.now)) }
-    ensures normal { IfOk result (λ _. IsNormal vector.now) }
-{
-    let mut head = [0u8; 8];
-    LittleEndian::write_u64(&mut head, serial);
-    let mut entry = Vec::from_slice(alloc, &head)?;
-    vector.encode(&mut entry)?;
-    Ok(entry)
-}
+/// Xids are below this.
+const XID_LIMIT: u32 = 16_777_216;
 
-/// The documents of a store, and its log.
+/// The page on which documents lie.
+pub const HEAP_PAGE: u32 = 2;
+
+/// A document in memory.
 #[derive(Drop)]
-pub struct Store {
-    alloc: Global,
-    documents: Vec<TsVector>,
-    // the bytes of the page that they take
-    used: u64,
-    wal: Wal,
-    ghost small: { used ≤ 8168 },
-    ghost few: { 29 * length documents.items ≤ used },
-    ghost idle: { waiting wal ≡ [] },
-    ghost limit: { limit_of wal ≡ 2 ^ 40 },
-    ghost ready: { IsReadToEnd wal },
+pub struct Kept {
+    /// Its serial number.
+    pub serial: u64,
+    /// Its vector.
+    pub vector: TsVector,
 }
 
-impl Store {
-    ghost use Rattle.shell_run.specs.Inner.Stores.{StandsFor, IsOpened, HasLogged, HasInserted, IsFoundBy, documents_of, log_of};
-    ghost use Rattle.shell_run.specs.History.{IsFound, name_of};
-    ghost use Rattle.shell_script.specs.ReplyView.{name};
+/// The documents of a store, their heap page, and the journal.
+#[derive(Drop)]
+pub struct Store<D: Disk> {
+    pub(crate) alloc: Global,
+    pub(crate) documents: Vec<Kept>,
+    // the heads of the documents, in their order
+    pub(crate) heap: Slots,
+    // the bytes of the page that they take
+    pub(crate) used: u64,
+    pub(crate) journal: Journal<D>,
+}
 
-    /// No documents, over a log without entries.
-    pub fn new(alloc: Global, wal: Wal) -> Store
-        requires { IsOpened [] wal }
-        ensures empty { StandsFor result [] }
-        ensures wal { log_of result ≡ wal }
-    {
-        Store {
-            alloc,
-            documents: Vec::new(alloc),
-            used: 0,
-            wal,
-        }
+/// What an insertion will log: what it draws, the heap page's slots with the new head, the bytes of
+/// the vector, and the records.
+#[derive(Drop)]
+struct Draft {
+    insertion: Insertion,
+    heap: Slots,
+    size: u64,
+    records: [Record; 3],
+}
+
+/// The name of the document that stands at this place.
+fn name_of(place: usize, serial: u64) -> Name
+    requires { place < 2 ^ 16 }
+    ensures { name result ≡ record { page = heap_page; slot = place; serial = serial } }
+{
+    Name {
+        page: HEAP_PAGE,
+        slot: place as u16,
+        serial,
     }
+}
 
-    /// The name of the document that stands at this place.
-    fn name_at(&self, place: usize) -> Name
-        requires { place < 2 ^ 16 }
-        ensures { name result ≡ name_of place }
-    {
-        Name {
-            page: 2,
-            slot: place as u16,
-            serial: place as u64 + 1,
-        }
-    }
+impl<D: Disk> Model for Store<D> {
+    ghost use Rattle.shell_run.specs.Inner.StoreValue.{StoreValue, IsStoreValue};
 
-    /// The document's entry into the log. The list has room for the document then.
-    fn log_document<D: Disk>(&mut self, disk: &mut D, vector: &TsVector) -> Result<Name, StoreError>
-        ensures refused { IfErr result
-            (λ e. HasInserted D.Disk self.old self.new disk.old disk.new vector.now (Err e)) }
-        ensures logged { IfOk result
-            (λ n. HasLogged D.Disk self.old self.new disk.old disk.new vector.now (name n)) }
-        ensures room { OnOk result (vec_len self.new.documents < vec_capacity self.new.documents) }
+    ghost Value = { StoreValue D };
+
+    ghost view = { λ s. record {
+      documents = s.documents.items;
+      heap = s.heap;
+      journal = s.journal;
+    } };
+
+    ghost invariant = { λ s. IsStoreValue D.Disk (record {
+      documents = s.documents.items;
+      heap = s.heap;
+      journal = s.journal;
+    }) s.used };
+}
+
+impl<D: Disk> Store<D> {
+    ghost use Rattle.shell_run.specs.Inner.Stores.{HasInserted, IsFoundBy, documents_of, disk_of};
+    ghost use Rattle.shell_run.specs.Inner.Drafts.{IsDraftOf, CannotDraft};
+    ghost use Rattle.shell_run.specs.Finding.{IsFound};
+
+    /// What an insertion of the vector draws, if the document has room.
+    fn draft(&self, vector: &TsVector) -> Result<Draft, StoreError>
+        ensures refused { IfErr result (λ e. CannotDraft D.Disk self.now vector.now e) }
+        ensures drafted { IfOk result (λ d. IsDraftOf self.now vector.now d) }
     {
-        if let Some(fault) = self.wal.fault() {
-            return Err(StoreError::Down { fault });
+        let state = self.journal.state();
+        let (xid, serial, commits) = (state.next_xid(), state.next_serial(), state.commits());
+        if xid >= XID_LIMIT {
+            return Err(StoreError::Spent);
         }
-        let name = self.name_at(self.documents.len());
-        let Ok(entry) = entry_of(self.alloc, name.serial, vector) else {
-            return Err(StoreError::Memory);
-        };
-        let size = entry.len() as u64 - 8;
+        let mut bytes = Vec::new(self.alloc);
+        vector.encode(&mut bytes)?;
+        let size = bytes.len() as u64;
         if size > LONGEST || self.used + HEAD + size > PAGE_ROOM {
             return Err(StoreError::Full);
         }
-        if self.documents.reserve(1).is_err() {
-            return Err(StoreError::Memory);
-        }
-        match log_entry(&mut self.wal, disk, &entry) {
-            Ok(()) => {
-                self.used += HEAD + size;
-                Ok(name)
-            }
-            Err(error) => Err(StoreError::from(error)),
-        }
+        let insertion = Insertion {
+            number: self.journal.next_number(),
+            xid,
+            slot: self.heap.len(),
+            serial,
+            commit: commits.saturating_add(1),
+        };
+        let heap = with_head(&self.heap, serial, xid, &bytes)?;
+        let records = insertion.records(self.alloc, &heap)?;
+        Ok(Draft {
+            insertion,
+            heap,
+            size,
+            records,
+        })
     }
 
     /// Adds the document, committed and flushed: its name.
-    pub fn insert<D: Disk>(&mut self, disk: &mut D, vector: TsVector) -> Result<Name, StoreError>
-        ensures { HasInserted D.Disk self.old self.new disk.old disk.new vector result }
+    pub fn insert(&mut self, vector: TsVector) -> Result<Name, StoreError>
+        ensures { HasInserted D.Disk self.old self.new vector result }
     {
-        match self.log_document(disk, &vector) {
-            Err(error) => Err(error),
-            Ok(name) => {
-                self.documents.push_reserved(vector);
-                Ok(name)
-            }
+        if let Some(fault) = self.journal.fault() {
+            return Err(StoreError::Down { fault });
         }
+        counted_are_one();
+        let draft = self.draft(&vector)?;
+        self.documents.reserve(1)?;
+        if let Err(error) = self.journal.log(&draft.records) {
+            return Err(StoreError::from(error));
+        }
+        if let Err(error) = self.journal.flush() {
+            return Err(StoreError::from(error));
+        }
+        let serial = draft.insertion.serial;
+        let name = name_of(self.documents.len(), serial);
+        self.heap = draft.heap;
+        self.used += HEAD + draft.size;
+        self.documents.push_reserved(Kept { serial, vector });
+        Ok(name)
     }
 
     /// The names of the documents that satisfy the query, in their order.
@@ -136,9 +159,9 @@ impl Store {
     {
         let mut work = MatchWork::new(self.alloc, query)?;
         let mut names = Vec::new(self.alloc);
-        for (i, vector) in self.documents.iter().enumerate() {
-            if matches(query, &mut work, vector) {
-                names.push(self.name_at(i))?;
+        for (i, kept) in self.documents.iter().enumerate() {
+            if matches(query, &mut work, &kept.vector) {
+                names.push(name_of(i, kept.serial))?;
             }
         }
         Ok(names)
@@ -148,12 +171,19 @@ impl Store {
     pub fn search(&self, query: &TsQuery) -> Result<Vec<Name>, StoreError>
         ensures { IsFoundBy self.now query.now result }
     {
-        if let Some(count) = self.wal.fault() {
+        if let Some(count) = self.journal.fault() {
             return Err(StoreError::Down { fault: count });
         }
         match self.names(query) {
             Ok(names) => Ok(names),
             Err(_) => Err(StoreError::Memory),
         }
+    }
+
+    /// The device, as the store leaves it.
+    pub fn close(self) -> D
+        ensures { result ≡ disk_of self }
+    {
+        self.journal.close()
     }
 }

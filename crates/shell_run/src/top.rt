@@ -9,7 +9,6 @@ use crate::gate::Gate;
 use crate::opening::open_store;
 use crate::reading::read_script;
 use crate::serving::run_steps;
-use crate::store::Store;
 use crate::words::settings_of;
 use disk_trait::{Disk, Sink, Source};
 use std::alloc::Global;
@@ -40,29 +39,30 @@ fn ending_status(failed: bool, refused: bool) -> u8
     if refused { 1 } else { 0 }
 }
 
-/// The script's statements over a device: the status, where nothing stopped before.
+/// The script's statements over a device: the status, where nothing stopped before, and the device.
 fn serve<K: Sink, D: Disk, G: Gate>(
     alloc: Global,
     gate: &G,
     out: &mut K,
-    device: &mut D,
+    device: D,
     text: &[u8],
-) -> u8
-    ensures { ServeMeets K.Sink D.Disk text.now result out.old out.new device.old device.new }
+) -> (u8, D)
+    ensures { ServeMeets K.Sink D.Disk text.now result.0 out.old out.new device result.1 }
 {
     let Ok(configs) = Configs::new(alloc) else {
-        return Stop::OutOfMemory.status();
+        return (Stop::OutOfMemory.status(), device);
     };
     let before = device.faults();
-    let log = match open_store(alloc, device) {
-        Ok(log) => log,
-        Err(stop) => return stop.status(),
+    let store = match open_store(alloc, device) {
+        Ok(store) => store,
+        Err((device, stop)) => return (stop.status(), device),
     };
-    let documents = Store::new(alloc, log);
-    match run_steps(alloc, gate, out, device, documents, configs, text) {
-        Err(stop) => stop.status(),
-        Ok(refused) => ending_status(device.faults() > before, refused),
-    }
+    let (device, ran) = run_steps(alloc, gate, out, store, configs, text);
+    let refused = match ran {
+        Ok(refused) => refused,
+        Err(stop) => return (stop.status(), device),
+    };
+    (ending_status(device.faults() > before, refused), device)
 }
 
 /// All of the call, which waits for nobody.
@@ -71,7 +71,7 @@ fn run<S: Source, K: Sink, D: Disk, G: Gate>(
     words: &[String],
     mut script: S,
     mut out: K,
-    mut device: D,
+    device: D,
     gate: &G,
 ) -> Outcome<S, K, D>
     ensures { RunMeets S.Source K.Sink D.Disk words.now script out device result }
@@ -95,7 +95,7 @@ fn run<S: Source, K: Sink, D: Disk, G: Gate>(
             };
         }
     };
-    let status = serve(alloc, gate, &mut out, &mut device, &text);
+    let (status, device) = serve(alloc, gate, &mut out, device, &text);
     Outcome {
         status,
         script,
@@ -107,7 +107,7 @@ fn run<S: Source, K: Sink, D: Disk, G: Gate>(
 /// Answers a script: reads it to its end, runs its statements and prints a reply to each.
 ///
 /// The status is 0; 1 where a reply is a refusal; 2 where the words have no form; 3 where the device failed; 4 where the
-/// log is not empty; 5 where memory ran out; 6 where the source failed; 7 where the sink failed; 8 where the script has
+/// files are no store; 5 where memory ran out; 6 where the source failed; 7 where the sink failed; 8 where the script has
 /// more than 2^30 bytes.
 pub fn run_shell<R: Threads + Wait + Sync, S: Source, K: Sink, D: Disk + Send, G: Gate + Sync>(
     rt: &R,

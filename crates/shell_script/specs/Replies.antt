@@ -13,7 +13,7 @@ pub data TextFault : Type 0 where
   large_query : TextFault
 
 -- The refusals: 1 with the line's number; 4 and 5, where a configuration or a dictionary isn't there;
--- those of texts; 11, 12, 14 with the device's count just after the fault, 15 and 17.
+-- those of texts; 11 to 13, 14 with the device's count just after the fault, 15 and 17.
 pub data Refusal : Type 0 where
   no_statement : ℕ → Refusal
   no_configuration : Refusal
@@ -21,6 +21,7 @@ pub data Refusal : Type 0 where
   text_refused : TextFault → Refusal
   store_full : Refusal
   log_full : Refusal
+  transactions_spent : Refusal
   down : ℕ → Refusal
   device : Refusal
   memory : Refusal

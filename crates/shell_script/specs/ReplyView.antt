@@ -8,7 +8,7 @@ use Rattle.shell_script.specs.declared.replies.Name.{Name}
 use Rattle.shell_script.specs.declared.replies.TextFault.{TextFault}
 use Rattle.shell_script.specs.declared.replies.TextFault.TheVariants.{BadVector, BadQuery, LongLexeme, LargeVector, LargeQuery}
 use Rattle.shell_script.specs.declared.replies.Refusal.{Refusal}
-use Rattle.shell_script.specs.declared.replies.Refusal.TheVariants.{NoStatement, NoConfiguration, NoDictionary, Text, StoreFull, LogFull, Down, Device, Memory}
+use Rattle.shell_script.specs.declared.replies.Refusal.TheVariants.{NoStatement, NoConfiguration, NoDictionary, Text, StoreFull, LogFull, TransactionsSpent, Down, Device, Memory}
 use Rattle.shell_script.specs.declared.replies.Reply.{Reply}
 use Rattle.shell_script.specs.declared.replies.Reply.TheVariants.{Stored, Lists, Vector, Query, Tokens, Done, Refused}
 
@@ -29,6 +29,7 @@ refusal NoDictionary = replies.no_dictionary
 refusal (Text fault) = replies.text_refused (text_fault fault)
 refusal StoreFull = replies.store_full
 refusal LogFull = replies.log_full
+refusal TransactionsSpent = replies.transactions_spent
 refusal (Down count) = replies.down count
 refusal Device = replies.device
 refusal Memory = replies.memory

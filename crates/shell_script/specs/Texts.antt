@@ -5,7 +5,7 @@ use Rattle.ts_parser.specs.declared.iter.Token.{Token}
 use Rattle.ts_parser.specs.Kinds.{type_number}
 use Rattle.shell_script.specs.Name.{Name}
 use Rattle.shell_script.specs.Replies.{TextFault, bad_vector, bad_query, long_lexeme, large_vector, large_query}
-use Rattle.shell_script.specs.Replies.{Refusal, no_statement, no_configuration, no_dictionary, text_refused, store_full, log_full, down, device, memory}
+use Rattle.shell_script.specs.Replies.{Refusal, no_statement, no_configuration, no_dictionary, text_refused, store_full, log_full, transactions_spent, down, device, memory}
 use Rattle.shell_script.specs.Replies.{Reply, stored, lists, shows_vector, shows_query, shows_tokens, done, refused}
 
 abbrev pub name_text : Name → List ℕ
@@ -37,6 +37,7 @@ refusal_words no_dictionary = codes "5 dictionary"
 refusal_words (text_refused fault) = fault_words fault
 refusal_words store_full = codes "11 store full"
 refusal_words log_full = codes "12 log full"
+refusal_words transactions_spent = codes "13 transactions spent"
 refusal_words (down count) = codes "14 down"
 refusal_words device = codes "15 device"
 refusal_words memory = codes "17 memory"
@@ -57,6 +58,7 @@ refusal_detail no_dictionary = None
 refusal_detail (text_refused fault) = fault_detail fault
 refusal_detail store_full = None
 refusal_detail log_full = None
+refusal_detail transactions_spent = None
 refusal_detail (down count) = Some count
 refusal_detail device = None
 refusal_detail memory = None

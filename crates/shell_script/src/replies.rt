@@ -44,6 +44,8 @@ pub enum Refusal {
     StoreFull,
     /// The log has no room for the document.
     LogFull,
+    /// The store has drawn all the numbers of transactions.
+    TransactionsSpent,
     /// The store is down since a fault of the device, after which its count was this.
     Down(u64),
     /// A call of the device failed.

@@ -88,6 +88,7 @@ fn refusal_words(why: &Refusal) -> &str
         Refusal::Text(fault) => fault_words(fault),
         Refusal::StoreFull => "11 store full",
         Refusal::LogFull => "12 log full",
+        Refusal::TransactionsSpent => "13 transactions spent",
         Refusal::Down(_) => "14 down",
         Refusal::Device => "15 device",
         Refusal::Memory => "17 memory",

@@ -41,6 +41,7 @@ rule_refusal lines.Memory number = replies.memory
 abbrev pub refusal_for : StoreError → replies.Refusal
 refusal_for store.Full = replies.store_full
 refusal_for store.LogFull = replies.log_full
+refusal_for store.Spent = replies.transactions_spent
 refusal_for (store.Down count) = replies.down count
 refusal_for store.Device = replies.device
 refusal_for store.Memory = replies.memory

@@ -11,7 +11,10 @@ use Rattle.shell_run.specs.Inner.Sending.{Sends}
 use Rattle.shell_run.specs.Inner.Stores.{HasAnswered}
 use Rattle.shell_run.specs.Defining.{Becomes}
 use Rattle.shell_run.specs.Outcomes.{HasPrinted, is_refusal, some_refused}
-use Rattle.shell_run.specs.History.{History, IsNumbered}
+use Rattle.shell_run.specs.Finding.{History}
+use Rattle.shell_run.specs.Found.{Found}
+use Rattle.shell_run.specs.Crash.{HasSamePages}
+use Rattle.shell_run.specs.Inner.StoreValue.{StoreValue}
 use Rattle.shell_run.specs.Run.{Row}
 use Rattle.shell_run.specs.RanOn.{RanOn}
 use Rattle.shell_run.specs.RunMeets.{HasCauses, HasNotRun, HasRun}
@@ -20,29 +23,28 @@ use Rattle.disk_trait.specs.declared.stream.Sink.{Ghosts as Sink}
 use Rattle.shell_run.specs.declared.serving.Desk.{Desk}
 
 -- what a step says is answered, and what is defined then
-pub record HasTurned {D : Type 0} (device : Disk D) (step : Step) (old new : Desk) (disk disk' : D)
+pub record HasTurned {D : Type 0} (device : Disk D) (step : Step) (old new : Desk D)
     (session : ℕ) (reply : Reply) : Type 0 where
   pub statement : Statement
   pub says : Says step session statement
-  pub answered : HasAnswered device old.configs (line_of step).number old.store new.store disk disk'
-      statement reply
+  pub answered : HasAnswered device old.configs (line_of step).number old.store new.store statement
+      reply
   pub becomes : Becomes old.configs statement reply new.configs
 
 -- the step was answered, and its reply's text is on its way
-pub record Served {D : Type 0} (device : Disk D) (step : Step) (old new : Desk) (disk disk' : D)
+pub record Served {D : Type 0} (device : Disk D) (step : Step) (old new : Desk D)
     (before after : Option (List ℕ)) (well : Bool) : Type 0 where
   pub session : ℕ
   pub reply : Reply
-  pub turned : HasTurned device step old new disk disk' session reply
+  pub turned : HasTurned device step old new session reply
   pub text : Sends before after (old.waiting.items ++ said session reply) new.waiting.items well
   pub flag : new.refused ≡ (old.refused || is_refusal reply)
 
 -- nothing was done, since memory ran out
-pub record Passed {D : Type 0} (old new : Desk) (disk disk' : D) (before after : Option (List ℕ))
+pub record Passed {D : Type 0} (old new : Desk D) (before after : Option (List ℕ))
     (well : Bool) : Type 0 where
   pub short : well ≡ false
   pub same : (new.store ≡ old.store) × (new.configs ≡ old.configs) × (new.refused ≡ old.refused)
-  pub device : disk' ≡ disk
   pub text : Sends before after old.waiting.items new.waiting.items well
 
 -- The rows are those of a first part of the steps. Where this went well, they are those of all, and
@@ -52,17 +54,17 @@ pub record Ran (text : List ℕ) (before after : Option (List ℕ)) (rows : List
   pub so_far : HasPrinted text before after rows
   pub whole : well ≡ true → (so_far.left ≡ []) × (so_far.unsent ≡ [])
 
--- The steps of a text were run over documents that had a history.
-pub record HasRunSteps {D E : Type 0} (device : Disk D) (history : History) (text : List ℕ)
-    (before after : Option (List ℕ)) (disk disk' : D) (end : ℕ)
+-- The steps of a text were run over a store that had a history; the device is as it is left.
+pub record HasRunSteps {D E : Type 0} (device : Disk D) (found : Found) (history : History)
+    (text : List ℕ) (before after : Option (List ℕ)) (opened : StoreValue D) (disk : D)
     (result : Result Bool E) : Type 0 where
   pub rows : List Row
   pub commits : History
   pub ran : Ran text before after rows (is_ok result)
   pub flag : IfOk result (λ refused. refused ≡ some_refused rows)
-  pub numbered : IsNumbered commits
-  pub over : (first : D) (c0 : ℕ) → OpenedAt device history first c0 disk end
-      → RanOn device history first disk' commits rows
+  pub over : (first : D) (c0 : ℕ) → OpenedAt device found history first c0 opened
+      → RanOn device history first disk commits rows
+      × (device.tells → HasSamePages device first disk)
 
 -- What a text is answered, where the words are right and the text is a whole script.
 pub record ServeMeets {K D : Type 0} (sink : Sink K) (device : Disk D) (text : List ℕ) (status : ℕ)

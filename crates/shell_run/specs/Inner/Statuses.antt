@@ -1,7 +1,9 @@
 -- The statuses of a run that stops, and of one that ends.
 use Rattle.std.specs.Prelude.{ℕ, Bool, true, false}
-use Rattle.wal.specs.declared.error.WalError.{WalError}
-use Rattle.wal.specs.declared.error.WalError.TheVariants as log
+use Rattle.buffer_frames.specs.declared.error.OpenFault.{OpenFault}
+use Rattle.buffer_frames.specs.declared.error.OpenFault.TheVariants as opening
+use Rattle.buffer_frames.specs.declared.log_error.LogError.{LogError}
+use Rattle.buffer_frames.specs.declared.log_error.LogError.TheVariants as log
 use Rattle.shell_run.specs.declared.error.Stop.{Stop}
 use Rattle.shell_run.specs.declared.error.Stop.TheVariants.{SourceFault, TooLong, NotAStore, DiskFault, SinkFault, OutOfMemory}
 use Rattle.shell_run.specs.declared.error.StoreError.{StoreError}
@@ -23,18 +25,15 @@ ending_number true refused = 3
 ending_number false true = 1
 ending_number false false = 0
 
--- why a run stops where the log's opening is refused
-abbrev pub stop_at : WalError → Stop
-stop_at log.OutOfMemory = OutOfMemory
-stop_at log.NotAStore = NotAStore
-stop_at log.DiskFault = DiskFault
-stop_at log.LogFull = DiskFault
-stop_at (log.Down fault) = DiskFault
+-- why a run stops where the opening is refused
+abbrev pub stop_at : OpenFault → Stop
+stop_at opening.NotAStore = NotAStore
+stop_at opening.DiskFault = DiskFault
+stop_at opening.OutOfMemory = OutOfMemory
 
 -- the error of the store that an error of the log is
-abbrev pub store_error : WalError → StoreError
+abbrev pub store_error : LogError → StoreError
 store_error log.DiskFault = store.Device
 store_error log.LogFull = store.LogFull
-store_error log.NotAStore = store.Device
 store_error (log.Down fault) = store.Down fault
 store_error log.OutOfMemory = store.Memory

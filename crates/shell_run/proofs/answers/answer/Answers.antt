@@ -1,12 +1,11 @@
 use Rattle.std.proofs.Common.{refl}
-use Rattle.shell_run.specs.Inner.Stores.{Rests}
 use Rattle.std.specs.String.{string_bytes}
 use Rattle.ts_parser.specs.TokensOf.{tokens_of}
 use Rattle.ts_parser.proofs.Law.{one_token_list_lem}
+use Rattle.shell_run.proofs.Turning.{rests}
 use Rattle.shell_run.proofs.answers.answer.Goals as goal
 
 pub returns-in-Parse : goal.returns-in-Parse
 returns-in-Parse g c =
     let text = string_bytes c.in-Parse.text in
-    let rests : Rests g.D.Disk c.args.store.now c.args.store.now c.args.disk.now c.args.disk.now = record { store = record { same = refl; used = refl; end = refl; down = refl }; same_disk = refl } in
-    rw c.in-Parse.is (rests, (one_token_list_lem text (tokens_of text)).1 refl)
+    rw c.in-Parse.is (rests g.D.Disk c.args.store.now, (one_token_list_lem text (tokens_of text)).1 refl)

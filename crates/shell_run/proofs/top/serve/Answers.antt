@@ -1,31 +1,13 @@
-use Rattle.std.proofs.Common.{inl, inr, rules, arith, refl, sym, subst, []}
-use Rattle.wal.specs.Waiting.{end_of}
-use Rattle.shell_run.specs.Inner.Opened.{OpenedAt}
-use Rattle.shell_run.specs.Inner.Stores.{StandsFor}
-use Rattle.shell_run.proofs.Ending.{answered_stop, answered_end, stopped_status, not_four, unopened, is_err}
+use Rattle.std.proofs.Common.{inl, arith}
+use Rattle.shell_run.proofs.Ending.{unopened}
+use Rattle.shell_run.proofs.Served.{serve_short, serve_stopped, serve_ended}
 use Rattle.shell_run.proofs.Streams.{appends_none}
-use Rattle.disk_trait.proofs.Runs.{started}
-use Rattle.shell_run.proofs.Emptying.{as_before_same, pages_kept, run_keeps_pages}
 use Rattle.shell_run.proofs.top.serve.Goals as goal
 
 pub returns-in_default : goal.returns-in_default
 returns-in_default g c =
-    let n = c.status.ensures in
-    record {
-      range = (omega (arith, n), λ e. omega (arith, n, e), λ e. omega (arith, n, e));
-      causes = record {
-        status_4 = λ t e. absurd (omega (arith, n, e));
-        no_store = λ t l. (λ e. omega (arith, n, e), λ e. omega (arith, n, e), λ e. omega (arith, n, e));
-        keeps_4 = λ e. absurd (omega (arith, n, e));
-        status_7 = λ e. absurd (omega (arith, n, e));
-        status_3 = λ e. absurd (omega (arith, n, e));
-        pages = λ t. pages_kept g.D.Disk c.args.device.now c.args.device.now refl (started g.D.Disk c.args.device.now _ (λ f left. left));
-      };
-      headline = inl (record {
-        nothing = record { sink = appends_none (g.K.Sink.taken c.args.out.now); statuses = (λ e. omega (arith, n, e), λ e. omega (arith, n, e), λ e. omega (arith, n, e)) };
-        as_before = λ t s. as_before_same g.D.Disk c.args.device.now s;
-      });
-    }
+    serve_short g.K.Sink g.D.Disk c.args.out.now c.args.device c.args.text.now c.status.result
+    c.status.ensures
 
 pub returns-in-Err : goal.returns-in-Err
 returns-in-Err g c =
@@ -34,54 +16,47 @@ returns-in-Err g c =
     record {
       range = (omega (arith, n), λ e. omega (arith, n), λ e. omega (arith, n));
       causes = record {
-        status_4 = λ t e. c.in-Err.ensures.no_store t (is_err _ _ (u.at_4 e));
+        status_4 = λ t e. c.in-Err.ensures.no_store t (u.at_4 e);
         no_store = λ t l. (λ e. omega (arith, n), λ e. omega (arith, n), λ e. omega (arith, n));
-        keeps_4 = λ e. c.in-Err.ensures.keeps (is_err _ _ (u.at_4 e));
+        keeps_4 = λ e. c.in-Err.ensures.keeps (u.at_4 e);
         status_7 = λ e. absurd (omega (arith, n));
-        status_3 = λ e. (λ three. c.in-Err.ensures.fault (is_err _ _ (u.at_3 three)), λ rose. omega (arith, n, e));
+        status_3 =
+            λ e. (λ three. c.in-Err.ensures.fault (u.at_3 three), λ rose. omega (arith, n, e));
         pages = λ t. c.in-Err.ensures.pages t;
       };
       headline = inl (record {
-        nothing = record { sink = appends_none (g.K.Sink.taken c.args.out.now); statuses = (λ e. omega (arith, n), λ e. omega (arith, n), λ e. omega (arith, n)) };
+        nothing =
+            record {
+              sink = appends_none (g.K.Sink.taken c.args.out.now);
+              statuses =
+                  (λ e. omega (arith, n), λ e. omega (arith, n), λ e. omega (arith, n));
+            };
         as_before = λ t s. c.in-Err.ensures.refused t s;
       });
     }
 
-pub returns-in-Err-run_steps : goal.returns-in-Err-run_steps
-returns-in-Err-run_steps g c =
-    let o = c.in-Ok-open_store.ensures.opened in
-    let h : StandsFor c.new-documents.result [] = c.new-documents.ensures.empty in
-    let r = c.in-Err-run_steps.ensures.ran [] h in
-    let s = stopped_status c.in-Err-run_steps.stop _ c.in-Err-run_steps.ensures.error c.status-in-Err-run_steps.ensures in
-    let ran = r.over c.args.device.now o.1.0 (subst (λ w. OpenedAt g.D.Disk [] c.args.device.now o.1.0 c.open_store.new.disk (end_of w)) (sym c.new-documents.ensures.wal) o.1.1) in
-    record {
-      range = search rules;
-      causes = record {
-        status_4 = search rules;
-        no_store = search rules;
-        keeps_4 = search rules;
-        status_7 = search rules;
-        status_3 = search rules;
-        pages = λ t. run_keeps_pages g.D.Disk (λ d. g.met.D.Disk.seen_is_image d t) _ _ _ _ _ _ (ran.means t);
-      };
-      headline = inr (record { rows = r.rows; commits = r.commits; answered = answered_stop _ _ _ _ _ r.ran s; numbered = r.numbered; ran = ran });
-    }
+pub returns-in-Err-ran : goal.returns-in-Err-ran
+returns-in-Err-ran g c =
+    let o = c.in-Ok-open_store.ensures.opened.1 in
+    serve_stopped g.K.Sink g.D.Disk _ _ _ c.args.device _ o.0 o.1 o.2 _ _ c.in-Err-ran.stop _
+    (record {
+      opened = o.3;
+      a_store = c.in-Ok-open_store.ensures.store;
+      ran =
+          c.run_steps-device.ensures.ran o.0 o.1 o.4;
+    })
+    c.in-Err-ran.is c.run_steps-device.ensures.error c.run_steps-device.ensures.fault
+    c.status-in-Err-ran.ensures
 
-pub returns-in-Ok-run_steps : goal.returns-in-Ok-run_steps
-returns-in-Ok-run_steps g c =
-    let o = c.in-Ok-open_store.ensures.opened in
-    let h : StandsFor c.new-documents.result [] = c.new-documents.ensures.empty in
-    let r = c.in-Ok-run_steps.ensures.ran [] h in
-    let ran = r.over c.args.device.now o.1.0 (subst (λ w. OpenedAt g.D.Disk [] c.args.device.now o.1.0 c.open_store.new.disk (end_of w)) (sym c.new-documents.ensures.wal) o.1.1) in
-    record {
-      range = search rules;
-      causes = record {
-        status_4 = search rules;
-        no_store = search rules;
-        keeps_4 = λ e. absurd (not_four _ _ _ c.ending_status.ensures e);
-        status_7 = search rules;
-        status_3 = search rules;
-        pages = λ t. run_keeps_pages g.D.Disk (λ d. g.met.D.Disk.seen_is_image d t) _ _ _ _ _ _ (ran.means t);
-      };
-      headline = inr (record { rows = r.rows; commits = r.commits; answered = answered_end _ _ _ _ _ _ c.in-Ok-run_steps.refused r.ran r.flag c.ending_status.ensures; numbered = r.numbered; ran = ran });
-    }
+pub returns : goal.returns
+returns g c =
+    let o = c.in-Ok-open_store.ensures.opened.1 in
+    serve_ended g.K.Sink g.D.Disk _ _ _ c.args.device _ o.0 o.1 o.2 _ _ c.in-Ok-ran.refused _
+    (record {
+      opened = o.3;
+      a_store = c.in-Ok-open_store.ensures.store;
+      ran =
+          c.run_steps-device.ensures.ran o.0 o.1 o.4;
+    })
+    c.in-Ok-ran.is c.faults-before.result c.faults.result c.faults-before.ensures c.faults.ensures
+    c.ending_status.ensures

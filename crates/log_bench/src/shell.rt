@@ -1,0 +1,34 @@
+// Runs of scripts over a timed device.
+use crate::device::TimedDisk;
+use disk_trait::{MemoryDisk, MemorySink, MemorySource};
+use shell_run::{NoGate, Outcome, run_shell};
+use std::alloc::{AllocError, Global};
+use std::rt::Clock;
+use std::sync::Wait;
+use std::thread::Threads;
+
+/// How many bytes of a script a read gives.
+const PIECE: usize = 4096;
+
+/// A run that has ended.
+pub(crate) type Ended<'a, R> = Outcome<MemorySource, MemorySink, TimedDisk<'a, R>>;
+
+/// A run over a device in memory.
+pub(crate) fn run_script<'a, R: Threads + Wait + Sync + Clock>(
+    rt: &'a R,
+    alloc: Global,
+    script: Vec<u8>,
+    disk: MemoryDisk,
+    timed: bool,
+) -> Result<Ended<'a, R>, AllocError> {
+    let words = vec![in alloc; String::from_str(alloc, "run")?]?;
+    Ok(run_shell(
+        rt,
+        alloc,
+        &words,
+        MemorySource::new(script, Vec::new(alloc), PIECE),
+        MemorySink::new(alloc, Vec::new(alloc)),
+        TimedDisk::new(disk, rt, timed),
+        &NoGate,
+    ))
+}

@@ -1,0 +1,42 @@
+use Rattle.std.proofs.Common.{[], ◌∙◌, arith, sym, refl, false, true}
+use Rattle.shell_script.specs.StepView.{step as shown}
+use Rattle.shell_run.specs.declared.serving.Desk.{Desk}
+use Rattle.shell_run.proofs.Progressing.{progress_start, progress_left, progress_sent, step_stop, step_goes, stopped_out, ended_out}
+use Rattle.shell_run.proofs.serving.serve_steps.Goals as goal
+
+pub loop-step-init : goal.loop-step-init
+loop-step-init g c = (
+  λ found history held. progress_left g.D.Disk found history _ _ _ _ c.args.text.now _ _ true
+      (progress_start g.D.Disk found history (g.K.Sink.taken c.args.out.now) c.args.desk.now c.args.text.now held c.requires.up c.requires.first c.requires.fresh.0 c.requires.fresh.1)
+      (sym (c.into_iter-step-iterator.ensures.into_iter_gives ∙ c.steps-step-items.ensures.value)),
+  omega arith,
+  omega arith,
+)
+
+pub returns-in-Err-clause-ran : goal.returns-in-Err-clause-ran
+returns-in-Err-clause-ran g c =
+    λ found history held. step_stop g.D.Disk found history g.met.D.Disk.seen_is_image _ _ _ _ _ _ c.args.text.now (shown c.in-Some.step) c.next.new.self c.in-Err.stop
+    (progress_left g.D.Disk found history _ _ _ _ c.args.text.now _ _ true (c.loop-step.invariant.0 found history held) c.in-Some.ensures.steps) c.in-Err.ensures.served
+
+pub loop-step-preserved : goal.loop-step-preserved
+loop-step-preserved g c = (
+  λ found history held. step_goes g.D.Disk found history _ _ _ _ _ _ c.args.text.now (shown c.in-Some.step) c.next.new.self
+      (progress_left g.D.Disk found history _ _ _ _ c.args.text.now _ _ true (c.loop-step.invariant.0 found history held) c.in-Some.ensures.steps) c.in_default.ensures.served,
+  omega (arith, c.loop-step.invariant.1, c.serve_step.ensures.later),
+  omega (arith, c.loop-step.invariant.2, c.serve_step.ensures.counts),
+)
+
+pub returns-in-Err-flush-clause-ran : goal.returns-in-Err-flush-clause-ran
+returns-in-Err-flush-clause-ran g c =
+    let desk : Desk g.row.D.Denot = record { store = c.loop-step.desk.store; configs = c.loop-step.desk.configs; waiting = c.flush.new.waiting; refused = c.loop-step.desk.refused; turns = c.loop-step.desk.turns } in
+    λ found history held. stopped_out g.D.Disk found history g.met.D.Disk.seen_is_image _ _ _ desk c.args.text.now [] c.in-Err-flush.stop
+    (progress_sent g.D.Disk found history _ _ _ _ c.loop-step.desk desk c.args.text.now [] false
+    (progress_left g.D.Disk found history _ _ _ _ c.args.text.now _ _ true (c.loop-step.invariant.0 found history held) c.in-None.ensures.steps.0) refl refl refl c.in-Err-flush.ensures.text)
+
+pub returns-clause-ran : goal.returns-clause-ran
+returns-clause-ran g c =
+    let desk : Desk g.row.D.Denot = record { store = c.loop-step.desk.store; configs = c.loop-step.desk.configs; waiting = c.flush.new.waiting; refused = c.loop-step.desk.refused; turns = c.loop-step.desk.turns } in
+    λ found history held. ended_out g.D.Disk found history g.met.D.Disk.seen_is_image _ _ _ desk c.args.text.now
+    (progress_sent g.D.Disk found history _ _ _ _ c.loop-step.desk desk c.args.text.now [] true
+    (progress_left g.D.Disk found history _ _ _ _ c.args.text.now _ _ true (c.loop-step.invariant.0 found history held) c.in-None.ensures.steps.0) refl refl refl c.in_default-flush.ensures.text)
+    c.in_default-flush.ensures.empty
