@@ -1,8 +1,7 @@
 -- What the program starts from.
-use Rattle.std.specs.Prelude.{◌≡◌, ℕ, []}
-use Rattle.disk_trait.specs.Schedules.{IsUnused}
-use Rattle.disk_trait.specs.MemoryDisk.{schedule_of, write_faults_of, seen_of}
-use Rattle.disk_trait.specs.declared.disk.MemoryDisk.{MemoryDisk}
+use Rattle.std.specs.Prelude.{◌≡◌}
+use Rattle.disk_file.specs.FileDisk.{faults_of, write_faults_of, HasNoneOpen}
+use Rattle.disk_file.specs.declared.disk.FileDisk.{FileDisk}
 use Rattle.disk_file.specs.declared.streams.StdSource.{StdSource}
 use Rattle.disk_file.specs.declared.streams.StdSink.{StdSink}
 
@@ -16,8 +15,7 @@ pub record IsInto {W : Type 0} (out : StdSink W) (writer : W) : Type 0 where
   pub over : out.writer ≡ writer
   pub no_fault : out.faults ≡ 0
 
--- a device with two empty files, that was not called, and that no call is to fail
-pub record IsNewDisk (disk : MemoryDisk) : Type 0 where
-  pub empty : ((seen_of disk).log ≡ []) × ((seen_of disk).pages ≡ [])
-  pub unused : IsUnused (schedule_of disk) []
-  pub no_fault : write_faults_of disk ≡ 0
+-- a device over files that has opened none of them, and whose calls have not failed
+pub record IsNewDisk {R : Type 0} (disk : FileDisk R) : Type 0 where
+  pub closed : HasNoneOpen disk
+  pub no_fault : (faults_of disk ≡ 0) × (write_faults_of disk ≡ 0)

@@ -1,4 +1,5 @@
-//! The program: a script on standard input, its replies on standard output.
+//! The program: a script on standard input, its replies on standard output, and a store in two files of the working
+//! directory.
 #![tactic(auto)]
 
 ghost use Rattle.std.specs.Prelude.{◌≡◌, ◌≢◌, ◌↔◌, ◌≤◌, drop, IfOk, IfErr};
@@ -7,13 +8,14 @@ ghost use Rattle.std.specs.Process.{exit_status};
 ghost use Rattle.shell_run.specs.RunMeets.{RunMeets};
 ghost use Rattle.shell_run.specs.Words.{IsForm};
 ghost use Rattle.shell_run.specs.declared.words.Settings.{Settings};
-ghost use Rattle.disk_trait.specs.declared.disk.MemoryDisk.{MemoryDisk};
+ghost use Rattle.std.specs.declared.rt.LibcRuntime.{LibcRuntime};
 ghost use Rattle.ginsh.specs.Started.{IsFrom, IsInto, IsNewDisk};
+ghost use Rattle.disk_file.specs.declared.disk.FileDisk.{FileDisk};
 ghost use Rattle.disk_file.specs.declared.streams.StdSource.{StdSource};
 ghost use Rattle.disk_file.specs.declared.streams.StdSink.{StdSink};
 
-use disk_file::{StdSink, StdSource};
-use disk_trait::{Disk, MemoryDisk, Sink, Source};
+use disk_file::{FileDisk, StdSink, StdSource};
+use disk_trait::{Disk, Sink, Source};
 use shell_run::{NoGate, Outcome, run_shell};
 use std::alloc::Global;
 use std::io::{self, ErrorKind, Read, Write};
@@ -49,28 +51,30 @@ fn unread_status(error: &io::Error) -> u8
     }
 }
 
-/// The whole program, over an empty store.
-fn answer<R: Threads + Wait + Sync, I: Read, O: Write>(
+/// The whole program, over the store in the working directory.
+fn answer<'a, R: Threads + Wait + Sync, I: Read, O: Write>(
     rt: &R,
+    files: &'a HostRuntime,
     alloc: Global,
     words: &[String],
     reader: I,
     writer: O,
-) -> Outcome<StdSource<I>, StdSink<O>, MemoryDisk>
-    ensures { (script : StdSource I) × (out : StdSink O) × (disk : MemoryDisk)
+) -> Outcome<StdSource<I>, StdSink<O>, FileDisk<'a, HostRuntime>>
+    ensures { (script : StdSource I) × (out : StdSink O) × (disk : FileDisk LibcRuntime)
         × IsFrom script reader × IsInto out writer × IsNewDisk disk
-        × RunMeets ⟦<StdSource<I> as Source>⟧ ⟦<StdSink<O> as Sink>⟧ ⟦<MemoryDisk as Disk>⟧
-        words.now script out disk result }
+        × RunMeets ⟦<StdSource<I> as Source>⟧ ⟦<StdSink<O> as Sink>⟧
+        ⟦<FileDisk<'a, HostRuntime> as Disk>⟧ words.now script out disk result }
 {
     let script = StdSource::new(reader);
     let out = StdSink::new(writer);
-    let disk = MemoryDisk::new(alloc, Vec::new(alloc));
+    let disk = FileDisk::new(files);
     run_shell(rt, alloc, words, script, out, disk, &NoGate)
 }
 
 /// The program behind its words: it ends with the status of the run, if there is one.
 fn end_of<R: Threads + Wait + Sync, I: Read + Drop, O: Write + Drop>(
     rt: &R,
+    files: &HostRuntime,
     alloc: Global,
     words: io::Result<Vec<String>>,
     reader: I,
@@ -78,14 +82,14 @@ fn end_of<R: Threads + Wait + Sync, I: Read + Drop, O: Write + Drop>(
 ) -> ExitCode
     ensures form { IfOk words (λ w. (exit_status result ≡ 2) ↔ ((settings : Settings) → IsForm w.items settings → ⊥)) }
     ensures no_text { IfErr words (λ e. (exit_status result ≡ 2) ↔ (error_kind e ≡ ErrorKind.InvalidData)) }
-    ensures range { (exit_status result ≤ 8) × (exit_status result ≢ 4) }
+    ensures range { exit_status result ≤ 8 }
 {
     match words {
-        Ok(words) => ExitCode::from(answer(rt, alloc, &words, reader, writer).status),
+        Ok(words) => ExitCode::from(answer(rt, files, alloc, &words, reader, writer).status),
         Err(error) => ExitCode::from(unread_status(&error)),
     }
 }
 
 fn main(rt: HostRuntime) -> ExitCode {
-    end_of(&rt, rt.alloc(), words_of(&rt), rt.stdin(), rt.stdout())
+    end_of(&rt, &rt, rt.alloc(), words_of(&rt), rt.stdin(), rt.stdout())
 }

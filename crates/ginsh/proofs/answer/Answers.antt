@@ -1,4 +1,3 @@
-use Rattle.std.proofs.Common.{◌∙◌}
 use Rattle.ginsh.proofs.answer.Goals as goal
 
 pub returns : goal.returns
@@ -8,14 +7,6 @@ returns g c = (
   c.new-disk.result,
   record { over = c.new-script.ensures.0; no_fault = c.new-script.ensures.1 },
   record { over = c.new-out.ensures.0; no_fault = c.new-out.ensures.1 },
-  record {
-    empty = c.new-disk.ensures.empty;
-    unused = record {
-      list = c.new-disk.ensures.unused.0.list ∙ c.new.ensures.items;
-      calls = c.new-disk.ensures.unused.0.calls;
-      faults = c.new-disk.ensures.unused.0.faults;
-    };
-    no_fault = c.new-disk.ensures.unused.1;
-  },
+  record { closed = c.new-disk.ensures.closed; no_fault = c.new-disk.ensures.counts },
   c.run_shell.ensures,
 )
