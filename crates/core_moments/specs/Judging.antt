@@ -41,10 +41,13 @@ abbrev pub is_exception : Walk → ℕ → Bool
 is_exception w i = starts_page i w.pending
 
 -- the item was read under one entry, inline or in its posting tree
-abbrev pub under_entry : (Key → Bool) → ℕ → Key → Bool → Postings → List (List Read) → (List (List Read) → Bool) → Bool
-under_entry test i k true (Inline bytes) ts rest = (test k && list_any (nat_eq i) (items_of bytes)) || rest ts
+abbrev pub under_entry : (Key → Bool) → ℕ → Key → Bool → Postings → List (List Read)
+    → (List (List Read) → Bool) → Bool
+under_entry test i k true (Inline bytes) ts rest =
+    (test k && list_any (nat_eq i) (items_of bytes)) || rest ts
 under_entry test i k true (Root r) [] rest = false
-under_entry test i k true (Root r) (t ∷ ts') rest = (test k && list_any (λ x. list_any (nat_eq i) (posting_items_in x.content.body)) t) || rest ts'
+under_entry test i k true (Root r) (t ∷ ts') rest =
+    (test k && list_any (λ x. list_any (nat_eq i) (posting_items_in x.content.body)) t) || rest ts'
 under_entry test i k false p ts rest = rest ts
 
 -- the item was read in the leaf under a key that is sought and passes the test
@@ -53,7 +56,9 @@ under s test i [] ts = false
 under s test i (e ∷ es) ts = under_entry test i e.key (fits s e.key) e.postings ts (under s test i es)
 
 abbrev pub in_leaves : (Key → Bool) → Walk → ℕ → Bool
-in_leaves test w i = list_any (λ k. list_any (λ l. under k.sought test i (entries_of l.leaf.content) l.trees) k.leaves) w.keys
+in_leaves test w i =
+    list_any (λ k. list_any (λ l. under k.sought test i (entries_of l.leaf.content) l.trees) k.leaves)
+    w.keys
 
 abbrev pub main_read : Walk → ℕ → Bool
 main_read w i = in_leaves (λ k. true) w i
@@ -77,5 +82,8 @@ module _ {Q : Type 0} (M : Meaning Q) (q : Q) (w : Walk) (i : ℕ) where
 
   -- a yes without its vector
   pub data HasYes : Type 0 where
-    by_pending : IsTrue (met w i) → M.judged q (values (pending_has w i) (cond (is_exception w i) Maybe False) (M.asked q)) ≡ True → HasYes
-    by_main : IsTrue (in_main w i) → M.judged q (values (main_has w i) Maybe (M.asked q)) ≡ True → HasYes
+    by_pending : IsTrue (met w i)
+        → M.judged q (values (pending_has w i) (cond (is_exception w i) Maybe False) (M.asked q))
+        ≡ True → HasYes
+    by_main : IsTrue (in_main w i)
+        → M.judged q (values (main_has w i) Maybe (M.asked q)) ≡ True → HasYes

@@ -99,7 +99,8 @@ pub record LeafRead : Type 0 where
 
 -- an entry that fits and has a tree has its reads in turn
 abbrev pub Branch : Bool → Postings → (List (List Read) → Type 0) → List (List Read) → Type 0
-Branch true (Root r) rest ts = (t : List Read) × (ts' : List (List Read)) × (ts ≡ t ∷ ts') × Follows along r t × rest ts'
+Branch true (Root r) rest ts =
+    (t : List Read) × (ts' : List (List Read)) × (ts ≡ t ∷ ts') × Follows along r t × rest ts'
 Branch _ _ rest ts = rest ts
 
 abbrev pub AreTrees : Sought → List Entry → List (List Read) → Type 0
@@ -108,7 +109,9 @@ AreTrees s (e ∷ es) ts = Branch (fits s e.key) e.postings (AreTrees s es) ts
 
 abbrev pub AreLeaves : Sought → ℕ → List LeafRead → Type 0
 AreLeaves s p [] = p ≡ 0
-AreLeaves s p (l ∷ ls) = (p ≢ 0) × (l.leaf.page ≡ p) × AreTrees s (entries_of l.leaf.content) l.trees × AreLeaves s (beyond s l.leaf.content) ls
+AreLeaves s p (l ∷ ls) =
+    (p ≢ 0) × (l.leaf.page ≡ p) × AreTrees s (entries_of l.leaf.content) l.trees
+    × AreLeaves s (beyond s l.leaf.content) ls
 
 pub record KeyWalk : Type 0 where
   pub sought : Sought
@@ -118,7 +121,8 @@ pub record KeyWalk : Type 0 where
 
 pub record IsKeyWalk (w : KeyWalk) : Type 0 where
   pub down_ok : LeadTo (toward (first_key w.sought)) 1 w.down w.leaf
-  pub is_leaf : (l : LeafRead) × (ls : List LeafRead) × (w.leaves ≡ l ∷ ls) × (toward (first_key w.sought) l.leaf.content ≡ 0)
+  pub is_leaf : (l : LeafRead) × (ls : List LeafRead) × (w.leaves ≡ l ∷ ls)
+      × (toward (first_key w.sought) l.leaf.content ≡ 0)
   pub leaves_ok : AreLeaves w.sought w.leaf w.leaves
 
 abbrev pub sought_of : Asked → Sought
