@@ -19,6 +19,7 @@ pub mod Going
 pub mod Progressing
 pub mod OneAnswer
 pub mod Traces
+pub mod NextRun
 mod Bodies
 mod Turning
 mod OneDefinition

@@ -11,6 +11,7 @@ pub mod Crash
 pub mod RanOn
 pub mod RunMeets
 pub mod Traces
+pub mod NextRun
 pub mod Inner
 pub use Rattle.disk_trait.specs.Files
 pub use Rattle.disk_trait.specs.Device

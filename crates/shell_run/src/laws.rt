@@ -8,9 +8,11 @@ ghost use Rattle.shell_script.specs.Grammar.{Expr, QuerySource};
 ghost use Rattle.shell_script.specs.Name.{Name};
 ghost use Rattle.shell_run.specs.Finding.{Document, IsFound};
 ghost use Rattle.shell_run.specs.Traces.{NoneIsStoredAfterFailure, EachFailureIsNoted, OneCountIsTold, NothingIsPrintedWith4, NoNameIsTakenTwice, NoLogIsWiped, NoPageIsWritten};
+ghost use Rattle.shell_run.specs.NextRun.{OpensIsNoRefusal, EmptyMayStart, NextMayStart, NextHasAll};
 ghost use Rattle.shell_run.specs.Defining.{HasOneAnswer};
 ghost use Rattle.shell_run.specs.Values.{IsExprAnswer, IsQueryAnswer, IsOneAnswer};
 
+use buffer_frames::{no_store_is_none, opens_to_one};
 use disk_trait::{Disk, Sink};
 
 /// Want of memory aside, an expression has one answer, and so have a query and a definition.
@@ -37,3 +39,15 @@ pub fn ruled_out<K: Sink, D: Disk>()
     ensures wiped { NoLogIsWiped K.Sink D.Disk }
     ensures page_written { NoPageIsWritten K.Sink D.Disk }
 {}
+
+/// A run may start from empty files, and from what a run that so started, or a crash in it, has left.
+/// The history that it begins with has every commit that was acknowledged.
+pub fn next_run<D: Disk, E: Disk>()
+    ensures opens { OpensIsNoRefusal }
+    ensures empty { EmptyMayStart D.Disk }
+    ensures may_start { NextMayStart D.Disk E.Disk }
+    ensures has_all { NextHasAll D.Disk E.Disk }
+{
+    opens_to_one();
+    no_store_is_none();
+}

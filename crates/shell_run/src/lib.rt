@@ -19,6 +19,6 @@ mod values;
 mod words;
 
 pub use gate::{Gate, NoGate};
-pub use laws::{one_answer, one_list, ruled_out};
+pub use laws::{next_run, one_answer, one_list, ruled_out};
 pub use top::{Outcome, run_shell};
 pub use words::Settings;
