@@ -1,5 +1,5 @@
 -- What the images of a journal's device open to, call by call.
-use Rattle.std.proofs.Common.{◌≡◌, ◌⊎◌, ◌≤◌, Bool, inl, inr, ⊎_elim, ℕ, List, [], ◌∷◌, ◌++◌, refl, sym, ap, subst, ◌∙◌, arith, append-nil, append_assoc}
+use Rattle.std.proofs.Common.{◌≡◌, ◌⊎◌, ◌≤◌, Bool, inl, inr, ⊎_elim, ℕ, List, [], ◌∷◌, ◌++◌, refl, sym, ap, subst, ◌∙◌, arith, append-nil, append_assoc, length, length-append}
 use Rattle.std.proofs.lemmas.Bool.{cases_lt}
 use Rattle.std.proofs.lemmas.List.{reverse-reverse}
 use Rattle.std.specs.Prelude.{Option, Some, None, reverse}
@@ -14,9 +14,9 @@ use Rattle.core_state.specs.History.{History, Begins, IsHistory}
 use Rattle.core_state.specs.Stores.{PagesStand}
 use Rattle.core_state.specs.declared.settings.Settings.{Settings}
 use Rattle.core_state.proofs.Histories.{history_one}
-use Rattle.buffer_frames.specs.Beginnings.{KeepsBeginnings, KeepsHistory}
+use Rattle.buffer_frames.specs.Beginnings.{KeepsBeginnings, KeepsHistory, HasSince, HasFlushed, StaysSince}
 use Rattle.buffer_frames.specs.Counted.{AreRecords, IsCounted}
-use Rattle.buffer_frames.specs.Journals.{JournalValue, Stands, CountsEither, MayFollow, logged}
+use Rattle.buffer_frames.specs.Journals.{JournalValue, Stands, CountsEither, MayFollow, logged, commits_in}
 use Rattle.buffer_frames.specs.NoStore.{CountedAreOne}
 use Rattle.buffer_frames.specs.First.{first_record}
 use Rattle.buffer_frames.specs.Opens.{IsLogOf, OpensTo}
@@ -25,6 +25,7 @@ use Rattle.buffer_frames.specs.Inner.Following.{GoesOn, MayGoOn}
 use Rattle.buffer_frames.specs.declared.page_map.PageMap.{PageMap}
 use Rattle.buffer_frames.proofs.OnePageFiles.{stands_beside_more}
 use Rattle.buffer_frames.proofs.OnePageFirst.{first_is_log}
+use Rattle.buffer_frames.proofs.OnePageRoom.{state_is_of}
 use Rattle.buffer_frames.proofs.Rows.{one_row}
 
 -- beginnings of beginnings
@@ -33,6 +34,15 @@ begins_all H = ([], append-nil H)
 
 begins_then : (A B C : History) → Begins A B → Begins B C → Begins A C
 begins_then A B C a b = (a.0 ++ b.0, sym (append_assoc A a.0 b.0) ∙ ap (λ (H : History). H ++ b.0) a.1 ∙ b.1)
+
+begins_short : (A B : History) → Begins A B → length A ≤ length B
+begins_short A B b = omega (arith, length-append A b.0, ap length b.1)
+
+-- what files open to is one history
+same_opens : CountedAreOne → (f : Files) (K H : History) → OpensTo f K → OpensTo f H → K ≡ H
+same_opens one f K H a b =
+    history_one a.records K H a.log_of.history
+    (subst (λ (l : Log). IsHistory l H) (sym (one f.log a.records b.records a.counted b.counted)) b.log_of.history)
 
 -- files whose log counts the same records, beside the same pages
 opens_as : CountedAreOne → (old new : Files) (R : Log) (H : History) → OpensTo old H → IsCounted old.log R → IsCounted new.log R
@@ -92,6 +102,40 @@ module _ {D : Type 0} (device : Disk D) (one : CountedAreOne) where
       ⊎_elim (λ (is : IsCounted c.log k.stands.counted). (b.0, opens_as one either.before c k.stands.counted b.0 b.1 was is either.pages, b.2, b.3))
       (λ (is : IsCounted c.log k.log). (k.history, opens_more one either.before c k.stands.waits k.stands.counted k.log b.0 k.history k.stands.all b.1 was is either.pages k.log_of, k.goes_on, begins_all k.history))
       either.log_is
+
+  -- what a crash now leaves has the commits that are flushed
+  pub has_flushed : (j : JournalValue D) → KeepsHistory device j → HasFlushed device j
+  has_flushed j keeps t up found opens m f ge le left =
+      let k = keeps t found opens in
+      let now : m ≡ device.clock j.disk = omega (arith, ge, le) in
+      let b = k.images m f (omega (arith, k.later, ge)) le left in
+      let is : IsCounted f.log k.stands.counted = image_counted j k.log k.stands t up f (subst (λ (x : ℕ). device.image j.disk x f) now left) in
+      let same : b.1.records ≡ k.stands.counted = one f.log b.1.records k.stands.counted b.1.counted is in
+      let log_of : IsLogOf k.stands.counted b.0 = subst (λ (l : Log). IsLogOf l b.0) same b.1.log_of in
+      let commits : commits_in j.state k.stands.counted ≡ length b.0 = (state_is_of j.state.pages j.state.xid_limit k.stands.counted b.0 log_of).commits_are in
+      (b.0, b.1, omega (arith, k.stands.flushed up, commits))
+
+  -- an image of a flush has what the images before it had
+  reached_image : (j : JournalValue D) (found : History) (k : KeepsBeginnings device j found) → device.tells → down_of j.wal ≡ None → (f : Files) → CountsEither device j.disk k.stands.counted k.log f
+      → (c commits : ℕ) → c ≤ device.clock j.disk → HasSince device c commits j.disk → (kept : History) × OpensTo f kept × (commits ≤ length kept)
+  reached_image j found k t up f either c commits early has =
+      let b = has (device.clock j.disk) either.before early (omega arith) either.was in
+      let d = k.images (device.clock j.disk) either.before k.later (omega arith) either.was in
+      let same : length b.0 ≡ length d.0 = ap length (same_opens one either.before b.0 d.0 b.1 d.1) in
+      let was : IsCounted either.before.log k.stands.counted = image_counted j k.log k.stands t up either.before either.was in
+      ⊎_elim (λ (is : IsCounted f.log k.stands.counted). (b.0, opens_as one either.before f k.stands.counted b.0 b.1 was is either.pages, b.2))
+      (λ (is : IsCounted f.log k.log). (
+        k.history,
+        opens_more one either.before f k.stands.waits k.stands.counted k.log b.0 k.history k.stands.all b.1 was is either.pages k.log_of,
+        omega (arith, b.2, same, begins_short d.0 k.history d.3),
+      ))
+      either.log_is
+
+  pub stays_since : StaysSince device
+  stays_since j j' found k t up run c commits early has m f ge le left = elim (cases_lt (device.clock j.disk) m) [
+    | inl lt ↦ reached_image j found k t up f (run.each m f (omega arith) le left) c commits early has
+    | inr below ↦ has m f ge below (run.before m f below left)
+  ]
 
   -- no call of the device
   pub keeps_still : (j j' : JournalValue D) (found : History) (k : KeepsBeginnings device j found) (log : Log) (history : History) → j'.disk ≡ j.disk → j'.opened ≡ j.opened → Stands device j' log → IsLogOf log history → Begins k.history history

@@ -1,11 +1,13 @@
 -- What the images since the opening of a journal open to.
-use Rattle.std.specs.Prelude.{ℕ, ◌≤◌}
+use Rattle.std.specs.Prelude.{◌≡◌, ℕ, ◌≤◌, length, None}
 use Rattle.disk_trait.specs.Files.{Files}
+use Rattle.disk_trait.specs.Runs.{LeavesOnly}
 use Rattle.disk_trait.specs.declared.device.Disk.{Ghosts as Disk}
+use Rattle.wal.specs.Waiting.{down_of}
 use Rattle.core_state.specs.Log.{Log}
 use Rattle.core_state.specs.History.{History, Begins}
 use Rattle.buffer_frames.specs.Opens.{IsLogOf, OpensTo}
-use Rattle.buffer_frames.specs.Journals.{JournalValue, Stands}
+use Rattle.buffer_frames.specs.Journals.{JournalValue, Stands, CountsEither}
 
 -- The journal stands for a log whose history goes on from the one that was found at its opening.
 -- What a crash at a moment since then leaves opens to a history between these two: one that goes on
@@ -30,3 +32,26 @@ abbrev pub KeepsHistory : {D : Type 0} → Disk D → JournalValue D → Type 0
 KeepsHistory device j =
     device.tells → (found : History) → OpensTo (device.seen j.opened) found
     → KeepsBeginnings device j found
+
+-- whatever a crash leaves from the clock value c on opens to a history of at least so many commits
+abbrev pub HasSince : {D : Type 0} → Disk D → ℕ → ℕ → D → Type 0
+HasSince device c commits d =
+    (m : ℕ) (f : Files) → c ≤ m → m ≤ device.clock d → device.image d m f
+    → (kept : History) × OpensTo f kept × (commits ≤ length kept)
+
+-- Where the device tells, nothing has failed, and the files that were opened open to a history, a
+-- crash now leaves what has all commits that are flushed.
+abbrev pub HasFlushed : {D : Type 0} → Disk D → JournalValue D → Type 0
+HasFlushed device j =
+    device.tells → down_of j.wal ≡ None → (found : History) → OpensTo (device.seen j.opened) found
+    → HasSince device (device.clock j.disk) j.flushed j.disk
+
+-- what is there since a clock value stays there in a call that leaves what counted, or all records
+module _ {D : Type 0} (device : Disk D) where
+  abbrev pub StaysSince : Type 0
+  StaysSince =
+      (j j' : JournalValue D) (found : History) (k : KeepsBeginnings device j found)
+      → device.tells → down_of j.wal ≡ None
+      → LeavesOnly device j.disk j'.disk (CountsEither device j.disk k.stands.counted k.log)
+      → (c commits : ℕ) → c ≤ device.clock j.disk → HasSince device c commits j.disk
+      → HasSince device c commits j'.disk

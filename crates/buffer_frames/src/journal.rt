@@ -8,7 +8,7 @@ ghost use Rattle.std.specs.List.{AllByRecursion};
 ghost use Rattle.page_types.specs.Records.{IsRecord, record_bytes};
 ghost use Rattle.core_state.specs.Log.{Log};
 ghost use Rattle.buffer_frames.specs.Journals.{Stands, logged, logged_bytes, next_number, AreNext, IsOneInsert, MayFollow, CountsEither};
-ghost use Rattle.buffer_frames.specs.Beginnings.{KeepsHistory};
+ghost use Rattle.buffer_frames.specs.Beginnings.{KeepsHistory, HasFlushed};
 ghost use Rattle.buffer_frames.specs.Logging.{IsSameJournal, HasLogged};
 ghost use Rattle.buffer_frames.specs.LogCauses.{WriteHasCause, GoesDown, LogFullWhere};
 ghost use Rattle.buffer_frames.specs.Inner.Following.{MayGoOn};
@@ -237,10 +237,13 @@ impl<D: Disk> Journal<D> {
         }
     }
 
-    /// What a crash at a moment since the opening leaves opens to a beginning of the history.
+    /// What a crash at a moment since the opening leaves opens to a beginning of the history, and
+    /// what one leaves now has all commits that are flushed.
     pub fn keeps_history(&self)
-        ensures { KeepsHistory D.Disk self.now }
+        ensures history { KeepsHistory D.Disk self.now }
+        ensures flushed { HasFlushed D.Disk self.now }
     {
+        counted_are_one();
         let _ = &self.opened;
     }
 

@@ -2,8 +2,10 @@
 ghost use Rattle.buffer_frames.specs.NoStore.{CountedAreOne, NoStoreIsNone};
 ghost use Rattle.buffer_frames.specs.Inner.Known.{StoresAreKnown};
 ghost use Rattle.buffer_frames.specs.Opens.{OpensToOne};
+ghost use Rattle.buffer_frames.specs.Beginnings.{StaysSince};
 
 use core_state::history_is_one;
+use disk_trait::Disk;
 use wal::{never_refused, one_list};
 
 /// The records that count are one list.
@@ -33,4 +35,11 @@ pub fn no_store_is_none()
     ensures { NoStoreIsNone }
 {
     stores_are_known();
+}
+
+/// The commits that a crash leaves since some moment stay there in each later call of a journal.
+pub fn flushed_stay<D: Disk>()
+    ensures { StaysSince D.Disk }
+{
+    counted_are_one();
 }

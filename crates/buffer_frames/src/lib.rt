@@ -14,7 +14,7 @@ mod refusals;
 
 pub use error::OpenFault;
 pub use journal::Journal;
-pub use laws::{counted_are_one, no_store_is_none, opens_to_one};
+pub use laws::{counted_are_one, flushed_stay, no_store_is_none, opens_to_one};
 pub use log_error::LogError;
 pub use opening::open;
 pub use page_map::PageMap;
