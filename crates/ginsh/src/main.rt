@@ -1,5 +1,5 @@
-//! The program: a script on standard input, its replies on standard output, and a store in two files of the working
-//! directory.
+//! The program: a script on standard input, its replies on standard output, and a store in two
+//! files of the working directory.
 #![tactic(auto)]
 
 ghost use Rattle.std.specs.Prelude.{◌≡◌, ◌≢◌, ◌↔◌, ◌≤◌, drop, IfOk, IfErr};

@@ -1,5 +1,5 @@
-// Runs in which a read of the script, a write of a reply or a call of the device fails, each in turn, and runs over logs
-// that are cut or have another byte.
+// Runs in which a read of the script, a write of a reply or a call of the device fails, each in
+// turn, and runs over logs that are cut or have another byte.
 ghost use Rattle.std.specs.Prelude.{None};
 
 use crate::case::{Ended, holding, log_of, run};
@@ -109,8 +109,8 @@ fn lines_in(text: &[u8]) -> usize {
     text.iter().filter(|byte| **byte == b'\n').count()
 }
 
-/// Whether a run in which a call of the device failed has printed nothing, or as many lines as a run in which none did
-/// and the same up to an insert that is answered so.
+/// Whether a run in which a call of the device failed has printed nothing, or as many lines as a run
+/// in which none did and the same up to an insert that is answered so.
 fn is_cut_short(text: &[u8], good: &[u8]) -> bool {
     let same = text.iter().zip(good).take_while(|(a, b)| a == b).count();
     let differs = &text[same.min(text.len())..];

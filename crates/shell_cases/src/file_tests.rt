@@ -29,8 +29,8 @@ fn run_on<'a, R: Threads + Wait + Sync>(
     Ok(run_shell(rt, alloc, &words, script, out, store, &NoGate))
 }
 
-/// A second run finds what a first one stored, and goes on with its names. Beside a run another has status 3, and prints
-/// nothing; and so has one where a file is a folder.
+/// A second run finds what a first one stored, and goes on with its names. Beside a run another has
+/// status 3, and prints nothing; and so has one where a file is a folder.
 #[test]
 fn a_store_stays_in_files(rt: HostRuntime) -> Result<(), Fail> {
     let alloc = rt.alloc();

@@ -106,9 +106,9 @@ fn run<S: Source, K: Sink, D: Disk, G: Gate>(
 
 /// Answers a script: reads it to its end, runs its statements and prints a reply to each.
 ///
-/// The status is 0; 1 where a reply is a refusal; 2 where the words have no form; 3 where the device failed; 4 where the
-/// files are no store; 5 where memory ran out; 6 where the source failed; 7 where the sink failed; 8 where the script has
-/// more than 2^30 bytes.
+/// The status is 0; 1 where a reply is a refusal; 2 where the words have no form; 3 where the
+/// device failed; 4 where the files are no store; 5 where memory ran out; 6 where the source
+/// failed; 7 where the sink failed; 8 where the script has more than 2^30 bytes.
 pub fn run_shell<R: Threads + Wait + Sync, S: Source, K: Sink, D: Disk + Send, G: Gate + Sync>(
     rt: &R,
     alloc: Global,
