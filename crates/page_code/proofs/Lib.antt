@@ -1,5 +1,4 @@
 pub mod Passing
-pub mod Numbers
 pub mod ItemReading
 pub mod Loops
 pub mod Lists

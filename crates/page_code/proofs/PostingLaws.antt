@@ -191,8 +191,8 @@ pub record TakesLeaf (right count : ℕ) (bytes : List ℕ) (high : ℕ) (items 
 pub leaf_takes : (right count : ℕ) (bytes : List ℕ) (x : (ℕ × List ℕ) × List ℕ) → IsBytes bytes → posting_at right count bytes ≡ Ok x → TakesLeaf right count bytes x.0.0 x.0.1 x.1
 unfolding posting_at
 leaf_takes right count bytes x fits e =
-    let h = bind_ok (high_item_at right bytes) (λ h. items_at 0 count h.1 >>= λ r. Ok ((h.0, front_of h.1 r), r)) x e in
-    let r = bind_ok (items_at 0 count h.0.1) (λ r. Ok ((h.0.0, front_of h.0.1 r), r)) x h.2 in
+    let h = bind_ok (high_item_at right bytes) (λ h. items_at count h.1 >>= λ r. Ok ((h.0, front_of h.1 r), r)) x e in
+    let r = bind_ok (items_at count h.0.1) (λ r. Ok ((h.0.0, front_of h.0.1 r), r)) x h.2 in
     let t0 = high_takes right bytes h.0 fits h.1 in
     let t1 = front_takes count h.0.1 r.0 t0.0.rest_fits r.1 in
     let both = Takes-then bytes (u32_bytes h.0.0) h.0.1 (front_of h.0.1 r.0) r.0 t0.0 t1.takes in

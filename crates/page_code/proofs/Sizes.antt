@@ -1,5 +1,5 @@
--- How many bytes the parts of a page have, and parts that are written one behind the other.
-use Rattle.std.proofs.Common.{◌≡◌, ℕ, ◌+◌, ◌^◌, ◌<◌, ◌≤◌, ◌-◌, Bool, true, false, eqb, List, [], ◌∷◌, ◌++◌, length, take, drop, refl, sym, ap, subst, ◌∙◌, append_assoc, arith, inl, inr}
+-- Parts of a page that are short, and parts that are written one after the other.
+use Rattle.std.proofs.Common.{◌≡◌, ℕ, ◌+◌, ◌^◌, ◌<◌, ◌≤◌, ◌-◌, Bool, true, eqb, List, [], ◌∷◌, ◌++◌, length, take, drop, refl, sym, ap, subst, ◌∙◌, append_assoc, arith, inl, inr}
 use Rattle.std.specs.List.{flat_map, AllByRecursion}
 use Rattle.std.proofs.lemmas.List.{length-append, take_at, drop_at, drop-drop, drop-append-le}
 use Rattle.page_types.specs.Numbers.{u16_bytes, u32_bytes, u64_bytes, zeros}
@@ -13,61 +13,12 @@ use Rattle.page_types.specs.declared.page.Row.{Row}
 use Rattle.page_types.specs.declared.page.Entry.{Entry}
 use Rattle.page_types.specs.declared.page.EntryChild.{EntryChild}
 use Rattle.page_types.specs.declared.page.PostChild.{PostChild}
-use Rattle.page_types.proofs.Framing.{length-u16_bytes, length-u32_bytes, length-u64_bytes, length-zeros, drop-zeros, overwritten-later}
+use Rattle.page_types.proofs.Framing.{length-u16_bytes, length-u64_bytes, length-zeros, drop-zeros, overwritten-later}
 use Rattle.page_types.proofs.PageLaws.{length-front_bytes}
 use Rattle.page_types.proofs.PageTelling.{key_short}
 use Rattle.page_code.specs.Inner.Putting.{Puts}
 use Rattle.page_code.proofs.Appending.{puts_none, puts_then}
 use Rattle.page_code.proofs.Passing.{none_from}
-
-pub length-key_field : (key : List ℕ) → length (key_field key) ≡ 2 + length key
-unfolding key_field
-length-key_field key = omega (arith, length-append (u16_bytes (length key)) key, length-u16_bytes (length key))
-
-pub length-head_bytes : (h : Head) → length (head_bytes h) ≡ 28 + length h.vector
-unfolding head_bytes
-length-head_bytes h =
-    omega (
-      arith,
-      length-append (u64_bytes h.serial) (u32_bytes h.inserted_by ++ (u32_bytes h.deleted_by ++ (u32_bytes h.overflow ++ (u32_bytes h.private ++ (u32_bytes h.bytes ++ h.vector))))),
-      length-append (u32_bytes h.inserted_by) (u32_bytes h.deleted_by ++ (u32_bytes h.overflow ++ (u32_bytes h.private ++ (u32_bytes h.bytes ++ h.vector)))),
-      length-append (u32_bytes h.deleted_by) (u32_bytes h.overflow ++ (u32_bytes h.private ++ (u32_bytes h.bytes ++ h.vector))),
-      length-append (u32_bytes h.overflow) (u32_bytes h.private ++ (u32_bytes h.bytes ++ h.vector)),
-      length-append (u32_bytes h.private) (u32_bytes h.bytes ++ h.vector),
-      length-append (u32_bytes h.bytes) h.vector,
-      length-u64_bytes h.serial,
-      length-u32_bytes h.inserted_by,
-      length-u32_bytes h.deleted_by,
-      length-u32_bytes h.overflow,
-      length-u32_bytes h.private,
-      length-u32_bytes h.bytes,
-    )
-
-pub length-row_bytes : (r : Row) → length (row_bytes r) ≡ 6 + length (flat_map key_field r.keys)
-unfolding row_bytes
-length-row_bytes r =
-    omega (arith, length-append (u32_bytes r.item) (u16_bytes (length r.keys) ++ flat_map key_field r.keys), length-append (u16_bytes (length r.keys)) (flat_map key_field r.keys), length-u32_bytes r.item, length-u16_bytes (length r.keys))
-
-pub length-inline : (items : List ℕ) → length (u16_bytes (length items) ++ items) ≡ 2 + length items
-length-inline items = omega (arith, length-append (u16_bytes (length items)) items, length-u16_bytes (length items))
-
-pub length-entry_bytes : (e : Entry) → length (entry_bytes e) ≡ (2 + length e.key) + length (postings_bytes e.postings)
-unfolding entry_bytes
-length-entry_bytes e = omega (arith, length-append (key_field e.key) (postings_bytes e.postings), length-key_field e.key)
-
-pub length-entry_child_bytes : (c : EntryChild) → length (entry_child_bytes c) ≡ 4 + (2 + length c.bound)
-unfolding entry_child_bytes
-length-entry_child_bytes c = omega (arith, length-append (u32_bytes c.page) (key_field c.bound), length-u32_bytes c.page, length-key_field c.bound)
-
-pub length-post_child_bytes : (c : PostChild) → length (post_child_bytes c) ≡ 8
-unfolding post_child_bytes
-length-post_child_bytes c = omega (arith, length-append (u32_bytes c.page) (u32_bytes c.bound), length-u32_bytes c.page, length-u32_bytes c.bound)
-
-pub length-posting : (high : ℕ) (items : List ℕ) → length (u32_bytes high ++ items) ≡ 4 + length items
-length-posting high items = omega (arith, length-append (u32_bytes high) items, length-u32_bytes high)
-
-pub length-meta : (first last pages : ℕ) → length (u32_bytes first ++ (u32_bytes last ++ u32_bytes pages)) ≡ 12
-length-meta first last pages = omega (arith, length-append (u32_bytes first) (u32_bytes last ++ u32_bytes pages), length-append (u32_bytes last) (u32_bytes pages), length-u32_bytes first, length-u32_bytes last, length-u32_bytes pages)
 
 -- ---- what is short
 
@@ -134,10 +85,6 @@ puts_meta at r1 r2 r3 first last pages old o1 o2 new l0 l1 p1 p2 p3 =
     puts_then at r1 r3 (u32_bytes first) (u32_bytes last ++ u32_bytes pages) old o1 new l0 p1 (puts_then r1 r2 r3 (u32_bytes last) (u32_bytes pages) o1 o2 new l1 p2 p3)
 
 -- ---- the high key
-
-pub high_some : (high : List ℕ) (b : Bool) → b ≡ false → b ≡ eqb (length high) 0 → (high_key_bytes high ≡ key_field high) × (length (high_key_bytes high) ≡ 2 + length high)
-high_some [] b p q = absurd (cc (p, q))
-high_some (x ∷ xs) b p q = (refl, length-key_field (x ∷ xs))
 
 pub high_none : (at : ℕ) (high old : List ℕ) (b : Bool) → b ≡ true → b ≡ eqb (length high) 0 → Puts at (high_key_bytes high) old at old
 high_none at high old b p q =

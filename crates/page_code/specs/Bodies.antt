@@ -171,7 +171,7 @@ front_of bytes rest = take (length bytes - length rest) bytes
 unfoldable pub posting_at : ℕ → ℕ → List ℕ → Read (ℕ × List ℕ)
 posting_at right count bytes = do
   high ← high_item_at right bytes
-  rest ← items_at 0 count high.1
+  rest ← items_at count high.1
   Ok ((high.0, front_of high.1 rest), rest)
 
 -- what stands on a page of this form

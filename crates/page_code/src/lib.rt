@@ -19,4 +19,4 @@ mod writing;
 pub use error::PageError;
 pub use laws::spellings_are_read;
 pub use reading::decode_page;
-pub use writing::encode_page;
+pub use writing::{encode_page, page_image};

@@ -1,5 +1,5 @@
 // The spelling of a page, written into 8192 bytes.
-ghost use Rattle.std.specs.Prelude.{◌≡◌, ℕ, ◌+◌, ◌<◌, ◌≤◌, ◌^◌, ◌++◌, ◌∷◌, [], length};
+ghost use Rattle.std.specs.Prelude.{◌≡◌, ℕ, ◌+◌, ◌<◌, ◌≤◌, ◌^◌, ◌++◌, ◌∷◌, [], length, IfOk};
 ghost use Rattle.std.specs.List.{flat_map, AllByRecursion};
 ghost use Rattle.std.specs.Option.{option_map};
 ghost use Rattle.page_types.specs.Numbers.{u16_bytes, u32_bytes, u64_bytes};
@@ -12,8 +12,10 @@ ghost use Rattle.page_types.specs.Writing.{overwritten};
 
 use page_types::{
     Body, Bytes, Entries, EntryChildRef, EntryChildren, EntryRef, FRONT_BYTES, Gone, HeadRef,
-    PAGE_BYTES, Page, PiecesRef, PostChild, PostChildren, PostingsRef, RowRef, Rows, Slots, put,
+    PAGE_BYTES, Page, PageBytes, PiecesRef, PostChild, PostChildren, PostingsRef, RowRef, Rows,
+    Slots, put, zero_page,
 };
+use std::alloc::{AllocError, Global};
 
 /// Writes bytes.
 fn put_bytes(out: &mut [u8], at: usize, bytes: &[u8]) -> usize
@@ -412,4 +414,14 @@ pub fn encode_page(page: &Page, out: &mut [u8])
     put_front(out, page);
     put(out, 8, &page.stamp.to_le_bytes());
     put(out, 16, &used.to_le_bytes());
+}
+
+/// The spelling of a page as an image. Only memory can be wanting.
+pub fn page_image(alloc: Global, page: &Page) -> Result<PageBytes, AllocError>
+    requires { IsPage page.now }
+    ensures { IfOk result (λ image. image ≡ page_bytes page.now) }
+{
+    let mut bytes = zero_page(alloc)?;
+    encode_page(page, &mut bytes);
+    Ok(PageBytes::from_vec(bytes))
 }

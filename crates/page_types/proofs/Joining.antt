@@ -39,6 +39,11 @@ slot_got (a ∷ fields) [] k f v p q = absurd cc
 slot_got (a ∷ fields) (b ∷ vectors) zero f v p q = let e : a ≡ f = cc in let d : b ≡ v = cc in ap (λ x. slot_with x b) e ∙ ap (slot_with f) d
 slot_got (a ∷ fields) (b ∷ vectors) (suc k) f v p q = slot_got fields vectors k f v p q
 
+pub slot_get : (slots : List (Option Head)) (k : ℕ) (s : Option Head) → k < length slots → s ≡ slot_at slots k → slice_get slots k ≡ Some s
+slot_get [] k s lt e = absurd (omega arith)
+slot_get (a ∷ slots) zero s lt e = ap (λ (t : Option Head). Some t) (sym e)
+slot_get (a ∷ slots) (suc k) s lt e = slot_get slots k s (omega arith) e
+
 pub slot_past : (slots : List (Option Head)) (k : ℕ) → length slots ≤ k → slot_at slots k ≡ None
 slot_past [] k le = refl
 slot_past (s ∷ slots) zero le = absurd (omega arith)

@@ -12,3 +12,6 @@ pub mod FieldReading
 pub mod Splicing
 pub mod Replacing
 pub mod EndMoving
+pub mod Varbytes
+pub mod BodySizes
+pub mod ItemReading

@@ -1,8 +1,9 @@
 -- What holds of all pages, item lists and records.
-use Rattle.std.specs.Prelude.{◌≡◌, ℕ, List, ◌++◌, length}
+use Rattle.std.specs.Prelude.{◌≡◌, ◌↔◌, ℕ, ◌<◌, List, ◌++◌, length, get_or, Ok}
 use Rattle.std.specs.List.{flat_map, AllByRecursion}
 use Rattle.page_types.specs.Numbers.{u64_bytes, page_size}
 use Rattle.page_types.specs.Items.{items_of, item_list, AreItems, IsItemList}
+use Rattle.page_types.specs.ItemReading.{items_read}
 use Rattle.page_types.specs.Spelling.{page_bytes, front_bytes, body_bytes}
 use Rattle.page_types.specs.Pages.{IsPage}
 use Rattle.page_types.specs.Records.{record_bytes, IsRecord, stamp_in}
@@ -40,6 +41,10 @@ pub record HasList (items : List ℕ) : Type 0 where
 
 abbrev pub ItemsHaveList : Type 0
 ItemsHaveList = (items : List ℕ) → AreItems items → HasList items
+
+-- bytes are read as items exactly where they are the list of these
+abbrev pub ReadingTellsItems : Type 0
+ReadingTellsItems = (bytes is : List ℕ) → ((i : ℕ) → get_or bytes i 0 < 256) → (items_read bytes ≡ Ok is) ↔ (IsItemList bytes × (items_of bytes ≡ is))
 
 -- a record's spelling begins no other's
 abbrev pub SpellingTellsRecord : Type 0

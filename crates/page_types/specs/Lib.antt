@@ -2,6 +2,7 @@ pub mod Inner
 pub mod Numbers
 pub mod Keys
 pub mod Items
+pub mod ItemReading
 pub mod Spelling
 pub mod Pages
 pub mod Records

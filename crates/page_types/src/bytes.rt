@@ -1,6 +1,8 @@
 // Bytes, seen as a list.
 ghost use Rattle.std.specs.Prelude.{◌≡◌, length, IfOk};
+ghost use Rattle.page_types.specs.Numbers.{zeros, page_size};
 
+use crate::PAGE_BYTES;
 use std::alloc::{AllocError, Global};
 use std::marker::Model;
 
@@ -64,4 +66,13 @@ impl Clone for Bytes {
         let inner = self.inner.clone()?;
         Ok(Bytes { inner })
     }
+}
+
+/// The bytes of a page that was never written: 8192 zeros.
+#[tactic(auto, unfolding(crate::specs::Numbers::zeros))]
+pub fn zero_page(alloc: Global) -> Result<Vec<u8>, AllocError>
+    ensures zeros { IfOk result (λ bytes. bytes.items ≡ zeros page_size) }
+    ensures size { IfOk result (λ bytes. length bytes.items ≡ page_size) }
+{
+    Vec::from_elem(alloc, 0u8, PAGE_BYTES)
 }

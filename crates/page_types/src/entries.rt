@@ -1,8 +1,9 @@
 // The entries of a leaf of the entry tree.
-ghost use Rattle.std.specs.Prelude.{◌≡◌, ◌<◌, ◌≤◌, [], ◌∷◌, ◌++◌, length, IsOk, IfOk, OnOk, OnErr, IfSome, IfNone, Some};
-ghost use Rattle.std.specs.List.{slice_get, insert, remove};
+ghost use Rattle.std.specs.Prelude.{◌≡◌, ◌^◌, ◌<◌, ◌≤◌, [], ◌∷◌, ◌++◌, length, IsOk, IfOk, OnOk, OnErr, IfSome, IfNone, Some};
+ghost use Rattle.std.specs.List.{slice_get, insert, remove, flat_map};
 ghost use Rattle.page_types.specs.Inner.Joins.{postings_with};
-ghost use Rattle.page_types.specs.Parts.{postings_shown};
+ghost use Rattle.page_types.specs.Parts.{postings_shown, entry_shown};
+ghost use Rattle.page_types.specs.Spelling.{entry_bytes};
 ghost use Rattle.page_types.specs.Views.{list_in};
 
 use crate::pieces::Pieces;
@@ -60,8 +61,19 @@ fn parts_of<'a>(postings: PostingsRef<'a>) -> (Option<u32>, &'a [u8])
     }
 }
 
+/// How many bytes an entry's spelling has.
+fn entry_size(entry: EntryRef<'_>) -> usize
+    requires { length (entry_bytes (entry_shown entry)) < 2 ^ 64 }
+    ensures { result ≡ length (entry_bytes (entry_shown entry.entry)) }
+{
+    let postings = match entry.postings {
+        PostingsRef::Inline(items) => 3 + items.len(),
+        PostingsRef::Root(_) => 5,
+    };
+    2 + entry.key.len() + postings
+}
+
 impl Entries {
-    ghost use Rattle.page_types.specs.Parts.{entry_shown};
     ghost use Rattle.page_types.specs.Views.{with_postings};
 
     /// No entries.
@@ -90,6 +102,20 @@ impl Entries {
         ensures { result ≡ length self.now }
     {
         self.roots.len()
+    }
+
+    /// How many bytes their spelling has.
+    pub(crate) fn size(&self) -> usize
+        requires { length (flat_map entry_bytes self.now) < 2 ^ 64 }
+        ensures { result ≡ length (flat_map entry_bytes self.now) }
+    {
+        let mut size = 0;
+        for k in 0..self.len() {
+            if let Some(entry) = self.get(k) {
+                size += entry_size(entry);
+            }
+        }
+        size
     }
 
     /// The entry with this number, by reference.

@@ -1,6 +1,7 @@
 // The children of inner pages.
-ghost use Rattle.std.specs.Prelude.{◌≡◌, ◌<◌, ◌≤◌, [], ◌∷◌, ◌++◌, length, slice_set, IsOk, OnOk, OnErr, IfSome, IfNone, Some};
-ghost use Rattle.std.specs.List.{slice_get, insert, remove};
+ghost use Rattle.std.specs.Prelude.{◌≡◌, ◌^◌, ◌<◌, ◌≤◌, [], ◌∷◌, ◌++◌, length, slice_set, IsOk, OnOk, OnErr, IfSome, IfNone, Some};
+ghost use Rattle.std.specs.List.{slice_get, insert, remove, flat_map};
+ghost use Rattle.page_types.specs.Spelling.{entry_child_bytes, post_child_bytes};
 
 use crate::page::PostChild;
 use crate::pieces::Pieces;
@@ -54,6 +55,14 @@ impl EntryChildren {
         ensures { result ≡ length self.now }
     {
         self.pages.len()
+    }
+
+    /// How many bytes their spelling has.
+    pub(crate) fn size(&self) -> usize
+        requires { length (flat_map entry_child_bytes self.now) < 2 ^ 64 }
+        ensures { result ≡ length (flat_map entry_child_bytes self.now) }
+    {
+        6 * self.pages.len() + self.bounds.size()
     }
 
     /// The child with this number, by reference.
@@ -155,6 +164,14 @@ impl PostChildren {
         ensures { result ≡ length self.now }
     {
         self.inner.len()
+    }
+
+    /// How many bytes their spelling has.
+    pub(crate) fn size(&self) -> usize
+        requires { length (flat_map post_child_bytes self.now) < 2 ^ 64 }
+        ensures { result ≡ length (flat_map post_child_bytes self.now) }
+    {
+        8 * self.inner.len()
     }
 
     /// The child with this number.

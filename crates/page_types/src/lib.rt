@@ -12,25 +12,29 @@ mod entries;
 mod error;
 mod fields;
 mod inners;
+mod items;
 mod laws;
 mod page;
 mod pieces;
 mod record;
 mod rows;
+mod sizes;
 mod slots;
 mod splice;
 
-pub use bytes::Bytes;
+pub use bytes::{Bytes, zero_page};
 pub use edits::{apply, put};
 pub use entries::{Entries, EntryRef, PostingsRef};
 pub use error::BadChange;
 pub use fields::{ReadError, slice_at, u8_at, u16_at, u32_at, u64_at};
 pub use inners::{EntryChildRef, EntryChildren, PostChildren};
+pub use items::{ItemsRead, next_item, read_items};
 pub use laws::{items_are_told, pages_are_told, records_are_told};
 pub use page::{Body, Entry, EntryChild, Gone, Head, Name, Page, PostChild, Postings, Row};
 pub use pieces::{Pieces, PiecesRef};
 pub use record::{Change, Changes, Edit, Kind, PageBytes, Record};
 pub use rows::{RowRef, Rows};
+pub use sizes::body_length;
 pub use slots::{HeadFields, HeadRef, Slots};
 
 /// The bytes of a page.

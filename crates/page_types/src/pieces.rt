@@ -55,6 +55,13 @@ impl Pieces {
         self.ends.len()
     }
 
+    /// How many bytes they have together.
+    pub(crate) fn size(&self) -> usize
+        ensures { result ≡ sum_by length self.now }
+    {
+        self.bytes.len()
+    }
+
     /// The string with this number, by reference, where there are so many.
     pub fn at(&self, k: usize) -> &[u8]
         requires { k < length self.now }

@@ -1,6 +1,6 @@
 // The rows of a pending page.
-ghost use Rattle.std.specs.Prelude.{◌≡◌, ◌+◌, ◌-◌, ◌<◌, ◌≤◌, [], ◌∷◌, ◌++◌, length, slice_range, slice_set, IsOk, OnOk, OnErr, IfSome, IfNone, Some};
-ghost use Rattle.std.specs.List.{slice_get, splice, insert, remove, sum_by};
+ghost use Rattle.std.specs.Prelude.{◌≡◌, ◌+◌, ◌-◌, ◌^◌, ◌<◌, ◌≤◌, [], ◌∷◌, ◌++◌, length, slice_range, slice_set, IsOk, OnOk, OnErr, IfSome, IfNone, Some};
+ghost use Rattle.std.specs.List.{slice_get, splice, insert, remove, sum_by, flat_map};
 ghost use Rattle.page_types.specs.Inner.Cuts.{cut_at, start_at, EndAt, Cuts};
 
 use crate::ends::{replace_ends, start_of};
@@ -75,6 +75,7 @@ fn replace_keys(
 impl Rows {
     ghost use Rattle.page_types.specs.Inner.Joins.{row_with};
     ghost use Rattle.page_types.specs.Parts.{row_shown};
+    ghost use Rattle.page_types.specs.Spelling.{row_bytes};
 
     /// No rows.
     pub fn new(alloc: Global) -> Rows
@@ -92,6 +93,14 @@ impl Rows {
         ensures { result ≡ length self.now }
     {
         self.items.len()
+    }
+
+    /// How many bytes their spelling has.
+    pub(crate) fn size(&self) -> usize
+        requires { length (flat_map row_bytes self.now) < 2 ^ 64 }
+        ensures { result ≡ length (flat_map row_bytes self.now) }
+    {
+        6 * self.items.len() + (2 * self.keys.len() + self.keys.size())
     }
 
     /// The row with this number, by reference.

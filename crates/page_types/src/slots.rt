@@ -1,8 +1,9 @@
 // The slots of a heap page.
-ghost use Rattle.std.specs.Prelude.{◌≡◌, ◌<◌, ◌≤◌, [], ◌∷◌, ◌++◌, length, slice_set, OnOk, OnErr, IsOk, None};
-ghost use Rattle.std.specs.List.{insert, remove};
+ghost use Rattle.std.specs.Prelude.{◌≡◌, ◌^◌, ◌<◌, ◌≤◌, [], ◌∷◌, ◌++◌, length, slice_set, OnOk, OnErr, IsOk, None};
+ghost use Rattle.std.specs.List.{insert, remove, flat_map};
 ghost use Rattle.std.specs.Option.{option_map};
 ghost use Rattle.page_types.specs.Parts.{head_shown};
+ghost use Rattle.page_types.specs.Spelling.{slot_bytes};
 ghost use Rattle.page_types.specs.Views.{vector_in};
 ghost use Rattle.page_types.specs.Inner.Joins.{slot_with};
 
@@ -67,6 +68,17 @@ fn parts_of<'a>(slot: Option<HeadRef<'a>>) -> (Option<HeadFields>, &'a [u8])
     }
 }
 
+/// How many bytes a slot's spelling has.
+fn slot_size(slot: Option<HeadRef<'_>>) -> usize
+    requires { length (slot_bytes (option_map head_shown slot)) < 2 ^ 64 }
+    ensures { result ≡ length (slot_bytes (option_map head_shown slot.entry)) }
+{
+    match slot {
+        None => 1,
+        Some(head) => 29 + head.vector.len(),
+    }
+}
+
 impl Slots {
     ghost use Rattle.page_types.specs.Parts.{head_shown, head_with};
     ghost use Rattle.page_types.specs.Views.{slot_at, vector_in};
@@ -86,6 +98,18 @@ impl Slots {
         ensures { result ≡ length self.now }
     {
         self.fields.len()
+    }
+
+    /// How many bytes their spelling has.
+    pub(crate) fn size(&self) -> usize
+        requires { length (flat_map slot_bytes self.now) < 2 ^ 64 }
+        ensures { result ≡ length (flat_map slot_bytes self.now) }
+    {
+        let mut size = 0;
+        for k in 0..self.len() {
+            size += slot_size(self.get(k));
+        }
+        size
     }
 
     /// The head in a slot, by reference; none where the slot is free or absent.

@@ -1,15 +1,16 @@
-use Rattle.std.proofs.lemmas.Result.{err_from_is_err_and}
-use Rattle.page_code.specs.Items.{items_at}
-use Rattle.page_code.proofs.Loops.{items_go_on, items_end, items_done}
+use Rattle.std.proofs.Common.{arith}
+use Rattle.page_code.proofs.ItemReading.{few_read, enough_read, not_read}
 use Rattle.page_code.proofs.items.skip_items.Goals as goal
 
-pub returns-in_err-item : goal.returns-in_err-item
-returns-in_err-item c =
-    let p = err_from_is_err_and c.from_residual.result c.from_residual.ensures.1 in
-    rw (p.1, p.2) (items_end c.in_err-item.field-0.0 c.loop.last c.args.count c.loop.counter c.loop.rest.now (items_at 0 c.args.count c.args.bytes.now) c.loop-test.true c.in_err-item.ensures c.loop.invariant)
+pub returns-in-Ok : goal.returns-in-Ok
+returns-in-Ok c =
+    let r = c.in-Ok.ensures.read in
+    few_read c.args.count c.from.result c.args.bytes.now r.0 c.in-Ok.read.rest.now c.from.ensures r.1 (omega (arith, r.2, c.if-read-from.true))
 
-pub loop-preserved : goal.loop-preserved
-loop-preserved c = items_go_on c.loop.last c.args.count c.loop.counter c.loop.rest.now c.in_ok-item.item c.in_ok-item.behind.now (items_at 0 c.args.count c.args.bytes.now) c.loop-test.true c.in_ok-item.ensures c.loop.invariant
+pub returns-in-Ok-2 : goal.returns-in-Ok-2
+returns-in-Ok-2 c =
+    let r = c.in-Ok.ensures.read in
+    enough_read c.args.count c.from.result c.args.bytes.now r.0 c.in-Ok.read.rest.now c.from.ensures r.1 (omega (arith, r.2, c.if-read-from.false))
 
-pub returns : goal.returns
-returns c = items_done c.loop.last c.args.count c.loop.counter c.loop.rest.now (items_at 0 c.args.count c.args.bytes.now) c.loop-test.false c.loop.invariant
+pub returns-in-Err : goal.returns-in-Err
+returns-in-Err c = not_read c.args.count c.from.result c.args.bytes.now c.in-Err.left c.from.ensures c.in-Err.ensures.fault

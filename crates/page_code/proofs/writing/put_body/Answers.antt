@@ -1,6 +1,7 @@
 use Rattle.std.proofs.Common.{arith}
 use Rattle.page_code.proofs.Appending.{puts_none}
-use Rattle.page_code.proofs.Sizes.{length-meta, length-posting, bounds_short}
+use Rattle.page_types.proofs.BodySizes.{length-meta, length-posting}
+use Rattle.page_code.proofs.Sizes.{bounds_short}
 use Rattle.page_code.proofs.writing.put_body.Goals as goal
 
 pub put_meta-requires : goal.put_meta-requires

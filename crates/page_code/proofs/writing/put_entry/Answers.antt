@@ -1,7 +1,8 @@
 use Rattle.std.proofs.Common.{arith}
 use Rattle.page_types.specs.Parts.{entry_shown}
 use Rattle.page_types.proofs.PageTelling.{key_short}
-use Rattle.page_code.proofs.Sizes.{length-entry_bytes, puts_entry}
+use Rattle.page_types.proofs.BodySizes.{length-entry_bytes}
+use Rattle.page_code.proofs.Sizes.{puts_entry}
 use Rattle.page_code.proofs.writing.put_entry.Goals as goal
 
 pub put_key-at-requires-clause-size : goal.put_key-at-requires-clause-size

@@ -1,6 +1,7 @@
 use Rattle.std.proofs.Common.{arith}
 use Rattle.page_types.specs.Parts.{child_shown}
-use Rattle.page_code.proofs.Sizes.{length-entry_child_bytes, puts_entry_child}
+use Rattle.page_types.proofs.BodySizes.{length-entry_child_bytes}
+use Rattle.page_code.proofs.Sizes.{puts_entry_child}
 use Rattle.page_code.proofs.writing.put_entry_child.Goals as goal
 
 pub put_u32-at-requires : goal.put_u32-at-requires

@@ -1,5 +1,5 @@
 use Rattle.std.proofs.Common.{arith}
-use Rattle.page_code.proofs.Sizes.{length-posting}
+use Rattle.page_types.proofs.BodySizes.{length-posting}
 use Rattle.page_code.proofs.writing.put_gone.Goals as goal
 
 pub put_posting-requires : goal.put_posting-requires

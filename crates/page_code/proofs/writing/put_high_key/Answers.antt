@@ -1,5 +1,6 @@
 use Rattle.std.proofs.Common.{arith}
-use Rattle.page_code.proofs.Sizes.{high_some, high_none}
+use Rattle.page_types.proofs.BodySizes.{high_some}
+use Rattle.page_code.proofs.Sizes.{high_none}
 use Rattle.page_code.proofs.writing.put_high_key.Goals as goal
 
 pub put_key-requires-clause-room : goal.put_key-requires-clause-room

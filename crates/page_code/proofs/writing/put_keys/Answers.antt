@@ -2,7 +2,7 @@ use Rattle.std.proofs.Common.{◌<◌, ◌^◌, length, arith}
 use Rattle.page_types.specs.Parts.{pieces_shown}
 use Rattle.page_types.specs.Spelling.{key_field}
 use Rattle.page_code.proofs.Appending.{all_got, first_none, first_room, first_more}
-use Rattle.page_code.proofs.Sizes.{length-key_field}
+use Rattle.page_types.proofs.BodySizes.{length-key_field}
 use Rattle.page_code.proofs.writing.put_keys.Goals as goal
 
 pub loop-k-init : goal.loop-k-init

@@ -1,5 +1,6 @@
 use Rattle.std.proofs.Common.{arith}
-use Rattle.page_code.proofs.Sizes.{length-post_child_bytes, puts_post_child}
+use Rattle.page_types.proofs.BodySizes.{length-post_child_bytes}
+use Rattle.page_code.proofs.Sizes.{puts_post_child}
 use Rattle.page_code.proofs.writing.put_post_child.Goals as goal
 
 pub put_u32-at-requires : goal.put_u32-at-requires

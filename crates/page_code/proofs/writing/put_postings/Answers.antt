@@ -2,7 +2,8 @@ use Rattle.std.proofs.Common.{◌∷◌, [], arith}
 use Rattle.page_types.specs.Numbers.{u32_bytes}
 use Rattle.page_types.proofs.Framing.{length-u32_bytes}
 use Rattle.page_code.proofs.Appending.{puts_then}
-use Rattle.page_code.proofs.Sizes.{length-inline, puts_inline}
+use Rattle.page_types.proofs.BodySizes.{length-inline}
+use Rattle.page_code.proofs.Sizes.{puts_inline}
 use Rattle.page_code.proofs.writing.put_postings.Goals as goal
 
 pub put_key-requires-clause-room : goal.put_key-requires-clause-room

@@ -1,6 +1,7 @@
 use Rattle.std.proofs.Common.{arith}
 use Rattle.page_types.specs.Parts.{row_shown}
-use Rattle.page_code.proofs.Sizes.{length-row_bytes, keys_short, puts_row}
+use Rattle.page_types.proofs.BodySizes.{length-row_bytes}
+use Rattle.page_code.proofs.Sizes.{keys_short, puts_row}
 use Rattle.page_code.proofs.writing.put_row.Goals as goal
 
 pub put_u32-at-requires : goal.put_u32-at-requires

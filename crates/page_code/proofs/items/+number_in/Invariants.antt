@@ -1,4 +1,0 @@
-use Rattle.page_code.proofs.items.+number_in.Given as goal
-
-abbrev pub decreases-number_in : goal.decreases-number_in
-decreases-number_in l = l.most
