@@ -1,3 +1,7 @@
-pub mod Numbers
 pub mod Lists
 pub mod Loops
+pub mod Places
+pub mod Uniting
+pub mod Sizing
+pub mod Leaving
+pub mod Cutting

@@ -1,6 +1,6 @@
--- Where bytes are no item list, and what an iterator over one shows.
-use Rattle.std.specs.Prelude.{ℕ, ◌-◌, List, [], ◌∷◌, length, Option, Some, None, Result, Ok, Err}
-use Rattle.posting_code.specs.Reading.{items_read}
+-- Where bytes are no item list.
+use Rattle.std.specs.Prelude.{ℕ, ◌-◌, List, length, Option, Some, None, Result, Ok, Err}
+use Rattle.page_types.specs.ItemReading.{items_read}
 use Rattle.posting_code.specs.declared.error.ListError.{ListError}
 use Rattle.posting_code.specs.declared.error.ListError.TheVariants.{BadList}
 
@@ -14,8 +14,3 @@ fault_in size (Err left) = Some (size - left)
 -- the first byte of the first field that is refused, or the length where the bytes end within it
 abbrev pub list_fault : List ℕ → Option ℕ
 list_fault bytes = fault_in (length bytes) (items_read bytes)
-
--- the last of the items, or another number where there is none
-abbrev pub last_or : ℕ → List ℕ → ℕ
-last_or last [] = last
-last_or last (i ∷ is) = last_or i is

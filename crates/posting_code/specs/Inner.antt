@@ -1,2 +1,4 @@
--- How an iterator over a list stands.
+-- Places in a list, and how an iterator over one stands.
+pub mod Places
 pub mod States
+pub mod Searching

@@ -1,3 +1,4 @@
 pub mod Inner
-pub mod Reading
 pub mod Faults
+pub mod Uniting
+pub mod Dividing

@@ -2,10 +2,11 @@
 ghost use Rattle.std.specs.Prelude.{◌≡◌, ◌≢◌, ◌↔◌, [], length, IsOk, IfOk, IfErr, Some};
 ghost use Rattle.std.specs.Iterator.{YieldsFirst, item_count};
 ghost use Rattle.page_types.specs.Items.{items_of, IsItemList};
-ghost use Rattle.posting_code.specs.Faults.{list_fault, place_of, last_or};
+ghost use Rattle.page_types.specs.ItemReading.{last_or};
+ghost use Rattle.posting_code.specs.Faults.{list_fault, place_of};
 
 use crate::error::ListError;
-use crate::reading::{item_in, read_all};
+use page_types::{next_item, read_items};
 use std::marker::Model;
 
 /// The items of a list that are left, in order. Contracts see them as a list.
@@ -22,7 +23,8 @@ impl<'a> Model for Items<'a> {
 
     ghost Value = { List ℕ };
 
-    ghost use Rattle.posting_code.specs.Inner.States.{items_left, IsAt};
+    ghost use Rattle.posting_code.specs.Inner.Places.{items_left};
+    ghost use Rattle.posting_code.specs.Inner.States.{IsAt};
 
     ghost view = { λ it. items_left it.previous it.rest.now };
 
@@ -36,7 +38,7 @@ impl<'a> Items<'a> {
         ensures items { IfOk result (λ it. it ≡ items_of bytes.now) }
         ensures fault { IfErr result (λ e. list_fault bytes.now ≡ Some (place_of e)) }
     {
-        match read_all(bytes) {
+        match read_items(bytes.len(), bytes) {
             Ok(whole) => Ok(Items {
                 rest: bytes,
                 previous: 0,
@@ -72,9 +74,9 @@ impl<'a> Iterator for Items<'a> {
     ghost remaining = { item_count (λ left. left) };
 
     fn next(&mut self) -> Option<u32> {
-        match item_in(self.previous, self.rest) {
-            Ok((item, behind)) => {
-                self.rest = behind;
+        match next_item(self.previous, self.rest) {
+            Ok((item, after)) => {
+                self.rest = after;
                 self.previous = item;
                 self.count -= 1;
                 Some(item)

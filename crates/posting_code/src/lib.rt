@@ -4,11 +4,17 @@
 //! the high bit set where more follow, in the fewest bytes. An empty list has no bytes.
 #![tactic(auto)]
 
+mod dividing;
 mod error;
 mod items;
-mod reading;
+mod merging;
+mod removing;
+mod walking;
 mod writing;
 
+pub use dividing::{Halves, Keep, cut};
 pub use error::ListError;
 pub use items::Items;
+pub use merging::{lacks, merge};
+pub use removing::{ItemSet, without};
 pub use writing::encode_items;

@@ -4,8 +4,8 @@ ghost use Rattle.page_types.specs.Items.{varbyte, item_list, AreItems};
 
 use std::alloc::AllocError;
 
-// The number as a varbyte. Without memory some of its bytes may stand.
-fn put_varbyte(n: u32, out: &mut Vec<u8>) -> Result<(), AllocError>
+/// The number as a varbyte. Without memory some of its bytes may stand.
+pub(crate) fn put_varbyte(n: u32, out: &mut Vec<u8>) -> Result<(), AllocError>
     requires { n < 2 ^ 31 }
     ensures ok { OnOk result (out.new.items ≡ out.old.items ++ varbyte n) }
     ensures front { take (length out.old.items) out.new.items ≡ out.old.items }
@@ -19,7 +19,7 @@ fn put_varbyte(n: u32, out: &mut Vec<u8>) -> Result<(), AllocError>
     Ok(())
 }
 
-// The items' list. Without memory some of its bytes may stand.
+/// The items' list. Without memory some of its bytes may stand.
 fn put_items(items: &[u32], out: &mut Vec<u8>) -> Result<(), AllocError>
     requires { AreItems items.now }
     ensures ok { OnOk result (out.new.items ≡ out.old.items ++ item_list items.now) }

@@ -1,11 +1,8 @@
 -- Where an iterator over an item list stands.
 use Rattle.std.specs.Prelude.{◌≡◌, ℕ, List, length}
-use Rattle.page_types.specs.Items.{item_list_from, AreItemsFrom, differences, sums_from}
-use Rattle.posting_code.specs.Faults.{last_or}
-
--- the items that are left
-abbrev pub items_left : ℕ → List ℕ → List ℕ
-items_left previous rest = sums_from previous (differences rest)
+use Rattle.page_types.specs.Items.{item_list_from, AreItemsFrom}
+use Rattle.page_types.specs.ItemReading.{last_or}
+use Rattle.posting_code.specs.Inner.Places.{items_left}
 
 -- the rest is the list of the items that are left; so many are left, and this is the last of them
 pub record IsAt (previous : ℕ) (rest : List ℕ) (count last : ℕ) : Type 0 where

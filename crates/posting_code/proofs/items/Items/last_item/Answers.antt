@@ -1,5 +1,5 @@
 use Rattle.std.proofs.Common.{ap, sym, ◌∙◌}
-use Rattle.posting_code.specs.Faults.{last_or}
+use Rattle.page_types.specs.ItemReading.{last_or}
 use Rattle.posting_code.proofs.Lists.{last_any}
 use Rattle.posting_code.proofs.items.Items.last_item.Goals as goal
 
