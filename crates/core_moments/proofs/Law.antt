@@ -1,8 +1,7 @@
 -- The law over walks, from what holds at each moment of the walk.
-use Rattle.std.proofs.Common.{◌≡◌, ◌≢◌, ◌⊎◌, ◌≤◌, ◌<◌, ◌+◌, ℕ, Bool, true, false, ◌&&◌, nat_eq, List, [], ◌∷◌, ◌++◌, map, refl, sym, ap, subst, subst₂, ap₂, ◌∙◌, inl, inr, arith}
+use Rattle.std.proofs.Common.{◌≡◌, ◌≢◌, ◌≤◌, ℕ, Bool, true, false, ◌&&◌, nat_eq, List, [], ◌∷◌, ◌++◌, map, refl, sym, ap, subst, subst₂, ap₂, ◌∙◌, inl, inr, arith}
 use Rattle.std.specs.List.{list_any}
-use Rattle.core_state.specs.Inner.Nodes.{Ghost, AtMost}
-use Rattle.core_state.specs.Inner.Nodes.Place.{tree}
+use Rattle.core_state.specs.Trees.Nodes.{AtMost}
 use Rattle.core_state.proofs.Trees.Walk as w
 use Rattle.core_state.proofs.Trees.EntryWalk as e
 use Rattle.core_state.proofs.Trees.PendWalk as pend
@@ -28,77 +27,39 @@ use Rattle.core_state.specs.Readings.{Read}
 use Rattle.core_moments.specs.Walk.{Follows, rightward, Sought, first_key, fits, LeafRead, leaf_reads, key_reads, reads_of, KeyWalk, IsKeyWalk, Walk, IsWalk, sought_of}
 use Rattle.core_moments.specs.Judging.{met, pending_has, is_exception, starts_row, starts_page, main_read, main_has, in_leaves, under, fits_asked, IsKept, HasYes}
 use Rattle.core_moments.specs.Law.{AreSought}
-use Rattle.core_state.specs.Inner.Ext.{Ext, ext_less}
-use Rattle.core_state.specs.Inner.Ext.Ext.{least, at, greatest}
+use Rattle.core_state.specs.Trees.Ext.{Ext, ext_less}
+use Rattle.core_state.specs.Trees.Ext.Ext.{least, at, greatest}
 use Rattle.page_types.specs.Keys.{KeyLess}
 use Rattle.core_state.proofs.Trees.Orders.{ext_order, ext_top, key_order, nat_order}
 use Rattle.core_moments.proofs.Words.{upto, is_upto, not_upto, and_true, same_number, number_itself, contained, contains}
 use Rattle.core_moments.proofs.Judging.{Shown, keeps, yes_holds}
-use Rattle.core_moments.proofs.Views.{entry_of, tr, tr_leaf, goes, toward_same}
-use Rattle.core_state.specs.Inner.TreeNodes.{entry_node, post_node}
+use Rattle.core_state.proofs.Moments.Told as told
+use Rattle.core_state.proofs.Moments.Told.{Trees, Pends, entry_of}
+use Rattle.core_moments.proofs.Views.{tr, tr_leaf, goes, toward_same}
+use Rattle.core_state.specs.Trees.TreeNodes.{entry_node, post_node}
 use Rattle.core_state.proofs.PageLists.{in_either, in_front, in_back}
 use Rattle.core_state.proofs.Trees.Members.{in_map, of_map}
 use Rattle.core_moments.proofs.Walks.{any_true, any_in, Reads, reads_rise, reads_shown, follows_same, lead_same, leaves_same, leaf_trees, under_true, under_back, ReadUnder, walk_reads_same}
 use Rattle.core_moments.proofs.Parts.{of_fits, to_fits, from_first, goes_far, walk_for, is_walk, reads_end, reads_front, reads_back, key_part, leaf_shown, leaf_tree_in, more_under}
 
--- the trees of the moments of a walk: they change by steps of trees alone
-pub record Trees (P : ℕ → Pages) (start end : ℕ) : Type 0 where
-  pub g : ℕ → Ghost (Ext Key)
-  pub gp : ℕ → Ghost (Ext ℕ)
-  pub entries : GrowRun (ext_order key_order) least greatest (λ t p. entry_node (P t p)) g start end
-  pub posts : Run (ext_order nat_order) least greatest (λ t p. post_node (P t p)) gp start end
-  pub height : ℕ
-  pub root : (g start).place 1 ≡ tree 1 height
-  pub root_low : (g start).low 1 ≡ least
-  pub roots : (t p : ℕ) (x : Entry) (r : ℕ) → start ≤ t → t ≤ end → In x (entries_of (P t p)) → x.postings ≡ Root r
-      → w.IsIn (gp t) r r
-
--- the pending list of these moments, for the documents with the item i
-pub record Pends (P : ℕ → Pages) (start end i : ℕ) : Type 1 where
-  pub line : ℕ → List ℕ
-  pub Gone : ℕ → ℕ → Type 0
-  pub chain : (t : ℕ) → start ≤ t → t ≤ end → pend.IsChain (λ p. (P t p).right) (first_of (P t 0)) (line t)
-  pub stays : (t p : ℕ) → start ≤ t → t < end → Gone t p
-      → Gone (t + 1) p × (kept_rows_of (P (t + 1) p) ≡ kept_rows_of (P t p)) × ((P (t + 1) p).right ≡ (P t p).right)
-  pub steps : (t : ℕ) → start ≤ t → t < end
-      → PendStep (λ (row : Row). row.item) (λ j. j ≡ i) (λ u p. kept_rows_of (P u p)) (λ u p. (P u p).right)
-      (λ u. first_of (P u 0)) line Gone t
-
 module _ (P : ℕ → Pages) (start end : ℕ) (T : Trees P start end) (i : ℕ) (D : Pends P start end i) (v : Vector) where
-  abbrev pub entries_at : ℕ → ℕ → List (m.Entry (Ext Key) (Ext ℕ))
-  entries_at t p = map entry_of (entries_of (P t p))
+  abbrev entries_at : ℕ → ℕ → List (m.Entry (Ext Key) (Ext ℕ))
+  entries_at = told.entries_at P start end T i D v
 
-  -- the key x stands in the main part with the item, at t
-  abbrev pub InMain : Key → ℕ → Type 0
-  InMain x t = (q : ℕ) × ((T.g t).place q ≡ tree 1 0) × ext_less KeyLess ((T.g t).low q) (at x)
-      × AtMost (ext_order key_order) greatest (at x) ((T.g t).high q)
-      × Stands (ext_order key_order) least greatest (ext_top key_order) tt (ext_order nat_order) least greatest
-      (ext_top nat_order) tt (λ u p. entry_node (P u p)) T.g (λ u p. post_node (P u p)) T.gp start end T.entries
-      T.posts entries_at (at x) (at i) t q
+  abbrev InMain : Key → ℕ → Type 0
+  InMain = told.InMain P start end T i D v
 
-  -- a row with the item on the line of the first moment
-  abbrev pub OnLine : ℕ → Row → Type 0
-  OnLine p row = In p (D.line start) × In row (kept_rows_of (P start p)) × (row.item ≡ i)
+  abbrev OnLine : ℕ → Row → Type 0
+  OnLine = told.OnLine P start end T i D v
 
-  abbrev pub AllPending : Type 0
-  AllPending = (k : Key) → In k (keys_of v) → (p : ℕ) × (row : Row) × OnLine p row × In k row.keys
+  abbrev AllPending : Type 0
+  AllPending = told.AllPending P start end T i D v
 
-  abbrev pub IsFirst : Type 0
-  IsFirst = (p : ℕ) × (ps : List ℕ) × (row : Row) × (rows : List Row) × (D.line start ≡ p ∷ ps)
-      × (kept_rows_of (P start p) ≡ row ∷ rows) × (row.item ≡ i)
+  abbrev IsFirst : Type 0
+  IsFirst = told.IsFirst P start end T i D v
 
-  -- what holds of a document that has the item at these moments, with the vector v
-  pub record Facts : Type 0 where
-    pub some_key : keys_of v ≢ []
-    pub indexed : AllPending ⊎ ((x : Key) → In x (keys_of v) → (t : ℕ) → start ≤ t → t ≤ end → InMain x t)
-    pub never_removed : NeverRemoved (ext_order nat_order) least greatest (ext_top nat_order) tt
-        (λ u p. post_node (P u p)) T.gp start end T.posts (at i)
-    pub complete : (p : ℕ) (row : Row) → OnLine p row → IsFirst ⊎ AllPending
-    pub own_rows : (p : ℕ) (row : Row) (k : Key) → OnLine p row → In k row.keys → In k (keys_of v)
-    pub own_lists : (t p : ℕ) (x : Entry) (bytes : List ℕ) → start ≤ t → t ≤ end → In x (entries_of (P t p))
-        → x.postings ≡ Inline bytes → In i (items_of bytes) → In x.key (keys_of v)
-    pub own_trees : (t p : ℕ) (x : Entry) (r s q : ℕ) → start ≤ t → t ≤ s → s ≤ end → In x (entries_of (P t p))
-        → x.postings ≡ Root r → w.IsIn (T.gp s) r q → In i (posting_items_in (P s q).body) → In x.key (keys_of v)
+  abbrev Facts : Type 0
+  Facts = told.Facts P start end T i D v
 
   module _ (F : Facts) (walk : Walk) (begins_at : walk.meta.length ≡ start)
       (reads : Reads P start end (reads_of walk)) where
@@ -283,7 +244,7 @@ module _ (P : ℕ → Pages) (start end : ℕ) (T : Trees P start end) (i : ℕ)
           ((in_map tr_leaf l x.leaves m))
 
       post_keys : (right : ℕ) (b : Body)
-          → In (at i) (w.keys_of (Rattle.core_state.specs.Inner.TreeNodes.post_body right b))
+          → In (at i) (w.keys_of (Rattle.core_state.specs.Trees.TreeNodes.post_body right b))
           → In i (posting_items_in b)
       post_keys right (PostLeaf high items) n = let r = of_map at (at i) (items_of items) (n) in subst
           (λ (z : ℕ). In z (items_of items)) (same_at r.0 i (sym r.2)) r.1
@@ -301,7 +262,7 @@ module _ (P : ℕ → Pages) (start end : ℕ) (T : Trees P start end) (i : ℕ)
       post_keys right (Pending s) n = absurd n
 
       inline_of : (q : Postings) (is : List (Ext ℕ))
-          → Rattle.core_moments.proofs.Views.postings_of q ≡ m.Postings.inline is → In (at i) is
+          → Rattle.core_state.proofs.Moments.Told.postings_of q ≡ m.Postings.inline is → In (at i) is
           → (bytes : List ℕ) × (q ≡ Inline bytes) × In i (items_of bytes)
       inline_of (Inline bytes) is f n = (
         bytes,
@@ -324,7 +285,7 @@ module _ (P : ℕ → Pages) (start end : ℕ) (T : Trees P start end) (i : ℕ)
           never : m.Postings.root r ≡ m.Postings.inline is → ⊥
           never g = cc
 
-      root_of : (q : Postings) (r : ℕ) → Rattle.core_moments.proofs.Views.postings_of q ≡ m.Postings.root r
+      root_of : (q : Postings) (r : ℕ) → Rattle.core_state.proofs.Moments.Told.postings_of q ≡ m.Postings.root r
           → q ≡ Root r
       root_of (Inline bytes) r f = absurd (never f)
         where

@@ -4,16 +4,6 @@ pub mod Views
 pub mod Walks
 pub mod Parts
 pub mod Law
-pub mod Apart
-pub mod Timeline
-pub mod Documents
-pub mod Visible
-pub mod Kept
-pub mod Here
-pub mod Phases
-pub mod Facts
-pub mod Snapshot
 pub mod Moments
-pub mod Listed
 pub mod Once
 pub mod Ends

@@ -3,20 +3,20 @@ use Rattle.std.proofs.Common.{◌≡◌, ◌≢◌, ◌⊎◌, ◌<◌, ◌≤�
 use Rattle.page_types.specs.declared.page.Page.{Page}
 use Rattle.core_state.specs.Log.{Pages, In}
 use Rattle.core_state.specs.Readings.{Read}
-use Rattle.core_state.specs.Inner.Nodes.{Child, Node}
-use Rattle.core_state.specs.Inner.Nodes.Node.{other, leaf, inner, gone}
+use Rattle.core_state.specs.Trees.Nodes.{Child, Node}
+use Rattle.core_state.specs.Trees.Nodes.Node.{other, leaf, inner, gone}
 use Rattle.core_state.proofs.Trees.Walk as w
 use Rattle.core_state.proofs.Trees.EntryWalk as e
 use Rattle.core_state.proofs.Trees.PendWalk as pend
 use Rattle.core_moments.specs.Walk.{LeafRead, Sought, Follows, LeadTo, AreLeaves, toward, along, beyond, leaf_reads, tree_reads}
 use Rattle.core_moments.specs.Law.{ReadOnce}
-use Rattle.core_moments.proofs.Apart.{Apart, Linked}
+use Rattle.core_state.proofs.Moments.Apart.{Apart, Linked}
 use Rattle.core_state.proofs.Trees.Behind.{Once}
 use Rattle.core_state.proofs.Trees.Forward.{HasChild, LinksTo}
 use Rattle.core_moments.proofs.Views.{tr, goes, toward_same, along_same, beyond_same}
 use Rattle.core_moments.proofs.Words.{upto}
-use Rattle.core_state.specs.Inner.Ext.Ext.{at}
-use Rattle.core_state.specs.Inner.TreeNodes.{entry_node, post_node}
+use Rattle.core_state.specs.Trees.Ext.Ext.{at}
+use Rattle.core_state.specs.Trees.TreeNodes.{entry_node, post_node}
 use Rattle.core_moments.proofs.Walks.{Reads}
 use Rattle.core_moments.proofs.Parts.{reads_back}
 

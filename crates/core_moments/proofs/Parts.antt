@@ -1,7 +1,7 @@
 -- Parts of a walk: the keys that fit, its single walks, and their reads.
 use Rattle.std.proofs.Common.{◌≡◌, ◌≢◌, ◌⊎◌, ◌≤◌, ℕ, zero, suc, Bool, true, false, cond, not, ◌&&◌, ◌||◌, nat_eq, List, [], ◌∷◌, ◌++◌, map, refl, sym, ap, subst, subst₂, ap₂, ◌∙◌, inl, inr, arith}
 use Rattle.std.specs.List.{list_any}
-use Rattle.core_state.specs.Inner.Nodes.{AtMost}
+use Rattle.core_state.specs.Trees.Nodes.{AtMost}
 use Rattle.core_state.proofs.Trees.Order.{at_most_less}
 use Rattle.page_types.specs.declared.page.Entry.{Entry}
 use Rattle.page_types.specs.declared.page.Postings.{Postings}
@@ -14,8 +14,8 @@ use Rattle.gin_opclass.specs.Class.{Asked, FitsAsked}
 use Rattle.core_state.specs.Readings.{Read}
 use Rattle.core_moments.specs.Walk.{Sought, first_key, fits, LeafRead, leaf_reads, tree_reads, key_reads, KeyWalk, IsKeyWalk, AreKeyWalks, begins}
 use Rattle.core_moments.specs.Judging.{under, under_entry, fits_asked}
-use Rattle.core_state.specs.Inner.Ext.{Ext, ext_less}
-use Rattle.core_state.specs.Inner.Ext.Ext.{least, at, greatest}
+use Rattle.core_state.specs.Trees.Ext.{Ext, ext_less}
+use Rattle.core_state.specs.Trees.Ext.Ext.{least, at, greatest}
 use Rattle.page_types.specs.Keys.{KeyLess}
 use Rattle.core_state.proofs.Trees.Orders.{ext_order, key_order}
 use Rattle.core_moments.proofs.Words.{and_true, begins_at_most, begins_both, begins_itself, begins_append, append_of_begins, begins_between}

@@ -2,29 +2,17 @@
 use Rattle.std.proofs.Common.{◌≡◌, ℕ, Bool, true, false, cond, List, [], ◌∷◌, map, refl, sym, ap, ap₂}
 use Rattle.core_state.proofs.Trees.Walk as w
 use Rattle.core_state.proofs.Trees.EntryWalk as e
-use Rattle.core_state.proofs.Trees.MainWalk as m
 use Rattle.ts_base.specs.Keys.{Key}
 use Rattle.page_types.specs.declared.page.Page.{Page}
-use Rattle.page_types.specs.declared.page.Entry.{Entry}
-use Rattle.page_types.specs.declared.page.Postings.{Postings}
-use Rattle.page_types.specs.declared.page.Postings.TheVariants.{Inline, Root}
 use Rattle.page_types.specs.declared.page.EntryChild.{EntryChild}
 use Rattle.page_types.specs.declared.page.Body.{Body}
 use Rattle.page_types.specs.declared.page.Body.TheVariants.{Free, Meta, Heap, Overflow, Pending, EntryLeaf, EntryInner, PostLeaf, PostInner, Deleted}
-use Rattle.page_types.specs.Items.{items_of}
 use Rattle.core_state.specs.Readings.{Read}
-use Rattle.core_state.specs.Inner.Ext.{Ext}
-use Rattle.core_state.specs.Inner.Ext.Ext.{least, at, greatest}
-use Rattle.core_state.specs.Inner.TreeNodes.{entry_child, entry_body, entry_node, post_body, post_node}
+use Rattle.core_state.specs.Trees.Ext.{Ext}
+use Rattle.core_state.specs.Trees.Ext.Ext.{least, at, greatest}
+use Rattle.core_state.specs.Trees.TreeNodes.{entry_child, entry_body, entry_node, post_body, post_node}
 use Rattle.core_moments.specs.Walk.{toward, along, beyond, child_for, Sought, begins, LeafRead}
 use Rattle.core_moments.proofs.Words.{upto, upto_bound}
-
-abbrev pub postings_of : Postings → m.Postings (Ext ℕ)
-postings_of (Inline bytes) = m.Postings.inline (map at (items_of bytes))
-postings_of (Root r) = m.Postings.root r
-
-abbrev pub entry_of : Entry → m.Entry (Ext Key) (Ext ℕ)
-entry_of e = record { key = at e.key; postings = postings_of e.postings }
 
 abbrev pub tr : Read → w.Read
 tr x = record { time = x.length; page = x.page }

@@ -15,11 +15,11 @@ use Rattle.page_types.specs.Views.{posting_items_in}
 use Rattle.core_state.specs.Readings.{Read}
 use Rattle.core_moments.specs.Walk.{Follows, LeadTo, toward, along, beyond, Sought, fits, LeafRead, AreLeaves, AreTrees, Branch, leaf_reads, tree_reads}
 use Rattle.core_moments.specs.Judging.{under, under_entry}
-use Rattle.core_state.specs.Inner.Ext.Ext.{at}
+use Rattle.core_state.specs.Trees.Ext.Ext.{at}
 use Rattle.core_moments.proofs.Words.{upto, and_true, same_number, number_itself}
 use Rattle.core_moments.proofs.Judging.{or_left, or_right}
 use Rattle.core_moments.proofs.Views.{tr, tr_leaf, goes, toward_same, along_same, beyond_same}
-use Rattle.core_state.specs.Inner.TreeNodes.{entry_node, post_node}
+use Rattle.core_state.specs.Trees.TreeNodes.{entry_node, post_node}
 
 pub any_true : {A : Type 0} (p : A → Bool) (x : A) (xs : List A) → In x xs → p x ≡ true → list_any p xs ≡ true
 any_true p x [] m e = absurd m

@@ -1,17 +1,18 @@
 -- Bounds that a key is up to, and words that begin with another.
 use Rattle.std.proofs.Common.{◌≡◌, ◌≢◌, ◌⊎◌, ℕ, Bool, true, false, ◌&&◌, nat_eq, List, [], ◌∷◌, ◌++◌, refl, sym, ap, subst, ap₂, ◌∙◌, inl, inr, zero, suc, arith, nat_cmp, Ordering, Less, Equal, Greater, is_le}
-use Rattle.std.specs.Prelude.{Contains}
+use Rattle.std.specs.Prelude.{Contains, ◌↔◌}
 use Rattle.std.specs.Cmp.Lexicographic.{slice_cmp}
 use Rattle.std.specs.FinMap.{slice_cmp-IsAntisymmetric, nat_cmp-IsAntisymmetric}
-use Rattle.std.proofs.lemmas.Cmp.{nat_list_cmp_total}
+use Rattle.std.proofs.lemmas.Cmp.{nat_list_cmp_total, tied_itself}
 use Rattle.std.specs.Ordering.{ordering_then, ordering_reverse}
 use Rattle.ts_base.specs.Keys.{Key}
 use Rattle.page_types.specs.Keys.{KeyLess}
 use Rattle.core_state.specs.Log.{In}
-use Rattle.core_state.specs.Inner.Nodes.{AtMost}
-use Rattle.core_state.specs.Inner.Ext.{Ext, ext_less}
-use Rattle.core_state.specs.Inner.Ext.Ext.{least, at, greatest}
-use Rattle.core_state.specs.Inner.TreeNodes.{bound}
+use Rattle.core_state.specs.Changes.{KeyAtMost, UpTo}
+use Rattle.core_state.specs.Trees.Nodes.{AtMost}
+use Rattle.core_state.specs.Trees.Ext.{Ext, ext_less}
+use Rattle.core_state.specs.Trees.Ext.Ext.{least, at, greatest}
+use Rattle.core_state.specs.Trees.TreeNodes.{bound}
 use Rattle.core_state.proofs.Trees.Orders.{ext_order, key_order}
 use Rattle.core_moments.specs.Walk.{begins, up_to}
 
@@ -28,6 +29,22 @@ upto greatest least = false
 pub upto_bound : (k b : Key) → upto (at k) (bound b) ≡ up_to k b
 upto_bound k [] = refl
 upto_bound k (c ∷ cs) = refl
+
+-- the test of a bound tells what may stand under it
+pub up_to_tells : (k b : Key) → (up_to k b ≡ true) ↔ UpTo k b
+up_to_tells k [] = (λ e. inl refl, λ u. refl)
+up_to_tells k (c ∷ cs) = (λ e. inr (on (slice_cmp nat_cmp k (c ∷ cs)) refl e), back)
+  where
+    on : (r : Ordering) → slice_cmp nat_cmp k (c ∷ cs) ≡ r → is_le r ≡ true → KeyAtMost k (c ∷ cs)
+    on Less f g = inl f
+    on Equal f g = inr (slice_cmp-IsAntisymmetric nat_cmp-IsAntisymmetric k (c ∷ cs) f)
+    on Greater f g = cc
+
+    back : UpTo k (c ∷ cs) → up_to k (c ∷ cs) ≡ true
+    back (inl e) = cc
+    back (inr (inl l)) = ap is_le l
+    back (inr (inr e)) = subst (λ (b : Key). is_le (slice_cmp nat_cmp k b) ≡ true) e
+        (ap is_le (tied_itself nat_list_cmp_total k))
 
 pub is_upto : (k b : Ext Key) → upto k b ≡ true → AtMost (ext_order key_order) greatest k b
 is_upto least greatest e = inl tt

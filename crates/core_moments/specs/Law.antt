@@ -1,11 +1,9 @@
 -- The law over walks.
 use Rattle.std.specs.Prelude.{◌≡◌, ◌≢◌, ℕ, true, false, List, [], ◌∷◌, ◌++◌, map, take, AllPairs, ⊤}
-use Rattle.page_types.specs.declared.record.Record.{Record}
-use Rattle.page_types.specs.declared.record.Kind.TheVariants as kind
-use Rattle.core_state.specs.Log.{Log, Pages, In, Shows}
-use Rattle.core_state.specs.Documents.{Doc, placed, item_at}
+use Rattle.core_state.specs.Log.{Log, In}
+use Rattle.core_state.specs.Documents.{item_at}
 use Rattle.core_state.specs.History.{Document, History, IsHistory, docs}
-use Rattle.core_state.specs.Index.{IsIndexed}
+use Rattle.core_state.specs.Standing.{CommitsIndexed}
 use Rattle.core_state.specs.Changes.{KeyAtMost}
 use Rattle.core_state.specs.Legal.{IsLegal, Pin, Keeps}
 use Rattle.core_state.specs.Readings.{Read, AreReads}
@@ -20,22 +18,13 @@ pub record AreSought {Q : Type 0} (M : Meaning Q) (q : Q) (sought : List Sought)
   pub only : M.all q ≡ false → (s : Sought) → In s sought → (a : Asked) × In a (M.asked q) × (s ≡ sought_of a)
   pub in_order : AllPairs (λ (s t : Sought). KeyAtMost (first_key s) (first_key t)) sought
 
--- the item of a document's slot
-abbrev pub item_of : Document → ℕ
-item_of d = item_at d.name.page d.name.slot
-
 -- Of the documents that are there after the first n commits, each that satisfies the query is kept,
 -- and each that got a yes without its vector satisfies it.
 pub record FindsAll {Q : Type 0} (M : Meaning Q) (q : Q) (H : History) (n : ℕ) (w : Walk) : Type 0 where
-  pub kept : (d : Document) → In d (docs (take n H)) → M.satisfies q d.vector → IsKept M q w (item_of d)
-  pub yes : (d : Document) → In d (docs (take n H)) → HasYes M q w (item_of d) → M.satisfies q d.vector
-
--- Each commit of the log found the documents of its transaction indexed.
-abbrev pub CommitsIndexed : Log → Type 0
-CommitsIndexed R =
-    (later earlier : Log) (r : Record) (number : ℕ) (P : Pages) → R ≡ later ++ r ∷ earlier
-    → r.kind ≡ kind.Commit number → Shows earlier P
-    → (d : Doc) → In d (placed earlier r.xid) → IsIndexed P d
+  pub kept : (d : Document) → In d (docs (take n H)) → M.satisfies q d.vector
+      → IsKept M q w (item_at d.name.page d.name.slot)
+  pub yes : (d : Document) → In d (docs (take n H)) → HasYes M q w (item_at d.name.page d.name.slot)
+      → M.satisfies q d.vector
 
 -- A walk for the query from the pin: its pages were read at lengths of the log from the pin's on.
 pub record IsWalkFrom {Q : Type 0} (M : Meaning Q) (q : Q) (R : Log) (pin : Pin) (w : Walk) : Type 0 where

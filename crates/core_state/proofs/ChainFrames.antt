@@ -13,14 +13,13 @@ use Rattle.page_types.specs.declared.record.Record.{Record}
 use Rattle.page_types.specs.declared.record.Kind.{Kind}
 use Rattle.page_types.specs.declared.record.Kind.TheVariants as kind
 use Rattle.core_state.specs.Log.{Log, Pages, In, changed}
-use Rattle.core_state.specs.Documents.{Doc, Has, IsChain, HasBytes, IsWhole, IsDead, page_of, head_of}
+use Rattle.core_state.specs.Documents.{Doc, Has, IsChain, HasBytes, IsWhole, IsDead, page_of, head_of, doc_at}
 use Rattle.core_state.specs.Index.{Line, NoPair}
 use Rattle.core_state.specs.Known.{use_in}
 use Rattle.core_state.specs.Changes.{IsNew}
 use Rattle.core_state.specs.HeapRows.{IsPutOverflow}
 use Rattle.core_state.specs.VacuumRows.{IsDropPage, IsGoneFrom}
 use Rattle.core_state.specs.Legal.{RowHolds}
-use Rattle.core_state.specs.Inner.HeadsKept.{doc_at}
 use Rattle.core_state.specs.Inner.ItemChains.{Chains, AreOverflows, ArePrivates}
 use Rattle.core_state.proofs.Histories.{chain_one}
 use Rattle.core_state.proofs.PageLists.{same_or_not, in_or_not, two_pages}
@@ -42,7 +41,7 @@ only_pending (body.Pending rows) is = (λ f. f, λ f. f, λ f. f, λ f. f)
 only_pending _ is = absurd is
 
 -- a page that may be taken has neither free nor deleted content of kind K
-not_new : (K : Body → Type 0) (P : Pages) (since q : ℕ) → (K body.Free → ⊥) → ((g : Gone) → K (body.Deleted g) → ⊥)
+pub not_new : (K : Body → Type 0) (P : Pages) (since q : ℕ) → (K body.Free → ⊥) → ((g : Gone) → K (body.Deleted g) → ⊥)
     → K (P q).body → IsNew (use_in P) since q → ⊥
 not_new K P since q free gone k n = elim (new_was P since q n) [
   | inl e ↦ free (subst K e k)

@@ -4,14 +4,13 @@ use Rattle.page_types.specs.declared.record.Record.{Record}
 use Rattle.page_types.specs.declared.record.Kind.{Kind}
 use Rattle.page_types.specs.declared.record.Kind.TheVariants as kind
 use Rattle.core_state.specs.Log.{Log, Pages, In, fate, fate_with, ended, xid_behind, next_xid, serial_behind, next_serial, commits}
-use Rattle.core_state.specs.Documents.{Doc, IsDead, placed_with, placed, marked_with, marked}
+use Rattle.core_state.specs.Documents.{Doc, IsDead, placed_with, placed, marked_with, marked, doc_at}
 use Rattle.core_state.specs.Legal.{RowHolds}
 use Rattle.core_state.specs.Inner.XidsDrawn.{XidsDrawn}
 use Rattle.core_state.specs.declared.answers.Fate.{Fate}
 use Rattle.core_state.specs.declared.answers.Fate.TheVariants.{Unused, Running, Aborted, Committed}
 use Rattle.core_state.proofs.RunningOnes.{same_or_other, on_same, on_other}
 use Rattle.core_state.proofs.PageLists.{in_front, in_back, in_either}
-use Rattle.core_state.specs.Inner.HeadsKept.{doc_at}
 
 -- a document more, where the two numbers are one
 added_on : (x y : ℕ) (d z : Doc) (ds : List Doc) → In d ds → In d (cond (x == y) (ds ++ z ∷ []) ds)

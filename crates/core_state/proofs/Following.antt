@@ -11,6 +11,7 @@ use Rattle.core_state.specs.Log.{Log, Pages, commits, next_xid, next_serial, ser
 use Rattle.core_state.specs.Documents.{Doc, name_of, placed, marked}
 use Rattle.core_state.specs.History.{Document, Commit, History, AreInserts, IsHistory}
 use Rattle.core_state.specs.Legal.{RowHolds, RowsAreValid}
+use Rattle.core_state.specs.Lives.{with_ends}
 use Rattle.core_state.specs.States.{StateValue, fate_at, with_fate, all_ended, uses_after, transaction, without, replaced, begun, committed, aborted, ended_all, placed_head, marked_head, last_serial, step_of, state_of, names}
 use Rattle.core_state.specs.declared.transactions.Transaction.{Transaction}
 use Rattle.core_state.specs.declared.answers.Fate.{Fate}
@@ -196,6 +197,7 @@ commit_kept R s n x cs number runs k =
       fates = with_fate x (Committed c) s.fates;
       deleted = s.deleted ++ map name_of (marked R x) ∷ [];
       inserted = s.inserted ++ map name_of (placed R x) ∷ [];
+      ends = with_ends c s.placed (map name_of (marked R x)) s.ends;
       running = without x s.running;
     } in
     let kept : Kept (rec_of n x (kind.Commit c) cs ∷ R) s' = record {
@@ -348,9 +350,12 @@ place_kept R s n x cs item serial number runs next small k =
     let s1 : StateValue = before n cs s in
     let s' : StateValue = record s1 {
       next_serial = suc serial;
+      placed = s.placed ++ record { item = item; xid = x } ∷ [];
+      ends = s.ends ++ 0 ∷ [];
       running = replaced (record (work R x) { inserted = map name_of (placed R x) ++ name_of d ∷ [] }) s.running;
       current = Some (Rattle.core_state.specs.Documents.page_of item);
       highest = Rattle.core_state.specs.States.higher (Rattle.core_state.specs.Documents.page_of item) s.highest;
+      heaps = Rattle.core_state.specs.States.with_page (Rattle.core_state.specs.Documents.page_of item) s.heaps;
     } in
     let kept : Kept (rec_of n x (kind.PlaceHead item serial) cs ∷ R) s' = record {
       records = number;

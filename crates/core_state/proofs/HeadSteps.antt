@@ -11,14 +11,13 @@ use Rattle.page_types.specs.declared.record.Record.{Record}
 use Rattle.page_types.specs.declared.record.Kind.{Kind}
 use Rattle.page_types.specs.declared.record.Kind.TheVariants as kind
 use Rattle.core_state.specs.Log.{Log, Pages, In, changed}
-use Rattle.core_state.specs.Documents.{Doc, Has, page_of, slot_of, item_at, head_of}
+use Rattle.core_state.specs.Documents.{Doc, Has, page_of, slot_of, item_at, head_of, doc_at}
 use Rattle.core_state.specs.Known.{known, use_in}
 use Rattle.core_state.specs.Changes.{left_with, IsNew, PutsSlot, IsHeadChange}
 use Rattle.core_state.specs.HeapRows.{IsNewHead, IsPlaceHead, IsPutOverflow, IsMarkDeleted}
 use Rattle.core_state.specs.PendingRows.{IsPutPending, IsLinkHere, IsLinkPending}
 use Rattle.core_state.specs.VacuumRows.{IsDropped, IsDropPage, IsGoneFrom, SlotLoses, IsFreeSlots}
 use Rattle.core_state.specs.Legal.{RowHolds}
-use Rattle.core_state.specs.Inner.HeadsKept.{doc_at}
 use Rattle.core_state.proofs.PageLists.{same_or_not, in_or_not, one_page, two_pages, three_pages}
 use Rattle.core_state.specs.Inner.PageKinds.{IsOverflow, IsPending, IsMeta, IsTree, IsDeleted, IsPlain, IsHeadPage, IsChanged, Touched}
 use Rattle.core_state.proofs.TouchedPages.{head_was}

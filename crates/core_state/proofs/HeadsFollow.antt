@@ -8,11 +8,11 @@ use Rattle.page_types.specs.declared.page.Body.TheVariants as body
 use Rattle.page_types.specs.declared.record.Record.{Record}
 use Rattle.page_types.specs.declared.record.Kind.TheVariants as kind
 use Rattle.core_state.specs.Log.{Log, Pages, In, changed, fate, next_serial}
-use Rattle.core_state.specs.Documents.{Doc, Has, IsDead, placed, marked, page_of, slot_of, head_of}
+use Rattle.core_state.specs.Documents.{Doc, Has, IsDead, placed, marked, page_of, slot_of, head_of, doc_at}
 use Rattle.core_state.specs.Changes.{left_with}
 use Rattle.core_state.specs.HeapRows.{IsPlaceHead, IsMarkDeleted}
 use Rattle.core_state.specs.Legal.{RowHolds}
-use Rattle.core_state.specs.Inner.HeadsKept.{doc_at, HeadsKept}
+use Rattle.core_state.specs.Inner.HeadsKept.{HeadsKept}
 use Rattle.core_state.specs.declared.answers.Fate.TheVariants.{Unused, Running, Aborted, Committed}
 use Rattle.core_state.proofs.PageLists.{same_or_not, one_page}
 use Rattle.core_state.proofs.RowsByKind.{kind_row}

@@ -1,5 +1,5 @@
 -- Where there is room for an insert, each of its three steps has room.
-use Rattle.std.proofs.Common.{◌≡◌, ◌<◌, ◌≤◌, ◌&&◌, nat_lt, ℕ, suc, Bool, true, false, cond, ◌==◌, List, [], ◌∷◌, ◌++◌, length, refl, sym, ap, subst, ◌∙◌, arith}
+use Rattle.std.proofs.Common.{◌≡◌, ◌<◌, ◌≤◌, ◌&&◌, nat_lt, ℕ, suc, Bool, true, false, ◌==◌, List, [], ◌∷◌, ◌++◌, length, refl, sym, ap, subst, ◌∙◌, arith}
 use Rattle.std.specs.Prelude.{Option, Some, None, IfSome, if◌then◌else◌}
 use Rattle.page_types.specs.declared.page.Name.{Name}
 use Rattle.page_types.specs.declared.record.Kind.{Kind}
@@ -7,8 +7,8 @@ use Rattle.page_types.specs.declared.record.Kind.TheVariants as kind
 use Rattle.page_types.specs.declared.record.Record.{Record}
 use Rattle.core_state.specs.Log.{changed, xid_bound}
 use Rattle.core_state.specs.Documents.{Doc, name_of, page_of}
-use Rattle.core_state.specs.States.{StateValue, step_of, stepped, begun, placed_head, ended_all, transaction, uses_after, with_placed, replaced, higher, last_serial}
-use Rattle.core_state.specs.Rooms.{Held, Room, HasRoom, HasRoomFor, HasRoomForPages, HasRoomToInsert, KeepsLists, LeavesRoom, FitsPlaced, FitsCommit}
+use Rattle.core_state.specs.States.{StateValue, step_of, stepped, placed_head, ended_all, transaction, uses_after, with_placed, replaced, higher, with_page, last_serial}
+use Rattle.core_state.specs.Rooms.{Held, Room, HasRoom, HasRoomFor, HasRoomForPages, HasRoomToInsert, LeavesRoom, FitsPlaced, FitsCommit}
 use Rattle.core_state.specs.declared.answers.Fate.TheVariants.{Running}
 use Rattle.core_state.specs.declared.transactions.Transaction.{Transaction}
 use Rattle.core_state.proofs.RunningOnes.{joined_at, replaced_at, on_same, length-all_ended}
@@ -37,6 +37,7 @@ room_after_abort h h' r room is zero value left =
       running = omega (arith, room.running, kept.3);
       fresh = ap (λ (s : StateValue). transaction (suc (length s.fates)) s.running) now;
       names = omega (arith, room.names, kept.1);
+      serials = omega (arith, room.serials, kept.4);
       deletes = omega (arith, room.deletes, (kept.0).deletes);
       inserts = omega (arith, room.inserts, (kept.0).inserts);
       inserted = omega (arith, room.inserted, (kept.0).inserted);
@@ -56,7 +57,7 @@ begun_one h s r room is next bound value =
     let none : transaction r.xid h.value.running ≡ None = subst (λ (x : ℕ). transaction x h.value.running ≡ None) (sym next) room.fresh in
     ap (transaction r.xid) now ∙ joined_at h.value.running t r.xid none ∙ on_same r.xid r.xid (Some t) (transaction r.xid h.value.running) refl
 
-fits_placed : (o : Option Transaction) (t : Transaction) (m : Room) → o ≡ Some t → length t.inserted < m.names → IfSome o (FitsPlaced m)
+fits_placed : (o : Option Transaction) (t : Transaction) (m : Room) → o ≡ Some t → FitsPlaced m t → IfSome o (FitsPlaced m)
 fits_placed o t m is fits = subst (λ (x : Option Transaction). IfSome x (FitsPlaced m)) (sym is) fits
 
 pub place_has_room : (h h' : Held) (b r : Record) (item serial : ℕ) → HasRoomToInsert h → b.kind ≡ kind.Begin → b.xid ≡ suc (length h.value.fates) → b.xid < xid_bound
@@ -66,7 +67,7 @@ place_has_room h h' b r item serial room begins next bound value left is own pag
     room_by r (kind.PlaceHead item serial) h' is pages
     (fits_placed (transaction r.xid h'.value.running) (record { xid = b.xid; deleted = []; inserted = [] }) h'.room
     (ap (λ (x : ℕ). transaction x h'.value.running) own ∙ begun_one h h'.value b room begins next bound value)
-    (omega (arith, room.names, kept.1)))
+    (record { names = omega (arith, room.names, kept.1); serials = omega (arith, room.serials, kept.2) }))
 
 -- the transaction that has placed has one name at most
 pub record HasOneName (o : Option Transaction) : Type 0 where
@@ -78,9 +79,12 @@ pub record HasOneName (o : Option Transaction) : Type 0 where
 placed_one : (s : StateValue) (x : ℕ) (d : Doc) (t : Transaction) (b : Bool) → transaction x s.running ≡ Some t → t.xid ≡ x → t.deleted ≡ [] → t.inserted ≡ []
     → HasOneName (transaction x (if b then record s {
       next_serial = suc d.serial;
+      placed = s.placed ++ record { item = d.item; xid = t.xid } ∷ [];
+      ends = s.ends ++ 0 ∷ [];
       running = replaced (with_placed (name_of d) t) s.running;
       current = Some (page_of d.item);
       highest = higher (page_of d.item) s.highest;
+      heaps = with_page (page_of d.item) s.heaps;
     } else s).running)
 placed_one s x d t false is xid none none' = record { t = t; is = is; deleted = none; inserted = omega (arith, ap length none') }
 placed_one s x d t true is xid none none' =

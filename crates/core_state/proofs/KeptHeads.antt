@@ -8,13 +8,13 @@ use Rattle.page_types.specs.declared.record.Record.{Record}
 use Rattle.page_types.specs.declared.record.Kind.{Kind}
 use Rattle.page_types.specs.declared.record.Kind.TheVariants as kind
 use Rattle.core_state.specs.Log.{Log, Pages, In, changed, fate}
-use Rattle.core_state.specs.Documents.{Doc, Has, IsChain, IsDead, marked, head_of}
+use Rattle.core_state.specs.Documents.{Doc, Has, IsChain, IsDead, marked, head_of, doc_at}
 use Rattle.core_state.specs.HeapRows.{IsPutOverflow}
 use Rattle.core_state.specs.PendingRows.{IsPutPending, IsLinkPending}
 use Rattle.core_state.specs.VacuumRows.{IsGoneFrom}
 use Rattle.core_state.specs.Steady.{SameChain, KeepsHead}
 use Rattle.core_state.specs.Legal.{RowHolds}
-use Rattle.core_state.specs.Inner.HeadsKept.{doc_at, HeadsKept}
+use Rattle.core_state.specs.Inner.HeadsKept.{HeadsKept}
 use Rattle.core_state.specs.Inner.ItemChains.{AreOverflows, ArePrivates}
 use Rattle.core_state.specs.Inner.PageKinds.{Touched}
 use Rattle.core_state.specs.declared.answers.Fate.TheVariants.{Running, Aborted, Committed}

@@ -54,7 +54,7 @@ numbered_slots [] k serial small all = tt
 numbered_slots (h ∷ hs) zero serial small all = (serial_slot h serial small all.0, all.1)
 numbered_slots (h ∷ hs) (suc k) serial small all = (all.0, numbered_slots hs k serial small all.1)
 
-numbered_length : (hs : List (Option Head)) (k serial : ℕ) → length (numbered hs k serial) ≡ length hs
+pub numbered_length : (hs : List (Option Head)) (k serial : ℕ) → length (numbered hs k serial) ≡ length hs
 numbered_length [] k serial = refl
 numbered_length (h ∷ hs) zero serial = refl
 numbered_length (h ∷ hs) (suc k) serial = ap suc (numbered_length hs k serial)

@@ -1,46 +1,64 @@
-pub mod Taken
+-- Public is what the proofs of other crates may cite: the laws, and lemmas on logs, states and trees.
 pub mod Showing
-pub mod Leaving
-pub mod Monotone
 pub mod Newest
 pub mod Histories
-pub mod Keys
 pub mod RunningOnes
-pub mod BegunOnes
-pub mod BegunSteps
 pub mod Following
-pub mod PageUses
 pub mod StateTold
 pub mod Worked
-pub mod WorkedMore
-pub mod WorkedSplit
-pub mod WorkedLong
-pub mod WorkedPending
-pub mod WorkedMaintenance
-pub mod WorkedTrees
-pub mod UseSteps
 pub mod Framing
-pub mod RisingPages
-pub mod LowestUse
-pub mod PlacedHeads
-pub mod Law
 pub mod PageLists
-pub mod TouchedPages
-pub mod LivePages
-pub mod HeadSteps
-pub mod FateSteps
 pub mod RowsByKind
-pub mod HeadsFollow
-pub mod StaysIndexed
-pub mod SteadyPages
-pub mod SteadyEnds
 pub mod Trees
-pub mod Chains
-pub mod ChainFrames
-pub mod ChainSteps
-pub mod ChainRows
-pub mod KeptTrees
-pub mod KeptHeads
-pub mod KeptRows
 pub mod Inserting
 pub mod Bounds
+pub mod Moments
+pub mod LawsHold
+pub mod Steps
+-- Private is how the laws are proved.
+mod Taken
+mod Leaving
+mod Monotone
+mod SnapshotDocs
+mod Visible
+mod Seen
+mod Keys
+mod BegunOnes
+mod BegunSteps
+mod PageUses
+mod WorkedSteps
+mod WorkedMore
+mod WorkedSplit
+mod WorkedLong
+mod WorkedPending
+mod WorkedMaintenance
+mod WorkedTrees
+mod WorkedFacts
+mod UseSteps
+mod RisingPages
+mod RisingSearch
+mod LowestUse
+mod LastUses
+mod GreatestNodes
+mod PageRanks
+mod DocumentLives
+mod LifeCases
+mod LivesFollow
+mod PlacedHeads
+mod HeadChanges
+mod Law
+mod TouchedPages
+mod LivePages
+mod HeadSteps
+mod FateSteps
+mod HeadsFollow
+mod StaysIndexed
+mod SteadyPages
+mod SteadyEnds
+mod Chains
+mod ChainFrames
+mod ChainSteps
+mod ChainRows
+mod KeptTrees
+mod KeptHeads
+mod KeptRows

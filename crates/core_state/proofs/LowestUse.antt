@@ -11,7 +11,7 @@ use Rattle.core_state.specs.declared.answers.PageUse.TheVariants as usage
 use Rattle.core_state.proofs.PageUses.{use_set, use_other}
 use Rattle.core_state.proofs.RunningOnes.{same_or_other}
 
-use_in_either : (b : Bool) (number : ℕ) → cond b (usage.Deleted number) usage.Used ≢ usage.Unused
+pub use_in_either : (b : Bool) (number : ℕ) → cond b (usage.Deleted number) usage.Used ≢ usage.Unused
 use_in_either true number e = cc
 use_in_either false number e = cc
 

@@ -11,23 +11,23 @@ below a b l = grind (arith, l)
 not_below : (a b : ℕ) → b ≤ a → nat_lt a b ≡ false
 not_below a b l = grind (arith, l)
 
-order : (a b : ℕ) → (a < b) ⊎ (b ≤ a)
+pub order : (a b : ℕ) → (a < b) ⊎ (b ≤ a)
 order a b = grind arith
 
 -- a page below the first one
-at_front : (p q : ℕ) (qs : List ℕ) → p < q → with_page p (q ∷ qs) ≡ p ∷ q ∷ qs
+pub at_front : (p q : ℕ) (qs : List ℕ) → p < q → with_page p (q ∷ qs) ≡ p ∷ q ∷ qs
 at_front p q qs l = ap (λ (b : Bool). if b then p ∷ q ∷ qs else (if nat_lt q p then q ∷ with_page p qs else q ∷ qs))
     (below p q l)
 
 -- a page above the first one
-behind : (p q : ℕ) (qs : List ℕ) → q < p → with_page p (q ∷ qs) ≡ q ∷ with_page p qs
+pub behind : (p q : ℕ) (qs : List ℕ) → q < p → with_page p (q ∷ qs) ≡ q ∷ with_page p qs
 behind p q qs l =
     ap (λ (b : Bool). if b then p ∷ q ∷ qs else (if nat_lt q p then q ∷ with_page p qs else q ∷ qs))
     (not_below p q (omega (arith, l)))
     ∙ ap (λ (b : Bool). if b then q ∷ with_page p qs else q ∷ qs) (below q p l)
 
 -- the first one
-first : (p q : ℕ) (qs : List ℕ) → p ≡ q → with_page p (q ∷ qs) ≡ q ∷ qs
+pub first : (p q : ℕ) (qs : List ℕ) → p ≡ q → with_page p (q ∷ qs) ≡ q ∷ qs
 first p q qs e =
     ap (λ (b : Bool). if b then p ∷ q ∷ qs else (if nat_lt q p then q ∷ with_page p qs else q ∷ qs))
     (not_below p q (omega (arith, e)))

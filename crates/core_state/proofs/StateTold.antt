@@ -1,6 +1,7 @@
 -- The state of a legal log tells of it.
 use Rattle.core_state.specs.States.{StateFollows}
 use Rattle.core_state.proofs.Following.{kept}
+use Rattle.core_state.proofs.LivesFollow.{heaps_told, lives_told}
 use Rattle.core_state.proofs.PageUses.{uses_told}
 
 pub state_told : StateFollows
@@ -15,5 +16,7 @@ state_told pages xid_limit R l =
       commits = k.commits_are;
       deleted = k.deleted;
       inserted = k.inserted;
+      heaps = heaps_told pages xid_limit R l.valid;
+      lives = lives_told pages xid_limit R l.valid;
       uses = uses_told pages xid_limit R l.valid;
     }

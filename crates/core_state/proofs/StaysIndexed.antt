@@ -7,11 +7,11 @@ use Rattle.ts_base.specs.Keys.{Key, keys_of}
 use Rattle.page_types.specs.declared.page.Head.{Head}
 use Rattle.page_types.specs.declared.record.Record.{Record}
 use Rattle.core_state.specs.Log.{Log, Pages, In, Shows, fate, next_serial}
-use Rattle.core_state.specs.Documents.{Doc, Has, IsWhole, IsDead, placed, head_of}
+use Rattle.core_state.specs.Documents.{Doc, Has, IsWhole, IsDead, placed, head_of, doc_at}
 use Rattle.core_state.specs.Index.{Pending, HasRow, AllMain, IsIndexed}
-use Rattle.core_state.specs.Bullets.{WasIndexed, IsWanted}
+use Rattle.core_state.specs.Bullets.{WasIndexed, MustBeIndexed}
 use Rattle.core_state.specs.Legal.{RowHolds}
-use Rattle.core_state.specs.Inner.HeadsKept.{doc_at, HeadsKept}
+use Rattle.core_state.specs.Inner.HeadsKept.{HeadsKept}
 use Rattle.core_state.specs.Inner.Effects.{Moved, Effects, AreIndexed}
 use Rattle.core_state.specs.declared.answers.Fate.TheVariants.{Running, Aborted, Committed}
 use Rattle.core_state.proofs.Showing.{shown_one}
@@ -144,7 +144,7 @@ module _ (n level : ℕ) (R : Log) (P Q : Pages) (r : Record) (floor since : ℕ
       bad a b c x y z = omega (arith, x, y, z)
 
   -- before the record it was kept as well
-  kept_before : (d : Doc) → WasIndexed R d → IsWanted (r ∷ R) Q n d → Kept d × IsIndexed P d
+  kept_before : (d : Doc) → WasIndexed R d → MustBeIndexed (r ∷ R) Q n d → Kept d × IsIndexed P d
   kept_before d was (inl alive) =
       let now : IsDead R n d → ⊥ = λ z. alive (dead_stays R r D.xids (fate_step R P Q r floor since D.xids row) n d
       z) in

@@ -35,3 +35,4 @@ pub mod Forward
 pub mod LiveLists
 pub mod Behinds
 pub mod InnerStays
+pub mod LeafOrder

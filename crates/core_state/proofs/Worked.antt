@@ -87,7 +87,7 @@ heap_bytes : page_bytes (heap_page 1) ≡ (2 ∷ 0 ∷ 1 ∷ 0 ∷ 0 ∷ 0 ∷ 0
 unfolding page_bytes front_bytes framed u16_bytes u32_bytes u64_bytes zeros head_bytes
 heap_bytes = refl
 
-abbrev made : Pages
+abbrev pub made : Pages
 made zero = meta_page
 made (suc zero) = root_page
 made (suc (suc p)) = free_page
@@ -115,10 +115,10 @@ abbrev begin_record : ℕ → Record
 begin_record xid = record { number = 2; xid = xid; kind = kind.Begin; changes = [] }
 
 -- the head that is placed is of this transaction
-abbrev head_record : ℕ → Record
+abbrev pub head_record : ℕ → Record
 head_record xid = record { number = 3; xid = 1; kind = kind.PlaceHead 4096 1; changes = image 2 (heap_page xid) ∷ [] }
 
-abbrev commit_record : Record
+abbrev pub commit_record : Record
 commit_record = record { number = 4; xid = 1; kind = kind.Commit 1; changes = [] }
 
 abbrev log_made : Log
@@ -198,11 +198,11 @@ shown_made (suc zero) = (root_is, refl)
 shown_made (suc (suc p)) =
     (free_is, (shown_none (suc (suc p))).1 ∙ sym (replay_kept [] create_record (suc (suc p)) (behind_two p)))
 
-shown_begun : Shows log_begun made
+pub shown_begun : Shows log_begun made
 unfolding replay
 shown_begun p = shown_made p
 
-shown_placed : Shows log_placed (placed_by 1)
+pub shown_placed : Shows log_placed (placed_by 1)
 unfolding replay edited
 shown_placed zero = (meta_is, refl)
 shown_placed (suc zero) = (root_is, refl)
@@ -329,7 +329,7 @@ vector_there = (
   },
 )
 
-ready : (d : Doc) → In d (doc ∷ []) → (v : Vector) × HasVector (placed_by 1) d v
+pub ready : (d : Doc) → In d (doc ∷ []) → (v : Vector) × HasVector (placed_by 1) d v
 ready d (inl e) = (vector, subst (λ x. HasVector (placed_by 1) x vector) (sym e) vector_there)
 ready d (inr i) = absurd i
 
@@ -471,7 +471,7 @@ no_checkpoint r redo (inr (inr (inl e))) k = let f = sym (ap (λ (x : Record). x
 no_checkpoint r redo (inr (inr (inr (inl e)))) k = let f = sym (ap (λ (x : Record). x.kind) e) ∙ k in cc
 no_checkpoint r redo (inr (inr (inr (inr e)))) k = absurd e
 
-legal : IsLegal first_run
+pub legal : IsLegal first_run
 legal = record {
   valid = rows_valid;
   images = are_images;

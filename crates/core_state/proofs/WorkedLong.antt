@@ -21,10 +21,10 @@ use Rattle.core_state.proofs.Histories.{chain_one}
 use Rattle.core_state.proofs.Worked as first
 
 -- the document, its head with this first overflow page, and the pages
-abbrev doc : ℕ → Doc
+abbrev pub doc : ℕ → Doc
 doc serial = record { item = 4096; serial = serial }
 
-abbrev head : ℕ → Head
+abbrev pub head : ℕ → Head
 head overflow = record {
   serial = 1;
   inserted_by = 1;
@@ -36,10 +36,10 @@ head overflow = record {
   vector = [];
 }
 
-abbrev heap_page : ℕ → ℕ → Page
+abbrev pub heap_page : ℕ → ℕ → Page
 heap_page stamp overflow = record { right = 0; stamp = stamp; body = body.Heap (Some (head overflow) ∷ []) }
 
-abbrev part_page : ℕ → ℕ → List ℕ → Page
+abbrev pub part_page : ℕ → ℕ → List ℕ → Page
 part_page stamp right part = record { right = right; stamp = stamp; body = body.Overflow part }
 
 abbrev placed : Pages
@@ -49,14 +49,14 @@ placed (suc (suc zero)) = heap_page 3 0
 placed (suc (suc (suc p))) = free_page
 
 -- with the last part, whose page leads to `right`; with the middle one before it; and with the first
-abbrev one_part : ℕ → List ℕ → Pages
+abbrev pub one_part : ℕ → List ℕ → Pages
 one_part right last zero = first.meta_page
 one_part right last (suc zero) = first.root_page
 one_part right last (suc (suc zero)) = heap_page 4 3
 one_part right last (suc (suc (suc zero))) = part_page 4 right last
 one_part right last (suc (suc (suc (suc p)))) = free_page
 
-abbrev two_parts : List ℕ → List ℕ → Pages
+abbrev pub two_parts : List ℕ → List ℕ → Pages
 two_parts last middle zero = first.meta_page
 two_parts last middle (suc zero) = first.root_page
 two_parts last middle (suc (suc zero)) = heap_page 5 4
@@ -86,7 +86,7 @@ head_record = record {
 abbrev log_placed : Log
 log_placed = head_record ∷ first.log_begun
 
-abbrev put_record : ℕ → ℕ → ℕ → Pages → Record
+abbrev pub put_record : ℕ → ℕ → ℕ → Pages → Record
 put_record serial number page Q = record {
   number = number;
   xid = 1;
@@ -95,7 +95,7 @@ put_record serial number page Q = record {
       (Q page) ∷ [];
 }
 
-abbrev log_one : List ℕ → Log
+abbrev pub log_one : List ℕ → Log
 log_one last = put_record 1 4 3 (one_part 0 last) ∷ log_placed
 
 abbrev log_two : List ℕ → List ℕ → Log
@@ -112,7 +112,7 @@ not_whole : (P : Pages) (h : Head) (qs : List ℕ) → most_short < h.bytes → 
     → length (parts P qs) < h.bytes → (v : Vector) → IsWhole P h v → ⊥
 not_whole P h qs long chain few v w = omega (arith, few_bytes P h w.bytes qs w.there long chain few, w.size)
 
-others_stay : (a b j : ℕ) → j ≢ 0 → slot_at (Some (head b) ∷ []) j ≡ slot_at (Some (head a) ∷ []) j
+pub others_stay : (a b j : ℕ) → j ≢ 0 → slot_at (Some (head b) ∷ []) j ≡ slot_at (Some (head a) ∷ []) j
 others_stay a b zero off = absurd (off refl)
 others_stay a b (suc j) off = refl
 
@@ -135,7 +135,7 @@ used_in_placed (suc zero) l e = cc
 used_in_placed (suc (suc zero)) l e = cc
 used_in_placed (suc (suc (suc q))) l e = absurd (omega (arith, l))
 
-used_in_one : (last : List ℕ) (q : ℕ) → q < 4 → use_in (one_part 0 last) q ≢ usage.Unused
+pub used_in_one : (last : List ℕ) (q : ℕ) → q < 4 → use_in (one_part 0 last) q ≢ usage.Unused
 used_in_one last zero l e = cc
 used_in_one last (suc zero) l e = cc
 used_in_one last (suc (suc zero)) l e = cc

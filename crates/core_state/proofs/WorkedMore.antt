@@ -39,13 +39,13 @@ second_head = record {
       first.bytes;
 }
 
-abbrev two_slots : List (Option Head)
+abbrev pub two_slots : List (Option Head)
 two_slots = Some (first.head 1) ∷ Some second_head ∷ []
 
-abbrev two_heads : Page
+abbrev pub two_heads : Page
 two_heads = record { right = 0; stamp = 7; body = body.Heap two_slots }
 
-abbrev with_two : Pages
+abbrev pub with_two : Pages
 with_two zero = first.meta_page
 with_two (suc zero) = first.root_page
 with_two (suc (suc zero)) = two_heads
@@ -317,22 +317,22 @@ commit_of_one P Q floor since (RowHolds.drop_page x) = let f = x.here.kind_is in
 commit_of_one P Q floor since (RowHolds.free_slots x) = let f = x.here.kind_is in cc
 
 -- a transaction 3 marks the first document: the row of MarkDeleted holds
-abbrev log_third : Log
+abbrev pub log_third : Log
 log_third = record { number = 9; xid = 3; kind = kind.Begin; changes = [] } ∷ second_run
 
-abbrev marked_slots : List (Option Head)
+abbrev pub marked_slots : List (Option Head)
 marked_slots = Some (record (first.head 1) { deleted_by = 3 }) ∷ Some second_head ∷ []
 
-abbrev marked_page : Page
+abbrev pub marked_page : Page
 marked_page = record { right = 0; stamp = 10; body = body.Heap marked_slots }
 
-abbrev with_mark : Pages
+abbrev pub with_mark : Pages
 with_mark zero = first.meta_page
 with_mark (suc zero) = first.root_page
 with_mark (suc (suc zero)) = marked_page
 with_mark (suc (suc (suc p))) = free_page
 
-abbrev mark_record : Record
+abbrev pub mark_record : Record
 mark_record = record {
   number = 10;
   xid = 3;
@@ -340,7 +340,7 @@ mark_record = record {
   changes = first.image 2 marked_page ∷ [];
 }
 
-other_slots : (j : ℕ) → j ≢ 0 → slot_at marked_slots j ≡ slot_at two_slots j
+pub other_slots : (j : ℕ) → j ≢ 0 → slot_at marked_slots j ≡ slot_at two_slots j
 other_slots zero off = absurd (off refl)
 other_slots (suc j) off = refl
 

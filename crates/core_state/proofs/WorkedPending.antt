@@ -83,7 +83,7 @@ with_link = linked first.root_page
 abbrev pub with_cat : Pages
 with_cat = linked (leaf_page 6 (entry cat_key ∷ []))
 
-abbrev with_both : Pages
+abbrev pub with_both : Pages
 with_both = linked (leaf_page 7 (entry cat_key ∷ entry fat_key ∷ []))
 
 abbrev pub shifted : Pages
@@ -362,7 +362,7 @@ fat_row = record {
     cat_below e (inr f) = absurd f
 
 -- 12: then its row leaves the pending list
-main_there : (k : Key) (e : on_page.Entry) → e ≡ entry k → In e (entries_of (with_both 1)) → Main with_both k 4096
+pub main_there : (k : Key) (e : on_page.Entry) → e ≡ entry k → In e (entries_of (with_both 1)) → Main with_both k 4096
 main_there k e is on = record {
   page = 1;
   entry = e;
@@ -413,7 +413,7 @@ some_one : (h k : Head) → Some h ≡ Some k → h ≡ k
 some_one h k e = cc
 
 -- but not before the second key is in the tree
-no_fat : (i : ℕ) → Main with_cat fat_key i → ⊥
+pub no_fat : (i : ℕ) → Main with_cat fat_key i → ⊥
 no_fat i m = none m.page m.entry m.on m.key
   where
     none : (p : ℕ) (e : on_page.Entry) → In e (entries_of (with_cat p)) → e.key ≡ fat_key → ⊥
@@ -452,7 +452,7 @@ log_aborted = record { number = 4; xid = 1; kind = kind.Abort; changes = [] } �
 abbrev free_slots : Page
 free_slots = record { right = 0; stamp = 5; body = body.Heap (None ∷ []) }
 
-abbrev freed : Pages
+abbrev pub freed : Pages
 freed zero = first.meta_page
 freed (suc zero) = first.root_page
 freed (suc (suc zero)) = free_slots

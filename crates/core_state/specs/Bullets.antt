@@ -41,13 +41,13 @@ pub record WasIndexed (R : Log) (d : Doc) : Type 0 where
   pub shown : Shows then pages
   pub indexed : IsIndexed pages d
 
--- the document isn't dead, or it has its slot and a linked row
-abbrev pub IsWanted : Log → Pages → ℕ → Doc → Type 0
-IsWanted R P floor d = (IsDead R floor d → ⊥) ⊎ ((h : Head) × Has P d h × HasRow P d.item)
+-- the document must be indexed: it isn't dead, or it has its slot and a linked row
+abbrev pub MustBeIndexed : Log → Pages → ℕ → Doc → Type 0
+MustBeIndexed R P floor d = (IsDead R floor d → ⊥) ⊎ ((h : Head) × Has P d h × HasRow P d.item)
 
 -- a document that was indexed is so as long as it isn't dead, and while it has a linked row
 abbrev pub StaysIndexed : Log → Pages → ℕ → Type 0
-StaysIndexed R P floor = (d : Doc) → WasIndexed R d → IsWanted R P floor d → IsIndexed P d
+StaysIndexed R P floor = (d : Doc) → WasIndexed R d → MustBeIndexed R P floor d → IsIndexed P d
 
 -- page q is p, or comes behind it along right links
 pub data Rightward (P : Pages) (p : ℕ) : ℕ → Type 0 where
@@ -113,7 +113,7 @@ DeletedStays R P pin =
     → (P' p).body ≡ body.Deleted g
     → pin.length < (P' p).stamp → P p ≡ P' p
 
--- where a page may stand
+-- where a page belongs
 pub data Place : Type 0 where
   meta : Place
   heap : Place

@@ -16,6 +16,10 @@ pub record Doc : Type 0 where
   pub item : ℕ
   pub serial : ℕ
 
+-- the document with this item and this serial
+abbrev pub doc_at : ℕ → ℕ → Doc
+doc_at item serial = record { item = item; serial = serial }
+
 -- the heap page of an item
 abbrev pub page_of : ℕ → ℕ
 page_of item = item / most_slots

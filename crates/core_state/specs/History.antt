@@ -2,11 +2,12 @@
 use Rattle.std.specs.Prelude.{◌≡◌, ◌≢◌, ◌⊎◌, ℕ, Bool, not, if◌then◌else◌, nat_lt, ◌==◌, List, [], ◌∷◌, ◌++◌, map, take, Some, ⊤}
 use Rattle.std.specs.List.{flat_map, filter, All, AllPairs, Contains, list_any, slice_get}
 use Rattle.ts_base.specs.Vectors.{Vector}
+use Rattle.page_types.specs.declared.page.Head.{Head}
 use Rattle.page_types.specs.declared.page.Name.{Name}
 use Rattle.page_types.specs.declared.record.Kind.{Kind}
 use Rattle.page_types.specs.declared.record.Kind.TheVariants as kind
 use Rattle.core_state.specs.Log.{Log, Pages, Shows}
-use Rattle.core_state.specs.Documents.{Doc, HasVector, name_of, placed, marked}
+use Rattle.core_state.specs.Documents.{Doc, Has, IsWhole, name_of, placed, marked}
 
 -- a document: its name and its vector
 pub record Document : Type 0 where
@@ -81,13 +82,26 @@ pub record IsLawful (commits : History) : Type 0 where
   pub apart_places : (n : ℕ)
       → AllPairs (λ (a b : Document). AreApart a.name b.name) (docs (take n commits))
 
--- these are the documents that a transaction placed, each with the vector that stands in these
+-- what a document has beside its name, as its head and its chain tell: its vector
+abbrev pub HasContent : Pages → Head → Document → Type 0
+HasContent P h D = IsWhole P h D.vector
+
+-- the document stands in these pages: it has its slot and its content
+pub record IsStored (P : Pages) (D : Document) : Type 0 where
+  pub doc : Doc
+  pub head : Head
+  pub name : D.name ≡ name_of doc
+  pub has : Has P doc head
+  pub content : HasContent P head D
+
+-- these are the documents that a transaction placed, each with the content that stands in these
 -- pages
 abbrev pub AreInserts : Pages → List Doc → List Document → Type 0
 AreInserts P [] [] = ⊤
 AreInserts P [] (i ∷ is) = ⊥
 AreInserts P (d ∷ ds) [] = ⊥
-AreInserts P (d ∷ ds) (i ∷ is) = (i.name ≡ name_of d) × HasVector P d i.vector × AreInserts P ds is
+AreInserts P (d ∷ ds) (i ∷ is) =
+    (i.name ≡ name_of d) × ((h : Head) × Has P d h × HasContent P h i) × AreInserts P ds is
 
 -- c is the commit of transaction x behind the log R
 pub record IsCommitOf (R : Log) (x : ℕ) (c : Commit) : Type 0 where

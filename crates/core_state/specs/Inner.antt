@@ -2,9 +2,9 @@
 pub mod Lists
 pub mod Rising
 pub mod Placing
+pub mod HeadChanges
 pub mod Lowest
 pub mod Begun
-pub mod Nodes
 pub mod Shapes
 pub mod Ghosts
 pub mod Kinds
@@ -14,8 +14,9 @@ pub mod Effects
 pub mod LineSteps
 pub mod XidsDrawn
 pub mod HeadsKept
-pub mod Ext
-pub mod TreeNodes
+pub mod PeakTrees
+pub mod Ranks
+pub mod LivesKept
 pub mod TreePlaces
 pub mod PageKinds
 pub mod ItemChains

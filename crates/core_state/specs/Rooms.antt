@@ -11,13 +11,14 @@ use Rattle.core_state.specs.declared.transactions.Transaction.{Transaction}
 
 -- How much has room: the uses of the pages below `pages`; so many fates, freed pages, and names of
 -- one running transaction, those that are there included; and so many more running transactions,
--- and commits, with so many more names that they delete or insert.
+-- documents, and commits, with so many more names that they delete or insert.
 pub record Room : Type 0 where
   pub pages : ℕ
   pub fates : ℕ
   pub running : ℕ
   pub freed : ℕ
   pub names : ℕ
+  pub serials : ℕ
   pub deletes : ℕ
   pub deleted : ℕ
   pub inserts : ℕ
@@ -36,8 +37,9 @@ pub record FitsCommit (m : Room) (t : Transaction) : Type 0 where
   pub inserted : length t.inserted ≤ m.inserted
 
 -- one name more that the transaction places has room
-abbrev pub FitsPlaced : Room → Transaction → Type 0
-FitsPlaced m t = length t.inserted < m.names
+pub record FitsPlaced (m : Room) (t : Transaction) : Type 0 where
+  pub names : length t.inserted < m.names
+  pub serials : 0 < m.serials
 
 -- one name more that the transaction marks has room
 abbrev pub FitsMarked : Room → Transaction → Type 0
@@ -70,6 +72,7 @@ pub record HasRoomToInsert (h : Held) : Type 0 where
   pub fates : length h.value.fates < h.room.fates
   pub running : 0 < h.room.running
   pub names : 0 < h.room.names
+  pub serials : 0 < h.room.serials
   pub deletes : 0 < h.room.deletes
   pub inserts : 0 < h.room.inserts
   pub inserted : 0 < h.room.inserted
@@ -83,9 +86,10 @@ pub record KeepsLists (old new : Room) : Type 0 where
 
 -- what a record of this kind and xid leaves of the room, beside that of pages
 abbrev pub LeavesRoom : Kind → ℕ → Room → Room → Type 0
-LeavesRoom kind.Begin x old new = KeepsLists old new × (new.names ≡ old.names)
+LeavesRoom kind.Begin x old new =
+    KeepsLists old new × (new.names ≡ old.names) × (new.serials ≡ old.serials)
 LeavesRoom (kind.PlaceHead item serial) x old new = KeepsLists old new
 LeavesRoom kind.Abort x old new =
     x ≡ 0 → KeepsLists old new × (new.names ≡ old.names) × (new.fates ≡ old.fates)
-    × (old.running ≤ new.running)
+    × (old.running ≤ new.running) × (new.serials ≡ old.serials)
 LeavesRoom _ x old new = ⊤

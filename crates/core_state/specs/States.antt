@@ -1,5 +1,5 @@
 -- What the program keeps of a log, and how it follows each record.
-use Rattle.std.specs.Prelude.{◌≡◌, ℕ, zero, suc, ◌-◌, ◌^◌, ◌&&◌, ◌==◌, not, nat_lt, cond, if◌then◌else◌, max, List, [], ◌∷◌, ◌++◌, length, get_or, set, map, replicate, Option, Some, None}
+use Rattle.std.specs.Prelude.{◌≡◌, ◌↔◌, ℕ, zero, suc, ◌-◌, ◌^◌, ◌&&◌, ◌==◌, not, nat_lt, cond, if◌then◌else◌, max, List, [], ◌∷◌, ◌++◌, length, get_or, set, map, replicate, Option, Some, None}
 use Rattle.std.specs.List.{filter}
 use Rattle.page_types.specs.Numbers.{page_limit}
 use Rattle.page_types.specs.declared.page.Name.{Name}
@@ -9,12 +9,15 @@ use Rattle.page_types.specs.declared.record.Edit.TheVariants.{Image, Delta}
 use Rattle.page_types.specs.declared.record.Record.{Record}
 use Rattle.page_types.specs.declared.record.Kind.{Kind}
 use Rattle.page_types.specs.declared.record.Kind.TheVariants as kind
-use Rattle.core_state.specs.Log.{Log, Pages, Shows, changed, xid_bound, commits, next_xid, next_serial, fate, redo_of}
+use Rattle.core_state.specs.Log.{Log, Pages, In, Shows, changed, xid_bound, commits, next_xid, next_serial, fate, redo_of}
 use Rattle.core_state.specs.Documents.{Doc, page_of, name_of}
 use Rattle.core_state.specs.History.{Document, Commit, History, IsHistory}
 use Rattle.core_state.specs.Known.{Known, use_in}
+use Rattle.core_state.specs.Lives.{IsLife, IsHeapPage, placer, with_ends, life_in}
 use Rattle.core_state.specs.Legal.{IsLegal}
 use Rattle.core_state.specs.declared.transactions.Transaction.{Transaction}
+use Rattle.core_state.specs.declared.lives.Placed.{Placed}
+use Rattle.core_state.specs.declared.lives.Life.{Life}
 use Rattle.core_state.specs.declared.answers.Fate.{Fate}
 use Rattle.core_state.specs.declared.answers.Fate.TheVariants.{Unused, Running, Aborted, Committed}
 use Rattle.core_state.specs.declared.answers.PageUse.{PageUse}
@@ -23,8 +26,10 @@ use Rattle.core_state.specs.declared.answers.PageUse.TheVariants as usage
 -- What is kept: how many pages a store may have, and where its xids end; the number of the last
 -- record; the fates of the xids 1, 2 and so on; the uses of the pages 0, 1 and so on; the next
 -- serial; the last redo number; the names that each commit deleted, and those that it inserted; the
--- running transactions; the page of the last placed head, or that with which the run began; the
--- highest heap page; and the heap pages where this run freed a slot, in rising order.
+-- documents that were placed, with the serials 1, 2 and so on, and the commits that deleted them, 0
+-- where none did; the running transactions; the page of the last placed head, or that with which the
+-- run began; the highest heap page; the heap pages, on which a head was placed, in rising order; and
+-- those where this run freed a slot, in rising order.
 pub record StateValue : Type 0 where
   pub pages : ℕ
   pub xid_limit : ℕ
@@ -35,9 +40,12 @@ pub record StateValue : Type 0 where
   pub redo : ℕ
   pub deleted : List (List Name)
   pub inserted : List (List Name)
+  pub placed : List Placed
+  pub ends : List ℕ
   pub running : List Transaction
   pub current : Option ℕ
   pub highest : Option ℕ
+  pub heaps : List ℕ
   pub freed : List ℕ
 
 -- the state of an empty log
@@ -52,9 +60,12 @@ empty_state pages xid_limit = record {
   redo = 1;
   deleted = [];
   inserted = [];
+  placed = [];
+  ends = [];
   running = [];
   current = None;
   highest = None;
+  heaps = [];
   freed = [];
 }
 
@@ -71,6 +82,10 @@ fate_of s x = fate_at s.fates x
 -- the use of a page
 abbrev pub use_of : StateValue → ℕ → PageUse
 use_of s p = get_or s.uses p usage.Unused
+
+-- the commits that inserted and deleted the document of this name; none where no commit inserted it
+abbrev pub life_of : StateValue → Name → Option Life
+life_of s n = life_in (fate_of s) s.ends n (placer s.placed n)
 
 -- what a state knows of its log and of the pages
 abbrev pub known_by : StateValue → Known
@@ -169,6 +184,7 @@ committed n x (Some t) s = if n == suc (length s.deleted)
       fates = with_fate x (Committed n) s.fates;
       deleted = s.deleted ++ t.deleted ∷ [];
       inserted = s.inserted ++ t.inserted ∷ [];
+      ends = with_ends n s.placed t.deleted s.ends;
       running = without x s.running;
     }
     else s
@@ -193,9 +209,12 @@ placed_head None d s = s
 placed_head (Some t) d s = if (d.serial == s.next_serial) && nat_lt d.serial (suc last_serial)
     then record s {
       next_serial = suc d.serial;
+      placed = s.placed ++ record { item = d.item; xid = t.xid } ∷ [];
+      ends = s.ends ++ 0 ∷ [];
       running = replaced (with_placed (name_of d) t) s.running;
       current = Some (page_of d.item);
       highest = higher (page_of d.item) s.highest;
+      heaps = with_page (page_of d.item) s.heaps;
     }
     else s
 
@@ -262,6 +281,8 @@ pub record StateTells (R : Log) (s : StateValue) : Type 0 where
   pub deleted : (H : History) → IsHistory R H → s.deleted ≡ map (λ (c : Commit). c.deleted) H
   pub inserted : (H : History) → IsHistory R H
       → s.inserted ≡ map (λ (c : Commit). names c.inserted) H
+  pub heaps : (p : ℕ) → In p s.heaps ↔ IsHeapPage R p
+  pub lives : (n : Name) → IsLife R n (life_of s n)
   pub uses : (P : Pages) → Shows R P → (p : ℕ) → use_of s p ≡ use_in P p
 
 -- the state of a legal log tells of it

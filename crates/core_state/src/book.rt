@@ -1,13 +1,17 @@
 // What is kept of a log's transactions, numbers and commits.
 ghost use Rattle.std.specs.Prelude.{◌≡◌, ◌≢◌, ◌↔◌, ◌<◌, ◌≤◌, ◌+◌, ◌-◌, ℕ, suc, true, [], length, IfSome, OnOk, IsOk, Some};
 ghost use Rattle.std.specs.List.{slice_get};
-ghost use Rattle.core_state.specs.States.{empty_state, begun, committed, aborted, placed_head, marked_head, transaction, ended_all, stepped, with_fate, without, fate_of, heap_pages, run_started, pages_of};
+ghost use Rattle.core_state.specs.States.{empty_state, begun, committed, aborted, placed_head, marked_head, transaction, ended_all, stepped, with_fate, without, fate_of, life_of, heap_pages, run_started, pages_of};
 ghost use Rattle.core_state.specs.Documents as documents;
+ghost use Rattle.core_state.specs.Log.{In};
+ghost use Rattle.core_state.specs.PageChoice.{IsLeastIfAny};
 ghost use Rattle.page_types.specs.declared.record.Kind.TheVariants as kind;
 ghost use Rattle.core_state.specs.Rooms.{FitsCommit, FitsPlaced, FitsMarked, HasRoomFor, HasRoomToInsert, LeavesRoom};
 
 use crate::answers::Fate;
 use crate::freed::note_freed;
+use crate::heaps::HeapPages;
+use crate::lives::{Life, Lives};
 use crate::names::NameLists;
 use crate::running::RunningOnes;
 use crate::transactions::{fate_in, set_fate};
@@ -32,15 +36,17 @@ pub(crate) struct Book {
     pub(crate) redo: u64,
     pub(crate) deleted: NameLists,
     pub(crate) inserted: NameLists,
+    pub(crate) lives: Lives,
     pub(crate) running: RunningOnes,
     pub(crate) spare: Vec<Name>,
     pub(crate) current: Option<u32>,
     pub(crate) highest: Option<u32>,
+    pub(crate) heaps: HeapPages,
     pub(crate) freed: Vec<u32>,
 }
 
 impl Model for Book {
-    ghost use Rattle.std.specs.Prelude.{◌≡◌, ◌<◌, ◌≤◌, ◌^◌, suc, [], length};
+    ghost use Rattle.std.specs.Prelude.{◌≡◌, ◌<◌, ◌≤◌, ◌^◌, suc, min, [], length};
     ghost use Rattle.std.specs.Vec.{vec_capacity};
     ghost use Rattle.core_state.specs.Inner.Rising.{AreRising};
     ghost use Rattle.page_types.specs.declared.record.Kind.TheVariants as kind;
@@ -59,9 +65,12 @@ impl Model for Book {
         redo = b.redo;
         deleted = b.deleted.lists;
         inserted = b.inserted.lists;
+        placed = b.lives.placed;
+        ends = b.lives.ends;
         running = b.running.list;
         current = b.current;
         highest = b.highest;
+        heaps = b.heaps.pages;
         freed = b.freed.items;
       };
       room = record {
@@ -70,6 +79,7 @@ impl Model for Book {
         running = b.running.left;
         freed = vec_capacity b.freed;
         names = vec_capacity b.spare;
+        serials = min b.lives.left b.heaps.left;
         deletes = b.deleted.lists_left;
         deleted = b.deleted.names_left;
         inserts = b.inserted.lists_left;
@@ -109,10 +119,12 @@ impl Book {
             redo: 1,
             deleted: NameLists::new(alloc),
             inserted: NameLists::new(alloc),
+            lives: Lives::new(alloc),
             running: RunningOnes::new(alloc),
             spare: Vec::new(alloc),
             current: None,
             highest: None,
+            heaps: HeapPages::new(alloc),
             freed: Vec::new(alloc),
         }
     }
@@ -145,7 +157,9 @@ impl Book {
         };
         let names = t.inserted.as_slice().len();
         self.spare.clear();
-        self.spare.reserve(names + 1)
+        self.spare.reserve(names + 1)?;
+        self.lives.reserve()?;
+        self.heaps.reserve()
     }
 
     // Makes room for one name more that transaction xid marks, if it runs.
@@ -198,6 +212,8 @@ impl Book {
         self.running.reserve()?;
         self.spare.clear();
         self.spare.reserve(1)?;
+        self.lives.reserve()?;
+        self.heaps.reserve()?;
         self.deleted.reserve(0)?;
         self.inserted.reserve(1)
     }
@@ -251,6 +267,7 @@ impl Book {
         }
         self.deleted.push(t.deleted.as_slice());
         self.inserted.push(t.inserted.as_slice());
+        self.lives.end(t.deleted.as_slice(), number);
         self.end(xid, Fate::Committed(number));
     }
 
@@ -272,9 +289,15 @@ impl Book {
             (record { item = item; serial = serial }) self.old.value }
         ensures room { LeavesRoom (kind.PlaceHead item serial) xid self.old.room self.new.room }
     {
-        if self.running.find(xid).is_none() || serial != self.next_serial || serial == u64::MAX {
+        let Some(t) = self.running.find(xid) else {
+            return;
+        };
+        let by = t.xid;
+        if serial != self.next_serial || serial == u64::MAX {
             return;
         }
+        self.lives.push(item, by);
+        self.heaps.note(item / MOST_SLOTS);
         let name = name_of(item, serial);
         self.running.note_placed(xid, name, &mut self.spare);
         self.next_serial = serial + 1;
@@ -396,6 +419,24 @@ impl Book {
     {
         self.current = self.highest;
         self.freed.clear();
+    }
+
+    // The lowest heap page that isn't below this page.
+    pub(crate) fn heap_from(&self, page: u32) -> Option<u32>
+        ensures { IsLeastIfAny (λ p. (page ≤ p) × In p self.now.value.heaps) result }
+    {
+        self.heaps.from(page)
+    }
+
+    // By which commits the document of this name was inserted and deleted.
+    pub(crate) fn document(&self, name: &Name) -> Option<Life>
+        ensures { result ≡ life_of self.now.value name.now }
+    {
+        let xid = self.lives.placer(name)?;
+        match self.fate(xid) {
+            Fate::Committed(inserted) => Some(self.lives.life(inserted, name.serial)),
+            _ => None,
+        }
     }
 
     // Transaction xid is aborted, if it runs.

@@ -7,7 +7,7 @@ ghost use Rattle.core_state.specs.Inner.Rising.{AreRising};
 use page_types::Change;
 
 // One page more among rising ones.
-fn note_page(freed: &mut Vec<u32>, page: u32)
+pub(crate) fn note_page(freed: &mut Vec<u32>, page: u32)
     requires rising { AreRising freed.old.items }
     requires room { length freed.old.items < vec_capacity freed.old }
     ensures pages { freed.new.items ≡ with_page page freed.old.items }

@@ -4,6 +4,8 @@ ghost use Rattle.core_state.specs.States.{StateFollows};
 ghost use Rattle.core_state.specs.Bullets.{BulletsHold};
 ghost use Rattle.core_state.specs.Standing.{DocumentsHold};
 ghost use Rattle.core_state.specs.Steady.{SteadyHold};
+ghost use Rattle.core_state.specs.PagesTold.{PagesHold};
+ghost use Rattle.core_state.specs.RecordKeeps.{RecordsKeep};
 
 /// The keys that stand on pages are those of vectors.
 pub fn keys_are_one()
@@ -60,4 +62,19 @@ pub fn steady_hold()
 /// under each pin that the log keeps; a head's deleting xid is 0 or has marked the document.
 pub fn documents_hold()
     ensures { DocumentsHold }
+{}
+
+/// What the pages of a legal log tell of each other: the metapage of the pending list, whose rows stand
+/// together and are of indexed documents; which kind stands where, so that none is free, deleted or
+/// another's; the bounds of trees, whose leaves are in order; and that a page's stamp is the number of
+/// the last record that changed it.
+pub fn pages_hold()
+    ensures { PagesHold }
+{}
+
+/// What one record more leaves as it is: a row that it links is its own transaction's; the kinds that
+/// move pairs to the trees lose none and change no head and no row; those that remove what is dead
+/// take nothing else.
+pub fn records_keep()
+    ensures { RecordsKeep }
 {}

@@ -8,11 +8,17 @@
 
 mod answers;
 mod book;
+mod calls;
 mod freed;
+mod heaps;
 mod laws;
+mod lives;
+mod marking;
 mod names;
+mod peaks;
 mod placing;
 mod running;
+mod sessions;
 mod settings;
 mod state;
 mod transactions;
@@ -22,9 +28,12 @@ mod valid;
 pub use answers::{Fate, PageUse};
 pub use laws::{
     bullets_hold, documents_hold, history_is_one, keys_are_one, newest_may_go, pages_are_shown,
-    state_follows, steady_hold, valid_is_monotone,
+    pages_hold, records_keep, state_follows, steady_hold, valid_is_monotone,
 };
+pub use lives::{Life, Placed};
+pub use marking::{valid_mark_deleted, valid_put_overflow};
 pub use placing::valid_place_head;
+pub use sessions::{logged_steps_hold, pins_hold, steps_hold, views_hold};
 pub use settings::Settings;
 pub use state::State;
 pub use transactions::{Names, Transaction};

@@ -7,6 +7,7 @@ ghost use Rattle.core_state.specs.Rooms.{HasRoom, HasRoomForPages, HasRoomToInse
 
 use crate::answers::{Fate, PageUse};
 use crate::book::Book;
+use crate::peaks::Peaks;
 use crate::uses::{lowest_from, note_uses, pages_end};
 use page_types::{Name, Record};
 use std::alloc::{AllocError, Global};
@@ -16,25 +17,31 @@ use std::marker::Model;
 /// numbers that are drawn next.
 #[derive(Debug, Drop)]
 pub struct State {
-    records: u64,
-    uses: Vec<PageUse>,
-    lowest: usize,
-    book: Book,
+    pub(crate) records: u64,
+    pub(crate) uses: Vec<PageUse>,
+    pub(crate) lowest: usize,
+    pub(crate) ranks: Peaks,
+    pub(crate) book: Book,
 }
 
 impl Model for State {
+    ghost use Rattle.std.specs.Prelude.{length, min, ◌≤◌};
     ghost use Rattle.std.specs.Vec.{vec_capacity};
-    ghost use Rattle.core_state.specs.Inner.Lowest.{IsLowest};
+    ghost use Rattle.page_types.specs.Numbers.{page_limit};
+    ghost use Rattle.core_state.specs.Inner.Lowest.{AreUses};
+    ghost use Rattle.core_state.specs.Inner.Ranks.{AreRanks};
     ghost use Rattle.core_state.specs.Rooms.{Held};
 
     ghost Value = { Held };
 
     ghost view = { λ s. record {
       value = record s.book.value { records = s.records; uses = s.uses.items };
-      room = record s.book.room { pages = vec_capacity s.uses };
+      room = record s.book.room { pages = min (vec_capacity s.uses) (length s.ranks) };
     } };
 
-    ghost invariant = { λ s. IsLowest s.uses.items s.lowest };
+    ghost invariant = { λ s. AreUses s.uses.items s.lowest
+        × (length s.uses.items ≤ page_limit)
+        × AreRanks s.uses.items s.ranks };
 }
 
 impl State {
@@ -47,6 +54,7 @@ impl State {
             records: 0,
             uses: Vec::new(alloc),
             lowest: 0,
+            ranks: Peaks::new(alloc),
             book: Book::new(alloc, pages, xid_limit),
         }
     }
@@ -58,8 +66,10 @@ impl State {
         ensures ok { HasRoom self.old rec.now → IsOk result }
     {
         let changes = rec.changes.as_slice();
-        let more = pages_end(changes).saturating_sub(self.uses.len());
+        let end = pages_end(changes);
+        let more = end.saturating_sub(self.uses.len());
         self.uses.reserve(more)?;
+        self.ranks.reserve(end)?;
         self.book.make_room(&rec.kind, rec.xid, changes.len())?;
         Ok(())
     }
@@ -83,8 +93,10 @@ impl State {
         ensures more { self.old.room.pages ≤ self.new.room.pages }
     {
         let changes = rec.changes.as_slice();
-        let more = pages_end(changes).saturating_sub(self.uses.len());
-        self.uses.reserve(more)
+        let end = pages_end(changes);
+        let more = end.saturating_sub(self.uses.len());
+        self.uses.reserve(more)?;
+        self.ranks.reserve(end)
     }
 
     /// Makes room for a transaction that begins next, places one document and commits, by these
@@ -117,7 +129,7 @@ impl State {
     {
         let changes = rec.changes.as_slice();
         self.book.turn(&rec.kind, rec.xid, changes);
-        note_uses(&mut self.uses, rec.number, changes);
+        note_uses(&mut self.uses, &mut self.ranks, rec.number, changes);
         self.lowest = lowest_from(&self.uses, self.lowest);
         self.records = rec.number;
     }

@@ -30,6 +30,7 @@
 //! printed, with the rule that is broken.
 #![tactic(auto)]
 
+mod choices;
 mod edits;
 mod folder;
 mod history;

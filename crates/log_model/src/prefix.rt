@@ -1,4 +1,5 @@
 // A log as far as it is valid, and whether a record may come behind it.
+use crate::choices::must_choose;
 use crate::images::must_have_images;
 use crate::told::{empty_state, must_find, must_tell};
 use core_state::State;
@@ -102,7 +103,7 @@ impl Prefix {
         for (page, bytes) in bytes {
             self.store.put_bytes(page, bytes)?;
         }
-        Ok(())
+        must_choose(&self.state, &self.ledger, &self.store, record)
     }
 }
 

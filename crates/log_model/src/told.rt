@@ -1,6 +1,7 @@
 // What the core tells of a log: its tests of the kinds of records that it has, and its state.
 use core_state::{
-    Fate, PageUse, State, valid_abort, valid_begin, valid_commit, valid_create, valid_place_head,
+    Fate, PageUse, State, valid_abort, valid_begin, valid_commit, valid_create, valid_mark_deleted,
+    valid_place_head, valid_put_overflow,
 };
 use log_walks::{Doc, Fault, Ledger, PlainPage, Store, must};
 use page_code::{PageError, decode_page};
@@ -11,7 +12,7 @@ use std::alloc::Global;
 pub(crate) const CORE_DIFFERS: &str = "the core and the walks agree";
 
 /// A log's pages are below this.
-const PAGES: u32 = 1_048_576;
+pub(crate) const PAGES: u32 = 1_048_576;
 
 /// Its xids are below this.
 const XIDS: u32 = 16_777_216;
@@ -55,6 +56,12 @@ fn test(
         Kind::Abort => valid_abort(alloc, state, record, before, behind, floor, since)?,
         Kind::PlaceHead { .. } => {
             valid_place_head(alloc, state, record, before, behind, floor, since)?
+        }
+        Kind::PutOverflow { .. } => {
+            valid_put_overflow(alloc, state, record, before, behind, floor, since)?
+        }
+        Kind::MarkDeleted { .. } => {
+            valid_mark_deleted(alloc, state, record, before, behind, floor, since)?
         }
         _ => return Ok(None),
     };

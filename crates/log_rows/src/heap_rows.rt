@@ -69,9 +69,9 @@ pub(crate) fn place_head(step: &Step<'_>, doc: Doc) -> Result<(), Fault> {
     must(no_pair, "no row and no posting has the item")
 }
 
-/// 7 PutOverflow: an own document, not whole, with a vector of more than 2000 bytes; the new page leads to the head's
+/// 7 PutOverflow, whole or not: an own document with a vector of more than 2000 bytes; the new page leads to the head's
 /// first overflow page and becomes the first; it holds 8168 bytes unless it ends the chain.
-pub(crate) fn put_overflow(step: &Step<'_>, doc: Doc) -> Result<(), Fault> {
+pub(crate) fn put_overflow_here(step: &Step<'_>, doc: Doc) -> Result<(), Fault> {
     let (heap, new) = step.two()?;
     let head = step.own_head(doc)?;
     let fields = head.fields;
@@ -79,8 +79,6 @@ pub(crate) fn put_overflow(step: &Step<'_>, doc: Doc) -> Result<(), Fault> {
         fields.bytes > MOST_SHORT_BYTES,
         "the vector is too long for its head",
     )?;
-    let whole = whole_keys(step.alloc, step.store, head)?.is_some();
-    must(!whole, "the document isn't whole")?;
     step.must_be_new(new)?;
     let part = match new.left.live() {
         Some(PlainBody::Overflow(part)) => part.len(),
@@ -94,6 +92,14 @@ pub(crate) fn put_overflow(step: &Step<'_>, doc: Doc) -> Result<(), Fault> {
     new.must_lead_to(fields.overflow)?;
     let overflow = new.page;
     step.head_becomes(heap, doc, HeadFields { overflow, ..fields })
+}
+
+/// 7 PutOverflow: besides, the document isn't whole.
+pub(crate) fn put_overflow(step: &Step<'_>, doc: Doc) -> Result<(), Fault> {
+    put_overflow_here(step, doc)?;
+    let head = step.own_head(doc)?;
+    let whole = whole_keys(step.alloc, step.store, head)?.is_some();
+    must(!whole, "the document isn't whole")
 }
 
 /// 8 MarkDeleted: the xid runs; the slot's head has the serial, its inserting xid has committed, its deleting xid was 0

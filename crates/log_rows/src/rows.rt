@@ -1,5 +1,7 @@
 // The row of a record's kind.
-use crate::heap_rows::{mark_deleted, place_head, place_head_here, put_overflow};
+use crate::heap_rows::{
+    mark_deleted, place_head, place_head_here, put_overflow, put_overflow_here,
+};
 use crate::item_rows::{add_items, add_postings, make_tree};
 use crate::pending_rows::{add_row, link_pending, put_pending, shift};
 use crate::shape_rows::{delete_post, grow_root, split};
@@ -37,7 +39,7 @@ pub fn row(step: &Step<'_>) -> Result<(), Fault> {
 }
 
 /// The same of the rules that speak of the record, of its pages before and after, of transactions and of the numbers that
-/// come next alone, for the kinds 1 to 4 and 6; none of another kind.
+/// come next alone, for the kinds 1 to 4 and 6 to 8; none of another kind.
 pub fn here(step: &Step<'_>) -> Option<Result<(), Fault>> {
     match step.record.kind {
         Kind::Create => Some(create(step)),
@@ -45,6 +47,8 @@ pub fn here(step: &Step<'_>) -> Option<Result<(), Fault>> {
         Kind::Commit { commit: number } => Some(commit_here(step, number)),
         Kind::Abort => Some(abort(step)),
         Kind::PlaceHead { item, serial } => Some(place_head_here(step, Doc { item, serial })),
+        Kind::PutOverflow { item, serial } => Some(put_overflow_here(step, Doc { item, serial })),
+        Kind::MarkDeleted { item, serial } => Some(mark_deleted(step, Doc { item, serial })),
         _ => None,
     }
 }

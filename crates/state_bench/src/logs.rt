@@ -1,6 +1,6 @@
 // The two logs.
 use core_state::State;
-use page_types::{Bytes, Change, Changes, Edit, Kind, Record};
+use page_types::{Bytes, Change, Changes, Edit, Kind, Name, Record};
 use std::alloc::{AllocError, Global};
 
 /// How many pages the store may have.
@@ -128,4 +128,56 @@ fn begin_all(follower: &mut Follower, count: u32) -> Result<(), AllocError> {
         follower.place(xid)?;
     }
     Ok(())
+}
+
+/// How many of the documents of the first log, by their names, a commit inserted and none deleted.
+pub(crate) fn living(state: &State, count: u32) -> u32 {
+    let mut found = 0u32;
+    for n in 0..count {
+        let xid = n.wrapping_add(1);
+        let item = ITEM.wrapping_add(xid);
+        let name = Name {
+            page: item / 2048,
+            slot: (item % 2048) as u16,
+            serial: u64::from(xid),
+        };
+        if let Some(life) = state.document(&name) {
+            if life.deleted.is_none() {
+                found = found.wrapping_add(1);
+            }
+        }
+    }
+    found
+}
+
+/// A state of a log whose records delete so many pages, the last page first.
+pub(crate) fn deleted_pages(alloc: Global, pages: u32) -> Result<State, AllocError> {
+    let mut state = State::new(alloc, PAGES, XIDS);
+    for n in 0..pages {
+        let edit = Edit::Delta {
+            front: [9, 0, 0, 0, 0, 0, 0, 0],
+            start: 0,
+            cut: 0,
+            bytes: Bytes::from_slice(alloc, &[])?,
+        };
+        let mut changes = Changes::new(alloc);
+        let page = pages.wrapping_sub(n);
+        changes.push(Change { page, edit })?;
+        let mut rec = record(changes);
+        rec.number = state.length().wrapping_add(1);
+        rec.kind = Kind::Shift;
+        state.step(&rec)?;
+    }
+    Ok(state)
+}
+
+/// The sum of the pages that may be used again under each of so many numbers of records, from 0 on.
+pub(crate) fn reusable_pages(state: &State, count: u64) -> u64 {
+    let mut sum = 0u64;
+    for since in 0..count {
+        if let Some(page) = state.reusable(since) {
+            sum = sum.wrapping_add(u64::from(page));
+        }
+    }
+    sum
 }

@@ -1,15 +1,17 @@
 //! Follows two logs by the core's state, and prints counts of what it tells then: one of a document
 //! for each transaction, and one of as many transactions that all run beside each other, which
-//! place a document, mark it, and then commit, abort or are ended with all others. With the word
-//! `time` there are a million in place of 10,000, and it is also printed how long each log takes;
-//! with the word `documents` only the first log is followed.
+//! place a document, mark it, and then commit, abort or are ended with all others. Behind the first
+//! log each document is looked up by its name, and pages to use again are looked for among many that
+//! were deleted. With the word `time` there are a million in place of 10,000, a tenth of that as
+//! deleted pages, and it is also printed how long each log and each look takes; with the word
+//! `documents` only the first log is followed.
 #![tactic(auto)]
 
 mod logs;
 
 use anyhow::Result;
 use core_state::{Fate, State};
-use logs::{Follower, follow_documents, follow_runners};
+use logs::{Follower, deleted_pages, follow_documents, follow_runners, living, reusable_pages};
 use std::alloc::Global;
 use std::env;
 use std::rt::{Clock, Env};
@@ -68,6 +70,40 @@ fn report(rt: &impl Print, what: &str, state: &State, seconds: f64, timed: bool)
     Ok(())
 }
 
+/// Prints a number that was found by so many looks, and how long a look took where that is asked for.
+fn report_looks(
+    rt: &impl Print,
+    what: &str,
+    found: u64,
+    looks: u32,
+    seconds: f64,
+    timed: bool,
+) -> Result<()> {
+    println!(rt; "{what}: {found}")?;
+    if timed && looks > 0 {
+        let each = seconds * 1_000_000_000.0 / f64::from(looks);
+        println!(rt; "{each:.0} ns each")?;
+    }
+    Ok(())
+}
+
+/// Looks up each document of the first log.
+fn look_up(rt: &(impl Print + Clock), follower: &Follower, count: u32, timed: bool) -> Result<()> {
+    let start = Instant::now(rt)?;
+    let found = living(&follower.state, count);
+    let seconds = start.elapsed(rt)?.as_secs_f64();
+    report_looks(rt, "documents", u64::from(found), count, seconds, timed)
+}
+
+/// Looks for pages to use again among so many deleted ones, of which at first all are held back.
+fn look_for_pages(rt: &(impl Print + Clock + AllocGlobal), pages: u32, timed: bool) -> Result<()> {
+    let state = deleted_pages(rt.alloc(), pages)?;
+    let start = Instant::now(rt)?;
+    let sum = reusable_pages(&state, u64::from(pages));
+    let seconds = start.elapsed(rt)?.as_secs_f64();
+    report_looks(rt, "deleted pages", sum, pages, seconds, timed)
+}
+
 /// The whole program.
 fn run(rt: &(impl Print + Env + Clock + AllocGlobal)) -> Result<()> {
     let alloc: Global = rt.alloc();
@@ -78,6 +114,8 @@ fn run(rt: &(impl Print + Env + Clock + AllocGlobal)) -> Result<()> {
     follow_documents(&mut follower, count)?;
     let seconds = start.elapsed(rt)?.as_secs_f64();
     report(rt, "one by one", &follower.state, seconds, timed)?;
+    look_up(rt, &follower, count, timed)?;
+    look_for_pages(rt, count / 10, timed)?;
     if documents {
         return Ok(());
     }

@@ -100,16 +100,16 @@ module _ (n L : ℕ) (R : Log) (P Q : Pages) (r : Record) (floor since : ℕ) (g
         ]
   ]
 
-  stays : (e : Entry) → In e x.here.front ⊎ In e x.here.back → EntryNow n R P Q g e
+  stays : (e : Entry) → In e x.here.front ⊎ In e x.here.back → EntryNow n R P Q r g e
   stays e i = EntryNow.now page e
       (subst (In e) (sym entries_are)
       (elim i [ inl f ↦ in_front e x.here.front _ f | inr k ↦ in_back e x.here.front _ (inr k) ])) refl refl
 
   on_page : (e : Entry) → IsEntryBetween x.here.entries x.here.front x.here.back x.here.key x.here.old_list
-      → In e x.here.entries → EntryNow n R P Q g e
+      → In e x.here.entries → EntryNow n R P Q r g e
   on_page e (inl s) i = elim (in_either e x.here.front _ (subst (In e) s i)) [
     | inl f ↦ stays e (inl f)
-    | inr (inl f) ↦ subst (EntryNow n R P Q g) (sym f)
+    | inr (inl f) ↦ subst (EntryNow n R P Q r g) (sym f)
         (EntryNow.listed x.here.old_list refl
         (λ j m. inl (MainAt.listed page added x.here.new_list in_now refl refl
         ((x.here.added.just j).1 (inl m)))))
@@ -117,9 +117,9 @@ module _ (n L : ℕ) (R : Log) (P Q : Pages) (r : Record) (floor since : ℕ) (g
   ]
   on_page e (inr s) i = stays e (in_either e x.here.front x.here.back (subst (In e) s.0 i))
 
-  entry_now : (q : ℕ) (e : Entry) → In e (entries_of (P q)) → EntryNow n R P Q g e
+  entry_now : (q : ℕ) (e : Entry) → In e (entries_of (P q)) → EntryNow n R P Q r g e
   entry_now q e i = elim (same_or_not page q) [
-    | inr off ↦ same_now n R P Q g g q e (ap entries_of (others q off)) i
+    | inr off ↦ same_now n R P Q g g r q e (ap entries_of (others q off)) i
     | inl s ↦ on_page e x.here.entry (subst (In e) entries_were (subst (λ (z : ℕ). In e (entries_of (P z))) s i))
   ]
 

@@ -11,8 +11,8 @@ use Rattle.core_state.specs.Log.{Log, Pages, In, changed}
 use Rattle.core_state.specs.Index.{Pending}
 use Rattle.core_state.specs.Changes.{left_with}
 use Rattle.core_state.specs.TreeRows.{IsAddPostings}
-use Rattle.core_state.specs.Inner.Ext.{Ext}
-use Rattle.core_state.specs.Inner.Ext.Ext.{at}
+use Rattle.core_state.specs.Trees.Ext.{Ext}
+use Rattle.core_state.specs.Trees.Ext.Ext.{at}
 use Rattle.core_state.specs.Inner.Ghosts.{Place, Ghost, post_place, post_ghost}
 use Rattle.core_state.specs.Inner.Ghosts.Place.{post}
 use Rattle.core_state.specs.Inner.Kinds.{Fits}
@@ -138,7 +138,7 @@ module _ (n L : ℕ) (R : Log) (P Q : Pages) (r : Record) (floor since : ℕ) (g
         page_1 = b.inv.starts.page_1 some;
         lowest = λ p q low free e. e;
         entry_was = λ q e i. same_was n R P Q g g q e (entries_same q) i;
-        entry_now = λ q e i. same_now n R P Q g g q e (entries_same q) i;
+        entry_now = λ q e i. same_now n R P Q g g r q e (entries_same q) i;
         leaf_was = leaf_was;
         leaf_now = λ q s i place m. inl (leaf_now q s i place m);
         root_on = λ s h place. (h, place);

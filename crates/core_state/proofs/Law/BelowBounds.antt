@@ -4,10 +4,10 @@ use Rattle.page_types.specs.declared.page.PostChild.{PostChild}
 use Rattle.page_types.specs.declared.page.Body.{Body}
 use Rattle.core_state.specs.Log.{Pages, In}
 use Rattle.core_state.specs.Index.{Below, children_in}
-use Rattle.core_state.specs.Inner.Ext.Ext.{greatest}
-use Rattle.core_state.specs.Inner.Nodes as nodes
-use Rattle.core_state.specs.Inner.Nodes.{AtMost}
-use Rattle.core_state.specs.Inner.TreeNodes.{post_child, post_nodes}
+use Rattle.core_state.specs.Trees.Ext.Ext.{greatest}
+use Rattle.core_state.specs.Trees.Nodes as nodes
+use Rattle.core_state.specs.Trees.Nodes.{AtMost}
+use Rattle.core_state.specs.Trees.TreeNodes.{post_child, post_nodes}
 use Rattle.core_state.specs.Inner.Ghosts.{Ghost, post_place, post_ghost}
 use Rattle.core_state.specs.Inner.Ghosts.Place.{post}
 use Rattle.core_state.proofs.Trees.Order.{at_most_trans}

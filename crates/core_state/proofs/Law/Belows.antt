@@ -11,9 +11,9 @@ use Rattle.page_types.specs.declared.page.Body.{Body}
 use Rattle.page_types.specs.declared.page.Body.TheVariants as body
 use Rattle.core_state.specs.Log.{Pages, In}
 use Rattle.core_state.specs.Index.{Below, Under, Main, children_in}
-use Rattle.core_state.specs.Inner.Ext.Ext.{greatest}
-use Rattle.core_state.specs.Inner.Nodes as nodes
-use Rattle.core_state.specs.Inner.TreeNodes.{post_child, post_body, post_nodes}
+use Rattle.core_state.specs.Trees.Ext.Ext.{greatest}
+use Rattle.core_state.specs.Trees.Nodes as nodes
+use Rattle.core_state.specs.Trees.TreeNodes.{post_child, post_body, post_nodes}
 use Rattle.core_state.specs.Inner.Ghosts.{Place, Ghost, post_place, post_ghost}
 use Rattle.core_state.specs.Inner.Ghosts.Place.{unused, meta, heap, line, past, shifted, left, entry, post, overflow_of, private_of}
 use Rattle.core_state.specs.Inner.Kinds.{Fits}

@@ -17,7 +17,7 @@ use Rattle.core_state.proofs.Law.EntryBounds.{entry_bounded, entry_below}
 use Rattle.core_state.proofs.Law.PostBounds.{post_bounded}
 
 -- a page that isn't free is none of an empty log's
-some_record : (R : Log) (P : Pages) (p : ℕ) (b : Body) → Shows R P → (P p).body ≡ b → b ≢ body.Free → R ≢ []
+pub some_record : (R : Log) (P : Pages) (p : ℕ) (b : Body) → Shows R P → (P p).body ≡ b → b ≢ body.Free → R ≢ []
 some_record [] P p b shown e n z = n (sym e ∙ ap (λ (T : Pages). (T p).body) (shown_one [] P none_yet shown shown_none))
 some_record (r ∷ R) P p b shown e n z = cc
 

@@ -12,7 +12,7 @@ use Rattle.core_state.specs.Documents.{page_of, slot_of, head_of}
 use Rattle.core_state.specs.Index.{Line}
 use Rattle.core_state.specs.Changes.{left_with}
 use Rattle.core_state.specs.TransactionRows.{IsCreate}
-use Rattle.core_state.specs.Inner.Nodes.{put}
+use Rattle.core_state.specs.Trees.Nodes.{put}
 use Rattle.core_state.specs.Inner.Ghosts.{Place, Ghost}
 use Rattle.core_state.specs.Inner.Ghosts.Place.{unused, meta, line, shifted, entry, post, overflow_of, private_of}
 use Rattle.core_state.specs.Inner.GhostSteps.{created}
@@ -20,12 +20,11 @@ use Rattle.core_state.specs.Inner.Kinds.{Fits, PagesStart, IsLined, AreChained, 
 use Rattle.core_state.specs.Inner.Owners.{RowsOwned}
 use Rattle.core_state.specs.Inner.Grouping.{RowsGrouped}
 use Rattle.core_state.specs.Inner.LineSteps.{LineStep}
-use Rattle.core_state.specs.VacuumRows.{MayLeave}
 use Rattle.core_state.proofs.PageLists.{same_or_not, two_pages}
 use Rattle.core_state.proofs.Chains.{none_chain}
 use Rattle.core_state.proofs.Trees.Order.{put_here, put_else}
 use Rattle.core_state.proofs.Law.MainPlaces.{MainAt}
-use Rattle.core_state.proofs.Law.Steps.{Before, Left, Case, CaseOf}
+use Rattle.core_state.proofs.Law.Steps.{Before, Left, Case, CaseOf, Departs}
 use Rattle.core_state.proofs.Law.CreateTrees.{all_free, none_used, create_trees}
 
 module _ (n L : ℕ) (R : Log) (P Q : Pages) (r : Record) (floor since : ℕ) (g : Ghost)
@@ -166,7 +165,7 @@ module _ (n L : ℕ) (R : Log) (P Q : Pages) (r : Record) (floor since : ℕ) (g
     on_private = λ q i w h e m f. absurd (not_at q (private_of i) (λ z. cc) (λ z. cc) (λ z. cc) e);
   }
 
-  main : (k : _) (i : ℕ) → MainAt P g k i → MainAt Q g' k i ⊎ MayLeave R P n i
+  main : (k : _) (i : ℕ) → MainAt P g k i → MainAt Q g' k i ⊎ Departs n R P r i
   main k i (MainAt.listed q e bytes on key of there) = absurd (subst (In e) (ap entries_of (free q)) on)
   main k i (MainAt.posted q s at key there) = let z : unused ≡ post s 0 = sym (used q) ∙ at in absurd (cc)
 

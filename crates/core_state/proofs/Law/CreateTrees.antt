@@ -7,10 +7,10 @@ use Rattle.page_types.specs.declared.record.Record.{Record}
 use Rattle.core_state.specs.Log.{Log, Pages, Shows, changed}
 use Rattle.core_state.specs.Changes.{left_with}
 use Rattle.core_state.specs.TransactionRows.{IsCreate}
-use Rattle.core_state.specs.Inner.Ext.Ext.{least, greatest}
-use Rattle.core_state.specs.Inner.Nodes as nodes
-use Rattle.core_state.specs.Inner.Nodes.{put}
-use Rattle.core_state.specs.Inner.TreeNodes.{entry_node, entry_nodes}
+use Rattle.core_state.specs.Trees.Ext.Ext.{least, greatest}
+use Rattle.core_state.specs.Trees.Nodes as nodes
+use Rattle.core_state.specs.Trees.Nodes.{put}
+use Rattle.core_state.specs.Trees.TreeNodes.{entry_node, entry_nodes}
 use Rattle.core_state.specs.Inner.Ghosts.{Ghost, entry_place, post_place, entry_ghost, post_ghost}
 use Rattle.core_state.specs.Inner.Ghosts.Place.{unused, meta, entry}
 use Rattle.core_state.specs.Inner.GhostSteps.{created}

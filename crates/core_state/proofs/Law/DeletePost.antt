@@ -216,7 +216,7 @@ module _ (n L : ℕ) (R : Log) (P Q : Pages) (r : Record) (floor since : ℕ) (g
         (h.0, else_now 1 (λ e. entry_not_post h.0 t 0 (sym h.1 ∙ ap g.place e ∙ at_page)) ∙ h.1);
     lowest = λ p q low free e. else_now p (λ s. unused_not_post (sym e ∙ ap g.place s ∙ at_page)) ∙ e;
     entry_was = λ q e i. same_was n R P Q g g' q e (entries_by q (by q)) i;
-    entry_now = λ q e i. same_now n R P Q g g' q e (entries_by q (by q)) i;
+    entry_now = λ q e i. same_now n R P Q g g' r q e (entries_by q (by q)) i;
     leaf_was = λ q s i at m. inl (leaf_same n R P Q g g' q s i (post_back q s 0 at) refl (items_by q (by q)) m);
     leaf_now = λ q s i at m. inl (leaf_now q s i at m);
     root_on = root_on;

@@ -12,11 +12,11 @@ use Rattle.core_state.specs.Index.{Below, children_in}
 use Rattle.core_state.specs.Changes.{left_with}
 use Rattle.core_state.specs.TreeRows.{TowardItem, IsDeletePost}
 use Rattle.core_state.specs.Bullets.{Rightward, StoodFrom}
-use Rattle.core_state.specs.Inner.Ext.{Ext}
-use Rattle.core_state.specs.Inner.Ext.Ext.{least, at, greatest}
-use Rattle.core_state.specs.Inner.Nodes as nodes
-use Rattle.core_state.specs.Inner.Nodes.{AtMost}
-use Rattle.core_state.specs.Inner.TreeNodes.{high_bound, post_nodes}
+use Rattle.core_state.specs.Trees.Ext.{Ext}
+use Rattle.core_state.specs.Trees.Ext.Ext.{least, at, greatest}
+use Rattle.core_state.specs.Trees.Nodes as nodes
+use Rattle.core_state.specs.Trees.Nodes.{AtMost}
+use Rattle.core_state.specs.Trees.TreeNodes.{high_bound, post_nodes}
 use Rattle.core_state.specs.Inner.Ghosts.{Place, Ghost, post_place, post_ghost}
 use Rattle.core_state.specs.Inner.Ghosts.Place.{unused, meta, heap, line, past, shifted, left, entry, post, overflow_of, private_of}
 use Rattle.core_state.specs.Inner.Kinds.{Fits}

@@ -16,7 +16,7 @@ use Rattle.core_state.specs.Changes.{left_with, IsNew}
 use Rattle.core_state.specs.HeapRows.{IsPlaceHead, IsPutOverflow, IsMarkDeleted}
 use Rattle.core_state.specs.PendingRows.{IsPutPending}
 use Rattle.core_state.specs.VacuumRows.{IsDropPage, IsFreeSlots}
-use Rattle.core_state.specs.Inner.Nodes.{put}
+use Rattle.core_state.specs.Trees.Nodes.{put}
 use Rattle.core_state.specs.Inner.Ghosts.{Place, Ghost}
 use Rattle.core_state.specs.Inner.Ghosts.Place.{unused, meta, heap, past, overflow_of, private_of}
 use Rattle.core_state.specs.Inner.Kinds.{Fits}

@@ -4,7 +4,7 @@ use Rattle.std.specs.Prelude.{⊤}
 use Rattle.page_types.specs.declared.page.Page.{Page}
 use Rattle.page_types.specs.declared.page.Body.{Body}
 use Rattle.page_types.specs.declared.page.Body.TheVariants as body
-use Rattle.core_state.specs.Inner.Nodes as nodes
+use Rattle.core_state.specs.Trees.Nodes as nodes
 use Rattle.core_state.specs.Inner.Ghosts.{Place, entry_place, post_place}
 use Rattle.core_state.specs.Inner.Ghosts.Place.{unused, meta, heap, line, past, shifted, left, entry, post, overflow_of, private_of}
 use Rattle.core_state.specs.Inner.Kinds.{Fits}

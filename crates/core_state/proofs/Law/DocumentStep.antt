@@ -6,7 +6,7 @@ use Rattle.page_types.specs.declared.page.Page.{Page}
 use Rattle.page_types.specs.declared.record.Record.{Record}
 use Rattle.core_state.specs.Log.{Log, Pages, In}
 use Rattle.core_state.specs.Documents.{IsChain}
-use Rattle.core_state.specs.Inner.Nodes.{put}
+use Rattle.core_state.specs.Trees.Nodes.{put}
 use Rattle.core_state.specs.Inner.Ghosts.{Place, Ghost}
 use Rattle.core_state.specs.Inner.Ghosts.Place.{unused, meta, heap, line, shifted, entry, private_of}
 use Rattle.core_state.specs.Inner.Kinds.{Fits, PagesStart, IsLined, AreChained}

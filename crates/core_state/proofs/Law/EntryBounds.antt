@@ -10,12 +10,12 @@ use Rattle.core_state.specs.Log.{Pages, In}
 use Rattle.core_state.specs.Index.{Below, children_in}
 use Rattle.core_state.specs.Changes.{UpTo}
 use Rattle.core_state.specs.TreeRows.{Toward}
-use Rattle.core_state.specs.Inner.Ext.{Ext, ext_less}
-use Rattle.core_state.specs.Inner.Ext.Ext.{least, at, greatest}
-use Rattle.core_state.specs.Inner.Nodes as nodes
-use Rattle.core_state.specs.Inner.Nodes.{Child, AtMost, Sane}
-use Rattle.core_state.specs.Inner.Nodes.Node.{inner}
-use Rattle.core_state.specs.Inner.TreeNodes.{bound, entry_child, entry_body, entry_nodes}
+use Rattle.core_state.specs.Trees.Ext.{Ext, ext_less}
+use Rattle.core_state.specs.Trees.Ext.Ext.{least, at, greatest}
+use Rattle.core_state.specs.Trees.Nodes as nodes
+use Rattle.core_state.specs.Trees.Nodes.{Child, AtMost, Sane}
+use Rattle.core_state.specs.Trees.Nodes.Node.{inner}
+use Rattle.core_state.specs.Trees.TreeNodes.{bound, entry_child, entry_body, entry_nodes}
 use Rattle.core_state.specs.Inner.Ghosts.{Place, Ghost, entry_place, entry_ghost}
 use Rattle.core_state.specs.Inner.Ghosts.Place.{entry}
 use Rattle.core_state.specs.Inner.Kinds.{Fits, KindsFit}

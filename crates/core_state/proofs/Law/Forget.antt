@@ -5,11 +5,11 @@ use Rattle.page_types.specs.declared.page.Head.{Head}
 use Rattle.page_types.specs.declared.page.Gone.TheVariants as gone
 use Rattle.std.proofs.Math.Path.{fun_ext}
 use Rattle.core_state.specs.Log.{Log, Pages}
-use Rattle.core_state.specs.Inner.Nodes as nodes
-use Rattle.core_state.specs.Inner.Nodes.{Sane}
+use Rattle.core_state.specs.Trees.Nodes as nodes
+use Rattle.core_state.specs.Trees.Nodes.{Sane}
 use Rattle.core_state.proofs.Trees.Orders.{keys, items}
-use Rattle.core_state.specs.Inner.Ext.Ext.{least, greatest}
-use Rattle.core_state.specs.Inner.TreeNodes.{entry_nodes, post_nodes}
+use Rattle.core_state.specs.Trees.Ext.Ext.{least, greatest}
+use Rattle.core_state.specs.Trees.TreeNodes.{entry_nodes, post_nodes}
 use Rattle.core_state.proofs.Trees.Below.{Rooted}
 use Rattle.core_state.proofs.Law.Rooted.{AreRooted}
 use Rattle.core_state.specs.Inner.Ghosts.{Place, Ghost, entry_place, post_place, entry_ghost, post_ghost, forgotten_place, forgotten}

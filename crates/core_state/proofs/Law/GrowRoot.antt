@@ -13,7 +13,7 @@ use Rattle.page_types.specs.declared.record.Kind.TheVariants as kind
 use Rattle.core_state.specs.Log.{Log, Pages, In, changed}
 use Rattle.core_state.specs.Changes.{left_with}
 use Rattle.core_state.specs.TreeRows.{OneChild, IsGrowRoot}
-use Rattle.core_state.specs.Inner.Nodes.{put}
+use Rattle.core_state.specs.Trees.Nodes.{put}
 use Rattle.core_state.specs.Inner.Ghosts.{Place, Ghost}
 use Rattle.core_state.specs.Inner.Ghosts.Place.{unused, past, entry, post}
 use Rattle.core_state.specs.Inner.GhostSteps.{grown_entries, grown_posts}
@@ -176,14 +176,14 @@ module _ (n L : ℕ) (R : Log) (P Q : Pages) (r : Record) (floor since : ℕ) (g
       ]
     ]
 
-    entry_now : (q : ℕ) (e : Entry) → In e (entries_of (P q)) → EntryNow n R P Q (grown_entries g new h) e
+    entry_now : (q : ℕ) (e : Entry) → In e (entries_of (P q)) → EntryNow n R P Q r (grown_entries g new h) e
     entry_now q e i = elim (same_or_not root q) [
       | inl s ↦ EntryNow.now new e
           (subst (In e) (sym (body_entries (Q new) (P root).body moved))
           (subst (λ (z : ℕ). In e (entries_of (P z))) s i)) refl refl
       | inr off ↦ elim (same_or_not new q) [
         | inl s ↦ absurd (new_had_none e (subst (λ (z : ℕ). In e (entries_of (P z))) s i))
-        | inr fresh ↦ same_now n R P Q g (grown_entries g new h) q e (ap entries_of (others q off fresh)) i
+        | inr fresh ↦ same_now n R P Q g (grown_entries g new h) r q e (ap entries_of (others q off fresh)) i
       ]
     ]
 
@@ -346,7 +346,7 @@ module _ (n L : ℕ) (R : Log) (P Q : Pages) (r : Record) (floor since : ℕ) (g
       lowest = λ p q low free e. lowest (post root h) (post root (suc h)) at_root tt tt tt (λ z. cc)
           (λ z. cc) post_there post_inner_is p q low free e;
       entry_was = λ q e i. same_was n R P Q g g' q e (entries_same q) i;
-      entry_now = λ q e i. same_now n R P Q g g' q e (entries_same q) i;
+      entry_now = λ q e i. same_now n R P Q g g' r q e (entries_same q) i;
       leaf_was = λ q s i at m. inl (leaf_was q s i at m);
       leaf_now = λ q s i at m. inl (leaf_now q s i at m);
       root_on = root_on;

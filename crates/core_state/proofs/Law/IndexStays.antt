@@ -1,6 +1,6 @@
--- Without the kinds from 12 on the trees and the main part stay, linked rows stay linked, whole documents stay whole,
+-- Without the kinds 12 to 21 the trees and the main part stay, linked rows stay linked, whole documents stay whole,
 -- and dead ones stay as they are and get no more rows.
-use Rattle.std.proofs.Common.{◌≡◌, ◌≢◌, ◌⊎◌, ◌++◌, ◌+◌, ℕ, zero, suc, [], ◌∷◌, length, refl, sym, ap, subst, ◌∙◌, inl, inr, arith}
+use Rattle.std.proofs.Common.{◌≡◌, ◌≢◌, ◌⊎◌, ◌++◌, ◌+◌, ℕ, suc, [], ◌∷◌, length, refl, sym, ap, subst, ◌∙◌, inl, inr, arith}
 use Rattle.ts_base.specs.Vectors.{Vector}
 use Rattle.page_types.specs.Views.{rows_of}
 use Rattle.page_types.specs.declared.page.Page.{Page}
@@ -20,7 +20,7 @@ use Rattle.core_state.specs.Legal.{RowHolds, Valid, RowsAreValid}
 use Rattle.core_state.specs.Steady.{IsIndexWork, LeavesIndex, KeepsHead, IndexStays}
 use Rattle.core_state.specs.Inner.PageKinds.{IsHeap, IsOverflow, IsPending, IsTree, IsDeleted, ChangesTrees, IsChanged, Touched}
 use Rattle.core_state.specs.Inner.Ghosts.{Place, Ghost}
-use Rattle.core_state.specs.Inner.Ghosts.Place.{line, shifted, entry, post, overflow_of, private_of}
+use Rattle.core_state.specs.Inner.Ghosts.Place.{line, shifted, overflow_of, private_of}
 use Rattle.core_state.specs.Inner.Kinds.{Fits}
 use Rattle.core_state.specs.Inner.LineSteps.{LineStep}
 use Rattle.core_state.proofs.Showing.{shown_one}
@@ -36,8 +36,7 @@ use Rattle.core_state.proofs.SteadyPages.{touches, elsewhere}
 use Rattle.core_state.proofs.SteadyEnds.{heads_step, ends_stay_behind}
 use Rattle.core_state.proofs.Law.LineEffects.{on_line, linked, row_back}
 use Rattle.core_state.proofs.Law.ChainsStay.{overflows, privates}
-use Rattle.core_state.proofs.Law.Belows.{place_below}
-use Rattle.core_state.proofs.Law.EntryBounds.{entry_below}
+use Rattle.core_state.proofs.Law.RootTrees.{root_tree}
 use Rattle.core_state.proofs.Law.Invariant.{Inv}
 use Rattle.core_state.proofs.Law.Steps.{After, StepHolds}
 use Rattle.core_state.proofs.Law.Runs.{plain_run, step_over}
@@ -45,22 +44,22 @@ use Rattle.core_state.proofs.Law.RunningStays.{not_create, some_behind, keeps_sa
 
 -- the kinds below 12
 trees_late : (k : Kind) → ChangesTrees k → IsIndexWork k
-trees_late kind.AddItems c = omega arith
-trees_late kind.MakeTree c = omega arith
-trees_late kind.AddPostings c = omega arith
-trees_late kind.GrowRoot c = omega arith
-trees_late kind.Split c = omega arith
-trees_late kind.RemoveItems c = omega arith
-trees_late kind.DeletePost c = omega arith
+trees_late kind.AddItems c = (omega arith, omega arith)
+trees_late kind.MakeTree c = (omega arith, omega arith)
+trees_late kind.AddPostings c = (omega arith, omega arith)
+trees_late kind.GrowRoot c = (omega arith, omega arith)
+trees_late kind.Split c = (omega arith, omega arith)
+trees_late kind.RemoveItems c = (omega arith, omega arith)
+trees_late kind.DeletePost c = (omega arith, omega arith)
 trees_late _ c = absurd c
 
 removes_late : (k : Kind) → RemovesDocs k → IsIndexWork k
-removes_late (kind.DropPage i s) c = omega arith
-removes_late kind.FreeSlots c = omega arith
+removes_late (kind.DropPage i s) c = (omega arith, omega arith)
+removes_late kind.FreeSlots c = (omega arith, omega arith)
 removes_late _ c = absurd c
 
 shift_late : (k : Kind) → k ≡ kind.Shift → IsIndexWork k
-shift_late k e = subst IsIndexWork (sym e) (omega arith)
+shift_late k e = subst IsIndexWork (sym e) (omega arith, omega arith)
 
 -- deleted content is of no other kind
 deleted_not : (K : Body → Type 0) (b : Body) → ((g : Gone) → K (body.Deleted g) → ⊥) → K b → IsDeleted b → ⊥
@@ -111,32 +110,6 @@ module _ (n L : ℕ) (R : Log) (P Q : Pages) (r : Record) (floor since : ℕ) (g
   no_removal : RemovesDocs r.kind → ⊥
   no_removal c = early (removes_late r.kind c)
 
-  -- the pages below a root are of its tree
-  entry_tree : (q k : ℕ) → g.place q ≡ entry k → IsTree (P q).body
-  entry_tree q k e = go k (subst (λ (x : Place). Fits L x (P q)) e (v.kinds q))
-    where
-      go : (k : ℕ) → Fits L (entry k) (P q) → IsTree (P q).body
-      go zero f = subst IsTree (sym f.2) tt
-      go (suc h) f = subst IsTree (sym f.1) tt
-
-  post_tree : (q s k : ℕ) → g.place q ≡ post s k → IsTree (P q).body
-  post_tree q s k e = go k (subst (λ (x : Place). Fits L x (P q)) e (v.kinds q))
-    where
-      go : (k : ℕ) → Fits L (post s k) (P q) → IsTree (P q).body
-      go zero f = subst IsTree (sym f.2) tt
-      go (suc h) f = subst IsTree (sym f.1) tt
-
-  root_tree : (root p : ℕ) → IsRoot P root → Below P root p → IsTree (P p).body
-  root_tree root p IsRoot.of_entries below =
-      let one = v.starts.page_1 some in
-      let k = entry_below L P g v.kinds v.entries v.entries_rooted 1 one.0 p one.1 below in
-      entry_tree p k.0 k.1
-  root_tree root p (IsRoot.of_postings key is) below =
-      let h = v.named.is_root is.page root is.entry is.on is.names in
-      let k = place_below L P g (record { kinds = v.kinds; posts = v.posts; rooted = v.posts_rooted; named = v.named })
-      root h.0 p h.1 below in
-      post_tree p root k.0 k.1
-
   -- the first page of the line isn't deleted
   rows_on : (w : Row) → LineStep R P Q g a.ghost → IsLinked P w → IsLinked Q w
   rows_on w (LineStep.grow chain e f new rows) k =
@@ -178,7 +151,7 @@ module _ (n L : ℕ) (R : Log) (P Q : Pages) (r : Record) (floor since : ℕ) (g
   pub quiet_step : Quiet R P Q
   quiet_step = record {
     same = trees_stay P Q r since touch other no_trees later;
-    trees = λ root p is below. tree_stays P Q r since touch other no_trees later p (root_tree root p is below);
+    trees = λ root p is below. tree_stays P Q r since touch other no_trees later p (root_tree n L R P g v some root p is below);
     rows = λ w k. rows_on w a.case.line k;
     whole = whole_on;
     dead = λ d h level dead has. dead_keeps R P Q r floor since row touch other g.line (λ i q. g.place q ≡ overflow_of
@@ -239,7 +212,7 @@ module _ (step : StepHolds) where
       level dead) (quiet_behind later R v.0 some P v.1.before shown v.1.shown (λ s i. leaves s (inr i)))
       (quiet_one (later ++ R) r v.0 v.1 (some_behind later R some) (leaves r (inl refl))))
 
-  -- without later records of the kinds from 12 on
+  -- without later records of the kinds 12 to 21
   pub index_stays_behind : (later R : Log) → RowsAreValid (later ++ R) → R ≢ [] → (P Q : Pages) → Shows R P
       → Shows (later ++ R) Q → LeavesIndex later → IndexStays R (later ++ R) P Q
   index_stays_behind later R v some P Q shown shown' leaves =

@@ -2,9 +2,9 @@
 -- floor n, and pages that were deleted since the length L are kept.
 use Rattle.std.specs.Prelude.{ℕ}
 use Rattle.core_state.specs.Log.{Log, Pages}
-use Rattle.core_state.specs.Inner.Nodes.{Sane}
-use Rattle.core_state.specs.Inner.Ext.Ext.{least, greatest}
-use Rattle.core_state.specs.Inner.TreeNodes.{entry_nodes, post_nodes}
+use Rattle.core_state.specs.Trees.Nodes.{Sane}
+use Rattle.core_state.specs.Trees.Ext.Ext.{least, greatest}
+use Rattle.core_state.specs.Trees.TreeNodes.{entry_nodes, post_nodes}
 use Rattle.core_state.proofs.Law.Rooted.{AreRooted}
 use Rattle.core_state.specs.Inner.Ghosts.{Ghost, entry_ghost, post_ghost}
 use Rattle.core_state.specs.Inner.Kinds.{KindsFit, PagesStart, IsLined, AreChained}

@@ -8,11 +8,11 @@ use Rattle.page_types.specs.declared.page.Body.TheVariants as body
 use Rattle.core_state.specs.Log.{Log, Pages, In, Shows}
 use Rattle.core_state.specs.Changes.{UpTo, ItemUpTo}
 use Rattle.core_state.specs.Bullets.{Rightward, LeavesLead}
-use Rattle.core_state.specs.Inner.Ext.{Ext}
-use Rattle.core_state.specs.Inner.Ext.Ext.{least, at, greatest}
-use Rattle.core_state.specs.Inner.Nodes.{AtMost}
-use Rattle.core_state.specs.Inner.Nodes.Place.{tree}
-use Rattle.core_state.specs.Inner.TreeNodes.{bound, high_bound, entry_body, entry_nodes, post_body, post_nodes}
+use Rattle.core_state.specs.Trees.Ext.{Ext}
+use Rattle.core_state.specs.Trees.Ext.Ext.{least, at, greatest}
+use Rattle.core_state.specs.Trees.Nodes.{AtMost}
+use Rattle.core_state.specs.Trees.Nodes.Place.{tree}
+use Rattle.core_state.specs.Trees.TreeNodes.{bound, high_bound, entry_body, entry_nodes, post_body, post_nodes}
 use Rattle.core_state.specs.Inner.Ghosts.{Ghost, post_place, entry_ghost, post_ghost}
 use Rattle.core_state.proofs.Trees.Members.{in_map}
 use Rattle.core_state.proofs.Trees.Find.{right_in}

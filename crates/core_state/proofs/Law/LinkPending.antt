@@ -12,11 +12,10 @@ use Rattle.page_types.specs.declared.page.Body.TheVariants as body
 use Rattle.page_types.specs.declared.record.Record.{Record}
 use Rattle.page_types.specs.declared.record.Kind.TheVariants as kind
 use Rattle.core_state.specs.Log.{Log, Pages, In, changed, fate}
-use Rattle.core_state.specs.Documents.{Has, IsChain, IsWhole, HasVector, IsDead, page_of}
+use Rattle.core_state.specs.Documents.{Has, IsChain, IsWhole, HasVector, IsDead, page_of, doc_at}
 use Rattle.core_state.specs.Index.{Line, InRows, rows_on}
 use Rattle.core_state.specs.PendingRows.{IsLinkPending}
 use Rattle.core_state.specs.declared.answers.Fate.TheVariants.{Running}
-use Rattle.core_state.specs.Inner.HeadsKept.{doc_at}
 use Rattle.core_state.specs.Inner.Effects.{NewRow}
 use Rattle.core_state.specs.Inner.ItemChains.{ChainOf}
 use Rattle.core_state.specs.Inner.Ghosts.{Place, Ghost}

@@ -5,9 +5,9 @@ use Rattle.core_state.specs.Log.{Log, Pages, Shows, commits}
 use Rattle.core_state.specs.Legal.{Pin, KeepsEach, RowsAreValid}
 use Rattle.core_state.specs.Inner.Ghosts.{Ghost, Place, entry_place, post_place, entry_ghost, post_ghost, forgotten, forgotten_place, no_ghost}
 use Rattle.core_state.specs.Inner.Ghosts.Place.{unused, meta, heap, line, past, shifted, left, entry, post, overflow_of, private_of}
-use Rattle.core_state.specs.Inner.Ext.Ext.{least, greatest}
-use Rattle.core_state.specs.Inner.Nodes.Place.{none}
-use Rattle.core_state.specs.Inner.TreeNodes.{entry_nodes, post_nodes}
+use Rattle.core_state.specs.Trees.Ext.Ext.{least, greatest}
+use Rattle.core_state.specs.Trees.Nodes.Place.{none}
+use Rattle.core_state.specs.Trees.TreeNodes.{entry_nodes, post_nodes}
 use Rattle.core_state.proofs.Trees.Orders.{keys, items}
 use Rattle.core_state.proofs.Law.Invariant.{Inv}
 use Rattle.core_state.proofs.Law.Steps.{StepHolds, After}

@@ -9,9 +9,8 @@ use Rattle.page_types.specs.declared.page.Body.{Body}
 use Rattle.page_types.specs.declared.page.Body.TheVariants as body
 use Rattle.page_types.specs.declared.record.Record.{Record}
 use Rattle.core_state.specs.Log.{Log, Pages, In}
-use Rattle.core_state.specs.VacuumRows.{MayLeave}
-use Rattle.core_state.specs.Inner.Nodes as nodes
-use Rattle.core_state.specs.Inner.TreeNodes.{entry_node, post_node}
+use Rattle.core_state.specs.Trees.Nodes as nodes
+use Rattle.core_state.specs.Trees.TreeNodes.{entry_node, post_node}
 use Rattle.core_state.specs.Inner.Ghosts.{Place, Ghost, entry_place, post_place, entry_ghost, post_ghost}
 use Rattle.core_state.specs.Inner.Ghosts.Place.{entry, post}
 use Rattle.core_state.specs.Inner.Kinds.{Fits, KindsFit}
@@ -21,7 +20,7 @@ use Rattle.core_state.proofs.Law.MainPlaces.{MainAt}
 use Rattle.core_state.proofs.Law.Invariant.{Inv}
 use Rattle.core_state.proofs.Law.Places.{place_for}
 use Rattle.core_state.proofs.Law.OwnersStay.{items_stay}
-use Rattle.core_state.proofs.Law.Steps.{Left, TreesStep}
+use Rattle.core_state.proofs.Law.Steps.{Left, TreesStep, Departs}
 
 -- a place in no tree
 pub record Loose (x : Place) : Type 0 where
@@ -131,7 +130,7 @@ module _ (n since L : ℕ) (R : Log) (P Q : Pages) (r : Record) (g : Ghost) (v :
           (by.0, by.1, entries_on by.0 by.1 (each by.0) by.2, by.3);
     }
 
-    pub main_now : (k : Key) (i : ℕ) → MainAt P g k i → MainAt Q ghost_now k i ⊎ MayLeave R P n i
+    pub main_now : (k : Key) (i : ℕ) → MainAt P g k i → MainAt Q ghost_now k i ⊎ Departs n R P r i
     main_now k i (MainAt.listed q e bytes on key is there) =
         inl (MainAt.listed q e bytes (entries_on q e (each q) on) key is there)
     main_now k i (MainAt.posted q s at key there) =

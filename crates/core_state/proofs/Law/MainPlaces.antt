@@ -6,9 +6,9 @@ use Rattle.page_types.specs.Views.{entries_of, posting_items_in}
 use Rattle.page_types.specs.declared.page.Entry.{Entry}
 use Rattle.page_types.specs.declared.page.Postings.TheVariants.{Inline}
 use Rattle.core_state.specs.Log.{Pages, In}
-use Rattle.core_state.specs.Inner.Ext.Ext.{least, greatest}
-use Rattle.core_state.specs.Inner.Nodes.{Sane}
-use Rattle.core_state.specs.Inner.TreeNodes.{post_nodes}
+use Rattle.core_state.specs.Trees.Ext.Ext.{least, greatest}
+use Rattle.core_state.specs.Trees.Nodes.{Sane}
+use Rattle.core_state.specs.Trees.TreeNodes.{post_nodes}
 use Rattle.core_state.specs.Inner.Ghosts.{Ghost, post_ghost}
 use Rattle.core_state.specs.Inner.Ghosts.Place.{post}
 use Rattle.core_state.specs.Inner.Kinds.{KindsFit}

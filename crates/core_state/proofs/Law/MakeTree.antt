@@ -156,19 +156,19 @@ module _ (n L : ℕ) (R : Log) (P Q : Pages) (r : Record) (floor since : ℕ) (g
     ]
   ]
 
-  entry_now : (q : ℕ) (e : Entry) → In e (entries_of (P q)) → EntryNow n R P Q g' e
+  entry_now : (q : ℕ) (e : Entry) → In e (entries_of (P q)) → EntryNow n R P Q r g' e
   entry_now q e i = elim (same_or_not page q) [
     | inl s ↦ elim (in_either e x.here.front (old_entry ∷ x.here.back)
         (subst (In e) entries_were (subst (λ (z : ℕ). In e (entries_of (P z))) s i))) [
           | inl f ↦ EntryNow.now page e (is_in e (inl f)) refl refl
-          | inr (inl f) ↦ subst (EntryNow n R P Q g') (sym f)
+          | inr (inl f) ↦ subst (EntryNow n R P Q r g') (sym f)
               (EntryNow.listed x.here.items refl
               (λ j m. inl (MainAt.posted new new new_at new_key (subst (In j) (sym items_are) m))))
           | inr (inr k) ↦ EntryNow.now page e (is_in e (inr k)) refl refl
         ]
     | inr off ↦ elim (same_or_not new q) [
       | inl s ↦ absurd (new_had_none e (subst (λ (z : ℕ). In e (entries_of (P z))) s i))
-      | inr fresh ↦ same_now n R P Q g g' q e (ap entries_of (others q off fresh)) i
+      | inr fresh ↦ same_now n R P Q g g' r q e (ap entries_of (others q off fresh)) i
     ]
   ]
 

@@ -8,7 +8,7 @@ use Rattle.core_state.specs.Log.{Log, Pages}
 use Rattle.core_state.specs.Known.{use_by, use_in}
 use Rattle.core_state.specs.Changes.{IsNew}
 use Rattle.core_state.specs.declared.answers.PageUse.TheVariants as usage
-use Rattle.core_state.specs.Inner.Nodes.{put}
+use Rattle.core_state.specs.Trees.Nodes.{put}
 use Rattle.core_state.specs.Inner.Ghosts.{Place, Ghost, entry_place, post_place}
 use Rattle.core_state.specs.Inner.Ghosts.Place.{unused, meta, past, entry}
 use Rattle.core_state.specs.Inner.Kinds.{Fits, KindsFit, PagesStart}

@@ -21,7 +21,7 @@ use Rattle.core_state.proofs.Law.EntryBounds.{entry_below}
 use Rattle.core_state.proofs.Law.Bounded.{posts_hold}
 
 -- what a ghost's place says of where a page stands
-abbrev place_told : Place → Option told.Place
+abbrev pub place_told : Place → Option told.Place
 place_told meta = Some told.Place.meta
 place_told heap = Some told.Place.heap
 place_told line = Some told.Place.line
@@ -37,7 +37,7 @@ none_told zero = Some told.Place.meta
 none_told (suc zero) = Some told.Place.entry_tree
 none_told (suc (suc p)) = None
 
-same_some : (a b : told.Place) → Some a ≡ Some b → a ≡ b
+pub same_some : (a b : told.Place) → Some a ≡ Some b → a ≡ b
 same_some a b e = cc
 
 one_of : (x : Option told.Place) (a b : told.Place) → x ≡ Some a → x ≡ Some b → a ≡ b
@@ -81,7 +81,7 @@ module _ (n L : ℕ) (R : Log) (P : Pages) (g : Ghost) (v : Inv n L R P g) (some
       let top = v.named.is_root named.page r named.entry named.on named.names in
       place_below L P g (posts_hold n L R P g v) r top.0 p top.1 b
 
-  stands : (p : ℕ) (a : told.Place) → StandsIn P p a → place_told (g.place p) ≡ Some a
+  pub stands : (p : ℕ) (a : told.Place) → StandsIn P p a → place_told (g.place p) ≡ Some a
   stands p told.Place.meta e = ap place_told (ap g.place e ∙ v.starts.page_0 some)
   stands p told.Place.heap e = ap place_told (place_for L (g.place p) (P p) (body.Heap e.0) (v.kinds p) e.1)
   stands p told.Place.entry_tree b =

@@ -5,9 +5,9 @@ use Rattle.page_types.specs.declared.page.Body.TheVariants as body
 use Rattle.page_types.specs.declared.record.Record.{Record}
 use Rattle.core_state.specs.Log.{Log, Pages, In, Shows, changed}
 use Rattle.core_state.specs.Legal.{RowHolds}
-use Rattle.core_state.specs.Inner.Nodes.Place.{none}
-use Rattle.core_state.specs.Inner.Ext.Ext.{least, greatest}
-use Rattle.core_state.specs.Inner.TreeNodes.{entry_nodes, post_nodes}
+use Rattle.core_state.specs.Trees.Nodes.Place.{none}
+use Rattle.core_state.specs.Trees.Ext.Ext.{least, greatest}
+use Rattle.core_state.specs.Trees.TreeNodes.{entry_nodes, post_nodes}
 use Rattle.core_state.specs.Inner.Effects.{Effects}
 use Rattle.core_state.proofs.Law.LineEffects.{pending_stays, rows_back}
 use Rattle.core_state.specs.Inner.Ghosts.{Ghost, entry_place, post_place, entry_ghost, post_ghost}
@@ -25,7 +25,7 @@ use Rattle.core_state.proofs.StaysIndexed.{indexed_follows}
 use Rattle.core_state.proofs.Trees.Orders.{keys, items, key_order, nat_order, ext_top}
 use Rattle.core_state.proofs.Trees.RootedSteps.{rooted_step}
 use Rattle.core_state.proofs.Trees.Steps.{Step, step_keeps}
-use Rattle.core_state.specs.Inner.Nodes.{Sane}
+use Rattle.core_state.specs.Trees.Nodes.{Sane}
 use Rattle.core_state.proofs.Law.Rooted.{AreRooted}
 use Rattle.core_state.proofs.Law.MainPlaces.{PostsHold}
 use Rattle.core_state.proofs.Law.Belows.{main_at, at_main}
@@ -136,7 +136,7 @@ module _ (n L : ℕ) (R : Log) (P Q : Pages) (r : Record) (floor since : ℕ) (g
       whole = left.whole;
       pending = pending_stays R (r ∷ R) P Q g g' b.inv.lined c.lined c.line;
       main = λ k i m. elim (c.main k i (main_at L P g before k i m))
-          [ inl now ↦ inl (at_main L Q g' behind k i now) | inr may ↦ inr may ];
+          [ inl now ↦ inl (at_main L Q g' behind k i now) | inr gone ↦ inr gone.may ];
       rows = rows_back R (r ∷ R) P Q g g' b.inv.lined c.lined c.line;
     }
 

@@ -10,10 +10,9 @@ use Rattle.page_types.specs.declared.page.Entry.{Entry}
 use Rattle.page_types.specs.declared.page.Postings.TheVariants.{Inline}
 use Rattle.page_types.specs.declared.record.Record.{Record}
 use Rattle.core_state.specs.Log.{Log, Pages, In}
-use Rattle.core_state.specs.Documents.{IsDead, head_of}
+use Rattle.core_state.specs.Documents.{IsDead, head_of, doc_at}
 use Rattle.core_state.specs.Index.{HasRow, NoPair}
 use Rattle.core_state.specs.Bullets.{Owned}
-use Rattle.core_state.specs.Inner.HeadsKept.{doc_at}
 use Rattle.core_state.specs.Inner.Ghosts.{Ghost}
 use Rattle.core_state.specs.Inner.Ghosts.Place.{line, post, private_of}
 use Rattle.core_state.specs.Inner.Owners.{RowOwned, RowsOwned, ItemsOwned}

@@ -9,12 +9,12 @@ use Rattle.page_types.specs.declared.page.Body.TheVariants as body
 use Rattle.core_state.specs.Log.{Pages, In}
 use Rattle.core_state.specs.Changes.{ItemUpTo}
 use Rattle.core_state.specs.TreeRows.{TowardItem}
-use Rattle.core_state.specs.Inner.Ext.{Ext}
-use Rattle.core_state.specs.Inner.Ext.Ext.{least, at, greatest}
-use Rattle.core_state.specs.Inner.Nodes.{Child, Ghost, AtMost, Sane}
-use Rattle.core_state.specs.Inner.Nodes.Node.{inner}
-use Rattle.core_state.specs.Inner.Nodes.Place.{tree}
-use Rattle.core_state.specs.Inner.TreeNodes.{high_bound, child_bound, post_child, post_body, post_nodes}
+use Rattle.core_state.specs.Trees.Ext.{Ext}
+use Rattle.core_state.specs.Trees.Ext.Ext.{least, at, greatest}
+use Rattle.core_state.specs.Trees.Nodes.{Child, Ghost, AtMost, Sane}
+use Rattle.core_state.specs.Trees.Nodes.Node.{inner}
+use Rattle.core_state.specs.Trees.Nodes.Place.{tree}
+use Rattle.core_state.specs.Trees.TreeNodes.{high_bound, child_bound, post_child, post_body, post_nodes}
 use Rattle.core_state.proofs.Trees.Order.{same_inner}
 use Rattle.core_state.proofs.Trees.Members.{in_map}
 use Rattle.core_state.proofs.Trees.FromNodes.{leaf_shows}

@@ -9,21 +9,21 @@ use Rattle.page_types.specs.declared.record.Record.{Record}
 use Rattle.page_types.specs.declared.record.Kind.TheVariants as kind
 use Rattle.core_state.specs.Log.{Log, Pages, In, changed}
 use Rattle.core_state.specs.Changes.{left_with}
-use Rattle.core_state.specs.VacuumRows.{EntryLoses, EntriesLose, ListsLose, MayLeave, IsRemoveItems}
+use Rattle.core_state.specs.VacuumRows.{EntryLoses, EntriesLose, ListsLose, IsRemoveItems}
 use Rattle.core_state.specs.Inner.Ghosts.{Place, Ghost}
 use Rattle.core_state.specs.Inner.Ghosts.Place.{post}
 use Rattle.core_state.specs.Inner.Kinds.{Fits}
 use Rattle.core_state.proofs.PageLists.{same_or_not, one_page}
 use Rattle.core_state.proofs.Law.MainPlaces.{MainAt}
 use Rattle.core_state.proofs.Law.Places.{place_for}
-use Rattle.core_state.proofs.Law.Steps.{Before, Left, CaseOf}
+use Rattle.core_state.proofs.Law.Steps.{Before, Left, CaseOf, Departs}
 use Rattle.core_state.proofs.Law.SamePages.{not_first}
 use Rattle.core_state.proofs.Law.TreeCases.{remove_items_trees}
 use Rattle.core_state.proofs.Law.TreeKinds.{TreePage, EntryWas, EntryNow, TreeMoves, tree_case, Taken, Given}
 use Rattle.core_state.proofs.Law.TreeViews.{body_items, body_entries, may_leave, same_was, same_now, leaf_same, leaf_stays}
 
 -- an entry that lost items was there, and each that was there is there with what is left
-entry_old : (removed : List ℕ) (old new : List Entry) → EntriesLose removed old new → (f : Entry) → In f new
+pub entry_old : (removed : List ℕ) (old new : List Entry) → EntriesLose removed old new → (f : Entry) → In f new
     → (e : Entry) × In e old × EntryLoses removed e f
 entry_old removed [] [] t f i = absurd i
 entry_old removed [] (d ∷ fs) t f i = absurd t
@@ -31,7 +31,7 @@ entry_old removed (e ∷ es) [] t f i = absurd t
 entry_old removed (e ∷ es) (d ∷ fs) t f (inl s) = (e, inl refl, subst (EntryLoses removed e) (sym s) t.0)
 entry_old removed (e ∷ es) (d ∷ fs) t f (inr i) = let k = entry_old removed es fs t.1 f i in (k.0, inr k.1, k.2)
 
-entry_new : (removed : List ℕ) (old new : List Entry) → EntriesLose removed old new → (e : Entry) → In e old
+pub entry_new : (removed : List ℕ) (old new : List Entry) → EntriesLose removed old new → (e : Entry) → In e old
     → (f : Entry) × In f new × EntryLoses removed e f
 entry_new removed [] [] t e i = absurd i
 entry_new removed [] (d ∷ fs) t e i = absurd t
@@ -63,8 +63,8 @@ module _ (n L : ℕ) (R : Log) (P Q : Pages) (r : Record) (floor since : ℕ) (g
   others : (q : ℕ) → q ≢ page → Q q ≡ P q
   others q off = l.elsewhere q (λ i. elim (subst (In q) x.here.pages i) [ inl e ↦ off e | inr z ↦ z ])
 
-  may : (i : ℕ) → In i removed → MayLeave R P n i
-  may i m = may_leave n R P Q g g floor i b.floor_is (x.rest i m)
+  may : (i : ℕ) → In i removed → Departs n R P r i
+  may i m = record { by = x.here.kind_is; may = may_leave n R P Q g g floor i b.floor_is (x.rest i m) }
 
   -- the page keeps its kind
   page_fits : (a c : Body) → ListsLose removed a c → (P page).body ≡ a → (Q page).body ≡ c
@@ -90,7 +90,7 @@ module _ (n L : ℕ) (R : Log) (P Q : Pages) (r : Record) (floor since : ℕ) (g
   lost_was e f i (EntryLoses.less a c key of is_list leave) = EntryWas.listed c is_list
       (λ j m. inl (MainAt.listed page e a i key of (leave.no_other j m)))
 
-  lost_now : (e f : Entry) → In f (entries_of (Q page)) → EntryLoses removed e f → EntryNow n R P Q g e
+  lost_now : (e f : Entry) → In f (entries_of (Q page)) → EntryLoses removed e f → EntryNow n R P Q r g e
   lost_now e f i (EntryLoses.same s) = EntryNow.now page f i (ap (λ (z : Entry). z.key) (sym s))
       (ap (λ (z : Entry). z.postings) (sym s))
   lost_now e f i (EntryLoses.less a c key of is_list leave) = EntryNow.listed a of (λ j m. elim (leave.left j m) [
@@ -106,7 +106,7 @@ module _ (n L : ℕ) (R : Log) (P Q : Pages) (r : Record) (floor since : ℕ) (g
   page_was a c (ListsLose.postings high old new t) e s f i = absurd (subst (In f) (body_entries (Q page) _ s) i)
 
   page_now : (a c : Body) → ListsLose removed a c → (P page).body ≡ a → (Q page).body ≡ c → (d : Entry)
-      → In d (entries_of (P page)) → EntryNow n R P Q g d
+      → In d (entries_of (P page)) → EntryNow n R P Q r g d
   page_now a c (ListsLose.entries high old new t) e s d i =
       let k = entry_new removed old new t d (subst (In d) (body_entries (P page) _ e) i) in
       lost_now d k.0 (subst (In k.0) (sym (body_entries (Q page) _ s)) k.1) k.2
@@ -119,9 +119,9 @@ module _ (n L : ℕ) (R : Log) (P Q : Pages) (r : Record) (floor since : ℕ) (g
         (subst (λ (z : ℕ). In e (entries_of (Q z))) s i)
   ]
 
-  entry_now : (q : ℕ) (e : Entry) → In e (entries_of (P q)) → EntryNow n R P Q g e
+  entry_now : (q : ℕ) (e : Entry) → In e (entries_of (P q)) → EntryNow n R P Q r g e
   entry_now q e i = elim (same_or_not page q) [
-    | inr off ↦ same_now n R P Q g g q e (ap entries_of (others q off)) i
+    | inr off ↦ same_now n R P Q g g r q e (ap entries_of (others q off)) i
     | inl s ↦ page_now x.here.old.body x.here.content x.here.lists body_was body_is e
         (subst (λ (z : ℕ). In e (entries_of (P z))) s i)
   ]
@@ -151,7 +151,7 @@ module _ (n L : ℕ) (R : Log) (P Q : Pages) (r : Record) (floor since : ℕ) (g
   ]
 
   leaf_now : (q s i : ℕ) → g.place q ≡ post s 0 → In i (posting_items_in (P q).body)
-      → MainAt Q g (g.key_of s) i ⊎ MayLeave R P n i
+      → MainAt Q g (g.key_of s) i ⊎ Departs n R P r i
   leaf_now q s i place m = elim (same_or_not page q) [
     | inr off ↦ inl (leaf_stays n R P Q g g q s i place refl
         (ap (λ (p : Page). posting_items_in p.body) (others q off)) m)

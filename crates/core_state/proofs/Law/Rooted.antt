@@ -1,7 +1,7 @@
 -- The pages of each tree hang together below its root.
 use Rattle.std.specs.Prelude.{◌≡◌, ℕ, suc}
-use Rattle.core_state.specs.Inner.Nodes.{Node, Ghost}
-use Rattle.core_state.specs.Inner.Nodes.Place.{tree, left}
+use Rattle.core_state.specs.Trees.Nodes.{Node, Ghost}
+use Rattle.core_state.specs.Trees.Nodes.Place.{tree, left}
 use Rattle.core_state.proofs.Trees.Below.{Rooted}
 
 -- each tree has its root, whose bounds are the least and the greatest; a tree that lost a leaf has

@@ -9,12 +9,12 @@ use Rattle.page_types.specs.declared.page.Body.TheVariants as body
 use Rattle.page_types.specs.declared.record.Record.{Record}
 use Rattle.page_types.specs.declared.record.Kind.TheVariants as kind
 use Rattle.core_state.specs.Log.{Log, Pages, In, Shows, changed, commits, fate}
-use Rattle.core_state.specs.Documents.{Doc, Has, IsDead, placed}
-use Rattle.core_state.specs.Index.{HasRow}
+use Rattle.core_state.specs.Documents.{Doc, Has, IsDead, placed, doc_at}
+use Rattle.core_state.specs.Index.{IsLinked, HasRow}
 use Rattle.core_state.specs.TransactionRows.{IsCreate}
 use Rattle.core_state.specs.Legal.{RowHolds, Valid, RowsAreValid}
 use Rattle.core_state.specs.Steady.{LeavesXid, SameChain, KeepsHead, RunsOn}
-use Rattle.core_state.specs.Inner.HeadsKept.{doc_at, HeadsKept}
+use Rattle.core_state.specs.Inner.HeadsKept.{HeadsKept}
 use Rattle.core_state.specs.Inner.PageKinds.{Touched}
 use Rattle.core_state.specs.Inner.Ghosts.{Ghost}
 use Rattle.core_state.specs.Inner.Ghosts.Place.{line, overflow_of, private_of}
@@ -56,40 +56,36 @@ module _ (n L m : ℕ) (R : Log) (P Q : Pages) (r : Record) (floor since : ℕ) 
       let clash : line ≡ private_of d.item = sym ((w.lined.on q).0 on) ∙ now in
       cc
 
-  linked_before : (q : ℕ) (u : Row) → g.place q ≡ line → In u (rows_of (P q)) → HasRow P u.item
-  linked_before q u at on = record {
-    row = u;
-    linked = record {
-      line = g.line;
-      is_line = v.lined.is_line;
-      page = q;
-      on = (v.lined.on q).1 at;
-      there = on;
-    };
-    item = refl;
-  }
+  linked_before : (q : ℕ) (u : Row) → g.place q ≡ line → In u (rows_of (P q)) → IsLinked P u
+  linked_before q u at on =
+      record { line = g.line; is_line = v.lined.is_line; page = q; on = (v.lined.on q).1 at; there = on }
 
   -- a linked row of a document of another transaction that stays was linked
+  pub linked_was : (d : Doc) (h : Head) → Has P d h → KeepsHead P Q d h → h.inserted_by ≢ r.xid → (u : Row)
+      → u.item ≡ d.item → IsLinked Q u → IsLinked P u
+  linked_was d h has keeps off u same k =
+      let o = on_line (r ∷ R) Q g' u w.lined k in
+      elim (in_or_not o.0 (changed r)) [
+        | inl i ↦ elim (row_written R P Q r floor since row touch other later o.0 i u o.2) [
+          | inl old ↦ linked_before o.0 u ((v.lined.on o.0).0 (old.1 g.line v.lined.is_line)) old.0
+          | inr own ↦ absurd (off (ap (λ (z : Head). z.inserted_by) (sym (same_doc P own.doc d own.head h own.has has
+              (own.item ∙ same)).1) ∙ own.by))
+        ]
+        | inr out ↦
+            let there = subst (λ (p : Page). In u (rows_of p)) (other o.0 out) o.2 in
+            let pending = pending_of (P o.0).body u there in
+            elim (place_for L (g.place o.0) (P o.0) (body.Pending pending.0) (v.kinds o.0) pending.1) [
+              | inl at ↦ linked_before o.0 u at there
+              | inr at ↦
+                  let item = v.rows_owned.private_item o.0 at.0 u at.1 there in
+                  absurd (not_private d h has keeps o.0 o.1 (at.1 ∙ ap private_of (sym item ∙ same)))
+            ]
+      ]
+
   pub row_was : (d : Doc) (h : Head) → Has P d h → KeepsHead P Q d h → h.inserted_by ≢ r.xid → HasRow Q d.item
       → HasRow P d.item
   row_was d h has keeps off k =
-      let o = on_line (r ∷ R) Q g' k.row w.lined k.linked in
-      subst (HasRow P) k.item (elim (in_or_not o.0 (changed r)) [
-        | inl i ↦ elim (row_written R P Q r floor since row touch other later o.0 i k.row o.2) [
-          | inl old ↦ linked_before o.0 k.row ((v.lined.on o.0).0 (old.1 g.line v.lined.is_line)) old.0
-          | inr own ↦ absurd (off (ap (λ (z : Head). z.inserted_by) (sym (same_doc P own.doc d own.head h own.has has
-              (own.item ∙ k.item)).1) ∙ own.by))
-        ]
-        | inr out ↦
-            let there = subst (λ (p : Page). In k.row (rows_of p)) (other o.0 out) o.2 in
-            let pending = pending_of (P o.0).body k.row there in
-            elim (place_for L (g.place o.0) (P o.0) (body.Pending pending.0) (v.kinds o.0) pending.1) [
-              | inl at ↦ linked_before o.0 k.row at there
-              | inr at ↦
-                  let item = v.rows_owned.private_item o.0 at.0 k.row at.1 there in
-                  absurd (not_private d h has keeps o.0 o.1 (at.1 ∙ ap private_of (sym item ∙ k.item)))
-            ]
-      ])
+      record { row = k.row; linked = linked_was d h has keeps off k.row k.item k.linked; item = k.item }
 
 -- a document of a running transaction isn't dead
 pub placed_alive : (n : ℕ) (R : Log) (P : Pages) → HeadsKept n R P → (x : ℕ) (d : Doc) → In d (placed R x)

@@ -14,7 +14,7 @@ use Rattle.core_state.specs.Documents.{IsChain}
 use Rattle.core_state.specs.Index.{AllMain}
 use Rattle.core_state.specs.Changes.{left_with}
 use Rattle.core_state.specs.PendingRows.{IsLastAfter, IsShift}
-use Rattle.core_state.specs.Inner.Nodes.{put}
+use Rattle.core_state.specs.Trees.Nodes.{put}
 use Rattle.core_state.specs.Inner.Effects.{Moved}
 use Rattle.core_state.specs.Inner.Ghosts.{Place, Ghost}
 use Rattle.core_state.specs.Inner.Ghosts.Place.{unused, meta, line, shifted, entry, overflow_of, private_of}

@@ -8,9 +8,9 @@ use Rattle.page_types.specs.declared.record.Kind.TheVariants as kind
 use Rattle.core_state.specs.Log.{Log, Pages, changed}
 use Rattle.core_state.specs.Changes.{left_with}
 use Rattle.core_state.specs.TreeRows.{EntryHalves, PostHalves, EntryParent, PostParent, IsDivided, IsSplit}
-use Rattle.core_state.specs.Inner.Nodes as nodes
-use Rattle.core_state.specs.Inner.Nodes.{put}
-use Rattle.core_state.specs.Inner.TreeNodes.{bound, child_bound}
+use Rattle.core_state.specs.Trees.Nodes as nodes
+use Rattle.core_state.specs.Trees.Nodes.{put}
+use Rattle.core_state.specs.Trees.TreeNodes.{bound, child_bound}
 use Rattle.core_state.specs.Inner.TreePlaces.{IsNoEntryPage, IsNoPostPage}
 use Rattle.core_state.specs.Inner.Ghosts.{Ghost, entry_place, post_place, entry_ghost, post_ghost}
 use Rattle.core_state.specs.Inner.Ghosts.Place.{entry, post}

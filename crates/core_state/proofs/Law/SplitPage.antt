@@ -14,9 +14,9 @@ use Rattle.page_types.specs.declared.record.Kind.TheVariants as kind
 use Rattle.core_state.specs.Log.{Log, Pages, In, changed}
 use Rattle.core_state.specs.Changes.{left_with}
 use Rattle.core_state.specs.TreeRows.{EntryHalves, PostHalves, EntryParent, PostParent, IsDivided, IsSplit}
-use Rattle.core_state.specs.Inner.Ext.{Ext}
-use Rattle.core_state.specs.Inner.Nodes.{put}
-use Rattle.core_state.specs.Inner.TreeNodes.{bound, child_bound}
+use Rattle.core_state.specs.Trees.Ext.{Ext}
+use Rattle.core_state.specs.Trees.Nodes.{put}
+use Rattle.core_state.specs.Trees.TreeNodes.{bound, child_bound}
 use Rattle.core_state.specs.Inner.Ghosts.{Place, Ghost}
 use Rattle.core_state.specs.Inner.Ghosts.Place.{unused, past, entry, post}
 use Rattle.core_state.specs.Inner.GhostSteps.{split_entries, split_posts}
@@ -287,7 +287,7 @@ module _ (n L : ℕ) (R : Log) (P Q : Pages) (r : Record) (floor since : ℕ) (g
       ]
     ]
 
-    entry_now : (q : ℕ) (e : Entry) → In e (entries_of (P q)) → EntryNow n R P Q ge e
+    entry_now : (q : ℕ) (e : Entry) → In e (entries_of (P q)) → EntryNow n R P Q r ge e
     entry_now q e i = elim (same_or_not page q) [
       | inl s ↦ elim (parts.in_whole e
           (subst (In e) (ap entries_in body_was) (subst (λ (w : ℕ). In e (entries_of (P w))) s i))) [
@@ -299,7 +299,7 @@ module _ (n L : ℕ) (R : Log) (P Q : Pages) (r : Record) (floor since : ℕ) (g
         | inr fresh ↦ elim (same_or_not parent q) [
           | inl s ↦ absurd (subst (In e) (ap entries_in (parent_was ∙ d.parent.before))
               (subst (λ (w : ℕ). In e (entries_of (P w))) s i))
-          | inr up ↦ same_now n R P Q g ge q e (ap entries_of (others q off fresh up)) i
+          | inr up ↦ same_now n R P Q g ge r q e (ap entries_of (others q off fresh up)) i
         ]
       ]
     ]
@@ -469,7 +469,7 @@ module _ (n L : ℕ) (R : Log) (P Q : Pages) (r : Record) (floor since : ℕ) (g
       page_1 = let k = b.inv.starts.page_1 some in (k.0, put_else g.place new (post s0 h) 1 not_1 ∙ k.1);
       lowest = λ p q low free e. lowest (post s0 h) p q low free e;
       entry_was = λ q e i. same_was n R P Q g gp q e (entries_same q) i;
-      entry_now = λ q e i. same_now n R P Q g gp q e (entries_same q) i;
+      entry_now = λ q e i. same_now n R P Q g gp r q e (entries_same q) i;
       leaf_was = λ q s i at w. inl (leaf_was q s i at w);
       leaf_now = λ q s i at w. inl (leaf_now q s i at w);
       root_on = λ s k at. (k, put_else g.place new (post s0 h) s (stood s (post s k) (λ v. cc) (λ v. cc) at) ∙ at);

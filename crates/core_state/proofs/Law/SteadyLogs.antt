@@ -1,11 +1,10 @@
--- The four steady facts of legal logs, and what their heads and pairs say.
+-- The steady facts of legal logs, and what their heads and pairs say.
 use Rattle.std.proofs.Common.{◌≡◌, ◌≢◌, ◌⊎◌, ◌++◌, ℕ, [], length, sym, ap, subst, ◌∙◌}
 use Rattle.std.specs.Prelude.{Some, None}
 use Rattle.ts_base.specs.Keys.{Key}
 use Rattle.page_types.specs.declared.page.Head.{Head}
 use Rattle.core_state.specs.Log.{Log, Pages, In, Shows, commits}
-use Rattle.core_state.specs.Documents.{Doc, Has, page_of, slot_of, marked, head_of}
-use Rattle.core_state.specs.Inner.HeadsKept.{doc_at}
+use Rattle.core_state.specs.Documents.{Doc, Has, page_of, slot_of, marked, head_of, doc_at}
 use Rattle.core_state.specs.Index.{Pending, HasRow, Main}
 use Rattle.core_state.specs.Legal.{IsLegal, RowsAreValid, Pin, Keeps}
 use Rattle.core_state.specs.Bullets.{Owned, PairsAreOwned, StaysIndexed, DeletedStays}
@@ -23,6 +22,9 @@ use Rattle.core_state.proofs.Law.Steps.{StepHolds}
 use Rattle.core_state.proofs.Law.Runs.{Holds, plain_run, pin_run}
 use Rattle.core_state.proofs.Law.RunningStays.{runs_on_behind}
 use Rattle.core_state.proofs.Law.IndexStays.{index_stays_behind}
+use Rattle.core_state.proofs.Law.SnapshotsStay.{live_stays, all_live_stay}
+use Rattle.core_state.proofs.Law.DeadRows.{dead_rows, readings_stay}
+use Rattle.core_state.proofs.Law.PlacesStay.{places_stay, pinned_stay}
 use Rattle.core_state.proofs.Law.CommittedWhole.{AreWhole, committed_whole}
 use Rattle.core_state.proofs.Law.AllCases.{all_steps}
 
@@ -33,6 +35,12 @@ facts step R later P Q some v v' shown shown' = record {
   ends_stay = ends_stay_behind later R v';
   index_stays = λ leaves. index_stays_behind step later R v' some P Q shown shown' leaves;
   free = free_untouched R P v shown;
+  live_stay = all_live_stay step later R P Q v' shown shown';
+  live_stay_under = λ pin k. live_stays step pin later R P Q v' k.each shown shown';
+  dead_rows = dead_rows step later R v' P Q shown shown';
+  readings_stay = readings_stay later R;
+  places = places_stay step later R v' some P Q shown shown';
+  places_under = λ pin k low. pinned_stay step pin later R v' k.each low P Q shown shown';
 }
 
 pub steady_holds : StepHolds → SteadyHold

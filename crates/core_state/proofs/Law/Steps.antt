@@ -14,9 +14,9 @@ use Rattle.core_state.specs.PendingRows.{IsPutPending, IsAddRow, IsLinkPending, 
 use Rattle.core_state.specs.TreeRows.{IsAddItems, IsMakeTree, IsAddPostings, IsGrowRoot, IsSplit, IsDeletePost}
 use Rattle.core_state.specs.VacuumRows.{MayLeave, IsRemoveItems, IsDropPage, IsFreeSlots}
 use Rattle.core_state.specs.Legal.{RowHolds}
-use Rattle.core_state.specs.Inner.Ext.{Ext}
-use Rattle.core_state.specs.Inner.Ext.Ext.{least, at, greatest}
-use Rattle.core_state.specs.Inner.TreeNodes.{entry_nodes, post_nodes}
+use Rattle.core_state.specs.Trees.Ext.{Ext}
+use Rattle.core_state.specs.Trees.Ext.Ext.{least, at, greatest}
+use Rattle.core_state.specs.Trees.TreeNodes.{entry_nodes, post_nodes}
 use Rattle.core_state.specs.Inner.Ghosts.{Ghost, entry_ghost, post_ghost}
 use Rattle.core_state.specs.Inner.Ghosts.Place.{shifted, post}
 use Rattle.core_state.specs.Inner.Kinds.{KindsFit, PagesStart, IsLined, AreChained}
@@ -61,6 +61,11 @@ pub record Left (n since : ℕ) (R : Log) (P Q : Pages) (r : Record) : Type 0 wh
 abbrev pub MayGo : ℕ → Log → Pages → Ext ℕ → Type 0
 MayGo n R P x = (i : ℕ) × (x ≡ at i) × MayLeave R P n i
 
+-- a pair with this item leaves the main part: items are removed, and this one may leave
+pub record Departs (n : ℕ) (R : Log) (P : Pages) (r : Record) (i : ℕ) : Type 0 where
+  pub by : r.kind ≡ kind.RemoveItems
+  pub may : MayLeave R P n i
+
 -- The trees change by steps of trees alone: an entry tree keeps its keys, a posting tree keeps the
 -- items that may not leave, and the key of a posting tree stays.
 pub record TreesStep (n : ℕ) (R : Log) (P Q : Pages) (g g' : Ghost) : Type 0 where
@@ -82,7 +87,7 @@ pub record Case (n L : ℕ) (R : Log) (P Q : Pages) (r : Record) (g g' : Ghost) 
   pub rows_owned : RowsOwned n (r ∷ R) Q g'
   pub items_owned : ItemsOwned Q g'
   pub grouped : RowsGrouped Q g'.line
-  pub main : (k : Key) (i : ℕ) → MainAt P g k i → MainAt Q g' k i ⊎ MayLeave R P n i
+  pub main : (k : Key) (i : ℕ) → MainAt P g k i → MainAt Q g' k i ⊎ Departs n R P r i
   pub line : LineStep R P Q g g'
   pub shifted_stays : (p : ℕ) → g.place p ≡ shifted → g'.place p ≡ shifted
 

@@ -9,11 +9,11 @@ use Rattle.core_state.specs.TreeRows.{IsAddItems, IsMakeTree, IsAddPostings, IsR
 use Rattle.core_state.specs.VacuumRows.{MayLeave, IsRemoveItems}
 use Rattle.core_state.specs.Known.{use_in}
 use Rattle.core_state.specs.Changes.{IsNew}
-use Rattle.core_state.specs.Inner.Ext.{Ext}
-use Rattle.core_state.specs.Inner.Ext.Ext.{least, at, greatest}
-use Rattle.core_state.specs.Inner.Nodes as nodes
-use Rattle.core_state.specs.Inner.Nodes.{put}
-use Rattle.core_state.specs.Inner.TreeNodes.{entry_nodes, post_nodes}
+use Rattle.core_state.specs.Trees.Ext.{Ext}
+use Rattle.core_state.specs.Trees.Ext.Ext.{least, at, greatest}
+use Rattle.core_state.specs.Trees.Nodes as nodes
+use Rattle.core_state.specs.Trees.Nodes.{put}
+use Rattle.core_state.specs.Trees.TreeNodes.{entry_nodes, post_nodes}
 use Rattle.core_state.specs.Inner.TreePlaces.{EntryPlaces, PostPlaces, IsNoEntryPage, IsNoPostPage, HasMeta}
 use Rattle.core_state.specs.Inner.Ghosts.{Place, Ghost, entry_place, post_place, entry_ghost, post_ghost}
 use Rattle.core_state.specs.Inner.Ghosts.Place.{left, entry, post}

@@ -12,7 +12,6 @@ use Rattle.page_types.specs.declared.record.Kind.{Kind}
 use Rattle.core_state.specs.Log.{Log, Pages, In}
 use Rattle.core_state.specs.Index.{Pending}
 use Rattle.core_state.specs.Bullets.{Owned}
-use Rattle.core_state.specs.VacuumRows.{MayLeave}
 use Rattle.core_state.specs.Inner.Ghosts.{Place, Ghost}
 use Rattle.core_state.specs.Inner.Ghosts.Place.{unused, meta, line, past, shifted, left, entry, post, overflow_of, private_of}
 use Rattle.core_state.specs.Inner.Kinds.{Fits, PagesStart, AreChained}
@@ -24,7 +23,7 @@ use Rattle.core_state.proofs.Law.Invariant.{Inv}
 use Rattle.core_state.proofs.Law.OwnersStay.{PrivateNow, line_stays, rows_stay, items_stay}
 use Rattle.core_state.proofs.Law.LineStays.{LineSame, lined_now, line_now, grouped_now, row_was}
 use Rattle.core_state.proofs.Law.ChainsStay.{chained_stay}
-use Rattle.core_state.proofs.Law.Steps.{Left, TreesStep, Case}
+use Rattle.core_state.proofs.Law.Steps.{Left, TreesStep, Case, Departs}
 
 -- a page of a tree, or one that may be taken
 abbrev pub Taken : Place → Type 0
@@ -55,11 +54,11 @@ pub data EntryWas (P : Pages) (g g' : Ghost) (e : Entry) : Type 0 where
   rooted : (s h : ℕ) → e.postings ≡ Root s → g'.place s ≡ post s h → g'.key_of s ≡ e.key → EntryWas P g g' e
 
 -- where an entry before the record goes: it stays, or its list's pairs do that may not leave
-pub data EntryNow (n : ℕ) (R : Log) (P Q : Pages) (g' : Ghost) (e : Entry) : Type 0 where
+pub data EntryNow (n : ℕ) (R : Log) (P Q : Pages) (r : Record) (g' : Ghost) (e : Entry) : Type 0 where
   now : (q : ℕ) (d : Entry) → In d (entries_of (Q q)) → d.key ≡ e.key → d.postings ≡ e.postings
-      → EntryNow n R P Q g' e
+      → EntryNow n R P Q r g' e
   listed : (bytes : List ℕ) → e.postings ≡ Inline bytes
-      → ((i : ℕ) → In i (items_of bytes) → MainAt Q g' e.key i ⊎ MayLeave R P n i) → EntryNow n R P Q g' e
+      → ((i : ℕ) → In i (items_of bytes) → MainAt Q g' e.key i ⊎ Departs n R P r i) → EntryNow n R P Q r g' e
 
 inline_root : (bytes : List ℕ) (s : ℕ) → Inline bytes ≡ Root s → ⊥
 inline_root bytes s e = cc
@@ -84,11 +83,11 @@ module _ (n since L : ℕ) (R : Log) (P Q : Pages) (r : Record) (g : Ghost) (v :
     pub page_1 : (h : ℕ) × (g'.place 1 ≡ entry h)
     pub lowest : (p q : ℕ) → q < p → g.place q ≡ unused → g.place p ≡ unused → g'.place p ≡ unused
     pub entry_was : (q : ℕ) (e : Entry) → In e (entries_of (Q q)) → EntryWas P g g' e
-    pub entry_now : (q : ℕ) (e : Entry) → In e (entries_of (P q)) → EntryNow n R P Q g' e
+    pub entry_now : (q : ℕ) (e : Entry) → In e (entries_of (P q)) → EntryNow n R P Q r g' e
     pub leaf_was : (q s i : ℕ) → g'.place q ≡ post s 0 → In i (posting_items_in (Q q).body)
         → MainAt P g (g'.key_of s) i ⊎ Pending P (g'.key_of s) i
     pub leaf_now : (q s i : ℕ) → g.place q ≡ post s 0 → In i (posting_items_in (P q).body)
-        → MainAt Q g' (g.key_of s) i ⊎ MayLeave R P n i
+        → MainAt Q g' (g.key_of s) i ⊎ Departs n R P r i
     pub root_on : (s h : ℕ) → g.place s ≡ post s h → (k : ℕ) × (g'.place s ≡ post s k)
     pub root_back : (s h : ℕ) → g'.place s ≡ post s h
         → ((k : ℕ) × (g.place s ≡ post s k))
@@ -184,17 +183,17 @@ module _ (n since L : ℕ) (R : Log) (P Q : Pages) (r : Record) (g : Ghost) (v :
         (λ q i e bytes j is there. item_was i e bytes (m.entry_was q e j) is there)
         (λ q s i at there. either_way (g'.key_of s) i (m.leaf_was q s i at there))
 
-    main_of : (k : Key) (i q : ℕ) (e : Entry) (bytes : List ℕ) → EntryNow n R P Q g' e → e.key ≡ k
-        → e.postings ≡ Inline bytes → In i (items_of bytes) → MainAt Q g' k i ⊎ MayLeave R P n i
+    main_of : (k : Key) (i q : ℕ) (e : Entry) (bytes : List ℕ) → EntryNow n R P Q r g' e → e.key ≡ k
+        → e.postings ≡ Inline bytes → In i (items_of bytes) → MainAt Q g' k i ⊎ Departs n R P r i
     main_of k i q e bytes (EntryNow.now p d in_now key alike) is_key is there = inl (MainAt.listed p d bytes in_now
         (key ∙ is_key) (alike ∙ is) there)
     main_of k i q e bytes (EntryNow.listed more of all) is_key is there =
-        subst (λ (z : Key). MainAt Q g' z i ⊎ MayLeave R P n i) is_key
+        subst (λ (z : Key). MainAt Q g' z i ⊎ Departs n R P r i) is_key
         (all i (subst (λ (b : List ℕ). In i (items_of b)) (same_list bytes more (sym is ∙ of)) there))
 
-    main : (k : Key) (i : ℕ) → MainAt P g k i → MainAt Q g' k i ⊎ MayLeave R P n i
+    main : (k : Key) (i : ℕ) → MainAt P g k i → MainAt Q g' k i ⊎ Departs n R P r i
     main k i (MainAt.listed q e bytes j key is there) = main_of k i q e bytes (m.entry_now q e j) key is there
-    main k i (MainAt.posted q s at key there) = subst (λ (z : Key). MainAt Q g' z i ⊎ MayLeave R P n i) key
+    main k i (MainAt.posted q s at key there) = subst (λ (z : Key). MainAt Q g' z i ⊎ Departs n R P r i) key
         (m.leaf_now q s i at there)
 
     root_was : (s : ℕ) (e : Entry) → EntryWas P g g' e → e.postings ≡ Root s → ((h : ℕ) × (g'.place s ≡ post s h))
@@ -207,7 +206,7 @@ module _ (n since L : ℕ) (R : Log) (P Q : Pages) (r : Record) (g : Ghost) (v :
         let same : p ≡ s = same_root p s (sym of ∙ is) in
         ((h, subst (λ (z : ℕ). g'.place z ≡ post z h) same at), subst (λ (z : ℕ). g'.key_of z ≡ e.key) same key)
 
-    named_now : (s q : ℕ) (e : Entry) → EntryNow n R P Q g' e → e.postings ≡ Root s
+    named_now : (s q : ℕ) (e : Entry) → EntryNow n R P Q r g' e → e.postings ≡ Root s
         → (p : ℕ) × (d : Entry) × In d (entries_of (Q p)) × (d.postings ≡ Root s)
     named_now s q e (EntryNow.now p d in_now key alike) is = (p, d, in_now, alike ∙ is)
     named_now s q e (EntryNow.listed bytes of all) is = absurd (inline_root bytes s (sym of ∙ is))

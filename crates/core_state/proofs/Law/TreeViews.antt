@@ -5,6 +5,7 @@ use Rattle.page_types.specs.Views.{entries_of, posting_items_in}
 use Rattle.page_types.specs.declared.page.Page.{Page}
 use Rattle.page_types.specs.declared.page.Entry.{Entry}
 use Rattle.page_types.specs.declared.page.Body.{Body}
+use Rattle.page_types.specs.declared.record.Record.{Record}
 use Rattle.core_state.specs.Log.{Log, Pages, In}
 use Rattle.core_state.specs.VacuumRows.{MayLeave}
 use Rattle.core_state.specs.Inner.Ghosts.{Ghost}
@@ -46,9 +47,9 @@ module _ (n : ℕ) (R : Log) (P Q : Pages) (g g' : Ghost) where
       → EntryWas P g g' e
   same_was q e s i = EntryWas.was q e (subst (In e) s i) refl refl
 
-  pub same_now : (q : ℕ) (e : Entry) → entries_of (Q q) ≡ entries_of (P q) → In e (entries_of (P q))
-      → EntryNow n R P Q g' e
-  same_now q e s i = EntryNow.now q e (subst (In e) (sym s) i) refl refl
+  pub same_now : (r : Record) (q : ℕ) (e : Entry) → entries_of (Q q) ≡ entries_of (P q) → In e (entries_of (P q))
+      → EntryNow n R P Q r g' e
+  same_now r q e s i = EntryNow.now q e (subst (In e) (sym s) i) refl refl
 
   -- items of a leaf that is the same
   pub leaf_same : (q s i : ℕ) → g.place q ≡ post s 0 → g.key_of s ≡ g'.key_of s

@@ -1,8 +1,8 @@
 -- How many pages come behind each in a list: fewer along each link.
 use Rattle.std.proofs.Common.{◌≡◌, ◌≢◌, ◌<◌, ◌==◌, ℕ, suc, Bool, cond, List, [], ◌∷◌, length, refl, sym, subst, inl, inr, arith}
 use Rattle.core_state.specs.Log.{In}
-use Rattle.core_state.specs.Inner.Nodes.{Node, Ghost}
-use Rattle.core_state.specs.Inner.Nodes.Node.{other, leaf, inner, gone}
+use Rattle.core_state.specs.Trees.Nodes.{Node, Ghost}
+use Rattle.core_state.specs.Trees.Nodes.Node.{other, leaf, inner, gone}
 use Rattle.core_state.proofs.Trees.Find.{right_in}
 use Rattle.core_state.proofs.Trees.Behind.{Comes, Once, comes_to, comes_from}
 use Rattle.core_state.proofs.Trees.Forward.{Forward, LinksTo}

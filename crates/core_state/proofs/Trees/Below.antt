@@ -1,9 +1,9 @@
 -- The pages below a root are those that have a place in its tree.
 use Rattle.std.proofs.Common.{◌≡◌, ◌⊎◌, ◌≤◌, ◌+◌, ◌-◌, ℕ, zero, suc, List, [], ◌∷◌, refl, sym, subst, inl, inr, arith}
 use Rattle.core_state.specs.Log.{In}
-use Rattle.core_state.specs.Inner.Nodes.{Order, Child, Node, Ghost, Sane}
-use Rattle.core_state.specs.Inner.Nodes.Node.{other, leaf, inner, gone}
-use Rattle.core_state.specs.Inner.Nodes.Place.{tree}
+use Rattle.core_state.specs.Trees.Nodes.{Order, Child, Node, Ghost, Sane}
+use Rattle.core_state.specs.Trees.Nodes.Node.{other, leaf, inner, gone}
+use Rattle.core_state.specs.Trees.Nodes.Place.{tree}
 use Rattle.core_state.proofs.Trees.Kids.{kid_place}
 
 abbrev pub child_pages : {E : Type 0} → List (Child E) → List ℕ

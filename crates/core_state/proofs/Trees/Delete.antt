@@ -2,9 +2,9 @@
 use Rattle.std.proofs.Common.{◌≡◌, ◌≢◌, ◌⊎◌, ℕ, suc, List, [], ◌∷◌, ◌++◌, refl, sym, ap, subst, subst₂, ◌∙◌, inl, inr, arith}
 use mathlib.Core.Logic.{⊎_swap}
 use Rattle.core_state.specs.Log.{In}
-use Rattle.core_state.specs.Inner.Nodes.{Order, Child, Node, Place, Ghost, put, AtMost, RightOk, Kids, LeafOk, InnerOk, LeftOk, Sane, IsDeleteLeaf, delete_ghost}
-use Rattle.core_state.specs.Inner.Nodes.Node.{leaf}
-use Rattle.core_state.specs.Inner.Nodes.Place.{none, tree, left}
+use Rattle.core_state.specs.Trees.Nodes.{Order, Child, Node, Place, Ghost, put, AtMost, RightOk, Kids, LeafOk, InnerOk, LeftOk, Sane, IsDeleteLeaf, delete_ghost}
+use Rattle.core_state.specs.Trees.Nodes.Node.{leaf}
+use Rattle.core_state.specs.Trees.Nodes.Place.{none, tree, left}
 use Rattle.core_state.proofs.PageLists.{same_or_not, in_back}
 use Rattle.core_state.proofs.Trees.Order.{put_here, put_else, tree_not_none, tree_not_left, same_tree, zero_suc, same_leaf, same_inner, inner_not_leaf, gone_not_leaf, less_at_most, at_most_trans}
 use Rattle.core_state.proofs.Trees.Members.{in_middle}

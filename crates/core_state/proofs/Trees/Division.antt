@@ -2,9 +2,9 @@
 use Rattle.std.proofs.Common.{◌≡◌, ◌≢◌, ◌⊎◌, ℕ, suc, List, [], ◌∷◌, ◌++◌, sym, ap, subst, subst₂, ◌∙◌, inl, inr, arith}
 use mathlib.Core.Logic.{⊎_swap}
 use Rattle.core_state.specs.Log.{In}
-use Rattle.core_state.specs.Inner.Nodes.{Order, Child, Node, Place, Ghost, put, AtMost, RightOk, Kids, LeafOk, InnerOk, LeftOk, Sane, split_ghost}
-use Rattle.core_state.specs.Inner.Nodes.Node.{leaf, inner}
-use Rattle.core_state.specs.Inner.Nodes.Place.{none, tree, left}
+use Rattle.core_state.specs.Trees.Nodes.{Order, Child, Node, Place, Ghost, put, AtMost, RightOk, Kids, LeafOk, InnerOk, LeftOk, Sane, split_ghost}
+use Rattle.core_state.specs.Trees.Nodes.Node.{leaf, inner}
+use Rattle.core_state.specs.Trees.Nodes.Place.{none, tree, left}
 use Rattle.core_state.proofs.PageLists.{same_or_not}
 use Rattle.core_state.proofs.Trees.Order.{put_here, put_else, tree_not_none, tree_not_left, left_not_none, same_tree, zero_suc, same_suc, same_inner, less_at_most, at_most_less}
 use Rattle.core_state.proofs.Trees.Members.{in_middle}

@@ -1,9 +1,9 @@
 -- The way down from a root to each page that covers a key.
 use Rattle.std.proofs.Common.{◌≡◌, ◌+◌, ◌-◌, ℕ, zero, suc, List, [], ◌∷◌, ◌++◌, map, refl, sym, ap, ap₂, subst, ◌∙◌, inl, inr, arith}
 use Rattle.core_state.specs.Log.{In}
-use Rattle.core_state.specs.Inner.Nodes.{Order, Child, Node, Ghost, AtMost, Kids, Sane}
-use Rattle.core_state.specs.Inner.Nodes.Node.{inner}
-use Rattle.core_state.specs.Inner.Nodes.Place.{tree}
+use Rattle.core_state.specs.Trees.Nodes.{Order, Child, Node, Ghost, AtMost, Kids, Sane}
+use Rattle.core_state.specs.Trees.Nodes.Node.{inner}
+use Rattle.core_state.specs.Trees.Nodes.Place.{tree}
 use Rattle.core_state.proofs.Trees.Order.{at_most_less, at_most_trans}
 use Rattle.core_state.proofs.Trees.Kids.{kid_bound, kids_order}
 use Rattle.core_state.proofs.Trees.Find.{kid_of}

@@ -13,12 +13,12 @@ use Rattle.core_state.specs.Log.{Log, Pages, In, changed}
 use Rattle.core_state.specs.TreeRows.{IsEntryBetween, IsAddItems, IsMakeTree, IsGrowRoot, OneChild}
 use Rattle.core_state.specs.VacuumRows.{EntryLoses, EntriesLose, ListsLose, IsRemoveItems}
 use Rattle.core_state.specs.Changes.{left_with}
-use Rattle.core_state.specs.Inner.Ext.{Ext}
-use Rattle.core_state.specs.Inner.Ext.Ext.{least, at, greatest}
-use Rattle.core_state.specs.Inner.Nodes.{Ghost, AtMost, Sane}
-use Rattle.core_state.specs.Inner.Nodes.Node.{leaf, inner}
-use Rattle.core_state.specs.Inner.Nodes.Place.{none, tree, left}
-use Rattle.core_state.specs.Inner.TreeNodes.{bound, entry_key, entry_body, entry_node, entry_nodes}
+use Rattle.core_state.specs.Trees.Ext.{Ext}
+use Rattle.core_state.specs.Trees.Ext.Ext.{least, at, greatest}
+use Rattle.core_state.specs.Trees.Nodes.{Ghost, AtMost, Sane}
+use Rattle.core_state.specs.Trees.Nodes.Node.{leaf, inner}
+use Rattle.core_state.specs.Trees.Nodes.Place.{none, tree, left}
+use Rattle.core_state.specs.Trees.TreeNodes.{bound, entry_key, entry_body, entry_node, entry_nodes}
 use Rattle.core_state.specs.Inner.TreePlaces.{EntryPlaces, IsNoEntryPage, HasMeta}
 use Rattle.core_state.proofs.PageLists.{in_either, in_front, in_back, one_page, two_pages}
 use Rattle.core_state.proofs.Trees.Members.{in_map, of_map, off_one, off_two}

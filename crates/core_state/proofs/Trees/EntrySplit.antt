@@ -12,12 +12,12 @@ use Rattle.page_types.specs.declared.record.Record.{Record}
 use Rattle.core_state.specs.Log.{Pages, In}
 use Rattle.core_state.specs.TreeRows.{EntryHalves, EntryParent}
 use Rattle.core_state.specs.Changes.{left_with, KeyAtMost}
-use Rattle.core_state.specs.Inner.Ext.{Ext}
-use Rattle.core_state.specs.Inner.Ext.Ext.{least, at, greatest}
-use Rattle.core_state.specs.Inner.Nodes.{Child, Ghost, AtMost, Sane, split_ghost}
-use Rattle.core_state.specs.Inner.Nodes.Node.{inner}
-use Rattle.core_state.specs.Inner.Nodes.Place.{none, tree}
-use Rattle.core_state.specs.Inner.TreeNodes.{bound, entry_key, entry_child, entry_body, entry_node, entry_nodes}
+use Rattle.core_state.specs.Trees.Ext.{Ext}
+use Rattle.core_state.specs.Trees.Ext.Ext.{least, at, greatest}
+use Rattle.core_state.specs.Trees.Nodes.{Child, Ghost, AtMost, Sane, split_ghost}
+use Rattle.core_state.specs.Trees.Nodes.Node.{inner}
+use Rattle.core_state.specs.Trees.Nodes.Place.{none, tree}
+use Rattle.core_state.specs.Trees.TreeNodes.{bound, entry_key, entry_child, entry_body, entry_node, entry_nodes}
 use Rattle.core_state.specs.Inner.TreePlaces.{EntryPlaces}
 use Rattle.core_state.proofs.Trees.Members.{some_map, of_map}
 use Rattle.core_state.proofs.Trees.FromNodes.{split_leaf_nodes, split_inner_nodes}

@@ -11,12 +11,12 @@ use Rattle.core_state.specs.Log.{Pages, In}
 use Rattle.core_state.specs.Known.{use_in}
 use Rattle.core_state.specs.Changes.{IsNew}
 use Rattle.core_state.specs.TreeRows.{Toward}
-use Rattle.core_state.specs.Inner.Ext.{Ext}
-use Rattle.core_state.specs.Inner.Ext.Ext.{least, at, greatest}
-use Rattle.core_state.specs.Inner.Nodes.{Child, Ghost, AtMost, Sane}
-use Rattle.core_state.specs.Inner.Nodes.Node.{leaf, inner}
-use Rattle.core_state.specs.Inner.Nodes.Place.{none, tree}
-use Rattle.core_state.specs.Inner.TreeNodes.{bound, entry_key, entry_child, entry_body, entry_node, entry_nodes}
+use Rattle.core_state.specs.Trees.Ext.{Ext}
+use Rattle.core_state.specs.Trees.Ext.Ext.{least, at, greatest}
+use Rattle.core_state.specs.Trees.Nodes.{Child, Ghost, AtMost, Sane}
+use Rattle.core_state.specs.Trees.Nodes.Node.{leaf, inner}
+use Rattle.core_state.specs.Trees.Nodes.Place.{none, tree}
+use Rattle.core_state.specs.Trees.TreeNodes.{bound, entry_key, entry_child, entry_body, entry_node, entry_nodes}
 use Rattle.core_state.specs.Inner.TreePlaces.{EntryPlaces, HasMeta}
 use Rattle.core_state.proofs.LivePages.{new_was}
 use Rattle.core_state.proofs.Trees.Members.{in_map, of_map, in_middle}

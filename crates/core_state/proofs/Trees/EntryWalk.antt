@@ -1,9 +1,9 @@
 -- A walk over rising moments down the entry tree and along its leaves reads each key that fits, where it stands then.
 use Rattle.std.proofs.Common.{◌≡◌, ◌≢◌, ◌⊎◌, ◌<◌, ◌≤◌, ◌+◌, ◌-◌, ℕ, zero, suc, Bool, true, false, cond, List, [], ◌∷◌, ◌++◌, refl, sym, ap, subst, ◌∙◌, inl, inr, arith}
 use Rattle.core_state.specs.Log.{In}
-use Rattle.core_state.specs.Inner.Nodes.{Order, Child, Node, Ghost, AtMost, RightOk, Kids, LeafOk, InnerOk, Sane}
-use Rattle.core_state.specs.Inner.Nodes.Node.{other, leaf, inner, gone}
-use Rattle.core_state.specs.Inner.Nodes.Place.{none, tree}
+use Rattle.core_state.specs.Trees.Nodes.{Order, Child, Node, Ghost, AtMost, RightOk, Kids, LeafOk, InnerOk, Sane}
+use Rattle.core_state.specs.Trees.Nodes.Node.{other, leaf, inner, gone}
+use Rattle.core_state.specs.Trees.Nodes.Place.{none, tree}
 use Rattle.core_state.proofs.Trees.Order.{tree_not_none, less_at_most, at_most_less}
 use Rattle.core_state.proofs.Trees.Find.{one_cover}
 use Rattle.core_state.proofs.Trees.Walk.{Read, Rising, rising_end}

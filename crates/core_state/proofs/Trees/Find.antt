@@ -1,9 +1,9 @@
 -- Where a key is found from a page whose low bound is below it; which pages of a level are one.
 use Rattle.std.proofs.Common.{◌≡◌, ◌⊎◌, ℕ, zero, suc, List, [], ◌∷◌, refl, sym, ap, ap₂, subst, ◌∙◌, inl, inr}
 use Rattle.core_state.specs.Log.{In}
-use Rattle.core_state.specs.Inner.Nodes.{Order, Child, Node, Ghost, AtMost, RightOk, Kids, InnerOk, Sane}
-use Rattle.core_state.specs.Inner.Nodes.Node.{other, leaf, inner, gone}
-use Rattle.core_state.specs.Inner.Nodes.Place.{tree}
+use Rattle.core_state.specs.Trees.Nodes.{Order, Child, Node, Ghost, AtMost, RightOk, Kids, InnerOk, Sane}
+use Rattle.core_state.specs.Trees.Nodes.Node.{other, leaf, inner, gone}
+use Rattle.core_state.specs.Trees.Nodes.Place.{tree}
 use Rattle.core_state.proofs.PageLists.{same_or_not}
 use Rattle.core_state.proofs.Trees.Order.{same_tree, same_inner, less_at_most, at_most_less, at_most_trans}
 use Rattle.core_state.proofs.Trees.Kids.{kid_place, kid_bound}

@@ -2,9 +2,9 @@
 -- two.
 use Rattle.std.proofs.Common.{◌≡◌, ◌≢◌, ◌⊎◌, ℕ, zero, suc, List, [], ◌∷◌, ◌++◌, refl, sym, ap, subst, ◌∙◌, inl, inr}
 use Rattle.core_state.specs.Log.{In}
-use Rattle.core_state.specs.Inner.Nodes.{Order, Child, Node, Place, Ghost, put, Sane, IsSplitLeaf, IsDeleteLeaf, split_ghost, delete_ghost}
-use Rattle.core_state.specs.Inner.Nodes.Node.{other, leaf, inner, gone}
-use Rattle.core_state.specs.Inner.Nodes.Place.{none, tree, left}
+use Rattle.core_state.specs.Trees.Nodes.{Order, Child, Node, Place, Ghost, put, Sane, IsSplitLeaf, IsDeleteLeaf, split_ghost, delete_ghost}
+use Rattle.core_state.specs.Trees.Nodes.Node.{other, leaf, inner, gone}
+use Rattle.core_state.specs.Trees.Nodes.Place.{none, tree, left}
 use Rattle.core_state.specs.Inner.Shapes.{IsSplitInner, IsMakeTree, IsNewKeys}
 use Rattle.core_state.proofs.PageLists.{same_or_not}
 use Rattle.core_state.proofs.Trees.Order.{put_here, put_else, tree_not_none, left_not_none, same_tree}

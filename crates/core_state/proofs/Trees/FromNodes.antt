@@ -1,9 +1,9 @@
 -- Steps of a tree from the nodes before and behind them: a divided leaf or inner page, and a grown root.
 use Rattle.std.proofs.Common.{◌≡◌, ◌≢◌, ◌⊎◌, ◌≤◌, ℕ, suc, List, [], ◌∷◌, ◌++◌, refl, sym, ap, ap₂, subst, ◌∙◌, inl, inr, arith}
 use Rattle.core_state.specs.Log.{In}
-use Rattle.core_state.specs.Inner.Nodes.{Order, Child, Node, Ghost, AtMost, RightOk, Sane, IsSplitLeaf, IsDeleteLeaf, split_ghost, delete_ghost}
-use Rattle.core_state.specs.Inner.Nodes.Node.{other, leaf, inner, gone}
-use Rattle.core_state.specs.Inner.Nodes.Place.{none, tree, left}
+use Rattle.core_state.specs.Trees.Nodes.{Order, Child, Node, Ghost, AtMost, RightOk, Sane, IsSplitLeaf, IsDeleteLeaf, split_ghost, delete_ghost}
+use Rattle.core_state.specs.Trees.Nodes.Node.{other, leaf, inner, gone}
+use Rattle.core_state.specs.Trees.Nodes.Place.{none, tree, left}
 use Rattle.core_state.specs.Inner.Shapes.{IsSplitInner}
 use Rattle.core_state.proofs.PageLists.{in_either, in_front, in_back}
 use Rattle.core_state.proofs.Trees.Members.{in_middle}

@@ -1,8 +1,8 @@
 -- A root that grows keeps its tree sane: the new page takes its content, and the root has it as its one child.
 use Rattle.std.proofs.Common.{◌≡◌, ◌≢◌, ◌⊎◌, ℕ, suc, List, [], ◌∷◌, refl, sym, ap, subst, subst₂, ap₂, ◌∙◌, inl, inr, arith}
-use Rattle.core_state.specs.Inner.Nodes.{Order, Child, Node, Place, Ghost, put, AtMost, RightOk, Kids, LeafOk, InnerOk, LeftOk, Sane}
-use Rattle.core_state.specs.Inner.Nodes.Node.{leaf, inner}
-use Rattle.core_state.specs.Inner.Nodes.Place.{none, tree, left}
+use Rattle.core_state.specs.Trees.Nodes.{Order, Child, Node, Place, Ghost, put, AtMost, RightOk, Kids, LeafOk, InnerOk, LeftOk, Sane}
+use Rattle.core_state.specs.Trees.Nodes.Node.{leaf, inner}
+use Rattle.core_state.specs.Trees.Nodes.Place.{none, tree, left}
 use Rattle.core_state.proofs.PageLists.{same_or_not}
 use Rattle.core_state.proofs.Trees.Order.{put_here, put_else, tree_not_none, tree_not_left, left_not_none, same_tree}
 use Rattle.core_state.proofs.Trees.Kids.{kid_place, kids_kept}

@@ -1,8 +1,8 @@
 -- A step of a tree with what it keeps; a step that touches no page of a tree.
 use Rattle.std.proofs.Common.{◌≡◌, ◌≢◌, ℕ, List, refl, inl, inr}
 use Rattle.core_state.specs.Log.{In}
-use Rattle.core_state.specs.Inner.Nodes.{Order, Node, Ghost}
-use Rattle.core_state.specs.Inner.Nodes.Place.{none}
+use Rattle.core_state.specs.Trees.Nodes.{Order, Node, Ghost}
+use Rattle.core_state.specs.Trees.Nodes.Place.{none}
 use Rattle.core_state.proofs.PageLists.{in_or_not}
 use Rattle.core_state.proofs.Trees.Steps.{Grows, Step, Keeps, KeepsIn}
 

@@ -1,7 +1,7 @@
 -- An inner page stays one of its tree and keeps its low bound over each step; so does a deleted leaf.
 use Rattle.std.proofs.Common.{◌≡◌, ◌≢◌, ℕ, suc, refl, sym, ap, subst, ◌∙◌, inl, inr}
-use Rattle.core_state.specs.Inner.Nodes.{Order, Node, Place, Ghost, put, AtMost, Sane, IsDeleteLeaf}
-use Rattle.core_state.specs.Inner.Nodes.Place.{none, tree, left}
+use Rattle.core_state.specs.Trees.Nodes.{Order, Node, Place, Ghost, put, AtMost, Sane, IsDeleteLeaf}
+use Rattle.core_state.specs.Trees.Nodes.Place.{none, tree, left}
 use Rattle.core_state.proofs.PageLists.{same_or_not, in_back}
 use Rattle.core_state.proofs.Trees.Order.{put_here, put_else, tree_not_none, tree_not_left, same_tree, zero_suc}
 use Rattle.core_state.proofs.Trees.Find.{child_here}

@@ -1,8 +1,8 @@
 -- The children of an inner page: they lie side by side between its bounds.
 use Rattle.std.proofs.Common.{◌≡◌, ◌≢◌, ℕ, List, [], ◌∷◌, ◌++◌, refl, sym, subst, ◌∙◌, inl, inr}
 use Rattle.core_state.specs.Log.{In}
-use Rattle.core_state.specs.Inner.Nodes.{Order, Child, Ghost, AtMost, Kids}
-use Rattle.core_state.specs.Inner.Nodes.Place.{tree}
+use Rattle.core_state.specs.Trees.Nodes.{Order, Child, Ghost, AtMost, Kids}
+use Rattle.core_state.specs.Trees.Nodes.Place.{tree}
 use Rattle.core_state.proofs.Trees.Order.{less_at_most}
 use Rattle.core_state.proofs.Trees.Members.{in_middle}
 

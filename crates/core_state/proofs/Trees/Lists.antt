@@ -1,8 +1,8 @@
 -- A new tree, and other keys on one leaf, keep the trees sane; so does a step that touches no page of a tree.
 use Rattle.std.proofs.Common.{◌≡◌, ◌≢◌, ◌⊎◌, ℕ, suc, refl, sym, ap, subst, subst₂, ◌∙◌, inl, inr, arith}
-use Rattle.core_state.specs.Inner.Nodes.{Order, Node, Place, Ghost, put, AtMost, RightOk, Kids, LeafOk, InnerOk, LeftOk, Sane}
-use Rattle.core_state.specs.Inner.Nodes.Node.{leaf}
-use Rattle.core_state.specs.Inner.Nodes.Place.{none, tree, left}
+use Rattle.core_state.specs.Trees.Nodes.{Order, Node, Place, Ghost, put, AtMost, RightOk, Kids, LeafOk, InnerOk, LeftOk, Sane}
+use Rattle.core_state.specs.Trees.Nodes.Node.{leaf}
+use Rattle.core_state.specs.Trees.Nodes.Place.{none, tree, left}
 use Rattle.core_state.specs.Inner.Shapes.{IsMakeTree, IsNewKeys}
 use Rattle.core_state.proofs.PageLists.{same_or_not}
 use Rattle.core_state.proofs.Trees.Order.{put_here, put_else, tree_not_none, tree_not_left, left_not_none, same_tree, zero_suc, same_leaf}

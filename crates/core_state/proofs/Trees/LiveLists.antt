@@ -2,8 +2,8 @@
 use Rattle.std.proofs.Common.{◌≡◌, ◌≢◌, ℕ, zero, suc, List, [], ◌∷◌, refl, sym, ap, subst, ◌∙◌, inl, inr}
 use Rattle.std.specs.Prelude.{⊤}
 use Rattle.core_state.specs.Log.{In}
-use Rattle.core_state.specs.Inner.Nodes.{Order, Child, Node, Place, Ghost, Sane, RightOk, Kids}
-use Rattle.core_state.specs.Inner.Nodes.Place.{none, tree, left}
+use Rattle.core_state.specs.Trees.Nodes.{Order, Child, Node, Place, Ghost, Sane, RightOk, Kids}
+use Rattle.core_state.specs.Trees.Nodes.Place.{none, tree, left}
 use Rattle.core_state.proofs.Trees.Order.{tree_not_none}
 use Rattle.core_state.proofs.Trees.Behind.{Comes, Once}
 use Rattle.core_state.proofs.Trees.Forward.{Forward, HasChild, LinksTo}

@@ -1,8 +1,8 @@
 -- The main part of a walk over real steps: an item that stays under a key that is sought is read under it.
 use Rattle.std.proofs.Common.{◌≡◌, ◌≢◌, ◌⊎◌, ◌<◌, ◌≤◌, ◌+◌, ◌-◌, ℕ, zero, suc, Bool, true, false, List, [], ◌∷◌, ◌++◌, refl, sym, ap, subst, subst₂, ◌∙◌, inl, inr, arith}
 use Rattle.core_state.specs.Log.{In}
-use Rattle.core_state.specs.Inner.Nodes.{Order, Child, Node, Ghost, AtMost, Kids, Sane}
-use Rattle.core_state.specs.Inner.Nodes.Place.{none, tree}
+use Rattle.core_state.specs.Trees.Nodes.{Order, Child, Node, Ghost, AtMost, Kids, Sane}
+use Rattle.core_state.specs.Trees.Nodes.Place.{none, tree}
 use Rattle.core_state.proofs.Trees.Walk.{Read, Rising, rising_end, Follows, along, IsIn, keys_of, meets}
 use Rattle.core_state.proofs.Trees.Walk as walking
 use Rattle.core_state.proofs.Trees.Steps.{Grows, Step, Keeps, OnTree, step_keeps, step_nil, step_stays, step_items, grows_live, grows_level}

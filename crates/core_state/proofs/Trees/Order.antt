@@ -1,8 +1,8 @@
 -- Orders with a greatest element, places, and changes of a ghost at one page.
 use Rattle.std.proofs.Common.{◌≡◌, ◌≢◌, ℕ, suc, List, sym, subst, inl, inr, arith}
-use Rattle.core_state.specs.Inner.Nodes.{Order, Child, put, AtMost}
-use Rattle.core_state.specs.Inner.Nodes.Node.{leaf, inner, gone}
-use Rattle.core_state.specs.Inner.Nodes.Place.{none, tree, left}
+use Rattle.core_state.specs.Trees.Nodes.{Order, Child, put, AtMost}
+use Rattle.core_state.specs.Trees.Nodes.Node.{leaf, inner, gone}
+use Rattle.core_state.specs.Trees.Nodes.Place.{none, tree, left}
 
 pub put_here : {A : Type 0} (f : ℕ → A) (p : ℕ) (x : A) → put f p x p ≡ x
 put_here f p x = grind arith

@@ -8,10 +8,10 @@ use Rattle.ts_base.specs.Keys.{Key}
 use Rattle.page_types.specs.Keys.{KeyLess}
 use Rattle.page_types.specs.Numbers.{no_bound}
 use Rattle.core_state.specs.Changes.{UpTo}
-use Rattle.core_state.specs.Inner.Nodes.{Order, AtMost}
-use Rattle.core_state.specs.Inner.Ext.{Ext, ext_less}
-use Rattle.core_state.specs.Inner.Ext.Ext.{least, at, greatest}
-use Rattle.core_state.specs.Inner.TreeNodes.{bound, high_bound, child_bound}
+use Rattle.core_state.specs.Trees.Nodes.{Order, AtMost}
+use Rattle.core_state.specs.Trees.Ext.{Ext, ext_less}
+use Rattle.core_state.specs.Trees.Ext.Ext.{least, at, greatest}
+use Rattle.core_state.specs.Trees.TreeNodes.{bound, high_bound, child_bound}
 use Rattle.core_state.proofs.PageLists.{same_or_not}
 
 module _ {E : Type 0} (o : Order E) where

@@ -1,9 +1,9 @@
 -- New trees, divided pages, grown roots and deleted leaves leave all trees hanging together below their roots.
 use Rattle.std.proofs.Common.{◌≡◌, ◌≢◌, ◌⊎◌, ◌≤◌, ℕ, zero, suc, ◌∷◌, ◌++◌, refl, sym, ap, ap₂, subst, ◌∙◌, inl, inr, arith}
 use Rattle.core_state.specs.Log.{In}
-use Rattle.core_state.specs.Inner.Nodes.{Order, Node, Place, Ghost, put, Sane, split_ghost}
-use Rattle.core_state.specs.Inner.Nodes.Node.{inner}
-use Rattle.core_state.specs.Inner.Nodes.Place.{tree, left}
+use Rattle.core_state.specs.Trees.Nodes.{Order, Node, Place, Ghost, put, Sane, split_ghost}
+use Rattle.core_state.specs.Trees.Nodes.Node.{inner}
+use Rattle.core_state.specs.Trees.Nodes.Place.{tree, left}
 use Rattle.core_state.specs.Inner.Shapes.{IsMakeTree}
 use Rattle.core_state.proofs.PageLists.{same_or_not}
 use Rattle.core_state.proofs.Trees.Order.{put_here, put_else, tree_not_left, same_tree}

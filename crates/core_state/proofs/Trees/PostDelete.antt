@@ -10,12 +10,12 @@ use Rattle.page_types.specs.declared.record.Record.{Record}
 use Rattle.core_state.specs.Log.{Log, Pages, In, changed}
 use Rattle.core_state.specs.TreeRows.{IsLeftLeaf, IsDeletePost}
 use Rattle.core_state.specs.Changes.{left_with}
-use Rattle.core_state.specs.Inner.Ext.{Ext}
-use Rattle.core_state.specs.Inner.Ext.Ext.{least, at, greatest}
-use Rattle.core_state.specs.Inner.Nodes.{Ghost, Sane, delete_ghost}
-use Rattle.core_state.specs.Inner.Nodes.Node.{leaf, inner}
-use Rattle.core_state.specs.Inner.Nodes.Place.{tree}
-use Rattle.core_state.specs.Inner.TreeNodes.{high_bound, child_bound, post_child, post_body, post_node, post_nodes}
+use Rattle.core_state.specs.Trees.Ext.{Ext}
+use Rattle.core_state.specs.Trees.Ext.Ext.{least, at, greatest}
+use Rattle.core_state.specs.Trees.Nodes.{Ghost, Sane, delete_ghost}
+use Rattle.core_state.specs.Trees.Nodes.Node.{leaf, inner}
+use Rattle.core_state.specs.Trees.Nodes.Place.{tree}
+use Rattle.core_state.specs.Trees.TreeNodes.{high_bound, child_bound, post_child, post_body, post_node, post_nodes}
 use Rattle.core_state.specs.Inner.TreePlaces.{PostPlaces, IsNoEntryPage, HasMeta}
 use Rattle.core_state.proofs.PageLists.{of_two, of_three, LeftLeaf, Unlinked, unlinked_pages}
 use Rattle.core_state.proofs.Trees.Members.{off_two, off_three}

@@ -10,12 +10,12 @@ use Rattle.core_state.specs.Log.{Log, Pages, In, changed}
 use Rattle.core_state.specs.TreeRows.{IsAddItems, IsMakeTree, IsAddPostings, IsGrowRoot, OneChild}
 use Rattle.core_state.specs.VacuumRows.{ItemsLeave, ListsLose, IsRemoveItems}
 use Rattle.core_state.specs.Changes.{left_with}
-use Rattle.core_state.specs.Inner.Ext.{Ext}
-use Rattle.core_state.specs.Inner.Ext.Ext.{least, at, greatest}
-use Rattle.core_state.specs.Inner.Nodes.{Ghost, AtMost, Sane}
-use Rattle.core_state.specs.Inner.Nodes.Node.{leaf, inner}
-use Rattle.core_state.specs.Inner.Nodes.Place.{none, tree}
-use Rattle.core_state.specs.Inner.TreeNodes.{high_bound, post_body, post_node, post_nodes}
+use Rattle.core_state.specs.Trees.Ext.{Ext}
+use Rattle.core_state.specs.Trees.Ext.Ext.{least, at, greatest}
+use Rattle.core_state.specs.Trees.Nodes.{Ghost, AtMost, Sane}
+use Rattle.core_state.specs.Trees.Nodes.Node.{leaf, inner}
+use Rattle.core_state.specs.Trees.Nodes.Place.{none, tree}
+use Rattle.core_state.specs.Trees.TreeNodes.{high_bound, post_body, post_node, post_nodes}
 use Rattle.core_state.specs.Inner.TreePlaces.{PostPlaces, IsNoPostPage, HasMeta, AreNamed}
 use Rattle.core_state.proofs.PageLists.{same_or_not, one_page, two_pages}
 use Rattle.core_state.proofs.Trees.Members.{in_map, of_map, off_one, off_two}

@@ -11,12 +11,12 @@ use Rattle.page_types.specs.declared.record.Record.{Record}
 use Rattle.core_state.specs.Log.{Pages, In}
 use Rattle.core_state.specs.TreeRows.{PostHalves, PostParent}
 use Rattle.core_state.specs.Changes.{left_with}
-use Rattle.core_state.specs.Inner.Ext.{Ext}
-use Rattle.core_state.specs.Inner.Ext.Ext.{least, at, greatest}
-use Rattle.core_state.specs.Inner.Nodes.{Child, Ghost, AtMost, Sane, split_ghost}
-use Rattle.core_state.specs.Inner.Nodes.Node.{leaf, inner}
-use Rattle.core_state.specs.Inner.Nodes.Place.{none, tree}
-use Rattle.core_state.specs.Inner.TreeNodes.{high_bound, child_bound, post_child, post_body, post_node, post_nodes}
+use Rattle.core_state.specs.Trees.Ext.{Ext}
+use Rattle.core_state.specs.Trees.Ext.Ext.{least, at, greatest}
+use Rattle.core_state.specs.Trees.Nodes.{Child, Ghost, AtMost, Sane, split_ghost}
+use Rattle.core_state.specs.Trees.Nodes.Node.{leaf, inner}
+use Rattle.core_state.specs.Trees.Nodes.Place.{none, tree}
+use Rattle.core_state.specs.Trees.TreeNodes.{high_bound, child_bound, post_child, post_body, post_node, post_nodes}
 use Rattle.core_state.specs.Inner.TreePlaces.{PostPlaces}
 use Rattle.core_state.proofs.Trees.Members.{some_map, of_map}
 use Rattle.core_state.proofs.Trees.FromNodes.{split_leaf_nodes, split_inner_nodes}

@@ -1,7 +1,7 @@
 -- Along right links each leaf, also one that was deleted, leads to the leaf that covers a key behind it.
 use Rattle.std.proofs.Common.{◌≡◌, ◌≢◌, ◌⊎◌, ◌<◌, ◌≤◌, ℕ, zero, suc, sym, ap, subst, ◌∙◌, inl, inr, arith}
-use Rattle.core_state.specs.Inner.Nodes.{Order, Node, Ghost, AtMost, Sane}
-use Rattle.core_state.specs.Inner.Nodes.Place.{none, tree, left}
+use Rattle.core_state.specs.Trees.Nodes.{Order, Node, Ghost, AtMost, Sane}
+use Rattle.core_state.specs.Trees.Nodes.Place.{none, tree, left}
 use Rattle.core_state.proofs.Trees.Order.{tree_not_none, left_not_none, at_most_less}
 use Rattle.core_state.proofs.Trees.Find.{right_in, right_here, one_cover}
 

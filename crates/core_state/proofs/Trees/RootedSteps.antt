@@ -1,9 +1,9 @@
 -- Each step of trees leaves them hanging together below their roots.
 use Rattle.std.proofs.Common.{◌≡◌, ◌≢◌, ◌⊎◌, ℕ, zero, suc, List, [], ◌∷◌, ◌++◌, refl, sym, ap, subst, ◌∙◌, inl, inr, arith}
 use Rattle.core_state.specs.Log.{In}
-use Rattle.core_state.specs.Inner.Nodes.{Order, Node, Place, Ghost, put, Sane, IsSplitLeaf, IsDeleteLeaf, delete_ghost}
-use Rattle.core_state.specs.Inner.Nodes.Node.{leaf, inner}
-use Rattle.core_state.specs.Inner.Nodes.Place.{tree, left}
+use Rattle.core_state.specs.Trees.Nodes.{Order, Node, Place, Ghost, put, Sane, IsSplitLeaf, IsDeleteLeaf, delete_ghost}
+use Rattle.core_state.specs.Trees.Nodes.Node.{leaf, inner}
+use Rattle.core_state.specs.Trees.Nodes.Place.{tree, left}
 use Rattle.core_state.specs.Inner.Shapes.{IsSplitInner}
 use Rattle.core_state.proofs.PageLists.{same_or_not, in_back}
 use Rattle.core_state.proofs.Trees.Order.{put_here, put_else, tree_not_left, same_tree, same_left}

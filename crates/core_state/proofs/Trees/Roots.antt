@@ -1,9 +1,9 @@
 -- The root of a tree.
 use Rattle.std.proofs.Common.{◌≡◌, ◌≤◌, ℕ, suc, sym, ◌∙◌, arith}
-use Rattle.core_state.specs.Inner.Ext.{Ext}
-use Rattle.core_state.specs.Inner.Ext.Ext.{least, greatest}
-use Rattle.core_state.specs.Inner.Nodes.{Node, Ghost}
-use Rattle.core_state.specs.Inner.Nodes.Place.{tree, left}
+use Rattle.core_state.specs.Trees.Ext.{Ext}
+use Rattle.core_state.specs.Trees.Ext.Ext.{least, greatest}
+use Rattle.core_state.specs.Trees.Nodes.{Node, Ghost}
+use Rattle.core_state.specs.Trees.Nodes.Place.{tree, left}
 use Rattle.core_state.proofs.Trees.Order.{same_tree}
 use Rattle.core_state.proofs.Law.Rooted.{AreRooted}
 

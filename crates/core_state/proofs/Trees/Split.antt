@@ -2,8 +2,8 @@
 -- parent and nothing else.
 use Rattle.std.proofs.Common.{◌≡◌, ◌≢◌, ℕ, suc, List, [], ◌∷◌, ◌++◌, sym, ap, subst, subst₂, ◌∙◌, arith}
 use Rattle.core_state.specs.Log.{In}
-use Rattle.core_state.specs.Inner.Nodes.{Order, Child, Node, Ghost, AtMost, RightOk, Kids, LeafOk, InnerOk, Sane, IsSplitLeaf, split_ghost}
-use Rattle.core_state.specs.Inner.Nodes.Node.{leaf}
+use Rattle.core_state.specs.Trees.Nodes.{Order, Child, Node, Ghost, AtMost, RightOk, Kids, LeafOk, InnerOk, Sane, IsSplitLeaf, split_ghost}
+use Rattle.core_state.specs.Trees.Nodes.Node.{leaf}
 use Rattle.core_state.specs.Inner.Shapes.{IsSplitInner}
 use Rattle.core_state.proofs.Trees.Order.{same_leaf, same_inner}
 use Rattle.core_state.proofs.Trees.Kids.{kids_front, kids_back, kids_span}

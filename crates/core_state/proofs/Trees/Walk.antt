@@ -1,9 +1,9 @@
 -- A walk over rising moments along a posting tree meets each item that stays in the tree.
 use Rattle.std.proofs.Common.{◌≡◌, ◌≢◌, ◌⊎◌, ◌<◌, ◌≤◌, ◌+◌, ◌-◌, ℕ, zero, suc, List, [], ◌∷◌, refl, sym, ap, subst, ◌∙◌, inl, inr, arith}
 use Rattle.core_state.specs.Log.{In}
-use Rattle.core_state.specs.Inner.Nodes.{Order, Child, Node, Ghost, AtMost, RightOk, Kids, LeafOk, InnerOk, LeftOk, Sane}
-use Rattle.core_state.specs.Inner.Nodes.Node.{other, leaf, inner, gone}
-use Rattle.core_state.specs.Inner.Nodes.Place.{none, tree, left}
+use Rattle.core_state.specs.Trees.Nodes.{Order, Child, Node, Ghost, AtMost, RightOk, Kids, LeafOk, InnerOk, LeftOk, Sane}
+use Rattle.core_state.specs.Trees.Nodes.Node.{other, leaf, inner, gone}
+use Rattle.core_state.specs.Trees.Nodes.Place.{none, tree, left}
 use Rattle.core_state.proofs.Trees.Order.{at_most_less}
 use Rattle.core_state.proofs.Trees.Find.{one_cover}
 

@@ -2,9 +2,9 @@
 -- tree.
 use Rattle.std.specs.Prelude.{ℕ, suc}
 use Rattle.ts_base.specs.Keys.{Key}
-use Rattle.core_state.specs.Inner.Nodes.{put}
-use Rattle.core_state.specs.Inner.Ext.{Ext}
-use Rattle.core_state.specs.Inner.Ext.Ext.{least, greatest}
+use Rattle.core_state.specs.Trees.Nodes.{put}
+use Rattle.core_state.specs.Trees.Ext.{Ext}
+use Rattle.core_state.specs.Trees.Ext.Ext.{least, greatest}
 use Rattle.core_state.specs.Inner.Ghosts.{Ghost}
 use Rattle.core_state.specs.Inner.Ghosts.Place.{meta, left, entry, post}
 

@@ -1,9 +1,9 @@
 -- Where each page stands, and what a log's pages don't say of its trees.
 use Rattle.std.specs.Prelude.{ℕ, List, []}
 use Rattle.ts_base.specs.Keys.{Key}
-use Rattle.core_state.specs.Inner.Nodes as nodes
-use Rattle.core_state.specs.Inner.Ext.{Ext}
-use Rattle.core_state.specs.Inner.Ext.Ext.{least}
+use Rattle.core_state.specs.Trees.Nodes as nodes
+use Rattle.core_state.specs.Trees.Ext.{Ext}
+use Rattle.core_state.specs.Trees.Ext.Ext.{least}
 
 -- where a page may stand; L is the length since which deleted pages are kept
 pub data Place : Type 0 where

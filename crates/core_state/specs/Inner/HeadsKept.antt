@@ -3,13 +3,9 @@
 use Rattle.std.specs.Prelude.{◌≡◌, ◌≢◌, ◌⊎◌, ℕ, ◌<◌, Some}
 use Rattle.page_types.specs.declared.page.Head.{Head}
 use Rattle.core_state.specs.Log.{Log, Pages, In, fate, next_serial}
-use Rattle.core_state.specs.Documents.{Doc, Has, IsDead, placed, marked, head_of}
+use Rattle.core_state.specs.Documents.{Doc, Has, IsDead, placed, marked, head_of, doc_at}
 use Rattle.core_state.specs.Inner.XidsDrawn.{XidsDrawn}
 use Rattle.core_state.specs.declared.answers.Fate.TheVariants.{Aborted, Committed}
-
--- the document with this item and this serial
-abbrev pub doc_at : ℕ → ℕ → Doc
-doc_at item serial = record { item = item; serial = serial }
 
 -- No document is placed twice, and no serial drawn twice. A head's document was placed by its
 -- inserting xid, and its deleting xid is 0 or marked the document; who else marked it has aborted.

@@ -9,9 +9,8 @@ use Rattle.page_types.specs.declared.page.Row.{Row}
 use Rattle.page_types.specs.declared.page.Entry.{Entry}
 use Rattle.page_types.specs.declared.page.Postings.TheVariants.{Inline, Root}
 use Rattle.core_state.specs.Log.{Log, Pages, In}
-use Rattle.core_state.specs.Documents.{Doc, Has, IsWhole, IsDead, head_of}
+use Rattle.core_state.specs.Documents.{Doc, Has, IsWhole, IsDead, head_of, doc_at}
 use Rattle.core_state.specs.Bullets.{Owned}
-use Rattle.core_state.specs.Inner.HeadsKept.{doc_at}
 use Rattle.core_state.specs.Inner.Ghosts.{Ghost}
 use Rattle.core_state.specs.Inner.Ghosts.Place.{line, post, private_of}
 

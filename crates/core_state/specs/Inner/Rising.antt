@@ -10,3 +10,8 @@ AreAbove p (q ∷ qs) = (p < q) × AreAbove p qs
 abbrev pub AreRising : List ℕ → Type 0
 AreRising [] = ⊤
 AreRising (p ∷ ps) = AreAbove p ps × AreRising ps
+
+-- rising pages, and how many more have room
+pub record RisingPages : Type 0 where
+  pub pages : List ℕ
+  pub left : ℕ

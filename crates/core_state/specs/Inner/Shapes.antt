@@ -1,9 +1,9 @@
 -- More steps of a tree: the division of an inner page, a new tree, and the keys of a leaf.
 use Rattle.std.specs.Prelude.{◌≡◌, ◌≢◌, ℕ, suc, List, [], ◌∷◌, ◌++◌}
 use Rattle.core_state.specs.Log.{In}
-use Rattle.core_state.specs.Inner.Nodes.{Order, Child, Node, Ghost, AtMost}
-use Rattle.core_state.specs.Inner.Nodes.Node.{leaf, inner}
-use Rattle.core_state.specs.Inner.Nodes.Place.{none, tree, left}
+use Rattle.core_state.specs.Trees.Nodes.{Order, Child, Node, Ghost, AtMost}
+use Rattle.core_state.specs.Trees.Nodes.Node.{leaf, inner}
+use Rattle.core_state.specs.Trees.Nodes.Place.{none, tree, left}
 
 -- the inner page p of height suc k in the tree r is divided behind the child last; the new page is n, the parent q
 pub record IsSplitInner {E : Type 0} (N M : ℕ → Node E) (g : Ghost E) (p n q r k : ℕ) : Type 0 where

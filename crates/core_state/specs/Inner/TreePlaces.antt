@@ -11,9 +11,9 @@ use Rattle.core_state.specs.Log.{Pages}
 use Rattle.core_state.specs.Known.{use_in}
 use Rattle.core_state.specs.Changes.{IsNew}
 use Rattle.core_state.specs.Index.{IsNamed}
-use Rattle.core_state.specs.Inner.Ext.{Ext}
-use Rattle.core_state.specs.Inner.Nodes.{Ghost}
-use Rattle.core_state.specs.Inner.Nodes.Place.{none, tree}
+use Rattle.core_state.specs.Trees.Ext.{Ext}
+use Rattle.core_state.specs.Trees.Nodes.{Ghost}
+use Rattle.core_state.specs.Trees.Nodes.Place.{none, tree}
 
 -- the page is no page of the entry tree
 abbrev pub IsNoEntryPage : Body → Type 0

@@ -1,0 +1,123 @@
+// What the core tells of pages to take, of running transactions and of documents, against the walks.
+use crate::told::{CORE_DIFFERS, PAGES};
+use core_state::{Life, State};
+use log_walks::{Doc, Fate, Fault, Ledger, Store, must};
+use page_types::{Kind, Name, Record};
+
+/// The lowest page that no record has changed.
+fn lowest_unused(store: &Store) -> Option<u32> {
+    for page in 0..PAGES {
+        if store.page(page).is_none() {
+            return Some(page);
+        }
+    }
+    None
+}
+
+/// The lowest page that a record of number `since` at most has deleted.
+fn lowest_deleted(store: &Store, since: u64) -> Option<u32> {
+    for (page, shown) in store.pages() {
+        if shown.deleted && shown.stamp <= since {
+            return Some(*page);
+        }
+    }
+    None
+}
+
+/// Whether the state names the pages to take.
+fn same_pages(state: &State, store: &Store, records: u64) -> bool {
+    let half = records / 2;
+    state.unused() == lowest_unused(store)
+        && state.extent() == PAGES
+        && state.reusable(records) == lowest_deleted(store, records)
+        && state.reusable(half) == lowest_deleted(store, half)
+        && state.reusable(u64::MAX) == lowest_deleted(store, u64::MAX)
+}
+
+/// The name of a document.
+fn name_of(doc: &Doc) -> Name {
+    Name {
+        page: doc.page(),
+        slot: u16::try_from(doc.slot()).unwrap_or(u16::MAX),
+        serial: doc.serial,
+    }
+}
+
+/// The commits that inserted and deleted a document.
+fn life(ledger: &Ledger, doc: &Doc) -> Option<Life> {
+    let mut inserted = None;
+    let mut deleted = None;
+    for transaction in &ledger.transactions {
+        if let Fate::Committed(commit) = transaction.fate {
+            if transaction.placed.contains(doc) {
+                inserted = Some(commit);
+            }
+            if transaction.marked.contains(doc) {
+                deleted = Some(commit);
+            }
+        }
+    }
+    Some(Life {
+        inserted: inserted?,
+        deleted,
+    })
+}
+
+/// Whether the state has the life of this document, and of none in the slot behind its own.
+fn same_life(state: &State, ledger: &Ledger, doc: &Doc) -> bool {
+    let name = name_of(doc);
+    let other = Name {
+        slot: name.slot ^ 1,
+        ..name
+    };
+    state.document(&name) == life(ledger, doc) && state.document(&other).is_none()
+}
+
+/// Whether the state has the lives of the documents of the record's transaction, where it ends, or of
+/// the document that the record places or marks.
+fn same_lives(state: &State, ledger: &Ledger, record: &Record) -> bool {
+    let Some(transaction) = ledger.transaction(record.xid) else {
+        return true;
+    };
+    let mut docs = transaction.placed.iter().chain(&transaction.marked);
+    match record.kind {
+        Kind::Commit { .. } | Kind::Abort => docs.all(|doc| same_life(state, ledger, doc)),
+        Kind::PlaceHead { item, serial } | Kind::MarkDeleted { item, serial } => {
+            same_life(state, ledger, &Doc { item, serial })
+        }
+        _ => true,
+    }
+}
+
+/// Whether the names end with the last of the documents, and are as many.
+fn end_alike(names: &[Name], docs: &[Doc]) -> bool {
+    names.len() == docs.len() && names.last().copied() == docs.last().map(name_of)
+}
+
+/// Whether the state has the record's transaction, where it runs.
+fn same_running(state: &State, ledger: &Ledger, record: &Record) -> bool {
+    let told = state.running(record.xid);
+    match ledger.transaction(record.xid) {
+        Some(walked) if walked.fate == Fate::Running => match told {
+            Some(told) => {
+                end_alike(told.inserted.as_slice(), &walked.placed)
+                    && end_alike(told.deleted.as_slice(), &walked.marked)
+            }
+            None => false,
+        },
+        _ => told.is_none(),
+    }
+}
+
+/// The state behind a valid record, which leaves these pages, tells what the walks find.
+pub(crate) fn must_choose(
+    state: &State,
+    ledger: &Ledger,
+    store: &Store,
+    record: &Record,
+) -> Result<(), Fault> {
+    let same = same_pages(state, store, ledger.records)
+        && same_running(state, ledger, record)
+        && same_lives(state, ledger, record);
+    must(same, CORE_DIFFERS)
+}
