@@ -1,1 +1,5 @@
+pub mod Folder
+pub mod System
 pub mod FileDisk
+pub mod MemoryFolder
+pub mod Inner

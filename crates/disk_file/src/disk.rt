@@ -1,18 +1,21 @@
 // The device over two files.
-ghost use Rattle.std.specs.Prelude.{◌≡◌, ◌+◌, ◌≤◌, length, [], ⊤};
+ghost use Rattle.std.specs.Prelude.{◌≡◌, ◌⊎◌, ◌+◌, ◌<◌, ◌≤◌, length, IfOk, OnOk, OnErr};
 ghost use Rattle.std.specs.Io.{ReadsAtMost};
-ghost use Rattle.disk_trait.specs.Device.{HasCause, CountsFailures};
-ghost use Rattle.disk_trait.specs.Files.{file_limit};
+ghost use Rattle.disk_trait.specs.Device.{HasCause, CountsFailures, FileTorn, FileWritten, Reads, Elapses, LeavesNoMore, Follows, Durable, Rose};
+ghost use Rattle.disk_trait.specs.Files.{file_bytes, file_limit};
 ghost use Rattle.disk_trait.specs.Schedules.{HasRisen};
-ghost use Rattle.disk_file.specs.FileDisk.{faults_of, write_faults_of, HasNoneOpen, FailsAtLast};
+ghost use Rattle.disk_file.specs.FileDisk.{faults_of, write_faults_of, HasNoneOpen, IsAtLast, FailsAtLast};
+ghost use Rattle.disk_file.specs.Folder.{left_now, Holds};
 
 use crate::counts::Counts;
+use crate::host::HostFolder;
 use crate::opened::Opened;
 use disk_trait::{Disk, Failed, File};
-use std::fs;
-use std::rt::Files;
 
-/// The files `ginsh.log` and `ginsh.data` of the working directory. Nothing is told of what they hold.
+/// No call goes past this place.
+const MOST_PLACE: u64 = 1 << 62;
+
+/// The two files of a store in a folder. What it tells of them is what its folder tells.
 ///
 /// The first call on a file opens it for reading and writing, or makes it where it is absent, and locks it for as long
 /// as the device is there; then the folder is synced, so that a file that was made stays after a crash. A file that
@@ -20,52 +23,75 @@ use std::rt::Files;
 /// again.
 ///
 /// `Failed` means that the system refused the call, and each is counted. A call that a signal interrupts is tried
-/// again. Where a count stands at its last number, each call fails, and the system isn't called.
+/// again. A write of no bytes is a fault, and so is a read at a place past 2^62. Where a count stands at its last
+/// number, each call fails, and the system isn't called.
 #[derive(Drop)]
-pub struct FileDisk<'a, R> {
+pub struct FileDisk<F: HostFolder> {
     /// The files that a call has opened.
-    opened: Opened<'a, R>,
+    opened: Opened<F>,
     /// How often it has failed.
     counts: Counts,
 }
 
-impl<'a, R: Files<File = fs::File>> FileDisk<'a, R> {
+impl<F: HostFolder> FileDisk<F> {
     /// It opens nothing, and takes no memory.
-    pub fn new(files: &'a R) -> FileDisk<'a, R>
+    pub fn new(folder: F) -> FileDisk<F>
         ensures counts { (faults_of result ≡ 0) × (write_faults_of result ≡ 0) }
         ensures closed { HasNoneOpen result }
+        ensures over { result.opened.folder ≡ folder }
     {
         FileDisk {
-            opened: Opened::new(files),
+            opened: Opened::new(folder),
             counts: Counts::new(),
         }
     }
+
+    /// The folder.
+    pub fn folder(&self) -> &F
+        ensures { result.now ≡ self.now.opened.folder }
+    {
+        &self.opened.folder
+    }
 }
 
-impl<'a, R: Files<File = fs::File>> Disk for FileDisk<'a, R> {
-    ghost tells = { ⊥ };
+impl<F: HostFolder> Disk for FileDisk<F> {
+    ghost tells = { F.tells };
 
-    ghost seen = { λ d. record { log = []; pages = [] } };
+    ghost seen = { λ d. (F.state d.opened.folder).seen };
 
-    ghost clock = { λ d. 0 };
+    ghost clock = { λ d. (F.state d.opened.folder).clock };
 
-    ghost image = { λ d m c. ⊤ };
+    ghost image = { λ d. (F.state d.opened.folder).image };
 
     ghost fault_count = { faults_of };
 
     ghost write_fault_count = { write_faults_of };
 
-    ghost seen_is_image = { λ d told. absurd told };
+    ghost seen_is_image = { λ d told. F.seen_is_image d.opened.folder told };
 
     /// It reads until the buffer is full or the file ends.
     fn read(&mut self, file: File, at: u64, buf: &mut [u8]) -> Result<usize, Failed>
         ensures bound { ReadsAtMost result buf.new }
+        ensures bytes { F.tells → IfOk result
+            (λ n. Reads (file_bytes file (F.state self.old.opened.folder).seen) at buf.new n) }
+        ensures seen { F.tells
+            → (F.state self.new.opened.folder).seen ≡ (F.state self.old.opened.folder).seen }
+        ensures crash { F.tells → LeavesNoMore (left_now (F.state self.old.opened.folder))
+            (left_now (F.state self.new.opened.folder)) }
+        ensures time { Elapses (F.state self.old.opened.folder).clock
+            (F.state self.new.opened.folder).clock (F.state self.old.opened.folder).image
+            (F.state self.new.opened.folder).image }
         ensures cause { HasCause (faults_of self.old) (faults_of self.new) result }
         ensures writes { write_faults_of self.new ≡ write_faults_of self.old }
         ensures counted { HasRisen (faults_of self.old) (faults_of self.new) result }
         ensures last { FailsAtLast self.old self.new result }
+        ensures holds { Holds file self.old.opened.log self.old.opened.pages
+            self.new.opened.log self.new.opened.pages result }
+        ensures reason { F.tells → OnErr result (IsAtLast self.old ⊎ (file_limit < at)
+            ⊎ Rose (F.state self.old.opened.folder).errors
+            (F.state self.new.opened.folder).errors) }
     {
-        if self.counts.is_last() {
+        if at > MOST_PLACE || self.counts.is_last() {
             return Err(self.counts.fail());
         }
         match self.opened.read(file, at, buf) {
@@ -77,13 +103,26 @@ impl<'a, R: Files<File = fs::File>> Disk for FileDisk<'a, R> {
     /// Of a write that failed, some bytes may stand in the file.
     fn write_at(&mut self, file: File, at: u64, bytes: &[u8]) -> Result<(), Failed>
         requires { at + length bytes.now ≤ file_limit }
+        ensures written { F.tells → OnOk result (FileWritten file at bytes.now
+            (F.state self.old.opened.folder).seen (F.state self.new.opened.folder).seen) }
+        ensures crash { F.tells → Follows (FileTorn file at (length bytes.now))
+            (left_now (F.state self.old.opened.folder))
+            (left_now (F.state self.new.opened.folder)) }
+        ensures time { Elapses (F.state self.old.opened.folder).clock
+            (F.state self.new.opened.folder).clock (F.state self.old.opened.folder).image
+            (F.state self.new.opened.folder).image }
         ensures cause { HasCause (faults_of self.old) (faults_of self.new) result }
         ensures writes { CountsFailures (write_faults_of self.old) (write_faults_of self.new) result }
         ensures counted { HasRisen (faults_of self.old) (faults_of self.new) result }
         ensures counted_write { HasRisen (write_faults_of self.old) (write_faults_of self.new) result }
         ensures last { FailsAtLast self.old self.new result }
+        ensures holds { Holds file self.old.opened.log self.old.opened.pages
+            self.new.opened.log self.new.opened.pages result }
+        ensures reason { F.tells → OnErr result (IsAtLast self.old ⊎ (length bytes.now ≡ 0)
+            ⊎ Rose (F.state self.old.opened.folder).errors
+            (F.state self.new.opened.folder).errors) }
     {
-        if self.counts.is_last() {
+        if bytes.is_empty() || self.counts.is_last() {
             return Err(self.counts.fail_write());
         }
         match self.opened.write(file, at, bytes) {
@@ -94,11 +133,26 @@ impl<'a, R: Files<File = fs::File>> Disk for FileDisk<'a, R> {
 
     /// It syncs the bytes of the file, and its length.
     fn sync(&mut self, file: File) -> Result<(), Failed>
+        ensures durable { F.tells → OnOk result (Durable file
+            (file_bytes file (F.state self.old.opened.folder).seen)
+            (left_now (F.state self.new.opened.folder))) }
+        ensures seen { F.tells
+            → (F.state self.new.opened.folder).seen ≡ (F.state self.old.opened.folder).seen }
+        ensures crash { F.tells → LeavesNoMore (left_now (F.state self.old.opened.folder))
+            (left_now (F.state self.new.opened.folder)) }
+        ensures time { Elapses (F.state self.old.opened.folder).clock
+            (F.state self.new.opened.folder).clock (F.state self.old.opened.folder).image
+            (F.state self.new.opened.folder).image }
         ensures cause { HasCause (faults_of self.old) (faults_of self.new) result }
         ensures writes { CountsFailures (write_faults_of self.old) (write_faults_of self.new) result }
         ensures counted { HasRisen (faults_of self.old) (faults_of self.new) result }
         ensures counted_write { HasRisen (write_faults_of self.old) (write_faults_of self.new) result }
         ensures last { FailsAtLast self.old self.new result }
+        ensures holds { Holds file self.old.opened.log self.old.opened.pages
+            self.new.opened.log self.new.opened.pages result }
+        ensures reason { F.tells → OnErr result (IsAtLast self.old
+            ⊎ Rose (F.state self.old.opened.folder).errors
+            (F.state self.new.opened.folder).errors) }
     {
         if self.counts.is_last() {
             return Err(self.counts.fail_write());
@@ -111,10 +165,24 @@ impl<'a, R: Files<File = fs::File>> Disk for FileDisk<'a, R> {
 
     /// The length that the system gives.
     fn length(&mut self, file: File) -> Result<u64, Failed>
+        ensures length { F.tells → IfOk result
+            (λ n. n ≡ length (file_bytes file (F.state self.old.opened.folder).seen)) }
+        ensures seen { F.tells
+            → (F.state self.new.opened.folder).seen ≡ (F.state self.old.opened.folder).seen }
+        ensures crash { F.tells → LeavesNoMore (left_now (F.state self.old.opened.folder))
+            (left_now (F.state self.new.opened.folder)) }
+        ensures time { Elapses (F.state self.old.opened.folder).clock
+            (F.state self.new.opened.folder).clock (F.state self.old.opened.folder).image
+            (F.state self.new.opened.folder).image }
         ensures cause { HasCause (faults_of self.old) (faults_of self.new) result }
         ensures writes { write_faults_of self.new ≡ write_faults_of self.old }
         ensures counted { HasRisen (faults_of self.old) (faults_of self.new) result }
         ensures last { FailsAtLast self.old self.new result }
+        ensures holds { Holds file self.old.opened.log self.old.opened.pages
+            self.new.opened.log self.new.opened.pages result }
+        ensures reason { F.tells → OnErr result (IsAtLast self.old
+            ⊎ Rose (F.state self.old.opened.folder).errors
+            (F.state self.new.opened.folder).errors) }
     {
         if self.counts.is_last() {
             return Err(self.counts.fail());

@@ -1,122 +1,146 @@
-// The files, each opened at the first call on it.
+// A folder and its files, each opened at the first call on it.
+ghost use Rattle.std.specs.Prelude.{◌≡◌, ◌+◌, ◌≤◌, true, length, None, Some, IfOk, OnOk, OnErr};
 ghost use Rattle.std.specs.Io.{ReadsAtMost};
-ghost use Rattle.std.specs.Prelude.{◌≡◌, None};
+ghost use Rattle.disk_trait.specs.Files.{file_bytes, file_limit};
+ghost use Rattle.disk_trait.specs.Device.{Reads, Durable};
+ghost use Rattle.disk_trait.specs.declared.device.File.{File};
+ghost use Rattle.disk_trait.specs.declared.device.File.TheVariants.{Log, Pages};
+ghost use Rattle.disk_file.specs.Folder.{left_now, StandsStill, OnlyLooks, OnlyTears, OnlySettles, HasPut, Blames, is_held, slot, other_slot, StaysHeld, Holds};
 
+use crate::calls::{length_of, open_file, read_from, write_to};
+use crate::host::HostFolder;
 use disk_trait::File;
-use std::fs::OpenOptions;
-use std::io::ErrorKind;
-use std::os::unix::fs::FileExt;
-use std::rt::Files;
-use std::{fs, io};
+use std::io;
 
+/// A file that is held is locked, and it is there after a crash.
 #[derive(Drop)]
-pub struct Opened<'a, R> {
+pub struct Opened<F: HostFolder> {
     /// Where they are opened.
-    files: &'a R,
+    pub folder: F,
     /// The file `Log`, once a call on it has opened it.
-    log: Option<fs::File>,
+    pub log: Option<F::Handle>,
     /// The file `Pages`, once a call on it has opened it.
-    pages: Option<fs::File>,
+    pub pages: Option<F::Handle>,
+    ghost log_held: { is_held F.locks (F.state folder).names Log log ≡ true },
+    ghost pages_held: { is_held F.locks (F.state folder).names Pages pages ≡ true },
 }
 
-fn name_of(file: File) -> &'static str {
-    match file {
-        File::Log => "ginsh.log",
-        File::Pages => "ginsh.data",
-    }
-}
-
-/// A file that is opened, or made, and locked. What was made stays after a crash once its folder is synced. The
-/// folder is synced for a file that was there too: the call that made it may have been cut short before its sync.
-fn open_file<R: Files<File = fs::File>>(files: &R, file: File) -> io::Result<fs::File> {
-    let opened = OpenOptions::new()
-        .read(true)
-        .write(true)
-        .create(true)
-        .open(files, name_of(file))?;
-    if let Err(error) = opened.try_lock() {
-        return Err(io::Error::from(error));
-    }
-    let folder = fs::File::open(files, ".")?;
-    folder.sync_all()?;
-    Ok(opened)
-}
-
-/// As many bytes as are there from a place on, and as the buffer has room for.
-fn read_from(file: &fs::File, at: u64, buf: &mut [u8]) -> io::Result<usize>
-    ensures { ReadsAtMost result buf.new }
-{
-    let mut got = 0;
-    for _ in 0..u64::MAX {
-        if got >= buf.len() {
-            return Ok(buf.len());
-        }
-        match file.read_at(&mut buf[got..], at.saturating_add(got as u64)) {
-            Ok(0) => return Ok(got),
-            Ok(n) => got += n,
-            Err(error) if error.kind() == ErrorKind::Interrupted => {}
-            Err(error) => return Err(error),
-        }
-    }
-    Err(io::Error::from(ErrorKind::Interrupted))
-}
-
-fn length_of(file: &fs::File) -> io::Result<u64> {
-    for _ in 0..u64::MAX {
-        match file.metadata() {
-            Ok(about) => return Ok(about.len()),
-            Err(error) if error.kind() == ErrorKind::Interrupted => {}
-            Err(error) => return Err(error),
-        }
-    }
-    Err(io::Error::from(ErrorKind::Interrupted))
-}
-
-impl<'a, R: Files<File = fs::File>> Opened<'a, R> {
-    pub fn new(files: &'a R) -> Opened<'a, R>
-        ensures { (result.log ≡ None) × (result.pages ≡ None) }
+impl<F: HostFolder> Opened<F> {
+    pub fn new(folder: F) -> Opened<F>
+        ensures closed { (result.log ≡ None) × (result.pages ≡ None) }
+        ensures over { result.folder ≡ folder }
     {
         Opened {
-            files,
+            folder,
             log: None,
             pages: None,
         }
     }
 
-    /// The file, which the first call on it opens.
-    fn get(&mut self, file: File) -> io::Result<&fs::File> {
-        let files = self.files;
-        let place = match file {
-            File::Log => &mut self.log,
-            File::Pages => &mut self.pages,
+    /// Takes a file out, which the first call on it opens.
+    fn take(&mut self, file: File) -> io::Result<F::Handle>
+        ensures locked { IfOk result (λ h. F.locks h file ≡ true) }
+        ensures named { OnOk result ((F.state self.new.folder).names file ≡ true) }
+        ensures held { IfOk result
+            (λ h. StaysHeld (slot file self.old.log self.old.pages) (Some h)) }
+        ensures unheld { OnErr result
+            (slot file self.new.log self.new.pages ≡ slot file self.old.log self.old.pages) }
+        ensures other { other_slot file self.new.log self.new.pages
+            ≡ other_slot file self.old.log self.old.pages }
+        ensures still { StandsStill F.tells (F.state self.old.folder) (F.state self.new.folder) }
+        ensures errors { F.tells
+            → Blames (F.state self.old.folder).errors (F.state self.new.folder).errors result }
+    {
+        let held = match file {
+            File::Log => self.log.take(),
+            File::Pages => self.pages.take(),
         };
-        if place.is_none() {
-            *place = Some(open_file(files, file)?);
+        match held {
+            Some(handle) => Ok(handle),
+            None => open_file(&mut self.folder, file),
         }
-        match place {
-            Some(opened) => Ok(opened),
-            None => unreachable!(),
+    }
+
+    /// Puts a file back.
+    fn put(&mut self, file: File, handle: F::Handle)
+        requires locked { F.locks handle file ≡ true }
+        requires named { (F.state self.old.folder).names file ≡ true }
+        ensures folder { self.new.folder ≡ self.old.folder }
+        ensures held { slot file self.new.log self.new.pages ≡ Some handle }
+        ensures other { other_slot file self.new.log self.new.pages
+            ≡ other_slot file self.old.log self.old.pages }
+    {
+        match file {
+            File::Log => self.log = Some(handle),
+            File::Pages => self.pages = Some(handle),
         }
     }
 
     pub fn read(&mut self, file: File, at: u64, buf: &mut [u8]) -> io::Result<usize>
-        ensures { ReadsAtMost result buf.new }
+        requires { at ≤ file_limit }
+        ensures holds { Holds file self.old.log self.old.pages self.new.log self.new.pages
+            result }
+        ensures bound { ReadsAtMost result buf.new }
+        ensures bytes { F.tells → IfOk result
+            (λ n. Reads (file_bytes file (F.state self.old.folder).seen) at buf.new n) }
+        ensures looks { OnlyLooks F.tells (F.state self.old.folder) (F.state self.new.folder) }
+        ensures errors { F.tells
+            → Blames (F.state self.old.folder).errors (F.state self.new.folder).errors result }
     {
-        match self.get(file) {
-            Ok(opened) => read_from(opened, at, buf),
+        match self.take(file) {
+            Ok(handle) => {
+                let answer = read_from(&mut self.folder, &handle, at, buf);
+                self.put(file, handle);
+                answer
+            }
             Err(error) => Err(error),
         }
     }
 
-    pub fn write(&mut self, file: File, at: u64, bytes: &[u8]) -> io::Result<()> {
-        self.get(file)?.write_all_at(bytes, at)
+    pub fn write(&mut self, file: File, at: u64, bytes: &[u8]) -> io::Result<()>
+        requires { at + length bytes.now ≤ file_limit }
+        ensures holds { Holds file self.old.log self.old.pages self.new.log self.new.pages
+            result }
+        ensures written { F.tells → OnOk result (HasPut file at bytes.now
+            (F.state self.old.folder).seen (F.state self.new.folder).seen) }
+        ensures tears { OnlyTears F.tells file at (length bytes.now)
+            (F.state self.old.folder) (F.state self.new.folder) }
+        ensures errors { F.tells
+            → Blames (F.state self.old.folder).errors (F.state self.new.folder).errors result }
+    {
+        let handle = self.take(file)?;
+        let answer = write_to(&mut self.folder, &handle, at, bytes);
+        self.put(file, handle);
+        answer
     }
 
-    pub fn sync(&mut self, file: File) -> io::Result<()> {
-        self.get(file)?.sync_data()
+    pub fn sync(&mut self, file: File) -> io::Result<()>
+        ensures holds { Holds file self.old.log self.old.pages self.new.log self.new.pages
+            result }
+        ensures durable { F.tells → OnOk result (Durable file
+            (file_bytes file (F.state self.old.folder).seen) (left_now (F.state self.new.folder))) }
+        ensures settles { OnlySettles F.tells (F.state self.old.folder) (F.state self.new.folder) }
+        ensures errors { F.tells
+            → Blames (F.state self.old.folder).errors (F.state self.new.folder).errors result }
+    {
+        let handle = self.take(file)?;
+        let answer = self.folder.sync(&handle);
+        self.put(file, handle);
+        answer
     }
 
-    pub fn length(&mut self, file: File) -> io::Result<u64> {
-        length_of(self.get(file)?)
+    pub fn length(&mut self, file: File) -> io::Result<u64>
+        ensures holds { Holds file self.old.log self.old.pages self.new.log self.new.pages
+            result }
+        ensures length { F.tells → IfOk result
+            (λ n. n ≡ length (file_bytes file (F.state self.old.folder).seen)) }
+        ensures looks { OnlyLooks F.tells (F.state self.old.folder) (F.state self.new.folder) }
+        ensures errors { F.tells
+            → Blames (F.state self.old.folder).errors (F.state self.new.folder).errors result }
+    {
+        let handle = self.take(file)?;
+        let answer = length_of(&mut self.folder, &handle);
+        self.put(file, handle);
+        answer
     }
 }

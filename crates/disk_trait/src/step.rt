@@ -6,7 +6,7 @@ ghost use Rattle.disk_trait.specs.Runs.{images_now, LeavesOnly, TornFrom, IsWrit
 use crate::device::{Disk, Failed, File};
 
 /// Two calls of the device. At each moment of them a crash leaves an earlier image with this range
-/// torn, and after them the bytes stand.
+/// torn, and after them the bytes stand. The clock never falls, also on a device that tells nothing.
 pub fn write_and_sync<D: Disk>(
     disk: &mut D,
     file: File,
@@ -19,6 +19,7 @@ pub fn write_and_sync<D: Disk>(
     ensures any_moment { D.tells
         → LeavesOnly D.Disk disk.old disk.new
         (TornFrom file at (length bytes.now) (images_now D.Disk disk.old)) }
+    ensures time { D.Disk.clock disk.old ≤ D.Disk.clock disk.new }
     ensures cause { RunHasCause D.Disk disk.old disk.new result }
 {
     disk.write_at(file, at, bytes)?;
