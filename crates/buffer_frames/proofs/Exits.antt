@@ -2,8 +2,8 @@
 use Rattle.std.proofs.Common.{◌≡◌, Result, Err, refl}
 use Rattle.std.specs.Prelude.{IsErrOf}
 use Rattle.wal.specs.Causes as logs
-use Rattle.wal.specs.declared.error.WalError.{WalError}
-use Rattle.wal.specs.declared.error.WalError.TheVariants as wal
+use Rattle.wal.specs.declared.error.ReadError.{ReadError}
+use Rattle.wal.specs.declared.error.ReadError.TheVariants as wal
 use Rattle.buffer_frames.specs.Causes.{NotAStoreWhere}
 use Rattle.buffer_frames.specs.Inner.Faults.{fault_of_log}
 use Rattle.buffer_frames.specs.declared.error.OpenFault.{OpenFault}
@@ -14,12 +14,10 @@ pub one_error : {T E : Type 0} (r : Result T E) (y e : E) → r ≡ Err y → Is
 one_error r y e is at = cc
 
 -- what a call of the log refuses, the opening refuses so
-pub refused_log : (T U : Type 0) (P Q : Type 0) (e : WalError) → (Q → P) → logs.NotAStoreWhere {T = T} Q (Err e)
+pub refused_log : (T U : Type 0) (P Q : Type 0) (e : ReadError) → (Q → P) → logs.NotAStoreWhere {T = T} Q (Err e)
     → NotAStoreWhere {T = U} P (Err (fault_of_log e))
 refused_log T U P Q wal.DiskFault f h = tt
-refused_log T U P Q wal.LogFull f h = absurd h
 refused_log T U P Q wal.NotAStore f h = f h
-refused_log T U P Q (wal.Down n) f h = absurd h
 refused_log T U P Q wal.OutOfMemory f h = tt
 
 pub refused_where : (T : Type 0) (P : Type 0) (e : OpenFault) → (e ≡ faults.NotAStore → P)

@@ -3,6 +3,7 @@ pub mod Mapping
 pub mod Paging
 pub mod Rows
 pub mod Steps
+mod InsertNumbers
 pub mod ReadingOn
 pub mod RowReading
 pub mod Exits

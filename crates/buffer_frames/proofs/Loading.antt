@@ -4,7 +4,7 @@ use Rattle.disk_trait.specs.Files.{Files}
 use Rattle.disk_trait.specs.declared.device.Disk.{Ghosts as Disk}
 use Rattle.wal.specs.Batches.{front, HasBatches}
 use Rattle.wal.specs.Reading.{IsOnlyRead, IsReading, IsBroken, Gives}
-use Rattle.wal.specs.declared.error.WalError.{WalError}
+use Rattle.wal.specs.declared.error.ReadError.{ReadError}
 use Rattle.wal.specs.Settled.{LogIs, Settled}
 use Rattle.wal.specs.Waiting.{end_of, IsReadToEnd}
 use Rattle.wal.specs.declared.log.Wal.{Wal}
@@ -167,12 +167,12 @@ module _ {D : Type 0} (device : Disk D) where
 -- a batch that was given, seen from the log as it was first
 pub given_goes : (wal wal' : Wal) (log here : List ℕ) (b : Bool) (out bytes : List ℕ) (batches : List (List ℕ))
     → here ≡ log → b ≡ true → bytes ≡ out
-    → (IsReading wal here batches → Gives {E = WalError} (Ok b) out
+    → (IsReading wal here batches → Gives {E = ReadError} (Ok b) out
     (λ batch. IsReading wal' here (batches ++ batch ∷ []))) → IsReading wal log batches
     → IsReading wal' log (batches ++ bytes ∷ [])
 given_goes wal wal' log here b out bytes batches same was is gives reading =
     let given : IsReading wal' here (batches ++ out ∷ []) =
-    subst (λ (d : Bool). Gives {E = WalError} (Ok d) out (λ batch. IsReading wal' here (batches ++ batch ∷ [])))
+    subst (λ (d : Bool). Gives {E = ReadError} (Ok d) out (λ batch. IsReading wal' here (batches ++ batch ∷ [])))
     was (gives (subst (λ (l : List ℕ). IsReading wal l batches) (sym same) reading)) in
     subst (λ (l : List ℕ). IsReading wal' l (batches ++ bytes ∷ [])) same
     (subst (λ (x : List ℕ). IsReading wal' here (batches ++ x ∷ [])) (sym is) given)

@@ -24,7 +24,8 @@ use Rattle.buffer_frames.specs.Journals.{Stands}
 use Rattle.buffer_frames.specs.NoStore.{IsStoreOf}
 use Rattle.buffer_frames.specs.Opens.{OpensTo, StartedFrom, OpensAsBefore}
 use Rattle.buffer_frames.specs.Opening.{IsOpenedAt, IsToldOpened}
-use Rattle.buffer_frames.specs.Inner.Making.{IsLogBefore, HasRun, RunsFrom, IsReadAs, HasBegun, AreBelowLast}
+use Rattle.wal.specs.Creating.{IsLogBefore}
+use Rattle.buffer_frames.specs.Inner.Making.{HasRun, RunsFrom, IsReadAs, HasBegun, AreBelowLast}
 use Rattle.buffer_frames.specs.declared.page_map.PageMap.{PageMap}
 use Rattle.buffer_frames.proofs.FirstRecord.{first_spelled}
 use Rattle.buffer_frames.proofs.Flushing.{seen_as}

@@ -1,5 +1,5 @@
 -- The device calls of an opening, one after another.
-use Rattle.std.proofs.Common.{◌≡◌, ◌⊎◌, inl, inr, ℕ, List, [], refl, sym, ap, subst, ◌∙◌, arith}
+use Rattle.std.proofs.Common.{◌≡◌, ◌⊎◌, inl, inr, ℕ, [], refl, sym, ap, subst, ◌∙◌, arith}
 use Rattle.disk_trait.specs.Files.{Files}
 use Rattle.disk_trait.specs.Device.{Durable}
 use Rattle.disk_trait.specs.Runs.{images_now, LeavesOnly}
@@ -7,11 +7,11 @@ use Rattle.disk_trait.specs.declared.device.File.TheVariants.{Pages}
 use Rattle.disk_trait.specs.declared.device.Disk.{Ghosts as Disk}
 use Rattle.disk_trait.proofs.Runs.{then, weaker_run}
 use Rattle.wal.specs.Batches.{IsUnborn, Opens}
-use Rattle.wal.specs.Creating.{From, created}
+use Rattle.wal.specs.Creating.{created, IsLogBefore, IsImageBefore, IsMade}
 use Rattle.wal.specs.Reading.{IsOnlyRead}
 use Rattle.wal.specs.Settled.{LogIs}
-use Rattle.wal.proofs.Keeping.{no_more, still_is}
-use Rattle.buffer_frames.specs.Inner.Making.{IsLogBefore, IsImageBefore, IsMade, HasRun, RunsFrom}
+use Rattle.wal.proofs.Keeping.{still_is}
+use Rattle.buffer_frames.specs.Inner.Making.{HasRun, RunsFrom}
 use Rattle.buffer_frames.proofs.Only.{read_then}
 
 -- a new log has no batch
@@ -19,15 +19,6 @@ pub created_opens : Opens created []
 created_opens = inr (record { gate = 0; rest = []; split = refl; shut = λ e. omega (arith, e); fit = tt })
 
 module _ {D : Type 0} (device : Disk D) where
-  -- a creation, after the log's length was read
-  pub creates_before : (old mid new : D) → device.tells → LogIs device (device.seen old).log old → IsOnlyRead device old mid → IsUnborn (device.seen old).log
-      → LeavesOnly device mid new (From (images_now device mid) (λ (log : List ℕ). Opens log [])) → LeavesOnly device old new (IsImageBefore device old)
-  creates_before old mid new told is read unborn making =
-      then device old mid new (IsImageBefore device old) (From (images_now device mid) (λ (log : List ℕ). Opens log []))
-      (weaker_run device old mid (images_now device old) (IsImageBefore device old) (read.any_moment told) (λ c here. record { before = c; was = here; pages = refl; log = inl (is.durable c here) }))
-      making
-      (λ c f. record { before = f.before; was = no_more device old mid told read f.before f.was; pages = f.pages; log = inr (unborn, f.log) })
-
   -- the syncs, and a creation if need be
   pub made_run : (first mid new : D) → device.tells → IsOnlyRead device first mid → Durable Pages (device.seen first).pages (images_now device mid) → LeavesOnly device mid new (IsImageBefore device mid) → HasRun device first (device.clock mid) new
   made_run first mid new told read durable making = record {

@@ -8,8 +8,8 @@ use Rattle.disk_trait.proofs.Runs.{weaker_run}
 use Rattle.wal.specs.Batches.{Opens}
 use Rattle.wal.specs.Settled.{Settled, BeforeOrAfter}
 use Rattle.wal.specs.Waiting.{waiting, end_of, down_of, with_waiting, FlushLeaves, StandsNow}
-use Rattle.wal.specs.declared.error.WalError.{WalError}
-use Rattle.wal.specs.declared.error.WalError.TheVariants.{DiskFault, Down}
+use Rattle.wal.specs.declared.error.FlushError.{FlushError}
+use Rattle.wal.specs.declared.error.FlushError.TheVariants.{DiskFault, Down}
 use Rattle.core_state.specs.Log.{Log}
 use Rattle.core_state.specs.States.{StateValue, state_of}
 use Rattle.core_state.specs.Stores.{IsRowOf}
@@ -85,6 +85,6 @@ module _ {D : Type 0} (device : Disk D) where
   flush_moments (Some f) j R s disk' is t down moments = inl (down f is)
 
   -- a flush was refused
-  pub refused_stands : (j j' : JournalValue D) (R : Log) (e : WalError) (n : ℕ) → Stands device j R → j'.state ≡ j.state → (e ≡ DiskFault) ⊎ ((f : ℕ) × (e ≡ Down f)) → (e ≡ DiskFault → down_of j'.wal ≡ Some n) → ((f : ℕ) → e ≡ Down f → j' ≡ j) → Stands device j' R
+  pub refused_stands : (j j' : JournalValue D) (R : Log) (e : FlushError) (n : ℕ) → Stands device j R → j'.state ≡ j.state → (e ≡ DiskFault) ⊎ ((f : ℕ) × (e ≡ Down f)) → (e ≡ DiskFault → down_of j'.wal ≡ Some n) → ((f : ℕ) → e ≡ Down f → j' ≡ j) → Stands device j' R
   refused_stands j j' R e n s same (inl fault) down rests = down_stands j j' R n s same (down fault)
   refused_stands j j' R e n s same (inr (f, is)) down rests = subst (λ (x : JournalValue D). Stands device x R) (sym (rests f is)) s

@@ -12,7 +12,7 @@ use Rattle.buffer_frames.specs.Causes.{NotAStoreWhere}
 use Rattle.buffer_frames.specs.Counted.{AreRecords, IsCounted}
 use Rattle.buffer_frames.specs.NoStore.{IsStoreOf, IsNoStore}
 use Rattle.buffer_frames.specs.Inner.Known.{StoresAreKnown}
-use Rattle.buffer_frames.specs.Inner.Making.{IsMade}
+use Rattle.wal.specs.Creating.{IsMade}
 use Rattle.buffer_frames.specs.declared.error.OpenFault.{OpenFault}
 use Rattle.buffer_frames.specs.declared.error.OpenFault.TheVariants as faults
 use Rattle.buffer_frames.proofs.OpeningRuns.{created_opens}

@@ -8,7 +8,7 @@ use page_types::BadChange;
 use record_code::RecordError;
 use std::alloc::AllocError;
 use thiserror::Error;
-use wal::WalError;
+use wal::ReadError;
 
 /// Why files are not opened.
 #[derive(Clone, Copy, Debug, PartialEq, Eq, Error)]
@@ -59,15 +59,14 @@ impl From<RecordError> for OpenFault {
     }
 }
 
-impl From<WalError> for OpenFault {
+impl From<ReadError> for OpenFault {
     ghost from_gives = { λ w e. e ≡ fault_of_log w };
 
-    fn from(error: WalError) -> OpenFault {
+    fn from(error: ReadError) -> OpenFault {
         match error {
-            WalError::OutOfMemory => OpenFault::OutOfMemory,
-            WalError::NotAStore => OpenFault::NotAStore,
-            WalError::DiskFault | WalError::LogFull | WalError::Down { fault: _ } =>
-                OpenFault::DiskFault,
+            ReadError::OutOfMemory => OpenFault::OutOfMemory,
+            ReadError::NotAStore => OpenFault::NotAStore,
+            ReadError::DiskFault => OpenFault::DiskFault,
         }
     }
 }

@@ -17,7 +17,6 @@ ghost use Rattle.buffer_frames.specs.declared.log_error.LogError.TheVariants.{Di
 use crate::inserting::{owed_abort, spell, step_insert, step_owed};
 use crate::laws::counted_are_one;
 use crate::log_error::LogError;
-use crate::refusals::refusal_of;
 use core_state::State;
 use disk_trait::Disk;
 use page_types::Record;
@@ -176,8 +175,8 @@ impl<D: Disk> Journal<D> {
         let bytes = self.spelled(&owed, records)?;
         self.state
             .make_room_to_insert(&records[0], &records[1], &records[2])?;
-        if let Err(error) = self.wal.append(&mut self.disk, &bytes) {
-            return Err(refusal_of(error));
+        if let Err(error) = self.wal.append(&bytes) {
+            return Err(LogError::from(error));
         }
         step_owed(&mut self.state, self.owes, &owed);
         self.owes = false;
@@ -233,7 +232,7 @@ impl<D: Disk> Journal<D> {
                 self.flushed = self.state.commits();
                 Ok(())
             }
-            Err(error) => Err(refusal_of(error)),
+            Err(error) => Err(LogError::from(error)),
         }
     }
 

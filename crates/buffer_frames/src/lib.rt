@@ -10,7 +10,6 @@ mod making;
 mod opening;
 mod page_map;
 mod reading;
-mod refusals;
 
 pub use error::OpenFault;
 pub use journal::Journal;

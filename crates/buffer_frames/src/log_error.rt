@@ -1,9 +1,11 @@
 // Why a call on a journal is refused.
 ghost use Rattle.std.specs.Prelude.{◌≡◌};
+ghost use Rattle.buffer_frames.specs.Inner.Refusals.{append_refusal, flush_refusal};
 ghost use Rattle.buffer_frames.specs.declared.log_error.LogError.TheVariants.{OutOfMemory};
 
 use std::alloc::AllocError;
 use thiserror::Error;
+use wal::{AppendError, FlushError};
 
 /// Why a call on a journal is refused.
 #[derive(Clone, Copy, Debug, PartialEq, Eq, Error)]
@@ -29,5 +31,30 @@ impl From<AllocError> for LogError {
     /// An allocation that failed.
     fn from(_: AllocError) -> Self {
         LogError::OutOfMemory
+    }
+}
+
+impl From<AppendError> for LogError {
+    ghost from_gives = { λ x e. e ≡ append_refusal x };
+
+    /// Why records do not wait.
+    fn from(error: AppendError) -> Self {
+        match error {
+            AppendError::LogFull => LogError::LogFull,
+            AppendError::Down { fault } => LogError::Down { fault },
+            AppendError::OutOfMemory => LogError::OutOfMemory,
+        }
+    }
+}
+
+impl From<FlushError> for LogError {
+    ghost from_gives = { λ x e. e ≡ flush_refusal x };
+
+    /// Why what waits does not count.
+    fn from(error: FlushError) -> Self {
+        match error {
+            FlushError::DiskFault => LogError::DiskFault,
+            FlushError::Down { fault } => LogError::Down { fault },
+        }
     }
 }

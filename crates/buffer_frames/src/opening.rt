@@ -18,7 +18,8 @@ ghost use Rattle.buffer_frames.specs.First.{first_record as first};
 ghost use Rattle.buffer_frames.specs.NoStore.{IsNoStore};
 ghost use Rattle.buffer_frames.specs.Opens.{OpensTo, StartedFrom, OpensAsBefore};
 ghost use Rattle.buffer_frames.specs.Opening.{IsOpenedAt, without_disk};
-ghost use Rattle.buffer_frames.specs.Inner.Making.{IsImageBefore, IsMade, HasRun, RunsFrom, IsReadAs, HasBegun, MakesHasCause, AreBelowLast};
+ghost use Rattle.wal.specs.Creating.{IsMade};
+ghost use Rattle.buffer_frames.specs.Inner.Making.{HasRun, RunsFrom, IsReadAs, HasBegun, MakesHasCause, AreBelowLast};
 ghost use Rattle.buffer_frames.specs.declared.error.OpenFault.TheVariants.{NotAStore, DiskFault, OutOfMemory};
 
 use crate::error::OpenFault;
@@ -33,9 +34,6 @@ use record_code::encode_record;
 use std::alloc::Global;
 use std::snapshot::Snapshot;
 use wal::{Wal, never_refused, one_list};
-
-/// A log without a batch has so many bytes.
-const CREATED_BYTES: u64 = 18;
 
 /// Both files are synced, so that a crash leaves what a read gives.
 fn sync_both<D: Disk>(disk: &mut D) -> Result<(), Failed>
@@ -52,39 +50,6 @@ fn sync_both<D: Disk>(disk: &mut D) -> Result<(), Failed>
 {
     disk.sync(File::Log)?;
     disk.sync(File::Pages)
-}
-
-/// Whether the log's creation was not begun or was cut short.
-fn is_unborn<D: Disk>(disk: &mut D) -> Result<bool, OpenFault>
-    ensures unborn { D.tells → IfOk result (λ b. IsTrue b ↔ IsUnborn (D.seen disk.old).log) }
-    ensures keeps { IsOnlyRead D.Disk disk.old disk.new }
-    ensures cause { ReadHasCause D.Disk disk.old disk.new result }
-    ensures error { IfErr result (λ e. e ≡ DiskFault) }
-{
-    let len = disk.length(File::Log)?;
-    if len != CREATED_BYTES {
-        return Ok(len < CREATED_BYTES);
-    }
-    let mut gate = [0u8; 1];
-    disk.read(File::Log, 0, &mut gate)?;
-    Ok(gate[0] != 1)
-}
-
-/// The log is there from now on.
-fn make_log<D: Disk>(disk: &mut D) -> Result<(), OpenFault>
-    requires { D.tells → LogIs D.Disk (D.seen disk.old).log disk.old }
-    ensures made { D.tells → OnOk result (IsMade D.Disk disk.old disk.new) }
-    ensures any_moment { D.tells
-        → LeavesOnly D.Disk disk.old disk.new (IsImageBefore D.Disk disk.old) }
-    ensures born { D.tells → (IsUnborn (D.seen disk.old).log → ⊥)
-        → IsOnlyRead D.Disk disk.old disk.new }
-    ensures error { IfErr result (λ e. e ≡ DiskFault) }
-    ensures cause { MakesHasCause D.Disk disk.old disk.new result }
-{
-    if is_unborn(disk)? {
-        Wal::create(disk)?;
-    }
-    Ok(())
 }
 
 /// The log of a store, before its first batch. Both files are synced first.
@@ -104,8 +69,7 @@ fn open_log<D: Disk>(alloc: Global, disk: &mut D, limit: u64) -> Result<Wal, Ope
 {
     never_refused();
     sync_both(disk)?;
-    make_log(disk)?;
-    let wal = Wal::open(alloc, disk, limit)?;
+    let wal = Wal::open_or_create(alloc, disk, limit)?;
     Ok(wal)
 }
 
@@ -134,15 +98,9 @@ fn read_store<D: Disk>(
 }
 
 /// The first record waits.
-fn log_first<D: Disk>(
-    alloc: Global,
-    disk: &mut D,
-    wal: &mut Wal,
-    state: &mut State,
-) -> Result<(), OpenFault>
+fn log_first(alloc: Global, wal: &mut Wal, state: &mut State) -> Result<(), OpenFault>
     requires ready { IsReadToEnd wal.old }
     requires none { waiting wal.old ≡ [] }
-    ensures disk { disk.new ≡ disk.old }
     ensures waits { OnOk result (waiting wal.new ≡ record_bytes first) }
     ensures end { OnOk result (end_of wal.new ≡ end_of wal.old) }
     ensures same { IsReadToEnd wal.new × (limit_of wal.new ≡ limit_of wal.old) }
@@ -153,7 +111,7 @@ fn log_first<D: Disk>(
     let rec = first_record(alloc)?;
     let mut bytes = Vec::new(alloc);
     encode_record(&rec, &mut bytes)?;
-    if wal.append(disk, &bytes).is_err() {
+    if wal.append(&bytes).is_err() {
         return Err(OpenFault::OutOfMemory);
     }
     state.step(&rec)?;
@@ -161,24 +119,18 @@ fn log_first<D: Disk>(
 }
 
 /// Where the log has no record, the first one waits. Else an Abort is owed.
-fn begin_log<D: Disk>(
-    alloc: Global,
-    disk: &mut D,
-    wal: &mut Wal,
-    state: &mut State,
-) -> Result<bool, OpenFault>
+fn begin_log(alloc: Global, wal: &mut Wal, state: &mut State) -> Result<bool, OpenFault>
     requires ready { IsReadToEnd wal.old }
     requires none { waiting wal.old ≡ [] }
     ensures begun { IfOk result (λ owes.
         HasBegun owes wal.old wal.new state.old.value state.new.value) }
     ensures ready { IsReadToEnd wal.new }
-    ensures disk { disk.new ≡ disk.old }
     ensures error { IfErr result (λ e. e ≡ OutOfMemory) }
 {
     if state.length() > 0 {
         return Ok(true);
     }
-    log_first(alloc, disk, wal, state)?;
+    log_first(alloc, wal, state)?;
     Ok(false)
 }
 
@@ -218,7 +170,7 @@ fn open_parts<D: Disk>(alloc: Global, disk: &mut D, settings: &Settings) -> Resu
         return Err(OpenFault::OutOfMemory);
     }
     let flushed = state.commits();
-    let owes = begin_log(alloc, disk, &mut wal, &mut state)?;
+    let owes = begin_log(alloc, &mut wal, &mut state)?;
     Ok(Parts {
         wal,
         state,
@@ -250,13 +202,19 @@ pub fn open<D: Disk>(
     ensures refused_pages { D.tells → IfErr result (λ e. KeepsPages D.Disk disk e.0) }
     ensures refused_seen { D.tells
         → IfErr result (λ e. (D.seen e.0).pages ≡ (D.seen disk).pages) }
+    // Files that are no store are only read, whatever is answered.
+    ensures no_store_kept { D.tells → IsNoStore (D.seen disk)
+        → IfErr result (λ e. IsOnlyRead D.Disk disk e.0) }
     ensures only_read { IfErr result (λ e. e.1 ≡ NotAStore → IsOnlyRead D.Disk disk e.0) }
     ensures fault { IfErr result (λ e. e.1 ≡ DiskFault
         → Rose (D.fault_count disk) (D.fault_count e.0)) }
+    ensures memory { IfErr result (λ e. e.1 ≡ OutOfMemory
+        → D.write_fault_count e.0 ≡ D.write_fault_count disk) }
     ensures later { IfErr result (λ e. D.fault_count disk ≤ D.fault_count e.0) }
 {
     one_list();
     counted_are_one();
+    stores_are_known();
     let mut disk = disk;
     match open_parts(alloc, &mut disk, settings) {
         Ok(parts) => {

@@ -8,7 +8,7 @@ use disk_trait::{Disk, File, MemoryDisk};
 use std::alloc::Global;
 use std::process::Abort;
 use std::test::Fail;
-use wal::{LOG_LIMIT, MOST_WAITING, Wal, WalError};
+use wal::{AppendError, FlushError, LOG_LIMIT, MOST_WAITING, ReadError, Wal};
 
 /// More than any log here has.
 const LIMIT: u64 = LOG_LIMIT;
@@ -32,7 +32,7 @@ fn content(alloc: Global, disk: &mut Silent) -> Result<Vec<u8>, Fail> {
 }
 
 /// A log without a batch, ready for entries.
-fn ready<D: Disk>(alloc: Global, disk: &mut D, limit: u64) -> Result<Wal, WalError>
+fn ready<D: Disk>(alloc: Global, disk: &mut D, limit: u64) -> Result<Wal, ReadError>
     requires untold { D.tells → ⊥ }
     requires limit { limit ≤ LOG_LIMIT }
     ensures { IfOk result IsReadToEnd }
@@ -41,13 +41,13 @@ fn ready<D: Disk>(alloc: Global, disk: &mut D, limit: u64) -> Result<Wal, WalErr
     let mut wal = Wal::open(alloc, disk, limit)?;
     match wal.read_batch(disk, &mut out) {
         Ok(false) => Ok(wal),
-        Ok(true) => Err(WalError::NotAStore),
+        Ok(true) => Err(ReadError::NotAStore),
         Err(e) => Err(e),
     }
 }
 
 /// The same, of a log that is created before.
-fn create_ready<D: Disk>(alloc: Global, disk: &mut D, limit: u64) -> Result<Wal, WalError>
+fn create_ready<D: Disk>(alloc: Global, disk: &mut D, limit: u64) -> Result<Wal, ReadError>
     requires untold { D.tells → ⊥ }
     requires limit { limit ≤ LOG_LIMIT }
     ensures { IfOk result IsReadToEnd }
@@ -57,7 +57,7 @@ fn create_ready<D: Disk>(alloc: Global, disk: &mut D, limit: u64) -> Result<Wal,
 }
 
 /// The batches of a log, one after another, in one list with their lengths before them.
-fn batches(alloc: Global, disk: &mut Silent) -> Result<Vec<u8>, WalError> {
+fn batches(alloc: Global, disk: &mut Silent) -> Result<Vec<u8>, ReadError> {
     let mut wal = Wal::open(alloc, disk, LIMIT)?;
     let mut all = Vec::new(alloc);
     let mut out = Vec::new(alloc);
@@ -127,19 +127,24 @@ fn opens_to(alloc: Global, log: &[u8], wanted: Option<&[u8]>) -> Result<bool, Fa
     let mut disk = holding(alloc, log)?;
     match (batches(alloc, &mut disk), wanted) {
         (Ok(got), Some(wanted)) => Ok(got.as_slice() == wanted),
-        (Err(e), None) => Ok(e == WalError::NotAStore),
+        (Err(e), None) => Ok(e == ReadError::NotAStore),
         _ => Ok(false),
     }
 }
 
 /// An entry in a flush of its own.
-fn put<D: Disk>(wal: &mut Wal, disk: &mut D, entry: &[u8]) -> Result<(), WalError>
+fn put<D: Disk>(wal: &mut Wal, disk: &mut D, entry: &[u8]) -> bool
     requires ready { IsReadToEnd wal.old }
     requires short { length entry.now ≤ MOST_WAITING }
     ensures { IsReadToEnd wal.new }
 {
-    wal.append(disk, entry)?;
-    wal.flush(disk)
+    if wal.waits() >= MOST_WAITING {
+        return false;
+    }
+    if wal.append(entry).is_err() {
+        return false;
+    }
+    wal.flush(disk).is_ok()
 }
 
 /// A call of a log that is ready, or a look at its device, with what it gives.
@@ -159,7 +164,8 @@ enum Step<'a> {
     Batches(&'a [u8]),
 }
 
-/// Whether an append is done where it has room, and is refused where it has none.
+/// Whether an append is done where it has room, and is refused where it has none. A flush comes first
+/// where much waits.
 fn appends(wal: &mut Wal, disk: &mut Silent, entry: &[u8], room: bool) -> bool
     requires { IsReadToEnd wal.old }
     ensures { IsReadToEnd wal.new }
@@ -167,9 +173,12 @@ fn appends(wal: &mut Wal, disk: &mut Silent, entry: &[u8], room: bool) -> bool
     if MOST_WAITING < entry.len() {
         return false;
     }
-    match wal.append(disk, entry) {
+    if wal.waits() >= MOST_WAITING && wal.flush(disk).is_err() {
+        return false;
+    }
+    match wal.append(entry) {
         Ok(()) => room,
-        Err(e) => !room && e == WalError::LogFull,
+        Err(e) => !room && e == AppendError::LogFull,
     }
 }
 
@@ -258,23 +267,24 @@ fn run<D: Disk>(alloc: Global, disk: &mut D) -> Result<u8, u8>
     let Ok(mut wal) = create_ready(alloc, disk, LIMIT) else {
         return Err(0);
     };
-    if put(&mut wal, disk, b"ab").is_err() {
-        return Err(is_down(&mut wal, disk));
+    if put(&mut wal, disk, b"ab") && put(&mut wal, disk, b"c") {
+        return Ok(2);
     }
-    match put(&mut wal, disk, b"c") {
-        Ok(()) => Ok(2),
-        Err(_) => Err(is_down(&mut wal, disk)),
-    }
+    Err(is_down(&mut wal, disk))
 }
 
 /// Whether both calls answer the count just after the fault, and call no device.
 fn is_down<D: Disk>(wal: &mut Wal, disk: &mut D) -> u8
     requires { IsReadToEnd wal.old }
 {
-    let down = Err(WalError::Down { fault: 1 });
-    let appended = wal.append(disk, b"x");
+    if wal.waits() >= MOST_WAITING {
+        return 9;
+    }
+    let appended = wal.append(b"x");
     let flushed = wal.flush(disk);
-    if appended == down && flushed == down {
+    if appended == Err(AppendError::Down { fault: 1 })
+        && flushed == Err(FlushError::Down { fault: 1 })
+    {
         1
     } else {
         9

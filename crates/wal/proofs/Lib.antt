@@ -2,6 +2,7 @@ mod Places
 mod Crash
 mod Lengths
 mod Born
+mod Begun
 mod Lists
 mod Unique
 mod Walking

@@ -34,12 +34,9 @@ abbrev pub end_with : ℕ → List ℕ → ℕ
 end_with end [] = end
 end_with end (x ∷ xs) = end + FRAME_BYTES + length (x ∷ xs)
 
--- A flush comes before an append where so many bytes wait.
+-- A flush comes before more waits where so many bytes do.
 abbrev pub is_crowded : List ℕ → Bool
 is_crowded w = nat_le MOST_WAITING (length w)
-
-abbrev pub batches_then : List (List ℕ) → List ℕ → List (List ℕ)
-batches_then batches w = if is_crowded w then batches ++ w ∷ [] else batches
 
 abbrev pub end_then : ℕ → List ℕ → ℕ
 end_then end w = if is_crowded w then end + FRAME_BYTES + length w else end

@@ -1,15 +1,13 @@
 // A new log: the store's gate is closed, the name and the first batch's gate are written, and the
 // store's gate is opened.
-ghost use Rattle.std.specs.Prelude.{◌≡◌, ◌-◌, ◌^◌, ◌<◌, [], OnOk, IfErr};
+ghost use Rattle.std.specs.Prelude.{◌≡◌, ◌-◌, ◌^◌, ◌<◌, [], OnOk};
 ghost use Rattle.disk_trait.specs.Runs.{images_now, IsSettled, LeavesOnly, RunHasCause};
 ghost use Rattle.wal.specs.Batches.{IsUnborn, Opens};
 ghost use Rattle.wal.specs.Pages.{KeepsPages};
 ghost use Rattle.wal.specs.Settled.{LogIs, Settled};
 ghost use Rattle.wal.specs.Creating.{From, CreateHasCause, created};
 ghost use Rattle.wal.specs.Inner.Gates.{Shut};
-ghost use Rattle.wal.specs.declared.error.WalError.TheVariants.{DiskFault};
 
-use crate::error::WalError;
 use crate::log::Wal;
 use crate::sizes::{CREATED_BYTES, HEADER_BYTES};
 use disk_trait::{Disk, Failed, File, write_and_sync};
@@ -74,7 +72,7 @@ impl Wal {
     /// Makes an empty log of one whose creation was not begun or was cut short, and which is on the
     /// disk as it is read.
     /// A crash in it leaves again such a log, or the empty one. It takes no memory.
-    pub fn create<D: Disk>(disk: &mut D) -> Result<(), WalError>
+    pub fn create<D: Disk>(disk: &mut D) -> Result<(), Failed>
         requires { D.tells → IsUnborn (D.seen disk.old).log
             × LogIs D.Disk (D.seen disk.old).log disk.old }
         ensures stands { D.tells → OnOk result (LogIs D.Disk created disk.new) }
@@ -86,14 +84,10 @@ impl Wal {
         ensures any_moment { D.tells
             → LeavesOnly D.Disk disk.old disk.new
             (From (images_now D.Disk disk.old) (λ log. Opens log [])) }
-        ensures error { IfErr result (λ e. e ≡ DiskFault) }
         ensures cause { CreateHasCause D.Disk disk.old disk.new result }
         ensures below_last { OnOk result ((D.fault_count disk.old < 2 ^ 64 - 1)
             × (D.write_fault_count disk.old < 2 ^ 64 - 1)) }
     {
-        match write_header(disk) {
-            Ok(()) => Ok(()),
-            Err(_) => Err(WalError::DiskFault),
-        }
+        write_header(disk)
     }
 }

@@ -8,6 +8,7 @@
 #![tactic(auto)]
 
 mod batch;
+mod beginning;
 mod creating;
 mod error;
 mod laws;
@@ -15,7 +16,7 @@ mod log;
 mod reading;
 mod sizes;
 
-pub use error::WalError;
+pub use error::{AppendError, FlushError, ReadError};
 pub use laws::{never_refused, one_list};
 pub use log::Wal;
 pub use sizes::{LOG_LIMIT, MOST_WAITING};

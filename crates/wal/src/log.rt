@@ -2,10 +2,12 @@
 ghost use Rattle.std.specs.Prelude.{◌≡◌, ◌⊎◌, ◌↔◌, ℕ, ◌+◌, ◌-◌, ◌^◌, ◌<◌, ◌≤◌, List, [], ◌∷◌, ◌++◌, length, drop, OnOk, OnErr, IfErr, IsErrOf, IsOk, Some, None, Option, vec_len, vec_capacity, Err, Ok, false};
 ghost use Rattle.byteorder.specs.Endian.{little_bytes};
 ghost use Rattle.wal.specs.declared.sizes.TheConstants.{LENGTH_BYTES, LOG_LIMIT};
-ghost use Rattle.wal.specs.declared.error.WalError.TheVariants.{DiskFault, LogFull, Down, OutOfMemory};
+ghost use Rattle.wal.specs.declared.error.AppendError.TheVariants.{LogFull, OutOfMemory};
+ghost use Rattle.wal.specs.declared.error.AppendError.TheVariants as appending;
+ghost use Rattle.wal.specs.declared.error.FlushError.TheVariants.{DiskFault, Down};
 
 use crate::batch::put_batch;
-use crate::error::WalError;
+use crate::error::{AppendError, FlushError};
 use crate::sizes::{FRAME_BYTES, LENGTH_BYTES, LOG_LIMIT, MOST_WAITING};
 use byteorder::{ByteOrder, LittleEndian};
 use disk_trait::Disk;
@@ -47,13 +49,13 @@ fn put_length(buffer: &mut Vec<u8>)
 }
 
 impl Wal {
-    ghost use Rattle.wal.specs.Waiting.{end_of, limit_of, down_of, waiting, IsReadToEnd, with_waiting, end_with, batches_then, end_then, waiting_then, length_with, FlushLeaves, StandsNow};
-    ghost use Rattle.wal.specs.Causes.{WriteHasCause, GoesDown, LogFullWhere, AppendLeaves, UnlessFault};
+    ghost use Rattle.wal.specs.Waiting.{end_of, limit_of, down_of, waiting, IsReadToEnd, with_waiting, end_with, FlushLeaves, StandsNow};
+    ghost use Rattle.wal.specs.Causes.{WriteHasCause, GoesDown, LogFullWhere};
     ghost use Rattle.wal.specs.Settled.{Settled};
     ghost use Rattle.wal.specs.Pages.{KeepsPages};
 
     /// Nothing waits any more. What waited may count or not, where the device failed.
-    fn flush_waiting<D: Disk>(&mut self, disk: &mut D) -> Result<(), WalError>
+    fn flush_waiting<D: Disk>(&mut self, disk: &mut D) -> Result<(), FlushError>
         requires ready { IsReadToEnd self.old }
         requires some { LENGTH_BYTES < length self.old.buffer.items }
         ensures counts { D.tells → (batches : List (List ℕ))
@@ -86,62 +88,9 @@ impl Wal {
             }
             Err(_) => {
                 self.down = Some(disk.faults());
-                Err(WalError::DiskFault)
+                Err(FlushError::DiskFault)
             }
         }
-    }
-
-    /// The bytes wait behind those that do, if the log has room and there is memory.
-    fn add(&mut self, bytes: &[u8]) -> Result<(), WalError>
-        requires ready { IsReadToEnd self.old }
-        requires short { length bytes.now ≤ MOST_WAITING }
-        requires room { length (waiting self.old) < MOST_WAITING }
-        ensures ok { OnOk result (waiting self.new ≡ waiting self.old ++ bytes.now) }
-        ensures err { OnErr result (waiting self.new ≡ waiting self.old) }
-        ensures same { (end_of self.new ≡ end_of self.old) × (limit_of self.new ≡ limit_of self.old)
-            × (self.new.ended ≡ self.old.ended) × (down_of self.new ≡ down_of self.old) }
-        ensures full { LogFullWhere (limit_of self.old)
-            (end_of self.old + FRAME_BYTES + length (waiting self.old) + length bytes.now + 1) result }
-        ensures error { IfErr result (λ e. (e ≡ LogFull) ⊎ (e ≡ OutOfMemory)) }
-    {
-        let len = self.buffer.len() + bytes.len();
-        if self.limit < self.end.saturating_add(2 + len as u64) {
-            return Err(WalError::LogFull);
-        }
-        self.buffer.reserve(bytes.len() + 1)?;
-        self.buffer.extend_from_slice(bytes)?;
-        Ok(())
-    }
-
-    /// Fewer bytes than the most wait from now on.
-    fn make_room<D: Disk>(&mut self, disk: &mut D) -> Result<(), WalError>
-        requires { IsReadToEnd self.old }
-        ensures less { OnOk result (length (waiting self.new) < MOST_WAITING) }
-        ensures waits { OnOk result (waiting self.new ≡ waiting_then (waiting self.old)) }
-        ensures end { OnOk result
-            (end_of self.new ≡ end_then (end_of self.old) (waiting self.old)) }
-        ensures idle { length (waiting self.old) < MOST_WAITING → IsOk result × (disk.new ≡ disk.old) }
-        ensures empty { OnErr result (waiting self.new ≡ []) }
-        ensures counts { D.tells → (batches : List (List ℕ))
-            → Settled D.Disk batches (end_of self.old) disk.old
-            → OnOk result
-            (StandsNow D.Disk (batches_then batches (waiting self.old))
-            (end_of self.new) disk.old disk.new) }
-        ensures pages { D.tells → KeepsPages D.Disk disk.old disk.new }
-        ensures any_moment { D.tells → (batches : List (List ℕ))
-            → Settled D.Disk batches (end_of self.old) disk.old
-            → (disk.new ≡ disk.old)
-            ⊎ FlushLeaves D.Disk batches (waiting self.old) disk.old disk.new }
-        ensures same { (limit_of self.new ≡ limit_of self.old) × (self.new.ended ≡ self.old.ended) }
-        ensures down { GoesDown result (D.fault_count disk.new) (down_of self.old)
-            (down_of self.new) }
-        ensures cause { WriteHasCause D.Disk disk.old disk.new result }
-        ensures error { IfErr result (λ e. e ≡ DiskFault) }
-    {
-        if self.buffer.len() - LENGTH_BYTES < MOST_WAITING {
-            return Ok(());
-        }
-        self.flush_waiting(disk)
     }
 
     /// The device's count of faults just after the fault that brought the log down, if one did.
@@ -158,51 +107,40 @@ impl Wal {
         self.buffer.len() - LENGTH_BYTES
     }
 
-    /// The entry waits behind what waits, after a flush where much does. Of a refused entry nothing
-    /// is there.
+    /// The entry waits behind what waits, of which there is little. The device is not called. Of a
+    /// refused entry nothing is there.
     /// The log is full where its length up to the own batch's gate, what waits and the entry, with
     /// four bytes for the length
     /// and a gate on each side, would pass the limit.
-    pub fn append<D: Disk>(&mut self, disk: &mut D, bytes: &[u8]) -> Result<(), WalError>
+    pub fn append(&mut self, bytes: &[u8]) -> Result<(), AppendError>
         requires ready { IsReadToEnd self.old }
         requires short { length bytes.now ≤ MOST_WAITING }
-        ensures waits { AppendLeaves (waiting self.old) bytes.now result (waiting self.new) }
-        ensures end { UnlessFault result
-            (end_of self.new ≡ end_then (end_of self.old) (waiting self.old)) }
-        ensures same { IsReadToEnd self.new × (limit_of self.new ≡ limit_of self.old) }
-
-        // The device: no call of it but for the flush.
-        ensures idle { length (waiting self.old) < MOST_WAITING → (disk.new ≡ disk.old)
-            × (IsErrOf result DiskFault → ⊥) }
-        ensures counts { D.tells → (batches : List (List ℕ))
-            → Settled D.Disk batches (end_of self.old) disk.old
-            → UnlessFault result
-            (StandsNow D.Disk (batches_then batches (waiting self.old))
-            (end_of self.new) disk.old disk.new) }
-        ensures pages { D.tells → KeepsPages D.Disk disk.old disk.new }
-        ensures any_moment { D.tells → (batches : List (List ℕ))
-            → Settled D.Disk batches (end_of self.old) disk.old
-            → (disk.new ≡ disk.old)
-            ⊎ FlushLeaves D.Disk batches (waiting self.old) disk.old disk.new }
+        requires room { length (waiting self.old) < MOST_WAITING }
+        ensures ok { OnOk result (waiting self.new ≡ waiting self.old ++ bytes.now) }
+        ensures err { OnErr result (waiting self.new ≡ waiting self.old) }
+        ensures same { (end_of self.new ≡ end_of self.old) × (limit_of self.new ≡ limit_of self.old)
+            × (self.new.ended ≡ self.old.ended) × (down_of self.new ≡ down_of self.old) }
 
         // The refusals.
-        ensures full { LogFullWhere (limit_of self.old) (length_with self.old bytes.now) result }
-        ensures is_down { (f : ℕ) → (result ≡ Err (Down f)) ↔ (down_of self.old ≡ Some f) }
-        ensures stays_down { (f : ℕ) → down_of self.old ≡ Some f → (disk.new ≡ disk.old)
-            × (self.new ≡ self.old) }
-        ensures goes_down { GoesDown result (D.fault_count disk.new) (down_of self.old)
-            (down_of self.new) }
-        ensures cause { WriteHasCause D.Disk disk.old disk.new result }
+        ensures full { LogFullWhere (limit_of self.old)
+            (end_of self.old + FRAME_BYTES + length (waiting self.old) + length bytes.now + 1) result }
+        ensures is_down { (f : ℕ) → (result ≡ Err (appending.Down f)) ↔ (down_of self.old ≡ Some f) }
+        ensures stays_down { (f : ℕ) → down_of self.old ≡ Some f → self.new ≡ self.old }
     {
         if let Some(fault) = self.down {
-            return Err(WalError::Down { fault });
+            return Err(AppendError::Down { fault });
         }
-        self.make_room(disk)?;
-        self.add(bytes)
+        let len = self.buffer.len() + bytes.len();
+        if self.limit < self.end.saturating_add(2 + len as u64) {
+            return Err(AppendError::LogFull);
+        }
+        self.buffer.reserve(bytes.len() + 1)?;
+        self.buffer.extend_from_slice(bytes)?;
+        Ok(())
     }
 
     /// What waits counts from now on, as one batch. It takes no memory.
-    pub fn flush<D: Disk>(&mut self, disk: &mut D) -> Result<(), WalError>
+    pub fn flush<D: Disk>(&mut self, disk: &mut D) -> Result<(), FlushError>
         requires { IsReadToEnd self.old }
         ensures ok { OnOk result ((waiting self.new ≡ [])
             × (end_of self.new ≡ end_with (end_of self.old) (waiting self.old))) }
@@ -234,7 +172,7 @@ impl Wal {
         ensures cause { WriteHasCause D.Disk disk.old disk.new result }
     {
         if let Some(fault) = self.down {
-            return Err(WalError::Down { fault });
+            return Err(FlushError::Down { fault });
         }
         if self.buffer.len() == LENGTH_BYTES {
             return Ok(());

@@ -7,9 +7,9 @@ ghost use Rattle.wal.specs.Batches.{header, front, IsUnborn, HasBatches};
 ghost use Rattle.wal.specs.Reading.{IsOnlyRead, IsLengthAt, IsBroken};
 ghost use Rattle.wal.specs.Inner.Gates.{IsBrokenHead};
 ghost use Rattle.wal.specs.Settled.{Settled, LogIs};
-ghost use Rattle.wal.specs.declared.error.WalError.TheVariants.{DiskFault, NotAStore, OutOfMemory};
+ghost use Rattle.wal.specs.declared.error.ReadError.TheVariants.{DiskFault, NotAStore, OutOfMemory};
 
-use crate::error::WalError;
+use crate::error::ReadError;
 use crate::log::Wal;
 use crate::sizes::{
     BATCH_LIMIT, CREATED_BYTES, FRAME_BYTES, HEADER_BYTES, LENGTH_BYTES, LOG_LIMIT,
@@ -18,11 +18,8 @@ use byteorder::{ByteOrder, LittleEndian};
 use disk_trait::{Disk, File};
 use std::alloc::Global;
 
-/// The store's gate, open, and the name of the format.
-const HEADER: &[u8; 17] = b"\x01GINSH DRAFT 0001";
-
-//// The log's bytes from a place on, as many as are there.
-fn read_log<D: Disk>(disk: &mut D, at: u64, buf: &mut [u8]) -> Result<usize, WalError>
+/// The log's bytes from a place on, as many as are there.
+pub(crate) fn read_log<D: Disk>(disk: &mut D, at: u64, buf: &mut [u8]) -> Result<usize, ReadError>
     ensures bound { IfOk result (λ n. n ≤ length buf.old) }
     ensures bytes { D.tells
         → IfOk result (λ n. (n ≡ min (length buf.old) (length (D.seen disk.old).log - at))
@@ -33,12 +30,12 @@ fn read_log<D: Disk>(disk: &mut D, at: u64, buf: &mut [u8]) -> Result<usize, Wal
 {
     match disk.read(File::Log, at, buf) {
         Ok(n) => Ok(n),
-        Err(_) => Err(WalError::DiskFault),
+        Err(_) => Err(ReadError::DiskFault),
     }
 }
 
 /// The log's length.
-fn log_length<D: Disk>(disk: &mut D) -> Result<u64, WalError>
+pub(crate) fn log_length<D: Disk>(disk: &mut D) -> Result<u64, ReadError>
     ensures length { D.tells → IfOk result (λ n. n ≡ length (D.seen disk.old).log) }
     ensures keeps { IsOnlyRead D.Disk disk.old disk.new }
     ensures cause { ReadHasCause D.Disk disk.old disk.new result }
@@ -46,22 +43,7 @@ fn log_length<D: Disk>(disk: &mut D) -> Result<u64, WalError>
 {
     match disk.length(File::Log) {
         Ok(n) => Ok(n),
-        Err(_) => Err(WalError::DiskFault),
-    }
-}
-
-/// Whether the log begins with the header.
-fn has_header<D: Disk>(disk: &mut D) -> Result<bool, WalError>
-    ensures header { D.tells
-        → IfOk result (λ b. IsTrue b ↔ (take HEADER_BYTES (D.seen disk.old).log ≡ header)) }
-    ensures keeps { IsOnlyRead D.Disk disk.old disk.new }
-    ensures cause { ReadHasCause D.Disk disk.old disk.new result }
-    ensures error { IfErr result (λ e. e ≡ DiskFault) }
-{
-    let mut head = [0u8; HEADER_BYTES];
-    match read_log(disk, 0, &mut head) {
-        Ok(n) => Ok(n == HEADER_BYTES && head.as_slice() == HEADER.as_slice()),
-        Err(e) => Err(e),
+        Err(_) => Err(ReadError::DiskFault),
     }
 }
 
@@ -76,7 +58,7 @@ fn number_in(bytes: &[u8]) -> u32
 /// The length of a batch, if the gate before it is open. These are the gate and the length, as far
 /// as the file has them;
 /// `room` is what the file has from the gate on.
-fn length_in(head: &[u8], room: u64) -> Result<Option<usize>, WalError>
+fn length_in(head: &[u8], room: u64) -> Result<Option<usize>, ReadError>
     ensures closed { IfOk result (λ some. IfNone some (get_or head.now 0 0 ≢ 1)) }
     ensures open { IfOk result (λ some. IfSome some (λ n. (get_or head.now 0 0 ≡ 1)
         × (FRAME_BYTES ≤ length head.now) × (little_bytes LENGTH_BYTES n ≡ take LENGTH_BYTES (drop 1 head.now)))) }
@@ -86,23 +68,23 @@ fn length_in(head: &[u8], room: u64) -> Result<Option<usize>, WalError>
     ensures error { IfErr result (λ e. e ≡ NotAStore) }
 {
     if head.is_empty() {
-        return Err(WalError::NotAStore);
+        return Err(ReadError::NotAStore);
     }
     if head[0] != 1 {
         return Ok(None);
     }
     if head.len() < FRAME_BYTES || room < FRAME_BYTES as u64 + 1 {
-        return Err(WalError::NotAStore);
+        return Err(ReadError::NotAStore);
     }
     let len = number_in(&head[1..]);
     if len == 0 || room - FRAME_BYTES as u64 - 1 < len as u64 {
-        return Err(WalError::NotAStore);
+        return Err(ReadError::NotAStore);
     }
     Ok(Some(len as usize))
 }
 
 /// The length of the batch behind the gate at `at`, if that is open. `size` is the log's length.
-fn next_length<D: Disk>(disk: &mut D, at: u64, size: u64) -> Result<Option<usize>, WalError>
+fn next_length<D: Disk>(disk: &mut D, at: u64, size: u64) -> Result<Option<usize>, ReadError>
     requires { at < size }
     ensures closed { D.tells → length (D.seen disk.old).log ≡ size
         → IfOk result (λ some. IfNone some (get_or (D.seen disk.old).log at 0 ≢ 1)) }
@@ -125,7 +107,7 @@ fn next_length<D: Disk>(disk: &mut D, at: u64, size: u64) -> Result<Option<usize
 }
 
 /// So many bytes of the log from a place on, and none where they are not had.
-fn read_into<D: Disk>(disk: &mut D, at: u64, len: usize, out: &mut Vec<u8>) -> Result<(), WalError>
+fn read_into<D: Disk>(disk: &mut D, at: u64, len: usize, out: &mut Vec<u8>) -> Result<(), ReadError>
     requires { out.old.items ≡ [] }
     ensures bytes { D.tells → at + len ≤ length (D.seen disk.old).log
         → OnOk result (out.new.items ≡ take len (drop at (D.seen disk.old).log)) }
@@ -142,7 +124,7 @@ fn read_into<D: Disk>(disk: &mut D, at: u64, len: usize, out: &mut Vec<u8>) -> R
         Ok(n) if n == len => Ok(()),
         Ok(_) => {
             out.clear();
-            Err(WalError::NotAStore)
+            Err(ReadError::NotAStore)
         }
         Err(e) => {
             out.clear();
@@ -155,53 +137,14 @@ impl Wal {
     ghost use Rattle.wal.specs.Waiting.{end_of, IsReadToEnd};
     ghost use Rattle.wal.specs.Reading.{IsReading, IsFresh, IsSameBut, IsForeign, Gives};
 
-    /// At the first batch, with room for a length and a gate.
-    fn at_start(alloc: Global, size: u64, limit: u64) -> Result<Wal, WalError>
-        requires size { HEADER_BYTES < size }
-        requires limit { limit ≤ LOG_LIMIT }
-        ensures start { IfOk result (λ wal. (wal.ended ≡ false) × (wal.size ≡ size)
-            × (end_of wal ≡ HEADER_BYTES)) }
-        ensures fresh { IfOk result (λ wal. IsFresh wal limit) }
-        ensures error { IfErr result (λ e. e ≡ OutOfMemory) }
-    {
-        let mut buffer = Vec::with_capacity(alloc, LENGTH_BYTES + 1)?;
-        buffer.resize(LENGTH_BYTES, 0u8)?;
-        Ok(Wal {
-            end: HEADER_BYTES as u64,
-            size,
-            limit,
-            ended: false,
-            buffer,
-            down: None,
-        })
-    }
-
-    /// A log that is there, before its first batch. One whose creation was not begun, or was cut
-    /// short, is created before.
-    pub fn open<D: Disk>(alloc: Global, disk: &mut D, limit: u64) -> Result<Wal, WalError>
-        requires limit { limit ≤ LOG_LIMIT }
-        requires born { D.tells → IsUnborn (D.seen disk.old).log → ⊥ }
-        ensures reading { D.tells → IfOk result (λ wal. IsReading wal (D.seen disk.old).log []) }
-        ensures start { IfOk result (λ wal. (wal.ended ≡ false) × (end_of wal ≡ HEADER_BYTES)) }
-        ensures fresh { IfOk result (λ wal. IsFresh wal limit) }
-        ensures no_store { D.tells → NotAStoreWhere (IsForeign (D.seen disk.old).log) result }
-        ensures error { IfErr result (λ e. (e ≡ DiskFault) ⊎ (e ≡ NotAStore) ⊎ (e ≡ OutOfMemory)) }
-        // Whatever the files hold and whatever is answered, they stay as they were.
-        ensures keeps { IsOnlyRead D.Disk disk.old disk.new }
-        ensures files { D.tells → IsSettled D.Disk disk.old → IsSettled D.Disk disk.new }
-        ensures cause { ReadHasCause D.Disk disk.old disk.new result }
-    {
-        let size = log_length(disk)?;
-        if size < CREATED_BYTES || !has_header(disk)? {
-            return Err(WalError::NotAStore);
-        }
-        Wal::at_start(alloc, size, limit)
-    }
-
     /// The next batch, in place of what `out` held; false at the log's end. `out` is empty after
     /// all but a batch.
     /// A refusal leaves the reading where it was.
-    pub fn read_batch<D: Disk>(&mut self, disk: &mut D, out: &mut Vec<u8>) -> Result<bool, WalError>
+    pub fn read_batch<D: Disk>(
+        &mut self,
+        disk: &mut D,
+        out: &mut Vec<u8>,
+    ) -> Result<bool, ReadError>
         ensures given { D.tells → (batches : List (List ℕ))
             → IsReading self.old (D.seen disk.old).log batches
             → Gives result out.new.items

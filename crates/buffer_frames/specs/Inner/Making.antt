@@ -1,13 +1,12 @@
 -- The steps of an opening.
-use Rattle.std.specs.Prelude.{◌≡◌, ◌⊎◌, ℕ, Bool, true, false, ◌<◌, ◌≤◌, List, [], Result, OnOk, IsErrOf}
+use Rattle.std.specs.Prelude.{◌≡◌, ◌⊎◌, ℕ, Bool, true, false, ◌<◌, ◌≤◌, List, Result, OnOk, IsErrOf}
 use Rattle.disk_trait.specs.Files.{Files}
 use Rattle.disk_trait.specs.Device.{Rose, last_count}
 use Rattle.disk_trait.specs.Runs.{images_now, LeavesOnly}
 use Rattle.disk_trait.specs.declared.device.Disk.{Ghosts as Disk}
-use Rattle.wal.specs.Batches.{IsUnborn, Opens}
-use Rattle.wal.specs.Creating.{From, created}
+use Rattle.wal.specs.Creating.{IsLogBefore}
 use Rattle.wal.specs.Reading.{IsFresh, IsOnlyRead}
-use Rattle.wal.specs.Settled.{LogIs, Settled}
+use Rattle.wal.specs.Settled.{Settled}
 use Rattle.wal.specs.Waiting.{waiting, end_of, limit_of, down_of, IsReadToEnd}
 use Rattle.wal.specs.declared.log.Wal.{Wal}
 use Rattle.page_types.specs.Records.{record_bytes}
@@ -20,11 +19,7 @@ use Rattle.buffer_frames.specs.NoStore.{IsStoreOf}
 use Rattle.buffer_frames.specs.Maps.{HasApplied}
 use Rattle.buffer_frames.specs.declared.page_map.PageMap.{PageMap}
 use Rattle.buffer_frames.specs.declared.error.OpenFault.{OpenFault}
-use Rattle.buffer_frames.specs.declared.error.OpenFault.TheVariants.{DiskFault}
-
--- a log as it was, or, where its creation was not begun or was cut short, one without batches
-abbrev pub IsLogBefore : List ℕ → List ℕ → Type 0
-IsLogBefore old new = (new ≡ old) ⊎ (IsUnborn old × Opens new [])
+use Rattle.buffer_frames.specs.declared.error.OpenFault.TheVariants.{DiskFault, OutOfMemory}
 
 -- What an opening does to a log and to the state of its records: where there are some an Abort is
 -- owed, and else the first one waits.
@@ -40,20 +35,10 @@ pub record MakesHasCause {D T : Type 0} (device : Disk D) (old new : D)
   pub later : device.fault_count old ≤ device.fault_count new
   pub fault : IsErrOf result DiskFault → Rose (device.fault_count old) (device.fault_count new)
   pub at_ok : OnOk result (device.write_fault_count new ≡ device.write_fault_count old)
+  pub at_memory : IsErrOf result OutOfMemory
+      → device.write_fault_count new ≡ device.write_fault_count old
 
 module _ {D : Type 0} (device : Disk D) where
-  -- an image of an opening: the pages of an earlier one, and its log or an empty one
-  abbrev pub IsImageBefore : D → Files → Type 0
-  IsImageBefore old c = From (images_now device old) (IsLogBefore (device.seen old).log) c
-
-  -- the log is there, on the device as it is read, and the pages are as they were
-  pub record IsMade (old new : D) : Type 0 where
-    pub pages : (device.seen new).pages ≡ (device.seen old).pages
-    pub log_is : ((device.seen new).log ≡ (device.seen old).log)
-        ⊎ (IsUnborn (device.seen old).log × ((device.seen new).log ≡ created))
-    pub born : IsUnborn (device.seen new).log → ⊥
-    pub durable : LogIs device (device.seen new).log new
-
   -- Both files were synced up to `mid`, at c0. From then on a crash leaves the pages as they are
   -- read, and the log or an empty one.
   pub record HasRun (first : D) (c0 : ℕ) (disk : D) : Type 0 where

@@ -1,4 +1,13 @@
-use Rattle.std.proofs.Common.{refl, sym, subst}
+use Rattle.std.proofs.Common.{rules, arith, ◌≡◌, ◌∙◌, ℕ, List, [], inl, inr, ⊎_elim, refl, sym, ap, subst}
+use Rattle.disk_trait.specs.Files.{Files}
+use Rattle.disk_trait.specs.Runs.{images_now}
+use Rattle.disk_trait.specs.declared.device.Disk.{Ghosts as Disk}
+use Rattle.disk_trait.proofs.Runs.{then}
+use Rattle.wal.specs.Batches.{IsUnborn, Opens}
+use Rattle.wal.specs.Reading.{IsOnlyRead}
+use Rattle.buffer_frames.specs.NoStore.{IsStoreOf}
+use Rattle.wal.specs.Creating.{IsLogBefore}
+use Rattle.buffer_frames.specs.Inner.Making.{RunsFrom}
 use Rattle.buffer_frames.specs.Beginnings.{KeepsHistory}
 use Rattle.buffer_frames.proofs.Beginning.{keeps_opened, opens_still}
 use Rattle.buffer_frames.proofs.Flushing.{seen_as}
@@ -35,3 +44,37 @@ returns-in-Ok-clause-opens_on g c t =
     let at = c.in-Ok.ensures.opened in
     let disk : g.row.D.Denot = c.open_parts.new.disk in
     opens_still g.D.Disk c.counted_are_one.ensures (λ d. g.met.D.Disk.seen_is_image d t) t c.args.settings.now c.args.disk at.0 (seen_as disk p.wal p.state.value p.flushed p.owes disk) p.map at.1
+
+unborn_is_store : (files : Files) → IsUnborn files.log → IsStoreOf files []
+unborn_is_store files unborn = record {
+  counted = record {
+    batches = [];
+    opens = inl (unborn, refl);
+    records = record { rows = []; each = search rules; log_is = refl; numbered = search rules };
+  };
+  applies = search rules;
+}
+
+files_are : (c d : Files) → c.log ≡ d.log → c.pages ≡ d.pages → c ≡ d
+files_are c d log pages =
+    let first : c ≡ record { log = d.log; pages = c.pages } = ap (λ (l : List ℕ). let f : Files = record { log = l; pages = c.pages } in f) log in
+    let second : record { log = d.log; pages = c.pages } ≡ d = ap (λ (p : List ℕ). let f : Files = record { log = d.log; pages = p } in f) pages in
+    first ∙ second
+
+module _ {D : Type 0} (device : Disk D) where
+  stays : (first : D) (c : Files) → (IsUnborn (device.seen first).log → ⊥) → (c.pages ≡ (device.seen first).pages) × IsLogBefore (device.seen first).log c.log → c ≡ device.seen first
+  stays first c born left = ⊎_elim (λ (same : c.log ≡ (device.seen first).log). files_are c (device.seen first) same left.0)
+      (λ (new : IsUnborn (device.seen first).log × Opens c.log []). absurd (born new.0)) left.1
+
+  runs_only : device.tells → ((d : D) → images_now device d (device.seen d)) → (first disk : D) → RunsFrom device first disk → (IsUnborn (device.seen first).log → ⊥) → IsOnlyRead device first disk
+  runs_only told law first disk (inl only) born = only
+  runs_only told law first disk (inr (c0, run)) born = record {
+    same = λ t. stays first (device.seen disk) born (run.rest.each (device.clock disk) (device.seen disk) run.rest.later (omega arith) (law disk));
+    any_moment = λ t. then device first run.mid disk (images_now device first) _ run.synced run.rest
+        (λ c left. subst (images_now device first) (sym (stays first c born left)) (law first));
+  }
+
+pub returns-in-Err-clause-no_store_kept : goal.returns-in-Err-clause-no_store_kept
+returns-in-Err-clause-no_store_kept g c = λ t none.
+    runs_only g.D.Disk t (λ d. g.met.D.Disk.seen_is_image d t) c.args.disk c.open_parts.new.disk (c.open_parts.ensures.runs t)
+    (λ unborn. c.stores_are_known.ensures (g.D.Disk.seen c.args.disk) [] (unborn_is_store (g.D.Disk.seen c.args.disk) unborn) none)

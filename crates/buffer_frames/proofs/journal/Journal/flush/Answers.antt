@@ -29,8 +29,8 @@ returns-in-Err-clause-stands g c =
 
 pub returns-in-Err-clause-idle : goal.returns-in-Err-clause-idle
 returns-in-Err-clause-idle g c =
-    undone_idle g.D.Disk c.args.self.now c.self.inside.disk c.flush.new.disk c.self.inside.wal c.flush.new.self c.self.inside.state.value c.self.inside.flushed (g.D.Disk.fault_count c.flush.new.disk) c.self.inside.owes c.self.inside.opened.value c.flush.result c.in-Err.error c.refusal_of.result c.self.view_is
-    c.in-Err.is c.refusal_of.ensures (λ none. let rest = c.flush.ensures.idle none in (rest.0, rest.1)) c.flush.ensures.is_down c.flush.ensures.goes_down
+    undone_idle g.D.Disk c.args.self.now c.self.inside.disk c.flush.new.disk c.self.inside.wal c.flush.new.self c.self.inside.state.value c.self.inside.flushed (g.D.Disk.fault_count c.flush.new.disk) c.self.inside.owes c.self.inside.opened.value c.flush.result c.in-Err.error c.from.result c.self.view_is
+    c.in-Err.is c.from.ensures (λ none. let rest = c.flush.ensures.idle none in (rest.0, rest.1)) c.flush.ensures.is_down c.flush.ensures.goes_down
 
 pub returns-in-Err-clause-any_moment : goal.returns-in-Err-clause-any_moment
 returns-in-Err-clause-any_moment g c t =
@@ -39,7 +39,7 @@ returns-in-Err-clause-any_moment g c t =
 
 pub returns-in-Err-clause-is_down : goal.returns-in-Err-clause-is_down
 returns-in-Err-clause-is_down g c =
-    undone_down g.D.Disk c.args.self.now c.self.inside.disk c.self.inside.wal c.self.inside.state.value c.self.inside.flushed c.self.inside.owes c.self.inside.opened.value c.flush.result c.in-Err.error c.refusal_of.result c.self.view_is c.in-Err.is c.refusal_of.ensures c.flush.ensures.is_down
+    undone_down g.D.Disk c.args.self.now c.self.inside.disk c.self.inside.wal c.self.inside.state.value c.self.inside.flushed c.self.inside.owes c.self.inside.opened.value c.flush.result c.in-Err.error c.from.result c.self.view_is c.in-Err.is c.from.ensures c.flush.ensures.is_down
 
 pub invariant_of-self : goal.invariant_of-self
 invariant_of-self g c =
