@@ -5,19 +5,19 @@
 ghost use Rattle.std.specs.Prelude.{◌≡◌, ◌≢◌, ◌↔◌, ◌≤◌, drop, IfOk, IfErr};
 ghost use Rattle.std.specs.IoError.{error_kind};
 ghost use Rattle.std.specs.Process.{exit_status};
-ghost use Rattle.shell_run.specs.RunMeets.{RunMeets};
+ghost use Rattle.shell_run.specs.declared.top.Outcome.{Outcome};
 ghost use Rattle.shell_run.specs.Words.{IsForm};
 ghost use Rattle.shell_run.specs.declared.words.Settings.{Settings};
-ghost use Rattle.std.specs.declared.rt.LibcRuntime.{LibcRuntime};
-ghost use Rattle.ginsh.specs.Started.{IsFrom, IsInto, IsNewDisk};
+ghost use Rattle.ginsh.specs.Started.{RunsOver};
 ghost use Rattle.disk_file.specs.declared.disk.FileDisk.{FileDisk};
 ghost use Rattle.disk_file.specs.declared.streams.StdSource.{StdSource};
 ghost use Rattle.disk_file.specs.declared.streams.StdSink.{StdSink};
 
-use disk_file::{FileDisk, StdSink, StdSource};
+use disk_file::{FileDisk, HostFolder, StdSink, StdSource, SystemFolder};
 use disk_trait::{Disk, Sink, Source};
 use shell_run::{NoGate, Outcome, run_shell};
 use std::alloc::Global;
+use std::fs::File;
 use std::io::{self, ErrorKind, Read, Write};
 use std::process::ExitCode;
 use std::rt::Env;
@@ -51,45 +51,65 @@ fn unread_status(error: &io::Error) -> u8
     }
 }
 
-/// The whole program, over the store in the working directory.
-fn answer<'a, R: Threads + Wait + Sync, I: Read, O: Write>(
+/// The whole program, over the store in a folder. Where the files of the folder tell what they hold, so does the device
+/// over them, and the contract of a run says what is found, and what a crash leaves.
+fn answer<R: Threads + Wait + Sync, F: HostFolder + Send, I: Read, O: Write>(
     rt: &R,
-    files: &'a HostRuntime,
+    folder: F,
     alloc: Global,
     words: &[String],
     reader: I,
     writer: O,
-) -> Outcome<StdSource<I>, StdSink<O>, FileDisk<'a, HostRuntime>>
-    ensures { (script : StdSource I) × (out : StdSink O) × (disk : FileDisk LibcRuntime)
-        × IsFrom script reader × IsInto out writer × IsNewDisk disk
-        × RunMeets ⟦<StdSource<I> as Source>⟧ ⟦<StdSink<O> as Sink>⟧
-        ⟦<FileDisk<'a, HostRuntime> as Disk>⟧ words.now script out disk result }
+) -> Outcome<StdSource<I>, StdSink<O>, FileDisk<F>>
+where
+    F::Handle: Send,
+    ensures { RunsOver ⟦<StdSource<I> as Source>⟧ ⟦<StdSink<O> as Sink>⟧
+        ⟦<FileDisk<F> as Disk>⟧ words.now folder reader writer result }
 {
     let script = StdSource::new(reader);
     let out = StdSink::new(writer);
-    let disk = FileDisk::new(files);
+    let disk = FileDisk::new(folder);
     run_shell(rt, alloc, words, script, out, disk, &NoGate)
 }
 
-/// The program behind its words: it ends with the status of the run, if there is one.
-fn end_of<R: Threads + Wait + Sync, I: Read + Drop, O: Write + Drop>(
+/// The program with its words: it ends with the status of their run. Words that are no text have none.
+fn end_of<R: Threads + Wait + Sync, F: HostFolder + Send + Drop, I: Read + Drop, O: Write + Drop>(
     rt: &R,
-    files: &HostRuntime,
+    folder: F,
     alloc: Global,
     words: io::Result<Vec<String>>,
     reader: I,
     writer: O,
 ) -> ExitCode
+where
+    F::Handle: Send,
+    ensures run { IfOk words
+        (λ w. (r : Outcome (StdSource I) (StdSink O) (FileDisk F F.Handle F.HostFolder))
+        × RunsOver ⟦<StdSource<I> as Source>⟧ ⟦<StdSink<O> as Sink>⟧
+        ⟦<FileDisk<F> as Disk>⟧ w.items folder reader writer r × (exit_status result ≡ r.status)) }
     ensures form { IfOk words (λ w. (exit_status result ≡ 2) ↔ ((settings : Settings) → IsForm w.items settings → ⊥)) }
     ensures no_text { IfErr words (λ e. (exit_status result ≡ 2) ↔ (error_kind e ≡ ErrorKind.InvalidData)) }
     ensures range { exit_status result ≤ 8 }
 {
     match words {
-        Ok(words) => ExitCode::from(answer(rt, files, alloc, &words, reader, writer).status),
+        Ok(words) => ExitCode::from(answer(rt, folder, alloc, &words, reader, writer).status),
         Err(error) => ExitCode::from(unread_status(&error)),
     }
 }
 
+// A file that is opened gets the lowest number that is free. So where a standard stream is closed, the folder `/`
+// takes its number, which can be neither read nor written: no reply goes into a file of the store.
 fn main(rt: HostRuntime) -> ExitCode {
-    end_of(&rt, &rt, rt.alloc(), words_of(&rt), rt.stdin(), rt.stdout())
+    let _first = File::open(&rt, "/");
+    let _second = File::open(&rt, "/");
+    let _third = File::open(&rt, "/");
+    let folder = SystemFolder::new(&rt);
+    end_of(
+        &rt,
+        folder,
+        rt.alloc(),
+        words_of(&rt),
+        rt.stdin(),
+        rt.stdout(),
+    )
 }

@@ -47,7 +47,7 @@ fn cost_of<R: Threads + Wait + Sync + Clock>(
             ended.status
         );
         let own = Duration::ZERO;
-        let calls = ended.device.calls();
+        let calls = ended.store.calls();
         return Ok(Cost { calls, own });
     }
     let start = Instant::now(rt)?;
@@ -58,8 +58,8 @@ fn cost_of<R: Threads + Wait + Sync + Clock>(
         "a run of inserts ends with {}",
         ended.status
     );
-    let own = all.saturating_sub(ended.device.inside());
-    let calls = ended.device.calls();
+    let own = all.saturating_sub(ended.store.inside());
+    let calls = ended.store.calls();
     Ok(Cost { calls, own })
 }
 

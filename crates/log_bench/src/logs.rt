@@ -76,7 +76,7 @@ pub(crate) fn long_log<R: Threads + Wait + Sync + Clock>(
 ) -> Result<Vec<u8>> {
     let empty = MemoryDisk::new(alloc, Vec::new(alloc));
     let ended = run_script(rt, alloc, INSERT.to_vec(alloc)?, empty, false)?;
-    let mut disk = ended.device.into_memory();
+    let mut disk = ended.store.into_memory();
     let mut log = log_of(alloc, &mut disk)?;
     ensure!(log.pop() == Some(0), "a log ends with a closed gate");
     let mut next = Next { number: 5, xid: 2 };

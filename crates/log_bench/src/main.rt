@@ -46,7 +46,7 @@ fn open_log<R: Threads + Wait + Sync + Clock + Print + AllocGlobal>(
         "{batches} batches of 1000 records in {size} bytes: status {}, {reply}",
         ended.status
     )?;
-    println!(rt; "{} calls of the device", ended.device.calls())?;
+    println!(rt; "{} calls of the device", ended.store.calls())?;
     if timed {
         println!(rt; "{seconds:.3} seconds")?;
     }

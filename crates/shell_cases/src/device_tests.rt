@@ -48,8 +48,8 @@ fn run_twice<R: Threads + Wait + Sync>(
     second: usize,
 ) -> Result<MemoryDisk, AllocError> {
     let store = MemoryDisk::new(alloc, Vec::new(alloc));
-    let store = run_inserts(rt, alloc, first, store)?.device;
-    Ok(run_inserts(rt, alloc, second, store)?.device)
+    let store = run_inserts(rt, alloc, first, store)?.store;
+    Ok(run_inserts(rt, alloc, second, store)?.store)
 }
 
 /// How many calls of the device there were when each insert was answered: three of a run, and two of a second one.
@@ -57,7 +57,7 @@ fn answered_at<R: Threads + Wait + Sync>(rt: &R, alloc: Global) -> Result<Vec<u6
     let mut ends = Vec::new(alloc);
     for count in 1..=3 {
         let store = MemoryDisk::new(alloc, Vec::new(alloc));
-        ends.push(run_inserts(rt, alloc, count, store)?.device.calls())?;
+        ends.push(run_inserts(rt, alloc, count, store)?.store.calls())?;
     }
     for count in 1..=2 {
         ends.push(run_twice(rt, alloc, 3, count)?.calls())?;
@@ -169,9 +169,9 @@ fn calls_of_two<R: Threads + Wait + Sync>(
     alloc: Global,
 ) -> Result<(Calls, Calls), AllocError> {
     let empty = MemoryDisk::new(alloc, Vec::new(alloc));
-    let opened = run_inserts(rt, alloc, 0, empty)?.device.calls();
+    let opened = run_inserts(rt, alloc, 0, empty)?.store.calls();
     let empty = MemoryDisk::new(alloc, Vec::new(alloc));
-    let one = run_inserts(rt, alloc, 1, empty)?.device.calls();
+    let one = run_inserts(rt, alloc, 1, empty)?.store.calls();
     let opened_again = run_twice(rt, alloc, 1, 0)?.calls();
     let two = run_twice(rt, alloc, 1, 1)?.calls();
     let first = Calls {
@@ -203,7 +203,7 @@ fn a_device_fails_at_each_call(rt: HostRuntime) -> Result<(), Fail> {
             "call {k} fails in the first run"
         );
         if k < first.end {
-            let run = run_on(&rt, alloc, &script, run.device)?;
+            let run = run_on(&rt, alloc, &script, run.store)?;
             let least = run.out.bytes() == goes_on(alloc, 0)?.as_bytes();
             let most = run.out.bytes() == goes_on(alloc, 1)?.as_bytes();
             assert!(rt;
@@ -211,12 +211,12 @@ fn a_device_fails_at_each_call(rt: HostRuntime) -> Result<(), Fail> {
                 "behind call {k}"
             );
         } else {
-            let run = run_on(&rt, alloc, INSERT, run.device)?;
+            let run = run_on(&rt, alloc, INSERT, run.store)?;
             assert!(rt;
                 ended_so(&run, ends_of(second, k)),
                 "call {k} fails in the second run"
             );
-            let run = run_on(&rt, alloc, &script, run.device)?;
+            let run = run_on(&rt, alloc, &script, run.store)?;
             let least = run.out.bytes() == goes_on(alloc, 1)?.as_bytes();
             let most = run.out.bytes() == goes_on(alloc, 2)?.as_bytes();
             assert!(rt;

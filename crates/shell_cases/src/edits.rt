@@ -110,7 +110,7 @@ fn opens_as_wanted<R: Threads + Wait + Sync + Print + AllocGlobal>(
     let words = vec![in alloc; String::from_str(alloc, "run")?]?;
     let script = SCRIPT.to_vec(alloc)?;
     let mut ended = run(rt, alloc, &words, script, holding(alloc, &bytes)?);
-    let unchanged = log_of(alloc, &mut ended.device)? == bytes;
+    let unchanged = log_of(alloc, &mut ended.store)? == bytes;
     let met = line.is_met(ended.status, ended.out.bytes(), unchanged);
     if !met {
         println!(rt;

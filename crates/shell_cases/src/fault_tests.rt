@@ -133,11 +133,11 @@ fn each_call_of_a_device_fails(rt: HostRuntime) -> Result<(), Fail> {
     let alloc = rt.alloc();
     let good = run_script(&rt, alloc, Vec::new(alloc))?;
     assert_eq!(rt; good.status, 0);
-    for call in 1..=good.device.calls() {
+    for call in 1..=good.store.calls() {
         let ended = run_script(&rt, alloc, vec![in alloc; call]?)?;
         let cut = is_cut_short(ended.out.bytes(), good.out.bytes());
         assert!(rt; ended.status == 3 && cut, "call {call}");
-        assert!(rt; opens(&rt, alloc, ended.device)?, "behind call {call}");
+        assert!(rt; opens(&rt, alloc, ended.store)?, "behind call {call}");
     }
     Ok(())
 }
@@ -150,7 +150,7 @@ fn each_read_of_a_script_fails(rt: HostRuntime) -> Result<(), Fail> {
     let reads = SCRIPT.len().div_ceil(PIECE).saturating_add(1) as u64;
     for read in 1..=reads {
         let ended = run_read(&rt, alloc, read)?;
-        let nothing = ended.out.bytes().is_empty() && ended.device.calls() == 0;
+        let nothing = ended.out.bytes().is_empty() && ended.store.calls() == 0;
         assert!(rt; ended.status == 6 && nothing, "read {read}");
     }
     let ended = run_read(&rt, alloc, reads.saturating_add(1))?;
@@ -175,7 +175,7 @@ fn each_write_of_the_replies_fails(rt: HostRuntime) -> Result<(), Fail> {
         }
         let begins = taken.len() < text.len() && text.starts_with(taken);
         assert!(rt; ended.status == 7 && begins, "write {write}");
-        assert!(rt; opens(&rt, alloc, ended.device)?, "behind write {write}");
+        assert!(rt; opens(&rt, alloc, ended.store)?, "behind write {write}");
         writes = write;
     }
     assert!(rt; writes >= text.len().div_ceil(PIECE) as u64, "{writes}");
@@ -193,7 +193,7 @@ fn ends_so<R: Threads + Wait + Sync>(
     let words = words_of(alloc)?;
     let store = holding(alloc, log)?;
     let mut ended = run(rt, alloc, &words, OPENING.to_vec(alloc)?, store);
-    let left = log_of(alloc, &mut ended.device)?;
+    let left = log_of(alloc, &mut ended.store)?;
     let stays = ended.status != 4 || left.as_slice() == log;
     Ok(ended.status == status && ended.out.bytes() == text && stays)
 }
@@ -201,7 +201,7 @@ fn ends_so<R: Threads + Wait + Sync>(
 /// The log that `SCRIPT` leaves.
 fn script_log<R: Threads + Wait + Sync>(rt: &R, alloc: Global) -> Result<Vec<u8>, Fail> {
     let mut ended = run_script(rt, alloc, Vec::new(alloc))?;
-    Ok(log_of(alloc, &mut ended.device)?)
+    Ok(log_of(alloc, &mut ended.store)?)
 }
 
 /// A log is cut: what a creation may have left is created, any other is no store.

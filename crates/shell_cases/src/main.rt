@@ -12,6 +12,8 @@ mod fault_tests;
 #[cfg(test)]
 mod file_tests;
 #[cfg(test)]
+mod gate_tests;
+#[cfg(test)]
 mod large_tests;
 #[cfg(test)]
 mod row_tests;
@@ -49,12 +51,12 @@ fn run_turns<R: Threads + Wait + Sync + Print + AllocGlobal>(
     for turn in turns {
         let script = turn.script.clone()?;
         let mut ended = run(rt, alloc, &turn.words, script, store);
-        let left = log_of(alloc, &mut ended.device)?;
+        let left = log_of(alloc, &mut ended.store)?;
         let text = ended.out.bytes();
         if !report(rt, name, &turn.wanted, ended.status, text, &left)? {
             differ = differ.saturating_add(1);
         }
-        store = ended.device;
+        store = ended.store;
     }
     Ok(differ)
 }

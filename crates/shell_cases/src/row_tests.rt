@@ -206,7 +206,7 @@ fn run_before<R: Threads + Wait + Sync>(
 ) -> Result<MemoryDisk, AllocError> {
     let mut store = store;
     for _ in 0..count {
-        store = run_on(rt, alloc, INSERT, store)?.device;
+        store = run_on(rt, alloc, INSERT, store)?.store;
     }
     Ok(store)
 }
@@ -255,7 +255,7 @@ fn has_left(alloc: Global, disk: &mut MemoryDisk, left: Option<&[u8]>) -> Result
 /// Whether the run of a row ends and prints as it is to, and leaves the log so.
 fn holds<R: Threads + Wait + Sync>(rt: &R, alloc: Global, row: Row) -> Result<bool, Fail> {
     let mut run = run_of(rt, alloc, row)?;
-    let left = has_left(alloc, &mut run.device, row.left)?;
+    let left = has_left(alloc, &mut run.store, row.left)?;
     Ok(left && run.status == row.status && run.out.bytes() == row.text)
 }
 

@@ -4,7 +4,9 @@ use Rattle.std.specs.Prelude.{Option, Result, Err, IsErrOf}
 use Rattle.shell_run.specs.Run.{Row}
 use Rattle.shell_run.specs.Outcomes.{Answered, some_refused}
 use Rattle.shell_run.specs.Inner.Serving.{Ran}
-use Rattle.shell_run.specs.Inner.Statuses.{ending_number, stop_number}
+use Rattle.engine.specs.Opening as opening
+use Rattle.engine.specs.Opening.{OpenFault}
+use Rattle.shell_run.specs.Inner.Statuses.{ending_number, stop_number, stop_at}
 use Rattle.shell_run.specs.declared.error.Stop.{Stop}
 use Rattle.shell_run.specs.declared.error.Stop.TheVariants.{SourceFault, TooLong, NotAStore, DiskFault, SinkFault, OutOfMemory}
 
@@ -65,11 +67,33 @@ pub record Unopened (stop : Stop) (status : ℕ) : Type 0 where
   pub number : (status ≡ 4) ⊎ (status ≡ 3) ⊎ (status ≡ 5)
   pub at_4 : status ≡ 4 → stop ≡ NotAStore
   pub at_3 : status ≡ 3 → stop ≡ DiskFault
+  pub at_5 : status ≡ 5 → stop ≡ OutOfMemory
 
 pub unopened : (stop : Stop) (status : ℕ) → status ≡ stop_number stop → (stop ≡ NotAStore) ⊎ (stop ≡ DiskFault) ⊎ (stop ≡ OutOfMemory) → Unopened stop status
-unopened stop status is (inl s) = record { number = inl (is ∙ ap stop_number s); at_4 = λ e. s; at_3 = λ e. absurd (let k : status ≡ 4 = is ∙ ap stop_number s in let x : ⊥ = omega arith in x) }
-unopened stop status is (inr (inl s)) = record { number = inr (inl (is ∙ ap stop_number s)); at_4 = λ e. absurd (let k : status ≡ 3 = is ∙ ap stop_number s in let x : ⊥ = omega arith in x); at_3 = λ e. s }
-unopened stop status is (inr (inr s)) = let k : status ≡ 5 = is ∙ ap stop_number s in record { number = inr (inr k); at_4 = λ e. absurd (let x : ⊥ = omega arith in x); at_3 = λ e. absurd (let x : ⊥ = omega arith in x) }
+unopened stop status is (inl s) = let k : status ≡ 4 = is ∙ ap stop_number s in record { number = inl k; at_4 = λ e. s; at_3 = λ e. absurd (let x : ⊥ = omega arith in x); at_5 = λ e. absurd (let x : ⊥ = omega arith in x) }
+unopened stop status is (inr (inl s)) = let k : status ≡ 3 = is ∙ ap stop_number s in record { number = inr (inl k); at_4 = λ e. absurd (let x : ⊥ = omega arith in x); at_3 = λ e. s; at_5 = λ e. absurd (let x : ⊥ = omega arith in x) }
+unopened stop status is (inr (inr s)) = let k : status ≡ 5 = is ∙ ap stop_number s in record { number = inr (inr k); at_4 = λ e. absurd (let x : ⊥ = omega arith in x); at_3 = λ e. absurd (let x : ⊥ = omega arith in x); at_5 = λ e. s }
+
+-- why a run stops where the store is not opened
+pub stop_is : (why : OpenFault) (stop : Stop) → stop ≡ stop_at why → (stop ≡ NotAStore) ⊎ (stop ≡ DiskFault) ⊎ (stop ≡ OutOfMemory)
+stop_is opening.NotAStore stop e = inl e
+stop_is opening.DiskFault stop e = inr (inl e)
+stop_is opening.OutOfMemory stop e = inr (inr e)
+
+pub at_store : (why : OpenFault) → stop_at why ≡ NotAStore → why ≡ opening.NotAStore
+at_store opening.NotAStore e = refl
+at_store opening.DiskFault e = absurd (let x : ⊥ = cc in x)
+at_store opening.OutOfMemory e = absurd (let x : ⊥ = cc in x)
+
+pub at_fault : (why : OpenFault) → stop_at why ≡ DiskFault → why ≡ opening.DiskFault
+at_fault opening.NotAStore e = absurd (let x : ⊥ = cc in x)
+at_fault opening.DiskFault e = refl
+at_fault opening.OutOfMemory e = absurd (let x : ⊥ = cc in x)
+
+pub at_memory : (why : OpenFault) → stop_at why ≡ OutOfMemory → why ≡ opening.OutOfMemory
+at_memory opening.NotAStore e = absurd (let x : ⊥ = cc in x)
+at_memory opening.DiskFault e = absurd (let x : ⊥ = cc in x)
+at_memory opening.OutOfMemory e = refl
 
 pub is_err : {T : Type 0} (a b : Stop) → a ≡ b → IsErrOf {T = T} (Err a) b
 is_err {T} a b e = ap (λ z. let r : Result T Stop = Err z in r) e

@@ -1,6 +1,6 @@
 -- A run grows by one statement, with the documents, the log and the device.
-use Rattle.std.proofs.Common.{◌≡◌, ◌⊎◌, inl, inr, ℕ, ◌+◌, ◌^◌, ◌<◌, ◌≤◌, ◌-◌, List, [], ◌∷◌, ◌++◌, length, length-append, map, arith, refl, sym, ◌∙◌, ap, subst, get_or}
-use Rattle.std.specs.Prelude.{◌↔◌, Option, Some, None, Result, Ok, Err, Vec}
+use Rattle.std.proofs.Common.{◌≡◌, ◌⊎◌, inl, inr, ℕ, ◌+◌, ◌^◌, ◌<◌, ◌≤◌, ◌-◌, List, [], ◌∷◌, ◌++◌, length, length-append, arith, refl, sym, ◌∙◌, ap, subst, get_or}
+use Rattle.std.specs.Prelude.{◌↔◌, Option, Some, None, IfSome, Result, Ok, Err, Vec}
 use Rattle.std.specs.declared.alloc.Global.{Global}
 use Rattle.std.specs.List.{All, Any}
 use Rattle.std.proofs.lemmas.List.{get_or_append_left}
@@ -17,23 +17,30 @@ use Rattle.shell_script.specs.Heads.{Head, dictionary_head, configuration_head}
 use Rattle.ts_config.specs.Known.{Known}
 use Rattle.shell_run.specs.Defining.{IsDefined}
 use Rattle.shell_run.specs.Values.{IsValueOf, SourceFails, OthersFail, ExprFails, IsQueryOf, QueryFails, IsRefusedBy, IsShown, IsQueried, IsParsed}
-use Rattle.shell_script.specs.Name.{Name}
-use Rattle.shell_run.specs.Finding.{Commit, History, IsFull, IsFound}
-use Rattle.shell_run.specs.Found.{Found}
+use Rattle.engine.specs.Finding.{Name}
+use Rattle.engine.specs.Finding.{Commit, History, IsFound}
+use Rattle.engine.specs.Found.{IsFull}
+use Rattle.engine.specs.Found.{Found}
 use Rattle.shell_run.specs.Crash.{StartedFrom}
-use Rattle.shell_run.specs.Run.{Row, Note, Place, Counts, Refusal, Reply, stored, lists, shows_vector, shows_query, shows_tokens, refused, store_full, log_full, transactions_spent, down, device as device_fault, memory, no_statement, Run, IsAnswered, HasOwn, IsDownSince, FindsDown, HasFailed, HasCalled, IsOkOfStore, seen_by}
+use Rattle.shell_run.specs.Run.{Row, Note, Place, Counts, Refusal, Reply, stored, lists, shows_vector, shows_query, shows_tokens, refused, store_full, log_full, transactions_spent, down, device as device_fault, memory, no_statement, Run, IsAnswered, HasOwn, IsDownSince, FindsDown, HasFailed, HasCalled, IsOkOfStore, seen_by, AreTimed}
 use Rattle.shell_run.specs.RanOn.{counts_over}
-use Rattle.shell_run.specs.Inner.Opened.{IsFixedSince}
-use Rattle.shell_run.specs.Inner.Stores.{documents_of, disk_of, fault_of, IsUp, StandsFor, PutsCommit, Rests, HasStored, IsInDoubt, HasInserted, IsFoundBy, HasAnswered, next_document}
-use Rattle.shell_script.specs.ReplyView.{name}
+use Rattle.engine.specs.Opened.{IsFixedSince}
+use Rattle.engine.specs.Standing.{disk_of, fault_of, IsUp, StandsFor, PutsCommit, Rests}
+use Rattle.shell_run.specs.Inner.Answering.{HasAnswered}
 use Rattle.shell_run.specs.Inner.Refusing.{stored_reply, found_reply}
-use Rattle.shell_script.specs.declared.replies.Name as answers
-use Rattle.shell_run.specs.declared.error.StoreError.{StoreError}
-use Rattle.shell_run.specs.declared.error.StoreError.TheVariants as errors
-use Rattle.shell_run.specs.Inner.StoreValue.{StoreValue}
+use Rattle.engine.specs.declared.error.DbError.{DbError}
+use Rattle.engine.specs.declared.error.DbError.TheVariants as errors
+use Rattle.engine.specs.Db.{DbValue}
 use Rattle.shell_run.proofs.Runs.{run_step, get_last}
-use Rattle.shell_run.proofs.Safety.{Safe, Grown, safe_rests, safe_logs, fixed_on}
-use Rattle.shell_run.proofs.Held.{held_lawful, held_same, held_stored, held_failed, sees_all, is_full, too_large, log_is_full, log_not_full, xids_spent, xids_left, next_commit}
+use Rattle.shell_run.proofs.Safety.{Safe, Grown, IsNext, safe_rests, safe_logs}
+use Rattle.shell_run.proofs.Timing.{timed_by, timed_push}
+use Rattle.engine.proofs.Held.{held_lawful, held_same}
+use Rattle.engine.proofs.Standing.{fixed_on, rests_disk, rests_fault}
+use Rattle.std.proofs.lemmas.List.{take_at}
+use Rattle.std.specs.Prelude.{take}
+use Rattle.ts_match.specs.Meaning.{Holds}
+use Rattle.engine.specs.Finding.{docs}
+use Rattle.engine.specs.Answers.{commit_of, HasStored, IsInDoubt, HasInserted, HasFound}
 
 abbrev pub row_of : Place → Known → ℕ → Statement → Reply → Note → Row
 row_of place known line statement reply note = record { place = place; line = line; known = known; statement = statement; reply = reply; note = note }
@@ -90,14 +97,15 @@ pub record IsAnsweredAt (fall : Option ℕ) (known : Known) (statement : Stateme
 
 module _ {D : Type 0} (device : Disk D) (found : Found) (history : History) where
   -- how a run stands between two statements
-  pub record State (first : D) (c0 : ℕ) (opened : D) (s : StoreValue D) (commits : History) (rows : List Row) : Type 0 where
+  pub record State (first : D) (c0 : ℕ) (opened : D) (s : DbValue D) (commits : History) (rows : List Row) : Type 0 where
     pub run : Run (counts_over device found first opened (disk_of s)) history commits rows
     pub counted : Counted (fault_of s) rows (device.fault_count first) (device.write_fault_count first) (device.fault_count (disk_of s)) (device.write_fault_count (disk_of s))
     pub fixed : device.tells → IsFixedSince device first c0 (disk_of s)
+    pub timed : device.tells → AreTimed (device.clock opened) (device.clock (disk_of s)) rows
     pub safe : device.tells → StartedFrom device first → Safe device first c0 s history commits rows
 
   -- The run with one statement more, which is what the documents hold now.
-  pub record Goes (commits : History) (rows : List Row) (old new : StoreValue D) (place : Place) (known : Known) (line : ℕ) (statement : Statement) (reply : Reply) : Type 0 where
+  pub record Goes (commits : History) (rows : List Row) (old new : DbValue D) (place : Place) (known : Known) (line : ℕ) (statement : Statement) (reply : Reply) : Type 0 where
     pub note : Note
     pub more : History
     pub held : StandsFor found new (commits ++ more)
@@ -109,7 +117,7 @@ module _ {D : Type 0} (device : Disk D) (found : Found) (history : History) wher
   quiet_note : D → History → Note
   quiet_note disk commits = record { snapshot = length commits; commit = None; faults = 0; writes = 0; count = device.fault_count disk; clock = device.clock disk }
 
-  quiet_state : (old new : StoreValue D) (first : D) (c0 : ℕ) (opened : D) (commits : History) (rows : List Row) (place : Place) (known : Known) (line : ℕ) (statement : Statement) (reply : Reply) → StandsFor found old commits → All (λ (r : Row). r.place.step < place.step) rows → Rests device old new
+  quiet_state : (old new : DbValue D) (first : D) (c0 : ℕ) (opened : D) (commits : History) (rows : List Row) (place : Place) (known : Known) (line : ℕ) (statement : Statement) (reply : Reply) → StandsFor found old commits → All (λ (r : Row). r.place.step < place.step) rows → Rests device old new
       → IsAnsweredAt (fault_of old) known statement reply
       → IsAnswered (counts_over device found first opened (disk_of old)) (commits ++ []) known line statement reply (quiet_note (disk_of old) commits)
       → State first c0 opened old commits rows → State first c0 opened new (commits ++ []) (rows ++ row_of place known line statement reply (quiet_note (disk_of old) commits) ∷ [])
@@ -127,6 +135,7 @@ module _ {D : Type 0} (device : Disk D) (found : Found) (history : History) wher
         lawful = held_lawful device found new (commits ++ []) held;
         last = last;
         finds_down = finds_up (fault_of old) rows (device.fault_count first) (device.write_fault_count first) (device.fault_count (disk_of old)) (device.write_fault_count (disk_of old)) known statement reply s.counted q.asks;
+        no_commit = λ k d l some. refl;
         fell = λ n is. (s.counted.fallen n (q.fell n is)).3;
         one_count = λ n is. told_one (fault_of old) rows n s.counted.told (q.fell n is);
         failed = (λ l. absurd (let x : ⊥ = omega arith in x), λ f. absurd (q.no_failure f));
@@ -136,17 +145,21 @@ module _ {D : Type 0} (device : Disk D) (found : Found) (history : History) wher
         writes = omega arith;
       }) in
       let counted : Counted (fault_of new) (rows ++ row ∷ []) (device.fault_count first) (device.write_fault_count first) (device.fault_count (disk_of old)) (device.write_fault_count (disk_of old)) =
-      subst (λ d. Counted d (rows ++ row ∷ []) (device.fault_count first) (device.write_fault_count first) (device.fault_count (disk_of old)) (device.write_fault_count (disk_of old))) (sym r.journal.down)
+      subst (λ d. Counted d (rows ++ row ∷ []) (device.fault_count first) (device.write_fault_count first) (device.fault_count (disk_of old)) (device.write_fault_count (disk_of old))) (sym (rests_fault device old new r))
       (counted_rests (fault_of old) rows row (device.fault_count first) (device.write_fault_count first) (device.fault_count (disk_of old)) (device.write_fault_count (disk_of old)) s.counted refl q.fell) in
+      let clock : device.clock (disk_of new) ≡ device.clock (disk_of old) = ap device.clock (rests_disk device old new r) in
+      let timed : device.tells → AreTimed (device.clock opened) (device.clock (disk_of new)) (rows ++ row ∷ []) =
+      λ t. timed_push (device.clock opened) (device.clock (disk_of old)) (device.clock (disk_of new)) rows row (s.timed t) (omega (arith, clock)) (sym clock) last in
       record {
-        run = subst (λ d. Run (counts_over device found first opened d) history (commits ++ []) (rows ++ row ∷ [])) (sym r.journal.disk) run;
-        counted = subst (λ d. Counted (fault_of new) (rows ++ row ∷ []) (device.fault_count first) (device.write_fault_count first) (device.fault_count d) (device.write_fault_count d)) (sym r.journal.disk) counted;
-        fixed = λ t. subst (λ d. IsFixedSince device first c0 d) (sym r.journal.disk) (s.fixed t);
-        safe = λ t f. safe_rests device first c0 old new history commits rows row t (s.safe t f) (grown k (commits ++ []) (rows ++ row ∷ []) run) r refl q.ok;
+        timed = timed;
+        run = subst (λ d. Run (counts_over device found first opened d) history (commits ++ []) (rows ++ row ∷ [])) (sym (rests_disk device old new r)) run;
+        counted = subst (λ d. Counted (fault_of new) (rows ++ row ∷ []) (device.fault_count first) (device.write_fault_count first) (device.fault_count d) (device.write_fault_count d)) (sym (rests_disk device old new r)) counted;
+        fixed = λ t. subst (λ d. IsFixedSince device first c0 d) (sym (rests_disk device old new r)) (s.fixed t);
+        safe = λ t f. safe_rests device first c0 old new history commits rows row t (s.safe t f) (grown k (commits ++ []) (rows ++ row ∷ []) run) r (record { last = last; fresh = tt }) (timed_by (device.clock opened) (device.clock (disk_of new)) (rows ++ row ∷ []) (timed t)) refl q.ok;
       }
 
   -- a statement for which the device was not called, whatever else is known of it
-  quiet : (old new : StoreValue D) (commits : History) (rows : List Row) (place : Place) (known : Known) (line : ℕ) (statement : Statement) (reply : Reply) → StandsFor found old commits → All (λ (r : Row). r.place.step < place.step) rows → Rests device old new
+  quiet : (old new : DbValue D) (commits : History) (rows : List Row) (place : Place) (known : Known) (line : ℕ) (statement : Statement) (reply : Reply) → StandsFor found old commits → All (λ (r : Row). r.place.step < place.step) rows → Rests device old new
       → IsAnsweredAt (fault_of old) known statement reply
       → ((first : D) (c0 : ℕ) (opened : D) → State first c0 opened old commits rows → IsAnswered (counts_over device found first opened (disk_of old)) (commits ++ []) known line statement reply (quiet_note (disk_of old) commits))
       → Goes commits rows old new place known line statement reply
@@ -162,7 +175,7 @@ module _ {D : Type 0} (device : Disk D) (found : Found) (history : History) wher
   stands_up fall known statement reply up not_down no_failure = record { ok = λ ok. up; asks = inr up; fell = λ n e. absurd (not_down n e); no_failure = no_failure }
 
   -- a statement that finds the store down
-  finds_it_down : (old new : StoreValue D) (commits : History) (rows : List Row) (place : Place) (known : Known) (line : ℕ) (statement : Statement) (count : ℕ) → StandsFor found old commits → All (λ (r : Row). r.place.step < place.step) rows → Rests device old new → fault_of old ≡ Some count
+  finds_it_down : (old new : DbValue D) (commits : History) (rows : List Row) (place : Place) (known : Known) (line : ℕ) (statement : Statement) (count : ℕ) → StandsFor found old commits → All (λ (r : Row). r.place.step < place.step) rows → Rests device old new → fault_of old ≡ Some count
       → FindsDown known statement (refused (down count)) → (HasFailed statement (refused (down count)) → ⊥) → ((k : Counts) (note : Note) → note.commit ≡ None → IsDownSince k count → IsAnswered k (commits ++ []) known line statement (refused (down count)) note)
       → Goes commits rows old new place known line statement (refused (down count))
   unfolding quiet_note
@@ -185,16 +198,16 @@ module _ {D : Type 0} (device : Disk D) (found : Found) (history : History) wher
     called : (e : Expr) → HasCalled (insert e) reply
 
   -- a statement that puts a document into the log
-  logs_state : (old new : StoreValue D) (first : D) (c0 : ℕ) (opened : D) (commits : History) (rows : List Row) (place : Place) (known : Known) (line : ℕ) (reply : Reply) (e : Expr) (v : Vector) (note : Note) → (held' : StandsFor found new (commits ++ next_commit device found old v ∷ []))
+  logs_state : (old new : DbValue D) (first : D) (c0 : ℕ) (opened : D) (commits : History) (rows : List Row) (place : Place) (known : Known) (line : ℕ) (reply : Reply) (e : Expr) (v : Vector) (name : Name) (note : Note) → (held' : StandsFor found new (commits ++ commit_of name v ∷ []))
       → All (λ (r : Row). r.place.step < place.step) rows
-      → PutsCommit device (next_commit device found old v) old new
+      → PutsCommit device (commit_of name v) old new
       → IsUp old → (IsOkOfStore reply → IsUp new)
       → IsNoteOf (disk_of old) (disk_of new) commits reply note
-      → IsAnswered (counts_over device found first opened (disk_of new)) (commits ++ next_commit device found old v ∷ []) known line (insert e) reply note
+      → IsAnswered (counts_over device found first opened (disk_of new)) (commits ++ commit_of name v ∷ []) known line (insert e) reply note
       → Counted (fault_of new) (rows ++ row_of place known line (insert e) reply note ∷ []) (device.fault_count first) (device.write_fault_count first) (device.fault_count (disk_of new)) (device.write_fault_count (disk_of new))
-      → State first c0 opened old commits rows → State first c0 opened new (commits ++ next_commit device found old v ∷ []) (rows ++ row_of place known line (insert e) reply note ∷ [])
-  logs_state old new first c0 opened commits rows place known line reply e v note held' last p up ok n answered counted s =
-      let c : Commit = next_commit device found old v in
+      → State first c0 opened old commits rows → State first c0 opened new (commits ++ commit_of name v ∷ []) (rows ++ row_of place known line (insert e) reply note ∷ [])
+  logs_state old new first c0 opened commits rows place known line reply e v name note held' last p up ok n answered counted s =
+      let c : Commit = commit_of name v in
       let row : Row = row_of place known line (insert e) reply note in
       let k : Counts = counts_over device found first opened (disk_of old) in
       let l : Counts = counts_over device found first opened (disk_of new) in
@@ -207,6 +220,7 @@ module _ {D : Type 0} (device : Disk D) (found : Found) (history : History) wher
         lawful = held_lawful device found new (commits ++ c ∷ []) held';
         last = last;
         finds_down = finds_up (fault_of old) rows (device.fault_count first) (device.write_fault_count first) (device.fault_count (disk_of old)) (device.write_fault_count (disk_of old)) known (insert e) reply s.counted (inr up);
+        no_commit = λ k d l some. absurd (let e : (get_or rows k d).note.writes ≡ 0 = (s.counted.up up).1 k d l in let x : ⊥ = omega arith in x);
         fell = λ m is. absurd (n.not_down m is);
         one_count = λ m is. absurd (n.not_down m is);
         failed = n.failed e;
@@ -215,29 +229,37 @@ module _ {D : Type 0} (device : Disk D) (found : Found) (history : History) wher
         faults = n.faults;
         writes = n.writes;
       }) in
+      let timed : device.tells → AreTimed (device.clock opened) (device.clock (disk_of new)) (rows ++ row ∷ []) =
+      λ t. timed_push (device.clock opened) (device.clock (disk_of old)) (device.clock (disk_of new)) rows row (s.timed t) (p.keeps t).later n.clock last in
+      let next : IsNext commits rows row = record { last = last; fresh = subst (λ o. IfSome o (λ p. length commits ≤ p)) (sym n.own) (let z : length commits ≤ length commits = omega arith in z) } in
       record {
+        timed = timed;
         run = run;
         counted = counted;
         fixed = λ t. fixed_on device first (disk_of old) (disk_of new) c0 (s.fixed t) (p.keeps t);
-        safe = λ t f. safe_logs device first c0 old new history commits c rows row t up (s.safe t f) (grown k commits rows s.run) (grown l (commits ++ c ∷ []) (rows ++ row ∷ []) run) p n.clock ok;
+        safe = λ t f. safe_logs device first c0 old new history commits c rows row t up (s.safe t f) (grown k commits rows s.run) (grown l (commits ++ c ∷ []) (rows ++ row ∷ []) run) p next (timed_by (device.clock opened) (device.clock (disk_of old)) rows (s.timed t)) (timed_by (device.clock opened) (device.clock (disk_of new)) (rows ++ row ∷ []) (timed t)) n.clock ok;
       }
 
-  own_of : (old : StoreValue D) (commits : History) (v : Vector) (note : Note) → note.commit ≡ Some (length commits) → HasOwn (commits ++ next_commit device found old v ∷ []) note (next_commit device found old v)
-  own_of old commits v note e = (length commits, e, get_last commits (next_commit device found old v))
+  own_of : (commits : History) (c : Commit) (note : Note) → note.commit ≡ Some (length commits) → HasOwn (commits ++ c ∷ []) note c
+  own_of commits c note e = (length commits, e, get_last commits c)
 
-  stores : (old new : StoreValue D) (commits : History) (rows : List Row) (place : Place) (known : Known) (line : ℕ) (e : Expr) (v : Vector) (name : Name) → IsValueOf known e v → StandsFor found old commits → All (λ (r : Row). r.place.step < place.step) rows → HasStored device old new v name → Goes commits rows old new place known line (insert e) (stored name)
+  -- what a statement sees that comes last
+  sees : (commits more : History) (note : Note) → note.snapshot ≡ length commits → seen_by (commits ++ more) note ≡ docs commits
+  sees commits more note e = ap (λ n. docs (take n (commits ++ more))) e ∙ ap docs (take_at commits more (length commits) refl)
+
+  stores : (old new : DbValue D) (commits : History) (rows : List Row) (place : Place) (known : Known) (line : ℕ) (e : Expr) (v : Vector) (name : Name) → IsValueOf known e v → StandsFor found old commits → All (λ (r : Row). r.place.step < place.step) rows → HasStored device found commits old new v name → Goes commits rows old new place known line (insert e) (stored name)
   stores old new commits rows place known line e v name value h last i =
-      let l : HasStored device old new v name = i in
-      let c : Commit = next_commit device found old v in
+      let l : HasStored device found commits old new v name = i in
+      let c : Commit = commit_of name v in
       let note : Note = record { snapshot = length commits; commit = Some (length commits); faults = device.fault_count (disk_of new) - device.fault_count (disk_of old); writes = 0; count = device.fault_count (disk_of new); clock = device.clock (disk_of new) } in
       let row : Row = row_of place known line (insert e) (stored name) note in
-      let held' : StandsFor found new (commits ++ c ∷ []) = held_stored device found old new commits v name h i in
-      let sees : seen_by (commits ++ c ∷ []) note ≡ documents_of old = sees_all device found old commits (c ∷ []) note h l.up refl in
+      let held' : StandsFor found new (commits ++ c ∷ []) = l.stands in
+      let all : seen_by (commits ++ c ∷ []) note ≡ docs commits = sees commits (c ∷ []) note refl in
       record {
         note = note;
         more = c ∷ [];
         held = held';
-        state = λ first c0 opened s. logs_state old new first c0 opened commits rows place known line (stored name) e v note held' last l.puts l.up (λ ok. l.still_up)
+        state = λ first c0 opened s. logs_state old new first c0 opened commits rows place known line (stored name) e v name note held' last l.puts l.up (λ ok. l.still_up)
             (record {
               snapshot = refl;
               own = refl;
@@ -252,10 +274,10 @@ module _ {D : Type 0} (device : Disk D) (found : Found) (history : History) wher
               v,
               value,
               (
-                ((next_document old v).name, l.named, own_of old commits v note refl),
-                xids_left device found old commits (length commits) h l.up refl (λ s. omega (arith, s, l.some_xid)),
-                λ f. l.fits (too_large device found old v (subst (λ ds. IsFull ds v) sees f)),
-                log_not_full device found old commits (length commits) h l.up refl (omega (arith, l.log_fits)),
+                own_of commits c note refl,
+                l.xids,
+                λ f. l.room (subst (λ ds. IsFull ds v) all f),
+                l.log_room,
               ),
             ))
             (record {
@@ -270,12 +292,12 @@ module _ {D : Type 0} (device : Disk D) (found : Found) (history : History) wher
   rises : (n m : ℕ) → n < 2 ^ 64 - 1 → Rose n m → n < m
   rises n m l r = omega (arith, l, r)
 
-  fails : (old new : StoreValue D) (commits : History) (rows : List Row) (place : Place) (known : Known) (line : ℕ) (e : Expr) (v : Vector) → IsValueOf known e v → StandsFor found old commits → All (λ (r : Row). r.place.step < place.step) rows → IsInDoubt device old new v → Goes commits rows old new place known line (insert e) (refused device_fault)
+  fails : (old new : DbValue D) (commits : History) (rows : List Row) (place : Place) (known : Known) (line : ℕ) (e : Expr) (v : Vector) → IsValueOf known e v → StandsFor found old commits → All (λ (r : Row). r.place.step < place.step) rows → IsInDoubt device found commits old new v → Goes commits rows old new place known line (insert e) (refused device_fault)
   fails old new commits rows place known line e v value h last i =
-      let c : Commit = next_commit device found old v in
+      let c : Commit = commit_of i.name v in
       let note : Note = record { snapshot = length commits; commit = Some (length commits); faults = device.fault_count (disk_of new) - device.fault_count (disk_of old); writes = device.write_fault_count (disk_of new) - device.write_fault_count (disk_of old); count = device.fault_count (disk_of new); clock = device.clock (disk_of new) } in
       let row : Row = row_of place known line (insert e) (refused device_fault) note in
-      let held' : StandsFor found new (commits ++ c ∷ []) = held_failed device found old new commits v h i in
+      let held' : StandsFor found new (commits ++ c ∷ []) = i.stands in
       record {
         note = note;
         more = c ∷ [];
@@ -286,7 +308,7 @@ module _ {D : Type 0} (device : Disk D) (found : Found) (history : History) wher
             let some : 0 < device.write_fault_count (disk_of new) - device.write_fault_count (disk_of old) = omega (arith, failed) in
             let low : device.fault_count first < 2 ^ 64 - 1 = s.counted.room in
             let above : device.fault_count first < device.fault_count (disk_of new) = omega (arith, s.counted.low.0, low, i.rose) in
-            logs_state old new first c0 opened commits rows place known line (refused device_fault) e v note held' last
+            logs_state old new first c0 opened commits rows place known line (refused device_fault) e v i.name note held' last
             i.puts i.up (λ ok. absurd ok)
             (record {
               snapshot = refl;
@@ -302,7 +324,7 @@ module _ {D : Type 0} (device : Disk D) (found : Found) (history : History) wher
               v,
               value,
               (
-                inr ((next_document old v).name, own_of old commits v note refl),
+                inr (i.name, own_of commits c note refl),
                 elim (cases_lt (device.fault_count (disk_of old)) (device.fault_count (disk_of new))) [
                   | inl lt ↦ inl (omega arith)
                   | inr ge ↦ inr (omega (arith, i.rose))
@@ -321,50 +343,33 @@ module _ {D : Type 0} (device : Disk D) (found : Found) (history : History) wher
       }
 
   -- an insertion, by what the store answered
-  inserts : (old new : StoreValue D) (commits : History) (rows : List Row) (place : Place) (known : Known) (line : ℕ) (e : Expr) (v : Vector) (answer : Result answers.Name StoreError) → IsValueOf known e v → StandsFor found old commits → All (λ (r : Row). r.place.step < place.step) rows
-      → HasInserted device old new v answer → Goes commits rows old new place known line (insert e) (stored_reply answer)
+  inserts : (old new : DbValue D) (commits : History) (rows : List Row) (place : Place) (known : Known) (line : ℕ) (e : Expr) (v : Vector) (answer : Result Name DbError) → IsValueOf known e v → StandsFor found old commits → All (λ (r : Row). r.place.step < place.step) rows
+      → HasInserted device found commits old new v answer → Goes commits rows old new place known line (insert e) (stored_reply answer)
   unfolding quiet_note
-  inserts old new commits rows place known line e v (Ok n) value h last i = stores old new commits rows place known line e v (name n) value h last i
-  inserts old new commits rows place known line e v (Err errors.Device) value h last i = fails old new commits rows place known line e v value h last i
-  inserts old new commits rows place known line e v (Err errors.Spent) value h last i =
+  inserts old new commits rows place known line e v (Ok n) value h last i = stores old new commits rows place known line e v n value h last i
+  inserts old new commits rows place known line e v (Err errors.DiskFault) value h last i = fails old new commits rows place known line e v value h last i
+  inserts old new commits rows place known line e v (Err errors.XidsSpent) value h last i =
       quiet old new commits rows place known line (insert e) (refused transactions_spent) h last i.0 (stands_up (fault_of old) known (insert e) (refused transactions_spent) i.1 (λ n x. cc) (λ f. f))
-      (λ first c0 opened s. inr (v, value, (refl, xids_spent device found old commits (length commits) h i.1 refl i.2)))
-  inserts old new commits rows place known line e v (Err errors.Full) value h last i =
+      (λ first c0 opened s. inr (v, value, (refl, i.2)))
+  inserts old new commits rows place known line e v (Err errors.StoreFull) value h last i =
       quiet old new commits rows place known line (insert e) (refused store_full) h last i.0 (stands_up (fault_of old) known (insert e) (refused store_full) i.1 (λ n x. cc) (λ f. f))
-      (λ first c0 opened s. inr (
-        v,
-        value,
-        (
-          refl,
-          xids_left device found old commits (length commits) h i.1 refl i.2,
-          subst (λ ds. IsFull ds v) (sym (sees_all device found old commits [] (quiet_note (disk_of old) commits) h i.1 refl)) (is_full device found old v i.3),
-        ),
-      ))
+      (λ first c0 opened s. inr (v, value, (refl, i.2, subst (λ ds. IsFull ds v) (sym (sees commits [] (quiet_note (disk_of old) commits) refl)) i.3)))
   inserts old new commits rows place known line e v (Err errors.LogFull) value h last i =
       quiet old new commits rows place known line (insert e) (refused log_full) h last i.0 (stands_up (fault_of old) known (insert e) (refused log_full) i.1 (λ n x. cc) (λ f. f))
-      (λ first c0 opened s. inr (
-        v,
-        value,
-        (
-          refl,
-          xids_left device found old commits (length commits) h i.1 refl i.2,
-          λ f. i.3 (too_large device found old v (subst (λ ds. IsFull ds v) (sees_all device found old commits [] (quiet_note (disk_of old) commits) h i.1 refl) f)),
-          log_is_full device found old commits (length commits) h i.1 refl (omega (arith, i.4)),
-        ),
-      ))
+      (λ first c0 opened s. inr (v, value, (refl, i.2, λ f. i.3 (subst (λ ds. IsFull ds v) (sees commits [] (quiet_note (disk_of old) commits) refl) f), i.4)))
   inserts old new commits rows place known line e v (Err (errors.Down count)) value h last i = finds_it_down old new commits rows place known line (insert e) count h last i.0 i.1 (inl tt) (λ f. f) (λ k note n d. inr (v, value, (inl n, d)))
-  inserts old new commits rows place known line e v (Err errors.Memory) value h last i =
+  inserts old new commits rows place known line e v (Err errors.OutOfMemory) value h last i =
       quiet old new commits rows place known line (insert e) (refused memory) h last i.0 (stands_up (fault_of old) known (insert e) (refused memory) i.1 (λ n x. cc) (λ f. f)) (λ first c0 opened s. inr (v, value, refl))
 
   -- a search, by what the store answered
-  searches : (old new : StoreValue D) (commits : History) (rows : List Row) (place : Place) (known : Known) (line : ℕ) (s : QuerySource) (q : Query) (answer : Result (Vec answers.Name Global) StoreError) → IsQueryOf known s q → StandsFor found old commits → All (λ (r : Row). r.place.step < place.step) rows
-      → Rests device old new → IsFoundBy old q answer → Goes commits rows old new place known line (finding s) (found_reply answer)
+  searches : (old new : DbValue D) (commits : History) (rows : List Row) (place : Place) (known : Known) (line : ℕ) (s : QuerySource) (q : Query) (answer : Result (Vec Name Global) DbError) → IsQueryOf known s q → StandsFor found old commits → All (λ (r : Row). r.place.step < place.step) rows
+      → Rests device old new → HasFound commits old (Holds q) answer → Goes commits rows old new place known line (finding s) (found_reply answer)
   unfolding quiet_note
   searches old new commits rows place known line s q (Ok names) value h last r i =
-      quiet old new commits rows place known line (finding s) (lists (map name names.items)) h last r (stands_up (fault_of old) known (finding s) (lists (map name names.items)) i.0 (λ n x. cc) (λ f. f))
-      (λ first c0 opened t. inr (q, value, (refl, subst (λ ds. IsFound q ds (map name names.items)) (sym (sees_all device found old commits [] (quiet_note (disk_of old) commits) h i.0 refl)) i.1)))
+      quiet old new commits rows place known line (finding s) (lists names.items) h last r (stands_up (fault_of old) known (finding s) (lists names.items) i.0 (λ n x. cc) (λ f. f))
+      (λ first c0 opened t. inr (q, value, (refl, subst (λ ds. IsFound (Holds q) ds names.items) (sym (sees commits [] (quiet_note (disk_of old) commits) refl)) i.1)))
   searches old new commits rows place known line s q (Err (errors.Down count)) value h last r i = finds_it_down old new commits rows place known line (finding s) count h last r i (inl tt) (λ f. f) (λ k note n d. inr (q, value, (n, d)))
-  searches old new commits rows place known line s q (Err errors.Memory) value h last r i =
+  searches old new commits rows place known line s q (Err errors.OutOfMemory) value h last r i =
       quiet old new commits rows place known line (finding s) (refused memory) h last r (stands_up (fault_of old) known (finding s) (refused memory) i (λ n x. cc) (λ f. f)) (λ first c0 opened t. inr (q, value, refl))
   searches old new commits rows place known line s q (Err e) value h last r i = absurd i
 
@@ -430,21 +435,21 @@ module _ {D : Type 0} (device : Disk D) (found : Found) (history : History) wher
   defined_at fall known line head ls reply i = record { ok = λ ok. absurd ok; asks = inl tt; fell = λ n x. cc; no_failure = λ f. f }
 
   -- a statement that does not touch the store
-  only_answers : (old new : StoreValue D) (commits : History) (rows : List Row) (place : Place) (known : Known) (line : ℕ) (statement : Statement) (reply : Reply) → StandsFor found old commits → All (λ (r : Row). r.place.step < place.step) rows → Rests device old new
+  only_answers : (old new : DbValue D) (commits : History) (rows : List Row) (place : Place) (known : Known) (line : ℕ) (statement : Statement) (reply : Reply) → StandsFor found old commits → All (λ (r : Row). r.place.step < place.step) rows → Rests device old new
       → IsAnsweredAt (fault_of old) known statement reply → ((k : Counts) (note : Note) → note.commit ≡ None → IsAnswered k (commits ++ []) known line statement reply note)
       → Goes commits rows old new place known line statement reply
   unfolding quiet_note
   only_answers old new commits rows place known line statement reply h last r at answered =
       quiet old new commits rows place known line statement reply h last r at (λ first c0 opened s. answered (counts_over device found first opened (disk_of old)) (quiet_note (disk_of old) commits) refl)
 
-  pub goes : (old new : StoreValue D) (commits : History) (rows : List Row) (place : Place) (known : Known) (line : ℕ) (statement : Statement) (reply : Reply) → StandsFor found old commits → All (λ (r : Row). r.place.step < place.step) rows → HasAnswered device known line old new statement reply → Goes commits rows old new place known line statement reply
+  pub goes : (old new : DbValue D) (commits : History) (rows : List Row) (place : Place) (known : Known) (line : ℕ) (statement : Statement) (reply : Reply) → StandsFor found old commits → All (λ (r : Row). r.place.step < place.step) rows → HasAnswered device known line old new statement reply → Goes commits rows old new place known line statement reply
   unfolding quiet_note
   goes old new commits rows place known line (insert e) reply h last (inl i) =
       only_answers old new commits rows place known line (insert e) reply h last i.0 (of_text (ExprFails known e) (fault_of old) known (insert e) reply (expr_of_text known e) (λ r. inr r) i.1) (λ k note n. inl (i.1, n))
-  goes old new commits rows place known line (insert e) reply h last (inr i) = subst (λ r. Goes commits rows old new place known line (insert e) r) (sym i.2.2) (inserts old new commits rows place known line e i.0 i.2.0 i.1 h last i.2.1)
+  goes old new commits rows place known line (insert e) reply h last (inr i) = subst (λ r. Goes commits rows old new place known line (insert e) r) (sym i.2.2) (inserts old new commits rows place known line e i.0 i.2.0 i.1 h last (i.2.1 found commits h))
   goes old new commits rows place known line (finding s) reply h last (inl i) =
       only_answers old new commits rows place known line (finding s) reply h last i.0 (of_text (QueryFails known s) (fault_of old) known (finding s) reply (query_of_text known s) (λ r. inr r) i.1) (λ k note n. inl (i.1, n))
-  goes old new commits rows place known line (finding s) reply h last (inr i) = subst (λ r. Goes commits rows old new place known line (finding s) r) (sym i.2.3) (searches old new commits rows place known line s i.0 i.2.0 i.1 h last i.2.1 i.2.2)
+  goes old new commits rows place known line (finding s) reply h last (inr i) = subst (λ r. Goes commits rows old new place known line (finding s) r) (sym i.2.3) (searches old new commits rows place known line s i.0 i.2.0 i.1 h last i.2.1 (i.2.2 found commits h))
   goes old new commits rows place known line (show e) reply h last i = only_answers old new commits rows place known line (show e) reply h last i.0 (shown_at (fault_of old) known e reply i.1) (λ k note n. (i.1, n))
   goes old new commits rows place known line (query s) reply h last i = only_answers old new commits rows place known line (query s) reply h last i.0 (queried_at (fault_of old) known s reply i.1) (λ k note n. (i.1, n))
   goes old new commits rows place known line (parse text) reply h last i = only_answers old new commits rows place known line (parse text) reply h last i.0 (parsed_at (fault_of old) known text reply i.1) (λ k note n. (i.1, n))

@@ -38,7 +38,7 @@ module _ {S K D : Type 0} (source : Source S) (sink : Sink K) (device : Disk D)
     (words : List (String Global)) (script : S) (out : K) (disk : D) where
   abbrev outcome : ℕ → S → K → D → Outcome S K D
   outcome status script' out' disk' =
-      record { status = status; script = script'; out = out'; device = disk' }
+      record { status = status; script = script'; out = out'; store = disk' }
 
   pub run_of_no_form : ((settings : Settings) → IsForm words settings → ⊥)
       → RunMeets source sink device words script out disk (outcome 2 script out disk)
@@ -121,5 +121,5 @@ module _ {S K D : Type 0} (source : Source S) (sink : Sink K) (device : Disk D)
             ];
         causes = m.causes;
         read = λ e. end;
-        headline = elim m.headline [ inl h ↦ inl h | inr h ↦ inr (text, read, h) ];
+        headline = elim m.headline [ inl h ↦ inl h | inr h ↦ inr (text, read, end, h) ];
       }

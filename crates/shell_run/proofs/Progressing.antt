@@ -1,5 +1,5 @@
 -- How far a script has come.
-use Rattle.std.proofs.Common.{◌≡◌, ◌⊎◌, inl, inr, ℕ, ◌+◌, ◌<◌, Bool, true, false, ◌||◌, List, [], ◌∷◌, ◌++◌, append_assoc, arith, refl, sym, ◌∙◌, ap, subst}
+use Rattle.std.proofs.Common.{◌≡◌, ◌⊎◌, inl, inr, ℕ, ◌+◌, ◌<◌, Bool, true, false, ◌||◌, List, [], ◌∷◌, ◌++◌, length, append_assoc, arith, refl, sym, ◌∙◌, ap, subst}
 use Rattle.std.specs.Prelude.{Option, Some, None, Ok, Err}
 use Rattle.std.specs.List.{All, list_any}
 use Rattle.std.specs.Str.Lines.{lines}
@@ -15,22 +15,24 @@ use Rattle.shell_script.proofs.StepsLaw.{one_reading}
 use Rattle.shell_script.proofs.Rising.{Rise, number_of, steps_rise}
 use Rattle.shell_run.specs.declared.error.Stop.{Stop}
 use Rattle.shell_run.specs.Defining.{Becomes}
-use Rattle.shell_run.specs.Finding.{History}
+use Rattle.engine.specs.Finding.{History}
 use Rattle.shell_run.specs.Run.{Row, Place}
-use Rattle.shell_run.specs.Found.{Found}
+use Rattle.engine.specs.Found.{Found}
 use Rattle.shell_run.specs.Crash.{StartedFrom, HasSamePages, Reaches, CrashSafe, Means}
 use Rattle.shell_run.specs.RanOn.{counts_over, RanOn}
-use Rattle.shell_run.specs.Inner.Opened.{IsFixedSince, IsLawfulSince, OpenedAt}
+use Rattle.engine.specs.Opened.{IsFixedSince, IsLawfulSince, OpenedAt}
 use Rattle.shell_run.specs.Script.{IsRowOf, AreRows, printed_row, printed_rows}
-use Rattle.shell_run.specs.Inner.Sending.{Sends}
-use Rattle.shell_run.specs.Inner.Stores.{StandsFor, IsUp, disk_of, fault_of}
-use Rattle.shell_run.specs.Outcomes.{HasPrinted, is_refusal, some_refused}
+use Rattle.shell_run.specs.Inner.Sending.{Sends, SendsBut}
+use Rattle.shell_run.specs.declared.sending.TheConstants.{PIECE_BYTES}
+use Rattle.engine.specs.Standing.{StandsFor, IsUp, disk_of, fault_of}
+use Rattle.shell_run.specs.Outcomes.{HasPrinted, is_refusal, some_refused, last_text}
 use Rattle.shell_run.specs.Inner.Serving.{Served, Passed, HasRunSteps}
-use Rattle.shell_run.specs.declared.serving.Desk.{Desk}
-use Rattle.shell_run.specs.Inner.StoreValue.{StoreValue}
-use Rattle.shell_run.proofs.Streams.{puts_start, puts_behind, puts_on}
-use Rattle.shell_run.proofs.Held.{held_lawful}
-use Rattle.shell_run.proofs.Safety.{Safe, opens_now}
+use Rattle.shell_run.specs.declared.serving.RunState.{RunState}
+use Rattle.engine.specs.Db.{DbValue}
+use Rattle.shell_run.proofs.Streams.{appends_none, puts_few, puts_none}
+use Rattle.engine.proofs.Held.{held_lawful, held_placed}
+use Rattle.engine.proofs.Standing.{opens_now, opened_numbered}
+use Rattle.shell_run.proofs.Safety.{Safe}
 use Rattle.shell_run.proofs.Going.{State, Goes, goes, row_of}
 
 -- a step more at the end
@@ -52,38 +54,54 @@ any_push p (y ∷ xs) x = ap (λ b. p y || b) (any_push p xs x) ∙ or_assoc (p 
     or_assoc true b c = refl
     or_assoc false b c = refl
 
+last_is : (rows : List Row) (row : Row) → last_text (rows ++ row ∷ []) ≡ printed_row row
+last_is [] row = refl
+last_is (r ∷ []) row = refl
+last_is (r ∷ s ∷ rows) row = last_is (s ∷ rows) row
+
+pub went_badly : (n : ℕ) → false ≡ true → n < PIECE_BYTES
+went_badly n e = absurd (let x : ⊥ = cc in x)
+
+fits_last : (rows : List Row) (row : Row) (n : ℕ) → n < PIECE_BYTES → n + length (printed_row row) < PIECE_BYTES + length (last_text (rows ++ row ∷ []))
+fits_last rows row n less = let last : length (last_text (rows ++ row ∷ [])) ≡ length (printed_row row) = ap length (last_is rows row) in omega (arith, less, last)
+
+pub some_piece : 0 < PIECE_BYTES
+some_piece = let z : 0 < 8192 = omega arith in z
+
 -- the rows of the steps so far, of which some text may be unsent
-has_printed : (a c : Option (List ℕ)) (text : List ℕ) (rows : List Row) (done left : List Step) (known : Known) (waiting : List ℕ) (well : Bool) → steps_of text ≡ done ++ left → AreRows first_known done rows known → Sends a c (printed_rows rows) waiting well → HasPrinted text a c rows
+has_printed : (a c : Option (List ℕ)) (text : List ℕ) (rows : List Row) (done left : List Step) (known : Known) (waiting : List ℕ) (well : Bool) → steps_of text ≡ done ++ left → AreRows first_known done rows known → SendsBut (PIECE_BYTES + length (last_text rows)) a c (printed_rows rows) waiting well → HasPrinted text a c rows
 has_printed a c text rows done left known waiting well e h k = record {
   done = done;
   left = left;
   script = (one_reading text (done ++ left)).1 (sym e);
   known = known;
   each = h;
-  sent = k.sent;
-  unsent = k.unsent;
-  printed = k.all;
-  took = k.took;
+  sent = k.0.sent;
+  unsent = k.0.unsent;
+  printed = k.0.all;
+  took = k.0.took;
+  few = k.1;
 }
 
 module _ {D : Type 0} (device : Disk D) (found : Found) (history : History) where
   -- the steps so far were answered, and these are left
-  pub record Progress (before now : Option (List ℕ)) (opened : StoreValue D) (desk : Desk D) (text : List ℕ) (left : List Step) (well : Bool) : Type 0 where
+  pub record Progress (before now : Option (List ℕ)) (opened : DbValue D) (run_state : RunState D) (text : List ℕ) (left : List Step) (well : Bool) : Type 0 where
     pub commits : History
     pub rows : List Row
-    pub held : StandsFor found desk.store commits
+    pub held : StandsFor found run_state.store commits
     pub high : ℕ
     pub last : All (λ (r : Row). r.place.step < high) rows
     pub rise : Rise high left
     pub done : List Step
     pub script : steps_of text ≡ done ++ left
-    pub each : AreRows first_known done rows desk.configs
-    pub printed : Sends before now (printed_rows rows) desk.waiting.items well
-    pub flag : desk.refused ≡ some_refused rows
-    pub state : (first : D) (c0 : ℕ) → OpenedAt device found history first c0 opened → State device found history first c0 (disk_of opened) desk.store commits rows
+    pub each : AreRows first_known done rows run_state.configs
+    pub printed : SendsBut (PIECE_BYTES + length (last_text rows)) before now (printed_rows rows) run_state.waiting.items well
+    pub room : well ≡ true → length run_state.waiting.items < PIECE_BYTES
+    pub flag : run_state.refused ≡ some_refused rows
+    pub state : (first : D) (c0 : ℕ) → OpenedAt device found history first c0 opened → State device found history first c0 (disk_of opened) run_state.store commits rows
 
-  pub progress_start : (a : Option (List ℕ)) (desk : Desk D) (text : List ℕ) → StandsFor found desk.store history → IsUp desk.store → desk.configs ≡ first_known → desk.waiting.items ≡ [] → desk.refused ≡ false → Progress a a desk.store desk text (steps_of text) true
-  progress_start a desk text h up k w f = record {
+  pub progress_start : (a : Option (List ℕ)) (run_state : RunState D) (text : List ℕ) → StandsFor found run_state.store history → IsUp run_state.store → run_state.configs ≡ first_known → run_state.waiting.items ≡ [] → run_state.refused ≡ false → Progress a a run_state.store run_state text (steps_of text) true
+  progress_start a run_state text h up k w f = record {
     commits = history;
     rows = [];
     held = h;
@@ -93,11 +111,12 @@ module _ {D : Type 0} (device : Disk D) (found : Found) (history : History) wher
     done = [];
     script = refl;
     each = (refl, k);
-    printed = subst (λ z. Sends a a [] z true) (sym w) (puts_start a [] true);
+    printed = (record { sent = []; unsent = []; all = refl; took = appends_none a; waits = λ e. sym w }, some_piece);
+    room = λ e. subst (λ z. length z < PIECE_BYTES) (sym w) some_piece;
     flag = f;
     state = λ first c0 o. record {
       run = record {
-        lawful = held_lawful device found desk.store history h;
+        lawful = held_lawful device found run_state.store history h;
         begins = ([], append-nil history);
         answers = All-nil _;
         within = All-nil _;
@@ -120,12 +139,13 @@ module _ {D : Type 0} (device : Disk D) (found : Found) (history : History) wher
         told = All-nil _;
       };
       fixed = o.fixed;
+      timed = λ t. record { later = omega arith; within = All-nil _; order = All-nil _ };
       safe = λ t s.
-          let e : IsLawfulSince device history first c0 desk.store = o.lawful t s in
+          let e : IsLawfulSince device history first c0 run_state.store = o.lawful t s in
           record {
             began = (o.fixed t).began.1;
             stands = λ u. e.stands;
-            numbered = e.stands.log_of.numbered;
+            numbered = opened_numbered device (device.seen first).pages run_state.store history e.stands;
             clocks = All-nil _;
             late = λ m c ge le left. record {
               kept = history;
@@ -133,6 +153,7 @@ module _ {D : Type 0} (device : Disk D) (found : Found) (history : History) wher
               begins = ([], append-nil history);
               since = ([], append-nil history);
               known = All-nil _;
+              answered = All-nil _;
             };
           };
     };
@@ -149,15 +170,17 @@ module _ {D : Type 0} (device : Disk D) (found : Found) (history : History) wher
   }
 
   -- the meaning of a run over a device, at its end
-  finish : ((d : D) → device.tells → device.image d (device.clock d) (device.seen d)) → (first : D) (opened : StoreValue D) (c0 : ℕ) (s : StoreValue D) (commits : History) (rows : List Row) → OpenedAt device found history first c0 opened
-      → State device found history first c0 (disk_of opened) s commits rows → RanOn device history first (disk_of s) commits rows × (device.tells → HasSamePages device first (disk_of s))
-  finish law first opened c0 s commits rows o st = (
+  finish : ((d : D) → device.tells → device.image d (device.clock d) (device.seen d)) → (first : D) (opened : DbValue D) (c0 : ℕ) (s : DbValue D) (commits : History) (rows : List Row) → OpenedAt device found history first c0 opened
+      → StandsFor found s commits → State device found history first c0 (disk_of opened) s commits rows → RanOn device history first (disk_of s) commits rows × (device.tells → HasSamePages device first (disk_of s))
+  finish law first opened c0 s commits rows o held st = (
     record {
       opened = disk_of opened;
       found = found;
       found_commits = o.found_commits;
       found_in = o.found_in;
       run = st.run;
+      timed = st.timed;
+      placed = held_placed device found s commits held;
       numbered = λ t f. (st.safe t f).numbered;
       means = λ t f. by t f (fault_of s) refl;
     },
@@ -202,12 +225,12 @@ module _ {D : Type 0} (device : Disk D) (found : Found) (history : History) wher
             crash = crash t f;
           }
 
-  ran_by : ((d : D) → device.tells → device.image d (device.clock d) (device.seen d)) → (a c : Option (List ℕ)) (opened : StoreValue D) (desk : Desk D) (text : List ℕ) (left : List Step) (well : Bool) (h : Progress a c opened desk text left well)
-      → (first : D) (c0 : ℕ) → OpenedAt device found history first c0 opened → RanOn device history first (disk_of desk.store) h.commits h.rows × (device.tells → HasSamePages device first (disk_of desk.store))
-  ran_by law a c opened desk text left well h first c0 o = finish law first opened c0 desk.store h.commits h.rows o (h.state first c0 o)
+  ran_by : ((d : D) → device.tells → device.image d (device.clock d) (device.seen d)) → (a c : Option (List ℕ)) (opened : DbValue D) (run_state : RunState D) (text : List ℕ) (left : List Step) (well : Bool) (h : Progress a c opened run_state text left well)
+      → (first : D) (c0 : ℕ) → OpenedAt device found history first c0 opened → RanOn device history first (disk_of run_state.store) h.commits h.rows × (device.tells → HasSamePages device first (disk_of run_state.store))
+  ran_by law a c opened run_state text left well h first c0 o = finish law first opened c0 run_state.store h.commits h.rows o h.held (h.state first c0 o)
 
   -- one step more was answered
-  pub progress_step : (a b c : Option (List ℕ)) (opened : StoreValue D) (old new : Desk D) (text : List ℕ) (s : Step) (left : List Step) (well : Bool) → Progress a b opened old text (s ∷ left) true → Served device s old new b c well → Progress a c opened new text left well
+  pub progress_step : (a b c : Option (List ℕ)) (opened : DbValue D) (old new : RunState D) (text : List ℕ) (s : Step) (left : List Step) (well : Bool) → Progress a b opened old text (s ∷ left) true → Served device s old new b c well → Progress a c opened new text left well
   progress_step a b c opened old new text s left well p t =
       let number : ℕ = number_of s in
       let place : Place = record { step = number; session = t.session; turn = 0 } in
@@ -224,26 +247,28 @@ module _ {D : Type 0} (device : Disk D) (found : Found) (history : History) wher
         done = p.done ++ s ∷ [];
         script = p.script ∙ sym (append_assoc p.done (s ∷ []) left);
         each = rows_more first_known old.configs new.configs p.done p.rows s row p.each (record { step = refl; numbered = refl; turn = refl; before = refl; says = t.turned.says }) t.turned.becomes;
-        printed = subst (λ z. Sends a c z new.waiting.items well) (flat_map_more printed_row [] p.rows row) (puts_behind a b c (printed_rows p.rows) old.waiting.items (said t.session t.reply) new.waiting.items well p.printed t.text);
+        printed = subst (λ z. SendsBut (PIECE_BYTES + length (last_text (p.rows ++ row ∷ []))) a c z new.waiting.items well) (flat_map_more printed_row [] p.rows row)
+            (puts_few (PIECE_BYTES + length (last_text (p.rows ++ row ∷ []))) a b c (printed_rows p.rows) old.waiting.items (said t.session t.reply) new.waiting.items well p.printed.0 t.text (fits_last p.rows row (length old.waiting.items) (p.room refl)));
+        room = t.few;
         flag = t.flag ∙ ap (λ b. b || is_refusal t.reply) p.flag ∙ sym (any_push (λ (r : Row). is_refusal r.reply) p.rows row);
         state = λ first c0 o. g.state first c0 (disk_of opened) (p.state first c0 o);
       }
 
   -- the clause of `serve_steps`, where the run stopped
-  pub stopped_out : ((d : D) → device.tells → device.image d (device.clock d) (device.seen d)) → (a c : Option (List ℕ)) (opened : StoreValue D) (desk : Desk D) (text : List ℕ) (left : List Step) (stop : Stop) → Progress a c opened desk text left false
-      → HasRunSteps {E = Stop} device found history text a c opened (disk_of desk.store) (Err stop)
-  stopped_out law a c opened desk text left stop p = record {
+  pub stopped_out : ((d : D) → device.tells → device.image d (device.clock d) (device.seen d)) → (a c : Option (List ℕ)) (opened : DbValue D) (run_state : RunState D) (text : List ℕ) (left : List Step) (stop : Stop) → Progress a c opened run_state text left false
+      → HasRunSteps {E = Stop} device found history text a c opened (disk_of run_state.store) (Err stop)
+  stopped_out law a c opened run_state text left stop p = record {
     rows = p.rows;
     commits = p.commits;
-    ran = record { so_far = has_printed a c text p.rows p.done left desk.configs desk.waiting.items false p.script p.each p.printed; whole = λ e. cc };
+    ran = record { so_far = has_printed a c text p.rows p.done left run_state.configs run_state.waiting.items false p.script p.each p.printed; whole = λ e. cc };
     flag = tt;
-    over = ran_by law a c opened desk text left false p;
+    over = ran_by law a c opened run_state text left false p;
   }
 
   -- more was written of what waits
-  pub progress_sent : (a b c : Option (List ℕ)) (opened : StoreValue D) (old new : Desk D) (text : List ℕ) (left : List Step) (well : Bool) → Progress a b opened old text left true → new.store ≡ old.store → new.configs ≡ old.configs → new.refused ≡ old.refused
-      → Sends b c old.waiting.items new.waiting.items well → Progress a c opened new text left well
-  progress_sent a b c opened old new text left well p s k f t = record {
+  pub progress_sent : (a b c : Option (List ℕ)) (opened : DbValue D) (old new : RunState D) (text : List ℕ) (left : List Step) (well : Bool) → Progress a b opened old text left true → new.store ≡ old.store → new.configs ≡ old.configs → new.refused ≡ old.refused
+      → Sends b c old.waiting.items new.waiting.items well → (well ≡ true → length new.waiting.items < PIECE_BYTES) → Progress a c opened new text left well
+  progress_sent a b c opened old new text left well p s k f t room = record {
     commits = p.commits;
     rows = p.rows;
     held = subst (λ x. StandsFor found x p.commits) (sym s) p.held;
@@ -253,33 +278,34 @@ module _ {D : Type 0} (device : Disk D) (found : Found) (history : History) wher
     done = p.done;
     script = p.script;
     each = subst (AreRows first_known p.done p.rows) (sym k) p.each;
-    printed = puts_on a b c (printed_rows p.rows) old.waiting.items new.waiting.items well p.printed t;
+    printed = puts_none (PIECE_BYTES + length (last_text p.rows)) a b c (printed_rows p.rows) old.waiting.items new.waiting.items well p.printed.0 t (omega (arith, p.room refl));
+    room = room;
     flag = f ∙ p.flag;
     state = λ first c0 o. subst (λ x. State device found history first c0 (disk_of opened) x p.commits p.rows) (sym s) (p.state first c0 o);
   }
 
-  pub progress_left : (a b : Option (List ℕ)) (opened : StoreValue D) (desk : Desk D) (text : List ℕ) (left other : List Step) (well : Bool) → Progress a b opened desk text left well → left ≡ other → Progress a b opened desk text other well
-  progress_left a b opened desk text left other well p e = subst (λ z. Progress a b opened desk text z well) e p
+  pub progress_left : (a b : Option (List ℕ)) (opened : DbValue D) (run_state : RunState D) (text : List ℕ) (left other : List Step) (well : Bool) → Progress a b opened run_state text left well → left ≡ other → Progress a b opened run_state text other well
+  progress_left a b opened run_state text left other well p e = subst (λ z. Progress a b opened run_state text z well) e p
 
   -- the run stopped in a step
-  pub step_stop : ((d : D) → device.tells → device.image d (device.clock d) (device.seen d)) → (a b c : Option (List ℕ)) (opened : StoreValue D) (old new : Desk D) (text : List ℕ) (s : Step) (left : List Step) (stop : Stop) → Progress a b opened old text (s ∷ left) true
+  pub step_stop : ((d : D) → device.tells → device.image d (device.clock d) (device.seen d)) → (a b c : Option (List ℕ)) (opened : DbValue D) (old new : RunState D) (text : List ℕ) (s : Step) (left : List Step) (stop : Stop) → Progress a b opened old text (s ∷ left) true
       → Served device s old new b c false ⊎ Passed old new b c false → HasRunSteps {E = Stop} device found history text a c opened (disk_of new.store) (Err stop)
   step_stop law a b c opened old new text s left stop p (inl t) = stopped_out law a c opened new text left stop (progress_step a b c opened old new text s left false p t)
-  step_stop law a b c opened old new text s left stop p (inr t) = stopped_out law a c opened new text (s ∷ left) stop (progress_sent a b c opened old new text (s ∷ left) false p t.same.0 t.same.1 t.same.2 t.text)
+  step_stop law a b c opened old new text s left stop p (inr t) = stopped_out law a c opened new text (s ∷ left) stop (progress_sent a b c opened old new text (s ∷ left) false p t.same.0 t.same.1 t.same.2 t.text (went_badly (length new.waiting.items)))
 
-  pub step_goes : (a b c : Option (List ℕ)) (opened : StoreValue D) (old new : Desk D) (text : List ℕ) (s : Step) (left : List Step) → Progress a b opened old text (s ∷ left) true
+  pub step_goes : (a b c : Option (List ℕ)) (opened : DbValue D) (old new : RunState D) (text : List ℕ) (s : Step) (left : List Step) → Progress a b opened old text (s ∷ left) true
       → Served device s old new b c true ⊎ Passed old new b c true → Progress a c opened new text left true
   step_goes a b c opened old new text s left p (inl t) = progress_step a b c opened old new text s left true p t
   step_goes a b c opened old new text s left p (inr t) = absurd (let e : true ≡ false = t.short in let x : ⊥ = cc in x)
 
   -- the clause of `serve_steps`, where all steps were answered and all text was written
-  pub ended_out : ((d : D) → device.tells → device.image d (device.clock d) (device.seen d)) → (a c : Option (List ℕ)) (opened : StoreValue D) (desk : Desk D) (text : List ℕ) → Progress a c opened desk text [] true → desk.waiting.items ≡ []
-      → HasRunSteps {E = Stop} device found history text a c opened (disk_of desk.store) (Ok desk.refused)
+  pub ended_out : ((d : D) → device.tells → device.image d (device.clock d) (device.seen d)) → (a c : Option (List ℕ)) (opened : DbValue D) (run_state : RunState D) (text : List ℕ) → Progress a c opened run_state text [] true → run_state.waiting.items ≡ []
+      → HasRunSteps {E = Stop} device found history text a c opened (disk_of run_state.store) (Ok run_state.refused)
   unfolding has_printed
-  ended_out law a c opened desk text p empty = record {
+  ended_out law a c opened run_state text p empty = record {
     rows = p.rows;
     commits = p.commits;
-    ran = record { so_far = has_printed a c text p.rows p.done [] desk.configs desk.waiting.items true p.script p.each p.printed; whole = λ t. (refl, p.printed.waits refl ∙ empty) };
+    ran = record { so_far = has_printed a c text p.rows p.done [] run_state.configs run_state.waiting.items true p.script p.each p.printed; whole = λ t. (refl, p.printed.0.waits refl ∙ empty) };
     flag = p.flag;
-    over = ran_by law a c opened desk text [] true p;
+    over = ran_by law a c opened run_state text [] true p;
   }

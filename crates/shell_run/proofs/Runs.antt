@@ -10,8 +10,11 @@ use Rattle.ts_base.specs.Vectors.{Vector}
 use Rattle.ts_query.specs.Queries.{Query}
 use Rattle.shell_script.specs.Grammar.{Statement, insert, search as finding, show, query, parse, define, nothing}
 use Rattle.ts_config.specs.Known.{Known}
-use Rattle.shell_run.specs.Finding.{Document, Commit, History, IsLawful, Begins, docs, IsFull, IsFound, insertion}
-use Rattle.shell_run.specs.Found.{IsLogFull, AreXidsSpent}
+use Rattle.engine.specs.Finding.{Document, Commit, History, IsLawful, Begins, docs, IsFound}
+use Rattle.engine.specs.Answers.{commit_of}
+use Rattle.ts_match.specs.Meaning.{Holds}
+use Rattle.engine.specs.Found.{IsFull}
+use Rattle.engine.specs.Found.{IsLogFull, AreXidsSpent}
 use Rattle.shell_run.specs.Run.{Row, Note, Counts, Reply, stored, lists, refused, store_full, log_full, transactions_spent, down, device, memory, Run, IsWithin, IsAnswered, IsInserted, IsSearched, MayHaveOwn, MetFault, IsDownSince, FindsDown, HasFailed, HasCalled, IsSeenBy, Before, has_commit, is_at, seen_by, HasOwn}
 
 get_more : {X : Type 0} (xs ys : List X) (i : ℕ) (x : X) → slice_get xs i ≡ Some x → slice_get (xs ++ ys) i ≡ Some x
@@ -40,7 +43,7 @@ pub record Grows (k l : Counts) : Type 0 where
 
 own_may : (commits more : History) (note : Note) (v : Vector) → MayHaveOwn commits note v → MayHaveOwn (commits ++ more) note v
 own_may commits more note v (inl n) = inl n
-own_may commits more note v (inr h) = inr (h.0, own_more commits more note (insertion (record { name = h.0; vector = v })) h.1)
+own_may commits more note v (inr h) = inr (h.0, own_more commits more note (commit_of h.0 v) h.1)
 
 met_more : (k l : Counts) (note : Note) → Grows k l → MetFault k note → MetFault l note
 met_more k l note g (inl h) = inl h
@@ -57,7 +60,7 @@ is_full_more commits more note P le h = subst P (sym (seen_more commits more not
 
 insert_more : (k l : Counts) (commits more : History) (v : Vector) (reply : Reply) (note : Note) → Grows k l → note.snapshot ≤ length commits → IsInserted k commits v reply note → IsInserted l (commits ++ more) v reply note
 insert_more k l commits more v (stored name) note g le h = (
-  (h.0.0, h.0.1, own_more commits more note (insertion (record { name = h.0.0; vector = v })) h.0.2),
+  own_more commits more note (commit_of name v) h.0,
   subst (λ f. AreXidsSpent f note.snapshot → ⊥) (sym g.found) h.1,
   not_full_more commits more note (λ ds. IsFull ds v) le h.2,
   subst (λ f. IsLogFull f note.snapshot → ⊥) (sym g.found) h.3,
@@ -76,7 +79,7 @@ insert_more k l commits more v (refused memory) note g le h = h
 insert_more k l commits more v reply note g le h = absurd h
 
 search_more : (k l : Counts) (commits more : History) (q : Query) (reply : Reply) (note : Note) → Grows k l → note.snapshot ≤ length commits → IsSearched k commits q reply note → IsSearched l (commits ++ more) q reply note
-search_more k l commits more q (lists names) note g le h = (h.0, subst (λ ds. IsFound q ds names) (sym (seen_more commits more note le)) h.1)
+search_more k l commits more q (lists names) note g le h = (h.0, subst (λ ds. IsFound (Holds q) ds names) (sym (seen_more commits more note le)) h.1)
 search_more k l commits more q (refused (down count)) note g le h = (h.0, down_more k l count g h.1)
 search_more k l commits more q (refused memory) note g le h = h
 search_more k l commits more q reply note g le h = absurd h
@@ -122,6 +125,7 @@ pub record Step (k l : Counts) (first commits more : History) (rows : List Row) 
   pub lawful : IsLawful (commits ++ more)
   pub last : All (λ (r : Row). r.place.step < row.place.step) rows
   pub finds_down : All (λ (r : Row). 0 < r.note.writes → FindsDown row.known row.statement row.reply) rows
+  pub no_commit : All (λ (r : Row). 0 < r.note.writes → row.note.commit ≡ None) rows
   pub fell : (n : ℕ) → row.reply ≡ refused (down n) → Any (λ (r : Row). (0 < r.note.writes) × (r.note.count ≡ n)) rows
   pub one_count : (n : ℕ) → row.reply ≡ refused (down n) → All (λ (r : Row). (m : ℕ) → r.reply ≡ refused (down m) → m ≡ n) rows
   pub failed : (0 < row.note.writes) ↔ HasFailed row.statement row.reply
@@ -144,18 +148,18 @@ within_new k l first commits more rows row h =
       ];
     }
 
-seen_new : (n : ℕ) (low : ℕ) (a b : Row) → IsWithin low n a.note → b.note.snapshot ≡ n → (0 < a.note.writes → FindsDown b.known b.statement b.reply) → a.note.count + b.note.faults ≤ b.note.count → IsSeenBy a b
-seen_new n low a b h e d c = record { snapshot = omega (arith, h.high_is); commit = λ ok. under a.note.commit h.own; down = d; count = c }
+seen_new : (n : ℕ) (low : ℕ) (a b : Row) → IsWithin low n a.note → b.note.snapshot ≡ n → (0 < a.note.writes → FindsDown b.known b.statement b.reply) → (0 < a.note.writes → b.note.commit ≡ None) → a.note.count + b.note.faults ≤ b.note.count → IsSeenBy a b
+seen_new n low a b h e d none c = record { snapshot = omega (arith, h.high_is); commit = λ ok. under a.note.commit h.own; down = d; no_commit = none; count = c }
   where
     under : (o : Option ℕ) → IfSome o (λ p. (a.note.snapshot ≤ p) × (p < n)) → IfSome o (λ p. p < b.note.snapshot)
     under None h = tt
     under (Some p) h = omega arith
 
-not_before : (a b : Row) → b.place.step < a.place.step → Before a b → ⊥
+pub not_before : (a b : Row) → b.place.step < a.place.step → Before a b → ⊥
 not_before a b l (inl h) = omega arith
 not_before a b l (inr h) = omega (arith, h.0)
 
-not_self : (a : Row) → Before a a → ⊥
+pub not_self : (a : Row) → Before a a → ⊥
 not_self a (inl h) = omega arith
 not_self a (inr h) = omega (arith, h.2)
 
@@ -229,7 +233,7 @@ run_step j l first commits more rows row h = record {
   own = own_new j l first commits more rows row h;
   order = All-push (λ (a : Row). All (λ (b : Row). Before a b → IsSeenBy a b) (rows ++ row ∷ [])) rows row
       (λ k d m. let a : Row = get_or rows k d in All-push (λ (b : Row). Before a b → IsSeenBy a b) rows row (h.run.order k d m)
-      (λ before. seen_new (length commits) (length first) a row (h.run.within k d m) h.snapshot (h.finds_down k d m) (omega (arith, (h.run.counted k d m).1, h.faults, h.count))))
+      (λ before. seen_new (length commits) (length first) a row (h.run.within k d m) h.snapshot (h.finds_down k d m) (h.no_commit k d m) (omega (arith, (h.run.counted k d m).1, h.faults, h.count))))
       (All-push (λ (b : Row). Before row b → IsSeenBy row b) rows row (λ k d m before. absurd (not_before row (get_or rows k d) (h.last k d m) before)) (λ before. absurd (not_self row before)));
   owed = All-push (λ (b : Row). (n : ℕ) → b.reply ≡ refused (down n) → Any (λ (a : Row). (Before b a → ⊥) × (0 < a.note.writes) × (a.note.count ≡ n)) (rows ++ row ∷ [])) rows row
       (λ k d m n is. let b : Row = get_or rows k d in let P : Row → Type 0 = λ (a : Row). (Before b a → ⊥) × (0 < a.note.writes) × (a.note.count ≡ n) in any_more P P rows (row ∷ []) (λ x p. p) (h.run.owed k d m n is))

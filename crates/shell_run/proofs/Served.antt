@@ -5,21 +5,21 @@ use Rattle.std.proofs.lemmas.Bool.{ltb-true, ltb-false}
 use Rattle.disk_trait.specs.Device.{Rose, last_count}
 use Rattle.disk_trait.specs.declared.device.Disk.{Ghosts as Disk}
 use Rattle.disk_trait.specs.declared.stream.Sink.{Ghosts as Sink}
-use Rattle.buffer_frames.specs.NoStore.{IsNoStore}
-use Rattle.shell_run.specs.Finding.{History}
-use Rattle.shell_run.specs.Found.{Found}
+use Rattle.engine.specs.Opening.{IsNoStore}
+use Rattle.engine.specs.Finding.{History}
+use Rattle.engine.specs.Found.{Found}
 use Rattle.shell_run.specs.Outcomes.{some_refused}
 use Rattle.shell_run.specs.Crash.{HasSamePages}
 use Rattle.shell_run.specs.RanOn.{RanOn}
 use Rattle.shell_run.specs.RunMeets.{HasCauses, HasNotRun}
-use Rattle.shell_run.specs.Inner.Opened.{OpenedAt}
+use Rattle.engine.specs.Opened.{OpenedAt}
 use Rattle.shell_run.specs.Inner.Serving.{Ran, HasRunSteps, ServeMeets}
 use Rattle.shell_run.specs.Inner.Statuses.{ending_number, stop_number}
-use Rattle.shell_run.specs.Inner.StoreValue.{StoreValue}
+use Rattle.engine.specs.Db.{DbValue}
 use Rattle.shell_run.specs.declared.error.Stop.{Stop}
 use Rattle.shell_run.specs.declared.error.Stop.TheVariants.{SinkFault, OutOfMemory}
 use Rattle.shell_run.proofs.Streams.{appends_none}
-use Rattle.shell_run.proofs.Entering.{as_before_same, same_pages}
+use Rattle.engine.proofs.Standing.{as_before_same, same_pages, only_same}
 use Rattle.shell_run.proofs.Ending.{answered_stop, answered_end, Stopped, stopped, ended}
 
 -- the status of a run that ended tells whether the device's count rose
@@ -49,6 +49,7 @@ module _ {K D : Type 0} (sink : Sink K) (device : Disk D) (out : K) (disk : D) w
     no_store =
         λ t l. (λ e. omega (arith, n, e), λ e. omega (arith, n, e), λ e. omega (arith, n, e));
     keeps_4 = λ e. absurd (let x : ⊥ = omega (arith, n, e) in x);
+    keeps_no_store = λ t none. only_same device disk;
     status_7 = λ e. absurd (let x : ⊥ = omega (arith, n, e) in x);
     status_3 = λ e. absurd (let x : ⊥ = omega (arith, n, e) in x);
     pages = λ t. same_pages device disk;
@@ -64,6 +65,7 @@ module _ {K D : Type 0} (sink : Sink K) (device : Disk D) (out : K) (disk : D) w
               (λ e. omega (arith, n, e), λ e. omega (arith, n, e), λ e. omega (arith, n, e));
         };
     as_before = λ t s. as_before_same device disk s;
+    memory = λ e. refl;
   }
 
   -- where memory ran out before the store was opened
@@ -80,14 +82,14 @@ module _ {K D : Type 0} (sink : Sink K) (device : Disk D) (out : K) (disk : D) w
 module _ {K D : Type 0} (sink : Sink K) (device : Disk D) (text : List ℕ) (out out' : K)
     (disk disk' : D) where
   -- the store that was opened, and what its steps left
-  pub record Serves (found : Found) (history : History) (c0 : ℕ) (s : StoreValue D)
+  pub record Serves (found : Found) (history : History) (c0 : ℕ) (s : DbValue D)
       (result : Result Bool Stop) : Type 0 where
     pub opened : OpenedAt device found history disk c0 s
     pub a_store : device.tells → IsNoStore (device.seen disk) → ⊥
     pub ran : HasRunSteps device found history text (sink.taken out)
         (sink.taken out') s disk' result
 
-  pub serve_stopped : (found : Found) (history : History) (c0 : ℕ) (s : StoreValue D)
+  pub serve_stopped : (found : Found) (history : History) (c0 : ℕ) (s : DbValue D)
       (result : Result Bool Stop) (stop : Stop) (status : ℕ) → Serves found history c0 s result
       → result ≡ Err stop → IfErr result (λ e. (e ≡ SinkFault) ⊎ (e ≡ OutOfMemory))
       → (IsErrOf result SinkFault → Rose (sink.fault_count out) (sink.fault_count out'))
@@ -111,6 +113,7 @@ module _ {K D : Type 0} (sink : Sink K) (device : Disk D) (text : List ℕ) (out
           status_4 = λ t x. absurd (let y : ⊥ = omega (arith, n, x) in y);
           no_store = λ t x. absurd (h.a_store t x);
           keeps_4 = λ x. absurd (let y : ⊥ = omega (arith, n, x) in y);
+          keeps_no_store = λ t x. absurd (h.a_store t x);
           status_7 =
               λ x. fault
               (is ∙ ap (λ (z : Stop). let w : Result Bool Stop = Err z in w) (st.at_7 x));
@@ -119,6 +122,7 @@ module _ {K D : Type 0} (sink : Sink K) (device : Disk D) (text : List ℕ) (out
         };
         headline =
             inr (record {
+              a_store = h.a_store;
               rows = r.rows;
               first = history;
               commits = r.commits;
@@ -129,7 +133,7 @@ module _ {K D : Type 0} (sink : Sink K) (device : Disk D) (text : List ℕ) (out
             });
       }
 
-  pub serve_ended : (found : Found) (history : History) (c0 : ℕ) (s : StoreValue D)
+  pub serve_ended : (found : Found) (history : History) (c0 : ℕ) (s : DbValue D)
       (result : Result Bool Stop) (refused : Bool) (status : ℕ) → Serves found history c0 s result
       → result ≡ Ok refused
       → (before after : ℕ) → before ≡ device.fault_count disk → after ≡ device.fault_count disk'
@@ -158,6 +162,7 @@ module _ {K D : Type 0} (sink : Sink K) (device : Disk D) (text : List ℕ) (out
           status_4 = λ t x. absurd (let y : ⊥ = omega (arith, n, x) in y);
           no_store = λ t x. absurd (h.a_store t x);
           keeps_4 = λ x. absurd (let y : ⊥ = omega (arith, n, x) in y);
+          keeps_no_store = λ t x. absurd (h.a_store t x);
           status_7 = λ x. absurd (let y : ⊥ = omega (arith, n, x) in y);
           status_3 =
               λ x. three_rose (device.fault_count disk)
@@ -166,6 +171,7 @@ module _ {K D : Type 0} (sink : Sink K) (device : Disk D) (text : List ℕ) (out
         };
         headline =
             inr (record {
+              a_store = h.a_store;
               rows = r.rows;
               first = history;
               commits = r.commits;

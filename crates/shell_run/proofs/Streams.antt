@@ -1,8 +1,8 @@
 -- Streams that are read, and written, piece by piece.
-use Rattle.std.proofs.Common.{◌≡◌, ℕ, take, drop, ◌<◌, List, [], ◌++◌, length, length-append, append_assoc, arith, refl, sym, ◌∙◌, ap, subst, IfSome}
+use Rattle.std.proofs.Common.{◌≡◌, ℕ, take, drop, ◌+◌, ◌<◌, List, [], ◌++◌, length, length-append, append_assoc, arith, refl, sym, ◌∙◌, ap, subst, IfSome}
 use Rattle.std.specs.Prelude.{Option, Some, None, Bool, true, false}
 use Rattle.std.proofs.lemmas.List.{append-nil, take-append-drop}
-use Rattle.shell_run.specs.Inner.Sending.{Sends}
+use Rattle.shell_run.specs.Inner.Sending.{Sends, SendsBut}
 use Rattle.std.specs.Io.KnownBytes.{Consumes, Appends, Keeps}
 
 pub consumes_then : (a b c : Option (List ℕ)) (xs ys : List ℕ) → Consumes a b xs → Consumes b c ys → Consumes a c (xs ++ ys)
@@ -93,3 +93,22 @@ puts_short a b text more waiting rest well h = record {
   took = h.took;
   waits = λ e. cc;
 }
+
+-- where a text more was put behind what waits, at most these two are not taken
+pub puts_few : (n : ℕ) (a b c : Option (List ℕ)) (text rest t w : List ℕ) (well : Bool)
+    → Sends a b text rest true → Sends b c (rest ++ t) w well → length rest + length t < n
+    → SendsBut n a c (text ++ t) w well
+unfolding puts_behind
+puts_few n a b c text rest t w well h k few = (
+  puts_behind a b c text rest t w well h k,
+  (let l : length k.unsent < n = omega (arith, few, ap length k.all, length-append k.sent k.unsent, length-append rest t) in l),
+)
+
+-- likewise where no more was put
+pub puts_none : (n : ℕ) (a b c : Option (List ℕ)) (text rest w : List ℕ) (well : Bool)
+    → Sends a b text rest true → Sends b c rest w well → length rest < n
+    → SendsBut n a c text w well
+puts_none n a b c text rest w well h k few =
+    subst (λ z. SendsBut n a c z w well) (append-nil text)
+    (puts_few n a b c text rest [] w well h
+    (subst (λ z. Sends b c z w well) (sym (append-nil rest)) k) (omega (arith, few)))

@@ -1,29 +1,70 @@
 -- Runs that no call leaves.
-use Rattle.std.proofs.Common.{◌≡◌, ◌<◌, ℕ, inl, inr, List, [], ◌∷◌, arith, refl, sym, ◌∙◌, ap, subst}
+use Rattle.std.proofs.Common.{◌≡◌, ◌+◌, ◌<◌, ◌≤◌, ℕ, inl, inr, List, [], ◌∷◌, ◌++◌, length, length-append, arith, refl, sym, ◌∙◌, ap, subst}
+use Rattle.std.specs.Prelude.{Option, Some, None, IfSome}
+use Rattle.std.specs.List.{All}
+use Rattle.std.specs.Io.KnownBytes.{Appends, IsAtEnd}
 use Rattle.std.proofs.lemmas.List.Quantifiers.{Any-push}
+use Rattle.std.proofs.lemmas.List.Concat.{length-flat_map}
 use Rattle.std.proofs.lemmas.List.Sums.{sum_by-cons}
 use Rattle.disk_trait.specs.declared.device.Disk.{Ghosts as Disk}
+use Rattle.disk_trait.specs.declared.stream.Source.{Ghosts as Source}
 use Rattle.disk_trait.specs.declared.stream.Sink.{Ghosts as Sink}
 use Rattle.disk_trait.specs.Files.{Files}
 use Rattle.ts_config.specs.Known.{Known, NamedRules, HasDictionary}
 use Rattle.shell_script.specs.Lines.{Line}
 use Rattle.shell_script.specs.Heads.{Kind, dictionary_head}
 use Rattle.shell_script.specs.Grammar.{Expr, insert, define}
-use Rattle.shell_script.specs.Name.{Name}
+use Rattle.engine.specs.Finding.{Name}
 use Rattle.shell_run.specs.Defining.{Becomes}
-use Rattle.shell_run.specs.Run.{Row, Note, Counts, IsAnswered, stored, done, HasFailed, FindsDown}
-use Rattle.shell_run.specs.Finding.{History}
-use Rattle.shell_run.specs.Traces.{NoNameIsTakenTwice, NoneIsStoredAfterFailure, EachFailureIsNoted, OneCountIsTold, NothingIsPrintedWith4, NoLogIsWiped, NoPageIsWritten}
+use Rattle.shell_run.specs.Run.{Row, Note, Counts, Run, Before, IsAnswered, stored, done, refused, device, HasFailed, FindsDown, IsOkOfStore}
+use Rattle.engine.specs.Finding.{History}
+use Rattle.shell_run.specs.Script.{printed_row, printed_rows}
+use Rattle.shell_run.specs.declared.sending.TheConstants.{PIECE_BYTES}
+use Rattle.shell_run.specs.Traces.{NoNameIsTakenTwice, NoneIsStoredAfterFailure, NoneIsCommittedAfterFailure, NoClockFalls, NoCommitIsEarly, NoCommitIsLate, EachFailureIsNoted, OneCountIsTold, NothingIsPrintedWith4, NoneRunsAfterTheSinkFailed, NoHalfScriptIsRun, NoLogIsWiped, NoStrayFileIsWritten, NoPageIsWritten}
+
+-- a write failed in an insertion that is answered so
+has_failed : (counts : Counts) (first commits : History) (a b : Row) (e : Expr)
+    → a.statement ≡ insert e → a.reply ≡ refused device → Run counts first commits (a ∷ b ∷ [])
+    → 0 < a.note.writes
+has_failed counts first commits a b e statement reply run =
+    (run.failed 0 a (omega arith)).1
+    (subst (λ q. HasFailed q a.reply) (sym statement) (subst (HasFailed (insert e)) (sym reply) tt))
 
 pub none_stored_after_failure : NoneIsStoredAfterFailure
 none_stored_after_failure counts first commits a b e f n statement reply ask' reply' before run =
-    let failed : 0 < a.note.writes = (run.failed 0 a (omega arith)).1 (subst (λ q. HasFailed q a.reply) (sym statement) (subst (HasFailed (insert e)) (sym reply) tt)) in
+    let failed : 0 < a.note.writes = has_failed counts first commits a b e statement reply run in
     let finds : FindsDown b.known b.statement b.reply = (run.order 0 a (omega arith) 1 b (omega arith) before).down failed in
     not_down b.known f n (subst (FindsDown b.known (insert f)) reply' (subst (λ q. FindsDown b.known q b.reply) ask' finds))
   where
     not_down : (known : Known) (f : Expr) (n : Name) → FindsDown known (insert f) (stored n) → ⊥
     not_down known f n (inl h) = h
     not_down known f n (inr h) = h
+
+pub none_committed_after_failure : NoneIsCommittedAfterFailure
+none_committed_after_failure counts first commits a b e n p statement reply reply' own before run =
+    let failed : 0 < a.note.writes = has_failed counts first commits a b e statement reply run in
+    let none : b.note.commit ≡ None =
+    (run.order 0 a (omega arith) 1 b (omega arith) before).no_commit failed in
+    let x : None ≡ Some p = sym none ∙ own in cc
+
+pub no_clock_falls : {D : Type 0} (disk : Disk D) → NoClockFalls disk
+no_clock_falls disk history commits first new a b t before fell ran =
+    omega (arith, fell, (ran.timed t).order 0 a (omega arith) 1 b (omega arith) before)
+
+pub no_commit_is_early : NoCommitIsEarly
+no_commit_is_early files m p first commits a b before early own r below =
+    let all : IfSome b.note.commit (λ p. p < length r.kept → All (λ (x : Row). Before x b
+    → x.note.clock ≤ m) (a ∷ b ∷ [])) = r.answered 1 b (omega arith) in
+    let by : a.note.clock ≤ m = subst (λ o. IfSome o (λ p. p < length r.kept
+    → All (λ (x : Row). Before x b → x.note.clock ≤ m) (a ∷ b ∷ []))) own all below 0 a (omega arith) before in
+    omega (arith, by, early)
+
+pub no_commit_is_late : NoCommitIsLate
+no_commit_is_late files m p n first commits a reply own by r short =
+    let ok : IsOkOfStore a.reply = subst IsOkOfStore (sym reply) tt in
+    let below : p < length r.kept = subst (λ o. IfSome o (λ p. p < length r.kept)) own
+    (r.known 0 a (omega arith) ok by).1 in
+    omega (arith, below, short)
 
 pub each_failure_is_noted : EachFailureIsNoted
 each_failure_is_noted counts first commits a b e f rose run =
@@ -64,9 +105,55 @@ no_name_is_taken_twice counts first commits known last s t a b name j k ls ms as
     let free : ¬ HasDictionary b.known name = name_free counts commits b.known b.line name k ms b.note (subst (λ r. IsAnswered counts commits b.known b.line (define (dictionary_head name k) ms) r b.note) replied' (subst (λ q. IsAnswered counts commits b.known b.line q b.reply b.note) asked' answered)) in
     free (subst (λ n. HasDictionary n name) (sym before) taken)
 
+-- a sink that took nothing did not take more
+took_none : (before after : Option (List ℕ)) (xs ys : List ℕ) (c : ℕ) → before ≡ Some xs
+    → after ≡ Some (xs ++ c ∷ ys) → Appends before after [] → ⊥
+took_none before after xs ys c b a h =
+    let k : xs ++ c ∷ ys ≡ xs ++ [] =
+    subst (λ z. Appends z (Some (xs ++ c ∷ ys)) []) b (subst (λ z. Appends before z []) a h) in
+    omega (arith, ap length k, length-append xs (c ∷ ys), length-append xs [])
+
+pub none_runs_after_the_sink_failed : NoneRunsAfterTheSinkFailed
+none_runs_after_the_sink_failed text before status a b long h =
+    let so_far = h.so_far in
+    let none : length so_far.sent ≡ 0 =
+    omega (arith, ap length so_far.took, length-append before so_far.sent) in
+    let all : length (printed_rows (a ∷ b ∷ [])) ≡ length (printed_row a) + length (printed_row b) =
+    omega (
+      arith,
+      length-flat_map printed_row (a ∷ b ∷ []),
+      sum_by-cons (λ (r : Row). length (printed_row r)) a (b ∷ []),
+      sum_by-cons (λ (r : Row). length (printed_row r)) b [],
+    ) in
+    let few : length so_far.unsent < PIECE_BYTES + length (printed_row b) = so_far.few in
+    omega (
+      arith,
+      none,
+      all,
+      long,
+      few,
+      ap length so_far.printed,
+      length-append so_far.sent so_far.unsent,
+    )
+
+not_at_end : (left : Option (List ℕ)) (b : ℕ) (bytes : List ℕ) → left ≡ Some (b ∷ bytes)
+    → IsAtEnd left → ⊥
+not_at_end left b bytes is h =
+    let k : b ∷ bytes ≡ [] = subst IsAtEnd is h in omega (arith, ap length k)
+
+pub no_half_script_is_run : {S K D : Type 0} (source : Source S) (sink : Sink K) (disk : Disk D)
+    → NoHalfScriptIsRun source sink disk
+no_half_script_is_run source sink disk script out d r b c bytes before text left took took' h = elim h [
+  | inl n ↦ took_none (sink.taken out) (sink.taken r.out) before text c took took' n.nothing.sink
+  | inr ran ↦ not_at_end (source.left r.script) b bytes left ran.2
+]
+
 module _ {K D : Type 0} (sink : Sink K) (disk : Disk D) where
   pub no_log_is_wiped : NoLogIsWiped sink disk
   no_log_is_wiped out out' d d' t other h = other (ap (λ (f : Files). f.log) ((h.keeps_4 refl).same t))
+
+  pub no_stray_file_is_written : NoStrayFileIsWritten sink disk
+  no_stray_file_is_written status out out' d d' t none other h = other ((h.keeps_no_store t none).same t)
 
   pub no_page_is_written : NoPageIsWritten sink disk
   no_page_is_written status out out' d d' t other h = other (h.pages t).now

@@ -4,18 +4,23 @@ use Rattle.std.specs.Prelude.{IfSome}
 use Rattle.std.specs.List.{All}
 use Rattle.disk_trait.specs.Files.{Files}
 use Rattle.disk_trait.specs.declared.device.Disk.{Ghosts as Disk}
-use Rattle.wal.specs.Pages.{HasPagesOf}
-use Rattle.shell_run.specs.Finding.{History, Begins}
-pub use Rattle.buffer_frames.specs.Opens.{OpensTo, StartedFrom, OpensAsBefore}
-use Rattle.shell_run.specs.Run.{Row, Counts, IsOkOfStore}
+use Rattle.engine.specs.Finding.{History, Begins}
+pub use Rattle.engine.specs.Opening.{OpensTo, StartedFrom, OpensAsBefore, HasSamePages}
+use Rattle.shell_run.specs.Run.{Row, Counts, Before, IsOkOfStore}
 
 -- at a moment not before its answer, what the statement saw and what it committed are there
 abbrev pub IsKnownBy : ℕ → ℕ → Row → Type 0
 IsKnownBy m reached row = row.note.clock ≤ m
     → (row.note.snapshot ≤ reached) × IfSome row.note.commit (λ p. p < reached)
 
+-- by this moment each statement was answered that ended before one whose commit is among so many
+abbrev pub AreAnsweredBy : ℕ → ℕ → List Row → Type 0
+AreAnsweredBy m reached rows =
+    All (λ (b : Row). IfSome b.note.commit (λ p. p < reached
+    → All (λ (a : Row). Before a b → a.note.clock ≤ m) rows)) rows
+
 -- these files open to a beginning of the commits that reaches what each statement answered Ok by
--- this moment has committed or seen
+-- this moment has committed or seen, and has no commit of one that began after this moment
 pub record Reaches (files : Files) (m : ℕ) (first commits : History)
     (rows : List Row) : Type 0 where
   pub kept : History
@@ -23,6 +28,7 @@ pub record Reaches (files : Files) (m : ℕ) (first commits : History)
   pub begins : Begins kept commits
   pub since : Begins first kept
   pub known : All (λ (r : Row). IsOkOfStore r.reply → IsKnownBy m (length kept) r) rows
+  pub answered : AreAnsweredBy m (length kept) rows
 
 -- The images of a device over a run: before c0 those of its entry, and from then on beginnings of
 -- the history.
@@ -51,10 +57,3 @@ pub record Means {D : Type 0} (device : Disk D) (counts : Counts) (old new : D)
   pub is_last : OpensTo (device.seen new) last
   pub in_doubt : 0 < length more → counts.faults < counts.faults_after
   pub crash : CrashSafe device old new first commits rows
-
--- Until pages are written to the page file: what a read gives of it stays the same, and a crash
--- leaves in it what it could leave before.
-pub record HasSamePages {D : Type 0} (device : Disk D) (old new : D) : Type 0 where
-  pub now : (device.seen new).pages ≡ (device.seen old).pages
-  pub images : (m : ℕ) (c : Files) → device.clock old ≤ m → m ≤ device.clock new
-      → device.image new m c → HasPagesOf (device.image old (device.clock old)) c

@@ -1,13 +1,7 @@
+pub mod Answering
+pub mod Bodies
 pub mod Definitions
-pub mod Documents
-pub mod Drafts
-pub mod Heaps
-pub mod Kept
-pub mod Opened
-pub mod Plain
 pub mod Sending
 pub mod Refusing
 pub mod Serving
 pub mod Statuses
-pub mod StoreValue
-pub mod Stores

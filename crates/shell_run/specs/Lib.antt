@@ -1,12 +1,10 @@
 pub mod HasRead
-pub mod Finding
 pub mod Values
 pub mod Defining
 pub mod Run
 pub mod Script
 pub mod Outcomes
 pub mod Words
-pub mod Found
 pub mod Crash
 pub mod RanOn
 pub mod RunMeets
@@ -15,12 +13,11 @@ pub mod NextRun
 pub mod Inner
 pub use Rattle.disk_trait.specs.Files
 pub use Rattle.disk_trait.specs.Device
-pub use Rattle.wal.specs.Batches
-pub use Rattle.core_state.specs.History
-pub use Rattle.buffer_frames.specs.Opens
-pub use Rattle.buffer_frames.specs.NoStore
-pub use Rattle.wal.specs.Pages
-pub use Rattle.wal.specs.Reading
+pub use Rattle.engine.specs.Finding
+pub use Rattle.engine.specs.Found
+pub use Rattle.engine.specs.Opening
+pub use Rattle.engine.specs.Opened
+pub use Rattle.engine.specs.Standing
 pub use Rattle.ts_base.specs.Vectors
 pub use Rattle.ts_base.specs.Bytes
 pub use Rattle.ts_query.specs.Queries
@@ -29,6 +26,5 @@ pub use Rattle.ts_config.specs.Known
 pub use Rattle.shell_script.specs.Steps
 pub use Rattle.shell_script.specs.Says
 pub use Rattle.shell_script.specs.Grammar
-pub use Rattle.shell_script.specs.Name
 pub use Rattle.shell_script.specs.Replies
 pub use Rattle.shell_script.specs.Texts

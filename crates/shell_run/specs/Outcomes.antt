@@ -1,5 +1,5 @@
 -- What the top call ensures.
-use Rattle.std.specs.Prelude.{◌≡◌, ◌≢◌, ◌⊎◌, ℕ, List, [], ◌++◌, Bool, true, false}
+use Rattle.std.specs.Prelude.{◌≡◌, ◌≢◌, ◌⊎◌, ℕ, ◌+◌, ◌<◌, List, [], ◌∷◌, ◌++◌, length, Bool, true, false}
 use Rattle.std.specs.Prelude.{Option}
 use Rattle.std.specs.List.{list_any}
 use Rattle.std.specs.Io.KnownBytes.{Appends}
@@ -8,7 +8,8 @@ use Rattle.shell_script.specs.Lines.{script_lines}
 use Rattle.shell_script.specs.Steps.{Step, AreSteps}
 use Rattle.shell_script.specs.Replies.{Reply, refused}
 use Rattle.shell_run.specs.Run.{Row}
-use Rattle.shell_run.specs.Script.{AreRows, printed_rows}
+use Rattle.shell_run.specs.Script.{AreRows, printed_row, printed_rows}
+use Rattle.shell_run.specs.declared.sending.TheConstants.{PIECE_BYTES}
 
 abbrev pub is_refusal : Reply → Bool
 is_refusal (refused why) = true
@@ -17,7 +18,14 @@ is_refusal reply = false
 abbrev pub some_refused : List Row → Bool
 some_refused rows = list_any (λ (r : Row). is_refusal r.reply) rows
 
--- The rows are those of a script's first steps, and the sink took a beginning of their text.
+-- the text of the last row
+abbrev pub last_text : List Row → List ℕ
+last_text [] = []
+last_text (row ∷ []) = printed_row row
+last_text (row ∷ next ∷ rows) = last_text (next ∷ rows)
+
+-- The rows are those of a script's first steps, and the sink took a beginning of their text. What
+-- it did not take is at most the last row's text and what waited before it, which is no whole piece.
 pub record HasPrinted (text : List ℕ) (before after : Option (List ℕ))
     (rows : List Row) : Type 0 where
   pub done : List Step
@@ -30,6 +38,7 @@ pub record HasPrinted (text : List ℕ) (before after : Option (List ℕ))
   pub unsent : List ℕ
   pub printed : sent ++ unsent ≡ printed_rows rows
   pub took : Appends before after sent
+  pub few : length unsent < PIECE_BYTES + length (last_text rows)
 
 -- nothing was run, and nothing was written
 pub record NotRun (status : ℕ) (before after : Option (List ℕ)) : Type 0 where

@@ -4,11 +4,13 @@ use Rattle.std.specs.Prelude.{Option, Some, None, IfSome}
 use Rattle.std.specs.List.{All, Any, slice_get}
 use Rattle.ts_base.specs.Vectors.{Vector}
 use Rattle.ts_query.specs.Queries.{Query}
+use Rattle.ts_match.specs.Meaning.{Holds}
 use Rattle.ts_config.specs.Known.{Known}
 use Rattle.shell_script.specs.Grammar.{Statement, insert, search, show, query, parse, define, nothing}
-use Rattle.page_types.specs.declared.page.Name as pages
-use Rattle.shell_run.specs.Finding.{Document, Commit, History, insertion, docs, told, IsFound, IsFull, Begins, IsLawful}
-use Rattle.shell_run.specs.Found.{Found, IsLogFull, AreXidsSpent}
+use Rattle.engine.specs.Finding.{Document, Commit, History, Name, docs, IsFound, Begins, IsLawful}
+use Rattle.engine.specs.Answers.{commit_of}
+use Rattle.engine.specs.Found.{IsFull}
+use Rattle.engine.specs.Found.{Found, IsLogFull, AreXidsSpent}
 use Rattle.shell_run.specs.Defining.{IsDefined}
 pub use Rattle.shell_script.specs.Replies.{Refusal, no_statement, no_configuration, no_dictionary, store_full, log_full, transactions_spent, down, device, memory, text_refused}
 pub use Rattle.shell_script.specs.Replies.{Reply, stored, lists, shows_vector, shows_query, shows_tokens, done, refused}
@@ -23,7 +25,8 @@ pub record Place : Type 0 where
 
 -- The notes of a statement: how many commits it saw, and how many stand before its own, if it has
 -- one; by how much the device's count of faults and its count of failed writes and syncs rose in
--- it; the count of faults and the clock of the device at its answer.
+-- it; the count of faults and the clock of the device after its last call for the statement, which
+-- of one that is stored is a moment at which its commit is flushed.
 pub record Note : Type 0 where
   pub snapshot : ℕ
   pub commit : Option ℕ
@@ -68,7 +71,7 @@ HasOwn commits note c = (p : ℕ) × (note.commit ≡ Some p) × (slice_get comm
 abbrev pub MayHaveOwn : History → Note → Vector → Type 0
 MayHaveOwn commits note v =
     (note.commit ≡ None)
-    ⊎ ((name : pages.Name) × HasOwn commits note (insertion (record { name = name; vector = v })))
+    ⊎ ((name : Name) × HasOwn commits note (commit_of name v))
 
 -- the documents that a statement saw
 abbrev pub seen_by : History → Note → List Document
@@ -90,8 +93,7 @@ IsDownSince counts count =
 -- what an insertion of the vector is answered
 abbrev pub IsInserted : Counts → History → Vector → Reply → Note → Type 0
 IsInserted counts commits v (stored name) note =
-    ((n : pages.Name) × (name ≡ told n)
-    × HasOwn commits note (insertion (record { name = n; vector = v })))
+    HasOwn commits note (commit_of name v)
     × (AreXidsSpent counts.found note.snapshot → ⊥)
     × (IsFull (seen_by commits note) v → ⊥)
     × (IsLogFull counts.found note.snapshot → ⊥)
@@ -116,7 +118,7 @@ IsInserted counts commits v reply note = ⊥
 -- what a search by the query is answered
 abbrev pub IsSearched : Counts → History → Query → Reply → Note → Type 0
 IsSearched counts commits q (lists names) note =
-    (note.commit ≡ None) × IsFound q (seen_by commits note) names
+    (note.commit ≡ None) × IsFound (Holds q) (seen_by commits note) names
 IsSearched counts commits q (refused (down count)) note =
     (note.commit ≡ None) × IsDownSince counts count
 IsSearched counts commits q (refused memory) note = note.commit ≡ None
@@ -184,9 +186,17 @@ pub record IsSeenBy (a b : Row) : Type 0 where
   -- what the one saw, and what it committed where it answered Ok, the other has seen
   pub snapshot : a.note.snapshot ≤ b.note.snapshot
   pub commit : IsOkOfStore a.reply → IfSome a.note.commit (λ p. p < b.note.snapshot)
-  -- where a write or a sync failed in the one, the other finds the store down
+  -- where a write or a sync failed in the one, the other finds the store down and has no commit
   pub down : 0 < a.note.writes → FindsDown b.known b.statement b.reply
+  pub no_commit : 0 < a.note.writes → b.note.commit ≡ None
   pub count : a.note.count + b.note.faults ≤ b.note.count
+
+-- The clocks of the rows, on a device that tells its contents: they are not before the end of the
+-- opening nor after the end of the run, and never fall from a statement to one after it.
+pub record AreTimed (opened last : ℕ) (rows : List Row) : Type 0 where
+  pub later : opened ≤ last
+  pub within : All (λ (r : Row). (opened ≤ r.note.clock) × (r.note.clock ≤ last)) rows
+  pub order : All (λ (a : Row). All (λ (b : Row). Before a b → a.note.clock ≤ b.note.clock) rows) rows
 
 -- A note that is within two lengths of the history, at the start and at the end of the run.
 -- A statement's own commit comes behind what it saw.

@@ -11,10 +11,10 @@ use Rattle.shell_run.specs.Words.{IsForm, IsEnding}
 use Rattle.shell_run.specs.Outcomes.{NotRun, Answered}
 use Rattle.shell_run.specs.Run.{Row}
 use Rattle.shell_run.specs.Crash.{StartedFrom, OpensAsBefore, HasSamePages}
-use Rattle.wal.specs.Reading.{IsOnlyRead}
-use Rattle.buffer_frames.specs.NoStore.{IsNoStore}
+use Rattle.engine.specs.Opening.{IsOnlyRead}
+use Rattle.engine.specs.Opening.{IsNoStore}
 use Rattle.shell_run.specs.RanOn.{RanOn}
-use Rattle.shell_run.specs.Finding.{History}
+use Rattle.engine.specs.Finding.{History}
 use Rattle.shell_run.specs.declared.reading.TheConstants.{SCRIPT_LIMIT}
 use Rattle.shell_run.specs.declared.top.Outcome.{Outcome}
 use Rattle.shell_run.specs.declared.words.Settings.{Settings}
@@ -27,6 +27,8 @@ module _ {K D : Type 0} (sink : Sink K) (device : Disk D) where
     pub no_store : device.tells → IsNoStore (device.seen disk)
         → (status ≢ 0) × (status ≢ 1) × (status ≢ 7)
     pub keeps_4 : status ≡ 4 → IsOnlyRead device disk disk'
+    -- files that are no store are only read, whatever the status
+    pub keeps_no_store : device.tells → IsNoStore (device.seen disk) → IsOnlyRead device disk disk'
     -- 7: the sink failed
     pub status_7 : status ≡ 7 → Rose (sink.fault_count out) (sink.fault_count out')
     -- 3: the device failed
@@ -39,9 +41,12 @@ module _ {K D : Type 0} (sink : Sink K) (device : Disk D) where
   pub record HasNotRun (status : ℕ) (out out' : K) (disk disk' : D) : Type 0 where
     pub nothing : NotRun status (sink.taken out) (sink.taken out')
     pub as_before : device.tells → StartedFrom device disk → OpensAsBefore device disk disk'
+    -- where memory ran out, no write and no sync had failed
+    pub memory : status ≡ 5 → device.write_fault_count disk' ≡ device.write_fault_count disk
 
   -- The text's statements were run, over a store that had a history.
   pub record HasRun (text : List ℕ) (status : ℕ) (out out' : K) (disk disk' : D) : Type 0 where
+    pub a_store : device.tells → IsNoStore (device.seen disk) → ⊥
     pub rows : List Row
     pub first : History
     pub commits : History
@@ -49,12 +54,12 @@ module _ {K D : Type 0} (sink : Sink K) (device : Disk D) where
     pub ran : RanOn device first disk disk' commits rows
 
 module _ {S K D : Type 0} (source : Source S) (sink : Sink K) (device : Disk D) where
-  -- Nothing was run, or the bytes of a script were read and answered.
+  -- Nothing was run, or a script was read to its end and answered.
   abbrev pub Headline : S → K → D → Outcome S K D → Type 0
   Headline script out disk r =
-      HasNotRun sink device r.status out r.out disk r.device
+      HasNotRun sink device r.status out r.out disk r.store
       ⊎ ((text : List ℕ) × HasRead (source.left script) (source.left r.script) text
-      × HasRun sink device text r.status out r.out disk r.device)
+      × IsAtEnd (source.left r.script) × HasRun sink device text r.status out r.out disk r.store)
 
   -- What a run over a script, a sink and a device leaves, whatever the words.
   pub record RunMeets (words : List (String Global)) (script : S) (out : K) (disk : D)
@@ -62,15 +67,15 @@ module _ {S K D : Type 0} (source : Source S) (sink : Sink K) (device : Disk D) 
     pub range : r.status ≤ 8
     -- 2: the words are of no form, and nothing was done
     pub status_2 : (r.status ≡ 2) ↔ ((settings : Settings) → IsForm words settings → ⊥)
-    pub nothing_2 : r.status ≡ 2 → (r.script ≡ script) × (r.out ≡ out) × (r.device ≡ disk)
+    pub nothing_2 : r.status ≡ 2 → (r.script ≡ script) × (r.out ≡ out) × (r.store ≡ disk)
     -- 6 and 8: the source failed, or has too many bytes, and nothing was run
     pub status_6 : r.status ≡ 6 → Rose (source.fault_count script) (source.fault_count r.script)
     pub status_8 : r.status ≡ 8 → IfSome (source.left script) (λ bytes. SCRIPT_LIMIT < length bytes)
     pub too_long : r.status ≢ 2 → r.status ≢ 5 → r.status ≢ 6
         → IfSome (source.left script) (λ bytes. SCRIPT_LIMIT < length bytes → r.status ≡ 8)
-    pub nothing_run : (r.status ≡ 6) ⊎ (r.status ≡ 8) → (r.out ≡ out) × (r.device ≡ disk)
-    pub causes : HasCauses sink device r.status out r.out disk r.device
+    pub nothing_run : (r.status ≡ 6) ⊎ (r.status ≡ 8) → (r.out ≡ out) × (r.store ≡ disk)
+    pub causes : HasCauses sink device r.status out r.out disk r.store
     -- the script is read to its end before the device is called
     pub read : ((r.status ≢ 2) × (r.status ≢ 5) × (r.status ≢ 6) × (r.status ≢ 8))
-        ⊎ (device.clock disk < device.clock r.device) → IsAtEnd (source.left r.script)
+        ⊎ (device.clock disk < device.clock r.store) → IsAtEnd (source.left r.script)
     pub headline : Headline script out disk r

@@ -1,24 +1,59 @@
 -- Runs that no call leaves: what each field of a run rules out.
-use Rattle.std.specs.Prelude.{◌≡◌, ◌≢◌, ℕ, ◌<◌, List, [], ◌∷◌, Option}
+use Rattle.std.specs.Prelude.{◌≡◌, ◌≢◌, ℕ, ◌<◌, ◌≤◌, List, [], ◌∷◌, ◌++◌, length, Option, Some}
+use Rattle.disk_trait.specs.Files.{Files}
 use Rattle.disk_trait.specs.declared.device.Disk.{Ghosts as Disk}
+use Rattle.disk_trait.specs.declared.stream.Source.{Ghosts as Source}
 use Rattle.disk_trait.specs.declared.stream.Sink.{Ghosts as Sink}
 use Rattle.ts_config.specs.Known.{Known}
 use Rattle.shell_script.specs.Lines.{Line}
 use Rattle.shell_script.specs.Heads.{Kind, dictionary_head}
 use Rattle.shell_script.specs.Steps.{Step}
 use Rattle.shell_script.specs.Grammar.{Expr, insert, define}
-use Rattle.shell_script.specs.Name.{Name}
-use Rattle.shell_run.specs.Finding.{History}
+use Rattle.engine.specs.Finding.{Name}
+use Rattle.engine.specs.Finding.{History}
 use Rattle.shell_run.specs.Run.{Row, Counts, Before, Run, stored, done, refused, down, device}
-use Rattle.shell_run.specs.Script.{AreRows}
+use Rattle.shell_run.specs.Script.{AreRows, printed_row}
+use Rattle.shell_run.specs.declared.sending.TheConstants.{PIECE_BYTES}
 use Rattle.shell_run.specs.Outcomes.{Answered}
-use Rattle.shell_run.specs.RunMeets.{HasCauses}
+use Rattle.shell_run.specs.Crash.{Reaches}
+use Rattle.shell_run.specs.RanOn.{RanOn}
+use Rattle.engine.specs.Opening.{IsNoStore}
+use Rattle.shell_run.specs.RunMeets.{HasCauses, Headline}
+use Rattle.shell_run.specs.declared.top.Outcome.{Outcome}
 
 -- an insertion in which a write failed, and one behind it that is stored
 abbrev pub NoneIsStoredAfterFailure : Type 0
 NoneIsStoredAfterFailure = (counts : Counts) (first commits : History) (a b : Row) (e f : Expr)
     (n : Name) → a.statement ≡ insert e → a.reply ≡ refused device → b.statement ≡ insert f
     → b.reply ≡ stored n → Before a b → Run counts first commits (a ∷ b ∷ []) → ⊥
+
+-- an insertion in which a write failed, and one behind it that finds the store down and still has a
+-- commit
+abbrev pub NoneIsCommittedAfterFailure : Type 0
+NoneIsCommittedAfterFailure =
+    (counts : Counts) (first commits : History) (a b : Row) (e : Expr) (n p : ℕ)
+    → a.statement ≡ insert e → a.reply ≡ refused device → b.reply ≡ refused (down n)
+    → b.note.commit ≡ Some p → Before a b → Run counts first commits (a ∷ b ∷ []) → ⊥
+
+-- a clock that falls from a statement to one after it
+abbrev pub NoClockFalls : {D : Type 0} → Disk D → Type 0
+NoClockFalls {D} disk =
+    (history commits : History) (first new : D) (a b : Row) → disk.tells → Before a b
+    → b.note.clock < a.note.clock → RanOn disk history first new commits (a ∷ b ∷ []) → ⊥
+
+-- a stop at a moment before an answer that leaves the commit of a statement after it
+abbrev pub NoCommitIsEarly : Type 0
+NoCommitIsEarly =
+    (files : Files) (m p : ℕ) (first commits : History) (a b : Row) → Before a b
+    → m < a.note.clock → b.note.commit ≡ Some p
+    → (r : Reaches files m first commits (a ∷ b ∷ [])) → p < length r.kept → ⊥
+
+-- a stop at the clock of an insertion that is stored, or later, that leaves no commit of it
+abbrev pub NoCommitIsLate : Type 0
+NoCommitIsLate =
+    (files : Files) (m p : ℕ) (n : Name) (first commits : History) (a : Row) → a.reply ≡ stored n
+    → a.note.commit ≡ Some p → a.note.clock ≤ m
+    → (r : Reaches files m first commits (a ∷ [])) → length r.kept ≤ p → ⊥
 
 -- a failed write or sync that no statement notes
 abbrev pub EachFailureIsNoted : Type 0
@@ -45,11 +80,30 @@ NoNameIsTakenTwice = (counts : Counts) (first commits : History) (known last : K
     → b.statement ≡ define (dictionary_head name k) ms → b.reply ≡ done
     → AreRows known (s ∷ t ∷ []) (a ∷ b ∷ []) last → Run counts first commits (a ∷ b ∷ []) → ⊥
 
+-- a row behind one of which nothing was taken, though its text is a whole piece
+abbrev pub NoneRunsAfterTheSinkFailed : Type 0
+NoneRunsAfterTheSinkFailed =
+    (text before : List ℕ) (status : ℕ) (a b : Row) → PIECE_BYTES ≤ length (printed_row a)
+    → Answered text status (Some before) (Some before) (a ∷ b ∷ []) → ⊥
+
+-- replies that are printed though the source has bytes left
+abbrev pub NoHalfScriptIsRun : {S K D : Type 0} → Source S → Sink K → Disk D → Type 0
+NoHalfScriptIsRun {S} {K} {D} source sink disk =
+    (script : S) (out : K) (d : D) (r : Outcome S K D) (b c : ℕ) (bytes before text : List ℕ)
+    → source.left r.script ≡ Some (b ∷ bytes) → sink.taken out ≡ Some before
+    → sink.taken r.out ≡ Some (before ++ c ∷ text) → Headline source sink disk script out d r → ⊥
+
 module _ {K D : Type 0} (sink : Sink K) (disk : Disk D) where
   -- a log that is written over, and status 4
   abbrev pub NoLogIsWiped : Type 0
   NoLogIsWiped = (out out' : K) (d d' : D) → disk.tells → (disk.seen d').log ≢ (disk.seen d).log
       → HasCauses sink disk 4 out out' d d' → ⊥
+
+  -- files that are no store, and that are written to, whatever the status
+  abbrev pub NoStrayFileIsWritten : Type 0
+  NoStrayFileIsWritten = (status : ℕ) (out out' : K) (d d' : D) → disk.tells
+      → IsNoStore (disk.seen d) → disk.seen d' ≢ disk.seen d
+      → HasCauses sink disk status out out' d d' → ⊥
 
   -- a page file that is written to
   abbrev pub NoPageIsWritten : Type 0

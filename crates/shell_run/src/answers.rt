@@ -1,34 +1,34 @@
 // Which statement calls what, and how it is answered.
-ghost use Rattle.std.specs.Prelude.{◌≡◌};
+ghost use Rattle.std.specs.Prelude.{◌≡◌, ◌≤◌};
+ghost use Rattle.engine.specs.Standing.{disk_of};
 ghost use Rattle.shell_script.specs.ReplyView.{refusal, reply};
 ghost use Rattle.shell_script.specs.StatementView.{statement};
 ghost use Rattle.shell_run.specs.Inner.Refusing.{refusal_for, stored_reply, found_reply};
-ghost use Rattle.shell_run.specs.Inner.Stores.{HasAnswered};
+ghost use Rattle.shell_run.specs.Inner.Answering.{HasAnswered};
 
-use crate::error::StoreError;
-use crate::store::Store;
 use crate::values::{ask_query, expr_value, query_value, show};
 use disk_trait::Disk;
-use shell_script::{Name, Refusal, Reply, Statement};
+use engine::{Db, DbError, Name};
+use shell_script::{Refusal, Reply, Statement};
 use std::alloc::Global;
 use ts_config::Configs;
 
 /// The refusal that an error of the store is printed as.
-fn refusal_of(error: StoreError) -> Refusal
+fn refusal_of(error: DbError) -> Refusal
     ensures { refusal result ≡ refusal_for error }
 {
     match error {
-        StoreError::Full => Refusal::StoreFull,
-        StoreError::LogFull => Refusal::LogFull,
-        StoreError::Spent => Refusal::TransactionsSpent,
-        StoreError::Down { fault } => Refusal::Down(fault),
-        StoreError::Device => Refusal::Device,
-        StoreError::Memory => Refusal::Memory,
+        DbError::StoreFull => Refusal::StoreFull,
+        DbError::LogFull => Refusal::LogFull,
+        DbError::XidsSpent => Refusal::TransactionsSpent,
+        DbError::Down { fault } => Refusal::Down(fault),
+        DbError::DiskFault => Refusal::Device,
+        DbError::OutOfMemory => Refusal::Memory,
     }
 }
 
 /// The reply to an insertion.
-fn stored(answer: Result<Name, StoreError>) -> Reply
+fn stored(answer: Result<Name, DbError>) -> Reply
     ensures { reply result ≡ stored_reply answer }
 {
     match answer {
@@ -38,7 +38,7 @@ fn stored(answer: Result<Name, StoreError>) -> Reply
 }
 
 /// The reply to a search.
-fn found(answer: Result<Vec<Name>, StoreError>) -> Reply
+fn found(answer: Result<Vec<Name>, DbError>) -> Reply
     ensures { reply result ≡ found_reply answer }
 {
     match answer {
@@ -52,12 +52,13 @@ fn found(answer: Result<Vec<Name>, StoreError>) -> Reply
 pub fn answer<D: Disk>(
     alloc: Global,
     configs: &Configs,
-    store: &mut Store<D>,
+    store: &mut Db<D>,
     line: u64,
     asked: Statement<'_>,
 ) -> Reply
-    ensures { HasAnswered D.Disk configs.now line store.old store.new (statement asked.entry)
+    ensures answered { HasAnswered D.Disk configs.now line store.old store.new (statement asked.entry)
         (reply result) }
+    ensures counts { D.fault_count (disk_of store.old) ≤ D.fault_count (disk_of store.new) }
 {
     match asked {
         Statement::Insert(from) => match expr_value(alloc, configs, &from) {

@@ -1,5 +1,5 @@
 // Definitions of configurations, from the lines of their bodies.
-ghost use Rattle.std.specs.Prelude.{IfOk, IfErr, OnOk, MatchOption};
+ghost use Rattle.std.specs.Prelude.{◌≡◌, IfOk, IfErr, OnOk, MatchOption};
 ghost use Rattle.std.specs.List.{Any};
 ghost use Rattle.ts_config.specs.Mappings.{empty_mapping};
 ghost use Rattle.ts_config.specs.Known.{HasDictionary, ArePlaces, IsWithin};
@@ -12,8 +12,9 @@ ghost use Rattle.shell_script.specs.ReplyView.{refusal, reply};
 ghost use Rattle.shell_run.specs.Defining.{MapsLine, Maps, IsDefined, Becomes};
 ghost use Rattle.shell_run.specs.Inner.Definitions.{MapFails, MapsFail};
 
+use crate::body_lines::{FromLines, take_lines};
 use crate::dictionaries::define_dictionary;
-use shell_script::{Head, Line, Lines, Mapping, Names, Refusal, Reply, is_skipped, read_mapping};
+use shell_script::{Head, Line, Lines, Mapping, Names, Refusal, Reply, read_mapping};
 use std::alloc::{AllocError, Global};
 use ts_config::{Config, Configs};
 use ts_parser::TokenType;
@@ -60,7 +61,26 @@ fn map_line(
     Ok(())
 }
 
-#[tactic(auto, using(crate::proofs::Bodies::mapped_start))]
+/// The mapping of a configuration that is being read, and what is defined before it.
+#[derive(Drop)]
+struct MappingOver<'a> {
+    /// The mapping so far.
+    draft: Config,
+    /// What is defined.
+    configs: &'a Configs,
+}
+
+impl<'a> FromLines for MappingOver<'a> {
+    ghost takes = { λ l old new. (new.configs ≡ old.configs)
+        × MapsLine old.configs.now old.draft l new.draft };
+
+    ghost refuses = { λ l old why. MapFails old.configs.now l why };
+
+    fn take(&mut self, alloc: Global, line: Line<'_>) -> Result<(), Refusal> {
+        map_line(alloc, self.configs, &mut self.draft, line)
+    }
+}
+
 /// The mapping of a configuration's body, built apart.
 fn mapping_of(alloc: Global, configs: &Configs, body: Lines<'_>) -> Result<Config, Refusal>
     ensures maps { IfOk result (λ draft. Maps configs.now empty_mapping (counted_lines body.entry) draft) }
@@ -68,16 +88,14 @@ fn mapping_of(alloc: Global, configs: &Configs, body: Lines<'_>) -> Result<Confi
     ensures refused { IfErr result
         (λ why. MapsFail configs.now empty_mapping (counted_lines body.entry) (refusal why)) }
 {
-    let mut draft = Config::empty(alloc)?;
-    for line in body {
-        if is_skipped(line.bytes) {
-            continue;
-        }
-        if let Err(why) = map_line(alloc, configs, &mut draft, line) {
-            return Err(why);
-        }
+    let mut mapping = MappingOver {
+        draft: Config::empty(alloc)?,
+        configs,
+    };
+    match take_lines(alloc, &mut mapping, body) {
+        Ok(()) => Ok(mapping.draft),
+        Err(why) => Err(why),
     }
-    Ok(draft)
 }
 
 /// Defines a configuration. Where that is refused nothing has changed.

@@ -15,8 +15,9 @@ ghost use Rattle.shell_run.specs.Defining.{IsNoLine, LacksOne, IsBadFor, IsDicti
 ghost use Rattle.shell_run.specs.Inner.Definitions.{IsMadeOf, LineBad, LinesBad};
 ghost use Rattle.shell_run.specs.Inner.Refusing.{rule_refusal};
 
+use crate::body_lines::{FromLines, take_lines};
 use porter_stem::Porter;
-use shell_script::{Kind, Line, Lines, Refusal, Reply, is_skipped};
+use shell_script::{Kind, Line, Lines, Refusal, Reply};
 use std::alloc::Global;
 use std::str;
 use ts_config::{AnyDictionary, Configs};
@@ -41,7 +42,16 @@ fn add_stop(alloc: Global, stops: &mut StopList, line: Line<'_>) -> Result<(), R
     }
 }
 
-#[tactic(auto, using(crate::proofs::Bodies::stops_start))]
+impl FromLines for StopList {
+    ghost takes = { λ l old new. (¬ IsNoLine IsBadStopLine l) × Adds l.bytes old new };
+
+    ghost refuses = { λ l old why. LineBad (IsNoLine IsBadStopLine) l why };
+
+    fn take(&mut self, alloc: Global, line: Line<'_>) -> Result<(), Refusal> {
+        add_stop(alloc, self, line)
+    }
+}
+
 /// The stop words of a body.
 fn stop_words(alloc: Global, body: Lines<'_>) -> Result<StopList, Refusal>
     ensures stops { IfOk result
@@ -50,15 +60,10 @@ fn stop_words(alloc: Global, body: Lines<'_>) -> Result<StopList, Refusal>
         (λ why. LinesBad (IsNoLine IsBadStopLine) (counted_lines body.entry) (refusal why)) }
 {
     let mut stops = StopList::new(alloc);
-    for line in body {
-        if is_skipped(line.bytes) {
-            continue;
-        }
-        if let Err(why) = add_stop(alloc, &mut stops, line) {
-            return Err(why);
-        }
+    match take_lines(alloc, &mut stops, body) {
+        Ok(()) => Ok(stops),
+        Err(why) => Err(why),
     }
-    Ok(stops)
 }
 
 /// Adds the synonym of a line.
@@ -79,7 +84,17 @@ fn add_synonym(alloc: Global, synonym: &mut Synonym, line: Line<'_>) -> Result<(
     }
 }
 
-#[tactic(auto, using(crate::proofs::Bodies::synonyms_start))]
+impl FromLines for Synonym {
+    ghost takes = { λ l old new. (¬ IsNoLine IsBadSynonymLine l) × ((cases : Bool) (lines : List (List ℕ))
+        → IsSynonymList cases lines old → IsSynonymList cases (lines ++ l.bytes ∷ []) new) };
+
+    ghost refuses = { λ l old why. LineBad (IsNoLine IsBadSynonymLine) l why };
+
+    fn take(&mut self, alloc: Global, line: Line<'_>) -> Result<(), Refusal> {
+        add_synonym(alloc, self, line)
+    }
+}
+
 /// The synonyms of a body.
 fn synonyms_of(alloc: Global, case_sensitive: bool, body: Lines<'_>) -> Result<Synonym, Refusal>
     ensures list { IfOk result
@@ -88,15 +103,10 @@ fn synonyms_of(alloc: Global, case_sensitive: bool, body: Lines<'_>) -> Result<S
         (λ why. LinesBad (IsNoLine IsBadSynonymLine) (counted_lines body.entry) (refusal why)) }
 {
     let mut synonym = Synonym::new(alloc, case_sensitive);
-    for line in body {
-        if is_skipped(line.bytes) {
-            continue;
-        }
-        if let Err(why) = add_synonym(alloc, &mut synonym, line) {
-            return Err(why);
-        }
+    match take_lines(alloc, &mut synonym, body) {
+        Ok(()) => Ok(synonym),
+        Err(why) => Err(why),
     }
-    Ok(synonym)
 }
 
 /// The refusal that a fault in the line of this number is printed as.
@@ -133,7 +143,28 @@ fn add_rule(
     }
 }
 
-#[tactic(auto, using(crate::proofs::Bodies::rules_start))]
+/// The rules of a thesaurus that is being read, over a dictionary.
+#[derive(Drop)]
+struct RulesOver<'a> {
+    /// The rules so far.
+    thesaurus: Thesaurus,
+    /// The dictionary.
+    sub: &'a AnyDictionary,
+}
+
+impl<'a> FromLines for RulesOver<'a> {
+    ghost takes = { λ l old new. (new.sub ≡ old.sub) × IsUtf8 l.bytes × ((lines : List (List ℕ))
+        → AreRules (answer_by (rules_of old.sub.now)) lines old.thesaurus
+        → AreRules (answer_by (rules_of old.sub.now)) (lines ++ l.bytes ∷ []) new.thesaurus) };
+
+    ghost refuses = { λ l old why. LineBad (IsNoLine (IsRefused (answer_by (rules_of old.sub.now))))
+        l why };
+
+    fn take(&mut self, alloc: Global, line: Line<'_>) -> Result<(), Refusal> {
+        add_rule(alloc, &mut self.thesaurus, self.sub, line)
+    }
+}
+
 /// The rules of a body, over this dictionary.
 fn rules_in(alloc: Global, sub: &AnyDictionary, body: Lines<'_>) -> Result<Thesaurus, Refusal>
     ensures rules { IfOk result (IsMadeOf (IsNoLine (IsRefused (answer_by (rules_of sub.now))))
@@ -141,16 +172,14 @@ fn rules_in(alloc: Global, sub: &AnyDictionary, body: Lines<'_>) -> Result<Thesa
     ensures refused { IfErr result (λ why. LinesBad
         (IsNoLine (IsRefused (answer_by (rules_of sub.now)))) (counted_lines body.entry) (refusal why)) }
 {
-    let mut thesaurus = Thesaurus::new(alloc);
-    for line in body {
-        if is_skipped(line.bytes) {
-            continue;
-        }
-        if let Err(why) = add_rule(alloc, &mut thesaurus, sub, line) {
-            return Err(why);
-        }
+    let mut rules = RulesOver {
+        thesaurus: Thesaurus::new(alloc),
+        sub,
+    };
+    match take_lines(alloc, &mut rules, body) {
+        Ok(()) => Ok(rules.thesaurus),
+        Err(why) => Err(why),
     }
-    Ok(thesaurus)
 }
 
 /// Whether a kind goes over a dictionary that isn't there, or is a thesaurus.

@@ -1,10 +1,9 @@
-// Why a run stops, and why the store refuses a statement.
+// Why a run stops.
 ghost use Rattle.std.specs.Prelude.{◌≡◌};
-ghost use Rattle.shell_run.specs.Inner.Statuses.{stop_number, stop_at, store_error};
+ghost use Rattle.shell_run.specs.Inner.Statuses.{stop_number, stop_at};
 ghost use Rattle.shell_run.specs.declared.error.Stop.TheVariants.{OutOfMemory};
-ghost use Rattle.shell_run.specs.declared.error.StoreError.TheVariants.{Memory};
 
-use buffer_frames::{LogError, OpenFault};
+use engine::OpenFault;
 use std::alloc::AllocError;
 use thiserror::Error;
 
@@ -63,50 +62,6 @@ impl From<OpenFault> for Stop {
             OpenFault::NotAStore => Stop::NotAStore,
             OpenFault::DiskFault => Stop::DiskFault,
             OpenFault::OutOfMemory => Stop::OutOfMemory,
-        }
-    }
-}
-
-/// Why the store refuses an insertion or a search.
-#[derive(Clone, Copy, Debug, PartialEq, Eq, Error)]
-pub enum StoreError {
-    /// The document is too large for its page.
-    #[error("store full")]
-    Full,
-    /// The log would pass its limit.
-    #[error("log full")]
-    LogFull,
-    /// The next xid isn't below its bound.
-    #[error("transactions spent")]
-    Spent,
-    /// A write or a sync failed in an earlier call. The device's count of faults stood at this number after it.
-    #[error("down {fault}")]
-    Down { fault: u64 },
-    /// The device failed in this call.
-    #[error("device")]
-    Device,
-    /// Memory ran out.
-    #[error("out of memory")]
-    Memory,
-}
-
-impl From<AllocError> for StoreError {
-    ghost from_gives = { λ _ e. e ≡ Memory };
-
-    fn from(_: AllocError) -> StoreError {
-        StoreError::Memory
-    }
-}
-
-impl From<LogError> for StoreError {
-    ghost from_gives = { λ w e. e ≡ store_error w };
-
-    fn from(error: LogError) -> StoreError {
-        match error {
-            LogError::LogFull => StoreError::LogFull,
-            LogError::Down { fault } => StoreError::Down { fault },
-            LogError::OutOfMemory => StoreError::Memory,
-            LogError::DiskFault => StoreError::Device,
         }
     }
 }

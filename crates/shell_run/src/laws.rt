@@ -1,19 +1,18 @@
 // What holds of the definitions alone.
-ghost use Rattle.std.specs.Prelude.{◌≡◌, ℕ, List};
-ghost use Rattle.ts_query.specs.Queries.{Query};
+ghost use Rattle.std.specs.Prelude.{◌≡◌, ℕ, ◌^◌, List};
 ghost use Rattle.ts_config.specs.Known.{Known};
 ghost use Rattle.shell_script.specs.Lines.{Line};
 ghost use Rattle.shell_script.specs.Heads.{Head};
 ghost use Rattle.shell_script.specs.Grammar.{Expr, QuerySource};
-ghost use Rattle.shell_script.specs.Name.{Name};
-ghost use Rattle.shell_run.specs.Finding.{Document, IsFound};
-ghost use Rattle.shell_run.specs.Traces.{NoneIsStoredAfterFailure, EachFailureIsNoted, OneCountIsTold, NothingIsPrintedWith4, NoNameIsTakenTwice, NoLogIsWiped, NoPageIsWritten};
+ghost use Rattle.shell_run.specs.Traces.{NoneIsStoredAfterFailure, NoneIsCommittedAfterFailure, NoClockFalls, NoCommitIsEarly, NoCommitIsLate, EachFailureIsNoted, OneCountIsTold, NothingIsPrintedWith4, NoNameIsTakenTwice, NoneRunsAfterTheSinkFailed, NoHalfScriptIsRun, NoLogIsWiped, NoStrayFileIsWritten, NoPageIsWritten};
 ghost use Rattle.shell_run.specs.NextRun.{OpensIsNoRefusal, EmptyMayStart, NextMayStart, NextHasAll};
 ghost use Rattle.shell_run.specs.Defining.{HasOneAnswer};
+ghost use Rattle.shell_run.specs.declared.reading.TheConstants.{SCRIPT_LIMIT};
+ghost use Rattle.shell_run.specs.declared.sending.TheConstants.{PIECE_BYTES};
 ghost use Rattle.shell_run.specs.Values.{IsExprAnswer, IsQueryAnswer, IsOneAnswer};
 
-use buffer_frames::{no_store_is_none, opens_to_one};
-use disk_trait::{Disk, Sink};
+use disk_trait::{Disk, Sink, Source};
+use engine::{no_store_is_none, opens_to_one};
 
 /// Want of memory aside, an expression has one answer, and so have a query and a definition.
 pub fn one_answer()
@@ -23,25 +22,33 @@ pub fn one_answer()
         → HasOneAnswer known number head lines }
 {}
 
-/// A query finds one list of names in a row of documents.
-pub fn one_list()
-    ensures { (q : Query) (ds : List Document) (a b : List Name) → IsFound q ds a → IsFound q ds b
-        → a ≡ b }
+/// The most bytes of a script, and those at which text is written.
+pub fn limits()
+    ensures script { SCRIPT_LIMIT ≡ 2 ^ 30 }
+    ensures piece { PIECE_BYTES ≡ 8192 }
 {}
 
 /// Runs that the contract of a run rules out.
-pub fn ruled_out<K: Sink, D: Disk>()
+pub fn ruled_out<S: Source, K: Sink, D: Disk>()
     ensures stored_after_failure { NoneIsStoredAfterFailure }
+    ensures committed_after_failure { NoneIsCommittedAfterFailure }
+    ensures clock_falls { NoClockFalls D.Disk }
+    ensures early { NoCommitIsEarly }
+    ensures late { NoCommitIsLate }
     ensures unnoted { EachFailureIsNoted }
     ensures two_counts { OneCountIsTold }
     ensures printed_with_4 { NothingIsPrintedWith4 }
     ensures taken_twice { NoNameIsTakenTwice }
+    ensures after_the_sink { NoneRunsAfterTheSinkFailed }
+    ensures half_a_script { NoHalfScriptIsRun S.Source K.Sink D.Disk }
     ensures wiped { NoLogIsWiped K.Sink D.Disk }
+    ensures stray { NoStrayFileIsWritten K.Sink D.Disk }
     ensures page_written { NoPageIsWritten K.Sink D.Disk }
 {}
 
-/// A run may start from empty files, and from what a run that so started, or a crash in it, has left.
-/// The history that it begins with has every commit that was acknowledged.
+/// A run may start from empty files, and from what a run that so started, or a crash in it, has left,
+/// also behind openings that were refused. The history that it begins with has every commit that was
+/// acknowledged.
 pub fn next_run<D: Disk, E: Disk>()
     ensures opens { OpensIsNoRefusal }
     ensures empty { EmptyMayStart D.Disk }

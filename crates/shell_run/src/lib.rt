@@ -2,23 +2,20 @@
 #![tactic(auto)]
 
 mod answers;
+mod body_lines;
 mod defining;
 mod dictionaries;
 mod error;
-mod gate;
 mod laws;
-mod opening;
 mod reading;
-mod records;
 mod sending;
 mod serving;
-mod store;
+mod statement_counts;
 mod top;
-mod turns;
 mod values;
 mod words;
 
-pub use gate::{Gate, NoGate};
-pub use laws::{next_run, one_answer, one_list, ruled_out};
+pub use engine::{Gate, NoGate};
+pub use laws::{limits, next_run, one_answer, ruled_out};
 pub use top::{Outcome, run_shell};
 pub use words::Settings;

@@ -41,8 +41,8 @@ fn write_all<K: Sink>(out: &mut K, bytes: &[u8]) -> Result<(), Stop>
     Ok(())
 }
 
-/// Where so many bytes wait, they are written.
-const ENOUGH: usize = 8192;
+/// The bytes of a piece: where so many wait, they are written.
+const PIECE_BYTES: usize = 8192;
 
 /// What waits is written.
 pub fn flush<K: Sink>(out: &mut K, waiting: &mut Vec<u8>) -> Result<(), Stop>
@@ -59,20 +59,35 @@ pub fn flush<K: Sink>(out: &mut K, waiting: &mut Vec<u8>) -> Result<(), Stop>
     Ok(())
 }
 
-/// A text more behind what waits, which is written where it is enough.
+#[tactic(auto, using(crate::proofs::Streams::puts_start))]
+/// What waits is written where it is a whole piece.
+fn flush_piece<K: Sink>(out: &mut K, waiting: &mut Vec<u8>) -> Result<(), Stop>
+    ensures text { Sends (K.taken out.old) (K.taken out.new) waiting.old.items waiting.new.items
+        (is_ok result) }
+    ensures few { OnOk result (length waiting.new.items < PIECE_BYTES) }
+    ensures later { K.fault_count out.old ≤ K.fault_count out.new }
+    ensures error { IfErr result (λ e. (e ≡ SinkFault) ⊎ (e ≡ OutOfMemory)) }
+    ensures fault { IsErrOf result SinkFault
+        → Rose (K.fault_count out.old) (K.fault_count out.new) }
+{
+    if waiting.len() >= PIECE_BYTES {
+        return flush(out, waiting);
+    }
+    Ok(())
+}
+
+/// A text more behind what waits, which is written where it is a whole piece.
 pub fn put<K: Sink>(out: &mut K, waiting: &mut Vec<u8>, text: &[u8]) -> Result<(), Stop>
     ensures text { Sends (K.taken out.old) (K.taken out.new) (waiting.old.items ++ text.now)
         waiting.new.items (is_ok result) }
+    ensures few { OnOk result (length waiting.new.items < PIECE_BYTES) }
     ensures later { K.fault_count out.old ≤ K.fault_count out.new }
     ensures error { IfErr result (λ e. (e ≡ SinkFault) ⊎ (e ≡ OutOfMemory)) }
     ensures fault { IsErrOf result SinkFault
         → Rose (K.fault_count out.old) (K.fault_count out.new) }
 {
     waiting.extend_from_slice(text)?;
-    if waiting.len() >= ENOUGH {
-        return flush(out, waiting);
-    }
-    Ok(())
+    flush_piece(out, waiting)
 }
 
 /// The line of a token, which is put like a text.
@@ -85,10 +100,7 @@ fn put_token<K: Sink>(out: &mut K, waiting: &mut Vec<u8>, token: Token) -> Resul
         → Rose (K.fault_count out.old) (K.fault_count out.new) }
 {
     push_token(waiting, token)?;
-    if waiting.len() >= ENOUGH {
-        return flush(out, waiting);
-    }
-    Ok(())
+    flush_piece(out, waiting)
 }
 
 /// The lines of a text's tokens, one after another, so that few of them wait.
@@ -134,6 +146,7 @@ pub fn put_reply<K: Sink>(
 ) -> Result<(), Stop>
     ensures text { Sends (K.taken out.old) (K.taken out.new)
         (waiting.old.items ++ said session (reply answer.now)) waiting.new.items (is_ok result) }
+    ensures few { OnOk result (length waiting.new.items < PIECE_BYTES) }
     ensures later { K.fault_count out.old ≤ K.fault_count out.new }
     ensures error { IfErr result (λ e. (e ≡ SinkFault) ⊎ (e ≡ OutOfMemory)) }
     ensures fault { IsErrOf result SinkFault

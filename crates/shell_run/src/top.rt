@@ -5,12 +5,11 @@ ghost use Rattle.shell_run.specs.Inner.Statuses.{ending_number};
 ghost use Rattle.shell_run.specs.Inner.Serving.{ServeMeets};
 
 use crate::error::Stop;
-use crate::gate::Gate;
-use crate::opening::open_store;
 use crate::reading::read_script;
 use crate::serving::run_steps;
 use crate::words::settings_of;
 use disk_trait::{Disk, Sink, Source};
+use engine::{Db, Gate, Unopened, WIDEST};
 use std::alloc::Global;
 use std::sync::Wait;
 use std::thread::Threads;
@@ -26,7 +25,7 @@ pub struct Outcome<S, K, D> {
     /// The sink of the replies.
     pub out: K,
     /// The device of the store.
-    pub device: D,
+    pub store: D,
 }
 
 /// The status of a run that ended: whether the device failed in it, and whether a reply was a refusal.
@@ -53,9 +52,9 @@ fn serve<K: Sink, D: Disk, G: Gate>(
         return (Stop::OutOfMemory.status(), device);
     };
     let before = device.faults();
-    let store = match open_store(alloc, device) {
+    let store = match Db::open(alloc, device, WIDEST) {
         Ok(store) => store,
-        Err((device, stop)) => return (stop.status(), device),
+        Err(Unopened { store, why }) => return (Stop::from(why).status(), store),
     };
     let (device, ran) = run_steps(alloc, gate, out, store, configs, text);
     let refused = match ran {
@@ -71,17 +70,17 @@ fn run<S: Source, K: Sink, D: Disk, G: Gate>(
     words: &[String],
     mut script: S,
     mut out: K,
-    device: D,
+    store: D,
     gate: &G,
 ) -> Outcome<S, K, D>
-    ensures { RunMeets S.Source K.Sink D.Disk words.now script out device result }
+    ensures { RunMeets S.Source K.Sink D.Disk words.now script out store result }
 {
     let Some(_settings) = settings_of(words) else {
         return Outcome {
             status: 2,
             script,
             out,
-            device,
+            store,
         };
     };
     let text = match read_script(alloc, &mut script) {
@@ -91,16 +90,16 @@ fn run<S: Source, K: Sink, D: Disk, G: Gate>(
                 status: stop.status(),
                 script,
                 out,
-                device,
+                store,
             };
         }
     };
-    let (status, device) = serve(alloc, gate, &mut out, device, &text);
+    let (status, store) = serve(alloc, gate, &mut out, store, &text);
     Outcome {
         status,
         script,
         out,
-        device,
+        store,
     }
 }
 
@@ -115,11 +114,11 @@ pub fn run_shell<R: Threads + Wait + Sync, S: Source, K: Sink, D: Disk + Send, G
     words: &[String],
     script: S,
     out: K,
-    device: D,
+    store: D,
     gate: &G,
 ) -> Outcome<S, K, D>
-    ensures { RunMeets S.Source K.Sink D.Disk words.now script out device result }
+    ensures { RunMeets S.Source K.Sink D.Disk words.now script out store result }
 {
     let _ = rt;
-    run(alloc, words, script, out, device, gate)
+    run(alloc, words, script, out, store, gate)
 }

@@ -8,7 +8,6 @@ pub mod StepView
 pub mod Heads
 pub mod HeadView
 pub mod StatementView
-pub mod Name
 pub mod Replies
 pub mod ReplyView
 pub mod Texts

@@ -1,7 +1,7 @@
 -- The replies to statements.
 use Rattle.std.specs.Prelude.{ℕ, List}
 use Rattle.ts_parser.specs.declared.iter.Token.{Token}
-use Rattle.shell_script.specs.Name.{Name}
+use Rattle.page_types.specs.declared.page.Name.{Name}
 
 -- What is at fault in a statement's text: refusals 2, 3 and 6 with the offset of the fault,
 -- 7 with the size of the vector, and 8.

@@ -1,19 +1,13 @@
 -- Replies without where they lie in memory.
-use Rattle.std.specs.Prelude.{map}
 use Rattle.std.specs.String.{string_bytes}
 use Rattle.ts_parser.specs.TokensOf.{tokens_of}
-use Rattle.shell_script.specs.Name as names
 use Rattle.shell_script.specs.Replies as replies
-use Rattle.shell_script.specs.declared.replies.Name.{Name}
 use Rattle.shell_script.specs.declared.replies.TextFault.{TextFault}
 use Rattle.shell_script.specs.declared.replies.TextFault.TheVariants.{BadVector, BadQuery, LongLexeme, LargeVector, LargeQuery}
 use Rattle.shell_script.specs.declared.replies.Refusal.{Refusal}
 use Rattle.shell_script.specs.declared.replies.Refusal.TheVariants.{NoStatement, NoConfiguration, NoDictionary, Text, StoreFull, LogFull, TransactionsSpent, Down, Device, Memory}
 use Rattle.shell_script.specs.declared.replies.Reply.{Reply}
 use Rattle.shell_script.specs.declared.replies.Reply.TheVariants.{Stored, Lists, Vector, Query, Tokens, Done, Refused}
-
-abbrev pub name : Name → names.Name
-name n = record { page = n.page; slot = n.slot; serial = n.serial }
 
 abbrev pub text_fault : TextFault → replies.TextFault
 text_fault (BadVector at) = replies.bad_vector at
@@ -35,8 +29,8 @@ refusal Device = replies.device
 refusal Memory = replies.memory
 
 abbrev pub reply : Reply → replies.Reply
-reply (Stored n) = replies.stored (name n)
-reply (Lists names) = replies.lists (map name names.items)
+reply (Stored n) = replies.stored n
+reply (Lists names) = replies.lists names.items
 reply (Vector text) = replies.shows_vector (string_bytes text)
 reply (Query text) = replies.shows_query (string_bytes text)
 reply (Tokens text) = replies.shows_tokens (tokens_of (string_bytes text))

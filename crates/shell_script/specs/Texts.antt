@@ -3,7 +3,7 @@ use Rattle.std.specs.Prelude.{ℕ, zero, suc, List, [], ◌∷◌, ◌++◌, cod
 use Rattle.std.specs.List.{flat_map}
 use Rattle.ts_parser.specs.declared.iter.Token.{Token}
 use Rattle.ts_parser.specs.Kinds.{type_number}
-use Rattle.shell_script.specs.Name.{Name}
+use Rattle.page_types.specs.declared.page.Name.{Name}
 use Rattle.shell_script.specs.Replies.{TextFault, bad_vector, bad_query, long_lexeme, large_vector, large_query}
 use Rattle.shell_script.specs.Replies.{Refusal, no_statement, no_configuration, no_dictionary, text_refused, store_full, log_full, transactions_spent, down, device, memory}
 use Rattle.shell_script.specs.Replies.{Reply, stored, lists, shows_vector, shows_query, shows_tokens, done, refused}

@@ -25,7 +25,7 @@ pub use laws::{one_meaning, one_reading, one_spelling};
 pub use line::is_skipped;
 pub use lines::{Line, Lines};
 pub use mappings::{Mapping, Names, Types, read_mapping};
-pub use replies::{Name, Refusal, Reply, TextFault};
+pub use replies::{Refusal, Reply, TextFault};
 pub use script::{Step, Steps};
 pub use sources::{Expr, Maker, Part, QuerySource, VectorSource};
 pub use statement::{ScriptLine, Statement, read_line};

@@ -1,18 +1,8 @@
 // The replies to statements.
 ghost use Rattle.std.specs.Prelude.{◌≡◌};
 
+use page_types::Name;
 use std::alloc::AllocError;
-
-/// Where a document lies, and its number.
-#[derive(Clone, Copy, Debug)]
-pub struct Name {
-    /// The page that it lies in.
-    pub page: u32,
-    /// Its slot there.
-    pub slot: u16,
-    /// Its number, from 1.
-    pub serial: u64,
-}
 
 /// What is at fault in a statement's text: the offset of the fault, or the size of the vector.
 #[derive(Debug, Drop)]

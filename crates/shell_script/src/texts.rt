@@ -1,12 +1,13 @@
 // Replies as text.
-ghost use Rattle.std.specs.Prelude.{◌≡◌, List, [], ◌∷◌, ◌++◌, IfOk, OnOk, codes, decimal, map};
+ghost use Rattle.std.specs.Prelude.{◌≡◌, List, [], ◌∷◌, ◌++◌, IfOk, OnOk, codes, decimal};
 ghost use Rattle.std.specs.List.{flat_map};
-ghost use Rattle.shell_script.specs.ReplyView.{name, text_fault, refusal, reply};
+ghost use Rattle.shell_script.specs.ReplyView.{text_fault, refusal, reply};
 ghost use Rattle.shell_script.specs.Texts.{name_text, label_text, behind_space, refusal_text, reply_text, token_line, last_line};
 ghost use Rattle.shell_script.specs.Texts.{fault_words as words_of_fault, fault_detail as detail_of_fault, refusal_words as words_of, refusal_detail as detail_of};
 
-use crate::replies::{Name, Refusal, Reply, TextFault};
+use crate::replies::{Refusal, Reply, TextFault};
 use itoa::Buffer;
+use page_types::Name;
 use std::alloc::{AllocError, Global};
 use ts_parser::Token;
 
@@ -20,7 +21,7 @@ fn push_number(text: &mut Vec<u8>, n: u64) -> Result<(), AllocError>
 
 /// A name: its page, its slot and its serial.
 fn push_name(text: &mut Vec<u8>, n: &Name) -> Result<(), AllocError>
-    ensures { OnOk result (text.new.items ≡ text.old.items ++ name_text (name n.now)) }
+    ensures { OnOk result (text.new.items ≡ text.old.items ++ name_text n.now) }
 {
     push_number(text, u64::from(n.page))?;
     text.extend_from_slice(b"/")?;
@@ -32,7 +33,7 @@ fn push_name(text: &mut Vec<u8>, n: &Name) -> Result<(), AllocError>
 /// Each name behind a space.
 fn push_names(text: &mut Vec<u8>, names: &[Name]) -> Result<(), AllocError>
     ensures { OnOk result (text.new.items ≡ text.old.items ++ flat_map
-        (λ n. codes " " ++ name_text n) (map name names.now)) }
+        (λ n. codes " " ++ name_text n) names.now) }
 {
     for n in names {
         text.extend_from_slice(b" ")?;

@@ -1,5 +1,5 @@
 // Runs of scripts over the store in the working directory.
-use disk_file::FileDisk;
+use disk_file::{FileDisk, SystemFolder};
 use disk_trait::{MemorySink, MemorySource};
 use shell_run::{NoGate, Outcome, run_shell};
 use std::alloc::{AllocError, Global};
@@ -10,7 +10,11 @@ use std::thread::Threads;
 const PIECE: usize = 4096;
 
 /// A run that has ended.
-pub(crate) type Ended<'a> = Outcome<MemorySource, MemorySink, FileDisk<'a, HostRuntime>>;
+pub(crate) type Ended<'a> = Outcome<
+    MemorySource,
+    MemorySink,
+    FileDisk<SystemFolder<'a, HostRuntime>>,
+>;
 
 /// A run over the store in the working directory.
 pub(crate) fn run_script<'a, R: Threads + Wait + Sync>(
@@ -26,7 +30,7 @@ pub(crate) fn run_script<'a, R: Threads + Wait + Sync>(
         &words,
         MemorySource::new(script, Vec::new(alloc), PIECE),
         MemorySink::new(alloc, Vec::new(alloc)),
-        FileDisk::new(files),
+        FileDisk::new(SystemFolder::new(files)),
         &NoGate,
     ))
 }

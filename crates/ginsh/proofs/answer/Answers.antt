@@ -1,12 +1,12 @@
 use Rattle.ginsh.proofs.answer.Goals as goal
 
 pub returns : goal.returns
-returns g c = (
-  c.new-script.result,
-  c.new-out.result,
-  c.new-disk.result,
-  record { over = c.new-script.ensures.0; no_fault = c.new-script.ensures.1 },
-  record { over = c.new-out.ensures.0; no_fault = c.new-out.ensures.1 },
-  record { closed = c.new-disk.ensures.closed; no_fault = c.new-disk.ensures.counts },
-  c.run_shell.ensures,
-)
+returns g c = record {
+  script = c.new-script.result;
+  out = c.new-out.result;
+  disk = c.new-disk.result;
+  from = record { over = c.new-script.ensures.0; no_fault = c.new-script.ensures.1 };
+  into = record { over = c.new-out.ensures.0; no_fault = c.new-out.ensures.1 };
+  new = record { over = c.new-disk.ensures.over; closed = c.new-disk.ensures.closed; no_fault = c.new-disk.ensures.counts };
+  meets = c.run_shell.ensures;
+}

@@ -1,5 +1,5 @@
 -- The refusals that errors are printed as, and the replies of the store.
-use Rattle.std.specs.Prelude.{ℕ, map, Result, Ok, Err, Vec}
+use Rattle.std.specs.Prelude.{ℕ, Result, Ok, Err, Vec}
 use Rattle.std.specs.declared.alloc.Global.{Global}
 use Rattle.ts_vector.specs.declared.error.VectorError.{VectorError}
 use Rattle.ts_vector.specs.declared.error.VectorError.TheVariants as vectors
@@ -8,10 +8,9 @@ use Rattle.ts_query.specs.declared.error.QueryError.TheVariants as queries
 use Rattle.ts_thesaurus.specs.declared.error.LineError.{LineError}
 use Rattle.ts_thesaurus.specs.declared.error.LineError.TheVariants as lines
 use Rattle.shell_script.specs.Replies as replies
-use Rattle.shell_script.specs.ReplyView.{name}
-use Rattle.shell_run.specs.declared.error.StoreError.{StoreError}
-use Rattle.shell_run.specs.declared.error.StoreError.TheVariants as store
-use Rattle.shell_script.specs.declared.replies.Name.{Name}
+use Rattle.engine.specs.declared.error.DbError.{DbError}
+use Rattle.engine.specs.declared.error.DbError.TheVariants as store
+use Rattle.engine.specs.Finding.{Name}
 use Rattle.shell_script.specs.declared.replies.Refusal.{Refusal}
 use Rattle.shell_script.specs.declared.replies.Refusal.TheVariants.{Text, Memory}
 use Rattle.shell_script.specs.declared.replies.TextFault.TheVariants.{BadVector, BadQuery, LongLexeme, LargeVector, LargeQuery}
@@ -38,19 +37,19 @@ rule_refusal lines.UnknownInSample number = replies.no_statement number
 rule_refusal lines.Memory number = replies.memory
 
 -- the refusal that an error of the store is printed as
-abbrev pub refusal_for : StoreError → replies.Refusal
-refusal_for store.Full = replies.store_full
+abbrev pub refusal_for : DbError → replies.Refusal
+refusal_for store.StoreFull = replies.store_full
 refusal_for store.LogFull = replies.log_full
-refusal_for store.Spent = replies.transactions_spent
+refusal_for store.XidsSpent = replies.transactions_spent
 refusal_for (store.Down count) = replies.down count
-refusal_for store.Device = replies.device
-refusal_for store.Memory = replies.memory
+refusal_for store.DiskFault = replies.device
+refusal_for store.OutOfMemory = replies.memory
 
 -- the replies to an insertion and to a search
-abbrev pub stored_reply : Result Name StoreError → replies.Reply
-stored_reply (Ok n) = replies.stored (name n)
+abbrev pub stored_reply : Result Name DbError → replies.Reply
+stored_reply (Ok n) = replies.stored n
 stored_reply (Err e) = replies.refused (refusal_for e)
 
-abbrev pub found_reply : Result (Vec Name Global) StoreError → replies.Reply
-found_reply (Ok names) = replies.lists (map name names.items)
+abbrev pub found_reply : Result (Vec Name Global) DbError → replies.Reply
+found_reply (Ok names) = replies.lists names.items
 found_reply (Err e) = replies.refused (refusal_for e)

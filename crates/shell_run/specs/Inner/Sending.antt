@@ -1,5 +1,5 @@
 -- Text on its way to a sink.
-use Rattle.std.specs.Prelude.{◌≡◌, ℕ, List, ◌++◌, Bool, true}
+use Rattle.std.specs.Prelude.{◌≡◌, ℕ, ◌<◌, List, ◌++◌, length, Bool, true}
 use Rattle.std.specs.Prelude.{Option}
 use Rattle.std.specs.Io.KnownBytes.{Appends}
 
@@ -12,3 +12,8 @@ pub record Sends (before after : Option (List ℕ)) (text waiting : List ℕ)
   pub all : sent ++ unsent ≡ text
   pub took : Appends before after sent
   pub waits : well ≡ true → unsent ≡ waiting
+
+-- likewise, and fewer bytes than this were not taken
+abbrev pub SendsBut : ℕ → Option (List ℕ) → Option (List ℕ) → List ℕ → List ℕ → Bool → Type 0
+SendsBut n before after text waiting well =
+    (s : Sends before after text waiting well) × (length s.unsent < n)

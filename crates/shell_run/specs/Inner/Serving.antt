@@ -1,5 +1,5 @@
 -- What a step does to the documents and to the text on its way.
-use Rattle.std.specs.Prelude.{◌≡◌, ◌≢◌, ◌⊎◌, ◌≤◌, ℕ, List, [], ◌++◌, Bool, true, false, ◌||◌}
+use Rattle.std.specs.Prelude.{◌≡◌, ◌≢◌, ◌⊎◌, ◌<◌, ◌≤◌, ℕ, List, [], ◌++◌, length, Bool, true, false, ◌||◌}
 use Rattle.std.specs.Prelude.{Option, Result, IfOk, is_ok}
 use Rattle.disk_trait.specs.declared.device.Disk.{Ghosts as Disk}
 use Rattle.shell_script.specs.Grammar.{Statement}
@@ -8,22 +8,23 @@ use Rattle.shell_script.specs.Says.{Says, line_of}
 use Rattle.shell_script.specs.Replies.{Reply}
 use Rattle.shell_script.specs.Texts.{said}
 use Rattle.shell_run.specs.Inner.Sending.{Sends}
-use Rattle.shell_run.specs.Inner.Stores.{HasAnswered}
+use Rattle.shell_run.specs.Inner.Answering.{HasAnswered}
 use Rattle.shell_run.specs.Defining.{Becomes}
 use Rattle.shell_run.specs.Outcomes.{HasPrinted, is_refusal, some_refused}
-use Rattle.shell_run.specs.Finding.{History}
-use Rattle.shell_run.specs.Found.{Found}
+use Rattle.engine.specs.Finding.{History}
+use Rattle.engine.specs.Found.{Found}
 use Rattle.shell_run.specs.Crash.{HasSamePages}
-use Rattle.shell_run.specs.Inner.StoreValue.{StoreValue}
+use Rattle.engine.specs.Db.{DbValue}
 use Rattle.shell_run.specs.Run.{Row}
+use Rattle.shell_run.specs.declared.sending.TheConstants.{PIECE_BYTES}
 use Rattle.shell_run.specs.RanOn.{RanOn}
 use Rattle.shell_run.specs.RunMeets.{HasCauses, HasNotRun, HasRun}
-use Rattle.shell_run.specs.Inner.Opened.{OpenedAt}
+use Rattle.engine.specs.Opened.{OpenedAt}
 use Rattle.disk_trait.specs.declared.stream.Sink.{Ghosts as Sink}
-use Rattle.shell_run.specs.declared.serving.Desk.{Desk}
+use Rattle.shell_run.specs.declared.serving.RunState.{RunState}
 
 -- what a step says is answered, and what is defined then
-pub record HasTurned {D : Type 0} (device : Disk D) (step : Step) (old new : Desk D)
+pub record HasTurned {D : Type 0} (device : Disk D) (step : Step) (old new : RunState D)
     (session : ℕ) (reply : Reply) : Type 0 where
   pub statement : Statement
   pub says : Says step session statement
@@ -32,16 +33,17 @@ pub record HasTurned {D : Type 0} (device : Disk D) (step : Step) (old new : Des
   pub becomes : Becomes old.configs statement reply new.configs
 
 -- the step was answered, and its reply's text is on its way
-pub record Served {D : Type 0} (device : Disk D) (step : Step) (old new : Desk D)
+pub record Served {D : Type 0} (device : Disk D) (step : Step) (old new : RunState D)
     (before after : Option (List ℕ)) (well : Bool) : Type 0 where
   pub session : ℕ
   pub reply : Reply
   pub turned : HasTurned device step old new session reply
   pub text : Sends before after (old.waiting.items ++ said session reply) new.waiting.items well
+  pub few : well ≡ true → length new.waiting.items < PIECE_BYTES
   pub flag : new.refused ≡ (old.refused || is_refusal reply)
 
 -- nothing was done, since memory ran out
-pub record Passed {D : Type 0} (old new : Desk D) (before after : Option (List ℕ))
+pub record Passed {D : Type 0} (old new : RunState D) (before after : Option (List ℕ))
     (well : Bool) : Type 0 where
   pub short : well ≡ false
   pub same : (new.store ≡ old.store) × (new.configs ≡ old.configs) × (new.refused ≡ old.refused)
@@ -56,7 +58,7 @@ pub record Ran (text : List ℕ) (before after : Option (List ℕ)) (rows : List
 
 -- The steps of a text were run over a store that had a history; the device is as it is left.
 pub record HasRunSteps {D E : Type 0} (device : Disk D) (found : Found) (history : History)
-    (text : List ℕ) (before after : Option (List ℕ)) (opened : StoreValue D) (disk : D)
+    (text : List ℕ) (before after : Option (List ℕ)) (opened : DbValue D) (disk : D)
     (result : Result Bool E) : Type 0 where
   pub rows : List Row
   pub commits : History

@@ -1,25 +1,29 @@
-use Rattle.std.proofs.Common.{refl, subst}
-use Rattle.std.proofs.lemmas.Bool.{false≢true}
-use Rattle.shell_script.specs.StepView.{line as shown}
-use Rattle.shell_run.proofs.Bodies.{LinesMapped, mapped_over, mapped_more, mapped_end, mapped_fail}
+use Rattle.std.proofs.Common.{refl, sym, subst}
+use Rattle.ts_config.specs.Mappings.{Mapping}
+use Rattle.ts_config.specs.Known.{IsWithin}
+use Rattle.ts_config.proofs.Within.{within_empty}
+use Rattle.shell_script.specs.Says.{counted_lines}
+use Rattle.shell_script.specs.ReplyView.{refusal}
+use Rattle.shell_run.specs.Defining.{Maps}
+use Rattle.shell_run.specs.Inner.Definitions.{MapsFail}
+use Rattle.shell_run.proofs.MappingLines.{maps_all, within_all, maps_fail}
 use Rattle.shell_run.proofs.defining.mapping_of.Goals as goal
 
-pub loop-line-preserved-then-is_skipped : goal.loop-line-preserved-then-is_skipped
-loop-line-preserved-then-is_skipped c =
-    mapped_over c.args.configs.now c.args.body c.next.new.self (shown c.in-Some.line) c.loop-line.draft (subst (λ z. LinesMapped c.args.configs.now c.args.body z c.loop-line.draft) c.in-Some.ensures.steps c.loop-line.invariant) (c.if-is_skipped.ensures.0 refl)
+pub returns-in-Ok-clause-maps : goal.returns-in-Ok-clause-maps
+returns-in-Ok-clause-maps c =
+    subst (λ (d : Mapping). Maps c.args.configs.now d (counted_lines c.args.body) c.take_lines.new.made.draft)
+    c.in_ok-empty.ensures
+    (maps_all c.args.configs.now (counted_lines c.args.body) _ _ refl c.in-Ok.ensures.taken)
+
+pub returns-in-Ok-clause-within : goal.returns-in-Ok-clause-within
+returns-in-Ok-clause-within c =
+    within_all c.args.configs.now (counted_lines c.args.body) _ _ refl
+    (subst (IsWithin c.args.configs.now) (sym c.in_ok-empty.ensures) (within_empty c.args.configs.now))
+    c.in-Ok.ensures.taken
 
 pub returns-in-Err-clause-refused : goal.returns-in-Err-clause-refused
 returns-in-Err-clause-refused c =
-    mapped_fail c.args.configs.now c.args.body c.next.new.self (shown c.in-Some.line) c.loop-line.draft _ (subst (λ z. LinesMapped c.args.configs.now c.args.body z c.loop-line.draft) c.in-Some.ensures.steps c.loop-line.invariant)
-    (λ h. false≢true (c.if-is_skipped.ensures.1 h)) c.in-Err.ensures.refused
-
-pub loop-line-preserved : goal.loop-line-preserved
-loop-line-preserved c =
-    mapped_more c.args.configs.now c.args.body c.next.new.self (shown c.in-Some.line) c.loop-line.draft c.map_line.new.draft (subst (λ z. LinesMapped c.args.configs.now c.args.body z c.loop-line.draft) c.in-Some.ensures.steps c.loop-line.invariant)
-    (λ h. false≢true (c.if-is_skipped.ensures.1 h)) c.in_default.ensures.mapped
-
-pub returns-clause-maps : goal.returns-clause-maps
-returns-clause-maps c = mapped_end c.args.configs.now c.args.body c.loop-line.draft (subst (λ z. LinesMapped c.args.configs.now c.args.body z c.loop-line.draft) c.in-None.ensures.steps.0 c.loop-line.invariant)
-
-pub returns-clause-within : goal.returns-clause-within
-returns-clause-within c = c.loop-line.invariant.within
+    subst (λ (d : Mapping). MapsFail c.args.configs.now d (counted_lines c.args.body) (refusal c.in-Err.why))
+    c.in_ok-empty.ensures
+    (maps_fail c.args.configs.now (counted_lines c.args.body) _ (refusal c.in-Err.why) refl
+    c.in-Err.ensures.refused)

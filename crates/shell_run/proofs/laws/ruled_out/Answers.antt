@@ -1,13 +1,20 @@
-use Rattle.shell_run.proofs.Traces.{none_stored_after_failure, each_failure_is_noted, one_count_is_told, nothing_is_printed_with_4, no_name_is_taken_twice, no_log_is_wiped, no_page_is_written}
+use Rattle.shell_run.proofs.Traces.{none_stored_after_failure, none_committed_after_failure, no_clock_falls, no_commit_is_early, no_commit_is_late, each_failure_is_noted, one_count_is_told, nothing_is_printed_with_4, no_name_is_taken_twice, none_runs_after_the_sink_failed, no_half_script_is_run, no_log_is_wiped, no_stray_file_is_written, no_page_is_written}
 use Rattle.shell_run.proofs.laws.ruled_out.Goals as goal
 
 pub returns : goal.returns
 returns g c = record {
   stored_after_failure = none_stored_after_failure;
+  committed_after_failure = none_committed_after_failure;
+  clock_falls = no_clock_falls g.D.Disk;
+  early = no_commit_is_early;
+  late = no_commit_is_late;
   unnoted = each_failure_is_noted;
   two_counts = one_count_is_told;
   printed_with_4 = nothing_is_printed_with_4;
   taken_twice = no_name_is_taken_twice;
+  after_the_sink = none_runs_after_the_sink_failed;
+  half_a_script = no_half_script_is_run g.S.Source g.K.Sink g.D.Disk;
   wiped = no_log_is_wiped g.K.Sink g.D.Disk;
+  stray = no_stray_file_is_written g.K.Sink g.D.Disk;
   page_written = no_page_is_written g.K.Sink g.D.Disk;
 }

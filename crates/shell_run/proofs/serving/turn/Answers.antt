@@ -2,25 +2,20 @@ use Rattle.std.proofs.Common.{refl}
 use Rattle.shell_script.specs.Steps.{definition, stray}
 use Rattle.shell_script.specs.StepView.{line as shown}
 use Rattle.shell_script.specs.HeadView.{head as head_of}
-use Rattle.shell_script.specs.StatementView.{statement}
 use Rattle.shell_script.specs.ReplyView.{reply}
-use Rattle.shell_run.proofs.Turning.{answered_counts, turned_line, turned_nothing, turned_definition}
+use Rattle.shell_run.proofs.Turning.{turned_line, turned_nothing, turned_definition}
 use Rattle.shell_run.proofs.serving.turn.Goals as goal
 
 pub returns-in_ok-said-in-Single-clause-turned : goal.returns-in_ok-said-in-Single-clause-turned
 returns-in_ok-said-in-Single-clause-turned g c =
-    rw c.in-Single.is (turned_line g.D.Disk (shown c.in-Single.line) c.args.desk.now _ c.in_ok-said-in-Single.said.session c.in_ok-said-in-Single.said.statement (reply c.answer-reply.result) c.in_ok-said-in-Single.ensures c.answer-reply.ensures refl)
-
-pub returns-in_ok-said-in-Single-clause-counts : goal.returns-in_ok-said-in-Single-clause-counts
-returns-in_ok-said-in-Single-clause-counts g c =
-    answered_counts g.D.Disk c.args.desk.now.configs c.in-Single.line.number c.args.desk.now.store c.answer-reply.new.store (statement c.in_ok-said-in-Single.said.statement) (reply c.answer-reply.result) c.answer-reply.ensures
+    rw c.in-Single.is (turned_line g.D.Disk (shown c.in-Single.line) c.args.state.now _ c.in_ok-said-in-Single.said.session c.in_ok-said-in-Single.said.statement (reply c.answer-reply.result) c.in_ok-said-in-Single.ensures c.answer-reply.ensures.answered refl)
 
 pub returns-in-Some-clause-turned : goal.returns-in-Some-clause-turned
 returns-in-Some-clause-turned g c =
-    rw c.in-Definition.is (turned_definition g.D.Disk (shown c.in-Definition.line) c.in-Definition.body c.args.desk.now _ (head_of c.in-Some.head) (reply c.define.result) c.in-Some.ensures.some refl c.define.ensures.answered c.define.ensures.becomes)
+    rw c.in-Definition.is (turned_definition g.D.Disk (shown c.in-Definition.line) c.in-Definition.body c.args.state.now _ (head_of c.in-Some.head) (reply c.define.result) c.in-Some.ensures.some refl c.define.ensures.answered c.define.ensures.becomes)
 
 pub returns-in-None-clause-turned : goal.returns-in-None-clause-turned
-returns-in-None-clause-turned g c = rw c.in-Definition.is (turned_nothing g.D.Disk (definition (shown c.in-Definition.line) c.in-Definition.body) c.args.desk.now (refl, c.in-None.ensures.none))
+returns-in-None-clause-turned g c = rw c.in-Definition.is (turned_nothing g.D.Disk (definition (shown c.in-Definition.line) c.in-Definition.body) c.args.state.now (refl, c.in-None.ensures.none))
 
 pub returns-in-Stray-clause-turned : goal.returns-in-Stray-clause-turned
-returns-in-Stray-clause-turned g c = rw c.in-Stray.is (turned_nothing g.D.Disk (stray (shown c.in-Stray.line)) c.args.desk.now (refl, refl))
+returns-in-Stray-clause-turned g c = rw c.in-Stray.is (turned_nothing g.D.Disk (stray (shown c.in-Stray.line)) c.args.state.now (refl, refl))

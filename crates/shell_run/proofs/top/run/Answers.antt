@@ -8,12 +8,12 @@ use Rattle.shell_run.proofs.top.run.Goals as goal
 pub returns-in_default : goal.returns-in_default
 returns-in_default g c =
     run_of_no_form g.S.Source g.K.Sink g.D.Disk c.args.words.now c.args.script c.args.out
-    c.args.device c.in_default.ensures.none
+    c.args.store c.in_default.ensures.none
 
 pub returns-in-Err : goal.returns-in-Err
 returns-in-Err g c =
     let told = c.in-Err.ensures in
-    run_unread g.S.Source g.K.Sink g.D.Disk c.args.words.now c.args.script c.args.out c.args.device
+    run_unread g.S.Source g.K.Sink g.D.Disk c.args.words.now c.args.script c.args.out c.args.store
     c.in-Some._settings c.in-Some.ensures.some _ c.in-Err.stop _
     c.status.ensures told.error (λ e. told.fault (is_err _ _ e)) (λ e. told.too_long (is_err _ _ e))
 
@@ -25,6 +25,6 @@ returns g c =
     subst (HasRead (g.S.Source.left c.args.script) (g.S.Source.left c.read_script.new.script))
     is c.in-Ok.ensures.whole.0 in
     let short = subst (λ (t : List ℕ). length t ≤ SCRIPT_LIMIT) is c.in-Ok.ensures.short in
-    run_served g.S.Source g.K.Sink g.D.Disk c.args.words.now c.args.script c.args.out c.args.device
+    run_served g.S.Source g.K.Sink g.D.Disk c.args.words.now c.args.script c.args.out c.args.store
     c.in-Some._settings c.in-Some.ensures.some _ text read
     c.in-Ok.ensures.whole.1 short _ _ _ c.serve-status.ensures

@@ -1,5 +1,5 @@
-use Rattle.std.proofs.Common.{inl, arith}
-use Rattle.shell_run.proofs.Ending.{unopened}
+use Rattle.std.proofs.Common.{inl, arith, sym, ◌∙◌}
+use Rattle.shell_run.proofs.Ending.{unopened, stop_is, at_store, at_fault, at_memory}
 use Rattle.shell_run.proofs.Served.{serve_short, serve_stopped, serve_ended}
 use Rattle.shell_run.proofs.Streams.{appends_none}
 use Rattle.shell_run.proofs.top.serve.Goals as goal
@@ -11,17 +11,18 @@ returns-in_default g c =
 
 pub returns-in-Err : goal.returns-in-Err
 returns-in-Err g c =
-    let u = unopened c.in-Err.stop _ c.status-in-Err.ensures c.in-Err.ensures.error in
+    let u = unopened c.from.result _ c.status-in-Err.ensures (stop_is c.in-Err.field-0.why c.from.result c.from.ensures) in
     let n = u.number in
     record {
       range = (omega (arith, n), λ e. omega (arith, n), λ e. omega (arith, n));
       causes = record {
-        status_4 = λ t e. c.in-Err.ensures.no_store t (u.at_4 e);
+        status_4 = λ t e. c.in-Err.ensures.no_store t (at_store c.in-Err.field-0.why (sym c.from.ensures ∙ u.at_4 e));
         no_store = λ t l. (λ e. omega (arith, n), λ e. omega (arith, n), λ e. omega (arith, n));
-        keeps_4 = λ e. c.in-Err.ensures.keeps (u.at_4 e);
+        keeps_4 = λ e. c.in-Err.ensures.keeps (at_store c.in-Err.field-0.why (sym c.from.ensures ∙ u.at_4 e));
+        keeps_no_store = λ t none. c.in-Err.ensures.no_store_kept t none;
         status_7 = λ e. absurd (omega (arith, n));
         status_3 =
-            λ e. (λ three. c.in-Err.ensures.fault (u.at_3 three), λ rose. omega (arith, n, e));
+            λ e. (λ three. c.in-Err.ensures.fault (at_fault c.in-Err.field-0.why (sym c.from.ensures ∙ u.at_3 three)), λ rose. omega (arith, n, e));
         pages = λ t. c.in-Err.ensures.pages t;
       };
       headline = inl (record {
@@ -32,16 +33,17 @@ returns-in-Err g c =
                   (λ e. omega (arith, n), λ e. omega (arith, n), λ e. omega (arith, n));
             };
         as_before = λ t s. c.in-Err.ensures.refused t s;
+        memory = λ e. c.in-Err.ensures.memory (at_memory c.in-Err.field-0.why (sym c.from.ensures ∙ u.at_5 e));
       });
     }
 
 pub returns-in-Err-ran : goal.returns-in-Err-ran
 returns-in-Err-ran g c =
-    let o = c.in-Ok-open_store.ensures.opened.1 in
+    let o = c.in-Ok-open.ensures.opened.1 in
     serve_stopped g.K.Sink g.D.Disk _ _ _ c.args.device _ o.0 o.1 o.2 _ _ c.in-Err-ran.stop _
     (record {
       opened = o.3;
-      a_store = c.in-Ok-open_store.ensures.store;
+      a_store = c.in-Ok-open.ensures.store;
       ran =
           c.run_steps-device.ensures.ran o.0 o.1 o.4;
     })
@@ -50,11 +52,11 @@ returns-in-Err-ran g c =
 
 pub returns : goal.returns
 returns g c =
-    let o = c.in-Ok-open_store.ensures.opened.1 in
+    let o = c.in-Ok-open.ensures.opened.1 in
     serve_ended g.K.Sink g.D.Disk _ _ _ c.args.device _ o.0 o.1 o.2 _ _ c.in-Ok-ran.refused _
     (record {
       opened = o.3;
-      a_store = c.in-Ok-open_store.ensures.store;
+      a_store = c.in-Ok-open.ensures.store;
       ran =
           c.run_steps-device.ensures.ran o.0 o.1 o.4;
     })

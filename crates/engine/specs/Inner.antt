@@ -1,0 +1,9 @@
+pub mod DbValue
+pub mod Documents
+pub mod Drafts
+pub mod Heaps
+pub mod Inside
+pub mod Kept
+pub mod Plain
+pub mod Puts
+pub mod Refusals

@@ -1,0 +1,62 @@
+// Why a store is not opened, and why it refuses a call.
+ghost use Rattle.std.specs.Prelude.{◌≡◌};
+ghost use Rattle.engine.specs.Inner.Refusals.{db_error};
+ghost use Rattle.engine.specs.declared.error.DbError.TheVariants.{OutOfMemory};
+
+use buffer_frames::{LogError, OpenFault};
+use std::alloc::AllocError;
+use thiserror::Error;
+
+/// A store that is not opened: its device, and why.
+#[derive(Drop)]
+pub struct Unopened<D> {
+    /// The device of the store.
+    pub store: D,
+    /// Why it is not opened.
+    pub why: OpenFault,
+}
+
+/// Why a store refuses a call.
+#[derive(Clone, Copy, Debug, PartialEq, Eq, Error)]
+pub enum DbError {
+    /// The document has no room.
+    #[error("store full")]
+    StoreFull,
+    /// The log would pass its limit.
+    #[error("log full")]
+    LogFull,
+    /// The next xid isn't below its bound.
+    #[error("transactions spent")]
+    XidsSpent,
+    /// A write or a sync failed in an earlier call. The device's count of faults stood at this
+    /// number after it.
+    #[error("down {fault}")]
+    Down { fault: u64 },
+    /// The device failed in this call.
+    #[error("device")]
+    DiskFault,
+    /// Memory ran out.
+    #[error("out of memory")]
+    OutOfMemory,
+}
+
+impl From<AllocError> for DbError {
+    ghost from_gives = { λ _ e. e ≡ OutOfMemory };
+
+    fn from(_: AllocError) -> DbError {
+        DbError::OutOfMemory
+    }
+}
+
+impl From<LogError> for DbError {
+    ghost from_gives = { λ w e. e ≡ db_error w };
+
+    fn from(error: LogError) -> DbError {
+        match error {
+            LogError::LogFull => DbError::LogFull,
+            LogError::Down { fault } => DbError::Down { fault },
+            LogError::OutOfMemory => DbError::OutOfMemory,
+            LogError::DiskFault => DbError::DiskFault,
+        }
+    }
+}
