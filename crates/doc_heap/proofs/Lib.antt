@@ -1,0 +1,4 @@
+pub mod SlotLists
+pub mod SlotSizes
+pub mod HeapSheets
+pub mod Worked

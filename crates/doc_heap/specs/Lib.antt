@@ -1,0 +1,2 @@
+pub mod HeapPages
+pub mod Logging

@@ -1,0 +1,15 @@
+//! Documents on heap pages: a head is put on a page, marked as deleted, freed and read.
+//!
+//! What a change leaves is what a record of its kind asks of the page; `laws` says that such a step
+//! may be logged.
+#![tactic(auto)]
+
+mod changing;
+mod laws;
+mod placing;
+mod reading;
+
+pub use changing::{free, mark};
+pub use laws::pages_may_be_logged;
+pub use placing::place;
+pub use reading::head;

@@ -1,0 +1,2 @@
+pub mod NewPages
+pub mod Worked
