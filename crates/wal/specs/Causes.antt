@@ -1,4 +1,4 @@
--- What the calls of a log answer, and what the device has counted then.
+-- What the calls of a log answer, and what the device has counted then, at which moment.
 use Rattle.std.specs.Prelude.{◌≡◌, ℕ, ◌<◌, ◌≤◌, ⊤, Option, Some, OnOk, Result, Ok, Err, IsErrOf}
 use Rattle.disk_trait.specs.Device.{Rose}
 use Rattle.disk_trait.specs.declared.device.Disk.{Ghosts as Disk}
@@ -15,8 +15,9 @@ RoseAtFault (Err flushing.DiskFault) before now = Rose before now
 RoseAtFault r before now = now ≡ before
 
 module _ {D : Type 0} (device : Disk D) where
-  -- The counts of a call that writes. They never fall.
+  -- The counts of a call that writes. They never fall, nor does the clock.
   pub record WriteHasCause {T : Type 0} (old new : D) (result : Result T FlushError) : Type 0 where
+    pub time : device.clock old ≤ device.clock new
     pub later : (device.fault_count old ≤ device.fault_count new)
         × (device.write_fault_count old ≤ device.write_fault_count new)
     pub fault : IsErrOf result flushing.DiskFault
@@ -25,6 +26,7 @@ module _ {D : Type 0} (device : Disk D) where
 
   -- The counts of a call that reads: no write failed.
   pub record ReadHasCause {T : Type 0} (old new : D) (result : Result T ReadError) : Type 0 where
+    pub time : device.clock old ≤ device.clock new
     pub later : device.fault_count old ≤ device.fault_count new
     pub fault : IsErrOf result reading.DiskFault
         → Rose (device.fault_count old) (device.fault_count new)
@@ -32,6 +34,7 @@ module _ {D : Type 0} (device : Disk D) where
 
   -- The counts of a call that reads, and may create.
   pub record OpenHasCause {T : Type 0} (old new : D) (result : Result T ReadError) : Type 0 where
+    pub time : device.clock old ≤ device.clock new
     pub later : device.fault_count old ≤ device.fault_count new
     pub fault : IsErrOf result reading.DiskFault
         → Rose (device.fault_count old) (device.fault_count new)

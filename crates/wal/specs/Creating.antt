@@ -21,6 +21,7 @@ pub record From (old : Files → Type 0) (P : List ℕ → Type 0) (c : Files) :
 -- The counts of a creation. Where it failed, a write or a sync did, or the device did not tell the
 -- log's length.
 pub record CreateHasCause {D T E : Type 0} (device : Disk D) (old new : D) (result : Result T E) : Type 0 where
+  pub time : device.clock old ≤ device.clock new
   pub later : (device.fault_count old ≤ device.fault_count new)
       × (device.write_fault_count old ≤ device.write_fault_count new)
   pub failed : OnErr result (Rose (device.fault_count old) (device.fault_count new))

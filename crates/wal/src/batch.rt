@@ -24,6 +24,7 @@ pub(crate) fn put_batch<D: Disk>(disk: &mut D, end: u64, chunk: &[u8]) -> Result
         → LeavesOnly D.Disk disk.old disk.new
         (BeforeOrAfter batches batch (images_now D.Disk disk.old)) }
     ensures pages { D.tells → KeepsPages D.Disk disk.old disk.new }
+    ensures time { D.Disk.clock disk.old ≤ D.Disk.clock disk.new }
     ensures cause { RunHasCause D.Disk disk.old disk.new result }
 {
     write_and_sync(disk, File::Log, end + 1, chunk)?;

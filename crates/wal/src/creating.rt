@@ -1,6 +1,6 @@
 // A new log: the store's gate is closed, the name and the first batch's gate are written, and the
 // store's gate is opened.
-ghost use Rattle.std.specs.Prelude.{◌≡◌, ◌-◌, ◌^◌, ◌<◌, [], OnOk};
+ghost use Rattle.std.specs.Prelude.{◌≡◌, ◌-◌, ◌^◌, ◌<◌, ◌≤◌, [], OnOk};
 ghost use Rattle.disk_trait.specs.Runs.{images_now, IsSettled, LeavesOnly, RunHasCause};
 ghost use Rattle.wal.specs.Batches.{IsUnborn, Opens};
 ghost use Rattle.wal.specs.Pages.{KeepsPages};
@@ -45,6 +45,7 @@ fn write_name<D: Disk>(disk: &mut D) -> Result<(), Failed>
         → LogIs D.Disk (D.seen disk.old).log disk.old
         → LeavesOnly D.Disk disk.old disk.new
         (From (images_now D.Disk disk.old) (λ log. Opens log [])) }
+    ensures time { D.Disk.clock disk.old ≤ D.Disk.clock disk.new }
     ensures cause { RunHasCause D.Disk disk.old disk.new result }
 {
     write_and_sync(disk, File::Log, 1, NAME_AND_GATE)?;
