@@ -6,9 +6,8 @@ use Rattle.page_types.specs.declared.record.Kind.TheVariants as kind
 use Rattle.page_types.specs.declared.record.Record.{Record}
 use Rattle.core_state.specs.Log.{Log, changed, xid_bound}
 use Rattle.core_state.specs.Documents.{Doc}
-use Rattle.core_state.specs.States.{StateValue, state_of, step_of, stepped, begun, committed, aborted, ended_all, placed_head, marked_head, transaction, last_serial}
+use Rattle.core_state.specs.States.{StateValue, state_of, step_of, stepped, begun, committed, aborted, ended_all, placed_head, marked_head, transaction, last_serial, noted}
 use Rattle.core_state.specs.declared.transactions.Transaction.{Transaction}
-use Rattle.core_state.proofs.Inserting.{noted}
 
 -- the bounds, and the number
 abbrev pub marks : StateValue → ℕ × ℕ × ℕ

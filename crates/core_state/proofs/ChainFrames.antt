@@ -175,7 +175,7 @@ module _ (R : Log) (P Q : Pages) (r : Record) (floor since : ℕ) (row : RowHold
       let item : x.here.doc.item ≡ d.item = cc in
       let f = two_pages P (changed r) (page_of x.here.doc.item) x.here.new x.here.old x.here.was x.here.pages
       x.here.before_is in
-      let was = head_was P Q r since x.here.doc x.here.old x.here.left x.here.head _ f.0 x.here.head_after in
+      let was = head_was P Q r since x.here.doc x.here.old x.here.heap_then x.here.head _ f.0 x.here.head_after in
       let one : h ≡ x.here.head = some_one h x.here.head (sym has.at ∙ ap (head_of P) (sym item) ∙ was.at) in
       x.rest v (subst (λ (k : Head). IsWhole P k v) one whole)
 

@@ -11,7 +11,7 @@ use Rattle.page_types.specs.declared.record.Kind.{Kind}
 use Rattle.page_types.specs.declared.record.Kind.TheVariants as kind
 use Rattle.core_state.specs.Log.{Log, Pages, In, changed}
 use Rattle.core_state.specs.Documents.{page_of}
-use Rattle.core_state.specs.Changes.{left_with}
+use Rattle.core_state.specs.Changes.{made_with}
 use Rattle.core_state.specs.HeapRows.{IsPutOverflow}
 use Rattle.core_state.specs.PendingRows.{IsPutPending, IsLinkPending}
 use Rattle.core_state.specs.VacuumRows.{IsDropped, IsDropPage}
@@ -73,7 +73,7 @@ module _ (R : Log) (P Q : Pages) (r : Record) (floor since : ℕ) (touch : (p : 
         → ((i q : ℕ) → (((i ≡ x.here.doc.item) × (q ≡ x.here.new)) ⊎ On i q) ↔ On' i q) → Chains Q (λ h. h.overflow) On'
     put_overflows meta x same =
         let a = page_of x.here.doc.item in
-        let g = two_pages Q (changed r) a x.here.new x.here.left (left_with r x.here.head.overflow
+        let g = two_pages Q (changed r) a x.here.new x.here.heap_then (made_with r x.here.head.overflow
         (body.Overflow x.here.part)) x.here.pages x.here.after_is in
         chain_longer R P Q r floor since (λ h. h.overflow) On On' O.chains over x.here.doc x.here.head
         (record x.here.head { overflow = x.here.new }) x.here.new
@@ -104,7 +104,7 @@ module _ (R : Log) (P Q : Pages) (r : Record) (floor since : ℕ) (touch : (p : 
         → ((i q : ℕ) → (((i ≡ x.here.doc.item) × (q ≡ x.here.new)) ⊎ On i q) ↔ On' i q) → Chains Q (λ h. h.private) On'
     put_privates meta x same =
         let a = page_of x.here.doc.item in
-        let g = two_pages Q (changed r) a x.here.new x.here.left (left_with r x.here.head.private
+        let g = two_pages Q (changed r) a x.here.new x.here.heap_then (made_with r x.here.head.private
         (body.Pending x.here.rows)) x.here.pages x.here.after_is in
         chain_longer R P Q r floor since (λ h. h.private) On On' W.chains mine x.here.doc x.here.head
         (record x.here.head { private = x.here.new }) x.here.new

@@ -12,15 +12,11 @@ use Rattle.core_state.specs.Documents.{Doc, name_of, placed, marked}
 use Rattle.core_state.specs.History.{Document, Commit, History, AreInserts, IsHistory}
 use Rattle.core_state.specs.Legal.{RowHolds, RowsAreValid}
 use Rattle.core_state.specs.Lives.{with_ends}
-use Rattle.core_state.specs.States.{StateValue, fate_at, with_fate, all_ended, uses_after, transaction, without, replaced, begun, committed, aborted, ended_all, placed_head, marked_head, last_serial, step_of, state_of, names}
+use Rattle.core_state.specs.States.{StateValue, fate_at, with_fate, all_ended, uses_after, sizes_after, done_by, transaction, without, replaced, begun, committed, aborted, ended_all, placed_head, marked_head, last_serial, step_of, state_of, names}
 use Rattle.core_state.specs.declared.transactions.Transaction.{Transaction}
 use Rattle.core_state.specs.declared.answers.Fate.{Fate}
 use Rattle.core_state.specs.declared.answers.Fate.TheVariants.{Unused, Running, Aborted, Committed}
 use Rattle.core_state.proofs.RunningOnes.{same_or_other, on_same, on_other, is_same, is_other, with_fate_at, length-with_fate, past_fate, begun_at, joined_at, without_at, replaced_at, HaveBegun, ended_by, all_ended_at, length-all_ended}
-
--- what transaction x has done so far
-abbrev pub work : Log → ℕ → Transaction
-work R x = record { xid = x; deleted = map name_of (marked R x); inserted = map name_of (placed R x) }
 
 -- a transaction is kept where it runs
 abbrev pub kept_by : Fate → Transaction → Option Transaction
@@ -35,7 +31,7 @@ pub record Kept (R : Log) (s : StateValue) : Type 0 where
   pub next_serial_is : s.next_serial ≡ next_serial R
   pub redo_is : s.redo ≡ redo_of R
   pub commits_are : length s.deleted ≡ commits R
-  pub running : (y : ℕ) → transaction y s.running ≡ kept_by (fate R y) (work R y)
+  pub running : (y : ℕ) → transaction y s.running ≡ kept_by (fate R y) (done_by R y)
   pub none_before : (y : ℕ) → fate R y ≡ Unused → (marked R y ≡ []) × (placed R y ≡ [])
   pub deleted : (H : History) → IsHistory R H → s.deleted ≡ map (λ (c : Commit). c.deleted) H
   pub inserted : (H : History) → IsHistory R H → s.inserted ≡ map (λ (c : Commit). names c.inserted) H
@@ -43,9 +39,9 @@ pub record Kept (R : Log) (s : StateValue) : Type 0 where
 abbrev rec_of : ℕ → ℕ → Kind → List Change → Record
 rec_of n x k cs = record { number = n; xid = x; kind = k; changes = cs }
 
--- the state with the number and the uses that follow
+-- the state with the number, the uses and the lengths that follow
 abbrev before : ℕ → List Change → StateValue → StateValue
-before n cs s = record s { records = n; uses = uses_after n cs s.uses }
+before n cs s = record s { records = n; uses = uses_after n cs s.uses; sizes = sizes_after cs s.sizes }
 
 -- the kinds that change neither a transaction nor a number
 abbrev IsQuiet : Kind → Type 0
@@ -99,7 +95,7 @@ pub passes : (a b c : ℕ) → a ≡ b → a < c → ((a == b) && nat_lt a c) �
 passes a b c e l = grind (arith, e, l)
 
 fresh_work : (R : Log) (y : ℕ) → (marked R y ≡ []) × (placed R y ≡ [])
-    → work R y ≡ record { xid = y; deleted = []; inserted = [] }
+    → done_by R y ≡ record { xid = y; deleted = []; inserted = [] }
 fresh_work R y e = ap₂ (λ (ds is : List Doc). record
     { xid = y; deleted = map name_of ds; inserted = map name_of is }) e.0 e.1
 
@@ -108,17 +104,17 @@ running_unused e = cc
 
 begin_running : (R : Log) (s : StateValue) (x y : ℕ) → Kept R s → fate R x ≡ Unused
     → transaction y (s.running ++ record { xid = x; deleted = []; inserted = [] } ∷ []) ≡ kept_by
-    (cond (x == y) Running (fate R y)) (work R y)
+    (cond (x == y) Running (fate R y)) (done_by R y)
 begin_running R s x y k u =
     let t : Transaction = record { xid = x; deleted = []; inserted = [] } in
-    joined_at s.running t y (k.running x ∙ ap (λ f. kept_by f (work R x)) u)
+    joined_at s.running t y (k.running x ∙ ap (λ f. kept_by f (done_by R x)) u)
     ∙ elim (same_or_other x y) [
       | inl e ↦ on_same x y (Some t) (transaction y s.running) e
           ∙ ap Some (ap (λ (z : ℕ). record { xid = z; deleted = []; inserted = [] }) e
           ∙ sym (fresh_work R y (k.none_before y (subst (λ z. fate R z ≡ Unused) e u))))
-          ∙ sym (ap (λ f. kept_by f (work R y)) (on_same x y Running (fate R y) e))
+          ∙ sym (ap (λ f. kept_by f (done_by R y)) (on_same x y Running (fate R y) e))
       | inr d ↦ on_other x y (Some t) (transaction y s.running) d ∙ k.running y
-          ∙ sym (ap (λ f. kept_by f (work R y)) (on_other x y Running (fate R y) d))
+          ∙ sym (ap (λ f. kept_by f (done_by R y)) (on_other x y Running (fate R y) d))
     ]
 
 begin_none : (R : Log) (s : StateValue) (x y : ℕ) → Kept R s → cond (x == y) Running (fate R y) ≡ Unused
@@ -163,20 +159,20 @@ inserted_names P (d ∷ ds) [] a = absurd a
 inserted_names P (d ∷ ds) (x ∷ xs) a = ap₂ ◌∷◌ (sym a.0) (inserted_names P ds xs a.2)
 
 found_work : (R : Log) (s : StateValue) (x : ℕ) → Kept R s → fate R x ≡ Running
-    → transaction x s.running ≡ Some (work R x)
-found_work R s x k runs = k.running x ∙ ap (λ f. kept_by f (work R x)) runs
+    → transaction x s.running ≡ Some (done_by R x)
+found_work R s x k runs = k.running x ∙ ap (λ f. kept_by f (done_by R x)) runs
 
 has_begun : (R : Log) (s : StateValue) (x : ℕ) → Kept R s → fate R x ≡ Running → fate_at s.fates x ≢ Unused
 has_begun R s x k runs e = running_unused (sym runs ∙ sym (k.fates x) ∙ e)
 
 -- what is left where transaction x ends with this fate
 ends_running : (R : Log) (s : StateValue) (x y : ℕ) (f : Fate) → Kept R s → ((t : Transaction) → kept_by f t ≡ None)
-    → transaction y (without x s.running) ≡ kept_by (cond (x == y) f (fate R y)) (work R y)
+    → transaction y (without x s.running) ≡ kept_by (cond (x == y) f (fate R y)) (done_by R y)
 ends_running R s x y f k none = without_at s.running x y ∙ elim (same_or_other x y) [
-  | inl e ↦ on_same x y None (transaction y s.running) e ∙ sym (none (work R y))
-      ∙ sym (ap (λ g. kept_by g (work R y)) (on_same x y f (fate R y) e))
+  | inl e ↦ on_same x y None (transaction y s.running) e ∙ sym (none (done_by R y))
+      ∙ sym (ap (λ g. kept_by g (done_by R y)) (on_same x y f (fate R y) e))
   | inr d ↦ on_other x y None (transaction y s.running) d ∙ k.running y
-      ∙ sym (ap (λ g. kept_by g (work R y)) (on_other x y f (fate R y) d))
+      ∙ sym (ap (λ g. kept_by g (done_by R y)) (on_other x y f (fate R y) d))
 ]
 
 ends_none : (R : Log) (s : StateValue) (x y : ℕ) (f : Fate) → Kept R s → f ≢ Unused
@@ -219,7 +215,7 @@ commit_kept R s n x cs number runs k =
           ∙ sym (map-append (λ (c : Commit). names c.inserted) h.0 (h.1 ∷ []))
           ∙ sym (ap (map (λ (c : Commit). names c.inserted)) h.4);
     } in
-    let tested : Kept (rec_of n x (kind.Commit c) cs ∷ R) (committed c x (Some (work R x)) s1) =
+    let tested : Kept (rec_of n x (kind.Commit c) cs ∷ R) (committed c x (Some (done_by R x)) s1) =
     subst (λ b. Kept (rec_of n x (kind.Commit c) cs ∷ R) (if b then s' else s1))
     (sym (is_same c (suc (length s.deleted)) (ap suc (sym k.commits_are)))) kept in
     subst (λ o. Kept (rec_of n x (kind.Commit c) cs ∷ R) (committed c x o s1)) (sym (found_work R s x k runs)) tested
@@ -236,7 +232,7 @@ abort_kept R s n x cs number runs k =
     let same : (y : ℕ) → cond (x == 0) (ended (fate R y)) (cond (x == y) Aborted (fate R y)) ≡ cond (x == y) Aborted
     (fate R y) =
     λ y. on_other x 0 (ended (fate R y)) (cond (x == y) Aborted (fate R y)) off in
-    let kept : Kept (rec_of n x kind.Abort cs ∷ R) (aborted x (Some (work R x)) (before n cs s)) = record {
+    let kept : Kept (rec_of n x kind.Abort cs ∷ R) (aborted x (Some (done_by R x)) (before n cs s)) = record {
       records = number;
       fates = λ y. with_fate_at s.fates x y Aborted (has_begun R s x k runs) ∙ ap (cond (x == y) Aborted) (k.fates y)
           ∙ sym (same y);
@@ -244,7 +240,7 @@ abort_kept R s n x cs number runs k =
       next_serial_is = k.next_serial_is;
       redo_is = k.redo_is;
       commits_are = k.commits_are;
-      running = λ y. ends_running R s x y Aborted k (λ t. refl) ∙ sym (ap (λ f. kept_by f (work R y)) (same y));
+      running = λ y. ends_running R s x y Aborted k (λ t. refl) ∙ sym (ap (λ f. kept_by f (done_by R y)) (same y));
       none_before = λ y u. ends_none R s x y Aborted k (λ e. cc) (sym (same y) ∙ u);
       deleted = k.deleted;
       inserted = k.inserted;
@@ -293,16 +289,16 @@ abort_all_kept : (R : Log) (s : StateValue) (n : ℕ) (cs : List Change) → n �
     → Kept (rec_of n 0 kind.Abort cs ∷ R) (step_of (rec_of n 0 kind.Abort cs) s)
 abort_all_kept R s n cs number k =
     let all_begun : HaveBegun s.fates s.running = have_begun s.fates s.running
-    (λ y off e. off (k.running y ∙ ap (λ f. kept_by f (work R y)) (sym (k.fates y) ∙ e))) in
+    (λ y off e. off (k.running y ∙ ap (λ f. kept_by f (done_by R y)) (sym (k.fates y) ∙ e))) in
     record {
       records = number;
       fates = λ y. all_ended_at s.running s.fates y all_begun ∙ ap₂ ended_by (k.running y) (k.fates y)
-          ∙ ended_kept (fate R y) (work R y);
+          ∙ ended_kept (fate R y) (done_by R y);
       next_xid_is = ap suc (length-all_ended s.running s.fates) ∙ k.next_xid_is;
       next_serial_is = k.next_serial_is;
       redo_is = k.redo_is;
       commits_are = k.commits_are;
-      running = λ y. none_ended (fate R y) (work R y);
+      running = λ y. none_ended (fate R y) (done_by R y);
       none_before = λ y u. k.none_before y (unended (fate R y) u);
       deleted = k.deleted;
       inserted = k.inserted;
@@ -310,7 +306,7 @@ abort_all_kept R s n cs number k =
 
 -- a head is placed
 placed_running : (R : Log) (s : StateValue) (x y : ℕ) (d : Doc) → Kept R s → fate R x ≡ Running
-    → transaction y (replaced (record (work R x) { inserted = map name_of (placed R x) ++ name_of d ∷ [] }) s.running)
+    → transaction y (replaced (record (done_by R x) { inserted = map name_of (placed R x) ++ name_of d ∷ [] }) s.running)
     ≡ kept_by (fate R y) (record {
       xid = y;
       deleted = map name_of (marked R y);
@@ -318,13 +314,13 @@ placed_running : (R : Log) (s : StateValue) (x y : ℕ) (d : Doc) → Kept R s �
           (cond (x == y) (placed R y ++ d ∷ []) (placed R y));
     })
 placed_running R s x y d k runs =
-    let t : Transaction = record (work R x) { inserted = map name_of (placed R x) ++ name_of d ∷ [] } in
+    let t : Transaction = record (done_by R x) { inserted = map name_of (placed R x) ++ name_of d ∷ [] } in
     let with_placed : ℕ → List Doc
     → Transaction = λ z ds. record { xid = z; deleted = map name_of (marked R z); inserted = map name_of ds } in
-    replaced_at s.running t (work R x) y (found_work R s x k runs)
+    replaced_at s.running t (done_by R x) y (found_work R s x k runs)
     ∙ elim (same_or_other x y) [
       | inl e ↦ on_same x y (Some t) (transaction y s.running) e
-          ∙ ap (λ (ns : List Name). Some (record (work R x) { inserted = ns }))
+          ∙ ap (λ (ns : List Name). Some (record (done_by R x) { inserted = ns }))
           (sym (map-append name_of (placed R x) (d ∷ [])))
           ∙ sym (ap (λ f. kept_by f (with_placed x (placed R x ++ d ∷ []))) runs)
           ∙ ap (λ z. kept_by (fate R z) (with_placed z (placed R z ++ d ∷ []))) e
@@ -352,7 +348,7 @@ place_kept R s n x cs item serial number runs next small k =
       next_serial = suc serial;
       placed = s.placed ++ record { item = item; xid = x } ∷ [];
       ends = s.ends ++ 0 ∷ [];
-      running = replaced (record (work R x) { inserted = map name_of (placed R x) ++ name_of d ∷ [] }) s.running;
+      running = replaced (record (done_by R x) { inserted = map name_of (placed R x) ++ name_of d ∷ [] }) s.running;
       current = Some (Rattle.core_state.specs.Documents.page_of item);
       highest = Rattle.core_state.specs.States.higher (Rattle.core_state.specs.Documents.page_of item) s.highest;
       heaps = Rattle.core_state.specs.States.with_page (Rattle.core_state.specs.Documents.page_of item) s.heaps;
@@ -369,7 +365,7 @@ place_kept R s n x cs item serial number runs next small k =
       deleted = k.deleted;
       inserted = k.inserted;
     } in
-    let tested : Kept (rec_of n x (kind.PlaceHead item serial) cs ∷ R) (placed_head (Some (work R x)) d s1) =
+    let tested : Kept (rec_of n x (kind.PlaceHead item serial) cs ∷ R) (placed_head (Some (done_by R x)) d s1) =
     subst (λ b. Kept (rec_of n x (kind.PlaceHead item serial) cs ∷ R) (if b then s' else s1))
     (sym (passes serial s.next_serial (suc last_serial) here small)) kept in
     subst (λ o. Kept (rec_of n x (kind.PlaceHead item serial) cs ∷ R) (placed_head o d s1))
@@ -377,7 +373,7 @@ place_kept R s n x cs item serial number runs next small k =
 
 -- a document is marked
 marked_running : (R : Log) (s : StateValue) (x y : ℕ) (d : Doc) → Kept R s → fate R x ≡ Running
-    → transaction y (replaced (record (work R x) { deleted = map name_of (marked R x) ++ name_of d ∷ [] }) s.running)
+    → transaction y (replaced (record (done_by R x) { deleted = map name_of (marked R x) ++ name_of d ∷ [] }) s.running)
     ≡ kept_by (fate R y) (record {
       xid = y;
       deleted = map name_of (cond (x == y) (marked R y ++ d ∷ []) (marked R y));
@@ -385,13 +381,13 @@ marked_running : (R : Log) (s : StateValue) (x y : ℕ) (d : Doc) → Kept R s �
           (placed R y);
     })
 marked_running R s x y d k runs =
-    let t : Transaction = record (work R x) { deleted = map name_of (marked R x) ++ name_of d ∷ [] } in
+    let t : Transaction = record (done_by R x) { deleted = map name_of (marked R x) ++ name_of d ∷ [] } in
     let with_marked : ℕ → List Doc
     → Transaction = λ z ds. record { xid = z; deleted = map name_of ds; inserted = map name_of (placed R z) } in
-    replaced_at s.running t (work R x) y (found_work R s x k runs)
+    replaced_at s.running t (done_by R x) y (found_work R s x k runs)
     ∙ elim (same_or_other x y) [
       | inl e ↦ on_same x y (Some t) (transaction y s.running) e
-          ∙ ap (λ (ns : List Name). Some (record (work R x) { deleted = ns }))
+          ∙ ap (λ (ns : List Name). Some (record (done_by R x) { deleted = ns }))
           (sym (map-append name_of (marked R x) (d ∷ [])))
           ∙ sym (ap (λ f. kept_by f (with_marked x (marked R x ++ d ∷ []))) runs)
           ∙ ap (λ z. kept_by (fate R z) (with_marked z (marked R z ++ d ∷ []))) e
@@ -415,7 +411,7 @@ mark_kept : (R : Log) (s : StateValue) (n x : ℕ) (cs : List Change) (item seri
 mark_kept R s n x cs item serial number runs k =
     let d : Doc = record { item = item; serial = serial } in
     let s1 : StateValue = before n cs s in
-    let kept : Kept (rec_of n x (kind.MarkDeleted item serial) cs ∷ R) (marked_head (Some (work R x)) d s1) = record {
+    let kept : Kept (rec_of n x (kind.MarkDeleted item serial) cs ∷ R) (marked_head (Some (done_by R x)) d s1) = record {
       records = number;
       fates = k.fates;
       next_xid_is = k.next_xid_is;

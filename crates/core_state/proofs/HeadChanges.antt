@@ -13,7 +13,7 @@ use Rattle.page_types.specs.declared.record.Kind.TheVariants as kind
 use Rattle.core_state.specs.Log.{changed}
 use Rattle.core_state.specs.Documents.{Doc, slot_of, name_of}
 use Rattle.core_state.specs.Known.{Known}
-use Rattle.core_state.specs.Changes.{left_with, IsNew, IsOwn, IsHeadChange}
+use Rattle.core_state.specs.Changes.{made_with, IsNew, IsOwn, IsHeadChange}
 use Rattle.core_state.specs.HeapRows.{IsMarkDeletedHere, IsPutOverflowHere}
 use Rattle.core_state.specs.Inner.HeadChanges.{HasHead, LeavesInSlot, LeavesPart, MayBeMarked, MayBePut}
 use Rattle.core_state.specs.declared.answers.Fate.TheVariants.{Running}
@@ -76,7 +76,7 @@ mark_of k r d before after e p = record {
   head = p.head;
   number = p.may.number;
   old = p.old;
-  left = p.new;
+  heap_then = p.new;
   kind_is = e;
   pages = p.pages;
   runs = p.runs;
@@ -107,14 +107,14 @@ mark_parts : (k : Known) (r : Record) (before after : List Page) → (w : IsMark
 mark_parts k r before after w = record {
   head = w.head;
   old = w.old;
-  new = w.left;
+  new = w.heap_then;
   pages = w.pages;
   runs = w.runs;
   before_is = w.before_is;
   after_is = w.after_is;
-  has = head_changed r w.doc w.old w.left w.head (record w.head { deleted_by = r.xid }) w.head_after;
+  has = head_changed r w.doc w.old w.heap_then w.head (record w.head { deleted_by = r.xid }) w.head_after;
   may = record { number = w.number; inserted = w.inserted; unmarked = w.unmarked };
-  leaves = head_left r w.doc w.old w.left w.head (record w.head { deleted_by = r.xid }) w.head_after;
+  leaves = head_left r w.doc w.old w.heap_then w.head (record w.head { deleted_by = r.xid }) w.head_after;
 }
 
 pub mark_back : (k : Known) (r : Record) (d : Doc) (n : Name) (before after : List Page) → n ≡ name_of d
@@ -144,15 +144,15 @@ pub record PutParts (since : ℕ) (k : Known) (r : Record) (n : Name) (before af
   pub page : ℕ
   pub old : Page
   pub was : Page
-  pub left : Page
+  pub heap_then : Page
   pub new : Page
   pub pages : changed r ≡ n.page ∷ page ∷ []
   pub may : MayBePut k.fates r.xid head.inserted_by head.bytes
   pub is_new : IsNew k.uses since page
   pub before_is : before ≡ old ∷ was ∷ []
-  pub after_is : after ≡ left ∷ new ∷ []
+  pub after_is : after ≡ heap_then ∷ new ∷ []
   pub has : HasHead old n head
-  pub leaves : LeavesInSlot r n.slot old (record head { overflow = page }) left
+  pub leaves : LeavesInSlot r n.slot old (record head { overflow = page }) heap_then
   pub part : LeavesPart r head.overflow new
 
 pub own_of : (k : Known) (r : Record) (h : Head) → MayBePut k.fates r.xid h.inserted_by h.bytes → IsOwn k r h
@@ -168,7 +168,7 @@ put_of since k r d before after e p = record {
   part = p.part.part;
   old = p.old;
   was = p.was;
-  left = p.left;
+  heap_then = p.heap_then;
   kind_is = e;
   pages = p.pages;
   own = own_of k r p.head p.may;
@@ -176,8 +176,8 @@ put_of since k r d before after e p = record {
   full = p.part.full;
   is_new = p.is_new;
   before_is = p.before_is;
-  head_after = head_change r d p.old p.left p.head (record p.head { overflow = p.page }) p.has p.leaves;
-  after_is = p.after_is ∙ ap (λ (x : Page). p.left ∷ x ∷ []) p.part.after;
+  head_after = head_change r d p.old p.heap_then p.head (record p.head { overflow = p.page }) p.has p.leaves;
+  after_is = p.after_is ∙ ap (λ (x : Page). p.heap_then ∷ x ∷ []) p.part.after;
 }
 
 pub put_told : (since : ℕ) (k : Known) (r : Record) (d : Doc) (n : Name) (before after : List Page) → n ≡ name_of d
@@ -200,15 +200,15 @@ put_parts since k r before after w = record {
   page = w.new;
   old = w.old;
   was = w.was;
-  left = w.left;
-  new = left_with r w.head.overflow (body.Overflow w.part);
+  heap_then = w.heap_then;
+  new = made_with r w.head.overflow (body.Overflow w.part);
   pages = w.pages;
   may = record { own = w.own.by; runs = w.own.runs; long = w.long };
   is_new = w.is_new;
   before_is = w.before_is;
   after_is = w.after_is;
-  has = head_changed r w.doc w.old w.left w.head (record w.head { overflow = w.new }) w.head_after;
-  leaves = head_left r w.doc w.old w.left w.head (record w.head { overflow = w.new }) w.head_after;
+  has = head_changed r w.doc w.old w.heap_then w.head (record w.head { overflow = w.new }) w.head_after;
+  leaves = head_left r w.doc w.old w.heap_then w.head (record w.head { overflow = w.new }) w.head_after;
   part = record { part = w.part; full = w.full; after = refl };
 }
 
@@ -229,11 +229,11 @@ pub record PutLeft (k : Known) (r : Record) (n : Name) (page : ℕ) (old left ne
 -- of the same pages, where page and head are those that are found
 pub put_left : (since : ℕ) (k : Known) (r : Record) (n : Name) (before after : List Page) (page : ℕ)
     (old left new : Page) (h : Head) → (p : PutParts since k r n before after) → p.page ≡ page → p.old ≡ old
-    → p.left ≡ left → p.new ≡ new → HasHead old n h → PutLeft k r n page old left new h
+    → p.heap_then ≡ left → p.new ≡ new → HasHead old n h → PutLeft k r n page old left new h
 put_left since k r n before after page old left new h p a b c d has =
     let there : HasHead old n p.head = subst (λ (x : Page). HasHead x n p.head) b p.has in
     let one : p.head ≡ h = one_head old n p.head h there has in
-    let same : PutLeft k r n p.page p.old p.left p.new p.head = record {
+    let same : PutLeft k r n p.page p.old p.heap_then p.new p.head = record {
       may = p.may;
       part = p.part;
       leaves = p.leaves;
@@ -241,8 +241,8 @@ put_left since k r n before after page old left new h p a b c d has =
     subst (λ (x : Head). PutLeft k r n page old left new x) one
     (subst (λ (x : Page). PutLeft k r n page old left x p.head) d
     (subst (λ (x : Page). PutLeft k r n page old x p.new p.head) c
-    (subst (λ (x : Page). PutLeft k r n page x p.left p.new p.head) b
-    (subst (λ (x : ℕ). PutLeft k r n x p.old p.left p.new p.head) a same))))
+    (subst (λ (x : Page). PutLeft k r n page x p.heap_then p.new p.head) b
+    (subst (λ (x : ℕ). PutLeft k r n x p.old p.heap_then p.new p.head) a same))))
 
 -- a list of two
 pub two_told : (xs : List Page) (x y : Page) → length xs ≡ 2 → x ≡ get_or xs 0 x → y ≡ get_or xs 1 y

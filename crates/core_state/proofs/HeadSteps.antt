@@ -13,7 +13,7 @@ use Rattle.page_types.specs.declared.record.Kind.TheVariants as kind
 use Rattle.core_state.specs.Log.{Log, Pages, In, changed}
 use Rattle.core_state.specs.Documents.{Doc, Has, page_of, slot_of, item_at, head_of, doc_at}
 use Rattle.core_state.specs.Known.{known, use_in}
-use Rattle.core_state.specs.Changes.{left_with, IsNew, PutsSlot, IsHeadChange}
+use Rattle.core_state.specs.Changes.{made_with, IsNew, PutsSlot, IsHeadChange}
 use Rattle.core_state.specs.HeapRows.{IsNewHead, IsPlaceHead, IsPutOverflow, IsMarkDeleted}
 use Rattle.core_state.specs.PendingRows.{IsPutPending, IsLinkHere, IsLinkPending}
 use Rattle.core_state.specs.VacuumRows.{IsDropped, IsDropPage, IsGoneFrom, SlotLoses, IsFreeSlots}
@@ -173,7 +173,7 @@ module _ (R : Log) (P Q : Pages) (r : Record) (floor since : ℕ) (touch : (p : 
       let d = x.here.doc in
       let a = page_of d.item in
       let f = one_page P (changed r) a x.here.old x.here.pages x.here.before_is in
-      let g = one_page Q (changed r) a (left_with r x.here.right (body.Heap x.here.new_slots)) x.here.pages
+      let g = one_page Q (changed r) a (made_with r x.here.right (body.Heap x.here.new_slots)) x.here.pages
       x.here.after_is in
       let was : slots_of (P a) ≡ x.here.slots = elim x.here.page [
         | inl o ↦ ap slots_of f ∙ ap slots_in o.0
@@ -195,8 +195,8 @@ module _ (R : Log) (P Q : Pages) (r : Record) (floor since : ℕ) (touch : (p : 
   put_turned x =
       let d = x.here.doc in
       let f = two_pages P (changed r) (page_of d.item) x.here.new x.here.old x.here.was x.here.pages x.here.before_is in
-      let g = two_pages Q (changed r) (page_of d.item) x.here.new x.here.left _ x.here.pages x.here.after_is in
-      turns (kind.PutOverflow d.item d.serial) d x.here.old x.here.left x.here.head _ x.here.kind_is (λ p e. e) f.0 g.0
+      let g = two_pages Q (changed r) (page_of d.item) x.here.new x.here.heap_then _ x.here.pages x.here.after_is in
+      turns (kind.PutOverflow d.item d.serial) d x.here.old x.here.heap_then x.here.head _ x.here.kind_is (λ p e. e) f.0 g.0
       x.here.head_after refl
 
   pub mark_turned : (x : IsMarkDeleted R P Q r) → HeadTurned P Q x.here.doc x.here.head (record x.here.head
@@ -204,8 +204,8 @@ module _ (R : Log) (P Q : Pages) (r : Record) (floor since : ℕ) (touch : (p : 
   mark_turned x =
       let d = x.here.doc in
       let f = one_page P (changed r) (page_of d.item) x.here.old x.here.pages x.here.before_is in
-      let g = one_page Q (changed r) (page_of d.item) x.here.left x.here.pages x.here.after_is in
-      turns (kind.MarkDeleted d.item d.serial) d x.here.old x.here.left x.here.head _ x.here.kind_is (λ p e. e) f g
+      let g = one_page Q (changed r) (page_of d.item) x.here.heap_then x.here.pages x.here.after_is in
+      turns (kind.MarkDeleted d.item d.serial) d x.here.old x.here.heap_then x.here.head _ x.here.kind_is (λ p e. e) f g
       x.here.head_after refl
 
   pub rows_turned : (x : IsPutPending R P Q r since) → HeadTurned P Q x.here.doc x.here.head (record x.here.head
@@ -213,8 +213,8 @@ module _ (R : Log) (P Q : Pages) (r : Record) (floor since : ℕ) (touch : (p : 
   rows_turned x =
       let d = x.here.doc in
       let f = two_pages P (changed r) (page_of d.item) x.here.new x.here.old x.here.was x.here.pages x.here.before_is in
-      let g = two_pages Q (changed r) (page_of d.item) x.here.new x.here.left _ x.here.pages x.here.after_is in
-      turns (kind.PutPending d.item d.serial) d x.here.old x.here.left x.here.head _ x.here.kind_is (λ p e. e) f.0 g.0
+      let g = two_pages Q (changed r) (page_of d.item) x.here.new x.here.heap_then _ x.here.pages x.here.after_is in
+      turns (kind.PutPending d.item d.serial) d x.here.old x.here.heap_then x.here.head _ x.here.kind_is (λ p e. e) f.0 g.0
       x.here.head_after refl
 
   -- the heap page of a link, before and behind it
@@ -234,9 +234,9 @@ module _ (R : Log) (P Q : Pages) (r : Record) (floor since : ℕ) (touch : (p : 
   link_turned x =
       let d = x.here.doc in
       let f = link_page (page_of d.item) x.here.head.private x.here.end x.here.added x.here.others x.here.old
-      x.here.left x.here.others_before x.here.others_after x.here.linked x.here.pages
+      x.here.heap_then x.here.others_before x.here.others_after x.here.linked x.here.pages
       x.here.before_is x.here.after_is in
-      turns (kind.LinkPending d.item d.serial) d x.here.old x.here.left x.here.head _ x.here.kind_is (λ p e. e) f.0 f.1
+      turns (kind.LinkPending d.item d.serial) d x.here.old x.here.heap_then x.here.head _ x.here.kind_is (λ p e. e) f.0 f.1
       x.here.head_after refl
 
   dropped_serial : (h h' : Head) (page right : ℕ) (b : Body) (g : Gone) → IsDropped h page right b g h'
@@ -249,8 +249,8 @@ module _ (R : Log) (P Q : Pages) (r : Record) (floor since : ℕ) (touch : (p : 
       let d = x.here.doc in
       let f = two_pages P (changed r) (page_of d.item) x.here.page x.here.old x.here.was x.here.pages
       x.here.before_is in
-      let g = two_pages Q (changed r) (page_of d.item) x.here.page x.here.left _ x.here.pages x.here.after_is in
-      turns (kind.DropPage d.item d.serial) d x.here.old x.here.left x.here.head x.here.head_then x.here.kind_is
+      let g = two_pages Q (changed r) (page_of d.item) x.here.page x.here.heap_then _ x.here.pages x.here.after_is in
+      turns (kind.DropPage d.item d.serial) d x.here.old x.here.heap_then x.here.head x.here.head_then x.here.kind_is
       (λ p e. e) f.0 g.0 x.here.head_after
       (dropped_serial x.here.head x.here.head_then x.here.page x.here.was.right x.here.was.body x.here.content
       x.here.dropped)
@@ -303,7 +303,7 @@ module _ (R : Log) (P Q : Pages) (r : Record) (floor since : ℕ) (touch : (p : 
   free_step x =
       let a = x.here.page in
       let f = one_page P (changed r) a x.here.old x.here.pages x.here.before_is in
-      let g = one_page Q (changed r) a (left_with r x.here.old.right (body.Heap x.here.new_slots)) x.here.pages
+      let g = one_page Q (changed r) a (made_with r x.here.old.right (body.Heap x.here.new_slots)) x.here.pages
       x.here.after_is in
       HeadStep.freed x.here.kind_is (λ i. elim (same_or_not a (page_of i)) [
         | inr d ↦ inl (ap (λ (l : List (Option Head)). slot_at l (slot_of i))

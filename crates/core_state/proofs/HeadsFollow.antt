@@ -9,7 +9,7 @@ use Rattle.page_types.specs.declared.record.Record.{Record}
 use Rattle.page_types.specs.declared.record.Kind.TheVariants as kind
 use Rattle.core_state.specs.Log.{Log, Pages, In, changed, fate, next_serial}
 use Rattle.core_state.specs.Documents.{Doc, Has, IsDead, placed, marked, page_of, slot_of, head_of, doc_at}
-use Rattle.core_state.specs.Changes.{left_with}
+use Rattle.core_state.specs.Changes.{made_with}
 use Rattle.core_state.specs.HeapRows.{IsPlaceHead, IsMarkDeleted}
 use Rattle.core_state.specs.Legal.{RowHolds}
 use Rattle.core_state.specs.Inner.HeadsKept.{HeadsKept}
@@ -49,7 +49,7 @@ places_doc R P Q r floor since row i s e =
     let same : kind.PlaceHead x.here.doc.item x.here.doc.serial ≡ kind.PlaceHead i s = sym x.here.kind_is ∙ e in
     let item : x.here.doc.item ≡ i = cc in
     let serial : x.here.doc.serial ≡ s = cc in
-    let g = one_page Q (changed r) (page_of x.here.doc.item) (left_with r x.here.right (body.Heap x.here.new_slots))
+    let g = one_page Q (changed r) (page_of x.here.doc.item) (made_with r x.here.right (body.Heap x.here.new_slots))
     x.here.pages x.here.after_is in
     let has : Has Q x.here.doc x.here.head =
     record {
@@ -71,7 +71,7 @@ marks_doc R P Q r floor since row i s e =
     let item : x.here.doc.item ≡ i = cc in
     let serial : x.here.doc.serial ≡ s = cc in
     let f = one_page P (changed r) (page_of x.here.doc.item) x.here.old x.here.pages x.here.before_is in
-    let has = head_was P Q r since x.here.doc x.here.old x.here.left x.here.head (record x.here.head {
+    let has = head_was P Q r since x.here.doc x.here.old x.here.heap_then x.here.head (record x.here.head {
       deleted_by =
           r.xid;
     }) f x.here.head_after in
@@ -246,7 +246,7 @@ module _ (n : ℕ) (R : Log) (P Q : Pages) (r : Record) (floor since : ℕ) (D :
       ∙ k in
       let item : x.here.doc.item ≡ i = cc in
       let c = x.here.head_after in
-      let g = one_page Q (changed r) (page_of x.here.doc.item) x.here.left x.here.pages x.here.after_is in
+      let g = one_page Q (changed r) (page_of x.here.doc.item) x.here.heap_then x.here.pages x.here.after_is in
       let now : head_of Q x.here.doc.item ≡ Some (record x.here.head { deleted_by = r.xid }) =
       ap (λ (q : Page). slot_at (slots_of q) (slot_of x.here.doc.item)) (g ∙ c.after) ∙ c.put.put in
       ap (λ (z : Head). z.deleted_by) (some_one h (record x.here.head { deleted_by = r.xid }) (sym e

@@ -7,16 +7,12 @@ use Rattle.page_types.specs.declared.record.Kind.TheVariants as kind
 use Rattle.page_types.specs.declared.record.Record.{Record}
 use Rattle.core_state.specs.Log.{changed, xid_bound}
 use Rattle.core_state.specs.Documents.{Doc, name_of, page_of}
-use Rattle.core_state.specs.States.{StateValue, step_of, stepped, placed_head, ended_all, transaction, uses_after, with_placed, replaced, higher, with_page, last_serial}
-use Rattle.core_state.specs.Rooms.{Held, Room, HasRoom, HasRoomFor, HasRoomForPages, HasRoomToInsert, LeavesRoom, FitsPlaced, FitsCommit}
+use Rattle.core_state.specs.States.{StateValue, step_of, stepped, placed_head, ended_all, transaction, noted, with_placed, replaced, higher, with_page, last_serial}
+use Rattle.core_state.specs.Rooms.{InMemory, Room, HasRoom, HasRoomFor, HasRoomForPages, HasRoomToInsert, LeavesRoom, FitsPlaced, FitsCommit}
 use Rattle.core_state.specs.declared.answers.Fate.TheVariants.{Running}
 use Rattle.core_state.specs.declared.transactions.Transaction.{Transaction}
 use Rattle.core_state.proofs.RunningOnes.{joined_at, replaced_at, on_same, length-all_ended}
 use Rattle.core_state.proofs.Following.{passes}
-
--- a state after the number and the uses of a record
-abbrev pub noted : Record → StateValue → StateValue
-noted r s = record s { records = r.number; uses = uses_after r.number r.changes s.uses }
 
 stepped_by : (r : Record) (k : Kind) (s : StateValue) → r.kind ≡ k → step_of r s ≡ stepped k r.xid (changed r) (noted r s)
 stepped_by r k s e = ap (λ (x : Kind). stepped x r.xid (changed r) (noted r s)) e
@@ -24,11 +20,11 @@ stepped_by r k s e = ap (λ (x : Kind). stepped x r.xid (changed r) (noted r s))
 left_by : (r : Record) (k : Kind) (old new : Room) → r.kind ≡ k → LeavesRoom r.kind r.xid old new → LeavesRoom k r.xid old new
 left_by r k old new e left = subst (λ (x : Kind). LeavesRoom x r.xid old new) e left
 
-room_by : (r : Record) (k : Kind) (h : Held) → r.kind ≡ k → HasRoomForPages h.room.pages r → HasRoomFor k r.xid (length r.changes) h → HasRoom h r
+room_by : (r : Record) (k : Kind) (h : InMemory) → r.kind ≡ k → HasRoomForPages h.room.pages r → HasRoomFor k r.xid (length r.changes) h → HasRoom h r
 room_by r k h e pages rest = record { pages = pages; rest = subst (λ (x : Kind). HasRoomFor x r.xid (length r.changes) h) (sym e) rest }
 
 -- all that run are ended
-pub room_after_abort : (h h' : Held) (r : Record) → HasRoomToInsert h → r.kind ≡ kind.Abort → r.xid ≡ 0 → h'.value ≡ step_of r h.value → LeavesRoom r.kind r.xid h.room h'.room → HasRoomToInsert h'
+pub room_after_abort : (h h' : InMemory) (r : Record) → HasRoomToInsert h → r.kind ≡ kind.Abort → r.xid ≡ 0 → h'.value ≡ step_of r h.value → LeavesRoom r.kind r.xid h.room h'.room → HasRoomToInsert h'
 room_after_abort h h' r room is zero value left =
     let kept = left_by r kind.Abort h.room h'.room is left zero in
     let now : h'.value ≡ ended_all (noted r h.value) = value ∙ stepped_by r kind.Abort h.value is ∙ on_same r.xid 0 (ended_all (noted r h.value)) _ zero in
@@ -43,11 +39,11 @@ room_after_abort h h' r room is zero value left =
       inserted = omega (arith, room.inserted, (kept.0).inserted);
     }
 
-pub begin_has_room : (h : Held) (r : Record) → HasRoomToInsert h → r.kind ≡ kind.Begin → HasRoomForPages h.room.pages r → HasRoom h r
+pub begin_has_room : (h : InMemory) (r : Record) → HasRoomToInsert h → r.kind ≡ kind.Begin → HasRoomForPages h.room.pages r → HasRoom h r
 begin_has_room h r room is pages = room_by r kind.Begin h is pages (room.fates, room.running)
 
 -- the transaction that has begun has no names
-begun_one : (h : Held) (s : StateValue) (r : Record) → HasRoomToInsert h → r.kind ≡ kind.Begin → r.xid ≡ suc (length h.value.fates) → r.xid < xid_bound → s ≡ step_of r h.value
+begun_one : (h : InMemory) (s : StateValue) (r : Record) → HasRoomToInsert h → r.kind ≡ kind.Begin → r.xid ≡ suc (length h.value.fates) → r.xid < xid_bound → s ≡ step_of r h.value
     → transaction r.xid s.running ≡ Some (record { xid = r.xid; deleted = []; inserted = [] })
 begun_one h s r room is next bound value =
     let t : Transaction = record { xid = r.xid; deleted = []; inserted = [] } in
@@ -60,7 +56,7 @@ begun_one h s r room is next bound value =
 fits_placed : (o : Option Transaction) (t : Transaction) (m : Room) → o ≡ Some t → FitsPlaced m t → IfSome o (FitsPlaced m)
 fits_placed o t m is fits = subst (λ (x : Option Transaction). IfSome x (FitsPlaced m)) (sym is) fits
 
-pub place_has_room : (h h' : Held) (b r : Record) (item serial : ℕ) → HasRoomToInsert h → b.kind ≡ kind.Begin → b.xid ≡ suc (length h.value.fates) → b.xid < xid_bound
+pub place_has_room : (h h' : InMemory) (b r : Record) (item serial : ℕ) → HasRoomToInsert h → b.kind ≡ kind.Begin → b.xid ≡ suc (length h.value.fates) → b.xid < xid_bound
     → h'.value ≡ step_of b h.value → LeavesRoom b.kind b.xid h.room h'.room → r.kind ≡ kind.PlaceHead item serial → r.xid ≡ b.xid → HasRoomForPages h'.room.pages r → HasRoom h' r
 place_has_room h h' b r item serial room begins next bound value left is own pages =
     let kept = left_by b kind.Begin h.room h'.room begins left in
@@ -104,7 +100,7 @@ fits_commit o m one deletes inserts inserted = subst (λ (x : Option Transaction
   inserted = omega (arith, one.inserted);
 })
 
-pub commit_has_room : (h h' h2 : Held) (b p r : Record) (item serial n : ℕ) → HasRoomToInsert h → b.kind ≡ kind.Begin → b.xid ≡ suc (length h.value.fates) → b.xid < xid_bound
+pub commit_has_room : (h h' h2 : InMemory) (b p r : Record) (item serial n : ℕ) → HasRoomToInsert h → b.kind ≡ kind.Begin → b.xid ≡ suc (length h.value.fates) → b.xid < xid_bound
     → h'.value ≡ step_of b h.value → LeavesRoom b.kind b.xid h.room h'.room → p.kind ≡ kind.PlaceHead item serial → p.xid ≡ b.xid
     → h2.value ≡ step_of p h'.value → LeavesRoom p.kind p.xid h'.room h2.room → r.kind ≡ kind.Commit n → r.xid ≡ b.xid → HasRoomForPages h2.room.pages r → HasRoom h2 r
 commit_has_room h h' h2 b p r item serial n room begins next bound value left places own value2 left2 is own2 pages =

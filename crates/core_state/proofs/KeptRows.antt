@@ -13,7 +13,7 @@ use Rattle.page_types.specs.declared.record.Kind.TheVariants as kind
 use Rattle.core_state.specs.Log.{Log, Pages, In, changed}
 use Rattle.core_state.specs.Documents.{Doc, Has, page_of}
 use Rattle.core_state.specs.Index.{Line}
-use Rattle.core_state.specs.Changes.{left_with}
+use Rattle.core_state.specs.Changes.{made_with}
 use Rattle.core_state.specs.PendingRows.{IsPutPending, IsAddRow, IsLinkHere, IsLinkPending, IsShift}
 use Rattle.core_state.specs.Legal.{RowHolds}
 use Rattle.core_state.specs.Inner.PageKinds.{IsHeap, IsOverflow, IsPending, IsMeta, IsTree, IsDeleted, PutsRows, ChangesLine, IsChanged, Touched}
@@ -63,10 +63,10 @@ module _ (R : Log) (P Q : Pages) (r : Record) (floor since : ℕ) (row : RowHold
       let x : IsPutPending R P Q r since = kind_row R P Q r floor since (kind.PutPending i s) e row in
       let h = page_of x.here.doc.item in
       let c = x.here.head_after in
-      let g = two_pages Q (changed r) h x.here.new x.here.left (left_with r x.here.head.private
+      let g = two_pages Q (changed r) h x.here.new x.here.heap_then (made_with r x.here.head.private
       (body.Pending x.here.rows)) x.here.pages x.here.after_is in
       elim (subst (In q) x.here.pages on) [
-        | inl f ↦ absurd (heap_rows (Q h).body (heap_at Q h x.here.left c.new_slots g.0 (ap (λ (p : Page). p.body)
+        | inl f ↦ absurd (heap_rows (Q h).body (heap_at Q h x.here.heap_then c.new_slots g.0 (ap (λ (p : Page). p.body)
             c.after)) w (subst (λ (z : ℕ). In w (rows_of (Q z))) f m))
         | inr (inl f) ↦ record {
           doc = x.here.doc;
@@ -136,7 +136,7 @@ module _ (R : Log) (P Q : Pages) (r : Record) (floor since : ℕ) (row : RowHold
         | inl f ↦ absurd (pending_not_heap (P q).body is (subst (λ (z : ℕ). IsHeap (P z).body) (sym f)
             (has_heap x.here.doc x.here.head t.was)))
         | inr others ↦ inl (subst (In w) (link_rows h x.here.head.private x.here.end x.here.added x.here.others
-            x.here.old x.here.left x.here.others_before x.here.others_after x.here.linked x.here.pages
+            x.here.old x.here.heap_then x.here.others_before x.here.others_after x.here.linked x.here.pages
             x.here.before_is x.here.after_is q others is) m)
       ]
     where

@@ -10,7 +10,7 @@ use Rattle.core_state.specs.Inner.Lowest.{EndsUsed}
 use Rattle.core_state.specs.declared.answers.PageUse.{PageUse}
 use Rattle.core_state.specs.declared.answers.PageUse.TheVariants as usage
 use Rattle.core_state.proofs.LowestUse.{use_in_either}
-use Rattle.core_state.proofs.PageUses.{use_set, use_other}
+use Rattle.core_state.proofs.PutLists.{put_here, put_else}
 use Rattle.core_state.proofs.RunningOnes.{same_or_other, below_or_past}
 
 length-with_use : (us : List PageUse) (p : ℕ) (u : PageUse) → length (with_use p u us) ≡ length us + (suc p - length us)
@@ -23,8 +23,8 @@ ends_put : (us : List PageUse) (p : ℕ) (u : PageUse) → u ≢ usage.Unused �
 ends_put us p u new old n is e =
     let size : length us + (suc p - length us) ≡ suc n = sym (length-with_use us p u) ∙ is in
     elim (same_or_other n p) [
-      | inl f ↦ new (sym (use_set us p u) ∙ ap (λ (q : ℕ). get_or (with_use p u us) q usage.Unused) (sym f) ∙ e)
-      | inr d ↦ old n (omega (arith, size, d)) (sym (use_other us p n u d) ∙ e)
+      | inl f ↦ new (sym (put_here usage.Unused us p u) ∙ ap (λ (q : ℕ). get_or (with_use p u us) q usage.Unused) (sym f) ∙ e)
+      | inr d ↦ old n (omega (arith, size, d)) (sym (put_else usage.Unused us p n u d) ∙ e)
     ]
 
 ends_either : (b : Bool) (us : List PageUse) (p : ℕ) (u : PageUse) → u ≢ usage.Unused → EndsUsed us

@@ -1,4 +1,4 @@
--- A page that a step leaves has a spelling as the record leaves it: the stamp and a head's serial change no length.
+-- A page that a step leaves has a spelling as the record makes it: the stamp and a head's serial change no length.
 use Rattle.std.proofs.Common.{◌≡◌, ◌≢◌, ◌^◌, ◌<◌, ℕ, zero, suc, List, [], ◌∷◌, ◌++◌, length, refl, ap, arith}
 use Rattle.std.specs.Prelude.{Option, Some, None}
 use Rattle.std.specs.List.{AllByRecursion, flat_map}
@@ -15,7 +15,7 @@ use Rattle.page_types.specs.declared.record.Kind.TheVariants as kind
 use Rattle.page_types.proofs.Framing.{length-u64_bytes}
 use Rattle.core_state.specs.Documents.{slot_of}
 use Rattle.core_state.specs.Allowed.{with_serial, numbered, drawn_body}
-use Rattle.core_state.specs.Laws.{LeftIsPage}
+use Rattle.core_state.specs.Laws.{MadeIsPage}
 
 -- a slot with another serial
 serial_slot : (h : Option Head) (serial : ℕ) → serial < 2 ^ 64 → IsSlot h → IsSlot (with_serial h serial)
@@ -141,6 +141,6 @@ drawn_page (kind.PlaceHead item serial) right stamp number b is_kind small off i
     item serial b is_kind.1 small off is
 drawn_page _ right stamp number b is_kind small off is = stamped right stamp number b small off is
 
-pub left_is_page : LeftIsPage
-left_is_page r c is_record off is = drawn_page r.kind c.right c.stamp r.number c.body is_record.kind is_record.number
+pub made_is_page : MadeIsPage
+made_is_page r c is_record off is = drawn_page r.kind c.right c.stamp r.number c.body is_record.kind is_record.number
     off is

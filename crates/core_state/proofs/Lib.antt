@@ -34,6 +34,7 @@ mod WorkedPending
 mod WorkedMaintenance
 mod WorkedTrees
 mod WorkedFacts
+mod WorkedStates
 mod UseSteps
 mod RisingPages
 mod RisingSearch
@@ -41,10 +42,15 @@ mod LowestUse
 mod LastUses
 mod GreatestNodes
 mod PageRanks
+mod PutLists
+mod PageRooms
+mod HeapRooms
+mod PageSizes
 mod DocumentLives
 mod LifeCases
 mod LivesFollow
 mod PlacedHeads
+mod PlacedNames
 mod HeadChanges
 mod Law
 mod TouchedPages

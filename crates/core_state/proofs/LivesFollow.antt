@@ -11,7 +11,7 @@ use Rattle.core_state.specs.Log.{Log, Pages, In, changed, fate, next_serial, ser
 use Rattle.core_state.specs.Documents.{Doc, page_of, name_of, placed, marked, doc_at}
 use Rattle.core_state.specs.Legal.{RowHolds, RowsAreValid}
 use Rattle.core_state.specs.Lives.{IsLife, IsHeapPage, first_end, with_ends, life_by, life_in}
-use Rattle.core_state.specs.States.{StateValue, fate_of, transaction, committed, placed_head, uses_after, with_page, stepped, step_of, state_of, life_of}
+use Rattle.core_state.specs.States.{StateValue, fate_of, transaction, committed, placed_head, noted, done_by, with_page, stepped, step_of, state_of, life_of}
 use Rattle.core_state.specs.Inner.HeadsKept.{HeadsKept}
 use Rattle.core_state.specs.Inner.LivesKept.{IsPlacedAt, IsEnd, LivesKept}
 use Rattle.core_state.specs.declared.answers.Fate.{Fate}
@@ -23,7 +23,7 @@ use Rattle.core_state.proofs.HeadsFollow.{marks_doc}
 use Rattle.core_state.proofs.SteadyEnds.{heads_kept}
 use Rattle.core_state.proofs.RisingSearch.{in_with, in_still, in_back}
 use Rattle.core_state.proofs.RunningOnes.{on_same}
-use Rattle.core_state.proofs.Following.{Kept, kept, work}
+use Rattle.core_state.proofs.Following.{Kept, kept}
 use Rattle.core_state.proofs.DocumentLives.{AnEnd, an_end, length-with_ends, suc_end, life_told}
 use Rattle.core_state.proofs.LifeCases.{IsOther, KindCase, kind_case, other_places, other_commits, other_serial, SameLists, stepped_same, Placing, placing_of, Committing, committing_of, runs_of, get_front, get_last, get_back, get_within, in_named, named_in, running_committed}
 
@@ -222,10 +222,6 @@ module _ (R : Log) (P Q : Pages) (r : Record) (floor since n : ℕ) (D : HeadsKe
                   (subst (λ (z : ℕ). In d (marked R z)) (sym x) (same_marked y d i)))) (L.ended k p at))
             ]
 
--- the state after the number and the uses of a record
-abbrev noted : Record → StateValue → StateValue
-noted r s = record s { records = r.number; uses = uses_after r.number r.changes s.uses }
-
 lists_of : (R : Log) (s : StateValue) (ps qs : List Placed) (es fs : List ℕ) → ps ≡ qs → es ≡ fs → LivesKept R qs fs
     → LivesKept R ps es
 lists_of R s ps qs es fs e f k = subst (λ (z : List Placed). LivesKept R z es) (sym e) (subst (LivesKept R qs) (sym f) k)
@@ -245,8 +241,8 @@ module _ (R : Log) (P Q : Pages) (r : Record) (floor since n : ℕ) (s : StateVa
 
   -- who is found among the running ones
   found_runs : (t : Transaction) → transaction r.xid s.running ≡ Some t
-      → (fate R r.xid ≡ Running) × (work R r.xid ≡ t)
-  found_runs t is = runs_of (fate R r.xid) (work R r.xid) t (sym (K.running r.xid) ∙ is)
+      → (fate R r.xid ≡ Running) × (done_by R r.xid ≡ t)
+  found_runs t is = runs_of (fate R r.xid) (done_by R r.xid) t (sym (K.running r.xid) ∙ is)
 
   placed_step : (i sr : ℕ) → r.kind ≡ kind.PlaceHead i sr
       → step_of r s ≡ placed_head (transaction r.xid s.running) (doc_at i sr) (noted r s)

@@ -8,7 +8,7 @@ use Rattle.core_state.specs.States.{kind_byte, edited_use, with_use, uses_after}
 use Rattle.core_state.specs.Inner.Lowest.{AreUsedBelow}
 use Rattle.core_state.specs.declared.answers.PageUse.{PageUse}
 use Rattle.core_state.specs.declared.answers.PageUse.TheVariants as usage
-use Rattle.core_state.proofs.PageUses.{use_set, use_other}
+use Rattle.core_state.proofs.PutLists.{put_here, put_else}
 use Rattle.core_state.proofs.RunningOnes.{same_or_other}
 
 pub use_in_either : (b : Bool) (number : ℕ) → cond b (usage.Deleted number) usage.Used ≢ usage.Unused
@@ -18,8 +18,8 @@ use_in_either false number e = cc
 used_put : (us : List PageUse) (p q : ℕ) (u : PageUse) → u ≢ usage.Unused → get_or us q usage.Unused ≢ usage.Unused
     → get_or (with_use p u us) q usage.Unused ≢ usage.Unused
 used_put us p q u new old e = elim (same_or_other q p) [
-  | inl f ↦ new (cc (use_set us p u))
-  | inr d ↦ old (sym (use_other us p q u d) ∙ e)
+  | inl f ↦ new (cc (put_here usage.Unused us p u))
+  | inr d ↦ old (sym (put_else usage.Unused us p q u d) ∙ e)
 ]
 
 used_either : (b : Bool) (us : List PageUse) (p q : ℕ) (u : PageUse) → u ≢ usage.Unused

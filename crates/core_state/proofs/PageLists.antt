@@ -4,7 +4,7 @@ use Rattle.page_types.specs.declared.page.Page.{Page}
 use Rattle.page_types.specs.declared.page.Body.TheVariants as body
 use Rattle.page_types.specs.declared.record.Record.{Record}
 use Rattle.core_state.specs.Log.{Pages, In}
-use Rattle.core_state.specs.Changes.{left_with}
+use Rattle.core_state.specs.Changes.{made_with}
 use Rattle.core_state.specs.TreeRows.{IsUnlinked}
 
 pub same_or_not : (p q : ℕ) → (q ≡ p) ⊎ (q ≢ p)
@@ -76,7 +76,7 @@ pub record LeftLeaf (P Q : Pages) (r : Record) (page to q : ℕ) : Type 0 where
   pub items : List ℕ
   pub was : (P q).body ≡ body.PostLeaf high items
   pub link : (P q).right ≡ page
-  pub after : Q q ≡ left_with r to (body.PostLeaf high items)
+  pub after : Q q ≡ made_with r to (body.PostLeaf high items)
 
 -- the pages of a deletion: the page itself, its parent, and a left leaf or none
 pub record Unlinked (P Q : Pages) (r : Record) (page parent to : ℕ) (lefts : List ℕ) (old left old_parent
@@ -99,7 +99,7 @@ unlinked_pages P Q r page parent to lefts before after old left old_parent left_
 unlinked_pages P Q r page parent to lefts before after old left old_parent left_parent ps (IsUnlinked.one q was high
     items leaf link) e f g =
     let b = three_pages P ps page q parent old was old_parent e f in
-    let a = three_pages Q ps page q parent left (left_with r to was.body) left_parent e g in
+    let a = three_pages Q ps page q parent left (made_with r to was.body) left_parent e g in
     record {
       was = b.0;
       is = a.0;
@@ -113,7 +113,7 @@ unlinked_pages P Q r page parent to lefts before after old left old_parent left_
           items = items;
           was = ap (λ (x : Page). x.body) b.1 ∙ leaf;
           link = ap (λ (x : Page). x.right) b.1 ∙ link;
-          after = a.1 ∙ ap (left_with r to) leaf;
+          after = a.1 ∙ ap (made_with r to) leaf;
         },
       );
     }

@@ -6,7 +6,7 @@ use Rattle.core_state.specs.States.{with_use}
 use Rattle.core_state.specs.Inner.Ranks.{rank, AreRanks}
 use Rattle.core_state.specs.declared.answers.PageUse.{PageUse}
 use Rattle.core_state.specs.declared.answers.PageUse.TheVariants as usage
-use Rattle.core_state.proofs.PageUses.{use_set, use_other}
+use Rattle.core_state.proofs.PutLists.{put_here, put_else}
 use Rattle.core_state.proofs.RunningOnes.{same_or_other}
 
 -- the ranks after the use of one page
@@ -14,8 +14,8 @@ pub ranks_put : (us : List PageUse) (row new : List ℕ) (p : ℕ) (u : PageUse)
     → get_or new p 0 ≡ rank u → ((q : ℕ) → q ≢ p → get_or new q 0 ≡ get_or row q 0) → AreRanks (with_use p u us) new
 ranks_put us row new p u old here others q = elim (same_or_other q p) [
   | inl e ↦ ap (λ (j : ℕ). get_or new j 0) e ∙ here
-      ∙ ap rank (sym (use_set us p u) ∙ ap (λ (j : ℕ). get_or (with_use p u us) j usage.Unused) (sym e))
-  | inr d ↦ others q d ∙ old q ∙ ap rank (sym (use_other us p q u d))
+      ∙ ap rank (sym (put_here usage.Unused us p u) ∙ ap (λ (j : ℕ). get_or (with_use p u us) j usage.Unused) (sym e))
+  | inr d ↦ others q d ∙ old q ∙ ap rank (sym (put_else usage.Unused us p q u d))
 ]
 
 -- a rank that is large enough is that of a page whose stamp is old enough

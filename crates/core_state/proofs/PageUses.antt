@@ -1,9 +1,8 @@
 -- The state of a legal log tells the use of each page.
-use Rattle.std.proofs.Common.{◌≡◌, ◌≢◌, ◌⊎◌, ◌<◌, ◌≤◌, nat_lt, ◌-◌, ℕ, suc, Bool, true, false, cond, ◌==◌, ◌&&◌, List, [], ◌∷◌, ◌++◌, length, get_or, map, replicate, refl, sym, ap, subst, ◌∙◌, inl, inr, arith}
-use Rattle.std.specs.Prelude.{Option, Some, None, if◌then◌else◌}
+use Rattle.std.proofs.Common.{◌≡◌, ◌≢◌, ◌<◌, nat_lt, ℕ, suc, Bool, true, false, cond, ◌==◌, List, [], ◌∷◌, length, get_or, map, refl, sym, ap, subst, ◌∙◌, inl, inr, arith}
+use Rattle.std.specs.Prelude.{if◌then◌else◌}
 use Rattle.std.specs.List.{AllByRecursion}
-use Rattle.std.proofs.lemmas.List.{length-append, length-replicate, get_or-set_other, get_or_past, get_or_append_left, get_or-append_right, get_or-replicate}
-use Rattle.std.proofs.lemmas.Grind.{get_or-set_at}
+use Rattle.std.proofs.lemmas.List.{get_or_past}
 use Rattle.page_types.specs.Numbers.{page_limit}
 use Rattle.page_types.specs.Keys.{Rising}
 use Rattle.page_types.specs.Spelling.{page_bytes, front_bytes, framed, kind_of}
@@ -16,57 +15,22 @@ use Rattle.page_types.specs.declared.record.Change.{Change}
 use Rattle.page_types.specs.declared.record.Edit.{Edit}
 use Rattle.page_types.specs.declared.record.Edit.TheVariants.{Image, Delta}
 use Rattle.page_types.specs.declared.record.Record.{Record}
-use Rattle.page_types.specs.declared.record.Kind.{Kind}
-use Rattle.page_types.specs.declared.record.Kind.TheVariants as kind
-use Rattle.core_state.specs.Log.{Log, Pages, In, Shows, changed, after_changes, replay, commits, xid_bound}
+use Rattle.core_state.specs.Log.{Log, Pages, In, Shows, changed, after_changes, replay, commits}
 use Rattle.core_state.specs.Known.{use_by, use_in}
 use Rattle.core_state.specs.Legal.{Valid, RowsAreValid}
-use Rattle.core_state.specs.States.{StateValue, kind_byte, edited_use, with_use, uses_after, transaction, committed, aborted, ended_all, placed_head, marked_head, last_serial, stepped, state_of}
-use Rattle.core_state.specs.Documents.{Doc}
-use Rattle.core_state.specs.declared.transactions.Transaction.{Transaction}
+use Rattle.core_state.specs.States.{kind_byte, edited_use, with_use, uses_after, state_of}
 use Rattle.core_state.specs.declared.answers.PageUse.{PageUse}
 use Rattle.core_state.specs.declared.answers.PageUse.TheVariants as usage
+use Rattle.core_state.proofs.Framing.{step_uses}
+use Rattle.core_state.proofs.PutLists.{put_here, put_else}
 use Rattle.core_state.proofs.Showing.{shown_one, none_yet, shown_none, others_stay, untouched}
 use Rattle.core_state.proofs.RunningOnes.{on_same}
 use Rattle.core_state.proofs.PageLists.{in_or_not}
 use Rattle.core_state.proofs.LivePages.{body_not_free}
 use Rattle.core_state.proofs.SteadyPages.{touches}
 
-below_or_past : (k n : ℕ) → (k < n) ⊎ (n ≤ k)
-below_or_past k n = grind arith
-
-is_below : (a b : ℕ) → a < b → nat_lt a b ≡ true
+pub is_below : (a b : ℕ) → a < b → nat_lt a b ≡ true
 is_below a b l = grind (arith, l)
-
-grown_at : (us : List PageUse) (n q : ℕ)
-    → get_or (us ++ replicate n usage.Unused) q usage.Unused ≡ get_or us q usage.Unused
-grown_at us n q = elim (below_or_past q (length us)) [
-  | inl l ↦ get_or_append_left us (replicate n usage.Unused) usage.Unused q l
-  | inr p ↦ get_or-append_right us (replicate n usage.Unused) (length us) q usage.Unused refl p
-      ∙ behind (q - length us) ∙ sym (get_or_past us q usage.Unused p)
-]
-  where
-    behind : (k : ℕ) → get_or (replicate n usage.Unused) k usage.Unused ≡ usage.Unused
-    behind k = elim (below_or_past k n) [
-      | inl l ↦ get_or-replicate n k usage.Unused usage.Unused l
-      | inr p ↦ get_or_past (replicate n usage.Unused) k usage.Unused
-          (omega (arith, p, length-replicate n usage.Unused))
-    ]
-
-pub use_set : (us : List PageUse) (p : ℕ) (u : PageUse) → get_or (with_use p u us) p usage.Unused ≡ u
-use_set us p u =
-    get_or-set_at (us ++ replicate (suc p - length us) usage.Unused) p p u usage.Unused refl
-    (omega (
-      arith,
-      length-append us (replicate (suc p - length us) usage.Unused),
-      length-replicate
-          (suc p - length us) usage.Unused,
-    ))
-
-pub use_other : (us : List PageUse) (p q : ℕ) (u : PageUse) → q ≢ p
-    → get_or (with_use p u us) q usage.Unused ≡ get_or us q usage.Unused
-use_other us p q u off = get_or-set_other (us ++ replicate (suc p - length us) usage.Unused) p q u usage.Unused off
-    ∙ grown_at us (suc p - length us) q
 
 -- changes of other pages leave a page's use
 abbrev one_use : ℕ → Change → List PageUse → List PageUse
@@ -74,7 +38,7 @@ one_use number c us = if nat_lt c.page page_limit then with_use c.page (edited_u
 
 one_other : (b : Bool) (us : List PageUse) (p q : ℕ) (u : PageUse) → q ≢ p
     → get_or (if b then with_use p u us else us) q usage.Unused ≡ get_or us q usage.Unused
-one_other true us p q u off = use_other us p q u off
+one_other true us p q u off = put_else usage.Unused us p q u off
 one_other false us p q u off = refl
 
 pub uses_kept : (number : ℕ) (cs : List Change) (us : List PageUse) (p : ℕ)
@@ -93,7 +57,7 @@ pub record ChangedBy (number : ℕ) (cs : List Change) (us : List PageUse) (p : 
   pub uses : get_or (uses_after number cs us) p usage.Unused ≡ edited_use number edit
   pub bytes : after_changes number cs p old ≡ edited number edit was
 
-not_again : (c : Change) (cs : List Change) → AllByRecursion (λ (d : Change). c.page ≢ d.page) cs
+pub not_again : (c : Change) (cs : List Change) → AllByRecursion (λ (d : Change). c.page ≢ d.page) cs
     → In c.page (map (λ (d : Change). d.page) cs) → ⊥
 not_again c [] a i = i
 not_again c (d ∷ ds) a (inl e) = a.0 e
@@ -109,7 +73,7 @@ first_changed number c cs us old is off = record {
   uses = uses_kept number cs (one_use number c us) c.page off
       ∙ ap (λ b. get_or (if b then with_use c.page (edited_use number c.edit) us else us) c.page usage.Unused)
       (is_below c.page page_limit is.page)
-      ∙ use_set us c.page (edited_use number c.edit);
+      ∙ put_here usage.Unused us c.page (edited_use number c.edit);
   bytes = untouched number cs c.page (cond (c.page == c.page) (edited number c.edit old) old) off
       ∙ on_same c.page c.page (edited number c.edit old) old refl;
 }
@@ -153,40 +117,6 @@ used number stamp (body.PostLeaf high items) e off = refl
 used number stamp (body.PostInner children) e off = refl
 used number stamp (body.Deleted gone) e off = ap usage.Deleted e
 
--- only changes turn uses
-either_uses : (b : Bool) (s t : StateValue) → t.uses ≡ s.uses → (if b then t else s).uses ≡ s.uses
-either_uses true s t e = e
-either_uses false s t e = refl
-
-committed_uses : (n x : ℕ) (o : Option Transaction) (s : StateValue) → (committed n x o s).uses ≡ s.uses
-committed_uses n x None s = refl
-committed_uses n x (Some t) s = either_uses (n == suc (length s.deleted)) s _ refl
-
-aborted_uses : (x : ℕ) (o : Option Transaction) (s : StateValue) → (aborted x o s).uses ≡ s.uses
-aborted_uses x None s = refl
-aborted_uses x (Some t) s = refl
-
-marked_uses : (o : Option Transaction) (d : Doc) (s : StateValue) → (marked_head o d s).uses ≡ s.uses
-marked_uses None d s = refl
-marked_uses (Some t) d s = refl
-
-placed_uses : (o : Option Transaction) (d : Doc) (s : StateValue) → (placed_head o d s).uses ≡ s.uses
-placed_uses None d s = refl
-placed_uses (Some t) d s = either_uses ((d.serial == s.next_serial) && nat_lt d.serial (suc last_serial)) s _ refl
-
-ended_uses : (b : Bool) (x : ℕ) (o : Option Transaction) (s : StateValue)
-    → (cond b (ended_all s) (aborted x o s)).uses ≡ s.uses
-ended_uses true x o s = refl
-ended_uses false x o s = aborted_uses x o s
-
-stepped_uses : (k : Kind) (x : ℕ) (ps : List ℕ) (s : StateValue) → (stepped k x ps s).uses ≡ s.uses
-stepped_uses kind.Begin x ps s = either_uses ((x == suc (length s.fates)) && nat_lt x xid_bound) s _ refl
-stepped_uses (kind.Commit n) x ps s = committed_uses n x (transaction x s.running) s
-stepped_uses kind.Abort x ps s = ended_uses (x == 0) x (transaction x s.running) s
-stepped_uses (kind.PlaceHead item serial) x ps s = placed_uses (transaction x s.running) _ s
-stepped_uses (kind.MarkDeleted item serial) x ps s = marked_uses (transaction x s.running) _ s
-stepped_uses _ x ps s = refl
-
 shown_kind : (R : Log) (r : Record) (Q : Pages) (us : List PageUse) (p : ℕ) → Shows (r ∷ R) Q
     → (c : ChangedBy r.number r.changes us p (replay R p)) → kind_byte c.edit ≡ kind_of (Q p).body
 unfolding replay
@@ -215,6 +145,6 @@ uses_told pages xid_limit [] v P shown p =
     get_or_past [] p usage.Unused (omega arith)
     ∙ ap (λ (S : Pages). use_in S p) (shown_one [] none_yet P shown_none shown)
 uses_told pages xid_limit (r ∷ R) v P shown p =
-    ap (λ us. get_or us p usage.Unused) (stepped_uses r.kind r.xid (changed r) _)
+    ap (λ us. get_or us p usage.Unused) (step_uses r (state_of pages xid_limit R))
     ∙ record_uses R r (state_of pages xid_limit R).uses v.1 (uses_told pages xid_limit R v.0 v.1.before v.1.shown) p
     ∙ ap (λ (S : Pages). use_in S p) (shown_one (r ∷ R) v.1.after P v.1.shown_after shown)

@@ -17,7 +17,7 @@ use Rattle.page_types.proofs.Joining.{slot_past}
 use Rattle.core_state.specs.Log.{changed}
 use Rattle.core_state.specs.Documents.{Doc, page_of, name_of}
 use Rattle.core_state.specs.Known.{Known}
-use Rattle.core_state.specs.Changes.{left_with, IsNew}
+use Rattle.core_state.specs.Changes.{made_with, IsNew}
 use Rattle.core_state.specs.HeapRows.{IsPlaceHeadHere}
 use Rattle.core_state.specs.Inner.Placing.{PlacesHead, LeavesHead}
 use Rattle.core_state.specs.declared.answers.Fate.TheVariants.{Running}
@@ -36,7 +36,7 @@ abbrev page_with : ℕ → ℕ → Body → Page
 page_with right stamp content = record { right = right; stamp = stamp; body = content }
 
 left_new : (r : Record) (new : Page) (slots : List (Option Head)) → new.body ≡ body.Heap slots → new.stamp ≡ r.number
-    → new ≡ left_with r new.right (body.Heap slots)
+    → new ≡ made_with r new.right (body.Heap slots)
 left_new r new slots b s = ap (page_with new.right new.stamp) b
     ∙ ap (λ (n : ℕ). page_with new.right n (body.Heap slots)) s
 
@@ -181,7 +181,7 @@ parts_of : (since : ℕ) (k : Known) (r : Record) (before after : List Page)
     → (w : IsPlaceHeadHere since k r before after) → PlaceParts since k r w.doc before after
 parts_of since k r before after w = record {
   old = w.old;
-  new = left_with r w.right (body.Heap w.new_slots);
+  new = made_with r w.right (body.Heap w.new_slots);
   pages = w.pages;
   runs = w.runs;
   next = w.next;

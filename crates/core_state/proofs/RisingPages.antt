@@ -71,6 +71,21 @@ rising_at (q ∷ qs) a zero (suc j) le lt = omega (arith, above_at q qs j a.0 (o
 rising_at (q ∷ qs) a (suc i) zero le lt = absurd (omega (arith, le))
 rising_at (q ∷ qs) a (suc i) (suc j) le lt = rising_at qs a.1 i j (omega (arith, le)) (omega (arith, lt))
 
+-- each once
+pub rises_at : (qs : List ℕ) → AreRising qs → (i j : ℕ) → i < j → j < length qs → get_or qs i 0 < get_or qs j 0
+rises_at [] a i j le lt = absurd (omega (arith, lt))
+rises_at (q ∷ qs) a zero zero le lt = absurd (omega (arith, le))
+rises_at (q ∷ qs) a zero (suc j) le lt = above_at q qs j a.0 (omega (arith, lt))
+rises_at (q ∷ qs) a (suc i) zero le lt = absurd (omega (arith, le))
+rises_at (q ∷ qs) a (suc i) (suc j) le lt = rises_at qs a.1 i j (omega (arith, le)) (omega (arith, lt))
+
+-- a place is no number above that of its page
+pub place_at_most : (qs : List ℕ) → AreRising qs → (k : ℕ) → k < length qs → k ≤ get_or qs k 0
+place_at_most qs a zero lt = omega arith
+place_at_most qs a (suc k) lt =
+    let before = place_at_most qs a k (omega (arith, lt)) in
+    omega (arith, before, rises_at qs a k (suc k) (omega arith) lt)
+
 -- a page that is there
 pub page_there : (qs : List ℕ) (i p : ℕ) → AreRising qs → i < length qs → get_or qs i 0 ≡ p → with_page p qs ≡ qs
 page_there [] i p a lt e = absurd (omega (arith, lt))

@@ -28,7 +28,7 @@ in_at (q ∷ qs) (suc k) l = inr (in_at qs k (omega (arith, l)))
 abbrev From : ℕ → List ℕ → ℕ → Type 0
 From page qs p = (page ≤ p) × In p qs
 
-get_some : (qs : List ℕ) (k p : ℕ) → slice_get qs k ≡ Some p → (k < length qs) × (get_or qs k 0 ≡ p)
+pub get_some : (qs : List ℕ) (k p : ℕ) → slice_get qs k ≡ Some p → (k < length qs) × (get_or qs k 0 ≡ p)
 get_some [] k p e = absurd (cc)
 get_some (q ∷ qs) zero p e = (omega arith, cc)
 get_some (q ∷ qs) (suc k) p e = let w = get_some qs k p e in (omega (arith, w.0), w.1)

@@ -16,7 +16,7 @@ use Rattle.core_state.specs.Log.{Log, Pages, In, Shows, changed}
 use Rattle.core_state.specs.Documents.{Doc, Has, page_of, slot_of}
 use Rattle.core_state.specs.Index.{Line}
 use Rattle.core_state.specs.Known.{use_in}
-use Rattle.core_state.specs.Changes.{left_with, IsNew, IsHeadChange}
+use Rattle.core_state.specs.Changes.{made_with, IsNew, IsHeadChange}
 use Rattle.core_state.specs.TransactionRows.{IsCreate}
 use Rattle.core_state.specs.HeapRows.{IsPlaceHead, IsPutOverflow, IsMarkDeleted}
 use Rattle.core_state.specs.PendingRows.{IsPutPending, IsAddRow, IsLinkHere, IsLinkPending, IsShift}
@@ -33,16 +33,16 @@ was_body : (K : Body → Type 0) (P : Pages) (p : ℕ) (old : Page) (b : Body) �
     → K (P p).body
 was_body K P p old b e f k = subst K (sym (ap (λ (q : Page). q.body) e ∙ f)) k
 
-is_body : (K : Body → Type 0) (Q : Pages) (r : Record) (p right : ℕ) (b : Body) → Q p ≡ left_with r right b → K b
+is_body : (K : Body → Type 0) (Q : Pages) (r : Record) (p right : ℕ) (b : Body) → Q p ≡ made_with r right b → K b
     → K (Q p).body
 is_body K Q r p right b e k = subst K (sym (ap (λ (q : Page). q.body) e)) k
 
-is_stamp : (Q : Pages) (r : Record) (p right : ℕ) (b : Body) → Q p ≡ left_with r right b → (Q p).stamp ≡ r.number
+is_stamp : (Q : Pages) (r : Record) (p right : ℕ) (b : Body) → Q p ≡ made_with r right b → (Q p).stamp ≡ r.number
 is_stamp Q r p right b e = ap (λ (q : Page). q.stamp) e
 
 module _ (P Q : Pages) (r : Record) (since : ℕ) where
   -- a page in each of these ways
-  to_made : (p right : ℕ) (b : Body) → r.kind ≡ kind.Create → P p ≡ free_page → Q p ≡ left_with r right b → IsPlain b
+  to_made : (p right : ℕ) (b : Body) → r.kind ≡ kind.Create → P p ≡ free_page → Q p ≡ made_with r right b → IsPlain b
       → Touched P Q r since p
   to_made p right b h k e is = record {
     stamp = is_stamp Q r p right b e;
@@ -51,7 +51,7 @@ module _ (P Q : Pages) (r : Record) (since : ℕ) where
   }
 
   to_heap : (p : ℕ) (old : Page) (right : ℕ) (slots new_slots : List (Option Head)) → P p ≡ old
-      → old.body ≡ body.Heap slots → Q p ≡ left_with r right (body.Heap new_slots)
+      → old.body ≡ body.Heap slots → Q p ≡ made_with r right (body.Heap new_slots)
       → IsHeadPage r.kind p → Touched P Q r since p
   to_heap p old right slots new_slots e f g k = record {
     stamp = is_stamp Q r p right (body.Heap new_slots) g;
@@ -60,7 +60,7 @@ module _ (P Q : Pages) (r : Record) (since : ℕ) where
   }
 
   to_new_heap : (p right : ℕ) (new_slots : List (Option Head)) → IsNew (use_in P) since p
-      → Q p ≡ left_with r right (body.Heap new_slots) → IsHeadPage r.kind p → Touched P Q r since p
+      → Q p ≡ made_with r right (body.Heap new_slots) → IsHeadPage r.kind p → Touched P Q r since p
   to_new_heap p right new_slots n g k =
       record {
         stamp = is_stamp Q r p right (body.Heap new_slots) g;
@@ -68,7 +68,7 @@ module _ (P Q : Pages) (r : Record) (since : ℕ) where
             (is_body IsHeap Q r p right (body.Heap new_slots) g tt) k;
       }
 
-  to_part : (p right : ℕ) (b : Body) → IsNew (use_in P) since p → Q p ≡ left_with r right b → IsOverflow b
+  to_part : (p right : ℕ) (b : Body) → IsNew (use_in P) since p → Q p ≡ made_with r right b → IsOverflow b
       → Touched P Q r since p
   to_part p right b n e is = record {
     stamp = is_stamp Q r p right b e;
@@ -77,7 +77,7 @@ module _ (P Q : Pages) (r : Record) (since : ℕ) where
   }
 
   to_rows : (k : Kind) (p right : ℕ) (b : Body) → r.kind ≡ k → PutsRows k → IsNew (use_in P) since p
-      → Q p ≡ left_with r right b → IsPending b → Touched P Q r since p
+      → Q p ≡ made_with r right b → IsPending b → Touched P Q r since p
   to_rows k p right b h w n e is =
       record {
         stamp = is_stamp Q r p right b e;
@@ -89,7 +89,7 @@ module _ (P Q : Pages) (r : Record) (since : ℕ) where
       }
 
   to_grown : (k : Kind) (p right : ℕ) (b : Body) → r.kind ≡ k → ChangesTrees k → IsNew (use_in P) since p
-      → Q p ≡ left_with r right b → IsTree b → Touched P Q r since p
+      → Q p ≡ made_with r right b → IsTree b → Touched P Q r since p
   to_grown k p right b f w n e is =
       record {
         stamp = is_stamp Q r p right b e;
@@ -98,7 +98,7 @@ module _ (P Q : Pages) (r : Record) (since : ℕ) where
       }
 
   to_worked : (k : Kind) (p : ℕ) (old : Page) (right : ℕ) (a b : Body) → r.kind ≡ k → ChangesTrees k → P p ≡ old
-      → old.body ≡ a → IsTree a → Q p ≡ left_with r right b → IsTree b ⊎ IsDeleted b
+      → old.body ≡ a → IsTree a → Q p ≡ made_with r right b → IsTree b ⊎ IsDeleted b
       → Touched P Q r since p
   to_worked k p old right a b h w e f was g is = record {
     stamp = is_stamp Q r p right b g;
@@ -107,7 +107,7 @@ module _ (P Q : Pages) (r : Record) (since : ℕ) where
   }
 
   to_meta : (k : Kind) (p : ℕ) (old : Page) (right : ℕ) (a b : Body) → r.kind ≡ k → ChangesLine k → P p ≡ old
-      → old.body ≡ a → IsMeta a → Q p ≡ left_with r right b → IsMeta b
+      → old.body ≡ a → IsMeta a → Q p ≡ made_with r right b → IsMeta b
       → Touched P Q r since p
   to_meta k p old right a b h w e f was g is =
       record {
@@ -118,7 +118,7 @@ module _ (P Q : Pages) (r : Record) (since : ℕ) where
 
   to_listed : (k : Kind) (p : ℕ) (old : Page) (right : ℕ) (a b : Body) → r.kind ≡ k → ChangesLine k → P p ≡ old
       → old.body ≡ a → IsPending a → ((line : List ℕ) → Line P line → In p line)
-      → Q p ≡ left_with r right b → IsPending b ⊎ (IsDeleted b × (k ≡ kind.Shift)) → Touched P Q r since p
+      → Q p ≡ made_with r right b → IsPending b ⊎ (IsDeleted b × (k ≡ kind.Shift)) → Touched P Q r since p
   to_listed k p old right a b h w e f was on g is = record {
     stamp = is_stamp Q r p right b g;
     change = IsChanged.listed (was_body IsPending P p old a e f was) on (subst ChangesLine (sym h) w) (elim is [
@@ -214,7 +214,7 @@ module _ (R : Log) (P Q : Pages) (r : Record) (floor since : ℕ) (none : length
   place_touched x =
       let a = page_of x.here.doc.item in
       let e = one_page P (changed r) a x.here.old x.here.pages x.here.before_is in
-      let g = one_page Q (changed r) a (left_with r x.here.right (body.Heap x.here.new_slots)) x.here.pages
+      let g = one_page Q (changed r) a (made_with r x.here.right (body.Heap x.here.new_slots)) x.here.pages
       x.here.after_is in
       let k = at_page (kind.PlaceHead x.here.doc.item x.here.doc.serial) a x.here.kind_is refl in
       of_one T (changed r) a x.here.pages (elim x.here.page [
@@ -226,10 +226,10 @@ module _ (R : Log) (P Q : Pages) (r : Record) (floor since : ℕ) (none : length
   put_touched x =
       let a = page_of x.here.doc.item in
       let e = two_pages P (changed r) a x.here.new x.here.old x.here.was x.here.pages x.here.before_is in
-      let g = two_pages Q (changed r) a x.here.new x.here.left (left_with r x.here.head.overflow
+      let g = two_pages Q (changed r) a x.here.new x.here.heap_then (made_with r x.here.head.overflow
       (body.Overflow x.here.part)) x.here.pages x.here.after_is in
       of_two T (changed r) a x.here.new x.here.pages
-      (to_head P Q r since x.here.doc x.here.old x.here.left x.here.head _ e.0 g.0 x.here.head_after
+      (to_head P Q r since x.here.doc x.here.old x.here.heap_then x.here.head _ e.0 g.0 x.here.head_after
       (at_page (kind.PutOverflow x.here.doc.item x.here.doc.serial) a x.here.kind_is refl))
       (to_part P Q r since x.here.new x.here.head.overflow (body.Overflow x.here.part) x.here.is_new g.1 tt)
 
@@ -237,19 +237,19 @@ module _ (R : Log) (P Q : Pages) (r : Record) (floor since : ℕ) (none : length
   mark_touched x =
       let a = page_of x.here.doc.item in
       let e = one_page P (changed r) a x.here.old x.here.pages x.here.before_is in
-      let g = one_page Q (changed r) a x.here.left x.here.pages x.here.after_is in
+      let g = one_page Q (changed r) a x.here.heap_then x.here.pages x.here.after_is in
       of_one T (changed r) a x.here.pages
-      (to_head P Q r since x.here.doc x.here.old x.here.left x.here.head _ e g x.here.head_after
+      (to_head P Q r since x.here.doc x.here.old x.here.heap_then x.here.head _ e g x.here.head_after
       (at_page (kind.MarkDeleted x.here.doc.item x.here.doc.serial) a x.here.kind_is refl))
 
   rows_touched : IsPutPending R P Q r since → (p : ℕ) → In p (changed r) → T p
   rows_touched x =
       let a = page_of x.here.doc.item in
       let e = two_pages P (changed r) a x.here.new x.here.old x.here.was x.here.pages x.here.before_is in
-      let g = two_pages Q (changed r) a x.here.new x.here.left (left_with r x.here.head.private
+      let g = two_pages Q (changed r) a x.here.new x.here.heap_then (made_with r x.here.head.private
       (body.Pending x.here.rows)) x.here.pages x.here.after_is in
       of_two T (changed r) a x.here.new x.here.pages
-      (to_head P Q r since x.here.doc x.here.old x.here.left x.here.head _ e.0 g.0 x.here.head_after
+      (to_head P Q r since x.here.doc x.here.old x.here.heap_then x.here.head _ e.0 g.0 x.here.head_after
       (at_page (kind.PutPending x.here.doc.item x.here.doc.serial) a x.here.kind_is refl))
       (to_rows P Q r since (kind.PutPending x.here.doc.item x.here.doc.serial) x.here.new x.here.head.private
       (body.Pending x.here.rows) x.here.kind_is tt x.here.is_new g.1 tt)
@@ -288,8 +288,8 @@ module _ (R : Log) (P Q : Pages) (r : Record) (floor since : ℕ) (none : length
   link_touched x =
       let a = page_of x.here.doc.item in
       link_pages (kind.LinkPending x.here.doc.item x.here.doc.serial) x.here.kind_is tt a x.here.head.private
-      x.here.end x.here.added x.here.others x.here.old x.here.left x.here.others_before x.here.others_after
-      (λ e g. to_head P Q r since x.here.doc x.here.old x.here.left x.here.head _ e g x.here.head_after
+      x.here.end x.here.added x.here.others x.here.old x.here.heap_then x.here.others_before x.here.others_after
+      (λ e g. to_head P Q r since x.here.doc x.here.old x.here.heap_then x.here.head _ e g x.here.head_after
       (at_page (kind.LinkPending x.here.doc.item x.here.doc.serial) a x.here.kind_is refl))
       x.here.linked x.rest.is_last x.here.pages x.here.before_is x.here.after_is
 
@@ -384,12 +384,12 @@ module _ (R : Log) (P Q : Pages) (r : Record) (floor since : ℕ) (none : length
       let d = x.here.doc in
       let a = page_of d.item in
       let e = two_pages P (changed r) a x.here.page x.here.old x.here.was x.here.pages x.here.before_is in
-      let g = two_pages Q (changed r) a x.here.page x.here.left _ x.here.pages x.here.after_is in
-      let has = head_was P Q r since d x.here.old x.here.left x.here.head x.here.head_then e.0 x.here.head_after in
+      let g = two_pages Q (changed r) a x.here.page x.here.heap_then _ x.here.pages x.here.after_is in
+      let has = head_was P Q r since d x.here.old x.here.heap_then x.here.head x.here.head_then e.0 x.here.head_after in
       let first = dropped_first P r.kind d x.here.head x.here.head_then x.here.page x.here.was.right x.here.was.body
       x.here.content x.here.dropped (ap (λ (q : Page). q.body) e.1) has x.here.kind_is x.here.not_none in
       of_two T (changed r) a x.here.page x.here.pages
-      (to_head P Q r since d x.here.old x.here.left x.here.head x.here.head_then e.0 g.0 x.here.head_after
+      (to_head P Q r since d x.here.old x.here.heap_then x.here.head x.here.head_then e.0 g.0 x.here.head_after
       (at_page (kind.DropPage d.item d.serial) a x.here.kind_is refl))
       (record {
         stamp = is_stamp Q r x.here.page x.here.was.right (body.Deleted x.here.content) g.1;

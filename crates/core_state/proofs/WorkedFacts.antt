@@ -21,7 +21,7 @@ use Rattle.core_state.specs.Changes.{IsDeadHead}
 use Rattle.core_state.specs.Readings.{Read, AreReads}
 use Rattle.core_state.specs.Standing.{DocumentsStand}
 use Rattle.core_state.specs.Steady.{LiveStay, DeadGetNoRow, PlacesStay, PinnedPlacesStay}
-use Rattle.core_state.specs.Bullets.Place.{line}
+use Rattle.core_state.specs.Bullets.PagePlace.{line}
 use Rattle.core_state.specs.PagesTold.{IsLastOf, HasRowOn, StartsWith, ListStands, KindsStand, HasHighKey, HasHighItem, LeavesInOrder, IsEntryLeaf, OnEntryLeaf, UpEntryLeaf, IsLastChange}
 use Rattle.core_state.specs.RecordKeeps.{PlacingKeeps, RecordKeeps}
 use Rattle.core_state.specs.declared.answers.Fate.TheVariants.{Unused, Running, Aborted, Committed}

@@ -161,7 +161,7 @@ last_row last since = record {
     part = last;
     old = heap_page 3 0;
     was = free_page;
-    left = heap_page 4 3;
+    heap_then = heap_page 4 3;
     kind_is = refl;
     pages = refl;
     own = record { by = refl; runs = refl };
@@ -186,7 +186,7 @@ middle_row last middle since size full = record {
     part = middle;
     old = heap_page 4 3;
     was = free_page;
-    left = heap_page 5 4;
+    heap_then = heap_page 5 4;
     kind_is = refl;
     pages = refl;
     own = record { by = refl; runs = refl };
@@ -212,7 +212,7 @@ first_row last middle front since size size' full = record {
     part = front;
     old = heap_page 5 4;
     was = free_page;
-    left = heap_page 6 5;
+    heap_then = heap_page 6 5;
     kind_is = refl;
     pages = refl;
     own = record { by = refl; runs = refl };

@@ -2,10 +2,12 @@
 -- what is
 -- removed where its transaction was aborted.
 use Rattle.std.proofs.Common.{◌≡◌, ◌≢◌, ℕ, zero, suc, ◌<◌, ◌≤◌, List, [], ◌∷◌, length, get_or, refl, sym, ap, subst, ◌∙◌, inl, inr, arith}
-use Rattle.std.specs.Prelude.{Option, Some}
+use Rattle.std.specs.Prelude.{Option, Some, None}
+use Rattle.std.specs.List.{slice_get}
 use Rattle.page_types.specs.Numbers.{no_bound}
 use Rattle.page_types.specs.Keys.{Rising}
-use Rattle.page_types.specs.Views.{free_page, entries_of, list_in, slots_in, slot_at}
+use Rattle.page_types.specs.Items.{items_of}
+use Rattle.page_types.specs.Views.{free_page, entries_in, entries_of, list_in, slots_in, slot_at}
 use Rattle.page_types.specs.declared.page.Page.{Page}
 use Rattle.page_types.specs.declared.page.Entry as on_page
 use Rattle.page_types.specs.declared.page.PostChild.{PostChild}
@@ -25,7 +27,7 @@ use Rattle.core_state.specs.Known.{use_in}
 use Rattle.core_state.specs.Changes.{IsNew, IsDeadHead}
 use Rattle.core_state.specs.TransactionRows.{IsCheckpoint}
 use Rattle.core_state.specs.TreeRows.{IsMakeTree, IsLeftLeaf, IsUnlinked, IsDeletePost}
-use Rattle.core_state.specs.VacuumRows.{ItemsLeave, EntryLoses, ListsLose, MayLeave, IsRemoveItems, IsDropped, IsDropPage}
+use Rattle.core_state.specs.VacuumRows.{ItemsLeave, ItemGoes, EntryLoses, ListsLose, MayLeave, IsRemoveItems, IsDropped, IsDropPage}
 use Rattle.core_state.specs.declared.answers.PageUse.TheVariants as usage
 use Rattle.core_state.proofs.Worked as first
 use Rattle.core_state.proofs.WorkedPending as rows
@@ -143,7 +145,7 @@ leaves : ItemsLeave (4096 ∷ []) (128 ∷ 32 ∷ []) []
 leaves = record {
   rises = subst (Rising (λ (i j : ℕ). i < j)) (sym rows.none_is) tt;
   no_other = λ i there. absurd (subst (In i) rows.none_is there);
-  left = λ i there. inr (subst (In i) rows.list_is there);
+  each = λ i there. inr (subst (In i) rows.list_is there);
 }
 
 entry_loses : (key : Key) → EntryLoses (4096 ∷ []) (rows.entry key) (bare key)
@@ -172,6 +174,12 @@ each_leaves : (floor i : ℕ) → In i (4096 ∷ []) → MayLeave log_gone rows.
 each_leaves floor i (inl e) = subst (MayLeave log_gone rows.shifted floor) (sym e) (may_leave floor)
 each_leaves floor i (inr e) = absurd e
 
+each_went : (i : ℕ) → In i (4096 ∷ []) → ItemGoes i (body.EntryLeaf [] full) (body.EntryLeaf [] emptied)
+each_went i (inl e) =
+    ItemGoes.from_entry [] full emptied 0 (rows.entry rows.cat_key) (bare rows.cat_key) (128 ∷ 32 ∷ []) [] refl refl refl
+    refl (subst (In i) (sym rows.list_is) (inl e)) (λ there. subst (In i) rows.none_is there)
+each_went i (inr e) = absurd e
+
 remove_row : (floor : ℕ) → IsRemoveItems log_gone rows.shifted (with_leaf emptied) (remove_record emptied) floor
 remove_row floor = record {
   here = record {
@@ -183,6 +191,7 @@ remove_row floor = record {
     pages = refl;
     before_is = refl;
     lists = ListsLose.entries [] full emptied (entry_loses rows.cat_key, (entry_loses rows.fat_key, tt));
+    went = each_went;
     some = some_left;
     after_is = refl;
   };
@@ -195,6 +204,30 @@ first_body (p ∷ ps) = p.body
 
 remove_nothing : (R : Log) (floor : ℕ) → IsRemoveItems R rows.shifted (with_leaf full) (remove_record full) floor → ⊥
 remove_nothing R floor x = x.here.some (sym (ap first_body x.here.after_is) ∙ ap first_body x.here.before_is)
+
+-- nor is one whose removed items stood in no list of the leaf
+abbrev list_of : Option on_page.Entry → List ℕ
+list_of None = []
+list_of (Some e) = list_in e.postings
+
+list_there : (k : ℕ) (e : on_page.Entry) (a : List ℕ) → slice_get full k ≡ Some e → e.postings ≡ Inline a
+    → a ≡ 128 ∷ 32 ∷ []
+list_there zero e a at is = sym (ap list_of at ∙ ap list_in is)
+list_there (suc zero) e a at is = sym (ap list_of at ∙ ap list_in is)
+list_there (suc (suc k)) e a at is = cc
+
+never_there : (old new : Body) → old ≡ body.EntryLeaf [] full → ItemGoes 4097 old new → ⊥
+never_there old new was (ItemGoes.from_entry high es fs k e f a b at now is is_now there gone) =
+    let stood = ap (λ xs. slice_get xs k) (sym (ap entries_in was)) ∙ at in
+    elim (subst (In 4097) (ap items_of (list_there k e a stood is) ∙ rows.list_is) there)
+    [ inl same ↦ omega (arith, same) | inr none ↦ none ]
+never_there old new was (ItemGoes.from_postings high is js there gone) = cc
+
+remove_another : (R : Log) (floor : ℕ)
+    (x : IsRemoveItems R rows.shifted (with_leaf emptied) (remove_record emptied) floor)
+    → In 4097 x.here.removed → ⊥
+remove_another R floor x i =
+    never_there x.here.old.body x.here.content (sym (ap first_body x.here.before_is)) (x.here.went 4097 i)
 
 -- 19: an empty leaf leaves its parent, where no leaf leads to it
 abbrev child_of : ℕ → ℕ → PostChild
@@ -308,7 +341,7 @@ drop_row floor = record {
     page = 3;
     content = gone.Pending (rows.row ∷ []);
     old = rows.heap_page 4 3;
-    left = rows.heap_page 6 0;
+    heap_then = rows.heap_page 6 0;
     was = rows.row_page rows.row;
     kind_is = refl;
     pages = refl;

@@ -182,7 +182,7 @@ put_row since = record {
     rows = row ∷ [];
     old = heap_page 3 0;
     was = free_page;
-    left = heap_page 4 3;
+    heap_then = heap_page 4 3;
     kind_is = refl;
     pages = refl;
     own = record { by = refl; runs = refl };
@@ -232,7 +232,7 @@ link_row = record {
     end = 3;
     added = 1;
     old = heap_page 4 3;
-    left = heap_page 5 0;
+    heap_then = heap_page 5 0;
     others = 0 ∷ [];
     others_before = first.meta_page ∷ [];
     others_after = meta_page 5 3 3 1 ∷ [];

@@ -13,7 +13,7 @@ use Rattle.page_types.specs.declared.record.Kind.TheVariants as kind
 use Rattle.core_state.specs.Log.{Log, Pages, In, Shows, fate}
 use Rattle.core_state.specs.Documents.{Doc, HasVector, placed, page_of, slot_of}
 use Rattle.core_state.specs.Known.{use_in}
-use Rattle.core_state.specs.Allowed.{Sheet, View, IsOthers, IsAllowed, Step, IsDrawn, AreLeft, Leaves, MayLog}
+use Rattle.core_state.specs.Allowed.{Sheet, View, IsOthers, IsAllowed, Step, IsDrawn, AreMade, Leaves, MayLog}
 use Rattle.core_state.specs.Steps.{sheet, RunsOwn, IsNewSheet, CanPlace, CanPutOverflow}
 use Rattle.core_state.specs.Steady.{IsMaintenance}
 use Rattle.core_state.specs.declared.answers.Fate.TheVariants.{Running}
@@ -185,7 +185,7 @@ may_mark = mark_may marking mark_step (λ P ok shown. record {
   };
 })
 
-leaves_mark : AreLeft more.with_mark more.mark_record mark_step.after
+leaves_mark : AreMade more.with_mark more.mark_record mark_step.after
 leaves_mark = (refl, tt)
 
 -- the middle of three parts may be put in front of the last
@@ -237,7 +237,7 @@ can_put last middle size full = record {
 }
 
 leaves_part : (last middle : List ℕ)
-    → AreLeft (long.two_parts last middle) (long.put_record 1 5 4 (long.two_parts last middle)) (part_step middle).after
+    → AreMade (long.two_parts last middle) (long.put_record 1 5 4 (long.two_parts last middle)) (part_step middle).after
 leaves_part last middle = (refl, (refl, tt))
 
 -- the log with the head is allowed to the session once it has seen it, and not as another's record

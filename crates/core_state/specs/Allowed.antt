@@ -114,18 +114,18 @@ drawn_body (kind.PlaceHead item serial) (body.Heap slots) =
     body.Heap (numbered slots (slot_of item) serial)
 drawn_body k content = content
 
--- the page as the record leaves it: its stamp is the record's number
-abbrev pub left_by : Record → Page → Page
-left_by r c = record { right = c.right; stamp = r.number; body = drawn_body r.kind c.body }
+-- the page as the record makes it: its stamp is the record's number
+abbrev pub made_by : Record → Page → Page
+made_by r c = record { right = c.right; stamp = r.number; body = drawn_body r.kind c.body }
 
--- the pages show these sheets as the record leaves them
-abbrev pub AreLeft : Pages → Record → List Sheet → Type 0
-AreLeft Q r [] = ⊤
-AreLeft Q r (s ∷ ss) = (Q s.page ≡ left_by r s.content) × AreLeft Q r ss
+-- the pages show these sheets as the record makes them
+abbrev pub AreMade : Pages → Record → List Sheet → Type 0
+AreMade Q r [] = ⊤
+AreMade Q r (s ∷ ss) = (Q s.page ≡ made_by r s.content) × AreMade Q r ss
 
 -- Q are the pages P with those that the step leaves
 pub record Leaves (P Q : Pages) (r : Record) (s : Step) : Type 0 where
-  pub here : AreLeft Q r s.after
+  pub here : AreMade Q r s.after
   pub elsewhere : (p : ℕ) → (In p (sheet_pages s.after) → ⊥) → Q p ≡ P p
 
 -- the step is valid behind each log that is allowed to the session

@@ -114,14 +114,14 @@ DeletedStays R P pin =
     → pin.length < (P' p).stamp → P p ≡ P' p
 
 -- where a page belongs
-pub data Place : Type 0 where
-  meta : Place
-  heap : Place
-  entry_tree : Place
-  posting_tree : ℕ → Place
-  overflow_of : ℕ → Place
-  private_of : ℕ → Place
-  line : Place
+pub data PagePlace : Type 0 where
+  meta : PagePlace
+  heap : PagePlace
+  entry_tree : PagePlace
+  posting_tree : ℕ → PagePlace
+  overflow_of : ℕ → PagePlace
+  private_of : ℕ → PagePlace
+  line : PagePlace
 
 -- the page is on a chain of the document with the item, where `from` names the chain
 abbrev pub StandsOnChain : (Head → ℕ) → Pages → ℕ → ℕ → Type 0
@@ -130,7 +130,7 @@ StandsOnChain from P p item =
     × In p qs
 
 -- page p stands in this place
-abbrev pub StandsIn : Pages → ℕ → Place → Type 0
+abbrev pub StandsIn : Pages → ℕ → PagePlace → Type 0
 StandsIn P p meta = p ≡ 0
 StandsIn P p heap = (slots : List (Option Head)) × ((P p).body ≡ body.Heap slots)
 StandsIn P p entry_tree = Below P 1 p
@@ -141,7 +141,7 @@ StandsIn P p line = (qs : List ℕ) × Line P qs × In p qs
 
 -- a page has one place at most
 abbrev pub OnePlace : Pages → Type 0
-OnePlace P = (p : ℕ) (a b : Place) → StandsIn P p a → StandsIn P p b → a ≡ b
+OnePlace P = (p : ℕ) (a b : PagePlace) → StandsIn P p a → StandsIn P p b → a ≡ b
 
 -- What holds of the pages of a legal log, and of them under each pin that the log keeps.
 pub record Bullets (R : Log) (P : Pages) : Type 0 where

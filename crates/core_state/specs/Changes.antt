@@ -24,8 +24,8 @@ Here Part R P Q r = Part (known R P) r (map P (changed r)) (map Q (changed r))
 
 -- the page that a record leaves with this right link and this content; its stamp is the record's
 -- number
-abbrev pub left_with : Record → ℕ → Body → Page
-left_with r right content = record { right = right; stamp = r.number; body = content }
+abbrev pub made_with : Record → ℕ → Body → Page
+made_with r right content = record { right = right; stamp = r.number; body = content }
 
 -- a new page: the lowest unused one, or one that was deleted by a record of number `since` at most
 pub data IsNew (uses : ℕ → PageUse) (since p : ℕ) : Type 0 where
@@ -49,7 +49,7 @@ pub record IsHeadChange (r : Record) (d : Doc) (old : Page) (h h' : Head)
   pub head : slot_at slots (slot_of d.item) ≡ Some h
   pub serial : h.serial ≡ d.serial
   pub put : PutsSlot slots (slot_of d.item) (Some h') new_slots
-  pub after : new ≡ left_with r old.right (body.Heap new_slots)
+  pub after : new ≡ made_with r old.right (body.Heap new_slots)
 
 -- the record's transaction placed the head and runs
 pub record IsOwn (k : Known) (r : Record) (h : Head) : Type 0 where

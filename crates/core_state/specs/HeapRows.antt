@@ -13,7 +13,7 @@ use Rattle.core_state.specs.Log.{Log, Pages, changed}
 use Rattle.core_state.specs.Documents.{Doc, IsWhole, page_of, slot_of}
 use Rattle.core_state.specs.Index.{NoPair}
 use Rattle.core_state.specs.Known.{Known}
-use Rattle.core_state.specs.Changes.{Here, left_with, IsNew, PutsSlot, IsHeadChange, IsOwn}
+use Rattle.core_state.specs.Changes.{Here, made_with, IsNew, PutsSlot, IsHeadChange, IsOwn}
 use Rattle.core_state.specs.declared.answers.Fate.TheVariants.{Running, Aborted, Committed}
 
 -- a new head: the deleting xid is 0, and both chains are empty
@@ -46,7 +46,7 @@ pub record IsPlaceHeadHere (since : ℕ) (k : Known) (r : Record)
   pub in_row : slot_of doc.item ≤ length slots
   pub new_head : IsNewHead head doc.serial r.xid
   pub put : PutsSlot slots (slot_of doc.item) (Some head) new_slots
-  pub after_is : after ≡ left_with r right (body.Heap new_slots) ∷ []
+  pub after_is : after ≡ made_with r right (body.Heap new_slots) ∷ []
 
 -- 6 PlaceHead: no row and no posting has the item
 pub record IsPlaceHead (R : Log) (P Q : Pages) (r : Record) (since : ℕ) : Type 0 where
@@ -64,7 +64,7 @@ pub record IsPutOverflowHere (since : ℕ) (k : Known) (r : Record)
   pub part : List ℕ
   pub old : Page
   pub was : Page
-  pub left : Page
+  pub heap_then : Page
   pub kind_is : r.kind ≡ kind.PutOverflow doc.item doc.serial
   pub pages : changed r ≡ page_of doc.item ∷ new ∷ []
   pub own : IsOwn k r head
@@ -72,8 +72,8 @@ pub record IsPutOverflowHere (since : ℕ) (k : Known) (r : Record)
   pub full : head.overflow ≢ 0 → length part ≡ most_body
   pub is_new : IsNew k.uses since new
   pub before_is : before ≡ old ∷ was ∷ []
-  pub head_after : IsHeadChange r doc old head (record head { overflow = new }) left
-  pub after_is : after ≡ left ∷ left_with r head.overflow (body.Overflow part) ∷ []
+  pub head_after : IsHeadChange r doc old head (record head { overflow = new }) heap_then
+  pub after_is : after ≡ heap_then ∷ made_with r head.overflow (body.Overflow part) ∷ []
 
 -- 7 PutOverflow: the document isn't whole
 pub record IsPutOverflow (R : Log) (P Q : Pages) (r : Record) (since : ℕ) : Type 0 where
@@ -87,15 +87,15 @@ pub record IsMarkDeletedHere (k : Known) (r : Record) (before after : List Page)
   pub head : Head
   pub number : ℕ
   pub old : Page
-  pub left : Page
+  pub heap_then : Page
   pub kind_is : r.kind ≡ kind.MarkDeleted doc.item doc.serial
   pub pages : changed r ≡ page_of doc.item ∷ []
   pub runs : k.fates r.xid ≡ Running
   pub inserted : k.fates head.inserted_by ≡ Committed number
   pub unmarked : (head.deleted_by ≡ 0) ⊎ (k.fates head.deleted_by ≡ Aborted)
   pub before_is : before ≡ old ∷ []
-  pub head_after : IsHeadChange r doc old head (record head { deleted_by = r.xid }) left
-  pub after_is : after ≡ left ∷ []
+  pub head_after : IsHeadChange r doc old head (record head { deleted_by = r.xid }) heap_then
+  pub after_is : after ≡ heap_then ∷ []
 
 -- 8 MarkDeleted: nothing is asked beside that
 pub record IsMarkDeleted (R : Log) (P Q : Pages) (r : Record) : Type 0 where

@@ -19,5 +19,6 @@ pub mod Ranks
 pub mod LivesKept
 pub mod TreePlaces
 pub mod PageKinds
+pub mod PageRooms
 pub mod ItemChains
 pub mod GhostSteps

@@ -10,7 +10,7 @@ use Rattle.page_types.specs.declared.record.Record.{Record}
 use Rattle.core_state.specs.Log.{Log, Pages, In, Shows, changed}
 use Rattle.core_state.specs.History.{History, IsHistory}
 use Rattle.core_state.specs.Legal.{Valid, IsLegal, Pin, Keeps}
-use Rattle.core_state.specs.Allowed.{left_by}
+use Rattle.core_state.specs.Allowed.{made_by}
 
 -- pages' keys are those of vectors
 abbrev pub KeysAreOne : Type 0
@@ -26,10 +26,10 @@ OthersStay =
     (R : Log) (r : Record) (P Q : Pages) → Shows R P → Shows (r ∷ R) Q → (p : ℕ)
     → (In p (changed r) → ⊥) → Q p ≡ P p
 
--- a page of a step that has a spelling, and isn't free, has one as a record leaves it
-abbrev pub LeftIsPage : Type 0
-LeftIsPage =
-    (r : Record) (c : Page) → IsRecord r → c.body ≢ body.Free → IsPage c → IsPage (left_by r c)
+-- a page of a step that has a spelling, and isn't free, has one as a record makes it
+abbrev pub MadeIsPage : Type 0
+MadeIsPage =
+    (r : Record) (c : Page) → IsRecord r → c.body ≢ body.Free → IsPage c → IsPage (made_by r c)
 
 -- a larger floor or since makes no valid record invalid
 abbrev pub ValidIsMonotone : Type 0

@@ -30,9 +30,13 @@ In x (y ∷ ys) = (x ≡ y) ⊎ In x ys
 abbrev pub cut : ℕ → Log → Log
 cut n R = drop (length R - n) R
 
+-- the pages of changes, in their order
+abbrev pub pages_of : List Change → List ℕ
+pages_of cs = map (λ (c : Change). c.page) cs
+
 -- the pages that a record changes, in its order
 abbrev pub changed : Record → List ℕ
-changed r = map (λ (c : Change). c.page) r.changes
+changed r = pages_of r.changes
 
 -- the bytes of page p after these changes in their order, where they were `old`
 abbrev pub after_changes : ℕ → List Change → ℕ → List ℕ → List ℕ

@@ -9,7 +9,7 @@ use Rattle.page_types.specs.declared.record.Record.{Record}
 use Rattle.page_types.specs.declared.record.Kind.TheVariants as kind
 use Rattle.core_state.specs.Log.{Log, Pages, In, Shows, commits, next_xid, replay}
 use Rattle.core_state.specs.Legal.{IsLegal, ImagesFrom, Pin, Keeps}
-use Rattle.core_state.specs.Allowed.{Sheet, View, IsOthers, AreHeld, IsAllowed, Step, IsDrawn, Leaves, MayLog, Owes, sheet_pages, left_by}
+use Rattle.core_state.specs.Allowed.{Sheet, View, IsOthers, AreHeld, IsAllowed, Step, IsDrawn, Leaves, MayLog, Owes, sheet_pages, made_by}
 
 -- The record is made of the step behind this log: it is drawn, it has a spelling, its changes can
 -- be made and give the bytes of the pages that it leaves, and the first change of each page is an
@@ -19,7 +19,7 @@ pub record IsRecordOf (R : Log) (s : Step) (r : Record) : Type 0 where
   pub is_record : IsRecord r
   pub can_edit : (c : Change) → In c r.changes → CanEdit c.edit (replay R c.page)
   pub bytes : (x : Sheet) → In x s.after
-      → replay (r ∷ R) x.page ≡ page_bytes (left_by r x.content)
+      → replay (r ∷ R) x.page ≡ page_bytes (made_by r x.content)
   pub images : ImagesFrom 1 (r ∷ R)
   pub redo_images : (x : Record) (redo : ℕ) → In x (r ∷ R) → x.kind ≡ kind.Checkpoint redo
       → ImagesFrom redo (r ∷ R)

@@ -1,6 +1,8 @@
--- Which page is taken next, and how far pages go.
-use Rattle.std.specs.Prelude.{◌≡◌, ◌≢◌, ℕ, ◌<◌, ◌≤◌, Option, Some, None}
-use Rattle.core_state.specs.States.{StateValue, use_of}
+-- Which page is taken next, which has room, and how far pages go.
+use Rattle.std.specs.Prelude.{◌≡◌, ◌≢◌, ℕ, suc, ◌+◌, ◌<◌, ◌≤◌, Option, Some, None}
+use Rattle.std.specs.List.{slice_get}
+use Rattle.page_types.specs.Numbers.{most_body}
+use Rattle.core_state.specs.States.{StateValue, use_of, size_of, heap_pages}
 use Rattle.core_state.specs.declared.answers.PageUse.{PageUse}
 use Rattle.core_state.specs.declared.answers.PageUse.TheVariants as usage
 
@@ -29,3 +31,10 @@ pub record IsReusable (uses : ℕ → PageUse) (since p : ℕ) : Type 0 where
 pub record AreBelow (s : StateValue) (n : ℕ) : Type 0 where
   pub pages : s.pages ≤ n
   pub changed : (p : ℕ) → use_of s p ≢ usage.Unused → p < n
+
+-- the old heap page at this place of those that a head is tried on has room for so many bytes, of
+-- which one may be a free slot's: its body, as its last record made it, and they are 8169 at most
+pub record HasRoomAt (s : StateValue) (bytes place : ℕ) : Type 0 where
+  pub page : ℕ
+  pub at : slice_get (heap_pages s) place ≡ Some page
+  pub fits : size_of s page + bytes ≤ suc most_body

@@ -19,8 +19,8 @@ use Rattle.core_state.specs.Documents.{Doc, HasVector, page_of, placed}
 use Rattle.core_state.specs.Index.{Line, HasRow, AllPending, IsIndexed, Below, rows_on}
 use Rattle.core_state.specs.Changes.{UpTo, ItemUpTo}
 use Rattle.core_state.specs.TreeRows.{IsRoot}
-use Rattle.core_state.specs.Bullets.{Place, StandsIn}
-use Rattle.core_state.specs.Bullets.Place.{meta, heap, entry_tree, posting_tree, overflow_of, private_of, line}
+use Rattle.core_state.specs.Bullets.{PagePlace, StandsIn}
+use Rattle.core_state.specs.Bullets.PagePlace.{meta, heap, entry_tree, posting_tree, overflow_of, private_of, line}
 use Rattle.core_state.specs.Legal.{IsLegal}
 
 -- the last page of a list, 0 where it is empty
@@ -57,7 +57,7 @@ pub record ListStands (R : Log) (P : Pages) : Type 0 where
   pub indexed : (i : ℕ) → HasRow P i → (d : Doc) × (d.item ≡ i) × IsIndexed P d
 
 -- what stands in a place
-abbrev pub IsOfPlace : Place → Body → Type 0
+abbrev pub IsOfPlace : PagePlace → Body → Type 0
 IsOfPlace meta b = (first last count : ℕ) × (b ≡ body.Meta first last count)
 IsOfPlace heap b = (slots : List (Option Head)) × (b ≡ body.Heap slots)
 IsOfPlace entry_tree b =
@@ -78,9 +78,9 @@ pub record IsUsed (b : Body) : Type 0 where
 -- What stands in a place is of its kind, and the page of each head that was placed is a heap page; and
 -- each page that is neither free nor deleted stands in a place.
 pub record KindsStand (R : Log) (P : Pages) : Type 0 where
-  pub kinds : R ≢ [] → (p : ℕ) (a : Place) → StandsIn P p a → IsOfPlace a (P p).body
+  pub kinds : R ≢ [] → (p : ℕ) (a : PagePlace) → StandsIn P p a → IsOfPlace a (P p).body
   pub heaps : (x : ℕ) (d : Doc) → In d (placed R x) → IsOfPlace heap (P (page_of d.item)).body
-  pub places : (p : ℕ) → IsUsed (P p).body → (a : Place) × StandsIn P p a
+  pub places : (p : ℕ) → IsUsed (P p).body → (a : PagePlace) × StandsIn P p a
 
 -- a page of the entry tree has this high key: that of a leaf, the last child's bound of an inner page
 pub data HasHighKey : Body → Key → Type 0 where

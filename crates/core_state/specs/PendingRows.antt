@@ -15,7 +15,7 @@ use Rattle.core_state.specs.Log.{Log, Pages, In, changed}
 use Rattle.core_state.specs.Documents.{Doc, Has, IsChain, IsWhole, HasVector, page_of}
 use Rattle.core_state.specs.Index.{Line, rows_on, keys_on, InRows, HasRow, AllMain}
 use Rattle.core_state.specs.Known.{Known}
-use Rattle.core_state.specs.Changes.{Here, left_with, IsNew, IsHeadChange, IsOwn}
+use Rattle.core_state.specs.Changes.{Here, made_with, IsNew, IsHeadChange, IsOwn}
 use Rattle.core_state.specs.declared.answers.Fate.TheVariants.{Running}
 
 -- The transaction placed the head and runs; the new page has one row or more, each with the
@@ -29,7 +29,7 @@ pub record IsPutPendingHere (since : ℕ) (k : Known) (r : Record)
   pub rows : List Row
   pub old : Page
   pub was : Page
-  pub left : Page
+  pub heap_then : Page
   pub kind_is : r.kind ≡ kind.PutPending doc.item doc.serial
   pub pages : changed r ≡ page_of doc.item ∷ new ∷ []
   pub own : IsOwn k r head
@@ -38,8 +38,8 @@ pub record IsPutPendingHere (since : ℕ) (k : Known) (r : Record)
   pub items : (w : Row) → In w rows → w.item ≡ doc.item
   pub rising : Rising KeyLess (keys_on rows)
   pub before_is : before ≡ old ∷ was ∷ []
-  pub head_after : IsHeadChange r doc old head (record head { private = new }) left
-  pub after_is : after ≡ left ∷ left_with r head.private (body.Pending rows) ∷ []
+  pub head_after : IsHeadChange r doc old head (record head { private = new }) heap_then
+  pub after_is : after ≡ heap_then ∷ made_with r head.private (body.Pending rows) ∷ []
 
 -- The document is whole with this vector, no row of it is linked, and the rows have keys of it
 -- alone, which come in key order, each once, before those of the head's private chain.
@@ -70,7 +70,7 @@ pub record IsAddRowHere (k : Known) (r : Record) (before after : List Page) : Ty
   pub item : row.item ≡ doc.item
   pub before_is : before ≡ old ∷ []
   pub was : old.body ≡ body.Pending rows
-  pub after_is : after ≡ left_with r old.right (body.Pending (rows ++ row ∷ [])) ∷ []
+  pub after_is : after ≡ made_with r old.right (body.Pending (rows ++ row ∷ [])) ∷ []
 
 -- The transaction placed the document's head; it is whole, and no row of it is linked; the row has
 -- exactly its keys; the page is the last of the pending list.
@@ -96,13 +96,13 @@ pub record IsAddRow (R : Log) (P Q : Pages) (r : Record) : Type 0 where
 pub data IsLinkHere (r : Record) (to end added : ℕ) : List ℕ → List Page → List Page → Type 0 where
   empty : (meta : Page) (count : ℕ) → meta.body ≡ body.Meta 0 0 count
       → IsLinkHere r to end added (0 ∷ []) (meta ∷ [])
-      (left_with r meta.right (body.Meta to end (count + added)) ∷ [])
+      (made_with r meta.right (body.Meta to end (count + added)) ∷ [])
   behind : (meta page : Page) (first last count : ℕ) (rows : List Row)
       → meta.body ≡ body.Meta first last count → first ≢ 0
       → page.body ≡ body.Pending rows
       → IsLinkHere r to end added (0 ∷ last ∷ []) (meta ∷ page ∷ [])
-      (left_with r meta.right (body.Meta first end (count + added))
-      ∷ left_with r to (body.Pending rows) ∷ [])
+      (made_with r meta.right (body.Meta first end (count + added))
+      ∷ made_with r to (body.Pending rows) ∷ [])
 
 -- the transaction placed the head and runs; its private chain, which has a page or more, comes
 -- behind the last page, and the head has none then
@@ -112,7 +112,7 @@ pub record IsLinkPendingHere (k : Known) (r : Record) (before after : List Page)
   pub end : ℕ
   pub added : ℕ
   pub old : Page
-  pub left : Page
+  pub heap_then : Page
   pub others : List ℕ
   pub others_before : List Page
   pub others_after : List Page
@@ -123,8 +123,8 @@ pub record IsLinkPendingHere (k : Known) (r : Record) (before after : List Page)
   pub some_added : added ≢ 0
   pub linked : IsLinkHere r head.private end added others others_before others_after
   pub before_is : before ≡ old ∷ others_before
-  pub head_after : IsHeadChange r doc old head (record head { private = 0 }) left
-  pub after_is : after ≡ left ∷ others_after
+  pub head_after : IsHeadChange r doc old head (record head { private = 0 }) heap_then
+  pub after_is : after ≡ heap_then ∷ others_after
 
 -- The document is whole with this vector, and no row of it is linked; its private chain has `added`
 -- pages, of which `end` is the last, and their rows have all its keys; where another page is
@@ -169,8 +169,8 @@ pub record IsShiftHere (k : Known) (r : Record) (before after : List Page) : Typ
   pub was : old.body ≡ body.Pending rows
   pub last_is : IsLastAfter old.right last new_last
   pub after_is : after
-      ≡ left_with r meta.right (body.Meta old.right new_last count)
-      ∷ left_with r old.right (body.Deleted (gone.Pending rows)) ∷ []
+      ≡ made_with r meta.right (body.Meta old.right new_last count)
+      ∷ made_with r old.right (body.Deleted (gone.Pending rows)) ∷ []
 
 -- 12 Shift: the document of each row on the page has all its keys in the main part
 pub record IsShift (R : Log) (P Q : Pages) (r : Record) : Type 0 where

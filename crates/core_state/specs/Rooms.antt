@@ -25,7 +25,7 @@ pub record Room : Type 0 where
   pub inserted : ℕ
 
 -- a state and its room
-pub record Held : Type 0 where
+pub record InMemory : Type 0 where
   pub value : StateValue
   pub room : Room
 
@@ -46,7 +46,7 @@ abbrev pub FitsMarked : Room → Transaction → Type 0
 FitsMarked m t = length t.deleted < m.names
 
 -- what a record of this kind and xid, with so many changes, adds beside the uses of pages has room
-abbrev pub HasRoomFor : Kind → ℕ → ℕ → Held → Type 0
+abbrev pub HasRoomFor : Kind → ℕ → ℕ → InMemory → Type 0
 HasRoomFor kind.Begin x n h = (length h.value.fates < h.room.fates) × (0 < h.room.running)
 HasRoomFor (kind.Commit number) x n h = IfSome (transaction x h.value.running) (FitsCommit h.room)
 HasRoomFor (kind.PlaceHead item serial) x n h =
@@ -57,7 +57,7 @@ HasRoomFor kind.FreeSlots x n h = length h.value.freed + n ≤ h.room.freed
 HasRoomFor _ x n h = ⊤
 
 -- the step by this record takes no more memory
-pub record HasRoom (h : Held) (r : Record) : Type 0 where
+pub record HasRoom (h : InMemory) (r : Record) : Type 0 where
   pub pages : All (λ (c : Change). c.page < page_limit → c.page < h.room.pages) r.changes
   pub rest : HasRoomFor r.kind r.xid (length r.changes) h
 
@@ -67,7 +67,7 @@ HasRoomForPages pages r = All (λ (c : Change). c.page < page_limit → c.page <
 
 -- Beside the uses of pages, a transaction that begins next, places one document and commits takes no
 -- more memory. None of its xid runs.
-pub record HasRoomToInsert (h : Held) : Type 0 where
+pub record HasRoomToInsert (h : InMemory) : Type 0 where
   pub fresh : transaction (suc (length h.value.fates)) h.value.running ≡ None
   pub fates : length h.value.fates < h.room.fates
   pub running : 0 < h.room.running

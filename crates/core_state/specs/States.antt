@@ -1,7 +1,10 @@
 -- What the program keeps of a log, and how it follows each record.
-use Rattle.std.specs.Prelude.{◌≡◌, ◌↔◌, ℕ, zero, suc, ◌-◌, ◌^◌, ◌&&◌, ◌==◌, not, nat_lt, cond, if◌then◌else◌, max, List, [], ◌∷◌, ◌++◌, length, get_or, set, map, replicate, Option, Some, None}
+use Rattle.std.specs.Prelude.{◌≡◌, ◌≢◌, ◌↔◌, ◌<◌, ℕ, zero, suc, ◌-◌, ◌^◌, ◌&&◌, ◌==◌, not, nat_lt, cond, if◌then◌else◌, max, min, ◌+◌, List, [], ◌∷◌, ◌++◌, length, get_or, set, map, replicate, Option, Some, None}
 use Rattle.std.specs.List.{filter}
 use Rattle.page_types.specs.Numbers.{page_limit}
+use Rattle.page_types.specs.Spelling.{body_bytes}
+use Rattle.page_types.specs.Edits.{used_in}
+use Rattle.page_types.specs.Keys.{Rising}
 use Rattle.page_types.specs.declared.page.Name.{Name}
 use Rattle.page_types.specs.declared.record.Change.{Change}
 use Rattle.page_types.specs.declared.record.Edit.{Edit}
@@ -10,7 +13,7 @@ use Rattle.page_types.specs.declared.record.Record.{Record}
 use Rattle.page_types.specs.declared.record.Kind.{Kind}
 use Rattle.page_types.specs.declared.record.Kind.TheVariants as kind
 use Rattle.core_state.specs.Log.{Log, Pages, In, Shows, changed, xid_bound, commits, next_xid, next_serial, fate, redo_of}
-use Rattle.core_state.specs.Documents.{Doc, page_of, name_of}
+use Rattle.core_state.specs.Documents.{Doc, page_of, name_of, placed, marked}
 use Rattle.core_state.specs.History.{Document, Commit, History, IsHistory}
 use Rattle.core_state.specs.Known.{Known, use_in}
 use Rattle.core_state.specs.Lives.{IsLife, IsHeapPage, placer, with_ends, life_in}
@@ -24,8 +27,8 @@ use Rattle.core_state.specs.declared.answers.PageUse.{PageUse}
 use Rattle.core_state.specs.declared.answers.PageUse.TheVariants as usage
 
 -- What is kept: how many pages a store may have, and where its xids end; the number of the last
--- record; the fates of the xids 1, 2 and so on; the uses of the pages 0, 1 and so on; the next
--- serial; the last redo number; the names that each commit deleted, and those that it inserted; the
+-- record; the fates of the xids 1, 2 and so on; the uses of the pages 0, 1 and so on, and the lengths
+-- of their bodies; the next serial; the last redo number; the names that each commit deleted, and those that it inserted; the
 -- documents that were placed, with the serials 1, 2 and so on, and the commits that deleted them, 0
 -- where none did; the running transactions; the page of the last placed head, or that with which the
 -- run began; the highest heap page; the heap pages, on which a head was placed, in rising order; and
@@ -36,6 +39,7 @@ pub record StateValue : Type 0 where
   pub records : ℕ
   pub fates : List Fate
   pub uses : List PageUse
+  pub sizes : List ℕ
   pub next_serial : ℕ
   pub redo : ℕ
   pub deleted : List (List Name)
@@ -56,6 +60,7 @@ empty_state pages xid_limit = record {
   records = 0;
   fates = [];
   uses = [];
+  sizes = [];
   next_serial = 1;
   redo = 1;
   deleted = [];
@@ -83,6 +88,10 @@ fate_of s x = fate_at s.fates x
 abbrev pub use_of : StateValue → ℕ → PageUse
 use_of s p = get_or s.uses p usage.Unused
 
+-- the length of a page's body
+abbrev pub size_of : StateValue → ℕ → ℕ
+size_of s p = get_or s.sizes p 0
+
 -- the commits that inserted and deleted the document of this name; none where no commit inserted it
 abbrev pub life_of : StateValue → Name → Option Life
 life_of s n = life_in (fate_of s) s.ends n (placer s.placed n)
@@ -108,9 +117,13 @@ kind_byte (Delta front start cut bytes) = get_or front 0 0
 abbrev pub edited_use : ℕ → Edit → PageUse
 edited_use number e = cond (kind_byte e == 9) (usage.Deleted number) usage.Used
 
+-- a list with x at place p; places before it that it hasn't yet get `none`
+abbrev pub put_at : {A : Type 0} → A → ℕ → A → List A → List A
+put_at none p x xs = set (xs ++ replicate (suc p - length xs) none) p x
+
 -- a list with this use at place p; places before it that it hasn't yet are unused
 abbrev pub with_use : ℕ → PageUse → List PageUse → List PageUse
-with_use p u us = set (us ++ replicate (suc p - length us) usage.Unused) p u
+with_use p u us = put_at usage.Unused p u us
 
 -- the uses after changes; a page that has no number is left out
 abbrev pub uses_after : ℕ → List Change → List PageUse → List PageUse
@@ -118,6 +131,20 @@ uses_after number [] us = us
 uses_after number (c ∷ cs) us =
     uses_after number cs
     (if nat_lt c.page page_limit then with_use c.page (edited_use number c.edit) us else us)
+
+-- the length of the body that an edit leaves, where it was `old`; it is kept up to 65535, which no
+-- page reaches
+abbrev pub edited_size : Edit → ℕ → ℕ
+edited_size (Image bytes) old = used_in bytes
+edited_size (Delta front start cut bytes) old = min 65535 (old - cut + length bytes)
+
+-- the lengths of bodies after changes; a page that has no number is left out
+abbrev pub sizes_after : List Change → List ℕ → List ℕ
+sizes_after [] ns = ns
+sizes_after (c ∷ cs) ns =
+    sizes_after cs
+    (if nat_lt c.page page_limit then put_at 0 c.page (edited_size c.edit (get_or ns c.page 0)) ns
+    else ns)
 
 -- the running transaction of an xid
 abbrev pub transaction : ℕ → List Transaction → Option Transaction
@@ -157,10 +184,10 @@ with_page p [] = p ∷ []
 with_page p (q ∷ qs) =
     if nat_lt p q then p ∷ q ∷ qs else (if nat_lt q p then q ∷ with_page p qs else q ∷ qs)
 
--- pages in a rising list
+-- pages in a rising list; a number that no page has is left out
 abbrev pub with_pages : List ℕ → List ℕ → List ℕ
 with_pages [] qs = qs
-with_pages (p ∷ ps) qs = with_pages ps (with_page p qs)
+with_pages (p ∷ ps) qs = with_pages ps (if nat_lt p page_limit then with_page p qs else qs)
 
 -- the greater of a page and the highest so far
 abbrev pub higher : ℕ → Option ℕ → Option ℕ
@@ -223,10 +250,6 @@ abbrev pub marked_head : Option Transaction → Doc → StateValue → StateValu
 marked_head None d s = s
 marked_head (Some t) d s = record s { running = replaced (with_marked (name_of d) t) s.running }
 
--- the pages of changes
-abbrev pub pages_of : List Change → List ℕ
-pages_of cs = map (λ (c : Change). c.page) cs
-
 -- what a record of this kind and xid, which changes these pages, makes of a state
 abbrev pub stepped : Kind → ℕ → List ℕ → StateValue → StateValue
 stepped kind.Begin x ps s = begun x s
@@ -240,13 +263,19 @@ stepped (kind.MarkDeleted item serial) x ps s =
 stepped kind.FreeSlots x ps s = record s { freed = with_pages ps s.freed }
 stepped _ x ps s = s
 
+-- a state with the number and the pages of a record
+abbrev pub noted : Record → StateValue → StateValue
+noted r s = record s {
+  records = r.number;
+  uses = uses_after r.number r.changes s.uses;
+  sizes = sizes_after r.changes s.sizes;
+}
+
 -- The state after a record, valid or not. An xid or a number that isn't the next, and an xid that
--- doesn't run, change the number and the uses alone; a checkpoint's redo number and the pages of
--- freed slots are taken as they come.
+-- doesn't run, change the number, the uses and the lengths of bodies alone; a checkpoint's redo number
+-- and the pages of freed slots are taken as they come.
 abbrev pub step_of : Record → StateValue → StateValue
-step_of r s =
-    stepped r.kind r.xid (changed r)
-    (record s { records = r.number; uses = uses_after r.number r.changes s.uses })
+step_of r s = stepped r.kind r.xid (changed r) (noted r s)
 
 -- the state that follows a log
 abbrev pub state_of : ℕ → ℕ → Log → StateValue
@@ -270,6 +299,18 @@ heap_pages s = with_first s.current s.freed
 abbrev pub names : List Document → List Name
 names ds = map (λ (d : Document). d.name) ds
 
+-- what transaction x has done so far
+abbrev pub done_by : Log → ℕ → Transaction
+done_by R x = record {
+  xid = x;
+  deleted = map name_of (marked R x);
+  inserted = map name_of (placed R x);
+}
+
+-- the serials of the names rise
+abbrev pub RiseBySerial : List Name → Type 0
+RiseBySerial ns = Rising (λ (m n : Name). m.serial < n.serial) ns
+
 -- what the state of a log tells of it
 pub record StateTells (R : Log) (s : StateValue) : Type 0 where
   pub records : s.records ≡ length R
@@ -283,7 +324,11 @@ pub record StateTells (R : Log) (s : StateValue) : Type 0 where
       → s.inserted ≡ map (λ (c : Commit). names c.inserted) H
   pub heaps : (p : ℕ) → In p s.heaps ↔ IsHeapPage R p
   pub lives : (n : Name) → IsLife R n (life_of s n)
+  pub running : (x : ℕ) → fate R x ≡ Running → transaction x s.running ≡ Some (done_by R x)
+  pub not_running : (x : ℕ) → fate R x ≢ Running → transaction x s.running ≡ None
+  pub placed_rise : (x : ℕ) → RiseBySerial (done_by R x).inserted
   pub uses : (P : Pages) → Shows R P → (p : ℕ) → use_of s p ≡ use_in P p
+  pub sizes : (P : Pages) → Shows R P → (p : ℕ) → size_of s p ≡ length (body_bytes (P p).body)
 
 -- the state of a legal log tells of it
 abbrev pub StateFollows : Type 0

@@ -9,7 +9,7 @@ use Rattle.page_types.specs.declared.record.Kind.TheVariants as kind
 use Rattle.core_state.specs.Log.{Log, Pages, In, changed, xid_bound}
 use Rattle.core_state.specs.Documents.{Doc, HasVector, placed}
 use Rattle.core_state.specs.Known.{Known}
-use Rattle.core_state.specs.Changes.{Here, left_with}
+use Rattle.core_state.specs.Changes.{Here, made_with}
 use Rattle.core_state.specs.declared.answers.Fate.TheVariants.{Running}
 
 -- the log is empty, and an empty metapage and an empty leaf of the entry tree are made
@@ -17,7 +17,7 @@ pub record IsCreateHere (k : Known) (r : Record) (before after : List Page) : Ty
   pub kind_is : r.kind ≡ kind.Create
   pub pages : changed r ≡ 0 ∷ 1 ∷ []
   pub empty : k.records ≡ 0
-  pub after_is : after ≡ left_with r 0 (body.Meta 0 0 0) ∷ left_with r 0 (body.EntryLeaf [] []) ∷ []
+  pub after_is : after ≡ made_with r 0 (body.Meta 0 0 0) ∷ made_with r 0 (body.EntryLeaf [] []) ∷ []
 
 -- 1 Create: nothing is asked beside that
 pub record IsCreate (R : Log) (P Q : Pages) (r : Record) : Type 0 where

@@ -20,7 +20,7 @@ use Rattle.page_types.specs.declared.record.Kind.TheVariants as kind
 use Rattle.core_state.specs.Log.{Log, Pages, In, changed}
 use Rattle.core_state.specs.Index.{Pending, IsNamed}
 use Rattle.core_state.specs.Known.{Known}
-use Rattle.core_state.specs.Changes.{Here, left_with, IsNew, KeyAtMost, UpTo, ItemUpTo}
+use Rattle.core_state.specs.Changes.{Here, made_with, IsNew, KeyAtMost, UpTo, ItemUpTo}
 
 -- from page p down to page q, where the key may stand: each time to the first child whose bound
 -- isn't below it
@@ -76,7 +76,7 @@ pub record IsAddItemsHere (k : Known) (r : Record) (before after : List Page) : 
   pub added : ItemsAdded old_list new_list items
   pub short : length new_list ≤ most_inline
   pub after_is : after
-      ≡ left_with r old.right
+      ≡ made_with r old.right
       (body.EntryLeaf high (front ++ record { key = key; postings = Inline new_list } ∷ back))
       ∷ []
 
@@ -109,9 +109,9 @@ pub record IsMakeTreeHere (since : ℕ) (k : Known) (r : Record)
   pub inline : old.body
       ≡ body.EntryLeaf high (front ++ record { key = key; postings = Inline items } ∷ back)
   pub after_is : after
-      ≡ left_with r old.right
+      ≡ made_with r old.right
       (body.EntryLeaf high (front ++ record { key = key; postings = Root new } ∷ back))
-      ∷ left_with r 0 (body.PostLeaf 0 items) ∷ []
+      ∷ made_with r 0 (body.PostLeaf 0 items) ∷ []
 
 -- 14 MakeTree: nothing is asked beside that
 pub record IsMakeTree (R : Log) (P Q : Pages) (r : Record) (since : ℕ) : Type 0 where
@@ -131,7 +131,7 @@ pub record IsAddPostingsHere (k : Known) (r : Record) (before after : List Page)
   pub before_is : before ≡ old ∷ []
   pub was : old.body ≡ body.PostLeaf high old_list
   pub added : ItemsAdded old_list new_list items
-  pub after_is : after ≡ left_with r old.right (body.PostLeaf high new_list) ∷ []
+  pub after_is : after ≡ made_with r old.right (body.PostLeaf high new_list) ∷ []
 
 -- the leaf is below the root that some entry names, the way down for each item leads to it, and
 -- each item has a linked row with the entry's key
@@ -186,7 +186,7 @@ pub record IsGrowRootHere (since : ℕ) (k : Known) (r : Record)
   pub before_is : before ≡ old ∷ was ∷ []
   pub large : half_body < length (body_bytes old.body)
   pub one_child : OneChild new old.body inner
-  pub after_is : after ≡ left_with r old.right inner ∷ left_with r 0 old.body ∷ []
+  pub after_is : after ≡ made_with r old.right inner ∷ made_with r 0 old.body ∷ []
 
 -- 16 GrowRoot: the page is a root
 pub record IsGrowRoot (R : Log) (P Q : Pages) (r : Record) (since : ℕ) : Type 0 where
@@ -311,8 +311,8 @@ pub record IsSplitHere (since : ℕ) (k : Known) (r : Record)
   pub divided : IsDivided page new old.body left right old_parent.body parent_after
   pub split_place : IsSplitPlace old.body left
   pub after_is : after
-      ≡ left_with r new left ∷ left_with r old.right right
-      ∷ left_with r old_parent.right parent_after ∷ []
+      ≡ made_with r new left ∷ made_with r old.right right
+      ∷ made_with r old_parent.right parent_after ∷ []
 
 -- 17 Split: nothing is asked beside that
 pub record IsSplit (R : Log) (P Q : Pages) (r : Record) (since : ℕ) : Type 0 where
@@ -330,7 +330,7 @@ pub data IsUnlinked (r : Record) (page to : ℕ) : List ℕ → List Page → Li
   none : IsUnlinked r page to [] [] []
   one : (q : ℕ) (left : Page) (high : ℕ) (items : List ℕ) → left.body ≡ body.PostLeaf high items
       → left.right ≡ page
-      → IsUnlinked r page to (q ∷ []) (left ∷ []) (left_with r to left.body ∷ [])
+      → IsUnlinked r page to (q ∷ []) (left ∷ []) (made_with r to left.body ∷ [])
 
 -- an empty posting leaf, not its parent's last child, is deleted; the left leaf's right link
 -- becomes the leaf's, and the parent loses the leaf with its bound
@@ -354,8 +354,8 @@ pub record IsDeletePostHere (k : Known) (r : Record) (before after : List Page) 
   pub child : old_parent.body
       ≡ body.PostInner (front ++ record { page = page; bound = bound } ∷ next ∷ back)
   pub unlinked : IsUnlinked r page old.right lefts lefts_before lefts_after
-  pub after_is : after ≡ left_with r old.right (body.Deleted (gone.PostLeaf high []))
-      ∷ (lefts_after ++ left_with r old_parent.right (body.PostInner (front ++ next ∷ back)) ∷ [])
+  pub after_is : after ≡ made_with r old.right (body.Deleted (gone.PostLeaf high []))
+      ∷ (lefts_after ++ made_with r old_parent.right (body.PostInner (front ++ next ∷ back)) ∷ [])
 
 -- 19 DeletePost: where no left leaf is changed, there is none
 pub record IsDeletePost (R : Log) (P Q : Pages) (r : Record) : Type 0 where

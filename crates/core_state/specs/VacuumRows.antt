@@ -1,6 +1,7 @@
 -- When a record of the kinds 18, 20 and 21 may come next: items of dead documents leave their
 -- lists, their chains lose pages, and their slots become free.
 use Rattle.std.specs.Prelude.{◌≡◌, ◌≢◌, ◌⊎◌, ℕ, ◌<◌, List, [], ◌∷◌, length, Option, Some, None, ⊤}
+use Rattle.std.specs.List.{slice_get}
 use Rattle.ts_base.specs.Keys.{Key}
 use Rattle.page_types.specs.Items.{items_of}
 use Rattle.page_types.specs.Keys.{Rising}
@@ -20,15 +21,15 @@ use Rattle.core_state.specs.Log.{Log, Pages, In, changed}
 use Rattle.core_state.specs.Documents.{Doc, Has, IsDead, page_of, item_at}
 use Rattle.core_state.specs.Index.{HasRow, NoPair}
 use Rattle.core_state.specs.Known.{Known}
-use Rattle.core_state.specs.Changes.{Here, left_with, IsHeadChange, IsDeadHead}
+use Rattle.core_state.specs.Changes.{Here, made_with, IsHeadChange, IsDeadHead}
 
--- items left the list, all of them among those removed
+-- items went from the list, all of them among those removed
 pub record ItemsLeave (removed old new : List ℕ) : Type 0 where
   pub rises : Rising (λ (i j : ℕ). i < j) (items_of new)
   pub no_other : (i : ℕ) → In i (items_of new) → In i (items_of old)
-  pub left : (i : ℕ) → In i (items_of old) → In i (items_of new) ⊎ In i removed
+  pub each : (i : ℕ) → In i (items_of old) → In i (items_of new) ⊎ In i removed
 
--- the entry stays as it is, or items left its inline list
+-- the entry stays as it is, or items went from its inline list
 pub data EntryLoses (removed : List ℕ) (old new : Entry) : Type 0 where
   same : old ≡ new → EntryLoses removed old new
   less : (a b : List ℕ) → old.key ≡ new.key → old.postings ≡ Inline a → new.postings ≡ Inline b
@@ -41,14 +42,23 @@ EntriesLose removed [] (f ∷ fs) = ⊥
 EntriesLose removed (e ∷ es) [] = ⊥
 EntriesLose removed (e ∷ es) (f ∷ fs) = EntryLoses removed e f × EntriesLose removed es fs
 
--- items left the lists of an entry leaf, or the list of a posting leaf
+-- items went from the lists of an entry leaf, or the list of a posting leaf
 pub data ListsLose (removed : List ℕ) : Body → Body → Type 0 where
   entries : (high : Key) (old new : List Entry) → EntriesLose removed old new
       → ListsLose removed (body.EntryLeaf high old) (body.EntryLeaf high new)
   postings : (high : ℕ) (old new : List ℕ) → ItemsLeave removed old new
       → ListsLose removed (body.PostLeaf high old) (body.PostLeaf high new)
 
--- items leave the lists of a leaf, at least one
+-- an item stood in a list of a leaf, and went from this list
+pub data ItemGoes (i : ℕ) : Body → Body → Type 0 where
+  from_entry : (high : Key) (old new : List Entry) (k : ℕ) (e f : Entry) (a b : List ℕ)
+      → slice_get old k ≡ Some e → slice_get new k ≡ Some f → e.postings ≡ Inline a
+      → f.postings ≡ Inline b → In i (items_of a) → (In i (items_of b) → ⊥)
+      → ItemGoes i (body.EntryLeaf high old) (body.EntryLeaf high new)
+  from_postings : (high : ℕ) (old new : List ℕ) → In i (items_of old) → (In i (items_of new) → ⊥)
+      → ItemGoes i (body.PostLeaf high old) (body.PostLeaf high new)
+
+-- items leave the lists of a leaf, at least one; the removed ones are just those that went from a list
 pub record IsRemoveItemsHere (k : Known) (r : Record) (before after : List Page) : Type 0 where
   pub page : ℕ
   pub removed : List ℕ
@@ -58,8 +68,9 @@ pub record IsRemoveItemsHere (k : Known) (r : Record) (before after : List Page)
   pub pages : changed r ≡ page ∷ []
   pub before_is : before ≡ old ∷ []
   pub lists : ListsLose removed old.body content
+  pub went : (i : ℕ) → In i removed → ItemGoes i old.body content
   pub some : content ≢ old.body
-  pub after_is : after ≡ left_with r old.right content ∷ []
+  pub after_is : after ≡ made_with r old.right content ∷ []
 
 -- the item may leave: its document is dead and has no linked row
 pub record MayLeave (R : Log) (P : Pages) (floor i : ℕ) : Type 0 where
@@ -94,7 +105,7 @@ pub record IsDropPageHere (floor : ℕ) (k : Known) (r : Record)
   pub page : ℕ
   pub content : Gone
   pub old : Page
-  pub left : Page
+  pub heap_then : Page
   pub was : Page
   pub kind_is : r.kind ≡ kind.DropPage doc.item doc.serial
   pub pages : changed r ≡ page_of doc.item ∷ page ∷ []
@@ -102,8 +113,8 @@ pub record IsDropPageHere (floor : ℕ) (k : Known) (r : Record)
   pub dead : IsDeadHead k.fates floor head
   pub not_none : page ≢ 0
   pub dropped : IsDropped head page was.right was.body content head_then
-  pub head_after : IsHeadChange r doc old head head_then left
-  pub after_is : after ≡ left ∷ left_with r was.right (body.Deleted content) ∷ []
+  pub head_after : IsHeadChange r doc old head head_then heap_then
+  pub after_is : after ≡ heap_then ∷ made_with r was.right (body.Deleted content) ∷ []
 
 -- the document is dead, and no row and no posting has its item
 pub record IsGoneFrom (R : Log) (P : Pages) (floor : ℕ) (doc : Doc) : Type 0 where
@@ -140,7 +151,7 @@ pub record IsFreeSlotsHere (floor : ℕ) (k : Known) (r : Record)
   pub same_length : length new_slots ≡ length slots
   pub each : (slot : ℕ) → SlotLoses k floor (slot_at slots slot) (slot_at new_slots slot)
   pub some : new_slots ≢ slots
-  pub after_is : after ≡ left_with r old.right (body.Heap new_slots) ∷ []
+  pub after_is : after ≡ made_with r old.right (body.Heap new_slots) ∷ []
 
 -- 21 FreeSlots: each freed document is dead, and no row and no posting has its item
 pub record IsFreeSlots (R : Log) (P Q : Pages) (r : Record) (floor : ℕ) : Type 0 where

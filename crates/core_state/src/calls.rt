@@ -3,7 +3,7 @@
 ghost use Rattle.std.specs.Prelude.{◌≡◌, ◌≤◌, option_copied};
 ghost use Rattle.core_state.specs.Log.{In};
 ghost use Rattle.core_state.specs.States.{transaction, use_of, life_of};
-ghost use Rattle.core_state.specs.PageChoice.{IsLeast, IsLeastIfAny, IsUnused, IsReusable, AreBelow};
+ghost use Rattle.core_state.specs.PageChoice.{IsLeast, IsLeastIfAny, IsUnused, IsReusable, AreBelow, HasRoomAt};
 
 use crate::lives::Life;
 use crate::state::State;
@@ -47,7 +47,7 @@ impl State {
     pub fn running(&self, xid: u32) -> Option<&Transaction>
         ensures { option_copied result ≡ transaction xid self.now.value.running }
     {
-        self.book.running.find(xid)
+        self.table.running.find(xid)
     }
 
     /// By which commits the document of this name was inserted and deleted; none where no commit
@@ -55,13 +55,22 @@ impl State {
     pub fn document(&self, name: &Name) -> Option<Life>
         ensures { result ≡ life_of self.now.value name.now }
     {
-        self.book.document(name)
+        self.table.document(name)
     }
 
     /// The lowest heap page that isn't below this page: heap pages are those on which a head was placed.
     pub fn heap_from(&self, page: u32) -> Option<u32>
         ensures { IsLeastIfAny (λ p. (page ≤ p) × In p self.now.value.heaps) result }
     {
-        self.book.heap_from(page)
+        self.table.heap_from(page)
+    }
+
+    /// The first number from k on, in the order of `heap_page`, whose page has room for so many bytes,
+    /// of which one may be a free slot's: its body, as its last record made it, and they are 8169 at
+    /// most.
+    pub fn room_from(&self, k: u32, bytes: u32) -> Option<u32>
+        ensures { IsLeastIfAny (λ p. (k ≤ p) × HasRoomAt self.now.value bytes p) result }
+    {
+        self.table.room_from(k, bytes)
     }
 }

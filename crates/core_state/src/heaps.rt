@@ -32,7 +32,7 @@ impl Model for HeapPages {
 }
 
 // The page at a place.
-fn page_at(pages: &[u32], place: usize) -> Option<u32>
+pub(crate) fn page_at(pages: &[u32], place: usize) -> Option<u32>
     ensures { result ≡ slice_get pages.now place }
 {
     pages.get(place).copied()

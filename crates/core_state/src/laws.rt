@@ -1,5 +1,5 @@
 // What holds of all logs.
-ghost use Rattle.core_state.specs.Laws.{KeysAreOne, ShownAreOne, OthersStay, LeftIsPage, ValidIsMonotone, LegalWithoutNewest, KeepsWithoutNewest, HistoryIsOne, LegalHasHistory};
+ghost use Rattle.core_state.specs.Laws.{KeysAreOne, ShownAreOne, OthersStay, MadeIsPage, ValidIsMonotone, LegalWithoutNewest, KeepsWithoutNewest, HistoryIsOne, LegalHasHistory};
 ghost use Rattle.core_state.specs.States.{StateFollows};
 ghost use Rattle.core_state.specs.Bullets.{BulletsHold};
 ghost use Rattle.core_state.specs.Standing.{DocumentsHold};
@@ -13,11 +13,11 @@ pub fn keys_are_one()
 {}
 
 /// A log shows one page at each number; a page that a record doesn't name is the same after it; and
-/// a page of a step that has a spelling has one as the record leaves it.
+/// a page of a step that has a spelling has one as the record makes it.
 pub fn pages_are_shown()
     ensures one { ShownAreOne }
     ensures others { OthersStay }
-    ensures left { LeftIsPage }
+    ensures made { MadeIsPage }
 {}
 
 /// A larger floor or since makes no valid record invalid.

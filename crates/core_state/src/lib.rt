@@ -7,7 +7,6 @@
 #![tactic(auto)]
 
 mod answers;
-mod book;
 mod calls;
 mod freed;
 mod heaps;
@@ -20,7 +19,9 @@ mod placing;
 mod running;
 mod sessions;
 mod settings;
+mod sizes;
 mod state;
+mod table;
 mod transactions;
 mod uses;
 mod valid;
@@ -36,5 +37,6 @@ pub use placing::valid_place_head;
 pub use sessions::{logged_steps_hold, pins_hold, steps_hold, views_hold};
 pub use settings::Settings;
 pub use state::State;
+pub use table::XID_BOUND;
 pub use transactions::{Names, Transaction};
 pub use valid::{valid_abort, valid_begin, valid_commit, valid_create};

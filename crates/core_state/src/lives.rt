@@ -2,7 +2,7 @@
 ghost use Rattle.std.specs.Prelude.{◌≡◌, ◌-◌, ◌<◌, [], ◌∷◌, ◌++◌, get_or, slice_set, OnOk, IsOk};
 ghost use Rattle.core_state.specs.Lives.{placer, first_end, with_ends, some_commit};
 
-use crate::book::name_of;
+use crate::table::name_of;
 use page_types::Name;
 use std::alloc::{AllocError, Global};
 use std::marker::Model;

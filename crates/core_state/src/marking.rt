@@ -10,9 +10,9 @@ ghost use Rattle.core_state.specs.States.{known_by, fate_of};
 ghost use Rattle.core_state.specs.Inner.HeadChanges.{HasHead, LeavesInSlot, LeavesPart, MayBeMarked, MayBePut};
 
 use crate::answers::Fate;
-use crate::book::name_of;
 use crate::placing::others_stay;
 use crate::state::State;
+use crate::table::name_of;
 use crate::valid::changes_pages;
 use page_types::{
     Body, HeadFields, HeadRef, Kind, MOST_BODY_BYTES, MOST_SHORT_BYTES, Name, Page, Record, Slots,

@@ -9,8 +9,8 @@ ghost use Rattle.core_state.specs.States.{known_by, use_of};
 ghost use Rattle.core_state.specs.Inner.Placing.{PlacesHead, LeavesHead};
 
 use crate::answers::Fate;
-use crate::book::name_of;
 use crate::state::State;
+use crate::table::name_of;
 use crate::valid::changes_pages;
 use page_types::{Body, HeadRef, Kind, Name, Page, Record, Slots};
 use std::alloc::{AllocError, Global};

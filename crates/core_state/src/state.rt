@@ -6,8 +6,8 @@ ghost use Rattle.core_state.specs.Changes.{IsNew};
 ghost use Rattle.core_state.specs.Rooms.{HasRoom, HasRoomForPages, HasRoomToInsert, LeavesRoom};
 
 use crate::answers::{Fate, PageUse};
-use crate::book::Book;
 use crate::peaks::Peaks;
+use crate::table::TransactionTable;
 use crate::uses::{lowest_from, note_uses, pages_end};
 use page_types::{Name, Record};
 use std::alloc::{AllocError, Global};
@@ -21,7 +21,7 @@ pub struct State {
     pub(crate) uses: Vec<PageUse>,
     pub(crate) lowest: usize,
     pub(crate) ranks: Peaks,
-    pub(crate) book: Book,
+    pub(crate) table: TransactionTable,
 }
 
 impl Model for State {
@@ -30,13 +30,15 @@ impl Model for State {
     ghost use Rattle.page_types.specs.Numbers.{page_limit};
     ghost use Rattle.core_state.specs.Inner.Lowest.{AreUses};
     ghost use Rattle.core_state.specs.Inner.Ranks.{AreRanks};
-    ghost use Rattle.core_state.specs.Rooms.{Held};
+    ghost use Rattle.core_state.specs.Rooms.{InMemory};
 
-    ghost Value = { Held };
+    ghost Value = { InMemory };
 
     ghost view = { λ s. record {
-      value = record s.book.value { records = s.records; uses = s.uses.items };
-      room = record s.book.room { pages = min (vec_capacity s.uses) (length s.ranks) };
+      value = record s.table.value { records = s.records; uses = s.uses.items };
+      room = record s.table.room {
+        pages = min (min (vec_capacity s.uses) (length s.ranks)) s.table.room.pages;
+      };
     } };
 
     ghost invariant = { λ s. AreUses s.uses.items s.lowest
@@ -55,7 +57,7 @@ impl State {
             uses: Vec::new(alloc),
             lowest: 0,
             ranks: Peaks::new(alloc),
-            book: Book::new(alloc, pages, xid_limit),
+            table: TransactionTable::new(alloc, pages, xid_limit),
         }
     }
 
@@ -65,13 +67,9 @@ impl State {
         ensures room { OnOk result (HasRoom self.new rec.now) }
         ensures ok { HasRoom self.old rec.now → IsOk result }
     {
-        let changes = rec.changes.as_slice();
-        let end = pages_end(changes);
-        let more = end.saturating_sub(self.uses.len());
-        self.uses.reserve(more)?;
-        self.ranks.reserve(end)?;
-        self.book.make_room(&rec.kind, rec.xid, changes.len())?;
-        Ok(())
+        self.make_room_for_pages(rec)?;
+        let changes = rec.changes.as_slice().len();
+        self.table.make_room(&rec.kind, rec.xid, changes)
     }
 
     /// The next record, valid or not. Without memory the state stays as it is; where room was made
@@ -91,12 +89,15 @@ impl State {
         ensures same { self.new.value ≡ self.old.value }
         ensures room { OnOk result (HasRoomForPages self.new.room.pages rec.now) }
         ensures more { self.old.room.pages ≤ self.new.room.pages }
+        ensures rest { self.new.room ≡ record self.old.room { pages = self.new.room.pages } }
+        ensures ok { HasRoomForPages self.old.room.pages rec.now → IsOk result }
     {
         let changes = rec.changes.as_slice();
         let end = pages_end(changes);
         let more = end.saturating_sub(self.uses.len());
         self.uses.reserve(more)?;
-        self.ranks.reserve(end)
+        self.ranks.reserve(end)?;
+        self.table.make_room_for_pages(end)
     }
 
     /// Makes room for a transaction that begins next, places one document and commits, by these
@@ -116,7 +117,7 @@ impl State {
         self.make_room_for_pages(begin)?;
         self.make_room_for_pages(place)?;
         self.make_room_for_pages(commit)?;
-        self.book.make_room_to_insert()
+        self.table.make_room_to_insert()
     }
 
     /// The next record, valid or not, for which there is room.
@@ -128,7 +129,8 @@ impl State {
         ensures room { LeavesRoom rec.now.kind rec.now.xid self.old.room self.new.room }
     {
         let changes = rec.changes.as_slice();
-        self.book.turn(&rec.kind, rec.xid, changes);
+        self.table.note_sizes(changes);
+        self.table.turn(&rec.kind, rec.xid, changes);
         note_uses(&mut self.uses, &mut self.ranks, rec.number, changes);
         self.lowest = lowest_from(&self.uses, self.lowest);
         self.records = rec.number;
@@ -138,7 +140,7 @@ impl State {
     pub fn fate(&self, xid: u32) -> Fate
         ensures { result ≡ fate_of self.now.value xid }
     {
-        self.book.fate(xid)
+        self.table.fate(xid)
     }
 
     /// What use a page is of.
@@ -167,7 +169,7 @@ impl State {
     pub fn commits(&self) -> u32
         ensures { result ≡ length self.now.value.deleted }
     {
-        self.book.commits()
+        self.table.commits()
     }
 
     /// The names that a commit deleted. Commits count from 1.
@@ -176,7 +178,7 @@ impl State {
         requires last { commit ≤ length self.now.value.deleted }
         ensures { slice_get self.now.value.deleted (commit - 1) ≡ Some result.now }
     {
-        self.book.deleted_by(commit)
+        self.table.deleted_by(commit)
     }
 
     /// The names that a commit inserted. Commits count from 1.
@@ -185,21 +187,21 @@ impl State {
         requires last { commit ≤ length self.now.value.deleted }
         ensures { slice_get self.now.value.inserted (commit - 1) ≡ Some result.now }
     {
-        self.book.inserted_by(commit)
+        self.table.inserted_by(commit)
     }
 
     /// The xid that the next transaction gets.
     pub fn next_xid(&self) -> u32
         ensures { result ≡ suc (length self.now.value.fates) }
     {
-        self.book.next_xid()
+        self.table.next_xid()
     }
 
     /// The serial that the next document gets.
     pub fn next_serial(&self) -> u64
         ensures { result ≡ self.now.value.next_serial }
     {
-        self.book.next_serial()
+        self.table.next_serial()
     }
 
     /// How many records the log has: the number of the last.
@@ -213,28 +215,28 @@ impl State {
     pub fn redo(&self) -> u64
         ensures { result ≡ self.now.value.redo }
     {
-        self.book.redo()
+        self.table.redo()
     }
 
     /// Whether a transaction runs.
     pub fn has_running(&self) -> bool
         ensures { result ≡ true ↔ (self.now.value.running ≢ []) }
     {
-        self.book.has_running()
+        self.table.has_running()
     }
 
     /// How many pages the store may have.
     pub fn pages(&self) -> u32
         ensures { result ≡ self.now.value.pages }
     {
-        self.book.pages()
+        self.table.pages()
     }
 
     /// Where xids end.
     pub fn xid_limit(&self) -> u32
         ensures { result ≡ self.now.value.xid_limit }
     {
-        self.book.xid_limit()
+        self.table.xid_limit()
     }
 
     /// The old heap page with this number, from 0, that a head is tried on: that of the last placed
@@ -242,13 +244,13 @@ impl State {
     pub fn heap_page(&self, k: u32) -> Option<u32>
         ensures { result ≡ slice_get (heap_pages self.now.value) k }
     {
-        self.book.heap_page(k as usize)
+        self.table.heap_page(k as usize)
     }
 
     /// A run begins: the highest heap page comes first, and no slot was freed.
     pub fn start_run(&mut self)
         ensures { self.new.value ≡ run_started self.old.value }
     {
-        self.book.start_run();
+        self.table.start_run();
     }
 }

@@ -3,13 +3,13 @@
 ghost use Rattle.std.specs.Prelude.{◌≡◌, ◌↔◌, true, [], IsOkAnd};
 ghost use Rattle.page_types.specs.declared.page.Body.TheVariants as body;
 ghost use Rattle.core_state.specs.Log.{changed, xid_bound};
-ghost use Rattle.core_state.specs.Changes.{left_with};
+ghost use Rattle.core_state.specs.Changes.{made_with};
 ghost use Rattle.core_state.specs.States.{known_by};
 ghost use Rattle.core_state.specs.TransactionRows.{IsCreateHere, IsBeginHere, IsCommitHere, IsAbortHere};
 
 use crate::answers::Fate;
-use crate::book::XID_BOUND;
 use crate::state::State;
+use crate::table::XID_BOUND;
 use page_types::{Body, Kind, Page, Record};
 use std::alloc::{AllocError, Global};
 
@@ -31,7 +31,7 @@ pub(crate) fn changes_pages(rec: &Record, pages: &[u32]) -> bool
 
 // Whether a record leaves this page as an empty metapage.
 fn is_first_meta(rec: &Record, page: &Page) -> bool
-    ensures { result ≡ true ↔ (page.now ≡ left_with rec.now 0 (body.Meta 0 0 0)) }
+    ensures { result ≡ true ↔ (page.now ≡ made_with rec.now 0 (body.Meta 0 0 0)) }
 {
     match page.body {
         Body::Meta { first, last, pages } => {
@@ -43,7 +43,7 @@ fn is_first_meta(rec: &Record, page: &Page) -> bool
 
 // Whether a record leaves this page as an empty leaf of the entry tree, without right link.
 fn is_first_leaf(rec: &Record, page: &Page) -> bool
-    ensures { result ≡ true ↔ (page.now ≡ left_with rec.now 0 (body.EntryLeaf [] [])) }
+    ensures { result ≡ true ↔ (page.now ≡ made_with rec.now 0 (body.EntryLeaf [] [])) }
 {
     match &page.body {
         Body::EntryLeaf { high, entries } => {

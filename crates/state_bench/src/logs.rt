@@ -1,16 +1,19 @@
 // The two logs.
-use core_state::State;
+use core_state::{State, XID_BOUND};
 use page_types::{Bytes, Change, Changes, Edit, Kind, Name, Record};
 use std::alloc::{AllocError, Global};
 
 /// How many pages the store may have.
 const PAGES: u32 = 1_048_576;
 
-/// Where its xids end.
-const XIDS: u32 = 16_777_216;
-
 /// The first item of the first heap page.
 const ITEM: u32 = 4096;
+
+/// The bytes of a full body.
+const FULL: usize = 8168;
+
+/// The bytes of a head.
+const HEAD: u32 = 100;
 
 /// A state with the records by which it goes on.
 #[derive(Drop)]
@@ -35,7 +38,7 @@ impl Follower {
         let mut changes = Changes::new(alloc);
         changes.push(Change { page: 2, edit })?;
         Ok(Follower {
-            state: State::new(alloc, PAGES, XIDS),
+            state: State::new(alloc, PAGES, XID_BOUND),
             bare: record(Changes::new(alloc)),
             placing: record(changes),
         })
@@ -152,7 +155,7 @@ pub(crate) fn living(state: &State, count: u32) -> u32 {
 
 /// A state of a log whose records delete so many pages, the last page first.
 pub(crate) fn deleted_pages(alloc: Global, pages: u32) -> Result<State, AllocError> {
-    let mut state = State::new(alloc, PAGES, XIDS);
+    let mut state = State::new(alloc, PAGES, XID_BOUND);
     for n in 0..pages {
         let edit = Edit::Delta {
             front: [9, 0, 0, 0, 0, 0, 0, 0],
@@ -177,6 +180,47 @@ pub(crate) fn reusable_pages(state: &State, count: u64) -> u64 {
     for since in 0..count {
         if let Some(page) = state.reusable(since) {
             sum = sum.wrapping_add(u64::from(page));
+        }
+    }
+    sum
+}
+
+/// A record that fills a heap page with so many bytes and frees a slot of it.
+fn filling(alloc: Global, page: u32, bytes: &[u8]) -> Result<Record, AllocError> {
+    let edit = Edit::Delta {
+        front: [2, 0, 0, 0, 0, 0, 0, 0],
+        start: 0,
+        cut: 0,
+        bytes: Bytes::from_slice(alloc, bytes)?,
+    };
+    let mut changes = Changes::new(alloc);
+    changes.push(Change { page, edit })?;
+    let mut rec = record(changes);
+    rec.kind = Kind::FreeSlots;
+    Ok(rec)
+}
+
+/// A state of a log whose records free slots of so many heap pages, all of them full but for the last
+/// one.
+pub(crate) fn full_pages(alloc: Global, pages: u32) -> Result<State, AllocError> {
+    let mut state = State::new(alloc, PAGES, XID_BOUND);
+    let body = [0u8; FULL];
+    for n in 0..pages {
+        let full = n.wrapping_add(1) < pages;
+        let bytes: &[u8] = if full { &body } else { &[] };
+        let mut rec = filling(alloc, n.wrapping_add(2), bytes)?;
+        rec.number = state.length().wrapping_add(1);
+        state.step(&rec)?;
+    }
+    Ok(state)
+}
+
+/// The sum of the numbers of the pages with room for a head, from each of so many numbers on.
+pub(crate) fn pages_with_room(state: &State, count: u32) -> u64 {
+    let mut sum = 0u64;
+    for k in 0..count {
+        if let Some(place) = state.room_from(k, HEAD) {
+            sum = sum.wrapping_add(u64::from(place));
         }
     }
     sum

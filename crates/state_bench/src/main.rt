@@ -1,18 +1,23 @@
 //! Follows two logs by the core's state, and prints counts of what it tells then: one of a document
 //! for each transaction, and one of as many transactions that all run beside each other, which
 //! place a document, mark it, and then commit, abort or are ended with all others. Behind the first
-//! log each document is looked up by its name, and pages to use again are looked for among many that
-//! were deleted. With the word `time` there are a million in place of 10,000, a tenth of that as
-//! deleted pages, and it is also printed how long each log and each look takes; with the word
-//! `documents` only the first log is followed.
+//! log each document is looked up by its name, pages to use again are looked for among many that were
+//! deleted, and pages with room for a head among many full ones. With the word `time` there are a
+//! million in place of 10,000, a tenth of that as deleted pages and a hundredth as full ones, and it
+//! is also printed how long each log, each look and each other call takes; with the word `documents`
+//! only the first log is followed.
 #![tactic(auto)]
 
+mod calls;
 mod logs;
 
 use anyhow::Result;
+use calls::{CALLS, Call};
 use core_state::{Fate, State};
-use logs::{Follower, deleted_pages, follow_documents, follow_runners, living, reusable_pages};
-use std::alloc::Global;
+use logs::{
+    Follower, deleted_pages, follow_documents, follow_runners, full_pages, living, pages_with_room,
+    reusable_pages,
+};
 use std::env;
 use std::rt::{Clock, Env};
 use std::time::Instant;
@@ -104,26 +109,105 @@ fn look_for_pages(rt: &(impl Print + Clock + AllocGlobal), pages: u32, timed: bo
     report_looks(rt, "deleted pages", sum, pages, seconds, timed)
 }
 
+/// Looks for pages with room for a head among so many full ones.
+fn look_for_room(rt: &(impl Print + Clock + AllocGlobal), pages: u32, timed: bool) -> Result<()> {
+    let state = full_pages(rt.alloc(), pages)?;
+    let start = Instant::now(rt)?;
+    let sum = pages_with_room(&state, pages);
+    let seconds = start.elapsed(rt)?.as_secs_f64();
+    report_looks(rt, "full pages", sum, pages, seconds, timed)
+}
+
+/// Makes a call on the state of the first log again and again.
+fn make_calls(rt: &(impl Print + Clock), state: &State, call: Call, count: u32) -> Result<()> {
+    let start = Instant::now(rt)?;
+    let sum = call.sum(state, count);
+    let seconds = start.elapsed(rt)?.as_secs_f64();
+    report_looks(rt, call.name(), sum, count, seconds, true)
+}
+
+/// Makes each call on the state of the first log.
+fn make_all_calls(rt: &(impl Print + Clock), state: &State, count: u32) -> Result<()> {
+    for call in &CALLS {
+        make_calls(rt, state, *call, count)?;
+    }
+    Ok(())
+}
+
+/// Follows the first log.
+fn follow_first(
+    rt: &(impl Print + Clock),
+    follower: &mut Follower,
+    count: u32,
+    timed: bool,
+) -> Result<()> {
+    let start = Instant::now(rt)?;
+    follow_documents(follower, count)?;
+    let seconds = start.elapsed(rt)?.as_secs_f64();
+    report(rt, "one by one", &follower.state, seconds, timed)
+}
+
+/// Looks the documents of the first log up, and makes each call where time is asked for.
+fn look_behind(
+    rt: &(impl Print + Clock),
+    follower: &Follower,
+    count: u32,
+    timed: bool,
+) -> Result<()> {
+    look_up(rt, follower, count, timed)?;
+    if timed {
+        make_all_calls(rt, &follower.state, count)?;
+    }
+    Ok(())
+}
+
+/// Follows the first log, and looks at what its state tells.
+fn one_by_one(
+    rt: &(impl Print + Clock),
+    follower: &mut Follower,
+    count: u32,
+    timed: bool,
+) -> Result<()> {
+    follow_first(rt, follower, count, timed)?;
+    look_behind(rt, follower, count, timed)
+}
+
+/// The first log, from nothing.
+fn first_log(rt: &(impl Print + Clock + AllocGlobal), count: u32, timed: bool) -> Result<()> {
+    let mut follower = Follower::new(rt.alloc())?;
+    one_by_one(rt, &mut follower, count, timed)
+}
+
+/// Follows the second log.
+fn all_at_once(
+    rt: &(impl Print + Clock),
+    follower: &mut Follower,
+    count: u32,
+    timed: bool,
+) -> Result<()> {
+    let start = Instant::now(rt)?;
+    follow_runners(follower, count)?;
+    let seconds = start.elapsed(rt)?.as_secs_f64();
+    report(rt, "all at once", &follower.state, seconds, timed)
+}
+
+/// The second log, from nothing.
+fn second_log(rt: &(impl Print + Clock + AllocGlobal), count: u32, timed: bool) -> Result<()> {
+    let mut follower = Follower::new(rt.alloc())?;
+    all_at_once(rt, &mut follower, count, timed)
+}
+
 /// The whole program.
 fn run(rt: &(impl Print + Env + Clock + AllocGlobal)) -> Result<()> {
-    let alloc: Global = rt.alloc();
     let Asked { timed, documents } = words(rt)?;
     let count = if timed { MANY } else { SOME };
-    let start = Instant::now(rt)?;
-    let mut follower = Follower::new(alloc)?;
-    follow_documents(&mut follower, count)?;
-    let seconds = start.elapsed(rt)?.as_secs_f64();
-    report(rt, "one by one", &follower.state, seconds, timed)?;
-    look_up(rt, &follower, count, timed)?;
+    first_log(rt, count, timed)?;
     look_for_pages(rt, count / 10, timed)?;
+    look_for_room(rt, count / 100, timed)?;
     if documents {
         return Ok(());
     }
-    let start = Instant::now(rt)?;
-    let mut follower = Follower::new(alloc)?;
-    follow_runners(&mut follower, count)?;
-    let seconds = start.elapsed(rt)?.as_secs_f64();
-    report(rt, "all at once", &follower.state, seconds, timed)
+    second_log(rt, count, timed)
 }
 
 /// The whole program, at the process's own input and output.

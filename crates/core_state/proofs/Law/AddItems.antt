@@ -10,7 +10,7 @@ use Rattle.page_types.specs.declared.record.Record.{Record}
 use Rattle.page_types.specs.declared.record.Kind.TheVariants as kind
 use Rattle.core_state.specs.Log.{Log, Pages, In, changed}
 use Rattle.core_state.specs.Index.{Pending}
-use Rattle.core_state.specs.Changes.{left_with}
+use Rattle.core_state.specs.Changes.{made_with}
 use Rattle.core_state.specs.TreeRows.{IsEntryBetween, IsAddItems}
 use Rattle.core_state.specs.Inner.Ghosts.{Place, Ghost}
 use Rattle.core_state.specs.Inner.Ghosts.Place.{entry, post}
@@ -38,7 +38,7 @@ module _ (n L : ℕ) (R : Log) (P Q : Pages) (r : Record) (floor since : ℕ) (g
   was : P page ≡ x.here.old
   was = one_page P (changed r) page x.here.old x.here.pages x.here.before_is
 
-  is : Q page ≡ left_with r x.here.old.right (body.EntryLeaf x.here.high entries_now)
+  is : Q page ≡ made_with r x.here.old.right (body.EntryLeaf x.here.high entries_now)
   is = one_page Q (changed r) page _ x.here.pages x.here.after_is
 
   body_was : (P page).body ≡ body.EntryLeaf x.here.high x.here.entries

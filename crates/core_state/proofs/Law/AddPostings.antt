@@ -9,7 +9,7 @@ use Rattle.page_types.specs.declared.record.Record.{Record}
 use Rattle.page_types.specs.declared.record.Kind.TheVariants as kind
 use Rattle.core_state.specs.Log.{Log, Pages, In, changed}
 use Rattle.core_state.specs.Index.{Pending}
-use Rattle.core_state.specs.Changes.{left_with}
+use Rattle.core_state.specs.Changes.{made_with}
 use Rattle.core_state.specs.TreeRows.{IsAddPostings}
 use Rattle.core_state.specs.Trees.Ext.{Ext}
 use Rattle.core_state.specs.Trees.Ext.Ext.{at}
@@ -37,7 +37,7 @@ module _ (n L : ℕ) (R : Log) (P Q : Pages) (r : Record) (floor since : ℕ) (g
   was : P page ≡ x.here.old
   was = one_page P (changed r) page x.here.old x.here.pages x.here.before_is
 
-  is : Q page ≡ left_with r x.here.old.right (body.PostLeaf x.here.high x.here.new_list)
+  is : Q page ≡ made_with r x.here.old.right (body.PostLeaf x.here.high x.here.new_list)
   is = one_page Q (changed r) page _ x.here.pages x.here.after_is
 
   body_was : (P page).body ≡ body.PostLeaf x.here.high x.here.old_list

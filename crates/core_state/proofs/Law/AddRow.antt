@@ -10,7 +10,7 @@ use Rattle.page_types.specs.declared.record.Record.{Record}
 use Rattle.page_types.specs.declared.record.Kind.TheVariants as kind
 use Rattle.core_state.specs.Log.{Log, Pages, In, changed, fate}
 use Rattle.core_state.specs.Documents.{IsChain, HasVector}
-use Rattle.core_state.specs.Changes.{left_with}
+use Rattle.core_state.specs.Changes.{made_with}
 use Rattle.core_state.specs.PendingRows.{IsAddRow}
 use Rattle.core_state.specs.declared.answers.Fate.TheVariants.{Running}
 use Rattle.core_state.specs.Inner.Effects.{NewRow}
@@ -43,7 +43,7 @@ module _ (n L : ℕ) (R : Log) (P Q : Pages) (r : Record) (since : ℕ) (g : Gho
   was : P last ≡ x.here.old
   was = one_page P (changed r) last x.here.old x.here.pages x.here.before_is
 
-  now : Q last ≡ left_with r x.here.old.right (body.Pending rows_now)
+  now : Q last ≡ made_with r x.here.old.right (body.Pending rows_now)
   now = one_page Q (changed r) last _ x.here.pages x.here.after_is
 
   rows_was : rows_of (P last) ≡ x.here.rows

@@ -10,7 +10,7 @@ use Rattle.page_types.specs.declared.record.Record.{Record}
 use Rattle.core_state.specs.Log.{Log, Pages, In, changed}
 use Rattle.core_state.specs.Documents.{page_of, slot_of, head_of}
 use Rattle.core_state.specs.Index.{Line}
-use Rattle.core_state.specs.Changes.{left_with}
+use Rattle.core_state.specs.Changes.{made_with}
 use Rattle.core_state.specs.TransactionRows.{IsCreate}
 use Rattle.core_state.specs.Trees.Nodes.{put}
 use Rattle.core_state.specs.Inner.Ghosts.{Place, Ghost}
@@ -38,7 +38,7 @@ module _ (n L : ℕ) (R : Log) (P Q : Pages) (r : Record) (floor since : ℕ) (g
   used : (p : ℕ) → g.place p ≡ unused
   used p = none_used n L R P Q r floor since g b l x p
 
-  is : (Q 0 ≡ left_with r 0 (body.Meta 0 0 0)) × (Q 1 ≡ left_with r 0 (body.EntryLeaf [] []))
+  is : (Q 0 ≡ made_with r 0 (body.Meta 0 0 0)) × (Q 1 ≡ made_with r 0 (body.EntryLeaf [] []))
   is = two_pages Q (changed r) 0 1 _ _ x.here.pages x.here.after_is
 
   others : (p : ℕ) → p ≢ 0 → p ≢ 1 → Q p ≡ free_page

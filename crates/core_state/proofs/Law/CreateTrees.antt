@@ -5,7 +5,7 @@ use Rattle.page_types.specs.declared.page.Page.{Page}
 use Rattle.page_types.specs.declared.page.Body.TheVariants as body
 use Rattle.page_types.specs.declared.record.Record.{Record}
 use Rattle.core_state.specs.Log.{Log, Pages, Shows, changed}
-use Rattle.core_state.specs.Changes.{left_with}
+use Rattle.core_state.specs.Changes.{made_with}
 use Rattle.core_state.specs.TransactionRows.{IsCreate}
 use Rattle.core_state.specs.Trees.Ext.Ext.{least, greatest}
 use Rattle.core_state.specs.Trees.Nodes as nodes
@@ -46,7 +46,7 @@ module _ (n L : ℕ) (R : Log) (P Q : Pages) (r : Record) (floor since : ℕ) (g
   no_post : (p : ℕ) → post_place (g.place p) ≡ nodes.Place.none
   no_post p = ap post_place (none_used p)
 
-  pub is : (Q 0 ≡ left_with r 0 (body.Meta 0 0 0)) × (Q 1 ≡ left_with r 0 (body.EntryLeaf [] []))
+  pub is : (Q 0 ≡ made_with r 0 (body.Meta 0 0 0)) × (Q 1 ≡ made_with r 0 (body.EntryLeaf [] []))
   is = two_pages Q (changed r) 0 1 _ _ V.here.pages V.here.after_is
 
   places : ◌≡◌ {A = ℕ → nodes.Place} (λ q. entry_place (put (put g.place 0 meta) 1 (entry 0) q))

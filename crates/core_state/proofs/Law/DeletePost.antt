@@ -10,7 +10,7 @@ use Rattle.page_types.specs.declared.record.Record.{Record}
 use Rattle.page_types.specs.declared.record.Kind.TheVariants as kind
 use Rattle.core_state.specs.Log.{Log, Pages, In, changed}
 use Rattle.core_state.specs.Index.{children_in}
-use Rattle.core_state.specs.Changes.{left_with}
+use Rattle.core_state.specs.Changes.{made_with}
 use Rattle.core_state.specs.TreeRows.{IsDeletePost}
 use Rattle.core_state.specs.Inner.Ghosts.{Place, Ghost, post_place}
 use Rattle.core_state.specs.Inner.Ghosts.Place.{unused, left, post}
@@ -51,8 +51,8 @@ module _ (n L : ℕ) (R : Log) (P Q : Pages) (r : Record) (floor since : ℕ) (g
   g' = deleted_leaf g page x.here.next.page t
 
   abbrev u : Unlinked P Q r page parent x.here.old.right x.here.lefts x.here.old
-      (left_with r x.here.old.right (body.Deleted (gone.PostLeaf x.here.high []))) x.here.old_parent
-      (left_with r x.here.old_parent.right (body.PostInner (x.here.front ++ x.here.next ∷ x.here.back)))
+      (made_with r x.here.old.right (body.Deleted (gone.PostLeaf x.here.high []))) x.here.old_parent
+      (made_with r x.here.old_parent.right (body.PostInner (x.here.front ++ x.here.next ∷ x.here.back)))
   u = unlinked_pages P Q r page parent x.here.old.right x.here.lefts x.here.lefts_before x.here.lefts_after
       x.here.old _ x.here.old_parent _ (changed r) x.here.unlinked x.here.pages x.here.before_is x.here.after_is
 

@@ -9,7 +9,7 @@ use Rattle.page_types.specs.declared.page.Gone.TheVariants as gone
 use Rattle.page_types.specs.declared.record.Record.{Record}
 use Rattle.core_state.specs.Log.{Log, Pages, In, Shows, changed}
 use Rattle.core_state.specs.Index.{Below, children_in}
-use Rattle.core_state.specs.Changes.{left_with}
+use Rattle.core_state.specs.Changes.{made_with}
 use Rattle.core_state.specs.TreeRows.{TowardItem, IsDeletePost}
 use Rattle.core_state.specs.Bullets.{Rightward, StoodFrom}
 use Rattle.core_state.specs.Trees.Ext.{Ext}
@@ -186,8 +186,8 @@ module _ (n L : ℕ) (R : Log) (P Q : Pages) (r : Record) (g : Ghost) (v : Inv n
     page = V.here.page
 
     row : Unlinked P Q r page V.here.parent V.here.old.right V.here.lefts V.here.old
-        (left_with r V.here.old.right (body.Deleted (gone.PostLeaf V.here.high []))) V.here.old_parent
-        (left_with r V.here.old_parent.right (body.PostInner (V.here.front ++ V.here.next ∷ V.here.back)))
+        (made_with r V.here.old.right (body.Deleted (gone.PostLeaf V.here.high []))) V.here.old_parent
+        (made_with r V.here.old_parent.right (body.PostInner (V.here.front ++ V.here.next ∷ V.here.back)))
     row = unlinked_pages P Q r page V.here.parent V.here.old.right V.here.lefts V.here.lefts_before V.here.lefts_after
         V.here.old _
         V.here.old_parent _ (changed r) V.here.unlinked V.here.pages V.here.before_is V.here.after_is

@@ -12,7 +12,7 @@ use Rattle.page_types.specs.declared.record.Kind.TheVariants as kind
 use Rattle.core_state.specs.Log.{Log, Pages, In, changed, fate}
 use Rattle.core_state.specs.Documents.{Has, page_of}
 use Rattle.core_state.specs.Known.{use_in}
-use Rattle.core_state.specs.Changes.{left_with, IsNew}
+use Rattle.core_state.specs.Changes.{made_with, IsNew}
 use Rattle.core_state.specs.HeapRows.{IsPlaceHead, IsPutOverflow, IsMarkDeleted}
 use Rattle.core_state.specs.PendingRows.{IsPutPending}
 use Rattle.core_state.specs.VacuumRows.{IsDropPage, IsFreeSlots}
@@ -119,7 +119,7 @@ heap_was : (P : Pages) (a : ℕ) (old : Page) (slots : List _) → P a ≡ old �
     → IsHeap (P a).body
 heap_was P a old slots e f = subst IsHeap (sym (ap (λ (q : Page). q.body) e ∙ f)) tt
 
-heap_is : (Q : Pages) (a : ℕ) (r : Record) (right : ℕ) (slots : List _) → Q a ≡ left_with r right (body.Heap slots)
+heap_is : (Q : Pages) (a : ℕ) (r : Record) (right : ℕ) (slots : List _) → Q a ≡ made_with r right (body.Heap slots)
     → IsHeap (Q a).body
 heap_is Q a r right slots e = subst IsHeap (sym (ap (λ (q : Page). q.body) e)) tt
 
@@ -128,7 +128,7 @@ place_head_case n L R P Q r floor since g b l x =
     let a = page_of x.here.doc.item in
     let k = kind.PlaceHead x.here.doc.item x.here.doc.serial in
     let f = one_page P (changed r) a x.here.old x.here.pages x.here.before_is in
-    let h = one_page Q (changed r) a (left_with r x.here.right (body.Heap x.here.new_slots)) x.here.pages
+    let h = one_page Q (changed r) a (made_with r x.here.right (body.Heap x.here.new_slots)) x.here.pages
     x.here.after_is in
     let was : IsHeap (P a).body ⊎ IsNew (use_in P) since a = elim x.here.page [
       | inl o ↦
@@ -144,7 +144,7 @@ mark_deleted_case n L R P Q r floor since g b l x =
     let k = kind.MarkDeleted x.here.doc.item x.here.doc.serial in
     let c = x.here.head_after in
     let f = one_page P (changed r) a x.here.old x.here.pages x.here.before_is in
-    let h = one_page Q (changed r) a x.here.left x.here.pages x.here.after_is in
+    let h = one_page Q (changed r) a x.here.heap_then x.here.pages x.here.after_is in
     heap_case n L R P Q r floor since g b l a x.here.pages (inl (heap_was P a x.here.old c.slots f c.before))
     (heap_is Q a r x.here.old.right c.new_slots (h ∙ c.after))
     (not_first R r k b.started x.here.kind_is (λ e. cc)) k x.here.kind_is tt tt
@@ -153,7 +153,7 @@ pub free_slots_case : CaseOf (λ R P Q r floor since. IsFreeSlots R P Q r floor)
 free_slots_case n L R P Q r floor since g b l x =
     let a = x.here.page in
     let f = one_page P (changed r) a x.here.old x.here.pages x.here.before_is in
-    let h = one_page Q (changed r) a (left_with r x.here.old.right (body.Heap x.here.new_slots)) x.here.pages
+    let h = one_page Q (changed r) a (made_with r x.here.old.right (body.Heap x.here.new_slots)) x.here.pages
     x.here.after_is in
     heap_case n L R P Q r floor since g b l a x.here.pages (inl (heap_was P a x.here.old x.here.slots f x.here.was))
     (heap_is Q a r x.here.old.right x.here.new_slots h)
@@ -209,7 +209,7 @@ module _ (n L : ℕ) (R : Log) (P Q : Pages) (r : Record) (floor since : ℕ) (g
       let h = page_of i in
       let c = x.here.head_after in
       let f = two_pages P (changed r) h a x.here.old x.here.was x.here.pages x.here.before_is in
-      let e = two_pages Q (changed r) h a x.here.left (left_with r x.here.head.overflow (body.Overflow x.here.part))
+      let e = two_pages Q (changed r) h a x.here.heap_then (made_with r x.here.head.overflow (body.Overflow x.here.part))
       x.here.pages x.here.after_is in
       let k = kind.PutOverflow x.here.doc.item x.here.doc.serial in
       doc_case n L R P Q r since a g (overflow_of i) b.inv l some
@@ -260,7 +260,7 @@ module _ (n L : ℕ) (R : Log) (P Q : Pages) (r : Record) (floor since : ℕ) (g
       let h = page_of i in
       let c = x.here.head_after in
       let f = two_pages P (changed r) h a x.here.old x.here.was x.here.pages x.here.before_is in
-      let e = two_pages Q (changed r) h a x.here.left (left_with r x.here.head.private (body.Pending x.here.rows))
+      let e = two_pages Q (changed r) h a x.here.heap_then (made_with r x.here.head.private (body.Pending x.here.rows))
       x.here.pages x.here.after_is in
       let rows : rows_of (Q a) ≡ x.here.rows = ap rows_of e.1 in
       doc_case n L R P Q r since a g (private_of i) b.inv l some
@@ -299,9 +299,9 @@ module _ (n L : ℕ) (R : Log) (P Q : Pages) (r : Record) (floor since : ℕ) (g
       let h = page_of x.here.doc.item in
       let c = x.here.head_after in
       let f = two_pages P (changed r) h a x.here.old x.here.was x.here.pages x.here.before_is in
-      let e = two_pages Q (changed r) h a x.here.left (left_with r x.here.was.right (body.Deleted x.here.content))
+      let e = two_pages Q (changed r) h a x.here.heap_then (made_with r x.here.was.right (body.Deleted x.here.content))
       x.here.pages x.here.after_is in
-      let has = head_was P Q r since x.here.doc x.here.old x.here.left x.here.head x.here.head_then f.0 c in
+      let has = head_was P Q r since x.here.doc x.here.old x.here.heap_then x.here.head x.here.head_then f.0 c in
       let at = dropped_place x (drops_from R P Q r floor since l.touched l.elsewhere x) has in
       doc_case n L R P Q r since a g past b.inv l some
       (two_step h a past x.here.pages (heap_was P h x.here.old c.slots f.0 c.before) (heap_is Q h r x.here.old.right

@@ -11,7 +11,7 @@ use Rattle.page_types.specs.declared.page.Body.TheVariants as body
 use Rattle.page_types.specs.declared.record.Record.{Record}
 use Rattle.page_types.specs.declared.record.Kind.TheVariants as kind
 use Rattle.core_state.specs.Log.{Log, Pages, In, changed}
-use Rattle.core_state.specs.Changes.{left_with}
+use Rattle.core_state.specs.Changes.{made_with}
 use Rattle.core_state.specs.TreeRows.{OneChild, IsGrowRoot}
 use Rattle.core_state.specs.Trees.Nodes.{put}
 use Rattle.core_state.specs.Inner.Ghosts.{Place, Ghost}
@@ -78,7 +78,7 @@ module _ (n L : ℕ) (R : Log) (P Q : Pages) (r : Record) (floor since : ℕ) (g
   was : (P root ≡ x.here.old) × (P new ≡ x.here.was)
   was = two_pages P (changed r) root new x.here.old x.here.was x.here.pages x.here.before_is
 
-  is : (Q root ≡ left_with r x.here.old.right x.here.inner) × (Q new ≡ left_with r 0 x.here.old.body)
+  is : (Q root ≡ made_with r x.here.old.right x.here.inner) × (Q new ≡ made_with r 0 x.here.old.body)
   is = two_pages Q (changed r) root new _ _ x.here.pages x.here.after_is
 
   root_body : (P root).body ≡ x.here.old.body

@@ -37,16 +37,16 @@ use Rattle.core_state.proofs.Law.Bounded.{posts_hold, some_record}
 use Rattle.core_state.proofs.Law.OnePlaces.{place_told, same_some, stands}
 
 -- a page of a ghost's place has the kind of the place that is told
-of_place : (L : ℕ) (x : Place) (p : Page) (a : told.Place) → place_told x ≡ Some a → Fits L x p → IsOfPlace a p.body
-of_place L meta p a e f = subst (λ (y : told.Place). IsOfPlace y p.body) (same_some _ a e) f
-of_place L heap p a e f = subst (λ (y : told.Place). IsOfPlace y p.body) (same_some _ a e) f
-of_place L line p a e f = subst (λ (y : told.Place). IsOfPlace y p.body) (same_some _ a e) f
-of_place L (entry zero) p a e f = subst (λ (y : told.Place). IsOfPlace y p.body) (same_some _ a e) (inl f)
-of_place L (entry (suc h)) p a e f = subst (λ (y : told.Place). IsOfPlace y p.body) (same_some _ a e) (inr f)
-of_place L (post r zero) p a e f = subst (λ (y : told.Place). IsOfPlace y p.body) (same_some _ a e) (inl f)
-of_place L (post r (suc h)) p a e f = subst (λ (y : told.Place). IsOfPlace y p.body) (same_some _ a e) (inr f)
-of_place L (overflow_of i) p a e f = subst (λ (y : told.Place). IsOfPlace y p.body) (same_some _ a e) f
-of_place L (private_of i) p a e f = subst (λ (y : told.Place). IsOfPlace y p.body) (same_some _ a e) f
+of_place : (L : ℕ) (x : Place) (p : Page) (a : told.PagePlace) → place_told x ≡ Some a → Fits L x p → IsOfPlace a p.body
+of_place L meta p a e f = subst (λ (y : told.PagePlace). IsOfPlace y p.body) (same_some _ a e) f
+of_place L heap p a e f = subst (λ (y : told.PagePlace). IsOfPlace y p.body) (same_some _ a e) f
+of_place L line p a e f = subst (λ (y : told.PagePlace). IsOfPlace y p.body) (same_some _ a e) f
+of_place L (entry zero) p a e f = subst (λ (y : told.PagePlace). IsOfPlace y p.body) (same_some _ a e) (inl f)
+of_place L (entry (suc h)) p a e f = subst (λ (y : told.PagePlace). IsOfPlace y p.body) (same_some _ a e) (inr f)
+of_place L (post r zero) p a e f = subst (λ (y : told.PagePlace). IsOfPlace y p.body) (same_some _ a e) (inl f)
+of_place L (post r (suc h)) p a e f = subst (λ (y : told.PagePlace). IsOfPlace y p.body) (same_some _ a e) (inr f)
+of_place L (overflow_of i) p a e f = subst (λ (y : told.PagePlace). IsOfPlace y p.body) (same_some _ a e) f
+of_place L (private_of i) p a e f = subst (λ (y : told.PagePlace). IsOfPlace y p.body) (same_some _ a e) f
 of_place L unused p a e f = absurd (cc)
 of_place L past p a e f = absurd (cc)
 of_place L shifted p a e f = absurd (cc)
@@ -78,7 +78,7 @@ entry_not_post : (h r k : ℕ) → entry h ≡ post r k → ⊥
 entry_not_post h r k e = cc
 
 module _ (n L : ℕ) (R : Log) (P : Pages) (g : Ghost) (v : Inv n L R P g) (shown : Shows R P) where
-  kinds : R ≢ [] → (p : ℕ) (a : told.Place) → StandsIn P p a → IsOfPlace a (P p).body
+  kinds : R ≢ [] → (p : ℕ) (a : told.PagePlace) → StandsIn P p a → IsOfPlace a (P p).body
   kinds some p a s = of_place L (g.place p) (P p) a (stands n L R P g v some p a s) (v.kinds p)
 
   pub entry_stands : (p h : ℕ) → g.place p ≡ entry h → Below P 1 p
@@ -87,7 +87,7 @@ module _ (n L : ℕ) (R : Log) (P : Pages) (g : Ghost) (v : Inv n L R P g) (show
       from_nodes P 1 p (below_of_place keys greatest (entry_nodes P) (entry_ghost g) v.entries 1 root.0
       (v.entries_rooted.roots 1 root.0 root.1) p h (ap entry_place at))
 
-  post_stands : R ≢ [] → (p r h : ℕ) → g.place p ≡ post r h → StandsIn P p (told.Place.posting_tree r)
+  post_stands : R ≢ [] → (p r h : ℕ) → g.place p ≡ post r h → StandsIn P p (told.PagePlace.posting_tree r)
   post_stands some p r h at =
       let top = root_of L P g (posts_hold n L R P g v) p r h at in
       let by = v.named.named r top.0 top.1 in
@@ -117,22 +117,22 @@ module _ (n L : ℕ) (R : Log) (P : Pages) (g : Ghost) (v : Inv n L R P g) (show
 
   -- a page in use has a place
   place_of : R ≢ [] → (p : ℕ) (x : Place) → g.place p ≡ x → Fits L x (P p) → IsUsed (P p).body
-      → (a : told.Place) × StandsIn P p a
+      → (a : told.PagePlace) × StandsIn P p a
   place_of some p unused at f used = absurd (used.not_free (ap (λ (q : Page). q.body) f))
-  place_of some p meta at f used = (told.Place.meta, v.starts.no_other p at)
-  place_of some p heap at f used = (told.Place.heap, f)
-  place_of some p line at f used = (told.Place.line, (g.line, v.lined.is_line, (v.lined.on p).1 at))
+  place_of some p meta at f used = (told.PagePlace.meta, v.starts.no_other p at)
+  place_of some p heap at f used = (told.PagePlace.heap, f)
+  place_of some p line at f used = (told.PagePlace.line, (g.line, v.lined.is_line, (v.lined.on p).1 at))
   place_of some p past at f used = absurd (used.not_deleted f.0 f.1)
   place_of some p shifted at f used = absurd (used.not_deleted _ f.1)
   place_of some p (left r) at f used = absurd (used.not_deleted _ f.1)
-  place_of some p (entry h) at f used = (told.Place.entry_tree, entry_stands p h at)
-  place_of some p (post r h) at f used = (told.Place.posting_tree r, post_stands some p r h at)
+  place_of some p (entry h) at f used = (told.PagePlace.entry_tree, entry_stands p h at)
+  place_of some p (post r h) at f used = (told.PagePlace.posting_tree r, post_stands some p r h at)
   place_of some p (overflow_of i) at f used =
-      (told.Place.overflow_of i, chain_stands (λ h. h.overflow) overflow_of v.chained.overflow p i at)
+      (told.PagePlace.overflow_of i, chain_stands (λ h. h.overflow) overflow_of v.chained.overflow p i at)
   place_of some p (private_of i) at f used =
-      (told.Place.private_of i, chain_stands (λ h. h.private) private_of v.chained.private p i at)
+      (told.PagePlace.private_of i, chain_stands (λ h. h.private) private_of v.chained.private p i at)
 
-  places : (p : ℕ) → IsUsed (P p).body → (a : told.Place) × StandsIn P p a
+  places : (p : ℕ) → IsUsed (P p).body → (a : told.PagePlace) × StandsIn P p a
   places p used = place_of (some_record R P p (P p).body shown refl used.not_free) p (g.place p) refl (v.kinds p) used
 
 -- a heap page stays one

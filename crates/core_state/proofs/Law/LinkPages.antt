@@ -7,7 +7,7 @@ use Rattle.page_types.specs.declared.record.Record.{Record}
 use Rattle.core_state.specs.Log.{Pages, In, changed}
 use Rattle.core_state.specs.Documents.{IsChain}
 use Rattle.core_state.specs.Index.{Line}
-use Rattle.core_state.specs.Changes.{left_with}
+use Rattle.core_state.specs.Changes.{made_with}
 use Rattle.core_state.specs.PendingRows.{IsLinkHere}
 use Rattle.core_state.specs.Inner.Ghosts.{Place}
 use Rattle.core_state.specs.Inner.Ghosts.Place.{unused, meta, heap, line, past, shifted, left, entry, post, overflow_of, private_of}
@@ -65,7 +65,7 @@ pub data LinkPages (P Q : Pages) (r : Record) (a to end added : ℕ) : Type 0 wh
   behind : (first last count : ℕ) (rows : List Row) (front : List ℕ) → changed r ≡ a ∷ 0 ∷ last ∷ []
       → (P 0).body ≡ body.Meta first last count
       → (Q 0).body ≡ body.Meta first end (count + added) → (P last).body ≡ body.Pending rows
-      → Q last ≡ left_with r to (body.Pending rows) → Line P (front ++ last ∷ []) → LinkPages P Q r a to end added
+      → Q last ≡ made_with r to (body.Pending rows) → Line P (front ++ last ∷ []) → LinkPages P Q r a to end added
 
 pub link_pages : (P Q : Pages) (r : Record) (a to end added : ℕ) (old turned : Page) (others : List ℕ)
     (before after : List Page) → IsLinkHere r to end added others before after

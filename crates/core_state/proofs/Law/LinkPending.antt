@@ -73,9 +73,9 @@ module _ (n L : ℕ) (R : Log) (P Q : Pages) (r : Record) (since : ℕ) (g : Gho
   abbrev chain : List ℕ
   chain = x.rest.front ++ x.here.end ∷ []
 
-  abbrev linked : ((P a ≡ x.here.old) × (Q a ≡ x.here.left))
+  abbrev linked : ((P a ≡ x.here.old) × (Q a ≡ x.here.heap_then))
       × LinkPages P Q r a x.here.head.private x.here.end x.here.added
-  linked = link_pages P Q r a x.here.head.private x.here.end x.here.added x.here.old x.here.left x.here.others
+  linked = link_pages P Q r a x.here.head.private x.here.end x.here.added x.here.old x.here.heap_then x.here.others
       x.here.others_before x.here.others_after x.here.linked x.here.pages x.here.before_is x.here.after_is
       x.rest.is_last
 

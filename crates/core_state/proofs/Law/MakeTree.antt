@@ -9,7 +9,7 @@ use Rattle.page_types.specs.declared.page.Body.TheVariants as body
 use Rattle.page_types.specs.declared.record.Record.{Record}
 use Rattle.page_types.specs.declared.record.Kind.TheVariants as kind
 use Rattle.core_state.specs.Log.{Log, Pages, In, changed}
-use Rattle.core_state.specs.Changes.{left_with}
+use Rattle.core_state.specs.Changes.{made_with}
 use Rattle.core_state.specs.TreeRows.{IsMakeTree}
 use Rattle.core_state.specs.Inner.Ghosts.{Place, Ghost}
 use Rattle.core_state.specs.Inner.Ghosts.Place.{unused, entry, post}
@@ -53,8 +53,8 @@ module _ (n L : ℕ) (R : Log) (P Q : Pages) (r : Record) (floor since : ℕ) (g
   was : (P page ≡ x.here.old) × (P new ≡ x.here.was)
   was = two_pages P (changed r) page new x.here.old x.here.was x.here.pages x.here.before_is
 
-  is : (Q page ≡ left_with r x.here.old.right (body.EntryLeaf x.here.high (x.here.front ++ new_entry ∷ x.here.back)))
-      × (Q new ≡ left_with r 0 (body.PostLeaf 0 x.here.items))
+  is : (Q page ≡ made_with r x.here.old.right (body.EntryLeaf x.here.high (x.here.front ++ new_entry ∷ x.here.back)))
+      × (Q new ≡ made_with r 0 (body.PostLeaf 0 x.here.items))
   is = two_pages Q (changed r) page new _ _ x.here.pages x.here.after_is
 
   body_was : (P page).body ≡ body.EntryLeaf x.here.high (x.here.front ++ old_entry ∷ x.here.back)

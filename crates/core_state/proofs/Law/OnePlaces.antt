@@ -21,47 +21,47 @@ use Rattle.core_state.proofs.Law.EntryBounds.{entry_below}
 use Rattle.core_state.proofs.Law.Bounded.{posts_hold}
 
 -- what a ghost's place says of where a page stands
-abbrev pub place_told : Place → Option told.Place
-place_told meta = Some told.Place.meta
-place_told heap = Some told.Place.heap
-place_told line = Some told.Place.line
-place_told (entry h) = Some told.Place.entry_tree
-place_told (post r h) = Some (told.Place.posting_tree r)
-place_told (overflow_of i) = Some (told.Place.overflow_of i)
-place_told (private_of i) = Some (told.Place.private_of i)
+abbrev pub place_told : Place → Option told.PagePlace
+place_told meta = Some told.PagePlace.meta
+place_told heap = Some told.PagePlace.heap
+place_told line = Some told.PagePlace.line
+place_told (entry h) = Some told.PagePlace.entry_tree
+place_told (post r h) = Some (told.PagePlace.posting_tree r)
+place_told (overflow_of i) = Some (told.PagePlace.overflow_of i)
+place_told (private_of i) = Some (told.PagePlace.private_of i)
 place_told _ = None
 
 -- without records page 0 is the metapage's place, and page 1 the entry tree's
-abbrev none_told : ℕ → Option told.Place
-none_told zero = Some told.Place.meta
-none_told (suc zero) = Some told.Place.entry_tree
+abbrev none_told : ℕ → Option told.PagePlace
+none_told zero = Some told.PagePlace.meta
+none_told (suc zero) = Some told.PagePlace.entry_tree
 none_told (suc (suc p)) = None
 
-pub same_some : (a b : told.Place) → Some a ≡ Some b → a ≡ b
+pub same_some : (a b : told.PagePlace) → Some a ≡ Some b → a ≡ b
 same_some a b e = cc
 
-one_of : (x : Option told.Place) (a b : told.Place) → x ≡ Some a → x ≡ Some b → a ≡ b
+one_of : (x : Option told.PagePlace) (a b : told.PagePlace) → x ≡ Some a → x ≡ Some b → a ≡ b
 one_of x a b e f = same_some a b (sym e ∙ f)
 
 no_children : (p q : ℕ) → Below none_yet p q → q ≡ p
 no_children p q Below.root = refl
 no_children p q (Below.child b i) = absurd i
 
-free_stands : (p : ℕ) (a : told.Place) → StandsIn none_yet p a → none_told p ≡ Some a
-free_stands p told.Place.meta e = ap none_told e
-free_stands p told.Place.heap e = absurd (clash e.0 e.1)
+free_stands : (p : ℕ) (a : told.PagePlace) → StandsIn none_yet p a → none_told p ≡ Some a
+free_stands p told.PagePlace.meta e = ap none_told e
+free_stands p told.PagePlace.heap e = absurd (clash e.0 e.1)
   where
     clash : (slots : _) → body.Free ≡ body.Heap slots → ⊥
     clash slots e = cc
-free_stands p told.Place.entry_tree b = ap none_told (no_children 1 p b)
-free_stands p (told.Place.posting_tree r) b = absurd (not_named r b.0 b.1)
+free_stands p told.PagePlace.entry_tree b = ap none_told (no_children 1 p b)
+free_stands p (told.PagePlace.posting_tree r) b = absurd (not_named r b.0 b.1)
   where
     not_named : (r : ℕ) → IsRoot none_yet r → r ≢ 1 → ⊥
     not_named r IsRoot.of_entries n = n refl
     not_named r (IsRoot.of_postings k named) n = named.on
-free_stands p (told.Place.overflow_of i) c = absurd (let e = c.4.at in cc)
-free_stands p (told.Place.private_of i) c = absurd (let e = c.4.at in cc)
-free_stands p told.Place.line c = absurd (none_on c.0 c.1 c.2)
+free_stands p (told.PagePlace.overflow_of i) c = absurd (let e = c.4.at in cc)
+free_stands p (told.PagePlace.private_of i) c = absurd (let e = c.4.at in cc)
+free_stands p told.PagePlace.line c = absurd (none_on c.0 c.1 c.2)
   where
     none_on : (qs : List ℕ) → IsChain none_yet 0 qs → In p qs → ⊥
     none_on [] e m = m
@@ -81,17 +81,17 @@ module _ (n L : ℕ) (R : Log) (P : Pages) (g : Ghost) (v : Inv n L R P g) (some
       let top = v.named.is_root named.page r named.entry named.on named.names in
       place_below L P g (posts_hold n L R P g v) r top.0 p top.1 b
 
-  pub stands : (p : ℕ) (a : told.Place) → StandsIn P p a → place_told (g.place p) ≡ Some a
-  stands p told.Place.meta e = ap place_told (ap g.place e ∙ v.starts.page_0 some)
-  stands p told.Place.heap e = ap place_told (place_for L (g.place p) (P p) (body.Heap e.0) (v.kinds p) e.1)
-  stands p told.Place.entry_tree b =
+  pub stands : (p : ℕ) (a : told.PagePlace) → StandsIn P p a → place_told (g.place p) ≡ Some a
+  stands p told.PagePlace.meta e = ap place_told (ap g.place e ∙ v.starts.page_0 some)
+  stands p told.PagePlace.heap e = ap place_told (place_for L (g.place p) (P p) (body.Heap e.0) (v.kinds p) e.1)
+  stands p told.PagePlace.entry_tree b =
       let top = v.starts.page_1 some in
       ap place_told (entry_below L P g v.kinds v.entries v.entries_rooted 1 top.0 p top.1 b).1
-  stands p (told.Place.posting_tree r) b = ap place_told (in_tree r p b.0 b.1 b.2).1
-  stands p (told.Place.overflow_of i) c =
+  stands p (told.PagePlace.posting_tree r) b = ap place_told (in_tree r p b.0 b.1 b.2).1
+  stands p (told.PagePlace.overflow_of i) c =
       ap place_told (on_chain (λ h. h.overflow) overflow_of v.chained.overflow p i c)
-  stands p (told.Place.private_of i) c = ap place_told (on_chain (λ h. h.private) private_of v.chained.private p i c)
-  stands p told.Place.line c =
+  stands p (told.PagePlace.private_of i) c = ap place_told (on_chain (λ h. h.private) private_of v.chained.private p i c)
+  stands p told.PagePlace.line c =
       ap place_told ((v.lined.on p).0 (subst (In p) (chain_one P _ c.0 g.line c.1 v.lined.is_line) c.2))
 
   one_place_here : OnePlace P

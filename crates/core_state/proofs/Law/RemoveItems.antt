@@ -8,7 +8,7 @@ use Rattle.page_types.specs.declared.page.Body.TheVariants as body
 use Rattle.page_types.specs.declared.record.Record.{Record}
 use Rattle.page_types.specs.declared.record.Kind.TheVariants as kind
 use Rattle.core_state.specs.Log.{Log, Pages, In, changed}
-use Rattle.core_state.specs.Changes.{left_with}
+use Rattle.core_state.specs.Changes.{made_with}
 use Rattle.core_state.specs.VacuumRows.{EntryLoses, EntriesLose, ListsLose, IsRemoveItems}
 use Rattle.core_state.specs.Inner.Ghosts.{Place, Ghost}
 use Rattle.core_state.specs.Inner.Ghosts.Place.{post}
@@ -51,7 +51,7 @@ module _ (n L : ℕ) (R : Log) (P Q : Pages) (r : Record) (floor since : ℕ) (g
   was : P page ≡ x.here.old
   was = one_page P (changed r) page x.here.old x.here.pages x.here.before_is
 
-  is : Q page ≡ left_with r x.here.old.right x.here.content
+  is : Q page ≡ made_with r x.here.old.right x.here.content
   is = one_page Q (changed r) page _ x.here.pages x.here.after_is
 
   body_was : (P page).body ≡ x.here.old.body
@@ -93,7 +93,7 @@ module _ (n L : ℕ) (R : Log) (P Q : Pages) (r : Record) (floor since : ℕ) (g
   lost_now : (e f : Entry) → In f (entries_of (Q page)) → EntryLoses removed e f → EntryNow n R P Q r g e
   lost_now e f i (EntryLoses.same s) = EntryNow.now page f i (ap (λ (z : Entry). z.key) (sym s))
       (ap (λ (z : Entry). z.postings) (sym s))
-  lost_now e f i (EntryLoses.less a c key of is_list leave) = EntryNow.listed a of (λ j m. elim (leave.left j m) [
+  lost_now e f i (EntryLoses.less a c key of is_list leave) = EntryNow.listed a of (λ j m. elim (leave.each j m) [
     | inl stays ↦ inl (MainAt.listed page f c i (sym key) is_list stays)
     | inr gone ↦ inr (may j gone)
   ])
@@ -137,7 +137,7 @@ module _ (n L : ℕ) (R : Log) (P Q : Pages) (r : Record) (floor since : ℕ) (g
       → In i (posting_items_in (P page).body) → In i (posting_items_in (Q page).body) ⊎ In i removed
   item_now a c (ListsLose.entries high old new t) e s i m = absurd (subst (In i) (body_items (P page) _ e) m)
   item_now a c (ListsLose.postings high old new t) e s i m =
-      elim (t.left i (subst (In i) (body_items (P page) _ e) m)) [
+      elim (t.each i (subst (In i) (body_items (P page) _ e) m)) [
         | inl stays ↦ inl (subst (In i) (sym (body_items (Q page) _ s)) stays)
         | inr gone ↦ inr gone
       ]

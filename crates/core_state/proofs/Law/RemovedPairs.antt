@@ -11,7 +11,7 @@ use Rattle.page_types.specs.declared.page.Gone.TheVariants as gone
 use Rattle.page_types.specs.declared.record.Record.{Record}
 use Rattle.core_state.specs.Log.{Log, Pages, In, changed}
 use Rattle.core_state.specs.Index.{children_in, Main}
-use Rattle.core_state.specs.Changes.{left_with}
+use Rattle.core_state.specs.Changes.{made_with}
 use Rattle.core_state.specs.TreeRows.{IsDeletePost}
 use Rattle.core_state.specs.VacuumRows.{EntryLoses, ListsLose, IsRemoveItems}
 use Rattle.core_state.proofs.PageLists.{same_or_not, in_or_not, in_front, in_back, in_either, one_page, Unlinked, LeftLeaf, unlinked_pages}
@@ -52,7 +52,7 @@ module _ (R : Log) (P Q : Pages) (r : Record) (floor : ℕ) (x : IsRemoveItems R
   lost : (e f : Entry) → In f (entries_of (Q page)) → EntryLoses x.here.removed e f → EntryGoes P Q Gone e
   lost e f on (EntryLoses.same s) = EntryGoes.same page f on (ap (λ (z : Entry). z.key) (sym s))
       (ap (λ (z : Entry). z.postings) (sym s))
-  lost e f on (EntryLoses.less a c key of is leave) = EntryGoes.less page f a c on (sym key) of is leave.left
+  lost e f on (EntryLoses.less a c key of is leave) = EntryGoes.less page f a c on (sym key) of is leave.each
 
   was : (e f : Entry) → In e (entries_of (P page)) → EntryLoses x.here.removed e f → EntryGoes Q P (λ i. ⊥) f
   was e f on (EntryLoses.same s) = EntryGoes.same page e on (ap (λ (z : Entry). z.key) s)
@@ -77,7 +77,7 @@ module _ (R : Log) (P Q : Pages) (r : Record) (floor : ℕ) (x : IsRemoveItems R
   items_on : (a c : Body) → ListsLose x.here.removed a c → (i : ℕ) → In i (posting_items_in a)
       → In i (posting_items_in c) ⊎ Gone i
   items_on a c (ListsLose.entries high old new t) i m = absurd m
-  items_on a c (ListsLose.postings high old new t) i m = t.left i m
+  items_on a c (ListsLose.postings high old new t) i m = t.each i m
 
   items_back : (a c : Body) → ListsLose x.here.removed a c → (i : ℕ) → In i (posting_items_in c)
       → In i (posting_items_in a)
@@ -131,8 +131,8 @@ module _ (R : Log) (P Q : Pages) (r : Record) (x : IsDeletePost R P Q r) (elsewh
   leaf = x.here.page
 
   abbrev u : Unlinked P Q r leaf x.here.parent x.here.old.right x.here.lefts x.here.old
-      (left_with r x.here.old.right (body.Deleted (gone.PostLeaf x.here.high []))) x.here.old_parent
-      (left_with r x.here.old_parent.right (body.PostInner (x.here.front ++ x.here.next ∷ x.here.back)))
+      (made_with r x.here.old.right (body.Deleted (gone.PostLeaf x.here.high []))) x.here.old_parent
+      (made_with r x.here.old_parent.right (body.PostInner (x.here.front ++ x.here.next ∷ x.here.back)))
   u = unlinked_pages P Q r leaf x.here.parent x.here.old.right x.here.lefts x.here.lefts_before x.here.lefts_after
       x.here.old _ x.here.old_parent _ (changed r) x.here.unlinked x.here.pages x.here.before_is x.here.after_is
 

@@ -99,9 +99,9 @@ module _ (n L : ℕ) (R : Log) (P Q : Pages) (r : Record) (floor since : ℕ) (g
   abbrev chain : List ℕ
   chain = x.rest.front ++ x.here.end ∷ []
 
-  abbrev pages : ((P (page_of item) ≡ x.here.old) × (Q (page_of item) ≡ x.here.left))
+  abbrev pages : ((P (page_of item) ≡ x.here.old) × (Q (page_of item) ≡ x.here.heap_then))
       × LinkPages P Q r (page_of item) x.here.head.private x.here.end x.here.added
-  pages = link_pages P Q r (page_of item) x.here.head.private x.here.end x.here.added x.here.old x.here.left
+  pages = link_pages P Q r (page_of item) x.here.head.private x.here.end x.here.added x.here.old x.here.heap_then
       x.here.others x.here.others_before x.here.others_after x.here.linked x.here.pages x.here.before_is
       x.here.after_is x.rest.is_last
 

@@ -12,7 +12,7 @@ use Rattle.page_types.specs.declared.record.Kind.TheVariants as kind
 use Rattle.core_state.specs.Log.{Log, Pages, In, changed}
 use Rattle.core_state.specs.Documents.{IsChain}
 use Rattle.core_state.specs.Index.{AllMain}
-use Rattle.core_state.specs.Changes.{left_with}
+use Rattle.core_state.specs.Changes.{made_with}
 use Rattle.core_state.specs.PendingRows.{IsLastAfter, IsShift}
 use Rattle.core_state.specs.Trees.Nodes.{put}
 use Rattle.core_state.specs.Inner.Effects.{Moved}
@@ -74,8 +74,8 @@ module _ (n L : ℕ) (R : Log) (P Q : Pages) (r : Record) (floor since : ℕ) (g
   was : (P 0 ≡ x.here.meta) × (P page ≡ x.here.old)
   was = two_pages P (changed r) 0 page x.here.meta x.here.old x.here.pages x.here.before_is
 
-  now : (Q 0 ≡ left_with r x.here.meta.right (body.Meta x.here.old.right x.here.new_last x.here.count))
-      × (Q page ≡ left_with r x.here.old.right (body.Deleted (gone.Pending x.here.rows)))
+  now : (Q 0 ≡ made_with r x.here.meta.right (body.Meta x.here.old.right x.here.new_last x.here.count))
+      × (Q page ≡ made_with r x.here.old.right (body.Deleted (gone.Pending x.here.rows)))
   now = two_pages Q (changed r) 0 page _ _ x.here.pages x.here.after_is
 
   rows_was : rows_of (P page) ≡ x.here.rows

@@ -6,7 +6,7 @@ use Rattle.page_types.specs.declared.page.Body.{Body}
 use Rattle.page_types.specs.declared.record.Record.{Record}
 use Rattle.page_types.specs.declared.record.Kind.TheVariants as kind
 use Rattle.core_state.specs.Log.{Log, Pages, changed}
-use Rattle.core_state.specs.Changes.{left_with}
+use Rattle.core_state.specs.Changes.{made_with}
 use Rattle.core_state.specs.TreeRows.{EntryHalves, PostHalves, EntryParent, PostParent, IsDivided, IsSplit}
 use Rattle.core_state.specs.Trees.Nodes as nodes
 use Rattle.core_state.specs.Trees.Nodes.{put}
@@ -59,8 +59,8 @@ module _ (n L : ℕ) (R : Log) (P Q : Pages) (r : Record) (floor since : ℕ) (g
   was : (P page ≡ V.here.old) × (P new ≡ V.here.was) × (P parent ≡ V.here.old_parent)
   was = three_pages P (changed r) page new parent V.here.old V.here.was V.here.old_parent V.here.pages V.here.before_is
 
-  is : (Q page ≡ left_with r new V.here.left) × (Q new ≡ left_with r V.here.old.right V.here.right)
-      × (Q parent ≡ left_with r V.here.old_parent.right V.here.parent_after)
+  is : (Q page ≡ made_with r new V.here.left) × (Q new ≡ made_with r V.here.old.right V.here.right)
+      × (Q parent ≡ made_with r V.here.old_parent.right V.here.parent_after)
   is = three_pages Q (changed r) page new parent _ _ _ V.here.pages V.here.after_is
 
   was_page : (P page).body ≡ V.here.old.body
@@ -69,11 +69,11 @@ module _ (n L : ℕ) (R : Log) (P Q : Pages) (r : Record) (floor since : ℕ) (g
   was_parent : (P parent).body ≡ V.here.old_parent.body
   was_parent = ap (λ (p : Page). p.body) was.2
 
-  now_new : Q new ≡ left_with r (P page).right V.here.right
-  now_new = is.1 ∙ ap (λ (p : Page). left_with r p.right V.here.right) (sym was.0)
+  now_new : Q new ≡ made_with r (P page).right V.here.right
+  now_new = is.1 ∙ ap (λ (p : Page). made_with r p.right V.here.right) (sym was.0)
 
-  now_parent : Q parent ≡ left_with r (P parent).right V.here.parent_after
-  now_parent = is.2 ∙ ap (λ (p : Page). left_with r p.right V.here.parent_after) (sym was.2)
+  now_parent : Q parent ≡ made_with r (P parent).right V.here.parent_after
+  now_parent = is.2 ∙ ap (λ (p : Page). made_with r p.right V.here.parent_after) (sym was.2)
 
   else : (x : ℕ) → x ≢ page → x ≢ new → x ≢ parent → Q x ≡ P x
   else x a c e = d.elsewhere x (off_three x page new parent a c e (changed r) V.here.pages)

@@ -12,7 +12,7 @@ use Rattle.page_types.specs.declared.page.Body.TheVariants as body
 use Rattle.page_types.specs.declared.record.Record.{Record}
 use Rattle.page_types.specs.declared.record.Kind.TheVariants as kind
 use Rattle.core_state.specs.Log.{Log, Pages, In, changed}
-use Rattle.core_state.specs.Changes.{left_with}
+use Rattle.core_state.specs.Changes.{made_with}
 use Rattle.core_state.specs.TreeRows.{EntryHalves, PostHalves, EntryParent, PostParent, IsDivided, IsSplit}
 use Rattle.core_state.specs.Trees.Ext.{Ext}
 use Rattle.core_state.specs.Trees.Nodes.{put}
@@ -170,8 +170,8 @@ module _ (n L : ℕ) (R : Log) (P Q : Pages) (r : Record) (floor since : ℕ) (g
   was = three_pages P (changed r) page new parent x.here.old x.here.was x.here.old_parent x.here.pages
       x.here.before_is
 
-  is : (Q page ≡ left_with r new x.here.left) × (Q new ≡ left_with r x.here.old.right x.here.right)
-      × (Q parent ≡ left_with r x.here.old_parent.right x.here.parent_after)
+  is : (Q page ≡ made_with r new x.here.left) × (Q new ≡ made_with r x.here.old.right x.here.right)
+      × (Q parent ≡ made_with r x.here.old_parent.right x.here.parent_after)
   is = three_pages Q (changed r) page new parent _ _ _ x.here.pages x.here.after_is
 
   body_was : (P page).body ≡ x.here.old.body

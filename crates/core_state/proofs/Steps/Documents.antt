@@ -12,7 +12,7 @@ use Rattle.page_types.specs.declared.record.Kind.{Kind}
 use Rattle.page_types.specs.declared.record.Kind.TheVariants as kind
 use Rattle.core_state.specs.Log.{Pages, In, next_serial, fate}
 use Rattle.core_state.specs.Documents.{Doc, Has, HasBytes, IsChain, IsWhole, placed, page_of, slot_of, head_of, parts}
-use Rattle.core_state.specs.Changes.{PutsSlot, left_with}
+use Rattle.core_state.specs.Changes.{PutsSlot, made_with}
 use Rattle.core_state.specs.Legal.{RowHolds}
 use Rattle.core_state.specs.Steady.{KeepsHead}
 use Rattle.core_state.specs.Allowed.{numbered, with_serial, drawn_body}
@@ -85,8 +85,8 @@ place_may v s can R a r Q n l =
         };
         put = puts_drawn c.slots c.new_slots (slot_of c.item) c.head serial c.put;
         after_is = one_of Q _ (page_of c.item) _ pages (left.0
-            ∙ ap (λ (z : Kind). left_with r c.new.right (drawn_body z c.new.body)) kind_is
-            ∙ ap (λ (b : Body). left_with r c.new.right (drawn_body (kind.PlaceHead c.item serial) b)) c.content);
+            ∙ ap (λ (z : Kind). made_with r c.new.right (drawn_body z c.new.body)) kind_is
+            ∙ ap (λ (b : Body). made_with r c.new.right (drawn_body (kind.PlaceHead c.item serial) b)) c.content);
       };
       rest = (all_owned all_steps R a.pages a.legal a.shown).free_clean c.item free;
     })
@@ -111,7 +111,7 @@ mark_may v s can R a r Q n l =
         head = c.head;
         number = c.number;
         old = c.old;
-        left = left_with r c.old.right (body.Heap marks.new_slots);
+        heap_then = made_with r c.old.right (body.Heap marks.new_slots);
         kind_is = kind_is;
         pages = pages;
         runs = ap (fate R) xid ∙ (own_runs_on v R a t.0 t.1 s.xid c.own).runs;
@@ -174,7 +174,7 @@ put_overflow_may v s can R a r Q n l =
         part = c.part;
         old = c.old;
         was = c.old_part;
-        left = left_with r c.old.right (body.Heap c.head_after.new_slots);
+        heap_then = made_with r c.old.right (body.Heap c.head_after.new_slots);
         kind_is = kind_is;
         pages = pages;
         own = record { by = c.placed_by ∙ sym xid; runs = ap (fate R) xid ∙ on.runs };

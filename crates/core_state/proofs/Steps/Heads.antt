@@ -10,8 +10,8 @@ use Rattle.page_types.specs.declared.record.Record.{Record}
 use Rattle.page_types.specs.declared.record.Kind.{Kind}
 use Rattle.core_state.specs.Log.{Log, Pages, changed}
 use Rattle.core_state.specs.Documents.{Doc, Has, page_of, slot_of}
-use Rattle.core_state.specs.Changes.{left_with, IsHeadChange}
-use Rattle.core_state.specs.Allowed.{Sheet, Step, IsDrawn, Leaves, AreLeft, with_serial, numbered, left_by, drawn_kind, drawn_xid, drawn_body, sheet_pages}
+use Rattle.core_state.specs.Changes.{made_with, IsHeadChange}
+use Rattle.core_state.specs.Allowed.{Sheet, Step, IsDrawn, Leaves, AreMade, with_serial, numbered, made_by, drawn_kind, drawn_xid, drawn_body, sheet_pages}
 use Rattle.core_state.specs.Steps.{ChangesHead}
 
 module _ (R : Log) (s : Step) (r : Record) (n : IsDrawn R s r) where
@@ -32,21 +32,21 @@ pub two_of : (P : Pages) (ps : List ℕ) (a b : ℕ) (x y : Page) → ps ≡ a �
 two_of P ps a b x y e is is' = ap (map P) e ∙ ap (λ (p : Page). p ∷ P b ∷ []) is ∙ ap (λ (p : Page). x ∷ p ∷ []) is'
 
 pub left_all : (P Q : Pages) (r : Record) (s : Step) (ss : List Sheet) → Leaves P Q r s → s.after ≡ ss
-    → AreLeft Q r ss
-left_all P Q r s ss l e = subst (AreLeft Q r) e l.here
+    → AreMade Q r ss
+left_all P Q r s ss l e = subst (AreMade Q r) e l.here
 
 -- a page that is left by a record of a kind that draws no serial
 pub left_is : (r : Record) (k : Kind) (c : Page) (right : ℕ) (b : Body) → r.kind ≡ k → drawn_body k b ≡ b
-    → c.right ≡ right → c.body ≡ b → left_by r c ≡ left_with r right b
+    → c.right ≡ right → c.body ≡ b → made_by r c ≡ made_with r right b
 left_is r k c right b kind_is plain right_is body_is =
     ap (λ (z : Body). record { right = c.right; stamp = r.number; body = drawn_body r.kind z }) body_is
     ∙ ap (λ (z : ℕ). record { right = z; stamp = r.number; body = drawn_body r.kind b }) right_is
     ∙ ap (λ (z : Kind). record { right = right; stamp = r.number; body = drawn_body z b }) kind_is
-    ∙ ap (left_with r right) plain
+    ∙ ap (made_with r right) plain
 
 -- one head of a page changes by a record
 pub head_changes : (r : Record) (d : Doc) (old : Page) (h h' : Head) (new : Page)
-    (c : ChangesHead d old h h' new) → IsHeadChange r d old h h' (left_with r old.right (body.Heap c.new_slots))
+    (c : ChangesHead d old h h' new) → IsHeadChange r d old h h' (made_with r old.right (body.Heap c.new_slots))
 head_changes r d old h h' new c = record {
   slots = c.slots;
   new_slots = c.new_slots;

@@ -11,19 +11,19 @@ use Rattle.page_types.specs.declared.record.Kind.{Kind}
 use Rattle.page_types.specs.declared.record.Kind.TheVariants as kind
 use Rattle.core_state.specs.Log.{Log, Pages, In, Shows, replay}
 use Rattle.core_state.specs.Legal.{RowHolds}
-use Rattle.core_state.specs.Allowed.{Sheet, View, IsAllowed, Step, Leaves, AreLeft, MayLog, sheet_pages, left_by, drawn_body}
+use Rattle.core_state.specs.Allowed.{Sheet, View, IsAllowed, Step, Leaves, AreMade, MayLog, sheet_pages, made_by, drawn_body}
 use Rattle.core_state.specs.Logged.{IsRecordOf}
 use Rattle.core_state.proofs.Showing.{replay_kept}
-use Rattle.core_state.proofs.Leaving.{left_is_page}
+use Rattle.core_state.proofs.Leaving.{made_is_page}
 use Rattle.core_state.proofs.PageLists.{in_or_not}
 use Rattle.core_state.proofs.RunningOnes.{on_same, on_other}
 use Rattle.core_state.proofs.TouchedPages.{none_free, touched}
 use Rattle.core_state.proofs.LivePages.{body_not_free}
 
--- page p as the record leaves it, where it was `old`
+-- page p as the record makes it, where it was `old`
 abbrev pub left_in : Record → List Sheet → ℕ → Page → Page
 left_in r [] p old = old
-left_in r (x ∷ xs) p old = cond (x.page == p) (left_by r x.content) (left_in r xs p old)
+left_in r (x ∷ xs) p old = cond (x.page == p) (made_by r x.content) (left_in r xs p old)
 
 apart_from : (p : ℕ) (xs : List Sheet) → AllByRecursion (λ (q : ℕ). p ≢ q) (sheet_pages xs) → (x : Sheet) → In x xs
     → p ≢ x.page
@@ -32,20 +32,20 @@ apart_from p (y ∷ ys) all x (inl e) = λ f. all.0 (f ∙ ap (λ (z : Sheet). z
 apart_from p (y ∷ ys) all x (inr i) = apart_from p ys all.1 x i
 
 left_here : (r : Record) (xs : List Sheet) → Rising (λ (p q : ℕ). p ≢ q) (sheet_pages xs) → (x : Sheet) → In x xs
-    → (old : Page) → left_in r xs x.page old ≡ left_by r x.content
+    → (old : Page) → left_in r xs x.page old ≡ made_by r x.content
 left_here r [] once x i old = absurd i
 left_here r (y ∷ ys) once x (inl e) old =
-    on_same y.page x.page (left_by r y.content) (left_in r ys x.page old) (ap (λ (z : Sheet). z.page) (sym e))
-    ∙ ap (λ (z : Sheet). left_by r z.content) (sym e)
+    on_same y.page x.page (made_by r y.content) (left_in r ys x.page old) (ap (λ (z : Sheet). z.page) (sym e))
+    ∙ ap (λ (z : Sheet). made_by r z.content) (sym e)
 left_here r (y ∷ ys) once x (inr i) old =
-    on_other y.page x.page (left_by r y.content) (left_in r ys x.page old) (apart_from y.page ys once.0 x i)
+    on_other y.page x.page (made_by r y.content) (left_in r ys x.page old) (apart_from y.page ys once.0 x i)
     ∙ left_here r ys once.1 x i old
 
 left_else : (r : Record) (xs : List Sheet) (p : ℕ) (old : Page) → (In p (sheet_pages xs) → ⊥)
     → left_in r xs p old ≡ old
 left_else r [] p old off = refl
 left_else r (y ∷ ys) p old off =
-    on_other y.page p (left_by r y.content) (left_in r ys p old) (λ e. off (inl (sym e)))
+    on_other y.page p (made_by r y.content) (left_in r ys p old) (λ e. off (inl (sym e)))
     ∙ left_else r ys p old (λ i. off (inr i))
 
 pub page_in : (xs : List Sheet) (x : Sheet) → In x xs → In x.page (sheet_pages xs)
@@ -58,8 +58,8 @@ of_page [] p i = absurd i
 of_page (y ∷ ys) p (inl e) = (y, inl refl, sym e)
 of_page (y ∷ ys) p (inr i) = let x = of_page ys p i in (x.0, inr x.1, x.2)
 
-are_left : (Q : Pages) (r : Record) (xs : List Sheet) → ((x : Sheet) → In x xs → Q x.page ≡ left_by r x.content)
-    → AreLeft Q r xs
+are_left : (Q : Pages) (r : Record) (xs : List Sheet) → ((x : Sheet) → In x xs → Q x.page ≡ made_by r x.content)
+    → AreMade Q r xs
 are_left Q r [] each = tt
 are_left Q r (x ∷ xs) each = (each x (inl refl), are_left Q r xs (λ y i. each y (inr i)))
 
@@ -73,7 +73,7 @@ module _ (v : View) (s : Step) (R : Log) (r : Record) (a : IsAllowed v R) (may :
   abbrev pub after : Pages
   after p = left_in r s.after p (a.pages p)
 
-  here : (x : Sheet) → In x s.after → after x.page ≡ left_by r x.content
+  here : (x : Sheet) → In x s.after → after x.page ≡ made_by r x.content
   here x i = left_here r s.after once x i (a.pages x.page)
 
   pub leaves : Leaves a.pages after r s
@@ -100,7 +100,7 @@ module _ (v : View) (s : Step) (R : Log) (r : Record) (a : IsAllowed v R) (may :
     | inl i ↦
         let x = of_page s.after p i in
         subst IsShown x.2 (
-          subst IsPage (sym (here x.0 x.1)) (left_is_page r x.0.content made.is_record
+          subst IsPage (sym (here x.0 x.1)) (made_is_page r x.0.content made.is_record
               (not_free_left x.0 x.1) (fits x.0 x.1)),
           ap page_bytes (here x.0 x.1) ∙ sym (made.bytes x.0 x.1),
         )

@@ -12,7 +12,7 @@ use Rattle.page_types.specs.declared.record.Record.{Record}
 use Rattle.core_state.specs.Log.{Log, Pages, In, changed}
 use Rattle.core_state.specs.TreeRows.{IsEntryBetween, IsAddItems, IsMakeTree, IsGrowRoot, OneChild}
 use Rattle.core_state.specs.VacuumRows.{EntryLoses, EntriesLose, ListsLose, IsRemoveItems}
-use Rattle.core_state.specs.Changes.{left_with}
+use Rattle.core_state.specs.Changes.{made_with}
 use Rattle.core_state.specs.Trees.Ext.{Ext}
 use Rattle.core_state.specs.Trees.Ext.Ext.{least, at, greatest}
 use Rattle.core_state.specs.Trees.Nodes.{Ghost, AtMost, Sane}
@@ -93,7 +93,7 @@ module _ (R : Log) (P Q : Pages) (r : Record) (g : Ghost (Ext Key)) (S : Sane ke
     page_was : P V.here.page ≡ V.here.old
     page_was = one_page P (changed r) V.here.page V.here.old V.here.pages V.here.before_is
 
-    page_is : Q V.here.page ≡ left_with r V.here.old.right (body.EntryLeaf V.here.high entries_now)
+    page_is : Q V.here.page ≡ made_with r V.here.old.right (body.EntryLeaf V.here.high entries_now)
     page_is = one_page Q (changed r) V.here.page _ V.here.pages V.here.after_is
 
     body_was : (P V.here.page).body ≡ body.EntryLeaf V.here.high V.here.entries
@@ -214,7 +214,7 @@ module _ (R : Log) (P Q : Pages) (r : Record) (g : Ghost (Ext Key)) (S : Sane ke
       was : (P V.here.root ≡ V.here.old) × (P V.here.new ≡ V.here.was)
       was = two_pages P (changed r) V.here.root V.here.new V.here.old V.here.was V.here.pages V.here.before_is
 
-      now : (Q V.here.root ≡ left_with r V.here.old.right V.here.inner) × (Q V.here.new ≡ left_with r 0 V.here.old.body)
+      now : (Q V.here.root ≡ made_with r V.here.old.right V.here.inner) × (Q V.here.new ≡ made_with r 0 V.here.old.body)
       now = two_pages Q (changed r) V.here.root V.here.new _ _ V.here.pages V.here.after_is
 
       node_was : entry_node (P V.here.root) ≡ entry_body V.here.old.right V.here.old.body

@@ -11,7 +11,7 @@ use Rattle.page_types.specs.declared.page.Body.TheVariants as body
 use Rattle.page_types.specs.declared.record.Record.{Record}
 use Rattle.core_state.specs.Log.{Pages, In}
 use Rattle.core_state.specs.TreeRows.{EntryHalves, EntryParent}
-use Rattle.core_state.specs.Changes.{left_with, KeyAtMost}
+use Rattle.core_state.specs.Changes.{made_with, KeyAtMost}
 use Rattle.core_state.specs.Trees.Ext.{Ext}
 use Rattle.core_state.specs.Trees.Ext.Ext.{least, at, greatest}
 use Rattle.core_state.specs.Trees.Nodes.{Child, Ghost, AtMost, Sane, split_ghost}
@@ -47,7 +47,7 @@ module _ (P Q : Pages) (r : Record) (page new parent : ℕ) (g : Ghost (Ext Key)
     (S : Sane keys greatest (entry_nodes P) g) (K : EntryPlaces P g) (fresh : g.place new ≡ none) (not_zero : new ≢ 0)
     (else : (x : ℕ) → x ≢ page → x ≢ new → x ≢ parent → Q x ≡ P x) (mid : Key) (pb pa : Body)
     (V : EntryParent page new mid pb pa) (was_parent : (P parent).body ≡ pb)
-    (now_parent : Q parent ≡ left_with r (P parent).right pa) where
+    (now_parent : Q parent ≡ made_with r (P parent).right pa) where
   abbrev front : List (Child (Ext Key))
   front = map entry_child V.front
 
@@ -74,8 +74,8 @@ module _ (P Q : Pages) (r : Record) (page new parent : ℕ) (g : Ghost (Ext Key)
 
   divided_leaf : (high : Key) (es fs : List Entry) → es ≢ [] → fs ≢ [] → ((e : Entry) → In e es → KeyAtMost e.key mid)
       → ((e : Entry) → In e fs → KeyLess mid e.key) → mid ≢ [] → (P page).body ≡ body.EntryLeaf high (es ++ fs)
-      → Q page ≡ left_with r new (body.EntryLeaf mid es)
-      → Q new ≡ left_with r (P page).right (body.EntryLeaf high fs) → Divided
+      → Q page ≡ made_with r new (body.EntryLeaf mid es)
+      → Q new ≡ made_with r (P page).right (body.EntryLeaf high fs) → Divided
   divided_leaf high es fs some_es some_fs at_most above some_mid was now now_new =
       let at_page = K.leaf_at page high (es ++ fs) was in
       let mid_is = bound_at mid some_mid in (
@@ -96,8 +96,8 @@ module _ (P Q : Pages) (r : Record) (page new parent : ℕ) (g : Ghost (Ext Key)
 
   divided_inner : (last : EntryChild) (cs ds : List EntryChild) → ds ≢ [] → last.bound ≡ mid
       → (P page).body ≡ body.EntryInner (cs ++ last ∷ ds)
-      → Q page ≡ left_with r new (body.EntryInner (cs ++ last ∷ []))
-      → Q new ≡ left_with r (P page).right (body.EntryInner ds) → Divided
+      → Q page ≡ made_with r new (body.EntryInner (cs ++ last ∷ []))
+      → Q new ≡ made_with r (P page).right (body.EntryInner ds) → Divided
   divided_inner last cs ds some_ds last_is was now now_new =
       let at_page = K.inner_at page (cs ++ last ∷ ds) was in (
         suc at_page.0,
@@ -113,7 +113,7 @@ module _ (P Q : Pages) (r : Record) (page new parent : ℕ) (g : Ghost (Ext Key)
 
   -- 17, of a page of the entry tree
   pub split_entries : (whole left right : Body) → EntryHalves mid whole left right → (P page).body ≡ whole
-      → Q page ≡ left_with r new left → Q new ≡ left_with r (P page).right right → IsPage (Q page) → Divided
+      → Q page ≡ made_with r new left → Q new ≡ made_with r (P page).right right → IsPage (Q page) → Divided
   split_entries whole left right (EntryHalves.leaves high es fs some_es some_fs at_most above) was now now_new page_ok =
       divided_leaf high es fs some_es some_fs at_most above
       (high_some new r.number mid es not_zero (subst IsPage now page_ok).body) was now now_new

@@ -9,7 +9,7 @@ use Rattle.page_types.specs.declared.page.Gone.TheVariants as gone
 use Rattle.page_types.specs.declared.record.Record.{Record}
 use Rattle.core_state.specs.Log.{Log, Pages, In, changed}
 use Rattle.core_state.specs.TreeRows.{IsLeftLeaf, IsDeletePost}
-use Rattle.core_state.specs.Changes.{left_with}
+use Rattle.core_state.specs.Changes.{made_with}
 use Rattle.core_state.specs.Trees.Ext.{Ext}
 use Rattle.core_state.specs.Trees.Ext.Ext.{least, at, greatest}
 use Rattle.core_state.specs.Trees.Nodes.{Ghost, Sane, delete_ghost}
@@ -52,8 +52,8 @@ module _ (R : Log) (P Q : Pages) (r : Record) (since : ℕ) (g : Ghost (Ext ℕ)
   parent = V.here.parent
 
   row : Unlinked P Q r page parent V.here.old.right V.here.lefts V.here.old
-      (left_with r V.here.old.right (body.Deleted (gone.PostLeaf V.here.high []))) V.here.old_parent
-      (left_with r V.here.old_parent.right (body.PostInner (V.here.front ++ V.here.next ∷ V.here.back)))
+      (made_with r V.here.old.right (body.Deleted (gone.PostLeaf V.here.high []))) V.here.old_parent
+      (made_with r V.here.old_parent.right (body.PostInner (V.here.front ++ V.here.next ∷ V.here.back)))
   row = unlinked_pages P Q r page parent V.here.old.right V.here.lefts V.here.lefts_before V.here.lefts_after V.here.old
       _
       V.here.old_parent _ (changed r) V.here.unlinked V.here.pages V.here.before_is V.here.after_is

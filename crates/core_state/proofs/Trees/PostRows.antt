@@ -9,7 +9,7 @@ use Rattle.page_types.specs.declared.record.Record.{Record}
 use Rattle.core_state.specs.Log.{Log, Pages, In, changed}
 use Rattle.core_state.specs.TreeRows.{IsAddItems, IsMakeTree, IsAddPostings, IsGrowRoot, OneChild}
 use Rattle.core_state.specs.VacuumRows.{ItemsLeave, ListsLose, IsRemoveItems}
-use Rattle.core_state.specs.Changes.{left_with}
+use Rattle.core_state.specs.Changes.{made_with}
 use Rattle.core_state.specs.Trees.Ext.{Ext}
 use Rattle.core_state.specs.Trees.Ext.Ext.{least, at, greatest}
 use Rattle.core_state.specs.Trees.Nodes.{Ghost, AtMost, Sane}
@@ -47,7 +47,7 @@ leave_all : (removed old new : List ℕ) → ItemsLeave removed old new → (k :
     → In k (map at (items_of old)) → In k (map at (items_of new))
 leave_all removed old new l k off m =
     let i = of_map at k (items_of old) m in
-    elim (l.left i.0 i.1) [
+    elim (l.each i.0 i.1) [
       | inl a ↦ subst (λ (z : Ext ℕ). In z (map at (items_of new))) (sym i.2) (in_map at i.0 (items_of new) a)
       | inr a ↦ absurd (off (subst (λ (z : Ext ℕ). In z (map at removed)) (sym i.2) (in_map at i.0 removed a)))
     ]
@@ -64,7 +64,7 @@ module _ (R : Log) (P Q : Pages) (r : Record) (since : ℕ) (g : Ghost (Ext ℕ)
   -- the items of a leaf become others within its bounds
   module _ (page : ℕ) (old : Page) (high : ℕ) (is js removed : List ℕ) (only : changed r ≡ page ∷ [])
       (was : P page ≡ old) (was_body : old.body ≡ body.PostLeaf high is)
-      (now : Q page ≡ left_with r old.right (body.PostLeaf high js)) where
+      (now : Q page ≡ made_with r old.right (body.PostLeaf high js)) where
     at_page : (t : ℕ) × (g.place page ≡ tree t 0)
     at_page = K.leaf_at page high is (ap (λ (p : Page). p.body) was ∙ was_body)
 
@@ -143,10 +143,10 @@ module _ (R : Log) (P Q : Pages) (r : Record) (since : ℕ) (g : Ghost (Ext ℕ)
       was : (P V.here.page ≡ V.here.old) × (P V.here.new ≡ V.here.was)
       was = two_pages P (changed r) V.here.page V.here.new V.here.old V.here.was V.here.pages V.here.before_is
 
-      now : (Q V.here.page ≡ left_with r V.here.old.right
+      now : (Q V.here.page ≡ made_with r V.here.old.right
           (body.EntryLeaf V.here.high
           (V.here.front ++ record { key = V.here.key; postings = Root V.here.new } ∷ V.here.back)))
-          × (Q V.here.new ≡ left_with r 0 (body.PostLeaf 0 V.here.items))
+          × (Q V.here.new ≡ made_with r 0 (body.PostLeaf 0 V.here.items))
       now = two_pages Q (changed r) V.here.page V.here.new _ _ V.here.pages V.here.after_is
 
   -- 15: items come
@@ -220,7 +220,7 @@ module _ (R : Log) (P Q : Pages) (r : Record) (since : ℕ) (g : Ghost (Ext ℕ)
       was : (P V.here.root ≡ V.here.old) × (P V.here.new ≡ V.here.was)
       was = two_pages P (changed r) V.here.root V.here.new V.here.old V.here.was V.here.pages V.here.before_is
 
-      now : (Q V.here.root ≡ left_with r V.here.old.right V.here.inner) × (Q V.here.new ≡ left_with r 0 V.here.old.body)
+      now : (Q V.here.root ≡ made_with r V.here.old.right V.here.inner) × (Q V.here.new ≡ made_with r 0 V.here.old.body)
       now = two_pages Q (changed r) V.here.root V.here.new _ _ V.here.pages V.here.after_is
 
       node_was : post_node (P V.here.root) ≡ post_body V.here.old.right V.here.old.body
@@ -236,7 +236,7 @@ module _ (R : Log) (P Q : Pages) (r : Record) (since : ℕ) (g : Ghost (Ext ℕ)
   -- 18: items leave
   lists_lose : (page : ℕ) (old : Page) (removed : List ℕ) (a b : Body) → changed r ≡ page ∷ [] → P page ≡ old
       → ListsLose removed a b → old.body ≡ a
-      → Q page ≡ left_with r old.right b → PostStep P Q g g removed
+      → Q page ≡ made_with r old.right b → PostStep P Q g g removed
   lists_lose page old removed a b only was (ListsLose.entries high es fs l) e now =
       as_step items least greatest (post_nodes P) (post_nodes Q) g g (λ k. In k (map at removed))
       (quiet_here items least greatest (post_nodes P) (post_nodes Q) g (changed r)

@@ -10,7 +10,7 @@ use Rattle.page_types.specs.declared.page.Body.TheVariants as body
 use Rattle.page_types.specs.declared.record.Record.{Record}
 use Rattle.core_state.specs.Log.{Pages, In}
 use Rattle.core_state.specs.TreeRows.{PostHalves, PostParent}
-use Rattle.core_state.specs.Changes.{left_with}
+use Rattle.core_state.specs.Changes.{made_with}
 use Rattle.core_state.specs.Trees.Ext.{Ext}
 use Rattle.core_state.specs.Trees.Ext.Ext.{least, at, greatest}
 use Rattle.core_state.specs.Trees.Nodes.{Child, Ghost, AtMost, Sane, split_ghost}
@@ -52,7 +52,7 @@ module _ (P Q : Pages) (r : Record) (page new parent since : ℕ) (g : Ghost (Ex
     (not_zero : new ≢ 0)
     (else : (x : ℕ) → x ≢ page → x ≢ new → x ≢ parent → Q x ≡ P x) (mid : ℕ) (pb pa : Body)
     (V : PostParent page new mid pb pa) (was_parent : (P parent).body ≡ pb)
-    (now_parent : Q parent ≡ left_with r (P parent).right pa) where
+    (now_parent : Q parent ≡ made_with r (P parent).right pa) where
   abbrev front : List (Child (Ext ℕ))
   front = map post_child V.front
 
@@ -81,8 +81,8 @@ module _ (P Q : Pages) (r : Record) (page new parent since : ℕ) (g : Ghost (Ex
       → items_of whole ≡ items_of is ++ items_of js → ((i : ℕ) → In i (items_of is) → i ≤ mid)
       → ((i : ℕ) → In i (items_of js) → mid < i) → (high_bound mid ≡ at mid) × (child_bound mid ≡ at mid)
       → (P page).body ≡ body.PostLeaf high whole
-      → Q page ≡ left_with r new (body.PostLeaf mid is)
-      → Q new ≡ left_with r (P page).right (body.PostLeaf high js) → Divided
+      → Q page ≡ made_with r new (body.PostLeaf mid is)
+      → Q new ≡ made_with r (P page).right (body.PostLeaf high js) → Divided
   divided_leaf high whole is js some_is some_js both at_most above mid_is was now now_new =
       let at_page = K.leaf_at page high whole was in (
         at_page.0,
@@ -103,8 +103,8 @@ module _ (P Q : Pages) (r : Record) (page new parent since : ℕ) (g : Ghost (Ex
 
   divided_inner : (last : PostChild) (cs ds : List PostChild) → ds ≢ [] → last.bound ≡ mid
       → (P page).body ≡ body.PostInner (cs ++ last ∷ ds)
-      → Q page ≡ left_with r new (body.PostInner (cs ++ last ∷ []))
-      → Q new ≡ left_with r (P page).right (body.PostInner ds) → Divided
+      → Q page ≡ made_with r new (body.PostInner (cs ++ last ∷ []))
+      → Q new ≡ made_with r (P page).right (body.PostInner ds) → Divided
   divided_inner last cs ds some_ds last_is was now now_new =
       let at_page = K.inner_at page (cs ++ last ∷ ds) was in (
         at_page.0,
@@ -122,7 +122,7 @@ module _ (P Q : Pages) (r : Record) (page new parent since : ℕ) (g : Ghost (Ex
 
   -- 17, of a page of a posting tree
   pub split_postings : (whole left right : Body) → PostHalves mid whole left right → (P page).body ≡ whole
-      → Q page ≡ left_with r new left → Q new ≡ left_with r (P page).right right → IsPage (Q page) → Divided
+      → Q page ≡ made_with r new left → Q new ≡ made_with r (P page).right right → IsPage (Q page) → Divided
   split_postings whole left right (PostHalves.leaves high all is js some_is some_js both at_most above) was now now_new
       page_ok =
       divided_leaf high all is js some_is some_js both at_most above

@@ -7,7 +7,7 @@ use Rattle.page_types.specs.declared.page.Head.{Head}
 use Rattle.page_types.specs.declared.page.Name.{Name}
 use Rattle.page_types.specs.declared.page.Body.TheVariants as body
 use Rattle.page_types.specs.declared.record.Record.{Record}
-use Rattle.core_state.specs.Changes.{left_with, PutsSlot}
+use Rattle.core_state.specs.Changes.{made_with, PutsSlot}
 use Rattle.core_state.specs.declared.answers.Fate.{Fate}
 use Rattle.core_state.specs.declared.answers.Fate.TheVariants.{Running, Aborted, Committed}
 
@@ -24,14 +24,14 @@ pub record LeavesInSlot (r : Record) (k : ℕ) (old : Page) (h : Head) (new : Pa
   pub new_slots : List (Option Head)
   pub before : old.body ≡ body.Heap slots
   pub put : PutsSlot slots k (Some h) new_slots
-  pub after : new ≡ left_with r old.right (body.Heap new_slots)
+  pub after : new ≡ made_with r old.right (body.Heap new_slots)
 
 -- a record leaves a part of a vector on this page, in front of the page `first`, a full one where
 -- there is such a page
 pub record LeavesPart (r : Record) (first : ℕ) (new : Page) : Type 0 where
   pub part : List ℕ
   pub full : first ≢ 0 → length part ≡ most_body
-  pub after : new ≡ left_with r first (body.Overflow part)
+  pub after : new ≡ made_with r first (body.Overflow part)
 
 -- the document was inserted by a commit, and whoever marked it was aborted
 pub record MayBeMarked (fates : ℕ → Fate) (inserted_by deleted_by : ℕ) : Type 0 where

@@ -6,7 +6,7 @@ use Rattle.page_types.specs.declared.page.Head.{Head}
 use Rattle.page_types.specs.declared.page.Name.{Name}
 use Rattle.page_types.specs.declared.page.Body.TheVariants as body
 use Rattle.page_types.specs.declared.record.Record.{Record}
-use Rattle.core_state.specs.Changes.{left_with, IsNew, PutsSlot}
+use Rattle.core_state.specs.Changes.{made_with, IsNew, PutsSlot}
 use Rattle.core_state.specs.HeapRows.{IsNewHead}
 use Rattle.core_state.specs.declared.answers.PageUse.{PageUse}
 
@@ -29,4 +29,4 @@ pub record LeavesHead (uses : ℕ → PageUse) (since : ℕ) (r : Record) (n : N
   pub page : ((old.body ≡ body.Heap slots) × (right ≡ old.right))
       ⊎ ((slots ≡ []) × (right ≡ 0) × IsNew uses since n.page)
   pub places : PlacesHead slots n.slot new_slots n.serial r.xid
-  pub after : new ≡ left_with r right (body.Heap new_slots)
+  pub after : new ≡ made_with r right (body.Heap new_slots)

@@ -1,5 +1,5 @@
 use Rattle.core_state.proofs.Showing.{shown_one, others_stay}
-use Rattle.core_state.proofs.Leaving.{left_is_page}
+use Rattle.core_state.proofs.Leaving.{made_is_page}
 use Rattle.core_state.proofs.laws.pages_are_shown.Goals as goal
 
 pub returns-clause-one : goal.returns-clause-one
@@ -8,5 +8,5 @@ returns-clause-one c = shown_one
 pub returns-clause-others : goal.returns-clause-others
 returns-clause-others c = others_stay
 
-pub returns-clause-left : goal.returns-clause-left
-returns-clause-left c = left_is_page
+pub returns-clause-made : goal.returns-clause-made
+returns-clause-made c = made_is_page

@@ -57,7 +57,7 @@ returns c =
             page = c.in-Some.new;
             old = c.index-before-0.result;
             was = get_or c.args.before.now 1 c.index-before-0.result;
-            left = c.index-after-0.result;
+            heap_then = c.index-after-0.result;
             new = c.index-after-1.result;
             pages = c.in-Some.ensures.some;
             may = c.may_be_put.ensures.0 c.if-not-may_be_put.false;
@@ -79,8 +79,8 @@ returns c =
           c.index-before-0.result c.index-after-0.result c.index-after-1.result (head_shown c.in-Some-head_in.head) p
           (same_second c.args.rec.now c.name_of-name.result.page p.page c.in-Some.new p.pages c.in-Some.ensures.some)
           (first_of_two c.args.before.now c.index-before-0.result p.old p.was p.before_is c.index-before-0.is)
-          (first_of_two c.args.after.now c.index-after-0.result p.left p.new p.after_is c.index-after-0.is)
-          (second_of_two c.args.after.now c.index-after-1.result p.left p.new p.after_is c.index-after-1.is)
+          (first_of_two c.args.after.now c.index-after-0.result p.heap_then p.new p.after_is c.index-after-0.is)
+          (second_of_two c.args.after.now c.index-after-1.result p.heap_then p.new p.after_is c.index-after-1.is)
           c.in-Some-head_in.ensures.some in
           c.leaves_in_slot.ensures.1 q.leaves,
     )

@@ -1,5 +1,5 @@
 use Rattle.std.proofs.Common.{◌≡◌, ◌<◌, ℕ, get_or}
-use Rattle.core_state.specs.States.{pages_of}
+use Rattle.core_state.specs.Log.{pages_of}
 use Rattle.core_state.proofs.valid.changes_pages.Given as goal
 
 abbrev pub invariant-loop-i : goal.invariant-loop-i

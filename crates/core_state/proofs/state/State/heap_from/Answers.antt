@@ -1,10 +1,10 @@
 use Rattle.std.proofs.Common.{◌≤◌, ℕ, List, ap, subst}
 use Rattle.core_state.specs.Log.{In}
 use Rattle.core_state.specs.PageChoice.{IsLeastIfAny}
-use Rattle.core_state.specs.Rooms.{Held}
+use Rattle.core_state.specs.Rooms.{InMemory}
 use Rattle.core_state.proofs.state.State.heap_from.Goals as goal
 
 pub returns : goal.returns
 returns c =
     subst (λ (qs : List ℕ). IsLeastIfAny (λ (p : ℕ). (c.args.page ≤ p) × In p qs) c.heap_from.result)
-    (ap (λ (h : Held). h.value.heaps) c.self.view_is) c.heap_from.ensures
+    (ap (λ (h : InMemory). h.value.heaps) c.self.view_is) c.heap_from.ensures

@@ -1,15 +1,17 @@
-// What is kept of a log's transactions, numbers and commits.
-ghost use Rattle.std.specs.Prelude.{◌≡◌, ◌≢◌, ◌↔◌, ◌<◌, ◌≤◌, ◌+◌, ◌-◌, ℕ, suc, true, [], length, IfSome, OnOk, IsOk, Some};
+// The table of transactions, with the numbers and commits of a log.
+ghost use Rattle.std.specs.Prelude.{◌≡◌, ◌≢◌, ◌↔◌, ◌<◌, ◌≤◌, ◌+◌, ◌-◌, ◌^◌, ℕ, suc, true, [], length, All, IfSome, OnOk, IsOk, Some};
 ghost use Rattle.std.specs.List.{slice_get};
-ghost use Rattle.core_state.specs.States.{empty_state, begun, committed, aborted, placed_head, marked_head, transaction, ended_all, stepped, with_fate, without, fate_of, life_of, heap_pages, run_started, pages_of};
+ghost use Rattle.core_state.specs.States.{empty_state, begun, committed, aborted, placed_head, marked_head, transaction, ended_all, stepped, with_fate, without, fate_of, life_of, heap_pages, run_started, size_of, sizes_after};
 ghost use Rattle.core_state.specs.Documents as documents;
-ghost use Rattle.core_state.specs.Log.{In};
-ghost use Rattle.core_state.specs.PageChoice.{IsLeastIfAny};
+ghost use Rattle.core_state.specs.Log.{In, pages_of};
+ghost use Rattle.core_state.specs.PageChoice.{IsLeastIfAny, HasRoomAt};
+ghost use Rattle.core_state.specs.Inner.PageRooms.{HasRoomIn};
+ghost use Rattle.page_types.specs.Numbers.{page_limit, most_body};
 ghost use Rattle.page_types.specs.declared.record.Kind.TheVariants as kind;
 ghost use Rattle.core_state.specs.Rooms.{FitsCommit, FitsPlaced, FitsMarked, HasRoomFor, HasRoomToInsert, LeavesRoom};
 
 use crate::answers::Fate;
-use crate::freed::note_freed;
+use crate::freed::{FreedPages, ROOM};
 use crate::heaps::HeapPages;
 use crate::lives::{Life, Lives};
 use crate::names::NameLists;
@@ -20,14 +22,15 @@ use std::alloc::{AllocError, Global};
 use std::marker::Model;
 
 /// Xids are below this.
-pub(crate) const XID_BOUND: u32 = 16_777_216;
+pub const XID_BOUND: u32 = 16_777_216;
 
 /// A heap page has at most this many slots.
 const MOST_SLOTS: u32 = 2048;
 
-/// What is kept of a log, but for the number of its last record and the uses of pages.
+/// The table of transactions: what is kept of a log, but for the number of its last record and the
+/// uses of pages.
 #[derive(Debug, Drop)]
-pub(crate) struct Book {
+pub(crate) struct TransactionTable {
     pub(crate) alloc: Global,
     pub(crate) pages: u32,
     pub(crate) xid_limit: u32,
@@ -42,17 +45,16 @@ pub(crate) struct Book {
     pub(crate) current: Option<u32>,
     pub(crate) highest: Option<u32>,
     pub(crate) heaps: HeapPages,
-    pub(crate) freed: Vec<u32>,
+    pub(crate) freed: FreedPages,
 }
 
-impl Model for Book {
+impl Model for TransactionTable {
     ghost use Rattle.std.specs.Prelude.{◌≡◌, ◌<◌, ◌≤◌, ◌^◌, suc, min, [], length};
     ghost use Rattle.std.specs.Vec.{vec_capacity};
-    ghost use Rattle.core_state.specs.Inner.Rising.{AreRising};
     ghost use Rattle.page_types.specs.declared.record.Kind.TheVariants as kind;
-    ghost use Rattle.core_state.specs.Rooms.{Held};
+    ghost use Rattle.core_state.specs.Rooms.{InMemory};
 
-    ghost Value = { Held };
+    ghost Value = { InMemory };
 
     ghost view = { λ b. record {
       value = record {
@@ -61,6 +63,7 @@ impl Model for Book {
         records = 0;
         fates = b.fates.items;
         uses = [];
+        sizes = b.freed.sizes;
         next_serial = b.next_serial;
         redo = b.redo;
         deleted = b.deleted.lists;
@@ -71,13 +74,13 @@ impl Model for Book {
         current = b.current;
         highest = b.highest;
         heaps = b.heaps.pages;
-        freed = b.freed.items;
+        freed = b.freed.pages;
       };
       room = record {
-        pages = 0;
+        pages = b.freed.ends;
         fates = vec_capacity b.fates;
         running = b.running.left;
-        freed = vec_capacity b.freed;
+        freed = b.freed.most;
         names = vec_capacity b.spare;
         serials = min b.lives.left b.heaps.left;
         deletes = b.deleted.lists_left;
@@ -90,8 +93,7 @@ impl Model for Book {
     ghost invariant = { λ b. (length b.fates.items < 2 ^ 24)
         × (length b.deleted.lists < 2 ^ 32)
         × (length b.inserted.lists ≡ length b.deleted.lists)
-        × (b.running.end ≤ suc (length b.fates.items))
-        × AreRising b.freed.items };
+        × (b.running.end ≤ suc (length b.fates.items)) };
 }
 
 // The name of the document with this item and serial.
@@ -105,12 +107,12 @@ pub(crate) fn name_of(item: u32, serial: u64) -> Name
     }
 }
 
-impl Book {
+impl TransactionTable {
     // That of an empty log.
-    pub(crate) fn new(alloc: Global, pages: u32, xid_limit: u32) -> Book
+    pub(crate) fn new(alloc: Global, pages: u32, xid_limit: u32) -> TransactionTable
         ensures { result.value ≡ empty_state pages xid_limit }
     {
-        Book {
+        TransactionTable {
             alloc,
             pages,
             xid_limit,
@@ -125,13 +127,14 @@ impl Book {
             current: None,
             highest: None,
             heaps: HeapPages::new(alloc),
-            freed: Vec::new(alloc),
+            freed: FreedPages::new(alloc),
         }
     }
 
     // Makes room for the names of transaction xid, if it runs, among those of commits.
     fn reserve_commit(&mut self, xid: u32) -> Result<(), AllocError>
         ensures same { self.new.value ≡ self.old.value }
+        ensures pages { self.new.room.pages ≡ self.old.room.pages }
         ensures room { OnOk result
             (IfSome (transaction xid self.old.value.running) (FitsCommit self.new.room)) }
         ensures ok { IfSome (transaction xid self.old.value.running)
@@ -147,6 +150,7 @@ impl Book {
     // Makes room for one name more that transaction xid places, if it runs.
     fn reserve_placed(&mut self, xid: u32) -> Result<(), AllocError>
         ensures same { self.new.value ≡ self.old.value }
+        ensures pages { self.new.room.pages ≡ self.old.room.pages }
         ensures room { OnOk result
             (IfSome (transaction xid self.old.value.running) (FitsPlaced self.new.room)) }
         ensures ok { IfSome (transaction xid self.old.value.running)
@@ -165,6 +169,7 @@ impl Book {
     // Makes room for one name more that transaction xid marks, if it runs.
     fn reserve_marked(&mut self, xid: u32) -> Result<(), AllocError>
         ensures same { self.new.value ≡ self.old.value }
+        ensures pages { self.new.room.pages ≡ self.old.room.pages }
         ensures room { OnOk result
             (IfSome (transaction xid self.old.value.running) (FitsMarked self.new.room)) }
         ensures ok { IfSome (transaction xid self.old.value.running)
@@ -186,6 +191,7 @@ impl Book {
         changes: usize,
     ) -> Result<(), AllocError>
         ensures same { self.new.value ≡ self.old.value }
+        ensures pages { self.new.room.pages ≡ self.old.room.pages }
         ensures room { OnOk result (HasRoomFor kind.now xid changes self.new) }
         ensures ok { HasRoomFor kind.now xid changes self.old → IsOk result }
     {
@@ -218,12 +224,37 @@ impl Book {
         self.inserted.reserve(1)
     }
 
-    // What a record of this kind and xid, with these changes, makes of the book, which has room for
+    // Makes room for what the changes of pages below `end` add.
+    pub(crate) fn make_room_for_pages(&mut self, end: usize) -> Result<(), AllocError>
+        requires { end ≤ page_limit }
+        ensures same { self.new.value ≡ self.old.value }
+        ensures room { OnOk result (end ≤ self.new.room.pages) }
+        ensures more { self.old.room.pages ≤ self.new.room.pages }
+        ensures rest { self.new.room ≡ record self.old.room { pages = self.new.room.pages } }
+        ensures ok { end ≤ self.old.room.pages → IsOk result }
+    {
+        self.freed.reserve_sizes(end)
+    }
+
+    // The lengths of bodies after these changes.
+    pub(crate) fn note_sizes(&mut self, changes: &[Change])
+        requires { All (λ c. c.page < page_limit → c.page < self.old.room.pages) changes.now }
+        ensures value { self.new.value ≡ record self.old.value {
+          sizes = sizes_after changes.now self.old.value.sizes;
+        } }
+        ensures room { self.new.room ≡ self.old.room }
+    {
+        self.freed.note(changes);
+    }
+
+    // What a record of this kind and xid, with these changes, makes of the table, which has room for
     // it.
     pub(crate) fn turn(&mut self, kind: &Kind, xid: u32, changes: &[Change])
-        requires { HasRoomFor kind.now xid (length changes.now) self.old }
+        requires rest { HasRoomFor kind.now xid (length changes.now) self.old }
+        requires places { All (λ c. c.page < page_limit → c.page < self.old.room.pages) changes.now }
         ensures value { self.new.value
             ≡ stepped kind.now xid (pages_of changes.now) self.old.value }
+        ensures pages { self.new.room.pages ≡ self.old.room.pages }
         ensures room { LeavesRoom kind.now xid self.old.room self.new.room }
     {
         match *kind {
@@ -234,7 +265,7 @@ impl Book {
             Kind::Checkpoint { redo } => self.redo = redo,
             Kind::PlaceHead { item, serial } => self.place(xid, item, serial),
             Kind::MarkDeleted { item, serial } => self.mark(xid, item, serial),
-            Kind::FreeSlots => note_freed(&mut self.freed, changes),
+            Kind::FreeSlots => self.freed.free(changes),
             _ => {}
         }
     }
@@ -244,6 +275,7 @@ impl Book {
         requires fates { length self.old.value.fates < self.old.room.fates }
         requires running { 0 < self.old.room.running }
         ensures value { self.new.value ≡ begun xid self.old.value }
+        ensures pages { self.new.room.pages ≡ self.old.room.pages }
         ensures room { LeavesRoom kind.Begin xid self.old.room self.new.room }
     {
         if xid as usize != self.fates.len() + 1 || xid >= XID_BOUND {
@@ -256,8 +288,9 @@ impl Book {
     // Transaction xid commits with this number, if it runs and the number is the next.
     fn commit(&mut self, number: u32, xid: u32)
         requires { IfSome (transaction xid self.old.value.running) (FitsCommit self.old.room) }
-        ensures { self.new.value
+        ensures value { self.new.value
             ≡ committed number xid (transaction xid self.old.value.running) self.old.value }
+        ensures pages { self.new.room.pages ≡ self.old.room.pages }
     {
         let Some(t) = self.running.find(xid) else {
             return;
@@ -273,10 +306,11 @@ impl Book {
 
     // Transaction xid gets its fate, and runs no more.
     fn end(&mut self, xid: u32, fate: Fate)
-        ensures { self.new.value ≡ record self.old.value {
+        ensures value { self.new.value ≡ record self.old.value {
           fates = with_fate xid fate self.old.value.fates;
           running = without xid self.old.value.running;
         } }
+        ensures pages { self.new.room.pages ≡ self.old.room.pages }
     {
         set_fate(&mut self.fates, xid, fate);
         self.running.leave(self.alloc, xid);
@@ -287,6 +321,7 @@ impl Book {
         requires { IfSome (transaction xid self.old.value.running) (FitsPlaced self.old.room) }
         ensures value { self.new.value ≡ placed_head (transaction xid self.old.value.running)
             (record { item = item; serial = serial }) self.old.value }
+        ensures pages { self.new.room.pages ≡ self.old.room.pages }
         ensures room { LeavesRoom (kind.PlaceHead item serial) xid self.old.room self.new.room }
     {
         let Some(t) = self.running.find(xid) else {
@@ -311,8 +346,9 @@ impl Book {
     // Transaction xid marks a document, if it runs.
     fn mark(&mut self, xid: u32, item: u32, serial: u64)
         requires { IfSome (transaction xid self.old.value.running) (FitsMarked self.old.room) }
-        ensures { self.new.value ≡ marked_head (transaction xid self.old.value.running)
+        ensures value { self.new.value ≡ marked_head (transaction xid self.old.value.running)
             (record { item = item; serial = serial }) self.old.value }
+        ensures pages { self.new.room.pages ≡ self.old.room.pages }
     {
         if self.running.find(xid).is_some() {
             let name = name_of(item, serial);
@@ -323,6 +359,7 @@ impl Book {
     // Every running transaction is aborted.
     pub(crate) fn end_running(&mut self)
         ensures value { self.new.value ≡ ended_all self.old.value }
+        ensures pages { self.new.room.pages ≡ self.old.room.pages }
         ensures room { LeavesRoom kind.Abort 0 self.old.room self.new.room }
     {
         self.running.end_all(&mut self.fates);
@@ -407,9 +444,51 @@ impl Book {
         ensures { result ≡ slice_get (heap_pages self.now.value) k }
     {
         match self.current {
-            None => self.freed.get(k).copied(),
+            None => self.freed.at(k),
             Some(page) if k == 0 => Some(page),
-            Some(_) => self.freed.get(k - 1).copied(),
+            Some(_) => self.freed.at(k - 1),
+        }
+    }
+
+    // Whether so many bytes more fit on a page.
+    fn has_room(&self, page: u32, bytes: u32) -> bool
+        ensures { result ≡ true ↔ (size_of self.now.value page + bytes ≤ suc most_body) }
+    {
+        u64::from(self.freed.size_of(page)) + u64::from(bytes) <= ROOM
+    }
+
+    // The first of the pages where this run freed a slot, from number k of them on, with room for so
+    // many bytes.
+    fn freed_with_room(&self, k: u32, bytes: u32) -> Option<u32>
+        ensures least { let s = self.now.value in
+            IsLeastIfAny (λ p. (k ≤ p) × HasRoomIn s.freed s.sizes bytes p) result }
+        ensures small { IfSome result (λ p. p < 2 ^ 21) }
+    {
+        let place = self.freed.with_room(k as usize, bytes)?;
+        Some(place as u32)
+    }
+
+    // The first old heap page from number k on with room for so many bytes, where this page comes
+    // first.
+    fn room_behind(&self, page: u32, k: u32, bytes: u32) -> Option<u32>
+        requires { self.now.value.current ≡ Some page }
+        ensures { IsLeastIfAny (λ p. (k ≤ p) × HasRoomAt self.now.value bytes p) result }
+    {
+        if k == 0 && self.has_room(page, bytes) {
+            return Some(0);
+        }
+        let place = self.freed_with_room(k.saturating_sub(1), bytes)?;
+        Some(place + 1)
+    }
+
+    // The first of the old heap pages that a head is tried on, from number k on, with room for so
+    // many bytes.
+    pub(crate) fn room_from(&self, k: u32, bytes: u32) -> Option<u32>
+        ensures { IsLeastIfAny (λ p. (k ≤ p) × HasRoomAt self.now.value bytes p) result }
+    {
+        match self.current {
+            None => self.freed_with_room(k, bytes),
+            Some(page) => self.room_behind(page, k, bytes),
         }
     }
 
@@ -441,8 +520,9 @@ impl Book {
 
     // Transaction xid is aborted, if it runs.
     pub(crate) fn abort(&mut self, xid: u32)
-        ensures { self.new.value
+        ensures value { self.new.value
             ≡ aborted xid (transaction xid self.old.value.running) self.old.value }
+        ensures pages { self.new.room.pages ≡ self.old.room.pages }
     {
         if self.running.find(xid).is_some() {
             self.end(xid, Fate::Aborted);
