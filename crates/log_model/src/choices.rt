@@ -1,8 +1,15 @@
 // What the core tells of pages to take, of running transactions and of documents, against the walks.
 use crate::told::{CORE_DIFFERS, PAGES};
 use core_state::{Life, State};
-use log_walks::{Doc, Fate, Fault, Ledger, Store, must};
-use page_types::{Kind, Name, Record};
+use log_walks::{Doc, Fate, Fault, Ledger, PlainBody, Store, must};
+use page_types::{Kind, Name, PageBytes, Record};
+
+/// A page's body and the bytes that come to it are so many at most, where one of them is a free
+/// slot's.
+const MOST_ROOM: u32 = 8169;
+
+/// The bytes of a large head.
+const LARGE: u32 = 2029;
 
 /// The lowest page that no record has changed.
 fn lowest_unused(store: &Store) -> Option<u32> {
@@ -22,6 +29,78 @@ fn lowest_deleted(store: &Store, since: u64) -> Option<u32> {
         }
     }
     None
+}
+
+/// Whether the state names the heap pages in order.
+fn same_heaps(state: &State, store: &Store) -> bool {
+    let mut from = 0u32;
+    for (page, shown) in store.pages() {
+        if matches!(shown.live(), Some(PlainBody::Heap(_))) {
+            if state.heap_from(from) != Some(*page) || state.heap_from(*page) != Some(*page) {
+                return false;
+            }
+            from = page.saturating_add(1);
+        }
+    }
+    state.heap_from(from).is_none()
+}
+
+/// The used length of a page, 0 where no record has changed it.
+fn used_length(store: &Store, page: u32) -> u32 {
+    let Some(bytes) = store.bytes(page) else {
+        return 0;
+    };
+    let bytes = bytes.as_slice();
+    match (bytes.get(16), bytes.get(17)) {
+        (Some(low), Some(high)) => u32::from(u16::from_le_bytes([*low, *high])),
+        _ => 0,
+    }
+}
+
+/// The first number from `from` on whose page, of these, has room for so many bytes.
+fn first_with_room(store: &Store, pages: &[u32], from: usize, bytes: u32) -> Option<u32> {
+    for (place, page) in pages.iter().enumerate().skip(from) {
+        if used_length(store, *page).saturating_add(bytes) <= MOST_ROOM {
+            return u32::try_from(place).ok();
+        }
+    }
+    None
+}
+
+/// Whether the state tells which of these pages has room for so many bytes, from each number on.
+fn same_room(state: &State, store: &Store, pages: &[u32], bytes: u32) -> bool {
+    for from in 0..pages.len().saturating_add(2) {
+        let told = u32::try_from(from)
+            .ok()
+            .and_then(|k| state.room_from(k, bytes));
+        if told != first_with_room(store, pages, from, bytes) {
+            return false;
+        }
+    }
+    true
+}
+
+/// Whether the state tries heads on these pages, in order.
+fn tries_pages(state: &State, pages: &[u32]) -> bool {
+    let mut number = 0u32;
+    for page in pages {
+        if state.heap_page(number) != Some(*page) {
+            return false;
+        }
+        number = number.saturating_add(1);
+    }
+    state.heap_page(number).is_none()
+}
+
+/// Whether the state tries heads on these pages, and tells which of them have room: for nothing, for just what this
+/// page has, for a byte more, and for a large head.
+fn same_tries(state: &State, store: &Store, pages: &[u32], page: u32) -> bool {
+    let rest = MOST_ROOM.saturating_sub(used_length(store, page));
+    tries_pages(state, pages)
+        && same_room(state, store, pages, 0)
+        && same_room(state, store, pages, rest)
+        && same_room(state, store, pages, rest.saturating_add(1))
+        && same_room(state, store, pages, LARGE)
 }
 
 /// Whether the state names the pages to take.
@@ -109,14 +188,23 @@ fn same_running(state: &State, ledger: &Ledger, record: &Record) -> bool {
     }
 }
 
-/// The state behind a valid record, which leaves these pages, tells what the walks find.
+/// The state behind a valid record, which leaves these pages, tells what the walks find. Heads are
+/// tried on `tried` in order.
 pub(crate) fn must_choose(
     state: &State,
     ledger: &Ledger,
     store: &Store,
+    tried: &[u32],
     record: &Record,
 ) -> Result<(), Fault> {
+    let page = record
+        .changes
+        .as_slice()
+        .first()
+        .map_or(0, |change| change.page);
     let same = same_pages(state, store, ledger.records)
+        && same_heaps(state, store)
+        && same_tries(state, store, tried, page)
         && same_running(state, ledger, record)
         && same_lives(state, ledger, record);
     must(same, CORE_DIFFERS)

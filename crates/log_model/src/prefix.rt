@@ -5,7 +5,7 @@ use crate::told::{empty_state, must_find, must_tell};
 use core_state::State;
 use log_rows::{Step, here, row};
 use log_scans::{bytes_behind, changed_pages};
-use log_walks::{Fault, Ledger, PlainPage, Store, must};
+use log_walks::{Doc, Fault, Ledger, PlainPage, Store, must};
 use page_types::{Kind, PageBytes, Record};
 use std::alloc::{AllocError, Global};
 
@@ -18,6 +18,10 @@ pub(crate) struct Prefix {
     pub(crate) ledger: Ledger,
     /// The core's state.
     state: State,
+    /// The page of the last placed head.
+    current: Option<u32>,
+    /// The pages where a slot was freed, rising.
+    freed: Vec<u32>,
 }
 
 impl Prefix {
@@ -27,7 +31,34 @@ impl Prefix {
             store: Store::new(alloc),
             ledger: Ledger::new(alloc),
             state: empty_state(alloc),
+            current: None,
+            freed: Vec::new(alloc),
         }
+    }
+
+    /// A record places a head, or frees slots.
+    fn note_heap(&mut self, record: &Record) -> Result<(), Fault> {
+        if let Kind::PlaceHead { item, serial } = record.kind {
+            self.current = Some(Doc { item, serial }.page());
+        }
+        if matches!(record.kind, Kind::FreeSlots) {
+            for change in record.changes.as_slice() {
+                if let Err(place) = self.freed.binary_search(&change.page) {
+                    self.freed.insert(place, change.page)?;
+                }
+            }
+        }
+        Ok(())
+    }
+
+    /// The pages that a head is tried on, in order.
+    fn tried(&self, alloc: Global) -> Result<Vec<u32>, Fault> {
+        let mut pages = Vec::new(alloc);
+        if let Some(page) = self.current {
+            pages.push(page)?;
+        }
+        pages.extend_from_slice(&self.freed)?;
+        Ok(pages)
     }
 
     /// The record's changes of bytes.
@@ -45,6 +76,7 @@ impl Prefix {
             prefix.change_bytes(alloc, record)?;
             prefix.ledger.note(alloc, record)?;
             prefix.state.step(record)?;
+            prefix.note_heap(record)?;
         }
         for (page, left) in pages.pages() {
             prefix.store.put(*page, left.clone()?)?;
@@ -103,7 +135,9 @@ impl Prefix {
         for (page, bytes) in bytes {
             self.store.put_bytes(page, bytes)?;
         }
-        must_choose(&self.state, &self.ledger, &self.store, record)
+        self.note_heap(record)?;
+        let tried = self.tried(alloc)?;
+        must_choose(&self.state, &self.ledger, &self.store, &tried, record)
     }
 }
 

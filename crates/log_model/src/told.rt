@@ -1,7 +1,7 @@
 // What the core tells of a log: its tests of the kinds of records that it has, and its state.
 use core_state::{
-    Fate, PageUse, State, valid_abort, valid_begin, valid_commit, valid_create, valid_mark_deleted,
-    valid_place_head, valid_put_overflow,
+    Fate, PageUse, State, XID_BOUND, valid_abort, valid_begin, valid_commit, valid_create,
+    valid_mark_deleted, valid_place_head, valid_put_overflow,
 };
 use log_walks::{Doc, Fault, Ledger, PlainPage, Store, must};
 use page_code::{PageError, decode_page};
@@ -14,12 +14,9 @@ pub(crate) const CORE_DIFFERS: &str = "the core and the walks agree";
 /// A log's pages are below this.
 pub(crate) const PAGES: u32 = 1_048_576;
 
-/// Its xids are below this.
-const XIDS: u32 = 16_777_216;
-
 /// The state of the empty log.
 pub(crate) fn empty_state(alloc: Global) -> State {
-    State::new(alloc, PAGES, XIDS)
+    State::new(alloc, PAGES, XID_BOUND)
 }
 
 /// The page that the bytes spell; without bytes that of zeros.
