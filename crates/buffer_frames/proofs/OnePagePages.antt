@@ -12,7 +12,7 @@ use Rattle.page_types.specs.declared.record.Kind.TheVariants as kind
 use Rattle.page_types.proofs.Joining.{slot_past}
 use Rattle.core_state.specs.Log.{Log, Pages, In, Shows, changed, serial_behind, next_serial}
 use Rattle.core_state.specs.Documents.{slot_of}
-use Rattle.core_state.specs.Changes.{left_with, PutsSlot}
+use Rattle.core_state.specs.Changes.{made_with, PutsSlot}
 use Rattle.core_state.specs.HeapRows.{IsNewHead, IsPlaceHead}
 use Rattle.core_state.specs.Legal.{RowHolds, RowsAreValid}
 use Rattle.core_state.proofs.RowsByKind.{kind_row}
@@ -44,7 +44,7 @@ pub record PlacesNext (R : Log) (P Q : Pages) (r : Record) : Type 0 where
   pub new_slots : List (Option Head)
   pub new_head : IsNewHead head (next_serial R) r.xid
   pub put : PutsSlot (slots_here P) (length (slots_here P)) (Some head) new_slots
-  pub after : Q heap_page ≡ left_with r 0 (body.Heap new_slots)
+  pub after : Q heap_page ≡ made_with r 0 (body.Heap new_slots)
   pub elsewhere : (p : ℕ) → p ≢ heap_page → Q p ≡ P p
 
 pub data PageStep (R : Log) (P Q : Pages) (r : Record) : Type 0 where
@@ -111,8 +111,8 @@ places_told R P Q r since made on only before after w =
     let here = on.on r w.here.doc.item w.here.doc.serial (inl refl) w.here.kind_is in
     let pages : changed r ≡ heap_page ∷ [] = w.here.pages ∙ ap (λ (q : ℕ). q ∷ []) here.0 in
     let was : P heap_page ≡ w.here.old = first_one P heap_page w.here.old (sym (ap (map P) pages) ∙ w.here.before_is) in
-    let is : Q heap_page ≡ left_with r w.here.right (body.Heap w.here.new_slots) =
-    first_one Q heap_page (left_with r w.here.right (body.Heap w.here.new_slots))
+    let is : Q heap_page ≡ made_with r w.here.right (body.Heap w.here.new_slots) =
+    first_one Q heap_page (made_with r w.here.right (body.Heap w.here.new_slots))
     (sym (ap (map Q) pages) ∙ w.here.after_is) in
     let slot : slot_of w.here.doc.item ≡ length (slots_here P) = omega (arith, here.1, w.here.next, only.page.size) in
     let slots : w.here.slots ≡ slots_here P = elim w.here.page [
@@ -129,7 +129,7 @@ places_told R P Q r since made on only before after w =
       put =
           puts_behind (slots_here P) w.here.slots w.here.new_slots (slot_of w.here.doc.item)
           (Some w.here.head) slots slot w.here.put;
-      after = is ∙ ap (λ (n : ℕ). left_with r n (body.Heap w.here.new_slots)) right;
+      after = is ∙ ap (λ (n : ℕ). made_with r n (body.Heap w.here.new_slots)) right;
       elsewhere = λ p off. others_stay R r P Q before after p (in_one p heap_page (changed r) pages off);
     }
 
@@ -218,7 +218,7 @@ heap_more slots new_slots r h next k size heads new put small = elim (below_or_p
 heap_left : (P : Pages) (r : Record) (h : Head) (next : ℕ) (new_slots : List (Option Head))
     → IsHeapAt next (P heap_page) → IsNewHead h next r.xid
     → PutsSlot (slots_here P) (length (slots_here P)) (Some h) new_slots
-    → IsHeapAt (suc next) (left_with r 0 (body.Heap new_slots))
+    → IsHeapAt (suc next) (made_with r 0 (body.Heap new_slots))
 heap_left P r h next new_slots page new put = record {
   size = omega (arith, put.size, page.size);
   right = refl;
@@ -255,7 +255,7 @@ only_step R P Q r only (PageStep.keeps k e) = record {
 }
 only_step R P Q r only (PageStep.places w e) = record {
   page =
-      heap_same (suc (next_serial R)) (next_serial (r ∷ R)) (left_with r 0 (body.Heap w.new_slots))
+      heap_same (suc (next_serial R)) (next_serial (r ∷ R)) (made_with r 0 (body.Heap w.new_slots))
       (Q heap_page) e w.after
       (heap_left P r w.head (next_serial R) w.new_slots only.page w.new_head w.put);
   meta = λ some. ap (λ (x : Page). x.body) (w.elsewhere 0 (λ f. omega (arith, f))) ∙ only.meta w.made;

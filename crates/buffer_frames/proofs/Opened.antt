@@ -151,9 +151,9 @@ module _ {D : Type 0} (device : Disk D) where
       }
 
   pub opened_at : OpensToOneList → (settings : Settings) (first disk : D) (wal wal' : Wal) (v v' : StateValue) (map : PageMap) (R : Log) (n : ℕ) (owes : Bool) → (device.tells → (d : D) → images_now device d (device.seen d)) → IsReadAs device settings first disk wal v map R → (c0 : ℕ) → (device.tells → HasRun device first c0 disk)
-      → device.fault_count first ≤ device.fault_count disk → device.write_fault_count disk ≡ device.write_fault_count first → AreBelowLast device first disk → n ≡ length v.deleted → HasBegun owes wal wal' v v' → IsOpenedAt device settings first c0 (seen_as disk wal' v' n owes disk) map
+      → device.clock first ≤ device.clock disk → device.fault_count first ≤ device.fault_count disk → device.write_fault_count disk ≡ device.write_fault_count first → AreBelowLast device first disk → n ≡ length v.deleted → HasBegun owes wal wal' v v' → IsOpenedAt device settings first c0 (seen_as disk wal' v' n owes disk) map
   unfolding starts goes_on
-  opened_at one settings first disk wal wal' v v' map [] n false law read c0 run later writes below count begun =
+  opened_at one settings first disk wal wal' v v' map [] n false law read c0 run time later writes below count begun =
       let now : v' ≡ state_of settings.pages settings.xid_limit (first_record ∷ []) = begun.5 ∙ ap (step_of first_record) read.state_is in
       let b = state_bounds settings.pages settings.xid_limit (first_record ∷ []) in
       record {
@@ -165,6 +165,7 @@ module _ {D : Type 0} (device : Disk D) where
         limit = begun.3 ∙ read.fresh.limit_is;
         pages = ap (λ (s : StateValue). s.pages) now ∙ b.0;
         xid_limit = ap (λ (s : StateValue). s.xid_limit) now ∙ b.1;
+        time = time;
         no_fall = later;
         no_write_failed = writes;
         below_last = (below.faults, below.write_faults);
@@ -174,7 +175,7 @@ module _ {D : Type 0} (device : Disk D) where
             (subst (λ (e : ℕ). Settled device was.0 e disk) (sym begun.2) was.1);
         applied = read.applied;
       }
-  opened_at one settings first disk wal wal' v v' map (r ∷ R) n true law read c0 run later writes below count begun =
+  opened_at one settings first disk wal wal' v v' map (r ∷ R) n true law read c0 run time later writes below count begun =
       let b = state_bounds settings.pages settings.xid_limit (r ∷ R) in
       let same : v' ≡ v = begun.2 in
       let wals : wal' ≡ wal = begun.1 in
@@ -188,6 +189,7 @@ module _ {D : Type 0} (device : Disk D) where
         limit = read.fresh.limit_is;
         pages = ap (λ (s : StateValue). s.pages) read.state_is ∙ b.0;
         xid_limit = ap (λ (s : StateValue). s.xid_limit) read.state_is ∙ b.1;
+        time = time;
         no_fall = later;
         no_write_failed = writes;
         below_last = (below.faults, below.write_faults);
@@ -196,7 +198,7 @@ module _ {D : Type 0} (device : Disk D) where
             told_opened one (law t) first c0 disk (end_of wal) (r ∷ R) (run t) (read.store t) was.0 was.1;
         applied = read.applied;
       }))
-  opened_at one settings first disk wal wal' v v' map [] n true law read c0 run later writes below count begun =
+  opened_at one settings first disk wal wal' v v' map [] n true law read c0 run time later writes below count begun =
       absurd (omega (arith, begun.0, ap (λ (s : StateValue). s.records) read.state_is))
-  opened_at one settings first disk wal wal' v v' map (r ∷ R) n false law read c0 run later writes below count begun =
+  opened_at one settings first disk wal wal' v v' map (r ∷ R) n false law read c0 run time later writes below count begun =
       absurd (omega (arith, begun.0, ap (λ (s : StateValue). s.records) read.state_is, ap (λ (t : ℕ × ℕ × ℕ). t.2) (step_marks r (state_of settings.pages settings.xid_limit R)), read.numbered.1))

@@ -4,7 +4,7 @@ use Rattle.std.specs.Prelude.{All}
 use Rattle.page_types.specs.declared.record.Record.{Record}
 use Rattle.core_state.specs.Log.{Log, changed}
 use Rattle.core_state.specs.States.{StateValue, step_of}
-use Rattle.core_state.specs.Rooms.{Held, HasRoom, HasRoomForPages, HasRoomToInsert, LeavesRoom}
+use Rattle.core_state.specs.Rooms.{InMemory, HasRoom, HasRoomForPages, HasRoomToInsert, LeavesRoom}
 use Rattle.core_state.proofs.Inserting.{place_has_room, commit_has_room}
 use Rattle.buffer_frames.specs.Journals.{IsOneInsert}
 use Rattle.buffer_frames.specs.Logging.{steps_of}
@@ -16,7 +16,7 @@ third_of rs a b c k x all is = is ∙ ap (λ (l : List Record). get_or l k x) al
 pages_of_one : (rs : List Record) (n m k : ℕ) (x : Record) → All (HasRoomForPages n) rs → m ≡ n → k < length rs → x ≡ get_or rs k x → HasRoomForPages m x
 pages_of_one rs n m k x all same lt is = subst (λ (y : ℕ). HasRoomForPages y x) (sym same) (subst (HasRoomForPages n) (sym is) (all k x lt))
 
-pub second_has_room : (h h' : Held) (rs : List Record) (b p : Record) → HasRoomToInsert h → IsOneInsert h.value rs → All (HasRoomForPages h.room.pages) rs → b ≡ get_or rs 0 b → p ≡ get_or rs 1 p
+pub second_has_room : (h h' : InMemory) (rs : List Record) (b p : Record) → HasRoomToInsert h → IsOneInsert h.value rs → All (HasRoomForPages h.room.pages) rs → b ≡ get_or rs 0 b → p ≡ get_or rs 1 p
     → h'.value ≡ step_of b h.value → h'.room.pages ≡ h.room.pages → LeavesRoom b.kind b.xid h.room h'.room → HasRoom h' p
 second_has_room h h' rs b p room i pages at at2 value same left =
     let first : b ≡ i.begin = third_of rs i.begin i.place i.commit 0 b i.all at in
@@ -26,7 +26,7 @@ second_has_room h h' rs b p room i pages at at2 value same left =
     value left (ap (λ (r : Record). r.kind) second ∙ i.places.2) (ap (λ (r : Record). r.xid) second ∙ i.own.0 ∙ sym x)
     (pages_of_one rs h.room.pages h'.room.pages 1 p pages same (omega (arith, ap length i.all)) at2)
 
-pub third_has_room : (h h' h2 : Held) (rs : List Record) (b p c : Record) → HasRoomToInsert h → IsOneInsert h.value rs → All (HasRoomForPages h.room.pages) rs → b ≡ get_or rs 0 b → p ≡ get_or rs 1 p → c ≡ get_or rs 2 c
+pub third_has_room : (h h' h2 : InMemory) (rs : List Record) (b p c : Record) → HasRoomToInsert h → IsOneInsert h.value rs → All (HasRoomForPages h.room.pages) rs → b ≡ get_or rs 0 b → p ≡ get_or rs 1 p → c ≡ get_or rs 2 c
     → h'.value ≡ step_of b h.value → h'.room.pages ≡ h.room.pages → LeavesRoom b.kind b.xid h.room h'.room → h2.value ≡ step_of p h'.value → h2.room.pages ≡ h'.room.pages → LeavesRoom p.kind p.xid h'.room h2.room → HasRoom h2 c
 third_has_room h h' h2 rs b p c room i pages at at2 at3 value same left value2 same2 left2 =
     let first : b ≡ i.begin = third_of rs i.begin i.place i.commit 0 b i.all at in

@@ -6,7 +6,7 @@ use Rattle.page_types.specs.declared.record.Kind.TheVariants as kind
 use Rattle.page_types.specs.declared.record.Record.{Record}
 use Rattle.core_state.specs.Log.{Log, changed, xid_bound}
 use Rattle.core_state.specs.Documents.{Doc}
-use Rattle.core_state.specs.States.{StateValue, uses_after, stepped, step_of, state_of, committed, aborted, ended_all, placed_head, marked_head, transaction, last_serial}
+use Rattle.core_state.specs.States.{StateValue, uses_after, sizes_after, stepped, step_of, state_of, committed, aborted, ended_all, placed_head, marked_head, transaction, last_serial}
 use Rattle.core_state.specs.declared.transactions.Transaction.{Transaction}
 use Rattle.core_state.proofs.Framing.{framed_step}
 use Rattle.buffer_frames.specs.Counted.{AreNumbered}
@@ -14,7 +14,8 @@ use Rattle.buffer_frames.specs.Counted.{AreNumbered}
 pub step_number : (r : Record) (s : StateValue) → (step_of r s).records ≡ r.number
 step_number r s =
     ap (λ (t : StateValue). t.records)
-    (framed_step r.kind r.xid (changed r) r.number (uses_after r.number r.changes s.uses) s)
+    (framed_step r.kind r.xid (changed r) r.number (uses_after r.number r.changes s.uses)
+    (record s { sizes = sizes_after r.changes s.sizes }))
 
 pub state_number : (pages xid_limit : ℕ) (R : Log) → AreNumbered R → (state_of pages xid_limit R).records ≡ length R
 state_number pages xid_limit [] a = refl
@@ -64,7 +65,10 @@ state_limits pages xid_limit [] = (refl, refl)
 state_limits pages xid_limit (r ∷ R) =
     let now =
     stepped_same r.kind r.xid (changed r)
-    (record (state_of pages xid_limit R)
-    { records = r.number; uses = uses_after r.number r.changes (state_of pages xid_limit R).uses }) in
+    (record (state_of pages xid_limit R) {
+      records = r.number;
+      uses = uses_after r.number r.changes (state_of pages xid_limit R).uses;
+      sizes = sizes_after r.changes (state_of pages xid_limit R).sizes;
+    }) in
     let so_far = state_limits pages xid_limit R in
     (now.0 ∙ so_far.0, now.1 ∙ so_far.1)

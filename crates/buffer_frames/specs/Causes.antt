@@ -5,9 +5,10 @@ use Rattle.disk_trait.specs.declared.device.Disk.{Ghosts as Disk}
 use Rattle.buffer_frames.specs.declared.error.OpenFault.{OpenFault}
 use Rattle.buffer_frames.specs.declared.error.OpenFault.TheVariants.{NotAStore, DiskFault, OutOfMemory}
 
--- The counts of a call that reads: no write failed.
+-- The clock and the counts of a call that reads: no write failed.
 pub record ReadHasCause {D T : Type 0} (device : Disk D) (old new : D)
     (result : Result T OpenFault) : Type 0 where
+  pub time : device.clock old ≤ device.clock new
   pub later : device.fault_count old ≤ device.fault_count new
   pub fault : IsErrOf result DiskFault → Rose (device.fault_count old) (device.fault_count new)
   pub no_write : device.write_fault_count new ≡ device.write_fault_count old

@@ -10,9 +10,10 @@ abbrev pub RoseAtFault : {T : Type 0} → Result T LogError → ℕ → ℕ → 
 RoseAtFault (Err DiskFault) before now = Rose before now
 RoseAtFault r before now = now ≡ before
 
--- The counts of a call that writes. They never fall.
+-- The clock and the counts of a call that writes. They never fall.
 pub record WriteHasCause {D T : Type 0} (device : Disk D) (old new : D)
     (result : Result T LogError) : Type 0 where
+  pub time : device.clock old ≤ device.clock new
   pub later : (device.fault_count old ≤ device.fault_count new)
       × (device.write_fault_count old ≤ device.write_fault_count new)
   pub fault : IsErrOf result DiskFault → Rose (device.fault_count old) (device.fault_count new)

@@ -50,6 +50,7 @@ pub record IsOpenedAt {D : Type 0} (device : Disk D) (settings : Settings) (firs
   pub limit : limit_of j.wal ≡ settings.log_limit
   pub pages : j.state.pages ≡ settings.pages
   pub xid_limit : j.state.xid_limit ≡ settings.xid_limit
+  pub time : device.clock first ≤ device.clock j.disk
   pub no_fall : device.fault_count first ≤ device.fault_count j.disk
   pub no_write_failed : device.write_fault_count j.disk ≡ device.write_fault_count first
   pub below_last : (device.fault_count first < last_count)

@@ -41,6 +41,7 @@ fn sync_both<D: Disk>(disk: &mut D) -> Result<(), Failed>
     ensures durable_pages { D.tells
         → OnOk result (Durable Pages (D.seen disk.old).pages (images_now D.Disk disk.new)) }
     ensures keeps { IsOnlyRead D.Disk disk.old disk.new }
+    ensures time { D.Disk.clock disk.old ≤ D.Disk.clock disk.new }
     ensures later { (D.fault_count disk.old ≤ D.fault_count disk.new)
         × (D.write_fault_count disk.old ≤ D.write_fault_count disk.new) }
     ensures fault { OnErr result (Rose (D.fault_count disk.old) (D.fault_count disk.new)) }
@@ -202,7 +203,11 @@ pub fn open<D: Disk>(
     ensures refused_pages { D.tells → IfErr result (λ e. KeepsPages D.Disk disk e.0) }
     ensures refused_seen { D.tells
         → IfErr result (λ e. (D.seen e.0).pages ≡ (D.seen disk).pages) }
-    // Files that are no store are only read, whatever is answered.
+    // A log that is born is only read, and so are files that are no store, whatever is answered.
+    ensures born { D.tells → (IsUnborn (D.seen disk).log → ⊥)
+        → IfOk result (λ x. IsOnlyRead D.Disk disk (x.0).disk) }
+    ensures born_kept { D.tells → (IsUnborn (D.seen disk).log → ⊥)
+        → IfErr result (λ e. IsOnlyRead D.Disk disk e.0) }
     ensures no_store_kept { D.tells → IsNoStore (D.seen disk)
         → IfErr result (λ e. IsOnlyRead D.Disk disk e.0) }
     ensures only_read { IfErr result (λ e. e.1 ≡ NotAStore → IsOnlyRead D.Disk disk e.0) }
@@ -211,6 +216,7 @@ pub fn open<D: Disk>(
     ensures memory { IfErr result (λ e. e.1 ≡ OutOfMemory
         → D.write_fault_count e.0 ≡ D.write_fault_count disk) }
     ensures later { IfErr result (λ e. D.fault_count disk ≤ D.fault_count e.0) }
+    ensures time { IfErr result (λ e. D.Disk.clock disk ≤ D.Disk.clock e.0) }
 {
     one_list();
     counted_are_one();

@@ -29,9 +29,10 @@ HasBegun false wal wal' s s' =
     (s.records ≡ 0) × (waiting wal' ≡ record_bytes first_record) × (end_of wal' ≡ end_of wal)
     × (limit_of wal' ≡ limit_of wal) × (down_of wal' ≡ down_of wal) × (s' ≡ step_of first_record s)
 
--- The counts of a run of calls that may write.
+-- The clock and the counts of a run of calls that may write.
 pub record MakesHasCause {D T : Type 0} (device : Disk D) (old new : D)
     (result : Result T OpenFault) : Type 0 where
+  pub time : device.clock old ≤ device.clock new
   pub later : device.fault_count old ≤ device.fault_count new
   pub fault : IsErrOf result DiskFault → Rose (device.fault_count old) (device.fault_count new)
   pub at_ok : OnOk result (device.write_fault_count new ≡ device.write_fault_count old)

@@ -78,3 +78,11 @@ pub returns-in-Err-clause-no_store_kept : goal.returns-in-Err-clause-no_store_ke
 returns-in-Err-clause-no_store_kept g c = λ t none.
     runs_only g.D.Disk t (λ d. g.met.D.Disk.seen_is_image d t) c.args.disk c.open_parts.new.disk (c.open_parts.ensures.runs t)
     (λ unborn. c.stores_are_known.ensures (g.D.Disk.seen c.args.disk) [] (unborn_is_store (g.D.Disk.seen c.args.disk) unborn) none)
+
+pub returns-in-Ok-clause-born : goal.returns-in-Ok-clause-born
+returns-in-Ok-clause-born g c = λ t born.
+    runs_only g.D.Disk t (λ d. g.met.D.Disk.seen_is_image d t) c.args.disk c.open_parts.new.disk (c.open_parts.ensures.runs t) born
+
+pub returns-in-Err-clause-born_kept : goal.returns-in-Err-clause-born_kept
+returns-in-Err-clause-born_kept g c = λ t born.
+    runs_only g.D.Disk t (λ d. g.met.D.Disk.seen_is_image d t) c.args.disk c.open_parts.new.disk (c.open_parts.ensures.runs t) born

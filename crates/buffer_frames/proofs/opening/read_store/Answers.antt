@@ -1,7 +1,7 @@
 use Rattle.std.proofs.Common.{◌≡◌, ◌∙◌, inr, ℕ, List, Err, sym, ap, subst}
 use Rattle.std.proofs.lemmas.Result.{err_from_is_err_and}
 use Rattle.wal.specs.declared.log.Wal.{Wal}
-use Rattle.core_state.specs.Rooms.{Held}
+use Rattle.core_state.specs.Rooms.{InMemory}
 use Rattle.core_state.specs.States.{StateValue, state_of}
 use Rattle.buffer_frames.specs.Causes.{NotAStoreWhere}
 use Rattle.buffer_frames.specs.Maps.{HasApplied}
@@ -21,7 +21,7 @@ pub returns-in_err-map-clause-no_store : goal.returns-in_err-map-clause-no_store
 returns-in_err-map-clause-no_store g c t =
     let p = err_from_is_err_and c.from_residual-in_err-map.result c.from_residual-in_err-map.ensures.1 in
     subst (NotAStoreWhere (IsNoStore (g.D.Disk.seen c.args.disk.now))) (sym (p.1 ∙ ap Err p.2))
-    (refused_where (Wal × Held × PageMap) (IsNoStore (g.D.Disk.seen c.args.disk.now)) c.in_err-map.field-0.0
+    (refused_where (Wal × InMemory × PageMap) (IsNoStore (g.D.Disk.seen c.args.disk.now)) c.in_err-map.field-0.0
     (λ is. no_store_before g.D.Disk c.stores_are_known.ensures c.args.disk.now c.open_log.new.disk (c.in_ok-wal.ensures.made t)
     (at_refusal PageMap (IsNoStore (g.D.Disk.seen c.open_log.new.disk)) c.in_err-map.field-0.0 (c.in_err-map.ensures.no_store t) is)))
 

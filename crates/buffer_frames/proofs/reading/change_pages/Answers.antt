@@ -23,6 +23,7 @@ returns-in_err-change_page-clause-refused g c = λ told at can.
 pub loop-change-preserved : goal.loop-change-preserved
 loop-change-preserved g c = record {
   only = read_then g.D.Disk _ _ _ c.loop-change.invariant.only c.change_page.ensures.keeps;
+  time = omega (arith, c.loop-change.invariant.time, c.change_page.ensures.cause.time);
   later = omega (arith, c.loop-change.invariant.later, c.change_page.ensures.cause.later);
   no_write = c.change_page.ensures.cause.no_write ∙ c.loop-change.invariant.no_write;
   made = λ told.

@@ -17,6 +17,7 @@ use Rattle.buffer_frames.proofs.reading.read_records.Goals as goal
 pub loop-init : goal.loop-init
 loop-init g c = record {
   only = none_read g.D.Disk c.args.disk.now;
+  time = omega arith;
   later = omega arith;
   no_write = refl;
   same = record { waits = refl; limit_is = refl; down_is = refl };
@@ -100,6 +101,7 @@ loop-preserved g c =
     record {
       only = read_then g.D.Disk _ _ _ (read_then g.D.Disk _ _ _ i.only c.read_batch.ensures.keeps)
           c.read_row.ensures.keeps;
+      time = omega (arith, i.time, c.read_batch.ensures.cause.time, c.read_row.ensures.cause.time);
       later = omega (arith, i.later, c.read_batch.ensures.cause.later, c.read_row.ensures.cause.later);
       no_write = c.read_row.ensures.cause.no_write ∙ c.read_batch.ensures.cause.no_write ∙ i.no_write;
       same = record {

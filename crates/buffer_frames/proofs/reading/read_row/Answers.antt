@@ -9,6 +9,7 @@ use Rattle.buffer_frames.proofs.reading.read_row.Goals as goal
 pub loop-rest-init : goal.loop-rest-init
 loop-rest-init g c = record {
   only = none_read g.D.Disk c.args.disk.now;
+  time = omega arith;
   later = omega arith;
   no_write = refl;
   so_far = λ file pages xid_limit R read. none_so_far g.D.Disk file pages xid_limit _ _ _ R _ read;
@@ -17,6 +18,7 @@ loop-rest-init g c = record {
 pub loop-rest-preserved : goal.loop-rest-preserved
 loop-rest-preserved g c = record {
   only = read_then g.D.Disk _ _ _ c.loop-rest.invariant.only c.read_record.ensures.keeps;
+  time = omega (arith, c.loop-rest.invariant.time, c.read_record.ensures.cause.time);
   later = omega (arith, c.loop-rest.invariant.later, c.read_record.ensures.cause.later);
   no_write = c.read_record.ensures.cause.no_write ∙ c.loop-rest.invariant.no_write;
   so_far = λ file pages xid_limit R read.

@@ -8,6 +8,7 @@ use Rattle.buffer_frames.proofs.reading.read_row.Given as goal
 abbrev pub invariant-loop-rest : goal.invariant-loop-rest
 invariant-loop-rest g l = record {
   only : IsOnlyRead g.D.Disk l.fn.disk l.disk;
+  time : g.D.Disk.clock l.fn.disk ≤ g.D.Disk.clock l.disk;
   later : g.D.Disk.fault_count l.fn.disk ≤ g.D.Disk.fault_count l.disk;
   no_write : g.D.Disk.write_fault_count l.disk ≡ g.D.Disk.write_fault_count l.fn.disk;
   so_far : (file : List ℕ) (pages xid_limit : ℕ) (R : Log) → IsRead g.D.Disk l.fn.disk file pages xid_limit
