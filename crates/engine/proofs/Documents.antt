@@ -3,8 +3,7 @@ use Rattle.std.proofs.Common.{◌≡◌, inl, inr, ℕ, ◌+◌, ◌<◌, List, 
 use Rattle.std.proofs.lemmas.List.{take_more, length-take-le}
 use Rattle.ts_base.specs.Vectors.{Vector}
 use Rattle.engine.specs.Finding.{Document, Name, IsFound}
-use Rattle.engine.specs.Inner.Kept.{document_at, documents_from}
-use Rattle.engine.specs.declared.db.Kept.{Kept}
+use Rattle.engine.specs.Inner.Kept.{Kept, document_at, documents_from}
 
 pub documents_push : (k : ℕ) (ks : List Kept) (x : Kept) → documents_from k (ks ++ x ∷ []) ≡ documents_from k ks ++ document_at (k + length ks) x ∷ []
 documents_push k [] x = ap (λ n. document_at n x ∷ []) (let e : k ≡ k + 0 = omega arith in e)

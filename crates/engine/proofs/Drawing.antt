@@ -7,7 +7,7 @@ use Rattle.page_types.specs.declared.record.Kind.TheVariants as kind
 use Rattle.page_types.specs.declared.record.Record.{Record}
 use Rattle.core_state.specs.Log.{Log, changed, xid_bound}
 use Rattle.core_state.specs.Documents.{Doc, name_of, page_of}
-use Rattle.core_state.specs.States.{StateValue, step_of, stepped, committed, placed_head, ended_all, transaction, uses_after, state_of, aborted, marked_head, with_placed, with_page, with_fate, without, replaced, higher, last_serial}
+use Rattle.core_state.specs.States.{StateValue, step_of, stepped, committed, placed_head, ended_all, transaction, noted, state_of, aborted, marked_head, with_placed, with_page, with_fate, without, replaced, higher, last_serial}
 use Rattle.core_state.specs.Lives.{with_ends}
 use Rattle.core_state.specs.declared.answers.Fate.TheVariants.{Running, Committed}
 use Rattle.core_state.specs.declared.transactions.Transaction.{Transaction}
@@ -20,10 +20,6 @@ use Rattle.engine.specs.Finding.{heap_page}
 use Rattle.engine.specs.Inner.Heaps.{begin_of, place_of, commit_of, records_of}
 use Rattle.engine.specs.declared.records.Insertion.{Insertion}
 use Rattle.page_types.specs.declared.page.Head.{Head}
-
--- a state after the number and the uses of a record
-abbrev noted : Record → StateValue → StateValue
-noted r s = record s { records = r.number; uses = uses_after r.number r.changes s.uses }
 
 -- the transaction that began last is found, or one of its xid before it
 one_of : (b : Bool) (u : Transaction) (o : Option Transaction) → ((w : Transaction) × (o ≡ Some w)) → (w : Transaction) × (cond b (Some u) o ≡ Some w)

@@ -11,11 +11,11 @@ use Rattle.page_types.specs.Views.{slot_at}
 use Rattle.page_types.specs.declared.page.Head.{Head}
 use Rattle.buffer_frames.proofs.OnePageRoom.{slot_size}
 use Rattle.engine.specs.Inner.Documents.{AreDocuments, IsReadAt, HasAdded, AreRead}
-use Rattle.engine.specs.Inner.Kept.{room_of}
+use Rattle.engine.specs.Inner.Kept.{Kept, kept_in, room_of}
 use Rattle.engine.specs.declared.opening.Documents.{Documents}
-use Rattle.engine.specs.declared.db.Kept.{Kept}
 use Rattle.engine.proofs.Held.{rises_push}
 use Rattle.engine.proofs.Pages.{slots_push, bytes_push}
+use Rattle.engine.proofs.Spelled.{kept_more, spelled_push}
 
 -- ── slots ──
 pub head_in : (slots : List (Option Head)) (k : ℕ) (h : Head) → AllByRecursion IsSlot slots
@@ -62,6 +62,7 @@ read_none slots [] next_serial used [] f g u = record {
     fits = sym u;
     heads = refl;
     each = tt;
+    spelled = tt;
     rises = tt;
     below = All-nil (λ (k : Kept). k.serial < next_serial);
   };
@@ -124,6 +125,7 @@ module _ (slots : List (Option Head)) (next_serial : ℕ) (kept : List Kept)
     fits = bytes;
     heads = omega (arith, one_more, length-append heap (Some h ∷ []), before.documents.heads);
     each = slots_push heap (Some h) before.documents.each is_head;
+    spelled = spelled_push heap h x.vector before.documents.spelled read.spells;
     rises =
         rises_push 0 kept x before.documents.rises (omega (arith, read.serial))
         (All-weaker (λ (k : Kept). k.serial ≤ length kept) (λ (k : Kept). k.serial < x.serial)
@@ -157,27 +159,31 @@ module _ (slots : List (Option Head)) (next_serial : ℕ) (kept : List Kept)
 -- one document more
 pub read_next : (slots : List (Option Head)) (next_serial place : ℕ) (old new : Documents)
     → AllByRecursion IsSlot slots → length (flat_map slot_bytes slots) ≤ 8168
-    → AreRead slots next_serial old.kept.items old.heap old.used → place ≡ length old.kept.items
-    → HasAdded old new slots place next_serial
-    → AreRead slots next_serial new.kept.items new.heap new.used
-    × (length new.kept.items ≡ place + 1)
+    → AreRead slots next_serial (kept_in old.heap) old.heap old.used
+    → place ≡ length (kept_in old.heap) → HasAdded old new slots place next_serial
+    → AreRead slots next_serial (kept_in new.heap) new.heap new.used
+    × (length (kept_in new.heap) ≡ place + 1)
 read_next slots next_serial place old new all fits before at more =
-    let read : IsReadAt slots (length old.kept.items) more.document more.head =
-    subst (λ k. IsReadAt slots k more.document more.head) at more.read in
+    let x : Kept = more.document in
+    let read : IsReadAt slots (length (kept_in old.heap)) x more.head =
+    subst (λ k. IsReadAt slots k x more.head) at more.read in
     let longer =
-    read_more slots next_serial old.kept.items old.heap old.used more.document more.head all fits
+    read_more slots next_serial (kept_in old.heap) old.heap old.used x more.head all fits
     before read (omega (arith, at, more.below)) in
-    let kept : List Kept = old.kept.items ++ more.document ∷ [] in (
-      subst (λ ks. AreRead slots next_serial ks new.heap new.used) (sym more.kept)
-          (subst (λ hs. AreRead slots next_serial kept hs new.used) (sym more.heap)
-          (subst (λ n. AreRead slots next_serial kept (old.heap ++ Some more.head ∷ []) n)
-          (sym more.used) longer)),
-      omega (arith, at, ap length more.kept, length-append old.kept.items (more.document ∷ [])),
+    let kept : kept_in new.heap ≡ kept_in old.heap ++ x ∷ [] =
+    ap kept_in more.heap
+    ∙ kept_more old.heap more.head x (read.plain.serial_is ∙ sym read.serial) read.spells in (
+      subst (λ ks. AreRead slots next_serial ks new.heap new.used) (sym kept)
+          (subst (λ hs. AreRead slots next_serial (kept_in old.heap ++ x ∷ []) hs new.used)
+          (sym more.heap)
+          (subst (λ n. AreRead slots next_serial (kept_in old.heap ++ x ∷ [])
+          (old.heap ++ Some more.head ∷ []) n) (sym more.used) longer)),
+      omega (arith, at, ap length kept, length-append (kept_in old.heap) (x ∷ [])),
     )
 
 -- the same documents
 pub same_read : (slots : List (Option Head)) (next_serial : ℕ) (old new : Documents) → new ≡ old
-    → AreRead slots next_serial old.kept.items old.heap old.used
-    → AreRead slots next_serial new.kept.items new.heap new.used
+    → AreRead slots next_serial (kept_in old.heap) old.heap old.used
+    → AreRead slots next_serial (kept_in new.heap) new.heap new.used
 same_read slots next_serial old new same read =
-    subst (λ (d : Documents). AreRead slots next_serial d.kept.items d.heap d.used) (sym same) read
+    subst (λ (d : Documents). AreRead slots next_serial (kept_in d.heap) d.heap d.used) (sym same) read

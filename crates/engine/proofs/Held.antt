@@ -12,7 +12,7 @@ use Rattle.page_types.specs.declared.page.Name.{Name}
 use Rattle.disk_trait.specs.declared.device.Disk.{Ghosts as Disk}
 use Rattle.engine.specs.Finding.{Document, Commit, History, IsLawful, AreApart, inserted_names, docs, insertion, inserts, deletes, with_document, by_serial, stays, ArePlacedFrom, ArePlaced}
 use Rattle.engine.specs.Found.{Found, record_size, IsFull, IsLogFull, AreXidsSpent, room}
-use Rattle.engine.specs.Inner.Kept.{document_at, documents_from, SerialsRise, room_of}
+use Rattle.engine.specs.Inner.Kept.{Kept, document_at, documents_from, SerialsRise, room_of}
 use Rattle.std.specs.Prelude.{Result, Ok, Err}
 use Rattle.engine.specs.Standing.{StandsFor, IsUp, disk_of, fault_of, Rests}
 use Rattle.engine.specs.Answers.{HasInserted}
@@ -20,7 +20,6 @@ use Rattle.engine.specs.Inner.Inside.{documents_of, next_serial_of, end_ahead}
 use Rattle.engine.specs.Inner.Puts.{next_document, IsPut, IsPutInDoubt, HasPut, IsTooLarge, IsSpent}
 use Rattle.engine.specs.declared.error.DbError.{DbError}
 use Rattle.engine.specs.declared.error.DbError.TheVariants.{StoreFull, LogFull, XidsSpent, Down, DiskFault, OutOfMemory}
-use Rattle.engine.specs.declared.db.Kept.{Kept}
 use Rattle.engine.specs.Inner.DbValue.{DbValue}
 use Rattle.engine.proofs.Documents.{documents_push}
 

@@ -12,7 +12,7 @@ use Rattle.buffer_frames.specs.Logging.{IsSameJournal}
 use Rattle.buffer_frames.specs.declared.log_error.LogError.{LogError}
 use Rattle.buffer_frames.specs.declared.log_error.LogError.TheVariants.{DiskFault, LogFull, Down, OutOfMemory}
 use Rattle.engine.specs.Found.{record_size}
-use Rattle.engine.specs.Inner.Kept.{room_of}
+use Rattle.engine.specs.Inner.Kept.{Kept, room_of}
 use Rattle.engine.specs.Inner.Heaps.{IsHeapOf}
 use Rattle.engine.specs.Inner.DbValue.{DbValue, IsDbValue}
 use Rattle.engine.specs.Inner.Refusals.{db_error}
@@ -20,7 +20,6 @@ use Rattle.engine.specs.Standing.{IsUp}
 use Rattle.engine.specs.Inner.Inside.{end_ahead}
 use Rattle.engine.specs.Inner.Puts.{IsSpent, IsTooLarge, HasPut}
 use Rattle.engine.specs.declared.error.DbError.{DbError}
-use Rattle.engine.specs.declared.db.Kept.{Kept}
 use Rattle.engine.proofs.Standing.{same_stands}
 
 pub turned : {D : Type 0} (j k : JournalValue D) → IsSameJournal j k → IsSameJournal k j
@@ -89,6 +88,7 @@ module _ {D : Type 0} (device : Disk D) where
     fits = k.fits;
     heads = k.heads ∙ ap length (sym e);
     each = k.each;
+    spelled = k.spelled;
     idle = λ up. omega (arith, k.idle (sym same.down ∙ up), ap length same.waits);
     limit = same.limit ∙ k.limit;
     made = subst (λ z. 0 < z) (sym (ap (λ z. z.records) same.state)) k.made;

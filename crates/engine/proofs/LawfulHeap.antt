@@ -28,9 +28,8 @@ use Rattle.buffer_frames.proofs.OnePageRoom.{state_is_of}
 use Rattle.buffer_frames.proofs.OnePageShape.{shows_one_page, heap_is_changed, empty_or_some}
 use Rattle.engine.specs.Inner.Documents.{IsReadAt, IsMissing, AreRead, IsReadUpTo}
 use Rattle.engine.specs.Inner.Heaps.{IsHeapOf}
-use Rattle.engine.specs.Inner.Kept.{document_at, documents_from}
+use Rattle.engine.specs.Inner.Kept.{Kept, document_at, documents_from}
 use Rattle.engine.specs.Inner.Plain.{IsPlain}
-use Rattle.engine.specs.declared.db.Kept.{Kept}
 
 -- the bytes of the map give the slots of the heap page
 abbrev pub ReadsPage : PageMap → List (Option Head) → Type 0

@@ -11,6 +11,7 @@ mod Drawing
 mod Knowing
 mod Storing
 mod HeapRead
+mod Spelled
 mod LawfulHeap
 mod Applying
 mod OpenedLog

@@ -26,11 +26,10 @@ use Rattle.buffer_frames.specs.declared.error.OpenFault.TheVariants as opening
 use Rattle.engine.specs.Opening.{HasSamePages}
 use Rattle.engine.specs.Found.{Found, ahead_of}
 use Rattle.engine.specs.Inner.Heaps.{IsHeapOf}
-use Rattle.engine.specs.Inner.Kept.{documents_from}
+use Rattle.engine.specs.Inner.Kept.{Kept, documents_from}
 use Rattle.engine.specs.Opened.{IsLawfulSince, OpenedAt}
 use Rattle.engine.specs.Standing.{StandsFor}
 use Rattle.engine.specs.Inner.DbValue.{DbValue}
-use Rattle.engine.specs.declared.db.Kept.{Kept}
 use Rattle.engine.proofs.Standing.{pages_same}
 use Rattle.engine.proofs.Held.{length_documents}
 use Rattle.engine.proofs.OpenedLog.{xid_next, serial_next}
@@ -154,6 +153,7 @@ module _ {D : Type 0} (device : Disk D) (settings : Settings) (first : D) (c0 : 
   opened_at =
       let o : IsOpenedAt device settings first c0 j map_of = w.opened in
       record {
+        time = o.time;
         no_fall = o.no_fall;
         no_write_failed = o.no_write_failed;
         below_last = o.below_last;

@@ -19,7 +19,7 @@ use Rattle.core_state.specs.Log.{Log, changed, next_xid}
 use Rattle.core_state.specs.Documents.{Doc}
 use Rattle.core_state.specs.Legal.{IsLegal}
 use Rattle.core_state.specs.States.{StateValue, stepped, state_of, committed, aborted, ended_all}
-use Rattle.core_state.specs.States.{placed_head, marked_head, transaction, uses_after, last_serial}
+use Rattle.core_state.specs.States.{placed_head, marked_head, transaction, noted, last_serial}
 use Rattle.core_state.specs.Log.{xid_bound}
 use Rattle.core_state.specs.Stores.{IsRowOf}
 use Rattle.core_state.specs.declared.transactions.Transaction.{Transaction}
@@ -123,9 +123,6 @@ xid_next p x (r ∷ R) s e legal =
     ap (λ (z : StateValue). suc (length z.fates)) e ∙ (state_told p x (r ∷ R) legal).next_xid
 
 -- ── a serial is drawn from 1 on ──
-abbrev noted : Record → StateValue → StateValue
-noted r s = record s { records = r.number; uses = uses_after r.number r.changes s.uses }
-
 some_if : (b : Bool) (x y : StateValue) → 0 < x.next_serial → 0 < y.next_serial
     → 0 < (if b then x else y).next_serial
 some_if true x y h k = h

@@ -22,7 +22,7 @@ use Rattle.engine.specs.Found.{record_size, ahead_of}
 use Rattle.engine.specs.Inner.Documents.{AreDocuments}
 use Rattle.engine.specs.Inner.Heaps.{IsHeapOf, HeapIsKnown}
 use Rattle.engine.specs.Inner.DbValue.{IsDbValue}
-use Rattle.engine.specs.declared.db.Kept.{Kept}
+use Rattle.engine.specs.Inner.Kept.{Kept}
 use Rattle.engine.proofs.Applying.{over_none}
 use Rattle.engine.proofs.Knowing.{stands_one}
 use Rattle.engine.proofs.OpenedLog.{waits_ahead, few_ahead, records_made}
@@ -100,6 +100,7 @@ module _ {D : Type 0} (device : Disk D) (settings : Settings) (first : D) (c0 : 
         fits = w.read.fits;
         heads = w.read.heads;
         each = w.read.each;
+        spelled = w.read.spelled;
         idle = λ up. omega (arith, ahead, few_ahead o.counted);
         limit = o.limit ∙ w.limit;
         made = records_made j.state.pages j.state.xid_limit o.counted j.state o.stands.state o.stands.numbered;

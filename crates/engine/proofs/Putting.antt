@@ -1,5 +1,5 @@
 -- What a crash leaves while an insertion's records are put into the log, and what stands then.
-use Rattle.std.proofs.Common.{◌≡◌, ◌⊎◌, inl, inr, ℕ, List, [], ◌∷◌, ◌++◌, arith, sym, ◌∙◌, ap, subst}
+use Rattle.std.proofs.Common.{◌≡◌, ◌⊎◌, inl, inr, ℕ, List, [], ◌∷◌, ◌++◌, ◌≤◌, arith, sym, ◌∙◌, ap, subst}
 use Rattle.std.specs.Prelude.{None, reverse}
 use Rattle.std.proofs.lemmas.List.{reverse-reverse}
 use Rattle.disk_trait.specs.Runs.{LeavesOnly}
@@ -46,6 +46,7 @@ module _ {D : Type 0} (device : Disk D) where
     pub stands : (R : Log) → Stands device mid R → Stands device new R
     pub moments : device.tells → (R : Log) (s : Stands device mid R) → (new.disk ≡ mid.disk) ⊎ LeavesOnly device mid.disk new.disk (CountsEither device mid.disk s.counted R)
     pub pages : device.tells → KeepsPages device mid.disk new.disk
+    pub time : device.clock mid.disk ≤ device.clock new.disk
     pub state : new.state ≡ mid.state
     pub limit : limit_of new.wal ≡ limit_of old.journal.wal
     pub done : down_of new.wal ≡ None → waiting new.wal ≡ []
@@ -81,6 +82,7 @@ module _ {D : Type 0} (device : Disk D) where
 
     pub puts : PutsCommit device (insertion (next_document old v)) old new
     puts = record {
+      time = subst (λ z. device.clock z ≤ device.clock (disk_of new)) f.has.disk f.time;
       keeps = λ t. subst (λ z. KeepsPages device z (disk_of new)) f.has.disk (f.pages t);
       moments = λ t file commits o. between file commits t o;
       numbered = λ t file commits o. (lawful file commits t o).numbered;

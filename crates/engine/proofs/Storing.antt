@@ -1,5 +1,5 @@
 -- The value of a store behind an insertion.
-use Rattle.std.proofs.Common.{◌≡◌, inl, inr, ℕ, ◌+◌, ◌<◌, ◌≤◌, List, [], ◌∷◌, ◌++◌, length, length-append, map, arith, sym, ◌∙◌, ap, subst}
+use Rattle.std.proofs.Common.{◌≡◌, inl, inr, ℕ, ◌+◌, ◌<◌, ◌≤◌, List, [], ◌∷◌, ◌++◌, length, length-append, map, arith, refl, sym, ◌∙◌, ap, subst}
 use Rattle.std.specs.Prelude.{Some, None, sum_by}
 use Rattle.std.proofs.lemmas.Bool.{cases_lt}
 use Rattle.std.proofs.lemmas.List.Sums.{sum_by_push}
@@ -21,19 +21,31 @@ use Rattle.buffer_frames.specs.Opens.{IsLogOf, insertion}
 use Rattle.buffer_frames.specs.Journals.{JournalValue, Stands, logged}
 use Rattle.buffer_frames.specs.Logging.{steps_of, after_owed}
 use Rattle.engine.specs.Found.{room}
-use Rattle.engine.specs.Inner.Kept.{documents_from, room_of}
+use Rattle.engine.specs.Inner.Kept.{Kept, AreSpelled, kept_in, documents_from, room_of}
 use Rattle.engine.specs.Inner.Heaps.{new_head, heap_with, IsHeapOf}
 use Rattle.engine.specs.Inner.DbValue.{DbValue, IsDbValue}
 use Rattle.engine.specs.Inner.Inside.{next_serial_of, next_xid_of}
 use Rattle.engine.specs.Inner.Puts.{next_document}
+use Rattle.engine.specs.Inner.Drafts.{IsDraftOf}
 use Rattle.engine.specs.declared.db.Draft.{Draft}
-use Rattle.engine.specs.declared.db.Kept.{Kept}
 use Rattle.engine.proofs.Held.{pushed}
 use Rattle.engine.proofs.Pages.{slots_push, bytes_push, new_is_head, head_room}
-use Rattle.engine.proofs.Inserting.{follows}
+use Rattle.engine.proofs.Inserting.{follows, spelled}
+use Rattle.engine.proofs.Spelled.{kept_more, spelled_push}
 use Rattle.engine.proofs.Drawing.{numbers}
 use Rattle.engine.proofs.Knowing.{stands_one, lawful_before, replayed}
 use Rattle.engine.proofs.Putting.{Flushes}
+
+-- the documents of the slots with the new head
+pub draft_kept : {D : Type 0} (s : DbValue D) (v : Vector) (d : Draft) → s.documents ≡ kept_in s.heap
+    → IsDraftOf s v d
+    → kept_in d.heap ≡ s.documents ++ (let k : Kept = record { serial = next_serial_of s; vector = v } in k) ∷ []
+draft_kept s v d same f =
+    let h : Head = new_head (next_serial_of s) (next_xid_of s) (vector_bytes v) in
+    let short : length (vector_bytes v) ≤ 2000 = elim (cases_lt 2000 (length (vector_bytes v))) [ inl lt ↦ absurd (f.fits (inl lt)) | inr le ↦ le ] in
+    let k : Kept = record { serial = next_serial_of s; vector = v } in
+    ap kept_in f.heap ∙ kept_more s.heap h k refl (spelled v f.normal (spelling_has_size v) short)
+    ∙ ap (λ ks. ks ++ k ∷ []) (sym same)
 
 module _ {D : Type 0} (device : Disk D) (old : DbValue D) (mid next : JournalValue D) (v : Vector) (used : ℕ) (d : Draft) (f : Flushes device old mid next v used d) where
   some_made : 0 < next.state.records
@@ -50,6 +62,7 @@ module _ {D : Type 0} (device : Disk D) (old : DbValue D) (mid next : JournalVal
     fits = f.value.fits;
     heads = f.value.heads ∙ ap length (sym e);
     each = f.value.each;
+    spelled = f.value.spelled;
     idle = λ up. absurd (fell up);
     limit = f.limit ∙ f.value.limit;
     made = some_made;
@@ -93,6 +106,8 @@ module _ {D : Type 0} (device : Disk D) (old : DbValue D) (mid next : JournalVal
         heads = omega (arith, ap length f.draft.heap, length-append old.heap (Some h ∷ []), f.value.heads, ap length e, length-append old.documents (k ∷ []));
         each = subst (AllByRecursion IsSlot) (sym f.draft.heap)
             (slots_push old.heap (Some h) f.value.each (new_is_head (next_serial_of old) (next_xid_of old) (vector_bytes v) (omega (arith, f.draft.serial, f.draft.small_serial)) f.draft.some_xid short));
+        spelled = subst AreSpelled (sym f.draft.heap)
+            (spelled_push old.heap h v f.value.spelled (spelled v f.draft.normal (spelling_has_size v) short));
         idle = λ up. omega (arith, ap length none);
         limit = f.limit ∙ f.value.limit;
         made = some_made;

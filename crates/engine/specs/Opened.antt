@@ -38,6 +38,7 @@ module _ {D : Type 0} (device : Disk D) where
   -- how a store stands just after the opening, what was found, and how the device stood on entry
   pub record OpenedAt (found : Found) (history : History) (first : D) (c0 : ℕ)
       (s : DbValue D) : Type 0 where
+    pub time : device.clock first ≤ device.clock (disk_of s)
     pub no_fall : device.fault_count first ≤ device.fault_count (disk_of s)
     pub no_write_failed : device.write_fault_count (disk_of s) ≡ device.write_fault_count first
     pub below_last : (device.fault_count first < last_count)

@@ -4,10 +4,15 @@ use Rattle.disk_trait.specs.Files.{Files}
 use Rattle.disk_trait.specs.declared.device.Disk.{Ghosts as Disk}
 pub use Rattle.wal.specs.Pages.{HasPagesOf, KeepsPages}
 pub use Rattle.wal.specs.Reading.{IsOnlyRead}
+use Rattle.wal.specs.Batches.{IsUnborn}
 pub use Rattle.buffer_frames.specs.Opens.{OpensTo, StartedFrom, OpensAsBefore, OpensToOne}
 pub use Rattle.buffer_frames.specs.NoStore.{IsNoStore, NoStoreIsNone}
 pub use Rattle.buffer_frames.specs.declared.error.OpenFault.{OpenFault}
 pub use Rattle.buffer_frames.specs.declared.error.OpenFault.TheVariants.{NotAStore, DiskFault, OutOfMemory}
+
+-- the files of a store whose making was not begun, or was cut short
+abbrev pub IsUnmade : Files → Type 0
+IsUnmade files = IsUnborn files.log
 
 -- Until pages are written to the page file: what a read gives of it stays the same, and a crash
 -- leaves in it what it could leave before.

@@ -15,10 +15,9 @@ use Rattle.buffer_frames.specs.Logging.{IsSameJournal}
 use Rattle.engine.specs.Finding.{insertion, Commit, History, IsNumbered}
 use Rattle.engine.specs.Found.{Found, insertion_size}
 use Rattle.engine.specs.Opening.{OpensTo, KeepsPages}
-use Rattle.engine.specs.Inner.Kept.{documents_from, SerialsRise}
+use Rattle.engine.specs.Inner.Kept.{Kept, documents_from, SerialsRise}
 use Rattle.engine.specs.Inner.Inside.{next_serial_of, next_xid_of, end_ahead}
 use Rattle.engine.specs.Inner.DbValue.{DbValue}
-use Rattle.engine.specs.declared.db.Kept.{Kept}
 
 abbrev pub disk_of : {D : Type 0} → DbValue D → D
 disk_of s = s.journal.disk
@@ -64,6 +63,7 @@ module _ {D : Type 0} (device : Disk D) where
 
   -- A commit was put into the log, or was begun, or the device was not called.
   pub record PutsCommit (more : Commit) (old new : DbValue D) : Type 0 where
+    pub time : device.clock (disk_of old) ≤ device.clock (disk_of new)
     pub keeps : device.tells → KeepsPages device (disk_of old) (disk_of new)
     pub moments : device.tells → (file : List ℕ) (commits : History) → IsOpenedTo file old commits
         → LeavesOnly device (disk_of old) (disk_of new) (OpensToEither file commits more)

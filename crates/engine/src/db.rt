@@ -1,20 +1,21 @@
 // An open store.
-ghost use Rattle.std.specs.Prelude.{◌≡◌, ℕ, ◌+◌, ◌*◌, ◌<◌, ◌≤◌, ◌^◌, List, [], ◌∷◌, ◌++◌, length, IfOk, IfErr, OnOk, take, vec_len, vec_capacity};
+ghost use Rattle.std.specs.Prelude.{◌≡◌, ℕ, ◌+◌, ◌*◌, ◌<◌, ◌≤◌, ◌^◌, List, [], ◌∷◌, ◌++◌, length, IfOk, IfErr, OnOk, IfSome, IfNone, take, vec_len, vec_capacity};
 ghost use Rattle.engine.specs.Finding.{heap_page};
 
 use crate::error::DbError;
 use crate::records::{Insertion, with_head};
 use buffer_frames::{Journal, counted_are_one};
+use core_state::XID_BOUND;
 use disk_trait::Disk;
-use page_types::{MOST_BODY_BYTES, Name, Record, Slots};
+use page_types::{MOST_BODY_BYTES, MOST_SHORT_BYTES, Name, Record, Slots};
 use std::alloc::{AllocError, Global};
 use std::marker::Model;
-use ts_match::{MatchWork, matches};
+use ts_match::{MatchWork, matches_in};
 use ts_query::TsQuery;
-use ts_vector::TsVector;
+use ts_vector::{TsVector, VectorBytes};
 
 /// The most bytes of one vector, until documents may be longer than a page.
-pub const LONGEST: u64 = 2000;
+pub const LONGEST: u64 = MOST_SHORT_BYTES as u64;
 
 /// The bytes of a page that its documents share.
 const PAGE_ROOM: u64 = MOST_BODY_BYTES as u64;
@@ -22,27 +23,14 @@ const PAGE_ROOM: u64 = MOST_BODY_BYTES as u64;
 /// What a document takes beside the bytes of its vector.
 pub const HEAD: u64 = 29;
 
-/// Xids are below this.
-pub const XID_LIMIT: u32 = 16_777_216;
-
 /// The page on which documents lie.
 pub const HEAP_PAGE: u32 = 2;
 
-/// A document in memory.
-#[derive(Drop)]
-pub struct Kept {
-    /// Its serial number.
-    pub serial: u64,
-    /// Its vector.
-    pub vector: TsVector,
-}
-
-/// An open store: its documents, their heap page, and the journal.
+/// An open store: its heap page, and the journal.
 #[derive(Drop)]
 pub struct Db<D: Disk> {
     pub(crate) alloc: Global,
-    pub(crate) documents: Vec<Kept>,
-    // the heads of the documents, in their order
+    // the heads of the documents, in their order, with the bytes of their vectors
     pub(crate) heap: Slots,
     // the bytes of the page that they take
     pub(crate) used: u64,
@@ -73,17 +61,18 @@ fn name_of(place: usize, serial: u64) -> Name
 
 impl<D: Disk> Model for Db<D> {
     ghost use Rattle.engine.specs.Inner.DbValue.{DbValue, IsDbValue};
+    ghost use Rattle.engine.specs.Inner.Kept.{kept_in};
 
     ghost Value = { DbValue D };
 
     ghost view = { λ s. record {
-      documents = s.documents.items;
+      documents = kept_in s.heap;
       heap = s.heap;
       journal = s.journal;
     } };
 
     ghost invariant = { λ s. IsDbValue D.Disk (record {
-      documents = s.documents.items;
+      documents = kept_in s.heap;
       heap = s.heap;
       journal = s.journal;
     }) s.used };
@@ -94,6 +83,7 @@ impl<D: Disk> Db<D> {
     ghost use Rattle.engine.specs.Answers.{HasInserted, HasFound};
     ghost use Rattle.engine.specs.Found.{Found};
     ghost use Rattle.engine.specs.Inner.Inside.{documents_of};
+    ghost use Rattle.engine.specs.Inner.Kept.{IsAt};
     ghost use Rattle.engine.specs.Inner.Puts.{HasPut};
     ghost use Rattle.engine.specs.Inner.Drafts.{IsDraftOf, CannotDraft};
     ghost use Rattle.engine.specs.Finding.{History, IsFound};
@@ -106,7 +96,7 @@ impl<D: Disk> Db<D> {
     {
         let state = self.journal.state();
         let (xid, serial, commits) = (state.next_xid(), state.next_serial(), state.commits());
-        if xid >= XID_LIMIT {
+        if xid >= XID_BOUND {
             return Err(DbError::XidsSpent);
         }
         let mut bytes = Vec::new(self.alloc);
@@ -133,38 +123,50 @@ impl<D: Disk> Db<D> {
     }
 
     /// The records of a document of this vector go into the log, and the document to the others.
-    fn put(&mut self, vector: TsVector) -> Result<Name, DbError>
-        ensures { HasPut D.Disk self.old self.new vector result }
+    fn put(&mut self, vector: &TsVector) -> Result<Name, DbError>
+        ensures { HasPut D.Disk self.old self.new vector.now result }
     {
         if let Some(fault) = self.journal.fault() {
             return Err(DbError::Down { fault });
         }
         counted_are_one();
-        let draft = self.draft(&vector)?;
-        self.documents.reserve(1)?;
+        let draft = self.draft(vector)?;
         if let Err(error) = self.journal.log(&draft.records) {
             return Err(DbError::from(error));
         }
         if let Err(error) = self.journal.flush() {
             return Err(DbError::from(error));
         }
-        let serial = draft.insertion.serial;
-        let name = name_of(self.documents.len(), serial);
+        let name = name_of(self.heap.len(), draft.insertion.serial);
         self.heap = draft.heap;
         self.used += HEAD + draft.size;
-        self.documents.push_reserved(Kept { serial, vector });
         Ok(name)
     }
 
     /// A document of this vector, committed and flushed: its name. A store that is down, that has no
     /// room for it, or that wants memory stays as it was. Where the device fails the commit may count
     /// or not.
-    pub fn insert(&mut self, vector: TsVector) -> Result<Name, DbError>
+    pub fn insert(&mut self, vector: &TsVector) -> Result<Name, DbError>
         ensures answered { (found : Found) (H : History) → StandsFor found self.old H
-            → HasInserted D.Disk found H self.old self.new vector result }
+            → HasInserted D.Disk found H self.old self.new vector.now result }
         ensures later { D.fault_count (disk_of self.old) ≤ D.fault_count (disk_of self.new) }
     {
         self.put(vector)
+    }
+
+    /// The document at this place: its serial, and its vector as it lies on the page.
+    fn document(&self, place: usize) -> Option<(u64, VectorBytes<'_>)>
+        requires { place < length self.now.documents }
+        ensures some { IfSome result (λ d. IsAt self.now.documents place d.0 d.1) }
+        ensures there { IfNone result ⊥ }
+    {
+        let Some(head) = self.heap.get(place) else {
+            return None;
+        };
+        match VectorBytes::new(head.vector) {
+            Ok(vector) => Some((head.fields.serial, vector)),
+            Err(_) => None,
+        }
     }
 
     /// The names of the documents that satisfy the query, in their order.
@@ -173,9 +175,11 @@ impl<D: Disk> Db<D> {
     {
         let mut work = MatchWork::new(self.alloc, query)?;
         let mut names = Vec::new(self.alloc);
-        for (i, kept) in self.documents.iter().enumerate() {
-            if matches(query, &mut work, &kept.vector) {
-                names.push(name_of(i, kept.serial))?;
+        for place in 0..self.heap.len() {
+            if let Some((serial, vector)) = self.document(place) {
+                if matches_in(query, &mut work, &vector) {
+                    names.push(name_of(place, serial))?;
+                }
             }
         }
         Ok(names)

@@ -1,4 +1,4 @@
-//! The store: documents in memory, the log that keeps them, and what files open to.
+//! The store: the heap page of its documents, the log that keeps them, and what files open to.
 #![tactic(auto)]
 
 mod db;

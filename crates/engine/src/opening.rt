@@ -20,8 +20,9 @@ ghost use Rattle.buffer_frames.specs.Opening.{opened_log};
 ghost use Rattle.buffer_frames.specs.Opens.{name_of, IsLogOf};
 ghost use Rattle.engine.specs.Inner.Documents.{AreDocuments};
 ghost use Rattle.engine.specs.Inner.Heaps.{IsHeapOf};
+ghost use Rattle.engine.specs.Inner.Kept.{kept_in};
 ghost use Rattle.engine.specs.Inner.Plain.{IsPlain};
-ghost use Rattle.engine.specs.Opening.{StartedFrom, OpensAsBefore, HasSamePages, IsNoStore, IsOnlyRead};
+ghost use Rattle.engine.specs.Opening.{StartedFrom, OpensAsBefore, HasSamePages, IsNoStore, IsOnlyRead, IsUnmade};
 ghost use Rattle.engine.specs.Found.{Found};
 ghost use Rattle.engine.specs.Finding.{History};
 ghost use Rattle.engine.specs.Opened.{OpenedAt};
@@ -30,16 +31,16 @@ ghost use Rattle.engine.specs.Opened.{IsWidest};
 ghost use Rattle.engine.specs.declared.db.TheConstants.{PAGE_ROOM};
 ghost use Rattle.buffer_frames.specs.declared.error.OpenFault.TheVariants.{NotAStore, DiskFault, OutOfMemory};
 
-use crate::db::{Db, HEAD, HEAP_PAGE, Kept, LONGEST, XID_LIMIT};
+use crate::db::{Db, HEAD, HEAP_PAGE, LONGEST};
 use crate::error::Unopened;
 use crate::records::slots_in;
 use buffer_frames::{OpenFault, PageMap, counted_are_one, open};
-use core_state::{Settings, State};
+use core_state::{Settings, State, XID_BOUND};
 use disk_trait::Disk;
 use page_code::{PageError, decode_page};
 use page_types::{HeadRef, Name, Slots};
 use std::alloc::{AllocError, Global};
-use ts_vector::{TsVector, VectorError};
+use ts_vector::VectorBytes;
 use wal::LOG_LIMIT;
 
 /// The widest bounds of a log and of the xids.
@@ -48,15 +49,13 @@ pub const WIDEST: Settings = Settings {
     frames: 1024,
     pending: 512,
     log_limit: LOG_LIMIT,
-    xid_limit: XID_LIMIT,
+    xid_limit: XID_BOUND,
 };
 
-/// The documents that were read, with their heads.
+/// The documents that were read.
 #[derive(Drop)]
 struct Documents {
-    /// Their serials and vectors.
-    kept: Vec<Kept>,
-    /// Their heads, in the same order.
+    /// Their heads, in their order, with the bytes of their vectors.
     heap: Slots,
     /// The bytes of the page that they take.
     used: u64,
@@ -121,18 +120,14 @@ fn head_of<'a>(slots: &'a Slots, name: Name) -> Option<HeadRef<'a>>
     Some(head)
 }
 
-/// The vector of a head; none where its bytes are no vector.
-fn vector_of(alloc: Global, head: HeadRef<'_>) -> Result<Option<TsVector>, AllocError>
-    ensures some { IfOk result (λ o. IfSome o (λ v. IsSpelling head.entry.vector.now v)) }
-    ensures none { IfOk result (λ o. IfNone o
-        ((v : Vector) → IsSpelling head.entry.vector.now v → ⊥)) }
+/// Whether the bytes of a head spell a vector.
+fn spells(head: HeadRef<'_>) -> bool
+    ensures yes { result ≡ true → (v : Vector) × IsSpelling head.entry.vector.now v }
+    ensures no { result ≡ false → (v : Vector) → IsSpelling head.entry.vector.now v → ⊥ }
 {
-    match TsVector::decode(alloc, head.vector) {
-        Ok(vector) => Ok(Some(vector)),
-        Err(error) => match error {
-            VectorError::OutOfMemory => Err(AllocError),
-            _ => Ok(None),
-        },
+    match VectorBytes::new(head.vector) {
+        Ok(_) => true,
+        Err(_) => false,
     }
 }
 
@@ -140,13 +135,7 @@ impl Documents {
     ghost use Rattle.engine.specs.Inner.Documents.{HasAdded, IsMissing, AreRead, IsReadUpTo};
 
     /// One document more, that of a commit, if it stands at the next place.
-    fn add(
-        &mut self,
-        alloc: Global,
-        state: &State,
-        slots: &Slots,
-        commit: u32,
-    ) -> Result<bool, AllocError>
+    fn add(&mut self, state: &State, slots: &Slots, commit: u32) -> Result<bool, AllocError>
         requires first { 1 ≤ commit }
         requires last { commit ≤ length state.now.value.deleted }
         requires room { self.old.used ≤ 2 ^ 48 }
@@ -161,15 +150,10 @@ impl Documents {
         let Some(head) = head_of(slots, name) else {
             return Ok(false);
         };
-        let Some(vector) = vector_of(alloc, head)? else {
+        if !spells(head) {
             return Ok(false);
-        };
-        self.kept.reserve(1)?;
+        }
         self.heap.push(Some(head))?;
-        self.kept.push_reserved(Kept {
-            serial: name.serial,
-            vector,
-        });
         self.used += HEAD + u64::from(head.fields.bytes);
         Ok(true)
     }
@@ -179,17 +163,16 @@ impl Documents {
         requires each { AllByRecursion IsSlot slots.now }
         requires fits { length (flat_map slot_bytes slots.now) ≤ PAGE_ROOM }
         ensures read { IfOk result (λ d.
-            AreRead slots.now state.now.value.next_serial d.kept.items d.heap d.used) }
+            AreRead slots.now state.now.value.next_serial (kept_in d.heap) d.heap d.used) }
         ensures all { IfOk result (λ d.
-            IsReadUpTo state.now.value slots.now (length d.kept.items)) }
+            IsReadUpTo state.now.value slots.now (length (kept_in d.heap))) }
     {
         let mut documents = Documents {
-            kept: Vec::new(alloc),
             heap: Slots::new(alloc),
             used: 0,
         };
         for place in 0..state.commits() {
-            if !documents.add(alloc, state, slots, place + 1)? {
+            if !documents.add(state, slots, place + 1)? {
                 break;
             }
         }
@@ -200,19 +183,19 @@ impl Documents {
 /// The documents of a store's commits, with their heads on the heap page.
 fn read_documents(alloc: Global, state: &State, pages: &PageMap) -> Result<Documents, AllocError>
     ensures read { IfOk result
-        (λ d. AreDocuments d.kept.items d.heap d.used state.now.value.next_serial) }
+        (λ d. AreDocuments (kept_in d.heap) d.heap d.used state.now.value.next_serial) }
     ensures known { IfOk result (λ d. (file : List ℕ) (R : Log) (H : History)
         → state.now.value ≡ state_of state.now.value.pages state.now.value.xid_limit (opened_log R)
         → HasApplied file R pages.now → PagesStand R file → IsLogOf R H
-        → IsHeapOf (opened_log R) H d.kept.items d.heap) }
+        → IsHeapOf (opened_log R) H (kept_in d.heap) d.heap) }
 {
     let slots = heap_slots(alloc, pages)?;
     Documents::read(alloc, state, &slots)
 }
 
 impl<D: Disk> Db<D> {
-    /// The store of a device, created if it is none yet. A refusal gives the device back, and files
-    /// that are no store are only read.
+    /// The store of a device, created if it is none yet. A refusal gives the device back; a store
+    /// that is made, and files that are no store, were only read then.
     pub fn open(alloc: Global, store: D, settings: Settings) -> Result<Db<D>, Unopened<D>>
         requires widest { IsWidest settings }
         ensures opened { IfOk result
@@ -227,6 +210,8 @@ impl<D: Disk> Db<D> {
             → IfErr result (λ e. OpensAsBefore D.Disk store e.store) }
         ensures pages { D.tells → IfErr result (λ e. HasSamePages D.Disk store e.store) }
         ensures keeps { IfErr result (λ e. e.why ≡ NotAStore → IsOnlyRead D.Disk store e.store) }
+        ensures made_kept { D.tells → (IsUnmade (D.seen store) → ⊥)
+            → IfErr result (λ e. IsOnlyRead D.Disk store e.store) }
         ensures no_store_kept { D.tells → IsNoStore (D.seen store)
             → IfErr result (λ e. IsOnlyRead D.Disk store e.store) }
         ensures fault { IfErr result (λ e. e.why ≡ DiskFault
@@ -234,6 +219,7 @@ impl<D: Disk> Db<D> {
         ensures memory { IfErr result (λ e. e.why ≡ OutOfMemory
             → D.write_fault_count e.store ≡ D.write_fault_count store) }
         ensures later { IfErr result (λ e. D.fault_count store ≤ D.fault_count e.store) }
+        ensures time { IfErr result (λ e. D.Disk.clock store ≤ D.Disk.clock e.store) }
     {
         counted_are_one();
         let (journal, pages) = match open(alloc, store, &settings) {
@@ -243,7 +229,6 @@ impl<D: Disk> Db<D> {
         match read_documents(alloc, journal.state(), &pages) {
             Ok(documents) => Ok(Db {
                 alloc,
-                documents: documents.kept,
                 heap: documents.heap,
                 used: documents.used,
                 journal,

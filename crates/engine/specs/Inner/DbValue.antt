@@ -8,9 +8,8 @@ use Rattle.page_types.specs.Spelling.{slot_bytes}
 use Rattle.page_types.specs.declared.page.Head.{Head}
 use Rattle.core_state.specs.Log.{Log}
 use Rattle.buffer_frames.specs.Journals.{JournalValue, Stands}
-use Rattle.engine.specs.Inner.Kept.{room_of}
+use Rattle.engine.specs.Inner.Kept.{Kept, AreSpelled, room_of}
 use Rattle.engine.specs.Inner.Heaps.{HeapIsKnown}
-use Rattle.engine.specs.declared.db.Kept.{Kept}
 use Rattle.engine.specs.declared.db.TheConstants.{HEAD, PAGE_ROOM}
 use Rattle.wal.specs.declared.sizes.TheConstants.{LOG_LIMIT}
 
@@ -20,7 +19,7 @@ pub record DbValue (D : Type 0) : Type 0 where
   pub heap : List (Option Head)
   pub journal : JournalValue D
 
--- What is true of each store: the slots are as many as the documents, and take the bytes of the page
+-- What is true of each store: its documents are those of the slots, which take the bytes of the page
 -- that these take; the journal stands for a log, little waits in it, and its log has the heap page.
 pub record IsDbValue {D : Type 0} (device : Disk D) (s : DbValue D) (used : ℕ) : Type 0 where
   pub small : used ≤ PAGE_ROOM
@@ -29,6 +28,7 @@ pub record IsDbValue {D : Type 0} (device : Disk D) (s : DbValue D) (used : ℕ)
   pub fits : length (flat_map slot_bytes s.heap) ≡ used
   pub heads : length s.heap ≡ length s.documents
   pub each : AllByRecursion IsSlot s.heap
+  pub spelled : AreSpelled s.heap
   pub idle : down_of s.journal.wal ≡ None → length (waiting s.journal.wal) ≤ 20000
   pub limit : limit_of s.journal.wal ≡ LOG_LIMIT
   pub made : 0 < s.journal.state.records

@@ -10,10 +10,9 @@ use Rattle.page_types.specs.Views.{slot_at}
 use Rattle.page_types.specs.declared.page.Head.{Head}
 use Rattle.core_state.specs.States.{StateValue}
 use Rattle.buffer_frames.specs.Opens.{name_of}
-use Rattle.engine.specs.Inner.Kept.{SerialsRise, room_of}
+use Rattle.engine.specs.Inner.Kept.{Kept, AreSpelled, SerialsRise, room_of}
 use Rattle.engine.specs.Inner.Plain.{IsPlain}
 use Rattle.engine.specs.declared.opening.Documents.{Documents}
-use Rattle.engine.specs.declared.db.Kept.{Kept}
 use Rattle.engine.specs.declared.db.TheConstants.{HEAD, PAGE_ROOM}
 
 -- documents whose serials rise below the next one, their heads, and the bytes that they take
@@ -25,6 +24,7 @@ pub record AreDocuments (kept : List Kept) (heap : List (Option Head))
   pub fits : length (flat_map slot_bytes heap) ≡ used
   pub heads : length heap ≡ length kept
   pub each : AllByRecursion IsSlot heap
+  pub spelled : AreSpelled heap
   pub rises : SerialsRise 0 kept
   pub below : All (λ (k : Kept). k.serial < next_serial) kept
 
@@ -43,7 +43,6 @@ pub record HasAdded (old new : Documents) (slots : List (Option Head))
   pub head : Head
   pub read : IsReadAt slots place document head
   pub below : place + 1 < next_serial
-  pub kept : new.kept.items ≡ old.kept.items ++ document ∷ []
   pub heap : new.heap ≡ old.heap ++ Some head ∷ []
   pub used : new.used ≡ old.used + HEAD + head.bytes
 

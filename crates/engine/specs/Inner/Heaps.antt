@@ -14,8 +14,7 @@ use Rattle.buffer_frames.specs.First.{imaged}
 use Rattle.buffer_frames.specs.Opens.{IsLogOf}
 use Rattle.buffer_frames.specs.Journals.{JournalValue, Stands}
 use Rattle.engine.specs.Finding.{heap_page, insertion, History}
-use Rattle.engine.specs.Inner.Kept.{documents_from}
-use Rattle.engine.specs.declared.db.Kept.{Kept}
+use Rattle.engine.specs.Inner.Kept.{Kept, documents_from}
 use Rattle.engine.specs.declared.records.Insertion.{Insertion}
 
 -- the head of a document that a transaction inserts, with the bytes of its vector

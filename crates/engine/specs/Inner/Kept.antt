@@ -1,8 +1,35 @@
--- What the documents in memory are.
-use Rattle.std.specs.Prelude.{ℕ, ◌+◌, ◌<◌, List, [], ◌∷◌, ⊤}
+-- What the documents in memory are: heads of the heap page, with the bytes of their vectors.
+use Rattle.std.specs.Prelude.{◌≡◌, ℕ, ◌+◌, ◌<◌, List, [], ◌∷◌, map, drop, get_or, Option, Some, None, ⊤}
+use Rattle.ts_base.specs.Endian.{little_number}
+use Rattle.ts_base.specs.Vectors.{Vector}
+use Rattle.ts_base.specs.Spelling.{IsSpelling}
+use Rattle.ts_vector.specs.Inner.Told.{entries_told}
+use Rattle.page_types.specs.declared.page.Head.{Head}
 use Rattle.engine.specs.Finding.{heap_page, Document}
 use Rattle.engine.specs.Found.{room}
-use Rattle.engine.specs.declared.db.Kept.{Kept}
+
+-- a document: its serial and its vector
+pub record Kept : Type 0 where
+  pub serial : ℕ
+  pub vector : Vector
+
+-- the vector that the bytes spell; of bytes that spell none it means nothing
+abbrev pub vector_told : List ℕ → Vector
+vector_told bytes = entries_told (little_number 4 bytes) (drop 4 bytes)
+
+-- the document of a head, and those of slots
+abbrev pub kept_of : Option Head → Kept
+kept_of None = record { serial = 0; vector = [] }
+kept_of (Some h) = record { serial = h.serial; vector = vector_told h.vector }
+
+abbrev pub kept_in : List (Option Head) → List Kept
+kept_in slots = map kept_of slots
+
+-- each slot has a head, whose bytes spell a vector
+abbrev pub AreSpelled : List (Option Head) → Type 0
+AreSpelled [] = ⊤
+AreSpelled (None ∷ slots) = ⊥
+AreSpelled (Some h ∷ slots) = ((v : Vector) × IsSpelling h.vector v) × AreSpelled slots
 
 -- the document that stands at a place
 abbrev pub document_at : ℕ → Kept → Document
@@ -21,3 +48,8 @@ SerialsRise low (k ∷ ks) = (low < k.serial) × SerialsRise k.serial ks
 
 abbrev pub room_of : Kept → ℕ
 room_of k = room k.vector
+
+-- the document of this serial and this vector stands at a place
+abbrev pub IsAt : List Kept → ℕ → ℕ → Vector → Type 0
+IsAt kept place serial vector =
+    (x : Kept) → get_or kept place x ≡ record { serial = serial; vector = vector }

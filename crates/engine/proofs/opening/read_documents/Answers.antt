@@ -12,6 +12,7 @@ use Rattle.buffer_frames.specs.Opens.{IsLogOf}
 use Rattle.buffer_frames.specs.declared.page_map.PageMap.{PageMap}
 use Rattle.engine.specs.Inner.Documents.{AreRead, IsReadUpTo}
 use Rattle.engine.specs.Inner.Heaps.{IsHeapOf}
+use Rattle.engine.specs.Inner.Kept.{kept_in}
 use Rattle.engine.specs.declared.opening.Documents.{Documents}
 use Rattle.engine.proofs.LawfulHeap.{ReadsPage, lawful_read}
 use Rattle.engine.proofs.opening.read_documents.Goals as goal
@@ -19,15 +20,15 @@ use Rattle.engine.proofs.opening.read_documents.Goals as goal
 -- what was read of a lawful store
 known : (s : StateValue) (m : PageMap) (slots : List (Option Head))
     (r : Result Documents AllocError) → ReadsPage m slots
-    → IfOk r (λ d. AreRead slots s.next_serial d.kept.items d.heap d.used)
-    → IfOk r (λ d. IsReadUpTo s slots (length d.kept.items))
+    → IfOk r (λ d. AreRead slots s.next_serial (kept_in d.heap) d.heap d.used)
+    → IfOk r (λ d. IsReadUpTo s slots (length (kept_in d.heap)))
     → IfOk r (λ d. (file : List ℕ) (R : Log) (H : History)
     → s ≡ state_of s.pages s.xid_limit (opened_log R)
     → HasApplied file R m → PagesStand R file → IsLogOf R H
-    → IsHeapOf (opened_log R) H d.kept.items d.heap)
+    → IsHeapOf (opened_log R) H (kept_in d.heap) d.heap)
 known s m slots (Ok d) reads read all =
     λ file R H state applied stand l. lawful_read R H file m slots s state applied stand l reads
-    d.kept.items d.heap d.used read all
+    (kept_in d.heap) d.heap d.used read all
 known s m slots (Err e) reads read all = tt
 
 pub returns-clause-known : goal.returns-clause-known

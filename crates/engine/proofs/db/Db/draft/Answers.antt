@@ -16,7 +16,7 @@ records-requires-clause-page g c =
     let bytes = c.deref.result.now in
     let size : c.len-size.result ≡ length bytes = omega (arith, c.len-size.ensures, c.deref.ensures.len) in
     subst (λ z. IsPage (heap_with (c.next_number.result + 1) z)) (sym c.in_ok-slots.ensures)
-    (page_fits c.next_number.result c.next_serial-serial.result c.next_xid-xid.result c.self.inside.used c.len-size.result c.self.inside.heap bytes c.next_number.ensures.bound (omega (arith, c.next_serial-serial.auto)) (omega (arith, c.if-xid-ge-XID_LIMIT.false)) size
+    (page_fits c.next_number.result c.next_serial-serial.result c.next_xid-xid.result c.self.inside.used c.len-size.result c.self.inside.heap bytes c.next_number.ensures.bound (omega (arith, c.next_serial-serial.auto)) (omega (arith, c.if-xid-ge-XID_BOUND.false)) size
     (omega (arith, c.if-size-gt-LONGEST.false)) (omega (arith, c.if-self-size-gt-PAGE_ROOM.false)) c.self.invariant.each (omega (arith, c.self.invariant.heads, c.self.invariant.few)) c.self.invariant.fits)
 
 pub returns-clause-drafted : goal.returns-clause-drafted
@@ -32,7 +32,7 @@ returns-clause-drafted g c =
       number = c.next_number.ensures.next;
       bound = c.next_number.ensures.bound;
       xid = xid;
-      some_xid = omega (arith, xid, c.if-xid-ge-XID_LIMIT.false);
+      some_xid = omega (arith, xid, c.if-xid-ge-XID_BOUND.false);
       slot = c.len.ensures;
       serial = serial;
       small_serial = omega (arith, c.next_serial-serial.auto);
@@ -45,7 +45,7 @@ returns-clause-drafted g c =
       ];
       heap = c.in_ok-records.ensures.slots ∙ c.in_ok-slots.ensures ∙ ap (λ z. c.self.inside.heap ++ Some z ∷ []) (ap (λ n. new_head n c.next_xid-xid.result bytes) serial ∙ ap (λ n. new_head c.self.inside.journal.state.next_serial n bytes) xid ∙ ap (λ b. new_head c.self.inside.journal.state.next_serial (suc (length c.self.inside.journal.state.fates)) b) encoded);
       page = subst (λ z. IsPage (heap_with (c.next_number.result + 1) z)) (sym (c.in_ok-records.ensures.slots ∙ c.in_ok-slots.ensures))
-          (page_fits c.next_number.result c.next_serial-serial.result c.next_xid-xid.result c.self.inside.used c.len-size.result c.self.inside.heap bytes c.next_number.ensures.bound (omega (arith, c.next_serial-serial.auto)) (omega (arith, c.if-xid-ge-XID_LIMIT.false)) size
+          (page_fits c.next_number.result c.next_serial-serial.result c.next_xid-xid.result c.self.inside.used c.len-size.result c.self.inside.heap bytes c.next_number.ensures.bound (omega (arith, c.next_serial-serial.auto)) (omega (arith, c.if-xid-ge-XID_BOUND.false)) size
           (omega (arith, c.if-size-gt-LONGEST.false)) (omega (arith, c.if-self-size-gt-PAGE_ROOM.false)) c.self.invariant.each (omega (arith, c.self.invariant.heads, c.self.invariant.few)) c.self.invariant.fits);
       records = c.in_ok-records.ensures.records ∙ ap (records_of i) (sym c.in_ok-records.ensures.slots);
     })

@@ -3,9 +3,10 @@ use Rattle.wal.specs.Waiting.{end_of}
 use Rattle.buffer_frames.specs.Causes.{NotAStoreWhere}
 use Rattle.buffer_frames.specs.NoStore.{IsNoStore}
 use Rattle.buffer_frames.specs.Opening.{without_disk}
-use Rattle.engine.specs.Opening.{OpensAsBefore}
+use Rattle.engine.specs.Opening.{OpensAsBefore, HasSamePages}
+use Rattle.engine.specs.Inner.Kept.{kept_in}
 use Rattle.engine.proofs.OpenedStore.{read_by, value}
-use Rattle.engine.proofs.OpenedDevice.{no_store_at, given_back, found_of, history_of}
+use Rattle.engine.proofs.OpenedDevice.{no_store_at, given_back, same_back, found_of, history_of}
 use Rattle.engine.proofs.OpenedDevice.{opened_at, stands_for}
 use Rattle.engine.proofs.db.Db.open.Goals as goal
 
@@ -25,7 +26,7 @@ invariant_of-result g c =
 pub returns-in-Ok-read_documents-clause-opened : goal.returns-in-Ok-read_documents-clause-opened
 returns-in-Ok-read_documents-clause-opened g c =
     let o = c.in-Ok.ensures.opened in
-    let kept = c.in-Ok-read_documents.documents.kept.items in
+    let kept = kept_in c.in-Ok-read_documents.documents.heap in
     let documents = c.in-Ok-read_documents.ensures in
     let one = c.counted_are_one.ensures in
     let w = read_by one o.1 c.requires.widest.0 c.state.ensures documents.read documents.known in (
@@ -50,3 +51,11 @@ returns-clause-refused g c = λ t s.
 
 pub returns-clause-no_store_kept : goal.returns-clause-no_store_kept
 returns-clause-no_store_kept g c = λ t none. absurd (c.in-Ok.ensures.no_store t none)
+
+pub returns-clause-pages : goal.returns-clause-pages
+returns-clause-pages g c = λ t.
+    let o = c.in-Ok.ensures.opened in
+    let j = c.in-Ok.opened.0 in
+    let same = same_back g.D.Disk (λ d. g.met.D.Disk.seen_is_image d t) c.args.store o.0 j.disk
+    (end_of j.wal) o.1.counted (o.1.told t) (c.in-Ok.ensures.keeps_pages t) in
+    subst (HasSamePages g.D.Disk c.args.store) (sym c.close.ensures) same

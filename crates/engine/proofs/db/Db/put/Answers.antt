@@ -13,7 +13,9 @@ use Rattle.engine.specs.Inner.Puts.{HasPut, IsPut, IsPutInDoubt}
 use Rattle.engine.specs.Inner.Refusals.{db_error}
 use Rattle.engine.specs.Inner.Heaps.{records_of}
 use Rattle.engine.specs.declared.error.DbError.TheVariants as errors
-use Rattle.engine.specs.declared.db.Kept.{Kept}
+use Rattle.engine.specs.Inner.Kept.{kept_in}
+use Rattle.engine.proofs.Spelled.{length_kept}
+use Rattle.engine.proofs.Storing.{draft_kept}
 use Rattle.engine.specs.Finding.{Name}
 use Rattle.disk_trait.specs.Device.{Rose}
 use Rattle.buffer_frames.specs.Logging.{HasLogged, steps_of, after_owed}
@@ -27,43 +29,43 @@ use Rattle.engine.proofs.db.Db.put.Goals as goal
 
 pub log-requires-clause-next : goal.log-requires-clause-next
 log-requires-clause-next g c =
-    let s : DbValue g.row.D.Denot = record { documents = c.self.inside.documents.items; heap = c.self.inside.heap; journal = c.self.inside.journal } in
+    let s : DbValue g.row.D.Denot = record { documents = kept_in c.self.inside.heap; heap = c.self.inside.heap; journal = c.self.inside.journal } in
     let d = c.in_ok-draft.draft in
-    next_records g.D.Disk s c.self.inside.used c.args.vector d c.self.invariant (subst (λ z. IsDraftOf z c.args.vector d) (sym c.self.view_is) c.in_ok-draft.ensures.drafted)
+    next_records g.D.Disk s c.self.inside.used c.args.vector.now d c.self.invariant (subst (λ z. IsDraftOf z c.args.vector.now d) (sym c.self.view_is) c.in_ok-draft.ensures.drafted)
 
 pub log-requires-clause-short : goal.log-requires-clause-short
 log-requires-clause-short g c =
-    let s : DbValue g.row.D.Denot = record { documents = c.self.inside.documents.items; heap = c.self.inside.heap; journal = c.self.inside.journal } in
+    let s : DbValue g.row.D.Denot = record { documents = kept_in c.self.inside.heap; heap = c.self.inside.heap; journal = c.self.inside.journal } in
     let d = c.in_ok-draft.draft in
-    let f : IsDraftOf s c.args.vector d = subst (λ z. IsDraftOf z c.args.vector d) (sym c.self.view_is) c.in_ok-draft.ensures.drafted in
+    let f : IsDraftOf s c.args.vector.now d = subst (λ z. IsDraftOf z c.args.vector.now d) (sym c.self.view_is) c.in_ok-draft.ensures.drafted in
     omega (arith, ap (λ rs. length (logged_bytes s.journal rs)) f.records, logged_size s.journal d.insertion d.heap f.page, owed_small s.journal.owes)
 
 pub log-requires-clause-follow : goal.log-requires-clause-follow
 log-requires-clause-follow g c t up R H st l =
-    let s : DbValue g.row.D.Denot = record { documents = c.self.inside.documents.items; heap = c.self.inside.heap; journal = c.self.inside.journal } in
+    let s : DbValue g.row.D.Denot = record { documents = kept_in c.self.inside.heap; heap = c.self.inside.heap; journal = c.self.inside.journal } in
     let d = c.in_ok-draft.draft in
-    let f : IsDraftOf s c.args.vector d = subst (λ z. IsDraftOf z c.args.vector d) (sym c.self.view_is) c.in_ok-draft.ensures.drafted in
-    (H ++ insertion (next_document s c.args.vector) ∷ [], follows g.D.Disk s c.self.inside.used c.args.vector d c.self.invariant f (spelling_has_size c.args.vector) t up R H st l, (insertion (next_document s c.args.vector) ∷ [], refl))
+    let f : IsDraftOf s c.args.vector.now d = subst (λ z. IsDraftOf z c.args.vector.now d) (sym c.self.view_is) c.in_ok-draft.ensures.drafted in
+    (H ++ insertion (next_document s c.args.vector.now) ∷ [], follows g.D.Disk s c.self.inside.used c.args.vector.now d c.self.invariant f (spelling_has_size c.args.vector.now) t up R H st l, (insertion (next_document s c.args.vector.now) ∷ [], refl))
 
-pub invariant_of-self-in-Err : goal.invariant_of-self-in-Err
-invariant_of-self-in-Err g c =
-    let s : DbValue g.row.D.Denot = record { documents = c.self.inside.documents.items; heap = c.self.inside.heap; journal = c.self.inside.journal } in
+pub invariant_of-self : goal.invariant_of-self
+invariant_of-self g c =
+    let s : DbValue g.row.D.Denot = record { documents = kept_in c.self.inside.heap; heap = c.self.inside.heap; journal = c.self.inside.journal } in
     let few : length (waiting s.journal.wal) < 4194304 = omega (arith, c.self.invariant.idle (sym c.fault.ensures ∙ c.in_default.is)) in
-    still_value g.D.Disk s c.self.inside.used c.reserve.new.self.items c.log.new.self c.reserve.ensures.items (on_err c.log.result c.in-Err.error _ c.in-Err.is (c.log.ensures.now few).1) c.self.invariant
+    still_value g.D.Disk s c.self.inside.used s.documents c.log.new.self refl (on_err c.log.result c.in-Err.error _ c.in-Err.is (c.log.ensures.now few).1) c.self.invariant
 
 pub returns-in-Err : goal.returns-in-Err
 returns-in-Err g c =
-    let s : DbValue g.row.D.Denot = record { documents = c.self.inside.documents.items; heap = c.self.inside.heap; journal = c.self.inside.journal } in
-    let new : DbValue g.row.D.Denot = record { documents = c.reserve.new.self.items; heap = c.self.inside.heap; journal = c.log.new.self } in
+    let s : DbValue g.row.D.Denot = record { documents = kept_in c.self.inside.heap; heap = c.self.inside.heap; journal = c.self.inside.journal } in
+    let new : DbValue g.row.D.Denot = record { documents = kept_in c.self.inside.heap; heap = c.self.inside.heap; journal = c.log.new.self } in
     let d = c.in_ok-draft.draft in
-    let f : IsDraftOf s c.args.vector d = subst (λ z. IsDraftOf z c.args.vector d) (sym c.self.view_is) c.in_ok-draft.ensures.drafted in
+    let f : IsDraftOf s c.args.vector.now d = subst (λ z. IsDraftOf z c.args.vector.now d) (sym c.self.view_is) c.in_ok-draft.ensures.drafted in
     let up : down_of s.journal.wal ≡ None = sym c.fault.ensures ∙ c.in_default.is in
     let few : length (waiting s.journal.wal) ≤ 20000 = c.self.invariant.idle up in
     let less : length (waiting s.journal.wal) < 4194304 = omega (arith, few) in
     let size : length (logged_bytes s.journal d.records) ≡ cond s.journal.owes 18 0 + 8267 = ap (λ rs. length (logged_bytes s.journal rs)) f.records ∙ logged_size s.journal d.insertion d.heap f.page in
-    subst (λ z. HasPut g.D.Disk z new c.args.vector (Err c.from.result)) c.self.view_is
-    (refused_why g.D.Disk s new c.args.vector c.in-Err.error c.from.result c.from.ensures (record {
-      documents = c.reserve.ensures.items;
+    subst (λ z. HasPut g.D.Disk z new c.args.vector.now (Err c.from.result)) c.self.view_is
+    (refused_why g.D.Disk s new c.args.vector.now c.in-Err.error c.from.result c.from.ensures (record {
+      documents = refl;
       journal = on_err c.log.result c.in-Err.error _ c.in-Err.is (c.log.ensures.now less).1;
       up = up;
       left = λ x. omega (arith, x, f.some_xid);
@@ -75,15 +77,15 @@ returns-in-Err g c =
 
 pub invariant_of-self-in-Err-flush : goal.invariant_of-self-in-Err-flush
 invariant_of-self-in-Err-flush g c =
-    let s : DbValue g.row.D.Denot = record { documents = c.self.inside.documents.items; heap = c.self.inside.heap; journal = c.self.inside.journal } in
+    let s : DbValue g.row.D.Denot = record { documents = kept_in c.self.inside.heap; heap = c.self.inside.heap; journal = c.self.inside.journal } in
     let d = c.in_ok-draft.draft in
-    let draft : IsDraftOf s c.args.vector d = subst (λ z. IsDraftOf z c.args.vector d) (sym c.self.view_is) c.in_ok-draft.ensures.drafted in
+    let draft : IsDraftOf s c.args.vector.now d = subst (λ z. IsDraftOf z c.args.vector.now d) (sym c.self.view_is) c.in_ok-draft.ensures.drafted in
     let up : down_of s.journal.wal ≡ None = sym c.fault.ensures ∙ c.in_default.is in
     let less : length (waiting s.journal.wal) < 4194304 = omega (arith, c.self.invariant.idle up) in
     let has : HasLogged s.journal c.log.new.self d.records = on_ok c.log.result _ _ c.in_default-log.is (c.log.ensures.now less).0 in
     let is : c.in-Err-flush.error ≡ DiskFault = flush_fault c.flush.result c.in-Err-flush.error _ c.in-Err-flush.is (has.down ∙ up) (λ n e. (c.flush.ensures.is_down n).0 e) c.in-Err-flush.ensures.error in
     let down = fault_down c.flush.result _ _ _ (c.in-Err-flush.is ∙ ap (λ z. Err z) is) c.flush.ensures.goes_down in
-    value_down g.D.Disk s c.log.new.self c.flush.new.self c.args.vector c.self.inside.used d
+    value_down g.D.Disk s c.log.new.self c.flush.new.self c.args.vector.now c.self.inside.used d
     (record {
       value = c.self.invariant;
       draft = draft;
@@ -94,29 +96,30 @@ invariant_of-self-in-Err-flush g c =
       stands = c.flush.ensures.stands;
       moments = c.flush.ensures.any_moment;
       pages = c.flush.ensures.pages;
+      time = c.flush.ensures.cause.time;
       state = c.flush.ensures.same.0;
       limit = c.flush.ensures.same.2 ∙ c.log.ensures.same;
       done = λ still. absurd (none_some _ (sym still ∙ down));
     })
-    c.reserve.new.self.items c.reserve.ensures.items (λ still. none_some _ (sym still ∙ down))
+    s.documents refl (λ still. none_some _ (sym still ∙ down))
 
 pub returns-in-Err-flush : goal.returns-in-Err-flush
 returns-in-Err-flush g c =
-    let s : DbValue g.row.D.Denot = record { documents = c.self.inside.documents.items; heap = c.self.inside.heap; journal = c.self.inside.journal } in
-    let new : DbValue g.row.D.Denot = record { documents = c.reserve.new.self.items; heap = c.self.inside.heap; journal = c.flush.new.self } in
+    let s : DbValue g.row.D.Denot = record { documents = kept_in c.self.inside.heap; heap = c.self.inside.heap; journal = c.self.inside.journal } in
+    let new : DbValue g.row.D.Denot = record { documents = kept_in c.self.inside.heap; heap = c.self.inside.heap; journal = c.flush.new.self } in
     let d = c.in_ok-draft.draft in
-    let draft : IsDraftOf s c.args.vector d = subst (λ z. IsDraftOf z c.args.vector d) (sym c.self.view_is) c.in_ok-draft.ensures.drafted in
+    let draft : IsDraftOf s c.args.vector.now d = subst (λ z. IsDraftOf z c.args.vector.now d) (sym c.self.view_is) c.in_ok-draft.ensures.drafted in
     let up : down_of s.journal.wal ≡ None = sym c.fault.ensures ∙ c.in_default.is in
     let less : length (waiting s.journal.wal) < 4194304 = omega (arith, c.self.invariant.idle up) in
     let has : HasLogged s.journal c.log.new.self d.records = on_ok c.log.result _ _ c.in_default-log.is (c.log.ensures.now less).0 in
     let is : c.in-Err-flush.error ≡ DiskFault = flush_fault c.flush.result c.in-Err-flush.error _ c.in-Err-flush.is (has.down ∙ up) (λ n e. (c.flush.ensures.is_down n).0 e) c.in-Err-flush.ensures.error in
     let failed = c.in-Err-flush.is ∙ ap (λ z. Err z) is in
     let down = fault_down c.flush.result _ _ _ failed c.flush.ensures.goes_down in
-    let doubt : IsPutInDoubt g.D.Disk s new c.args.vector = record {
-      documents = c.reserve.ensures.items;
+    let doubt : IsPutInDoubt g.D.Disk s new c.args.vector.now = record {
+      documents = refl;
       up = up;
       down = down;
-      puts = puts g.D.Disk s new c.log.new.self c.args.vector c.self.inside.used d (record {
+      puts = puts g.D.Disk s new c.log.new.self c.args.vector.now c.self.inside.used d (record {
         value = c.self.invariant;
         draft = draft;
         up = up;
@@ -126,6 +129,7 @@ returns-in-Err-flush g c =
         stands = c.flush.ensures.stands;
         moments = c.flush.ensures.any_moment;
         pages = c.flush.ensures.pages;
+        time = c.flush.ensures.cause.time;
         state = c.flush.ensures.same.0;
         limit = c.flush.ensures.same.2 ∙ c.log.ensures.same;
         done = λ still. absurd (none_some _ (sym still ∙ down));
@@ -135,19 +139,18 @@ returns-in-Err-flush g c =
       failure = subst (λ z. Rose (g.D.Disk.write_fault_count z) (g.D.Disk.write_fault_count c.flush.new.self.disk)) has.disk (fault_rose c.flush.result _ _ failed c.flush.ensures.cause.write_fault);
     } in
     let why : c.from-in-Err-flush.result ≡ errors.DiskFault = c.from-in-Err-flush.ensures ∙ ap db_error is in
-    subst (λ z. HasPut g.D.Disk z new c.args.vector (Err c.from-in-Err-flush.result)) c.self.view_is
-    (subst (λ w. HasPut g.D.Disk s new c.args.vector (Err w)) (sym why) doubt)
+    subst (λ z. HasPut g.D.Disk z new c.args.vector.now (Err c.from-in-Err-flush.result)) c.self.view_is
+    (subst (λ w. HasPut g.D.Disk s new c.args.vector.now (Err w)) (sym why) doubt)
 
 pub invariant_of-self-2 : goal.invariant_of-self-2
 invariant_of-self-2 g c =
-    let s : DbValue g.row.D.Denot = record { documents = c.self.inside.documents.items; heap = c.self.inside.heap; journal = c.self.inside.journal } in
+    let s : DbValue g.row.D.Denot = record { documents = kept_in c.self.inside.heap; heap = c.self.inside.heap; journal = c.self.inside.journal } in
     let d = c.in_ok-draft.draft in
-    let draft : IsDraftOf s c.args.vector d = subst (λ z. IsDraftOf z c.args.vector d) (sym c.self.view_is) c.in_ok-draft.ensures.drafted in
+    let draft : IsDraftOf s c.args.vector.now d = subst (λ z. IsDraftOf z c.args.vector.now d) (sym c.self.view_is) c.in_ok-draft.ensures.drafted in
     let up : down_of s.journal.wal ≡ None = sym c.fault.ensures ∙ c.in_default.is in
     let less : length (waiting s.journal.wal) < 4194304 = omega (arith, c.self.invariant.idle up) in
     let done = on_ok c.flush.result _ _ c.in_default-flush.is c.flush.ensures.done in
-    let one : ℕ → Kept = λ n. record { serial = n; vector = c.args.vector } in
-    value_up g.D.Disk s c.log.new.self c.flush.new.self c.args.vector c.self.inside.used d
+    value_up g.D.Disk s c.log.new.self c.flush.new.self c.args.vector.now c.self.inside.used d
     (record {
       value = c.self.invariant;
       draft = draft;
@@ -158,24 +161,24 @@ invariant_of-self-2 g c =
       stands = c.flush.ensures.stands;
       moments = c.flush.ensures.any_moment;
       pages = c.flush.ensures.pages;
+      time = c.flush.ensures.cause.time;
       state = c.flush.ensures.same.0;
       limit = c.flush.ensures.same.2 ∙ c.log.ensures.same;
       done = λ still. done.0;
     })
-    c.push_reserved.new.self.items (c.push_reserved.ensures.items ∙ ap (λ z. z ++ one d.insertion.serial ∷ []) c.reserve.ensures.items ∙ ap (λ n. s.documents ++ one n ∷ []) draft.serial) done.0
+    (kept_in d.heap) (draft_kept s c.args.vector.now d refl draft) done.0
 
 pub returns : goal.returns
 returns g c =
-    let s : DbValue g.row.D.Denot = record { documents = c.self.inside.documents.items; heap = c.self.inside.heap; journal = c.self.inside.journal } in
+    let s : DbValue g.row.D.Denot = record { documents = kept_in c.self.inside.heap; heap = c.self.inside.heap; journal = c.self.inside.journal } in
     let d = c.in_ok-draft.draft in
-    let new : DbValue g.row.D.Denot = record { documents = c.push_reserved.new.self.items; heap = d.heap; journal = c.flush.new.self } in
-    let draft : IsDraftOf s c.args.vector d = subst (λ z. IsDraftOf z c.args.vector d) (sym c.self.view_is) c.in_ok-draft.ensures.drafted in
+    let new : DbValue g.row.D.Denot = record { documents = kept_in d.heap; heap = d.heap; journal = c.flush.new.self } in
+    let draft : IsDraftOf s c.args.vector.now d = subst (λ z. IsDraftOf z c.args.vector.now d) (sym c.self.view_is) c.in_ok-draft.ensures.drafted in
     let up : down_of s.journal.wal ≡ None = sym c.fault.ensures ∙ c.in_default.is in
     let few : length (waiting s.journal.wal) ≤ 20000 = c.self.invariant.idle up in
     let less : length (waiting s.journal.wal) < 4194304 = omega (arith, few) in
     let has : HasLogged s.journal c.log.new.self d.records = on_ok c.log.result _ _ c.in_default-log.is (c.log.ensures.now less).0 in
     let done = on_ok c.flush.result _ _ c.in_default-flush.is c.flush.ensures.done in
-    let one : ℕ → Kept = λ n. record { serial = n; vector = c.args.vector } in
     let size : length (logged_bytes s.journal d.records) ≡ cond s.journal.owes 18 0 + 8267 = ap (λ rs. length (logged_bytes s.journal rs)) draft.records ∙ logged_size s.journal d.insertion d.heap draft.page in
     let waits : length (waiting c.log.new.self.wal) ≡ length (waiting s.journal.wal) + length (logged_bytes s.journal d.records) = ap length has.waits ∙ length-append (waiting s.journal.wal) (logged_bytes s.journal d.records) in
     let st = c.self.invariant.stands in
@@ -185,9 +188,9 @@ returns g c =
     let state : c.flush.new.self.state ≡ steps_of (records_of d.insertion d.heap) (after_owed s.journal.owes s.journal.state) = c.flush.ensures.same.0 ∙ has.state ∙ ap (λ rs. steps_of rs (after_owed s.journal.owes s.journal.state)) draft.records in
     let owed : Bool → ℕ = λ b. cond b 18 0 in
     let at : ℕ → ℕ → Name = λ n m. record { page = 2; slot = n; serial = m } in
-    let stored : IsPut g.D.Disk s new c.args.vector c.name_of-name.result = record {
-      named = c.name_of-name.ensures ∙ ap (λ n. at n d.insertion.serial) (let z : c.len.result ≡ length s.documents = omega (arith, c.len.ensures, c.reserve.ensures.len, ap length c.reserve.ensures.items) in z) ∙ ap (λ n. at (length s.documents) n) draft.serial;
-      documents = c.push_reserved.ensures.items ∙ ap (λ z. z ++ one d.insertion.serial ∷ []) c.reserve.ensures.items ∙ ap (λ n. s.documents ++ one n ∷ []) draft.serial;
+    let stored : IsPut g.D.Disk s new c.args.vector.now c.name_of-name.result = record {
+      named = c.name_of-name.ensures ∙ ap (λ n. at n d.insertion.serial) (c.len.ensures ∙ sym (length_kept s.heap)) ∙ ap (λ n. at (length s.documents) n) draft.serial;
+      documents = draft_kept s c.args.vector.now d refl draft;
       fits = draft.fits;
       up = up;
       still_up = still_at_ok c.flush.result _ _ _ _ c.in_default-flush.is c.flush.ensures.goes_down ∙ has.down ∙ up;
@@ -196,7 +199,7 @@ returns g c =
       end = omega (arith, ap length done.0, done.1, end_some (end_of c.log.new.self.wal) (waiting c.log.new.self.wal) (omega (arith, waits, size)), waits, size, has.end, ap owed (c.flush.ensures.same.1 ∙ has.owes));
       next_serial = omega (arith, ap (λ z. z.next_serial) state, drawn.0, draft.serial);
       next_xid = omega (arith, ap (λ z. suc (length z.fates)) state, drawn.1, draft.xid);
-      puts = puts g.D.Disk s new c.log.new.self c.args.vector c.self.inside.used d (record {
+      puts = puts g.D.Disk s new c.log.new.self c.args.vector.now c.self.inside.used d (record {
         value = c.self.invariant;
         draft = draft;
         up = up;
@@ -206,6 +209,7 @@ returns g c =
         stands = c.flush.ensures.stands;
         moments = c.flush.ensures.any_moment;
         pages = c.flush.ensures.pages;
+        time = c.flush.ensures.cause.time;
         state = c.flush.ensures.same.0;
         limit = c.flush.ensures.same.2 ∙ c.log.ensures.same;
         done = λ still. done.0;
@@ -213,4 +217,4 @@ returns g c =
       later = subst (λ z. g.D.Disk.fault_count z ≤ g.D.Disk.fault_count c.flush.new.self.disk) has.disk c.flush.ensures.cause.later.0;
       no_failure = stays_at_ok c.flush.result _ _ _ c.in_default-flush.is c.flush.ensures.cause.write_fault ∙ ap g.D.Disk.write_fault_count has.disk;
     } in
-    subst (λ z. IsPut g.D.Disk z new c.args.vector c.name_of-name.result) c.self.view_is stored
+    subst (λ z. IsPut g.D.Disk z new c.args.vector.now c.name_of-name.result) c.self.view_is stored

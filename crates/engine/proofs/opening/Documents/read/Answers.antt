@@ -1,5 +1,6 @@
 use Rattle.std.proofs.Common.{◌≡◌, inl, inr, ◌+◌, ◌-◌, true, length, arith, rules, ◌∙◌, ap, subst}
 use Rattle.engine.specs.Inner.Documents.{IsMissing}
+use Rattle.engine.specs.Inner.Kept.{kept_in}
 use Rattle.engine.specs.declared.opening.Documents.{Documents}
 use Rattle.engine.proofs.HeapRead.{read_next, same_read}
 use Rattle.engine.proofs.opening.Documents.read.Goals as goal
@@ -33,15 +34,15 @@ returns-clause-all c = elim c.loop-place-test.branch [
       inl
       (omega (
         arith,
-        ap (λ (d : Documents). length d.kept.items) w.documents-is,
+        ap (λ (d : Documents). length (kept_in d.heap)) w.documents-is,
         c.loop-place.invariant.count,
       ))
   | then-loop-place-test+in_ok-add+then-not-branch w ↦
       let missing = w.in_ok-add.ensures.missing w.if-not-branch.true in
-      let here : c.loop-place.place + 1 - 1 ≡ length c.loop-place-test.documents.kept.items =
+      let here : c.loop-place.place + 1 - 1 ≡ length (kept_in c.loop-place-test.documents.heap) =
       omega (
         arith,
-        ap (λ (d : Documents). length d.kept.items) (w.documents-is ∙ missing.0),
+        ap (λ (d : Documents). length (kept_in d.heap)) (w.documents-is ∙ missing.0),
         c.loop-place.invariant.count,
       ) in
       inr (
