@@ -101,7 +101,7 @@ module _ {D : Type 0} (device : Disk D) (found : Found) (history : History) wher
     pub run : Run (counts_over device found first opened (disk_of s)) history commits rows
     pub counted : Counted (fault_of s) rows (device.fault_count first) (device.write_fault_count first) (device.fault_count (disk_of s)) (device.write_fault_count (disk_of s))
     pub fixed : device.tells → IsFixedSince device first c0 (disk_of s)
-    pub timed : device.tells → AreTimed (device.clock opened) (device.clock (disk_of s)) rows
+    pub timed : AreTimed (device.clock opened) (device.clock (disk_of s)) rows
     pub safe : device.tells → StartedFrom device first → Safe device first c0 s history commits rows
 
   -- The run with one statement more, which is what the documents hold now.
@@ -148,14 +148,14 @@ module _ {D : Type 0} (device : Disk D) (found : Found) (history : History) wher
       subst (λ d. Counted d (rows ++ row ∷ []) (device.fault_count first) (device.write_fault_count first) (device.fault_count (disk_of old)) (device.write_fault_count (disk_of old))) (sym (rests_fault device old new r))
       (counted_rests (fault_of old) rows row (device.fault_count first) (device.write_fault_count first) (device.fault_count (disk_of old)) (device.write_fault_count (disk_of old)) s.counted refl q.fell) in
       let clock : device.clock (disk_of new) ≡ device.clock (disk_of old) = ap device.clock (rests_disk device old new r) in
-      let timed : device.tells → AreTimed (device.clock opened) (device.clock (disk_of new)) (rows ++ row ∷ []) =
-      λ t. timed_push (device.clock opened) (device.clock (disk_of old)) (device.clock (disk_of new)) rows row (s.timed t) (omega (arith, clock)) (sym clock) last in
+      let timed : AreTimed (device.clock opened) (device.clock (disk_of new)) (rows ++ row ∷ []) =
+      timed_push (device.clock opened) (device.clock (disk_of old)) (device.clock (disk_of new)) rows row s.timed (omega (arith, clock)) (sym clock) last in
       record {
         timed = timed;
         run = subst (λ d. Run (counts_over device found first opened d) history (commits ++ []) (rows ++ row ∷ [])) (sym (rests_disk device old new r)) run;
         counted = subst (λ d. Counted (fault_of new) (rows ++ row ∷ []) (device.fault_count first) (device.write_fault_count first) (device.fault_count d) (device.write_fault_count d)) (sym (rests_disk device old new r)) counted;
         fixed = λ t. subst (λ d. IsFixedSince device first c0 d) (sym (rests_disk device old new r)) (s.fixed t);
-        safe = λ t f. safe_rests device first c0 old new history commits rows row t (s.safe t f) (grown k (commits ++ []) (rows ++ row ∷ []) run) r (record { last = last; fresh = tt }) (timed_by (device.clock opened) (device.clock (disk_of new)) (rows ++ row ∷ []) (timed t)) refl q.ok;
+        safe = λ t f. safe_rests device first c0 old new history commits rows row t (s.safe t f) (grown k (commits ++ []) (rows ++ row ∷ []) run) r (record { last = last; fresh = tt }) (timed_by (device.clock opened) (device.clock (disk_of new)) (rows ++ row ∷ []) timed) refl q.ok;
       }
 
   -- a statement for which the device was not called, whatever else is known of it
@@ -229,15 +229,15 @@ module _ {D : Type 0} (device : Disk D) (found : Found) (history : History) wher
         faults = n.faults;
         writes = n.writes;
       }) in
-      let timed : device.tells → AreTimed (device.clock opened) (device.clock (disk_of new)) (rows ++ row ∷ []) =
-      λ t. timed_push (device.clock opened) (device.clock (disk_of old)) (device.clock (disk_of new)) rows row (s.timed t) (p.keeps t).later n.clock last in
+      let timed : AreTimed (device.clock opened) (device.clock (disk_of new)) (rows ++ row ∷ []) =
+      timed_push (device.clock opened) (device.clock (disk_of old)) (device.clock (disk_of new)) rows row s.timed p.time n.clock last in
       let next : IsNext commits rows row = record { last = last; fresh = subst (λ o. IfSome o (λ p. length commits ≤ p)) (sym n.own) (let z : length commits ≤ length commits = omega arith in z) } in
       record {
         timed = timed;
         run = run;
         counted = counted;
         fixed = λ t. fixed_on device first (disk_of old) (disk_of new) c0 (s.fixed t) (p.keeps t);
-        safe = λ t f. safe_logs device first c0 old new history commits c rows row t up (s.safe t f) (grown k commits rows s.run) (grown l (commits ++ c ∷ []) (rows ++ row ∷ []) run) p next (timed_by (device.clock opened) (device.clock (disk_of old)) rows (s.timed t)) (timed_by (device.clock opened) (device.clock (disk_of new)) (rows ++ row ∷ []) (timed t)) n.clock ok;
+        safe = λ t f. safe_logs device first c0 old new history commits c rows row t up (s.safe t f) (grown k commits rows s.run) (grown l (commits ++ c ∷ []) (rows ++ row ∷ []) run) p next (timed_by (device.clock opened) (device.clock (disk_of old)) rows s.timed) (timed_by (device.clock opened) (device.clock (disk_of new)) (rows ++ row ∷ []) timed) n.clock ok;
       }
 
   own_of : (commits : History) (c : Commit) (note : Note) → note.commit ≡ Some (length commits) → HasOwn (commits ++ c ∷ []) note c

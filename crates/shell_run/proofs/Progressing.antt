@@ -139,7 +139,7 @@ module _ {D : Type 0} (device : Disk D) (found : Found) (history : History) wher
         told = All-nil _;
       };
       fixed = o.fixed;
-      timed = λ t. record { later = omega arith; within = All-nil _; order = All-nil _ };
+      timed = record { later = omega arith; within = All-nil _; order = All-nil _ };
       safe = λ t s.
           let e : IsLawfulSince device history first c0 run_state.store = o.lawful t s in
           record {
@@ -179,6 +179,7 @@ module _ {D : Type 0} (device : Disk D) (found : Found) (history : History) wher
       found_commits = o.found_commits;
       found_in = o.found_in;
       run = st.run;
+      began = o.time;
       timed = st.timed;
       placed = held_placed device found s commits held;
       numbered = λ t f. (st.safe t f).numbered;

@@ -65,6 +65,7 @@ module _ {K D : Type 0} (sink : Sink K) (device : Disk D) (out : K) (disk : D) w
               (λ e. omega (arith, n, e), λ e. omega (arith, n, e), λ e. omega (arith, n, e));
         };
     as_before = λ t s. as_before_same device disk s;
+    only_read = λ t made. only_same device disk;
     memory = λ e. refl;
   }
 

@@ -20,7 +20,7 @@ use Rattle.shell_run.specs.Run.{Row, Note, Counts, Run, Before, IsAnswered, stor
 use Rattle.engine.specs.Finding.{History}
 use Rattle.shell_run.specs.Script.{printed_row, printed_rows}
 use Rattle.shell_run.specs.declared.sending.TheConstants.{PIECE_BYTES}
-use Rattle.shell_run.specs.Traces.{NoNameIsTakenTwice, NoneIsStoredAfterFailure, NoneIsCommittedAfterFailure, NoClockFalls, NoCommitIsEarly, NoCommitIsLate, EachFailureIsNoted, OneCountIsTold, NothingIsPrintedWith4, NoneRunsAfterTheSinkFailed, NoHalfScriptIsRun, NoLogIsWiped, NoStrayFileIsWritten, NoPageIsWritten}
+use Rattle.shell_run.specs.Traces.{NoNameIsTakenTwice, NoneIsStoredAfterFailure, NoneIsCommittedAfterFailure, NoClockFalls, NoCommitIsEarly, NoCommitIsLate, EachFailureIsNoted, OneCountIsTold, NothingIsPrintedWith4, NoneRunsAfterTheSinkFailed, NoHalfScriptIsRun, NoLogIsWiped, NoStrayFileIsWritten, NoStoreIsWrittenUnrun, NoPageIsWritten}
 
 -- a write failed in an insertion that is answered so
 has_failed : (counts : Counts) (first commits : History) (a b : Row) (e : Expr)
@@ -48,8 +48,8 @@ none_committed_after_failure counts first commits a b e n p statement reply repl
     let x : None ≡ Some p = sym none ∙ own in cc
 
 pub no_clock_falls : {D : Type 0} (disk : Disk D) → NoClockFalls disk
-no_clock_falls disk history commits first new a b t before fell ran =
-    omega (arith, fell, (ran.timed t).order 0 a (omega arith) 1 b (omega arith) before)
+no_clock_falls disk history commits first new a b before fell ran =
+    omega (arith, fell, ran.timed.order 0 a (omega arith) 1 b (omega arith) before)
 
 pub no_commit_is_early : NoCommitIsEarly
 no_commit_is_early files m p first commits a b before early own r below =
@@ -154,6 +154,9 @@ module _ {K D : Type 0} (sink : Sink K) (disk : Disk D) where
 
   pub no_stray_file_is_written : NoStrayFileIsWritten sink disk
   no_stray_file_is_written status out out' d d' t none other h = other ((h.keeps_no_store t none).same t)
+
+  pub no_store_is_written_unrun : NoStoreIsWrittenUnrun sink disk
+  no_store_is_written_unrun status out out' d d' t made other h = other ((h.only_read t made).same t)
 
   pub no_page_is_written : NoPageIsWritten sink disk
   no_page_is_written status out out' d d' t other h = other (h.pages t).now

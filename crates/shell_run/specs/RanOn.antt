@@ -1,5 +1,5 @@
 -- A run over a device, and what the device counted in it.
-use Rattle.std.specs.Prelude.{◌≡◌, List, length}
+use Rattle.std.specs.Prelude.{◌≡◌, ◌≤◌, List, length}
 use Rattle.disk_trait.specs.declared.device.Disk.{Ghosts as Disk}
 use Rattle.engine.specs.Finding.{History, IsNumbered, ArePlaced}
 use Rattle.engine.specs.Found.{Found, IsFoundIn}
@@ -27,8 +27,9 @@ pub record RanOn {D : Type 0} (device : Disk D) (history : History) (first new :
   pub found_commits : found.commits ≡ length history
   pub found_in : device.tells → IsFoundIn (device.seen first).log found
   pub run : Run (counts_over device found first opened new) history commits rows
-  pub timed : device.tells → AreTimed (device.clock opened) (device.clock new) rows
   -- on every device, also on one that tells nothing
+  pub began : device.clock first ≤ device.clock opened
+  pub timed : AreTimed (device.clock opened) (device.clock new) rows
   pub placed : ArePlaced commits
   pub numbered : device.tells → StartedFrom device first → IsNumbered commits
   pub means : device.tells → StartedFrom device first

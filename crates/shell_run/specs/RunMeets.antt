@@ -11,8 +11,7 @@ use Rattle.shell_run.specs.Words.{IsForm, IsEnding}
 use Rattle.shell_run.specs.Outcomes.{NotRun, Answered}
 use Rattle.shell_run.specs.Run.{Row}
 use Rattle.shell_run.specs.Crash.{StartedFrom, OpensAsBefore, HasSamePages}
-use Rattle.engine.specs.Opening.{IsOnlyRead}
-use Rattle.engine.specs.Opening.{IsNoStore}
+use Rattle.engine.specs.Opening.{IsOnlyRead, IsNoStore, IsUnmade}
 use Rattle.shell_run.specs.RanOn.{RanOn}
 use Rattle.engine.specs.Finding.{History}
 use Rattle.shell_run.specs.declared.reading.TheConstants.{SCRIPT_LIMIT}
@@ -41,6 +40,8 @@ module _ {K D : Type 0} (sink : Sink K) (device : Disk D) where
   pub record HasNotRun (status : ℕ) (out out' : K) (disk disk' : D) : Type 0 where
     pub nothing : NotRun status (sink.taken out) (sink.taken out')
     pub as_before : device.tells → StartedFrom device disk → OpensAsBefore device disk disk'
+    -- only the files of a store whose making was not begun, or was cut short, may be written to
+    pub only_read : device.tells → (IsUnmade (device.seen disk) → ⊥) → IsOnlyRead device disk disk'
     -- where memory ran out, no write and no sync had failed
     pub memory : status ≡ 5 → device.write_fault_count disk' ≡ device.write_fault_count disk
 

@@ -17,8 +17,8 @@ use Rattle.shell_run.specs.declared.sending.TheConstants.{PIECE_BYTES}
 use Rattle.shell_run.specs.Outcomes.{Answered}
 use Rattle.shell_run.specs.Crash.{Reaches}
 use Rattle.shell_run.specs.RanOn.{RanOn}
-use Rattle.engine.specs.Opening.{IsNoStore}
-use Rattle.shell_run.specs.RunMeets.{HasCauses, Headline}
+use Rattle.engine.specs.Opening.{IsNoStore, IsUnmade}
+use Rattle.shell_run.specs.RunMeets.{HasCauses, HasNotRun, Headline}
 use Rattle.shell_run.specs.declared.top.Outcome.{Outcome}
 
 -- an insertion in which a write failed, and one behind it that is stored
@@ -38,7 +38,7 @@ NoneIsCommittedAfterFailure =
 -- a clock that falls from a statement to one after it
 abbrev pub NoClockFalls : {D : Type 0} → Disk D → Type 0
 NoClockFalls {D} disk =
-    (history commits : History) (first new : D) (a b : Row) → disk.tells → Before a b
+    (history commits : History) (first new : D) (a b : Row) → Before a b
     → b.note.clock < a.note.clock → RanOn disk history first new commits (a ∷ b ∷ []) → ⊥
 
 -- a stop at a moment before an answer that leaves the commit of a statement after it
@@ -104,6 +104,12 @@ module _ {K D : Type 0} (sink : Sink K) (disk : Disk D) where
   NoStrayFileIsWritten = (status : ℕ) (out out' : K) (d d' : D) → disk.tells
       → IsNoStore (disk.seen d) → disk.seen d' ≢ disk.seen d
       → HasCauses sink disk status out out' d d' → ⊥
+
+  -- files of a store that is made, and that are written to though nothing was run
+  abbrev pub NoStoreIsWrittenUnrun : Type 0
+  NoStoreIsWrittenUnrun = (status : ℕ) (out out' : K) (d d' : D) → disk.tells
+      → (IsUnmade (disk.seen d) → ⊥) → disk.seen d' ≢ disk.seen d
+      → HasNotRun sink disk status out out' d d' → ⊥
 
   -- a page file that is written to
   abbrev pub NoPageIsWritten : Type 0

@@ -62,7 +62,7 @@ pub fn answer<D: Disk>(
 {
     match asked {
         Statement::Insert(from) => match expr_value(alloc, configs, &from) {
-            Ok(vector) => stored(store.insert(vector)),
+            Ok(vector) => stored(store.insert(&vector)),
             Err(why) => Reply::Refused(why),
         },
         Statement::Search(from) => match query_value(alloc, configs, &from) {

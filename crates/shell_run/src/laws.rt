@@ -4,7 +4,7 @@ ghost use Rattle.ts_config.specs.Known.{Known};
 ghost use Rattle.shell_script.specs.Lines.{Line};
 ghost use Rattle.shell_script.specs.Heads.{Head};
 ghost use Rattle.shell_script.specs.Grammar.{Expr, QuerySource};
-ghost use Rattle.shell_run.specs.Traces.{NoneIsStoredAfterFailure, NoneIsCommittedAfterFailure, NoClockFalls, NoCommitIsEarly, NoCommitIsLate, EachFailureIsNoted, OneCountIsTold, NothingIsPrintedWith4, NoNameIsTakenTwice, NoneRunsAfterTheSinkFailed, NoHalfScriptIsRun, NoLogIsWiped, NoStrayFileIsWritten, NoPageIsWritten};
+ghost use Rattle.shell_run.specs.Traces.{NoneIsStoredAfterFailure, NoneIsCommittedAfterFailure, NoClockFalls, NoCommitIsEarly, NoCommitIsLate, EachFailureIsNoted, OneCountIsTold, NothingIsPrintedWith4, NoNameIsTakenTwice, NoneRunsAfterTheSinkFailed, NoHalfScriptIsRun, NoLogIsWiped, NoStrayFileIsWritten, NoStoreIsWrittenUnrun, NoPageIsWritten};
 ghost use Rattle.shell_run.specs.NextRun.{OpensIsNoRefusal, EmptyMayStart, NextMayStart, NextHasAll};
 ghost use Rattle.shell_run.specs.Defining.{HasOneAnswer};
 ghost use Rattle.shell_run.specs.declared.reading.TheConstants.{SCRIPT_LIMIT};
@@ -43,6 +43,7 @@ pub fn ruled_out<S: Source, K: Sink, D: Disk>()
     ensures half_a_script { NoHalfScriptIsRun S.Source K.Sink D.Disk }
     ensures wiped { NoLogIsWiped K.Sink D.Disk }
     ensures stray { NoStrayFileIsWritten K.Sink D.Disk }
+    ensures unrun { NoStoreIsWrittenUnrun K.Sink D.Disk }
     ensures page_written { NoPageIsWritten K.Sink D.Disk }
 {}
 

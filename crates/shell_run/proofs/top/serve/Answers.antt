@@ -33,6 +33,7 @@ returns-in-Err g c =
                   (λ e. omega (arith, n), λ e. omega (arith, n), λ e. omega (arith, n));
             };
         as_before = λ t s. c.in-Err.ensures.refused t s;
+        only_read = λ t made. c.in-Err.ensures.made_kept t made;
         memory = λ e. c.in-Err.ensures.memory (at_memory c.in-Err.field-0.why (sym c.from.ensures ∙ u.at_5 e));
       });
     }
