@@ -15,8 +15,6 @@ mod replies;
 mod script;
 mod sources;
 mod statement;
-#[cfg(test)]
-mod tests;
 mod texts;
 mod tokens;
 

@@ -1,24 +1,29 @@
+// Configurations, and the vectors and queries that are made by them.
+ghost use Rattle.ts_config.specs.Known.{IsWithin};
+
+use crate::kinds::{Kind, try_rows};
+use crate::rows::{push_word, said};
+use crate::{query_tests, vector_tests};
 use porter_stem::Porter;
 use std::alloc::{AllocError, Global};
 use std::test::Fail;
-use ts_config::{
-    AnyDictionary, Config, ConfigError, Configs, Placed, mapping_replaces_one, parts_are_one,
-    phrases_are_whole, placed_are_one, positions_rise, simple_maps_all_but_blank, tokens_are_parts,
-};
+use ts_config::{AnyDictionary, Config, ConfigError, Configs, Placed};
+use ts_make::{phraseto_tsquery, plainto_tsquery, to_tsquery, to_tsvector};
 use ts_parser::TokenType;
 use ts_synonym::Synonym;
 use ts_thesaurus::Thesaurus;
+use ts_websearch::websearch_to_tsquery;
 use ts_words::{Simple, StopList};
 
-/// Definitions and texts in turn, and what comes of each, `step=outcome`, with `;` between two. The step `D name accept words`
-/// defines a dictionary `simple` with these stop words, `O name words` one of stems, `S name lines` a case sensitive one of synonyms,
-/// and `T name sub lines` a thesaurus, where `|` stands between two lines; `C name` a configuration; `M name type dictionaries` maps a
-/// type of it, and `P name type dictionary` puts one in that was built apart; `? name text` places the lexemes of a text, and shows
-/// each with its position, and with `*` where it has the mark. `{x^n}` stands for n times x.
+/// Definitions and texts in turn, and what comes of each. The step `D name accept words` defines a dictionary
+/// `simple` with these stop words, `O name words` one of stems, `S name lines` a case sensitive one of synonyms, and
+/// `T name sub lines` a thesaurus, where `|` stands between two lines; `C name` a configuration; `M name type
+/// dictionaries` maps a type of it, and `P name type dictionary` puts one in that was built apart; `? name text`
+/// places the lexemes of a text, and shows each with its position, and with `*` where it has the mark.
 const ROWS: &str = concat!(
     // The configuration that is there from the start.
     "? simple A fat Cat sat-on 1.5=a:1 fat:2 cat:3 sat-on:4 sat:5 on:6 1.5:7;? simple   , ...=;",
-    "? simple Été THE=Été:1 the:2;? simple a {b^2046} c=a:1 {b^2046}:2 c:3;? simple a {b^2047} c=a:1 c:2;",
+    "? simple Été THE=Été:1 the:2;? simple a «b^2046» c=a:1 «b^2046»:2 c:3;? simple a «b^2047» c=a:1 c:2;",
     // A stop word takes a position, and a dropped token none; the last mapping of a type counts.
     "D stops 1 the of=ok;D pass 0 the=ok;C c=ok;M c asciiword pass=ok;M c asciiword stops=ok;M c numword simple=ok;",
     "? c The fat CAT 12 of 7th=fat:2 cat:3 7th:5;? c the of the=;",
@@ -33,12 +38,13 @@ const ROWS: &str = concat!(
     "O porter the=ok;S syn Cat Dog* rest|Cat Bird|alone|x x**=ok;D sub 1 the=ok;",
     "C s=ok;M s asciiword syn sub=ok;? s Cat cat x Alone=Dog*:1 cat:2 x**:3 alone:4;",
     "C p=ok;M p asciiword syn porter=ok;? p the Cat ponies=Dog*:2 poni:3;",
-    // A thesaurus replaces the longest phrase, the last of equal ones; a token without dictionaries is left out, and one whose list
-    // hasn't the thesaurus ends what it sees.
+    // A thesaurus replaces the longest phrase, the last of equal ones; a token without dictionaries is left out, and
+    // one whose list hasn't the thesaurus ends what it sees.
     "T th sub new york : *NYC|new york city : big apple|? cat : *stopcat|x y : p q|x y : r=ok;",
     "C t=ok;M t asciiword th sub=ok;M t uint sub=ok;",
-    "? t new york city new york=big:1 apple:1 NYC:2;? t new 7 york=new:1 7:2 york:3;? t NEW - York x y z=NYC:1 r:2 z:3;",
-    "? t the cat the dog=stopcat:1 dog:3;? t new 7.5 {n^2047} york new=NYC:1 new:2;? t new=new:1;? t york new york city=york:1 big:2 apple:2;",
+    "? t new york city new york=big:1 apple:1 NYC:2;? t new 7 york=new:1 7:2 york:3;",
+    "? t NEW - York x y z=NYC:1 r:2 z:3;? t the cat the dog=stopcat:1 dog:3;",
+    "? t new 7.5 «n^2047» york new=NYC:1 new:2;? t new=new:1;? t york new york city=york:1 big:2 apple:2;",
     // It is asked where the dictionaries before it don't know the first token.
     "M t asciiword sub th=ok;? t new york=new:1 york:2;M t asciiword syn th sub=ok;? t x y new york=x**:1 y:2 NYC:3;",
     "M t asciiword th th=ok;? t a new york=NYC:1;M t numword th=ok;? t new 7th york=;",
@@ -46,19 +52,36 @@ const ROWS: &str = concat!(
     "T th none a : b=unknown dictionary;T more th ? : *b=unknown dictionary;T th sub a : b=duplicate name;? t x y=r:1",
 );
 
-/// The text that a row stands for.
-fn expanded(alloc: Global, row: &str) -> Result<String, AllocError> {
-    let mut text = String::new(alloc);
-    for part in row.split('{') {
-        let (repeated, rest) = part.split_once('}').unwrap_or(("", part));
-        let (piece, times) = repeated.split_once('^').unwrap_or(("", "0"));
-        for _ in 0..times.parse::<u32>().unwrap_or(0) {
-            text.push_str(piece)?;
-        }
-        text.push_str(rest)?;
-    }
-    Ok(text)
-}
+/// Definitions, then calls with texts by the configuration `c`, and what comes of each.
+const MAKERS: &str = concat!(
+    // The configuration `c`, whose dictionary has two stop words.
+    "D stops 1 the a=ok;C c=ok;M c asciiword stops=ok;M c word stops=ok;M c uint stops=ok;",
+    "M c asciihword stops=ok;M c hword_asciipart stops=ok;",
+    // Stop operands are removed.
+    "to !(the | cat) & dog=!'cat' & 'dog';to cat <-> the <-> rat='cat' <2> 'rat';",
+    "to cat <-> (the | a) <2> dog='cat' <3> 'dog';to cat <-> (the <3> a) <2> dog='cat' <6> 'dog';",
+    "to cat <16384> the <-> dog='cat' <16384> 'dog';to cat <-> (the <-> dog)='cat' <2> 'dog';",
+    "to cat & !the='cat';to the | a=;to =;to !!a=;to the <-> cat='cat';",
+    // Operands with several lexemes, each with the operand's weights and mark.
+    "to 'fat the rat':b* <-> x='fat':*B <2> 'rat':*B <-> 'x';",
+    "to x <-> 'fat rat'='x' <-> ( 'fat' <-> 'rat' );to cat-dog='cat-dog' <-> 'cat' <-> 'dog';",
+    "to a &=syntax error at 3;to cat <20000> the=distance too large at 4;",
+    "to «b^2047»=lexeme too long at 0;to «b^2046»='«b^2046»';",
+    // Plain texts.
+    "plain the cat a dog='cat' & 'dog';phrase the cat the dog='cat' <2> 'dog';plain the=;phrase ,=;",
+    "vector the cat the dog cat='cat':2,5 'dog':4;vector the=;",
+    // Nodes are counted before the removal.
+    "to 'x x'«|x^16381»|the='x' <-> 'x'« | 'x'^16381»;to 'x x'«|x^16382»|the=too many nodes;",
+    "to x«|x^16382»|the='x'« | 'x'^16382»;plain «x ^16384»='x'« & 'x'^16383»;",
+    "plain «x ^16385»=too many nodes;phrase «x ^16384»='x'« <-> 'x'^16383»;phrase «x ^16385»=too many nodes;",
+    // Web texts: `~` stands for a quotation mark.
+    "web ~fat rat~ or cat -dog='fat' <-> 'rat' | 'cat' & !'dog';web cat or or dog='cat' | 'or' & 'dog';",
+    "web cat OR -or='cat' | !'or';web -cat-dog --x=!( 'cat-dog' <-> 'cat' <-> 'dog' ) & !'x';",
+    "web ~~ cat - -~the='cat';web or='or';web cat or='cat' & 'or';web =;web -~fat rat=!( 'fat' <-> 'rat' );",
+    "web cat~dog~-x='cat' & 'dog' & !'x';web cat Or - or dog='cat' | 'dog';web - -the ~,~=;",
+    "web «x ^16384»='x'« & 'x'^16383»;web «x ^16384»-=too many nodes;web «- ^16384»=;web «- ^16385»=too many nodes;",
+    "web «~^1000000»=too many nodes;web «or ^100000»=too many nodes",
+);
 
 /// Cuts the first word off.
 fn cut(words: &str) -> (&str, &str) {
@@ -175,85 +198,86 @@ fn step(alloc: Global, configs: &mut Configs, row: &str) -> Result<(), ConfigErr
     }
 }
 
-/// One placed lexeme, shown.
-fn push_shown(out: &mut String, placed: &Placed) -> Result<(), AllocError> {
-    let lexeme = placed.lexeme.as_str();
+/// Puts a placed lexeme behind others.
+fn push_placed(out: &mut String, placed: &Placed) -> Result<(), AllocError> {
+    push_word(out, placed.lexeme.as_str())?;
     let mark = if placed.prefix { "*" } else { "" };
     let position = placed.position;
-    write!(out, " {lexeme}{mark}:{position}")
+    write!(out, "{mark}:{position}")
 }
 
 /// The placed lexemes of a text, shown.
-fn shown(alloc: Global, configs: &Configs, row: &str) -> Result<String, AllocError> {
+fn shown(alloc: Global, configs: &Configs, row: &str) -> Result<String, Fail> {
     let (name, text) = cut(row);
     let Some(config) = configs.config(name) else {
-        return String::from_str(alloc, "none");
+        return said(alloc, "none");
     };
     let mut out = String::new(alloc);
     let list = configs.lexize_all(alloc, config, text)?;
     for placed in &list {
-        push_shown(&mut out, placed)?;
+        push_placed(&mut out, placed)?;
     }
     Ok(out)
 }
 
-/// What comes of a step.
-fn outcome(alloc: Global, configs: &mut Configs, row: &str) -> Result<String, AllocError> {
-    if let Some(rest) = row.strip_prefix("? ") {
-        return shown(alloc, configs, rest);
-    }
+/// What comes of a definition.
+fn defined(alloc: Global, configs: &mut Configs, row: &str) -> Result<String, Fail> {
     match step(alloc, configs, row) {
-        Ok(()) => String::from_str(alloc, "ok"),
-        Err(error) => format!(in alloc; "{error}"),
+        Ok(()) => said(alloc, "ok"),
+        Err(error) => Ok(format!(in alloc; "{error}")?),
+    }
+}
+
+/// What is made of a text.
+fn made(
+    alloc: Global,
+    configs: &Configs,
+    config: &Config,
+    call: &str,
+    text: &str,
+) -> Result<String, Fail>
+    requires { IsWithin configs.now config.now }
+{
+    let query = match call {
+        "vector" => return vector_tests::printed(alloc, to_tsvector(alloc, configs, config, text)),
+        "to" => to_tsquery(alloc, configs, config, text),
+        "plain" => plainto_tsquery(alloc, configs, config, text),
+        "phrase" => phraseto_tsquery(alloc, configs, config, text),
+        _ => websearch_to_tsquery(alloc, configs, config, text),
+    };
+    query_tests::printed(alloc, query)
+}
+
+/// What comes of a step.
+pub fn outcome(alloc: Global, configs: &mut Configs, row: &str) -> Result<String, Fail> {
+    let (kind, rest) = cut(row);
+    match kind {
+        "?" => shown(alloc, configs, rest),
+        "to" | "plain" | "phrase" | "web" | "vector" => match configs.config("c") {
+            Some(config) => made(alloc, configs, config, kind, rest),
+            None => said(alloc, "none"),
+        },
+        _ => defined(alloc, configs, row),
     }
 }
 
 /// Each step gives its outcome.
 #[test]
-fn rows(rt: HostRuntime) -> Result<(), Fail> {
-    let alloc = rt.alloc();
-    let mut configs = Configs::new(alloc)?;
-    let mut count = 0u32;
-    for row in ROWS.split(';') {
-        let row = expanded(alloc, row)?;
-        let (left, want) = row.as_str().split_once('=').unwrap_or(("", "none"));
-        let given = outcome(alloc, &mut configs, left)?;
-        assert_eq!(rt; given.as_str().trim_start(), want);
-        count = count.saturating_add(1);
-    }
-    assert_eq!(rt; count, 61);
-    Ok(())
+fn steps(rt: HostRuntime) -> Result<(), Fail> {
+    try_rows(&rt, rt.alloc(), Kind::Step, ROWS, 61)?;
+    try_rows(&rt, rt.alloc(), Kind::Step, MAKERS, 56)
 }
 
-/// Dictionaries are found by name, and keep their places.
+/// Dictionaries are found by name and keep their places, and a type's list is replaced.
 #[test]
 fn places(rt: HostRuntime) -> Result<(), Fail> {
-    let configs = Configs::new(rt.alloc())?;
-    assert!(rt; configs.dictionary("simple").is_some());
-    assert!(rt; configs.dictionary("none").is_none());
-    assert_eq!(rt; configs.place("simple"), Some(0));
-    Ok(())
-}
-
-/// A type's list is replaced.
-#[test]
-fn lists(rt: HostRuntime) -> Result<(), Fail> {
     let alloc = rt.alloc();
+    let configs = Configs::new(alloc)?;
+    assert!(rt; configs.dictionary("simple").is_some() && configs.dictionary("none").is_none());
+    assert_eq!(rt; configs.place("simple"), Some(0));
     let mut config = Config::empty(alloc)?;
     config.set(TokenType::Uint, vec![in alloc; 3, 1]?);
     assert_eq!(rt; config.list(TokenType::Uint), [3, 1].as_slice());
     assert!(rt; config.list(TokenType::Blank).is_empty());
     Ok(())
-}
-
-/// The laws are there to be cited.
-#[test]
-fn laws() {
-    mapping_replaces_one();
-    simple_maps_all_but_blank();
-    phrases_are_whole();
-    parts_are_one();
-    tokens_are_parts();
-    placed_are_one();
-    positions_rise();
 }

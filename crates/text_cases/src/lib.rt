@@ -9,7 +9,9 @@ mod base_tests;
 #[cfg(test)]
 mod config_tests;
 #[cfg(test)]
-mod make_tests;
+mod kinds;
+#[cfg(test)]
+mod laws;
 #[cfg(test)]
 mod match_tests;
 #[cfg(test)]
@@ -17,14 +19,14 @@ mod parser_tests;
 #[cfg(test)]
 mod query_tests;
 #[cfg(test)]
+mod rows;
+#[cfg(test)]
+mod script_tests;
+#[cfg(test)]
 mod slow;
-#[cfg(test)]
-mod stem_tests;
-#[cfg(test)]
-mod stop_tests;
-#[cfg(test)]
-mod synonym_tests;
 #[cfg(test)]
 mod thesaurus_tests;
 #[cfg(test)]
 mod vector_tests;
+#[cfg(test)]
+mod word_tests;

@@ -1,240 +1,75 @@
+// Texts and their tokens.
+use crate::kinds::{Kind, try_rows};
+use crate::rows::said;
+use std::alloc::{AllocError, Global};
 use std::test::Fail;
-use ts_parser::{
-    TokenType, names_tell_types, numbers_tell_types, one_token_list, token_list, tokens,
-    tokens_between, tokens_cover, tokens_few,
-};
+use ts_parser::{Token, TokenType, token_list};
 
-/// A text, and its tokens as type, start and length.
-struct Row {
-    text: &'static str,
-    tokens: &'static [(u8, usize, usize)],
+/// Texts, and their tokens as type, start and length.
+const TOKENS: &str = "\
+    foo-bar-beta1=15 0 13, 11 0 3, 12 3 1, 11 4 3, 12 7 1, 9 8 5;\
+    -1.234e56 -1.234 -1234 1234 8.3.0 beta1 1.2.3a=7 0 9, 12 9 1, 20 10 6, 12 16 1, 21 17 5, 12 22 1, 22 23 4, 12 \
+    27 1, 8 28 5, 12 33 1, 3 34 5, 12 39 1, 22 40 1, 12 41 1, 22 42 1, 12 43 1, 3 44 2;\
+    été 中1 xé-y aé-b1 €\u{a0}=2 0 5, 12 5 1, 3 6 4, 12 10 1, 17 11 5, 10 11 3, 12 14 1, 11 15 1, 12 16 1, 15 17 6, \
+    10 17 3, 12 20 1, 9 21 2, 12 23 1, 2 24 5;\
+    1e5-foo-bar=7 0 3, 12 3 1, 16 4 7, 11 4 3, 12 7 1, 11 8 3;\
+    foo-5a-b-7=15 0 8, 11 0 3, 12 3 1, 9 4 2, 12 6 1, 11 7 1, 12 8 1, 22 9 1;\
+    -1.2.3=12 0 1, 8 1 5;\
+    +1.2.3 1.e5 .5 1..5=12 0 1, 8 1 5, 12 6 1, 22 7 1, 12 8 1, 3 9 2, 12 11 2, 22 13 1, 12 14 1, 22 15 1, 12 16 2, \
+    22 18 1;\
+    a-5 --5 a--b-=1 0 1, 12 1 1, 22 2 1, 12 3 2, 21 5 2, 12 7 1, 1 8 1, 12 9 2, 1 11 1, 12 12 1;\
+    1e5e3 -1e+5 1e+=3 0 5, 12 5 1, 7 6 5, 12 11 1, 3 12 2, 12 14 1;\
+    1.1.1e5=22 0 1, 12 1 1, 7 2 5;\
+    1.1.1.1a=22 0 1, 12 1 1, 22 2 1, 12 3 1, 22 4 1, 12 5 1, 3 6 2;\
+    a--b=1 0 1, 12 1 2, 1 3 1;\
+    =;\
+    \x20=12 0 1;\
+    +7 x=21 0 2, 12 2 1, 1 3 1;\
+    12=22 0 2;\
+    +-1.5, The cat=12 0 1, 20 1 4, 12 5 2, 1 7 3, 12 10 1, 1 11 3";
+
+/// Names of types, and which type each names: its number, and whether its tokens have parts.
+const KINDS: &str = "\
+    asciiword=1 Asciiword;word=2 Word;numword=3 Numword;sfloat=7 Sfloat;version=8 Version;\
+    hword_numpart=9 HwordNumpart;hword_part=10 HwordPart;hword_asciipart=11 HwordAsciipart;blank=12 Blank;\
+    numhword=15 Numhword of parts;asciihword=16 Asciihword of parts;hword=17 Hword of parts;float=20 Float;\
+    int=21 Int;uint=22 Uint;=none;Word=none;words=none";
+
+/// Puts a token behind others.
+fn push_token(text: &mut String, token: &Token) -> Result<(), AllocError> {
+    let between = if text.is_empty() { "" } else { ", " };
+    let kind = token.kind.number();
+    let start = token.start;
+    let length = token.length;
+    write!(text, "{between}{kind} {start} {length}")
 }
 
-const ROWS: [Row; 17] = [
-    Row {
-        text: "foo-bar-beta1",
-        tokens: &[
-            (15, 0, 13),
-            (11, 0, 3),
-            (12, 3, 1),
-            (11, 4, 3),
-            (12, 7, 1),
-            (9, 8, 5),
-        ],
-    },
-    Row {
-        text: "-1.234e56 -1.234 -1234 1234 8.3.0 beta1 1.2.3a",
-        tokens: &[
-            (7, 0, 9),
-            (12, 9, 1),
-            (20, 10, 6),
-            (12, 16, 1),
-            (21, 17, 5),
-            (12, 22, 1),
-            (22, 23, 4),
-            (12, 27, 1),
-            (8, 28, 5),
-            (12, 33, 1),
-            (3, 34, 5),
-            (12, 39, 1),
-            (22, 40, 1),
-            (12, 41, 1),
-            (22, 42, 1),
-            (12, 43, 1),
-            (3, 44, 2),
-        ],
-    },
-    Row {
-        text: "été 中1 xé-y aé-b1 €\u{a0}",
-        tokens: &[
-            (2, 0, 5),
-            (12, 5, 1),
-            (3, 6, 4),
-            (12, 10, 1),
-            (17, 11, 5),
-            (10, 11, 3),
-            (12, 14, 1),
-            (11, 15, 1),
-            (12, 16, 1),
-            (15, 17, 6),
-            (10, 17, 3),
-            (12, 20, 1),
-            (9, 21, 2),
-            (12, 23, 1),
-            (2, 24, 5),
-        ],
-    },
-    Row {
-        text: "1e5-foo-bar",
-        tokens: &[
-            (7, 0, 3),
-            (12, 3, 1),
-            (16, 4, 7),
-            (11, 4, 3),
-            (12, 7, 1),
-            (11, 8, 3),
-        ],
-    },
-    Row {
-        text: "foo-5a-b-7",
-        tokens: &[
-            (15, 0, 8),
-            (11, 0, 3),
-            (12, 3, 1),
-            (9, 4, 2),
-            (12, 6, 1),
-            (11, 7, 1),
-            (12, 8, 1),
-            (22, 9, 1),
-        ],
-    },
-    Row {
-        text: "-1.2.3",
-        tokens: &[(12, 0, 1), (8, 1, 5)],
-    },
-    Row {
-        text: "+1.2.3 1.e5 .5 1..5",
-        tokens: &[
-            (12, 0, 1),
-            (8, 1, 5),
-            (12, 6, 1),
-            (22, 7, 1),
-            (12, 8, 1),
-            (3, 9, 2),
-            (12, 11, 2),
-            (22, 13, 1),
-            (12, 14, 1),
-            (22, 15, 1),
-            (12, 16, 2),
-            (22, 18, 1),
-        ],
-    },
-    Row {
-        text: "a-5 --5 a--b-",
-        tokens: &[
-            (1, 0, 1),
-            (12, 1, 1),
-            (22, 2, 1),
-            (12, 3, 2),
-            (21, 5, 2),
-            (12, 7, 1),
-            (1, 8, 1),
-            (12, 9, 2),
-            (1, 11, 1),
-            (12, 12, 1),
-        ],
-    },
-    Row {
-        text: "1e5e3 -1e+5 1e+",
-        tokens: &[
-            (3, 0, 5),
-            (12, 5, 1),
-            (7, 6, 5),
-            (12, 11, 1),
-            (3, 12, 2),
-            (12, 14, 1),
-        ],
-    },
-    Row {
-        text: "1.1.1e5",
-        tokens: &[(22, 0, 1), (12, 1, 1), (7, 2, 5)],
-    },
-    Row {
-        text: "1.1.1.1a",
-        tokens: &[
-            (22, 0, 1),
-            (12, 1, 1),
-            (22, 2, 1),
-            (12, 3, 1),
-            (22, 4, 1),
-            (12, 5, 1),
-            (3, 6, 2),
-        ],
-    },
-    Row {
-        text: "a--b",
-        tokens: &[(1, 0, 1), (12, 1, 2), (1, 3, 1)],
-    },
-    Row {
-        text: "",
-        tokens: &[],
-    },
-    Row {
-        text: " ",
-        tokens: &[(12, 0, 1)],
-    },
-    Row {
-        text: "+7 x",
-        tokens: &[(21, 0, 2), (12, 2, 1), (1, 3, 1)],
-    },
-    Row {
-        text: "12",
-        tokens: &[(22, 0, 2)],
-    },
-    Row {
-        text: "+-1.5, The cat",
-        tokens: &[
-            (12, 0, 1),
-            (20, 1, 4),
-            (12, 5, 2),
-            (1, 7, 3),
-            (12, 10, 1),
-            (1, 11, 3),
-        ],
-    },
-];
-
-#[test]
-fn rows(rt: HostRuntime) -> Result<(), Fail> {
-    for row in &ROWS {
-        let list = token_list(rt.alloc(), row.text)?;
-        assert_eq!(rt; list.len(), row.tokens.len(), "{:?}", row.text);
-        for (token, (kind, start, length)) in list.iter().zip(row.tokens) {
-            assert_eq!(rt; token.kind.number(), *kind, "{:?}", row.text);
-            assert_eq!(rt; token.start, *start, "{:?}", row.text);
-            assert_eq!(rt; token.length, *length, "{:?}", row.text);
-        }
+/// The tokens of a text.
+pub fn tokens(alloc: Global, asked: &str) -> Result<String, Fail> {
+    let mut text = String::new(alloc);
+    for token in &token_list(alloc, asked)? {
+        push_token(&mut text, token)?;
     }
-    Ok(())
+    Ok(text)
 }
 
-const KINDS: [(TokenType, u8, &str); 15] = [
-    (TokenType::Asciiword, 1, "asciiword"),
-    (TokenType::Word, 2, "word"),
-    (TokenType::Numword, 3, "numword"),
-    (TokenType::Sfloat, 7, "sfloat"),
-    (TokenType::Version, 8, "version"),
-    (TokenType::HwordNumpart, 9, "hword_numpart"),
-    (TokenType::HwordPart, 10, "hword_part"),
-    (TokenType::HwordAsciipart, 11, "hword_asciipart"),
-    (TokenType::Blank, 12, "blank"),
-    (TokenType::Numhword, 15, "numhword"),
-    (TokenType::Asciihword, 16, "asciihword"),
-    (TokenType::Hword, 17, "hword"),
-    (TokenType::Float, 20, "float"),
-    (TokenType::Int, 21, "int"),
-    (TokenType::Uint, 22, "uint"),
-];
-
-#[test]
-fn kinds(rt: HostRuntime) {
-    for (kind, number, name) in &KINDS {
-        assert_eq!(rt; kind.number(), *number);
-        assert_eq!(rt; kind.name(), *name);
-        assert_eq!(rt; TokenType::from_name(name), Some(*kind));
-        assert_eq!(rt; kind.has_parts(), (15..18).contains(number));
+/// The type of a name.
+pub fn kind(alloc: Global, name: &str) -> Result<String, Fail> {
+    let Some(kind) = TokenType::from_name(name) else {
+        return said(alloc, "none");
+    };
+    if kind.name() != name {
+        return said(alloc, "another name");
     }
-    assert_eq!(rt; TokenType::from_name(""), None);
-    assert_eq!(rt; TokenType::from_name("Word"), None);
-    assert_eq!(rt; TokenType::from_name("words"), None);
+    let number = kind.number();
+    let parts = if kind.has_parts() { " of parts" } else { "" };
+    Ok(format!(in alloc; "{number} {kind:?}{parts}")?)
 }
 
+/// Each text has its tokens, and each type its name.
 #[test]
-fn laws() {
-    names_tell_types();
-    numbers_tell_types();
-    one_token_list();
-    tokens_cover();
-    tokens_few();
-    tokens_between();
+fn parsed(rt: HostRuntime) -> Result<(), Fail> {
+    let alloc = rt.alloc();
+    try_rows(&rt, alloc, Kind::Tokens, TOKENS, 17)?;
+    try_rows(&rt, alloc, Kind::TokenKind, KINDS, 18)
 }

@@ -1,13 +1,12 @@
-use std::alloc::{AllocError, Global};
+// Queries: what is printed of texts, and which are refused.
+use crate::kinds::{Kind, try_rows};
+use std::alloc::Global;
 use std::test::Fail;
 use ts_base::{Lexeme, Weights};
-use ts_query::{
-    Node, QueryBuilder, QueryError, TsQuery, distance_is_decimal, fault_has_one_place,
-    fault_is_outside, one_answer, one_value, prints_back,
-};
+use ts_query::{QueryBuilder, QueryError, TsQuery};
 
-/// Texts and what they give, `text=outcome`, with `;` between two; `{x^n}` stands for n times x, and behind `#` stand
-/// steps that join operands.
+/// Texts and what they give; behind `#` stand steps that join operands, and `%` is the query that is written node by
+/// node.
 const ROWS: &str = concat!(
     // What is printed.
     "(fat | rat) & !cat:*A=( 'fat' | 'rat' ) & !'cat':*A;",
@@ -32,30 +31,17 @@ const ROWS: &str = concat!(
     // The limits.
     "a <20000> b=distance too large at 2;",
     "a <0016384> b <99999999999999999999> c <16385> d=distance too large at 14;",
-    "{a^2047} <16385> b=distance too large at 2048;",
-    "b <16384> {a^2047}=lexeme too long at 10;",
-    "b <16384> {a^2046}='b' <16384> '{a^2046}';",
-    "x{|x^16383}='x'{ | 'x'^16383};x{|x^16384}=too many nodes;",
+    "«a^2047» <16385> b=distance too large at 2048;",
+    "b <16384> «a^2047»=lexeme too long at 10;",
+    "b <16384> «a^2046»='b' <16384> '«a^2046»';",
+    "x«|x^16383»='x'« | 'x'^16383»;x«|x^16384»=too many nodes;",
     // Deep texts.
-    "{(^1000000}=syntax error at 1000000;{(^1000000}a{)^1000000}='a';",
-    "{!^1000000}a=too many nodes;{!^32766}'a'={!^32766}'a';",
+    "«(^1000000»=syntax error at 1000000;«(^1000000»a«)^1000000»='a';",
+    "«!^1000000»a=too many nodes;«!^32766»'a'=«!^32766»'a';",
     // Queries that are joined: each step is an operator and an operand, and `!` negates it.
-    "#|fat |rat &!cat=( 'fat' | 'rat' ) & !'cat':*A;#|fat -rat='fat' <-> 'rat';#|!=;#| &fat='fat'",
+    "#|fat |rat &!cat=( 'fat' | 'rat' ) & !'cat':*A;#|fat -rat='fat' <-> 'rat';#|!=;#| &fat='fat';",
+    "%=( 'fat' | 'rat':* ) <2> !'cat'",
 );
-
-/// The text that a row stands for.
-fn expanded(alloc: Global, row: &str) -> Result<String, AllocError> {
-    let mut text = String::new(alloc);
-    for part in row.split('{') {
-        let (repeated, rest) = part.split_once('}').unwrap_or(("", part));
-        let (piece, times) = repeated.split_once('^').unwrap_or(("", "0"));
-        for _ in 0..times.parse::<u32>().unwrap_or(0) {
-            text.push_str(piece)?;
-        }
-        text.push_str(rest)?;
-    }
-    Ok(text)
-}
 
 /// The query of one word, with marks for the word `cat`; the empty query for none.
 fn operand(alloc: Global, word: &str) -> Result<TsQuery, QueryError> {
@@ -71,73 +57,33 @@ fn operand(alloc: Global, word: &str) -> Result<TsQuery, QueryError> {
     Ok(query)
 }
 
+/// The query of one word, negated behind `!`.
+fn signed(alloc: Global, word: &str) -> Result<TsQuery, QueryError> {
+    match word.strip_prefix('!') {
+        Some(word) => operand(alloc, word)?.not(alloc),
+        None => operand(alloc, word),
+    }
+}
+
+/// A query and a step: an operator and an operand.
+fn joined(alloc: Global, query: &TsQuery, step: &str) -> Result<TsQuery, QueryError> {
+    let mut word = step.chars();
+    let sign = word.next();
+    let next = signed(alloc, word.as_str())?;
+    match sign {
+        Some('|') => query.or(alloc, &next),
+        Some('&') => query.and(alloc, &next),
+        _ => query.phrase(alloc, &next, 1),
+    }
+}
+
 /// The query that steps lead to, from the empty query on.
 fn built(alloc: Global, row: &str) -> Result<TsQuery, QueryError> {
     let mut query = TsQuery::empty(alloc);
     for step in row.split(' ') {
-        let mut word = step.chars();
-        let sign = word.next();
-        let negated = word.as_str().strip_prefix('!');
-        let mut next = operand(alloc, negated.unwrap_or(word.as_str()))?;
-        if negated.is_some() {
-            next = next.not(alloc)?;
-        }
-        query = match sign {
-            Some('|') => query.or(alloc, &next)?,
-            Some('&') => query.and(alloc, &next)?,
-            _ => query.phrase(alloc, &next, 1)?,
-        };
+        query = joined(alloc, &query, step)?;
     }
     Ok(query)
-}
-
-/// The query of a row's text.
-fn query_of(alloc: Global, text: &str) -> Result<TsQuery, QueryError> {
-    match text.strip_prefix('#') {
-        Some(row) => built(alloc, row),
-        None => TsQuery::parse(alloc, text),
-    }
-}
-
-/// The printed form of a row's query, or why its text is refused.
-fn outcome(alloc: Global, text: &str) -> Result<String, AllocError> {
-    match query_of(alloc, text) {
-        Ok(query) => query.to_text(alloc),
-        Err(error) => format!(in alloc; "{error}"),
-    }
-}
-
-/// Each row gives its outcome.
-#[test]
-fn rows(rt: HostRuntime) -> Result<(), Fail> {
-    let alloc = rt.alloc();
-    let mut count = 0u32;
-    for row in ROWS.split(';') {
-        let (text, want) = row.split_once('=').unwrap_or((row, "="));
-        let text = expanded(alloc, text)?;
-        let given = outcome(alloc, text.as_str())?;
-        assert_eq!(rt; given.as_str(), expanded(alloc, want)?.as_str(), "{row}");
-        count = count.saturating_add(1);
-    }
-    assert_eq!(rt; count, 61);
-    Ok(())
-}
-
-/// The nodes stand in postfix order.
-#[test]
-fn nodes(rt: HostRuntime) -> Result<(), Fail> {
-    let query = built(rt.alloc(), "|fat |rat &!cat")?;
-    let nodes = [
-        Node::Leaf(0),
-        Node::Leaf(1),
-        Node::Or,
-        Node::Leaf(2),
-        Node::Not,
-        Node::And,
-    ];
-    assert_eq!(rt; query.nodes(), nodes.as_slice());
-    assert_eq!(rt; query.operands().len(), 3);
-    Ok(())
 }
 
 /// A lexeme that is short enough.
@@ -148,7 +94,7 @@ fn lexeme(alloc: Global, text: &str) -> Result<Lexeme, QueryError> {
     }
 }
 
-/// A query that is written node by node.
+/// A query that is written node by node: each operator stands behind its operands.
 fn written(alloc: Global) -> Result<TsQuery, QueryError> {
     let mut builder = QueryBuilder::new(alloc);
     builder.operand(lexeme(alloc, "fat")?, Weights::default(), false)?;
@@ -160,22 +106,45 @@ fn written(alloc: Global) -> Result<TsQuery, QueryError> {
     Ok(builder.finish())
 }
 
-/// Each operator stands behind its operands.
-#[test]
-fn builder(rt: HostRuntime) -> Result<(), Fail> {
-    let query = written(rt.alloc())?;
-    let text = query.to_text(rt.alloc())?;
-    assert_eq!(rt; text.as_str(), "( 'fat' | 'rat':* ) <2> !'cat'");
-    Ok(())
+/// The query of a row's text.
+fn query_of(alloc: Global, text: &str) -> Result<TsQuery, QueryError> {
+    if text == "%" {
+        return written(alloc);
+    }
+    match text.strip_prefix('#') {
+        Some(row) => built(alloc, row),
+        None => TsQuery::parse(alloc, text),
+    }
 }
 
-/// The laws are there to be cited.
+/// The printed form of a query, or why there is none.
+pub fn printed(alloc: Global, query: Result<TsQuery, QueryError>) -> Result<String, Fail> {
+    match query {
+        Ok(query) => Ok(query.to_text(alloc)?),
+        Err(error) => Ok(format!(in alloc; "{error}")?),
+    }
+}
+
+/// The printed form of a row's query, or why its text is refused.
+pub fn outcome(alloc: Global, text: &str) -> Result<String, Fail> {
+    printed(alloc, query_of(alloc, text))
+}
+
+/// The nodes of a row's query, and how many operands it has.
+pub fn nodes(alloc: Global, text: &str) -> Result<String, Fail> {
+    let query = query_of(alloc, text)?;
+    let nodes = query.nodes();
+    let count = query.operands().len();
+    Ok(format!(in alloc; "{nodes:?} {count}")?)
+}
+
+/// The nodes of a query stand in postfix order.
+const NODES: &str = "#|fat |rat &!cat=[Leaf(0), Leaf(1), Or, Leaf(2), Not, And] 3";
+
+/// Each row gives its outcome.
 #[test]
-fn laws() {
-    one_value();
-    one_answer();
-    distance_is_decimal();
-    prints_back();
-    fault_has_one_place();
-    fault_is_outside();
+fn queries(rt: HostRuntime) -> Result<(), Fail> {
+    let alloc = rt.alloc();
+    try_rows(&rt, alloc, Kind::Query, ROWS, 62)?;
+    try_rows(&rt, alloc, Kind::Nodes, NODES, 1)
 }

@@ -1,9 +1,10 @@
 // What thesauri replace, and which lines are refused.
+use crate::kinds::{Kind, try_rows};
+use crate::rows::{cut, push_word, said};
 use std::alloc::{AllocError, Global};
 use std::test::Fail;
-use ts_base::{Answer, Dictionary, Found, Lexeme};
-use ts_synonym::lines_have_one_reading;
-use ts_thesaurus::{LineError, Thesaurus, ThesaurusError, one_fits};
+use ts_base::{Answer, Dictionary, Found, LONGEST_LEXEME, Lexeme};
+use ts_thesaurus::{Thesaurus, ThesaurusError};
 
 /// Has the stop word `the`, doesn't know `no`, and gives each other word as it is, with a mark.
 struct Sub;
@@ -34,166 +35,146 @@ impl Dictionary for Sub {
     }
 }
 
-/// Answers, one for each word between spaces: `?` is a stop word, `!` is unknown, and others have no mark.
+/// An answer of one lexeme without a mark.
+fn lexeme_answer(alloc: Global, word: &str) -> Result<Answer, Fail> {
+    let lexeme = Lexeme::new(alloc, word)?;
+    let mut found = Vec::new(alloc);
+    found.push(Found {
+        lexeme,
+        prefix: false,
+    })?;
+    Ok(Answer::Lexemes(found))
+}
+
+/// Answers, one for each word: `?` is a stop word, `!` is unknown, and others have no mark.
 fn answers_of(alloc: Global, text: &str) -> Result<Vec<Answer>, Fail> {
     let mut answers = Vec::new(alloc);
-    for word in text.split(' ') {
+    for word in text.split_whitespace() {
         let answer = match word {
             "?" => Answer::Stop,
             "!" => Answer::Unknown,
-            _ => {
-                let mut found = Vec::new(alloc);
-                found.push(Found {
-                    lexeme: Lexeme::new(alloc, word)?,
-                    prefix: false,
-                })?;
-                Answer::Lexemes(found)
-            }
+            _ => lexeme_answer(alloc, word)?,
         };
         answers.push(answer)?;
     }
     Ok(answers)
 }
 
-/// Words with spaces between them, each with a star behind it where it has a mark.
-fn text_of(alloc: Global, words: &[Found]) -> Result<String, AllocError> {
-    let mut text = String::new(alloc);
+/// Puts words behind others, each with a star behind it where it has a mark.
+fn push_found(text: &mut String, words: &[Found]) -> Result<(), AllocError> {
     for word in words {
-        if !text.is_empty() {
-            text.push_str(" ")?;
-        }
-        text.push_str(word.lexeme.as_str())?;
-        if word.prefix {
-            text.push_str("*")?;
-        }
+        push_word(text, word.lexeme.as_str())?;
+        text.push_str(if word.prefix { "*" } else { "" })?;
     }
-    Ok(text)
+    Ok(())
 }
 
-/// Lines, answers, how many of them are replaced, and by which words.
-#[derive(Drop)]
-struct Row(&'static str, &'static str, usize, &'static str);
-
-/// Whether the best rule of the lines is that of the row.
-fn is_right(alloc: Global, row: &Row) -> Result<bool, Fail> {
-    let thesaurus = Thesaurus::read(alloc, row.0, &Sub)?;
-    let answers = answers_of(alloc, row.1)?;
-    match thesaurus.best(&answers) {
-        Some(replaced) => {
-            let words = text_of(alloc, replaced.words)?;
-            Ok(replaced.tokens == row.2 && words.as_str() == row.3)
+/// What a dictionary knows of a word.
+pub fn told<D: Dictionary>(alloc: Global, dictionary: &D, word: &str) -> Result<String, Fail> {
+    if word.is_empty() || word.len() > LONGEST_LEXEME {
+        return said(alloc, "no word");
+    }
+    match dictionary.lexize(alloc, word)? {
+        Answer::Unknown => said(alloc, "unknown"),
+        Answer::Stop => said(alloc, "stop"),
+        Answer::Lexemes(found) => {
+            let mut text = String::new(alloc);
+            push_found(&mut text, &found)?;
+            Ok(text)
         }
-        None => Ok(row.2 == 0),
     }
 }
 
-/// The lines of most rows.
+/// The lines of the rows that name none.
 const LINES: &str =
     "new york : *NYC\r\n # none\n\nnew york city:big apple\n? cat : *stopcat\nx y : p q\nx y : r\nred : p\n";
 
-/// The longest rule that fits counts, of equally long ones the last.
-#[test]
-fn best(rt: HostRuntime) -> Result<(), Fail> {
-    let rows = [
-        Row(LINES, "new york city x", 3, "big* apple*"),
-        Row(LINES, "new york new", 2, "NYC"),
-        Row(LINES, "new 7", 0, ""),
-        Row(LINES, "? cat", 2, "stopcat"),
-        Row(LINES, "the cat", 0, ""),
-        Row(LINES, "! cat", 0, ""),
-        Row(LINES, "x y z", 2, "r*"),
-        Row(LINES, "red", 1, "p*"),
-        Row("a b:c : d", "a b", 2, "c* :* d*"),
-        Row("a : ? **b", "a", 1, "?* *b"),
-        Row("a b c : d\na b : e\na b c d : f", "a b c e", 3, "d*"),
-        Row("a b c : d\na b : e", "a b d", 2, "e*"),
-        Row("a : b\nc : d\na : e\nd : f", "a c", 1, "e*"),
-        Row("? ? : a\n? : b", "? ? ?", 2, "a*"),
-    ];
-    for row in &rows {
-        assert!(rt; is_right(rt.alloc(), row)?, "{} of {}", row.1, row.0);
-    }
-    Ok(())
+/// Lines, answers, how many of them are replaced and by which words, or why the lines are refused.
+const BEST: &str = concat!(
+    // The longest rule that fits counts, of equally long ones the last.
+    "@new york city x=3 big* apple*;@new york new=2 NYC;@new 7=none;@? cat=2 stopcat;@the cat=none;@! cat=none;",
+    "@x y z=2 r*;@red=1 p*;a b:c : d@a b=2 c* :* d*;a : ? **b@a=1 ?* *b;",
+    "a b c : d\na b : e\na b c d : f@a b c e=3 d*;a b c : d\na b : e@a b d=2 e*;",
+    "a : b\nc : d\na : e\nd : f@a c=1 e*;? ? : a\n? : b@? ? ?=2 a*;",
+    // The first line that is refused counts, and of its causes a bad line, then a stop word, then an unknown one.
+    "a b\n@=bad line 1;a : b\n : b\n@=bad line 2;a : \t\n@=bad line 1;a : *@=bad line 1;\n\na : b the@=bad line 3;",
+    "the : no@=bad line 1;no the : x@=stop word among the sample words of line 1;",
+    "# no\nno : x\nthe : x@=unknown sample word in line 2;? : *the *no@=none;",
+    // A word of 2046 bytes is read, one of 2047 is bad.
+    "«a^2046» : «a^2046»@«a^2046»=1 «a^2046»*;«a^2047» : b@=bad line 1;b : *«a^2046»@=bad line 1",
+);
+
+/// Lines and answers, and whether phrases go on: as long as some rule begins so.
+const GOING_ON: &str = "@new=yes;@new york=yes;@york=no;@?=yes;@new york city x=no;@=yes;#@=no";
+
+/// The thesaurus of a row's lines, and the row's answers.
+fn read(alloc: Global, lines: &str) -> Result<Thesaurus, ThesaurusError> {
+    Thesaurus::read(alloc, if lines.is_empty() { LINES } else { lines }, &Sub)
 }
 
-/// Phrases go on as long as some rule begins so.
+/// The best rule of a thesaurus.
+fn best_of(alloc: Global, thesaurus: &Thesaurus, text: &str) -> Result<String, Fail> {
+    let answers = answers_of(alloc, text)?;
+    let Some(replaced) = thesaurus.best(&answers) else {
+        return said(alloc, "none");
+    };
+    let tokens = replaced.tokens;
+    let mut text = format!(in alloc; "{tokens}")?;
+    push_found(&mut text, replaced.words)?;
+    Ok(text)
+}
+
+/// The best rule of a row's lines.
+pub fn best(alloc: Global, asked: &str) -> Result<String, Fail> {
+    let (lines, text) = cut(asked);
+    match read(alloc, lines) {
+        Ok(thesaurus) => best_of(alloc, &thesaurus, text),
+        Err(error) => Ok(format!(in alloc; "{error}")?),
+    }
+}
+
+/// Whether a walk along answers goes on.
+fn walks_on(
+    alloc: Global,
+    thesaurus: &Thesaurus,
+    answers: Vec<Answer>,
+) -> Result<bool, AllocError> {
+    let mut walk = thesaurus.walk(alloc);
+    for answer in answers {
+        walk.push(answer)?;
+    }
+    Ok(walk.continues())
+}
+
+/// Whether phrases go on, by the answers and by a walk along them.
+pub fn going_on(alloc: Global, asked: &str) -> Result<String, Fail> {
+    let (lines, text) = cut(asked);
+    let thesaurus = read(alloc, lines)?;
+    let answers = answers_of(alloc, text)?;
+    let goes_on = thesaurus.continues(&answers);
+    if walks_on(alloc, &thesaurus, answers)? != goes_on {
+        return said(alloc, "the walk differs");
+    }
+    said(alloc, if goes_on { "yes" } else { "no" })
+}
+
+/// Dictionaries with words, and what each knows of its word.
+const SINGLES: &str = "thesaurus@new=unknown;sub@the=stop;sub@no=unknown;sub@cat=cat*";
+
+/// What a dictionary knows of a word through its trait.
+pub fn single(alloc: Global, asked: &str) -> Result<String, Fail> {
+    let (dictionary, word) = cut(asked);
+    if dictionary == "sub" {
+        return told(alloc, &Sub, word);
+    }
+    told(alloc, &Thesaurus::new(alloc), word)
+}
+
+/// Thesauri replace phrases; dictionaries answer through their trait.
 #[test]
-fn continues(rt: HostRuntime) -> Result<(), Fail> {
+fn thesauri(rt: HostRuntime) -> Result<(), Fail> {
     let alloc = rt.alloc();
-    let thesaurus = Thesaurus::read(alloc, LINES, &Sub)?;
-    let rows = [
-        ("new", true),
-        ("new york", true),
-        ("york", false),
-        ("?", true),
-        ("new york city x", false),
-    ];
-    for (text, goes_on) in &rows {
-        let answers = answers_of(alloc, text)?;
-        assert_eq!(rt; thesaurus.continues(&answers), *goes_on, "{text}");
-        let mut walk = thesaurus.walk(alloc);
-        for answer in answers {
-            walk.push(answer)?;
-        }
-        assert_eq!(rt; walk.continues(), *goes_on, "{text}");
-    }
-    assert!(rt; thesaurus.continues(&[]));
-    assert!(rt; !Thesaurus::new(alloc).continues(&[]));
-    assert!(rt; matches!(thesaurus.lexize(alloc, "new")?, Answer::Unknown));
-    Ok(())
-}
-
-/// The first line that is refused counts, and of its causes a bad line, then a stop word, then an unknown one.
-#[test]
-fn refused(rt: HostRuntime) -> Result<(), Fail> {
-    let rows = [
-        ("a b\n", Some(ThesaurusError::BadLine { line: 1 })),
-        ("a : b\n : b\n", Some(ThesaurusError::BadLine { line: 2 })),
-        ("a : \t\n", Some(ThesaurusError::BadLine { line: 1 })),
-        ("a : *", Some(ThesaurusError::BadLine { line: 1 })),
-        ("\n\na : b the", Some(ThesaurusError::BadLine { line: 3 })),
-        ("the : no", Some(ThesaurusError::BadLine { line: 1 })),
-        ("no the : x", Some(ThesaurusError::SampleStop { line: 1 })),
-        (
-            "# no\nno : x\nthe : x",
-            Some(ThesaurusError::SampleUnknown { line: 2 }),
-        ),
-        ("? : *the *no", None),
-    ];
-    for (lines, error) in &rows {
-        let read = Thesaurus::read(rt.alloc(), lines, &Sub);
-        assert_eq!(rt; read.err(), *error, "{lines}");
-    }
-    Ok(())
-}
-
-/// A word of 2046 bytes is read, one of 2047 is bad.
-#[test]
-fn long_words(rt: HostRuntime) -> Result<(), Fail> {
-    let alloc = rt.alloc();
-    let mut long = String::new(alloc);
-    for _ in 0..2046 {
-        long.push_str("a")?;
-    }
-    let mut thesaurus = Thesaurus::new(alloc);
-    let line = format!(in alloc; "{long} : {long}")?;
-    assert_eq!(rt; thesaurus.add_line(alloc, line.as_str(), &Sub), Ok(()));
-    let line = format!(in alloc; "{long}a : b")?;
-    assert_eq!(rt;
-        thesaurus.add_line(alloc, line.as_str(), &Sub),
-        Err(LineError::Bad)
-    );
-    let line = format!(in alloc; "b : *{long}")?;
-    assert_eq!(rt;
-        thesaurus.add_line(alloc, line.as_str(), &Sub),
-        Err(LineError::Bad)
-    );
-    Ok(())
-}
-
-/// The laws are there to be cited.
-#[test]
-fn laws() {
-    one_fits();
-    lines_have_one_reading();
+    try_rows(&rt, alloc, Kind::Best, BEST, 26)?;
+    try_rows(&rt, alloc, Kind::GoingOn, GOING_ON, 7)?;
+    try_rows(&rt, alloc, Kind::Told, SINGLES, 4)
 }

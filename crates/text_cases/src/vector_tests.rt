@@ -1,14 +1,12 @@
+// Vectors: what is printed of texts, which are refused, and how they are spelled.
+use crate::kinds::{Kind, try_rows};
+use crate::rows::{expanded, push_number, push_word, said};
 use std::alloc::{AllocError, Global};
 use std::test::Fail;
 use ts_base::{Lexeme, Position, Weight};
-use ts_query::{fault_has_one_place, fault_is_outside};
-use ts_vector::{
-    Joined, TsVector, VectorBytes, VectorError, bad_bytes_are_no_spelling, bad_place_is_one,
-    build_has_one_answer, join_has_one_answer, normal_form_is_one, position_has_its_number,
-    printed_text_is_read, text_has_one_answer, text_has_one_list, text_has_one_value,
-};
+use ts_vector::{Joined, Positions, TsVector, VectorBytes, VectorError};
 
-/// Texts and what they give, `text=outcome`, with `;` between two; `{x^n}` stands for n times x, and `+` joins vectors.
+/// Texts and what they give; `+` joins vectors.
 const ROWS: &str = concat!(
     // What is printed.
     "=; b a\tb ='a' 'b';",
@@ -26,8 +24,8 @@ const ROWS: &str = concat!(
     "a\\=syntax error at 2;'a=syntax error at 2;'a\\'=syntax error at 4;'a''=syntax error at 4;",
     "''=syntax error at 2;x '' a=syntax error at 4;'a' :1=syntax error at 4;",
     // The limits.
-    "x:1 '{a^2046}'='{a^2046}' 'x':1;x:1 '{a^2047}' =lexeme too long at 4;",
-    "x:1 '{a^2047}' y:0=syntax error at 2057;",
+    "x:1 '«a^2046»'='«a^2046»' 'x':1;x:1 '«a^2047»' =lexeme too long at 4;",
+    "x:1 '«a^2047»' y:0=syntax error at 2057;",
     // Joined vectors.
     "a:1 b:3+a:1 c b:2A='a':1,4 'b':3,5A 'c';a+b:2='a' 'b':2;",
     "a:16383+a:1B b:5='a':16383B 'b':16383;+=;c+b+a='a' 'b' 'c';+a:2+='a':2;",
@@ -36,35 +34,44 @@ const ROWS: &str = concat!(
     "a:1+b:x+c:=syntax error at 2",
 );
 
-/// Bytes that are no spelling: the place where they go wrong, and the bytes.
-const BAD_BYTES: &str = concat!(
-    // The end comes too early.
-    "0;3 2 0 0;4 255 255 255 255;8 1 0 0 0 3 0 97 98;",
-    "15 2 0 0 0 1 0 97 1 0 1 192 1 0 98 0;",
-    // A byte too much.
-    "4 0 0 0 0 0;16 2 0 0 0 1 0 97 1 0 1 192 1 0 98 0 0 9;",
-    // The length of a lexeme.
-    "4 1 0 0 0 0 0;4 1 0 0 0 255 7;",
-    // A lexeme that is no text, and one out of order.
-    "6 1 0 0 0 1 0 255 0 0;11 2 0 0 0 1 0 98 0 0 1 0 97 0 0;11 2 0 0 0 1 0 97 0 0 1 0 97 0 0;",
-    // The number of positions.
-    "7 1 0 0 0 1 0 97 1 1;",
-    // No position, and positions out of order.
-    "9 1 0 0 0 1 0 97 1 0 0 192;11 1 0 0 0 1 0 97 2 0 2 0 1 0;11 1 0 0 0 1 0 97 2 0 2 0 2 192",
+/// Texts behind 512 long words, and how many lexemes they have: the content has to stay below the limit.
+const LARGE: &str = concat!(
+    " a:1,1A «b^1020»=514; a:1,1A «b^1020»+a=514;",
+    " a:1,1A «b^1020»+c=vector of 1048576 bytes; a:1,1A «b^1021»=vector of 1048576 bytes",
 );
 
-/// The text that a row stands for.
-fn expanded(alloc: Global, row: &str) -> Result<String, AllocError> {
-    let mut text = String::new(alloc);
-    for part in row.split('{') {
-        let (repeated, rest) = part.split_once('}').unwrap_or(("", part));
-        let (piece, times) = repeated.split_once('^').unwrap_or(("", "0"));
-        for _ in 0..times.parse::<u32>().unwrap_or(0) {
-            text.push_str(piece)?;
-        }
-        text.push_str(rest)?;
-    }
-    Ok(text)
+/// Bytes, and what is read of them where they lie.
+const BYTES: &str = concat!(
+    // The end comes too early.
+    "=bad bytes at 0;2 0 0=bad bytes at 3;255 255 255 255=bad bytes at 4;1 0 0 0 3 0 97 98=bad bytes at 8;",
+    "2 0 0 0 1 0 97 1 0 1 192 1 0 98 0=bad bytes at 15;",
+    // A byte too much.
+    "0 0 0 0 0=bad bytes at 4;2 0 0 0 1 0 97 1 0 1 192 1 0 98 0 0 9=bad bytes at 16;",
+    // The length of a lexeme.
+    "1 0 0 0 0 0=bad bytes at 4;1 0 0 0 255 7=bad bytes at 4;",
+    // A lexeme that is no text, and one out of order.
+    "1 0 0 0 1 0 255 0 0=bad bytes at 6;2 0 0 0 1 0 98 0 0 1 0 97 0 0=bad bytes at 11;",
+    "2 0 0 0 1 0 97 0 0 1 0 97 0 0=bad bytes at 11;",
+    // The number of positions.
+    "1 0 0 0 1 0 97 1 1=bad bytes at 7;",
+    // No position, and positions out of order.
+    "1 0 0 0 1 0 97 1 0 0 192=bad bytes at 9;1 0 0 0 1 0 97 2 0 2 0 1 0=bad bytes at 11;",
+    "1 0 0 0 1 0 97 2 0 2 0 2 192=bad bytes at 11;",
+    // A spelling: how many entries, and of each the number of positions, the first and the last.
+    "2 0 0 0 1 0 97 2 0 1 192 3 0 1 0 98 0 0=2 a 2 1A 3D b 0",
+);
+
+/// Vectors, and their spelling behind a byte that was there before.
+const SPELLED: &str = "'a':1A 'b'=7 2 0 0 0 1 0 97 1 0 1 192 1 0 98 0 0";
+
+/// Of many positions the 256 least are kept at each join, and what follows is behind these; `%` is a vector that is
+/// built of 257 positions.
+const JOINS: &str = "a:1«+a:1^299»+b:1=2 a 256 1D 256D b 1 257D;%=1 a 256 1D 256D";
+
+/// Adds the vector of a text to one before it.
+fn with_part(alloc: Global, value: &TsVector, part: &str) -> Result<TsVector, VectorError> {
+    let part = TsVector::parse(alloc, part)?;
+    value.concat(alloc, &part)
 }
 
 /// The vector of a text; `+` joins one more vector to all before it.
@@ -72,22 +79,32 @@ fn vector(alloc: Global, text: &str) -> Result<TsVector, VectorError> {
     let mut parts = text.split('+');
     let mut value = TsVector::parse(alloc, parts.next().unwrap_or(""))?;
     for part in parts {
-        let part = TsVector::parse(alloc, part)?;
-        value = value.concat(alloc, &part)?;
+        value = with_part(alloc, &value, part)?;
     }
     Ok(value)
 }
 
-/// The same, joined in one value that grows.
+/// A value that begins with the vector of a text.
+fn begun(alloc: Global, text: &str) -> Result<Joined, VectorError> {
+    let first = TsVector::parse(alloc, text)?;
+    match Joined::new(alloc, &first) {
+        Ok(value) => Ok(value),
+        Err(_) => Err(VectorError::OutOfMemory),
+    }
+}
+
+/// Adds the vector of a text to a value that grows.
+fn grown(alloc: Global, value: Joined, part: &str) -> Result<Joined, VectorError> {
+    let part = TsVector::parse(alloc, part)?;
+    value.push(alloc, &part)
+}
+
+/// The vector of a text, joined in one value that grows.
 fn joined(alloc: Global, text: &str) -> Result<TsVector, VectorError> {
     let mut parts = text.split('+');
-    let first = TsVector::parse(alloc, parts.next().unwrap_or(""))?;
-    let Ok(mut value) = Joined::new(alloc, &first) else {
-        return Err(VectorError::OutOfMemory);
-    };
+    let mut value = begun(alloc, parts.next().unwrap_or(""))?;
     for part in parts {
-        let part = TsVector::parse(alloc, part)?;
-        value = value.push(alloc, &part)?;
+        value = grown(alloc, value, part)?;
     }
     match value.finish(alloc) {
         Ok(value) => Ok(value),
@@ -96,175 +113,191 @@ fn joined(alloc: Global, text: &str) -> Result<TsVector, VectorError> {
 }
 
 /// The printed form of a vector, or why it is refused.
-fn printed(alloc: Global, vector: Result<TsVector, VectorError>) -> Result<String, AllocError> {
+pub fn printed(alloc: Global, vector: Result<TsVector, VectorError>) -> Result<String, Fail> {
     match vector {
-        Ok(vector) => vector.to_text(alloc),
-        Err(error) => format!(in alloc; "{error}"),
+        Ok(vector) => Ok(vector.to_text(alloc)?),
+        Err(error) => Ok(format!(in alloc; "{error}")?),
     }
 }
 
-/// The printed form of a text's vector, or why the text is refused.
-fn outcome(alloc: Global, text: &str) -> Result<String, AllocError> {
-    printed(alloc, vector(alloc, text))
+/// How many lexemes a vector has, or why it is refused.
+fn counted(alloc: Global, vector: Result<TsVector, VectorError>) -> Result<String, Fail> {
+    let mut text = String::new(alloc);
+    match vector {
+        Ok(vector) => push_number(&mut text, vector.count())?,
+        Err(error) => write!(text, "{error}")?,
+    }
+    Ok(text)
+}
+
+/// One answer that was given twice.
+fn one_of(alloc: Global, first: String, second: &str) -> Result<String, Fail> {
+    if first.as_str() != second {
+        return said(alloc, "two answers");
+    }
+    Ok(first)
+}
+
+/// The printed form of a row's vector, or why its text is refused.
+pub fn outcome(alloc: Global, text: &str) -> Result<String, Fail> {
+    let given = printed(alloc, joined(alloc, text))?;
+    one_of(alloc, printed(alloc, vector(alloc, text))?, given.as_str())
+}
+
+/// Texts behind 512 long words.
+fn long_text(alloc: Global, behind: &str) -> Result<String, AllocError> {
+    let word = expanded(alloc, "«a^2042»")?;
+    let mut text = String::new(alloc);
+    for k in 1000..1512 {
+        push_number(&mut text, k)?;
+        text.push_str(word.as_str())?;
+    }
+    text.push_str(behind)?;
+    Ok(text)
+}
+
+/// How many lexemes the vector of a text has that stands behind 512 words of 2046 bytes.
+pub fn large(alloc: Global, behind: &str) -> Result<String, Fail> {
+    let text = long_text(alloc, behind)?;
+    let given = counted(alloc, joined(alloc, text.as_str()))?;
+    one_of(
+        alloc,
+        counted(alloc, vector(alloc, text.as_str()))?,
+        given.as_str(),
+    )
+}
+
+/// Puts how many positions there are behind others, the first of them and the last.
+fn push_positions(text: &mut String, positions: Positions<'_>) -> Result<(), AllocError> {
+    push_number(text, positions.len())?;
+    if positions.is_empty() {
+        return Ok(());
+    }
+    let mut rest = positions;
+    if let Some(first) = rest.next() {
+        push_position(text, first)?;
+    }
+    if let Some(last) = rest.last() {
+        push_position(text, last)?;
+    }
+    Ok(())
+}
+
+/// Puts a position behind others.
+fn push_position(text: &mut String, position: Position) -> Result<(), AllocError> {
+    let at = position.at();
+    let weight = position.weight();
+    write!(text, " {at}{weight:?}")
+}
+
+/// The entries of a spelling.
+fn entries(alloc: Global, bytes: &VectorBytes) -> Result<String, Fail> {
+    let mut text = String::new(alloc);
+    push_number(&mut text, bytes.count())?;
+    for entry in bytes.entries() {
+        push_word(&mut text, entry.lexeme())?;
+        push_positions(&mut text, entry.positions())?;
+    }
+    Ok(text)
+}
+
+/// The entries of a vector, by its spelling.
+fn entries_of(alloc: Global, vector: &TsVector) -> Result<String, Fail> {
+    let mut bytes = Vec::new(alloc);
+    vector.encode(&mut bytes)?;
+    entries(alloc, &VectorBytes::new(bytes.as_slice())?)
+}
+
+/// The bytes that numbers stand for.
+fn bytes_of(alloc: Global, numbers: &str) -> Result<Vec<u8>, Fail> {
+    let mut bytes = Vec::new(alloc);
+    for number in numbers.split_ascii_whitespace() {
+        bytes.push(number.parse::<u8>()?)?;
+    }
+    Ok(bytes)
+}
+
+/// What is read of bytes.
+pub fn read(alloc: Global, numbers: &str) -> Result<String, Fail> {
+    let bytes = bytes_of(alloc, numbers)?;
+    match VectorBytes::new(bytes.as_slice()) {
+        Ok(bytes) => entries(alloc, &bytes),
+        Err(error) => Ok(format!(in alloc; "{error}")?),
+    }
+}
+
+/// The numbers of bytes.
+fn numbers_of(alloc: Global, bytes: &[u8]) -> Result<String, Fail> {
+    let mut text = String::new(alloc);
+    for byte in bytes {
+        push_number(&mut text, usize::from(*byte))?;
+    }
+    Ok(text)
+}
+
+/// The spelling of a text's vector behind the byte 7.
+fn spelling(alloc: Global, text: &str) -> Result<Vec<u8>, Fail> {
+    let mut bytes = vec![in alloc; 7u8]?;
+    TsVector::parse(alloc, text)?.encode(&mut bytes)?;
+    Ok(bytes)
+}
+
+/// The spelling of a vector behind the byte 7, where it is read back.
+pub fn spelled(alloc: Global, text: &str) -> Result<String, Fail> {
+    let bytes = spelling(alloc, text)?;
+    let back = TsVector::decode(alloc, bytes.get(1..).unwrap_or(&[]))?.to_text(alloc)?;
+    if back.as_str() != text {
+        return said(alloc, "another vector");
+    }
+    numbers_of(alloc, bytes.as_slice())
+}
+
+/// A vector that is built of 257 positions.
+fn built(alloc: Global) -> Result<TsVector, Fail> {
+    let mut positions = Vec::new(alloc);
+    for k in (1..258u16).rev() {
+        positions.push(Position::new(k, Weight::D))?;
+    }
+    let mut items = Vec::new(alloc);
+    items.push((Lexeme::new(alloc, "a")?, positions))?;
+    Ok(TsVector::build(alloc, items)?)
+}
+
+/// The entries of joined vectors, or of one that is built.
+pub fn joins(alloc: Global, text: &str) -> Result<String, Fail> {
+    if text == "%" {
+        return entries_of(alloc, &built(alloc)?);
+    }
+    entries_of(alloc, &joined(alloc, text)?)
+}
+
+/// A vector without positions.
+pub fn stripped(alloc: Global, text: &str) -> Result<String, Fail> {
+    let vector = TsVector::parse(alloc, text)?;
+    Ok(vector.strip(alloc)?.to_text(alloc)?)
+}
+
+/// A vector with one weight.
+pub fn weighted(alloc: Global, text: &str) -> Result<String, Fail> {
+    let vector = TsVector::parse(alloc, text)?;
+    Ok(vector.set_weight(alloc, Weight::C)?.to_text(alloc)?)
 }
 
 /// Each row gives its outcome.
 #[test]
-fn rows(rt: HostRuntime) -> Result<(), Fail> {
+fn vectors(rt: HostRuntime) -> Result<(), Fail> {
     let alloc = rt.alloc();
-    let mut count = 0u32;
-    for row in ROWS.split(';') {
-        let (text, want) = row.split_once('=').unwrap_or((row, "="));
-        let text = expanded(alloc, text)?;
-        let want = expanded(alloc, want)?;
-        let given = outcome(alloc, text.as_str())?;
-        assert_eq!(rt; given.as_str(), want.as_str(), "{row}");
-        let given = printed(alloc, joined(alloc, text.as_str()))?;
-        assert_eq!(rt; given.as_str(), want.as_str(), "{row}");
-        count = count.saturating_add(1);
-    }
-    assert_eq!(rt; count, 44);
-    Ok(())
+    try_rows(&rt, alloc, Kind::Vector, ROWS, 44)?;
+    try_rows(&rt, alloc, Kind::Large, LARGE, 4)?;
+    try_rows(&rt, alloc, Kind::Stripped, "a:1,2A b='a' 'b'", 1)?;
+    try_rows(&rt, alloc, Kind::Weighted, "a:1,2A b='a':1C,2C 'b'", 1)
 }
 
-/// The content has to stay below the limit.
+/// Vectors are spelled, and read where they lie.
 #[test]
-fn sizes(rt: HostRuntime) -> Result<(), Fail> {
+fn spellings(rt: HostRuntime) -> Result<(), Fail> {
     let alloc = rt.alloc();
-    let word = expanded(alloc, "{a^2042}")?;
-    let mut text = String::new(alloc);
-    for k in 1000..1512 {
-        text.push_str(format!(in alloc; " {k}")?.as_str())?;
-        text.push_str(word.as_str())?;
-    }
-    text.push_str(" a:1,1A ")?;
-    text.push_str(expanded(alloc, "{b^1020}")?.as_str())?;
-    assert_eq!(rt; TsVector::parse(alloc, text.as_str())?.count(), 514);
-    let full = joined(alloc, format!(in alloc; "{text}+a")?.as_str())?;
-    assert_eq!(rt; full.count(), 514);
-    text.push_str("+c")?;
-    let error = joined(alloc, text.as_str()).err();
-    assert_eq!(rt;
-        error,
-        Some(VectorError::VectorTooLarge { bytes: 1_048_576 })
-    );
-    text.truncate(text.len() - 2);
-    text.push_str("b")?;
-    assert_eq!(rt;
-        outcome(alloc, text.as_str())?.as_str(),
-        "vector of 1048576 bytes"
-    );
-    Ok(())
-}
-
-/// A vector is spelled, and read back.
-#[test]
-fn bytes(rt: HostRuntime) -> Result<(), Fail> {
-    let alloc = rt.alloc();
-    let mut out = vec![in alloc; 7u8]?;
-    TsVector::parse(alloc, "'a':1A 'b'")?.encode(&mut out)?;
-    let want = [7u8, 2, 0, 0, 0, 1, 0, 97, 1, 0, 1, 192, 1, 0, 98, 0, 0];
-    assert_eq!(rt; out.as_slice(), want.as_slice());
-    let back = TsVector::decode(alloc, &want[1..])?;
-    assert_eq!(rt; back.to_text(alloc)?.as_str(), "'a':1A 'b'");
-    Ok(())
-}
-
-/// A spelling is read where it lies.
-#[test]
-fn bytes_in_place(rt: HostRuntime) -> Result<(), Fail> {
-    let spelling = [2u8, 0, 0, 0, 1, 0, 97, 2, 0, 1, 192, 3, 0, 1, 0, 98, 0, 0];
-    let bytes = VectorBytes::new(spelling.as_slice())?;
-    assert_eq!(rt; bytes.count(), 2);
-    let mut entries = bytes.entries();
-    if let Some(first) = entries.next() {
-        assert_eq!(rt; first.lexeme(), "a");
-        let mut positions = first.positions();
-        assert!(rt; !positions.is_empty() && positions.len() == 2);
-        assert_eq!(rt; positions.next(), Some(Position::new(1, Weight::A)));
-        assert_eq!(rt; positions.next(), Some(Position::new(3, Weight::D)));
-        assert!(rt; positions.is_empty() && positions.next().is_none());
-    }
-    let second = entries.next();
-    assert!(rt; second.is_some_and(|entry| entry.lexeme() == "b" && entry.positions().is_empty()));
-    assert!(rt; entries.next().is_none());
-    Ok(())
-}
-
-/// Each row is refused at its place.
-#[test]
-fn bad_bytes(rt: HostRuntime) -> Result<(), Fail> {
-    let alloc = rt.alloc();
-    let mut count = 0u32;
-    for row in BAD_BYTES.split(';') {
-        let mut bytes = Vec::new(alloc);
-        let (place, rest) = row.split_once(' ').unwrap_or((row, ""));
-        for number in rest.split_ascii_whitespace() {
-            bytes.push(number.parse::<u8>().unwrap_or(0))?;
-        }
-        let at = place.parse::<usize>().unwrap_or(99);
-        let error = VectorBytes::new(bytes.as_slice()).err();
-        assert_eq!(rt; error, Some(VectorError::BadBytes { at }), "{row}");
-        count = count.saturating_add(1);
-    }
-    assert_eq!(rt; count, 16);
-    Ok(())
-}
-
-/// Of many positions the 256 least are kept.
-#[test]
-fn least_positions(rt: HostRuntime) -> Result<(), Fail> {
-    let alloc = rt.alloc();
-    let mut positions = Vec::new(alloc);
-    for k in 0..257u16 {
-        positions.push(Position::new(257 - k, Weight::D))?;
-    }
-    let mut items = Vec::new(alloc);
-    items.push((Lexeme::new(alloc, "a")?, positions))?;
-    let v = TsVector::build(alloc, items)?;
-    assert!(rt; v.count() == 1);
-    assert_eq!(rt; v.lexeme(0), "a");
-    assert_eq!(rt; v.positions(0).len(), 256);
-    assert_eq!(rt; v.positions(0).last(), Some(&Position::new(256, Weight::D)));
-    Ok(())
-}
-
-/// Of many positions the 256 least are kept at each join, and what follows is behind these.
-#[test]
-fn many_joins(rt: HostRuntime) -> Result<(), Fail> {
-    let alloc = rt.alloc();
-    let text = expanded(alloc, "a:1{+a:1^299}+b:1")?;
-    let v = joined(alloc, text.as_str())?;
-    assert!(rt; v.count() == 2);
-    assert_eq!(rt; v.positions(0).last(), Some(&Position::new(256, Weight::D)));
-    assert_eq!(rt; v.positions(1).last(), Some(&Position::new(257, Weight::D)));
-    Ok(())
-}
-
-/// A vector without positions, and with one weight.
-#[test]
-fn vectors_of_a_vector(rt: HostRuntime) -> Result<(), Fail> {
-    let alloc = rt.alloc();
-    let v = TsVector::parse(alloc, "a:1,2A b")?;
-    assert_eq!(rt; v.strip(alloc)?.to_text(alloc)?.as_str(), "'a' 'b'");
-    let v = v.set_weight(alloc, Weight::C)?;
-    assert_eq!(rt; v.to_text(alloc)?.as_str(), "'a':1C,2C 'b'");
-    Ok(())
-}
-
-/// The laws are there to be cited.
-#[test]
-fn laws() {
-    normal_form_is_one();
-    printed_text_is_read();
-    bad_place_is_one();
-    bad_bytes_are_no_spelling();
-    text_has_one_list();
-    text_has_one_value();
-    fault_has_one_place();
-    fault_is_outside();
-    text_has_one_answer();
-    join_has_one_answer();
-    build_has_one_answer();
-    position_has_its_number();
+    try_rows(&rt, alloc, Kind::Bytes, BYTES, 17)?;
+    try_rows(&rt, alloc, Kind::Spelled, SPELLED, 1)?;
+    try_rows(&rt, alloc, Kind::Joins, JOINS, 2)
 }

@@ -1,0 +1,54 @@
+// Rows of text: what is asked, `=`, and what comes of it.
+use std::alloc::{AllocError, Global};
+use std::test::Fail;
+
+/// Puts a piece behind a text, so many times.
+fn push_times(text: &mut String, piece: &str, times: u32) -> Result<(), AllocError> {
+    for _ in 0..times {
+        text.push_str(piece)?;
+    }
+    Ok(())
+}
+
+/// Puts what a part of a row stands for behind a text.
+fn push_part(text: &mut String, part: &str) -> Result<(), AllocError> {
+    let (repeated, rest) = part.split_once('»').unwrap_or(("", part));
+    let (piece, times) = repeated.split_once('^').unwrap_or(("", "0"));
+    push_times(text, piece, times.parse::<u32>().unwrap_or(0))?;
+    text.push_str(rest)
+}
+
+/// The text that a row stands for.
+pub fn expanded(alloc: Global, row: &str) -> Result<String, AllocError> {
+    let mut text = String::new(alloc);
+    for part in row.split('«') {
+        push_part(&mut text, part)?;
+    }
+    text.as_str().replace(alloc, "~", "\"")
+}
+
+/// What stands before and behind the first `@`.
+pub fn cut(asked: &str) -> (&str, &str) {
+    asked.split_once('@').unwrap_or((asked, ""))
+}
+
+/// A text as an answer.
+pub fn said(alloc: Global, text: &str) -> Result<String, Fail> {
+    Ok(String::from_str(alloc, text)?)
+}
+
+/// Puts a word behind others.
+pub fn push_word(text: &mut String, word: &str) -> Result<(), AllocError> {
+    if !text.is_empty() {
+        text.push_str(" ")?;
+    }
+    text.push_str(word)
+}
+
+/// Puts a number behind words.
+pub fn push_number(text: &mut String, number: usize) -> Result<(), AllocError> {
+    if !text.is_empty() {
+        text.push_str(" ")?;
+    }
+    write!(text, "{number}")
+}
