@@ -1,30 +1,82 @@
+// The device in memory by its calls, and its images after a crash; the source and the sink in memory.
 ghost use Rattle.std.specs.Prelude.{◌≤◌};
 ghost use Rattle.disk_trait.specs.MemoryDisk.{clock_of};
 
+use crate::rows::{all_hold, bytes_of, long, number, numbers, word};
 use disk_trait::{Disk, Failed, File, MemoryDisk, MemorySink, MemorySource, Sink, Source};
 use std::alloc::Global;
-use std::process::Abort;
 use std::test::Fail;
 
-/// A call of a device in memory, or a look at it, with what it gives.
-#[derive(Clone, Copy)]
-enum Step<'a> {
-    /// A write of these bytes at a place, and whether it is done.
-    Write(File, u64, &'a [u8], bool),
-    /// A sync, and whether it is done.
-    Sync(File, bool),
-    /// A write that is synced at once, and is done.
-    Through(File, u64, &'a [u8]),
-    /// A length, where it is told.
-    Length(File, Option<u64>),
-    /// What a read gives of a whole short file.
-    Read(File, &'a [u8]),
-    /// A file in the image of a moment and a pick.
-    Image(File, u64, u64, &'a [u8]),
-    /// How many calls have failed, and how many there were.
-    Counts(u64, u64),
-    /// Another list of the calls that fail.
-    Fails(&'a [u64]),
+/// Calls of a device with what each gives. `new` begins another device, with the numbers of the calls that fail;
+/// `image` looks at a file in the image of a moment and a pick; `counts` says how many calls have failed, and how
+/// many there were.
+///
+/// A write that was not synced is left out by pick 0, done by 1, or other bytes. An image is of its moment. A
+/// failed write is in images and in no read. A sync settles its own file. From 3 on a pick draws bytes.
+const CALLS: &str = "\
+    new
+    write log 0 01020304 ok
+    sync log ok
+    write log 1 0909 ok
+    write log 5 0707 ok
+    counts 0 4
+    image log 4 0 01020304
+    image log 4 1 01090904000707
+    image log 4 2 01010104000101
+    new
+    write log 0 05 ok
+    sync log ok
+    write log 0 06 ok
+    counts 0 3
+    image log 0 0
+    image log 0 1
+    image log 0 2
+    image log 0 3
+    image log 1 0
+    image log 1 1 05
+    image log 2 0 05
+    image log 2 1 05
+    image log 2 2 05
+    image log 2 3 05
+    image log 3 0 05
+    image log 3 1 06
+    image log 3 2 01
+    new 2
+    write log 0 05 ok
+    write log 0 06 fails
+    counts 1 2
+    read log 05
+    counts 1 3
+    image log 3 1 06
+    fails 4 5
+    sync log fails
+    image log 4 1 06
+    length log fails
+    length log 1
+    counts 3 6
+    sync log ok
+    image log 7 1 05
+    new
+    write pages 0 08 ok
+    through log 0 07 ok
+    counts 0 3
+    image log 3 0 07
+    image pages 3 0
+    image pages 3 1 08
+    new
+    through log 0 01020304 ok
+    write log 1 0909 ok
+    write log 5 0707 ok
+    draws
+";
+
+/// The file with this name.
+fn file_of(name: &str) -> File {
+    if name == "pages" {
+        File::Pages
+    } else {
+        File::Log
+    }
 }
 
 /// What a read of a whole short file gives.
@@ -49,148 +101,104 @@ fn left(
     content(alloc, &mut image, file)
 }
 
-/// Whether a file of an image has these bytes. No image is of a moment to come.
-fn leaves(
-    alloc: Global,
-    disk: &MemoryDisk,
-    file: File,
-    moment: u64,
-    pick: u64,
-    bytes: &[u8],
-) -> Result<bool, Fail> {
+/// Whether a file of the image of a moment and a pick has these bytes. No image is of a moment to come.
+fn leaves(alloc: Global, disk: &MemoryDisk, file: File, words: &str) -> Result<bool, Fail> {
+    let (moment, rest) = word(words);
+    let (pick, bytes) = word(rest);
+    let moment = long(moment);
     if disk.calls() < moment {
         return Ok(false);
     }
-    Ok(left(alloc, disk, file, moment, pick)?.as_slice() == bytes)
+    Ok(left(alloc, disk, file, moment, long(pick))? == bytes_of(alloc, bytes)?)
 }
 
-/// Whether a write at a small place is done.
-fn writes(disk: &mut MemoryDisk, file: File, at: u64, bytes: &[u8]) -> bool {
-    at <= 1000 && bytes.len() <= 1000 && disk.write_at(file, at, bytes).is_ok()
+/// Whether the picks 3 and 99 draw other bytes, in the ranges that were not synced alone.
+fn draws(alloc: Global, disk: &MemoryDisk) -> Result<bool, Fail> {
+    let drawn = left(alloc, disk, File::Log, disk.calls(), 3)?;
+    let other = left(alloc, disk, File::Log, disk.calls(), 99)?;
+    let kept = [drawn.first(), drawn.get(3), drawn.get(4)] == [Some(&1), Some(&4), Some(&0)];
+    Ok(kept && drawn.len() == 7 && drawn != other)
 }
 
-/// Whether a write at a small place is done and synced.
-fn writes_through(disk: &mut MemoryDisk, file: File, at: u64, bytes: &[u8]) -> bool {
-    at <= 1000 && bytes.len() <= 1000 && disk_trait::write_and_sync(disk, file, at, bytes).is_ok()
+/// Whether a write of these bytes at a small place is done, and synced where it goes through, as is said after
+/// them.
+fn writes(
+    alloc: Global,
+    disk: &mut MemoryDisk,
+    file: File,
+    words: &str,
+    through: bool,
+) -> Result<bool, Fail> {
+    let (at, rest) = word(words);
+    let (bytes, done) = word(rest);
+    let at = u64::from(number(at));
+    let bytes = bytes_of(alloc, bytes)?;
+    if bytes.len() > 1000 {
+        return Ok(false);
+    }
+    let result = if through {
+        disk_trait::write_and_sync(disk, file, at, &bytes)
+    } else {
+        disk.write_at(file, at, &bytes)
+    };
+    Ok(result.is_ok() == (done == "ok"))
 }
 
-/// Whether a step gives what its row says.
-fn holds(alloc: Global, disk: &mut MemoryDisk, step: Step) -> Result<bool, Fail> {
-    match step {
-        Step::Write(file, at, bytes, done) => Ok(writes(disk, file, at, bytes) == done),
-        Step::Sync(file, done) => Ok(disk.sync(file).is_ok() == done),
-        Step::Through(file, at, bytes) => Ok(writes_through(disk, file, at, bytes)),
-        Step::Length(file, told) => Ok(disk.length(file).ok() == told),
-        Step::Read(file, bytes) => Ok(content(alloc, disk, file)?.as_slice() == bytes),
-        Step::Image(file, moment, pick, bytes) => leaves(alloc, disk, file, moment, pick, bytes),
-        Step::Counts(faults, calls) => Ok(disk.faults() == faults && disk.calls() == calls),
-        Step::Fails(calls) => {
-            disk.set_fails(calls.to_vec(alloc)?);
-            Ok(true)
-        }
+/// Whether a look at a device gives what its row says.
+fn tells(alloc: Global, disk: &MemoryDisk, verb: &str, words: &str) -> Result<bool, Fail> {
+    let (first, rest) = word(words);
+    match verb {
+        "draws" => draws(alloc, disk),
+        "counts" => Ok(disk.faults() == long(first) && disk.calls() == long(rest)),
+        _ => leaves(alloc, disk, file_of(first), rest),
     }
 }
 
-/// Each step gives what its row says, from a new device on of which these calls fail.
-fn follow(rt: &impl Abort, alloc: Global, fails: &[u64], steps: &[Step]) -> Result<(), Fail> {
-    let mut disk = MemoryDisk::new(alloc, fails.to_vec(alloc)?);
-    for (row, step) in steps.iter().enumerate() {
-        assert!(rt; holds(alloc, &mut disk, *step)?, "row {row}");
+/// Whether a call of a file gives what its row says.
+fn gives_file(alloc: Global, disk: &mut MemoryDisk, verb: &str, words: &str) -> Result<bool, Fail> {
+    let (first, rest) = word(words);
+    let file = file_of(first);
+    match verb {
+        "write" => writes(alloc, disk, file, rest, false),
+        "through" => writes(alloc, disk, file, rest, true),
+        "sync" => Ok(disk.sync(file).is_ok() == (rest == "ok")),
+        "length" => Ok(disk.length(file).ok() == rest.parse().ok()),
+        _ => Ok(content(alloc, disk, file)? == bytes_of(alloc, rest)?),
     }
-    Ok(())
 }
 
-/// Each pick gives its image: a write that was not synced is left out, done, or other bytes.
-#[test]
-fn each_pick_gives_its_image(rt: HostRuntime) -> Result<(), Fail> {
-    let steps = [
-        Step::Write(File::Log, 0, &[1, 2, 3, 4], true),
-        Step::Sync(File::Log, true),
-        Step::Write(File::Log, 1, &[9, 9], true),
-        Step::Write(File::Log, 5, &[7, 7], true),
-        Step::Counts(0, 4),
-        Step::Image(File::Log, 4, 0, &[1, 2, 3, 4]),
-        Step::Image(File::Log, 4, 1, &[1, 9, 9, 4, 0, 7, 7]),
-        Step::Image(File::Log, 4, 2, &[1, 1, 1, 4, 0, 1, 1]),
-    ];
-    follow(&rt, rt.alloc(), &[], &steps)
+/// Whether a row holds.
+fn holds(alloc: Global, disk: &mut MemoryDisk, row: &str) -> Result<bool, Fail> {
+    let (verb, words) = word(row);
+    match verb {
+        "new" => *disk = MemoryDisk::new(alloc, numbers(alloc, words)?),
+        "fails" => disk.set_fails(numbers(alloc, words)?),
+        "image" | "draws" | "counts" => return tells(alloc, disk, verb, words),
+        _ => return gives_file(alloc, disk, verb, words),
+    }
+    Ok(true)
 }
 
-/// An image is of its moment.
 #[test]
-fn an_image_is_of_its_moment(rt: HostRuntime) -> Result<(), Fail> {
-    let steps = [
-        Step::Write(File::Log, 0, &[5], true),
-        Step::Sync(File::Log, true),
-        Step::Write(File::Log, 0, &[6], true),
-        Step::Counts(0, 3),
-        Step::Image(File::Log, 0, 0, &[]),
-        Step::Image(File::Log, 0, 1, &[]),
-        Step::Image(File::Log, 0, 2, &[]),
-        Step::Image(File::Log, 0, 3, &[]),
-        Step::Image(File::Log, 1, 0, &[]),
-        Step::Image(File::Log, 1, 1, &[5]),
-        Step::Image(File::Log, 2, 0, &[5]),
-        Step::Image(File::Log, 2, 1, &[5]),
-        Step::Image(File::Log, 2, 2, &[5]),
-        Step::Image(File::Log, 2, 3, &[5]),
-        Step::Image(File::Log, 3, 0, &[5]),
-        Step::Image(File::Log, 3, 1, &[6]),
-        Step::Image(File::Log, 3, 2, &[1]),
-    ];
-    follow(&rt, rt.alloc(), &[], &steps)
-}
-
-/// A failed write is in images and in no read, and each failed call is counted.
-#[test]
-fn a_failed_write_is_in_images_and_in_no_read(rt: HostRuntime) -> Result<(), Fail> {
-    let steps = [
-        Step::Write(File::Log, 0, &[5], true),
-        Step::Write(File::Log, 0, &[6], false),
-        Step::Counts(1, 2),
-        Step::Read(File::Log, &[5]),
-        Step::Counts(1, 3),
-        Step::Image(File::Log, 3, 1, &[6]),
-        Step::Fails(&[4, 5]),
-        Step::Sync(File::Log, false),
-        Step::Image(File::Log, 4, 1, &[6]),
-        Step::Length(File::Log, None),
-        Step::Length(File::Log, Some(1)),
-        Step::Counts(3, 6),
-        Step::Sync(File::Log, true),
-        Step::Image(File::Log, 7, 1, &[5]),
-    ];
-    follow(&rt, rt.alloc(), &[2], &steps)
-}
-
-/// A sync settles its own file.
-#[test]
-fn a_sync_settles_its_own_file(rt: HostRuntime) -> Result<(), Fail> {
-    let steps = [
-        Step::Write(File::Pages, 0, &[8], true),
-        Step::Through(File::Log, 0, &[7]),
-        Step::Counts(0, 3),
-        Step::Image(File::Log, 3, 0, &[7]),
-        Step::Image(File::Pages, 3, 0, &[]),
-        Step::Image(File::Pages, 3, 1, &[8]),
-    ];
-    follow(&rt, rt.alloc(), &[], &steps)
-}
-
-/// From 3 on a pick draws bytes: others for another pick, and in the ranges alone.
-#[test]
-fn a_pick_draws_bytes(rt: HostRuntime) -> Result<(), Fail> {
+fn a_device_gives_what_was_written(rt: HostRuntime) -> Result<(), Fail> {
     let alloc = rt.alloc();
     let mut disk = MemoryDisk::new(alloc, Vec::new(alloc));
-    disk_trait::write_and_sync(&mut disk, File::Log, 0, &[1, 2, 3, 4])?;
-    disk.write_at(File::Log, 1, &[9, 9])?;
-    disk.write_at(File::Log, 5, &[7, 7])?;
-    let drawn = left(alloc, &disk, File::Log, disk.calls(), 3)?;
-    assert_eq!(rt; drawn.len(), 7);
-    assert_eq!(rt; (drawn[0], drawn[3], drawn[4]), (1, 4, 0));
-    assert_ne!(rt; drawn, left(alloc, &disk, File::Log, disk.calls(), 99)?);
-    Ok(())
+    all_hold(&rt, CALLS, |row| holds(alloc, &mut disk, row))
 }
+
+/// Images of the log that `write_much` leaves: a moment, a pick and a byte, how long the log is, and how many bytes
+/// are that.
+const MUCH: &str = "\
+    3999 0 7 99950 99950
+    3999 1 7 100000 100000
+    3999 2 1 100000 50
+    3998 0 7 99950 99950
+    3998 2 1 99950 0
+    2000 1 7 50000 50000
+    1999 0 7 49950 49950
+    1999 1 7 50000 50000
+    0 1 7 0 0
+";
 
 /// 100,000 bytes by 2,000 writes, each with a sync but for the last.
 fn write_much(disk: &mut MemoryDisk, piece: &[u8; 50]) -> Result<(), Failed> {
@@ -203,82 +211,81 @@ fn write_much(disk: &mut MemoryDisk, piece: &[u8; 50]) -> Result<(), Failed> {
     Ok(())
 }
 
-/// The length of the log in an image, and how many of its bytes are these.
-fn count_left(
-    alloc: Global,
-    disk: &MemoryDisk,
-    moment: u64,
-    pick: u64,
-    byte: u8,
-) -> Result<(usize, usize), Fail> {
+/// How many of the bytes are this one.
+fn count_of(bytes: &[u8], byte: u32) -> usize {
+    bytes.iter().filter(|b| u32::from(**b) == byte).count()
+}
+
+/// Whether an image is as its row says.
+fn is_left(alloc: Global, disk: &MemoryDisk, row: &str) -> Result<bool, Fail> {
+    let (moment, rest) = word(row);
+    let (pick, rest) = word(rest);
+    let (byte, rest) = word(rest);
+    let (len, count) = word(rest);
+    let moment = long(moment);
     if disk.calls() < moment {
-        return Ok((0, 0));
+        return Ok(false);
     }
-    let mut image = disk.image(alloc, moment, pick)?;
+    let mut image = disk.image(alloc, moment, long(pick))?;
     let mut bytes = vec![in alloc; 0u8; 100_001]?;
     let n = image.read(File::Log, 0, &mut bytes)?;
     bytes.truncate(n);
-    Ok((n, bytes.iter().filter(|b| **b == byte).count()))
+    let wanted = (number(len) as usize, number(count) as usize);
+    Ok((n, count_of(&bytes, number(byte))) == wanted)
 }
 
-/// Much is written, and its images are had.
 #[test]
 fn images_of_much(rt: HostRuntime) -> Result<(), Fail> {
     let alloc = rt.alloc();
     let mut disk = MemoryDisk::new(alloc, Vec::new(alloc));
     write_much(&mut disk, &[7; 50])?;
     assert_eq!(rt; (disk.calls(), disk.length(File::Log)), (3999, Ok(100_000)));
-    let rows = [
-        (3999, 0, 7, 99_950, 99_950),
-        (3999, 1, 7, 100_000, 100_000),
-        (3999, 2, 1, 100_000, 50),
-        (3998, 0, 7, 99_950, 99_950),
-        (3998, 2, 1, 99_950, 0),
-        (2000, 1, 7, 50_000, 50_000),
-        (1999, 0, 7, 49_950, 49_950),
-        (1999, 1, 7, 50_000, 50_000),
-        (0, 1, 7, 0, 0),
-    ];
-    for (moment, pick, byte, len, count) in rows {
-        let got = count_left(alloc, &disk, moment, pick, byte)?;
-        assert_eq!(rt; got, (len, count), "at {moment}, pick {pick}");
-    }
-    Ok(())
+    all_hold(&rt, MUCH, |row| is_left(alloc, &disk, row))
 }
 
-/// A source gives pieces.
+/// How many bytes each read of four gives of 1, 2 and 3, by pieces of two, where the second fails; and what is then
+/// read.
+const READS: &str = "\
+    2 01020000
+    fails 01020000
+    1 03020000
+    0 03020000
+";
+
+/// Writes to a sink whose second call fails: the bytes, and how many are taken.
+const WRITES: &str = "\
+    6162 2
+    63 fails
+    64 1
+";
+
+/// Whether a read gives what its row says.
+fn gives(
+    alloc: Global,
+    source: &mut MemorySource,
+    buf: &mut [u8],
+    row: &str,
+) -> Result<bool, Fail> {
+    let (count, bytes) = word(row);
+    let read = source.read(buf).ok();
+    Ok(read == count.parse().ok() && bytes_of(alloc, bytes)?.as_slice() == buf)
+}
+
+/// Whether a write is taken as its row says.
+fn takes(alloc: Global, sink: &mut MemorySink, row: &str) -> Result<bool, Fail> {
+    let (bytes, count) = word(row);
+    Ok(sink.write(&bytes_of(alloc, bytes)?).ok() == count.parse().ok())
+}
+
 #[test]
-fn a_source_gives_pieces(rt: HostRuntime) -> Result<(), Fail> {
+fn a_source_gives_and_a_sink_takes(rt: HostRuntime) -> Result<(), Fail> {
     let alloc = rt.alloc();
     let mut source = MemorySource::new(vec![in alloc; 1u8, 2, 3]?, vec![in alloc; 2u64]?, 2);
     let mut buf = [0u8; 4];
-    let rows = [
-        (Ok(2), [1, 2, 0, 0]),
-        (Err(Failed), [1, 2, 0, 0]),
-        (Ok(1), [3, 2, 0, 0]),
-        (Ok(0), [3, 2, 0, 0]),
-    ];
-    for (row, wanted) in rows.iter().enumerate() {
-        let got = source.read(&mut buf);
-        assert!(rt; got == wanted.0 && buf == wanted.1, "row {row}");
-    }
-    Ok(())
-}
-
-/// A sink keeps what it took.
-#[test]
-fn a_sink_keeps_what_it_took(rt: HostRuntime) -> Result<(), Fail> {
-    let alloc = rt.alloc();
+    all_hold(&rt, READS, |row| gives(alloc, &mut source, &mut buf, row))?;
     let mut sink = MemorySink::new(alloc, vec![in alloc; 2u64]?);
-    let rows: [(&[u8], Result<usize, Failed>); 3] = [
-        (b"ab", Ok(2)),
-        (b"c", Err(Failed)),
-        (b"d", Ok(1)),
-    ];
-    for (row, wanted) in rows.iter().enumerate() {
-        assert!(rt; sink.write(wanted.0) == wanted.1, "row {row}");
-    }
-    assert_eq!(rt; sink.bytes(), b"abd".as_slice());
+    all_hold(&rt, WRITES, |row| takes(alloc, &mut sink, row))?;
+    assert!(rt; sink.bytes() == b"abd".as_slice());
     Ok(())
 }
 
@@ -293,8 +300,8 @@ fn much_is_given_and_taken(rt: HostRuntime) -> Result<(), Fail> {
         let n = source.read(&mut buf)?;
         sink.write(&buf[..n])?;
     }
-    assert_eq!(rt; source.read(&mut buf), Ok(0));
-    assert_eq!(rt; sink.bytes().iter().filter(|b| **b == 7).count(), 100_000);
-    assert_eq!(rt; sink.bytes().len(), 100_000);
+    let last = source.read(&mut buf);
+    let taken = (sink.bytes().len(), count_of(sink.bytes(), 7));
+    assert_eq!(rt; (last, taken), (Ok(0), (100_000, 100_000)));
     Ok(())
 }

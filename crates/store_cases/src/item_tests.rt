@@ -1,56 +1,72 @@
+// Item lists, written and read, and bytes that are none.
+ghost use Rattle.page_types.specs.Items.{AreItems};
+
+use crate::rows::{all_hold, bytes_of, cut, number, numbers, word};
 use posting_code::{Items, ListError, encode_items};
+use std::alloc::{AllocError, Global};
 use std::test::Fail;
 
-const EXAMPLE: [u8; 7] = [0x01, 0x7f, 0x80, 0x01, 0x80, 0x80, 0x01];
+/// Bytes with the items of their list, or with the place where they are none.
+const LISTS: &str = "\
+    01 7f 8001 808001 | 1 128 256 16640
+    |
+    ffffffff07 | 2147483647
+    8000 | bad 0
+    00 | bad 0
+    0100 | bad 1
+    80 | bad 1
+    0180 | bad 2
+    0581800001 | bad 1
+    ffffffff08 | bad 0
+    ffffffff0701 | bad 5
+    808080808001 | bad 0
+    01808080808080 | bad 7
+";
+
+/// Whether these are the items of a list, the last one and their number too.
+fn has_items(alloc: Global, list: Items, wanted: &[u64]) -> Result<bool, AllocError> {
+    let count = list.len();
+    let last = u64::from(list.last_item());
+    let mut read = Vec::new(alloc);
+    for item in list {
+        read.push(u64::from(item))?;
+    }
+    Ok(
+        count == wanted.len()
+            && read.as_slice() == wanted
+            && wanted.last().is_none_or(|w| *w == last),
+    )
+}
+
+/// Whether the bytes of a row are the list that it says, or are refused at its place.
+fn is_list(alloc: Global, row: &str) -> Result<bool, Fail> {
+    let (words, tells) = cut(row);
+    let (bad, place) = word(tells);
+    let bytes = bytes_of(alloc, words)?;
+    match Items::new(&bytes) {
+        Ok(list) => Ok(has_items(alloc, list, &numbers(alloc, tells)?)?),
+        Err(ListError::BadList { at }) => Ok(bad == "bad" && at == number(place) as usize),
+    }
+}
+
+/// Appends the list of items, once more where that is refused.
+fn put_items(items: &[u32], out: &mut Vec<u8>) -> Result<(), AllocError>
+    requires { AreItems items.now }
+{
+    match encode_items(items, out) {
+        Ok(()) => Ok(()),
+        Err(_) => encode_items(items, out),
+    }
+}
 
 #[test]
-fn worked_lists(rt: HostRuntime) -> Result<(), Fail> {
+fn item_lists_are_read_and_written(rt: HostRuntime) -> Result<(), Fail> {
     let alloc = rt.alloc();
+    all_hold(&rt, LISTS, |row| is_list(alloc, row))?;
     let mut out = Vec::new(alloc);
-    encode_items(&[1, 128, 256, 16640], &mut out)?;
-    assert!(rt; out.as_slice() == EXAMPLE.as_slice());
-    out.clear();
-    encode_items(&[], &mut out)?;
-    assert!(rt; out.is_empty());
-    encode_items(&[2_147_483_647], &mut out)?;
-    assert!(rt; out.as_slice() == [0xff, 0xff, 0xff, 0xff, 0x07].as_slice());
+    put_items(&[1, 128, 256, 16640], &mut out)?;
+    put_items(&[], &mut out)?;
+    put_items(&[2_147_483_647], &mut out)?;
+    assert!(rt; out.as_slice() == b"\x01\x7f\x80\x01\x80\x80\x01\xff\xff\xff\xff\x07".as_slice());
     Ok(())
-}
-
-#[test]
-fn items_of_lists(rt: HostRuntime) -> Result<(), Fail> {
-    let alloc = rt.alloc();
-    for (bytes, items) in [
-        (&EXAMPLE[..], &[1u32, 128, 256, 16640][..]),
-        (&[][..], &[][..]),
-        (&[0xff, 0xff, 0xff, 0xff, 0x07][..], &[2_147_483_647][..]),
-    ] {
-        let list = Items::new(bytes)?;
-        assert_eq!(rt; list.len(), items.len());
-        assert!(rt; items.is_empty() || items.last() == Some(&list.last_item()));
-        let mut read = Vec::new(alloc);
-        for item in list {
-            read.push(item)?;
-        }
-        assert!(rt; read.as_slice() == items);
-    }
-    Ok(())
-}
-
-#[test]
-fn places_of_faults(rt: HostRuntime) {
-    for (bytes, place) in [
-        (&[0x80, 0x00][..], 0),
-        (&[0x00][..], 0),
-        (&[0x01, 0x00][..], 1),
-        (&[0x80][..], 1),
-        (&[0x01, 0x80][..], 2),
-        (&[0x05, 0x81, 0x80, 0x00, 0x01][..], 1),
-        (&[0xff, 0xff, 0xff, 0xff, 0x08][..], 0),
-        (&[0xff, 0xff, 0xff, 0xff, 0x07, 0x01][..], 5),
-        (&[0x80, 0x80, 0x80, 0x80, 0x80, 0x01][..], 0),
-        (&[0x01, 0x80, 0x80, 0x80, 0x80, 0x80, 0x80][..], 7),
-    ] {
-        assert!(rt; matches!(Items::new(bytes), Err(ListError::BadList { at }) if at == place));
-    }
 }

@@ -1,11 +1,13 @@
+// The journal of a store: created, logged to, flushed and opened again.
 ghost use Rattle.std.specs.Prelude.{◌≡◌, []};
 
+use crate::rows::cut;
 use crate::silent::Silent;
 use buffer_frames::{Journal, LogError, OpenFault, PageMap, open};
 use core_state::Settings;
 use disk_trait::{Disk, File, MemoryDisk};
 use page_types::{Changes, Kind, Record};
-use std::alloc::Global;
+use std::alloc::{AllocError, Global};
 use std::test::Fail;
 
 /// The sizes of a store.
@@ -17,36 +19,29 @@ const SETTINGS: Settings = Settings {
     xid_limit: 1 << 24,
 };
 
+/// What is done with a journal, and what it tells then: how many records there are, the number of the next, how
+/// many commits there are and how many are flushed, a fault, and the kinds of the first three pages, where they
+/// were there at the opening.
+///
+/// A new store has its first record waiting. Where it was flushed the next opening reads it, and owes an Abort,
+/// which the records of an insert follow.
+const CALLS: &str = "\
+    look | 1 2 0 0 None [None, None, None]
+    open | 1 2 0 0 None [None, None, None]
+    flush | 1 2 0 0 None [None, None, None]
+    open | 1 3 0 0 None [Some(1), Some(5), None]
+    insert | 5 6 1 0 None [Some(1), Some(5), None]
+    insert | 8 9 2 0 None [Some(1), Some(5), None]
+    flush | 8 9 2 2 None [Some(1), Some(5), None]
+    open | 8 10 2 2 None [Some(1), Some(5), None]
+";
+
 /// The journal of a device, and the pages of its log.
 fn opened<D: Disk + Drop>(alloc: Global, disk: D) -> Result<(Journal<D>, PageMap), OpenFault> {
     match open(alloc, disk, &SETTINGS) {
         Ok(opened) => Ok(opened),
         Err((_, fault)) => Err(fault),
     }
-}
-
-/// The kinds of the first three pages, where they are there.
-fn kinds(pages: &PageMap) -> [Option<u8>; 3] {
-    [0, 1, 2].map(|page| pages.get(page).and_then(|bytes| bytes.first().copied()))
-}
-
-/// A new store has its first record waiting. Where it was flushed the next opening reads it, and owes an Abort.
-#[test]
-fn a_journal_is_opened_again(rt: HostRuntime) -> Result<(), Fail> {
-    let alloc = rt.alloc();
-    let disk = MemoryDisk::new(alloc, Vec::new(alloc));
-    let (journal, pages) = opened(alloc, disk)?;
-    assert_eq!(rt; kinds(&pages), [None, None, None]);
-    let (mut journal, pages) = opened(alloc, journal.close())?;
-    assert_eq!(rt; kinds(&pages), [None, None, None]);
-    assert_eq!(rt; (journal.state().length(), journal.next_number()), (1, 2));
-    journal.flush()?;
-    assert_eq!(rt; journal.flushed(), 0);
-    let (journal, pages) = opened(alloc, journal.close())?;
-    assert_eq!(rt; kinds(&pages), [Some(1), Some(5), None]);
-    assert_eq!(rt; (journal.state().length(), journal.next_number()), (1, 3));
-    assert_eq!(rt; (journal.state().commits(), journal.fault()), (0, None));
-    Ok(())
 }
 
 /// A record that changes no page.
@@ -81,45 +76,66 @@ fn log_insert(alloc: Global, journal: &mut Journal<Silent>) -> Result<(), LogErr
     journal.log(&records)
 }
 
-/// The records of two inserts wait, the first behind the owed Abort. Behind a flush an opening finds
-/// them.
+/// What a journal tells, and the pages of its opening.
+fn told(alloc: Global, journal: &Journal<Silent>, pages: &PageMap) -> Result<String, AllocError> {
+    let (length, next) = (journal.state().length(), journal.next_number());
+    let (commits, flushed) = (journal.state().commits(), journal.flushed());
+    let fault = journal.fault();
+    let kinds = [0, 1, 2].map(|page| pages.get(page).and_then(|bytes| bytes.first().copied()));
+    format!(in alloc; "{length} {next} {commits} {flushed} {fault:?} {kinds:?}")
+}
+
+/// Does with a journal what a word says, but opens none.
+fn done(alloc: Global, journal: &mut Journal<Silent>, verb: &str) -> Result<(), LogError> {
+    match verb {
+        "insert" => log_insert(alloc, journal),
+        "flush" => journal.flush(),
+        _ => Ok(()),
+    }
+}
+
+/// Does with a journal what a word says. Where it is opened again, the pages are those of the new opening.
+fn turned(
+    alloc: Global,
+    journal: Journal<Silent>,
+    pages: PageMap,
+    verb: &str,
+) -> Result<(Journal<Silent>, PageMap), Fail> {
+    if verb == "open" {
+        return Ok(opened(alloc, journal.close())?);
+    }
+    let mut journal = journal;
+    done(alloc, &mut journal, verb)?;
+    Ok((journal, pages))
+}
+
 #[test]
-fn inserts_are_logged(rt: HostRuntime) -> Result<(), Fail> {
+fn a_journal_is_opened_again(rt: HostRuntime) -> Result<(), Fail> {
     let alloc = rt.alloc();
     let disk = Silent(MemoryDisk::new(alloc, Vec::new(alloc)));
-    let (mut journal, _) = opened(alloc, disk)?;
-    journal.flush()?;
-    let (mut journal, _) = opened(alloc, journal.close())?;
-    assert_eq!(rt; journal.next_number(), 3);
-    for (length, commits) in [(5, 1), (8, 2)] {
-        log_insert(alloc, &mut journal)?;
-        assert_eq!(rt;
-            (journal.state().length(), journal.state().commits()),
-            (length, commits)
-        );
-        assert_eq!(rt; journal.flushed(), 0);
+    let (mut journal, mut pages) = opened(alloc, disk)?;
+    for row in CALLS.lines() {
+        let (verb, tells) = cut(row.trim());
+        let next = turned(alloc, journal, pages, verb)?;
+        (journal, pages) = next;
+        let text = told(alloc, &journal, &pages)?;
+        assert!(rt; text.as_str() == tells, "{row}");
     }
-    journal.flush()?;
-    assert_eq!(rt; journal.flushed(), 2);
-    let (journal, _) = opened(alloc, journal.close())?;
-    assert_eq!(rt;
-        (journal.state().length(), journal.state().commits()),
-        (8, 2)
-    );
     Ok(())
 }
 
-/// A journal is down behind a fault in its flush.
+/// A journal is down after a fault in its flush.
 #[test]
 fn a_flush_fails(rt: HostRuntime) -> Result<(), Fail> {
     let alloc = rt.alloc();
     let disk = MemoryDisk::new(alloc, Vec::new(alloc));
-    let calls = opened(alloc, disk)?.0.close().calls();
+    let (journal, _) = opened(alloc, disk)?;
+    let calls = journal.close().calls();
     let fails = vec![in alloc; calls.saturating_add(1)]?;
     let (mut journal, _) = opened(alloc, MemoryDisk::new(alloc, fails))?;
-    assert_eq!(rt; journal.flush(), Err(LogError::DiskFault));
-    assert_eq!(rt; journal.flush(), Err(LogError::Down { fault: 1 }));
-    assert_eq!(rt; journal.fault(), Some(1));
+    assert!(rt; journal.flush() == Err(LogError::DiskFault));
+    assert!(rt; journal.flush() == Err(LogError::Down { fault: 1 }));
+    assert!(rt; journal.fault() == Some(1));
     Ok(())
 }
 
@@ -129,16 +145,10 @@ fn a_refused_device_is_given_back(rt: HostRuntime) -> Result<(), Fail> {
     let alloc = rt.alloc();
     let mut disk = MemoryDisk::new(alloc, Vec::new(alloc));
     disk.write_at(File::Log, 0, &[0; 19])?;
-    let Err((mut disk, fault)) = open(alloc, disk, &SETTINGS) else {
-        return Err(Fail::new("the device is taken as a store"));
-    };
-    assert_eq!(rt; fault, OpenFault::NotAStore);
-    assert_eq!(rt; disk.length(File::Log), Ok(19));
+    let (mut disk, fault) = open(alloc, disk, &SETTINGS).err().ok_or("a store")?;
+    assert!(rt; (fault, disk.length(File::Log)) == (OpenFault::NotAStore, Ok(19)));
     let disk = MemoryDisk::new(alloc, vec![in alloc; 2]?);
-    let Err((disk, fault)) = open(alloc, disk, &SETTINGS) else {
-        return Err(Fail::new("the device is taken as a store"));
-    };
-    assert_eq!(rt; fault, OpenFault::DiskFault);
-    assert_eq!(rt; (disk.calls(), disk.faults()), (2, 1));
+    let (disk, fault) = open(alloc, disk, &SETTINGS).err().ok_or("a store")?;
+    assert!(rt; (fault, disk.calls(), disk.faults()) == (OpenFault::DiskFault, 2, 1));
     Ok(())
 }

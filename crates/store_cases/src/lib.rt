@@ -1,31 +1,39 @@
-//! Cases of the device in memory, of the log and its journal, and of pages, records and item lists, by their public calls.
+//! Cases of the device in memory, of the log and its journal, of pages, records and item lists, of the state of a
+//! log, and of heads, new pages and snapshots, by their public calls.
 //!
-//! Tests stand in a crate of their own, since a crate with tests is proved twice.
+//! Cases are rows of text that one reader runs, for each kind of row, since a row costs nothing in proof and a
+//! function much. Tests are in a crate of their own, since a crate with tests is proved twice.
 #![tactic(auto)]
 
 #[cfg(test)]
-mod batch_tests;
+mod change_tests;
 #[cfg(test)]
 mod device_tests;
+#[cfg(test)]
+mod heap_tests;
 #[cfg(test)]
 mod item_tests;
 #[cfg(test)]
 mod journal_tests;
 #[cfg(test)]
-mod memory_tests;
+mod list_tests;
+#[cfg(test)]
+mod log_tests;
 #[cfg(test)]
 mod page_rows;
 #[cfg(test)]
 mod page_tests;
 #[cfg(test)]
+mod pin_tests;
+#[cfg(test)]
 mod record_rows;
 #[cfg(test)]
 mod record_tests;
 #[cfg(test)]
+mod rows;
+#[cfg(test)]
 mod silent;
 #[cfg(test)]
-mod spelling_tests;
-#[cfg(test)]
-mod state_memory_tests;
+mod state_rows;
 #[cfg(test)]
 mod state_tests;

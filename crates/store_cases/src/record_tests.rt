@@ -1,123 +1,118 @@
 // Records of each kind and of whole logs, and bytes that are none.
-ghost use Rattle.std.specs.Prelude.{◌≡◌};
+ghost use Rattle.std.specs.Prelude.{IfOk};
+ghost use Rattle.page_types.specs.Records.{IsRecord};
 
 use crate::record_rows::{FAULTS, KINDS, LOGS};
-use page_types::{Edit, Record};
+use crate::rows::{again, all_hold, bytes_of, cut, number};
+use page_types::{Change, Edit, Record};
 use record_code::{RecordError, decode_record, encode_record};
 use std::alloc::{AllocError, Global};
-use std::fmt::Write;
+use std::fmt::{self, Write};
 use std::test::Fail;
 
-/// The number that a digit of hexadecimal stands for.
-fn digit(byte: u8) -> u8 {
-    match byte {
-        b'0'..=b'9' => byte - b'0',
-        b'a'..=b'f' => byte - b'a' + 10,
-        _ => 0,
+/// The record that the bytes begin with, read once more where that is refused.
+fn record_in(alloc: Global, bytes: &[u8]) -> Result<(Record, usize), RecordError>
+    ensures { IfOk result (λ r. IsRecord r.0) }
+{
+    match decode_record(alloc, bytes) {
+        Ok(read) => Ok(read),
+        Err(_) => decode_record(alloc, bytes),
     }
 }
 
-/// Appends the bytes that a word stands for: two digits a byte, or a byte and how many times it stands there.
-fn put_word(out: &mut Vec<u8>, word: &str) -> Result<(), AllocError> {
-    let (digits, times) = word.split_once('*').unwrap_or((word, "1"));
-    let times = times.parse::<usize>().unwrap_or(0);
-    let mut high = None;
-    for byte in digits.bytes() {
-        let low = digit(byte);
-        let Some(half) = high.take() else {
-            high = Some(low);
-            continue;
-        };
-        for _ in 0..times {
-            out.push(half << 4 | low)?;
+/// Appends the spelling of a record, once more where that is refused.
+fn put_record(record: &Record, out: &mut Vec<u8>) -> Result<(), AllocError>
+    requires { IsRecord record.now }
+{
+    match encode_record(record, out) {
+        Ok(()) => Ok(()),
+        Err(_) => encode_record(record, out),
+    }
+}
+
+/// Appends what a change tells.
+fn put_change(text: &mut String, change: &Change) -> Result<(), fmt::Error> {
+    let page = change.page;
+    match &change.edit {
+        Edit::Image(_) => write!(text, "; page {page} image")?,
+        Edit::Delta {
+            front,
+            start,
+            cut,
+            bytes,
+        } => {
+            let new = bytes.as_slice();
+            write!(
+                text,
+                "; page {page} front {front:?} from {start} cut {cut} new {new:?}"
+            )?;
         }
     }
     Ok(())
 }
 
-/// The bytes that words stand for.
-pub(crate) fn bytes_of(alloc: Global, words: &str) -> Result<Vec<u8>, AllocError> {
-    let mut out = Vec::new(alloc);
-    for word in words.split(' ') {
-        put_word(&mut out, word)?;
-    }
-    Ok(out)
-}
-
 /// What a record tells.
-fn told(alloc: Global, record: &Record) -> Result<String, Fail> {
+fn told(alloc: Global, record: &Record) -> Result<String, fmt::Error> {
     let number = record.number;
     let kind = record.kind;
     let xid = record.xid;
     let mut text = format!(in alloc; "{number} {kind:?} xid {xid}")?;
     for change in record.changes.as_slice() {
-        let page = change.page;
-        match &change.edit {
-            Edit::Image(_) => write!(text, "; page {page} image")?,
-            Edit::Delta {
-                front,
-                start,
-                cut,
-                bytes,
-            } => {
-                let new = bytes.as_slice();
-                write!(
-                    text,
-                    "; page {page} front {front:?} from {start} cut {cut} new {new:?}"
-                )?;
-            }
-        }
+        put_change(&mut text, change)?;
     }
     Ok(text)
 }
 
-/// Whether these bytes, with others behind them, are read as the record that tells this, and written again.
-fn is_kept(alloc: Global, tells: &str, bytes: &[u8]) -> Result<bool, Fail> {
+/// The bytes with three others after them.
+fn longer(alloc: Global, bytes: &[u8]) -> Result<Vec<u8>, AllocError> {
     let mut longer = Vec::from_slice(alloc, bytes)?;
     longer.extend_from_slice(b"\x0e\0\0")?;
-    let (record, length) = decode_record(alloc, &longer)?;
-    let mut out = Vec::from_slice(alloc, b"before")?;
-    encode_record(&record, &mut out)?;
-    let written = out.as_slice().strip_prefix(b"before".as_slice());
-    Ok(length == bytes.len() && told(alloc, &record)?.as_str() == tells && written == Some(bytes))
+    Ok(longer)
 }
 
-/// The first length at which the bytes are not refused where they end.
-fn first_read_cut(alloc: Global, bytes: &[u8]) -> Option<usize> {
-    (0..bytes.len()).find(|n| {
-        decode_record(alloc, &bytes[..*n]).err() != Some(RecordError::BadRecord { at: *n })
-    })
+/// Whether the bytes of a row, with others after them, are read as the record that it tells, and written again.
+fn is_record(alloc: Global, row: &str) -> Result<bool, Fail> {
+    let (tells, words) = cut(row);
+    let bytes = bytes_of(alloc, words)?;
+    let longer = again(|| longer(alloc, &bytes))?;
+    let (record, length) = record_in(alloc, &longer)?;
+    let text = again(|| told(alloc, &record))?;
+    let mut out = again(|| Vec::from_slice(alloc, b"before"))?;
+    put_record(&record, &mut out)?;
+    let written = out.as_slice().strip_prefix(b"before".as_slice());
+    Ok(length == bytes.len() && text.as_str() == tells && written == Some(bytes.as_slice()))
+}
+
+/// Whether the bytes are refused at their end wherever they are cut.
+fn is_refused_cut(alloc: Global, row: &str) -> Result<bool, Fail> {
+    let bytes = bytes_of(alloc, cut(row).1)?;
+    for (at, _) in bytes.iter().enumerate() {
+        let front = bytes.get(..at).unwrap_or(&[]);
+        if decode_record(alloc, front).err() != Some(RecordError::BadRecord { at }) {
+            return Ok(false);
+        }
+    }
+    Ok(true)
+}
+
+/// Whether the bytes of a row are refused at its place.
+fn is_refused_there(alloc: Global, row: &str) -> Result<bool, Fail> {
+    let (place, rest) = cut(row);
+    let at = number(place) as usize;
+    let bytes = bytes_of(alloc, cut(rest).0)?;
+    Ok(decode_record(alloc, &bytes).err() == Some(RecordError::BadRecord { at }))
 }
 
 #[test]
 fn records_are_read_and_written(rt: HostRuntime) -> Result<(), Fail> {
     let alloc = rt.alloc();
-    for (tells, words) in KINDS.iter().chain(LOGS.iter()) {
-        let bytes = bytes_of(alloc, words)?;
-        let kept = is_kept(alloc, tells, &bytes)?;
-        assert!(rt; kept, "{tells}");
-    }
-    Ok(())
+    all_hold(&rt, KINDS, |row| is_record(alloc, row))?;
+    all_hold(&rt, LOGS, |row| is_record(alloc, row))
 }
 
 #[test]
-fn cut_records_are_refused_where_they_end(rt: HostRuntime) -> Result<(), Fail> {
+fn bytes_that_are_no_records_are_refused_at_their_places(rt: HostRuntime) -> Result<(), Fail> {
     let alloc = rt.alloc();
-    for (tells, words) in KINDS.iter().chain(LOGS[..1].iter()) {
-        let bytes = bytes_of(alloc, words)?;
-        let read = first_read_cut(alloc, &bytes);
-        assert_eq!(rt; read, None, "{tells}");
-    }
-    Ok(())
-}
-
-#[test]
-fn faults_have_their_places(rt: HostRuntime) -> Result<(), Fail> {
-    let alloc = rt.alloc();
-    for (what, words, at) in FAULTS {
-        let bytes = bytes_of(alloc, words)?;
-        let got = decode_record(alloc, &bytes).err();
-        assert_eq!(rt; got, Some(RecordError::BadRecord { at }), "{what}");
-    }
-    Ok(())
+    all_hold(&rt, KINDS, |row| is_refused_cut(alloc, row))?;
+    all_hold(&rt, FAULTS, |row| is_refused_there(alloc, row))
 }

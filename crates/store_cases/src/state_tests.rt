@@ -1,537 +1,159 @@
-// The state after each record of a log, of records that no store would write, and before the first one.
-use core_state::*;
+// The state after each record of a log, of records that no store would write, and before the first one; which page
+// is taken then, and which records may come next.
+use crate::rows::{again, all_hold, cut, long, number, word};
+use crate::state_rows::{LOGS, TAKEN, VALID};
+use core_state::{
+    State, history_is_one, keys_are_one, newest_may_go, pages_are_shown, state_follows,
+    valid_abort, valid_begin, valid_commit, valid_create, valid_is_monotone, valid_place_head,
+};
+use page_space::{SpaceError, take};
 use page_types::{
     Body, Bytes, Change, Changes, Edit, Entries, HeadFields, HeadRef, Kind, Name, Page, Record,
     Slots,
 };
 use std::alloc::{AllocError, Global};
-use std::fmt::Write;
-use std::process::Abort;
+use std::fmt::{self, Write};
 use std::test::Fail;
 
-/// A record and what the state tells behind it.
-#[derive(Drop)]
-struct Step {
-    xid: u32,
-    kind: Kind,
-    pages: &'static [u32],
-    front: u8,
-    want: &'static str,
+/// The kind that words stand for.
+fn kind_of(words: &str) -> Kind {
+    let (name, rest) = word(words);
+    let (first, second) = word(rest);
+    let item = number(first);
+    let serial = long(second);
+    match name {
+        "Create" => Kind::Create,
+        "Begin" => Kind::Begin,
+        "Commit" => Kind::Commit { commit: item },
+        "Abort" => Kind::Abort,
+        "Checkpoint" => Kind::Checkpoint { redo: long(first) },
+        "PlaceHead" => Kind::PlaceHead { item, serial },
+        "MarkDeleted" => Kind::MarkDeleted { item, serial },
+        "DeletePost" => Kind::DeletePost,
+        _ => Kind::FreeSlots,
+    }
 }
 
-/// The item of slot 0 of heap page 2, 3, 4.
-const ITEMS: [u32; 3] = [4096, 6144, 8192];
-
-/// Three transactions that place heads on three heap pages, and a fourth that marks one; then vacuum.
-const LOG: [Step; 18] = [
-    Step {
-        xid: 0,
-        kind: Kind::Create,
-        pages: &[0, 1],
-        front: 1,
-        want: "1: xid 1, serial 1, commits 0, heap",
-    },
-    Step {
-        xid: 1,
-        kind: Kind::Begin,
-        pages: &[],
-        front: 0,
-        want: "2: xid 2, serial 1, commits 0, runs, heap",
-    },
-    Step {
-        xid: 1,
-        kind: Kind::PlaceHead {
-            item: ITEMS[0],
-            serial: 1,
-        },
-        pages: &[2],
-        front: 2,
-        want: "3: xid 2, serial 2, commits 0, runs, heap 2",
-    },
-    Step {
-        xid: 2,
-        kind: Kind::Begin,
-        pages: &[],
-        front: 0,
-        want: "4: xid 3, serial 2, commits 0, runs, heap 2",
-    },
-    Step {
-        xid: 2,
-        kind: Kind::PlaceHead {
-            item: ITEMS[2],
-            serial: 2,
-        },
-        pages: &[4],
-        front: 2,
-        want: "5: xid 3, serial 3, commits 0, runs, heap 4",
-    },
-    Step {
-        xid: 1,
-        kind: Kind::PlaceHead {
-            item: ITEMS[1],
-            serial: 3,
-        },
-        pages: &[3],
-        front: 2,
-        want: "6: xid 3, serial 4, commits 0, runs, heap 3",
-    },
-    Step {
-        xid: 1,
-        kind: Kind::PlaceHead { item: 0, serial: 3 },
-        pages: &[],
-        front: 2,
-        want: "7: xid 3, serial 4, commits 0, runs, heap 3",
-    },
-    Step {
-        xid: 1,
-        kind: Kind::Commit { commit: 2 },
-        pages: &[],
-        front: 0,
-        want: "8: xid 3, serial 4, commits 0, runs, heap 3",
-    },
-    Step {
-        xid: 1,
-        kind: Kind::Commit { commit: 1 },
-        pages: &[],
-        front: 0,
-        want: "9: xid 3, serial 4, commits 1, runs, -[] +[2/0#1 3/0#3], heap 3",
-    },
-    Step {
-        xid: 1,
-        kind: Kind::Commit { commit: 2 },
-        pages: &[],
-        front: 0,
-        want: "10: xid 3, serial 4, commits 1, runs, -[] +[2/0#1 3/0#3], heap 3",
-    },
-    Step {
-        xid: 2,
-        kind: Kind::Abort,
-        pages: &[],
-        front: 0,
-        want: "11: xid 3, serial 4, commits 1, -[] +[2/0#1 3/0#3], heap 3",
-    },
-    Step {
-        xid: 3,
-        kind: Kind::Begin,
-        pages: &[],
-        front: 0,
-        want: "12: xid 4, serial 4, commits 1, runs, -[] +[2/0#1 3/0#3], heap 3",
-    },
-    Step {
-        xid: 3,
-        kind: Kind::MarkDeleted {
-            item: ITEMS[0],
-            serial: 1,
-        },
-        pages: &[2],
-        front: 2,
-        want: "13: xid 4, serial 4, commits 1, runs, -[] +[2/0#1 3/0#3], heap 3",
-    },
-    Step {
-        xid: 3,
-        kind: Kind::Commit { commit: 2 },
-        pages: &[],
-        front: 0,
-        want: "14: xid 4, serial 4, commits 2, -[] +[2/0#1 3/0#3], -[2/0#1] +[], heap 3",
-    },
-    Step {
-        xid: 0,
-        kind: Kind::FreeSlots,
-        pages: &[4],
-        front: 2,
-        want: "15: xid 4, serial 4, commits 2, -[] +[2/0#1 3/0#3], -[2/0#1] +[], heap 3 4",
-    },
-    Step {
-        xid: 0,
-        kind: Kind::FreeSlots,
-        pages: &[2],
-        front: 2,
-        want: "16: xid 4, serial 4, commits 2, -[] +[2/0#1 3/0#3], -[2/0#1] +[], heap 3 2 4",
-    },
-    Step {
-        xid: 0,
-        kind: Kind::FreeSlots,
-        pages: &[4],
-        front: 2,
-        want: "17: xid 4, serial 4, commits 2, -[] +[2/0#1 3/0#3], -[2/0#1] +[], heap 3 2 4",
-    },
-    Step {
-        xid: 0,
-        kind: Kind::Checkpoint { redo: 9 },
-        pages: &[],
-        front: 0,
-        want: "18: xid 4, serial 4, commits 2, -[] +[2/0#1 3/0#3], -[2/0#1] +[], redo 9, heap 3 2 4",
-    },
-];
-
-/// Records that no store would write: an xid that never began, pages that are none, an end of nothing.
-const HOSTILE: [Step; 6] = [
-    Step {
-        xid: u32::MAX,
-        kind: Kind::Begin,
-        pages: &[u32::MAX],
-        front: 1,
-        want: "1: xid 1, serial 1, commits 0, heap",
-    },
-    Step {
-        xid: u32::MAX,
-        kind: Kind::PlaceHead {
-            item: u32::MAX,
-            serial: u64::MAX,
-        },
-        pages: &[1_048_575],
-        front: 2,
-        want: "2: xid 1, serial 1, commits 0, heap",
-    },
-    Step {
-        xid: u32::MAX,
-        kind: Kind::MarkDeleted {
-            item: u32::MAX,
-            serial: 1,
-        },
-        pages: &[1_048_576],
-        front: 9,
-        want: "3: xid 1, serial 1, commits 0, heap",
-    },
-    Step {
-        xid: u32::MAX,
-        kind: Kind::Commit { commit: u32::MAX },
-        pages: &[],
-        front: 0,
-        want: "4: xid 1, serial 1, commits 0, heap",
-    },
-    Step {
-        xid: 0,
-        kind: Kind::Abort,
-        pages: &[],
-        front: 0,
-        want: "5: xid 1, serial 1, commits 0, heap",
-    },
-    Step {
-        xid: 7,
-        kind: Kind::Abort,
-        pages: &[],
-        front: 0,
-        want: "6: xid 1, serial 1, commits 0, heap",
-    },
-];
-
-/// The record of a step.
-fn record(alloc: Global, number: u64, step: &Step) -> Result<Record, AllocError> {
+/// The changes of these pages, which get this first byte.
+fn changes_of(alloc: Global, pages: &str, front: u8) -> Result<Changes, AllocError> {
     let mut changes = Changes::new(alloc);
-    for page in step.pages {
+    for page in pages.split_whitespace() {
         let edit = Edit::Delta {
-            front: [step.front, 0, 0, 0, 0, 0, 0, 0],
+            front: [front, 0, 0, 0, 0, 0, 0, 0],
             start: 0,
             cut: 0,
             bytes: Bytes::from_slice(alloc, &[])?,
         };
-        changes.push(Change { page: *page, edit })?;
+        let page = number(page);
+        changes.push(Change { page, edit })?;
     }
+    Ok(changes)
+}
+
+/// The record that comes next, of this xid and kind.
+fn record(
+    alloc: Global,
+    state: &State,
+    words: &str,
+    pages: &str,
+    front: u8,
+) -> Result<Record, AllocError> {
+    let (xid, kind) = word(words);
     Ok(Record {
-        number,
-        xid: step.xid,
-        kind: step.kind,
-        changes,
+        number: state.length().wrapping_add(1),
+        xid: number(xid),
+        kind: kind_of(kind),
+        changes: changes_of(alloc, pages, front)?,
     })
 }
 
 /// Appends names.
-fn put_names(text: &mut String, sign: &str, names: &[Name]) -> Result<(), Fail> {
-    write!(text, " {sign}[")?;
-    for (i, name) in names.iter().enumerate() {
-        let gap = if i == 0 { "" } else { " " };
-        write!(text, "{gap}{}/{}#{}", name.page, name.slot, name.serial)?;
+fn put_names(text: &mut String, sign: &str, names: &[Name]) -> Result<(), fmt::Error> {
+    write!(text, " {sign}")?;
+    for name in names {
+        let Name { page, slot, serial } = *name;
+        write!(text, " {page}/{slot}#{serial}")?;
     }
-    write!(text, "]")?;
     Ok(())
 }
 
-/// What a state tells: its length and next numbers, the names of each commit, its redo number, and its old heap pages.
-fn told(alloc: Global, state: &State) -> Result<String, Fail> {
-    let mut text = format!(in alloc;
-        "{}: xid {}, serial {}, commits {},",
-        state.length(),
-        state.next_xid(),
-        state.next_serial(),
-        state.commits()
-    )?;
-    if state.has_running() {
-        write!(text, " runs,")?;
-    }
+/// Appends the names of each commit.
+fn put_commits(text: &mut String, state: &State) -> Result<(), fmt::Error> {
     for commit in 1..=state.commits() {
-        put_names(&mut text, "-", state.deleted(commit))?;
-        put_names(&mut text, "+", state.inserted(commit))?;
-        write!(text, ",")?;
+        put_names(text, "-", state.deleted(commit))?;
+        put_names(text, "+", state.inserted(commit))?;
+        text.push_str(",")?;
     }
-    if state.redo() != 1 {
-        write!(text, " redo {},", state.redo())?;
-    }
-    write!(text, " heap")?;
+    Ok(())
+}
+
+/// Appends the old heap pages.
+fn put_heap(text: &mut String, state: &State) -> Result<(), fmt::Error> {
+    text.push_str(" heap")?;
     for k in 0..4 {
         if let Some(page) = state.heap_page(k) {
             write!(text, " {page}")?;
         }
     }
+    Ok(())
+}
+
+/// What a state tells.
+fn tell(alloc: Global, state: &State) -> Result<String, fmt::Error> {
+    let (length, xid) = (state.length(), state.next_xid());
+    let (serial, commits) = (state.next_serial(), state.commits());
+    let runs = if state.has_running() { " runs," } else { "" };
+    let mut text = format!(in alloc;
+        "{length}: xid {xid}, serial {serial}, commits {commits},{runs}"
+    )?;
+    put_commits(&mut text, state)?;
+    let redo = state.redo();
+    if redo != 1 {
+        write!(text, " redo {redo},")?;
+    }
+    put_heap(&mut text, state)?;
     Ok(text)
 }
 
-/// One record more. Where no room is made for it the state is as it was, and takes the record all the same.
-fn follow(rt: &impl Abort, alloc: Global, state: &mut State, record: &Record) -> Result<(), Fail> {
+/// What a state tells, once more where that is refused.
+fn told(alloc: Global, state: &State) -> Result<String, fmt::Error> {
+    match tell(alloc, state) {
+        Ok(text) => Ok(text),
+        Err(_) => tell(alloc, state),
+    }
+}
+
+/// A record more, for which room is made before where its number is even; whether a refused call left the state as
+/// it was.
+fn takes(alloc: Global, state: &mut State, record: &Record) -> Result<bool, Fail> {
     let before = told(alloc, state)?;
-    if state.make_room(record).is_err() {
+    let has_no_room = record.number % 2 == 0 && state.make_room(record).is_err();
+    if has_no_room || state.step(record).is_err() {
         let after = told(alloc, state)?;
-        assert_eq!(rt; after.as_str(), before.as_str());
+        state.step(record)?;
+        return Ok(after == before);
     }
-    state.step(record)?;
-    Ok(())
+    Ok(true)
 }
 
-/// The state after steps, each of which is compared with what is wanted of it.
-fn run(rt: &impl Abort, alloc: Global, steps: &[Step]) -> Result<State, Fail> {
-    let mut state = State::new(alloc, 1000, 16_000_000);
-    for step in steps {
-        let record = record(alloc, state.length().wrapping_add(1), step)?;
-        follow(rt, alloc, &mut state, &record)?;
-        let text = told(alloc, &state)?;
-        assert_eq!(rt; text.as_str(), step.want);
-    }
-    Ok(state)
+/// Whether the state tells what its row says after a record more.
+fn is_followed(alloc: Global, state: &mut State, row: &str) -> Result<bool, Fail> {
+    let (words, rest) = cut(row);
+    let (pages, rest) = cut(rest);
+    let (front, tells) = cut(rest);
+    let front = front.parse().unwrap_or(0);
+    let next = match record(alloc, state, words, pages, front) {
+        Ok(record) => record,
+        Err(_) => record(alloc, state, words, pages, front)?,
+    };
+    let kept = takes(alloc, state, &next)?;
+    Ok(kept && told(alloc, state)?.as_str() == tells)
 }
 
-/// A log of three heap pages.
-#[test]
-fn follows_a_log(rt: HostRuntime) -> Result<(), Fail> {
-    let mut state = run(&rt, rt.alloc(), &LOG)?;
-    let fates = [
-        Fate::Unused,
-        Fate::Committed(1),
-        Fate::Aborted,
-        Fate::Committed(2),
-        Fate::Unused,
-    ];
-    for (xid, fate) in fates.iter().enumerate() {
-        assert_eq!(rt; state.fate(xid as u32), *fate);
-    }
-    assert_eq!(rt; state.use_of(4), PageUse::Used);
-    assert_eq!(rt; state.use_of(5), PageUse::Unused);
-    assert_eq!(rt; state.pages(), 1000);
-    assert_eq!(rt; state.xid_limit(), 16_000_000);
-    state.start_run();
-    assert_eq!(rt; state.heap_page(0), Some(4));
-    assert_eq!(rt; state.heap_page(1), None);
-    Ok(())
-}
-
-/// Records that no store would write change the length and the uses alone.
-#[test]
-fn stays_sound(rt: HostRuntime) -> Result<(), Fail> {
-    let state = run(&rt, rt.alloc(), &HOSTILE)?;
-    assert_eq!(rt; state.fate(u32::MAX), Fate::Unused);
-    assert_eq!(rt; state.use_of(1_048_575), PageUse::Used);
-    assert_eq!(rt; state.use_of(1_048_576), PageUse::Unused);
-    Ok(())
-}
-
-/// What stands in a slot of a case.
-#[derive(Clone, Copy)]
-enum Slot {
-    /// The head that `SHORT` places.
-    First,
-    /// A new head with serial 2, of transaction 1.
-    New,
-    /// The same of transaction 2.
-    Foreign,
-    /// The same, marked deleted.
-    Marked,
-    /// The same with an overflow page.
-    Long,
-    /// The same with a private page.
-    Keyed,
-}
-
-/// A page of a case.
-#[derive(Clone, Copy)]
-enum Sheet {
-    /// A page that no record has changed.
-    Free,
-    /// A metapage with this first page.
-    Meta(u32),
-    /// An empty leaf of the entry tree.
-    Leaf,
-    /// A heap page with this right link.
-    Heap(u32, &'static [Slot]),
-}
-
-/// A transaction that places a head in slot 0 of page 2; then page 3 is deleted.
-const SHORT: [Step; 4] = [
-    Step {
-        xid: 0,
-        kind: Kind::Create,
-        pages: &[0, 1],
-        front: 1,
-        want: "1: xid 1, serial 1, commits 0, heap",
-    },
-    Step {
-        xid: 1,
-        kind: Kind::Begin,
-        pages: &[],
-        front: 0,
-        want: "2: xid 2, serial 1, commits 0, runs, heap",
-    },
-    Step {
-        xid: 1,
-        kind: Kind::PlaceHead {
-            item: ITEMS[0],
-            serial: 1,
-        },
-        pages: &[2],
-        front: 2,
-        want: "3: xid 2, serial 2, commits 0, runs, heap 2",
-    },
-    Step {
-        xid: 0,
-        kind: Kind::DeletePost,
-        pages: &[3],
-        front: 9,
-        want: "4: xid 2, serial 2, commits 0, runs, heap 2",
-    },
-];
-
-/// Heads with serial 2 that transaction 1 places behind `SHORT`: the item, the changed page, the page before and after, since;
-/// and whether each may come next.
-const PLACES: [(u32, u32, Sheet, Sheet, u64, bool); 17] = [
-    (
-        4097,
-        2,
-        Sheet::Heap(0, &[Slot::First]),
-        Sheet::Heap(0, &[Slot::First, Slot::New]),
-        0,
-        true,
-    ),
-    (
-        4096,
-        2,
-        Sheet::Heap(0, &[Slot::First]),
-        Sheet::Heap(0, &[Slot::New]),
-        0,
-        false,
-    ),
-    (
-        4098,
-        2,
-        Sheet::Heap(0, &[Slot::First]),
-        Sheet::Heap(0, &[Slot::First, Slot::New]),
-        0,
-        false,
-    ),
-    (
-        4097,
-        2,
-        Sheet::Heap(0, &[Slot::First]),
-        Sheet::Heap(0, &[Slot::New, Slot::New]),
-        0,
-        false,
-    ),
-    (
-        4097,
-        2,
-        Sheet::Heap(0, &[Slot::First]),
-        Sheet::Heap(5, &[Slot::First, Slot::New]),
-        0,
-        false,
-    ),
-    (
-        4097,
-        4,
-        Sheet::Heap(0, &[Slot::First]),
-        Sheet::Heap(0, &[Slot::First, Slot::New]),
-        0,
-        false,
-    ),
-    (
-        4097,
-        2,
-        Sheet::Heap(0, &[Slot::First]),
-        Sheet::Heap(0, &[Slot::First, Slot::Foreign]),
-        0,
-        false,
-    ),
-    (
-        4097,
-        2,
-        Sheet::Heap(0, &[Slot::First]),
-        Sheet::Heap(0, &[Slot::First, Slot::Marked]),
-        0,
-        false,
-    ),
-    (
-        4097,
-        2,
-        Sheet::Heap(0, &[Slot::First]),
-        Sheet::Heap(0, &[Slot::First, Slot::Long]),
-        0,
-        false,
-    ),
-    (
-        4097,
-        2,
-        Sheet::Heap(0, &[Slot::First]),
-        Sheet::Heap(0, &[Slot::First, Slot::Keyed]),
-        0,
-        false,
-    ),
-    (
-        4097,
-        2,
-        Sheet::Leaf,
-        Sheet::Heap(0, &[Slot::First, Slot::New]),
-        0,
-        false,
-    ),
-    (8192, 4, Sheet::Free, Sheet::Heap(0, &[Slot::New]), 0, true),
-    (
-        8193,
-        4,
-        Sheet::Free,
-        Sheet::Heap(0, &[Slot::First, Slot::New]),
-        0,
-        false,
-    ),
-    (
-        10240,
-        5,
-        Sheet::Free,
-        Sheet::Heap(0, &[Slot::New]),
-        0,
-        false,
-    ),
-    (6144, 3, Sheet::Free, Sheet::Heap(0, &[Slot::New]), 3, false),
-    (6144, 3, Sheet::Free, Sheet::Heap(0, &[Slot::New]), 4, true),
-    (8192, 4, Sheet::Free, Sheet::Leaf, 0, false),
-];
-
-/// One page, by its number.
-const PAGES: [&[u32]; 6] = [&[0], &[1], &[2], &[3], &[4], &[5]];
-
-/// Records without pages behind `SHORT`, and the call that finds each valid: 1 for Begin, 2 for Commit, 3 for Abort, 9 for none.
-const BARE: [(u32, Kind, usize); 11] = [
-    (2, Kind::Begin, 1),
-    (1, Kind::Begin, 9),
-    (3, Kind::Begin, 9),
-    (1, Kind::Commit { commit: 1 }, 2),
-    (1, Kind::Commit { commit: 2 }, 9),
-    (2, Kind::Commit { commit: 1 }, 9),
-    (1, Kind::Abort, 3),
-    (0, Kind::Abort, 3),
-    (2, Kind::Abort, 9),
-    (0, Kind::Create, 9),
-    (1, Kind::Checkpoint { redo: 1 }, 9),
-];
-
-/// The head in a slot.
-fn head(slot: Slot) -> HeadFields {
-    let new = HeadFields {
+/// The fields of a head: the one that is placed first, a new one with serial 2 of transaction 1, or one that
+/// differs from it.
+fn head(name: &str) -> HeadFields {
+    let mut fields = HeadFields {
         serial: 2,
         inserted_by: 1,
         deleted_by: 0,
@@ -539,50 +161,58 @@ fn head(slot: Slot) -> HeadFields {
         private: 0,
         bytes: 0,
     };
-    match slot {
-        Slot::First => HeadFields { serial: 1, ..new },
-        Slot::New => new,
-        Slot::Foreign => HeadFields {
-            inserted_by: 2,
-            ..new
-        },
-        Slot::Marked => HeadFields {
-            deleted_by: 1,
-            ..new
-        },
-        Slot::Long => HeadFields { overflow: 7, ..new },
-        Slot::Keyed => HeadFields { private: 7, ..new },
+    match name {
+        "First" => fields.serial = 1,
+        "Foreign" => fields.inserted_by = 2,
+        "Marked" => fields.deleted_by = 1,
+        "Long" => fields.overflow = 7,
+        "Keyed" => fields.private = 7,
+        _ => {}
     }
+    fields
 }
 
-/// The page of a case, with this stamp.
-fn page(alloc: Global, sheet: Sheet, stamp: u64) -> Result<Page, AllocError> {
-    let mut right = 0;
-    let body = match sheet {
-        Sheet::Free => Body::Free,
-        Sheet::Meta(first) => Body::Meta {
-            first,
+/// The slots with these heads.
+fn slots_of(alloc: Global, names: &str) -> Result<Slots, AllocError> {
+    let mut slots = Slots::new(alloc);
+    for name in names.split_whitespace() {
+        let fields = head(name);
+        let vector = &[];
+        slots.push(Some(HeadRef { fields, vector }))?;
+    }
+    Ok(slots)
+}
+
+/// The page that words stand for: a heap page with a right link and heads, a metapage with a first page, an empty
+/// leaf of the entry tree, or one that no record has changed.
+fn page(alloc: Global, words: &str, stamp: u64) -> Result<Page, AllocError> {
+    let (kind, rest) = word(words);
+    let (link, names) = word(rest);
+    let link = number(link);
+    let body = match kind {
+        "heap" => Body::Heap(slots_of(alloc, names)?),
+        "meta" => Body::Meta {
+            first: link,
             last: 0,
             pages: 0,
         },
-        Sheet::Leaf => Body::EntryLeaf {
+        "leaf" => Body::EntryLeaf {
             high: Bytes::from_slice(alloc, &[])?,
             entries: Entries::new(alloc),
         },
-        Sheet::Heap(link, heads) => {
-            right = link;
-            let mut slots = Slots::new(alloc);
-            for slot in heads {
-                let fields = head(*slot);
-                slots.push(Some(HeadRef {
-                    fields,
-                    vector: &[],
-                }))?;
-            }
-            Body::Heap(slots)
-        }
+        _ => Body::Free,
     };
+    let right = if kind == "heap" { link } else { 0 };
     Ok(Page { right, stamp, body })
+}
+
+/// The pages that words stand for.
+fn pages_of(alloc: Global, words: &str, stamp: u64) -> Result<Vec<Page>, AllocError> {
+    let mut pages = Vec::new(alloc);
+    for words in words.split_terminator(',') {
+        pages.push(page(alloc, words.trim(), stamp)?)?;
+    }
+    Ok(pages)
 }
 
 /// A record, its pages before and after, and since.
@@ -605,97 +235,76 @@ fn verdicts(alloc: Global, state: &State, m: &Move<'_>) -> Result<[bool; 5], All
     ])
 }
 
-/// Which calls find a record valid that has this step's kind, xid and pages, and changes pages from the first to the second.
-fn tried(
-    alloc: Global,
-    state: &State,
-    step: &Step,
-    before: &[Sheet],
-    after: &[Sheet],
-    since: u64,
-) -> Result<[bool; 5], AllocError> {
-    let record = record(alloc, state.length().wrapping_add(1), step)?;
-    let mut olds = Vec::new(alloc);
-    for sheet in before {
-        olds.push(page(alloc, *sheet, 0)?)?;
-    }
-    let mut news = Vec::new(alloc);
-    for sheet in after {
-        news.push(page(alloc, *sheet, record.number)?)?;
-    }
+/// Whether a record is found valid by the call that its row says, and by no other.
+fn is_found(alloc: Global, state: &State, row: &str) -> Result<bool, Fail> {
+    let (words, rest) = cut(row);
+    let (pages, rest) = cut(rest);
+    let (before, rest) = cut(rest);
+    let (after, rest) = cut(rest);
+    let (since, call) = cut(rest);
+    let record = record(alloc, state, words, pages, 2)?;
+    let olds = pages_of(alloc, before, 0)?;
+    let news = pages_of(alloc, after, record.number)?;
     let m = Move {
         record: &record,
         before: &olds,
         after: &news,
-        since,
+        since: long(since),
     };
-    verdicts(alloc, state, &m)
+    let found = verdicts(alloc, state, &m)?;
+    Ok(found == ["Create", "Begin", "Commit", "Abort", "PlaceHead"].map(|name| name == call))
 }
 
-/// A record of these, of which a page that it changes has byte 0 as 2.
-fn make_step(xid: u32, kind: Kind, pages: &'static [u32]) -> Step {
-    Step {
-        xid,
-        kind,
-        pages,
-        front: 2,
-        want: "",
+/// Whether this page is taken, or none is.
+fn takes_page(state: &State, since: u64, page: &str) -> bool {
+    match take(state, since) {
+        Ok(taken) => taken == number(page),
+        Err(SpaceError::StoreFull) => page == "full",
     }
 }
 
-/// Whether the calls find a head valid exactly where its row says so.
-fn is_place_right(
-    alloc: Global,
-    state: &State,
-    row: &(u32, u32, Sheet, Sheet, u64, bool),
-) -> Result<bool, AllocError> {
-    let (item, page, before, after, since, want) = *row;
-    let kind = Kind::PlaceHead { item, serial: 2 };
-    let step = make_step(1, kind, PAGES.get(page as usize).copied().unwrap_or(&[]));
-    let found = tried(alloc, state, &step, &[before], &[after], since)?;
-    Ok(found == [false, false, false, false, want])
+/// Whether a look at a state gives what its row says.
+fn tells(alloc: Global, state: &State, verb: &str, words: &str) -> Result<bool, Fail> {
+    let (first, second) = word(words);
+    let n = number(first);
+    let text = match verb {
+        "limits" => return Ok(state.pages() == n && state.xid_limit() == number(second)),
+        "take" => return Ok(takes_page(state, u64::from(n), second)),
+        "fate" => format!(in alloc; "{:?}", state.fate(n))?,
+        _ => format!(in alloc; "{:?}", state.use_of(n))?,
+    };
+    Ok(text.as_str() == second)
 }
 
-/// Whether the calls find a record without pages valid exactly as its row says.
-fn is_bare_right(
-    alloc: Global,
-    state: &State,
-    row: &(u32, Kind, usize),
-) -> Result<bool, AllocError> {
-    let (xid, kind, call) = *row;
-    let found = tried(alloc, state, &make_step(xid, kind, &[]), &[], &[], 9)?;
-    Ok(found == [false, call == 1, call == 2, call == 3, false])
+/// Begins a run; whether this is the one heap page then.
+fn starts(state: &mut State, page: &str) -> bool {
+    state.start_run();
+    state.heap_page(0) == Some(number(page)) && state.heap_page(1).is_none()
 }
 
-/// Whether the calls find a Create valid, as the record of an empty log that leaves these two pages.
-fn makes(alloc: Global, meta: Sheet, leaf: Sheet) -> Result<bool, AllocError> {
-    let empty = State::new(alloc, 1000, 16_000_000);
-    let create = make_step(0, Kind::Create, &[0, 1]);
-    let found = tried(alloc, &empty, &create, &[], &[meta, leaf], 0)?;
-    Ok(found == [true, false, false, false, false])
+/// Whether a row holds.
+fn holds(alloc: Global, state: &mut State, row: &str) -> Result<bool, Fail> {
+    let (verb, words) = word(row);
+    match verb {
+        "new" => {
+            let (pages, xids) = word(words);
+            *state = State::new(alloc, number(pages), number(xids));
+            Ok(true)
+        }
+        "start" => Ok(starts(state, words)),
+        "limits" | "take" | "fate" | "use" => tells(alloc, state, verb, words),
+        "valid" => is_found(alloc, state, words),
+        _ => is_followed(alloc, state, row),
+    }
 }
 
-/// A head is found valid exactly where its row holds.
 #[test]
-fn finds_heads_valid(rt: HostRuntime) -> Result<(), Fail> {
-    let state = run(&rt, rt.alloc(), &SHORT)?;
-    for row in &PLACES {
-        assert!(rt; is_place_right(rt.alloc(), &state, row)?, "item {}", row.0);
-    }
-    Ok(())
-}
-
-/// So are records of the kinds 1 to 4.
-#[test]
-fn finds_records_valid(rt: HostRuntime) -> Result<(), Fail> {
-    let state = run(&rt, rt.alloc(), &SHORT)?;
-    for row in &BARE {
-        assert!(rt; is_bare_right(rt.alloc(), &state, row)?, "xid {}", row.0);
-    }
-    assert!(rt; makes(rt.alloc(), Sheet::Meta(0), Sheet::Leaf)?);
-    assert!(rt; !makes(rt.alloc(), Sheet::Meta(2), Sheet::Leaf)?);
-    assert!(rt; !makes(rt.alloc(), Sheet::Meta(0), Sheet::Meta(0))?);
-    Ok(())
+fn a_state_follows_its_log(rt: HostRuntime) -> Result<(), Fail> {
+    let alloc = rt.alloc();
+    let mut state = State::new(alloc, 0, 0);
+    all_hold(&rt, LOGS, |row| holds(alloc, &mut state, row))?;
+    all_hold(&rt, TAKEN, |row| holds(alloc, &mut state, row))?;
+    all_hold(&rt, VALID, |row| holds(alloc, &mut state, row))
 }
 
 /// The laws are there to be cited.

@@ -1,0 +1,117 @@
+// Rows of text, one a line, and what their words stand for. A row's fields are parted by `|`.
+ghost use Rattle.std.specs.Prelude.{◌≡◌, length, IfOk};
+
+use page_types::PAGE_BYTES;
+use std::alloc::{AllocError, Global};
+use std::process::Abort;
+use std::test::Fail;
+
+/// Each row of a text holds.
+pub(crate) fn all_hold<F>(rt: &impl Abort, rows: &str, mut holds: F) -> Result<(), Fail>
+where
+    F: FnMut(&str) -> Result<bool, Fail>,
+    requires { F.IsAlwaysCallable holds }
+{
+    for row in rows.lines() {
+        let row = row.trim();
+        assert!(rt; holds(row)?, "{row}");
+    }
+    Ok(())
+}
+
+/// What a call gives, made once more where it is refused, as by an allocation that fails.
+pub(crate) fn again<T, E: Drop, F: Fn() -> Result<T, E>>(call: F) -> Result<T, E>
+    requires { F.IsAlwaysCallable call }
+{
+    match call() {
+        Ok(value) => Ok(value),
+        Err(_) => call(),
+    }
+}
+
+/// The first field of a row, and the others.
+pub(crate) fn cut(row: &str) -> (&str, &str) {
+    let (front, rest) = row.split_once('|').unwrap_or((row, ""));
+    (front.trim(), rest.trim())
+}
+
+/// The first word, and the words after it.
+pub(crate) fn word(words: &str) -> (&str, &str) {
+    words.split_once(' ').unwrap_or((words, ""))
+}
+
+/// The number that a word is; the greatest where it is none, so that its row fails.
+pub(crate) fn number(word: &str) -> u32 {
+    word.parse().unwrap_or(u32::MAX)
+}
+
+/// As `number`, of eight bytes.
+pub(crate) fn long(word: &str) -> u64 {
+    word.parse().unwrap_or(u64::MAX)
+}
+
+/// As `number`, of two bytes.
+pub(crate) fn short(word: &str) -> u16 {
+    word.parse().unwrap_or(u16::MAX)
+}
+
+/// The numbers that words are.
+pub(crate) fn numbers(alloc: Global, words: &str) -> Result<Vec<u64>, AllocError> {
+    let mut all = Vec::new(alloc);
+    for word in words.split_whitespace() {
+        all.push(long(word))?;
+    }
+    Ok(all)
+}
+
+/// The number that a digit of hexadecimal stands for.
+fn digit(byte: u8) -> u8 {
+    match byte {
+        b'0'..=b'9' => byte - b'0',
+        b'a'..=b'f' => byte - b'a' + 10,
+        _ => 0,
+    }
+}
+
+/// Appends the bytes that a word stands for: two digits a byte, or a byte and how many times it is there.
+fn put_word(out: &mut Vec<u8>, word: &str) -> Result<(), AllocError> {
+    let (digits, times) = word.split_once('*').unwrap_or((word, "1"));
+    let times = number(times);
+    let mut high = None;
+    for byte in digits.bytes() {
+        let low = digit(byte);
+        let Some(half) = high.take() else {
+            high = Some(low);
+            continue;
+        };
+        for _ in 0..times {
+            out.push(half << 4 | low)?;
+        }
+    }
+    Ok(())
+}
+
+/// The bytes that words stand for.
+fn read_bytes(alloc: Global, words: &str) -> Result<Vec<u8>, AllocError> {
+    let mut out = Vec::new(alloc);
+    for word in words.split(' ') {
+        put_word(&mut out, word)?;
+    }
+    Ok(out)
+}
+
+/// The bytes that words stand for, read once more where that is refused.
+pub(crate) fn bytes_of(alloc: Global, words: &str) -> Result<Vec<u8>, AllocError> {
+    again(|| read_bytes(alloc, words))
+}
+
+/// The page with these bytes first, which zeros follow.
+pub(crate) fn page_with(alloc: Global, words: &str) -> Result<Vec<u8>, AllocError>
+    ensures { IfOk result (λ v. length v.items ≡ PAGE_BYTES) }
+{
+    let mut bytes = bytes_of(alloc, words)?;
+    if bytes.resize(PAGE_BYTES, 0).is_err() {
+        bytes.resize(PAGE_BYTES, 0)?;
+    }
+    Ok(bytes)
+}
