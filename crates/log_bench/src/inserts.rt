@@ -2,17 +2,19 @@
 use crate::shell::run_script;
 use anyhow::{Result, ensure};
 use disk_trait::MemoryDisk;
-use std::alloc::{AllocError, Global};
 use std::rt::Clock;
 use std::sync::Wait;
 use std::thread::Threads;
 use std::time::{Duration, Instant};
 
-/// How many inserts are measured together: those of a store without documents, and as many behind them.
-const INSERTS: u32 = 100;
+/// How many inserts are measured together: those of a store without documents, and as many after them.
+const INSERTS: usize = 100;
 
 /// How often they are, where time is asked for.
 const ROUNDS: u32 = 50;
+
+/// The microseconds of an insert, where those of all rounds took so many seconds.
+const SHARE: f64 = 1_000_000.0 / 5_000.0;
 
 /// A run of inserts: how many calls of the device it has made, and how long it took beside them.
 #[derive(Clone, Copy)]
@@ -21,84 +23,72 @@ struct Cost {
     own: Duration,
 }
 
-/// A script of so many inserts.
-fn inserts(alloc: Global, count: u32) -> Result<Vec<u8>, AllocError> {
-    let mut script = Vec::new(alloc);
-    for _ in 0..count {
-        script.extend_from_slice(b"@1 insert vector 'a:1'\n")?;
-    }
-    Ok(script)
-}
-
 /// A run of so many inserts over an empty device.
-fn cost_of<R: Threads + Wait + Sync + Clock>(
-    rt: &R,
-    alloc: Global,
-    count: u32,
-    timed: bool,
-) -> Result<Cost> {
-    let script = inserts(alloc, count)?;
+fn cost_of<R>(rt: &R, count: usize, timed: bool) -> Result<Cost>
+where
+    R: Threads + Wait + Sync + Clock + Print + AllocGlobal,
+{
+    let alloc = rt.alloc();
+    let script = "@1 insert vector 'a:1'\n".repeat(alloc, count)?;
     let empty = MemoryDisk::new(alloc, Vec::new(alloc));
-    if !timed {
-        let ended = run_script(rt, alloc, script, empty, false)?;
-        ensure!(
-            ended.status == 0,
-            "a run of inserts ends with {}",
-            ended.status
-        );
-        let own = Duration::ZERO;
-        let calls = ended.store.calls();
-        return Ok(Cost { calls, own });
-    }
     let start = Instant::now(rt)?;
-    let ended = run_script(rt, alloc, script, empty, true)?;
+    let ended = run_script(rt, script.into_bytes(), empty, timed)?;
     let all = start.elapsed(rt)?;
-    ensure!(
-        ended.status == 0,
-        "a run of inserts ends with {}",
-        ended.status
-    );
+    ensure!(ended.status == 0, "a run of inserts fails");
     let own = all.saturating_sub(ended.store.inside());
     let calls = ended.store.calls();
     Ok(Cost { calls, own })
 }
 
-/// Prints how many calls of the device the inserts from one number of documents to another make.
-fn report_calls(rt: &impl Print, from: Cost, to: Cost, documents: u32) -> Result<()> {
-    let calls = to.calls.saturating_sub(from.calls);
-    println!(rt; "{INSERTS} inserts behind {documents}: {calls} calls of the device")?;
+/// What the inserts cost that are made first, and as many after them.
+fn costs<R>(rt: &R, timed: bool) -> Result<(Cost, Cost)>
+where
+    R: Threads + Wait + Sync + Clock + Print + AllocGlobal,
+{
+    let none = cost_of(rt, 0, timed)?;
+    let some = cost_of(rt, INSERTS, timed)?;
+    let all = cost_of(rt, 2 * INSERTS, timed)?;
+    let first = Cost {
+        calls: some.calls.saturating_sub(none.calls),
+        own: some.own.saturating_sub(none.own),
+    };
+    let second = Cost {
+        calls: all.calls.saturating_sub(some.calls),
+        own: all.own.saturating_sub(some.own),
+    };
+    Ok((first, second))
+}
+
+/// Inserts documents, and prints how many calls of the device they make.
+pub(crate) fn count_calls<R>(rt: &R) -> Result<()>
+where
+    R: Threads + Wait + Sync + Clock + Print + AllocGlobal,
+{
+    let (first, second) = costs(rt, false)?;
+    println!(rt;
+        "{INSERTS} inserts behind 0: {} calls of the device",
+        first.calls
+    )?;
+    println!(rt;
+        "{INSERTS} inserts behind {INSERTS}: {} calls of the device",
+        second.calls
+    )?;
     Ok(())
 }
 
-/// Prints what an insert costs beside its calls of the device, where all rounds took so long.
-fn report_time(rt: &impl Print, own: Duration, documents: u32) -> Result<()> {
-    let each = own.as_secs_f64() * 1_000_000.0 / f64::from(INSERTS * ROUNDS);
-    println!(rt; "an insert behind {documents} and more: {each:.1} microseconds beside its calls")?;
-    Ok(())
-}
-
-/// Inserts documents, and prints what they cost.
-pub(crate) fn measure_inserts<R: Threads + Wait + Sync + Clock + Print>(
-    rt: &R,
-    alloc: Global,
-    timed: bool,
-) -> Result<()> {
-    let none = cost_of(rt, alloc, 0, false)?;
-    let some = cost_of(rt, alloc, INSERTS, false)?;
-    let all = cost_of(rt, alloc, 2 * INSERTS, false)?;
-    report_calls(rt, none, some, 0)?;
-    report_calls(rt, some, all, INSERTS)?;
-    if !timed {
-        return Ok(());
-    }
+/// Inserts documents, and prints what an insert costs beside its calls of the device.
+pub(crate) fn measure_inserts<R>(rt: &R) -> Result<()>
+where
+    R: Threads + Wait + Sync + Clock + Print + AllocGlobal,
+{
     let (mut first, mut second) = (Duration::ZERO, Duration::ZERO);
     for _ in 0..ROUNDS {
-        let none = cost_of(rt, alloc, 0, true)?;
-        let some = cost_of(rt, alloc, INSERTS, true)?;
-        let all = cost_of(rt, alloc, 2 * INSERTS, true)?;
-        first = first.saturating_add(some.own.saturating_sub(none.own));
-        second = second.saturating_add(all.own.saturating_sub(some.own));
+        let cost = costs(rt, true)?;
+        first = first.saturating_add(cost.0.own);
+        second = second.saturating_add(cost.1.own);
     }
-    report_time(rt, first, 0)?;
-    report_time(rt, second, INSERTS)
+    let (few, many) = (first.as_secs_f64() * SHARE, second.as_secs_f64() * SHARE);
+    println!(rt; "an insert behind 0 and more: {few:.1} microseconds beside its calls")?;
+    println!(rt; "an insert behind {INSERTS} and more: {many:.1} microseconds beside its calls")?;
+    Ok(())
 }

@@ -7,11 +7,11 @@ use std::rt::Clock;
 use std::sync::Wait;
 use std::thread::Threads;
 
-/// How many records a batch has.
-const BATCH: u32 = 1000;
+/// How many transactions a batch has, each of two records.
+const TRANSACTIONS: u32 = 500;
 
-/// The bytes of a record that has no fields and changes no page.
-const RECORD_BYTES: u32 = 18;
+/// The bytes of a batch: a record that has no fields and changes no page has 18.
+const BATCH_BYTES: u32 = TRANSACTIONS * 2 * 18;
 
 /// The kinds of the records that begin a transaction and abort it.
 const BEGIN: u8 = 2;
@@ -24,33 +24,24 @@ const MOST_BYTES: usize = 1 << 30;
 /// The document at the log's beginning, with its own transaction.
 const INSERT: &[u8] = b"@1 insert vector 'a:1'\n";
 
-/// The next record of a transaction.
-#[derive(Clone, Copy)]
-struct Next {
-    number: u64,
-    xid: u32,
-}
-
-/// A record without fields and changes: the length of what is behind it, the kind, the xid, the number, and no change.
-fn push_record(log: &mut Vec<u8>, kind: u8, next: Next) -> Result<(), AllocError> {
-    log.extend_from_slice(&(RECORD_BYTES - 4).to_le_bytes())?;
-    log.push(kind)?;
-    log.extend_from_slice(&next.xid.to_le_bytes())?;
-    log.extend_from_slice(&next.number.to_le_bytes())?;
+/// A record without fields and changes: the length of what is after it, the kind, the xid, the number, and no change.
+fn push_record(log: &mut Vec<u8>, kind: u8, xid: u32, number: u64) -> Result<(), AllocError> {
+    log.extend_from_slice(&[14, 0, 0, 0, kind])?;
+    log.extend_from_slice(&xid.to_le_bytes())?;
+    log.extend_from_slice(&number.to_le_bytes())?;
     log.push(0)?;
     Ok(())
 }
 
-/// A batch behind its gate: its length, and its records, of which each second one aborts what the one before it begins.
-fn push_batch(log: &mut Vec<u8>, next: &mut Next) -> Result<(), AllocError> {
+/// A batch after its gate: its length, and its records. Each transaction begins and aborts.
+fn push_batch(log: &mut Vec<u8>, first: u32) -> Result<(), AllocError> {
     log.push(1)?;
-    log.extend_from_slice(&(BATCH * RECORD_BYTES).to_le_bytes())?;
-    for _ in 0..BATCH / 2 {
-        push_record(log, BEGIN, *next)?;
-        next.number = next.number.saturating_add(1);
-        push_record(log, ABORT, *next)?;
-        next.number = next.number.saturating_add(1);
-        next.xid = next.xid.saturating_add(1);
+    log.extend_from_slice(&BATCH_BYTES.to_le_bytes())?;
+    for offset in 0..TRANSACTIONS {
+        let xid = first.saturating_add(offset);
+        let number = u64::from(xid).saturating_mul(2).saturating_add(1);
+        push_record(log, BEGIN, xid, number)?;
+        push_record(log, ABORT, xid, number.saturating_add(1))?;
     }
     Ok(())
 }
@@ -68,20 +59,23 @@ fn log_of(alloc: Global, disk: &mut MemoryDisk) -> Result<Vec<u8>> {
     Ok(bytes)
 }
 
-/// A log that a run with one insert leaves, and behind it so many batches of records.
-pub(crate) fn long_log<R: Threads + Wait + Sync + Clock>(
-    rt: &R,
-    alloc: Global,
-    batches: u32,
-) -> Result<Vec<u8>> {
+/// A log that a run with one insert leaves, and after it so many batches of records. The insert's transaction is the
+/// first, and its records have the numbers up to 4.
+pub(crate) fn long_log<R>(rt: &R, batches: u32) -> Result<Vec<u8>>
+where
+    R: Threads + Wait + Sync + Clock + AllocGlobal,
+{
+    let alloc = rt.alloc();
     let empty = MemoryDisk::new(alloc, Vec::new(alloc));
-    let ended = run_script(rt, alloc, INSERT.to_vec(alloc)?, empty, false)?;
+    let ended = run_script(rt, INSERT.to_vec(alloc)?, empty, false)?;
     let mut disk = ended.store.into_memory();
     let mut log = log_of(alloc, &mut disk)?;
     ensure!(log.pop() == Some(0), "a log ends with a closed gate");
-    let mut next = Next { number: 5, xid: 2 };
-    for _ in 0..batches {
-        push_batch(&mut log, &mut next)?;
+    for batch in 0..batches {
+        push_batch(
+            &mut log,
+            batch.saturating_mul(TRANSACTIONS).saturating_add(2),
+        )?;
     }
     log.push(0)?;
     Ok(log)

@@ -9,7 +9,7 @@ mod logs;
 mod shell;
 
 use anyhow::Result;
-use inserts::measure_inserts;
+use inserts::{count_calls, measure_inserts};
 use logs::{holding, long_log};
 use shell::run_script;
 use std::env;
@@ -27,37 +27,43 @@ const MANY: u32 = 1000;
 /// What is asked of the store that is opened.
 const SEARCH: &[u8] = b"@1 search 'a'\n";
 
-/// Opens a long log, and prints what a search finds.
-fn open_log<R: Threads + Wait + Sync + Clock + Print + AllocGlobal>(
-    rt: &R,
-    batches: u32,
-    timed: bool,
-) -> Result<()> {
+/// Opens a long log, prints what a search finds, and answers how many seconds that took.
+fn open_log<R>(rt: &R, batches: u32) -> Result<f64>
+where
+    R: Threads + Wait + Sync + Clock + Print + AllocGlobal,
+{
     let alloc = rt.alloc();
-    let log = long_log(rt, alloc, batches)?;
+    let log = long_log(rt, batches)?;
     let size = log.len();
     let disk = holding(alloc, &log)?;
     let script = SEARCH.to_vec(alloc)?;
     let start = Instant::now(rt)?;
-    let ended = run_script(rt, alloc, script, disk, false)?;
+    let ended = run_script(rt, script, disk, false)?;
     let seconds = start.elapsed(rt)?.as_secs_f64();
     let reply = ended.out.bytes().trim_ascii_end().escape_ascii();
     println!(rt;
-        "{batches} batches of 1000 records in {size} bytes: status {}, {reply}",
-        ended.status
+        "{batches} batches of 1000 records in {size} bytes: status {}, {reply}\n{} calls of the device",
+        ended.status,
+        ended.store.calls()
     )?;
-    println!(rt; "{} calls of the device", ended.store.calls())?;
-    if timed {
-        println!(rt; "{seconds:.3} seconds")?;
-    }
-    Ok(())
+    Ok(seconds)
 }
 
 /// The whole program.
-fn run<R: Threads + Wait + Sync + Clock + Print + Env + AllocGlobal>(rt: &R) -> Result<()> {
-    let timed = env::args(rt)?.skip(1).any(|word| word.as_str() == "time");
-    open_log(rt, if timed { MANY } else { SOME }, timed)?;
-    measure_inserts(rt, rt.alloc(), timed)
+fn run<R>(rt: &R) -> Result<()>
+where
+    R: Threads + Wait + Sync + Clock + Print + Env + AllocGlobal,
+{
+    let timed = env::args(rt)?
+        .nth(1)
+        .is_some_and(|word| word.as_str() == "time");
+    let seconds = open_log(rt, if timed { MANY } else { SOME })?;
+    count_calls(rt)?;
+    if timed {
+        println!(rt; "the log was opened in {seconds:.3} seconds")?;
+        measure_inserts(rt)?;
+    }
+    Ok(())
 }
 
 /// The whole program, at the process's own output.

@@ -2,7 +2,7 @@
 use crate::device::TimedDisk;
 use disk_trait::{MemoryDisk, MemorySink, MemorySource};
 use shell_run::{NoGate, Outcome, run_shell};
-use std::alloc::{AllocError, Global};
+use std::alloc::AllocError;
 use std::rt::Clock;
 use std::sync::Wait;
 use std::thread::Threads;
@@ -14,13 +14,16 @@ const PIECE: usize = 4096;
 pub(crate) type Ended<'a, R> = Outcome<MemorySource, MemorySink, TimedDisk<'a, R>>;
 
 /// A run over a device in memory.
-pub(crate) fn run_script<'a, R: Threads + Wait + Sync + Clock>(
+pub(crate) fn run_script<'a, R>(
     rt: &'a R,
-    alloc: Global,
     script: Vec<u8>,
     disk: MemoryDisk,
     timed: bool,
-) -> Result<Ended<'a, R>, AllocError> {
+) -> Result<Ended<'a, R>, AllocError>
+where
+    R: Threads + Wait + Sync + Clock + AllocGlobal,
+{
+    let alloc = rt.alloc();
     let words = vec![in alloc; String::from_str(alloc, "run")?]?;
     Ok(run_shell(
         rt,

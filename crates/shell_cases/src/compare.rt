@@ -69,11 +69,11 @@ pub fn report(
 {
     let text = same_text(rt, name, &wanted.text, written)?;
     let log = same_log(rt, name, &wanted.left, left)?;
-    if wanted.status != status {
+    if wanted.status != u64::from(status) {
         println!(rt;
             "{name}: status: wanted {}, ended with {status}",
             wanted.status
         )?;
     }
-    Ok(text && log && wanted.status == status)
+    Ok(text && log && wanted.status == u64::from(status))
 }

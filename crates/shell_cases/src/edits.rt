@@ -1,6 +1,7 @@
 // Edits of a log, each of which is opened. A line of them is `OFFSET BYTES ..; what it does; verdict`. The bytes, in
-// base 16, stand at the offset in place of the log's, or behind them.
-use crate::case::{Case, holding, log_of, run};
+// base 16, stand at the offset in place of the log's, or right after them.
+use crate::case::{holding, log_of, run_on};
+use crate::tally::Tally;
 use anyhow::{Context, Result, bail, ensure};
 use std::alloc::Global;
 use std::sync::Wait;
@@ -14,54 +15,6 @@ const LEGAL: &str = "legal";
 
 /// What is run over an edited log.
 const SCRIPT: &[u8] = b"@1 search '!a'\n@1 insert vector 'a:1'\n";
-
-/// A line of `edits`.
-#[derive(Clone, Copy)]
-struct EditLine<'a> {
-    /// Pairs of an offset and bytes.
-    pairs: &'a str,
-    /// What the edit does.
-    what: &'a str,
-    /// The wanted verdict.
-    verdict: &'a str,
-}
-
-impl<'a> EditLine<'a> {
-    /// The line's three parts.
-    fn new(line: &'a str) -> Result<EditLine<'a>> {
-        let (pairs, rest) = line.split_once("; ").context("an edit has three parts")?;
-        let (what, verdict) = rest.rsplit_once("; ").context("an edit has three parts")?;
-        Ok(EditLine {
-            pairs,
-            what,
-            verdict,
-        })
-    }
-
-    /// The log's bytes with the edit.
-    fn apply(&self, alloc: Global, log: &[u8]) -> Result<Vec<u8>> {
-        let mut bytes = Vec::from_slice(alloc, log)?;
-        let mut words = self.pairs.split_whitespace();
-        for _ in 0..self.pairs.len() {
-            let Some(offset) = words.next() else {
-                break;
-            };
-            let digits = words.next().context("an offset has bytes behind it")?;
-            let at = offset.parse::<usize>().context("an offset is a number")?;
-            put_digits(&mut bytes, at, digits)?;
-        }
-        Ok(bytes)
-    }
-
-    /// Whether a run over the edited log ended as the verdict says. Of a log that is no store nothing is printed and
-    /// nothing is changed; over any other the run goes to its end, and over a legal one nothing is refused.
-    fn is_met(&self, status: u8, written: &[u8], unchanged: bool) -> bool {
-        if self.verdict == REFUSED {
-            return status == 4 && written.is_empty() && unchanged;
-        }
-        status == 0 || status == 1 && self.verdict != LEGAL
-    }
-}
 
 /// The value of a digit in base 16.
 fn digit_value(digit: u8) -> Option<u8> {
@@ -82,15 +35,15 @@ fn byte_of(pair: &[u8]) -> Result<u8> {
     Ok(high.saturating_mul(16).saturating_add(low))
 }
 
-/// The bytes with these digits stand at a place, within the others or right behind them.
+/// The bytes with these digits stand at a place, within the others or right after them.
 fn put_digits(bytes: &mut Vec<u8>, at: usize, digits: &str) -> Result<()> {
-    for (behind, pair) in digits.as_bytes().chunks(2).enumerate() {
+    for (offset, pair) in digits.as_bytes().chunks(2).enumerate() {
         let byte = byte_of(pair)?;
-        let place = at.saturating_add(behind);
+        let place = at.saturating_add(offset);
         match bytes.get_mut(place) {
             Some(old) => *old = byte,
             None => {
-                ensure!(place == bytes.len(), "an edit is right behind the log");
+                ensure!(place == bytes.len(), "an edit is right after the log");
                 bytes.push(byte)?;
             }
         }
@@ -98,48 +51,59 @@ fn put_digits(bytes: &mut Vec<u8>, at: usize, digits: &str) -> Result<()> {
     Ok(())
 }
 
+/// The log's bytes with an edit.
+fn edited(alloc: Global, log: &[u8], pairs: &str) -> Result<Vec<u8>> {
+    let mut bytes = Vec::from_slice(alloc, log)?;
+    let words = pairs.split_whitespace().collect::<Vec<&str>>(alloc)?;
+    for pair in words.chunks(2) {
+        let [offset, digits] = pair else {
+            bail!("an offset has bytes after it");
+        };
+        put_digits(&mut bytes, offset.parse()?, digits)?;
+    }
+    Ok(bytes)
+}
+
+/// Whether a run over an edited log ended as the verdict says. Of a log that is no store nothing is printed and nothing
+/// is changed; over any other the run goes to its end, and over a legal one nothing is refused.
+fn is_met(verdict: &str, status: u8, written: &[u8], unchanged: bool) -> bool {
+    if verdict == REFUSED {
+        return status == 4 && written.is_empty() && unchanged;
+    }
+    status == 0 || status == 1 && verdict != LEGAL
+}
+
 /// Whether the opening of an edited log meets its verdict. It prints a line where it doesn't.
-fn opens_as_wanted<R: Threads + Wait + Sync + Print + AllocGlobal>(
-    rt: &R,
-    name: &str,
-    log: &[u8],
-    line: EditLine<'_>,
-) -> Result<bool> {
+fn opens_as_wanted<R>(rt: &R, name: &str, log: &[u8], line: &str) -> Result<bool>
+where
+    R: Threads + Wait + Sync + Print + AllocGlobal,
+{
     let alloc = rt.alloc();
-    let bytes = line.apply(alloc, log)?;
-    let words = vec![in alloc; String::from_str(alloc, "run")?]?;
-    let script = SCRIPT.to_vec(alloc)?;
-    let mut ended = run(rt, alloc, &words, script, holding(alloc, &bytes)?);
+    let (pairs, rest) = line.split_once("; ").context("an edit has three parts")?;
+    let (what, verdict) = rest.rsplit_once("; ").context("an edit has three parts")?;
+    let bytes = edited(alloc, log, pairs)?;
+    let store = holding(alloc, &bytes, Vec::new(alloc))?;
+    let mut ended = run_on(rt, SCRIPT, store)?;
     let unchanged = log_of(alloc, &mut ended.store)? == bytes;
-    let met = line.is_met(ended.status, ended.out.bytes(), unchanged);
+    let met = is_met(verdict, ended.status, ended.out.bytes(), unchanged);
     if !met {
         println!(rt;
-            "{name}: {}: wanted {}, ended with {}",
-            line.what, line.verdict, ended.status
+            "{name}: {what}: wanted {verdict}, ended with {}",
+            ended.status
         )?;
     }
     Ok(met)
 }
 
-/// Opens each edit of what the last run of a case is to leave: how many edits there are, and how many don't meet their
-/// verdict.
-pub fn open_edits<R: Threads + Wait + Sync + Print + AllocGlobal>(
-    rt: &R,
-    name: &str,
-    case: &Case,
-) -> Result<(u64, u64)> {
-    let (mut count, mut differ) = (0u64, 0u64);
-    let Some(edits) = &case.edits else {
-        return Ok((count, differ));
-    };
-    let last = case.turns.last().context("a case has runs")?;
-    let log = last.wanted.left.as_ref().context("edits are of a log")?;
+/// Opens each edit of a log.
+pub fn open_edits<R>(rt: &R, name: &str, log: &[u8], edits: &str, tally: &mut Tally) -> Result<()>
+where
+    R: Threads + Wait + Sync + Print + AllocGlobal,
+{
     for line in edits.lines() {
-        let met = opens_as_wanted(rt, name, log.as_slice(), EditLine::new(line)?)?;
-        count = count.saturating_add(1);
-        if !met {
-            differ = differ.saturating_add(1);
-        }
+        tally.edits = tally.edits.saturating_add(1);
+        let met = opens_as_wanted(rt, name, log, line)?;
+        tally.note(met);
     }
-    Ok((count, differ))
+    Ok(())
 }

@@ -4,13 +4,11 @@
 #![tactic(auto)]
 
 mod bare;
-mod scripts;
 mod shell;
 mod store;
 
 use anyhow::{Result, ensure};
 use bare::{BARE, write_bare};
-use scripts::{many_documents, words_of_eight};
 use shell::run_script;
 use std::sync::Wait;
 use std::thread::Threads;
@@ -18,75 +16,86 @@ use std::time::{Duration, Instant};
 use std::{env, fs};
 use store::{LOG, is_there, log_bytes, remove_store};
 
-/// How many inserts of eight words a store is measured by. Its one page of documents has room for them.
+/// An insert of eight words, and how many of them a store is measured by. Its one page of documents has room for them.
+const INSERT: &str = "@1 insert vector 'a b c d e f g h'\n";
+
 const INSERTS: u32 = 100;
 
 /// How many such stores there are, one after another.
 const ROUNDS: u32 = 2;
 
+/// An insert of one word, so that one page has room for many.
+const SMALL: &str = "@1 insert vector 'a'\n";
+
 /// How many documents the store has that is opened for a search.
-const DOCUMENTS: u32 = 200;
+const DOCUMENTS: usize = 200;
 
 /// What is asked of it.
-const SEARCH: &[u8] = b"@1 search 'a'\n";
+const SEARCH: &str = "@1 search 'a'\n";
 
-/// How long the stores and the bare file took, and how many bytes each of them wrote.
-#[derive(Drop)]
-struct Compared {
-    /// Of the runs of `run_shell`.
-    runs: Duration,
-    /// Of the bare file.
-    bare: Duration,
-    /// Of all the logs.
-    log_bytes: u64,
-    /// Of the bare file.
-    bare_bytes: u64,
+/// What a store of inserts has taken, or the bare file beside it.
+#[derive(Clone, Copy)]
+struct Cost {
+    /// How long.
+    time: Duration,
+    /// How many bytes were written.
+    bytes: u64,
 }
 
-/// A store of inserts, and the bare file beside it: what they add.
-fn compare_once<R: Threads + Wait + Sync>(
-    rt: &R,
-    files: &HostRuntime,
-    compared: &mut Compared,
-) -> Result<()> {
-    let alloc = files.alloc();
-    let script = words_of_eight(alloc, INSERTS)?;
+impl Cost {
+    /// Nothing yet.
+    const NONE: Cost = Cost {
+        time: Duration::ZERO,
+        bytes: 0,
+    };
+
+    /// Both together.
+    fn and(self, time: Duration, bytes: u64) -> Cost {
+        Cost {
+            time: self.time.saturating_add(time),
+            bytes: self.bytes.saturating_add(bytes),
+        }
+    }
+}
+
+/// Inserts documents into a new store: what that adds to the cost of others.
+fn add_store<R: Threads + Wait + Sync>(rt: &R, files: &HostRuntime, cost: Cost) -> Result<Cost> {
+    let script = INSERT.repeat(files.alloc(), INSERTS as usize)?;
     let start = Instant::now(files)?;
-    let status = run_script(rt, files, alloc, script)?.status;
-    compared.runs = compared.runs.saturating_add(start.elapsed(files)?);
-    ensure!(status == 0, "a run of inserts ends with {status}");
+    let status = run_script(rt, files, script)?.status;
+    let time = start.elapsed(files)?;
+    ensure!(status == 0, "a run of inserts fails");
     let bytes = log_bytes(files)?;
     remove_store(files)?;
+    Ok(cost.and(time, bytes))
+}
+
+/// Writes a bare file of about as many bytes: what that adds to the cost of others.
+fn add_bare(files: &HostRuntime, bytes: u64, cost: Cost) -> Result<Cost> {
     let start = Instant::now(files)?;
-    let written = write_bare(files, alloc, INSERTS, bytes)?;
-    compared.bare = compared.bare.saturating_add(start.elapsed(files)?);
+    let written = write_bare(files, INSERTS, bytes)?;
+    let time = start.elapsed(files)?;
     fs::remove_file(files, BARE)?;
-    compared.log_bytes = compared.log_bytes.saturating_add(bytes);
-    compared.bare_bytes = compared.bare_bytes.saturating_add(written);
-    Ok(())
+    Ok(cost.and(time, written))
 }
 
 /// Compares inserts with bare writes and syncs, and prints what comes of it.
 fn compare<R: Threads + Wait + Sync>(rt: &R, files: &HostRuntime, timed: bool) -> Result<()> {
-    let mut compared = Compared {
-        runs: Duration::ZERO,
-        bare: Duration::ZERO,
-        log_bytes: 0,
-        bare_bytes: 0,
-    };
+    let (mut stores, mut bare) = (Cost::NONE, Cost::NONE);
     for _ in 0..ROUNDS {
-        compare_once(rt, files, &mut compared)?;
+        let before = stores.bytes;
+        stores = add_store(rt, files, stores)?;
+        bare = add_bare(files, stores.bytes.saturating_sub(before), bare)?;
     }
     println!(files;
-        "{ROUNDS} stores of {INSERTS} inserts of 8 words: {} bytes of log",
-        compared.log_bytes
+        "{ROUNDS} stores of {INSERTS} inserts of 8 words: {} bytes of log\na bare file: {} bytes",
+        stores.bytes, bare.bytes
     )?;
-    println!(files; "a bare file: {} bytes", compared.bare_bytes)?;
     if timed {
-        let (runs, bare) = (compared.runs.as_secs_f64(), compared.bare.as_secs_f64());
+        let (stores, bare) = (stores.time.as_secs_f64(), bare.time.as_secs_f64());
         println!(files;
-            "stores {runs:.3} seconds, bare {bare:.3} seconds, {:.2} times",
-            runs / bare
+            "stores {stores:.3} seconds, bare {bare:.3} seconds, {:.2} times",
+            stores / bare
         )?;
     }
     Ok(())
@@ -98,22 +107,18 @@ fn open_and_search<R: Threads + Wait + Sync>(
     files: &HostRuntime,
     timed: bool,
 ) -> Result<()> {
-    let alloc = files.alloc();
-    let script = many_documents(alloc, DOCUMENTS)?;
-    let status = run_script(rt, files, alloc, script)?.status;
-    ensure!(status == 0, "a run of inserts ends with {status}");
+    let script = SMALL.repeat(files.alloc(), DOCUMENTS)?;
+    let status = run_script(rt, files, script)?.status;
+    ensure!(status == 0, "a run of inserts fails");
+    let search = String::from_str(files.alloc(), SEARCH)?;
     let start = Instant::now(files)?;
-    let ended = run_script(rt, files, alloc, SEARCH.to_vec(alloc)?)?;
+    let ended = run_script(rt, files, search)?;
     let seconds = start.elapsed(files)?.as_secs_f64();
-    let found = ended
-        .out
-        .bytes()
-        .iter()
-        .filter(|byte| **byte == b'#')
-        .count();
+    let names = ended.out.bytes().iter().filter(|byte| **byte == b'#');
     println!(files;
-        "a store of {DOCUMENTS} documents: status {}, {found} found",
-        ended.status
+        "a store of {DOCUMENTS} documents: status {}, {} found",
+        ended.status,
+        names.count()
     )?;
     if timed {
         println!(files; "{seconds:.3} seconds")?;
@@ -124,8 +129,8 @@ fn open_and_search<R: Threads + Wait + Sync>(
 /// The whole program, over the files of the working directory.
 fn run<R: Threads + Wait + Sync>(rt: &R, files: &HostRuntime) -> Result<()> {
     let timed = env::args(files)?
-        .skip(1)
-        .any(|word| word.as_str() == "time");
+        .nth(1)
+        .is_some_and(|word| word.as_str() == "time");
     ensure!(!is_there(files)?, "{LOG} is there already");
     compare(rt, files, timed)?;
     open_and_search(rt, files, timed)

@@ -2,7 +2,7 @@
 use disk_file::{FileDisk, SystemFolder};
 use disk_trait::{MemorySink, MemorySource};
 use shell_run::{NoGate, Outcome, run_shell};
-use std::alloc::{AllocError, Global};
+use std::alloc::AllocError;
 use std::sync::Wait;
 use std::thread::Threads;
 
@@ -20,15 +20,15 @@ pub(crate) type Ended<'a> = Outcome<
 pub(crate) fn run_script<'a, R: Threads + Wait + Sync>(
     rt: &R,
     files: &'a HostRuntime,
-    alloc: Global,
-    script: Vec<u8>,
+    script: String,
 ) -> Result<Ended<'a>, AllocError> {
+    let alloc = files.alloc();
     let words = vec![in alloc; String::from_str(alloc, "run")?]?;
     Ok(run_shell(
         rt,
         alloc,
         &words,
-        MemorySource::new(script, Vec::new(alloc), PIECE),
+        MemorySource::new(script.into_bytes(), Vec::new(alloc), PIECE),
         MemorySink::new(alloc, Vec::new(alloc)),
         FileDisk::new(SystemFolder::new(files)),
         &NoGate,

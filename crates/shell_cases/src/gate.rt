@@ -1,8 +1,12 @@
 // That a gate is passed before each statement of a session, with the session and the statement's number.
+use crate::case::PIECE;
+use crate::tally::Tally;
+use anyhow::Result;
 use disk_trait::{Disk, Failed, File, MemoryDisk, MemorySink, MemorySource};
 use shell_run::{Gate, run_shell};
+use std::sync::Wait;
 use std::sync::atomic::{AtomicU64, Ordering};
-use std::test::Fail;
+use std::thread::Threads;
 
 /// What has happened, as a decimal number: of each statement that has passed its session and its number, and 00 where
 /// writes follow.
@@ -97,8 +101,21 @@ impl<'a> Disk for NotedDisk<'a> {
     }
 }
 
-#[test]
-fn each_statement_passes_the_gate_before_it_writes(rt: HostRuntime) -> Result<(), Fail> {
+/// Statements of three sessions.
+const SCRIPT: &[u8] = b"@1 insert vector 'a:1'
+search 'a'
+@2 search 'a'
+# none
+@3 insert vector 'b:1'
+end
+@1 insert vector 'c:1'
+";
+
+/// Each statement passes the gate before it writes.
+pub fn see_a_gate<R>(rt: &R, tally: &mut Tally) -> Result<()>
+where
+    R: Threads + Wait + Sync + Print + AllocGlobal,
+{
     let alloc = rt.alloc();
     let events = Events {
         number: AtomicU64::new(0),
@@ -107,13 +124,12 @@ fn each_statement_passes_the_gate_before_it_writes(rt: HostRuntime) -> Result<()
         disk: MemoryDisk::new(alloc, Vec::new(alloc)),
         events: &events,
     };
-    let text =
-        b"@1 insert vector 'a:1'\nsearch 'a'\n@2 search 'a'\n# none\n@3 insert vector 'b:1'\nend\n@1 insert vector 'c:1'\n";
-    let script = MemorySource::new(text.to_vec(alloc)?, Vec::new(alloc), 4096);
+    let script = MemorySource::new(SCRIPT.to_vec(alloc)?, Vec::new(alloc), PIECE);
     let out = MemorySink::new(alloc, Vec::new(alloc));
     let words = vec![in alloc; String::from_str(alloc, "run")?]?;
-    let outcome = run_shell(&rt, alloc, &words, script, out, store, &events);
-    assert_eq!(rt; outcome.status, 1);
-    assert_eq!(rt; events.number.load(Ordering::SeqCst), 11_00_21_31_00_12_00);
+    let ended = run_shell(rt, alloc, &words, script, out, store, &events);
+    let number = events.number.load(Ordering::SeqCst);
+    let holds = ended.status == 1 && number == 11_00_21_31_00_12_00;
+    tally.see(rt, holds, "what passed the gate", number)?;
     Ok(())
 }

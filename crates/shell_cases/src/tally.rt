@@ -1,0 +1,34 @@
+// How much was run, and how much of it differs from what is wanted.
+use std::io;
+
+/// The counts that the program prints.
+#[derive(Default, Drop)]
+pub struct Tally {
+    /// Runs of cases.
+    pub runs: u64,
+    /// Edits of logs.
+    pub edits: u64,
+    /// Checks beside the cases.
+    pub checks: u64,
+    /// How many of all these differ.
+    pub differ: u64,
+}
+
+impl Tally {
+    /// Counts what differs.
+    pub fn note(&mut self, agrees: bool) {
+        if !agrees {
+            self.differ = self.differ.saturating_add(1);
+        }
+    }
+
+    /// Counts a check. It prints which one, where it does not hold.
+    pub fn see(&mut self, rt: &impl Print, holds: bool, what: &str, number: u64) -> io::Result<()> {
+        self.checks = self.checks.saturating_add(1);
+        self.note(holds);
+        if !holds {
+            println!(rt; "{what} {number}")?;
+        }
+        Ok(())
+    }
+}
