@@ -1,0 +1,5 @@
+pub mod PackedRows
+pub mod RowLists
+pub mod AddedRows
+pub mod LoggedRows
+pub mod Worked

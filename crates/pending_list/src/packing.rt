@@ -1,0 +1,79 @@
+// Rows of a document's keys, on pages of their own.
+ghost use Rattle.std.specs.Prelude.{◌≡◌, ◌≢◌, ◌+◌, ◌≤◌, ◌<◌, length, map, take, All, IfOk};
+ghost use Rattle.page_types.specs.Numbers.{most_body, item_limit};
+ghost use Rattle.page_types.specs.Pages.{IsPage};
+ghost use Rattle.pending_list.specs.Packing.{AreKeys, row_length, page_of_row, ArePacked};
+
+use page_types::{Body, MOST_BODY_BYTES, Page, Pieces, Rows};
+use std::alloc::{AllocError, Global};
+
+/// The bytes of a row before its keys: its item and the number of keys.
+const ROW_FRONT: usize = 6;
+
+/// The bytes of a key's length.
+const KEY_FRONT: usize = 2;
+
+/// How many of the first keys have room in one row after so many bytes of a page.
+pub(crate) fn fitting(used: usize, keys: &[Vec<u8>]) -> usize
+    requires { used ≤ most_body }
+    ensures within { result ≤ length keys.now }
+    ensures fits { result ≢ 0
+        → used + row_length (take result (map (λ key. key.items) keys.now)) ≤ most_body }
+    ensures most { result < length keys.now → most_body
+        < used + row_length (take (result + 1) (map (λ key. key.items) keys.now)) }
+{
+    let mut size = used + ROW_FRONT;
+    for k in 0..keys.len() {
+        size += KEY_FRONT + keys[k].len();
+        if size > MOST_BODY_BYTES {
+            return k;
+        }
+    }
+    keys.len()
+}
+
+/// The keys, one after the other in one buffer.
+pub(crate) fn pieces_of(alloc: Global, keys: &[Vec<u8>]) -> Result<Pieces, AllocError>
+    ensures { IfOk result (λ pieces. pieces ≡ map (λ key. key.items) keys.now) }
+{
+    let mut pieces = Pieces::new(alloc);
+    for key in keys {
+        pieces.push(key.as_slice())?;
+    }
+    Ok(pieces)
+}
+
+/// A page with one row of these keys, which leads to no other page.
+fn page_of_row(alloc: Global, item: u32, keys: &[Vec<u8>]) -> Result<Page, AllocError>
+    ensures { IfOk result (λ page. page ≡ page_of_row item (map (λ key. key.items) keys.now)) }
+{
+    let mut rows = Rows::new(alloc);
+    rows.push(item, &pieces_of(alloc, keys)?)?;
+    Ok(Page {
+        right: 0,
+        stamp: 0,
+        body: Body::Pending(rows),
+    })
+}
+
+/// Pages with all keys of a document in their order, one row of its item each: each but the last has
+/// as many of the keys as fit.
+pub fn rows(alloc: Global, item: u32, keys: &[Vec<u8>]) -> Result<Vec<Page>, AllocError>
+    requires item { item < item_limit }
+    requires keys { AreKeys (map (λ key. key.items) keys.now) }
+    ensures packed { IfOk result (λ pages.
+        ArePacked item (map (λ key. key.items) keys.now) pages.items) }
+    ensures are_pages { IfOk result (λ pages. All IsPage pages.items) }
+{
+    let mut pages = Vec::new(alloc);
+    let mut rest = keys;
+    let mut count = fitting(0, rest);
+    while count < rest.len() {
+        let (front, back) = rest.split_at(count);
+        pages.push(page_of_row(alloc, item, front)?)?;
+        rest = back;
+        count = fitting(0, rest);
+    }
+    pages.push(page_of_row(alloc, item, rest)?)?;
+    Ok(pages)
+}
