@@ -1,0 +1,7 @@
+mod KeyOrders
+mod SearchSteps
+mod FoundPlaces
+mod Reached
+mod AdoptedPages
+mod GrownPages
+mod LoggedPages

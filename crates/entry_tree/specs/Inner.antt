@@ -1,0 +1,2 @@
+-- How far a search on a page has come.
+pub mod Searching

@@ -1,0 +1,6 @@
+pub mod Inner
+pub mod Finding
+pub mod Reading
+pub mod Growing
+pub mod Adopting
+pub mod Logging
