@@ -1,0 +1,13 @@
+pub mod Sums
+pub mod Functions
+pub mod Views
+pub mod Frames
+pub mod Told
+pub mod Stay
+pub mod ClaimFrames
+pub mod GiveFrames
+pub mod Opens
+pub mod Starts
+pub mod Empty
+pub mod Rotate
+pub mod Passing

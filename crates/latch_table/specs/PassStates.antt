@@ -1,0 +1,148 @@
+-- What a pass knows, in the core's words, and what each kind of step makes of it.
+use Rattle.std.specs.Prelude.{◌≡◌, ◌==◌, ◌-◌, Bool, true, false, nat_lt, cond, ℕ, zero, suc, List, [], ◌∷◌, ◌++◌, length, Option, Some, None}
+use Rattle.std.specs.declared.snapshot.Snapshot.{Snapshot}
+use Rattle.page_types.specs.Numbers.{page_limit}
+use Rattle.page_types.specs.declared.page.Page.{Page}
+use Rattle.core_state.specs.Log.{Log, fate, next_xid}
+use Rattle.core_state.specs.Legal.{Pin}
+use Rattle.core_state.specs.Readings.{Read}
+use Rattle.core_state.specs.Allowed.{View, Sheet}
+use Rattle.core_state.specs.declared.answers.Fate.{Fate}
+use Rattle.core_state.specs.declared.answers.Fate.TheVariants.{Running}
+use Rattle.latch_table.specs.declared.slots.Journaled.{Ghosts as Journaled}
+use Rattle.latch_table.specs.declared.states.Note.{Note}
+use Rattle.latch_table.specs.declared.states.Reading.{Reading}
+use Rattle.latch_table.specs.declared.states.PinNote.{PinNote}
+use Rattle.latch_table.specs.declared.states.Shown.{Shown}
+use Rattle.latch_table.specs.declared.states.PassState.{PassState}
+
+-- the sheets, and this page in front where it is one
+abbrev pub sheet_if : Bool → ℕ → Page → List Sheet → List Sheet
+sheet_if true p c ss = record { page = p; content = c } ∷ ss
+sheet_if false p c ss = ss
+
+-- the pages that a pass holds; an empty frame has none
+abbrev pub sheets : List Note → List Sheet
+sheets [] = []
+sheets (f ∷ fs) = sheet_if (nat_lt f.page page_limit) f.page f.content (sheets fs)
+
+-- the readings in the core's words
+abbrev pub reads : List Reading → List Read
+reads [] = []
+reads (x ∷ xs) = record { length = x.length; page = x.page; content = x.content } ∷ reads xs
+
+abbrev pub pin_of : PinNote → Pin
+pin_of p = record { commits = p.commits; length = p.length }
+
+abbrev pub pin_if : Option PinNote → Option Pin
+pin_if None = None
+pin_if (Some p) = Some (pin_of p)
+
+-- the list, and x in front where it runs
+abbrev pub runs_if : Fate → ℕ → List ℕ → List ℕ
+runs_if Running x xs = x ∷ xs
+runs_if _ x xs = xs
+
+-- the xids from 1 to n that run
+abbrev pub running_to : Log → ℕ → List ℕ
+running_to R zero = []
+running_to R (suc n) = runs_if (fate R (suc n)) (suc n) (running_to R n)
+
+-- the xids that run
+abbrev pub running : Log → List ℕ
+running R = running_to R (next_xid R - 1)
+
+-- the notes but that of this frame
+abbrev pub without : ℕ → List Note → List Note
+without k [] = []
+without k (f ∷ fs) = cond (f.frame == k) fs (f ∷ without k fs)
+
+-- the list, and x in front where it is to be noted
+abbrev pub finds_if : Bool → ℕ → List ℕ → List ℕ
+finds_if true x xs = x ∷ xs
+finds_if false x xs = xs
+
+module _ {J : Type 0} where
+  -- what the core sees of a pass
+  abbrev pub view_of : PassState J → View
+  view_of v = record {
+    seen = v.seen;
+    pin = pin_if v.pin;
+    floor = v.floor;
+    since = v.since;
+    from = v.from;
+    readings = reads v.readings;
+    held = sheets v.frames;
+    xids = v.xids;
+    begun = v.begun;
+    work = v.work;
+  }
+
+  -- the first pass, before it has seen the log
+  abbrev pub first_state : Snapshot J → PassState J
+  first_state key = record {
+    start = Some key;
+    fresh = true;
+    seen = [];
+    shown = 0;
+    counted = 0;
+    shows = [];
+    floor = 0;
+    since = 0;
+    faults = 0;
+    write_faults = 0;
+    count = 0;
+    snapshot = 0;
+    pin = None;
+    from = 0;
+    readings = [];
+    frames = [];
+    journal = None;
+    own = [];
+    xids = [];
+    begun = [];
+    work = None;
+    redo = None;
+    walk = None;
+    room = 16;
+    finds = [];
+    met = [];
+  }
+
+  -- the pass after a try, which notes what it found
+  abbrev pub found_by : Bool → ℕ → PassState J → PassState J
+  found_by notes x v = record v { finds = finds_if notes x v.finds }
+
+  -- A pass with one frame more, claimed when the log had this length. It is a reading exactly where
+  -- its page is the one sought.
+  abbrev pub with_frame : ℕ → ℕ → Note → PassState J → PassState J
+  with_frame at sought f v = record v {
+    frames = f ∷ v.frames;
+    readings = cond (f.page == sought)
+        (v.readings ++ record { length = at; page = f.page; bytes = f.bytes; content = f.content } ∷ [])
+        v.readings;
+  }
+
+  -- a pass that gave a frame back
+  abbrev pub without_frame : ℕ → PassState J → PassState J
+  without_frame k v = record v { frames = without k v.frames }
+
+module _ {J : Type 0} (journal : Journaled J) where
+  -- the first pass once it has seen the log that the journal stands for, at a clock value by which
+  -- what is flushed is reached
+  abbrev pub open_state : J → Log → ℕ → PassState J → PassState J
+  open_state b R clock v = record v {
+    fresh = false;
+    seen = R;
+    shown = journal.flushed b;
+    counted = journal.counted b;
+    shows = record { clock = clock; commits = journal.flushed b } ∷ v.shows;
+    floor = journal.flushed b;
+    since = length R;
+    count = journal.faults b;
+    xids = running R;
+  }
+
+  -- the store was lawful at the opening
+  abbrev pub IsLawful : PassState J → Type 0
+  IsLawful v = (k : Snapshot J) × (v.start ≡ Some k) × journal.lawful k.value

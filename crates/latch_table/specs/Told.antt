@@ -1,0 +1,58 @@
+-- What each kind of step tells the pass that makes it.
+use Rattle.std.specs.Prelude.{◌≡◌, ◌≢◌, ◌<◌, ◌-◌, Bool, ℕ, List, ◌∷◌, ◌++◌, length, Some}
+use Rattle.std.specs.declared.snapshot.Snapshot.{Snapshot}
+use Rattle.atomic_table.specs.Table.{Me, Step}
+use Rattle.page_types.specs.Numbers.{page_limit}
+use Rattle.page_types.specs.Spelling.{page_bytes}
+use Rattle.page_types.specs.declared.page.Page.{Page}
+use Rattle.core_state.specs.Log.{Log}
+use Rattle.core_state.specs.Allowed.{IsAllowed}
+use Rattle.latch_table.specs.declared.slots.Framed.{Ghosts as Framed}
+use Rattle.latch_table.specs.declared.slots.Journaled.{Ghosts as Journaled}
+use Rattle.latch_table.specs.declared.slots.Slot.{Slot}
+use Rattle.latch_table.specs.declared.slots.Slot.TheVariants.{Frame}
+use Rattle.latch_table.specs.declared.states.Note.{Note}
+use Rattle.latch_table.specs.declared.states.PassState.{PassState}
+use Rattle.latch_table.specs.PassStates.{view_of, found_by, with_frame, without_frame, open_state, IsLawful}
+
+module _ {F J : Type 0} (frame : Framed F) (journal : Journaled J) where
+  -- The frame `at`, with this value, was claimed when the log was one that goes on from what the pass
+  -- had seen. Of a lawful store, that log is allowed to the pass as it is then, and the page that is
+  -- noted spells the frame's bytes.
+  pub record HasClaimed (at sought : ℕ) (f : F) (old new : PassState J) : Type 0 where
+    pub log : Log
+    pub content : Page
+    pub goes_on : (later : Log) × (log ≡ later ++ old.seen)
+    pub state : new ≡ with_frame (length log) sought
+        (record { frame = at; page = frame.page f; bytes = frame.bytes f; content = content }) old
+    pub allowed : IsLawful journal old → IsAllowed (view_of new) log
+    pub spelled : IsLawful journal old → frame.page f < page_limit → page_bytes content ≡ frame.bytes f
+
+  -- a try to claim a frame found its word free, or taken
+  abbrev pub claimed : Bool → Step (Slot F J) → Me (Slot F J) (PassState J) → ℕ → Me (Slot F J) (PassState J) → Type 0
+  claimed notes st m found m' =
+      (found ≡ 0 → (f : F) × HasClaimed st.word (st.second - 1) f (found_by notes found m.0) m'.0
+      × (m'.1 ≡ (st.word, Frame f) ∷ m.1))
+      × (found ≢ 0 → m' ≡ (found_by notes found m.0, m.1))
+
+module _ {J : Type 0} (journal : Journaled J) where
+  -- The first pass has seen the log that the journal stands for. Of a lawful store, that log is
+  -- allowed to it, and what is flushed is reached at the clock value that it was shown.
+  pub record HasOpened (b : J) (old new : PassState J) : Type 0 where
+    pub log : Log
+    pub clock : ℕ
+    pub stands : journal.stands b log
+    pub state : new ≡ open_state journal b log clock old
+    pub allowed : journal.lawful b → IsAllowed (view_of new) log
+    pub reached : journal.lawful b → journal.reaches b clock (journal.flushed b)
+
+module _ {F J : Type 0} where
+  -- a frame was given back
+  abbrev pub gave_back : Step (Slot F J) → Me (Slot F J) (PassState J) → ℕ → Me (Slot F J) (PassState J) → Type 0
+  gave_back st m found m' =
+      (m'.0 ≡ without_frame st.word m.0)
+      × ((x : ℕ × Slot F J) (xs : List (ℕ × Slot F J)) → m.1 ≡ x ∷ xs → m'.1 ≡ xs)
+
+  -- the first pass looked at the journal as it was at the opening
+  abbrev pub opened : Journaled J → Step (Slot F J) → Me (Slot F J) (PassState J) → ℕ → Me (Slot F J) (PassState J) → Type 0
+  opened journal st m found m' = (k : Snapshot J) → m.0.start ≡ Some k → HasOpened journal k.value m.0 m'.0 × (m'.1 ≡ m.1)

@@ -1,0 +1,20 @@
+//! Latches on frames, on the journal and on the right of maintenance, as the words of one table, whose rule ties what each session knows to the log.
+#![tactic(auto)]
+
+mod claims;
+mod held;
+mod laws;
+mod pass;
+mod plays;
+mod rule;
+mod slots;
+mod states;
+mod table;
+
+pub use held::Held;
+pub use laws::empty_stores_lie;
+pub use pass::Pass;
+pub use rule::{LatchRule, Latches, Place};
+pub use slots::{Framed, Journaled, Slot};
+pub use states::{Note, PassState, PinNote, Reading, RedoNote, Shown, WalkNote};
+pub use table::LatchTable;

@@ -1,0 +1,9 @@
+// What a session goes by.
+use crate::held::Held;
+use crate::rule::Place;
+
+/// A seat of the table, with the order of its held frames.
+pub struct Pass<F, J> {
+    pub(crate) seat: Place<F, J>,
+    pub(crate) held: Held,
+}
