@@ -26,7 +26,7 @@ use Rattle.buffer_frames.specs.declared.page_map.PageMap.{PageMap}
 use Rattle.buffer_frames.proofs.OnePageFiles.{stands_beside_more}
 use Rattle.buffer_frames.proofs.OnePageFirst.{first_is_log}
 use Rattle.buffer_frames.proofs.OnePageRoom.{state_is_of}
-use Rattle.buffer_frames.proofs.Rows.{one_row}
+use Rattle.buffer_frames.proofs.BatchRecords.{one_batch}
 
 -- beginnings of beginnings
 begins_all : (H : History) → Begins H H
@@ -81,15 +81,15 @@ module _ {D : Type 0} (device : Disk D) (one : CountedAreOne) where
       let was : (batches : List (List ℕ)) × Settled device batches (end_of j.wal) j.disk × AreRecords batches s.counted = s.settled t up in
       record {
         batches = was.0;
-        opens = inr (record { gate = was.1.gate; rest = was.1.rest; split = was.1.log.durable c left; shut = was.1.shut; fit = was.1.fit });
+        opens = inr (record { commit_byte = was.1.commit_byte; rest = was.1.rest; split = was.1.log.durable c left; unset = was.1.unset; fit = was.1.fit });
         records = was.2;
       }
 
-  -- where the device tells, a journal that is up stands for one log
+  -- where the device says what it holds, a journal that is up stands for one log
   pub stands_one : ((d : D) → images_now device d (device.seen d)) → (j : JournalValue D) (R S : Log) → Stands device j R → Stands device j S → device.tells → down_of j.wal ≡ None → R ≡ S
   stands_one law j R S r s t up =
       let counted : r.counted ≡ s.counted = one (device.seen j.disk).log r.counted s.counted (image_counted j R r t up (device.seen j.disk) (law j.disk)) (image_counted j S s t up (device.seen j.disk) (law j.disk)) in
-      let turned : reverse r.waits ≡ reverse s.waits = one_row (waiting j.wal) (reverse r.waits) (reverse s.waits) (r.waiting_is up) (s.waiting_is up) in
+      let turned : reverse r.waits ≡ reverse s.waits = one_batch (waiting j.wal) (reverse r.waits) (reverse s.waits) (r.waiting_is up) (s.waiting_is up) in
       let waits : r.waits ≡ s.waits = sym (reverse-reverse r.waits) ∙ ap reverse turned ∙ reverse-reverse s.waits in
       r.all ∙ ap (λ (l : Log). l ++ r.counted) waits ∙ ap (λ (l : Log). s.waits ++ l) counted ∙ sym s.all
 

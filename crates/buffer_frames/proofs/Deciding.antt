@@ -1,4 +1,4 @@
--- A log is gone through until a closed gate or a broken batch.
+-- A log is gone through until an unset commit byte or a broken batch.
 use Rattle.std.proofs.Common.{◌≡◌, ◌≢◌, ◌⊎◌, ℕ, zero, suc, ◌+◌, ◌<◌, ◌≤◌, ◌^◌, Bool, cond, List, [], ◌∷◌, ◌++◌, length, take, drop, get_or, Result, Ok, Err, refl, sym, ap, subst, ◌∙◌, append_assoc, append-nil, length-append, inl, inr, arith}
 use Rattle.std.proofs.lemmas.Bool.{le-ltb}
 use Rattle.std.proofs.lemmas.List.{drop_at, drop-drop, get_or_at, take-append-drop, length-drop, length-take-le}
@@ -15,18 +15,18 @@ use Rattle.buffer_frames.specs.NoStore.{IsStoreOf, IsNoStore}
 
 -- where a log ends
 data Ends (log : List ℕ) : Type 0 where
-  shut : (batches : List (List ℕ)) → HasBatches log batches → Ends log
+  unset : (batches : List (List ℕ)) → HasBatches log batches → Ends log
   broken : (read : List (List ℕ)) (rest : List ℕ) → AreBatches read → log ≡ front read ++ rest
       → IsBroken log (length (front read)) → Ends log
 
--- the batch behind an open gate
+-- the batch after a set commit byte
 record NextBatch (r : List ℕ) : Type 0 where
   batch : List ℕ
   rest : List ℕ
   some : 0 < length batch
   small : length batch < 256 ^ 4
-  spelled : r ≡ little_bytes 4 (length batch) ++ (batch ++ rest)
-  gate : 0 < length rest
+  encoded : r ≡ little_bytes 4 (length batch) ++ (batch ++ rest)
+  commit_byte : 0 < length rest
 
 abbrev when_room : {A : Type 0} → Bool → A → Result A ℕ
 when_room short x = cond short (Err 0) (Ok x)
@@ -42,16 +42,16 @@ four_bytes r bytes room =
     let t = number_takes 4 wide4 four (little_number 4 four) (drop 4 four) (IsBytes-take 4 r bytes) read in
     (little_number 4 four, t.1, sym (wide4.back four size (IsBytes-take 4 r bytes)))
 
--- behind an open gate stands a batch, or a broken one
+-- after a set commit byte is a batch, or a broken one
 next_at : (log : List ℕ) (read : List (List ℕ)) (g : ℕ) (r : List ℕ) → AreBytes r → log ≡ front read ++ g ∷ r → g ≡ 1
     → IsBroken log (length (front read)) ⊎ NextBatch r
 next_at log read g r bytes split is = elim (below_or_past (length log) (length (front read) + 5 + 1)) [
-  | inl short ↦ inl (open_gate, inl short)
+  | inl short ↦ inl (set_byte, inl short)
   | inr room ↦ with_length (four_bytes r bytes (omega (arith, room, long)))
 ]
   where
-    open_gate : get_or log (length (front read)) 0 ≡ 1
-    open_gate =
+    set_byte : get_or log (length (front read)) 0 ≡ 1
+    set_byte =
         ap (λ (l : List ℕ). get_or l (length (front read)) 0) split
         ∙ get_or_at (front read) g r 0 (length (front read)) refl ∙ is
 
@@ -66,9 +66,9 @@ next_at log read g r bytes split is = elim (below_or_past (length log) (length (
     with_length : (n : ℕ) × (n < 256 ^ 4) × (take 4 r ≡ little_bytes 4 n) → IsBroken log (length (front read))
         ⊎ NextBatch r
     with_length w = elim (same_or_other w.0 0) [
-      | inl none ↦ inl (open_gate, inr (w.0, (w.1, ap (take 4) behind ∙ w.2), inl none))
+      | inl none ↦ inl (set_byte, inr (w.0, (w.1, ap (take 4) behind ∙ w.2), inl none))
       | inr some ↦ elim (below_or_past (length (front read) + 5 + w.0) (length log)) [
-        | inr past ↦ inl (open_gate, inr (w.0, (w.1, ap (take 4) behind ∙ w.2), inr past))
+        | inr past ↦ inl (set_byte, inr (w.0, (w.1, ap (take 4) behind ∙ w.2), inr past))
         | inl within ↦
             let size : length (take w.0 (drop 4 r)) ≡ w.0 =
             length-take-le w.0 (drop 4 r) (omega (arith, within, long, length-drop 4 r)) in
@@ -77,12 +77,12 @@ next_at log read g r bytes split is = elim (below_or_past (length log) (length (
               rest = drop w.0 (drop 4 r);
               some = omega (arith, size, some);
               small = subst (λ k. k < 256 ^ 4) (sym size) w.1;
-              spelled =
+              encoded =
                   sym (take-append-drop 4 r) ∙ ap (λ (l : List ℕ). l ++ drop 4 r)
                   (w.2 ∙ ap (little_bytes 4) (sym size)) ∙ ap
                   (λ (l : List ℕ). little_bytes 4 (length (take w.0 (drop 4 r))) ++ l)
                   (sym (take-append-drop w.0 (drop 4 r)));
-              gate = omega (arith, within, long, length-drop 4 r, length-drop w.0 (drop 4 r));
+              commit_byte = omega (arith, within, long, length-drop 4 r, length-drop w.0 (drop 4 r));
             })
       ]
     ]
@@ -116,19 +116,19 @@ ends_at : (fuel : ℕ) (log : List ℕ) (read : List (List ℕ)) (rest : List �
 ends_at zero log read rest bytes fit split some room = absurd (omega arith)
 ends_at (suc fuel) log read [] bytes fit split some room = absurd (omega arith)
 ends_at (suc fuel) log read (g ∷ r) bytes fit split some room = elim (same_or_other g 1) [
-  | inr off ↦ shut read (record { gate = g; rest = r; split = split; shut = off; fit = fit })
+  | inr off ↦ unset read (record { commit_byte = g; rest = r; split = split; unset = off; fit = fit })
   | inl is ↦ elim (next_at log read g r (λ i. bytes (suc i)) split is) [
     | inl b ↦ broken read (g ∷ r) fit split b
     | inr next ↦
         let later : log ≡ front (read ++ next.batch ∷ []) ++ next.rest =
-        split ∙ ap (λ (k : ℕ). front read ++ k ∷ r) is ∙ ap (λ (l : List ℕ). front read ++ 1 ∷ l) next.spelled
+        split ∙ ap (λ (k : ℕ). front read ++ k ∷ r) is ∙ ap (λ (l : List ℕ). front read ++ 1 ∷ l) next.encoded
         ∙ front_push read next.batch next.rest in
         ends_at fuel log (read ++ next.batch ∷ []) next.rest (rest_bytes r next bytes)
-        (fit_push read next.batch fit next.some next.small) later next.gate
+        (fit_push read next.batch fit next.some next.small) later next.commit_byte
         (omega (
           arith,
           room,
-          ap length next.spelled,
+          ap length next.encoded,
           length-append (little_bytes 4 (length next.batch))
               (next.batch ++ next.rest),
           length-append next.batch next.rest,
@@ -141,7 +141,7 @@ ends_at (suc fuel) log read (g ∷ r) bytes fit split some room = elim (same_or_
         let k : ℕ = length (little_bytes 4 (length next.batch)) in
         let behind : drop (length next.batch) (drop k r) ≡ next.rest =
         ap (drop (length next.batch))
-        (ap (drop k) next.spelled ∙ drop_at (little_bytes 4 (length next.batch)) (next.batch ++ next.rest) k refl)
+        (ap (drop k) next.encoded ∙ drop_at (little_bytes 4 (length next.batch)) (next.batch ++ next.rest) k refl)
         ∙ drop_at next.batch next.rest (length next.batch) refl in
         subst AreBytes behind (IsBytes-drop (length next.batch) (drop k r) (IsBytes-drop k r (λ i. bytes (suc i))))
 
@@ -166,14 +166,14 @@ module _ (files : Files) (none : (R : Log) → IsStoreOf files R → ⊥) where
         counted = record {
           batches = [];
           opens = inl (unborn, refl);
-          records = record { rows = []; each = tt; log_is = refl; numbered = tt };
+          records = record { lists = []; each = tt; log_is = refl; numbered = tt };
         };
         applies = tt;
       })
 
   with_end : Ends files.log → IsNoStore files
-  with_end (Ends.shut batches has) =
-      IsNoStore.no_records batches (has.gate ∷ has.rest) has.fit has.split (λ e. omega (arith, ap length e))
+  with_end (Ends.unset batches has) =
+      IsNoStore.no_records batches (has.commit_byte ∷ has.rest) has.fit has.split (λ e. omega (arith, ap length e))
       (λ R records can. none R
       (record { counted = record { batches = batches; opens = inr has; records = records }; applies = can }))
   with_end (Ends.broken read rest fit split b) = IsNoStore.broken read rest fit split b
@@ -188,9 +188,9 @@ module _ (files : Files) (none : (R : Log) → IsStoreOf files R → ⊥) where
   no_store_there bytes = elim (below_or_past (length files.log) 18) [
     | inl short ↦ absurd (created (inl (omega (arith, short))))
     | inr long ↦ elim (same_or_other (get_or files.log 0 0) 1) [
-      | inl open_gate ↦ elim (same_bytes (take 17 files.log) header) [
+      | inl set_byte ↦ elim (same_bytes (take 17 files.log) header) [
         | inl is ↦ with_header bytes long is
-        | inr off ↦ IsNoStore.foreign (inr (open_gate, long, off))
+        | inr off ↦ IsNoStore.foreign (inr (set_byte, long, off))
       ]
       | inr closed ↦ elim (below_or_past 18 (length files.log)) [
         | inl longer ↦ IsNoStore.foreign (inl (longer, closed))

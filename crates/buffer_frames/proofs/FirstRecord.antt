@@ -1,8 +1,8 @@
--- The first record of a store is spelled, in few bytes.
+-- The first record of a store is encoded, in few bytes.
 use Rattle.std.proofs.Common.{◌≡◌, ◌≤◌, ◌<◌, ◌+◌, ℕ, List, [], ◌∷◌, ◌++◌, length, arith, length-append}
 use Rattle.page_types.specs.Numbers.{u32_bytes, u64_bytes, page_limit}
 use Rattle.page_types.specs.Pages.{IsPage}
-use Rattle.page_types.specs.Spelling.{page_bytes}
+use Rattle.page_types.specs.Encoding.{page_bytes}
 use Rattle.page_types.specs.Records.{IsChange, IsRecord, record_bytes, record_rest, change_bytes}
 use Rattle.page_types.specs.declared.page.Page.{Page}
 use Rattle.page_types.specs.declared.page.Body.TheVariants as body
@@ -15,8 +15,8 @@ use Rattle.buffer_frames.specs.First.{imaged, first_page, first_record}
 image_fits : (page : ℕ) (content : Page) → page < page_limit → IsPage content → IsChange content.stamp (imaged page content)
 image_fits page content small is = let parts = has_parts content is in record { page = small; edit = record { size = parts.size; stamp = parts.stamp } }
 
-pub first_spelled : IsRecord first_record
-first_spelled = record {
+pub first_encoded : IsRecord first_record
+first_encoded = record {
   number = omega arith;
   xid = omega arith;
   kind = tt;

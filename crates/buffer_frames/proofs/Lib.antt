@@ -1,11 +1,11 @@
 pub mod Only
 pub mod Mapping
 pub mod Paging
-pub mod Rows
+pub mod BatchRecords
 pub mod Steps
 mod InsertNumbers
 pub mod ReadingOn
-pub mod RowReading
+pub mod BatchReading
 pub mod Exits
 pub mod MapTelling
 pub mod Loading

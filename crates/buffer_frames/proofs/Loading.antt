@@ -11,15 +11,15 @@ use Rattle.wal.specs.declared.log.Wal.{Wal}
 use Rattle.page_types.specs.declared.record.Record.{Record}
 use Rattle.core_state.specs.Log.{Log}
 use Rattle.core_state.specs.States.{StateValue, empty_state, state_of}
-use Rattle.core_state.specs.Stores.{IsRowOf}
+use Rattle.core_state.specs.Stores.{AreRecordsOf}
 use Rattle.buffer_frames.specs.Counted.{AreNumbered, AreRecords}
 use Rattle.buffer_frames.specs.Applied.{CanApply}
 use Rattle.buffer_frames.specs.NoStore.{IsNoStore, broken, no_records}
 use Rattle.buffer_frames.specs.Maps.{lookup}
 use Rattle.buffer_frames.specs.Records.{AreRead}
-use Rattle.buffer_frames.specs.Inner.Reads.{IsRead, ReadsRow}
+use Rattle.buffer_frames.specs.Inner.Reads.{IsRead, ReadsBatch}
 use Rattle.buffer_frames.specs.declared.page_map.PageMap.{PageMap}
-use Rattle.buffer_frames.proofs.Rows.{records_push, records_last}
+use Rattle.buffer_frames.proofs.BatchRecords.{records_push, records_last}
 use Rattle.buffer_frames.proofs.Steps.{state_limits}
 use Rattle.buffer_frames.proofs.MapTelling.{none_has, has_applied}
 
@@ -69,7 +69,7 @@ module _ {D : Type 0} (device : Disk D) where
         λ told. record {
           batches = [];
           reading = reading told;
-          records = record { rows = []; each = tt; log_is = refl; numbered = tt };
+          records = record { lists = []; each = tt; log_is = refl; numbered = tt };
         };
   }
 
@@ -78,17 +78,17 @@ module _ {D : Type 0} (device : Disk D) where
       (map map' : PageMap) (bytes : List ℕ) → (loads : Loads device first mid wal pages xid_limit s map)
       → (device.tells → (batches : List (List ℕ)) → IsReading wal (device.seen first).log batches
       → IsReading wal' (device.seen first).log (batches ++ bytes ∷ []))
-      → ReadsRow device new (device.seen first).pages pages xid_limit s' map' loads.R bytes
+      → ReadsBatch device new (device.seen first).pages pages xid_limit s' map' loads.R bytes
       → Loads device first new wal' pages xid_limit s' map'
   more_loaded first mid new wal wal' pages xid_limit s s' map map' bytes loads goes row = record {
-    R = reverse row.row ++ loads.R;
+    R = reverse row.records ++ loads.R;
     is_read = row.is_read;
     given = λ told.
         let g = loads.given told in
         record {
           batches = g.batches ++ bytes ∷ [];
           reading = goes told g.batches g.reading;
-          records = records_push g.batches loads.R bytes row.row g.records row.spelled row.is_read.numbered;
+          records = records_push g.batches loads.R bytes row.records g.records row.encoded row.is_read.numbered;
         };
   }
 
@@ -130,7 +130,7 @@ module _ {D : Type 0} (device : Disk D) where
         (g.batches, settled told g.batches g.reading is, g.records);
   }
 
-  -- no batch behind an open gate
+  -- no batch after a set commit byte
   pub broken_there : (first mid : D) (wal : Wal) (pages xid_limit : ℕ) (s : StateValue) (map : PageMap)
       → Loads device first mid wal pages xid_limit s map → device.tells
       → IsBroken (device.seen first).log (end_of wal) → IsNoStore (device.seen first)
@@ -139,14 +139,14 @@ module _ {D : Type 0} (device : Disk D) where
       broken g.batches g.reading.rest g.reading.fit g.reading.split
       (subst (IsBroken (device.seen first).log) g.reading.place b)
 
-  -- a batch that is no row of records which go on
-  pub no_row_there : (first mid new : D) (wal wal' : Wal) (pages xid_limit : ℕ) (s : StateValue) (map : PageMap)
+  -- a batch that is not records which go on
+  pub no_batch_there : (first mid new : D) (wal wal' : Wal) (pages xid_limit : ℕ) (s : StateValue) (map : PageMap)
       (bytes : List ℕ) → (loads : Loads device first mid wal pages xid_limit s map) → device.tells
       → ((batches : List (List ℕ)) → IsReading wal (device.seen first).log batches
       → IsReading wal' (device.seen first).log (batches ++ bytes ∷ []))
-      → ((row : List Record) → IsRowOf bytes row → AreNumbered (reverse row ++ loads.R)
+      → ((row : List Record) → AreRecordsOf bytes row → AreNumbered (reverse row ++ loads.R)
       → CanApply (device.seen first).pages (reverse row ++ loads.R) → ⊥) → IsNoStore (device.seen first)
-  no_row_there first mid new wal wal' pages xid_limit s map bytes loads told goes off =
+  no_batch_there first mid new wal wal' pages xid_limit s map bytes loads told goes off =
       let g = loads.given told in
       let now = goes g.batches g.reading in
       no_records (g.batches ++ bytes ∷ []) now.rest now.fit now.split

@@ -1,4 +1,4 @@
--- Records that wait behind those that did.
+-- Records that wait after those that did.
 use Rattle.std.proofs.Common.{◌≡◌, ◌⊎◌, ◌<◌, ◌+◌, ◌^◌, ℕ, Bool, true, false, cond, List, [], ◌∷◌, ◌++◌, length, refl, sym, ap, subst, ◌∙◌, arith, append_assoc, lit<}
 use Rattle.std.specs.Prelude.{Result, Ok, Err, OnOk, OnErr, reverse, flat_map}
 use Rattle.std.specs.List.{AllByRecursion}
@@ -12,7 +12,7 @@ use Rattle.page_types.specs.Records.{record_bytes, IsRecord}
 use Rattle.page_types.specs.declared.record.Record.{Record}
 use Rattle.core_state.specs.Log.{Log}
 use Rattle.core_state.specs.States.{StateValue, state_of, step_of}
-use Rattle.core_state.specs.Stores.{IsRowOf}
+use Rattle.core_state.specs.Stores.{AreRecordsOf}
 use Rattle.core_state.proofs.Bounds.{step_marks, state_bounds}
 use Rattle.buffer_frames.specs.Counted.{AreNumbered}
 use Rattle.buffer_frames.specs.Journals.{JournalValue, Stands, CountsEither, AreNext, logged, with_owed, owed_abort, logged_bytes, next_number, commits_in}
@@ -36,17 +36,17 @@ records_of : (records : List Record) (n : ℕ) → AreNext n records → AllByRe
 records_of [] n next = tt
 records_of (r ∷ records) n next = (next.0, records_of records (1 + n) next.2)
 
--- the state of the log behind them
+-- the state of the log after them
 state_on : (p x : ℕ) (R : Log) (records : List Record) → state_of p x (reverse records ++ R) ≡ steps_of records (state_of p x R)
 state_on p x R [] = refl
 state_on p x R (r ∷ records) =
     ap (state_of p x) (ap (λ (l : List Record). l ++ R) (reverse-append (r ∷ []) records) ∙ append_assoc (reverse records) (r ∷ []) R) ∙ state_on p x (r ∷ R) records
 
--- one row behind another
-both_rows : (a b : List ℕ) (rs ss : List Record) → IsRowOf a rs → IsRowOf b ss → IsRowOf (a ++ b) (rs ++ ss)
-both_rows a b rs ss one two = record {
+-- some records after others
+both_records : (a b : List ℕ) (rs ss : List Record) → AreRecordsOf a rs → AreRecordsOf b ss → AreRecordsOf (a ++ b) (rs ++ ss)
+both_records a b rs ss one two = record {
   each = both rs ss one.each two.each;
-  spelled = ap (λ (l : List ℕ). l ++ b) one.spelled ∙ ap (λ (l : List ℕ). flat_map record_bytes rs ++ l) two.spelled ∙ sym (flat_map-append record_bytes rs ss);
+  encoded = ap (λ (l : List ℕ). l ++ b) one.encoded ∙ ap (λ (l : List ℕ). flat_map record_bytes rs ++ l) two.encoded ∙ sym (flat_map-append record_bytes rs ss);
 }
   where
     both : (rs ss : List Record) → AllByRecursion IsRecord rs → AllByRecursion IsRecord ss → AllByRecursion IsRecord (rs ++ ss)
@@ -60,9 +60,9 @@ owed owes n = cond owes (owed_abort n ∷ []) []
 owed_is_record : (n : ℕ) → n < 2 ^ 64 → IsRecord (owed_abort n)
 owed_is_record n small = record { number = small; xid = lit< tt; kind = tt; count = lit< tt; changes = tt; once = tt }
 
-owed_row : (owes : Bool) (n : ℕ) → n < 2 ^ 64 → IsRowOf (cond owes (record_bytes (owed_abort n)) []) (owed owes n)
-owed_row false n small = record { each = tt; spelled = refl }
-owed_row true n small = record { each = (owed_is_record n small, tt); spelled = sym (append-nil (record_bytes (owed_abort n))) }
+owed_records : (owes : Bool) (n : ℕ) → n < 2 ^ 64 → AreRecordsOf (cond owes (record_bytes (owed_abort n)) []) (owed owes n)
+owed_records false n small = record { each = tt; encoded = refl }
+owed_records true n small = record { each = (owed_is_record n small, tt); encoded = sym (append-nil (record_bytes (owed_abort n))) }
 
 with_owed_is : (owes : Bool) (R : Log) → with_owed owes R ≡ owed owes (1 + length R) ++ R
 with_owed_is true R = refl
@@ -97,9 +97,9 @@ module _ {D : Type 0} (device : Disk D) where
     numbered = subst AreNumbered (sym log_is) numbered;
     state = states;
     flushed = λ up. has.flushed ∙ s.flushed (sym has.down ∙ up) ∙ ap (λ (t : ℕ × ℕ). length (state_of t.0 t.1 s.counted).deleted) (sym bounds);
-    waiting_is = λ up. subst (λ (b : List ℕ). IsRowOf b (reverse ((reverse records ++ more) ++ s.waits))) (sym has.waits)
-        (subst (IsRowOf (waiting j.wal ++ logged_bytes j records)) (sym turned) (both_rows (waiting j.wal) (logged_bytes j records) (reverse s.waits) (more ++ records) (s.waiting_is (sym has.down ∙ up))
-        (both_rows (cond j.owes (record_bytes (owed_abort (1 + j.state.records))) []) (flat_map record_bytes records) more records (owed_row j.owes (1 + j.state.records) small) (record { each = records_of records (next_number j) next; spelled = refl }))));
+    waiting_is = λ up. subst (λ (b : List ℕ). AreRecordsOf b (reverse ((reverse records ++ more) ++ s.waits))) (sym has.waits)
+        (subst (AreRecordsOf (waiting j.wal ++ logged_bytes j records)) (sym turned) (both_records (waiting j.wal) (logged_bytes j records) (reverse s.waits) (more ++ records) (s.waiting_is (sym has.down ∙ up))
+        (both_records (cond j.owes (record_bytes (owed_abort (1 + j.state.records))) []) (flat_map record_bytes records) more records (owed_records j.owes (1 + j.state.records) small) (record { each = records_of records (next_number j) next; encoded = refl }))));
     settled = λ t up.
         let was = s.settled t (sym has.down ∙ up) in
         (was.0, subst (λ (d : D). Settled device was.0 (end_of j'.wal) d) (sym has.disk) (subst (λ (e : ℕ). Settled device was.0 e j.disk) (sym has.end) was.1), was.2);
@@ -150,7 +150,7 @@ module _ {D : Type 0} (device : Disk D) where
     numbered = s.numbered;
     state = subst (λ (v : StateValue). v ≡ state_of v.pages v.xid_limit R) (sym same.state) s.state;
     flushed = λ up. same.flushed ∙ s.flushed (sym same.down ∙ up) ∙ ap (λ (v : StateValue). commits_in v s.counted) (sym same.state);
-    waiting_is = λ up. subst (λ (b : List ℕ). IsRowOf b (reverse s.waits)) (sym same.waits) (s.waiting_is (sym same.down ∙ up));
+    waiting_is = λ up. subst (λ (b : List ℕ). AreRecordsOf b (reverse s.waits)) (sym same.waits) (s.waiting_is (sym same.down ∙ up));
     settled = λ t up.
         let was = s.settled t (sym same.down ∙ up) in
         (was.0, subst (λ (d : D). Settled device was.0 (end_of j'.wal) d) (sym same.disk) (subst (λ (e : ℕ). Settled device was.0 e j.disk) (sym same.end) was.1), was.2);

@@ -11,7 +11,7 @@ use Rattle.buffer_frames.specs.Maps.{lookup, HasApplied}
 use Rattle.buffer_frames.specs.Inner.Reads.{stands, touches, HasPages}
 use Rattle.buffer_frames.specs.declared.page_map.PageMap.{PageMap}
 
--- a page stands among changes where its number stands among theirs
+-- a page is among changes where its number is among theirs
 stands_in : (p : ℕ) (cs : List Change) → stands p cs ≡ true → In p (map (λ (c : Change). c.page) cs)
 stands_in p [] e = absurd cc
 stands_in p (c ∷ cs) e = elim (same_or_other c.page p) [

@@ -129,7 +129,7 @@ more_made file map mid map' number cs c off so_far now = record {
       ∙ sym (stands_push p cs c (is_some (lookup map p)));
 }
 
--- what stands at a place of a list
+-- what is at a place of a list
 pub in_at : (xs : List Change) (k : ℕ) (d : Change) → k < length xs → In (get_or xs k d) xs
 in_at [] k d l = absurd (omega arith)
 in_at (x ∷ xs) zero d l = inl refl
@@ -141,7 +141,7 @@ all_at P [] k d all l = absurd (omega arith)
 all_at P (x ∷ xs) zero d all l = all.0
 all_at P (x ∷ xs) (suc k) d all l = all_at P xs k d all.1 (omega arith)
 
--- no page stands twice
+-- no page is twice
 pub before_apart : (xs : List Change) (k : ℕ) (d : Change) → Rising (λ (a b : Change). a.page ≢ b.page) xs
     → k < length xs → (c : Change) → In c (take k xs) → c.page ≢ (get_or xs k d).page
 before_apart [] k d once l c i = absurd (omega arith)
@@ -152,7 +152,7 @@ before_apart (x ∷ xs) (suc k) d once l c i = elim i [
   | inr later ↦ before_apart xs k d once.1 (omega arith) c later
 ]
 
--- one change more of a list of changes, of which no page stands twice
+-- one change more of a list of changes, of which no page is twice
 pub next_made : (file file' : List ℕ) (map mid map' : PageMap) (number k : ℕ) (xs : List Change) (c : Change)
     → file' ≡ file → Rising (λ (a b : Change). a.page ≢ b.page) xs → k < length xs → c ≡ get_or xs k c
     → MakesChanges file map mid number (take k xs) → MakesChanges file' mid map' number (c ∷ [])

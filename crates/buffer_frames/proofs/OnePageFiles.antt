@@ -13,7 +13,7 @@ use Rattle.page_types.specs.declared.record.Record.{Record}
 use Rattle.page_types.specs.declared.record.Kind.{Kind}
 use Rattle.page_types.specs.declared.record.Kind.TheVariants as kind
 use Rattle.core_state.specs.Log.{Log, In, changed, after_changes, redo_with, redo_of, replay}
-use Rattle.core_state.specs.Legal.{ChangesFrom, IsImageOf, ImagesFrom, RowsAreValid}
+use Rattle.core_state.specs.Legal.{ChangesFrom, IsImageOf, ImagesFrom, RecordsAreValid}
 use Rattle.core_state.specs.Stores.{page_in}
 use Rattle.core_state.specs.History.{History}
 use Rattle.core_state.proofs.Showing.{untouched}
@@ -33,7 +33,7 @@ early_redo [] early = refl
 early_redo (r ∷ R) early = early_kind r.kind (redo_of R) (early r (inl refl)) ∙ early_redo R (λ s i. early s (inr i))
 
 -- records are numbered from 1
-pub numbered_in : (R : Log) (r : Record) → RowsAreValid R → In r R → 1 ≤ r.number
+pub numbered_in : (R : Log) (r : Record) → RecordsAreValid R → In r R → 1 ≤ r.number
 numbered_in [] r v i = absurd i
 numbered_in (s ∷ R) r v (inl e) = omega (arith, v.1.number, ap (λ (x : Record). x.number) e)
 numbered_in (s ∷ R) r v (inr i) = numbered_in R r v.0 i
@@ -58,7 +58,7 @@ empty_stands R H l = record {
   untouched = λ p off. subst (AllByRecursion (λ (b : ℕ). b ≡ 0)) (sym (none_in p)) tt;
 }
 
--- zeros with zeros behind them
+-- zeros with zeros after them
 zeros_more : (n : ℕ) (xs : List ℕ) → AllByRecursion (λ (b : ℕ). b ≡ 0) xs → length xs ≤ n
     → xs ++ replicate (n - length xs) 0 ≡ replicate n 0
 zeros_more n [] all le = ap (λ k. replicate k 0) (omega arith)
@@ -149,7 +149,7 @@ applies_as_replayed R H file l s p =
     ]
 
 -- the changes of a legal log can be made to each page file
-can_apply : (R : Log) (file : List ℕ) → RowsAreValid R → ImagesFrom 1 R → CanApply file R
+can_apply : (R : Log) (file : List ℕ) → RecordsAreValid R → ImagesFrom 1 R → CanApply file R
 can_apply [] file v images = tt
 can_apply (r ∷ R) file v images = (
   can_apply R file v.0 images.0,

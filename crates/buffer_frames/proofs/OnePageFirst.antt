@@ -17,7 +17,7 @@ use Rattle.page_types.specs.declared.record.Kind.TheVariants as kind
 use Rattle.page_types.proofs.PageLaws.{has_parts}
 use Rattle.core_state.specs.Log.{Log, Pages, In, Shows, commits, after_changes, replay}
 use Rattle.core_state.specs.History.{Commit}
-use Rattle.core_state.specs.Legal.{RowHolds, Valid, IsImageOf, RowsAreValid, IsLegal}
+use Rattle.core_state.specs.Legal.{RuleHolds, Valid, IsImageOf, RecordsAreValid, IsLegal}
 use Rattle.core_state.proofs.Showing.{replay_kept, none_yet, free_is, shown_none}
 use Rattle.core_state.proofs.Worked.{meta_is, root_is}
 use Rattle.buffer_frames.specs.Counted.{AreRecords}
@@ -45,7 +45,7 @@ imaged_fits page content small is =
 no_checkpoint : (R : Log) (r : Record) (redo : ℕ) → AreEarly R → In r R → r.kind ≡ kind.Checkpoint redo → ⊥
 no_checkpoint R r redo early i e = subst IsEarlyKind e (early r i)
 
--- one record more behind the log
+-- one record more after the log
 pub early_more : (R : Log) (r : Record) → AreEarly R → IsEarlyKind r.kind → AreEarly (r ∷ R)
 early_more R r early e s (inl same) = subst (λ (x : Record). IsEarlyKind x.kind) (sym same) e
 early_more R r early e s (inr i) = early s i
@@ -59,7 +59,7 @@ legal_more R r l early v images = record {
 }
 
 -- the pages that a legal log shows
-pub shown_by : (R : Log) → RowsAreValid R → (P : Pages) × Shows R P
+pub shown_by : (R : Log) → RecordsAreValid R → (P : Pages) × Shows R P
 shown_by [] v = (none_yet, shown_none)
 shown_by (r ∷ R) v = (v.1.after, v.1.shown_after)
 
@@ -129,7 +129,7 @@ first_valid = record {
   can_edit = λ c i. can_image c (replay [] c.page) (first_images c i);
   number = refl;
   started = inl refl;
-  row = RowHolds.create (record { here = record { kind_is = refl; pages = refl; empty = refl; after_is = refl } });
+  rule = RuleHolds.create (record { here = record { kind_is = refl; pages = refl; empty = refl; after_is = refl } });
 }
 
 pub first_is_log : FirstIsLog
@@ -157,7 +157,7 @@ abort_valid R l made small =
       can_edit = λ c i. absurd i;
       number = omega arith;
       started = inr made;
-      row = RowHolds.abort (record { here = record { kind_is = refl; pages = refl; runs = inr refl } });
+      rule = RuleHolds.abort (record { here = record { kind_is = refl; pages = refl; runs = inr refl } });
     }
 
 pub abort_goes_on : AbortGoesOn
@@ -186,7 +186,7 @@ owed_shows false R P shown = shown
 
 -- files without a record
 no_records : AreRecords [] []
-no_records = record { rows = []; each = tt; log_is = refl; numbered = tt }
+no_records = record { lists = []; each = tt; log_is = refl; numbered = tt }
 
 pub unmade_opens : UnmadeOpens
 unmade_opens files opens stands = record {

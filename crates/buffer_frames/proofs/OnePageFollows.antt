@@ -5,7 +5,7 @@ use Rattle.buffer_frames.specs.Opens.{IsLogOf}
 use Rattle.buffer_frames.specs.Journals.{with_owed}
 use Rattle.buffer_frames.specs.Inner.OnePage.{MayInsert, InsertFollows}
 use Rattle.buffer_frames.proofs.OnePageFirst.{owed_goes_on, owed_is_one, owed_shows}
-use Rattle.buffer_frames.proofs.OnePageInsert.{insert_goes_on, insert_is_spelled}
+use Rattle.buffer_frames.proofs.OnePageInsert.{insert_goes_on, insert_is_encoded}
 use Rattle.buffer_frames.proofs.OnePageRoom.{room_is_enough}
 
 -- an owed Abort draws no xid
@@ -39,5 +39,5 @@ insert_follows owes R H P s number xid place v h l some shown state draws here h
           (omega (arith, by, draws.xid_fits)) room;
     } in (
       insert_goes_on (with_owed owes R) H P number xid place v h log may,
-      insert_is_spelled (with_owed owes R) H P number xid place v h log may,
+      insert_is_encoded (with_owed owes R) H P number xid place v h log may,
     )

@@ -13,7 +13,7 @@ pub legal_before : LegalBefore
 legal_before [] R l = l
 legal_before (r ∷ more) R l = legal_before more R (legal_less r (more ++ R) l)
 
--- a record of a log stands in each log that goes on from it
+-- a record of a log is in each log that goes on from it
 pub still_in : (r : Record) (more R : Log) → In r R → In r (more ++ R)
 still_in r [] R i = i
 still_in r (s ∷ more) R i = inr (still_in r more R i)

@@ -1,4 +1,4 @@
--- The records that insert a document, behind a log whose documents stand on one page.
+-- The records that insert a document, after a log whose documents are on one page.
 use Rattle.std.proofs.Common.{◌≡◌, ◌≢◌, ◌⊎◌, ◌<◌, ◌+◌, ◌^◌, ℕ, zero, suc, Bool, List, [], ◌∷◌, ◌++◌, length, map, refl}
 use Rattle.std.proofs.Common.{sym, ap, ap₂, subst, ◌∙◌, inl, inr, arith}
 use Rattle.std.specs.Prelude.{Option, Some}
@@ -6,7 +6,7 @@ use Rattle.std.proofs.lemmas.List.{length-append}
 use Rattle.std.proofs.lemmas.Nat.{div-mul-add, mod-mul-add}
 use Rattle.ts_base.specs.Vectors.{Vector}
 use Rattle.page_types.specs.Numbers.{most_slots}
-use Rattle.page_types.specs.Spelling.{page_bytes}
+use Rattle.page_types.specs.Encoding.{page_bytes}
 use Rattle.page_types.specs.Pages.{IsPage}
 use Rattle.page_types.specs.Records.{IsRecord}
 use Rattle.page_types.specs.Edits.{edited}
@@ -24,7 +24,7 @@ use Rattle.core_state.specs.Documents as documents
 use Rattle.core_state.specs.History.{Document, History, AreInserts, IsCommitOf}
 use Rattle.core_state.specs.Known.{use_in}
 use Rattle.core_state.specs.Changes.{IsNew, PutsSlot}
-use Rattle.core_state.specs.Legal.{RowHolds, Valid, IsImageOf, RowsAreValid, IsLegal}
+use Rattle.core_state.specs.Legal.{RuleHolds, Valid, IsImageOf, RecordsAreValid, IsLegal}
 use Rattle.core_state.specs.States.{fate_at, state_of}
 use Rattle.core_state.specs.declared.answers.Fate.TheVariants.{Unused, Running}
 use Rattle.core_state.proofs.Showing.{replay_kept}
@@ -34,7 +34,7 @@ use Rattle.buffer_frames.specs.First.{imaged}
 use Rattle.buffer_frames.specs.Opens.{heap_page, name_of, insertion, IsNumbered, IsLogOf}
 use Rattle.buffer_frames.specs.Journals.{with_owed, AreNext}
 use Rattle.buffer_frames.specs.Inner.OnePage.{OnePage, heap_with, begin_record, place_record, commit_record, inserting}
-use Rattle.buffer_frames.specs.Inner.OnePage.{MayInsert, InsertGoesOn, InsertGoesOnOwed, InsertIsSpelled, AreEarly}
+use Rattle.buffer_frames.specs.Inner.OnePage.{MayInsert, InsertGoesOn, InsertGoesOnOwed, InsertIsEncoded, AreEarly}
 use Rattle.buffer_frames.proofs.OnePageHistory.{counts_documents}
 use Rattle.buffer_frames.proofs.OnePageFirst.{imaged_is, can_image, imaged_fits, early_more, legal_more, shown_on}
 use Rattle.buffer_frames.proofs.OnePageFirst.{owed_goes_on, owed_is_one}
@@ -54,7 +54,7 @@ record IsFresh (R : Log) (x : ℕ) : Type 0 where
   nothing_marked : marked R x ≡ []
   nothing_placed : placed R x ≡ []
 
-next_is_fresh : (R : Log) (x : ℕ) → RowsAreValid R → x ≡ next_xid R → IsFresh R x
+next_is_fresh : (R : Log) (x : ℕ) → RecordsAreValid R → x ≡ next_xid R → IsFresh R x
 next_is_fresh R x v e =
     let k = kept 0 0 R v in
     let s = state_of 0 0 R in
@@ -87,7 +87,7 @@ shown_with R r P page e is shown (suc (suc zero)) =
 shown_with R r P page e is shown (suc (suc (suc p))) =
     others_on R r P page (suc (suc (suc p))) e (λ f. omega (arith, f)) shown
 
--- one head behind the slots
+-- one head after the slots
 slot_last : (slots : List (Option Head)) (h : Option Head) → slot_at (slots ++ h ∷ []) (length slots) ≡ h
 slot_last [] h = refl
 slot_last (s ∷ slots) h = slot_last slots h
@@ -107,7 +107,7 @@ puts_last slots k h e = record {
   size = omega (arith, length-append slots (h ∷ []), e);
 }
 
--- a document in the slot behind the others
+-- a document in the slot after the others
 abbrev doc_at : ℕ → Doc
 doc_at place = record { item = item_at heap_page place; serial = place + 1 }
 
@@ -172,7 +172,7 @@ module _ (R : Log) (H : History) (P : Pages) (number xid place : ℕ) (v : Vecto
   slots_small : length (slots_here P) < most_slots
   slots_small = omega (arith, m.fits.body.0, length-append (slots_here P) (Some h ∷ []))
 
-  -- the place is that of the slot behind the others
+  -- the place is that of the slot after the others
   one : OnePage R H P
   one = shows_one_page R H P l m.shown
 
@@ -205,8 +205,8 @@ module _ (R : Log) (H : History) (P : Pages) (number xid place : ℕ) (v : Vecto
     can_edit = λ c i. absurd i;
     number = omega (arith, m.number_is);
     started = inr m.made;
-    row =
-        RowHolds.begin (record { here = record { kind_is = refl; pages = refl; next = m.xid_is; bound = m.xid_fits } });
+    rule =
+        RuleHolds.begin (record { here = record { kind_is = refl; pages = refl; next = m.xid_is; bound = m.xid_fits } });
   }
 
   begin_legal : IsLegal (begin ∷ R)
@@ -229,8 +229,8 @@ module _ (R : Log) (H : History) (P : Pages) (number xid place : ℕ) (v : Vecto
     | inr some ↦ inl (one.heap some, sym one.right)
   ]
 
-  head_row : RowHolds (begin ∷ R) P Q place_it (commits (begin ∷ R)) (suc (length (begin ∷ R)))
-  head_row = RowHolds.place_head (record {
+  head_row : RuleHolds (begin ∷ R) P Q place_it (commits (begin ∷ R)) (suc (length (begin ∷ R)))
+  head_row = RuleHolds.place_head (record {
     here = record {
       doc = doc_at place;
       head = h;
@@ -272,7 +272,7 @@ module _ (R : Log) (H : History) (P : Pages) (number xid place : ℕ) (v : Vecto
     can_edit = λ c i. can_image c (replay (begin ∷ R) c.page) (place_images c i);
     number = omega (arith, m.number_is);
     started = inr (λ e. cc);
-    row = head_row;
+    rule = head_row;
   }
 
   early_placed : AreEarly (place_it ∷ begin ∷ R)
@@ -300,7 +300,7 @@ module _ (R : Log) (H : History) (P : Pages) (number xid place : ℕ) (v : Vecto
   vector_there = (
     h,
     record { at = head_there; serial = m.head.serial },
-    record { bytes = h.vector; there = HasBytes.short m.head.short; size = m.head.size; spells = m.head.spells },
+    record { bytes = h.vector; there = HasBytes.short m.head.short; size = m.head.size; encodes = m.head.encodes },
   )
 
   whole : (d : Doc) → In d (placed (place_it ∷ begin ∷ R) xid) → (w : Vector) × HasVector Q d w
@@ -324,8 +324,8 @@ module _ (R : Log) (H : History) (P : Pages) (number xid place : ℕ) (v : Vecto
     can_edit = λ c i. absurd i;
     number = omega (arith, m.number_is);
     started = inr (λ e. cc);
-    row =
-        RowHolds.commit
+    rule =
+        RuleHolds.commit
         (record { here = record { kind_is = ap kind.Commit commit_number; pages = refl; runs = runs }; rest = whole });
   }
 
@@ -372,8 +372,8 @@ module _ (R : Log) (H : History) (P : Pages) (number xid place : ℕ) (v : Vecto
 pub insert_goes_on : InsertGoesOn
 insert_goes_on R H P number xid place v h l m = goes_on R H P number xid place v h l m
 
-pub insert_is_spelled : InsertIsSpelled
-insert_is_spelled R H P number xid place v h l m = are_next R H P number xid place v h l m
+pub insert_is_encoded : InsertIsEncoded
+insert_is_encoded R H P number xid place v h l m = are_next R H P number xid place v h l m
 
 pub insert_goes_on_owed : InsertGoesOnOwed
 insert_goes_on_owed owes R H P number xid place v h made l m =

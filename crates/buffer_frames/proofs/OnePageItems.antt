@@ -1,4 +1,4 @@
--- Where the documents of a log stand that drew a serial for each of its commits: each is one of the history's.
+-- Where the documents of a log are that drew a serial for each of its commits: each is one of the history's.
 use Rattle.std.proofs.Common.{◌≡◌, ◌⊎◌, ◌<◌, ◌≤◌, ◌+◌, ◌==◌, ℕ, zero, suc, Bool, true, false, cond, List, [], ◌∷◌, ◌++◌}
 use Rattle.std.proofs.Common.{length, refl, sym, ap, subst, ◌∙◌, inl, inr, arith}
 use Rattle.std.specs.Prelude.{Some}
@@ -13,16 +13,16 @@ use Rattle.core_state.specs.Log.{Log, Pages, In, Shows, serial_behind, next_seri
 use Rattle.core_state.specs.Documents.{Doc, HasVector, page_of, slot_of, placed_with, placed}
 use Rattle.core_state.specs.Documents as documents
 use Rattle.core_state.specs.History.{Document, Commit, History, AreInserts, IsCommitOf, IsHistoryWith, IsHistory}
-use Rattle.core_state.specs.Legal.{RowHolds, RowsAreValid}
-use Rattle.core_state.proofs.RowsByKind.{kind_row}
+use Rattle.core_state.specs.Legal.{RuleHolds, RecordsAreValid}
+use Rattle.core_state.proofs.RulesByKind.{kind_rule}
 use Rattle.buffer_frames.specs.Opens.{heap_page, name_of, insertion, IsNumbered, IsEarlyKind, IsLogOf}
 use Rattle.buffer_frames.proofs.OnePageHistory.{still_in}
 
 -- a head's serial is the next one
-next_drawn : (R : Log) (P Q : Pages) (r : Record) (floor since item serial : ℕ) → RowHolds R P Q r floor since
+next_drawn : (R : Log) (P Q : Pages) (r : Record) (floor since item serial : ℕ) → RuleHolds R P Q r floor since
     → r.kind ≡ kind.PlaceHead item serial → serial ≡ next_serial R
 next_drawn R P Q r floor since item serial row e =
-    let x = kind_row R P Q r floor since (kind.PlaceHead item serial) e row in
+    let x = kind_rule R P Q r floor since (kind.PlaceHead item serial) e row in
     same item serial x.here.doc.item x.here.doc.serial (sym e ∙ x.here.kind_is) ∙ x.here.next
   where
     same : (a b c d : ℕ) → kind.PlaceHead a b ≡ kind.PlaceHead c d → b ≡ d
@@ -41,12 +41,12 @@ serial_rises (kind.PlaceHead item serial) n = omega arith
 serial_rises _ n = omega arith
 
 -- it is one of those that the log drew
-pub serial_drawn : (R : Log) (r : Record) (item serial : ℕ) → RowsAreValid R → In r R
+pub serial_drawn : (R : Log) (r : Record) (item serial : ℕ) → RecordsAreValid R → In r R
     → r.kind ≡ kind.PlaceHead item serial → (1 ≤ serial) × (serial < next_serial R)
 serial_drawn [] r item serial v i e = absurd i
 serial_drawn (s ∷ R) r item serial v (inl same) e =
     let here : s.kind ≡ kind.PlaceHead item serial = sym (ap (λ (x : Record). x.kind) same) ∙ e in
-    let drawn = next_drawn R v.1.before v.1.after s _ _ item serial v.1.row here in
+    let drawn = next_drawn R v.1.before v.1.after s _ _ item serial v.1.rule here in
     let next : next_serial (s ∷ R) ≡ suc (next_serial R) = ap (λ k. serial_behind k (next_serial R)) here in
     (omega (arith, drawn, serials_from R), omega (arith, drawn, next))
 serial_drawn (s ∷ R) r item serial v (inr i) e =
@@ -54,17 +54,17 @@ serial_drawn (s ∷ R) r item serial v (inr i) e =
     (before.0, omega (arith, before.1, serial_rises s.kind (next_serial R)))
 
 -- heads of one serial have one item
-pub item_one : (R : Log) (r s : Record) (item other serial : ℕ) → RowsAreValid R → In r R → In s R
+pub item_one : (R : Log) (r s : Record) (item other serial : ℕ) → RecordsAreValid R → In r R → In s R
     → r.kind ≡ kind.PlaceHead item serial → s.kind ≡ kind.PlaceHead other serial → item ≡ other
 item_one [] r s item other serial v i j e f = absurd i
 item_one (t ∷ R) r s item other serial v (inl a) (inl b) e f =
     let kinds : r.kind ≡ s.kind = ap (λ (x : Record). x.kind) (a ∙ sym b) in cc
 item_one (t ∷ R) r s item other serial v (inl a) (inr j) e f =
-    let drawn = next_drawn R v.1.before v.1.after t _ _ item serial v.1.row (sym (ap (λ (x : Record). x.kind) a) ∙ e) in
+    let drawn = next_drawn R v.1.before v.1.after t _ _ item serial v.1.rule (sym (ap (λ (x : Record). x.kind) a) ∙ e) in
     absurd (omega (arith, drawn, (serial_drawn R s other serial v.0 j f).1))
 item_one (t ∷ R) r s item other serial v (inr i) (inl b) e f =
     let drawn =
-    next_drawn R v.1.before v.1.after t _ _ other serial v.1.row (sym (ap (λ (x : Record). x.kind) b) ∙ f) in
+    next_drawn R v.1.before v.1.after t _ _ other serial v.1.rule (sym (ap (λ (x : Record). x.kind) b) ∙ f) in
     absurd (omega (arith, drawn, (serial_drawn R r item serial v.0 i e).1))
 item_one (t ∷ R) r s item other serial v (inr i) (inr j) e f = item_one R r s item other serial v.0 i j e f
 
@@ -101,7 +101,7 @@ placed_in (r ∷ R) x d i = elim (placed_more r.kind r.xid x (placed R x) d i) [
   | inr e ↦ record { by = r; there = inl refl; kind_is = e }
 ]
 
--- a commit of the history is one of a transaction, behind a beginning of the log
+-- a commit of the history is one of a transaction, after a beginning of the log
 pub record IsCommitIn (R : Log) (c : Commit) : Type 0 where
   pub later : Log
   pub then : Log
@@ -161,7 +161,7 @@ insert_of P [] i a = absurd a
 insert_of P (d ∷ []) i a = record { doc = d; alone = refl; name = a.0; vector = a.1 }
 insert_of P (d ∷ e ∷ ds) i a = absurd a.2
 
--- the document of a commit, in the pages behind which it is
+-- the document of a commit, in the pages after which it is
 pub record IsDocumentAt (R : Log) (k : ℕ) (v : Vector) : Type 0 where
   pub later : Log
   pub then : Log
@@ -200,7 +200,7 @@ document_at R H k v h e =
       vector = i.vector;
     }
 
--- the log has early kinds alone, and each head that it placed stands on the heap page, in the slot of
+-- the log has early kinds alone, and each head that it placed is on the heap page, in the slot of
 -- its serial
 pub record AreOnOne (R : Log) : Type 0 where
   pub early : (r : Record) → In r R → IsEarlyKind r.kind
@@ -214,7 +214,7 @@ numbered_at H k numbered small = elim (slice_get_cases H k).1 [
   | inr past ↦ absurd (omega (arith, past.0, small))
 ]
 
-on_one_at : (R : Log) (H : History) (k : ℕ) (r : Record) (item serial : ℕ) → RowsAreValid R → IsHistory R H
+on_one_at : (R : Log) (H : History) (k : ℕ) (r : Record) (item serial : ℕ) → RecordsAreValid R → IsHistory R H
     → IsNumbered H → k < length H → serial ≡ k + 1 → In r R → r.kind ≡ kind.PlaceHead item serial
     → (page_of item ≡ heap_page) × (slot_of item + 1 ≡ serial)
 on_one_at R H k r item serial valid h numbered small s i e =

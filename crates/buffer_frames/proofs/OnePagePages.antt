@@ -1,4 +1,4 @@
--- The pages of a log that places heads on one page, each behind the last.
+-- The pages of a log that places heads on one page, each after the last.
 use Rattle.std.proofs.Common.{◌≡◌, ◌≢◌, ◌⊎◌, ◌<◌, ◌≤◌, ◌+◌, ℕ, suc, List, [], ◌∷◌, ◌++◌, length, map, refl, sym, ap}
 use Rattle.std.proofs.Common.{subst, ◌∙◌, inl, inr, arith}
 use Rattle.std.specs.Prelude.{Option, Some}
@@ -13,9 +13,9 @@ use Rattle.page_types.proofs.Joining.{slot_past}
 use Rattle.core_state.specs.Log.{Log, Pages, In, Shows, changed, serial_behind, next_serial}
 use Rattle.core_state.specs.Documents.{slot_of}
 use Rattle.core_state.specs.Changes.{made_with, PutsSlot}
-use Rattle.core_state.specs.HeapRows.{IsNewHead, IsPlaceHead}
-use Rattle.core_state.specs.Legal.{RowHolds, RowsAreValid}
-use Rattle.core_state.proofs.RowsByKind.{kind_row}
+use Rattle.core_state.specs.HeapRules.{IsNewHead, IsPlaceHead}
+use Rattle.core_state.specs.Legal.{RuleHolds, RecordsAreValid}
+use Rattle.core_state.proofs.RulesByKind.{kind_rule}
 use Rattle.core_state.proofs.Showing.{shown_one, others_stay, none_yet, shown_none}
 use Rattle.core_state.proofs.RunningOnes.{below_or_past}
 use Rattle.buffer_frames.specs.Opens.{heap_page, IsEarlyKind}
@@ -37,7 +37,7 @@ pub record LeavesAll (R : Log) (P Q : Pages) : Type 0 where
   pub made : R ≢ []
   pub all : (p : ℕ) → Q p ≡ P p
 
--- or it places a head behind the slots of the heap page
+-- or it places a head after the slots of the heap page
 pub record PlacesNext (R : Log) (P Q : Pages) (r : Record) : Type 0 where
   pub made : R ≢ []
   pub head : Head
@@ -52,7 +52,7 @@ pub data PageStep (R : Log) (P Q : Pages) (r : Record) : Type 0 where
   keeps : LeavesAll R P Q → next_serial (r ∷ R) ≡ next_serial R → PageStep R P Q r
   places : PlacesNext R P Q r → next_serial (r ∷ R) ≡ suc (next_serial R) → PageStep R P Q r
 
--- slot k has a new head of the serial behind k
+-- slot k has a new head of the serial after k
 pub record HasHeadAt (slots : List (Option Head)) (k : ℕ) : Type 0 where
   pub head : Head
   pub slot : slot_at slots k ≡ Some head
@@ -99,7 +99,7 @@ in_first p ps e le i = elim (subst (In p) e i) [
   | inr j ↦ elim j [ inl same ↦ omega (arith, same, le) | inr k ↦ k ]
 ]
 
--- the head that is placed stands behind those before it
+-- the head that is placed is after those before it
 puts_behind : (slots old new : List (Option Head)) (k : ℕ) (h : Option Head) → old ≡ slots → k ≡ length slots
     → PutsSlot old k h new → PutsSlot slots (length slots) h new
 puts_behind slots old new k h e f p =
@@ -155,7 +155,7 @@ keeps_told R P Q r k started before after e off same none =
 
 pub steps_told : (R : Log) (P Q : Pages) (r : Record) (floor since : ℕ) → (r.kind ≡ kind.Create) ⊎ (R ≢ [])
     → AreOnOne (r ∷ R) → OnlyHeads R P → Shows R P → Shows (r ∷ R) Q
-    → RowHolds R P Q r floor since → PageStep R P Q r
+    → RuleHolds R P Q r floor since → PageStep R P Q r
 steps_told R P Q r floor since started on only before after row = by r.kind refl (on.early r (inl refl))
   where
     no_head : (item serial : ℕ) → kind.Create ≡ kind.PlaceHead item serial → ⊥
@@ -163,7 +163,7 @@ steps_told R P Q r floor since started on only before after row = by r.kind refl
 
     by : (k : Kind) → r.kind ≡ k → IsEarlyKind k → PageStep R P Q r
     by kind.Create e early =
-        let x = kind_row R P Q r floor since kind.Create e row in
+        let x = kind_rule R P Q r floor since kind.Create e row in
         let pages = first_two Q 0 1 _ _ (sym (ap (map Q) x.here.pages) ∙ x.here.after_is) in
         PageStep.makes
         (record {
@@ -174,16 +174,16 @@ steps_told R P Q r floor since started on only before after row = by r.kind refl
         })
         (same_serials r R kind.Create e refl)
     by kind.Begin e early =
-        let x = kind_row R P Q r floor since kind.Begin e row in
+        let x = kind_rule R P Q r floor since kind.Begin e row in
         keeps_told R P Q r kind.Begin started before after e (λ f. cc) refl x.here.pages
     by (kind.Commit n) e early =
-        let x = kind_row R P Q r floor since (kind.Commit n) e row in
+        let x = kind_rule R P Q r floor since (kind.Commit n) e row in
         keeps_told R P Q r (kind.Commit n) started before after e (λ f. cc) refl x.here.pages
     by kind.Abort e early =
-        let x = kind_row R P Q r floor since kind.Abort e row in
+        let x = kind_rule R P Q r floor since kind.Abort e row in
         keeps_told R P Q r kind.Abort started before after e (λ f. cc) refl x.here.pages
     by (kind.PlaceHead item serial) e early =
-        let x = kind_row R P Q r floor since (kind.PlaceHead item serial) e row in
+        let x = kind_rule R P Q r floor since (kind.PlaceHead item serial) e row in
         let some : R ≢ [] = elim started [
           | inl create ↦ (λ _. no_head item serial (sym create ∙ e))
           | inr some ↦ some
@@ -286,11 +286,11 @@ one_before r R on = record {
   on = λ s item serial i e. on.on s item serial (inr i) e;
 }
 
-pub only_heads : (R : Log) (P : Pages) → RowsAreValid R → AreOnOne R → Shows R P → OnlyHeads R P
+pub only_heads : (R : Log) (P : Pages) → RecordsAreValid R → AreOnOne R → Shows R P → OnlyHeads R P
 only_heads [] P v on shown = subst (OnlyHeads []) (shown_one [] none_yet P shown_none shown) only_none
 only_heads (r ∷ R) P v on shown =
     let only = only_heads R v.1.before v.0 (one_before r R on) v.1.shown in
-    let step = steps_told R v.1.before v.1.after r _ _ v.1.started on only v.1.shown v.1.shown_after v.1.row in
+    let step = steps_told R v.1.before v.1.after r _ _ v.1.started on only v.1.shown v.1.shown_after v.1.rule in
     subst (OnlyHeads (r ∷ R)) (shown_one (r ∷ R) v.1.after P v.1.shown_after shown)
     (only_step R v.1.before v.1.after r only step)
 
@@ -311,7 +311,7 @@ slot_stays R P Q r k h (PageStep.places w e) s =
     ∙ w.put.others k (λ f. no_slot (slots_here P) h (subst (λ (j : ℕ). slot_at (slots_here P) j ≡ Some h) f s))
     ∙ s
 
-pub slots_stay : (more R : Log) (P Q : Pages) (k : ℕ) (h : Head) → RowsAreValid (more ++ R) → AreOnOne (more ++ R)
+pub slots_stay : (more R : Log) (P Q : Pages) (k : ℕ) (h : Head) → RecordsAreValid (more ++ R) → AreOnOne (more ++ R)
     → Shows R P → Shows (more ++ R) Q
     → slot_at (slots_here P) k ≡ Some h → slot_at (slots_here Q) k ≡ Some h
 slots_stay [] R P Q k h v on before after s =
@@ -319,7 +319,7 @@ slots_stay [] R P Q k h v on before after s =
 slots_stay (r ∷ more) R P Q k h v on before after s =
     let only = only_heads (more ++ R) v.1.before v.0 (one_before r (more ++ R) on) v.1.shown in
     let step =
-    steps_told (more ++ R) v.1.before v.1.after r _ _ v.1.started on only v.1.shown v.1.shown_after v.1.row in
+    steps_told (more ++ R) v.1.before v.1.after r _ _ v.1.started on only v.1.shown v.1.shown_after v.1.rule in
     let old = slots_stay more R P v.1.before k h v.0 (one_before r (more ++ R) on) before v.1.shown s in
     let new = slot_stays (more ++ R) v.1.before v.1.after r k h step old in
     ap (λ (x : Pages). slot_at (slots_here x) k) (sym (shown_one (r ∷ (more ++ R)) v.1.after Q v.1.shown_after after))

@@ -7,9 +7,9 @@ use Rattle.std.proofs.lemmas.List.{length-append}
 use Rattle.std.proofs.lemmas.List.Sums.{sum_by-append}
 use Rattle.std.proofs.lemmas.Grind.{flat_map-append}
 use Rattle.ts_base.specs.Vectors.{Vector}
-use Rattle.ts_base.specs.Spelling.{vector_bytes}
+use Rattle.ts_base.specs.Encoding.{vector_bytes}
 use Rattle.page_types.specs.Numbers.{u32_bytes, u64_bytes}
-use Rattle.page_types.specs.Spelling.{head_bytes, slot_bytes}
+use Rattle.page_types.specs.Encoding.{head_bytes, slot_bytes}
 use Rattle.page_types.specs.Pages.{IsBody, IsHead, IsSlot}
 use Rattle.page_types.specs.Views.{slots_of, slot_at}
 use Rattle.page_types.specs.declared.page.Page.{Page}
@@ -95,7 +95,7 @@ sized slots H k s = record {
   document = record { name = name_of k; vector = s.vector };
   slot = s.slot;
   commit = s.commit;
-  size = ap length s.is_head.spells.bytes_of;
+  size = ap length s.is_head.encodes.bytes_of;
 }
 
 pub room_is_used : RoomIsUsed
@@ -123,9 +123,9 @@ few_documents R H P one =
     heads_most H
     (λ k small. (record { name = name_of k; vector = (one.each k small).vector }, (one.each k small).commit))
 
--- the slots of a page that is spelled are
-slots_spelled : (R : Log) (H : History) (P : Pages) → OnePage R H P → Shows R P → AllByRecursion IsSlot (slots_here P)
-slots_spelled R H P one shown = elim (empty_or_some H) [
+-- the slots of a page that is encoded are
+slots_encoded : (R : Log) (H : History) (P : Pages) → OnePage R H P → Shows R P → AllByRecursion IsSlot (slots_here P)
+slots_encoded R H P one shown = elim (empty_or_some H) [
   | inl none ↦ subst (AllByRecursion IsSlot) (sym (ap (λ (x : Page). slots_of x) (one.free none))) tt
   | inr some ↦ (subst (IsBody (P heap_page).right (P heap_page).stamp) (one.heap some) (shown heap_page).0.body).1
 ]
@@ -152,7 +152,7 @@ room_is_enough R H P number place v h l shown fits here is by room =
     let few = few_documents R H P one in
     let size : length (slots_here P ++ Some h ∷ []) ≡ length H + 1 =
     omega (arith, length-append (slots_here P) (Some h ∷ []), one.size) in
-    let vector : length h.vector ≡ length (vector_bytes v) = ap length is.spells.bytes_of in
+    let vector : length h.vector ≡ length (vector_bytes v) = ap length is.encodes.bytes_of in
     let new_slots : List (Option Head) = slots_here P ++ Some h ∷ [] in
     let used : length (flat_map slot_bytes new_slots) ≡ sum_by head_room (inserts H) + (29 + length (vector_bytes v)) =
     omega (
@@ -170,7 +170,7 @@ room_is_enough R H P number place v h l shown fits here is by room =
       stamp = fits;
       body = (
         omega (arith, size, few, room),
-        slots_more (slots_here P) h (slots_spelled R H P one shown) new_head,
+        slots_more (slots_here P) h (slots_encoded R H P one shown) new_head,
       );
       count = omega (arith, size, few, room);
       fits = omega (arith, used, room);

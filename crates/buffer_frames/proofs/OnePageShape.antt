@@ -1,10 +1,10 @@
--- What a log shows whose documents stand on one page and are not indexed.
+-- What a log shows whose documents are on one page and are not indexed.
 use Rattle.std.proofs.Common.{◌≡◌, ◌≢◌, ◌⊎◌, ◌<◌, ◌≤◌, ◌+◌, ℕ, zero, suc, List, [], ◌∷◌, length, refl, sym, ap, subst}
 use Rattle.std.proofs.Common.{◌∙◌, inl, inr, arith}
 use Rattle.std.specs.Prelude.{Option, Some}
 use Rattle.std.specs.List.{slice_get}
 use Rattle.ts_base.specs.Vectors.{Vector}
-use Rattle.ts_base.specs.Spelling.{IsSpelling}
+use Rattle.ts_base.specs.Encoding.{IsEncoding}
 use Rattle.ts_base.specs.Keys.{Key}
 use Rattle.page_types.specs.Numbers.{most_short}
 use Rattle.page_types.specs.Views.{free_page, slots_of, slot_at, entries_in, entries_of, first_in, first_of}
@@ -21,8 +21,8 @@ use Rattle.core_state.specs.History.{History}
 use Rattle.core_state.specs.Index.{HasRow, Main, NoPair}
 use Rattle.core_state.specs.Known.{use_by, use_in}
 use Rattle.core_state.specs.Changes.{IsNew}
-use Rattle.core_state.specs.HeapRows.{IsNewHead}
-use Rattle.core_state.specs.Legal.{ChangesFrom, RowsAreValid}
+use Rattle.core_state.specs.HeapRules.{IsNewHead}
+use Rattle.core_state.specs.Legal.{ChangesFrom, RecordsAreValid}
 use Rattle.core_state.specs.declared.answers.PageUse.TheVariants as usage
 use Rattle.core_state.proofs.RunningOnes.{same_or_other}
 use Rattle.core_state.proofs.Showing.{replay_kept, free_is, shown_none}
@@ -41,17 +41,17 @@ pub both_empty : {A B : Type 0} (xs : List A) (ys : List B) → length xs ≡ le
 both_empty xs [] e none = refl
 both_empty xs (y ∷ ys) e none = absurd (omega (arith, e, ap length none))
 
--- a vector stands in its head where that has no chain
+-- a vector is in its head where that has no chain
 record StandsInHead (h : Head) (v : Vector) : Type 0 where
   short : h.bytes ≤ most_short
   size : length h.vector ≡ h.bytes
-  spells : IsSpelling h.vector v
+  encodes : IsEncoding h.vector v
 
 in_head : (P : Pages) (h : Head) (bytes : List ℕ) (v : Vector) → h.overflow ≡ 0 → HasBytes P h bytes
-    → length bytes ≡ h.bytes → IsSpelling bytes v → StandsInHead h v
-in_head P h bytes v none (HasBytes.short small) size spells = record { short = small; size = size; spells = spells }
-in_head P h bytes v none (HasBytes.long long [] chain) size spells = absurd (omega (arith, long, size))
-in_head P h bytes v none (HasBytes.long long (q ∷ qs) chain) size spells = absurd (chain.1 (sym chain.0 ∙ none))
+    → length bytes ≡ h.bytes → IsEncoding bytes v → StandsInHead h v
+in_head P h bytes v none (HasBytes.short small) size encodes = record { short = small; size = size; encodes = encodes }
+in_head P h bytes v none (HasBytes.long long [] chain) size encodes = absurd (omega (arith, long, size))
+in_head P h bytes v none (HasBytes.long long (q ∷ qs) chain) size encodes = absurd (chain.1 (sym chain.0 ∙ none))
 
 same_head : (g h : Head) (s : Option Head) → s ≡ Some g → s ≡ Some h → g ≡ h
 same_head g h s e f = cc
@@ -69,11 +69,11 @@ head_told k v h new there = record {
   private = new.private;
   short = there.short;
   size = there.size;
-  spells = there.spells;
+  encodes = there.encodes;
 }
 
 -- the slot of a document, in the pages that the whole log shows
-slot_told : (R : Log) (H : History) (P : Pages) (k : ℕ) (v : Vector) → RowsAreValid R → AreOnOne R → Shows R P
+slot_told : (R : Log) (H : History) (P : Pages) (k : ℕ) (v : Vector) → RecordsAreValid R → AreOnOne R → Shows R P
     → OnlyHeads R P → k < length (slots_here P)
     → slice_get H k ≡ Some (insertion (record { name = name_of k; vector = v })) → IsDocumentAt R k v
     → IsSlotOf (slots_here P) H k
@@ -83,7 +83,7 @@ slot_told R H P k v valid on shown only small commit d =
     let slot : k ≡ slot_of d.doc.item = ap (λ (n : Name). n.slot) d.name in
     let then : slot_at (slots_here d.pages) k ≡ Some h = slot_here d.pages d.doc.item k h page slot d.vector.1.at in
     let now : slot_at (slots_here P) k ≡ Some h = slots_stay d.later d.then d.pages P k h
-    (subst RowsAreValid d.goes_on valid) (subst AreOnOne d.goes_on on) d.shown
+    (subst RecordsAreValid d.goes_on valid) (subst AreOnOne d.goes_on on) d.shown
     (subst (λ (S : Log). Shows S P) d.goes_on shown) then in
     let at = only.page.heads k small in
     let same : at.head ≡ h = same_head at.head h (slot_at (slots_here P) k) at.slot now in
@@ -95,7 +95,7 @@ slot_told R H P k v valid on shown only small commit d =
       vector = v;
       slot = now;
       commit = commit;
-      is_head = head_told k v h new (in_head d.pages h whole.bytes v new.overflow whole.there whole.size whole.spells);
+      is_head = head_told k v h new (in_head d.pages h whole.bytes v new.overflow whole.there whole.size whole.encodes);
     }
 
 -- the pages that are used beside the heap page

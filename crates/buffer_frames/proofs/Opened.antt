@@ -15,7 +15,7 @@ use Rattle.page_types.specs.Records.{record_bytes}
 use Rattle.core_state.specs.Log.{Log}
 use Rattle.core_state.specs.History.{History}
 use Rattle.core_state.specs.States.{StateValue, state_of, step_of}
-use Rattle.core_state.specs.Stores.{IsRowOf, PagesStand}
+use Rattle.core_state.specs.Stores.{AreRecordsOf, PagesStand}
 use Rattle.core_state.specs.declared.settings.Settings.{Settings}
 use Rattle.core_state.proofs.Bounds.{step_marks, state_bounds}
 use Rattle.buffer_frames.specs.Counted.{IsCounted}
@@ -27,7 +27,7 @@ use Rattle.buffer_frames.specs.Opening.{IsOpenedAt, IsToldOpened}
 use Rattle.wal.specs.Creating.{IsLogBefore}
 use Rattle.buffer_frames.specs.Inner.Making.{HasRun, RunsFrom, IsReadAs, HasBegun, AreBelowLast}
 use Rattle.buffer_frames.specs.declared.page_map.PageMap.{PageMap}
-use Rattle.buffer_frames.proofs.FirstRecord.{first_spelled}
+use Rattle.buffer_frames.proofs.FirstRecord.{first_encoded}
 use Rattle.buffer_frames.proofs.Flushing.{seen_as}
 use Rattle.buffer_frames.proofs.StoreBefore.{counted_empty}
 
@@ -74,17 +74,17 @@ module _ {D : Type 0} (device : Disk D) where
     ];
   }
 
-  -- the log ends behind the batches that count
+  -- the log ends after the batches that count
   end_told : (disk : D) → OpensToOneList → device.image disk (device.clock disk) (device.seen disk) → (first : D) (c0 : ℕ)
       → HasRun device first c0 disk → (read counted : List (List ℕ)) (end : ℕ) → Settled device read end disk
       → Opens (device.seen first).log counted → end ≡ length (front counted)
   end_told disk one here first c0 run read counted end settled opens =
       let now = (run.rest.each (device.clock disk) (device.seen disk) run.rest.later (omega arith) here).1 in
       let has : Opens (device.seen disk).log read = inr (record {
-        gate = settled.gate;
+        commit_byte = settled.commit_byte;
         rest = settled.rest;
         split = settled.log.now;
-        shut = settled.shut;
+        unset = settled.unset;
         fit = settled.fit;
       }) in
       let same : read ≡ counted =
@@ -125,7 +125,7 @@ module _ {D : Type 0} (device : Disk D) where
         numbered = read.numbered;
         state = state;
         flushed = λ up. count ∙ ap (λ (s : StateValue). length s.deleted) state;
-        waiting_is = λ up. subst (λ (w : List ℕ). IsRowOf w []) (sym read.fresh.none) (record { each = tt; spelled = refl });
+        waiting_is = λ up. subst (λ (w : List ℕ). AreRecordsOf w []) (sym read.fresh.none) (record { each = tt; encoded = refl });
         settled = λ t up. read.settled t;
       }
 
@@ -146,7 +146,7 @@ module _ {D : Type 0} (device : Disk D) where
         numbered = (tt, refl);
         state = now ∙ ap (λ (k : ℕ). state_of k x (first_record ∷ [])) (sym pages) ∙ ap (λ (k : ℕ). state_of v'.pages k (first_record ∷ [])) (sym limit);
         flushed = λ up. count ∙ ap (λ (s : StateValue). length s.deleted) read.state_is;
-        waiting_is = λ up. subst (λ (w : List ℕ). IsRowOf w (first_record ∷ [])) (sym waits) (record { each = (first_spelled, tt); spelled = sym (append-nil (record_bytes first_record)) });
+        waiting_is = λ up. subst (λ (w : List ℕ). AreRecordsOf w (first_record ∷ [])) (sym waits) (record { each = (first_encoded, tt); encoded = sym (append-nil (record_bytes first_record)) });
         settled = λ t up. let was = read.settled t in (was.0, subst (λ (e : ℕ). Settled device was.0 e disk) (sym end) was.1, was.2);
       }
 

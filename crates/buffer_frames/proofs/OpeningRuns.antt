@@ -16,7 +16,7 @@ use Rattle.buffer_frames.proofs.Only.{read_then}
 
 -- a new log has no batch
 pub created_opens : Opens created []
-created_opens = inr (record { gate = 0; rest = []; split = refl; shut = λ e. omega (arith, e); fit = tt })
+created_opens = inr (record { commit_byte = 0; rest = []; split = refl; unset = λ e. omega (arith, e); fit = tt })
 
 module _ {D : Type 0} (device : Disk D) where
   -- the syncs, and a creation if need be

@@ -43,7 +43,7 @@ read_more device old new file pages xid_limit s s' map map' R r read only is num
     here : device.tells → MakesChanges file map map' r.number r.changes
     here told = subst (λ (f : List ℕ). MakesChanges f map map' r.number r.changes) (read.file_is told) (made told)
 
--- a record whose changes can be made behind a log can be made to the map of that log
+-- a record whose changes can be made after a log can be made to the map of that log
 pub can_change : {D : Type 0} (device : Disk D) (old : D) (file : List ℕ) (pages xid_limit : ℕ) (s : StateValue)
     (map : PageMap) (R : Log) (r : Record) → IsRead device old file pages xid_limit s map R → device.tells
     → CanApply file (r ∷ R) → (c : Change) → In c r.changes → CanEdit c.edit

@@ -12,7 +12,7 @@ use Rattle.wal.specs.declared.error.FlushError.{FlushError}
 use Rattle.wal.specs.declared.error.FlushError.TheVariants.{DiskFault, Down}
 use Rattle.core_state.specs.Log.{Log}
 use Rattle.core_state.specs.States.{StateValue, state_of}
-use Rattle.core_state.specs.Stores.{IsRowOf}
+use Rattle.core_state.specs.Stores.{AreRecordsOf}
 use Rattle.buffer_frames.specs.Counted.{AreNumbered, AreRecords}
 use Rattle.buffer_frames.specs.Journals.{JournalValue, Stands, commits_in, CountsEither}
 use Rattle.buffer_frames.proofs.Batching.{records_more, records_with}
@@ -49,7 +49,7 @@ module _ {D : Type 0} (device : Disk D) where
     numbered = s.numbered;
     state = state_same j.state j'.state R same s.state;
     flushed = λ up'. count ∙ ap (λ (v : StateValue). length v.deleted) s.state ∙ ap (λ (v : StateValue). commits_in v R) (sym same);
-    waiting_is = λ up'. subst (λ (w : List ℕ). IsRowOf w []) (sym none) (record { each = tt; spelled = refl });
+    waiting_is = λ up'. subst (λ (w : List ℕ). AreRecordsOf w []) (sym none) (record { each = tt; encoded = refl });
     settled = λ t up'.
         let was : (batches : List (List ℕ)) × Settled device batches (end_of j.wal) j.disk × AreRecords batches s.counted = s.settled t up in (
           with_waiting was.0 (waiting j.wal),

@@ -18,7 +18,7 @@ use Rattle.buffer_frames.specs.declared.error.OpenFault.TheVariants as faults
 use Rattle.buffer_frames.proofs.OpeningRuns.{created_opens}
 
 no_records : AreRecords [] []
-no_records = record { rows = []; each = tt; log_is = refl; numbered = tt }
+no_records = record { lists = []; each = tt; log_is = refl; numbered = tt }
 
 pub unborn_store : (files : Files) → IsUnborn files.log → IsStoreOf files []
 unborn_store files unborn = record { counted = record { batches = []; opens = inl (unborn, refl); records = no_records }; applies = tt }

@@ -27,7 +27,7 @@ pub record KeepsBeginnings {D : Type 0} (device : Disk D) (j : JournalValue D) (
   pub before : (m : ℕ) (c : Files) → m ≤ device.clock j.opened → device.image j.disk m c
       → device.image j.opened m c
 
--- so it is where the device tells what it holds, and the files that were opened open to a history
+-- so it is where the device says what it holds, and the files that were opened open to a history
 abbrev pub KeepsHistory : {D : Type 0} → Disk D → JournalValue D → Type 0
 KeepsHistory device j =
     device.tells → (found : History) → OpensTo (device.seen j.opened) found
@@ -39,7 +39,7 @@ HasSince device c commits d =
     (m : ℕ) (f : Files) → c ≤ m → m ≤ device.clock d → device.image d m f
     → (kept : History) × OpensTo f kept × (commits ≤ length kept)
 
--- Where the device tells, nothing has failed, and the files that were opened open to a history, a
+-- Where the device says what it holds, nothing has failed, and the files that were opened open to a history, a
 -- crash now leaves what has all commits that are flushed.
 abbrev pub HasFlushed : {D : Type 0} → Disk D → JournalValue D → Type 0
 HasFlushed device j =

@@ -4,25 +4,25 @@ use Rattle.std.specs.List.{flat_map}
 use Rattle.wal.specs.Batches.{Opens}
 use Rattle.page_types.specs.declared.record.Record.{Record}
 use Rattle.core_state.specs.Log.{Log}
-use Rattle.core_state.specs.Stores.{IsRowOf}
+use Rattle.core_state.specs.Stores.{AreRecordsOf}
 
--- each batch is a row of records
-abbrev pub AreRows : List (List ℕ) → List (List Record) → Type 0
-AreRows [] [] = ⊤
-AreRows [] (rs ∷ rows) = ⊥
-AreRows (b ∷ batches) [] = ⊥
-AreRows (b ∷ batches) (rs ∷ rows) = IsRowOf b rs × AreRows batches rows
+-- each batch has its records
+abbrev pub AreRecordLists : List (List ℕ) → List (List Record) → Type 0
+AreRecordLists [] [] = ⊤
+AreRecordLists [] (rs ∷ lists) = ⊥
+AreRecordLists (b ∷ batches) [] = ⊥
+AreRecordLists (b ∷ batches) (rs ∷ lists) = AreRecordsOf b rs × AreRecordLists batches lists
 
 -- each record has the number of its place, from 1
 abbrev pub AreNumbered : Log → Type 0
 AreNumbered [] = ⊤
 AreNumbered (r ∷ R) = AreNumbered R × (r.number ≡ suc (length R))
 
--- the batches are rows of the log's records, numbered on from 1
+-- the batches have the log's records, numbered on from 1
 pub record AreRecords (batches : List (List ℕ)) (R : Log) : Type 0 where
-  pub rows : List (List Record)
-  pub each : AreRows batches rows
-  pub log_is : R ≡ reverse (flat_map (λ (rs : List Record). rs) rows)
+  pub lists : List (List Record)
+  pub each : AreRecordLists batches lists
+  pub log_is : R ≡ reverse (flat_map (λ (rs : List Record). rs) lists)
   pub numbered : AreNumbered R
 
 -- these are the records that count of a log file

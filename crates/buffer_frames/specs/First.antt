@@ -1,6 +1,6 @@
 -- The record that makes a store.
 use Rattle.std.specs.Prelude.{ℕ, [], ◌∷◌}
-use Rattle.page_types.specs.Spelling.{page_bytes}
+use Rattle.page_types.specs.Encoding.{page_bytes}
 use Rattle.page_types.specs.declared.page.Page.{Page}
 use Rattle.page_types.specs.declared.page.Body.{Body}
 use Rattle.page_types.specs.declared.page.Body.TheVariants as body

@@ -11,7 +11,7 @@ use Rattle.page_types.specs.declared.record.Record.{Record}
 use Rattle.page_types.specs.declared.record.Kind.TheVariants as kind
 use Rattle.core_state.specs.Log.{Log, xid_bound}
 use Rattle.core_state.specs.States.{StateValue, state_of}
-use Rattle.core_state.specs.Stores.{IsRowOf}
+use Rattle.core_state.specs.Stores.{AreRecordsOf}
 use Rattle.core_state.specs.History.{History, Begins}
 use Rattle.buffer_frames.specs.Counted.{AreNumbered, AreRecords, IsCounted}
 use Rattle.buffer_frames.specs.Opens.{IsLogOf}
@@ -32,8 +32,8 @@ pub record JournalValue (D : Type 0) : Type 0 where
 abbrev pub commits_in : StateValue → Log → ℕ
 commits_in s R = length (state_of s.pages s.xid_limit R).deleted
 
--- The records of R are those that count and those that wait behind them. While no write has failed
--- the log on the device has the counted ones, and the others wait as they are spelled.
+-- The records of R are those that count and those that wait after them. While no write has failed
+-- the log on the device has the counted ones, and the others wait as they are encoded.
 pub record Stands {D : Type 0} (device : Disk D) (j : JournalValue D) (R : Log) : Type 0 where
   pub counted : Log
   pub waits : Log
@@ -41,7 +41,7 @@ pub record Stands {D : Type 0} (device : Disk D) (j : JournalValue D) (R : Log) 
   pub numbered : AreNumbered R
   pub state : j.state ≡ state_of j.state.pages j.state.xid_limit R
   pub flushed : down_of j.wal ≡ None → j.flushed ≡ commits_in j.state counted
-  pub waiting_is : down_of j.wal ≡ None → IsRowOf (waiting j.wal) (reverse waits)
+  pub waiting_is : down_of j.wal ≡ None → AreRecordsOf (waiting j.wal) (reverse waits)
   pub settled : device.tells → down_of j.wal ≡ None
       → (batches : List (List ℕ)) × Settled device batches (end_of j.wal) j.disk
       × AreRecords batches counted
@@ -54,7 +54,7 @@ owed_abort number = record { number = number; xid = 0; kind = kind.Abort; change
 abbrev pub with_owed : Bool → Log → Log
 with_owed owes R = cond owes (owed_abort (1 + length R) ∷ R) R
 
--- the log behind these records, which come one after another
+-- the log after these records, which come one after another
 abbrev pub logged : Bool → List Record → Log → Log
 logged owes records R = reverse records ++ with_owed owes R
 
@@ -62,13 +62,13 @@ logged owes records R = reverse records ++ with_owed owes R
 abbrev pub next_number : {D : Type 0} → JournalValue D → ℕ
 next_number j = 1 + (j.state.records + cond j.owes 1 0)
 
--- the spelling of the records behind the owed Abort, where one is owed
+-- the encoding of the records after the owed Abort, where one is owed
 abbrev pub logged_bytes : {D : Type 0} → JournalValue D → List Record → List ℕ
 logged_bytes j records =
     cond j.owes (record_bytes (owed_abort (1 + j.state.records))) []
     ++ flat_map record_bytes records
 
--- records that are spelled, with these numbers on
+-- records that are encoded, with these numbers on
 abbrev pub AreNext : ℕ → List Record → Type 0
 AreNext number [] = ⊤
 AreNext number (r ∷ records) = IsRecord r × (r.number ≡ number) × AreNext (1 + number) records
@@ -86,7 +86,7 @@ pub record IsOneInsert (s : StateValue) (records : List Record) : Type 0 where
   pub bound : begin.xid < xid_bound
   pub own : (place.xid ≡ begin.xid) × (commit.xid ≡ begin.xid)
 
--- Where the device tells what it holds and nothing has failed, these records make of a log with a
+-- Where the device says what it holds and nothing has failed, these records make of a log with a
 -- history one with a longer history.
 abbrev pub MayFollow : {D : Type 0} → Disk D → JournalValue D → List Record → Type 0
 MayFollow device j records =

@@ -25,7 +25,7 @@ pub record IsSameJournal {D : Type 0} (old new : JournalValue D) : Type 0 where
   pub limit : limit_of new.wal ≡ limit_of old.wal
   pub down : down_of new.wal ≡ down_of old.wal
 
--- the records wait behind what waited
+-- the records wait after what waited
 pub record HasLogged {D : Type 0} (old new : JournalValue D) (records : List Record) : Type 0 where
   pub disk : new.disk ≡ old.disk
   pub state : new.state ≡ steps_of records (after_owed old.owes old.state)

@@ -49,7 +49,7 @@ pub record IsLogOf (R : Log) (H : History) : Type 0 where
   pub serials : next_serial R ≡ suc (length H)
   pub numbered : IsNumbered H
 
--- The records of the log count, they are a legal log with this history, and the pages stand beside
+-- The records of the log count, they are a legal log with this history, and the pages are beside
 -- it. Empty files, and those of a creation that was cut short, have no record.
 pub record OpensTo (files : Files) (H : History) : Type 0 where
   pub records : Log

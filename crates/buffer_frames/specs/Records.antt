@@ -13,8 +13,8 @@ use Rattle.buffer_frames.specs.NoStore.{IsStoreOf}
 use Rattle.buffer_frames.specs.Maps.{HasApplied}
 use Rattle.buffer_frames.specs.declared.page_map.PageMap.{PageMap}
 
--- The records of the log were read into a state and a map of pages. On a device that tells what it
--- holds they are those of its files, and where a crash leaves the log that is read, all stands.
+-- The records of the log were read into a state and a map of pages. On a device that says what it
+-- holds they are those of its files, and where a crash leaves the log that is read, all is.
 pub record AreRead {D : Type 0} (device : Disk D) (old new : D) (wal : Wal) (state : StateValue)
     (map : PageMap) (R : Log) : Type 0 where
   pub numbered : AreNumbered R

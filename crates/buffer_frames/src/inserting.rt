@@ -25,8 +25,8 @@ pub(crate) fn owed_abort(alloc: Global, number: u64) -> Record
     }
 }
 
-/// The bytes of records, one behind another.
-pub(crate) fn spell(records: &[Record], out: &mut Vec<u8>) -> Result<(), AllocError>
+/// The bytes of records, one after another.
+pub(crate) fn encode(records: &[Record], out: &mut Vec<u8>) -> Result<(), AllocError>
     requires { AllByRecursion IsRecord records.now }
     ensures { OnOk result (out.new.items ≡ out.old.items ++ flat_map record_bytes records.now) }
 {

@@ -14,7 +14,7 @@ ghost use Rattle.buffer_frames.specs.LogCauses.{WriteHasCause, GoesDown, LogFull
 ghost use Rattle.buffer_frames.specs.Inner.Following.{MayGoOn};
 ghost use Rattle.buffer_frames.specs.declared.log_error.LogError.TheVariants.{DiskFault, LogFull, Down, OutOfMemory};
 
-use crate::inserting::{owed_abort, spell, step_insert, step_owed};
+use crate::inserting::{owed_abort, encode, step_insert, step_owed};
 use crate::laws::counted_are_one;
 use crate::log_error::LogError;
 use core_state::State;
@@ -73,7 +73,7 @@ impl<D: Disk> Model for Journal<D> {
 }
 
 impl<D: Disk> Journal<D> {
-    /// These records wait behind those that do, the owed Abort before them, or none of them does.
+    /// These records wait after those that do, the owed Abort before them, or none of them does.
     /// Where much waits already a flush comes first.
     /// The log is full where with them it would pass its limit after a flush.
     pub fn log(&mut self, records: &[Record]) -> Result<(), LogError>
@@ -150,7 +150,7 @@ impl<D: Disk> Journal<D> {
         self.flush()
     }
 
-    /// These records wait behind those that do, of which there are few.
+    /// These records wait after those that do, of which there are few.
     fn log_now(&mut self, records: &[Record]) -> Result<(), LogError>
         requires next { AreNext (next_number self.old) records.now }
         requires insert { IsOneInsert self.old.state records.now }
@@ -172,7 +172,7 @@ impl<D: Disk> Journal<D> {
             return Err(LogError::OutOfMemory);
         }
         let owed = owed_abort(self.alloc, number);
-        let bytes = self.spelled(&owed, records)?;
+        let bytes = self.encoded(&owed, records)?;
         self.state
             .make_room_to_insert(&records[0], &records[1], &records[2])?;
         if let Err(error) = self.wal.append(&bytes) {
@@ -184,8 +184,8 @@ impl<D: Disk> Journal<D> {
         Ok(())
     }
 
-    /// The bytes of the records, behind those of the owed Abort, where one is owed.
-    fn spelled(&self, owed: &Record, records: &[Record]) -> Result<Vec<u8>, AllocError>
+    /// The bytes of the records, after those of the owed Abort, where one is owed.
+    fn encoded(&self, owed: &Record, records: &[Record]) -> Result<Vec<u8>, AllocError>
         requires owed { IsRecord owed.now }
         requires each { AllByRecursion IsRecord records.now }
         ensures { IfOk result (λ bytes. bytes.items
@@ -195,7 +195,7 @@ impl<D: Disk> Journal<D> {
         if self.owes {
             encode_record(owed, &mut bytes)?;
         }
-        spell(records, &mut bytes)?;
+        encode(records, &mut bytes)?;
         Ok(bytes)
     }
 

@@ -9,7 +9,7 @@ mod log_error;
 mod making;
 mod opening;
 mod page_map;
-mod reading;
+mod records;
 
 pub use error::OpenFault;
 pub use journal::Journal;

@@ -16,7 +16,7 @@ pub enum LogError {
     /// The log would pass its limit.
     #[error("log full")]
     LogFull,
-    /// A write or a sync failed in an earlier call. The device's count of faults stood at this
+    /// A write or a sync failed in an earlier call. The device's count of faults was at this
     /// number after it.
     #[error("down {fault}")]
     Down { fault: u64 },

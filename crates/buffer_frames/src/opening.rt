@@ -27,7 +27,7 @@ use crate::journal::{Journal, MOST_RECORDS};
 use crate::laws::{counted_are_one, stores_are_known};
 use crate::making::first_record;
 use crate::page_map::PageMap;
-use crate::reading::read_records;
+use crate::records::read_records;
 use core_state::{Settings, State};
 use disk_trait::{Disk, Failed, File};
 use record_code::encode_record;

@@ -51,7 +51,7 @@ leaf_trees s p (m ∷ ls) l a (inl e) = subst (λ (z : LeafRead). AreTrees s (en
 leaf_trees s p (m ∷ ls) l a (inr i) = leaf_trees s (beyond s m.leaf.content) ls l a.3 i
 
 module _ (P : ℕ → Pages) (end : ℕ) where
-  -- the reads of a leaf, and of a tree behind it
+  -- the reads of a leaf, and of a tree after it
   tree_part : (t : ℕ) (ts : List (List Read)) (rest : List Read) (u : List Read)
       → Reads P t end (tree_reads ts ++ rest) → In u ts → (s : ℕ) × (t ≤ s) × Reads P t end u
   tree_part t [] rest u r i = absurd i

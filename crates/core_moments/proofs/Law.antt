@@ -102,7 +102,7 @@ module _ (P : ℕ → Pages) (start end : ℕ) (T : Trees P start end) (i : ℕ)
           (rights_same (first_of walk.meta.content) walk.pending
           (reads_shown P start end walk.pending pend_reads) W.pending_ok))
 
-      -- a row with the item that was read stood on the line at the first moment
+      -- a row with the item that was read was on the line at the first moment
       row_was : (x : Read) (row : Row) → In x walk.pending → In row (kept_rows_of x.content) → row.item ≡ i
           → OnLine x.page row
       row_was x row on there item =
@@ -126,7 +126,7 @@ module _ (P : ℕ → Pages) (start end : ℕ) (T : Trees P start end) (i : ℕ)
       page_of p (y ∷ ys) (inl f) = (y, inl refl, sym f)
       page_of p (y ∷ ys) (inr n) = let r = page_of p ys n in (r.0, inr r.1, r.2)
 
-      -- and a row that stood on it was read
+      -- and a row that was on it was read
       row_read : (p : ℕ) (row : Row) → OnLine p row → (x : Read) × In x walk.pending × In row (kept_rows_of x.content)
       row_read p row (page, there, item) =
           let found = page_of p walk.pending
@@ -296,7 +296,7 @@ module _ (P : ℕ → Pages) (start end : ℕ) (T : Trees P start end) (i : ℕ)
           same : (a b : ℕ) → ◌≡◌ {A = m.Postings (Ext ℕ)} (m.Postings.root a) (m.Postings.root b) → a ≡ b
           same a b g = cc
 
-      -- a leaf on which the item stands under the key tells it
+      -- a leaf on which the item is under the key says it
       under_leaf : (x : KeyWalk) (on : In x walk.keys) (l : LeafRead) (n : In l x.leaves) (k : Key)
           (d : m.Entry (Ext Key) (Ext ℕ))
           → In d (entries_at l.leaf.length l.leaf.page) → d.key ≡ at k

@@ -60,7 +60,7 @@ along_body right stamp (Pending s) = refl
 pub along_same : (p : Page) → along p ≡ w.along (post_node p)
 along_same p = along_body p.right p.stamp p.body
 
--- whether a walk goes on behind a leaf with this high key
+-- whether a walk goes on after a leaf with this high key
 abbrev pub goes : Sought → Ext Key → Bool
 goes (Sought.one k) h = false
 goes Sought.whole h = true

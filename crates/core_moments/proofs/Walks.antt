@@ -1,4 +1,4 @@
--- A walk as it is defined is a walk over the nodes; what a leaf and its trees tell of an item.
+-- A walk as it is defined is a walk over the nodes; what a leaf and its trees say of an item.
 use Rattle.std.proofs.Common.{◌≡◌, ◌⊎◌, ◌≤◌, ℕ, Bool, true, false, ◌&&◌, ◌||◌, nat_eq, List, [], ◌∷◌, ◌++◌, map, refl, sym, ap, subst, ap₂, ◌∙◌, inl, inr}
 use Rattle.std.specs.List.{list_any}
 use Rattle.core_state.proofs.Trees.Walk as w

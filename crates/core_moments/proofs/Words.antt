@@ -16,7 +16,7 @@ use Rattle.core_state.specs.Trees.TreeNodes.{bound}
 use Rattle.core_state.proofs.Trees.Orders.{ext_order, key_order}
 use Rattle.core_moments.specs.Walk.{begins, up_to}
 
--- x may stand where this is the bound
+-- x may be where this is the bound
 abbrev pub upto : Ext Key → Ext Key → Bool
 upto x greatest = true
 upto least (at b) = true
@@ -30,7 +30,7 @@ pub upto_bound : (k b : Key) → upto (at k) (bound b) ≡ up_to k b
 upto_bound k [] = refl
 upto_bound k (c ∷ cs) = refl
 
--- the test of a bound tells what may stand under it
+-- the test of a bound says what may be under it
 pub up_to_tells : (k b : Key) → (up_to k b ≡ true) ↔ UpTo k b
 up_to_tells k [] = (λ e. inl refl, λ u. refl)
 up_to_tells k (c ∷ cs) = (λ e. inr (on (slice_cmp nat_cmp k (c ∷ cs)) refl e), back)

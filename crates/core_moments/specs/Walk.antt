@@ -28,7 +28,7 @@ abbrev pub is_empty : Key → Bool
 is_empty [] = true
 is_empty (b ∷ bs) = false
 
--- k may stand where this is the bound; no bytes: no bound
+-- k may be where this is the bound; no bytes: no bound
 abbrev pub up_to : Key → Key → Bool
 up_to k bound = is_empty bound || is_le (key_order k bound)
 

@@ -303,7 +303,7 @@ more_front : (k : Bool) (u t : Transaction) (ts us : List Transaction) → us �
 more_front true u t ts us e = ap (λ (vs : List Transaction). u ∷ vs) e
 more_front false u t ts us e = e
 
--- one more runs, behind all that have begun
+-- one more runs, after all that have begun
 pub running_more : (bs : List Begun) (b : Begun) → b.runs ≡ true
     → running_of (bs ++ b ∷ []) ≡ running_of bs ++ b.transaction ∷ []
 running_more [] b runs = ap (λ k. cond k (b.transaction ∷ []) []) runs

@@ -111,7 +111,7 @@ marked_seen bs ts x i b n new up same w more =
     ≡ replaced (with_marked n t) ts))
     (sym (seen_runs bs ts x i b up same w)) put
 
--- an ended one stands in the place of one that ran
+-- an ended one is in the place of one that ran
 pub record IsLeft (bs : List Begun) (ts : List Transaction) (x n : ℕ)
     (new : List Begun) : Type 0 where
   pub rise : AreBegun 0 new
@@ -131,7 +131,7 @@ left_seen bs ts n x i b new up same count w xid ended =
       count = count_left bs i b new w.at w.runs ended ∙ sym count;
     }
 
--- what is so of the row where an ended one stands in it
+-- what is so of the row where an ended one is in it
 pub record IsTidy (bs : List Begun) (ts : List Transaction) (x n : ℕ)
     (new : List Begun) : Type 0 where
   pub rise : AreBegun 0 new
@@ -162,7 +162,7 @@ kept_tidy bs ts x n new w =
       most = omega (arith, w.count, length_kept new);
     }
 
--- one more that runs stands behind the others
+-- one more that runs is after the others
 pub record IsMore (ts : List Transaction) (x n : ℕ) (new : List Begun) : Type 0 where
   pub rise : AreBegun 0 new
   pub end : end_of 0 new ≡ suc x

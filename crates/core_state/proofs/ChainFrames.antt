@@ -17,13 +17,13 @@ use Rattle.core_state.specs.Documents.{Doc, Has, IsChain, HasBytes, IsWhole, IsD
 use Rattle.core_state.specs.Index.{Line, NoPair}
 use Rattle.core_state.specs.Known.{use_in}
 use Rattle.core_state.specs.Changes.{IsNew}
-use Rattle.core_state.specs.HeapRows.{IsPutOverflow}
-use Rattle.core_state.specs.VacuumRows.{IsDropPage, IsGoneFrom}
-use Rattle.core_state.specs.Legal.{RowHolds}
+use Rattle.core_state.specs.HeapRules.{IsPutOverflow}
+use Rattle.core_state.specs.VacuumRules.{IsDropPage, IsGoneFrom}
+use Rattle.core_state.specs.Legal.{RuleHolds}
 use Rattle.core_state.specs.Inner.ItemChains.{Chains, AreOverflows, ArePrivates}
 use Rattle.core_state.proofs.Histories.{chain_one}
 use Rattle.core_state.proofs.PageLists.{same_or_not, in_or_not, two_pages}
-use Rattle.core_state.proofs.RowsByKind.{kind_row}
+use Rattle.core_state.proofs.RulesByKind.{kind_rule}
 use Rattle.core_state.specs.Inner.PageKinds.{IsHeap, IsOverflow, IsPending, IsMeta, IsTree, IsFirstOf, IsChanged, Touched}
 use Rattle.core_state.proofs.TouchedPages.{head_was}
 use Rattle.core_state.proofs.LivePages.{new_was}
@@ -138,7 +138,7 @@ module _ (P Q : Pages) (h h' : Head) (bytes : h'.bytes ≡ h.bytes) (vector : h'
     bytes = w.bytes;
     there = bytes_kept w.bytes w.there same;
     size = w.size ∙ sym bytes;
-    spells = w.spells;
+    encodes = w.encodes;
   }
 
 -- a record of this kind drops a page or frees slots
@@ -152,11 +152,11 @@ pub record Removed (R : Log) (P : Pages) (r : Record) (floor : ℕ) (d : Doc) : 
   pub by : RemovesDocs r.kind
   pub gone : IsGoneFrom R P floor d
 
-module _ (R : Log) (P Q : Pages) (r : Record) (floor since : ℕ) (row : RowHolds R P Q r floor since) where
-  -- what the rows of two kinds say of their document
+module _ (R : Log) (P Q : Pages) (r : Record) (floor since : ℕ) (row : RuleHolds R P Q r floor since) where
+  -- what the rules of two kinds say of their document
   pub drop_gone : (d : Doc) → r.kind ≡ kind.DropPage d.item d.serial → Removed R P r floor d
   drop_gone d e =
-      let x : IsDropPage R P Q r floor = kind_row R P Q r floor since (kind.DropPage d.item d.serial) e row in
+      let x : IsDropPage R P Q r floor = kind_rule R P Q r floor since (kind.DropPage d.item d.serial) e row in
       let same : kind.DropPage x.here.doc.item x.here.doc.serial ≡ kind.DropPage d.item d.serial = sym x.here.kind_is
       ∙ e in
       let item : x.here.doc.item ≡ d.item = cc in
@@ -169,7 +169,7 @@ module _ (R : Log) (P Q : Pages) (r : Record) (floor since : ℕ) (row : RowHold
   pub not_put : (d : Doc) (h : Head) (v : Vector) → r.kind ≡ kind.PutOverflow d.item d.serial → Has P d h
       → IsWhole P h v → ⊥
   not_put d h v e has whole =
-      let x : IsPutOverflow R P Q r since = kind_row R P Q r floor since (kind.PutOverflow d.item d.serial) e row in
+      let x : IsPutOverflow R P Q r since = kind_rule R P Q r floor since (kind.PutOverflow d.item d.serial) e row in
       let same : kind.PutOverflow x.here.doc.item x.here.doc.serial ≡ kind.PutOverflow d.item d.serial =
       sym x.here.kind_is ∙ e in
       let item : x.here.doc.item ≡ d.item = cc in

@@ -1,4 +1,4 @@
--- The chains of items behind each kind of record, where the places of pages change as the kind says.
+-- The chains of items after each kind of record, where the places of pages change as the kind says.
 use Rattle.std.proofs.Common.{◌≡◌, ◌≢◌, ◌⊎◌, ℕ, List, refl, sym, ap, subst, ◌∙◌, inl, inr}
 use Rattle.std.specs.Prelude.{◌↔◌, ⊤}
 use Rattle.page_types.specs.declared.page.Page.{Page}
@@ -12,9 +12,9 @@ use Rattle.page_types.specs.declared.record.Kind.TheVariants as kind
 use Rattle.core_state.specs.Log.{Log, Pages, In, changed}
 use Rattle.core_state.specs.Documents.{page_of}
 use Rattle.core_state.specs.Changes.{made_with}
-use Rattle.core_state.specs.HeapRows.{IsPutOverflow}
-use Rattle.core_state.specs.PendingRows.{IsPutPending, IsLinkPending}
-use Rattle.core_state.specs.VacuumRows.{IsDropped, IsDropPage}
+use Rattle.core_state.specs.HeapRules.{IsPutOverflow}
+use Rattle.core_state.specs.PendingRules.{IsPutPending, IsLinkPending}
+use Rattle.core_state.specs.VacuumRules.{IsDropped, IsDropPage}
 use Rattle.core_state.specs.Inner.PageKinds.{IsHeap, IsOverflow, IsPending, IsMeta, IsFirstOf, Touched}
 use Rattle.core_state.specs.Inner.ItemChains.{Chains, AreOverflows, ArePrivates}
 use Rattle.core_state.proofs.PageLists.{two_pages}

@@ -9,7 +9,7 @@ use Rattle.core_state.specs.Log.{Log, Pages}
 use Rattle.core_state.specs.Documents.{Doc, head_of}
 use Rattle.core_state.specs.Known.{use_in}
 use Rattle.core_state.specs.Changes.{IsNew}
-use Rattle.core_state.specs.HeapRows.{IsNewHead}
+use Rattle.core_state.specs.HeapRules.{IsNewHead}
 use Rattle.core_state.specs.Inner.ItemChains.{Chains}
 use Rattle.core_state.proofs.PageLists.{same_or_not}
 use Rattle.core_state.specs.Inner.PageKinds.{IsMeta, IsFirstOf}

@@ -1,4 +1,4 @@
--- Chains behind a change of their first pages.
+-- Chains after a change of their first pages.
 use Rattle.std.proofs.Common.{◌≡◌, ◌≢◌, ◌⊎◌, ◌<◌, ℕ, suc, List, [], ◌∷◌, ◌++◌, length, refl, sym, ap, subst, ◌∙◌, inl, inr, arith}
 use Rattle.std.specs.Prelude.{◌↔◌, Some, None}
 use Rattle.page_types.specs.declared.page.Page.{Page}
@@ -28,7 +28,7 @@ parts_kept P Q (q ∷ qs) same =
     ap (λ (x : Page). part_of x ++ parts Q qs) (same q (inl refl)) ∙ ap (λ (l : List ℕ). part_of (P q) ++ l)
     (parts_kept P Q qs (λ z i. same z (inr i)))
 
--- the chain behind one of its pages
+-- the chain after one of its pages
 pub record Rest (P : Pages) (p : ℕ) (qs : List ℕ) : Type 0 where
   pub back : List ℕ
   pub is_chain : IsChain P p (p ∷ back)

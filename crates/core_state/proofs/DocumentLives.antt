@@ -32,7 +32,7 @@ none_one a e = cc
 is_same : (a b : ℕ) → a ≡ b → (a == b) ≡ true
 is_same a b e = grind (arith, e)
 
--- a document that stands in the list is found by its name
+-- a document that is in the list is found by its name
 found_in : (n : Name) (p : Placed) → n.page ≡ page_of p.item → n.slot ≡ slot_of p.item
     → placer_in n (Some p) ≡ Some p.xid
 found_in n p a b =
@@ -51,7 +51,7 @@ found ps d x w =
     ∙ ap (λ (j : ℕ). placer_in (name_of d) (slice_get ps j)) k
     ∙ ap (placer_in (name_of d)) w.at ∙ found_in (name_of d) p refl refl
 
--- what is found by a name stands in the list
+-- what is found by a name is in the list
 pub record IsFound (ps : List Placed) (n : Name) (x : ℕ) : Type 0 where
   pub place : ℕ
   pub it : Placed

@@ -5,7 +5,7 @@ use Rattle.page_types.specs.declared.record.Kind.{Kind}
 use Rattle.page_types.specs.declared.record.Kind.TheVariants as kind
 use Rattle.core_state.specs.Log.{Log, Pages, In, fate, fate_with, ended, xid_behind, next_xid, serial_behind, next_serial, commits}
 use Rattle.core_state.specs.Documents.{Doc, IsDead, placed_with, placed, marked_with, marked, doc_at}
-use Rattle.core_state.specs.Legal.{RowHolds}
+use Rattle.core_state.specs.Legal.{RuleHolds}
 use Rattle.core_state.specs.Inner.XidsDrawn.{XidsDrawn}
 use Rattle.core_state.specs.declared.answers.Fate.{Fate}
 use Rattle.core_state.specs.declared.answers.Fate.TheVariants.{Unused, Running, Aborted, Committed}
@@ -126,49 +126,49 @@ module _ (R : Log) (P Q : Pages) (r : Record) (floor since : ℕ) (D : XidsDrawn
   aborts e (inr all) = FateStep.all_end e all (λ x. by_kind kind.Abort x e ∙ on_same r.xid 0 (ended (fate R x))
       (cond (r.xid == x) Aborted (fate R x)) all) (next_by kind.Abort e)
 
-  pub fate_step : RowHolds R P Q r floor since → FateStep R r
-  fate_step (RowHolds.create v) = FateStep.same (λ x. by_kind kind.Create x v.here.kind_is) (next_by kind.Create
+  pub fate_step : RuleHolds R P Q r floor since → FateStep R r
+  fate_step (RuleHolds.create v) = FateStep.same (λ x. by_kind kind.Create x v.here.kind_is) (next_by kind.Create
       v.here.kind_is)
-  fate_step (RowHolds.begin v) = FateStep.begins v.here.next (λ x. by_kind kind.Begin x v.here.kind_is)
+  fate_step (RuleHolds.begin v) = FateStep.begins v.here.next (λ x. by_kind kind.Begin x v.here.kind_is)
       (next_by kind.Begin v.here.kind_is)
-  fate_step (RowHolds.commit v) =
+  fate_step (RuleHolds.commit v) =
       let k = kind.Commit (suc (commits R)) in
       FateStep.ends (Committed (suc (commits R))) (inr (suc (commits R), refl, v.here.kind_is)) v.here.runs
       (λ x. by_kind k x v.here.kind_is) (next_by k v.here.kind_is)
-  fate_step (RowHolds.abort v) = aborts v.here.kind_is v.here.runs
-  fate_step (RowHolds.checkpoint v) = FateStep.same (λ x. by_kind (kind.Checkpoint v.here.redo) x v.here.kind_is)
+  fate_step (RuleHolds.abort v) = aborts v.here.kind_is v.here.runs
+  fate_step (RuleHolds.checkpoint v) = FateStep.same (λ x. by_kind (kind.Checkpoint v.here.redo) x v.here.kind_is)
       (next_by (kind.Checkpoint v.here.redo) v.here.kind_is)
-  fate_step (RowHolds.place_head v) = let k = kind.PlaceHead v.here.doc.item v.here.doc.serial in FateStep.same
+  fate_step (RuleHolds.place_head v) = let k = kind.PlaceHead v.here.doc.item v.here.doc.serial in FateStep.same
       (λ x. by_kind k x v.here.kind_is) (next_by k v.here.kind_is)
-  fate_step (RowHolds.put_overflow v) = let k = kind.PutOverflow v.here.doc.item v.here.doc.serial in FateStep.same
+  fate_step (RuleHolds.put_overflow v) = let k = kind.PutOverflow v.here.doc.item v.here.doc.serial in FateStep.same
       (λ x. by_kind k x v.here.kind_is) (next_by k v.here.kind_is)
-  fate_step (RowHolds.mark_deleted v) = let k = kind.MarkDeleted v.here.doc.item v.here.doc.serial in FateStep.same
+  fate_step (RuleHolds.mark_deleted v) = let k = kind.MarkDeleted v.here.doc.item v.here.doc.serial in FateStep.same
       (λ x. by_kind k x v.here.kind_is) (next_by k v.here.kind_is)
-  fate_step (RowHolds.put_pending v) = let k = kind.PutPending v.here.doc.item v.here.doc.serial in FateStep.same
+  fate_step (RuleHolds.put_pending v) = let k = kind.PutPending v.here.doc.item v.here.doc.serial in FateStep.same
       (λ x. by_kind k x v.here.kind_is) (next_by k v.here.kind_is)
-  fate_step (RowHolds.add_row v) = let k = kind.AddRow v.here.doc.item v.here.doc.serial in FateStep.same
+  fate_step (RuleHolds.add_row v) = let k = kind.AddRow v.here.doc.item v.here.doc.serial in FateStep.same
       (λ x. by_kind k x v.here.kind_is) (next_by k v.here.kind_is)
-  fate_step (RowHolds.link_pending v) = let k = kind.LinkPending v.here.doc.item v.here.doc.serial in FateStep.same
+  fate_step (RuleHolds.link_pending v) = let k = kind.LinkPending v.here.doc.item v.here.doc.serial in FateStep.same
       (λ x. by_kind k x v.here.kind_is) (next_by k v.here.kind_is)
-  fate_step (RowHolds.shift v) = FateStep.same (λ x. by_kind kind.Shift x v.here.kind_is)
+  fate_step (RuleHolds.shift v) = FateStep.same (λ x. by_kind kind.Shift x v.here.kind_is)
       (next_by kind.Shift v.here.kind_is)
-  fate_step (RowHolds.add_items v) = FateStep.same (λ x. by_kind kind.AddItems x v.here.kind_is) (next_by kind.AddItems
+  fate_step (RuleHolds.add_items v) = FateStep.same (λ x. by_kind kind.AddItems x v.here.kind_is) (next_by kind.AddItems
       v.here.kind_is)
-  fate_step (RowHolds.make_tree v) = FateStep.same (λ x. by_kind kind.MakeTree x v.here.kind_is) (next_by kind.MakeTree
+  fate_step (RuleHolds.make_tree v) = FateStep.same (λ x. by_kind kind.MakeTree x v.here.kind_is) (next_by kind.MakeTree
       v.here.kind_is)
-  fate_step (RowHolds.add_postings v) = FateStep.same (λ x. by_kind kind.AddPostings x v.here.kind_is)
+  fate_step (RuleHolds.add_postings v) = FateStep.same (λ x. by_kind kind.AddPostings x v.here.kind_is)
       (next_by kind.AddPostings v.here.kind_is)
-  fate_step (RowHolds.grow_root v) = FateStep.same (λ x. by_kind kind.GrowRoot x v.here.kind_is) (next_by kind.GrowRoot
+  fate_step (RuleHolds.grow_root v) = FateStep.same (λ x. by_kind kind.GrowRoot x v.here.kind_is) (next_by kind.GrowRoot
       v.here.kind_is)
-  fate_step (RowHolds.split v) = FateStep.same (λ x. by_kind kind.Split x v.here.kind_is)
+  fate_step (RuleHolds.split v) = FateStep.same (λ x. by_kind kind.Split x v.here.kind_is)
       (next_by kind.Split v.here.kind_is)
-  fate_step (RowHolds.remove_items v) = FateStep.same (λ x. by_kind kind.RemoveItems x v.here.kind_is)
+  fate_step (RuleHolds.remove_items v) = FateStep.same (λ x. by_kind kind.RemoveItems x v.here.kind_is)
       (next_by kind.RemoveItems v.here.kind_is)
-  fate_step (RowHolds.delete_post v) = FateStep.same (λ x. by_kind kind.DeletePost x v.here.kind_is)
+  fate_step (RuleHolds.delete_post v) = FateStep.same (λ x. by_kind kind.DeletePost x v.here.kind_is)
       (next_by kind.DeletePost v.here.kind_is)
-  fate_step (RowHolds.drop_page v) = let k = kind.DropPage v.here.doc.item v.here.doc.serial in FateStep.same
+  fate_step (RuleHolds.drop_page v) = let k = kind.DropPage v.here.doc.item v.here.doc.serial in FateStep.same
       (λ x. by_kind k x v.here.kind_is) (next_by k v.here.kind_is)
-  fate_step (RowHolds.free_slots v) = FateStep.same (λ x. by_kind kind.FreeSlots x v.here.kind_is)
+  fate_step (RuleHolds.free_slots v) = FateStep.same (λ x. by_kind kind.FreeSlots x v.here.kind_is)
       (next_by kind.FreeSlots v.here.kind_is)
 
 -- a transaction has ended
@@ -268,7 +268,7 @@ module _ (R : Log) (r : Record) (D : XidsDrawn R) where
   ]
   commits_back (FateStep.all_end k z s n) x m e = inl (ended_commits (fate R x) m (sym (s x) ∙ e))
 
-  -- the xids that weren't drawn are unused behind it too
+  -- the xids that weren't drawn are unused after it too
   pub drawn_step : FateStep R r → XidsDrawn (r ∷ R)
   drawn_step (FateStep.same s n) = record {
     first = subst (λ (z : ℕ). 1 ≤ z) (sym n) D.first;

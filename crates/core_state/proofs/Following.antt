@@ -1,4 +1,4 @@
--- The state of a legal log tells of its transactions, numbers and commits.
+-- The state of a legal log says of its transactions, numbers and commits.
 use Rattle.std.proofs.Common.{◌≡◌, ◌≢◌, ◌⊎◌, ◌<◌, ◌≤◌, ◌&&◌, nat_lt, ◌^◌, ℕ, zero, suc, true, cond, ◌==◌, List, [], ◌∷◌, ◌++◌, length, map, refl, sym, ap, ap₂, subst, ◌∙◌, inl, inr, arith}
 use Rattle.std.specs.Prelude.{Option, Some, None, if◌then◌else◌, ⊤}
 use Rattle.std.proofs.lemmas.List.{length-append, map-append, get_or_past}
@@ -10,7 +10,7 @@ use Rattle.page_types.specs.declared.page.Name.{Name}
 use Rattle.core_state.specs.Log.{Log, Pages, commits, next_xid, next_serial, serial_behind, fate, redo_of, ended, xid_bound}
 use Rattle.core_state.specs.Documents.{Doc, name_of, placed, marked}
 use Rattle.core_state.specs.History.{Document, Commit, History, AreInserts, IsHistory}
-use Rattle.core_state.specs.Legal.{RowHolds, RowsAreValid}
+use Rattle.core_state.specs.Legal.{RuleHolds, RecordsAreValid}
 use Rattle.core_state.specs.Lives.{with_ends}
 use Rattle.core_state.specs.States.{StateValue, fate_at, with_fate, all_ended, uses_after, sizes_after, done_by, transaction, without, replaced, begun, committed, aborted, ended_all, placed_head, marked_head, last_serial, step_of, state_of, names}
 use Rattle.core_state.specs.declared.transactions.Transaction.{Transaction}
@@ -23,7 +23,7 @@ abbrev pub kept_by : Fate → Transaction → Option Transaction
 kept_by Running t = Some t
 kept_by _ t = None
 
--- the state tells of the log, its running transactions too
+-- the state says of the log, its running transactions too
 pub record Kept (R : Log) (s : StateValue) : Type 0 where
   pub records : s.records ≡ length R
   pub fates : (y : ℕ) → fate_at s.fates y ≡ fate R y
@@ -431,7 +431,7 @@ serial_more : (k : Kind) (s n : ℕ) → s ≤ n → serial_behind k s ≤ suc n
 serial_more (kind.PlaceHead item serial) s n l = omega (arith, l)
 serial_more _ s n l = omega (arith, l)
 
-serials_small : (R : Log) → RowsAreValid R → R ≢ [] → next_serial R ≤ length R
+serials_small : (R : Log) → RecordsAreValid R → R ≢ [] → next_serial R ≤ length R
 serials_small [] v off = absurd (off refl)
 serials_small (r ∷ []) v off = elim v.1.started [
   | inl e ↦ subst (λ k. serial_behind k 1 ≤ 1) (sym e)
@@ -451,15 +451,15 @@ quiet_row : (R : Log) (s : StateValue) (r : Record) (k : Kind) → r.kind ≡ k 
     → Kept R s → Kept (r ∷ R) (step_of r s)
 quiet_row R s r k e quiet number h = turned R s r k e (quiet_kept R s r.number r.xid k r.changes quiet number h)
 
-row_kept : (R : Log) (s : StateValue) (r : Record) (P Q : Pages) (floor since : ℕ) → RowsAreValid R
+row_kept : (R : Log) (s : StateValue) (r : Record) (P Q : Pages) (floor since : ℕ) → RecordsAreValid R
     → r.number ≡ suc (length R) → r.number < 2 ^ 64
-    → (r.kind ≡ kind.Create) ⊎ (R ≢ []) → Kept R s → RowHolds R P Q r floor since → Kept (r ∷ R) (step_of r s)
-row_kept R s r P Q floor since v number fits started k (RowHolds.begin x) =
+    → (r.kind ≡ kind.Create) ⊎ (R ≢ []) → Kept R s → RuleHolds R P Q r floor since → Kept (r ∷ R) (step_of r s)
+row_kept R s r P Q floor since v number fits started k (RuleHolds.begin x) =
     turned R s r kind.Begin x.here.kind_is (begin_kept R s r.number r.xid r.changes number x.here.next x.here.bound k)
-row_kept R s r P Q floor since v number fits started k (RowHolds.commit x) =
+row_kept R s r P Q floor since v number fits started k (RuleHolds.commit x) =
     turned R s r (kind.Commit (suc (commits R))) x.here.kind_is
     (commit_kept R s r.number r.xid r.changes number x.here.runs k)
-row_kept R s r P Q floor since v number fits started k (RowHolds.abort x) = turned R s r kind.Abort x.here.kind_is
+row_kept R s r P Q floor since v number fits started k (RuleHolds.abort x) = turned R s r kind.Abort x.here.kind_is
     (elim x.here.runs [
       | inl runs ↦ abort_kept R s r.number r.xid r.changes number runs k
       | inr zero_is ↦ subst (λ z. Kept (rec_of r.number z kind.Abort r.changes ∷ R)
@@ -467,42 +467,42 @@ row_kept R s r P Q floor since v number fits started k (RowHolds.abort x) = turn
           (abort_all_kept R s r.number r.changes number k)
     ])
 row_kept R s r P Q floor since v number fits started k
-    (RowHolds.create x) = quiet_row R s r kind.Create x.here.kind_is tt number k
-row_kept R s r P Q floor since v number fits started k (RowHolds.put_overflow x) = quiet_row R s r
+    (RuleHolds.create x) = quiet_row R s r kind.Create x.here.kind_is tt number k
+row_kept R s r P Q floor since v number fits started k (RuleHolds.put_overflow x) = quiet_row R s r
     (kind.PutOverflow x.here.doc.item x.here.doc.serial) x.here.kind_is tt number k
-row_kept R s r P Q floor since v number fits started k (RowHolds.put_pending x) = quiet_row R s r
+row_kept R s r P Q floor since v number fits started k (RuleHolds.put_pending x) = quiet_row R s r
     (kind.PutPending x.here.doc.item x.here.doc.serial) x.here.kind_is tt number k
-row_kept R s r P Q floor since v number fits started k (RowHolds.add_row x) = quiet_row R s r
+row_kept R s r P Q floor since v number fits started k (RuleHolds.add_row x) = quiet_row R s r
     (kind.AddRow x.here.doc.item x.here.doc.serial) x.here.kind_is tt number k
-row_kept R s r P Q floor since v number fits started k (RowHolds.link_pending x) = quiet_row R s r
+row_kept R s r P Q floor since v number fits started k (RuleHolds.link_pending x) = quiet_row R s r
     (kind.LinkPending x.here.doc.item x.here.doc.serial) x.here.kind_is tt number k
-row_kept R s r P Q floor since v number fits started k (RowHolds.drop_page x) = quiet_row R s r
+row_kept R s r P Q floor since v number fits started k (RuleHolds.drop_page x) = quiet_row R s r
     (kind.DropPage x.here.doc.item x.here.doc.serial) x.here.kind_is tt number k
-row_kept R s r P Q floor since v number fits started k (RowHolds.shift x) = quiet_row R s r kind.Shift x.here.kind_is
+row_kept R s r P Q floor since v number fits started k (RuleHolds.shift x) = quiet_row R s r kind.Shift x.here.kind_is
     tt number k
-row_kept R s r P Q floor since v number fits started k (RowHolds.add_items x) = quiet_row R s r kind.AddItems
+row_kept R s r P Q floor since v number fits started k (RuleHolds.add_items x) = quiet_row R s r kind.AddItems
     x.here.kind_is tt number k
-row_kept R s r P Q floor since v number fits started k (RowHolds.make_tree x) = quiet_row R s r kind.MakeTree
+row_kept R s r P Q floor since v number fits started k (RuleHolds.make_tree x) = quiet_row R s r kind.MakeTree
     x.here.kind_is tt number k
-row_kept R s r P Q floor since v number fits started k (RowHolds.add_postings x) = quiet_row R s r kind.AddPostings
+row_kept R s r P Q floor since v number fits started k (RuleHolds.add_postings x) = quiet_row R s r kind.AddPostings
     x.here.kind_is tt number k
-row_kept R s r P Q floor since v number fits started k (RowHolds.grow_root x) = quiet_row R s r kind.GrowRoot
+row_kept R s r P Q floor since v number fits started k (RuleHolds.grow_root x) = quiet_row R s r kind.GrowRoot
     x.here.kind_is tt number k
-row_kept R s r P Q floor since v number fits started k (RowHolds.split x) = quiet_row R s r kind.Split x.here.kind_is
+row_kept R s r P Q floor since v number fits started k (RuleHolds.split x) = quiet_row R s r kind.Split x.here.kind_is
     tt number k
-row_kept R s r P Q floor since v number fits started k (RowHolds.remove_items x) = quiet_row R s r kind.RemoveItems
+row_kept R s r P Q floor since v number fits started k (RuleHolds.remove_items x) = quiet_row R s r kind.RemoveItems
     x.here.kind_is tt number k
-row_kept R s r P Q floor since v number fits started k (RowHolds.delete_post x) = quiet_row R s r kind.DeletePost
+row_kept R s r P Q floor since v number fits started k (RuleHolds.delete_post x) = quiet_row R s r kind.DeletePost
     x.here.kind_is tt number k
-row_kept R s r P Q floor since v number fits started k (RowHolds.free_slots x) = quiet_row R s r kind.FreeSlots
+row_kept R s r P Q floor since v number fits started k (RuleHolds.free_slots x) = quiet_row R s r kind.FreeSlots
     x.here.kind_is tt number k
-row_kept R s r P Q floor since v number fits started k (RowHolds.checkpoint x) =
+row_kept R s r P Q floor since v number fits started k (RuleHolds.checkpoint x) =
     turned R s r (kind.Checkpoint x.here.redo) x.here.kind_is
     (checkpoint_kept R s r.number r.xid x.here.redo r.changes number k)
-row_kept R s r P Q floor since v number fits started k (RowHolds.mark_deleted x) =
+row_kept R s r P Q floor since v number fits started k (RuleHolds.mark_deleted x) =
     turned R s r (kind.MarkDeleted x.here.doc.item x.here.doc.serial) x.here.kind_is
     (mark_kept R s r.number r.xid r.changes x.here.doc.item x.here.doc.serial number x.here.runs k)
-row_kept R s r P Q floor since v number fits started k (RowHolds.place_head x) =
+row_kept R s r P Q floor since v number fits started k (RuleHolds.place_head x) =
     let kind_is = x.here.kind_is in
     let some : R ≢ [] = elim started
     [ inl e ↦ absurd (place_create x.here.doc.item x.here.doc.serial (sym kind_is ∙ e)) | inr some ↦ some ] in
@@ -513,7 +513,7 @@ row_kept R s r P Q floor since v number fits started k (RowHolds.place_head x) =
     place_create : (item serial : ℕ) → kind.PlaceHead item serial ≡ kind.Create → ⊥
     place_create item serial e = cc
 
-pub kept : (pages xid_limit : ℕ) (R : Log) → RowsAreValid R → Kept R (state_of pages xid_limit R)
+pub kept : (pages xid_limit : ℕ) (R : Log) → RecordsAreValid R → Kept R (state_of pages xid_limit R)
 kept pages xid_limit [] v = record {
   records = refl;
   fates = λ y. none y;
@@ -532,4 +532,4 @@ kept pages xid_limit [] v = record {
     none (suc k) = get_or_past [] k Unused (omega arith)
 kept pages xid_limit (r ∷ R) v =
     row_kept R (state_of pages xid_limit R) r v.1.before v.1.after (commits R)
-    (suc (length R)) v.0 v.1.number v.1.is_record.number v.1.started (kept pages xid_limit R v.0) v.1.row
+    (suc (length R)) v.0 v.1.number v.1.is_record.number v.1.started (kept pages xid_limit R v.0) v.1.rule

@@ -2,7 +2,7 @@
 use Rattle.std.proofs.Common.{◌≡◌, ◌<◌, ◌≤◌, ◌+◌, ◌*◌, ◌/◌, ◌%◌, ◌^◌, ℕ, zero, suc, List, ◌-◌, replicate, get_or, drop, refl, sym, ap, subst, ◌∙◌, inl, inr, arith}
 use Rattle.std.proofs.Math.Nat.{one-le-pow, mul-le-mul_left}
 use Rattle.std.proofs.lemmas.List.{drop-replicate}
-use Rattle.core_state.specs.Inner.PeakTrees.{IsPeak, IsWidth, IsTree, IsReached, IsFirstAt}
+use Rattle.core_state.specs.Inner.PeakTrees.{IsPeak, IsWidth, IsPeakTree, IsReached, IsFirstAt}
 use Rattle.core_state.proofs.RunningOnes.{below_or_past}
 
 some_span : (k : ℕ) → 1 ≤ 2 ^ k
@@ -16,7 +16,7 @@ at_start : (at s : ℕ) → 1 ≤ s → at ≤ at * s
 at_start at s l = omega (arith, mul-le-mul_left at l)
 
 -- a place below a node isn't above it
-pub under : (w : ℕ) (t : List ℕ) (k at l : ℕ) → IsTree w t → 0 < at → at * 2 ^ k ≤ l → l < (at + 1) * 2 ^ k → l < 2 * w
+pub under : (w : ℕ) (t : List ℕ) (k at l : ℕ) → IsPeakTree w t → 0 < at → at * 2 ^ k ≤ l → l < (at + 1) * 2 ^ k → l < 2 * w
     → get_or t l 0 ≤ get_or t at 0
 under w t zero at l tree node low high in_row =
     let same : l ≡ at = omega (arith, low, high) in omega (arith, ap (λ (i : ℕ). get_or t i 0) same)
@@ -41,7 +41,7 @@ under w t (suc k) at l tree node low high in_row =
     ]
 
 -- what is before the next node
-pub more_before : (w from bound : ℕ) (t : List ℕ) (at span start : ℕ) → IsTree w t
+pub more_before : (w from bound : ℕ) (t : List ℕ) (at span start : ℕ) → IsPeakTree w t
     → IsReached w from bound t at span start → get_or t at 0 < bound
     → (l : ℕ) → w + from ≤ l → l < start + span → l < 2 * w → get_or t l 0 < bound
 more_before w from bound t at span start tree r small l low high in_row = elim (below_or_past l start) [
@@ -53,7 +53,7 @@ more_before w from bound t at span start tree r small l low high in_row = elim (
       omega (arith, under w t r.levels at l tree r.node first last in_row, small)
 ]
 
-pub next_node : (w from bound : ℕ) (t : List ℕ) (at span start : ℕ) → IsTree w t
+pub next_node : (w from bound : ℕ) (t : List ℕ) (at span start : ℕ) → IsPeakTree w t
     → IsReached w from bound t at span start → get_or t at 0 < bound → start + span < 2 * w
     → IsReached w from bound t (at + 1) span (start + span)
 next_node w from bound t at span start tree r small high = record {
@@ -147,7 +147,7 @@ left_node w from bound t at span start r l =
     moved a b = omega arith
 
 -- a node that isn't below the bound has one below it that isn't
-pub one_below : (w from bound : ℕ) (t : List ℕ) (at span start : ℕ) → IsTree w t
+pub one_below : (w from bound : ℕ) (t : List ℕ) (at span start : ℕ) → IsPeakTree w t
     → IsReached w from bound t at span start → 1 < span → bound ≤ get_or t at 0 → get_or t (at * 2) 0 < bound
     → bound ≤ get_or t (at * 2 + 1) 0
 one_below w from bound t at span start tree r l here small =
@@ -193,7 +193,7 @@ begins_at w from bound t l = record {
     alone a = omega arith
 
 -- the right one of two nodes
-pub right_node : (w from bound : ℕ) (t : List ℕ) (at span start : ℕ) → IsWidth w → IsTree w t
+pub right_node : (w from bound : ℕ) (t : List ℕ) (at span start : ℕ) → IsWidth w → IsPeakTree w t
     → IsReached w from bound t at span start → 1 < span → get_or t (at * 2) 0 < bound
     → IsReached w from bound t (at * 2 + 1) (span / 2) (start + span / 2)
 right_node w from bound t at span start width tree r l small =

@@ -14,7 +14,7 @@ use Rattle.core_state.specs.Log.{changed}
 use Rattle.core_state.specs.Documents.{Doc, slot_of, name_of}
 use Rattle.core_state.specs.Known.{Known}
 use Rattle.core_state.specs.Changes.{made_with, IsNew, IsOwn, IsHeadChange}
-use Rattle.core_state.specs.HeapRows.{IsMarkDeletedHere, IsPutOverflowHere}
+use Rattle.core_state.specs.HeapRules.{IsMarkDeletedHere, IsPutOverflowHere}
 use Rattle.core_state.specs.Inner.HeadChanges.{HasHead, LeavesInSlot, LeavesPart, MayBeMarked, MayBePut}
 use Rattle.core_state.specs.declared.answers.Fate.TheVariants.{Running}
 use Rattle.core_state.proofs.PlacedHeads.{same_heap}

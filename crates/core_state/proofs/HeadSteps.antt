@@ -14,10 +14,10 @@ use Rattle.core_state.specs.Log.{Log, Pages, In, changed}
 use Rattle.core_state.specs.Documents.{Doc, Has, page_of, slot_of, item_at, head_of, doc_at}
 use Rattle.core_state.specs.Known.{known, use_in}
 use Rattle.core_state.specs.Changes.{made_with, IsNew, PutsSlot, IsHeadChange}
-use Rattle.core_state.specs.HeapRows.{IsNewHead, IsPlaceHead, IsPutOverflow, IsMarkDeleted}
-use Rattle.core_state.specs.PendingRows.{IsPutPending, IsLinkHere, IsLinkPending}
-use Rattle.core_state.specs.VacuumRows.{IsDropped, IsDropPage, IsGoneFrom, SlotLoses, IsFreeSlots}
-use Rattle.core_state.specs.Legal.{RowHolds}
+use Rattle.core_state.specs.HeapRules.{IsNewHead, IsPlaceHead, IsPutOverflow, IsMarkDeleted}
+use Rattle.core_state.specs.PendingRules.{IsPutPending, IsLinkHere, IsLinkPending}
+use Rattle.core_state.specs.VacuumRules.{IsDropped, IsDropPage, IsGoneFrom, SlotLoses, IsFreeSlots}
+use Rattle.core_state.specs.Legal.{RuleHolds}
 use Rattle.core_state.proofs.PageLists.{same_or_not, in_or_not, one_page, two_pages, three_pages}
 use Rattle.core_state.specs.Inner.PageKinds.{IsOverflow, IsPending, IsMeta, IsTree, IsDeleted, IsPlain, IsHeadPage, IsChanged, Touched}
 use Rattle.core_state.proofs.TouchedPages.{head_was}
@@ -217,7 +217,7 @@ module _ (R : Log) (P Q : Pages) (r : Record) (floor since : ℕ) (touch : (p : 
       turns (kind.PutPending d.item d.serial) d x.here.old x.here.heap_then x.here.head _ x.here.kind_is (λ p e. e) f.0 g.0
       x.here.head_after refl
 
-  -- the heap page of a link, before and behind it
+  -- the heap page of a link, before and after it
   link_page : (a to end added : ℕ) (others : List ℕ) (old left : Page) (befores afters : List Page)
       → IsLinkHere r to end added others befores afters → changed r ≡ a ∷ others
       → map P (changed r) ≡ old ∷ befores → map Q (changed r) ≡ left ∷ afters → (P a ≡ old) × (Q a ≡ left)
@@ -320,14 +320,14 @@ module _ (R : Log) (P Q : Pages) (r : Record) (floor since : ℕ) (touch : (p : 
       sole a p ps e m = elim (subst (In p) e m) [ inl s ↦ s | inr n ↦ absurd n ]
 
   -- through all kinds
-  pub head_step : RowHolds R P Q r floor since → HeadStep R P Q r floor
-  head_step (RowHolds.create x) = none_turn kind.Create x.here.kind_is (λ p n. n)
-  head_step (RowHolds.begin x) = none_turn kind.Begin x.here.kind_is (λ p n. n)
-  head_step (RowHolds.commit x) = none_turn _ x.here.kind_is (λ p n. n)
-  head_step (RowHolds.abort x) = none_turn kind.Abort x.here.kind_is (λ p n. n)
-  head_step (RowHolds.checkpoint x) = none_turn (kind.Checkpoint x.here.redo) x.here.kind_is (λ p n. n)
-  head_step (RowHolds.place_head x) = place_step x
-  head_step (RowHolds.put_overflow x) = turn_step x.here.doc x.here.head _ (put_turned x)
+  pub head_step : RuleHolds R P Q r floor since → HeadStep R P Q r floor
+  head_step (RuleHolds.create x) = none_turn kind.Create x.here.kind_is (λ p n. n)
+  head_step (RuleHolds.begin x) = none_turn kind.Begin x.here.kind_is (λ p n. n)
+  head_step (RuleHolds.commit x) = none_turn _ x.here.kind_is (λ p n. n)
+  head_step (RuleHolds.abort x) = none_turn kind.Abort x.here.kind_is (λ p n. n)
+  head_step (RuleHolds.checkpoint x) = none_turn (kind.Checkpoint x.here.redo) x.here.kind_is (λ p n. n)
+  head_step (RuleHolds.place_head x) = place_step x
+  head_step (RuleHolds.put_overflow x) = turn_step x.here.doc x.here.head _ (put_turned x)
       (record {
         by = by_kind x.here.doc _ x.here.kind_is (refl, refl);
         serial = refl;
@@ -338,7 +338,7 @@ module _ (R : Log) (P Q : Pages) (r : Record) (floor since : ℕ) (touch : (p : 
         overflow = inr (inl x.here.kind_is);
         private = inl refl;
       })
-  head_step (RowHolds.mark_deleted x) = turn_step x.here.doc x.here.head _ (mark_turned x)
+  head_step (RuleHolds.mark_deleted x) = turn_step x.here.doc x.here.head _ (mark_turned x)
       (record {
         by = by_kind x.here.doc _ x.here.kind_is (refl, refl);
         serial = refl;
@@ -349,7 +349,7 @@ module _ (R : Log) (P Q : Pages) (r : Record) (floor since : ℕ) (touch : (p : 
         overflow = inl refl;
         private = inl refl;
       })
-  head_step (RowHolds.put_pending x) = turn_step x.here.doc x.here.head _ (rows_turned x)
+  head_step (RuleHolds.put_pending x) = turn_step x.here.doc x.here.head _ (rows_turned x)
       (record {
         by = by_kind x.here.doc _ x.here.kind_is (refl, refl);
         serial = refl;
@@ -360,8 +360,8 @@ module _ (R : Log) (P Q : Pages) (r : Record) (floor since : ℕ) (touch : (p : 
         overflow = inl refl;
         private = inr (inl x.here.kind_is);
       })
-  head_step (RowHolds.add_row x) = none_turn (kind.AddRow x.here.doc.item x.here.doc.serial) x.here.kind_is (λ p n. n)
-  head_step (RowHolds.link_pending x) = turn_step x.here.doc x.here.head _ (link_turned x)
+  head_step (RuleHolds.add_row x) = none_turn (kind.AddRow x.here.doc.item x.here.doc.serial) x.here.kind_is (λ p n. n)
+  head_step (RuleHolds.link_pending x) = turn_step x.here.doc x.here.head _ (link_turned x)
       (record {
         by = by_kind x.here.doc _ x.here.kind_is (refl, refl);
         serial = refl;
@@ -372,15 +372,15 @@ module _ (R : Log) (P Q : Pages) (r : Record) (floor since : ℕ) (touch : (p : 
         overflow = inl refl;
         private = inr (inr (inl x.here.kind_is));
       })
-  head_step (RowHolds.shift x) = none_turn kind.Shift x.here.kind_is (λ p n. n)
-  head_step (RowHolds.add_items x) = none_turn kind.AddItems x.here.kind_is (λ p n. n)
-  head_step (RowHolds.make_tree x) = none_turn kind.MakeTree x.here.kind_is (λ p n. n)
-  head_step (RowHolds.add_postings x) = none_turn kind.AddPostings x.here.kind_is (λ p n. n)
-  head_step (RowHolds.grow_root x) = none_turn kind.GrowRoot x.here.kind_is (λ p n. n)
-  head_step (RowHolds.split x) = none_turn kind.Split x.here.kind_is (λ p n. n)
-  head_step (RowHolds.remove_items x) = none_turn kind.RemoveItems x.here.kind_is (λ p n. n)
-  head_step (RowHolds.delete_post x) = none_turn kind.DeletePost x.here.kind_is (λ p n. n)
-  head_step (RowHolds.drop_page x) = turn_step x.here.doc x.here.head x.here.head_then (drop_turned x)
+  head_step (RuleHolds.shift x) = none_turn kind.Shift x.here.kind_is (λ p n. n)
+  head_step (RuleHolds.add_items x) = none_turn kind.AddItems x.here.kind_is (λ p n. n)
+  head_step (RuleHolds.make_tree x) = none_turn kind.MakeTree x.here.kind_is (λ p n. n)
+  head_step (RuleHolds.add_postings x) = none_turn kind.AddPostings x.here.kind_is (λ p n. n)
+  head_step (RuleHolds.grow_root x) = none_turn kind.GrowRoot x.here.kind_is (λ p n. n)
+  head_step (RuleHolds.split x) = none_turn kind.Split x.here.kind_is (λ p n. n)
+  head_step (RuleHolds.remove_items x) = none_turn kind.RemoveItems x.here.kind_is (λ p n. n)
+  head_step (RuleHolds.delete_post x) = none_turn kind.DeletePost x.here.kind_is (λ p n. n)
+  head_step (RuleHolds.drop_page x) = turn_step x.here.doc x.here.head x.here.head_then (drop_turned x)
       (dropped_turn x.here.doc x.here.head x.here.head_then x.here.page x.here.was.right x.here.was.body x.here.content
       x.here.dropped x.here.kind_is)
-  head_step (RowHolds.free_slots x) = free_step x
+  head_step (RuleHolds.free_slots x) = free_step x

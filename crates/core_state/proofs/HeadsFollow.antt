@@ -10,12 +10,12 @@ use Rattle.page_types.specs.declared.record.Kind.TheVariants as kind
 use Rattle.core_state.specs.Log.{Log, Pages, In, changed, fate, next_serial}
 use Rattle.core_state.specs.Documents.{Doc, Has, IsDead, placed, marked, page_of, slot_of, head_of, doc_at}
 use Rattle.core_state.specs.Changes.{made_with}
-use Rattle.core_state.specs.HeapRows.{IsPlaceHead, IsMarkDeleted}
-use Rattle.core_state.specs.Legal.{RowHolds}
+use Rattle.core_state.specs.HeapRules.{IsPlaceHead, IsMarkDeleted}
+use Rattle.core_state.specs.Legal.{RuleHolds}
 use Rattle.core_state.specs.Inner.HeadsKept.{HeadsKept}
 use Rattle.core_state.specs.declared.answers.Fate.TheVariants.{Unused, Running, Aborted, Committed}
 use Rattle.core_state.proofs.PageLists.{same_or_not, one_page}
-use Rattle.core_state.proofs.RowsByKind.{kind_row}
+use Rattle.core_state.proofs.RulesByKind.{kind_rule}
 use Rattle.core_state.proofs.TouchedPages.{head_was}
 use Rattle.core_state.proofs.HeadSteps.{HeadStep}
 use Rattle.core_state.proofs.FateSteps.{HasEnded, FateStep, fate_step, ends_stay, drawn_step, dead_stays, dead_more, placed_on, placed_new, placed_back, marked_on, marked_new, marked_back, serial_grows, serial_next}
@@ -42,10 +42,10 @@ pub record MarksDoc (R : Log) (P : Pages) (r : Record) (i s : ℕ) : Type 0 wher
   pub unmarked : (head.deleted_by ≡ 0) ⊎ (fate R head.deleted_by ≡ Aborted)
   pub runs : fate R r.xid ≡ Running
 
-pub places_doc : (R : Log) (P Q : Pages) (r : Record) (floor since : ℕ) → RowHolds R P Q r floor since → (i s : ℕ)
+pub places_doc : (R : Log) (P Q : Pages) (r : Record) (floor since : ℕ) → RuleHolds R P Q r floor since → (i s : ℕ)
     → r.kind ≡ kind.PlaceHead i s → PlacesDoc R Q r i s
 places_doc R P Q r floor since row i s e =
-    let x : IsPlaceHead R P Q r since = kind_row R P Q r floor since (kind.PlaceHead i s) e row in
+    let x : IsPlaceHead R P Q r since = kind_rule R P Q r floor since (kind.PlaceHead i s) e row in
     let same : kind.PlaceHead x.here.doc.item x.here.doc.serial ≡ kind.PlaceHead i s = sym x.here.kind_is ∙ e in
     let item : x.here.doc.item ≡ i = cc in
     let serial : x.here.doc.serial ≡ s = cc in
@@ -63,10 +63,10 @@ places_doc R P Q r floor since row i s e =
       has = subst (λ (d : Doc). Has Q d x.here.head) (ap₂ doc_at item serial) has;
     }
 
-pub marks_doc : (R : Log) (P Q : Pages) (r : Record) (floor since : ℕ) → RowHolds R P Q r floor since → (i s : ℕ)
+pub marks_doc : (R : Log) (P Q : Pages) (r : Record) (floor since : ℕ) → RuleHolds R P Q r floor since → (i s : ℕ)
     → r.kind ≡ kind.MarkDeleted i s → MarksDoc R P r i s
 marks_doc R P Q r floor since row i s e =
-    let x : IsMarkDeleted R P Q r = kind_row R P Q r floor since (kind.MarkDeleted i s) e row in
+    let x : IsMarkDeleted R P Q r = kind_rule R P Q r floor since (kind.MarkDeleted i s) e row in
     let same : kind.MarkDeleted x.here.doc.item x.here.doc.serial ≡ kind.MarkDeleted i s = sym x.here.kind_is ∙ e in
     let item : x.here.doc.item ≡ i = cc in
     let serial : x.here.doc.serial ≡ s = cc in
@@ -173,7 +173,7 @@ module _ (R : Log) (P Q : Pages) (r : Record) (floor : ℕ) where
   ]
 
 module _ (n : ℕ) (R : Log) (P Q : Pages) (r : Record) (floor since : ℕ) (D : HeadsKept n R P) (low : floor ≤ n)
-    (row : RowHolds R P Q r floor since) (H : HeadStep R P Q r floor) where
+    (row : RuleHolds R P Q r floor since) (H : HeadStep R P Q r floor) where
   F : FateStep R r
   F = fate_step R P Q r floor since D.xids row
 
@@ -238,10 +238,10 @@ module _ (n : ℕ) (R : Log) (P Q : Pages) (r : Record) (floor since : ℕ) (D :
     ]
   ]
 
-  -- behind the record a marked head has the record's xid
+  -- after the record a marked head has the record's xid
   now_marked : (i : ℕ) (h : Head) → head_of Q i ≡ Some h → r.kind ≡ kind.MarkDeleted i h.serial → h.deleted_by ≡ r.xid
   now_marked i h e k =
-      let x : IsMarkDeleted R P Q r = kind_row R P Q r floor since (kind.MarkDeleted i h.serial) k row in
+      let x : IsMarkDeleted R P Q r = kind_rule R P Q r floor since (kind.MarkDeleted i h.serial) k row in
       let same : kind.MarkDeleted x.here.doc.item x.here.doc.serial ≡ kind.MarkDeleted i h.serial = sym x.here.kind_is
       ∙ k in
       let item : x.here.doc.item ≡ i = cc in
@@ -325,7 +325,7 @@ module _ (n : ℕ) (R : Log) (P Q : Pages) (r : Record) (floor since : ℕ) (D :
         omega (arith, next, more)
   ]
 
-  -- behind every record the heads follow the log
+  -- after every record the heads follow the log
   pub heads_follow : HeadsKept n (r ∷ R) Q
   heads_follow = record {
     xids = drawn_step R r D.xids F;

@@ -2,7 +2,7 @@
 use Rattle.std.proofs.Common.{◌≡◌, ℕ, suc, List, [], ◌∷◌, ◌++◌, length, map, refl, sym, ap, ap₂, subst, ◌∙◌, inl, inr, arith}
 use Rattle.std.specs.Prelude.{Some}
 use Rattle.ts_base.specs.Vectors.{Vector}
-use Rattle.ts_base.proofs.Spelling.{spelling_tells_vector}
+use Rattle.ts_base.proofs.Encoding.{encoding_tells_vector}
 use Rattle.page_types.specs.declared.page.Head.{Head}
 use Rattle.page_types.specs.declared.page.Name.{Name}
 use Rattle.page_types.specs.declared.record.Record.{Record}
@@ -11,7 +11,7 @@ use Rattle.page_types.specs.declared.record.Kind.TheVariants as kind
 use Rattle.core_state.specs.Log.{Log, Pages, In, Shows, commits}
 use Rattle.core_state.specs.Documents.{Doc, Has, IsChain, HasBytes, IsWhole, HasVector, name_of, parts, placed, marked}
 use Rattle.core_state.specs.History.{Document, Commit, History, AreInserts, IsCommitOf, IsHistoryWith, IsHistory}
-use Rattle.core_state.specs.Legal.{RowHolds, RowsAreValid}
+use Rattle.core_state.specs.Legal.{RuleHolds, RecordsAreValid}
 use Rattle.core_state.specs.Laws.{HistoryIsOne, LegalHasHistory}
 use Rattle.core_state.proofs.Showing.{shown_one}
 
@@ -31,8 +31,8 @@ bytes_one P h xs ys (HasBytes.long a qs c) (HasBytes.long b qs' d) = ap (parts P
 
 pub whole_one : (P : Pages) (h : Head) (v w : Vector) → IsWhole P h v → IsWhole P h w → v ≡ w
 whole_one P h v w a b =
-    spelling_tells_vector v w a.spells.normal b.spells.normal
-    (sym a.spells.bytes_of ∙ bytes_one P h a.bytes b.bytes a.there b.there ∙ b.spells.bytes_of)
+    encoding_tells_vector v w a.encodes.normal b.encodes.normal
+    (sym a.encodes.bytes_of ∙ bytes_one P h a.bytes b.bytes a.there b.there ∙ b.encodes.bytes_of)
 
 some_one : (h k : Head) → Some h ≡ Some k → h ≡ k
 some_one h k e = cc
@@ -91,46 +91,46 @@ of_kind : (R : Log) (r : Record) (k : Kind) → r.kind ≡ k → (H : History) �
     → HasHistory (r ∷ R)
 of_kind R r k e h = subst (λ j. (H : History) × IsHistoryWith j r.xid R (IsHistory R) H) (sym e) h
 
-row_history : (R : Log) (r : Record) (P Q : Pages) (floor since : ℕ) → Shows R P → RowHolds R P Q r floor since
+rule_history : (R : Log) (r : Record) (P Q : Pages) (floor since : ℕ) → Shows R P → RuleHolds R P Q r floor since
     → HasHistory R → HasHistory (r ∷ R)
-row_history R r P Q floor since shown (RowHolds.create x) h = of_kind R r kind.Create x.here.kind_is h
-row_history R r P Q floor since shown (RowHolds.begin x) h = of_kind R r kind.Begin x.here.kind_is h
-row_history R r P Q floor since shown (RowHolds.commit x) h =
+rule_history R r P Q floor since shown (RuleHolds.create x) h = of_kind R r kind.Create x.here.kind_is h
+rule_history R r P Q floor since shown (RuleHolds.begin x) h = of_kind R r kind.Begin x.here.kind_is h
+rule_history R r P Q floor since shown (RuleHolds.commit x) h =
     let inserts = whole_inserts P (placed R r.xid) x.rest in
     let c : Commit = record { deleted = map name_of (marked R r.xid); inserted = inserts.0 } in
     of_kind R r (kind.Commit (suc (commits R))) x.here.kind_is
     (h.0 ++ c ∷ [], (h.0, c, h.1, record { pages = P; shown = shown; deleted = refl; inserted = inserts.1 }, refl))
-row_history R r P Q floor since shown (RowHolds.abort x) h = of_kind R r kind.Abort x.here.kind_is h
-row_history R r P Q floor since shown (RowHolds.place_head x) h = of_kind R r
+rule_history R r P Q floor since shown (RuleHolds.abort x) h = of_kind R r kind.Abort x.here.kind_is h
+rule_history R r P Q floor since shown (RuleHolds.place_head x) h = of_kind R r
     (kind.PlaceHead x.here.doc.item x.here.doc.serial) x.here.kind_is h
-row_history R r P Q floor since shown (RowHolds.checkpoint x) h = of_kind R r
+rule_history R r P Q floor since shown (RuleHolds.checkpoint x) h = of_kind R r
     (kind.Checkpoint x.here.redo) x.here.kind_is h
-row_history R r P Q floor since shown (RowHolds.put_overflow x) h = of_kind R r
+rule_history R r P Q floor since shown (RuleHolds.put_overflow x) h = of_kind R r
     (kind.PutOverflow x.here.doc.item x.here.doc.serial) x.here.kind_is h
-row_history R r P Q floor since shown (RowHolds.mark_deleted x) h = of_kind R r
+rule_history R r P Q floor since shown (RuleHolds.mark_deleted x) h = of_kind R r
     (kind.MarkDeleted x.here.doc.item x.here.doc.serial) x.here.kind_is h
-row_history R r P Q floor since shown (RowHolds.put_pending x) h = of_kind R r
+rule_history R r P Q floor since shown (RuleHolds.put_pending x) h = of_kind R r
     (kind.PutPending x.here.doc.item x.here.doc.serial) x.here.kind_is h
-row_history R r P Q floor since shown (RowHolds.add_row x) h = of_kind R r
+rule_history R r P Q floor since shown (RuleHolds.add_row x) h = of_kind R r
     (kind.AddRow x.here.doc.item x.here.doc.serial) x.here.kind_is h
-row_history R r P Q floor since shown (RowHolds.link_pending x) h = of_kind R r
+rule_history R r P Q floor since shown (RuleHolds.link_pending x) h = of_kind R r
     (kind.LinkPending x.here.doc.item x.here.doc.serial) x.here.kind_is h
-row_history R r P Q floor since shown (RowHolds.drop_page x) h = of_kind R r
+rule_history R r P Q floor since shown (RuleHolds.drop_page x) h = of_kind R r
     (kind.DropPage x.here.doc.item x.here.doc.serial) x.here.kind_is h
-row_history R r P Q floor since shown (RowHolds.shift x) h = of_kind R r kind.Shift x.here.kind_is h
-row_history R r P Q floor since shown (RowHolds.add_items x) h = of_kind R r kind.AddItems x.here.kind_is h
-row_history R r P Q floor since shown (RowHolds.make_tree x) h = of_kind R r kind.MakeTree x.here.kind_is h
-row_history R r P Q floor since shown (RowHolds.add_postings x) h = of_kind R r kind.AddPostings x.here.kind_is h
-row_history R r P Q floor since shown (RowHolds.grow_root x) h = of_kind R r kind.GrowRoot x.here.kind_is h
-row_history R r P Q floor since shown (RowHolds.split x) h = of_kind R r kind.Split x.here.kind_is h
-row_history R r P Q floor since shown (RowHolds.remove_items x) h = of_kind R r kind.RemoveItems x.here.kind_is h
-row_history R r P Q floor since shown (RowHolds.delete_post x) h = of_kind R r kind.DeletePost x.here.kind_is h
-row_history R r P Q floor since shown (RowHolds.free_slots x) h = of_kind R r kind.FreeSlots x.here.kind_is h
+rule_history R r P Q floor since shown (RuleHolds.shift x) h = of_kind R r kind.Shift x.here.kind_is h
+rule_history R r P Q floor since shown (RuleHolds.add_items x) h = of_kind R r kind.AddItems x.here.kind_is h
+rule_history R r P Q floor since shown (RuleHolds.make_tree x) h = of_kind R r kind.MakeTree x.here.kind_is h
+rule_history R r P Q floor since shown (RuleHolds.add_postings x) h = of_kind R r kind.AddPostings x.here.kind_is h
+rule_history R r P Q floor since shown (RuleHolds.grow_root x) h = of_kind R r kind.GrowRoot x.here.kind_is h
+rule_history R r P Q floor since shown (RuleHolds.split x) h = of_kind R r kind.Split x.here.kind_is h
+rule_history R r P Q floor since shown (RuleHolds.remove_items x) h = of_kind R r kind.RemoveItems x.here.kind_is h
+rule_history R r P Q floor since shown (RuleHolds.delete_post x) h = of_kind R r kind.DeletePost x.here.kind_is h
+rule_history R r P Q floor since shown (RuleHolds.free_slots x) h = of_kind R r kind.FreeSlots x.here.kind_is h
 
-rows_history : (R : Log) → RowsAreValid R → HasHistory R
-rows_history [] v = ([], refl)
-rows_history (r ∷ R) v = row_history R r v.1.before v.1.after (commits R) (suc (length R)) v.1.shown v.1.row
-    (rows_history R v.0)
+rules_history : (R : Log) → RecordsAreValid R → HasHistory R
+rules_history [] v = ([], refl)
+rules_history (r ∷ R) v = rule_history R r v.1.before v.1.after (commits R) (suc (length R)) v.1.shown v.1.rule
+    (rules_history R v.0)
 
 pub legal_history : LegalHasHistory
-legal_history R l = rows_history R l.valid
+legal_history R l = rules_history R l.valid

@@ -9,17 +9,17 @@ use Rattle.page_types.specs.declared.record.Kind.{Kind}
 use Rattle.page_types.specs.declared.record.Kind.TheVariants as kind
 use Rattle.core_state.specs.Log.{Log, Pages, In, changed, fate}
 use Rattle.core_state.specs.Documents.{Doc, Has, IsChain, IsDead, marked, head_of, doc_at}
-use Rattle.core_state.specs.HeapRows.{IsPutOverflow}
-use Rattle.core_state.specs.PendingRows.{IsPutPending, IsLinkPending}
-use Rattle.core_state.specs.VacuumRows.{IsGoneFrom}
+use Rattle.core_state.specs.HeapRules.{IsPutOverflow}
+use Rattle.core_state.specs.PendingRules.{IsPutPending, IsLinkPending}
+use Rattle.core_state.specs.VacuumRules.{IsGoneFrom}
 use Rattle.core_state.specs.Steady.{SameChain, KeepsHead}
-use Rattle.core_state.specs.Legal.{RowHolds}
+use Rattle.core_state.specs.Legal.{RuleHolds}
 use Rattle.core_state.specs.Inner.HeadsKept.{HeadsKept}
 use Rattle.core_state.specs.Inner.ItemChains.{AreOverflows, ArePrivates}
 use Rattle.core_state.specs.Inner.PageKinds.{Touched}
 use Rattle.core_state.specs.declared.answers.Fate.TheVariants.{Running, Aborted, Committed}
 use Rattle.core_state.proofs.PageLists.{same_or_not}
-use Rattle.core_state.proofs.RowsByKind.{kind_row}
+use Rattle.core_state.proofs.RulesByKind.{kind_rule}
 use Rattle.core_state.proofs.HeadSteps.{TurnsHead, HeadStep, put_turned, rows_turned, link_turned}
 use Rattle.core_state.proofs.HeadsFollow.{marks_doc, heads_more}
 use Rattle.core_state.proofs.FateSteps.{dead_more}
@@ -41,13 +41,13 @@ committed_running m e = cc
 committed_aborted : (m : ℕ) → Committed m ≡ Aborted → ⊥
 committed_aborted m e = cc
 
-module _ (R : Log) (P Q : Pages) (r : Record) (floor since : ℕ) (row : RowHolds R P Q r floor since) (touch : (p : ℕ)
+module _ (R : Log) (P Q : Pages) (r : Record) (floor since : ℕ) (row : RuleHolds R P Q r floor since) (touch : (p : ℕ)
     → In p (changed r) → Touched P Q r since p)
     (elsewhere : (q : ℕ) → (In q (changed r) → ⊥) → Q q ≡ P q) where
   -- the head's document by the kind that changes it
   turn_by : (k : Kind) → r.kind ≡ k → (d : Doc) (h : Head) → Has P d h → TurnsHead k d → HeadMove R P Q r floor d h
   turn_by (kind.PutOverflow i s) e d h has t =
-      let x : IsPutOverflow R P Q r since = kind_row R P Q r floor since (kind.PutOverflow i s) e row in
+      let x : IsPutOverflow R P Q r since = kind_rule R P Q r floor since (kind.PutOverflow i s) e row in
       let f : kind.PutOverflow x.here.doc.item x.here.doc.serial ≡ kind.PutOverflow i s = sym x.here.kind_is ∙ e in
       let item : x.here.doc.item ≡ i = cc in
       let same = same_doc P x.here.doc d x.here.head h (put_turned R P Q r floor since touch elsewhere x).was has (item
@@ -56,14 +56,14 @@ module _ (R : Log) (P Q : Pages) (r : Record) (floor since : ℕ) (row : RowHold
   turn_by (kind.MarkDeleted i s) e d h has t = HeadMove.marks (e ∙ ap (λ (z : ℕ). kind.MarkDeleted z s) t.0
       ∙ ap (λ (z : ℕ). kind.MarkDeleted d.item z) t.1)
   turn_by (kind.PutPending i s) e d h has t =
-      let x : IsPutPending R P Q r since = kind_row R P Q r floor since (kind.PutPending i s) e row in
+      let x : IsPutPending R P Q r since = kind_rule R P Q r floor since (kind.PutPending i s) e row in
       let f : kind.PutPending x.here.doc.item x.here.doc.serial ≡ kind.PutPending i s = sym x.here.kind_is ∙ e in
       let item : x.here.doc.item ≡ i = cc in
       let same = same_doc P x.here.doc d x.here.head h (rows_turned R P Q r floor since touch elsewhere x).was has
       (item ∙ t.0) in
       HeadMove.ours (ap (λ (z : Head). z.inserted_by) (sym same.1) ∙ x.here.own.by) x.here.own.runs
   turn_by (kind.LinkPending i s) e d h has t =
-      let x : IsLinkPending R P Q r = kind_row R P Q r floor since (kind.LinkPending i s) e row in
+      let x : IsLinkPending R P Q r = kind_rule R P Q r floor since (kind.LinkPending i s) e row in
       let f : kind.LinkPending x.here.doc.item x.here.doc.serial ≡ kind.LinkPending i s = sym x.here.kind_is ∙ e in
       let item : x.here.doc.item ≡ i = cc in
       let same = same_doc P x.here.doc d x.here.head h (link_turned R P Q r floor since touch elsewhere x).was has

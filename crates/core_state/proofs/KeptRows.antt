@@ -14,11 +14,11 @@ use Rattle.core_state.specs.Log.{Log, Pages, In, changed}
 use Rattle.core_state.specs.Documents.{Doc, Has, page_of}
 use Rattle.core_state.specs.Index.{Line}
 use Rattle.core_state.specs.Changes.{made_with}
-use Rattle.core_state.specs.PendingRows.{IsPutPending, IsAddRow, IsLinkHere, IsLinkPending, IsShift}
-use Rattle.core_state.specs.Legal.{RowHolds}
+use Rattle.core_state.specs.PendingRules.{IsPutPending, IsAddRow, IsLinkHere, IsLinkPending, IsShift}
+use Rattle.core_state.specs.Legal.{RuleHolds}
 use Rattle.core_state.specs.Inner.PageKinds.{IsHeap, IsOverflow, IsPending, IsMeta, IsTree, IsDeleted, PutsRows, ChangesLine, IsChanged, Touched}
 use Rattle.core_state.proofs.PageLists.{in_either, one_page, two_pages, three_pages}
-use Rattle.core_state.proofs.RowsByKind.{kind_row}
+use Rattle.core_state.proofs.RulesByKind.{kind_rule}
 use Rattle.core_state.proofs.HeadSteps.{rows_turned, link_turned}
 
 -- the item's document has its slot, and is of the record's transaction
@@ -53,14 +53,14 @@ pending_not_meta : (b : Body) → IsPending b → IsMeta b → ⊥
 pending_not_meta (body.Pending rows) is h = h
 pending_not_meta _ is h = absurd is
 
-module _ (R : Log) (P Q : Pages) (r : Record) (floor since : ℕ) (row : RowHolds R P Q r floor since) (touch : (p : ℕ)
+module _ (R : Log) (P Q : Pages) (r : Record) (floor since : ℕ) (row : RuleHolds R P Q r floor since) (touch : (p : ℕ)
     → In p (changed r) → Touched P Q r since p)
     (elsewhere : (q : ℕ) → (In q (changed r) → ⊥) → Q q ≡ P q) where
   -- rows that are put on a private chain
   put_rows : (k : Kind) → r.kind ≡ k → PutsRows k → (q : ℕ) → In q (changed r) → (w : Row) → In w (rows_of (Q q))
       → OwnRow P r w.item
   put_rows (kind.PutPending i s) e puts q on w m =
-      let x : IsPutPending R P Q r since = kind_row R P Q r floor since (kind.PutPending i s) e row in
+      let x : IsPutPending R P Q r since = kind_rule R P Q r floor since (kind.PutPending i s) e row in
       let h = page_of x.here.doc.item in
       let c = x.here.head_after in
       let g = two_pages Q (changed r) h x.here.new x.here.heap_then (made_with r x.here.head.private
@@ -107,7 +107,7 @@ module _ (R : Log) (P Q : Pages) (r : Record) (floor since : ℕ) (row : RowHold
       → IsPending (Q q).body → (w : Row) → In w (rows_of (Q q))
       → In w (rows_of (P q)) ⊎ OwnRow P r w.item
   line_rows (kind.AddRow i s) e lists q on is now w m =
-      let x : IsAddRow R P Q r = kind_row R P Q r floor since (kind.AddRow i s) e row in
+      let x : IsAddRow R P Q r = kind_rule R P Q r floor since (kind.AddRow i s) e row in
       let f = one_page P (changed r) x.here.last x.here.old x.here.pages x.here.before_is in
       let g = one_page Q (changed r) x.here.last _ x.here.pages x.here.after_is in
       elim (subst (In q) x.here.pages on) [
@@ -129,7 +129,7 @@ module _ (R : Log) (P Q : Pages) (r : Record) (floor since : ℕ) (row : RowHold
             ]
       ]
   line_rows (kind.LinkPending i s) e lists q on is now w m =
-      let x : IsLinkPending R P Q r = kind_row R P Q r floor since (kind.LinkPending i s) e row in
+      let x : IsLinkPending R P Q r = kind_rule R P Q r floor since (kind.LinkPending i s) e row in
       let h = page_of x.here.doc.item in
       let t = link_turned R P Q r floor since touch elsewhere x in
       elim (subst (In q) x.here.pages on) [
@@ -155,7 +155,7 @@ module _ (R : Log) (P Q : Pages) (r : Record) (floor since : ℕ) (row : RowHold
       has_heap : (d : Doc) (h : Head) → Has P d h → IsHeap (P (page_of d.item)).body
       has_heap d h has = some_heap (P (page_of d.item)).body _ h has.at
   line_rows kind.Shift e lists q on is now w m =
-      let x : IsShift R P Q r = kind_row R P Q r floor since kind.Shift e row in
+      let x : IsShift R P Q r = kind_rule R P Q r floor since kind.Shift e row in
       let f = two_pages P (changed r) 0 x.here.page x.here.meta x.here.old x.here.pages x.here.before_is in
       let g = two_pages Q (changed r) 0 x.here.page _ _ x.here.pages x.here.after_is in
       elim (subst (In q) x.here.pages on) [

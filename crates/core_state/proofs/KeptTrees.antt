@@ -10,7 +10,7 @@ use Rattle.page_types.specs.declared.record.Record.{Record}
 use Rattle.page_types.specs.declared.record.Kind.TheVariants as kind
 use Rattle.core_state.specs.Log.{Pages, In, changed}
 use Rattle.core_state.specs.Index.{children_in, Below, Under, Main}
-use Rattle.core_state.specs.TreeRows.{IsRoot}
+use Rattle.core_state.specs.TreeRules.{IsRoot}
 use Rattle.core_state.specs.Known.{use_in}
 use Rattle.core_state.specs.Changes.{IsNew}
 use Rattle.core_state.specs.Inner.PageKinds.{IsHeap, IsOverflow, IsPending, IsMeta, IsTree, IsDeleted, ChangesTrees, IsChanged, Touched}
@@ -144,7 +144,7 @@ module _ (P Q : Pages) (r : Record) (since : ℕ) (touch : (p : ℕ) → In p (c
     deleted_no_tree (Q q).body is,
   )
 
-  -- a page stays, or is of no tree before and behind
+  -- a page stays, or is of no tree before and after
   either : (q : ℕ) → (Q q ≡ P q) ⊎ ((IsTree (P q).body → ⊥) × (IsTree (Q q).body → ⊥))
   either q = elim (in_or_not q (changed r)) [
     | inl i ↦ inr (changed_no_tree q (touch q i).change)

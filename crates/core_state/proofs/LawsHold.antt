@@ -1,4 +1,4 @@
--- The laws of legal logs, for the proofs of those who stand on them.
+-- The laws of legal logs, for the proofs of those who use them.
 use Rattle.core_state.specs.Bullets.{BulletsHold}
 use Rattle.core_state.specs.Standing.{DocumentsHold}
 use Rattle.core_state.specs.Steady.{SteadyHold}

@@ -1,10 +1,10 @@
--- A page that a step leaves has a spelling as the record makes it: the stamp and a head's serial change no length.
+-- A page that a step leaves has an encoding as the record makes it: the stamp and a head's serial change no length.
 use Rattle.std.proofs.Common.{◌≡◌, ◌≢◌, ◌^◌, ◌<◌, ℕ, zero, suc, List, [], ◌∷◌, ◌++◌, length, refl, ap, arith}
 use Rattle.std.specs.Prelude.{Option, Some, None}
 use Rattle.std.specs.List.{AllByRecursion, flat_map}
 use Rattle.std.proofs.lemmas.List.{length-append}
 use Rattle.page_types.specs.Numbers.{u32_bytes, u64_bytes}
-use Rattle.page_types.specs.Spelling.{slot_bytes, head_bytes}
+use Rattle.page_types.specs.Encoding.{slot_bytes, head_bytes}
 use Rattle.page_types.specs.Pages.{IsPage, IsBody, IsSlot}
 use Rattle.page_types.specs.Records.{IsKind}
 use Rattle.page_types.specs.declared.page.Head.{Head}
@@ -75,7 +75,7 @@ numbered_size (h ∷ hs) (suc k) serial = omega (
   numbered_size hs k serial,
 )
 
--- what stands on a page that isn't free speaks of no stamp
+-- what is on a page that isn't free speaks of no stamp
 stamped_body : (right stamp number : ℕ) (b : Body) → b ≢ body.Free → IsBody right stamp b → IsBody right number b
 stamped_body right stamp number body.Free off is = absurd (off refl)
 stamped_body right stamp number (body.Meta first last pages) off is = is

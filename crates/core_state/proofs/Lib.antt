@@ -8,7 +8,7 @@ pub mod StateTold
 pub mod Worked
 pub mod Framing
 pub mod PageLists
-pub mod RowsByKind
+pub mod RulesByKind
 pub mod Trees
 pub mod Inserting
 pub mod Bounds

@@ -38,7 +38,7 @@ changed_not_free P Q r since p (IsChanged.listed was on lists is) =
     ]
 changed_not_free P Q r since p (IsChanged.dropped first is) = not_free_of IsDeleted (Q p).body (λ f. f) is
 
--- a page that a record changes isn't free behind it
+-- a page that a record changes isn't free after it
 pub body_not_free : (P Q : Pages) (r : Record) (since p : ℕ) → Touched P Q r since p → (Q p).body ≢ body.Free
 body_not_free P Q r since p t = changed_not_free P Q r since p t.change
 
@@ -80,7 +80,7 @@ new_was P since p (IsNew.deleted stamp e small) = let d = use_deleted (P p).stam
   subst (λ n. n ≤ since) (sym d.1) small,
 )
 
--- a page that was deleted behind `since` isn't changed
+-- a page that was deleted after `since` isn't changed
 untaken : (P : Pages) (since p : ℕ) (g : Gone) → (P p).body ≡ body.Deleted g → since < (P p).stamp
     → IsNew (use_in P) since p → ⊥
 untaken P since p g is late n = elim (new_was P since p n) [
@@ -111,7 +111,7 @@ changed_not_gone P Q r since p g is late (IsChanged.dropped first after) = elim 
   | inr o ↦ not_gone IsPending P p g is (λ f. f) o.0
 ]
 
--- a record leaves a page that was deleted behind `since` as it is
+-- a record leaves a page that was deleted after `since` as it is
 pub deleted_stays : (P Q : Pages) (r : Record) (since p : ℕ) (g : Gone) → ((q : ℕ) → In q (changed r)
     → Touched P Q r since q) → ((q : ℕ) → (In q (changed r) → ⊥) → Q q ≡ P q)
     → (P p).body ≡ body.Deleted g → since < (P p).stamp → Q p ≡ P p

@@ -9,7 +9,7 @@ use Rattle.page_types.specs.declared.record.Kind.{Kind}
 use Rattle.page_types.specs.declared.record.Kind.TheVariants as kind
 use Rattle.core_state.specs.Log.{Log, Pages, In, changed, fate, next_serial, serial_behind, commits, commits_with, fate_with}
 use Rattle.core_state.specs.Documents.{Doc, page_of, name_of, placed, marked, doc_at}
-use Rattle.core_state.specs.Legal.{RowHolds, RowsAreValid}
+use Rattle.core_state.specs.Legal.{RuleHolds, RecordsAreValid}
 use Rattle.core_state.specs.Lives.{IsLife, IsHeapPage, first_end, with_ends, life_by, life_in}
 use Rattle.core_state.specs.States.{StateValue, fate_of, transaction, committed, placed_head, noted, done_by, with_page, stepped, step_of, state_of, life_of}
 use Rattle.core_state.specs.Inner.HeadsKept.{HeadsKept}
@@ -32,7 +32,7 @@ abbrev placed_as : ℕ → ℕ → Placed
 placed_as item xid = record { item = item; xid = xid }
 
 module _ (R : Log) (P Q : Pages) (r : Record) (floor since n : ℕ) (D : HeadsKept n R P)
-    (row : RowHolds R P Q r floor since) (ps : List Placed) (es : List ℕ) (L : LivesKept R ps es) where
+    (row : RuleHolds R P Q r floor since) (ps : List Placed) (es : List ℕ) (L : LivesKept R ps es) where
   F : FateStep R r
   F = fate_step R P Q r floor since D.xids row
 
@@ -226,7 +226,7 @@ lists_of : (R : Log) (s : StateValue) (ps qs : List Placed) (es fs : List ℕ) �
     → LivesKept R ps es
 lists_of R s ps qs es fs e f k = subst (λ (z : List Placed). LivesKept R z es) (sym e) (subst (LivesKept R qs) (sym f) k)
 
--- the heap pages tell of the log
+-- the heap pages say of the log
 abbrev HeapsTold : Log → List ℕ → Type 0
 HeapsTold R qs = (p : ℕ) → In p qs ↔ IsHeapPage R p
 
@@ -234,7 +234,7 @@ never_same : (a b : ℕ) → a ≡ suc b → a ≡ b → ⊥
 never_same a b e f = omega (arith, e, f)
 
 module _ (R : Log) (P Q : Pages) (r : Record) (floor since n : ℕ) (s : StateValue) (D : HeadsKept n R P)
-    (row : RowHolds R P Q r floor since) (K : Kept R s) (K' : Kept (r ∷ R) (step_of r s))
+    (row : RuleHolds R P Q r floor since) (K : Kept R s) (K' : Kept (r ∷ R) (step_of r s))
     (L : LivesKept R s.placed s.ends) where
   abbrev Follow : StateValue → Type 0
   Follow z = LivesKept (r ∷ R) z.placed z.ends
@@ -305,7 +305,7 @@ module _ (R : Log) (P Q : Pages) (r : Record) (floor since n : ℕ) (s : StateVa
         lists_of (r ∷ R) s _ _ _ _ w.placed_same w.ends_same (other_lives R P Q r floor since n D row s.placed s.ends L o)
   ]
 
-  -- the heap pages tell of the log
+  -- the heap pages say of the log
   abbrev Heaps : StateValue → Type 0
   Heaps z = HeapsTold (r ∷ R) z.heaps
 
@@ -354,7 +354,7 @@ module _ (R : Log) (P Q : Pages) (r : Record) (floor since n : ℕ) (s : StateVa
         (stepped_same r.kind r.xid (changed r) (noted r s) o).heaps_same (λ i sr f. other_places r.kind i sr o f) h
   ]
 
-pub lives_kept : (pages xid_limit : ℕ) (R : Log) → RowsAreValid R
+pub lives_kept : (pages xid_limit : ℕ) (R : Log) → RecordsAreValid R
     → LivesKept R (state_of pages xid_limit R).placed (state_of pages xid_limit R).ends
 lives_kept pages xid_limit [] v = record {
   size = refl;
@@ -368,14 +368,14 @@ lives_kept pages xid_limit [] v = record {
     none_there k p e = cc
 lives_kept pages xid_limit (r ∷ R) v =
     row_lives R v.1.before v.1.after r (commits R) (suc (length R)) (commits R) (state_of pages xid_limit R)
-    (heads_kept R v.1.before v.0 v.1.shown) v.1.row (kept pages xid_limit R v.0) (kept pages xid_limit (r ∷ R) v)
+    (heads_kept R v.1.before v.0 v.1.shown) v.1.rule (kept pages xid_limit R v.0) (kept pages xid_limit (r ∷ R) v)
     (lives_kept pages xid_limit R v.0)
 
-pub heaps_told : (pages xid_limit : ℕ) (R : Log) → RowsAreValid R → HeapsTold R (state_of pages xid_limit R).heaps
+pub heaps_told : (pages xid_limit : ℕ) (R : Log) → RecordsAreValid R → HeapsTold R (state_of pages xid_limit R).heaps
 heaps_told pages xid_limit [] v = λ p. (λ i. absurd i, λ w. absurd w.placed_it)
 heaps_told pages xid_limit (r ∷ R) v =
     row_heaps R v.1.before v.1.after r (commits R) (suc (length R)) (commits R) (state_of pages xid_limit R)
-    (heads_kept R v.1.before v.0 v.1.shown) v.1.row (kept pages xid_limit R v.0) (kept pages xid_limit (r ∷ R) v)
+    (heads_kept R v.1.before v.0 v.1.shown) v.1.rule (kept pages xid_limit R v.0) (kept pages xid_limit (r ∷ R) v)
     (lives_kept pages xid_limit R v.0) (heaps_told pages xid_limit R v.0)
 
 same_life : (f g : ℕ → Fate) (es : List ℕ) (n : Name) (o : Option ℕ) → ((x : ℕ) → f x ≡ g x)
@@ -383,7 +383,7 @@ same_life : (f g : ℕ → Fate) (es : List ℕ) (n : Name) (o : Option ℕ) →
 same_life f g es n None e = refl
 same_life f g es n (Some x) e = ap (λ (h : Fate). life_by h (get_or es (n.serial - 1) 0)) (e x)
 
-pub lives_told : (pages xid_limit : ℕ) (R : Log) → RowsAreValid R → (n : Name)
+pub lives_told : (pages xid_limit : ℕ) (R : Log) → RecordsAreValid R → (n : Name)
     → IsLife R n (life_of (state_of pages xid_limit R) n)
 lives_told pages xid_limit R v n =
     let s = state_of pages xid_limit R in

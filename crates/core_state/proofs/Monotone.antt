@@ -8,11 +8,11 @@ use Rattle.core_state.specs.Log.{Log, Pages}
 use Rattle.core_state.specs.Known.{Known}
 use Rattle.core_state.specs.Changes.{IsNew, IsDeadHead}
 use Rattle.core_state.specs.Documents.{Doc, IsDead}
-use Rattle.core_state.specs.HeapRows.{IsPlaceHeadHere, IsPutOverflowHere}
-use Rattle.core_state.specs.PendingRows.{IsPutPendingHere}
-use Rattle.core_state.specs.TreeRows.{IsMakeTreeHere, IsGrowRootHere, IsSplitHere}
-use Rattle.core_state.specs.VacuumRows.{MayLeave, IsGoneFrom, SlotLoses, IsDropPageHere, IsFreeSlotsHere}
-use Rattle.core_state.specs.Legal.{RowHolds}
+use Rattle.core_state.specs.HeapRules.{IsPlaceHeadHere, IsPutOverflowHere}
+use Rattle.core_state.specs.PendingRules.{IsPutPendingHere}
+use Rattle.core_state.specs.TreeRules.{IsMakeTreeHere, IsGrowRootHere, IsSplitHere}
+use Rattle.core_state.specs.VacuumRules.{MayLeave, IsGoneFrom, SlotLoses, IsDropPageHere, IsFreeSlotsHere}
+use Rattle.core_state.specs.Legal.{RuleHolds}
 use Rattle.core_state.specs.Laws.{ValidIsMonotone}
 use Rattle.core_state.specs.declared.answers.Fate.{Fate}
 use Rattle.core_state.specs.declared.answers.PageUse.{PageUse}
@@ -219,42 +219,42 @@ free_more floor floor' k r before after le h = record {
   after_is = h.after_is;
 }
 
-pub row_more : (R : Log) (P Q : Pages) (r : Record) (floor since floor' since' : ℕ) → floor ≤ floor' → since ≤ since'
-    → RowHolds R P Q r floor since → RowHolds R P Q r floor' since'
+pub rule_more : (R : Log) (P Q : Pages) (r : Record) (floor since floor' since' : ℕ) → floor ≤ floor' → since ≤ since'
+    → RuleHolds R P Q r floor since → RuleHolds R P Q r floor' since'
 unfolding place_more overflow_more pending_more tree_more root_more split_more drop_more free_more
-row_more R P Q r floor since floor' since' low le (RowHolds.create x) = RowHolds.create x
-row_more R P Q r floor since floor' since' low le (RowHolds.begin x) = RowHolds.begin x
-row_more R P Q r floor since floor' since' low le (RowHolds.commit x) = RowHolds.commit x
-row_more R P Q r floor since floor' since' low le (RowHolds.abort x) = RowHolds.abort x
-row_more R P Q r floor since floor' since' low le (RowHolds.place_head x) = RowHolds.place_head
+rule_more R P Q r floor since floor' since' low le (RuleHolds.create x) = RuleHolds.create x
+rule_more R P Q r floor since floor' since' low le (RuleHolds.begin x) = RuleHolds.begin x
+rule_more R P Q r floor since floor' since' low le (RuleHolds.commit x) = RuleHolds.commit x
+rule_more R P Q r floor since floor' since' low le (RuleHolds.abort x) = RuleHolds.abort x
+rule_more R P Q r floor since floor' since' low le (RuleHolds.place_head x) = RuleHolds.place_head
     (record { here = place_more since since' _ r _ _ le x.here; rest = x.rest })
-row_more R P Q r floor since floor' since' low le (RowHolds.checkpoint x) = RowHolds.checkpoint x
-row_more R P Q r floor since floor' since' low le (RowHolds.mark_deleted x) = RowHolds.mark_deleted x
-row_more R P Q r floor since floor' since' low le (RowHolds.add_row x) = RowHolds.add_row x
-row_more R P Q r floor since floor' since' low le (RowHolds.link_pending x) = RowHolds.link_pending x
-row_more R P Q r floor since floor' since' low le (RowHolds.shift x) = RowHolds.shift x
-row_more R P Q r floor since floor' since' low le (RowHolds.add_items x) = RowHolds.add_items x
-row_more R P Q r floor since floor' since' low le (RowHolds.add_postings x) = RowHolds.add_postings x
-row_more R P Q r floor since floor' since' low le (RowHolds.delete_post x) = RowHolds.delete_post x
-row_more R P Q r floor since floor' since' low le (RowHolds.put_overflow x) = RowHolds.put_overflow
+rule_more R P Q r floor since floor' since' low le (RuleHolds.checkpoint x) = RuleHolds.checkpoint x
+rule_more R P Q r floor since floor' since' low le (RuleHolds.mark_deleted x) = RuleHolds.mark_deleted x
+rule_more R P Q r floor since floor' since' low le (RuleHolds.add_row x) = RuleHolds.add_row x
+rule_more R P Q r floor since floor' since' low le (RuleHolds.link_pending x) = RuleHolds.link_pending x
+rule_more R P Q r floor since floor' since' low le (RuleHolds.shift x) = RuleHolds.shift x
+rule_more R P Q r floor since floor' since' low le (RuleHolds.add_items x) = RuleHolds.add_items x
+rule_more R P Q r floor since floor' since' low le (RuleHolds.add_postings x) = RuleHolds.add_postings x
+rule_more R P Q r floor since floor' since' low le (RuleHolds.delete_post x) = RuleHolds.delete_post x
+rule_more R P Q r floor since floor' since' low le (RuleHolds.put_overflow x) = RuleHolds.put_overflow
     (record { here = overflow_more since since' _ r _ _ le x.here; rest = x.rest })
-row_more R P Q r floor since floor' since' low le (RowHolds.put_pending x) = RowHolds.put_pending
+rule_more R P Q r floor since floor' since' low le (RuleHolds.put_pending x) = RuleHolds.put_pending
     (record { here = pending_more since since' _ r _ _ le x.here; rest = x.rest })
-row_more R P Q r floor since floor' since' low le (RowHolds.make_tree x) = RowHolds.make_tree
+rule_more R P Q r floor since floor' since' low le (RuleHolds.make_tree x) = RuleHolds.make_tree
     (record { here = tree_more since since' _ r _ _ le x.here })
-row_more R P Q r floor since floor' since' low le (RowHolds.grow_root x) = RowHolds.grow_root
+rule_more R P Q r floor since floor' since' low le (RuleHolds.grow_root x) = RuleHolds.grow_root
     (record { here = root_more since since' _ r _ _ le x.here; rest = x.rest })
-row_more R P Q r floor since floor' since' low le (RowHolds.split x) = RowHolds.split
+rule_more R P Q r floor since floor' since' low le (RuleHolds.split x) = RuleHolds.split
     (record { here = split_more since since' _ r _ _ le x.here })
-row_more R P Q r floor since floor' since' low le (RowHolds.remove_items x) = RowHolds.remove_items
+rule_more R P Q r floor since floor' since' low le (RuleHolds.remove_items x) = RuleHolds.remove_items
     (record { here = x.here; rest = λ i j. leave_more R P floor floor' i low (x.rest i j) })
-row_more R P Q r floor since floor' since' low le (RowHolds.drop_page x) = RowHolds.drop_page
+rule_more R P Q r floor since floor' since' low le (RuleHolds.drop_page x) = RuleHolds.drop_page
     (record {
       here = drop_more floor floor' _ r _ _ low x.here;
       rest = gone_more R P floor floor' x.here.doc low
           x.rest;
     })
-row_more R P Q r floor since floor' since' low le (RowHolds.free_slots x) = RowHolds.free_slots
+rule_more R P Q r floor since floor' since' low le (RuleHolds.free_slots x) = RuleHolds.free_slots
     (record {
       here = free_more floor floor' _ r _ _ low x.here;
       rest = λ j h a b. gone_more R P floor floor' _ low
@@ -271,5 +271,5 @@ valid_more R r floor since floor' since' le le' v = record {
   can_edit = v.can_edit;
   number = v.number;
   started = v.started;
-  row = row_more R v.before v.after r floor since floor' since' le le' v.row;
+  rule = rule_more R v.before v.after r floor since floor' since' le le' v.rule;
 }

@@ -1,11 +1,11 @@
--- The pages on a record's list, one by one, before and behind it.
+-- The pages on a record's list, one by one, before and after it.
 use Rattle.std.proofs.Common.{◌≡◌, ◌≢◌, ◌⊎◌, ℕ, List, [], ◌∷◌, ◌++◌, map, refl, sym, ap, subst, ◌∙◌, inl, inr, arith}
 use Rattle.page_types.specs.declared.page.Page.{Page}
 use Rattle.page_types.specs.declared.page.Body.TheVariants as body
 use Rattle.page_types.specs.declared.record.Record.{Record}
 use Rattle.core_state.specs.Log.{Pages, In}
 use Rattle.core_state.specs.Changes.{made_with}
-use Rattle.core_state.specs.TreeRows.{IsUnlinked}
+use Rattle.core_state.specs.TreeRules.{IsUnlinked}
 
 pub same_or_not : (p q : ℕ) → (q ≡ p) ⊎ (q ≢ p)
 same_or_not p q = grind arith
@@ -57,7 +57,7 @@ of_three T ps a b c e ta tb tc p i =
       | inr (inr (inr n)) ↦ absurd n
     ]
 
--- what stands on the pages of a list
+-- what is on the pages of a list
 pub one_page : (P : Pages) (ps : List ℕ) (a : ℕ) (x : Page) → ps ≡ a ∷ [] → map P ps ≡ x ∷ [] → P a ≡ x
 one_page P ps a x e f = let g : P a ∷ [] ≡ x ∷ [] = sym (ap (map P) e) ∙ f in cc
 

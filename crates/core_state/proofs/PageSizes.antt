@@ -1,4 +1,4 @@
--- The state of a legal log tells the length of each page's body.
+-- The state of a legal log says the length of each page's body.
 use Rattle.std.proofs.Common.{◌≡◌, ◌≢◌, ◌≤◌, ◌+◌, ◌-◌, nat_lt, ℕ, suc, Bool, true, false, cond, ◌==◌, List, [], ◌∷◌, ◌++◌, length, take, drop, get_or, map, refl, sym, ap, subst, ◌∙◌, inl, inr, arith}
 use Rattle.std.specs.Prelude.{if◌then◌else◌}
 use Rattle.std.specs.List.{AllByRecursion}
@@ -6,7 +6,7 @@ use Rattle.std.proofs.lemmas.List.{length-append, length-take, length-drop, get_
 use Rattle.page_types.specs.Numbers.{page_limit}
 use Rattle.page_types.specs.Keys.{Rising}
 use Rattle.page_types.specs.Pages.{IsPage}
-use Rattle.page_types.specs.Spelling.{page_bytes, front_bytes, body_bytes}
+use Rattle.page_types.specs.Encoding.{page_bytes, front_bytes, body_bytes}
 use Rattle.page_types.specs.Records.{IsChange, IsEdit}
 use Rattle.page_types.specs.Edits.{used_in, spliced, edited, CanEdit}
 use Rattle.page_types.specs.declared.page.Page.{Page}
@@ -16,7 +16,7 @@ use Rattle.page_types.specs.declared.record.Edit.TheVariants.{Image, Delta}
 use Rattle.page_types.specs.declared.record.Record.{Record}
 use Rattle.page_types.proofs.PageLaws.{framed-used, has_parts, length-front_bytes}
 use Rattle.core_state.specs.Log.{Log, Pages, In, Shows, changed, after_changes, replay, commits}
-use Rattle.core_state.specs.Legal.{Valid, RowsAreValid}
+use Rattle.core_state.specs.Legal.{Valid, RecordsAreValid}
 use Rattle.core_state.specs.States.{edited_size, put_at, sizes_after, state_of}
 use Rattle.core_state.proofs.Framing.{step_sizes}
 use Rattle.core_state.proofs.PageLists.{in_or_not}
@@ -52,7 +52,7 @@ used_after number (Delta front start cut bytes) q is page can =
     let used : used_in (page_bytes q) ≡ length (body_bytes q.body) = used_of q page in
     let size : length (spliced start cut bytes (body_bytes q.body)) ≡ length (body_bytes q.body) - cut + length bytes =
     length-spliced start cut bytes (body_bytes q.body) (omega (arith, can.1, used)) in
-    ap (λ (b : List ℕ). used_in (Rattle.page_types.specs.Spelling.framed front number (spliced start cut bytes b)))
+    ap (λ (b : List ℕ). used_in (Rattle.page_types.specs.Encoding.framed front number (spliced start cut bytes b)))
     (has_parts q page).body
     ∙ framed-used front number (spliced start cut bytes (body_bytes q.body)) is.front_size
     (omega (arith, size, can.0, can.1, can.2, used))
@@ -144,7 +144,7 @@ record_sizes R r ns v before p = elim (in_or_not p (changed r)) [
       (sym (others_stay R r v.before v.after v.shown v.shown_after p off))
 ]
 
-pub sizes_told : (pages xid_limit : ℕ) (R : Log) → RowsAreValid R → (P : Pages) → Shows R P → (p : ℕ)
+pub sizes_told : (pages xid_limit : ℕ) (R : Log) → RecordsAreValid R → (P : Pages) → Shows R P → (p : ℕ)
     → get_or (state_of pages xid_limit R).sizes p 0 ≡ length (body_bytes (P p).body)
 sizes_told pages xid_limit [] v P shown p =
     get_or_past [] p 0 (omega arith)

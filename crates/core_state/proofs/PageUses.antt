@@ -1,11 +1,11 @@
--- The state of a legal log tells the use of each page.
+-- The state of a legal log says the use of each page.
 use Rattle.std.proofs.Common.{◌≡◌, ◌≢◌, ◌<◌, nat_lt, ℕ, suc, Bool, true, false, cond, ◌==◌, List, [], ◌∷◌, length, get_or, map, refl, sym, ap, subst, ◌∙◌, inl, inr, arith}
 use Rattle.std.specs.Prelude.{if◌then◌else◌}
 use Rattle.std.specs.List.{AllByRecursion}
 use Rattle.std.proofs.lemmas.List.{get_or_past}
 use Rattle.page_types.specs.Numbers.{page_limit}
 use Rattle.page_types.specs.Keys.{Rising}
-use Rattle.page_types.specs.Spelling.{page_bytes, front_bytes, framed, kind_of}
+use Rattle.page_types.specs.Encoding.{page_bytes, front_bytes, framed, kind_of}
 use Rattle.page_types.specs.Records.{IsChange, IsEdit}
 use Rattle.page_types.specs.Edits.{edited}
 use Rattle.page_types.specs.declared.page.Page.{Page}
@@ -17,7 +17,7 @@ use Rattle.page_types.specs.declared.record.Edit.TheVariants.{Image, Delta}
 use Rattle.page_types.specs.declared.record.Record.{Record}
 use Rattle.core_state.specs.Log.{Log, Pages, In, Shows, changed, after_changes, replay, commits}
 use Rattle.core_state.specs.Known.{use_by, use_in}
-use Rattle.core_state.specs.Legal.{Valid, RowsAreValid}
+use Rattle.core_state.specs.Legal.{Valid, RecordsAreValid}
 use Rattle.core_state.specs.States.{kind_byte, edited_use, with_use, uses_after, state_of}
 use Rattle.core_state.specs.declared.answers.PageUse.{PageUse}
 use Rattle.core_state.specs.declared.answers.PageUse.TheVariants as usage
@@ -139,7 +139,7 @@ record_uses R r us v before p = elim (in_or_not p (changed r)) [
       ∙ ap (λ (q : Page). use_by q.stamp q.body) (sym (others_stay R r v.before v.after v.shown v.shown_after p off))
 ]
 
-pub uses_told : (pages xid_limit : ℕ) (R : Log) → RowsAreValid R → (P : Pages) → Shows R P → (p : ℕ)
+pub uses_told : (pages xid_limit : ℕ) (R : Log) → RecordsAreValid R → (P : Pages) → Shows R P → (p : ℕ)
     → get_or (state_of pages xid_limit R).uses p usage.Unused ≡ use_in P p
 uses_told pages xid_limit [] v P shown p =
     get_or_past [] p usage.Unused (omega arith)

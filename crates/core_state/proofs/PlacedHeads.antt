@@ -18,7 +18,7 @@ use Rattle.core_state.specs.Log.{changed}
 use Rattle.core_state.specs.Documents.{Doc, page_of, name_of}
 use Rattle.core_state.specs.Known.{Known}
 use Rattle.core_state.specs.Changes.{made_with, IsNew}
-use Rattle.core_state.specs.HeapRows.{IsPlaceHeadHere}
+use Rattle.core_state.specs.HeapRules.{IsPlaceHeadHere}
 use Rattle.core_state.specs.Inner.Placing.{PlacesHead, LeavesHead}
 use Rattle.core_state.specs.declared.answers.Fate.TheVariants.{Running}
 use Rattle.core_state.specs.declared.answers.PageUse.{PageUse}
@@ -26,7 +26,7 @@ use Rattle.core_state.specs.declared.answers.PageUse.{PageUse}
 pub below_or_past : (k n : ℕ) → (k < n) ⊎ (n ≤ k)
 below_or_past k n = grind arith
 
--- slots behind the last one of both pages are alike
+-- slots after the last one of both pages are alike
 pub alike_past : (new slots : List (Option Head)) (j : ℕ) → length slots ≤ j → length new ≤ j
     → slot_at new j ≡ slot_at slots j
 alike_past new slots j ls ln = slot_past new j ln ∙ sym (slot_past slots j ls)
@@ -80,7 +80,7 @@ leaves_stamp uses since r n old new w = ap (λ (p : Page). p.stamp) w.after
 pub same_heap : (a b : List (Option Head)) (c : Body) → c ≡ body.Heap a → c ≡ body.Heap b → a ≡ b
 same_heap a b c e f = cc
 
--- what stands in the slots of an old page
+-- what is in the slots of an old page
 pub record OnOld (r : Record) (n : Name) (old new : Page) (new_slots : List (Option Head)) : Type 0 where
   pub slots : List (Option Head)
   pub was : old.body ≡ body.Heap slots

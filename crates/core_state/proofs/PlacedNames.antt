@@ -6,9 +6,9 @@ use Rattle.page_types.specs.declared.record.Kind.{Kind}
 use Rattle.page_types.specs.declared.record.Kind.TheVariants as kind
 use Rattle.core_state.specs.Log.{Log, In, commits}
 use Rattle.core_state.specs.Documents.{Doc, doc_at, name_of, placed, placed_with}
-use Rattle.core_state.specs.Legal.{RowsAreValid}
+use Rattle.core_state.specs.Legal.{RecordsAreValid}
 use Rattle.core_state.specs.States.{RiseBySerial}
-use Rattle.core_state.proofs.RowsByKind.{RowOf, row_of}
+use Rattle.core_state.proofs.RulesByKind.{RuleOf, rule_of}
 use Rattle.core_state.proofs.RunningOnes.{same_or_other, on_same, on_other}
 use Rattle.core_state.proofs.SteadyEnds.{heads_kept}
 
@@ -33,13 +33,13 @@ step_rises (kind.PlaceHead i s) xid x ds up below = elim (same_or_other xid x) [
 ]
 step_rises _ xid x ds up below = up
 
-pub placed_rise : (R : Log) → RowsAreValid R → (x : ℕ) → RiseBySerial (map name_of (placed R x))
+pub placed_rise : (R : Log) → RecordsAreValid R → (x : ℕ) → RiseBySerial (map name_of (placed R x))
 placed_rise [] v x = tt
 placed_rise (r ∷ R) v x =
     step_rises r.kind r.xid x (placed R x) (placed_rise R v.0 x)
     (λ i s e d on.
-    let row = subst (RowOf R v.1.before v.1.after r (commits R) (suc (length R))) e
-    (row_of R v.1.before v.1.after r (commits R) (suc (length R)) v.1.row) in
+    let row = subst (RuleOf R v.1.before v.1.after r (commits R) (suc (length R))) e
+    (rule_of R v.1.before v.1.after r (commits R) (suc (length R)) v.1.rule) in
     let same : kind.PlaceHead i s ≡ kind.PlaceHead row.here.doc.item row.here.doc.serial = sym e ∙ row.here.kind_is in
     let serial : s ≡ row.here.doc.serial = cc in
     let low = (heads_kept R v.1.before v.0 v.1.shown).serials x d on in

@@ -10,7 +10,7 @@ use Rattle.page_types.specs.declared.record.Kind.TheVariants as kind
 use Rattle.core_state.specs.Log.{Log, Pages, In, fate, fate_with, commits}
 use Rattle.core_state.specs.Documents.{Doc, name_of, placed, placed_with, marked, head_of, doc_at}
 use Rattle.core_state.specs.History.{Document, Commit, History, inserts, deletes, AreInserts, IsHistoryWith, IsHistory, docs, has_serial, with_document, by_serial, stays}
-use Rattle.core_state.specs.Legal.{RowsAreValid}
+use Rattle.core_state.specs.Legal.{RecordsAreValid}
 use Rattle.core_state.specs.Standing.{Sees, IsInSnapshot}
 use Rattle.core_state.specs.Inner.HeadsKept.{HeadsKept}
 use Rattle.core_state.specs.declared.answers.Fate.TheVariants.{Unused, Running, Aborted, Committed}
@@ -19,7 +19,7 @@ use Rattle.core_state.proofs.FateSteps.{HasEnded, ends_stay, placed_back, marked
 use Rattle.core_state.proofs.SteadyEnds.{xids_drawn, fates_step}
 use Rattle.core_state.proofs.HeadsFollow.{places_doc}
 use Rattle.core_state.proofs.HeadSteps.{one_item}
-use Rattle.core_state.proofs.RowsByKind.{kind_row}
+use Rattle.core_state.proofs.RulesByKind.{kind_rule}
 use Rattle.core_state.proofs.Trees.Members.{of_map}
 use Rattle.core_state.proofs.SnapshotDocs.{in_joined, joined_in, take_last, take_more, take_end}
 use Rattle.core_state.proofs.Visible.{NotCommit, committed_before, history_length, Visible, visible}
@@ -33,12 +33,12 @@ insert_for P (e ∷ ds) (x ∷ is) d a (inl f) = (x, inl refl, a.0 ∙ ap name_o
 insert_for P (e ∷ ds) (x ∷ is) d a (inr i) = let r = insert_for P ds is d a.2 i in (r.0, inr r.1, r.2)
 
 -- who has committed places no more
-placed_old : (r : Record) (R : Log) (y c : ℕ) (d : Doc) → RowsAreValid (r ∷ R) → fate R y ≡ Committed c
+placed_old : (r : Record) (R : Log) (y c : ℕ) (d : Doc) → RecordsAreValid (r ∷ R) → fate R y ≡ Committed c
     → In d (placed (r ∷ R) y) → In d (placed R y)
 placed_old r R y c d v e m = elim (placed_back r R y d m) [
   | inl old ↦ old
   | inr new ↦
-      let place = places_doc R v.1.before v.1.after r _ _ v.1.row d.item d.serial new.0 in
+      let place = places_doc R v.1.before v.1.after r _ _ v.1.rule d.item d.serial new.0 in
       absurd (running_not (sym place.runs ∙ ap (fate R) new.1 ∙ e))
 ]
   where
@@ -49,7 +49,7 @@ abbrev IsInserted : History → ℕ → Doc → Type 0
 IsInserted H n d = (D : Document) × In D (inserts (take n H)) × (D.name ≡ name_of d)
 
 -- what a committed transaction has placed is inserted by its commit
-inserted_of : (k : Kind) (r : Record) (R : Log) (H : History) (n y c : ℕ) (d : Doc) → RowsAreValid (r ∷ R)
+inserted_of : (k : Kind) (r : Record) (R : Log) (H : History) (n y c : ℕ) (d : Doc) → RecordsAreValid (r ∷ R)
     → r.kind ≡ k
     → ((H' : History) → IsHistory R H' → fate R y ≡ Committed c → In d (placed R y) → IsInserted H' n d)
     → IsHistoryWith k r.xid R (IsHistory R) H → fate (r ∷ R) y ≡ Committed c → c ≤ n → In d (placed (r ∷ R) y)
@@ -61,7 +61,7 @@ inserted_of (kind.Commit m) r R H n y c d v k known h e l there =
     subst (λ z. IsInserted z n d) (sym h.4) (elim (same_or_other r.xid y) [
       | inl same ↦
           let number : m ≡ c = committed_same m c (sym (on_same r.xid y (Committed m) (fate R y) same) ∙ fates) in
-          let row = kind_row R v.1.before v.1.after r (commits R) (suc (length R)) (kind.Commit m) k v.1.row in
+          let row = kind_rule R v.1.before v.1.after r (commits R) (suc (length R)) (kind.Commit m) k v.1.rule in
           let next : m ≡ suc (commits R) = commit_same m (suc (commits R)) (sym k ∙ row.here.kind_is) in
           let size = history_length R h.0 h.2 in
           let i = insert_for h.3.pages (placed R r.xid) h.1.inserted d h.3.inserted
@@ -91,7 +91,7 @@ inserted_of _ r R H n y c d v k known h e l there =
     (subst NotCommit (sym k) tt) e in
     known H h before (placed_old r R y c d v before there)
 
-inserted_in : (R : Log) (H : History) (n y c : ℕ) (d : Doc) → RowsAreValid R → IsHistory R H
+inserted_in : (R : Log) (H : History) (n y c : ℕ) (d : Doc) → RecordsAreValid R → IsHistory R H
     → fate R y ≡ Committed c → c ≤ n → In d (placed R y) → IsInserted H n d
 inserted_in [] H n y c d v h e l there = absurd there
 inserted_in (r ∷ R) H n y c d v h e l there = inserted_of r.kind r R H n y c d v refl
@@ -107,7 +107,7 @@ pub record Deleter (R : Log) (n : ℕ) (x : Name) : Type 0 where
   pub counted : number ≤ n
   pub marks : In doc (marked R xid)
 
-deleter_on : (r : Record) (R : Log) (n : ℕ) (x : Name) → RowsAreValid (r ∷ R) → Deleter R n x → Deleter (r ∷ R) n x
+deleter_on : (r : Record) (R : Log) (n : ℕ) (x : Name) → RecordsAreValid (r ∷ R) → Deleter R n x → Deleter (r ∷ R) n x
 deleter_on r R n x v d =
     let X = xids_drawn R v.0 in
     record {
@@ -121,7 +121,7 @@ deleter_on r R n x v d =
       marks = marked_on r R d.xid d.doc d.marks;
     }
 
-deleter_of : (k : Kind) (r : Record) (R : Log) (H : History) (n : ℕ) (x : Name) → RowsAreValid (r ∷ R) → r.kind ≡ k
+deleter_of : (k : Kind) (r : Record) (R : Log) (H : History) (n : ℕ) (x : Name) → RecordsAreValid (r ∷ R) → r.kind ≡ k
     → ((H' : History) → IsHistory R H' → In x (deletes (take n H')) → Deleter R n x)
     → IsHistoryWith k r.xid R (IsHistory R) H → In x (deletes (take n H)) → Deleter (r ∷ R) n x
 deleter_of (kind.Commit m) r R H n x v k known h i =
@@ -132,7 +132,7 @@ deleter_of (kind.Commit m) r R H n x v k known h i =
       | inr new ↦
           let d = of_map name_of x (marked R r.xid)
           (subst (In x) h.3.deleted (subst (λ (z : Commit). In x z.deleted) new.0 j.2)) in
-          let row = kind_row R v.1.before v.1.after r (commits R) (suc (length R)) (kind.Commit m) k v.1.row in
+          let row = kind_rule R v.1.before v.1.after r (commits R) (suc (length R)) (kind.Commit m) k v.1.rule in
           let next : m ≡ suc (commits R) = commit_same m (suc (commits R)) (sym k ∙ row.here.kind_is) in
           let size = history_length R h.0 h.2 in
           record {
@@ -151,7 +151,7 @@ deleter_of (kind.Commit m) r R H n x v k known h i =
     commit_same a b f = cc
 deleter_of _ r R H n x v k known h i = deleter_on r R n x v (known H h i)
 
-deleter : (R : Log) (H : History) (n : ℕ) (x : Name) → RowsAreValid R → IsHistory R H → In x (deletes (take n H))
+deleter : (R : Log) (H : History) (n : ℕ) (x : Name) → RecordsAreValid R → IsHistory R H → In x (deletes (take n H))
     → Deleter R n x
 deleter [] H n x v h i = absurd (empty n (subst (λ z. In x (deletes (take n z))) h i))
   where
@@ -211,7 +211,7 @@ same_name : (d e : Doc) → name_of d ≡ name_of e → d ≡ e
 same_name d e f = ap₂ doc_at (one_item d.item e.item (ap (λ (n : Name). n.page) f) (ap (λ (n : Name). n.slot) f))
     (ap (λ (n : Name). n.serial) f)
 
-module _ (k : ℕ) (R : Log) (P : Pages) (v : RowsAreValid R) (K : HeadsKept k R P) (i : ℕ) (h : Head) (at : head_of P i
+module _ (k : ℕ) (R : Log) (P : Pages) (v : RecordsAreValid R) (K : HeadsKept k R P) (i : ℕ) (h : Head) (at : head_of P i
     ≡ Some h) (H : History) (n : ℕ) (history : IsHistory R H) where
   abbrev doc : Doc
   doc = doc_at i h.serial

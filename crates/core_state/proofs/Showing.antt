@@ -2,7 +2,7 @@
 use Rattle.std.proofs.Common.{◌≡◌, ℕ, ◌==◌, false, cond, List, [], ◌∷◌, map, replicate, refl, sym, ap, ◌∙◌, inl, inr, arith}
 use Rattle.std.proofs.Math.Path.{fun_ext}
 use Rattle.page_types.specs.Numbers.{u16_bytes, u32_bytes, u64_bytes, zeros}
-use Rattle.page_types.specs.Spelling.{page_bytes, front_bytes, framed}
+use Rattle.page_types.specs.Encoding.{page_bytes, front_bytes, framed}
 use Rattle.page_types.specs.Pages.{IsPage}
 use Rattle.page_types.specs.Views.{free_page}
 use Rattle.page_types.specs.Edits.{edited}

@@ -1,4 +1,4 @@
--- The state of a legal log tells of it.
+-- The state of a legal log says of it.
 use Rattle.std.proofs.Common.{◌≡◌, ◌≢◌, ap, refl, ◌∙◌}
 use Rattle.std.specs.Prelude.{None}
 use Rattle.core_state.specs.Log.{fate}

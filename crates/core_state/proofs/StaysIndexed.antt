@@ -10,7 +10,7 @@ use Rattle.core_state.specs.Log.{Log, Pages, In, Shows, fate, next_serial}
 use Rattle.core_state.specs.Documents.{Doc, Has, IsWhole, IsDead, placed, head_of, doc_at}
 use Rattle.core_state.specs.Index.{Pending, HasRow, AllMain, IsIndexed}
 use Rattle.core_state.specs.Bullets.{WasIndexed, MustBeIndexed}
-use Rattle.core_state.specs.Legal.{RowHolds}
+use Rattle.core_state.specs.Legal.{RuleHolds}
 use Rattle.core_state.specs.Inner.HeadsKept.{HeadsKept}
 use Rattle.core_state.specs.Inner.Effects.{Moved, Effects, AreIndexed}
 use Rattle.core_state.specs.declared.answers.Fate.TheVariants.{Running, Aborted, Committed}
@@ -35,7 +35,7 @@ same_doc P d e h k a b i =
     let one : h ≡ k = some_one h k (sym a.at ∙ ap (head_of P) i ∙ b.at) in
     (ap₂ doc_at i (sym a.serial ∙ ap (λ (z : Head). z.serial) one ∙ b.serial), one)
 
--- a document was indexed before a record, or is so behind it
+-- a document was indexed before a record, or is so after it
 pub was_indexed : (R : Log) (r : Record) (Q : Pages) (d : Doc) → Shows (r ∷ R) Q → WasIndexed (r ∷ R) d → IsIndexed Q d
     ⊎ WasIndexed R d
 was_indexed R r Q d shown w = go w.later w.goes_on
@@ -70,7 +70,7 @@ module _ (n : ℕ) (R : Log) (P : Pages) (D : HeadsKept n R P) where
       ∙ c.3)
 
 module _ (n level : ℕ) (R : Log) (P Q : Pages) (r : Record) (floor since : ℕ) (D : HeadsKept n R P) (low : level ≤ n)
-    (row : RowHolds R P Q r floor since) (H : HeadStep R P Q r floor) (E : Effects R P Q level)
+    (row : RuleHolds R P Q r floor since) (H : HeadStep R P Q r floor) (E : Effects R P Q level)
     (X : AreIndexed n R P) where
   under : (d : Doc) → IsDead R level d → IsDead R n d
   under d dead = dead_more R level n d low dead

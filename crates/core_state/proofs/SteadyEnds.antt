@@ -4,7 +4,7 @@ use Rattle.page_types.specs.declared.record.Record.{Record}
 use Rattle.page_types.specs.declared.record.Kind.{Kind}
 use Rattle.page_types.specs.declared.record.Kind.TheVariants as kind
 use Rattle.core_state.specs.Log.{Log, Pages, Shows, commits, commits_with}
-use Rattle.core_state.specs.Legal.{Valid, RowsAreValid, Pin, KeepsEach}
+use Rattle.core_state.specs.Legal.{Valid, RecordsAreValid, Pin, KeepsEach}
 use Rattle.core_state.specs.Steady.{EndsStay}
 use Rattle.core_state.specs.Inner.XidsDrawn.{XidsDrawn}
 use Rattle.core_state.specs.Inner.HeadsKept.{HeadsKept}
@@ -18,20 +18,20 @@ use Rattle.core_state.proofs.SteadyPages.{touches, elsewhere}
 
 -- what a valid record does to xids and to heads
 pub fates_step : (R : Log) (r : Record) (floor since : ℕ) → XidsDrawn R → Valid R r floor since → FateStep R r
-fates_step R r floor since D v = fate_step R v.before v.after r floor since D v.row
+fates_step R r floor since D v = fate_step R v.before v.after r floor since D v.rule
 
 pub heads_step : (R : Log) (r : Record) (floor since : ℕ) (v : Valid R r floor since) → HeadStep R v.before v.after r
     floor
 heads_step R r floor since v = head_step R v.before v.after r floor since (touches R r floor since v)
-    (elsewhere R r floor since v) v.row
+    (elsewhere R r floor since v) v.rule
 
 -- the xids of a legal log
-pub xids_drawn : (R : Log) → RowsAreValid R → XidsDrawn R
+pub xids_drawn : (R : Log) → RecordsAreValid R → XidsDrawn R
 xids_drawn [] v = record { first = omega arith; fresh = λ x l. refl; none = refl }
 xids_drawn (r ∷ R) v = let D = xids_drawn R v.0 in drawn_step R r D (fates_step R r _ _ D v.1)
 
 -- fact by fact over later records
-pub ends_stay_behind : (later R : Log) → RowsAreValid (later ++ R) → EndsStay R (later ++ R)
+pub ends_stay_behind : (later R : Log) → RecordsAreValid (later ++ R) → EndsStay R (later ++ R)
 ends_stay_behind [] R v = record {
   committed_stays = λ x n e. e;
   aborted_stays = λ x e. e;
@@ -53,14 +53,14 @@ heads_on : (n : ℕ) (R : Log) (r : Record) (floor since : ℕ) (v : Valid R r f
     → HeadsKept n R v.before → floor ≤ n → Shows (r ∷ R) P → HeadsKept n (r ∷ R) P
 heads_on n R r floor since v P D low shown =
     subst (HeadsKept n (r ∷ R)) (shown_one (r ∷ R) v.after P v.shown_after shown) (heads_follow n R v.before v.after r
-    floor since D low v.row (heads_step R r floor since v))
+    floor since D low v.rule (heads_step R r floor since v))
 
 pub commits_more : (k : Kind) (c : ℕ) → c ≤ commits_with k c
 commits_more (kind.Commit n) c = omega arith
 commits_more _ c = omega arith
 
 -- in every legal log the heads follow the log, by all of its commits
-pub heads_kept : (R : Log) (P : Pages) → RowsAreValid R → Shows R P → HeadsKept (commits R) R P
+pub heads_kept : (R : Log) (P : Pages) → RecordsAreValid R → Shows R P → HeadsKept (commits R) R P
 heads_kept [] P v shown = heads_none 0 P (none_free [] P shown refl)
 heads_kept (r ∷ R) P v shown =
     heads_more (commits R) (commits (r ∷ R)) (r ∷ R) P (commits_more r.kind (commits R))

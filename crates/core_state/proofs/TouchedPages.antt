@@ -1,4 +1,4 @@
--- What each page that a record changes was before it, and is behind it.
+-- What each page that a record changes was before it, and is after it.
 use Rattle.std.proofs.Common.{◌≡◌, ◌≢◌, ◌⊎◌, ℕ, suc, List, [], ◌∷◌, ◌++◌, length, map, refl, sym, ap, subst, ◌∙◌, inl, inr, arith}
 use Rattle.std.specs.Prelude.{Option}
 use Rattle.ts_base.specs.Keys.{Key}
@@ -17,12 +17,12 @@ use Rattle.core_state.specs.Documents.{Doc, Has, page_of, slot_of}
 use Rattle.core_state.specs.Index.{Line}
 use Rattle.core_state.specs.Known.{use_in}
 use Rattle.core_state.specs.Changes.{made_with, IsNew, IsHeadChange}
-use Rattle.core_state.specs.TransactionRows.{IsCreate}
-use Rattle.core_state.specs.HeapRows.{IsPlaceHead, IsPutOverflow, IsMarkDeleted}
-use Rattle.core_state.specs.PendingRows.{IsPutPending, IsAddRow, IsLinkHere, IsLinkPending, IsShift}
-use Rattle.core_state.specs.TreeRows.{IsAddItems, IsMakeTree, IsAddPostings, OneChild, IsGrowRoot, EntryHalves, PostHalves, IsDivided, IsSplit, IsDeletePost}
-use Rattle.core_state.specs.VacuumRows.{ListsLose, IsRemoveItems, IsDropped, IsDropPage, IsFreeSlots}
-use Rattle.core_state.specs.Legal.{RowHolds}
+use Rattle.core_state.specs.TransactionRules.{IsCreate}
+use Rattle.core_state.specs.HeapRules.{IsPlaceHead, IsPutOverflow, IsMarkDeleted}
+use Rattle.core_state.specs.PendingRules.{IsPutPending, IsAddRow, IsLinkHere, IsLinkPending, IsShift}
+use Rattle.core_state.specs.TreeRules.{IsAddItems, IsMakeTree, IsAddPostings, OneChild, IsGrowRoot, EntryHalves, PostHalves, IsDivided, IsSplit, IsDeletePost}
+use Rattle.core_state.specs.VacuumRules.{ListsLose, IsRemoveItems, IsDropped, IsDropPage, IsFreeSlots}
+use Rattle.core_state.specs.Legal.{RuleHolds}
 use Rattle.core_state.specs.Inner.PageKinds.{IsHeap, IsOverflow, IsPending, IsMeta, IsTree, IsDeleted, IsPlain, IsHeadPage, PutsRows, ChangesLine, ChangesTrees, IsFirstOf, IsChanged, Touched}
 use Rattle.core_state.proofs.Showing.{shown_one, none_yet, shown_none}
 use Rattle.core_state.proofs.Histories.{chain_one}
@@ -165,7 +165,7 @@ post_bodies : (mid : ℕ) (a b c : Body) → PostHalves mid a b c → IsTree a �
 post_bodies mid a b c (PostHalves.leaves high is f k x y z w v) = (tt, tt, tt)
 post_bodies mid a b c (PostHalves.inners l f k x y) = (tt, tt, tt)
 
--- a divided page, its halves, and its parent before and behind
+-- a divided page, its halves, and its parent before and after
 divided_bodies : (page new : ℕ) (a b c d e : Body) → IsDivided page new a b c d e → IsTree a × IsTree b × IsTree c
     × IsTree d × IsTree e
 divided_bodies page new a b c d e (IsDivided.in_entries mid h p) =
@@ -199,7 +199,7 @@ module _ (R : Log) (P Q : Pages) (r : Record) (floor since : ℕ) (none : length
   abbrev T : ℕ → Type 0
   T p = Touched P Q r since p
 
-  -- the kind's document stands on its page
+  -- the kind's document is on its page
   at_page : (k : Kind) (p : ℕ) → r.kind ≡ k → IsHeadPage k p → IsHeadPage r.kind p
   at_page k p e h = subst (λ (z : Kind). IsHeadPage z p) (sym e) h
 
@@ -405,25 +405,25 @@ module _ (R : Log) (P Q : Pages) (r : Record) (floor since : ℕ) (none : length
       x.here.slots x.here.new_slots e x.here.was g (at_page kind.FreeSlots x.here.page x.here.kind_is tt))
 
   -- through all kinds
-  pub touched : RowHolds R P Q r floor since → (p : ℕ) → In p (changed r) → T p
-  touched (RowHolds.create x) = create_touched x
-  touched (RowHolds.begin x) = of_none T (changed r) x.here.pages
-  touched (RowHolds.commit x) = of_none T (changed r) x.here.pages
-  touched (RowHolds.abort x) = of_none T (changed r) x.here.pages
-  touched (RowHolds.checkpoint x) = of_none T (changed r) x.here.pages
-  touched (RowHolds.place_head x) = place_touched x
-  touched (RowHolds.put_overflow x) = put_touched x
-  touched (RowHolds.mark_deleted x) = mark_touched x
-  touched (RowHolds.put_pending x) = rows_touched x
-  touched (RowHolds.add_row x) = row_touched x
-  touched (RowHolds.link_pending x) = link_touched x
-  touched (RowHolds.shift x) = shift_touched x
-  touched (RowHolds.add_items x) = items_touched x
-  touched (RowHolds.make_tree x) = tree_touched x
-  touched (RowHolds.add_postings x) = postings_touched x
-  touched (RowHolds.grow_root x) = root_touched x
-  touched (RowHolds.split x) = split_touched x
-  touched (RowHolds.remove_items x) = remove_touched x
-  touched (RowHolds.delete_post x) = delete_touched x
-  touched (RowHolds.drop_page x) = drop_touched x
-  touched (RowHolds.free_slots x) = free_touched x
+  pub touched : RuleHolds R P Q r floor since → (p : ℕ) → In p (changed r) → T p
+  touched (RuleHolds.create x) = create_touched x
+  touched (RuleHolds.begin x) = of_none T (changed r) x.here.pages
+  touched (RuleHolds.commit x) = of_none T (changed r) x.here.pages
+  touched (RuleHolds.abort x) = of_none T (changed r) x.here.pages
+  touched (RuleHolds.checkpoint x) = of_none T (changed r) x.here.pages
+  touched (RuleHolds.place_head x) = place_touched x
+  touched (RuleHolds.put_overflow x) = put_touched x
+  touched (RuleHolds.mark_deleted x) = mark_touched x
+  touched (RuleHolds.put_pending x) = rows_touched x
+  touched (RuleHolds.add_row x) = row_touched x
+  touched (RuleHolds.link_pending x) = link_touched x
+  touched (RuleHolds.shift x) = shift_touched x
+  touched (RuleHolds.add_items x) = items_touched x
+  touched (RuleHolds.make_tree x) = tree_touched x
+  touched (RuleHolds.add_postings x) = postings_touched x
+  touched (RuleHolds.grow_root x) = root_touched x
+  touched (RuleHolds.split x) = split_touched x
+  touched (RuleHolds.remove_items x) = remove_touched x
+  touched (RuleHolds.delete_post x) = delete_touched x
+  touched (RuleHolds.drop_page x) = drop_touched x
+  touched (RuleHolds.free_slots x) = free_touched x

@@ -19,10 +19,10 @@ pub mod Growing
 pub mod Roots
 pub mod FromNodes
 pub mod EntryViews
-pub mod EntryRows
+pub mod EntryRules
 pub mod EntrySplit
 pub mod PostViews
-pub mod PostRows
+pub mod PostRules
 pub mod PostSplit
 pub mod PostDelete
 pub mod Parents

@@ -9,18 +9,18 @@ use Rattle.page_types.specs.declared.record.Kind.TheVariants as kind
 use Rattle.core_state.specs.Log.{Log, Pages, In, Shows, fate, fate_with, ended, commits}
 use Rattle.core_state.specs.Documents.{Doc, HasVector, name_of, placed, marked}
 use Rattle.core_state.specs.History.{Document, Commit, History, inserts, deletes, AreInserts, IsCommitOf, IsHistoryWith, IsHistory, docs}
-use Rattle.core_state.specs.Legal.{RowsAreValid}
+use Rattle.core_state.specs.Legal.{RecordsAreValid}
 use Rattle.core_state.specs.declared.answers.Fate.{Fate}
 use Rattle.core_state.specs.declared.answers.Fate.TheVariants.{Unused, Running, Aborted, Committed}
 use Rattle.core_state.proofs.RunningOnes.{same_or_other, on_same, on_other}
 use Rattle.core_state.proofs.FateSteps.{HasEnded, ends_stay, placed_on, marked_back}
 use Rattle.core_state.proofs.SteadyEnds.{xids_drawn, fates_step}
 use Rattle.core_state.proofs.HeadsFollow.{marks_doc}
-use Rattle.core_state.proofs.RowsByKind.{kind_row}
+use Rattle.core_state.proofs.RulesByKind.{kind_rule}
 use Rattle.core_state.proofs.Trees.Members.{in_map}
 use Rattle.core_state.proofs.SnapshotDocs.{in_joined, joined_in, take_last, take_more, take_end, there_inserted, there_undeleted}
 
--- the commit of a document, whose vector stood in the pages before it
+-- the commit of a document, whose vector was in the pages before it
 pub record CommittedAt (R : Log) (d : Doc) (v : Vector) (number : ℕ) : Type 0 where
   pub later : Log
   pub earlier : Log
@@ -43,7 +43,7 @@ pub record Inserted (R : Log) (n : ℕ) (D : Document) : Type 0 where
   pub placed_by : In doc (placed R xid)
   pub commit : CommittedAt R doc D.vector number
 
-still : (r : Record) (R : Log) (n : ℕ) (D : Document) → RowsAreValid (r ∷ R) → Inserted R n D → Inserted (r ∷ R) n D
+still : (r : Record) (R : Log) (n : ℕ) (D : Document) → RecordsAreValid (r ∷ R) → Inserted R n D → Inserted (r ∷ R) n D
 still r R n D v i =
     let X = xids_drawn R v.0 in
     record {
@@ -91,11 +91,11 @@ history_length [] H h = ap length h
 history_length (r ∷ R) H h = length_by r.kind r.xid R H (history_length R) h
 
 -- the inserts of a commit
-of_commit : (r : Record) (R : Log) (n m : ℕ) (D : Document) → RowsAreValid (r ∷ R) → r.kind ≡ kind.Commit m
+of_commit : (r : Record) (R : Log) (n m : ℕ) (D : Document) → RecordsAreValid (r ∷ R) → r.kind ≡ kind.Commit m
     → (H' : History) (c : Commit) → IsHistory R H' → IsCommitOf R r.xid c
     → In D c.inserted → length H' < n → Inserted (r ∷ R) n D
 of_commit r R n m D v k H' c before is i l =
-    let row = kind_row R v.1.before v.1.after r (commits R) (suc (length R)) (kind.Commit m) k v.1.row in
+    let row = kind_rule R v.1.before v.1.after r (commits R) (suc (length R)) (kind.Commit m) k v.1.rule in
     let number : m ≡ suc (commits R) = same_number m (suc (commits R)) (sym k ∙ row.here.kind_is) in
     let f = insert_of is.pages (placed R r.xid) c.inserted D is.inserted i in
     record {
@@ -125,7 +125,7 @@ of_commit r R n m D v k H' c before is i l =
     same_number a b e = cc
 
 -- what is inserted among the first n commits of a history
-inserted_by : (k : Kind) (r : Record) (R : Log) (H : History) (n : ℕ) (D : Document) → RowsAreValid (r ∷ R)
+inserted_by : (k : Kind) (r : Record) (R : Log) (H : History) (n : ℕ) (D : Document) → RecordsAreValid (r ∷ R)
     → r.kind ≡ k
     → ((H' : History) → IsHistory R H' → In D (inserts (take n H')) → Inserted R n D)
     → IsHistoryWith k r.xid R (IsHistory R) H → In D (inserts (take n H)) → Inserted (r ∷ R) n D
@@ -138,7 +138,7 @@ inserted_by (kind.Commit m) r R H n D v e known h i =
     ]
 inserted_by _ r R H n D v e known h i = still r R n D v (known H h i)
 
-pub inserted_at : (R : Log) (H : History) (n : ℕ) (D : Document) → RowsAreValid R → IsHistory R H
+pub inserted_at : (R : Log) (H : History) (n : ℕ) (D : Document) → RecordsAreValid R → IsHistory R H
     → In D (inserts (take n H)) → Inserted R n D
 inserted_at [] H n D v h i = absurd (empty n (subst (λ z. In D (inserts (take n z))) h i))
   where
@@ -174,12 +174,12 @@ committed_before kind.Abort x y c f off e = by (x == 0) (x == y) e
 committed_before _ x y c f off e = e
 
 -- who has committed marks no more
-marks_old : (r : Record) (R : Log) (y c : ℕ) (d : Doc) → RowsAreValid (r ∷ R) → fate R y ≡ Committed c
+marks_old : (r : Record) (R : Log) (y c : ℕ) (d : Doc) → RecordsAreValid (r ∷ R) → fate R y ≡ Committed c
     → In d (marked (r ∷ R) y) → In d (marked R y)
 marks_old r R y c d v e m = elim (marked_back r R y d m) [
   | inl old ↦ old
   | inr new ↦
-      let marks = marks_doc R v.1.before v.1.after r _ _ v.1.row d.item d.serial new.0 in
+      let marks = marks_doc R v.1.before v.1.after r _ _ v.1.rule d.item d.serial new.0 in
       absurd (running_not (sym marks.runs ∙ ap (fate R) new.1 ∙ e))
 ]
   where
@@ -187,7 +187,7 @@ marks_old r R y c d v e m = elim (marked_back r R y d m) [
     running_not f = cc
 
 -- what a committed transaction has marked is deleted by its commit
-deleted_by : (k : Kind) (r : Record) (R : Log) (H : History) (n y c : ℕ) (d : Doc) → RowsAreValid (r ∷ R) → r.kind ≡ k
+deleted_by : (k : Kind) (r : Record) (R : Log) (H : History) (n y c : ℕ) (d : Doc) → RecordsAreValid (r ∷ R) → r.kind ≡ k
     → ((H' : History) → IsHistory R H' → fate R y ≡ Committed c → In d (marked R y)
     → In (name_of d) (deletes (take n H')))
     → IsHistoryWith k r.xid R (IsHistory R) H → fate (r ∷ R) y ≡ Committed c → c ≤ n → In d (marked (r ∷ R) y)
@@ -200,7 +200,7 @@ deleted_by (kind.Commit m) r R H n y c d v k known h e l mark =
     subst (λ z. In (name_of d) (deletes (take n z))) (sym h.4) (elim (same_or_other r.xid y) [
       | inl same ↦
           let number : m ≡ c = committed_same m c (sym (on_same r.xid y (Committed m) (fate R y) same) ∙ fates) in
-          let row = kind_row R v.1.before v.1.after r (commits R) (suc (length R)) (kind.Commit m) k v.1.row in
+          let row = kind_rule R v.1.before v.1.after r (commits R) (suc (length R)) (kind.Commit m) k v.1.rule in
           let next : m ≡ suc (commits R) = commit_same m (suc (commits R)) (sym k ∙ row.here.kind_is) in
           let size = history_length R h.0 h.2 in
           joined_in (λ (x : Commit). x.deleted) (take n (h.0 ++ h.1 ∷ [])) h.1 (name_of d)
@@ -224,7 +224,7 @@ deleted_by _ r R H n y c d v k known h e l mark =
     (subst NotCommit (sym k) tt) e in
     known H h before (marks_old r R y c d v before mark)
 
-pub deleted_at : (R : Log) (H : History) (n y c : ℕ) (d : Doc) → RowsAreValid R → IsHistory R H
+pub deleted_at : (R : Log) (H : History) (n y c : ℕ) (d : Doc) → RecordsAreValid R → IsHistory R H
     → fate R y ≡ Committed c → c ≤ n → In d (marked R y)
     → In (name_of d) (deletes (take n H))
 deleted_at [] H n y c d v h e l mark = absurd mark
@@ -236,7 +236,7 @@ pub record Visible (R : Log) (n : ℕ) (D : Document) : Type 0 where
   pub inserted : Inserted R n D
   pub unmarked : (y c : ℕ) → fate R y ≡ Committed c → c ≤ n → In inserted.doc (marked R y) → ⊥
 
-pub visible : (R : Log) (H : History) (n : ℕ) (D : Document) → RowsAreValid R → IsHistory R H
+pub visible : (R : Log) (H : History) (n : ℕ) (D : Document) → RecordsAreValid R → IsHistory R H
     → In D (docs (take n H)) → Visible R n D
 visible R H n D v h i =
     let ins = inserted_at R H n D v h (there_inserted (take n H) D i) in

@@ -11,7 +11,7 @@ use Rattle.ts_base.specs.declared.Weight.TheVariants.{D}
 use Rattle.ts_base.specs.Lexemes.{IsLexeme, IsBefore}
 use Rattle.ts_base.specs.Vectors.{Position, Entry, Vector, IsPosition, IsEntry, IsNormal}
 use Rattle.page_types.specs.Numbers.{page_limit, u16_bytes, u32_bytes, u64_bytes, zeros}
-use Rattle.page_types.specs.Spelling.{page_bytes, front_bytes, framed, head_bytes}
+use Rattle.page_types.specs.Encoding.{page_bytes, front_bytes, framed, head_bytes}
 use Rattle.page_types.specs.Pages.{IsPage, IsHead}
 use Rattle.page_types.specs.Records.{IsChange, IsRecord}
 use Rattle.page_types.specs.Edits.{edited, CanEdit}
@@ -32,7 +32,7 @@ use Rattle.core_state.specs.History.{IsHistory}
 use Rattle.core_state.specs.Index.{NoPair}
 use Rattle.core_state.specs.Known.{use_in}
 use Rattle.core_state.specs.Changes.{IsNew}
-use Rattle.core_state.specs.Legal.{RowHolds, ChangesFrom, IsImageOf, ImagesFrom, RowsAreValid, IsLegal}
+use Rattle.core_state.specs.Legal.{RuleHolds, ChangesFrom, IsImageOf, ImagesFrom, RecordsAreValid, IsLegal}
 use Rattle.core_state.specs.declared.answers.PageUse.TheVariants as usage
 use Rattle.core_state.proofs.Showing.{replay_kept, none_yet, free_is, shown_none}
 
@@ -233,13 +233,13 @@ no_pair i = record {
   no_posting = λ k m. no_entry m.page m.entry m.on;
 }
 
--- the rows of the four records
-create_row : (floor since : ℕ) → RowHolds [] none_yet made create_record floor since
-create_row floor since = RowHolds.create
+-- the rules of the four records
+create_row : (floor since : ℕ) → RuleHolds [] none_yet made create_record floor since
+create_row floor since = RuleHolds.create
     (record { here = record { kind_is = refl; pages = refl; empty = refl; after_is = refl } })
 
-begin_row : (floor since : ℕ) → RowHolds log_made made made (begin_record 1) floor since
-begin_row floor since = RowHolds.begin
+begin_row : (floor since : ℕ) → RuleHolds log_made made made (begin_record 1) floor since
+begin_row floor since = RuleHolds.begin
     (record { here = record { kind_is = refl; pages = refl; next = refl; bound = omega arith } })
 
 used_below : (q : ℕ) → q < 2 → use_in made q ≢ usage.Unused
@@ -251,8 +251,8 @@ others_free : (j : ℕ) → j ≢ 0 → slot_at (Some (head 1) ∷ []) j ≡ slo
 others_free zero off = absurd (off refl)
 others_free (suc j) off = refl
 
-head_row : (floor since : ℕ) → RowHolds log_begun made (placed_by 1) (head_record 1) floor since
-head_row floor since = RowHolds.place_head (record {
+head_row : (floor since : ℕ) → RuleHolds log_begun made (placed_by 1) (head_record 1) floor since
+head_row floor since = RuleHolds.place_head (record {
   here = record {
     doc = doc;
     head = head 1;
@@ -325,7 +325,7 @@ vector_there = (
     bytes = bytes;
     there = HasBytes.short (omega arith);
     size = refl;
-    spells = record { normal = vector_is; small = omega arith; bytes_of = refl };
+    encodes = record { normal = vector_is; small = omega arith; bytes_of = refl };
   },
 )
 
@@ -333,8 +333,8 @@ pub ready : (d : Doc) → In d (doc ∷ []) → (v : Vector) × HasVector (place
 ready d (inl e) = (vector, subst (λ x. HasVector (placed_by 1) x vector) (sym e) vector_there)
 ready d (inr i) = absurd i
 
-commit_row : (floor since : ℕ) → RowHolds log_placed (placed_by 1) (placed_by 1) commit_record floor since
-commit_row floor since = RowHolds.commit
+commit_row : (floor since : ℕ) → RuleHolds log_placed (placed_by 1) (placed_by 1) commit_record floor since
+commit_row floor since = RuleHolds.commit
     (record { here = record { kind_is = refl; pages = refl; runs = refl }; rest = ready })
 
 -- each is a record
@@ -390,7 +390,7 @@ head_record_can c (inl e) = can_image 2 (heap_page 1) (replay log_begun c.page) 
 head_record_can c (inr e) = absurd e
 
 -- so the log is legal
-rows_valid : RowsAreValid first_run
+rows_valid : RecordsAreValid first_run
 rows_valid = ((
   (
     (
@@ -405,7 +405,7 @@ rows_valid = ((
           can_edit = create_can;
           number = refl;
           started = inl refl;
-          row = create_row 0 1;
+          rule = create_row 0 1;
         },
       ),
       record {
@@ -417,7 +417,7 @@ rows_valid = ((
         can_edit = λ c i. absurd i;
         number = refl;
         started = inr (λ e. cc);
-        row = begin_row 0 2;
+        rule = begin_row 0 2;
       },
     ),
     record {
@@ -429,7 +429,7 @@ rows_valid = ((
       can_edit = λ c i. head_record_can c i;
       number = refl;
       started = inr (λ e. cc);
-      row = head_row 0 3;
+      rule = head_row 0 3;
     },
   ),
   record {
@@ -441,7 +441,7 @@ rows_valid = ((
     can_edit = λ c i. absurd i;
     number = refl;
     started = inr (λ e. cc);
-    row = commit_row 0 4;
+    rule = commit_row 0 4;
   },
 ))
 
@@ -500,28 +500,28 @@ history = (
 )
 
 -- the second record with the xid 2 is not valid
-begin_of_two : (P Q : Pages) (floor since : ℕ) → RowHolds log_made P Q (begin_record 2) floor since → ⊥
-begin_of_two P Q floor since (RowHolds.create x) = let f = x.here.kind_is in cc
-begin_of_two P Q floor since (RowHolds.begin x) = omega (arith, x.here.next)
-begin_of_two P Q floor since (RowHolds.commit x) = let f = x.here.kind_is in cc
-begin_of_two P Q floor since (RowHolds.abort x) = let f = x.here.kind_is in cc
-begin_of_two P Q floor since (RowHolds.place_head x) = let f = x.here.kind_is in cc
-begin_of_two P Q floor since (RowHolds.checkpoint x) = let f = x.here.kind_is in cc
-begin_of_two P Q floor since (RowHolds.put_overflow x) = let f = x.here.kind_is in cc
-begin_of_two P Q floor since (RowHolds.mark_deleted x) = let f = x.here.kind_is in cc
-begin_of_two P Q floor since (RowHolds.put_pending x) = let f = x.here.kind_is in cc
-begin_of_two P Q floor since (RowHolds.add_row x) = let f = x.here.kind_is in cc
-begin_of_two P Q floor since (RowHolds.link_pending x) = let f = x.here.kind_is in cc
-begin_of_two P Q floor since (RowHolds.shift x) = let f = x.here.kind_is in cc
-begin_of_two P Q floor since (RowHolds.add_items x) = let f = x.here.kind_is in cc
-begin_of_two P Q floor since (RowHolds.make_tree x) = let f = x.here.kind_is in cc
-begin_of_two P Q floor since (RowHolds.add_postings x) = let f = x.here.kind_is in cc
-begin_of_two P Q floor since (RowHolds.grow_root x) = let f = x.here.kind_is in cc
-begin_of_two P Q floor since (RowHolds.split x) = let f = x.here.kind_is in cc
-begin_of_two P Q floor since (RowHolds.remove_items x) = let f = x.here.kind_is in cc
-begin_of_two P Q floor since (RowHolds.delete_post x) = let f = x.here.kind_is in cc
-begin_of_two P Q floor since (RowHolds.drop_page x) = let f = x.here.kind_is in cc
-begin_of_two P Q floor since (RowHolds.free_slots x) = let f = x.here.kind_is in cc
+begin_of_two : (P Q : Pages) (floor since : ℕ) → RuleHolds log_made P Q (begin_record 2) floor since → ⊥
+begin_of_two P Q floor since (RuleHolds.create x) = let f = x.here.kind_is in cc
+begin_of_two P Q floor since (RuleHolds.begin x) = omega (arith, x.here.next)
+begin_of_two P Q floor since (RuleHolds.commit x) = let f = x.here.kind_is in cc
+begin_of_two P Q floor since (RuleHolds.abort x) = let f = x.here.kind_is in cc
+begin_of_two P Q floor since (RuleHolds.place_head x) = let f = x.here.kind_is in cc
+begin_of_two P Q floor since (RuleHolds.checkpoint x) = let f = x.here.kind_is in cc
+begin_of_two P Q floor since (RuleHolds.put_overflow x) = let f = x.here.kind_is in cc
+begin_of_two P Q floor since (RuleHolds.mark_deleted x) = let f = x.here.kind_is in cc
+begin_of_two P Q floor since (RuleHolds.put_pending x) = let f = x.here.kind_is in cc
+begin_of_two P Q floor since (RuleHolds.add_row x) = let f = x.here.kind_is in cc
+begin_of_two P Q floor since (RuleHolds.link_pending x) = let f = x.here.kind_is in cc
+begin_of_two P Q floor since (RuleHolds.shift x) = let f = x.here.kind_is in cc
+begin_of_two P Q floor since (RuleHolds.add_items x) = let f = x.here.kind_is in cc
+begin_of_two P Q floor since (RuleHolds.make_tree x) = let f = x.here.kind_is in cc
+begin_of_two P Q floor since (RuleHolds.add_postings x) = let f = x.here.kind_is in cc
+begin_of_two P Q floor since (RuleHolds.grow_root x) = let f = x.here.kind_is in cc
+begin_of_two P Q floor since (RuleHolds.split x) = let f = x.here.kind_is in cc
+begin_of_two P Q floor since (RuleHolds.remove_items x) = let f = x.here.kind_is in cc
+begin_of_two P Q floor since (RuleHolds.delete_post x) = let f = x.here.kind_is in cc
+begin_of_two P Q floor since (RuleHolds.drop_page x) = let f = x.here.kind_is in cc
+begin_of_two P Q floor since (RuleHolds.free_slots x) = let f = x.here.kind_is in cc
 
 abbrev pub item_in : Kind → ℕ
 item_in (kind.PlaceHead item serial) = item
@@ -536,28 +536,28 @@ inserted_in None = 0
 inserted_in (Some h) = h.inserted_by
 
 -- a head of xid 2 in the record of xid 1 is not valid
-head_of_two : (P : Pages) (floor since : ℕ) → RowHolds log_begun P (placed_by 2) (head_record 2) floor since → ⊥
-head_of_two P floor since (RowHolds.create x) = let f = x.here.kind_is in cc
-head_of_two P floor since (RowHolds.begin x) = let f = x.here.kind_is in cc
-head_of_two P floor since (RowHolds.commit x) = let f = x.here.kind_is in cc
-head_of_two P floor since (RowHolds.abort x) = let f = x.here.kind_is in cc
-head_of_two P floor since (RowHolds.checkpoint x) = let f = x.here.kind_is in cc
-head_of_two P floor since (RowHolds.put_overflow x) = let f = x.here.kind_is in cc
-head_of_two P floor since (RowHolds.mark_deleted x) = let f = x.here.kind_is in cc
-head_of_two P floor since (RowHolds.put_pending x) = let f = x.here.kind_is in cc
-head_of_two P floor since (RowHolds.add_row x) = let f = x.here.kind_is in cc
-head_of_two P floor since (RowHolds.link_pending x) = let f = x.here.kind_is in cc
-head_of_two P floor since (RowHolds.shift x) = let f = x.here.kind_is in cc
-head_of_two P floor since (RowHolds.add_items x) = let f = x.here.kind_is in cc
-head_of_two P floor since (RowHolds.make_tree x) = let f = x.here.kind_is in cc
-head_of_two P floor since (RowHolds.add_postings x) = let f = x.here.kind_is in cc
-head_of_two P floor since (RowHolds.grow_root x) = let f = x.here.kind_is in cc
-head_of_two P floor since (RowHolds.split x) = let f = x.here.kind_is in cc
-head_of_two P floor since (RowHolds.remove_items x) = let f = x.here.kind_is in cc
-head_of_two P floor since (RowHolds.delete_post x) = let f = x.here.kind_is in cc
-head_of_two P floor since (RowHolds.drop_page x) = let f = x.here.kind_is in cc
-head_of_two P floor since (RowHolds.free_slots x) = let f = x.here.kind_is in cc
-head_of_two P floor since (RowHolds.place_head x) =
+head_of_two : (P : Pages) (floor since : ℕ) → RuleHolds log_begun P (placed_by 2) (head_record 2) floor since → ⊥
+head_of_two P floor since (RuleHolds.create x) = let f = x.here.kind_is in cc
+head_of_two P floor since (RuleHolds.begin x) = let f = x.here.kind_is in cc
+head_of_two P floor since (RuleHolds.commit x) = let f = x.here.kind_is in cc
+head_of_two P floor since (RuleHolds.abort x) = let f = x.here.kind_is in cc
+head_of_two P floor since (RuleHolds.checkpoint x) = let f = x.here.kind_is in cc
+head_of_two P floor since (RuleHolds.put_overflow x) = let f = x.here.kind_is in cc
+head_of_two P floor since (RuleHolds.mark_deleted x) = let f = x.here.kind_is in cc
+head_of_two P floor since (RuleHolds.put_pending x) = let f = x.here.kind_is in cc
+head_of_two P floor since (RuleHolds.add_row x) = let f = x.here.kind_is in cc
+head_of_two P floor since (RuleHolds.link_pending x) = let f = x.here.kind_is in cc
+head_of_two P floor since (RuleHolds.shift x) = let f = x.here.kind_is in cc
+head_of_two P floor since (RuleHolds.add_items x) = let f = x.here.kind_is in cc
+head_of_two P floor since (RuleHolds.make_tree x) = let f = x.here.kind_is in cc
+head_of_two P floor since (RuleHolds.add_postings x) = let f = x.here.kind_is in cc
+head_of_two P floor since (RuleHolds.grow_root x) = let f = x.here.kind_is in cc
+head_of_two P floor since (RuleHolds.split x) = let f = x.here.kind_is in cc
+head_of_two P floor since (RuleHolds.remove_items x) = let f = x.here.kind_is in cc
+head_of_two P floor since (RuleHolds.delete_post x) = let f = x.here.kind_is in cc
+head_of_two P floor since (RuleHolds.drop_page x) = let f = x.here.kind_is in cc
+head_of_two P floor since (RuleHolds.free_slots x) = let f = x.here.kind_is in cc
+head_of_two P floor since (RuleHolds.place_head x) =
     let item : 4096 ≡ x.here.doc.item = ap item_in x.here.kind_is in
     let slots : Some (head 2) ∷ [] ≡ x.here.new_slots = ap first_slots x.here.after_is in
     let there : Some (head 2) ≡ slot_at x.here.new_slots (slot_of x.here.doc.item) = ap (λ s. slot_at s 0) slots

@@ -1,4 +1,4 @@
--- What the laws say of pages and of documents, at pages that were worked out: it is so where they stand, and not
+-- What the laws say of pages and of documents, at pages that were worked out: it is so where they are, and not
 -- where one thing of them is broken.
 use Rattle.std.proofs.Common.{◌≡◌, ◌==◌, cond, Bool, true, false, ℕ, zero, suc, List, [], ◌∷◌, ◌++◌, length, length-append, get_or, refl, sym, ap, subst, ◌∙◌, inl, inr, arith}
 use Rattle.std.specs.Prelude.{Option, Some, None}
@@ -70,7 +70,7 @@ head_alive floor (IsDeadHead.delete_counted n e l) = unused n e
     unused : (n : ℕ) → fate first.first_run 0 ≡ Committed n → ⊥
     unused n e = cc
 
--- a head that names a committed transaction which marked nothing breaks what heads tell
+-- a head that names a committed transaction which marked nothing breaks what heads say
 abbrev misled : Pages
 misled zero = first.meta_page
 misled (suc zero) = first.root_page
@@ -116,7 +116,7 @@ dead_row R dead P off none =
       item = refl;
     })
 
--- the pending list of one page, as Meta tells of it
+-- the pending list of one page, as Meta says of it
 abbrev listing : ℕ → ℕ → List Row → Pages
 listing last count on zero = rows.meta_page 5 3 last count
 listing last count on (suc zero) = first.root_page

@@ -1,4 +1,4 @@
--- The row of PutOverflow at a vector of 20,044 bytes on three pages, whose parts are put from the last to the first.
+-- The rule of PutOverflow at a vector of 20,044 bytes on three pages, whose parts are put from the last to the first.
 use Rattle.std.proofs.Common.{◌≡◌, ◌≢◌, ℕ, zero, suc, ◌<◌, List, [], ◌∷◌, ◌++◌, length, refl, sym, ap, subst, ◌∙◌, arith}
 use Rattle.std.specs.Prelude.{Option, Some, None}
 use Rattle.std.proofs.lemmas.List.{length-append}
@@ -15,7 +15,7 @@ use Rattle.core_state.specs.Log.{Log, Pages}
 use Rattle.core_state.specs.Documents.{Doc, slot_of, IsChain, HasBytes, IsWhole, parts}
 use Rattle.core_state.specs.Known.{use_in}
 use Rattle.core_state.specs.Changes.{IsNew, IsHeadChange}
-use Rattle.core_state.specs.HeapRows.{IsPutOverflow}
+use Rattle.core_state.specs.HeapRules.{IsPutOverflow}
 use Rattle.core_state.specs.declared.answers.PageUse.TheVariants as usage
 use Rattle.core_state.proofs.Histories.{chain_one}
 use Rattle.core_state.proofs.Worked as first
@@ -150,7 +150,7 @@ used_in_two last middle (suc (suc (suc zero))) l e = cc
 used_in_two last middle (suc (suc (suc (suc zero)))) l e = cc
 used_in_two last middle (suc (suc (suc (suc (suc q))))) l e = absurd (omega (arith, l))
 
--- the rows of the three records
+-- the rules of the three records
 last_row : (last : List ℕ) (since : ℕ) → IsPutOverflow log_placed placed (one_part 0 last)
     (put_record 1 4 3 (one_part 0 last)) since
 last_row last since = record {

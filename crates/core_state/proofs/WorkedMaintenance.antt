@@ -1,4 +1,4 @@
--- The rows of maintenance, at pages that the document of the first run leaves: checkpoints, trees of postings, and
+-- The rules of maintenance, at pages that the document of the first run leaves: checkpoints, trees of postings, and
 -- what is
 -- removed where its transaction was aborted.
 use Rattle.std.proofs.Common.{◌≡◌, ◌≢◌, ℕ, zero, suc, ◌<◌, ◌≤◌, List, [], ◌∷◌, length, get_or, refl, sym, ap, subst, ◌∙◌, inl, inr, arith}
@@ -25,9 +25,9 @@ use Rattle.core_state.specs.Log.{Log, Pages, In}
 use Rattle.core_state.specs.Documents.{IsDead, slot_of}
 use Rattle.core_state.specs.Known.{use_in}
 use Rattle.core_state.specs.Changes.{IsNew, IsDeadHead}
-use Rattle.core_state.specs.TransactionRows.{IsCheckpoint}
-use Rattle.core_state.specs.TreeRows.{IsMakeTree, IsLeftLeaf, IsUnlinked, IsDeletePost}
-use Rattle.core_state.specs.VacuumRows.{ItemsLeave, ItemGoes, EntryLoses, ListsLose, MayLeave, IsRemoveItems, IsDropped, IsDropPage}
+use Rattle.core_state.specs.TransactionRules.{IsCheckpoint}
+use Rattle.core_state.specs.TreeRules.{IsMakeTree, IsLeftLeaf, IsUnlinked, IsDeletePost}
+use Rattle.core_state.specs.VacuumRules.{ItemsLeave, ItemGoes, EntryLoses, ListsLose, MayLeave, IsRemoveItems, IsDropped, IsDropPage}
 use Rattle.core_state.specs.declared.answers.PageUse.TheVariants as usage
 use Rattle.core_state.proofs.Worked as first
 use Rattle.core_state.proofs.WorkedPending as rows
@@ -205,7 +205,7 @@ first_body (p ∷ ps) = p.body
 remove_nothing : (R : Log) (floor : ℕ) → IsRemoveItems R rows.shifted (with_leaf full) (remove_record full) floor → ⊥
 remove_nothing R floor x = x.here.some (sym (ap first_body x.here.after_is) ∙ ap first_body x.here.before_is)
 
--- nor is one whose removed items stood in no list of the leaf
+-- nor is one whose removed items was in no list of the leaf
 abbrev list_of : Option on_page.Entry → List ℕ
 list_of None = []
 list_of (Some e) = list_in e.postings

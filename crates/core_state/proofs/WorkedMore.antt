@@ -3,7 +3,7 @@ use Rattle.std.proofs.Common.{◌≡◌, ◌≢◌, ℕ, zero, suc, ◌+◌, ◌
 use Rattle.std.specs.Prelude.{Option, Some, None}
 use Rattle.ts_base.specs.Vectors.{Vector}
 use Rattle.page_types.specs.Numbers.{u16_bytes, u32_bytes, u64_bytes, zeros}
-use Rattle.page_types.specs.Spelling.{page_bytes, front_bytes, framed, head_bytes}
+use Rattle.page_types.specs.Encoding.{page_bytes, front_bytes, framed, head_bytes}
 use Rattle.page_types.specs.Pages.{IsPage, IsHead}
 use Rattle.page_types.specs.Edits.{used_in, body_in, edited}
 use Rattle.page_types.specs.Views.{free_page, entries_of, slots_in, slots_of, slot_at}
@@ -21,8 +21,8 @@ use Rattle.core_state.specs.Index.{NoPair}
 use Rattle.core_state.specs.Known.{use_in}
 use Rattle.core_state.specs.Changes.{IsNew}
 use Rattle.core_state.specs.declared.answers.PageUse.TheVariants as usage
-use Rattle.core_state.specs.HeapRows.{IsMarkDeleted}
-use Rattle.core_state.specs.Legal.{RowHolds, Valid}
+use Rattle.core_state.specs.HeapRules.{IsMarkDeleted}
+use Rattle.core_state.specs.Legal.{RuleHolds, Valid}
 use Rattle.core_state.proofs.Showing.{replay_kept, free_is}
 use Rattle.core_state.proofs.Worked as first
 
@@ -148,13 +148,13 @@ no_pair i = record {
   no_posting = λ k m. no_entry m.page m.entry m.on;
 }
 
--- the rows of the four records
-abort_row : (floor since : ℕ) → RowHolds first.first_run (first.placed_by 1) (first.placed_by 1)
+-- the rules of the four records
+abort_row : (floor since : ℕ) → RuleHolds first.first_run (first.placed_by 1) (first.placed_by 1)
     (abort_record 0) floor since
-abort_row floor since = RowHolds.abort (record { here = record { kind_is = refl; pages = refl; runs = inr refl } })
+abort_row floor since = RuleHolds.abort (record { here = record { kind_is = refl; pages = refl; runs = inr refl } })
 
-begin_row : (floor since : ℕ) → RowHolds log_ended (first.placed_by 1) (first.placed_by 1) begin_record floor since
-begin_row floor since = RowHolds.begin
+begin_row : (floor since : ℕ) → RuleHolds log_ended (first.placed_by 1) (first.placed_by 1) begin_record floor since
+begin_row floor since = RuleHolds.begin
     (record { here = record { kind_is = refl; pages = refl; next = refl; bound = omega arith } })
 
 others_stay : (j : ℕ) → j ≢ 1 → slot_at two_slots j ≡ slot_at (Some (first.head 1) ∷ []) j
@@ -163,8 +163,8 @@ others_stay (suc zero) off = absurd (off refl)
 others_stay (suc (suc j)) off = refl
 
 head_row : (edit : Edit) (floor since : ℕ)
-    → RowHolds log_begun (first.placed_by 1) with_two (edit_record 4097 edit) floor since
-head_row edit floor since = RowHolds.place_head (record {
+    → RuleHolds log_begun (first.placed_by 1) with_two (edit_record 4097 edit) floor since
+head_row edit floor since = RuleHolds.place_head (record {
   here = record {
     doc = doc;
     head = second_head;
@@ -195,7 +195,7 @@ vector_there = (
     bytes = first.bytes;
     there = HasBytes.short (omega arith);
     size = refl;
-    spells = record { normal = first.vector_is; small = omega arith; bytes_of = refl };
+    encodes = record { normal = first.vector_is; small = omega arith; bytes_of = refl };
   },
 )
 
@@ -203,33 +203,33 @@ ready : (d : Doc) → In d (doc ∷ []) → (v : Vector) × HasVector with_two d
 ready d (inl e) = (first.vector, subst (λ x. HasVector with_two x first.vector) (sym e) vector_there)
 ready d (inr i) = absurd i
 
-commit_row : (floor since : ℕ) → RowHolds log_placed with_two with_two (commit_record 2) floor since
-commit_row floor since = RowHolds.commit
+commit_row : (floor since : ℕ) → RuleHolds log_placed with_two with_two (commit_record 2) floor since
+commit_row floor since = RuleHolds.commit
     (record { here = record { kind_is = refl; pages = refl; runs = refl }; rest = ready })
 
 -- an abort of the transaction that has committed is not valid
-abort_of_one : (P Q : Pages) (floor since : ℕ) → RowHolds first.first_run P Q (abort_record 1) floor since → ⊥
-abort_of_one P Q floor since (RowHolds.create x) = let f = x.here.kind_is in cc
-abort_of_one P Q floor since (RowHolds.begin x) = let f = x.here.kind_is in cc
-abort_of_one P Q floor since (RowHolds.commit x) = let f = x.here.kind_is in cc
-abort_of_one P Q floor since (RowHolds.abort x) = elim x.here.runs [ inl e ↦ cc | inr z ↦ omega (arith, z) ]
-abort_of_one P Q floor since (RowHolds.place_head x) = let f = x.here.kind_is in cc
-abort_of_one P Q floor since (RowHolds.checkpoint x) = let f = x.here.kind_is in cc
-abort_of_one P Q floor since (RowHolds.put_overflow x) = let f = x.here.kind_is in cc
-abort_of_one P Q floor since (RowHolds.mark_deleted x) = let f = x.here.kind_is in cc
-abort_of_one P Q floor since (RowHolds.put_pending x) = let f = x.here.kind_is in cc
-abort_of_one P Q floor since (RowHolds.add_row x) = let f = x.here.kind_is in cc
-abort_of_one P Q floor since (RowHolds.link_pending x) = let f = x.here.kind_is in cc
-abort_of_one P Q floor since (RowHolds.shift x) = let f = x.here.kind_is in cc
-abort_of_one P Q floor since (RowHolds.add_items x) = let f = x.here.kind_is in cc
-abort_of_one P Q floor since (RowHolds.make_tree x) = let f = x.here.kind_is in cc
-abort_of_one P Q floor since (RowHolds.add_postings x) = let f = x.here.kind_is in cc
-abort_of_one P Q floor since (RowHolds.grow_root x) = let f = x.here.kind_is in cc
-abort_of_one P Q floor since (RowHolds.split x) = let f = x.here.kind_is in cc
-abort_of_one P Q floor since (RowHolds.remove_items x) = let f = x.here.kind_is in cc
-abort_of_one P Q floor since (RowHolds.delete_post x) = let f = x.here.kind_is in cc
-abort_of_one P Q floor since (RowHolds.drop_page x) = let f = x.here.kind_is in cc
-abort_of_one P Q floor since (RowHolds.free_slots x) = let f = x.here.kind_is in cc
+abort_of_one : (P Q : Pages) (floor since : ℕ) → RuleHolds first.first_run P Q (abort_record 1) floor since → ⊥
+abort_of_one P Q floor since (RuleHolds.create x) = let f = x.here.kind_is in cc
+abort_of_one P Q floor since (RuleHolds.begin x) = let f = x.here.kind_is in cc
+abort_of_one P Q floor since (RuleHolds.commit x) = let f = x.here.kind_is in cc
+abort_of_one P Q floor since (RuleHolds.abort x) = elim x.here.runs [ inl e ↦ cc | inr z ↦ omega (arith, z) ]
+abort_of_one P Q floor since (RuleHolds.place_head x) = let f = x.here.kind_is in cc
+abort_of_one P Q floor since (RuleHolds.checkpoint x) = let f = x.here.kind_is in cc
+abort_of_one P Q floor since (RuleHolds.put_overflow x) = let f = x.here.kind_is in cc
+abort_of_one P Q floor since (RuleHolds.mark_deleted x) = let f = x.here.kind_is in cc
+abort_of_one P Q floor since (RuleHolds.put_pending x) = let f = x.here.kind_is in cc
+abort_of_one P Q floor since (RuleHolds.add_row x) = let f = x.here.kind_is in cc
+abort_of_one P Q floor since (RuleHolds.link_pending x) = let f = x.here.kind_is in cc
+abort_of_one P Q floor since (RuleHolds.shift x) = let f = x.here.kind_is in cc
+abort_of_one P Q floor since (RuleHolds.add_items x) = let f = x.here.kind_is in cc
+abort_of_one P Q floor since (RuleHolds.make_tree x) = let f = x.here.kind_is in cc
+abort_of_one P Q floor since (RuleHolds.add_postings x) = let f = x.here.kind_is in cc
+abort_of_one P Q floor since (RuleHolds.grow_root x) = let f = x.here.kind_is in cc
+abort_of_one P Q floor since (RuleHolds.split x) = let f = x.here.kind_is in cc
+abort_of_one P Q floor since (RuleHolds.remove_items x) = let f = x.here.kind_is in cc
+abort_of_one P Q floor since (RuleHolds.delete_post x) = let f = x.here.kind_is in cc
+abort_of_one P Q floor since (RuleHolds.drop_page x) = let f = x.here.kind_is in cc
+abort_of_one P Q floor since (RuleHolds.free_slots x) = let f = x.here.kind_is in cc
 
 in_use : (since p : ℕ) → 2 ≡ p → IsNew (use_in (first.placed_by 1)) since p → ⊥
 in_use since p e (IsNew.unused u low) = let f : use_in (first.placed_by 1) 2 ≡ usage.Unused = ap
@@ -238,29 +238,29 @@ in_use since p e (IsNew.deleted stamp u small) = let f : use_in (first.placed_by
     (use_in (first.placed_by 1)) e ∙ u in cc
 
 -- a head in a used slot is not valid
-head_in_use : (Q : Pages) (floor since : ℕ) → RowHolds log_begun (first.placed_by 1) Q (head_record 4096) floor since
+head_in_use : (Q : Pages) (floor since : ℕ) → RuleHolds log_begun (first.placed_by 1) Q (head_record 4096) floor since
     → ⊥
-head_in_use Q floor since (RowHolds.create x) = let f = x.here.kind_is in cc
-head_in_use Q floor since (RowHolds.begin x) = let f = x.here.kind_is in cc
-head_in_use Q floor since (RowHolds.commit x) = let f = x.here.kind_is in cc
-head_in_use Q floor since (RowHolds.abort x) = let f = x.here.kind_is in cc
-head_in_use Q floor since (RowHolds.checkpoint x) = let f = x.here.kind_is in cc
-head_in_use Q floor since (RowHolds.put_overflow x) = let f = x.here.kind_is in cc
-head_in_use Q floor since (RowHolds.mark_deleted x) = let f = x.here.kind_is in cc
-head_in_use Q floor since (RowHolds.put_pending x) = let f = x.here.kind_is in cc
-head_in_use Q floor since (RowHolds.add_row x) = let f = x.here.kind_is in cc
-head_in_use Q floor since (RowHolds.link_pending x) = let f = x.here.kind_is in cc
-head_in_use Q floor since (RowHolds.shift x) = let f = x.here.kind_is in cc
-head_in_use Q floor since (RowHolds.add_items x) = let f = x.here.kind_is in cc
-head_in_use Q floor since (RowHolds.make_tree x) = let f = x.here.kind_is in cc
-head_in_use Q floor since (RowHolds.add_postings x) = let f = x.here.kind_is in cc
-head_in_use Q floor since (RowHolds.grow_root x) = let f = x.here.kind_is in cc
-head_in_use Q floor since (RowHolds.split x) = let f = x.here.kind_is in cc
-head_in_use Q floor since (RowHolds.remove_items x) = let f = x.here.kind_is in cc
-head_in_use Q floor since (RowHolds.delete_post x) = let f = x.here.kind_is in cc
-head_in_use Q floor since (RowHolds.drop_page x) = let f = x.here.kind_is in cc
-head_in_use Q floor since (RowHolds.free_slots x) = let f = x.here.kind_is in cc
-head_in_use Q floor since (RowHolds.place_head x) =
+head_in_use Q floor since (RuleHolds.create x) = let f = x.here.kind_is in cc
+head_in_use Q floor since (RuleHolds.begin x) = let f = x.here.kind_is in cc
+head_in_use Q floor since (RuleHolds.commit x) = let f = x.here.kind_is in cc
+head_in_use Q floor since (RuleHolds.abort x) = let f = x.here.kind_is in cc
+head_in_use Q floor since (RuleHolds.checkpoint x) = let f = x.here.kind_is in cc
+head_in_use Q floor since (RuleHolds.put_overflow x) = let f = x.here.kind_is in cc
+head_in_use Q floor since (RuleHolds.mark_deleted x) = let f = x.here.kind_is in cc
+head_in_use Q floor since (RuleHolds.put_pending x) = let f = x.here.kind_is in cc
+head_in_use Q floor since (RuleHolds.add_row x) = let f = x.here.kind_is in cc
+head_in_use Q floor since (RuleHolds.link_pending x) = let f = x.here.kind_is in cc
+head_in_use Q floor since (RuleHolds.shift x) = let f = x.here.kind_is in cc
+head_in_use Q floor since (RuleHolds.add_items x) = let f = x.here.kind_is in cc
+head_in_use Q floor since (RuleHolds.make_tree x) = let f = x.here.kind_is in cc
+head_in_use Q floor since (RuleHolds.add_postings x) = let f = x.here.kind_is in cc
+head_in_use Q floor since (RuleHolds.grow_root x) = let f = x.here.kind_is in cc
+head_in_use Q floor since (RuleHolds.split x) = let f = x.here.kind_is in cc
+head_in_use Q floor since (RuleHolds.remove_items x) = let f = x.here.kind_is in cc
+head_in_use Q floor since (RuleHolds.delete_post x) = let f = x.here.kind_is in cc
+head_in_use Q floor since (RuleHolds.drop_page x) = let f = x.here.kind_is in cc
+head_in_use Q floor since (RuleHolds.free_slots x) = let f = x.here.kind_is in cc
+head_in_use Q floor since (RuleHolds.place_head x) =
     let item : 4096 ≡ x.here.doc.item = ap first.item_in x.here.kind_is in
     let old : Some (first.head 1) ∷ [] ≡ slots_of x.here.old = ap first.first_slots x.here.before_is in
     elim x.here.page [
@@ -272,7 +272,7 @@ head_in_use Q floor since (RowHolds.place_head x) =
       | inr b ↦ in_use since (page_of x.here.doc.item) (ap page_of item) b.2
     ]
 
--- The second head as a delta that starts behind the used length: its bytes would be those of the page, and its row
+-- The second head as a delta that starts after the used length: its bytes would be those of the page, and its rule
 -- holds, but
 -- the change can't be made, and the record is not valid.
 abbrev behind_used : Edit
@@ -293,30 +293,30 @@ delta_refused floor since v =
     omega (arith, within, used_before, ap used_in (shown_begun 2).1)
 
 -- a second commit of transaction 1 is not valid
-commit_of_one : (P Q : Pages) (floor since : ℕ) → RowHolds log_placed P Q (commit_record 1) floor since → ⊥
-commit_of_one P Q floor since (RowHolds.create x) = let f = x.here.kind_is in cc
-commit_of_one P Q floor since (RowHolds.begin x) = let f = x.here.kind_is in cc
-commit_of_one P Q floor since (RowHolds.commit x) = let f = x.here.runs in cc
-commit_of_one P Q floor since (RowHolds.abort x) = let f = x.here.kind_is in cc
-commit_of_one P Q floor since (RowHolds.place_head x) = let f = x.here.kind_is in cc
-commit_of_one P Q floor since (RowHolds.checkpoint x) = let f = x.here.kind_is in cc
-commit_of_one P Q floor since (RowHolds.put_overflow x) = let f = x.here.kind_is in cc
-commit_of_one P Q floor since (RowHolds.mark_deleted x) = let f = x.here.kind_is in cc
-commit_of_one P Q floor since (RowHolds.put_pending x) = let f = x.here.kind_is in cc
-commit_of_one P Q floor since (RowHolds.add_row x) = let f = x.here.kind_is in cc
-commit_of_one P Q floor since (RowHolds.link_pending x) = let f = x.here.kind_is in cc
-commit_of_one P Q floor since (RowHolds.shift x) = let f = x.here.kind_is in cc
-commit_of_one P Q floor since (RowHolds.add_items x) = let f = x.here.kind_is in cc
-commit_of_one P Q floor since (RowHolds.make_tree x) = let f = x.here.kind_is in cc
-commit_of_one P Q floor since (RowHolds.add_postings x) = let f = x.here.kind_is in cc
-commit_of_one P Q floor since (RowHolds.grow_root x) = let f = x.here.kind_is in cc
-commit_of_one P Q floor since (RowHolds.split x) = let f = x.here.kind_is in cc
-commit_of_one P Q floor since (RowHolds.remove_items x) = let f = x.here.kind_is in cc
-commit_of_one P Q floor since (RowHolds.delete_post x) = let f = x.here.kind_is in cc
-commit_of_one P Q floor since (RowHolds.drop_page x) = let f = x.here.kind_is in cc
-commit_of_one P Q floor since (RowHolds.free_slots x) = let f = x.here.kind_is in cc
+commit_of_one : (P Q : Pages) (floor since : ℕ) → RuleHolds log_placed P Q (commit_record 1) floor since → ⊥
+commit_of_one P Q floor since (RuleHolds.create x) = let f = x.here.kind_is in cc
+commit_of_one P Q floor since (RuleHolds.begin x) = let f = x.here.kind_is in cc
+commit_of_one P Q floor since (RuleHolds.commit x) = let f = x.here.runs in cc
+commit_of_one P Q floor since (RuleHolds.abort x) = let f = x.here.kind_is in cc
+commit_of_one P Q floor since (RuleHolds.place_head x) = let f = x.here.kind_is in cc
+commit_of_one P Q floor since (RuleHolds.checkpoint x) = let f = x.here.kind_is in cc
+commit_of_one P Q floor since (RuleHolds.put_overflow x) = let f = x.here.kind_is in cc
+commit_of_one P Q floor since (RuleHolds.mark_deleted x) = let f = x.here.kind_is in cc
+commit_of_one P Q floor since (RuleHolds.put_pending x) = let f = x.here.kind_is in cc
+commit_of_one P Q floor since (RuleHolds.add_row x) = let f = x.here.kind_is in cc
+commit_of_one P Q floor since (RuleHolds.link_pending x) = let f = x.here.kind_is in cc
+commit_of_one P Q floor since (RuleHolds.shift x) = let f = x.here.kind_is in cc
+commit_of_one P Q floor since (RuleHolds.add_items x) = let f = x.here.kind_is in cc
+commit_of_one P Q floor since (RuleHolds.make_tree x) = let f = x.here.kind_is in cc
+commit_of_one P Q floor since (RuleHolds.add_postings x) = let f = x.here.kind_is in cc
+commit_of_one P Q floor since (RuleHolds.grow_root x) = let f = x.here.kind_is in cc
+commit_of_one P Q floor since (RuleHolds.split x) = let f = x.here.kind_is in cc
+commit_of_one P Q floor since (RuleHolds.remove_items x) = let f = x.here.kind_is in cc
+commit_of_one P Q floor since (RuleHolds.delete_post x) = let f = x.here.kind_is in cc
+commit_of_one P Q floor since (RuleHolds.drop_page x) = let f = x.here.kind_is in cc
+commit_of_one P Q floor since (RuleHolds.free_slots x) = let f = x.here.kind_is in cc
 
--- a transaction 3 marks the first document: the row of MarkDeleted holds
+-- a transaction 3 marks the first document: the rule of MarkDeleted holds
 abbrev pub log_third : Log
 log_third = record { number = 9; xid = 3; kind = kind.Begin; changes = [] } ∷ second_run
 

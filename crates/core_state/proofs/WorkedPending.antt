@@ -1,4 +1,4 @@
--- The rows of kinds that no worked log has yet, at the document of the first run: its row is put and linked, and
+-- The rules of kinds that no worked log has yet, at the document of the first run: its row is put and linked, and
 -- moves to the
 -- tree of keys; and where its transaction is aborted its slot becomes free.
 use Rattle.std.proofs.Common.{◌≡◌, ◌≢◌, ℕ, zero, suc, ◌<◌, List, [], ◌∷◌, length, get_or, refl, sym, ap, subst, ◌∙◌, inl, inr, arith}
@@ -22,9 +22,9 @@ use Rattle.core_state.specs.Documents.{Doc, head_of, HasBytes, IsChain, IsWhole,
 use Rattle.core_state.specs.Index.{keys_on, InRows, Pending, HasRow, Under, Main}
 use Rattle.core_state.specs.Known.{known, use_in}
 use Rattle.core_state.specs.Changes.{IsNew, IsHeadChange, IsDeadHead}
-use Rattle.core_state.specs.PendingRows.{IsPutPending, IsLinkHere, IsLinkPending, IsLastAfter, IsShift}
-use Rattle.core_state.specs.TreeRows.{Toward, ItemsAdded, IsAddItems}
-use Rattle.core_state.specs.VacuumRows.{SlotLoses, IsGoneFrom, IsFreeSlots}
+use Rattle.core_state.specs.PendingRules.{IsPutPending, IsLinkHere, IsLinkPending, IsLastAfter, IsShift}
+use Rattle.core_state.specs.TreeRules.{Toward, ItemsAdded, IsAddItems}
+use Rattle.core_state.specs.VacuumRules.{SlotLoses, IsGoneFrom, IsFreeSlots}
 use Rattle.core_state.specs.declared.answers.PageUse.TheVariants as usage
 use Rattle.core_state.proofs.Histories.{whole_one}
 use Rattle.core_state.proofs.Worked as first
@@ -133,13 +133,13 @@ shift_record = record {
       (shifted 3) ∷ [];
 }
 
--- the document is whole wherever its head stands
+-- the document is whole wherever its head is
 pub whole : (P : Pages) (private : ℕ) → IsWhole P (head private) first.vector
 whole P private = record {
   bytes = first.bytes;
   there = HasBytes.short (omega arith);
   size = refl;
-  spells = record { normal = first.vector_is; small = omega arith; bytes_of = refl };
+  encodes = record { normal = first.vector_is; small = omega arith; bytes_of = refl };
 }
 
 others_stay : (a b j : ℕ) → j ≢ 0 → slot_at (Some (head b) ∷ []) j ≡ slot_at (Some (head a) ∷ []) j

@@ -1,11 +1,11 @@
--- The row of Split at a leaf that no division halves: the longest first part that fits stays.
+-- The rule of Split at a leaf that no division halves: the longest first part that fits stays.
 use Rattle.std.proofs.Common.{◌≡◌, ◌≢◌, ◌⊎◌, ℕ, zero, suc, ◌+◌, ◌<◌, ◌≤◌, List, [], ◌∷◌, ◌++◌, length, get_or, replicate, refl, sym, ap, ap₂, subst, ◌∙◌, inl, inr, arith}
 use Rattle.std.specs.List.{flat_map}
 use Rattle.std.proofs.lemmas.List.{length-append, length-replicate}
 use Rattle.ts_base.specs.Keys.{Key}
 use Rattle.page_types.specs.Numbers.{u16_bytes}
 use Rattle.page_types.specs.Keys.{KeyLess}
-use Rattle.page_types.specs.Spelling.{key_field, entry_bytes, high_key_bytes, count_of}
+use Rattle.page_types.specs.Encoding.{key_field, entry_bytes, high_key_bytes, count_of}
 use Rattle.page_types.specs.Views.{free_page, entries_in}
 use Rattle.page_types.specs.declared.page.Page.{Page}
 use Rattle.page_types.specs.declared.page.Entry.{Entry}
@@ -20,7 +20,7 @@ use Rattle.page_types.proofs.Framing.{length-u16_bytes}
 use Rattle.core_state.specs.Log.{Log, Pages, In}
 use Rattle.core_state.specs.Known.{use_in}
 use Rattle.core_state.specs.Changes.{IsNew}
-use Rattle.core_state.specs.TreeRows.{EntryHalves, Halves, KeepsHalf, FitsPage, IsSplitPlace, IsDivided, IsSplit}
+use Rattle.core_state.specs.TreeRules.{EntryHalves, Halves, KeepsHalf, FitsPage, IsSplitPlace, IsDivided, IsSplit}
 use Rattle.core_state.specs.declared.answers.PageUse.TheVariants as usage
 use Rattle.core_state.proofs.Worked.{meta_page, image}
 
@@ -182,7 +182,7 @@ not_one a b c d s (IsSplitPlace.longest none most) =
     (Halves.of_leaf [] b (a ∷ []) (c ∷ d ∷ []) (λ e. cc)) (two_fit a b c d s) in
     omega (arith, more)
 
--- the pages before the split and behind it
+-- the pages before the split and after it
 abbrev pub child : ℕ → Key → EntryChild
 child page bound = record { page = page; bound = bound }
 
@@ -243,7 +243,7 @@ divided a b c d k = EntryHalves.leaves [] (a ∷ b ∷ []) (c ∷ d ∷ []) (λ 
     above e (inr (inl f)) = subst (λ (x : Entry). KeyLess b.key x.key) (sym f) k.fourth
     above e (inr (inr f)) = absurd f
 
--- the row holds behind any log that shows such pages
+-- the rule holds after any log that shows such pages
 split_row : (R : Log) (a b c d : Entry) (since : ℕ) → AreLarge a b c d → KeysRise a b c d
     → IsSplit R (before (a ∷ b ∷ c ∷ d ∷ [])) (behind a b c d) (split_record a b c d) since
 split_row R a b c d since s k = record {

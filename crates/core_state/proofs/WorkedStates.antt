@@ -1,8 +1,8 @@
--- What a state tells of its log, at the states that follow the first run, and not where one thing of them is broken.
+-- What a state says of its log, at the states that follow the first run, and not where one thing of them is broken.
 use Rattle.std.proofs.Common.{◌≡◌, ◌<◌, ℕ, List, [], ◌∷◌, length, refl, ap, ◌∙◌, arith}
 use Rattle.std.specs.Prelude.{Option, Some, None}
 use Rattle.page_types.specs.Numbers.{u16_bytes, u32_bytes, u64_bytes, zeros}
-use Rattle.page_types.specs.Spelling.{page_bytes, front_bytes, framed, head_bytes, body_bytes}
+use Rattle.page_types.specs.Encoding.{page_bytes, front_bytes, framed, head_bytes, body_bytes}
 use Rattle.page_types.specs.Edits.{used_in}
 use Rattle.page_types.specs.declared.page.Name.{Name}
 use Rattle.page_types.specs.declared.page.Body.TheVariants as body
@@ -16,14 +16,14 @@ use Rattle.core_state.specs.declared.transactions.Transaction.{Transaction}
 use Rattle.core_state.specs.declared.answers.Fate.TheVariants.{Running, Committed}
 use Rattle.core_state.proofs.Worked as first
 
--- the states behind the placed head and behind the commit
+-- the states after the placed head and after the commit
 abbrev placed : StateValue
 placed = state_of 10 100 first.log_placed
 
 abbrev ended : StateValue
 ended = state_of 10 100 first.first_run
 
--- the body with the head has 51 bytes; one with no length breaks what is told
+-- the body with the head has 51 bytes; one with no length breaks what is said
 body_size : length (body_bytes (body.Heap (Some (first.head 1) ∷ []))) ≡ 51
 unfolding head_bytes u16_bytes u32_bytes u64_bytes zeros
 body_size = refl
@@ -41,7 +41,7 @@ lost_size t =
 delta_size : edited_size (Delta (2 ∷ 0 ∷ 0 ∷ 0 ∷ 0 ∷ 0 ∷ 0 ∷ 0 ∷ []) 4 3 (7 ∷ 8 ∷ [])) 51 ≡ 50
 delta_size = refl
 
--- the transaction runs with the name that it placed; without it the state breaks what is told
+-- the transaction runs with the name that it placed; without it the state breaks what is said
 abbrev runner : List Name → Transaction
 runner names = record { xid = 1; deleted = []; inserted = names }
 
@@ -57,7 +57,7 @@ lost_name t =
     let count : 0 ≡ 1 = ap name_count (t.running 1 refl) in
     omega (arith, count)
 
--- behind its commit it runs no more; where it stays the state breaks what is told
+-- after its commit it runs no more; where it stays the state breaks what is said
 none_runs : transaction 1 ended.running ≡ None
 none_runs = refl
 
@@ -69,7 +69,7 @@ kept_runner t =
     not_on : Committed 1 ≡ Running → ⊥
     not_on e = cc
 
--- the names that it placed rise by their serials; of a log where they fall no state tells
+-- the names that it placed rise by their serials; of a log where they fall no state says
 abbrev placing : ℕ → Record
 placing serial = record { number = 3; xid = 1; kind = kind.PlaceHead 4096 serial; changes = [] }
 

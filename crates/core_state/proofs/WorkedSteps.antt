@@ -92,7 +92,7 @@ can_place P shown = record {
   content = refl;
 }
 
--- the step may be logged; behind the log that was seen it is the log's third record, with its page
+-- the step may be logged; after the log that was seen it is the log's third record, with its page
 may_place : MayLog (session log_begun (sheet 2 free_page ∷ [])) place_step
 may_place = place_may (session log_begun (sheet 2 free_page ∷ [])) place_step (λ P legal shown. can_place P shown)
 

@@ -1,8 +1,8 @@
--- Rows that only later logs have: a row comes behind those of the last pending page, items come to
+-- Rules that only later logs meet: a row comes after those of the last pending page, items come to
 -- a posting tree, and a root grows.
 use Rattle.std.proofs.Common.{◌≡◌, ◌≢◌, ℕ, zero, suc, ◌<◌, List, [], ◌∷◌, ◌++◌, length, refl, sym, ap, subst, ◌∙◌, inl, inr, arith}
 use Rattle.page_types.specs.Items.{items_of}
-use Rattle.page_types.specs.Spelling.{body_bytes}
+use Rattle.page_types.specs.Encoding.{body_bytes}
 use Rattle.page_types.specs.Views.{free_page, rows_in}
 use Rattle.page_types.specs.declared.page.Page.{Page}
 use Rattle.page_types.specs.declared.page.Row.{Row}
@@ -17,8 +17,8 @@ use Rattle.core_state.specs.Documents.{IsChain}
 use Rattle.core_state.specs.Index.{Pending, HasRow}
 use Rattle.core_state.specs.Known.{use_in}
 use Rattle.core_state.specs.Changes.{IsNew}
-use Rattle.core_state.specs.PendingRows.{IsAddRow}
-use Rattle.core_state.specs.TreeRows.{TowardItem, IsAddPostings, OneChild, IsRoot, IsGrowRoot}
+use Rattle.core_state.specs.PendingRules.{IsAddRow}
+use Rattle.core_state.specs.TreeRules.{TowardItem, IsAddPostings, OneChild, IsRoot, IsGrowRoot}
 use Rattle.core_state.specs.declared.answers.Fate.TheVariants.{Running}
 use Rattle.core_state.specs.declared.answers.PageUse.TheVariants as usage
 use Rattle.core_state.proofs.Worked as first
@@ -38,7 +38,7 @@ one_page P (q ∷ qs) p end c (inr i) =
     let none : (P q).right ≡ 0 = ap (λ k. (P k).right) (sym c.0) ∙ end in
     absurd (first.in_no_chain P qs p (subst (λ k. IsChain P k qs) none c.2) i)
 
--- 10: the document's row comes behind that of another
+-- 10: the document's row comes after that of another
 abbrev other : Row
 other = record { item = 4097; keys = rows.cat_key ∷ [] }
 

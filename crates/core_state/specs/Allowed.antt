@@ -12,7 +12,7 @@ use Rattle.page_types.specs.declared.record.Kind.{Kind}
 use Rattle.page_types.specs.declared.record.Kind.TheVariants as kind
 use Rattle.core_state.specs.Log.{Log, Pages, In, Shows, changed, commits, next_xid, next_serial, xid_bound}
 use Rattle.core_state.specs.Documents.{slot_of}
-use Rattle.core_state.specs.Legal.{RowHolds, IsLegal, Pin, Keeps}
+use Rattle.core_state.specs.Legal.{RuleHolds, IsLegal, Pin, Keeps}
 use Rattle.core_state.specs.Steady.{IsMaintenance}
 use Rattle.core_state.specs.Readings.{Read, AreReads}
 
@@ -77,7 +77,7 @@ pub record Step : Type 0 where
 abbrev pub sheet_pages : List Sheet → List ℕ
 sheet_pages ss = map (λ (s : Sheet). s.page) ss
 
--- a step's kind with the commit number or the serial that it draws behind this log
+-- a step's kind with the commit number or the serial that it draws after this log
 abbrev pub drawn_kind : Log → Kind → Kind
 drawn_kind R (kind.Commit n) = kind.Commit (suc (commits R))
 drawn_kind R (kind.PlaceHead item serial) = kind.PlaceHead item (next_serial R)
@@ -88,7 +88,7 @@ abbrev pub drawn_xid : Log → Kind → ℕ → ℕ
 drawn_xid R kind.Begin xid = next_xid R
 drawn_xid R k xid = xid
 
--- the record is the step behind this log; that an xid which is drawn is below its bound the call
+-- the record is the step after this log; that an xid which is drawn is below its bound the call
 -- tests
 pub record IsDrawn (R : Log) (s : Step) (r : Record) : Type 0 where
   pub number : r.number ≡ suc (length R)
@@ -128,14 +128,14 @@ pub record Leaves (P Q : Pages) (r : Record) (s : Step) : Type 0 where
   pub here : AreMade Q r s.after
   pub elsewhere : (p : ℕ) → (In p (sheet_pages s.after) → ⊥) → Q p ≡ P p
 
--- the step is valid behind each log that is allowed to the session
+-- the step is valid after each log that is allowed to the session
 abbrev pub MayLog : View → Step → Type 0
 MayLog v s =
     (R : Log) (a : IsAllowed v R) (r : Record) (Q : Pages) → IsDrawn R s r → Leaves a.pages Q r s
-    → RowHolds R a.pages Q r v.floor v.since
+    → RuleHolds R a.pages Q r v.floor v.since
 
 -- What a session owes of a step besides: the log isn't empty, or the step makes the store; it holds
--- the pages that the step leaves, each once, and each has a spelling; the xid is 0, drawn or its
+-- the pages that the step leaves, each once, and each has an encoding; the xid is 0, drawn or its
 -- own; maintenance needs the right; and it doesn't end every running transaction. Of a checkpoint's
 -- redo number nothing is asked yet: no session logs one.
 pub record Owes (v : View) (s : Step) : Type 0 where

@@ -13,7 +13,7 @@ use Rattle.core_state.specs.Log.{Log, Pages, In, Shows, changed, commits}
 use Rattle.core_state.specs.Documents.{Doc, IsChain, Has, IsWhole, IsDead, head_of}
 use Rattle.core_state.specs.Index.{Line, Pending, HasRow, Main, NoPair, IsIndexed, Below}
 use Rattle.core_state.specs.Changes.{UpTo, ItemUpTo}
-use Rattle.core_state.specs.TreeRows.{Toward, TowardItem, IsRoot}
+use Rattle.core_state.specs.TreeRules.{Toward, TowardItem, IsRoot}
 use Rattle.core_state.specs.Legal.{IsLegal, Pin, Keeps}
 
 -- some document has the item and is whole, and the key is one of its vector's
@@ -49,7 +49,7 @@ MustBeIndexed R P floor d = (IsDead R floor d → ⊥) ⊎ ((h : Head) × Has P 
 abbrev pub StaysIndexed : Log → Pages → ℕ → Type 0
 StaysIndexed R P floor = (d : Doc) → WasIndexed R d → MustBeIndexed R P floor d → IsIndexed P d
 
--- page q is p, or comes behind it along right links
+-- page q is p, or comes after it along right links
 pub data Rightward (P : Pages) (p : ℕ) : ℕ → Type 0 where
   here : Rightward P p p
   next : {q : ℕ} → Rightward P p q → (P q).right ≢ 0 → Rightward P p (P q).right
@@ -70,7 +70,7 @@ LeavesAreNamed P =
     (p high : ℕ) (items : List ℕ) → (P p).body ≡ body.PostLeaf high items
     → (root : ℕ) × IsRoot P root × (root ≢ 1) × Below P root p
 
--- each leaf of a tree leads along right links to what stands behind it
+-- each leaf of a tree leads along right links to what is after it
 pub record LeavesLead (P : Pages) : Type 0 where
   pub entries : (p q : ℕ) (high high' : Key) (es fs : List Entry) (e : Entry)
       → (P p).body ≡ body.EntryLeaf high es → (P q).body ≡ body.EntryLeaf high' fs
@@ -92,14 +92,14 @@ pub record WasDeleted (R : Log) (p root : ℕ) (then : Pages) (number : ℕ) : T
   pub shown : Shows earlier then
   pub below : Below then root p
 
--- the item stood at the leaf's place or behind it, in the pages before the leaf was deleted
+-- the item was at the leaf's place or after it, in the pages before the leaf was deleted
 abbrev pub StoodFrom : Pages → ℕ → ℕ → ℕ → Type 0
 StoodFrom then root p i =
     TowardItem then i root p
     ⊎ ((high : ℕ) × (items : List ℕ) × ((then p).body ≡ body.PostLeaf high items)
     × (ItemUpTo i high → ⊥))
 
--- a leaf that was deleted since the pin leads along right links to what stands behind it
+-- a leaf that was deleted since the pin leads along right links to what is after it
 abbrev pub DeletedLeavesLead : Log → Pages → Pin → Type 0
 DeletedLeavesLead R P pin =
     (p root number : ℕ) (then : Pages) → WasDeleted R p root then number → pin.length < number
@@ -129,7 +129,7 @@ StandsOnChain from P p item =
     (d : Doc) × (h : Head) × (qs : List ℕ) × (d.item ≡ item) × Has P d h × IsChain P (from h) qs
     × In p qs
 
--- page p stands in this place
+-- page p is in this place
 abbrev pub StandsIn : Pages → ℕ → PagePlace → Type 0
 StandsIn P p meta = p ≡ 0
 StandsIn P p heap = (slots : List (Option Head)) × ((P p).body ≡ body.Heap slots)

@@ -1,4 +1,4 @@
--- What the rows of several kinds ask of pages before and after a record.
+-- What the rules of several kinds ask of pages before and after a record.
 use Rattle.std.specs.Prelude.{◌≡◌, ◌≢◌, ◌⊎◌, ℕ, suc, ◌<◌, ◌≤◌, List, [], length, max, map, Option, Some}
 use Rattle.page_types.specs.Keys.{KeyLess}
 use Rattle.page_types.specs.Views.{slot_at}
@@ -16,8 +16,8 @@ use Rattle.core_state.specs.declared.answers.Fate.TheVariants.{Running, Aborted,
 use Rattle.core_state.specs.declared.answers.PageUse.{PageUse}
 use Rattle.core_state.specs.declared.answers.PageUse.TheVariants as usage
 
--- a row's part that speaks of the changed pages alone, at a log with its pages P and the pages Q
--- behind the record
+-- a rule's part that speaks of the changed pages alone, at a log with its pages P and the pages Q
+-- after the record
 abbrev pub Here : (Known → Record → List Page → List Page → Type 0) → Log → Pages → Pages → Record
     → Type 0
 Here Part R P Q r = Part (known R P) r (map P (changed r)) (map Q (changed r))
@@ -56,7 +56,7 @@ pub record IsOwn (k : Known) (r : Record) (h : Head) : Type 0 where
   pub by : h.inserted_by ≡ r.xid
   pub runs : k.fates r.xid ≡ Running
 
--- a document is dead as its head tells: its insert was aborted, or its delete is among the first
+-- a document is dead as its head says: its insert was aborted, or its delete is among the first
 -- `floor` commits
 pub data IsDeadHead (fates : ℕ → Fate) (floor : ℕ) (h : Head) : Type 0 where
   insert_aborted : fates h.inserted_by ≡ Aborted → IsDeadHead fates floor h
@@ -66,10 +66,10 @@ pub data IsDeadHead (fates : ℕ → Fate) (floor : ℕ) (h : Head) : Type 0 whe
 abbrev pub KeyAtMost : Key → Key → Type 0
 KeyAtMost a b = KeyLess a b ⊎ (a ≡ b)
 
--- a key may stand where this is the bound; no bytes: there is no bound
+-- a key may be where this is the bound; no bytes: there is no bound
 abbrev pub UpTo : Key → Key → Type 0
 UpTo k bound = (bound ≡ []) ⊎ KeyAtMost k bound
 
--- an item may stand where this is the high item; 0: there is none
+-- an item may be where this is the high item; 0: there is none
 abbrev pub ItemUpTo : ℕ → ℕ → Type 0
 ItemUpTo i high = (high ≡ 0) ⊎ (i ≤ high)

@@ -1,7 +1,7 @@
--- Documents: their names, heads and chains, the vectors that stand there, and who is dead.
+-- Documents: their names, heads and chains, the vectors that are there, and who is dead.
 use Rattle.std.specs.Prelude.{◌≡◌, ◌≢◌, ℕ, ◌+◌, ◌*◌, ◌/◌, ◌%◌, ◌<◌, ◌≤◌, ◌==◌, cond, List, [], ◌∷◌, ◌++◌, length, Option, Some}
 use Rattle.ts_base.specs.Vectors.{Vector}
-use Rattle.ts_base.specs.Spelling.{IsSpelling}
+use Rattle.ts_base.specs.Encoding.{IsEncoding}
 use Rattle.page_types.specs.Numbers.{most_slots, most_short}
 use Rattle.page_types.specs.Views.{slots_of, slot_at, part_of}
 use Rattle.page_types.specs.declared.page.Head.{Head}
@@ -50,22 +50,22 @@ abbrev pub IsChain : Pages → ℕ → List ℕ → Type 0
 IsChain P p [] = p ≡ 0
 IsChain P p (q ∷ qs) = (p ≡ q) × (q ≢ 0) × IsChain P (P q).right qs
 
--- the parts of a vector that stand on these pages, one after another
+-- the parts of a vector that are on these pages, one after another
 abbrev pub parts : Pages → List ℕ → List ℕ
 parts P [] = []
 parts P (q ∷ qs) = part_of (P q) ++ parts P qs
 
--- these bytes stand in the head, or on its overflow chain
+-- these bytes are in the head, or on its overflow chain
 pub data HasBytes (P : Pages) (h : Head) : List ℕ → Type 0 where
   short : h.bytes ≤ most_short → HasBytes P h h.vector
   long : most_short < h.bytes → (qs : List ℕ) → IsChain P h.overflow qs → HasBytes P h (parts P qs)
 
--- exactly the head's length of bytes is there, and they are the spelling of v
+-- exactly the head's length of bytes is there, and they are the encoding of v
 pub record IsWhole (P : Pages) (h : Head) (v : Vector) : Type 0 where
   pub bytes : List ℕ
   pub there : HasBytes P h bytes
   pub size : length bytes ≡ h.bytes
-  pub spells : IsSpelling bytes v
+  pub encodes : IsEncoding bytes v
 
 -- the document has its slot and is whole, with this vector
 abbrev pub HasVector : Pages → Doc → Vector → Type 0

@@ -1,4 +1,4 @@
--- Documents with their vectors, commits, and the history of a log. The oldest commit stands first.
+-- Documents with their vectors, commits, and the history of a log. The oldest commit is first.
 use Rattle.std.specs.Prelude.{◌≡◌, ◌≢◌, ◌⊎◌, ℕ, Bool, not, if◌then◌else◌, nat_lt, ◌==◌, List, [], ◌∷◌, ◌++◌, map, take, Some, ⊤}
 use Rattle.std.specs.List.{flat_map, filter, All, AllPairs, Contains, list_any, slice_get}
 use Rattle.ts_base.specs.Vectors.{Vector}
@@ -82,11 +82,11 @@ pub record IsLawful (commits : History) : Type 0 where
   pub apart_places : (n : ℕ)
       → AllPairs (λ (a b : Document). AreApart a.name b.name) (docs (take n commits))
 
--- what a document has beside its name, as its head and its chain tell: its vector
+-- what a document has beside its name, as its head and its chain say: its vector
 abbrev pub HasContent : Pages → Head → Document → Type 0
 HasContent P h D = IsWhole P h D.vector
 
--- the document stands in these pages: it has its slot and its content
+-- the document is in these pages: it has its slot and its content
 pub record IsStored (P : Pages) (D : Document) : Type 0 where
   pub doc : Doc
   pub head : Head
@@ -94,7 +94,7 @@ pub record IsStored (P : Pages) (D : Document) : Type 0 where
   pub has : Has P doc head
   pub content : HasContent P head D
 
--- these are the documents that a transaction placed, each with the content that stands in these
+-- these are the documents that a transaction placed, each with the content that is in these
 -- pages
 abbrev pub AreInserts : Pages → List Doc → List Document → Type 0
 AreInserts P [] [] = ⊤
@@ -103,14 +103,14 @@ AreInserts P (d ∷ ds) [] = ⊥
 AreInserts P (d ∷ ds) (i ∷ is) =
     (i.name ≡ name_of d) × ((h : Head) × Has P d h × HasContent P h i) × AreInserts P ds is
 
--- c is the commit of transaction x behind the log R
+-- c is the commit of transaction x after the log R
 pub record IsCommitOf (R : Log) (x : ℕ) (c : Commit) : Type 0 where
   pub pages : Pages
   pub shown : Shows R pages
   pub deleted : c.deleted ≡ map name_of (marked R x)
   pub inserted : AreInserts pages (placed R x) c.inserted
 
--- H is the history behind a record of this kind and xid, where `Before` is that of the log before
+-- H is the history after a record of this kind and xid, where `Before` is that of the log before
 -- it, which is R
 abbrev pub IsHistoryWith : Kind → ℕ → Log → (History → Type 0) → History → Type 0
 IsHistoryWith (kind.Commit n) x R Before H =

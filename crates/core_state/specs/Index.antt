@@ -20,7 +20,7 @@ use Rattle.core_state.specs.Documents.{Doc, IsChain, HasVector}
 abbrev pub Line : Pages → List ℕ → Type 0
 Line P qs = IsChain P (first_of (P 0)) qs
 
--- the rows that stand on these pages, in order
+-- the rows that are on these pages, in order
 abbrev pub rows_on : Pages → List ℕ → List Row
 rows_on P qs = flat_map (λ (q : ℕ). rows_of (P q)) qs
 
@@ -32,7 +32,7 @@ keys_on rows = flat_map (λ (w : Row). w.keys) rows
 abbrev pub InRows : List Row → Key → ℕ → Type 0
 InRows rows k i = (w : Row) × In w rows × (w.item ≡ i) × In k w.keys
 
--- a row is linked: it stands on a page of the pending list
+-- a row is linked: it is on a page of the pending list
 pub record IsLinked (P : Pages) (row : Row) : Type 0 where
   pub line : List ℕ
   pub is_line : Line P line
@@ -64,7 +64,7 @@ pub data Below (P : Pages) (r : ℕ) : ℕ → Type 0 where
   root : Below P r r
   child : {p q : ℕ} → Below P r p → In q (children_in (P p).body) → Below P r q
 
--- what stands under an entry: its inline items, or those of the posting leaves below its root
+-- what is under an entry: its inline items, or those of the posting leaves below its root
 pub data Under (P : Pages) (e : Entry) (i : ℕ) : Type 0 where
   inline : (bytes : List ℕ) → e.postings ≡ Inline bytes → In i (items_of bytes) → Under P e i
   posted : (r q : ℕ) → e.postings ≡ Root r → Below P r q → In i (posting_items_in (P q).body)

@@ -1,4 +1,4 @@
--- What the rows ask of a log beside the pages that a record changes and the index: what the state
+-- What the rules ask of a log beside the pages that a record changes and the index: what the state
 -- of a log can answer.
 use Rattle.std.specs.Prelude.{ℕ, length}
 use Rattle.page_types.specs.declared.page.Body.{Body}

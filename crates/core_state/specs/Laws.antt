@@ -26,7 +26,7 @@ OthersStay =
     (R : Log) (r : Record) (P Q : Pages) → Shows R P → Shows (r ∷ R) Q → (p : ℕ)
     → (In p (changed r) → ⊥) → Q p ≡ P p
 
--- a page of a step that has a spelling, and isn't free, has one as a record makes it
+-- a page of a step that has an encoding, and isn't free, has one as a record makes it
 abbrev pub MadeIsPage : Type 0
 MadeIsPage =
     (r : Record) (c : Page) → IsRecord r → c.body ≢ body.Free → IsPage c → IsPage (made_by r c)

@@ -4,11 +4,11 @@ pub mod History
 pub mod Index
 pub mod Known
 pub mod Changes
-pub mod TransactionRows
-pub mod HeapRows
-pub mod PendingRows
-pub mod TreeRows
-pub mod VacuumRows
+pub mod TransactionRules
+pub mod HeapRules
+pub mod PendingRules
+pub mod TreeRules
+pub mod VacuumRules
 pub mod Legal
 pub mod Readings
 pub mod Steady

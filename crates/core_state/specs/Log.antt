@@ -1,8 +1,8 @@
--- The log, the pages that it leaves, and what became of each transaction. The newest record stands
+-- The log, the pages that it leaves, and what became of each transaction. The newest record is
 -- first.
 use Rattle.std.specs.Prelude.{◌≡◌, ◌⊎◌, ℕ, suc, ◌-◌, ◌^◌, ◌==◌, cond, List, [], ◌∷◌, length, drop, map}
 use Rattle.page_types.specs.Numbers.{zeros, page_size}
-use Rattle.page_types.specs.Spelling.{page_bytes}
+use Rattle.page_types.specs.Encoding.{page_bytes}
 use Rattle.page_types.specs.Pages.{IsPage}
 use Rattle.page_types.specs.Edits.{edited}
 use Rattle.page_types.specs.declared.page.Page.{Page}
@@ -21,7 +21,7 @@ Log = List Record
 abbrev pub Pages : Type 0
 Pages = ℕ → Page
 
--- x stands in the list
+-- x is in the list
 abbrev pub In : {A : Type 0} → A → List A → Type 0
 In x [] = ⊥
 In x (y ∷ ys) = (x ≡ y) ⊎ In x ys

@@ -1,7 +1,7 @@
 -- What a step that is logged keeps: the log stays legal, keeps each pin, and is allowed to each
 -- other session.
 use Rattle.std.specs.Prelude.{◌≡◌, ◌≢◌, ℕ, ◌<◌, ◌≤◌, [], ◌∷◌, length, Some, IfSome}
-use Rattle.page_types.specs.Spelling.{page_bytes}
+use Rattle.page_types.specs.Encoding.{page_bytes}
 use Rattle.page_types.specs.Edits.{CanEdit}
 use Rattle.page_types.specs.Records.{IsRecord}
 use Rattle.page_types.specs.declared.record.Change.{Change}
@@ -11,7 +11,7 @@ use Rattle.core_state.specs.Log.{Log, Pages, In, Shows, commits, next_xid, repla
 use Rattle.core_state.specs.Legal.{IsLegal, ImagesFrom, Pin, Keeps}
 use Rattle.core_state.specs.Allowed.{Sheet, View, IsOthers, AreHeld, IsAllowed, Step, IsDrawn, Leaves, MayLog, Owes, sheet_pages, made_by}
 
--- The record is made of the step behind this log: it is drawn, it has a spelling, its changes can
+-- The record is made of the step after this log: it is drawn, it has an encoding, its changes can
 -- be made and give the bytes of the pages that it leaves, and the first change of each page is an
 -- image.
 pub record IsRecordOf (R : Log) (s : Step) (r : Record) : Type 0 where
@@ -52,7 +52,7 @@ pub record FloorAllows (v : View) (pin : Pin) : Type 0 where
   pub floor : v.floor ≤ pin.commits
   pub since : v.since ≤ pin.length
 
--- Session w stands beside v: each of its xids was drawn and is none of v's; it holds no page that v
+-- Session w is beside v: each of its xids was drawn and is none of v's; it holds no page that v
 -- holds; one of both has the right of maintenance at most; and v's floor allows its pin.
 pub record IsBeside (R : Log) (v w : View) : Type 0 where
   pub xids : (x : ℕ) → In x w.xids → (0 < x) × (x < next_xid R) × (In x v.xids → ⊥)
@@ -78,7 +78,7 @@ pub record StaysLegal (v : View) (s : Step) (R : Log) (P : Pages) (r : Record)
   pub others : (w : View) → IsAllowed w R → IsBeside R v w
       → IsOthers w r × IsAllowed w (r ∷ R)
 
--- it holds of each step that a session may log and of which it shows what it owes, behind a log
+-- it holds of each step that a session may log and of which it shows what it owes, after a log
 -- that is allowed to it
 abbrev pub LoggedStepsHold : Type 0
 LoggedStepsHold =

@@ -1,4 +1,4 @@
--- What the pages of a legal log tell of each other: the pending list, which kind stands where, the
+-- What the pages of a legal log say of each other: the pending list, which kind is where, the
 -- bounds of trees, and the stamps.
 use Rattle.std.specs.Prelude.{◌≡◌, ◌≢◌, ◌⊎◌, ◌↔◌, ℕ, ◌==◌, cond, List, [], ◌∷◌, ◌++◌, length, Option}
 use Rattle.ts_base.specs.Vectors.{Vector}
@@ -18,7 +18,7 @@ use Rattle.core_state.specs.Log.{Log, Pages, In, Shows, changed}
 use Rattle.core_state.specs.Documents.{Doc, HasVector, page_of, placed}
 use Rattle.core_state.specs.Index.{Line, HasRow, AllPending, IsIndexed, Below, rows_on}
 use Rattle.core_state.specs.Changes.{UpTo, ItemUpTo}
-use Rattle.core_state.specs.TreeRows.{IsRoot}
+use Rattle.core_state.specs.TreeRules.{IsRoot}
 use Rattle.core_state.specs.Bullets.{PagePlace, StandsIn}
 use Rattle.core_state.specs.Bullets.PagePlace.{meta, heap, entry_tree, posting_tree, overflow_of, private_of, line}
 use Rattle.core_state.specs.Legal.{IsLegal}
@@ -56,7 +56,7 @@ pub record ListStands (R : Log) (P : Pages) : Type 0 where
   pub complete : (i : ℕ) → HasRow P i → StartsWith P pages i ⊎ IsAllPending P i
   pub indexed : (i : ℕ) → HasRow P i → (d : Doc) × (d.item ≡ i) × IsIndexed P d
 
--- what stands in a place
+-- what is in a place
 abbrev pub IsOfPlace : PagePlace → Body → Type 0
 IsOfPlace meta b = (first last count : ℕ) × (b ≡ body.Meta first last count)
 IsOfPlace heap b = (slots : List (Option Head)) × (b ≡ body.Heap slots)
@@ -75,8 +75,8 @@ pub record IsUsed (b : Body) : Type 0 where
   pub not_free : b ≢ body.Free
   pub not_deleted : (g : Gone) → b ≢ body.Deleted g
 
--- What stands in a place is of its kind, and the page of each head that was placed is a heap page; and
--- each page that is neither free nor deleted stands in a place.
+-- What is in a place is of its kind, and the page of each head that was placed is a heap page; and
+-- each page that is neither free nor deleted is in a place.
 pub record KindsStand (R : Log) (P : Pages) : Type 0 where
   pub kinds : R ≢ [] → (p : ℕ) (a : PagePlace) → StandsIn P p a → IsOfPlace a (P p).body
   pub heaps : (x : ℕ) (d : Doc) → In d (placed R x) → IsOfPlace heap (P (page_of d.item)).body
@@ -96,8 +96,8 @@ pub data HasHighItem : Body → ℕ → Type 0 where
   inner : (front : List PostChild) (last : PostChild)
       → HasHighItem (body.PostInner (front ++ last ∷ [])) last.bound
 
--- The leaves of a tree, where `On p k` says that k stands on leaf p, and `Up p k` that k may, by the
--- leaf's high key. Right links lead from leaf to leaf; one leaf stands before each but the first. The
+-- The leaves of a tree, where `On p k` says that k is on leaf p, and `Up p k` that k may, by the
+-- leaf's high key. Right links lead from leaf to leaf; one leaf is before each but the first. The
 -- first has just what is up to its high key, and each other what is above that of the leaf before and
 -- up to its own.
 pub record LeavesInOrder {K : Type 0} (P : Pages) (IsLeaf : ℕ → Type 0)
@@ -113,7 +113,7 @@ pub record LeavesInOrder {K : Type 0} (P : Pages) (IsLeaf : ℕ → Type 0)
   pub on_next : (p x : ℕ) (k : K) → IsLeaf p → (P p).right ≢ 0 → IsLeaf x → On x k
       → (x ≡ (P p).right) ↔ ((Up p k → ⊥) × Up (P p).right k)
 
--- a leaf of the entry tree; the key stands on it; it is up to the high key
+-- a leaf of the entry tree; the key is on it; it is up to the high key
 abbrev pub IsEntryLeaf : Pages → ℕ → Type 0
 IsEntryLeaf P p = (high : Key) × (es : List Entry) × ((P p).body ≡ body.EntryLeaf high es)
 
@@ -124,7 +124,7 @@ abbrev pub UpEntryLeaf : Pages → ℕ → Key → Type 0
 UpEntryLeaf P p k =
     (high : Key) × (es : List Entry) × ((P p).body ≡ body.EntryLeaf high es) × UpTo k high
 
--- a leaf of the posting tree of this root; the item stands on it; it is up to the high item
+-- a leaf of the posting tree of this root; the item is on it; it is up to the high item
 abbrev pub IsPostLeaf : Pages → ℕ → ℕ → Type 0
 IsPostLeaf P root p =
     Below P root p

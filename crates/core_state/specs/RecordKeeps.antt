@@ -9,8 +9,8 @@ use Rattle.page_types.specs.declared.record.Kind.TheVariants as kind
 use Rattle.core_state.specs.Log.{Log, Pages, In, Shows, changed}
 use Rattle.core_state.specs.Documents.{Doc, Has, placed, page_of, head_of}
 use Rattle.core_state.specs.Index.{IsLinked, Main, Below}
-use Rattle.core_state.specs.TreeRows.{IsRoot}
-use Rattle.core_state.specs.VacuumRows.{IsRemoveItems}
+use Rattle.core_state.specs.TreeRules.{IsRoot}
+use Rattle.core_state.specs.VacuumRules.{IsRemoveItems}
 use Rattle.core_state.specs.Legal.{IsLegal}
 
 -- the row is of a document that has its slot, and that transaction x placed
@@ -82,7 +82,7 @@ pub record RecordKeeps (R : Log) (P Q : Pages) (r : Record) : Type 0 where
   pub dropping : (item serial : ℕ) → r.kind ≡ kind.DropPage item serial → DroppingKeeps P Q item
   pub freeing : r.kind ≡ kind.FreeSlots → FreeingKeeps P Q r
 
--- it holds of each record behind a log that isn't empty, where the log with it is legal
+-- it holds of each record after a log that isn't empty, where the log with it is legal
 abbrev pub RecordsKeep : Type 0
 RecordsKeep =
     (R : Log) (r : Record) (P Q : Pages) → R ≢ [] → IsLegal (r ∷ R) → Shows R P → Shows (r ∷ R) Q

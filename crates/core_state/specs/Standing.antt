@@ -1,4 +1,4 @@
--- Where the documents of a legal log stand, and what their heads tell of it.
+-- Where the documents of a legal log are, and what their heads say of it.
 use Rattle.std.specs.Prelude.{◌≡◌, ◌≢◌, ◌⊎◌, ◌↔◌, ℕ, ◌≤◌, ◌∷◌, ◌++◌, length, take, Some}
 use Rattle.ts_base.specs.Vectors.{Vector}
 use Rattle.page_types.specs.declared.page.Head.{Head}
@@ -34,14 +34,14 @@ pub record AreThere (R : Log) (P : Pages) (floor : ℕ) : Type 0 where
   pub whole : (d : Doc) → IsThere R floor d → (v : Vector) × HasVector P d v
   pub apart : (d e : Doc) → IsThere R floor d → IsThere R floor e → d.item ≡ e.item → d ≡ e
 
--- each document that is there after n first commits stands in the pages, where n is this floor or
+-- each document that is there after n first commits is in the pages, where n is this floor or
 -- more
 abbrev pub HistoryStands : Log → Pages → ℕ → Type 0
 HistoryStands R P floor =
     (H : History) (n : ℕ) (D : Document) → IsHistory R H → floor ≤ n → In D (docs (take n H))
     → IsStored P D
 
--- each document of the pin's snapshot stands in the pages of every length from the pin's on
+-- each document of the pin's snapshot is in the pages of every length from the pin's on
 abbrev pub SnapshotStays : Log → Pin → Type 0
 SnapshotStays R pin =
     (H : History) (D : Document) (at : ℕ) (P : Pages) → IsHistory R H
@@ -62,9 +62,9 @@ IsInSnapshot H n name = (D : Document) × In D (docs (take n H)) × (D.name ≡ 
 
 -- They do by all commits of the log, and by those of each pin that it keeps. A head names the
 -- transaction that placed its document, and 0 or one that marked it deleted; who else marked it has
--- aborted. So the head tells whether its document is dead, by any floor. What a running transaction
--- placed isn't dead. The documents of the history stand in the pages with their vectors, and those of
--- a pin's snapshot stand there at each length past it. A head tells whether a snapshot has its
+-- aborted. So the head says whether its document is dead, by any floor. What a running transaction
+-- placed isn't dead. The documents of the history are in the pages with their vectors, and those of
+-- a pin's snapshot are there at each length past it. A head says whether a snapshot has its
 -- document.
 pub record DocumentsStand (R : Log) (P : Pages) : Type 0 where
   pub there : AreThere R P (commits R)

@@ -2,7 +2,7 @@
 use Rattle.std.specs.Prelude.{◌≡◌, ◌≢◌, ◌↔◌, ◌<◌, ℕ, zero, suc, ◌-◌, ◌^◌, ◌&&◌, ◌==◌, not, nat_lt, cond, if◌then◌else◌, max, min, ◌+◌, List, [], ◌∷◌, ◌++◌, length, get_or, set, map, replicate, Option, Some, None}
 use Rattle.std.specs.List.{filter}
 use Rattle.page_types.specs.Numbers.{page_limit}
-use Rattle.page_types.specs.Spelling.{body_bytes}
+use Rattle.page_types.specs.Encoding.{body_bytes}
 use Rattle.page_types.specs.Edits.{used_in}
 use Rattle.page_types.specs.Keys.{Rising}
 use Rattle.page_types.specs.declared.page.Name.{Name}
@@ -311,7 +311,7 @@ done_by R x = record {
 abbrev pub RiseBySerial : List Name → Type 0
 RiseBySerial ns = Rising (λ (m n : Name). m.serial < n.serial) ns
 
--- what the state of a log tells of it
+-- what the state of a log says of it
 pub record StateTells (R : Log) (s : StateValue) : Type 0 where
   pub records : s.records ≡ length R
   pub fates : (x : ℕ) → fate_of s x ≡ fate R x
@@ -330,7 +330,7 @@ pub record StateTells (R : Log) (s : StateValue) : Type 0 where
   pub uses : (P : Pages) → Shows R P → (p : ℕ) → use_of s p ≡ use_in P p
   pub sizes : (P : Pages) → Shows R P → (p : ℕ) → size_of s p ≡ length (body_bytes (P p).body)
 
--- the state of a legal log tells of it
+-- the state of a legal log says of it
 abbrev pub StateFollows : Type 0
 StateFollows =
     (pages xid_limit : ℕ) (R : Log) → IsLegal R → StateTells R (state_of pages xid_limit R)

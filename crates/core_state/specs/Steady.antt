@@ -15,7 +15,7 @@ use Rattle.core_state.specs.Log.{Log, Pages, In, Shows, changed, commits, fate}
 use Rattle.core_state.specs.Documents.{Doc, IsChain, Has, IsWhole, HasVector, IsDead, placed}
 use Rattle.core_state.specs.History.{Document, IsStored}
 use Rattle.core_state.specs.Index.{Line, HasRow, IsLinked, Main, IsIndexed, Below}
-use Rattle.core_state.specs.TreeRows.{IsRoot}
+use Rattle.core_state.specs.TreeRules.{IsRoot}
 use Rattle.core_state.specs.Legal.{IsLegal, Pin, Keeps}
 use Rattle.core_state.specs.Readings.{Read, AreReads}
 use Rattle.core_state.specs.declared.answers.Fate.TheVariants.{Running, Aborted, Committed}
@@ -82,7 +82,7 @@ pub record IndexStays (R R' : Log) (P P' : Pages) : Type 0 where
 abbrev pub FreeIsUntouched : Log → Pages → Type 0
 FreeIsUntouched R P = (p : ℕ) → P p ≡ free_page → (r : Record) → In r R → In p (changed r) → ⊥
 
--- a document that stands in the pages P, and isn't dead in the later log by this floor, stands in its
+-- a document that is in the pages P, and isn't dead in the later log by this floor, is in its
 -- pages P', in the same slot and with the same content
 abbrev pub LiveStay : Log → Pages → Pages → ℕ → Type 0
 LiveStay R' P P' floor =

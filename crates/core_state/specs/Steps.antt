@@ -1,5 +1,5 @@
 -- What a session shows before it logs a step on documents: facts of the log that it has seen, with
--- the pages P of that log, and the pages that it holds. Such a step is valid behind each log that
+-- the pages P of that log, and the pages that it holds. Such a step is valid after each log that
 -- is allowed to the session.
 use Rattle.std.specs.Prelude.{◌≡◌, ◌≢◌, ◌⊎◌, ℕ, ◌<◌, ◌≤◌, List, [], ◌∷◌, ◌++◌, length, Option, Some, None, IfSome}
 use Rattle.ts_base.specs.Vectors.{Vector}
@@ -14,7 +14,7 @@ use Rattle.core_state.specs.Log.{Log, Pages, In, Shows, next_xid, fate}
 use Rattle.core_state.specs.Documents.{Doc, IsChain, HasVector, placed, marked, page_of, slot_of, parts}
 use Rattle.core_state.specs.Known.{use_in}
 use Rattle.core_state.specs.Changes.{PutsSlot}
-use Rattle.core_state.specs.HeapRows.{IsNewHead}
+use Rattle.core_state.specs.HeapRules.{IsNewHead}
 use Rattle.core_state.specs.Legal.{IsLegal, Pin, Keeps}
 use Rattle.core_state.specs.Standing.{IsThere}
 use Rattle.core_state.specs.Steady.{RunsOn, IndexStays}
@@ -58,7 +58,7 @@ pub record CanBegin (v : View) (P : Pages) (s : Step) : Type 0 where
   pub after_is : s.after ≡ []
 
 -- An own transaction is committed: each document that it placed is whole. The number is drawn when
--- it is logged, whatever stands here.
+-- it is logged, whatever is here.
 pub record CanCommit (v : View) (P : Pages) (s : Step) : Type 0 where
   pub number : ℕ
   pub kind_is : s.kind ≡ kind.Commit number
@@ -73,7 +73,7 @@ pub record CanAbort (v : View) (P : Pages) (s : Step) : Type 0 where
   pub own : RunsOwn v s.xid
 
 -- A head is put into a free slot, or the next, of a heap page or of a new page. Its serial is drawn
--- when it is logged, whatever stands here.
+-- when it is logged, whatever is here.
 pub record CanPlace (v : View) (P : Pages) (s : Step) : Type 0 where
   pub item : ℕ
   pub serial : ℕ

@@ -1,4 +1,4 @@
-// What the state of a log tells to those who change pages: which page is free to take, how far
+// What the state of a log says to those who change pages: which page is free to take, how far
 // pages go, and what a running transaction has done.
 ghost use Rattle.std.specs.Prelude.{◌≡◌, ◌≤◌, option_copied};
 ghost use Rattle.core_state.specs.Log.{In};

@@ -7,13 +7,13 @@ ghost use Rattle.core_state.specs.Steady.{SteadyHold};
 ghost use Rattle.core_state.specs.PagesTold.{PagesHold};
 ghost use Rattle.core_state.specs.RecordKeeps.{RecordsKeep};
 
-/// The keys that stand on pages are those of vectors.
+/// The keys that are on pages are those of vectors.
 pub fn keys_are_one()
     ensures { KeysAreOne }
 {}
 
 /// A log shows one page at each number; a page that a record doesn't name is the same after it; and
-/// a page of a step that has a spelling has one as the record makes it.
+/// a page of a step that has an encoding has one as the record makes it.
 pub fn pages_are_shown()
     ensures one { ShownAreOne }
     ensures others { OthersStay }
@@ -38,7 +38,7 @@ pub fn history_is_one()
     ensures legal { LegalHasHistory }
 {}
 
-/// The state of a legal log tells of it: the fates, the next numbers, the commits with their names,
+/// The state of a legal log says of it: the fates, the next numbers, the commits with their names,
 /// and the use of each page.
 pub fn state_follows()
     ensures { StateFollows }
@@ -64,8 +64,8 @@ pub fn documents_hold()
     ensures { DocumentsHold }
 {}
 
-/// What the pages of a legal log tell of each other: the metapage of the pending list, whose rows stand
-/// together and are of indexed documents; which kind stands where, so that none is free, deleted or
+/// What the pages of a legal log say of each other: the metapage of the pending list, whose rows are
+/// together and are of indexed documents; which kind is where, so that none is free, deleted or
 /// another's; the bounds of trees, whose leaves are in order; and that a page's stamp is the number of
 /// the last record that changed it.
 pub fn pages_hold()

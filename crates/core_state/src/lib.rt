@@ -3,7 +3,7 @@
 //! part that it has seen.
 //!
 //! A log is a list of records, the newest first. `specs/` has the definitions, on which every proof
-//! of the store stands; the functions of `laws` hold what follows from them.
+//! of the store is; the functions of `laws` hold what follows from them.
 #![tactic(auto)]
 
 mod answers;

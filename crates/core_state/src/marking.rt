@@ -1,11 +1,11 @@
 // When a record MarkDeleted or PutOverflow may come next, as far as the record, its pages before
-// and after, and the state of the log tell.
+// and after, and the state of the log say.
 ghost use Rattle.std.specs.Prelude.{◌≡◌, ◌≢◌, ◌↔◌, ℕ, true, [], ◌∷◌, Some, IfSome, IfNone, IsOkAnd};
 ghost use Rattle.page_types.specs.Parts.{head_shown, head_with};
 ghost use Rattle.page_types.specs.declared.page.Head.{Head};
 ghost use Rattle.core_state.specs.Log.{changed};
 ghost use Rattle.core_state.specs.Changes.{PutsSlot};
-ghost use Rattle.core_state.specs.HeapRows.{IsMarkDeletedHere, IsPutOverflowHere};
+ghost use Rattle.core_state.specs.HeapRules.{IsMarkDeletedHere, IsPutOverflowHere};
 ghost use Rattle.core_state.specs.States.{known_by, fate_of};
 ghost use Rattle.core_state.specs.Inner.HeadChanges.{HasHead, LeavesInSlot, LeavesPart, MayBeMarked, MayBePut};
 

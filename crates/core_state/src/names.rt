@@ -1,4 +1,4 @@
-// Lists of names that lie one behind the other in one list.
+// Lists of names that lie one after the other in one list.
 ghost use Rattle.std.specs.Prelude.{◌≡◌, ◌-◌, ◌<◌, ◌≤◌, [], ◌∷◌, ◌++◌, length, OnOk, IsOk, Some};
 ghost use Rattle.std.specs.List.{slice_get};
 ghost use Rattle.page_types.specs.Inner.Cuts.{start_at};
@@ -80,7 +80,7 @@ impl NameLists {
         self.names.reserve(names)
     }
 
-    /// One list more, behind the others, for which there is room.
+    /// One list more, after the others, for which there is room.
     pub fn push(&mut self, names: &[Name])
         requires list { 0 < self.old.lists_left }
         requires names { length names.now ≤ self.old.names_left }

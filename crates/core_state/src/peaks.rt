@@ -2,7 +2,7 @@
 ghost use Rattle.std.specs.Prelude.{◌≡◌, ◌≢◌, ℕ, ◌+◌, ◌*◌, ◌/◌, ◌^◌, ◌<◌, ◌≤◌, [], length, drop, replicate, get_or, slice_set, IfSome, IfNone, IfOk, OnOk, IsOk};
 ghost use Rattle.page_types.specs.Numbers.{page_limit};
 ghost use Rattle.core_state.specs.PageChoice.{IsLeastIfAny};
-ghost use Rattle.core_state.specs.Inner.PeakTrees.{ArePeaksBut, IsPeak, IsTree, IsWidth, IsReached, IsFirstAt};
+ghost use Rattle.core_state.specs.Inner.PeakTrees.{ArePeaksBut, IsPeak, IsPeakTree, IsWidth, IsReached, IsFirstAt};
 
 use std::alloc::{AllocError, Global};
 use std::marker::Model;
@@ -18,13 +18,13 @@ pub(crate) struct Peaks {
 
 impl Model for Peaks {
     ghost use Rattle.std.specs.Prelude.{List, ℕ, drop};
-    ghost use Rattle.core_state.specs.Inner.PeakTrees.{IsTree, IsWidth};
+    ghost use Rattle.core_state.specs.Inner.PeakTrees.{IsPeakTree, IsWidth};
 
     ghost Value = { List ℕ };
 
     ghost view = { λ p. drop p.width p.tree.items };
 
-    ghost invariant = { λ p. IsWidth p.width × IsTree p.width p.tree.items };
+    ghost invariant = { λ p. IsWidth p.width × IsPeakTree p.width p.tree.items };
 }
 
 /// A node of the tree, with so many places below it, of which the first is the node `start`.
@@ -40,7 +40,7 @@ fn settle(tree: &mut [u64], width: usize, leaf: usize)
     requires size { length tree.old ≡ 2 * width }
     requires leaf { leaf < 2 * width }
     requires peaks { ArePeaksBut (leaf / 2) width tree.old }
-    ensures tree { IsTree width tree.new }
+    ensures tree { IsPeakTree width tree.new }
     ensures row { drop width tree.new ≡ drop width tree.old }
 {
     let mut at = leaf / 2;
@@ -53,7 +53,7 @@ fn settle(tree: &mut [u64], width: usize, leaf: usize)
 // The first node on the way from this place on that isn't below the bound.
 fn climb(tree: &[u64], width: usize, from: usize, bound: u64) -> Option<Node>
     requires width { IsWidth width }
-    requires tree { IsTree width tree.now }
+    requires tree { IsPeakTree width tree.now }
     requires from { from < width }
     ensures some { IfSome result (λ n. IsReached width from bound tree.now n.at n.span n.start
         × (bound ≤ get_or tree.now n.at 0)) }
@@ -80,7 +80,7 @@ fn climb(tree: &[u64], width: usize, from: usize, bound: u64) -> Option<Node>
 // The first place below this node that isn't below the bound.
 fn descend(tree: &[u64], width: usize, from: usize, bound: u64, node: Node) -> usize
     requires width { IsWidth width }
-    requires tree { IsTree width tree.now }
+    requires tree { IsPeakTree width tree.now }
     requires node { IsReached width from bound tree.now node.at node.span node.start }
     requires here { bound ≤ get_or tree.now node.at 0 }
     ensures { IsFirstAt width from bound tree.now result }

@@ -1,10 +1,10 @@
 // When a record PlaceHead may come next, as far as the record, its heap page before and after, and
-// the state of the log tell.
+// the state of the log say.
 ghost use Rattle.std.specs.Prelude.{◌≡◌, ◌≢◌, ◌↔◌, ℕ, true, IsOkAnd};
 ghost use Rattle.std.specs.Option.{option_map};
 ghost use Rattle.page_types.specs.Parts.{head_shown};
 ghost use Rattle.page_types.specs.Views.{slot_at};
-ghost use Rattle.core_state.specs.HeapRows.{IsNewHead, IsPlaceHeadHere};
+ghost use Rattle.core_state.specs.HeapRules.{IsNewHead, IsPlaceHeadHere};
 ghost use Rattle.core_state.specs.States.{known_by, use_of};
 ghost use Rattle.core_state.specs.Inner.Placing.{PlacesHead, LeavesHead};
 

@@ -111,7 +111,7 @@ impl RunningOnes {
         self.begun.reserve(1)
     }
 
-    // One more begins, behind all that have begun, and there is room for it.
+    // One more begins, after all that have begun, and there is room for it.
     pub(crate) fn begin(&mut self, alloc: Global, xid: u32)
         requires room { 0 < self.old.left }
         requires next { self.old.end ≤ xid }

@@ -40,7 +40,7 @@ impl Names {
         self.inner.as_slice()
     }
 
-    // One name more, behind the others. Without room for it they move to the spare list, which has
+    // One name more, after the others. Without room for it they move to the spare list, which has
     // room.
     pub(crate) fn add(&mut self, name: Name, spare: &mut Vec<Name>)
         requires { length self.old < vec_capacity spare.old }

@@ -1,11 +1,11 @@
 // When a record may come next, as far as the record, its pages before and after, and the state of
-// the log tell.
+// the log say.
 ghost use Rattle.std.specs.Prelude.{◌≡◌, ◌↔◌, true, [], IsOkAnd};
 ghost use Rattle.page_types.specs.declared.page.Body.TheVariants as body;
 ghost use Rattle.core_state.specs.Log.{changed, xid_bound};
 ghost use Rattle.core_state.specs.Changes.{made_with};
 ghost use Rattle.core_state.specs.States.{known_by};
-ghost use Rattle.core_state.specs.TransactionRows.{IsCreateHere, IsBeginHere, IsCommitHere, IsAbortHere};
+ghost use Rattle.core_state.specs.TransactionRules.{IsCreateHere, IsBeginHere, IsCommitHere, IsAbortHere};
 
 use crate::answers::Fate;
 use crate::state::State;

@@ -8,7 +8,7 @@ use Rattle.disk_trait.specs.declared.device.File.{File}
 use Rattle.disk_file.specs.Folder.{HasPut}
 use borrow.Rule.Slice.PartMut.{put_mid, post_of}
 
--- what was read, with a part behind it
+-- what was read, with a part after it
 pub read_more : (got n k : ℕ) (buf part rest : List ℕ) → got ≤ length buf → n ≤ length part
     → take got buf ≡ take got rest → take n part ≡ take n (drop got rest)
     → take (got + n) (put_mid got k buf part) ≡ take (got + n) rest

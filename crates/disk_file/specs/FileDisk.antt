@@ -17,11 +17,11 @@ module _ {F H : Type 0} {host : HostFolder F H} where
   abbrev pub HasNoneOpen : FileDisk F H host → Type 0
   HasNoneOpen d = (d.opened.log ≡ None) × (d.opened.pages ≡ None)
 
-  -- a count stands at its last number
+  -- a count is at its last number
   abbrev pub IsAtLast : FileDisk F H host → Type 0
   IsAtLast d = (faults_of d ≡ last_count) ⊎ (write_faults_of d ≡ last_count)
 
-  -- The call failed, and nothing of the folder was called, where a count stood at its last number.
+  -- The call failed, and nothing of the folder was called, where a count was at its last number.
   abbrev pub FailsAtLast : {T E : Type 0} → FileDisk F H host → FileDisk F H host → Result T E
       → Type 0
   FailsAtLast old new result = IsAtLast old → IsErr result × (new.opened ≡ old.opened)

@@ -1,4 +1,4 @@
--- The state of a folder of which nothing is told.
+-- The state of a folder of which nothing is said.
 use Rattle.std.specs.Prelude.{⊤, [], true}
 use Rattle.disk_file.specs.Folder.{FolderState}
 

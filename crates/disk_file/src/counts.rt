@@ -22,7 +22,7 @@ impl Counts {
         }
     }
 
-    /// Whether a count stands at its last number, so that no more faults could be counted.
+    /// Whether a count is at its last number, so that no more faults could be counted.
     pub fn is_last(&self) -> bool
         ensures below { result ≡ false → (self.now.faults < last_count) × (self.now.writes < last_count) }
         ensures last { result ≡ true → (self.now.faults ≡ last_count) ⊎ (self.now.writes ≡ last_count) }

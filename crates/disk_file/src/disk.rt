@@ -15,7 +15,7 @@ use disk_trait::{Disk, Failed, File};
 /// No call goes past this place.
 const MOST_PLACE: u64 = 1 << 62;
 
-/// The two files of a store in a folder. What it tells of them is what its folder tells.
+/// The two files of a store in a folder. What it says of them is what its folder says.
 ///
 /// The first call on a file opens it for reading and writing, or makes it where it is absent, and locks it for as long
 /// as the device is there; then the folder is synced, so that a file that was made stays after a crash. A file that
@@ -23,7 +23,7 @@ const MOST_PLACE: u64 = 1 << 62;
 /// again.
 ///
 /// `Failed` means that the system refused the call, and each is counted. A call that a signal interrupts is tried
-/// again. A write of no bytes is a fault, and so is a read at a place past 2^62. Where a count stands at its last
+/// again. A write of no bytes is a fault, and so is a read at a place past 2^62. Where a count is at its last
 /// number, each call fails, and the system isn't called.
 #[derive(Drop)]
 pub struct FileDisk<F: HostFolder> {
@@ -100,7 +100,7 @@ impl<F: HostFolder> Disk for FileDisk<F> {
         }
     }
 
-    /// Of a write that failed, some bytes may stand in the file.
+    /// Of a write that failed, some bytes may be in the file.
     fn write_at(&mut self, file: File, at: u64, bytes: &[u8]) -> Result<(), Failed>
         requires { at + length bytes.now ≤ file_limit }
         ensures written { F.tells → OnOk result (FileWritten file at bytes.now

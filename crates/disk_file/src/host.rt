@@ -13,13 +13,13 @@ use std::io::{self, ErrorKind};
 /// A folder with the two files of a store. A file that is not there counts as an empty one.
 ///
 /// It says what one call of a system does: a read may be short, a write too, and either may be
-/// interrupted by a signal, which has then done nothing that a read shows. What is told of a file
-/// is told by a handle that has its lock.
+/// interrupted by a signal, which has then done nothing that a read shows. What is said of a file
+/// is said by a handle that has its lock.
 pub trait HostFolder: Drop {
     /// A file that was opened. It is closed where the handle is dropped, and its lock given back.
     type Handle: Drop;
 
-    /// Whether what the files hold is told.
+    /// Whether what the files hold is said.
     ghost tells: { Type 0 };
 
     /// The files, and what a crash may leave of them.

@@ -1,4 +1,4 @@
-// A folder in memory, which tells all.
+// A folder in memory, which says all.
 ghost use Rattle.std.specs.Prelude.{◌≡◌, ◌<◌};
 
 use crate::host::HostFolder;

@@ -9,7 +9,7 @@ use std::os::unix::fs::FileExt;
 use std::rt::Files;
 use std::{fs, io};
 
-/// The working directory, with the files `ginsh.log` and `ginsh.data`. Nothing is told of what they hold: each method
+/// The working directory, with the files `ginsh.log` and `ginsh.data`. Nothing is said of what they hold: each method
 /// is a call of the system and its answer.
 #[derive(Drop)]
 pub struct SystemFolder<'a, R> {

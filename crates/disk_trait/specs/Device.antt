@@ -8,12 +8,12 @@ use Rattle.disk_trait.specs.declared.device.File.{File}
 abbrev pub last_count : ℕ
 last_count = 2 ^ 64 - 1
 
--- a count that went from one number to another has risen: it is one more, or it stands at the last
+-- a count that went from one number to another has risen: it is one more, or it is at the last
 -- number
 abbrev pub Rose : ℕ → ℕ → Type 0
 Rose before now = min (before + 1) last_count ≤ now
 
--- `Failed` is answered only where the count rose, and always where it stands at the last number
+-- `Failed` is answered only where the count rose, and always where it is at the last number
 pub record HasCause {T E : Type 0} (before now : ℕ) (result : Result T E) : Type 0 where
   pub later : before ≤ now
   pub failed : OnErr result (Rose before now)

@@ -1,4 +1,4 @@
--- What a run of calls does, by what its device tells.
+-- What a run of calls does, by what its device says.
 use Rattle.std.specs.Prelude.{◌≡◌, ℕ, ◌≤◌, ◌<◌, List, Result, OnOk, OnErr}
 use Rattle.disk_trait.specs.Files.{Files, file_bytes}
 use Rattle.disk_trait.specs.Device.{last_count, FileTorn, FileWritten, Durable, Rose}
@@ -28,7 +28,7 @@ module _ {D : Type 0} (device : Disk D) where
     pub keeps : (m : ℕ) (c : Files) → m ≤ device.clock old → device.image old m c
         → device.image new m c
 
-  -- the write stands in what a read gives and in what a crash leaves
+  -- the write is in what a read gives and in what a crash leaves
   pub record IsWrittenThrough (file : File) (at : ℕ) (bytes : List ℕ) (old new : D) : Type 0 where
     pub written : FileWritten file at bytes (device.seen old) (device.seen new)
     pub durable : Durable file (file_bytes file (device.seen new)) (images_now new)

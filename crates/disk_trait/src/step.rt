@@ -6,7 +6,7 @@ ghost use Rattle.disk_trait.specs.Runs.{images_now, LeavesOnly, TornFrom, IsWrit
 use crate::device::{Disk, Failed, File};
 
 /// Two calls of the device. At each moment of them a crash leaves an earlier image with this range
-/// torn, and after them the bytes stand. The clock never falls, also on a device that tells nothing.
+/// torn, and after them the bytes are. The clock never falls, also on a device that says nothing.
 pub fn write_and_sync<D: Disk>(
     disk: &mut D,
     file: File,

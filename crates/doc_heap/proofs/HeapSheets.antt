@@ -1,10 +1,10 @@
--- Pages with one slot changed: they have a spelling still, and their steps may be logged.
+-- Pages with one slot changed: they have an encoding still, and their steps may be logged.
 use Rattle.std.proofs.Common.{◌≡◌, ℕ, ◌^◌, ◌+◌, ◌<◌, ◌≤◌, List, [], ◌∷◌, length, set, refl, sym, ap, subst, ◌∙◌, inl, inr, arith}
 use Rattle.std.specs.Prelude.{Option, Some, None, IsSome}
 use Rattle.std.specs.List.{AllByRecursion}
 use Rattle.std.proofs.lemmas.List.{length-set}
 use Rattle.page_types.specs.Numbers.{page_limit, most_slots, most_body}
-use Rattle.page_types.specs.Spelling.{slot_bytes, body_bytes, count_of}
+use Rattle.page_types.specs.Encoding.{slot_bytes, body_bytes, count_of}
 use Rattle.page_types.specs.Pages.{IsPage, IsBody, IsSlot, IsHead}
 use Rattle.page_types.specs.Views.{slots_in, slots_of, slot_at}
 use Rattle.page_types.specs.declared.page.Page.{Page}
@@ -21,7 +21,7 @@ use Rattle.page_types.proofs.BodySizes.{length-slot_bytes}
 use Rattle.doc_heap.proofs.SlotLists.{puts_set, put_one, put_are, used_within, slot_is, has_head, lowest_one}
 use Rattle.doc_heap.proofs.SlotSizes.{bytes_of, size_set, size_put, slot_fits}
 
--- what is said of the slots of a page that has a spelling
+-- what is said of the slots of a page that has an encoding
 record HasSlots (slots : List (Option Head)) : Type 0 where
   few : length slots ≤ most_slots
   all : AllByRecursion IsSlot slots
@@ -37,7 +37,7 @@ right_fits : (right : ℕ) (b : Body) → right < page_limit → right_on_heap r
 right_fits right (body.Heap slots) lt = lt
 right_fits right _ lt = omega arith
 
--- a page with a head placed on it has a spelling
+-- a page with a head placed on it has an encoding
 pub placed_page : (old : Page) (h : Head) (new : Page) (k : ℕ) → IsPlaced old h new k → IsPage old → IsHead h
     → IsPage new
 placed_page old h new k w page is =
@@ -56,7 +56,7 @@ bytes_held : (b : Body) → length (bytes_of (slots_in b)) ≤ length (body_byte
 bytes_held (body.Heap slots) = omega arith
 bytes_held _ = omega arith
 
--- the body with a head put on the page is never longer than a number of 64 bits tells
+-- the body with a head put on the page is never longer than a number of 64 bits says
 pub put_length : (p : Page) (k : ℕ) (h : Head) (new : List (Option Head)) → length (body_bytes p.body) ≤ most_body
     → length h.vector < 2 ^ 63 → GetsHead p h k new → length (body_bytes (body.Heap new)) < 2 ^ 64
 put_length p k h new fits vector g =
@@ -112,7 +112,7 @@ changes_slot old slots k s was lt = record {
   after = refl;
 }
 
--- a page of which one slot gets no longer has a spelling still
+-- a page of which one slot gets no longer has an encoding still
 changed_page : (old : Page) (slots : List (Option Head)) (k : ℕ) (s : Option Head) → old.body ≡ body.Heap slots
     → k < length slots → length (slot_bytes s) ≤ length (slot_bytes (slot_at slots k)) → IsPage old → IsSlot s
     → IsPage (record old { body = body.Heap (set slots k s) })

@@ -50,7 +50,7 @@ slot_before [] s (suc j) off = refl
 slot_before (a ∷ slots) s zero off = refl
 slot_before (a ∷ slots) s (suc j) off = slot_before slots s j (λ e. off (ap suc e))
 
--- a slot behind the others
+-- a slot after the others
 pub puts_last : (slots : List (Option Head)) (k : ℕ) (s : Option Head) → k ≡ length slots
     → PutsSlot slots k s (slots ++ s ∷ [])
 puts_last slots k s e = record {
@@ -106,7 +106,7 @@ are_slots : (slots : List (Option Head)) → ((j : ℕ) → IsSlot (slot_at slot
 are_slots [] each = tt
 are_slots (a ∷ slots) each = (each zero, are_slots slots (λ j. each (suc j)))
 
--- where one slot is put that has a spelling, all have one still
+-- where one slot is put that has an encoding, all have one still
 pub put_are : (slots : List (Option Head)) (k : ℕ) (s : Option Head) (new : List (Option Head))
     → PutsSlot slots k s new → AllByRecursion IsSlot slots → IsSlot s → AllByRecursion IsSlot new
 put_are slots k s new p all is = are_slots new each

@@ -4,7 +4,7 @@ use Rattle.std.specs.Prelude.{Option, Some, None}
 use Rattle.std.specs.List.{flat_map}
 use Rattle.std.proofs.lemmas.List.Concat.{flat_map-append}
 use Rattle.page_types.specs.Numbers.{most_slots, most_body}
-use Rattle.page_types.specs.Spelling.{slot_bytes}
+use Rattle.page_types.specs.Encoding.{slot_bytes}
 use Rattle.page_types.specs.Views.{slot_at}
 use Rattle.page_types.specs.declared.page.Head.{Head}
 use Rattle.page_types.proofs.BodySizes.{length-slot_bytes}
@@ -32,7 +32,7 @@ size_set (a ∷ slots) zero s lt = omega (arith, size_more a slots, size_more s 
 size_set (a ∷ slots) (suc k) s lt =
     omega (arith, size_more a (set slots k s), size_more a slots, size_set slots k s (omega arith))
 
--- a slot behind the others
+-- a slot after the others
 pub size_last : (slots : List (Option Head)) (s : Option Head)
     → length (bytes_of (slots ++ s ∷ [])) ≡ length (bytes_of slots) + length (slot_bytes s)
 size_last slots s =
@@ -50,7 +50,7 @@ size_in_free slots k h new lt free p =
     let one : length (slot_bytes (slot_at slots k)) ≡ 1 = ap (λ s. length (slot_bytes s)) free in
     omega (arith, same, one, size_set slots k (Some h) lt, length-slot_bytes h)
 
--- a head behind the slots of the list
+-- a head after the slots of the list
 pub size_in_next : (slots : List (Option Head)) (k : ℕ) (h : Head) (new : List (Option Head))
     → k ≡ length slots → PutsSlot slots k (Some h) new
     → length (bytes_of new) ≡ length (bytes_of slots) + (29 + length h.vector)

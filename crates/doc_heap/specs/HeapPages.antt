@@ -1,7 +1,7 @@
 -- The slots of a heap page, and what a change of one of them leaves.
 use Rattle.std.specs.Prelude.{◌≡◌, ◌≢◌, ◌⊎◌, ℕ, ◌<◌, ◌≤◌, List, length, Option, Some, None}
 use Rattle.page_types.specs.Numbers.{most_slots, most_body}
-use Rattle.page_types.specs.Spelling.{body_bytes}
+use Rattle.page_types.specs.Encoding.{body_bytes}
 use Rattle.page_types.specs.Views.{slots_of, slot_at}
 use Rattle.page_types.specs.declared.page.Page.{Page}
 use Rattle.page_types.specs.declared.page.Head.{Head}

@@ -6,7 +6,7 @@ use Rattle.page_types.specs.declared.page.Body.TheVariants as body
 use Rattle.page_types.specs.declared.record.Kind.TheVariants as kind
 use Rattle.core_state.specs.Log.{Pages, In, fate}
 use Rattle.core_state.specs.Documents.{Doc, page_of, slot_of, item_at}
-use Rattle.core_state.specs.HeapRows.{IsNewHead}
+use Rattle.core_state.specs.HeapRules.{IsNewHead}
 use Rattle.core_state.specs.Allowed.{View, Step}
 use Rattle.core_state.specs.Steps.{RunsOwn, IsNewSheet, CanPlace, CanMark, sheet}
 use Rattle.core_state.specs.declared.answers.Fate.TheVariants.{Aborted, Committed}

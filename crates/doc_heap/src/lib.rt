@@ -7,9 +7,9 @@
 mod changing;
 mod laws;
 mod placing;
-mod reading;
+mod heads;
 
 pub use changing::{free, mark};
 pub use laws::pages_may_be_logged;
 pub use placing::place;
-pub use reading::head;
+pub use heads::head;

@@ -2,7 +2,7 @@
 ghost use Rattle.std.specs.Prelude.{◌≡◌, ◌↔◌, ◌^◌, ◌≤◌, ◌<◌, length, IfOk, OnOk, IfSome, Some, None};
 ghost use Rattle.page_types.specs.declared.page.Body.TheVariants as body;
 ghost use Rattle.page_types.specs.Numbers.{most_body};
-ghost use Rattle.page_types.specs.Spelling.{body_bytes};
+ghost use Rattle.page_types.specs.Encoding.{body_bytes};
 ghost use Rattle.page_types.specs.Pages.{IsPage, IsHead};
 ghost use Rattle.page_types.specs.Parts.{head_shown};
 ghost use Rattle.page_types.specs.Views.{slots_of};
@@ -52,7 +52,7 @@ fn copied_slots(alloc: Global, page: &Page) -> Result<Slots, AllocError>
     }
 }
 
-/// Puts a head into this slot, or behind all slots.
+/// Puts a head into this slot, or after all slots.
 fn put(slots: &mut Slots, k: usize, head: HeadRef<'_>) -> Result<(), AllocError>
     requires { k ≤ length slots.old }
     ensures { OnOk result (PutsSlot slots.old k (Some (head_shown head.entry)) slots.new) }

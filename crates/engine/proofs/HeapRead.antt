@@ -6,7 +6,7 @@ use Rattle.std.specs.List.{AllByRecursion, flat_map, slice_get}
 use Rattle.std.proofs.lemmas.List.Elements.{All-nil, All-push, All-weaker}
 use Rattle.std.proofs.lemmas.List.Sums.{sum_by_push}
 use Rattle.page_types.specs.Pages.{IsSlot, IsHead}
-use Rattle.page_types.specs.Spelling.{slot_bytes}
+use Rattle.page_types.specs.Encoding.{slot_bytes}
 use Rattle.page_types.specs.Views.{slot_at}
 use Rattle.page_types.specs.declared.page.Head.{Head}
 use Rattle.buffer_frames.proofs.OnePageRoom.{slot_size}
@@ -15,7 +15,7 @@ use Rattle.engine.specs.Inner.Kept.{Kept, kept_in, room_of}
 use Rattle.engine.specs.declared.opening.Documents.{Documents}
 use Rattle.engine.proofs.Held.{rises_push}
 use Rattle.engine.proofs.Pages.{slots_push, bytes_push}
-use Rattle.engine.proofs.Spelled.{kept_more, spelled_push}
+use Rattle.engine.proofs.Encoded.{kept_more, encoded_push}
 
 -- ── slots ──
 pub head_in : (slots : List (Option Head)) (k : ℕ) (h : Head) → AllByRecursion IsSlot slots
@@ -42,7 +42,7 @@ bytes_within (s ∷ slots) (suc n) =
       bytes_within slots n,
     )
 
--- the bytes of a vector that stands in its head
+-- the bytes of a vector that is in its head
 size_of : (h : Head) → IsHead h → h.bytes ≤ 2000 → length h.vector ≡ h.bytes
 size_of h is short = elim is.vector [
   | inl here ↦ here.1
@@ -62,7 +62,7 @@ read_none slots [] next_serial used [] f g u = record {
     fits = sym u;
     heads = refl;
     each = tt;
-    spelled = tt;
+    encoded = tt;
     rises = tt;
     below = All-nil (λ (k : Kept). k.serial < next_serial);
   };
@@ -95,7 +95,7 @@ module _ (slots : List (Option Head)) (next_serial : ℕ) (kept : List Kept)
   size = size_of h is_head read.plain.short
 
   room : room_of x ≡ 29 + h.bytes
-  room = omega (arith, size, ap length read.spells.bytes_of)
+  room = omega (arith, size, ap length read.encodes.bytes_of)
 
   one_more : length (kept ++ x ∷ []) ≡ length kept + 1
   one_more = omega (arith, length-append kept (x ∷ []))
@@ -125,7 +125,7 @@ module _ (slots : List (Option Head)) (next_serial : ℕ) (kept : List Kept)
     fits = bytes;
     heads = omega (arith, one_more, length-append heap (Some h ∷ []), before.documents.heads);
     each = slots_push heap (Some h) before.documents.each is_head;
-    spelled = spelled_push heap h x.vector before.documents.spelled read.spells;
+    encoded = encoded_push heap h x.vector before.documents.encoded read.encodes;
     rises =
         rises_push 0 kept x before.documents.rises (omega (arith, read.serial))
         (All-weaker (λ (k : Kept). k.serial ≤ length kept) (λ (k : Kept). k.serial < x.serial)
@@ -172,7 +172,7 @@ read_next slots next_serial place old new all fits before at more =
     before read (omega (arith, at, more.below)) in
     let kept : kept_in new.heap ≡ kept_in old.heap ++ x ∷ [] =
     ap kept_in more.heap
-    ∙ kept_more old.heap more.head x (read.plain.serial_is ∙ sym read.serial) read.spells in (
+    ∙ kept_more old.heap more.head x (read.plain.serial_is ∙ sym read.serial) read.encodes in (
       subst (λ ks. AreRead slots next_serial ks new.heap new.used) (sym kept)
           (subst (λ hs. AreRead slots next_serial (kept_in old.heap ++ x ∷ []) hs new.used)
           (sym more.heap)

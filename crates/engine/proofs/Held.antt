@@ -11,7 +11,7 @@ use Rattle.ts_base.specs.Vectors.{Vector}
 use Rattle.page_types.specs.declared.page.Name.{Name}
 use Rattle.disk_trait.specs.declared.device.Disk.{Ghosts as Disk}
 use Rattle.engine.specs.Finding.{Document, Commit, History, IsLawful, AreApart, inserted_names, docs, insertion, inserts, deletes, with_document, by_serial, stays, ArePlacedFrom, ArePlaced}
-use Rattle.engine.specs.Found.{Found, record_size, IsFull, IsLogFull, AreXidsSpent, room}
+use Rattle.engine.specs.AtOpening.{AtOpening, record_size, IsFull, IsLogFull, AreXidsSpent, room}
 use Rattle.engine.specs.Inner.Kept.{Kept, document_at, documents_from, SerialsRise, room_of}
 use Rattle.std.specs.Prelude.{Result, Ok, Err}
 use Rattle.engine.specs.Standing.{StandsFor, IsUp, disk_of, fault_of, Rests}
@@ -127,7 +127,7 @@ placed : (k low : ℕ) (ks : List Kept) → SerialsRise low ks → ArePlacedFrom
 placed k low [] h = tt
 placed k low (x ∷ ks) h = (document_at k x, refl, refl, refl, h.0, placed (k + 1) x.serial ks h.1)
 
-module _ {D : Type 0} (device : Disk D) (found : Found) where
+module _ {D : Type 0} (device : Disk D) (found : AtOpening) where
   pub held_lawful : (s : DbValue D) (commits : History) → StandsFor found s commits → IsLawful commits
   held_lawful s commits h = subst IsLawful (sym h.all) (lawful_of h.kept h.rises)
 

@@ -7,7 +7,7 @@ use Rattle.std.proofs.lemmas.List.Sums.{sum_by-cons}
 use Rattle.disk_trait.specs.Files.{Files}
 use Rattle.disk_trait.specs.declared.device.Disk.{Ghosts as Disk}
 use Rattle.ts_base.specs.Vectors.{Vector, Entry, IsNormal, content_size}
-use Rattle.ts_base.specs.Spelling.{IsSpelling, vector_bytes, vector_size, entry_size}
+use Rattle.ts_base.specs.Encoding.{IsEncoding, vector_bytes, vector_size, entry_size}
 use Rattle.page_types.specs.Views.{slots_of}
 use Rattle.page_types.specs.declared.page.Head.{Head}
 use Rattle.page_types.specs.declared.page.Name.{Name}
@@ -23,26 +23,26 @@ use Rattle.buffer_frames.proofs.OnePageFirst.{shown_by}
 use Rattle.buffer_frames.proofs.OnePageRoom.{state_is_of}
 use Rattle.buffer_frames.proofs.OnePageFollows.{insert_follows}
 use Rattle.buffer_frames.proofs.OnePageFiles.{stands_beside_more}
-use Rattle.engine.specs.Found.{room}
+use Rattle.engine.specs.AtOpening.{room}
 use Rattle.engine.specs.Inner.Kept.{documents_from, room_of}
 use Rattle.engine.specs.Inner.Heaps.{new_head, records_of, IsHeapOf}
 use Rattle.engine.specs.Inner.DbValue.{DbValue, IsDbValue}
 use Rattle.engine.specs.Standing.{disk_of, IsUp, IsOpenedTo, OpensToEither}
 use Rattle.engine.specs.Inner.Inside.{next_serial_of, next_xid_of}
 use Rattle.engine.specs.Inner.Puts.{next_document}
-use Rattle.engine.specs.Inner.Drafts.{IsDraftOf}
+use Rattle.engine.specs.Inner.Prepared.{IsPreparedFor}
 use Rattle.engine.specs.declared.records.Insertion.{Insertion}
-use Rattle.engine.specs.declared.db.Draft.{Draft}
+use Rattle.engine.specs.declared.db.Prepared.{Prepared}
 use Rattle.engine.proofs.Held.{inserts_of, length_documents, rooms}
 
--- what a vector's lexemes and positions take is within its spelling
+-- what a vector's lexemes and positions take is within its encoding
 entries_within : (v : Vector) → content_size v ≤ sum_by entry_size v
 entries_within [] = omega arith
 entries_within (e ∷ v) =
     omega (arith, entries_within v, sum_by-cons (λ (e : Entry). length e.lexeme + 2 * length e.positions) e v, sum_by-cons entry_size e v)
 
-pub spelled : (v : Vector) → IsNormal v → length (vector_bytes v) ≡ vector_size v → length (vector_bytes v) ≤ 2000 → IsSpelling (vector_bytes v) v
-spelled v n size short = record { normal = n; small = omega (arith, entries_within v, size, short); bytes_of = refl }
+pub encoded : (v : Vector) → IsNormal v → length (vector_bytes v) ≡ vector_size v → length (vector_bytes v) ≤ 2000 → IsEncoding (vector_bytes v) v
+encoded v n size short = record { normal = n; small = omega (arith, entries_within v, size, short); bytes_of = refl }
 
 -- a log that a state with records stands for has a record
 pub some_log : (pages limit : ℕ) (R : Log) → 0 < (state_of pages limit R).records → R ≡ [] → ⊥
@@ -53,8 +53,8 @@ module _ {D : Type 0} (device : Disk D) where
   by : ℕ → ℕ → ℕ → ℕ → ℕ → List (Option Head) → List Record
   by number xid slot serial commit slots = records_of (record { number = number; xid = xid; slot = slot; serial = serial; commit = commit }) slots
 
-  -- The records of a draft follow each lawful log that the journal stands for.
-  pub follows : (s : DbValue D) (used : ℕ) (v : Vector) (d : Draft) → IsDbValue device s used → IsDraftOf s v d → length (vector_bytes v) ≡ vector_size v → device.tells → IsUp s → (R : Log) (H : History) → Stands device s.journal R → IsLogOf R H
+  -- The records of a prepared follow each lawful log that the journal stands for.
+  pub follows : (s : DbValue D) (used : ℕ) (v : Vector) (d : Prepared) → IsDbValue device s used → IsPreparedFor s v d → length (vector_bytes v) ≡ vector_size v → device.tells → IsUp s → (R : Log) (H : History) → Stands device s.journal R → IsLogOf R H
       → IsLogOf (logged s.journal.owes d.records R) (H ++ insertion (next_document s v) ∷ [])
   unfolding by
   follows s used v d k f size t up R H st l =
@@ -70,7 +70,7 @@ module _ {D : Type 0} (device : Disk D) where
       let room_left : sum_by room_of s.documents + room v ≤ 8168 = elim (cases_lt 8168 (sum_by room_of s.documents + room v)) [ inl lt ↦ absurd (f.fits (inr lt)) | inr le ↦ le ] in
       let taken : sum_by head_room (inserts H) ≡ sum_by room_of s.documents = ap (sum_by head_room) (ap inserts heap.documents ∙ inserts_of (documents_from 0 s.documents)) ∙ rooms 0 s.documents in
       let serial : next_serial_of s ≡ place + 1 = omega (arith, is.next_serial_is, count) in
-      let head : IsHeadOf place v h = record { serial = serial; deleted_by = refl; overflow = refl; private = refl; short = short; size = refl; spells = spelled v f.normal size short } in
+      let head : IsHeadOf place v h = record { serial = serial; deleted_by = refl; overflow = refl; private = refl; short = short; size = refl; encodes = encoded v f.normal size short } in
       let draws : Draws s.journal.state s.journal.owes d.insertion.number d.insertion.xid = record { number_is = f.number; number_fits = omega (arith, f.bound); xid_is = f.xid; xid_fits = omega (arith, f.xid, f.some_xid) } in
       let some : R ≡ [] → ⊥ = some_log s.journal.state.pages s.journal.state.xid_limit R (subst (λ (x : StateValue). 0 < x.records) st.state k.made) in
       let r = insert_follows s.journal.owes R H P s.journal.state d.insertion.number d.insertion.xid place v h l some shown.1 is draws count head (sym f.xid) (omega (arith, taken, room_left)) in
@@ -87,7 +87,7 @@ module _ {D : Type 0} (device : Disk D) where
       ap (λ n. insertion (let x : Document = record { name = (let m : Name = record { page = heap_page; slot = place; serial = n } in m); vector = v } in x)) serial in
       subst (λ c. IsLogOf (logged s.journal.owes d.records R) (H ++ c ∷ [])) (sym named) (subst (λ rs. IsLogOf (logged s.journal.owes rs R) (H ++ insertion (let x : Document = record { name = name_of place; vector = v } in x) ∷ [])) (sym same) r.0)
 
-  -- a log behind another has the part of it that counted
+  -- a log after another has the part of it that counted
   behind : (owes : Bool) (records : List Record) (waits counted R : Log) → R ≡ waits ++ counted → (more : Log) × (logged owes records R ≡ more ++ counted)
   behind true records waits counted R e = ((reverse records ++ owed_abort (1 + length R) ∷ []) ++ waits, ap (λ z. reverse records ++ owed_abort (1 + length R) ∷ z) e ∙ simp append_assoc)
   behind false records waits counted R e = (reverse records ++ waits, ap (λ z. reverse records ++ z) e ∙ simp append_assoc)

@@ -11,7 +11,7 @@ use Rattle.disk_trait.specs.Device.{Rose}
 use Rattle.buffer_frames.specs.Logging.{IsSameJournal}
 use Rattle.buffer_frames.specs.declared.log_error.LogError.{LogError}
 use Rattle.buffer_frames.specs.declared.log_error.LogError.TheVariants.{DiskFault, LogFull, Down, OutOfMemory}
-use Rattle.engine.specs.Found.{record_size}
+use Rattle.engine.specs.AtOpening.{record_size}
 use Rattle.engine.specs.Inner.Kept.{Kept, room_of}
 use Rattle.engine.specs.Inner.Heaps.{IsHeapOf}
 use Rattle.engine.specs.Inner.DbValue.{DbValue, IsDbValue}
@@ -73,7 +73,7 @@ still_at_ok {T} r x n old new is h = let k : (let z : Result T LogError = Ok x i
 pub full_left : {T : Type 0} (r : Result T LogError) (x : T) (limit len : ℕ) → r ≡ Ok x → LogFullWhere limit len r → len ≤ limit
 full_left {T} r x limit len is h = let k : (let z : Result T LogError = Ok x in LogFullWhere limit len z) = subst (LogFullWhere limit len) is h in k
 
--- where the next gate stands behind what waited
+-- where the next commit byte is after what waited
 pub end_some : (end : ℕ) (w : List ℕ) → 0 < length w → end_with end w ≡ end + 5 + length w
 end_some end [] h = absurd (omega arith)
 end_some end (x ∷ xs) h = refl
@@ -88,7 +88,7 @@ module _ {D : Type 0} (device : Disk D) where
     fits = k.fits;
     heads = k.heads ∙ ap length (sym e);
     each = k.each;
-    spelled = k.spelled;
+    encoded = k.encoded;
     idle = λ up. omega (arith, k.idle (sym same.down ∙ up), ap length same.waits);
     limit = same.limit ∙ k.limit;
     made = subst (λ z. 0 < z) (sym (ap (λ z. z.records) same.state)) k.made;

@@ -7,7 +7,7 @@ use Rattle.disk_trait.specs.declared.device.Disk.{Ghosts as Disk}
 use Rattle.wal.specs.Waiting.{waiting, end_of, down_of}
 use Rattle.wal.specs.Settled.{Settled}
 use Rattle.page_types.specs.Edits.{edited}
-use Rattle.page_types.specs.Spelling.{page_bytes}
+use Rattle.page_types.specs.Encoding.{page_bytes}
 use Rattle.page_types.specs.declared.page.Head.{Head}
 use Rattle.core_state.specs.Log.{Log, In, replay, commits, next_serial}
 use Rattle.core_state.specs.History.{History, Begins, IsHistory}
@@ -16,7 +16,7 @@ use Rattle.buffer_frames.specs.Counted.{AreRecords, IsCounted}
 use Rattle.buffer_frames.specs.NoStore.{CountedAreOne}
 use Rattle.buffer_frames.specs.Opens.{IsLogOf}
 use Rattle.buffer_frames.specs.Journals.{JournalValue, Stands, logged, owed_abort}
-use Rattle.buffer_frames.proofs.Rows.{one_row}
+use Rattle.buffer_frames.proofs.BatchRecords.{one_batch}
 use Rattle.buffer_frames.proofs.OnePageHistory.{legal_before, history_begins, commits_told, still_in}
 use Rattle.engine.specs.Inner.Heaps.{heap_with, begin_of, place_of, commit_of, records_of}
 use Rattle.engine.specs.declared.records.Insertion.{Insertion}
@@ -25,17 +25,17 @@ module _ {D : Type 0} (device : Disk D) (one : CountedAreOne) where
   pub counted_now : (j : JournalValue D) (R : Log) (s : Stands device j R) → device.tells → down_of j.wal ≡ None → IsCounted (device.seen j.disk).log s.counted
   counted_now j R s t up =
       let k : (batches : List (List ℕ)) × Settled device batches (end_of j.wal) j.disk × AreRecords batches s.counted = s.settled t up in
-      record { batches = k.0; opens = inr (record { gate = k.1.gate; rest = k.1.rest; split = k.1.log.now; shut = k.1.shut; fit = k.1.fit }); records = k.2 }
+      record { batches = k.0; opens = inr (record { commit_byte = k.1.commit_byte; rest = k.1.rest; split = k.1.log.now; unset = k.1.unset; fit = k.1.fit }); records = k.2 }
 
-  -- where the device tells, a journal that is up stands for one log
+  -- where the device says, a journal that is up stands for one log
   pub stands_one : (j : JournalValue D) (R S : Log) → Stands device j R → Stands device j S → device.tells → down_of j.wal ≡ None → R ≡ S
   stands_one j R S r s t up =
       let counted : r.counted ≡ s.counted = one (device.seen j.disk).log r.counted s.counted (counted_now j R r t up) (counted_now j S s t up) in
-      let turned : reverse r.waits ≡ reverse s.waits = one_row (waiting j.wal) (reverse r.waits) (reverse s.waits) (r.waiting_is up) (s.waiting_is up) in
+      let turned : reverse r.waits ≡ reverse s.waits = one_batch (waiting j.wal) (reverse r.waits) (reverse s.waits) (r.waiting_is up) (s.waiting_is up) in
       let waits : r.waits ≡ s.waits = sym (reverse-reverse r.waits) ∙ ap reverse turned ∙ reverse-reverse s.waits in
       r.all ∙ ap (λ z. z ++ r.counted) waits ∙ ap (λ z. s.waits ++ z) counted ∙ sym s.all
 
--- a record behind others in a list of commits
+-- a record after others in a list of commits
 get_before : {X : Type 0} (xs ys : List X) (i : ℕ) (x : X) → slice_get xs i ≡ Some x → slice_get (xs ++ ys) i ≡ Some x
 get_before [] ys i x e = cc
 get_before (y ∷ xs) ys zero x e = e
@@ -69,7 +69,7 @@ lawful_before owes i slots R H l =
       },
     )
 
--- the heap page behind an insertion
+-- the heap page after an insertion
 pub replayed : (owes : Bool) (i : Insertion) (slots : List (Option Head)) (R : Log) → replay (logged owes (records_of i slots) R) 2 ≡ page_bytes (heap_with (i.number + 1) slots)
 unfolding replay edited
 replayed true i slots R = refl

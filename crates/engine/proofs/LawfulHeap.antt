@@ -6,9 +6,9 @@ use Rattle.std.specs.List.{slice_get}
 use Rattle.std.proofs.lemmas.List.{take_all}
 use Rattle.std.proofs.lemmas.Option.{slice_get-map, slice_get_within}
 use Rattle.ts_base.specs.Vectors.{Vector}
-use Rattle.ts_base.proofs.Spelling.{spelling_tells_vector}
+use Rattle.ts_base.proofs.Encoding.{encoding_tells_vector}
 use Rattle.page_types.specs.Pages.{IsPage}
-use Rattle.page_types.specs.Spelling.{page_bytes}
+use Rattle.page_types.specs.Encoding.{page_bytes}
 use Rattle.page_types.specs.Views.{slots_of, slot_at}
 use Rattle.page_types.specs.declared.page.Head.{Head}
 use Rattle.page_types.specs.declared.page.Page.{Page}
@@ -106,7 +106,7 @@ none_missing s slots H n shows small missing =
     ∙ slice_get-map (λ (c : Commit). names c.inserted) H n
     ∙ ap (option_map (λ (c : Commit). names c.inserted)) at.commit)
     (omega (arith, shows.next, small)) at.slot (plain_of n at.vector at.head at.is_head)
-    at.is_head.spells
+    at.is_head.encodes
 
 one_head : (slots : List (Option Head)) (k : ℕ) (g h : Head) → slot_at slots k ≡ Some g
     → slot_at slots k ≡ Some h → g ≡ h
@@ -121,8 +121,8 @@ commit_read s slots H k x h shows small read =
     let bytes : at.head.vector ≡ h.vector =
     ap (λ (g : Head). g.vector) (one_head slots k at.head h at.slot read.slot) in
     let same : at.vector ≡ x.vector =
-    spelling_tells_vector at.vector x.vector at.is_head.spells.normal read.spells.normal
-    (sym at.is_head.spells.bytes_of ∙ bytes ∙ read.spells.bytes_of) in
+    encoding_tells_vector at.vector x.vector at.is_head.encodes.normal read.encodes.normal
+    (sym at.is_head.encodes.bytes_of ∙ bytes ∙ read.encodes.bytes_of) in
     at.commit
     ∙ ap (λ (v : Vector). Some (insertion (record { name = name_of k; vector = v }))) same
     ∙ ap (λ (n : ℕ). Some (insertion (record {
@@ -189,7 +189,7 @@ module _ (R : Log) (H : History) (file : List ℕ) (m : PageMap) (slots : List (
     slots_are = λ P shown. slots_told size P shown (empty_or_some H);
   }
 
-  -- the reading of a lawful store ends behind the last commit
+  -- the reading of a lawful store ends after the last commit
   pub lawful_read : IsReadUpTo s slots (length kept) → IsHeapOf (opened_log R) H kept heap
   lawful_read (inl all) = all_read (omega (arith, all, shows.commits_are))
   lawful_read (inr missing) =

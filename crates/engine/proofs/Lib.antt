@@ -11,7 +11,7 @@ mod Drawing
 mod Knowing
 mod Storing
 mod HeapRead
-mod Spelled
+mod Encoded
 mod LawfulHeap
 mod Applying
 mod OpenedLog

@@ -1,4 +1,4 @@
--- How a store stands just after its opening, and how a device that was given back.
+-- How a store is just after its opening, and how a device that was given back.
 use Rattle.std.proofs.Common.{◌≡◌, inl, inr, ◌≤◌, ℕ, suc, List, length, map, refl, sym, subst, ◌∙◌}
 use Rattle.std.proofs.Common.{arith}
 use Rattle.std.specs.Prelude.{Option, Err}
@@ -24,7 +24,7 @@ use Rattle.buffer_frames.specs.declared.page_map.PageMap.{PageMap}
 use Rattle.buffer_frames.specs.declared.error.OpenFault.{OpenFault}
 use Rattle.buffer_frames.specs.declared.error.OpenFault.TheVariants as opening
 use Rattle.engine.specs.Opening.{HasSamePages}
-use Rattle.engine.specs.Found.{Found, ahead_of}
+use Rattle.engine.specs.AtOpening.{AtOpening, ahead_of}
 use Rattle.engine.specs.Inner.Heaps.{IsHeapOf}
 use Rattle.engine.specs.Inner.Kept.{Kept, documents_from}
 use Rattle.engine.specs.Opened.{IsLawfulSince, OpenedAt}
@@ -104,7 +104,7 @@ module _ {D : Type 0} (device : Disk D) where
 abbrev pub history_of : List Kept → History
 history_of kept = map insertion (documents_from 0 kept)
 
-abbrev pub found_of : {D : Type 0} → JournalValue D → Log → List Kept → Found
+abbrev pub found_of : {D : Type 0} → JournalValue D → Log → List Kept → AtOpening
 found_of j R kept = record {
   commits = length kept;
   end = end_of j.wal;

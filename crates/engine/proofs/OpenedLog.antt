@@ -5,7 +5,7 @@ use Rattle.std.specs.Prelude.{reverse, Option, Some, None, if◌then◌else◌, 
 use Rattle.std.proofs.lemmas.List.{append-nil}
 use Rattle.page_types.specs.Numbers.{u32_bytes, u64_bytes}
 use Rattle.page_types.specs.Pages.{IsPage}
-use Rattle.page_types.specs.Spelling.{page_bytes}
+use Rattle.page_types.specs.Encoding.{page_bytes}
 use Rattle.page_types.specs.Records.{record_bytes, record_rest, change_bytes}
 use Rattle.page_types.specs.declared.page.Page.{Page}
 use Rattle.page_types.specs.declared.page.Body.TheVariants as body
@@ -21,7 +21,7 @@ use Rattle.core_state.specs.Legal.{IsLegal}
 use Rattle.core_state.specs.States.{StateValue, stepped, state_of, committed, aborted, ended_all}
 use Rattle.core_state.specs.States.{placed_head, marked_head, transaction, noted, last_serial}
 use Rattle.core_state.specs.Log.{xid_bound}
-use Rattle.core_state.specs.Stores.{IsRowOf}
+use Rattle.core_state.specs.Stores.{AreRecordsOf}
 use Rattle.core_state.specs.declared.transactions.Transaction.{Transaction}
 use Rattle.core_state.proofs.StateTold.{state_told}
 use Rattle.core_state.proofs.Worked.{meta_is, root_is}
@@ -30,7 +30,7 @@ use Rattle.buffer_frames.specs.First.{imaged, first_page, first_record}
 use Rattle.buffer_frames.specs.Opening.{opened_log, owes_after}
 use Rattle.buffer_frames.proofs.OnePageFirst.{first_is_log}
 use Rattle.buffer_frames.proofs.Steps.{state_number}
-use Rattle.engine.specs.Found.{record_size, ahead_of}
+use Rattle.engine.specs.AtOpening.{record_size, ahead_of}
 
 image_size : (page : ℕ) (content : Page) → IsPage content
     → length (change_bytes (imaged page content)) ≡ 8197
@@ -72,7 +72,7 @@ first_size =
       both_size (change_bytes meta) (change_bytes leaf) 8197 8197 meta_size leaf_size,
     )
 
--- what waits behind the records that count
+-- what waits after the records that count
 abbrev first_waits : Log → Log
 first_waits [] = first_record ∷ []
 first_waits (r ∷ R) = []
@@ -85,20 +85,20 @@ same_waits (r ∷ R) (w ∷ waits) counted e same =
     absurd (omega (arith, ap length e, length-append waits counted, ap length same))
 
 -- its bytes, with those of the Abort that is owed
-size_ahead : (R : Log) (w : List ℕ) (owes : Bool) → IsRowOf w (reverse (first_waits R))
+size_ahead : (R : Log) (w : List ℕ) (owes : Bool) → AreRecordsOf w (reverse (first_waits R))
     → owes ≡ owes_after R → length w + cond owes (record_size 0 0) 0 ≡ ahead_of R
 size_ahead [] w owes row e =
     let owed : Bool → ℕ = λ b. cond b 18 0 in
-    omega (arith, ap length row.spelled, length-append (record_bytes first_record) [], first_size, ap owed e)
+    omega (arith, ap length row.encoded, length-append (record_bytes first_record) [], first_size, ap owed e)
 size_ahead (r ∷ R) w owes row e =
     let owed : Bool → ℕ = λ b. cond b 18 0 in
-    omega (arith, ap length row.spelled, ap owed e)
+    omega (arith, ap length row.encoded, ap owed e)
 
 pub waits_ahead : (R waits counted : Log) (w : List ℕ) (owes : Bool)
-    → opened_log R ≡ waits ++ counted → counted ≡ R → IsRowOf w (reverse waits)
+    → opened_log R ≡ waits ++ counted → counted ≡ R → AreRecordsOf w (reverse waits)
     → owes ≡ owes_after R → length w + cond owes (record_size 0 0) 0 ≡ ahead_of R
 waits_ahead R waits counted w owes all same row e =
-    size_ahead R w owes (subst (λ z. IsRowOf w (reverse z)) (same_waits R waits counted all same) row) e
+    size_ahead R w owes (subst (λ z. AreRecordsOf w (reverse z)) (same_waits R waits counted all same) row) e
 
 pub few_ahead : (R : Log) → ahead_of R ≤ 16412
 few_ahead [] = omega arith

@@ -18,7 +18,7 @@ use Rattle.buffer_frames.specs.Opens.{IsLogOf}
 use Rattle.buffer_frames.specs.declared.page_map.PageMap.{PageMap}
 use Rattle.buffer_frames.proofs.OnePageFiles.{empty_stands}
 use Rattle.buffer_frames.proofs.OnePageFirst.{empty_is_log, first_is_log}
-use Rattle.engine.specs.Found.{record_size, ahead_of}
+use Rattle.engine.specs.AtOpening.{record_size, ahead_of}
 use Rattle.engine.specs.Inner.Documents.{AreDocuments}
 use Rattle.engine.specs.Inner.Heaps.{IsHeapOf, HeapIsKnown}
 use Rattle.engine.specs.Inner.DbValue.{IsDbValue}
@@ -100,7 +100,7 @@ module _ {D : Type 0} (device : Disk D) (settings : Settings) (first : D) (c0 : 
         fits = w.read.fits;
         heads = w.read.heads;
         each = w.read.each;
-        spelled = w.read.spelled;
+        encoded = w.read.encoded;
         idle = λ up. omega (arith, ahead, few_ahead o.counted);
         limit = o.limit ∙ w.limit;
         made = records_made j.state.pages j.state.xid_limit o.counted j.state o.stands.state o.stands.numbered;

@@ -3,7 +3,7 @@ use Rattle.std.proofs.Common.{◌≡◌, inl, ℕ, ◌+◌, ◌*◌, ◌^◌, �
 use Rattle.std.specs.Prelude.{Option, Some}
 use Rattle.std.specs.List.{flat_map, AllByRecursion}
 use Rattle.page_types.specs.Pages.{IsPage, IsSlot, IsHead}
-use Rattle.page_types.specs.Spelling.{slot_bytes}
+use Rattle.page_types.specs.Encoding.{slot_bytes}
 use Rattle.page_types.specs.declared.page.Head.{Head}
 use Rattle.buffer_frames.proofs.OnePageRoom.{slot_size}
 use Rattle.engine.specs.Inner.Heaps.{new_head, heap_with}
@@ -30,7 +30,7 @@ new_is_head serial xid bytes s x l = record {
 pub head_room : (serial xid : ℕ) (bytes : List ℕ) → length (slot_bytes (Some (new_head serial xid bytes))) ≡ 29 + length bytes
 head_room serial xid bytes = slot_size (new_head serial xid bytes)
 
--- the page with one head more has a spelling, where the head has room
+-- the page with one head more has an encoding, where the head has room
 pub page_push : (stamp : ℕ) (slots : List (Option Head)) (h : Head) → stamp < 2 ^ 64 → AllByRecursion IsSlot slots → IsHead h → length slots ≤ 300 → length (flat_map slot_bytes slots) + length (slot_bytes (Some h)) ≤ 8168 → IsPage (heap_with stamp (slots ++ Some h ∷ []))
 page_push stamp slots h s all is few fits = record {
   right = omega arith;

@@ -1,4 +1,4 @@
--- What a crash leaves while an insertion's records are put into the log, and what stands then.
+-- What a crash leaves while an insertion's records are put into the log, and what is then.
 use Rattle.std.proofs.Common.{◌≡◌, ◌⊎◌, inl, inr, ℕ, List, [], ◌∷◌, ◌++◌, ◌≤◌, arith, sym, ◌∙◌, ap, subst}
 use Rattle.std.specs.Prelude.{None, reverse}
 use Rattle.std.proofs.lemmas.List.{reverse-reverse}
@@ -8,21 +8,21 @@ use Rattle.disk_trait.proofs.Runs.{started, weaker_run}
 use Rattle.wal.specs.Waiting.{waiting, down_of, limit_of}
 use Rattle.wal.specs.Pages.{KeepsPages}
 use Rattle.ts_base.specs.Vectors.{Vector}
-use Rattle.ts_base.proofs.Spelling.{spelling_has_size}
+use Rattle.ts_base.proofs.Encoding.{encoding_has_size}
 use Rattle.core_state.specs.Log.{Log}
 use Rattle.core_state.specs.History.{History}
-use Rattle.core_state.specs.Stores.{PagesStand, IsRowOf}
+use Rattle.core_state.specs.Stores.{PagesStand, AreRecordsOf}
 use Rattle.buffer_frames.specs.Counted.{IsCounted}
 use Rattle.buffer_frames.specs.NoStore.{CountedAreOne}
 use Rattle.buffer_frames.specs.Opens.{IsLogOf, insertion}
 use Rattle.buffer_frames.specs.Journals.{JournalValue, Stands, logged, CountsEither}
 use Rattle.buffer_frames.specs.Logging.{HasLogged}
-use Rattle.buffer_frames.proofs.Batching.{no_row}
+use Rattle.buffer_frames.proofs.Batching.{no_batch}
 use Rattle.engine.specs.Inner.DbValue.{DbValue, IsDbValue}
 use Rattle.engine.specs.Standing.{disk_of, IsUp, IsOpenedTo, OpensToEither, PutsCommit}
 use Rattle.engine.specs.Inner.Puts.{next_document}
-use Rattle.engine.specs.Inner.Drafts.{IsDraftOf}
-use Rattle.engine.specs.declared.db.Draft.{Draft}
+use Rattle.engine.specs.Inner.Prepared.{IsPreparedFor}
+use Rattle.engine.specs.declared.db.Prepared.{Prepared}
 use Rattle.engine.proofs.Standing.{opens_now}
 use Rattle.engine.proofs.Knowing.{counted_now}
 use Rattle.engine.proofs.Inserting.{follows, stands_beside, either}
@@ -30,15 +30,15 @@ use Rattle.engine.proofs.Inserting.{follows, stands_beside, either}
 -- a log of which nothing waits counts all
 pub all_count : {D : Type 0} (device : Disk D) (j : JournalValue D) (R : Log) → (s : Stands device j R) → down_of j.wal ≡ None → waiting j.wal ≡ [] → s.counted ≡ R
 all_count device j R s up none =
-    let turned : reverse s.waits ≡ [] = no_row (reverse s.waits) (subst (λ b. IsRowOf b (reverse s.waits)) none (s.waiting_is up)) in
+    let turned : reverse s.waits ≡ [] = no_batch (reverse s.waits) (subst (λ b. AreRecordsOf b (reverse s.waits)) none (s.waiting_is up)) in
     let waits : s.waits ≡ [] = sym (reverse-reverse s.waits) ∙ ap reverse turned in
     sym (s.all ∙ ap (λ z. z ++ s.counted) waits)
 
 module _ {D : Type 0} (device : Disk D) where
   -- what the journal's two calls leave, by which an insertion puts its records into the log
-  pub record Flushes (old : DbValue D) (mid : JournalValue D) (new : JournalValue D) (v : Vector) (used : ℕ) (d : Draft) : Type 0 where
+  pub record Flushes (old : DbValue D) (mid : JournalValue D) (new : JournalValue D) (v : Vector) (used : ℕ) (d : Prepared) : Type 0 where
     pub value : IsDbValue device old used
-    pub draft : IsDraftOf old v d
+    pub prepared : IsPreparedFor old v d
     pub up : IsUp old
     pub has : HasLogged old.journal mid d.records
     pub one : CountedAreOne
@@ -51,9 +51,9 @@ module _ {D : Type 0} (device : Disk D) where
     pub limit : limit_of new.wal ≡ limit_of old.journal.wal
     pub done : down_of new.wal ≡ None → waiting new.wal ≡ []
 
-  module _ (old new : DbValue D) (mid : JournalValue D) (v : Vector) (used : ℕ) (d : Draft) (f : Flushes old mid new.journal v used d) where
+  module _ (old new : DbValue D) (mid : JournalValue D) (v : Vector) (used : ℕ) (d : Prepared) (f : Flushes old mid new.journal v used d) where
     lawful : (file : List ℕ) (commits : History) → device.tells → (o : IsOpenedTo device file old commits) → IsLogOf (logged old.journal.owes d.records o.log) (commits ++ insertion (next_document old v) ∷ [])
-    lawful file commits t o = follows device old used v d f.value f.draft (spelling_has_size v) t f.up o.log commits o.stands o.log_of
+    lawful file commits t o = follows device old used v d f.value f.prepared (encoding_has_size v) t f.up o.log commits o.stands o.log_of
 
     beside : (file : List ℕ) (commits : History) → device.tells → (o : IsOpenedTo device file old commits) → PagesStand (logged old.journal.owes d.records o.log) file
     beside file commits t o = stands_beside device file old.journal.owes d.records o.stands.waits o.stands.counted o.log (commits ++ insertion (next_document old v) ∷ []) o.stands.all o.beside (lawful file commits t o)

@@ -3,7 +3,7 @@ use Rattle.std.proofs.Common.{◌≡◌, ℕ, ◌+◌, Bool, true, false, cond, 
 use Rattle.std.specs.List.{flat_map}
 use Rattle.page_types.specs.Numbers.{u32_bytes, u64_bytes}
 use Rattle.page_types.specs.Pages.{IsPage}
-use Rattle.page_types.specs.Spelling.{page_bytes}
+use Rattle.page_types.specs.Encoding.{page_bytes}
 use Rattle.page_types.specs.Records.{record_bytes, record_rest, change_bytes, kind_bytes}
 use Rattle.page_types.specs.declared.page.Head.{Head}
 use Rattle.page_types.specs.declared.record.Record.{Record}
@@ -16,12 +16,12 @@ use Rattle.core_state.specs.Documents.{item_at}
 use Rattle.buffer_frames.specs.First.{imaged}
 use Rattle.buffer_frames.specs.Journals.{JournalValue, owed_abort, logged_bytes, next_number, AreNext}
 use Rattle.buffer_frames.proofs.OnePageFirst.{imaged_fits}
-use Rattle.engine.specs.Found.{record_size}
+use Rattle.engine.specs.AtOpening.{record_size}
 use Rattle.engine.specs.Inner.Heaps.{heap_with, records_of}
 use Rattle.engine.specs.Inner.DbValue.{DbValue, IsDbValue}
-use Rattle.engine.specs.Inner.Drafts.{IsDraftOf}
+use Rattle.engine.specs.Inner.Prepared.{IsPreparedFor}
 use Rattle.engine.specs.declared.records.Insertion.{Insertion}
-use Rattle.engine.specs.declared.db.Draft.{Draft}
+use Rattle.engine.specs.declared.db.Prepared.{Prepared}
 use Rattle.std.specs.Prelude.{Option}
 use Rattle.disk_trait.specs.declared.device.Disk.{Ghosts as Disk}
 use Rattle.ts_base.specs.Vectors.{Vector}
@@ -103,8 +103,8 @@ logged_size j i slots is =
       records_size i slots is,
     )
 
--- the records of a draft are spelled, and come one after another
-pub next_records : {D : Type 0} (device : Disk D) (s : DbValue D) (used : ℕ) (v : Vector) (d : Draft) → IsDbValue device s used → IsDraftOf s v d → AreNext (next_number s.journal) d.records
+-- the records of a prepared are encoded, and come one after another
+pub next_records : {D : Type 0} (device : Disk D) (s : DbValue D) (used : ℕ) (v : Vector) (d : Prepared) → IsDbValue device s used → IsPreparedFor s v d → AreNext (next_number s.journal) d.records
 next_records device s used v d k f =
     let i : Insertion = d.insertion in
     subst (AreNext (next_number s.journal)) (sym f.records) (

@@ -10,7 +10,7 @@ use Rattle.wal.specs.Settled.{Settled}
 use Rattle.wal.specs.Waiting.{end_of}
 use Rattle.core_state.specs.Log.{Log}
 use Rattle.core_state.specs.States.{StateValue, state_of}
-use Rattle.core_state.specs.Stores.{IsRowOf, PagesStand}
+use Rattle.core_state.specs.Stores.{AreRecordsOf, PagesStand}
 use Rattle.buffer_frames.specs.Counted.{AreRecords}
 use Rattle.buffer_frames.specs.Journals.{JournalValue, Stands, commits_in}
 use Rattle.buffer_frames.specs.Logging.{IsSameJournal}
@@ -30,7 +30,7 @@ module _ {D : Type 0} (device : Disk D) where
     numbered = s.numbered;
     state = subst (λ (v : StateValue). v ≡ state_of v.pages v.xid_limit R) (sym e.state) s.state;
     flushed = λ up. e.flushed ∙ s.flushed (sym e.down ∙ up) ∙ ap (λ (v : StateValue). commits_in v s.counted) (sym e.state);
-    waiting_is = λ up. subst (λ w. IsRowOf w (reverse s.waits)) (sym e.waits) (s.waiting_is (sym e.down ∙ up));
+    waiting_is = λ up. subst (λ w. AreRecordsOf w (reverse s.waits)) (sym e.waits) (s.waiting_is (sym e.down ∙ up));
     settled = λ t up.
         let k : (batches : List (List ℕ)) × Settled device batches (end_of old.wal) old.disk × AreRecords batches s.counted = s.settled t (sym e.down ∙ up) in
         (k.0, subst (λ d. Settled device k.0 (end_of new.wal) d) (sym e.disk) (subst (λ n. Settled device k.0 n old.disk) (sym e.end) k.1), k.2);
@@ -53,7 +53,7 @@ module _ {D : Type 0} (device : Disk D) where
       let k : (batches : List (List ℕ)) × Settled device batches (end_of s.journal.wal) s.journal.disk × AreRecords batches o.stands.counted = o.stands.settled t up in
       record {
         records = o.stands.counted;
-        counted = record { batches = k.0; opens = inr (record { gate = k.1.gate; rest = k.1.rest; split = k.1.log.durable c left; shut = k.1.shut; fit = k.1.fit }); records = k.2 };
+        counted = record { batches = k.0; opens = inr (record { commit_byte = k.1.commit_byte; rest = k.1.rest; split = k.1.log.durable c left; unset = k.1.unset; fit = k.1.fit }); records = k.2 };
         log_of = o.counted;
         pages = subst (PagesStand o.stands.counted) (sym (o.fixed c left)) o.beside;
       }

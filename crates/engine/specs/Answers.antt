@@ -5,7 +5,7 @@ use Rattle.disk_trait.specs.Device.{Rose}
 use Rattle.disk_trait.specs.declared.device.Disk.{Ghosts as Disk}
 use Rattle.ts_base.specs.Vectors.{Vector}
 use Rattle.engine.specs.Finding.{Name, Commit, History, docs, insertion, IsFound}
-use Rattle.engine.specs.Found.{Found, IsFull, IsLogFull, AreXidsSpent}
+use Rattle.engine.specs.AtOpening.{AtOpening, IsFull, IsLogFull, AreXidsSpent}
 use Rattle.engine.specs.Standing.{disk_of, fault_of, IsUp, StandsFor, Rests, PutsCommit}
 use Rattle.engine.specs.Inner.DbValue.{DbValue}
 use Rattle.engine.specs.declared.error.DbError.{DbError}
@@ -15,7 +15,7 @@ use Rattle.engine.specs.declared.error.DbError.TheVariants.{StoreFull, LogFull, 
 abbrev pub commit_of : Name → Vector → Commit
 commit_of name v = insertion (record { name = name; vector = v })
 
-module _ {D : Type 0} (device : Disk D) (found : Found) (H : History) where
+module _ {D : Type 0} (device : Disk D) (found : AtOpening) (H : History) where
   -- Of a store that stood for H: the document of this vector is there, and its commit is flushed.
   pub record HasStored (old new : DbValue D) (v : Vector) (name : Name) : Type 0 where
     pub up : IsUp old
@@ -28,7 +28,7 @@ module _ {D : Type 0} (device : Disk D) (found : Found) (H : History) where
     pub later : device.fault_count (disk_of old) ≤ device.fault_count (disk_of new)
     pub no_failure : device.write_fault_count (disk_of new) ≡ device.write_fault_count (disk_of old)
 
-  -- The device failed, so that the commit may stand in the log or not.
+  -- The device failed, so that the commit may be in the log or not.
   pub record IsInDoubt (old new : DbValue D) (v : Vector) : Type 0 where
     pub name : Name
     pub up : IsUp old

@@ -1,6 +1,6 @@
 pub mod DbValue
 pub mod Documents
-pub mod Drafts
+pub mod Prepared
 pub mod Heaps
 pub mod Inside
 pub mod Kept

@@ -1,6 +1,6 @@
 pub mod Db
 pub mod Finding
-pub mod Found
+pub mod AtOpening
 pub mod Opening
 pub mod Standing
 pub mod Opened

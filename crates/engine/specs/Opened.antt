@@ -9,7 +9,7 @@ use Rattle.disk_trait.specs.Device.{last_count}
 use Rattle.wal.specs.declared.sizes.TheConstants.{LOG_LIMIT}
 use Rattle.engine.specs.Opening.{OpensTo, StartedFrom}
 use Rattle.engine.specs.Finding.{History}
-use Rattle.engine.specs.Found.{Found, IsFoundIn}
+use Rattle.engine.specs.AtOpening.{AtOpening, IsFoundIn}
 use Rattle.engine.specs.Standing.{disk_of, IsOpenedTo}
 use Rattle.engine.specs.Inner.DbValue.{DbValue}
 
@@ -35,8 +35,8 @@ module _ {D : Type 0} (device : Disk D) where
     pub late : (m : ℕ) (c : Files) → c0 ≤ m → m ≤ device.clock (disk_of s)
         → device.image (disk_of s) m c → OpensTo c history
 
-  -- how a store stands just after the opening, what was found, and how the device stood on entry
-  pub record OpenedAt (found : Found) (history : History) (first : D) (c0 : ℕ)
+  -- how a store is just after the opening, what was found, and how the device was on entry
+  pub record OpenedAt (found : AtOpening) (history : History) (first : D) (c0 : ℕ)
       (s : DbValue D) : Type 0 where
     pub time : device.clock first ≤ device.clock (disk_of s)
     pub no_fall : device.fault_count first ≤ device.fault_count (disk_of s)

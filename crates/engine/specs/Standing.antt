@@ -13,7 +13,7 @@ use Rattle.buffer_frames.specs.Opens.{IsLogOf}
 use Rattle.buffer_frames.specs.Journals.{Stands}
 use Rattle.buffer_frames.specs.Logging.{IsSameJournal}
 use Rattle.engine.specs.Finding.{insertion, Commit, History, IsNumbered}
-use Rattle.engine.specs.Found.{Found, insertion_size}
+use Rattle.engine.specs.AtOpening.{AtOpening, insertion_size}
 use Rattle.engine.specs.Opening.{OpensTo, KeepsPages}
 use Rattle.engine.specs.Inner.Kept.{Kept, documents_from, SerialsRise}
 use Rattle.engine.specs.Inner.Inside.{next_serial_of, next_xid_of, end_ahead}
@@ -30,8 +30,8 @@ abbrev pub IsUp : {D : Type 0} → DbValue D → Type 0
 IsUp s = fault_of s ≡ None
 
 -- The history that leaves these documents, and what the run has taken of the log and of the xids.
--- Where the store is down, a commit in doubt may stand in the history too.
-pub record StandsFor {D : Type 0} (found : Found) (s : DbValue D) (commits : History) : Type 0 where
+-- Where the store is down, a commit in doubt may be in the history too.
+pub record StandsFor {D : Type 0} (found : AtOpening) (s : DbValue D) (commits : History) : Type 0 where
   pub kept : List Kept
   pub more : found.commits ≤ length commits
   pub all : commits ≡ map insertion (documents_from 0 kept)
@@ -45,7 +45,7 @@ pub record StandsFor {D : Type 0} (found : Found) (s : DbValue D) (commits : His
 
 module _ {D : Type 0} (device : Disk D) where
   -- The log of the store is a legal one with this history, and so is the part of it that counts; the
-  -- page file, which a crash leaves as it is, stands beside it.
+  -- page file, which a crash leaves as it is, is beside it.
   pub record IsOpenedTo (file : List ℕ) (s : DbValue D) (commits : History) : Type 0 where
     pub log : Log
     pub stands : Stands device s.journal log

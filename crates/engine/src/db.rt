@@ -10,7 +10,7 @@ use disk_trait::Disk;
 use page_types::{MOST_BODY_BYTES, MOST_SHORT_BYTES, Name, Record, Slots};
 use std::alloc::{AllocError, Global};
 use std::marker::Model;
-use ts_match::{MatchWork, matches_in};
+use ts_match::{MatchWork, matches_encoded};
 use ts_query::TsQuery;
 use ts_vector::{TsVector, VectorBytes};
 
@@ -40,14 +40,14 @@ pub struct Db<D: Disk> {
 /// What an insertion will log: what it draws, the heap page's slots with the new head, the bytes of
 /// the vector, and the records.
 #[derive(Drop)]
-struct Draft {
+struct Prepared {
     insertion: Insertion,
     heap: Slots,
     size: u64,
     records: [Record; 3],
 }
 
-/// The name of the document that stands at this place.
+/// The name of the document that is at this place.
 fn name_of(place: usize, serial: u64) -> Name
     requires { place < 2 ^ 16 }
     ensures { result ≡ record { page = heap_page; slot = place; serial = serial } }
@@ -81,18 +81,18 @@ impl<D: Disk> Model for Db<D> {
 impl<D: Disk> Db<D> {
     ghost use Rattle.engine.specs.Standing.{StandsFor, disk_of};
     ghost use Rattle.engine.specs.Answers.{HasInserted, HasFound};
-    ghost use Rattle.engine.specs.Found.{Found};
+    ghost use Rattle.engine.specs.AtOpening.{AtOpening};
     ghost use Rattle.engine.specs.Inner.Inside.{documents_of};
     ghost use Rattle.engine.specs.Inner.Kept.{IsAt};
     ghost use Rattle.engine.specs.Inner.Puts.{HasPut};
-    ghost use Rattle.engine.specs.Inner.Drafts.{IsDraftOf, CannotDraft};
+    ghost use Rattle.engine.specs.Inner.Prepared.{IsPreparedFor, CannotPrepare};
     ghost use Rattle.engine.specs.Finding.{History, IsFound};
     ghost use Rattle.ts_match.specs.Meaning.{Holds};
 
     /// What an insertion of the vector draws, if the document has room.
-    fn draft(&self, vector: &TsVector) -> Result<Draft, DbError>
-        ensures refused { IfErr result (λ e. CannotDraft D.Disk self.now vector.now e) }
-        ensures drafted { IfOk result (λ d. IsDraftOf self.now vector.now d) }
+    fn prepare(&self, vector: &TsVector) -> Result<Prepared, DbError>
+        ensures refused { IfErr result (λ e. CannotPrepare D.Disk self.now vector.now e) }
+        ensures prepared { IfOk result (λ d. IsPreparedFor self.now vector.now d) }
     {
         let state = self.journal.state();
         let (xid, serial, commits) = (state.next_xid(), state.next_serial(), state.commits());
@@ -114,7 +114,7 @@ impl<D: Disk> Db<D> {
         };
         let slots = with_head(&self.heap, serial, xid, &bytes)?;
         let (records, heap) = insertion.records(self.alloc, slots)?;
-        Ok(Draft {
+        Ok(Prepared {
             insertion,
             heap,
             size,
@@ -130,16 +130,16 @@ impl<D: Disk> Db<D> {
             return Err(DbError::Down { fault });
         }
         counted_are_one();
-        let draft = self.draft(vector)?;
-        if let Err(error) = self.journal.log(&draft.records) {
+        let prepared = self.prepare(vector)?;
+        if let Err(error) = self.journal.log(&prepared.records) {
             return Err(DbError::from(error));
         }
         if let Err(error) = self.journal.flush() {
             return Err(DbError::from(error));
         }
-        let name = name_of(self.heap.len(), draft.insertion.serial);
-        self.heap = draft.heap;
-        self.used += HEAD + draft.size;
+        let name = name_of(self.heap.len(), prepared.insertion.serial);
+        self.heap = prepared.heap;
+        self.used += HEAD + prepared.size;
         Ok(name)
     }
 
@@ -147,7 +147,7 @@ impl<D: Disk> Db<D> {
     /// room for it, or that wants memory stays as it was. Where the device fails the commit may count
     /// or not.
     pub fn insert(&mut self, vector: &TsVector) -> Result<Name, DbError>
-        ensures answered { (found : Found) (H : History) → StandsFor found self.old H
+        ensures answered { (found : AtOpening) (H : History) → StandsFor found self.old H
             → HasInserted D.Disk found H self.old self.new vector.now result }
         ensures later { D.fault_count (disk_of self.old) ≤ D.fault_count (disk_of self.new) }
     {
@@ -177,7 +177,7 @@ impl<D: Disk> Db<D> {
         let mut names = Vec::new(self.alloc);
         for place in 0..self.heap.len() {
             if let Some((serial, vector)) = self.document(place) {
-                if matches_in(query, &mut work, &vector) {
+                if matches_encoded(query, &mut work, &vector) {
                     names.push(name_of(place, serial))?;
                 }
             }
@@ -187,7 +187,7 @@ impl<D: Disk> Db<D> {
 
     /// The names of the documents that satisfy the query, if the store is not down.
     pub fn search(&self, query: &TsQuery) -> Result<Vec<Name>, DbError>
-        ensures { (found : Found) (H : History) → StandsFor found self.now H
+        ensures { (found : AtOpening) (H : History) → StandsFor found self.now H
             → HasFound H self.now (Holds query.now) result }
     {
         if let Some(count) = self.journal.fault() {

@@ -28,7 +28,7 @@ pub enum DbError {
     /// The next xid isn't below its bound.
     #[error("transactions spent")]
     XidsSpent,
-    /// A write or a sync failed in an earlier call. The device's count of faults stood at this
+    /// A write or a sync failed in an earlier call. The device's count of faults was at this
     /// number after it.
     #[error("down {fault}")]
     Down { fault: u64 },

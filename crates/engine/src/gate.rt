@@ -1,4 +1,4 @@
-// A gate that statements pass, for tests of what runs beside what.
+// A hook that statements pass, for tests of what runs beside what.
 
 /// It is called before each statement of a session and before each step of a long one.
 pub trait Gate {
@@ -9,7 +9,7 @@ pub trait Gate {
     fn page(&self, session: u32, statement: u32, step: u64);
 }
 
-/// A gate that is always open.
+/// A hook that does nothing.
 #[derive(Clone, Copy, Debug, Drop)]
 pub struct NoGate;
 

@@ -6,12 +6,12 @@ ghost use Rattle.std.specs.List.{flat_map, slice_get, AllByRecursion};
 ghost use Rattle.disk_trait.specs.Device.{Rose};
 ghost use Rattle.page_types.specs.Pages.{IsPage, IsSlot};
 ghost use Rattle.page_types.specs.Parts.{head_shown};
-ghost use Rattle.page_types.specs.Spelling.{page_bytes, slot_bytes};
+ghost use Rattle.page_types.specs.Encoding.{page_bytes, slot_bytes};
 ghost use Rattle.page_types.specs.Views.{slots_of, slot_at};
 ghost use Rattle.page_types.specs.declared.page.Head.{Head};
 ghost use Rattle.page_types.specs.declared.page.Page.{Page};
 ghost use Rattle.ts_base.specs.Vectors.{Vector};
-ghost use Rattle.ts_base.specs.Spelling.{IsSpelling};
+ghost use Rattle.ts_base.specs.Encoding.{IsEncoding};
 ghost use Rattle.core_state.specs.Log.{Log};
 ghost use Rattle.core_state.specs.States.{state_of};
 ghost use Rattle.core_state.specs.Stores.{PagesStand};
@@ -23,7 +23,7 @@ ghost use Rattle.engine.specs.Inner.Heaps.{IsHeapOf};
 ghost use Rattle.engine.specs.Inner.Kept.{kept_in};
 ghost use Rattle.engine.specs.Inner.Plain.{IsPlain};
 ghost use Rattle.engine.specs.Opening.{StartedFrom, OpensAsBefore, HasSamePages, IsNoStore, IsOnlyRead, IsUnmade};
-ghost use Rattle.engine.specs.Found.{Found};
+ghost use Rattle.engine.specs.AtOpening.{AtOpening};
 ghost use Rattle.engine.specs.Finding.{History};
 ghost use Rattle.engine.specs.Opened.{OpenedAt};
 ghost use Rattle.engine.specs.Standing.{StandsFor, IsUp};
@@ -120,10 +120,10 @@ fn head_of<'a>(slots: &'a Slots, name: Name) -> Option<HeadRef<'a>>
     Some(head)
 }
 
-/// Whether the bytes of a head spell a vector.
-fn spells(head: HeadRef<'_>) -> bool
-    ensures yes { result ≡ true → (v : Vector) × IsSpelling head.entry.vector.now v }
-    ensures no { result ≡ false → (v : Vector) → IsSpelling head.entry.vector.now v → ⊥ }
+/// Whether the bytes of a head encode a vector.
+fn encodes(head: HeadRef<'_>) -> bool
+    ensures yes { result ≡ true → (v : Vector) × IsEncoding head.entry.vector.now v }
+    ensures no { result ≡ false → (v : Vector) → IsEncoding head.entry.vector.now v → ⊥ }
 {
     match VectorBytes::new(head.vector) {
         Ok(_) => true,
@@ -134,7 +134,7 @@ fn spells(head: HeadRef<'_>) -> bool
 impl Documents {
     ghost use Rattle.engine.specs.Inner.Documents.{HasAdded, IsMissing, AreRead, IsReadUpTo};
 
-    /// One document more, that of a commit, if it stands at the next place.
+    /// One document more, that of a commit, if it is at the next place.
     fn add(&mut self, state: &State, slots: &Slots, commit: u32) -> Result<bool, AllocError>
         requires first { 1 ≤ commit }
         requires last { commit ≤ length state.now.value.deleted }
@@ -150,7 +150,7 @@ impl Documents {
         let Some(head) = head_of(slots, name) else {
             return Ok(false);
         };
-        if !spells(head) {
+        if !encodes(head) {
             return Ok(false);
         }
         self.heap.push(Some(head))?;
@@ -199,7 +199,7 @@ impl<D: Disk> Db<D> {
     pub fn open(alloc: Global, store: D, settings: Settings) -> Result<Db<D>, Unopened<D>>
         requires widest { IsWidest settings }
         ensures opened { IfOk result
-            (λ s. IsUp s × ((found : Found) × (history : History) × (c0 : ℕ)
+            (λ s. IsUp s × ((found : AtOpening) × (history : History) × (c0 : ℕ)
             × OpenedAt D.Disk found history store c0 s × StandsFor found s history)) }
         ensures store { D.tells → IfOk result (λ _. IsNoStore (D.seen store) → ⊥) }
 

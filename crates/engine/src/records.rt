@@ -2,7 +2,7 @@
 ghost use Rattle.std.specs.Prelude.{◌≡◌, ◌<◌, ◌≤◌, ◌+◌, ◌^◌, [], ◌∷◌, ◌++◌, length, Some, IfOk};
 ghost use Rattle.page_types.specs.Pages.{IsPage};
 ghost use Rattle.page_types.specs.Views.{slots_of};
-ghost use Rattle.page_types.specs.Spelling.{page_bytes};
+ghost use Rattle.page_types.specs.Encoding.{page_bytes};
 ghost use Rattle.core_state.specs.Documents.{item_at};
 ghost use Rattle.buffer_frames.specs.First.{imaged};
 ghost use Rattle.page_types.specs.declared.record.Kind.TheVariants.{PlaceHead};

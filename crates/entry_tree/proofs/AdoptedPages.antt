@@ -1,4 +1,4 @@
--- A parent with one child more has a spelling.
+-- A parent with one child more has an encoding.
 use Rattle.std.proofs.Common.{◌≡◌, ◌≢◌, ℕ, zero, suc, ◌+◌, ◌*◌, ◌<◌, ◌≤◌, List, [], ◌∷◌, ◌++◌, length, take, drop, set, refl, sym, ap, subst, ◌∙◌, inl, inr, arith}
 use Rattle.std.specs.Prelude.{Some}
 use Rattle.std.specs.List.{AllByRecursion, slice_get, insert, flat_map}
@@ -8,15 +8,15 @@ use Rattle.std.proofs.lemmas.Option.{same_Some}
 use Rattle.page_types.specs.Numbers.{page_limit, most_body}
 use Rattle.page_types.specs.Keys.{IsKey, BoundLess, Rising}
 use Rattle.page_types.specs.Pages.{IsPage, IsBody, IsEntryChild, AreEntryChildren}
-use Rattle.page_types.specs.Spelling.{entry_child_bytes, body_bytes}
+use Rattle.page_types.specs.Encoding.{entry_child_bytes, body_bytes}
 use Rattle.page_types.specs.declared.page.Page.{Page}
 use Rattle.page_types.specs.declared.page.EntryChild.{EntryChild}
 use Rattle.page_types.specs.declared.page.Body.{Body}
 use Rattle.page_types.specs.declared.page.Body.TheVariants as body
 use Rattle.page_types.proofs.BodySizes.{length-entry_child_bytes}
 use Rattle.core_state.specs.Log.{In}
-use Rattle.core_state.specs.TreeRows.{EntryParent}
-use Rattle.entry_tree.specs.Reading.{HasRoom}
+use Rattle.core_state.specs.TreeRules.{EntryParent}
+use Rattle.entry_tree.specs.Reading.{HasRoomForChild}
 use Rattle.entry_tree.specs.Adopting.{IsDivider, IsOneMore}
 use Rattle.entry_tree.proofs.KeyOrders.{key_trans}
 use Rattle.entry_tree.proofs.FoundPlaces.{around}
@@ -140,7 +140,7 @@ divided right page new mid bound front back div lt are =
     before_key (f ∷ front) back c b (inr on) h = before_key front back c b on h.1
 
 pub adopted_page : (p q : Page) (page new : ℕ) (mid : List ℕ) (w : EntryParent page new mid p.body q.body)
-    → q ≡ record p { body = q.body } → IsDivider mid w.bound w.front → IsPage p → HasRoom p → new < page_limit
+    → q ≡ record p { body = q.body } → IsDivider mid w.bound w.front → IsPage p → HasRoomForChild p → new < page_limit
     → IsPage q
 adopted_page p q page new mid w same div is room lt =
     let old : List EntryChild = w.front ++ record { page = page; bound = w.bound } ∷ w.back in

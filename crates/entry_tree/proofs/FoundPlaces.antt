@@ -35,7 +35,7 @@ in_back f (suc k) [] x h = absurd h
 in_back f (suc k) (y ∷ ys) x h =
     let r = in_back f k ys x h in (suc r.0, omega (arith, r.1), at_later f y x ys r.0 r.2)
 
--- what stands at a place has its mark there
+-- what is at a place has its mark there
 pub mark_there : {A : Type 0} (f : A → List ℕ) (xs : List A) (j : ℕ) (x : A) → slice_get xs j ≡ Some x → IsAt f xs x j
 mark_there f [] j x e = absurd cc
 mark_there f (y ∷ ys) zero x e = at_first f y x ys (sym (same_Some y x e))

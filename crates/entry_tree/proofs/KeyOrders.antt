@@ -39,7 +39,7 @@ pub less_below : (a b key : List ℕ) → BoundLess a b → IsBelow b key → Is
 less_below a b key l k =
     (l.0, elim l.1 [ inl none ↦ absurd (k.0 none) | inr less ↦ key_trans a b key less k.1 ])
 
--- a key may stand where the bound isn't below it
+-- a key may be where the bound isn't below it
 pub up_to : (bound key : List ℕ) → (IsBelow bound key → ⊥) → UpTo key bound
 up_to [] key not_so = inl refl
 up_to (b ∷ bs) key not_so =

@@ -2,7 +2,7 @@
 use Rattle.std.proofs.Common.{ℕ, [], ◌∷◌, refl}
 use Rattle.page_types.specs.declared.page.Body.{Body}
 use Rattle.page_types.specs.declared.page.Body.TheVariants as body
-use Rattle.core_state.specs.TreeRows.{Toward, OneChild}
+use Rattle.core_state.specs.TreeRules.{Toward, OneChild}
 use Rattle.entry_tree.specs.Finding.{IsEntryBody, IsFoundIn}
 use Rattle.entry_tree.specs.Logging.{FoundLeadsDown, GrownRootIsLogged}
 

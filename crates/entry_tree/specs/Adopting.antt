@@ -5,7 +5,7 @@ use Rattle.page_types.specs.Keys.{IsKey, KeyLess, BoundLess}
 use Rattle.page_types.specs.declared.page.EntryChild.{EntryChild}
 use Rattle.core_state.specs.Log.{In}
 
--- a key divides what stands below a child with this bound, which comes after these
+-- a key divides what is below a child with this bound, which comes after these
 pub record IsDivider (mid bound : List ℕ) (front : List EntryChild) : Type 0 where
   pub key : IsKey mid
   pub above : (b : EntryChild) → In b front → KeyLess b.bound mid

@@ -1,13 +1,13 @@
 -- What is found is on the way of a key, and a root that has grown is what its record asks.
 use Rattle.std.specs.Prelude.{◌≡◌, ℕ, ◌<◌, List, [], ◌∷◌, length}
-use Rattle.page_types.specs.Spelling.{body_bytes}
+use Rattle.page_types.specs.Encoding.{body_bytes}
 use Rattle.page_types.specs.declared.page.Page.{Page}
 use Rattle.page_types.specs.declared.record.Record.{Record}
 use Rattle.page_types.specs.declared.record.Kind.TheVariants as kind
 use Rattle.core_state.specs.Log.{Pages, changed}
 use Rattle.core_state.specs.Known.{Known}
 use Rattle.core_state.specs.Changes.{made_with, IsNew}
-use Rattle.core_state.specs.TreeRows.{Toward, IsGrowRootHere, half_body}
+use Rattle.core_state.specs.TreeRules.{Toward, IsGrowRootHere, half_body}
 use Rattle.entry_tree.specs.declared.finding.Found.TheVariants as found
 use Rattle.entry_tree.specs.Finding.{IsEntryBody, IsFound}
 use Rattle.entry_tree.specs.Growing.{root_over, moved_down}

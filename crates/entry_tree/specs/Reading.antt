@@ -1,7 +1,7 @@
 -- The first child, the greatest key, and the room of a page of the entry tree.
 use Rattle.std.specs.Prelude.{ℕ, ◌+◌, ◌≤◌, List, [], ◌∷◌, length, Option, Some, None}
 use Rattle.page_types.specs.Numbers.{most_body, most_key_text}
-use Rattle.page_types.specs.Spelling.{body_bytes}
+use Rattle.page_types.specs.Encoding.{body_bytes}
 use Rattle.page_types.specs.declared.page.Page.{Page}
 use Rattle.page_types.specs.declared.page.EntryChild.{EntryChild}
 use Rattle.page_types.specs.declared.page.Body.{Body}
@@ -30,5 +30,5 @@ abbrev pub longest_child : ℕ
 longest_child = 4 + (2 + (1 + most_key_text))
 
 -- such a child more fits on the page
-abbrev pub HasRoom : Page → Type 0
-HasRoom p = length (body_bytes p.body) + longest_child ≤ most_body
+abbrev pub HasRoomForChild : Page → Type 0
+HasRoomForChild p = length (body_bytes p.body) + longest_child ≤ most_body

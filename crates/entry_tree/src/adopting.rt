@@ -6,8 +6,8 @@ ghost use Rattle.page_types.specs.Pages.{IsPage};
 ghost use Rattle.page_types.specs.Views.{entry_children_in};
 ghost use Rattle.page_types.specs.declared.page.EntryChild.{EntryChild};
 ghost use Rattle.core_state.specs.Log.{In};
-ghost use Rattle.core_state.specs.TreeRows.{EntryParent};
-ghost use Rattle.entry_tree.specs.Reading.{HasRoom};
+ghost use Rattle.core_state.specs.TreeRules.{EntryParent};
+ghost use Rattle.entry_tree.specs.Reading.{HasRoomForChild};
 ghost use Rattle.entry_tree.specs.Adopting.{IsDivider, IsOneMore};
 
 use page_types::{Body, EntryChildRef, EntryChildren, Page};
@@ -67,7 +67,7 @@ pub fn adopt(parent: &Page, page: u32, new: u32, mid: &[u8]) -> Result<Option<Pa
         ↔ ((c : EntryChild) → In c (entry_children_in parent.now.body) → c.page ≢ page)) }
     ensures is_page { IfOk result (λ o. IfSome o (λ p.
         (w : EntryParent page new mid.now parent.now.body p.body) → IsDivider mid.now w.bound w.front
-        → IsPage parent.now → HasRoom parent.now → new < page_limit → IsPage p)) }
+        → IsPage parent.now → HasRoomForChild parent.now → new < page_limit → IsPage p)) }
 {
     let children = match &parent.body {
         Body::EntryInner(children) => children,

@@ -19,7 +19,7 @@ pub enum Found {
     Absent { place: usize },
     /// The key is sought below this child.
     Down { child: u32 },
-    /// The key is above all that may stand here, and is sought on this page, the right link.
+    /// The key is above all that may be here, and is sought on this page, the right link.
     Right { page: u32 },
 }
 
@@ -79,7 +79,7 @@ pub fn find<Q, W: Meaning<Q>, C: CompareKeys, J: Judge<Q, W>>(
     class: &OpClass<Q, W, C, J>,
     key: &[u8],
 ) -> Found
-    requires spelled { IsPage page.now }
+    requires encoded { IsPage page.now }
     requires entries { IsEntryBody page.now.body }
     ensures { IsFound page.now key.now result }
 {

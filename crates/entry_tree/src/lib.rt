@@ -2,18 +2,18 @@
 //! a page that was split.
 //!
 //! The entry tree is a B-tree of keys. A leaf has entries, each a key with its items; an inner page
-//! has children, each with the greatest key that may stand below it.
+//! has children, each with the greatest key that may be below it.
 #![tactic(auto)]
 
 mod adopting;
 mod finding;
 mod growing;
 mod laws;
-mod reading;
+mod pages;
 mod searching;
 
 pub use adopting::adopt;
 pub use finding::{Found, find};
 pub use growing::grow;
 pub use laws::{found_leads_down, pages_may_be_logged};
-pub use reading::{first_child, has_room, upper};
+pub use pages::{first_child, has_room, upper};

@@ -24,7 +24,7 @@ use std::rt::Env;
 use std::sync::Wait;
 use std::thread::Threads;
 
-/// The words behind the program's name, which is the first.
+/// The words after the program's name, which is the first.
 fn behind_name(words: Vec<String>) -> Vec<String>
     ensures { result.items ≡ drop 1 words.items }
 {
@@ -51,7 +51,7 @@ fn unread_status(error: &io::Error) -> u8
     }
 }
 
-/// The whole program, over the store in a folder. Where the files of the folder tell what they hold, so does the device
+/// The whole program, over the store in a folder. Where the files of the folder say what they hold, so does the device
 /// over them, and the contract of a run says what is found, and what a crash leaves.
 fn answer<R: Threads + Wait + Sync, F: HostFolder + Send, I: Read, O: Write>(
     rt: &R,

@@ -10,7 +10,7 @@ use prog.Atomic.{either}
 use Rattle.atomic_table.specs.Table.{State, Me, step, Act, keeps, takes, stepped, Valid, Allows, carried_after}
 use Rattle.atomic_table.proofs.Lists.{set_else}
 use Rattle.page_types.specs.Numbers.{page_limit}
-use Rattle.page_types.specs.Spelling.{page_bytes}
+use Rattle.page_types.specs.Encoding.{page_bytes}
 use Rattle.core_state.specs.Log.{Log, In, Shows}
 use Rattle.latch_table.specs.declared.slots.Framed.{Ghosts as Framed}
 use Rattle.latch_table.specs.declared.slots.Journaled.{Ghosts as Journaled}
@@ -103,7 +103,7 @@ module _ {F J : Type 0} (frame : Framed F) (journal : Journaled J) (start : J) w
       → IsFrame frame journal start h i f → (journal.lawful start → frame.page f < page_limit → page_bytes (h.pages (frame.page f)) ≡ frame.bytes f)
       → (journal.lawful start → Shows h.log h.pages)
       → Knows journal start h id v → Knows journal start (taken_by h i id) id (after h i sought f v)
-  claimer_knows h id i sought f v within free room home spelled shown w =
+  claimer_knows h id i sought f v within free room home encoded shown w =
       let holder' : ℕ → ℕ = put h.holder i (suc id) in
       let stays : (q : ℕ) → h.holder q ≡ suc id → holder' q ≡ suc id
       = λ q has. put_else h.holder i (suc id) q (λ e. let z : h.holder q ≡ 0 = ap h.holder e ∙ free in omega arith) ∙ has in
@@ -121,7 +121,7 @@ module _ {F J : Type 0} (frame : Framed F) (journal : Journaled J) (start : J) w
         frames = (
           within,
           put_here h.holder i (suc id) i refl,
-          record { placed = sym home.page; shown = λ l lt. (refl, spelled l lt) },
+          record { placed = sym home.page; shown = λ l lt. (refl, encoded l lt) },
           absent_free journal start h id i v.frames (λ e. omega arith) w.frames,
           n.frames,
         );
@@ -146,7 +146,7 @@ module _ {F J : Type 0} (frame : Framed F) (journal : Journaled J) (start : J) w
       → (journal.lawful start → frame.page f < page_limit → page_bytes (k.shape.pages (frame.page f)) ≡ frame.bytes f)
       → (notes : Bool) (found : ℕ)
       → Rule record { words = set s.words i x; homes = set s.homes i none; views = set s.views id (after k.shape i sought f (found_by notes found v)) }
-  claim_keeps s k id i sought x f v at within free room some_x there home spelled notes found =
+  claim_keeps s k id i sought x f v at within free room some_x there home encoded notes found =
       let h = k.shape in
       let holder' : ℕ → ℕ = put h.holder i (suc id) in
       let h' : Shape J = taken_by h i id in
@@ -183,7 +183,7 @@ module _ {F J : Type 0} (frame : Framed F) (journal : Journaled J) (start : J) w
         pinned = pins_stay journal start h holder' h.owner s.views id v w at refl k.pinned;
         sums = sums_stay journal start h holder' h.owner s.views id v w at refl refl refl refl k.sums;
         knows = views_stay (Knows journal start h) (Knows journal start h') s.views id w
-            (claimer_knows h id i sought f u within free room home spelled k.store.shown (found_knows h id found notes v (k.knows id v at)))
+            (claimer_knows h id i sought f u within free room home encoded k.store.shown (found_knows h id found notes v (k.knows id v at)))
             (λ j y _ _ t. knows_stays journal start h holder' h.owner j y (stays j) t.xids t) k.knows;
       }
 
@@ -201,10 +201,10 @@ module _ {F J : Type 0} (frame : Framed F) (journal : Journaled J) (start : J) w
       let f : F = home.0 in
       let v : PassState J = found_by notes x me.0 in
       let w : PassState J = after h i (sought + 1 - 1) f v in
-      let spelled : journal.lawful start → frame.page f < page_limit → page_bytes (h.pages (frame.page f)) ≡ frame.bytes f
+      let encoded : journal.lawful start → frame.page f < page_limit → page_bytes (h.pages (frame.page f)) ≡ frame.bytes f
       = λ l lt. (k.store.shown l (frame.page f)).1 ∙ sym (home.2.bytes l lt) in
       let known = k.knows id me.0 at in
-      let rule = claim_keeps s k id i (sought + 1 - 1) (sought + 1) f me.0 at within free room (omega arith) home.1 home.2 spelled notes x in (
+      let rule = claim_keeps s k id i (sought + 1 - 1) (sought + 1) f me.0 at within free room (omega arith) home.1 home.2 encoded notes x in (
         w,
         takes i (Frame f),
         home.1,
@@ -218,9 +218,9 @@ module _ {F J : Type 0} (frame : Framed F) (journal : Journaled J) (start : J) w
               goes_on = (known.seen.later, known.seen.goes_on);
               state = refl;
               allowed = λ l. allowed journal start (taken_by h i id) id w (store_stays journal start h (put h.holder i (suc id)) h.owner k.store) k.pinned.kept
-                  (claimer_knows h id i (sought + 1 - 1) f v within free room home.2 spelled k.store.shown (found_knows h id x notes me.0 known))
+                  (claimer_knows h id i (sought + 1 - 1) f v within free room home.2 encoded k.store.shown (found_knows h id x notes me.0 known))
                   (lawful_here journal start h id me.0 known l);
-              spelled = λ l lt. spelled (lawful_here journal start h id me.0 known l) lt;
+              encoded = λ l lt. encoded (lawful_here journal start h id me.0 known l) lt;
             },
             refl,
           )),

@@ -1,7 +1,7 @@
 -- A table may be laid over an empty store.
 use Rattle.std.proofs.Common.{◌≡◌, ℕ, ◌≤◌, List, [], length, replicate, refl, sym, ap, subst, ◌∙◌, arith}
 use Rattle.page_types.specs.Numbers.{zeros, page_size, u16_bytes, u32_bytes, u64_bytes}
-use Rattle.page_types.specs.Spelling.{page_bytes, front_bytes, framed}
+use Rattle.page_types.specs.Encoding.{page_bytes, front_bytes, framed}
 use Rattle.page_types.specs.Pages.{IsPage}
 use Rattle.page_types.specs.Views.{free_page}
 use Rattle.core_state.specs.Log.{Pages, Shows, commits, cut, replay}

@@ -51,7 +51,7 @@ in_without i g (f ∷ fs) ne there = dite (ℕ_discrete f.frame i)
     (⊎_elim (λ same. inl same) (λ rest. inr (in_without i g fs ne rest)) there))
 
 module _ {J : Type 0} (journal : Journaled J) (start : J) where
-  -- a note of the seat's tells of its frame
+  -- a note of the seat's says of its frame
   pub note_in : (h : Shape J) (j : ℕ) (g : Note) (fs : List Note) → HasFrames journal start h j fs → In g fs
       → (g.frame < h.frames) × (h.holder g.frame ≡ suc j) × IsNote journal start h g
   note_in h j g [] t there = absurd there

@@ -73,7 +73,7 @@ module _ {F J : Type 0} where
             ∙ ap (turned_by (position i (frames_of (state p).frames))) (only_frames z p is none) ∙ t.1,
       )
 
-  -- it is one of the table's, and stands among those that the pass holds
+  -- it is one of the table's, and is among those that the pass holds
   pub held_within : (z : TableId) (p : Pass F J) (i : ℕ) (note : Note) → IsPassOf z p → In note (state p).frames → note.frame ≡ i
       → (i + 2 < z.slots) × (position i (numbers p.held) < length (numbers p.held))
   held_within z p i note is there at = (

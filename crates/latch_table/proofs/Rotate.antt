@@ -16,7 +16,7 @@ module _ {S : Type 0} where
   turned_first zero xs = refl
   turned_first (suc n) xs = ap turned (turned_first n xs)
 
-  -- a beginning goes behind the rest
+  -- a beginning goes after the rest
   turned_front : (as_ bs : List (ℕ × S)) → turned_by (length as_) (as_ ++ bs) ≡ bs ++ as_
   turned_front [] bs = sym (append-nil bs)
   turned_front (a ∷ as_) bs =
@@ -65,7 +65,7 @@ pub frames_length : (fs : List Note) → length (frames_of fs) ≡ length fs
 frames_length [] = refl
 frames_length (f ∷ fs) = ap suc (frames_length fs)
 
--- a frame that is noted stands in front of the end
+-- a frame that is noted is in front of the end
 pub position_within : (i : ℕ) (note : Note) (fs : List Note) → In note fs → note.frame ≡ i → position i (frames_of fs) < length (frames_of fs)
 position_within i note fs there is =
     let c = cut_at i note fs there is in
@@ -92,7 +92,7 @@ module _ {F J : Type 0} where
   carried_both [] gs = refl
   carried_both (f ∷ fs) gs = ap (λ (l : List (ℕ × Slot F J)). (f.frame, Away) ∷ l) (carried_both fs gs)
 
-  -- once as many are turned as stand in front of it, the frame's slot is in front
+  -- once as many are turned as are in front of it, the frame's slot is in front
   pub in_front : (i : ℕ) (note : Note) (fs : List Note) → In note fs → note.frame ≡ i
       → (xs : List (ℕ × Slot F J)) × (turned_by (position i (frames_of fs)) (carried fs) ≡ (i, Away) ∷ xs)
   in_front i note fs there is =
@@ -106,7 +106,7 @@ module _ {F J : Type 0} where
         ap (λ n. turned_by n (carried {F = F} {J = J} fs)) c.behind ∙ e ∙ ap (λ k. (k, Away) ∷ (carried c.back ++ carried c.front)) c.is,
       )
 
-  -- and once it is given back and the others are turned on, they stand in their order
+  -- and once it is given back and the others are turned on, they are in their order
   pub back_again : (i : ℕ) (note : Note) (fs : List Note) → In note fs → note.frame ≡ i
       → turned_by (length (frames_of fs) - 1 - position i (frames_of fs)) (rest (turned_by (position i (frames_of fs)) (carried {F = F} {J = J} fs)))
       ≡ carried (without i fs)

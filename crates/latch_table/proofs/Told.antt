@@ -61,6 +61,6 @@ module _ {J : Type 0} (journal : Journaled J) (start : J) where
     read = (w.read l).1;
   }
 
-  -- what a pass is told to be lawful was so at the opening
+  -- what a pass is said to be lawful was so at the opening
   pub lawful_here : (h : Shape J) (j : ℕ) (v : PassState J) → Knows journal start h j v → IsLawful journal v → journal.lawful start
   lawful_here h j v w l = subst journal.lawful (w.start_is l.0 l.1) l.2

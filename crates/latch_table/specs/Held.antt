@@ -14,7 +14,7 @@ numbers (held.Two a b) = a ∷ b ∷ []
 numbers (held.Three a b c) = a ∷ b ∷ c ∷ []
 numbers (held.Four a b c d) = a ∷ b ∷ c ∷ d ∷ []
 
--- how many stand in front of k
+-- how many are in front of k
 abbrev pub position : ℕ → List ℕ → ℕ
 position k [] = 0
 position k (x ∷ xs) = cond (x == k) 0 (suc (position k xs))
@@ -29,7 +29,7 @@ abbrev pub frames_of : List Note → List ℕ
 frames_of [] = []
 frames_of (f ∷ fs) = f.frame ∷ frames_of fs
 
--- the first goes behind the others, so many times
+-- the first goes after the others, so many times
 abbrev pub turned_by : {S : Type 0} → ℕ → List (ℕ × S) → List (ℕ × S)
 turned_by zero xs = xs
 turned_by (suc n) xs = turned (turned_by n xs)

@@ -1,4 +1,4 @@
--- The lines of the rule. What needs that the store was lawful at the opening stands after `Lawful`;
+-- The lines of the rule. What needs that the store was lawful at the opening is after `Lawful`;
 -- the rest holds of every store.
 use Rattle.std.specs.Prelude.{◌≡◌, ◌≢◌, ℕ, suc, ◌+◌, ◌<◌, ◌≤◌, Bool, true, nat_lt, ◌&&◌, not, cond, List, [], ◌∷◌, ◌++◌, length, slice_index, Option, Some, None, ⊤}
 use mathlib.Core.Option.{some}
@@ -6,7 +6,7 @@ use lib.ListN.{get_elem?}
 use Rattle.std.specs.declared.snapshot.Snapshot.{Snapshot}
 use Rattle.atomic_table.specs.Table.{State}
 use Rattle.page_types.specs.Numbers.{page_limit}
-use Rattle.page_types.specs.Spelling.{page_bytes}
+use Rattle.page_types.specs.Encoding.{page_bytes}
 use Rattle.core_state.specs.Log.{Log, In, Shows, commits, cut, next_xid, replay}
 use Rattle.core_state.specs.Legal.{IsLegal, Pin, Keeps}
 use Rattle.core_state.specs.Logged.{pin_now}
@@ -126,7 +126,7 @@ module _ {J : Type 0} (journal : Journaled J) (start : J) where
     pub shown : v.shown ≤ journal.flushed h.journal
     pub counted : v.counted ≤ journal.counted h.journal
 
-  -- a note tells the page of its frame, and of a lawful store the page that spells its bytes
+  -- a note says the page of its frame, and of a lawful store the page that encodes its bytes
   pub record IsNote (h : Shape J) (f : Note) : Type 0 where
     pub placed : journal.place h.journal f.frame ≡ f.page
     pub shown : Lawful → f.page < page_limit

@@ -22,7 +22,7 @@ abbrev pub total : {V : Type 0} → (V → ℕ) → List V → ℕ
 total f [] = 0
 total f (v ∷ vs) = f v + total f vs
 
--- how often k stands in the list
+-- how often k is in the list
 abbrev pub times : ℕ → List ℕ → ℕ
 times k [] = 0
 times k (x ∷ xs) = cond (x == k) 1 0 + times k xs

@@ -1,9 +1,9 @@
--- What each kind of step tells the pass that makes it.
+-- What each kind of step says the pass that makes it.
 use Rattle.std.specs.Prelude.{◌≡◌, ◌≢◌, ◌<◌, ◌-◌, Bool, ℕ, List, ◌∷◌, ◌++◌, length, Some}
 use Rattle.std.specs.declared.snapshot.Snapshot.{Snapshot}
 use Rattle.atomic_table.specs.Table.{Me, Step}
 use Rattle.page_types.specs.Numbers.{page_limit}
-use Rattle.page_types.specs.Spelling.{page_bytes}
+use Rattle.page_types.specs.Encoding.{page_bytes}
 use Rattle.page_types.specs.declared.page.Page.{Page}
 use Rattle.core_state.specs.Log.{Log}
 use Rattle.core_state.specs.Allowed.{IsAllowed}
@@ -18,7 +18,7 @@ use Rattle.latch_table.specs.PassStates.{view_of, found_by, with_frame, without_
 module _ {F J : Type 0} (frame : Framed F) (journal : Journaled J) where
   -- The frame `at`, with this value, was claimed when the log was one that goes on from what the pass
   -- had seen. Of a lawful store, that log is allowed to the pass as it is then, and the page that is
-  -- noted spells the frame's bytes.
+  -- noted encodes the frame's bytes.
   pub record HasClaimed (at sought : ℕ) (f : F) (old new : PassState J) : Type 0 where
     pub log : Log
     pub content : Page
@@ -26,7 +26,7 @@ module _ {F J : Type 0} (frame : Framed F) (journal : Journaled J) where
     pub state : new ≡ with_frame (length log) sought
         (record { frame = at; page = frame.page f; bytes = frame.bytes f; content = content }) old
     pub allowed : IsLawful journal old → IsAllowed (view_of new) log
-    pub spelled : IsLawful journal old → frame.page f < page_limit → page_bytes content ≡ frame.bytes f
+    pub encoded : IsLawful journal old → frame.page f < page_limit → page_bytes content ≡ frame.bytes f
 
   -- a try to claim a frame found its word free, or taken
   abbrev pub claimed : Bool → Step (Slot F J) → Me (Slot F J) (PassState J) → ℕ → Me (Slot F J) (PassState J) → Type 0

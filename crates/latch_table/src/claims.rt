@@ -59,7 +59,7 @@ pub(crate) fn try_take<F: Framed, J: Journaled>(
     Some(value)
 }
 
-/// Brings the slot to the front that stands behind so many.
+/// Brings the slot to the front that is after so many.
 pub(crate) fn turn<F, J>(seat: &mut Place<F, J>, times: usize)
     ensures { (seat.new.table_id ≡ seat.old.table_id) × (seat.new.id ≡ seat.old.id) × (seat.new.me ≡ (seat.old.me.0, turned_by times seat.old.me.1)) }
 {

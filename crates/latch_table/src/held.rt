@@ -40,7 +40,7 @@ impl Held {
         }
     }
 
-    /// How many stand in front of this one.
+    /// How many are in front of this one.
     pub fn position(self, frame: u32) -> usize
         ensures { result ≡ position frame (numbers self) }
     {

@@ -1,4 +1,4 @@
-// What each kind of step tells.
+// What each kind of step says.
 ghost use Rattle.std.specs.Prelude.{true, false};
 ghost use Rattle.latch_table.specs.Told.{claimed, gave_back, opened};
 

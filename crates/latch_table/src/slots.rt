@@ -20,7 +20,7 @@ pub trait Journaled {
     /// The store is a lawful one, where this is the journal at the opening.
     ghost lawful: { Self → Type 0 };
 
-    /// It stands for this log, the newest record first. Of a device that tells nothing it may stand for several.
+    /// It stands for this log, the newest record first. Of a device that says nothing it may stand for several.
     ghost stands: { Self → List Record → Type 0 };
 
     /// How many commits are flushed.

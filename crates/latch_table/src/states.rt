@@ -2,7 +2,7 @@
 use page_types::{Page, Record};
 use std::snapshot::Snapshot;
 
-/// A frame that a pass holds, its page, its bytes, and the page that they spell.
+/// A frame that a pass holds, its page, its bytes, and the page that they encode.
 pub struct Note {
     pub frame: u64,
     pub page: u64,

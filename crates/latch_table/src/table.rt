@@ -22,7 +22,7 @@ const SPINS: u32 = 64;
 /// A sleep compares the bits of a word below this one.
 const LOW: u64 = 1 << 32;
 
-/// The frames and the journal, each behind its latch, and the right of maintenance.
+/// The frames and the journal, each after its latch, and the right of maintenance.
 pub struct LatchTable<F: Framed, J: Journaled> {
     pub(crate) table: Base<F, J>,
     /// How many sleep, or are about to, until a word is free.

@@ -5,7 +5,7 @@ use disk_trait::{Disk, Failed, File, MemoryDisk};
 use std::rt::Clock;
 use std::time::{Duration, Instant};
 
-/// It tells nothing of what it holds.
+/// It says nothing of what it holds.
 #[derive(Drop)]
 pub(crate) struct TimedDisk<'a, R: Clock> {
     /// The device.

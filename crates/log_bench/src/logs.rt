@@ -33,7 +33,7 @@ fn push_record(log: &mut Vec<u8>, kind: u8, xid: u32, number: u64) -> Result<(),
     Ok(())
 }
 
-/// A batch after its gate: its length, and its records. Each transaction begins and aborts.
+/// A batch after its commit byte: its length, and its records. Each transaction begins and aborts.
 fn push_batch(log: &mut Vec<u8>, first: u32) -> Result<(), AllocError> {
     log.push(1)?;
     log.extend_from_slice(&BATCH_BYTES.to_le_bytes())?;

@@ -1,6 +1,6 @@
 //! Opens a log of many records of transactions that begin and abort, and inserts documents; it prints counts. With
 //! the word `time` there are a million records in place of 10,000, and it is also printed how long the opening takes,
-//! and what an insert costs beside its calls of the device, behind few documents and behind many.
+//! and what an insert costs beside its calls of the device, after few documents and after many.
 #![tactic(auto)]
 
 mod device;

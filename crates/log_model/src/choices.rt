@@ -1,4 +1,4 @@
-// What the core tells of pages to take, of running transactions and of documents, against the walks.
+// What the core says of pages to take, of running transactions and of documents, against the walks.
 use crate::told::{CORE_DIFFERS, PAGES};
 use core_state::{Life, State};
 use log_walks::{Doc, Fate, Fault, Ledger, PlainBody, Store, must};
@@ -67,7 +67,7 @@ fn first_with_room(store: &Store, pages: &[u32], from: usize, bytes: u32) -> Opt
     None
 }
 
-/// Whether the state tells which of these pages has room for so many bytes, from each number on.
+/// Whether the state says which of these pages has room for so many bytes, from each number on.
 fn same_room(state: &State, store: &Store, pages: &[u32], bytes: u32) -> bool {
     for from in 0..pages.len().saturating_add(2) {
         let told = u32::try_from(from)
@@ -92,7 +92,7 @@ fn tries_pages(state: &State, pages: &[u32]) -> bool {
     state.heap_page(number).is_none()
 }
 
-/// Whether the state tries heads on these pages, and tells which of them have room: for nothing, for just what this
+/// Whether the state tries heads on these pages, and says which of them have room: for nothing, for just what this
 /// page has, for a byte more, and for a large head.
 fn same_tries(state: &State, store: &Store, pages: &[u32], page: u32) -> bool {
     let rest = MOST_ROOM.saturating_sub(used_length(store, page));
@@ -142,7 +142,7 @@ fn life(ledger: &Ledger, doc: &Doc) -> Option<Life> {
     })
 }
 
-/// Whether the state has the life of this document, and of none in the slot behind its own.
+/// Whether the state has the life of this document, and of none in the slot after its own.
 fn same_life(state: &State, ledger: &Ledger, doc: &Doc) -> bool {
     let name = name_of(doc);
     let other = Name {
@@ -188,7 +188,7 @@ fn same_running(state: &State, ledger: &Ledger, record: &Record) -> bool {
     }
 }
 
-/// The state behind a valid record, which leaves these pages, tells what the walks find. Heads are
+/// The state after a valid record, which leaves these pages, says what the walks find. Heads are
 /// tried on `tried` in order.
 pub(crate) fn must_choose(
     state: &State,

@@ -1,11 +1,11 @@
-// A line of `edits`: what of a log's bytes is replaced or put behind them, what that does, and the wanted verdict.
+// A line of `edits`: what of a log's bytes is replaced or put after them, what that does, and the wanted verdict.
 use anyhow::{Context, Result, bail, ensure};
 use std::alloc::Global;
 
 /// A line of `edits`.
 #[derive(Clone, Copy)]
 pub(crate) struct EditLine<'a> {
-    /// Pairs of an offset and bytes in base 16, as `0061*20+0100`, where the byte 61 stands 20 times.
+    /// Pairs of an offset and bytes in base 16, as `0061*20+0100`, where the byte 61 is 20 times.
     pairs: &'a str,
     /// What the edit does.
     pub(crate) what: &'a str,
@@ -25,7 +25,7 @@ impl<'a> EditLine<'a> {
         })
     }
 
-    /// The log's bytes with the edit, which may go on behind them.
+    /// The log's bytes with the edit, which may go on after them.
     pub(crate) fn apply(&self, alloc: Global, log: &[u8]) -> Result<Vec<u8>> {
         let mut bytes = Vec::from_slice(alloc, log)?;
         let mut words = self.pairs.split_whitespace();
@@ -60,7 +60,7 @@ fn byte_of(pair: &[u8]) -> Result<u8> {
     Ok(high.saturating_mul(16).saturating_add(low))
 }
 
-/// A byte stands at this place, within the others or right behind them.
+/// A byte is at this place, within the others or right after them.
 fn put_byte(bytes: &mut Vec<u8>, at: usize, byte: u8) -> Result<()> {
     match bytes.get_mut(at) {
         Some(old) => *old = byte,
@@ -75,7 +75,7 @@ fn put_byte(bytes: &mut Vec<u8>, at: usize, byte: u8) -> Result<()> {
     Ok(())
 }
 
-/// The bytes with these digits over those from a place on; the place behind them.
+/// The bytes with these digits over those from a place on; the place after them.
 fn put_digits(bytes: &mut Vec<u8>, at: usize, digits: &str) -> Result<usize> {
     let mut place = at;
     for pair in digits.as_bytes().chunks(2) {
@@ -102,7 +102,7 @@ fn put_part(bytes: &mut Vec<u8>, at: usize, part: &str) -> Result<usize> {
     Ok(place)
 }
 
-/// The same with several parts, between which `+` stands.
+/// The same with several parts, between which `+` is.
 fn put_parts(bytes: &mut Vec<u8>, at: usize, parts: &str) -> Result<()> {
     let mut place = at;
     for part in parts.split('+') {

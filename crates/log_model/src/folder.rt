@@ -14,7 +14,7 @@ use std::rt::Files;
 /// The records of a longer log are counted, and not printed.
 const MOST_PRINTED: usize = 1000;
 
-/// What is asked of a log, and what is told.
+/// What is asked of a log, and what is said.
 #[derive(Clone, Copy, Debug)]
 pub(crate) struct Asks {
     /// Whether a commit asks for indexed documents.
@@ -56,7 +56,7 @@ fn rule_line(alloc: Global, verdict: Verdict) -> Result<String, AllocError> {
     }
 }
 
-/// Prints each line of which the other text has another; it tells how many these are.
+/// Prints each line of which the other text has another; it says how many these are.
 fn compare(rt: &impl Print, what: &str, wanted: &str, lines: &[String]) -> Result<usize> {
     let mut differ = 0usize;
     let mut wanted = wanted.lines();
@@ -84,7 +84,7 @@ fn count_valid(judged: &Judged) -> usize {
         .count()
 }
 
-/// Prints the records with their verdicts, or of a long log how many there are; it tells how many lines differ.
+/// Prints the records with their verdicts, or of a long log how many there are; it says how many lines differ.
 fn print_records<R: Files + Print + AllocGlobal>(
     rt: &R,
     folder: Path<'_>,
@@ -112,7 +112,7 @@ fn print_records<R: Files + Print + AllocGlobal>(
     compare(rt, "records", wanted.as_str(), &lines)
 }
 
-/// Prints the history; it tells how many lines differ.
+/// Prints the history; it says how many lines differ.
 fn print_history<R: Files + Print + AllocGlobal>(
     rt: &R,
     folder: Path<'_>,
@@ -162,7 +162,7 @@ fn test_edit(
     Ok(agrees)
 }
 
-/// Tests all edits of a log; it tells how many lines differ. Where the log is legal, what they leave of it isn't judged
+/// Tests all edits of a log; it says how many lines differ. Where the log is legal, what they leave of it isn't judged
 /// again for each.
 fn test_edits<R: Files + Print + AllocGlobal>(
     rt: &R,
@@ -192,7 +192,7 @@ fn test_edits<R: Files + Print + AllocGlobal>(
     Ok(differ)
 }
 
-/// Tests the log of a folder, its walks and its edits; it tells how many lines differ.
+/// Tests the log of a folder, its walks and its edits; it says how many lines differ.
 pub(crate) fn test_folder<R: Files + Print + AllocGlobal>(
     rt: &R,
     name: &str,

@@ -30,7 +30,7 @@ fn was_changed(store: &Store, page: u32, from: u64) -> bool {
     store.page(page).is_some_and(|page| page.stamp >= from)
 }
 
-/// The rule holds of the records, where it holds without the last: these pages are those behind the others, and this is
+/// The rule holds of the records, where it holds without the last: these pages are those after the others, and this is
 /// the last redo number of the others, which rise.
 pub(crate) fn must_have_images(
     alloc: Global,

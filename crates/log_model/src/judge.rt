@@ -36,9 +36,9 @@ impl fmt::Display for Verdict {
 pub(crate) struct Judged {
     /// All records that were read.
     pub(crate) records: Vec<Record>,
-    /// The transactions behind the valid ones.
+    /// The transactions after the valid ones.
     pub(crate) ledger: Ledger,
-    /// The pages behind the valid ones.
+    /// The pages after the valid ones.
     pub(crate) pages: Store,
     /// The verdict.
     pub(crate) verdict: Verdict,
@@ -88,8 +88,8 @@ pub(crate) fn records_of(alloc: Global, log: &[u8]) -> Result<Option<Vec<Record>
     }
 }
 
-/// The first record that is not valid behind those before it, and the rule that it breaks. So many first ones are valid
-/// and left this behind.
+/// The first record that is not valid after those before it, and the rule that it breaks. So many first ones are valid
+/// and left this after.
 fn first_invalid(
     alloc: Global,
     records: &[Record],

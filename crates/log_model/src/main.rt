@@ -1,4 +1,6 @@
-//! Reads logs and tests each condition of each record's row by plain walks over decoded pages, as an independent
+//! The model, a second reading of logs that shares no walk with the store: here the program that runs it.
+//!
+//! Reads logs and tests each condition of each record's rule by plain walks over decoded pages, as an independent
 //! check of the definitions of a legal log.
 //!
 //! In `logs` and `index-logs` each folder has
@@ -6,8 +8,8 @@
 //! - `ginsh.log`, a whole log file, and `about`, what the run did;
 //! - `records`, a record a line: number, kind, xid, fields, changed pages (`i` an image, `d` a delta);
 //! - `commits`, its history: a commit a line, with the names that it deletes and those that it inserts;
-//! - `edits`, an edit a line: `OFFSET BYTES ..; what it does; verdict`. The bytes, in base 16, stand at the offset in
-//!   place of the log's, or behind them. A verdict is `legal`, `not a store`, or `record N is not valid`: the records
+//! - `edits`, an edit a line: `OFFSET BYTES ..; what it does; verdict`. The bytes, in base 16, are at the offset in
+//!   place of the log's, or after them. A verdict is `legal`, `not a store`, or `record N is not valid`: the records
 //!   before N are a legal log, and N may not follow them;
 //! - `walks`, where it has any: the walk of a search in five lines, with an empty line between two. They are `walk:`
 //!   what it shows; `query:` lexemes with `!`, `&`, `|` and brackets; `pin: COMMITS commits at LENGTH`; `reads:` a
@@ -19,7 +21,7 @@
 //!   `log_scans`.
 //!
 //! Of the kinds of records of which the core has a test it is asked too, and has to find what the walks find; and its
-//! state has to tell what they tell behind each record. Where it doesn't the verdict is `record N is another to the
+//! state has to say what they say after each record. Where it doesn't the verdict is `record N is another to the
 //! core`.
 //!
 //! Each document of a walk's snapshot that satisfies the query has to be kept, and each that has a yes to satisfy it.
@@ -62,7 +64,7 @@ fn words(rt: &(impl Env + AllocGlobal)) -> Result<(String, bool)> {
     Ok((folder, why))
 }
 
-/// All logs; it tells how many lines differ.
+/// All logs; it says how many lines differ.
 fn run<R: Files + Print + Env + AllocGlobal + Clone + Drop>(rt: &R) -> Result<usize> {
     let alloc = rt.alloc();
     let (folder, why) = words(rt)?;

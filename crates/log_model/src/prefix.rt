@@ -1,4 +1,4 @@
-// A log as far as it is valid, and whether a record may come behind it.
+// A log as far as it is valid, and whether a record may come after it.
 use crate::choices::must_choose;
 use crate::images::must_have_images;
 use crate::told::{empty_state, must_find, must_tell};
@@ -111,7 +111,7 @@ impl Prefix {
         Ok(left)
     }
 
-    /// The last of these records comes behind the others, of which this is the log, where it is valid.
+    /// The last of these records comes after the others, of which this is the log, where it is valid.
     pub(crate) fn follow(
         &mut self,
         alloc: Global,

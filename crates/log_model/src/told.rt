@@ -1,4 +1,4 @@
-// What the core tells of a log: its tests of the kinds of records that it has, and its state.
+// What the core says of a log: its tests of the kinds of records that it has, and its state.
 use core_state::{
     Fate, PageUse, State, XID_BOUND, valid_abort, valid_begin, valid_commit, valid_create,
     valid_mark_deleted, valid_place_head, valid_put_overflow,
@@ -8,7 +8,7 @@ use page_code::{PageError, decode_page};
 use page_types::{Kind, Name, PAGE_BYTES, Page, PageBytes, Record};
 use std::alloc::Global;
 
-/// The rule that is broken where the core and the walks tell otherwise of a record.
+/// The rule that is broken where the core and the walks say otherwise of a record.
 pub(crate) const CORE_DIFFERS: &str = "the core and the walks agree";
 
 /// A log's pages are below this.
@@ -19,7 +19,7 @@ pub(crate) fn empty_state(alloc: Global) -> State {
     State::new(alloc, PAGES, XID_BOUND)
 }
 
-/// The page that the bytes spell; without bytes that of zeros.
+/// The page that the bytes encode; without bytes that of zeros.
 fn page_of(alloc: Global, bytes: Option<&PageBytes>) -> Result<Page, Fault> {
     let zeros = [0u8; PAGE_BYTES];
     let bytes = match bytes {
@@ -35,8 +35,8 @@ fn page_of(alloc: Global, bytes: Option<&PageBytes>) -> Result<Page, Fault> {
     }
 }
 
-/// Whether the core finds that a record may come next, as far as its pages before and behind it
-/// tell; none of a kind without a test.
+/// Whether the core finds that a record may come next, as far as its pages before and after it
+/// say; none of a kind without a test.
 fn test(
     alloc: Global,
     state: &State,
@@ -65,7 +65,7 @@ fn test(
     Ok(Some(found))
 }
 
-/// The same of a record behind these pages, with these bytes of those that it changes.
+/// The same of a record after these pages, with these bytes of those that it changes.
 fn core_finds(
     alloc: Global,
     state: &State,
@@ -82,7 +82,7 @@ fn core_finds(
     test(alloc, state, record, &before, &behind)
 }
 
-/// The core finds of a record what the rules of its kind on the pages before and behind it say:
+/// The core finds of a record what the rules of its kind on the pages before and after it say:
 /// `holds` is the answer of the walks, none of a kind of which the core has no test.
 pub(crate) fn must_find(
     alloc: Global,
@@ -162,7 +162,7 @@ fn same_numbers(state: &State, ledger: &Ledger, record: &Record) -> bool {
         && same_fate(state.fate(record.xid), ledger.fate(record.xid))
 }
 
-/// The state behind a valid record, which changes these pages, tells what the ledger tells.
+/// The state after a valid record, which changes these pages, says what the ledger says.
 pub(crate) fn must_tell(
     state: &State,
     ledger: &Ledger,

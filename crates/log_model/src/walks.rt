@@ -1,7 +1,7 @@
 // The walks of a folder: what each reads for which query, and what it has to find.
 use anyhow::{Context, Result, bail};
 use log_scans::{
-    Found, Moment, NoWalk, Pin, Query, Reading, all_sought, found_in, query_in, read_moments,
+    WalkResult, Moment, NoWalk, Pin, Query, Reading, all_sought, found_in, query_in, read_moments,
     scan_pages, told_wrong,
 };
 use log_walks::{Doc, Fault};
@@ -27,7 +27,7 @@ struct WalkLines<'a> {
     wanted: &'a str,
 }
 
-/// What stands behind a name in a line.
+/// What is after a name in a line.
 fn field<'a>(line: Option<&'a str>, name: &str) -> Result<&'a str> {
     let line = line.context("a walk has five lines")?;
     let field = line
@@ -96,7 +96,7 @@ fn push_run(alloc: Global, line: &mut String, from: u32, to: u32) -> Result<(), 
     line.push_str(run.as_str())
 }
 
-/// The items behind a name: those of neighbouring slots as their first and last.
+/// The items after a name: those of neighbouring slots as their first and last.
 fn items_line(alloc: Global, name: &str, items: &[u32]) -> Result<String, AllocError> {
     let mut line = String::from_str(alloc, name)?;
     if items.is_empty() {
@@ -115,7 +115,7 @@ fn items_line(alloc: Global, name: &str, items: &[u32]) -> Result<String, AllocE
     Ok(line)
 }
 
-/// What a walk has found, and the documents of the snapshot of which it tells wrongly.
+/// What a walk has found, and the documents of the snapshot of which it says wrongly.
 #[derive(Drop)]
 struct Walked {
     /// What it has found, or that it is none.
@@ -138,7 +138,7 @@ fn none_at(alloc: Global, refused: NoWalk) -> Result<Walked, AllocError> {
 /// What a walk that has read this finds for its query.
 fn outcome(alloc: Global, query: &Query, reading: &Reading) -> Result<Walked, AllocError> {
     let sought = all_sought(alloc, query)?;
-    let found: Found = match scan_pages(alloc, &reading.reads, &sought) {
+    let found: WalkResult = match scan_pages(alloc, &reading.reads, &sought) {
         Err(refused) => return none_at(alloc, refused),
         Ok(scan) => found_in(alloc, query, &scan)?,
     };
@@ -164,7 +164,7 @@ fn walk(alloc: Global, records: &[Record], lines: &WalkLines<'_>) -> Result<Walk
     }
 }
 
-/// Prints what a walk finds; it tells how many lines differ.
+/// Prints what a walk finds; it says how many lines differ.
 fn test_walk(
     rt: &(impl Print + AllocGlobal),
     records: &[Record],
@@ -186,7 +186,7 @@ fn test_walk(
     Ok(differ)
 }
 
-/// Tests all walks of a folder, which may have none; it tells how many lines differ.
+/// Tests all walks of a folder, which may have none; it says how many lines differ.
 pub(crate) fn test_walks<R: Files + Print + AllocGlobal>(
     rt: &R,
     folder: Path<'_>,

@@ -55,7 +55,7 @@ fn post_child_cut(front: &[PostChild], back: &[PostChild]) -> Cut {
     }
 }
 
-/// The page's content, cut behind its first `place` members; none where there are fewer.
+/// The page's content, cut after its first `place` members; none where there are fewer.
 fn cut_at(body: &PlainBody, place: usize) -> Option<Cut> {
     match body {
         PlainBody::EntryLeaf { high, entries: all } => {
@@ -78,7 +78,7 @@ fn cut_at(body: &PlainBody, place: usize) -> Option<Cut> {
     }
 }
 
-/// How many entries, children or items stand on a tree page.
+/// How many entries, children or items are on a tree page.
 fn members(body: &PlainBody) -> usize {
     match body {
         PlainBody::EntryLeaf { entries: all, .. } => all.len(),
@@ -94,7 +94,7 @@ fn keeps_half(cut: &Cut, whole: usize) -> bool {
     cut.listed.saturating_mul(2) >= whole
 }
 
-/// Whether the page may be cut behind its first `place` members: they have at least half of the bytes, where two such
+/// Whether the page may be cut after its first `place` members: they have at least half of the bytes, where two such
 /// parts fit, else they are the longest first part that fits.
 pub(crate) fn may_cut_at(body: &PlainBody, place: usize) -> bool {
     let count = members(body);

@@ -8,14 +8,14 @@ use log_walks::{
 use page_types::MOST_INLINE_BYTES;
 use std::alloc::{AllocError, Global};
 
-/// A leaf of the tree of keys before the record and behind it.
+/// A leaf of the tree of keys before the record and after it.
 #[derive(Clone, Copy)]
 struct Leaf<'a> {
     /// The high key, or no bytes.
     high: &'a [u8],
     /// The entries before the record.
     was: &'a [PlainEntry],
-    /// The entries behind it.
+    /// The entries after it.
     left: &'a [PlainEntry],
 }
 
@@ -47,7 +47,7 @@ fn same_in_front(was: &[PlainEntry], left: &[PlainEntry]) -> usize {
         .count()
 }
 
-/// The items that stand in the new list and not in the old one.
+/// The items that are in the new list and not in the old one.
 fn added_items(alloc: Global, old: &[u32], new: &[u32]) -> Result<Vec<u32>, AllocError> {
     new.iter()
         .copied()

@@ -1,4 +1,6 @@
-//! When a record may follow a log: every condition of the row of its kind, tested by plain walks over decoded pages.
+//! The model, a second reading of logs that shares no walk with the store: here when a record may follow a log.
+//!
+//! When a record may follow a log: every condition of the rule of its kind, tested by plain walks over decoded pages.
 #![tactic(auto)]
 
 mod cuts;

@@ -36,7 +36,7 @@ fn private_chain(step: &Step<'_>, first: u32) -> Result<Vec<u32>, Fault> {
     need(pages, "the private chain ends")
 }
 
-/// The rows of a page and of the private pages behind it, in order.
+/// The rows of a page and of the private pages after it, in order.
 fn rows_in_front<'a>(
     step: &'a Step<'_>,
     rows: &'a [PlainRow],
@@ -54,7 +54,7 @@ fn rows_in_front<'a>(
 }
 
 /// 9 PutPending: an own document, whole, with no linked row; the new page has a row or more, with its item and keys of
-/// it alone; these and the keys of its private chain behind them rise; the page leads to the head's first private page
+/// it alone; these and the keys of its private chain after them rise; the page leads to the head's first private page
 /// and becomes the first.
 pub(crate) fn put_pending(step: &Step<'_>, doc: Doc) -> Result<(), Fault> {
     let (heap, new) = step.two()?;
@@ -80,7 +80,7 @@ pub(crate) fn put_pending(step: &Step<'_>, doc: Doc) -> Result<(), Fault> {
     step.head_becomes(heap, doc, HeadFields { private, ..fields })
 }
 
-/// 10 AddRow: an own document, whole, with no linked row; a row with its item and exactly its keys comes behind the
+/// 10 AddRow: an own document, whole, with no linked row; a row with its item and exactly its keys comes after the
 /// rows of the last pending page.
 pub(crate) fn add_row(step: &Step<'_>, doc: Doc) -> Result<(), Fault> {
     let last = step.one()?;
@@ -104,7 +104,7 @@ pub(crate) fn add_row(step: &Step<'_>, doc: Doc) -> Result<(), Fault> {
     last.must_hold(&PlainBody::Pending(rows))
 }
 
-/// The metapage with a chain of so many pages behind the list's last page: from page `to` to page `end`.
+/// The metapage with a chain of so many pages after the list's last page: from page `to` to page `end`.
 fn meta_with(meta: &Changed<'_>, to: u32, end: u32, added: usize) -> Option<PlainBody> {
     let added = u32::try_from(added).ok()?;
     match meta.was_live()? {
@@ -126,7 +126,7 @@ fn meta_with(meta: &Changed<'_>, to: u32, end: u32, added: usize) -> Option<Plai
     }
 }
 
-/// The pages behind the heap page, by which a chain is linked: the metapage, and the last pending page where there is
+/// The pages after the heap page, by which a chain is linked: the metapage, and the last pending page where there is
 /// one, whose right link becomes the chain's first page.
 fn must_link(step: &Step<'_>, to: u32, end: u32, added: usize) -> Result<(), Fault> {
     let pages = pending_pages(step)?;
@@ -160,7 +160,7 @@ fn have_all(rows: &[&PlainRow], keys: &[Vec<u8>], item: u32) -> bool {
 }
 
 /// 11 LinkPending: an own document, whole, with no linked row; the rows of its private chain have all its keys; the
-/// chain comes behind the last page, and the head has none then.
+/// chain comes after the last page, and the head has none then.
 pub(crate) fn link_pending(step: &Step<'_>, doc: Doc) -> Result<(), Fault> {
     let heap = step.first()?;
     let head = step.own_head(doc)?;

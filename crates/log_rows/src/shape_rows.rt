@@ -36,7 +36,7 @@ fn with_one_child(alloc: Global, body: &PlainBody, page: u32) -> Result<PlainBod
     }
 }
 
-/// What stood on a tree page whose body has more than 4084 bytes.
+/// What was on a tree page whose body has more than 4084 bytes.
 fn large_body<'a>(page: &'a Changed<'_>) -> Result<&'a PlainBody, Fault> {
     let body = need(page.was_live(), "it changes a tree's page")?;
     let size = need(tree_body(body), "it changes a tree's page")?;
@@ -150,7 +150,7 @@ fn divided<'a>(
     }
 }
 
-/// The parent's children: the new page comes behind the page and takes its bound.
+/// The parent's children: the new page comes after the page and takes its bound.
 fn key_children(
     alloc: Global,
     old: &[PlainChild],
@@ -222,7 +222,7 @@ fn times_below(parent: &PlainBody, page: u32) -> usize {
 
 /// 17 Split: the page's body has more than 4084 bytes; it keeps a first part with at least half of the bytes where both
 /// parts then fit, else the longest that fits, and no part is empty; the new page takes the rest, the right link, and
-/// the bound and the place behind the page in its parent.
+/// the bound and the place after the page in its parent.
 pub(crate) fn split(step: &Step<'_>) -> Result<(), Fault> {
     let (page, new, parent) = step.three()?;
     let body = large_body(page)?;

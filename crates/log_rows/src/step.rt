@@ -17,7 +17,7 @@ pub struct Changed<'a> {
     pub left: PlainPage,
 }
 
-/// A record that comes behind a log.
+/// A record that comes after a log.
 #[derive(Drop)]
 pub struct Step<'a> {
     /// What the rows' lists are made on.
@@ -133,12 +133,12 @@ impl Step<'_> {
 }
 
 impl Changed<'_> {
-    /// What stood on the page, unless it was deleted or unused.
+    /// What was on the page, unless it was deleted or unused.
     pub(crate) fn was_live(&self) -> Option<&PlainBody> {
         self.was?.live()
     }
 
-    /// This is what stands on the page, which is not deleted.
+    /// This is what is on the page, which is not deleted.
     pub(crate) fn must_hold(&self, body: &PlainBody) -> Result<(), Fault> {
         let holds = !self.left.deleted && self.left.body == *body;
         must(holds, "a page is left as the row says")

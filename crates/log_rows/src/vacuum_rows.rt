@@ -12,7 +12,7 @@ fn must_be_dead(step: &Step<'_>, doc: Doc) -> Result<(), Fault> {
     must(step.ledger.is_dead(doc, step.floor), "the document is dead")
 }
 
-/// The document is dead, and its head tells so too: its inserting xid was aborted, or its deleting xid is among the first
+/// The document is dead, and its head says so too: its inserting xid was aborted, or its deleting xid is among the first
 /// `floor` commits.
 fn must_be_dead_head(step: &Step<'_>, doc: Doc, fields: HeadFields) -> Result<(), Fault> {
     must_be_dead(step, doc)?;
@@ -36,7 +36,7 @@ fn may_leave(step: &Step<'_>, item: u32) -> Result<(), Fault> {
     must(!linked, "no row of a removed item is linked")
 }
 
-/// The items that left a list, to which none came: each may leave. It tells whether there are any.
+/// The items that left a list, to which none came: each may leave. It says whether there are any.
 fn items_leave(step: &Step<'_>, old: &[u32], new: &[u32]) -> Result<bool, Fault> {
     must(
         new.iter().all(|item| old.contains(item)),

@@ -8,7 +8,7 @@ use std::collections::BTreeSet;
 
 /// What a walk has found, each item once, in order.
 #[derive(Debug, Drop)]
-pub struct Found {
+pub struct WalkResult {
     /// The items that it doesn't leave out.
     pub kept: Vec<u32>,
     /// Those of which it says yes without a look at the vector.
@@ -113,8 +113,8 @@ impl Judging<'_> {
 }
 
 /// What a walk has found for its query.
-pub fn found_in(alloc: Global, query: &Query, scan: &Scan<'_>) -> Result<Found, AllocError> {
-    let mut found = Found {
+pub fn found_in(alloc: Global, query: &Query, scan: &Scan<'_>) -> Result<WalkResult, AllocError> {
+    let mut found = WalkResult {
         kept: Vec::new(alloc),
         yes: Vec::new(alloc),
     };
@@ -135,13 +135,13 @@ pub fn found_in(alloc: Global, query: &Query, scan: &Scan<'_>) -> Result<Found, 
     Ok(found)
 }
 
-/// The documents of a snapshot of which a walk tells wrongly: they satisfy the query and are left out, or got a yes and
+/// The documents of a snapshot of which a walk says wrongly: they satisfy the query and are left out, or got a yes and
 /// don't satisfy it.
 pub fn told_wrong(
     alloc: Global,
     query: &Query,
     docs: &[Snapshot],
-    found: &Found,
+    found: &WalkResult,
 ) -> Result<Vec<Doc>, AllocError> {
     let mut wrong = Vec::new(alloc);
     for known in docs {

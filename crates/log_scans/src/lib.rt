@@ -1,3 +1,5 @@
+//! The model, a second reading of logs that shares no walk with the store: here what a search reads and finds.
+//!
 //! Walks of searches over a log, by plain slow loops over decoded pages: what was read at which moment, whether that
 //! is a walk for a query, and what it finds.
 //!
@@ -6,7 +8,7 @@
 //! document is dead, and past the pin's length takes no page again that was deleted since.
 //!
 //! **Walks.** The moments of a walk are lengths of the log, which don't fall and begin at the pin's length or later,
-//! each with a page, which is read as so many first records leave it. Which page comes next is told by a page that
+//! each with a page, which is read as so many first records leave it. Which page comes next is said by a page that
 //! was read, as it was read:
 //!
 //! - first the metapage, then its first pending page, and from each of these the right link up to 0, also from a page
@@ -15,7 +17,7 @@
 //!   past its bounds, the right link, up to the key's leaf. A prefix goes on along the leaves as long as their high
 //!   key begins with it. A query that a document without any of its keys may satisfy reads all leaves from the first
 //!   on;
-//! - behind a leaf, for each entry that is sought and has a posting tree, its root, from an inner page its first
+//! - after a leaf, for each entry that is sought and has a posting tree, its root, from an inner page its first
 //!   child, and from a leaf or a deleted page its right link up to 0.
 //!
 //! **What is found.** A document is met where a row of it was read. Each item that was read is judged, a key under
@@ -36,7 +38,7 @@ mod scan;
 mod sought;
 mod words;
 
-pub use found::{Found, found_in, told_wrong};
+pub use found::{WalkResult, found_in, told_wrong};
 pub use pages::{bytes_behind, changed_pages};
 pub use query::{Asked, Query, Tri};
 pub use replay::{Moment, Pin, Read, Reading, Snapshot, read_moments};

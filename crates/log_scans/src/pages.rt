@@ -4,7 +4,7 @@ use log_walks::{Fault, Store, must, page_in};
 use page_types::{PageBytes, Record};
 use std::alloc::Global;
 
-/// The bytes of the pages behind a record, in its order.
+/// The bytes of the pages after a record, in its order.
 pub fn bytes_behind(
     alloc: Global,
     store: &Store,
@@ -18,7 +18,7 @@ pub fn bytes_behind(
     Ok(all)
 }
 
-/// The changed pages, before the record and behind it.
+/// The changed pages, before the record and after it.
 pub fn changed_pages<'a>(
     alloc: Global,
     store: &'a Store,

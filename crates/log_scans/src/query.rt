@@ -83,7 +83,7 @@ pub struct Query {
     pub(crate) moves: Vec<Move>,
 }
 
-/// One move; it tells whether so many values were there.
+/// One move; it says whether so many values were there.
 fn make_move(pile: &mut Vec<Tri>, step: Move, values: &[Tri]) -> Result<bool, AllocError> {
     let value = match step {
         Move::Operand(place) => values.get(place).copied(),

@@ -28,7 +28,7 @@ pub struct Moment {
 pub struct Read {
     /// Its number.
     pub page: u32,
-    /// What stood on it, unless no record had changed it.
+    /// What was on it, unless no record had changed it.
     pub left: Option<PlainPage>,
 }
 

@@ -43,7 +43,7 @@ pub struct Scan<'a> {
     pub rows: Vec<&'a PlainRow>,
     /// The item of the first row on the first of these pages.
     pub first: Option<u32>,
-    /// Under the keys that were sought: what stood in a leaf, or in a posting tree.
+    /// Under the keys that were sought: what was in a leaf, or in a posting tree.
     pub postings: Vec<Posting<'a>>,
 }
 
@@ -58,7 +58,7 @@ struct Steps<'a> {
     taken: usize,
 }
 
-/// What stands on a page that is live.
+/// What is on a page that is live.
 fn live(read: &Read) -> Option<&PlainBody> {
     read.left.as_ref()?.live()
 }
@@ -89,7 +89,7 @@ fn rows(read: &Read) -> &[PlainRow] {
     }
 }
 
-/// Whether a key may stand where this is the bound; no bytes: there is none.
+/// Whether a key may be where this is the bound; no bytes: there is none.
 fn is_within(key: &[u8], bound: &[u8]) -> bool {
     bound.is_empty() || key <= bound
 }
@@ -156,7 +156,7 @@ impl<'a> Steps<'a> {
         }
     }
 
-    /// Nothing was read behind.
+    /// Nothing was read after.
     fn end(&self) -> Result<(), NoWalk> {
         if self.taken == self.reads.len() {
             Ok(())

@@ -28,7 +28,7 @@ impl Sought {
         }
     }
 
-    /// Whether it may go on behind a leaf with this high key.
+    /// Whether it may go on after a leaf with this high key.
     pub fn goes_beyond(&self, high: &[u8]) -> bool {
         match self {
             Sought::Whole => true,

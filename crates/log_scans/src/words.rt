@@ -2,7 +2,7 @@
 use crate::query::{Asked, Move, Query, Tri};
 use std::alloc::{AllocError, Global};
 
-/// What stands between lexemes.
+/// What is between lexemes.
 const SIGNS: &[u8] = b" !&|()";
 
 /// An operator or a bracket whose turn hasn't come.
@@ -111,7 +111,7 @@ fn number_in(digits: &[u8]) -> usize {
     number
 }
 
-/// The key of a lexeme, in which a letter with `{N}` behind it stands N times.
+/// The key of a lexeme, in which a letter with `{N}` after it is N times.
 fn key_in(alloc: Global, word: &[u8]) -> Result<Vec<u8>, AllocError> {
     let mut key = Vec::from_slice(alloc, b"\0")?;
     let mut parts = word.split(|byte| *byte == b'{' || *byte == b'}');
@@ -130,7 +130,7 @@ fn key_in(alloc: Global, word: &[u8]) -> Result<Vec<u8>, AllocError> {
     Ok(key)
 }
 
-/// What a word asks for: a lexeme, or with `*` behind it all that begin with it.
+/// What a word asks for: a lexeme, or with `*` after it all that begin with it.
 fn asked_in(alloc: Global, word: &[u8]) -> Result<Asked, AllocError> {
     match word.strip_suffix(b"*") {
         Some(word) => Ok(Asked {

@@ -53,7 +53,7 @@ pub fn slots_of(store: &Store, page: u32) -> Option<&Vec<Option<PlainHead>>> {
     }
 }
 
-/// The document whose head stands in the item's slot, and the head.
+/// The document whose head is in the item's slot, and the head.
 pub fn document_at(store: &Store, item: u32) -> Option<(Doc, &PlainHead)> {
     let place = Doc { item, serial: 0 };
     let head = slots_of(store, place.page())?.get(place.slot())?.as_ref()?;
@@ -82,7 +82,7 @@ pub fn chain(alloc: Global, store: &Store, first: u32) -> Result<Option<Vec<u32>
     Ok(None)
 }
 
-/// The bytes that stand on the overflow pages from the first on; none where these go in a circle.
+/// The bytes that are on the overflow pages from the first on; none where these go in a circle.
 fn overflow_bytes(alloc: Global, store: &Store, first: u32) -> Result<Option<Vec<u8>>, AllocError> {
     let mut bytes = Vec::new(alloc);
     match chain(alloc, store, first)? {

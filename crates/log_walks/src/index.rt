@@ -133,7 +133,7 @@ fn items_below(alloc: Global, store: &Store, root: u32) -> Result<Vec<u32>, Allo
     Ok(all)
 }
 
-/// Whether the item stands under the entry.
+/// Whether the item is under the entry.
 fn is_under(
     alloc: Global,
     store: &Store,

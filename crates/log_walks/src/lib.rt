@@ -1,3 +1,5 @@
+//! The model, a second reading of logs that shares no walk with the store: here what a log file says.
+//!
 //! What a log file says, by plain slow walks: its records, the pages that they leave, transactions, documents and the
 //! index.
 //!

@@ -3,13 +3,13 @@ use page_types::Record;
 use record_code::{RecordError, decode_record};
 use std::alloc::{AllocError, AllocFailed, Global};
 
-/// The text behind the gate of the store.
+/// The text after the commit byte of the store.
 const HEADER: &[u8] = b"GINSH DRAFT 0001";
 
 /// A log that is no longer than this is to be created.
 const MOST_UNCREATED: usize = 17;
 
-/// A gate that is open.
+/// A commit byte that is open.
 const OPEN: u8 = 1;
 
 /// Why no records were read.
@@ -33,16 +33,16 @@ impl<T: Drop> From<AllocFailed<T>> for LogError {
     }
 }
 
-/// A batch. What is behind it begins with the next gate.
+/// A batch. What is after it begins with the next commit byte.
 #[derive(Clone, Copy)]
 struct Batch<'a> {
     /// The bytes of its records.
     records: &'a [u8],
-    /// What is behind it.
+    /// What is after it.
     behind: &'a [u8],
 }
 
-/// What is behind the header, from the gate of the first batch on; none of a log that is to be created.
+/// What is after the header, from the commit byte of the first batch on; none of a log that is to be created.
 fn batches_of(bytes: &[u8]) -> Result<Option<&[u8]>, LogError> {
     let is_open = bytes.first() == Some(&OPEN);
     if bytes.len() <= MOST_UNCREATED || bytes.len() == MOST_UNCREATED + 1 && !is_open {
@@ -56,7 +56,7 @@ fn batches_of(bytes: &[u8]) -> Result<Option<&[u8]>, LogError> {
     }
 }
 
-/// The first batch from its gate on; none where that is closed.
+/// The first batch from its commit byte on; none where that is closed.
 fn batch_in(bytes: &[u8]) -> Result<Option<Batch<'_>>, LogError> {
     let [OPEN, a, b, c, d, rest @ ..] = bytes else {
         return match bytes {
@@ -73,7 +73,7 @@ fn batch_in(bytes: &[u8]) -> Result<Option<Batch<'_>>, LogError> {
     }
 }
 
-/// The first record, and what is behind it.
+/// The first record, and what is after it.
 fn record_in(alloc: Global, bytes: &[u8]) -> Result<(Record, &[u8]), LogError> {
     match decode_record(alloc, bytes) {
         Ok((record, size)) => match bytes.split_at_checked(size) {
@@ -85,7 +85,7 @@ fn record_in(alloc: Global, bytes: &[u8]) -> Result<(Record, &[u8]), LogError> {
     }
 }
 
-/// The records of a batch come behind the others, numbered on.
+/// The records of a batch come after the others, numbered on.
 fn read_batch(alloc: Global, bytes: &[u8], records: &mut Vec<Record>) -> Result<(), LogError> {
     let mut rest = bytes;
     // Each record has bytes.

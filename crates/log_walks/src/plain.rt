@@ -1,7 +1,7 @@
 // Pages in lists that can be compared and changed.
 use page_types::{HeadFields, PostChild};
 
-/// A head, and the vector's bytes that stand in it.
+/// A head, and the vector's bytes that are in it.
 #[derive(Clone, Debug, PartialEq, Eq, Drop)]
 pub struct PlainHead {
     /// All but the vector.
@@ -19,7 +19,7 @@ pub struct PlainRow {
     pub keys: Vec<Vec<u8>>,
 }
 
-/// Where an entry's items stand.
+/// Where an entry's items are.
 #[derive(Clone, Debug, PartialEq, Eq, Drop)]
 pub enum PlainPostings {
     /// In the entry.
@@ -42,11 +42,11 @@ pub struct PlainEntry {
 pub struct PlainChild {
     /// The child's page.
     pub page: u32,
-    /// The greatest key that may stand below it; no bytes: there is no bound.
+    /// The greatest key that may be below it; no bytes: there is no bound.
     pub bound: Vec<u8>,
 }
 
-/// What stands on a page that some record has changed.
+/// What is on a page that some record has changed.
 #[derive(Clone, Debug, PartialEq, Eq, Drop)]
 pub enum PlainBody {
     /// The pending list: its first and its last page (0: none), and how many it has.
@@ -86,12 +86,12 @@ pub struct PlainPage {
     pub stamp: u64,
     /// It was deleted; the body stays.
     pub deleted: bool,
-    /// What stands on it, or stood there when it was deleted.
+    /// What is on it, or was there when it was deleted.
     pub body: PlainBody,
 }
 
 impl PlainPage {
-    /// What stands on it, unless it was deleted.
+    /// What is on it, unless it was deleted.
     pub fn live(&self) -> Option<&PlainBody> {
         if self.deleted { None } else { Some(&self.body) }
     }

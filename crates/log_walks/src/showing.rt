@@ -125,7 +125,7 @@ fn plain_gone(alloc: Global, gone: &Gone) -> Result<PlainBody, AllocError> {
     })
 }
 
-/// What stands on a page; none where that is nothing.
+/// What is on a page; none where that is nothing.
 fn plain_body(alloc: Global, body: &Body) -> Result<Option<PlainBody>, AllocError> {
     Ok(Some(match body {
         Body::Free => return Ok(None),
@@ -151,7 +151,7 @@ fn plain_body(alloc: Global, body: &Body) -> Result<Option<PlainBody>, AllocErro
     }))
 }
 
-/// The page; none where nothing stands on it.
+/// The page; none where nothing is on it.
 pub fn plain_page(alloc: Global, page: &Page) -> Result<Option<PlainPage>, AllocError> {
     let deleted = matches!(&page.body, Body::Deleted(_));
     match plain_body(alloc, &page.body)? {

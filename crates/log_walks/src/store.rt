@@ -45,7 +45,7 @@ impl Store {
         self.pages.len()
     }
 
-    /// The page's bytes behind a change by the record with this number.
+    /// The page's bytes after a change by the record with this number.
     pub fn changed(&self, alloc: Global, number: u64, change: &Change) -> Result<PageBytes, Fault> {
         let mut bytes = [0u8; PAGE_BYTES];
         if let Some(old) = self.bytes.get(&change.page) {
@@ -70,7 +70,7 @@ impl Store {
     }
 }
 
-/// The page that the bytes spell.
+/// The page that the bytes encode.
 pub fn page_in(alloc: Global, bytes: &PageBytes) -> Result<PlainPage, Fault> {
     match decode_page(alloc, bytes.as_slice()) {
         Ok(page) => match plain_page(alloc, &page)? {

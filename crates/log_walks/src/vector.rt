@@ -14,7 +14,7 @@ const SIZE_LIMIT: usize = 1_048_576;
 /// The key of a document without lexemes.
 const PLACEHOLDER: &[u8] = b"\x01";
 
-/// A number in two bytes, and what is behind it.
+/// A number in two bytes, and what is after it.
 fn number_in(bytes: &[u8]) -> Option<(usize, &[u8])> {
     match bytes {
         [low, high, rest @ ..] => Some((usize::from(u16::from_le_bytes([*low, *high])), rest)),
@@ -22,7 +22,7 @@ fn number_in(bytes: &[u8]) -> Option<(usize, &[u8])> {
     }
 }
 
-/// A number in four bytes, and what is behind it.
+/// A number in four bytes, and what is after it.
 fn count_in(bytes: &[u8]) -> Option<(u32, &[u8])> {
     match bytes {
         [a, b, c, d, rest @ ..] => Some((u32::from_le_bytes([*a, *b, *c, *d]), rest)),
@@ -64,7 +64,7 @@ struct Lexeme<'a> {
     positions: &'a [u8],
 }
 
-/// A lexeme with its positions, and what is behind it.
+/// A lexeme with its positions, and what is after it.
 fn lexeme_in(bytes: &[u8]) -> Option<(Lexeme<'_>, &[u8])> {
     let (size, rest) = number_in(bytes)?;
     let (text, rest) = rest.split_at_checked(size)?;
@@ -84,7 +84,7 @@ fn key_of(alloc: Global, text: &[u8]) -> Result<Vec<u8>, AllocError> {
     Ok(key)
 }
 
-/// So many lexemes as keys, where just these stand there, rising, and together small enough.
+/// So many lexemes as keys, where just these are there, rising, and together small enough.
 fn keys_in(alloc: Global, count: u32, bytes: &[u8]) -> Result<Option<Vec<Vec<u8>>>, AllocError> {
     let mut keys = Vec::new(alloc);
     let mut rest = bytes;
@@ -109,7 +109,7 @@ fn keys_in(alloc: Global, count: u32, bytes: &[u8]) -> Result<Option<Vec<Vec<u8>
     Ok(if whole { Some(keys) } else { None })
 }
 
-/// The keys of the vector that these bytes spell, in key order; none where they spell no vector.
+/// The keys of the vector that these bytes encode, in key order; none where they encode no vector.
 pub fn keys_of(alloc: Global, bytes: &[u8]) -> Result<Option<Vec<Vec<u8>>>, AllocError> {
     match count_in(bytes) {
         None => Ok(None),

@@ -1,4 +1,4 @@
-//! Reads 1,000 made documents from their texts and from their spellings, matches them against 20 queries, and prints how many
+//! Reads 1,000 made documents from their texts and from their encodings, matches them against 20 queries, and prints how many
 //! each query finds; then two matches that are hard. With the word `time` it also prints how long each of these takes.
 #![tactic(auto)]
 
@@ -10,7 +10,7 @@ use std::alloc::{AllocError, Global};
 use std::env;
 use std::rt::{Clock, Env};
 use std::time::Instant;
-use ts_match::{MatchWork, matches, matches_in};
+use ts_match::{MatchWork, matches, matches_encoded};
 use ts_query::TsQuery;
 use ts_vector::{TsVector, VectorBytes};
 
@@ -101,15 +101,15 @@ fn parse_all(alloc: Global, texts: &[String]) -> Result<Vec<TsVector>> {
     Ok(documents)
 }
 
-/// The spellings of the documents.
+/// The encodings of the documents.
 fn encode_all(alloc: Global, documents: &[TsVector]) -> Result<Vec<Vec<u8>>> {
-    let mut spellings = Vec::new(alloc);
+    let mut encodings = Vec::new(alloc);
     for document in documents {
         let mut bytes = Vec::new(alloc);
         document.encode(&mut bytes)?;
-        spellings.push(bytes)?;
+        encodings.push(bytes)?;
     }
-    Ok(spellings)
+    Ok(encodings)
 }
 
 /// How many bytes the texts have.
@@ -121,28 +121,28 @@ fn text_size(texts: &[String]) -> usize {
     size
 }
 
-/// How many bytes the spellings have.
-fn spelled_size(spellings: &[Vec<u8>]) -> usize {
+/// How many bytes the encodings have.
+fn encoded_size(encodings: &[Vec<u8>]) -> usize {
     let mut size: usize = 0;
-    for bytes in spellings {
+    for bytes in encodings {
         size = size.saturating_add(bytes.len());
     }
     size
 }
 
-/// How many lexemes the spellings have, each decoded.
-fn decode_all(alloc: Global, spellings: &[Vec<u8>]) -> Result<usize> {
+/// How many lexemes the encodings have, each decoded.
+fn decode_all(alloc: Global, encodings: &[Vec<u8>]) -> Result<usize> {
     let mut lexemes: usize = 0;
-    for bytes in spellings {
+    for bytes in encodings {
         lexemes = lexemes.saturating_add(TsVector::decode(alloc, bytes)?.count());
     }
     Ok(lexemes)
 }
 
-/// How many lexemes the spellings have, each checked where it lies.
-fn check_all(spellings: &[Vec<u8>]) -> Result<usize> {
+/// How many lexemes the encodings have, each checked where it lies.
+fn check_all(encodings: &[Vec<u8>]) -> Result<usize> {
     let mut lexemes: usize = 0;
-    for bytes in spellings {
+    for bytes in encodings {
         lexemes = lexemes.saturating_add(VectorBytes::new(bytes)?.count());
     }
     Ok(lexemes)
@@ -162,10 +162,10 @@ fn count(query: &TsQuery, work: &mut MatchWork, documents: &[TsVector]) -> usize
     found
 }
 
-/// The documents of the spellings, each checked where it lies.
-fn check_each<'a>(alloc: Global, spellings: &'a [Vec<u8>]) -> Result<Vec<VectorBytes<'a>>> {
+/// The documents of the encodings, each checked where it lies.
+fn check_each<'a>(alloc: Global, encodings: &'a [Vec<u8>]) -> Result<Vec<VectorBytes<'a>>> {
     let mut documents = Vec::new(alloc);
-    for bytes in spellings {
+    for bytes in encodings {
         documents.push(VectorBytes::new(bytes)?)?;
     }
     Ok(documents)
@@ -178,7 +178,7 @@ fn count_in(query: &TsQuery, work: &mut MatchWork, documents: &[VectorBytes]) ->
 {
     let mut found = 0;
     for document in documents {
-        if matches_in(query, work, document) {
+        if matches_encoded(query, work, document) {
             found += 1;
         }
     }
@@ -290,25 +290,25 @@ fn read_texts(rt: &(impl Print + Clock + AllocGlobal), timed: bool) -> Result<Ve
     Ok(documents)
 }
 
-/// Decodes each spelling.
-fn decode_spellings(
+/// Decodes each encoding.
+fn decode_encodings(
     rt: &(impl Print + Clock + AllocGlobal),
-    spellings: &[Vec<u8>],
+    encodings: &[Vec<u8>],
     timed: bool,
 ) -> Result<()> {
     let start = Instant::now(rt)?;
-    let lexemes = decode_all(rt.alloc(), spellings)?;
+    let lexemes = decode_all(rt.alloc(), encodings)?;
     let seconds = start.elapsed(rt)?.as_secs_f64();
     println!(rt; "{lexemes} lexemes decoded")?;
     print_each(rt, seconds, timed)
 }
 
-/// Checks each spelling where it lies.
-fn check_spellings(rt: &(impl Print + Clock), spellings: &[Vec<u8>], timed: bool) -> Result<()> {
+/// Checks each encoding where it lies.
+fn check_encodings(rt: &(impl Print + Clock), encodings: &[Vec<u8>], timed: bool) -> Result<()> {
     let start = Instant::now(rt)?;
-    let lexemes = check_all(spellings)?;
+    let lexemes = check_all(encodings)?;
     let seconds = start.elapsed(rt)?.as_secs_f64();
-    let size = spelled_size(spellings);
+    let size = encoded_size(encodings);
     println!(rt; "{lexemes} lexemes of {size} bytes checked where they lie")?;
     print_each(rt, seconds, timed)
 }
@@ -341,14 +341,14 @@ fn match_all(
     Ok(())
 }
 
-/// Matches each spelled document against each query, where it lies.
-fn match_spelled(
+/// Matches each encoded document against each query, where it lies.
+fn match_encoded(
     rt: &(impl Print + Clock + AllocGlobal),
-    spellings: &[Vec<u8>],
+    encodings: &[Vec<u8>],
     timed: bool,
 ) -> Result<()> {
     let alloc = rt.alloc();
-    let documents = check_each(alloc, spellings)?;
+    let documents = check_each(alloc, encodings)?;
     let mut seconds = 0.0;
     let mut found: usize = 0;
     for text in QUERIES {
@@ -371,11 +371,11 @@ fn run(rt: &(impl Print + Env + Clock + AllocGlobal)) -> Result<()> {
     let alloc = rt.alloc();
     let timed = env::args(rt)?.skip(1).any(|word| word.as_str() == "time");
     let documents = read_texts(rt, timed)?;
-    let spellings = encode_all(alloc, &documents)?;
-    decode_spellings(rt, &spellings, timed)?;
-    check_spellings(rt, &spellings, timed)?;
+    let encodings = encode_all(alloc, &documents)?;
+    decode_encodings(rt, &encodings, timed)?;
+    check_encodings(rt, &encodings, timed)?;
     match_all(rt, &documents, timed)?;
-    match_spelled(rt, &spellings, timed)?;
+    match_encoded(rt, &encodings, timed)?;
     let wide = wide_phrase(alloc)?;
     let odd = odd_document(alloc)?;
     match_one(

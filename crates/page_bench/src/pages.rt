@@ -95,7 +95,7 @@ pub(crate) fn pending_page(alloc: Global) -> Result<Vec<u8>, AllocError> {
     page_bytes(alloc, 4, ROWS, &body)
 }
 
-/// How many slots, entries or rows stand on the page.
+/// How many slots, entries or rows are on the page.
 fn members(page: &Page) -> usize {
     match &page.body {
         Body::Heap(slots) => slots.len(),
@@ -105,7 +105,7 @@ fn members(page: &Page) -> usize {
     }
 }
 
-/// Reads the page again and again, and tells what it has.
+/// Reads the page again and again, and says what it has.
 fn read_often(alloc: Global, bytes: &[u8]) -> Result<usize, PageError> {
     let mut found = 0;
     for _ in 0..ROUNDS {
@@ -114,7 +114,7 @@ fn read_often(alloc: Global, bytes: &[u8]) -> Result<usize, PageError> {
     Ok(found)
 }
 
-/// Writes the page again and again over the bytes, and tells how many of them are other than 0.
+/// Writes the page again and again over the bytes, and says how many of them are other than 0.
 fn write_often(page: &Page, bytes: &mut [u8]) -> usize
     requires page { IsPage page.now }
     requires size { length bytes.old ≡ PAGE_BYTES }
@@ -125,7 +125,7 @@ fn write_often(page: &Page, bytes: &mut [u8]) -> usize
     bytes.iter().filter(|byte| **byte != 0).count()
 }
 
-/// Clones the page again and again, and tells what the last clone has.
+/// Clones the page again and again, and says what the last clone has.
 fn clone_often(page: &Page) -> Result<usize, AllocError> {
     let mut found = 0;
     for _ in 0..ROUNDS {

@@ -25,7 +25,7 @@ const RECORD: &[u8] =
 /// The bytes of the record.
 const RECORD_BYTES: usize = 8215;
 
-/// Reads the record again and again, and tells its last length.
+/// Reads the record again and again, and says its last length.
 fn read_often(alloc: Global, bytes: &[u8]) -> Result<usize, RecordError> {
     let mut found = 0;
     for _ in 0..ROUNDS {
@@ -34,7 +34,7 @@ fn read_often(alloc: Global, bytes: &[u8]) -> Result<usize, RecordError> {
     Ok(found)
 }
 
-/// Writes the record again and again, and tells its last length.
+/// Writes the record again and again, and says its last length.
 fn write_often(record: &Record, out: &mut Vec<u8>) -> Result<usize, AllocError>
     requires { IsRecord record.now }
 {
@@ -69,7 +69,7 @@ pub(crate) fn code_record(rt: &(impl Print + Clock + AllocGlobal), timed: bool) 
     )
 }
 
-/// Reads a list, and tells how many items it has and what is left of their sum.
+/// Reads a list, and says how many items it has and what is left of their sum.
 fn read_items(bytes: &[u8]) -> Result<(usize, u32), ListError> {
     let items = Items::new(bytes)?;
     let count = items.len();

@@ -1,4 +1,4 @@
--- Bytes that are written one behind the other, over others.
+-- Bytes that are written one after the other, over others.
 use Rattle.std.proofs.Common.{◌≡◌, ℕ, zero, suc, ◌+◌, ◌<◌, ◌≤◌, List, [], ◌∷◌, ◌++◌, length, take, drop, Option, Some, refl, sym, ap, subst, ◌∙◌, append_assoc, arith}
 use Rattle.std.specs.List.{flat_map, slice_get, AllByRecursion}
 use Rattle.std.proofs.lemmas.List.{take_at, drop_at, drop-drop, take-append-drop, length-append, length-take-le, append-nil, take_all}
@@ -48,46 +48,46 @@ all_got P [] k x h e = absurd cc
 all_got P (y ∷ ys) zero x h e = let same : y ≡ x = cc in subst P same h.0
 all_got P (y ∷ ys) (suc k) x h e = all_got P ys k x h.1 e
 
-flat_more : {A : Type 0} (spell : A → List ℕ) (xs : List A) (x : A) → flat_map spell (xs ++ x ∷ []) ≡ flat_map spell xs ++ spell x
-flat_more spell [] x = flat_map-cons spell x [] ∙ append-nil (spell x)
-flat_more {A} spell (y ∷ ys) x =
-    flat_map-cons spell y (ys ++ x ∷ []) ∙ ap (λ (l : List ℕ). spell y ++ l) (flat_more spell ys x) ∙ sym (append_assoc (spell y) (flat_map spell ys) (spell x))
-    ∙ ap (λ (l : List ℕ). l ++ spell x) (sym (flat_map-cons spell y ys))
+flat_more : {A : Type 0} (encode : A → List ℕ) (xs : List A) (x : A) → flat_map encode (xs ++ x ∷ []) ≡ flat_map encode xs ++ encode x
+flat_more encode [] x = flat_map-cons encode x [] ∙ append-nil (encode x)
+flat_more {A} encode (y ∷ ys) x =
+    flat_map-cons encode y (ys ++ x ∷ []) ∙ ap (λ (l : List ℕ). encode y ++ l) (flat_more encode ys x) ∙ sym (append_assoc (encode y) (flat_map encode ys) (encode x))
+    ∙ ap (λ (l : List ℕ). l ++ encode x) (sym (flat_map-cons encode y ys))
 
-list_fits : {A : Type 0} (spell : A → List ℕ) (xs : List A) (k : ℕ) (x : A) → slice_get xs k ≡ Some x → length (flat_map spell (take k xs)) + length (spell x) ≤ length (flat_map spell xs)
-list_fits spell [] k x e = absurd cc
-list_fits spell (y ∷ ys) zero x e =
+list_fits : {A : Type 0} (encode : A → List ℕ) (xs : List A) (k : ℕ) (x : A) → slice_get xs k ≡ Some x → length (flat_map encode (take k xs)) + length (encode x) ≤ length (flat_map encode xs)
+list_fits encode [] k x e = absurd cc
+list_fits encode (y ∷ ys) zero x e =
     let same : y ≡ x = cc in
-    omega (arith, ap length (flat_map-cons spell y ys), length-append (spell y) (flat_map spell ys), ap (λ z. length (spell z)) same)
-list_fits spell (y ∷ ys) (suc k) x e =
+    omega (arith, ap length (flat_map-cons encode y ys), length-append (encode y) (flat_map encode ys), ap (λ z. length (encode z)) same)
+list_fits encode (y ∷ ys) (suc k) x e =
     omega (
       arith,
-      list_fits spell ys k x e,
-      ap length (flat_map-cons spell y ys),
-      ap length (flat_map-cons spell y (take k ys)),
-      length-append (spell y) (flat_map spell ys),
-      length-append (spell y) (flat_map spell (take k ys)),
+      list_fits encode ys k x e,
+      ap length (flat_map-cons encode y ys),
+      ap length (flat_map-cons encode y (take k ys)),
+      length-append (encode y) (flat_map encode ys),
+      length-append (encode y) (flat_map encode (take k ys)),
     )
 
 -- the first k values are written
-pub record PutsFirst {A : Type 0} (spell : A → List ℕ) (xs : List A) (k at : ℕ) (old : List ℕ) (end : ℕ) (new : List ℕ) : Type 0 where
-  pub puts : Puts at (flat_map spell (take k xs)) old end new
+pub record PutsFirst {A : Type 0} (encode : A → List ℕ) (xs : List A) (k at : ℕ) (old : List ℕ) (end : ℕ) (new : List ℕ) : Type 0 where
+  pub puts : Puts at (flat_map encode (take k xs)) old end new
 
-pub first_none : {A : Type 0} (spell : A → List ℕ) (xs : List A) (at : ℕ) (old : List ℕ) → PutsFirst spell xs 0 at old at old
-first_none spell xs at old = record { puts = puts_none at old }
+pub first_none : {A : Type 0} (encode : A → List ℕ) (xs : List A) (at : ℕ) (old : List ℕ) → PutsFirst encode xs 0 at old at old
+first_none encode xs at old = record { puts = puts_none at old }
 
-pub first_room : {A : Type 0} (spell : A → List ℕ) (xs : List A) (k at : ℕ) (old : List ℕ) (end : ℕ) (mid : List ℕ) (x : A) (size : ℕ) → PutsFirst spell xs k at old end mid → slice_get xs k ≡ Some x → at + length (flat_map spell xs) ≤ size → end + length (spell x) ≤ size
-first_room spell xs k at old end mid x size p e le = omega (arith, p.puts.0, list_fits spell xs k x e)
+pub first_room : {A : Type 0} (encode : A → List ℕ) (xs : List A) (k at : ℕ) (old : List ℕ) (end : ℕ) (mid : List ℕ) (x : A) (size : ℕ) → PutsFirst encode xs k at old end mid → slice_get xs k ≡ Some x → at + length (flat_map encode xs) ≤ size → end + length (encode x) ≤ size
+first_room encode xs k at old end mid x size p e le = omega (arith, p.puts.0, list_fits encode xs k x e)
 
-pub first_more : {A : Type 0} (spell : A → List ℕ) (xs : List A) (k at : ℕ) (old : List ℕ) (end : ℕ) (mid : List ℕ) (x : A) (behind : ℕ) (new : List ℕ) → PutsFirst spell xs k at old end mid → slice_get xs k ≡ Some x → at ≤ length old
-    → Puts end (spell x) mid behind new → PutsFirst spell xs (k + 1) at old behind new
-first_more {A} spell xs k at old end mid x behind new p e le q =
-    let more : flat_map spell (take (k + 1) xs) ≡ flat_map spell (take k xs) ++ spell x = ap (flat_map spell) (take_get xs k x e) ∙ flat_more spell (take k xs) x in
-    record { puts = subst (λ (l : List ℕ). Puts at l old behind new) (sym more) (puts_then at end behind (flat_map spell (take k xs)) (spell x) old mid new le p.puts q) }
+pub first_more : {A : Type 0} (encode : A → List ℕ) (xs : List A) (k at : ℕ) (old : List ℕ) (end : ℕ) (mid : List ℕ) (x : A) (behind : ℕ) (new : List ℕ) → PutsFirst encode xs k at old end mid → slice_get xs k ≡ Some x → at ≤ length old
+    → Puts end (encode x) mid behind new → PutsFirst encode xs (k + 1) at old behind new
+first_more {A} encode xs k at old end mid x behind new p e le q =
+    let more : flat_map encode (take (k + 1) xs) ≡ flat_map encode (take k xs) ++ encode x = ap (flat_map encode) (take_get xs k x e) ∙ flat_more encode (take k xs) x in
+    record { puts = subst (λ (l : List ℕ). Puts at l old behind new) (sym more) (puts_then at end behind (flat_map encode (take k xs)) (encode x) old mid new le p.puts q) }
 
-pub first_all : {A : Type 0} (spell : A → List ℕ) (xs : List A) (k at : ℕ) (old : List ℕ) (end : ℕ) (new : List ℕ) → PutsFirst spell xs k at old end new → length xs ≤ k → Puts at (flat_map spell xs) old end new
-first_all {A} spell xs k at old end new p le =
-    subst (λ (l : List A). Puts at (flat_map spell l) old end new) (take_all k xs le) p.puts
+pub first_all : {A : Type 0} (encode : A → List ℕ) (xs : List A) (k at : ℕ) (old : List ℕ) (end : ℕ) (new : List ℕ) → PutsFirst encode xs k at old end new → length xs ≤ k → Puts at (flat_map encode xs) old end new
+first_all {A} encode xs k at old end new p le =
+    subst (λ (l : List A). Puts at (flat_map encode l) old end new) (take_all k xs le) p.puts
 
 -- the slot with this number
 pub slot_got : (slots : List (Option Head)) (k : ℕ) (s : Option Head) → k < length slots → s ≡ slot_at slots k → slice_get slots k ≡ Some s

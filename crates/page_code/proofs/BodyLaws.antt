@@ -1,4 +1,4 @@
--- What stands on a page of each form: what is read was spelled, and what is spelled is read.
+-- What is on a page of each form: what is read was encoded, and what is encoded is read.
 use Rattle.std.proofs.Common.{◌≡◌, ◌≢◌, ℕ, ◌<◌, ◌≤◌, Bool, true, false, cond, eqb, List, [], ◌∷◌, ◌++◌, length, Option, Ok, refl, sym, ap, subst, ◌∙◌, append_assoc, arith, inl, inr}
 use Rattle.std.specs.List.{flat_map, AllByRecursion}
 use Rattle.std.proofs.lemmas.Bool.{leb-true, ltb-true, eqb-true, eqb-false, eq-eqb, ne_eqb}
@@ -6,7 +6,7 @@ use Rattle.std.proofs.lemmas.List.{append-nil}
 use Rattle.page_types.specs.Numbers.{u32_bytes}
 use Rattle.page_types.specs.Items.{items_of}
 use Rattle.page_types.specs.Keys.{IsKey}
-use Rattle.page_types.specs.Spelling.{key_field, slot_bytes, row_bytes, entry_bytes, entry_child_bytes, post_child_bytes, high_key_bytes, body_bytes, count_of}
+use Rattle.page_types.specs.Encoding.{key_field, slot_bytes, row_bytes, entry_bytes, entry_child_bytes, post_child_bytes, high_key_bytes, body_bytes, count_of}
 use Rattle.page_types.specs.Pages.{IsSlot, IsRow, IsHighKey, IsMeta, IsGone, IsBody}
 use Rattle.page_types.specs.Fields.{◌>>=◌, number_at}
 use Rattle.page_types.specs.declared.page.Head.{Head}
@@ -71,7 +71,7 @@ body_form (body.PostLeaf high items) = form.PostLeaf
 body_form (body.PostInner children) = form.PostInner
 body_form (body.Deleted g) = gone_form g
 
--- what the fields before a body tell of it
+-- what the fields before a body say of it
 pub record Allows (f : Form) (right stamp count : ℕ) : Type 0 where
   pub count_is : count_fits f count ≡ true
   pub right_is : fits_free f right ≡ true
@@ -266,7 +266,7 @@ body_takes form.GoneOverflow right stamp count bytes x fits a e =
 body_takes form.GonePending right stamp count bytes x fits a e = gone_pending_takes right stamp count bytes x fits e
 body_takes form.GonePostLeaf right stamp count bytes x fits a e = gone_post_leaf_takes right stamp count bytes x fits e
 
--- with nothing behind it
+-- with nothing after it
 nil_behind : {A : Type 0} (read : List ℕ → Read A) (bytes : List ℕ) (x : A) → read (bytes ++ []) ≡ Ok (x, []) → read bytes ≡ Ok (x, [])
 nil_behind read bytes x e = ap read (sym (append-nil bytes)) ∙ e
 

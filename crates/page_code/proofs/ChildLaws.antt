@@ -1,11 +1,11 @@
--- The children of an inner page of the entry tree: what is read was spelled, and what is spelled is read.
+-- The children of an inner page of the entry tree: what is read was encoded, and what is encoded is read.
 use Rattle.std.proofs.Common.{◌≡◌, ◌≢◌, ℕ, ◌<◌, true, eqb, List, [], ◌∷◌, ◌++◌, length, Ok, refl, ap, subst, ◌∙◌, append_assoc, arith, inl, inr}
 use Rattle.std.specs.Prelude.{◌⊎◌}
 use Rattle.std.specs.List.{flat_map, AllByRecursion}
 use Rattle.std.proofs.lemmas.Bool.{eqb-true, eq-eqb}
 use Rattle.page_types.specs.Numbers.{u32_bytes}
 use Rattle.page_types.specs.Keys.{IsKey, KeyLess, BoundLess, Rising}
-use Rattle.page_types.specs.Spelling.{key_field, entry_child_bytes}
+use Rattle.page_types.specs.Encoding.{key_field, entry_child_bytes}
 use Rattle.page_types.specs.Pages.{IsEntryChild, AreEntryChildren}
 use Rattle.page_types.specs.Fields.{◌>>=◌}
 use Rattle.page_types.specs.declared.page.EntryChild.{EntryChild}
@@ -48,7 +48,7 @@ key_some : (key : List ℕ) → IsKey key → key ≢ []
 key_some [] h = absurd h
 key_some (b ∷ bs) h = λ e. absurd (cc e)
 
--- what a chain of children tells
+-- what a chain of children says
 record AreChained (right : ℕ) (last : List ℕ) (children : List EntryChild) : Type 0 where
   each : AllByRecursion (IsEntryChild right) children
   later : AllByRecursion (IsLater last) children

@@ -1,4 +1,4 @@
--- What stands on the pages of the entry tree: what is read was spelled, and what is spelled is read.
+-- What is on the pages of the entry tree: what is read was encoded, and what is encoded is read.
 use Rattle.std.proofs.Common.{◌≡◌, ℕ, zero, suc, ◌<◌, ◌≤◌, List, [], ◌∷◌, ◌++◌, length, take, Result, Ok, Err, refl, ap, subst, ◌∙◌, append_assoc, arith}
 use Rattle.std.specs.Prelude.{nat_le}
 use Rattle.std.specs.List.{flat_map, AllByRecursion}
@@ -7,7 +7,7 @@ use Rattle.std.proofs.lemmas.List.{take_at}
 use Rattle.page_types.specs.Numbers.{u16_bytes, u32_bytes}
 use Rattle.page_types.specs.Items.{IsItemList}
 use Rattle.page_types.specs.Keys.{KeyLess}
-use Rattle.page_types.specs.Spelling.{key_field, postings_bytes, entry_bytes}
+use Rattle.page_types.specs.Encoding.{key_field, postings_bytes, entry_bytes}
 use Rattle.page_types.specs.Pages.{ArePostings, IsEntry, AreEntries}
 use Rattle.page_types.specs.Fields.{◌>>=◌, number_at, bytes_at, tested}
 use Rattle.page_types.specs.declared.page.Entry.{Entry}
@@ -45,8 +45,8 @@ pub part_fits : (bytes x rest : List ℕ) → IsBytes bytes → bytes ≡ x ++ r
 part_fits bytes x rest fits e =
     subst (λ (l : List ℕ). IsBytes l) (ap (take (length x)) e ∙ take_at x rest (length x) refl) (IsBytes-take (length x) bytes fits)
 
-inline_spelled : (bytes b1 items rest : List ℕ) (size : ℕ) → Takes bytes (u16_bytes size) b1 → size ≤ 1000 → Takes b1 items rest → length items ≡ size → IsItemList items → Takes (0 ∷ bytes) (postings_bytes (Inline items)) rest × ArePostings (Inline items)
-inline_spelled bytes b1 items rest size t0 le t1 len is =
+inline_encoded : (bytes b1 items rest : List ℕ) (size : ℕ) → Takes bytes (u16_bytes size) b1 → size ≤ 1000 → Takes b1 items rest → length items ≡ size → IsItemList items → Takes (0 ∷ bytes) (postings_bytes (Inline items)) rest × ArePostings (Inline items)
+inline_encoded bytes b1 items rest size t0 le t1 len is =
     let sized : Takes bytes (u16_bytes (length items)) b1 = rw len t0 in
     let both = Takes-then bytes (u16_bytes (length items)) b1 items rest sized t1 in
     (record { parts = ap (λ (l : List ℕ). 0 ∷ l) both.parts; rest_fits = both.rest_fits }, (omega (arith, len, le), is))
@@ -61,7 +61,7 @@ inline_takes bytes x fits e =
     let t1 = bytes_take n.0.0 n.0.1 i.0.0 i.0.1 t0.0.rest_fits i.1 in
     let list = list_takes i.0.0 r.0 (part_fits n.0.1 i.0.0 i.0.1 t0.0.rest_fits t1.0.parts) (part_ok n.0.1 i.0.0 (list_at i.0.0) r.0 r.1) in
     let made : Postings × List ℕ = (Inline i.0.0, i.0.1) in
-    subst (λ (y : Postings × List ℕ). Takes (0 ∷ bytes) (postings_bytes y.0) y.1 × ArePostings y.0) (ok_is made x r.2) (inline_spelled bytes n.0.1 i.0.0 i.0.1 n.0.0 t0.0 t0.1 t1.0 t1.1 list)
+    subst (λ (y : Postings × List ℕ). Takes (0 ∷ bytes) (postings_bytes y.0) y.1 × ArePostings y.0) (ok_is made x r.2) (inline_encoded bytes n.0.1 i.0.0 i.0.1 n.0.0 t0.0 t0.1 t1.0 t1.1 list)
 
 inline_again : (items rest : List ℕ) → length items ≤ 1000 → IsItemList items → inline_at ((u16_bytes (length items) ++ items) ++ rest) ≡ Ok (Inline items, rest)
 unfolding inline_at

@@ -1,11 +1,11 @@
--- A field that is read was spelled, and what is spelled is read.
+-- A field that is read was encoded, and what is encoded is read.
 use Rattle.std.proofs.Common.{◌≡◌, ℕ, ◌^◌, ◌<◌, ◌≤◌, Bool, true, ltb, eqb, List, [], ◌++◌, length, Ok, refl, ap, subst, ◌∙◌, append_assoc, arith, inl, inr}
 use Rattle.std.specs.Prelude.{◌&&◌, ◌||◌, ◌⊎◌}
 use Rattle.std.proofs.lemmas.Bool.{ltb-true, lt-ltb, eqb-true, eq-eqb}
 use Rattle.std.proofs.lemmas.List.{nil_from_length}
 use Rattle.page_types.specs.Numbers.{u16_bytes, u32_bytes, zeros}
 use Rattle.page_types.specs.Keys.{IsKey, KeyLess}
-use Rattle.page_types.specs.Spelling.{key_field}
+use Rattle.page_types.specs.Encoding.{key_field}
 use Rattle.page_types.specs.Fields.{◌>>=◌, number_at, bytes_at, tested}
 use Rattle.page_types.proofs.Framing.{length-zeros}
 use Rattle.page_types.proofs.PageTelling.{key_short}

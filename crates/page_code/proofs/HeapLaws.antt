@@ -1,9 +1,9 @@
--- A head and a slot that are read were spelled, and what is spelled is read.
+-- A head and a slot that are read were encoded, and what is encoded is read.
 use Rattle.std.proofs.Common.{◌≡◌, ℕ, zero, suc, ◌^◌, ◌<◌, Bool, true, false, cond, List, [], ◌∷◌, ◌++◌, Option, Some, None, Ok, refl, sym, ap, subst, ◌∙◌, append_assoc, arith, inl, inr}
 use Rattle.std.specs.Prelude.{nat_le}
 use Rattle.std.proofs.lemmas.Bool.{leb-true, leb-false, le-leb, lt-leb}
 use Rattle.page_types.specs.Numbers.{u32_bytes, u64_bytes}
-use Rattle.page_types.specs.Spelling.{head_bytes, slot_bytes}
+use Rattle.page_types.specs.Encoding.{head_bytes, slot_bytes}
 use Rattle.page_types.specs.Pages.{IsVectorIn, IsHead, IsSlot}
 use Rattle.page_types.specs.Fields.{◌>>=◌, number_at, bytes_at}
 use Rattle.page_types.specs.declared.page.Head.{Head}
@@ -31,13 +31,13 @@ vector_again size v rest (inr p) =
     rw large (rw (p.1) refl)
 
 -- a head by its fields, each taken in its turn
-head_spelled : (b0 b1 b2 b3 b4 b5 b6 b7 : List ℕ) (serial inserted_by deleted_by overflow private size : ℕ) (vector : List ℕ) → Takes b0 (u64_bytes serial) b1 → serial < 2 ^ 64 → Takes b1 (u32_bytes inserted_by) b2 → inserted_by < 2 ^ 32
+head_encoded : (b0 b1 b2 b3 b4 b5 b6 b7 : List ℕ) (serial inserted_by deleted_by overflow private size : ℕ) (vector : List ℕ) → Takes b0 (u64_bytes serial) b1 → serial < 2 ^ 64 → Takes b1 (u32_bytes inserted_by) b2 → inserted_by < 2 ^ 32
     → Takes b2 (u32_bytes deleted_by) b3 → deleted_by < 2 ^ 32 → Takes b3 (u32_bytes overflow) b4 → overflow < 1048576 → Takes b4 (u32_bytes private) b5 → private < 1048576
     → Takes b5 (u32_bytes size) b6 → size < 2 ^ 32 → Takes b6 vector b7 → IsVectorIn size vector
     → Takes b0 (head_bytes (record { serial = serial; inserted_by = inserted_by; deleted_by = deleted_by; overflow = overflow; private = private; bytes = size; vector = vector })) b7
     × IsHead (record { serial = serial; inserted_by = inserted_by; deleted_by = deleted_by; overflow = overflow; private = private; bytes = size; vector = vector })
 unfolding head_bytes
-head_spelled b0 b1 b2 b3 b4 b5 b6 b7 serial inserted_by deleted_by overflow private size vector t0 f0 t1 f1 t2 f2 t3 f3 t4 f4 t5 f5 t6 f6 =
+head_encoded b0 b1 b2 b3 b4 b5 b6 b7 serial inserted_by deleted_by overflow private size vector t0 f0 t1 f1 t2 f2 t3 f3 t4 f4 t5 f5 t6 f6 =
     let e5 = Takes-then b5 (u32_bytes size) b6 vector b7 t5 t6 in
     let e4 = Takes-then b4 (u32_bytes private) b5 (u32_bytes size ++ vector) b7 t4 e5 in
     let e3 = Takes-then b3 (u32_bytes overflow) b4 (u32_bytes private ++ (u32_bytes size ++ vector)) b7 t3 e4 in
@@ -101,7 +101,7 @@ head_takes bytes x fits e =
     let t2 = u32_takes i.0.1 d.0.0 d.0.1 t1.0.rest_fits d.1 in
     let t3 = below_takes 1048576 d.0.1 o.0 t2.0.rest_fits o.1 in
     let t = tail_takes s.0.0 i.0.0 d.0.0 o.0.0 o.0.1 x t3.0.rest_fits o.2 in
-    let whole = head_spelled bytes s.0.1 i.0.1 d.0.1 o.0.1 t.b5 t.b6 x.1 s.0.0 i.0.0 d.0.0 o.0.0 t.private t.size t.vector t0.0 t0.1 t1.0 t1.1 t2.0 t2.1 t3.0 t3.1 t.private_takes t.private_fits t.size_takes t.size_fits t.vector_takes t.vector_fits in
+    let whole = head_encoded bytes s.0.1 i.0.1 d.0.1 o.0.1 t.b5 t.b6 x.1 s.0.0 i.0.0 d.0.0 o.0.0 t.private t.size t.vector t0.0 t0.1 t1.0 t1.1 t2.0 t2.1 t3.0 t3.1 t.private_takes t.private_fits t.size_takes t.size_fits t.vector_takes t.vector_fits in
     subst (λ (h : Head). Takes bytes (head_bytes h) x.1 × IsHead h) (sym t.head_is) whole
 
 head_regrouped : (a b c d e f v t : List ℕ) → (a ++ (b ++ (c ++ (d ++ (e ++ (f ++ v)))))) ++ t ≡ a ++ (b ++ (c ++ (d ++ (e ++ (f ++ (v ++ t))))))

@@ -1,4 +1,4 @@
--- An item list in front of other bytes: what is read was spelled, and what is spelled is read.
+-- An item list in front of other bytes: what is read was encoded, and what is encoded is read.
 use Rattle.std.proofs.Common.{◌≡◌, ℕ, ◌-◌, ◌≤◌, ◌<◌, Bool, true, false, cond, ltb, List, [], ◌++◌, length, take, Result, Ok, Err, refl, sym, ap, subst, ◌∙◌, arith}
 use Rattle.std.proofs.lemmas.Bool.{le-ltb, lt-ltb, ltb-false}
 use Rattle.std.proofs.lemmas.List.{length-append, take_at}
@@ -44,7 +44,7 @@ front_again list rest h =
     let n : ℕ = length (items_of list) in
     let size : length (list ++ rest) - length rest ≡ length list = omega (arith, length-append list rest) in
     let read = items_again 0 (items_of list) rest h.items in
-    let here : items_within (length (items_of list)) 0 (list ++ rest) ≡ Ok (items_of list, rest) = ap (λ (l : List ℕ). items_within (length (items_of list)) 0 (l ++ rest)) h.spelling ∙ read in
+    let here : items_within (length (items_of list)) 0 (list ++ rest) ≡ Ok (items_of list, rest) = ap (λ (l : List ℕ). items_within (length (items_of list)) 0 (l ++ rest)) h.encoding ∙ read in
     let all : ltb (length (items_of list)) (length (items_of list)) ≡ false = le-ltb (length (items_of list)) (length (items_of list)) (omega arith) in
     (ap (λ (r : Result (List ℕ × List ℕ) ℕ). r >>= λ x. if_enough (ltb (length x.0) (length (items_of list))) x.1) here ∙ ap (λ b. if_enough b rest) all, ap (λ n. take n (list ++ rest)) size ∙ take_at list rest (length list) refl)
 

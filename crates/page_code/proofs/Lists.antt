@@ -1,4 +1,4 @@
--- So many values, each read behind the last: what is read was spelled, and what is spelled is read.
+-- So many values, each read after the last: what is read was encoded, and what is encoded is read.
 use Rattle.std.proofs.Common.{◌≡◌, ℕ, zero, suc, List, [], ◌∷◌, ◌++◌, length, Result, Ok, refl, sym, ap, subst, ◌∙◌, append_assoc}
 use Rattle.std.specs.List.{flat_map, AllByRecursion}
 use Rattle.std.proofs.lemmas.List.{append-nil}
@@ -14,36 +14,36 @@ done x = Ok x
 pub ok_is : {A : Type 0} (x y : A) → done x ≡ done y → x ≡ y
 ok_is x y e = cc
 
--- A reader of values that are spelled so, and that fit behind what the last one left, with so many behind them.
-pub record IsReader {A M : Type 0} (read : M → ℕ → List ℕ → Read A) (spell : A → List ℕ) (Fits : M → ℕ → A → Type 0) : Type 0 where
-  pub takes : (last : M) (k : ℕ) (bytes : List ℕ) (x : A × List ℕ) → IsBytes bytes → read last k bytes ≡ Ok x → Takes bytes (spell x.0) x.1 × Fits last k x.0
-  pub again : (last : M) (k : ℕ) (x : A) (rest : List ℕ) → Fits last k x → read last k (spell x ++ rest) ≡ Ok (x, rest)
+-- A reader of values that are encoded so, and that fit after what the last one left, with so many after them.
+pub record IsReader {A M : Type 0} (read : M → ℕ → List ℕ → Read A) (encode : A → List ℕ) (Fits : M → ℕ → A → Type 0) : Type 0 where
+  pub takes : (last : M) (k : ℕ) (bytes : List ℕ) (x : A × List ℕ) → IsBytes bytes → read last k bytes ≡ Ok x → Takes bytes (encode x.0) x.1 × Fits last k x.0
+  pub again : (last : M) (k : ℕ) (x : A) (rest : List ℕ) → Fits last k x → read last k (encode x ++ rest) ≡ Ok (x, rest)
 
--- each fits behind the one before it
+-- each fits after the one before it
 abbrev pub AllFit : {A M : Type 0} → (M → ℕ → A → Type 0) → (A → M) → M → List A → Type 0
 AllFit Fits mark last [] = Unit {0}
 AllFit Fits mark last (x ∷ xs) = Fits last (length xs) x × AllFit Fits mark (mark x) xs
 
--- values that are read behind others
-pub record TakesEach {A M : Type 0} (spell : A → List ℕ) (Fits : M → ℕ → A → Type 0) (mark : A → M) (last : M) (k : ℕ) (before : List A) (bytes : List ℕ) (all : List A) (rest : List ℕ) : Type 0 where
+-- values that are read after others
+pub record TakesEach {A M : Type 0} (encode : A → List ℕ) (Fits : M → ℕ → A → Type 0) (mark : A → M) (last : M) (k : ℕ) (before : List A) (bytes : List ℕ) (all : List A) (rest : List ℕ) : Type 0 where
   pub new : List A
   pub all_are : all ≡ before ++ new
-  pub takes : Takes bytes (flat_map spell new) rest
+  pub takes : Takes bytes (flat_map encode new) rest
   pub count : length new ≡ k
   pub fit : AllFit Fits mark last new
 
-each_take : {A M : Type 0} (read : M → ℕ → List ℕ → Read A) (spell : A → List ℕ) (Fits : M → ℕ → A → Type 0) (mark : A → M) → IsReader read spell Fits → (last : M) (k : ℕ) (before : List A) (bytes : List ℕ) (x : List A × List ℕ)
-    → IsBytes bytes → each_at read mark last k before bytes ≡ Ok x → TakesEach spell Fits mark last k before bytes x.0 x.1
+each_take : {A M : Type 0} (read : M → ℕ → List ℕ → Read A) (encode : A → List ℕ) (Fits : M → ℕ → A → Type 0) (mark : A → M) → IsReader read encode Fits → (last : M) (k : ℕ) (before : List A) (bytes : List ℕ) (x : List A × List ℕ)
+    → IsBytes bytes → each_at read mark last k before bytes ≡ Ok x → TakesEach encode Fits mark last k before bytes x.0 x.1
 unfolding each_at
-each_take {A} read spell Fits mark r last zero before bytes x fits e =
+each_take {A} read encode Fits mark r last zero before bytes x fits e =
     let made : List A × List ℕ = (before, bytes) in
-    let whole : TakesEach spell Fits mark last zero before bytes made.0 made.1 = record { new = []; all_are = sym (append-nil before); takes = record { parts = refl; rest_fits = fits }; count = refl; fit = tt } in
-    subst (λ (y : List A × List ℕ). TakesEach spell Fits mark last zero before bytes y.0 y.1) (ok_is made x e) whole
-each_take {A} read spell Fits mark r last (suc k) before bytes x fits e =
+    let whole : TakesEach encode Fits mark last zero before bytes made.0 made.1 = record { new = []; all_are = sym (append-nil before); takes = record { parts = refl; rest_fits = fits }; count = refl; fit = tt } in
+    subst (λ (y : List A × List ℕ). TakesEach encode Fits mark last zero before bytes y.0 y.1) (ok_is made x e) whole
+each_take {A} read encode Fits mark r last (suc k) before bytes x fits e =
     let a = bind_ok (read last k bytes) (λ y. each_at read mark (mark y.0) k (before ++ y.0 ∷ []) y.1) x e in
     let t = r.takes last k bytes a.0 fits a.1 in
-    let more = each_take read spell Fits mark r (mark a.0.0) k (before ++ a.0.0 ∷ []) a.0.1 x t.0.rest_fits a.2 in
-    let both = Takes-then bytes (spell a.0.0) a.0.1 (flat_map spell more.new) x.1 t.0 more.takes in
+    let more = each_take read encode Fits mark r (mark a.0.0) k (before ++ a.0.0 ∷ []) a.0.1 x t.0.rest_fits a.2 in
+    let both = Takes-then bytes (encode a.0.0) a.0.1 (flat_map encode more.new) x.1 t.0 more.takes in
     let here : Fits last (length more.new) a.0.0 = subst (λ n. Fits last n a.0.0) (sym more.count) t.1 in
     record {
       new = a.0.0 ∷ more.new;
@@ -53,34 +53,34 @@ each_take {A} read spell Fits mark r last (suc k) before bytes x fits e =
       fit = (here, more.fit);
     }
 
-each_again : {A M : Type 0} (read : M → ℕ → List ℕ → Read A) (spell : A → List ℕ) (Fits : M → ℕ → A → Type 0) (mark : A → M) → IsReader read spell Fits → (last : M) (before xs : List A) (rest : List ℕ)
-    → AllFit Fits mark last xs → each_at read mark last (length xs) before (flat_map spell xs ++ rest) ≡ Ok (before ++ xs, rest)
+each_again : {A M : Type 0} (read : M → ℕ → List ℕ → Read A) (encode : A → List ℕ) (Fits : M → ℕ → A → Type 0) (mark : A → M) → IsReader read encode Fits → (last : M) (before xs : List A) (rest : List ℕ)
+    → AllFit Fits mark last xs → each_at read mark last (length xs) before (flat_map encode xs ++ rest) ≡ Ok (before ++ xs, rest)
 unfolding each_at
-each_again {A} read spell Fits mark r last before [] rest fit = ap (λ (l : List A). Ok (l, rest)) (sym (append-nil before))
-each_again {A} read spell Fits mark r last before (x ∷ xs) rest fit =
-    let regrouped : flat_map spell (x ∷ xs) ++ rest ≡ spell x ++ (flat_map spell xs ++ rest) = ap (λ (t : List ℕ). t ++ rest) (flat_map-cons spell x xs) ∙ append_assoc (spell x) (flat_map spell xs) rest in
-    let first = r.again last (length xs) x (flat_map spell xs ++ rest) fit.0 in
-    let others = each_again read spell Fits mark r (mark x) (before ++ x ∷ []) xs rest fit.1 in
+each_again {A} read encode Fits mark r last before [] rest fit = ap (λ (l : List A). Ok (l, rest)) (sym (append-nil before))
+each_again {A} read encode Fits mark r last before (x ∷ xs) rest fit =
+    let regrouped : flat_map encode (x ∷ xs) ++ rest ≡ encode x ++ (flat_map encode xs ++ rest) = ap (λ (t : List ℕ). t ++ rest) (flat_map-cons encode x xs) ∙ append_assoc (encode x) (flat_map encode xs) rest in
+    let first = r.again last (length xs) x (flat_map encode xs ++ rest) fit.0 in
+    let others = each_again read encode Fits mark r (mark x) (before ++ x ∷ []) xs rest fit.1 in
     ap (each_at read mark last (suc (length xs)) before) regrouped
     ∙ ap (λ (t : Read A). t >>= λ y. each_at read mark (mark y.0) (length xs) (before ++ y.0 ∷ []) y.1) first
     ∙ others ∙ ap (λ (l : List A). Ok (l, rest)) (append_assoc before (x ∷ []) xs)
 
 -- so many values, from the first on
-pub record TakesAll {A M : Type 0} (spell : A → List ℕ) (Fits : M → ℕ → A → Type 0) (mark : A → M) (last : M) (k : ℕ) (bytes : List ℕ) (xs : List A) (rest : List ℕ) : Type 0 where
-  pub takes : Takes bytes (flat_map spell xs) rest
+pub record TakesAll {A M : Type 0} (encode : A → List ℕ) (Fits : M → ℕ → A → Type 0) (mark : A → M) (last : M) (k : ℕ) (bytes : List ℕ) (xs : List A) (rest : List ℕ) : Type 0 where
+  pub takes : Takes bytes (flat_map encode xs) rest
   pub count : length xs ≡ k
   pub fit : AllFit Fits mark last xs
 
-pub all_take : {A M : Type 0} (read : M → ℕ → List ℕ → Read A) (spell : A → List ℕ) (Fits : M → ℕ → A → Type 0) (mark : A → M) → IsReader read spell Fits → (last : M) (k : ℕ) (bytes : List ℕ) (x : List A × List ℕ)
-    → IsBytes bytes → each_at read mark last k [] bytes ≡ Ok x → TakesAll spell Fits mark last k bytes x.0 x.1
-all_take {A} read spell Fits mark r last k bytes x fits e =
-    let t = each_take read spell Fits mark r last k [] bytes x fits e in
-    let whole : TakesAll spell Fits mark last k bytes t.new x.1 = record { takes = t.takes; count = t.count; fit = t.fit } in
-    subst (λ (xs : List A). TakesAll spell Fits mark last k bytes xs x.1) (sym t.all_are) whole
+pub all_take : {A M : Type 0} (read : M → ℕ → List ℕ → Read A) (encode : A → List ℕ) (Fits : M → ℕ → A → Type 0) (mark : A → M) → IsReader read encode Fits → (last : M) (k : ℕ) (bytes : List ℕ) (x : List A × List ℕ)
+    → IsBytes bytes → each_at read mark last k [] bytes ≡ Ok x → TakesAll encode Fits mark last k bytes x.0 x.1
+all_take {A} read encode Fits mark r last k bytes x fits e =
+    let t = each_take read encode Fits mark r last k [] bytes x fits e in
+    let whole : TakesAll encode Fits mark last k bytes t.new x.1 = record { takes = t.takes; count = t.count; fit = t.fit } in
+    subst (λ (xs : List A). TakesAll encode Fits mark last k bytes xs x.1) (sym t.all_are) whole
 
-pub all_again : {A M : Type 0} (read : M → ℕ → List ℕ → Read A) (spell : A → List ℕ) (Fits : M → ℕ → A → Type 0) (mark : A → M) → IsReader read spell Fits → (last : M) (xs : List A) (rest : List ℕ)
-    → AllFit Fits mark last xs → each_at read mark last (length xs) [] (flat_map spell xs ++ rest) ≡ Ok (xs, rest)
-all_again read spell Fits mark r last xs rest fit = each_again read spell Fits mark r last [] xs rest fit
+pub all_again : {A M : Type 0} (read : M → ℕ → List ℕ → Read A) (encode : A → List ℕ) (Fits : M → ℕ → A → Type 0) (mark : A → M) → IsReader read encode Fits → (last : M) (xs : List A) (rest : List ℕ)
+    → AllFit Fits mark last xs → each_at read mark last (length xs) [] (flat_map encode xs ++ rest) ≡ Ok (xs, rest)
+all_again read encode Fits mark r last xs rest fit = each_again read encode Fits mark r last [] xs rest fit
 
 -- ---- values that fit anywhere, and values that rise
 

@@ -1,11 +1,11 @@
--- A page that is read is spelled so, and a page that is spelled so is read.
+-- A page that is read is encoded so, and a page that is encoded so is read.
 use Rattle.std.proofs.Common.{◌≡◌, ◌≢◌, ℕ, zero, suc, ◌+◌, ◌-◌, ◌*◌, ◌^◌, ◌<◌, ◌≤◌, Bool, true, false, cond, eqb, ltb, List, [], ◌∷◌, ◌++◌, length, Option, Some, None, Result, Ok, Err, refl, sym, ap, subst, ◌∙◌, append_assoc, arith}
 use Rattle.std.specs.Prelude.{nat_le, IfOk}
 use Rattle.std.specs.List.{slice_get}
 use Rattle.std.proofs.lemmas.Bool.{leb-true, le-leb, ltb-true, lt-ltb, le-ltb, eqb-true, eq-eqb}
 use Rattle.std.proofs.lemmas.List.{append-nil, nil_from_length}
 use Rattle.page_types.specs.Numbers.{u16_bytes, u32_bytes, u64_bytes, zeros}
-use Rattle.page_types.specs.Spelling.{kind_of, was_of, count_of, body_bytes, front_bytes, framed, page_bytes}
+use Rattle.page_types.specs.Encoding.{kind_of, was_of, count_of, body_bytes, front_bytes, framed, page_bytes}
 use Rattle.page_types.specs.Pages.{IsBody, IsPage}
 use Rattle.page_types.specs.Fields.{◌>>=◌, number_at, bytes_at, tested}
 use Rattle.page_types.specs.declared.page.Page.{Page}
@@ -22,7 +22,7 @@ use Rattle.page_code.specs.Forms.{gone_forms, live_forms, joined_option, live_fo
 use Rattle.page_code.specs.Bodies.{in_part, body_at, whole_body_at}
 use Rattle.page_code.specs.Reading.{kind_at, known_at, was_at, form_at, count_at, right_at, stamp_at, used_length_at, framed_at, front_at, page_at}
 use Rattle.page_code.specs.Decoding.{Answers, placed}
-use Rattle.page_code.specs.Laws.{AreBytes, Spells, ReadingIsSpelled, SpellingIsRead}
+use Rattle.page_code.specs.Laws.{AreBytes, Encodes, ReadingIsEncoded, EncodingIsRead}
 use Rattle.page_code.proofs.Passing.{and_parts, and_both}
 use Rattle.page_code.proofs.FieldLaws.{tested_again, zeros_take, zeros_again}
 use Rattle.page_code.proofs.EntryLaws.{part_ok, part_fits}
@@ -270,7 +270,7 @@ unfolding used_length_at
 used_again n rest le =
     rw (u16_again n (zeros 6 ++ rest) (omega arith), le-leb n 8168 le) (ap (λ (r : Result (List ℕ) ℕ). r >>= λ t. Ok (n, t)) (zeros_again 6 rest))
 
--- ---- a body and the zeros behind it
+-- ---- a body and the zeros after it
 
 whole_takes : (f : Form) (right stamp count : ℕ) (bytes : List ℕ) (b : Body) → IsBytes bytes → Allows f right stamp count → whole_body_at f right count bytes ≡ Ok b → TakesBody f right stamp count bytes b []
 unfolding whole_body_at
@@ -331,11 +331,11 @@ page_of : ℕ → ℕ → Body → Page
 page_of right stamp b = record { right = right; stamp = stamp; body = b }
 
 -- the fields of a page, each taken in its turn
-page_spelled : (bytes r1 r2 r3 r4 r5 rest : List ℕ) (f : Form) (count right stamp used : ℕ) (b : Body) → Takes bytes (form_kind f ∷ form_was f ∷ []) r1 → Takes r1 (u16_bytes count) r2 → count < 2 ^ 16
+page_encoded : (bytes r1 r2 r3 r4 r5 rest : List ℕ) (f : Form) (count right stamp used : ℕ) (b : Body) → Takes bytes (form_kind f ∷ form_was f ∷ []) r1 → Takes r1 (u16_bytes count) r2 → count < 2 ^ 16
     → Takes r2 (u32_bytes right) r3 → right < 1048576 → Takes r3 (u64_bytes stamp) r4 → stamp < 2 ^ 64 → TakesUsed r4 used r5 → TakesFramed f right stamp count used r5 b rest
     → Takes bytes (page_bytes (page_of right stamp b)) rest × IsPage (page_of right stamp b)
 unfolding page_of page_bytes framed front_bytes
-page_spelled bytes r1 r2 r3 r4 r5 rest f count right stamp used b t0 t1 few t2 small t3 fits u w =
+page_encoded bytes r1 r2 r3 r4 r5 rest f count right stamp used b t0 t1 few t2 small t3 fits u w =
     let kinds = body_kinds b in
     let kind : form_kind f ≡ kind_of b = ap form_kind (sym w.form_is) ∙ kinds.0 in
     let was : form_was f ≡ was_of b = ap form_was (sym w.form_is) ∙ kinds.1 in
@@ -353,7 +353,7 @@ page_spelled bytes r1 r2 r3 r4 r5 rest f count right stamp used b t0 t1 few t2 s
     let used_fits = u.fits in
     (all, record { right = small; stamp = fits; body = w.fits; count = omega (arith, w.many, few); fits = omega (arith, w.size, used_fits) })
 
--- the fields behind the count
+-- the fields after the count
 record TakesLater (f : Form) (count : ℕ) (bytes : List ℕ) (p : Page) (rest : List ℕ) : Type 0 where
   right : ℕ
   stamp : ℕ
@@ -413,7 +413,7 @@ front_takes bytes x fits e =
     let t0 = form_takes bytes f.0 fits f.1 in
     let t1 = count_takes f.0.0 f.0.1 c.0 t0.rest_fits c.1 in
     let t = later_takes f.0.0 c.0.0 c.0.1 x t1.0.rest_fits t1.2 c.2 in
-    let whole = page_spelled bytes f.0.1 c.0.1 t.r3 t.r4 t.r5 x.1 f.0.0 c.0.0 t.right t.stamp t.used t.b t0 t1.0 t1.1 t.right_takes t.right_fits t.stamp_takes t.stamp_fits t.used_takes t.framed_takes in
+    let whole = page_encoded bytes f.0.1 c.0.1 t.r3 t.r4 t.r5 x.1 f.0.0 c.0.0 t.right t.stamp t.used t.b t0 t1.0 t1.1 t.right_takes t.right_fits t.stamp_takes t.stamp_fits t.used_takes t.framed_takes in
     subst (λ (p : Page). Takes bytes (page_bytes p) x.1 × IsPage p) (sym t.page_is) whole
 
 page_again : (p : Page) (rest : List ℕ) → IsPage p → front_at (page_bytes p ++ rest) ≡ Ok (p, rest)
@@ -436,20 +436,20 @@ held : (b : Bool) (d : ℕ) (x y : Page) → cond b (Ok x) (Err d) ≡ Ok y → 
 held true d x y e = (refl, ok_is x y e)
 held false d x y e = absurd cc
 
-pub reading_is_spelled : ReadingIsSpelled
+pub reading_is_encoded : ReadingIsEncoded
 unfolding page_at
-reading_is_spelled bytes p fits e =
+reading_is_encoded bytes p fits e =
     let a = bind_ok (front_at bytes) (λ x. cond (eqb (length x.1) 0) (Ok x.0) (Err (length x.1))) p e in
     let g = held (eqb (length a.0.1) 0) (length a.0.1) a.0.0 p a.2 in
     let t = front_takes bytes a.0 fits a.1 in
     let none : a.0.1 ≡ [] = nil_from_length a.0.1 (eqb-true _ _ g.0) in
     let all : bytes ≡ page_bytes a.0.0 = t.0.parts ∙ ap (λ (l : List ℕ). page_bytes a.0.0 ++ l) none ∙ append-nil (page_bytes a.0.0) in
-    let whole : Spells bytes a.0.0 = record { is_page = t.1; spelled = all } in
-    subst (Spells bytes) g.1 whole
+    let whole : Encodes bytes a.0.0 = record { is_page = t.1; encoded = all } in
+    subst (Encodes bytes) g.1 whole
 
-pub spelling_is_read : SpellingIsRead
+pub encoding_is_read : EncodingIsRead
 unfolding page_at
-spelling_is_read p is =
+encoding_is_read p is =
     let read : front_at (page_bytes p) ≡ Ok (p, []) = ap front_at (sym (append-nil (page_bytes p))) ∙ page_again p [] is in
     ap (λ (r : Read Page). r >>= λ x. cond (eqb (length x.1) 0) (Ok x.0) (Err (length x.1))) read
 
@@ -458,10 +458,10 @@ placed_ok size (Ok q) p e = e
 placed_ok size (Err left) p e = absurd cc
 
 -- what a call answered, by the laws
-pub is_found : (bytes : List ℕ) (answer : Result Page PageError) → AreBytes bytes → Answers answer (placed (length bytes) (page_at bytes)) → IfOk answer (λ p. Spells bytes p)
-is_found bytes (Ok p) fits given = reading_is_spelled bytes p fits (placed_ok (length bytes) (page_at bytes) p given)
+pub is_found : (bytes : List ℕ) (answer : Result Page PageError) → AreBytes bytes → Answers answer (placed (length bytes) (page_at bytes)) → IfOk answer (λ p. Encodes bytes p)
+is_found bytes (Ok p) fits given = reading_is_encoded bytes p fits (placed_ok (length bytes) (page_at bytes) p given)
 is_found bytes (Err e) fits given = tt
 
 pub is_read : (bytes : List ℕ) (answer : Result Page PageError) → Answers answer (placed (length bytes) (page_at bytes)) → (p : Page) → IsPage p → bytes ≡ page_bytes p → Answers answer (Ok p)
 is_read bytes answer given p is e =
-    subst (λ (r : Result Page ℕ). Answers answer r) (ap (placed (length bytes)) (ap page_at e ∙ spelling_is_read p is)) given
+    subst (λ (r : Result Page ℕ). Answers answer r) (ap (placed (length bytes)) (ap page_at e ∙ encoding_is_read p is)) given

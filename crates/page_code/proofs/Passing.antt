@@ -23,7 +23,7 @@ and_parts false b e = absurd cc
 pub and_both : (a b : Bool) → a ≡ true → b ≡ true → (a && b) ≡ true
 and_both a b p q = rw (p, q) refl
 
--- what a test for no bytes tells
+-- what a test for no bytes says
 pub some_from : {A : Type 0} (xs : List A) (b : Bool) → b ≡ false → b ≡ eqb (length xs) 0 → 1 ≤ length xs
 some_from [] b p q = absurd (cc (p, q))
 some_from (x ∷ xs) b p q = omega arith
@@ -59,13 +59,13 @@ no_text : (text : List ℕ) (b : Bool) → (IsUtf8 text → ⊥) → is_utf8 tex
 no_text text true h e = absurd (h (IsUtf8-from_is_utf8 text e))
 no_text text false h e = refl
 
--- what reading a text as UTF-8 tells
+-- what reading a text as UTF-8 says
 pub text_tested : {T E : Type 0} (P : T → Type 0) (Q : E → Type 0) (text : List ℕ) (r : Result T E) (passes : Bool)
     → MatchResult r (λ s. P s × IsUtf8 text) (λ e. (IsUtf8 text → ⊥) × Q e) → passes ≡ is_ok r → passes ≡ is_utf8 text
 text_tested P Q text (Ok s) passes h is = is ∙ sym (is_utf8-from_IsUtf8 text h.1)
 text_tested P Q text (Err e) passes h is = is ∙ sym (no_text text (is_utf8 text) h.0 refl)
 
--- what the test for UTF-8 tells of a text of a lexeme's length
+-- what the test for UTF-8 says of a text of a lexeme's length
 pub lexeme_tested : (text : List ℕ) (passes : Bool) → 1 ≤ length text → length text ≤ 2046 → passes ≡ is_utf8 text → passes ≡ is_key_text text
 lexeme_tested text passes some most is = rw (le-leb 1 (length text) some, le-leb (length text) 2046 most) is
 
@@ -80,7 +80,7 @@ above_passed last key e = less_by (slice_cmp nat_cmp last key) e
 pub above_passes : (last key : List ℕ) → KeyLess last key → is_above last key ≡ true
 above_passes last key e = ap is_lt e
 
--- each key stands above no bytes
+-- each key is above no bytes
 pub above_none : (key : List ℕ) → IsKey key → KeyLess [] key
 above_none [] h = absurd h
 above_none (b ∷ bs) h = refl

@@ -1,10 +1,10 @@
--- Keys and rows that are read were spelled, and what is spelled is read.
+-- Keys and rows that are read were encoded, and what is encoded is read.
 use Rattle.std.proofs.Common.{◌≡◌, ◌≢◌, ℕ, ◌^◌, ◌<◌, ltb, List, [], ◌∷◌, ◌++◌, length, Ok, refl, ap, subst, ◌∙◌, append_assoc, arith}
 use Rattle.std.specs.List.{flat_map, AllByRecursion}
 use Rattle.std.proofs.lemmas.Bool.{ltb-true, lt-ltb}
 use Rattle.page_types.specs.Numbers.{u16_bytes, u32_bytes}
 use Rattle.page_types.specs.Keys.{IsKey, KeyLess, Rising}
-use Rattle.page_types.specs.Spelling.{key_field, row_bytes}
+use Rattle.page_types.specs.Encoding.{key_field, row_bytes}
 use Rattle.page_types.specs.Pages.{IsRow}
 use Rattle.page_types.specs.Fields.{◌>>=◌, number_at, tested}
 use Rattle.page_types.specs.declared.page.Row.{Row}
@@ -21,7 +21,7 @@ IsNextKey last k key = IsKey key × KeyLess last key
 pub key_reader : IsReader (λ last _ rest. key_at last rest) key_field IsNextKey
 key_reader = record { takes = λ last k bytes x fits e. key_takes last bytes x fits e; again = λ last k x rest is. key_again last x rest is.0 is.1 }
 
--- each of them stands above no bytes
+-- each of them is above no bytes
 pub all_above_none : (keys : List (List ℕ)) → AllByRecursion IsKey keys → AllByRecursion (KeyLess []) keys
 all_above_none [] h = tt
 all_above_none (k ∷ ks) h = (above_none k h.0, all_above_none ks h.1)
@@ -64,10 +64,10 @@ some_of : {A : Type 0} (xs : List A) → xs ≢ [] → 0 < length xs
 some_of [] h = absurd (h refl)
 some_of (x ∷ xs) h = omega arith
 
-row_spelled : (b0 b1 b2 b3 : List ℕ) (item count : ℕ) (keys : List (List ℕ)) → Takes b0 (u32_bytes item) b1 → item < 2147483648 → Takes b1 (u16_bytes count) b2 → 0 < count → count < 2 ^ 16 → TakesKeys count b2 keys b3
+row_encoded : (b0 b1 b2 b3 : List ℕ) (item count : ℕ) (keys : List (List ℕ)) → Takes b0 (u32_bytes item) b1 → item < 2147483648 → Takes b1 (u16_bytes count) b2 → 0 < count → count < 2 ^ 16 → TakesKeys count b2 keys b3
     → Takes b0 (row_bytes (record { item = item; keys = keys })) b3 × IsRow (record { item = item; keys = keys })
 unfolding row_bytes
-row_spelled b0 b1 b2 b3 item count keys t0 f0 t1 some few t2 =
+row_encoded b0 b1 b2 b3 item count keys t0 f0 t1 some few t2 =
     let counted : Takes b1 (u16_bytes (length keys)) b2 = rw (t2.many) t1 in
     let e1 = Takes-then b1 (u16_bytes (length keys)) b2 (flat_map key_field keys) b3 counted t2.takes in
     let e0 = Takes-then b0 (u32_bytes item) b1 (u16_bytes (length keys) ++ flat_map key_field keys) b3 t0 e1 in
@@ -83,7 +83,7 @@ row_takes bytes x fits e =
     let t1 = some_takes i.0.1 n.0 t0.0.rest_fits n.1 in
     let t2 = keys_take n.0.0 n.0.1 k.0 t1.0.rest_fits k.1 in
     let made : Row × List ℕ = (record { item = i.0.0; keys = k.0.0 }, k.0.1) in
-    subst (λ (y : Row × List ℕ). Takes bytes (row_bytes y.0) y.1 × IsRow y.0) (ok_is made x k.2) (row_spelled bytes i.0.1 n.0.1 k.0.1 i.0.0 n.0.0 k.0.0 t0.0 t0.1 t1.0 t1.1 t1.2 t2)
+    subst (λ (y : Row × List ℕ). Takes bytes (row_bytes y.0) y.1 × IsRow y.0) (ok_is made x k.2) (row_encoded bytes i.0.1 n.0.1 k.0.1 i.0.0 n.0.0 k.0.0 t0.0 t0.1 t1.0 t1.1 t1.2 t2)
 
 three : (a b c t : List ℕ) → (a ++ (b ++ c)) ++ t ≡ a ++ (b ++ (c ++ t))
 three a b c t = simp append_assoc

@@ -1,4 +1,4 @@
--- What stands on the pages of a posting tree: what is read was spelled, and what is spelled is read.
+-- What is on the pages of a posting tree: what is read was encoded, and what is encoded is read.
 use Rattle.std.proofs.Common.{◌≡◌, ◌≢◌, ℕ, zero, suc, ◌+◌, ◌^◌, ◌<◌, ◌≤◌, Bool, true, false, cond, eqb, ltb, List, [], ◌∷◌, ◌++◌, length, Result, Ok, refl, ap, subst, ◌∙◌, append_assoc, arith, inl, inr}
 use Rattle.std.specs.Prelude.{nat_le, ◌&&◌, ◌||◌, ◌⊎◌}
 use Rattle.std.specs.List.{flat_map, AllByRecursion}
@@ -6,7 +6,7 @@ use Rattle.std.proofs.lemmas.Bool.{leb-true, le-leb, ltb-true, lt-ltb, eqb-true,
 use Rattle.page_types.specs.Numbers.{u32_bytes}
 use Rattle.page_types.specs.Items.{items_of, IsItemList}
 use Rattle.page_types.specs.Keys.{Rising}
-use Rattle.page_types.specs.Spelling.{post_child_bytes}
+use Rattle.page_types.specs.Encoding.{post_child_bytes}
 use Rattle.page_types.specs.Pages.{IsPostChild, ArePostChildren, IsHighItem}
 use Rattle.page_types.specs.Fields.{◌>>=◌, number_at, tested}
 use Rattle.page_types.specs.declared.page.PostChild.{PostChild}

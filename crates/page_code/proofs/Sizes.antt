@@ -5,7 +5,7 @@ use Rattle.std.proofs.lemmas.List.{length-append, take_at, drop_at, drop-drop, d
 use Rattle.page_types.specs.Numbers.{u16_bytes, u32_bytes, u64_bytes, zeros}
 use Rattle.page_types.specs.Writing.{overwritten}
 use Rattle.page_types.specs.Keys.{IsKey}
-use Rattle.page_types.specs.Spelling.{key_field, head_bytes, row_bytes, postings_bytes, entry_bytes, entry_child_bytes, post_child_bytes, high_key_bytes, body_bytes, kind_of, was_of, count_of, front_bytes, framed, page_bytes}
+use Rattle.page_types.specs.Encoding.{key_field, head_bytes, row_bytes, postings_bytes, entry_bytes, entry_child_bytes, post_child_bytes, high_key_bytes, body_bytes, kind_of, was_of, count_of, front_bytes, framed, page_bytes}
 use Rattle.page_types.specs.Pages.{IsEntryChild, IsHighKey}
 use Rattle.page_types.specs.declared.page.Page.{Page}
 use Rattle.page_types.specs.declared.page.Head.{Head}
@@ -109,7 +109,7 @@ puts_front p k w n r1 r2 r3 r4 o0 o1 o2 o3 o4 is was many l0 l1 l2 p1 p2 p3 p4 =
 
 -- ---- a page
 
--- bytes over the first of zeros that stand behind others
+-- bytes over the first of zeros that are after others
 over_gap : (front bytes behind : List ℕ) (at n : ℕ) → length front ≡ at → length bytes ≤ n → overwritten at bytes (front ++ (zeros n ++ behind)) ≡ (front ++ bytes) ++ (zeros (n - length bytes) ++ behind)
 unfolding overwritten
 over_gap front bytes behind at n is le =

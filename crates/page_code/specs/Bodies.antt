@@ -24,7 +24,7 @@ meta_at bytes = do
   pages ← number_at 4 last.1
   Ok (body.Meta first.0 last.0 pages.0, pages.1)
 
--- a vector of this many bytes, where it stands in its head
+-- a vector of this many bytes, where it is in its head
 abbrev pub vector_at : ℕ → List ℕ → Read (List ℕ)
 vector_at size bytes = if nat_le size most_short then bytes_at size bytes else Ok ([], bytes)
 
@@ -39,7 +39,7 @@ head_at bytes = do
   vector ← vector_at size.0 size.1
   Ok (record { serial = serial.0; inserted_by = inserted_by.0; deleted_by = deleted_by.0; overflow = overflow.0; private = private.0; bytes = size.0; vector = vector.0 }, vector.1)
 
--- a used slot behind the byte 1
+-- a used slot after the byte 1
 unfoldable pub used_slot_at : List ℕ → Read (Option Head)
 used_slot_at bytes = do
   head ← head_at bytes
@@ -74,7 +74,7 @@ row_at bytes = do
 abbrev pub rows_at : ℕ → List ℕ → Read (List Row)
 rows_at count bytes = each_at {M = ℕ} (λ _ _ rest. row_at rest) (λ _. 0) 0 count [] bytes
 
--- what is read in a part that the whole begins with: a fault stands at the same place in both
+-- what is read in a part that the whole begins with: a fault is at the same place in both
 abbrev pub in_part : {A : Type 0} → List ℕ → List ℕ → Result A ℕ → Result A ℕ
 in_part whole part (Ok x) = Ok x
 in_part whole part (Err left) = Err (length whole - (length part - left))
@@ -85,7 +85,7 @@ inline_size_at bytes = do
   n ← number_at 2 bytes
   tested (nat_le n.0 most_inline) bytes n
 
--- an inline item list behind the byte 0, read within its length
+-- an inline item list after the byte 0, read within its length
 unfoldable pub inline_at : List ℕ → Read Postings
 inline_at bytes = do
   size ← inline_size_at bytes
@@ -93,7 +93,7 @@ inline_at bytes = do
   rest ← in_part size.1 items.0 (list_at items.0)
   Ok (Inline items.0, items.1)
 
--- the root of a posting tree behind the byte 1
+-- the root of a posting tree after the byte 1
 unfoldable pub root_at : List ℕ → Read Postings
 root_at bytes = do
   root ← below_at page_limit bytes
@@ -163,7 +163,7 @@ high_item_at right bytes = do
   n ← number_at 4 bytes
   tested (is_high_item right n.0) bytes n
 
--- the bytes that stand before the rest
+-- the bytes that are before the rest
 abbrev pub front_of : List ℕ → List ℕ → List ℕ
 front_of bytes rest = take (length bytes - length rest) bytes
 
@@ -174,7 +174,7 @@ posting_at right count bytes = do
   rest ← items_at count high.1
   Ok ((high.0, front_of high.1 rest), rest)
 
--- what stands on a page of this form
+-- what is on a page of this form
 unfoldable pub body_at : Form → ℕ → ℕ → List ℕ → Read Body
 body_at form.Free right count bytes = Ok (body.Free, bytes)
 body_at form.Meta right count bytes = meta_at bytes

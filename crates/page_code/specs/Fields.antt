@@ -1,4 +1,4 @@
--- Fields that stand on pages, read from the front of the bytes: a value and the bytes behind it, or a fault.
+-- Fields that are on pages, read from the front of the bytes: a value and the bytes after it, or a fault.
 -- A fault is how many bytes are left before the field that is refused, and 0 where they end within a field.
 use Rattle.std.specs.Prelude.{ℕ, zero, suc, Bool, false, ◌&&◌, ◌||◌, List, [], ◌∷◌, ◌++◌, length, Result, Ok, nat_lt, nat_le, ◌==◌}
 use Rattle.std.specs.List.{list_all}
@@ -20,7 +20,7 @@ below_at limit bytes = do
 abbrev pub are_zeros : List ℕ → Bool
 are_zeros bytes = list_all (λ b. b == 0) bytes
 
--- so many zero bytes, and those behind them
+-- so many zero bytes, and those after them
 unfoldable pub zeros_at : ℕ → List ℕ → Result (List ℕ) ℕ
 zeros_at size bytes = do
   gap ← bytes_at size bytes
@@ -39,7 +39,7 @@ is_key (suc (suc b) ∷ rest) = false
 abbrev pub is_above : List ℕ → List ℕ → Bool
 is_above last key = is_lt (slice_cmp nat_cmp last key)
 
--- bytes behind their length
+-- bytes after their length
 unfoldable pub sized_at : List ℕ → Read (List ℕ)
 sized_at bytes = do
   size ← number_at 2 bytes
@@ -57,8 +57,8 @@ bound_at may_lack last bytes = do
   bound ← sized_at bytes
   tested ((is_key bound.0 && is_above last bound.0) || (may_lack && (length bound.0 == 0))) bytes bound
 
--- So many values behind others, and these before them. Reading a value knows what the one before it leaves to compare
--- with, and how many come behind it.
+-- So many values after others, and these before them. Reading a value knows what the one before it leaves to compare
+-- with, and how many come after it.
 unfoldable pub each_at : {A M : Type 0} → (M → ℕ → List ℕ → Read A) → (A → M) → M → ℕ → List A → List ℕ → Read (List A)
 each_at read mark last zero before bytes = Ok (before, bytes)
 each_at read mark last (suc k) before bytes = do

@@ -45,7 +45,7 @@ stamp_at form bytes = do
   n ← number_at 8 bytes
   tested (fits_free form n.0) bytes n
 
--- the used length, and the zero gap behind it
+-- the used length, and the zero gap after it
 unfoldable pub used_length_at : List ℕ → Read ℕ
 used_length_at bytes = do
   n ← number_at 2 bytes
@@ -53,7 +53,7 @@ used_length_at bytes = do
   rest ← zeros_at 6 used.1
   Ok (used.0, rest)
 
--- a body of so many bytes, and the zeros behind it up to the end
+-- a body of so many bytes, and the zeros after it up to the end
 unfoldable pub framed_at : Form → ℕ → ℕ → ℕ → List ℕ → Read Body
 framed_at form right count used bytes = do
   text ← bytes_at used bytes

@@ -25,7 +25,7 @@ fn read_inline_size(bytes: &[u8]) -> Result<(u16, &[u8]), ReadError>
     }
 }
 
-/// An inline item list behind the byte 0, read within its length.
+/// An inline item list after the byte 0, read within its length.
 #[tactic(auto, unfolding(crate::specs::Bodies::inline_at))]
 fn read_inline(bytes: &[u8]) -> Result<(PostingsRef<'_>, &[u8]), ReadError>
     ensures { Gives (λ x. (postings_shown x.0, x.1.now)) result (inline_at bytes.now) }
@@ -41,7 +41,7 @@ fn read_inline(bytes: &[u8]) -> Result<(PostingsRef<'_>, &[u8]), ReadError>
     }
 }
 
-/// The root of a posting tree behind the byte 1.
+/// The root of a posting tree after the byte 1.
 #[tactic(auto, unfolding(crate::specs::Bodies::root_at))]
 fn read_root(bytes: &[u8]) -> Result<(PostingsRef<'_>, &[u8]), ReadError>
     ensures { Gives (λ x. (postings_shown x.0, x.1.now)) result (root_at bytes.now) }
@@ -62,7 +62,7 @@ fn read_postings(bytes: &[u8]) -> Result<(PostingsRef<'_>, &[u8]), ReadError>
     }
 }
 
-/// An entry whose key stands above the last.
+/// An entry whose key is above the last.
 #[tactic(auto, unfolding(crate::specs::Bodies::entry_at))]
 fn read_entry<'a>(last: &[u8], bytes: &'a [u8]) -> Result<(EntryRef<'a>, &'a [u8]), ReadError>
     ensures { Gives (λ x. (entry_shown x.0, x.1.now)) result (entry_at last.now bytes.now) }
@@ -72,7 +72,7 @@ fn read_entry<'a>(last: &[u8], bytes: &'a [u8]) -> Result<(EntryRef<'a>, &'a [u8
     Ok((EntryRef { key, postings }, rest))
 }
 
-/// The least bytes of an entry: a key of one byte behind its length, and an empty list behind a byte and its length.
+/// The least bytes of an entry: a key of one byte after its length, and an empty list after a byte and its length.
 const LEAST_ENTRY_BYTES: usize = 6;
 
 /// So many entries. Room is taken for as many as the bytes can have.
@@ -119,7 +119,7 @@ pub fn read_entry_leaf(
     Ok((Body::EntryLeaf { high, entries }, rest))
 }
 
-/// A child whose bound stands above the last, with so many children behind it.
+/// A child whose bound is above the last, with so many children after it.
 #[tactic(auto, unfolding(crate::specs::Bodies::entry_child_at))]
 fn read_entry_child<'a>(
     right: u32,

@@ -1,4 +1,4 @@
-// Fields that stand on pages, read from the front of the bytes.
+// Fields that are on pages, read from the front of the bytes.
 ghost use Rattle.std.specs.Prelude.{◌≡◌, IsTrue};
 ghost use Rattle.std.specs.Str.{IsAscii, is_utf8};
 ghost use Rattle.page_types.specs.Fields.{Gives};
@@ -31,7 +31,7 @@ fn all_zeros(bytes: &[u8]) -> bool
     most == 0
 }
 
-/// So many zero bytes; what stands behind them is read.
+/// So many zero bytes; what is after them is read.
 #[tactic(auto, unfolding(crate::specs::Fields::zeros_at))]
 pub fn skip_zeros(size: usize, bytes: &[u8]) -> Result<&[u8], ReadError>
     ensures { Gives (λ rest. rest.now) result (zeros_at size bytes.now) }
@@ -79,7 +79,7 @@ fn is_whole_key(bytes: &[u8]) -> bool
     }
 }
 
-/// Whether the key stands above the last.
+/// Whether the key is above the last.
 #[inline(always)]
 fn is_above_last(last: &[u8], key: &[u8]) -> bool
     ensures { result ≡ is_above last.now key.now }
@@ -87,7 +87,7 @@ fn is_above_last(last: &[u8], key: &[u8]) -> bool
     last.cmp(key) == Ordering::Less
 }
 
-/// Bytes behind their length.
+/// Bytes after their length.
 #[tactic(auto, unfolding(crate::specs::Fields::sized_at))]
 fn read_sized(bytes: &[u8]) -> Result<(&[u8], &[u8]), ReadError>
     ensures { Gives (λ x. (x.0.now, x.1.now)) result (sized_at bytes.now) }
@@ -96,7 +96,7 @@ fn read_sized(bytes: &[u8]) -> Result<(&[u8], &[u8]), ReadError>
     slice_at(usize::from(size), rest)
 }
 
-/// A key field whose key stands above the last.
+/// A key field whose key is above the last.
 #[tactic(auto, unfolding(crate::specs::Fields::key_at))]
 pub fn read_key<'a>(last: &[u8], bytes: &'a [u8]) -> Result<(&'a [u8], &'a [u8]), ReadError>
     ensures { Gives (λ x. (x.0.now, x.1.now)) result (key_at last.now bytes.now) }
@@ -109,7 +109,7 @@ pub fn read_key<'a>(last: &[u8], bytes: &'a [u8]) -> Result<(&'a [u8], &'a [u8])
     }
 }
 
-/// A bound that stands above the last, or none where it may lack.
+/// A bound that is above the last, or none where it may lack.
 #[tactic(auto, unfolding(crate::specs::Fields::bound_at))]
 pub fn read_bound<'a>(
     may_lack: bool,

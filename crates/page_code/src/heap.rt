@@ -11,7 +11,7 @@ use page_types::{
 };
 use std::alloc::Global;
 
-/// A vector of this many bytes, where it stands in its head.
+/// A vector of this many bytes, where it is in its head.
 fn read_vector(size: u32, bytes: &[u8]) -> Result<(&[u8], &[u8]), ReadError>
     ensures { Gives (λ x. (x.0.now, x.1.now)) result (vector_at size bytes.now) }
 {
@@ -45,7 +45,7 @@ fn read_head(bytes: &[u8]) -> Result<(HeadRef<'_>, &[u8]), ReadError>
     Ok((HeadRef { fields, vector }, rest))
 }
 
-/// A used slot behind the byte 1.
+/// A used slot after the byte 1.
 #[tactic(auto, unfolding(crate::specs::Bodies::used_slot_at))]
 fn read_used(bytes: &[u8]) -> Result<(Option<HeadRef<'_>>, &[u8]), ReadError>
     ensures { Gives (λ x. (option_map head_shown x.0, x.1.now)) result (used_slot_at bytes.now) }

@@ -4,7 +4,7 @@ ghost use Rattle.page_code.specs.Items.{items_at, list_at};
 
 use page_types::{ReadError, read_items};
 
-/// So many items; what stands after them is read.
+/// So many items; what is after them is read.
 pub fn skip_items(count: u16, bytes: &[u8]) -> Result<&[u8], ReadError>
     ensures { Gives (λ rest. rest.now) result (items_at count bytes.now) }
 {

@@ -1,6 +1,6 @@
-//! Pages of a store as bytes: the one spelling of each, and the page that bytes spell.
+//! Pages of a store as bytes: the one encoding of each, and the page that bytes encode.
 //!
-//! What a spelling is stands in `page_types`. Here are its reader and its writer, with the place of the first fault of
+//! `page_types` says what an encoding is. Here are its reader and its writer, with the place of the first fault of
 //! bytes that are no page.
 #![tactic(auto)]
 
@@ -13,10 +13,10 @@ mod items;
 mod laws;
 mod pending;
 mod postings;
-mod reading;
+mod pages;
 mod writing;
 
 pub use error::PageError;
-pub use laws::spellings_are_read;
-pub use reading::decode_page;
+pub use laws::encodings_are_read;
+pub use pages::decode_page;
 pub use writing::{encode_page, page_image};

@@ -37,7 +37,7 @@ fn read_some(bytes: &[u8]) -> Result<(u16, &[u8]), ReadError>
     }
 }
 
-/// An item and its keys, which stand in place of those that were there.
+/// An item and its keys, which are in place of those that were there.
 #[tactic(auto, unfolding(crate::specs::Bodies::row_at))]
 fn read_row<'a>(keys: &mut Pieces, bytes: &'a [u8]) -> Result<(u32, &'a [u8]), ReadError>
     ensures { Gives (λ x. (record { item = x.0; keys = keys.new }, x.1.now)) result

@@ -23,7 +23,7 @@ fn read_item_bound(may_lack: bool, least: u64, bytes: &[u8]) -> Result<(u32, &[u
     }
 }
 
-/// A child whose bound is at least so great, with so many children behind it.
+/// A child whose bound is at least so great, with so many children after it.
 #[tactic(auto, unfolding(crate::specs::Bodies::post_child_at))]
 fn read_post_child(
     right: u32,

@@ -1,10 +1,10 @@
-// The spelling of a page, written into 8192 bytes.
+// The encoding of a page, written into 8192 bytes.
 ghost use Rattle.std.specs.Prelude.{◌≡◌, ℕ, ◌+◌, ◌<◌, ◌≤◌, ◌^◌, ◌++◌, ◌∷◌, [], length, IfOk};
 ghost use Rattle.std.specs.List.{flat_map, AllByRecursion};
 ghost use Rattle.std.specs.Option.{option_map};
 ghost use Rattle.page_types.specs.Numbers.{u16_bytes, u32_bytes, u64_bytes};
 ghost use Rattle.page_types.specs.Parts.{head_shown, pieces_shown, row_shown, postings_shown, entry_shown, child_shown};
-ghost use Rattle.page_types.specs.Spelling.{key_field, head_bytes, slot_bytes, row_bytes, postings_bytes, entry_bytes, entry_child_bytes, post_child_bytes, high_key_bytes, gone_bytes, body_bytes, kind_of, was_of, count_of, gone_kind, gone_count, front_bytes, page_bytes};
+ghost use Rattle.page_types.specs.Encoding.{key_field, head_bytes, slot_bytes, row_bytes, postings_bytes, entry_bytes, entry_child_bytes, post_child_bytes, high_key_bytes, gone_bytes, body_bytes, kind_of, was_of, count_of, gone_kind, gone_count, front_bytes, page_bytes};
 ghost use Rattle.page_types.specs.Items.{items_of};
 ghost use Rattle.page_types.specs.Pages.{IsRow, ArePostings, IsEntry, IsGone, IsBody, IsPage};
 ghost use Rattle.page_code.specs.Inner.Putting.{Puts};
@@ -68,7 +68,7 @@ fn put_u64(out: &mut [u8], at: usize, number: u64) -> usize
     at + 8
 }
 
-/// Writes bytes behind their length.
+/// Writes bytes after their length.
 fn put_key(out: &mut [u8], at: usize, key: &[u8]) -> usize
     requires size { length key.now < 2 ^ 16 }
     requires room { at + (2 + length key.now) ≤ length out.old }
@@ -159,7 +159,7 @@ fn put_rows(out: &mut [u8], at: usize, rows: &Rows) -> usize
     end
 }
 
-/// Writes an item list behind its length, or a root.
+/// Writes an item list after its length, or a root.
 fn put_postings(out: &mut [u8], at: usize, postings: PostingsRef<'_>) -> usize
     requires postings { ArePostings (postings_shown postings) }
     requires room { at + length (postings_bytes (postings_shown postings)) ≤ length out.old }
@@ -372,7 +372,7 @@ fn count_items(items: &Bytes) -> usize
     count
 }
 
-/// How many slots, rows, entries, children or items stand in a body.
+/// How many slots, rows, entries, children or items are in a body.
 fn count_in(body: &Body) -> usize
     ensures { result ≡ count_of body.now }
 {
@@ -390,7 +390,7 @@ fn count_in(body: &Body) -> usize
 }
 
 /// Writes the bytes 0 to 7: kind, the kind before deletion, count and right link.
-#[tactic(auto, unfolding(page_types::specs::Spelling::front_bytes))]
+#[tactic(auto, unfolding(page_types::specs::Encoding::front_bytes))]
 fn put_front(out: &mut [u8], page: &Page)
     requires page { IsPage page.now }
     requires room { 8 ≤ length out.old }
@@ -402,7 +402,7 @@ fn put_front(out: &mut [u8], page: &Page)
     put_u32(out, at, page.right);
 }
 
-/// Writes the spelling of a page. It takes no memory.
+/// Writes the encoding of a page. It takes no memory.
 pub fn encode_page(page: &Page, out: &mut [u8])
     requires page { IsPage page.now }
     requires size { length out.old ≡ PAGE_BYTES }
@@ -416,7 +416,7 @@ pub fn encode_page(page: &Page, out: &mut [u8])
     put(out, 16, &used.to_le_bytes());
 }
 
-/// The spelling of a page as an image. Only memory can be wanting.
+/// The encoding of a page as an image. Only memory can be wanting.
 pub fn page_image(alloc: Global, page: &Page) -> Result<PageBytes, AllocError>
     requires { IsPage page.now }
     ensures { IfOk result (λ image. image ≡ page_bytes page.now) }

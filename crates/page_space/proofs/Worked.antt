@@ -4,7 +4,7 @@ use Rattle.core_state.specs.States.{StateValue, empty_state, use_of}
 use Rattle.core_state.specs.PageChoice.{IsUnused, IsReusable}
 use Rattle.core_state.specs.declared.answers.PageUse.{PageUse}
 use Rattle.core_state.specs.declared.answers.PageUse.TheVariants.{Used, Deleted}
-use Rattle.page_space.specs.Taking.{IsTaken, IsFull}
+use Rattle.page_space.specs.Taking.{IsTaken, HasNoPage}
 
 abbrev used : List PageUse
 used = Used ∷ Deleted 5 ∷ Deleted 3 ∷ []
@@ -56,7 +56,7 @@ since_two = IsTaken.unused (none_since_two 4) (record {
 })
 
 -- none where it may have three
-full_of_three : IsFull (state_with 3) 2
+full_of_three : HasNoPage (state_with 3) 2
 full_of_three = record {
   no_deleted = none_since_two 3;
   no_unused = λ q r. omega (arith, unused_from 3 q r, r.below);

@@ -12,7 +12,7 @@ pub data IsTaken (s : StateValue) (since p : ℕ) : Type 0 where
   unused : ((q : ℕ) → IsReusable (use_of s) since q → ⊥) → IsLeast (IsUnused s) p → IsTaken s since p
 
 -- there is no such page
-pub record IsFull (s : StateValue) (since : ℕ) : Type 0 where
+pub record HasNoPage (s : StateValue) (since : ℕ) : Type 0 where
   pub no_deleted : (p : ℕ) → IsReusable (use_of s) since p → ⊥
   pub no_unused : (p : ℕ) → IsUnused s p → ⊥
 

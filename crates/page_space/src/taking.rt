@@ -2,7 +2,7 @@
 ghost use Rattle.std.specs.Prelude.{◌≡◌, ◌↔◌, Err, IfOk};
 ghost use Rattle.core_state.specs.Changes.{IsNew};
 ghost use Rattle.core_state.specs.States.{use_of};
-ghost use Rattle.page_space.specs.Taking.{IsTaken, IsFull};
+ghost use Rattle.page_space.specs.Taking.{IsTaken, HasNoPage};
 ghost use Rattle.page_space.specs.declared.error.SpaceError.TheVariants.{StoreFull};
 
 use crate::error::SpaceError;
@@ -13,7 +13,7 @@ use core_state::State;
 /// no such page either. It takes no memory.
 pub fn take(state: &State, since: u64) -> Result<u32, SpaceError>
     ensures taken { IfOk result (λ p. IsTaken state.now.value since p) }
-    ensures full { (result ≡ Err StoreFull) ↔ IsFull state.now.value since }
+    ensures full { (result ≡ Err StoreFull) ↔ HasNoPage state.now.value since }
     ensures is_new { IfOk result (λ p. IsNew (use_of state.now.value) since p) }
 {
     if let Some(page) = state.reusable(since) {

@@ -5,7 +5,7 @@ use Rattle.std.proofs.lemmas.List.{length-append, take-append-drop, take_all, dr
 use Rattle.std.proofs.lemmas.List.Sums.{sum_by-cons}
 use Rattle.std.proofs.lemmas.List.Concat.{flat_map-append}
 use Rattle.page_types.specs.Numbers.{u16_bytes, u32_bytes, u64_bytes}
-use Rattle.page_types.specs.Spelling.{key_field, head_bytes, slot_bytes, row_bytes, postings_bytes, entry_bytes, entry_child_bytes, post_child_bytes, high_key_bytes}
+use Rattle.page_types.specs.Encoding.{key_field, head_bytes, slot_bytes, row_bytes, postings_bytes, entry_bytes, entry_child_bytes, post_child_bytes, high_key_bytes}
 use Rattle.page_types.specs.Inner.Cuts.{cut_at, EndAt}
 use Rattle.page_types.specs.Inner.Joins.{joined, row_with, child_with}
 use Rattle.page_types.specs.declared.page.Head.{Head}
@@ -66,7 +66,7 @@ length-posting high items = omega (arith, length-append (u32_bytes high) items, 
 pub length-meta : (first last pages : ℕ) → length (u32_bytes first ++ (u32_bytes last ++ u32_bytes pages)) ≡ 12
 length-meta first last pages = omega (arith, length-append (u32_bytes first) (u32_bytes last ++ u32_bytes pages), length-append (u32_bytes last) (u32_bytes pages), length-u32_bytes first, length-u32_bytes last, length-u32_bytes pages)
 
--- ---- all that stand one after the other
+-- ---- all that are one after the other
 
 pub record Grows {A : Type 0} (f : A → List ℕ) (xs : List A) (k size : ℕ) (x : A) : Type 0 where
   pub next : size + length (f x) ≡ length (flat_map f (take (k + 1) xs))

@@ -1,8 +1,8 @@
--- A body is told by its kind, the kind before deletion, its count and its bytes.
+-- A body is known by its kind, the kind before deletion, its count and its bytes.
 use Rattle.std.proofs.Common.{◌≡◌, ℕ, List, [], ◌++◌, Option, refl, ap, ◌∙◌, arith}
 use Rattle.std.specs.List.{flat_map}
 use Rattle.page_types.specs.Numbers.{u32_bytes}
-use Rattle.page_types.specs.Spelling.{slot_bytes, row_bytes, entry_bytes, entry_child_bytes, post_child_bytes, gone_bytes, body_bytes, kind_of, was_of, gone_kind, count_of, gone_count}
+use Rattle.page_types.specs.Encoding.{slot_bytes, row_bytes, entry_bytes, entry_child_bytes, post_child_bytes, gone_bytes, body_bytes, kind_of, was_of, gone_kind, count_of, gone_count}
 use Rattle.page_types.specs.Pages.{IsSlot, IsRow, IsEntry, IsEntryChild, IsPostChild, IsGone, IsBody}
 use Rattle.page_types.specs.declared.page.Head.{Head}
 use Rattle.page_types.specs.declared.page.Row.{Row}

@@ -90,7 +90,7 @@ take-drop-take from n m xs le =
     let split : from + (m - from) ≡ m = omega arith in
     ap (λ k. take n (drop from (take k xs))) (sym split) ∙ ap (take n) (drop-take from (m - from) xs) ∙ take-take n (m - from) (drop from xs) (omega arith)
 
--- a list begins behind the first place
+-- a list begins after the first place
 pub start_at-least : (from : ℕ) (es : List ℕ) (last k : ℕ) → EndAt from es last → k ≤ length es → from ≤ start_at from es k
 start_at-least from es last zero h le = omega arith
 start_at-least from [] last (suc k) h le = absurd (omega arith)

@@ -1,4 +1,4 @@
--- The ends of lists, where others stand in place of some and those behind move.
+-- The ends of lists, where others are in place of some and those after move.
 use Rattle.std.proofs.Common.{◌≡◌, ℕ, ◌+◌, ◌-◌, ◌^◌, ◌<◌, ◌≤◌, List, ◌++◌, length, map, take, drop, refl, sym, ap, subst, ◌∙◌, append_assoc, arith}
 use Rattle.std.specs.List.{splice, slice_range}
 use Rattle.std.proofs.lemmas.List.{append-nil, drop_at, take_at, drop-drop, drop_all, take_all, length-append, length-map, length-take-le}
@@ -74,7 +74,7 @@ ends_stand ends mid later now new k m s t size is =
     (omega (arith, front_size ends k m is.in_order is.within, length-map new f)) (same_count ends mid new f k m (length mid) is.replaced refl)
     ∙ ap (λ a. P a t) is.start ∙ ap (P (start_at 0 ends k)) is.behind
 
--- the new ones can be moved, and those behind
+-- the new ones can be moved, and those after
 pub new_can : (ends new : List ℕ) (k m last size start : ℕ) → EndAt 0 new size → start ≡ start_at 0 ends k → start_at 0 ends k + size + (last - start_at 0 ends m) < 2 ^ 64 → CanMove 0 start new
 new_can ends new k m last size start at is fits = (size, at, omega arith)
 

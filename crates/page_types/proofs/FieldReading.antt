@@ -34,7 +34,7 @@ pub tested_ok : {A : Type 0} (passes : Bool) (bytes : List ℕ) (x y : A) → te
 tested_ok true bytes x y e = (refl, cc)
 tested_ok false bytes x y e = absurd cc
 
--- a field's bytes, and those behind it
+-- a field's bytes, and those after it
 pub record Takes (bytes text rest : List ℕ) : Type 0 where
   pub parts : bytes ≡ text ++ rest
   pub rest_fits : IsBytes rest

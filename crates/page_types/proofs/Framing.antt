@@ -3,7 +3,7 @@ use Rattle.std.proofs.Common.{◌≡◌, ℕ, ◌+◌, ◌-◌, ◌≤◌, List,
 use Rattle.std.proofs.lemmas.List.{drop_at, take_at, drop-drop, take-take, drop-take, length-append, length-replicate, drop-replicate, replicate-append-replicate}
 use Rattle.byteorder.specs.Numbers.{length-bytes_low_first}
 use Rattle.page_types.specs.Numbers.{u16_bytes, u32_bytes, u64_bytes, zeros}
-use Rattle.page_types.specs.Spelling.{framed}
+use Rattle.page_types.specs.Encoding.{framed}
 use Rattle.page_types.specs.Writing.{overwritten}
 use Rattle.page_types.specs.Edits.{edited, spliced, used_in, body_in}
 use Rattle.page_types.specs.declared.record.Edit.TheVariants.{Delta}
@@ -87,7 +87,7 @@ written front stamp used before new behind o0 o1 o2 o3 o4 o5 o6 w =
 pub part_before : (old : List ℕ) (used start : ℕ) → start ≤ used → take start (drop 24 old) ≡ take start (take used (drop 24 old))
 part_before old used start le = sym (take-take start used (drop 24 old) le)
 
--- the part behind it
+-- the part after it
 pub part_behind : (old : List ℕ) (used at : ℕ) → at ≤ used → take (used - at) (drop (24 + at) old) ≡ drop at (take used (drop 24 old))
 part_behind old used at le =
     let sum : at + (used - at) ≡ used = omega arith in

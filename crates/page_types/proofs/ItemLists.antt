@@ -56,12 +56,12 @@ unfolding items_of
 items_of-item_list items h = sums-item_list_from 0 items h
 
 pub lists_are_told : ItemsTellList
-lists_are_told a b p q e = p.spelling ∙ ap item_list e ∙ sym q.spelling
+lists_are_told a b p q e = p.encoding ∙ ap item_list e ∙ sym q.encoding
 
 pub have_lists : ItemsHaveList
 have_lists items h =
     let same = items_of-item_list items h in
     record {
-      is_list = record { items = subst AreItems (sym same) h; spelling = ap item_list (sym same) };
+      is_list = record { items = subst AreItems (sym same) h; encoding = ap item_list (sym same) };
       items_are = same;
     }

@@ -50,7 +50,7 @@ item_read last bytes item rest fits e =
     record {
       above = let sum = n.sum in let some = n.above in omega arith;
       bound = n.bound;
-      takes = record { parts = sym w.spelling ∙ ap (λ k. varbyte k ++ rest) gap; rest_fits = w.rest_fits };
+      takes = record { parts = sym w.encoding ∙ ap (λ k. varbyte k ++ rest) gap; rest_fits = w.rest_fits };
     }
 
 -- what was written as a difference is read as the item
@@ -147,7 +147,7 @@ length-item_list_from last (i ∷ is) = omega (arith, length-append (varbyte (i 
 pub is_list : (bytes items : List ℕ) → AreItems items → bytes ≡ item_list items → IsItemList bytes × (items_of bytes ≡ items)
 is_list bytes items h e =
     let same : items_of bytes ≡ items = ap items_of e ∙ items_of-item_list items h in
-    (record { items = subst AreItems (sym same) h; spelling = e ∙ ap item_list (sym same) }, same)
+    (record { items = subst AreItems (sym same) h; encoding = e ∙ ap item_list (sym same) }, same)
 
 all_taken : (bytes is rest : List ℕ) → TakesItems (length bytes) 0 bytes is rest → rest ≡ []
 all_taken bytes is [] t = refl
@@ -172,7 +172,7 @@ found bytes is fits e =
 -- a list is read, to its end
 pub whole_again : (bytes : List ℕ) → IsItemList bytes → items_within (length bytes) 0 bytes ≡ Ok (items_of bytes, [])
 whole_again bytes h =
-    ap (λ (l : List ℕ). items_within (length l) 0 l) h.spelling
+    ap (λ (l : List ℕ). items_within (length l) 0 l) h.encoding
     ∙ list_again (length (item_list (items_of bytes))) 0 (items_of bytes) h.items (length-item_list_from 0 (items_of bytes))
 
 pub only : (bytes : List ℕ) → IsItemList bytes → items_read bytes ≡ Ok (items_of bytes)
@@ -270,7 +270,7 @@ pub reading_fails : (most : ℕ) (bytes rest : List ℕ) (last count left : ℕ)
 reading_fails most bytes rest last count left k lt some r =
     sym k.same ∙ ap (in_front_all k.given) (within_fails (most - count) last left rest (omega arith) some r) ∙ front_all_err k.given left
 
--- what a test for no bytes tells
+-- what a test for no bytes says
 pub some_left : (xs : List ℕ) (b : Bool) → b ≡ false → b ≡ eqb (length xs) 0 → 0 < length xs
 some_left [] b p q = absurd (cc (p, q))
 some_left (x ∷ xs) b p q = omega arith

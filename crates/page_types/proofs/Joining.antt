@@ -49,7 +49,7 @@ slot_past [] k le = refl
 slot_past (s ∷ slots) zero le = absurd (omega arith)
 slot_past (s ∷ slots) (suc k) le = slot_past slots k (omega arith)
 
--- one more behind what was joined
+-- one more after what was joined
 pub joined_grown : {A B C : Type 0} (f : A → B → C) (xs xs' : List A) (ys ys' : List B) (x : A) (y : B) (z : C) (old : List C) → length xs ≡ length ys → xs' ≡ xs ++ x ∷ [] → ys' ≡ ys ++ y ∷ [] → f x y ≡ z → joined f xs ys ≡ old
     → joined f xs' ys' ≡ old ++ z ∷ []
 joined_grown {A} {B} {C} f xs xs' ys ys' x y z old e p q r s =

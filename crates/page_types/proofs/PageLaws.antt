@@ -1,14 +1,14 @@
--- Two pages never share a spelling; where the parts of one stand.
+-- Two pages never share an encoding; where the parts of one are.
 use Rattle.std.proofs.Common.{◌≡◌, ℕ, ◌-◌, ◌^◌, ◌<◌, ◌≤◌, List, [], ◌++◌, length, take, drop, refl, sym, ap, subst, ◌∙◌, append_assoc, arith}
 use Rattle.std.proofs.lemmas.List.{take_at, drop_at, drop-drop, length-append}
 use Rattle.byteorder.specs.Endian.{little_number}
 use Rattle.byteorder.specs.Numbers.{little_number-reads_back}
 use Rattle.page_types.specs.Numbers.{u16_bytes, u32_bytes, u64_bytes, zeros}
-use Rattle.page_types.specs.Spelling.{page_bytes, front_bytes, framed, body_bytes, kind_of, was_of, count_of}
+use Rattle.page_types.specs.Encoding.{page_bytes, front_bytes, framed, body_bytes, kind_of, was_of, count_of}
 use Rattle.page_types.specs.Pages.{IsPage, IsBody}
 use Rattle.page_types.specs.Records.{stamp_in}
 use Rattle.page_types.specs.Edits.{used_in, body_in, edited, spliced}
-use Rattle.page_types.specs.Laws.{SpellingTellsPage, SpellingHasParts, DeltaLeadsToPage}
+use Rattle.page_types.specs.Laws.{EncodingTellsPage, EncodingHasParts, DeltaLeadsToPage}
 use Rattle.page_types.specs.declared.page.Page.{Page}
 use Rattle.page_types.specs.declared.page.Body.{Body}
 use Rattle.page_types.proofs.Framing.{length-u16_bytes, length-u32_bytes, length-u64_bytes, length-zeros}
@@ -66,7 +66,7 @@ framed-body front stamp body f b =
     let there : drop 24 (framed front stamp body) ≡ body ++ zeros (8168 - length body) = ap (drop 24) grouped ∙ drop_at ((front ++ u64_bytes stamp) ++ (u16_bytes (length body) ++ zeros 6)) (body ++ zeros (8168 - length body)) 24 size in
     ap (λ n. take n (drop 24 (framed front stamp body))) used ∙ ap (take (length body)) there ∙ take_at body (zeros (8168 - length body)) (length body) refl
 
-pub has_parts : SpellingHasParts
+pub has_parts : EncodingHasParts
 unfolding page_bytes
 has_parts p h = record {
   size = length-framed (front_bytes p) p.stamp (body_bytes p.body) (length-front_bytes p) h.fits;
@@ -108,7 +108,7 @@ rest_told front front' stamp stamp' body body' f f' s s' b b' e =
     let bodies = ap (λ t. body_in t) e in
     (fronts.0, stamps.0, sym (framed-body front stamp body f b) ∙ bodies ∙ framed-body front' stamp' body' f' b')
 
-pub page_told : SpellingTellsPage
+pub page_told : EncodingTellsPage
 unfolding page_bytes
 page_told p q hp hq e =
     let parts = rest_told (front_bytes p) (front_bytes q) p.stamp q.stamp (body_bytes p.body) (body_bytes q.body) (length-front_bytes p) (length-front_bytes q) hp.stamp hq.stamp hp.fits hq.fits e in

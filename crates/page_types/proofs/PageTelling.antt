@@ -1,9 +1,9 @@
--- What stands on a page is told by its bytes, its kind and its count.
+-- What is on a page is known by its bytes, its kind and its count.
 use Rattle.std.proofs.Common.{◌≡◌, ℕ, zero, suc, ◌^◌, ◌<◌, List, [], ◌∷◌, ◌++◌, length, Option, Some, None, refl, sym, ap, ◌∙◌, append_assoc, arith, inl, inr}
 use Rattle.std.specs.List.{flat_map, AllByRecursion}
 use Rattle.page_types.specs.Numbers.{u16_bytes, u32_bytes, u64_bytes}
 use Rattle.page_types.specs.Keys.{IsKey}
-use Rattle.page_types.specs.Spelling.{key_field, head_bytes, slot_bytes, row_bytes, postings_bytes, entry_bytes, entry_child_bytes, post_child_bytes, high_key_bytes}
+use Rattle.page_types.specs.Encoding.{key_field, head_bytes, slot_bytes, row_bytes, postings_bytes, entry_bytes, entry_child_bytes, post_child_bytes, high_key_bytes}
 use Rattle.page_types.specs.Pages.{IsHead, IsVectorIn, IsSlot, IsRow, ArePostings, IsEntry, IsHighKey, IsEntryChild, IsPostChild}
 use Rattle.page_types.specs.declared.page.Head.{Head}
 use Rattle.page_types.specs.declared.page.Row.{Row}

@@ -1,10 +1,10 @@
--- A record's spelling begins no other's.
+-- A record's encoding begins no other's.
 use Rattle.std.proofs.Common.{◌≡◌, ℕ, ◌*◌, ◌^◌, ◌<◌, ◌≤◌, List, [], ◌∷◌, ◌++◌, length, refl, sym, ap, ◌∙◌, append_assoc, arith}
 use Rattle.std.specs.List.{flat_map, AllByRecursion}
 use Rattle.std.proofs.lemmas.List.{length-append}
 use Rattle.page_types.specs.Numbers.{u16_bytes, u32_bytes, u64_bytes}
 use Rattle.page_types.specs.Records.{kind_number, document_bytes, kind_bytes, edit_bytes, change_bytes, record_rest, record_bytes, IsDocument, IsKind, IsEdit, IsChange, IsRecord}
-use Rattle.page_types.specs.Laws.{SpellingTellsRecord, SpellingTellsRecords}
+use Rattle.page_types.specs.Laws.{EncodingTellsRecord, EncodingTellsRecords}
 use Rattle.page_types.specs.declared.record.Record.{Record}
 use Rattle.page_types.specs.declared.record.Change.{Change}
 use Rattle.page_types.specs.declared.record.Edit.{Edit}
@@ -166,7 +166,7 @@ length-record_rest r p =
       p.count,
     )
 
-pub record_told : SpellingTellsRecord
+pub record_told : EncodingTellsRecord
 unfolding record_bytes
 record_told r s a b p q e =
     let opened = sym (append_assoc (u32_bytes (length (record_rest r))) (record_rest r) a) ∙ e ∙ append_assoc (u32_bytes (length (record_rest s))) (record_rest s) b in
@@ -178,7 +178,7 @@ unfolding record_bytes
 some_bytes r rs e =
     absurd (omega (arith, ap length e, length-append (record_bytes r) (flat_map record_bytes rs), length-append (u32_bytes (length (record_rest r))) (record_rest r), length-u32_bytes (length (record_rest r))))
 
-pub records_told : SpellingTellsRecords
+pub records_told : EncodingTellsRecords
 records_told [] [] p q e = refl
 records_told [] (s ∷ ss) p q e = absurd (some_bytes s ss e)
 records_told (r ∷ rs) [] p q e = absurd (some_bytes r rs (sym e))

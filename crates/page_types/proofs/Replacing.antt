@@ -19,7 +19,7 @@ shrunk {A} xs new from to end in_order within few is =
     let P : List A → List A → List A = λ a b. a ++ b in
     ap (λ ys. P (take end ys) (drop to ys)) split ∙ ap (λ a. P a (drop to ((take from xs ++ new) ++ drop (from + length new) xs))) front ∙ ap (P (take from xs ++ new)) back ∙ append_assoc (take from xs) new (drop to xs)
 
--- the last are put in behind, and the first are written over
+-- the last are put in after, and the first are written over
 grown : {A : Type 0} (xs new first last : List A) (from to : ℕ) → from ≤ to → to ≤ length xs → to - from < length new → first ≡ take (to - from) new → last ≡ drop (to - from) new → splice (splice xs to to last) from (from + length first) first ≡ splice xs from to new
 grown {A} xs new first last from to in_order within many is it =
     let size : length first ≡ to - from = ap length is ∙ length-take-le (to - from) new (omega arith) in

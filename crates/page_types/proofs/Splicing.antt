@@ -1,4 +1,4 @@
--- Lists that are cut from one list, where others stand in place of some of them.
+-- Lists that are cut from one list, where others are in place of some of them.
 use Rattle.std.proofs.Common.{◌≡◌, ℕ, zero, suc, ◌+◌, ◌-◌, ◌<◌, ◌≤◌, List, [], ◌∷◌, ◌++◌, length, take, drop, map, set, refl, add-one, sym, ap, subst, ◌∙◌, arith}
 use Rattle.std.proofs.lemmas.List.{set_split, drop_at, take_all, drop-append-le, take-append-le, length-drop, length-append, length-take-le, drop-drop}
 use Rattle.std.proofs.lemmas.List.Sums.{sum_by-cons}
@@ -6,12 +6,12 @@ use Rattle.std.specs.List.{splice, insert, remove, slice_range, sum_by}
 use Rattle.page_types.specs.Inner.Cuts.{cut_at, EndAt, start_at, moved, ends_with, Cuts}
 use Rattle.page_types.proofs.Cutting.{length-cut_at, start_at-end, begins, cut_at-front, EndAt-front, start_at-least}
 
--- the ends of lists behind a list that ends as given
+-- the ends of lists after a list that ends as given
 pub cut_at-append : {A : Type 0} (from : ℕ) (es fs : List ℕ) (last : ℕ) (xs : List A) → EndAt from es last → cut_at from (es ++ fs) xs ≡ cut_at from es xs ++ cut_at last fs xs
 cut_at-append from [] fs last xs h = ap (λ n. cut_at n fs xs) h
 cut_at-append {A} from (e ∷ es) fs last xs h = ap (λ (t : List (List A)). take (e - from) (drop from xs) ∷ t) (cut_at-append e es fs last xs h.1)
 
--- what lies behind the last end is not looked at
+-- what lies after the last end is not looked at
 pub cut_at-within : {A : Type 0} (from : ℕ) (es : List ℕ) (xs ys : List A) → EndAt from es (length xs) → cut_at from es (xs ++ ys) ≡ cut_at from es xs
 cut_at-within from [] xs ys h = refl
 cut_at-within {A} from (e ∷ es) xs ys h =
@@ -65,7 +65,7 @@ cut_at-behind from es xs zero le = refl
 cut_at-behind from [] xs (suc m) le = absurd (omega arith)
 cut_at-behind from (e ∷ es) xs (suc m) le = cut_at-behind e es xs m (omega arith)
 
--- no list begins behind the last end
+-- no list begins after the last end
 start_bound : (from : ℕ) (es : List ℕ) (last k : ℕ) → EndAt from es last → k ≤ length es → start_at from es k ≤ last
 start_bound from es last zero h le = begins from es last h
 start_bound from [] last (suc k) h le = absurd (omega arith)

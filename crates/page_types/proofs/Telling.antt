@@ -1,15 +1,15 @@
--- A spelling that tells its value, whatever bytes follow.
+-- An encoding that belongs to one value, whatever bytes follow.
 use Rattle.std.proofs.Common.{◌≡◌, ℕ, ◌^◌, ◌<◌, List, [], ◌∷◌, ◌++◌, length, refl, sym, ap, ◌∙◌, append_assoc, arith}
 use Rattle.std.specs.List.{flat_map, AllByRecursion}
 use Rattle.byteorder.specs.Endian.{little_bytes, little_number}
 use Rattle.byteorder.specs.Numbers.{little_number-reads_back}
 use Rattle.page_types.specs.Numbers.{u16_bytes, u32_bytes, u64_bytes}
-use Rattle.page_types.specs.Spelling.{key_field}
+use Rattle.page_types.specs.Encoding.{key_field}
 use Rattle.page_types.proofs.Framing.{length-u16_bytes, length-u32_bytes, length-u64_bytes}
 
--- what fits is told from the front of the bytes
+-- what fits is known from the front of the bytes
 abbrev pub Tells : {A : Type 0} → (A → List ℕ) → (A → Type 0) → Type 0
-Tells {A} spell Fits = (x y : A) (a b : List ℕ) → Fits x → Fits y → spell x ++ a ≡ spell y ++ b → (x ≡ y) × (a ≡ b)
+Tells {A} encode Fits = (x y : A) (a b : List ℕ) → Fits x → Fits y → encode x ++ a ≡ encode y ++ b → (x ≡ y) × (a ≡ b)
 
 pub parts_told : {A : Type 0} (a c b d : List A) → length a ≡ length c → a ++ b ≡ c ++ d → (a ≡ c) × (b ≡ d)
 parts_told [] [] b d l e = (refl, e)
@@ -44,7 +44,7 @@ u64_told m n a b p q e =
     let parts = parts_told (u64_bytes m) (u64_bytes n) a b (length-u64_bytes m ∙ sym (length-u64_bytes n)) e in
     (number_told 8 m n p q parts.0, parts.1)
 
--- a list whose length is told before it
+-- a list whose length is said before it
 pub sized_told : (x y a b : List ℕ) → length x < 2 ^ 16 → length y < 2 ^ 16 → u16_bytes (length x) ++ (x ++ a) ≡ u16_bytes (length y) ++ (y ++ b) → (x ≡ y) × (a ≡ b)
 sized_told x y a b p q e =
     let sizes = u16_told (length x) (length y) (x ++ a) (y ++ b) p q e in
@@ -56,18 +56,18 @@ key_told x y a b p q e =
     sized_told x y a b p q (sym (append_assoc (u16_bytes (length x)) x a) ∙ e ∙ append_assoc (u16_bytes (length y)) y b)
 
 -- a list of so many values
-pub each_told : {A : Type 0} (spell : A → List ℕ) (Fits : A → Type 0) → Tells spell Fits → (xs ys : List A) (a b : List ℕ) → length xs ≡ length ys → AllByRecursion Fits xs → AllByRecursion Fits ys → flat_map spell xs ++ a ≡ flat_map spell ys ++ b → (xs ≡ ys) × (a ≡ b)
-each_told spell Fits told [] [] a b l p q e = (refl, e)
-each_told spell Fits told [] (y ∷ ys) a b l p q e = absurd (omega arith)
-each_told spell Fits told (x ∷ xs) [] a b l p q e = absurd (omega arith)
-each_told {A} spell Fits told (x ∷ xs) (y ∷ ys) a b l p q e =
-    let regrouped : spell x ++ (flat_map spell xs ++ a) ≡ spell y ++ (flat_map spell ys ++ b) =
-    sym (append_assoc (spell x) (flat_map spell xs) a) ∙ e ∙ append_assoc (spell y) (flat_map spell ys) b in
-    let first = told x y (flat_map spell xs ++ a) (flat_map spell ys ++ b) p.0 q.0 regrouped in
-    let rest = each_told spell Fits told xs ys a b (omega arith) p.1 q.1 first.1 in
+pub each_told : {A : Type 0} (encode : A → List ℕ) (Fits : A → Type 0) → Tells encode Fits → (xs ys : List A) (a b : List ℕ) → length xs ≡ length ys → AllByRecursion Fits xs → AllByRecursion Fits ys → flat_map encode xs ++ a ≡ flat_map encode ys ++ b → (xs ≡ ys) × (a ≡ b)
+each_told encode Fits told [] [] a b l p q e = (refl, e)
+each_told encode Fits told [] (y ∷ ys) a b l p q e = absurd (omega arith)
+each_told encode Fits told (x ∷ xs) [] a b l p q e = absurd (omega arith)
+each_told {A} encode Fits told (x ∷ xs) (y ∷ ys) a b l p q e =
+    let regrouped : encode x ++ (flat_map encode xs ++ a) ≡ encode y ++ (flat_map encode ys ++ b) =
+    sym (append_assoc (encode x) (flat_map encode xs) a) ∙ e ∙ append_assoc (encode y) (flat_map encode ys) b in
+    let first = told x y (flat_map encode xs ++ a) (flat_map encode ys ++ b) p.0 q.0 regrouped in
+    let rest = each_told encode Fits told xs ys a b (omega arith) p.1 q.1 first.1 in
     let P : A → List A → List A = λ h t. h ∷ t in
     (ap (λ h. P h xs) first.0 ∙ ap (P y) rest.0, rest.1)
 
--- with nothing behind it
-pub all_told : {A : Type 0} (spell : A → List ℕ) (Fits : A → Type 0) → Tells spell Fits → (xs ys : List A) → length xs ≡ length ys → AllByRecursion Fits xs → AllByRecursion Fits ys → flat_map spell xs ≡ flat_map spell ys → xs ≡ ys
-all_told spell Fits told xs ys l p q e = (each_told spell Fits told xs ys [] [] l p q (ap (λ (t : List ℕ). t ++ []) e)).0
+-- with nothing after it
+pub all_told : {A : Type 0} (encode : A → List ℕ) (Fits : A → Type 0) → Tells encode Fits → (xs ys : List A) → length xs ≡ length ys → AllByRecursion Fits xs → AllByRecursion Fits ys → flat_map encode xs ≡ flat_map encode ys → xs ≡ ys
+all_told encode Fits told xs ys l p q e = (each_told encode Fits told xs ys [] [] l p q (ap (λ (t : List ℕ). t ++ []) e)).0

@@ -61,7 +61,7 @@ low_read low (Some (Some (suc m), t)) n rest e =
 
 -- what a number that was read was written as
 pub record IsWritten (most n : ℕ) (rest bytes : List ℕ) : Type 0 where
-  pub spelling : varbyte_within most n ++ rest ≡ bytes
+  pub encoding : varbyte_within most n ++ rest ≡ bytes
   pub bound : n < 128 ^ most
   pub rest_fits : IsBytes rest
 
@@ -79,7 +79,7 @@ was_written (suc most) (b ∷ bs) n rest fits e =
           let tails : bs ≡ rest = ap tail_of here in
           let bound : n < 128 ^ suc most = let step = pow-suc 128 most in let some = power_some most in omega arith in
           record {
-            spelling = ap (λ (t : List ℕ). t ++ rest) (varbyte_last most n (omega arith)) ∙ ap (λ k. k ∷ rest) (sym numbers) ∙ ap (λ (t : List ℕ). b ∷ t) (sym tails);
+            encoding = ap (λ (t : List ℕ). t ++ rest) (varbyte_last most n (omega arith)) ∙ ap (λ k. k ∷ rest) (sym numbers) ∙ ap (λ (t : List ℕ). b ∷ t) (sym tails);
             bound = bound;
             rest_fits = subst IsBytes tails (λ i. fits (suc i));
           }
@@ -92,7 +92,7 @@ was_written (suc most) (b ∷ bs) n rest fits e =
           let bound : n < 128 ^ suc most = let step = pow-suc 128 most in let below = ih.bound in let sum = higher.sum in let small : b < 256 = fits 0 in omega arith in
           let P : ℕ → ℕ → List ℕ = λ x y. x ∷ (varbyte_within most y ++ rest) in
           record {
-            spelling = ap (λ (t : List ℕ). t ++ rest) (varbyte_more most n (let sum = higher.sum in omega arith)) ∙ ap (λ x. P x (n / 128)) low ∙ ap (P b) high ∙ ap (λ (t : List ℕ). b ∷ t) ih.spelling;
+            encoding = ap (λ (t : List ℕ). t ++ rest) (varbyte_more most n (let sum = higher.sum in omega arith)) ∙ ap (λ x. P x (n / 128)) low ∙ ap (P b) high ∙ ap (λ (t : List ℕ). b ∷ t) ih.encoding;
             bound = bound;
             rest_fits = ih.rest_fits;
           }

@@ -2,7 +2,7 @@
 use Rattle.std.proofs.Common.{◌≡◌, ℕ, List, [], ◌∷◌, ◌++◌, replicate, Some, None, refl}
 use Rattle.page_types.specs.Numbers.{u16_bytes, u32_bytes, u64_bytes, zeros}
 use Rattle.page_types.specs.Items.{items_of, item_list, varbyte}
-use Rattle.page_types.specs.Spelling.{page_bytes, front_bytes, framed, key_field, head_bytes, row_bytes, entry_bytes, entry_child_bytes, post_child_bytes}
+use Rattle.page_types.specs.Encoding.{page_bytes, front_bytes, framed, key_field, head_bytes, row_bytes, entry_bytes, entry_child_bytes, post_child_bytes}
 use Rattle.page_types.specs.Records.{record_bytes, record_rest, change_bytes}
 use Rattle.page_types.specs.Edits.{edited, body_in, used_in}
 use Rattle.page_types.specs.declared.page.Page.{Page}
@@ -200,7 +200,7 @@ free_slots_record : record_bytes (record_of 7 0 kind.FreeSlots []) ≡ 14 ∷ 0 
 unfolding record_bytes record_rest change_bytes u16_bytes u32_bytes u64_bytes record_of delta
 free_slots_record = refl
 
--- of the bytes abcdef the two behind a are replaced by xyz
+-- of the bytes abcdef the two after a are replaced by xyz
 overflow_edited : edited 99 (Delta (3 ∷ 0 ∷ 0 ∷ 0 ∷ 5 ∷ 0 ∷ 0 ∷ 0 ∷ []) 1 2 (120 ∷ 121 ∷ 122 ∷ [])) ((3 ∷ 0 ∷ 0 ∷ 0 ∷ 4 ∷ 0 ∷ 0 ∷ 0 ∷ 14 ∷ 0 ∷ 0 ∷ 0 ∷ 0 ∷ 0 ∷ 0 ∷ 0 ∷ 6 ∷ 0 ∷ 0 ∷ 0 ∷ 0 ∷ 0 ∷ 0 ∷ 0 ∷ 97 ∷ 98 ∷ 99 ∷ 100 ∷ 101 ∷ 102 ∷ []) ++ replicate 8162 0) ≡ (3 ∷ 0 ∷ 0 ∷ 0 ∷ 5 ∷ 0 ∷ 0 ∷ 0 ∷ 99 ∷ 0 ∷ 0 ∷ 0 ∷ 0 ∷ 0 ∷ 0 ∷ 0 ∷ 7 ∷ 0 ∷ 0 ∷ 0 ∷ 0 ∷ 0 ∷ 0 ∷ 0 ∷ 97 ∷ 120 ∷ 121 ∷ 122 ∷ 100 ∷ 101 ∷ 102 ∷ []) ++ replicate 8161 0
 unfolding edited framed body_in used_in u16_bytes u64_bytes zeros
 overflow_edited = refl

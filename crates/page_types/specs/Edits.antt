@@ -2,7 +2,7 @@
 use Rattle.std.specs.Prelude.{ℕ, ◌+◌, ◌≤◌, List, ◌++◌, length, take, drop, ⊤}
 use Rattle.byteorder.specs.Endian.{little_number}
 use Rattle.page_types.specs.Numbers.{front_size, most_body}
-use Rattle.page_types.specs.Spelling.{framed}
+use Rattle.page_types.specs.Encoding.{framed}
 use Rattle.page_types.specs.declared.record.Edit.{Edit}
 use Rattle.page_types.specs.declared.record.Edit.TheVariants.{Image, Delta}
 

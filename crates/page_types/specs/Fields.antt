@@ -1,4 +1,4 @@
--- Fields read from left to right. Reading answers a value and the bytes behind it, or the first fault: how many bytes
+-- Fields read from left to right. Reading answers a value and the bytes after it, or the first fault: how many bytes
 -- were left before the field that is refused, 0 where the bytes end within it.
 use Rattle.std.specs.Prelude.{◌≡◌, ℕ, List, length, take, drop, Result, Ok, Err, nat_lt, Bool, if◌then◌else◌}
 use Rattle.byteorder.specs.Endian.{little_number}

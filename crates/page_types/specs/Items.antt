@@ -12,7 +12,7 @@ varbyte_within (suc most) n = cond (nat_lt n 128) (n ∷ []) ((n % 128 + 128) �
 unfoldable pub varbyte : ℕ → List ℕ
 varbyte n = varbyte_within 5 n
 
--- the list of these items, which come behind the item `last`
+-- the list of these items, which come after the item `last`
 abbrev pub item_list_from : ℕ → List ℕ → List ℕ
 item_list_from last [] = []
 item_list_from last (i ∷ is) = varbyte (i - last) ++ item_list_from i is
@@ -37,7 +37,7 @@ carried low (n ∷ ns) = (low + 128 * n) ∷ ns
 abbrev pub with_byte : ℕ → List ℕ → List ℕ
 with_byte b ns = cond (nat_lt b 128) (b ∷ ns) (carried (b - 128) ns)
 
--- the numbers that stand in a row of varbytes
+-- the numbers that are in a row of varbytes
 abbrev pub differences : List ℕ → List ℕ
 differences [] = []
 differences (b ∷ bs) = with_byte b (differences bs)
@@ -46,11 +46,11 @@ abbrev pub sums_from : ℕ → List ℕ → List ℕ
 sums_from last [] = []
 sums_from last (n ∷ ns) = (last + n) ∷ sums_from (last + n) ns
 
--- the items that stand in a list
+-- the items that are in a list
 unfoldable pub items_of : List ℕ → List ℕ
 items_of bytes = sums_from 0 (differences bytes)
 
 -- the bytes are the list of rising items
 pub record IsItemList (bytes : List ℕ) : Type 0 where
   pub items : AreItems (items_of bytes)
-  pub spelling : bytes ≡ item_list (items_of bytes)
+  pub encoding : bytes ≡ item_list (items_of bytes)

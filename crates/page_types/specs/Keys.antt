@@ -20,7 +20,7 @@ IsKey (zero ∷ text) = IsKeyText text
 IsKey (suc zero ∷ rest) = rest ≡ []
 IsKey (suc (suc b) ∷ rest) = ⊥
 
--- keys stand in the order of their bytes: the first byte that differs decides, and a proper prefix is first
+-- keys are in the order of their bytes: the first byte that differs decides, and a proper prefix comes first
 abbrev pub KeyLess : List ℕ → List ℕ → Type 0
 KeyLess a b = slice_cmp nat_cmp a b ≡ Less
 
@@ -28,7 +28,7 @@ KeyLess a b = slice_cmp nat_cmp a b ≡ Less
 abbrev pub BoundLess : List ℕ → List ℕ → Type 0
 BoundLess a b = (a ≢ []) × ((b ≡ []) ⊎ KeyLess a b)
 
--- each stands below all that come behind it
+-- each is below all that come after it
 abbrev pub Rising : {A : Type 0} → (A → A → Type 0) → List A → Type 0
 Rising Below [] = ⊤
 Rising Below (x ∷ xs) = AllByRecursion (Below x) xs × Rising Below xs

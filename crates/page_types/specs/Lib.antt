@@ -3,7 +3,7 @@ pub mod Numbers
 pub mod Keys
 pub mod Items
 pub mod ItemReading
-pub mod Spelling
+pub mod Encoding
 pub mod Pages
 pub mod Records
 pub mod Edits

@@ -39,11 +39,11 @@ item_limit = 2147483648
 abbrev pub most_slots : ℕ
 most_slots = 2048
 
--- a vector of at most so many bytes stands in its head
+-- a vector of at most so many bytes is in its head
 abbrev pub most_short : ℕ
 most_short = 2000
 
--- the most bytes of an item list that stands in its entry
+-- the most bytes of an item list that is in its entry
 abbrev pub most_inline : ℕ
 most_inline = 1000
 

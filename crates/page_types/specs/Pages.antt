@@ -1,10 +1,10 @@
--- What has a spelling as a page. Of bytes nothing is said: that they are below 256 their type says.
+-- What has an encoding as a page. Of bytes nothing is said: that they are below 256 their type says.
 use Rattle.std.specs.Prelude.{◌≡◌, ◌≢◌, ◌⊎◌, ℕ, ◌^◌, ◌<◌, ◌≤◌, List, [], length, Option, Some, None, ⊤}
 use Rattle.std.specs.List.{AllByRecursion}
 use Rattle.page_types.specs.Numbers.{page_limit, item_limit, most_slots, most_short, most_inline, most_body, no_bound}
 use Rattle.page_types.specs.Items.{IsItemList}
 use Rattle.page_types.specs.Keys.{IsKey, KeyLess, BoundLess, Rising}
-use Rattle.page_types.specs.Spelling.{body_bytes, count_of}
+use Rattle.page_types.specs.Encoding.{body_bytes, count_of}
 use Rattle.page_types.specs.declared.page.Page.{Page}
 use Rattle.page_types.specs.declared.page.Head.{Head}
 use Rattle.page_types.specs.declared.page.Row.{Row}
@@ -18,7 +18,7 @@ use Rattle.page_types.specs.declared.page.Body.TheVariants.{Free, Meta, Heap, Ov
 use Rattle.page_types.specs.declared.page.Gone.{Gone}
 use Rattle.page_types.specs.declared.page.Gone.TheVariants as gone
 
--- a vector of at most 2000 bytes stands in its head, a longer one does not
+-- a vector of at most 2000 bytes is in its head, a longer one is not
 abbrev pub IsVectorIn : ℕ → List ℕ → Type 0
 IsVectorIn bytes vector = ((bytes ≤ most_short) × (length vector ≡ bytes)) ⊎ ((most_short < bytes) × (vector ≡ []))
 
@@ -96,7 +96,7 @@ IsGone right (gone.Overflow bytes) = ⊤
 IsGone right (gone.Pending rows) = AllByRecursion IsRow rows
 IsGone right (gone.PostLeaf high items) = IsHighItem right high × IsItemList items
 
--- what may stand on a page with this right link and this stamp
+-- what may be on a page with this right link and this stamp
 abbrev pub IsBody : ℕ → ℕ → Body → Type 0
 IsBody right stamp Free = (right ≡ 0) × (stamp ≡ 0)
 IsBody right stamp (Meta first last pages) = IsMeta first last pages
@@ -109,7 +109,7 @@ IsBody right stamp (PostLeaf high items) = IsHighItem right high × IsItemList i
 IsBody right stamp (PostInner children) = ArePostChildren right children
 IsBody right stamp (Deleted g) = IsGone right g
 
--- the page has a spelling
+-- the page has an encoding
 pub record IsPage (p : Page) : Type 0 where
   pub right : p.right < page_limit
   pub stamp : p.stamp < 2 ^ 64

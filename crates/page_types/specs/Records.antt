@@ -1,4 +1,4 @@
--- The bytes of a record, and what has such a spelling.
+-- The bytes of a record, and what has such an encoding.
 use Rattle.std.specs.Prelude.{◌≡◌, ◌≢◌, ℕ, ◌^◌, ◌<◌, List, [], ◌∷◌, ◌++◌, length, take, drop, ⊤}
 use Rattle.std.specs.List.{flat_map, AllByRecursion}
 use Rattle.page_types.specs.Numbers.{u16_bytes, u32_bytes, u64_bytes, page_size, page_limit, item_limit}
@@ -58,7 +58,7 @@ edit_bytes (Delta front start cut bytes) = 1 ∷ (front ++ (u16_bytes start ++ (
 unfoldable pub change_bytes : Change → List ℕ
 change_bytes c = u32_bytes c.page ++ edit_bytes c.edit
 
--- all behind the length
+-- all after the length
 unfoldable pub record_rest : Record → List ℕ
 record_rest r = kind_number r.kind ∷ (u32_bytes r.xid ++ (u64_bytes r.number ++ (kind_bytes r.kind ++ (length r.changes ∷ flat_map change_bytes r.changes))))
 
@@ -103,7 +103,7 @@ pub record IsChange (number : ℕ) (c : Change) : Type 0 where
   pub page : c.page < page_limit
   pub edit : IsEdit number c.edit
 
--- the record has a spelling: its numbers fit, and a page stands once among its changes
+-- the record has an encoding: its numbers fit, and a page is once among its changes
 pub record IsRecord (r : Record) : Type 0 where
   pub number : r.number < 2 ^ 64
   pub xid : r.xid < 2 ^ 32

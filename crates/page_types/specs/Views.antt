@@ -67,7 +67,7 @@ entries_in _ = []
 abbrev pub entries_of : Page → List Entry
 entries_of p = entries_in p.body
 
--- the item list that stands in an entry, none where its items stand in a posting tree
+-- the item list that is in an entry, none where its items are in a posting tree
 abbrev pub list_in : Postings → List ℕ
 list_in (Inline items) = items
 list_in (Root root) = []

@@ -1,7 +1,7 @@
 // What a change makes of a page's bytes.
 ghost use Rattle.std.specs.Prelude.{◌≡◌, ◌↔◌, ◌+◌, ◌-◌, ◌^◌, ◌≤◌, ◌<◌, ◌++◌, length, take, drop, OnOk, OnErr, IsOk};
 ghost use Rattle.page_types.specs.Edits.{edited, spliced, body_in, used_in, CanEdit};
-ghost use Rattle.page_types.specs.Spelling.{framed};
+ghost use Rattle.page_types.specs.Encoding.{framed};
 ghost use Rattle.page_types.specs.Writing.{overwritten};
 
 use crate::error::BadChange;

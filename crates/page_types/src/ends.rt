@@ -1,4 +1,4 @@
-// The ends of lists that lie one behind the other.
+// The ends of lists that lie one after the other.
 ghost use Rattle.std.specs.Prelude.{◌≡◌, ℕ, ◌+◌, ◌-◌, ◌^◌, ◌<◌, ◌≤◌, length, map, slice_index, slice_range, EachIndex};
 ghost use Rattle.std.specs.List.{splice};
 ghost use Rattle.std.specs.Vec.{vec_capacity};
@@ -37,7 +37,7 @@ fn move_some(ends: &mut Vec<usize>, low: usize, high: usize, from: usize, to: us
     move_ends(&mut ends[low..high], from, to);
 }
 
-// The ends of lists with this size stand in place of those from one number up to another. It takes no memory.
+// The ends of lists with this size are in place of those from one number up to another. It takes no memory.
 pub(crate) fn replace_ends(
     ends: &mut Vec<usize>,
     from: usize,

@@ -3,14 +3,14 @@ ghost use Rattle.std.specs.Prelude.{◌≡◌, ◌^◌, ◌<◌, ◌≤◌, [], 
 ghost use Rattle.std.specs.List.{slice_get, insert, remove, flat_map};
 ghost use Rattle.page_types.specs.Inner.Joins.{postings_with};
 ghost use Rattle.page_types.specs.Parts.{postings_shown, entry_shown};
-ghost use Rattle.page_types.specs.Spelling.{entry_bytes};
+ghost use Rattle.page_types.specs.Encoding.{entry_bytes};
 ghost use Rattle.page_types.specs.Views.{list_in};
 
 use crate::pieces::Pieces;
 use std::alloc::{AllocError, Global};
 use std::marker::Model;
 
-/// Where an entry's items stand, the list by reference.
+/// Where an entry's items are, the list by reference.
 #[derive(Clone, Copy, Debug)]
 pub enum PostingsRef<'a> {
     /// In the entry, as an item list.
@@ -61,7 +61,7 @@ fn parts_of<'a>(postings: PostingsRef<'a>) -> (Option<u32>, &'a [u8])
     }
 }
 
-/// How many bytes an entry's spelling has.
+/// How many bytes an entry's encoding has.
 fn entry_size(entry: EntryRef<'_>) -> usize
     requires { length (entry_bytes (entry_shown entry)) < 2 ^ 64 }
     ensures { result ≡ length (entry_bytes (entry_shown entry.entry)) }
@@ -104,7 +104,7 @@ impl Entries {
         self.roots.len()
     }
 
-    /// How many bytes their spelling has.
+    /// How many bytes their encoding has.
     pub(crate) fn size(&self) -> usize
         requires { length (flat_map entry_bytes self.now) < 2 ^ 64 }
         ensures { result ≡ length (flat_map entry_bytes self.now) }
@@ -135,7 +135,7 @@ impl Entries {
         Some(EntryRef { key, postings })
     }
 
-    /// One entry more, behind the others. Without memory they stay as they are.
+    /// One entry more, after the others. Without memory they stay as they are.
     pub fn push(&mut self, entry: EntryRef<'_>) -> Result<(), AllocError>
         ensures ok { OnOk result (self.new ≡ self.old ++ entry_shown entry.entry ∷ []) }
         ensures err { OnErr result (self.new ≡ self.old) }
@@ -171,7 +171,7 @@ impl Entries {
         Ok(())
     }
 
-    /// One entry more, in front of the one with this number, or behind all. Without memory they stay as they are.
+    /// One entry more, in front of the one with this number, or after all. Without memory they stay as they are.
     pub fn insert(&mut self, k: usize, entry: EntryRef<'_>) -> Result<(), AllocError>
         requires { k ≤ length self.old }
         ensures ok { OnOk result (self.new ≡ insert self.old k (entry_shown entry.entry)) }

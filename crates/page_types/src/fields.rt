@@ -1,4 +1,4 @@
-// Fields of bytes, read from left to right. The codecs of pages and records stand on these.
+// Fields of bytes, read from left to right. The codecs of pages and records read by these.
 ghost use Rattle.std.specs.Prelude.{◌≡◌, ◌^◌, ◌<◌, IfOk};
 ghost use Rattle.page_types.specs.Fields.{Gives, number_at, bytes_at};
 
@@ -34,7 +34,7 @@ impl<T: Drop> From<AllocFailed<T>> for ReadError {
     }
 }
 
-/// A byte, and those behind it.
+/// A byte, and those after it.
 #[tactic(auto, unfolding(crate::specs::Fields::number_at))]
 pub fn u8_at(bytes: &[u8]) -> Result<(u8, &[u8]), ReadError>
     ensures { Gives (λ x. (x.0, x.1.now)) result (number_at 1 bytes.now) }
@@ -46,7 +46,7 @@ pub fn u8_at(bytes: &[u8]) -> Result<(u8, &[u8]), ReadError>
     Ok((front[0], rest))
 }
 
-/// A number in two bytes, and the bytes behind it.
+/// A number in two bytes, and the bytes after it.
 #[tactic(auto, unfolding(crate::specs::Fields::number_at))]
 pub fn u16_at(bytes: &[u8]) -> Result<(u16, &[u8]), ReadError>
     ensures { Gives (λ x. (x.0, x.1.now)) result (number_at 2 bytes.now) }
@@ -57,7 +57,7 @@ pub fn u16_at(bytes: &[u8]) -> Result<(u16, &[u8]), ReadError>
     Ok((LittleEndian::read_u16(bytes), &bytes[2..]))
 }
 
-/// A number in four bytes, and the bytes behind it.
+/// A number in four bytes, and the bytes after it.
 #[tactic(auto, unfolding(crate::specs::Fields::number_at))]
 pub fn u32_at(bytes: &[u8]) -> Result<(u32, &[u8]), ReadError>
     ensures { Gives (λ x. (x.0, x.1.now)) result (number_at 4 bytes.now) }
@@ -68,7 +68,7 @@ pub fn u32_at(bytes: &[u8]) -> Result<(u32, &[u8]), ReadError>
     Ok((LittleEndian::read_u32(bytes), &bytes[4..]))
 }
 
-/// A number in eight bytes, and the bytes behind it.
+/// A number in eight bytes, and the bytes after it.
 #[tactic(auto, unfolding(crate::specs::Fields::number_at))]
 pub fn u64_at(bytes: &[u8]) -> Result<(u64, &[u8]), ReadError>
     ensures { Gives (λ x. (x.0, x.1.now)) result (number_at 8 bytes.now) }
@@ -79,7 +79,7 @@ pub fn u64_at(bytes: &[u8]) -> Result<(u64, &[u8]), ReadError>
     Ok((LittleEndian::read_u64(bytes), &bytes[8..]))
 }
 
-/// So many bytes, and those behind them.
+/// So many bytes, and those after them.
 #[tactic(auto, unfolding(crate::specs::Fields::bytes_at))]
 pub fn slice_at(size: usize, bytes: &[u8]) -> Result<(&[u8], &[u8]), ReadError>
     ensures { Gives (λ x. (x.0.now, x.1.now)) result (bytes_at size bytes.now) }

@@ -1,7 +1,7 @@
 // The children of inner pages.
 ghost use Rattle.std.specs.Prelude.{◌≡◌, ◌^◌, ◌<◌, ◌≤◌, [], ◌∷◌, ◌++◌, length, slice_set, IsOk, OnOk, OnErr, IfSome, IfNone, Some};
 ghost use Rattle.std.specs.List.{slice_get, insert, remove, flat_map};
-ghost use Rattle.page_types.specs.Spelling.{entry_child_bytes, post_child_bytes};
+ghost use Rattle.page_types.specs.Encoding.{entry_child_bytes, post_child_bytes};
 
 use crate::page::PostChild;
 use crate::pieces::Pieces;
@@ -13,7 +13,7 @@ use std::marker::Model;
 pub struct EntryChildRef<'a> {
     /// The child's page.
     pub page: u32,
-    /// The greatest key that may stand below it; no bytes: there is no bound.
+    /// The greatest key that may be below it; no bytes: there is no bound.
     pub bound: &'a [u8],
 }
 
@@ -57,7 +57,7 @@ impl EntryChildren {
         self.pages.len()
     }
 
-    /// How many bytes their spelling has.
+    /// How many bytes their encoding has.
     pub(crate) fn size(&self) -> usize
         requires { length (flat_map entry_child_bytes self.now) < 2 ^ 64 }
         ensures { result ≡ length (flat_map entry_child_bytes self.now) }
@@ -78,7 +78,7 @@ impl EntryChildren {
         Some(EntryChildRef { page, bound })
     }
 
-    /// One child more, behind the others. Without memory they stay as they are.
+    /// One child more, after the others. Without memory they stay as they are.
     pub fn push(&mut self, child: EntryChildRef<'_>) -> Result<(), AllocError>
         ensures ok { OnOk result (self.new ≡ self.old ++ child_shown child.entry ∷ []) }
         ensures err { OnErr result (self.new ≡ self.old) }
@@ -102,7 +102,7 @@ impl EntryChildren {
         Ok(())
     }
 
-    /// One child more, in front of the one with this number, or behind all. Without memory they stay as they are.
+    /// One child more, in front of the one with this number, or after all. Without memory they stay as they are.
     pub fn insert(&mut self, k: usize, child: EntryChildRef<'_>) -> Result<(), AllocError>
         requires { k ≤ length self.old }
         ensures ok { OnOk result (self.new ≡ insert self.old k (child_shown child.entry)) }
@@ -166,7 +166,7 @@ impl PostChildren {
         self.inner.len()
     }
 
-    /// How many bytes their spelling has.
+    /// How many bytes their encoding has.
     pub(crate) fn size(&self) -> usize
         requires { length (flat_map post_child_bytes self.now) < 2 ^ 64 }
         ensures { result ≡ length (flat_map post_child_bytes self.now) }
@@ -181,7 +181,7 @@ impl PostChildren {
         self.inner.get(k).copied()
     }
 
-    /// One child more, behind the others. Without memory they stay as they are.
+    /// One child more, after the others. Without memory they stay as they are.
     pub fn push(&mut self, child: PostChild) -> Result<(), AllocError>
         ensures ok { OnOk result (self.new ≡ self.old ++ child ∷ []) }
         ensures err { OnErr result (self.new ≡ self.old) }
@@ -198,7 +198,7 @@ impl PostChildren {
         self.inner[k] = child;
     }
 
-    /// One child more, in front of the one with this number, or behind all. Without memory they stay as they are.
+    /// One child more, in front of the one with this number, or after all. Without memory they stay as they are.
     pub fn insert(&mut self, k: usize, child: PostChild) -> Result<(), AllocError>
         requires { k ≤ length self.old }
         ensures ok { OnOk result (self.new ≡ insert self.old k child) }

@@ -1,10 +1,10 @@
 // What holds of all pages, item lists and records.
-ghost use Rattle.page_types.specs.Laws.{SpellingTellsPage, SpellingHasParts, DeltaLeadsToPage, ItemsTellList, ItemsHaveList, ReadingTellsItems, SpellingTellsRecord, SpellingTellsRecords};
+ghost use Rattle.page_types.specs.Laws.{EncodingTellsPage, EncodingHasParts, DeltaLeadsToPage, ItemsTellList, ItemsHaveList, ReadingTellsItems, EncodingTellsRecord, EncodingTellsRecords};
 
-/// Two pages never share a spelling; where its parts stand; what deltas make of it.
+/// Two pages never share an encoding; where its parts are; what deltas make of it.
 pub fn pages_are_told()
-    ensures one { SpellingTellsPage }
-    ensures parts { SpellingHasParts }
+    ensures one { EncodingTellsPage }
+    ensures parts { EncodingHasParts }
     ensures deltas { DeltaLeadsToPage }
 {}
 
@@ -15,8 +15,8 @@ pub fn items_are_told()
     ensures read { ReadingTellsItems }
 {}
 
-/// A record's spelling begins no other's, so a row of records has one reading.
+/// A record's encoding begins no other's, so records one after another have one reading.
 pub fn records_are_told()
-    ensures one { SpellingTellsRecord }
-    ensures row { SpellingTellsRecords }
+    ensures one { EncodingTellsRecord }
+    ensures row { EncodingTellsRecords }
 {}

@@ -2,7 +2,7 @@
 //!
 //! A page has 8192 bytes: a front of 24 bytes, a body of at most 8168, and zeros. A record is a number, a kind with its
 //! fields, and the changes of the pages that it changes. `specs/` says which bytes are which page and which record;
-//! the codecs stand on it. All numbers have their little end first.
+//! the codecs use it. All numbers have their little end first.
 #![tactic(auto)]
 
 mod bytes;
@@ -55,10 +55,10 @@ pub const ITEM_LIMIT: u32 = 2_147_483_648;
 /// The most slots of a heap page.
 pub const MOST_SLOTS: usize = 2048;
 
-/// A vector of at most so many bytes stands in its head; a longer one on overflow pages.
+/// A vector of at most so many bytes is in its head; a longer one on overflow pages.
 pub const MOST_SHORT_BYTES: u32 = 2000;
 
-/// The most bytes of an item list that stands in its entry.
+/// The most bytes of an item list that is in its entry.
 pub const MOST_INLINE_BYTES: usize = 1000;
 
 /// The most bytes of a key's text.

@@ -1,4 +1,4 @@
-// What stands on a page.
+// What is on a page.
 ghost use Rattle.std.specs.Prelude.{◌≡◌};
 
 use crate::bytes::Bytes;
@@ -35,7 +35,7 @@ pub struct Head {
     pub private: u32,
     /// How many bytes the vector has.
     pub bytes: u32,
-    /// The vector's bytes, where they are at most 2000; else none, for they stand on the overflow pages.
+    /// The vector's bytes, where they are at most 2000; else none, for they are on the overflow pages.
     pub vector: Bytes,
 }
 
@@ -48,7 +48,7 @@ pub struct Row {
     pub keys: Pieces,
 }
 
-/// Where an entry's items stand.
+/// Where an entry's items are.
 #[derive(Debug, Drop)]
 pub enum Postings {
     /// In the entry, as an item list.
@@ -71,7 +71,7 @@ pub struct Entry {
 pub struct EntryChild {
     /// The child's page.
     pub page: u32,
-    /// The greatest key that may stand below it; no bytes: there is no bound.
+    /// The greatest key that may be below it; no bytes: there is no bound.
     pub bound: Bytes,
 }
 
@@ -80,11 +80,11 @@ pub struct EntryChild {
 pub struct PostChild {
     /// The child's page.
     pub page: u32,
-    /// The greatest item that may stand below it; 4,294,967,295: there is no bound.
+    /// The greatest item that may be below it; 4,294,967,295: there is no bound.
     pub bound: u32,
 }
 
-/// What a deleted page keeps of what stood on it.
+/// What a deleted page keeps of what was on it.
 #[derive(Debug, Drop)]
 pub enum Gone {
     /// A part of a vector.
@@ -95,7 +95,7 @@ pub enum Gone {
     PostLeaf { high: u32, items: Bytes },
 }
 
-/// What stands on a page: a variant a kind, in the order of their numbers.
+/// What is on a page: a variant a kind, in the order of their numbers.
 #[derive(Debug, Drop)]
 pub enum Body {
     /// No record has changed the page.
@@ -127,7 +127,7 @@ pub struct Page {
     pub right: u32,
     /// The number of the last record that changed the page.
     pub stamp: u64,
-    /// What stands on it.
+    /// What is on it.
     pub body: Body,
 }
 

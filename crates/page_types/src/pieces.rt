@@ -1,4 +1,4 @@
-// Byte strings that lie one behind the other in one buffer.
+// Byte strings that lie one after the other in one buffer.
 ghost use Rattle.std.specs.Prelude.{◌≡◌, ◌-◌, ◌<◌, ◌≤◌, [], ◌∷◌, ◌++◌, ◌+◌, length, take, drop, slice_range, slice_set, slice_index_or, OnOk, OnErr, IsOk, IfOk, IfSome, IfNone, Some};
 ghost use Rattle.std.specs.List.{slice_get, splice, insert, remove, sum_by};
 ghost use Rattle.page_types.specs.Inner.Cuts.{cut_at, EndAt};
@@ -84,7 +84,7 @@ impl Pieces {
         }
     }
 
-    /// One string more, behind the others. Without memory they stay as they are.
+    /// One string more, after the others. Without memory they stay as they are.
     pub fn push(&mut self, piece: &[u8]) -> Result<(), AllocError>
         ensures ok { OnOk result (self.new ≡ self.old ++ piece.now ∷ []) }
         ensures err { OnErr result (self.new ≡ self.old) }
@@ -107,7 +107,7 @@ impl Pieces {
         }
     }
 
-    /// The strings of another list, behind the others. Without memory they stay as they are.
+    /// The strings of another list, after the others. Without memory they stay as they are.
     pub fn append(&mut self, more: &Pieces) -> Result<(), AllocError>
         ensures ok { OnOk result (self.new ≡ self.old ++ more.now) }
         ensures err { OnErr result (self.new ≡ self.old) }
@@ -116,7 +116,7 @@ impl Pieces {
         self.splice(n, n, more)
     }
 
-    // Strings that lie in other bytes stand in place of so many from one number on.
+    // Strings that lie in other bytes are in place of so many from one number on.
     pub(crate) fn replace(
         &mut self,
         from: usize,
@@ -151,7 +151,7 @@ impl Pieces {
         self.replace(k, 1, piece, &[piece.len()])
     }
 
-    /// One string more, in front of the one with this number, or behind all. Without memory they stay as they are.
+    /// One string more, in front of the one with this number, or after all. Without memory they stay as they are.
     pub fn insert(&mut self, k: usize, piece: &[u8]) -> Result<(), AllocError>
         requires { k ≤ length self.old }
         ensures ok { OnOk result (self.new ≡ insert self.old k piece.now) }
@@ -205,7 +205,7 @@ impl Clone for Pieces {
     }
 }
 
-/// Some of the strings of a list, one behind the other, by reference.
+/// Some of the strings of a list, one after the other, by reference.
 #[derive(Clone, Copy, Debug)]
 pub struct PiecesRef<'a> {
     pub(crate) all: &'a Pieces,

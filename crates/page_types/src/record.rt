@@ -7,7 +7,7 @@ use crate::bytes::Bytes;
 use std::alloc::{AllocError, Global};
 use std::marker::Model;
 
-/// The bytes of a whole page, which need not be a page's spelling. Contracts see them as a list of 8192 bytes.
+/// The bytes of a whole page, which need not be a page's encoding. Contracts see them as a list of 8192 bytes.
 #[derive(Debug, Drop)]
 pub struct PageBytes {
     inner: Vec<u8>,
@@ -182,7 +182,7 @@ impl Changes {
         self.inner.get(k)
     }
 
-    /// One change more, behind the others. Without memory they stay as they are.
+    /// One change more, after the others. Without memory they stay as they are.
     pub fn push(&mut self, change: Change) -> Result<(), AllocError>
         ensures ok { OnOk result (self.new ≡ self.old ++ change ∷ []) }
         ensures err { OnErr result (self.new ≡ self.old) }

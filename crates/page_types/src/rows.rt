@@ -75,7 +75,7 @@ fn replace_keys(
 impl Rows {
     ghost use Rattle.page_types.specs.Inner.Joins.{row_with};
     ghost use Rattle.page_types.specs.Parts.{row_shown};
-    ghost use Rattle.page_types.specs.Spelling.{row_bytes};
+    ghost use Rattle.page_types.specs.Encoding.{row_bytes};
 
     /// No rows.
     pub fn new(alloc: Global) -> Rows
@@ -95,7 +95,7 @@ impl Rows {
         self.items.len()
     }
 
-    /// How many bytes their spelling has.
+    /// How many bytes their encoding has.
     pub(crate) fn size(&self) -> usize
         requires { length (flat_map row_bytes self.now) < 2 ^ 64 }
         ensures { result ≡ length (flat_map row_bytes self.now) }
@@ -118,7 +118,7 @@ impl Rows {
         Some(RowRef { item, keys })
     }
 
-    /// One row more, behind the others. Without memory they stay as they are.
+    /// One row more, after the others. Without memory they stay as they are.
     pub fn push(&mut self, item: u32, keys: &Pieces) -> Result<(), AllocError>
         ensures ok { OnOk result (self.new ≡ self.old
             ++ record { item = item; keys = keys.now } ∷ []) }
@@ -147,7 +147,7 @@ impl Rows {
         Ok(())
     }
 
-    /// One row more, in front of the one with this number, or behind all. Without memory they stay as they are.
+    /// One row more, in front of the one with this number, or after all. Without memory they stay as they are.
     pub fn insert(&mut self, k: usize, item: u32, keys: &Pieces) -> Result<(), AllocError>
         requires { k ≤ length self.old }
         ensures ok { OnOk result (self.new

@@ -1,6 +1,6 @@
-// How many bytes stand on a page.
+// How many bytes are on a page.
 ghost use Rattle.std.specs.Prelude.{◌≡◌, ◌^◌, ◌<◌, length};
-ghost use Rattle.page_types.specs.Spelling.{high_key_bytes, gone_bytes, body_bytes};
+ghost use Rattle.page_types.specs.Encoding.{high_key_bytes, gone_bytes, body_bytes};
 
 use crate::page::{Body, Gone, Page};
 
@@ -24,9 +24,9 @@ fn gone_size(gone: &Gone) -> usize
     }
 }
 
-/// How many bytes stand on a page: the length of its body. It takes no memory.
+/// How many bytes are on a page: the length of its body. It takes no memory.
 ///
-/// A body that has a spelling is never longer than 8168 bytes.
+/// A body that has an encoding is never longer than 8168 bytes.
 pub fn body_length(page: &Page) -> usize
     requires fits { length (body_bytes page.now.body) < 2 ^ 64 }
     ensures { result ≡ length (body_bytes page.now.body) }

@@ -3,7 +3,7 @@ ghost use Rattle.std.specs.Prelude.{◌≡◌, ◌^◌, ◌<◌, ◌≤◌, [], 
 ghost use Rattle.std.specs.List.{insert, remove, flat_map};
 ghost use Rattle.std.specs.Option.{option_map};
 ghost use Rattle.page_types.specs.Parts.{head_shown};
-ghost use Rattle.page_types.specs.Spelling.{slot_bytes};
+ghost use Rattle.page_types.specs.Encoding.{slot_bytes};
 ghost use Rattle.page_types.specs.Views.{vector_in};
 ghost use Rattle.page_types.specs.Inner.Joins.{slot_with};
 
@@ -68,7 +68,7 @@ fn parts_of<'a>(slot: Option<HeadRef<'a>>) -> (Option<HeadFields>, &'a [u8])
     }
 }
 
-/// How many bytes a slot's spelling has.
+/// How many bytes a slot's encoding has.
 fn slot_size(slot: Option<HeadRef<'_>>) -> usize
     requires { length (slot_bytes (option_map head_shown slot)) < 2 ^ 64 }
     ensures { result ≡ length (slot_bytes (option_map head_shown slot.entry)) }
@@ -100,7 +100,7 @@ impl Slots {
         self.fields.len()
     }
 
-    /// How many bytes their spelling has.
+    /// How many bytes their encoding has.
     pub(crate) fn size(&self) -> usize
         requires { length (flat_map slot_bytes self.now) < 2 ^ 64 }
         ensures { result ≡ length (flat_map slot_bytes self.now) }
@@ -126,7 +126,7 @@ impl Slots {
         }
     }
 
-    /// One slot more, behind the others. Without memory they stay as they are.
+    /// One slot more, after the others. Without memory they stay as they are.
     pub fn push(&mut self, slot: Option<HeadRef<'_>>) -> Result<(), AllocError>
         ensures ok { OnOk result (self.new ≡ self.old
             ++ option_map head_shown slot.entry ∷ []) }
@@ -173,7 +173,7 @@ impl Slots {
         self.set(k, None).unwrap();
     }
 
-    /// One slot more, in front of the one with this number, or behind all. Without memory they stay as they are.
+    /// One slot more, in front of the one with this number, or after all. Without memory they stay as they are.
     pub fn insert(&mut self, k: usize, slot: Option<HeadRef<'_>>) -> Result<(), AllocError>
         requires { k ≤ length self.old }
         ensures ok { OnOk result (self.new ≡ insert self.old k (option_map head_shown slot.entry)) }
@@ -186,7 +186,7 @@ impl Slots {
         Ok(())
     }
 
-    /// The slot with this number goes; those behind it get a number less. It takes no memory.
+    /// The slot with this number goes; those after it get a number less. It takes no memory.
     pub fn remove(&mut self, k: usize)
         requires { k < length self.old }
         ensures { self.new ≡ remove self.old k }

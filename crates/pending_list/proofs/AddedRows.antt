@@ -5,7 +5,7 @@ use Rattle.std.proofs.lemmas.List.{length-append, take_all}
 use Rattle.std.proofs.lemmas.List.Concat.{flat_map-append}
 use Rattle.page_types.specs.Numbers.{most_body, item_limit}
 use Rattle.page_types.specs.Pages.{IsPage, IsBody, IsRow}
-use Rattle.page_types.specs.Spelling.{row_bytes, body_bytes}
+use Rattle.page_types.specs.Encoding.{row_bytes, body_bytes}
 use Rattle.page_types.specs.Views.{rows_in}
 use Rattle.page_types.specs.declared.page.Page.{Page}
 use Rattle.page_types.specs.declared.page.Row.{Row}
@@ -60,7 +60,7 @@ rows_length [] = omega arith
 rows_length (r ∷ rows) =
     omega (arith, length-append (row_bytes r) (row_fields rows), length-row_bytes r, rows_length rows)
 
--- the page with a row more has a spelling
+-- the page with a row more has an encoding
 pub added_page : (p : Page) (item : ℕ) (keys : List (List ℕ)) → IsPendingPage p → item < item_limit → AreKeys keys
     → length (body_bytes (with_row p item keys)) ≤ most_body → IsPage p
     → IsPage (record p { body = with_row p item keys })

@@ -6,7 +6,7 @@ use Rattle.std.proofs.lemmas.List.Concat.{flat_map-append}
 use Rattle.page_types.specs.Numbers.{most_body, item_limit}
 use Rattle.page_types.specs.Keys.{IsKey, KeyLess, Rising}
 use Rattle.page_types.specs.Pages.{IsPage, IsRow}
-use Rattle.page_types.specs.Spelling.{key_field, row_bytes}
+use Rattle.page_types.specs.Encoding.{key_field, row_bytes}
 use Rattle.page_types.specs.declared.page.Page.{Page}
 use Rattle.page_types.specs.declared.page.Row.{Row}
 use Rattle.page_types.proofs.BodySizes.{length-key_field, length-row_bytes, keys_size}
@@ -161,7 +161,7 @@ packing_ends item keys pages pages' rest count page p le page_is pages_are =
     subst (ArePacked item keys) (ap (λ (q : Page). pages ++ q ∷ []) (sym page_is) ∙ sym pages_are)
     (p.packs (page_of_row item rest ∷ []) (ArePacked.last rest fits))
 
--- ---- the pages have a spelling
+-- ---- the pages have an encoding
 
 pub row_is : (item : ℕ) (keys : List (List ℕ)) → item < item_limit → keys ≢ [] → AllByRecursion IsKey keys
     → Rising KeyLess keys → row_length keys ≤ most_body → IsRow (row_of item keys)

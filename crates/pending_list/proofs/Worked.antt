@@ -3,7 +3,7 @@ use Rattle.std.proofs.Common.{◌≡◌, ℕ, zero, suc, ◌+◌, ◌*◌, ◌<�
 use Rattle.std.specs.List.{flat_map}
 use Rattle.std.proofs.lemmas.List.{length-append}
 use Rattle.page_types.specs.Numbers.{most_body}
-use Rattle.page_types.specs.Spelling.{key_field, row_bytes, body_bytes}
+use Rattle.page_types.specs.Encoding.{key_field, row_bytes, body_bytes}
 use Rattle.page_types.specs.declared.page.Page.{Page}
 use Rattle.page_types.specs.declared.page.Row.{Row}
 use Rattle.page_types.specs.declared.page.Body.TheVariants as body

@@ -12,7 +12,7 @@ use Rattle.core_state.specs.Documents.{Doc, page_of}
 use Rattle.core_state.specs.Index.{keys_on, InRows}
 use Rattle.core_state.specs.Known.{Known}
 use Rattle.core_state.specs.Changes.{made_with, IsNew, IsHeadChange, IsOwn}
-use Rattle.core_state.specs.PendingRows.{IsPutPendingHere, IsAddRowHere}
+use Rattle.core_state.specs.PendingRules.{IsPutPendingHere, IsAddRowHere}
 use Rattle.core_state.specs.declared.answers.Fate.TheVariants.{Running}
 use Rattle.pending_list.specs.Packing.{AreKeys, ArePacked}
 use Rattle.pending_list.specs.Adding.{IsPendingPage, with_row}

@@ -3,7 +3,7 @@ use Rattle.std.specs.Prelude.{◌≢◌, ℕ, ◌+◌, ◌<◌, ◌≤◌, List,
 use Rattle.std.specs.List.{AllByRecursion, flat_map}
 use Rattle.page_types.specs.Numbers.{most_body}
 use Rattle.page_types.specs.Keys.{IsKey, KeyLess, Rising}
-use Rattle.page_types.specs.Spelling.{key_field}
+use Rattle.page_types.specs.Encoding.{key_field}
 use Rattle.page_types.specs.declared.page.Page.{Page}
 use Rattle.page_types.specs.declared.page.Row.{Row}
 use Rattle.page_types.specs.declared.page.Body.TheVariants as body

@@ -1,7 +1,7 @@
 // A row more on a pending page.
 ghost use Rattle.std.specs.Prelude.{◌≡◌, ◌↔◌, ◌<◌, ◌≤◌, length, map, IfOk, IfSome, None};
 ghost use Rattle.page_types.specs.Numbers.{most_body, item_limit};
-ghost use Rattle.page_types.specs.Spelling.{body_bytes};
+ghost use Rattle.page_types.specs.Encoding.{body_bytes};
 ghost use Rattle.page_types.specs.Pages.{IsPage};
 ghost use Rattle.pending_list.specs.Packing.{AreKeys};
 ghost use Rattle.pending_list.specs.Adding.{IsPendingPage, with_row, HasNoRoom};

@@ -7,7 +7,7 @@ use Rattle.porter_stem.specs.Letters.{is_consonant, kinds_behind, kinds, turns_b
 use Rattle.porter_stem.specs.Shapes.{first_of, second_of, third_of, turn_counts, HasShape, Follows}
 use Rattle.porter_stem.specs.declared.shape.Shape.{Shape}
 
--- the last kind, or what stands before
+-- the last kind, or what is before
 abbrev pub last_or : Bool → List Bool → Bool
 last_or before [] = before
 last_or before (k ∷ ks) = last_or k ks

@@ -43,7 +43,7 @@ pub record IsLongest (rules : List Rule) (word : List ℕ) (found : Option Rule)
 abbrev pub LongestIsLongest : Type 0
 LongestIsLongest = (rules : List Rule) (word : List ℕ) → IsLongest rules word (longest rules word)
 
--- each text stands once in the list
+-- each text is once in the list
 abbrev pub all_differ : List (List ℕ) → Bool
 all_differ [] = true
 all_differ (text ∷ texts) = not (list_any (bytes_eq text) texts) && all_differ texts

@@ -6,8 +6,8 @@ use Rattle.std.specs.List.{list_any}
 abbrev pub is_one_of : List ℕ → ℕ → Bool
 is_one_of letters c = list_any (λ (x : ℕ). c == x) letters
 
--- Whether a letter is a consonant, given whether the letter before it is: a, e, i, o and u are vowels, and so is y behind
--- a consonant. A word begins as if behind a vowel.
+-- Whether a letter is a consonant, given whether the letter before it is: a, e, i, o and u are vowels, and so is y after
+-- a consonant. A word begins as if after a vowel.
 abbrev pub is_consonant : Bool → ℕ → Bool
 is_consonant before c = if c == 121 then not before else not (is_one_of (codes "aeiou") c)
 
@@ -19,7 +19,7 @@ kinds_behind before (c ∷ word) = is_consonant before c ∷ kinds_behind (is_co
 abbrev pub kinds : List ℕ → List Bool
 kinds word = kinds_behind false word
 
--- how many times a vowel is followed by a consonant, behind a letter of this kind
+-- how many times a vowel is followed by a consonant, after a letter of this kind
 abbrev pub turns_behind : Bool → List Bool → ℕ
 turns_behind before [] = 0
 turns_behind before (kind ∷ kinds) = (if not before && kind then 1 else 0) + turns_behind kind kinds

@@ -27,7 +27,7 @@ pub record HasShape (ks : List Bool) (shape : Shape) : Type 0 where
 abbrev pub IsShape : List ℕ → Shape → Type 0
 IsShape word shape = HasShape (kinds word) shape
 
--- whether a letter makes a turn from a vowel to a consonant, behind a last letter and where there is a vowel
+-- whether a letter makes a turn from a vowel to a consonant, after a last letter and where there is a vowel
 abbrev pub turn_counts : Bool → Bool → Bool → Bool
 turn_counts kind last vowel = (kind && not last) && vowel
 

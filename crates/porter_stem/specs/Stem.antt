@@ -7,7 +7,7 @@ use Rattle.porter_stem.specs.Tables.{Rule, ends_in, applied, step, rules_1a, rul
 abbrev pub without_last : List ℕ → List ℕ
 without_last word = take (length word - 1) word
 
--- What a word gets from which `ed` or `ing` was taken: an e behind at, bl and iz; else of a double consonant but l, s and z
+-- What a word gets from which `ed` or `ing` was taken: an e after at, bl and iz; else of a double consonant but l, s and z
 -- one letter stays; else a short word of measure 1 gets an e.
 abbrev pub mended : List ℕ → List ℕ
 mended word =

@@ -8,7 +8,7 @@ use Rattle.porter_stem.specs.declared.rule.Condition.TheVariants.{Always, HasVow
 abbrev pub ends_in : List ℕ → List ℕ → Bool
 ends_in suffix word = not (nat_lt (length word) (length suffix)) && bytes_eq suffix (drop (length word - length suffix) word)
 
--- what stands before the suffix
+-- what is before the suffix
 abbrev pub before : List ℕ → List ℕ → List ℕ
 before suffix word = take (length word - length suffix) word
 
@@ -20,7 +20,7 @@ holds (MeasureAbove n) stem = nat_lt n (measure stem)
 holds IonBehind stem = nat_lt 1 (measure stem) && (ends_in (codes "s") stem || ends_in (codes "t") stem)
 holds FinalE stem = nat_lt 1 (measure stem) || ((measure stem == 1) && not (ends_short stem))
 
--- a suffix, what stands in its place, and the condition
+-- a suffix, what is in its place, and the condition
 pub record Rule : Type 0 where
   pub suffix : List ℕ
   pub given : List ℕ
@@ -88,7 +88,7 @@ rules_3 =
     ∷ above_0 (codes "iciti") (codes "ic") ∷ above_0 (codes "ical") (codes "ic") ∷ above_0 (codes "ful") []
     ∷ above_0 (codes "ness") [] ∷ []
 
--- taken off behind a stem of this measure
+-- taken off after a stem of this measure
 abbrev pub above_1 : List ℕ → Rule
 above_1 suffix = rule (MeasureAbove 1) suffix []
 

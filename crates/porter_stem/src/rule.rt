@@ -16,12 +16,12 @@ pub enum Condition {
     FinalE,
 }
 
-/// A suffix, what stands in its place, and the condition.
+/// A suffix, what is in its place, and the condition.
 #[derive(Clone, Copy)]
 pub struct Rule {
     /// What the word ends in.
     pub suffix: &'static str,
-    /// What stands in its place.
+    /// What is in its place.
     pub given: &'static str,
     /// What is asked of the stem before it.
     pub condition: Condition,

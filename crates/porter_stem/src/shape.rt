@@ -18,7 +18,7 @@ pub struct Shape {
     pub third: bool,
 }
 
-/// Whether a letter is a consonant, behind a consonant or not.
+/// Whether a letter is a consonant, after a consonant or not.
 fn is_consonant_behind(before: bool, letter: u8) -> bool
     ensures { result ≡ is_consonant before letter }
 {

@@ -16,7 +16,7 @@ use Rattle.posting_code.proofs.Places.{whole_place, next_place, no_place, AreIte
 use Rattle.posting_code.proofs.Uniting.{last_or-append}
 use Rattle.posting_code.proofs.Sizing.{most_bytes}
 
--- a place in a list, and what stands before it
+-- a place in a list, and what is before it
 pub record IsPlace (list : List ℕ) (last : ℕ) (rest : List ℕ) : Type 0 where
   pub front : List ℕ
   pub all : items_of list ≡ front ++ items_left last rest
@@ -43,7 +43,7 @@ place_goes_on list last rest item after g r =
           ∙ ap (λ (l : List ℕ). l ++ after) (sym (item_list_from-append 0 g.front (item ∷ [])));
     }
 
--- how many bytes stand before a place
+-- how many bytes are before a place
 pub place_size : (list : List ℕ) (last : ℕ) (rest : List ℕ) → (g : IsPlace list last rest) → length list - length rest ≡ length (item_list g.front)
 place_size list last rest g = omega (arith, ap length g.parts, length-append (item_list g.front) rest)
 
@@ -245,7 +245,7 @@ ends_all most list found last rest left g r =
 -- ---- as even as can be, or as much as fits
 
 from_front : (list f b : List ℕ) → IsItemList list → IsDivision list f b → length (item_list f) ≤ length list
-from_front list f b h d = omega (arith, ap length h.spelling, ap (λ l. length (item_list l)) d.all, front_less f b)
+from_front list f b h d = omega (arith, ap length h.encoding, ap (λ l. length (item_list l)) d.all, front_less f b)
 
 is_half : (list f b : List ℕ) → IsFirstFrom (length list - length list / 2) list f b → IsHalf list f b
 is_half list f b x = record { divides = x.divides; keeps = omega (arith, x.reaches); least = λ g c d k. x.first g c d (omega (arith, k)) }

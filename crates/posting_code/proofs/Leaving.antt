@@ -38,7 +38,7 @@ same_at [] k c d lt = absurd (omega arith)
 same_at (x ∷ xs) zero c d lt = refl
 same_at (x ∷ xs) (suc k) c d lt = same_at xs k c d (omega arith)
 
--- what a binary search tells
+-- what a binary search says
 pub set_has : (xs : List ℕ) (x : ℕ) (r : Result ℕ ℕ) (b : Bool) → AreItems xs → IsBinarySearchResult (λ y. nat_cmp y x) xs r → b ≡ is_ok r → IsTrue b ↔ Contains xs x
 set_has xs x (Ok i) b h found is =
     let at = searched xs x (Ok i) found (rises_by_place 0 xs h) in
@@ -164,7 +164,7 @@ leaving_ends start list dead out before rest last count left h g r =
         is_list = whole.0;
         has = λ i. subst (λ (l : List ℕ). Contains l i ↔ (Contains (items_of list) i × (Contains dead i → ⊥))) (sym whole.1)
             (subst (λ (l : List ℕ). Contains g.written i ↔ (Contains l i × (Contains dead i → ⊥))) (sym passed) (g.has i));
-        short = omega (arith, fewer, ap length h.spelling);
+        short = omega (arith, fewer, ap length h.encoding);
       },
       g.counted ∙ ap length (sym whole.1),
     )

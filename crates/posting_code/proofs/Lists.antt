@@ -21,7 +21,7 @@ unfolding items_of
 starts bytes count last is rest fits e c l =
     let f = whole_take bytes is rest fits e in
     let same = f.1 in
-    record { items = f.0.items; list = f.0.spelling; counted = c ∙ ap length (sym same); ends = l ∙ ap (last_or 0) (sym same) }
+    record { items = f.0.items; list = f.0.encoding; counted = c ∙ ap length (sym same); ends = l ∙ ap (last_or 0) (sym same) }
 
 -- the first of the items that are left
 pub record Steps (previous : ℕ) (rest : List ℕ) (count last item : ℕ) (behind : List ℕ) : Type 0 where

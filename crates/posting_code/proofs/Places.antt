@@ -11,7 +11,7 @@ use Rattle.posting_code.proofs.Lists.{step, ended}
 
 pub whole_place : (list : List ℕ) → IsItemList list → IsListAfter 0 list
 unfolding items_of
-whole_place list h = record { items = h.items; list = h.spelling }
+whole_place list h = record { items = h.items; list = h.encoding }
 
 -- a list of items after a place
 pub place_of : (last : ℕ) (is rest : List ℕ) → AreItemsFrom last is → rest ≡ item_list_from last is → IsListAfter last rest × (items_left last rest ≡ is)

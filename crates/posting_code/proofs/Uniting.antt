@@ -169,7 +169,7 @@ item_written start list items out out' k before last x rest g lt is above absent
       has = λ i. subst (λ (l : List ℕ). Contains ((g.written ++ x ∷ []) ++ items_left before rest) i ↔ (Contains (items_of list) i ⊎ Contains l i)) (sym more) (one_more g.written (items_left before rest) (items_of list) (take k items) x g.has i);
     }
 
--- an item that stands in the list is none
+-- an item that is in the list is none
 pub item_left : (start list items out : List ℕ) (k before last x : ℕ) (rest : List ℕ) → IsMerging start list items out k before last rest → k < length items → x ≡ get_or items k 0
     → Contains (items_left before rest) x → IsMerging start list items out (k + 1) before last rest
 item_left start list items out k before last x rest g lt is there =
@@ -207,7 +207,7 @@ merging_ends start list items out out' k before last rest g le e =
       },
     )
 
--- ---- whether all stand in the list
+-- ---- whether all are in the list
 
 pub record IsLacking (list items : List ℕ) (k last : ℕ) (rest : List ℕ) : Type 0 where
   pub passed : List ℕ

@@ -44,7 +44,7 @@ pub data IsCut (list front back : List ℕ) : Keep → Type 0 where
   most : IsMost list front back → KeepsHalf list front → IsCut list front back Most
   no_most : ((f b : List ℕ) → IsMost list f b → KeepsHalf list f → ⊥) → IsEven list front back → IsCut list front back Most
 
--- what is told of two parts
+-- what is said of two parts
 pub record AreHalves (h : Halves) (front back : List ℕ) : Type 0 where
   pub front_is : h.front.now ≡ item_list front
   pub last_is : h.last ≡ last_or 0 front

@@ -1,4 +1,4 @@
--- Places in a list, and how an iterator over one stands.
+-- Places in a list, and how an iterator over one is.
 pub mod Places
 pub mod States
 pub mod Searching

@@ -30,7 +30,7 @@ pub fn lacks(list: &[u8], items: &[u32]) -> bool
 }
 
 /// Appends the list of items that come after the item `last`, where the bytes are their list after another one.
-/// Without memory some of its bytes may stand.
+/// Without memory some of its bytes may be there.
 fn put_run(before: u32, run: &[u8], last: u32, out: &mut Vec<u8>) -> Result<(), AllocError>
     requires run { IsListAfter before run.now }
     requires above { AreItemsFrom last (items_left before run.now) }
@@ -48,7 +48,7 @@ fn put_run(before: u32, run: &[u8], last: u32, out: &mut Vec<u8>) -> Result<(), 
     }
 }
 
-/// Appends the list of both. Without memory some of its bytes may stand.
+/// Appends the list of both. Without memory some of its bytes may be there.
 fn put_merged(list: &[u8], items: &[u32], out: &mut Vec<u8>) -> Result<(), AllocError>
     requires list { IsItemList list.now }
     requires items { AreItems items.now }

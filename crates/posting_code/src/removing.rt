@@ -52,7 +52,7 @@ impl ItemSet {
 }
 
 /// Appends the list of a list's items but the dead ones, and answers how many there are. Without memory some of its
-/// bytes may stand.
+/// bytes may be there.
 fn put_left(list: &[u8], dead: &ItemSet, out: &mut Vec<u8>) -> Result<u32, AllocError>
     requires { IsItemList list.now }
     ensures ok { IfOk result (λ n. (bytes : List ℕ) × (out.new.items ≡ out.old.items ++ bytes)

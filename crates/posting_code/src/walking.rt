@@ -32,7 +32,7 @@ pub(crate) fn skip_below<'a>(place: Place<'a>, bound: u32) -> Place<'a>
     Place { last, rest }
 }
 
-/// Whether an item stands at a place before which all items of the list are below it.
+/// Whether an item is at a place before which all items of the list are below it.
 pub(crate) fn stands_here(place: Place<'_>, item: u32) -> bool
     requires list { IsListAfter place.last place.rest.now }
     requires above { AllByRecursion (λ i. item ≤ i) (items_left place.last place.rest.now) }

@@ -4,7 +4,7 @@ ghost use Rattle.page_types.specs.Items.{varbyte, item_list, AreItems};
 
 use std::alloc::AllocError;
 
-/// The number as a varbyte. Without memory some of its bytes may stand.
+/// The number as a varbyte. Without memory some of its bytes may be there.
 pub(crate) fn put_varbyte(n: u32, out: &mut Vec<u8>) -> Result<(), AllocError>
     requires { n < 2 ^ 31 }
     ensures ok { OnOk result (out.new.items ≡ out.old.items ++ varbyte n) }
@@ -19,7 +19,7 @@ pub(crate) fn put_varbyte(n: u32, out: &mut Vec<u8>) -> Result<(), AllocError>
     Ok(())
 }
 
-/// The items' list. Without memory some of its bytes may stand.
+/// The items' list. Without memory some of its bytes may be there.
 fn put_items(items: &[u32], out: &mut Vec<u8>) -> Result<(), AllocError>
     requires { AreItems items.now }
     ensures ok { OnOk result (out.new.items ≡ out.old.items ++ item_list items.now) }

@@ -117,7 +117,7 @@ edit_again : (number : ℕ) (d : Edit) (rest : List ℕ) → number < 2 ^ 64 →
 edit_again number (Image image) rest lt is = image_again number image rest lt is
 edit_again number (Delta f s c x) rest lt is = delta_again f s c x rest is
 
--- a change that is read behind others
+-- a change that is read after others
 record TakesChange (number : ℕ) (before : List Change) (bytes : List ℕ) (c : Change) (rest : List ℕ) : Type 0 where
   takes : Takes bytes (change_bytes c) rest
   fits : IsChange number c
@@ -166,7 +166,7 @@ is-new : (before : List Change) (c : Change) (cs : List Change) → Rising IsOth
 is-new [] c cs h = refl
 is-new (d ∷ ds) c cs h = not-equal d.page c.page (stands c.page ds) (all-at (IsOther d) ds c cs h.0) (is-new ds c cs h.1)
 
--- changes that are read behind others
+-- changes that are read after others
 pub record TakesChanges (number k : ℕ) (before : List Change) (bytes : List ℕ) (all : List Change) (rest : List ℕ) : Type 0 where
   pub new : List Change
   pub all_are : all ≡ before ++ new

@@ -12,7 +12,7 @@ pub size_is : (bytes : List ℕ) (m n : ℕ) → bytes ≡ little_bytes 4 m → 
 unfolding u32_bytes
 size_is bytes m n e is = e ∙ ap (little_bytes 4) is
 
--- what stands behind the place
+-- what is after the place
 pub behind_is : (old rest out : List ℕ) → out ≡ (old ++ u32_bytes 0) ++ rest → length out ≡ length old + (4 + length rest)
 behind_is old rest out is = ap length is ∙ omega (arith, length-append (old ++ u32_bytes 0) rest, length-append old (u32_bytes 0), length-u32_bytes 0)
 

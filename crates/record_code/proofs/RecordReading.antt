@@ -1,4 +1,4 @@
--- A record that is read is spelled so, and a record that is spelled so is read.
+-- A record that is read is encoded so, and a record that is encoded so is read.
 use Rattle.std.proofs.Common.{◌≡◌, ℕ, suc, ◌+◌, ◌^◌, ◌<◌, ◌≤◌, Bool, true, false, cond, ltb, eqb, List, [], ◌∷◌, ◌++◌, length, take, drop, Result, Ok, Err, refl, sym, ap, subst, ◌∙◌, append_assoc, arith}
 use Rattle.std.specs.Prelude.{◌&&◌, IfOk}
 use Rattle.std.specs.List.{flat_map, AllByRecursion}
@@ -14,7 +14,7 @@ use Rattle.page_types.proofs.Framing.{length-u32_bytes}
 use Rattle.page_types.proofs.RecordTelling.{length-record_rest}
 use Rattle.record_code.specs.declared.error.RecordError.{RecordError}
 use Rattle.record_code.specs.Decoding.{Answers}
-use Rattle.record_code.specs.Laws.{AreBytes, Begins, ReadingIsSpelled, SpellingIsRead}
+use Rattle.record_code.specs.Laws.{AreBytes, Begins, ReadingIsEncoded, EncodingIsRead}
 use Rattle.page_types.specs.Fields.{◌>>=◌, number_at}
 use Rattle.page_types.proofs.FieldReading.{bind_ok, IsBytes-take, IsBytes-drop, Takes, Takes-then, u32_takes, u64_takes, u32_again, u64_again}
 use Rattle.record_code.specs.Fields.{byte_at}
@@ -33,12 +33,12 @@ byte_takes (x ∷ bytes) b rest fits e =
     (record { parts = rw (b-is, rest-is) refl; rest_fits = rw (← rest-is) later }, rw (← b-is) (fits 0))
 
 -- the fields of a record, each taken in its turn
-rest_spelled : (bytes r0 r1 r2 r3 r4 rest : List ℕ) (blank kind : Kind) (xid number count : ℕ) (changes : List Change) → Takes bytes (kind_number blank ∷ []) r0
+rest_encoded : (bytes r0 r1 r2 r3 r4 rest : List ℕ) (blank kind : Kind) (xid number count : ℕ) (changes : List Change) → Takes bytes (kind_number blank ∷ []) r0
     → Takes r0 (u32_bytes xid) r1 → xid < 2 ^ 32 → Takes r1 (u64_bytes number) r2 → number < 2 ^ 64 → TakesKind (kind_number blank) r2 kind r3
     → Takes r3 (count ∷ []) r4 → count < 256 → TakesChanges number count [] r4 changes rest
     → Takes bytes (record_rest (record { number = number; xid = xid; kind = kind; changes = changes })) rest × IsRecord (record { number = number; xid = xid; kind = kind; changes = changes })
 unfolding record_rest
-rest_spelled bytes r0 r1 r2 r3 r4 rest blank kind xid number count changes t0 t1 small t2 fits t3 t4 few t5 =
+rest_encoded bytes r0 r1 r2 r3 r4 rest blank kind xid number count changes t0 t1 small t2 fits t3 t4 few t5 =
     let front : Takes bytes (kind_number kind ∷ []) r0 = rw (t3.number_is) t0 in
     let all : t5.new ≡ changes = sym t5.all_are in
     let body : Takes r4 (flat_map change_bytes changes) rest = subst (λ (l : List Change). Takes r4 (flat_map change_bytes l) rest) all t5.takes in
@@ -68,7 +68,7 @@ rest_takes bytes x fits e =
     let t4 = byte_takes d.0.1 k.0.0 k.0.1 t3.takes.rest_fits k.1 in
     let t5 = changes_take c.0.0 k.0.0 [] k.0.1 s.0 t4.0.rest_fits tt s.1 in
     let made : Record × List ℕ = (record { number = c.0.0; xid = b.0.0; kind = d.0.0; changes = s.0.0 }, s.0.1) in
-    let whole = rest_spelled bytes a.0.1 b.0.1 c.0.1 d.0.1 k.0.1 s.0.1 a.0.0 d.0.0 b.0.0 c.0.0 k.0.0 s.0.0 t0 t1.0 t1.1 t2.0 t2.1 t3 t4.0 t4.1 t5 in
+    let whole = rest_encoded bytes a.0.1 b.0.1 c.0.1 d.0.1 k.0.1 s.0.1 a.0.0 d.0.0 b.0.0 c.0.0 k.0.0 s.0.0 t0 t1.0 t1.1 t2.0 t2.1 t3 t4.0 t4.1 t5 in
     subst (λ (y : Record × List ℕ). Takes bytes (record_rest y.0) y.1 × IsRecord y.0) (ok_is made x s.2) whole
 
 rest_regrouped : (x n k : List ℕ) (c : ℕ) (cs t : List ℕ) → (x ++ (n ++ (k ++ (c ∷ cs)))) ++ t ≡ x ++ (n ++ (k ++ (c ∷ (cs ++ t))))
@@ -131,17 +131,17 @@ begins bytes body behind size n r cut is len sum fits =
     let sized : size ≡ length (record_rest r) = sym len ∙ ap length is in
     let total : length (u32_bytes (length (record_rest r)) ++ record_rest r) ≡ n = omega (arith, length-append (u32_bytes (length (record_rest r))) (record_rest r), length-u32_bytes (length (record_rest r)), sized, sum) in
     let P : List ℕ → List ℕ → List ℕ = λ f b. f ++ (b ++ behind) in
-    let spelled : bytes ≡ (u32_bytes (length (record_rest r)) ++ record_rest r) ++ behind =
+    let encoded : bytes ≡ (u32_bytes (length (record_rest r)) ++ record_rest r) ++ behind =
     cut ∙ ap (λ m. P (u32_bytes m) body) sized ∙ ap (P (u32_bytes (length (record_rest r)))) is ∙ sym (append_assoc (u32_bytes (length (record_rest r))) (record_rest r) behind) in
-    record { is_record = fits; size = total; spelled = (behind, spelled) }
+    record { is_record = fits; size = total; encoded = (behind, encoded) }
 
 short_or : {A : Type 0} (b : Bool) (d : ℕ) (r : Result A ℕ) (y : A) → cond b (Err d) r ≡ Ok y → (b ≡ false) × (r ≡ Ok y)
 short_or true d r y e = absurd cc
 short_or false d r y e = (refl, e)
 
-pub reading_is_spelled : ReadingIsSpelled
+pub reading_is_encoded : ReadingIsEncoded
 unfolding record_at
-reading_is_spelled bytes r n fits e =
+reading_is_encoded bytes r n fits e =
     let size : ℕ = little_number 4 bytes in
     let body : List ℕ = take (little_number 4 bytes) (drop 4 bytes) in
     let g = short_or (ltb (length bytes) 4) (length bytes) (record_in (little_number 4 bytes) (take (little_number 4 bytes) (drop 4 bytes))) (r, n) e in
@@ -172,9 +172,9 @@ number-again n rest lt =
 placed-again : (size end n : ℕ) (read : Result Record ℕ) (r : Record) → read ≡ Ok r → 4 + size ≡ n → placed size end read ≡ Ok (r, n)
 placed-again size end n read r e sum = ap (placed size end) e ∙ ap (λ m. Ok (r, m)) sum
 
-pub spelling_is_read : SpellingIsRead
+pub encoding_is_read : EncodingIsRead
 unfolding record_bytes
-spelling_is_read r behind is =
+encoding_is_read r behind is =
     let rest : List ℕ = record_rest r in
     let few = length-record_rest r is in
     let regrouped : (u32_bytes (length (record_rest r)) ++ record_rest r) ++ behind ≡ u32_bytes (length (record_rest r)) ++ (record_rest r ++ behind) = append_assoc (u32_bytes (length (record_rest r))) (record_rest r) behind in
@@ -189,9 +189,9 @@ spelling_is_read r behind is =
 
 -- what a call answered, by the laws
 pub is_found : (bytes : List ℕ) (answer : Result (Record × ℕ) RecordError) → AreBytes bytes → Answers answer (record_at bytes) → IfOk answer (λ x. Begins bytes x.0 x.1)
-is_found bytes (Ok x) fits given = reading_is_spelled bytes x.0 x.1 fits given
+is_found bytes (Ok x) fits given = reading_is_encoded bytes x.0 x.1 fits given
 is_found bytes (Err e) fits given = tt
 
 pub is_read : (bytes : List ℕ) (answer : Result (Record × ℕ) RecordError) → Answers answer (record_at bytes) → (r : Record) (behind : List ℕ) → IsRecord r → bytes ≡ record_bytes r ++ behind → Answers answer (Ok (r, length (record_bytes r)))
 is_read bytes answer given r behind is e =
-    subst (λ (f : Result (Record × ℕ) ℕ). Answers answer f) (ap record_at e ∙ spelling_is_read r behind is) given
+    subst (λ (f : Result (Record × ℕ) ℕ). Answers answer f) (ap record_at e ∙ encoding_is_read r behind is) given

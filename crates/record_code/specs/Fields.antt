@@ -1,4 +1,4 @@
--- A byte, read from the front of the bytes: the byte and those behind it, or a fault.
+-- A byte, read from the front of the bytes: the byte and those after it, or a fault.
 -- A fault is how many bytes are left before the field that is refused, and 0 where they end within a field.
 use Rattle.std.specs.Prelude.{ℕ, List, [], ◌∷◌, Result, Ok, Err}
 

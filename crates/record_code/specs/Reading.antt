@@ -68,11 +68,11 @@ fields_at (kind.LinkPending _ _) bytes = named_at (λ i s. kind.LinkPending i s)
 fields_at (kind.DropPage _ _) bytes = named_at (λ i s. kind.DropPage i s) bytes
 fields_at k bytes = Ok (k, bytes)
 
--- the page stands among these changes
+-- the page is among these changes
 abbrev pub stands : ℕ → List Change → Bool
 stands page changes = list_any (λ c. c.page == page) changes
 
--- a page's number, which is refused where it is none and where it stands among the changes before
+-- a page's number, which is refused where it is none and where it is among the changes before
 unfoldable pub page_at : List Change → List ℕ → Read ℕ
 page_at before bytes = do
   page ← number_at 4 bytes
@@ -100,21 +100,21 @@ edit_at number (zero ∷ rest) = image_at number rest
 edit_at number (suc zero ∷ rest) = delta_at rest
 edit_at number (suc (suc b) ∷ rest) = Err (suc (length rest))
 
--- a change behind others
+-- a change after others
 unfoldable pub change_at : ℕ → List Change → List ℕ → Read Change
 change_at number before bytes = do
   page ← page_at before bytes
   edit ← edit_at number page.1
   Ok (record { page = page.0; edit = edit.0 }, edit.1)
 
--- so many changes behind others, and these before them
+-- so many changes after others, and these before them
 unfoldable pub changes_at : ℕ → ℕ → List Change → List ℕ → Read (List Change)
 changes_at number zero before bytes = Ok (before, bytes)
 changes_at number (suc k) before bytes = do
   change ← change_at number before bytes
   changes_at number k (before ++ change.0 ∷ []) change.1
 
--- what stands behind a record's length
+-- what is after a record's length
 unfoldable pub rest_at : List ℕ → Read Record
 rest_at bytes = do
   kind ← kind_at bytes

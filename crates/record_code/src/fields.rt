@@ -5,7 +5,7 @@ ghost use Rattle.record_code.specs.Fields.{byte_at};
 
 use page_types::ReadError;
 
-/// One byte, and those behind it.
+/// One byte, and those after it.
 pub fn byte_of(bytes: &[u8]) -> Result<(u8, &[u8]), ReadError>
     ensures { Gives (λ x. (x.0, x.1.now)) result (byte_at bytes.now) }
 {
@@ -15,7 +15,7 @@ pub fn byte_of(bytes: &[u8]) -> Result<(u8, &[u8]), ReadError>
     }
 }
 
-/// So many bytes, and those behind them.
+/// So many bytes, and those after them.
 #[tactic(auto, unfolding(page_types::specs::Fields::bytes_at))]
 pub fn bytes_of(n: usize, bytes: &[u8]) -> Result<(&[u8], &[u8]), ReadError>
     ensures value { Gives (λ x. (x.0.now, x.1.now)) result (bytes_at n bytes.now) }

@@ -1,8 +1,8 @@
-// What holds of reading and spelling.
-ghost use Rattle.record_code.specs.Laws.{ReadingIsSpelled, SpellingIsRead};
+// What holds of reading and encoding.
+ghost use Rattle.record_code.specs.Laws.{ReadingIsEncoded, EncodingIsRead};
 
-/// What is read is spelled so, and what is spelled so is read, whatever follows.
-pub fn spellings_are_read()
-    ensures found { ReadingIsSpelled }
-    ensures only { SpellingIsRead }
+/// What is read is encoded so, and what is encoded so is read, whatever follows.
+pub fn encodings_are_read()
+    ensures found { ReadingIsEncoded }
+    ensures only { EncodingIsRead }
 {}

@@ -1,16 +1,16 @@
-//! Records of the log as bytes: the one spelling of each, and the first record that bytes spell.
+//! Records of the log as bytes: the one encoding of each, and the first record that bytes encode.
 //!
-//! What a spelling is stands in `page_types`. Here are its reader and its writer, with the place of the first fault of
+//! `page_types` says what an encoding is. Here are its reader and its writer, with the place of the first fault of
 //! bytes that begin with no record.
 #![tactic(auto)]
 
 mod error;
 mod fields;
 mod laws;
-mod reading;
+mod records;
 mod writing;
 
 pub use error::RecordError;
-pub use laws::spellings_are_read;
-pub use reading::decode_record;
+pub use laws::encodings_are_read;
+pub use records::decode_record;
 pub use writing::encode_record;

@@ -1,4 +1,4 @@
-// The spelling of a record.
+// The encoding of a record.
 ghost use Rattle.std.specs.Prelude.{◌≡◌, ◌+◌, ◌*◌, ◌<◌, ◌≤◌, ◌^◌, ℕ, ◌++◌, ◌∷◌, [], length, OnOk, OnErr};
 ghost use Rattle.std.specs.List.{flat_map, AllByRecursion};
 ghost use Rattle.page_types.specs.Numbers.{u16_bytes, u32_bytes, u64_bytes};
@@ -92,7 +92,7 @@ fn put_fields(out: &mut Vec<u8>, kind: Kind) -> Result<(), AllocError>
     }
 }
 
-/// Appends bytes behind their length.
+/// Appends bytes after their length.
 fn put_sized(out: &mut Vec<u8>, bytes: &[u8]) -> Result<(), AllocError>
     requires { length bytes.now < 2 ^ 16 }
     ensures ok { OnOk result (out.new.items ≡ out.old.items ++ (u16_bytes (length bytes.now) ++ bytes.now)) }
@@ -166,7 +166,7 @@ fn put_changes(out: &mut Vec<u8>, changes: &[Change]) -> Result<(), AllocError>
     Ok(())
 }
 
-/// Appends what stands behind a record's length.
+/// Appends what is after a record's length.
 #[tactic(auto, unfolding(page_types::specs::Records::record_rest))]
 fn put_rest(out: &mut Vec<u8>, rec: &Record) -> Result<(), AllocError>
     requires { IsRecord rec.now }
@@ -181,7 +181,7 @@ fn put_rest(out: &mut Vec<u8>, rec: &Record) -> Result<(), AllocError>
     put_changes(out, rec.changes.as_slice())
 }
 
-/// Appends the spelling of a record: a length of 0 first, which becomes the length of what was appended behind it.
+/// Appends the encoding of a record: a length of 0 first, which becomes the length of what was appended after it.
 fn put_record(out: &mut Vec<u8>, rec: &Record) -> Result<(), AllocError>
     requires { IsRecord rec.now }
     ensures ok { OnOk result (out.new.items ≡ out.old.items ++ record_bytes rec.now) }
@@ -195,7 +195,7 @@ fn put_record(out: &mut Vec<u8>, rec: &Record) -> Result<(), AllocError>
     Ok(())
 }
 
-/// Appends the spelling of a record. After running out of memory nothing was appended.
+/// Appends the encoding of a record. After running out of memory nothing was appended.
 pub fn encode_record(rec: &Record, out: &mut Vec<u8>) -> Result<(), AllocError>
     requires { IsRecord rec.now }
     ensures ok { OnOk result (out.new.items ≡ out.old.items ++ record_bytes rec.now) }

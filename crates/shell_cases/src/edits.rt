@@ -1,5 +1,5 @@
 // Edits of a log, each of which is opened. A line of them is `OFFSET BYTES ..; what it does; verdict`. The bytes, in
-// base 16, stand at the offset in place of the log's, or right after them.
+// base 16, are at the offset in place of the log's, or right after them.
 use crate::case::{holding, log_of, run_on};
 use crate::tally::Tally;
 use anyhow::{Context, Result, bail, ensure};
@@ -35,7 +35,7 @@ fn byte_of(pair: &[u8]) -> Result<u8> {
     Ok(high.saturating_mul(16).saturating_add(low))
 }
 
-/// The bytes with these digits stand at a place, within the others or right after them.
+/// The bytes with these digits are at a place, within the others or right after them.
 fn put_digits(bytes: &mut Vec<u8>, at: usize, digits: &str) -> Result<()> {
     for (offset, pair) in digits.as_bytes().chunks(2).enumerate() {
         let byte = byte_of(pair)?;

@@ -1,4 +1,4 @@
-// That a gate is passed before each statement of a session, with the session and the statement's number.
+// That a hook is called before each statement of a session, with the session and the statement's number.
 use crate::case::PIECE;
 use crate::tally::Tally;
 use anyhow::Result;
@@ -48,7 +48,7 @@ impl Gate for Events {
     }
 }
 
-/// A device in memory whose writes are noted. It tells nothing of what it holds.
+/// A device in memory whose writes are noted. It says nothing of what it holds.
 #[derive(Drop)]
 struct NotedDisk<'a> {
     /// The device.
@@ -111,7 +111,7 @@ end
 @1 insert vector 'c:1'
 ";
 
-/// Each statement passes the gate before it writes.
+/// Each statement calls the hook before it writes.
 pub fn see_a_gate<R>(rt: &R, tally: &mut Tally) -> Result<()>
 where
     R: Threads + Wait + Sync + Print + AllocGlobal,

@@ -60,8 +60,8 @@ where
     Ok(())
 }
 
-/// What a run prints over a log of which the byte at this place is 99: nothing, as of no store, where the store's gate
-/// is closed, the header's text is another, or what its first batch holds has no reading. Where the first batch's gate
+/// What a run prints over a log of which the byte at this place is 99: nothing, as of no store, where the store's commit byte
+/// is closed, the header's text is another, or what its first batch holds has no reading. Where the first batch's commit byte
 /// is closed there is no batch. Any other byte is of a page that the first record changes, and no statement reads it.
 fn printed_over(place: usize) -> &'static [u8] {
     match place {

@@ -21,7 +21,7 @@ use Rattle.ts_config.specs.Rules.{Rules, rules_of, answer_by}
 use Rattle.ts_config.specs.Known.{Known, HasDictionary, HasConfiguration, ArePlaces, place_of, sub_named}
 use Rattle.ts_thesaurus.proofs.Readings.{one_reading}
 use Rattle.shell_script.specs.Lines.{Line}
-use Rattle.shell_script.specs.Heads.{Kind, thesaurus_kind, dictionary_head, configuration_head}
+use Rattle.shell_script.specs.OpeningLines.{Kind, thesaurus_kind, dictionary_opening, configuration_opening}
 use Rattle.shell_script.specs.Replies.{Refusal, no_statement, no_dictionary}
 use Rattle.shell_script.specs.Replies.{refused}
 use Rattle.shell_run.specs.Defining.{IsNoLine, answer_in, LacksOne, IsBadFor, bytes_of, LineFails, LinesFail, IsDefined}
@@ -127,9 +127,9 @@ pub places_fail : (known : Known) (names left : List (List ℕ)) (name : List �
 places_fail known names left name places p n = p.fails (0, name, omega arith, refl, n)
 
 -- ── definitions ──
-pub kind_refuses : (known : Known) (number : ℕ) (name : List ℕ) (kind : Kind) (ls : List Line) (why : Refusal) → ¬ LacksOne known kind → ¬ HasDictionary known name → LinesBad (λ (l : Line). IsBadFor known kind l) ls why → IsDefined known number (dictionary_head name kind) ls (refused why)
-kind_refuses known number name kind ls why s n (inl e) = subst (λ w. IsDefined known number (dictionary_head name kind) ls (refused w)) (sym e) tt
-kind_refuses known number name kind ls why s n (inr h) = subst (λ w. IsDefined known number (dictionary_head name kind) ls (refused w)) (sym h.1) (s, inr (n, h.2))
+pub kind_refuses : (known : Known) (number : ℕ) (name : List ℕ) (kind : Kind) (ls : List Line) (why : Refusal) → ¬ LacksOne known kind → ¬ HasDictionary known name → LinesBad (λ (l : Line). IsBadFor known kind l) ls why → IsDefined known number (dictionary_opening name kind) ls (refused why)
+kind_refuses known number name kind ls why s n (inl e) = subst (λ w. IsDefined known number (dictionary_opening name kind) ls (refused w)) (sym e) tt
+kind_refuses known number name kind ls why s n (inr h) = subst (λ w. IsDefined known number (dictionary_opening name kind) ls (refused w)) (sym h.1) (s, inr (n, h.2))
 
 -- the subdictionary's answers
 pub answers_in : (o : Option Rules) (rules : Rules) → o ≡ Some rules → answer_in o ≡ answer_by rules
@@ -155,9 +155,9 @@ lines_causes known old [] why f = absurd f
 lines_causes known old (l ∷ ls) why (inl f) = line_causes known l why f
 lines_causes known old (l ∷ ls) why (inr f) = lines_causes known f.0 ls why f.2
 
-pub maps_refuse : (known : Known) (number : ℕ) (name : List ℕ) (ls : List Line) (why : Refusal) → ¬ HasConfiguration known name → MapsFail known empty_mapping ls why → IsDefined known number (configuration_head name) ls (refused why)
-maps_refuse known number name ls why n (inl e) = subst (λ w. IsDefined known number (configuration_head name) ls (refused w)) (sym e) tt
+pub maps_refuse : (known : Known) (number : ℕ) (name : List ℕ) (ls : List Line) (why : Refusal) → ¬ HasConfiguration known name → MapsFail known empty_mapping ls why → IsDefined known number (configuration_opening name) ls (refused why)
+maps_refuse known number name ls why n (inl e) = subst (λ w. IsDefined known number (configuration_opening name) ls (refused w)) (sym e) tt
 maps_refuse known number name ls why n (inr h) = elim (lines_causes known empty_mapping ls why h) [
-  | inl e ↦ subst (λ w. IsDefined known number (configuration_head name) ls (refused w)) (sym e.1) (inr (n, subst (LinesFail known empty_mapping ls) e.1 h))
-  | inr e ↦ subst (λ w. IsDefined known number (configuration_head name) ls (refused w)) (sym e) (n, subst (LinesFail known empty_mapping ls) e h)
+  | inl e ↦ subst (λ w. IsDefined known number (configuration_opening name) ls (refused w)) (sym e.1) (inr (n, subst (LinesFail known empty_mapping ls) e.1 h))
+  | inr e ↦ subst (λ w. IsDefined known number (configuration_opening name) ls (refused w)) (sym e) (n, subst (LinesFail known empty_mapping ls) e h)
 ]

@@ -1,7 +1,7 @@
--- From the rows of a run to its status.
+-- From the exchanges of a run to its status.
 use Rattle.std.proofs.Common.{◌≡◌, ◌≢◌, ◌⊎◌, inl, inr, ℕ, Bool, true, false, List, arith, refl, sym, ◌∙◌, ap}
 use Rattle.std.specs.Prelude.{Option, Result, Err, IsErrOf}
-use Rattle.shell_run.specs.Run.{Row}
+use Rattle.shell_run.specs.Run.{Exchange}
 use Rattle.shell_run.specs.Outcomes.{Answered, some_refused}
 use Rattle.shell_run.specs.Inner.Serving.{Ran}
 use Rattle.engine.specs.Opening as opening
@@ -10,8 +10,8 @@ use Rattle.shell_run.specs.Inner.Statuses.{ending_number, stop_number, stop_at}
 use Rattle.shell_run.specs.declared.error.Stop.{Stop}
 use Rattle.shell_run.specs.declared.error.Stop.TheVariants.{SourceFault, TooLong, NotAStore, DiskFault, SinkFault, OutOfMemory}
 
-pub answered_stop : (text : List ℕ) (a c : Option (List ℕ)) (rows : List Row) (status : ℕ) → Ran text a c rows false → (status ≡ 5) ⊎ (status ≡ 7) → Answered text status a c rows
-answered_stop text a c rows status r s = record {
+pub answered_stop : (text : List ℕ) (a c : Option (List ℕ)) (exchanges : List Exchange) (status : ℕ) → Ran text a c exchanges false → (status ≡ 5) ⊎ (status ≡ 7) → Answered text status a c exchanges
+answered_stop text a c exchanges status r s = record {
   so_far = r.so_far;
   statuses = elim s [ inl five ↦ inr (inr (inr (inl five))) | inr seven ↦ inr (inr (inr (inr seven))) ];
   whole = elim s [ inl five ↦ inl five | inr seven ↦ inr (inl seven) ];
@@ -37,8 +37,8 @@ zero_refused true refused e = absurd (omega arith)
 zero_refused false true e = absurd (omega arith)
 zero_refused false false e = refl
 
-pub answered_end : (text : List ℕ) (a c : Option (List ℕ)) (rows : List Row) (status : ℕ) (failed refused : Bool) → Ran text a c rows true → refused ≡ some_refused rows → status ≡ ending_number failed refused → Answered text status a c rows
-answered_end text a c rows status failed refused r f s = record {
+pub answered_end : (text : List ℕ) (a c : Option (List ℕ)) (exchanges : List Exchange) (status : ℕ) (failed refused : Bool) → Ran text a c exchanges true → refused ≡ some_refused exchanges → status ≡ ending_number failed refused → Answered text status a c exchanges
+answered_end text a c exchanges status failed refused r f s = record {
   so_far = r.so_far;
   statuses = ending failed refused s;
   whole = inr (inr (r.whole refl));

@@ -14,7 +14,7 @@ use Rattle.shell_run.specs.Inner.Serving.{ServeMeets}
 use Rattle.shell_run.specs.Inner.Statuses.{stop_number}
 use Rattle.shell_run.specs.declared.error.Stop.{Stop}
 use Rattle.shell_run.specs.declared.error.Stop.TheVariants.{SourceFault, TooLong, OutOfMemory}
-use Rattle.shell_run.specs.declared.reading.TheConstants.{SCRIPT_LIMIT}
+use Rattle.shell_run.specs.declared.script.TheConstants.{SCRIPT_LIMIT}
 use Rattle.shell_run.specs.declared.top.Outcome.{Outcome}
 use Rattle.shell_run.specs.declared.words.Settings.{Settings}
 use Rattle.shell_run.proofs.Ending.{Unread, unread}

@@ -9,7 +9,7 @@ use Rattle.disk_trait.specs.declared.device.Disk.{Ghosts as Disk}
 use Rattle.engine.specs.Opening.{OpensTo, OpensToOne, NoStoreIsNone}
 use Rattle.engine.proofs.Starting.{no_refusal, none_opens}
 use Rattle.engine.specs.Finding.{History, Begins}
-use Rattle.shell_run.specs.Run.{Row, IsOkOfStore}
+use Rattle.shell_run.specs.Run.{Exchange, IsOkOfStore}
 use Rattle.shell_run.specs.Crash.{StartedFrom, IsKnownBy, CrashSafe}
 use Rattle.shell_run.specs.NextRun.{OpensIsNoRefusal, EmptyMayStart, Refused, IsRefusedOver, IsLeft, NextMayStart, NextHasAll}
 
@@ -24,24 +24,24 @@ module _ {D : Type 0} (device : Disk D) where
   }
 
   -- whatever a stop at a moment of a run leaves opens
-  left_opens : (old new : D) (first commits : History) (rows : List Row) (m : ℕ) (c : Files)
-      → StartedFrom device old → CrashSafe device old new first commits rows
+  left_opens : (old new : D) (first commits : History) (exchanges : List Exchange) (m : ℕ) (c : Files)
+      → StartedFrom device old → CrashSafe device old new first commits exchanges
       → device.clock old ≤ m → m ≤ device.clock new → device.image new m c
       → (H : History) × OpensTo c H
-  left_opens old new first commits rows m c started safe ge le left = elim (cases_lt m safe.c0) [
+  left_opens old new first commits exchanges m c started safe ge le left = elim (cases_lt m safe.c0) [
     | inl early ↦ started.images c (safe.early m c ge early left)
     | inr late ↦ (let r = safe.late m c (omega arith) le left in (r.kept, r.opens))
   ]
 
 -- of no statement answered Ok by then is anything asked before the opening's end
-none_known : (m c0 last reached : ℕ) (rows : List Row) → m < c0
-    → All (λ (r : Row). IsOkOfStore r.reply → (c0 ≤ r.note.clock) × (r.note.clock ≤ last)) rows
-    → All (λ (r : Row). IsOkOfStore r.reply → IsKnownBy m reached r) rows
-none_known m c0 last reached rows early =
-    All-weaker (λ (r : Row). IsOkOfStore r.reply → (c0 ≤ r.note.clock) × (r.note.clock ≤ last))
-    (λ (r : Row). IsOkOfStore r.reply → IsKnownBy m reached r)
+none_known : (m c0 last reached : ℕ) (exchanges : List Exchange) → m < c0
+    → All (λ (r : Exchange). IsOkOfStore r.reply → (c0 ≤ r.note.clock) × (r.note.clock ≤ last)) exchanges
+    → All (λ (r : Exchange). IsOkOfStore r.reply → IsKnownBy m reached r) exchanges
+none_known m c0 last reached exchanges early =
+    All-weaker (λ (r : Exchange). IsOkOfStore r.reply → (c0 ≤ r.note.clock) × (r.note.clock ≤ last))
+    (λ (r : Exchange). IsOkOfStore r.reply → IsKnownBy m reached r)
     (λ r w ok by. absurd (let a : c0 ≤ r.note.clock = (w ok).0 in let x : ⊥ = omega arith in x))
-    rows
+    exchanges
 
 module _ {E : Type 0} (next : Disk E) where
   -- files of which each opens to a history that has P
@@ -81,14 +81,14 @@ module _ {E : Type 0} (next : Disk E) where
   )
 
 -- what a history that is found has of a run: its acknowledged commits, between its ends
-abbrev HasKept : ℕ → History → History → List Row → History → Type 0
-HasKept m first commits rows found =
-    All (λ (r : Row). IsOkOfStore r.reply → IsKnownBy m (length found) r) rows
+abbrev HasKept : ℕ → History → History → List Exchange → History → Type 0
+HasKept m first commits exchanges found =
+    All (λ (r : Exchange). IsOkOfStore r.reply → IsKnownBy m (length found) r) exchanges
     × (Begins first found × Begins found commits)
 
 module _ {D E : Type 0} (device : Disk D) (next : Disk E) where
   pub next_may_start : OpensToOne → NextMayStart device next
-  next_may_start one counts old new first commits rows m between entry started means ge le left images =
+  next_may_start one counts old new first commits exchanges m between entry started means ge le left images =
       record {
         now = opens (next.seen entry) left;
         images = λ c i. opens c (images c i);
@@ -97,24 +97,24 @@ module _ {D E : Type 0} (device : Disk D) (next : Disk E) where
       opens : (c : Files) → IsLeft next (device.image new m) between c → (H : History) × OpensTo c H
       opens c h =
           let k = left_open next one (λ H. ⊤) between (device.image new m) c
-          (λ d i. (let o = left_opens device old new first commits rows m d started means.crash ge le i in
+          (λ d i. (let o = left_opens device old new first commits exchanges m d started means.crash ge le i in
           (o.0, o.1, tt))) h in
           (k.0, k.1)
 
   pub next_has_all : OpensToOne → NextHasAll device next
-  next_has_all one counts counts' old new first commits rows m between entry end found commits' rows' means means' ge le left =
+  next_has_all one counts counts' old new first commits exchanges m between entry end found commits' exchanges' means means' ge le left =
       elim (cases_lt m means.crash.c0) [
         | inl early ↦ (
-          none_known m means.crash.c0 (device.clock new) (length found) rows early means.crash.clocks,
+          none_known m means.crash.c0 (device.clock new) (length found) exchanges early means.crash.clocks,
           inr (left_more next between (device.image new m) (device.image old (device.clock old))
               (next.seen entry) (λ d i. means.crash.early m d ge early i) left),
         )
         | inr late ↦ (
-            let k = left_open next one (HasKept m first commits rows) between (device.image new m)
+            let k = left_open next one (HasKept m first commits exchanges) between (device.image new m)
             (next.seen entry)
             (λ d i. (let r = means.crash.late m d (omega arith) le i in
             (r.kept, r.opens, (r.known, (r.since, r.begins))))) left in
-            let has = subst (HasKept m first commits rows)
+            let has = subst (HasKept m first commits exchanges)
             (one (next.seen entry) k.0 found k.1 means'.is_first) k.2 in
             (has.0, inl has.1)
             )

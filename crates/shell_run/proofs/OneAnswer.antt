@@ -36,9 +36,9 @@ ok_one v w e = cc
 err_one : {V E : Type 0} (d e : E) → (let a : Result V E = Err d in a) ≡ Err e → d ≡ e
 err_one d e s = cc
 
--- ── errors that are told as refusals ──
+-- ── errors that are said as refusals ──
 module _ {V E : Type 0} (tell : E → Refusal) (want : E) where
-  -- what may be answered, where an error other than this want is told as a refusal
+  -- what may be answered, where an error other than this want is said as a refusal
   abbrev Told : (Result V E → Type 0) → Result V Refusal → Type 0
   Told P (Ok v) = P (Ok v)
   Told P (Err why) = (e : E) × (e ≢ want) × (why ≡ tell e) × P (Err e)
@@ -200,7 +200,7 @@ then_one P Q one onward a b m n (inr h) (inl k) = let e : (let x : Answer = Ok h
 then_one P Q one onward a b m n (inr h) (inr k) =
     onward h.0 a b m n h.2 (subst (λ v. Q v b) (ok_one k.0 h.0 (one (Ok k.0) (Ok h.0) (λ e. cc) (λ e. cc) k.1 h.1)) k.2)
 
--- what the parts behind v may be answered
+-- what the parts after v may be answered
 abbrev OthersAnswer : Known → Vector → List Part → Answer → Type 0
 OthersAnswer known v ps (Ok x) = IsJoinedOf known v ps x
 OthersAnswer known v ps (Err why) = OthersFail known v ps why

@@ -9,7 +9,7 @@ use Rattle.ts_config.specs.Rules.{simple_rules}
 use Rattle.ts_config.specs.Mappings.{Mapping, empty_mapping, mapped}
 use Rattle.ts_config.specs.Known.{Known, NamedRules, HasDictionary, HasConfiguration, ArePlaces, place_of}
 use Rattle.shell_script.specs.Lines.{Line}
-use Rattle.shell_script.specs.Heads.{Kind, Head, dictionary_head, configuration_head}
+use Rattle.shell_script.specs.OpeningLines.{Kind, OpeningLine, dictionary_opening, configuration_opening}
 use Rattle.shell_script.specs.Replies.{Refusal, no_statement, no_dictionary, memory}
 use Rattle.shell_script.specs.Replies.{Reply, done, refused}
 use Rattle.shell_script.proofs.OneMapping.{one_mapping}
@@ -40,7 +40,7 @@ Dictionary known number name kind ls a =
     ((a ≡ done) × (¬ LacksOne known kind) × (¬ HasDictionary known name) × All (λ (l : Line). ¬ IsBadFor known kind l) ls)
     ⊎ ((why : Refusal) × (a ≡ refused why) × DictionaryCause known number name kind ls why)
 
-dictionary : (known : Known) (number : ℕ) (name : List ℕ) (kind : Kind) (ls : List Line) (a : Reply) → a ≢ refused memory → IsDefined known number (dictionary_head name kind) ls a → Dictionary known number name kind ls a
+dictionary : (known : Known) (number : ℕ) (name : List ℕ) (kind : Kind) (ls : List Line) (a : Reply) → a ≢ refused memory → IsDefined known number (dictionary_opening name kind) ls a → Dictionary known number name kind ls a
 dictionary known number name kind ls done m h = inl (refl, h.0, h.1, h.2)
 dictionary known number name kind ls (refused (no_statement at)) m h = inr (no_statement at, refl, inr (h.0, (at, refl, h.1)))
 dictionary known number name kind ls (refused no_dictionary) m h = inr (no_dictionary, refl, inl (h, refl))
@@ -137,7 +137,7 @@ Configuration known number name ls a =
     ((a ≡ done) × (¬ HasConfiguration known name) × ((mapping : Mapping) × Maps known empty_mapping ls mapping))
     ⊎ ((why : Refusal) × (a ≡ refused why) × Cause known number name ls why)
 
-configuration : (known : Known) (number : ℕ) (name : List ℕ) (ls : List Line) (a : Reply) → a ≢ refused memory → IsDefined known number (configuration_head name) ls a → Configuration known number name ls a
+configuration : (known : Known) (number : ℕ) (name : List ℕ) (ls : List Line) (a : Reply) → a ≢ refused memory → IsDefined known number (configuration_opening name) ls a → Configuration known number name ls a
 configuration known number name ls done m h = inl (refl, h.0, h.1)
 configuration known number name ls (refused (no_statement at)) m (inl h) = inr (no_statement at, refl, inl (h.0, ap no_statement h.1))
 configuration known number name ls (refused (no_statement at)) m (inr h) = inr (no_statement at, refl, inr h)
@@ -161,6 +161,6 @@ configuration_one known number name ls a b (inl h) (inr k) = absurd (done_or_cau
 configuration_one known number name ls a b (inr h) (inl k) = absurd (done_or_cause known number name ls h.0 (k.1, k.2) h.2)
 configuration_one known number name ls a b (inr h) (inr k) = h.1 ∙ ap refused (cause_one known number name ls h.0 k.0 h.2 k.2) ∙ sym k.1
 
-pub definition_one : (known : Known) (number : ℕ) (head : Head) (ls : List Line) → HasOneAnswer known number head ls
-definition_one known number (dictionary_head name kind) ls a b m n h k = dictionary_one known number name kind ls a b (dictionary known number name kind ls a m h) (dictionary known number name kind ls b n k)
-definition_one known number (configuration_head name) ls a b m n h k = configuration_one known number name ls a b (configuration known number name ls a m h) (configuration known number name ls b n k)
+pub definition_one : (known : Known) (number : ℕ) (head : OpeningLine) (ls : List Line) → HasOneAnswer known number head ls
+definition_one known number (dictionary_opening name kind) ls a b m n h k = dictionary_one known number name kind ls a b (dictionary known number name kind ls a m h) (dictionary known number name kind ls b n k)
+definition_one known number (configuration_opening name) ls a b m n h k = configuration_one known number name ls a b (configuration known number name ls a m h) (configuration known number name ls b n k)

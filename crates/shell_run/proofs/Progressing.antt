@@ -16,12 +16,12 @@ use Rattle.shell_script.proofs.Rising.{Rise, number_of, steps_rise}
 use Rattle.shell_run.specs.declared.error.Stop.{Stop}
 use Rattle.shell_run.specs.Defining.{Becomes}
 use Rattle.engine.specs.Finding.{History}
-use Rattle.shell_run.specs.Run.{Row, Place}
-use Rattle.engine.specs.Found.{Found}
+use Rattle.shell_run.specs.Run.{Exchange, Place}
+use Rattle.engine.specs.AtOpening.{AtOpening}
 use Rattle.shell_run.specs.Crash.{StartedFrom, HasSamePages, Reaches, CrashSafe, Means}
 use Rattle.shell_run.specs.RanOn.{counts_over, RanOn}
 use Rattle.engine.specs.Opened.{IsFixedSince, IsLawfulSince, OpenedAt}
-use Rattle.shell_run.specs.Script.{IsRowOf, AreRows, printed_row, printed_rows}
+use Rattle.shell_run.specs.Script.{IsExchangeOf, AreExchanges, printed_exchange, printed_exchanges}
 use Rattle.shell_run.specs.Inner.Sending.{Sends, SendsBut}
 use Rattle.shell_run.specs.declared.sending.TheConstants.{PIECE_BYTES}
 use Rattle.engine.specs.Standing.{StandsFor, IsUp, disk_of, fault_of}
@@ -33,14 +33,14 @@ use Rattle.shell_run.proofs.Streams.{appends_none, puts_few, puts_none}
 use Rattle.engine.proofs.Held.{held_lawful, held_placed}
 use Rattle.engine.proofs.Standing.{opens_now, opened_numbered}
 use Rattle.shell_run.proofs.Safety.{Safe}
-use Rattle.shell_run.proofs.Going.{State, Goes, goes, row_of}
+use Rattle.shell_run.proofs.Going.{State, Goes, goes, exchange_of}
 
 -- a step more at the end
-rows_more : (known next last : Known) (ss : List Step) (rows : List Row) (s : Step) (row : Row) → AreRows known ss rows next → IsRowOf next s row → Becomes next row.statement row.reply last → AreRows known (ss ++ s ∷ []) (rows ++ row ∷ []) last
-rows_more known next last [] rows s row h k b =
-    (row, [], last, ap (λ z. z ++ row ∷ []) h.0, subst (λ z. IsRowOf z s row) h.1 k, subst (λ z. Becomes z row.statement row.reply last) h.1 b, (refl, refl))
-rows_more known next last (t ∷ ss) rows s row h k b =
-    (h.0, h.1 ++ row ∷ [], h.2, ap (λ z. z ++ row ∷ []) h.3, h.4, h.5, rows_more h.2 next last ss h.1 s row h.6 k b)
+exchanges_more : (known next last : Known) (ss : List Step) (exchanges : List Exchange) (s : Step) (exchange : Exchange) → AreExchanges known ss exchanges next → IsExchangeOf next s exchange → Becomes next exchange.statement exchange.reply last → AreExchanges known (ss ++ s ∷ []) (exchanges ++ exchange ∷ []) last
+exchanges_more known next last [] exchanges s exchange h k b =
+    (exchange, [], last, ap (λ z. z ++ exchange ∷ []) h.0, subst (λ z. IsExchangeOf z s exchange) h.1 k, subst (λ z. Becomes z exchange.statement exchange.reply last) h.1 b, (refl, refl))
+exchanges_more known next last (t ∷ ss) exchanges s exchange h k b =
+    (h.0, h.1 ++ exchange ∷ [], h.2, ap (λ z. z ++ exchange ∷ []) h.3, h.4, h.5, exchanges_more h.2 next last ss h.1 s exchange h.6 k b)
 
 any_push : {X : Type 0} (p : X → Bool) (xs : List X) (x : X) → list_any p (xs ++ x ∷ []) ≡ (list_any p xs || p x)
 any_push p [] x = or_false (p x)
@@ -54,23 +54,23 @@ any_push p (y ∷ xs) x = ap (λ b. p y || b) (any_push p xs x) ∙ or_assoc (p 
     or_assoc true b c = refl
     or_assoc false b c = refl
 
-last_is : (rows : List Row) (row : Row) → last_text (rows ++ row ∷ []) ≡ printed_row row
-last_is [] row = refl
-last_is (r ∷ []) row = refl
-last_is (r ∷ s ∷ rows) row = last_is (s ∷ rows) row
+last_is : (exchanges : List Exchange) (exchange : Exchange) → last_text (exchanges ++ exchange ∷ []) ≡ printed_exchange exchange
+last_is [] exchange = refl
+last_is (r ∷ []) exchange = refl
+last_is (r ∷ s ∷ exchanges) exchange = last_is (s ∷ exchanges) exchange
 
 pub went_badly : (n : ℕ) → false ≡ true → n < PIECE_BYTES
 went_badly n e = absurd (let x : ⊥ = cc in x)
 
-fits_last : (rows : List Row) (row : Row) (n : ℕ) → n < PIECE_BYTES → n + length (printed_row row) < PIECE_BYTES + length (last_text (rows ++ row ∷ []))
-fits_last rows row n less = let last : length (last_text (rows ++ row ∷ [])) ≡ length (printed_row row) = ap length (last_is rows row) in omega (arith, less, last)
+fits_last : (exchanges : List Exchange) (exchange : Exchange) (n : ℕ) → n < PIECE_BYTES → n + length (printed_exchange exchange) < PIECE_BYTES + length (last_text (exchanges ++ exchange ∷ []))
+fits_last exchanges exchange n less = let last : length (last_text (exchanges ++ exchange ∷ [])) ≡ length (printed_exchange exchange) = ap length (last_is exchanges exchange) in omega (arith, less, last)
 
 pub some_piece : 0 < PIECE_BYTES
 some_piece = let z : 0 < 8192 = omega arith in z
 
--- the rows of the steps so far, of which some text may be unsent
-has_printed : (a c : Option (List ℕ)) (text : List ℕ) (rows : List Row) (done left : List Step) (known : Known) (waiting : List ℕ) (well : Bool) → steps_of text ≡ done ++ left → AreRows first_known done rows known → SendsBut (PIECE_BYTES + length (last_text rows)) a c (printed_rows rows) waiting well → HasPrinted text a c rows
-has_printed a c text rows done left known waiting well e h k = record {
+-- the exchanges of the steps so far, of which some text may be unsent
+has_printed : (a c : Option (List ℕ)) (text : List ℕ) (exchanges : List Exchange) (done left : List Step) (known : Known) (waiting : List ℕ) (well : Bool) → steps_of text ≡ done ++ left → AreExchanges first_known done exchanges known → SendsBut (PIECE_BYTES + length (last_text exchanges)) a c (printed_exchanges exchanges) waiting well → HasPrinted text a c exchanges
+has_printed a c text exchanges done left known waiting well e h k = record {
   done = done;
   left = left;
   script = (one_reading text (done ++ left)).1 (sym e);
@@ -83,27 +83,27 @@ has_printed a c text rows done left known waiting well e h k = record {
   few = k.1;
 }
 
-module _ {D : Type 0} (device : Disk D) (found : Found) (history : History) where
+module _ {D : Type 0} (device : Disk D) (found : AtOpening) (history : History) where
   -- the steps so far were answered, and these are left
   pub record Progress (before now : Option (List ℕ)) (opened : DbValue D) (run_state : RunState D) (text : List ℕ) (left : List Step) (well : Bool) : Type 0 where
     pub commits : History
-    pub rows : List Row
+    pub exchanges : List Exchange
     pub held : StandsFor found run_state.store commits
     pub high : ℕ
-    pub last : All (λ (r : Row). r.place.step < high) rows
+    pub last : All (λ (r : Exchange). r.place.step < high) exchanges
     pub rise : Rise high left
     pub done : List Step
     pub script : steps_of text ≡ done ++ left
-    pub each : AreRows first_known done rows run_state.configs
-    pub printed : SendsBut (PIECE_BYTES + length (last_text rows)) before now (printed_rows rows) run_state.waiting.items well
+    pub each : AreExchanges first_known done exchanges run_state.configs
+    pub printed : SendsBut (PIECE_BYTES + length (last_text exchanges)) before now (printed_exchanges exchanges) run_state.waiting.items well
     pub room : well ≡ true → length run_state.waiting.items < PIECE_BYTES
-    pub flag : run_state.refused ≡ some_refused rows
-    pub state : (first : D) (c0 : ℕ) → OpenedAt device found history first c0 opened → State device found history first c0 (disk_of opened) run_state.store commits rows
+    pub flag : run_state.refused ≡ some_refused exchanges
+    pub state : (first : D) (c0 : ℕ) → OpenedAt device found history first c0 opened → State device found history first c0 (disk_of opened) run_state.store commits exchanges
 
   pub progress_start : (a : Option (List ℕ)) (run_state : RunState D) (text : List ℕ) → StandsFor found run_state.store history → IsUp run_state.store → run_state.configs ≡ first_known → run_state.waiting.items ≡ [] → run_state.refused ≡ false → Progress a a run_state.store run_state text (steps_of text) true
   progress_start a run_state text h up k w f = record {
     commits = history;
-    rows = [];
+    exchanges = [];
     held = h;
     high = 1;
     last = All-nil _;
@@ -170,9 +170,9 @@ module _ {D : Type 0} (device : Disk D) (found : Found) (history : History) wher
   }
 
   -- the meaning of a run over a device, at its end
-  finish : ((d : D) → device.tells → device.image d (device.clock d) (device.seen d)) → (first : D) (opened : DbValue D) (c0 : ℕ) (s : DbValue D) (commits : History) (rows : List Row) → OpenedAt device found history first c0 opened
-      → StandsFor found s commits → State device found history first c0 (disk_of opened) s commits rows → RanOn device history first (disk_of s) commits rows × (device.tells → HasSamePages device first (disk_of s))
-  finish law first opened c0 s commits rows o held st = (
+  finish : ((d : D) → device.tells → device.image d (device.clock d) (device.seen d)) → (first : D) (opened : DbValue D) (c0 : ℕ) (s : DbValue D) (commits : History) (exchanges : List Exchange) → OpenedAt device found history first c0 opened
+      → StandsFor found s commits → State device found history first c0 (disk_of opened) s commits exchanges → RanOn device history first (disk_of s) commits exchanges × (device.tells → HasSamePages device first (disk_of s))
+  finish law first opened c0 s commits exchanges o held st = (
     record {
       opened = disk_of opened;
       found = found;
@@ -188,9 +188,9 @@ module _ {D : Type 0} (device : Disk D) (found : Found) (history : History) wher
     λ t. kept_pages law first (disk_of s) c0 t (st.fixed t),
   )
     where
-      crash : device.tells → StartedFrom device first → CrashSafe device first (disk_of s) history commits rows
+      crash : device.tells → StartedFrom device first → CrashSafe device first (disk_of s) history commits exchanges
       crash t f =
-          let safe : Safe device first c0 s history commits rows = st.safe t f in
+          let safe : Safe device first c0 s history commits exchanges = st.safe t f in
           let fixed : IsFixedSince device first c0 (disk_of s) = st.fixed t in
           record {
             c0 = c0;
@@ -201,9 +201,9 @@ module _ {D : Type 0} (device : Disk D) (found : Found) (history : History) wher
             pages = fixed.pages;
           }
 
-      by : device.tells → StartedFrom device first → (d : Option ℕ) → fault_of s ≡ d → Means device (counts_over device found first (disk_of opened) (disk_of s)) first (disk_of s) history commits rows
+      by : device.tells → StartedFrom device first → (d : Option ℕ) → fault_of s ≡ d → Means device (counts_over device found first (disk_of opened) (disk_of s)) first (disk_of s) history commits exchanges
       by t f None is =
-          let safe : Safe device first c0 s history commits rows = st.safe t f in
+          let safe : Safe device first c0 s history commits exchanges = st.safe t f in
           record {
             is_first = (o.lawful t f).entry;
             last = commits;
@@ -214,8 +214,8 @@ module _ {D : Type 0} (device : Disk D) (found : Found) (history : History) wher
             crash = crash t f;
           }
       by t f (Some n) is =
-          let safe : Safe device first c0 s history commits rows = st.safe t f in
-          let r : Reaches (device.seen (disk_of s)) (device.clock (disk_of s)) history commits rows = safe.late (device.clock (disk_of s)) (device.seen (disk_of s)) safe.began (omega arith) (law (disk_of s) t) in
+          let safe : Safe device first c0 s history commits exchanges = st.safe t f in
+          let r : Reaches (device.seen (disk_of s)) (device.clock (disk_of s)) history commits exchanges = safe.late (device.clock (disk_of s)) (device.seen (disk_of s)) safe.began (omega arith) (law (disk_of s) t) in
           record {
             is_first = (o.lawful t f).entry;
             last = r.kept;
@@ -227,31 +227,31 @@ module _ {D : Type 0} (device : Disk D) (found : Found) (history : History) wher
           }
 
   ran_by : ((d : D) → device.tells → device.image d (device.clock d) (device.seen d)) → (a c : Option (List ℕ)) (opened : DbValue D) (run_state : RunState D) (text : List ℕ) (left : List Step) (well : Bool) (h : Progress a c opened run_state text left well)
-      → (first : D) (c0 : ℕ) → OpenedAt device found history first c0 opened → RanOn device history first (disk_of run_state.store) h.commits h.rows × (device.tells → HasSamePages device first (disk_of run_state.store))
-  ran_by law a c opened run_state text left well h first c0 o = finish law first opened c0 run_state.store h.commits h.rows o h.held (h.state first c0 o)
+      → (first : D) (c0 : ℕ) → OpenedAt device found history first c0 opened → RanOn device history first (disk_of run_state.store) h.commits h.exchanges × (device.tells → HasSamePages device first (disk_of run_state.store))
+  ran_by law a c opened run_state text left well h first c0 o = finish law first opened c0 run_state.store h.commits h.exchanges o h.held (h.state first c0 o)
 
   -- one step more was answered
   pub progress_step : (a b c : Option (List ℕ)) (opened : DbValue D) (old new : RunState D) (text : List ℕ) (s : Step) (left : List Step) (well : Bool) → Progress a b opened old text (s ∷ left) true → Served device s old new b c well → Progress a c opened new text left well
   progress_step a b c opened old new text s left well p t =
       let number : ℕ = number_of s in
       let place : Place = record { step = number; session = t.session; turn = 0 } in
-      let lower : All (λ (r : Row). r.place.step < number) p.rows = All-weaker (λ (r : Row). r.place.step < p.high) (λ (r : Row). r.place.step < number) (λ r l. omega (arith, l, p.rise.0)) p.rows p.last in
-      let g : Goes device found history p.commits p.rows old.store new.store place old.configs number t.turned.statement t.reply = goes device found history old.store new.store p.commits p.rows place old.configs number t.turned.statement t.reply p.held lower t.turned.answered in
-      let row : Row = row_of place old.configs number t.turned.statement t.reply g.note in
+      let lower : All (λ (r : Exchange). r.place.step < number) p.exchanges = All-weaker (λ (r : Exchange). r.place.step < p.high) (λ (r : Exchange). r.place.step < number) (λ r l. omega (arith, l, p.rise.0)) p.exchanges p.last in
+      let g : Goes device found history p.commits p.exchanges old.store new.store place old.configs number t.turned.statement t.reply = goes device found history old.store new.store p.commits p.exchanges place old.configs number t.turned.statement t.reply p.held lower t.turned.answered in
+      let exchange : Exchange = exchange_of place old.configs number t.turned.statement t.reply g.note in
       record {
         commits = p.commits ++ g.more;
-        rows = p.rows ++ row ∷ [];
+        exchanges = p.exchanges ++ exchange ∷ [];
         held = g.held;
         high = number + 1;
-        last = All-push (λ (r : Row). r.place.step < number + 1) p.rows row (All-weaker (λ (r : Row). r.place.step < number) (λ (r : Row). r.place.step < number + 1) (λ r l. omega (arith, l)) p.rows lower) (omega arith);
+        last = All-push (λ (r : Exchange). r.place.step < number + 1) p.exchanges exchange (All-weaker (λ (r : Exchange). r.place.step < number) (λ (r : Exchange). r.place.step < number + 1) (λ r l. omega (arith, l)) p.exchanges lower) (omega arith);
         rise = p.rise.1;
         done = p.done ++ s ∷ [];
         script = p.script ∙ sym (append_assoc p.done (s ∷ []) left);
-        each = rows_more first_known old.configs new.configs p.done p.rows s row p.each (record { step = refl; numbered = refl; turn = refl; before = refl; says = t.turned.says }) t.turned.becomes;
-        printed = subst (λ z. SendsBut (PIECE_BYTES + length (last_text (p.rows ++ row ∷ []))) a c z new.waiting.items well) (flat_map_more printed_row [] p.rows row)
-            (puts_few (PIECE_BYTES + length (last_text (p.rows ++ row ∷ []))) a b c (printed_rows p.rows) old.waiting.items (said t.session t.reply) new.waiting.items well p.printed.0 t.text (fits_last p.rows row (length old.waiting.items) (p.room refl)));
+        each = exchanges_more first_known old.configs new.configs p.done p.exchanges s exchange p.each (record { step = refl; numbered = refl; turn = refl; before = refl; says = t.turned.says }) t.turned.becomes;
+        printed = subst (λ z. SendsBut (PIECE_BYTES + length (last_text (p.exchanges ++ exchange ∷ []))) a c z new.waiting.items well) (flat_map_more printed_exchange [] p.exchanges exchange)
+            (puts_few (PIECE_BYTES + length (last_text (p.exchanges ++ exchange ∷ []))) a b c (printed_exchanges p.exchanges) old.waiting.items (said t.session t.reply) new.waiting.items well p.printed.0 t.text (fits_last p.exchanges exchange (length old.waiting.items) (p.room refl)));
         room = t.few;
-        flag = t.flag ∙ ap (λ b. b || is_refusal t.reply) p.flag ∙ sym (any_push (λ (r : Row). is_refusal r.reply) p.rows row);
+        flag = t.flag ∙ ap (λ b. b || is_refusal t.reply) p.flag ∙ sym (any_push (λ (r : Exchange). is_refusal r.reply) p.exchanges exchange);
         state = λ first c0 o. g.state first c0 (disk_of opened) (p.state first c0 o);
       }
 
@@ -259,9 +259,9 @@ module _ {D : Type 0} (device : Disk D) (found : Found) (history : History) wher
   pub stopped_out : ((d : D) → device.tells → device.image d (device.clock d) (device.seen d)) → (a c : Option (List ℕ)) (opened : DbValue D) (run_state : RunState D) (text : List ℕ) (left : List Step) (stop : Stop) → Progress a c opened run_state text left false
       → HasRunSteps {E = Stop} device found history text a c opened (disk_of run_state.store) (Err stop)
   stopped_out law a c opened run_state text left stop p = record {
-    rows = p.rows;
+    exchanges = p.exchanges;
     commits = p.commits;
-    ran = record { so_far = has_printed a c text p.rows p.done left run_state.configs run_state.waiting.items false p.script p.each p.printed; whole = λ e. cc };
+    ran = record { so_far = has_printed a c text p.exchanges p.done left run_state.configs run_state.waiting.items false p.script p.each p.printed; whole = λ e. cc };
     flag = tt;
     over = ran_by law a c opened run_state text left false p;
   }
@@ -271,18 +271,18 @@ module _ {D : Type 0} (device : Disk D) (found : Found) (history : History) wher
       → Sends b c old.waiting.items new.waiting.items well → (well ≡ true → length new.waiting.items < PIECE_BYTES) → Progress a c opened new text left well
   progress_sent a b c opened old new text left well p s k f t room = record {
     commits = p.commits;
-    rows = p.rows;
+    exchanges = p.exchanges;
     held = subst (λ x. StandsFor found x p.commits) (sym s) p.held;
     high = p.high;
     last = p.last;
     rise = p.rise;
     done = p.done;
     script = p.script;
-    each = subst (AreRows first_known p.done p.rows) (sym k) p.each;
-    printed = puts_none (PIECE_BYTES + length (last_text p.rows)) a b c (printed_rows p.rows) old.waiting.items new.waiting.items well p.printed.0 t (omega (arith, p.room refl));
+    each = subst (AreExchanges first_known p.done p.exchanges) (sym k) p.each;
+    printed = puts_none (PIECE_BYTES + length (last_text p.exchanges)) a b c (printed_exchanges p.exchanges) old.waiting.items new.waiting.items well p.printed.0 t (omega (arith, p.room refl));
     room = room;
     flag = f ∙ p.flag;
-    state = λ first c0 o. subst (λ x. State device found history first c0 (disk_of opened) x p.commits p.rows) (sym s) (p.state first c0 o);
+    state = λ first c0 o. subst (λ x. State device found history first c0 (disk_of opened) x p.commits p.exchanges) (sym s) (p.state first c0 o);
   }
 
   pub progress_left : (a b : Option (List ℕ)) (opened : DbValue D) (run_state : RunState D) (text : List ℕ) (left other : List Step) (well : Bool) → Progress a b opened run_state text left well → left ≡ other → Progress a b opened run_state text other well
@@ -304,9 +304,9 @@ module _ {D : Type 0} (device : Disk D) (found : Found) (history : History) wher
       → HasRunSteps {E = Stop} device found history text a c opened (disk_of run_state.store) (Ok run_state.refused)
   unfolding has_printed
   ended_out law a c opened run_state text p empty = record {
-    rows = p.rows;
+    exchanges = p.exchanges;
     commits = p.commits;
-    ran = record { so_far = has_printed a c text p.rows p.done [] run_state.configs run_state.waiting.items true p.script p.each p.printed; whole = λ t. (refl, p.printed.0.waits refl ∙ empty) };
+    ran = record { so_far = has_printed a c text p.exchanges p.done [] run_state.configs run_state.waiting.items true p.script p.each p.printed; whole = λ t. (refl, p.printed.0.waits refl ∙ empty) };
     flag = p.flag;
     over = ran_by law a c opened run_state text [] true p;
   }

@@ -7,7 +7,7 @@ use Rattle.disk_trait.specs.declared.device.Disk.{Ghosts as Disk}
 use Rattle.disk_trait.specs.declared.stream.Sink.{Ghosts as Sink}
 use Rattle.engine.specs.Opening.{IsNoStore}
 use Rattle.engine.specs.Finding.{History}
-use Rattle.engine.specs.Found.{Found}
+use Rattle.engine.specs.AtOpening.{AtOpening}
 use Rattle.shell_run.specs.Outcomes.{some_refused}
 use Rattle.shell_run.specs.Crash.{HasSamePages}
 use Rattle.shell_run.specs.RanOn.{RanOn}
@@ -22,7 +22,7 @@ use Rattle.shell_run.proofs.Streams.{appends_none}
 use Rattle.engine.proofs.Standing.{as_before_same, same_pages, only_same}
 use Rattle.shell_run.proofs.Ending.{answered_stop, answered_end, Stopped, stopped, ended}
 
--- the status of a run that ended tells whether the device's count rose
+-- the status of a run that ended says whether the device's count rose
 three_rose : (before after status : ℕ) (refused : Bool) → before < last_count
     → status ≡ ending_number (ltb before after) refused → (status ≡ 3) ↔ Rose before after
 three_rose before after status refused room is = by (ltb before after) refl is
@@ -83,14 +83,14 @@ module _ {K D : Type 0} (sink : Sink K) (device : Disk D) (out : K) (disk : D) w
 module _ {K D : Type 0} (sink : Sink K) (device : Disk D) (text : List ℕ) (out out' : K)
     (disk disk' : D) where
   -- the store that was opened, and what its steps left
-  pub record Serves (found : Found) (history : History) (c0 : ℕ) (s : DbValue D)
+  pub record Serves (found : AtOpening) (history : History) (c0 : ℕ) (s : DbValue D)
       (result : Result Bool Stop) : Type 0 where
     pub opened : OpenedAt device found history disk c0 s
     pub a_store : device.tells → IsNoStore (device.seen disk) → ⊥
     pub ran : HasRunSteps device found history text (sink.taken out)
         (sink.taken out') s disk' result
 
-  pub serve_stopped : (found : Found) (history : History) (c0 : ℕ) (s : DbValue D)
+  pub serve_stopped : (found : AtOpening) (history : History) (c0 : ℕ) (s : DbValue D)
       (result : Result Bool Stop) (stop : Stop) (status : ℕ) → Serves found history c0 s result
       → result ≡ Err stop → IfErr result (λ e. (e ≡ SinkFault) ⊎ (e ≡ OutOfMemory))
       → (IsErrOf result SinkFault → Rose (sink.fault_count out) (sink.fault_count out'))
@@ -103,10 +103,10 @@ module _ {K D : Type 0} (sink : Sink K) (device : Disk D) (text : List ℕ) (out
       let n : (status ≡ 5) ⊎ (status ≡ 7) = st.number in
       let r : HasRunSteps device found history text (sink.taken out)
       (sink.taken out') s disk' result = h.ran in
-      let part : Ran text (sink.taken out) (sink.taken out') r.rows false =
-      subst (λ (z : Result Bool Stop). Ran text (sink.taken out) (sink.taken out') r.rows
+      let part : Ran text (sink.taken out) (sink.taken out') r.exchanges false =
+      subst (λ (z : Result Bool Stop). Ran text (sink.taken out) (sink.taken out') r.exchanges
       (is_ok z)) is r.ran in
-      let over : RanOn device history disk disk' r.commits r.rows × (device.tells
+      let over : RanOn device history disk disk' r.commits r.exchanges × (device.tells
       → HasSamePages device disk disk') = r.over disk c0 h.opened in
       record {
         range = (omega (arith, n), λ x. omega (arith, n, x), λ x. omega (arith, n, x));
@@ -124,17 +124,17 @@ module _ {K D : Type 0} (sink : Sink K) (device : Disk D) (text : List ℕ) (out
         headline =
             inr (record {
               a_store = h.a_store;
-              rows = r.rows;
+              exchanges = r.exchanges;
               first = history;
               commits = r.commits;
               answered =
-                  answered_stop text (sink.taken out) (sink.taken out') r.rows status part n;
+                  answered_stop text (sink.taken out) (sink.taken out') r.exchanges status part n;
               ran =
                   over.0;
             });
       }
 
-  pub serve_ended : (found : Found) (history : History) (c0 : ℕ) (s : DbValue D)
+  pub serve_ended : (found : AtOpening) (history : History) (c0 : ℕ) (s : DbValue D)
       (result : Result Bool Stop) (refused : Bool) (status : ℕ) → Serves found history c0 s result
       → result ≡ Ok refused
       → (before after : ℕ) → before ≡ device.fault_count disk → after ≡ device.fault_count disk'
@@ -149,13 +149,13 @@ module _ {K D : Type 0} (sink : Sink K) (device : Disk D) (text : List ℕ) (out
       let n : (status ≡ 0) ⊎ (status ≡ 1) ⊎ (status ≡ 3) = ended failed refused status number in
       let r : HasRunSteps device found history text (sink.taken out)
       (sink.taken out') s disk' result = h.ran in
-      let whole : Ran text (sink.taken out) (sink.taken out') r.rows true =
-      subst (λ (z : Result Bool Stop). Ran text (sink.taken out) (sink.taken out') r.rows
+      let whole : Ran text (sink.taken out) (sink.taken out') r.exchanges true =
+      subst (λ (z : Result Bool Stop). Ran text (sink.taken out) (sink.taken out') r.exchanges
       (is_ok z)) is r.ran in
-      let flag : refused ≡ some_refused r.rows =
-      subst (λ (z : Result Bool Stop). IfOk z (λ refused. refused ≡ some_refused r.rows)) is
+      let flag : refused ≡ some_refused r.exchanges =
+      subst (λ (z : Result Bool Stop). IfOk z (λ refused. refused ≡ some_refused r.exchanges)) is
       r.flag in
-      let over : RanOn device history disk disk' r.commits r.rows × (device.tells
+      let over : RanOn device history disk disk' r.commits r.exchanges × (device.tells
       → HasSamePages device disk disk') = r.over disk c0 h.opened in
       record {
         range = (omega (arith, n), λ x. omega (arith, n, x), λ x. omega (arith, n, x));
@@ -173,12 +173,12 @@ module _ {K D : Type 0} (sink : Sink K) (device : Disk D) (text : List ℕ) (out
         headline =
             inr (record {
               a_store = h.a_store;
-              rows = r.rows;
+              exchanges = r.exchanges;
               first = history;
               commits = r.commits;
               answered =
                   answered_end text (sink.taken out)
-                  (sink.taken out') r.rows status failed refused whole flag number;
+                  (sink.taken out') r.exchanges status failed refused whole flag number;
               ran = over.0;
             });
       }

@@ -71,7 +71,7 @@ puts_at_stop a b text x y h = record { sent = h.sent; unsent = h.unsent; all = h
 pub puts_drop : (a b c : Option (List ℕ)) (text rest : List ℕ) (n : ℕ) → Sends a b text rest true → Appends b c (take n rest) → Sends a c text (drop n rest) true
 puts_drop a b c text rest n h k = puts_more a b c text rest (take n rest) (drop n rest) true h k (sym (take-append-drop n rest))
 
--- a text more behind what waits
+-- a text more after what waits
 pub puts_behind : (a b c : Option (List ℕ)) (text rest t w : List ℕ) (well : Bool) → Sends a b text rest true → Sends b c (rest ++ t) w well → Sends a c (text ++ t) w well
 puts_behind a b c text rest t w well h k = record {
   sent = h.sent ++ k.sent;
@@ -94,7 +94,7 @@ puts_short a b text more waiting rest well h = record {
   waits = λ e. cc;
 }
 
--- where a text more was put behind what waits, at most these two are not taken
+-- where a text more was put after what waits, at most these two are not taken
 pub puts_few : (n : ℕ) (a b c : Option (List ℕ)) (text rest t w : List ℕ) (well : Bool)
     → Sends a b text rest true → Sends b c (rest ++ t) w well → length rest + length t < n
     → SendsBut n a c (text ++ t) w well

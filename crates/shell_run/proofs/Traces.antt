@@ -12,18 +12,18 @@ use Rattle.disk_trait.specs.declared.stream.Sink.{Ghosts as Sink}
 use Rattle.disk_trait.specs.Files.{Files}
 use Rattle.ts_config.specs.Known.{Known, NamedRules, HasDictionary}
 use Rattle.shell_script.specs.Lines.{Line}
-use Rattle.shell_script.specs.Heads.{Kind, dictionary_head}
+use Rattle.shell_script.specs.OpeningLines.{Kind, dictionary_opening}
 use Rattle.shell_script.specs.Grammar.{Expr, insert, define}
 use Rattle.engine.specs.Finding.{Name}
 use Rattle.shell_run.specs.Defining.{Becomes}
-use Rattle.shell_run.specs.Run.{Row, Note, Counts, Run, Before, IsAnswered, stored, done, refused, device, HasFailed, FindsDown, IsOkOfStore}
+use Rattle.shell_run.specs.Run.{Exchange, Note, Counts, Run, Before, IsAnswered, stored, done, refused, device, HasFailed, FindsDown, IsOkOfStore}
 use Rattle.engine.specs.Finding.{History}
-use Rattle.shell_run.specs.Script.{printed_row, printed_rows}
+use Rattle.shell_run.specs.Script.{printed_exchange, printed_exchanges}
 use Rattle.shell_run.specs.declared.sending.TheConstants.{PIECE_BYTES}
 use Rattle.shell_run.specs.Traces.{NoNameIsTakenTwice, NoneIsStoredAfterFailure, NoneIsCommittedAfterFailure, NoClockFalls, NoCommitIsEarly, NoCommitIsLate, EachFailureIsNoted, OneCountIsTold, NothingIsPrintedWith4, NoneRunsAfterTheSinkFailed, NoHalfScriptIsRun, NoLogIsWiped, NoStrayFileIsWritten, NoStoreIsWrittenUnrun, NoPageIsWritten}
 
 -- a write failed in an insertion that is answered so
-has_failed : (counts : Counts) (first commits : History) (a b : Row) (e : Expr)
+has_failed : (counts : Counts) (first commits : History) (a b : Exchange) (e : Expr)
     → a.statement ≡ insert e → a.reply ≡ refused device → Run counts first commits (a ∷ b ∷ [])
     → 0 < a.note.writes
 has_failed counts first commits a b e statement reply run =
@@ -53,10 +53,10 @@ no_clock_falls disk history commits first new a b before fell ran =
 
 pub no_commit_is_early : NoCommitIsEarly
 no_commit_is_early files m p first commits a b before early own r below =
-    let all : IfSome b.note.commit (λ p. p < length r.kept → All (λ (x : Row). Before x b
+    let all : IfSome b.note.commit (λ p. p < length r.kept → All (λ (x : Exchange). Before x b
     → x.note.clock ≤ m) (a ∷ b ∷ [])) = r.answered 1 b (omega arith) in
     let by : a.note.clock ≤ m = subst (λ o. IfSome o (λ p. p < length r.kept
-    → All (λ (x : Row). Before x b → x.note.clock ≤ m) (a ∷ b ∷ []))) own all below 0 a (omega arith) before in
+    → All (λ (x : Exchange). Before x b → x.note.clock ≤ m) (a ∷ b ∷ []))) own all below 0 a (omega arith) before in
     omega (arith, by, early)
 
 pub no_commit_is_late : NoCommitIsLate
@@ -68,13 +68,13 @@ no_commit_is_late files m p n first commits a reply own by r short =
 
 pub each_failure_is_noted : EachFailureIsNoted
 each_failure_is_noted counts first commits a b e f rose run =
-    omega (arith, run.writes, sum_by-cons (λ (r : Row). r.note.writes) a (b ∷ []), sum_by-cons (λ (r : Row). r.note.writes) b [])
+    omega (arith, run.writes, sum_by-cons (λ (r : Exchange). r.note.writes) a (b ∷ []), sum_by-cons (λ (r : Exchange). r.note.writes) b [])
 
 pub one_count_is_told : OneCountIsTold
 one_count_is_told counts first commits a b m n told told' other run = other (run.one_count 0 a (omega arith) 1 b (omega arith) m n told told')
 
 pub nothing_is_printed_with_4 : NothingIsPrintedWith4
-nothing_is_printed_with_4 text before after rows h = elim h.statuses [
+nothing_is_printed_with_4 text before after exchanges h = elim h.statuses [
   | inl e ↦ omega arith
   | inr (inl e) ↦ omega arith
   | inr (inr (inl e)) ↦ omega arith
@@ -82,27 +82,27 @@ nothing_is_printed_with_4 text before after rows h = elim h.statuses [
   | inr (inr (inr (inr e))) ↦ omega arith
 ]
 
--- what is defined behind a dictionary that is done has its name
-name_taken : (known next : Known) (name : List ℕ) (k : Kind) (ls : List Line) → Becomes known (define (dictionary_head name k) ls) done next → HasDictionary next name
+-- what is defined after a dictionary that is done has its name
+name_taken : (known next : Known) (name : List ℕ) (k : Kind) (ls : List Line) → Becomes known (define (dictionary_opening name k) ls) done next → HasDictionary next name
 name_taken known next name k ls h =
     subst (λ n. HasDictionary n name) (sym h.2) (Any-push (λ (d : NamedRules). d.name ≡ name) known.dictionaries (record { name = name; rules = h.0 }) refl)
 
-name_free : (counts : Counts) (commits : History) (known : Known) (line : ℕ) (name : List ℕ) (k : Kind) (ls : List Line) (note : Note) → IsAnswered counts commits known line (define (dictionary_head name k) ls) done note → ¬ HasDictionary known name
+name_free : (counts : Counts) (commits : History) (known : Known) (line : ℕ) (name : List ℕ) (k : Kind) (ls : List Line) (note : Note) → IsAnswered counts commits known line (define (dictionary_opening name k) ls) done note → ¬ HasDictionary known name
 name_free counts commits known line name k ls note h = h.0.1
 
 first_is : {X : Type 0} (x y : X) (xs ys : List X) → x ∷ xs ≡ y ∷ ys → (x ≡ y) × (xs ≡ ys)
 first_is x y xs ys e = (cc, cc)
 
 pub no_name_is_taken_twice : NoNameIsTakenTwice
-no_name_is_taken_twice counts first commits known last s t a b name j k ls ms asked replied asked' replied' rows run =
-    let head : (a ≡ rows.0) × (b ∷ [] ≡ rows.1) = first_is a rows.0 (b ∷ []) rows.1 rows.3 in
-    let becomes : Becomes known a.statement a.reply rows.2 = subst (λ (r : Row). Becomes known r.statement r.reply rows.2) (sym head.0) rows.5 in
-    let taken : HasDictionary rows.2 name = name_taken known rows.2 name j ls (subst (λ r. Becomes known (define (dictionary_head name j) ls) r rows.2) replied (subst (λ q. Becomes known q a.reply rows.2) asked becomes)) in
-    let next = rows.6 in
+no_name_is_taken_twice counts first commits known last s t a b name j k ls ms asked replied asked' replied' exchanges run =
+    let head : (a ≡ exchanges.0) × (b ∷ [] ≡ exchanges.1) = first_is a exchanges.0 (b ∷ []) exchanges.1 exchanges.3 in
+    let becomes : Becomes known a.statement a.reply exchanges.2 = subst (λ (r : Exchange). Becomes known r.statement r.reply exchanges.2) (sym head.0) exchanges.5 in
+    let taken : HasDictionary exchanges.2 name = name_taken known exchanges.2 name j ls (subst (λ r. Becomes known (define (dictionary_opening name j) ls) r exchanges.2) replied (subst (λ q. Becomes known q a.reply exchanges.2) asked becomes)) in
+    let next = exchanges.6 in
     let tail : (b ≡ next.0) × ([] ≡ next.1) = first_is b next.0 [] next.1 (head.1 ∙ next.3) in
-    let before : b.known ≡ rows.2 = subst (λ (r : Row). r.known ≡ rows.2) (sym tail.0) next.4.before in
+    let before : b.known ≡ exchanges.2 = subst (λ (r : Exchange). r.known ≡ exchanges.2) (sym tail.0) next.4.before in
     let answered : IsAnswered counts commits b.known b.line b.statement b.reply b.note = run.answers 1 b (omega arith) in
-    let free : ¬ HasDictionary b.known name = name_free counts commits b.known b.line name k ms b.note (subst (λ r. IsAnswered counts commits b.known b.line (define (dictionary_head name k) ms) r b.note) replied' (subst (λ q. IsAnswered counts commits b.known b.line q b.reply b.note) asked' answered)) in
+    let free : ¬ HasDictionary b.known name = name_free counts commits b.known b.line name k ms b.note (subst (λ r. IsAnswered counts commits b.known b.line (define (dictionary_opening name k) ms) r b.note) replied' (subst (λ q. IsAnswered counts commits b.known b.line q b.reply b.note) asked' answered)) in
     free (subst (λ n. HasDictionary n name) (sym before) taken)
 
 -- a sink that took nothing did not take more
@@ -118,14 +118,14 @@ none_runs_after_the_sink_failed text before status a b long h =
     let so_far = h.so_far in
     let none : length so_far.sent ≡ 0 =
     omega (arith, ap length so_far.took, length-append before so_far.sent) in
-    let all : length (printed_rows (a ∷ b ∷ [])) ≡ length (printed_row a) + length (printed_row b) =
+    let all : length (printed_exchanges (a ∷ b ∷ [])) ≡ length (printed_exchange a) + length (printed_exchange b) =
     omega (
       arith,
-      length-flat_map printed_row (a ∷ b ∷ []),
-      sum_by-cons (λ (r : Row). length (printed_row r)) a (b ∷ []),
-      sum_by-cons (λ (r : Row). length (printed_row r)) b [],
+      length-flat_map printed_exchange (a ∷ b ∷ []),
+      sum_by-cons (λ (r : Exchange). length (printed_exchange r)) a (b ∷ []),
+      sum_by-cons (λ (r : Exchange). length (printed_exchange r)) b [],
     ) in
-    let few : length so_far.unsent < PIECE_BYTES + length (printed_row b) = so_far.few in
+    let few : length so_far.unsent < PIECE_BYTES + length (printed_exchange b) = so_far.few in
     omega (
       arith,
       none,

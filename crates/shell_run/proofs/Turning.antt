@@ -3,14 +3,14 @@ use Rattle.std.proofs.Common.{◌≡◌, ℕ, List, refl, sym, subst}
 use Rattle.disk_trait.specs.declared.device.Disk.{Ghosts as Disk}
 use Rattle.ts_config.specs.Known.{Known}
 use Rattle.shell_script.specs.Lines.{Line}
-use Rattle.shell_script.specs.Heads.{Head, IsHead}
-use Rattle.shell_script.specs.Grammar.{define, nothing, IsStatement}
+use Rattle.shell_script.specs.OpeningLines.{OpeningLine, IsOpeningLine}
+use Rattle.shell_script.specs.Grammar.{define, invalid, IsStatement}
 use Rattle.shell_script.specs.Steps.{Step, single, definition}
 use Rattle.shell_script.specs.Says.{counted_lines, Says, line_of}
 use Rattle.shell_script.specs.Replies.{Reply, refused, no_statement}
 use Rattle.shell_script.specs.StatementView.{statement}
 use Rattle.shell_script.specs.declared.statement.Statement.{Statement}
-use Rattle.shell_script.specs.declared.statement.Statement.TheVariants.{Insert, Search, Show, Query, Parse, Nothing}
+use Rattle.shell_script.specs.declared.statement.Statement.TheVariants.{Insert, Search, Show, Ask, Parse, Invalid}
 use Rattle.shell_run.specs.Defining.{IsDefined, Becomes}
 use Rattle.engine.specs.Standing.{Rests}
 use Rattle.engine.proofs.Standing.{rests}
@@ -23,9 +23,9 @@ defines_none : (known : Known) (asked : Statement) (r : Reply) → Becomes known
 defines_none known (Insert e) r = refl
 defines_none known (Search t) r = refl
 defines_none known (Show e) r = refl
-defines_none known (Query t) r = refl
+defines_none known (Ask t) r = refl
 defines_none known (Parse t) r = refl
-defines_none known Nothing r = refl
+defines_none known Invalid r = refl
 
 module _ {D : Type 0} (device : Disk D) where
   pub turned_line : (l : Line) (old new : RunState D) (session : ℕ) (asked : Statement) (r : Reply) → IsStatement l.bytes session (statement asked) → HasAnswered device old.configs l.number old.store new.store (statement asked) r → new.configs ≡ old.configs
@@ -37,10 +37,10 @@ module _ {D : Type 0} (device : Disk D) where
     becomes = subst (Becomes old.configs (statement asked) r) (sym same) (defines_none old.configs asked r);
   }
 
-  pub turned_nothing : (s : Step) (run_state : RunState D) → Says s 0 nothing → HasTurned device s run_state run_state 0 (refused (no_statement (line_of s).number))
-  turned_nothing s run_state says = record { statement = nothing; says = says; answered = (rests device run_state.store, refl); becomes = refl }
+  pub turned_nothing : (s : Step) (run_state : RunState D) → Says s 0 invalid → HasTurned device s run_state run_state 0 (refused (no_statement (line_of s).number))
+  turned_nothing s run_state says = record { statement = invalid; says = says; answered = (rests device run_state.store, refl); becomes = refl }
 
-  pub turned_definition : (l : Line) (body : List Line) (old new : RunState D) (head : Head) (r : Reply) → IsHead l.bytes head → new.store ≡ old.store → IsDefined old.configs l.number head (counted_lines body) r → Becomes old.configs (define head (counted_lines body)) r new.configs
+  pub turned_definition : (l : Line) (body : List Line) (old new : RunState D) (head : OpeningLine) (r : Reply) → IsOpeningLine l.bytes head → new.store ≡ old.store → IsDefined old.configs l.number head (counted_lines body) r → Becomes old.configs (define head (counted_lines body)) r new.configs
       → HasTurned device (definition l body) old new 0 r
   turned_definition l body old new head r is same answered becomes = record {
     statement = define head (counted_lines body);

@@ -1,4 +1,4 @@
--- What a definition is answered, and what is defined behind a statement.
+-- What a definition is answered, and what is defined after a statement.
 use Rattle.std.specs.Prelude.{◌≡◌, ◌≢◌, ◌⊎◌, ℕ, List, [], ◌∷◌, map, Option, Some, None}
 use Rattle.std.specs.List.{All, Any}
 use Rattle.std.specs.Str.{IsUtf8}
@@ -14,7 +14,7 @@ use Rattle.ts_config.specs.Rules.{Rules, simple_rules, synonym_rules, porter_rul
 use Rattle.ts_config.specs.Mappings.{Mapping, empty_mapping, mapped}
 use Rattle.ts_config.specs.Known.{Known, HasDictionary, HasConfiguration, ArePlaces, sub_named, with_dictionary, with_configuration}
 use Rattle.shell_script.specs.Lines.{Line}
-use Rattle.shell_script.specs.Heads.{Kind, simple_kind, porter_kind, synonym_kind, thesaurus_kind, Head, dictionary_head, configuration_head, IsMapping}
+use Rattle.shell_script.specs.OpeningLines.{Kind, simple_kind, porter_kind, synonym_kind, thesaurus_kind, OpeningLine, dictionary_opening, configuration_opening, IsMapping}
 use Rattle.shell_script.specs.Grammar.{Statement, define}
 use Rattle.shell_script.specs.Replies.{Refusal, no_statement, no_dictionary, memory}
 use Rattle.shell_script.specs.Replies.{Reply, done, refused}
@@ -98,36 +98,36 @@ LinesFail known old (l ∷ ls) why =
 -- What a definition in the grammar is answered, whose first line has this number: it is done, or the
 -- first cause against it counts. The dictionary under it isn't there; its name is there already; then
 -- its lines, in turn. Memory may always run out.
-abbrev pub IsDefined : Known → ℕ → Head → List Line → Reply → Type 0
-IsDefined known number (dictionary_head name kind) ls done =
+abbrev pub IsDefined : Known → ℕ → OpeningLine → List Line → Reply → Type 0
+IsDefined known number (dictionary_opening name kind) ls done =
     (¬ LacksOne known kind) × (¬ HasDictionary known name)
     × All (λ (l : Line). ¬ IsBadFor known kind l) ls
-IsDefined known number (dictionary_head name kind) ls (refused no_dictionary) = LacksOne known kind
-IsDefined known number (dictionary_head name kind) ls (refused (no_statement at)) =
+IsDefined known number (dictionary_opening name kind) ls (refused no_dictionary) = LacksOne known kind
+IsDefined known number (dictionary_opening name kind) ls (refused (no_statement at)) =
     (¬ LacksOne known kind)
     × ((HasDictionary known name × (at ≡ number))
     ⊎ ((¬ HasDictionary known name) × FirstIs (λ (l : Line). IsBadFor known kind l) ls at))
-IsDefined known number (configuration_head name) ls done =
+IsDefined known number (configuration_opening name) ls done =
     (¬ HasConfiguration known name) × ((mapping : Mapping) × Maps known empty_mapping ls mapping)
-IsDefined known number (configuration_head name) ls (refused (no_statement at)) =
+IsDefined known number (configuration_opening name) ls (refused (no_statement at)) =
     (HasConfiguration known name × (at ≡ number))
     ⊎ ((¬ HasConfiguration known name) × LinesFail known empty_mapping ls (no_statement at))
-IsDefined known number (configuration_head name) ls (refused no_dictionary) =
+IsDefined known number (configuration_opening name) ls (refused no_dictionary) =
     (¬ HasConfiguration known name) × LinesFail known empty_mapping ls no_dictionary
 IsDefined known number head ls (refused memory) = Unit {0}
 IsDefined known number head ls reply = ⊥
 
--- what is defined behind a statement: one thing more where it is a definition that is done, and
+-- what is defined after a statement: one thing more where it is a definition that is done, and
 -- else the same
 abbrev pub Becomes : Known → Statement → Reply → Known → Type 0
-Becomes known (define (dictionary_head name kind) ls) done next =
+Becomes known (define (dictionary_opening name kind) ls) done next =
     (rules : Rules) × IsDictionaryOf known kind ls rules × (next ≡ with_dictionary known name rules)
-Becomes known (define (configuration_head name) ls) done next =
+Becomes known (define (configuration_opening name) ls) done next =
     (mapping : Mapping) × Maps known empty_mapping ls mapping
     × (next ≡ with_configuration known name mapping)
 Becomes known statement reply next = next ≡ known
 
 -- want of memory aside, a definition has one answer
-abbrev pub HasOneAnswer : Known → ℕ → Head → List Line → Type 0
+abbrev pub HasOneAnswer : Known → ℕ → OpeningLine → List Line → Type 0
 HasOneAnswer known number head ls = (a b : Reply) → a ≢ refused memory → b ≢ refused memory
     → IsDefined known number head ls a → IsDefined known number head ls b → a ≡ b

@@ -14,7 +14,7 @@ pub mod Inner
 pub use Rattle.disk_trait.specs.Files
 pub use Rattle.disk_trait.specs.Device
 pub use Rattle.engine.specs.Finding
-pub use Rattle.engine.specs.Found
+pub use Rattle.engine.specs.AtOpening
 pub use Rattle.engine.specs.Opening
 pub use Rattle.engine.specs.Opened
 pub use Rattle.engine.specs.Standing

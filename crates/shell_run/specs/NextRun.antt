@@ -5,7 +5,7 @@ use Rattle.disk_trait.specs.Files.{Files}
 use Rattle.disk_trait.specs.declared.device.Disk.{Ghosts as Disk}
 use Rattle.engine.specs.Opening.{IsNoStore}
 use Rattle.engine.specs.Finding.{History, Begins}
-use Rattle.shell_run.specs.Run.{Row, Counts, IsOkOfStore}
+use Rattle.shell_run.specs.Run.{Exchange, Counts, IsOkOfStore}
 use Rattle.shell_run.specs.Crash.{OpensTo, StartedFrom, OpensAsBefore, IsKnownBy, Means}
 
 -- files, of bytes, that open to a history are not refused as no store
@@ -36,20 +36,20 @@ module _ {E : Type 0} (next : Disk E) where
     pub as_before : StartedFrom next r.entry → OpensAsBefore next r.entry r.last
     pub within : (next.clock r.entry ≤ r.moment) × (r.moment ≤ next.clock r.last)
 
-  -- these files are left behind openings that were refused, one after another
+  -- these files are left after openings that were refused, one after another
   abbrev pub IsLeft : (Files → Type 0) → List (Refused E) → Files → Type 0
   IsLeft left [] c = left c
   IsLeft left (r ∷ rs) c = IsRefusedOver left r × IsLeft (next.image r.last r.moment) rs c
 
--- A run went from the device `old` to `new`, and at the moment m of it a stop left files. Behind any
+-- A run went from the device `old` to `new`, and at the moment m of it a stop left files. After any
 -- number of openings that were refused another device, `entry`, has what is left.
 module _ {D E : Type 0} (device : Disk D) (next : Disk E) where
   -- the next run may start from it, where a crash of it leaves no other files than that stop did
   abbrev pub NextMayStart : Type 0
   NextMayStart =
-      (counts : Counts) (old new : D) (first commits : History) (rows : List Row) (m : ℕ)
+      (counts : Counts) (old new : D) (first commits : History) (exchanges : List Exchange) (m : ℕ)
       (between : List (Refused E)) (entry : E)
-      → StartedFrom device old → Means device counts old new first commits rows
+      → StartedFrom device old → Means device counts old new first commits exchanges
       → device.clock old ≤ m → m ≤ device.clock new
       → IsLeft next (device.image new m) between (next.seen entry)
       → ((c : Files) → next.image entry (next.clock entry) c
@@ -61,12 +61,12 @@ module _ {D E : Type 0} (device : Disk D) (next : Disk E) where
   -- `first`, but where the stop left what it could leave before the run.
   abbrev pub NextHasAll : Type 0
   NextHasAll =
-      (counts counts' : Counts) (old new : D) (first commits : History) (rows : List Row) (m : ℕ)
-      (between : List (Refused E)) (entry end : E) (found commits' : History) (rows' : List Row)
-      → Means device counts old new first commits rows
-      → Means next counts' entry end found commits' rows'
+      (counts counts' : Counts) (old new : D) (first commits : History) (exchanges : List Exchange) (m : ℕ)
+      (between : List (Refused E)) (entry end : E) (found commits' : History) (exchanges' : List Exchange)
+      → Means device counts old new first commits exchanges
+      → Means next counts' entry end found commits' exchanges'
       → device.clock old ≤ m → m ≤ device.clock new
       → IsLeft next (device.image new m) between (next.seen entry)
-      → All (λ (r : Row). IsOkOfStore r.reply → IsKnownBy m (length found) r) rows
+      → All (λ (r : Exchange). IsOkOfStore r.reply → IsKnownBy m (length found) r) exchanges
       × ((Begins first found × Begins found commits)
       ⊎ IsLeft next (device.image old (device.clock old)) between (next.seen entry))

@@ -7,50 +7,50 @@ use Rattle.ts_config.specs.Known.{Known, first_known}
 use Rattle.shell_script.specs.Lines.{script_lines}
 use Rattle.shell_script.specs.Steps.{Step, AreSteps}
 use Rattle.shell_script.specs.Replies.{Reply, refused}
-use Rattle.shell_run.specs.Run.{Row}
-use Rattle.shell_run.specs.Script.{AreRows, printed_row, printed_rows}
+use Rattle.shell_run.specs.Run.{Exchange}
+use Rattle.shell_run.specs.Script.{AreExchanges, printed_exchange, printed_exchanges}
 use Rattle.shell_run.specs.declared.sending.TheConstants.{PIECE_BYTES}
 
 abbrev pub is_refusal : Reply → Bool
 is_refusal (refused why) = true
 is_refusal reply = false
 
-abbrev pub some_refused : List Row → Bool
-some_refused rows = list_any (λ (r : Row). is_refusal r.reply) rows
+abbrev pub some_refused : List Exchange → Bool
+some_refused exchanges = list_any (λ (r : Exchange). is_refusal r.reply) exchanges
 
--- the text of the last row
-abbrev pub last_text : List Row → List ℕ
+-- the text of the last exchange
+abbrev pub last_text : List Exchange → List ℕ
 last_text [] = []
-last_text (row ∷ []) = printed_row row
-last_text (row ∷ next ∷ rows) = last_text (next ∷ rows)
+last_text (exchange ∷ []) = printed_exchange exchange
+last_text (exchange ∷ next ∷ exchanges) = last_text (next ∷ exchanges)
 
--- The rows are those of a script's first steps, and the sink took a beginning of their text. What
--- it did not take is at most the last row's text and what waited before it, which is no whole piece.
+-- The exchanges are those of a script's first steps, and the sink took a beginning of their text. What
+-- it did not take is at most the last exchange's text and what waited before it, which is no whole piece.
 pub record HasPrinted (text : List ℕ) (before after : Option (List ℕ))
-    (rows : List Row) : Type 0 where
+    (exchanges : List Exchange) : Type 0 where
   pub done : List Step
   pub left : List Step
   pub script : AreSteps false (script_lines text) (done ++ left)
-  -- what is defined behind them
+  -- what is defined after them
   pub known : Known
-  pub each : AreRows first_known done rows known
+  pub each : AreExchanges first_known done exchanges known
   pub sent : List ℕ
   pub unsent : List ℕ
-  pub printed : sent ++ unsent ≡ printed_rows rows
+  pub printed : sent ++ unsent ≡ printed_exchanges exchanges
   pub took : Appends before after sent
-  pub few : length unsent < PIECE_BYTES + length (last_text rows)
+  pub few : length unsent < PIECE_BYTES + length (last_text exchanges)
 
 -- nothing was run, and nothing was written
 pub record NotRun (status : ℕ) (before after : Option (List ℕ)) : Type 0 where
   pub sink : Appends before after []
   pub statuses : (status ≢ 0) × (status ≢ 1) × (status ≢ 7)
 
--- The rows are those of the script, and the sink took their text. With status 5 or 7 they are those
+-- The exchanges are those of the script, and the sink took their text. With status 5 or 7 they are those
 -- of its first steps, and the sink took a beginning of their text.
 pub record Answered (text : List ℕ) (status : ℕ) (before after : Option (List ℕ))
-    (rows : List Row) : Type 0 where
-  pub so_far : HasPrinted text before after rows
+    (exchanges : List Exchange) : Type 0 where
+  pub so_far : HasPrinted text before after exchanges
   pub statuses : (status ≡ 0) ⊎ (status ≡ 1) ⊎ (status ≡ 3) ⊎ (status ≡ 5) ⊎ (status ≡ 7)
   pub whole : (status ≡ 5) ⊎ (status ≡ 7) ⊎ ((so_far.left ≡ []) × (so_far.unsent ≡ []))
-  pub one : status ≡ 1 → some_refused rows ≡ true
-  pub zero : status ≡ 0 → some_refused rows ≡ false
+  pub one : status ≡ 1 → some_refused exchanges ≡ true
+  pub zero : status ≡ 0 → some_refused exchanges ≡ false

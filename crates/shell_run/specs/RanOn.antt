@@ -2,12 +2,12 @@
 use Rattle.std.specs.Prelude.{◌≡◌, ◌≤◌, List, length}
 use Rattle.disk_trait.specs.declared.device.Disk.{Ghosts as Disk}
 use Rattle.engine.specs.Finding.{History, IsNumbered, ArePlaced}
-use Rattle.engine.specs.Found.{Found, IsFoundIn}
-use Rattle.shell_run.specs.Run.{Row, Counts, Run, AreTimed}
+use Rattle.engine.specs.AtOpening.{AtOpening, IsFoundIn}
+use Rattle.shell_run.specs.Run.{Exchange, Counts, Run, AreTimed}
 use Rattle.shell_run.specs.Crash.{StartedFrom, Means}
 
 -- of a device on entry, just after the opening, and at the end; and what the opening found
-abbrev pub counts_over : {D : Type 0} → Disk D → Found → D → D → D → Counts
+abbrev pub counts_over : {D : Type 0} → Disk D → AtOpening → D → D → D → Counts
 counts_over device found first opened new = record {
   faults = device.fault_count first;
   faults_opened = device.fault_count opened;
@@ -17,20 +17,20 @@ counts_over device found first opened new = record {
   found = found;
 }
 
--- The rows and commits of a run over a store that had a history, from a device on entry to one at
+-- The exchanges and commits of a run over a store that had a history, from a device on entry to one at
 -- its end. Where a run may start from the device, both histories are the device's own.
 pub record RanOn {D : Type 0} (device : Disk D) (history : History) (first new : D)
-    (commits : History) (rows : List Row) : Type 0 where
+    (commits : History) (exchanges : List Exchange) : Type 0 where
   -- the device just after the opening, and what the opening found
   pub opened : D
-  pub found : Found
+  pub found : AtOpening
   pub found_commits : found.commits ≡ length history
   pub found_in : device.tells → IsFoundIn (device.seen first).log found
-  pub run : Run (counts_over device found first opened new) history commits rows
-  -- on every device, also on one that tells nothing
+  pub run : Run (counts_over device found first opened new) history commits exchanges
+  -- on every device, also on one that says nothing
   pub began : device.clock first ≤ device.clock opened
-  pub timed : AreTimed (device.clock opened) (device.clock new) rows
+  pub timed : AreTimed (device.clock opened) (device.clock new) exchanges
   pub placed : ArePlaced commits
   pub numbered : device.tells → StartedFrom device first → IsNumbered commits
   pub means : device.tells → StartedFrom device first
-      → Means device (counts_over device found first opened new) first new history commits rows
+      → Means device (counts_over device found first opened new) first new history commits exchanges

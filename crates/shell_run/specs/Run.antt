@@ -6,24 +6,24 @@ use Rattle.ts_base.specs.Vectors.{Vector}
 use Rattle.ts_query.specs.Queries.{Query}
 use Rattle.ts_match.specs.Meaning.{Holds}
 use Rattle.ts_config.specs.Known.{Known}
-use Rattle.shell_script.specs.Grammar.{Statement, insert, search, show, query, parse, define, nothing}
+use Rattle.shell_script.specs.Grammar.{Statement, insert, search, show, ask, parse, define, invalid}
 use Rattle.engine.specs.Finding.{Document, Commit, History, Name, docs, IsFound, Begins, IsLawful}
 use Rattle.engine.specs.Answers.{commit_of}
-use Rattle.engine.specs.Found.{IsFull}
-use Rattle.engine.specs.Found.{Found, IsLogFull, AreXidsSpent}
+use Rattle.engine.specs.AtOpening.{IsFull}
+use Rattle.engine.specs.AtOpening.{AtOpening, IsLogFull, AreXidsSpent}
 use Rattle.shell_run.specs.Defining.{IsDefined}
 pub use Rattle.shell_script.specs.Replies.{Refusal, no_statement, no_configuration, no_dictionary, store_full, log_full, transactions_spent, down, device, memory, text_refused}
 pub use Rattle.shell_script.specs.Replies.{Reply, stored, lists, shows_vector, shows_query, shows_tokens, done, refused}
 use Rattle.shell_run.specs.Values.{IsValueOf, ExprFails, IsQueryOf, QueryFails, IsRefusedBy, IsShown, IsQueried, IsParsed}
 
--- Where a statement stands: the step of the script, where a block is one step; the session; and
+-- Where a statement is: the step of the script, where a block is one step; the session; and
 -- its place there.
 pub record Place : Type 0 where
   pub step : ℕ
   pub session : ℕ
   pub turn : ℕ
 
--- The notes of a statement: how many commits it saw, and how many stand before its own, if it has
+-- The notes of a statement: how many commits it saw, and how many are before its own, if it has
 -- one; by how much the device's count of faults and its count of failed writes and syncs rose in
 -- it; the count of faults and the clock of the device after its last call for the statement, which
 -- of one that is stored is a moment at which its commit is flushed.
@@ -35,9 +35,9 @@ pub record Note : Type 0 where
   pub count : ℕ
   pub clock : ℕ
 
--- A statement with its reply. Its line, which its refusal may tell, is one of its step's. `known` is
+-- A statement with its reply. Its line, which its refusal may say, is one of its step's. `known` is
 -- what is defined before it.
-pub record Row : Type 0 where
+pub record Exchange : Type 0 where
   pub place : Place
   pub line : ℕ
   pub known : Known
@@ -53,10 +53,10 @@ pub record Counts : Type 0 where
   pub faults_after : ℕ
   pub writes : ℕ
   pub writes_after : ℕ
-  pub found : Found
+  pub found : AtOpening
 
 -- one ended before the other began
-abbrev pub Before : Row → Row → Type 0
+abbrev pub Before : Exchange → Exchange → Type 0
 Before a b =
     (a.place.step < b.place.step)
     ⊎ ((a.place.step ≡ b.place.step)
@@ -81,7 +81,7 @@ seen_by commits note = docs (take note.snapshot commits)
 abbrev pub last_count : ℕ
 last_count = 2 ^ 64 - 1
 
--- the device's count rose in the statement, or stands at its last value
+-- the device's count rose in the statement, or is at its last value
 abbrev pub MetFault : Counts → Note → Type 0
 MetFault counts note = (0 < note.faults) ⊎ (last_count ≤ counts.faults_after)
 
@@ -139,13 +139,13 @@ IsAnswered counts commits known line (search s) reply note =
     ⊎ ((q : Query) × IsQueryOf known s q × IsSearched counts commits q reply note)
 IsAnswered counts commits known line (show e) reply note =
     IsShown known e reply × (note.commit ≡ None)
-IsAnswered counts commits known line (query s) reply note =
+IsAnswered counts commits known line (ask s) reply note =
     IsQueried known s reply × (note.commit ≡ None)
 IsAnswered counts commits known line (parse text) reply note =
     IsParsed text reply × (note.commit ≡ None)
 IsAnswered counts commits known line (define head ls) reply note =
     IsDefined known line head ls reply × (note.commit ≡ None)
-IsAnswered counts commits known line nothing reply note = IsLineRefused line reply note
+IsAnswered counts commits known line invalid reply note = IsLineRefused line reply note
 
 -- an answer Ok of the store
 abbrev pub IsOkOfStore : Reply → Type 0
@@ -178,11 +178,11 @@ abbrev pub is_at : ℕ → Option ℕ → Bool
 is_at k None = false
 is_at k (Some p) = p == k
 
-abbrev pub has_commit : ℕ → Row → Bool
-has_commit k row = is_at k row.note.commit
+abbrev pub has_commit : ℕ → Exchange → Bool
+has_commit k exchange = is_at k exchange.note.commit
 
 -- what is known where the one ended before the other began
-pub record IsSeenBy (a b : Row) : Type 0 where
+pub record IsSeenBy (a b : Exchange) : Type 0 where
   -- what the one saw, and what it committed where it answered Ok, the other has seen
   pub snapshot : a.note.snapshot ≤ b.note.snapshot
   pub commit : IsOkOfStore a.reply → IfSome a.note.commit (λ p. p < b.note.snapshot)
@@ -191,41 +191,41 @@ pub record IsSeenBy (a b : Row) : Type 0 where
   pub no_commit : 0 < a.note.writes → b.note.commit ≡ None
   pub count : a.note.count + b.note.faults ≤ b.note.count
 
--- The clocks of the rows, on a device that tells its contents: they are not before the end of the
+-- The clocks of the exchanges, on a device that says its contents: they are not before the end of the
 -- opening nor after the end of the run, and never fall from a statement to one after it.
-pub record AreTimed (opened last : ℕ) (rows : List Row) : Type 0 where
+pub record AreTimed (opened last : ℕ) (exchanges : List Exchange) : Type 0 where
   pub later : opened ≤ last
-  pub within : All (λ (r : Row). (opened ≤ r.note.clock) × (r.note.clock ≤ last)) rows
-  pub order : All (λ (a : Row). All (λ (b : Row). Before a b → a.note.clock ≤ b.note.clock) rows) rows
+  pub within : All (λ (r : Exchange). (opened ≤ r.note.clock) × (r.note.clock ≤ last)) exchanges
+  pub order : All (λ (a : Exchange). All (λ (b : Exchange). Before a b → a.note.clock ≤ b.note.clock) exchanges) exchanges
 
 -- A note that is within two lengths of the history, at the start and at the end of the run.
--- A statement's own commit comes behind what it saw.
+-- A statement's own commit comes after what it saw.
 pub record IsWithin (low high : ℕ) (note : Note) : Type 0 where
   pub low_is : low ≤ note.snapshot
   pub high_is : note.snapshot ≤ high
   pub own : IfSome note.commit (λ p. (note.snapshot ≤ p) × (p < high))
 
 -- from the history `first` to `commits`
-pub record Run (counts : Counts) (first commits : History) (rows : List Row) : Type 0 where
+pub record Run (counts : Counts) (first commits : History) (exchanges : List Exchange) : Type 0 where
   pub lawful : IsLawful commits
   pub begins : Begins first commits
-  pub answers : All (λ (r : Row). IsAnswered counts commits r.known r.line r.statement r.reply r.note) rows
-  pub within : All (λ (r : Row). IsWithin (length first) (length commits) r.note) rows
+  pub answers : All (λ (r : Exchange). IsAnswered counts commits r.known r.line r.statement r.reply r.note) exchanges
+  pub within : All (λ (r : Exchange). IsWithin (length first) (length commits) r.note) exchanges
   -- each commit past the first is the commit of one statement
-  pub own : (k : ℕ) → length first ≤ k → k < length commits → count_by (has_commit k) rows ≡ 1
-  pub order : All (λ (a : Row). All (λ (b : Row). Before a b → IsSeenBy a b) rows) rows
+  pub own : (k : ℕ) → length first ≤ k → k < length commits → count_by (has_commit k) exchanges ≡ 1
+  pub order : All (λ (a : Exchange). All (λ (b : Exchange). Before a b → IsSeenBy a b) exchanges) exchanges
   -- A statement finds the store down only where a write or a sync failed in one that did not come
-  -- after it. It tells the device's count just after that one, and all tell the same.
-  pub owed : All (λ (b : Row). (n : ℕ) → b.reply ≡ refused (down n)
-      → Any (λ (a : Row). (Before b a → ⊥) × (0 < a.note.writes) × (a.note.count ≡ n)) rows) rows
-  pub one_count : All (λ (a : Row). All (λ (b : Row). (m n : ℕ) → a.reply ≡ refused (down m)
-      → b.reply ≡ refused (down n) → m ≡ n) rows) rows
+  -- after it. It says the device's count just after that one, and all say the same.
+  pub owed : All (λ (b : Exchange). (n : ℕ) → b.reply ≡ refused (down n)
+      → Any (λ (a : Exchange). (Before b a → ⊥) × (0 < a.note.writes) × (a.note.count ≡ n)) exchanges) exchanges
+  pub one_count : All (λ (a : Exchange). All (λ (b : Exchange). (m n : ℕ) → a.reply ≡ refused (down m)
+      → b.reply ≡ refused (down n) → m ≡ n) exchanges) exchanges
   -- a write or a sync failed in a statement exactly where it is answered so
-  pub failed : All (λ (r : Row). (0 < r.note.writes) ↔ HasFailed r.statement r.reply) rows
-  pub called : All (λ (r : Row). 0 < r.note.faults → HasCalled r.statement r.reply) rows
+  pub failed : All (λ (r : Exchange). (0 < r.note.writes) ↔ HasFailed r.statement r.reply) exchanges
+  pub called : All (λ (r : Exchange). 0 < r.note.faults → HasCalled r.statement r.reply) exchanges
   -- each rise of the counts was in the opening or in a statement
-  pub counted : All (λ (r : Row). (counts.faults_opened + r.note.faults ≤ r.note.count)
-      × (r.note.count ≤ counts.faults_after)) rows
+  pub counted : All (λ (r : Exchange). (counts.faults_opened + r.note.faults ≤ r.note.count)
+      × (r.note.count ≤ counts.faults_after)) exchanges
   pub opening : counts.faults ≤ counts.faults_opened
-  pub faults : counts.faults_opened + sum_by (λ (r : Row). r.note.faults) rows ≡ counts.faults_after
-  pub writes : counts.writes + sum_by (λ (r : Row). r.note.writes) rows ≡ counts.writes_after
+  pub faults : counts.faults_opened + sum_by (λ (r : Exchange). r.note.faults) exchanges ≡ counts.faults_after
+  pub writes : counts.writes + sum_by (λ (r : Exchange). r.note.writes) exchanges ≡ counts.writes_after

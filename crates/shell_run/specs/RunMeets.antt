@@ -1,4 +1,4 @@
--- The contract of a run, by what its source, its sink and its device tell.
+-- The contract of a run, by what its source, its sink and its device say.
 use Rattle.std.specs.Prelude.{◌≡◌, ◌≢◌, ◌⊎◌, ◌↔◌, ℕ, ◌<◌, ◌≤◌, List, length, IfSome, String}
 use Rattle.std.specs.Io.KnownBytes.{IsAtEnd}
 use Rattle.std.specs.declared.alloc.Global.{Global}
@@ -9,12 +9,12 @@ use Rattle.disk_trait.specs.declared.stream.Sink.{Ghosts as Sink}
 use Rattle.shell_run.specs.HasRead.{HasRead}
 use Rattle.shell_run.specs.Words.{IsForm, IsEnding}
 use Rattle.shell_run.specs.Outcomes.{NotRun, Answered}
-use Rattle.shell_run.specs.Run.{Row}
+use Rattle.shell_run.specs.Run.{Exchange}
 use Rattle.shell_run.specs.Crash.{StartedFrom, OpensAsBefore, HasSamePages}
 use Rattle.engine.specs.Opening.{IsOnlyRead, IsNoStore, IsUnmade}
 use Rattle.shell_run.specs.RanOn.{RanOn}
 use Rattle.engine.specs.Finding.{History}
-use Rattle.shell_run.specs.declared.reading.TheConstants.{SCRIPT_LIMIT}
+use Rattle.shell_run.specs.declared.script.TheConstants.{SCRIPT_LIMIT}
 use Rattle.shell_run.specs.declared.top.Outcome.{Outcome}
 use Rattle.shell_run.specs.declared.words.Settings.{Settings}
 
@@ -48,11 +48,11 @@ module _ {K D : Type 0} (sink : Sink K) (device : Disk D) where
   -- The text's statements were run, over a store that had a history.
   pub record HasRun (text : List ℕ) (status : ℕ) (out out' : K) (disk disk' : D) : Type 0 where
     pub a_store : device.tells → IsNoStore (device.seen disk) → ⊥
-    pub rows : List Row
+    pub exchanges : List Exchange
     pub first : History
     pub commits : History
-    pub answered : Answered text status (sink.taken out) (sink.taken out') rows
-    pub ran : RanOn device first disk disk' commits rows
+    pub answered : Answered text status (sink.taken out) (sink.taken out') exchanges
+    pub ran : RanOn device first disk disk' commits exchanges
 
 module _ {S K D : Type 0} (source : Source S) (sink : Sink K) (device : Disk D) where
   -- Nothing was run, or a script was read to its end and answered.

@@ -1,4 +1,4 @@
--- The rows of a script, and the text that is printed of them.
+-- The exchanges of a script, and the text that is printed of them.
 use Rattle.std.specs.Prelude.{◌≡◌, ℕ, List, [], ◌∷◌}
 use Rattle.std.specs.List.{flat_map}
 use Rattle.ts_config.specs.Known.{Known}
@@ -6,25 +6,25 @@ use Rattle.shell_script.specs.Steps.{Step}
 use Rattle.shell_script.specs.Says.{Says, line_of}
 use Rattle.shell_script.specs.Texts.{said}
 use Rattle.shell_run.specs.Defining.{Becomes}
-use Rattle.shell_run.specs.Run.{Row}
+use Rattle.shell_run.specs.Run.{Exchange}
 
--- the row of a step, before which this is defined
-pub record IsRowOf (known : Known) (s : Step) (row : Row) : Type 0 where
-  pub step : row.place.step ≡ (line_of s).number
-  pub numbered : row.line ≡ (line_of s).number
-  pub turn : row.place.turn ≡ 0
-  pub before : row.known ≡ known
-  pub says : Says s row.place.session row.statement
+-- the exchange of a step, before which this is defined
+pub record IsExchangeOf (known : Known) (s : Step) (exchange : Exchange) : Type 0 where
+  pub step : exchange.place.step ≡ (line_of s).number
+  pub numbered : exchange.line ≡ (line_of s).number
+  pub turn : exchange.place.turn ≡ 0
+  pub before : exchange.known ≡ known
+  pub says : Says s exchange.place.session exchange.statement
 
--- a row for each step, and what is defined behind them
-abbrev pub AreRows : Known → List Step → List Row → Known → Type 0
-AreRows known [] rows last = (rows ≡ []) × (last ≡ known)
-AreRows known (s ∷ ss) rows last =
-    (row : Row) × (rest : List Row) × (next : Known) × (rows ≡ row ∷ rest) × IsRowOf known s row
-    × Becomes known row.statement row.reply next × AreRows next ss rest last
+-- a exchange for each step, and what is defined after them
+abbrev pub AreExchanges : Known → List Step → List Exchange → Known → Type 0
+AreExchanges known [] exchanges last = (exchanges ≡ []) × (last ≡ known)
+AreExchanges known (s ∷ ss) exchanges last =
+    (exchange : Exchange) × (rest : List Exchange) × (next : Known) × (exchanges ≡ exchange ∷ rest) × IsExchangeOf known s exchange
+    × Becomes known exchange.statement exchange.reply next × AreExchanges next ss rest last
 
-abbrev pub printed_row : Row → List ℕ
-printed_row row = said row.place.session row.reply
+abbrev pub printed_exchange : Exchange → List ℕ
+printed_exchange exchange = said exchange.place.session exchange.reply
 
-abbrev pub printed_rows : List Row → List ℕ
-printed_rows rows = flat_map printed_row rows
+abbrev pub printed_exchanges : List Exchange → List ℕ
+printed_exchanges exchanges = flat_map printed_exchange exchanges

@@ -6,13 +6,13 @@ use Rattle.disk_trait.specs.declared.stream.Source.{Ghosts as Source}
 use Rattle.disk_trait.specs.declared.stream.Sink.{Ghosts as Sink}
 use Rattle.ts_config.specs.Known.{Known}
 use Rattle.shell_script.specs.Lines.{Line}
-use Rattle.shell_script.specs.Heads.{Kind, dictionary_head}
+use Rattle.shell_script.specs.OpeningLines.{Kind, dictionary_opening}
 use Rattle.shell_script.specs.Steps.{Step}
 use Rattle.shell_script.specs.Grammar.{Expr, insert, define}
 use Rattle.engine.specs.Finding.{Name}
 use Rattle.engine.specs.Finding.{History}
-use Rattle.shell_run.specs.Run.{Row, Counts, Before, Run, stored, done, refused, down, device}
-use Rattle.shell_run.specs.Script.{AreRows, printed_row}
+use Rattle.shell_run.specs.Run.{Exchange, Counts, Before, Run, stored, done, refused, down, device}
+use Rattle.shell_run.specs.Script.{AreExchanges, printed_exchange}
 use Rattle.shell_run.specs.declared.sending.TheConstants.{PIECE_BYTES}
 use Rattle.shell_run.specs.Outcomes.{Answered}
 use Rattle.shell_run.specs.Crash.{Reaches}
@@ -21,69 +21,69 @@ use Rattle.engine.specs.Opening.{IsNoStore, IsUnmade}
 use Rattle.shell_run.specs.RunMeets.{HasCauses, HasNotRun, Headline}
 use Rattle.shell_run.specs.declared.top.Outcome.{Outcome}
 
--- an insertion in which a write failed, and one behind it that is stored
+-- an insertion in which a write failed, and one after it that is stored
 abbrev pub NoneIsStoredAfterFailure : Type 0
-NoneIsStoredAfterFailure = (counts : Counts) (first commits : History) (a b : Row) (e f : Expr)
+NoneIsStoredAfterFailure = (counts : Counts) (first commits : History) (a b : Exchange) (e f : Expr)
     (n : Name) → a.statement ≡ insert e → a.reply ≡ refused device → b.statement ≡ insert f
     → b.reply ≡ stored n → Before a b → Run counts first commits (a ∷ b ∷ []) → ⊥
 
--- an insertion in which a write failed, and one behind it that finds the store down and still has a
+-- an insertion in which a write failed, and one after it that finds the store down and still has a
 -- commit
 abbrev pub NoneIsCommittedAfterFailure : Type 0
 NoneIsCommittedAfterFailure =
-    (counts : Counts) (first commits : History) (a b : Row) (e : Expr) (n p : ℕ)
+    (counts : Counts) (first commits : History) (a b : Exchange) (e : Expr) (n p : ℕ)
     → a.statement ≡ insert e → a.reply ≡ refused device → b.reply ≡ refused (down n)
     → b.note.commit ≡ Some p → Before a b → Run counts first commits (a ∷ b ∷ []) → ⊥
 
 -- a clock that falls from a statement to one after it
 abbrev pub NoClockFalls : {D : Type 0} → Disk D → Type 0
 NoClockFalls {D} disk =
-    (history commits : History) (first new : D) (a b : Row) → Before a b
+    (history commits : History) (first new : D) (a b : Exchange) → Before a b
     → b.note.clock < a.note.clock → RanOn disk history first new commits (a ∷ b ∷ []) → ⊥
 
 -- a stop at a moment before an answer that leaves the commit of a statement after it
 abbrev pub NoCommitIsEarly : Type 0
 NoCommitIsEarly =
-    (files : Files) (m p : ℕ) (first commits : History) (a b : Row) → Before a b
+    (files : Files) (m p : ℕ) (first commits : History) (a b : Exchange) → Before a b
     → m < a.note.clock → b.note.commit ≡ Some p
     → (r : Reaches files m first commits (a ∷ b ∷ [])) → p < length r.kept → ⊥
 
 -- a stop at the clock of an insertion that is stored, or later, that leaves no commit of it
 abbrev pub NoCommitIsLate : Type 0
 NoCommitIsLate =
-    (files : Files) (m p : ℕ) (n : Name) (first commits : History) (a : Row) → a.reply ≡ stored n
+    (files : Files) (m p : ℕ) (n : Name) (first commits : History) (a : Exchange) → a.reply ≡ stored n
     → a.note.commit ≡ Some p → a.note.clock ≤ m
     → (r : Reaches files m first commits (a ∷ [])) → length r.kept ≤ p → ⊥
 
 -- a failed write or sync that no statement notes
 abbrev pub EachFailureIsNoted : Type 0
-EachFailureIsNoted = (counts : Counts) (first commits : History) (a b : Row)
+EachFailureIsNoted = (counts : Counts) (first commits : History) (a b : Exchange)
     → a.note.writes ≡ 0 → b.note.writes ≡ 0 → counts.writes < counts.writes_after
     → Run counts first commits (a ∷ b ∷ []) → ⊥
 
--- one failure that is told with two counts
+-- one failure that is said with two counts
 abbrev pub OneCountIsTold : Type 0
-OneCountIsTold = (counts : Counts) (first commits : History) (a b : Row) (m n : ℕ)
+OneCountIsTold = (counts : Counts) (first commits : History) (a b : Exchange) (m n : ℕ)
     → a.reply ≡ refused (down m) → b.reply ≡ refused (down n) → m ≢ n
     → Run counts first commits (a ∷ b ∷ []) → ⊥
 
 -- replies that are printed with status 4
 abbrev pub NothingIsPrintedWith4 : Type 0
-NothingIsPrintedWith4 = (text : List ℕ) (before after : Option (List ℕ)) (rows : List Row)
-    → Answered text 4 before after rows → ⊥
+NothingIsPrintedWith4 = (text : List ℕ) (before after : Option (List ℕ)) (exchanges : List Exchange)
+    → Answered text 4 before after exchanges → ⊥
 
 -- two dictionaries of one name, one after the other, that are done
 abbrev pub NoNameIsTakenTwice : Type 0
 NoNameIsTakenTwice = (counts : Counts) (first commits : History) (known last : Known) (s t : Step)
-    (a b : Row) (name : List ℕ) (j k : Kind) (ls ms : List Line)
-    → a.statement ≡ define (dictionary_head name j) ls → a.reply ≡ done
-    → b.statement ≡ define (dictionary_head name k) ms → b.reply ≡ done
-    → AreRows known (s ∷ t ∷ []) (a ∷ b ∷ []) last → Run counts first commits (a ∷ b ∷ []) → ⊥
+    (a b : Exchange) (name : List ℕ) (j k : Kind) (ls ms : List Line)
+    → a.statement ≡ define (dictionary_opening name j) ls → a.reply ≡ done
+    → b.statement ≡ define (dictionary_opening name k) ms → b.reply ≡ done
+    → AreExchanges known (s ∷ t ∷ []) (a ∷ b ∷ []) last → Run counts first commits (a ∷ b ∷ []) → ⊥
 
--- a row behind one of which nothing was taken, though its text is a whole piece
+-- a exchange after one of which nothing was taken, though its text is a whole piece
 abbrev pub NoneRunsAfterTheSinkFailed : Type 0
 NoneRunsAfterTheSinkFailed =
-    (text before : List ℕ) (status : ℕ) (a b : Row) → PIECE_BYTES ≤ length (printed_row a)
+    (text before : List ℕ) (status : ℕ) (a b : Exchange) → PIECE_BYTES ≤ length (printed_exchange a)
     → Answered text status (Some before) (Some before) (a ∷ b ∷ []) → ⊥
 
 -- replies that are printed though the source has bytes left

@@ -84,7 +84,7 @@ JoinIsRefused v w (text_refused (large_vector bytes)) = JoinFails v w (vectors.V
 JoinIsRefused v w memory = Unit {0}
 JoinIsRefused v w why = ⊥
 
--- behind v, the first refusal in turn: of the next part, of its join with v, or of what follows
+-- after v, the first refusal in turn: of the next part, of its join with v, or of what follows
 abbrev pub OthersFail : Known → Vector → List Part → Refusal → Type 0
 OthersFail known v [] why = ⊥
 OthersFail known v (p ∷ ps) why =

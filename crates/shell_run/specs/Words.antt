@@ -8,6 +8,6 @@ abbrev pub IsForm : List (String Global) → Settings → Type 0
 IsForm (word ∷ []) settings = string_bytes word ≡ codes "run"
 IsForm words settings = ⊥
 
--- a status that tells of the whole run
+-- a status that says of the whole run
 abbrev pub IsEnding : ℕ → Type 0
 IsEnding status = (status ≡ 0) ⊎ (status ≡ 1) ⊎ (status ≡ 3)

@@ -70,8 +70,8 @@ pub fn answer<D: Disk>(
             Err(why) => Reply::Refused(why),
         },
         Statement::Show(from) => show(alloc, configs, &from),
-        Statement::Query(from) => ask_query(alloc, configs, &from),
+        Statement::Ask(from) => ask_query(alloc, configs, &from),
         Statement::Parse(text) => Reply::Tokens(text),
-        Statement::Nothing => Reply::Refused(Refusal::NoStatement(line)),
+        Statement::Invalid => Reply::Refused(Refusal::NoStatement(line)),
     }
 }

@@ -4,8 +4,8 @@ ghost use Rattle.std.specs.List.{Any};
 ghost use Rattle.ts_config.specs.Mappings.{empty_mapping};
 ghost use Rattle.ts_config.specs.Known.{HasDictionary, ArePlaces, IsWithin};
 ghost use Rattle.shell_script.specs.Grammar.{define as defines};
-ghost use Rattle.shell_script.specs.Heads.{configuration_head};
-ghost use Rattle.shell_script.specs.HeadView.{head as head_of};
+ghost use Rattle.shell_script.specs.OpeningLines.{configuration_opening};
+ghost use Rattle.shell_script.specs.OpeningLineView.{opening_line as opening_line_of};
 ghost use Rattle.shell_script.specs.StepView.{line as shown};
 ghost use Rattle.shell_script.specs.Says.{counted_lines};
 ghost use Rattle.shell_script.specs.ReplyView.{refusal, reply};
@@ -14,7 +14,7 @@ ghost use Rattle.shell_run.specs.Inner.Definitions.{MapFails, MapsFail};
 
 use crate::body_lines::{FromLines, take_lines};
 use crate::dictionaries::define_dictionary;
-use shell_script::{Head, Line, Lines, Mapping, Names, Refusal, Reply, read_mapping};
+use shell_script::{OpeningLine, Line, Lines, Mapping, Names, Refusal, Reply, read_mapping};
 use std::alloc::{AllocError, Global};
 use ts_config::{Config, Configs};
 use ts_parser::TokenType;
@@ -44,10 +44,10 @@ fn places_of(
 fn map_line(
     alloc: Global,
     configs: &Configs,
-    draft: &mut Config,
+    partial: &mut Config,
     line: Line<'_>,
 ) -> Result<(), Refusal>
-    ensures mapped { OnOk result (MapsLine configs.now draft.old (shown line.entry) draft.new) }
+    ensures mapped { OnOk result (MapsLine configs.now partial.old (shown line.entry) partial.new) }
     ensures refused { IfErr result (λ why. MapFails configs.now (shown line.entry) (refusal why)) }
 {
     let Some(Mapping { types, names }) = read_mapping(line.bytes) else {
@@ -57,7 +57,7 @@ fn map_line(
         return Err(Refusal::NoDictionary);
     };
     let types: Vec<TokenType> = types.collect(alloc)?;
-    draft.map(alloc, &types, &places)?;
+    partial.map(alloc, &types, &places)?;
     Ok(())
 }
 
@@ -65,35 +65,35 @@ fn map_line(
 #[derive(Drop)]
 struct MappingOver<'a> {
     /// The mapping so far.
-    draft: Config,
+    partial: Config,
     /// What is defined.
     configs: &'a Configs,
 }
 
 impl<'a> FromLines for MappingOver<'a> {
     ghost takes = { λ l old new. (new.configs ≡ old.configs)
-        × MapsLine old.configs.now old.draft l new.draft };
+        × MapsLine old.configs.now old.partial l new.partial };
 
     ghost refuses = { λ l old why. MapFails old.configs.now l why };
 
     fn take(&mut self, alloc: Global, line: Line<'_>) -> Result<(), Refusal> {
-        map_line(alloc, self.configs, &mut self.draft, line)
+        map_line(alloc, self.configs, &mut self.partial, line)
     }
 }
 
 /// The mapping of a configuration's body, built apart.
 fn mapping_of(alloc: Global, configs: &Configs, body: Lines<'_>) -> Result<Config, Refusal>
-    ensures maps { IfOk result (λ draft. Maps configs.now empty_mapping (counted_lines body.entry) draft) }
-    ensures within { IfOk result (λ draft. IsWithin configs.now draft) }
+    ensures maps { IfOk result (λ partial. Maps configs.now empty_mapping (counted_lines body.entry) partial) }
+    ensures within { IfOk result (λ partial. IsWithin configs.now partial) }
     ensures refused { IfErr result
         (λ why. MapsFail configs.now empty_mapping (counted_lines body.entry) (refusal why)) }
 {
     let mut mapping = MappingOver {
-        draft: Config::empty(alloc)?,
+        partial: Config::empty(alloc)?,
         configs,
     };
     match take_lines(alloc, &mut mapping, body) {
-        Ok(()) => Ok(mapping.draft),
+        Ok(()) => Ok(mapping.partial),
         Err(why) => Err(why),
     }
 }
@@ -106,10 +106,10 @@ fn define_configuration(
     name: &str,
     body: Lines<'_>,
 ) -> Reply
-    ensures answered { IsDefined configs.old number (configuration_head name.now)
+    ensures answered { IsDefined configs.old number (configuration_opening name.now)
         (counted_lines body.entry) (reply result) }
     ensures becomes { Becomes configs.old
-        (defines (configuration_head name.now) (counted_lines body.entry)) (reply result) configs.new }
+        (defines (configuration_opening name.now) (counted_lines body.entry)) (reply result) configs.new }
 {
     if configs.config(name).is_some() {
         return Reply::Refused(Refusal::NoStatement(number));
@@ -130,18 +130,18 @@ pub fn define(
     alloc: Global,
     configs: &mut Configs,
     number: u64,
-    head: Head<'_>,
+    head: OpeningLine<'_>,
     body: Lines<'_>,
 ) -> Reply
-    ensures answered { IsDefined configs.old number (head_of head.entry) (counted_lines body.entry)
+    ensures answered { IsDefined configs.old number (opening_line_of head.entry) (counted_lines body.entry)
         (reply result) }
-    ensures becomes { Becomes configs.old (defines (head_of head.entry) (counted_lines body.entry))
+    ensures becomes { Becomes configs.old (defines (opening_line_of head.entry) (counted_lines body.entry))
         (reply result) configs.new }
 {
     match head {
-        Head::Dictionary { name, kind } => {
+        OpeningLine::Dictionary { name, kind } => {
             define_dictionary(alloc, configs, number, name, kind, body)
         }
-        Head::Configuration { name } => define_configuration(alloc, configs, number, name, body),
+        OpeningLine::Configuration { name } => define_configuration(alloc, configs, number, name, body),
     }
 }

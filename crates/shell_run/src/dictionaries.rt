@@ -6,8 +6,8 @@ ghost use Rattle.ts_synonym.specs.Synonyms.{IsBadLine as IsBadSynonymLine, IsSyn
 ghost use Rattle.ts_thesaurus.specs.Lines.{AreRules, IsRefused};
 ghost use Rattle.ts_config.specs.Rules.{rules_of, answer_by};
 ghost use Rattle.shell_script.specs.Grammar.{define as defines};
-ghost use Rattle.shell_script.specs.Heads.{dictionary_head, thesaurus_kind};
-ghost use Rattle.shell_script.specs.HeadView.{kind as kind_of};
+ghost use Rattle.shell_script.specs.OpeningLines.{dictionary_opening, thesaurus_kind};
+ghost use Rattle.shell_script.specs.OpeningLineView.{kind as kind_of};
 ghost use Rattle.shell_script.specs.StepView.{line as shown};
 ghost use Rattle.shell_script.specs.Says.{counted_lines};
 ghost use Rattle.shell_script.specs.ReplyView.{refusal, reply};
@@ -262,10 +262,10 @@ pub fn define_dictionary(
     kind: Kind<'_>,
     body: Lines<'_>,
 ) -> Reply
-    ensures answered { IsDefined configs.old number (dictionary_head name.now (kind_of kind.entry))
+    ensures answered { IsDefined configs.old number (dictionary_opening name.now (kind_of kind.entry))
         (counted_lines body.entry) (reply result) }
     ensures becomes { Becomes configs.old
-        (defines (dictionary_head name.now (kind_of kind.entry)) (counted_lines body.entry))
+        (defines (dictionary_opening name.now (kind_of kind.entry)) (counted_lines body.entry))
         (reply result) configs.new }
 {
     if lacks_one(configs, kind) {

@@ -31,7 +31,7 @@ pub enum Stop {
 }
 
 impl Stop {
-    /// The exit status that tells of it.
+    /// The exit status that says of it.
     pub fn status(&self) -> u8
         ensures { result ≡ stop_number self.now }
     {

@@ -2,12 +2,12 @@
 ghost use Rattle.std.specs.Prelude.{◌≡◌, ℕ, ◌^◌, List};
 ghost use Rattle.ts_config.specs.Known.{Known};
 ghost use Rattle.shell_script.specs.Lines.{Line};
-ghost use Rattle.shell_script.specs.Heads.{Head};
+ghost use Rattle.shell_script.specs.OpeningLines.{OpeningLine};
 ghost use Rattle.shell_script.specs.Grammar.{Expr, QuerySource};
 ghost use Rattle.shell_run.specs.Traces.{NoneIsStoredAfterFailure, NoneIsCommittedAfterFailure, NoClockFalls, NoCommitIsEarly, NoCommitIsLate, EachFailureIsNoted, OneCountIsTold, NothingIsPrintedWith4, NoNameIsTakenTwice, NoneRunsAfterTheSinkFailed, NoHalfScriptIsRun, NoLogIsWiped, NoStrayFileIsWritten, NoStoreIsWrittenUnrun, NoPageIsWritten};
 ghost use Rattle.shell_run.specs.NextRun.{OpensIsNoRefusal, EmptyMayStart, NextMayStart, NextHasAll};
 ghost use Rattle.shell_run.specs.Defining.{HasOneAnswer};
-ghost use Rattle.shell_run.specs.declared.reading.TheConstants.{SCRIPT_LIMIT};
+ghost use Rattle.shell_run.specs.declared.script.TheConstants.{SCRIPT_LIMIT};
 ghost use Rattle.shell_run.specs.declared.sending.TheConstants.{PIECE_BYTES};
 ghost use Rattle.shell_run.specs.Values.{IsExprAnswer, IsQueryAnswer, IsOneAnswer};
 
@@ -18,7 +18,7 @@ use engine::{no_store_is_none, opens_to_one};
 pub fn one_answer()
     ensures expressions { (known : Known) (e : Expr) → IsOneAnswer (IsExprAnswer known e) }
     ensures queries { (known : Known) (q : QuerySource) → IsOneAnswer (IsQueryAnswer known q) }
-    ensures definitions { (known : Known) (number : ℕ) (head : Head) (lines : List Line)
+    ensures definitions { (known : Known) (number : ℕ) (head : OpeningLine) (lines : List Line)
         → HasOneAnswer known number head lines }
 {}
 
@@ -48,7 +48,7 @@ pub fn ruled_out<S: Source, K: Sink, D: Disk>()
 {}
 
 /// A run may start from empty files, and from what a run that so started, or a crash in it, has left,
-/// also behind openings that were refused. The history that it begins with has every commit that was
+/// also after openings that were refused. The history that it begins with has every commit that was
 /// acknowledged.
 pub fn next_run<D: Disk, E: Disk>()
     ensures opens { OpensIsNoRefusal }

@@ -7,7 +7,7 @@ mod defining;
 mod dictionaries;
 mod error;
 mod laws;
-mod reading;
+mod script;
 mod sending;
 mod serving;
 mod statement_counts;

@@ -14,7 +14,7 @@ use shell_script::{Reply, last_line_of, push_token};
 use std::alloc::Global;
 use ts_parser::{Token, tokens};
 
-/// What stands behind the first n bytes.
+/// What is after the first n bytes.
 fn behind(bytes: &[u8], n: usize) -> &[u8]
     requires { n ≤ length bytes.now }
     ensures { result.now ≡ drop n bytes.now }
@@ -76,7 +76,7 @@ fn flush_piece<K: Sink>(out: &mut K, waiting: &mut Vec<u8>) -> Result<(), Stop>
     Ok(())
 }
 
-/// A text more behind what waits, which is written where it is a whole piece.
+/// A text more after what waits, which is written where it is a whole piece.
 pub fn put<K: Sink>(out: &mut K, waiting: &mut Vec<u8>, text: &[u8]) -> Result<(), Stop>
     ensures text { Sends (K.taken out.old) (K.taken out.new) (waiting.old.items ++ text.now)
         waiting.new.items (is_ok result) }

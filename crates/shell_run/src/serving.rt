@@ -8,7 +8,7 @@ ghost use Rattle.shell_run.specs.Inner.Serving.{HasTurned, Served, Passed, HasRu
 ghost use Rattle.shell_run.specs.Outcomes.{is_refusal};
 ghost use Rattle.engine.specs.Standing.{StandsFor, IsUp, disk_of};
 ghost use Rattle.engine.specs.Finding.{History};
-ghost use Rattle.engine.specs.Found.{Found};
+ghost use Rattle.engine.specs.AtOpening.{AtOpening};
 ghost use Rattle.shell_run.specs.declared.error.Stop.TheVariants.{SinkFault, OutOfMemory};
 
 use crate::answers::answer;
@@ -18,7 +18,7 @@ use crate::sending::{flush, put_reply};
 use crate::statement_counts::StatementCounts;
 use disk_trait::{Disk, Sink};
 use engine::{Db, Gate};
-use shell_script::{Refusal, Reply, Step, read_head, read_line, steps};
+use shell_script::{Refusal, Reply, Step, read_opening_line, read_line, steps};
 use std::alloc::{AllocError, Global};
 use ts_config::Configs;
 
@@ -71,7 +71,7 @@ fn turn<D: Disk, G: Gate>(
             );
             Ok((said.session, reply))
         }
-        Step::Definition(line, body) => match read_head(line.bytes) {
+        Step::Definition(line, body) => match read_opening_line(line.bytes) {
             Some(head) => Ok((
                 0,
                 define(alloc, &mut state.configs, line.number, head, body),
@@ -116,7 +116,7 @@ fn serve_steps<K: Sink, D: Disk, G: Gate>(
     requires up { IsUp state.old.store }
     requires first { state.old.configs ≡ first_known }
     requires fresh { (state.old.waiting.items ≡ []) × (state.old.refused ≡ false) }
-    ensures ran { (found : Found) (history : History) → StandsFor found state.old.store history
+    ensures ran { (found : AtOpening) (history : History) → StandsFor found state.old.store history
         → HasRunSteps D.Disk found history text.now (K.taken out.old) (K.taken out.new)
         state.old.store (disk_of state.new.store) result }
     ensures counts { D.fault_count (disk_of state.old.store) ≤ D.fault_count (disk_of state.new.store) }
@@ -148,7 +148,7 @@ pub fn run_steps<K: Sink, D: Disk, G: Gate>(
 ) -> (D, Result<bool, Stop>)
     requires up { IsUp store }
     requires first { configs ≡ first_known }
-    ensures ran { (found : Found) (history : History) → StandsFor found store history
+    ensures ran { (found : AtOpening) (history : History) → StandsFor found store history
         → HasRunSteps D.Disk found history text.now (K.taken out.old) (K.taken out.new) store
         result.0 result.1 }
     ensures counts { D.fault_count (disk_of store) ≤ D.fault_count result.0 }

@@ -3,7 +3,7 @@ ghost use Rattle.std.specs.Prelude.{◌≡◌, ◌≢◌, ℕ, ◌+◌, ◌-◌,
 
 use engine::Gate;
 
-/// The counts of the sessions 1 to 8, behind one that stays 0.
+/// The counts of the sessions 1 to 8, after one that stays 0.
 #[derive(Clone, Copy, Debug)]
 pub struct StatementCounts {
     counts: [u32; 9],
@@ -28,7 +28,7 @@ impl StatementCounts {
         turn
     }
 
-    /// A statement of a session passes the gate. A line without a session passes none.
+    /// A statement of a session passes the hook. A line without a session passes none.
     pub fn pass<G: Gate>(&mut self, gate: &G, session: u8)
         requires { session ≤ 8 }
         ensures counted { session ≢ 0

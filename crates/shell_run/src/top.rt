@@ -5,7 +5,7 @@ ghost use Rattle.shell_run.specs.Inner.Statuses.{ending_number};
 ghost use Rattle.shell_run.specs.Inner.Serving.{ServeMeets};
 
 use crate::error::Stop;
-use crate::reading::read_script;
+use crate::script::read_script;
 use crate::serving::run_steps;
 use crate::words::settings_of;
 use disk_trait::{Disk, Sink, Source};

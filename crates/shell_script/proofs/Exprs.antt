@@ -59,7 +59,7 @@ weight_is D = refl
 pub letters_same : (v w : Weight) → weight_letter v ≡ weight_letter w → v ≡ w
 letters_same v w e = sym (weight_is v) ∙ ap weight_at e ∙ weight_is w
 
--- the weight before a quoted text, and what stands behind it
+-- the weight before a quoted text, and what is after it
 weights_same : (v w : Option Weight) (t u : List ℕ) (xs ys : List ScriptToken) → weight_tokens v ++ (quote t ∷ xs) ≡ weight_tokens w ++ (quote u ∷ ys) → (v ≡ w) × (quote t ∷ xs ≡ quote u ∷ ys)
 weights_same None None t u xs ys e = (refl, e)
 weights_same None (Some w) t u xs ys e = cc
@@ -69,7 +69,7 @@ weights_same (Some v) (Some w) t u xs ys e =
     let l : weight_letter v ≡ weight_letter w = ap (λ (z : List ℕ). get_or z 0 0) o.0 in
     (ap Some (letters_same v w l), o.1)
 
--- the word that a part begins with, but for its mark, and what stands behind it
+-- the word that a part begins with, but for its mark, and what is after it
 abbrev source_word : VectorSource → List ℕ
 source_word (vector_text t) = codes "vector"
 source_word (vector_by config w t) = config
@@ -86,14 +86,14 @@ pub no_strip : (s : VectorSource) → IsSource s → codes "strip" ≡ source_wo
 no_strip (vector_text t) is e = heads_differ (codes "strip") (codes "vector") refl e
 no_strip (vector_by config w t) is e = is.free.1 (sym e)
 
--- the mark tells whether the part is stripped
+-- the mark says whether the part is stripped
 strips_same : (a b : Bool) (s t : VectorSource) (xs ys : List ScriptToken) → IsSource s → IsSource t → strip_tokens a ++ (source_tokens s ++ xs) ≡ strip_tokens b ++ (source_tokens t ++ ys) → (a ≡ b) × (source_tokens s ++ xs ≡ source_tokens t ++ ys)
 strips_same true true s t xs ys h k e = (refl, (words_same (codes "strip") (codes "strip") (source_tokens s ++ xs) (source_tokens t ++ ys) e).1)
 strips_same false false s t xs ys h k e = (refl, e)
 strips_same true false s t xs ys h k e = absurd (no_strip t k (words_same (codes "strip") (source_word t) (source_tokens s ++ xs) (source_rest t ++ ys) (e ∙ source_cut t ys)).0)
 strips_same false true s t xs ys h k e = absurd (no_strip s h (words_same (codes "strip") (source_word s) (source_tokens t ++ ys) (source_rest s ++ xs) (sym e ∙ source_cut s xs)).0)
 
--- what a vector is made of is told by its tokens
+-- what a vector is made of is known by its tokens
 sources_same : (s t : VectorSource) (xs ys : List ScriptToken) → IsSource s → IsSource t → source_tokens s ++ xs ≡ source_tokens t ++ ys → (s ≡ t) × (xs ≡ ys)
 sources_same (vector_text t) (vector_text u) xs ys h k e =
     let o = words_same (codes "vector") (codes "vector") (quote t ∷ xs) (quote u ∷ ys) e in
@@ -116,7 +116,7 @@ part_with p ts = append_assoc (strip_tokens p.stripped) (source_tokens p.source)
 same_part : (p q : Part) → p.stripped ≡ q.stripped → p.source ≡ q.source → p ≡ q
 same_part p q e f = ap (λ b. record { stripped = b; source = p.source }) e ∙ ap (λ t. record { stripped = q.stripped; source = t }) f
 
--- a part's tokens tell the part, and what stands behind them
+-- a part's tokens say the part, and what is after them
 parts_same : (p q : Part) (xs ys : List ScriptToken) → IsSource p.source → IsSource q.source → part_tokens p ++ xs ≡ part_tokens q ++ ys → (p ≡ q) × (xs ≡ ys)
 parts_same p q xs ys h k e =
     let both = strips_same p.stripped q.stripped p.source q.source xs ys h k (sym (part_with p xs) ∙ e ∙ part_with q ys) in
@@ -129,7 +129,7 @@ IsPartNamed p = IsSource p.source
 abbrev ArePartsNamed : List Part → Type 0
 ArePartsNamed ps = All (λ (p : Part). IsSource p.source) ps
 
--- what stands behind some of the joined parts is joined parts
+-- what is after some of the joined parts is joined parts
 pub joined_behind : (ps qs : List Part) (ts : List ScriptToken) → ArePartsNamed ps → ArePartsNamed qs → flat_map joined_tokens ps ≡ flat_map joined_tokens qs ++ ts → (rs : List Part) × (ps ≡ qs ++ rs) × (ts ≡ flat_map joined_tokens rs) × ArePartsNamed rs
 joined_behind ps [] ts h k e = (ps, refl, sym e, h)
 joined_behind [] (q ∷ qs) ts h k e = cc
@@ -155,14 +155,14 @@ exprs_same d e h k same =
     no_more [] f = refl
     no_more (r ∷ rs) f = cc
 
--- what stands behind a part's mark
+-- what is after a part's mark
 pub part_behind : (text rest : List ℕ) (b : Bool) → Fronts text (strip_tokens b) rest → ((c : Bool) (s : VectorSource) (ts : List ScriptToken) → IsSource s → IsSpelled text (strip_tokens c ++ (source_tokens s ++ ts)) → c ≡ b) → (p : Part) (ts : List ScriptToken) → IsSource p.source → IsSpelled text (part_tokens p ++ ts) → IsSpelled rest (source_tokens p.source ++ ts)
 part_behind text rest b front first p ts is k =
     let behind : List ScriptToken = source_tokens p.source ++ ts in
     let here : IsSpelled text (strip_tokens p.stripped ++ behind) = subst (IsSpelled text) (part_with p ts) k in
     front_rest text (strip_tokens b) rest behind front (subst (λ c. IsSpelled text (strip_tokens c ++ behind)) (first p.stripped p.source ts is here) here)
 
--- the mark stands there, or doesn't
+-- the mark is there, or isn't
 pub strip_stands : (text rest : List ℕ) → Fronts text (word (codes "strip") ∷ []) rest → (b : Bool) (s : VectorSource) (ts : List ScriptToken) → IsSource s → IsSpelled text (strip_tokens b ++ (source_tokens s ++ ts)) → b ≡ true
 strip_stands text rest f true s ts is k = refl
 strip_stands text rest f false s ts is k =
@@ -182,7 +182,7 @@ expr_more text rest more first p ps h k =
     let e : (part_tokens first ++ flat_map joined_tokens ps) ++ joined_tokens p ≡ part_tokens first ++ flat_map joined_tokens (ps ++ p ∷ []) = flat_map_more joined_tokens (part_tokens first) ps p in
     subst (λ f. Fronts text f more) e (front_both text rest more (part_tokens first ++ flat_map joined_tokens ps) (joined_tokens p) h k)
 
--- no expression where something else stands behind its parts
+-- no expression where something else is after its parts
 pub expr_fault : (text rest : List ℕ) (d : Expr) → IsExpr d → Fronts text (expr_tokens d) rest → (All IsBlank rest → ⊥) → ((p : Part) (ts : List ScriptToken) → IsSource p.source → IsSpelled rest (joined_tokens p ++ ts) → ⊥) → (e : Expr) → IsExpr e → IsSpelled text (expr_tokens e) → ⊥
 expr_fault text rest d is h some bad e named k =
     let o = h.came_so (expr_tokens e) k in

@@ -5,12 +5,12 @@ use Rattle.std.specs.Str.{IsUtf8}
 use Rattle.std.specs.List.{All}
 use Rattle.ts_base.specs.Bytes.{IsBlank}
 use Rattle.shell_script.specs.Tokens.{ScriptToken, word, IsSpelled}
-use Rattle.shell_script.specs.Heads.{IsName, Kind, simple_kind, porter_kind, synonym_kind, thesaurus_kind, IsKind, Head, dictionary_head, configuration_head, mark_tokens, kind_tokens, head_tokens, IsHead}
+use Rattle.shell_script.specs.OpeningLines.{IsName, Kind, simple_kind, porter_kind, synonym_kind, thesaurus_kind, IsNamedKind, OpeningLine, dictionary_opening, configuration_opening, mark_tokens, kind_tokens, opening_tokens, IsOpeningLine}
 use Rattle.shell_script.specs.Inner.Fronts.{Fronts}
 use Rattle.shell_script.proofs.FirstTokens.{bytes_differ, heads_differ}
 use Rattle.shell_script.proofs.Spelling.{behind_one}
 
--- the word in front, and what stands behind it
+-- the word in front, and what is after it
 pub named_behind : (text w rest n : List ℕ) (ts : List ScriptToken) → Fronts text (word w ∷ []) rest → IsSpelled text (word n ∷ ts) → (n ≡ w) × IsSpelled rest ts
 named_behind text w rest n ts h k =
     let o = behind_one text (word w) rest (word n) ts h k in
@@ -35,12 +35,12 @@ kind_first porter_kind = (codes "porter", [], refl)
 kind_first (synonym_kind cases) = (codes "synonym", mark_tokens cases (codes "casesensitive"), refl)
 kind_first (thesaurus_kind sub) = (codes "thesaurus", word sub ∷ [], refl)
 
-pub no_kind_word : (text : List ℕ) → ((w : List ℕ) (ts : List ScriptToken) → IsSpelled text (word w ∷ ts) → ⊥) → (k : Kind) → IsKind k → IsSpelled text (kind_tokens k) → ⊥
+pub no_kind_word : (text : List ℕ) → ((w : List ℕ) (ts : List ScriptToken) → IsSpelled text (word w ∷ ts) → ⊥) → (k : Kind) → IsNamedKind k → IsSpelled text (kind_tokens k) → ⊥
 no_kind_word text bad k is s = let f = kind_first k in bad f.0 f.1 (subst (IsSpelled text) f.2 s)
 
--- no kind stands there
+-- no kind is there
 pub kind_outside : (text first rest : List ℕ) → Fronts text (word first ∷ []) rest → (first ≡ codes "simple" → (m : Bool) → IsSpelled rest (mark_tokens m (codes "pass")) → ⊥) → (first ≡ codes "synonym" → (m : Bool) → IsSpelled rest (mark_tokens m (codes "casesensitive")) → ⊥)
-    → (first ≡ codes "thesaurus" → (n : List ℕ) → IsName n → IsSpelled rest (word n ∷ []) → ⊥) → (first ≡ codes "porter" → All IsBlank rest → ⊥) → (k : Kind) → IsKind k → IsSpelled text (kind_tokens k) → ⊥
+    → (first ≡ codes "thesaurus" → (n : List ℕ) → IsName n → IsSpelled rest (word n ∷ []) → ⊥) → (first ≡ codes "porter" → All IsBlank rest → ⊥) → (k : Kind) → IsNamedKind k → IsSpelled text (kind_tokens k) → ⊥
 kind_outside text first rest f a b c d (simple_kind accept) is s =
     let o = named_behind text first rest (codes "simple") (mark_tokens (not accept) (codes "pass")) f s in
     a (sym o.0) (not accept) o.1
@@ -62,31 +62,31 @@ kind_is text first rest w ts f is s = subst (λ v. IsSpelled text (word v ∷ ts
 pub simple_or_synonym : codes "simple" ≡ codes "synonym" → ⊥
 simple_or_synonym e = bytes_differ 1 (codes "simple") (codes "synonym") refl e
 
-pub head_first : (h : Head) → (w : List ℕ) × (ts : List ScriptToken) × (head_tokens h ≡ word w ∷ ts)
-head_first (dictionary_head n k) = (codes "dictionary", word n ∷ kind_tokens k, refl)
-head_first (configuration_head n) = (codes "configuration", word n ∷ [], refl)
+pub opening_first : (h : OpeningLine) → (w : List ℕ) × (ts : List ScriptToken) × (opening_tokens h ≡ word w ∷ ts)
+opening_first (dictionary_opening n k) = (codes "dictionary", word n ∷ kind_tokens k, refl)
+opening_first (configuration_opening n) = (codes "configuration", word n ∷ [], refl)
 
--- no head stands there
-pub dictionary_outside : (text first rest : List ℕ) → Fronts text (word first ∷ []) rest → first ≡ codes "dictionary" → ((n : List ℕ) (k : Kind) → IsName n → IsKind k → IsSpelled rest (word n ∷ kind_tokens k) → ⊥) → (h : Head) → IsHead text h → ⊥
-dictionary_outside text first rest f is bad (dictionary_head n k) h = bad n k h.named.0 h.named.1 (named_behind text first rest (codes "dictionary") (word n ∷ kind_tokens k) f h.spelled).1
-dictionary_outside text first rest f is bad (configuration_head n) h = heads_differ (codes "configuration") (codes "dictionary") refl ((named_behind text first rest (codes "configuration") (word n ∷ []) f h.spelled).0 ∙ is)
+-- no head is there
+pub dictionary_outside : (text first rest : List ℕ) → Fronts text (word first ∷ []) rest → first ≡ codes "dictionary" → ((n : List ℕ) (k : Kind) → IsName n → IsNamedKind k → IsSpelled rest (word n ∷ kind_tokens k) → ⊥) → (h : OpeningLine) → IsOpeningLine text h → ⊥
+dictionary_outside text first rest f is bad (dictionary_opening n k) h = bad n k h.named.0 h.named.1 (named_behind text first rest (codes "dictionary") (word n ∷ kind_tokens k) f h.spelled).1
+dictionary_outside text first rest f is bad (configuration_opening n) h = heads_differ (codes "configuration") (codes "dictionary") refl ((named_behind text first rest (codes "configuration") (word n ∷ []) f h.spelled).0 ∙ is)
 
-pub configuration_outside : (text first rest : List ℕ) → Fronts text (word first ∷ []) rest → first ≡ codes "configuration" → ((n : List ℕ) → IsName n → IsSpelled rest (word n ∷ []) → ⊥) → (h : Head) → IsHead text h → ⊥
-configuration_outside text first rest f is bad (dictionary_head n k) h = heads_differ (codes "dictionary") (codes "configuration") refl ((named_behind text first rest (codes "dictionary") (word n ∷ kind_tokens k) f h.spelled).0 ∙ is)
-configuration_outside text first rest f is bad (configuration_head n) h = bad n h.named (named_behind text first rest (codes "configuration") (word n ∷ []) f h.spelled).1
+pub configuration_outside : (text first rest : List ℕ) → Fronts text (word first ∷ []) rest → first ≡ codes "configuration" → ((n : List ℕ) → IsName n → IsSpelled rest (word n ∷ []) → ⊥) → (h : OpeningLine) → IsOpeningLine text h → ⊥
+configuration_outside text first rest f is bad (dictionary_opening n k) h = heads_differ (codes "dictionary") (codes "configuration") refl ((named_behind text first rest (codes "dictionary") (word n ∷ kind_tokens k) f h.spelled).0 ∙ is)
+configuration_outside text first rest f is bad (configuration_opening n) h = bad n h.named (named_behind text first rest (codes "configuration") (word n ∷ []) f h.spelled).1
 
-pub no_head : (text first rest : List ℕ) → Fronts text (word first ∷ []) rest → (first ≡ codes "dictionary" → ⊥) → (first ≡ codes "configuration" → ⊥) → (h : Head) → IsHead text h → ⊥
-no_head text first rest f a b (dictionary_head n k) h = a (sym (named_behind text first rest (codes "dictionary") (word n ∷ kind_tokens k) f h.spelled).0)
-no_head text first rest f a b (configuration_head n) h = b (sym (named_behind text first rest (codes "configuration") (word n ∷ []) f h.spelled).0)
+pub no_opening_line : (text first rest : List ℕ) → Fronts text (word first ∷ []) rest → (first ≡ codes "dictionary" → ⊥) → (first ≡ codes "configuration" → ⊥) → (h : OpeningLine) → IsOpeningLine text h → ⊥
+no_opening_line text first rest f a b (dictionary_opening n k) h = a (sym (named_behind text first rest (codes "dictionary") (word n ∷ kind_tokens k) f h.spelled).0)
+no_opening_line text first rest f a b (configuration_opening n) h = b (sym (named_behind text first rest (codes "configuration") (word n ∷ []) f h.spelled).0)
 
-pub dictionary_is : (text first rest name : List ℕ) (k : Kind) → IsUtf8 text → Fronts text (word first ∷ []) rest → first ≡ codes "dictionary" → IsName name → IsKind k → IsSpelled rest (word name ∷ kind_tokens k) → IsHead text (dictionary_head name k)
+pub dictionary_is : (text first rest name : List ℕ) (k : Kind) → IsUtf8 text → Fronts text (word first ∷ []) rest → first ≡ codes "dictionary" → IsName name → IsNamedKind k → IsSpelled rest (word name ∷ kind_tokens k) → IsOpeningLine text (dictionary_opening name k)
 dictionary_is text first rest name k u f is n m s = record {
   utf8 = u;
   named = (n, m);
   spelled = subst (λ w. IsSpelled text (word w ∷ word name ∷ kind_tokens k)) is (f.goes_on (word name ∷ kind_tokens k) s);
 }
 
-pub configuration_is : (text first rest name : List ℕ) → IsUtf8 text → Fronts text (word first ∷ []) rest → first ≡ codes "configuration" → IsName name → IsSpelled rest (word name ∷ []) → IsHead text (configuration_head name)
+pub configuration_is : (text first rest name : List ℕ) → IsUtf8 text → Fronts text (word first ∷ []) rest → first ≡ codes "configuration" → IsName name → IsSpelled rest (word name ∷ []) → IsOpeningLine text (configuration_opening name)
 configuration_is text first rest name u f is n s = record {
   utf8 = u;
   named = n;

@@ -13,7 +13,7 @@ use Rattle.ts_base.specs.Words.{EndsWord, BeginsWithWord}
 use Rattle.ts_base.proofs.ByteKinds.{blank_ascii}
 use Rattle.shell_script.specs.Tokens.{ScriptToken, word, quote, IsSpelled}
 use Rattle.shell_script.specs.Lines.{HasNo}
-use Rattle.shell_script.specs.Grammar.{Statement, insert, search, show, query, parse, define, nothing, IsSession, HasSession, IsWrittenAs, IsStatement, label, expr_tokens, query_tokens, body_tokens, statement_tokens}
+use Rattle.shell_script.specs.Grammar.{Statement, insert, search, show, ask, parse, define, invalid, IsSession, HasSession, IsWrittenAs, IsStatement, label, expr_tokens, query_tokens, body_tokens, statement_tokens}
 use Rattle.shell_script.specs.Inner.Said.{IsSaidBehind}
 use Rattle.shell_script.specs.Inner.Fronts.{IsNoQuote}
 use Rattle.shell_script.proofs.Front.{one_first_word}
@@ -77,15 +77,15 @@ first_token : (s : ℕ) (statement : Statement) → HasSession s statement → F
 first_token s (insert e) h = by_label s (insert e) h
 first_token s (search t) h = by_label s (search t) h
 first_token s (show e) h = subst (λ n. FirstToken n (show e)) (sym h) (record { first = codes "show"; others = expr_tokens e; tokens = refl; some = omega arith; letters = show_letters })
-first_token s (query t) h = subst (λ n. FirstToken n (query t)) (sym h) (record { first = codes "ask"; others = query_tokens t; tokens = refl; some = omega arith; letters = ask_letters })
+first_token s (ask t) h = subst (λ n. FirstToken n (ask t)) (sym h) (record { first = codes "ask"; others = query_tokens t; tokens = refl; some = omega arith; letters = ask_letters })
 first_token s (parse t) h = subst (λ n. FirstToken n (parse t)) (sym h) (record { first = codes "parse"; others = quote t ∷ []; tokens = refl; some = omega arith; letters = parse_letters })
 first_token s (define head body) h = absurd h
-first_token s nothing h = absurd h
+first_token s invalid h = absurd h
 
 pub words_same : (v w : List ℕ) (xs ys : List ScriptToken) → word v ∷ xs ≡ word w ∷ ys → (v ≡ w) × (xs ≡ ys)
 words_same v w xs ys e = (cc, cc)
 
--- a character begins behind a word
+-- a character begins after a word
 seam : (front rest : List ℕ) → EndsWord rest → IsCharBoundary (front ++ rest) (length front)
 seam front [] h = (omega (arith, length-append front []), λ lt. absurd (omega (arith, lt, length-append front [])))
 seam front (b ∷ rest) h = (omega (arith, length-append front (b ∷ rest)), λ lt wide. absurd (by h (subst (λ n. 128 ≤ n) at wide)))
@@ -109,7 +109,7 @@ rest_utf8 line first rest b u =
 line_utf8 : (line first rest : List ℕ) → BeginsWithWord line first rest → AreLetters first → IsUtf8 rest → IsUtf8 line
 line_utf8 line first rest b letters u = subst IsUtf8 (sym b.text) (IsUtf8-append b.gap (first ++ rest) (IsUtf8-from_ascii b.gap (blanks_ascii b.gap b.blank)) (IsUtf8-append first rest (IsUtf8-from_ascii first letters.ascii) u))
 
--- what a line says is what is said behind its first word
+-- what a line says is what is said after its first word
 pub said_line : (line first rest : List ℕ) (s : ℕ) (statement : Statement) → BeginsWithWord line first rest → IsSaidBehind first rest s statement → IsWrittenAs line s statement
 said_line line first rest s statement b k =
     let f : FirstToken s statement = first_token s statement k.session in
@@ -143,14 +143,14 @@ no_word_says line wordless s statement k =
     wordless f.first found.0 found.1
 
 -- what the program's answer for a line says
-pub says_nothing : (line : List ℕ) (s : ℕ) (a : Statement) → s ≡ 0 → a ≡ nothing → ((t : ℕ) (b : Statement) → IsWrittenAs line t b → ⊥) → IsStatement line s a
+pub says_nothing : (line : List ℕ) (s : ℕ) (a : Statement) → s ≡ 0 → a ≡ invalid → ((t : ℕ) (b : Statement) → IsWrittenAs line t b → ⊥) → IsStatement line s a
 says_nothing line s a e f none = subst (IsStatement line s) (sym f) (e, none)
 
 pub says_statement : (line : List ℕ) (s : ℕ) (a : Statement) → IsWrittenAs line s a → IsStatement line s a
 says_statement line s (insert e) k = k
 says_statement line s (search t) k = k
 says_statement line s (show e) k = k
-says_statement line s (query t) k = k
+says_statement line s (ask t) k = k
 says_statement line s (parse t) k = k
 says_statement line s (define head body) k = k
-says_statement line s nothing k = absurd k.session
+says_statement line s invalid k = absurd k.session

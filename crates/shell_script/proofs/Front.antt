@@ -17,7 +17,7 @@ pub begins_word : (first rest : List ℕ) → IsWord first → BeginsWithout IsB
 begins_word [] rest w = absurd (omega (arith, w.some))
 begins_word (b ∷ bs) rest w = All-head IsDark b bs w.dark
 
--- a line has one first word, and one rest behind it
+-- a line has one first word, and one rest after it
 pub one_first_word : (line v w r s : List ℕ) → BeginsWithWord line v r → BeginsWithWord line w s → (v ≡ w) × (r ≡ s)
 one_first_word line v w r s h k =
     let gaps = same_front IsBlank h.gap k.gap (v ++ r) (w ++ s) h.blank k.blank (begins_word v r h.is_word) (begins_word w s k.is_word) (sym h.text ∙ k.text) in
@@ -38,7 +38,7 @@ not_empty [] m b l le e = absurd (omega arith)
 not_empty (x ∷ rest) zero b l le e = absurd (b e)
 not_empty (x ∷ rest) (suc m) b l le e = omega arith
 
--- what is left behind a place, cut to its length
+-- what is left after a place, cut to its length
 pub whole_rest : (line : List ℕ) (n : ℕ) → take (length line - n) (drop n line) ≡ drop n line
 whole_rest line n = ap (λ k. take k (drop n line)) (sym (length-drop n line)) ∙ take-length (drop n line)
 

@@ -3,7 +3,7 @@ use Rattle.std.proofs.Common.{◌≡◌, ℕ, ◌==◌, if◌then◌else◌, Lis
 use Rattle.std.specs.Prelude.{Option, Some, None, ◌≢◌}
 use Rattle.ts_base.specs.declared.Weight.{Weight}
 use Rattle.shell_script.specs.Tokens.{ScriptToken, word, quote, IsSpelled}
-use Rattle.shell_script.specs.Heads.{IsName}
+use Rattle.shell_script.specs.OpeningLines.{IsName}
 use Rattle.shell_script.specs.Grammar.{VectorSource, vector_text, vector_by, QuerySource, query_text, query_by, weight_letter, weight_tokens, source_tokens, maker_word, query_tokens, IsSource, IsQuery}
 use Rattle.shell_script.specs.declared.sources.Maker.{Maker}
 use Rattle.shell_script.specs.declared.sources.Maker.TheVariants.{To, Plain, Phrase, Web}
@@ -40,7 +40,7 @@ made_front text config rest more last t w f g h =
 pub text_front : (text rest last t : List ℕ) → Fronts text (word (codes "vector") ∷ []) rest → Fronts rest (quote t ∷ []) last → Fronts text (source_tokens (vector_text t)) last
 text_front text rest last t f h = front_both text rest last (word (codes "vector") ∷ []) (quote t ∷ []) f h
 
--- behind the word of vectors stands no quoted text
+-- after the word of vectors is no quoted text
 pub no_text : (text rest : List ℕ) → Fronts text (word (codes "vector") ∷ []) rest → ((t : List ℕ) (ts : List ScriptToken) → IsSpelled rest (quote t ∷ ts) → ⊥) → (s : VectorSource) (ts : List ScriptToken) → IsSource s → IsSpelled text (source_tokens s ++ ts) → ⊥
 no_text text rest f bad (vector_text t) ts is k = bad t ts (front_rest text (word (codes "vector") ∷ []) rest (quote t ∷ ts) f k)
 no_text text rest f bad (vector_by config w t) ts is k =
@@ -51,7 +51,7 @@ pub no_source : (text : List ℕ) → ((ts : List ScriptToken) → IsSpelled tex
 no_source text vectors names (vector_text t) ts is k = vectors (quote t ∷ ts) k
 no_source text vectors names (vector_by config w t) ts is k = names config ((weight_tokens w ++ quote t ∷ []) ++ ts) is k
 
--- behind a name, and a weight if there is one, stands no quoted text
+-- after a name, and a weight if there is one, is no quoted text
 pub no_made : (text config rest more : List ℕ) (v : Option Weight) → ((ts : List ScriptToken) → IsSpelled text (word (codes "vector") ∷ ts) → ⊥) → Fronts text (word config ∷ []) rest → Fronts rest (weight_tokens v) more → ((w : Option Weight) (t : List ℕ) (ts : List ScriptToken) → IsSpelled rest (weight_tokens w ++ (quote t ∷ ts)) → w ≡ v)
     → ((t : List ℕ) (ts : List ScriptToken) → IsSpelled more (quote t ∷ ts) → ⊥) → (s : VectorSource) (ts : List ScriptToken) → IsSource s → IsSpelled text (source_tokens s ++ ts) → ⊥
 no_made text config rest more v vectors f g first bad (vector_text t) ts is k = vectors (quote t ∷ ts) k
@@ -73,7 +73,7 @@ maker_is Web = refl
 pub makers_same : (m n : Maker) → maker_word m ≡ maker_word n → m ≡ n
 makers_same m n e = sym (maker_is m) ∙ ap (λ (w : List ℕ). maker_at (length w)) e ∙ maker_is n
 
--- a query's tokens tell the query
+-- a query's tokens say the query
 pub queries_same : (p q : QuerySource) → query_tokens p ≡ query_tokens q → p ≡ q
 queries_same (query_text t) (query_text u) e = let f : t ≡ u = cc in ap query_text f
 queries_same (query_text t) (query_by m c u) e = cc
@@ -85,19 +85,19 @@ queries_same (query_by m c t) (query_by n d u) e =
     let g : t ≡ u = cc in
     ap (λ z. query_by z c t) (makers_same m n o.0) ∙ ap (λ z. query_by n z t) p.0 ∙ ap (query_by n d) g
 
--- no query where neither a quoted text nor a word stands
+-- no query where neither a quoted text nor a word is
 pub no_query_word : (text : List ℕ) → ((w : List ℕ) (ts : List ScriptToken) → IsSpelled text (word w ∷ ts) → ⊥) → ((t : List ℕ) → IsSpelled text (quote t ∷ []) → ⊥) → (q : QuerySource) → IsQuery q → IsSpelled text (query_tokens q) → ⊥
 no_query_word text words texts (query_text t) is k = texts t k
 no_query_word text words texts (query_by m c t) is k = words (maker_word m) (word c ∷ quote t ∷ []) k
 
--- nor behind another word
+-- nor after another word
 pub no_maker : (text w rest : List ℕ) → Fronts text (word w ∷ []) rest → ((m : Maker) → maker_word m ≢ w) → (q : QuerySource) → IsQuery q → IsSpelled text (query_tokens q) → ⊥
 no_maker text w rest f bad (query_text t) is k =
     let o : quote t ≡ word w = (behind_one text (word w) rest (quote t) [] f k).0 in
     cc
 no_maker text w rest f bad (query_by m c t) is k = bad m (named_behind text w rest (maker_word m) (word c ∷ quote t ∷ []) f k).0
 
--- nor where something else than a name and a quoted text stands behind its word
+-- nor where something else than a name and a quoted text is after its word
 pub no_made_query : (text w rest : List ℕ) → Fronts text (word w ∷ []) rest → ((c t : List ℕ) → IsName c → IsSpelled rest (word c ∷ quote t ∷ []) → ⊥) → (q : QuerySource) → IsQuery q → IsSpelled text (query_tokens q) → ⊥
 no_made_query text w rest f bad (query_text t) is k =
     let o : quote t ≡ word w = (behind_one text (word w) rest (quote t) [] f k).0 in

@@ -2,10 +2,10 @@
 use Rattle.std.proofs.Common.{◌≡◌, ◌⊎◌, inl, inr, ℕ, ◌+◌, List, [], ◌∷◌, get_or, Bool, true, false, codes, arith, refl, sym, ◌∙◌, ap}
 use Rattle.std.specs.Prelude.{not}
 use Rattle.shell_script.specs.Tokens.{ScriptToken, word, quote}
-use Rattle.shell_script.specs.Grammar.{Statement, insert, show, query, parse, define, nothing, IsSession, IsWrittenAs, IsStatement, HasSession, IsNamed, label, expr_tokens, query_tokens, body_tokens, statement_tokens}
+use Rattle.shell_script.specs.Grammar.{Statement, insert, show, ask, parse, define, invalid, IsSession, IsWrittenAs, IsStatement, HasSession, IsNamed, label, expr_tokens, query_tokens, body_tokens, statement_tokens}
 use Rattle.shell_script.specs.Grammar.{search as finding}
 use Rattle.shell_script.specs.Lines.{Line}
-use Rattle.shell_script.specs.Heads.{Kind, simple_kind, porter_kind, synonym_kind, thesaurus_kind, Head, dictionary_head, configuration_head, mark_tokens, kind_tokens, head_tokens, IsHead}
+use Rattle.shell_script.specs.OpeningLines.{Kind, simple_kind, porter_kind, synonym_kind, thesaurus_kind, OpeningLine, dictionary_opening, configuration_opening, mark_tokens, kind_tokens, opening_tokens, IsOpeningLine}
 use Rattle.shell_script.specs.Steps.{Step, single, definition, stray}
 use Rattle.shell_script.specs.Says.{counted_lines, IsDefinition, Says}
 use Rattle.shell_script.specs.Inner.Said.{IsOfSession, IsPlain}
@@ -16,7 +16,7 @@ use Rattle.shell_script.proofs.Spelling.{one_spelling}
 labels_same : (s t : ℕ) → label s ≡ label t → s ≡ t
 labels_same s t e = let numbers : 48 + s ≡ 48 + t = cc in omega arith
 
--- a statement stands behind a label, or alone
+-- a statement is after a label, or alone
 abbrev Stands : ℕ → Statement → Type 0
 Stands s a = (IsOfSession a × IsSession s × (statement_tokens s a ≡ word (label s) ∷ body_tokens a)) ⊎ (IsPlain a × (s ≡ 0) × (statement_tokens s a ≡ body_tokens a))
 
@@ -24,20 +24,20 @@ stands : (s : ℕ) (a : Statement) → HasSession s a → IsNamed a → Stands s
 stands s (insert e) h n = inl (n, h, labelled_tokens s (insert e) h)
 stands s (finding q) h n = inl (n, h, labelled_tokens s (finding q) h)
 stands s (show e) h n = inr (n, h, plain_tokens s (show e) h)
-stands s (query q) h n = inr (n, h, plain_tokens s (query q) h)
+stands s (ask q) h n = inr (n, h, plain_tokens s (ask q) h)
 stands s (parse t) h n = inr (tt, h, plain_tokens s (parse t) h)
 stands s (define head body) h n = absurd h
-stands s nothing h n = absurd h
+stands s invalid h n = absurd h
 
 -- a label begins no plain statement
 label_or_plain : (s : ℕ) (ts : List ScriptToken) (b : Statement) → IsPlain b → word (label s) ∷ ts ≡ body_tokens b → ⊥
 label_or_plain s ts (show e) h same = label_or_show s (words_same (label s) (codes "show") ts (expr_tokens e) same).0
-label_or_plain s ts (query x) h same = label_or_ask s (words_same (label s) (codes "ask") ts (query_tokens x) same).0
+label_or_plain s ts (ask x) h same = label_or_ask s (words_same (label s) (codes "ask") ts (query_tokens x) same).0
 label_or_plain s ts (parse x) h same = label_or_parse s (words_same (label s) (codes "parse") ts (quote x ∷ []) same).0
 label_or_plain s ts (insert e) h same = h
 label_or_plain s ts (finding x) h same = h
 label_or_plain s ts (define head body) h same = h
-label_or_plain s ts nothing h same = h
+label_or_plain s ts invalid h same = h
 
 one_said : (s t : ℕ) (a b : Statement) → Stands s a → Stands t b → statement_tokens s a ≡ statement_tokens t b → (s ≡ t) × (a ≡ b)
 one_said s t a b (inl h) (inl k) same =
@@ -51,19 +51,19 @@ one_written : (line : List ℕ) (s t : ℕ) (a b : Statement) → IsWrittenAs li
 one_written line s t a b h k = one_said s t a b (stands s a h.session h.named) (stands t b k.session k.named) (one_spelling line (statement_tokens s a) (statement_tokens t b) h.spelled k.spelled)
 
 -- a line that says nothing, or a statement
-says : (line : List ℕ) (s : ℕ) (a : Statement) → IsStatement line s a → IsWrittenAs line s a ⊎ ((s ≡ 0) × (a ≡ nothing) × ((t : ℕ) (b : Statement) → IsWrittenAs line t b → ⊥))
+says : (line : List ℕ) (s : ℕ) (a : Statement) → IsStatement line s a → IsWrittenAs line s a ⊎ ((s ≡ 0) × (a ≡ invalid) × ((t : ℕ) (b : Statement) → IsWrittenAs line t b → ⊥))
 says line s (insert e) h = inl h
 says line s (finding t) h = inl h
 says line s (show e) h = inl h
-says line s (query t) h = inl h
+says line s (ask t) h = inl h
 says line s (parse t) h = inl h
 says line s (define head body) h = inl h
-says line s nothing h = inr (h.0, refl, h.1)
+says line s invalid h = inr (h.0, refl, h.1)
 
 one_statement : (line : List ℕ) (s t : ℕ) (a b : Statement) → IsStatement line s a → IsStatement line t b → (s ≡ t) × (a ≡ b)
 one_statement line s t a b h k = by (says line s a h) (says line t b k)
   where
-    by : IsWrittenAs line s a ⊎ ((s ≡ 0) × (a ≡ nothing) × ((n : ℕ) (e : Statement) → IsWrittenAs line n e → ⊥)) → IsWrittenAs line t b ⊎ ((t ≡ 0) × (b ≡ nothing) × ((n : ℕ) (e : Statement) → IsWrittenAs line n e → ⊥)) → (s ≡ t) × (a ≡ b)
+    by : IsWrittenAs line s a ⊎ ((s ≡ 0) × (a ≡ invalid) × ((n : ℕ) (e : Statement) → IsWrittenAs line n e → ⊥)) → IsWrittenAs line t b ⊎ ((t ≡ 0) × (b ≡ invalid) × ((n : ℕ) (e : Statement) → IsWrittenAs line n e → ⊥)) → (s ≡ t) × (a ≡ b)
     by (inl x) (inl y) = one_written line s t a b x y
     by (inl x) (inr y) = absurd (y.2 s a x)
     by (inr x) (inl y) = absurd (x.2 t b y)
@@ -82,7 +82,7 @@ not_tells false false e = refl
 not_tells true false e = sym e
 not_tells false true e = sym e
 
--- the word that a kind begins with, and what stands behind it
+-- the word that a kind begins with, and what is after it
 abbrev kind_word : Kind → List ℕ
 kind_word (simple_kind accept) = codes "simple"
 kind_word porter_kind = codes "porter"
@@ -101,7 +101,7 @@ kind_cut porter_kind = refl
 kind_cut (synonym_kind cases) = refl
 kind_cut (thesaurus_kind sub) = refl
 
--- the second byte tells them
+-- the second byte says them
 abbrev second : Kind → ℕ
 second k = get_or (kind_word k) 1 0
 
@@ -128,37 +128,37 @@ one_kind j k same =
     let o = words_same (kind_word j) (kind_word k) (kind_rest j) (kind_rest k) (sym (kind_cut j) ∙ same ∙ kind_cut k) in
     kinds_tell j k (ap (λ (w : List ℕ). get_or w 1 0) o.0) o.1
 
-tokens_tell : (h k : Head) → head_tokens h ≡ head_tokens k → h ≡ k
-tokens_tell (dictionary_head n i) (dictionary_head m j) same =
+tokens_tell : (h k : OpeningLine) → opening_tokens h ≡ opening_tokens k → h ≡ k
+tokens_tell (dictionary_opening n i) (dictionary_opening m j) same =
     let o = words_same (codes "dictionary") (codes "dictionary") (word n ∷ kind_tokens i) (word m ∷ kind_tokens j) same in
     let p = words_same n m (kind_tokens i) (kind_tokens j) o.1 in
-    ap (λ x. dictionary_head x i) p.0 ∙ ap (dictionary_head m) (one_kind i j p.1)
-tokens_tell (configuration_head n) (configuration_head m) same =
+    ap (λ x. dictionary_opening x i) p.0 ∙ ap (dictionary_opening m) (one_kind i j p.1)
+tokens_tell (configuration_opening n) (configuration_opening m) same =
     let o = words_same (codes "configuration") (codes "configuration") (word n ∷ []) (word m ∷ []) same in
-    ap configuration_head (words_same n m [] [] o.1).0
-tokens_tell (dictionary_head n i) (configuration_head m) same =
+    ap configuration_opening (words_same n m [] [] o.1).0
+tokens_tell (dictionary_opening n i) (configuration_opening m) same =
     absurd (heads_differ (codes "dictionary") (codes "configuration") refl (words_same (codes "dictionary") (codes "configuration") (word n ∷ kind_tokens i) (word m ∷ []) same).0)
-tokens_tell (configuration_head n) (dictionary_head m j) same =
+tokens_tell (configuration_opening n) (dictionary_opening m j) same =
     absurd (heads_differ (codes "configuration") (codes "dictionary") refl (words_same (codes "configuration") (codes "dictionary") (word n ∷ []) (word m ∷ kind_tokens j) same).0)
 
-pub one_head : (line : List ℕ) (h k : Head) → IsHead line h → IsHead line k → h ≡ k
-one_head line h k p q = tokens_tell h k (one_spelling line (head_tokens h) (head_tokens k) p.spelled q.spelled)
+pub one_opening_line : (line : List ℕ) (h k : OpeningLine) → IsOpeningLine line h → IsOpeningLine line k → h ≡ k
+one_opening_line line h k p q = tokens_tell h k (one_spelling line (opening_tokens h) (opening_tokens k) p.spelled q.spelled)
 
 -- a definition says its first line and its body, or nothing
 abbrev Defines : Line → List Line → Statement → Type 0
-Defines l body a = ((h : Head) × IsHead l.bytes h × (a ≡ define h (counted_lines body))) ⊎ ((a ≡ nothing) × ((h : Head) → IsHead l.bytes h → ⊥))
+Defines l body a = ((h : OpeningLine) × IsOpeningLine l.bytes h × (a ≡ define h (counted_lines body))) ⊎ ((a ≡ invalid) × ((h : OpeningLine) → IsOpeningLine l.bytes h → ⊥))
 
 defined : (l : Line) (body : List Line) (a : Statement) → IsDefinition l body a → Defines l body a
 defined l body (define h ls) d = inl (h, d.0, ap (define h) d.1)
-defined l body nothing d = inr (refl, d)
+defined l body invalid d = inr (refl, d)
 defined l body (insert e) d = absurd d
 defined l body (finding t) d = absurd d
 defined l body (show e) d = absurd d
-defined l body (query t) d = absurd d
+defined l body (ask t) d = absurd d
 defined l body (parse t) d = absurd d
 
 one_definition : (l : Line) (body : List Line) (a b : Statement) → Defines l body a → Defines l body b → a ≡ b
-one_definition l body a b (inl x) (inl y) = x.2 ∙ ap (λ h. define h (counted_lines body)) (one_head l.bytes x.0 y.0 x.1 y.1) ∙ sym y.2
+one_definition l body a b (inl x) (inl y) = x.2 ∙ ap (λ h. define h (counted_lines body)) (one_opening_line l.bytes x.0 y.0 x.1 y.1) ∙ sym y.2
 one_definition l body a b (inl x) (inr y) = absurd (y.1 x.0 x.1)
 one_definition l body a b (inr x) (inl y) = absurd (x.1 y.0 y.1)
 one_definition l body a b (inr x) (inr y) = x.0 ∙ sym y.0

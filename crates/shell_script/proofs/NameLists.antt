@@ -1,4 +1,4 @@
--- The names that stand in a text.
+-- The names that are in a text.
 use Rattle.std.proofs.Common.{◌≡◌, ◌⊎◌, inl, inr, ℕ, ◌<◌, if◌then◌else◌, List, [], ◌∷◌, ◌++◌, length, append_assoc, map, arith, refl, sym, ◌∙◌, ap, subst}
 use Rattle.std.specs.List.{All}
 use Rattle.std.proofs.lemmas.List.{append-nil, map_push}
@@ -8,7 +8,7 @@ use Rattle.ts_base.specs.Words.{IsWord, EndsWord, BeginsWithWord}
 use Rattle.ts_base.proofs.LineWords.{IsDark}
 use Rattle.shell_script.specs.StepsOf.{word_of}
 use Rattle.shell_script.specs.Tokens.{ScriptToken, word, IsSpelled}
-use Rattle.shell_script.specs.Heads.{IsName}
+use Rattle.shell_script.specs.OpeningLines.{IsName}
 use Rattle.shell_script.specs.Inner.Fronts.{Fronts}
 use Rattle.shell_script.specs.Inner.Parts.{words_from, words_in}
 use Rattle.shell_script.proofs.Openings.{blank_true, dark_false, word_before}
@@ -30,7 +30,7 @@ words_at (b ∷ gap) w rest g k e =
     ap (λ x. if x then words_from 0 all else (b ∷ word_of all) ∷ words_from (length (word_of all)) all) (blank_true b (All-head IsBlank b gap g))
     ∙ words_at gap w rest (All-tail IsBlank b gap g) k e
 
--- the first of a text's words, and those behind it
+-- the first of a text's words, and those after it
 pub words_first : (text w rest : List ℕ) → BeginsWithWord text w rest → words_in text ≡ w ∷ words_in rest
 words_first text w rest h = ap words_in h.text ∙ words_at h.gap w rest h.blank h.is_word h.ends
 
@@ -71,14 +71,14 @@ names_end text rest r blank some =
     full [] h = absurd (some h)
     full (n ∷ ns) h = omega arith
 
--- what stands behind some of the names
+-- what is after some of the names
 behind_names : (ns ms : List (List ℕ)) (ts : List ScriptToken) → All IsName ns → map word ns ≡ map word ms ++ ts → (ts ≡ []) ⊎ ((n : List ℕ) × (us : List ScriptToken) × IsName n × (ts ≡ word n ∷ us))
 behind_names [] [] ts h e = inl (sym e)
 behind_names (n ∷ ns) [] ts h e = inr (n, map word ns, All-head IsName n ns h, sym e)
 behind_names [] (m ∷ ms) ts h e = cc
 behind_names (n ∷ ns) (m ∷ ms) ts h e = behind_names ns ms ts (All-tail IsName n ns h) (cc)
 
--- no name stands in front of what is left
+-- no name is in front of what is left
 pub names_fault : (text rest : List ℕ) → NamesRead text rest → (All IsBlank rest → ⊥) → ((n : List ℕ) (ts : List ScriptToken) → IsName n → IsSpelled rest (word n ∷ ts) → ⊥) → (ns : List (List ℕ)) → 0 < length ns → All IsName ns → IsSpelled text (map word ns) → ⊥
 names_fault text rest r some bad ns full h k =
     let o = r.front.came_so (map word ns) k in

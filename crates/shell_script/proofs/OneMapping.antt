@@ -2,7 +2,7 @@
 use Rattle.std.proofs.Common.{◌≡◌, ℕ, List, [], ◌∷◌, map, refl, sym, ◌∙◌, ap}
 use Rattle.ts_parser.specs.declared.kinds.TokenType.{TokenType}
 use Rattle.shell_script.specs.Tokens.{word}
-use Rattle.shell_script.specs.Heads.{IsMapping}
+use Rattle.shell_script.specs.OpeningLines.{IsMapping}
 use Rattle.shell_script.specs.Inner.Parts.{types_in}
 use Rattle.shell_script.proofs.FirstTokens.{words_same}
 use Rattle.shell_script.proofs.Spelling.{one_spelling}

@@ -56,7 +56,7 @@ first_at (b ∷ gap) w rest g k e =
 pub first_is : (line w rest : List ℕ) → BeginsWithWord line w rest → first_word line ≡ w
 first_is line w rest h = ap first_word h.text ∙ first_at h.gap w rest h.blank h.is_word h.ends
 
--- what stands behind the first word
+-- what is after the first word
 pub word_cut : (bytes : List ℕ) → (rest : List ℕ) × (bytes ≡ word_of bytes ++ rest) × EndsWord rest × All IsDark (word_of bytes)
 word_cut [] = ([], refl, tt, All-nil IsDark)
 word_cut (b ∷ bytes) = by (is_blank b) refl (word_cut bytes)

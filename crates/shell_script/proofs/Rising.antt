@@ -1,4 +1,4 @@
--- Steps stand in the order of their lines.
+-- Steps are in the order of their lines.
 use Rattle.std.proofs.Common.{◌≡◌, ℕ, zero, suc, ◌+◌, ◌≤◌, Bool, true, false, if◌then◌else◌, List, [], ◌∷◌, length, arith, refl}
 use Rattle.shell_script.specs.Lines.{Line, lines_from}
 use Rattle.shell_script.specs.Steps.{Step}

@@ -32,7 +32,7 @@ no_quote_behind : (r : List ℕ) → EndsWord r → BeginsWithout IsQuote r
 no_quote_behind [] m = tt
 no_quote_behind (b ∷ r) m = λ e. blank_is_no_quote b m e
 
--- behind the closing quote no quote follows
+-- after the closing quote no quote follows
 closes : (r x : List ℕ) → BeginsWithout IsQuote r → r ≡ 39 ∷ x → ⊥
 closes r x m e = subst (BeginsWithout IsQuote) e m refl
 
@@ -121,7 +121,7 @@ pub quote_piece : (text q rest piece more : List ℕ) → text ≡ doubled q ++ 
 quote_piece text q rest piece more e f free =
     e ∙ ap (λ z. doubled q ++ z) (f ∙ ap (λ z. z ++ 39 ∷ more) (sym (doubled_plain piece free))) ∙ sym (append_assoc (doubled q) (doubled piece) (39 ∷ more)) ∙ ap (λ z. z ++ 39 ∷ more) (sym (doubled_append q piece))
 
--- and a second quote behind that
+-- and a second quote after that
 pub quote_pair : (text q more next : List ℕ) → text ≡ doubled q ++ 39 ∷ more → more ≡ 39 ∷ next → text ≡ doubled (q ++ 39 ∷ []) ++ next
 quote_pair text q more next e f =
     e ∙ ap (λ z. doubled q ++ 39 ∷ z) f ∙ sym (append_assoc (doubled q) (39 ∷ 39 ∷ []) next) ∙ ap (λ z. z ++ next) (sym (doubled_append q (39 ∷ [])))
@@ -137,7 +137,7 @@ no_word_first : (text w r : List ℕ) → IsToken (word w) → 39 ∷ text ≡ w
 no_word_first text [] r h e = omega (arith, h.0.some)
 no_word_first text (b ∷ w) r h e = let f : b ≡ 39 = cc in All-head IsNoQuote b w h.1 f
 
--- something stands right behind the quoted text
+-- something is right after the quoted text
 pub quote_fault : (text q more : List ℕ) → text ≡ doubled q ++ 39 ∷ more → BeginsWithout IsQuote more → (EndsWord more → ⊥) → (t : ScriptToken) (r : List ℕ) → IsFirst (39 ∷ text) t r → ⊥
 quote_fault text q more e m bad (word w) r h = no_word_first text w r h.0 h.1
 quote_fault text q more e m bad (quote t) r h =
@@ -184,7 +184,7 @@ front_of rest u us m k = by k.0 k.2 k.4
     by [] g e = (k.1, (k.3, e, k.5), k.6)
     by (c ∷ gap) g e = absurd (subst (BeginsWithout IsBlank) e m (All-head IsBlank c gap g))
 
--- the token in front of a text that blanks stand before
+-- the token in front of a text that blanks come before
 pub first_of : (text gap inner : List ℕ) → All IsBlank gap → text ≡ gap ++ inner → BeginsWithout IsBlank inner → (t : ScriptToken) (ts : List ScriptToken) → IsSpelled text (t ∷ ts) → (rest : List ℕ) × IsFirst inner t rest × IsSpelled rest ts
 first_of text gap inner blank e m t ts k = front_of inner t ts m (less_blanks gap inner (t ∷ ts) blank (subst (λ z. IsSpelled z (t ∷ ts)) e k))
 
@@ -219,17 +219,17 @@ front_both a b c f g p q = record {
   takes = omega (arith, length-append f g, p.takes, q.takes);
 }
 
--- what stands behind the front
+-- what is after the front
 pub front_rest : (text : List ℕ) (front : List ScriptToken) (rest : List ℕ) (ts : List ScriptToken) → Fronts text front rest → IsSpelled text (front ++ ts) → IsSpelled rest ts
 front_rest text front rest ts h k =
     let o = h.came_so (front ++ ts) k in
     subst (IsSpelled rest) (sym (append_cancel_left front ts o.0 o.1)) o.2
 
--- nothing but the front stands there
+-- nothing but the front is there
 pub front_whole : (text : List ℕ) (front : List ScriptToken) (rest : List ℕ) → Fronts text front rest → All IsBlank rest → IsSpelled text front
 front_whole text front rest h blank = subst (IsSpelled text) (append-nil front) (h.goes_on [] blank)
 
--- the first token, and the others behind it
+-- the first token, and the others after it
 pub behind_one : (text : List ℕ) (t : ScriptToken) (rest : List ℕ) (u : ScriptToken) (us : List ScriptToken) → Fronts text (t ∷ []) rest → IsSpelled text (u ∷ us) → (u ≡ t) × IsSpelled rest us
 behind_one text t rest u us h k =
     let o = h.came_so (u ∷ us) k in
@@ -237,14 +237,14 @@ behind_one text t rest u us h k =
     let same : o.0 ≡ us = cc in
     (cc, subst (IsSpelled rest) same o.2)
 
--- more than one token stands there
+-- more than one token is there
 pub front_fault : (text : List ℕ) (t : ScriptToken) (rest : List ℕ) → Fronts text (t ∷ []) rest → (All IsBlank rest → ⊥) → (u : ScriptToken) → IsSpelled text (u ∷ []) → ⊥
 front_fault text t rest h some u k = some (behind_one text t rest u [] h k).1
 
 word_of : (v w : List ℕ) → word w ≡ word v → v ≡ w
 word_of v w e = cc
 
--- another word stands in front
+-- another word is in front
 pub other_word : (text v w rest : List ℕ) (ts : List ScriptToken) → Fronts text (word v ∷ []) rest → (v ≡ w → ⊥) → IsSpelled text (word w ∷ ts) → ⊥
 other_word text v w rest ts h differ k = differ (word_of v w (behind_one text (word v) rest (word w) ts h k).0)
 
@@ -252,7 +252,7 @@ pub blank_text : (text gap inner : List ℕ) → All IsBlank gap → text ≡ ga
 blank_text text gap [] blank e m = (λ z. subst (All IsBlank) (sym e) (All-append IsBlank gap [] blank (All-nil IsBlank)), λ h. refl)
 blank_text text gap (b ∷ inner) blank e m = (λ z. absurd (omega arith), λ h. absurd (no_blank_in gap (b ∷ inner) m (subst (All IsBlank) e h)))
 
--- a word in front, and what stands behind it
+-- a word in front, and what is after it
 pub spelled_word : (line w : List ℕ) (ts : List ScriptToken) → IsSpelled line (word w ∷ ts) → (rest : List ℕ) × BeginsWithWord line w rest × IsSpelled rest ts
 spelled_word line w ts k = (k.1, record { gap = k.0; blank = k.2; is_word = k.3.0; text = k.4; ends = k.5 }, k.6)
 
@@ -260,11 +260,11 @@ spelled_word line w ts k = (k.1, record { gap = k.0; blank = k.2; is_word = k.3.
 pub word_front : (text w rest : List ℕ) → BeginsWithWord text w rest → All IsNoQuote w → Fronts text (word w ∷ []) rest
 word_front text w rest b free = front_token text b.gap (w ++ rest) (word w) rest b.blank b.text (begins_word w rest b.is_word) ((b.is_word, free), refl, b.ends)
 
--- no word stands in front of a blank text
+-- no word is in front of a blank text
 pub no_blank_word : (text : List ℕ) → All IsBlank text → (v : List ℕ) (ts : List ScriptToken) → IsSpelled text (word v ∷ ts) → ⊥
 no_blank_word text blank v ts k = let found = spelled_word text v ts k in no_first_word text blank v found.0 found.1
 
--- nor where a quote stands in the first word
+-- nor where a quote is in the first word
 pub no_quoted_word : (text w rest a b : List ℕ) → BeginsWithWord text w rest → w ≡ a ++ 39 ∷ b → (v : List ℕ) (ts : List ScriptToken) → IsSpelled text (word v ∷ ts) → ⊥
 no_quoted_word text w rest a b h e v ts k =
     let found = spelled_word text v ts k in

@@ -118,7 +118,7 @@ complete w ls ss (closes l ms ts n e h) =
     ap (λ z. stray l ∷ z) (complete false ms ts h)
     ∙ sym (steps_counted true l ms Closing (unskipped l n) (inner_is l true (end_true l e)))
 
--- what the steps behind a line are known to be
+-- what the steps after a line are known to be
 record Behind (n : ℕ) : Type 0 where
   are : (w : Bool) (ls : List Line) → length ls ≤ n → AreSteps w ls (steps_from 0 w ls)
 

@@ -88,7 +88,7 @@ part_whole (b ∷ p) h =
     ap (λ x. if x then [] else b ∷ part_of p) (ne_eqb b comma (All-head (λ (b : ℕ). b ≢ comma) b p h))
     ∙ ap (λ z. b ∷ z) (part_whole p (All-tail (λ (b : ℕ). b ≢ comma) b p h))
 
--- the part is all, or a comma stands behind it
+-- the part is all, or a comma is after it
 pub part_cut : (text : List ℕ) → (part_of text ≡ text) ⊎ (text ≡ part_of text ++ comma ∷ drop (length (part_of text) + 1) text)
 part_cut [] = inl refl
 part_cut (b ∷ text) = by (b == comma) refl (part_cut text)
@@ -153,7 +153,7 @@ drop_all : (p : List ℕ) → drop (length p + 1) p ≡ []
 drop_all [] = refl
 drop_all (x ∷ p) = ap (λ m. drop m (x ∷ p)) (let z : suc (length p) + 1 ≡ suc (length p + 1) = omega arith in z) ∙ drop_all p
 
--- the first of a text's types, and those behind it
+-- the first of a text's types, and those after it
 pub next_type : (text name rest : List ℕ) (k : TokenType) → IsTypes text → name ≡ part_of text → rest ≡ drop (length (part_of text) + 1) text → type_name k ≡ name → (types_in text ≡ k ∷ types_in rest) × IsTypes rest
 next_type text name rest k h n r e = by (types_in text) h
   where
@@ -238,7 +238,7 @@ read_last text rest name k r n e same =
     ] in
     (r.done ++ k ∷ [], omega (arith, length-append r.done (k ∷ [])), r.whole ∙ ap (λ z. flat_map type_comma r.done ++ z) whole ∙ text_of r.done k)
 
--- no type's name stands there
+-- no type's name is there
 pub read_fault : (text rest name : List ℕ) → TypesRead text rest → name ≡ part_of rest → ((k : TokenType) → type_name k ≢ name) → (ks : List TokenType) → 0 < length ks → text ≢ types_text ks
 read_fault text rest name r n none ks some e = let o = r.only ks some e in by o.0 o.1 o.2
   where

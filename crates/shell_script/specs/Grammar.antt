@@ -6,7 +6,7 @@ use Rattle.ts_base.specs.declared.Weight.{Weight}
 use Rattle.ts_base.specs.declared.Weight.TheVariants.{A, B, C, D}
 use Rattle.shell_script.specs.Tokens.{ScriptToken, word, quote, IsSpelled}
 use Rattle.shell_script.specs.Lines.{Line}
-use Rattle.shell_script.specs.Heads.{Head, IsName}
+use Rattle.shell_script.specs.OpeningLines.{OpeningLine, IsName}
 use Rattle.shell_script.specs.declared.sources.Maker.{Maker}
 use Rattle.shell_script.specs.declared.sources.Maker.TheVariants.{To, Plain, Phrase, Web}
 
@@ -61,7 +61,7 @@ source_tokens (vector_by config weight text) =
 abbrev pub part_tokens : Part → List ScriptToken
 part_tokens p = strip_tokens p.stripped ++ source_tokens p.source
 
--- each part but the first stands behind `||`
+-- each part but the first is after `||`
 abbrev pub joined_tokens : Part → List ScriptToken
 joined_tokens p = word (codes "||") ∷ part_tokens p
 
@@ -96,20 +96,20 @@ pub data Statement : Type 0 where
   insert : Expr → Statement
   search : QuerySource → Statement
   show : Expr → Statement
-  query : QuerySource → Statement
+  ask : QuerySource → Statement
   parse : List ℕ → Statement
-  define : Head → List Line → Statement
-  nothing : Statement
+  define : OpeningLine → List Line → Statement
+  invalid : Statement
 
 -- the tokens of a statement of one line, but for a session's label
 abbrev pub body_tokens : Statement → List ScriptToken
 body_tokens (insert e) = word (codes "insert") ∷ expr_tokens e
 body_tokens (search q) = word (codes "search") ∷ query_tokens q
 body_tokens (show e) = word (codes "show") ∷ expr_tokens e
-body_tokens (query q) = word (codes "ask") ∷ query_tokens q
+body_tokens (ask q) = word (codes "ask") ∷ query_tokens q
 body_tokens (parse text) = word (codes "parse") ∷ quote text ∷ []
 body_tokens (define head body) = []
-body_tokens nothing = []
+body_tokens invalid = []
 
 -- the label of a session, where there is one
 abbrev pub label_tokens : ℕ → List ScriptToken
@@ -124,17 +124,17 @@ abbrev pub HasSession : ℕ → Statement → Type 0
 HasSession s (insert e) = IsSession s
 HasSession s (search q) = IsSession s
 HasSession s (show e) = s ≡ 0
-HasSession s (query q) = s ≡ 0
+HasSession s (ask q) = s ≡ 0
 HasSession s (parse text) = s ≡ 0
 HasSession s (define head body) = ⊥
-HasSession s nothing = ⊥
+HasSession s invalid = ⊥
 
 -- what a statement is made of is named by a NAME
 abbrev pub IsNamed : Statement → Type 0
 IsNamed (insert e) = IsExpr e
 IsNamed (search q) = IsQuery q
 IsNamed (show e) = IsExpr e
-IsNamed (query q) = IsQuery q
+IsNamed (ask q) = IsQuery q
 IsNamed statement = Unit {0}
 
 -- a text whose tokens are those of a statement
@@ -151,6 +151,6 @@ IsSkipped (b ∷ bytes) = b ≡ 35
 
 -- a line's session (0 where it has none) and its statement
 abbrev pub IsStatement : List ℕ → ℕ → Statement → Type 0
-IsStatement line s nothing =
+IsStatement line s invalid =
     (s ≡ 0) × ((t : ℕ) (statement : Statement) → IsWrittenAs line t statement → ⊥)
 IsStatement line s statement = IsWrittenAs line s statement

@@ -5,8 +5,8 @@ pub mod Steps
 pub mod StepsOf
 pub mod Says
 pub mod StepView
-pub mod Heads
-pub mod HeadView
+pub mod OpeningLines
+pub mod OpeningLineView
 pub mod StatementView
 pub mod Replies
 pub mod ReplyView

@@ -9,7 +9,7 @@ use Rattle.shell_script.specs.declared.sources.QuerySource.TheVariants as querie
 use Rattle.shell_script.specs.declared.sources.Part.{Part}
 use Rattle.shell_script.specs.declared.sources.Expr.{Expr}
 use Rattle.shell_script.specs.declared.statement.Statement.{Statement}
-use Rattle.shell_script.specs.declared.statement.Statement.TheVariants.{Insert, Search, Show, Query, Parse, Nothing}
+use Rattle.shell_script.specs.declared.statement.Statement.TheVariants.{Insert, Search, Show, Ask, Parse, Invalid}
 
 abbrev pub vector_source : VectorSource → grammar.VectorSource
 vector_source (vectors.Text text) = grammar.vector_text (string_bytes text)
@@ -31,6 +31,6 @@ abbrev pub statement : Statement → grammar.Statement
 statement (Insert e) = grammar.insert (expr e)
 statement (Search q) = grammar.search (query_source q)
 statement (Show e) = grammar.show (expr e)
-statement (Query q) = grammar.query (query_source q)
+statement (Ask q) = grammar.ask (query_source q)
 statement (Parse text) = grammar.parse (string_bytes text)
-statement Nothing = grammar.nothing
+statement Invalid = grammar.invalid

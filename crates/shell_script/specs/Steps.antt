@@ -19,7 +19,7 @@ OpensDefinition l = HasFirst (codes "dictionary") l ⊎ HasFirst (codes "configu
 abbrev pub OpensBlock : Line → Type 0
 OpensBlock l = HasFirst (codes "parallel") l
 
--- the lines of a body, up to the first that is exactly `end`, and what stands behind that
+-- the lines of a body, up to the first that is exactly `end`, and what is after that
 pub record HasBody (ls body rest : List Line) : Type 0 where
   pub last : Line
   pub is_end : IsEnd last
@@ -27,14 +27,14 @@ pub record HasBody (ls body rest : List Line) : Type 0 where
   pub before : All (λ (l : Line). ¬ IsEnd l) body
 
 -- A step is a line by itself, a definition with the lines of its body, or a line that is no
--- statement where it stands.
+-- statement where it is.
 pub data Step : Type 0 where
   single : Line → Step
   definition : Line → List Line → Step
   stray : Line → Step
 
--- The steps of lines; whether the first stands in a block. Blocks are not built, so each line of one
--- is no statement. A definition without its end is the last step, and nothing behind it is one.
+-- The steps of lines; whether the first is in a block. Blocks are not built, so each line of one
+-- is no statement. A definition without its end is the last step, and nothing after it is one.
 pub data AreSteps : Bool → List Line → List Step → Type 0 where
   over : (within : Bool) → AreSteps within [] []
   skips : (within : Bool) (l : Line) (ls : List Line) (ss : List Step) → IsSkipped l.bytes

@@ -37,7 +37,7 @@ opens_block bytes = bytes_eq (first_word bytes) (codes "parallel")
 abbrev pub role_outside : Bool → Bool → Role
 role_outside block defines = if block then Inner else (if defines then Opening else Alone)
 
--- what a line is that is not skipped, given whether it stands in a block
+-- what a line is that is not skipped, given whether it is in a block
 abbrev pub role : Bool → List ℕ → Role
 role true bytes = if is_end bytes then Closing else Inner
 role false bytes = role_outside (opens_block bytes) (opens_definition bytes)
@@ -50,13 +50,13 @@ body_of (l ∷ ls) = if is_end l.bytes then [] else l ∷ body_of ls
 abbrev pub has_end : List Line → Bool
 has_end ls = list_any (λ (l : Line). is_end l.bytes) ls
 
--- the step of a definition, and the steps behind its body, if that has an end
+-- the step of a definition, and the steps after its body, if that has an end
 abbrev pub defined_steps : Bool → Line → List Line → List Step → List Step
 defined_steps true l body behind = definition l body ∷ behind
 defined_steps false l body behind = stray l ∷ []
 
--- the steps from a line on, by its role and the steps behind it: outside a block, within one, and
--- behind a body
+-- the steps from a line on, by its role and the steps after it: outside a block, within one, and
+-- after a body
 abbrev pub steps_at : Role → Line → List Line → List Step → List Step → List Step → List Step
 steps_at Alone l ls outside inside behind = single l ∷ outside
 steps_at Opening l ls outside inside behind = defined_steps (has_end ls) l (body_of ls) behind

@@ -11,12 +11,12 @@ use Rattle.shell_script.specs.Replies.{Reply, stored, lists, shows_vector, shows
 abbrev pub name_text : Name → List ℕ
 name_text n = decimal n.page ++ codes "/" ++ decimal n.slot ++ codes "#" ++ decimal n.serial
 
--- a statement of a session is answered behind its label
+-- a statement of a session is answered after its label
 abbrev pub label_text : ℕ → List ℕ
 label_text zero = []
 label_text (suc n) = codes "@" ++ (decimal (suc n) ++ codes " ")
 
--- a text, if there is any, stands behind a space
+-- a text, if there is any, is after a space
 abbrev pub behind_space : List ℕ → List ℕ
 behind_space [] = []
 behind_space (c ∷ text) = 32 ∷ c ∷ text
@@ -42,7 +42,7 @@ refusal_words (down count) = codes "14 down"
 refusal_words device = codes "15 device"
 refusal_words memory = codes "17 memory"
 
--- the offset or size that a text's refusal tells
+-- the offset or size that a text's refusal says
 abbrev pub fault_detail : TextFault → Option ℕ
 fault_detail (bad_vector at) = Some at
 fault_detail (bad_query at) = Some at
@@ -50,7 +50,7 @@ fault_detail (long_lexeme at) = Some at
 fault_detail (large_vector bytes) = Some bytes
 fault_detail large_query = None
 
--- the line, offset, size or count that it tells
+-- the line, offset, size or count that it says
 abbrev pub refusal_detail : Refusal → Option ℕ
 refusal_detail (no_statement line) = Some line
 refusal_detail no_configuration = None
@@ -86,7 +86,7 @@ token_line t =
     codes "token " ++ (decimal (type_number t.kind) ++ (codes " " ++ (decimal t.start
     ++ (codes " " ++ (decimal t.length ++ codes "\n")))))
 
--- the lines of tokens stand before the line that says what a reply says
+-- the lines of tokens are before the line that says what a reply says
 abbrev pub token_lines : Reply → List ℕ
 token_lines (shows_tokens tokens) = flat_map token_line tokens
 token_lines reply = []

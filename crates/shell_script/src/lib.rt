@@ -6,7 +6,7 @@ ghost use Rattle.shell_script.specs.Lines.{script_lines};
 ghost use Rattle.shell_script.specs.Steps.{AreSteps};
 ghost use Rattle.shell_script.specs.StepsOf.{steps_of};
 
-mod heads;
+mod opening_lines;
 mod laws;
 mod line;
 mod lines;
@@ -18,7 +18,7 @@ mod statement;
 mod texts;
 mod tokens;
 
-pub use heads::{Head, Kind, LONGEST_NAME, read_head};
+pub use opening_lines::{OpeningLine, Kind, LONGEST_NAME, read_opening_line};
 pub use laws::{one_meaning, one_reading, one_spelling};
 pub use line::is_skipped;
 pub use lines::{Line, Lines};

@@ -10,7 +10,7 @@ ghost use Rattle.ts_base.specs.Words.{EndsWord, BeginsWithWord};
 use memchr::memchr;
 use ts_base::is_blank;
 
-/// What stands before the first such byte, and behind it.
+/// What is before the first such byte, and after it.
 pub fn cut_at(byte: u8, bytes: &[u8]) -> Option<(&[u8], &[u8])>
     ensures some { IfSome result (λ r. (bytes.now ≡ r.0.now ++ byte ∷ r.1.now)
         × HasNo byte r.0.now) }
@@ -42,7 +42,7 @@ pub fn is_skipped(line: &[u8]) -> bool
     }
 }
 
-/// How many blanks stand at the front. A line need not be UTF-8.
+/// How many blanks are at the front. A line need not be UTF-8.
 fn blanks_len(line: &[u8]) -> usize
     ensures within { result ≤ length line.now }
     ensures blank { All IsBlank (take result line.now) }
@@ -53,7 +53,7 @@ fn blanks_len(line: &[u8]) -> usize
         .unwrap_or(line.len())
 }
 
-/// How many bytes stand before the first blank.
+/// How many bytes are before the first blank.
 fn word_length(line: &[u8]) -> usize
     ensures within { result ≤ length line.now }
     ensures unbroken { All (λ (b : ℕ). ¬ IsBlank b) (take result line.now) }
@@ -65,7 +65,7 @@ fn word_length(line: &[u8]) -> usize
     }
 }
 
-/// The first word of a line, and what stands behind it.
+/// The first word of a line, and what is after it.
 pub fn first_word(line: &[u8]) -> Option<(&[u8], &[u8])>
     ensures some { IfSome result (λ r. BeginsWithWord line.now r.0.now r.1.now) }
     ensures none { IfNone result ((first rest : List ℕ) → BeginsWithWord line.now first rest → ⊥) }

@@ -38,7 +38,7 @@ impl<'a> Model for Lines<'a> {
     ghost invariant = { NumbersFit };
 }
 
-/// The first line of a text, and what stands behind it.
+/// The first line of a text, and what is after it.
 pub(crate) fn next_line(text: &[u8]) -> Option<(&[u8], &[u8])>
     ensures some { IfSome result (λ r. lines text.now ≡ r.0.now ∷ lines r.1.now) }
     ensures cut { IfSome result (λ r. IsCutOff text.now r.0.now r.1.now) }

@@ -5,10 +5,10 @@ ghost use Rattle.std.specs.List.{All, join_with_byte};
 ghost use Rattle.ts_parser.specs.declared.kinds.TokenType.{TokenType as Kinds};
 ghost use Rattle.ts_parser.specs.Kinds.{type_name};
 ghost use Rattle.shell_script.specs.Tokens.{IsSpelled, word};
-ghost use Rattle.shell_script.specs.Heads.{IsName, IsMapping};
+ghost use Rattle.shell_script.specs.OpeningLines.{IsName, IsMapping};
 ghost use Rattle.shell_script.specs.Inner.Parts.{comma, part_of};
 
-use crate::heads::front_name;
+use crate::opening_lines::front_name;
 use crate::tokens::{front_word, is_all_blank};
 use memchr::memchr;
 use std::marker::Model;
@@ -34,7 +34,7 @@ impl<'a> Model for Types<'a> {
     ghost invariant = { λ t. IsTypes t.text.now };
 }
 
-/// The bytes before the first comma, and those behind it.
+/// The bytes before the first comma, and those after it.
 fn cut_at_comma(text: &str) -> (&str, &str)
     ensures front { result.0.now ≡ part_of text.now }
     ensures behind { result.1.now ≡ drop (length (part_of text.now) + 1) text.now }
@@ -66,7 +66,7 @@ impl<'a> Iterator for Types<'a> {
 /// The names that are left of a line. Contracts see them as their list.
 #[derive(Drop)]
 pub struct Names<'a> {
-    /// The text that they stand in.
+    /// The text that they are in.
     text: &'a str,
 }
 

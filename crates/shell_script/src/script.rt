@@ -12,14 +12,14 @@ use crate::line::{first_word, is_skipped};
 use crate::lines::{Line, Lines, next_line};
 use std::marker::Model;
 
-/// What a line is where it stands, if it is not skipped.
+/// What a line is where it is, if it is not skipped.
 #[derive(Clone, Copy, Debug, PartialEq, Eq)]
 pub(crate) enum Role {
     /// It is a step by itself.
     Alone,
     /// It opens a definition.
     Opening,
-    /// It opens a block, or stands in one.
+    /// It opens a block, or is in one.
     Inner,
     /// It ends a block.
     Closing,
@@ -32,7 +32,7 @@ pub enum Step<'a> {
     Single(Line<'a>),
     /// The first line of a definition, and the lines of its body.
     Definition(Line<'a>, Lines<'a>),
-    /// A line that is no statement where it stands: in a block, since blocks are not built, or the
+    /// A line that is no statement where it is: in a block, since blocks are not built, or the
     /// first of a definition that has no end.
     Stray(Line<'a>),
 }
@@ -44,7 +44,7 @@ pub struct Steps<'a> {
     rest: &'a [u8],
     /// The number of the first of them.
     number: u64,
-    /// Whether it stands in a block.
+    /// Whether it is in a block.
     within: bool,
 }
 
@@ -75,7 +75,7 @@ fn role_by(first: &[u8]) -> Role
     Role::Alone
 }
 
-/// What a line is, given whether it stands in a block.
+/// What a line is, given whether it is in a block.
 fn role_of(within: bool, line: &[u8]) -> Role
     ensures { result ≡ role_in within line.now }
 {
@@ -92,7 +92,7 @@ fn role_of(within: bool, line: &[u8]) -> Role
     }
 }
 
-/// The lines of a body, as bytes, how many they are, and what stands behind its end.
+/// The lines of a body, as bytes, how many they are, and what is after its end.
 #[derive(Clone, Copy)]
 struct Cut<'a> {
     body: &'a [u8],
@@ -125,7 +125,7 @@ fn cut_body(text: &[u8]) -> Option<Cut<'_>>
     None
 }
 
-/// The first line that is not skipped, and what stands behind it.
+/// The first line that is not skipped, and what is after it.
 fn counted_line(text: &[u8], from: u64) -> Option<(Line<'_>, &[u8])>
     requires { from + length text.now < 2 ^ 64 }
     ensures some { IfSome result (λ r. (w : Bool) → steps_from 0 w (lines_from from (lines text.now))
@@ -147,7 +147,7 @@ fn counted_line(text: &[u8], from: u64) -> Option<(Line<'_>, &[u8])>
     None
 }
 
-/// The step of a line that opens a definition, and the steps behind it.
+/// The step of a line that opens a definition, and the steps after it.
 fn defined<'a>(line: Line<'a>, rest: &'a [u8]) -> (Step<'a>, Steps<'a>)
     requires { line.number + 1 + length rest.now < 2 ^ 64 }
     ensures { (ls : _) → ls ≡ lines_from (line.entry.number + 1) (lines rest.now)
@@ -175,7 +175,7 @@ fn defined<'a>(line: Line<'a>, rest: &'a [u8]) -> (Step<'a>, Steps<'a>)
     }
 }
 
-/// The step of a line, and the steps behind it.
+/// The step of a line, and the steps after it.
 fn step_at<'a>(within: bool, line: Line<'a>, rest: &'a [u8]) -> (Step<'a>, Steps<'a>)
     requires counts { skips line.bytes.now ≡ false }
     requires fits { line.number + 1 + length rest.now < 2 ^ 64 }

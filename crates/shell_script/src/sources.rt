@@ -10,7 +10,7 @@ ghost use Rattle.shell_script.specs.StatementView.{vector_source, query_source, 
 ghost use Rattle.ts_base.specs.declared.Weight.{Weight as Weights};
 ghost use Rattle.shell_script.specs.declared.sources.Maker.{Maker as Makers};
 
-use crate::heads::front_name;
+use crate::opening_lines::front_name;
 use crate::tokens::{behind_word, front_quote, front_word, is_all_blank};
 use std::alloc::{AllocError, Global};
 use ts_base::Weight;
@@ -45,7 +45,7 @@ pub struct Part<'a> {
 pub struct Expr<'a> {
     /// The first part.
     pub first: Part<'a>,
-    /// Those behind it, in their order.
+    /// Those after it, in their order.
     pub others: Vec<Part<'a>>,
 }
 
@@ -56,7 +56,7 @@ pub enum Maker {
     To,
     /// All words of the text.
     Plain,
-    /// The words of the text, one behind another.
+    /// The words of the text, one after another.
     Phrase,
     /// The text is a web query.
     Web,
@@ -92,7 +92,7 @@ fn weight_of(letter: &str) -> Option<Weight>
     }
 }
 
-/// The weight at the front, if one stands there, and what stands behind it.
+/// The weight at the front, if one is there, and what is after it.
 fn front_weight(text: &str) -> (Option<Weight>, &str)
     ensures front { Fronts text.now (weight_tokens result.0) result.1.now }
     ensures first { (w : _) (t : List ℕ) (ts : List Spelled)
@@ -107,7 +107,7 @@ fn front_weight(text: &str) -> (Option<Weight>, &str)
     }
 }
 
-/// What a vector is made of at the front, and what stands behind that.
+/// What a vector is made of at the front, and what is after that.
 fn front_source<'a>(
     alloc: Global,
     text: &'a str,
@@ -140,7 +140,7 @@ fn front_source<'a>(
     }
 }
 
-/// The mark of a stripped part, if it stands at the front, and what stands behind it.
+/// The mark of a stripped part, if it is at the front, and what is after it.
 fn front_strip(text: &str) -> (bool, &str)
     ensures front { Fronts text.now (strip_tokens result.0) result.1.now }
     ensures first { (b : _) (s : Vectors) (ts : List Spelled) → IsSource s
@@ -152,7 +152,7 @@ fn front_strip(text: &str) -> (bool, &str)
     }
 }
 
-/// The part at the front, and what stands behind it.
+/// The part at the front, and what is after it.
 fn front_part<'a>(alloc: Global, text: &'a str) -> Result<Option<(Part<'a>, &'a str)>, AllocError>
     ensures some { IfOk result (λ found. IfSome found (λ r. IsSource (vector_source r.0.source)
         × Fronts text.now (part_tokens (part r.0)) r.1.now)) }
@@ -166,7 +166,7 @@ fn front_part<'a>(alloc: Global, text: &'a str) -> Result<Option<(Part<'a>, &'a 
     }
 }
 
-/// The part behind `||` at the front, and what stands behind it.
+/// The part after `||` at the front, and what is after it.
 fn front_joined<'a>(alloc: Global, text: &'a str) -> Result<Option<(Part<'a>, &'a str)>, AllocError>
     ensures some { IfOk result (λ found. IfSome found (λ r. IsSource (vector_source r.0.source)
         × Fronts text.now (joined_tokens (part r.0)) r.1.now)) }
@@ -213,7 +213,7 @@ pub fn quote_of(alloc: Global, text: &str) -> Result<Option<String>, AllocError>
     }
 }
 
-/// How a query is made behind this word.
+/// How a query is made after this word.
 fn maker_of(found: &str) -> Option<Maker>
     ensures { MatchOption result ((m : Makers) → maker_word m ≢ found.now)
         (λ m. maker_word m ≡ found.now) }

@@ -5,8 +5,8 @@ ghost use Rattle.shell_script.specs.Grammar.{Statement as Said};
 ghost use Rattle.shell_script.specs.Tokens.{IsSpelled, word, quote};
 ghost use Rattle.shell_script.specs.Inner.Fronts.{Fronts};
 ghost use Rattle.shell_script.specs.Tokens.{ScriptToken as Spelled};
-ghost use Rattle.shell_script.specs.Inner.Said.{IsOfSession, IsPlain, IsBody, IsSaidBehind};
-ghost use Rattle.shell_script.specs.declared.statement.Statement.TheVariants.{Nothing};
+ghost use Rattle.shell_script.specs.Inner.Said.{IsOfSession, IsPlain, IsStatementBody, IsSaidBehind};
+ghost use Rattle.shell_script.specs.declared.statement.Statement.TheVariants.{Invalid};
 ghost use Rattle.shell_script.specs.StatementView.{statement, part, expr};
 
 use crate::line::first_word;
@@ -25,11 +25,11 @@ pub enum Statement<'a> {
     /// The text of an expression's vector is asked for.
     Show(Expr<'a>),
     /// The printed form of a query is asked for.
-    Query(QuerySource<'a>),
+    Ask(QuerySource<'a>),
     /// The tokens of a text are asked for.
     Parse(String),
     /// The line is no statement.
-    Nothing,
+    Invalid,
 }
 
 /// What a line says.
@@ -43,13 +43,13 @@ pub struct ScriptLine<'a> {
 
 impl ScriptLine<'_> {
     /// A line that is no statement.
-    fn nothing() -> Self
+    fn invalid() -> Self
         ensures session { result.session ≡ 0 }
-        ensures statement { result.statement ≡ Nothing }
+        ensures statement { result.statement ≡ Invalid }
     {
         ScriptLine {
             session: 0,
-            statement: Statement::Nothing,
+            statement: Statement::Invalid,
         }
     }
 }
@@ -72,16 +72,16 @@ fn is_word(found: &[u8], word: &str) -> bool
     found == word.as_bytes()
 }
 
-/// The statement behind a session's label, by its first word and what stands behind it.
+/// The statement after a session's label, by its first word and what is after it.
 fn session_statement<'a>(
     alloc: Global,
     first: &[u8],
     rest: &'a str,
 ) -> Result<Option<Statement<'a>>, AllocError>
     ensures some { IfOk result (λ found. IfSome found
-        (λ s. IsBody IsOfSession first.now rest.now (statement s))) }
+        (λ s. IsStatementBody IsOfSession first.now rest.now (statement s))) }
     ensures none { IfOk result (λ found. IfNone found ((s : Said)
-        → IsBody IsOfSession first.now rest.now s → ⊥)) }
+        → IsStatementBody IsOfSession first.now rest.now s → ⊥)) }
 {
     if is_word(first, "insert") {
         let Some(expr) = expr_of(alloc, rest)? else {
@@ -98,16 +98,16 @@ fn session_statement<'a>(
     Ok(None)
 }
 
-/// A statement without a session, by its first word and what stands behind it.
+/// A statement without a session, by its first word and what is after it.
 fn plain_statement<'a>(
     alloc: Global,
     first: &[u8],
     rest: &'a str,
 ) -> Result<Option<Statement<'a>>, AllocError>
     ensures some { IfOk result (λ found. IfSome found
-        (λ s. IsBody IsPlain first.now rest.now (statement s))) }
+        (λ s. IsStatementBody IsPlain first.now rest.now (statement s))) }
     ensures none { IfOk result (λ found. IfNone found ((s : Said)
-        → IsBody IsPlain first.now rest.now s → ⊥)) }
+        → IsStatementBody IsPlain first.now rest.now s → ⊥)) }
 {
     if is_word(first, "show") {
         let Some(expr) = expr_of(alloc, rest)? else {
@@ -119,7 +119,7 @@ fn plain_statement<'a>(
         let Some(query) = query_of(alloc, rest)? else {
             return Ok(None);
         };
-        return Ok(Some(Statement::Query(query)));
+        return Ok(Some(Statement::Ask(query)));
     }
     if is_word(first, "parse") {
         let Some(text) = quote_of(alloc, rest)? else {
@@ -130,7 +130,7 @@ fn plain_statement<'a>(
     Ok(None)
 }
 
-/// The session and the statement of a line, by its first word and what stands behind it.
+/// The session and the statement of a line, by its first word and what is after it.
 /// None where it is no statement.
 fn statement_of<'a>(
     alloc: Global,
@@ -166,10 +166,10 @@ pub fn read_line(alloc: Global, line: &[u8]) -> Result<ScriptLine<'_>, AllocErro
         (λ read. IsStatement line.now read.session (statement read.statement)) }
 {
     let Some((first, rest)) = first_word(line) else {
-        return Ok(ScriptLine::nothing());
+        return Ok(ScriptLine::invalid());
     };
     match statement_of(alloc, first, rest)? {
         Some((session, statement)) => Ok(ScriptLine { session, statement }),
-        None => Ok(ScriptLine::nothing()),
+        None => Ok(ScriptLine::invalid()),
     }
 }

@@ -30,7 +30,7 @@ fn push_name(text: &mut Vec<u8>, n: &Name) -> Result<(), AllocError>
     push_number(text, n.serial)
 }
 
-/// Each name behind a space.
+/// Each name after a space.
 fn push_names(text: &mut Vec<u8>, names: &[Name]) -> Result<(), AllocError>
     ensures { OnOk result (text.new.items ≡ text.old.items ++ flat_map
         (λ n. codes " " ++ name_text n) names.now) }
@@ -54,7 +54,7 @@ fn push_label(text: &mut Vec<u8>, session: u8) -> Result<(), AllocError>
     text.extend_from_slice(b" ")
 }
 
-/// What is shown, behind a space if it isn't empty.
+/// What is shown, after a space if it isn't empty.
 fn push_shown(text: &mut Vec<u8>, shown: &str) -> Result<(), AllocError>
     ensures { OnOk result (text.new.items ≡ text.old.items ++ behind_space shown.now) }
 {
@@ -96,7 +96,7 @@ fn refusal_words(why: &Refusal) -> &str
     }
 }
 
-/// The offset or size that a text's refusal tells.
+/// The offset or size that a text's refusal says.
 fn fault_detail(fault: &TextFault) -> Option<u64>
     ensures { result ≡ detail_of_fault (text_fault fault.now) }
 {
@@ -109,7 +109,7 @@ fn fault_detail(fault: &TextFault) -> Option<u64>
     }
 }
 
-/// The line, offset, size or count that a refusal tells.
+/// The line, offset, size or count that a refusal says.
 fn refusal_detail(why: &Refusal) -> Option<u64>
     ensures { result ≡ detail_of (refusal why.now) }
 {
@@ -121,7 +121,7 @@ fn refusal_detail(why: &Refusal) -> Option<u64>
     }
 }
 
-/// The words of a refusal, and the number that it tells behind them.
+/// The words of a refusal, and the number that it says after them.
 fn push_refusal(text: &mut Vec<u8>, why: &Refusal) -> Result<(), AllocError>
     ensures { OnOk result (text.new.items ≡ text.old.items ++ refusal_text (refusal why.now)) }
 {
@@ -164,7 +164,7 @@ fn push_reply(text: &mut Vec<u8>, answer: &Reply) -> Result<(), AllocError>
     }
 }
 
-/// Puts the line of a token behind a text. Such lines stand before the last line of a reply.
+/// Puts the line of a token after a text. Such lines are before the last line of a reply.
 pub fn push_token(text: &mut Vec<u8>, token: Token) -> Result<(), AllocError>
     ensures { OnOk result (text.new.items ≡ text.old.items ++ token_line token) }
 {

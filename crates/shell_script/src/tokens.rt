@@ -22,7 +22,7 @@ fn ends_token(text: &str) -> bool
     }
 }
 
-/// What stands behind a quote at the front.
+/// What is after a quote at the front.
 fn behind_quote(text: &str) -> Option<&str>
     ensures some { IfSome result (λ rest. text.now ≡ 39 ∷ rest.now) }
     ensures none { IfNone result (BeginsWithout IsQuote text.now) }
@@ -33,7 +33,7 @@ fn behind_quote(text: &str) -> Option<&str>
     }
 }
 
-/// What stands before the first quote, and behind it.
+/// What is before the first quote, and after it.
 fn cut_at_quote(text: &str) -> Option<(&str, &str)>
     ensures some { IfSome result (λ r. (text.now ≡ r.0.now ++ 39 ∷ r.1.now)
         × All IsNoQuote r.0.now) }
@@ -45,7 +45,7 @@ fn cut_at_quote(text: &str) -> Option<(&str, &str)>
     }
 }
 
-/// The quoted text whose first quote has been read, and what stands behind it.
+/// The quoted text whose first quote has been read, and what is after it.
 fn quote_inside(alloc: Global, text: &str) -> Result<Option<(String, &str)>, AllocError>
     ensures some { IfOk result (λ found. IfSome found
         (λ r. IsFirst (39 ∷ text.now) (quote (string_bytes r.0)) r.1.now)) }
@@ -68,15 +68,15 @@ fn quote_inside(alloc: Global, text: &str) -> Result<Option<(String, &str)>, All
     Ok(None)
 }
 
-/// Whether nothing but blanks stands in the text.
+/// Whether nothing but blanks is in the text.
 pub fn is_all_blank(text: &str) -> bool
     ensures { IsTrue result ↔ All IsBlank text.now }
 {
     without_blanks(text).is_empty()
 }
 
-/// The word at the front, behind blanks, and what stands behind it.
-/// None where no word stands there, or a quote stands in it.
+/// The word at the front, after blanks, and what is after it.
+/// None where no word is there, or a quote is in it.
 pub fn front_word(text: &str) -> Option<(&str, &str)>
     ensures some { IfSome result (λ r. Fronts text.now (word r.0.now ∷ []) r.1.now) }
     ensures begins { IfSome result (λ r. BeginsWithWord text.now r.0.now r.1.now) }
@@ -90,7 +90,7 @@ pub fn front_word(text: &str) -> Option<(&str, &str)>
     }
 }
 
-/// What stands behind this word, where it is the one at the front.
+/// What is after this word, where it is the one at the front.
 pub fn behind_word<'a>(text: &'a str, expected: &str) -> Option<&'a str>
     ensures some { IfSome result (λ rest. Fronts text.now (word expected.now ∷ []) rest.now) }
     ensures none { IfNone result ((ts : List Spelled)
@@ -102,8 +102,8 @@ pub fn behind_word<'a>(text: &'a str, expected: &str) -> Option<&'a str>
     }
 }
 
-/// The quoted text at the front, behind blanks, and what stands behind it.
-/// None where none stands there, it isn't closed, or something stands right behind it.
+/// The quoted text at the front, after blanks, and what is after it.
+/// None where none is there, it isn't closed, or something is right after it.
 pub fn front_quote(alloc: Global, text: &str) -> Result<Option<(String, &str)>, AllocError>
     ensures some { IfOk result (λ found. IfSome found
         (λ r. Fronts text.now (quote (string_bytes r.0) ∷ []) r.1.now)) }

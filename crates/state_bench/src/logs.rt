@@ -91,7 +91,7 @@ fn record(changes: Changes) -> Record {
     }
 }
 
-/// So many transactions, one behind the other, each with a document.
+/// So many transactions, one after the other, each with a document.
 pub(crate) fn follow_documents(follower: &mut Follower, count: u32) -> Result<(), AllocError> {
     for n in 0..count {
         let xid = n.wrapping_add(1);

@@ -1,6 +1,6 @@
-//! Follows two logs by the core's state, and prints counts of what it tells then: one of a document
+//! Follows two logs by the core's state, and prints counts of what it says then: one of a document
 //! for each transaction, and one of as many transactions that all run beside each other, which
-//! place a document, mark it, and then commit, abort or are ended with all others. Behind the first
+//! place a document, mark it, and then commit, abort or are ended with all others. After the first
 //! log each document is looked up by its name, pages to use again are looked for among many that were
 //! deleted, and pages with room for a head among many full ones. With the word `time` there are a
 //! million in place of 10,000, a tenth of that as deleted pages and a hundredth as full ones, and it
@@ -37,7 +37,7 @@ struct Asked {
     documents: bool,
 }
 
-/// The words behind the program's name.
+/// The words after the program's name.
 fn words(rt: &(impl Env + AllocGlobal)) -> Result<Asked> {
     let mut asked = Asked {
         timed: false,
@@ -64,7 +64,7 @@ fn committed(state: &State, xids: u32) -> u32 {
     count
 }
 
-/// Prints what the state tells, and how long the log took where that is asked for.
+/// Prints what the state says, and how long the log took where that is asked for.
 fn report(rt: &impl Print, what: &str, state: &State, seconds: f64, timed: bool) -> Result<()> {
     let commits = committed(state, state.next_xid());
     let (records, serial) = (state.length(), state.next_serial());
@@ -161,7 +161,7 @@ fn look_behind(
     Ok(())
 }
 
-/// Follows the first log, and looks at what its state tells.
+/// Follows the first log, and looks at what its state says.
 fn one_by_one(
     rt: &(impl Print + Clock),
     follower: &mut Follower,

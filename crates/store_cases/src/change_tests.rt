@@ -72,7 +72,7 @@ fn change_with(alloc: Global, words: &str) -> Result<Changes, AllocError> {
     Ok(changes)
 }
 
-/// Whether a list has one change, told by each call.
+/// Whether a list has one change, said by each call.
 fn has_one(changes: Changes) -> bool {
     changes.len() == 1 && changes.get(1).is_none() && changes.into_vec().len() == 1
 }

@@ -101,7 +101,7 @@ fn has_head(page: &Page, slot: u16) -> bool
     head(page, slot).is_some()
 }
 
-/// Whether a slot has the head that its row tells.
+/// Whether a slot has the head that its row says.
 fn is_read(alloc: Global, page: &Page, slot: u16, tells: &str) -> Result<bool, Fail> {
     let text = format!(in alloc; "{:?}", head(page, slot))?;
     Ok(text.as_str() == tells)

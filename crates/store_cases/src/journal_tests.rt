@@ -19,7 +19,7 @@ const SETTINGS: Settings = Settings {
     xid_limit: 1 << 24,
 };
 
-/// What is done with a journal, and what it tells then: how many records there are, the number of the next, how
+/// What is done with a journal, and what it says then: how many records there are, the number of the next, how
 /// many commits there are and how many are flushed, a fault, and the kinds of the first three pages, where they
 /// were there at the opening.
 ///
@@ -76,7 +76,7 @@ fn log_insert(alloc: Global, journal: &mut Journal<Silent>) -> Result<(), LogErr
     journal.log(&records)
 }
 
-/// What a journal tells, and the pages of its opening.
+/// What a journal says, and the pages of its opening.
 fn told(alloc: Global, journal: &Journal<Silent>, pages: &PageMap) -> Result<String, AllocError> {
     let (length, next) = (journal.state().length(), journal.next_number());
     let (commits, flushed) = (journal.state().commits(), journal.flushed());

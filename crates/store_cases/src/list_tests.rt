@@ -9,7 +9,7 @@ use std::alloc::{AllocError, Global};
 use std::fmt::{self, Write};
 use std::test::Fail;
 
-/// A list, the steps that change it, and what a copy of it then tells of each place.
+/// A list, the steps that change it, and what a copy of it then says of each place.
 const LISTS: &str = "\
     pieces | push ab; insert 1 c; append de de; set 0 fgh | [102, 103, 104]; [99]; [100, 101]; [100, 101]
     pieces | push x; push yz; append x yz; splice 1 3 x yz; set 0 abc; remove 2; truncate 3 \
@@ -370,7 +370,7 @@ fn copy_of<T: Clone>(value: &T) -> Result<T, AllocError> {
     }
 }
 
-/// What is in a place, told once more where that is refused.
+/// What is in a place, said once more where that is refused.
 fn told<T: List>(alloc: Global, list: &T, k: usize) -> Result<String, fmt::Error> {
     match list.told(alloc, k) {
         Ok(text) => Ok(text),
@@ -378,7 +378,7 @@ fn told<T: List>(alloc: Global, list: &T, k: usize) -> Result<String, fmt::Error
     }
 }
 
-/// Whether a list tells this of its places, and has no more.
+/// Whether a list says this of its places, and has no more.
 fn tells_all<T: List>(alloc: Global, list: &T, tells: &str) -> Result<bool, Fail> {
     let mut count = 0usize;
     for tell in tells.split(';') {
@@ -391,7 +391,7 @@ fn tells_all<T: List>(alloc: Global, list: &T, tells: &str) -> Result<bool, Fail
     Ok(list.count() == count)
 }
 
-/// Whether steps make a list of which a copy tells what its row says.
+/// Whether steps make a list of which a copy says what its row says.
 fn comes_to<T: List + Clone + Drop>(alloc: Global, mut list: T, row: &str) -> Result<bool, Fail> {
     let (steps, tells) = cut(row);
     for step in steps.split(';') {

@@ -35,8 +35,8 @@ const CUT_SHORT: &str = "\
     00*18 09*18
 ";
 
-/// Bytes with the batches of their log, each with its length before it, or that are refused. What is behind a
-/// closed gate is not looked at.
+/// Bytes with the batches of their log, each with its length before it, or that are refused. What is after a
+/// an unset commit byte is not looked at.
 const OPENED: &str = "\
     00*19 | refused
     01 47494e53482053544f52452030303032 00 | refused
@@ -52,8 +52,8 @@ const OPENED: &str = "\
 /// highest; it is ready after ten calls. `holds` and `batches` look at all bytes of a short log, and at its
 /// batches.
 ///
-/// What waited is one batch, and where nothing waits a flush calls no device. With a gate, a length, three bytes
-/// and the next gate after its header a log has 26 bytes. A flush comes first where much waits.
+/// What waited is one batch, and where nothing waits a flush calls no device. With a commit byte, a length, three bytes
+/// and the next commit byte after its header a log has 26 bytes. A flush comes first where much waits.
 const CALLS: &str = "\
     new
     append ok 6162

@@ -1,6 +1,6 @@
 // Pages by their bytes up to the last that is not 0, and bytes that are no pages. Bytes are in hexadecimal.
 
-/// Each kind of page: its name, what it tells, and its bytes, which zeros follow.
+/// Each kind of page: its name, what it says, and its bytes, which zeros follow.
 pub(crate) const PAGES: &str = "\
     free | Page { right: 0, stamp: 0, body: Free } |
     meta | Page { right: 0, stamp: 12, body: Meta { first: 7, last: 9, pages: 3 } } | 01 00 0000 00000000 \

@@ -9,7 +9,7 @@ use page_types::Page;
 use std::alloc::{AllocError, Global};
 use std::test::Fail;
 
-/// The page whose spelling the bytes are, read once more where that is refused.
+/// The page whose encoding the bytes are, read once more where that is refused.
 pub(crate) fn page_in(alloc: Global, bytes: &[u8]) -> Result<Page, PageError>
     ensures { IfOk result (λ p. IsPage p) }
 {
@@ -19,7 +19,7 @@ pub(crate) fn page_in(alloc: Global, bytes: &[u8]) -> Result<Page, PageError>
     }
 }
 
-/// What a copy of the page tells.
+/// What a copy of the page says.
 pub(crate) fn told_page(alloc: Global, page: &Page) -> Result<String, AllocError> {
     let copy = again(|| page.clone())?;
     again(|| format!(in alloc; "{copy:?}"))
@@ -33,7 +33,7 @@ fn refused(alloc: Global, bytes: &[u8]) -> Option<usize> {
     }
 }
 
-/// The spelling of a page, written over other bytes.
+/// The encoding of a page, written over other bytes.
 fn written(alloc: Global, page: &Page) -> Result<Vec<u8>, AllocError>
     requires { IsPage page.now }
 {
@@ -42,7 +42,7 @@ fn written(alloc: Global, page: &Page) -> Result<Vec<u8>, AllocError>
     Ok(out)
 }
 
-/// Whether a page is read as what its row tells, and written again.
+/// Whether a page is read as what its row says, and written again.
 fn is_page(alloc: Global, row: &str) -> Result<bool, Fail> {
     let (_, rest) = cut(row);
     let (tells, words) = cut(rest);

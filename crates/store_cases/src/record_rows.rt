@@ -1,7 +1,7 @@
 // Records and their bytes: a record of each kind, and those of whole logs. Bytes are in hexadecimal; `00*7` is
 // seven times the byte 00.
 
-/// A record of each kind, and one with two images: what it tells, and its bytes.
+/// A record of each kind, and one with two images: what it says, and its bytes.
 pub(crate) const KINDS: &str = "\
     7 Create xid 0 | 0e0000000100000000070000000000000000
     7 Begin xid 5 | 0e0000000205000000070000000000000000

@@ -20,7 +20,7 @@ fn record_in(alloc: Global, bytes: &[u8]) -> Result<(Record, usize), RecordError
     }
 }
 
-/// Appends the spelling of a record, once more where that is refused.
+/// Appends the encoding of a record, once more where that is refused.
 fn put_record(record: &Record, out: &mut Vec<u8>) -> Result<(), AllocError>
     requires { IsRecord record.now }
 {
@@ -30,7 +30,7 @@ fn put_record(record: &Record, out: &mut Vec<u8>) -> Result<(), AllocError>
     }
 }
 
-/// Appends what a change tells.
+/// Appends what a change says.
 fn put_change(text: &mut String, change: &Change) -> Result<(), fmt::Error> {
     let page = change.page;
     match &change.edit {
@@ -51,7 +51,7 @@ fn put_change(text: &mut String, change: &Change) -> Result<(), fmt::Error> {
     Ok(())
 }
 
-/// What a record tells.
+/// What a record says.
 fn told(alloc: Global, record: &Record) -> Result<String, fmt::Error> {
     let number = record.number;
     let kind = record.kind;
@@ -70,7 +70,7 @@ fn longer(alloc: Global, bytes: &[u8]) -> Result<Vec<u8>, AllocError> {
     Ok(longer)
 }
 
-/// Whether the bytes of a row, with others after them, are read as the record that it tells, and written again.
+/// Whether the bytes of a row, with others after them, are read as the record that it says, and written again.
 fn is_record(alloc: Global, row: &str) -> Result<bool, Fail> {
     let (tells, words) = cut(row);
     let bytes = bytes_of(alloc, words)?;

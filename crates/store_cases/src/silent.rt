@@ -1,6 +1,6 @@
 use disk_trait::{Disk, Failed, File, MemoryDisk};
 
-/// A device in memory that tells nothing, so that a test may ask anything of it.
+/// A device in memory that says nothing, so that a test may ask anything of it.
 #[derive(Drop)]
 pub(crate) struct Silent(pub(crate) MemoryDisk);
 

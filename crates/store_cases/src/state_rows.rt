@@ -1,7 +1,7 @@
 // Logs by their records, and what is asked of the state after them.
 //
 // A row is a call of the state before it. A record is its xid and kind, the pages that it changes, their first
-// byte, and what the state tells after it: how many records there are, the next numbers, the names that each commit
+// byte, and what the state says after it: how many records there are, the next numbers, the names that each commit
 // deleted and inserted as page/slot#serial, the redo number where it isn't 1, and the old heap pages.
 
 /// Whole logs, and records that no store would write.

@@ -98,7 +98,7 @@ fn put_heap(text: &mut String, state: &State) -> Result<(), fmt::Error> {
     Ok(())
 }
 
-/// What a state tells.
+/// What a state says.
 fn tell(alloc: Global, state: &State) -> Result<String, fmt::Error> {
     let (length, xid) = (state.length(), state.next_xid());
     let (serial, commits) = (state.next_serial(), state.commits());
@@ -115,7 +115,7 @@ fn tell(alloc: Global, state: &State) -> Result<String, fmt::Error> {
     Ok(text)
 }
 
-/// What a state tells, once more where that is refused.
+/// What a state says, once more where that is refused.
 fn told(alloc: Global, state: &State) -> Result<String, fmt::Error> {
     match tell(alloc, state) {
         Ok(text) => Ok(text),
@@ -136,7 +136,7 @@ fn takes(alloc: Global, state: &mut State, record: &Record) -> Result<bool, Fail
     Ok(true)
 }
 
-/// Whether the state tells what its row says after a record more.
+/// Whether the state says what its row says after a record more.
 fn is_followed(alloc: Global, state: &mut State, row: &str) -> Result<bool, Fail> {
     let (words, rest) = cut(row);
     let (pages, rest) = cut(rest);

@@ -53,7 +53,7 @@ fn make_text(alloc: Global, paragraphs: u32) -> Result<String, AllocError> {
     Ok(text)
 }
 
-/// The stop list's lines: a word each, with a remark behind it.
+/// The stop list's lines: a word each, with a remark after it.
 fn make_lines(alloc: Global) -> Result<String, AllocError> {
     let mut text = String::new(alloc);
     for k in 0..LINES {

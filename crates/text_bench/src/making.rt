@@ -19,7 +19,7 @@ const OPERANDS: u32 = 10_000;
 /// How often the web text becomes a query.
 const WEB_TEXTS: u32 = 40;
 
-/// So many operands, each behind `|` but the first.
+/// So many operands, each after `|` but the first.
 fn make_query(alloc: Global) -> Result<String, AllocError> {
     let mut text = String::from_str(alloc, "word")?;
     for k in 1..OPERANDS {

@@ -8,16 +8,16 @@ use ts_base::{
     push_quoted, weight_of, without_blanks,
 };
 
-/// Two texts, and how the lexeme of the first stands to that of the second, or why it is none.
+/// Two texts, and how the lexeme of the first is to that of the second, or why it is none.
 const ORDER: &str = concat!(
     "cat@cat=cat, equal;ca@cat=ca, less;cat@cow=cat, less;z@é=z, less;",
     "«a^2046»@a=«a^2046», greater;@a=an empty lexeme;«a^2047»@a=a lexeme of more than 2046 bytes",
 );
 
-/// Lines, and the first word of each with what stands behind it.
+/// Lines, and the first word of each with what is after it.
 const FRONTS: &str = " \tthe cat=the, cat;'x'\t='x',\t;\u{a0}é=\u{a0}é,; \t =none;=none";
 
-/// How two lexemes stand to each other; a copy is as good as the first.
+/// How two lexemes are to each other; a copy is as good as the first.
 fn order(left: &Lexeme, right: &Lexeme) -> Result<&'static str, AllocError> {
     let copy = left.clone()?;
     if copy == *right {
@@ -26,14 +26,14 @@ fn order(left: &Lexeme, right: &Lexeme) -> Result<&'static str, AllocError> {
     Ok(if copy < *right { "less" } else { "greater" })
 }
 
-/// A lexeme, and how it stands to another.
+/// A lexeme, and how it is to another.
 fn ordered(alloc: Global, left: &Lexeme, right: &Lexeme) -> Result<String, Fail> {
     let order = order(left, right)?;
     let left = left.as_str();
     Ok(format!(in alloc; "{left}, {order}")?)
 }
 
-/// How the lexemes of two texts stand to each other.
+/// How the lexemes of two texts are to each other.
 pub fn compared(alloc: Global, asked: &str) -> Result<String, Fail> {
     let (left, right) = cut(asked);
     let right = Lexeme::new(alloc, right)?;
@@ -43,7 +43,7 @@ pub fn compared(alloc: Global, asked: &str) -> Result<String, Fail> {
     }
 }
 
-/// The first word of a line, and what stands behind it.
+/// The first word of a line, and what is after it.
 pub fn front(alloc: Global, line: &str) -> Result<String, Fail> {
     match front_word(line) {
         Some((word, rest)) => Ok(format!(in alloc; "{word},{rest}")?),
@@ -51,7 +51,7 @@ pub fn front(alloc: Global, line: &str) -> Result<String, Fail> {
     }
 }
 
-/// A text in quotes behind another.
+/// A text in quotes after another.
 fn quoted(alloc: Global, front: &str, text: &str) -> Result<String, AllocError> {
     let mut out = String::from_str(alloc, front)?;
     push_quoted(&mut out, text)?;

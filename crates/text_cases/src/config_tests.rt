@@ -17,7 +17,7 @@ use ts_words::{Simple, StopList};
 
 /// Definitions and texts in turn, and what comes of each. The step `D name accept words` defines a dictionary
 /// `simple` with these stop words, `O name words` one of stems, `S name lines` a case sensitive one of synonyms, and
-/// `T name sub lines` a thesaurus, where `|` stands between two lines; `C name` a configuration; `M name type
+/// `T name sub lines` a thesaurus, where `|` is between two lines; `C name` a configuration; `M name type
 /// dictionaries` maps a type of it, and `P name type dictionary` puts one in that was built apart; `? name text`
 /// places the lexemes of a text, and shows each with its position, and with `*` where it has the mark.
 const ROWS: &str = concat!(
@@ -198,7 +198,7 @@ fn step(alloc: Global, configs: &mut Configs, row: &str) -> Result<(), ConfigErr
     }
 }
 
-/// Puts a placed lexeme behind others.
+/// Puts a placed lexeme after others.
 fn push_placed(out: &mut String, placed: &Placed) -> Result<(), AllocError> {
     push_word(out, placed.lexeme.as_str())?;
     let mark = if placed.prefix { "*" } else { "" };

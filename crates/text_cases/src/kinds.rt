@@ -12,7 +12,7 @@ use ts_config::Configs;
 /// What a row asks for.
 #[derive(Clone, Copy)]
 pub enum Kind {
-    /// How two lexemes stand to each other.
+    /// How two lexemes are to each other.
     Order,
     /// The first word of a line.
     Front,
@@ -39,7 +39,7 @@ pub enum Kind {
     /// The steps of a script.
     Script,
     /// What a first line says.
-    Head,
+    OpeningLine,
     /// What a line of a configuration says.
     Mapping,
     /// What a line by itself says.
@@ -62,8 +62,8 @@ pub enum Kind {
     Weighted,
     /// What is read of bytes.
     Bytes,
-    /// The spelling of a vector.
-    Spelled,
+    /// The encoding of a vector.
+    Encoded,
     /// The entries of joined vectors.
     Joins,
     /// The stem of a word.
@@ -106,7 +106,7 @@ fn vector_answer(alloc: Global, kind: Kind, asked: &str) -> Result<String, Fail>
         Kind::Stripped => vector_tests::stripped(alloc, asked),
         Kind::Weighted => vector_tests::weighted(alloc, asked),
         Kind::Bytes => vector_tests::read(alloc, asked),
-        Kind::Spelled => vector_tests::spelled(alloc, asked),
+        Kind::Encoded => vector_tests::encoded(alloc, asked),
         Kind::Joins => vector_tests::joins(alloc, asked),
         _ => word_answer(alloc, kind, asked),
     }
@@ -135,7 +135,7 @@ fn answer(alloc: Global, configs: &mut Configs, kind: Kind, asked: &str) -> Resu
         Kind::Tokens => parser_tests::tokens(alloc, asked),
         Kind::TokenKind => parser_tests::kind(alloc, asked),
         Kind::Script => script_tests::script(alloc, asked),
-        Kind::Head => script_tests::head(alloc, asked),
+        Kind::OpeningLine => script_tests::opening_line(alloc, asked),
         Kind::Mapping => script_tests::mapping(alloc, asked),
         Kind::Statement => script_tests::statement(alloc, asked),
         Kind::Nothing => script_tests::nothing(alloc, asked),

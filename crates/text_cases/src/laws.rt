@@ -3,8 +3,8 @@
 /// What holds of lexemes, vectors and queries.
 #[test]
 fn laws() {
-    ts_base::spelling_tells_vector();
-    ts_base::spelling_has_size();
+    ts_base::encoding_tells_vector();
+    ts_base::encoding_has_size();
     ts_base::keys_rise();
     ts_base::quoted_has_one_reading();
     ts_base::quoted_is_read_back();
@@ -18,7 +18,7 @@ fn laws() {
     ts_vector::normal_form_is_one();
     ts_vector::printed_text_is_read();
     ts_vector::bad_place_is_one();
-    ts_vector::bad_bytes_are_no_spelling();
+    ts_vector::bad_bytes_are_no_encoding();
     ts_vector::text_has_one_list();
     ts_vector::text_has_one_value();
     ts_vector::fault_has_one_place();
@@ -54,7 +54,7 @@ fn makers() {
     ts_make::whole_trees_stay();
     ts_make::removal_keeps_the_rest();
     ts_make::removal_is_sound();
-    ts_make::drafts_have_no_fewer();
+    ts_make::sketches_have_no_fewer();
     ts_make::vector_answer_is_one();
     ts_make::join_answer_is_one();
     ts_make::query_answer_is_one();

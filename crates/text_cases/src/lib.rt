@@ -1,7 +1,7 @@
 //! Cases of texts and their meaning: rows that say what comes of them, and a second matcher that tries each place of a
 //! wide range.
 //!
-//! Tests stand in a crate of their own, since a crate with tests is proved twice.
+//! Tests are in a crate of their own, since a crate with tests is proved twice.
 #![tactic(auto)]
 
 #[cfg(test)]

@@ -5,7 +5,7 @@ use crate::slow::slowly;
 use std::alloc::{AllocError, Global};
 use std::test::Fail;
 use ts_base::Tri;
-use ts_match::{MatchWork, judge, matches, matches_in, query_keys, text_class, vector_keys};
+use ts_match::{MatchWork, judge, matches, matches_encoded, query_keys, text_class, vector_keys};
 use ts_query::TsQuery;
 use ts_vector::{TsVector, VectorBytes};
 
@@ -129,19 +129,19 @@ const VECTOR_KEYS: &str = "cat:1 a:3 cat:2=\0a \0cat;é b=\0b \0é;=\x01";
 const QUERY_KEYS: &str =
     "cat & a:*B=\0cat \0a*;!a=\0a all;=;!a <-> b=\0a \0b;!a <-> !b=\0a \0b all";
 
-/// Whether a vector satisfies a query, in memory and in its spelling, each asked twice with one work; None where
+/// Whether a vector satisfies a query, in memory and in its encoding, each asked twice with one work; None where
 /// answers differ.
 fn asked_twice(
     alloc: Global,
     query: &TsQuery,
     vector: &TsVector,
-    spelled: &VectorBytes,
+    encoded: &VectorBytes,
 ) -> Result<Option<bool>, AllocError> {
     let mut work = MatchWork::new(alloc, query)?;
     let holds = matches(query, &mut work, vector);
-    let same_in = matches_in(query, &mut work, spelled) == holds;
+    let same_in = matches_encoded(query, &mut work, encoded) == holds;
     let again = matches(query, &mut work, vector) == holds;
-    let again_in = matches_in(query, &mut work, spelled) == holds;
+    let again_in = matches_encoded(query, &mut work, encoded) == holds;
     Ok(if same_in && again && again_in {
         Some(holds)
     } else {
@@ -149,8 +149,8 @@ fn asked_twice(
     })
 }
 
-/// The spelling of a vector.
-fn spelling(alloc: Global, vector: &TsVector) -> Result<Vec<u8>, AllocError> {
+/// The encoding of a vector.
+fn encoding(alloc: Global, vector: &TsVector) -> Result<Vec<u8>, AllocError> {
     let mut bytes = Vec::new(alloc);
     vector.encode(&mut bytes)?;
     Ok(bytes)
@@ -158,9 +158,9 @@ fn spelling(alloc: Global, vector: &TsVector) -> Result<Vec<u8>, AllocError> {
 
 /// Whether a vector satisfies a query; None where answers differ.
 fn answer(alloc: Global, query: &TsQuery, vector: &TsVector) -> Result<Option<bool>, Fail> {
-    let bytes = spelling(alloc, vector)?;
-    let spelled = VectorBytes::new(bytes.as_slice())?;
-    Ok(asked_twice(alloc, query, vector, &spelled)?)
+    let bytes = encoding(alloc, vector)?;
+    let encoded = VectorBytes::new(bytes.as_slice())?;
+    Ok(asked_twice(alloc, query, vector, &encoded)?)
 }
 
 /// An answer as a word.
@@ -228,7 +228,7 @@ pub fn judgement(alloc: Global, asked: &str) -> Result<String, Fail> {
     said(alloc, judged(alloc, &query, &values)?)
 }
 
-/// Puts a key behind others.
+/// Puts a key after others.
 fn put_key(text: &mut Vec<u8>, key: &[u8], prefix: bool) -> Result<(), AllocError> {
     if !text.is_empty() {
         text.push(b' ')?;
@@ -302,9 +302,9 @@ const VECTORS: &str = concat!(
 
 /// Whether a vector satisfies a query by the table.
 fn by_table(alloc: Global, query: &TsQuery, vector: &TsVector) -> Result<bool, Fail> {
-    let bytes = spelling(alloc, vector)?;
-    let spelled = VectorBytes::new(bytes.as_slice())?;
-    Ok(slowly(alloc, query, &spelled)?)
+    let bytes = encoding(alloc, vector)?;
+    let encoded = VectorBytes::new(bytes.as_slice())?;
+    Ok(slowly(alloc, query, &encoded)?)
 }
 
 /// Whether matching agrees with the table.

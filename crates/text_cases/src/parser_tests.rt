@@ -35,7 +35,7 @@ const KINDS: &str = "\
     numhword=15 Numhword of parts;asciihword=16 Asciihword of parts;hword=17 Hword of parts;float=20 Float;\
     int=21 Int;uint=22 Uint;=none;Word=none;words=none";
 
-/// Puts a token behind others.
+/// Puts a token after others.
 fn push_token(text: &mut String, token: &Token) -> Result<(), AllocError> {
     let between = if text.is_empty() { "" } else { ", " };
     let kind = token.kind.number();

@@ -5,7 +5,7 @@ use std::test::Fail;
 use ts_base::{Lexeme, Weights};
 use ts_query::{QueryBuilder, QueryError, TsQuery};
 
-/// Texts and what they give; behind `#` stand steps that join operands, and `%` is the query that is written node by
+/// Texts and what they give; after `#` are steps that join operands, and `%` is the query that is written node by
 /// node.
 const ROWS: &str = concat!(
     // What is printed.
@@ -57,7 +57,7 @@ fn operand(alloc: Global, word: &str) -> Result<TsQuery, QueryError> {
     Ok(query)
 }
 
-/// The query of one word, negated behind `!`.
+/// The query of one word, negated after `!`.
 fn signed(alloc: Global, word: &str) -> Result<TsQuery, QueryError> {
     match word.strip_prefix('!') {
         Some(word) => operand(alloc, word)?.not(alloc),
@@ -94,7 +94,7 @@ fn lexeme(alloc: Global, text: &str) -> Result<Lexeme, QueryError> {
     }
 }
 
-/// A query that is written node by node: each operator stands behind its operands.
+/// A query that is written node by node: each operator is after its operands.
 fn written(alloc: Global) -> Result<TsQuery, QueryError> {
     let mut builder = QueryBuilder::new(alloc);
     builder.operand(lexeme(alloc, "fat")?, Weights::default(), false)?;
@@ -138,7 +138,7 @@ pub fn nodes(alloc: Global, text: &str) -> Result<String, Fail> {
     Ok(format!(in alloc; "{nodes:?} {count}")?)
 }
 
-/// The nodes of a query stand in postfix order.
+/// The nodes of a query are in postfix order.
 const NODES: &str = "#|fat |rat &!cat=[Leaf(0), Leaf(1), Or, Leaf(2), Not, And] 3";
 
 /// Each row gives its outcome.

@@ -2,7 +2,7 @@
 use std::alloc::{AllocError, Global};
 use std::test::Fail;
 
-/// Puts a piece behind a text, so many times.
+/// Puts a piece after a text, so many times.
 fn push_times(text: &mut String, piece: &str, times: u32) -> Result<(), AllocError> {
     for _ in 0..times {
         text.push_str(piece)?;
@@ -10,7 +10,7 @@ fn push_times(text: &mut String, piece: &str, times: u32) -> Result<(), AllocErr
     Ok(())
 }
 
-/// Puts what a part of a row stands for behind a text.
+/// Puts what a part of a row stands for after a text.
 fn push_part(text: &mut String, part: &str) -> Result<(), AllocError> {
     let (repeated, rest) = part.split_once('»').unwrap_or(("", part));
     let (piece, times) = repeated.split_once('^').unwrap_or(("", "0"));
@@ -27,7 +27,7 @@ pub fn expanded(alloc: Global, row: &str) -> Result<String, AllocError> {
     text.as_str().replace(alloc, "~", "\"")
 }
 
-/// What stands before and behind the first `@`.
+/// What is before and after the first `@`.
 pub fn cut(asked: &str) -> (&str, &str) {
     asked.split_once('@').unwrap_or((asked, ""))
 }
@@ -37,7 +37,7 @@ pub fn said(alloc: Global, text: &str) -> Result<String, Fail> {
     Ok(String::from_str(alloc, text)?)
 }
 
-/// Puts a word behind others.
+/// Puts a word after others.
 pub fn push_word(text: &mut String, word: &str) -> Result<(), AllocError> {
     if !text.is_empty() {
         text.push_str(" ")?;
@@ -45,7 +45,7 @@ pub fn push_word(text: &mut String, word: &str) -> Result<(), AllocError> {
     text.push_str(word)
 }
 
-/// Puts a number behind words.
+/// Puts a number after words.
 pub fn push_number(text: &mut String, number: usize) -> Result<(), AllocError> {
     if !text.is_empty() {
         text.push_str(" ")?;

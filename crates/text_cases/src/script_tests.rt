@@ -1,12 +1,12 @@
 // What a script says.
 use crate::kinds::{Kind, try_rows};
 use crate::rows::{push_number, push_word, said};
-use shell_script::{Lines, Mapping, Step, Types, read_head, read_line, read_mapping, steps};
+use shell_script::{Lines, Mapping, Step, Types, read_opening_line, read_line, read_mapping, steps};
 use std::alloc::{AllocError, Global};
 use std::test::Fail;
 
 /// Scripts, and their steps by the numbers of their lines: a line by itself; a definition with the lines of its body in
-/// brackets; with `!`, a line that is no statement where it stands.
+/// brackets; with `!`, a line that is no statement where it is.
 const STEPS: &str = "\
     =;\
     parse 'a'\n\n# x\nask 'b'=1 4;\
@@ -18,7 +18,7 @@ const STEPS: &str = "\
     end\nparallels\nconfiguration\n=1 2 !3";
 
 /// First lines, and what they say. In a line `ÿ` stands for the byte 255.
-const HEADS: &str = "\
+const OPENING_LINES: &str = "\
     dictionary d simple=Some(Dictionary { name: ~d~, kind: Simple { accept: true } });\
     \tdictionary  _9 simple\tpass =Some(Dictionary { name: ~_9~, kind: Simple { accept: false } });\
     configuration Simple_1=Some(Configuration { name: ~Simple_1~ });\
@@ -53,7 +53,7 @@ const HEADS: &str = "\
     configuration c d=None;\
     configuration 'c'=None";
 
-/// Lines of a configuration, with the numbers of their types and the names behind them.
+/// Lines of a configuration, with the numbers of their types and the names after them.
 const MAPPINGS: &str = "\
     asciiword simple=1 simple;\
     \x20asciiword,word,asciiword\td  simple d =1 2 1 d simple d;\
@@ -81,9 +81,9 @@ const ASKING: &str = "\
     \t show\tstrip  vector 'a'\t||\tstrip vector 'b' || vector 'c' =ScriptLine { session: 0, statement: Show(Expr { \
     first: Part { stripped: true, source: Text(~a~) }, others: [Part { stripped: true, source: Text(~b~) }, Part { \
     stripped: false, source: Text(~c~) }] }) };\
-    ask 'a & b'=ScriptLine { session: 0, statement: Query(Text(~a & b~)) };\
+    ask 'a & b'=ScriptLine { session: 0, statement: Ask(Text(~a & b~)) };\
     parse\t'a b' =ScriptLine { session: 0, statement: Parse(~a b~) };\
-    ask ''''=ScriptLine { session: 0, statement: Query(Text(~'~)) };\
+    ask ''''=ScriptLine { session: 0, statement: Ask(Text(~'~)) };\
     \x20\t@8 search 'it''s' \t=ScriptLine { session: 8, statement: Search(Text(~it's~)) };\
     @2 search 'end || @1'=ScriptLine { session: 2, statement: Search(Text(~end || @1~)) };\
     @3\tinsert\tvector\t'é'\t=ScriptLine { session: 3, statement: Insert(Expr { first: Part { stripped: false, \
@@ -93,8 +93,8 @@ const ASKING: &str = "\
     config: ~_d~, weight: Some(B), text: ~c~ } }] }) };\
     @4 insert strip A A ''''=ScriptLine { session: 4, statement: Insert(Expr { first: Part { stripped: true, \
     source: Made { config: ~A~, weight: Some(A), text: ~'~ } }, others: [] }) };\
-    ask to c 'x & y'=ScriptLine { session: 0, statement: Query(Made { maker: To, config: ~c~, text: ~x & y~ }) };\
-    ask plain to ''=ScriptLine { session: 0, statement: Query(Made { maker: Plain, config: ~to~, text: ~~ }) };\
+    ask to c 'x & y'=ScriptLine { session: 0, statement: Ask(Made { maker: To, config: ~c~, text: ~x & y~ }) };\
+    ask plain to ''=ScriptLine { session: 0, statement: Ask(Made { maker: Plain, config: ~to~, text: ~~ }) };\
     @1 search phrase D 'x'=ScriptLine { session: 1, statement: Search(Made { maker: Phrase, config: ~D~, text: ~x~ \
     }) };\
     @1 search\tweb\tweb 'x' =ScriptLine { session: 1, statement: Search(Made { maker: Web, config: ~web~, text: ~x~ \
@@ -123,7 +123,7 @@ fn bytes_of(alloc: Global, line: &str) -> Result<Vec<u8>, AllocError> {
     Ok(bytes)
 }
 
-/// Puts the numbers of a body's lines behind others.
+/// Puts the numbers of a body's lines after others.
 fn push_body(text: &mut String, body: Lines<'_>) -> Result<(), AllocError> {
     text.push_str("(")?;
     for line in body {
@@ -132,7 +132,7 @@ fn push_body(text: &mut String, body: Lines<'_>) -> Result<(), AllocError> {
     push_word(text, ")")
 }
 
-/// Puts a step behind others.
+/// Puts a step after others.
 fn push_step(text: &mut String, step: Step<'_>) -> Result<(), AllocError> {
     match step {
         Step::Single(line) => push_number(text, line.number as usize),
@@ -158,13 +158,13 @@ pub fn script(alloc: Global, asked: &str) -> Result<String, Fail> {
 }
 
 /// What a first line says.
-pub fn head(alloc: Global, line: &str) -> Result<String, Fail> {
+pub fn opening_line(alloc: Global, line: &str) -> Result<String, Fail> {
     let line = bytes_of(alloc, line)?;
-    let head = read_head(line.as_slice());
+    let head = read_opening_line(line.as_slice());
     Ok(format!(in alloc; "{head:?}")?)
 }
 
-/// Puts the numbers of types behind a text.
+/// Puts the numbers of types after a text.
 fn push_types(text: &mut String, types: Types<'_>) -> Result<(), AllocError> {
     for kind in types {
         push_number(text, usize::from(kind.number()))?;
@@ -201,7 +201,7 @@ pub fn statement(alloc: Global, line: &str) -> Result<String, Fail> {
 /// Nothing where a line by itself says nothing, else what it says.
 pub fn nothing(alloc: Global, line: &str) -> Result<String, Fail> {
     let read = statement(alloc, line)?;
-    if read.as_str() == "ScriptLine { session: 0, statement: Nothing }" {
+    if read.as_str() == "ScriptLine { session: 0, statement: Invalid }" {
         return said(alloc, "");
     }
     Ok(read)
@@ -212,7 +212,7 @@ pub fn nothing(alloc: Global, line: &str) -> Result<String, Fail> {
 fn scripts(rt: HostRuntime) -> Result<(), Fail> {
     let alloc = rt.alloc();
     try_rows(&rt, alloc, Kind::Script, STEPS, 8)?;
-    try_rows(&rt, alloc, Kind::Head, HEADS, 32)?;
+    try_rows(&rt, alloc, Kind::OpeningLine, OPENING_LINES, 32)?;
     try_rows(&rt, alloc, Kind::Mapping, MAPPINGS, 15)?;
     try_rows(&rt, alloc, Kind::Statement, ASKING, 15)?;
     try_rows(&rt, alloc, Kind::Nothing, NO_STATEMENTS, 54)

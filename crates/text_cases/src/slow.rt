@@ -137,7 +137,7 @@ fn joined_part(alloc: Global, left: &Part, right: &Part, both: bool) -> Result<P
     })
 }
 
-/// The left part and behind it the right one.
+/// The left part and after it the right one.
 fn phrase_part(
     alloc: Global,
     left: &Part,

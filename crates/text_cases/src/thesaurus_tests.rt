@@ -60,7 +60,7 @@ fn answers_of(alloc: Global, text: &str) -> Result<Vec<Answer>, Fail> {
     Ok(answers)
 }
 
-/// Puts words behind others, each with a star behind it where it has a mark.
+/// Puts words after others, each with a star after it where it has a mark.
 fn push_found(text: &mut String, words: &[Found]) -> Result<(), AllocError> {
     for word in words {
         push_word(text, word.lexeme.as_str())?;

@@ -1,4 +1,4 @@
-// Vectors: what is printed of texts, which are refused, and how they are spelled.
+// Vectors: what is printed of texts, which are refused, and how they are encoded.
 use crate::kinds::{Kind, try_rows};
 use crate::rows::{expanded, push_number, push_word, said};
 use std::alloc::{AllocError, Global};
@@ -34,7 +34,7 @@ const ROWS: &str = concat!(
     "a:1+b:x+c:=syntax error at 2",
 );
 
-/// Texts behind 512 long words, and how many lexemes they have: the content has to stay below the limit.
+/// Texts after 512 long words, and how many lexemes they have: the content has to stay below the limit.
 const LARGE: &str = concat!(
     " a:1,1A «b^1020»=514; a:1,1A «b^1020»+a=514;",
     " a:1,1A «b^1020»+c=vector of 1048576 bytes; a:1,1A «b^1021»=vector of 1048576 bytes",
@@ -57,14 +57,14 @@ const BYTES: &str = concat!(
     // No position, and positions out of order.
     "1 0 0 0 1 0 97 1 0 0 192=bad bytes at 9;1 0 0 0 1 0 97 2 0 2 0 1 0=bad bytes at 11;",
     "1 0 0 0 1 0 97 2 0 2 0 2 192=bad bytes at 11;",
-    // A spelling: how many entries, and of each the number of positions, the first and the last.
+    // An encoding: how many entries, and of each the number of positions, the first and the last.
     "2 0 0 0 1 0 97 2 0 1 192 3 0 1 0 98 0 0=2 a 2 1A 3D b 0",
 );
 
-/// Vectors, and their spelling behind a byte that was there before.
-const SPELLED: &str = "'a':1A 'b'=7 2 0 0 0 1 0 97 1 0 1 192 1 0 98 0 0";
+/// Vectors, and their encoding after a byte that was there before.
+const ENCODED: &str = "'a':1A 'b'=7 2 0 0 0 1 0 97 1 0 1 192 1 0 98 0 0";
 
-/// Of many positions the 256 least are kept at each join, and what follows is behind these; `%` is a vector that is
+/// Of many positions the 256 least are kept at each join, and what follows is after these; `%` is a vector that is
 /// built of 257 positions.
 const JOINS: &str = "a:1«+a:1^299»+b:1=2 a 256 1D 256D b 1 257D;%=1 a 256 1D 256D";
 
@@ -144,7 +144,7 @@ pub fn outcome(alloc: Global, text: &str) -> Result<String, Fail> {
     one_of(alloc, printed(alloc, vector(alloc, text))?, given.as_str())
 }
 
-/// Texts behind 512 long words.
+/// Texts after 512 long words.
 fn long_text(alloc: Global, behind: &str) -> Result<String, AllocError> {
     let word = expanded(alloc, "«a^2042»")?;
     let mut text = String::new(alloc);
@@ -156,7 +156,7 @@ fn long_text(alloc: Global, behind: &str) -> Result<String, AllocError> {
     Ok(text)
 }
 
-/// How many lexemes the vector of a text has that stands behind 512 words of 2046 bytes.
+/// How many lexemes the vector of a text has that is after 512 words of 2046 bytes.
 pub fn large(alloc: Global, behind: &str) -> Result<String, Fail> {
     let text = long_text(alloc, behind)?;
     let given = counted(alloc, joined(alloc, text.as_str()))?;
@@ -167,7 +167,7 @@ pub fn large(alloc: Global, behind: &str) -> Result<String, Fail> {
     )
 }
 
-/// Puts how many positions there are behind others, the first of them and the last.
+/// Puts how many positions there are after others, the first of them and the last.
 fn push_positions(text: &mut String, positions: Positions<'_>) -> Result<(), AllocError> {
     push_number(text, positions.len())?;
     if positions.is_empty() {
@@ -183,14 +183,14 @@ fn push_positions(text: &mut String, positions: Positions<'_>) -> Result<(), All
     Ok(())
 }
 
-/// Puts a position behind others.
+/// Puts a position after others.
 fn push_position(text: &mut String, position: Position) -> Result<(), AllocError> {
     let at = position.at();
     let weight = position.weight();
     write!(text, " {at}{weight:?}")
 }
 
-/// The entries of a spelling.
+/// The entries of an encoding.
 fn entries(alloc: Global, bytes: &VectorBytes) -> Result<String, Fail> {
     let mut text = String::new(alloc);
     push_number(&mut text, bytes.count())?;
@@ -201,7 +201,7 @@ fn entries(alloc: Global, bytes: &VectorBytes) -> Result<String, Fail> {
     Ok(text)
 }
 
-/// The entries of a vector, by its spelling.
+/// The entries of a vector, by its encoding.
 fn entries_of(alloc: Global, vector: &TsVector) -> Result<String, Fail> {
     let mut bytes = Vec::new(alloc);
     vector.encode(&mut bytes)?;
@@ -235,16 +235,16 @@ fn numbers_of(alloc: Global, bytes: &[u8]) -> Result<String, Fail> {
     Ok(text)
 }
 
-/// The spelling of a text's vector behind the byte 7.
-fn spelling(alloc: Global, text: &str) -> Result<Vec<u8>, Fail> {
+/// The encoding of a text's vector after the byte 7.
+fn encoding(alloc: Global, text: &str) -> Result<Vec<u8>, Fail> {
     let mut bytes = vec![in alloc; 7u8]?;
     TsVector::parse(alloc, text)?.encode(&mut bytes)?;
     Ok(bytes)
 }
 
-/// The spelling of a vector behind the byte 7, where it is read back.
-pub fn spelled(alloc: Global, text: &str) -> Result<String, Fail> {
-    let bytes = spelling(alloc, text)?;
+/// The encoding of a vector after the byte 7, where it is read back.
+pub fn encoded(alloc: Global, text: &str) -> Result<String, Fail> {
+    let bytes = encoding(alloc, text)?;
     let back = TsVector::decode(alloc, bytes.get(1..).unwrap_or(&[]))?.to_text(alloc)?;
     if back.as_str() != text {
         return said(alloc, "another vector");
@@ -293,11 +293,11 @@ fn vectors(rt: HostRuntime) -> Result<(), Fail> {
     try_rows(&rt, alloc, Kind::Weighted, "a:1,2A b='a':1C,2C 'b'", 1)
 }
 
-/// Vectors are spelled, and read where they lie.
+/// Vectors are encoded, and read where they lie.
 #[test]
-fn spellings(rt: HostRuntime) -> Result<(), Fail> {
+fn encodings(rt: HostRuntime) -> Result<(), Fail> {
     let alloc = rt.alloc();
     try_rows(&rt, alloc, Kind::Bytes, BYTES, 17)?;
-    try_rows(&rt, alloc, Kind::Spelled, SPELLED, 1)?;
+    try_rows(&rt, alloc, Kind::Encoded, ENCODED, 1)?;
     try_rows(&rt, alloc, Kind::Joins, JOINS, 2)
 }

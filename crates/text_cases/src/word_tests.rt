@@ -154,7 +154,7 @@ pub fn accepted(alloc: Global, word: &str) -> Result<String, Fail> {
     )
 }
 
-/// Puts behind others whether a line is taken.
+/// Puts after others whether a line is taken.
 fn push_taken(text: &mut String, is_good: bool) -> Result<(), AllocError> {
     push_word(text, if is_good { "taken" } else { "refused" })
 }

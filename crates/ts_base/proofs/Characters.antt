@@ -10,7 +10,7 @@ abbrev pub Each : (ℕ → Type 0) → List ℕ → Type 0
 Each P [] = Unit {0}
 Each P (b ∷ bs) = P b × Each P bs
 
--- a byte, and others behind it, of which P holds
+-- a byte, and others after it, of which P holds
 abbrev pub Some : (ℕ → Type 0) → List ℕ → Type 0
 Some P l = (b : ℕ) × (bs : List ℕ) × (l ≡ b ∷ bs) × P b × Each P bs
 

@@ -5,7 +5,7 @@ use Rattle.std.proofs.lemmas.List.Elements.{All-head, All-tail}
 use Rattle.ts_base.specs.FirstLine.{IsFirstLine}
 
 module _ (P : List ℕ → Type 0) where
-  -- behind lines of which none is so, one that is so is the first
+  -- after lines of which none is so, one that is so is the first
   pub first_behind : (done more : List (List ℕ)) (l : List ℕ) → All (λ x. ¬ P x) done → P l → IsFirstLine P (done ++ l ∷ more) (length done + 1)
   first_behind [] more l h p = inl (p, refl)
   first_behind (d ∷ done) more l h p = inr (All-head (λ x. ¬ P x) d done h, (length done + 1, omega arith, first_behind done more l (All-tail (λ x. ¬ P x) d done h) p))

@@ -11,5 +11,5 @@ pub mod LineWords
 pub mod TextLines
 pub mod FirstLines
 pub mod LittleBytes
-pub mod Spelling
+pub mod Encoding
 pub mod KeyOrder

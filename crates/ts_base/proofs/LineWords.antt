@@ -11,7 +11,7 @@ use Rattle.ts_base.specs.Words.{IsWord, EndsWord, BeginsWithWord, IsFirstWord, A
 use Rattle.ts_base.proofs.ByteKinds.{blank_ascii}
 use Rattle.ts_base.proofs.Fronts.{same_front}
 
--- behind blanks a text may be cut
+-- after blanks a text may be cut
 pub behind_blanks : (text : List ℕ) (n : ℕ) → IsUtf8 text → n ≤ length text → All IsBlank (take n text) → IsCharBoundary text n
 behind_blanks text zero u le h = IsCharBoundary-start text u
 behind_blanks text (suc m) u le h =
@@ -74,6 +74,6 @@ nothing_left : (rest : List ℕ) → BeginsWithout IsBlank rest → BeginsWithou
 nothing_left [] h k = refl
 nothing_left (c ∷ rest) h k = absurd (k h)
 
--- where no word begins behind blanks, the line is blank
+-- where no word begins after blanks, the line is blank
 pub all_blank : (line gap rest : List ℕ) → All IsBlank gap → line ≡ gap ++ rest → BeginsWithout IsBlank rest → BeginsWithout IsDark rest → All IsBlank line
 all_blank line gap rest b e h k = subst (All IsBlank) (sym (append-nil gap) ∙ ap (λ z. gap ++ z) (sym (nothing_left rest h k)) ∙ sym e) b

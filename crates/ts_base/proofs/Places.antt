@@ -24,7 +24,7 @@ module _ (V : Type 0) (G : List ℕ → V → Type 0) where
     came_so = λ u v g. to u v (leads.came_so (get_or text i 0 ∷ u) v (subst (λ t. G t v) (front_more text i u lt) g));
   }
 
-  -- the next byte can't stand here
+  -- the next byte can't be here
   pub fault_here : (text : List ℕ) (i : ℕ) (R : List ℕ → V → Type 0) → i < length text → Leads V G (take i text) R
       → (more : List ℕ) (v : V) → R more v → ((u : List ℕ) (w : V) → ¬ R (get_or text i 0 ∷ u) w)
       → FaultAt (Stands V G) text i
@@ -74,7 +74,7 @@ module _ (V : Type 0) (G : List ℕ → V → Type 0) where
     leads_moved text i s t lt leads m =
         leads_step text i (RestAt V (R s) i) (RestAt V (R t) (i + 1)) lt leads (moves_to i s t (get_or text i 0) m) (moves_from i s t (get_or text i 0) m)
 
-    -- the next byte can't stand here
+    -- the next byte can't be here
     pub fault_stuck : (text : List ℕ) (i : ℕ) (s : S) → i < length text → Leads V G (take i text) (RestAt V (R s) i)
         → (more : List ℕ) (v : V) → RestAt V (R s) i more v → Stuck S V R s (get_or text i 0 ∷ []) → FaultAt (Stands V G) text i
     fault_stuck text i s lt leads more v completes stuck =
@@ -107,7 +107,7 @@ module _ (V : Type 0) (G : List ℕ → V → Type 0) where
           m.came_so (next + length u) u v n (subst (λ k. R s k (bytes ++ u) v) (sym n) y);
     }
 
--- a byte that can't stand in a state
+-- a byte that can't be in a state
 pub stuck_at : (S V : Type 0) (R : S → ℕ → List ℕ → V → Type 0) (s : S) (c : ℕ) → ((size : ℕ) (u : List ℕ) (v : V) → ¬ R s size (c ∷ u) v) → Stuck S V R s (c ∷ [])
 stuck_at S V R s c f = record {
   never = λ d more e size u v h. let same : c ≡ d = cc in f size u v (subst (λ x. R s size (x ∷ u) v) (sym same) h);

@@ -22,7 +22,7 @@ no_quote_97 h = omega arith
 no_escape_97 : ◌≡◌ {A = ℕ} 97 92 → ⊥
 no_escape_97 h = omega arith
 
--- ── what may follow before a byte, and behind it ──
+-- ── what may follow before a byte, and after it ──
 module _ (V : Type 0) (Then : List ℕ → List ℕ → V → Type 0) (a : List ℕ) where
   quote_second : (c : ℕ) (u l r : List ℕ) (v : V) → Quoted a (39 ∷ c ∷ u) l r → l ≢ [] → Then l r v → QuoteOn V Then a (c ∷ u) v
   quote_second c u l r v (closed _ _ n) ne w = inr (n, ne, w)
@@ -68,7 +68,7 @@ module _ (V : Type 0) (Then : List ℕ → List ℕ → V → Type 0) (a : List 
   pub quoted_byte_from : (c : ℕ) (u : List ℕ) (v : V) → c ≢ 39 → c ≢ 92 → QuotedOn V Then (a ++ c ∷ []) u v → QuotedOn V Then a (c ∷ u) v
   quoted_byte_from c u v m n (l, r, q, ne, w) = (l, r, quoted_byte c a u l r m n q, ne, w)
 
-  -- behind a quote within
+  -- after a quote within
   pub doubled_to : (u : List ℕ) (v : V) → QuoteOn V Then a (39 ∷ u) v → QuotedOn V Then (a ++ 39 ∷ []) u v
   doubled_to u v (inl (e, h)) = h
   doubled_to u v (inr (n, ne, w)) = absurd (n refl)
@@ -136,7 +136,7 @@ byte_tests false false c a u l v e f q = quoted_byte c a u l v (λ s. grind (ari
 byte_reads : (c : ℕ) (a u l v : List ℕ) → Quoted (a ++ c ∷ []) u l v → Quoted a (doubled_byte c ++ u) l v
 byte_reads c a u l v q = byte_tests (eqb c 39) (eqb c 92) c a u l v refl refl q
 
--- behind the beginning a of the text
+-- after the beginning a of the text
 pub quoted_reads : (l a r : List ℕ) → ¬ BeginsWithQuote r → Quoted a (flat_map doubled_byte l ++ 39 ∷ r) (a ++ l) r
 quoted_reads [] a r h = subst (λ l. Quoted a (39 ∷ r) l r) (sym (append-nil a)) (closed a r h)
 quoted_reads (c ∷ l) a r h =

@@ -30,7 +30,7 @@ between a u h k = record { rest = []; after = u; split = refl; whole = subst IsU
 pub ascii_past : (c : ℕ) (u : List ℕ) → c < 128 → IsUtf8 (c ∷ u) → IsUtf8 u
 ascii_past c u lt h = IsUtf8-past_char (c ∷ u) u c h (ap (λ t. t ++ u) (sym (encode_ascii c lt)))
 
--- before an ASCII byte and at the end stands the end of a character
+-- before an ASCII byte and at the end is the end of a character
 clean_at : (a q r u : List ℕ) (c : ℕ) → c < 128 → c ∷ u ≡ q ++ r → IsUtf8 (a ++ q) → IsUtf8 r → All (λ b. 128 ≤ b) q → IsUtf8 a × IsUtf8 (c ∷ u)
 clean_at a [] r u c lt e h k high = (subst IsUtf8 (append-nil a) h, subst IsUtf8 (sym e) k)
 clean_at a (d ∷ q) r u c lt e h k high =
@@ -51,7 +51,7 @@ clean_end_at a (d ∷ q) r e h = absurd (cc)
 pub clean_end : (a : List ℕ) → Inside a [] → IsUtf8 a
 clean_end a i = clean_end_at a i.rest i.after i.split i.whole
 
--- behind the first byte of a character stand none of ASCII
+-- after the first byte of a character come none of ASCII
 high_tail : (d c : ℕ) (q : List ℕ) → encode_utf8 d ≡ c ∷ q → All (λ b. 128 ≤ b) q
 high_tail d c q e k x lt =
     let z : get_or q k x ≡ get_or q k 0 = get_or_default q k x 0 lt in
@@ -105,7 +105,7 @@ put_at a (d ∷ q) r u c e h k high =
 pub put : (a : List ℕ) (c : ℕ) (u : List ℕ) → Inside a (c ∷ u) → Inside (a ++ c ∷ []) u
 put a c u i = put_at a i.rest i.after u c i.split i.whole i.next i.high
 
--- an escape sign and the byte behind it
+-- an escape sign and the byte after it
 pub put_escaped : (a : List ℕ) (c : ℕ) (u : List ℕ) → Inside a (92 ∷ c ∷ u) → Inside (a ++ c ∷ []) u
 put_escaped a c u i = let k = clean a 92 (c ∷ u) (omega arith) i in put a c u (between a (c ∷ u) k.0 k.1)
 

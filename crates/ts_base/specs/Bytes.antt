@@ -22,7 +22,7 @@ IsLetter c B = (c ≡ 66) ⊎ (c ≡ 98)
 IsLetter c C = (c ≡ 67) ⊎ (c ≡ 99)
 IsLetter c D = (c ≡ 68) ⊎ (c ≡ 100)
 
--- no byte of which P holds stands at the front
+-- no byte of which P holds is at the front
 abbrev pub BeginsWithout : (ℕ → Type 0) → List ℕ → Type 0
 BeginsWithout P [] = Unit {0}
 BeginsWithout P (c ∷ u) = ¬ P c

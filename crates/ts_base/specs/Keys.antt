@@ -23,7 +23,7 @@ pub data IsKey : Key → Type 0 where
   of_lexeme : (lexeme : List ℕ) → IsLexeme lexeme → IsKey (0 ∷ lexeme)
   of_none : IsKey (1 ∷ [])
 
--- keys stand in the order of their bytes: the first byte that differs decides, and a proper prefix is first
+-- keys are in the order of their bytes: the first byte that differs decides, and a proper prefix comes first
 abbrev pub key_order : Key → Key → Ordering
 key_order a b = slice_cmp nat_cmp a b
 
@@ -35,7 +35,7 @@ or_placeholder (k ∷ ks) = k ∷ ks
 abbrev pub keys_of : Vector → List Key
 keys_of v = or_placeholder (map (λ e. lexeme_key e.lexeme) v)
 
--- a vector's keys are keys, and stand in key order, each once
+-- a vector's keys are keys, and are in key order, each once
 abbrev pub KeysRise : Type 0
 KeysRise =
     (v : Vector) → IsNormal v → All IsKey (keys_of v) × AllPairs (λ a b. key_order a b ≡ Less) (keys_of v)

@@ -12,6 +12,6 @@ pub record IsLexeme (bytes : List ℕ) : Type 0 where
   pub most : length bytes ≤ LONGEST_LEXEME
   pub utf8 : IsUtf8 bytes
 
--- byte order: the first byte that differs decides, and a proper prefix is first
+-- byte order: the first byte that differs decides, and a proper prefix comes first
 abbrev pub IsBefore : List ℕ → List ℕ → Type 0
 IsBefore a b = slice_cmp nat_cmp a b ≡ Less

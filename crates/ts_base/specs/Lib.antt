@@ -8,7 +8,7 @@ pub mod Words
 pub mod FirstLine
 pub mod Lexemes
 pub mod Vectors
-pub mod Spelling
+pub mod Encoding
 pub mod Keys
 pub mod Dictionary
 pub mod Inner

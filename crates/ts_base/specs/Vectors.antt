@@ -4,7 +4,7 @@ use Rattle.ts_base.specs.declared.TheConstants.{LAST_POSITION, MOST_POSITIONS}
 use Rattle.ts_base.specs.declared.Weight.{Weight}
 use Rattle.ts_base.specs.Lexemes.{IsLexeme, IsBefore}
 
--- where a lexeme stands in its text, and how much it counts there
+-- where a lexeme is in its text, and how much it counts there
 pub record Position : Type 0 where
   pub at : ℕ
   pub weight : Weight
@@ -28,7 +28,7 @@ pub record IsEntry (entry : Entry) : Type 0 where
   pub rising : AllPairs (λ p q. p.at < q.at) entry.positions
   pub few : length entry.positions ≤ MOST_POSITIONS
 
--- normal form: the lexemes stand in byte order, each once
+-- normal form: the lexemes are in byte order, each once
 pub record IsNormal (vector : Vector) : Type 0 where
   pub entries : All IsEntry vector
   pub rising : AllPairs (λ a b. IsBefore a.lexeme b.lexeme) vector

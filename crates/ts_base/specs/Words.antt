@@ -12,12 +12,12 @@ pub record IsWord (word : List ℕ) : Type 0 where
   pub some : 0 < length word
   pub dark : All (λ c. ¬ IsBlank c) word
 
--- what may stand right behind a word
+-- what may be right after a word
 abbrev pub EndsWord : List ℕ → Type 0
 EndsWord [] = Unit {0}
 EndsWord (c ∷ u) = IsBlank c
 
--- the line begins with blanks and this word, and the rest stands behind it
+-- the line begins with blanks and this word, and the rest is after it
 pub record BeginsWithWord (line word rest : List ℕ) : Type 0 where
   pub gap : List ℕ
   pub blank : All IsBlank gap

@@ -20,8 +20,8 @@ mod words;
 pub use bytes::{is_blank, is_white, weight_of};
 pub use error::LexemeError;
 pub use laws::{
-    keys_rise, quoted_has_one_reading, quoted_is_read_back, spelling_has_size,
-    spelling_tells_vector, words_are_one,
+    keys_rise, quoted_has_one_reading, quoted_is_read_back, encoding_has_size,
+    encoding_tells_vector, words_are_one,
 };
 pub use quoting::push_quoted;
 use std::alloc::{AllocError, Global};
@@ -128,7 +128,7 @@ impl Eq for Lexeme {
     ghost laws = { nat_list_eq_equiv };
 }
 
-/// Byte order: the first byte that differs decides, and a proper prefix is first.
+/// Byte order: the first byte that differs decides, and a proper prefix comes first.
 impl PartialOrd for Lexeme {
     ghost partial_cmp = { λ a b. Some (slice_cmp nat_cmp a b) };
 
@@ -244,7 +244,7 @@ pub enum Tri {
     True,
 }
 
-/// A lexeme that a dictionary gives for a word. With `prefix` it stands in a query for each lexeme that begins with it.
+/// A lexeme that a dictionary gives for a word. With `prefix` it is in a query for each lexeme that begins with it.
 #[derive(Clone, Debug, Drop)]
 pub struct Found {
     /// The lexeme.

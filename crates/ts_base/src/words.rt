@@ -7,7 +7,7 @@ ghost use Rattle.ts_base.specs.Words.{BeginsWithWord, lower};
 use crate::bytes::is_blank;
 use std::alloc::{AllocError, Global};
 
-/// How many blanks stand at the front.
+/// How many blanks are at the front.
 fn blanks_len(bytes: &[u8]) -> usize
     ensures within { result ≤ length bytes.now }
     ensures blank { All IsBlank (take result bytes.now) }
@@ -19,7 +19,7 @@ fn blanks_len(bytes: &[u8]) -> usize
         .unwrap_or(bytes.len())
 }
 
-/// How many bytes of a word stand at the front.
+/// How many bytes of a word are at the front.
 fn word_len(bytes: &[u8]) -> usize
     ensures within { result ≤ length bytes.now }
     ensures word { All (λ c. ¬ IsBlank c) (take result bytes.now) }
@@ -31,7 +31,7 @@ fn word_len(bytes: &[u8]) -> usize
         .unwrap_or(bytes.len())
 }
 
-/// What stands behind the blanks at the front.
+/// What is after the blanks at the front.
 pub fn without_blanks(text: &str) -> &str
     ensures blanks { (gap : List ℕ) × All IsBlank gap × (text.now ≡ gap ++ result.now) }
     ensures all { BeginsWithout IsBlank result.now }
@@ -39,7 +39,7 @@ pub fn without_blanks(text: &str) -> &str
     &text[blanks_len(text.as_bytes())..]
 }
 
-/// The first word of a line, and what stands behind it; none in a line of blanks.
+/// The first word of a line, and what is after it; none in a line of blanks.
 pub fn front_word(line: &str) -> Option<(&str, &str)>
     ensures some { IfSome result (λ r. BeginsWithWord line.now r.0.now r.1.now) }
     ensures none { IfNone result (All IsBlank line.now) }

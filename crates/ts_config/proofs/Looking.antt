@@ -47,7 +47,7 @@ module _ (m : Mapping) (p : ℕ) (old : List Token) where
 pub next_nearer : (m : Mapping) (p : ℕ) (old new : List Token) (t : Token) → IsNextSeen m p old t new → length new < length old
 next_nearer m p old new t h = omega (arith, ap length h.split, length-append h.front (t ∷ new))
 
--- what holds of all tokens holds of the next one, and of those behind it
+-- what holds of all tokens holds of the next one, and of those after it
 pub next_all : (P : Token → Type 0) (m : Mapping) (p : ℕ) (old new : List Token) (t : Token) → All P old → IsNextSeen m p old t new → P t × All P new
 next_all P m p old new t h n =
     let k = after n.front (subst (All P) n.split h) in (All-head P t new k, All-tail P t new k)

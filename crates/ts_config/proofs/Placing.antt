@@ -119,7 +119,7 @@ module _ (known : Known) (mapping : Mapping) (text : List ℕ) where
     last = refl;
   }
 
-  -- the next token, and those behind it
+  -- the next token, and those after it
   pub tokens_next : (left ts : List Token) (t : Token) (out : List Placed) (position : ℕ) → Done known mapping text left out position → left ≡ t ∷ ts → All (IsToken text) (t ∷ ts)
   tokens_next left ts t out position d e = subst (All (IsToken text)) e d.tokens
 

@@ -1,4 +1,4 @@
--- The tokens that a thesaurus sees, and what is left behind some of them.
+-- The tokens that a thesaurus sees, and what is left after some of them.
 use Rattle.std.proofs.Common.{◌≡◌, ℕ, zero, suc, ◌+◌, ◌-◌, ◌<◌, ◌≤◌, List, [], ◌∷◌, ◌++◌, Bool, true, false, cond, ◌||◌, length, take, refl, sym, ◌∙◌, ap, arith}
 use Rattle.std.specs.Prelude.{filter, take_while, nat_lt, nat_eq, get_or, if◌then◌else◌}
 use Rattle.std.specs.List.{list_any, prefix_len}
@@ -52,7 +52,7 @@ module _ (m : Mapping) (p : ℕ) (t : Token) (ts : List Token) where
       let one : 1 + n ≡ suc n = omega arith in
       asked_first (lists_asked m p t f) ∙ ap (λ b. take (cond b (1 + n) 0) (t ∷ filter (is_asked m) ts)) f ∙ ap (λ k. take k (t ∷ filter (is_asked m) ts)) one
 
--- ── what is behind ──
+-- ── what is after ──
 module _ (m : Mapping) where
   pub behind_nil : (n : ℕ) → behind m n [] ≡ []
   behind_nil zero = refl

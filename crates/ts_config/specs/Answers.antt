@@ -7,7 +7,7 @@ use Rattle.ts_config.specs.Rules.{answer_by}
 use Rattle.ts_config.specs.Mappings.{Mapping, list_for}
 use Rattle.ts_config.specs.Known.{NamedRules, Known}
 
--- the answer of a dictionary; where none stands, nothing is known
+-- the answer of a dictionary; where none is, nothing is known
 abbrev pub answer_of : Option NamedRules → List ℕ → WordAnswer
 answer_of None word = unknown_word
 answer_of (Some d) word = answer_by d.rules word

@@ -47,7 +47,7 @@ pub data AreParts (known : Known) (mapping : Mapping) (text : List ℕ) : List T
   part : (t : Token) (ts rest : List Token) (given : WordAnswer) (more : List WordAnswer) → Decides known mapping text t ts (asked_for mapping t) given rest
       → AreParts known mapping text rest more → AreParts known mapping text (t ∷ ts) (given ∷ more)
 
--- no thesaurus stands there
+-- no thesaurus is there
 abbrev pub IsWordWise : Option NamedRules → Type 0
 IsWordWise None = Unit {0}
 IsWordWise (Some d) = is_thesaurus d.rules ≡ false

@@ -21,7 +21,7 @@ lists mapping place t = list_any (λ p. nat_eq p place) (asked_for mapping t)
 abbrev pub seen : Mapping → ℕ → List Token → List Token
 seen mapping place ts = take_while (lists mapping place) (filter (is_asked mapping) ts)
 
--- what is left behind the first n of the tokens for which any dictionary is asked
+-- what is left after the first n of the tokens for which any dictionary is asked
 abbrev pub behind : Mapping → ℕ → List Token → List Token
 behind mapping zero ts = ts
 behind mapping (suc n) [] = []
@@ -33,7 +33,7 @@ answers_to answer text ts = map (λ t. answer (word_of text t)) ts
 
 module _ (mapping : Mapping) (text : List ℕ) (answer : List ℕ → WordAnswer) (place : ℕ) (rules : List Rule) where
   -- A phrase begins with the first of these tokens: the rule that is best for what the subdictionary answers to the tokens that the
-  -- thesaurus sees. It replaces one token or more by these words, and the rest is behind the last of them.
+  -- thesaurus sees. It replaces one token or more by these words, and the rest is after the last of them.
   pub record IsPhrase (ts : List Token) (words : List Found) (rest : List Token) : Type 0 where
     pub tokens : ℕ
     pub some : 0 < tokens
@@ -49,7 +49,7 @@ module _ (mapping : Mapping) (text : List ℕ) (answer : List ℕ → WordAnswer
       ((words : List Found) × IsPhrase (t ∷ ts) words rest × (given ≡ word_lexemes words))
       ⊎ (NoPhrase (t ∷ ts) × (given ≡ unknown_word) × (rest ≡ ts))
 
--- What is behind a phrase of n tokens follows tokens of which the phrase's are those for which any dictionary is asked.
+-- What is after a phrase of n tokens follows tokens of which the phrase's are those for which any dictionary is asked.
 abbrev pub PhrasesAreWhole : Type 0
 PhrasesAreWhole = (mapping : Mapping) (place n : ℕ) (ts : List Token) → n ≤ length (seen mapping place ts)
     → (front : List Token) × (ts ≡ front ++ behind mapping n ts) × (filter (is_asked mapping) front ≡ take n (seen mapping place ts))

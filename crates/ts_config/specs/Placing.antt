@@ -12,7 +12,7 @@ use Rattle.ts_config.specs.Parts.{AreParts}
 abbrev pub placed_at : ℕ → Found → Placed
 placed_at n f = record { lexeme = f.lexeme; prefix = f.prefix; position = n }
 
--- The answers to parts behind the position n: a stop word takes a position, a token that nobody knows takes none, and all lexemes of
+-- The answers to parts after the position n: a stop word takes a position, a token that nobody knows takes none, and all lexemes of
 -- a part take one.
 abbrev pub placed_from : ℕ → List WordAnswer → List Placed
 placed_from n [] = []

@@ -26,7 +26,7 @@ impl Model for Config {
     ghost invariant = { λ c. length c.lists.items ≡ TYPES };
 }
 
-/// Where the list of a type stands among those of all types.
+/// Where the list of a type is among those of all types.
 fn type_index(kind: TokenType) -> usize
     ensures place { result ≡ type_place kind }
     ensures within { result < TYPES }

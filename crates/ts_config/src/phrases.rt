@@ -111,7 +111,7 @@ pub struct Listed<'a> {
 }
 
 impl Listed<'_> {
-    /// What the subdictionary answers to the first token and to those behind it that the thesaurus sees, as
+    /// What the subdictionary answers to the first token and to those after it that the thesaurus sees, as
     /// long as some rule goes on with them.
     fn answers(
         &self,

@@ -21,7 +21,7 @@ use ts_parser::{Token, Tokens, tokens};
 pub struct Placed {
     /// The lexeme.
     pub lexeme: Lexeme,
-    /// Whether it stands in a query for each lexeme that begins with it.
+    /// Whether it is in a query for each lexeme that begins with it.
     pub prefix: bool,
     /// Its position among the words of the text, numbered from 1.
     pub position: usize,
@@ -49,7 +49,7 @@ fn next_position(last: usize) -> Result<usize, AllocError>
 }
 
 /// Appends what a token was answered, where `last` is the last position so far, and gives the last
-/// position behind it.
+/// position after it.
 fn place(out: &mut Vec<Placed>, answer: Answer, last: usize) -> Result<usize, AllocError>
     ensures placed { OnOk result
         (out.new.items ≡ out.old.items ++ placed_from last (answer_value answer ∷ [])) }

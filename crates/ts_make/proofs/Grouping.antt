@@ -43,7 +43,7 @@ pub pairs_head : {X : Type 0} (R : X → X → Type 0) (x : X) (xs : List X) →
 pairs_head R x xs r k d h = r 0 (suc k) d (omega arith) (omega arith)
 
 -- ── groups of a list are those that are found ──
--- the first group, if any, stands at another position
+-- the first group, if any, is at another position
 abbrev OtherFirst : ℕ → List Group → Type 0
 OtherFirst n [] = Unit {0}
 OtherFirst n (g ∷ gs) = n ≢ g.position
@@ -114,7 +114,7 @@ joined_together p g e t =
     All-cons (λ x. x.position ≡ p.position) p (members g) refl
     (subst (λ n. All (λ x. x.position ≡ n) (members g)) (sym e) t)
 
--- what is kept of the groups behind a lexeme
+-- what is kept of the groups after a lexeme
 record Found (n : ℕ) (gs : List Group) : Type 0 where
   together : All IsTogether gs
   rising : AllPairs (λ g h. g.position < h.position) gs

@@ -18,9 +18,9 @@ use Rattle.ts_config.specs.Placing.{ArePlaced}
 use Rattle.ts_config.proofs.Placing.{placed_are_one}
 use Rattle.ts_make.specs.Groups.{Group, AreGroups}
 use Rattle.ts_make.specs.Trees.{phrase_of}
-use Rattle.ts_make.specs.Removal.{Draft, not_draft, joint_draft, draft_nodes, draft_of, clean}
-use Rattle.ts_make.specs.Made.{made_entry, IsMadeVector, MadeVectorFails, HasGroups, IsJoined, JoinedFails, drafted, IsDrafted, operand_drafted, not_drafted, joint_drafted, IsMadeOf, IsTooManyOf, RemakingFails, IsMadeQuery, MadeQueryFails}
-use Rattle.ts_make.specs.Laws.{DraftsHaveNoFewer, VectorAnswerIsOne, JoinAnswerIsOne, QueryAnswerIsOne}
+use Rattle.ts_make.specs.Removal.{Sketch, not_sketch, joint_sketch, sketch_nodes, sketch_of, clean}
+use Rattle.ts_make.specs.Made.{made_entry, IsMadeVector, MadeVectorFails, HasGroups, IsJoined, JoinedFails, sketched, IsSketched, operand_sketched, not_sketched, joint_sketched, IsMadeOf, IsTooManyOf, RemakingFails, IsMadeQuery, MadeQueryFails}
+use Rattle.ts_make.specs.Laws.{SketchesHaveNoFewer, VectorAnswerIsOne, JoinAnswerIsOne, QueryAnswerIsOne}
 use Rattle.ts_make.proofs.Grouping.{same_groups}
 
 module _ (known : Known) (mapping : Mapping) (text : List ℕ) where
@@ -117,23 +117,23 @@ module _ (known : Known) (mapping : Mapping) (text : List ℕ) where
   join_many join TooManyNodes n f = refl
   join_many join OutOfMemory n f = absurd (n refl)
 
--- ── drafts ──
-pub draft_one : (known : Known) (mapping : Mapping) (t : Tree) (d e : Draft)
-    → IsDrafted known mapping t d → IsDrafted known mapping t e → d ≡ e
-draft_one known mapping (leaf o) d e (operand_drafted o2 gs h) (operand_drafted o3 hs k) =
-    ap (λ l. drafted (phrase_of o.weights o.prefix l)) (groups_one known mapping o.lexeme gs hs h k)
-draft_one known mapping (negated x) d e (not_drafted x2 d2 a) (not_drafted x3 e2 b) =
-    ap not_draft (draft_one known mapping x d2 e2 a b)
-draft_one known mapping (joined j x y) d e (joint_drafted j2 x2 y2 d2 d3 a c)
-    (joint_drafted j3 x3 y3 e2 e3 b f) =
-    ap (λ l. joint_draft j l d3) (draft_one known mapping x d2 e2 a b)
-    ∙ ap (λ l. joint_draft j e2 l) (draft_one known mapping y d3 e3 c f)
+-- ── sketches ──
+pub sketch_one : (known : Known) (mapping : Mapping) (t : Tree) (d e : Sketch)
+    → IsSketched known mapping t d → IsSketched known mapping t e → d ≡ e
+sketch_one known mapping (leaf o) d e (operand_sketched o2 gs h) (operand_sketched o3 hs k) =
+    ap (λ l. sketched (phrase_of o.weights o.prefix l)) (groups_one known mapping o.lexeme gs hs h k)
+sketch_one known mapping (negated x) d e (not_sketched x2 d2 a) (not_sketched x3 e2 b) =
+    ap not_sketch (sketch_one known mapping x d2 e2 a b)
+sketch_one known mapping (joined j x y) d e (joint_sketched j2 x2 y2 d2 d3 a c)
+    (joint_sketched j3 x3 y3 e2 e3 b f) =
+    ap (λ l. joint_sketch j l d3) (sketch_one known mapping x d2 e2 a b)
+    ∙ ap (λ l. joint_sketch j e2 l) (sketch_one known mapping y d3 e3 c f)
 
 pub made_of_one : (known : Known) (mapping : Mapping) (r p q : Query) → IsMadeOf known mapping r p
     → IsMadeOf known mapping r q → p ≡ q
 made_of_one known mapping None p q h k = h ∙ sym k
 made_of_one known mapping (Some t) p q (d, a, m, e) (f, b, n, g) =
-    e ∙ ap (λ l. (clean l).query) (draft_one known mapping t d f a b) ∙ sym g
+    e ∙ ap (λ l. (clean l).query) (sketch_one known mapping t d f a b) ∙ sym g
 
 pub made_many : (known : Known) (mapping : Mapping) (r q : Query) → IsMadeOf known mapping r q
     → ¬ IsTooManyOf known mapping r
@@ -214,27 +214,27 @@ module _ (known : Known) (mapping : Mapping) (text : List ℕ) where
   faults_one d e n m (inr f) (inr g) =
       remaking_many known mapping f.0 d n f.2 ∙ sym (remaking_many known mapping g.0 e m g.2)
 
--- ── drafts have no fewer nodes ──
-pub draft_of-nodes : (t : Tree) → draft_nodes (draft_of t) ≡ nodes_in t
-draft_of-nodes (leaf o) = refl
-draft_of-nodes (negated x) = ap suc (draft_of-nodes x)
-draft_of-nodes (joined j x y) = let e = draft_of-nodes x in let f = draft_of-nodes y in omega arith
+-- ── sketches have no fewer nodes ──
+pub sketch_of-nodes : (t : Tree) → sketch_nodes (sketch_of t) ≡ nodes_in t
+sketch_of-nodes (leaf o) = refl
+sketch_of-nodes (negated x) = ap suc (sketch_of-nodes x)
+sketch_of-nodes (joined j x y) = let e = sketch_of-nodes x in let f = sketch_of-nodes y in omega arith
 
 some_node : (t : Tree) → 1 ≤ nodes_in t
 some_node (leaf o) = omega arith
 some_node (negated x) = omega arith
 some_node (joined j x y) = omega arith
 
-drafted_some : (q : Query) → 1 ≤ draft_nodes (drafted q)
-drafted_some None = omega arith
-drafted_some (Some t) = let e = draft_of-nodes t in let f = some_node t in omega arith
+sketched_some : (q : Query) → 1 ≤ sketch_nodes (sketched q)
+sketched_some None = omega arith
+sketched_some (Some t) = let e = sketch_of-nodes t in let f = some_node t in omega arith
 
-pub no_fewer : DraftsHaveNoFewer
-no_fewer known mapping (leaf o) d (operand_drafted o2 gs h) =
-    drafted_some (phrase_of o.weights o.prefix gs)
-no_fewer known mapping (negated x) d (not_drafted x2 e a) = let h = no_fewer known mapping x e a in
+pub no_fewer : SketchesHaveNoFewer
+no_fewer known mapping (leaf o) d (operand_sketched o2 gs h) =
+    sketched_some (phrase_of o.weights o.prefix gs)
+no_fewer known mapping (negated x) d (not_sketched x2 e a) = let h = no_fewer known mapping x e a in
     omega arith
-no_fewer known mapping (joined j x y) d (joint_drafted j2 x2 y2 e f a b) = let h =
+no_fewer known mapping (joined j x y) d (joint_sketched j2 x2 y2 e f a b) = let h =
     no_fewer known mapping x e a in let k = no_fewer known mapping y f b in omega arith
 
 -- ── the laws ──

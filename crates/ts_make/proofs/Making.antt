@@ -1,13 +1,13 @@
--- Drafts that are made node by node.
+-- Sketches that are made node by node.
 use Rattle.std.proofs.Common.{◌≡◌, ℕ, ◌+◌, ◌≤◌, List, [], ◌∷◌, ◌++◌, map, length, refl, sym, subst, ap, ◌∙◌, true, false, ◌&&◌, Some, None, arith}
 use Rattle.ts_query.specs.Queries.{Joint, or_joint, and_joint, phrase_joint, Tree, Query, HasNear}
 use Rattle.ts_query.specs.Postfix.{top}
-use Rattle.ts_make.specs.Removal.{Draft, joint_draft, draft_of, Cleaned, clean_phrase, clean_pair, clean_joint, clean, query_left}
+use Rattle.ts_make.specs.Removal.{Sketch, joint_sketch, sketch_of, Cleaned, clean_phrase, clean_pair, clean_joint, clean, query_left}
 use Rattle.ts_make.specs.Making.{is_left, part_of, parts_of, with_left, trees_left, IsKept}
 use Rattle.ts_make.specs.Inner.Making.{part, joined_part}
 use Rattle.ts_make.specs.declared.maker.Part.{Part}
 use Rattle.ts_make.proofs.Removal.{whole_stays}
-use Rattle.ts_make.proofs.Made.{draft_of-nodes}
+use Rattle.ts_make.proofs.Made.{sketch_of-nodes}
 
 -- ── lists ──
 pub same_front : {A : Type 0} (xs ys : List A) (a b : A) → xs ++ a ∷ [] ≡ ys ++ b ∷ []
@@ -24,7 +24,7 @@ same_front (x ∷ xs) (y ∷ ys) a b e =
     (ap (λ z. z ∷ xs) h ∙ ap (λ l. y ∷ l) r.0, r.1)
 
 -- ── parts ──
--- of two parts what is left is told by what is left of each
+-- of two parts what is left is known by what is left of each
 phrase_told : (n : ℕ) (a b : Query) (l r m k : ℕ)
     → part_of (clean_phrase n (record { query = a; left = l; right = r })
     (record { query = b; left = m; right = k }) a b)
@@ -52,8 +52,8 @@ joint_told and_joint x y = pair_told and_joint x.query y.query x.left x.right y.
 joint_told (phrase_joint n) x y = phrase_told n x.query y.query x.left x.right y.left y.right
 
 -- ── what is kept ──
-pub whole_kept : (ps : List Part) (ts : List Tree) (r : ℕ) (ds : List Draft) (t : Tree) → HasNear t
-    → IsKept ps ts r ds → IsKept (ps ++ part true 0 0 ∷ []) (t ∷ ts) r (draft_of t ∷ ds)
+pub whole_kept : (ps : List Part) (ts : List Tree) (r : ℕ) (ds : List Sketch) (t : Tree) → HasNear t
+    → IsKept ps ts r ds → IsKept (ps ++ part true 0 0 ∷ []) (t ∷ ts) r (sketch_of t ∷ ds)
 whole_kept ps ts r ds t h k = record {
   has_parts =
       ap (λ l. l ++ part true 0 0 ∷ []) k.has_parts
@@ -61,7 +61,7 @@ whole_kept ps ts r ds t h k = record {
   has_trees =
       ap (λ l. t ∷ l) k.has_trees
       ∙ ap (λ c. with_left c.query (trees_left (map clean ds))) (sym (whole_stays t h));
-  count = (let c = k.count in let e = draft_of-nodes t in omega arith);
+  count = (let c = k.count in let e = sketch_of-nodes t in omega arith);
 }
 
 -- ── operators ──
@@ -84,13 +84,13 @@ some_gone (phrase_joint n) None None l r m k ts h = refl
 some_gone j (Some a) (Some b) l r m k ts h = absurd (let no : ⊥ = cc in no)
 
 -- the parts before the last two, and these
-pub record LastTwo (before : List Part) (x y : Part) (d e : Draft) (ds : List Draft) : Type 0 where
+pub record LastTwo (before : List Part) (x y : Part) (d e : Sketch) (ds : List Sketch) : Type 0 where
   pub before_is : before ≡ parts_of (map clean ds)
   pub x_is : x ≡ part_of (clean d)
   pub y_is : y ≡ part_of (clean e)
 
-pub last_two : (ps qs rs : List Part) (x y : Part) (ts : List Tree) (r : ℕ) (d e : Draft)
-    (ds : List Draft) → ps ≡ qs ++ y ∷ [] → qs ≡ rs ++ x ∷ [] → IsKept ps ts r (e ∷ d ∷ ds)
+pub last_two : (ps qs rs : List Part) (x y : Part) (ts : List Tree) (r : ℕ) (d e : Sketch)
+    (ds : List Sketch) → ps ≡ qs ++ y ∷ [] → qs ≡ rs ++ x ∷ [] → IsKept ps ts r (e ∷ d ∷ ds)
     → LastTwo rs x y d e ds
 last_two ps qs rs x y ts r d e ds f g k =
     let a =
@@ -98,9 +98,9 @@ last_two ps qs rs x y ts r d e ds f g k =
     let b = same_front rs (parts_of (map clean ds)) x (part_of (clean d)) (sym g ∙ a.0) in
     record { before_is = b.0; x_is = b.1; y_is = a.1 }
 
-module _ (j : Joint) (ps rs : List Part) (x y : Part) (ts : List Tree) (r : ℕ) (d e : Draft)
-    (ds : List Draft) (w : LastTwo rs x y d e ds) (k : IsKept ps ts r (e ∷ d ∷ ds)) where
-  new_parts : rs ++ joined_part j x y ∷ [] ≡ parts_of (map clean (joint_draft j d e ∷ ds))
+module _ (j : Joint) (ps rs : List Part) (x y : Part) (ts : List Tree) (r : ℕ) (d e : Sketch)
+    (ds : List Sketch) (w : LastTwo rs x y d e ds) (k : IsKept ps ts r (e ∷ d ∷ ds)) where
+  new_parts : rs ++ joined_part j x y ∷ [] ≡ parts_of (map clean (joint_sketch j d e ∷ ds))
   new_parts =
       ap (λ l. l ++ joined_part j x y ∷ []) w.before_is
       ∙ ap (λ p. parts_of (map clean ds) ++ joined_part j p y ∷ []) w.x_is
@@ -108,7 +108,7 @@ module _ (j : Joint) (ps rs : List Part) (x y : Part) (ts : List Tree) (r : ℕ)
       ∙ ap (λ p. parts_of (map clean ds) ++ p ∷ []) (sym (joint_told j (clean d) (clean e)))
 
   pub gone_kept : (x.there && y.there) ≡ false
-      → IsKept (rs ++ joined_part j x y ∷ []) ts (r + 1) (joint_draft j d e ∷ ds)
+      → IsKept (rs ++ joined_part j x y ∷ []) ts (r + 1) (joint_sketch j d e ∷ ds)
   gone_kept h = record {
     has_parts = new_parts;
     has_trees =
@@ -130,14 +130,14 @@ pub alone_few : (q : Query) → length (with_left q []) ≤ 1
 alone_few None = omega arith
 alone_few (Some t) = omega arith
 
-pub few_trees : (ps : List Part) (ts : List Tree) (r : ℕ) (ds : List Draft) → IsKept ps ts r ds
+pub few_trees : (ps : List Part) (ts : List Tree) (r : ℕ) (ds : List Sketch) → IsKept ps ts r ds
     → length ds ≤ 1 → length ts ≤ 1
 few_trees ps ts r [] k h = subst (λ l. length l ≤ 1) (sym k.has_trees) (alone_few None)
 few_trees ps ts r (d ∷ []) k h =
     subst (λ l. length l ≤ 1) (sym k.has_trees) (alone_few (clean d).query)
 few_trees ps ts r (d ∷ e ∷ ds) k h = absurd (let no : ⊥ = omega arith in no)
 
-pub top_left : (ps : List Part) (ts : List Tree) (n : ℕ) (ds : List Draft) → IsKept ps ts n ds
+pub top_left : (ps : List Part) (ts : List Tree) (n : ℕ) (ds : List Sketch) → IsKept ps ts n ds
     → length ds ≤ 1 → top ts ≡ query_left ds
 top_left ps ts n [] k h = ap top k.has_trees
 top_left ps ts n (d ∷ []) k h = ap top k.has_trees ∙ alone_is (clean d).query

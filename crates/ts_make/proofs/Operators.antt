@@ -5,7 +5,7 @@ use Rattle.ts_query.specs.declared.TheConstants.{NODE_LIMIT}
 use Rattle.ts_query.specs.declared.error.QueryError.{QueryError}
 use Rattle.ts_query.specs.Queries.{Joint}
 use Rattle.ts_query.specs.Building.{nodes_among}
-use Rattle.ts_make.specs.Removal.{Draft, joint_draft}
+use Rattle.ts_make.specs.Removal.{Sketch, joint_sketch}
 use Rattle.ts_make.specs.Making.{IsKept, IsMaking}
 use Rattle.ts_make.specs.Inner.Making.{joined_part}
 use Rattle.ts_make.specs.declared.maker.Part.{Part}
@@ -21,12 +21,12 @@ second_gone x y h g = ap (λ b. b && y) h ∙ g
 
 module _ (j : Joint) (a : QueryMaker) (qs rs : List Part) (x y : Part)
     (y_last : a.parts.items ≡ qs ++ y ∷ []) (x_last : qs ≡ rs ++ x ∷ []) where
-  lasts : (d e : Draft) (ds : List Draft) → IsMaking a (e ∷ d ∷ ds) → LastTwo rs x y d e ds
+  lasts : (d e : Sketch) (ds : List Sketch) → IsMaking a (e ∷ d ∷ ds) → LastTwo rs x y d e ds
   lasts d e ds m = last_two a.parts.items qs rs x y a.builder a.removed d e ds y_last x_last m.kept
 
-  kept_gone : (d e : Draft) (ds : List Draft) → (x.there && y.there) ≡ false
+  kept_gone : (d e : Sketch) (ds : List Sketch) → (x.there && y.there) ≡ false
       → IsMaking a (e ∷ d ∷ ds)
-      → IsKept (rs ++ joined_part j x y ∷ []) a.builder (a.removed + 1) (joint_draft j d e ∷ ds)
+      → IsKept (rs ++ joined_part j x y ∷ []) a.builder (a.removed + 1) (joint_sketch j d e ∷ ds)
   kept_gone d e ds t m =
       gone_kept j a.parts.items rs x y a.builder a.removed d e ds (lasts d e ds m) m.kept t
 
@@ -34,9 +34,9 @@ module _ (j : Joint) (a : QueryMaker) (qs rs : List Part) (x y : Part)
       → (x.there && y.there) ≡ false → p ≡ joined_part j x y
       → OnOk r (b.parts.items ≡ rs ++ p ∷ []) → b.builder ≡ a.builder → b.removed ≡ a.removed + 1
       → OnOk r (a.removed + 1 + nodes_among a.builder < NODE_LIMIT)
-      → OnOk r ((d e : Draft) (ds : List Draft) → IsMaking a (e ∷ d ∷ ds)
-      → IsMaking b (joint_draft j d e ∷ ds))
+      → OnOk r ((d e : Sketch) (ds : List Sketch) → IsMaking a (e ∷ d ∷ ds)
+      → IsMaking b (joint_sketch j d e ∷ ds))
   gone_value (Ok v) b p t i ps bs n f = λ d e ds m.
-      making b (rs ++ joined_part j x y ∷ []) a.builder (a.removed + 1) (joint_draft j d e ∷ ds)
+      making b (rs ++ joined_part j x y ∷ []) a.builder (a.removed + 1) (joint_sketch j d e ∷ ds)
       (ps ∙ ap (λ k. rs ++ k ∷ []) i) bs n (kept_gone d e ds t m) f
   gone_value (Err e) b p t i ps bs n f = tt

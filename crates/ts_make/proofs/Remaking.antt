@@ -16,12 +16,12 @@ use Rattle.ts_config.specs.Known.{Known}
 use Rattle.ts_make.specs.Groups.{Group}
 use Rattle.ts_make.specs.Trees.{phrase_of}
 use Rattle.ts_make.specs.Limits.{IsOnlyPast}
-use Rattle.ts_make.specs.Removal.{Draft, not_draft, joint_draft, draft_nodes, query_left}
-use Rattle.ts_make.specs.Made.{HasGroups, drafted, IsDrafted, operand_drafted, not_drafted, joint_drafted, IsMadeOf, IsTooManyOf, RemakingFails}
-use Rattle.ts_make.specs.Making.{nodes_drafted, IsMaking, OperandFails}
-use Rattle.ts_make.specs.Inner.Making.{AreDrafted}
+use Rattle.ts_make.specs.Removal.{Sketch, not_sketch, joint_sketch, sketch_nodes, query_left}
+use Rattle.ts_make.specs.Made.{HasGroups, sketched, IsSketched, operand_sketched, not_sketched, joint_sketched, IsMadeOf, IsTooManyOf, RemakingFails}
+use Rattle.ts_make.specs.Making.{nodes_sketched, IsMaking, OperandFails}
+use Rattle.ts_make.specs.Inner.Making.{AreSketched}
 use Rattle.ts_make.specs.declared.maker.QueryMaker.{QueryMaker}
-use Rattle.ts_make.proofs.Made.{draft_one}
+use Rattle.ts_make.proofs.Made.{sketch_one}
 use Rattle.ts_make.proofs.Nodes.{next_after, first_item, leaf_item, not_item_is, joint_item_is, IsEnough, enough_query, query_trees, run_query, some_query, nothing_left}
 
 module _ (known : Known) (mapping : Mapping) where
@@ -30,14 +30,14 @@ module _ (known : Known) (mapping : Mapping) where
     pub back : List Item
     pub before : List Operand
     pub trees : List Tree
-    pub drafts : List Draft
+    pub sketches : List Sketch
     pub nodes : left ≡ nodes_from next back
     pub operands : operands_of q ≡ before ++ operands_from back
     pub count : next ≡ length before
     pub runs : run back trees ≡ query_trees q
     pub enough : IsEnough back (length trees)
-    pub making : IsMaking maker drafts
-    pub are : AreDrafted known mapping trees drafts
+    pub making : IsMaking maker sketches
+    pub are : AreSketched known mapping trees sketches
     pub none : q ≡ None → back ≡ []
 
   pub remaking_start : (q : Query) (maker : QueryMaker) (left : List Node) → left ≡ nodes_for q
@@ -46,7 +46,7 @@ module _ (known : Known) (mapping : Mapping) where
     back = postfix_of q;
     before = [];
     trees = [];
-    drafts = [];
+    sketches = [];
     nodes = e;
     operands = sym (operands_from-postfix_of q);
     count = refl;
@@ -80,14 +80,14 @@ module _ (known : Known) (mapping : Mapping) where
     pub others : List Item
     pub before : List Operand
     pub trees : List Tree
-    pub drafts : List Draft
+    pub sketches : List Sketch
     pub nodes : rest ≡ nodes_from (suc next) others
     pub operands : operands_of q ≡ before ++ operand ∷ operands_from others
     pub count : next ≡ length before
     pub runs : run others (leaf operand ∷ trees) ≡ query_trees q
     pub enough : IsEnough others (suc (length trees))
-    pub making : IsMaking maker drafts
-    pub are : AreDrafted known mapping trees drafts
+    pub making : IsMaking maker sketches
+    pub are : AreSketched known mapping trees sketches
     pub some : q ≢ None
 
   pub next_operand : (q : Query) (maker : QueryMaker) (next m : ℕ) (left rest : List Node)
@@ -101,7 +101,7 @@ module _ (known : Known) (mapping : Mapping) where
         others = f.others;
         before = r.before;
         trees = r.trees;
-        drafts = r.drafts;
+        sketches = r.sketches;
         nodes = f.nodes ∙ ap (λ i. nodes_from (next_after next i) f.others) g.1;
         operands = r.operands ∙ ap (λ l. r.before ++ operands_from l) is;
         count = r.count;
@@ -129,8 +129,8 @@ module _ (known : Known) (mapping : Mapping) where
   pub operand_made : (q : Query) (maker maker2 : QueryMaker) (next : ℕ) (rest : List Node)
       (n : NextOperand q maker next rest) (groups : List Group)
       → HasGroups known mapping n.operand.lexeme groups
-      → ((ds : List Draft) → IsMaking maker ds
-      → IsMaking maker2 (drafted (phrase_of n.operand.weights n.operand.prefix groups) ∷ ds))
+      → ((ds : List Sketch) → IsMaking maker ds
+      → IsMaking maker2 (sketched (phrase_of n.operand.weights n.operand.prefix groups) ∷ ds))
       → Remaking q maker2 (next + 1) rest
   operand_made q maker maker2 next rest n groups h m =
       let one : suc next ≡ next + 1 = omega arith in
@@ -138,23 +138,23 @@ module _ (known : Known) (mapping : Mapping) where
         back = n.others;
         before = n.before ++ n.operand ∷ [];
         trees = leaf n.operand ∷ n.trees;
-        drafts = drafted (phrase_of n.operand.weights n.operand.prefix groups) ∷ n.drafts;
+        sketches = sketched (phrase_of n.operand.weights n.operand.prefix groups) ∷ n.sketches;
         nodes = n.nodes ∙ ap (λ k. nodes_from k n.others) one;
         operands =
             n.operands ∙ sym (append_assoc n.before (n.operand ∷ []) (operands_from n.others));
         count = (let c = n.count in omega (arith, length-append n.before (n.operand ∷ [])));
         runs = n.runs;
         enough = n.enough;
-        making = m n.drafts n.making;
-        are = (operand_drafted n.operand groups h, n.are);
+        making = m n.sketches n.making;
+        are = (operand_sketched n.operand groups h, n.are);
         none = λ f. absurd (n.some f);
       }
 
   -- a maker that has made an operand of this text
   abbrev pub HasMade : QueryMaker → QueryMaker → List ℕ → Operand → Type 0
   HasMade maker maker2 text o = (groups : List Group) × HasGroups known mapping text groups
-      × ((ds : List Draft) → IsMaking maker ds
-      → IsMaking maker2 (drafted (phrase_of o.weights o.prefix groups) ∷ ds))
+      × ((ds : List Sketch) → IsMaking maker ds
+      → IsMaking maker2 (sketched (phrase_of o.weights o.prefix groups) ∷ ds))
 
   pub operand_made_by : (q : Query) (maker maker2 : QueryMaker) (next : ℕ) (rest : List Node)
       (n : NextOperand q maker next rest) (o : Operand) (text : List ℕ) → text ≡ o.lexeme
@@ -170,8 +170,8 @@ module _ (known : Known) (mapping : Mapping) where
   pub record NextNot (q : Query) (maker : QueryMaker) (next : ℕ) (rest : List Node) : Type 0 where
     pub tree : Tree
     pub trees : List Tree
-    pub draft : Draft
-    pub drafts : List Draft
+    pub sketch : Sketch
+    pub sketches : List Sketch
     pub others : List Item
     pub before : List Operand
     pub nodes : rest ≡ nodes_from next others
@@ -179,16 +179,16 @@ module _ (known : Known) (mapping : Mapping) where
     pub count : next ≡ length before
     pub runs : run others (negated tree ∷ trees) ≡ query_trees q
     pub enough : IsEnough others (suc (length trees))
-    pub making : IsMaking maker (draft ∷ drafts)
-    pub is : IsDrafted known mapping tree draft
-    pub are : AreDrafted known mapping trees drafts
+    pub making : IsMaking maker (sketch ∷ sketches)
+    pub is : IsSketched known mapping tree sketch
+    pub are : AreSketched known mapping trees sketches
     pub some : q ≢ None
 
   not_stack : (q : Query) (maker : QueryMaker) (next : ℕ) (rest : List Node) (others : List Item)
-      (before : List Operand) (ts : List Tree) (ds : List Draft) → rest ≡ nodes_from next others
+      (before : List Operand) (ts : List Tree) (ds : List Sketch) → rest ≡ nodes_from next others
       → operands_of q ≡ before ++ operands_from others → next ≡ length before
       → run (not_item ∷ others) ts ≡ query_trees q → IsEnough (not_item ∷ others) (length ts)
-      → IsMaking maker ds → AreDrafted known mapping ts ds → q ≢ None
+      → IsMaking maker ds → AreSketched known mapping ts ds → q ≢ None
       → NextNot q maker next rest
   not_stack q maker next rest others before [] ds a b c r e m h s =
       absurd (let f = e.1 in let no : ⊥ = omega arith in no)
@@ -196,8 +196,8 @@ module _ (known : Known) (mapping : Mapping) where
   not_stack q maker next rest others before (t ∷ ts) (d ∷ ds) a b c r e m h s = record {
     tree = t;
     trees = ts;
-    draft = d;
-    drafts = ds;
+    sketch = d;
+    sketches = ds;
     others = others;
     before = before;
     nodes = a;
@@ -217,7 +217,7 @@ module _ (known : Known) (mapping : Mapping) where
       let f = first_item next Not rest r.back (sym e ∙ r.nodes) in
       let g = not_item_is next f.item f.node in
       let is : r.back ≡ not_item ∷ f.others = f.is ∙ ap (λ i. i ∷ f.others) g in
-      not_stack q maker next rest f.others r.before r.trees r.drafts
+      not_stack q maker next rest f.others r.before r.trees r.sketches
       (f.nodes ∙ ap (λ i. nodes_from (next_after next i) f.others) g)
       (r.operands ∙ ap (λ l. r.before ++ operands_from l) is) r.count
       (sym (ap (λ l. run l r.trees) is) ∙ r.runs)
@@ -226,20 +226,20 @@ module _ (known : Known) (mapping : Mapping) where
 
   pub not_made : (q : Query) (maker maker2 : QueryMaker) (next : ℕ) (rest : List Node)
       (n : NextNot q maker next rest)
-      → ((d : Draft) (ds : List Draft) → IsMaking maker (d ∷ ds)
-      → IsMaking maker2 (not_draft d ∷ ds)) → Remaking q maker2 next rest
+      → ((d : Sketch) (ds : List Sketch) → IsMaking maker (d ∷ ds)
+      → IsMaking maker2 (not_sketch d ∷ ds)) → Remaking q maker2 next rest
   not_made q maker maker2 next rest n m = record {
     back = n.others;
     before = n.before;
     trees = negated n.tree ∷ n.trees;
-    drafts = not_draft n.draft ∷ n.drafts;
+    sketches = not_sketch n.sketch ∷ n.sketches;
     nodes = n.nodes;
     operands = n.operands;
     count = n.count;
     runs = n.runs;
     enough = n.enough;
-    making = m n.draft n.drafts n.making;
-    are = (not_drafted n.tree n.draft n.is, n.are);
+    making = m n.sketch n.sketches n.making;
+    are = (not_sketched n.tree n.sketch n.is, n.are);
     none = λ f. absurd (n.some f);
   }
 
@@ -249,9 +249,9 @@ module _ (known : Known) (mapping : Mapping) where
     pub first : Tree
     pub second : Tree
     pub trees : List Tree
-    pub first_draft : Draft
-    pub second_draft : Draft
-    pub drafts : List Draft
+    pub first_sketch : Sketch
+    pub second_sketch : Sketch
+    pub sketches : List Sketch
     pub others : List Item
     pub before : List Operand
     pub nodes : rest ≡ nodes_from next others
@@ -259,19 +259,19 @@ module _ (known : Known) (mapping : Mapping) where
     pub count : next ≡ length before
     pub runs : run others (joined j first second ∷ trees) ≡ query_trees q
     pub enough : IsEnough others (suc (length trees))
-    pub making : IsMaking maker (second_draft ∷ first_draft ∷ drafts)
-    pub first_is : IsDrafted known mapping first first_draft
-    pub second_is : IsDrafted known mapping second second_draft
-    pub are : AreDrafted known mapping trees drafts
+    pub making : IsMaking maker (second_sketch ∷ first_sketch ∷ sketches)
+    pub first_is : IsSketched known mapping first first_sketch
+    pub second_is : IsSketched known mapping second second_sketch
+    pub are : AreSketched known mapping trees sketches
     pub some : q ≢ None
 
   joint_stack : (j : Joint) (q : Query) (maker : QueryMaker) (next : ℕ) (rest : List Node)
-      (others : List Item) (before : List Operand) (ts : List Tree) (ds : List Draft)
+      (others : List Item) (before : List Operand) (ts : List Tree) (ds : List Sketch)
       → rest ≡ nodes_from next others
       → operands_of q ≡ before ++ operands_from others → next ≡ length before
       → run (joint_item j ∷ others) ts ≡ query_trees q
       → IsEnough (joint_item j ∷ others) (length ts) → IsMaking maker ds
-      → AreDrafted known mapping ts ds → q ≢ None
+      → AreSketched known mapping ts ds → q ≢ None
       → NextJoint j q maker next rest
   joint_stack j q maker next rest others before [] ds a b c r e m h s =
       absurd (let f = e.1 in let no : ⊥ = omega arith in no)
@@ -283,9 +283,9 @@ module _ (known : Known) (mapping : Mapping) where
     first = u;
     second = t;
     trees = ts;
-    first_draft = f;
-    second_draft = d;
-    drafts = ds;
+    first_sketch = f;
+    second_sketch = d;
+    sketches = ds;
     others = others;
     before = before;
     nodes = a;
@@ -308,7 +308,7 @@ module _ (known : Known) (mapping : Mapping) where
       let f = first_item next (joint_node j) rest r.back (sym e ∙ r.nodes) in
       let g = joint_item_is j next f.item f.node in
       let is : r.back ≡ joint_item j ∷ f.others = f.is ∙ ap (λ i. i ∷ f.others) g in
-      joint_stack j q maker next rest f.others r.before r.trees r.drafts
+      joint_stack j q maker next rest f.others r.before r.trees r.sketches
       (f.nodes ∙ ap (λ i. nodes_from (next_after next i) f.others) g)
       (r.operands ∙ ap (λ l. r.before ++ operands_from l) is) r.count
       (sym (ap (λ l. run l r.trees) is) ∙ r.runs)
@@ -317,21 +317,21 @@ module _ (known : Known) (mapping : Mapping) where
 
   pub joint_made : (j : Joint) (q : Query) (maker maker2 : QueryMaker) (next : ℕ) (rest : List Node)
       (n : NextJoint j q maker next rest)
-      → ((d e : Draft) (ds : List Draft) → IsMaking maker (e ∷ d ∷ ds)
-      → IsMaking maker2 (joint_draft j d e ∷ ds)) → Remaking q maker2 next rest
+      → ((d e : Sketch) (ds : List Sketch) → IsMaking maker (e ∷ d ∷ ds)
+      → IsMaking maker2 (joint_sketch j d e ∷ ds)) → Remaking q maker2 next rest
   joint_made j q maker maker2 next rest n m = record {
     back = n.others;
     before = n.before;
     trees = joined j n.first n.second ∷ n.trees;
-    drafts = joint_draft j n.first_draft n.second_draft ∷ n.drafts;
+    sketches = joint_sketch j n.first_sketch n.second_sketch ∷ n.sketches;
     nodes = n.nodes;
     operands = n.operands;
     count = n.count;
     runs = n.runs;
     enough = n.enough;
-    making = m n.first_draft n.second_draft n.drafts n.making;
+    making = m n.first_sketch n.second_sketch n.sketches n.making;
     are = (
-      joint_drafted j n.first n.second n.first_draft n.second_draft n.first_is n.second_is,
+      joint_sketched j n.first n.second n.first_sketch n.second_sketch n.first_is n.second_is,
       n.are,
     );
     none = λ f. absurd (n.some f);
@@ -339,22 +339,22 @@ module _ (known : Known) (mapping : Mapping) where
 
   -- ── the end ──
   pub record Remade (q : Query) (maker : QueryMaker) : Type 0 where
-    pub drafts : List Draft
-    pub few : length drafts ≤ 1
-    pub making : IsMaking maker drafts
-    pub value : IsMadeOf known mapping q (query_left drafts)
+    pub sketches : List Sketch
+    pub few : length sketches ≤ 1
+    pub making : IsMaking maker sketches
+    pub value : IsMadeOf known mapping q (query_left sketches)
 
-  pub remade_of : (q : Query) (maker : QueryMaker) (ds : List Draft) → IsMaking maker ds
-      → AreDrafted known mapping (query_trees q) ds → Remade q maker
-  remade_of None maker [] m a = record { drafts = []; few = omega arith; making = m; value = refl }
+  pub remade_of : (q : Query) (maker : QueryMaker) (ds : List Sketch) → IsMaking maker ds
+      → AreSketched known mapping (query_trees q) ds → Remade q maker
+  remade_of None maker [] m a = record { sketches = []; few = omega arith; making = m; value = refl }
   remade_of None maker (d ∷ ds) m a = absurd a
   remade_of (Some t) maker [] m a = absurd a
   remade_of (Some t) maker (d ∷ []) m a =
       record {
-        drafts = d ∷ [];
+        sketches = d ∷ [];
         few = omega arith;
         making = m;
-        value = (d, a.0, (let f = m.few in let g : draft_nodes d < 32768 = omega arith in g), refl);
+        value = (d, a.0, (let f = m.few in let g : sketch_nodes d < 32768 = omega arith in g), refl);
       }
   remade_of (Some t) maker (d ∷ e ∷ ds) m a = absurd a.1
 
@@ -362,88 +362,88 @@ module _ (known : Known) (mapping : Mapping) where
       → Remaking q maker next left → left ≡ [] → Remade q maker
   remade q maker next left r e =
       let f = nothing_left next r.back (sym e ∙ r.nodes) in
-      remade_of q maker r.drafts r.making
-      (subst (λ l. AreDrafted known mapping l r.drafts)
+      remade_of q maker r.sketches r.making
+      (subst (λ l. AreSketched known mapping l r.sketches)
       (sym (ap (λ l. run l r.trees) f) ∙ r.runs) r.are)
 
   -- ── refusals ──
-  pub drafts_one : (ts : List Tree) (ds es : List Draft) → AreDrafted known mapping ts ds
-      → AreDrafted known mapping ts es → ds ≡ es
-  drafts_one [] [] [] a b = refl
-  drafts_one [] [] (e ∷ es) a b = absurd b
-  drafts_one [] (d ∷ ds) es a b = absurd a
-  drafts_one (t ∷ ts) [] es a b = absurd a
-  drafts_one (t ∷ ts) (d ∷ ds) [] a b = absurd b
-  drafts_one (t ∷ ts) (d ∷ ds) (e ∷ es) a b =
-      ap (λ x. x ∷ ds) (draft_one known mapping t d e a.0 b.0)
-      ∙ ap (λ l. e ∷ l) (drafts_one ts ds es a.1 b.1)
+  pub sketches_one : (ts : List Tree) (ds es : List Sketch) → AreSketched known mapping ts ds
+      → AreSketched known mapping ts es → ds ≡ es
+  sketches_one [] [] [] a b = refl
+  sketches_one [] [] (e ∷ es) a b = absurd b
+  sketches_one [] (d ∷ ds) es a b = absurd a
+  sketches_one (t ∷ ts) [] es a b = absurd a
+  sketches_one (t ∷ ts) (d ∷ ds) [] a b = absurd b
+  sketches_one (t ∷ ts) (d ∷ ds) (e ∷ es) a b =
+      ap (λ x. x ∷ ds) (sketch_one known mapping t d e a.0 b.0)
+      ∙ ap (λ l. e ∷ l) (sketches_one ts ds es a.1 b.1)
 
-  -- drafts of these trees, with no more nodes than n
+  -- sketches of these trees, with no more nodes than n
   pub record Within (ts : List Tree) (n : ℕ) : Type 0 where
-    pub drafts : List Draft
-    pub are : AreDrafted known mapping ts drafts
-    pub most : nodes_drafted drafts ≤ n
+    pub sketches : List Sketch
+    pub are : AreSketched known mapping ts sketches
+    pub most : nodes_sketched sketches ≤ n
 
-  pub under_top : (t : Tree) (ts : List Tree) (n : ℕ) (ds : List Draft)
-      → AreDrafted known mapping (t ∷ ts) ds → nodes_drafted ds ≤ n → Within ts n
+  pub under_top : (t : Tree) (ts : List Tree) (n : ℕ) (ds : List Sketch)
+      → AreSketched known mapping (t ∷ ts) ds → nodes_sketched ds ≤ n → Within ts n
   under_top t ts n [] a m = absurd a
-  under_top t ts n (d ∷ ds) a m = record { drafts = ds; are = a.1; most = omega arith }
+  under_top t ts n (d ∷ ds) a m = record { sketches = ds; are = a.1; most = omega arith }
 
-  not_of : (x : Tree) (d : Draft) → IsDrafted known mapping (negated x) d
-      → (e : Draft) × IsDrafted known mapping x e × (d ≡ not_draft e)
-  not_of x d (not_drafted x2 e a) = (e, a, refl)
+  not_of : (x : Tree) (d : Sketch) → IsSketched known mapping (negated x) d
+      → (e : Sketch) × IsSketched known mapping x e × (d ≡ not_sketch e)
+  not_of x d (not_sketched x2 e a) = (e, a, refl)
 
-  pub under_not : (x : Tree) (ts : List Tree) (n : ℕ) (ds : List Draft)
-      → AreDrafted known mapping (negated x ∷ ts) ds → nodes_drafted ds ≤ n → Within (x ∷ ts) n
+  pub under_not : (x : Tree) (ts : List Tree) (n : ℕ) (ds : List Sketch)
+      → AreSketched known mapping (negated x ∷ ts) ds → nodes_sketched ds ≤ n → Within (x ∷ ts) n
   under_not x ts n [] a m = absurd a
   under_not x ts n (d ∷ ds) a m =
       let e = not_of x d a.0 in
-      let f = ap draft_nodes e.2 in
-      record { drafts = e.0 ∷ ds; are = (e.1, a.1); most = omega arith }
+      let f = ap sketch_nodes e.2 in
+      record { sketches = e.0 ∷ ds; are = (e.1, a.1); most = omega arith }
 
-  joint_of : (j : Joint) (x y : Tree) (d : Draft) → IsDrafted known mapping (joined j x y) d
-      → (e : Draft) × (f : Draft) × IsDrafted known mapping x e × IsDrafted known mapping y f
-      × (d ≡ joint_draft j e f)
-  joint_of j x y d (joint_drafted j2 x2 y2 e f a b) = (e, f, a, b, refl)
+  joint_of : (j : Joint) (x y : Tree) (d : Sketch) → IsSketched known mapping (joined j x y) d
+      → (e : Sketch) × (f : Sketch) × IsSketched known mapping x e × IsSketched known mapping y f
+      × (d ≡ joint_sketch j e f)
+  joint_of j x y d (joint_sketched j2 x2 y2 e f a b) = (e, f, a, b, refl)
 
-  pub under_joint : (j : Joint) (x y : Tree) (ts : List Tree) (n : ℕ) (ds : List Draft)
-      → AreDrafted known mapping (joined j x y ∷ ts) ds → nodes_drafted ds ≤ n
+  pub under_joint : (j : Joint) (x y : Tree) (ts : List Tree) (n : ℕ) (ds : List Sketch)
+      → AreSketched known mapping (joined j x y ∷ ts) ds → nodes_sketched ds ≤ n
       → Within (y ∷ x ∷ ts) n
   under_joint j x y ts n [] a m = absurd a
   under_joint j x y ts n (d ∷ ds) a m =
       let e = joint_of j x y d a.0 in
-      let f = ap draft_nodes e.4 in
-      record { drafts = e.1 ∷ e.0 ∷ ds; are = (e.3, (e.2, a.1)); most = omega arith }
+      let f = ap sketch_nodes e.4 in
+      record { sketches = e.1 ∷ e.0 ∷ ds; are = (e.3, (e.2, a.1)); most = omega arith }
 
-  -- drafts of what a run leads to give drafts of what it begins with
+  -- sketches of what a run leads to give sketches of what it begins with
   under_run : (is : List Item) (ts : List Tree) (n : ℕ) → Within (run is ts) n → Within ts n
   under_run [] ts n w = w
   under_run (operand_item o ∷ is) ts n w = let v = under_run is (leaf o ∷ ts) n w in
-      under_top (leaf o) ts n v.drafts v.are v.most
+      under_top (leaf o) ts n v.sketches v.are v.most
   under_run (not_item ∷ is) [] n w = under_run is [] n w
   under_run (not_item ∷ is) (x ∷ ts) n w = let v = under_run is (negated x ∷ ts) n w in
-      under_not x ts n v.drafts v.are v.most
+      under_not x ts n v.sketches v.are v.most
   under_run (joint_item j ∷ is) [] n w = under_run is [] n w
   under_run (joint_item j ∷ is) (y ∷ []) n w = under_run is (y ∷ []) n w
   under_run (joint_item j ∷ is) (y ∷ x ∷ ts) n w = let v = under_run is (joined j x y ∷ ts) n w in
-      under_joint j x y ts n v.drafts v.are v.most
+      under_joint j x y ts n v.sketches v.are v.most
 
   pub many_of : (q : Query) (is : List Item) (ts : List Tree) → q ≢ None → run is ts ≡ query_trees q
-      → ((es : List Draft) → AreDrafted known mapping ts es → 32768 ≤ nodes_drafted es)
+      → ((es : List Sketch) → AreSketched known mapping ts es → 32768 ≤ nodes_sketched es)
       → IsTooManyOf known mapping q
   many_of None is ts s r b = absurd (s refl)
   many_of (Some t) is ts s r b = λ d a.
-      let w : Within (run is ts) (draft_nodes d) =
-      subst (λ l. Within l (draft_nodes d)) (sym r)
-      (record { drafts = d ∷ []; are = (a, tt); most = omega arith }) in
-      let v = under_run is ts (draft_nodes d) w in
-      let m = b v.drafts v.are in
+      let w : Within (run is ts) (sketch_nodes d) =
+      subst (λ l. Within l (sketch_nodes d)) (sym r)
+      (record { sketches = d ∷ []; are = (a, tt); most = omega arith }) in
+      let v = under_run is ts (sketch_nodes d) w in
+      let m = b v.sketches v.are in
       let n = v.most in
       omega arith
 
-  refused_of : (q : Query) (is : List Item) (ts : List Tree) (ds : List Draft) (e : QueryError)
-      → q ≢ None → run is ts ≡ query_trees q → AreDrafted known mapping ts ds
-      → ((es : List Draft) → AreDrafted known mapping ts es → IsOnlyPast (nodes_drafted es) e)
+  refused_of : (q : Query) (is : List Item) (ts : List Tree) (ds : List Sketch) (e : QueryError)
+      → q ≢ None → run is ts ≡ query_trees q → AreSketched known mapping ts ds
+      → ((es : List Sketch) → AreSketched known mapping ts es → IsOnlyPast (nodes_sketched es) e)
       → RemakingFails known mapping q e
   refused_of q is ts ds TooManyNodes s r a b = many_of q is ts s r b
   refused_of q is ts ds OutOfMemory s r a b = tt
@@ -453,43 +453,43 @@ module _ (known : Known) (mapping : Mapping) where
 
   pub not_refused : (q : Query) (maker : QueryMaker) (next : ℕ) (rest : List Node)
       (n : NextNot q maker next rest) (e : QueryError)
-      → ((d : Draft) (ds : List Draft) → IsMaking maker (d ∷ ds)
-      → IsOnlyPast (nodes_drafted (not_draft d ∷ ds)) e) → RemakingFails known mapping q e
+      → ((d : Sketch) (ds : List Sketch) → IsMaking maker (d ∷ ds)
+      → IsOnlyPast (nodes_sketched (not_sketch d ∷ ds)) e) → RemakingFails known mapping q e
   not_refused q maker next rest n e b =
-      let are : AreDrafted known mapping (negated n.tree ∷ n.trees) (not_draft n.draft ∷ n.drafts) =
-      (not_drafted n.tree n.draft n.is, n.are) in
+      let are : AreSketched known mapping (negated n.tree ∷ n.trees) (not_sketch n.sketch ∷ n.sketches) =
+      (not_sketched n.tree n.sketch n.is, n.are) in
       refused_of q n.others (negated n.tree ∷ n.trees)
-      (not_draft n.draft ∷ n.drafts) e n.some n.runs are
-      (λ es a. subst (λ l. IsOnlyPast (nodes_drafted l) e)
-      (drafts_one (negated n.tree ∷ n.trees) (not_draft n.draft ∷ n.drafts) es are a)
-      (b n.draft n.drafts n.making))
+      (not_sketch n.sketch ∷ n.sketches) e n.some n.runs are
+      (λ es a. subst (λ l. IsOnlyPast (nodes_sketched l) e)
+      (sketches_one (negated n.tree ∷ n.trees) (not_sketch n.sketch ∷ n.sketches) es are a)
+      (b n.sketch n.sketches n.making))
 
   pub joint_refused : (j : Joint) (q : Query) (maker : QueryMaker) (next : ℕ) (rest : List Node)
       (n : NextJoint j q maker next rest) (e : QueryError)
-      → ((d f : Draft) (ds : List Draft) → IsMaking maker (f ∷ d ∷ ds)
-      → IsOnlyPast (nodes_drafted (joint_draft j d f ∷ ds)) e) → RemakingFails known mapping q e
+      → ((d f : Sketch) (ds : List Sketch) → IsMaking maker (f ∷ d ∷ ds)
+      → IsOnlyPast (nodes_sketched (joint_sketch j d f ∷ ds)) e) → RemakingFails known mapping q e
   joint_refused j q maker next rest n e b =
-      let ds = joint_draft j n.first_draft n.second_draft ∷ n.drafts in
-      let are : AreDrafted known mapping (joined j n.first n.second ∷ n.trees) ds = (
-        joint_drafted j n.first n.second n.first_draft n.second_draft n.first_is n.second_is,
+      let ds = joint_sketch j n.first_sketch n.second_sketch ∷ n.sketches in
+      let are : AreSketched known mapping (joined j n.first n.second ∷ n.trees) ds = (
+        joint_sketched j n.first n.second n.first_sketch n.second_sketch n.first_is n.second_is,
         n.are,
       ) in
       refused_of q n.others (joined j n.first n.second ∷ n.trees) ds e n.some n.runs are
-      (λ es a. subst (λ l. IsOnlyPast (nodes_drafted l) e)
-      (drafts_one (joined j n.first n.second ∷ n.trees) ds es are a)
-      (b n.first_draft n.second_draft n.drafts n.making))
+      (λ es a. subst (λ l. IsOnlyPast (nodes_sketched l) e)
+      (sketches_one (joined j n.first n.second ∷ n.trees) ds es are a)
+      (b n.first_sketch n.second_sketch n.sketches n.making))
 
   pub operand_refused : (q : Query) (maker : QueryMaker) (next : ℕ) (rest : List Node)
       (n : NextOperand q maker next rest) (e : QueryError)
       → OperandFails known mapping n.operand.lexeme n.operand.weights n.operand.prefix maker e
       → RemakingFails known mapping q e
   operand_refused q maker next rest n TooManyNodes (groups, h, b) =
-      let d = drafted (phrase_of n.operand.weights n.operand.prefix groups) in
-      let are : AreDrafted known mapping (leaf n.operand ∷ n.trees) (d ∷ n.drafts) =
-      (operand_drafted n.operand groups h, n.are) in
+      let d = sketched (phrase_of n.operand.weights n.operand.prefix groups) in
+      let are : AreSketched known mapping (leaf n.operand ∷ n.trees) (d ∷ n.sketches) =
+      (operand_sketched n.operand groups h, n.are) in
       many_of q n.others (leaf n.operand ∷ n.trees) n.some n.runs
-      (λ es a. subst (λ l. 32768 ≤ nodes_drafted l)
-      (drafts_one (leaf n.operand ∷ n.trees) (d ∷ n.drafts) es are a) (b n.drafts n.making))
+      (λ es a. subst (λ l. 32768 ≤ nodes_sketched l)
+      (sketches_one (leaf n.operand ∷ n.trees) (d ∷ n.sketches) es are a) (b n.sketches n.making))
   operand_refused q maker next rest n OutOfMemory f = tt
   operand_refused q maker next rest n (Syntax at) f = f
   operand_refused q maker next rest n (DistanceTooLarge at) f = f

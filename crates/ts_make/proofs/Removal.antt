@@ -3,7 +3,7 @@ use Rattle.std.proofs.Common.{◌≡◌, ℕ, ◌+◌, ◌≤◌, max, List, [],
 use Rattle.ts_query.specs.declared.query.Operand.{Operand}
 use Rattle.ts_query.specs.Queries.{Joint, or_joint, and_joint, phrase_joint, Tree, leaf, negated, joined, Query, HasNear, HasLexeme}
 use Rattle.ts_make.specs.Trees.{near}
-use Rattle.ts_make.specs.Removal.{Draft, stop, kept, not_draft, joint_draft, draft_of, Cleaned, cleaned, clean_phrase, clean_pair, clean_joint, clean_not, clean}
+use Rattle.ts_make.specs.Removal.{Sketch, stop, kept, not_sketch, joint_sketch, sketch_of, Cleaned, cleaned, clean_phrase, clean_pair, clean_joint, clean_not, clean}
 use Rattle.ts_make.specs.Laws.{WholeTreesStay, IsCleaned, RemovalKeepsTheRest, RemovalIsSound}
 
 pub near_most : (n : ℕ) → near n ≤ 16384
@@ -28,7 +28,7 @@ pub whole_stays : WholeTreesStay
 whole_stays (leaf o) h = refl
 whole_stays (negated x) h = ap clean_not (whole_stays x h)
 whole_stays (joined j x y) h =
-    ap (λ a. clean_joint j a (clean (draft_of y))) (whole_stays x h.1)
+    ap (λ a. clean_joint j a (clean (sketch_of y))) (whole_stays x h.1)
     ∙ ap (λ b. clean_joint j (cleaned (Some x) 0 0) b) (whole_stays y h.2)
     ∙ joint_whole j x y h
 
@@ -49,9 +49,9 @@ first_operands {a} {c} {d} e f = e ∙ no_operand_more c ∙ ap (λ l. c ++ l) f
 second_operands : {b c d : List Operand} → [] ≡ c → b ≡ d → b ≡ c ++ d
 second_operands {b} {c} {d} e f = f ∙ ap (λ l. l ++ d) e
 
-phrase_cleaned : (n : ℕ) (d e : Draft) (a b : Query) (l r m k : ℕ) → IsCleaned d (part a l r)
+phrase_cleaned : (n : ℕ) (d e : Sketch) (a b : Query) (l r m k : ℕ) → IsCleaned d (part a l r)
     → IsCleaned e (part b m k)
-    → IsCleaned (joint_draft (phrase_joint n) d e) (clean_phrase n (part a l r) (part b m k) a b)
+    → IsCleaned (joint_sketch (phrase_joint n) d e) (clean_phrase n (part a l r) (part b m k) a b)
 phrase_cleaned n d e (Some a) (Some b) l r m k h g = record {
   operands = both_operands h.operands g.operands;
   nodes = (let p = h.nodes in let q = g.nodes in omega arith);
@@ -91,9 +91,9 @@ joined_near or_joint a b i h g = (tt, h, g)
 joined_near and_joint a b i h g = (tt, h, g)
 joined_near (phrase_joint n) a b i h g = absurd (elim i [ ])
 
-pair_cleaned : (j : Joint) (d e : Draft) (a b : Query) (l r m k : ℕ) → IsPair j
+pair_cleaned : (j : Joint) (d e : Sketch) (a b : Query) (l r m k : ℕ) → IsPair j
     → IsCleaned d (part a l r) → IsCleaned e (part b m k)
-    → IsCleaned (joint_draft j d e) (clean_pair j (part a l r) (part b m k) a b)
+    → IsCleaned (joint_sketch j d e) (clean_pair j (part a l r) (part b m k) a b)
 pair_cleaned j d e (Some a) (Some b) l r m k i h g = record {
   operands = both_operands h.operands g.operands;
   nodes = (let p = h.nodes in let q = g.nodes in omega arith);
@@ -123,8 +123,8 @@ pair_cleaned j d e None None l r m k i h g = record {
   near_right = near_most (max l m);
 }
 
-joint_cleaned : (j : Joint) (d e : Draft) (x y : Cleaned) → IsCleaned d x → IsCleaned e y
-    → IsCleaned (joint_draft j d e) (clean_joint j x y)
+joint_cleaned : (j : Joint) (d e : Sketch) (x y : Cleaned) → IsCleaned d x → IsCleaned e y
+    → IsCleaned (joint_sketch j d e) (clean_joint j x y)
 joint_cleaned or_joint d e x y h g =
     pair_cleaned or_joint d e x.query y.query x.left x.right y.left y.right or_pair h g
 joint_cleaned and_joint d e x y h g =
@@ -132,8 +132,8 @@ joint_cleaned and_joint d e x y h g =
 joint_cleaned (phrase_joint n) d e x y h g =
     phrase_cleaned n d e x.query y.query x.left x.right y.left y.right h g
 
-not_cleaned : (d : Draft) (a : Query) (l r : ℕ) → IsCleaned d (part a l r)
-    → IsCleaned (not_draft d) (clean_not (part a l r))
+not_cleaned : (d : Sketch) (a : Query) (l r : ℕ) → IsCleaned d (part a l r)
+    → IsCleaned (not_sketch d) (clean_not (part a l r))
 not_cleaned d (Some a) l r h = record {
   operands = h.operands;
   nodes = (let p = h.nodes in omega arith);
@@ -166,8 +166,8 @@ rest_kept (kept o) =
       near_left = omega arith;
       near_right = omega arith;
     }
-rest_kept (not_draft d) = not_cleaned d (clean d).query (clean d).left (clean d).right (rest_kept d)
-rest_kept (joint_draft j d e) = joint_cleaned j d e (clean d) (clean e) (rest_kept d) (rest_kept e)
+rest_kept (not_sketch d) = not_cleaned d (clean d).query (clean d).left (clean d).right (rest_kept d)
+rest_kept (joint_sketch j d e) = joint_cleaned j d e (clean d) (clean e) (rest_kept d) (rest_kept e)
 
 pub removal_sound : RemovalIsSound
 removal_sound d h n =

@@ -31,7 +31,7 @@ module _ (weights : Weights) (prefix : Bool) where
       → operands_for (ps ++ qs) ≡ operands_for ps ++ operands_for qs
   operands_for-append ps qs = map-append (operand_for weights prefix) ps qs
 
-  -- behind x a group, and the rest
+  -- after x a group, and the rest
   one_group_more : (x : Tree) (g : Group) (gs : List Group)
       → (operands_in x ++ operands_in (group_tree weights prefix g)) ++ operands_for
       (flat_map members gs) ≡ operands_in x ++ operands_for (flat_map members (g ∷ gs))

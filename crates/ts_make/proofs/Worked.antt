@@ -8,16 +8,16 @@ use Rattle.ts_query.specs.Queries.{or_joint, and_joint, phrase_joint, Tree, leaf
 use Rattle.ts_query.specs.Tokens.{operand, no_weights}
 use Rattle.ts_make.specs.Groups.{Group}
 use Rattle.ts_make.specs.Trees.{phrase_of, conjunction_of}
-use Rattle.ts_make.specs.Removal.{Draft, stop, kept, not_draft, joint_draft, cleaned, clean}
-use Rattle.ts_make.specs.Made.{drafted}
+use Rattle.ts_make.specs.Removal.{Sketch, stop, kept, not_sketch, joint_sketch, cleaned, clean}
+use Rattle.ts_make.specs.Made.{sketched}
 
 abbrev word : List ℕ → Operand
 word l = operand l no_weights false
 
-abbrev cat : Draft
+abbrev cat : Sketch
 cat = kept (word (codes "cat"))
 
-abbrev dog : Draft
+abbrev dog : Sketch
 dog = kept (word (codes "dog"))
 
 abbrev cat_then_dog : ℕ → Tree
@@ -25,45 +25,45 @@ cat_then_dog n = joined (phrase_joint n) (leaf (word (codes "cat"))) (leaf (word
 
 -- ── removals, `the` and `a` being stop words ──
 -- !(the | cat) & dog
-one_is_left : (clean (joint_draft and_joint (not_draft (joint_draft or_joint stop cat)) dog)).query
+one_is_left : (clean (joint_sketch and_joint (not_sketch (joint_sketch or_joint stop cat)) dog)).query
     ≡ Some (joined and_joint (negated (leaf (word (codes "cat")))) (leaf (word (codes "dog"))))
 one_is_left = refl
 
 -- cat <-> (the | a) <2> dog
 pairs_leave_their_distance :
-    (clean (joint_draft (phrase_joint 2)
-    (joint_draft (phrase_joint 1) cat (joint_draft or_joint stop stop)) dog)).query
+    (clean (joint_sketch (phrase_joint 2)
+    (joint_sketch (phrase_joint 1) cat (joint_sketch or_joint stop stop)) dog)).query
     ≡ Some (cat_then_dog 3)
 pairs_leave_their_distance = refl
 
 -- cat <-> (the <3> a) <2> dog
 phrases_leave_their_distance :
-    (clean (joint_draft (phrase_joint 2)
-    (joint_draft (phrase_joint 1) cat (joint_draft (phrase_joint 3) stop stop)) dog)).query
+    (clean (joint_sketch (phrase_joint 2)
+    (joint_sketch (phrase_joint 1) cat (joint_sketch (phrase_joint 3) stop stop)) dog)).query
     ≡ Some (cat_then_dog 6)
 phrases_leave_their_distance = refl
 
 -- cat <16384> the <-> dog
 distances_stay_near : (clean
-    (joint_draft (phrase_joint 1) (joint_draft (phrase_joint 16384) cat stop) dog)).query
+    (joint_sketch (phrase_joint 1) (joint_sketch (phrase_joint 16384) cat stop) dog)).query
     ≡ Some (cat_then_dog 16384)
 distances_stay_near = refl
 
 -- cat <-> the <-> dog, and cat <-> (the <-> dog)
-left_is_counted : (clean (joint_draft (phrase_joint 1)
-    (joint_draft (phrase_joint 1) cat stop) dog)).query ≡ Some (cat_then_dog 2)
+left_is_counted : (clean (joint_sketch (phrase_joint 1)
+    (joint_sketch (phrase_joint 1) cat stop) dog)).query ≡ Some (cat_then_dog 2)
 left_is_counted = refl
 
 right_is_counted : (clean
-    (joint_draft (phrase_joint 1) cat (joint_draft (phrase_joint 1) stop dog))).query
+    (joint_sketch (phrase_joint 1) cat (joint_sketch (phrase_joint 1) stop dog))).query
     ≡ Some (cat_then_dog 2)
 right_is_counted = refl
 
 -- !the, and the & a
-nothing_is_left : (clean (not_draft stop)).query ≡ None
+nothing_is_left : (clean (not_sketch stop)).query ≡ None
 nothing_is_left = refl
 
-no_pair_is_left : clean (joint_draft and_joint stop stop) ≡ cleaned None 0 0
+no_pair_is_left : clean (joint_sketch and_joint stop stop) ≡ cleaned None 0 0
 no_pair_is_left = refl
 
 -- ── groups ──
@@ -77,8 +77,8 @@ abbrev weight_b : Weights
 weight_b = record { a = false; b = true; c = false; d = false }
 
 -- 'fat the rat':b* <-> x
-marks_on_each : (clean (joint_draft (phrase_joint 1)
-    (drafted (phrase_of weight_b true (alone (codes "fat") 1 ∷ alone (codes "rat") 3 ∷ [])))
+marks_on_each : (clean (joint_sketch (phrase_joint 1)
+    (sketched (phrase_of weight_b true (alone (codes "fat") 1 ∷ alone (codes "rat") 3 ∷ [])))
     (kept (word (codes "x"))))).query
     ≡ Some (joined (phrase_joint 1)
     (joined (phrase_joint 2) (leaf (operand (codes "fat") weight_b true))
@@ -86,14 +86,14 @@ marks_on_each : (clean (joint_draft (phrase_joint 1)
 marks_on_each = refl
 
 -- x <-> 'fat rat'
-phrases_within : (clean (joint_draft (phrase_joint 1) (kept (word (codes "x")))
-    (drafted (phrase_of no_weights false
+phrases_within : (clean (joint_sketch (phrase_joint 1) (kept (word (codes "x")))
+    (sketched (phrase_of no_weights false
     (alone (codes "fat") 1 ∷ alone (codes "rat") 2 ∷ []))))).query
     ≡ Some (joined (phrase_joint 1) (leaf (word (codes "x")))
     (joined (phrase_joint 1) (leaf (word (codes "fat"))) (leaf (word (codes "rat")))))
 phrases_within = refl
 
--- cat-dog has its parts behind itself
+-- cat-dog has its parts after itself
 hyphen_words : phrase_of no_weights false
     (alone (codes "cat-dog") 1 ∷ alone (codes "cat") 2 ∷ alone (codes "dog") 3 ∷ [])
     ≡ Some (joined (phrase_joint 1)

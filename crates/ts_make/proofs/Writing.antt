@@ -117,14 +117,14 @@ module _ (way : Way) (weights : Weights) (prefix : Bool) where
       ∙ same_group n d (joined and_joint y (leaf_for weights prefix o)) os more ts
       (All-tail (λ q. q.position ≡ n) o os a)
 
-  -- x, whose last group stands at the position n, and further groups
+  -- x, whose last group is at the position n, and further groups
   abbrev on_groups : ℕ → Tree → List Group → Tree
   on_groups n x [] = x
   on_groups n x (g ∷ gs) =
       on_groups g.position (joined (way_joint way (g.position - n)) x (group_tree weights prefix g))
       gs
 
-  -- a first lexeme of a group behind the last one
+  -- a first lexeme of a group after the last one
   new_group : (n m : ℕ) (d : Option ℕ) (p : Placed) (ps : List Placed) (x : Tree)
       (trees ts : List Tree) → p.position ≡ m → n < m → closed way d trees ≡ x ∷ ts
       → joined_from way weights prefix (group_last n d) (p ∷ ps) trees

@@ -11,10 +11,10 @@ use Rattle.ts_vector.specs.declared.error.VectorError.TheVariants as vector_erro
 use Rattle.ts_base.specs.Vectors.{Vector}
 use Rattle.ts_config.specs.Mappings.{Mapping}
 use Rattle.ts_config.specs.Known.{Known}
-use Rattle.ts_make.specs.Made.{IsMadeVector, MadeVectorFails, IsJoined, JoinedFails, IsDrafted, IsMadeQuery, MadeQueryFails}
+use Rattle.ts_make.specs.Made.{IsMadeVector, MadeVectorFails, IsJoined, JoinedFails, IsSketched, IsMadeQuery, MadeQueryFails}
 use Rattle.ts_make.specs.Groups.{Group, AreGroups}
 use Rattle.ts_make.specs.Trees.{operand_for, phrase_of, conjunction_of}
-use Rattle.ts_make.specs.Removal.{Draft, draft_nodes, draft_operands, draft_of, Cleaned, cleaned, clean}
+use Rattle.ts_make.specs.Removal.{Sketch, sketch_nodes, sketch_operands, sketch_of, Cleaned, cleaned, clean}
 
 -- ── groups ──
 -- placed lexemes whose positions don't fall have exactly one list of groups
@@ -52,33 +52,33 @@ GroupsAreNear =
 -- ── removal ──
 -- of a tree without stop operands nothing is removed
 abbrev pub WholeTreesStay : Type 0
-WholeTreesStay = (t : Tree) → HasNear t → clean (draft_of t) ≡ cleaned (Some t) 0 0
+WholeTreesStay = (t : Tree) → HasNear t → clean (sketch_of t) ≡ cleaned (Some t) 0 0
 
 -- What is left has the operands that are no stop operands, all of them in their order, has no more
 -- nodes, and has only distances of at most 16384.
-pub record IsCleaned (draft : Draft) (left : Cleaned) : Type 0 where
-  pub operands : operands_of left.query ≡ draft_operands draft
-  pub nodes : nodes_of left.query ≤ draft_nodes draft
+pub record IsCleaned (sketch : Sketch) (left : Cleaned) : Type 0 where
+  pub operands : operands_of left.query ≡ sketch_operands sketch
+  pub nodes : nodes_of left.query ≤ sketch_nodes sketch
   pub phrases : HasNearPhrases left.query
   pub near_left : left.left ≤ GREATEST_DISTANCE
   pub near_right : left.right ≤ GREATEST_DISTANCE
 
 abbrev pub RemovalKeepsTheRest : Type 0
-RemovalKeepsTheRest = (draft : Draft) → IsCleaned draft (clean draft)
+RemovalKeepsTheRest = (sketch : Sketch) → IsCleaned sketch (clean sketch)
 
 -- a query of fewer than 32768 nodes, its stop operands counted, is within the limits of queries
 -- once they are removed
 abbrev pub RemovalIsSound : Type 0
 RemovalIsSound =
-    (draft : Draft) → All HasLexeme (draft_operands draft) → draft_nodes draft < NODE_LIMIT
-    → IsSound (clean draft).query
+    (sketch : Sketch) → All HasLexeme (sketch_operands sketch) → sketch_nodes sketch < NODE_LIMIT
+    → IsSound (clean sketch).query
 
 -- with its operands made a tree has no fewer nodes, so what is refused for its nodes as it is read
 -- has too many then too
-abbrev pub DraftsHaveNoFewer : Type 0
-DraftsHaveNoFewer =
-    (known : Known) (mapping : Mapping) (tree : Tree) (draft : Draft)
-    → IsDrafted known mapping tree draft → nodes_in tree ≤ draft_nodes draft
+abbrev pub SketchesHaveNoFewer : Type 0
+SketchesHaveNoFewer =
+    (known : Known) (mapping : Mapping) (tree : Tree) (sketch : Sketch)
+    → IsSketched known mapping tree sketch → nodes_in tree ≤ sketch_nodes sketch
 
 -- ── what a text is made ──
 -- a vector or a query, or why there is none

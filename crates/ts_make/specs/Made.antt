@@ -20,7 +20,7 @@ use Rattle.ts_config.specs.Known.{Known}
 use Rattle.ts_config.specs.Placing.{ArePlaced}
 use Rattle.ts_make.specs.Groups.{Group, AreGroups}
 use Rattle.ts_make.specs.Trees.{phrase_of, conjunction_of}
-use Rattle.ts_make.specs.Removal.{Draft, stop, not_draft, joint_draft, draft_nodes, draft_of, clean}
+use Rattle.ts_make.specs.Removal.{Sketch, stop, not_sketch, joint_sketch, sketch_nodes, sketch_of, clean}
 
 -- ── vectors ──
 -- A lexeme at its position, or at 16383 where that is greater, with the weight D. A mark of a
@@ -89,25 +89,25 @@ PhraseQueryFails = JoinedFails (phrase_of no_weights false)
 
 -- ── queries of a query's text ──
 -- an operand whose text has no lexemes is a stop operand
-abbrev pub drafted : Query → Draft
-drafted None = stop
-drafted (Some t) = draft_of t
+abbrev pub sketched : Query → Sketch
+sketched None = stop
+sketched (Some t) = sketch_of t
 
 -- each operand stands for the phrase of its own text's groups, with its weights and its mark
-pub data IsDrafted (known : Known) (mapping : Mapping) : Tree → Draft → Type 0 where
-  operand_drafted : (o : Operand) (groups : List Group) → HasGroups known mapping o.lexeme groups
-      → IsDrafted known mapping (leaf o) (drafted (phrase_of o.weights o.prefix groups))
-  not_drafted : (x : Tree) (d : Draft) → IsDrafted known mapping x d
-      → IsDrafted known mapping (negated x) (not_draft d)
-  joint_drafted : (j : Joint) (x y : Tree) (d e : Draft) → IsDrafted known mapping x d
-      → IsDrafted known mapping y e
-      → IsDrafted known mapping (joined j x y) (joint_draft j d e)
+pub data IsSketched (known : Known) (mapping : Mapping) : Tree → Sketch → Type 0 where
+  operand_sketched : (o : Operand) (groups : List Group) → HasGroups known mapping o.lexeme groups
+      → IsSketched known mapping (leaf o) (sketched (phrase_of o.weights o.prefix groups))
+  not_sketched : (x : Tree) (d : Sketch) → IsSketched known mapping x d
+      → IsSketched known mapping (negated x) (not_sketch d)
+  joint_sketched : (j : Joint) (x y : Tree) (d e : Sketch) → IsSketched known mapping x d
+      → IsSketched known mapping y e
+      → IsSketched known mapping (joined j x y) (joint_sketch j d e)
 
 -- a query whose operands are texts, made without its stop operands; the empty query stays empty
 abbrev pub IsMadeOf : Known → Mapping → Query → Query → Type 0
 IsMadeOf known mapping None query = query ≡ None
 IsMadeOf known mapping (Some t) query =
-    (d : Draft) × IsDrafted known mapping t d × (draft_nodes d < NODE_LIMIT)
+    (d : Sketch) × IsSketched known mapping t d × (sketch_nodes d < NODE_LIMIT)
     × (query ≡ (clean d).query)
 
 -- with its operands made, whatever their texts have, a tree has 32768 nodes or more, each stop
@@ -115,7 +115,7 @@ IsMadeOf known mapping (Some t) query =
 abbrev pub IsTooManyOf : Known → Mapping → Query → Type 0
 IsTooManyOf known mapping None = ⊥
 IsTooManyOf known mapping (Some t) =
-    (d : Draft) → IsDrafted known mapping t d → NODE_LIMIT ≤ draft_nodes d
+    (d : Sketch) → IsSketched known mapping t d → NODE_LIMIT ≤ sketch_nodes d
 
 abbrev pub RemakingFails : Known → Mapping → Query → QueryError → Type 0
 RemakingFails known mapping read TooManyNodes = IsTooManyOf known mapping read

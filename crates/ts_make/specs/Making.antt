@@ -1,4 +1,4 @@
--- A query that is made node by node: the drafts that a maker has made, and what it holds of them.
+-- A query that is made node by node: the sketches that a maker has made, and what it holds of them.
 use Rattle.std.specs.Prelude.{◌≡◌, ℕ, ◌+◌, ◌≤◌, ◌<◌, List, [], ◌∷◌, ◌++◌, map, Bool, true, false, Some, None}
 use Rattle.ts_query.specs.declared.TheConstants.{NODE_LIMIT}
 use Rattle.ts_query.specs.Queries.{Tree, Query}
@@ -10,8 +10,8 @@ use Rattle.ts_config.specs.Mappings.{Mapping}
 use Rattle.ts_config.specs.Known.{Known}
 use Rattle.ts_make.specs.Groups.{Group}
 use Rattle.ts_make.specs.Trees.{phrase_of}
-use Rattle.ts_make.specs.Made.{HasGroups, drafted}
-use Rattle.ts_make.specs.Removal.{Draft, draft_nodes, Cleaned, clean}
+use Rattle.ts_make.specs.Made.{HasGroups, sketched}
+use Rattle.ts_make.specs.Removal.{Sketch, sketch_nodes, Cleaned, clean}
 use Rattle.ts_make.specs.declared.maker.Part.{Part}
 use Rattle.ts_make.specs.declared.maker.QueryMaker.{QueryMaker}
 
@@ -19,7 +19,7 @@ abbrev pub is_left : Query → Bool
 is_left None = false
 is_left (Some t) = true
 
--- what is kept of the part that is left of a draft, beside its tree
+-- what is kept of the part that is left of a sketch, beside its tree
 abbrev pub part_of : Cleaned → Part
 part_of c = record { there = is_left c.query; left = c.left; right = c.right }
 
@@ -37,29 +37,29 @@ abbrev pub trees_left : List Cleaned → List Tree
 trees_left [] = []
 trees_left (c ∷ cs) = with_left c.query (trees_left cs)
 
-abbrev pub nodes_drafted : List Draft → ℕ
-nodes_drafted [] = 0
-nodes_drafted (d ∷ ds) = nodes_drafted ds + draft_nodes d
+abbrev pub nodes_sketched : List Sketch → ℕ
+nodes_sketched [] = 0
+nodes_sketched (d ∷ ds) = nodes_sketched ds + sketch_nodes d
 
--- these parts, trees and the number of removed nodes are those of the drafts
+-- these parts, trees and the number of removed nodes are those of the sketches
 pub record IsKept (parts : List Part) (trees : List Tree) (removed : ℕ)
-    (drafts : List Draft) : Type 0 where
-  pub has_parts : parts ≡ parts_of (map clean drafts)
-  pub has_trees : trees ≡ trees_left (map clean drafts)
-  pub count : removed + nodes_among trees ≡ nodes_drafted drafts
+    (sketches : List Sketch) : Type 0 where
+  pub has_parts : parts ≡ parts_of (map clean sketches)
+  pub has_trees : trees ≡ trees_left (map clean sketches)
+  pub count : removed + nodes_among trees ≡ nodes_sketched sketches
 
--- the drafts that were made so far, the last of them first
-pub record IsMaking (maker : QueryMaker) (drafts : List Draft) : Type 0 where
-  pub kept : IsKept maker.parts.items maker.builder maker.removed drafts
-  pub few : nodes_drafted drafts < NODE_LIMIT
+-- the sketches that were made so far, the last of them first
+pub record IsMaking (maker : QueryMaker) (sketches : List Sketch) : Type 0 where
+  pub kept : IsKept maker.parts.items maker.builder maker.removed sketches
+  pub few : nodes_sketched sketches < NODE_LIMIT
 
 -- an operand whose text has groups that are too many, or want of memory
 abbrev pub OperandFails : Known → Mapping → List ℕ → Weights → Bool → QueryMaker → QueryError
     → Type 0
 OperandFails known mapping text weights prefix maker TooManyNodes =
     (groups : List Group) × HasGroups known mapping text groups
-    × ((ds : List Draft) → IsMaking maker ds
-    → NODE_LIMIT ≤ nodes_drafted (drafted (phrase_of weights prefix groups) ∷ ds))
+    × ((ds : List Sketch) → IsMaking maker ds
+    → NODE_LIMIT ≤ nodes_sketched (sketched (phrase_of weights prefix groups) ∷ ds))
 OperandFails known mapping text weights prefix maker OutOfMemory = Unit {0}
 OperandFails known mapping text weights prefix maker (Syntax at) = ⊥
 OperandFails known mapping text weights prefix maker (DistanceTooLarge at) = ⊥

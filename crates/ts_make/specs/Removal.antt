@@ -6,35 +6,35 @@ use Rattle.ts_query.specs.Queries.{Joint, or_joint, and_joint, phrase_joint, Tre
 use Rattle.ts_make.specs.Trees.{near}
 
 -- a query's tree with its stop operands
-pub data Draft : Type 0 where
-  stop : Draft
-  kept : Operand → Draft
-  not_draft : Draft → Draft
-  joint_draft : Joint → Draft → Draft → Draft
+pub data Sketch : Type 0 where
+  stop : Sketch
+  kept : Operand → Sketch
+  not_sketch : Sketch → Sketch
+  joint_sketch : Joint → Sketch → Sketch → Sketch
 
 -- a stop operand counts as one node
-abbrev pub draft_nodes : Draft → ℕ
-draft_nodes stop = 1
-draft_nodes (kept o) = 1
-draft_nodes (not_draft x) = suc (draft_nodes x)
-draft_nodes (joint_draft j x y) = suc (draft_nodes x + draft_nodes y)
+abbrev pub sketch_nodes : Sketch → ℕ
+sketch_nodes stop = 1
+sketch_nodes (kept o) = 1
+sketch_nodes (not_sketch x) = suc (sketch_nodes x)
+sketch_nodes (joint_sketch j x y) = suc (sketch_nodes x + sketch_nodes y)
 
 -- the operands that are none of these, in the order of the text
-abbrev pub draft_operands : Draft → List Operand
-draft_operands stop = []
-draft_operands (kept o) = o ∷ []
-draft_operands (not_draft x) = draft_operands x
-draft_operands (joint_draft j x y) = draft_operands x ++ draft_operands y
+abbrev pub sketch_operands : Sketch → List Operand
+sketch_operands stop = []
+sketch_operands (kept o) = o ∷ []
+sketch_operands (not_sketch x) = sketch_operands x
+sketch_operands (joint_sketch j x y) = sketch_operands x ++ sketch_operands y
 
 -- a tree without stop operands
-abbrev pub draft_of : Tree → Draft
-draft_of (leaf o) = kept o
-draft_of (negated x) = not_draft (draft_of x)
-draft_of (joined j x y) = joint_draft j (draft_of x) (draft_of y)
+abbrev pub sketch_of : Tree → Sketch
+sketch_of (leaf o) = kept o
+sketch_of (negated x) = not_sketch (sketch_of x)
+sketch_of (joined j x y) = joint_sketch j (sketch_of x) (sketch_of y)
 
 -- What is left of a part, and the distances that the stop operands at its ends leave: `left` from
 -- where the part begins to
--- where what is left of it begins, `right` behind it likewise.
+-- where what is left of it begins, `right` after it likewise.
 pub record Cleaned : Type 0 where
   pub query : Query
   pub left : ℕ
@@ -52,7 +52,7 @@ clean_phrase n x y (Some a) None = cleaned (Some a) x.left (x.right + n + y.righ
 clean_phrase n x y None (Some b) = cleaned (Some b) (x.left + n + y.left) y.right
 clean_phrase n x y None None = cleaned None (x.left + n + y.left) (x.left + n + y.left)
 
--- Under `&` and `|` the operand that is there stands alone; of two that are gone the greater
+-- Under `&` and `|` the operand that is there is alone; of two that are gone the greater
 -- distance is left.
 abbrev pub clean_pair : Joint → Cleaned → Cleaned → Query → Query → Cleaned
 clean_pair j x y (Some a) (Some b) = cleaned (Some (joined j a b)) 0 0
@@ -69,13 +69,13 @@ abbrev pub clean_not : Cleaned → Cleaned
 clean_not x = record { query = option_map negated x.query; left = x.left; right = x.right }
 
 -- the stop operands removed
-abbrev pub clean : Draft → Cleaned
+abbrev pub clean : Sketch → Cleaned
 clean stop = cleaned None 0 0
 clean (kept o) = cleaned (Some (leaf o)) 0 0
-clean (not_draft x) = clean_not (clean x)
-clean (joint_draft j x y) = clean_joint j (clean x) (clean y)
+clean (not_sketch x) = clean_not (clean x)
+clean (joint_sketch j x y) = clean_joint j (clean x) (clean y)
 
--- of one draft, or none, what is left; nothing is the empty query
-abbrev pub query_left : List Draft → Query
+-- of one sketch, or none, what is left; nothing is the empty query
+abbrev pub query_left : List Sketch → Query
 query_left [] = None
 query_left (d ∷ ds) = (clean d).query

@@ -27,7 +27,7 @@ abbrev pub group_tree : Weights → Bool → Group → Tree
 group_tree weights prefix g =
     and_on (leaf_for weights prefix g.first) (map (leaf_for weights prefix) g.others)
 
--- x, whose last group stands at the position n, and further groups, joined from the left by the
+-- x, whose last group is at the position n, and further groups, joined from the left by the
 -- distances of their positions
 abbrev pub phrase_on : Weights → Bool → ℕ → Tree → List Group → Tree
 phrase_on weights prefix n x [] = x

@@ -13,7 +13,7 @@ use ts_query::{GREATEST_DISTANCE, QueryBuilder, QueryError};
 /// How groups are joined.
 #[derive(Clone, Copy, Debug)]
 pub enum Way {
-    /// Each behind the one before it, at the distance of their positions.
+    /// Each after the one before it, at the distance of their positions.
     Phrase,
     /// All of them, in any order.
     Conjunction,
@@ -63,7 +63,7 @@ fn close(builder: &mut QueryBuilder, way: Way, distance: Option<usize>) -> Resul
     }
 }
 
-/// Writes the lexeme behind the last group, or into it, and gives the group that is then the last.
+/// Writes the lexeme after the last group, or into it, and gives the group that is then the last.
 fn write_placed(
     builder: &mut QueryBuilder,
     way: Way,

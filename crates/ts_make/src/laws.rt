@@ -1,5 +1,5 @@
 // What holds of all groups, and of all removals of stop operands.
-ghost use Rattle.ts_make.specs.Laws.{GroupsAreOne, GroupsKeepLexemes, GroupsAreNear, WholeTreesStay, RemovalKeepsTheRest, RemovalIsSound, VectorAnswerIsOne, JoinAnswerIsOne, QueryAnswerIsOne, DraftsHaveNoFewer};
+ghost use Rattle.ts_make.specs.Laws.{GroupsAreOne, GroupsKeepLexemes, GroupsAreNear, WholeTreesStay, RemovalKeepsTheRest, RemovalIsSound, VectorAnswerIsOne, JoinAnswerIsOne, QueryAnswerIsOne, SketchesHaveNoFewer};
 
 /// Placed lexemes whose positions don't fall have exactly one list of groups.
 pub fn groups_are_one()
@@ -51,6 +51,6 @@ pub fn query_answer_is_one()
 {}
 
 /// With its operands made a tree has no fewer nodes.
-pub fn drafts_have_no_fewer()
-    ensures { DraftsHaveNoFewer }
+pub fn sketches_have_no_fewer()
+    ensures { SketchesHaveNoFewer }
 {}

@@ -5,10 +5,10 @@ ghost use Rattle.ts_query.specs.Building.{with_joint, nodes_among, AreSound};
 ghost use Rattle.ts_config.specs.Known.{IsWithin};
 ghost use Rattle.ts_make.specs.Groups.{Group, AreGroups};
 ghost use Rattle.ts_make.specs.Trees.{phrase_of};
-ghost use Rattle.ts_make.specs.Removal.{Draft, stop, not_draft, joint_draft, query_left};
+ghost use Rattle.ts_make.specs.Removal.{Sketch, stop, not_sketch, joint_sketch, query_left};
 ghost use Rattle.ts_make.specs.Limits.{IsOnlyPast};
-ghost use Rattle.ts_make.specs.Made.{HasGroups, drafted};
-ghost use Rattle.ts_make.specs.Making.{nodes_drafted, IsMaking, OperandFails};
+ghost use Rattle.ts_make.specs.Made.{HasGroups, sketched};
+ghost use Rattle.ts_make.specs.Making.{nodes_sketched, IsMaking, OperandFails};
 ghost use Rattle.ts_make.specs.Inner.Making.{link_joint, part as part_value, joined_part, kept_joint};
 
 use crate::joining::{Marks, Way, near, write_groups};
@@ -24,7 +24,7 @@ enum Link {
     And,
     /// One of both holds.
     Or,
-    /// The second is at this distance behind the first.
+    /// The second is at this distance after the first.
     Phrase(u16),
 }
 
@@ -118,15 +118,15 @@ fn write_link(builder: &mut QueryBuilder, link: Link, x: Part, y: Part) -> Resul
     }
 }
 
-/// A query that is made of texts, node by node, each operator behind its operands. What was made so
-/// far stands as a list of drafts, the last of them first; an operator takes the last of them. An
+/// A query that is made of texts, node by node, each operator after its operands. What was made so
+/// far is kept as a list of sketches, the last of them first; an operator takes the last of them. An
 /// operand whose text has no lexemes is a stop operand, which is removed as it comes. After a
 /// refusal it is of no more use.
 #[derive(Drop)]
 pub struct QueryMaker {
-    /// What is left of the drafts, as trees.
+    /// What is left of the sketches, as trees.
     builder: QueryBuilder,
-    /// For each draft what is left of it.
+    /// For each sketch what is left of it.
     parts: Vec<Part>,
     /// How many nodes were removed.
     removed: usize,
@@ -157,7 +157,7 @@ impl QueryMaker {
         Ok(())
     }
 
-    /// Puts what is left of a new draft behind the others.
+    /// Puts what is left of a new sketch after the others.
     fn add_part(&mut self, part: Part) -> Result<(), QueryError>
         requires { self.old.removed ≤ NODE_LIMIT }
         ensures parts { OnOk result (self.new.parts.items ≡ self.old.parts.items ++ part ∷ []) }
@@ -175,11 +175,11 @@ impl QueryMaker {
 
     /// Makes a stop operand.
     pub fn stop(&mut self) -> Result<(), QueryError>
-        requires { (ds : List Draft) × IsMaking self.old ds }
-        ensures value { OnOk result ((ds : List Draft) → IsMaking self.old ds
+        requires { (ds : List Sketch) × IsMaking self.old ds }
+        ensures value { OnOk result ((ds : List Sketch) → IsMaking self.old ds
             → IsMaking self.new (stop ∷ ds)) }
-        ensures refused { IfErr result (λ e. (ds : List Draft) → IsMaking self.old ds
-            → IsOnlyPast (nodes_drafted (stop ∷ ds)) e) }
+        ensures refused { IfErr result (λ e. (ds : List Sketch) → IsMaking self.old ds
+            → IsOnlyPast (nodes_sketched (stop ∷ ds)) e) }
     {
         self.removed += 1;
         self.add_part(near_part(false, 0, 0))
@@ -187,14 +187,14 @@ impl QueryMaker {
 
     /// Makes the phrase of the position groups of placed lexemes, of which there is one at least.
     fn write(&mut self, placed: Vec<Placed>, marks: Marks) -> Result<(), QueryError>
-        requires { (ds : List Draft) × IsMaking self.old ds }
-        ensures value { OnOk result ((groups : List Group) (ds : List Draft)
+        requires { (ds : List Sketch) × IsMaking self.old ds }
+        ensures value { OnOk result ((groups : List Group) (ds : List Sketch)
             → AreGroups placed.items groups → groups ≢ [] → IsMaking self.old ds
-            → IsMaking self.new (drafted (phrase_of marks.weights marks.prefix groups) ∷ ds)) }
-        ensures refused { IfErr result (λ e. (groups : List Group) (ds : List Draft)
+            → IsMaking self.new (sketched (phrase_of marks.weights marks.prefix groups) ∷ ds)) }
+        ensures refused { IfErr result (λ e. (groups : List Group) (ds : List Sketch)
             → AreGroups placed.items groups → groups ≢ [] → IsMaking self.old ds
             → IsOnlyPast
-            (nodes_drafted (drafted (phrase_of marks.weights marks.prefix groups) ∷ ds)) e) }
+            (nodes_sketched (sketched (phrase_of marks.weights marks.prefix groups) ∷ ds)) e) }
     {
         write_groups(&mut self.builder, Way::Phrase, marks, placed)?;
         self.add_part(near_part(true, 0, 0))
@@ -212,11 +212,11 @@ impl QueryMaker {
         prefix: bool,
     ) -> Result<(), QueryError>
         requires within { IsWithin configs.now config.now }
-        requires making { (ds : List Draft) × IsMaking self.old ds }
+        requires making { (ds : List Sketch) × IsMaking self.old ds }
         ensures value { OnOk result ((groups : List Group)
             × HasGroups configs.now config.now text.now groups
-            × ((ds : List Draft) → IsMaking self.old ds
-            → IsMaking self.new (drafted (phrase_of weights prefix groups) ∷ ds))) }
+            × ((ds : List Sketch) → IsMaking self.old ds
+            → IsMaking self.new (sketched (phrase_of weights prefix groups) ∷ ds))) }
         ensures refused { IfErr result
             (OperandFails configs.now config.now text.now weights prefix self.old) }
     {
@@ -227,13 +227,13 @@ impl QueryMaker {
         self.write(placed, Marks { weights, prefix })
     }
 
-    /// Negates the last draft.
+    /// Negates the last sketch.
     pub fn not(&mut self) -> Result<(), QueryError>
-        requires { (d : Draft) × (ds : List Draft) × IsMaking self.old (d ∷ ds) }
-        ensures value { OnOk result ((d : Draft) (ds : List Draft) → IsMaking self.old (d ∷ ds)
-            → IsMaking self.new (not_draft d ∷ ds)) }
-        ensures refused { IfErr result (λ e. (d : Draft) (ds : List Draft)
-            → IsMaking self.old (d ∷ ds) → IsOnlyPast (nodes_drafted (not_draft d ∷ ds)) e) }
+        requires { (d : Sketch) × (ds : List Sketch) × IsMaking self.old (d ∷ ds) }
+        ensures value { OnOk result ((d : Sketch) (ds : List Sketch) → IsMaking self.old (d ∷ ds)
+            → IsMaking self.new (not_sketch d ∷ ds)) }
+        ensures refused { IfErr result (λ e. (d : Sketch) (ds : List Sketch)
+            → IsMaking self.old (d ∷ ds) → IsOnlyPast (nodes_sketched (not_sketch d ∷ ds)) e) }
     {
         if self.parts[self.parts.len() - 1].there {
             self.builder.not()?;
@@ -243,52 +243,52 @@ impl QueryMaker {
         self.check()
     }
 
-    /// Joins the last two drafts by `&`.
+    /// Joins the last two sketches by `&`.
     pub fn and(&mut self) -> Result<(), QueryError>
-        requires { (d : Draft) × (e : Draft) × (ds : List Draft) × IsMaking self.old (e ∷ d ∷ ds) }
-        ensures value { OnOk result ((d e : Draft) (ds : List Draft)
-            → IsMaking self.old (e ∷ d ∷ ds) → IsMaking self.new (joint_draft and_joint d e ∷ ds)) }
-        ensures refused { IfErr result (λ r. (d e : Draft) (ds : List Draft)
+        requires { (d : Sketch) × (e : Sketch) × (ds : List Sketch) × IsMaking self.old (e ∷ d ∷ ds) }
+        ensures value { OnOk result ((d e : Sketch) (ds : List Sketch)
+            → IsMaking self.old (e ∷ d ∷ ds) → IsMaking self.new (joint_sketch and_joint d e ∷ ds)) }
+        ensures refused { IfErr result (λ r. (d e : Sketch) (ds : List Sketch)
             → IsMaking self.old (e ∷ d ∷ ds)
-            → IsOnlyPast (nodes_drafted (joint_draft and_joint d e ∷ ds)) r) }
+            → IsOnlyPast (nodes_sketched (joint_sketch and_joint d e ∷ ds)) r) }
     {
         self.join(Link::And)
     }
 
-    /// Joins the last two drafts by `|`.
+    /// Joins the last two sketches by `|`.
     pub fn or(&mut self) -> Result<(), QueryError>
-        requires { (d : Draft) × (e : Draft) × (ds : List Draft) × IsMaking self.old (e ∷ d ∷ ds) }
-        ensures value { OnOk result ((d e : Draft) (ds : List Draft)
-            → IsMaking self.old (e ∷ d ∷ ds) → IsMaking self.new (joint_draft or_joint d e ∷ ds)) }
-        ensures refused { IfErr result (λ r. (d e : Draft) (ds : List Draft)
+        requires { (d : Sketch) × (e : Sketch) × (ds : List Sketch) × IsMaking self.old (e ∷ d ∷ ds) }
+        ensures value { OnOk result ((d e : Sketch) (ds : List Sketch)
+            → IsMaking self.old (e ∷ d ∷ ds) → IsMaking self.new (joint_sketch or_joint d e ∷ ds)) }
+        ensures refused { IfErr result (λ r. (d e : Sketch) (ds : List Sketch)
             → IsMaking self.old (e ∷ d ∷ ds)
-            → IsOnlyPast (nodes_drafted (joint_draft or_joint d e ∷ ds)) r) }
+            → IsOnlyPast (nodes_sketched (joint_sketch or_joint d e ∷ ds)) r) }
     {
         self.join(Link::Or)
     }
 
-    /// Joins the last two drafts by a phrase operator.
+    /// Joins the last two sketches by a phrase operator.
     pub fn phrase(&mut self, distance: u16) -> Result<(), QueryError>
-        requires { (d : Draft) × (e : Draft) × (ds : List Draft) × IsMaking self.old (e ∷ d ∷ ds) }
-        ensures value { OnOk result ((d e : Draft) (ds : List Draft)
+        requires { (d : Sketch) × (e : Sketch) × (ds : List Sketch) × IsMaking self.old (e ∷ d ∷ ds) }
+        ensures value { OnOk result ((d e : Sketch) (ds : List Sketch)
             → IsMaking self.old (e ∷ d ∷ ds)
-            → IsMaking self.new (joint_draft (phrase_joint distance) d e ∷ ds)) }
-        ensures refused { IfErr result (λ r. (d e : Draft) (ds : List Draft)
+            → IsMaking self.new (joint_sketch (phrase_joint distance) d e ∷ ds)) }
+        ensures refused { IfErr result (λ r. (d e : Sketch) (ds : List Sketch)
             → IsMaking self.old (e ∷ d ∷ ds)
-            → IsOnlyPast (nodes_drafted (joint_draft (phrase_joint distance) d e ∷ ds)) r) }
+            → IsOnlyPast (nodes_sketched (joint_sketch (phrase_joint distance) d e ∷ ds)) r) }
     {
         self.join(Link::Phrase(distance))
     }
 
-    /// Joins the last two drafts.
+    /// Joins the last two sketches.
     fn join(&mut self, link: Link) -> Result<(), QueryError>
-        requires { (d : Draft) × (e : Draft) × (ds : List Draft) × IsMaking self.old (e ∷ d ∷ ds) }
-        ensures value { OnOk result ((d e : Draft) (ds : List Draft)
+        requires { (d : Sketch) × (e : Sketch) × (ds : List Sketch) × IsMaking self.old (e ∷ d ∷ ds) }
+        ensures value { OnOk result ((d e : Sketch) (ds : List Sketch)
             → IsMaking self.old (e ∷ d ∷ ds)
-            → IsMaking self.new (joint_draft (link_joint link) d e ∷ ds)) }
-        ensures refused { IfErr result (λ r. (d e : Draft) (ds : List Draft)
+            → IsMaking self.new (joint_sketch (link_joint link) d e ∷ ds)) }
+        ensures refused { IfErr result (λ r. (d e : Sketch) (ds : List Sketch)
             → IsMaking self.old (e ∷ d ∷ ds)
-            → IsOnlyPast (nodes_drafted (joint_draft (link_joint link) d e ∷ ds)) r) }
+            → IsOnlyPast (nodes_sketched (joint_sketch (link_joint link) d e ∷ ds)) r) }
     {
         let y = take_part(&mut self.parts);
         let x = take_part(&mut self.parts);
@@ -301,10 +301,10 @@ impl QueryMaker {
         self.add_part(part)
     }
 
-    /// What is left of the one draft, if there is one; nothing is the empty query.
+    /// What is left of the one sketch, if there is one; nothing is the empty query.
     pub fn finish(self) -> TsQuery
-        requires { (ds : List Draft) × (length ds ≤ 1) × IsMaking self ds }
-        ensures value { (ds : List Draft) → length ds ≤ 1 → IsMaking self ds
+        requires { (ds : List Sketch) × (length ds ≤ 1) × IsMaking self ds }
+        ensures value { (ds : List Sketch) → length ds ≤ 1 → IsMaking self ds
             → result ≡ query_left ds }
         ensures sound { IsSound result }
     {

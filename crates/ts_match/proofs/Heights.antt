@@ -1,4 +1,4 @@
--- The phrases of a plan have room in the rows that are made for the plan.
+-- The phrases of a plan have room in the bit sets that are made for the plan.
 use Rattle.std.proofs.Common.{◌≡◌, ℕ, zero, suc, ◌+◌, ◌-◌, ◌≤◌, ◌<◌, Bool, true, false, List, [], ◌∷◌, ◌++◌, length, take, drop, get_or, sym, ap, subst, ◌∙◌, arith, append_assoc, add-one, drop-cons}
 use Rattle.std.specs.Prelude.{max, min}
 use Rattle.std.specs.List.{slice_range}
@@ -7,8 +7,8 @@ use Rattle.ts_query.specs.declared.query.Node.{Node}
 use Rattle.ts_query.specs.declared.query.Node.TheVariants.{Leaf, Not, And, Or, Phrase}
 use Rattle.ts_query.specs.declared.query.Operand.{Operand}
 use Rattle.ts_query.specs.Queries.{Tree, leaf, negated, joined, or_joint, and_joint, phrase_joint, nodes_in}
-use Rattle.ts_match.specs.declared.rows.Row.{Row}
-use Rattle.ts_match.specs.declared.rows.TheConstants.{WIDEST}
+use Rattle.ts_match.specs.declared.bit_sets.BitSet.{BitSet}
+use Rattle.ts_match.specs.declared.bit_sets.TheConstants.{WIDEST}
 use Rattle.ts_match.specs.declared.work.Place.{Place}
 use Rattle.ts_match.specs.declared.work.Place.TheVariants.{Outside, Within}
 use Rattle.ts_match.specs.declared.work.Step.{Step}
@@ -16,8 +16,8 @@ use Rattle.ts_match.specs.Meaning.{width}
 use Rattle.ts_match.specs.Plan.{count_in, steps}
 use Rattle.ts_match.specs.Inner.Phrases.{IsPhraseOf}
 use Rattle.ts_match.specs.Inner.Plan.{offset_of}
-use Rattle.ts_match.specs.Inner.Rows.{words_for}
-use Rattle.ts_match.specs.Inner.Heights.{height_behind, height_at, highest, HasRoom, HaveRoom, SameRows, HasRows}
+use Rattle.ts_match.specs.Inner.BitSets.{words_for}
+use Rattle.ts_match.specs.Inner.Heights.{height_behind, height_at, highest, HasRoom, HaveRoom, SameBitSets, HasBitSets}
 
 highest_from : (ss : List Step) (h : ℕ) → h ≤ highest ss h
 highest_from [] h = omega arith
@@ -49,7 +49,7 @@ from_take zero ss h = highest_from ss h
 from_take (suc i) [] h = omega arith
 from_take (suc i) (s ∷ ss) h = let r = from_take i ss (height_at s.place s.node h) in omega arith
 
--- a part of the steps needs no more rows than all
+-- a part of the steps needs no more bit sets than all
 pub highest_part : (ss : List Step) (a b : ℕ) → highest (slice_range ss a b) 0 ≤ highest ss 0
 highest_part ss a b =
     let x = from_take (b - a) (drop a ss) 0 in
@@ -65,12 +65,12 @@ highest_more ss i d x g h h' g' l hg e gg hh r =
     let same : highest (drop (i + 1) ss) h' ≡ highest (drop (i + 1) ss) a = ap (highest (drop (i + 1) ss)) e in
     omega arith
 
--- what stands behind a part of a phrase has room, and with it the part
+-- what is after a part of a phrase has room, and with it the part
 record Room (n : ℕ) (part ss : List Step) (h : ℕ) : Type 0 where
   behind : highest ss (h + 1) ≤ n
   room : HaveRoom n ss (h + 1) → HaveRoom n (part ++ ss) h
 
--- an operator behind its two operands
+-- an operator after its two operands
 joined_room : (n : ℕ) (part sx sy ss : List Step) (q : Step) (h : ℕ) → part ++ ss ≡ sx ++ (sy ++ (q ∷ ss)) → height_at q.place q.node (h + 1 + 1) ≡ h + 1 → height_behind q.node (h + 1 + 1) ≡ h + 1
     → HasRoom n q.node (h + 1 + 1) → Room n sx (sy ++ (q ∷ ss)) h → Room n sy (q ∷ ss) (h + 1) → Room n part ss h
 joined_room n part sx sy ss q h e at behind has a b = record {
@@ -125,7 +125,7 @@ phrase_room n k m on_true on_false d x y l =
     let s = room_of n (k + count_in x) (m + nodes_in x) (width x + d) true y (q ∷ []) (0 + 1) r.behind in
     subst (λ z. HaveRoom n z 0) (sym a) (r.room (s.room (omega arith, tt)))
 
--- so many rows are enough for a phrase
+-- so many bit sets are enough for a phrase
 pub have_room : (n : ℕ) (os : List Operand) (ss : List Step) (t : Tree) → IsPhraseOf os ss t → highest ss 0 ≤ n → HaveRoom n ss 0
 have_room n os ss t p l =
     let u : Tree = joined (phrase_joint p.distance) p.left p.right in
@@ -153,8 +153,8 @@ pub near_behind : (p : Place) (n : Node) (h h' : ℕ) → h' ≡ height_at p n h
 near_behind (Outside on_true on_false) n h h' e = omega arith
 near_behind (Within offset needed) n h h' e = let a = behind_node n h in omega arith
 
--- rows for all steps are rows for a part of them
-pub rows_of_part : (ss : List Step) (stack spare stack' spare' : List Row) (a b : ℕ) → HasRows ss stack spare → SameRows stack spare stack' spare' → HasRows (slice_range ss a b) stack' spare'
+-- bit sets for all steps are bit sets for a part of them
+pub rows_of_part : (ss : List Step) (stack spare stack' spare' : List BitSet) (a b : ℕ) → HasBitSets ss stack spare → SameBitSets stack spare stack' spare' → HasBitSets (slice_range ss a b) stack' spare'
 rows_of_part ss stack spare stack' spare' a b h s = record {
   height = (let p = highest_part ss a b in let x = h.height in let y = s.count in omega arith);
   reach = h.reach;
@@ -162,7 +162,7 @@ rows_of_part ss stack spare stack' spare' a b h s = record {
   wide = s.wide (words_for (min h.reach WIDEST)) h.wide;
 }
 
-pub rows_kept : (ss : List Step) (stack spare stack' spare' : List Row) → HasRows ss stack spare → SameRows stack spare stack' spare' → HasRows ss stack' spare'
+pub rows_kept : (ss : List Step) (stack spare stack' spare' : List BitSet) → HasBitSets ss stack spare → SameBitSets stack spare stack' spare' → HasBitSets ss stack' spare'
 rows_kept ss stack spare stack' spare' h s = record {
   height = (let x = h.height in let y = s.count in omega arith);
   reach = h.reach;

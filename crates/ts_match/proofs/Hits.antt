@@ -11,12 +11,12 @@ use Rattle.ts_query.specs.declared.query.Node.TheVariants.{Leaf, Not, And, Or, P
 use Rattle.ts_query.specs.declared.query.Operand.{Operand}
 use Rattle.ts_query.specs.Postfix.{joint_node}
 use Rattle.ts_query.specs.Queries.{Joint, Tree, leaf, negated, joined, or_joint, and_joint, phrase_joint, nodes_in}
-use Rattle.ts_match.specs.declared.found.TheConstants.{FARTHEST}
+use Rattle.ts_match.specs.declared.ranges.TheConstants.{FARTHEST}
 use Rattle.ts_match.specs.declared.work.Place.{Place}
 use Rattle.ts_match.specs.declared.work.Place.TheVariants.{Outside, Within}
 use Rattle.ts_match.specs.declared.work.Step.{Step}
 use Rattle.ts_match.specs.Meaning.{width, at, places, HoldsSomewhere}
-use Rattle.ts_match.specs.Inner.Found.{stands_at}
+use Rattle.ts_match.specs.Inner.Ranges.{stands_at}
 use Rattle.ts_match.specs.Candidates.{offsets, needed, HasNoZero}
 use Rattle.ts_match.specs.Plan.{count_in, steps}
 use Rattle.ts_match.specs.Inner.Phrases.{HasNumbers, IsPhraseOf, IsStep, HoldsWith, IsNeeded, place_from}
@@ -172,7 +172,7 @@ module _ (v : Vector) (os : List Operand) (ss : List Step) (rn : IsNormal v) (rs
   near : (n d : ℕ) (b : Bool) → Contains ss (leaf_step n d b) → d ≤ FARTHEST
   near n d b c = (All-contains (IsStep (length os)) ss (leaf_step n d b) rs c).near
 
-  -- an operand that stands at its place, seen as a step
+  -- an operand that is at its place, seen as a step
   with_leaf : (t : Tree) (i : ℤ) (n d : ℕ) (b : Bool) (o : Operand) → slice_get os n ≡ Some o → Contains ss (leaf_step n d b) → IsTrue (at v t i) → there v (i -ℤ pos (width t)) o d ≡ true → HoldsWith v os t (leaf_step n d b)
   with_leaf t i n d b o g c a h =
       let q = natural (places o v) ((i -ℤ pos (width t)) +ℤ pos d) h in record {

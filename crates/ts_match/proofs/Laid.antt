@@ -1,4 +1,4 @@
--- What the rows of a phrase say.
+-- What the bit sets of a phrase say.
 use Rattle.std.proofs.Common.{◌≡◌, ℕ, suc, ◌+◌, ◌-◌, ◌*◌, ◌≤◌, ◌<◌, Bool, true, false, ◌&&◌, ◌||◌, eqb, List, [], ◌∷◌, ◌++◌, length, get_or, take, drop, reverse, Some, ◌⊎◌, inl, inr, refl, sym, ap, subst, ◌∙◌, arith, length-append}
 use Rattle.std.specs.Prelude.{ℤ, pos, negsuc, ◌+ℤ◌, ◌-ℤ◌, IsTrue, All, AllPairs, Contains, ◌↔◌, slice_get}
 use Rattle.std.specs.List.{list_any, slice_range}
@@ -13,17 +13,17 @@ use Rattle.ts_base.specs.declared.Weights.{Weights}
 use Rattle.ts_base.specs.Vectors.{Position, Entry, Vector}
 use Rattle.ts_query.specs.declared.query.Operand.{Operand}
 use Rattle.ts_query.specs.Queries.{Tree, joined, phrase_joint}
-use Rattle.ts_match.specs.declared.found.Found.{Found}
-use Rattle.ts_match.specs.declared.found.TheConstants.{FARTHEST}
-use Rattle.ts_match.specs.declared.rows.Row.{Row}
-use Rattle.ts_match.specs.declared.rows.TheConstants.{WORD}
+use Rattle.ts_match.specs.declared.ranges.EntryRange.{EntryRange}
+use Rattle.ts_match.specs.declared.ranges.TheConstants.{FARTHEST}
+use Rattle.ts_match.specs.declared.bit_sets.BitSet.{BitSet}
+use Rattle.ts_match.specs.declared.bit_sets.TheConstants.{WORD}
 use Rattle.ts_match.specs.declared.work.Place.TheVariants.{Outside}
 use Rattle.ts_match.specs.declared.work.Step.{Step}
 use Rattle.ts_match.specs.Meaning.{fits, places, is_place, width, at, HoldsSomewhere}
 use Rattle.ts_match.specs.Candidates.{offsets}
 use Rattle.ts_match.specs.Plan.{steps}
-use Rattle.ts_match.specs.Inner.Found.{NamesRange, stands_at}
-use Rattle.ts_match.specs.Inner.Rows.{row_value, truths_at, beginning, IsWide}
+use Rattle.ts_match.specs.Inner.Ranges.{NamesRange, stands_at}
+use Rattle.ts_match.specs.Inner.BitSets.{bit_value, truths_at, beginning, IsWide}
 use Rattle.ts_match.specs.Inner.Phrases.{IsLaidOut, IsPhraseOf, SaysWhere, no_operand, HasNumbers}
 use Rattle.ts_match.specs.Laws.Elements.{passes_in}
 use Rattle.ts_match.proofs.Lists.{any_agree}
@@ -54,7 +54,7 @@ slice_more xs a i d h l =
     ap (λ k. take k (drop a xs)) e ∙ take-suc (drop a xs) (i - a) d (let n = length-drop a xs in omega arith)
     ∙ ap (λ x. take (i - a) (drop a xs) ++ x ∷ []) (get_or-drop a xs (i - a) d ∙ ap (λ k. get_or xs k d) f)
 
--- a position is at a place of a row, where places are moved by `by`
+-- a position is at a place of a bit set, where places are moved by `by`
 abbrev pub sets : ℕ → ℕ → Weights → Position → Bool
 sets by j w p = eqb j (p.at + by) && fits w p.weight
 
@@ -74,8 +74,8 @@ any_false p (x ∷ xs) h = rw (h x, any_false p xs h) refl
 false_and : (a b : Bool) → a ≡ false → (a && b) ≡ false
 false_and a b e = rw e refl
 
--- the row of a leaf, by what was found for it
-laid_by : (v : Vector) (o : Operand) (f : Found) (reach offset j : ℕ) → NamesRange v o f → reach ≤ FARTHEST → offset ≤ reach → (reach - offset ≤ j) ⊎ (j < reach - offset)
+-- the bit set of a leaf, by what was found for it
+laid_by : (v : Vector) (o : Operand) (f : EntryRange) (reach offset j : ℕ) → NamesRange v o f → reach ≤ FARTHEST → offset ≤ reach → (reach - offset ≤ j) ⊎ (j < reach - offset)
     → list_any (sets_some (reach - offset) j o.weights) (slice_range v f.first f.end) ≡ stands_at o v (beginning reach j + offset)
 laid_by v o f reach offset j i far near (inl h) =
     let sum = beginning reach j + offset in
@@ -90,7 +90,7 @@ laid_by v o f reach offset j i far near (inr h) =
     (λ (p : Position). false_and (eqb j (p.at + (reach - offset))) (fits o.weights p.weight) (ne_eqb j (p.at + (reach - offset)) (λ q. omega arith))))
     ∙ sym (stands_before v o (beginning reach j + offset) (omega arith))
 
-pub laid : (v : Vector) (o : Operand) (f : Found) (reach offset j : ℕ) → NamesRange v o f → reach ≤ FARTHEST → offset ≤ reach
+pub laid : (v : Vector) (o : Operand) (f : EntryRange) (reach offset j : ℕ) → NamesRange v o f → reach ≤ FARTHEST → offset ≤ reach
     → list_any (sets_some (reach - offset) j o.weights) (slice_range v f.first f.end) ≡ stands_at o v (beginning reach j + offset)
 laid v o f reach offset j i far near = laid_by v o f reach offset j i far near (elim (cases_lt j (reach - offset)) [ inl h ↦ inr h | inr h ↦ inl h ])
 
@@ -118,36 +118,36 @@ none_between b p xs a =
     let e : a - a ≡ 0 = omega arith in
     sym (ap (λ k. b || list_any p (take k (drop a xs))) e ∙ or_none b)
 
--- the row that is alone on a stack
-pub record OneRow (count : ℕ) (f : ℕ → Bool) (rows : List Row) : Type 0 where
-  pub row : Row
-  pub alone : rows ≡ row ∷ []
-  pub value : (j : ℕ) → row_value count row j ≡ f j
+-- the bit set that is alone on a stack
+pub record OneRow (count : ℕ) (f : ℕ → Bool) (bit_sets : List BitSet) : Type 0 where
+  pub bits : BitSet
+  pub alone : bit_sets ≡ bits ∷ []
+  pub value : (j : ℕ) → bit_value count bits j ≡ f j
 
-length-map : (count j : ℕ) (rows : List Row) → length (truths_at count j rows) ≡ length rows
+length-map : (count j : ℕ) (bit_sets : List BitSet) → length (truths_at count j bit_sets) ≡ length bit_sets
 length-map count j [] = refl
-length-map count j (r ∷ rows) = ap suc (length-map count j rows)
+length-map count j (r ∷ bit_sets) = ap suc (length-map count j bit_sets)
 
-pub one_row : (count : ℕ) (f : ℕ → Bool) (rows : List Row) → ((j : ℕ) → truths_at count j (reverse rows) ≡ f j ∷ []) → OneRow count f rows
-one_row count f [] h = absurd (let e = ap length (h 0) in omega arith)
-one_row count f (r ∷ []) h = record { row = r; alone = refl; value = λ j. (let e = h j in cc) }
-one_row count f (r ∷ s ∷ rows) h =
-    absurd (let e = ap length (h 0) in let a = length-map count 0 (reverse (r ∷ s ∷ rows)) in let b = length-reverse (r ∷ s ∷ rows) in omega arith)
+pub one_bit_set : (count : ℕ) (f : ℕ → Bool) (bit_sets : List BitSet) → ((j : ℕ) → truths_at count j (reverse bit_sets) ≡ f j ∷ []) → OneRow count f bit_sets
+one_bit_set count f [] h = absurd (let e = ap length (h 0) in omega arith)
+one_bit_set count f (r ∷ []) h = record { bits = r; alone = refl; value = λ j. (let e = h j in cc) }
+one_bit_set count f (r ∷ s ∷ bit_sets) h =
+    absurd (let e = ap length (h 0) in let a = length-map count 0 (reverse (r ∷ s ∷ bit_sets)) in let b = length-reverse (r ∷ s ∷ bit_sets) in omega arith)
 
-pub truths_push : (count j : ℕ) (rows : List Row) (row : Row) → truths_at count j (reverse (rows ++ row ∷ [])) ≡ row_value count row j ∷ truths_at count j (reverse rows)
-truths_push count j rows row = ap (truths_at count j) (reverse-append rows (row ∷ []))
+pub truths_push : (count j : ℕ) (bit_sets : List BitSet) (bits : BitSet) → truths_at count j (reverse (bit_sets ++ bits ∷ [])) ≡ bit_value count bits j ∷ truths_at count j (reverse bit_sets)
+truths_push count j bit_sets bits = ap (truths_at count j) (reverse-append bit_sets (bits ∷ []))
 
 pub pushed : {X : Type 0} (old new : List X) (x : X) → reverse new ≡ x ∷ reverse old → new ≡ old ++ x ∷ []
 pushed old new x e = sym (reverse-reverse new) ∙ ap reverse (e ∙ sym (reverse-append old (x ∷ []))) ∙ reverse-reverse (old ++ x ∷ [])
 
-pub truths_pop : (count j : ℕ) (old new : List Row) (row : Row) → old ≡ new ++ row ∷ [] → truths_at count j (reverse old) ≡ row_value count row j ∷ truths_at count j (reverse new)
-truths_pop count j old new row e = ap (λ l. truths_at count j (reverse l)) e ∙ truths_push count j new row
+pub truths_pop : (count j : ℕ) (old new : List BitSet) (bits : BitSet) → old ≡ new ++ bits ∷ [] → truths_at count j (reverse old) ≡ bit_value count bits j ∷ truths_at count j (reverse new)
+truths_pop count j old new bits e = ap (λ l. truths_at count j (reverse l)) e ∙ truths_push count j new bits
 
--- where a phrase begins at a place of its row
-pub row_place : (w j : ℕ) → w ≤ FARTHEST → (pos (beginning w j) -ℤ pos FARTHEST) +ℤ pos w ≡ pos j
-row_place w j h = omega (arith, ints)
+-- where a phrase begins at a place of its bit set
+pub bits_place : (w j : ℕ) → w ≤ FARTHEST → (pos (beginning w j) -ℤ pos FARTHEST) +ℤ pos w ≡ pos j
+bits_place w j h = omega (arith, ints)
 
--- beyond the places of a row, and below 0, no operand stands
+-- beyond the places of a bit set, and below 0, no operand is
 none_place : (ps : List ℕ) (m : ℕ) → ((p : ℕ) → Contains ps p → p < m) → (b : Bool) → list_any (λ p. eqb p m) ps ≡ b → b ≡ false
 none_place ps m h true e = let r = passes_in (λ p. eqb p m) ps e in let q = eqb-true r.element m r.passes in absurd (let l = h r.element r.there in omega arith)
 none_place ps m h false e = refl
@@ -162,7 +162,7 @@ behind_all ps c w e h g f =
     let i : (pos c -ℤ pos w) +ℤ pos e ≡ pos (c + e - w) = omega (arith, ints) in
     ap (is_place ps) i ∙ none_place ps (c + e - w) (λ p a. let l = f p a in omega arith) (list_any (λ p. eqb p (c + e - w)) ps) refl
 
-module _ (v : Vector) (os : List Operand) (fs : List Found) (ss : List Step) (t : Tree) (count : ℕ) (p : IsPhraseOf os ss t)
+module _ (v : Vector) (os : List Operand) (fs : List EntryRange) (ss : List Step) (t : Tree) (count : ℕ) (p : IsPhraseOf os ss t)
     (a : All (IsLaidOut v os fs (width t) count) ss) (enough : width t < WORD * count) where
   -- all places of an operand of the phrase
   operand_places : (k : Operand × ℕ) → Contains (offsets t 0) k → (q : ℕ) → Contains (places k.0 v) q → q + width t < WORD * count
@@ -174,7 +174,7 @@ module _ (v : Vector) (os : List Operand) (fs : List Found) (ss : List Step) (t 
       let s = leaf_step l.number k.1 l.flag in
       let there : Contains ss (leaf_step l.number k.1 l.flag) = subst (λ (x : List Step). Contains x (leaf_step l.number k.1 l.flag)) (sym laid) l.there in
       let i = All-contains (IsLaidOut v os fs (width t) count) ss s a there in
-      let f : Found = record { first = 0; end = 0 } in
+      let f : EntryRange = record { first = 0; end = 0 } in
       let o = get_or_from_slice_get os l.number k.0 no_operand l.is_operand in
       let named = subst (λ x. NamesRange v x (get_or fs l.number f)) o (i.found no_operand f) in
       let w = stands_in v k.0 (get_or fs l.number f) q named h in
@@ -189,31 +189,31 @@ module _ (v : Vector) (os : List Operand) (fs : List Found) (ss : List Step) (t 
       behind_all (places k.0 v) (WORD * count) (width t) k.1 e (omega arith) (operand_places k c) ∙ sym (before_all (places k.0 v) n (width t) k.1 e))
       ∙ sym (at_start v t (negsuc n))
 
-  pub row_of : (row : Row) → ((j : ℕ) → row_value count row j ≡ at v t (pos j)) → SaysWhere v t count row
-  row_of row h = record {
+  pub bits_of : (bits : BitSet) → ((j : ℕ) → bit_value count bits j ≡ at v t (pos j)) → SaysWhere v t count bits
+  bits_of bits h = record {
     here = h;
-    elsewhere = λ n. sym (beyond_words count row.words.items row.rest (WORD * count) (omega arith)) ∙ h (WORD * count) ∙ beyond n;
+    elsewhere = λ n. sym (beyond_words count bits.words.items bits.rest (WORD * count) (omega arith)) ∙ h (WORD * count) ∙ beyond n;
   }
 
--- a row says whether its tree holds somewhere
-at_place : (v : Vector) (t : Tree) (count : ℕ) (row : Row) → SaysWhere v t count row → (i : ℤ) → IsTrue (at v t i) → (j : ℕ) × IsTrue (row_value count row j)
-at_place v t count row r (pos j) e = (j, r.here j ∙ e)
-at_place v t count row r (negsuc n) e = (WORD * count, beyond_words count row.words.items row.rest (WORD * count) (omega arith) ∙ r.elsewhere n ∙ e)
+-- a bit set says whether its tree holds somewhere
+at_place : (v : Vector) (t : Tree) (count : ℕ) (bits : BitSet) → SaysWhere v t count bits → (i : ℤ) → IsTrue (at v t i) → (j : ℕ) × IsTrue (bit_value count bits j)
+at_place v t count bits r (pos j) e = (j, r.here j ∙ e)
+at_place v t count bits r (negsuc n) e = (WORD * count, beyond_words count bits.words.items bits.rest (WORD * count) (omega arith) ∙ r.elsewhere n ∙ e)
 
-pub somewhere_by : (v : Vector) (t : Tree) (count : ℕ) (row : Row) → SaysWhere v t count row → ((j : ℕ) × IsTrue (row_value count row j)) ↔ HoldsSomewhere v t
-somewhere_by v t count row r = (λ h. (pos h.0, sym (r.here h.0) ∙ h.1), λ h. at_place v t count row r h.0 h.1)
+pub somewhere_by : (v : Vector) (t : Tree) (count : ℕ) (bits : BitSet) → SaysWhere v t count bits → ((j : ℕ) × IsTrue (bit_value count bits j)) ↔ HoldsSomewhere v t
+somewhere_by v t count bits r = (λ h. (pos h.0, sym (r.here h.0) ∙ h.1), λ h. at_place v t count bits r h.0 h.1)
 
--- the rows that are left when one is taken off
-pub pop_wide : (count : ℕ) (old new : List Row) (row : Row) → old ≡ new ++ row ∷ [] → All (IsWide count) old → All (IsWide count) new × IsWide count row
-pop_wide count old new row e a =
-    let b = subst (λ (l : List Row). All (IsWide count) l) e a in (
-      λ k d h. subst (λ (r : Row). IsWide count r) (get_or_append_left new (row ∷ []) d k h) (b k d (let n = length-append new (row ∷ []) in omega arith)),
-      subst (λ (r : Row). IsWide count r) (get_or_push new row row (length new) refl) (b (length new) row (let n = length-append new (row ∷ []) in omega arith)),
+-- the bit sets that are left when one is taken off
+pub pop_wide : (count : ℕ) (old new : List BitSet) (bits : BitSet) → old ≡ new ++ bits ∷ [] → All (IsWide count) old → All (IsWide count) new × IsWide count bits
+pop_wide count old new bits e a =
+    let b = subst (λ (l : List BitSet). All (IsWide count) l) e a in (
+      λ k d h. subst (λ (r : BitSet). IsWide count r) (get_or_append_left new (bits ∷ []) d k h) (b k d (let n = length-append new (bits ∷ []) in omega arith)),
+      subst (λ (r : BitSet). IsWide count r) (get_or_push new bits bits (length new) refl) (b (length new) bits (let n = length-append new (bits ∷ []) in omega arith)),
     )
 
-pub push_wide : (count : ℕ) (old new : List Row) (row : Row) → reverse new ≡ row ∷ reverse old → All (IsWide count) old → IsWide count row → All (IsWide count) new
-push_wide count old new row e a w = subst (λ (l : List Row). All (IsWide count) l) (sym (pushed old new row e)) (All-push (IsWide count) old row a w)
+pub push_wide : (count : ℕ) (old new : List BitSet) (bits : BitSet) → reverse new ≡ bits ∷ reverse old → All (IsWide count) old → IsWide count bits → All (IsWide count) new
+push_wide count old new bits e a w = subst (λ (l : List BitSet). All (IsWide count) l) (sym (pushed old new bits e)) (All-push (IsWide count) old bits a w)
 
--- the last of one row
-pub last_one : (rows : List Row) (row x : Row) → rows ≡ row ∷ [] → Some x ≡ slice_get rows (length rows - 1) → x ≡ row
-last_one rows row x e h = let k : Some x ≡ slice_get (row ∷ []) (length (row ∷ []) - 1) = subst (λ (l : List Row). Some x ≡ slice_get l (length l - 1)) e h in cc
+-- the last of one bit set
+pub last_one : (bit_sets : List BitSet) (bits x : BitSet) → bit_sets ≡ bits ∷ [] → Some x ≡ slice_get bit_sets (length bit_sets - 1) → x ≡ bits
+last_one bit_sets bits x e h = let k : Some x ≡ slice_get (bits ∷ []) (length (bits ∷ []) - 1) = subst (λ (l : List BitSet). Some x ≡ slice_get l (length l - 1)) e h in cc

@@ -8,10 +8,10 @@ use Rattle.std.proofs.lemmas.Bool.{eqb-true, eq-eqb, ne_eqb, cases_Bool, cases_l
 use Rattle.ts_base.specs.Lexemes.{IsBefore}
 use Rattle.ts_base.specs.Vectors.{Position, Entry, Vector}
 use Rattle.ts_query.specs.declared.query.Operand.{Operand}
-use Rattle.ts_match.specs.declared.found.Found.{Found}
-use Rattle.ts_match.specs.declared.found.TheConstants.{FARTHEST}
+use Rattle.ts_match.specs.declared.ranges.EntryRange.{EntryRange}
+use Rattle.ts_match.specs.declared.ranges.TheConstants.{FARTHEST}
 use Rattle.ts_match.specs.Meaning.{names, asks_any, asks_for, fits, is_met, places}
-use Rattle.ts_match.specs.Inner.Found.{NamesRange, stands_at}
+use Rattle.ts_match.specs.Inner.Ranges.{NamesRange, stands_at}
 use Rattle.ts_match.proofs.Lists.{any_agree, any_flat, any_filter, any_map, passing_part, part_length, from_filter, from_flat_map, from_part}
 use Rattle.ts_match.specs.Laws.Elements.{from_map}
 use Rattle.ts_match.proofs.Order.{not_before_itself, prefix_first}
@@ -75,7 +75,7 @@ here_is o sum h p =
     ∙ ap (λ b. b && fits o.weights p.weight) (eqb_from (p.at + FARTHEST) sum p.at (sum - FARTHEST) (λ e. omega arith) (λ e. omega arith))
 
 -- by the lexemes that are found
-pub stands_by : (v : Vector) (o : Operand) (f : Found) (sum : ℕ) → NamesRange v o f → FARTHEST ≤ sum → stands_at o v sum ≡ list_any (meets_at o (sum - FARTHEST)) (slice_range v f.first f.end)
+pub stands_by : (v : Vector) (o : Operand) (f : EntryRange) (sum : ℕ) → NamesRange v o f → FARTHEST ≤ sum → stands_at o v sum ≡ list_any (meets_at o (sum - FARTHEST)) (slice_range v f.first f.end)
 stands_by v o f sum i h =
     any_map (λ p. eqb (p + FARTHEST) sum) (λ (p : Position). p.at) (filter (λ p. fits o.weights p.weight) (flat_map (λ (e : Entry). e.positions) (filter (λ e. names o e.lexeme) v)))
     ∙ any_filter (λ (p : Position). fits o.weights p.weight) (λ p. eqb (p.at + FARTHEST) sum) (flat_map (λ (e : Entry). e.positions) (filter (λ e. names o e.lexeme) v))
@@ -94,7 +94,7 @@ stands_before v o sum h = below_all (places o v) sum h
 abbrev pub weighs : Operand → Entry → Bool
 weighs o e = asks_any o.weights || list_any (λ p. asks_for o.weights p.weight) e.positions
 
-pub met_by : (v : Vector) (o : Operand) (f : Found) → NamesRange v o f → is_met o v ≡ list_any (weighs o) (slice_range v f.first f.end)
+pub met_by : (v : Vector) (o : Operand) (f : EntryRange) → NamesRange v o f → is_met o v ≡ list_any (weighs o) (slice_range v f.first f.end)
 met_by v o f i = sym (any_filter (λ (e : Entry). names o e.lexeme) (weighs o) v) ∙ ap (λ es. list_any (weighs o) es) i.named
 
 all_pass : (o : Operand) (es : List Entry) → asks_any o.weights ≡ true → list_any (weighs o) es ≡ nat_lt 0 (length es)
@@ -107,11 +107,11 @@ lt_from a b c d f g = elim (cases_lt a b) [
   | inr h ↦ elim (cases_lt c d) [ inl k ↦ (let n = g k in absurd (omega arith)) | inr k ↦ le-ltb a b h ∙ sym (le-ltb c d k) ]
 ]
 
-pub met_any : (v : Vector) (o : Operand) (f : Found) → NamesRange v o f → asks_any o.weights ≡ true → nat_lt f.first f.end ≡ is_met o v
+pub met_any : (v : Vector) (o : Operand) (f : EntryRange) → NamesRange v o f → asks_any o.weights ≡ true → nat_lt f.first f.end ≡ is_met o v
 met_any v o f i a = sym (met_by v o f i ∙ all_pass o (slice_range v f.first f.end) a ∙ ap (nat_lt 0) (part_length v f.first f.end i.within)
     ∙ lt_from 0 (f.end - f.first) f.first f.end (λ h. omega arith) (λ h. omega arith))
 
-pub met_weighed : (v : Vector) (o : Operand) (f : Found) → NamesRange v o f → asks_any o.weights ≡ false
+pub met_weighed : (v : Vector) (o : Operand) (f : EntryRange) → NamesRange v o f → asks_any o.weights ≡ false
     → is_met o v ≡ list_any (λ (e : Entry). list_any (λ (p : Position). asks_for o.weights p.weight) e.positions) (slice_range v f.first f.end)
 met_weighed v o f i a =
     met_by v o f i ∙ any_agree (weighs o) (λ (e : Entry). list_any (λ (p : Position). asks_for o.weights p.weight) e.positions) (slice_range v f.first f.end)
@@ -121,7 +121,7 @@ pub nothing : Entry
 nothing = record { lexeme = []; positions = [] }
 
 -- where a place of an operand comes from
-pub record StandsIn (v : Vector) (f : Found) (p : ℕ) : Type 0 where
+pub record StandsIn (v : Vector) (f : EntryRange) (p : ℕ) : Type 0 where
   pub index : ℕ
   pub from : f.first ≤ index
   pub below : index < f.end
@@ -129,7 +129,7 @@ pub record StandsIn (v : Vector) (f : Found) (p : ℕ) : Type 0 where
   pub there : Contains (get_or v index nothing).positions position
   pub is : position.at ≡ p
 
-pub stands_in : (v : Vector) (o : Operand) (f : Found) (p : ℕ) → NamesRange v o f → Contains (places o v) p → StandsIn v f p
+pub stands_in : (v : Vector) (o : Operand) (f : EntryRange) (p : ℕ) → NamesRange v o f → Contains (places o v) p → StandsIn v f p
 stands_in v o f p i h =
     let m = from_map (λ (x : Position). x.at) (filter (λ x. fits o.weights x.weight) (flat_map (λ (e : Entry). e.positions) (filter (λ e. names o e.lexeme) v))) p h in
     let q = from_filter (λ (x : Position). fits o.weights x.weight) (flat_map (λ (e : Entry). e.positions) (filter (λ e. names o e.lexeme) v)) m.element m.there in

@@ -39,7 +39,7 @@ prefix_first (x ∷ p) (y ∷ a) h e =
     let t : nat_cmp y x ≡ Equal = ap (λ z. nat_cmp y z) same ∙ tie y in
     prefix_first p a b.1 (rw t at e)
 
--- what stands between p and a word that begins with p begins with p
+-- what is between p and a word that begins with p begins with p
 pub between_prefix : (p a b : List ℕ) → slice_cmp nat_cmp a p ≢ Less → IsBefore a b → starts_with nat_eq b p ≡ true → starts_with nat_eq a p ≡ true
 between_prefix [] a b n h s = refl
 between_prefix (x ∷ p) [] b n h s = absurd (n refl)

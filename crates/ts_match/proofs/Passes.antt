@@ -15,7 +15,7 @@ use Rattle.ts_match.specs.declared.pass.Side.{Side}
 use Rattle.ts_match.specs.declared.pass.Side.TheVariants.{First, End}
 use Rattle.ts_match.specs.declared.pass.Walk.{Walk}
 use Rattle.ts_match.specs.Meaning.{names}
-use Rattle.ts_match.specs.Inner.Found.{NamesRange}
+use Rattle.ts_match.specs.Inner.Ranges.{NamesRange}
 use Rattle.ts_match.specs.Inner.Pass.{IsShort, AreShort, Splits, IsAt, IsBounds, AreBounds}
 use Rattle.ts_match.proofs.Lists.{passing_part}
 use Rattle.ts_match.proofs.Lookups.{nothing, false_from}

@@ -83,7 +83,7 @@ agree f g (joined (phrase_joint n) x y) e h =
     let b = agree f g y r (λ k c. h k (Contains-append_right (offsets x e) (offsets y r) k c)) in
     rw (a, b) refl
 
--- an operand stands within the width
+-- an operand is within the width
 pub offsets_within : (t : Tree) (e : ℕ) (k : Operand × ℕ) → Contains (offsets t e) k → k.1 ≤ e + width t
 offsets_within (leaf o) e k h = let p = ap (λ (x : Operand × ℕ). x.1) (Contains-one (o, e) k h) in omega arith
 offsets_within (negated x) e k h = offsets_within x e k h

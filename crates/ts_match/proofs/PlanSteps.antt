@@ -8,7 +8,7 @@ use Rattle.ts_query.specs.declared.query.Node.TheVariants.{Leaf, Not}
 use Rattle.ts_query.specs.declared.query.Operand.{Operand}
 use Rattle.ts_query.specs.Postfix.{joint_node}
 use Rattle.ts_query.specs.Queries.{Joint, Tree, leaf, negated, joined, or_joint, and_joint, phrase_joint, Query, operands_in, operands_of, nodes_in, HasNear, IsSound}
-use Rattle.ts_match.specs.declared.found.TheConstants.{FARTHEST}
+use Rattle.ts_match.specs.declared.ranges.TheConstants.{FARTHEST}
 use Rattle.ts_match.specs.declared.work.Place.{Place}
 use Rattle.ts_match.specs.declared.work.Place.TheVariants.{Outside, Within}
 use Rattle.ts_match.specs.declared.work.Step.{Step}

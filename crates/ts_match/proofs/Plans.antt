@@ -110,7 +110,7 @@ pub length-left_widths_of : (q : Query) → length (left_widths_of q) ≡ nodes_
 length-left_widths_of None = refl
 length-left_widths_of (Some t) = length-left_widths t
 
--- From the last node back: the steps, the last one first. The step behind a node has as its index how many nodes there are up to it.
+-- From the last node back: the steps, the last one first. The step after a node has as its index how many nodes there are up to it.
 abbrev pub lay_all : Due → List Node → List ℕ → List Due → List Step
 lay_all r [] ws due = []
 lay_all r (n ∷ ns) [] due = []

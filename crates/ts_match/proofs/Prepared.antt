@@ -8,20 +8,20 @@ use Rattle.ts_base.specs.Vectors.{Vector, IsNormal}
 use Rattle.ts_query.specs.declared.query.Node.{Node}
 use Rattle.ts_query.specs.declared.query.Node.TheVariants.{Leaf, Not, And, Or, Phrase}
 use Rattle.ts_query.specs.declared.query.Operand.{Operand}
-use Rattle.ts_match.specs.declared.found.Found.{Found}
+use Rattle.ts_match.specs.declared.ranges.EntryRange.{EntryRange}
 use Rattle.ts_query.specs.Queries.{Tree}
 use Rattle.ts_match.specs.declared.work.Place.{Place}
 use Rattle.ts_match.specs.declared.work.Place.TheVariants.{Outside, Within}
 use Rattle.ts_match.specs.Inner.Plan.{needs}
 use Rattle.ts_match.specs.declared.work.Step.{Step}
 use Rattle.ts_match.specs.Meaning.{places, HoldsSomewhere}
-use Rattle.ts_match.specs.Inner.Found.{NamesRange}
-use Rattle.ts_match.specs.Inner.Phrases.{FoundFor, HasOperand, IsStep, IsPhraseOf, operand_at, no_operand}
+use Rattle.ts_match.specs.Inner.Ranges.{NamesRange}
+use Rattle.ts_match.specs.Inner.Phrases.{RangeFor, HasOperand, IsStep, IsPhraseOf, operand_at, no_operand}
 use Rattle.ts_match.proofs.Lookups.{stands_in}
 use Rattle.ts_match.proofs.Hits.{leaf_step, number_is, with_needed}
 
-pub leaf_found : (v : Vector) (os : List Operand) (fs : List Found) (n : Node) (k : ℕ) → n ≡ Leaf k → FoundFor v os fs n → (o : Operand) (f : Found) → NamesRange v (get_or os k o) (get_or fs k f)
-leaf_found v os fs n k e h = subst (λ (x : Node). FoundFor v os fs x) e h
+pub leaf_found : (v : Vector) (os : List Operand) (fs : List EntryRange) (n : Node) (k : ℕ) → n ≡ Leaf k → RangeFor v os fs n → (o : Operand) (f : EntryRange) → NamesRange v (get_or os k o) (get_or fs k f)
+leaf_found v os fs n k e h = subst (λ (x : Node). RangeFor v os fs x) e h
 
 pub not-false : (b : Bool) → not b ≡ false → b ≡ true
 not-false true e = refl
@@ -38,22 +38,22 @@ same_step s n p e f = ap (λ x. record { node = x; place = s.place }) e ∙ ap (
 pub leaf_operand : (m : ℕ) (n : Node) (k : ℕ) → n ≡ Leaf k → HasOperand m n → k < m
 leaf_operand m n k e h = subst (λ (x : Node). HasOperand m x) e h
 
-pub found_here : (v : Vector) (os : List Operand) (fs : List Found) (n : Node) (k : ℕ) (r : Found) → n ≡ Leaf k → k < length fs → ((o : Operand) → NamesRange v (get_or os k o) r) → FoundFor v os (set fs k r) n
-found_here v os fs n k r e l h = subst (λ (x : Node). FoundFor v os (set fs k r) x) (sym e) (λ o f. subst (λ (x : Found). NamesRange v (get_or os k o) x) (sym (get_or-set_same fs k r f l)) (h o))
+pub found_here : (v : Vector) (os : List Operand) (fs : List EntryRange) (n : Node) (k : ℕ) (r : EntryRange) → n ≡ Leaf k → k < length fs → ((o : Operand) → NamesRange v (get_or os k o) r) → RangeFor v os (set fs k r) n
+found_here v os fs n k r e l h = subst (λ (x : Node). RangeFor v os (set fs k r) x) (sym e) (λ o f. subst (λ (x : EntryRange). NamesRange v (get_or os k o) x) (sym (get_or-set_same fs k r f l)) (h o))
 
-kept_leaf : (v : Vector) (os : List Operand) (fs : List Found) (k : ℕ) (r : Found) → k < length fs → ((o : Operand) → NamesRange v (get_or os k o) r) → (j : ℕ) → ((o : Operand) (f : Found) → NamesRange v (get_or os j o) (get_or fs j f))
-    → (o : Operand) (f : Found) → NamesRange v (get_or os j o) (get_or (set fs k r) j f)
+kept_leaf : (v : Vector) (os : List Operand) (fs : List EntryRange) (k : ℕ) (r : EntryRange) → k < length fs → ((o : Operand) → NamesRange v (get_or os k o) r) → (j : ℕ) → ((o : Operand) (f : EntryRange) → NamesRange v (get_or os j o) (get_or fs j f))
+    → (o : Operand) (f : EntryRange) → NamesRange v (get_or os j o) (get_or (set fs k r) j f)
 kept_leaf v os fs k r l h j g o f = elim (cases_Bool (eqb j k)) [
   | inl t ↦
       let e = eqb-true j k t in
       let a : NamesRange v (get_or os j o) r = subst (λ i. NamesRange v (get_or os i o) r) (sym e) (h o) in
-      subst (λ (x : Found). NamesRange v (get_or os j o) x) (sym (ap (λ i. get_or (set fs k r) i f) e ∙ get_or-set_same fs k r f l)) a
+      subst (λ (x : EntryRange). NamesRange v (get_or os j o) x) (sym (ap (λ i. get_or (set fs k r) i f) e ∙ get_or-set_same fs k r f l)) a
   | inr t ↦
       let n : j ≢ k = λ e. (let q = eq-eqb j k e in let x : ⊥ = cc in x) in
       rw get_or-set_other (g o f)
 ]
 
-pub found_kept : (v : Vector) (os : List Operand) (fs : List Found) (k : ℕ) (r : Found) → k < length fs → ((o : Operand) → NamesRange v (get_or os k o) r) → (n : Node) → FoundFor v os fs n → FoundFor v os (set fs k r) n
+pub found_kept : (v : Vector) (os : List Operand) (fs : List EntryRange) (k : ℕ) (r : EntryRange) → k < length fs → ((o : Operand) → NamesRange v (get_or os k o) r) → (n : Node) → RangeFor v os fs n → RangeFor v os (set fs k r) n
 found_kept v os fs k r l h (Leaf j) g = kept_leaf v os fs k r l h j g
 found_kept v os fs k r l h Not g = tt
 found_kept v os fs k r l h And g = tt
@@ -61,7 +61,7 @@ found_kept v os fs k r l h Or g = tt
 found_kept v os fs k r l h (Phrase n) g = tt
 
 -- what names no lexeme has no place
-pub no_place : (v : Vector) (o : Operand) (f : Found) → NamesRange v o f → f.end ≤ f.first → (p : ℕ) → Contains (places o v) p → ⊥
+pub no_place : (v : Vector) (o : Operand) (f : EntryRange) → NamesRange v o f → f.end ≤ f.first → (p : ℕ) → Contains (places o v) p → ⊥
 no_place v o f i h p c = let s = stands_in v o f p i c in let a = s.from in let b = s.below in omega arith
 
 -- a phrase does not hold where an operand that it needs has no place

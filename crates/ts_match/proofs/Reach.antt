@@ -45,7 +45,7 @@ within_up k i e b (joined (phrase_joint n) x y) =
     both_up w (steps k i (Within e b) x) (steps (k + count_in x) (i + nodes_in x) (Within f b) y) (Phrase n) (Within e b)
     (more_up (e + width x) w _ (omega arith) (within_up k i e b x)) (more_up (f + width y) w _ (omega arith) (within_up (k + count_in x) (i + nodes_in x) f b y)) (omega arith)
 
--- a step that stands as far back as the whole is wide
+-- a step that is as far back as the whole is wide
 record Farthest (ss : List Step) (w : ℕ) : Type 0 where
   step : Step
   there : Contains ss step

@@ -9,11 +9,11 @@ use Rattle.ts_base.specs.Vectors.{Vector}
 use Rattle.ts_query.specs.declared.query.Node.TheVariants.{Leaf, Not, And, Or, Phrase}
 use Rattle.ts_query.specs.declared.query.Operand.{Operand}
 use Rattle.ts_query.specs.Queries.{Tree, leaf, negated, joined, or_joint, and_joint, phrase_joint, nodes_in}
-use Rattle.ts_match.specs.declared.found.TheConstants.{FARTHEST}
+use Rattle.ts_match.specs.declared.ranges.TheConstants.{FARTHEST}
 use Rattle.ts_match.specs.declared.work.Place.TheVariants.{Outside, Within}
 use Rattle.ts_match.specs.declared.work.Step.{Step}
 use Rattle.ts_match.specs.Meaning.{width, at, places, is_place}
-use Rattle.ts_match.specs.Inner.Found.{stands_at}
+use Rattle.ts_match.specs.Inner.Ranges.{stands_at}
 use Rattle.ts_match.specs.Plan.{count_in, steps}
 use Rattle.ts_match.specs.Inner.Phrases.{HasNumbers, IsPhraseOf, place_from, no_operand, leaf_value, truth_step}
 use Rattle.ts_match.proofs.Places.{there, truth, at_start, agree}

@@ -21,7 +21,7 @@ use Rattle.ts_match.specs.Inner.Phrases.{HasNumbers, IsPhraseOf, StandsWithin, S
 use Rattle.ts_match.proofs.Plans.{length-steps, length-plan_of}
 use Rattle.ts_match.proofs.PlanSteps.{numbered}
 
--- all steps of a part of a phrase stand within it
+-- all steps of a part of a phrase are within it
 within_steps : (k m e : ℕ) (b : Bool) (t : Tree) → All (λ s. StandsWithin s.place) (steps k m (Within e b) t)
 within_steps k m e b (leaf o) = All-cons (λ (s : Step). StandsWithin s.place) (record { node = Leaf k; place = Within e b }) [] tt (All-nil (λ s. StandsWithin s.place))
 within_steps k m e b (negated x) =
@@ -86,7 +86,7 @@ slice_mid pre mid post a b e f =
     ap (λ k. take k (drop a (pre ++ (mid ++ post)))) n ∙ ap (λ k. take (length mid) (drop k (pre ++ (mid ++ post)))) e
     ∙ ap (take (length mid)) (drop_all pre (mid ++ post)) ∙ take_all mid post
 
--- where steps stand in a plan
+-- where steps are in a plan
 pub record Stands (ss part : List Step) (m : ℕ) : Type 0 where
   pub before : List Step
   pub behind : List Step

@@ -1,4 +1,4 @@
--- What an operand finds in a spelled vector, walked from its beginning.
+-- What an operand finds in an encoded vector, walked from its beginning.
 use Rattle.std.proofs.Common.{◌≡◌, ℕ, zero, suc, ◌+◌, ◌-◌, ◌<◌, ◌≤◌, Bool, true, false, ◌&&◌, ◌||◌, eqb, nat_eq, List, [], ◌∷◌, ◌++◌, length, get_or, take, drop, inl, inr, refl, sym, ap, subst, ◌∙◌, arith}
 use Rattle.std.specs.Prelude.{Contains}
 use Rattle.std.specs.List.{list_any, list_all, flat_map, starts_with, slice_range}
@@ -9,7 +9,7 @@ use Rattle.ts_base.specs.Lexemes.{IsBefore}
 use Rattle.ts_base.specs.Vectors.{Position, Entry, Vector, IsNormal}
 use Rattle.ts_query.specs.declared.query.Operand.{Operand}
 use Rattle.ts_match.specs.Meaning.{names}
-use Rattle.ts_match.specs.Inner.Found.{NamesRange}
+use Rattle.ts_match.specs.Inner.Ranges.{NamesRange}
 use Rattle.ts_match.specs.Laws.Elements.{Contains-here, Contains-there}
 use Rattle.ts_match.proofs.Lists.{Contains-flat_map, from_flat_map, from_part, in_part, passing_part}
 use Rattle.ts_match.proofs.Order.{not_before_itself, before_trans, prefix_first, between_prefix}
@@ -33,7 +33,7 @@ to_prefix o l e = rw e refl
 pub to_word : (o : Operand) (l : List ℕ) → o.prefix ≡ false → names o l ≡ pointwise nat_eq l o.lexeme
 to_word o l e = rw e refl
 
--- what is named is not before the operand's lexeme, and nothing behind what is neither is named
+-- what is named is not before the operand's lexeme, and nothing after what is neither is named
 named_cases : (o : Operand) (l : List ℕ) (b : Bool) → o.prefix ≡ b → names o l ≡ true → IsBefore l o.lexeme → ⊥
 named_cases o l true e n h = prefix_first o.lexeme l (sym (to_prefix o l e) ∙ n) h
 named_cases o l false e n h =

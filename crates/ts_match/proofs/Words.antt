@@ -1,11 +1,11 @@
--- Rows of places by their words.
+-- Bit sets of places by their words.
 use Rattle.std.proofs.Common.{◌≡◌, ◌≢◌, ℕ, ◌+◌, ◌-◌, ◌*◌, ◌/◌, ◌%◌, ◌^◌, ◌<◌, ◌≤◌, Bool, true, false, not, ◌&&◌, ◌||◌, eqb, List, set, get_or, length, get_or-set_other, get_or-set_same, ◌⊎◌, inl, inr, refl, sym, ap, ◌∙◌, arith}
 use Rattle.std.specs.Prelude.{min, max, bit_and, bit_or, IsTrue}
 use Rattle.std.specs.Int.{bit_at, trailing_zeros, w64}
 use Rattle.std.proofs.lemmas.Bool.{cases_lt, lt-ltb, le-ltb, eq-eqb, ne_eqb, eqb-true, cases_Bool}
 use Rattle.std.proofs.lemmas.Nat.Bits.{bit_at_and, bit_at_or, bit_at-zero, bit_at-lt, bit_at_set_same, bit_at_set_other, bit_at-trailing_zeros}
-use Rattle.ts_match.specs.declared.rows.TheConstants.{WORD}
-use Rattle.ts_match.specs.Inner.Rows.{word_bit, value_in}
+use Rattle.ts_match.specs.declared.bit_sets.TheConstants.{WORD}
+use Rattle.ts_match.specs.Inner.BitSets.{word_bit, value_in}
 
 -- a bit is 0 or 1
 bit_cases : (n i : ℕ) → (bit_at n i ≡ 0) ⊎ (bit_at n i ≡ 1)
@@ -33,7 +33,7 @@ word_of count j h = omega arith
 bit_of : (j : ℕ) → j % WORD < WORD
 bit_of j = omega arith
 
--- the value of a row, word by word
+-- the value of a bit set, word by word
 abbrev pub Value : ℕ → List ℕ → Bool → (ℕ → Bool) → Type 0
 Value count ws rest f = (j : ℕ) → value_in count ws rest j ≡ f j
 

@@ -6,7 +6,7 @@ use Rattle.ts_query.specs.declared.query.Operand.{Operand}
 use Rattle.ts_query.specs.Queries.{Tree, leaf, negated, joined, or_joint, and_joint, phrase_joint}
 use Rattle.ts_match.specs.Meaning.{places, is_place, width, at, HoldsSomewhere}
 
--- the operands, each with its offset: how far it stands behind the beginning of the phrase, where the tree begins at `from`
+-- the operands, each with its offset: how far it is after the beginning of the phrase, where the tree begins at `from`
 abbrev pub offsets : Tree → ℕ → List (Operand × ℕ)
 offsets (leaf o) from = (o, from) ∷ []
 offsets (negated x) from = offsets x from
@@ -14,11 +14,11 @@ offsets (joined or_joint x y) from = offsets x from ++ offsets y from
 offsets (joined and_joint x y) from = offsets x from ++ offsets y from
 offsets (joined (phrase_joint n) x y) from = offsets x from ++ offsets y (from + (width x + n))
 
--- the place of the tree where an operand of this offset stands at p
+-- the place of the tree where an operand of this offset is at p
 abbrev pub place_by : Tree → ℕ → ℕ → ℤ
 place_by t offset p = (pos p -ℤ pos offset) +ℤ pos (width t)
 
--- each place at which some operand stands where it has a position; and the end of a phrase that begins at 0 at the latest, where none does
+-- each place at which some operand is where it has a position; and the end of a phrase that begins at 0 at the latest, where none is
 abbrev pub candidates : Vector → Tree → List ℤ
 candidates v t = nowhere ∷ flat_map (λ k. map (place_by t k.1) (places k.0 v)) (offsets t 0)
   where

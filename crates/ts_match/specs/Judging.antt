@@ -39,7 +39,7 @@ abbrev pub given : Operand → List Tri → Tri
 given o [] = Maybe
 given o (t ∷ ts) = if asks_any o.weights then t else at_most_maybe t
 
--- the values behind those of the operands of x
+-- the values after those of the operands of x
 abbrev pub right_values : Tree → List Tri → List Tri
 right_values x values = drop (length (operands_in x)) values
 

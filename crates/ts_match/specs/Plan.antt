@@ -1,4 +1,4 @@
--- A query laid out for matching: its nodes in postfix order, each with the place where it stands.
+-- A query laid out for matching: its nodes in postfix order, each with the place where it is.
 use Rattle.std.specs.Prelude.{ℕ, ◌+◌, true, false, List, [], ◌∷◌, ◌++◌, length, None, Some}
 use Rattle.ts_query.specs.declared.query.Node.TheVariants.{Leaf, Not}
 use Rattle.ts_query.specs.Queries.{Tree, leaf, negated, joined, Joint, or_joint, and_joint, phrase_joint, Query, operands_in, nodes_in}
@@ -11,7 +11,7 @@ use Rattle.ts_match.specs.Meaning.{width}
 abbrev pub count_in : Tree → ℕ
 count_in t = length (operands_in t)
 
--- Where the operands of an operator stand, given where it stands itself. Outside phrases a node has the step that is next where
+-- Where the operands of an operator are, given where it is itself. Outside phrases a node has the step that is next where
 -- it is true and the one where it is false. Within a phrase it has its offset from the phrase's beginning, and whether the phrase
 -- needs it: it is neither under a `!` nor under a `|`.
 abbrev pub under_not : Place → Place
@@ -44,7 +44,7 @@ steps k m p (joined j x y) =
     steps k m (left_place j (m + nodes_in x) p) x ++ steps (k + count_in x) (m + nodes_in x) (right_place j (width x) p) y
     ++ record { node = joint_node j; place = p } ∷ []
 
--- behind the last step comes the end where the query holds, and behind that the one where it does not
+-- after the last step comes the end where the query holds, and after that the one where it does not
 abbrev pub plan_of : Query → List Step
 plan_of None = []
 plan_of (Some t) = steps 0 0 (Outside (nodes_in t) (nodes_in t + 1)) t

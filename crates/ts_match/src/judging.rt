@@ -8,7 +8,7 @@ ghost use Rattle.ts_match.specs.Inner.Phrases.{IsStep, HasOperand};
 ghost use Rattle.ts_match.specs.Plan.{plan_of};
 ghost use Rattle.ts_match.specs.Inner.Weighing.{given_at, leaf_answer, negated_answer, weighed};
 
-use crate::found::any_weight;
+use crate::ranges::any_weight;
 use crate::stack::{put, take_top};
 use crate::work::{MatchWork, Place, Step};
 use ts_base::Tri;

@@ -2,7 +2,7 @@
 #![tactic(auto)]
 
 mod class;
-mod found;
+mod ranges;
 mod judging;
 mod keys;
 mod laws;
@@ -10,9 +10,9 @@ mod layout;
 mod matching;
 mod pass;
 mod phrase;
-mod rows;
+mod bit_sets;
 mod seen;
-mod spelled;
+mod encoded;
 mod stack;
 mod work;
 
@@ -20,5 +20,5 @@ pub use class::{TextJudge, text_class};
 pub use judging::judge;
 pub use keys::{query_keys, vector_keys};
 pub use laws::{candidates_suffice, judges_well, needed_have};
-pub use matching::{matches, matches_in};
+pub use matching::{matches, matches_encoded};
 pub use work::MatchWork;

@@ -8,15 +8,15 @@ ghost use Rattle.ts_match.specs.Plan.{plan_of};
 ghost use Rattle.ts_match.specs.declared.work.Place.TheVariants.{Within};
 ghost use Rattle.ts_match.specs.declared.work.Step.{Step as StepOf};
 ghost use Rattle.ts_match.specs.Inner.Plan.{next_of};
-ghost use Rattle.ts_match.specs.Inner.Heights.{SameRows, HasRows};
+ghost use Rattle.ts_match.specs.Inner.Heights.{SameBitSets, HasBitSets};
 ghost use Rattle.ts_match.specs.Inner.Pass.{AreBounds};
-ghost use Rattle.ts_match.specs.Inner.Phrases.{IsPhraseOf, IsStep, HasOperand, HasFound, StandsWithin, StandsOutside, IsUnitNode, operand_at};
+ghost use Rattle.ts_match.specs.Inner.Phrases.{IsPhraseOf, IsStep, HasOperand, HasRange, StandsWithin, StandsOutside, IsUnitNode, operand_at};
 
-use crate::found::Found;
-use crate::layout::holds_by_rows;
+use crate::ranges::EntryRange;
+use crate::layout::holds_by_bit_sets;
 use crate::pass::{Bounds, find_bounds, found_for};
 use crate::phrase::{Phrase, is_needed, phrase_holds};
-use crate::rows::Rows;
+use crate::bit_sets::BitSets;
 use crate::seen::Seen;
 use crate::work::{MatchWork, Place, Step};
 use ts_query::{Node, Operand, TsQuery};
@@ -28,14 +28,14 @@ fn find_leaf(
     operands: &[Operand],
     bounds: &[Bounds],
     step: Step,
-    found: &mut Vec<Found>,
+    found: &mut Vec<EntryRange>,
 ) -> bool
     requires room { length operands.now ≤ vec_len found.old }
     requires operand { HasOperand (length operands.now) step.node }
     requires bounds { AreBounds vector.now operands.now bounds.now }
-    ensures here { HasFound vector.now operands.now found.new.items step }
-    ensures others { (s : StepOf) → HasFound vector.now operands.now found.old.items s
-        → HasFound vector.now operands.now found.new.items s }
+    ensures here { HasRange vector.now operands.now found.new.items step }
+    ensures others { (s : StepOf) → HasRange vector.now operands.now found.old.items s
+        → HasRange vector.now operands.now found.new.items s }
     ensures lacking { result ≡ false → (k : ℕ) × (e : ℕ) × (step
         ≡ record { node = Leaf k; place = Within e true })
         × ((p : ℕ) → Contains (places (operand_at operands.now k) vector.now) p → ⊥) }
@@ -59,13 +59,13 @@ fn find_leaves(
     operands: &[Operand],
     bounds: &[Bounds],
     steps: &[Step],
-    found: &mut Vec<Found>,
+    found: &mut Vec<EntryRange>,
 ) -> bool
     requires room { length operands.now ≤ vec_len found.old }
     requires bounds { AreBounds vector.now operands.now bounds.now }
     requires steps { All (IsStep (length operands.now)) steps.now }
     ensures found { IsTrue result
-        → All (HasFound vector.now operands.now found.new.items) steps.now }
+        → All (HasRange vector.now operands.now found.new.items) steps.now }
     ensures lacking { result ≡ false → IsNormal vector.now → (t : Tree)
         → IsPhraseOf operands.now steps.now t → ¬ HoldsSomewhere vector.now t }
     ensures len { vec_len found.new ≡ vec_len found.old }
@@ -84,8 +84,8 @@ fn phrase_value(
     operands: &[Operand],
     bounds: &[Bounds],
     steps: &[Step],
-    found: &mut Vec<Found>,
-    rows: &mut Rows,
+    found: &mut Vec<EntryRange>,
+    bit_sets: &mut BitSets,
     truths: &mut Vec<bool>,
 ) -> bool
     requires bounds { AreBounds vector.now operands.now bounds.now }
@@ -93,11 +93,11 @@ fn phrase_value(
     requires steps { All (IsStep (length operands.now)) steps.now }
     requires truths { length steps.now ≤ vec_capacity truths.old }
     requires phrase { (t : Tree) × IsPhraseOf operands.now steps.now t }
-    requires rows { HasRows steps.now rows.old.stack.items rows.old.spare.items }
+    requires bit_sets { HasBitSets steps.now bit_sets.old.stack.items bit_sets.old.spare.items }
     ensures meaning { (t : Tree) → IsPhraseOf operands.now steps.now t
         → IsTrue result ↔ ((stripped_vector vector.now ≡ false) × HoldsSomewhere vector.now t) }
-    ensures rows { SameRows rows.old.stack.items rows.old.spare.items rows.new.stack.items
-        rows.new.spare.items }
+    ensures bit_sets { SameBitSets bit_sets.old.stack.items bit_sets.old.spare.items bit_sets.new.stack.items
+        bit_sets.new.spare.items }
     ensures found { vec_len found.new ≡ vec_len found.old }
     ensures truths { vec_capacity truths.new ≡ vec_capacity truths.old }
 {
@@ -113,7 +113,7 @@ fn phrase_value(
         found: found.as_slice(),
         steps,
     };
-    match holds_by_rows(&phrase, rows) {
+    match holds_by_bit_sets(&phrase, bit_sets) {
         Some(holds) => holds,
         None => phrase_holds(&phrase, truths),
     }
@@ -126,8 +126,8 @@ fn unit_value(
     bounds: &[Bounds],
     steps: &[Step],
     node: Node,
-    found: &mut Vec<Found>,
-    rows: &mut Rows,
+    found: &mut Vec<EntryRange>,
+    bit_sets: &mut BitSets,
     truths: &mut Vec<bool>,
 ) -> bool
     requires bounds { AreBounds vector.now operands.now bounds.now }
@@ -138,13 +138,13 @@ fn unit_value(
     requires truths { length steps.now ≤ vec_capacity truths.old }
     requires phrase { (n : ℕ) → node ≡ PhraseNode n
         → (t : Tree) × IsPhraseOf operands.now steps.now t }
-    requires rows { HasRows steps.now rows.old.stack.items rows.old.spare.items }
+    requires bit_sets { HasBitSets steps.now bit_sets.old.stack.items bit_sets.old.spare.items }
     ensures leaf { (k : ℕ) → node ≡ Leaf k → result
         ≡ is_met (operand_at operands.now k) vector.now }
     ensures phrase { (n : ℕ) (t : Tree) → node ≡ PhraseNode n → IsPhraseOf operands.now steps.now t
         → IsTrue result ↔ ((stripped_vector vector.now ≡ false) × HoldsSomewhere vector.now t) }
-    ensures rows { SameRows rows.old.stack.items rows.old.spare.items rows.new.stack.items
-        rows.new.spare.items }
+    ensures bit_sets { SameBitSets bit_sets.old.stack.items bit_sets.old.spare.items bit_sets.new.stack.items
+        bit_sets.new.spare.items }
     ensures found { vec_len found.new ≡ vec_len found.old }
     ensures truths { vec_capacity truths.new ≡ vec_capacity truths.old }
 {
@@ -154,12 +154,12 @@ fn unit_value(
             let range = found_for(vector, operands, bounds, k);
             vector.meets(&operands[k], range)
         }
-        Node::Phrase(_) => phrase_value(vector, operands, bounds, steps, found, rows, truths),
+        Node::Phrase(_) => phrase_value(vector, operands, bounds, steps, found, bit_sets, truths),
         _ => unreachable!(),
     }
 }
 
-/// The first step from an index on that stands outside phrases.
+/// The first step from an index on that is outside phrases.
 fn end_of_unit(steps: &[Step], from: usize) -> usize
     requires { from ≤ length steps.now }
     ensures from { from ≤ result }
@@ -195,18 +195,18 @@ fn evaluate(
     steps: &[Step],
     vector: &Seen,
     bounds: &[Bounds],
-    found: &mut Vec<Found>,
-    rows: &mut Rows,
+    found: &mut Vec<EntryRange>,
+    bit_sets: &mut BitSets,
     truths: &mut Vec<bool>,
 ) -> bool
     requires plan { steps.now ≡ plan_of query.now }
     requires bounds { AreBounds vector.now (operands_of query.now) bounds.now }
     requires found { length steps.now ≤ vec_len found.old }
     requires truths { length steps.now ≤ vec_capacity truths.old }
-    requires rows { HasRows steps.now rows.old.stack.items rows.old.spare.items }
+    requires bit_sets { HasBitSets steps.now bit_sets.old.stack.items bit_sets.old.spare.items }
     ensures meaning { IsTrue result ↔ Holds query.now vector.now }
-    ensures rows { SameRows rows.old.stack.items rows.old.spare.items rows.new.stack.items
-        rows.new.spare.items }
+    ensures bit_sets { SameBitSets bit_sets.old.stack.items bit_sets.old.spare.items bit_sets.new.stack.items
+        bit_sets.new.spare.items }
     ensures found { vec_len found.new ≡ vec_len found.old }
     ensures truths { vec_capacity truths.new ≡ vec_capacity truths.old }
 {
@@ -220,7 +220,7 @@ fn evaluate(
         let step = steps[end];
         let unit = &steps[from..end + 1];
         let value = unit_value(
-            vector, operands, bounds, unit, step.node, found, rows, truths,
+            vector, operands, bounds, unit, step.node, found, bit_sets, truths,
         );
         from = next_step(step.place, value);
     }
@@ -239,14 +239,14 @@ pub fn matches(query: &TsQuery, work: &mut MatchWork, vector: &TsVector) -> bool
         &Seen::listed(vector),
         &[],
         &mut work.found,
-        &mut work.rows,
+        &mut work.bit_sets,
         &mut work.truths,
     )
 }
 
-/// Whether the vector with this spelling satisfies the query, by work that was made for the query.
-/// The spelling is read where it lies, and no memory is taken.
-pub fn matches_in(query: &TsQuery, work: &mut MatchWork, vector: &VectorBytes) -> bool
+/// Whether the vector with this encoding satisfies the query, by work that was made for the query.
+/// The encoding is read where it lies, and no memory is taken.
+pub fn matches_encoded(query: &TsQuery, work: &mut MatchWork, vector: &VectorBytes) -> bool
     requires { work.old ≡ plan_of query.now }
     ensures meaning { IsTrue result ↔ Holds query.now vector.now }
     ensures work { work.new ≡ work.old }
@@ -255,10 +255,10 @@ pub fn matches_in(query: &TsQuery, work: &mut MatchWork, vector: &VectorBytes) -
     evaluate(
         query,
         &work.steps,
-        &Seen::spelled(vector),
+        &Seen::encoded(vector),
         work.bounds.as_slice(),
         &mut work.found,
-        &mut work.rows,
+        &mut work.bit_sets,
         &mut work.truths,
     )
 }

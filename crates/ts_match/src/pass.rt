@@ -1,13 +1,13 @@
-// One walk over the entries of a spelled vector, which finds what each operand names.
+// One walk over the entries of an encoded vector, which finds what each operand names.
 ghost use Rattle.std.specs.Prelude.{◌≡◌, ℕ, ◌-◌, ◌<◌, [], ◌∷◌, List, false, None, IsTrue, IfSome, length, slice_index_or, vec_len};
 ghost use Rattle.ts_base.specs.Vectors.{Entry, Vector, IsNormal};
 ghost use Rattle.ts_query.specs.declared.query.Operand.{Operand as OperandOf};
-ghost use Rattle.ts_match.specs.Inner.Found.{NamesRange};
+ghost use Rattle.ts_match.specs.Inner.Ranges.{NamesRange};
 ghost use Rattle.ts_match.specs.Inner.Pass.{IsShort, AreShort, Splits, IsAt, IsBounds, AreBounds};
 
-use crate::found::Found;
+use crate::ranges::EntryRange;
 use crate::seen::Seen;
-use crate::spelled::names;
+use crate::encoded::names;
 use std::alloc::{AllocError, Global};
 use std::cmp::Ordering;
 use ts_query::Operand;
@@ -36,7 +36,7 @@ pub struct Mark {
 pub struct Bounds {
     /// The index of the first one.
     pub first: Option<usize>,
-    /// The index behind the last one.
+    /// The index after the last one.
     pub end: Option<usize>,
 }
 
@@ -49,14 +49,14 @@ pub const UNKNOWN: Bounds = Bounds {
 /// A mark with the bytes by which marks are sorted.
 #[derive(Debug, Drop)]
 struct Keyed {
-    /// No lexeme before the mark is greater, and each behind it is.
+    /// No lexeme before the mark is greater, and each after it is.
     key: Vec<u8>,
     /// The mark.
     mark: Mark,
 }
 
-/// A mark of an operand and its bytes. Behind a lexeme comes at once that with a byte 0 more,
-/// and behind all that begin with a prefix comes that with a byte 255, which is in no lexeme.
+/// A mark of an operand and its bytes. After a lexeme comes at once that with a byte 0 more,
+/// and after all that begin with a prefix comes that with a byte 255, which is in no lexeme.
 fn make_keyed(
     alloc: Global,
     operand: &Operand,
@@ -111,14 +111,14 @@ fn is_short(operand: &Operand, side: Side, lexeme: &str) -> bool
     }
 }
 
-/// A walk over the entries of a spelled vector.
+/// A walk over the entries of an encoded vector.
 #[derive(Debug, Drop)]
 struct Walk<'a> {
     /// The lexeme of the entry that was passed last.
     behind: Option<&'a str>,
     /// The lexeme of the entry that was reached.
     ahead: Option<&'a str>,
-    /// The entries behind that one.
+    /// The entries after that one.
     rest: Entries<'a>,
     /// How many entries are not passed.
     left: usize,
@@ -305,17 +305,17 @@ pub fn find_bounds(
 }
 
 /// The entries between what is known of where they begin and end.
-fn range_of(known: Bounds) -> Option<Found>
+fn range_of(known: Bounds) -> Option<EntryRange>
     ensures { (v : Vector) (o : OperandOf) → IsBounds v o known
         → IfSome result (NamesRange v o) }
 {
     let first = known.first?;
     let end = known.end?;
-    Some(Found { first, end })
+    Some(EntryRange { first, end })
 }
 
 /// The entries that an operand names, as a walk found them; where it did not, they are sought.
-pub fn found_for(vector: &Seen, operands: &[Operand], bounds: &[Bounds], k: usize) -> Found
+pub fn found_for(vector: &Seen, operands: &[Operand], bounds: &[Bounds], k: usize) -> EntryRange
     requires operand { k < length operands.now }
     requires bounds { AreBounds vector.now operands.now bounds.now }
     ensures { (o : OperandOf)

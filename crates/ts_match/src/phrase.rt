@@ -6,9 +6,9 @@ ghost use Rattle.ts_match.specs.Meaning.{at, HoldsSomewhere};
 ghost use Rattle.ts_query.specs.declared.query.Node.TheVariants.{Leaf};
 ghost use Rattle.ts_match.specs.declared.work.Place.TheVariants.{Within};
 ghost use Rattle.ts_match.specs.Inner.Plan.{offset_of, needs};
-ghost use Rattle.ts_match.specs.Inner.Phrases.{IsPhraseOf, IsStep, IsPrepared, IsNeeded, HasFound, HoldsWith, place_from, leaf_value, truth_step};
+ghost use Rattle.ts_match.specs.Inner.Phrases.{IsPhraseOf, IsStep, IsPrepared, IsNeeded, HasRange, HoldsWith, place_from, leaf_value, truth_step};
 
-use crate::found::{FARTHEST, Found};
+use crate::ranges::{FARTHEST, EntryRange};
 use crate::seen::{Kind, Seen};
 use crate::stack::{put, take_top};
 use crate::work::{Place as StepPlace, Step};
@@ -24,7 +24,7 @@ pub struct Phrase<'a> {
     /// The operands of the query.
     pub operands: &'a [Operand],
     /// What is found for each of them that the phrase has.
-    pub found: &'a [Found],
+    pub found: &'a [EntryRange],
     /// The steps of the phrase.
     pub steps: &'a [Step],
 }
@@ -55,7 +55,7 @@ pub fn apply(stack: &mut Vec<bool>, node: Node, value: bool)
     }
 }
 
-/// How far behind the phrase's beginning a node stands.
+/// How far after the phrase's beginning a node is.
 pub fn offset(place: StepPlace) -> usize
     ensures { result ≡ offset_of place }
 {
@@ -65,12 +65,12 @@ pub fn offset(place: StepPlace) -> usize
     }
 }
 
-/// Whether the operand of a leaf stands at its offset, where the phrase's beginning is counted as `from`.
+/// Whether the operand of a leaf is at its offset, where the phrase's beginning is counted as `from`.
 fn leaf_at(phrase: &Phrase, step: Step, from: usize) -> bool
     requires ready { IsPrepared phrase.now.vector.now phrase.now.operands.now phrase.now.found.now
         phrase.now.steps.now }
     requires step { IsStep (length phrase.now.operands.now) step }
-    requires found { HasFound phrase.now.vector.now phrase.now.operands.now phrase.now.found.now
+    requires found { HasRange phrase.now.vector.now phrase.now.operands.now phrase.now.found.now
         step }
     requires small { from < 2 ^ 32 }
     ensures { result ≡ leaf_value phrase.now.vector.now phrase.now.operands.now from step }
@@ -105,7 +105,7 @@ fn holds_at(phrase: &Phrase, stack: &mut Vec<bool>, from: usize) -> bool
     take_top(stack, false)
 }
 
-/// Whether the phrase holds where an operand of this offset stands at one of the positions.
+/// Whether the phrase holds where an operand of this offset is at one of the positions.
 fn holds_with_any(
     phrase: &Phrase,
     stack: &mut Vec<bool>,
@@ -133,7 +133,7 @@ fn holds_with_any(
     false
 }
 
-/// Whether the phrase holds where an operand of this offset stands at one of the positions of a spelling.
+/// Whether the phrase holds where an operand of this offset is at one of the positions of an encoding.
 fn holds_with_places(phrase: &Phrase, stack: &mut Vec<bool>, places: Places, offset: usize) -> bool
     requires ready { IsPrepared phrase.now.vector.now phrase.now.operands.now phrase.now.found.now
         phrase.now.steps.now }
@@ -156,12 +156,12 @@ fn holds_with_places(phrase: &Phrase, stack: &mut Vec<bool>, places: Places, off
     false
 }
 
-/// Whether the phrase holds where an operand of this offset stands at a position of what it found in a vector in memory.
+/// Whether the phrase holds where an operand of this offset is at a position of what it found in a vector in memory.
 fn holds_in_lists(
     phrase: &Phrase,
     stack: &mut Vec<bool>,
     vector: &TsVector,
-    found: Found,
+    found: EntryRange,
     offset: usize,
 ) -> bool
     requires ready { IsPrepared phrase.now.vector.now phrase.now.operands.now phrase.now.found.now
@@ -186,8 +186,8 @@ fn holds_in_lists(
     false
 }
 
-/// Whether the phrase holds where an operand of this offset stands at a position of what it found.
-fn holds_in(phrase: &Phrase, stack: &mut Vec<bool>, found: Found, offset: usize) -> bool
+/// Whether the phrase holds where an operand of this offset is at a position of what it found.
+fn holds_in(phrase: &Phrase, stack: &mut Vec<bool>, found: EntryRange, offset: usize) -> bool
     requires ready { IsPrepared phrase.now.vector.now phrase.now.operands.now phrase.now.found.now
         phrase.now.steps.now }
     requires room { length phrase.now.steps.now ≤ vec_capacity stack.old }
@@ -205,20 +205,20 @@ fn holds_in(phrase: &Phrase, stack: &mut Vec<bool>, found: Found, offset: usize)
 {
     match phrase.vector.kind() {
         Kind::Listed(vector) => holds_in_lists(phrase, stack, vector, found, offset),
-        Kind::Spelled(vector) => {
+        Kind::Encoded(vector) => {
             let places = vector.places(found.first, found.end);
             holds_with_places(phrase, stack, places, offset)
         }
     }
 }
 
-/// Whether the phrase holds where the operand of this step stands at one of its positions.
+/// Whether the phrase holds where the operand of this step is at one of its positions.
 fn holds_with(phrase: &Phrase, stack: &mut Vec<bool>, step: Step) -> bool
     requires ready { IsPrepared phrase.now.vector.now phrase.now.operands.now phrase.now.found.now
         phrase.now.steps.now }
     requires room { length phrase.now.steps.now ≤ vec_capacity stack.old }
     requires step { IsStep (length phrase.now.operands.now) step }
-    requires found { HasFound phrase.now.vector.now phrase.now.operands.now phrase.now.found.now
+    requires found { HasRange phrase.now.vector.now phrase.now.operands.now phrase.now.found.now
         step }
     ensures sound { (t : Tree) → IsPhraseOf phrase.now.operands.now phrase.now.steps.now t
         → IsTrue result → HoldsSomewhere phrase.now.vector.now t }
@@ -245,7 +245,7 @@ fn needed_operand(step: Step) -> Option<u16>
     None
 }
 
-/// Whether the phrase needs what stands here.
+/// Whether the phrase needs what is here.
 pub fn is_needed(step: Step) -> bool
     ensures { result ≡ needs step.place }
 {
@@ -275,8 +275,8 @@ fn rarest(phrase: &Phrase) -> Option<Step>
     best
 }
 
-/// Whether the phrase holds. An operand that it needs stands wherever it holds, so the positions of the rarest such operand are
-/// tried, and where there is none those of every operand, and a beginning at which no operand stands.
+/// Whether the phrase holds. An operand that it needs is wherever it holds, so the positions of the rarest such operand are
+/// tried, and where there is none those of every operand, and a beginning at which no operand is.
 pub fn phrase_holds(phrase: &Phrase, stack: &mut Vec<bool>) -> bool
     requires ready { IsPrepared phrase.now.vector.now phrase.now.operands.now phrase.now.found.now
         phrase.now.steps.now }

@@ -1,15 +1,15 @@
-// A vector, in memory or in a spelling.
+// A vector, in memory or in an encoding.
 ghost use Rattle.std.specs.Prelude.{◌≡◌, ℕ, ◌+◌, ◌*◌, ◌<◌, ◌≤◌, ◌==◌, ◌&&◌, ◌||◌, Contains, length, slice_index_or, vec_len};
 ghost use Rattle.std.specs.List.{list_any, slice_range};
 ghost use Rattle.ts_base.specs.Vectors.{Position as PlaceOf, Entry, IsNormal};
 ghost use Rattle.ts_match.specs.Meaning.{fits as fits_weight, is_met, is_stripped as stripped_vector};
-ghost use Rattle.ts_match.specs.Inner.Found.{NamesRange, stands_at};
-ghost use Rattle.ts_match.specs.Inner.Rows.{row_value, IsWide};
+ghost use Rattle.ts_match.specs.Inner.Ranges.{NamesRange, stands_at};
+ghost use Rattle.ts_match.specs.Inner.BitSets.{bit_value, IsWide};
 ghost use Rattle.ts_match.specs.Inner.Seen.{entries_of};
 
-use crate::found::{FARTHEST, Found};
-use crate::rows::{Row, WORD};
-use crate::{found, layout, spelled};
+use crate::ranges::{FARTHEST, EntryRange};
+use crate::bit_sets::{BitSet, WORD};
+use crate::{layout, ranges, encoded};
 use std::marker::Model;
 use ts_base::{LAST_POSITION, Weights};
 use ts_query::Operand;
@@ -20,8 +20,8 @@ use ts_vector::{TsVector, VectorBytes};
 pub enum Kind<'a> {
     /// As lists.
     Listed(&'a TsVector),
-    /// As its spelling.
-    Spelled(&'a VectorBytes<'a>),
+    /// As its encoding.
+    Encoded(&'a VectorBytes<'a>),
 }
 
 /// A vector, whichever way it lies in memory. Contracts see it as the list of its entries.
@@ -51,12 +51,12 @@ impl<'a> Seen<'a> {
         }
     }
 
-    /// A spelled vector.
-    pub fn spelled(vector: &'a VectorBytes<'a>) -> Seen<'a>
+    /// An encoded vector.
+    pub fn encoded(vector: &'a VectorBytes<'a>) -> Seen<'a>
         ensures { result ≡ vector.now }
     {
         Seen {
-            kind: Kind::Spelled(vector),
+            kind: Kind::Encoded(vector),
         }
     }
 
@@ -73,46 +73,46 @@ impl<'a> Seen<'a> {
         ensures normal { IsNormal self.now }
     {
         match self.kind {
-            Kind::Listed(vector) => found::is_stripped(vector),
-            Kind::Spelled(vector) => spelled::is_stripped(vector),
+            Kind::Listed(vector) => ranges::is_stripped(vector),
+            Kind::Encoded(vector) => encoded::is_stripped(vector),
         }
     }
 
     /// The entries that an operand names.
-    pub fn find(&self, operand: &Operand) -> Found
+    pub fn find(&self, operand: &Operand) -> EntryRange
         ensures { NamesRange self.now operand.now result }
     {
         match self.kind {
-            Kind::Listed(vector) => found::find(vector, operand),
-            Kind::Spelled(vector) => spelled::find(vector, operand),
+            Kind::Listed(vector) => ranges::find(vector, operand),
+            Kind::Encoded(vector) => encoded::find(vector, operand),
         }
     }
 
     /// Whether the operand has a position where `sum` says.
-    pub fn stands(&self, operand: &Operand, found: Found, sum: usize) -> bool
+    pub fn stands(&self, operand: &Operand, found: EntryRange, sum: usize) -> bool
         requires normal { IsNormal self.now }
         requires found { NamesRange self.now operand.now found }
         ensures { result ≡ stands_at operand.now self.now sum }
     {
         match self.kind {
-            Kind::Listed(vector) => found::stands(vector, operand, found, sum),
-            Kind::Spelled(vector) => spelled::stands(vector, operand, found, sum),
+            Kind::Listed(vector) => ranges::stands(vector, operand, found, sum),
+            Kind::Encoded(vector) => encoded::stands(vector, operand, found, sum),
         }
     }
 
     /// Whether the operand holds of the vector.
-    pub fn meets(&self, operand: &Operand, found: Found) -> bool
+    pub fn meets(&self, operand: &Operand, found: EntryRange) -> bool
         requires { NamesRange self.now operand.now found }
         ensures { result ≡ is_met operand.now self.now }
     {
         match self.kind {
-            Kind::Listed(vector) => found::meets(vector, operand, found),
-            Kind::Spelled(vector) => spelled::meets(vector, operand, found),
+            Kind::Listed(vector) => ranges::meets(vector, operand, found),
+            Kind::Encoded(vector) => encoded::meets(vector, operand, found),
         }
     }
 
     /// The greatest position of the entries that were found.
-    pub fn last_in(&self, found: Found) -> usize
+    pub fn last_in(&self, found: EntryRange) -> usize
         requires normal { IsNormal self.now }
         requires within { found.end ≤ length self.now }
         ensures each { (i : ℕ) (e : Entry) (p : PlaceOf) → found.first ≤ i → i < found.end
@@ -121,37 +121,37 @@ impl<'a> Seen<'a> {
     {
         match self.kind {
             Kind::Listed(vector) => layout::last_in(vector, found),
-            Kind::Spelled(vector) => spelled::last_in(vector, found),
+            Kind::Encoded(vector) => encoded::last_in(vector, found),
         }
     }
 
     /// How many positions the entries have that were found.
-    pub fn count_positions(&self, found: Found) -> usize
+    pub fn count_positions(&self, found: EntryRange) -> usize
         requires { found.end ≤ length self.now }
     {
         match self.kind {
-            Kind::Listed(vector) => found::count_positions(vector, found),
-            Kind::Spelled(vector) => spelled::count_positions(vector, found),
+            Kind::Listed(vector) => ranges::count_positions(vector, found),
+            Kind::Encoded(vector) => encoded::count_positions(vector, found),
         }
     }
 
-    /// Lets a row be true also at each position of a fitting weight that the found entries have, moved by `by`.
-    pub fn set_found(&self, row: &mut Row, count: usize, found: Found, weights: Weights, by: usize)
-        requires wide { IsWide count row.old }
+    /// Lets a bit set be true also at each position of a fitting weight that the found entries have, moved by `by`.
+    pub fn set_found(&self, bits: &mut BitSet, count: usize, found: EntryRange, weights: Weights, by: usize)
+        requires wide { IsWide count bits.old }
         requires near { by ≤ FARTHEST }
         requires order { found.first ≤ found.end }
         requires end { found.end ≤ length self.now }
         requires within { (i : ℕ) (e : Entry) (p : PlaceOf) → found.first ≤ i → i < found.end
             → Contains (slice_index_or self.now i e).positions p → p.at + by < WORD * count }
-        ensures value { (j : ℕ) → row_value count row.new j
-            ≡ (row_value count row.old j || list_any (λ e. list_any (λ p. (j == p.at + by)
+        ensures value { (j : ℕ) → bit_value count bits.new j
+            ≡ (bit_value count bits.old j || list_any (λ e. list_any (λ p. (j == p.at + by)
             && fits_weight weights p.weight) e.positions) (slice_range self.now found.first
             found.end)) }
-        ensures len { vec_len row.new.words ≡ vec_len row.old.words }
+        ensures len { vec_len bits.new.words ≡ vec_len bits.old.words }
     {
         match self.kind {
-            Kind::Listed(vector) => layout::set_found(row, count, vector, found, weights, by),
-            Kind::Spelled(vector) => spelled::set_found(row, count, vector, found, weights, by),
+            Kind::Listed(vector) => layout::set_found(bits, count, vector, found, weights, by),
+            Kind::Encoded(vector) => encoded::set_found(bits, count, vector, found, weights, by),
         }
     }
 }

@@ -6,30 +6,30 @@ ghost use Rattle.ts_match.specs.declared.work.Due.TheVariants.{At};
 ghost use Rattle.ts_match.specs.Plan.{plan_of, under_not, right_place};
 ghost use Rattle.ts_match.specs.Inner.Plan.{left_widths_of, left_width, measured, distance, spread_on, left_due, due_place, offset_of};
 
-use crate::found::Found;
+use crate::ranges::EntryRange;
 use crate::pass::{Bounds, Mark, UNKNOWN, make_marks};
-use crate::rows::{Rows, make_rows};
+use crate::bit_sets::{BitSets, make_bit_sets};
 use crate::stack::{put, take_top};
 use std::alloc::{AllocError, Global};
 use std::marker::Model;
 use ts_base::Tri;
 use ts_query::{Node, TsQuery};
 
-/// Where a node of a query stands.
+/// Where a node of a query is.
 #[derive(Clone, Copy, Debug, PartialEq, Eq)]
 pub enum Place {
     /// Outside phrases; and the step that is next where the node is true, and where it is false.
     Outside { on_true: usize, on_false: usize },
-    /// Within a phrase, this far behind its beginning; and whether the phrase needs it.
+    /// Within a phrase, this far after its beginning; and whether the phrase needs it.
     Within { offset: usize, needed: bool },
 }
 
-/// A node of a query and where it stands.
+/// A node of a query and where it is.
 #[derive(Clone, Copy, Debug, PartialEq, Eq)]
 pub struct Step {
     /// The node.
     pub node: Node,
-    /// Where it stands.
+    /// Where it is.
     pub place: Place,
 }
 
@@ -39,10 +39,10 @@ pub enum Due {
     /// The place.
     At(Place),
     /// The left operand of a `&` outside phrases; and the step that is next where it is false.
-    /// Where it is true, the step behind it is next.
+    /// Where it is true, the step after it is next.
     LeftOfAnd { on_false: usize },
     /// The left operand of a `|` outside phrases; and the step that is next where it is true.
-    /// Where it is false, the step behind it is next.
+    /// Where it is false, the step after it is next.
     LeftOfOr { on_true: usize },
 }
 
@@ -79,7 +79,7 @@ fn measure(stack: &mut Vec<u32>, node: Node) -> u32
     }
 }
 
-/// Where the operand of a `!` stands.
+/// Where the operand of a `!` is.
 fn place_under_not(place: Place) -> Place
     ensures { result ≡ under_not place }
 {
@@ -115,7 +115,7 @@ fn left_of_or(place: Place) -> Due
     }
 }
 
-/// Where the right operand of a `|` stands.
+/// Where the right operand of a `|` is.
 fn right_of_or(place: Place) -> Place
     ensures { result ≡ right_place or_joint 0 place }
 {
@@ -125,7 +125,7 @@ fn right_of_or(place: Place) -> Place
     }
 }
 
-/// Where the operands of a phrase operator stand; the right one begins behind the left one's width and the distance.
+/// Where the operands of a phrase operator are; the right one begins after the left one's width and the distance.
 fn places_in_phrase(place: Place, width: u32, distance: u16) -> (Place, Place)
     requires { offset_of place < 2 ^ 63 }
     ensures left { At result.0 ≡ left_due (phrase_joint distance) place }
@@ -180,7 +180,7 @@ fn spread(due: &mut Vec<Due>, node: Node, width: u32, place: Place)
     }
 }
 
-/// The place of a node, where the step behind it has this index.
+/// The place of a node, where the step after it has this index.
 fn place_before(due: Due, behind: usize) -> Place
     ensures { result ≡ due_place behind due }
 {
@@ -212,7 +212,7 @@ fn left_widths(alloc: Global, query: &TsQuery) -> Result<Vec<u32>, AllocError>
 }
 
 /// The nodes of a query, each with its place. The places are found from the last node back.
-/// Behind the last step comes the end where the query holds, and behind that the one where it does not.
+/// After the last step comes the end where the query holds, and after that the one where it does not.
 fn lay_out(alloc: Global, query: &TsQuery, widths: &[u32]) -> Result<Vec<Step>, AllocError>
     requires { widths.now ≡ left_widths_of query.now }
     ensures { IfOk result (λ steps. steps.items ≡ plan_of query.now) }
@@ -236,14 +236,14 @@ fn lay_out(alloc: Global, query: &TsQuery, widths: &[u32]) -> Result<Vec<Step>, 
     Ok(steps)
 }
 
-/// Room to match one query, and where each of its nodes stands.
+/// Room to match one query, and where each of its nodes is.
 #[derive(Debug, Drop)]
 pub struct MatchWork {
     pub(crate) steps: Vec<Step>,
     pub(crate) marks: Vec<Mark>,
     pub(crate) bounds: Vec<Bounds>,
-    pub(crate) found: Vec<Found>,
-    pub(crate) rows: Rows,
+    pub(crate) found: Vec<EntryRange>,
+    pub(crate) bit_sets: BitSets,
     pub(crate) truths: Vec<bool>,
     pub(crate) answers: Vec<Tri>,
 }
@@ -251,7 +251,7 @@ pub struct MatchWork {
 impl Model for MatchWork {
     ghost use Rattle.std.specs.Prelude.{List, ◌≤◌, length, vec_len, vec_capacity};
     ghost use Rattle.ts_match.specs.declared.work.Step.{Step};
-    ghost use Rattle.ts_match.specs.Inner.Heights.{HasRows};
+    ghost use Rattle.ts_match.specs.Inner.Heights.{HasBitSets};
 
     ghost Value = { List Step };
 
@@ -259,24 +259,24 @@ impl Model for MatchWork {
 
     ghost invariant = { λ work. (length work.steps.items ≤ vec_len work.found) ×
         (length work.steps.items ≤ vec_capacity work.truths) × (length work.steps.items ≤ vec_capacity work.answers) ×
-        HasRows work.steps.items work.rows.stack.items work.rows.spare.items };
+        HasBitSets work.steps.items work.bit_sets.stack.items work.bit_sets.spare.items };
 }
 
 impl MatchWork {
-    /// Stacks that are large enough for the query, a row of places for each level of its phrases, and its operands in the order of a walk.
+    /// Stacks that are large enough for the query, a bit set of places for each level of its phrases, and its operands in the order of a walk.
     pub fn new(alloc: Global, query: &TsQuery) -> Result<MatchWork, AllocError>
         ensures { IfOk result (λ work. work ≡ plan_of query.now) }
     {
         let widths = left_widths(alloc, query)?;
         let steps = lay_out(alloc, query, &widths)?;
         let room = steps.len();
-        let none = Found { first: 0, end: 0 };
+        let none = EntryRange { first: 0, end: 0 };
         let operands = query.operands();
         Ok(MatchWork {
             marks: make_marks(alloc, operands)?,
             bounds: vec![in alloc; UNKNOWN; operands.len()]?,
             found: vec![in alloc; none; room]?,
-            rows: make_rows(alloc, &steps)?,
+            bit_sets: make_bit_sets(alloc, &steps)?,
             truths: Vec::with_capacity(alloc, room)?,
             answers: Vec::with_capacity(alloc, room)?,
             steps,

@@ -61,7 +61,7 @@ end_stops (c ∷ r) h = or_from (is_ascii_digit c) ((c == 46) && begins_piece is
     end_no_digit true e = absurd (false≢true (sym (ends_parts c r h).0 ∙ digit_word_byte c e))
     end_no_digit false e = e
 
--- nor does an exponent stand there
+-- nor is an exponent there
 pub end_no_exponent : (r : List ℕ) → ends_number r ≡ true → exponent_len r ≡ 0
 end_no_exponent [] h = refl
 end_no_exponent (c ∷ r) h = end_by ((c == 69) || (c == 101)) refl

@@ -39,7 +39,7 @@ pub link_inner : (w : List ℕ) → is_link w ≡ true → list_all is_word_byte
 link_inner w h = (and_parts (list_all is_word_byte w) (list_any is_word_letter w) h).0
 
 -- ── the end of a chain ──
--- a link at the front, and what is behind its run
+-- a link at the front, and what is after its run
 link_behind : (r : List ℕ) → begins_link r ≡ true → (u : List ℕ) × (q : List ℕ) × (r ≡ u ++ q) × IsLink u × StartsWithout IsWordByte q
 link_behind r h =
     let u : List ℕ = take (prefix_len is_word_byte r) r in
@@ -68,7 +68,7 @@ stops_chain r h = (
 )
 
 -- ── chains ──
--- a chain stands at the front
+-- a chain is at the front
 abbrev pub is_chain : List ℕ → Bool
 is_chain u = begins_link u && nat_lt (run_len u) (links_len u)
 

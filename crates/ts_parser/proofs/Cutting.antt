@@ -36,7 +36,7 @@ low_byte c h = low_by (cases_lt c 128)
     low_by (inl l) = l
     low_by (inr l) = absurd (h (inl (inr l)))
 
--- behind a byte that is no letter or digit
+-- after a byte that is no letter or digit
 behind_low : (c : ℕ) (b rest : List ℕ) → IsUtf8 ((c ∷ b) ++ rest) → (IsWordByte (get_or (c ∷ b) (length b) 0) → ⊥) → IsCharBoundary ((c ∷ b) ++ rest) (length b + 1)
 behind_low c b rest u h =
     let l = length-append (c ∷ b) rest in

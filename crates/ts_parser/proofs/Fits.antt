@@ -1,4 +1,4 @@
--- What stands at the front of a text is no longer than the text.
+-- What is at the front of a text is no longer than the text.
 use Rattle.std.proofs.Common.{◌≡◌, ℕ, suc, ◌+◌, ◌^◌, ◌<◌, ◌≤◌, List, [], ◌∷◌, ◌++◌, length, Bool, true, false, refl, sym, ap, ◌∙◌, length-append, arith, Option, Some}
 use Rattle.std.specs.List.{join_with_byte}
 use Rattle.ts_parser.specs.declared.forms.Form.{Form}

@@ -1,4 +1,4 @@
--- A type is told by its name, and by its number.
+-- A type is known by its name, and by its number.
 use Rattle.std.proofs.Common.{◌≡◌, ℕ, List, codes, bytes_eq, ◌==◌, if◌then◌else◌, refl, sym, ap, ◌∙◌}
 use Rattle.ts_parser.specs.declared.kinds.TokenType.{TokenType}
 use Rattle.ts_parser.specs.declared.kinds.TokenType.TheVariants.{Asciiword, Word, Numword, Sfloat, Version, HwordNumpart, HwordPart, HwordAsciipart, Blank, Numhword, Asciihword, Hword, Float, Int, Uint}

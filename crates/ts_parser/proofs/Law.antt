@@ -9,11 +9,11 @@ use Rattle.ts_parser.specs.TokensOf.{form_at, token_of, parts_of, tokens_from, t
 use Rattle.ts_parser.proofs.Blanks.{last_push}
 use Rattle.ts_parser.proofs.Fronts.{FrontIs, front_complete, front_sound}
 
--- the tokens behind `before`
+-- the tokens after `before`
 abbrev pub tokens_behind : List ℕ → List ℕ → List Token
 tokens_behind before u = tokens_from 0 (length before) (last_byte before) u
 
--- within a token the next one is that behind it
+-- within a token the next one is that after it
 skipped : (before w r : List ℕ) (n : ℕ) → n ≡ length before → tokens_from (length w) n (last_byte before) (w ++ r) ≡ tokens_behind (before ++ w) r
 skipped before [] r n e = ap (λ m. tokens_from 0 m (last_byte before) r) e ∙ ap (λ z. tokens_behind z r) (sym (append-nil before))
 skipped before (c ∷ w) r n e =
@@ -22,7 +22,7 @@ skipped before (c ∷ w) r n e =
     ∙ skipped (before ++ c ∷ []) w r (n + 1) (omega (arith, e, l))
     ∙ ap (λ z. tokens_behind z r) (append_assoc before (c ∷ []) w)
 
--- the tokens of the form at the front, and those behind it
+-- the tokens of the form at the front, and those after it
 step : (before v r : List ℕ) (f : Form) → 0 < length v → f ≡ form_at (last_byte before) (v ++ r) → f.length ≡ length v
     → tokens_behind before (v ++ r) ≡ (token_of f (length before) ∷ parts_of f.kind (length before) v) ++ tokens_behind (before ++ v) r
 step before [] r f s e l = absurd (omega (arith, s))
@@ -37,7 +37,7 @@ step before (c ∷ v) r f s e l =
     ap (λ i. tokens_from i (n + 1) (Some c) (v ++ r)) m ∙ ap (λ b. tokens_from (length v) (n + 1) b (v ++ r)) (sym (last_push before c)) ∙ skipped (before ++ c ∷ []) v r (n + 1) (omega (arith, k)) ∙ ap (λ z. tokens_behind z r) (append_assoc before (c ∷ []) v) in
     one ∙ two ∙ three ∙ ap (λ ts. token_of f n ∷ (parts_of f.kind n (c ∷ v) ++ ts)) rest
 
--- what a front of the rules gives, before the tokens behind it
+-- what a front of the rules gives, before the tokens after it
 front_step : (before v r : List ℕ) (ts : List Token) → FrontIs before v r ts → tokens_behind before (v ++ r) ≡ ts ++ tokens_behind (before ++ v) r
 front_step before v r ts k =
     step before v r (form_at (last_byte before) (v ++ r)) k.some refl k.size ∙ ap (λ l. l ++ tokens_behind (before ++ v) r) (sym k.tokens)

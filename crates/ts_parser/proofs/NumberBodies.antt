@@ -16,7 +16,7 @@ use Rattle.ts_parser.proofs.Rows.{goes_on, ends_without, Row, row_of}
 use Rattle.ts_parser.proofs.Bodies.{is_group, test_group, test_groups, exponent_of}
 use Rattle.ts_parser.proofs.NumberFronts.{scientific_at, plain_at, number_by, front_is, Body, whole_body, float_body, version_body, sfloat_body}
 
--- a number without its sign stands at the front
+-- a number without its sign is at the front
 pub record BodyAt (signed : Bool) (v : List ℕ) (f : Form) : Type 0 where
   pub body : List ℕ
   pub rest : List ℕ

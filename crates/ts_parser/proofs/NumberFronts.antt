@@ -16,7 +16,7 @@ use Rattle.ts_parser.proofs.Rows.{goes_on, ends_without, row_join, first_piece}
 use Rattle.ts_parser.proofs.ByteTests.{tells_mark, mark_no_digit, mark_no_dot}
 use Rattle.ts_parser.proofs.Bodies.{is_group, group_test, groups_test, group_begins, end_stops, end_no_exponent, exponent_over, one_group, no_one_group, two_groups, no_two_groups}
 
--- with an exponent behind n bytes
+-- with an exponent after n bytes
 abbrev pub scientific_at : ℕ → List ℕ → Option Form
 scientific_at n y = if ends_number (drop (exponent_len y) y) then Some (form Sfloat (n + exponent_len y)) else None
 
@@ -24,7 +24,7 @@ scientific_at n y = if ends_number (drop (exponent_len y) y) then Some (form Sfl
 abbrev pub plain_at : ℕ → List ℕ → TokenType → Option Form
 plain_at n y k = if ends_number y then Some (form k n) else None
 
--- by the groups behind the first one, all of which have n bytes
+-- by the groups after the first one, all of which have n bytes
 abbrev pub number_by : Bool → List (List ℕ) → ℕ → List ℕ → Option Form
 number_by signed [] n y = if nat_lt 0 (exponent_len y) then scientific_at n y else plain_at n y (if signed then Int else Uint)
 number_by signed (h ∷ []) n y = if nat_lt 0 (exponent_len y) then scientific_at n y else plain_at n y Float

@@ -93,7 +93,7 @@ pub number_complete : (before : Option ℕ) (k : TokenType) (v r : List ℕ) →
 number_complete before k v r n = complete_by before k v r (parted k v n.number) n
 
 -- ── and the other way ──
--- a number stands at the front of u
+-- a number is at the front of u
 pub record NumberIn (before : Option ℕ) (u : List ℕ) (f : Form) : Type 0 where
   pub number : List ℕ
   pub rest : List ℕ

@@ -60,7 +60,7 @@ row_within p m s [] (suc i) h = absurd (omega (arith, h))
 row_within p m s (c ∷ u) (suc i) h = row_within_by p m s c u i (goes_on p m s (c ∷ u)) refl (row_within p m s u i) h
 
 -- ── pieces, joined ──
--- behind the first piece comes no byte of it
+-- after the first piece comes no byte of it
 pub record FirstPiece (p : ℕ → Bool) (s : ℕ) (w : List ℕ) (us : List (List ℕ)) (r : List ℕ) : Type 0 where
   pub rest : List ℕ
   pub is : join_with_byte s (w ∷ us) ++ r ≡ w ++ rest

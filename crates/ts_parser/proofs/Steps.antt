@@ -21,7 +21,7 @@ cons_at l j d h = rw (add-one, drop-cons l j d h)
 before_next : (text : List ℕ) (n : ℕ) → n < length text → byte_before text (n + 1) ≡ Some (get_or text n 0)
 before_next text n h = rw ((let e : n + 1 - 1 ≡ n = omega arith in e), slice_get-get_or text n 0 h, ne_eqb (n + 1) 0 (λ e. omega arith))
 
--- within a token the next one is that behind it
+-- within a token the next one is that after it
 skipped : (text : List ℕ) (k n : ℕ) → n + k ≤ length text → tokens_from k n (byte_before text n) (drop n text) ≡ tokens_at text (n + k)
 skipped text zero n h = ap (λ m. tokens_at text m) (let e : n ≡ n + 0 = omega arith in e)
 skipped text (suc k) n h =
@@ -33,7 +33,7 @@ skipped text (suc k) n h =
     ∙ skipped text k (n + 1) (omega (arith, h))
     ∙ ap (λ m. tokens_at text m) (omega arith)
 
--- the token at a place with its parts, and those behind it
+-- the token at a place with its parts, and those after it
 next_token : (text : List ℕ) (n : ℕ) (f : Form) → n < length text → f ≡ form_at (byte_before text n) (drop n text) → 1 ≤ f.length → n + f.length ≤ length text
     → tokens_at text n ≡ token_of f n ∷ (parts_of f.kind n (take f.length (drop n text)) ++ tokens_at text (n + f.length))
 next_token text n f within is some fits =
@@ -86,7 +86,7 @@ next_part text part at f is some fits =
     ap (λ ts. ts ++ tokens_at text at)
     (parts_step_by part (drop part (take at text)) f is some fits ∙ ap (λ z. token_of f part ∷ parts_from 0 (part + f.length) z) (drop-drop f.length part (take at text)))
 
--- the groups of digits behind a token
+-- the groups of digits after a token
 pub groups_left : (text : List ℕ) (at size groups : ℕ) → groups ≡ groups_len (drop at text) → at + size < at + groups → groups_len (drop (at + size) text) + (at + size) ≡ at + groups
 groups_left text at size groups is h =
     let w = row_within is_ascii_digit is_ascii_digit 46 (drop at text) size (omega (arith, h, is)) in

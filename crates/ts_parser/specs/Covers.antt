@@ -20,7 +20,7 @@ is_part HwordAsciipart = true
 is_part Blank = true
 is_part k = false
 
--- The tokens lie side by side, from one offset to another. Behind a hyphen word come its parts, which
+-- The tokens lie side by side, from one offset to another. After a hyphen word come its parts, which
 -- lie side by side from its start to its end.
 pub data Covers : ℕ → List Token → ℕ → Type 0 where
   covered : (s : ℕ) → Covers s [] s

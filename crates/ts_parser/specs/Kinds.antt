@@ -37,7 +37,7 @@ type_name Float = codes "float"
 type_name Int = codes "int"
 type_name Uint = codes "uint"
 
--- whether the parts of such a token are given behind it
+-- whether the parts of such a token are given after it
 abbrev pub has_parts : TokenType → Bool
 has_parts Numhword = true
 has_parts Asciihword = true

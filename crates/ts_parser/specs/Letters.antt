@@ -10,7 +10,7 @@ IsWordLetter c = IsAsciiAlphabetic c ⊎ (128 ≤ c)
 abbrev pub IsWordByte : ℕ → Type 0
 IsWordByte c = IsWordLetter c ⊎ IsAsciiDigit c
 
--- no such byte stands at the front
+-- no such byte is at the front
 abbrev pub StartsWithout : (ℕ → Type 0) → List ℕ → Type 0
 StartsWithout P [] = Unit {0}
 StartsWithout P (c ∷ u) = P c → ⊥

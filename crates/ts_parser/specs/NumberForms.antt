@@ -49,7 +49,7 @@ abbrev pub plain_number : Bool → List ℕ → ℕ → Option Form
 plain_number signed u n = if is_one_group u n then ended u n (if signed then Int else Uint) else
     (if is_two_groups u n then ended u n Float else (if signed then None else ended u n Version))
 
--- whether n bytes are a mantissa with an exponent behind it
+-- whether n bytes are a mantissa with an exponent after it
 abbrev pub is_scientific : List ℕ → ℕ → Bool
 is_scientific u n = (is_one_group u n || is_two_groups u n) && nat_lt 0 (exponent_len (drop n u))
 

@@ -41,25 +41,25 @@ last_byte [] = None
 last_byte (c ∷ []) = Some c
 last_byte (c ∷ d ∷ u) = last_byte (d ∷ u)
 
--- a sign stands only behind the text's start or a byte that is neither a letter nor a digit
+-- a sign is only after the text's start or a byte that is neither a letter nor a digit
 abbrev pub MayStart : Option ℕ → List ℕ → Type 0
 MayStart before u = IfSome before (λ c. IsWordByte c → ⊥) ⊎ StartsWithout IsSign u
 
--- behind a number comes neither a letter, nor a digit, nor a dot with a digit behind it
+-- after a number comes neither a letter, nor a digit, nor a dot with a digit after it
 abbrev pub EndsNumber : List ℕ → Type 0
 EndsNumber [] = Unit {0}
 EndsNumber (c ∷ r) = (IsWordByte c → ⊥) × (c ≡ 46 → StartsWithout IsAsciiDigit r)
 
--- behind the byte `before`, or at the text's start, u is a number, and r follows
+-- after the byte `before`, or at the text's start, u is a number, and r follows
 pub record NumberAt (before : Option ℕ) (k : TokenType) (u r : List ℕ) : Type 0 where
   pub number : IsNumber k u
   pub starts : MayStart before u
   pub ends : EndsNumber r
 
--- no number stands at the front
+-- no number is at the front
 abbrev pub NoNumber : Option ℕ → List ℕ → Type 0
 NoNumber before rest = (k : TokenType) (u r : List ℕ) → rest ≡ u ++ r → NumberAt before k u r → ⊥
 
--- no longer number stands at the front
+-- no longer number is at the front
 abbrev pub IsLongest : Option ℕ → List ℕ → List ℕ → Type 0
 IsLongest before rest u = (k : TokenType) (v r : List ℕ) → rest ≡ v ++ r → NumberAt before k v r → length v ≤ length u

@@ -16,11 +16,11 @@ pub data AreParts : ℕ → List (List ℕ) → List Token → Type 0 where
   more_parts : (s : ℕ) (u v : List ℕ) (us : List (List ℕ)) (k : TokenType) (ts : List Token) → PartKind u k → AreParts (s + length u + 1) (v ∷ us) ts
       → AreParts s (u ∷ v ∷ us) (token k s (length u) ∷ token Blank (s + length u) 1 ∷ ts)
 
--- A number or a run stands behind `before`, at the front of `rest`. Each hyphen word begins with a run.
+-- A number or a run is after `before`, at the front of `rest`. Each hyphen word begins with a run.
 abbrev pub StartsForm : List ℕ → List ℕ → Type 0
 StartsForm before rest = ((k : TokenType) × (u : List ℕ) × (r : List ℕ) × (rest ≡ u ++ r) × NumberAt (last_byte before) k u r) ⊎ ((u : List ℕ) × (r : List ℕ) × (rest ≡ u ++ r) × IsRun u r)
 
--- The first form that applies behind `before`, of number, hyphen word, run and blank, takes the bytes u
+-- The first form that applies after `before`, of number, hyphen word, run and blank, takes the bytes u
 -- and gives these tokens; r follows.
 pub data Front (before : List ℕ) : List ℕ → List ℕ → List Token → Type 0 where
   number : (k : TokenType) (u r : List ℕ) → NumberAt (last_byte before) k u r → IsLongest (last_byte before) (u ++ r) u
@@ -32,7 +32,7 @@ pub data Front (before : List ℕ) : List ℕ → List ℕ → List Token → Ty
   blank : (u r : List ℕ) → 0 < length u → ((i : ℕ) → i < length u → StartsForm (before ++ take i u) (drop i u ++ r) → ⊥)
       → (r ≡ []) ⊎ StartsForm (before ++ u) r → Front before u r (token Blank (length before) (length u) ∷ [])
 
--- the tokens of what stands behind `before`, place after place
+-- the tokens of what is after `before`, place after place
 pub data AreTokens : List ℕ → List ℕ → List Token → Type 0 where
   none : (before : List ℕ) → AreTokens before [] []
   then : (before u r : List ℕ) (ts us : List Token) → Front before u r ts → AreTokens (before ++ u) r us → AreTokens before (u ++ r) (ts ++ us)

@@ -21,7 +21,7 @@ part_kind w = if list_any is_ascii_digit w then HwordNumpart else (if list_all i
 abbrev pub whole_kind : List ℕ → TokenType
 whole_kind w = if list_any is_ascii_digit w then Numhword else (if list_any (nat_lt 127) w then Hword else Asciihword)
 
--- a run with a letter stands at the front
+-- a run with a letter is at the front
 abbrev pub begins_link : List ℕ → Bool
 begins_link u = begins_piece is_word_byte is_word_letter u
 

@@ -6,7 +6,7 @@ use Rattle.ts_parser.specs.Letters.{IsWordLetter, IsWordByte, StartsWithout}
 use Rattle.ts_parser.specs.declared.kinds.TokenType.{TokenType}
 use Rattle.ts_parser.specs.declared.kinds.TokenType.TheVariants.{Asciiword, Word, Numword, HwordNumpart, HwordPart, HwordAsciipart, Numhword, Asciihword, Hword, Uint}
 
--- letters and digits, as many as stand there
+-- letters and digits, as many as are there
 pub record IsRun (u r : List ℕ) : Type 0 where
   pub some : 0 < length u
   pub inner : All IsWordByte u
@@ -37,7 +37,7 @@ pub data WholeKind : List (List ℕ) → TokenType → Type 0 where
   letter_whole : (us : List (List ℕ)) → All (All IsWordLetter) us → Any (Any IsNoAsciiLetter) us → WholeKind us Hword
   digit_whole : (us : List (List ℕ)) → Any (Any IsAsciiDigit) us → WholeKind us Numhword
 
--- behind a chain comes neither a letter nor a digit, nor a hyphen with a link behind it
+-- after a chain comes neither a letter nor a digit, nor a hyphen with a link after it
 abbrev pub EndsChain : List ℕ → Type 0
 EndsChain r = StartsWithout IsWordByte r × ((u q : List ℕ) → r ≡ 45 ∷ (u ++ q) → IsLink u → StartsWithout IsWordByte q → ⊥)
 
@@ -47,6 +47,6 @@ pub record IsChain (us : List (List ℕ)) (r : List ℕ) : Type 0 where
   pub links : All IsLink us
   pub ends : EndsChain r
 
--- no chain stands at the front
+-- no chain is at the front
 abbrev pub NoChain : List ℕ → Type 0
 NoChain rest = (us : List (List ℕ)) (r : List ℕ) → rest ≡ join_with_byte 45 us ++ r → IsChain us r → ⊥

@@ -27,7 +27,7 @@ pub fn is_sign(c: u8) -> bool
     c == b'+' || c == b'-'
 }
 
-/// Whether neither a letter nor a digit stands before a place.
+/// Whether neither a letter nor a digit is before a place.
 pub fn is_free(before: Option<u8>) -> bool
     ensures { result ≡ free_is before }
 {
@@ -37,7 +37,7 @@ pub fn is_free(before: Option<u8>) -> bool
     }
 }
 
-/// Whether a digit stands at the front.
+/// Whether a digit is at the front.
 #[tactic(auto, using(crate::proofs::ByteTests::piece_begins))]
 pub fn begins_with_digit(u: &[u8]) -> bool
     ensures byte { result ≡ front_is digit_is u.now }
@@ -49,7 +49,7 @@ pub fn begins_with_digit(u: &[u8]) -> bool
     }
 }
 
-/// Whether a letter or a digit stands at the front.
+/// Whether a letter or a digit is at the front.
 pub fn begins_with_word_byte(u: &[u8]) -> bool
     ensures { result ≡ front_is inner_is u.now }
 {
@@ -94,7 +94,7 @@ pub fn any_wide(w: &[u8]) -> bool
     w.iter().any(|c| *c > 127)
 }
 
-/// How many digits stand at the front.
+/// How many digits are at the front.
 pub fn digits_len(u: &[u8]) -> usize
     ensures value { result ≡ prefix_len digit_is u.now }
     ensures within { result ≤ length u.now }
@@ -102,7 +102,7 @@ pub fn digits_len(u: &[u8]) -> usize
     u.iter().take_while(|c| c.is_ascii_digit()).count()
 }
 
-/// How many letters and digits stand at the front, in bytes.
+/// How many letters and digits are at the front, in bytes.
 pub fn run_len(u: &[u8]) -> usize
     ensures value { result ≡ run_is u.now }
     ensures within { result ≤ length u.now }
@@ -110,14 +110,14 @@ pub fn run_len(u: &[u8]) -> usize
     u.iter().take_while(|c| is_word_byte(**c)).count()
 }
 
-/// Whether a run with a letter stands at the front.
+/// Whether a run with a letter is at the front.
 pub fn begins_link(u: &[u8]) -> bool
     ensures { result ≡ link_is u.now }
 {
     any_word_letter(&u[..run_len(u)])
 }
 
-/// How long the groups of digits are that stand at the front, with dots between them.
+/// How long the groups of digits are that are at the front, with dots between them.
 pub fn groups_len(u: &[u8]) -> usize
     ensures value { result ≡ groups_are u.now }
     ensures within { result ≤ length u.now }

@@ -108,7 +108,7 @@ fn number_of(signed: bool, u: &[u8], n: usize) -> Option<Form>
     ended(u, n, TokenType::Version)
 }
 
-/// The number behind a sign, without the sign.
+/// The number after a sign, without the sign.
 fn signed_number(u: &[u8]) -> Option<Form>
     ensures { result ≡ front_number true u.now }
 {

@@ -41,7 +41,7 @@ pub struct Tokens<'a> {
     part: usize,
     /// The end of what has been given, parts aside.
     at: usize,
-    /// The end of the groups of digits that `at` stands in, if it is above `at`.
+    /// The end of the groups of digits that `at` is in, if it is above `at`.
     groups_end: usize,
 }
 
@@ -77,7 +77,7 @@ fn behind(text: &[u8], at: usize) -> &[u8]
     &text[at..]
 }
 
-/// How long the groups of digits are at the front of `rest`, which stands at `at`. Where `end` is
+/// How long the groups of digits are at the front of `rest`, which is at `at`. Where `end` is
 /// above that, they are known to end there, and are not read again.
 #[tactic(auto, using(crate::proofs::Fits::row_fits))]
 fn groups_here(rest: &[u8], at: usize, end: usize) -> usize
@@ -88,7 +88,7 @@ fn groups_here(rest: &[u8], at: usize, end: usize) -> usize
     if at < end { end - at } else { groups_len(rest) }
 }
 
-/// Where the parts start that are to be given behind a token, its end where it has none.
+/// Where the parts start that are to be given after a token, its end where it has none.
 fn parts_start(kind: TokenType, start: usize, end: usize) -> usize
     ensures { result ≡ (if parts_follow kind then start else end) }
 {
@@ -130,7 +130,7 @@ impl<'a> Iterator for Tokens<'a> {
 
     ghost remaining = { item_count (λ s. s) };
 
-    /// The next token; behind a hyphen word its parts come first.
+    /// The next token; after a hyphen word its parts come first.
     fn next(&mut self) -> Option<Token> {
         if self.part < self.at {
             let word = behind(&self.text[..self.at], self.part);

@@ -21,7 +21,7 @@ pub enum TokenType {
     HwordPart,
     /// A part of a hyphen word, of ASCII letters.
     HwordAsciipart,
-    /// What stands between the others.
+    /// What is between the others.
     Blank,
     /// A hyphen word that has a digit.
     Numhword,
@@ -31,7 +31,7 @@ pub enum TokenType {
     Hword,
     /// Digits, a dot and digits, with or without a sign.
     Float,
-    /// Digits behind a sign.
+    /// Digits after a sign.
     Int,
     /// Digits.
     Uint,
@@ -109,7 +109,7 @@ impl TokenType {
         }
     }
 
-    /// Whether a token of this type is a hyphen word, behind which its parts are given.
+    /// Whether a token of this type is a hyphen word, after which its parts are given.
     pub fn has_parts(self) -> bool
         ensures { result ≡ parts_follow self }
     {

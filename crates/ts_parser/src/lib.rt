@@ -1,4 +1,4 @@
-//! The tokens of a text: its numbers, hyphen words, words and what stands between them.
+//! The tokens of a text: its numbers, hyphen words, words and what is between them.
 #![tactic(auto)]
 
 ghost use Rattle.std.specs.Prelude.{◌≡◌, All, IfOk};

@@ -103,7 +103,7 @@ pub stored_built : (b : Builder) (q : Query) → IsBuilt b (postfix_of q) → Is
 stored_built b q h s = subst (λ p. IsStored p b.operands.items b.nodes.items) (sym (query_built b q h)) (record { has_operands = h.has_operands ∙ operands_from-postfix_of q; has_nodes = h.has_nodes; sound = s })
 
 -- ── a query's nodes, one by one ──
--- the next of the items, and what is left behind it
+-- the next of the items, and what is left after it
 record Next (i : Item) (next : ℕ) (rest : List Node) (back : List Item) : Type 0 where
   others : List Item
   is : back ≡ i ∷ others

@@ -117,7 +117,7 @@ want_close fs u t (want _ y _ _ m e a) = let b = expr_begins (need fs) y (closin
 pub want_nil : (fs : List Frame) (t : Tree) → ¬ Want fs [] t
 want_nil fs t (want _ y _ _ m e a) = let b = expr_begins (need fs) y [] m e in base_nil b.j b.y b.m b.base
 
--- ── behind an operand ──
+-- ── after an operand ──
 tail_stops : (k l : ℕ) (y x : Tree) (u m : List QueryToken) → l ≤ k → NoTighter l u → Tail k y u x m → (x ≡ y) × (m ≡ u)
 tail_stops k l y x u m h s (last _ _ _) = (refl, refl)
 tail_stops k l y x u m h s (more _ j _ w _ v q _ e t) = absurd (let b : level j < l = s in let n : ⊥ = omega arith in n)

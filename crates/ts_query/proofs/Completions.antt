@@ -1,4 +1,4 @@
--- From wherever the reader stands, some text of the grammar goes on.
+-- From wherever the reader is, some text of the grammar goes on.
 use Rattle.std.proofs.Common.{◌≢◌, ℕ, suc, ◌<◌, ◌≤◌, ◌⊎◌, inl, inr, List, [], ◌∷◌, ◌++◌, refl, Bool, false, Some, None, arith}
 use Rattle.ts_base.specs.declared.Weights.{Weights}
 use Rattle.ts_query.specs.Queries.{Operand, Joint, phrase_joint, Tree, leaf, negated, joined, Query}
@@ -77,7 +77,7 @@ held_closes j fs y s h b = let f = completed fs y s in record { tree = f.tree; o
 below : (a b : ℕ) → (a ≤ b) ⊎ (b < a)
 below a b = grind arith
 
--- an operator and an operand behind y
+-- an operator and an operand after y
 held_joins : (i : Joint) (a b : ℕ) (o : Operand) (j : ℕ) (fs : List Frame) (y : Tree) → Sorted fs → need fs ≤ j → j ≤ 4 → level i < j → Held j fs y (sign a i ∷ word b o ∷ closers fs)
 unfolding closers
 held_joins i a b o j [] y s h t l =
@@ -119,7 +119,7 @@ word_follows r (due fs) a o s d =
     record { query = Some f.tree; rest = word_want fs a o (closers fs) f.tree f.on }
 word_follows r (held fs y) a o s d = absurd d
 
--- nothing but brackets, where an operand stands
+-- nothing but brackets, where an operand is
 held_follows : (r : Reader) (p : Spot) → Shows r.parser p → IsHeld p → Follows p (closers (frames p))
 unfolding frames
 held_follows r start s d = absurd d

@@ -21,7 +21,7 @@ value_of_digit c d = let e = digit_value_digit c d in omega (arith, e, d.0)
 one_more : (n c : ℕ) → IsDigit c → with_digit PAST_DISTANCE (capped n) c ≡ capped (n * 10 + digit_value c)
 one_more n c d = let e = value_of_digit c d in rw e (grind arith)
 
--- digits behind those of n lead to the capped number of all
+-- digits after those of n lead to the capped number of all
 leads : (ds r : List ℕ) (n : ℕ) → AllDigits 10 ds → DistanceNumber (capped n) (ds ++ 62 ∷ r) (capped (digits_value_after 10 n ds)) r
 leads [] r n h = over (capped n) r
 leads (c ∷ ds) r n (d, h) =

@@ -20,7 +20,7 @@ items_length : (xs : List Entry) → length (map entry_item xs) ≡ length xs
 items_length [] = refl
 items_length (x ∷ xs) = ap suc (items_length xs)
 
--- the entries behind an index, the one there, and the others
+-- the entries after an index, the one there, and the others
 parted : (entries : List Entry) (i : ℕ) (d e : Entry) → i < length entries → get_or entries i d ≡ e → entries ≡ take i entries ++ e ∷ drop (suc i) entries
 parted entries i d e h g = sym (take-append-drop i entries) ∙ ap (λ l. take i entries ++ l) (drop-cons entries i d h) ∙ ap (λ x. take i entries ++ x ∷ drop (suc i) entries) g
 

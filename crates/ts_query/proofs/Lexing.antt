@@ -1,4 +1,4 @@
--- Tokens byte by byte: what may follow before a byte, and behind it.
+-- Tokens byte by byte: what may follow before a byte, and after it.
 use Rattle.std.proofs.Common.{◌≡◌, ◌≢◌, ℕ, ◌≤◌, List, [], ◌∷◌, inl, inr, refl, sym, subst, Bool, true, false, arith}
 use Rattle.ts_base.specs.declared.Weight.{Weight}
 use Rattle.ts_base.specs.declared.Weight.TheVariants.{A, B, C, D}
@@ -147,7 +147,7 @@ module _ (n : ℕ) where
   lex_or u ks (or_sign _ _ rest w) = (rest, refl, w)
   lex_or u ks (plain _ _ _ _ _ _ _ _ p m q b w) = absurd (p.no_end (inr delimiter_124))
 
-  -- ── behind a lexeme ──
+  -- ── after a lexeme ──
   module _ (s : ℕ) (a : List ℕ) where
     behind_colon : (u r : List ℕ) (o : Operand) (ks : List QueryToken) → BehindLexeme a (58 ∷ u) o r → WordOn n s o r ks → MarksOn n s a no_weights false u ks
     behind_colon u r o ks (bare _ _) h = absurd (colon_never n u h.0 h.2)

@@ -49,7 +49,7 @@ no_more n ls (done _) = refl
 same_token : (k l : QueryToken) (ks ls all : List QueryToken) → k ≡ l → ks ≡ ls → all ≡ l ∷ ls → k ∷ ks ≡ all
 same_token k l ks ls all e f g = ap (λ x. x ∷ ks) e ∙ ap (λ x. l ∷ x) f ∙ sym g
 
--- the same lexeme, the same operand, and the same tokens behind it
+-- the same lexeme, the same operand, and the same tokens after it
 word_one : (n a : ℕ) (l m k s r t : List ℕ) (o q : Operand) (ks ls all : List QueryToken) → (l ≡ k) × (m ≡ s) → BehindLexeme l m o r → BehindLexeme k s q t → Lex n r ks → Lex n t ls → all ≡ word a q ∷ ls
     → (Lex n r ls → ks ≡ ls) → word a o ∷ ks ≡ all
 word_one n a l m k s r t o q ks ls all e b d w v f one =

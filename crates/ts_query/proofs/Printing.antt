@@ -189,7 +189,7 @@ tail_trans : (k : ℕ) (a x t : Tree) (u m r : List QueryToken) → Tail k a u x
 tail_trans k a x t u m r (last _ _ _) s = s
 tail_trans k a x t u m r (more c j _ y _ v q _ e b) s = more c j a y t v q r e (tail_trans (level j) (joined j a y) x t q m r b s)
 
--- an operator more behind an expression of its level
+-- an operator more after an expression of its level
 expr_tail : (k : ℕ) (x t : Tree) (u m r : List QueryToken) → k < 3 → Expr k x u m → Tail k x m t r → Expr k t u r
 expr_tail k x t u m r p (one _ _ _) s = absurd (let n : ⊥ = omega arith in n)
 expr_tail k x t u m r p (bracket _ _ _ _) s = absurd (let n : ⊥ = omega arith in n)

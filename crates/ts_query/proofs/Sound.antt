@@ -49,7 +49,7 @@ not_nil : (l : List ℕ) → l ≢ [] → 1 ≤ length l
 not_nil [] h = absurd (h refl)
 not_nil (x ∷ l) h = omega arith
 
--- what stands behind a lexeme and behind `<` is ASCII, so text follows it
+-- what is after a lexeme and after `<` is ASCII, so text follows it
 marks_past : (w : Weights) (p : Bool) (u : List ℕ) (v : Weights) (q : Bool) (r : List ℕ) → Marks w p u v q r → IsUtf8 u → IsUtf8 r
 marks_past w p u v q r (unmarked _ _ _ _) i = i
 marks_past w p u v q r (star _ _ _ _ t _ m) i = marks_past w true t v q r m (ascii_past 42 t (omega arith) i)

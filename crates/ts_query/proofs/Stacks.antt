@@ -158,7 +158,7 @@ applied_joint i l j (joint_frame k w ∷ fs) y p q front b s e d o out =
     }
 
 -- ── an operand is due ──
--- at the start, as behind nothing
+-- at the start, as after nothing
 end_of : (y t : Tree) (u m : List QueryToken) → Expr 0 y u m → After [] y m t → Expr 0 t u []
 end_of y t u m e (at_end _) = e
 
@@ -275,13 +275,13 @@ held_never : (fs : List Frame) (y : Tree) (k : QueryToken) (u : List QueryToken)
 held_never fs y k u None f r = r
 held_never fs y k u (Some t) f r = f t r
 
--- what begins an operand, behind one
+-- what begins an operand, after one
 pub begin_never : (s : Spot) (k : QueryToken) → IsHeld s → Begin k → Never s k
 begin_never start k e b = absurd e
 begin_never (due fs) k e b = absurd e
 begin_never (held fs y) k e b = record { never = λ u q r. held_never fs y k u q (λ t. on_begin 4 fs k y t u b) r }
 
--- ── behind an operand ──
+-- ── after an operand ──
 sign_goes : (i : Joint) (at : ℕ) (fs gs : List Frame) (y z : Tree) (j : ℕ) → Same (level i) 4 fs y j gs z → need gs ≤ level i → level i < j → j ≤ 4
     → (u : List QueryToken) (q : Query) → SpotRest (due (joint_frame i z ∷ gs)) u q → SpotRest (held fs y) (sign at i ∷ u) q
 sign_goes i at fs gs y z j m n t b u None r = r

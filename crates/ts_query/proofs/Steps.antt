@@ -108,7 +108,7 @@ module _ (i s : ℕ) (a : List ℕ) where
   plain_bytes : (bs : List ℕ) → Each (IsPlain EndsOperand) bs → Silent i (in_plain s a) bs (in_plain s (a ++ bs))
   plain_bytes bs all = record { to = λ n u ks _ h. plain_bytes_to (List QueryToken) EndsOperand (BehindLexemeOn n s) bs a u ks all h; from = λ n u ks _ h. plain_bytes_from (List QueryToken) EndsOperand (BehindLexemeOn n s) bs a u ks all h }
 
-  -- a character behind `\`: its first byte is escaped, and the others are past ASCII
+  -- a character after `\`: its first byte is escaped, and the others are past ASCII
   quoted_escaped_bytes : (b : ℕ) (bs : List ℕ) → Each (λ c. (c ≢ 39) × (c ≢ 92)) bs → Silent i (quoted_escaped s a) (b ∷ bs) (in_quoted s (a ++ b ∷ bs))
   quoted_escaped_bytes b bs all = record {
     to = λ n u ks _ h. subst (λ x. OperandQuoted n s x u ks) (append_assoc a (b ∷ []) bs) (quoted_bytes_to (List QueryToken) (BehindLexemeOn n s) bs (a ++ b ∷ []) u ks all h);

@@ -14,7 +14,7 @@ use Rattle.ts_query.proofs.Stacks.{joint_back}
 wrapped_text : (ps qs : List Piece) (os : List Operand) → text_of ((ps ++ Close ∷ []) ++ qs) os ≡ text_of (ps ++ (Close ∷ qs)) os
 wrapped_text ps qs os = ap (λ l. text_of l os) (append_assoc ps (Close ∷ []) qs)
 
--- the parts of a tree, and others behind them
+-- the parts of a tree, and others after them
 abbrev Writes : List Piece → List Operand → List ℕ → Type 0
 Writes ps os text = (qs : List Piece) (more : List Operand) → text_of (ps ++ qs) (os ++ more) ≡ text ++ text_of qs more
 

@@ -1,4 +1,4 @@
--- A query that is written node by node, each node behind its operands: the trees that stand so far, the last first.
+-- A query that is written node by node, each node after its operands: the trees that are so far, the last first.
 use Rattle.std.specs.Prelude.{◌≡◌, ℕ, suc, ◌+◌, ◌<◌, ◌≤◌, List, [], ◌∷◌, ◌++◌, All}
 use Rattle.std.proofs.Common.{refl, ap, ◌∙◌, append_assoc}
 use Rattle.std.specs.Coded.{Coded, code_by, coded_list}

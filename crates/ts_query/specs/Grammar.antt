@@ -20,7 +20,7 @@ mutual
     binary : (k : ℕ) (x t : Tree) (u m r : List QueryToken) → k < 3 → Expr (suc k) x u m
         → Tail k x m t r → Expr k t u r
 
-  -- behind x, of the level k, the tokens go on so that the whole is t
+  -- after x, of the level k, the tokens go on so that the whole is t
   pub data Tail : ℕ → Tree → List QueryToken → Tree → List QueryToken → Type 0 where
     last : (k : ℕ) (x : Tree) (r : List QueryToken) → Tail k x r x r
     more : (s : ℕ) (j : Joint) (x y t : Tree) (u m r : List QueryToken)

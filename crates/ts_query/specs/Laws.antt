@@ -16,12 +16,12 @@ OneValue = (text : List ℕ) (p q : Query) → IsQueryText text p → IsQueryTex
 abbrev pub PrintsBack : Type 0
 PrintsBack = (q : Query) → IsSound q → IsQueryText (printed q) q
 
--- behind `<`: `->`, for 1
+-- after `<`: `->`, for 1
 pub record IsArrow (u : List ℕ) (distance : ℕ) (rest : List ℕ) : Type 0 where
   pub text : u ≡ 45 ∷ 62 ∷ rest
   pub value : distance ≡ 1
 
--- behind `<`: decimal digits and `>`, for the number that the digits write; from 16385 on all numbers count as one
+-- after `<`: decimal digits and `>`, for the number that the digits write; from 16385 on all numbers count as one
 pub record IsDecimal (u : List ℕ) (distance : ℕ) (rest : List ℕ) : Type 0 where
   pub digits : List ℕ
   pub numeral : IsNumeral 10 digits

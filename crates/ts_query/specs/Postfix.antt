@@ -12,7 +12,7 @@ pub data Item : Type 0 where
   not_item : Item
   joint_item : Joint → Item
 
--- each operator stands behind its operands
+-- each operator is after its operands
 abbrev pub postfix : Tree → List Item
 postfix (leaf o) = operand_item o ∷ []
 postfix (negated x) = postfix x ++ not_item ∷ []
@@ -22,7 +22,7 @@ abbrev pub postfix_of : Query → List Item
 postfix_of None = []
 postfix_of (Some t) = postfix t
 
--- the trees that stand on a stack after the items, the top first; an item that finds too few takes none
+-- the trees that are on a stack after the items, the top first; an item that finds too few takes none
 abbrev pub run : List Item → List Tree → List Tree
 run [] st = st
 run (operand_item o ∷ is) st = run is (leaf o ∷ st)

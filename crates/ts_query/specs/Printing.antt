@@ -16,7 +16,7 @@ marks_of o =
     ++ (only_if o.weights.a 65
     ++ (only_if o.weights.b 66 ++ (only_if o.weights.c 67 ++ only_if o.weights.d 68)))
 
--- marks, if any, stand behind `:`
+-- marks, if any, are after `:`
 abbrev pub marks_text : List ℕ → List ℕ
 marks_text [] = []
 marks_text (c ∷ marks) = 58 ∷ c ∷ marks
@@ -34,7 +34,7 @@ abbrev pub bracketed : Bool → List ℕ → List ℕ
 bracketed true text = codes "( " ++ (text ++ codes " )")
 bracketed false text = text
 
--- The text of a tree where one of the level l is wanted. It stands in brackets where its operator binds looser. A right
+-- The text of a tree where one of the level l is wanted. It is in brackets where its operator binds looser. A right
 -- operand has to bind tighter than its operator, since operators group to the left.
 abbrev pub printed_at : Tree → ℕ → List ℕ
 printed_at (leaf o) l = operand_text o

@@ -44,7 +44,7 @@ with_weight B w = record w { b = true }
 with_weight C w = record w { c = true }
 with_weight D w = record w { d = true }
 
--- Behind `:`, with these weights and mark so far, u goes on to those, and r follows. All that can be a mark is one.
+-- After `:`, with these weights and mark so far, u goes on to those, and r follows. All that can be a mark is one.
 pub data Marks : Weights → Bool → List ℕ → Weights → Bool → List ℕ → Type 0 where
   unmarked : (w : Weights) (p : Bool) (r : List ℕ) → ¬ BeginsWithMark r → Marks w p r w p r
   star : (w v : Weights) (p q : Bool) (u r : List ℕ) → Marks w true u v q r
@@ -55,20 +55,20 @@ pub data Marks : Weights → Bool → List ℕ → Weights → Bool → List ℕ
 abbrev pub operand : List ℕ → Weights → Bool → Operand
 operand l w p = record { lexeme = l; weights = w; prefix = p }
 
--- behind the lexeme l, u goes on to the operand o, and r follows
+-- after the lexeme l, u goes on to the operand o, and r follows
 pub data BehindLexeme : List ℕ → List ℕ → Operand → List ℕ → Type 0 where
   bare : (l r : List ℕ) → BehindLexeme l r (operand l no_weights false) r
   marked : (l u r : List ℕ) (w : Weights) (p : Bool) → Marks no_weights false u w p r
       → BehindLexeme l (58 ∷ u) (operand l w p) r
 
--- Behind digits of the value n, u goes on to `>` with the value m, and r follows. A number past 16384 stays at 16385, which is
+-- After digits of the value n, u goes on to `>` with the value m, and r follows. A number past 16384 stays at 16385, which is
 -- too large for an operator.
 pub data DistanceNumber : ℕ → List ℕ → ℕ → List ℕ → Type 0 where
   over : (n : ℕ) (r : List ℕ) → DistanceNumber n (62 ∷ r) n r
   digit : (c n m : ℕ) (u r : List ℕ) → IsDigit c
       → DistanceNumber (with_digit PAST_DISTANCE n c) u m r → DistanceNumber n (c ∷ u) m r
 
--- behind `<`; `<->` is `<1>`
+-- after `<`; `<->` is `<1>`
 pub data Distance : List ℕ → ℕ → List ℕ → Type 0 where
   arrow : (r : List ℕ) → Distance (45 ∷ 62 ∷ r) 1 r
   number : (c m : ℕ) (u r : List ℕ) → IsDigit c

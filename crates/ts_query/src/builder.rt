@@ -14,7 +14,7 @@ use std::alloc::Global;
 use std::marker::Model;
 use ts_base::{LONGEST_LEXEME, Lexeme, Weights};
 
-/// A query that is written node by node, each operator behind its operands. What was written so far stands as a list of trees;
+/// A query that is written node by node, each operator after its operands. What was written so far is kept as a list of trees;
 /// an operator takes the last of them. A refused node leaves it unchanged.
 #[derive(Drop)]
 pub struct QueryBuilder {
@@ -80,7 +80,7 @@ impl QueryBuilder {
         Ok(())
     }
 
-    /// Writes `!` behind the last tree.
+    /// Writes `!` after the last tree.
     pub fn not(&mut self) -> Result<(), QueryError>
         requires { 1 ≤ length self.old }
         ensures value { OnOk result (self.new ≡ with_not self.old) }
@@ -95,7 +95,7 @@ impl QueryBuilder {
         Ok(())
     }
 
-    /// Writes `&` behind the last two trees.
+    /// Writes `&` after the last two trees.
     pub fn and(&mut self) -> Result<(), QueryError>
         requires { 2 ≤ length self.old }
         ensures value { OnOk result (self.new ≡ with_joint and_joint self.old) }
@@ -106,7 +106,7 @@ impl QueryBuilder {
         self.link(Link::And)
     }
 
-    /// Writes `|` behind the last two trees.
+    /// Writes `|` after the last two trees.
     pub fn or(&mut self) -> Result<(), QueryError>
         requires { 2 ≤ length self.old }
         ensures value { OnOk result (self.new ≡ with_joint or_joint self.old) }
@@ -117,7 +117,7 @@ impl QueryBuilder {
         self.link(Link::Or)
     }
 
-    /// Writes a phrase operator behind the last two trees.
+    /// Writes a phrase operator after the last two trees.
     pub fn phrase(&mut self, distance: u16) -> Result<(), QueryError>
         requires near { distance ≤ GREATEST_DISTANCE }
         requires trees { 2 ≤ length self.old }
@@ -129,7 +129,7 @@ impl QueryBuilder {
         self.link(Link::Phrase(distance))
     }
 
-    /// Writes a binary operator behind the last two trees.
+    /// Writes a binary operator after the last two trees.
     fn link(&mut self, link: Link) -> Result<(), QueryError>
         requires near { IsNear (link_joint link) }
         requires trees { 2 ≤ length self.old }

@@ -48,27 +48,27 @@ pub struct Word {
 pub enum Entry {
     /// An operand.
     Operand(Word),
-    /// `!`, behind its operand.
+    /// `!`, after its operand.
     Not,
-    /// A binary operator, behind its operands.
+    /// A binary operator, after its operands.
     Joined(Link),
 }
 
-/// Where the parser stands.
+/// Where the parser is.
 #[derive(Clone, Copy)]
 pub enum Place {
     /// Nothing was read.
     Start,
     /// An operand is due.
     Due,
-    /// An operand stands.
+    /// An operand is there.
     Held,
 }
 
 /// A parser of tokens.
 #[derive(Drop)]
 pub struct Parser {
-    /// Where it stands.
+    /// Where it is.
     pub place: Place,
     /// The open operators and brackets, the innermost last.
     pub ops: Vec<Op>,
@@ -198,7 +198,7 @@ impl Parser {
         Ok(())
     }
 
-    /// A binary operator behind an operand.
+    /// A binary operator after an operand.
     pub fn link(&mut self, link: Link) -> Result<(), AllocError>
         ensures { OnOk result
             ((at : ℕ) (s : Spot) → IsHeld s → Shows self.old s
@@ -210,7 +210,7 @@ impl Parser {
         Ok(())
     }
 
-    /// A closing bracket behind an operand; `false` where no bracket is open.
+    /// A closing bracket after an operand; `false` where no bracket is open.
     pub fn close(&mut self) -> Result<bool, AllocError>
         ensures { IfOk result
             (λ ok. (s : Spot) → IsHeld s → Shows self.old s → TookOrNever s closing ok self.new) }

@@ -1,4 +1,4 @@
-// The printed form of a query. Its parts are found from the last to the first, since an operator stands behind its operands.
+// The printed form of a query. Its parts are found from the last to the first, since an operator is after its operands.
 ghost use Rattle.std.specs.Prelude.{◌≡◌, ◌<◌, ◌≤◌, ◌+◌, ◌↔◌, List, [], ◌∷◌, ◌++◌, IfOk, OnOk, IsTrue, length, reverse, Some};
 ghost use Rattle.std.specs.String.{string_bytes};
 ghost use Rattle.ts_query.specs.Queries.{Tree, operands_in};
@@ -114,7 +114,7 @@ fn parts_back(alloc: Global, nodes: &[Node]) -> Result<Vec<Piece>, AllocError>
     Ok(pieces)
 }
 
-/// Appends the character, if it is to stand.
+/// Appends the character, if it is to be there.
 fn write_if(out: &mut String, is: bool, c: char) -> Result<(), AllocError>
     requires { c < 128 }
     ensures { OnOk result (string_bytes out.new ≡ string_bytes out.old ++ only_if is c) }
@@ -126,7 +126,7 @@ fn write_if(out: &mut String, is: bool, c: char) -> Result<(), AllocError>
     Ok(())
 }
 
-/// The mark for a prefix and the weights, behind `:`.
+/// The mark for a prefix and the weights, after `:`.
 fn write_marks(out: &mut String, operand: &Operand) -> Result<(), AllocError>
     ensures { OnOk result
         (string_bytes out.new ≡ string_bytes out.old ++ marks_text (marks_of operand.now)) }

@@ -28,7 +28,7 @@ pub struct Operand {
     pub prefix: bool,
 }
 
-/// A node of a query's tree. The nodes stand in postfix order, so each stands behind its operands.
+/// A node of a query's tree. The nodes are in postfix order, so each is after its operands.
 #[derive(Clone, Copy, Debug, PartialEq, Eq)]
 pub enum Node {
     /// The operand with this number, from 0 on in the order of the text.
@@ -118,7 +118,7 @@ impl Builder {
         Ok(())
     }
 
-    /// Adds `!`, behind its operand.
+    /// Adds `!`, after its operand.
     pub fn not(&mut self) -> Result<(), AllocError>
         ensures built { OnOk result
             ((is : List Item) → IsBuilt self.old is → IsBuilt self.new (is ++ not_item ∷ [])) }
@@ -129,7 +129,7 @@ impl Builder {
         Ok(())
     }
 
-    /// Adds a binary operator, behind its operands.
+    /// Adds a binary operator, after its operands.
     pub fn link(&mut self, link: Link) -> Result<(), AllocError>
         ensures built { OnOk result
             ((is : List Item) → IsBuilt self.old is

@@ -18,26 +18,26 @@ use std::alloc::{AllocError, Global};
 use std::mem;
 use ts_base::{LONGEST_LEXEME, Weight, Weights, is_white, weight_of};
 
-/// Where a reader stands within a token.
+/// Where a reader is within a token.
 #[derive(Clone, Copy)]
 pub enum State {
     /// Between tokens.
     Between,
     /// In a quoted lexeme.
     InQuoted,
-    /// Behind `\` in a quoted lexeme.
+    /// After `\` in a quoted lexeme.
     QuotedEscape,
-    /// Behind a quote in a quoted lexeme.
+    /// After a quote in a quoted lexeme.
     Quote,
     /// In a plain lexeme.
     InPlain,
-    /// Behind `\` in a plain lexeme.
+    /// After `\` in a plain lexeme.
     PlainEscape,
-    /// Behind the `:` of an operand.
+    /// After the `:` of an operand.
     InMarks,
-    /// Behind `<`.
+    /// After `<`.
     Less,
-    /// Behind `<-`.
+    /// After `<-`.
     Dash,
     /// In the number of `<N>`.
     Digits,
@@ -46,7 +46,7 @@ pub enum State {
 /// A reader of characters.
 #[derive(Drop)]
 pub struct Reader {
-    /// Where it stands within a token.
+    /// Where it is within a token.
     pub state: State,
     /// The offset where the token starts.
     pub start: usize,
@@ -191,7 +191,7 @@ impl Reader {
         Ok(())
     }
 
-    /// Behind the `:` of an operand.
+    /// After the `:` of an operand.
     fn begin_marks(&mut self)
         ensures { self.new
             ≡ record self.old { state = State.InMarks; weights = no_weights; prefix = false } }
@@ -271,7 +271,7 @@ impl Reader {
         }
     }
 
-    /// A character between tokens, behind an operand.
+    /// A character between tokens, after an operand.
     fn operator(&mut self, at: usize, c: char) -> Result<bool, AllocError>
         requires between { self.old.state ≡ State.Between }
         requires dark { ¬ IsWhite c }
@@ -342,7 +342,7 @@ impl Reader {
         }
     }
 
-    /// Behind a quote in a quoted lexeme: it ended there, or another quote follows.
+    /// After a quote in a quoted lexeme: it ended there, or another quote follows.
     fn quote(&mut self, alloc: Global, at: usize, c: char) -> Result<bool, AllocError>
         requires { self.old.state ≡ State.Quote }
         ensures { IfOk result
@@ -389,7 +389,7 @@ impl Reader {
         Ok(true)
     }
 
-    /// A character behind the `:` of an operand.
+    /// A character after the `:` of an operand.
     fn in_marks(&mut self, alloc: Global, at: usize, c: char) -> Result<bool, AllocError>
         requires { self.old.state ≡ State.InMarks }
         ensures { IfOk result
@@ -409,7 +409,7 @@ impl Reader {
         Ok(ok)
     }
 
-    /// A character behind `<`.
+    /// A character after `<`.
     fn less(&mut self, c: char) -> Result<bool, AllocError>
         requires { self.old.state ≡ State.Less }
         ensures { IfOk result
@@ -428,7 +428,7 @@ impl Reader {
         Ok(false)
     }
 
-    /// A character behind `<-`.
+    /// A character after `<-`.
     fn dash(&mut self, c: char) -> Result<bool, AllocError>
         requires { self.old.state ≡ State.Dash }
         ensures { IfOk result
@@ -460,7 +460,7 @@ impl Reader {
         Ok(false)
     }
 
-    /// The character at the offset `at`; `false` where it can't stand there.
+    /// The character at the offset `at`; `false` where it can't be there.
     fn step(&mut self, alloc: Global, at: usize, c: char) -> Result<bool, AllocError>
         ensures { IfOk result
             (λ ok. (s : Stand) → IsReaderAt self.old s

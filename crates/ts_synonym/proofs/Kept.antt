@@ -16,7 +16,7 @@ pub looked_up : (word : List ℕ) (es : List (String Global × Found)) → looku
 looked_up word [] = refl
 looked_up word (e ∷ es) = ap (λ o. cond (bytes_eq word (string_bytes e.0)) (Some e.1) o) (looked_up word es)
 
--- the first that gives something is among the lines, or none is and it is the one behind them
+-- the first that gives something is among the lines, or none is and it is the one after them
 pub first_more : (sensitive : Bool) (lines : List (List ℕ)) (line word : List ℕ) (found : Found) → IsFirstGiven sensitive (lines ++ line ∷ []) word found
     → IsFirstGiven sensitive lines word found ⊎ (((other : Found) → ¬ IsFirstGiven sensitive lines word other) × Gives sensitive line word found)
 first_more sensitive [] line word found (inl g) = inr ((λ other h. h), g)

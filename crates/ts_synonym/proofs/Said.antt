@@ -15,7 +15,7 @@ one_pair line w r v s h k =
     let seconds = one_word k.behind r s h.rest k.rest (subst (λ z. BeginsWithWord z r h.rest) firsts.1 h.second) k.second in
     (firsts.0, seconds.0)
 
--- behind a first word there are only blanks, so there is no second
+-- after a first word there are only blanks, so there is no second
 pub no_second : (line word behind : List ℕ) → BeginsWithWord line word behind → All IsBlank behind → (w r : List ℕ) → ¬ HasTwoWords line w r
 no_second line word behind b h w r t =
     let firsts = one_word line word w behind t.behind b t.first in

@@ -14,7 +14,7 @@ use ts_base::{Answer, Dictionary, Found, Lexeme, lower_case};
 /// A dictionary that replaces a word by one other.
 #[derive(Debug, Drop)]
 pub struct Synonym {
-    /// Whether words are compared as they stand; else in lower case.
+    /// Whether words are compared as they are; else in lower case.
     sensitive: bool,
     /// The words, each with what stands for it.
     pairs: IndexMap<String, Found>,

@@ -1,4 +1,4 @@
--- What the tree of all rules tells.
+-- What the tree of all rules says.
 use Rattle.std.proofs.Common.{◌≡◌, ◌≢◌, ℕ, ◌≤◌, inr, List, [], ◌∷◌, ◌++◌, length, reverse, refl, sym, ◌∙◌, ap, subst, arith, Option, Some, None, Bool, true, true≢false}
 use Rattle.std.specs.List.{slice_get}
 use Rattle.std.specs.Option.{is_some}
@@ -59,7 +59,7 @@ module _ (rules : List Rule) (states : List State) (t : HasTree rules states) (a
       none c = let went = tree_went c in let x : None ≡ Some went.1.0 = sym e ∙ went.1.1 in let z : ⊥ = cc in absurd z
   tree_truth (Some u) b e f some = ((λ t. tree_goes u some e), (λ c. f))
 
--- one answer more leads on from the state behind the others
+-- one answer more leads on from the state after the others
 pub behind_more : (states : List State) (s : ℕ) (answers : List WordAnswer) (a : WordAnswer)
     → then_from (behind_all (steps_of states) s answers) (λ t. behind (steps_of states) t a) ≡ behind_all (steps_of states) s (answers ++ a ∷ [])
 behind_more states s [] a = one (behind (steps_of states) s a)

@@ -48,7 +48,7 @@ fit_texts words some =
     filled [] s e = s refl
     filled (w ∷ ws) s e = cc
 
--- what is behind the blanks of a line tells whether the line is passed
+-- what is after the blanks of a line says whether the line is passed
 pub passed_empty : (line gap rest : List ℕ) → All IsBlank gap → line ≡ gap ++ rest → rest ≡ [] → IsPassed line
 passed_empty line gap rest b e n = record { gap = gap; rest = rest; split = e; blank = b; over = inl n }
 

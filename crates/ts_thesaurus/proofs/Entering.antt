@@ -12,7 +12,7 @@ use Rattle.std.proofs.Math.ListN.{set}
 use Rattle.std.proofs.lemmas.List.{length-append, length-set, map-append, take_more}
 use Rattle.ts_thesaurus.specs.declared.tree.State.{State}
 use Rattle.ts_thesaurus.specs.Inner.Tree.{Letter, stop_letter, word_letter, end_letter, AddsStep}
-use Rattle.ts_thesaurus.specs.Inner.States.{step_of, step_in, steps_of, last_in, last_of, IsBlank, LeadsTo, AreWithin, Stands, Enters, EntersWords, EntersSamples, EntersSample}
+use Rattle.ts_thesaurus.specs.Inner.States.{step_of, step_in, steps_of, last_in, last_of, IsEmptyState, LeadsTo, AreWithin, Stands, Enters, EntersWords, EntersSamples, EntersSample}
 use Rattle.ts_thesaurus.specs.Rules.{SampleWord, any_stop, with_lexemes, lexemes_of}
 use Rattle.ts_base.specs.declared.Found.{Found}
 use Rattle.ts_thesaurus.specs.declared.rule.Sample.{Sample}
@@ -34,20 +34,20 @@ get_set_other (x ∷ xs) (suc i) (suc j) y ne = get_set_other xs i j y (λ e. ne
 pub same_or_other : (a b : ℕ) → (a ≡ b) ⊎ (a ≢ b)
 same_or_other a b = grind arith
 
--- a state behind all others from which nothing leads on changes no step
-pub blank_steps : (states : List State) (blank : State) → IsBlank blank → (s : ℕ) (l : Letter) → steps_of (states ++ blank ∷ []) s l ≡ steps_of states s l
+-- a state after all others from which nothing leads on changes no step
+pub blank_steps : (states : List State) (blank : State) → IsEmptyState blank → (s : ℕ) (l : Letter) → steps_of (states ++ blank ∷ []) s l ≡ steps_of states s l
 blank_steps [] blank b zero l = b.alone l
 blank_steps [] blank b (suc s) l = refl
 blank_steps (x ∷ states) blank b zero l = refl
 blank_steps (x ∷ states) blank b (suc s) l = blank_steps states blank b s l
 
-pub blank_last : (states : List State) (blank : State) → IsBlank blank → (s : ℕ) → last_of (states ++ blank ∷ []) s ≡ last_of states s
+pub blank_last : (states : List State) (blank : State) → IsEmptyState blank → (s : ℕ) → last_of (states ++ blank ∷ []) s ≡ last_of states s
 blank_last [] blank b zero = b.last
 blank_last [] blank b (suc s) = refl
 blank_last (x ∷ states) blank b zero = refl
 blank_last (x ∷ states) blank b (suc s) = blank_last states blank b s
 
-module _ (old : List State) (blank before st : State) (p : ℕ) (l : Letter) (h : p < length old) (b : IsBlank blank) (at : slice_get (old ++ blank ∷ []) p ≡ Some before)
+module _ (old : List State) (blank before st : State) (p : ℕ) (l : Letter) (h : p < length old) (b : IsEmptyState blank) (at : slice_get (old ++ blank ∷ []) p ≡ Some before)
     (leads : LeadsTo before st l (length old)) where
   whole : length (set (old ++ blank ∷ []) p st) ≡ length old + 1
   whole = length-set (old ++ blank ∷ []) p st ∙ length-append old (blank ∷ [])

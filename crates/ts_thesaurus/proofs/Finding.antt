@@ -28,7 +28,7 @@ each_more [] (b ∷ done) x a f g = absurd f
 each_more (z ∷ zs) [] x a f g = absurd f
 each_more (z ∷ zs) (b ∷ done) x a f g = (f.0, each_more zs done x a f.1 g)
 
--- samples that fit go on behind those of the answers that are done
+-- samples that fit go on after those of the answers that are done
 first_split : (zs : List SampleWord) (done left : List WordAnswer) (samples : List SampleWord) → FitEach zs done → FitsFirst samples (done ++ left) → length zs ≤ length samples
     → (more : List SampleWord) × (samples ≡ zs ++ more) × FitsFirst more left
 first_split [] [] left samples f g h = (samples, refl, g)

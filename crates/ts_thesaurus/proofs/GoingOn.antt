@@ -10,7 +10,7 @@ use Rattle.ts_thesaurus.proofs.Naming.{before_all}
 use Rattle.ts_thesaurus.proofs.Walking.{leads, led}
 use Rattle.ts_thesaurus.proofs.Finding.{FitEach, each_more, reverse_more}
 
--- samples that fit all answers go on with those behind them
+-- samples that fit all answers go on with those after them
 each_all : (zs more : List SampleWord) (left : List WordAnswer) → FitEach zs left → FitsAll (zs ++ more) left
 each_all [] [] [] f = tt
 each_all [] (x ∷ more) [] f = tt

@@ -8,7 +8,7 @@ use Rattle.std.proofs.Common.{append_assoc}
 use Rattle.ts_thesaurus.specs.declared.tree.State.{State}
 use Rattle.ts_thesaurus.specs.Rules.{SampleWord, any_stop, with_lexemes, Rule}
 use Rattle.ts_thesaurus.specs.Inner.Tree.{Letter, stop_letter, word_letter, end_letter, Named, tree_root, by_stop, by_word, by_end, IsTree, AddsStep, IsTreeOf}
-use Rattle.ts_thesaurus.specs.Inner.States.{step_of, step_in, steps_of, last_in, last_of, IsBlank, Enters, EntersWords, EntersSample, EntersSamples, HasRoot, HasTree}
+use Rattle.ts_thesaurus.specs.Inner.States.{step_of, step_in, steps_of, last_in, last_of, IsEmptyState, Enters, EntersWords, EntersSample, EntersSamples, HasRoot, HasTree}
 use Rattle.ts_thesaurus.proofs.Naming.{one_name}
 use Rattle.ts_thesaurus.proofs.Growing.{name_stays, tree_grows}
 use Rattle.ts_thesaurus.proofs.Walking.{reverse_cons}
@@ -157,7 +157,7 @@ no_tree = record {
     nowhere _ _ _ (by_end p s xs ls ms n e g) = absurd (let z : ⊥ = cc in z)
 
 -- the root alone
-pub rooted : (rules : List Rule) (blank : State) → IsBlank blank → HasTree rules [] → HasTree rules (blank ∷ [])
+pub rooted : (rules : List Rule) (blank : State) → IsEmptyState blank → HasTree rules [] → HasTree rules (blank ∷ [])
 rooted rules blank b t =
     subst (λ f. IsTreeOf rules f 1 (last_of (blank ∷ []))) steps
     (subst (λ g. IsTreeOf rules (steps_of []) 1 g) lasts

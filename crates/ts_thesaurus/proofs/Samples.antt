@@ -34,7 +34,7 @@ nil_both : (a : Option (List Found)) → both a (Some []) ≡ a
 nil_both None = refl
 nil_both (Some a) = ap (λ z. Some z) (append-nil a)
 
--- the words up to one, it, and those behind it
+-- the words up to one, it, and those after it
 abbrev at_word : List (Bor (List ℕ)) → ℕ → Bor (List ℕ) → List (List ℕ)
 at_word words i d = texts (take i words) ++ (get_or words i d).now ∷ texts (drop (i + 1) words)
 

@@ -9,7 +9,7 @@ use Rattle.ts_base.specs.FirstLine.{IsFirstLine}
 use Rattle.ts_base.specs.Dictionary.{WordAnswer, unknown_word, stop_word, word_lexemes}
 use Rattle.ts_thesaurus.specs.Rules.{SampleWord, any_stop, with_lexemes, Rule, lexemes_of}
 
--- nothing but blanks, or `#` behind blanks
+-- nothing but blanks, or `#` after blanks
 pub record IsPassed (line : List ℕ) : Type 0 where
   pub gap : List ℕ
   pub rest : List ℕ
@@ -22,7 +22,7 @@ pub record IsCut (line left right : List ℕ) : Type 0 where
   pub split : line ≡ left ++ 58 ∷ right
   pub first : All (λ c. c ≢ 58) left
 
--- the first `:` ends the sample words; behind it stand the indexed words
+-- the first `:` ends the sample words; after it are the indexed words
 pub record HasSides (line : List ℕ) (sample indexed : List (List ℕ)) : Type 0 where
   pub left : List ℕ
   pub right : List ℕ
@@ -46,7 +46,7 @@ lexemes_in unknown_word = None
 lexemes_in stop_word = None
 lexemes_in (word_lexemes found) = Some found
 
--- both lists, one behind the other, where both are there
+-- both lists, one after the other, where both are there
 abbrev pub both : Option (List Found) → Option (List Found) → Option (List Found)
 both None b = None
 both (Some a) None = None
@@ -58,19 +58,19 @@ sample_of unknown_word = None
 sample_of stop_word = None
 sample_of (word_lexemes found) = Some (with_lexemes (lexemes_of found))
 
--- the sample word and those behind it, where all are there
+-- the sample word and those after it, where all are there
 abbrev pub ahead : Option SampleWord → Option (List SampleWord) → Option (List SampleWord)
 ahead None samples = None
 ahead (Some sample) None = None
 ahead (Some sample) (Some samples) = Some (sample ∷ samples)
 
 module _ (answer : List ℕ → WordAnswer) where
-  -- What an indexed word gives: behind `*` it is taken as it is, else the subdictionary is asked. None where it is bad.
+  -- What an indexed word gives: after `*` it is taken as it is, else the subdictionary is asked. None where it is bad.
   abbrev pub indexed_word : List ℕ → Option (List Found)
   indexed_word [] = None
   indexed_word (c ∷ word) = if c == 42 then as_it_is word else lexemes_in (answer (c ∷ word))
 
-  -- what the indexed words give, one behind the other
+  -- what the indexed words give, one after the other
   abbrev pub indexed_words : List (List ℕ) → Option (List Found)
   indexed_words [] = Some []
   indexed_words (word ∷ words) = both (indexed_word word) (indexed_words words)

@@ -5,7 +5,7 @@ mod error;
 mod laws;
 mod line;
 mod matching;
-mod reading;
+mod line_words;
 mod rule;
 mod thesaurus;
 mod tree;

@@ -5,13 +5,13 @@ ghost use Rattle.ts_thesaurus.specs.Faults.{IsFault};
 ghost use Rattle.ts_thesaurus.specs.Inner.Reading.{Reads};
 
 use crate::error::LineError;
-use crate::reading::{indexed_words, sample_words};
+use crate::line_words::{indexed_words, sample_words};
 use crate::rule::KeptRule;
 use crate::words::{are_fit, is_passed, words_of};
 use std::alloc::Global;
 use ts_base::Dictionary;
 
-/// What stands before the first `:` of a line, and behind it.
+/// What is before the first `:` of a line, and after it.
 fn sides(line: &str) -> Option<(&str, &str)>
     ensures some { IfSome result (λ r. IsCut line.now r.0.now r.1.now) }
     ensures none { IfNone result ((left right : List ℕ) → ¬ IsCut line.now left right) }

@@ -126,7 +126,7 @@ impl Thesaurus {
         Ok(thesaurus)
     }
 
-    /// Puts a rule behind the others.
+    /// Puts a rule after the others.
     fn keep(&mut self, alloc: Global, rule: KeptRule) -> Result<(), AllocError>
         ensures kept { OnOk result (self.new ≡ self.old ++ rule_value rule ∷ []) }
         ensures failed { OnErr result (self.new ≡ self.old) }

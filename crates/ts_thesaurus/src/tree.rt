@@ -4,7 +4,7 @@ ghost use Rattle.ts_base.specs.Dictionary.{answer_value};
 ghost use Rattle.ts_thesaurus.specs.Rules.{lexemes_of};
 ghost use Rattle.ts_thesaurus.specs.Views.{sample_value, rule_value};
 ghost use Rattle.ts_thesaurus.specs.Inner.Walks.{behind_words, behind as behind_by, behind_all, best_on};
-ghost use Rattle.ts_thesaurus.specs.Inner.States.{letter_value, IsBlank, step_of, steps_of, last_of, LeadsTo, Stands, Enters, EntersWords, EntersSample, EntersSamples, HasRoot, HasTree};
+ghost use Rattle.ts_thesaurus.specs.Inner.States.{letter_value, IsEmptyState, step_of, steps_of, last_of, LeadsTo, Stands, Enters, EntersWords, EntersSample, EntersSamples, HasRoot, HasTree};
 
 use crate::rule::{KeptRule, Sample};
 use std::alloc::{AllocError, Global};
@@ -25,11 +25,11 @@ enum Letter<'a> {
 /// A state of the tree.
 #[derive(Debug, Drop)]
 pub struct State {
-    /// The state behind a stop word.
+    /// The state after a stop word.
     pub stop: Option<usize>,
-    /// The states behind a sample's next lexeme.
+    /// The states after a sample's next lexeme.
     pub words: BTreeMap<String, usize>,
-    /// The state behind the end of a sample with lexemes.
+    /// The state after the end of a sample with lexemes.
     pub end: Option<usize>,
     /// The last rule whose samples end here.
     pub last: Option<usize>,
@@ -38,7 +38,7 @@ pub struct State {
 impl State {
     /// A state from which nothing leads on.
     fn new(alloc: Global) -> State
-        ensures { IsBlank result }
+        ensures { IsEmptyState result }
     {
         State {
             stop: None,
@@ -48,7 +48,7 @@ impl State {
         }
     }
 
-    /// The state behind this one by a letter.
+    /// The state after this one by a letter.
     fn step(&self, letter: Letter<'_>) -> Option<usize>
         ensures { result ≡ step_of self.now (letter_value letter.entry) }
     {
@@ -92,14 +92,14 @@ impl Tree {
         }
     }
 
-    /// The state behind a state by a letter.
+    /// The state after a state by a letter.
     fn step(&self, state: usize, letter: Letter<'_>) -> Option<usize>
         ensures { result ≡ steps_of self.now.states.items state (letter_value letter.entry) }
     {
         self.states.get(state)?.step(letter)
     }
 
-    /// The state behind a state by a letter; it is added where it isn't there.
+    /// The state after a state by a letter; it is added where it isn't there.
     fn enter(
         &mut self,
         alloc: Global,
@@ -119,7 +119,7 @@ impl Tree {
         Ok(next)
     }
 
-    /// The state behind a state by the lexemes of a sample.
+    /// The state after a state by the lexemes of a sample.
     fn enter_words(
         &mut self,
         alloc: Global,
@@ -137,7 +137,7 @@ impl Tree {
         Ok(state)
     }
 
-    /// The state behind a state by a sample.
+    /// The state after a state by a sample.
     fn enter_sample(
         &mut self,
         alloc: Global,
@@ -157,7 +157,7 @@ impl Tree {
         }
     }
 
-    /// The state behind the root by samples.
+    /// The state after the root by samples.
     fn enter_samples(&mut self, alloc: Global, samples: &[Sample]) -> Result<usize, AllocError>
         requires { Stands self.old.states.items 0 }
         ensures { IfOk result (EntersSamples self.old.states.items self.new.states.items 0
@@ -180,7 +180,7 @@ impl Tree {
         Ok(self)
     }
 
-    /// The tree with the samples of one rule more, which stands behind these rules.
+    /// The tree with the samples of one rule more, which is after these rules.
     pub fn with(
         self,
         alloc: Global,
@@ -206,7 +206,7 @@ impl Tree {
         self.states.get(state)?.last
     }
 
-    /// The state behind a state by lexemes, one after another.
+    /// The state after a state by lexemes, one after another.
     fn behind_words(&self, from: usize, found: &[Found]) -> Option<usize>
         ensures { result
             ≡ behind_words (steps_of self.now.states.items) from (lexemes_of found.now) }
@@ -218,7 +218,7 @@ impl Tree {
         Some(state)
     }
 
-    /// The state behind a state by an answer.
+    /// The state after a state by an answer.
     pub fn behind(&self, state: usize, answer: &Answer) -> Option<usize>
         ensures { result
             ≡ behind_by (steps_of self.now.states.items) state (answer_value answer.now) }
@@ -250,7 +250,7 @@ impl Tree {
         best
     }
 
-    /// The state behind the root by all answers.
+    /// The state after the root by all answers.
     pub fn behind_all(&self, answers: &[Answer]) -> Option<usize>
         ensures { result
             ≡ behind_all (steps_of self.now.states.items) 0 (map answer_value answers.now) }

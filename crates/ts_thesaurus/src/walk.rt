@@ -22,7 +22,7 @@ pub struct Walk<'a> {
     tree: Option<&'a Tree>,
     /// The answers so far.
     answers: Vec<Answer>,
-    /// The state behind them in the tree.
+    /// The state after them in the tree.
     state: Option<usize>,
 }
 
@@ -45,7 +45,7 @@ impl<'a> Model for Walk<'a> {
         (map answer_value w.answers.items) w.state };
 }
 
-/// The state behind a state by an answer, if there are a tree and a state.
+/// The state after a state by an answer, if there are a tree and a state.
 fn state_behind(tree: Option<&Tree>, state: Option<usize>, answer: &Answer) -> Option<usize>
     ensures { result ≡ behind_in tree.entry state (answer_value answer.now) }
 {

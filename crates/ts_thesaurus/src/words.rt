@@ -7,7 +7,7 @@ ghost use Rattle.ts_thesaurus.specs.Lines.{IsPassed, AreFit};
 use std::alloc::{AllocError, Global};
 use ts_base::{LONGEST_LEXEME, front_word, without_blanks};
 
-/// Whether a line is passed: it has nothing but blanks, or `#` behind blanks.
+/// Whether a line is passed: it has nothing but blanks, or `#` after blanks.
 pub fn is_passed(line: &str) -> bool
     ensures { IsTrue result ↔ IsPassed line.now }
 {

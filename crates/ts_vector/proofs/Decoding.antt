@@ -18,9 +18,9 @@ use Rattle.ts_base.specs.Vectors.{Position, Entry, Vector, IsPosition, IsEntry, 
 use Rattle.ts_base.specs.declared.Weight.{Weight}
 use Rattle.ts_base.specs.declared.Weight.TheVariants.{D, C, B, A}
 use Rattle.ts_base.specs.Endian.{little_bytes}
-use Rattle.ts_base.specs.Spelling.{weight_number, position_number, position_bytes, entry_bytes, IsSpelling}
+use Rattle.ts_base.specs.Encoding.{weight_number, position_number, position_bytes, entry_bytes, IsEncoding}
 use Rattle.ts_base.proofs.LittleBytes.{same_fronts}
-use Rattle.ts_vector.specs.Decoded.{DecodedPart, Next, Width, IsBeginning, IsBehind, AreRising, ReadsFields, BadBytesAreNoSpelling, entry_with, start, counted, measured, named, placed, count, measure, name, no_places, places, place, last_place, of_count, of_length, of_lexeme, of_number, of_place, begun, field}
+use Rattle.ts_vector.specs.Decoded.{DecodedPart, Next, Width, IsBeginning, IsBehind, AreRising, ReadsFields, BadBytesAreNoEncoding, entry_with, start, counted, measured, named, placed, count, measure, name, no_places, places, place, last_place, of_count, of_length, of_lexeme, of_number, of_place, begun, field}
 use Rattle.ts_vector.specs.Inner.Fields.{Goes, Spoils, Stops, IsShort, BytesStop, behind, Lists, ListsSome, ListStops, IsLast, IsLastLexeme, no_lexeme, last_lexeme, IsFront, Adds}
 use Rattle.ts_vector.specs.declared.bytes.Stop.{Stop}
 use Rattle.ts_vector.specs.declared.checker.Front.{Front}
@@ -261,12 +261,12 @@ lists_wrong m r t s ps last number a lt is e h low n v l =
 abbrev front : ℕ → Vector → List ℕ
 front n v = little_bytes 4 n ++ flat_map entry_bytes v
 
-abbrev spelled : DecodedPart → List ℕ
-spelled start = []
-spelled (counted n v) = front n v
-spelled (measured n v k) = front n v ++ little_bytes 2 k
-spelled (named n v l) = front n v ++ (little_bytes 2 (length l) ++ l)
-spelled (placed n v l m ps) = front n v ++ (little_bytes 2 (length l) ++ (l ++ (little_bytes 2 m ++ flat_map position_bytes ps)))
+abbrev encoded : DecodedPart → List ℕ
+encoded start = []
+encoded (counted n v) = front n v
+encoded (measured n v k) = front n v ++ little_bytes 2 k
+encoded (named n v l) = front n v ++ (little_bytes 2 (length l) ++ l)
+encoded (placed n v l m ps) = front n v ++ (little_bytes 2 (length l) ++ (l ++ (little_bytes 2 m ++ flat_map position_bytes ps)))
 
 front_more : (n : ℕ) (v : Vector) (e : Entry) → front n (v ++ e ∷ []) ≡ front n v ++ entry_bytes e
 front_more n v e = ap (λ t. little_bytes 4 n ++ t) (flat_map-append entry_bytes v (e ∷ []) ∙ ap (λ t. flat_map entry_bytes v ++ t) (append-nil (entry_bytes e))) ∙ sym (append_assoc (little_bytes 4 n) (flat_map entry_bytes v) (entry_bytes e))
@@ -275,33 +275,33 @@ places_bytes : (ps : List Position) (p : Position) → flat_map position_bytes (
 places_bytes ps p = flat_map-append position_bytes ps (p ∷ []) ∙ ap (λ t. flat_map position_bytes ps ++ t) (append-nil (position_bytes p))
 
 entry_more : (n : ℕ) (v : Vector) (l : List ℕ) (m : ℕ) (ps : List Position) (p : Position)
-    → front n v ++ (little_bytes 2 (length l) ++ (l ++ (little_bytes 2 m ++ flat_map position_bytes (ps ++ p ∷ [])))) ≡ spelled (placed n v l m ps) ++ position_bytes p
+    → front n v ++ (little_bytes 2 (length l) ++ (l ++ (little_bytes 2 m ++ flat_map position_bytes (ps ++ p ∷ [])))) ≡ encoded (placed n v l m ps) ++ position_bytes p
 entry_more n v l m ps p = rw (places_bytes ps p) (simp append_assoc)
 
-spelled_next : (p q : DecodedPart) (f : List ℕ) → Next p f q → spelled q ≡ spelled p ++ f
-spelled_next p q f (count n h) = append-nil (little_bytes 4 n)
-spelled_next p q f (measure n k v lt h) = refl
-spelled_next p q f (name n k v l e) = ap (λ j. front n v ++ (little_bytes 2 j ++ l)) e ∙ sym (append_assoc (front n v) (little_bytes 2 k) l)
-spelled_next p q f (no_places n v l) = front_more n v (entry_with l []) ∙ simp (append_assoc, append-nil)
-spelled_next p q f (places n m v l h k) = simp (append_assoc, append-nil)
-spelled_next p q f (place n m v l ps x h k) = entry_more n v l m ps x
-spelled_next p q f (last_place n m v l ps x h k) =
+encoded_next : (p q : DecodedPart) (f : List ℕ) → Next p f q → encoded q ≡ encoded p ++ f
+encoded_next p q f (count n h) = append-nil (little_bytes 4 n)
+encoded_next p q f (measure n k v lt h) = refl
+encoded_next p q f (name n k v l e) = ap (λ j. front n v ++ (little_bytes 2 j ++ l)) e ∙ sym (append_assoc (front n v) (little_bytes 2 k) l)
+encoded_next p q f (no_places n v l) = front_more n v (entry_with l []) ∙ simp (append_assoc, append-nil)
+encoded_next p q f (places n m v l h k) = simp (append_assoc, append-nil)
+encoded_next p q f (place n m v l ps x h k) = entry_more n v l m ps x
+encoded_next p q f (last_place n m v l ps x h k) =
     front_more n v (entry_with l (ps ++ x ∷ []))
     ∙ ap (λ j. front n v ++ (little_bytes 2 (length l) ++ (l ++ (little_bytes 2 j ++ flat_map position_bytes (ps ++ x ∷ []))))) (length-append ps (x ∷ []) ∙ k)
     ∙ entry_more n v l m ps x
 
-spelled_before : (bytes : List ℕ) (p : DecodedPart) (r : List ℕ) → ReadsFields bytes p r → bytes ≡ spelled p ++ r
-spelled_before bytes p r begun = refl
-spelled_before bytes p r (field q _ f _ h n b) =
-    spelled_before bytes q (f ++ r) h ∙ sym (append_assoc (spelled q) f r) ∙ ap (λ t. t ++ r) (sym (spelled_next q p f n))
+encoded_before : (bytes : List ℕ) (p : DecodedPart) (r : List ℕ) → ReadsFields bytes p r → bytes ≡ encoded p ++ r
+encoded_before bytes p r begun = refl
+encoded_before bytes p r (field q _ f _ h n b) =
+    encoded_before bytes q (f ++ r) h ∙ sym (append_assoc (encoded q) f r) ∙ ap (λ t. t ++ r) (sym (encoded_next q p f n))
 
--- what was read to the end is the spelling
-pub whole_spelling : (bytes : List ℕ) (n : ℕ) (v : Vector) → ReadsFields bytes (counted n v) [] → length v ≡ n → IsSpelling bytes v
-whole_spelling bytes n v h e =
+-- what was read to the end is the encoding
+pub whole_encoding : (bytes : List ℕ) (n : ℕ) (v : Vector) → ReadsFields bytes (counted n v) [] → length v ≡ n → IsEncoding bytes v
+whole_encoding bytes n v h e =
     let s = sound bytes (counted n v) [] h in
-    record { normal = s.0; small = s.1; bytes_of = spelled_before bytes (counted n v) [] h ∙ append-nil (front n v) ∙ ap (λ k. front k v) (sym e) }
+    record { normal = s.0; small = s.1; bytes_of = encoded_before bytes (counted n v) [] h ∙ append-nil (front n v) ∙ ap (λ k. front k v) (sym e) }
 
--- ── a spelling is read to its end ──
+-- ── an encoding is read to its end ──
 places_read : (n : ℕ) (v : Vector) (l : List ℕ) (m : ℕ) (ps qs : List Position) (last : ℕ) (s : List ℕ) → length ps + length qs ≡ m → IsLast ps last → All IsPosition qs → AllPairs (λ a b. a.at < b.at) qs → All (λ q. last < q.at) qs
     → Goes (behind n v l m ps) (flat_map position_bytes qs ++ s) (behind n v l m (ps ++ qs)) s
 places_read n v l m ps [] last s e is valid up above = subst (λ t. Goes (behind n v l m ps) s (behind n v l m t) s) (sym (append-nil ps)) (goes_nowhere (behind n v l m ps) s)
@@ -326,7 +326,7 @@ normal_front v w h = record {
       subst (λ x. IsBefore x.lexeme (get_or v j d).lexeme) a (subst (λ x. IsBefore (get_or (v ++ w) i d).lexeme x.lexeme) b (h.rising i j d lt (omega (arith, length-append v w))));
 }
 
--- the last entry of a normal form is behind the others
+-- the last entry of a normal form is after the others
 last_behind : (v : Vector) (e : Entry) → IsNormal (v ++ e ∷ []) → IsBehind v e.lexeme
 last_behind v e h k d lt =
     let a : get_or (v ++ e ∷ []) k d ≡ get_or v k d = get_or_append_left v (e ∷ []) d k lt in
@@ -365,15 +365,15 @@ entries_read n v (e ∷ w) normal small le =
     let both = goes_then (counted n v) (counted n (v ++ e ∷ [])) (counted n ((v ++ e ∷ []) ++ w)) (entry_bytes e ++ flat_map entry_bytes w) (flat_map entry_bytes w) [] here later in
     subst (λ t. Goes (counted n v) (flat_map entry_bytes (e ∷ w)) (counted n t) []) join (subst (λ r. Goes (counted n v) r (counted n ((v ++ e ∷ []) ++ w)) []) (sym (flat_map-cons entry_bytes e w)) both)
 
-spelling_read : (bytes : List ℕ) (v : Vector) → IsSpelling bytes v → ReadsFields bytes (counted (length v) v) []
-spelling_read bytes v s =
+encoding_read : (bytes : List ℕ) (v : Vector) → IsEncoding bytes v → ReadsFields bytes (counted (length v) v) []
+encoding_read bytes v s =
     let few : length v < 2 ^ 32 = omega (arith, length-le-content v s.normal.entries, s.small) in
     let first = count_goes (length v) v bytes (flat_map entry_bytes v) few s.bytes_of in
     let others = entries_read (length v) [] v s.normal s.small (omega arith) in
     others.on bytes (first.on bytes begun)
 
-pub bad_bytes_are_no_spelling : BadBytesAreNoSpelling
-bad_bytes_are_no_spelling bytes n bad v s = whole_not_bad bytes v (spelling_read bytes v s) n bad
+pub bad_bytes_are_no_encoding : BadBytesAreNoEncoding
+bad_bytes_are_no_encoding bytes n bad v s = whole_not_bad bytes v (encoding_read bytes v s) n bad
 
 -- ── what a field that is not there does ──
 pub stops_short : (p : DecodedPart) (w : ℕ) (r : List ℕ) → Width p w → (e : Stop) → IsShort w r e → Stops p r e
@@ -385,11 +385,11 @@ lists_short m r t ps e a lt k n v l = subst (Spoils (behind n v l m []) r) (sym 
 pub count_short : (r : List ℕ) (e : Stop) → IsShort 4 r e → Stops start r e
 count_short r e k = stops_short start 4 r of_count e k
 
--- the bytes are bad behind the part that was read
+-- the bytes are bad after the part that was read
 pub bytes_stop : (bytes : List ℕ) (p : DecodedPart) (r : List ℕ) → ReadsFields bytes p r → (e : Stop) → Stops p r e → BytesStop bytes e
 bytes_stop bytes p r h e k = (omega (arith, k.within, rest_short bytes p r h), k.bad bytes h)
 
--- ── behind the last lexeme is behind all ──
+-- ── after the last lexeme is after all ──
 none_behind : (l : List ℕ) → IsBehind [] l
 none_behind l = All-nil (λ e. IsBefore e.lexeme l)
 
@@ -411,7 +411,7 @@ pub not_next : (n : ℕ) (v : Vector) (front : Front) (k : ℕ) (l r s : List �
 not_next n v front k l r s is e len some deny =
     lexeme_wrong n v l k r s e len (λ _ valid after. deny (before_behind v front.last.now l (omega arith) is.last after, valid.utf8))
 
--- the bytes of an entry, field by field, behind the entries v
+-- the bytes of an entry, field by field, after the entries v
 module _ (n : ℕ) (v : Vector) (front : Front) (k : ℕ) (bytes r l after : List ℕ) where
   pub named_so : length v < n → IsFront v front → bytes ≡ little_bytes 2 k ++ r → 1 ≤ k → k ≤ 2046 → front.size + k < 1048576
       → r ≡ l ++ after → length l ≡ k → IsBefore front.last.now l × IsUtf8 l → Goes (counted n v) bytes (named n v l) after
@@ -465,6 +465,6 @@ none_front front last size = record {
   last = subst (IsLastLexeme []) (sym last) no_lexeme;
 }
 
-pub same_entries : (bytes : List ℕ) (n : ℕ) (entries : List ℕ) (v : Vector) → length v ≡ n → bytes ≡ little_bytes 4 n ++ entries → IsSpelling bytes v → entries ≡ flat_map entry_bytes v
+pub same_entries : (bytes : List ℕ) (n : ℕ) (entries : List ℕ) (v : Vector) → length v ≡ n → bytes ≡ little_bytes 4 n ++ entries → IsEncoding bytes v → entries ≡ flat_map entry_bytes v
 same_entries bytes n entries v many e is =
     (same_fronts (little_bytes 4 n) (little_bytes 4 (length v)) entries (flat_map entry_bytes v) (ap (λ k. length (little_bytes 4 k)) (sym many)) (sym e ∙ is.bytes_of)).1

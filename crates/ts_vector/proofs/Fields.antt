@@ -1,9 +1,9 @@
 -- Bytes are read field by field in one way.
 use Rattle.std.proofs.Common.{◌≡◌, ℕ, ◌+◌, ◌*◌, ◌<◌, ◌⊎◌, inl, inr, List, [], ◌∷◌, ◌++◌, length, refl, sym, ◌∙◌, ap, subst, arith, length-append}
 use Rattle.ts_base.specs.Vectors.{Position, Vector}
-use Rattle.ts_base.specs.Spelling.{weight_number, position_number, position_bytes}
+use Rattle.ts_base.specs.Encoding.{weight_number, position_number, position_bytes}
 use Rattle.ts_base.proofs.LittleBytes.{same_fronts, little_same}
-use Rattle.ts_base.proofs.Spelling.{weight_number_small, weight_number_same}
+use Rattle.ts_base.proofs.Encoding.{weight_number_small, weight_number_same}
 use Rattle.ts_vector.specs.Decoded.{DecodedPart, Next, Width, IsBeginning, ReadsFields, IsCut, IsSurplus, IsWrong, IsBadAt, BadPlaceIsOne, entry_with, start, counted, measured, named, placed, count, measure, name, no_places, places, place, last_place, of_count, of_length, of_lexeme, of_number, of_place, begun, field}
 
 -- ── a field says one thing ──

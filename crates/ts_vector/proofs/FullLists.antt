@@ -9,7 +9,7 @@ use Rattle.std.proofs.lemmas.List.Elements.{All-cons, All-append, All-contains, 
 use Rattle.std.proofs.lemmas.List.Kept.{AllPairs-cons}
 use Rattle.std.proofs.lemmas.List.Sorted.{IsPermutation-refl, IsPermutation-cons, IsPermutation-trans, IsPermutation-append_left, IsPermutation-to_front, All-permutation}
 use Rattle.ts_base.specs.Vectors.{Position, Vector, IsEntry, IsNormal}
-use Rattle.ts_base.specs.Spelling.{weight_number}
+use Rattle.ts_base.specs.Encoding.{weight_number}
 use Rattle.ts_vector.specs.Inner.Columns.{entry}
 use Rattle.ts_vector.specs.Inner.Gathered.{IsHeld, IsFull, Puts}
 use Rattle.ts_vector.specs.Inner.Steps.{Falls, IsTop, ListsTops, SettlesTo}

@@ -102,7 +102,7 @@ module _ (P : Entry → Type 0) where
       ];
     }
 
--- ── out is made of the items but for xs and ys, which come behind it ──
+-- ── out is made of the items but for xs and ys, which come after it ──
 pub record Joining (items out xs ys : List Entry) : Type 0 where
   pub rising : AllPairs Before out
   pub first : AllPairs Before xs
@@ -222,7 +222,7 @@ over_all x y ys up le b c = elim (contains_cases y b ys c) [
 abbrev pub moved : ℕ → Entry → Entry
 moved n e = record { lexeme = e.lexeme; positions = map (moved_within n) e.positions }
 
--- out has what stands before the places i and j
+-- out has what is before the places i and j
 pub record Merged (v w : List Entry) (by i j : ℕ) (out : List Entry) : Type 0 where
   pub first_in : i ≤ length v
   pub second_in : j ≤ length w

@@ -5,7 +5,7 @@ use Rattle.std.proofs.lemmas.Bool.{cases_lt}
 use Rattle.std.proofs.lemmas.List.{length-take, get_or-take, get_or_default, take_all}
 use Rattle.std.proofs.lemmas.List.Elements.{All-contains, Contains-append_left, Contains-append_cases, Contains-push_cases, Contains-get_or}
 use Rattle.std.proofs.lemmas.List.Quantifiers.{all_pairs_push}
-use Rattle.ts_base.specs.Spelling.{weight_number}
+use Rattle.ts_base.specs.Encoding.{weight_number}
 use Rattle.ts_base.specs.Vectors.{Position}
 use Rattle.ts_vector.specs.Inner.Steps.{IsTop, ListsTops, SettlesTo}
 use Rattle.ts_vector.proofs.Rising.{any_of, of_any, length_rising}

@@ -1,4 +1,4 @@
--- The last entries of a spelling, found by how many bytes they have.
+-- The last entries of an encoding, found by how many bytes they have.
 use Rattle.std.proofs.Common.{◌≡◌, ℕ, zero, suc, ◌+◌, ◌-◌, ◌<◌, ◌≤◌, List, [], ◌∷◌, ◌++◌, length, take, drop, refl, sym, ◌∙◌, ap, arith, length-append}
 use Rattle.std.specs.Prelude.{sum_by}
 use Rattle.std.specs.List.{flat_map}
@@ -6,8 +6,8 @@ use Rattle.std.proofs.lemmas.Grind.{flat_map-append}
 use Rattle.std.proofs.lemmas.List.{take-append-drop, length-drop, drop_at}
 use Rattle.std.proofs.lemmas.List.Sums.{sum_by-take-drop}
 use Rattle.ts_base.specs.Vectors.{Entry, Vector, IsNormal, content_size}
-use Rattle.ts_base.specs.Spelling.{entry_bytes, entry_size}
-use Rattle.ts_base.proofs.Spelling.{length-entries}
+use Rattle.ts_base.specs.Encoding.{entry_bytes, entry_size}
+use Rattle.ts_base.proofs.Encoding.{length-entries}
 use Rattle.ts_vector.specs.Inner.Told.{entries_told, AreEntries}
 use Rattle.ts_vector.proofs.Merging.{entry_size as content_of}
 use Rattle.ts_vector.proofs.Told.{told, told_are, tail_normal}

@@ -11,7 +11,7 @@ pub mod Counts
 pub mod Reading
 pub mod OneList
 pub mod TextFacts
-pub mod DraftFacts
+pub mod WrittenFacts
 pub mod Refusing
 pub mod Greatest
 pub mod Changed

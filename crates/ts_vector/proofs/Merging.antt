@@ -32,7 +32,7 @@ before_or_same a b n ne = by (slice_cmp nat_cmp a b) refl
     by Equal e = absurd (ne (slice_cmp-IsAntisymmetric nat_cmp-IsAntisymmetric a b e))
     by Greater e = absurd (n (nat_list_cmp_total.antisymm b a ∙ ap ordering_reverse e))
 
--- each element stands before the last one
+-- each element is before the last one
 in_front : {X : Type 0} (R : X → X → Type 0) (front : List X) (last a : X) → AllPairs R (front ++ last ∷ []) → Contains front a → R a last
 in_front R front last a h (k, lt, read) =
     let n = length-append front (last ∷ []) in
@@ -59,7 +59,7 @@ pub record Merging (items out rest : List Entry) : Type 0 where
   pub same : HaveSame items (out ++ rest)
   pub size : content_size (out ++ rest) ≤ content_size items
 
--- two items that stand side by side, or are joined
+-- two items that are side by side, or are joined
 module _ (P : Entry → Type 0) (front rest : List Entry) (last e both : Entry) (l : P last → P both) (r : P e → P both) (back : P both → P last ⊎ P e) where
   apart : Any P ((front ++ last ∷ []) ++ e ∷ rest) → Any P ((front ++ both ∷ []) ++ rest)
   apart h =
@@ -90,7 +90,7 @@ module _ (P : Entry → Type 0) (front rest : List Entry) (last e both : Entry) 
         | inr t ↦ any_of P ((front ++ last ∷ []) ++ e ∷ rest) x.0 (Contains-append_right (front ++ last ∷ []) (e ∷ rest) x.0 (contains_later e x.0 rest t)) x.2
       ]
 
--- an item of a lexeme that stands at p
+-- an item of a lexeme that is at p
 abbrev pub HasPlace : List ℕ → Position → Entry → Type 0
 HasPlace l p e = (e.lexeme ≡ l) × Any (λ q. capped q ≡ p) e.positions
 

@@ -15,7 +15,7 @@ use Rattle.ts_base.specs.Vectors.{Position}
 use Rattle.ts_vector.specs.Text.{PositionNumber, BehindPosition, position, digit, letter, bare, last, comma}
 use Rattle.ts_vector.specs.TextLaws.{PositionHasItsNumber}
 
--- the positions so far stand at the front of all
+-- the positions so far are at the front of all
 abbrev Grows : List Position → List Position → Type 0
 Grows a ps = (more : List Position) × (ps ≡ a ++ more)
 

@@ -10,7 +10,7 @@ use Rattle.std.proofs.Math.Seq.{append_snoc}
 use Rattle.ts_base.specs.declared.Weight.{Weight}
 use Rattle.ts_base.specs.declared.Weight.TheVariants.{A, B, C, D}
 use Rattle.ts_base.specs.Vectors.{Position, Entry, Vector, IsPosition, IsEntry, IsNormal}
-use Rattle.ts_base.specs.Spelling.{weight_number}
+use Rattle.ts_base.specs.Encoding.{weight_number}
 use Rattle.ts_vector.specs.Normal.{capped, Names, Places, IsHighest, IsPlaced, IsNormalFormOf}
 use Rattle.ts_vector.specs.Text.{Written, written, position, IsParted, PositionNumber, BehindPosition, Items, LexemeTail, AllShort, entry_of, entries, digit, letter, bare, last, comma, done, space, quoted, alone, numbered}
 use Rattle.ts_base.specs.Bytes.{IsDigit, BeginsWithQuote}
@@ -72,7 +72,7 @@ parted_no_quote (c ∷ r) e b = grind arith
 some_ne : (l : List ℕ) → 1 ≤ length l → l ≢ []
 some_ne l h e = let n = ap length e in omega arith
 
--- behind the lexeme stand its positions
+-- after the lexeme are its positions
 word_leads : (size s : ℕ) (a : List Written) (l : List ℕ) (ps : List Position) (r : List ℕ) (v : List Written) → IsParted r → All IsPosition ps
     → Items size (a ++ written s l ps ∷ []) r v → LexemeTail size s a l (positions_text ps ++ r) v
 word_leads size s a l [] r v e h k = alone s a l r v k

@@ -1,4 +1,4 @@
--- What may follow before a byte, and behind it, state by state.
+-- What may follow before a byte, and after it, state by state.
 use Rattle.std.proofs.Common.{◌≡◌, ◌≢◌, ℕ, suc, ◌+◌, ◌-◌, ◌<◌, List, [], ◌∷◌, ◌++◌, ◌⊎◌, inl, inr, length, refl, sym, ◌∙◌, subst, Bool, true, false, arith}
 use Rattle.ts_base.specs.declared.Weight.{Weight}
 use Rattle.ts_base.specs.declared.Weight.TheVariants.{D}
@@ -24,7 +24,7 @@ mk st its s a ps n = record { state = st; items = its; start = s; word = a; posi
 ends_92 : ¬ EndsItem 92
 ends_92 h = grind arith
 
--- behind a position comes the end, white space or a comma
+-- after a position comes the end, white space or a comma
 behind_begins : (ps : List Position) (c : ℕ) (u : List ℕ) (qs : List Position) (r : List ℕ) → BehindPosition ps (c ∷ u) qs r → IsWhite c ⊎ (c ≡ 44)
 behind_begins ps c u qs r (last _ _ h) = inl h
 behind_begins ps c u qs r (comma _ _ _ _ num) = inr refl
@@ -74,7 +74,7 @@ module _ (size s : ℕ) where
     items_plain c u v o k n (escape _ a t l r w q b) = absurd (k.no_escape refl)
 
     module _ (a : List ℕ) where
-      -- behind a lexeme
+      -- after a lexeme
       word_colon : (u : List ℕ) (v : List Written) → LexemeTail size s its a (58 ∷ u) v → PositionNumberOn size s its a [] 0 u v
       word_colon u v (alone _ _ _ _ _ i) = absurd (colon_never (its ++ written s a [] ∷ []) u v i)
       word_colon u v (numbered _ _ _ _ ps r _ num i) = (ps, r, num, i)
@@ -105,7 +105,7 @@ module _ (size s : ℕ) where
       plain_white_from c u v k i =
           plain_over_from (List Written) EndsItem (LexemeTail size s its) a c u v (inl k) (alone s its a (c ∷ u) v (space c (its ++ written s a [] ∷ []) u v k i))
 
-      -- ── in a number, and behind a position ──
+      -- ── in a number, and after a position ──
       module _ (ps : List Position) where
         behind_comma : (u : List ℕ) (qs : List Position) (r : List ℕ) → BehindPosition ps (44 ∷ u) qs r → PositionNumber 0 ps u qs r
         behind_comma u qs r (last _ _ h) = absurd (white_44 h)
@@ -301,7 +301,7 @@ over_goes size s its a c u v f g i = inr (g, f, alone s its a (c ∷ u) v i)
 over_came : (size s : ℕ) (its : List Written) (a : List ℕ) (c : ℕ) (u : List ℕ) (v : List Written) → c ≢ 39 → c ≢ 58 → ItemQuote size s its a (c ∷ u) v → Items size (its ++ written s a [] ∷ []) (c ∷ u) v
 over_came size s its a c u v g k h = word_other size s its a c u v k (quote_other (List Written) (LexemeTail size s its) a c u v g h).1
 
--- behind a quoted lexeme the next item may come at once
+-- after a quoted lexeme the next item may come at once
 quoted_over_at : (o : ℕ) (its : List Written) (s s2 : ℕ) (a a2 : List ℕ) (ps ps2 : List Position) (n n2 c : ℕ) (ok : Bool) (t : Shape) → a ≢ [] → c ≢ 39 → c ≢ 58
     → ShapeSteps o (mk Between (its ++ written s a [] ∷ []) s2 a2 ps2 n2) c ok t → ShapeSteps o (mk Quote its s a ps n) c ok t
 quoted_over_at o its s s2 a a2 ps ps2 n n2 c true t f g k m = record {

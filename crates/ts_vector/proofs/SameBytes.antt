@@ -27,7 +27,7 @@ not_false : (x : Bool) → false ≡ not x → x ≡ true
 not_false true h = refl
 not_false false h = absurd (cc)
 
--- what `a != b` tells
+-- what `a != b` says
 pub told_other : (a b : List ℕ) (r : Bool) → r ≡ not (pointwise eqb a b) → r ≡ true → b ≢ a
 told_other a b r e t s = other_bytes a b (not_true (pointwise eqb a b) (sym t ∙ e)) (sym s)
 

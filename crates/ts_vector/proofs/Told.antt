@@ -9,9 +9,9 @@ use Rattle.ts_base.specs.declared.Weight.{Weight}
 use Rattle.ts_base.specs.declared.Weight.TheVariants.{D, C, B, A}
 use Rattle.ts_base.specs.Lexemes.{IsBefore}
 use Rattle.ts_base.specs.Vectors.{Position, Entry, Vector, IsPosition, IsEntry, IsNormal}
-use Rattle.ts_base.specs.Spelling.{weight_number, position_number, position_bytes, entry_bytes, IsSpelling}
+use Rattle.ts_base.specs.Encoding.{weight_number, position_number, position_bytes, entry_bytes, IsEncoding}
 use Rattle.ts_base.proofs.LittleBytes.{same_fronts, little_same}
-use Rattle.ts_base.proofs.Spelling.{position_number_same, position_number_small, length-positions}
+use Rattle.ts_base.proofs.Encoding.{position_number_same, position_number_small, length-positions}
 use Rattle.ts_vector.specs.Inner.Fields.{IsChecked}
 use Rattle.ts_vector.specs.Inner.Told.{number_told, weight_told, place_told, places_told, lexeme_told, behind_lexeme, place_bytes, behind_places, entry_told, entries_told, ArePlaces, AreEntries, IsFirst}
 use Rattle.ts_vector.proofs.Rising.{pairs_tail}
@@ -172,11 +172,11 @@ told_are n bytes v are = subst (AreEntries n bytes) (sym (told n bytes v are)) a
 pub checked_are : (bytes : List ℕ) (n : ℕ) (entries : List ℕ) → IsChecked bytes n entries → AreEntries n entries (entries_told n entries)
 checked_are bytes n entries (v, is, count, rest) = told_are n entries v (record { normal = is.normal; small = is.small; counted = count; bytes_of = rest })
 
-pub checked_spells : (bytes : List ℕ) (n : ℕ) (entries : List ℕ) → IsChecked bytes n entries → IsSpelling bytes (entries_told n entries)
-checked_spells bytes n entries (v, is, count, rest) =
-    subst (IsSpelling bytes) (sym (told n entries v (record { normal = is.normal; small = is.small; counted = count; bytes_of = rest }))) is
+pub checked_encodes : (bytes : List ℕ) (n : ℕ) (entries : List ℕ) → IsChecked bytes n entries → IsEncoding bytes (entries_told n entries)
+checked_encodes bytes n entries (v, is, count, rest) =
+    subst (IsEncoding bytes) (sym (told n entries v (record { normal = is.normal; small = is.small; counted = count; bytes_of = rest }))) is
 
--- the entries behind the first
+-- the entries after the first
 pub tail_normal : (e : Entry) (v : Vector) → IsNormal (e ∷ v) → IsNormal v
 tail_normal e v n = record { entries = All-tail IsEntry e v n.entries; rising = pairs_tail (λ x y. IsBefore x.lexeme y.lexeme) e v n.rising }
 

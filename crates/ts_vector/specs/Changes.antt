@@ -37,7 +37,7 @@ shifted n vector =
     map
     (λ entry. record { lexeme = entry.lexeme; positions = map (moved_position n) entry.positions }) vector
 
--- the normal form of the entries of both, the second's positions behind the first's greatest
+-- the normal form of the entries of both, the second's positions after the first's greatest
 abbrev pub IsJoinOf : Vector → Vector → Vector → Type 0
 IsJoinOf first second vector = (n : ℕ) × IsGreatest first n
     × IsNormalFormOf (first ++ shifted n second) vector × (content_size vector < SIZE_LIMIT)

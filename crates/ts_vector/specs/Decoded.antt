@@ -1,10 +1,10 @@
--- Which bytes are no vector's spelling, and where they go wrong: field by field.
+-- Which bytes are no vector's encoding, and where they go wrong: field by field.
 use Rattle.std.specs.Prelude.{◌≡◌, ◌≢◌, ℕ, ◌+◌, ◌*◌, ◌^◌, ◌<◌, ◌≤◌, ◌⊎◌, List, [], ◌∷◌, ◌++◌, length, All, AllPairs}
 use Rattle.ts_base.specs.declared.TheConstants.{LONGEST_LEXEME, MOST_POSITIONS, SIZE_LIMIT, WEIGHT_UNIT}
 use Rattle.ts_base.specs.Lexemes.{IsLexeme, IsBefore}
 use Rattle.ts_base.specs.Vectors.{Position, Entry, Vector, IsPosition, IsNormal, content_size}
 use Rattle.ts_base.specs.Endian.{little_bytes}
-use Rattle.ts_base.specs.Spelling.{position_bytes, IsSpelling}
+use Rattle.ts_base.specs.Encoding.{position_bytes, IsEncoding}
 use Rattle.ts_vector.specs.declared.error.VectorError.{VectorError}
 use Rattle.ts_vector.specs.declared.error.VectorError.TheVariants.{Syntax, LexemeTooLong, VectorTooLarge, BadBytes, OutOfMemory}
 
@@ -36,7 +36,7 @@ pub data Next : DecodedPart → List ℕ → DecodedPart → Type 0 where
       → p.at < WEIGHT_UNIT → length ps + 1 ≡ m
       → Next (placed n v l m ps) (position_bytes p) (counted n (v ++ entry_with l (ps ++ p ∷ []) ∷ []))
 
--- how many bytes the next field has; none is due behind the last entry
+-- how many bytes the next field has; none is due after the last entry
 pub data Width : DecodedPart → ℕ → Type 0 where
   of_count : Width start 4
   of_length : (n : ℕ) (v : Vector) → length v < n → Width (counted n v) 2
@@ -44,7 +44,7 @@ pub data Width : DecodedPart → ℕ → Type 0 where
   of_number : (n : ℕ) (v : Vector) (l : List ℕ) → Width (named n v l) 2
   of_place : (n m : ℕ) (v : Vector) (l : List ℕ) (ps : List Position) → Width (placed n v l m ps) 2
 
--- the lexeme is behind all before
+-- the lexeme is after all before
 abbrev pub IsBehind : Vector → List ℕ → Type 0
 IsBehind v l = All (λ e. IsBefore e.lexeme l) v
 
@@ -68,7 +68,7 @@ pub data ReadsFields (bytes : List ℕ) : DecodedPart → List ℕ → Type 0 wh
   field : (p q : DecodedPart) (f rest : List ℕ) → ReadsFields bytes p (f ++ rest) → Next p f q
       → IsBeginning q → ReadsFields bytes q rest
 
--- behind the part: the next field is cut off, or the part is whole and more follows, or with the next field no vector begins so
+-- after the part: the next field is cut off, or the part is whole and more follows, or with the next field no vector begins so
 abbrev pub IsCut : DecodedPart → List ℕ → Type 0
 IsCut p rest = (w : ℕ) × Width p w × (length rest < w)
 
@@ -87,22 +87,22 @@ pub record IsBadAt (bytes : List ℕ) (n : ℕ) : Type 0 where
   pub cause : (IsCut part rest × (n ≡ length bytes))
       ⊎ ((IsSurplus part rest ⊎ IsWrong part rest) × (n + length rest ≡ length bytes))
 
--- bytes are refused where they are no vector's spelling
-abbrev pub SpellingFails : List ℕ → VectorError → Type 0
-SpellingFails bytes (Syntax n) = ⊥
-SpellingFails bytes (LexemeTooLong n) = ⊥
-SpellingFails bytes (VectorTooLarge n) = ⊥
-SpellingFails bytes (BadBytes n) = IsBadAt bytes n
-SpellingFails bytes OutOfMemory = ⊥
+-- bytes are refused where they are no vector's encoding
+abbrev pub EncodingFails : List ℕ → VectorError → Type 0
+EncodingFails bytes (Syntax n) = ⊥
+EncodingFails bytes (LexemeTooLong n) = ⊥
+EncodingFails bytes (VectorTooLarge n) = ⊥
+EncodingFails bytes (BadBytes n) = IsBadAt bytes n
+EncodingFails bytes OutOfMemory = ⊥
 
 -- and where memory runs out
 abbrev pub DecodeFails : List ℕ → VectorError → Type 0
-DecodeFails bytes error = SpellingFails bytes error ⊎ (error ≡ OutOfMemory)
+DecodeFails bytes error = EncodingFails bytes error ⊎ (error ≡ OutOfMemory)
 
--- bytes go wrong at one place, and then they are no spelling
+-- bytes go wrong at one place, and then they are no encoding
 abbrev pub BadPlaceIsOne : Type 0
 BadPlaceIsOne = (bytes : List ℕ) (m n : ℕ) → IsBadAt bytes m → IsBadAt bytes n → m ≡ n
 
-abbrev pub BadBytesAreNoSpelling : Type 0
-BadBytesAreNoSpelling = (bytes : List ℕ) (n : ℕ) → IsBadAt bytes n → (v : Vector)
-    → ¬ IsSpelling bytes v
+abbrev pub BadBytesAreNoEncoding : Type 0
+BadBytesAreNoEncoding = (bytes : List ℕ) (n : ℕ) → IsBadAt bytes n → (v : Vector)
+    → ¬ IsEncoding bytes v

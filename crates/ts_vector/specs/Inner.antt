@@ -1,4 +1,4 @@
-pub mod Drafts
+pub mod WrittenLexemes
 pub mod Shape
 pub mod Extends
 pub mod Steps

@@ -6,7 +6,7 @@ pub use Rattle.ts_base.specs.Plain
 pub use Rattle.ts_base.specs.Digits
 pub use Rattle.ts_base.specs.Lexemes
 pub use Rattle.ts_base.specs.Vectors
-pub use Rattle.ts_base.specs.Spelling
+pub use Rattle.ts_base.specs.Encoding
 pub mod Normal
 pub mod Text
 pub mod TextLaws

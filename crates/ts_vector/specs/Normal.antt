@@ -4,7 +4,7 @@ use Rattle.ts_base.specs.declared.TheConstants.{LAST_POSITION, MOST_POSITIONS}
 use Rattle.ts_base.specs.declared.Weight.{Weight}
 use Rattle.ts_base.specs.Lexemes.{IsBefore}
 use Rattle.ts_base.specs.Vectors.{Position, Entry, Vector}
-use Rattle.ts_base.specs.Spelling.{weight_number}
+use Rattle.ts_base.specs.Encoding.{weight_number}
 
 -- a number above 16383 counts as 16383
 abbrev pub capped : Position → Position
@@ -19,7 +19,7 @@ abbrev pub Places : List Entry → List ℕ → Position → Type 0
 Places items lexeme p =
     Any (λ item. (item.lexeme ≡ lexeme) × Any (λ q. capped q ≡ p) item.positions) items
 
--- the lexeme stands at p, and at this number with no higher weight
+-- the lexeme is at p, and at this number with no higher weight
 pub record IsHighest (items : List Entry) (lexeme : List ℕ) (p : Position) : Type 0 where
   pub placed : Places items lexeme p
   pub highest : (w : Weight) → Places items lexeme (record { at = p.at; weight = w })

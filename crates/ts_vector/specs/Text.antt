@@ -1,5 +1,5 @@
 -- The text of a vector. Each relation takes what was read before, and says how the bytes go on.
--- The size is that of the whole text: what is left of it tells the offset at which a lexeme starts.
+-- The size is that of the whole text: what is left of it says the offset at which a lexeme starts.
 use Rattle.std.specs.Prelude.{◌≡◌, ◌≢◌, ℕ, suc, ◌-◌, ◌<◌, ◌≤◌, List, [], ◌∷◌, ◌++◌, ◌⊎◌, length, map, All}
 use Rattle.ts_base.specs.declared.TheConstants.{LONGEST_LEXEME, LAST_POSITION}
 use Rattle.ts_base.specs.declared.Weight.{Weight}
@@ -45,7 +45,7 @@ mutual
     bare : (n : ℕ) (a : List Position) (u : List ℕ) (ps : List Position) (r : List ℕ) → 0 < n
         → BehindPosition (a ++ position n D ∷ []) u ps r → PositionNumber n a u ps r
 
-  -- behind a position
+  -- after a position
   pub data BehindPosition : List Position → List ℕ → List Position → List ℕ → Type 0 where
     last : (a : List Position) (r : List ℕ) → IsParted r → BehindPosition a r a r
     comma : (a : List Position) (u : List ℕ) (ps : List Position) (r : List ℕ)
@@ -66,7 +66,7 @@ mutual
         → Plain EndsItem (c ∷ []) u l r → LexemeTail size (size - suc (suc (length u))) a l r v
         → Items size a (92 ∷ c ∷ u) v
 
-  -- behind the lexeme l that starts at s
+  -- after the lexeme l that starts at s
   pub data LexemeTail (size : ℕ) : ℕ → List Written → List ℕ → List ℕ → List Written → Type 0 where
     alone : (s : ℕ) (a : List Written) (l r : List ℕ) (v : List Written)
         → Items size (a ++ written s l [] ∷ []) r v → LexemeTail size s a l r v

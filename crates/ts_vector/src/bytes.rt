@@ -1,7 +1,7 @@
 // The fields of a vector's bytes.
 ghost use Rattle.std.specs.Prelude.{◌≡◌, ◌^◌, ◌<◌, ◌++◌, length, IfOk, IfErr};
 ghost use Rattle.ts_base.specs.Endian.{little_bytes};
-ghost use Rattle.ts_base.specs.Spelling.{weight_number};
+ghost use Rattle.ts_base.specs.Encoding.{weight_number};
 ghost use Rattle.ts_vector.specs.Inner.Fields.{IsShort, ListsSome, ListStops};
 
 use ts_base::{WEIGHT_UNIT, Weight};

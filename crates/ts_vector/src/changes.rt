@@ -14,8 +14,8 @@ pub fn without_positions(alloc: Global, entries: &Columns) -> Result<Columns, Al
     ensures { IfOk result (λ made. made ≡ stripped entries.now) }
 {
     let mut made = Columns::new(alloc);
-    for row in entries.rows() {
-        made.push(row.lexeme(), &[])?;
+    for entry in entries.entry_refs() {
+        made.push(entry.lexeme(), &[])?;
     }
     Ok(made)
 }
@@ -44,9 +44,9 @@ pub fn entries_with_weight(
     ensures { IfOk result (λ made. made ≡ reweighted weight entries.now) }
 {
     let mut made = Columns::new(alloc);
-    for row in entries.rows() {
-        let positions = with_weight(alloc, row.positions(), weight)?;
-        made.push(row.lexeme(), positions.as_slice())?;
+    for entry in entries.entry_refs() {
+        let positions = with_weight(alloc, entry.positions(), weight)?;
+        made.push(entry.lexeme(), positions.as_slice())?;
     }
     Ok(made)
 }
@@ -72,8 +72,8 @@ pub fn greatest(entries: &Columns) -> u16
     ensures bound { result ≤ LAST_POSITION }
 {
     let mut greatest: u16 = 0;
-    for row in entries.rows() {
-        greatest = greatest_from(row.positions(), greatest);
+    for entry in entries.entry_refs() {
+        greatest = greatest_from(entry.positions(), greatest);
     }
     greatest
 }

@@ -24,7 +24,7 @@ pub struct Front<'a> {
     places: usize,
 }
 
-/// The length of the next lexeme, behind entries of this size, and the rest.
+/// The length of the next lexeme, after entries of this size, and the rest.
 fn length(size: usize, bytes: &[u8]) -> Result<(usize, &[u8]), Stop>
     requires { size < SIZE_LIMIT }
     ensures some { IfOk result (λ x. 1 ≤ x.0) }
@@ -79,14 +79,14 @@ fn is_before(first: &[u8], second: &[u8]) -> bool
     first.len() < second.len()
 }
 
-/// Whether the bytes are text and behind the last lexeme.
+/// Whether the bytes are text and after the last lexeme.
 fn is_next(last: &[u8], bytes: &[u8]) -> bool
     ensures { IsTrue result ↔ (IsBefore last.now bytes.now × IsUtf8 bytes.now) }
 {
     is_before(last, bytes) && is_text(bytes)
 }
 
-/// The number of a lexeme's positions, behind entries and a lexeme of this size, and the rest.
+/// The number of a lexeme's positions, after entries and a lexeme of this size, and the rest.
 fn number(size: usize, bytes: &[u8]) -> Result<(usize, &[u8]), Stop>
     requires { size < SIZE_LIMIT }
     ensures few { IfOk result (λ x. x.0 ≤ MOST_POSITIONS) }
@@ -104,7 +104,7 @@ fn number(size: usize, bytes: &[u8]) -> Result<(usize, &[u8]), Stop>
 }
 
 impl<'a> Front<'a> {
-    /// Checks the next entry: what is known behind it, and the rest.
+    /// Checks the next entry: what is known after it, and the rest.
     fn entry(self, bytes: &'a [u8]) -> Result<(Front<'a>, &'a [u8]), Stop>
         requires small { self.size < SIZE_LIMIT }
         requires few { 2 * self.places ≤ self.size }
@@ -131,7 +131,7 @@ impl<'a> Front<'a> {
     }
 }
 
-/// Checks a vector's whole spelling, and gives the number of its entries, that of their positions,
+/// Checks a vector's whole encoding, and gives the number of its entries, that of their positions,
 /// and their bytes.
 pub fn checked(bytes: &[u8]) -> Result<(usize, usize, &[u8]), Stop>
     ensures ok { IfOk result (λ x. IsChecked bytes.now x.0 x.2.now) }

@@ -3,11 +3,11 @@ ghost use Rattle.std.specs.Prelude.{◌≡◌, ℕ, ◌^◌, ◌<◌, ◌≤◌,
 ghost use Rattle.std.specs.List.{flat_map};
 ghost use Rattle.ts_base.specs.Vectors.{IsEntry, IsNormal, content_size};
 ghost use Rattle.ts_base.specs.Endian.{little_bytes};
-ghost use Rattle.ts_base.specs.Spelling.{position_bytes, entry_bytes, vector_bytes};
+ghost use Rattle.ts_base.specs.Encoding.{position_bytes, entry_bytes, vector_bytes};
 ghost use Rattle.ts_vector.specs.Inner.Extends.{Extends};
 
 use crate::SIZE_LIMIT;
-use crate::columns::{Columns, Row};
+use crate::columns::{Columns, EntryRef};
 use crate::normal::rank;
 use std::alloc::AllocError;
 use ts_base::{Position, WEIGHT_UNIT};
@@ -54,12 +54,12 @@ fn put_positions(out: &mut Vec<u8>, positions: &[Position]) -> Result<(), AllocE
 }
 
 /// Appends a lexeme and its positions.
-fn put_entry(out: &mut Vec<u8>, row: &Row<'_>) -> Result<(), AllocError>
-    requires { IsEntry row.now }
-    ensures ok { OnOk result (out.new.items ≡ out.old.items ++ entry_bytes row.now) }
+fn put_entry(out: &mut Vec<u8>, entry: &EntryRef<'_>) -> Result<(), AllocError>
+    requires { IsEntry entry.now }
+    ensures ok { OnOk result (out.new.items ≡ out.old.items ++ entry_bytes entry.now) }
     ensures grows { Extends out.old.items out.new.items }
 {
-    let (lexeme, positions) = (row.lexeme(), row.positions());
+    let (lexeme, positions) = (entry.lexeme(), entry.positions());
     put_two(out, lexeme.len() as u16)?;
     out.extend_from_slice(lexeme)?;
     put_two(out, positions.len() as u16)?;
@@ -72,13 +72,13 @@ fn put_each(out: &mut Vec<u8>, entries: &Columns) -> Result<(), AllocError>
     ensures ok { OnOk result (out.new.items ≡ out.old.items ++ flat_map entry_bytes entries.now) }
     ensures grows { Extends out.old.items out.new.items }
 {
-    for row in entries.rows() {
-        put_entry(out, &row)?;
+    for entry in entries.entry_refs() {
+        put_entry(out, &entry)?;
     }
     Ok(())
 }
 
-/// Appends the spelling of entries in normal form.
+/// Appends the encoding of entries in normal form.
 pub fn put_entries(out: &mut Vec<u8>, entries: &Columns) -> Result<(), AllocError>
     requires normal { IsNormal entries.now }
     requires limit { content_size entries.now < SIZE_LIMIT }

@@ -4,7 +4,7 @@ ghost use Rattle.std.specs.Iterator.{YieldsFirst, item_count};
 ghost use Rattle.ts_base.specs.Vectors.{Entry, content_size};
 ghost use Rattle.ts_vector.specs.Inner.Columns.{origin, start_from, piece};
 
-use crate::spelled::{Positions, VectorBytes};
+use crate::encoded::{Positions, VectorBytes};
 use std::alloc::{AllocError, Global};
 use std::marker::Model;
 use ts_base::Position;
@@ -28,9 +28,9 @@ const ORIGIN: Ends = Ends {
 /// Contracts see them as the list of the entries.
 #[derive(Debug, Drop)]
 pub struct Columns {
-    /// The bytes of the lexemes, one behind another.
+    /// The bytes of the lexemes, one after another.
     lexemes: Vec<u8>,
-    /// The positions of all lexemes, one behind another.
+    /// The positions of all lexemes, one after another.
     positions: Vec<Position>,
     /// Where each entry ends.
     ends: Vec<Ends>,
@@ -49,7 +49,7 @@ impl Model for Columns {
     ghost invariant = { λ c. AreColumns c.lexemes.items c.positions.items c.ends.items };
 }
 
-/// The end behind so many more, if it can be numbered.
+/// The end after so many more, if it can be numbered.
 fn end(len: usize, more: usize) -> Result<u32, AllocError>
     ensures { IfOk result (λ n. n ≡ len + more) }
 {
@@ -71,7 +71,7 @@ fn ends_at(lexemes: usize, positions: usize) -> Result<Ends, AllocError>
     })
 }
 
-/// Appends the positions of a spelling.
+/// Appends the positions of an encoding.
 fn put_places(list: &mut Vec<Position>, places: Positions<'_>) -> Result<(), AllocError>
     ensures { OnOk result (list.new.items ≡ list.old.items ++ places.entry) }
 {
@@ -116,15 +116,15 @@ impl Columns {
         }
     }
 
-    /// A spelling's entries.
-    pub fn of_spelling(alloc: Global, spelled: &VectorBytes<'_>) -> Result<Columns, AllocError>
-        ensures { IfOk result (λ columns. columns ≡ spelled.now) }
+    /// An encoding's entries.
+    pub fn of_encoding(alloc: Global, encoded: &VectorBytes<'_>) -> Result<Columns, AllocError>
+        ensures { IfOk result (λ columns. columns ≡ encoded.now) }
     {
-        let (bytes, places) = spelled.lengths();
+        let (bytes, places) = encoded.lengths();
         let mut lexemes = Vec::with_capacity(alloc, bytes)?;
         let mut positions = Vec::with_capacity(alloc, places)?;
-        let mut ends = Vec::with_capacity(alloc, spelled.count())?;
-        for entry in spelled.entries() {
+        let mut ends = Vec::with_capacity(alloc, encoded.count())?;
+        for entry in encoded.entries() {
             lexemes.extend_from_slice(entry.lexeme().as_bytes())?;
             put_places(&mut positions, entry.positions())?;
             ends.push(ends_at(lexemes.len(), positions.len())?)?;
@@ -169,27 +169,27 @@ impl Columns {
         part(self.positions.as_slice(), start.positions, end.positions)
     }
 
-    /// The entry at the index k; behind the last one there is an empty one.
-    pub fn row(&self, k: usize) -> Row<'_>
+    /// The entry at the index k; after the last one there is an empty one.
+    pub fn entry(&self, k: usize) -> EntryRef<'_>
         ensures { result ≡ entry_at self.now k }
     {
         if k >= self.len() {
-            return Row {
+            return EntryRef {
                 lexeme: &[],
                 positions: &[],
             };
         }
-        Row {
+        EntryRef {
             lexeme: self.lexeme(k),
             positions: self.positions(k),
         }
     }
 
     /// The entries, one after another.
-    pub fn rows(&self) -> Rows<'_>
+    pub fn entry_refs(&self) -> EntryRefs<'_>
         ensures { result ≡ self.now }
     {
-        Rows {
+        EntryRefs {
             lexemes: self.lexemes.as_slice(),
             positions: self.positions.as_slice(),
             start: ORIGIN,
@@ -218,14 +218,14 @@ impl Columns {
 
 /// An entry that lies in columns.
 #[derive(Debug, Drop)]
-pub struct Row<'a> {
+pub struct EntryRef<'a> {
     /// The bytes of its lexeme.
     lexeme: &'a [u8],
     /// Its positions.
     positions: &'a [Position],
 }
 
-impl<'a> Model for Row<'a> {
+impl<'a> Model for EntryRef<'a> {
     ghost use Rattle.ts_base.specs.Vectors.{Entry};
 
     ghost Value = { Entry };
@@ -233,7 +233,7 @@ impl<'a> Model for Row<'a> {
     ghost view = { λ r. record { lexeme = r.lexeme.now; positions = r.positions.now } };
 }
 
-impl<'a> Row<'a> {
+impl<'a> EntryRef<'a> {
     /// The bytes of its lexeme.
     pub fn lexeme(&self) -> &'a [u8]
         ensures { result.now ≡ self.now.lexeme }
@@ -251,7 +251,7 @@ impl<'a> Row<'a> {
 
 /// The entries of columns that are left, in order. Contracts see them as a list.
 #[derive(Debug, Drop)]
-pub struct Rows<'a> {
+pub struct EntryRefs<'a> {
     /// The bytes of all lexemes.
     lexemes: &'a [u8],
     /// The positions of all lexemes.
@@ -262,7 +262,7 @@ pub struct Rows<'a> {
     ends: &'a [Ends],
 }
 
-impl<'a> Model for Rows<'a> {
+impl<'a> Model for EntryRefs<'a> {
     ghost use Rattle.std.specs.Prelude.{List, length};
     ghost use Rattle.ts_base.specs.Vectors.{Entry};
 
@@ -276,21 +276,21 @@ impl<'a> Model for Rows<'a> {
         (length r.positions.now) };
 }
 
-impl<'a> Iterator for Rows<'a> {
-    type Item = Row<'a>;
+impl<'a> Iterator for EntryRefs<'a> {
+    type Item = EntryRef<'a>;
 
     ghost next_gives = { YieldsFirst (λ left. left) };
 
     ghost remaining = { item_count (λ left. left) };
 
-    fn next(&mut self) -> Option<Row<'a>> {
+    fn next(&mut self) -> Option<EntryRef<'a>> {
         let (end, ends) = self.ends.split_first()?;
-        let row = Row {
+        let entry = EntryRef {
             lexeme: part(self.lexemes, self.start.lexeme, end.lexeme),
             positions: part(self.positions, self.start.positions, end.positions),
         };
         self.start = *end;
         self.ends = ends;
-        Some(row)
+        Some(entry)
     }
 }

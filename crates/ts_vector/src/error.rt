@@ -22,7 +22,7 @@ pub enum VectorError {
         /// The size of the content.
         bytes: usize,
     },
-    /// The bytes are no vector's spelling.
+    /// The bytes are no vector's encoding.
     #[error("bad bytes at {at}")]
     BadBytes {
         /// The first byte of the first field that is wrong, or the number of bytes where they end too early.

@@ -53,7 +53,7 @@ fn lexeme_of(alloc: Global, bytes: &[u8]) -> Result<Lexeme, AllocError>
     Ok(Lexeme::from_string(String::from_str(alloc, text)?))
 }
 
-/// Whether there are 256 positions, and others stand behind all of them.
+/// Whether there are 256 positions, and others are after all of them.
 fn is_full(positions: &[Position], others: &[Position]) -> bool
     ensures { IsTrue result → IsFull positions.now others.now }
 {
@@ -132,7 +132,7 @@ impl Gathered {
         Ok(())
     }
 
-    /// Joins entries: each position behind the greatest so far.
+    /// Joins entries: each position after the greatest so far.
     pub fn join(&mut self, alloc: Global, other: &Columns) -> Result<(), AllocError>
         requires normal { IsNormal other.now }
         requires small { content_size self.old + content_size other.now < 2 ^ 32 }
@@ -140,9 +140,9 @@ impl Gathered {
             × IsNormalFormOf (self.old ++ shifted_within n other.now) self.new) }
     {
         let by = self.greatest;
-        for row in other.rows() {
-            let positions = later(alloc, row.positions(), by)?;
-            self.put(alloc, row.lexeme(), positions.as_slice())?;
+        for entry in other.entry_refs() {
+            let positions = later(alloc, entry.positions(), by)?;
+            self.put(alloc, entry.lexeme(), positions.as_slice())?;
         }
         Ok(())
     }

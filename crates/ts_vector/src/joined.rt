@@ -38,7 +38,7 @@ impl Joined {
         Ok(Joined { entries })
     }
 
-    /// Joins one more vector, its positions behind the greatest so far.
+    /// Joins one more vector, its positions after the greatest so far.
     pub fn push(self, alloc: Global, part: &TsVector) -> Result<Joined, VectorError>
         ensures value { IfOk result (IsJoinOf self part.now) }
         ensures cause { IfErr result (JoinFails self part.now) }

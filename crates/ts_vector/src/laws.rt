@@ -1,7 +1,7 @@
 // What holds of every vector and every text.
 ghost use Rattle.ts_vector.specs.Normal.{NormalFormIsOne};
 ghost use Rattle.ts_vector.specs.TextLaws.{TextHasOneList, TextHasOneValue, FaultHasOnePlace, FaultIsOutside, PositionHasItsNumber};
-ghost use Rattle.ts_vector.specs.Decoded.{BadPlaceIsOne, BadBytesAreNoSpelling};
+ghost use Rattle.ts_vector.specs.Decoded.{BadPlaceIsOne, BadBytesAreNoEncoding};
 ghost use Rattle.ts_vector.specs.Printed.{PrintedTextIsRead};
 ghost use Rattle.ts_vector.specs.AnswerLaws.{TextHasOneAnswer, BuildHasOneAnswer, JoinHasOneAnswer};
 
@@ -20,9 +20,9 @@ pub fn bad_place_is_one()
     ensures { BadPlaceIsOne }
 {}
 
-/// Bytes that go wrong are no spelling.
-pub fn bad_bytes_are_no_spelling()
-    ensures { BadBytesAreNoSpelling }
+/// Bytes that go wrong are no encoding.
+pub fn bad_bytes_are_no_encoding()
+    ensures { BadBytesAreNoEncoding }
 {}
 
 /// A text has one list of items.

@@ -4,7 +4,7 @@
 ghost use Rattle.std.specs.Prelude.{◌≡◌, ℕ, ◌<◌, ◌++◌, length, IfOk, IfErr, OnOk, OnErr, slice_index_or};
 ghost use Rattle.std.specs.String.{string_bytes};
 ghost use Rattle.ts_base.specs.Vectors.{Entry, Vector, IsNormal, content_size};
-ghost use Rattle.ts_base.specs.Spelling.{vector_bytes, IsSpelling};
+ghost use Rattle.ts_base.specs.Encoding.{vector_bytes, IsEncoding};
 ghost use Rattle.ts_vector.specs.Normal.{IsNormalFormOf};
 ghost use Rattle.ts_vector.specs.Text.{IsTextOf};
 ghost use Rattle.ts_vector.specs.Failures.{TextFails, ItemsFail, JoinFails};
@@ -19,7 +19,7 @@ mod changes;
 mod checker;
 mod codec;
 mod columns;
-mod drafts;
+mod written_lexemes;
 mod entries;
 mod error;
 mod gathered;
@@ -30,7 +30,7 @@ mod normal;
 mod places;
 mod printer;
 mod reader;
-mod spelled;
+mod encoded;
 
 use changes::{entries_with_weight, greatest, without_positions};
 use codec::put_entries;
@@ -39,7 +39,7 @@ use entries::from_pairs;
 pub use error::VectorError;
 pub use joined::Joined;
 pub use laws::{
-    bad_bytes_are_no_spelling, bad_place_is_one, build_has_one_answer, fault_has_one_place,
+    bad_bytes_are_no_encoding, bad_place_is_one, build_has_one_answer, fault_has_one_place,
     fault_is_outside, join_has_one_answer, normal_form_is_one, position_has_its_number,
     printed_text_is_read, text_has_one_answer, text_has_one_list, text_has_one_value,
 };
@@ -47,7 +47,7 @@ use merge::merged;
 use normal::normal_form;
 pub use places::Places;
 use reader::read;
-pub use spelled::{Entries, EntryBytes, Positions, VectorBytes};
+pub use encoded::{Entries, EntryBytes, Positions, VectorBytes};
 use std::alloc::{AllocError, Global};
 use std::marker::Model;
 use std::str;
@@ -92,15 +92,15 @@ impl TsVector {
         ensures value { IfOk result (IsTextOf text.now) }
         ensures cause { IfErr result (TextFails text.now) }
     {
-        let drafts = match read(alloc, text.as_bytes()) {
-            Ok(Ok(drafts)) => drafts,
+        let words = match read(alloc, text.as_bytes()) {
+            Ok(Ok(words)) => words,
             Ok(Err(at)) => return Err(VectorError::Syntax { at }),
             Err(_) => return Err(VectorError::OutOfMemory),
         };
-        if let Some(at) = drafts.first_long() {
+        if let Some(at) = words.first_long() {
             return Err(VectorError::LexemeTooLong { at });
         }
-        match normal_form(alloc, drafts.into_entries()) {
+        match normal_form(alloc, words.into_entries()) {
             Ok(entries) => within_limit(entries),
             Err(_) => Err(VectorError::OutOfMemory),
         }
@@ -123,7 +123,7 @@ impl TsVector {
         }
     }
 
-    /// The entries of both, the other's positions behind this one's greatest, in normal form.
+    /// The entries of both, the other's positions after this one's greatest, in normal form.
     pub fn concat(&self, alloc: Global, other: &TsVector) -> Result<TsVector, VectorError>
         ensures value { IfOk result (IsJoinOf self.now other.now) }
         ensures cause { IfErr result (JoinFails self.now other.now) }
@@ -186,7 +186,7 @@ impl TsVector {
         self.entries.positions(k)
     }
 
-    /// Appends the vector's spelling; after an error nothing was appended.
+    /// Appends the vector's encoding; after an error nothing was appended.
     pub fn encode(&self, out: &mut Vec<u8>) -> Result<(), AllocError>
         ensures ok { OnOk result (out.new.items ≡ out.old.items ++ vector_bytes self.now) }
         ensures err { OnErr result (out.new.items ≡ out.old.items) }
@@ -200,13 +200,13 @@ impl TsVector {
         Ok(())
     }
 
-    /// The vector with this spelling.
+    /// The vector with this encoding.
     pub fn decode(alloc: Global, bytes: &[u8]) -> Result<TsVector, VectorError>
-        ensures value { IfOk result (IsSpelling bytes.now) }
+        ensures value { IfOk result (IsEncoding bytes.now) }
         ensures cause { IfErr result (DecodeFails bytes.now) }
     {
-        let spelled = VectorBytes::new(bytes)?;
-        match Columns::of_spelling(alloc, &spelled) {
+        let encoded = VectorBytes::new(bytes)?;
+        match Columns::of_encoding(alloc, &encoded) {
             Ok(entries) => Ok(TsVector { entries }),
             Err(_) => Err(VectorError::OutOfMemory),
         }

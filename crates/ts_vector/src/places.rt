@@ -1,19 +1,19 @@
-// The positions of neighbouring entries of a spelling.
+// The positions of neighbouring entries of an encoding.
 ghost use Rattle.std.specs.Prelude.{◌≡◌, take};
 ghost use Rattle.std.specs.List.{flat_map, slice_range};
 ghost use Rattle.std.specs.Iterator.{YieldsFirst, item_count};
 
-use crate::spelled::{Entries, Positions, VectorBytes};
+use crate::encoded::{Entries, Positions, VectorBytes};
 use std::marker::Model;
 use ts_base::Position;
 
-/// The positions that are left of some entries of a spelling, those of one entry behind those of another.
+/// The positions that are left of some entries of an encoding, those of one entry after those of another.
 /// Contracts see them as a list.
 #[derive(Debug, Drop)]
 pub struct Places<'a> {
     /// Those of the entry that was reached.
     here: Positions<'a>,
-    /// The entries behind it.
+    /// The entries after it.
     entries: Entries<'a>,
     /// How many of these count.
     count: usize,

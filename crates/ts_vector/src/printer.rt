@@ -6,7 +6,7 @@ ghost use Rattle.std.specs.Str.{IsUtf8};
 ghost use Rattle.ts_base.specs.Vectors.{IsEntry};
 ghost use Rattle.ts_vector.specs.Printed.{weight_text, position_text, positions_text, entry_text, vector_text};
 
-use crate::columns::{Columns, Row, Rows};
+use crate::columns::{Columns, EntryRef, EntryRefs};
 use itoa::Buffer;
 use std::alloc::AllocError;
 use std::str;
@@ -51,24 +51,24 @@ fn put_positions(out: &mut String, positions: &[Position]) -> Result<(), AllocEr
 }
 
 /// Appends an entry: its lexeme in quotes, then its positions.
-fn put_entry(out: &mut String, row: &Row<'_>) -> Result<(), AllocError>
-    requires { IsUtf8 row.now.lexeme }
-    ensures { OnOk result (string_bytes out.new ≡ string_bytes out.old ++ entry_text row.now) }
+fn put_entry(out: &mut String, entry: &EntryRef<'_>) -> Result<(), AllocError>
+    requires { IsUtf8 entry.now.lexeme }
+    ensures { OnOk result (string_bytes out.new ≡ string_bytes out.old ++ entry_text entry.now) }
 {
-    let text = unsafe { str::from_utf8_unchecked(row.lexeme()) };
+    let text = unsafe { str::from_utf8_unchecked(entry.lexeme()) };
     push_quoted(out, text)?;
-    put_positions(out, row.positions())
+    put_positions(out, entry.positions())
 }
 
-/// Appends entries, each behind a space.
-fn put_others(out: &mut String, rows: Rows<'_>) -> Result<(), AllocError>
-    requires { All IsEntry rows }
+/// Appends entries, each after a space.
+fn put_others(out: &mut String, refs: EntryRefs<'_>) -> Result<(), AllocError>
+    requires { All IsEntry refs }
     ensures { OnOk result (string_bytes out.new
-        ≡ string_bytes out.old ++ flat_map (λ e. 32 ∷ entry_text e) rows.entry) }
+        ≡ string_bytes out.old ++ flat_map (λ e. 32 ∷ entry_text e) refs.entry) }
 {
-    for row in rows {
+    for entry in refs {
         out.push(' ')?;
-        put_entry(out, &row)?;
+        put_entry(out, &entry)?;
     }
     Ok(())
 }
@@ -78,10 +78,10 @@ pub fn put_entries(out: &mut String, entries: &Columns) -> Result<(), AllocError
     requires { All IsEntry entries.now }
     ensures { OnOk result (string_bytes out.new ≡ string_bytes out.old ++ vector_text entries.now) }
 {
-    let mut rows = entries.rows();
-    let Some(first) = rows.next() else {
+    let mut refs = entries.entry_refs();
+    let Some(first) = refs.next() else {
         return Ok(());
     };
     put_entry(out, &first)?;
-    put_others(out, rows)
+    put_others(out, refs)
 }

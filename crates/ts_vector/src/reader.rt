@@ -4,38 +4,38 @@ ghost use Rattle.ts_base.specs.Fault.{FaultAt, Stands};
 ghost use Rattle.ts_base.specs.declared.TheConstants.{LAST_POSITION};
 ghost use Rattle.ts_vector.specs.Text.{written, Written, IsVectorText};
 
-use crate::drafts::Drafts;
+use crate::written_lexemes::WrittenLexemes;
 use std::alloc::{AllocError, Global};
 use ts_base::{LAST_POSITION, Position, Weight, is_white, weight_of};
 
-/// Where a reader stands.
+/// Where a reader is.
 #[derive(Clone, Copy, Debug, PartialEq, Eq)]
 enum State {
     /// Between items.
     Between,
     /// In a quoted lexeme.
     InQuoted,
-    /// Behind `\` in a quoted lexeme.
+    /// After `\` in a quoted lexeme.
     QuotedEscape,
-    /// Behind a quote in a quoted lexeme.
+    /// After a quote in a quoted lexeme.
     Quote,
     /// In a plain lexeme.
     InPlain,
-    /// Behind `\` in a plain lexeme.
+    /// After `\` in a plain lexeme.
     PlainEscape,
     /// In a position's number.
     Digits,
-    /// Behind a position's letter.
+    /// After a position's letter.
     Weighted,
 }
 
 /// A reader of bytes.
 #[derive(Drop)]
 struct Reader {
-    /// Where it stands.
+    /// Where it is.
     state: State,
     /// The items so far.
-    words: Drafts,
+    words: WrittenLexemes,
     /// Where the item starts.
     start: usize,
     /// The lexeme so far.
@@ -103,7 +103,7 @@ impl Reader {
         self.state = state;
     }
 
-    /// Behind the `:` of an item.
+    /// After the `:` of an item.
     fn begin_positions(&mut self)
         ensures state { self.new.state ≡ State.Digits }
         ensures items { self.new.words ≡ self.old.words }
@@ -153,7 +153,7 @@ impl Reader {
         Ok(true)
     }
 
-    /// Behind a quote within a quoted lexeme: it ended there, or another quote follows.
+    /// After a quote within a quoted lexeme: it ended there, or another quote follows.
     fn quote(&mut self, at: usize, byte: u8) -> Result<bool, AllocError>
         requires { self.old.state ≡ State.Quote }
         ensures { IfOk result (λ ok. ShapeSteps at (shape self.old) byte ok (shape self.new)) }
@@ -227,7 +227,7 @@ impl Reader {
         Ok(false)
     }
 
-    /// Behind a position's letter.
+    /// After a position's letter.
     fn weighted(&mut self, at: usize, byte: u8) -> Result<bool, AllocError>
         requires { self.old.state ≡ State.Weighted }
         ensures { IfOk result (λ ok. ShapeSteps at (shape self.old) byte ok (shape self.new)) }
@@ -244,7 +244,7 @@ impl Reader {
         Ok(false)
     }
 
-    /// The byte at the offset `at`; `false` where it can't stand here.
+    /// The byte at the offset `at`; `false` where it can't be here.
     fn step(&mut self, at: usize, byte: u8) -> Result<bool, AllocError>
         ensures { IfOk result (λ ok. ShapeSteps at (shape self.old) byte ok (shape self.new)) }
     {
@@ -267,7 +267,7 @@ impl Reader {
     }
 
     /// The items, if the text may end here.
-    fn finish(mut self) -> Result<Option<Drafts>, AllocError>
+    fn finish(mut self) -> Result<Option<WrittenLexemes>, AllocError>
         ensures { IfOk result
             (λ r. ShapeEnds (shape self) r) }
     {
@@ -303,7 +303,7 @@ impl Reader {
 }
 
 /// The items of a vector's text, in their order in the text, or the place of its first fault.
-pub fn read(alloc: Global, text: &[u8]) -> Result<Result<Drafts, usize>, AllocError>
+pub fn read(alloc: Global, text: &[u8]) -> Result<Result<WrittenLexemes, usize>, AllocError>
     // What is read is written so, and nothing else is.
     ensures found { IfOk result
         (λ r. IfOk r (IsVectorText text.now)) }
@@ -314,7 +314,7 @@ pub fn read(alloc: Global, text: &[u8]) -> Result<Result<Drafts, usize>, AllocEr
 {
     let mut reader = Reader {
         state: State::Between,
-        words: Drafts::new(alloc),
+        words: WrittenLexemes::new(alloc),
         start: 0,
         word: Vec::new(alloc),
         positions: Vec::new(alloc),

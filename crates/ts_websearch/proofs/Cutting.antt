@@ -8,7 +8,7 @@ use Rattle.std.proofs.lemmas.List.Elements.{All-head, All-tail}
 use Rattle.std.proofs.lemmas.Grind.{common_steps}
 use Rattle.ts_base.specs.Bytes.{IsWhite, BeginsWithout}
 use Rattle.ts_base.proofs.ByteKinds.{white_ascii, white_or}
-use Rattle.ts_websearch.specs.Items.{Item, quoted, row, hyphen, IsNoQuote, IsRowByte, QuotedText, RowText, IsLoneBefore, AreItems, no_item, white_space, quotation, not_quotation, plain_row, not_row, lone_hyphen}
+use Rattle.ts_websearch.specs.Items.{WebItem, quoted, row, hyphen, IsNoQuote, IsRowByte, QuotedText, RowText, IsLoneBefore, AreItems, no_item, white_space, quotation, not_quotation, plain_row, not_row, lone_hyphen}
 use Rattle.ts_websearch.specs.Inner.Pieces.{IsNext}
 
 -- ── texts in quotes ──
@@ -34,7 +34,7 @@ quoted_within u t r q = elim q.ends [
 ]
 
 -- ── white space ──
--- behind white space a text may be cut
+-- after white space a text may be cut
 pub behind_white : (text : List ℕ) (n : ℕ) → IsUtf8 text → n ≤ length text
     → All IsWhite (take n text) → IsCharBoundary text n
 behind_white text zero u le h = IsCharBoundary-start text u
@@ -47,7 +47,7 @@ behind_white text (suc m) u le h =
     subst (IsCharBoundary text) (add-one m)
     (IsCharBoundary-after_ascii text m u lt (white_ascii (get_or text m 0) white))
 
-pub behind_gap : (gap u : List ℕ) (is : List Item) → All IsWhite gap → AreItems u is
+pub behind_gap : (gap u : List ℕ) (is : List WebItem) → All IsWhite gap → AreItems u is
     → AreItems (gap ++ u) is
 behind_gap [] u is h a = a
 behind_gap (c ∷ gap) u is h a =
@@ -61,7 +61,7 @@ only_gap text gap u e h n =
 
 -- ── the first item ──
 -- what follows a gap has it first
-pub behind_gap_next : (text gap u : List ℕ) (i : Item) (rest : List ℕ) → text ≡ gap ++ u
+pub behind_gap_next : (text gap u : List ℕ) (i : WebItem) (rest : List ℕ) → text ≡ gap ++ u
     → All IsWhite gap → IsNext u i rest → IsNext text i rest
 behind_gap_next text gap u i rest e h n = record {
   goes_on = λ is a.
@@ -77,13 +77,13 @@ quotation_next u behind t r e q = record {
   shorter = (let s = quoted_within behind t r q in let f = ap length e in omega arith);
 }
 
-pub quotation_negated : (u behind t r : List ℕ) (is : List Item) → u ≡ 34 ∷ behind
+pub quotation_negated : (u behind t r : List ℕ) (is : List WebItem) → u ≡ 34 ∷ behind
     → QuotedText behind t r → AreItems r is → AreItems (45 ∷ u) (quoted true t ∷ is)
 quotation_negated u behind t r is e q a =
     subst (λ l. AreItems (45 ∷ l) (quoted true t ∷ is)) (sym e) (not_quotation behind t r is q a)
 
-pub hyphen_next : (u behind : List ℕ) (i : Item) (r : List ℕ) → u ≡ 45 ∷ behind
-    → ((is : List Item) → AreItems r is → AreItems (45 ∷ behind) (i ∷ is))
+pub hyphen_next : (u behind : List ℕ) (i : WebItem) (r : List ℕ) → u ≡ 45 ∷ behind
+    → ((is : List WebItem) → AreItems r is → AreItems (45 ∷ behind) (i ∷ is))
     → length r ≤ length behind → IsNext u i r
 hyphen_next u behind i r e g s = record {
   goes_on = λ is a. subst (λ l. AreItems l (i ∷ is)) (sym e) (g is a);
@@ -108,8 +108,8 @@ row_next (c ∷ u) (b ∷ t) r h n w q y =
       shorter = (let f = ap length h.whole in let g = length-append (b ∷ t) r in omega arith);
     }
 
--- behind a hyphen
-pub row_negated : (u t r : List ℕ) (is : List Item) → RowText u t r → 0 < length t → AreItems r is
+-- after a hyphen
+pub row_negated : (u t r : List ℕ) (is : List WebItem) → RowText u t r → 0 < length t → AreItems r is
     → AreItems (45 ∷ u) (row true t ∷ is)
 row_negated u [] r is h s a = absurd (let no : ⊥ = omega arith in no)
 row_negated [] (b ∷ t) r is h s a = absurd (let f = h.whole in let no : ⊥ = cc in no)
@@ -124,7 +124,7 @@ lone_before [] d q = tt
 lone_before (c ∷ u) d q =
     elim (white_or c) [ inl w ↦ w | inr n ↦ absurd (d (n, λ f. q u (ap (λ b. b ∷ u) f))) ]
 
-pub hyphen_alone : (u t r : List ℕ) (is : List Item) → RowText u t r → t ≡ []
+pub hyphen_alone : (u t r : List ℕ) (is : List WebItem) → RowText u t r → t ≡ []
     → ((rest : List ℕ) → u ≢ 34 ∷ rest) → AreItems r is → AreItems (45 ∷ u) (hyphen ∷ is)
 hyphen_alone u t r is h n q a =
     let f : u ≡ r = h.whole ∙ ap (λ l. l ++ r) n in

@@ -4,7 +4,7 @@ use Rattle.std.proofs.lemmas.List.Elements.{All-nil, All-cons, All-head}
 use Rattle.ts_base.specs.Bytes.{IsWhite, BeginsWithout}
 use Rattle.ts_base.proofs.ByteKinds.{same_or, white_or}
 use Rattle.ts_base.proofs.Fronts.{same_front}
-use Rattle.ts_websearch.specs.Items.{Item, quoted, row, hyphen, IsNoQuote, IsRowByte, QuotedText, RowText, IsLoneBefore, AreItems, no_item, white_space, quotation, not_quotation, plain_row, not_row, lone_hyphen}
+use Rattle.ts_websearch.specs.Items.{WebItem, quoted, row, hyphen, IsNoQuote, IsRowByte, QuotedText, RowText, IsLoneBefore, AreItems, no_item, white_space, quotation, not_quotation, plain_row, not_row, lone_hyphen}
 use Rattle.ts_websearch.specs.Laws.{ItemsAreOne}
 
 -- ── kinds of bytes ──
@@ -76,7 +76,7 @@ quoted_cut (c ∷ u) = elim (same_or c 34) [
   })
 ]
 
--- what stands behind the text: the mark and what follows it, or nothing
+-- what is after the text: the mark and what follows it, or nothing
 record Ended (u t r : List ℕ) : Type 0 where
   end : List ℕ
   whole : u ≡ t ++ end
@@ -146,18 +146,18 @@ row_one u t r s q h k =
     same_front IsRowByte t s r q h.bytes k.bytes h.ends k.ends (sym h.whole ∙ k.whole)
 
 -- ── what a text goes on as ──
--- one item of a text that is cut off so, and others behind it
-record Begins (i : List ℕ → Item) (R : List ℕ → List ℕ → Type 0) (items : List Item) : Type 0 where
+-- one item of a text that is cut off so, and others after it
+record Begins (i : List ℕ → WebItem) (R : List ℕ → List ℕ → Type 0) (items : List WebItem) : Type 0 where
   text : List ℕ
   behind : List ℕ
-  others : List Item
+  others : List WebItem
   are : items ≡ i text ∷ others
   reads : R text behind
   rest : AreItems behind others
 
--- one item, and others behind it
-record After (i : Item) (u : List ℕ) (items : List Item) : Type 0 where
-  others : List Item
+-- one item, and others after it
+record After (i : WebItem) (u : List ℕ) (items : List WebItem) : Type 0 where
+  others : List WebItem
   are : items ≡ i ∷ others
   rest : AreItems u others
 
@@ -168,7 +168,7 @@ RowFrom c u t r = RowText (c ∷ u) (c ∷ t) r
 first_byte : (c : ℕ) (u t r : List ℕ) → RowFrom c u t r → IsRowByte c
 first_byte c u t r h = All-head IsRowByte c t h.bytes
 
-white_on : (c : ℕ) (u : List ℕ) (is : List Item) → IsWhite c → AreItems (c ∷ u) is → AreItems u is
+white_on : (c : ℕ) (u : List ℕ) (is : List WebItem) → IsWhite c → AreItems (c ∷ u) is → AreItems u is
 white_on c u is w (white_space c2 u2 is2 w2 a) = a
 white_on c u is w (quotation u2 t r is2 q a) = absurd (quote_dark w)
 white_on c u is w (not_quotation u2 t r is2 q a) = absurd (hyphen_dark w)
@@ -176,14 +176,14 @@ white_on c u is w (plain_row c2 u2 t r is2 n q a) = absurd ((first_byte c u t r 
 white_on c u is w (not_row c2 u2 t r is2 q a) = absurd (hyphen_dark w)
 white_on c u is w (lone_hyphen u2 is2 l a) = absurd (hyphen_dark w)
 
-quote_on : (u : List ℕ) (is : List Item) → AreItems (34 ∷ u) is
+quote_on : (u : List ℕ) (is : List WebItem) → AreItems (34 ∷ u) is
     → Begins (quoted false) (QuotedText u) is
 quote_on u is (white_space c2 u2 is2 w a) = absurd (quote_dark w)
 quote_on u is (quotation u2 t r is2 q a) =
     record { text = t; behind = r; others = is2; are = refl; reads = q; rest = a }
 quote_on u is (plain_row c2 u2 t r is2 n q a) = absurd ((first_byte 34 u t r q).1 refl)
 
-row_on : (c : ℕ) (u : List ℕ) (is : List Item) → IsRowByte c → c ≢ 45 → AreItems (c ∷ u) is
+row_on : (c : ℕ) (u : List ℕ) (is : List WebItem) → IsRowByte c → c ≢ 45 → AreItems (c ∷ u) is
     → Begins (λ t. row false (c ∷ t)) (RowFrom c u) is
 row_on c u is k n (white_space c2 u2 is2 w a) = absurd (k.0 w)
 row_on c u is k n (quotation u2 t r is2 q a) = absurd (k.1 refl)
@@ -193,12 +193,12 @@ row_on c u is k n (plain_row c2 u2 t r is2 m q a) =
 row_on c u is k n (not_row c2 u2 t r is2 q a) = absurd (n refl)
 row_on c u is k n (lone_hyphen u2 is2 l a) = absurd (n refl)
 
-hyphen_ends : (is : List Item) → AreItems (45 ∷ []) is → After hyphen [] is
+hyphen_ends : (is : List WebItem) → AreItems (45 ∷ []) is → After hyphen [] is
 hyphen_ends is (white_space c2 u2 is2 w a) = absurd (hyphen_dark w)
 hyphen_ends is (plain_row c2 u2 t r is2 n q a) = absurd (n refl)
 hyphen_ends is (lone_hyphen u2 is2 l a) = record { others = is2; are = refl; rest = a }
 
-hyphen_white : (c : ℕ) (u : List ℕ) (is : List Item) → IsWhite c → AreItems (45 ∷ c ∷ u) is
+hyphen_white : (c : ℕ) (u : List ℕ) (is : List WebItem) → IsWhite c → AreItems (45 ∷ c ∷ u) is
     → After hyphen (c ∷ u) is
 hyphen_white c u is w (white_space c2 u2 is2 w2 a) = absurd (hyphen_dark w2)
 hyphen_white c u is w (not_quotation u2 t r is2 q a) = absurd (quote_dark w)
@@ -206,7 +206,7 @@ hyphen_white c u is w (plain_row c2 u2 t r is2 n q a) = absurd (n refl)
 hyphen_white c u is w (not_row c2 u2 t r is2 q a) = absurd ((first_byte c u t r q).0 w)
 hyphen_white c u is w (lone_hyphen u2 is2 l a) = record { others = is2; are = refl; rest = a }
 
-hyphen_quote : (u : List ℕ) (is : List Item) → AreItems (45 ∷ 34 ∷ u) is
+hyphen_quote : (u : List ℕ) (is : List WebItem) → AreItems (45 ∷ 34 ∷ u) is
     → Begins (quoted true) (QuotedText u) is
 hyphen_quote u is (white_space c2 u2 is2 w2 a) = absurd (hyphen_dark w2)
 hyphen_quote u is (not_quotation u2 t r is2 q a) =
@@ -215,7 +215,7 @@ hyphen_quote u is (plain_row c2 u2 t r is2 n q a) = absurd (n refl)
 hyphen_quote u is (not_row c2 u2 t r is2 q a) = absurd ((first_byte 34 u t r q).1 refl)
 hyphen_quote u is (lone_hyphen u2 is2 l a) = absurd (quote_dark l)
 
-hyphen_row : (c : ℕ) (u : List ℕ) (is : List Item) → IsRowByte c → AreItems (45 ∷ c ∷ u) is
+hyphen_row : (c : ℕ) (u : List ℕ) (is : List WebItem) → IsRowByte c → AreItems (45 ∷ c ∷ u) is
     → Begins (λ t. row true (c ∷ t)) (RowFrom c u) is
 hyphen_row c u is k (white_space c2 u2 is2 w2 a) = absurd (hyphen_dark w2)
 hyphen_row c u is k (not_quotation u2 t r is2 q a) = absurd (k.1 refl)
@@ -225,20 +225,20 @@ hyphen_row c u is k (not_row c2 u2 t r is2 q a) =
 hyphen_row c u is k (lone_hyphen u2 is2 l a) = absurd (k.0 l)
 
 -- ── one list ──
-record One (G : List Item → Type 0) : Type 0 where
-  items : List Item
+record One (G : List WebItem → Type 0) : Type 0 where
+  items : List WebItem
   are : G items
-  only : (others : List Item) → G others → others ≡ items
+  only : (others : List WebItem) → G others → others ≡ items
 
 -- what goes on as G does
-carried : (G H : List Item → Type 0) → One G → ((is : List Item) → G is → H is)
-    → ((is : List Item) → H is → G is) → One H
+carried : (G H : List WebItem → Type 0) → One G → ((is : List WebItem) → G is → H is)
+    → ((is : List WebItem) → H is → G is) → One H
 carried G H g to from =
     record { items = g.items; are = to g.items g.are; only = λ js h. g.only js (from js h) }
 
 -- an item, and then what has one list
-after_one : (i : Item) (u : List ℕ) (H : List Item → Type 0) → One (AreItems u)
-    → ((is : List Item) → AreItems u is → H (i ∷ is)) → ((is : List Item) → H is → After i u is)
+after_one : (i : WebItem) (u : List ℕ) (H : List WebItem → Type 0) → One (AreItems u)
+    → ((is : List WebItem) → AreItems u is → H (i ∷ is)) → ((is : List WebItem) → H is → After i u is)
     → One H
 after_one i u H g to from = record {
   items = i ∷ g.items;
@@ -247,10 +247,10 @@ after_one i u H g to from = record {
 }
 
 -- an item that is cut off in one way, and then what has one list
-cut_one : (i : List ℕ → Item) (R : List ℕ → List ℕ → Type 0) (H : List Item → Type 0)
+cut_one : (i : List ℕ → WebItem) (R : List ℕ → List ℕ → Type 0) (H : List WebItem → Type 0)
     (t r : List ℕ) → R t r → ((s q : List ℕ) → R s q → (s ≡ t) × (q ≡ r)) → One (AreItems r)
-    → ((is : List Item) → AreItems r is → H (i t ∷ is))
-    → ((is : List Item) → H is → Begins i R is) → One H
+    → ((is : List WebItem) → AreItems r is → H (i t ∷ is))
+    → ((is : List WebItem) → H is → Begins i R is) → One H
 cut_one i R H t r h one g to from = record {
   items = i t ∷ g.items;
   are = to g.items g.are;
@@ -265,9 +265,9 @@ cut_one i R H t r h one g to from = record {
 abbrev OneUpTo : List ℕ → Type 0
 OneUpTo u = (v : List ℕ) → length v ≤ length u → One (AreItems v)
 
-quotation_one : (b : Bool) (u : List ℕ) (H : List Item → Type 0) → OneUpTo u
-    → ((t r : List ℕ) (is : List Item) → QuotedText u t r → AreItems r is → H (quoted b t ∷ is))
-    → ((is : List Item) → H is → Begins (quoted b) (QuotedText u) is) → One H
+quotation_one : (b : Bool) (u : List ℕ) (H : List WebItem → Type 0) → OneUpTo u
+    → ((t r : List ℕ) (is : List WebItem) → QuotedText u t r → AreItems r is → H (quoted b t ∷ is))
+    → ((is : List WebItem) → H is → Begins (quoted b) (QuotedText u) is) → One H
 quotation_one b u H o to from =
     let q = quoted_cut u in
     cut_one (quoted b) (QuotedText u) H q.text q.behind q.reads
@@ -281,9 +281,9 @@ row_from_one c u t r s q h k =
     let g : t ≡ s = cc in
     (g, e.1)
 
-row_of_one : (b : Bool) (c : ℕ) (u : List ℕ) (H : List Item → Type 0) → IsRowByte c → OneUpTo u
-    → ((t r : List ℕ) (is : List Item) → RowFrom c u t r → AreItems r is → H (row b (c ∷ t) ∷ is))
-    → ((is : List Item) → H is → Begins (λ t. row b (c ∷ t)) (RowFrom c u) is) → One H
+row_of_one : (b : Bool) (c : ℕ) (u : List ℕ) (H : List WebItem → Type 0) → IsRowByte c → OneUpTo u
+    → ((t r : List ℕ) (is : List WebItem) → RowFrom c u t r → AreItems r is → H (row b (c ∷ t) ∷ is))
+    → ((is : List WebItem) → H is → Begins (λ t. row b (c ∷ t)) (RowFrom c u) is) → One H
 row_of_one b c u H k o to from =
     let q = row_cut u in
     let h : RowFrom c u q.text q.behind = record {
@@ -296,12 +296,12 @@ row_of_one b c u H k o to from =
     (λ is a. to q.text q.behind is h a) from
 
 lone_one : (u : List ℕ) → IsLoneBefore u → One (AreItems u)
-    → ((is : List Item) → AreItems (45 ∷ u) is → After hyphen u is) → One (AreItems (45 ∷ u))
+    → ((is : List WebItem) → AreItems (45 ∷ u) is → After hyphen u is) → One (AreItems (45 ∷ u))
 lone_one u l g from =
     after_one hyphen u (AreItems (45 ∷ u)) g (λ is h. lone_hyphen u is l h) from
 
 -- ── by the first byte ──
-no_items : (js : List Item) → AreItems [] js → js ≡ []
+no_items : (js : List WebItem) → AreItems [] js → js ≡ []
 no_items js no_item = refl
 
 none_one : One (AreItems [])

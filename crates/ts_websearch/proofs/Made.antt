@@ -7,14 +7,14 @@ use Rattle.ts_config.specs.Mappings.{Mapping}
 use Rattle.ts_config.specs.Known.{Known}
 use Rattle.ts_make.specs.Made.{IsMadeOf, RemakingFails}
 use Rattle.ts_make.proofs.Made.{made_of_one, made_many, remaking_many}
-use Rattle.ts_websearch.specs.Items.{Item}
+use Rattle.ts_websearch.specs.Items.{WebItem}
 use Rattle.ts_websearch.specs.Rows.{AreRows}
 use Rattle.ts_websearch.specs.Made.{web_query, AreWebRows, IsWebQuery, WebQueryFails}
 use Rattle.ts_websearch.specs.Laws.{WebAnswerIsOne}
 use Rattle.ts_websearch.proofs.ItemLists.{items_are_one}
 use Rattle.ts_websearch.proofs.Rows.{rows_are_one}
 
-pub web_rows_one : (text : List ℕ) (rows others : List (List Item)) → AreWebRows text rows
+pub web_rows_one : (text : List ℕ) (rows others : List (List WebItem)) → AreWebRows text rows
     → AreWebRows text others → rows ≡ others
 web_rows_one text rows others a b =
     let o = items_are_one text in

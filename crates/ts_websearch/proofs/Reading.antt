@@ -5,7 +5,7 @@ use Rattle.ts_config.specs.Mappings.{Mapping}
 use Rattle.ts_config.specs.Known.{Known}
 use Rattle.ts_make.specs.Made.{RemakingFails}
 use Rattle.ts_make.specs.Making.{IsMaking}
-use Rattle.ts_websearch.specs.Items.{Item, AreItems}
+use Rattle.ts_websearch.specs.Items.{WebItem, AreItems}
 use Rattle.ts_websearch.specs.Rows.{IsOperator, AreRows, rows_end, item_more, or_between}
 use Rattle.ts_websearch.specs.Made.{web_query, AreWebRows, WebQueryFails}
 use Rattle.ts_websearch.specs.Inner.Pieces.{IsNext}
@@ -20,9 +20,9 @@ read_none text = record
     { goes_on = λ is rows a r. record { items = is; are_items = a; are_rows = r } }
 
 -- a word more
-pub read_word : (text rest behind : List ℕ) (ended : List (List Item)) (row : List Item) (i : Item)
+pub read_word : (text rest behind : List ℕ) (ended : List (List WebItem)) (row : List WebItem) (i : WebItem)
     → ReadTo text rest ended row → IsNext rest i behind
-    → ((is : List Item) → AreItems behind is → ¬ IsOperator row i is)
+    → ((is : List WebItem) → AreItems behind is → ¬ IsOperator row i is)
     → ReadTo text behind ended (row ++ i ∷ [])
 read_word text rest behind ended row i h n w = record {
   goes_on = λ is rows a r. h.goes_on (i ∷ is) rows (n.goes_on is a)
@@ -30,9 +30,9 @@ read_word text rest behind ended row i h n w = record {
 }
 
 -- an operator more
-pub read_operator : (text rest behind : List ℕ) (ended : List (List Item)) (row : List Item)
-    (i : Item) → ReadTo text rest ended row → IsNext rest i behind
-    → ((is : List Item) → AreItems behind is → IsOperator row i is)
+pub read_operator : (text rest behind : List ℕ) (ended : List (List WebItem)) (row : List WebItem)
+    (i : WebItem) → ReadTo text rest ended row → IsNext rest i behind
+    → ((is : List WebItem) → AreItems behind is → IsOperator row i is)
     → ReadTo text behind (ended ++ row ∷ []) []
 read_operator text rest behind ended row i h n w = record {
   goes_on = λ is rows a r.
@@ -41,21 +41,21 @@ read_operator text rest behind ended row i h n w = record {
 }
 
 -- the end
-pub read_whole : (text rest : List ℕ) (ended : List (List Item)) (row : List Item)
+pub read_whole : (text rest : List ℕ) (ended : List (List WebItem)) (row : List WebItem)
     → ReadTo text rest ended row → AreItems rest [] → AreWebRows text (ended ++ row ∷ [])
 read_whole text rest ended row h a = h.goes_on [] (row ∷ []) a (rows_end row)
 
 -- the rows that follow a beginning of one begin with it
-record Begun (row : List Item) (rows : List (List Item)) : Type 0 where
-  more : List Item
-  others : List (List Item)
+record Begun (row : List WebItem) (rows : List (List WebItem)) : Type 0 where
+  more : List WebItem
+  others : List (List WebItem)
   are : rows ≡ (row ++ more) ∷ others
 
-no_more : (row : List Item) → row ≡ row ++ []
+no_more : (row : List WebItem) → row ≡ row ++ []
 no_more [] = refl
 no_more (i ∷ row) = ap (λ l. i ∷ l) (no_more row)
 
-begun : (row is : List Item) (rows : List (List Item)) → AreRows row is rows → Begun row rows
+begun : (row is : List WebItem) (rows : List (List WebItem)) → AreRows row is rows → Begun row rows
 begun row is rows (rows_end a) =
     record { more = []; others = []; are = ap (λ l. l ∷ []) (no_more row) }
 begun row is rows (item_more a i js rs n h) =
@@ -73,8 +73,8 @@ begun row is rows (or_between a i js rs o h) =
 module _ (known : Known) (mapping : Mapping) (text : List ℕ) where
   -- what was made of what was read
   pub record WebLoop (web : WebMaker) (rest : List ℕ) : Type 0 where
-    pub ended : List (List Item)
-    pub row : List Item
+    pub ended : List (List WebItem)
+    pub row : List WebItem
     pub read : ReadTo text rest ended row
     pub at : IsWebAt known mapping web ended row
 
@@ -86,13 +86,13 @@ module _ (known : Known) (mapping : Mapping) (text : List ℕ) where
         row = [];
         read = read_none text;
         at =
-            record { has_rows = rs; has_row = r; drafts = []; making = m; are = tt };
+            record { has_rows = rs; has_row = r; sketches = []; making = m; are = tt };
       }
 
-  module _ (web : WebMaker) (rest behind : List ℕ) (i : Item) (l : WebLoop web rest)
+  module _ (web : WebMaker) (rest behind : List ℕ) (i : WebItem) (l : WebLoop web rest)
       (n : IsNext rest i behind) where
     pub loop_word : (new : WebMaker)
-        → ((is : List Item) → AreItems behind is → ¬ IsOperator l.row i is)
+        → ((is : List WebItem) → AreItems behind is → ¬ IsOperator l.row i is)
         → IsWebAt known mapping new l.ended (l.row ++ i ∷ []) → WebLoop new behind
     loop_word new w at =
         record {
@@ -104,7 +104,7 @@ module _ (known : Known) (mapping : Mapping) (text : List ℕ) where
         }
 
     pub loop_operator : (new : WebMaker)
-        → ((is : List Item) → AreItems behind is → IsOperator l.row i is)
+        → ((is : List WebItem) → AreItems behind is → IsOperator l.row i is)
         → IsWebAt known mapping new (l.ended ++ l.row ∷ []) [] → WebLoop new behind
     loop_operator new w at =
         record {
@@ -117,7 +117,7 @@ module _ (known : Known) (mapping : Mapping) (text : List ℕ) where
 
     -- too many with the word
     pub word_fails : (e : QueryError)
-        → ((is : List Item) → AreItems behind is → ¬ IsOperator l.row i is)
+        → ((is : List WebItem) → AreItems behind is → ¬ IsOperator l.row i is)
         → AddingFails known mapping l.ended (l.row ++ i ∷ []) e
         → WebQueryFails known mapping text e
     word_fails e w f =
@@ -134,7 +134,7 @@ module _ (known : Known) (mapping : Mapping) (text : List ℕ) where
 
     -- or with the operator between rows
     pub operator_fails : (e : QueryError)
-        → ((is : List Item) → AreItems behind is → IsOperator l.row i is)
+        → ((is : List WebItem) → AreItems behind is → IsOperator l.row i is)
         → EndingFails known mapping l.ended l.row e
         → WebQueryFails known mapping text e
     operator_fails e w f =

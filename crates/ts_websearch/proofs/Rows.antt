@@ -3,7 +3,7 @@ use Rattle.std.proofs.Common.{◌≡◌, ◌≢◌, ◌⊎◌, inl, inr, ℕ, Li
 use Rattle.std.specs.Prelude.{bytes_eq}
 use Rattle.std.proofs.lemmas.Slice.Eq.{bytes_eq-Decides}
 use Rattle.ts_base.specs.Words.{lower}
-use Rattle.ts_websearch.specs.Items.{Item, quoted, row, hyphen}
+use Rattle.ts_websearch.specs.Items.{WebItem, quoted, row, hyphen}
 use Rattle.ts_websearch.specs.Rows.{IsOr, IsOperator, AreRows, rows_end, item_more, or_between}
 use Rattle.ts_websearch.specs.Laws.{RowsAreOne}
 
@@ -17,13 +17,13 @@ or_text text = elim (bytes_eq (lower text) (codes "or"))
           let no : ⊥ = cc in no))
     ] refl
 
-or_item : (i : Item) → IsOr i ⊎ (¬ IsOr i)
+or_item : (i : WebItem) → IsOr i ⊎ (¬ IsOr i)
 or_item (quoted negated text) = inr (λ h. h)
 or_item (row true text) = inr (λ h. h)
 or_item (row false text) = or_text text
 or_item hyphen = inr (λ h. h)
 
-operator_here : (a : List Item) (i : Item) (is : List Item) → IsOperator a i is
+operator_here : (a : List WebItem) (i : WebItem) (is : List WebItem) → IsOperator a i is
     ⊎ (¬ IsOperator a i is)
 operator_here [] i is = inr (λ h. h.0 refl)
 operator_here (b ∷ a) i [] = inr (λ h. h.2 refl)
@@ -33,30 +33,30 @@ operator_here (b ∷ a) i (j ∷ is) = elim (or_item i) [
 ]
 
 -- ── rows ──
-record OneFrom (a is : List Item) : Type 0 where
-  rows : List (List Item)
+record OneFrom (a is : List WebItem) : Type 0 where
+  rows : List (List WebItem)
   are : AreRows a is rows
-  only : (others : List (List Item)) → AreRows a is others → others ≡ rows
+  only : (others : List (List WebItem)) → AreRows a is others → others ≡ rows
 
-ends_so : (a : List Item) (rows : List (List Item)) → AreRows a [] rows → rows ≡ a ∷ []
+ends_so : (a : List WebItem) (rows : List (List WebItem)) → AreRows a [] rows → rows ≡ a ∷ []
 ends_so a rows (rows_end b) = refl
 
-goes_on : (a : List Item) (i : Item) (is : List Item) (rows : List (List Item))
+goes_on : (a : List WebItem) (i : WebItem) (is : List WebItem) (rows : List (List WebItem))
     → ¬ IsOperator a i is → AreRows a (i ∷ is) rows → AreRows (a ++ i ∷ []) is rows
 goes_on a i is rows n (item_more b j js r m h) = h
 goes_on a i is rows n (or_between b j js r o h) = absurd (n o)
 
-record Behind (a is : List Item) (rows : List (List Item)) : Type 0 where
-  others : List (List Item)
+record Behind (a is : List WebItem) (rows : List (List WebItem)) : Type 0 where
+  others : List (List WebItem)
   split : rows ≡ a ∷ others
   are : AreRows [] is others
 
-row_ends : (a : List Item) (i : Item) (is : List Item) (rows : List (List Item)) → IsOperator a i is
+row_ends : (a : List WebItem) (i : WebItem) (is : List WebItem) (rows : List (List WebItem)) → IsOperator a i is
     → AreRows a (i ∷ is) rows → Behind a is rows
 row_ends a i is rows o (item_more b j js r m h) = absurd (m o)
 row_ends a i is rows o (or_between b j js r p h) = record { others = r; split = refl; are = h }
 
-item_one : (a : List Item) (i : Item) (is : List Item) → ¬ IsOperator a i is
+item_one : (a : List WebItem) (i : WebItem) (is : List WebItem) → ¬ IsOperator a i is
     → OneFrom (a ++ i ∷ []) is → OneFrom a (i ∷ is)
 item_one a i is n o =
     record {
@@ -66,7 +66,7 @@ item_one a i is n o =
           λ rs h. o.only rs (goes_on a i is rs n h);
     }
 
-or_one : (a : List Item) (i : Item) (is : List Item) → IsOperator a i is → OneFrom [] is
+or_one : (a : List WebItem) (i : WebItem) (is : List WebItem) → IsOperator a i is → OneFrom [] is
     → OneFrom a (i ∷ is)
 or_one a i is p o = record {
   rows = a ∷ o.rows;
@@ -75,15 +75,15 @@ or_one a i is p o = record {
       b.split ∙ ap (λ l. a ∷ l) (o.only b.others b.are);
 }
 
-one_from : (is a : List Item) → OneFrom a is
+one_from : (is a : List WebItem) → OneFrom a is
 one_from [] a = record { rows = a ∷ []; are = rows_end a; only = λ rs h. ends_so a rs h }
 one_from (i ∷ is) a = elim (operator_here a i is) [
   | inl p ↦ or_one a i is p (one_from is [])
   | inr n ↦ item_one a i is n (one_from is (a ++ i ∷ []))
 ]
 
--- behind any beginning of a row there are rows
-pub rows_from : (a is : List Item) → (rows : List (List Item)) × AreRows a is rows
+-- after any beginning of a row there are rows
+pub rows_from : (a is : List WebItem) → (rows : List (List WebItem)) × AreRows a is rows
 rows_from a is = let o = one_from is a in (o.rows, o.are)
 
 pub rows_are_one : RowsAreOne

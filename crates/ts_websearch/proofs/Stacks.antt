@@ -8,13 +8,13 @@ use Rattle.std.proofs.lemmas.Grind.{flat_map-append}
 use Rattle.ts_query.specs.Queries.{Joint, or_joint, and_joint, Tree, joined, Query}
 use Rattle.ts_config.specs.Mappings.{Mapping}
 use Rattle.ts_config.specs.Known.{Known}
-use Rattle.ts_make.specs.Removal.{Draft, joint_draft}
-use Rattle.ts_make.specs.Made.{IsDrafted, joint_drafted, IsTooManyOf}
-use Rattle.ts_make.specs.Making.{with_left, nodes_drafted}
-use Rattle.ts_make.specs.Inner.Making.{AreDrafted}
+use Rattle.ts_make.specs.Removal.{Sketch, joint_sketch}
+use Rattle.ts_make.specs.Made.{IsSketched, joint_sketched, IsTooManyOf}
+use Rattle.ts_make.specs.Making.{with_left, nodes_sketched}
+use Rattle.ts_make.specs.Inner.Making.{AreSketched}
 use Rattle.ts_make.proofs.Nodes.{query_trees}
 use Rattle.ts_make.proofs.Remaking.{Within, under_top, under_joint, many_of}
-use Rattle.ts_websearch.specs.Items.{Item}
+use Rattle.ts_websearch.specs.Items.{WebItem}
 use Rattle.ts_websearch.specs.Made.{item_tree, all_by, row_query, web_query}
 use Rattle.ts_websearch.specs.Inner.Stacks.{stack_trees}
 
@@ -29,7 +29,7 @@ all_more j [] t = refl
 all_more j (x ∷ xs) t = ap Some (fold_push (joined j) x xs t)
 
 -- ── an item more in the row ──
-pub row_more : (row : List Item) (i : Item)
+pub row_more : (row : List WebItem) (i : WebItem)
     → row_query (row ++ i ∷ []) ≡ Some (onto_query and_joint (row_query row) (item_tree i))
 row_more row i = ap (all_by and_joint) (map-append item_tree row (i ∷ [])) ∙ all_more and_joint
     (map item_tree row) (item_tree i)
@@ -39,7 +39,7 @@ abbrev pub with_row : Query → Query → Query
 with_row q None = q
 with_row q (Some t) = Some (onto_query or_joint q t)
 
-abbrev rows_trees : List (List Item) → List Tree
+abbrev rows_trees : List (List WebItem) → List Tree
 rows_trees rows = flat_map (λ r. option_to_list (row_query r)) rows
 
 nothing_more : (l : List Tree) → l ++ [] ≡ l
@@ -51,7 +51,7 @@ more_trees : (xs : List Tree) (q : Query)
 more_trees xs None = ap (all_by or_joint) (nothing_more xs)
 more_trees xs (Some t) = all_more or_joint xs t
 
-pub web_more : (ended : List (List Item)) (row : List Item)
+pub web_more : (ended : List (List WebItem)) (row : List WebItem)
     → web_query (ended ++ row ∷ []) ≡ with_row (web_query ended) (row_query row)
 web_more ended row =
     ap (all_by or_joint)
@@ -60,29 +60,29 @@ web_more ended row =
     ∙ more_trees (rows_trees ended) (row_query row)
 
 module _ (known : Known) (mapping : Mapping) where
-  -- ── drafts of what was made ──
-  pub added_alone : (q : Query) (t : Tree) (ts : List Tree) (d : Draft) (ds : List Draft)
-      → is_some q ≡ false → IsDrafted known mapping t d
-      → AreDrafted known mapping (with_left q ts) ds
-      → AreDrafted known mapping (onto_query and_joint q t ∷ ts) (d ∷ ds)
+  -- ── sketches of what was made ──
+  pub added_alone : (q : Query) (t : Tree) (ts : List Tree) (d : Sketch) (ds : List Sketch)
+      → is_some q ≡ false → IsSketched known mapping t d
+      → AreSketched known mapping (with_left q ts) ds
+      → AreSketched known mapping (onto_query and_joint q t ∷ ts) (d ∷ ds)
   added_alone None t ts d ds e h a = (h, a)
   added_alone (Some x) t ts d ds e h a = absurd (let no : ⊥ = cc in no)
 
-  -- two drafts on top
-  pub record TopTwo (j : Joint) (q : Query) (t : Tree) (ts : List Tree) (d : Draft)
-      (ds : List Draft) : Type 0 where
-    pub first : Draft
-    pub others : List Draft
+  -- two sketches on top
+  pub record TopTwo (j : Joint) (q : Query) (t : Tree) (ts : List Tree) (d : Sketch)
+      (ds : List Sketch) : Type 0 where
+    pub first : Sketch
+    pub others : List Sketch
     pub split : ds ≡ first ∷ others
-    pub are : AreDrafted known mapping (onto_query j q t ∷ ts) (joint_draft j first d ∷ others)
+    pub are : AreSketched known mapping (onto_query j q t ∷ ts) (joint_sketch j first d ∷ others)
 
-  pub added_behind : (j : Joint) (q : Query) (t : Tree) (ts : List Tree) (d : Draft)
-      (ds : List Draft) → is_some q ≡ true → IsDrafted known mapping t d
-      → AreDrafted known mapping (with_left q ts) ds → TopTwo j q t ts d ds
+  pub added_behind : (j : Joint) (q : Query) (t : Tree) (ts : List Tree) (d : Sketch)
+      (ds : List Sketch) → is_some q ≡ true → IsSketched known mapping t d
+      → AreSketched known mapping (with_left q ts) ds → TopTwo j q t ts d ds
   added_behind j None t ts d ds e h a = absurd (let no : ⊥ = cc in no)
   added_behind j (Some x) t ts d [] e h a = absurd a
   added_behind j (Some x) t ts d (f ∷ ds) e h a =
-      record { first = f; others = ds; split = refl; are = (joint_drafted j x t f d a.0 h, a.1) }
+      record { first = f; others = ds; split = refl; are = (joint_sketched j x t f d a.0 h, a.1) }
 
   -- ── what any query that goes on so has ──
   under_fold : (j : Joint) (x : Tree) (ys ts : List Tree) (n : ℕ)
@@ -90,8 +90,8 @@ module _ (known : Known) (mapping : Mapping) where
   under_fold j x [] ts n w = w
   under_fold j x (y ∷ ys) ts n w =
       let v = under_fold j (joined j x y) ys ts n w in
-      let u = under_joint known mapping j x y ts n v.drafts v.are v.most in
-      under_top known mapping y (x ∷ ts) n u.drafts u.are u.most
+      let u = under_joint known mapping j x y ts n v.sketches v.are v.most in
+      under_top known mapping y (x ∷ ts) n u.sketches u.are u.most
 
   -- the operator between what was joined and y
   under_all : (xs : List Tree) (y : Tree) (zs : List Tree) (n : ℕ)
@@ -105,13 +105,13 @@ module _ (known : Known) (mapping : Mapping) where
   apart : (j : Joint) (q : Query) (y : Tree) (n : ℕ)
       → Within known mapping (onto_query j q y ∷ []) n → Within known mapping (y ∷ with_left q []) n
   apart j None y n w = w
-  apart j (Some x) y n w = under_joint known mapping j x y [] n w.drafts w.are w.most
+  apart j (Some x) y n w = under_joint known mapping j x y [] n w.sketches w.are w.most
 
   -- a row that isn't empty has a tree
-  abbrev pub row_tree : Item → List Item → Tree
+  abbrev pub row_tree : WebItem → List WebItem → Tree
   row_tree i is = fold (joined and_joint) (item_tree i) (map item_tree is)
 
-  web_split : (ended : List (List Item)) (i : Item) (is : List Item) (others : List (List Item))
+  web_split : (ended : List (List WebItem)) (i : WebItem) (is : List WebItem) (others : List (List WebItem))
       → web_query (ended ++ (i ∷ is) ∷ others)
       ≡ all_by or_joint (rows_trees ended ++ row_tree i is ∷ rows_trees others)
   web_split ended i is others =
@@ -122,15 +122,15 @@ module _ (known : Known) (mapping : Mapping) where
   some_tree [] y zs e = let no : ⊥ = cc in no
   some_tree (x ∷ xs) y zs e = let no : ⊥ = cc in no
 
-  pub web_some : (ended : List (List Item)) (i : Item) (is : List Item) (others : List (List Item))
+  pub web_some : (ended : List (List WebItem)) (i : WebItem) (is : List WebItem) (others : List (List WebItem))
       → web_query (ended ++ (i ∷ is) ∷ others) ≢ None
   web_some ended i is others e =
       some_tree (rows_trees ended) (row_tree i is) (rows_trees others)
       (sym (web_split ended i is others) ∙ e)
 
   -- a row that has ended, with the operator before it
-  pub under_ended : (ended : List (List Item)) (i : Item) (is : List Item)
-      (others : List (List Item)) (n : ℕ)
+  pub under_ended : (ended : List (List WebItem)) (i : WebItem) (is : List WebItem)
+      (others : List (List WebItem)) (n : ℕ)
       → Within known mapping (query_trees (web_query (ended ++ (i ∷ is) ∷ others))) n
       → Within known mapping (onto_query or_joint (web_query ended) (row_tree i is) ∷ []) n
   under_ended ended i is others n w =
@@ -138,8 +138,8 @@ module _ (known : Known) (mapping : Mapping) where
       (subst (λ q. Within known mapping (query_trees q) n) (web_split ended i is others) w)
 
   -- the beginning of a row
-  pub under_row : (ended : List (List Item)) (i : Item) (is more : List Item)
-      (others : List (List Item)) (n : ℕ)
+  pub under_row : (ended : List (List WebItem)) (i : WebItem) (is more : List WebItem)
+      (others : List (List WebItem)) (n : ℕ)
       → Within known mapping (query_trees (web_query (ended ++ (i ∷ (is ++ more)) ∷ others))) n
       → Within known mapping (stack_trees ended (i ∷ is)) n
   under_row ended i is more others n w =
@@ -155,4 +155,4 @@ module _ (known : Known) (mapping : Mapping) where
   pub many_by : (q : Query) → q ≢ None
       → ((n : ℕ) → Within known mapping (query_trees q) n → 32768 ≤ n) → IsTooManyOf known mapping q
   many_by q s b = many_of known mapping q [] (query_trees q) s refl
-      (λ es a. b (nodes_drafted es) (record { drafts = es; are = a; most = omega arith }))
+      (λ es a. b (nodes_sketched es) (record { sketches = es; are = a; most = omega arith }))

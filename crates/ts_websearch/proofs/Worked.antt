@@ -4,7 +4,7 @@ use Rattle.std.proofs.lemmas.Bool.{ltb-true}
 use Rattle.std.proofs.lemmas.List.Elements.{All-nil, All-cons}
 use Rattle.ts_base.specs.Bytes.{BeginsWithout}
 use Rattle.ts_base.specs.Words.{lower}
-use Rattle.ts_websearch.specs.Items.{Item, quoted, row, hyphen, IsNoQuote, IsRowByte, QuotedText, AreItems, no_item, white_space, quotation, not_quotation, plain_row, not_row, lone_hyphen}
+use Rattle.ts_websearch.specs.Items.{WebItem, quoted, row, hyphen, IsNoQuote, IsRowByte, QuotedText, AreItems, no_item, white_space, quotation, not_quotation, plain_row, not_row, lone_hyphen}
 use Rattle.ts_query.specs.Queries.{or_joint, and_joint, joined}
 use Rattle.ts_websearch.specs.Made.{text_tree, web_query}
 use Rattle.ts_websearch.specs.Rows.{IsOperator, AreRows, rows_end, item_more, or_between}
@@ -40,15 +40,15 @@ space_ends u k = k.0 (inl refl)
 mark_ends : (u : List ℕ) → BeginsWithout IsRowByte (34 ∷ u)
 mark_ends u k = k.1 refl
 
-space : (u : List ℕ) (is : List Item) → AreItems u is → AreItems (32 ∷ u) is
+space : (u : List ℕ) (is : List WebItem) → AreItems u is → AreItems (32 ∷ u) is
 space u is a = white_space 32 u is (inl refl) a
 
-word : (c : ℕ) (t u : List ℕ) (is : List Item) → c ≢ 45 → are_letters (c ∷ t) ≡ true
+word : (c : ℕ) (t u : List ℕ) (is : List WebItem) → c ≢ 45 → are_letters (c ∷ t) ≡ true
     → BeginsWithout IsRowByte u → AreItems u is → AreItems (c ∷ (t ++ u)) (row false (c ∷ t) ∷ is)
 word c t u is n h e a =
     plain_row c (t ++ u) t u is n (record { bytes = letters (c ∷ t) h; whole = refl; ends = e }) a
 
-not_word : (c : ℕ) (t u : List ℕ) (is : List Item) → are_letters (c ∷ t) ≡ true
+not_word : (c : ℕ) (t u : List ℕ) (is : List WebItem) → are_letters (c ∷ t) ≡ true
     → BeginsWithout IsRowByte u → AreItems u is → AreItems (45 ∷ c ∷ (t ++ u)) (row true (c ∷ t) ∷ is)
 not_word c t u is h e a =
     not_row c (t ++ u) t u is (record { bytes = letters (c ∷ t) h; whole = refl; ends = e }) a
@@ -92,7 +92,7 @@ negated_rows =
 abbrev lone_and_open : List ℕ
 lone_and_open = codes " - -" ++ 34 ∷ codes "the"
 
-abbrev lone_and_open_items : List Item
+abbrev lone_and_open_items : List WebItem
 lone_and_open_items = hyphen ∷ quoted true (codes "the") ∷ []
 
 lone_then_open : AreItems lone_and_open lone_and_open_items
@@ -116,17 +116,17 @@ mixed =
     (space_ends (codes "- -" ++ 34 ∷ codes "the")) lone_then_open))
 
 -- ── rows ──
-abbrev plain : List ℕ → Item
+abbrev plain : List ℕ → WebItem
 plain text = row false text
 
-no_or : (text : List ℕ) (a is : List Item) → lower text ≢ codes "or"
+no_or : (text : List ℕ) (a is : List WebItem) → lower text ≢ codes "or"
     → ¬ IsOperator a (plain text) is
 no_or text a is n h = n h.1
 
-some : (i : Item) (is : List Item) → i ∷ is ≢ []
+some : (i : WebItem) (is : List WebItem) → i ∷ is ≢ []
 some i is e = let no : ⊥ = cc in no
 
--- `cat or or dog`: the first `or` stands between two rows, the second begins one
+-- `cat or or dog`: the first `or` is between two rows, the second begins one
 two_ors : AreRows []
     (plain (codes "cat") ∷ plain (codes "or") ∷ plain (codes "or") ∷ plain (codes "dog") ∷ [])
     ((plain (codes "cat") ∷ []) ∷ (plain (codes "or") ∷ plain (codes "dog") ∷ []) ∷ [])
@@ -167,7 +167,7 @@ or_around =
     (rows_end (word_or ∷ cat ∷ word_or ∷ []))))
 
 -- a quoted `or` is no operator
-quoted_or : (a is : List Item) → ¬ IsOperator a (quoted false (codes "or")) is
+quoted_or : (a is : List WebItem) → ¬ IsOperator a (quoted false (codes "or")) is
 quoted_or a is h = h.1
 
 -- ── queries ──

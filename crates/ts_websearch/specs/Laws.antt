@@ -5,27 +5,27 @@ use Rattle.ts_query.specs.declared.error.QueryError.TheVariants.{OutOfMemory}
 use Rattle.ts_query.specs.Queries.{Query}
 use Rattle.ts_config.specs.Mappings.{Mapping}
 use Rattle.ts_config.specs.Known.{Known}
-use Rattle.ts_websearch.specs.Items.{Item, AreItems}
+use Rattle.ts_websearch.specs.Items.{WebItem, AreItems}
 use Rattle.ts_websearch.specs.Rows.{AreRows}
 use Rattle.ts_websearch.specs.Made.{IsWebQuery, WebQueryFails}
 
 -- a text has exactly one list of items
 pub record HasOneItemList (text : List ℕ) : Type 0 where
-  pub items : List Item
+  pub items : List WebItem
   pub are : AreItems text items
-  pub only : (others : List Item) → AreItems text others → others ≡ items
+  pub only : (others : List WebItem) → AreItems text others → others ≡ items
 
 abbrev pub ItemsAreOne : Type 0
 ItemsAreOne = (text : List ℕ) → HasOneItemList text
 
 -- items have exactly one list of rows
-pub record HasOneRowList (items : List Item) : Type 0 where
-  pub rows : List (List Item)
+pub record HasOneRowList (items : List WebItem) : Type 0 where
+  pub rows : List (List WebItem)
   pub are : AreRows [] items rows
-  pub only : (others : List (List Item)) → AreRows [] items others → others ≡ rows
+  pub only : (others : List (List WebItem)) → AreRows [] items others → others ≡ rows
 
 abbrev pub RowsAreOne : Type 0
-RowsAreOne = (items : List Item) → HasOneRowList items
+RowsAreOne = (items : List WebItem) → HasOneRowList items
 
 -- the query that a web text is made, or why there is none
 abbrev pub IsWebAnswer : Known → Mapping → List ℕ → Result Query QueryError → Type 0

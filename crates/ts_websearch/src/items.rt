@@ -1,7 +1,7 @@
 // The items of a web text.
 ghost use Rattle.std.specs.Prelude.{◌≡◌, ◌≤◌, ◌<◌, ℕ, List, [], ◌∷◌, ◌++◌, length, take, drop, All, IfSome, IfNone, IsTrue, ◌↔◌, ◌≢◌};
 ghost use Rattle.ts_base.specs.Bytes.{IsWhite, BeginsWithout};
-ghost use Rattle.ts_websearch.specs.Items.{Item, IsRowByte, QuotedText, RowText, AreItems};
+ghost use Rattle.ts_websearch.specs.Items.{WebItem, IsRowByte, QuotedText, RowText, AreItems};
 ghost use Rattle.ts_websearch.specs.Rows.{IsOr};
 ghost use Rattle.ts_websearch.specs.Inner.Pieces.{piece_item, IsNext};
 
@@ -28,7 +28,7 @@ pub enum Piece<'a> {
     Hyphen,
 }
 
-/// How many white characters stand at the front.
+/// How many white characters are at the front.
 fn white_len(bytes: &[u8]) -> usize
     ensures within { result ≤ length bytes.now }
     ensures white { All IsWhite (take result bytes.now) }
@@ -40,7 +40,7 @@ fn white_len(bytes: &[u8]) -> usize
         .unwrap_or(bytes.len())
 }
 
-/// What stands behind the white space at the front.
+/// What is after the white space at the front.
 fn without_white(text: &str) -> &str
     ensures white { (gap : List ℕ) × All IsWhite gap × (text.now ≡ gap ++ result.now) }
     ensures all { BeginsWithout IsWhite result.now }
@@ -48,7 +48,7 @@ fn without_white(text: &str) -> &str
     &text[white_len(text.as_bytes())..]
 }
 
-/// How many characters of a row stand at the front.
+/// How many characters of a row are at the front.
 fn row_len(bytes: &[u8]) -> usize
     ensures within { result ≤ length bytes.now }
     ensures row { All IsRowByte (take result bytes.now) }
@@ -67,16 +67,16 @@ fn row_text(text: &str) -> (&str, &str)
     text.split_at(row_len(text.as_bytes()))
 }
 
-/// The text in quotes whose first quote stands before this, and what follows it.
+/// The text in quotes whose first quote is before this, and what follows it.
 fn quoted_text(text: &str) -> (&str, &str)
     ensures { QuotedText text.now result.0.now result.1.now }
 {
     text.split_once('"').unwrap_or((text, ""))
 }
 
-/// The item behind a hyphen, and what follows it.
+/// The item after a hyphen, and what follows it.
 fn behind_hyphen(text: &str) -> (Piece<'_>, &str)
-    ensures goes_on { (is : List Item) → AreItems result.1.now is
+    ensures goes_on { (is : List WebItem) → AreItems result.1.now is
         → AreItems (45 ∷ text.now) (piece_item result.0 ∷ is) }
     ensures shorter { length result.1.now ≤ length text.now }
 {

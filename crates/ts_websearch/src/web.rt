@@ -3,9 +3,9 @@ ghost use Rattle.std.specs.Prelude.{◌≡◌, ◌↔◌, IsTrue, ℕ, List, [],
 ghost use Rattle.ts_query.specs.Queries.{IsSound};
 ghost use Rattle.ts_config.specs.Known.{Known, IsWithin};
 ghost use Rattle.ts_config.specs.Mappings.{Mapping};
-ghost use Rattle.ts_make.specs.Removal.{Draft};
+ghost use Rattle.ts_make.specs.Removal.{Sketch};
 ghost use Rattle.ts_make.specs.Making.{IsMaking};
-ghost use Rattle.ts_websearch.specs.Items.{Item, AreItems};
+ghost use Rattle.ts_websearch.specs.Items.{WebItem, AreItems};
 ghost use Rattle.ts_websearch.specs.Rows.{IsOperator};
 ghost use Rattle.ts_websearch.specs.Made.{IsWebQuery, WebQueryFails, text_tree, item_tree, row_query};
 ghost use Rattle.ts_websearch.specs.Inner.Pieces.{piece_item};
@@ -38,7 +38,7 @@ fn make_piece(
     piece: Piece,
 ) -> Result<(), QueryError>
     requires within { IsWithin configs.now config.now }
-    requires making { (ds : List Draft) × IsMaking maker.old ds }
+    requires making { (ds : List Sketch) × IsMaking maker.old ds }
     ensures value { OnOk result
         (IsMadeOn configs.now config.now (item_tree (piece_item piece.entry)) maker.old maker.new) }
     ensures refused { IfErr result
@@ -52,9 +52,9 @@ fn make_piece(
     Ok(())
 }
 
-/// Whether an item stands for `|`: it is `or`, and neither first nor last nor right behind another.
+/// Whether an item stands for `|`: it is `or`, and neither first nor last nor right after another.
 fn is_operator(row: bool, piece: Piece, behind: &str) -> bool
-    ensures { (a is : List Item) → row ≡ is_some (row_query a) → AreItems behind.now is
+    ensures { (a is : List WebItem) → row ≡ is_some (row_query a) → AreItems behind.now is
         → (IsTrue result ↔ IsOperator a (piece_item piece.entry) is) }
 {
     row && is_or(piece) && next_piece(behind).is_some()
@@ -81,12 +81,12 @@ impl WebMaker {
         piece: Piece,
     ) -> Result<(), QueryError>
         requires within { IsWithin configs.now config.now }
-        requires at { (ended : List (List Item)) × (row : List Item)
+        requires at { (ended : List (List WebItem)) × (row : List WebItem)
             × IsWebAt configs.now config.now self.old ended row }
-        ensures value { OnOk result ((ended : List (List Item)) (row : List Item)
+        ensures value { OnOk result ((ended : List (List WebItem)) (row : List WebItem)
             → IsWebAt configs.now config.now self.old ended row
             → IsWebAt configs.now config.now self.new ended (row ++ piece_item piece.entry ∷ [])) }
-        ensures refused { IfErr result (λ e. (ended : List (List Item)) (row : List Item)
+        ensures refused { IfErr result (λ e. (ended : List (List WebItem)) (row : List WebItem)
             → IsWebAt configs.now config.now self.old ended row
             → AddingFails configs.now config.now ended (row ++ piece_item piece.entry ∷ []) e) }
     {
@@ -100,13 +100,13 @@ impl WebMaker {
 
     /// Ends the row, and joins it to those before it.
     fn end_row(&mut self) -> Result<(), QueryError>
-        requires at { (known : Known) × (mapping : Mapping) × (ended : List (List Item))
-            × (row : List Item) × IsWebAt known mapping self.old ended row }
+        requires at { (known : Known) × (mapping : Mapping) × (ended : List (List WebItem))
+            × (row : List WebItem) × IsWebAt known mapping self.old ended row }
         ensures value { OnOk result ((known : Known) (mapping : Mapping)
-            (ended : List (List Item)) (row : List Item) → IsWebAt known mapping self.old ended row
+            (ended : List (List WebItem)) (row : List WebItem) → IsWebAt known mapping self.old ended row
             → IsWebAt known mapping self.new (ended ++ row ∷ []) []) }
         ensures refused { IfErr result (λ e. (known : Known) (mapping : Mapping)
-            (ended : List (List Item)) (row : List Item) → IsWebAt known mapping self.old ended row
+            (ended : List (List WebItem)) (row : List WebItem) → IsWebAt known mapping self.old ended row
             → EndingFails known mapping ended row e) }
     {
         if self.rows && self.row {
@@ -119,7 +119,7 @@ impl WebMaker {
 }
 
 /// The query that a web text is made by a configuration of these: its items as operands without weights,
-/// joined by `&`, and by `|` where `or` stands between them, without those that have no lexemes. 32768 nodes
+/// joined by `&`, and by `|` where `or` is between them, without those that have no lexemes. 32768 nodes
 /// or more are too many, counted before the removal, with one for each such operand.
 pub fn websearch_to_tsquery(
     alloc: Global,

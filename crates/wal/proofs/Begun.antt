@@ -17,14 +17,14 @@ header_born log long is unborn =
     let first : get_or log 0 0 ≡ 1 = sym (get_or-take 17 log 0 0 (omega arith)) ∙ ap (λ (l : List ℕ). get_or l 0 0) is in
     elim unborn [
       | inl short ↦ omega (arith, short)
-      | inr shut ↦ shut.1 first
+      | inr unset ↦ unset.1 first
     ]
 
 pub foreign_born : (log : List ℕ) → IsForeign log → IsUnborn log → ⊥
 foreign_born log (inl long) (inl short) = omega (arith, long.0, short)
-foreign_born log (inl long) (inr shut) = omega (arith, long.0, shut.0)
+foreign_born log (inl long) (inr unset) = omega (arith, long.0, unset.0)
 foreign_born log (inr other) (inl short) = omega (arith, other.1, short)
-foreign_born log (inr other) (inr shut) = shut.1 other.0
+foreign_born log (inr other) (inr unset) = unset.1 other.0
 
 pub header_known : (log : List ℕ) → take 17 log ≡ header → IsForeign log → ⊥
 header_known log is foreign =
@@ -36,7 +36,7 @@ header_known log is foreign =
 
 created_born : IsUnborn created → ⊥
 created_born (inl short) = omega (arith, short)
-created_born (inr shut) = shut.1 refl
+created_born (inr unset) = unset.1 refl
 
 module _ {D : Type 0} (device : Disk D) where
   -- what is only read is as it was
@@ -67,7 +67,7 @@ module _ {D : Type 0} (device : Disk D) where
       weaker_run device old new (From (images_now device old) (λ (log : List ℕ). Opens log [])) (IsImageBefore device old) making
       (λ c f. record { before = f.before; was = f.was; pages = f.pages; log = inr (unborn, f.log) })
 
-  -- behind a reading of the log
+  -- after a reading of the log
   pub read_then_before : (old mid new : D) → device.tells → IsOnlyRead device old mid → LogIs device (device.seen old).log old → LeavesOnly device mid new (IsImageBefore device mid) → LeavesOnly device old new (IsImageBefore device old)
   read_then_before old mid new told read is making =
       then device old mid new (IsImageBefore device old) (IsImageBefore device mid) (read_before old mid told read is) making

@@ -9,7 +9,7 @@ use Rattle.wal.specs.Batches.{header, sealed, blocks, front, AreBatches, HasBatc
 use Rattle.wal.specs.Settled.{LogIs, Settled, BeforeOrAfter}
 use Rattle.disk_trait.specs.Runs.{TornFrom, IsWrittenThrough}
 use Rattle.disk_trait.specs.declared.device.Disk.{Ghosts as Disk}
-use Rattle.wal.proofs.Places.{torn_behind, torn_gate, written_behind, written_gate}
+use Rattle.wal.proofs.Places.{torn_behind, torn_commit_byte, written_behind, written_commit_byte}
 
 pub fit_push : (batches : List (List ℕ)) (batch : List ℕ) → AreBatches batches → 0 < length batch → length batch < 2 ^ 32 → AreBatches (batches ++ batch ∷ [])
 fit_push [] batch fit some small = (some, small, tt)
@@ -28,13 +28,13 @@ length-front_push batches batch =
     let whole : length (front batches ++ 1 ∷ (sealed batch ++ [])) ≡ length (front (batches ++ batch ∷ []) ++ []) = ap length (front_push batches batch []) in
     omega (arith, whole, length-append (front batches) (1 ∷ (sealed batch ++ [])), length-append (sealed batch) [], length-append (front (batches ++ batch ∷ [])) [])
 
-module _ (batches : List (List ℕ)) (batch chunk : List ℕ) (is : chunk ≡ sealed batch ++ 0 ∷ []) (some : 0 < length batch) (small : length batch < 2 ^ 32) (end : ℕ) (gate : ℕ) (rest : List ℕ) (shut : gate ≢ 1) (fit : AreBatches batches)
+module _ (batches : List (List ℕ)) (batch chunk : List ℕ) (is : chunk ≡ sealed batch ++ 0 ∷ []) (some : 0 < length batch) (small : length batch < 2 ^ 32) (end : ℕ) (commit_byte : ℕ) (rest : List ℕ) (unset : commit_byte ≢ 1) (fit : AreBatches batches)
     (ends : length (front batches) ≡ end) where
-  -- the log once the chunk stands behind the gate
+  -- the log once the chunk is after the commit byte
   abbrev pub staged : ℕ → List ℕ
   staged g = front batches ++ g ∷ (chunk ++ drop (length chunk) rest)
 
-  -- behind an open gate it counts
+  -- after a set commit byte it counts
   pub opened : staged 1 ≡ front (batches ++ batch ∷ []) ++ 0 ∷ drop (length chunk) rest
   opened =
       ap (λ (l : List ℕ). front batches ++ 1 ∷ (l ++ drop (length chunk) rest)) is
@@ -42,45 +42,45 @@ module _ (batches : List (List ℕ)) (batch chunk : List ℕ) (is : chunk ≡ se
       ∙ front_push batches batch (0 ∷ drop (length chunk) rest)
 
   pub with_it : (c : List ℕ) → c ≡ staged 1 → HasBatches c (batches ++ batch ∷ [])
-  with_it c eq = record { gate = 0; rest = drop (length chunk) rest; split = eq ∙ opened; shut = λ e. omega arith; fit = fit_push batches batch fit some small }
+  with_it c eq = record { commit_byte = 0; rest = drop (length chunk) rest; split = eq ∙ opened; unset = λ e. omega arith; fit = fit_push batches batch fit some small }
 
   pub without_it : (c r : List ℕ) (g : ℕ) → c ≡ front batches ++ g ∷ r → g ≢ 1 → HasBatches c batches
-  without_it c r g eq away = record { gate = g; rest = r; split = eq; shut = away; fit = fit }
+  without_it c r g eq away = record { commit_byte = g; rest = r; split = eq; unset = away; fit = fit }
 
-  pub any_gate : (c : List ℕ) (g : ℕ) → c ≡ staged g → Opens c batches ⊎ Opens c (batches ++ batch ∷ [])
-  any_gate c g eq = elim (cases_eq g 1) [
-    | inl open_gate ↦ inr (inr (with_it c (eq ∙ ap staged open_gate)))
+  pub any_commit_byte : (c : List ℕ) (g : ℕ) → c ≡ staged g → Opens c batches ⊎ Opens c (batches ++ batch ∷ [])
+  any_commit_byte c g eq = elim (cases_eq g 1) [
+    | inl set_byte ↦ inr (inr (with_it c (eq ∙ ap staged set_byte)))
     | inr away ↦ inl (inr (without_it c (chunk ++ drop (length chunk) rest) g eq away))
   ]
 
   -- the first write, torn
-  pub first_torn : (old : Files → Type 0) → ((d : Files) → old d → d.log ≡ front batches ++ gate ∷ rest) → (c : Files) → TornFrom Log (end + 1) (length chunk) old c → BeforeOrAfter batches batch old c
+  pub first_torn : (old : Files → Type 0) → ((d : Files) → old d → d.log ≡ front batches ++ commit_byte ∷ rest) → (c : Files) → TornFrom Log (end + 1) (length chunk) old c → BeforeOrAfter batches batch old c
   first_torn old durable c torn =
-      let behind = torn_behind (front batches) end gate rest ends (length chunk) c.log (subst (λ (l : List ℕ). Torn (end + 1) (length chunk) l c.log) (durable torn.0 torn.1) torn.2.torn) in
-      record { before = torn.0; was = torn.1; pages = torn.2.same; log = inl (inr (without_it c.log behind.0 gate behind.1 shut)) }
+      let behind = torn_behind (front batches) end commit_byte rest ends (length chunk) c.log (subst (λ (l : List ℕ). Torn (end + 1) (length chunk) l c.log) (durable torn.0 torn.1) torn.2.torn) in
+      record { before = torn.0; was = torn.1; pages = torn.2.same; log = inl (inr (without_it c.log behind.0 commit_byte behind.1 unset)) }
 
   -- the second, from what the first has left on the disk
-  pub second_torn : (old mid : Files → Type 0) → ((d : Files) → mid d → d.log ≡ staged gate) → ((d : Files) → mid d → (e : Files) × old e × (d.pages ≡ e.pages)) → (c : Files) → TornFrom Log end 1 mid c → BeforeOrAfter batches batch old c
+  pub second_torn : (old mid : Files → Type 0) → ((d : Files) → mid d → d.log ≡ staged commit_byte) → ((d : Files) → mid d → (e : Files) × old e × (d.pages ≡ e.pages)) → (c : Files) → TornFrom Log end 1 mid c → BeforeOrAfter batches batch old c
   second_torn old mid durable pages c torn =
-      let at = torn_gate (front batches) end gate (chunk ++ drop (length chunk) rest) ends c.log (subst (λ (l : List ℕ). Torn end 1 l c.log) (durable torn.0 torn.1) torn.2.torn) in
+      let at = torn_commit_byte (front batches) end commit_byte (chunk ++ drop (length chunk) rest) ends c.log (subst (λ (l : List ℕ). Torn end 1 l c.log) (durable torn.0 torn.1) torn.2.torn) in
       let from = pages torn.0 torn.1 in
-      record { before = from.0; was = from.1; pages = torn.2.same ∙ from.2; log = any_gate c.log at.0 at.1 }
+      record { before = from.0; was = from.1; pages = torn.2.same ∙ from.2; log = any_commit_byte c.log at.0 at.1 }
 
-  -- what stands after the first
-  pub first_stands : {D : Type 0} (device : Disk D) (old new : D) → (device.seen old).log ≡ front batches ++ gate ∷ rest → IsWrittenThrough device Log (end + 1) chunk old new → LogIs device (staged gate) new
+  -- what is after the first
+  pub first_stands : {D : Type 0} (device : Disk D) (old new : D) → (device.seen old).log ≡ front batches ++ commit_byte ∷ rest → IsWrittenThrough device Log (end + 1) chunk old new → LogIs device (staged commit_byte) new
   first_stands device old new log stands =
-      let now : (device.seen new).log ≡ staged gate = stands.written.written ∙ ap (overwritten (end + 1) chunk) log ∙ written_behind (front batches) end gate rest ends chunk in
+      let now : (device.seen new).log ≡ staged commit_byte = stands.written.written ∙ ap (overwritten (end + 1) chunk) log ∙ written_behind (front batches) end commit_byte rest ends chunk in
       record { now = now; durable = λ c left. stands.durable c left ∙ now }
 
-  pub second_stands : {D : Type 0} (device : Disk D) (old new : D) → (device.seen old).log ≡ staged gate → IsWrittenThrough device Log end (1 ∷ []) old new → Settled device (batches ++ batch ∷ []) (end + length chunk) new
+  pub second_stands : {D : Type 0} (device : Disk D) (old new : D) → (device.seen old).log ≡ staged commit_byte → IsWrittenThrough device Log end (1 ∷ []) old new → Settled device (batches ++ batch ∷ []) (end + length chunk) new
   second_stands device old new log stands =
       let now : (device.seen new).log ≡ front (batches ++ batch ∷ []) ++ 0 ∷ drop (length chunk) rest =
-      stands.written.written ∙ ap (overwritten end (1 ∷ [])) log ∙ written_gate (front batches) end gate (chunk ++ drop (length chunk) rest) ends ∙ opened in
+      stands.written.written ∙ ap (overwritten end (1 ∷ [])) log ∙ written_commit_byte (front batches) end commit_byte (chunk ++ drop (length chunk) rest) ends ∙ opened in
       record {
-        gate = 0;
+        commit_byte = 0;
         rest = drop (length chunk) rest;
         log = record { now = now; durable = λ c left. stands.durable c left ∙ now };
-        shut = λ e. omega arith;
+        unset = λ e. omega arith;
         fit = fit_push batches batch fit some small;
         ends = longer;
       }

@@ -11,7 +11,7 @@ module _ {D : Type 0} (device : Disk D) (old new : D) where
   pub no_more : device.tells → IsOnlyRead device old new → (c : Files) → images_now device new c → images_now device old c
   no_more told read c left = let run = read.any_moment told in run.each (device.clock new) c run.later (omega arith) left
 
-  -- the log stands as it did
+  -- the log is as it was
   pub still_is : device.tells → IsOnlyRead device old new → (log : List ℕ) → LogIs device log old → LogIs device log new
   still_is told read log is = record {
     now = ap (λ (f : Files). f.log) (read.same told) ∙ is.now;

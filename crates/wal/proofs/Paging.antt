@@ -39,7 +39,7 @@ module _ {D : Type 0} (device : Disk D) where
   kept_then old mid new first second = then device old mid new (HasPagesOf (images_now device old)) (HasPagesOf (images_now device mid)) first second
       (λ c from. let earlier = first.each (device.clock mid) from.0 first.later (omega arith) from.1 in (earlier.0, earlier.1, from.2 ∙ earlier.2))
 
-  -- pages that stand on the disk stay so
+  -- pages that are on the disk stay so
   pub pages_stay : (old new : D) (pages : List ℕ) → KeepsPages device old new → Durable Pages pages (images_now device old) → Durable Pages pages (images_now device new)
   pages_stay old new pages kept durable = λ c left. let from = kept.each (device.clock new) c kept.later (omega arith) left in from.2 ∙ durable from.0 from.1
 

@@ -7,7 +7,7 @@ use Rattle.wal.specs.Batches.{header, sealed, front, HasBatches}
 use Rattle.disk_trait.specs.declared.device.Disk.{Ghosts as Disk}
 use Rattle.wal.specs.Settled.{LogIs, Settled}
 use Rattle.wal.specs.Reading.{IsOnlyRead, IsReading, IsLengthAt}
-use Rattle.wal.specs.Inner.Gates.{IsBatchAt}
+use Rattle.wal.specs.Inner.CommitBytes.{IsBatchAt}
 use Rattle.wal.specs.declared.log.Wal.{Wal}
 use Rattle.wal.proofs.Keeping.{still_is}
 use Rattle.wal.proofs.Lists.{whole_batch}
@@ -24,35 +24,35 @@ begun wal log on size place is = record {
   fit = tt;
 }
 
--- at a closed gate
-gate_there : (front rest log : List ℕ) (end : ℕ) → log ≡ front ++ rest → length front ≡ end → end < length log → (g : ℕ) × (r : List ℕ) × (rest ≡ g ∷ r)
-gate_there front [] log end is ends inside = absurd (omega (arith, ap length is, length-append front []))
-gate_there front (g ∷ r) log end is ends inside = (g, r, refl)
+-- at an unset commit byte
+commit_byte_there : (front rest log : List ℕ) (end : ℕ) → log ≡ front ++ rest → length front ≡ end → end < length log → (g : ℕ) × (r : List ℕ) × (rest ≡ g ∷ r)
+commit_byte_there front [] log end is ends inside = absurd (omega (arith, ap length is, length-append front []))
+commit_byte_there front (g ∷ r) log end is ends inside = (g, r, refl)
 
 pub ended : (wal : Wal) (log : List ℕ) (batches : List (List ℕ)) → IsReading wal log batches → wal.end < wal.size → get_or log wal.end 0 ≢ 1 → HasBatches log batches
-ended wal log batches reading inside shut =
-    let there = gate_there (front batches) reading.rest log wal.end reading.split (sym reading.place) (omega (arith, reading.size)) in
+ended wal log batches reading inside unset =
+    let there = commit_byte_there (front batches) reading.rest log wal.end reading.split (sym reading.place) (omega (arith, reading.size)) in
     let split : log ≡ front batches ++ there.0 ∷ there.1 = reading.split ∙ ap (λ (l : List ℕ). front batches ++ l) there.2 in
-    let gate : get_or log wal.end 0 ≡ there.0 = ap (λ (l : List ℕ). get_or l wal.end 0) split ∙ get_or_at (front batches) there.0 there.1 0 wal.end (sym reading.place) in
-    record { gate = there.0; rest = there.1; split = split; shut = λ e. shut (gate ∙ e); fit = reading.fit }
+    let commit_byte : get_or log wal.end 0 ≡ there.0 = ap (λ (l : List ℕ). get_or l wal.end 0) split ∙ get_or_at (front batches) there.0 there.1 0 wal.end (sym reading.place) in
+    record { commit_byte = there.0; rest = there.1; split = split; unset = λ e. unset (commit_byte ∙ e); fit = reading.fit }
 
 -- where a crash leaves what is read
 pub settled : {D : Type 0} (device : Disk D) (old new : D) → device.tells → IsOnlyRead device old new → (log : List ℕ) (batches : List (List ℕ)) (end : ℕ) → HasBatches log batches → end ≡ length (front batches) → LogIs device log old → Settled device batches end new
 settled device old new told read log batches end counts place was =
     let is = still_is device old new told read log was in
     record {
-      gate = counts.gate;
+      commit_byte = counts.commit_byte;
       rest = counts.rest;
       log = record { now = is.now ∙ counts.split; durable = λ c left. is.durable c left ∙ counts.split };
-      shut = counts.shut;
+      unset = counts.unset;
       fit = counts.fit;
       ends = sym place;
     }
 
--- behind one batch more
+-- after one batch more
 pub passed : (wal wal' : Wal) (log : List ℕ) (batches : List (List ℕ)) (n : ℕ) (batch : List ℕ) → IsReading wal log batches → wal'.ended ≡ false → wal'.size ≡ wal.size → wal'.end ≡ wal.end + (5 + n)
     → get_or log wal.end 0 ≡ 1 → IsLengthAt log wal.end n → 0 < n → wal.end + 5 + n < wal.size → batch ≡ take n (drop (wal.end + 5) log) → length batch ≡ n → IsReading wal' log (batches ++ batch ∷ [])
-passed wal wal' log batches n batch reading on size end gate has some inside is long = record {
+passed wal wal' log batches n batch reading on size end commit_byte has some inside is long = record {
   on = on;
   size = size ∙ reading.size;
   rest = drop (5 + length batch) reading.rest;
@@ -63,7 +63,7 @@ passed wal wal' log batches n batch reading on size end gate has some inside is 
 }
   where
     first : take 1 (drop wal.end log) ≡ 1 ∷ []
-    first = ap (take 1) (drop-cons log wal.end 0 (omega (arith, reading.size))) ∙ ap (λ (k : ℕ). k ∷ []) gate
+    first = ap (take 1) (drop-cons log wal.end 0 (omega (arith, reading.size))) ∙ ap (λ (k : ℕ). k ∷ []) commit_byte
 
     there : IsBatchAt log wal.end batch
     there = whole_batch log wal.end n (1 ∷ []) (little_bytes 4 n) batch refl (sym first) refl (sym has.1) is long some has.0

@@ -1,13 +1,13 @@
--- The bytes of a log: a header, batches behind open gates, and a closed gate.
+-- The bytes of a log: a header, batches after set commit bytes, and an unset commit byte.
 use Rattle.std.specs.Prelude.{◌≡◌, ◌≢◌, ◌⊎◌, ℕ, ◌<◌, ◌≤◌, List, [], ◌∷◌, ◌++◌, length, get_or, codes}
 use Rattle.byteorder.specs.Endian.{little_bytes}
 use Rattle.wal.specs.declared.sizes.TheConstants.{HEADER_BYTES, CREATED_BYTES, LENGTH_BYTES, BATCH_LIMIT}
 
--- the gate of the store, open, and the name of the format
+-- the commit byte of the store, set, and the name of the format
 abbrev pub header : List ℕ
 header = 1 ∷ codes "GINSH DRAFT 0001"
 
--- a batch behind its gate
+-- a batch after its commit byte
 abbrev pub sealed : List ℕ → List ℕ
 sealed batch = little_bytes LENGTH_BYTES (length batch) ++ batch
 
@@ -15,7 +15,7 @@ abbrev pub blocks : List (List ℕ) → List ℕ
 blocks [] = []
 blocks (batch ∷ batches) = 1 ∷ sealed batch ++ blocks batches
 
--- all before the closed gate
+-- all before the an unset commit byte
 abbrev pub front : List (List ℕ) → List ℕ
 front batches = header ++ blocks batches
 
@@ -23,12 +23,12 @@ abbrev pub AreBatches : List (List ℕ) → Type 0
 AreBatches [] = Unit {0}
 AreBatches (batch ∷ batches) = (0 < length batch) × (length batch < BATCH_LIMIT) × AreBatches batches
 
--- the log's batches, up to the first gate that is closed
+-- the log's batches, up to the first commit byte that is unset
 pub record HasBatches (bytes : List ℕ) (batches : List (List ℕ)) : Type 0 where
-  pub gate : ℕ
+  pub commit_byte : ℕ
   pub rest : List ℕ
-  pub split : bytes ≡ front batches ++ gate ∷ rest
-  pub shut : gate ≢ 1
+  pub split : bytes ≡ front batches ++ commit_byte ∷ rest
+  pub unset : commit_byte ≢ 1
   pub fit : AreBatches batches
 
 -- a log whose creation was cut short

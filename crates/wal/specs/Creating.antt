@@ -18,7 +18,7 @@ pub record From (old : Files → Type 0) (P : List ℕ → Type 0) (c : Files) :
   pub pages : c.pages ≡ before.pages
   pub log : P c.log
 
--- The counts of a creation. Where it failed, a write or a sync did, or the device did not tell the
+-- The counts of a creation. Where it failed, a write or a sync did, or the device did not say the
 -- log's length.
 pub record CreateHasCause {D T E : Type 0} (device : Disk D) (old new : D) (result : Result T E) : Type 0 where
   pub time : device.clock old ≤ device.clock new

@@ -1,2 +1,2 @@
-pub mod Gates
+pub mod CommitBytes
 pub mod Beginnings

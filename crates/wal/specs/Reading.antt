@@ -13,8 +13,8 @@ pub record IsOnlyRead {D : Type 0} (device : Disk D) (old new : D) : Type 0 wher
   pub same : device.tells → device.seen new ≡ device.seen old
   pub any_moment : device.tells → LeavesOnly device old new (images_now device old)
 
--- The log is being read, and these batches were given. They are how it begins, and the next gate
--- stands behind them.
+-- The log is being read, and these batches were given. They are how it begins, and the next commit byte
+-- is after them.
 pub record IsReading (wal : Wal) (log : List ℕ) (batches : List (List ℕ)) : Type 0 where
   pub on : wal.ended ≡ false
   pub size : wal.size ≡ length log
@@ -35,19 +35,19 @@ pub record IsSameBut (old new : Wal) : Type 0 where
   pub limit_is : limit_of new ≡ limit_of old
   pub down_is : down_of new ≡ down_of old
 
--- not a log: byte 0 is closed though creation would not be cut short so, or it is open and the
+-- not a log: byte 0 is unset though creation would not be cut short so, or it is set and the
 -- header differs
 abbrev pub IsForeign : List ℕ → Type 0
 IsForeign log =
     ((CREATED_BYTES < length log) × (get_or log 0 0 ≢ 1))
     ⊎ ((get_or log 0 0 ≡ 1) × (CREATED_BYTES ≤ length log) × (take HEADER_BYTES log ≢ header))
 
--- the number in the four bytes behind a gate
+-- the number in the four bytes after a commit byte
 abbrev pub IsLengthAt : List ℕ → ℕ → ℕ → Type 0
 IsLengthAt log at n = (n < BATCH_LIMIT) × (take LENGTH_BYTES (drop (at + 1) log) ≡ little_bytes LENGTH_BYTES n)
 
--- The gate at this place is open, and the batch behind it is empty or passes the end of the file,
--- its next gate included.
+-- The commit byte at this place is set, and the batch after it is empty or passes the end of the file,
+-- its next commit byte included.
 abbrev pub IsBroken : List ℕ → ℕ → Type 0
 IsBroken log at =
     (get_or log at 0 ≡ 1)
@@ -60,8 +60,8 @@ Gives (Ok true) out P = P out
 Gives (Ok false) out P = out ≡ []
 Gives (Err e) out P = out ≡ []
 
--- A log that opens to some batches is no foreign one, and behind the batches that were read no
--- broken one stands.
+-- A log that opens to some batches is no foreign one, and after the batches that were read no
+-- broken one is.
 abbrev pub IsNeverForeign : Type 0
 IsNeverForeign = (log : List ℕ) (batches : List (List ℕ)) → Opens log batches → IsForeign log → ⊥
 

@@ -6,7 +6,7 @@ use Rattle.wal.specs.Settled.{Settled, BeforeOrAfter}
 use Rattle.wal.specs.declared.log.Wal.{Wal}
 use Rattle.wal.specs.declared.sizes.TheConstants.{LENGTH_BYTES, FRAME_BYTES, MOST_WAITING}
 
--- where the next gate stands
+-- where the next commit byte is
 abbrev pub end_of : Wal → ℕ
 end_of wal = wal.end
 
@@ -29,7 +29,7 @@ abbrev pub with_waiting : List (List ℕ) → List ℕ → List (List ℕ)
 with_waiting batches [] = batches
 with_waiting batches (x ∷ xs) = batches ++ (x ∷ xs) ∷ []
 
--- and the next gate stands behind it: a gate and a length are five bytes
+-- and the next commit byte is after it: a commit byte and a length are five bytes
 abbrev pub end_with : ℕ → List ℕ → ℕ
 end_with end [] = end
 end_with end (x ∷ xs) = end + FRAME_BYTES + length (x ∷ xs)
@@ -44,8 +44,8 @@ end_then end w = if is_crowded w then end + FRAME_BYTES + length w else end
 abbrev pub waiting_then : List ℕ → List ℕ
 waiting_then w = if is_crowded w then [] else w
 
--- The log's length with one entry more, up to and with the next gate: the own batch's gate, its
--- length, what waits, the entry, and that gate.
+-- The log's length with one entry more, up to and with the next commit byte: the own batch's commit byte, its
+-- length, what waits, the entry, and that commit byte.
 abbrev pub length_with : Wal → List ℕ → ℕ
 length_with wal entry =
     end_then (end_of wal) (waiting wal) + FRAME_BYTES + length (waiting_then (waiting wal)) + length entry + 1
@@ -56,7 +56,7 @@ module _ {D : Type 0} (device : Disk D) where
   FlushLeaves batches batch old new =
       LeavesOnly device old new (BeforeOrAfter batches batch (images_now device old))
 
-  -- the batches stand, no page was changed, and both files are settled if they were
+  -- the batches are there, no page was changed, and both files are settled if they were
   abbrev pub StandsNow : List (List ℕ) → ℕ → D → D → Type 0
   StandsNow batches end old new =
       Settled device batches end new × ((device.seen new).pages ≡ (device.seen old).pages)

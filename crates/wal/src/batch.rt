@@ -1,4 +1,4 @@
-// One batch: first its bytes and a closed gate behind them, then its own gate.
+// One batch: first its bytes and an unset commit byte after them, then its own commit byte.
 ghost use Rattle.std.specs.Prelude.{◌≡◌, ℕ, ◌+◌, ◌^◌, ◌<◌, ◌≤◌, List, [], ◌∷◌, ◌++◌, length, OnOk};
 ghost use Rattle.disk_trait.specs.Files.{file_limit};
 ghost use Rattle.disk_trait.specs.Runs.{images_now, LeavesOnly, RunHasCause};
@@ -10,7 +10,7 @@ ghost use Rattle.wal.specs.Waiting.{StandsNow};
 use crate::sizes::BATCH_LIMIT;
 use disk_trait::{Disk, Failed, File, write_and_sync};
 
-/// `chunk` is the sealed batch and a closed gate.
+/// `chunk` is the sealed batch and an unset commit byte.
 pub(crate) fn put_batch<D: Disk>(disk: &mut D, end: u64, chunk: &[u8]) -> Result<(), Failed>
     requires { end + 1 + length chunk.now ≤ file_limit }
     ensures counts { D.tells → (batches : List (List ℕ)) (batch : List ℕ)

@@ -12,12 +12,12 @@ ghost use Rattle.wal.specs.declared.error.ReadError.TheVariants.{DiskFault, NotA
 
 use crate::error::ReadError;
 use crate::log::Wal;
-use crate::reading::{log_length, read_log};
+use crate::log_batches::{log_length, read_log};
 use crate::sizes::{CREATED_BYTES, HEADER_BYTES, LENGTH_BYTES, LOG_LIMIT};
 use disk_trait::Disk;
 use std::alloc::Global;
 
-/// The store's gate, open, and the name of the format.
+/// The store's commit byte, set, and the name of the format.
 const HEADER: &[u8; HEADER_BYTES] = b"\x01GINSH DRAFT 0001";
 
 /// How a log begins.
@@ -74,7 +74,7 @@ fn begins_how<D: Disk>(disk: &mut D) -> Result<Beginning, ReadError>
 }
 
 impl Wal {
-    /// At the first batch, with room for a length and a gate.
+    /// At the first batch, with room for a length and a commit byte.
     fn at_start(alloc: Global, size: u64, limit: u64) -> Result<Wal, ReadError>
         requires size { HEADER_BYTES < size }
         requires limit { limit ≤ LOG_LIMIT }

@@ -1,24 +1,24 @@
-// A new log: the store's gate is closed, the name and the first batch's gate are written, and the
-// store's gate is opened.
+// A new log: the store's commit byte is unset, the name and the first batch's commit byte are
+// written, and the store's commit byte is set.
 ghost use Rattle.std.specs.Prelude.{◌≡◌, ◌-◌, ◌^◌, ◌<◌, ◌≤◌, [], OnOk};
 ghost use Rattle.disk_trait.specs.Runs.{images_now, IsSettled, LeavesOnly, RunHasCause};
 ghost use Rattle.wal.specs.Batches.{IsUnborn, Opens};
 ghost use Rattle.wal.specs.Pages.{KeepsPages};
 ghost use Rattle.wal.specs.Settled.{LogIs, Settled};
 ghost use Rattle.wal.specs.Creating.{From, CreateHasCause, created};
-ghost use Rattle.wal.specs.Inner.Gates.{Shut};
+ghost use Rattle.wal.specs.Inner.CommitBytes.{Unset};
 
 use crate::log::Wal;
 use crate::sizes::{CREATED_BYTES, HEADER_BYTES};
 use disk_trait::{Disk, Failed, File, write_and_sync};
 
-/// The name of the format, and the first batch's gate, closed.
-const NAME_AND_GATE: &[u8; 17] = b"GINSH DRAFT 0001\0";
+/// The name of the format, and the first batch's commit byte, unset.
+const NAME_AND_COMMIT_BYTE: &[u8; 17] = b"GINSH DRAFT 0001\0";
 
-/// The store's gate is closed, if it may be open: a write of it could open it by itself.
-fn shut<D: Disk>(disk: &mut D) -> Result<(), Failed>
-    ensures gate { D.tells → IsUnborn (D.seen disk.old).log
-        → OnOk result (Shut (D.seen disk.new).log) }
+/// The store's commit byte is unset, if it may be set: a write of it could set it by itself.
+fn unset<D: Disk>(disk: &mut D) -> Result<(), Failed>
+    ensures commit_byte { D.tells → IsUnborn (D.seen disk.old).log
+        → OnOk result (Unset (D.seen disk.new).log) }
     ensures durable { D.tells → IsUnborn (D.seen disk.old).log
         → LogIs D.Disk (D.seen disk.old).log disk.old
         → OnOk result (LogIs D.Disk (D.seen disk.new).log disk.new) }
@@ -35,20 +35,20 @@ fn shut<D: Disk>(disk: &mut D) -> Result<(), Failed>
     Ok(())
 }
 
-/// The name and the first gate are written, and then the store's gate is opened.
+/// The name and the first commit byte are written, and then the store's commit byte is set.
 fn write_name<D: Disk>(disk: &mut D) -> Result<(), Failed>
-    ensures stands { D.tells → Shut (D.seen disk.old).log
+    ensures stands { D.tells → Unset (D.seen disk.old).log
         → LogIs D.Disk (D.seen disk.old).log disk.old
         → OnOk result (LogIs D.Disk created disk.new) }
     ensures pages { D.tells → OnOk result ((D.seen disk.new).pages ≡ (D.seen disk.old).pages) }
-    ensures any_moment { D.tells → Shut (D.seen disk.old).log
+    ensures any_moment { D.tells → Unset (D.seen disk.old).log
         → LogIs D.Disk (D.seen disk.old).log disk.old
         → LeavesOnly D.Disk disk.old disk.new
         (From (images_now D.Disk disk.old) (λ log. Opens log [])) }
     ensures time { D.Disk.clock disk.old ≤ D.Disk.clock disk.new }
     ensures cause { RunHasCause D.Disk disk.old disk.new result }
 {
-    write_and_sync(disk, File::Log, 1, NAME_AND_GATE)?;
+    write_and_sync(disk, File::Log, 1, NAME_AND_COMMIT_BYTE)?;
     write_and_sync(disk, File::Log, 0, &[1])
 }
 
@@ -65,7 +65,7 @@ fn write_header<D: Disk>(disk: &mut D) -> Result<(), Failed>
     ensures below_last { OnOk result ((D.fault_count disk.old < 2 ^ 64 - 1)
         × (D.write_fault_count disk.old < 2 ^ 64 - 1)) }
 {
-    shut(disk)?;
+    unset(disk)?;
     write_name(disk)
 }
 

@@ -45,7 +45,7 @@ pub enum AppendError {
     /// The log would pass its limit.
     #[error("log full")]
     LogFull,
-    /// A write or a sync failed in an earlier call. The device's count of faults stood at this
+    /// A write or a sync failed in an earlier call. The device's count of faults was at this
     /// number after it.
     #[error("down {fault}")]
     Down { fault: u64 },
@@ -69,7 +69,7 @@ pub enum FlushError {
     /// The device failed in this call.
     #[error("device")]
     DiskFault,
-    /// A write or a sync failed in an earlier call. The device's count of faults stood at this
+    /// A write or a sync failed in an earlier call. The device's count of faults was at this
     /// number after it.
     #[error("down {fault}")]
     Down { fault: u64 },

@@ -9,7 +9,7 @@ pub fn one_list()
 {}
 
 /// A log that stands for some list of batches is not refused as no store, neither at the opening
-/// nor behind any of its batches.
+/// nor after any of its batches.
 pub fn never_refused()
     ensures foreign { IsNeverForeign }
     ensures broken { IsNeverBroken }

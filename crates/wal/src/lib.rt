@@ -1,10 +1,10 @@
 //! The write-ahead log: batches of bytes, each of which counts from its flush on.
 //!
-//! Byte 0 of the file is the store's gate, bytes 1 to 16 the text `GINSH DRAFT 0001`, byte 17 the
-//! gate of the first batch.
-//! A gate is open where its byte is 1. A batch is its gate, its length as a u32 (little end first,
+//! Byte 0 of the file is the store's commit byte, bytes 1 to 16 the text `GINSH DRAFT 0001`, byte 17 the
+//! commit byte of the first batch.
+//! A commit byte is set where it is 1, and else unset. A batch is its commit byte, its length as a u32 (little end first,
 //! at least 1),
-//! so many bytes, and the next gate.
+//! so many bytes, and the next commit byte.
 #![tactic(auto)]
 
 mod batch;
@@ -13,7 +13,7 @@ mod creating;
 mod error;
 mod laws;
 mod log;
-mod reading;
+mod log_batches;
 mod sizes;
 
 pub use error::{AppendError, FlushError, ReadError};

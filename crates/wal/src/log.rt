@@ -1,4 +1,4 @@
-// A log that is open: where its next gate stands, and what waits for a flush.
+// A log that is open: where its next commit byte is, and what waits for a flush.
 ghost use Rattle.std.specs.Prelude.{◌≡◌, ◌⊎◌, ◌↔◌, ℕ, ◌+◌, ◌-◌, ◌^◌, ◌<◌, ◌≤◌, List, [], ◌∷◌, ◌++◌, length, drop, OnOk, OnErr, IfErr, IsErrOf, IsOk, Some, None, Option, vec_len, vec_capacity, Err, Ok, false};
 ghost use Rattle.byteorder.specs.Endian.{little_bytes};
 ghost use Rattle.wal.specs.declared.sizes.TheConstants.{LENGTH_BYTES, LOG_LIMIT};
@@ -15,7 +15,7 @@ use disk_trait::Disk;
 /// A log whose batches are read, one after another, and to which entries are added then.
 #[derive(Drop)]
 pub struct Wal {
-    /// Where the next gate stands.
+    /// Where the next commit byte is.
     pub(crate) end: u64,
     /// the file's length at the opening
     pub(crate) size: u64,
@@ -28,7 +28,7 @@ pub struct Wal {
     /// The device's count of faults after the fault that brought the log down.
     pub(crate) down: Option<u64>,
     ghost length_room: { LENGTH_BYTES ≤ length buffer.items },
-    ghost gate_room: { vec_len buffer < vec_capacity buffer },
+    ghost commit_byte_room: { vec_len buffer < vec_capacity buffer },
     ghost bound: { limit ≤ LOG_LIMIT },
     ghost fits: { length buffer.items ≤ 2 ^ 24 },
     ghost below_limit: { LENGTH_BYTES < length buffer.items → end + 2 + length buffer.items ≤ limit },
@@ -107,11 +107,11 @@ impl Wal {
         self.buffer.len() - LENGTH_BYTES
     }
 
-    /// The entry waits behind what waits, of which there is little. The device is not called. Of a
+    /// The entry waits after what waits, of which there is little. The device is not called. Of a
     /// refused entry nothing is there.
-    /// The log is full where its length up to the own batch's gate, what waits and the entry, with
+    /// The log is full where its length up to the own batch's commit byte, what waits and the entry, with
     /// four bytes for the length
-    /// and a gate on each side, would pass the limit.
+    /// and a commit byte on each side, would pass the limit.
     pub fn append(&mut self, bytes: &[u8]) -> Result<(), AppendError>
         requires ready { IsReadToEnd self.old }
         requires short { length bytes.now ≤ MOST_WAITING }

@@ -1,4 +1,4 @@
--- A store whose documents all stand in the heads of one page, and are not indexed: what its log
+-- A store whose documents all are in the heads of one page, and are not indexed: what its log
 -- shows, and the records that insert a document.
 use Rattle.std.specs.Prelude.{◌≡◌, ◌≢◌, ℕ, suc, ◌+◌, ◌^◌, ◌<◌, ◌≤◌, List, [], ◌∷◌, ◌++◌, length, map, reverse, sum_by}
 use Rattle.std.specs.Prelude.{Bool, cond, Option, Some}
@@ -6,9 +6,9 @@ use Rattle.std.specs.List.{flat_map, slice_get}
 use Rattle.disk_trait.specs.Files.{Files}
 use Rattle.wal.specs.Batches.{Opens}
 use Rattle.ts_base.specs.Vectors.{Vector}
-use Rattle.ts_base.specs.Spelling.{IsSpelling, vector_bytes}
+use Rattle.ts_base.specs.Encoding.{IsEncoding, vector_bytes}
 use Rattle.page_types.specs.Numbers.{most_short, most_body}
-use Rattle.page_types.specs.Spelling.{slot_bytes}
+use Rattle.page_types.specs.Encoding.{slot_bytes}
 use Rattle.page_types.specs.Pages.{IsPage}
 use Rattle.page_types.specs.Views.{free_page, slots_of, slot_at}
 use Rattle.page_types.specs.declared.page.Page.{Page}
@@ -32,7 +32,7 @@ use Rattle.buffer_frames.specs.Opens.{heap_page, name_of, insertion, IsEarlyKind
 use Rattle.buffer_frames.specs.Journals.{owed_abort, with_owed, logged, AreNext}
 
 -- The head of the document that is inserted at this place, with this vector: the vector's bytes
--- stand in it, nothing deleted it, and both chains are empty.
+-- are in it, nothing deleted it, and both chains are empty.
 pub record IsHeadOf (place : ℕ) (v : Vector) (h : Head) : Type 0 where
   pub serial : h.serial ≡ place + 1
   pub deleted_by : h.deleted_by ≡ 0
@@ -40,7 +40,7 @@ pub record IsHeadOf (place : ℕ) (v : Vector) (h : Head) : Type 0 where
   pub private : h.private ≡ 0
   pub short : h.bytes ≤ most_short
   pub size : length h.vector ≡ h.bytes
-  pub spells : IsSpelling h.vector v
+  pub encodes : IsEncoding h.vector v
 
 -- the slot has the head of the document that the commit at this place inserts
 pub record IsSlotOf (slots : List (Option Head)) (H : History) (place : ℕ) : Type 0 where
@@ -102,8 +102,8 @@ inserting number xid place slots =
     ∷ commit_record (number + 2) xid (place + 1)
     ∷ []
 
--- Behind this log the document of vector v may be inserted with this head: number, xid and place
--- are the next ones, and the heap page with the head behind its slots has a spelling.
+-- After this log the document of vector v may be inserted with this head: number, xid and place
+-- are the next ones, and the heap page with the head after its slots has an encoding.
 pub record MayInsert (R : Log) (H : History) (P : Pages) (number xid place : ℕ) (v : Vector)
     (h : Head) : Type 0 where
   pub made : R ≢ []
@@ -117,7 +117,7 @@ pub record MayInsert (R : Log) (H : History) (P : Pages) (number xid place : ℕ
   pub by : h.inserted_by ≡ xid
   pub fits : IsPage (heap_with (number + 1) (slots_of (P heap_page) ++ Some h ∷ []))
 
--- the records of an insert may come next, and the log has one document more behind them
+-- the records of an insert may come next, and the log has one document more after them
 abbrev pub InsertGoesOn : Type 0
 InsertGoesOn =
     (R : Log) (H : History) (P : Pages) (number xid place : ℕ) (v : Vector) (h : Head) → IsLogOf R H
@@ -125,7 +125,7 @@ InsertGoesOn =
     → IsLogOf (reverse (inserting number xid place (slots_of (P heap_page) ++ Some h ∷ [])) ++ R)
     (H ++ insertion (record { name = name_of place; vector = v }) ∷ [])
 
--- so it is behind an Abort that is owed
+-- so it is after an Abort that is owed
 abbrev pub InsertGoesOnOwed : Type 0
 InsertGoesOnOwed =
     (owes : Bool) (R : Log) (H : History) (P : Pages) (number xid place : ℕ) (v : Vector) (h : Head)
@@ -133,9 +133,9 @@ InsertGoesOnOwed =
     → IsLogOf (logged owes (inserting number xid place (slots_of (P heap_page) ++ Some h ∷ [])) R)
     (H ++ insertion (record { name = name_of place; vector = v }) ∷ [])
 
--- these records are spelled, with their numbers on
-abbrev pub InsertIsSpelled : Type 0
-InsertIsSpelled =
+-- these records are encoded, with their numbers on
+abbrev pub InsertIsEncoded : Type 0
+InsertIsEncoded =
     (R : Log) (H : History) (P : Pages) (number xid place : ℕ) (v : Vector) (h : Head) → IsLogOf R H
     → MayInsert R H P number xid place v h
     → AreNext number (inserting number xid place (slots_of (P heap_page) ++ Some h ∷ []))
@@ -150,7 +150,7 @@ RoomIsUsed =
     (R : Log) (H : History) (P : Pages) → IsLogOf R H → Shows R P
     → length (flat_map slot_bytes (slots_of (P heap_page))) ≡ sum_by head_room (inserts H)
 
--- where a document more has room, the heap page with it has a spelling
+-- where a document more has room, the heap page with it has an encoding
 abbrev pub RoomIsEnough : Type 0
 RoomIsEnough =
     (R : Log) (H : History) (P : Pages) (number place : ℕ) (v : Vector) (h : Head) → IsLogOf R H
@@ -177,7 +177,7 @@ StateIsOf =
     (pages xid_limit : ℕ) (R : Log) (H : History) → IsLogOf R H
     → IsStateOf R H (state_of pages xid_limit R)
 
--- an insert draws its number and its xid from the state, behind an Abort that is owed
+-- an insert draws its number and its xid from the state, after an Abort that is owed
 pub record Draws (s : StateValue) (owes : Bool) (number xid : ℕ) : Type 0 where
   pub number_is : number ≡ 1 + (s.records + cond owes 1 0)
   pub number_fits : number + 2 < 2 ^ 64
@@ -229,13 +229,13 @@ AreEarly R = (r : Record) → In r R → IsEarlyKind r.kind
 abbrev pub EarlyRedo : Type 0
 EarlyRedo = (R : Log) → AreEarly R → redo_of R ≡ 1
 
--- a page file that stands beside a log stands beside more of it
+-- a page file that is beside a log is beside more of it
 abbrev pub StandsBesideMore : Type 0
 StandsBesideMore =
     (more R : Log) (H : History) (file : List ℕ) → IsLogOf (more ++ R) H → PagesStand R file
     → PagesStand (more ++ R) file
 
--- an empty page file stands beside each log
+-- an empty page file is beside each log
 abbrev pub EmptyStands : Type 0
 EmptyStands = (R : Log) (H : History) → IsLogOf R H → PagesStand R []
 

@@ -10,13 +10,13 @@ use Rattle.page_types.specs.declared.record.Edit.{Edit}
 use Rattle.page_types.specs.declared.record.Edit.TheVariants.{Image, Delta}
 use Rattle.core_state.specs.Log.{Log, In, after_changes}
 use Rattle.core_state.specs.States.{StateValue, state_of}
-use Rattle.core_state.specs.Stores.{IsRowOf}
+use Rattle.core_state.specs.Stores.{AreRecordsOf}
 use Rattle.buffer_frames.specs.Counted.{AreNumbered}
 use Rattle.buffer_frames.specs.Applied.{page_or_zeros, applied, CanApply}
 use Rattle.buffer_frames.specs.Maps.{lookup}
 use Rattle.buffer_frames.specs.declared.page_map.PageMap.{PageMap}
 
--- whether a page stands among changes
+-- whether a page is among changes
 abbrev pub stands : ℕ → List Change → Bool
 stands p cs = list_any (λ (c : Change). c.page == p) cs
 
@@ -39,7 +39,7 @@ abbrev pub BeginsAs : Edit → List ℕ → List ℕ → Type 0
 BeginsAs (Image bytes) old bytes' = ⊤
 BeginsAs (Delta front start cut bytes) old bytes' = old ≡ bytes'
 
--- these changes were made to the map, each of them to the page as it stood before them all
+-- these changes were made to the map, each of them to the page as it was before them all
 pub record MakesChanges (file : List ℕ) (map map' : PageMap) (number : ℕ) (cs : List Change)
     : Type 0 where
   pub can : (c : Change) → In c cs → CanEdit c.edit (bytes_over file map c.page)
@@ -61,12 +61,12 @@ pub record IsRead {D : Type 0} (device : Disk D) (disk : D) (file : List ℕ) (p
 pub record ReadsOne {D : Type 0} (device : Disk D) (disk : D) (file : List ℕ) (pages xid_limit : ℕ)
     (state : StateValue) (map : PageMap) (R : Log) (bytes : List ℕ) (n : ℕ) : Type 0 where
   pub first : Record
-  pub spelled : bytes ≡ record_bytes first ++ drop n bytes
+  pub encoded : bytes ≡ record_bytes first ++ drop n bytes
   pub is_read : IsRead device disk file pages xid_limit state map (first ∷ R)
 
--- these bytes were read, a row of records
-pub record ReadsRow {D : Type 0} (device : Disk D) (disk : D) (file : List ℕ) (pages xid_limit : ℕ)
+-- these bytes were read, the records of a batch
+pub record ReadsBatch {D : Type 0} (device : Disk D) (disk : D) (file : List ℕ) (pages xid_limit : ℕ)
     (state : StateValue) (map : PageMap) (R : Log) (bytes : List ℕ) : Type 0 where
-  pub row : List Record
-  pub spelled : IsRowOf bytes row
-  pub is_read : IsRead device disk file pages xid_limit state map (reverse row ++ R)
+  pub records : List Record
+  pub encoded : AreRecordsOf bytes records
+  pub is_read : IsRead device disk file pages xid_limit state map (reverse records ++ R)

@@ -11,7 +11,7 @@ use Rattle.page_types.specs.declared.record.Kind.TheVariants as kind
 use Rattle.core_state.specs.Log.{Log, Pages, In, changed}
 use Rattle.core_state.specs.Index.{Pending}
 use Rattle.core_state.specs.Changes.{made_with}
-use Rattle.core_state.specs.TreeRows.{IsEntryBetween, IsAddItems}
+use Rattle.core_state.specs.TreeRules.{IsEntryBetween, IsAddItems}
 use Rattle.core_state.specs.Inner.Ghosts.{Place, Ghost}
 use Rattle.core_state.specs.Inner.Ghosts.Place.{entry, post}
 use Rattle.core_state.specs.Inner.Kinds.{Fits}

@@ -10,7 +10,7 @@ use Rattle.page_types.specs.declared.record.Kind.TheVariants as kind
 use Rattle.core_state.specs.Log.{Log, Pages, In, changed}
 use Rattle.core_state.specs.Index.{Pending}
 use Rattle.core_state.specs.Changes.{made_with}
-use Rattle.core_state.specs.TreeRows.{IsAddPostings}
+use Rattle.core_state.specs.TreeRules.{IsAddPostings}
 use Rattle.core_state.specs.Trees.Ext.{Ext}
 use Rattle.core_state.specs.Trees.Ext.Ext.{at}
 use Rattle.core_state.specs.Inner.Ghosts.{Place, Ghost, post_place, post_ghost}

@@ -1,4 +1,4 @@
--- The case of a row that comes behind those of the last pending page.
+-- The case of a row that comes after those of the last pending page.
 use Rattle.std.proofs.Common.{◌≡◌, ◌≢◌, ◌⊎◌, ℕ, List, [], ◌∷◌, ◌++◌, refl, sym, ap, subst, ◌∙◌, inl, inr, append-nil}
 use Rattle.std.proofs.lemmas.List.{map-append}
 use Rattle.page_types.specs.Views.{rows_of, first_of}
@@ -11,7 +11,7 @@ use Rattle.page_types.specs.declared.record.Kind.TheVariants as kind
 use Rattle.core_state.specs.Log.{Log, Pages, In, changed, fate}
 use Rattle.core_state.specs.Documents.{IsChain, HasVector}
 use Rattle.core_state.specs.Changes.{made_with}
-use Rattle.core_state.specs.PendingRows.{IsAddRow}
+use Rattle.core_state.specs.PendingRules.{IsAddRow}
 use Rattle.core_state.specs.declared.answers.Fate.TheVariants.{Running}
 use Rattle.core_state.specs.Inner.Effects.{NewRow}
 use Rattle.core_state.specs.Inner.Ghosts.{Place, Ghost}
@@ -122,7 +122,7 @@ module _ (n L : ℕ) (R : Log) (P Q : Pages) (r : Record) (since : ℕ) (g : Gho
         )
       ])
 
-  -- the document is whole behind the record too
+  -- the document is whole after the record too
   whole_now : HasVector Q x.here.doc x.rest.vector
   whole_now = elim (l.whole x.here.doc x.rest.head x.rest.vector x.rest.has x.rest.whole) [
     | inl w ↦ w

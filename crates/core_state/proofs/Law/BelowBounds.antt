@@ -1,4 +1,4 @@
--- What stands below a page of a posting tree is of that tree, and begins no lower.
+-- What is below a page of a posting tree is of that tree, and begins no lower.
 use Rattle.std.proofs.Common.{◌≡◌, ℕ, zero, suc, map, refl, sym, ap, subst, inr}
 use Rattle.page_types.specs.declared.page.PostChild.{PostChild}
 use Rattle.page_types.specs.declared.page.Body.{Body}
@@ -34,7 +34,7 @@ module _ (L : ℕ) (P : Pages) (g : Ghost) (v : PostsHold L P g) where
       (ap post_place e) node) (post_child c.0) (in_map post_child c.0 cs.0 c.1) in (
         h,
         e,
-        post_is (g.place q) t h (subst (λ (z : ℕ). post_place (g.place z) ≡ nodes.Place.tree t h) (sym c.2) k.0),
+        post_is (g.place q) t h (subst (λ (z : ℕ). post_place (g.place z) ≡ nodes.TreePlace.tree t h) (sym c.2) k.0),
         subst (λ (z : ℕ). AtMost items greatest (g.low_item p) (g.low_item z)) (sym c.2) k.1,
       )
 

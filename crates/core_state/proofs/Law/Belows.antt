@@ -1,4 +1,4 @@
--- The pages below a posting root are those of its tree; so a pair of the main part stands in an entry's list, or on a
+-- The pages below a posting root are those of its tree; so a pair of the main part is in an entry's list, or on a
 -- leaf of a tree of its key.
 use Rattle.std.proofs.Common.{◌≡◌, ℕ, zero, suc, List, [], ◌∷◌, map, refl, sym, ap, subst, ◌∙◌, inl, inr}
 use Rattle.ts_base.specs.Keys.{Key}
@@ -24,8 +24,8 @@ use Rattle.core_state.proofs.Trees.Below as trees
 use Rattle.core_state.proofs.Trees.Below.{children, child_pages, below_of_place}
 use Rattle.core_state.proofs.Law.MainPlaces.{MainAt, PostsHold}
 
--- a place that stands in a posting tree
-pub post_is : (x : Place) (r h : ℕ) → post_place x ≡ nodes.Place.tree r h → x ≡ post r h
+-- a place that is in a posting tree
+pub post_is : (x : Place) (r h : ℕ) → post_place x ≡ nodes.TreePlace.tree r h → x ≡ post r h
 post_is unused r h e = absurd (cc)
 post_is meta r h e = absurd (cc)
 post_is heap r h e = absurd (cc)
@@ -61,7 +61,7 @@ from_nodes P r q (trees.Below.child {p = p} b i) = Below.child (from_nodes P r p
     (child_of q (P p).right (P p).body i)
 
 module _ (L : ℕ) (P : Pages) (g : Ghost) (v : PostsHold L P g) where
-  -- what stands on a page of a posting tree
+  -- what is on a page of a posting tree
   pub leaf_at : (p r : ℕ) → g.place p ≡ post r 0 → (high : ℕ) × (is : List ℕ) × ((P p).body ≡ body.PostLeaf high is)
   leaf_at p r e = subst (λ (x : Place). Fits L x (P p)) e (v.kinds p)
 
@@ -80,7 +80,7 @@ module _ (L : ℕ) (P : Pages) (g : Ghost) (v : PostsHold L P g) where
       let kid = kid_place items greatest (post_ghost g) r h (g.low_item p) (g.high_item p) ok.kids
       (λ (y : ℕ) f. v.posts.span y r h f) ok.kids_ok (post_child there.0)
       (subst (In (post_child there.0)) (sym kids) there.1) in
-      (h, post_is (g.place q) r h (subst (λ (z : ℕ). post_place (g.place z) ≡ nodes.Place.tree r h) there.2 kid.0))
+      (h, post_is (g.place q) r h (subst (λ (z : ℕ). post_place (g.place z) ≡ nodes.TreePlace.tree r h) there.2 kid.0))
     where
       child_at : (q : ℕ) (cs : List PostChild) → In q (map (λ (c : PostChild). c.page) cs)
           → (c : PostChild) × In (post_child c) (map post_child cs) × (c.page ≡ q)

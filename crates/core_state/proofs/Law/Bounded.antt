@@ -4,7 +4,7 @@ use Rattle.page_types.specs.declared.page.Body.{Body}
 use Rattle.page_types.specs.declared.page.Body.TheVariants as body
 use Rattle.core_state.specs.Log.{Log, Pages, Shows}
 use Rattle.core_state.specs.Index.{Below}
-use Rattle.core_state.specs.TreeRows.{IsRoot}
+use Rattle.core_state.specs.TreeRules.{IsRoot}
 use Rattle.core_state.specs.Bullets.{TreesAreBounded, LeavesAreNamed}
 use Rattle.core_state.specs.Inner.Ghosts.{Ghost, post_place, post_ghost}
 use Rattle.core_state.specs.Inner.Ghosts.Place.{entry, post}
@@ -29,7 +29,7 @@ module _ (n L : ℕ) (R : Log) (P : Pages) (g : Ghost) (v : Inv n L R P g) (show
   leaf_place : (p high : ℕ) (is : List ℕ) → (P p).body ≡ body.PostLeaf high is → (r : ℕ) × (g.place p ≡ post r 0)
   leaf_place p high is e = place_for L (g.place p) (P p) (body.PostLeaf high is) (v.kinds p) e
 
-  -- the root below which a posting leaf stands is that of its tree
+  -- the root above a posting leaf is that of its tree
   pub tree_of : (root page high : ℕ) (is : List ℕ) → IsRoot P root → Below P root page
       → (P page).body ≡ body.PostLeaf high is → g.place page ≡ post root 0
   tree_of root page high is IsRoot.of_entries below e =

@@ -10,7 +10,7 @@ use Rattle.page_types.specs.declared.page.PostChild.{PostChild}
 use Rattle.page_types.specs.declared.page.Body.{Body}
 use Rattle.page_types.specs.declared.page.Body.TheVariants as body
 use Rattle.core_state.specs.Log.{Log, Pages, In, Shows}
-use Rattle.core_state.specs.TreeRows.{IsRoot}
+use Rattle.core_state.specs.TreeRules.{IsRoot}
 use Rattle.core_state.specs.PagesTold.{HasHighKey, HasHighItem, LeavesInOrder, IsEntryLeaf, OnEntryLeaf, UpEntryLeaf, IsPostLeaf, OnPostLeaf, UpPostLeaf, BoundsStand}
 use Rattle.core_state.specs.Trees.Ext.{Ext, ext_less}
 use Rattle.core_state.specs.Trees.Ext.Ext.{least, at, greatest}
@@ -63,7 +63,7 @@ same_child_bound a b e = elim (child_bound_is a) [
   ]
 ]
 
--- a child's bound tells the high item of a leaf
+-- a child's bound says the high item of a leaf
 high_told : (high b : ℕ) → high_bound high ≡ child_bound b → cond (high == 0) no_bound high ≡ b
 high_told high b e = elim (same_or_not 0 high) [
   | inl z ↦ elim (child_bound_is b) [
@@ -168,10 +168,10 @@ module _ (n L : ℕ) (R : Log) (P : Pages) (g : Ghost) (v : Inv n L R P g) (show
       high_item c.page h.0 h.1 c.bound (post_is (g.place c.page) h.0 h.1 there.0) there.1
 
   -- the leaves of the entry tree
-  entry_at : (p : ℕ) → IsEntryLeaf P p → entry_place (g.place p) ≡ nodes.Place.tree 1 0
+  entry_at : (p : ℕ) → IsEntryLeaf P p → entry_place (g.place p) ≡ nodes.TreePlace.tree 1 0
   entry_at p l = ap entry_place (place_for L (g.place p) (P p) (body.EntryLeaf l.0 l.1) (v.kinds p) l.2)
 
-  at_entry : (p : ℕ) → entry_place (g.place p) ≡ nodes.Place.tree 1 0 → IsEntryLeaf P p
+  at_entry : (p : ℕ) → entry_place (g.place p) ≡ nodes.TreePlace.tree 1 0 → IsEntryLeaf P p
   at_entry p e = subst (λ (x : Place). Fits L x (P p)) (entry_is (g.place p) 1 0 e) (v.kinds p)
 
   entry_within : (p : ℕ) (k : Key) → IsEntryLeaf P p → OnEntryLeaf P p k
@@ -205,10 +205,10 @@ module _ (n L : ℕ) (R : Log) (P : Pages) (g : Ghost) (v : Inv n L R P g) (show
 
   -- the leaves of a posting tree
   module _ (root top : ℕ) (is_root : IsRoot P root) (at_root : g.place root ≡ post root top) where
-    post_at : (p : ℕ) → IsPostLeaf P root p → post_place (g.place p) ≡ nodes.Place.tree root 0
+    post_at : (p : ℕ) → IsPostLeaf P root p → post_place (g.place p) ≡ nodes.TreePlace.tree root 0
     post_at p l = ap post_place (tree_of n L R P g v shown root p l.1.0 l.1.1 is_root l.0 l.1.2)
 
-    at_post : (p : ℕ) → post_place (g.place p) ≡ nodes.Place.tree root 0 → IsPostLeaf P root p
+    at_post : (p : ℕ) → post_place (g.place p) ≡ nodes.TreePlace.tree root 0 → IsPostLeaf P root p
     at_post p e =
         let place = post_is (g.place p) root 0 e in (
           below_place L P g (posts_hold n L R P g v) p root 0 place,

@@ -5,13 +5,13 @@ use Rattle.page_types.specs.declared.record.Record.{Record}
 use Rattle.page_types.specs.declared.record.Kind.TheVariants as kind
 use Rattle.core_state.specs.Log.{Log, Pages, In, Shows, commits, fate}
 use Rattle.core_state.specs.Documents.{Doc, HasVector, IsDead, placed}
-use Rattle.core_state.specs.TransactionRows.{IsCommit}
-use Rattle.core_state.specs.Legal.{Valid, RowsAreValid, Pin, KeepsEach}
+use Rattle.core_state.specs.TransactionRules.{IsCommit}
+use Rattle.core_state.specs.Legal.{Valid, RecordsAreValid, Pin, KeepsEach}
 use Rattle.core_state.specs.Inner.Ghosts.{Ghost}
 use Rattle.core_state.specs.Inner.Ghosts.Place.{overflow_of}
 use Rattle.core_state.specs.declared.answers.Fate.TheVariants.{Running, Committed}
 use Rattle.core_state.proofs.Showing.{shown_one}
-use Rattle.core_state.proofs.RowsByKind.{kind_row}
+use Rattle.core_state.proofs.RulesByKind.{kind_rule}
 use Rattle.core_state.proofs.FateSteps.{dead_stays, dead_more, commits_back, placed_back}
 use Rattle.core_state.proofs.HeadsFollow.{places_doc}
 use Rattle.core_state.proofs.ChainFrames.{whole_or_removed}
@@ -31,7 +31,7 @@ module _ (n L : ℕ) (R : Log) (r : Record) (floor since : ℕ) (u : Valid R r f
     (v : Inv n L R u.before g) (low : floor ≤ n) (W : AreWhole n R u.before) where
   -- a whole document that isn't dead stays whole
   still : (d : Doc) → (IsDead R n d → ⊥) → (w : Vector) × HasVector u.before d w → (w : Vector) × HasVector u.after d w
-  still d alive w = elim (whole_or_removed R u.before u.after r floor since u.row (touches R r floor since u)
+  still d alive w = elim (whole_or_removed R u.before u.after r floor since u.rule (touches R r floor since u)
       (elsewhere R r floor since u) (heads_step R r floor since u) (λ i q. g.place q ≡ overflow_of i)
       (overflows n L R u.before g v) d w.1.0 w.0 w.1.1 w.1.2) [
         | inl now ↦ (w.0, now)
@@ -46,15 +46,15 @@ module _ (n L : ℕ) (R : Log) (r : Record) (floor since : ℕ) (u : Valid R r f
         | inl old ↦ elim (placed_back r R x d p) [
           | inl there ↦ still d before (W x k d old there before)
           | inr new ↦
-              let place = places_doc R u.before u.after r floor since u.row d.item d.serial new.0 in
+              let place = places_doc R u.before u.after r floor since u.rule d.item d.serial new.0 in
               let clash : Running ≡ Committed k = sym place.runs ∙ ap (fate R) new.1 ∙ old in
               absurd (cc)
         ]
         | inr now ↦ elim (placed_back r R x d p) [
           | inr new ↦ let clash : kind.Commit k ≡ kind.PlaceHead d.item d.serial = sym now.0 ∙ new.0 in absurd (cc)
           | inl there ↦
-              let row : IsCommit R u.before u.after r = kind_row R u.before u.after r floor since (kind.Commit k) now.0
-              u.row in
+              let row : IsCommit R u.before u.after r = kind_rule R u.before u.after r floor since (kind.Commit k) now.0
+              u.rule in
               still d before (row.rest d (subst (λ (z : ℕ). In d (placed R z)) (sym now.1) there))
         ]
       ]
@@ -67,7 +67,7 @@ whole_more n m R P le W x k d e p alive = W x k d e p (λ z. alive (dead_more R 
 
 module _ (step : StepHolds) where
   -- in every legal log, by all of its commits
-  pub committed_whole : (R : Log) → RowsAreValid R → (P : Pages) → Shows R P → AreWhole (commits R) R P
+  pub committed_whole : (R : Log) → RecordsAreValid R → (P : Pages) → Shows R P → AreWhole (commits R) R P
   committed_whole [] v P shown = none_whole 0 P
   committed_whole (r ∷ R) v P shown =
       let u = v.1 in

@@ -11,7 +11,7 @@ use Rattle.core_state.specs.Log.{Log, Pages, In, changed}
 use Rattle.core_state.specs.Documents.{page_of, slot_of, head_of}
 use Rattle.core_state.specs.Index.{Line}
 use Rattle.core_state.specs.Changes.{made_with}
-use Rattle.core_state.specs.TransactionRows.{IsCreate}
+use Rattle.core_state.specs.TransactionRules.{IsCreate}
 use Rattle.core_state.specs.Trees.Nodes.{put}
 use Rattle.core_state.specs.Inner.Ghosts.{Place, Ghost}
 use Rattle.core_state.specs.Inner.Ghosts.Place.{unused, meta, line, shifted, entry, post, overflow_of, private_of}

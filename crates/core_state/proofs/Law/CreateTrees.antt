@@ -6,7 +6,7 @@ use Rattle.page_types.specs.declared.page.Body.TheVariants as body
 use Rattle.page_types.specs.declared.record.Record.{Record}
 use Rattle.core_state.specs.Log.{Log, Pages, Shows, changed}
 use Rattle.core_state.specs.Changes.{made_with}
-use Rattle.core_state.specs.TransactionRows.{IsCreate}
+use Rattle.core_state.specs.TransactionRules.{IsCreate}
 use Rattle.core_state.specs.Trees.Ext.Ext.{least, greatest}
 use Rattle.core_state.specs.Trees.Nodes as nodes
 use Rattle.core_state.specs.Trees.Nodes.{put}
@@ -40,19 +40,19 @@ module _ (n L : ℕ) (R : Log) (P Q : Pages) (r : Record) (floor since : ℕ) (g
   pub none_used : (p : ℕ) → g.place p ≡ unused
   none_used p = place_for L (g.place p) (P p) body.Free (b.inv.kinds p) (ap (λ (q : Page). q.body) (free p))
 
-  no_entry : (p : ℕ) → entry_place (g.place p) ≡ nodes.Place.none
+  no_entry : (p : ℕ) → entry_place (g.place p) ≡ nodes.TreePlace.none
   no_entry p = ap entry_place (none_used p)
 
-  no_post : (p : ℕ) → post_place (g.place p) ≡ nodes.Place.none
+  no_post : (p : ℕ) → post_place (g.place p) ≡ nodes.TreePlace.none
   no_post p = ap post_place (none_used p)
 
   pub is : (Q 0 ≡ made_with r 0 (body.Meta 0 0 0)) × (Q 1 ≡ made_with r 0 (body.EntryLeaf [] []))
   is = two_pages Q (changed r) 0 1 _ _ V.here.pages V.here.after_is
 
-  places : ◌≡◌ {A = ℕ → nodes.Place} (λ q. entry_place (put (put g.place 0 meta) 1 (entry 0) q))
-      (put (λ q. entry_place (g.place q)) 1 (nodes.Place.tree 1 0))
+  places : ◌≡◌ {A = ℕ → nodes.TreePlace} (λ q. entry_place (put (put g.place 0 meta) 1 (entry 0) q))
+      (put (λ q. entry_place (g.place q)) 1 (nodes.TreePlace.tree 1 0))
   places = put_through entry_place (put g.place 0 meta) 1 (entry 0)
-      ∙ ap (λ f. put f 1 (nodes.Place.tree 1 0)) (put_unseen entry_place g.place 0 meta (no_entry 0))
+      ∙ ap (λ f. put f 1 (nodes.TreePlace.tree 1 0)) (put_unseen entry_place g.place 0 meta (no_entry 0))
 
   made : EntryGrows P Q (entry_ghost g) (make_ghost (entry_ghost g) least greatest 1)
   made = (
@@ -72,10 +72,10 @@ module _ (n L : ℕ) (R : Log) (P Q : Pages) (r : Record) (floor since : ℕ) (g
     λ k. tt,
   )
     where
-      not_tree : (h : ℕ) → nodes.Place.none ≡ nodes.Place.tree 1 h → ⊥
+      not_tree : (h : ℕ) → nodes.TreePlace.none ≡ nodes.TreePlace.tree 1 h → ⊥
       not_tree h e = cc
 
-      not_left : nodes.Place.none ≡ nodes.Place.left 1 → ⊥
+      not_left : nodes.TreePlace.none ≡ nodes.TreePlace.left 1 → ⊥
       not_left e = cc
 
   -- 1

@@ -6,7 +6,7 @@ use Rattle.page_types.specs.declared.record.Record.{Record}
 use Rattle.core_state.specs.Log.{Log, Pages, In, Shows, commits, cut, next_serial}
 use Rattle.core_state.specs.Documents.{Doc, Has, IsDead, placed}
 use Rattle.core_state.specs.Index.{IsLinked}
-use Rattle.core_state.specs.Legal.{Valid, RowsAreValid}
+use Rattle.core_state.specs.Legal.{Valid, RecordsAreValid}
 use Rattle.core_state.specs.Readings.{WasShown}
 use Rattle.core_state.specs.Steady.{DeadGetNoRow, ReadingsStay}
 use Rattle.core_state.specs.Inner.HeadsKept.{HeadsKept}
@@ -29,7 +29,7 @@ dead_placed n floor R P D d (IsDead.delete_counted x k e l m) =
 
 module _ (step : StepHolds) where
   -- over one record
-  module _ (S : Log) (r : Record) (v : RowsAreValid S) (u : Valid S r (commits S) (suc (length S))) (d : Doc) (h : Head)
+  module _ (S : Log) (r : Record) (v : RecordsAreValid S) (u : Valid S r (commits S) (suc (length S))) (d : Doc) (h : Head)
       (floor : ℕ) (dead : IsDead S floor d) (has : Has u.after d h) where
     before : Holds (commits S) (length S) S u.before
     before = plain_run step S v u.before u.shown
@@ -45,7 +45,7 @@ module _ (step : StepHolds) where
           | inr w ↦
               let p = dead_placed (commits S) floor S u.before before.1.heads d dead in
               absurd (bad d.serial (next_serial S) h.serial (before.1.heads.serials p.0 d p.1)
-              (places_doc S u.before u.after r (commits S) (suc (length S)) u.row d.item h.serial w.kind_is).next
+              (places_doc S u.before u.after r (commits S) (suc (length S)) u.rule d.item h.serial w.kind_is).next
               (sym has.serial))
         ]
       where
@@ -63,7 +63,7 @@ module _ (step : StepHolds) where
               (dead_more S floor (commits S + floor) new.doc (omega arith) (subst (IsDead S floor) (sym same.0) dead)))
         ]
 
-  pub dead_rows : (later R : Log) → RowsAreValid (later ++ R) → (P Q : Pages) → Shows R P → Shows (later ++ R) Q
+  pub dead_rows : (later R : Log) → RecordsAreValid (later ++ R) → (P Q : Pages) → Shows R P → Shows (later ++ R) Q
       → DeadGetNoRow R P Q
   dead_rows [] R v P Q shown shown' d h floor dead has w item k =
       subst (λ (S : Pages). IsLinked S w) (shown_one R Q P shown' shown) k
@@ -77,7 +77,7 @@ module _ (step : StepHolds) where
       dead_rows later R v.0 P u.before shown u.shown d old.0 floor dead old.1 w item
       (row_old S r v.0 u d h floor still has' w item (subst (λ (T : Pages). IsLinked T w) pages k))
 
--- a reading stays one behind later records
+-- a reading stays one after later records
 cut_behind : (at : ℕ) (later R : Log) → at ≤ length R → cut at (later ++ R) ≡ cut at R
 cut_behind at [] R l = refl
 cut_behind at (r ∷ later) R l =

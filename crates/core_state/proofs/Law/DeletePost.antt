@@ -11,7 +11,7 @@ use Rattle.page_types.specs.declared.record.Kind.TheVariants as kind
 use Rattle.core_state.specs.Log.{Log, Pages, In, changed}
 use Rattle.core_state.specs.Index.{children_in}
 use Rattle.core_state.specs.Changes.{made_with}
-use Rattle.core_state.specs.TreeRows.{IsDeletePost}
+use Rattle.core_state.specs.TreeRules.{IsDeletePost}
 use Rattle.core_state.specs.Inner.Ghosts.{Place, Ghost, post_place}
 use Rattle.core_state.specs.Inner.Ghosts.Place.{unused, left, post}
 use Rattle.core_state.specs.Inner.GhostSteps.{deleted_leaf}
@@ -177,7 +177,7 @@ module _ (n L : ℕ) (R : Log) (P Q : Pages) (r : Record) (floor since : ℕ) (g
     | inr off ↦ leaf_stays n R P Q g g' q s i (else_now q off ∙ at) refl (items_by q (by q)) m
   ]
 
-  -- the leaf is no root: its parent stands above it, in its tree
+  -- the leaf is no root: its parent is above it, in its tree
   hold : PostsHold L P g
   hold = record { kinds = b.inv.kinds; posts = b.inv.posts; rooted = b.inv.posts_rooted; named = b.inv.named }
 

@@ -1,4 +1,4 @@
--- A leaf that was deleted since a kept pin leads along right links to what stood behind it.
+-- A leaf that was deleted since a kept pin leads along right links to what was after it.
 use Rattle.std.proofs.Common.{◌≡◌, ◌⊎◌, ◌<◌, ◌≤◌, ℕ, suc, List, [], ◌∷◌, ◌++◌, length, map, refl, sym, ap, subst, ◌∙◌, inl, inr}
 use Rattle.page_types.specs.Items.{items_of}
 use Rattle.page_types.specs.declared.page.Page.{Page}
@@ -10,7 +10,7 @@ use Rattle.page_types.specs.declared.record.Record.{Record}
 use Rattle.core_state.specs.Log.{Log, Pages, In, Shows, changed}
 use Rattle.core_state.specs.Index.{Below, children_in}
 use Rattle.core_state.specs.Changes.{made_with}
-use Rattle.core_state.specs.TreeRows.{TowardItem, IsDeletePost}
+use Rattle.core_state.specs.TreeRules.{TowardItem, IsDeletePost}
 use Rattle.core_state.specs.Bullets.{Rightward, StoodFrom}
 use Rattle.core_state.specs.Trees.Ext.{Ext}
 use Rattle.core_state.specs.Trees.Ext.Ext.{least, at, greatest}
@@ -41,7 +41,7 @@ use Rattle.core_state.proofs.Law.Lists.{Listed, zero_place}
 use Rattle.core_state.proofs.Law.Bounded.{posts_hold}
 use Rattle.core_state.proofs.Law.LeavesLead.{above_high, item_leaf, begins_leads}
 
-left_is : (x : Place) (r : ℕ) → post_place x ≡ nodes.Place.left r → x ≡ left r
+left_is : (x : Place) (r : ℕ) → post_place x ≡ nodes.TreePlace.left r → x ≡ left r
 left_is (left s) r e = cc
 left_is (post s k) r e = absurd (cc)
 left_is (entry k) r e = absurd (cc)
@@ -109,7 +109,7 @@ module _ (n L : ℕ) (R : Log) (P : Pages) (g : Ghost) (v : Inv n L R P g) where
       let u = one_up y q t k i e in
       elim (ascend r y t (suc u.0) b u.1) [ inl z ↦ inr (u.0, ap g.place z ∙ u.1) | inr z ↦ inr z ]
 
-  -- a leaf that is left leads to each item that stood behind it
+  -- a leaf that is left leads to each item that was after it
   pub left_leads : Listed P g → (then : Pages) (p root : ℕ) → LeftSince then g p root → (q i high : ℕ) (is : List ℕ)
       → Below P root q → (P q).body ≡ body.PostLeaf high is
       → In i (items_of is) → StoodFrom then root p i → Rightward P p q
@@ -118,8 +118,8 @@ module _ (n L : ℕ) (R : Log) (P : Pages) (g : Ghost) (v : Inv n L R P g) where
     | inr a ↦
         let down = descend L P g (posts_hold n L R P g v) root q k.is_left.tree (suc a.0) a.1 below in
         let leaf = place_for L (g.place q) (P q) (body.PostLeaf high is) (v.kinds q) b in
-        let at_q : (post_ghost g).place q ≡ nodes.Place.tree k.is_left.tree 0 = ap post_place leaf.1
-        ∙ ap (λ (z : ℕ). nodes.Place.tree z 0)
+        let at_q : (post_ghost g).place q ≡ nodes.TreePlace.tree k.is_left.tree 0 = ap post_place leaf.1
+        ∙ ap (λ (z : ℕ). nodes.TreePlace.tree z 0)
         (same_tree leaf.0 k.is_left.tree 0 down.0 (sym (ap post_place leaf.1) ∙ ap post_place down.1)).0 in
         let on_q = item_leaf n L R P g v k.is_left.tree q high is i at_q b m in
         let low_root = subst (λ (z : Ext ℕ). items.less z (at i)) a.2
@@ -146,7 +146,7 @@ module _ (n L : ℕ) (R : Log) (P : Pages) (g : Ghost) (v : Inv n L R P g) where
 -- one record more
 module _ (n L : ℕ) (R : Log) (P Q : Pages) (r : Record) (g : Ghost) (v : Inv n L R P g) (shown : Shows R P)
     (a : After n L R P Q r g) where
-  nil : (post_ghost g).place 0 ≡ nodes.Place.none
+  nil : (post_ghost g).place 0 ≡ nodes.TreePlace.none
   nil = (zero_place g (page_0 n L R P g v shown)).1
 
   root_on : (root t h : ℕ) → g.place root ≡ post t (suc h) → (i : ℕ) × (a.ghost.place root ≡ post t (suc i))

@@ -13,9 +13,9 @@ use Rattle.core_state.specs.Log.{Log, Pages, In, changed, fate}
 use Rattle.core_state.specs.Documents.{Has, page_of}
 use Rattle.core_state.specs.Known.{use_in}
 use Rattle.core_state.specs.Changes.{made_with, IsNew}
-use Rattle.core_state.specs.HeapRows.{IsPlaceHead, IsPutOverflow, IsMarkDeleted}
-use Rattle.core_state.specs.PendingRows.{IsPutPending}
-use Rattle.core_state.specs.VacuumRows.{IsDropPage, IsFreeSlots}
+use Rattle.core_state.specs.HeapRules.{IsPlaceHead, IsPutOverflow, IsMarkDeleted}
+use Rattle.core_state.specs.PendingRules.{IsPutPending}
+use Rattle.core_state.specs.VacuumRules.{IsDropPage, IsFreeSlots}
 use Rattle.core_state.specs.Trees.Nodes.{put}
 use Rattle.core_state.specs.Inner.Ghosts.{Place, Ghost}
 use Rattle.core_state.specs.Inner.Ghosts.Place.{unused, meta, heap, past, overflow_of, private_of}
@@ -114,7 +114,7 @@ module _ (n L : ℕ) (R : Log) (P Q : Pages) (r : Record) (floor since : ℕ) (g
         (λ z. cc) q)),
   )
 
--- the page of a heap before and behind
+-- the page of a heap before and after
 heap_was : (P : Pages) (a : ℕ) (old : Page) (slots : List _) → P a ≡ old → old.body ≡ body.Heap slots
     → IsHeap (P a).body
 heap_was P a old slots e f = subst IsHeap (sym (ap (λ (q : Page). q.body) e ∙ f)) tt

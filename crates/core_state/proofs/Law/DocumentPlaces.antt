@@ -1,4 +1,4 @@
--- Places of pages that are neither of a tree nor on the pending list, and what stands there.
+-- Places of pages that are neither of a tree nor on the pending list, and what is there.
 use Rattle.std.proofs.Common.{◌≡◌, ℕ, zero, suc, List, refl, subst}
 use Rattle.std.specs.Prelude.{⊤}
 use Rattle.page_types.specs.declared.page.Page.{Page}
@@ -19,7 +19,7 @@ IsDocPlace (overflow_of i) = ⊤
 IsDocPlace (private_of i) = ⊤
 IsDocPlace _ = ⊥
 
-pub doc_entry : (x : Place) → IsDocPlace x → entry_place x ≡ nodes.Place.none
+pub doc_entry : (x : Place) → IsDocPlace x → entry_place x ≡ nodes.TreePlace.none
 doc_entry unused d = refl
 doc_entry heap d = refl
 doc_entry past d = refl
@@ -27,7 +27,7 @@ doc_entry (overflow_of i) d = refl
 doc_entry (private_of i) d = refl
 doc_entry _ d = absurd d
 
-pub doc_post : (x : Place) → IsDocPlace x → post_place x ≡ nodes.Place.none
+pub doc_post : (x : Place) → IsDocPlace x → post_place x ≡ nodes.TreePlace.none
 doc_post unused d = refl
 doc_post heap d = refl
 doc_post past d = refl

@@ -9,7 +9,7 @@ use Rattle.page_types.specs.declared.page.Body.TheVariants as body
 use Rattle.core_state.specs.Log.{Pages, In}
 use Rattle.core_state.specs.Index.{Below, children_in}
 use Rattle.core_state.specs.Changes.{UpTo}
-use Rattle.core_state.specs.TreeRows.{Toward}
+use Rattle.core_state.specs.TreeRules.{Toward}
 use Rattle.core_state.specs.Trees.Ext.{Ext, ext_less}
 use Rattle.core_state.specs.Trees.Ext.Ext.{least, at, greatest}
 use Rattle.core_state.specs.Trees.Nodes as nodes
@@ -97,7 +97,7 @@ module _ (L : ℕ) (P : Pages) (g : Ghost) (K : KindsFit L P g) (S : Sane keys g
       (entry_child c.0) (ap entry_place e) (inner_node (P p) page.0 page.1) (in_map entry_child c.0 page.0 c.1) in (
         h,
         entry_is (g.place q) 1 h
-            (subst (λ (z : ℕ). entry_place (g.place z) ≡ nodes.Place.tree 1 h) (sym c.2) there.0),
+            (subst (λ (z : ℕ). entry_place (g.place z) ≡ nodes.TreePlace.tree 1 h) (sym c.2) there.0),
       )
 
   -- the pages below the root are those of the entry tree

@@ -52,8 +52,8 @@ entry_same (post r h) = refl
 entry_same (overflow_of i) = refl
 entry_same (private_of i) = refl
 
-post_back : (x : Place) (r h : ℕ) → post_place (forgotten_place x) ≡ nodes.Place.tree r h
-    → post_place x ≡ nodes.Place.tree r h
+post_back : (x : Place) (r h : ℕ) → post_place (forgotten_place x) ≡ nodes.TreePlace.tree r h
+    → post_place x ≡ nodes.TreePlace.tree r h
 post_back unused r h e = e
 post_back meta r h e = e
 post_back heap r h e = e
@@ -66,8 +66,8 @@ post_back (post s k) r h e = e
 post_back (overflow_of i) r h e = e
 post_back (private_of i) r h e = e
 
-post_on : (x : Place) (r h : ℕ) → post_place x ≡ nodes.Place.tree r h
-    → post_place (forgotten_place x) ≡ nodes.Place.tree r h
+post_on : (x : Place) (r h : ℕ) → post_place x ≡ nodes.TreePlace.tree r h
+    → post_place (forgotten_place x) ≡ nodes.TreePlace.tree r h
 post_on unused r h e = e
 post_on meta r h e = e
 post_on heap r h e = e
@@ -80,7 +80,7 @@ post_on (post s k) r h e = e
 post_on (overflow_of i) r h e = e
 post_on (private_of i) r h e = e
 
-post_not_left : (x : Place) (r : ℕ) → post_place (forgotten_place x) ≡ nodes.Place.left r → ⊥
+post_not_left : (x : Place) (r : ℕ) → post_place (forgotten_place x) ≡ nodes.TreePlace.left r → ⊥
 post_not_left unused r e = cc
 post_not_left meta r e = cc
 post_not_left heap r e = cc
@@ -235,7 +235,7 @@ module _ (R : Log) (P : Pages) (g : Ghost) where
 
 -- the entry tree's places are the same
 entries_same : (g : Ghost) → entry_ghost (forgotten g) ≡ entry_ghost g
-entries_same g = ap (λ (f : ℕ → nodes.Place). record { place = f; low = g.low_key; high = g.high_key })
+entries_same g = ap (λ (f : ℕ → nodes.TreePlace). record { place = f; low = g.low_key; high = g.high_key })
     (fun_ext (λ p. entry_same (g.place p)))
 
 pub forget : (n L : ℕ) (R : Log) (P : Pages) (g : Ghost) → Inv n L R P g → Inv n (length R) R P (forgotten g)

@@ -1,4 +1,4 @@
--- The rows of the pending list: a document's rows stand together, and only the first row's may be there in part.
+-- The rows of the pending list: a document's rows are together, and only the first row's may be there in part.
 use Rattle.std.proofs.Common.{◌≡◌, ◌≢◌, ◌⊎◌, ℕ, List, [], ◌∷◌, ◌++◌, refl, sym, ap, subst, ◌∙◌, inl, inr}
 use Rattle.std.specs.Prelude.{⊤}
 use Rattle.ts_base.specs.Keys.{Key}
@@ -66,7 +66,7 @@ pub key_behind : (k : Key) (i : ℕ) (xs ys : List (List Row)) → KeyIn k i ys 
 key_behind k i [] ys m = m
 key_behind k i (x ∷ xs) ys m = inr (key_behind k i xs ys m)
 
--- pages of one new document behind the line
+-- pages of one new document after the line
 pub link_grouped : (xs ys : List (List Row)) (d : ℕ) → Grouped xs → Grouped ys → ((i : ℕ) → InLine i ys → i ≡ d)
     → (InLine d xs → ⊥) → Grouped (xs ++ ys)
 link_grouped [] ys d g h own new = h
@@ -95,7 +95,7 @@ chain_grouped (y ∷ ys) d filled own = (
   λ i on there. first_by ys d filled.1 (λ j m. own j (inr m)) i (own i (inl on)) there,
 )
 
--- a row of a new document behind the last page's rows
+-- a row of a new document after the last page's rows
 on_more : (i : ℕ) (page : List Row) (w : Row) → OnPage i (page ++ w ∷ []) → OnPage i page ⊎ (i ≡ w.item)
 on_more i [] w (v, inl e, h) = inr (sym h ∙ ap (λ (x : Row). x.item) e)
 on_more i [] w (v, inr e, h) = absurd e

@@ -12,7 +12,7 @@ use Rattle.page_types.specs.declared.record.Record.{Record}
 use Rattle.page_types.specs.declared.record.Kind.TheVariants as kind
 use Rattle.core_state.specs.Log.{Log, Pages, In, changed}
 use Rattle.core_state.specs.Changes.{made_with}
-use Rattle.core_state.specs.TreeRows.{OneChild, IsGrowRoot}
+use Rattle.core_state.specs.TreeRules.{OneChild, IsGrowRoot}
 use Rattle.core_state.specs.Trees.Nodes.{put}
 use Rattle.core_state.specs.Inner.Ghosts.{Place, Ghost}
 use Rattle.core_state.specs.Inner.Ghosts.Place.{unused, past, entry, post}
@@ -101,7 +101,7 @@ module _ (n L : ℕ) (R : Log) (P Q : Pages) (r : Record) (floor since : ℕ) (g
   not_1 : 1 ≢ new
   not_1 e = new_not_1 L since R P Q r g b.inv.kinds b.inv.starts b.since_is some new x.here.is_new (sym e)
 
-  -- the root stands in y then, and the new page where the root stood
+  -- the root is in y then, and the new page where the root was
   module _ (y y' : Place) (at_root : g.place root ≡ y) (taken : Taken y) (given : Given y) (given' : Given y')
       (not_unused : unused ≢ y) (not_past : past ≢ y)
       (fits_new : Fits L y (Q new)) (fits_root : Fits L y' (Q root)) where

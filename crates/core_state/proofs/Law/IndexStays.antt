@@ -15,8 +15,8 @@ use Rattle.page_types.specs.declared.record.Kind.TheVariants as kind
 use Rattle.core_state.specs.Log.{Log, Pages, In, Shows, changed, commits}
 use Rattle.core_state.specs.Documents.{Doc, Has, HasVector, IsDead}
 use Rattle.core_state.specs.Index.{IsLinked, Below}
-use Rattle.core_state.specs.TreeRows.{IsRoot}
-use Rattle.core_state.specs.Legal.{RowHolds, Valid, RowsAreValid}
+use Rattle.core_state.specs.TreeRules.{IsRoot}
+use Rattle.core_state.specs.Legal.{RuleHolds, Valid, RecordsAreValid}
 use Rattle.core_state.specs.Steady.{IsIndexWork, LeavesIndex, KeepsHead, IndexStays}
 use Rattle.core_state.specs.Inner.PageKinds.{IsHeap, IsOverflow, IsPending, IsTree, IsDeleted, ChangesTrees, IsChanged, Touched}
 use Rattle.core_state.specs.Inner.Ghosts.{Place, Ghost}
@@ -101,7 +101,7 @@ pub record Quiet (R : Log) (P Q : Pages) : Type 0 where
       → IsLinked Q w → IsLinked P w
 
 module _ (n L : ℕ) (R : Log) (P Q : Pages) (r : Record) (floor since : ℕ) (g : Ghost) (v : Inv n L R P g)
-    (a : After n L R P Q r g) (row : RowHolds R P Q r floor since) (H : HeadStep R P Q r floor)
+    (a : After n L R P Q r g) (row : RuleHolds R P Q r floor since) (H : HeadStep R P Q r floor)
     (touch : (p : ℕ) → In p (changed r) → Touched P Q r since p) (other : (q : ℕ) → (In q (changed r) → ⊥) → Q q ≡ P q)
     (some : R ≢ []) (later : r.kind ≢ kind.Create) (early : IsIndexWork r.kind → ⊥) where
   no_trees : ChangesTrees r.kind → ⊥
@@ -193,17 +193,17 @@ quiet_on R T P S Q stays x y = record {
 }
 
 module _ (step : StepHolds) where
-  quiet_one : (S : Log) (r : Record) → RowsAreValid S → (u : Valid S r (commits S) (suc (length S))) → S ≢ []
+  quiet_one : (S : Log) (r : Record) → RecordsAreValid S → (u : Valid S r (commits S) (suc (length S))) → S ≢ []
       → (IsIndexWork r.kind → ⊥) → Quiet S u.before u.after
   quiet_one S r v u some early =
       let h = plain_run step S v u.before u.shown in
       let a = step_over step (commits S) (length S) S r (commits S) (suc (length S)) u (omega arith) (inr refl)
       (omega arith) u.before u.after h.0 u.shown u.shown_after h.1 in
-      quiet_step (commits S) (length S) S u.before u.after r (commits S) (suc (length S)) h.0 h.1 a u.row
+      quiet_step (commits S) (length S) S u.before u.after r (commits S) (suc (length S)) h.0 h.1 a u.rule
       (heads_step S r (commits S) (suc (length S)) u) (touches S r (commits S) (suc (length S)) u)
       (elsewhere S r (commits S) (suc (length S)) u) some (not_create S r (commits S) (suc (length S)) u some) early
 
-  quiet_behind : (later R : Log) → RowsAreValid (later ++ R) → R ≢ [] → (P Q : Pages) → Shows R P
+  quiet_behind : (later R : Log) → RecordsAreValid (later ++ R) → R ≢ [] → (P Q : Pages) → Shows R P
       → Shows (later ++ R) Q → LeavesIndex later → Quiet R P Q
   quiet_behind [] R v some P Q shown shown' leaves = subst (Quiet R P) (shown_one R P Q shown shown') (quiet_same R P)
   quiet_behind (r ∷ later) R v some P Q shown shown' leaves =
@@ -213,7 +213,7 @@ module _ (step : StepHolds) where
       (quiet_one (later ++ R) r v.0 v.1 (some_behind later R some) (leaves r (inl refl))))
 
   -- without later records of the kinds 12 to 21
-  pub index_stays_behind : (later R : Log) → RowsAreValid (later ++ R) → R ≢ [] → (P Q : Pages) → Shows R P
+  pub index_stays_behind : (later R : Log) → RecordsAreValid (later ++ R) → R ≢ [] → (P Q : Pages) → Shows R P
       → Shows (later ++ R) Q → LeavesIndex later → IndexStays R (later ++ R) P Q
   index_stays_behind later R v some P Q shown shown' leaves =
       let q = quiet_behind later R v some P Q shown shown' leaves in

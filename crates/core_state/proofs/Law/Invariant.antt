@@ -1,4 +1,4 @@
--- What holds of a log, its pages and its ghosts behind each record, where a document is dead by the
+-- What holds of a log, its pages and its ghosts after each record, where a document is dead by the
 -- floor n, and pages that were deleted since the length L are kept.
 use Rattle.std.specs.Prelude.{ℕ}
 use Rattle.core_state.specs.Log.{Log, Pages}

@@ -1,4 +1,4 @@
--- Which kind stands where in a legal log's pages.
+-- Which kind is where in a legal log's pages.
 use Rattle.std.proofs.Common.{◌≡◌, ◌≢◌, ℕ, zero, suc, List, [], ◌∷◌, length, refl, sym, ap, subst, ◌∙◌, inl, inr}
 use Rattle.std.specs.Prelude.{Option, Some, None, map}
 use Rattle.page_types.specs.Views.{slots_in, slot_at}
@@ -11,8 +11,8 @@ use Rattle.page_types.specs.declared.record.Record.{Record}
 use Rattle.core_state.specs.Log.{Log, Pages, In, Shows, changed, commits}
 use Rattle.core_state.specs.Documents.{Doc, page_of, slot_of, placed, head_of}
 use Rattle.core_state.specs.Index.{Below, children_in}
-use Rattle.core_state.specs.TreeRows.{IsRoot}
-use Rattle.core_state.specs.Legal.{Valid, RowsAreValid}
+use Rattle.core_state.specs.TreeRules.{IsRoot}
+use Rattle.core_state.specs.Legal.{Valid, RecordsAreValid}
 use Rattle.core_state.specs.Bullets as told
 use Rattle.core_state.specs.Bullets.{StandsOnChain, StandsIn}
 use Rattle.core_state.specs.PagesTold.{IsOfPlace, IsUsed, KindsStand}
@@ -36,7 +36,7 @@ use Rattle.core_state.proofs.Law.Belows.{root_of, below_place}
 use Rattle.core_state.proofs.Law.Bounded.{posts_hold, some_record}
 use Rattle.core_state.proofs.Law.OnePlaces.{place_told, same_some, stands}
 
--- a page of a ghost's place has the kind of the place that is told
+-- a page of a ghost's place has the kind of the place that is said
 of_place : (L : ℕ) (x : Place) (p : Page) (a : told.PagePlace) → place_told x ≡ Some a → Fits L x p → IsOfPlace a p.body
 of_place L meta p a e f = subst (λ (y : told.PagePlace). IsOfPlace y p.body) (same_some _ a e) f
 of_place L heap p a e f = subst (λ (y : told.PagePlace). IsOfPlace y p.body) (same_some _ a e) f
@@ -176,7 +176,7 @@ is_heap (body.Heap slots) is = (slots, refl)
 is_heap _ is = absurd is
 
 -- the page of each head that was placed is one
-heap_page : (R : Log) (P : Pages) → RowsAreValid R → Shows R P → (x : ℕ) (d : Doc) → In d (placed R x)
+heap_page : (R : Log) (P : Pages) → RecordsAreValid R → Shows R P → (x : ℕ) (d : Doc) → In d (placed R x)
     → IsHeap (P (page_of d.item)).body
 heap_page [] P v shown x d i = absurd i
 heap_page (r ∷ R) P v shown x d i =
@@ -184,7 +184,7 @@ heap_page (r ∷ R) P v shown x d i =
     subst (λ (q : Page). IsHeap q.body) (sym (is_after R r _ _ u P shown (page_of d.item)))
     (elim (placed_back r R x d i) [
       | inr new ↦
-          let m = places_doc R u.before u.after r _ _ u.row d.item d.serial new.0 in
+          let m = places_doc R u.before u.after r _ _ u.rule d.item d.serial new.0 in
           some_heap (u.after (page_of d.item)).body (slot_of d.item) m.head m.has.at
       | inl old ↦
           let was = heap_page R u.before v.0 u.shown x d old in
@@ -194,7 +194,7 @@ heap_page (r ∷ R) P v shown x d i =
           ]
     ])
 
-pub kinds_stand : (n L : ℕ) (R : Log) (P : Pages) (g : Ghost) → Inv n L R P g → RowsAreValid R → Shows R P
+pub kinds_stand : (n L : ℕ) (R : Log) (P : Pages) (g : Ghost) → Inv n L R P g → RecordsAreValid R → Shows R P
     → KindsStand R P
 kinds_stand n L R P g v valid shown = record {
   kinds = kinds n L R P g v shown;

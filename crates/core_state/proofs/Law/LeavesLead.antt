@@ -1,4 +1,4 @@
--- Leaves lead along right links to what stands behind them, by the invariant and a measure that falls along the links.
+-- Leaves lead along right links to what is after them, by the invariant and a measure that falls along the links.
 use Rattle.std.proofs.Common.{◌≡◌, ◌≢◌, ℕ, List, map, refl, sym, ap, subst, ◌∙◌, inl, inr}
 use Rattle.ts_base.specs.Keys.{Key}
 use Rattle.page_types.specs.Items.{items_of}
@@ -11,7 +11,7 @@ use Rattle.core_state.specs.Bullets.{Rightward, LeavesLead}
 use Rattle.core_state.specs.Trees.Ext.{Ext}
 use Rattle.core_state.specs.Trees.Ext.Ext.{least, at, greatest}
 use Rattle.core_state.specs.Trees.Nodes.{AtMost}
-use Rattle.core_state.specs.Trees.Nodes.Place.{tree}
+use Rattle.core_state.specs.Trees.Nodes.TreePlace.{tree}
 use Rattle.core_state.specs.Trees.TreeNodes.{bound, high_bound, entry_body, entry_nodes, post_body, post_nodes}
 use Rattle.core_state.specs.Inner.Ghosts.{Ghost, post_place, entry_ghost, post_ghost}
 use Rattle.core_state.proofs.Trees.Members.{in_map}
@@ -54,7 +54,7 @@ post_along P p q Along.here = Rightward.here
 post_along P p q (Along.next {q = x} a n) =
     next_page P p x _ (post_right (P x).right (P x).body n) n (post_along P p x a)
 
--- what may not stand under a bound is above it
+-- what may not be under a bound is above it
 above_bound : (k high : Key) → (UpTo k high → ⊥) → keys.less (bound high) (at k)
 above_bound k high n = elim (keys.total (at k) (bound high)) [
   | inl l ↦ absurd (n (to_up_to k high (inl l)))
@@ -86,7 +86,7 @@ module _ (n L : ℕ) (R : Log) (P : Pages) (g : Ghost) (v : Inv n L R P g) where
             (subst (λ (z : Ext Key). keys.less z (at e.key)) high_p (above_bound e.key high off));
       }))
 
-  -- the leaf of a posting tree on which an item stands
+  -- the leaf of a posting tree on which an item is
   pub item_leaf : (root q high : ℕ) (is : List ℕ) (i : ℕ) → (post_ghost g).place q ≡ tree root 0
       → (P q).body ≡ body.PostLeaf high is → In i (items_of is)
       → items.less (g.low_item q) (at i) × AtMost items greatest (at i) (g.high_item q)

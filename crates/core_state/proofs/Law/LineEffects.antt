@@ -12,7 +12,7 @@ use Rattle.core_state.specs.Inner.LineSteps.{LineStep}
 use Rattle.core_state.proofs.Histories.{chain_one}
 use Rattle.core_state.proofs.PageLists.{in_front, in_either}
 
--- a linked row stands on a page of the ghosts' line
+-- a linked row is on a page of the ghosts' line
 pub on_line : (R : Log) (P : Pages) (g : Ghost) (w : Row) → IsLined R P g → IsLinked P w
     → (q : ℕ) × In q g.line × In w (rows_of (P q))
 on_line R P g w l k = (k.page, subst (In k.page) (chain_one P _ k.line g.line k.is_line l.is_line) k.on, k.there)

@@ -1,4 +1,4 @@
--- The pages that a link of a private chain changes, and the places behind it.
+-- The pages that a link of a private chain changes, and the places after it.
 use Rattle.std.proofs.Common.{◌≡◌, ◌≢◌, ◌⊎◌, ◌+◌, ℕ, ◌==◌, cond, List, [], ◌∷◌, ◌++◌, map, refl, sym, ap, subst, ◌∙◌, inl, inr, arith}
 use Rattle.page_types.specs.declared.page.Page.{Page}
 use Rattle.page_types.specs.declared.page.Row.{Row}
@@ -8,7 +8,7 @@ use Rattle.core_state.specs.Log.{Pages, In, changed}
 use Rattle.core_state.specs.Documents.{IsChain}
 use Rattle.core_state.specs.Index.{Line}
 use Rattle.core_state.specs.Changes.{made_with}
-use Rattle.core_state.specs.PendingRows.{IsLinkHere}
+use Rattle.core_state.specs.PendingRules.{IsLinkHere}
 use Rattle.core_state.specs.Inner.Ghosts.{Place}
 use Rattle.core_state.specs.Inner.Ghosts.Place.{unused, meta, heap, line, past, shifted, left, entry, post, overflow_of, private_of}
 use Rattle.core_state.specs.Inner.Kinds.{last_of}
@@ -58,7 +58,7 @@ joined_on i x y e n = elim (joined_back i x) [ inl s ↦ s ∙ e | inr p ↦ abs
 pub joined_was : (i : ℕ) (x y : Place) → joined i x ≡ y → y ≢ line → x ≡ y
 joined_was i x y e n = elim (joined_back i x) [ inl s ↦ sym s ∙ e | inr p ↦ absurd (n (sym e ∙ p.1)) ]
 
--- the pages behind the heap page: the metapage, and the list's last page if there is one
+-- the pages after the heap page: the metapage, and the list's last page if there is one
 pub data LinkPages (P Q : Pages) (r : Record) (a to end added : ℕ) : Type 0 where
   empty : (count : ℕ) → changed r ≡ a ∷ 0 ∷ [] → (P 0).body ≡ body.Meta 0 0 count
       → (Q 0).body ≡ body.Meta to end (count + added) → LinkPages P Q r a to end added
@@ -86,7 +86,7 @@ link_pages P Q r a to end added old turned others before after
           (ap (λ (p : Page). p.body) now.1) (ap (λ (p : Page). p.body) was.2 ∙ rows_is) now.2 ln.1,
     )
 
--- a chain goes on behind its last page
+-- a chain goes on after its last page
 pub chain_join : (P Q : Pages) (p last to : ℕ) (front more : List ℕ) → IsChain P p (front ++ last ∷ [])
     → ((q : ℕ) → In q front → (Q q).right ≡ (P q).right) → (Q last).right ≡ to → IsChain Q to more
     → IsChain Q p (front ++ last ∷ more)

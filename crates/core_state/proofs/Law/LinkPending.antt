@@ -1,4 +1,4 @@
--- The case of a private chain that comes behind the pending list.
+-- The case of a private chain that comes after the pending list.
 use Rattle.std.proofs.Common.{◌≡◌, ◌≢◌, ◌⊎◌, ◌+◌, ℕ, List, [], ◌∷◌, ◌++◌, length, refl, sym, ap, ap₂, subst, ◌∙◌, inl, inr, append_assoc, append-nil, length-append}
 use Rattle.std.proofs.lemmas.List.{map-append}
 use Rattle.ts_base.specs.Vectors.{Vector}
@@ -14,7 +14,7 @@ use Rattle.page_types.specs.declared.record.Kind.TheVariants as kind
 use Rattle.core_state.specs.Log.{Log, Pages, In, changed, fate}
 use Rattle.core_state.specs.Documents.{Has, IsChain, IsWhole, HasVector, IsDead, page_of, doc_at}
 use Rattle.core_state.specs.Index.{Line, InRows, rows_on}
-use Rattle.core_state.specs.PendingRows.{IsLinkPending}
+use Rattle.core_state.specs.PendingRules.{IsLinkPending}
 use Rattle.core_state.specs.declared.answers.Fate.TheVariants.{Running}
 use Rattle.core_state.specs.Inner.Effects.{NewRow}
 use Rattle.core_state.specs.Inner.ItemChains.{ChainOf}
@@ -134,7 +134,7 @@ module _ (n L : ℕ) (R : Log) (P Q : Pages) (r : Record) (since : ℕ) (g : Gho
   meta_now (LinkPages.behind first last count rows front pages was now rows_was rows_now is) = let c =
       v.lined.counted some in (first, count, now, (meta_count _ _ _ _ _ _ (sym was ∙ c.1)).1)
 
-  -- who stands neither on a heap page, nor on the metapage, nor on the list stays as it is
+  -- who is neither on a heap page, nor on the metapage, nor on the list stays as it is
   stays : (q : ℕ) (y : Place) → g.place q ≡ y → y ≢ heap → y ≢ meta → y ≢ line → Q q ≡ P q
   stays q y at h m k = elim (in_or_not q (changed r)) [
     | inr off ↦ l.elsewhere q off
@@ -163,7 +163,7 @@ module _ (n L : ℕ) (R : Log) (P Q : Pages) (r : Record) (since : ℕ) (g : Gho
       go (Changed.list_page rows was now on) = ap (λ (c : Body). rows_of (record { right = 0; stamp = 0; body = c }))
           (now ∙ sym was)
 
-  -- the ghosts behind
+  -- the ghosts after
   abbrev f : ℕ → Place
   f p = joined item (g.place p)
 
@@ -298,7 +298,7 @@ module _ (n L : ℕ) (R : Log) (P Q : Pages) (r : Record) (since : ℕ) (g : Gho
       (λ q i w m. new_row w (chain_item q w i (subst (λ (p : Page). In w (rows_of p)) (chain_same q i) m)))
       (λ q i. ([], rows_same q ((v.lined.on q).0 i) ∙ sym (append-nil _), λ w j. absurd j))
 
-  -- the document is whole behind the record too
+  -- the document is whole after the record too
   whole_now : HasVector Q x.here.doc x.rest.vector
   whole_now = elim (l.whole x.here.doc x.here.head x.rest.vector has x.rest.whole) [
     | inl w ↦ w

@@ -1,12 +1,12 @@
--- In every legal log the pages of trees stand in lists in which each link leads on.
+-- In every legal log the pages of trees are in lists in which each link leads on.
 use Rattle.std.proofs.Common.{◌≡◌, ◌⊎◌, ℕ, suc, List, [], ◌∷◌, length, refl, ap, inl, inr, arith}
 use Rattle.page_types.specs.declared.record.Record.{Record}
 use Rattle.core_state.specs.Log.{Log, Pages, Shows, commits}
-use Rattle.core_state.specs.Legal.{Pin, KeepsEach, RowsAreValid}
+use Rattle.core_state.specs.Legal.{Pin, KeepsEach, RecordsAreValid}
 use Rattle.core_state.specs.Inner.Ghosts.{Ghost, Place, entry_place, post_place, entry_ghost, post_ghost, forgotten, forgotten_place, no_ghost}
 use Rattle.core_state.specs.Inner.Ghosts.Place.{unused, meta, heap, line, past, shifted, left, entry, post, overflow_of, private_of}
 use Rattle.core_state.specs.Trees.Ext.Ext.{least, greatest}
-use Rattle.core_state.specs.Trees.Nodes.Place.{none}
+use Rattle.core_state.specs.Trees.Nodes.TreePlace.{none}
 use Rattle.core_state.specs.Trees.TreeNodes.{entry_nodes, post_nodes}
 use Rattle.core_state.proofs.Trees.Orders.{keys, items}
 use Rattle.core_state.proofs.Law.Invariant.{Inv}
@@ -125,7 +125,7 @@ list_run step pin (r ∷ R) k Q shown =
     )
 
 -- the same of each log of valid records
-pub plain_lists : StepHolds → (R : Log) → RowsAreValid R → (P : Pages) → Shows R P → HasLists (commits R) (length R) R P
+pub plain_lists : StepHolds → (R : Log) → RecordsAreValid R → (P : Pages) → Shows R P → HasLists (commits R) (length R) R P
 plain_lists step [] v P shown = (no_ghost, start 0 0 P shown, none_listed P)
 plain_lists step (r ∷ R) v Q shown =
     let before = plain_lists step R v.0 v.1.before v.1.shown in

@@ -24,17 +24,17 @@ use Rattle.core_state.proofs.Law.Steps.{Left, TreesStep, Departs}
 
 -- a place in no tree
 pub record Loose (x : Place) : Type 0 where
-  pub entry : entry_place x ≡ nodes.Place.none
-  pub post : post_place x ≡ nodes.Place.none
+  pub entry : entry_place x ≡ nodes.TreePlace.none
+  pub post : post_place x ≡ nodes.TreePlace.none
 
 -- a page of such a place has no entries
-pub no_entries : (L : ℕ) (x : Place) (p : Page) → Fits L x p → entry_place x ≡ nodes.Place.none → entries_of p ≡ []
+pub no_entries : (L : ℕ) (x : Place) (p : Page) → Fits L x p → entry_place x ≡ nodes.TreePlace.none → entries_of p ≡ []
 no_entries L x p f e = go p.body refl
   where
     go : (c : Body) → p.body ≡ c → entries_of p ≡ []
     go (body.EntryLeaf high es) s =
         let at : x ≡ entry 0 = place_for L x p (body.EntryLeaf high es) f s in
-        absurd (let z : nodes.Place.tree 1 0 ≡ nodes.Place.none = sym (ap entry_place at) ∙ e in cc)
+        absurd (let z : nodes.TreePlace.tree 1 0 ≡ nodes.TreePlace.none = sym (ap entry_place at) ∙ e in cc)
     go body.Free s = ap entries_in s
     go (body.Meta first last count) s = ap entries_in s
     go (body.Heap slots) s = ap entries_in s
@@ -46,7 +46,7 @@ no_entries L x p f e = go p.body refl
     go (body.Deleted gone) s = ap entries_in s
 
 tree_not_loose : (x : Place) (r h : ℕ) → Loose x → x ≡ post r h → ⊥
-tree_not_loose x r h l e = let z : nodes.Place.tree r h ≡ nodes.Place.none = sym (ap post_place e) ∙ l.post in cc
+tree_not_loose x r h l e = let z : nodes.TreePlace.tree r h ≡ nodes.TreePlace.none = sym (ap post_place e) ∙ l.post in cc
 
 module _ (n since L : ℕ) (R : Log) (P Q : Pages) (r : Record) (g : Ghost) (v : Inv n L R P g)
     (l : Left n since R P Q r) (f : ℕ → Place) (ln : List ℕ) where
@@ -55,7 +55,7 @@ module _ (n since L : ℕ) (R : Log) (P Q : Pages) (r : Record) (g : Ghost) (v :
     same : f p ≡ g.place p → Q p ≡ P p → PageNow p
     loose : Loose (g.place p) → Loose (f p) → Fits L (f p) (Q p) → PageNow p
 
-  -- the ghosts behind the record
+  -- the ghosts after the record
   abbrev pub ghost_now : Ghost
   ghost_now = record g { place = f; line = ln }
 
@@ -77,19 +77,19 @@ module _ (n since L : ℕ) (R : Log) (P Q : Pages) (r : Record) (g : Ghost) (v :
     post_same p (PageNow.loose a b t) = b.post ∙ sym a.post
 
     entries_ghost : entry_ghost ghost_now ≡ entry_ghost g
-    entries_ghost = ap (λ (h : ℕ → nodes.Place). record { place = h; low = g.low_key; high = g.high_key })
+    entries_ghost = ap (λ (h : ℕ → nodes.TreePlace). record { place = h; low = g.low_key; high = g.high_key })
         (fun_ext (λ p. entry_same p (each p)))
 
     posts_ghost : post_ghost ghost_now ≡ post_ghost g
-    posts_ghost = ap (λ (h : ℕ → nodes.Place). record { place = h; low = g.low_item; high = g.high_item })
+    posts_ghost = ap (λ (h : ℕ → nodes.TreePlace). record { place = h; low = g.low_item; high = g.high_item })
         (fun_ext (λ p. post_same p (each p)))
 
-    entry_quiet : (p : ℕ) → PageNow p → entry_place (g.place p) ≢ nodes.Place.none
+    entry_quiet : (p : ℕ) → PageNow p → entry_place (g.place p) ≢ nodes.TreePlace.none
         → entry_node (Q p) ≡ entry_node (P p)
     entry_quiet p (PageNow.same e s) n = ap entry_node s
     entry_quiet p (PageNow.loose a b t) n = absurd (n a.entry)
 
-    post_quiet : (p : ℕ) → PageNow p → post_place (g.place p) ≢ nodes.Place.none → post_node (Q p) ≡ post_node (P p)
+    post_quiet : (p : ℕ) → PageNow p → post_place (g.place p) ≢ nodes.TreePlace.none → post_node (Q p) ≡ post_node (P p)
     post_quiet p (PageNow.same e s) n = ap post_node s
     post_quiet p (PageNow.loose a b t) n = absurd (n a.post)
 

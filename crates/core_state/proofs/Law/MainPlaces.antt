@@ -1,4 +1,4 @@
--- Where a pair of the main part stands, and what tells it of the pages.
+-- Where a pair of the main part is, and what says it of the pages.
 use Rattle.std.specs.Prelude.{◌≡◌, ℕ, List}
 use Rattle.ts_base.specs.Keys.{Key}
 use Rattle.page_types.specs.Items.{items_of}
@@ -16,7 +16,7 @@ use Rattle.core_state.specs.Inner.Owners.{TreesNamed}
 use Rattle.core_state.proofs.Trees.Orders.{items}
 use Rattle.core_state.proofs.Law.Rooted.{AreRooted}
 
--- a pair stands in an entry's list, or on a leaf of a posting tree of its key
+-- a pair is in an entry's list, or on a leaf of a posting tree of its key
 pub data MainAt (P : Pages) (g : Ghost) (k : Key) (i : ℕ) : Type 0 where
   listed : (q : ℕ) (e : Entry) (bytes : List ℕ) → In e (entries_of (P q)) → e.key ≡ k
       → e.postings ≡ Inline bytes → In i (items_of bytes) → MainAt P g k i

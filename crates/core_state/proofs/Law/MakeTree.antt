@@ -10,7 +10,7 @@ use Rattle.page_types.specs.declared.record.Record.{Record}
 use Rattle.page_types.specs.declared.record.Kind.TheVariants as kind
 use Rattle.core_state.specs.Log.{Log, Pages, In, changed}
 use Rattle.core_state.specs.Changes.{made_with}
-use Rattle.core_state.specs.TreeRows.{IsMakeTree}
+use Rattle.core_state.specs.TreeRules.{IsMakeTree}
 use Rattle.core_state.specs.Inner.Ghosts.{Place, Ghost}
 use Rattle.core_state.specs.Inner.Ghosts.Place.{unused, entry, post}
 use Rattle.core_state.specs.Inner.GhostSteps.{made_tree}
@@ -122,7 +122,7 @@ module _ (n L : ℕ) (R : Log) (P Q : Pages) (r : Record) (floor since : ℕ) (g
     ]
   ]
 
-  -- the new page has no entries, before and behind
+  -- the new page has no entries, before and after
   new_entries : (e : Entry) → In e (entries_of (Q new)) → ⊥
   new_entries e i = subst (In e) (ap entries_of is.1) i
 

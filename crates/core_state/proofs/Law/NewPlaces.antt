@@ -1,4 +1,4 @@
--- A page that may be taken stands nowhere; so what stands somewhere stays there where such a page is taken.
+-- A page that may be taken is nowhere; so what is somewhere stays there where such a page is taken.
 use Rattle.std.proofs.Common.{◌≡◌, ◌≢◌, ◌⊎◌, ◌≤◌, ◌<◌, ℕ, suc, List, [], ◌∷◌, length, sym, ap, subst, ◌∙◌, inl, inr, arith}
 use Rattle.page_types.specs.Views.{free_page}
 use Rattle.page_types.specs.declared.page.Page.{Page}
@@ -18,7 +18,7 @@ use Rattle.core_state.proofs.Trees.Order.{put_here, put_else}
 use Rattle.core_state.proofs.Law.Places.{place_for}
 use Rattle.core_state.proofs.Law.LooseSteps.{Loose}
 
--- a page that stands nowhere
+-- a page that is nowhere
 abbrev pub Nowhere : Place → Type 0
 Nowhere x = (x ≡ unused) ⊎ (x ≡ past)
 
@@ -31,7 +31,7 @@ pub nowhere_not : (x y : Place) → Nowhere x → (unused ≡ y → ⊥) → (pa
 nowhere_not x y (inl e) a b f = a (sym e ∙ f)
 nowhere_not x y (inr e) a b f = b (sym e ∙ f)
 
--- a page that may be taken stands nowhere
+-- a page that may be taken is nowhere
 pub new_nowhere : (L since : ℕ) (R : Log) (P : Pages) (g : Ghost) → KindsFit L P g → PagesStart R P g
     → (since ≤ L) ⊎ (L ≡ length R) → (p : ℕ) → IsNew (use_in P) since p → Nowhere (g.place p)
 new_nowhere L since R P g kinds starts bound p new = elim (new_was P since p new) [

@@ -1,4 +1,4 @@
--- A page stands in one place, by the invariant.
+-- A page is in one place, by the invariant.
 use Rattle.std.proofs.Common.{◌≡◌, ◌≢◌, ℕ, zero, suc, List, [], ◌∷◌, refl, sym, ap, subst, ◌∙◌}
 use Rattle.std.specs.Prelude.{Option, Some, None}
 use Rattle.page_types.specs.declared.page.Head.{Head}
@@ -6,7 +6,7 @@ use Rattle.page_types.specs.declared.page.Body.TheVariants as body
 use Rattle.core_state.specs.Log.{Log, Pages, In, Shows}
 use Rattle.core_state.specs.Documents.{IsChain}
 use Rattle.core_state.specs.Index.{Below}
-use Rattle.core_state.specs.TreeRows.{IsRoot}
+use Rattle.core_state.specs.TreeRules.{IsRoot}
 use Rattle.core_state.specs.Bullets as told
 use Rattle.core_state.specs.Bullets.{StandsOnChain, StandsIn, OnePlace}
 use Rattle.core_state.specs.Inner.Ghosts.{Place, Ghost}
@@ -20,7 +20,7 @@ use Rattle.core_state.proofs.Law.Belows.{place_below}
 use Rattle.core_state.proofs.Law.EntryBounds.{entry_below}
 use Rattle.core_state.proofs.Law.Bounded.{posts_hold}
 
--- what a ghost's place says of where a page stands
+-- what a ghost's place says of where a page is
 abbrev pub place_told : Place → Option told.PagePlace
 place_told meta = Some told.PagePlace.meta
 place_told heap = Some told.PagePlace.heap

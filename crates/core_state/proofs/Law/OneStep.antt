@@ -4,8 +4,8 @@ use Rattle.page_types.specs.declared.page.Page.{Page}
 use Rattle.page_types.specs.declared.page.Body.TheVariants as body
 use Rattle.page_types.specs.declared.record.Record.{Record}
 use Rattle.core_state.specs.Log.{Log, Pages, In, Shows, changed}
-use Rattle.core_state.specs.Legal.{RowHolds}
-use Rattle.core_state.specs.Trees.Nodes.Place.{none}
+use Rattle.core_state.specs.Legal.{RuleHolds}
+use Rattle.core_state.specs.Trees.Nodes.TreePlace.{none}
 use Rattle.core_state.specs.Trees.Ext.Ext.{least, greatest}
 use Rattle.core_state.specs.Trees.TreeNodes.{entry_nodes, post_nodes}
 use Rattle.core_state.specs.Inner.Effects.{Effects}
@@ -13,7 +13,7 @@ use Rattle.core_state.proofs.Law.LineEffects.{pending_stays, rows_back}
 use Rattle.core_state.specs.Inner.Ghosts.{Ghost, entry_place, post_place, entry_ghost, post_ghost}
 use Rattle.core_state.specs.Inner.Ghosts.Place.{unused, meta, overflow_of}
 use Rattle.core_state.proofs.Showing.{none_yet, shown_one, shown_none, others_stay}
-use Rattle.core_state.proofs.Monotone.{row_more}
+use Rattle.core_state.proofs.Monotone.{rule_more}
 use Rattle.core_state.proofs.PageLists.{in_or_not}
 use Rattle.core_state.specs.Inner.PageKinds.{Touched}
 use Rattle.core_state.proofs.TouchedPages.{none_free, touched}
@@ -37,33 +37,33 @@ use Rattle.core_state.proofs.Law.ChainsStay.{overflows}
 -- the case of the record's kind
 pub case_of : Cases → (n L : ℕ) (R : Log) (P Q : Pages) (r : Record) (floor since : ℕ) (g : Ghost)
     → Before n L R P Q r floor since g → Left n since R P Q r
-    → RowHolds R P Q r floor since → (g' : Ghost) × Case n L R P Q r g g'
-case_of c n L R P Q r floor since g b d (RowHolds.create v) = c.create n L R P Q r floor since g b d v
-case_of c n L R P Q r floor since g b d (RowHolds.begin v) = c.begin n L R P Q r floor since g b d v
-case_of c n L R P Q r floor since g b d (RowHolds.commit v) = c.commit n L R P Q r floor since g b d v
-case_of c n L R P Q r floor since g b d (RowHolds.abort v) = c.abort n L R P Q r floor since g b d v
-case_of c n L R P Q r floor since g b d (RowHolds.checkpoint v) = c.checkpoint n L R P Q r floor since g b d v
-case_of c n L R P Q r floor since g b d (RowHolds.place_head v) = c.place_head n L R P Q r floor since g b d v
-case_of c n L R P Q r floor since g b d (RowHolds.put_overflow v) = c.put_overflow n L R P Q r floor since g b d v
-case_of c n L R P Q r floor since g b d (RowHolds.mark_deleted v) = c.mark_deleted n L R P Q r floor since g b d v
-case_of c n L R P Q r floor since g b d (RowHolds.put_pending v) = c.put_pending n L R P Q r floor since g b d v
-case_of c n L R P Q r floor since g b d (RowHolds.add_row v) = c.add_row n L R P Q r floor since g b d v
-case_of c n L R P Q r floor since g b d (RowHolds.link_pending v) = c.link_pending n L R P Q r floor since g b d v
-case_of c n L R P Q r floor since g b d (RowHolds.shift v) = c.shift n L R P Q r floor since g b d v
-case_of c n L R P Q r floor since g b d (RowHolds.add_items v) = c.add_items n L R P Q r floor since g b d v
-case_of c n L R P Q r floor since g b d (RowHolds.make_tree v) = c.make_tree n L R P Q r floor since g b d v
-case_of c n L R P Q r floor since g b d (RowHolds.add_postings v) = c.add_postings n L R P Q r floor since g b d v
-case_of c n L R P Q r floor since g b d (RowHolds.grow_root v) = c.grow_root n L R P Q r floor since g b d v
-case_of c n L R P Q r floor since g b d (RowHolds.split v) = c.split n L R P Q r floor since g b d v
-case_of c n L R P Q r floor since g b d (RowHolds.remove_items v) = c.remove_items n L R P Q r floor since g b d v
-case_of c n L R P Q r floor since g b d (RowHolds.delete_post v) = c.delete_post n L R P Q r floor since g b d v
-case_of c n L R P Q r floor since g b d (RowHolds.drop_page v) = c.drop_page n L R P Q r floor since g b d v
-case_of c n L R P Q r floor since g b d (RowHolds.free_slots v) = c.free_slots n L R P Q r floor since g b d v
+    → RuleHolds R P Q r floor since → (g' : Ghost) × Case n L R P Q r g g'
+case_of c n L R P Q r floor since g b d (RuleHolds.create v) = c.create n L R P Q r floor since g b d v
+case_of c n L R P Q r floor since g b d (RuleHolds.begin v) = c.begin n L R P Q r floor since g b d v
+case_of c n L R P Q r floor since g b d (RuleHolds.commit v) = c.commit n L R P Q r floor since g b d v
+case_of c n L R P Q r floor since g b d (RuleHolds.abort v) = c.abort n L R P Q r floor since g b d v
+case_of c n L R P Q r floor since g b d (RuleHolds.checkpoint v) = c.checkpoint n L R P Q r floor since g b d v
+case_of c n L R P Q r floor since g b d (RuleHolds.place_head v) = c.place_head n L R P Q r floor since g b d v
+case_of c n L R P Q r floor since g b d (RuleHolds.put_overflow v) = c.put_overflow n L R P Q r floor since g b d v
+case_of c n L R P Q r floor since g b d (RuleHolds.mark_deleted v) = c.mark_deleted n L R P Q r floor since g b d v
+case_of c n L R P Q r floor since g b d (RuleHolds.put_pending v) = c.put_pending n L R P Q r floor since g b d v
+case_of c n L R P Q r floor since g b d (RuleHolds.add_row v) = c.add_row n L R P Q r floor since g b d v
+case_of c n L R P Q r floor since g b d (RuleHolds.link_pending v) = c.link_pending n L R P Q r floor since g b d v
+case_of c n L R P Q r floor since g b d (RuleHolds.shift v) = c.shift n L R P Q r floor since g b d v
+case_of c n L R P Q r floor since g b d (RuleHolds.add_items v) = c.add_items n L R P Q r floor since g b d v
+case_of c n L R P Q r floor since g b d (RuleHolds.make_tree v) = c.make_tree n L R P Q r floor since g b d v
+case_of c n L R P Q r floor since g b d (RuleHolds.add_postings v) = c.add_postings n L R P Q r floor since g b d v
+case_of c n L R P Q r floor since g b d (RuleHolds.grow_root v) = c.grow_root n L R P Q r floor since g b d v
+case_of c n L R P Q r floor since g b d (RuleHolds.split v) = c.split n L R P Q r floor since g b d v
+case_of c n L R P Q r floor since g b d (RuleHolds.remove_items v) = c.remove_items n L R P Q r floor since g b d v
+case_of c n L R P Q r floor since g b d (RuleHolds.delete_post v) = c.delete_post n L R P Q r floor since g b d v
+case_of c n L R P Q r floor since g b d (RuleHolds.drop_page v) = c.drop_page n L R P Q r floor since g b d v
+case_of c n L R P Q r floor since g b d (RuleHolds.free_slots v) = c.free_slots n L R P Q r floor since g b d v
 
 is_some : (s : Record) (S : Log) → s ∷ S ≢ []
 is_some s S e = cc
 
--- page 0 stands in no tree
+-- page 0 is in no tree
 pub page_0 : (n L : ℕ) (R : Log) (P : Pages) (g : Ghost) → Inv n L R P g → Shows R P
     → (g.place 0 ≡ unused) ⊎ (g.place 0 ≡ meta)
 page_0 n L [] P g v shown =
@@ -80,7 +80,7 @@ post_none g (inl e) = ap post_place e
 post_none g (inr e) = ap post_place e
 
 module _ (n L : ℕ) (R : Log) (P Q : Pages) (r : Record) (floor since : ℕ) (g : Ghost)
-    (b : Before n L R P Q r floor since g) (row : RowHolds R P Q r floor since) where
+    (b : Before n L R P Q r floor since g) (row : RuleHolds R P Q r floor since) where
   elsewhere : (q : ℕ) → (In q (changed r) → ⊥) → Q q ≡ P q
   elsewhere q off = others_stay R r P Q b.shown b.shown_after q off
 
@@ -94,9 +94,9 @@ module _ (n L : ℕ) (R : Log) (P Q : Pages) (r : Record) (floor since : ℕ) (g
         (sym (elsewhere p off)) (omega (arith, small))
   ]
 
-  -- the row with the floor n
-  row_n : RowHolds R P Q r n since
-  row_n = row_more R P Q r floor since n since b.floor_is (omega arith) row
+  -- the rule with the floor n
+  row_n : RuleHolds R P Q r n since
+  row_n = rule_more R P Q r floor since n since b.floor_is (omega arith) row
 
   turns : HeadStep R P Q r n
   turns = head_step R P Q r n since touch elsewhere row_n

@@ -1,4 +1,4 @@
--- Who owns a row or a pair owns it behind each record that leaves it.
+-- Who owns a row or a pair owns it after each record that leaves it.
 use Rattle.std.proofs.Common.{◌≡◌, ◌≢◌, ◌⊎◌, ℕ, List, [], ◌∷◌, refl, sym, ap, ap₂, subst, ◌∙◌, inl, inr}
 use Rattle.std.specs.Prelude.{Some, None}
 use Rattle.ts_base.specs.Keys.{Key}
@@ -32,7 +32,7 @@ some_one a b e = cc
 none_some : (a : Head) → None ≡ Some a → ⊥
 none_some a e = cc
 
--- a head behind a record was there with its serial, or the slot was free
+-- a head after a record was there with its serial, or the slot was free
 pub serial_was : (n : ℕ) (R : Log) (P Q : Pages) (r : Record) → HeadStep R P Q r n → (i : ℕ) (h : Head)
     → head_of Q i ≡ Some h
     → ((k : Head) × (head_of P i ≡ Some k) × (h.serial ≡ k.serial)) ⊎ (head_of P i ≡ None)
@@ -181,7 +181,7 @@ module _ (n since L : ℕ) (R : Log) (P Q : Pages) (r : Record) (g : Ghost) (v :
     posted = λ q s i at m. elim (leaves q s i at m) [ inl o ↦ pair_stays (g'.key_of s) i o | inr o ↦ o ];
   }
 
-  -- a document of the line has all its keys there, behind the record too
+  -- a document of the line has all its keys there, after the record too
   pub all_keys_stay : (i : ℕ) (ys : List (List Row)) → HasRow P i → AllKeysIn P i ys → AllKeysIn Q i ys
   all_keys_stay i ys some k =
       let h = k.whole in

@@ -1,4 +1,4 @@
--- What the pages of a legal log tell of each other.
+-- What the pages of a legal log say of each other.
 use Rattle.core_state.specs.Log.{commits}
 use Rattle.std.specs.Prelude.{length}
 use Rattle.core_state.specs.PagesTold.{PagesHold}

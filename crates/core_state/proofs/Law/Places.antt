@@ -1,4 +1,4 @@
--- The kind of a page tells its place.
+-- The kind of a page says its place.
 use Rattle.std.proofs.Common.{◌≡◌, ◌⊎◌, ◌<◌, ℕ, zero, suc, refl, sym, ap, subst, inl, inr}
 use Rattle.page_types.specs.declared.page.Page.{Page}
 use Rattle.page_types.specs.declared.page.Body.{Body}

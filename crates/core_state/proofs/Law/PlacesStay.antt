@@ -1,4 +1,4 @@
--- Where pages stand in a log, and in one that goes on from it.
+-- Where pages are in a log, and in one that goes on from it.
 use Rattle.std.proofs.Common.{◌≡◌, ◌≢◌, ◌⊎◌, ◌<◌, ◌≤◌, ◌++◌, ℕ, suc, List, [], ◌∷◌, length, length-append, refl, sym, ap, subst, ◌∙◌, inl, inr, arith}
 use Rattle.std.specs.Prelude.{Option}
 use Rattle.page_types.specs.Views.{first_of}
@@ -10,8 +10,8 @@ use Rattle.page_types.specs.declared.page.Gone.TheVariants as gone
 use Rattle.page_types.specs.declared.record.Record.{Record}
 use Rattle.core_state.specs.Log.{Log, Pages, In, Shows, changed, commits}
 use Rattle.core_state.specs.Index.{Line, Below}
-use Rattle.core_state.specs.TreeRows.{IsRoot}
-use Rattle.core_state.specs.Legal.{Valid, RowsAreValid, Pin, KeepsEach}
+use Rattle.core_state.specs.TreeRules.{IsRoot}
+use Rattle.core_state.specs.Legal.{Valid, RecordsAreValid, Pin, KeepsEach}
 use Rattle.core_state.specs.Steady.{PlacesStay, PinnedPlacesStay}
 use Rattle.core_state.specs.Trees.Ext.Ext.{least, greatest}
 use Rattle.core_state.specs.Trees.Nodes as nodes
@@ -40,7 +40,7 @@ use Rattle.core_state.proofs.Law.RunningStays.{some_behind}
 use Rattle.core_state.proofs.Law.Steps.{StepHolds, After}
 use Rattle.core_state.proofs.Law.Runs.{Holds, plain_run, past_run, step_over}
 
-left_not_root : (r h : ℕ) → nodes.Place.left r ≡ nodes.Place.tree r (suc h) → ⊥
+left_not_root : (r h : ℕ) → nodes.TreePlace.left r ≡ nodes.TreePlace.tree r (suc h) → ⊥
 left_not_root r h e = cc
 
 -- one record, by the invariant before it
@@ -92,7 +92,7 @@ module _ (n L : ℕ) (R : Log) (P Q : Pages) (r : Record) (g : Ghost) (v : Inv n
         | inr was ↦ inr (left_fits (a.ghost.place p) was (a.inv.kinds p))
       ]
     where
-      left_fits : (x : Place) → post_place x ≡ nodes.Place.left root → Fits L x (Q p) → GoneLeaf Q p
+      left_fits : (x : Place) → post_place x ≡ nodes.TreePlace.left root → Fits L x (Q p) → GoneLeaf Q p
       left_fits (left s) e f = f
       left_fits (post s h) e f = absurd (cc)
       left_fits (entry h) e f = absurd (cc)
@@ -119,18 +119,18 @@ module _ (n L : ℕ) (R : Log) (P Q : Pages) (r : Record) (g : Ghost) (v : Inv n
       ]
 
 module _ (step : StepHolds) where
-  before : (S : Log) (r : Record) (v : RowsAreValid S) (u : Valid S r (commits S) (suc (length S)))
+  before : (S : Log) (r : Record) (v : RecordsAreValid S) (u : Valid S r (commits S) (suc (length S)))
       → Holds (commits S) (length S) S u.before
   before S r v u = plain_run step S v u.before u.shown
 
-  behind : (S : Log) (r : Record) (v : RowsAreValid S) (u : Valid S r (commits S) (suc (length S)))
+  behind : (S : Log) (r : Record) (v : RecordsAreValid S) (u : Valid S r (commits S) (suc (length S)))
       → After (commits S) (length S) S u.before u.after r (before S r v u).0
   behind S r v u = let h = before S r v u in
       step_over step (commits S) (length S) S r (commits S) (suc (length S)) u (omega arith) (inr refl)
       (omega arith) u.before u.after h.0 u.shown u.shown_after h.1
 
   -- the entry tree and the roots
-  entries_behind : (later R : Log) → RowsAreValid (later ++ R) → R ≢ [] → (P Q : Pages) → Shows R P
+  entries_behind : (later R : Log) → RecordsAreValid (later ++ R) → R ≢ [] → (P Q : Pages) → Shows R P
       → Shows (later ++ R) Q → (p : ℕ) → Below P 1 p → Below Q 1 p
   entries_behind [] R v some P Q shown shown' p b =
       subst (λ (S : Pages). Below S 1 p) (shown_one R P Q shown shown') b
@@ -142,7 +142,7 @@ module _ (step : StepHolds) where
       (behind S r v.0 v.1) (some_behind later R some) p
       (entries_behind later R v.0 some P v.1.before shown v.1.shown p b))
 
-  roots_behind : (later R : Log) → RowsAreValid (later ++ R) → (P Q : Pages) → Shows R P
+  roots_behind : (later R : Log) → RecordsAreValid (later ++ R) → (P Q : Pages) → Shows R P
       → Shows (later ++ R) Q → (root : ℕ) → IsRoot P root → IsRoot Q root
   roots_behind [] R v P Q shown shown' root is =
       subst (λ (S : Pages). IsRoot S root) (shown_one R P Q shown shown') is
@@ -153,7 +153,7 @@ module _ (step : StepHolds) where
       (root_on (commits S) (length S) S v.1.before v.1.after r h.0 h.1 v.1.shown v.1.shown_after
       (behind S r v.0 v.1) root (roots_behind later R v.0 P v.1.before shown v.1.shown root is))
 
-  heaps_behind : (later R : Log) → RowsAreValid (later ++ R) → (P Q : Pages) → Shows R P
+  heaps_behind : (later R : Log) → RecordsAreValid (later ++ R) → (P Q : Pages) → Shows R P
       → Shows (later ++ R) Q → (p : ℕ) (slots : List (Option Head)) → (P p).body ≡ body.Heap slots
       → (slots' : List (Option Head)) × ((Q p).body ≡ body.Heap slots')
   heaps_behind [] R v P Q shown shown' p slots e =
@@ -172,7 +172,7 @@ module _ (step : StepHolds) where
             (old.0, ap (λ (T : Pages). (T p).body) pages ∙ ap (λ (q : Page). q.body) (elsewhere S r _ _ u p off) ∙ old.1)
       ]
 
-  pub places_stay : (later R : Log) → RowsAreValid (later ++ R) → R ≢ [] → (P Q : Pages) → Shows R P
+  pub places_stay : (later R : Log) → RecordsAreValid (later ++ R) → R ≢ [] → (P Q : Pages) → Shows R P
       → Shows (later ++ R) Q → PlacesStay P Q
   places_stay later R v some P Q shown shown' = record {
     entry_tree = entries_behind later R v some P Q shown shown';
@@ -195,7 +195,7 @@ module _ (step : StepHolds) where
     Stays P Q = ((root p : ℕ) → IsRoot P root → root ≢ 1 → Below P root p → Below Q root p ⊎ Leaf Q p)
         × ((p : ℕ) → OnLine P p → OnLine Q p ⊎ Rows Q p)
 
-    pinned : (later R : Log) → RowsAreValid (later ++ R) → KeepsEach pin (later ++ R) → pin.length ≤ length R
+    pinned : (later R : Log) → RecordsAreValid (later ++ R) → KeepsEach pin (later ++ R) → pin.length ≤ length R
         → (P Q : Pages) → Shows R P → Shows (later ++ R) Q → Stays P Q
     pinned [] R v k low P Q shown shown' =
         subst (Stays P) (shown_one R P Q shown shown') (λ root p is off b. inl b, λ p on. inl on)
@@ -228,7 +228,7 @@ module _ (step : StepHolds) where
           ],
         )
 
-    pub pinned_stay : (later R : Log) → RowsAreValid (later ++ R) → KeepsEach pin (later ++ R)
+    pub pinned_stay : (later R : Log) → RecordsAreValid (later ++ R) → KeepsEach pin (later ++ R)
         → pin.length ≤ length R → (P Q : Pages) → Shows R P → Shows (later ++ R) Q → PinnedPlacesStay P Q
     pinned_stay later R v k low P Q shown shown' =
         let s = pinned later R v k low P Q shown shown' in

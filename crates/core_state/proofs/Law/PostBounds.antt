@@ -8,12 +8,12 @@ use Rattle.page_types.specs.declared.page.Body.{Body}
 use Rattle.page_types.specs.declared.page.Body.TheVariants as body
 use Rattle.core_state.specs.Log.{Pages, In}
 use Rattle.core_state.specs.Changes.{ItemUpTo}
-use Rattle.core_state.specs.TreeRows.{TowardItem}
+use Rattle.core_state.specs.TreeRules.{TowardItem}
 use Rattle.core_state.specs.Trees.Ext.{Ext}
 use Rattle.core_state.specs.Trees.Ext.Ext.{least, at, greatest}
-use Rattle.core_state.specs.Trees.Nodes.{Child, Ghost, AtMost, Sane}
+use Rattle.core_state.specs.Trees.Nodes.{Child, TreeGhost, AtMost, Sane}
 use Rattle.core_state.specs.Trees.Nodes.Node.{inner}
-use Rattle.core_state.specs.Trees.Nodes.Place.{tree}
+use Rattle.core_state.specs.Trees.Nodes.TreePlace.{tree}
 use Rattle.core_state.specs.Trees.TreeNodes.{high_bound, child_bound, post_child, post_body, post_nodes}
 use Rattle.core_state.proofs.Trees.Order.{same_inner}
 use Rattle.core_state.proofs.Trees.Members.{in_map}
@@ -89,7 +89,7 @@ to_toward P i small q p (Down.down right front back c node each up rest) =
     (to_toward P i small q c.page rest))) page.1
 
 -- each item is reached from its tree's root, and is within its leaf's bound
-pub post_bounded : (P : Pages) (g : Ghost (Ext ℕ)) → Sane items greatest (post_nodes P) g
+pub post_bounded : (P : Pages) (g : TreeGhost (Ext ℕ)) → Sane items greatest (post_nodes P) g
     → AreRooted least greatest (post_nodes P) g
     → (r page high : ℕ) (is : List ℕ) (i : ℕ) → g.place page ≡ tree r 0 → IsPage (P page)
     → (P page).body ≡ body.PostLeaf high is → In i (items_of is) → TowardItem P i r page × ItemUpTo i high

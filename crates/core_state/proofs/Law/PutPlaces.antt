@@ -28,7 +28,7 @@ module _ (f : ℕ → Place) (a : ℕ) (x : Place) where
   pub put_same : (y : Place) → f a ≢ y → x ≢ y → (p : ℕ) → (f p ≡ y) ↔ (put f a x p ≡ y)
   put_same y m n p = (put_on y m p, λ e. (put_back y n p e).1)
 
--- the first pages stay where a used page behind them gets another place
+-- the first pages stay where a used page after them gets another place
 pub starts_move : (R : Log) (r : Record) (P Q : Pages) (g : Ghost) (a : ℕ) (x : Place) (ln : List ℕ) → R ≢ []
     → PagesStart R P g → g.place a ≢ unused → g.place a ≢ meta
     → ((h : ℕ) → g.place a ≢ entry h) → x ≢ unused → x ≢ meta → ((p : ℕ) → (Q p).stamp ≤ suc (length R))

@@ -12,13 +12,13 @@ use Rattle.page_types.specs.declared.record.Kind.TheVariants as kind
 use Rattle.core_state.specs.Log.{Log, Pages, In, changed, commits}
 use Rattle.core_state.specs.Documents.{Doc, page_of, slot_of, head_of}
 use Rattle.core_state.specs.Index.{IsLinked, Main}
-use Rattle.core_state.specs.Legal.{Valid, RowsAreValid}
+use Rattle.core_state.specs.Legal.{Valid, RecordsAreValid}
 use Rattle.core_state.specs.RecordKeeps.{IsOwnRow, SameHeads, SameRows, SameMain, TreesStay, PlacingKeeps, RemovingKeeps, DeletingKeeps, DroppingKeeps, FreeingKeeps, RecordKeeps, RecordsKeep}
 use Rattle.core_state.specs.Inner.PageKinds.{ChangesLine, ChangesTrees, Touched}
 use Rattle.core_state.specs.Inner.Ghosts.Place.{overflow_of, private_of}
 use Rattle.core_state.proofs.Showing.{shown_one}
 use Rattle.core_state.proofs.PageLists.{same_or_not, in_or_not}
-use Rattle.core_state.proofs.RowsByKind.{kind_row}
+use Rattle.core_state.proofs.RulesByKind.{kind_rule}
 use Rattle.core_state.proofs.HeadSteps.{TurnsHead, HeadStep}
 use Rattle.core_state.proofs.StaysIndexed.{placed_by_head}
 use Rattle.core_state.proofs.SteadyPages.{touches, elsewhere}
@@ -85,7 +85,7 @@ no_turn (kind.LinkPending i s) d w t = w
 no_turn (kind.DropPage i s) d w t = w
 no_turn _ d w t = t
 
-module _ (step : StepHolds) (R : Log) (r : Record) (some : R ≢ []) (valid : RowsAreValid R)
+module _ (step : StepHolds) (R : Log) (r : Record) (some : R ≢ []) (valid : RecordsAreValid R)
     (u : Valid R r (commits R) (suc (length R))) where
   abbrev P : Pages
   P = u.before
@@ -133,8 +133,8 @@ module _ (step : StepHolds) (R : Log) (r : Record) (some : R ≢ []) (valid : Ro
         placed_by = subst (λ (x : ℕ). In new.doc (Rattle.core_state.specs.Documents.placed R x)) by
             (placed_by_head n R P h.1.heads new.doc new.head new.has);
       })
-      | inr off ↦ inl (linked_was n L L R P Q r n since h.0 a.ghost h.1 a.inv u.row touch other later new.doc new.head
-          new.has (running_keeps R P Q r n since u.row touch other h.0.line (λ i q. h.0.place q ≡ overflow_of i)
+      | inr off ↦ inl (linked_was n L L R P Q r n since h.0 a.ghost h.1 a.inv u.rule touch other later new.doc new.head
+          new.has (running_keeps R P Q r n since u.rule touch other h.0.line (λ i q. h.0.place q ≡ overflow_of i)
           (λ i q. h.0.place q ≡ private_of i) (overflows n L R P h.0 h.1) (privates n L R P h.0 h.1) n h.1.heads
           (omega arith) turns new.doc new.head new.has new.runs off) off w (sym new.item) k)
     ]
@@ -171,7 +171,7 @@ module _ (step : StepHolds) (R : Log) (r : Record) (some : R ≢ []) (valid : Ro
         heads = heads_same w;
         rows = same_rows (no_line r.kind w);
         main = λ floor x. removed_pairs R P Q r floor x other;
-        no_more = no_pair_comes R P Q r n (kind_row R P Q r n since kind.RemoveItems e u.row) other;
+        no_more = no_pair_comes R P Q r n (kind_rule R P Q r n since kind.RemoveItems e u.rule) other;
       }
 
   deleting : r.kind ≡ kind.DeletePost → DeletingKeeps P Q
@@ -182,7 +182,7 @@ module _ (step : StepHolds) (R : Log) (r : Record) (some : R ≢ []) (valid : Ro
         rows = same_rows (no_line r.kind w);
         main = λ k i. (
           main_on (λ f. let g : kind.DeletePost ≡ kind.RemoveItems = sym e ∙ f in cc) k i,
-          deleted_adds_none R P Q r (kind_row R P Q r n since kind.DeletePost e u.row) other k i,
+          deleted_adds_none R P Q r (kind_rule R P Q r n since kind.DeletePost e u.rule) other k i,
         );
       }
 

@@ -9,7 +9,7 @@ use Rattle.page_types.specs.declared.record.Record.{Record}
 use Rattle.page_types.specs.declared.record.Kind.TheVariants as kind
 use Rattle.core_state.specs.Log.{Log, Pages, In, changed}
 use Rattle.core_state.specs.Changes.{made_with}
-use Rattle.core_state.specs.VacuumRows.{EntryLoses, EntriesLose, ListsLose, IsRemoveItems}
+use Rattle.core_state.specs.VacuumRules.{EntryLoses, EntriesLose, ListsLose, IsRemoveItems}
 use Rattle.core_state.specs.Inner.Ghosts.{Place, Ghost}
 use Rattle.core_state.specs.Inner.Ghosts.Place.{post}
 use Rattle.core_state.specs.Inner.Kinds.{Fits}

@@ -12,8 +12,8 @@ use Rattle.page_types.specs.declared.record.Record.{Record}
 use Rattle.core_state.specs.Log.{Log, Pages, In, changed}
 use Rattle.core_state.specs.Index.{children_in, Main}
 use Rattle.core_state.specs.Changes.{made_with}
-use Rattle.core_state.specs.TreeRows.{IsDeletePost}
-use Rattle.core_state.specs.VacuumRows.{EntryLoses, ListsLose, IsRemoveItems}
+use Rattle.core_state.specs.TreeRules.{IsDeletePost}
+use Rattle.core_state.specs.VacuumRules.{EntryLoses, ListsLose, IsRemoveItems}
 use Rattle.core_state.proofs.PageLists.{same_or_not, in_or_not, in_front, in_back, in_either, one_page, Unlinked, LeftLeaf, unlinked_pages}
 use Rattle.core_state.proofs.Trees.Members.{in_map, of_map}
 use Rattle.core_state.proofs.Law.PairFrames.{EntryGoes, PairsGo, main_goes}

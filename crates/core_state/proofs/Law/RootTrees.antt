@@ -2,7 +2,7 @@
 use Rattle.std.proofs.Common.{◌≢◌, ◌≡◌, ℕ, zero, suc, [], sym, subst}
 use Rattle.core_state.specs.Log.{Log, Pages}
 use Rattle.core_state.specs.Index.{Below}
-use Rattle.core_state.specs.TreeRows.{IsRoot}
+use Rattle.core_state.specs.TreeRules.{IsRoot}
 use Rattle.core_state.specs.Inner.PageKinds.{IsTree}
 use Rattle.core_state.specs.Inner.Ghosts.{Place, Ghost}
 use Rattle.core_state.specs.Inner.Ghosts.Place.{entry, post}

@@ -11,9 +11,9 @@ use Rattle.page_types.specs.declared.record.Kind.TheVariants as kind
 use Rattle.core_state.specs.Log.{Log, Pages, In, Shows, changed, commits, fate}
 use Rattle.core_state.specs.Documents.{Doc, Has, IsChain, IsDead, page_of}
 use Rattle.core_state.specs.Index.{Line, Pending, HasRow, IsIndexed, rows_on}
-use Rattle.core_state.specs.TransactionRows.{IsCreate}
-use Rattle.core_state.specs.PendingRows.{IsAddRow, IsLinkPending, IsShift}
-use Rattle.core_state.specs.Legal.{Valid, RowsAreValid}
+use Rattle.core_state.specs.TransactionRules.{IsCreate}
+use Rattle.core_state.specs.PendingRules.{IsAddRow, IsLinkPending, IsShift}
+use Rattle.core_state.specs.Legal.{Valid, RecordsAreValid}
 use Rattle.core_state.specs.Inner.PageKinds.{ChangesLine, Touched}
 use Rattle.core_state.specs.Inner.Ghosts.{Ghost}
 use Rattle.core_state.specs.Inner.Ghosts.Place.{meta, heap, private_of}
@@ -23,7 +23,7 @@ use Rattle.core_state.specs.Inner.LineSteps.{LineStep}
 use Rattle.core_state.proofs.Showing.{shown_one}
 use Rattle.core_state.proofs.Histories.{chain_one}
 use Rattle.core_state.proofs.PageLists.{in_either, in_back, two_pages}
-use Rattle.core_state.proofs.RowsByKind.{kind_row}
+use Rattle.core_state.proofs.RulesByKind.{kind_rule}
 use Rattle.core_state.proofs.HeadSteps.{link_turned}
 use Rattle.core_state.proofs.Chains.{chain_kept}
 use Rattle.core_state.proofs.StaysIndexed.{runs_alive}
@@ -61,7 +61,7 @@ first_row : (i : ℕ) (ws : List Row) → StartsPage i ws → (w : Row) × In w 
 first_row i [] s = absurd s
 first_row i (w ∷ ws) s = (w, inl refl, s)
 
--- the first of some rows stands before those that come behind
+-- the first of some rows is before those that come after
 starts_old : (i : ℕ) (ws xs : List Row) → ws ≢ [] → StartsPage i (ws ++ xs) → StartsPage i ws
 starts_old i [] xs some s = absurd (some refl)
 starts_old i (w ∷ ws) xs some s = s
@@ -241,13 +241,13 @@ module _ (n L : ℕ) (R : Log) (P Q : Pages) (r : Record) (floor since : ℕ) (g
       later : r.kind ≢ kind.Create
       later = not_create R r floor since u some
   first_new i none k (LineKind.adds_row j s e) =
-      let x : IsAddRow R u.before u.after r = kind_row R u.before u.after r floor since (kind.AddRow j s) e u.row in
+      let x : IsAddRow R u.before u.after r = kind_rule R u.before u.after r floor since (kind.AddRow j s) e u.rule in
       let ln = subst (λ (S : Pages). Line S (x.rest.front ++ x.here.last ∷ [])) before x.rest.is_last in
       let same = chain_one P (first_of (P 0)) (x.rest.front ++ x.here.last ∷ []) [] ln
       (subst (Line P) none v.lined.is_line) in
       absurd (subst (In x.here.last) same (in_back x.here.last x.rest.front (x.here.last ∷ []) (inl refl)))
   first_new i none k (LineKind.shifts e) =
-      let x : IsShift R u.before u.after r = kind_row R u.before u.after r floor since kind.Shift e u.row in
+      let x : IsShift R u.before u.after r = kind_rule R u.before u.after r floor since kind.Shift e u.rule in
       let m = two_pages u.before (changed r) 0 x.here.page x.here.meta x.here.old x.here.pages x.here.before_is in
       let c = v.lined.counted some in
       let count = meta_count x.here.page x.here.last (suc x.here.count) c.0 (last_of g.line) (length g.line)
@@ -257,10 +257,10 @@ module _ (n L : ℕ) (R : Log) (P Q : Pages) (r : Record) (floor since : ℕ) (g
       no_count : (c l : ℕ) → suc c ≡ l → l ≡ 0 → ⊥
       no_count c l e f = omega (arith, e, f)
   first_new i none k (LineKind.links j s e) =
-      let row = subst (λ (S : Pages). Rattle.core_state.specs.Legal.RowHolds R S Q r floor since) before
-      (subst (λ (T : Pages). Rattle.core_state.specs.Legal.RowHolds R u.before T r floor since) after u.row) in
+      let row = subst (λ (S : Pages). Rattle.core_state.specs.Legal.RuleHolds R S Q r floor since) before
+      (subst (λ (T : Pages). Rattle.core_state.specs.Legal.RuleHolds R u.before T r floor since) after u.rule) in
       link_indexed n L R P Q r floor since g v a some touch other
-      (kind_row R P Q r floor since (kind.LinkPending j s) e row) none i k
+      (kind_rule R P Q r floor since (kind.LinkPending j s) e row) none i k
 
   list_or_none : (qs : List ℕ) → (qs ≡ []) ⊎ (qs ≢ [])
   list_or_none [] = inl refl
@@ -311,11 +311,11 @@ made_none : (r : Record) (floor since : ℕ) (u : Valid [] r floor since) (Q : P
     → first_of (Q 0) ≡ 0
 made_none r floor since u Q same =
     let e : r.kind ≡ kind.Create = elim u.started [ inl k ↦ k | inr off ↦ absurd (off refl) ] in
-    let x : IsCreate [] u.before u.after r = kind_row [] u.before u.after r floor since kind.Create e u.row in
+    let x : IsCreate [] u.before u.after r = kind_rule [] u.before u.after r floor since kind.Create e u.rule in
     ap (λ (T : Pages). first_of (T 0)) (sym same)
     ∙ ap first_of (two_pages u.after (changed r) 0 1 _ _ x.here.pages x.here.after_is).0
 
-pub rows_indexed : StepHolds → (R : Log) → RowsAreValid R → (P : Pages) → Shows R P → AreRowsIndexed P
+pub rows_indexed : StepHolds → (R : Log) → RecordsAreValid R → (P : Pages) → Shows R P → AreRowsIndexed P
 rows_indexed step [] v P shown =
     let h = plain_run step [] tt P shown in
     none_indexed 0 0 [] P h.0 h.1 (line_of_none 0 0 P h.0 h.1 shown)

@@ -11,8 +11,8 @@ use Rattle.page_types.specs.declared.record.Kind.TheVariants as kind
 use Rattle.core_state.specs.Log.{Log, Pages, In, Shows, changed, commits, fate}
 use Rattle.core_state.specs.Documents.{Doc, Has, IsDead, placed, doc_at}
 use Rattle.core_state.specs.Index.{IsLinked, HasRow}
-use Rattle.core_state.specs.TransactionRows.{IsCreate}
-use Rattle.core_state.specs.Legal.{RowHolds, Valid, RowsAreValid}
+use Rattle.core_state.specs.TransactionRules.{IsCreate}
+use Rattle.core_state.specs.Legal.{RuleHolds, Valid, RecordsAreValid}
 use Rattle.core_state.specs.Steady.{LeavesXid, SameChain, KeepsHead, RunsOn}
 use Rattle.core_state.specs.Inner.HeadsKept.{HeadsKept}
 use Rattle.core_state.specs.Inner.PageKinds.{Touched}
@@ -22,7 +22,7 @@ use Rattle.core_state.specs.declared.answers.Fate.TheVariants.{Running, Aborted,
 use Rattle.core_state.proofs.Showing.{shown_one}
 use Rattle.core_state.proofs.Histories.{chain_one}
 use Rattle.core_state.proofs.PageLists.{in_or_not}
-use Rattle.core_state.proofs.RowsByKind.{kind_row}
+use Rattle.core_state.proofs.RulesByKind.{kind_rule}
 use Rattle.core_state.proofs.FateSteps.{runs_on, placed_on}
 use Rattle.core_state.proofs.StaysIndexed.{same_doc}
 use Rattle.core_state.proofs.SteadyPages.{touches, elsewhere}
@@ -41,11 +41,11 @@ pending_of (body.Pending rows) w i = (rows, refl)
 pending_of _ w i = absurd i
 
 module _ (n L m : ℕ) (R : Log) (P Q : Pages) (r : Record) (floor since : ℕ) (g g' : Ghost) (v : Inv n L R P g)
-    (w : Inv n m (r ∷ R) Q g') (row : RowHolds R P Q r floor since)
+    (w : Inv n m (r ∷ R) Q g') (row : RuleHolds R P Q r floor since)
     (touch : (p : ℕ) → In p (changed r) → Touched P Q r since p) (other : (q : ℕ) → (In q (changed r) → ⊥)
     → Q q ≡ P q)
     (later : r.kind ≢ kind.Create) where
-  -- a page that is on the pending list behind the record is on no private chain of a head that stays
+  -- a page that is on the pending list after the record is on no private chain of a head that stays
   not_private : (d : Doc) (h : Head) → Has P d h → KeepsHead P Q d h → (q : ℕ) → In q g'.line
       → g.place q ≡ private_of d.item → ⊥
   not_private d h has keeps q on at =
@@ -97,11 +97,11 @@ placed_alive n R P D x d p runs (IsDead.delete_counted y k e l q) =
     let f : Running ≡ Committed c.1 = sym runs ∙ ap (fate R) (D.once x c.0 d d p c.2 refl).0 ∙ c.3 in
     cc
 
--- a record behind others makes no store
+-- a record after others makes no store
 pub not_create : (R : Log) (r : Record) (floor since : ℕ) → Valid R r floor since → R ≢ [] → r.kind ≢ kind.Create
 not_create [] r floor since v some e = some refl
 not_create (s ∷ S) r floor since v some e =
-    let x : IsCreate (s ∷ S) v.before v.after r = kind_row (s ∷ S) v.before v.after r floor since kind.Create e v.row
+    let x : IsCreate (s ∷ S) v.before v.after r = kind_rule (s ∷ S) v.before v.after r floor since kind.Create e v.rule
     in
     omega (arith, x.here.empty)
 
@@ -149,7 +149,7 @@ placed_later (r ∷ later) R x d i = placed_on r (later ++ R) x d (placed_later 
 
 module _ (step : StepHolds) where
   -- over one record more
-  module _ (x : ℕ) (S : Log) (r : Record) (v : RowsAreValid S) (u : Valid S r (commits S) (suc (length S)))
+  module _ (x : ℕ) (S : Log) (r : Record) (v : RecordsAreValid S) (u : Valid S r (commits S) (suc (length S)))
       (some : S ≢ []) (P : Pages) (off : r.xid ≢ x) (all : r.kind ≡ kind.Abort → r.xid ≢ 0)
       (I : Stays x S P u.before) where
     before : Holds (commits S) (length S) S u.before
@@ -163,7 +163,7 @@ module _ (step : StepHolds) where
     not_own h by e = off (sym e ∙ by)
 
     one : (d : Doc) (h : Head) → Has u.before d h → h.inserted_by ≡ x → KeepsHead u.before u.after d h
-    one d h has by = running_keeps S u.before u.after r (commits S) (suc (length S)) u.row (touches S r (commits S)
+    one d h has by = running_keeps S u.before u.after r (commits S) (suc (length S)) u.rule (touches S r (commits S)
         (suc (length S)) u) (elsewhere S r (commits S) (suc (length S)) u) before.0.line
         (λ i q. before.0.place q ≡ overflow_of i) (λ i q. before.0.place q ≡ private_of i) (overflows (commits S)
         (length S) S u.before before.0 before.1) (privates (commits S) (length S) S u.before before.0 before.1)
@@ -173,7 +173,7 @@ module _ (step : StepHolds) where
     row_one : (d : Doc) (h : Head) → Has u.before d h → h.inserted_by ≡ x → HasRow u.after d.item
         → HasRow u.before d.item
     row_one d h has by k = row_was (commits S) (length S) (length S) S u.before u.after r (commits S) (suc (length S))
-        before.0 behind.ghost before.1 behind.inv u.row
+        before.0 behind.ghost before.1 behind.inv u.rule
         (touches S r (commits S) (suc (length S)) u) (elsewhere S r (commits S) (suc (length S)) u)
         (not_create S r (commits S) (suc (length S)) u some) d h has (one d h has by) (not_own h by) k
 
@@ -186,7 +186,7 @@ module _ (step : StepHolds) where
       rows = λ d h has by k. I.rows d h has by (row_one d h (I.keeps d h has by).head by k);
     }
 
-  stays_behind : (x : ℕ) (later R : Log) → RowsAreValid (later ++ R) → R ≢ [] → (P Q : Pages) → Shows R P
+  stays_behind : (x : ℕ) (later R : Log) → RecordsAreValid (later ++ R) → R ≢ [] → (P Q : Pages) → Shows R P
       → Shows (later ++ R) Q → fate R x ≡ Running → LeavesXid x later → Stays x (later ++ R) P Q
   stays_behind x [] R v some P Q shown shown' runs leaves = subst (Stays x R P) (shown_one R P Q shown shown')
       (record {
@@ -201,7 +201,7 @@ module _ (step : StepHolds) where
       v.1.before shown v.1.shown runs (λ s i. leaves s (inr i))))
 
   -- a transaction that runs and of which no later record is runs on, and its documents stay as they are
-  pub runs_on_behind : (x : ℕ) (later R : Log) → RowsAreValid R → RowsAreValid (later ++ R) → R ≢ [] → (P Q : Pages)
+  pub runs_on_behind : (x : ℕ) (later R : Log) → RecordsAreValid R → RecordsAreValid (later ++ R) → R ≢ [] → (P Q : Pages)
       → Shows R P → Shows (later ++ R) Q → fate R x ≡ Running → LeavesXid x later
       → RunsOn R (later ++ R) P Q x
   runs_on_behind x later R v v' some P Q shown shown' runs leaves = record {

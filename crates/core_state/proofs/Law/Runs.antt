@@ -2,7 +2,7 @@
 use Rattle.std.proofs.Common.{◌≡◌, ◌⊎◌, ◌≤◌, ℕ, suc, [], ◌∷◌, length, refl, sym, subst, subst₂, inl, inr, arith}
 use Rattle.page_types.specs.declared.record.Record.{Record}
 use Rattle.core_state.specs.Log.{Log, Pages, Shows, commits}
-use Rattle.core_state.specs.Legal.{RowHolds, Valid, RowsAreValid, Pin, KeepsEach}
+use Rattle.core_state.specs.Legal.{RuleHolds, Valid, RecordsAreValid, Pin, KeepsEach}
 use Rattle.core_state.specs.Inner.Ghosts.{Ghost, no_ghost, forgotten}
 use Rattle.core_state.proofs.Law.Invariant.{Inv}
 use Rattle.core_state.proofs.Law.Steps.{After, StepHolds}
@@ -15,14 +15,14 @@ use Rattle.core_state.proofs.Law.Forget.{forget, weaken}
 abbrev pub Holds : ℕ → ℕ → Log → Pages → Type 0
 Holds n L R P = (g : Ghost) × Inv n L R P g
 
--- what is behind a valid record, from what is before it
+-- what is after a valid record, from what is before it
 module _ (step : StepHolds) (n L : ℕ) (R : Log) (r : Record) (floor since : ℕ) (v : Valid R r floor since)
     (floor_is : floor ≤ n) (since_is : (since ≤ L) ⊎ (L ≡ length R)) (within : L ≤ length R) where
-  row_between : (P Q : Pages) → Shows R P → Shows (r ∷ R) Q → RowHolds R P Q r floor since
+  row_between : (P Q : Pages) → Shows R P → Shows (r ∷ R) Q → RuleHolds R P Q r floor since
   row_between P Q shown shown_after =
-      subst₂ (λ (S T : Pages). RowHolds R S T r floor since) (shown_one R v.before P v.shown shown)
+      subst₂ (λ (S T : Pages). RuleHolds R S T r floor since) (shown_one R v.before P v.shown shown)
       (shown_one (r ∷ R) v.after Q v.shown_after shown_after)
-      v.row
+      v.rule
 
   pub step_over : (P Q : Pages) (g : Ghost) → Shows R P → Shows (r ∷ R) Q → Inv n L R P g → After n L R P Q r g
   step_over P Q g shown shown_after inv = step n L R P Q r floor since g (record {
@@ -53,7 +53,7 @@ none_shown n P shown = (no_ghost, start n 0 P shown)
 
 module _ (step : StepHolds) where
   -- of a log of valid records, with all its commits as floor, and nothing that was deleted kept
-  pub plain_run : (R : Log) → RowsAreValid R → (P : Pages) → Shows R P → Holds (commits R) (length R) R P
+  pub plain_run : (R : Log) → RecordsAreValid R → (P : Pages) → Shows R P → Holds (commits R) (length R) R P
   plain_run [] v P shown = none_shown 0 P shown
   plain_run (r ∷ R) v Q shown =
       weakens (commits R) (commits (r ∷ R)) (length (r ∷ R)) (r ∷ R) Q (commits_more r.kind (commits R))
@@ -76,7 +76,7 @@ none_left m z = omega (arith, z)
 at_length : (n m : ℕ) → n ≤ suc m → (n ≡ suc m) ⊎ (n ≤ m)
 at_length n m l = grind (arith, l)
 
--- the records behind the pin's length, with the ghosts at each moment
+-- the records after the pin's length, with the ghosts at each moment
 pub data Trace (pin : Pin) : Log → Pages → Ghost → Type 0 where
   here : (R : Log) (P : Pages) (g : Ghost) → length R ≡ pin.length → Shows R P → Inv pin.commits pin.length R P g
       → Trace pin R P g

@@ -5,7 +5,7 @@ use Rattle.page_types.specs.declared.record.Record.{Record}
 use Rattle.page_types.specs.declared.record.Kind.{Kind}
 use Rattle.page_types.specs.declared.record.Kind.TheVariants as kind
 use Rattle.core_state.specs.Log.{Log, Pages, In, changed}
-use Rattle.core_state.specs.TransactionRows.{IsBegin, IsCommit, IsAbort, IsCheckpoint}
+use Rattle.core_state.specs.TransactionRules.{IsBegin, IsCommit, IsAbort, IsCheckpoint}
 use Rattle.core_state.specs.Inner.Ghosts.{Ghost}
 use Rattle.core_state.specs.Inner.Kinds.{PagesStart, IsLined}
 use Rattle.core_state.specs.Inner.Owners.{RowsOwned}
@@ -14,7 +14,7 @@ use Rattle.core_state.proofs.Trees.Steps.{Grows, Step}
 use Rattle.core_state.proofs.Law.Invariant.{Inv}
 use Rattle.core_state.proofs.Law.Steps.{Before, Left, TreesStep, Case, CaseOf}
 
--- a record of another kind than Create stands behind some record
+-- a record of another kind than Create is after some record
 pub not_first : (R : Log) (r : Record) (k : Kind) → (r.kind ≡ kind.Create) ⊎ (R ≢ []) → r.kind ≡ k
     → (k ≡ kind.Create → ⊥) → R ≢ []
 not_first R r k (inl e) f n = absurd (n (sym f ∙ e))

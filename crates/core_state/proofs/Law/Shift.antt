@@ -13,7 +13,7 @@ use Rattle.core_state.specs.Log.{Log, Pages, In, changed}
 use Rattle.core_state.specs.Documents.{IsChain}
 use Rattle.core_state.specs.Index.{AllMain}
 use Rattle.core_state.specs.Changes.{made_with}
-use Rattle.core_state.specs.PendingRows.{IsLastAfter, IsShift}
+use Rattle.core_state.specs.PendingRules.{IsLastAfter, IsShift}
 use Rattle.core_state.specs.Trees.Nodes.{put}
 use Rattle.core_state.specs.Inner.Effects.{Moved}
 use Rattle.core_state.specs.Inner.Ghosts.{Place, Ghost}
@@ -37,7 +37,7 @@ use Rattle.core_state.proofs.Law.Groups.{shift_first, shift_keys}
 same_meta : (a b c d e f : ℕ) → body.Meta a b c ≡ body.Meta d e f → (a ≡ d) × (b ≡ e) × (c ≡ f)
 same_meta a b c d e f m = (cc, cc, cc)
 
--- what stands behind the first page of the line
+-- what is after the first page of the line
 pub record Behind (P : Pages) (ln : List ℕ) (page last count : ℕ) : Type 0 where
   pub rest : List ℕ
   pub is : ln ≡ page ∷ rest
@@ -116,7 +116,7 @@ module _ (n L : ℕ) (R : Log) (P Q : Pages) (r : Record) (floor since : ℕ) (g
   rest_same : (q : ℕ) → In q rest → Q q ≡ P q
   rest_same q i = others q (line_not_zero q (line_of q i)) (not_page q i)
 
-  -- the ghosts behind
+  -- the ghosts after
   abbrev f : ℕ → Place
   f = put g.place page shifted
 

@@ -1,4 +1,4 @@
--- What a division does to the trees, by the fields of the invariant: with the ghosts behind it.
+-- What a division does to the trees, by the fields of the invariant: with the ghosts after it.
 use Rattle.std.proofs.Common.{◌≡◌, ◌≢◌, ◌⊎◌, ℕ, refl, sym, ap, subst, ◌∙◌, inl, inr}
 use Rattle.ts_base.specs.Keys.{Key}
 use Rattle.page_types.specs.declared.page.Page.{Page}
@@ -7,7 +7,7 @@ use Rattle.page_types.specs.declared.record.Record.{Record}
 use Rattle.page_types.specs.declared.record.Kind.TheVariants as kind
 use Rattle.core_state.specs.Log.{Log, Pages, changed}
 use Rattle.core_state.specs.Changes.{made_with}
-use Rattle.core_state.specs.TreeRows.{EntryHalves, PostHalves, EntryParent, PostParent, IsDivided, IsSplit}
+use Rattle.core_state.specs.TreeRules.{EntryHalves, PostHalves, EntryParent, PostParent, IsDivided, IsSplit}
 use Rattle.core_state.specs.Trees.Nodes as nodes
 use Rattle.core_state.specs.Trees.Nodes.{put}
 use Rattle.core_state.specs.Trees.TreeNodes.{bound, child_bound}
@@ -108,7 +108,7 @@ module _ (n L : ℕ) (R : Log) (P Q : Pages) (r : Record) (floor since : ℕ) (g
           posts = grown n R P Q g (post_ghost (split_entries g page new s.0 (bound mid)))
               (posts_at n L R P Q r floor since g b d _ (put_unseen post_place g.place new (entry s.0) fresh.post)
               (quiet_posts n L R P Q r floor since g b d
-              (of_three (λ q. post_place (g.place q) ≡ nodes.Place.none) (changed r) page new parent V.here.pages
+              (of_three (λ q. post_place (g.place q) ≡ nodes.TreePlace.none) (changed r) page new parent V.here.pages
               (no_post page V.here.old.body was_page (entry_whole mid V.here.old.body V.here.left V.here.right H))
               fresh.post
               (no_post parent _ (was_parent ∙ E.before) tt))));
@@ -116,7 +116,7 @@ module _ (n L : ℕ) (R : Log) (P Q : Pages) (r : Record) (floor since : ℕ) (g
         },
       )
     where
-      no_post : (p : ℕ) (c : Body) → (P p).body ≡ c → IsNoPostPage c → post_place (g.place p) ≡ nodes.Place.none
+      no_post : (p : ℕ) (c : Body) → (P p).body ≡ c → IsNoPostPage c → post_place (g.place p) ≡ nodes.TreePlace.none
       no_post p c e m = (in_posts n L R P Q r floor since g b d).none_at p (subst IsNoPostPage (sym e) m)
 
   in_post_tree : (mid : ℕ) → PostHalves mid V.here.old.body V.here.left V.here.right
@@ -134,7 +134,7 @@ module _ (n L : ℕ) (R : Log) (P Q : Pages) (r : Record) (floor since : ℕ) (g
           entries = entries_at n L R P Q r floor since g b d _
               (put_unseen entry_place g.place new (post s.0 s.1) fresh.entry)
               (quiet_entries n L R P Q r floor since g b d
-              (of_three (λ q. entry_place (g.place q) ≡ nodes.Place.none) (changed r) page new parent V.here.pages
+              (of_three (λ q. entry_place (g.place q) ≡ nodes.TreePlace.none) (changed r) page new parent V.here.pages
               (no_entry page V.here.old.body was_page (post_whole mid V.here.old.body V.here.left V.here.right H))
               fresh.entry
               (no_entry parent _ (was_parent ∙ E.before) tt)));
@@ -151,7 +151,7 @@ module _ (n L : ℕ) (R : Log) (P Q : Pages) (r : Record) (floor since : ℕ) (g
         },
       )
     where
-      no_entry : (p : ℕ) (c : Body) → (P p).body ≡ c → IsNoEntryPage c → entry_place (g.place p) ≡ nodes.Place.none
+      no_entry : (p : ℕ) (c : Body) → (P p).body ≡ c → IsNoEntryPage c → entry_place (g.place p) ≡ nodes.TreePlace.none
       no_entry p c e m = (in_entries n L R P Q r floor since g b d).none_at p (subst IsNoEntryPage (sym e) m)
 
   -- 17

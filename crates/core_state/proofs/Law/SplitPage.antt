@@ -13,7 +13,7 @@ use Rattle.page_types.specs.declared.record.Record.{Record}
 use Rattle.page_types.specs.declared.record.Kind.TheVariants as kind
 use Rattle.core_state.specs.Log.{Log, Pages, In, changed}
 use Rattle.core_state.specs.Changes.{made_with}
-use Rattle.core_state.specs.TreeRows.{EntryHalves, PostHalves, EntryParent, PostParent, IsDivided, IsSplit}
+use Rattle.core_state.specs.TreeRules.{EntryHalves, PostHalves, EntryParent, PostParent, IsDivided, IsSplit}
 use Rattle.core_state.specs.Trees.Ext.{Ext}
 use Rattle.core_state.specs.Trees.Nodes.{put}
 use Rattle.core_state.specs.Trees.TreeNodes.{bound, child_bound}
@@ -203,7 +203,7 @@ module _ (n L : ℕ) (R : Log) (P Q : Pages) (r : Record) (floor since : ℕ) (g
   not_1 : 1 ≢ new
   not_1 e = new_not_1 L since R P Q r g b.inv.kinds b.inv.starts b.since_is some new x.here.is_new (sym e)
 
-  -- a page that stood somewhere isn't the new one
+  -- a page that was somewhere isn't the new one
   stood : (q : ℕ) (y : Place) → unused ≢ y → past ≢ y → g.place q ≡ y → q ≢ new
   stood q y m k at e = nowhere_not (g.place new) y nowhere m k (ap g.place (sym e) ∙ at)
 

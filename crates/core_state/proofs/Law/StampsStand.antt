@@ -3,7 +3,7 @@ use Rattle.std.proofs.Common.{ℕ, [], ◌∷◌, sym, ap, refl, subst, inl, inr
 use Rattle.page_types.specs.declared.page.Page.{Page}
 use Rattle.page_types.specs.declared.record.Record.{Record}
 use Rattle.core_state.specs.Log.{Log, Pages, In, Shows, changed}
-use Rattle.core_state.specs.Legal.{RowsAreValid}
+use Rattle.core_state.specs.Legal.{RecordsAreValid}
 use Rattle.core_state.specs.PagesTold.{IsLastChange, StampsStand}
 use Rattle.core_state.proofs.PageLists.{in_or_not}
 use Rattle.core_state.proofs.TouchedPages.{none_free}
@@ -21,7 +21,7 @@ more r R p n off (IsLastChange.by later s earlier e i all) =
       | inr k ↦ all t k
     ])
 
-pub stamps_stand : (R : Log) (P : Pages) → RowsAreValid R → Shows R P → StampsStand R P
+pub stamps_stand : (R : Log) (P : Pages) → RecordsAreValid R → Shows R P → StampsStand R P
 stamps_stand [] P v shown p =
     subst (λ (q : Page). IsLastChange [] p q.stamp) (sym (none_free [] P shown refl p))
     (IsLastChange.none (λ r i. absurd i))

@@ -1,4 +1,4 @@
--- Where the documents of a legal log stand.
+-- Where the documents of a legal log are.
 use Rattle.std.proofs.Common.{◌≡◌, ◌≢◌, ◌+◌, ℕ, refl, sym, ap, ◌∙◌, inl, inr, arith}
 use Rattle.std.specs.Prelude.{Some}
 use Rattle.ts_base.specs.Vectors.{Vector}
@@ -31,7 +31,7 @@ are_there n R P W = record {
     whole : (d : Doc) → IsThere R n d → (v : Vector) × HasVector P d v
     whole d t = W t.xid t.number d t.committed t.placed_by t.alive
 
--- what heads tell, by any floor
+-- what heads say, by any floor
 module _ (n : ℕ) (R : Log) (P : Pages) (D : HeadsKept n R P) where
   others_aborted : (i : ℕ) (h : Head) (x : ℕ) → head_of P i ≡ Some h → In (doc_at i h.serial) (marked R x)
       → x ≢ h.deleted_by → fate R x ≡ Aborted

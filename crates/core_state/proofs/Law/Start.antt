@@ -42,7 +42,7 @@ rows_owned n = record {
   on_private = λ q i w h e j. absurd j;
 }
 
--- the empty log stands behind no log but itself
+-- the empty log is after no log but itself
 none_behind : {A : Type 0} (xs ys : List A) → [] ≡ xs ++ ys → ys ≡ []
 none_behind [] ys e = sym e
 none_behind (x ∷ xs) ys e = absurd (cc)

@@ -6,7 +6,7 @@ use Rattle.page_types.specs.declared.page.Head.{Head}
 use Rattle.core_state.specs.Log.{Log, Pages, In, Shows, commits}
 use Rattle.core_state.specs.Documents.{Doc, Has, page_of, slot_of, marked, head_of, doc_at}
 use Rattle.core_state.specs.Index.{Pending, HasRow, Main}
-use Rattle.core_state.specs.Legal.{IsLegal, RowsAreValid, Pin, Keeps}
+use Rattle.core_state.specs.Legal.{IsLegal, RecordsAreValid, Pin, Keeps}
 use Rattle.core_state.specs.Bullets.{Owned, PairsAreOwned, StaysIndexed, DeletedStays}
 use Rattle.core_state.specs.Steady.{SteadyFacts, SteadyHold}
 use Rattle.core_state.specs.Inner.Ghosts.{Ghost}
@@ -28,7 +28,7 @@ use Rattle.core_state.proofs.Law.PlacesStay.{places_stay, pinned_stay}
 use Rattle.core_state.proofs.Law.CommittedWhole.{AreWhole, committed_whole}
 use Rattle.core_state.proofs.Law.AllCases.{all_steps}
 
-facts : StepHolds → (R later : Log) (P Q : Pages) → R ≢ [] → RowsAreValid R → RowsAreValid (later ++ R) → Shows R P
+facts : StepHolds → (R later : Log) (P Q : Pages) → R ≢ [] → RecordsAreValid R → RecordsAreValid (later ++ R) → Shows R P
     → Shows (later ++ R) Q → SteadyFacts R later (later ++ R) P Q
 facts step R later P Q some v v' shown shown' = record {
   runs_on = λ x runs leaves. runs_on_behind step x later R v v' some P Q shown shown' runs leaves;
@@ -46,7 +46,7 @@ facts step R later P Q some v v' shown shown' = record {
 pub steady_holds : StepHolds → SteadyHold
 steady_holds step R later R' P P' e some legal legal' shown shown' =
     subst (λ (S : Log). SteadyFacts R later S P P') (sym e) (facts step R later P P' some legal.valid
-    (subst RowsAreValid e legal'.valid) shown (subst (λ (S : Log). Shows S P') e shown'))
+    (subst RecordsAreValid e legal'.valid) shown (subst (λ (S : Log). Shows S P') e shown'))
 
 module _ (n L : ℕ) (R : Log) (P : Pages) (g : Ghost) (v : Inv n L R P g) where
   -- each pair is a key of a whole document

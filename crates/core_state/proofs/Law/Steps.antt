@@ -8,12 +8,12 @@ use Rattle.page_types.specs.declared.record.Kind.TheVariants as kind
 use Rattle.core_state.specs.Log.{Log, Pages, In, Shows, changed}
 use Rattle.core_state.specs.Documents.{Doc, Has, IsWhole, IsDead}
 use Rattle.core_state.specs.Index.{NoPair}
-use Rattle.core_state.specs.TransactionRows.{IsCreate, IsBegin, IsCommit, IsAbort, IsCheckpoint}
-use Rattle.core_state.specs.HeapRows.{IsPlaceHead, IsPutOverflow, IsMarkDeleted}
-use Rattle.core_state.specs.PendingRows.{IsPutPending, IsAddRow, IsLinkPending, IsShift}
-use Rattle.core_state.specs.TreeRows.{IsAddItems, IsMakeTree, IsAddPostings, IsGrowRoot, IsSplit, IsDeletePost}
-use Rattle.core_state.specs.VacuumRows.{MayLeave, IsRemoveItems, IsDropPage, IsFreeSlots}
-use Rattle.core_state.specs.Legal.{RowHolds}
+use Rattle.core_state.specs.TransactionRules.{IsCreate, IsBegin, IsCommit, IsAbort, IsCheckpoint}
+use Rattle.core_state.specs.HeapRules.{IsPlaceHead, IsPutOverflow, IsMarkDeleted}
+use Rattle.core_state.specs.PendingRules.{IsPutPending, IsAddRow, IsLinkPending, IsShift}
+use Rattle.core_state.specs.TreeRules.{IsAddItems, IsMakeTree, IsAddPostings, IsGrowRoot, IsSplit, IsDeletePost}
+use Rattle.core_state.specs.VacuumRules.{MayLeave, IsRemoveItems, IsDropPage, IsFreeSlots}
+use Rattle.core_state.specs.Legal.{RuleHolds}
 use Rattle.core_state.specs.Trees.Ext.{Ext}
 use Rattle.core_state.specs.Trees.Ext.Ext.{least, at, greatest}
 use Rattle.core_state.specs.Trees.TreeNodes.{entry_nodes, post_nodes}
@@ -91,7 +91,7 @@ pub record Case (n L : ℕ) (R : Log) (P Q : Pages) (r : Record) (g g' : Ghost) 
   pub line : LineStep R P Q g g'
   pub shifted_stays : (p : ℕ) → g.place p ≡ shifted → g'.place p ≡ shifted
 
--- a kind's case: at each moment where its row holds there are ghosts behind the record
+-- a kind's case: at each moment where its rule holds there are ghosts after the record
 abbrev pub CaseOf : (Log → Pages → Pages → Record → ℕ → ℕ → Type 0) → Type 0
 CaseOf Row =
     (n L : ℕ) (R : Log) (P Q : Pages) (r : Record) (floor since : ℕ) (g : Ghost)
@@ -133,4 +133,4 @@ pub record After (n L : ℕ) (R : Log) (P Q : Pages) (r : Record) (g : Ghost) : 
 abbrev pub StepHolds : Type 0
 StepHolds =
     (n L : ℕ) (R : Log) (P Q : Pages) (r : Record) (floor since : ℕ) (g : Ghost)
-    → Before n L R P Q r floor since g → RowHolds R P Q r floor since → After n L R P Q r g
+    → Before n L R P Q r floor since g → RuleHolds R P Q r floor since → After n L R P Q r g

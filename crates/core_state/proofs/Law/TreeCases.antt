@@ -1,12 +1,12 @@
--- What each kind of record does to the trees, by the fields of the invariant: with the ghosts behind it.
+-- What each kind of record does to the trees, by the fields of the invariant: with the ghosts after it.
 use Rattle.std.proofs.Common.{◌≡◌, ◌≢◌, ◌⊎◌, ℕ, zero, suc, [], refl, sym, ap, subst, ◌∙◌, inl, inr}
 use Rattle.page_types.specs.declared.page.Page.{Page}
 use Rattle.page_types.specs.declared.record.Record.{Record}
 use Rattle.page_types.specs.declared.record.Kind.{Kind}
 use Rattle.page_types.specs.declared.record.Kind.TheVariants as kind
 use Rattle.core_state.specs.Log.{Log, Pages, In, changed}
-use Rattle.core_state.specs.TreeRows.{IsAddItems, IsMakeTree, IsAddPostings, IsRoot, IsGrowRoot, IsDeletePost}
-use Rattle.core_state.specs.VacuumRows.{MayLeave, IsRemoveItems}
+use Rattle.core_state.specs.TreeRules.{IsAddItems, IsMakeTree, IsAddPostings, IsRoot, IsGrowRoot, IsDeletePost}
+use Rattle.core_state.specs.VacuumRules.{MayLeave, IsRemoveItems}
 use Rattle.core_state.specs.Known.{use_in}
 use Rattle.core_state.specs.Changes.{IsNew}
 use Rattle.core_state.specs.Trees.Ext.{Ext}
@@ -29,8 +29,8 @@ use Rattle.core_state.proofs.Trees.EntryViews.{EntryGrows}
 use Rattle.core_state.proofs.Trees.PostViews.{PostGrows, PostStep}
 use Rattle.core_state.proofs.Trees.Order.{put_else}
 use Rattle.core_state.proofs.Trees.PostDelete.{no_entries, delete_post}
-use Rattle.core_state.proofs.Trees.EntryRows as entry_rows
-use Rattle.core_state.proofs.Trees.PostRows as post_rows
+use Rattle.core_state.proofs.Trees.EntryRules as entry_rows
+use Rattle.core_state.proofs.Trees.PostRules as post_rows
 use Rattle.core_state.proofs.Law.Steps.{Before, Left, MayGo, TreesStep}
 use Rattle.core_state.proofs.Law.Belows.{post_is}
 use Rattle.core_state.proofs.Law.SamePages.{not_first}
@@ -40,11 +40,11 @@ use Rattle.core_state.proofs.Law.TreeFields.{entry_places, post_places, has_meta
 
 module _ (n : ℕ) (R : Log) (P Q : Pages) (g : Ghost) where
   -- what no removal touches stays
-  pub none_gone : (G : nodes.Ghost (Ext ℕ)) → PostStep P Q (post_ghost g) G []
+  pub none_gone : (G : nodes.TreeGhost (Ext ℕ)) → PostStep P Q (post_ghost g) G []
       → Stepping items least greatest (post_nodes P) (post_nodes Q) (post_ghost g) G (MayGo n R P)
   none_gone G s = (s.0, λ k stays. s.1 k (λ m. m))
 
-  pub grown : (G : nodes.Ghost (Ext ℕ)) → PostGrows P Q (post_ghost g) G
+  pub grown : (G : nodes.TreeGhost (Ext ℕ)) → PostGrows P Q (post_ghost g) G
       → Stepping items least greatest (post_nodes P) (post_nodes Q) (post_ghost g) G (MayGo n R P)
   grown G s = as_step items least greatest (post_nodes P) (post_nodes Q) (post_ghost g) G (MayGo n R P) s
 
@@ -68,12 +68,12 @@ module _ (n L : ℕ) (R : Log) (P Q : Pages) (r : Record) (floor since : ℕ) (g
       (k.0, k.1, root_at (entry_nodes P) (entry_ghost g) b.inv.entries_rooted 1 k.0 (ap entry_place k.1))
 
   -- a tree in which a record changes no page
-  pub quiet_entries : ((q : ℕ) → In q (changed r) → entry_place (g.place q) ≡ nodes.Place.none)
+  pub quiet_entries : ((q : ℕ) → In q (changed r) → entry_place (g.place q) ≡ nodes.TreePlace.none)
       → EntryGrows P Q (entry_ghost g) (entry_ghost g)
   quiet_entries apart = quiet_here keys least greatest (entry_nodes P) (entry_nodes Q) (entry_ghost g) (changed r)
       (λ q off. ap (λ (T : Page). entry_nodes (λ x. T) q) (d.elsewhere q off)) (λ q m some. absurd (some (apart q m)))
 
-  pub quiet_posts : ((q : ℕ) → In q (changed r) → post_place (g.place q) ≡ nodes.Place.none)
+  pub quiet_posts : ((q : ℕ) → In q (changed r) → post_place (g.place q) ≡ nodes.TreePlace.none)
       → PostGrows P Q (post_ghost g) (post_ghost g)
   quiet_posts apart = quiet_here items least greatest (post_nodes P) (post_nodes Q) (post_ghost g) (changed r)
       (λ q off. ap (λ (T : Page). post_nodes (λ x. T) q) (d.elsewhere q off)) (λ q m some. absurd (some (apart q m)))
@@ -90,19 +90,19 @@ module _ (n L : ℕ) (R : Log) (P Q : Pages) (r : Record) (floor since : ℕ) (g
       }
 
   -- the other tree's ghosts, with its places seen anew
-  pub entries_at : (f : ℕ → nodes.Place) → ◌≡◌ {A = ℕ → nodes.Place} f (λ p. entry_place (g.place p))
+  pub entries_at : (f : ℕ → nodes.TreePlace) → ◌≡◌ {A = ℕ → nodes.TreePlace} f (λ p. entry_place (g.place p))
       → EntryGrows P Q (entry_ghost g) (entry_ghost g)
       → EntryGrows P Q (entry_ghost g) (record { place = f; low = g.low_key; high = g.high_key })
   entries_at f e s = subst (λ h. EntryGrows P Q (entry_ghost g)
       (record { place = h; low = g.low_key; high = g.high_key })) (sym e) s
 
-  pub posts_at : (f : ℕ → nodes.Place) → ◌≡◌ {A = ℕ → nodes.Place} f (λ p. post_place (g.place p))
+  pub posts_at : (f : ℕ → nodes.TreePlace) → ◌≡◌ {A = ℕ → nodes.TreePlace} f (λ p. post_place (g.place p))
       → PostGrows P Q (post_ghost g) (post_ghost g)
       → PostGrows P Q (post_ghost g) (record { place = f; low = g.low_item; high = g.high_item })
   posts_at f e s = subst (λ h. PostGrows P Q (post_ghost g)
       (record { place = h; low = g.low_item; high = g.high_item })) (sym e) s
 
-  -- the page that is taken stands in no tree
+  -- the page that is taken is in no tree
   pub new_apart : (p : ℕ) → IsNew (use_in P) since p → Loose (g.place p)
   new_apart p x = nowhere_loose (g.place p) (new_nowhere L since R P g b.inv.kinds b.inv.starts b.since_is p x)
 
@@ -124,7 +124,7 @@ module _ (n L : ℕ) (R : Log) (P Q : Pages) (r : Record) (floor since : ℕ) (g
             (λ z. clash s h (sym (ap post_place e) ∙ ap (λ (x : ℕ). post_place (g.place x)) z ∙ fresh.post));
       }
     where
-      clash : (s h : ℕ) → nodes.Place.tree s h ≡ nodes.Place.none → ⊥
+      clash : (s h : ℕ) → nodes.TreePlace.tree s h ≡ nodes.TreePlace.none → ⊥
       clash s h e = cc
 
   -- 15
@@ -132,7 +132,7 @@ module _ (n L : ℕ) (R : Log) (P Q : Pages) (r : Record) (floor since : ℕ) (g
   add_postings_trees V =
       let was = one_page P (changed r) V.here.page V.here.old V.here.pages V.here.before_is in
       record {
-        entries = quiet_entries (of_one (λ p. entry_place (g.place p) ≡ nodes.Place.none)
+        entries = quiet_entries (of_one (λ p. entry_place (g.place p) ≡ nodes.TreePlace.none)
             (changed r) V.here.page V.here.pages
             (in_entries.none_at V.here.page
             (subst IsNoEntryPage (sym (ap (λ (p : Page). p.body) was ∙ V.here.was)) tt)));
@@ -188,7 +188,7 @@ module _ (n L : ℕ) (R : Log) (P Q : Pages) (r : Record) (floor since : ℕ) (g
         },
       )
     where
-      entry_apart : (q : ℕ) → In q (changed r) → entry_place (g.place q) ≡ nodes.Place.none
+      entry_apart : (q : ℕ) → In q (changed r) → entry_place (g.place q) ≡ nodes.TreePlace.none
       entry_apart q m = in_entries.none_at q
           (no_entries R P Q r since (post_ghost g) b.inv.posts in_posts d.elsewhere
           (meta_page (not_empty kind.DeletePost V.here.kind_is (λ e. cc))) V q m)
@@ -221,7 +221,7 @@ module _ (n L : ℕ) (R : Log) (P Q : Pages) (r : Record) (floor since : ℕ) (g
         entries = subst (λ f. EntryGrows P Q (entry_ghost g)
             (record { place = f; low = put g.low_key V.here.new least; high = put g.high_key V.here.new greatest }))
             (sym (put_through entry_place (put g.place V.here.new (entry h)) 1 (entry (suc h))
-            ∙ ap (λ f. put f 1 (nodes.Place.tree 1 (suc h)))
+            ∙ ap (λ f. put f 1 (nodes.TreePlace.tree 1 (suc h)))
             (put_through entry_place g.place V.here.new (entry h))))
             (entry_rows.grow_root R P Q r (entry_ghost g) b.inv.entries in_entries d.elsewhere h
             (root_at (entry_nodes P) (entry_ghost g) b.inv.entries_rooted 1 h (ap entry_place at_1)) since V
@@ -234,7 +234,7 @@ module _ (n L : ℕ) (R : Log) (P Q : Pages) (r : Record) (floor since : ℕ) (g
         key_of = λ s k e. refl;
       }
     where
-      clash : nodes.Place.tree 1 h ≡ nodes.Place.none → ⊥
+      clash : nodes.TreePlace.tree 1 h ≡ nodes.TreePlace.none → ⊥
       clash e = cc
 
   grow_posts : (V : IsGrowRoot R P Q r since) → (h : ℕ) → g.place V.here.root ≡ post V.here.root h → R ≢ []
@@ -256,7 +256,7 @@ module _ (n L : ℕ) (R : Log) (P Q : Pages) (r : Record) (floor since : ℕ) (g
             (record { place = f; low = put g.low_item V.here.new least; high = put g.high_item V.here.new greatest }))
             (sym (put_through post_place (put g.place V.here.new (post V.here.root h)) V.here.root
             (post V.here.root (suc h))
-            ∙ ap (λ f. put f V.here.root (nodes.Place.tree V.here.root (suc h)))
+            ∙ ap (λ f. put f V.here.root (nodes.TreePlace.tree V.here.root (suc h)))
             (put_through post_place g.place V.here.new (post V.here.root h))))
             (post_rows.grow_root R P Q r since (post_ghost g) b.inv.posts in_posts d.elsewhere h V
             (root_at (post_nodes P) (post_ghost g) b.inv.posts_rooted V.here.root h (ap post_place at_root))
@@ -264,7 +264,7 @@ module _ (n L : ℕ) (R : Log) (P Q : Pages) (r : Record) (floor since : ℕ) (g
         key_of = λ s k e. refl;
       }
     where
-      clash : nodes.Place.tree V.here.root h ≡ nodes.Place.none → ⊥
+      clash : nodes.TreePlace.tree V.here.root h ≡ nodes.TreePlace.none → ⊥
       clash e = cc
 
   pub grow_root_trees : (V : IsGrowRoot R P Q r since)

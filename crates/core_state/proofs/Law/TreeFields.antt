@@ -14,8 +14,8 @@ use Rattle.core_state.specs.Inner.TreePlaces.{EntryPlaces, PostPlaces, IsNoEntry
 use Rattle.core_state.proofs.Law.Places.{place_for}
 use Rattle.core_state.proofs.Law.NewPlaces.{nowhere_loose, new_nowhere}
 
--- a place that stands in a tree
-pub entry_is : (x : Place) (r h : ℕ) → entry_place x ≡ nodes.Place.tree r h → x ≡ entry h
+-- a place that is in a tree
+pub entry_is : (x : Place) (r h : ℕ) → entry_place x ≡ nodes.TreePlace.tree r h → x ≡ entry h
 entry_is (entry k) r h e = cc
 entry_is unused r h e = absurd (cc)
 entry_is meta r h e = absurd (cc)
@@ -28,8 +28,8 @@ entry_is (post s k) r h e = absurd (cc)
 entry_is (overflow_of i) r h e = absurd (cc)
 entry_is (private_of i) r h e = absurd (cc)
 
--- a page of another kind stands in no tree
-no_entry : (L : ℕ) (x : Place) (p : Page) → Fits L x p → IsNoEntryPage p.body → entry_place x ≡ nodes.Place.none
+-- a page of another kind is in no tree
+no_entry : (L : ℕ) (x : Place) (p : Page) → Fits L x p → IsNoEntryPage p.body → entry_place x ≡ nodes.TreePlace.none
 no_entry L (entry zero) p f n = absurd (subst IsNoEntryPage f.2 n)
 no_entry L (entry (suc h)) p f n = absurd (subst IsNoEntryPage f.1 n)
 no_entry L unused p f n = refl
@@ -43,7 +43,7 @@ no_entry L (post r h) p f n = refl
 no_entry L (overflow_of i) p f n = refl
 no_entry L (private_of i) p f n = refl
 
-no_post : (L : ℕ) (x : Place) (p : Page) → Fits L x p → IsNoPostPage p.body → post_place x ≡ nodes.Place.none
+no_post : (L : ℕ) (x : Place) (p : Page) → Fits L x p → IsNoPostPage p.body → post_place x ≡ nodes.TreePlace.none
 no_post L (post r zero) p f n = absurd (subst IsNoPostPage f.2 n)
 no_post L (post r (suc h)) p f n = absurd (subst IsNoPostPage f.1 n)
 no_post L (left r) p f n = absurd (subst IsNoPostPage f.1 n)
@@ -99,7 +99,7 @@ put_same f p x e = fun_ext (λ q. at q)
     at : (q : ℕ) → put f p x q ≡ f q
     at q = grind (arith, e)
 
--- nor does a change show through a function that doesn't tell it from what was there
+-- nor does a change show through a function that doesn't say it from what was there
 pub put_unseen : {A B : Type 0} (F : A → B) (f : ℕ → A) (p : ℕ) (x : A) → F (f p) ≡ F x
     → ◌≡◌ {A = ℕ → B} (λ q. F (put f p x q)) (λ q. F (f q))
 put_unseen F f p x e = put_through F f p x ∙ put_same (λ q. F (f q)) p (F x) e

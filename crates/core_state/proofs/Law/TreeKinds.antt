@@ -45,7 +45,7 @@ pub data TreePage (L : ℕ) (P Q : Pages) (g g' : Ghost) (p : ℕ) : Type 0 wher
   same : g'.place p ≡ g.place p → Q p ≡ P p → TreePage L P Q g g' p
   taken : Taken (g.place p) → Given (g'.place p) → Fits L (g'.place p) (Q p) → TreePage L P Q g g' p
 
--- where an entry behind the record comes from: it was there; or its list has pairs that were there, and pending ones;
+-- where an entry after the record comes from: it was there; or its list has pairs that were there, and pending ones;
 -- or its root is one of its key
 pub data EntryWas (P : Pages) (g g' : Ghost) (e : Entry) : Type 0 where
   was : (q : ℕ) (d : Entry) → In d (entries_of (P q)) → d.key ≡ e.key → d.postings ≡ e.postings → EntryWas P g g' e

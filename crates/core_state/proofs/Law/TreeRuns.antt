@@ -5,12 +5,12 @@ use Rattle.page_types.specs.declared.record.Record.{Record}
 use Rattle.page_types.specs.declared.record.Kind.TheVariants as kind
 use Rattle.core_state.specs.Log.{Log, Pages, Shows, commits, changed}
 use Rattle.core_state.specs.Index.{Below}
-use Rattle.core_state.specs.TreeRows.{IsDeletePost}
-use Rattle.core_state.specs.Legal.{RowHolds, RowsAreValid, Pin, KeepsEach}
+use Rattle.core_state.specs.TreeRules.{IsDeletePost}
+use Rattle.core_state.specs.Legal.{RuleHolds, RecordsAreValid, Pin, KeepsEach}
 use Rattle.core_state.specs.Bullets.{WasDeleted, LeavesAreNamed, TreesAreBounded, LeavesLead, DeletedLeavesLead, OnePlace}
 use Rattle.core_state.specs.Inner.Ghosts.{Ghost}
 use Rattle.core_state.proofs.Showing.{shown_one}
-use Rattle.core_state.proofs.RowsByKind.{RowOf, row_of}
+use Rattle.core_state.proofs.RulesByKind.{RuleOf, rule_of}
 use Rattle.core_state.proofs.Law.Invariant.{Inv}
 use Rattle.core_state.proofs.Law.Steps.{After, StepHolds}
 use Rattle.core_state.proofs.Law.Runs.{step_over}
@@ -65,13 +65,13 @@ module _ (step : StepHolds) (pin : Pin) where
   module _ (R : Log) (P Q : Pages) (r : Record) (g : Ghost) (inv : Inv pin.commits pin.length R P g) (shown : Shows R P)
       (a : After pin.commits pin.length R P Q r g)
       (floor since : ℕ) (bound : (since ≤ pin.length) ⊎ (pin.length ≡ length R))
-      (row : RowHolds R P Q r floor since) where
+      (row : RuleHolds R P Q r floor since) where
     now : (p root : ℕ) (then : Pages) (by : Record) (earlier : Log) → r ≡ by → R ≡ earlier → by.kind ≡ kind.DeletePost
         → (rest : List ℕ) → changed by ≡ p ∷ rest
         → Shows earlier then → Below then root p → LeftSince then a.ghost p root
     now p root then by earlier same log kind_is rest first there below =
-        let V : IsDeletePost R P Q r = subst (RowOf R P Q r floor since) (ap (λ (x : Record). x.kind) same ∙ kind_is)
-        (row_of R P Q r floor since row) in
+        let V : IsDeletePost R P Q r = subst (RuleOf R P Q r floor since) (ap (λ (x : Record). x.kind) same ∙ kind_is)
+        (rule_of R P Q r floor since row) in
         let page : p ≡ V.here.page = head_of p V.here.page rest _ (sym first ∙ ap changed (sym same) ∙ V.here.pages) in
         let pages : then ≡ P = shown_one R then P (subst (λ (S : Log). Shows S then) (sym log) there) shown in
         subst₂ (λ (T : Pages) (x : ℕ). LeftSince T a.ghost x root) (sym pages) (sym page)
@@ -115,8 +115,8 @@ module _ (step : StepHolds) (pin : Pin) where
         let i = past_lists R k.0 low v.2.before v.2.shown in
         let a = step_over step pin.commits pin.length R r v.0 pin.length v.2 v.1
         (inl (omega arith)) low v.2.before Q i.0 v.2.shown shown i.1 in
-        let row = subst (λ (T : Pages). RowHolds R v.2.before T r v.0 pin.length)
-        (shown_one (r ∷ R) v.2.after Q v.2.shown_after shown) v.2.row in (
+        let row = subst (λ (T : Pages). RuleHolds R v.2.before T r v.0 pin.length)
+        (shown_one (r ∷ R) v.2.after Q v.2.shown_after shown) v.2.rule in (
           a.ghost,
           a.inv,
           listed_then R v.2.before Q r i.0 i.1 v.2.shown a v.0 pin.length (inl (omega arith)) row i.2,
@@ -138,7 +138,7 @@ pub record TreesHold (P : Pages) : Type 0 where
   pub lead : LeavesLead P
   pub one_place : OnePlace P
 
-pub trees_hold : StepHolds → (R : Log) → RowsAreValid R → (P : Pages) → Shows R P → TreesHold P
+pub trees_hold : StepHolds → (R : Log) → RecordsAreValid R → (P : Pages) → Shows R P → TreesHold P
 trees_hold step R v P shown =
     let h = plain_lists step R v P shown in
     record {

@@ -1,4 +1,4 @@
--- What pages of trees show, before and behind a record.
+-- What pages of trees show, before and after a record.
 use Rattle.std.proofs.Common.{◌≡◌, ◌≤◌, ℕ, zero, suc, [], refl, sym, ap, subst, ◌∙◌}
 use Rattle.page_types.specs.Items.{items_of}
 use Rattle.page_types.specs.Views.{entries_of, posting_items_in}
@@ -7,7 +7,7 @@ use Rattle.page_types.specs.declared.page.Entry.{Entry}
 use Rattle.page_types.specs.declared.page.Body.{Body}
 use Rattle.page_types.specs.declared.record.Record.{Record}
 use Rattle.core_state.specs.Log.{Log, Pages, In}
-use Rattle.core_state.specs.VacuumRows.{MayLeave}
+use Rattle.core_state.specs.VacuumRules.{MayLeave}
 use Rattle.core_state.specs.Inner.Ghosts.{Ghost}
 use Rattle.core_state.specs.Inner.Ghosts.Place.{entry, post}
 use Rattle.core_state.specs.Inner.Kinds.{Fits}

@@ -2,8 +2,8 @@
 use Rattle.std.proofs.Common.{◌≡◌, ◌≢◌, ◌<◌, ◌≤◌, ◌+◌, ◌-◌, ℕ, zero, suc, List, [], ◌∷◌, refl, sym, ap, subst, ◌∙◌, inl, inr, arith}
 use Rattle.std.specs.Prelude.{⊤}
 use Rattle.core_state.specs.Log.{In}
-use Rattle.core_state.specs.Trees.Nodes.{Node, Ghost}
-use Rattle.core_state.specs.Trees.Nodes.Place.{none}
+use Rattle.core_state.specs.Trees.Nodes.{Node, TreeGhost}
+use Rattle.core_state.specs.Trees.Nodes.TreePlace.{none}
 use Rattle.core_state.proofs.Trees.Walk.{Read, Rising, rising_end}
 use Rattle.core_state.proofs.Trees.Behind.{Comes, comes_to, comes_on, not_itself}
 use Rattle.core_state.proofs.Trees.Forward.{Forward, GoesOn, LinksTo}
@@ -19,13 +19,13 @@ Linked N [] = ⊤
 Linked N (x ∷ []) = ⊤
 Linked N (x ∷ y ∷ ys) = LinksTo (N x.time x.page) y.page × (y.page ≢ 0) × Linked N (y ∷ ys)
 
--- some list of this moment in which q comes behind p
-pub record Ordered {E : Type 0} (N : ℕ → Node E) (g : Ghost E) (p q : ℕ) : Type 0 where
+-- some list of this moment in which q comes after p
+pub record Ordered {E : Type 0} (N : ℕ → Node E) (g : TreeGhost E) (p q : ℕ) : Type 0 where
   pub list : List ℕ
   pub forward : Forward N g list
   pub comes : Comes list p q
 
-module _ {E : Type 0} (N : ℕ → ℕ → Node E) (g : ℕ → Ghost E) (start end : ℕ)
+module _ {E : Type 0} (N : ℕ → ℕ → Node E) (g : ℕ → TreeGhost E) (start end : ℕ)
     (first : (L : List ℕ) × Forward (N start) (g start) L)
     (one_on : (t : ℕ) → start ≤ t → t < end → (L : List ℕ) → Forward (N t) (g t) L
     → (K : List ℕ) × Forward (N (t + 1)) (g (t + 1)) K × GoesOn L K)

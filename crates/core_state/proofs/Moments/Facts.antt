@@ -4,8 +4,8 @@ use Rattle.std.proofs.lemmas.List.{drop-append-le}
 use Rattle.core_state.specs.Log.{Log, Pages, In, Shows, fate, fate_with, cut}
 use Rattle.core_state.specs.Documents.{Doc, HasVector, IsDead, placed}
 use Rattle.core_state.specs.History.{Document}
-use Rattle.core_state.specs.Legal.{RowsAreValid, Pin, KeepsEach}
-use Rattle.core_state.specs.VacuumRows.{MayLeave}
+use Rattle.core_state.specs.Legal.{RecordsAreValid, Pin, KeepsEach}
+use Rattle.core_state.specs.VacuumRules.{MayLeave}
 use Rattle.core_state.specs.declared.answers.Fate.TheVariants.{Running, Committed}
 use Rattle.core_state.specs.Inner.Ghosts.{Ghost}
 use Rattle.core_state.specs.Inner.Effects.{NewRow}
@@ -23,11 +23,11 @@ pub placed_behind : (later R : Log) (x : ℕ) (d : Doc) → In d (placed R x) �
 placed_behind [] R x d i = i
 placed_behind (r ∷ later) R x d i = placed_on r (later ++ R) x d (placed_behind later R x d i)
 
-module _ (step : StepHolds) (pin : Pin) (R : Log) (v : RowsAreValid R) (k : KeepsEach pin R) (start : ℕ)
+module _ (step : StepHolds) (pin : Pin) (R : Log) (v : RecordsAreValid R) (k : KeepsEach pin R) (start : ℕ)
     (from : pin.length ≤ start) (within : start ≤ length R)
     (P : ℕ → Pages) (g : ℕ → Ghost) (T : Timeline pin start R P g) (D : Document) (V : Visible R pin.commits D)
     (early : length V.inserted.commit.earlier < pin.length) where
-  -- the log of a moment goes on behind the document's commit
+  -- the log of a moment goes on after the document's commit
   log_at : (t : ℕ) → start ≤ t → t ≤ length R
       → (later : Log) × (cut t R ≡ later ++ V.inserted.commit.by ∷ V.inserted.commit.earlier)
   log_at t a b =
@@ -39,8 +39,8 @@ module _ (step : StepHolds) (pin : Pin) (R : Log) (v : RowsAreValid R) (k : Keep
             (omega (arith, n, early, from, a)),
       )
 
-  valid_at : (t : ℕ) → RowsAreValid (cut t R)
-  valid_at t = let b = behind_cut R t in valid_behind b.0 (cut t R) (subst RowsAreValid b.1 v)
+  valid_at : (t : ℕ) → RecordsAreValid (cut t R)
+  valid_at t = let b = behind_cut R t in valid_behind b.0 (cut t R) (subst RecordsAreValid b.1 v)
 
   keeps_at : (t : ℕ) → KeepsEach pin (cut t R)
   keeps_at t = let b = behind_cut R t in keeps_behind pin b.0 (cut t R) (subst (KeepsEach pin) b.1 k)
@@ -52,7 +52,7 @@ module _ (step : StepHolds) (pin : Pin) (R : Log) (v : RowsAreValid R) (k : Keep
   pub alive_at : (t : ℕ) → IsDead (cut t R) pin.commits V.inserted.doc → ⊥
   alive_at t dead =
       let b = behind_cut R t in
-      alive_before b.0 (cut t R) pin.commits V.inserted.doc (subst RowsAreValid b.1 v)
+      alive_before b.0 (cut t R) pin.commits V.inserted.doc (subst RecordsAreValid b.1 v)
       (λ x. alive_end (subst (λ z. IsDead z pin.commits V.inserted.doc) (sym b.1) x)) dead
 
   pub there : (t : ℕ) → start ≤ t → t ≤ length R → HasVector (P t) V.inserted.doc D.vector
@@ -61,7 +61,7 @@ module _ (step : StepHolds) (pin : Pin) (R : Log) (v : RowsAreValid R) (k : Keep
       let l = log_at t a b in
       let form : cut t R ≡ (l.0 ++ c.by ∷ []) ++ c.earlier = l.1 ∙ sym (append_assoc l.0 (c.by ∷ []) c.earlier) in
       vector_stays step pin V.inserted.doc D.vector (l.0 ++ c.by ∷ []) c.earlier c.pages (P t)
-      (subst RowsAreValid form (valid_at t)) (subst (KeepsEach pin) form (keeps_at t))
+      (subst RecordsAreValid form (valid_at t)) (subst (KeepsEach pin) form (keeps_at t))
       (λ dead. alive_at t (subst (λ z. IsDead z pin.commits V.inserted.doc) (sym form) dead)) c.shown
       (subst (λ z. Shows z (P t)) form (T.shown t a b)) c.vector
 
@@ -74,7 +74,7 @@ module _ (step : StepHolds) (pin : Pin) (R : Log) (v : RowsAreValid R) (k : Keep
       ap (λ z. fate_with z c.by.xid c.by.xid (fate c.earlier c.by.xid)) c.kind_is
       ∙ on_same c.by.xid c.by.xid (Committed V.inserted.number) (fate c.earlier c.by.xid) refl in
       ap (λ z. fate z c.by.xid) l.1
-      ∙ (ends_stay_behind l.0 (c.by ∷ c.earlier) (subst RowsAreValid l.1 (valid_at t))).committed_stays c.by.xid
+      ∙ (ends_stay_behind l.0 (c.by ∷ c.earlier) (subst RecordsAreValid l.1 (valid_at t))).committed_stays c.by.xid
       V.inserted.number here
 
   placed_at : (t : ℕ) → start ≤ t → t ≤ length R → In V.inserted.doc (placed (cut t R) V.inserted.commit.by.xid)

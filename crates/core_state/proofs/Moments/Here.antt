@@ -14,7 +14,7 @@ use Rattle.core_state.specs.Log.{Log, Pages, In}
 use Rattle.core_state.specs.Documents.{Doc, Has, IsWhole, HasVector, IsDead}
 use Rattle.core_state.specs.Index.{Line, Pending}
 use Rattle.core_state.specs.Bullets.{Owned}
-use Rattle.core_state.specs.VacuumRows.{MayLeave}
+use Rattle.core_state.specs.VacuumRules.{MayLeave}
 use Rattle.core_state.specs.Trees.Nodes.{AtMost}
 use Rattle.core_state.specs.Trees.Ext.{ext_less}
 use Rattle.core_state.specs.Trees.Ext.Ext.{at, greatest}
@@ -80,7 +80,7 @@ module _ (n L : ℕ) (R : Log) (P : Pages) (g : Ghost) (inv : Inv n L R P g) (d 
   line_row_key p row k on i item j =
       row_key row k item (inv.rows_owned.on_line p row ((inv.lined.on p).0 on) (subst (In row) (rows_kept p on) i)) j
 
-  -- an entry stands on a leaf of the entry tree, within its bounds
+  -- an entry is on a leaf of the entry tree, within its bounds
   pub leaf_of : (p : ℕ) (e : Entry) → In e (entries_of (P p)) → (high : Key) × (es : List Entry)
       × ((P p).body ≡ body.EntryLeaf high es)
   leaf_of p e i = by (P p).body refl i
@@ -98,7 +98,7 @@ module _ (n L : ℕ) (R : Log) (P : Pages) (g : Ghost) (inv : Inv n L R P g) (d 
       by (body.PostInner s) f j = absurd j
       by (body.Deleted s) f j = absurd j
 
-  pub entry_at : (p : ℕ) (e : Entry) → In e (entries_of (P p)) → ((entry_ghost g).place p ≡ nodes.Place.tree 1 0)
+  pub entry_at : (p : ℕ) (e : Entry) → In e (entries_of (P p)) → ((entry_ghost g).place p ≡ nodes.TreePlace.tree 1 0)
       × ext_less KeyLess (g.low_key p) (at e.key) × AtMost keys greatest (at e.key) (g.high_key p)
   entry_at p e i =
       let l = leaf_of p e i in

@@ -6,7 +6,7 @@ use Rattle.page_types.specs.declared.page.Entry.{Entry}
 use Rattle.page_types.specs.declared.page.Row.{Row}
 use Rattle.page_types.specs.declared.page.Postings.TheVariants.{Root}
 use Rattle.core_state.specs.Log.{Log, Pages, In, Shows, cut}
-use Rattle.core_state.specs.Legal.{IsLegal, RowsAreValid, Pin, Keeps}
+use Rattle.core_state.specs.Legal.{IsLegal, RecordsAreValid, Pin, Keeps}
 use Rattle.core_state.specs.Trees.Ext.{Ext}
 use Rattle.core_state.specs.Trees.Ext.Ext.{least, greatest}
 use Rattle.core_state.specs.Trees.Nodes as nodes
@@ -47,7 +47,7 @@ pub record Links (R : Log) (pin : Pin) : Type 0 where
       → pend.Follows (λ t q. (pages t q).right) (first_of (pages from 0)) xs
       → (u : ℕ) × pend.IsChain (λ q. (pages u q).right) (first_of (pages from 0)) (pend.pages xs)
 
-some_pages : (R : Log) → RowsAreValid R → (P : Pages) × Shows R P
+some_pages : (R : Log) → RecordsAreValid R → (P : Pages) × Shows R P
 some_pages [] v = (none_yet, shown_none)
 some_pages (r ∷ R) v = (v.1.after, v.1.shown_after)
 
@@ -67,8 +67,8 @@ module _ (step : StepHolds) (R : Log) (pin : Pin) (legal : IsLegal R) (keeps : K
   abbrev T : Timeline pin pin.length R M.moments.pages M.moments.ghosts
   T = M.moments.timeline
 
-  zero_at : (t : ℕ) → pin.length ≤ t → t ≤ length R → ((entry_ghost (g t)).place 0 ≡ nodes.Place.none)
-      × ((post_ghost (g t)).place 0 ≡ nodes.Place.none)
+  zero_at : (t : ℕ) → pin.length ≤ t → t ≤ length R → ((entry_ghost (g t)).place 0 ≡ nodes.TreePlace.none)
+      × ((post_ghost (g t)).place 0 ≡ nodes.TreePlace.none)
   zero_at t a b = elim (page_0 pin.commits pin.length (cut t R) (P t) (g t) (T.inv t a b) (T.shown t a b)) [
     | inl e ↦ (ap entry_place e, ap post_place e)
     | inr e ↦ (ap entry_place e, ap post_place e)
@@ -90,12 +90,12 @@ module _ (step : StepHolds) (R : Log) (pin : Pin) (legal : IsLegal R) (keeps : K
       step_forward items least greatest (post_nodes (P t)) (post_nodes (P (t + 1))) (post_ghost (g t))
       (zero_at t a le).1 L F (T.inv t a le).posts (post_ghost (g (t + 1))) (T.case t a b).2.trees.posts.0
 
-  -- page 1 stands in the tree as soon as it links to another page
+  -- page 1 is in the tree as soon as it links to another page
   page_1 : (t q : ℕ) → pin.length ≤ t → t ≤ length R → LinksTo (entry_node (P t 1)) q
-      → (entry_ghost (g t)).place 1 ≢ nodes.Place.none
+      → (entry_ghost (g t)).place 1 ≢ nodes.TreePlace.none
   page_1 t q a b l = by (cut t R) refl
     where
-      by : (S : Log) → cut t R ≡ S → (entry_ghost (g t)).place 1 ≢ nodes.Place.none
+      by : (S : Log) → cut t R ≡ S → (entry_ghost (g t)).place 1 ≢ nodes.TreePlace.none
       by [] e f =
           let free : P t 1 ≡ free_page = ap (λ (z : Pages). z 1)
           (shown_one [] (P t) none_yet (subst (λ z. Shows z (P t)) e (T.shown t a b)) shown_none) in
@@ -113,13 +113,13 @@ module _ (step : StepHolds) (R : Log) (pin : Pin) (legal : IsLegal R) (keeps : K
       (length R) (M.listed.entry_list, M.listed.entries) entry_on from xs low rise linked placed
     where
       placed : (x y : Read) (ys : List Read) → xs ≡ x ∷ y ∷ ys → (entry_ghost (g x.time)).place x.page
-          ≢ nodes.Place.none
+          ≢ nodes.TreePlace.none
       placed x y ys e =
           let one = begins x (y ∷ ys) e in
           let q = subst (Rising from (length R)) e rise in
           let l : LinksTo (entry_node (P x.time x.page)) y.page =
           (subst (Linked (λ t p. entry_node (P t p))) e linked).0 in
-          subst (λ c. (entry_ghost (g x.time)).place c ≢ nodes.Place.none) (sym one)
+          subst (λ c. (entry_ghost (g x.time)).place c ≢ nodes.TreePlace.none) (sym one)
           (page_1 x.time y.page (omega (arith, low, q.0)) (rising_end x.time (length R) (y ∷ ys) q.1)
           (subst (λ c. LinksTo (entry_node (P x.time c)) y.page) one l))
 
@@ -140,7 +140,7 @@ module _ (step : StepHolds) (R : Log) (pin : Pin) (legal : IsLegal R) (keeps : K
       subst (λ z. w.IsIn (post_ghost (g z)) r r) (let e : t + 1 + n ≡ t + suc n = omega arith in e)
       (stays_in n (t + 1) r (omega (arith, a)) (omega (arith, b)) next)
 
-  in_tree : (h : nodes.Ghost (Ext ℕ)) (r p : ℕ) → w.IsIn h r p → h.place p ≢ nodes.Place.none
+  in_tree : (h : nodes.TreeGhost (Ext ℕ)) (r p : ℕ) → w.IsIn h r p → h.place p ≢ nodes.TreePlace.none
   in_tree h r p (inl live) e = tree_not_none r live.0 (sym live.1 ∙ e)
   in_tree h r p (inr was) e = left_not_none r (sym was ∙ e)
 
@@ -152,7 +152,7 @@ module _ (step : StepHolds) (R : Log) (pin : Pin) (legal : IsLegal R) (keeps : K
       (M.listed.post_list, M.listed.posts) post_on s xs low rise linked placed
     where
       placed : (y z : Read) (ys : List Read) → xs ≡ y ∷ z ∷ ys → (post_ghost (g y.time)).place y.page
-          ≢ nodes.Place.none
+          ≢ nodes.TreePlace.none
       placed y z ys e =
           let one = begins y (z ∷ ys) e in
           let q = subst (Rising s (length R)) e rise in
@@ -161,7 +161,7 @@ module _ (step : StepHolds) (R : Log) (pin : Pin) (legal : IsLegal R) (keeps : K
           let there = stays_in (y.time - s) s r low (omega (arith, q.0, bound)) (inl (named.0, ap post_place named.1)) in
           let now : w.IsIn (post_ghost (g y.time)) r r = subst (λ c. w.IsIn (post_ghost (g c)) r r)
           (let h : s + (y.time - s) ≡ y.time = omega (arith, q.0) in h) there in
-          subst (λ c. (post_ghost (g y.time)).place c ≢ nodes.Place.none) (sym one)
+          subst (λ c. (post_ghost (g y.time)).place c ≢ nodes.TreePlace.none) (sym one)
           (in_tree (post_ghost (g y.time)) r r now)
 
   -- the pending list

@@ -7,7 +7,7 @@ use Rattle.page_types.specs.declared.page.Row.{Row}
 use Rattle.page_types.specs.declared.page.Gone.TheVariants as gone
 use Rattle.core_state.specs.Log.{Log, Pages, In, cut}
 use Rattle.core_state.specs.Documents.{IsChain}
-use Rattle.core_state.specs.Legal.{RowsAreValid, Pin, KeepsEach}
+use Rattle.core_state.specs.Legal.{RecordsAreValid, Pin, KeepsEach}
 use Rattle.core_state.specs.Inner.Ghosts.{Ghost, entry_place, post_place, entry_ghost, post_ghost}
 use Rattle.core_state.specs.Inner.Ghosts.Place.{meta, shifted}
 use Rattle.core_state.specs.Inner.Kinds.{Fits}
@@ -63,7 +63,7 @@ module _ (pin : Pin) (R : Log) (P : ℕ → Pages) (g : ℕ → Ghost) (start : 
         roots = λ t p x r a b i e. let k = (T.inv t a b).named.is_root p r x i e in inl (k.0, ap post_place k.1);
       }
 
-  module _ (v : RowsAreValid R) (keeps : KeepsEach pin R) (V : ℕ → Type 0) (mine : (t : ℕ) → start ≤ t → t < length R
+  module _ (v : RecordsAreValid R) (keeps : KeepsEach pin R) (V : ℕ → Type 0) (mine : (t : ℕ) → start ≤ t → t < length R
       → (j : ℕ) → V j → NewRow (cut t R) (P t) j → ⊥) where
     -- a row of a document that is being written is of another item
     others : (t : ℕ) → start ≤ t → t < length R → (rows : List Row) → AreNew (cut t R) (P t) rows → (w : Row)
@@ -121,7 +121,7 @@ module _ (pin : Pin) (R : Log) (P : ℕ → Pages) (g : ℕ → Ghost) (start : 
         let c = T.case t a b in
         let log : (later : Log) × (R ≡ later ++ (c.0 ∷ cut t R)) =
         (let k = Rattle.core_state.proofs.Law.SnapshotsStay.behind_cut R (t + 1) in (k.0, k.1 ∙ ap (λ z. k.0 ++ z) c.1)) in
-        let valid = Rattle.core_state.proofs.SteadyPages.valid_behind log.0 (c.0 ∷ cut t R) (subst RowsAreValid log.1 v) in
+        let valid = Rattle.core_state.proofs.SteadyPages.valid_behind log.0 (c.0 ∷ cut t R) (subst RecordsAreValid log.1 v) in
         let kept = Rattle.core_state.proofs.Law.SnapshotsStay.keeps_behind pin log.0 (c.0 ∷ cut t R)
         (subst (KeepsEach pin) log.1 keeps) in
         let shown = subst (λ z. Rattle.core_state.specs.Log.Shows z (P (t + 1))) c.1
@@ -130,7 +130,7 @@ module _ (pin : Pin) (R : Log) (P : ℕ → Pages) (g : ℕ → Ghost) (start : 
         (P t) refl (T.shown t a (omega (arith, b))) f.1 f.2
 
   -- the pending list, for the documents with an item of which none is being written
-  module _ (v : RowsAreValid R) (keeps : KeepsEach pin R) (i : ℕ) (mine : (t : ℕ) → start ≤ t → t < length R
+  module _ (v : RecordsAreValid R) (keeps : KeepsEach pin R) (i : ℕ) (mine : (t : ℕ) → start ≤ t → t < length R
       → NewRow (cut t R) (P t) i → ⊥) where
     pub mine_of : (t : ℕ) → start ≤ t → t < length R → (j : ℕ) → j ≡ i → NewRow (cut t R) (P t) j → ⊥
     mine_of t a b j e new = mine t a b (subst (NewRow (cut t R) (P t)) e new)

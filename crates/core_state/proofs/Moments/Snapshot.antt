@@ -16,8 +16,8 @@ use Rattle.core_state.specs.Documents.{HasVector}
 use Rattle.core_state.specs.History.{Document}
 use Rattle.core_state.specs.Index.{Pending}
 use Rattle.core_state.specs.Bullets.{WasIndexed}
-use Rattle.core_state.specs.Legal.{RowsAreValid, Pin, KeepsEach}
-use Rattle.core_state.specs.VacuumRows.{MayLeave}
+use Rattle.core_state.specs.Legal.{RecordsAreValid, Pin, KeepsEach}
+use Rattle.core_state.specs.VacuumRules.{MayLeave}
 use Rattle.core_state.specs.Inner.Ghosts.{Ghost, Place, post_place, post_ghost}
 use Rattle.core_state.specs.Inner.Ghosts.Place.{post}
 use Rattle.core_state.specs.Inner.Grouping.{InLine, StartsPage, IsFirst, KeyIn, rows_by_page}
@@ -90,7 +90,7 @@ leaf_items p i j = by p.body j
     by (body.PostInner s) k = absurd k
     by (body.Deleted s) k = absurd k
 
-module _ (step : StepHolds) (pin : Pin) (R : Log) (v : RowsAreValid R) (k : KeepsEach pin R) (start : ℕ)
+module _ (step : StepHolds) (pin : Pin) (R : Log) (v : RecordsAreValid R) (k : KeepsEach pin R) (start : ℕ)
     (from : pin.length ≤ start) (within : start ≤ length R) (some : 1 ≤ start)
     (P : ℕ → Pages) (g : ℕ → Ghost) (T : Timeline pin start R P g) (D : Document) (V : Visible R pin.commits D)
     (early : length V.inserted.commit.earlier < pin.length)
@@ -130,7 +130,7 @@ module _ (step : StepHolds) (pin : Pin) (R : Log) (v : RowsAreValid R) (k : Keep
       (let e : start + (t - start) ≡ t = omega (arith, a) in e)
       (main_on (t - start) start (omega arith) (omega (arith, a, b)) x h)
 
-  -- a pair of the main part stands on a leaf of the entry tree, in its list or in its posting tree
+  -- a pair of the main part is on a leaf of the entry tree, in its list or in its posting tree
   in_main : (t : ℕ) (a : start ≤ t) (b : t ≤ length R) (x : Key) → MainAt (P t) (g t) x V.inserted.doc.item
       → told.InMain P start (length R) the_trees V.inserted.doc.item the_pends D.vector x t
   in_main t a b x (MainAt.listed q e bytes on key is inside) =
@@ -244,7 +244,7 @@ module _ (step : StepHolds) (pin : Pin) (R : Log) (v : RowsAreValid R) (k : Keep
   root_live t r a b (inr gone_is) = let up = (T.inv t a b).posts_rooted.lefts r r gone_is in absurd
       (left_not_tree r up.0 (sym gone_is ∙ up.1))
     where
-      left_not_tree : (r h : ℕ) → nodes.Place.left r ≡ nodes.Place.tree r (suc h) → ⊥
+      left_not_tree : (r h : ℕ) → nodes.TreePlace.left r ≡ nodes.TreePlace.tree r (suc h) → ⊥
       left_not_tree r h e = cc
 
   key_stays : (n t r : ℕ) → start ≤ t → t + n ≤ length R → IsIn (post_ghost (g t)) r r
@@ -283,9 +283,9 @@ module _ (step : StepHolds) (pin : Pin) (R : Log) (v : RowsAreValid R) (k : Keep
       ((T.inv s since b).items_owned.posted q r V.inserted.doc.item (leaf.1 ∙ ap (λ z. post z 0) same) at_item) in
       subst (λ z. In z (keys_of D.vector)) key mine
     where
-      one_tree : (u w : ℕ) → nodes.Place.tree u 0 ≡ (post_ghost (g s)).place q → IsIn (post_ghost (g s)) w q → u ≡ w
-      one_tree u w e (inl live) = let f : nodes.Place.tree u 0 ≡ nodes.Place.tree w live.0 = e ∙ live.1 in cc
-      one_tree u w e (inr was_left) = let f : nodes.Place.tree u 0 ≡ nodes.Place.left w = e ∙ was_left in cc
+      one_tree : (u w : ℕ) → nodes.TreePlace.tree u 0 ≡ (post_ghost (g s)).place q → IsIn (post_ghost (g s)) w q → u ≡ w
+      one_tree u w e (inl live) = let f : nodes.TreePlace.tree u 0 ≡ nodes.TreePlace.tree w live.0 = e ∙ live.1 in cc
+      one_tree u w e (inr was_left) = let f : nodes.TreePlace.tree u 0 ≡ nodes.TreePlace.left w = e ∙ was_left in cc
 
   keys_some : keys_of D.vector ≢ []
   keys_some = by D.vector

@@ -35,7 +35,7 @@ from_later pin early late R P g l T = record {
   case = λ t a b. T.case t (omega (arith, l, a)) b;
 }
 
--- what the moments up to n have, and x behind them
+-- what the moments up to n have, and x after them
 abbrev until : {A : Type 0} → ℕ → (ℕ → A) → A → ℕ → A
 until n f x t = cond (nat_le t n) (f t) x
 

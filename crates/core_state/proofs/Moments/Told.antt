@@ -10,8 +10,8 @@ use Rattle.page_types.specs.declared.page.Entry.{Entry}
 use Rattle.page_types.specs.declared.page.Postings.{Postings}
 use Rattle.page_types.specs.declared.page.Postings.TheVariants.{Inline, Root}
 use Rattle.core_state.specs.Log.{Pages, In}
-use Rattle.core_state.specs.Trees.Nodes.{Ghost, AtMost}
-use Rattle.core_state.specs.Trees.Nodes.Place.{tree}
+use Rattle.core_state.specs.Trees.Nodes.{TreeGhost, AtMost}
+use Rattle.core_state.specs.Trees.Nodes.TreePlace.{tree}
 use Rattle.core_state.specs.Trees.Ext.{Ext, ext_less}
 use Rattle.core_state.specs.Trees.Ext.Ext.{least, at, greatest}
 use Rattle.core_state.specs.Trees.TreeNodes.{entry_node, post_node}
@@ -31,8 +31,8 @@ entry_of e = record { key = at e.key; postings = postings_of e.postings }
 
 -- the trees of the moments of a walk: they change by steps of trees alone
 pub record Trees (P : ℕ → Pages) (start end : ℕ) : Type 0 where
-  pub g : ℕ → Ghost (Ext Key)
-  pub gp : ℕ → Ghost (Ext ℕ)
+  pub g : ℕ → TreeGhost (Ext Key)
+  pub gp : ℕ → TreeGhost (Ext ℕ)
   pub entries : GrowRun (ext_order key_order) least greatest (λ t p. entry_node (P t p)) g start end
   pub posts : Run (ext_order nat_order) least greatest (λ t p. post_node (P t p)) gp start end
   pub height : ℕ
@@ -56,7 +56,7 @@ module _ (P : ℕ → Pages) (start end : ℕ) (T : Trees P start end) (i : ℕ)
   abbrev pub entries_at : ℕ → ℕ → List (m.Entry (Ext Key) (Ext ℕ))
   entries_at t p = map entry_of (entries_of (P t p))
 
-  -- the key x stands in the main part with the item, at t
+  -- the key x is in the main part with the item, at t
   abbrev pub InMain : Key → ℕ → Type 0
   InMain x t = (q : ℕ) × ((T.g t).place q ≡ tree 1 0) × ext_less KeyLess ((T.g t).low q) (at x)
       × AtMost (ext_order key_order) greatest (at x) ((T.g t).high q)

@@ -13,7 +13,7 @@ use Rattle.page_types.specs.declared.record.Kind.TheVariants as kind
 use Rattle.core_state.specs.Log.{Pages, In, next_serial, fate}
 use Rattle.core_state.specs.Documents.{Doc, Has, HasBytes, IsChain, IsWhole, placed, page_of, slot_of, head_of, parts}
 use Rattle.core_state.specs.Changes.{PutsSlot, made_with}
-use Rattle.core_state.specs.Legal.{RowHolds}
+use Rattle.core_state.specs.Legal.{RuleHolds}
 use Rattle.core_state.specs.Steady.{KeepsHead}
 use Rattle.core_state.specs.Allowed.{numbered, with_serial, drawn_body}
 use Rattle.core_state.specs.Steps.{IsNewSheet, ChangesHead, CanPlace, CanPutOverflow, CanMark, MayBy}
@@ -57,7 +57,7 @@ place_may v s can R a r Q n l =
       | inl h ↦ ap (λ (b : Body). slot_at (slots_in b) (slot_of c.item)) h.0 ∙ c.was_free
       | inr h ↦ none_on_new t.0 v.since (page_of c.item) (slot_of c.item) c.old h.2
     ] in
-    RowHolds.place_head (record {
+    RuleHolds.place_head (record {
       here = record {
         doc = record { item = c.item; serial = serial };
         head = record c.head { serial = serial };
@@ -105,7 +105,7 @@ mark_may v s can R a r Q n l =
     let marks : ChangesHead c.doc c.old c.head (record c.head { deleted_by = r.xid }) c.new =
     subst (λ (x : ℕ). ChangesHead c.doc c.old c.head (record c.head { deleted_by = x }) c.new) (sym xid)
     c.head_after in
-    RowHolds.mark_deleted (record {
+    RuleHolds.mark_deleted (record {
       here = record {
         doc = c.doc;
         head = c.head;
@@ -166,7 +166,7 @@ put_overflow_may v s can R a r Q n l =
     let one : h.0 ≡ c.head = head_one a.pages d h.0 c.head h.2.head has in
     let keeps : KeepsHead P a.pages d c.head = subst (KeepsHead P a.pages d) one h.2 in
     let chain = keeps.overflow c.chain c.is_chain in
-    RowHolds.put_overflow (record {
+    RuleHolds.put_overflow (record {
       here = record {
         doc = d;
         head = c.head;

@@ -4,12 +4,12 @@ use Rattle.page_types.specs.declared.record.Kind.{Kind}
 use Rattle.page_types.specs.declared.record.Kind.TheVariants as kind
 use Rattle.core_state.specs.Log.{Log, In, fate, xid_behind, next_xid}
 use Rattle.core_state.specs.Documents.{Doc, placed, marked}
-use Rattle.core_state.specs.HeapRows.{IsPlaceHead, IsMarkDeleted}
-use Rattle.core_state.specs.Legal.{RowsAreValid}
+use Rattle.core_state.specs.HeapRules.{IsPlaceHead, IsMarkDeleted}
+use Rattle.core_state.specs.Legal.{RecordsAreValid}
 use Rattle.core_state.specs.Steps.{NotDrawnHolds}
 use Rattle.core_state.specs.Inner.XidsDrawn.{XidsDrawn}
 use Rattle.core_state.specs.declared.answers.Fate.TheVariants.{Unused, Running}
-use Rattle.core_state.proofs.RowsByKind.{kind_row}
+use Rattle.core_state.proofs.RulesByKind.{kind_rule}
 use Rattle.core_state.proofs.FateSteps.{placed_back, marked_back}
 use Rattle.core_state.proofs.SteadyEnds.{xids_drawn}
 
@@ -27,27 +27,27 @@ runs_drawn R x D runs = elim (low_or_not x (next_xid R)) [
   | inr high ↦ let f : Running ≡ Unused = sym runs ∙ D.fresh x high in absurd cc
 ]
 
-placed_drawn : (R : Log) → RowsAreValid R → (x : ℕ) (d : Doc) → In d (placed R x) → x < next_xid R
+placed_drawn : (R : Log) → RecordsAreValid R → (x : ℕ) (d : Doc) → In d (placed R x) → x < next_xid R
 placed_drawn [] v x d i = absurd i
 placed_drawn (r ∷ R) v x d i =
     let more = next_more r.kind (next_xid R) in
     elim (placed_back r R x d i) [
       | inl old ↦ omega (arith, placed_drawn R v.0 x d old, more)
       | inr new ↦
-          let row : IsPlaceHead R v.1.before v.1.after r _ = kind_row R v.1.before v.1.after r _ _
-          (kind.PlaceHead d.item d.serial) new.0 v.1.row in
+          let row : IsPlaceHead R v.1.before v.1.after r _ = kind_rule R v.1.before v.1.after r _ _
+          (kind.PlaceHead d.item d.serial) new.0 v.1.rule in
           omega (arith, runs_drawn R x (xids_drawn R v.0) (ap (fate R) (sym new.1) ∙ row.here.runs), more)
     ]
 
-marked_drawn : (R : Log) → RowsAreValid R → (x : ℕ) (d : Doc) → In d (marked R x) → x < next_xid R
+marked_drawn : (R : Log) → RecordsAreValid R → (x : ℕ) (d : Doc) → In d (marked R x) → x < next_xid R
 marked_drawn [] v x d i = absurd i
 marked_drawn (r ∷ R) v x d i =
     let more = next_more r.kind (next_xid R) in
     elim (marked_back r R x d i) [
       | inl old ↦ omega (arith, marked_drawn R v.0 x d old, more)
       | inr new ↦
-          let row : IsMarkDeleted R v.1.before v.1.after r = kind_row R v.1.before v.1.after r _ _
-          (kind.MarkDeleted d.item d.serial) new.0 v.1.row in
+          let row : IsMarkDeleted R v.1.before v.1.after r = kind_rule R v.1.before v.1.after r _ _
+          (kind.MarkDeleted d.item d.serial) new.0 v.1.rule in
           omega (arith, runs_drawn R x (xids_drawn R v.0) (ap (fate R) (sym new.1) ∙ row.here.runs), more)
     ]
 

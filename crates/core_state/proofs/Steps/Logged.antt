@@ -7,13 +7,13 @@ use Rattle.page_types.specs.declared.record.Record.{Record}
 use Rattle.page_types.specs.declared.record.Kind.{Kind}
 use Rattle.page_types.specs.declared.record.Kind.TheVariants as kind
 use Rattle.core_state.specs.Log.{Log, Pages, In, Shows, commits, next_xid}
-use Rattle.core_state.specs.Legal.{RowHolds, Valid, IsLegal, Pin, Keeps}
+use Rattle.core_state.specs.Legal.{RuleHolds, Valid, IsLegal, Pin, Keeps}
 use Rattle.core_state.specs.Steady.{IsMaintenance}
 use Rattle.core_state.specs.Readings.{Read, AreReads}
 use Rattle.core_state.specs.Allowed.{Sheet, View, IsOthers, IsAllowed, AreHeld, Step, IsDrawn, MayLog, Owes, sheet_pages, drawn_kind, drawn_xid}
 use Rattle.core_state.specs.Logged.{IsRecordOf, pin_now, FloorAllows, IsBeside, LoggedStepsHold, abort_all, AbortOfAllHolds}
 use Rattle.core_state.proofs.Showing.{shown_one}
-use Rattle.core_state.proofs.Monotone.{row_more}
+use Rattle.core_state.proofs.Monotone.{rule_more}
 use Rattle.core_state.proofs.Newest.{cut_less}
 use Rattle.core_state.proofs.SteadyEnds.{commits_more}
 use Rattle.core_state.proofs.Steps.Pins.{whole_cut, kept_longer}
@@ -75,7 +75,7 @@ module _ (v : View) (s : Step) (R : Log) (r : Record) (a : IsAllowed v R) (may :
     can_edit = made.can_edit;
     number = made.drawn.number;
     started = started;
-    row = row_more R a.pages after r v.floor v.since floor since low short (making.row v s R r a may made once fits);
+    rule = rule_more R a.pages after r v.floor v.since floor since low short (making.rule v s R r a may made once fits);
   }
 
   keeps : (pin : Pin) → FloorAllows v pin → Keeps R pin → Keeps (r ∷ R) pin
@@ -239,7 +239,7 @@ alone_allowed (r ∷ R) some ok = record {
 }
 
 abort_may : (v : View) → MayLog v abort_all
-abort_may v R a r Q n l = RowHolds.abort (record {
+abort_may v R a r Q n l = RuleHolds.abort (record {
   here = record { kind_is = n.kind; pages = n.pages; runs = inr n.xid };
 })
 

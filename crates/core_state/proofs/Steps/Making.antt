@@ -2,7 +2,7 @@
 use Rattle.std.proofs.Common.{◌≡◌, ◌≢◌, ◌==◌, cond, ℕ, List, [], ◌∷◌, refl, sym, ap, subst, ◌∙◌, inl, inr}
 use Rattle.std.specs.List.{AllByRecursion}
 use Rattle.page_types.specs.Keys.{Rising}
-use Rattle.page_types.specs.Spelling.{page_bytes}
+use Rattle.page_types.specs.Encoding.{page_bytes}
 use Rattle.page_types.specs.Pages.{IsPage}
 use Rattle.page_types.specs.declared.page.Page.{Page}
 use Rattle.page_types.specs.declared.page.Body.TheVariants as body
@@ -10,7 +10,7 @@ use Rattle.page_types.specs.declared.record.Record.{Record}
 use Rattle.page_types.specs.declared.record.Kind.{Kind}
 use Rattle.page_types.specs.declared.record.Kind.TheVariants as kind
 use Rattle.core_state.specs.Log.{Log, Pages, In, Shows, replay}
-use Rattle.core_state.specs.Legal.{RowHolds}
+use Rattle.core_state.specs.Legal.{RuleHolds}
 use Rattle.core_state.specs.Allowed.{Sheet, View, IsAllowed, Step, Leaves, AreMade, MayLog, sheet_pages, made_by, drawn_body}
 use Rattle.core_state.specs.Logged.{IsRecordOf}
 use Rattle.core_state.proofs.Showing.{replay_kept}
@@ -82,14 +82,14 @@ module _ (v : View) (s : Step) (R : Log) (r : Record) (a : IsAllowed v R) (may :
     elsewhere = λ p off. left_else r s.after p (a.pages p) off;
   }
 
-  pub row : RowHolds R a.pages after r v.floor v.since
-  row = may R a r after made.drawn leaves
+  pub rule : RuleHolds R a.pages after r v.floor v.since
+  rule = may R a r after made.drawn leaves
 
   -- no page is left free
   not_free_left : (x : Sheet) → In x s.after → x.content.body ≢ body.Free
   not_free_left x i e =
       body_not_free a.pages after r v.since x.page (touched R a.pages after r v.floor v.since
-      (none_free R a.pages a.shown) row x.page (subst (In x.page) (sym made.drawn.pages) (page_in s.after x i)))
+      (none_free R a.pages a.shown) rule x.page (subst (In x.page) (sym made.drawn.pages) (page_in s.after x i)))
       (ap (λ (p : Page). p.body) (here x i) ∙ ap (drawn_body r.kind) e ∙ drawn_free r.kind)
 
   abbrev IsShown : ℕ → Type 0

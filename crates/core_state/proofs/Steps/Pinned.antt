@@ -1,4 +1,4 @@
--- What a pin and the right of maintenance tell a session.
+-- What a session knows by a pin and by the right of maintenance.
 use Rattle.std.proofs.Common.{◌≡◌, ◌<◌, ◌≤◌, ℕ, zero, suc, ◌-◌, [], ◌∷◌, ◌++◌, length, drop, refl, sym, ap, subst, ◌∙◌, inl, inr, arith}
 use Rattle.std.proofs.lemmas.List.{length-append}
 use Rattle.std.specs.Prelude.{IfSome}
@@ -7,23 +7,23 @@ use Rattle.page_types.specs.declared.record.Kind.{Kind}
 use Rattle.page_types.specs.declared.record.Kind.TheVariants as kind
 use Rattle.core_state.specs.Log.{Log, In, commits, fate, cut}
 use Rattle.core_state.specs.Documents.{Doc, IsDead}
-use Rattle.core_state.specs.TransactionRows.{IsCommit}
-use Rattle.core_state.specs.HeapRows.{IsMarkDeleted}
-use Rattle.core_state.specs.Legal.{RowsAreValid, Keeps}
+use Rattle.core_state.specs.TransactionRules.{IsCommit}
+use Rattle.core_state.specs.HeapRules.{IsMarkDeleted}
+use Rattle.core_state.specs.Legal.{RecordsAreValid, Keeps}
 use Rattle.core_state.specs.Standing.{IsThere}
 use Rattle.core_state.specs.Steady.{IsIndexWork, IsMaintenance}
 use Rattle.core_state.specs.Steps.{PinHolds, RightHolds}
 use Rattle.core_state.specs.declared.answers.Fate.TheVariants.{Running, Aborted, Committed}
 use Rattle.core_state.proofs.Newest.{cut_less}
-use Rattle.core_state.proofs.RowsByKind.{kind_row}
+use Rattle.core_state.proofs.RulesByKind.{kind_rule}
 use Rattle.core_state.proofs.FateSteps.{HasEnded, FateStep, ends_stay, commits_back, placed_on, marked_back}
 use Rattle.core_state.proofs.SteadyEnds.{fates_step, xids_drawn, heads_kept, commits_more}
 use Rattle.core_state.proofs.Law.AllCases.{all_steps}
 use Rattle.core_state.proofs.Law.CommittedWhole.{whole_under}
 use Rattle.core_state.proofs.Steps.Seen.{others_each, steady_facts}
 
--- the records behind a log have numbers above its length
-number_behind : (later R : Log) → RowsAreValid (later ++ R) → (r : Record) → In r later → length R < r.number
+-- the records after a log have numbers above its length
+number_behind : (later R : Log) → RecordsAreValid (later ++ R) → (r : Record) → In r later → length R < r.number
 number_behind [] R v r i = absurd i
 number_behind (s ∷ later) R v r (inl e) =
     let n = v.1.number in
@@ -38,11 +38,11 @@ work_is _ w = w
 pub right_holds : RightHolds
 right_holds v at R a P has le some shown =
     (steady_facts v R a P shown some).index_stays (λ r i w.
-    let n = number_behind a.later v.seen (subst RowsAreValid a.goes_on a.legal.valid) r i in
+    let n = number_behind a.later v.seen (subst RecordsAreValid a.goes_on a.legal.valid) r i in
     (others_each v a.later a.others r i).not_work at has (omega (arith, le, n)) (work_is r.kind w))
 
 -- what has committed keeps its number, and a document that is there under a number of commits stays so
-module _ (S : Log) (r : Record) (v : RowsAreValid (r ∷ S)) where
+module _ (S : Log) (r : Record) (v : RecordsAreValid (r ∷ S)) where
   step : FateStep S r
   step = fates_step S r _ _ (xids_drawn S v.0) v.1
 
@@ -57,13 +57,13 @@ module _ (S : Log) (r : Record) (v : RowsAreValid (r ∷ S)) where
     | inl old ↦ elim (marked_back r S x d m) [
       | inl marks ↦ t.alive (IsDead.delete_counted x k old l marks)
       | inr new ↦
-          let row : IsMarkDeleted S v.1.before v.1.after r = kind_row S v.1.before v.1.after r _ _ _ new.0 v.1.row in
+          let row : IsMarkDeleted S v.1.before v.1.after r = kind_rule S v.1.before v.1.after r _ _ _ new.0 v.1.rule in
           let f : Running ≡ Committed k = sym row.here.runs ∙ ap (fate S) new.1 ∙ old in
           cc
     ]
     | inr new ↦
-        let row : IsCommit S v.1.before v.1.after r = kind_row S v.1.before v.1.after r _ _ (kind.Commit k) new.0
-        v.1.row in
+        let row : IsCommit S v.1.before v.1.after r = kind_rule S v.1.before v.1.after r _ _ (kind.Commit k) new.0
+        v.1.rule in
         let f : kind.Commit k ≡ kind.Commit (suc (commits S)) = sym new.0 ∙ row.here.kind_is in
         let g : k ≡ suc (commits S) = cc in
         omega (arith, g, l, le)
@@ -85,7 +85,7 @@ commits_behind : (later S : Log) → commits S ≤ commits (later ++ S)
 commits_behind [] S = omega arith
 commits_behind (r ∷ later) S = omega (arith, commits_behind later S, commits_more r.kind (commits (later ++ S)))
 
-there_behind : (later S : Log) (n : ℕ) (d : Doc) → RowsAreValid (later ++ S) → n ≤ commits S → IsThere S n d
+there_behind : (later S : Log) (n : ℕ) (d : Doc) → RecordsAreValid (later ++ S) → n ≤ commits S → IsThere S n d
     → IsThere (later ++ S) n d
 there_behind [] S n d v le t = t
 there_behind (r ∷ later) S n d v le t =
@@ -111,5 +111,5 @@ pin_holds v pin R a d has le t =
     ≤ commits (cut pin.length S)) a.goes_on k.counted in
     let small : pin.commits ≤ commits v.seen = omega (arith, counted, commits_cut a.later v.seen pin.length le) in
     let now : IsThere R pin.commits d = subst (λ (S : Log). IsThere S pin.commits d) (sym a.goes_on)
-    (there_behind a.later v.seen pin.commits d (subst RowsAreValid a.goes_on a.legal.valid) small t) in
+    (there_behind a.later v.seen pin.commits d (subst RecordsAreValid a.goes_on a.legal.valid) small t) in
     (now, whole_under all_steps pin R k.each a.pages a.shown now.xid now.number d now.committed now.placed_by now.alive)

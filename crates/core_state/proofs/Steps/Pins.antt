@@ -1,7 +1,7 @@
 -- Pins that are taken.
 use Rattle.std.proofs.Common.{◌≡◌, ◌≤◌, ◌-◌, ℕ, [], ◌∷◌, length, drop, sym, ap, subst, arith}
 use Rattle.core_state.specs.Log.{Log, commits, cut}
-use Rattle.core_state.specs.Legal.{RowsAreValid, Pin, KeepsEach}
+use Rattle.core_state.specs.Legal.{RecordsAreValid, Pin, KeepsEach}
 use Rattle.core_state.specs.Allowed.{View, AreOthers}
 use Rattle.core_state.specs.Logged.{LegalKeepsNow, FlushKeepsNow, pinned, PinIsTaken}
 use Rattle.core_state.proofs.SteadyEnds.{commits_more}
@@ -26,7 +26,7 @@ kept_higher c c' n (r ∷ R) le k = (
   λ late. let x = k.2 late in (x.0, omega (arith, le, x.1), x.2),
 )
 
-kept_valid : (c n : ℕ) (R : Log) → RowsAreValid R → commits R ≤ c → length R ≤ n
+kept_valid : (c n : ℕ) (R : Log) → RecordsAreValid R → commits R ≤ c → length R ≤ n
     → KeepsEach (record { commits = c; length = n }) R
 kept_valid c n [] v le short = tt
 kept_valid c n (r ∷ R) v le short =

@@ -12,7 +12,7 @@ use Rattle.core_state.specs.Log.{Log, Pages, In, Shows, changed, fate}
 use Rattle.core_state.specs.Documents.{Doc, placed_with, placed, marked_with, marked}
 use Rattle.core_state.specs.Known.{use_by, use_in}
 use Rattle.core_state.specs.Changes.{IsNew}
-use Rattle.core_state.specs.Legal.{RowsAreValid, IsLegal}
+use Rattle.core_state.specs.Legal.{RecordsAreValid, IsLegal}
 use Rattle.core_state.specs.Steady.{SteadyFacts, LeavesXid, RunsOn}
 use Rattle.core_state.specs.Allowed.{Sheet, View, IsOthers, AreOthers, AreHeld, IsAllowed, Step}
 use Rattle.core_state.specs.Steps.{sheet, RunsOwn, IsNewSheet, IdleHolds, OwnHolds}
@@ -31,12 +31,12 @@ pub legal_behind : (later R : Log) → IsLegal (later ++ R) → IsLegal R
 legal_behind [] R l = l
 legal_behind (r ∷ later) R l = legal_behind later R (legal_less r (later ++ R) l)
 
-shown_behind : (later R : Log) (Q : Pages) → RowsAreValid (later ++ R) → Shows (later ++ R) Q → (P : Pages) × Shows R P
+shown_behind : (later R : Log) (Q : Pages) → RecordsAreValid (later ++ R) → Shows (later ++ R) Q → (P : Pages) × Shows R P
 shown_behind [] R Q v shown = (Q, shown)
 shown_behind (r ∷ later) R Q v shown = shown_behind later R v.1.before v.0 v.1.shown
 
 -- a page that no later record changes is the same
-same_behind : (later R : Log) (P Q : Pages) (p : ℕ) → RowsAreValid (later ++ R) → Shows R P → Shows (later ++ R) Q
+same_behind : (later R : Log) (P Q : Pages) (p : ℕ) → RecordsAreValid (later ++ R) → Shows R P → Shows (later ++ R) Q
     → ((r : Record) → In r later → In p (changed r) → ⊥) → Q p ≡ P p
 same_behind [] R P Q p v shown shown' off = ap (λ (S : Pages). S p) (shown_one R Q P shown' shown)
 same_behind (r ∷ later) R P Q p v shown shown' off =
@@ -93,8 +93,8 @@ in_held P (s ∷ ss) p c h (inl e) = ap (λ (x : Sheet). P x.page) e ∙ h.0 ∙
 in_held P (s ∷ ss) p c h (inr i) = in_held P ss p c h.1 i
 
 module _ (v : View) (R : Log) (a : IsAllowed v R) where
-  valid_all : RowsAreValid (a.later ++ v.seen)
-  valid_all = subst RowsAreValid a.goes_on a.legal.valid
+  valid_all : RecordsAreValid (a.later ++ v.seen)
+  valid_all = subst RecordsAreValid a.goes_on a.legal.valid
 
   shown_all : Shows (a.later ++ v.seen) a.pages
   shown_all = subst (λ (S : Log). Shows S a.pages) a.goes_on a.shown

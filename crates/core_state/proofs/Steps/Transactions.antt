@@ -3,7 +3,7 @@ use Rattle.std.proofs.Common.{◌≡◌, [], ap, subst, ◌∙◌, inl}
 use Rattle.page_types.specs.declared.record.Kind.TheVariants as kind
 use Rattle.core_state.specs.Log.{In, fate}
 use Rattle.core_state.specs.Documents.{IsWhole, placed}
-use Rattle.core_state.specs.Legal.{RowHolds}
+use Rattle.core_state.specs.Legal.{RuleHolds}
 use Rattle.core_state.specs.Steps.{CanBegin, CanCommit, CanAbort, MayBy}
 use Rattle.core_state.proofs.Histories.{head_one}
 use Rattle.core_state.proofs.Steps.Seen.{own_runs_on, own_placed, shows}
@@ -12,7 +12,7 @@ use Rattle.core_state.proofs.Steps.Heads.{drawn_as, drawn_by, drawn_pages}
 pub begin_may : MayBy CanBegin
 begin_may v s can R a r Q n l =
     let c = (shows CanBegin v s R a can).2 in
-    RowHolds.begin (record {
+    RuleHolds.begin (record {
       here = record {
         kind_is = drawn_as R s r n kind.Begin c.kind_is;
         pages = drawn_pages R s r n [] c.after_is;
@@ -28,7 +28,7 @@ commit_may v s can R a r Q n l =
     let c = t.2 in
     let xid : r.xid ≡ s.xid = drawn_by R s r n (kind.Commit c.number) c.kind_is in
     let on = own_runs_on v R a P t.1 s.xid c.own in
-    RowHolds.commit (record {
+    RuleHolds.commit (record {
       here = record {
         kind_is = drawn_as R s r n (kind.Commit c.number) c.kind_is;
         pages = drawn_pages R s r n [] c.after_is;
@@ -47,7 +47,7 @@ abort_may v s can R a r Q n l =
     let t = shows CanAbort v s R a can in
     let c = t.2 in
     let xid : r.xid ≡ s.xid = drawn_by R s r n kind.Abort c.kind_is in
-    RowHolds.abort (record {
+    RuleHolds.abort (record {
       here = record {
         kind_is = drawn_as R s r n kind.Abort c.kind_is;
         pages = drawn_pages R s r n [] c.after_is;

@@ -1,14 +1,14 @@
--- Lists in which each page stands once, and what comes behind what.
+-- Lists in which each page is once, and what comes after what.
 use Rattle.std.proofs.Common.{◌≡◌, ◌⊎◌, ℕ, List, [], ◌∷◌, refl, sym, subst, inl, inr}
 use Rattle.std.specs.Prelude.{⊤}
 use Rattle.core_state.specs.Log.{In}
 
--- q comes behind p
+-- q comes after p
 abbrev pub Comes : List ℕ → ℕ → ℕ → Type 0
 Comes [] p q = ⊥
 Comes (x ∷ xs) p q = ((x ≡ p) × In q xs) ⊎ Comes xs p q
 
--- each page stands once
+-- each page is once
 abbrev pub Once : List ℕ → Type 0
 Once [] = ⊤
 Once (x ∷ xs) = (In x xs → ⊥) × Once xs
@@ -38,7 +38,7 @@ comes_on (x ∷ xs) a b c o (inl (e, i)) (inr n) = inl (e, comes_to xs b c n)
 comes_on (x ∷ xs) a b c o (inr m) (inl (f, j)) = absurd (twice x b xs o.0 f (comes_to xs a b m))
 comes_on (x ∷ xs) a b c o (inr m) (inr n) = inr (comes_on xs a b c o.1 m n)
 
--- the second list has n directly behind p
+-- the second list has n right after p
 pub data Inserts (p n : ℕ) : List ℕ → List ℕ → Type 0 where
   here : {xs : List ℕ} → Inserts p n (p ∷ xs) (p ∷ n ∷ xs)
   there : {xs ys : List ℕ} (x : ℕ) → Inserts p n xs ys → Inserts p n (x ∷ xs) (x ∷ ys)

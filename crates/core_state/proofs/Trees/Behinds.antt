@@ -1,7 +1,7 @@
--- How many pages come behind each in a list: fewer along each link.
+-- How many pages come after each in a list: fewer along each link.
 use Rattle.std.proofs.Common.{◌≡◌, ◌≢◌, ◌<◌, ◌==◌, ℕ, suc, Bool, cond, List, [], ◌∷◌, length, refl, sym, subst, inl, inr, arith}
 use Rattle.core_state.specs.Log.{In}
-use Rattle.core_state.specs.Trees.Nodes.{Node, Ghost}
+use Rattle.core_state.specs.Trees.Nodes.{Node, TreeGhost}
 use Rattle.core_state.specs.Trees.Nodes.Node.{other, leaf, inner, gone}
 use Rattle.core_state.proofs.Trees.Find.{right_in}
 use Rattle.core_state.proofs.Trees.Behind.{Comes, Once, comes_to, comes_from}
@@ -50,6 +50,6 @@ right_links (leaf right high keys) n = refl
 right_links (inner right kids) n = inl refl
 right_links (gone right) n = refl
 
-pub forward_falls : {E : Type 0} (N : ℕ → Node E) (g : Ghost E) (L : List ℕ) → Forward N g L → Falls N g (behind L)
+pub forward_falls : {E : Type 0} (N : ℕ → Node E) (g : TreeGhost E) (L : List ℕ) → Forward N g L → Falls N g (behind L)
 forward_falls N g L F p on some =
     behind_falls L p (right_in (N p)) F.once (F.leads p (right_in (N p)) on (right_links (N p) some) some)

@@ -1,9 +1,9 @@
 -- The pages below a root are those that have a place in its tree.
 use Rattle.std.proofs.Common.{◌≡◌, ◌⊎◌, ◌≤◌, ◌+◌, ◌-◌, ℕ, zero, suc, List, [], ◌∷◌, refl, sym, subst, inl, inr, arith}
 use Rattle.core_state.specs.Log.{In}
-use Rattle.core_state.specs.Trees.Nodes.{Order, Child, Node, Ghost, Sane}
+use Rattle.core_state.specs.Trees.Nodes.{Order, Child, Node, TreeGhost, Sane}
 use Rattle.core_state.specs.Trees.Nodes.Node.{other, leaf, inner, gone}
-use Rattle.core_state.specs.Trees.Nodes.Place.{tree}
+use Rattle.core_state.specs.Trees.Nodes.TreePlace.{tree}
 use Rattle.core_state.proofs.Trees.Kids.{kid_place}
 
 abbrev pub child_pages : {E : Type 0} → List (Child E) → List ℕ
@@ -21,7 +21,7 @@ pub data Below {E : Type 0} (N : ℕ → Node E) (r : ℕ) : ℕ → Type 0 wher
   child : {p q : ℕ} → Below N r p → In q (children (N p)) → Below N r q
 
 -- each page of a tree but its root is a child of one above; the root is the highest
-pub record Rooted {E : Type 0} (N : ℕ → Node E) (g : Ghost E) (r top : ℕ) : Type 0 where
+pub record Rooted {E : Type 0} (N : ℕ → Node E) (g : TreeGhost E) (r top : ℕ) : Type 0 where
   pub at_root : g.place r ≡ tree r top
   pub parent : (x h : ℕ) → g.place x ≡ tree r h → (x ≡ r)
       ⊎ ((y : ℕ) × (g.place y ≡ tree r (suc h)) × In x (children (N y)))
@@ -33,7 +33,7 @@ as_child q [] m = absurd m
 as_child q (c ∷ cs) (inl e) = (c, inl refl, sym e)
 as_child q (c ∷ cs) (inr m) = let r = as_child q cs m in (r.0, inr r.1, r.2)
 
-module _ {E : Type 0} (o : Order E) (top_key : E) (N : ℕ → Node E) (g : Ghost E) (S : Sane o top_key N g) (r top : ℕ)
+module _ {E : Type 0} (o : Order E) (top_key : E) (N : ℕ → Node E) (g : TreeGhost E) (S : Sane o top_key N g) (r top : ℕ)
     (T : Rooted N g r top) where
   step_down : (p q h : ℕ) → g.place p ≡ tree r h → In q (children (N p)) → (h' : ℕ) × (g.place q ≡ tree r h')
   step_down p q zero e m = absurd (subst (λ (z : Node E). In q (children z)) (S.leaves p r e).node m)

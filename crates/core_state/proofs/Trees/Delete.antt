@@ -2,16 +2,16 @@
 use Rattle.std.proofs.Common.{◌≡◌, ◌≢◌, ◌⊎◌, ℕ, suc, List, [], ◌∷◌, ◌++◌, refl, sym, ap, subst, subst₂, ◌∙◌, inl, inr, arith}
 use mathlib.Core.Logic.{⊎_swap}
 use Rattle.core_state.specs.Log.{In}
-use Rattle.core_state.specs.Trees.Nodes.{Order, Child, Node, Place, Ghost, put, AtMost, RightOk, Kids, LeafOk, InnerOk, LeftOk, Sane, IsDeleteLeaf, delete_ghost}
+use Rattle.core_state.specs.Trees.Nodes.{Order, Child, Node, TreePlace, TreeGhost, put, AtMost, RightOk, Kids, LeafOk, InnerOk, LeftOk, Sane, IsDeleteLeaf, delete_ghost}
 use Rattle.core_state.specs.Trees.Nodes.Node.{leaf}
-use Rattle.core_state.specs.Trees.Nodes.Place.{none, tree, left}
+use Rattle.core_state.specs.Trees.Nodes.TreePlace.{none, tree, left}
 use Rattle.core_state.proofs.PageLists.{same_or_not, in_back}
 use Rattle.core_state.proofs.Trees.Order.{put_here, put_else, tree_not_none, tree_not_left, same_tree, zero_suc, same_leaf, same_inner, inner_not_leaf, gone_not_leaf, less_at_most, at_most_trans}
 use Rattle.core_state.proofs.Trees.Members.{in_middle}
 use Rattle.core_state.proofs.Trees.Kids.{kid_place, kids_kept, kids_tail}
 use Rattle.core_state.proofs.Trees.Find.{one_low, one_high, one_parent}
 
-module _ {E : Type 0} (o : Order E) (top : E) (least : (x : E) → AtMost o top x top) (N M : ℕ → Node E) (g : Ghost E)
+module _ {E : Type 0} (o : Order E) (top : E) (least : (x : E) → AtMost o top x top) (N M : ℕ → Node E) (g : TreeGhost E)
     (S : Sane o top N g)
     (d q r : ℕ) (V : IsDeleteLeaf o top N M g d q r) (nil : g.place 0 ≡ none) where
   spans : (h : ℕ) (y : ℕ) → g.place y ≡ tree r h → o.less (g.low y) (g.high y)
@@ -70,7 +70,7 @@ module _ {E : Type 0} (o : Order E) (top : E) (least : (x : E) → AtMost o top 
           high_n_top))
       go (inr z) = z.0
 
-  g' : Ghost E
+  g' : TreeGhost E
   g' = delete_ghost o top g d n r
 
   place_else : (x : ℕ) → x ≢ d → g'.place x ≡ g.place x
@@ -281,7 +281,7 @@ module _ {E : Type 0} (o : Order E) (top : E) (least : (x : E) → AtMost o top 
           there = l.there;
           leads = elim (same_or_not d l.right) [
             | inl t ↦ inr (subst (λ (y : ℕ). put g.place d (left r) y ≡ left r') (sym t) (place_d ∙ root l.leads t))
-            | inr t ↦ subst (λ (z : Place). (z ≡ tree r' 0) ⊎ (z ≡ left r')) (sym (place_else l.right t)) l.leads
+            | inr t ↦ subst (λ (z : TreePlace). (z ≡ tree r' 0) ⊎ (z ≡ left r')) (sym (place_else l.right t)) l.leads
           ];
           lower = subst (λ (z : E). AtMost o top (put g.low n (g.low d) l.right) z) (sym (low_else x xn))
               (elim (same_or_not n l.right) [

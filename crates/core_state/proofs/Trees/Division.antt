@@ -1,10 +1,10 @@
--- A page of any height is divided, and its parent names the new page behind it: what this leaves as it was.
+-- A page of any height is divided, and its parent names the new page after it: what this leaves as it was.
 use Rattle.std.proofs.Common.{◌≡◌, ◌≢◌, ◌⊎◌, ℕ, suc, List, [], ◌∷◌, ◌++◌, sym, ap, subst, subst₂, ◌∙◌, inl, inr, arith}
 use mathlib.Core.Logic.{⊎_swap}
 use Rattle.core_state.specs.Log.{In}
-use Rattle.core_state.specs.Trees.Nodes.{Order, Child, Node, Place, Ghost, put, AtMost, RightOk, Kids, LeafOk, InnerOk, LeftOk, Sane, split_ghost}
+use Rattle.core_state.specs.Trees.Nodes.{Order, Child, Node, TreePlace, TreeGhost, put, AtMost, RightOk, Kids, LeafOk, InnerOk, LeftOk, Sane, split_ghost}
 use Rattle.core_state.specs.Trees.Nodes.Node.{leaf, inner}
-use Rattle.core_state.specs.Trees.Nodes.Place.{none, tree, left}
+use Rattle.core_state.specs.Trees.Nodes.TreePlace.{none, tree, left}
 use Rattle.core_state.proofs.PageLists.{same_or_not}
 use Rattle.core_state.proofs.Trees.Order.{put_here, put_else, tree_not_none, tree_not_left, left_not_none, same_tree, zero_suc, same_suc, same_inner, less_at_most, at_most_less}
 use Rattle.core_state.proofs.Trees.Members.{in_middle}
@@ -12,7 +12,7 @@ use Rattle.core_state.proofs.Trees.Kids.{kid_place, kids_kept}
 use Rattle.core_state.proofs.Trees.Find.{not_before, kid_of, one_parent}
 
 -- the page p of height H in the tree r is divided at m; the new page is n, the parent q
-pub record IsDivision {E : Type 0} (o : Order E) (N M : ℕ → Node E) (g : Ghost E) (p n q r H : ℕ) (m : E) : Type 0 where
+pub record IsDivision {E : Type 0} (o : Order E) (N M : ℕ → Node E) (g : TreeGhost E) (p n q r H : ℕ) (m : E) : Type 0 where
   pub at : g.place p ≡ tree r H
   pub new : g.place n ≡ none
   pub not_zero : n ≢ 0
@@ -27,7 +27,7 @@ pub record IsDivision {E : Type 0} (o : Order E) (N M : ℕ → Node E) (g : Gho
       (kids_left ++ record { page = p; bound = m } ∷ record { page = n; bound = g.high p } ∷ kids_right)
   pub else : (x : ℕ) → x ≢ p → x ≢ n → x ≢ q → M x ≡ N x
 
-module _ {E : Type 0} (o : Order E) (top : E) (N M : ℕ → Node E) (g : Ghost E) (S : Sane o top N g)
+module _ {E : Type 0} (o : Order E) (top : E) (N M : ℕ → Node E) (g : TreeGhost E) (S : Sane o top N g)
     (p n q r H : ℕ) (m : E) (V : IsDivision o N M g p n q r H m) where
   new_apart : (x r' h : ℕ) → g.place x ≡ tree r' h → x ≢ n
   new_apart x r' h e w = tree_not_none r' h (sym e ∙ ap g.place w ∙ V.new)
@@ -35,7 +35,7 @@ module _ {E : Type 0} (o : Order E) (top : E) (N M : ℕ → Node E) (g : Ghost 
   page_new : p ≢ n
   page_new = new_apart p r H V.at
 
-  unfoldable pub now : Ghost E
+  unfoldable pub now : TreeGhost E
   now = split_ghost o top g p n r H m
 
   place_else : (x : ℕ) → x ≢ n → now.place x ≡ g.place x
@@ -172,7 +172,7 @@ module _ {E : Type 0} (o : Order E) (top : E) (N M : ℕ → Node E) (g : Ghost 
           right = l.right;
           node = V.else x not_page w not_parent ∙ l.node;
           there = l.there;
-          leads = subst (λ (z : Place). (z ≡ tree r' 0) ⊎ (z ≡ left r')) (sym (place_else l.right not_new)) l.leads;
+          leads = subst (λ (z : TreePlace). (z ≡ tree r' 0) ⊎ (z ≡ left r')) (sym (place_else l.right not_new)) l.leads;
           lower = subst₂ (λ (a b : E). AtMost o top a b) (sym (low_else l.right not_new)) (sym (low_else x w)) l.lower;
         }
   ]
@@ -211,7 +211,7 @@ module _ {E : Type 0} (o : Order E) (top : E) (N M : ℕ → Node E) (g : Ghost 
   same_as_before : (x : ℕ) → x ≢ n → x ≢ p → (now.place x ≡ g.place x) × (now.low x ≡ g.low x) × (now.high x ≡ g.high x)
   same_as_before x w v = (place_else x w, low_else x w, high_else x w v)
 
-  -- children that lie behind the divided page, or before it, stay
+  -- children that lie after the divided page, or before it, stay
   kids_behind : (hi : E) (ys : List (Child E)) → Kids o top g r H (g.high p) ys hi → Kids o top now r H (g.high p) ys hi
   kids_behind hi ys ok = kids_kept o top g now r H (g.high p) hi ys (λ c i.
       let k = kid_place o top g r H (g.high p) hi ys (λ (y : ℕ) t. S.span y r H t) ok c i in
@@ -284,7 +284,7 @@ module _ {E : Type 0} (o : Order E) (top : E) (N M : ℕ → Node E) (g : Ghost 
         }
   ]
 
-  -- children of the divided page stay, since they stand one below it
+  -- children of the divided page stay, since they are one below it
   pub kids_below : (h : ℕ) (lo hi : E) (cs : List (Child E)) → H ≡ suc h → Kids o top g r h lo cs hi
       → Kids o top now r h lo cs hi
   kids_below h lo hi cs e ok = kids_kept o top g now r h lo hi cs (λ c i.

@@ -1,4 +1,4 @@
--- The row of a divided page, as a step of the entry tree.
+-- The rule of a divided page, as a step of the entry tree.
 use Rattle.std.proofs.Common.{◌≡◌, ◌≢◌, ℕ, suc, List, [], ◌∷◌, ◌++◌, map, refl, sym, ap, subst, ◌∙◌, inl, inr}
 use Rattle.std.proofs.lemmas.List.{map-append}
 use Rattle.ts_base.specs.Keys.{Key}
@@ -10,13 +10,13 @@ use Rattle.page_types.specs.declared.page.Body.{Body}
 use Rattle.page_types.specs.declared.page.Body.TheVariants as body
 use Rattle.page_types.specs.declared.record.Record.{Record}
 use Rattle.core_state.specs.Log.{Pages, In}
-use Rattle.core_state.specs.TreeRows.{EntryHalves, EntryParent}
+use Rattle.core_state.specs.TreeRules.{EntryHalves, EntryParent}
 use Rattle.core_state.specs.Changes.{made_with, KeyAtMost}
 use Rattle.core_state.specs.Trees.Ext.{Ext}
 use Rattle.core_state.specs.Trees.Ext.Ext.{least, at, greatest}
-use Rattle.core_state.specs.Trees.Nodes.{Child, Ghost, AtMost, Sane, split_ghost}
+use Rattle.core_state.specs.Trees.Nodes.{Child, TreeGhost, AtMost, Sane, split_ghost}
 use Rattle.core_state.specs.Trees.Nodes.Node.{inner}
-use Rattle.core_state.specs.Trees.Nodes.Place.{none, tree}
+use Rattle.core_state.specs.Trees.Nodes.TreePlace.{none, tree}
 use Rattle.core_state.specs.Trees.TreeNodes.{bound, entry_key, entry_child, entry_body, entry_node, entry_nodes}
 use Rattle.core_state.specs.Inner.TreePlaces.{EntryPlaces}
 use Rattle.core_state.proofs.Trees.Members.{some_map, of_map}
@@ -43,7 +43,7 @@ above_all mid es each k m =
     let e = of_map entry_key k es m in
     subst (λ (z : Ext Key). keys.less (at mid) z) (sym e.2) (each e.0 e.1)
 
-module _ (P Q : Pages) (r : Record) (page new parent : ℕ) (g : Ghost (Ext Key))
+module _ (P Q : Pages) (r : Record) (page new parent : ℕ) (g : TreeGhost (Ext Key))
     (S : Sane keys greatest (entry_nodes P) g) (K : EntryPlaces P g) (fresh : g.place new ≡ none) (not_zero : new ≢ 0)
     (else : (x : ℕ) → x ≢ page → x ≢ new → x ≢ parent → Q x ≡ P x) (mid : Key) (pb pa : Body)
     (V : EntryParent page new mid pb pa) (was_parent : (P parent).body ≡ pb)

@@ -10,12 +10,12 @@ use Rattle.page_types.specs.declared.page.Gone.{Gone}
 use Rattle.core_state.specs.Log.{Pages, In}
 use Rattle.core_state.specs.Known.{use_in}
 use Rattle.core_state.specs.Changes.{IsNew}
-use Rattle.core_state.specs.TreeRows.{Toward}
+use Rattle.core_state.specs.TreeRules.{Toward}
 use Rattle.core_state.specs.Trees.Ext.{Ext}
 use Rattle.core_state.specs.Trees.Ext.Ext.{least, at, greatest}
-use Rattle.core_state.specs.Trees.Nodes.{Child, Ghost, AtMost, Sane}
+use Rattle.core_state.specs.Trees.Nodes.{Child, TreeGhost, AtMost, Sane}
 use Rattle.core_state.specs.Trees.Nodes.Node.{leaf, inner}
-use Rattle.core_state.specs.Trees.Nodes.Place.{none, tree}
+use Rattle.core_state.specs.Trees.Nodes.TreePlace.{none, tree}
 use Rattle.core_state.specs.Trees.TreeNodes.{bound, entry_key, entry_child, entry_body, entry_node, entry_nodes}
 use Rattle.core_state.specs.Inner.TreePlaces.{EntryPlaces, HasMeta}
 use Rattle.core_state.proofs.LivePages.{new_was}
@@ -27,7 +27,7 @@ use Rattle.core_state.proofs.Trees.Growing.{Growing}
 use Rattle.core_state.proofs.Trees.Orders.{keys, key_order, below_top, bound_less}
 
 -- the entry tree grows from the pages P to the pages Q
-abbrev pub EntryGrows : Pages → Pages → Ghost (Ext Key) → Ghost (Ext Key) → Type 0
+abbrev pub EntryGrows : Pages → Pages → TreeGhost (Ext Key) → TreeGhost (Ext Key) → Type 0
 EntryGrows P Q g g' = Growing keys least greatest (entry_nodes P) (entry_nodes Q) g g'
 
 -- a new page isn't the metapage
@@ -55,8 +55,8 @@ pub inner_node : (p : Page) (cs : List EntryChild) → p.body ≡ body.EntryInne
     → entry_node p ≡ inner p.right (map entry_child cs)
 inner_node p cs e = ap (entry_body p.right) e
 
-module _ (P : Pages) (g : Ghost (Ext Key)) (S : Sane keys greatest (entry_nodes P) g) (K : EntryPlaces P g) where
-  -- a page that may be taken stands in no tree of entries
+module _ (P : Pages) (g : TreeGhost (Ext Key)) (S : Sane keys greatest (entry_nodes P) g) (K : EntryPlaces P g) where
+  -- a page that may be taken is in no tree of entries
   pub new_apart : (since p : ℕ) → IsNew (use_in P) since p → g.place p ≡ none
   new_apart since p n = K.none_at p (elim (new_was P since p n) [
     | inl e ↦ rw e tt

@@ -1,9 +1,9 @@
--- A walk over rising moments down the entry tree and along its leaves reads each key that fits, where it stands then.
+-- A walk over rising moments down the entry tree and along its leaves reads each key that fits, where it is then.
 use Rattle.std.proofs.Common.{◌≡◌, ◌≢◌, ◌⊎◌, ◌<◌, ◌≤◌, ◌+◌, ◌-◌, ℕ, zero, suc, Bool, true, false, cond, List, [], ◌∷◌, ◌++◌, refl, sym, ap, subst, ◌∙◌, inl, inr, arith}
 use Rattle.core_state.specs.Log.{In}
-use Rattle.core_state.specs.Trees.Nodes.{Order, Child, Node, Ghost, AtMost, RightOk, Kids, LeafOk, InnerOk, Sane}
+use Rattle.core_state.specs.Trees.Nodes.{Order, Child, Node, TreeGhost, AtMost, RightOk, Kids, LeafOk, InnerOk, Sane}
 use Rattle.core_state.specs.Trees.Nodes.Node.{other, leaf, inner, gone}
-use Rattle.core_state.specs.Trees.Nodes.Place.{none, tree}
+use Rattle.core_state.specs.Trees.Nodes.TreePlace.{none, tree}
 use Rattle.core_state.proofs.Trees.Order.{tree_not_none, less_at_most, at_most_less}
 use Rattle.core_state.proofs.Trees.Find.{one_cover}
 use Rattle.core_state.proofs.Trees.Walk.{Read, Rising, rising_end}
@@ -37,8 +37,8 @@ pub known : (b : Bool) → (b ≡ true) ⊎ (b ≡ false)
 known true = inl refl
 known false = inr refl
 
--- the next page, as the page is read: upto k b tells whether k may stand below the bound b, goes whether a walk goes on
--- behind the high key
+-- the next page, as the page is read: upto k b says whether k may be below the bound b, goes whether a walk goes on
+-- after the high key
 module _ {E : Type 0} (upto : E → E → Bool) where
   abbrev pub child_of : ℕ → E → List (Child E) → ℕ
   child_of right k [] = right
@@ -66,10 +66,10 @@ AreLeaves goes N p [] = p ≡ 0
 AreLeaves goes N p (l ∷ ls) = (p ≢ 0) × (l.leaf.page ≡ p)
     × AreLeaves goes N (beyond goes (N l.leaf.time l.leaf.page)) ls
 
--- x is one of the keys that are sought from k on; Here t p: what is sought under x stands on the leaf p at t
+-- x is one of the keys that are sought from k on; Here t p: what is sought under x is on the leaf p at t
 module _ {E : Type 0} (o : Order E) (bottom top : E) (least : (x : E) → AtMost o top x top) (upto : E → E → Bool)
     (is_upto : (k b : E) → upto k b ≡ true → AtMost o top k b) (not_upto : (k b : E) → upto k b ≡ false → o.less b k)
-    (N : ℕ → ℕ → Node E) (g : ℕ → Ghost E) (start end r : ℕ) (k x : E) (from : AtMost o top k x)
+    (N : ℕ → ℕ → Node E) (g : ℕ → TreeGhost E) (start end r : ℕ) (k x : E) (from : AtMost o top k x)
     (goes : E → Bool) (goes_on : (h : E) → AtMost o top k h → o.less h x → goes h ≡ true)
     (sane : (t : ℕ) → start ≤ t → t ≤ end → Sane o top (N t) (g t))
     (nil : (t : ℕ) → start ≤ t → t ≤ end → (g t).place 0 ≡ none)
@@ -87,7 +87,7 @@ module _ {E : Type 0} (o : Order E) (bottom top : E) (least : (x : E) → AtMost
       pub at : (g t).place p ≡ tree r height
       pub low : o.less ((g t).low p) k
 
-    -- the page to be read behind the key's leaf
+    -- the page to be read after the key's leaf
     pub record Ahead (t p : ℕ) : Type 0 where
       pub at : (g t).place p ≡ tree r 0
       pub inner_low : o.less bottom ((g t).low p)
@@ -185,7 +185,7 @@ module _ {E : Type 0} (o : Order E) (bottom top : E) (least : (x : E) → AtMost
     abbrev pub Found : List LeafRead → Type 0
     Found ls = (l : LeafRead) × In l ls × Here l.leaf.time l.leaf.page
 
-    -- what a leaf tells: x stands on it, or lies before the next leaf too
+    -- what a leaf says: x is on it, or lies before the next leaf too
     leaf_step : (t p : ℕ) → start ≤ t → t ≤ end → (g t).place p ≡ tree r 0 → o.less ((g t).low p) x
         → AtMost o top k ((g t).high p) → o.less bottom k → Here t p ⊎ Ahead t (beyond goes (N t p))
     leaf_step t p a b at low kh bk = elim (o.total x ((g t).high p)) [
@@ -257,7 +257,7 @@ module _ {E : Type 0} (o : Order E) (bottom top : E) (least : (x : E) → AtMost
           | inr z ↦ absurd (lead.1 z.0)
         ]
 
-    -- the law of the entry phase: some leaf was read at a moment at which what is sought under x stood on it
+    -- the law of the entry phase: some leaf was read at a moment at which what is sought under x was on it
     pub finds : (last : ℕ) (xs : List Read) (l : LeafRead) (ls : List LeafRead) (h : ℕ) → start ≤ end
         → (g start).place r ≡ tree r h → (g start).low r ≡ bottom → o.less bottom k
         → Rising start end (xs ++ leaf_reads (l ∷ ls)) → LeadTo upto N k r xs last

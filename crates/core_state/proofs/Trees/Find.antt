@@ -1,9 +1,9 @@
 -- Where a key is found from a page whose low bound is below it; which pages of a level are one.
 use Rattle.std.proofs.Common.{◌≡◌, ◌⊎◌, ℕ, zero, suc, List, [], ◌∷◌, refl, sym, ap, ap₂, subst, ◌∙◌, inl, inr}
 use Rattle.core_state.specs.Log.{In}
-use Rattle.core_state.specs.Trees.Nodes.{Order, Child, Node, Ghost, AtMost, RightOk, Kids, InnerOk, Sane}
+use Rattle.core_state.specs.Trees.Nodes.{Order, Child, Node, TreeGhost, AtMost, RightOk, Kids, InnerOk, Sane}
 use Rattle.core_state.specs.Trees.Nodes.Node.{other, leaf, inner, gone}
-use Rattle.core_state.specs.Trees.Nodes.Place.{tree}
+use Rattle.core_state.specs.Trees.Nodes.TreePlace.{tree}
 use Rattle.core_state.proofs.PageLists.{same_or_not}
 use Rattle.core_state.proofs.Trees.Order.{same_tree, same_inner, less_at_most, at_most_less, at_most_trans}
 use Rattle.core_state.proofs.Trees.Kids.{kid_place, kid_bound}
@@ -14,7 +14,7 @@ right_in (leaf right high keys) = right
 right_in (inner right kids) = right
 right_in (gone right) = right
 
-module _ {E : Type 0} (o : Order E) (top : E) (N : ℕ → Node E) (g : Ghost E) (S : Sane o top N g) where
+module _ {E : Type 0} (o : Order E) (top : E) (N : ℕ → Node E) (g : TreeGhost E) (S : Sane o top N g) where
   -- a page that isn't apart from another of its level is that page
   one_page : (p q r h : ℕ) → g.place p ≡ tree r h → g.place q ≡ tree r h
       → (AtMost o top (g.high p) (g.low q) ⊎ AtMost o top (g.high q) (g.low p) → ⊥) → p ≡ q
@@ -79,7 +79,7 @@ module _ {E : Type 0} (o : Order E) (top : E) (N : ℕ → Node E) (g : Ghost E)
         kid_bound o top g r h (g.low x) (g.high x) cs ok c i,
       )
 
-  -- a page whose parent names a child stands one above it
+  -- a page whose parent names a child is one above it
   pub parent_here : (x r h s i right : ℕ) (cs : List (Child E)) (c : Child E) → g.place x ≡ tree s (suc i)
       → N x ≡ inner right cs → In c cs → g.place c.page ≡ tree r h
       → (g.place x ≡ tree r (suc h)) × (g.high c.page ≡ c.bound)

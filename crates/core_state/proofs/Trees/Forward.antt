@@ -1,11 +1,11 @@
--- The pages of trees stand in a list in which each link leads on: steps of trees insert pages into it, and never turn
+-- The pages of trees are in a list in which each link leads on: steps of trees insert pages into it, and never turn
 -- two.
 use Rattle.std.proofs.Common.{◌≡◌, ◌≢◌, ◌⊎◌, ℕ, zero, suc, List, [], ◌∷◌, ◌++◌, refl, sym, ap, subst, ◌∙◌, inl, inr}
 use Rattle.core_state.specs.Log.{In}
-use Rattle.core_state.specs.Trees.Nodes.{Order, Child, Node, Place, Ghost, put, Sane, IsSplitLeaf, IsDeleteLeaf, split_ghost, delete_ghost}
+use Rattle.core_state.specs.Trees.Nodes.{Order, Child, Node, TreePlace, TreeGhost, put, Sane, IsSplitLeaf, IsDeleteLeaf, split_ghost, delete_ghost}
 use Rattle.core_state.specs.Trees.Nodes.Node.{other, leaf, inner, gone}
-use Rattle.core_state.specs.Trees.Nodes.Place.{none, tree, left}
-use Rattle.core_state.specs.Inner.Shapes.{IsSplitInner, IsMakeTree, IsNewKeys}
+use Rattle.core_state.specs.Trees.Nodes.TreePlace.{none, tree, left}
+use Rattle.core_state.specs.Inner.Shapes.{IsSplitInner, IsNewTree, IsNewKeys}
 use Rattle.core_state.proofs.PageLists.{same_or_not}
 use Rattle.core_state.proofs.Trees.Order.{put_here, put_else, tree_not_none, left_not_none, same_tree}
 use Rattle.core_state.proofs.Trees.Grow.{IsGrow, grow_ghost}
@@ -17,7 +17,7 @@ abbrev pub HasChild : {E : Type 0} → List (Child E) → ℕ → Type 0
 HasChild [] q = ⊥
 HasChild (c ∷ cs) q = (q ≡ c.page) ⊎ HasChild cs q
 
--- the page is a child, or the page behind
+-- the page is a child, or the page after
 abbrev pub LinksTo : {E : Type 0} → Node E → ℕ → Type 0
 LinksTo other q = ⊥
 LinksTo (leaf right high keys) q = q ≡ right
@@ -38,20 +38,20 @@ child_cases [] ys q h = inr h
 child_cases (x ∷ xs) ys q (inl e) = inl (inl e)
 child_cases (x ∷ xs) ys q (inr h) = elim (child_cases xs ys q h) [ inl a ↦ inl (inr a) | inr b ↦ inr b ]
 
--- each page of a tree stands once in the list, and no other; each link leads to a page behind
-pub record Forward {E : Type 0} (N : ℕ → Node E) (g : Ghost E) (L : List ℕ) : Type 0 where
+-- each page of a tree is once in the list, and no other; each link leads to a page after
+pub record Forward {E : Type 0} (N : ℕ → Node E) (g : TreeGhost E) (L : List ℕ) : Type 0 where
   pub once : Once L
   pub on : (p : ℕ) → g.place p ≢ none → In p L
   pub only : (p : ℕ) → In p L → g.place p ≢ none
   pub leads : (p q : ℕ) → g.place p ≢ none → LinksTo (N p) q → q ≢ 0 → Comes L p q
 
--- the list goes on: what came behind a page does so
+-- the list goes on: what came after a page does so
 abbrev pub GoesOn : List ℕ → List ℕ → Type 0
 GoesOn L K = (p q : ℕ) → Comes L p q → Comes K p q
 
-module _ {E : Type 0} (o : Order E) (bottom top : E) (N M : ℕ → Node E) (g : Ghost E) (nil : g.place 0 ≡ none)
+module _ {E : Type 0} (o : Order E) (bottom top : E) (N M : ℕ → Node E) (g : TreeGhost E) (nil : g.place 0 ≡ none)
     (L : List ℕ) (F : Forward N g L) where
-  abbrev pub Goes : Ghost E → Type 0
+  abbrev pub Goes : TreeGhost E → Type 0
   Goes g' = (K : List ℕ) × Forward M g' K × GoesOn L K
 
   link : (p : ℕ) (n : Node E) (q : ℕ) → M p ≡ n → LinksTo (M p) q → LinksTo n q
@@ -94,10 +94,10 @@ module _ {E : Type 0} (o : Order E) (bottom top : E) (N M : ℕ → Node E) (g :
     λ x q c. c,
   )
 
-  put_place : (n : ℕ) (y : Place) (p : ℕ) → p ≢ n → put g.place n y p ≢ none → g.place p ≢ none
+  put_place : (n : ℕ) (y : TreePlace) (p : ℕ) → p ≢ n → put g.place n y p ≢ none → g.place p ≢ none
   put_place n y p d at e = at (put_else g.place n y p d ∙ e)
 
-  make : (n : ℕ) → IsMakeTree N M g bottom top o n → Goes (make_ghost g bottom top n)
+  make : (n : ℕ) → IsNewTree N M g bottom top o n → Goes (make_ghost g bottom top n)
   make n V = (
     n ∷ L,
     record {
@@ -116,13 +116,13 @@ module _ {E : Type 0} (o : Order E) (bottom top : E) (N M : ℕ → Node E) (g :
     λ p q c. inr c,
   )
 
-  -- a new page n comes directly behind p, to which its links lead on
-  module _ (p n r h : ℕ) (y : Place) (at : g.place p ≢ none) (new : g.place n ≡ none) (not_zero : n ≢ 0)
+  -- a new page n comes right after p, to which its links lead on
+  module _ (p n r h : ℕ) (y : TreePlace) (at : g.place p ≢ none) (new : g.place n ≡ none) (not_zero : n ≢ 0)
       (some_place : y ≢ none)
       (new_links : (q : ℕ) → LinksTo (M n) q → q ≢ 0 → LinksTo (N p) q)
       (old_links : (x q : ℕ) → x ≢ n → g.place x ≢ none → LinksTo (M x) q → q ≢ 0
       → LinksTo (N x) q ⊎ ((q ≡ n) × ((x ≡ p) ⊎ LinksTo (N x) p)))
-      (place' : ℕ → Place) (here : place' n ≡ y) (else : (x : ℕ) → x ≢ n → (place' x ≡ none → g.place x ≡ none)
+      (place' : ℕ → TreePlace) (here : place' n ≡ y) (else : (x : ℕ) → x ≢ n → (place' x ≡ none → g.place x ≡ none)
       × (g.place x ≡ none → place' x ≡ none)) where
     behind_at : (K : List ℕ) → Inserts p n L K → (low high : ℕ → E)
         → Goes (record { place = place'; low = low; high = high })
@@ -169,7 +169,7 @@ module _ {E : Type 0} (o : Order E) (bottom top : E) (N M : ℕ → Node E) (g :
     behind_page : (low high : ℕ → E) → Goes (record { place = place'; low = low; high = high })
     behind_page low high = let k = inserted p n L (F.on p at) in behind_at k.0 k.1 low high
 
-  else_put : (n : ℕ) (y : Place) (x : ℕ) → x ≢ n → (put g.place n y x ≡ none → g.place x ≡ none)
+  else_put : (n : ℕ) (y : TreePlace) (x : ℕ) → x ≢ n → (put g.place n y x ≡ none → g.place x ≡ none)
       × (g.place x ≡ none → put g.place n y x ≡ none)
   else_put n y x d = (λ e. sym (put_else g.place n y x d) ∙ e, λ e. put_else g.place n y x d ∙ e)
 
@@ -312,7 +312,7 @@ module _ {E : Type 0} (o : Order E) (bottom top : E) (N M : ℕ → Node E) (g :
           right_of : (a b : ℕ) (x y : E) (xs ys : List E) → leaf a x xs ≡ leaf b y ys → a ≡ b
           right_of a b x y xs ys f = cc
 
-      is_leaf_of : (p : ℕ) (z : Place) (high : E) (keys : List E) → g.place p ≡ z → z ≢ none → N p ≡ leaf d high keys
+      is_leaf_of : (p : ℕ) (z : TreePlace) (high : E) (keys : List E) → g.place p ≡ z → z ≢ none → N p ≡ leaf d high keys
           → g.place p ≡ tree r 0
       is_leaf_of p none high keys at off e = absurd (off refl)
       is_leaf_of p (tree s h) high keys at off e = same_leaf_tree p h s high keys at e
@@ -381,10 +381,10 @@ module _ {E : Type 0} (o : Order E) (bottom top : E) (N M : ℕ → Node E) (g :
             ]
           ])
 
-    goes : (g' : Ghost E) → Goes g' → (h : Ghost E) → h ≡ g' → Goes h
+    goes : (g' : TreeGhost E) → Goes g' → (h : TreeGhost E) → h ≡ g' → Goes h
     goes g' G h e = subst Goes (sym e) G
 
-    pub grows_forward : (g' : Ghost E) → Grows o bottom top N M g g' → Goes g'
+    pub grows_forward : (g' : TreeGhost E) → Grows o bottom top N M g g' → Goes g'
     grows_forward g' (Grows.quiet same e) = goes g (quiet same) g' e
     grows_forward g' (Grows.new_keys p r V e) = goes g (new_keys p r V) g' e
     grows_forward g' (Grows.make n V e) = goes _ (make n V) g' e
@@ -392,6 +392,6 @@ module _ {E : Type 0} (o : Order E) (bottom top : E) (N M : ℕ → Node E) (g :
     grows_forward g' (Grows.split_inner p n q r k V e) = goes _ (split_inner p n q r k V) g' e
     grows_forward g' (Grows.grow r n H V e) = goes _ (grow r n H V) g' e
 
-    pub step_forward : (g' : Ghost E) → Step o bottom top N M g g' → Goes g'
+    pub step_forward : (g' : TreeGhost E) → Step o bottom top N M g g' → Goes g'
     step_forward g' (Step.grows s) = grows_forward g' s
     step_forward g' (Step.delete d q r V e) = goes _ (delete d q r V) g' e

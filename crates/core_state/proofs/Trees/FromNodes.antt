@@ -1,9 +1,9 @@
--- Steps of a tree from the nodes before and behind them: a divided leaf or inner page, and a grown root.
+-- Steps of a tree from the nodes before and after them: a divided leaf or inner page, and a grown root.
 use Rattle.std.proofs.Common.{◌≡◌, ◌≢◌, ◌⊎◌, ◌≤◌, ℕ, suc, List, [], ◌∷◌, ◌++◌, refl, sym, ap, ap₂, subst, ◌∙◌, inl, inr, arith}
 use Rattle.core_state.specs.Log.{In}
-use Rattle.core_state.specs.Trees.Nodes.{Order, Child, Node, Ghost, AtMost, RightOk, Sane, IsSplitLeaf, IsDeleteLeaf, split_ghost, delete_ghost}
+use Rattle.core_state.specs.Trees.Nodes.{Order, Child, Node, TreeGhost, AtMost, RightOk, Sane, IsSplitLeaf, IsDeleteLeaf, split_ghost, delete_ghost}
 use Rattle.core_state.specs.Trees.Nodes.Node.{other, leaf, inner, gone}
-use Rattle.core_state.specs.Trees.Nodes.Place.{none, tree, left}
+use Rattle.core_state.specs.Trees.Nodes.TreePlace.{none, tree, left}
 use Rattle.core_state.specs.Inner.Shapes.{IsSplitInner}
 use Rattle.core_state.proofs.PageLists.{in_either, in_front, in_back}
 use Rattle.core_state.proofs.Trees.Members.{in_middle}
@@ -17,7 +17,7 @@ some_key : {E : Type 0} (ks : List E) → ks ≢ [] → (k : E) × In k ks
 some_key [] n = absurd (n refl)
 some_key (k ∷ ks) n = (k, inl refl)
 
-module _ {E : Type 0} (o : Order E) (bottom top : E) (N M : ℕ → Node E) (g : Ghost E) (S : Sane o top N g) where
+module _ {E : Type 0} (o : Order E) (bottom top : E) (N M : ℕ → Node E) (g : TreeGhost E) (S : Sane o top N g) where
   -- what a leaf shows lies within its bounds
   pub leaf_shows : (p r right : ℕ) (high : E) (ks : List E) → g.place p ≡ tree r 0 → N p ≡ leaf right high ks
       → (high ≡ g.high p) × ((k : E) → In k ks → o.less (g.low p) k × AtMost o top k (g.high p))
@@ -26,7 +26,7 @@ module _ {E : Type 0} (o : Order E) (bottom top : E) (N M : ℕ → Node E) (g :
       let same = same_leaf _ _ _ _ _ _ (sym node ∙ ok.node) in
       (same.1, λ k m. ok.within k (subst (λ (l : List E). In k l) same.2 m))
 
-  -- the page is divided at m, and its parent names the new page behind it
+  -- the page is divided at m, and its parent names the new page after it
   module _ (page new parent r h s i pr : ℕ) (kl kr : List (Child E)) (b m : E) (at : g.place page ≡ tree r h)
       (fresh : g.place new ≡ none) (not_zero : new ≢ 0) (placed : g.place parent ≡ tree s (suc i))
       (was_parent : N parent ≡ inner pr (kl ++ record { page = page; bound = b } ∷ kr))
@@ -130,7 +130,7 @@ module _ {E : Type 0} (o : Order E) (bottom top : E) (N M : ℕ → Node E) (g :
     }) last_is
 
 -- a leaf that led to the page d, and leads to another one now
-pub record LedTo {E : Type 0} (N M : ℕ → Node E) (g : Ghost E) (d right : ℕ) : Type 0 where
+pub record LedTo {E : Type 0} (N M : ℕ → Node E) (g : TreeGhost E) (d right : ℕ) : Type 0 where
   pub page : ℕ
   pub root : ℕ
   pub high : E
@@ -139,13 +139,13 @@ pub record LedTo {E : Type 0} (N M : ℕ → Node E) (g : Ghost E) (d right : �
   pub was : N page ≡ leaf d high keys
   pub now : M page ≡ leaf right high keys
 
--- an empty leaf d is deleted: its parent q forgets it, and the leaf that led to it, if there is one, leads behind it
-module _ {E : Type 0} (o : Order E) (bottom top : E) (N M : ℕ → Node E) (g : Ghost E) (S : Sane o top N g)
+-- an empty leaf d is deleted: its parent q forgets it, and the leaf that led to it, if there is one, leads after it
+module _ {E : Type 0} (o : Order E) (bottom top : E) (N M : ℕ → Node E) (g : TreeGhost E) (S : Sane o top N g)
     (d q r s i right pr : ℕ) (front back : List (Child E)) (next : Child E) (b high : E) (at : g.place d ≡ tree r 0)
     (there : d ≢ 0) (placed : g.place q ≡ tree s (suc i)) (was : N d ≡ leaf right high []) (now : M d ≡ gone right)
     (was_parent : N q ≡ inner pr (front ++ record { page = d; bound = b } ∷ next ∷ back))
     (now_parent : M q ≡ inner pr (front ++ next ∷ back)) where
-  -- a leaf that leads to d stands in its tree, and is one
+  -- a leaf that leads to d is in its tree, and is one
   leads_here : (x t : ℕ) (h : E) (ks : List E) → g.place x ≡ tree t 0 → N x ≡ leaf d h ks
       → (g.place d ≡ tree t 0) × (g.low d ≡ g.high x)
   leads_here x t h ks e node =
@@ -207,7 +207,7 @@ unlinked (inner right kids) = inner 0 kids
 unlinked (gone right) = gone right
 
 module _ {E : Type 0} (o : Order E) (bottom top : E) (lowest : (x : E) → o.less x bottom → ⊥)
-    (least : (x : E) → AtMost o top x top) (wide : o.less bottom top) (N M : ℕ → Node E) (g : Ghost E)
+    (least : (x : E) → AtMost o top x top) (wide : o.less bottom top) (N M : ℕ → Node E) (g : TreeGhost E)
     (S : Sane o top N g) (r height : ℕ) (at_root : g.place r ≡ tree r height) (low_root : g.low r ≡ bottom)
     (high_root : g.high r ≡ top) (highest : (x h : ℕ) → g.place x ≡ tree r h → h ≤ height)
     (left_low : (x : ℕ) → g.place x ≡ left r → 1 ≤ height) where

@@ -1,14 +1,14 @@
 -- A root that grows keeps its tree sane: the new page takes its content, and the root has it as its one child.
 use Rattle.std.proofs.Common.{◌≡◌, ◌≢◌, ◌⊎◌, ℕ, suc, List, [], ◌∷◌, refl, sym, ap, subst, subst₂, ap₂, ◌∙◌, inl, inr, arith}
-use Rattle.core_state.specs.Trees.Nodes.{Order, Child, Node, Place, Ghost, put, AtMost, RightOk, Kids, LeafOk, InnerOk, LeftOk, Sane}
+use Rattle.core_state.specs.Trees.Nodes.{Order, Child, Node, TreePlace, TreeGhost, put, AtMost, RightOk, Kids, LeafOk, InnerOk, LeftOk, Sane}
 use Rattle.core_state.specs.Trees.Nodes.Node.{leaf, inner}
-use Rattle.core_state.specs.Trees.Nodes.Place.{none, tree, left}
+use Rattle.core_state.specs.Trees.Nodes.TreePlace.{none, tree, left}
 use Rattle.core_state.proofs.PageLists.{same_or_not}
 use Rattle.core_state.proofs.Trees.Order.{put_here, put_else, tree_not_none, tree_not_left, left_not_none, same_tree}
 use Rattle.core_state.proofs.Trees.Kids.{kid_place, kids_kept}
 
 -- the root r of a tree of height H grows; the new page is n
-pub record IsGrow {E : Type 0} (N M : ℕ → Node E) (g : Ghost E) (bottom top : E) (r n H : ℕ) : Type 0 where
+pub record IsGrow {E : Type 0} (N M : ℕ → Node E) (g : TreeGhost E) (bottom top : E) (r n H : ℕ) : Type 0 where
   pub at : g.place r ≡ tree r H
   pub new : g.place n ≡ none
   pub not_zero : n ≢ 0
@@ -28,7 +28,7 @@ suc_not h e = omega arith
 suc_zero : (h : ℕ) → suc h ≡ 0 → ⊥
 suc_zero h e = omega arith
 
-abbrev pub grow_ghost : {E : Type 0} → Ghost E → E → E → ℕ → ℕ → ℕ → Ghost E
+abbrev pub grow_ghost : {E : Type 0} → TreeGhost E → E → E → ℕ → ℕ → ℕ → TreeGhost E
 grow_ghost g bottom top r n H =
     record {
       place = put (put g.place n (tree r H)) r (tree r (suc H));
@@ -37,9 +37,9 @@ grow_ghost g bottom top r n H =
           put g.high n top;
     }
 
-module _ {E : Type 0} (o : Order E) (bottom top : E) (N M : ℕ → Node E) (g : Ghost E) (S : Sane o top N g) (r n H : ℕ)
+module _ {E : Type 0} (o : Order E) (bottom top : E) (N M : ℕ → Node E) (g : TreeGhost E) (S : Sane o top N g) (r n H : ℕ)
     (V : IsGrow N M g bottom top r n H) where
-  g' : Ghost E
+  g' : TreeGhost E
   g' = grow_ghost g bottom top r n H
 
   root_new : r ≢ n
@@ -247,7 +247,7 @@ module _ {E : Type 0} (o : Order E) (bottom top : E) (N M : ℕ → Node E) (g :
             right = l.right;
             node = V.else x w v ∙ l.node;
             there = l.there;
-            leads = subst (λ (z : Place). (z ≡ tree r' 0) ⊎ (z ≡ left r')) (sym (place_else l.right rr rn)) l.leads;
+            leads = subst (λ (z : TreePlace). (z ≡ tree r' 0) ⊎ (z ≡ left r')) (sym (place_else l.right rr rn)) l.leads;
             lower = subst₂ (λ (s t : E). AtMost o top s t) (sym (low_else l.right rn)) (sym (low_else x v)) l.lower;
           }
     ]

@@ -1,16 +1,16 @@
--- The leaves of a tree in order: one stands before each but the first, and each has what is between its bounds.
+-- The leaves of a tree in order: one is before each but the first, and each has what is between its bounds.
 use Rattle.std.proofs.Common.{◌≡◌, ◌≢◌, ◌⊎◌, ◌+◌, ℕ, zero, suc, List, [], ◌∷◌, ◌++◌, map, refl, sym, ap, subst, ◌∙◌, inl, inr, arith}
 use Rattle.core_state.specs.Log.{Pages, In}
 use Rattle.core_state.specs.PagesTold.{LeavesInOrder}
-use Rattle.core_state.specs.Trees.Nodes.{Order, Child, Node, Ghost, AtMost, Kids, Sane}
-use Rattle.core_state.specs.Trees.Nodes.Place.{none, tree}
+use Rattle.core_state.specs.Trees.Nodes.{Order, Child, Node, TreeGhost, AtMost, Kids, Sane}
+use Rattle.core_state.specs.Trees.Nodes.TreePlace.{none, tree}
 use Rattle.core_state.proofs.Trees.Order.{tree_not_none, at_most_less}
 use Rattle.core_state.proofs.Trees.Below.{Rooted, child_pages, children}
 use Rattle.core_state.proofs.Trees.Find.{right_in, one_cover, one_low, one_high, right_here}
 use Rattle.core_state.proofs.Law.Rooted.{AreRooted}
 
 -- the last of some children ends where they end
-pub kids_last : {A E : Type 0} (o : Order E) (top : E) (g : Ghost E) (f : A → Child E) (r h : ℕ) (lo hi : E) (a : A)
+pub kids_last : {A E : Type 0} (o : Order E) (top : E) (g : TreeGhost E) (f : A → Child E) (r h : ℕ) (lo hi : E) (a : A)
     (as' : List A) → Kids o top g r h lo (map f (a ∷ as')) hi
     → (front : List A) × (last : A) × (a ∷ as' ≡ front ++ last ∷ []) × ((f last).bound ≡ hi)
     × (g.place (f last).page ≡ tree r h) × (g.high (f last).page ≡ hi)
@@ -24,7 +24,7 @@ map_same [] = refl
 map_same (a ∷ as') = ap (λ (l : List _). a ∷ l) (map_same as')
 
 module _ {E : Type 0} (o : Order E) (bottom top : E) (lowest : (x : E) → o.less x bottom → ⊥)
-    (greatest : (x : E) → o.less top x → ⊥) (N : ℕ → Node E) (g : Ghost E) (S : Sane o top N g)
+    (greatest : (x : E) → o.less top x → ⊥) (N : ℕ → Node E) (g : TreeGhost E) (S : Sane o top N g)
     (A : AreRooted bottom top N g) (r t : ℕ) (root : g.place r ≡ tree r t) where
   T : Rooted N g r t
   T = A.roots r t root

@@ -1,14 +1,14 @@
 -- A new tree, and other keys on one leaf, keep the trees sane; so does a step that touches no page of a tree.
 use Rattle.std.proofs.Common.{◌≡◌, ◌≢◌, ◌⊎◌, ℕ, suc, refl, sym, ap, subst, subst₂, ◌∙◌, inl, inr, arith}
-use Rattle.core_state.specs.Trees.Nodes.{Order, Node, Place, Ghost, put, AtMost, RightOk, Kids, LeafOk, InnerOk, LeftOk, Sane}
+use Rattle.core_state.specs.Trees.Nodes.{Order, Node, TreePlace, TreeGhost, put, AtMost, RightOk, Kids, LeafOk, InnerOk, LeftOk, Sane}
 use Rattle.core_state.specs.Trees.Nodes.Node.{leaf}
-use Rattle.core_state.specs.Trees.Nodes.Place.{none, tree, left}
-use Rattle.core_state.specs.Inner.Shapes.{IsMakeTree, IsNewKeys}
+use Rattle.core_state.specs.Trees.Nodes.TreePlace.{none, tree, left}
+use Rattle.core_state.specs.Inner.Shapes.{IsNewTree, IsNewKeys}
 use Rattle.core_state.proofs.PageLists.{same_or_not}
 use Rattle.core_state.proofs.Trees.Order.{put_here, put_else, tree_not_none, tree_not_left, left_not_none, same_tree, zero_suc, same_leaf}
 use Rattle.core_state.proofs.Trees.Kids.{kid_place, kids_kept}
 
-module _ {E : Type 0} (o : Order E) (top : E) (N M : ℕ → Node E) (g : Ghost E) (S : Sane o top N g) (same : (p : ℕ)
+module _ {E : Type 0} (o : Order E) (top : E) (N M : ℕ → Node E) (g : TreeGhost E) (S : Sane o top N g) (same : (p : ℕ)
     → g.place p ≢ none → M p ≡ N p) where
   pub quiet_keeps : Sane o top M g
   quiet_keeps = record {
@@ -43,7 +43,7 @@ module _ {E : Type 0} (o : Order E) (top : E) (N M : ℕ → Node E) (g : Ghost 
     apart = S.apart;
   }
 
-module _ {E : Type 0} (o : Order E) (top : E) (N M : ℕ → Node E) (g : Ghost E) (S : Sane o top N g) (p r : ℕ)
+module _ {E : Type 0} (o : Order E) (top : E) (N M : ℕ → Node E) (g : TreeGhost E) (S : Sane o top N g) (p r : ℕ)
     (V : IsNewKeys N M g top o p r) where
   here : LeafOk o top M g p r
   here = record {
@@ -90,13 +90,13 @@ module _ {E : Type 0} (o : Order E) (top : E) (N M : ℕ → Node E) (g : Ghost 
     apart = S.apart;
   }
 
-abbrev pub make_ghost : {E : Type 0} → Ghost E → E → E → ℕ → Ghost E
+abbrev pub make_ghost : {E : Type 0} → TreeGhost E → E → E → ℕ → TreeGhost E
 make_ghost g bottom top n =
     record { place = put g.place n (tree n 0); low = put g.low n bottom; high = put g.high n top }
 
-module _ {E : Type 0} (o : Order E) (bottom top : E) (wide : o.less bottom top) (N M : ℕ → Node E) (g : Ghost E)
-    (S : Sane o top N g) (n : ℕ) (V : IsMakeTree N M g bottom top o n) where
-  g' : Ghost E
+module _ {E : Type 0} (o : Order E) (bottom top : E) (wide : o.less bottom top) (N M : ℕ → Node E) (g : TreeGhost E)
+    (S : Sane o top N g) (n : ℕ) (V : IsNewTree N M g bottom top o n) where
+  g' : TreeGhost E
   g' = make_ghost g bottom top n
 
   place_new : g'.place n ≡ tree n 0
@@ -204,7 +204,7 @@ module _ {E : Type 0} (o : Order E) (bottom top : E) (wide : o.less bottom top) 
           right = l.right;
           node = V.else x w ∙ l.node;
           there = l.there;
-          leads = subst (λ (z : Place). (z ≡ tree r 0) ⊎ (z ≡ left r)) (sym (place_else l.right u)) l.leads;
+          leads = subst (λ (z : TreePlace). (z ≡ tree r 0) ⊎ (z ≡ left r)) (sym (place_else l.right u)) l.leads;
           lower = subst₂ (λ (s t : E). AtMost o top s t) (sym (low_else l.right u)) (sym (low_else x w)) l.lower;
         }
   ]

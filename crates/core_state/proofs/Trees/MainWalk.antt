@@ -1,29 +1,29 @@
 -- The main part of a walk over real steps: an item that stays under a key that is sought is read under it.
 use Rattle.std.proofs.Common.{◌≡◌, ◌≢◌, ◌⊎◌, ◌<◌, ◌≤◌, ◌+◌, ◌-◌, ℕ, zero, suc, Bool, true, false, List, [], ◌∷◌, ◌++◌, refl, sym, ap, subst, subst₂, ◌∙◌, inl, inr, arith}
 use Rattle.core_state.specs.Log.{In}
-use Rattle.core_state.specs.Trees.Nodes.{Order, Child, Node, Ghost, AtMost, Kids, Sane}
-use Rattle.core_state.specs.Trees.Nodes.Place.{none, tree}
+use Rattle.core_state.specs.Trees.Nodes.{Order, Child, Node, TreeGhost, AtMost, Kids, Sane}
+use Rattle.core_state.specs.Trees.Nodes.TreePlace.{none, tree}
 use Rattle.core_state.proofs.Trees.Walk.{Read, Rising, rising_end, Follows, along, IsIn, keys_of, meets}
 use Rattle.core_state.proofs.Trees.Walk as walking
 use Rattle.core_state.proofs.Trees.Steps.{Grows, Step, Keeps, OnTree, step_keeps, step_nil, step_stays, step_items, grows_live, grows_level}
 use Rattle.core_state.proofs.Trees.EntryWalk.{LeafRead, tree_reads, leaf_reads, rising_front, rising_back, toward, LeadTo, AreLeaves, finds}
 
 -- the steps between two moments, from a sane beginning
-pub record Run {E : Type 0} (o : Order E) (bottom top : E) (N : ℕ → ℕ → Node E) (g : ℕ → Ghost E)
+pub record Run {E : Type 0} (o : Order E) (bottom top : E) (N : ℕ → ℕ → Node E) (g : ℕ → TreeGhost E)
     (start end : ℕ) : Type 0 where
   pub first : Sane o top (N start) (g start)
   pub zero_page : (g start).place 0 ≡ none
   pub steps : (t : ℕ) → start ≤ t → t < end → Step o bottom top (N t) (N (t + 1)) (g t) (g (t + 1))
 
 -- the same of a tree that only grows
-pub record GrowRun {E : Type 0} (o : Order E) (bottom top : E) (N : ℕ → ℕ → Node E) (g : ℕ → Ghost E)
+pub record GrowRun {E : Type 0} (o : Order E) (bottom top : E) (N : ℕ → ℕ → Node E) (g : ℕ → TreeGhost E)
     (start end : ℕ) : Type 0 where
   pub first : Sane o top (N start) (g start)
   pub zero_page : (g start).place 0 ≡ none
   pub steps : (t : ℕ) → start ≤ t → t < end → Grows o bottom top (N t) (N (t + 1)) (g t) (g (t + 1))
 
 module _ {E : Type 0} (o : Order E) (bottom top : E) (least : (x : E) → AtMost o top x top) (wide : o.less bottom top)
-    (N : ℕ → ℕ → Node E) (g : ℕ → Ghost E) (start end : ℕ) (R : Run o bottom top N g start end) where
+    (N : ℕ → ℕ → Node E) (g : ℕ → TreeGhost E) (start end : ℕ) (R : Run o bottom top N g start end) where
   run_from : (d t : ℕ) → start + d ≡ t → t ≤ end → Sane o top (N t) (g t) × ((g t).place 0 ≡ none)
   run_from zero t e l = subst (λ (s : ℕ). Sane o top (N s) (g s) × ((g s).place 0 ≡ none)) (omega (arith, e))
       (R.first, R.zero_page)
@@ -195,7 +195,7 @@ leaf_time t end (d ∷ ls) l rise (inr m) =
 
 module _ {E I : Type 0} (o : Order E) (bottom top : E) (least : (x : E) → AtMost o top x top) (wide : o.less bottom top)
     (oi : Order I) (bottom_i top_i : I) (least_i : (x : I) → AtMost oi top_i x top_i) (wide_i : oi.less bottom_i top_i)
-    (N : ℕ → ℕ → Node E) (g : ℕ → Ghost E) (NP : ℕ → ℕ → Node I) (gp : ℕ → Ghost I) (start end : ℕ)
+    (N : ℕ → ℕ → Node E) (g : ℕ → TreeGhost E) (NP : ℕ → ℕ → Node I) (gp : ℕ → TreeGhost I) (start end : ℕ)
     (RE : GrowRun o bottom top N g start end) (RP : Run oi bottom_i top_i NP gp start end)
     (entries : ℕ → ℕ → List (Entry E I))
   where
@@ -205,7 +205,7 @@ module _ {E I : Type 0} (o : Order E) (bottom top : E) (least : (x : E) → AtMo
     entry_sane : (t : ℕ) → start ≤ t → t ≤ end → Sane o top (N t) (g t) × ((g t).place 0 ≡ none)
     entry_sane t a b = run_sane o bottom top least wide N g start end all_steps t a b
 
-    -- what stands under an entry at a moment
+    -- what is under an entry at a moment
     pub data Under (t : ℕ) (e : Entry E I) (i : I) : Type 0 where
       on_list : (is : List I) → e.postings ≡ inline is → In i is → Under t e i
       on_tree : (r h : ℕ) → e.postings ≡ root r → OnTree (NP t) (gp t) r i → (gp t).place r ≡ tree r h
@@ -220,7 +220,7 @@ module _ {E I : Type 0} (o : Order E) (bottom top : E) (least : (x : E) → AtMo
     abbrev pub Stands : E → I → ℕ → ℕ → Type 0
     Stands x i t p = (e : Entry E I) × In e (entries t p) × (e.key ≡ x) × Under t e i
 
-    -- the law of the entry phase over real steps: a leaf was read when what stays under x stood on it
+    -- the law of the entry phase over real steps: a leaf was read when what stays under x was on it
     pub main_finds : (upto : E → E → Bool) → ((k b : E) → upto k b ≡ true → AtMost o top k b)
         → ((k b : E) → upto k b ≡ false → o.less b k)
         → (k x : E) → AtMost o top k x → o.less bottom k → (goes : E → Bool)

@@ -1,4 +1,4 @@
--- What stands in lists.
+-- What is in lists.
 use Rattle.std.proofs.Common.{◌≡◌, ◌≢◌, ℕ, List, [], ◌∷◌, ◌++◌, map, refl, ap, subst, inl, inr}
 use Rattle.core_state.specs.Log.{In}
 use Rattle.core_state.proofs.PageLists.{in_back}

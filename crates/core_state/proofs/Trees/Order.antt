@@ -2,7 +2,7 @@
 use Rattle.std.proofs.Common.{◌≡◌, ◌≢◌, ℕ, suc, List, sym, subst, inl, inr, arith}
 use Rattle.core_state.specs.Trees.Nodes.{Order, Child, put, AtMost}
 use Rattle.core_state.specs.Trees.Nodes.Node.{leaf, inner, gone}
-use Rattle.core_state.specs.Trees.Nodes.Place.{none, tree, left}
+use Rattle.core_state.specs.Trees.Nodes.TreePlace.{none, tree, left}
 
 pub put_here : {A : Type 0} (f : ℕ → A) (p : ℕ) (x : A) → put f p x p ≡ x
 put_here f p x = grind arith
@@ -25,7 +25,7 @@ same_tree a b h i t = (cc, cc)
 pub same_left : (a b : ℕ) → left a ≡ left b → a ≡ b
 same_left a b e = cc
 
--- a leaf of a tree is no inner page, and no page stands one above itself
+-- a leaf of a tree is no inner page, and no page is one above itself
 pub zero_suc : (a b h : ℕ) → tree a 0 ≡ tree b (suc h) → ⊥
 zero_suc a b h t = let e = (same_tree a b 0 (suc h) t).1 in absurd (omega arith)
 

@@ -102,7 +102,7 @@ pub bound_at : (k : Key) → k ≢ [] → bound k ≡ at k
 bound_at [] n = absurd (n refl)
 bound_at (b ∷ bs) n = refl
 
--- what may stand under a bound is at most the bound
+-- what may be under a bound is at most the bound
 pub up_to_bound : (k high : Key) → UpTo k high → AtMost keys greatest (at k) (bound high)
 up_to_bound k [] u = inl tt
 up_to_bound k (b ∷ bs) (inl e) = absurd (cc)

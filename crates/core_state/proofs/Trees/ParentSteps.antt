@@ -1,10 +1,10 @@
 -- New trees, divided pages, grown roots and deleted leaves leave all trees hanging together below their roots.
 use Rattle.std.proofs.Common.{◌≡◌, ◌≢◌, ◌⊎◌, ◌≤◌, ℕ, zero, suc, ◌∷◌, ◌++◌, refl, sym, ap, ap₂, subst, ◌∙◌, inl, inr, arith}
 use Rattle.core_state.specs.Log.{In}
-use Rattle.core_state.specs.Trees.Nodes.{Order, Node, Place, Ghost, put, Sane, split_ghost}
+use Rattle.core_state.specs.Trees.Nodes.{Order, Node, TreePlace, TreeGhost, put, Sane, split_ghost}
 use Rattle.core_state.specs.Trees.Nodes.Node.{inner}
-use Rattle.core_state.specs.Trees.Nodes.Place.{tree, left}
-use Rattle.core_state.specs.Inner.Shapes.{IsMakeTree}
+use Rattle.core_state.specs.Trees.Nodes.TreePlace.{tree, left}
+use Rattle.core_state.specs.Inner.Shapes.{IsNewTree}
 use Rattle.core_state.proofs.PageLists.{same_or_not}
 use Rattle.core_state.proofs.Trees.Order.{put_here, put_else, tree_not_left, same_tree}
 use Rattle.core_state.proofs.Trees.Below.{child_pages, children}
@@ -13,8 +13,8 @@ use Rattle.core_state.proofs.Trees.Grow.{IsGrow, grow_ghost}
 use Rattle.core_state.proofs.Trees.Lists.{make_ghost}
 use Rattle.core_state.proofs.Trees.Parents.{HasParent, HangsOn, seen, pages_append, pages_front, pages_back, was, stays, not_new, lefts_stay}
 
-module _ {E : Type 0} (o : Order E) (bottom top : E) (N M : ℕ → Node E) (g : Ghost E) (H : HangsOn bottom top N g) where
-  pub make_hangs : (n : ℕ) → IsMakeTree N M g bottom top o n → HangsOn bottom top M (make_ghost g bottom top n)
+module _ {E : Type 0} (o : Order E) (bottom top : E) (N M : ℕ → Node E) (g : TreeGhost E) (H : HangsOn bottom top N g) where
+  pub make_hangs : (n : ℕ) → IsNewTree N M g bottom top o n → HangsOn bottom top M (make_ghost g bottom top n)
   make_hangs n V = record {
     parent = λ x s k e. elim (was bottom top N M g H n n 0 V.new x s k e) [
       | inl w ↦ inl (w.0 ∙ w.1)
@@ -157,7 +157,7 @@ module _ {E : Type 0} (o : Order E) (bottom top : E) (N M : ℕ → Node E) (g :
 
   -- a root grows
   module _ (S : Sane o top N g) (r n Hr : ℕ) (V : IsGrow N M g bottom top r n Hr) where
-    abbrev at_now : ℕ → Place
+    abbrev at_now : ℕ → TreePlace
     at_now = put (put g.place n (tree r Hr)) r (tree r (suc Hr))
 
     root_old_page : r ≢ n
@@ -187,7 +187,7 @@ module _ {E : Type 0} (o : Order E) (bottom top : E) (N M : ℕ → Node E) (g :
       ]
     ]
 
-    -- a tree's root, as it stands now
+    -- a tree's root, as it is now
     stands : (s k : ℕ) → g.place s ≡ tree s k → (j : ℕ) × (at_now s ≡ tree s j) × (k ≤ j)
     stands s k e = elim (same_or_not r s) [
       | inl w ↦ (

@@ -1,20 +1,20 @@
--- Trees that hang together below their roots do so behind each step.
+-- Trees that hang together below their roots do so after each step.
 use Rattle.std.proofs.Common.{◌≡◌, ◌≢◌, ◌⊎◌, ◌≤◌, ℕ, suc, List, [], ◌∷◌, ◌++◌, sym, ap, subst, ◌∙◌, inl, inr}
 use Rattle.core_state.specs.Log.{In}
-use Rattle.core_state.specs.Trees.Nodes.{Order, Child, Node, Place, Ghost, put}
-use Rattle.core_state.specs.Trees.Nodes.Place.{none, tree, left}
+use Rattle.core_state.specs.Trees.Nodes.{Order, Child, Node, TreePlace, TreeGhost, put}
+use Rattle.core_state.specs.Trees.Nodes.TreePlace.{none, tree, left}
 use Rattle.core_state.specs.Inner.Shapes.{IsNewKeys}
 use Rattle.core_state.proofs.PageLists.{same_or_not}
 use Rattle.core_state.proofs.Trees.Order.{put_here, put_else, tree_not_none, tree_not_left, same_tree}
 use Rattle.core_state.proofs.Trees.Below.{child_pages, children}
 use Rattle.core_state.proofs.Law.Rooted.{AreRooted}
 
--- page y of the tree r is the parent of x, which stands at height k
-abbrev pub HasParent : {E : Type 0} → (ℕ → Node E) → Ghost E → ℕ → ℕ → ℕ → Type 0
+-- page y of the tree r is the parent of x, which is at height k
+abbrev pub HasParent : {E : Type 0} → (ℕ → Node E) → TreeGhost E → ℕ → ℕ → ℕ → Type 0
 HasParent N g x r k = (y : ℕ) × (g.place y ≡ tree r (suc k)) × In x (children (N y))
 
 -- the same as that trees are rooted, page by page
-pub record HangsOn {E : Type 0} (bottom top : E) (N : ℕ → Node E) (g : Ghost E) : Type 0 where
+pub record HangsOn {E : Type 0} (bottom top : E) (N : ℕ → Node E) (g : TreeGhost E) : Type 0 where
   pub parent : (x r k : ℕ) → g.place x ≡ tree r k → (x ≡ r) ⊎ HasParent N g x r k
   pub highest : (x r k h : ℕ) → g.place x ≡ tree r k → g.place r ≡ tree r h → k ≤ h
   pub low : (r h : ℕ) → g.place r ≡ tree r h → g.low r ≡ bottom
@@ -22,7 +22,7 @@ pub record HangsOn {E : Type 0} (bottom top : E) (N : ℕ → Node E) (g : Ghost
   pub trees : (p r h : ℕ) → g.place p ≡ tree r h → (k : ℕ) × (g.place r ≡ tree r k)
   pub lefts : (p r : ℕ) → g.place p ≡ left r → (k : ℕ) × (g.place r ≡ tree r (suc k))
 
-module _ {E : Type 0} (bottom top : E) (N : ℕ → Node E) (g : Ghost E) where
+module _ {E : Type 0} (bottom top : E) (N : ℕ → Node E) (g : TreeGhost E) where
   pub hangs : AreRooted bottom top N g → HangsOn bottom top N g
   hangs A = record {
     parent = λ x r k e. let t = A.trees x r k e in (A.roots r t.0 t.1).parent x k e;
@@ -51,7 +51,7 @@ module _ {E : Type 0} (bottom top : E) (N : ℕ → Node E) (g : Ghost E) where
 pub seen : {E : Type 0} (x : ℕ) (a b : Node E) → a ≡ b → In x (children a) → In x (children b)
 seen x a b e m = subst (λ (z : Node _). In x (children z)) e m
 
--- a child's page is among the pages of the children, and some child is behind each
+-- a child's page is among the pages of the children, and some child is after each
 pub in_pages : {E : Type 0} (c : Child E) (cs : List (Child E)) → In c cs → In c.page (child_pages cs)
 in_pages c [] m = absurd m
 in_pages c (d ∷ cs) (inl e) = inl (ap (λ (z : Child _). z.page) e)
@@ -72,7 +72,7 @@ pub pages_back : {E : Type 0} (x : ℕ) (xs ys : List (Child E)) → In x (child
 pages_back x [] ys m = m
 pages_back x (c ∷ xs) ys m = inr (pages_back x xs ys m)
 
-module _ {E : Type 0} (bottom top : E) (N M : ℕ → Node E) (g : Ghost E) (H : HangsOn bottom top N g) where
+module _ {E : Type 0} (bottom top : E) (N M : ℕ → Node E) (g : TreeGhost E) (H : HangsOn bottom top N g) where
   -- pages that show the same children, or more
   pub same_places : ((x y r k : ℕ) → g.place y ≡ tree r (suc k) → In x (children (N y)) → In x (children (M y)))
       → HangsOn bottom top M g
@@ -95,9 +95,9 @@ module _ {E : Type 0} (bottom top : E) (N M : ℕ → Node E) (g : Ghost E) (H :
     | inr w ↦ subst (λ (z : Node E). In x (children z)) (sym (V.else y w)) m
   ])
 
-  -- a page n, which stood in no tree, gets a place
+  -- a page n, which was in no tree, gets a place
   module _ (n r h : ℕ) (new : g.place n ≡ none) where
-    abbrev places : ℕ → Place
+    abbrev places : ℕ → TreePlace
     places = put g.place n (tree r h)
 
     pub was : (x s k : ℕ) → places x ≡ tree s k → ((x ≡ n) × (r ≡ s) × (h ≡ k)) ⊎ ((x ≢ n) × (g.place x ≡ tree s k))

@@ -244,7 +244,7 @@ module _ {W : Type 0} (item : W → ℕ) (V : ℕ → Type 0) (rows : ℕ → �
           back : (n k : ℕ) → n ≤ k → n + (k - n) ≡ k
           back n k h = omega arith
 
-      -- what a read of the page p tells at s
+      -- what a read of the page p says at s
       pub record Seen (x : Read) : Type 0 where
         pub kept : In x.page (line start) → (extra : List W) × (rows x.time x.page ≡ rows start x.page ++ extra)
             × NoneOf extra

@@ -1,4 +1,4 @@
--- The row of a deleted leaf, as a step of the posting trees.
+-- The rule of a deleted leaf, as a step of the posting trees.
 use Rattle.std.proofs.Common.{◌≡◌, ◌≢◌, ℕ, suc, List, [], ◌∷◌, ◌++◌, map, refl, sym, ap, ap₂, subst, ◌∙◌, inl, inr}
 use Rattle.std.proofs.lemmas.List.{map-append}
 use Rattle.page_types.specs.Items.{items_of}
@@ -8,13 +8,13 @@ use Rattle.page_types.specs.declared.page.Body.TheVariants as body
 use Rattle.page_types.specs.declared.page.Gone.TheVariants as gone
 use Rattle.page_types.specs.declared.record.Record.{Record}
 use Rattle.core_state.specs.Log.{Log, Pages, In, changed}
-use Rattle.core_state.specs.TreeRows.{IsLeftLeaf, IsDeletePost}
+use Rattle.core_state.specs.TreeRules.{IsLeftLeaf, IsDeletePost}
 use Rattle.core_state.specs.Changes.{made_with}
 use Rattle.core_state.specs.Trees.Ext.{Ext}
 use Rattle.core_state.specs.Trees.Ext.Ext.{least, at, greatest}
-use Rattle.core_state.specs.Trees.Nodes.{Ghost, Sane, delete_ghost}
+use Rattle.core_state.specs.Trees.Nodes.{TreeGhost, Sane, delete_ghost}
 use Rattle.core_state.specs.Trees.Nodes.Node.{leaf, inner}
-use Rattle.core_state.specs.Trees.Nodes.Place.{tree}
+use Rattle.core_state.specs.Trees.Nodes.TreePlace.{tree}
 use Rattle.core_state.specs.Trees.TreeNodes.{high_bound, child_bound, post_child, post_body, post_node, post_nodes}
 use Rattle.core_state.specs.Inner.TreePlaces.{PostPlaces, IsNoEntryPage, HasMeta}
 use Rattle.core_state.proofs.PageLists.{of_two, of_three, LeftLeaf, Unlinked, unlinked_pages}
@@ -42,7 +42,7 @@ leaf_page right (body.Heap s) a h ks e = absurd (cc)
 leaf_page right (body.Overflow s) a h ks e = absurd (cc)
 leaf_page right (body.Pending s) a h ks e = absurd (cc)
 
-module _ (R : Log) (P Q : Pages) (r : Record) (since : ℕ) (g : Ghost (Ext ℕ)) (S : Sane items greatest (post_nodes P) g)
+module _ (R : Log) (P Q : Pages) (r : Record) (since : ℕ) (g : TreeGhost (Ext ℕ)) (S : Sane items greatest (post_nodes P) g)
     (K : PostPlaces P since g) (elsewhere : (q : ℕ) → (In q (changed r) → ⊥) → Q q ≡ P q) (meta : HasMeta P)
     (V : IsDeletePost R P Q r) where
   abbrev page : ℕ

@@ -1,4 +1,4 @@
--- The row of a divided page, as a step of the posting trees.
+-- The rule of a divided page, as a step of the posting trees.
 use Rattle.std.proofs.Common.{◌≡◌, ◌≢◌, ◌<◌, ◌≤◌, ℕ, suc, List, [], ◌∷◌, ◌++◌, map, refl, sym, ap, subst, ◌∙◌, inl, inr, arith}
 use Rattle.std.proofs.lemmas.List.{map-append}
 use Rattle.page_types.specs.Items.{items_of}
@@ -9,13 +9,13 @@ use Rattle.page_types.specs.declared.page.Body.{Body}
 use Rattle.page_types.specs.declared.page.Body.TheVariants as body
 use Rattle.page_types.specs.declared.record.Record.{Record}
 use Rattle.core_state.specs.Log.{Pages, In}
-use Rattle.core_state.specs.TreeRows.{PostHalves, PostParent}
+use Rattle.core_state.specs.TreeRules.{PostHalves, PostParent}
 use Rattle.core_state.specs.Changes.{made_with}
 use Rattle.core_state.specs.Trees.Ext.{Ext}
 use Rattle.core_state.specs.Trees.Ext.Ext.{least, at, greatest}
-use Rattle.core_state.specs.Trees.Nodes.{Child, Ghost, AtMost, Sane, split_ghost}
+use Rattle.core_state.specs.Trees.Nodes.{Child, TreeGhost, AtMost, Sane, split_ghost}
 use Rattle.core_state.specs.Trees.Nodes.Node.{leaf, inner}
-use Rattle.core_state.specs.Trees.Nodes.Place.{none, tree}
+use Rattle.core_state.specs.Trees.Nodes.TreePlace.{none, tree}
 use Rattle.core_state.specs.Trees.TreeNodes.{high_bound, child_bound, post_child, post_body, post_node, post_nodes}
 use Rattle.core_state.specs.Inner.TreePlaces.{PostPlaces}
 use Rattle.core_state.proofs.Trees.Members.{some_map, of_map}
@@ -47,7 +47,7 @@ above_all mid is each k m =
     let i = of_map at k is m in
     subst (λ (z : Ext ℕ). items.less (at mid) z) (sym i.2) (each i.0 i.1)
 
-module _ (P Q : Pages) (r : Record) (page new parent since : ℕ) (g : Ghost (Ext ℕ))
+module _ (P Q : Pages) (r : Record) (page new parent since : ℕ) (g : TreeGhost (Ext ℕ))
     (S : Sane items greatest (post_nodes P) g) (K : PostPlaces P since g) (fresh : g.place new ≡ none)
     (not_zero : new ≢ 0)
     (else : (x : ℕ) → x ≢ page → x ≢ new → x ≢ parent → Q x ≡ P x) (mid : ℕ) (pb pa : Body)

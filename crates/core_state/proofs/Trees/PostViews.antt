@@ -7,12 +7,12 @@ use Rattle.page_types.specs.declared.page.PostChild.{PostChild}
 use Rattle.page_types.specs.declared.page.Body.TheVariants as body
 use Rattle.core_state.specs.Log.{Pages, In}
 use Rattle.core_state.specs.Changes.{ItemUpTo}
-use Rattle.core_state.specs.TreeRows.{TowardItem}
+use Rattle.core_state.specs.TreeRules.{TowardItem}
 use Rattle.core_state.specs.Trees.Ext.{Ext}
 use Rattle.core_state.specs.Trees.Ext.Ext.{least, at, greatest}
-use Rattle.core_state.specs.Trees.Nodes.{Child, Ghost, AtMost, Sane}
+use Rattle.core_state.specs.Trees.Nodes.{Child, TreeGhost, AtMost, Sane}
 use Rattle.core_state.specs.Trees.Nodes.Node.{leaf, inner}
-use Rattle.core_state.specs.Trees.Nodes.Place.{tree}
+use Rattle.core_state.specs.Trees.Nodes.TreePlace.{tree}
 use Rattle.core_state.specs.Trees.TreeNodes.{high_bound, child_bound, post_child, post_body, post_node, post_nodes}
 use Rattle.core_state.specs.Inner.TreePlaces.{PostPlaces}
 use Rattle.core_state.proofs.Trees.Members.{of_map, in_middle}
@@ -23,11 +23,11 @@ use Rattle.core_state.proofs.Trees.Growing.{Growing, Stepping}
 use Rattle.core_state.proofs.Trees.Orders.{items, nat_order, below_top, high_bound_is, child_bound_is}
 
 -- the posting trees grow from the pages P to the pages Q
-abbrev pub PostGrows : Pages → Pages → Ghost (Ext ℕ) → Ghost (Ext ℕ) → Type 0
+abbrev pub PostGrows : Pages → Pages → TreeGhost (Ext ℕ) → TreeGhost (Ext ℕ) → Type 0
 PostGrows P Q g g' = Growing items least greatest (post_nodes P) (post_nodes Q) g g'
 
 -- a step of the posting trees, by which no other items leave
-abbrev pub PostStep : Pages → Pages → Ghost (Ext ℕ) → Ghost (Ext ℕ) → List ℕ → Type 0
+abbrev pub PostStep : Pages → Pages → TreeGhost (Ext ℕ) → TreeGhost (Ext ℕ) → List ℕ → Type 0
 PostStep P Q g g' removed =
     Stepping items least greatest (post_nodes P) (post_nodes Q) g g' (λ k. In k (map at removed))
 
@@ -46,7 +46,7 @@ at_most_item i j l = elim (split i j l) [ inl a ↦ inl a | inr a ↦ inr (ap at
     split : (i j : ℕ) → i ≤ j → (i < j) ⊎ (i ≡ j)
     split i j l = grind (arith, l)
 
--- what may stand under a high item is at most the bound
+-- what may be under a high item is at most the bound
 pub up_to_item : (i high : ℕ) → ItemUpTo i high → AtMost items greatest (at i) (high_bound high)
 up_to_item i high u = elim (high_bound_is high) [
   | inl e ↦ inl (subst (λ (z : Ext ℕ). items.less (at i) z) (sym e.1) tt)
@@ -61,7 +61,7 @@ item_less b i l m = elim (child_bound_is b) [
   | inr e ↦ subst (λ (z : Ext ℕ). items.less z (at i)) (sym e.1) m
 ]
 
-module _ (P : Pages) (since : ℕ) (g : Ghost (Ext ℕ)) (S : Sane items greatest (post_nodes P) g)
+module _ (P : Pages) (since : ℕ) (g : TreeGhost (Ext ℕ)) (S : Sane items greatest (post_nodes P) g)
     (K : PostPlaces P since g) where
   -- the way down for an item leads to a page that begins below it
   pub toward_low : (i p q r h : ℕ) → TowardItem P i p q → g.place p ≡ tree r h → items.less (g.low p) (at i)

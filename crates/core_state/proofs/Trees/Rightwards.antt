@@ -1,11 +1,11 @@
--- Along right links each leaf, also one that was deleted, leads to the leaf that covers a key behind it.
+-- Along right links each leaf, also one that was deleted, leads to the leaf that covers a key after it.
 use Rattle.std.proofs.Common.{◌≡◌, ◌≢◌, ◌⊎◌, ◌<◌, ◌≤◌, ℕ, zero, suc, sym, ap, subst, ◌∙◌, inl, inr, arith}
-use Rattle.core_state.specs.Trees.Nodes.{Order, Node, Ghost, AtMost, Sane}
-use Rattle.core_state.specs.Trees.Nodes.Place.{none, tree, left}
+use Rattle.core_state.specs.Trees.Nodes.{Order, Node, TreeGhost, AtMost, Sane}
+use Rattle.core_state.specs.Trees.Nodes.TreePlace.{none, tree, left}
 use Rattle.core_state.proofs.Trees.Order.{tree_not_none, left_not_none, at_most_less}
 use Rattle.core_state.proofs.Trees.Find.{right_in, right_here, one_cover}
 
--- page q is p, or comes behind it along right links
+-- page q is p, or comes after it along right links
 pub data Along {E : Type 0} (N : ℕ → Node E) (p : ℕ) : ℕ → Type 0 where
   here : Along N p p
   next : {q : ℕ} → Along N p q → right_in (N q) ≢ 0 → Along N p (right_in (N q))
@@ -15,15 +15,15 @@ along_from N p q n Along.here = Along.next Along.here n
 along_from N p q n (Along.next {q = x} a m) = Along.next (along_from N p x n a) m
 
 -- a number for each page that falls along right links of pages of trees
-abbrev pub Falls : {E : Type 0} → (ℕ → Node E) → Ghost E → (ℕ → ℕ) → Type 0
+abbrev pub Falls : {E : Type 0} → (ℕ → Node E) → TreeGhost E → (ℕ → ℕ) → Type 0
 Falls N g m = (p : ℕ) → g.place p ≢ none → right_in (N p) ≢ 0 → m (right_in (N p)) < m p
 
 -- a leaf of the tree r, live or deleted, that begins below a key
-pub record BeginsBelow {E : Type 0} (o : Order E) (g : Ghost E) (r : ℕ) (k : E) (p : ℕ) : Type 0 where
+pub record BeginsBelow {E : Type 0} (o : Order E) (g : TreeGhost E) (r : ℕ) (k : E) (p : ℕ) : Type 0 where
   pub leaf : (g.place p ≡ tree r 0) ⊎ (g.place p ≡ left r)
   pub low : o.less (g.low p) k
 
-module _ {E : Type 0} (o : Order E) (top : E) (least : (x : E) → AtMost o top x top) (N : ℕ → Node E) (g : Ghost E)
+module _ {E : Type 0} (o : Order E) (top : E) (least : (x : E) → AtMost o top x top) (N : ℕ → Node E) (g : TreeGhost E)
     (S : Sane o top N g) (m : ℕ → ℕ) (falls : Falls N g m)
     (q r : ℕ) (k : E) (at_q : g.place q ≡ tree r 0) (low_q : o.less (g.low q) k)
     (high_q : AtMost o top k (g.high q)) where

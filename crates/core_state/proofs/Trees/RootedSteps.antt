@@ -1,9 +1,9 @@
 -- Each step of trees leaves them hanging together below their roots.
 use Rattle.std.proofs.Common.{◌≡◌, ◌≢◌, ◌⊎◌, ℕ, zero, suc, List, [], ◌∷◌, ◌++◌, refl, sym, ap, subst, ◌∙◌, inl, inr, arith}
 use Rattle.core_state.specs.Log.{In}
-use Rattle.core_state.specs.Trees.Nodes.{Order, Node, Place, Ghost, put, Sane, IsSplitLeaf, IsDeleteLeaf, delete_ghost}
+use Rattle.core_state.specs.Trees.Nodes.{Order, Node, TreePlace, TreeGhost, put, Sane, IsSplitLeaf, IsDeleteLeaf, delete_ghost}
 use Rattle.core_state.specs.Trees.Nodes.Node.{leaf, inner}
-use Rattle.core_state.specs.Trees.Nodes.Place.{tree, left}
+use Rattle.core_state.specs.Trees.Nodes.TreePlace.{tree, left}
 use Rattle.core_state.specs.Inner.Shapes.{IsSplitInner}
 use Rattle.core_state.proofs.PageLists.{same_or_not, in_back}
 use Rattle.core_state.proofs.Trees.Order.{put_here, put_else, tree_not_left, same_tree, same_left}
@@ -15,14 +15,14 @@ use Rattle.core_state.proofs.Trees.Parents.{HasParent, HangsOn, hangs, rooted, s
 use Rattle.core_state.proofs.Trees.ParentSteps.{make_hangs, division_hangs, grow_hangs}
 use Rattle.core_state.proofs.Law.Rooted.{AreRooted}
 
-module _ {E : Type 0} (o : Order E) (bottom top : E) (N M : ℕ → Node E) (g : Ghost E) (H : HangsOn bottom top N g)
+module _ {E : Type 0} (o : Order E) (bottom top : E) (N M : ℕ → Node E) (g : TreeGhost E) (H : HangsOn bottom top N g)
     (S : Sane o top N g) where
   -- an empty leaf is deleted
   module _ (d q r : ℕ) (V : IsDeleteLeaf o top N M g d q r) where
     abbrev next : ℕ
     next = V.next.page
 
-    abbrev at_now : ℕ → Place
+    abbrev at_now : ℕ → TreePlace
     at_now = put g.place d (left r)
 
     before : (x s k : ℕ) → at_now x ≡ tree s k → (x ≢ d) × (g.place x ≡ tree s k)
@@ -116,10 +116,10 @@ module _ {E : Type 0} (o : Order E) (bottom top : E) (N M : ℕ → Node E) (g :
       first : In x (child_pages (V.front ++ V.last ∷ [])) → In x (children (M p))
       first m = seen x (inner n (V.front ++ V.last ∷ [])) (M p) (sym V.after_page) m
 
-  abbrev Hangs : Ghost E → Type 0
+  abbrev Hangs : TreeGhost E → Type 0
   Hangs G = HangsOn bottom top M G
 
-  grows_hang : (g' : Ghost E) → Grows o bottom top N M g g' → Hangs g'
+  grows_hang : (g' : TreeGhost E) → Grows o bottom top N M g g' → Hangs g'
   grows_hang g' (Grows.quiet same e) = subst Hangs (sym e) (quiet_hangs bottom top N M g H same)
   grows_hang g' (Grows.new_keys p r V e) = subst Hangs (sym e) (new_keys_hang bottom top N M g H o p r V)
   grows_hang g' (Grows.make n V e) = subst Hangs (sym e) (make_hangs o bottom top N M g H n V)
@@ -131,12 +131,12 @@ module _ {E : Type 0} (o : Order E) (bottom top : E) (N M : ℕ → Node E) (g :
       (inner_division o top N M g S p n q r k V) (inner_moved p n q r k V))
   grows_hang g' (Grows.grow r n h V e) = subst Hangs (sym e) (grow_hangs o bottom top N M g H S r n h V)
 
-  step_hangs : (g' : Ghost E) → Step o bottom top N M g g' → Hangs g'
+  step_hangs : (g' : TreeGhost E) → Step o bottom top N M g g' → Hangs g'
   step_hangs g' (Step.grows s) = grows_hang g' s
   step_hangs g' (Step.delete d q r V e) = subst Hangs (sym e) (delete_hangs d q r V)
 
 -- trees that are sane and rooted stay rooted over each step
-pub rooted_step : {E : Type 0} (o : Order E) (bottom top : E) (N M : ℕ → Node E) (g g' : Ghost E) → Sane o top N g
+pub rooted_step : {E : Type 0} (o : Order E) (bottom top : E) (N M : ℕ → Node E) (g g' : TreeGhost E) → Sane o top N g
     → AreRooted bottom top N g → Step o bottom top N M g g' → AreRooted bottom top M g'
 rooted_step o bottom top N M g g' S A s =
     rooted bottom top M g' (step_hangs o bottom top N M g (hangs bottom top N g A) S g' s)

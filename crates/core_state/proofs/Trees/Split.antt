@@ -2,7 +2,7 @@
 -- parent and nothing else.
 use Rattle.std.proofs.Common.{◌≡◌, ◌≢◌, ℕ, suc, List, [], ◌∷◌, ◌++◌, sym, ap, subst, subst₂, ◌∙◌, arith}
 use Rattle.core_state.specs.Log.{In}
-use Rattle.core_state.specs.Trees.Nodes.{Order, Child, Node, Ghost, AtMost, RightOk, Kids, LeafOk, InnerOk, Sane, IsSplitLeaf, split_ghost}
+use Rattle.core_state.specs.Trees.Nodes.{Order, Child, Node, TreeGhost, AtMost, RightOk, Kids, LeafOk, InnerOk, Sane, IsSplitLeaf, split_ghost}
 use Rattle.core_state.specs.Trees.Nodes.Node.{leaf}
 use Rattle.core_state.specs.Inner.Shapes.{IsSplitInner}
 use Rattle.core_state.proofs.Trees.Order.{same_leaf, same_inner}
@@ -12,7 +12,7 @@ use Rattle.core_state.proofs.Trees.Division.{IsDivision, now, low_page, low_new,
 zero_not_suc : (h : ℕ) → 0 ≡ suc h → ⊥
 zero_not_suc h e = omega arith
 
-module _ {E : Type 0} (o : Order E) (top : E) (N M : ℕ → Node E) (g : Ghost E) (S : Sane o top N g)
+module _ {E : Type 0} (o : Order E) (top : E) (N M : ℕ → Node E) (g : TreeGhost E) (S : Sane o top N g)
     (p n q r : ℕ) (m : E) (V : IsSplitLeaf o top N M g p n q r m) where
   pub leaf_division : IsDivision o N M g p n q r 0 m
   leaf_division = record {
@@ -30,7 +30,7 @@ module _ {E : Type 0} (o : Order E) (top : E) (N M : ℕ → Node E) (g : Ghost 
     else = V.else;
   }
 
-  abbrev g' : Ghost E
+  abbrev g' : TreeGhost E
   g' = now o top N M g S p n q r 0 m leaf_division
 
   okp : LeafOk o top N g p r
@@ -77,7 +77,7 @@ cons_some : {A : Type 0} (xs : List A) (c : A) → xs ++ c ∷ [] ≢ []
 cons_some [] c e = cc
 cons_some (x ∷ xs) c e = cc
 
-module _ {E : Type 0} (o : Order E) (top : E) (N M : ℕ → Node E) (g : Ghost E) (S : Sane o top N g)
+module _ {E : Type 0} (o : Order E) (top : E) (N M : ℕ → Node E) (g : TreeGhost E) (S : Sane o top N g)
     (p n q r k : ℕ) (V : IsSplitInner N M g p n q r k) where
   abbrev m : E
   m = V.last.bound
@@ -114,7 +114,7 @@ module _ {E : Type 0} (o : Order E) (top : E) (N M : ℕ → Node E) (g : Ghost 
     else = V.else;
   }
 
-  abbrev g'' : Ghost E
+  abbrev g'' : TreeGhost E
   g'' = now o top N M g S p n q r (suc k) m inner_division
 
   kids_now : (lo hi : E) (cs : List (Child E)) → Kids o top g r k lo cs hi → Kids o top g'' r k lo cs hi

@@ -3,10 +3,10 @@
 use Rattle.std.proofs.Common.{◌≡◌, ◌≢◌, ℕ, suc, List, [], refl, sym, ap, subst, subst₂, ap₂, ◌∙◌, inl, inr}
 use Rattle.std.specs.Prelude.{⊤}
 use Rattle.core_state.specs.Log.{In}
-use Rattle.core_state.specs.Trees.Nodes.{Order, Node, Place, Ghost, put, AtMost, Sane, IsSplitLeaf, IsDeleteLeaf, split_ghost, delete_ghost}
+use Rattle.core_state.specs.Trees.Nodes.{Order, Node, TreePlace, TreeGhost, put, AtMost, Sane, IsSplitLeaf, IsDeleteLeaf, split_ghost, delete_ghost}
 use Rattle.core_state.specs.Trees.Nodes.Node.{leaf}
-use Rattle.core_state.specs.Trees.Nodes.Place.{none, tree, left}
-use Rattle.core_state.specs.Inner.Shapes.{IsSplitInner, IsMakeTree, IsNewKeys}
+use Rattle.core_state.specs.Trees.Nodes.TreePlace.{none, tree, left}
+use Rattle.core_state.specs.Inner.Shapes.{IsSplitInner, IsNewTree, IsNewKeys}
 use Rattle.core_state.proofs.PageLists.{same_or_not}
 use Rattle.core_state.proofs.Trees.Order.{put_here, put_else, tree_not_none, tree_not_left, left_not_none, same_tree, zero_suc, same_leaf}
 use Rattle.core_state.proofs.Trees.Split.{split_leaf_keeps, split_inner_keeps}
@@ -15,37 +15,37 @@ use Rattle.core_state.proofs.Trees.Delete.{delete_keeps, low_next_page}
 use Rattle.core_state.proofs.Trees.Walk.{keys_of, IsIn}
 use Rattle.core_state.proofs.Trees.Lists.{quiet_keeps, new_keys_keep, make_ghost, make_keeps}
 
-module _ {E : Type 0} (o : Order E) (bottom top : E) (N M : ℕ → Node E) (g : Ghost E) where
+module _ {E : Type 0} (o : Order E) (bottom top : E) (N M : ℕ → Node E) (g : TreeGhost E) where
   -- the steps of an entry tree, and those of a posting tree but the deletion
-  pub data Grows (g' : Ghost E) : Type 0 where
+  pub data Grows (g' : TreeGhost E) : Type 0 where
     quiet : ((p : ℕ) → g.place p ≢ none → M p ≡ N p) → g' ≡ g → Grows g'
     new_keys : (p r : ℕ) → IsNewKeys N M g top o p r → g' ≡ g → Grows g'
-    make : (n : ℕ) → IsMakeTree N M g bottom top o n → g' ≡ make_ghost g bottom top n → Grows g'
+    make : (n : ℕ) → IsNewTree N M g bottom top o n → g' ≡ make_ghost g bottom top n → Grows g'
     split_leaf : (p n q r : ℕ) (m : E) → IsSplitLeaf o top N M g p n q r m → g' ≡ split_ghost o top g p n r 0 m
         → Grows g'
     split_inner : (p n q r k : ℕ) (V : IsSplitInner N M g p n q r k)
         → g' ≡ split_ghost o top g p n r (suc k) V.last.bound → Grows g'
     grow : (r n H : ℕ) → IsGrow N M g bottom top r n H → g' ≡ grow_ghost g bottom top r n H → Grows g'
 
-  pub data Step (g' : Ghost E) : Type 0 where
+  pub data Step (g' : TreeGhost E) : Type 0 where
     grows : Grows g' → Step g'
     delete : (d q r : ℕ) (V : IsDeleteLeaf o top N M g d q r) → g' ≡ delete_ghost o top g d V.next.page r → Step g'
 
   -- the step does not remove the item
-  abbrev pub KeepsIn : (g' : Ghost E) → E → Grows g' → Type 0
+  abbrev pub KeepsIn : (g' : TreeGhost E) → E → Grows g' → Type 0
   KeepsIn g' i (new_keys p r V e) = In i V.keys → In i V.then
   KeepsIn g' i _ = ⊤
 
-  abbrev pub Keeps : (g' : Ghost E) → E → Step g' → Type 0
+  abbrev pub Keeps : (g' : TreeGhost E) → E → Step g' → Type 0
   Keeps g' i (grows s) = KeepsIn g' i s
   Keeps g' i _ = ⊤
 
 -- an item of the tree r
-abbrev pub OnTree : {E : Type 0} → (ℕ → Node E) → Ghost E → ℕ → E → Type 0
+abbrev pub OnTree : {E : Type 0} → (ℕ → Node E) → TreeGhost E → ℕ → E → Type 0
 OnTree N g r i = (q : ℕ) × (g.place q ≡ tree r 0) × In i (keys_of (N q))
 
 module _ {E : Type 0} (o : Order E) (bottom top : E) (least : (x : E) → AtMost o top x top) (wide : o.less bottom top)
-    (N M : ℕ → Node E) (g : Ghost E) (S : Sane o top N g) (nil : g.place 0 ≡ none) where
+    (N M : ℕ → Node E) (g : TreeGhost E) (S : Sane o top N g) (nil : g.place 0 ≡ none) where
   sane_split_leaf : (p n q r : ℕ) (m : E) → IsSplitLeaf o top N M g p n q r m
       → Sane o top M (split_ghost o top g p n r 0 m)
   sane_split_leaf p n q r m V = split_leaf_keeps o top N M g S p n q r m V
@@ -60,21 +60,21 @@ module _ {E : Type 0} (o : Order E) (bottom top : E) (least : (x : E) → AtMost
   sane_delete : (d q r : ℕ) (V : IsDeleteLeaf o top N M g d q r) → Sane o top M (delete_ghost o top g d V.next.page r)
   sane_delete d q r V = delete_keeps o top least N M g S d q r V nil
 
-  grows_keeps : (g' : Ghost E) → Grows o bottom top N M g g' → Sane o top M g'
-  grows_keeps g' (Grows.quiet same e) = subst (λ (G : Ghost E). Sane o top M G) (sym e) (quiet_keeps o top N M g S same)
+  grows_keeps : (g' : TreeGhost E) → Grows o bottom top N M g g' → Sane o top M g'
+  grows_keeps g' (Grows.quiet same e) = subst (λ (G : TreeGhost E). Sane o top M G) (sym e) (quiet_keeps o top N M g S same)
   grows_keeps g' (Grows.new_keys p r V e) =
-      subst (λ (G : Ghost E). Sane o top M G) (sym e) (new_keys_keep o top N M g S p r V)
+      subst (λ (G : TreeGhost E). Sane o top M G) (sym e) (new_keys_keep o top N M g S p r V)
   grows_keeps g' (Grows.make n V e) =
-      subst (λ (G : Ghost E). Sane o top M G) (sym e) (make_keeps o bottom top wide N M g S n V)
+      subst (λ (G : TreeGhost E). Sane o top M G) (sym e) (make_keeps o bottom top wide N M g S n V)
   grows_keeps g' (Grows.split_leaf p n q r m V e) =
-      subst (λ (G : Ghost E). Sane o top M G) (sym e) (sane_split_leaf p n q r m V)
+      subst (λ (G : TreeGhost E). Sane o top M G) (sym e) (sane_split_leaf p n q r m V)
   grows_keeps g' (Grows.split_inner p n q r k V e) =
-      subst (λ (G : Ghost E). Sane o top M G) (sym e) (sane_split_inner p n q r k V)
-  grows_keeps g' (Grows.grow r n H V e) = subst (λ (G : Ghost E). Sane o top M G) (sym e) (sane_grow r n H V)
+      subst (λ (G : TreeGhost E). Sane o top M G) (sym e) (sane_split_inner p n q r k V)
+  grows_keeps g' (Grows.grow r n H V e) = subst (λ (G : TreeGhost E). Sane o top M G) (sym e) (sane_grow r n H V)
 
-  pub step_keeps : (g' : Ghost E) → Step o bottom top N M g g' → Sane o top M g'
+  pub step_keeps : (g' : TreeGhost E) → Step o bottom top N M g g' → Sane o top M g'
   step_keeps g' (Step.grows s) = grows_keeps g' s
-  step_keeps g' (Step.delete d q r V e) = subst (λ (G : Ghost E). Sane o top M G) (sym e) (sane_delete d q r V)
+  step_keeps g' (Step.delete d q r V e) = subst (λ (G : TreeGhost E). Sane o top M G) (sym e) (sane_delete d q r V)
 
   not_new : (n p r h : ℕ) → g.place n ≡ none → g.place p ≡ tree r h → p ≢ n
   not_new n p r h new at e = tree_not_none r h (sym at ∙ ap g.place e ∙ new)
@@ -83,10 +83,10 @@ module _ {E : Type 0} (o : Order E) (bottom top : E) (least : (x : E) → AtMost
   not_new_left n p r new at e = left_not_none r (sym at ∙ ap g.place e ∙ new)
 
   -- what a walk knows of a page of a tree that only grows: its tree and its low bound
-  abbrev pub Live : Ghost E → ℕ → ℕ → Type 0
+  abbrev pub Live : TreeGhost E → ℕ → ℕ → Type 0
   Live g' r p = ((h : ℕ) × (g'.place p ≡ tree r h)) × (g'.low p ≡ g.low p)
 
-  live_new : (n p r h : ℕ) (x : Place) (l : E) → g.place n ≡ none → g.place p ≡ tree r h
+  live_new : (n p r h : ℕ) (x : TreePlace) (l : E) → g.place n ≡ none → g.place p ≡ tree r h
       → ((put g.place n x) p ≡ tree r h) × ((put g.low n l) p ≡ g.low p)
   live_new n p r h x l new at = let w = not_new n p r h new at in
       (put_else g.place n x p w ∙ at, put_else g.low n l p w)
@@ -110,38 +110,38 @@ module _ {E : Type 0} (o : Order E) (bottom top : E) (least : (x : E) → AtMost
         )
   ]
 
-  pub grows_live : (g' : Ghost E) → Grows o bottom top N M g g' → (p r h : ℕ) → g.place p ≡ tree r h → Live g' r p
-  grows_live g' (Grows.quiet same e) p r h at = subst (λ (G : Ghost E). Live G r p) (sym e) ((h, at), refl)
-  grows_live g' (Grows.new_keys s t V e) p r h at = subst (λ (G : Ghost E). Live G r p) (sym e) ((h, at), refl)
+  pub grows_live : (g' : TreeGhost E) → Grows o bottom top N M g g' → (p r h : ℕ) → g.place p ≡ tree r h → Live g' r p
+  grows_live g' (Grows.quiet same e) p r h at = subst (λ (G : TreeGhost E). Live G r p) (sym e) ((h, at), refl)
+  grows_live g' (Grows.new_keys s t V e) p r h at = subst (λ (G : TreeGhost E). Live G r p) (sym e) ((h, at), refl)
   grows_live g' (Grows.make n V e) p r h at =
-      subst (λ (G : Ghost E). Live G r p) (sym e) (let l = live_new n p r h (tree n 0) bottom V.new at in
+      subst (λ (G : TreeGhost E). Live G r p) (sym e) (let l = live_new n p r h (tree n 0) bottom V.new at in
       ((h, l.0), l.1))
   grows_live g' (Grows.split_leaf s n q t m V e) p r h at =
-      subst (λ (G : Ghost E). Live G r p) (sym e) (let l = live_new n p r h (tree t 0) m V.new at in ((h, l.0), l.1))
+      subst (λ (G : TreeGhost E). Live G r p) (sym e) (let l = live_new n p r h (tree t 0) m V.new at in ((h, l.0), l.1))
   grows_live g' (Grows.split_inner s n q t k V e) p r h at =
-      subst (λ (G : Ghost E). Live G r p) (sym e) (let l = live_new n p r h (tree t (suc k)) V.last.bound V.new at in
+      subst (λ (G : TreeGhost E). Live G r p) (sym e) (let l = live_new n p r h (tree t (suc k)) V.last.bound V.new at in
       ((h, l.0), l.1))
   grows_live g' (Grows.grow s n H V e) p r h at =
-      subst (λ (G : Ghost E). Live G r p) (sym e) (live_grow s n H p r h V at)
+      subst (λ (G : TreeGhost E). Live G r p) (sym e) (live_grow s n H p r h V at)
 
   -- only a root changes its height, and a root has the least low bound
-  pub grows_level : (g' : Ghost E) → Grows o bottom top N M g g' → (p r h : ℕ) → g.place p ≡ tree r h
+  pub grows_level : (g' : TreeGhost E) → Grows o bottom top N M g g' → (p r h : ℕ) → g.place p ≡ tree r h
       → o.less bottom (g.low p) → (g'.place p ≡ tree r h) × (g'.low p ≡ g.low p)
   grows_level g' (Grows.quiet same e) p r h at l =
-      subst (λ (G : Ghost E). (G.place p ≡ tree r h) × (G.low p ≡ g.low p)) (sym e) (at, refl)
+      subst (λ (G : TreeGhost E). (G.place p ≡ tree r h) × (G.low p ≡ g.low p)) (sym e) (at, refl)
   grows_level g' (Grows.new_keys s t V e) p r h at l =
-      subst (λ (G : Ghost E). (G.place p ≡ tree r h) × (G.low p ≡ g.low p)) (sym e) (at, refl)
+      subst (λ (G : TreeGhost E). (G.place p ≡ tree r h) × (G.low p ≡ g.low p)) (sym e) (at, refl)
   grows_level g' (Grows.make n V e) p r h at l =
-      subst (λ (G : Ghost E). (G.place p ≡ tree r h) × (G.low p ≡ g.low p)) (sym e)
+      subst (λ (G : TreeGhost E). (G.place p ≡ tree r h) × (G.low p ≡ g.low p)) (sym e)
       (live_new n p r h (tree n 0) bottom V.new at)
   grows_level g' (Grows.split_leaf s n q t m V e) p r h at l =
-      subst (λ (G : Ghost E). (G.place p ≡ tree r h) × (G.low p ≡ g.low p)) (sym e)
+      subst (λ (G : TreeGhost E). (G.place p ≡ tree r h) × (G.low p ≡ g.low p)) (sym e)
       (live_new n p r h (tree t 0) m V.new at)
   grows_level g' (Grows.split_inner s n q t k V e) p r h at l =
-      subst (λ (G : Ghost E). (G.place p ≡ tree r h) × (G.low p ≡ g.low p)) (sym e)
+      subst (λ (G : TreeGhost E). (G.place p ≡ tree r h) × (G.low p ≡ g.low p)) (sym e)
       (live_new n p r h (tree t (suc k)) V.last.bound V.new at)
   grows_level g' (Grows.grow s n H V e) p r h at l =
-      subst (λ (G : Ghost E). (G.place p ≡ tree r h) × (G.low p ≡ g.low p)) (sym e)
+      subst (λ (G : TreeGhost E). (G.place p ≡ tree r h) × (G.low p ≡ g.low p)) (sym e)
       (let w : p ≢ s = λ z. o.irrefl bottom (subst (λ (y : E). o.less bottom y) (ap g.low z ∙ V.low_root) l) in
       let u = not_new n p r h V.new at in (
         put_else (put g.place n (tree s H)) s (tree s (suc H)) p w ∙ put_else g.place n (tree s H) p u
@@ -150,10 +150,10 @@ module _ {E : Type 0} (o : Order E) (bottom top : E) (least : (x : E) → AtMost
       ))
 
   -- and of one that was deleted
-  abbrev pub Gone : Ghost E → ℕ → ℕ → Type 0
+  abbrev pub Gone : TreeGhost E → ℕ → ℕ → Type 0
   Gone g' r p = (g'.place p ≡ left r) × (g'.low p ≡ g.low p)
 
-  gone_new : (n p r : ℕ) (x : Place) (l : E) → g.place n ≡ none → g.place p ≡ left r → ((put g.place n x) p ≡ left r)
+  gone_new : (n p r : ℕ) (x : TreePlace) (l : E) → g.place n ≡ none → g.place p ≡ left r → ((put g.place n x) p ≡ left r)
       × ((put g.low n l) p ≡ g.low p)
   gone_new n p r x l new at = let w = not_new_left n p r new at in
       (put_else g.place n x p w ∙ at, put_else g.low n l p w)
@@ -168,18 +168,18 @@ module _ {E : Type 0} (o : Order E) (bottom top : E) (least : (x : E) → AtMost
         put_else g.low n bottom p u,
       )
 
-  pub grows_gone : (g' : Ghost E) → Grows o bottom top N M g g' → (p r : ℕ) → g.place p ≡ left r → Gone g' r p
-  grows_gone g' (Grows.quiet same e) p r at = subst (λ (G : Ghost E). Gone G r p) (sym e) (at, refl)
-  grows_gone g' (Grows.new_keys s t V e) p r at = subst (λ (G : Ghost E). Gone G r p) (sym e) (at, refl)
+  pub grows_gone : (g' : TreeGhost E) → Grows o bottom top N M g g' → (p r : ℕ) → g.place p ≡ left r → Gone g' r p
+  grows_gone g' (Grows.quiet same e) p r at = subst (λ (G : TreeGhost E). Gone G r p) (sym e) (at, refl)
+  grows_gone g' (Grows.new_keys s t V e) p r at = subst (λ (G : TreeGhost E). Gone G r p) (sym e) (at, refl)
   grows_gone g' (Grows.make n V e) p r at =
-      subst (λ (G : Ghost E). Gone G r p) (sym e) (gone_new n p r (tree n 0) bottom V.new at)
+      subst (λ (G : TreeGhost E). Gone G r p) (sym e) (gone_new n p r (tree n 0) bottom V.new at)
   grows_gone g' (Grows.split_leaf s n q t m V e) p r at =
-      subst (λ (G : Ghost E). Gone G r p) (sym e) (gone_new n p r (tree t 0) m V.new at)
+      subst (λ (G : TreeGhost E). Gone G r p) (sym e) (gone_new n p r (tree t 0) m V.new at)
   grows_gone g' (Grows.split_inner s n q t k V e) p r at =
-      subst (λ (G : Ghost E). Gone G r p) (sym e) (gone_new n p r (tree t (suc k)) V.last.bound V.new at)
-  grows_gone g' (Grows.grow s n H V e) p r at = subst (λ (G : Ghost E). Gone G r p) (sym e) (gone_grow s n H p r V at)
+      subst (λ (G : TreeGhost E). Gone G r p) (sym e) (gone_new n p r (tree t (suc k)) V.last.bound V.new at)
+  grows_gone g' (Grows.grow s n H V e) p r at = subst (λ (G : TreeGhost E). Gone G r p) (sym e) (gone_grow s n H p r V at)
 
-  abbrev pub Stays : Ghost E → ℕ → ℕ → Type 0
+  abbrev pub Stays : TreeGhost E → ℕ → ℕ → Type 0
   Stays g' r p = IsIn g' r p × AtMost o top (g'.low p) (g.low p)
 
   stays_delete : (d q s p r : ℕ) (V : IsDeleteLeaf o top N M g d q s) → IsIn g r p
@@ -207,27 +207,27 @@ module _ {E : Type 0} (o : Order E) (bottom top : E) (least : (x : E) → AtMost
       root (inl a) = ap left (same_tree s r 0 a.0 (sym V.at ∙ a.1)).0
       root (inr a) = absurd (tree_not_left s 0 r (sym V.at ∙ a))
 
-  pub step_stays : (g' : Ghost E) → Step o bottom top N M g g' → (p r : ℕ) → IsIn g r p → Stays g' r p
+  pub step_stays : (g' : TreeGhost E) → Step o bottom top N M g g' → (p r : ℕ) → IsIn g r p → Stays g' r p
   step_stays g' (Step.grows s) p r (inl a) = let l = grows_live g' s p r a.0 a.1 in (inl l.0, inr l.1)
   step_stays g' (Step.grows s) p r (inr a) = let l = grows_gone g' s p r a in (inr l.0, inr l.1)
   step_stays g' (Step.delete d q s V e) p r at =
-      subst (λ (G : Ghost E). Stays G r p) (sym e) (stays_delete d q s p r V at)
+      subst (λ (G : TreeGhost E). Stays G r p) (sym e) (stays_delete d q s p r V at)
 
   -- page 0 stays in no tree
-  pub step_nil : (g' : Ghost E) → Step o bottom top N M g g' → g'.place 0 ≡ none
-  step_nil g' (Step.grows (Grows.quiet same e)) = ap (λ (G : Ghost E). G.place 0) e ∙ nil
-  step_nil g' (Step.grows (Grows.new_keys s t V e)) = ap (λ (G : Ghost E). G.place 0) e ∙ nil
-  step_nil g' (Step.grows (Grows.make n V e)) = ap (λ (G : Ghost E). G.place 0) e
+  pub step_nil : (g' : TreeGhost E) → Step o bottom top N M g g' → g'.place 0 ≡ none
+  step_nil g' (Step.grows (Grows.quiet same e)) = ap (λ (G : TreeGhost E). G.place 0) e ∙ nil
+  step_nil g' (Step.grows (Grows.new_keys s t V e)) = ap (λ (G : TreeGhost E). G.place 0) e ∙ nil
+  step_nil g' (Step.grows (Grows.make n V e)) = ap (λ (G : TreeGhost E). G.place 0) e
       ∙ put_else g.place n (tree n 0) 0 (λ z. V.not_zero (sym z)) ∙ nil
-  step_nil g' (Step.grows (Grows.split_leaf s n q t m V e)) = ap (λ (G : Ghost E). G.place 0) e
+  step_nil g' (Step.grows (Grows.split_leaf s n q t m V e)) = ap (λ (G : TreeGhost E). G.place 0) e
       ∙ put_else g.place n (tree t 0) 0 (λ z. V.not_zero (sym z)) ∙ nil
-  step_nil g' (Step.grows (Grows.split_inner s n q t k V e)) = ap (λ (G : Ghost E). G.place 0) e
+  step_nil g' (Step.grows (Grows.split_inner s n q t k V e)) = ap (λ (G : TreeGhost E). G.place 0) e
       ∙ put_else g.place n (tree t (suc k)) 0 (λ z. V.not_zero (sym z)) ∙ nil
-  step_nil g' (Step.grows (Grows.grow s n H V e)) = ap (λ (G : Ghost E). G.place 0) e
+  step_nil g' (Step.grows (Grows.grow s n H V e)) = ap (λ (G : TreeGhost E). G.place 0) e
       ∙ put_else (put g.place n (tree s H)) s (tree s (suc H)) 0
       (λ z. tree_not_none s H (sym V.at ∙ ap g.place (sym z) ∙ nil))
       ∙ put_else g.place n (tree s H) 0 (λ z. V.not_zero (sym z)) ∙ nil
-  step_nil g' (Step.delete d q s V e) = ap (λ (G : Ghost E). G.place 0) e
+  step_nil g' (Step.delete d q s V e) = ap (λ (G : TreeGhost E). G.place 0) e
       ∙ put_else g.place d (left s) 0 (λ z. tree_not_none s 0 (sym V.at ∙ ap g.place (sym z) ∙ nil)) ∙ nil
 
   leaf_keys : (p right : ℕ) (high : E) (keys : List E) (i : E) → N p ≡ leaf right high keys → In i (keys_of (N p))
@@ -323,13 +323,13 @@ module _ {E : Type 0} (o : Order E) (bottom top : E) (least : (x : E) → AtMost
         ],
       )
 
-  items_grows : (g' : Ghost E) (s : Grows o bottom top N M g g') (r : ℕ) (i : E) → KeepsIn o bottom top N M g g' i s
+  items_grows : (g' : TreeGhost E) (s : Grows o bottom top N M g g') (r : ℕ) (i : E) → KeepsIn o bottom top N M g g' i s
       → OnTree N g r i → OnTree M g' r i
   items_grows g' (Grows.quiet same e) r i k (x, at, on) =
-      subst (λ (G : Ghost E). OnTree M G r i) (sym e)
+      subst (λ (G : TreeGhost E). OnTree M G r i) (sym e)
       (x, at, kept_keys x i (same x (λ z. tree_not_none r 0 (sym at ∙ z))) on)
   items_grows g' (Grows.new_keys p s V e) r i k (x, at, on) =
-      subst (λ (G : Ghost E). OnTree M G r i) (sym e) (elim (same_or_not p x) [
+      subst (λ (G : TreeGhost E). OnTree M G r i) (sym e) (elim (same_or_not p x) [
         | inl w ↦ (
           p,
           ap g.place (sym w)
@@ -340,18 +340,18 @@ module _ {E : Type 0} (o : Order E) (bottom top : E) (least : (x : E) → AtMost
         | inr w ↦ (x, at, kept_keys x i (V.else x w) on)
       ])
   items_grows g' (Grows.make n V e) r i k (x, at, on) =
-      subst (λ (G : Ghost E). OnTree M G r i) (sym e) (let u = not_new n x r 0 V.new at in
+      subst (λ (G : TreeGhost E). OnTree M G r i) (sym e) (let u = not_new n x r 0 V.new at in
       (x, put_else g.place n (tree n 0) x u ∙ at, kept_keys x i (V.else x u) on))
   items_grows g' (Grows.split_leaf p n q s m V e) r i k on =
-      subst (λ (G : Ghost E). OnTree M G r i) (sym e) (items_split p n q s r m i V on)
+      subst (λ (G : TreeGhost E). OnTree M G r i) (sym e) (items_split p n q s r m i V on)
   items_grows g' (Grows.split_inner p n q s h V e) r i k on =
-      subst (λ (G : Ghost E). OnTree M G r i) (sym e) (items_inner p n q s h r i V on)
+      subst (λ (G : TreeGhost E). OnTree M G r i) (sym e) (items_inner p n q s h r i V on)
   items_grows g' (Grows.grow s n H V e) r i k on =
-      subst (λ (G : Ghost E). OnTree M G r i) (sym e) (items_grow s n H r i V on)
+      subst (λ (G : TreeGhost E). OnTree M G r i) (sym e) (items_grow s n H r i V on)
 
   -- an item leaves its tree only where a step removes it
-  pub step_items : (g' : Ghost E) (s : Step o bottom top N M g g') (r : ℕ) (i : E) → Keeps o bottom top N M g g' i s
+  pub step_items : (g' : TreeGhost E) (s : Step o bottom top N M g g') (r : ℕ) (i : E) → Keeps o bottom top N M g g' i s
       → OnTree N g r i → OnTree M g' r i
   step_items g' (Step.grows s) r i k on = items_grows g' s r i k on
   step_items g' (Step.delete d q s V e) r i k on =
-      subst (λ (G : Ghost E). OnTree M G r i) (sym e) (items_delete d q s r i V on)
+      subst (λ (G : TreeGhost E). OnTree M G r i) (sym e) (items_delete d q s r i V on)

@@ -1,9 +1,9 @@
 -- A walk over rising moments along a posting tree meets each item that stays in the tree.
 use Rattle.std.proofs.Common.{◌≡◌, ◌≢◌, ◌⊎◌, ◌<◌, ◌≤◌, ◌+◌, ◌-◌, ℕ, zero, suc, List, [], ◌∷◌, refl, sym, ap, subst, ◌∙◌, inl, inr, arith}
 use Rattle.core_state.specs.Log.{In}
-use Rattle.core_state.specs.Trees.Nodes.{Order, Child, Node, Ghost, AtMost, RightOk, Kids, LeafOk, InnerOk, LeftOk, Sane}
+use Rattle.core_state.specs.Trees.Nodes.{Order, Child, Node, TreeGhost, AtMost, RightOk, Kids, LeafOk, InnerOk, LeftOk, Sane}
 use Rattle.core_state.specs.Trees.Nodes.Node.{other, leaf, inner, gone}
-use Rattle.core_state.specs.Trees.Nodes.Place.{none, tree, left}
+use Rattle.core_state.specs.Trees.Nodes.TreePlace.{none, tree, left}
 use Rattle.core_state.proofs.Trees.Order.{at_most_less}
 use Rattle.core_state.proofs.Trees.Find.{one_cover}
 
@@ -35,7 +35,7 @@ abbrev pub Rising : ℕ → ℕ → List Read → Type 0
 Rising t end [] = t ≤ end
 Rising t end (x ∷ xs) = (t ≤ x.time) × Rising x.time end xs
 
-abbrev pub IsIn : {E : Type 0} → Ghost E → ℕ → ℕ → Type 0
+abbrev pub IsIn : {E : Type 0} → TreeGhost E → ℕ → ℕ → Type 0
 IsIn g r p = ((h : ℕ) × (g.place p ≡ tree r h)) ⊎ (g.place p ≡ left r)
 
 pub rising_end : (t end : ℕ) (xs : List Read) → Rising t end xs → t ≤ end
@@ -43,7 +43,7 @@ rising_end t end [] h = h
 rising_end t end (x ∷ xs) h = omega (arith, h.0, rising_end x.time end xs h.1)
 
 module _ {E : Type 0} (o : Order E) (top : E) (least : (x : E) → AtMost o top x top) (N : ℕ → ℕ → Node E)
-    (g : ℕ → Ghost E) (start end r : ℕ) (i : E)
+    (g : ℕ → TreeGhost E) (start end r : ℕ) (i : E)
     (sane : (t : ℕ) → start ≤ t → t ≤ end → Sane o top (N t) (g t))
     (nil : (t : ℕ) → start ≤ t → t ≤ end → (g t).place 0 ≡ none)
     (stays : (t : ℕ) (p : ℕ) → start ≤ t → t < end → IsIn (g t) r p → IsIn (g (t + 1)) r p
@@ -67,7 +67,7 @@ module _ {E : Type 0} (o : Order E) (top : E) (least : (x : E) → AtMost o top 
     abbrev pub Met : List Read → Type 0
     Met xs = (x : Read) × In x xs × In i (keys_of (N x.time x.page))
 
-    -- what a read page tells: the item stands on it, or lies before the next page too
+    -- what a read page says: the item is on it, or lies before the next page too
     step : (t p : ℕ) → start ≤ t → t ≤ end → Before t p → In i (keys_of (N t p)) ⊎ Before t (along (N t p))
     step t p a b h = elim h.inside [
       | inl (zero, e) ↦ on_leaf ((sane t a b).leaves p r e) e

@@ -6,7 +6,7 @@ use Rattle.page_types.specs.declared.page.Head.{Head}
 use Rattle.core_state.specs.Log.{Log, Pages, In, fate}
 use Rattle.core_state.specs.Documents.{Doc, Has, IsWhole, IsDead, placed}
 use Rattle.core_state.specs.Index.{Pending, HasRow, Main, NoPair, AllMain}
-use Rattle.core_state.specs.VacuumRows.{MayLeave}
+use Rattle.core_state.specs.VacuumRules.{MayLeave}
 use Rattle.core_state.specs.Bullets.{WasIndexed, StaysIndexed}
 use Rattle.core_state.specs.declared.answers.Fate.TheVariants.{Running}
 

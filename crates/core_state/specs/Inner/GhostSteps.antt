@@ -1,4 +1,4 @@
--- Where records leave pages: the ghosts behind a record that makes, grows, divides or shortens a
+-- Where records leave pages: the ghosts after a record that makes, grows, divides or shortens a
 -- tree.
 use Rattle.std.specs.Prelude.{ℕ, suc}
 use Rattle.ts_base.specs.Keys.{Key}
@@ -27,7 +27,7 @@ made_tree g new key =
       key_of = put g.key_of new key;
     }
 
--- the root of the entry tree, of this height, stands one above the new page
+-- the root of the entry tree, of this height, is one above the new page
 abbrev pub grown_entries : Ghost → ℕ → ℕ → Ghost
 grown_entries g new h =
     record g {
@@ -45,7 +45,7 @@ grown_posts g root new h =
       high_item = put g.high_item new greatest;
     }
 
--- the new page of this height comes behind the page, from m on
+-- the new page of this height comes after the page, from m on
 abbrev pub split_entries : Ghost → ℕ → ℕ → ℕ → Ext Key → Ghost
 split_entries g page new h m =
     record g {

@@ -1,11 +1,11 @@
--- Where each page stands, and what a log's pages don't say of its trees.
+-- Where each page is, and what a log's pages don't say of its trees.
 use Rattle.std.specs.Prelude.{ℕ, List, []}
 use Rattle.ts_base.specs.Keys.{Key}
 use Rattle.core_state.specs.Trees.Nodes as nodes
 use Rattle.core_state.specs.Trees.Ext.{Ext}
 use Rattle.core_state.specs.Trees.Ext.Ext.{least}
 
--- where a page may stand; L is the length since which deleted pages are kept
+-- where a page may be; L is the length since which deleted pages are kept
 pub data Place : Type 0 where
   unused : Place
   meta : Place
@@ -37,21 +37,21 @@ pub record Ghost : Type 0 where
   pub line : List ℕ
 
 -- the place in the entry tree, whose root is page 1
-abbrev pub entry_place : Place → nodes.Place
-entry_place (entry h) = nodes.Place.tree 1 h
-entry_place _ = nodes.Place.none
+abbrev pub entry_place : Place → nodes.TreePlace
+entry_place (entry h) = nodes.TreePlace.tree 1 h
+entry_place _ = nodes.TreePlace.none
 
 -- the place in a posting tree
-abbrev pub post_place : Place → nodes.Place
-post_place (post r h) = nodes.Place.tree r h
-post_place (left r) = nodes.Place.left r
-post_place _ = nodes.Place.none
+abbrev pub post_place : Place → nodes.TreePlace
+post_place (post r h) = nodes.TreePlace.tree r h
+post_place (left r) = nodes.TreePlace.left r
+post_place _ = nodes.TreePlace.none
 
-abbrev pub entry_ghost : Ghost → nodes.Ghost (Ext Key)
+abbrev pub entry_ghost : Ghost → nodes.TreeGhost (Ext Key)
 entry_ghost g =
     record { place = λ p. entry_place (g.place p); low = g.low_key; high = g.high_key }
 
-abbrev pub post_ghost : Ghost → nodes.Ghost (Ext ℕ)
+abbrev pub post_ghost : Ghost → nodes.TreeGhost (Ext ℕ)
 post_ghost g =
     record { place = λ p. post_place (g.place p); low = g.low_item; high = g.high_item }
 

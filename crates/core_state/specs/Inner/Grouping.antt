@@ -1,4 +1,4 @@
--- The rows of a document stand together on the pages of the pending list, and but those of the
+-- The rows of a document are together on the pages of the pending list, and but those of the
 -- first row's document they are all there.
 use Rattle.std.specs.Prelude.{◌≡◌, ◌⊎◌, ℕ, List, [], ◌∷◌, map, ⊤}
 use Rattle.ts_base.specs.Vectors.{Vector}
@@ -32,7 +32,7 @@ abbrev pub IsFirst : ℕ → List (List Row) → Type 0
 IsFirst i [] = ⊥
 IsFirst i (y ∷ ys) = StartsPage i y
 
--- what has a row on a page and one further on is the first of the page directly behind
+-- what has a row on a page and one further on is the first of the page right after
 abbrev pub Grouped : List (List Row) → Type 0
 Grouped [] = ⊤
 Grouped (y ∷ ys) =

@@ -1,4 +1,4 @@
--- The place of a page tells its kind, and its kind its place; the first pages, the pending list and
+-- The place of a page says its kind, and its kind its place; the first pages, the pending list and
 -- the chains of documents.
 use Rattle.std.specs.Prelude.{◌≡◌, ◌≢◌, ◌↔◌, ℕ, zero, suc, ◌<◌, ◌≤◌, List, [], ◌∷◌, length, Option}
 use Rattle.ts_base.specs.Keys.{Key}

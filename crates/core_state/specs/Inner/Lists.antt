@@ -1,4 +1,4 @@
--- Lists of names that lie one behind the other.
+-- Lists of names that lie one after the other.
 use Rattle.std.specs.Prelude.{ℕ, List}
 use Rattle.page_types.specs.declared.page.Name.{Name}
 

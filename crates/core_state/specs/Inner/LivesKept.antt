@@ -13,7 +13,7 @@ pub record LivesValue : Type 0 where
   pub ends : List ℕ
   pub left : ℕ
 
--- the document stands in the list, as transaction x placed it
+-- the document is in the list, as transaction x placed it
 pub record IsPlacedAt (ps : List Placed) (d : Doc) (x : ℕ) : Type 0 where
   pub place : ℕ
   pub serial : d.serial ≡ suc place
@@ -24,7 +24,7 @@ pub record IsEnd (R : Log) (d : Doc) (e : ℕ) : Type 0 where
   pub none : e ≡ 0 → (y n : ℕ) → fate R y ≡ Committed n → In d (marked R y) → ⊥
   pub some : e ≢ 0 → (y : ℕ) × In d (marked R y) × (fate R y ≡ Committed e)
 
--- the lists tell of the log
+-- the lists say of the log
 pub record LivesKept (R : Log) (ps : List Placed) (es : List ℕ) : Type 0 where
   pub size : suc (length ps) ≡ next_serial R
   pub ends : length es ≡ length ps

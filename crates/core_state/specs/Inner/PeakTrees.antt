@@ -1,5 +1,5 @@
 -- A tree of greatest numbers over a row of numbers: node 1 is the root, node i has the nodes 2 * i and
--- 2 * i + 1 below it, and the row stands at the nodes from `width` on.
+-- 2 * i + 1 below it, and the row is at the nodes from `width` on.
 use Rattle.std.specs.Prelude.{◌≡◌, ◌≢◌, ◌⊎◌, ℕ, ◌+◌, ◌*◌, ◌^◌, ◌<◌, ◌≤◌, max, List, length, get_or}
 
 -- a node is the greater of the two below it
@@ -16,7 +16,7 @@ pub record IsWidth (width : ℕ) : Type 0 where
   pub power : (width ≡ 0) ⊎ ((k : ℕ) × (width ≡ 2 ^ k))
 
 -- the tree has its nodes
-pub record IsTree (width : ℕ) (t : List ℕ) : Type 0 where
+pub record IsPeakTree (width : ℕ) (t : List ℕ) : Type 0 where
   pub size : length t ≡ 2 * width
   pub peaks : (i : ℕ) → 0 < i → i < width → IsPeak t i
 

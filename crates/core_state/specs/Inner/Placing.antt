@@ -7,7 +7,7 @@ use Rattle.page_types.specs.declared.page.Name.{Name}
 use Rattle.page_types.specs.declared.page.Body.TheVariants as body
 use Rattle.page_types.specs.declared.record.Record.{Record}
 use Rattle.core_state.specs.Changes.{made_with, IsNew, PutsSlot}
-use Rattle.core_state.specs.HeapRows.{IsNewHead}
+use Rattle.core_state.specs.HeapRules.{IsNewHead}
 use Rattle.core_state.specs.declared.answers.PageUse.{PageUse}
 
 -- slot k, which was free or is the next, gets a new head with this serial, of this transaction, and

@@ -6,7 +6,7 @@ abbrev pub AreAbove : ℕ → List ℕ → Type 0
 AreAbove p [] = ⊤
 AreAbove p (q ∷ qs) = (p < q) × AreAbove p qs
 
--- each page is below those behind it
+-- each page is below those after it
 abbrev pub AreRising : List ℕ → Type 0
 AreRising [] = ⊤
 AreRising (p ∷ ps) = AreAbove p ps × AreRising ps

@@ -1,12 +1,12 @@
 -- More steps of a tree: the division of an inner page, a new tree, and the keys of a leaf.
 use Rattle.std.specs.Prelude.{◌≡◌, ◌≢◌, ℕ, suc, List, [], ◌∷◌, ◌++◌}
 use Rattle.core_state.specs.Log.{In}
-use Rattle.core_state.specs.Trees.Nodes.{Order, Child, Node, Ghost, AtMost}
+use Rattle.core_state.specs.Trees.Nodes.{Order, Child, Node, TreeGhost, AtMost}
 use Rattle.core_state.specs.Trees.Nodes.Node.{leaf, inner}
-use Rattle.core_state.specs.Trees.Nodes.Place.{none, tree, left}
+use Rattle.core_state.specs.Trees.Nodes.TreePlace.{none, tree, left}
 
--- the inner page p of height suc k in the tree r is divided behind the child last; the new page is n, the parent q
-pub record IsSplitInner {E : Type 0} (N M : ℕ → Node E) (g : Ghost E) (p n q r k : ℕ) : Type 0 where
+-- the inner page p of height suc k in the tree r is divided after the child last; the new page is n, the parent q
+pub record IsSplitInner {E : Type 0} (N M : ℕ → Node E) (g : TreeGhost E) (p n q r k : ℕ) : Type 0 where
   pub at : g.place p ≡ tree r (suc k)
   pub new : g.place n ≡ none
   pub not_zero : n ≢ 0
@@ -28,7 +28,7 @@ pub record IsSplitInner {E : Type 0} (N M : ℕ → Node E) (g : Ghost E) (p n q
   pub else : (x : ℕ) → x ≢ p → x ≢ n → x ≢ q → M x ≡ N x
 
 -- a new page n becomes a tree of one leaf
-pub record IsMakeTree {E : Type 0} (N M : ℕ → Node E) (g : Ghost E) (bottom top : E) (o : Order E)
+pub record IsNewTree {E : Type 0} (N M : ℕ → Node E) (g : TreeGhost E) (bottom top : E) (o : Order E)
     (n : ℕ) : Type 0 where
   pub new : g.place n ≡ none
   pub not_zero : n ≢ 0
@@ -40,7 +40,7 @@ pub record IsMakeTree {E : Type 0} (N M : ℕ → Node E) (g : Ghost E) (bottom 
   pub else : (x : ℕ) → x ≢ n → M x ≡ N x
 
 -- the keys of the leaf p become others within its bounds
-pub record IsNewKeys {E : Type 0} (N M : ℕ → Node E) (g : Ghost E) (top : E) (o : Order E) (p r : ℕ) : Type 0 where
+pub record IsNewKeys {E : Type 0} (N M : ℕ → Node E) (g : TreeGhost E) (top : E) (o : Order E) (p r : ℕ) : Type 0 where
   pub at : g.place p ≡ tree r 0
   pub right : ℕ
   pub keys : List E

@@ -12,8 +12,8 @@ use Rattle.core_state.specs.Known.{use_in}
 use Rattle.core_state.specs.Changes.{IsNew}
 use Rattle.core_state.specs.Index.{IsNamed}
 use Rattle.core_state.specs.Trees.Ext.{Ext}
-use Rattle.core_state.specs.Trees.Nodes.{Ghost}
-use Rattle.core_state.specs.Trees.Nodes.Place.{none, tree}
+use Rattle.core_state.specs.Trees.Nodes.{TreeGhost}
+use Rattle.core_state.specs.Trees.Nodes.TreePlace.{none, tree}
 
 -- the page is no page of the entry tree
 abbrev pub IsNoEntryPage : Body → Type 0
@@ -28,17 +28,17 @@ IsNoPostPage (PostInner children) = ⊥
 IsNoPostPage (Deleted (gone.PostLeaf high items)) = ⊥
 IsNoPostPage _ = ⊤
 
--- the pages of entries stand in the tree 1, leaves at height 0 and inner pages above, and no others
-pub record EntryPlaces (P : Pages) (g : Ghost (Ext Key)) : Type 0 where
+-- the pages of entries are in the tree 1, leaves at height 0 and inner pages above, and no others
+pub record EntryPlaces (P : Pages) (g : TreeGhost (Ext Key)) : Type 0 where
   pub leaf_at : (p : ℕ) (high : Key) (es : List Entry) → (P p).body ≡ EntryLeaf high es
       → g.place p ≡ tree 1 0
   pub inner_at : (p : ℕ) (cs : List EntryChild) → (P p).body ≡ EntryInner cs
       → (h : ℕ) × (g.place p ≡ tree 1 (suc h))
   pub none_at : (p : ℕ) → IsNoEntryPage (P p).body → g.place p ≡ none
 
--- The pages of postings stand in some tree, leaves at height 0 and inner pages above, and no others
--- but leaves that were deleted. A page that may be taken stands in none.
-pub record PostPlaces (P : Pages) (since : ℕ) (g : Ghost (Ext ℕ)) : Type 0 where
+-- The pages of postings are in some tree, leaves at height 0 and inner pages above, and no others
+-- but leaves that were deleted. A page that may be taken is in none.
+pub record PostPlaces (P : Pages) (since : ℕ) (g : TreeGhost (Ext ℕ)) : Type 0 where
   pub leaf_at : (p high : ℕ) (items : List ℕ) → (P p).body ≡ PostLeaf high items
       → (r : ℕ) × (g.place p ≡ tree r 0)
   pub inner_at : (p : ℕ) (cs : List PostChild) → (P p).body ≡ PostInner cs
@@ -51,5 +51,5 @@ abbrev pub HasMeta : Pages → Type 0
 HasMeta P = (first last count : ℕ) × ((P 0).body ≡ Meta first last count)
 
 -- each posting tree that an entry names is there
-abbrev pub AreNamed : Pages → Ghost (Ext ℕ) → Type 0
+abbrev pub AreNamed : Pages → TreeGhost (Ext ℕ) → Type 0
 AreNamed P g = (k : Key) (r : ℕ) → IsNamed P k r → (h : ℕ) × (g.place r ≡ tree r h)

@@ -19,13 +19,13 @@ pub data Node (E : Type 0) : Type 0 where
   inner : ℕ → List (Child E) → Node E
   gone : ℕ → Node E
 
-pub data Place : Type 0 where
-  none : Place
-  tree : ℕ → ℕ → Place
-  left : ℕ → Place
+pub data TreePlace : Type 0 where
+  none : TreePlace
+  tree : ℕ → ℕ → TreePlace
+  left : ℕ → TreePlace
 
-pub record Ghost (E : Type 0) : Type 0 where
-  pub place : ℕ → Place
+pub record TreeGhost (E : Type 0) : Type 0 where
+  pub place : ℕ → TreePlace
   pub low : ℕ → E
   pub high : ℕ → E
 
@@ -36,37 +36,37 @@ module _ {E : Type 0} (o : Order E) (top : E) where
   abbrev pub AtMost : E → E → Type 0
   AtMost a b = o.less a b ⊎ (a ≡ b)
 
-  abbrev pub RightOk : Ghost E → ℕ → ℕ → ℕ → ℕ → Type 0
+  abbrev pub RightOk : TreeGhost E → ℕ → ℕ → ℕ → ℕ → Type 0
   RightOk g r h p right = ((right ≡ 0) × (g.high p ≡ top))
       ⊎ ((right ≢ 0) × (g.place right ≡ tree r h) × (g.low right ≡ g.high p))
 
-  abbrev pub Kids : Ghost E → ℕ → ℕ → E → List (Child E) → E → Type 0
+  abbrev pub Kids : TreeGhost E → ℕ → ℕ → E → List (Child E) → E → Type 0
   Kids g r h lo [] hi = lo ≡ hi
   Kids g r h lo (c ∷ cs) hi = (g.place c.page ≡ tree r h) × (g.low c.page ≡ lo) × (g.high c.page ≡ c.bound)
       × Kids g r h c.bound cs hi
 
-  pub record LeafOk (N : ℕ → Node E) (g : Ghost E) (p r : ℕ) : Type 0 where
+  pub record LeafOk (N : ℕ → Node E) (g : TreeGhost E) (p r : ℕ) : Type 0 where
     pub right : ℕ
     pub keys : List E
     pub node : N p ≡ leaf right (g.high p) keys
     pub within : (k : E) → In k keys → o.less (g.low p) k × AtMost k (g.high p)
     pub right_ok : RightOk g r 0 p right
 
-  pub record InnerOk (N : ℕ → Node E) (g : Ghost E) (p r h : ℕ) : Type 0 where
+  pub record InnerOk (N : ℕ → Node E) (g : TreeGhost E) (p r h : ℕ) : Type 0 where
     pub right : ℕ
     pub kids : List (Child E)
     pub node : N p ≡ inner right kids
     pub kids_ok : Kids g r h (g.low p) kids (g.high p)
     pub right_ok : RightOk g r (suc h) p right
 
-  pub record LeftOk (N : ℕ → Node E) (g : Ghost E) (p r : ℕ) : Type 0 where
+  pub record LeftOk (N : ℕ → Node E) (g : TreeGhost E) (p r : ℕ) : Type 0 where
     pub right : ℕ
     pub node : N p ≡ gone right
     pub there : right ≢ 0
     pub leads : (g.place right ≡ tree r 0) ⊎ (g.place right ≡ left r)
     pub lower : AtMost (g.low right) (g.low p)
 
-  pub record Sane (N : ℕ → Node E) (g : Ghost E) : Type 0 where
+  pub record Sane (N : ℕ → Node E) (g : TreeGhost E) : Type 0 where
     pub leaves : (p r : ℕ) → g.place p ≡ tree r 0 → LeafOk N g p r
     pub inners : (p r h : ℕ) → g.place p ≡ tree r (suc h) → InnerOk N g p r h
     pub lefts : (p r : ℕ) → g.place p ≡ left r → LeftOk N g p r
@@ -75,7 +75,7 @@ module _ {E : Type 0} (o : Order E) (top : E) where
         ⊎ AtMost (g.high q) (g.low p)
 
   -- the leaf p of the tree r is divided at m; the new page is n, the parent q
-  pub record IsSplitLeaf (N M : ℕ → Node E) (g : Ghost E) (p n q r : ℕ) (m : E) : Type 0 where
+  pub record IsSplitLeaf (N M : ℕ → Node E) (g : TreeGhost E) (p n q r : ℕ) (m : E) : Type 0 where
     pub at : g.place p ≡ tree r 0
     pub new : g.place n ≡ none
     pub not_zero : n ≢ 0
@@ -100,12 +100,12 @@ module _ {E : Type 0} (o : Order E) (top : E) where
         (kids_left ++ record { page = p; bound = m } ∷ record { page = n; bound = g.high p } ∷ kids_right)
     pub else : (x : ℕ) → x ≢ p → x ≢ n → x ≢ q → M x ≡ N x
 
-  abbrev pub split_ghost : Ghost E → ℕ → ℕ → ℕ → ℕ → E → Ghost E
+  abbrev pub split_ghost : TreeGhost E → ℕ → ℕ → ℕ → ℕ → E → TreeGhost E
   split_ghost g p n r h m =
       record { place = put g.place n (tree r h); low = put g.low n m; high = put (put g.high n (g.high p)) p m }
 
   -- the empty leaf d is deleted: its left leaf and its parent forget it
-  pub record IsDeleteLeaf (N M : ℕ → Node E) (g : Ghost E) (d q r : ℕ) : Type 0 where
+  pub record IsDeleteLeaf (N M : ℕ → Node E) (g : TreeGhost E) (d q r : ℕ) : Type 0 where
     pub at : g.place d ≡ tree r 0
     pub parent : g.place q ≡ tree r 1
     pub right : ℕ
@@ -120,5 +120,5 @@ module _ {E : Type 0} (o : Order E) (top : E) where
     pub left_leaf : (x keys : _) (high : E) → g.place x ≡ tree r 0 → N x ≡ leaf d high keys → M x ≡ leaf right high keys
     pub else : (x : ℕ) → x ≢ d → x ≢ q → ((high : E) (keys : List E) → N x ≡ leaf d high keys → ⊥) → M x ≡ N x
 
-  abbrev pub delete_ghost : Ghost E → ℕ → ℕ → ℕ → Ghost E
+  abbrev pub delete_ghost : TreeGhost E → ℕ → ℕ → ℕ → TreeGhost E
   delete_ghost g d n r = record { place = put g.place d (left r); low = put g.low n (g.low d); high = g.high }

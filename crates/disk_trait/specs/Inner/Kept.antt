@@ -58,7 +58,7 @@ abbrev pub is_done : {E : Type 0} → Result Bool E → Bool
 is_done (Ok done) = done
 is_done (Err e) = false
 
--- A write is kept, one that failed too. It is not where the clock stands still, and where there is
+-- A write is kept, one that failed too. It is not where the clock is still, and where there is
 -- no memory.
 abbrev pub KeepsWrite : {E : Type 0} → File → ℕ → List ℕ → MemoryDisk → MemoryDisk → Result Bool E
     → Type 0

@@ -4,11 +4,11 @@ use Rattle.std.specs.List.{flat_map, AllByRecursion}
 use Rattle.disk_trait.specs.declared.device.Disk.{Ghosts as Disk}
 use Rattle.wal.specs.Waiting.{waiting, limit_of, down_of}
 use Rattle.page_types.specs.Pages.{IsSlot}
-use Rattle.page_types.specs.Spelling.{slot_bytes}
+use Rattle.page_types.specs.Encoding.{slot_bytes}
 use Rattle.page_types.specs.declared.page.Head.{Head}
 use Rattle.core_state.specs.Log.{Log}
 use Rattle.buffer_frames.specs.Journals.{JournalValue, Stands}
-use Rattle.engine.specs.Inner.Kept.{Kept, AreSpelled, room_of}
+use Rattle.engine.specs.Inner.Kept.{Kept, AreEncoded, room_of}
 use Rattle.engine.specs.Inner.Heaps.{HeapIsKnown}
 use Rattle.engine.specs.declared.db.TheConstants.{HEAD, PAGE_ROOM}
 use Rattle.wal.specs.declared.sizes.TheConstants.{LOG_LIMIT}
@@ -28,7 +28,7 @@ pub record IsDbValue {D : Type 0} (device : Disk D) (s : DbValue D) (used : ℕ)
   pub fits : length (flat_map slot_bytes s.heap) ≡ used
   pub heads : length s.heap ≡ length s.documents
   pub each : AllByRecursion IsSlot s.heap
-  pub spelled : AreSpelled s.heap
+  pub encoded : AreEncoded s.heap
   pub idle : down_of s.journal.wal ≡ None → length (waiting s.journal.wal) ≤ 20000
   pub limit : limit_of s.journal.wal ≡ LOG_LIMIT
   pub made : 0 < s.journal.state.records

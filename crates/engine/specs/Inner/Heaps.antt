@@ -57,7 +57,7 @@ pub record IsHeapOf (R : Log) (H : History) (kept : List Kept)
   pub documents : H ≡ map insertion (documents_from 0 kept)
   pub slots_are : (P : Pages) → Shows R P → slots_of (P heap_page) ≡ slots
 
--- so it is of a legal log that the journal stands for, where the device tells and nothing has failed
+-- so it is of a legal log that the journal stands for, where the device says and nothing has failed
 abbrev pub HeapIsKnown : {D : Type 0} → Disk D → JournalValue D → List Kept → List (Option Head)
     → Type 0
 HeapIsKnown device j kept slots =

@@ -2,7 +2,7 @@
 use Rattle.std.specs.Prelude.{ℕ, suc, ◌+◌, cond, List, length}
 use Rattle.wal.specs.Waiting.{end_of, waiting}
 use Rattle.core_state.specs.History.{Document}
-use Rattle.engine.specs.Found.{record_size}
+use Rattle.engine.specs.AtOpening.{record_size}
 use Rattle.engine.specs.Inner.Kept.{documents_from}
 use Rattle.engine.specs.Inner.DbValue.{DbValue}
 
@@ -16,7 +16,7 @@ next_serial_of s = s.journal.state.next_serial
 abbrev pub next_xid_of : {D : Type 0} → DbValue D → ℕ
 next_xid_of s = suc (length s.journal.state.fates)
 
--- where the log's next gate would stand if what goes out ahead of the next insertion stood before it
+-- where the log's next commit byte would be if what goes out ahead of the next insertion was before it
 abbrev pub end_ahead : {D : Type 0} → DbValue D → ℕ
 end_ahead s =
     end_of s.journal.wal + length (waiting s.journal.wal) + cond s.journal.owes (record_size 0 0) 0

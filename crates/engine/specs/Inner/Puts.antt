@@ -5,10 +5,10 @@ use Rattle.disk_trait.specs.Device.{Rose}
 use Rattle.disk_trait.specs.declared.device.Disk.{Ghosts as Disk}
 use Rattle.wal.specs.declared.sizes.TheConstants.{FRAME_BYTES, LOG_LIMIT}
 use Rattle.ts_base.specs.Vectors.{Vector}
-use Rattle.ts_base.specs.Spelling.{vector_bytes}
+use Rattle.ts_base.specs.Encoding.{vector_bytes}
 use Rattle.core_state.specs.Log.{xid_bound}
 use Rattle.engine.specs.Finding.{heap_page, insertion, Document, Name}
-use Rattle.engine.specs.Found.{room, insertion_size}
+use Rattle.engine.specs.AtOpening.{room, insertion_size}
 use Rattle.engine.specs.Standing.{disk_of, fault_of, IsUp, Rests, PutsCommit}
 use Rattle.engine.specs.Inner.Kept.{room_of}
 use Rattle.engine.specs.Inner.Inside.{next_serial_of, next_xid_of, end_ahead}
@@ -39,7 +39,7 @@ next_document s v = record {
 }
 
 module _ {D : Type 0} (device : Disk D) where
-  -- the document's records stand in the log, and the document in the list
+  -- the document's records are in the log, and the document in the list
   pub record IsPut (old new : DbValue D) (v : Vector) (name : Name) : Type 0 where
     pub named : name ≡ (next_document old v).name
     pub documents : new.documents
@@ -56,7 +56,7 @@ module _ {D : Type 0} (device : Disk D) where
     pub later : device.fault_count (disk_of old) ≤ device.fault_count (disk_of new)
     pub no_failure : device.write_fault_count (disk_of new) ≡ device.write_fault_count (disk_of old)
 
-  -- the device failed, so that the records may stand in the log or not
+  -- the device failed, so that the records may be in the log or not
   pub record IsPutInDoubt (old new : DbValue D) (v : Vector) : Type 0 where
     pub documents : new.documents ≡ old.documents
     pub up : IsUp old

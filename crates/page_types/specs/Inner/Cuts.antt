@@ -1,4 +1,4 @@
--- Lists that lie one behind the other in one list, cut at their ends.
+-- Lists that lie one after the other in one list, cut at their ends.
 use Rattle.std.specs.Prelude.{◌≡◌, ℕ, zero, suc, ◌+◌, ◌-◌, ◌^◌, ◌<◌, ◌≤◌, List, [], ◌∷◌, ◌++◌, length, map, take, drop}
 
 -- the lists from a place on that end at these places
@@ -25,7 +25,7 @@ moved from to e = to + (e - from)
 abbrev pub CanMove : ℕ → ℕ → List ℕ → Type 0
 CanMove from to es = (last : ℕ) × EndAt from es last × (to + (last - from) < 2 ^ 64)
 
--- the ends where `new`, of lists with this size, stand in place of those from k up to m, and those behind have moved
+-- the ends where `new`, of lists with this size, are in place of those from k up to m, and those after have moved
 abbrev pub ends_with : List ℕ → ℕ → ℕ → List ℕ → ℕ → List ℕ
 ends_with ends k m new size = take k ends ++ (map (moved 0 (start_at 0 ends k)) new ++ map (moved (start_at 0 ends m) (start_at 0 ends k + size)) (drop m ends))
 

@@ -1,4 +1,4 @@
--- Where an iterator over an item list stands.
+-- Where an iterator over an item list is.
 use Rattle.std.specs.Prelude.{◌≡◌, ℕ, List, length}
 use Rattle.page_types.specs.Items.{item_list_from, AreItemsFrom}
 use Rattle.page_types.specs.ItemReading.{last_or}

@@ -12,10 +12,10 @@ use Rattle.shell_run.specs.Inner.Answering.{HasAnswered}
 use Rattle.shell_run.specs.Defining.{Becomes}
 use Rattle.shell_run.specs.Outcomes.{HasPrinted, is_refusal, some_refused}
 use Rattle.engine.specs.Finding.{History}
-use Rattle.engine.specs.Found.{Found}
+use Rattle.engine.specs.AtOpening.{AtOpening}
 use Rattle.shell_run.specs.Crash.{HasSamePages}
 use Rattle.engine.specs.Db.{DbValue}
-use Rattle.shell_run.specs.Run.{Row}
+use Rattle.shell_run.specs.Run.{Exchange}
 use Rattle.shell_run.specs.declared.sending.TheConstants.{PIECE_BYTES}
 use Rattle.shell_run.specs.RanOn.{RanOn}
 use Rattle.shell_run.specs.RunMeets.{HasCauses, HasNotRun, HasRun}
@@ -49,23 +49,23 @@ pub record Passed {D : Type 0} (old new : RunState D) (before after : Option (Li
   pub same : (new.store ≡ old.store) × (new.configs ≡ old.configs) × (new.refused ≡ old.refused)
   pub text : Sends before after old.waiting.items new.waiting.items well
 
--- The rows are those of a first part of the steps. Where this went well, they are those of all, and
+-- The exchanges are those of a first part of the steps. Where this went well, they are those of all, and
 -- the sink took all of their text.
-pub record Ran (text : List ℕ) (before after : Option (List ℕ)) (rows : List Row)
+pub record Ran (text : List ℕ) (before after : Option (List ℕ)) (exchanges : List Exchange)
     (well : Bool) : Type 0 where
-  pub so_far : HasPrinted text before after rows
+  pub so_far : HasPrinted text before after exchanges
   pub whole : well ≡ true → (so_far.left ≡ []) × (so_far.unsent ≡ [])
 
 -- The steps of a text were run over a store that had a history; the device is as it is left.
-pub record HasRunSteps {D E : Type 0} (device : Disk D) (found : Found) (history : History)
+pub record HasRunSteps {D E : Type 0} (device : Disk D) (found : AtOpening) (history : History)
     (text : List ℕ) (before after : Option (List ℕ)) (opened : DbValue D) (disk : D)
     (result : Result Bool E) : Type 0 where
-  pub rows : List Row
+  pub exchanges : List Exchange
   pub commits : History
-  pub ran : Ran text before after rows (is_ok result)
-  pub flag : IfOk result (λ refused. refused ≡ some_refused rows)
+  pub ran : Ran text before after exchanges (is_ok result)
+  pub flag : IfOk result (λ refused. refused ≡ some_refused exchanges)
   pub over : (first : D) (c0 : ℕ) → OpenedAt device found history first c0 opened
-      → RanOn device history first disk commits rows
+      → RanOn device history first disk commits exchanges
       × (device.tells → HasSamePages device first disk)
 
 -- What a text is answered, where the words are right and the text is a whole script.

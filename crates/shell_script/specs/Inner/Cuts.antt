@@ -11,6 +11,6 @@ IsCutOff text line rest =
     ((front : List ℕ) × (text ≡ front ++ 10 ∷ rest) × HasNo 10 front × (line ≡ strip_carriage_return front))
     ⊎ ((line ≡ text) × (rest ≡ []))
 
--- the lines of a body, and those behind its end
+-- the lines of a body, and those after its end
 abbrev pub IsCut : List (List ℕ) → List (List ℕ) → List (List ℕ) → Type 0
 IsCut ls body behind = (ls ≡ body ++ codes "end" ∷ behind) × All (λ (l : List ℕ). is_end l ≡ false) body

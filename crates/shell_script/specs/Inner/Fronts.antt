@@ -3,7 +3,7 @@ use Rattle.std.specs.Prelude.{◌≡◌, ◌≢◌, ℕ, ◌+◌, ◌≤◌, Lis
 use Rattle.ts_base.specs.Words.{EndsWord}
 use Rattle.shell_script.specs.Tokens.{ScriptToken, spelling, IsToken, IsSpelled}
 
--- the token t stands at the front of the text, and rest behind it
+-- the token t is at the front of the text, and rest after it
 abbrev pub IsFirst : List ℕ → ScriptToken → List ℕ → Type 0
 IsFirst text t rest = IsToken t × (text ≡ spelling t ++ rest) × EndsWord rest
 
@@ -13,7 +13,7 @@ IsQuote b = b ≡ 39
 abbrev pub IsNoQuote : ℕ → Type 0
 IsNoQuote b = b ≢ 39
 
--- The text begins with these tokens, and whatever tokens the rest has stand behind them.
+-- The text begins with these tokens, and whatever tokens the rest has are after them.
 -- Each token takes a byte at least.
 pub record Fronts (text : List ℕ) (front : List ScriptToken) (rest : List ℕ) : Type 0 where
   pub goes_on : (ts : List ScriptToken) → IsSpelled rest ts → IsSpelled text (front ++ ts)

@@ -2,29 +2,29 @@
 use Rattle.std.specs.Prelude.{◌≡◌, ℕ, List, ◌∷◌}
 use Rattle.std.specs.Str.{IsUtf8}
 use Rattle.shell_script.specs.Tokens.{ScriptToken, word, IsSpelled}
-use Rattle.shell_script.specs.Grammar.{Statement, insert, search, show, query, parse, IsExpr, IsQuery, IsNamed, HasSession, body_tokens, statement_tokens}
+use Rattle.shell_script.specs.Grammar.{Statement, insert, search, show, ask, parse, IsExpr, IsQuery, IsNamed, HasSession, body_tokens, statement_tokens}
 
--- the statements that a session's label stands before, in which a name is a NAME
+-- the statements that a session's label comes before, in which a name is a NAME
 abbrev pub IsOfSession : Statement → Type 0
 IsOfSession (insert e) = IsExpr e
 IsOfSession (search q) = IsQuery q
 IsOfSession statement = ⊥
 
--- the statements that stand alone, likewise
+-- the statements that are alone, likewise
 abbrev pub IsPlain : Statement → Type 0
 IsPlain (show e) = IsExpr e
-IsPlain (query q) = IsQuery q
+IsPlain (ask q) = IsQuery q
 IsPlain (parse text) = Unit {0}
 IsPlain statement = ⊥
 
--- the body of such a statement is this word and the tokens of what stands behind it
-abbrev pub IsBody : (Statement → Type 0) → List ℕ → List ℕ → Statement → Type 0
-IsBody P first rest statement =
+-- the body of such a statement is this word and the tokens of what is after it
+abbrev pub IsStatementBody : (Statement → Type 0) → List ℕ → List ℕ → Statement → Type 0
+IsStatementBody P first rest statement =
     P statement
     × ((others : List ScriptToken) × (body_tokens statement ≡ word first ∷ others)
     × IsSpelled rest others)
 
--- the statement of a line that begins with this word, and has this behind it
+-- the statement of a line that begins with this word, and has this after it
 pub record IsSaidBehind (first rest : List ℕ) (s : ℕ) (statement : Statement) : Type 0 where
   pub session : HasSession s statement
   pub named : IsNamed statement

@@ -1,4 +1,4 @@
--- What may follow within a lexeme, and the whole value. `Then l r v` says that behind the lexeme l the bytes r follow, and that
+-- What may follow within a lexeme, and the whole value. `Then l r v` says that after the lexeme l the bytes r follow, and that
 -- the whole has the value v.
 use Rattle.std.specs.Prelude.{◌≡◌, ◌≢◌, ◌⊎◌, ℕ, List, [], ◌∷◌, ◌++◌}
 use Rattle.ts_base.specs.Quoted.{Quoted}
@@ -8,7 +8,7 @@ use Rattle.ts_base.specs.Plain.{Plain}
 abbrev pub QuotedOn : (V : Type 0) → (List ℕ → List ℕ → V → Type 0) → List ℕ → List ℕ → V → Type 0
 QuotedOn V Then a u v = (l : List ℕ) × (r : List ℕ) × Quoted a u l r × (l ≢ []) × Then l r v
 
--- behind a quote within a quoted lexeme: it ended there, or another quote follows
+-- after a quote within a quoted lexeme: it ended there, or another quote follows
 abbrev pub QuoteOn : (V : Type 0) → (List ℕ → List ℕ → V → Type 0) → List ℕ → List ℕ → V → Type 0
 QuoteOn V Then a [] v = (a ≢ []) × Then a [] v
 QuoteOn V Then a (c ∷ u) v =
@@ -18,7 +18,7 @@ QuoteOn V Then a (c ∷ u) v =
 abbrev pub PlainOn : (V : Type 0) → (ℕ → Type 0) → (List ℕ → List ℕ → V → Type 0) → List ℕ → List ℕ → V → Type 0
 PlainOn V Ends Then a u v = (l : List ℕ) × (r : List ℕ) × Plain Ends a u l r × Then l r v
 
--- behind an escape sign, given what may follow behind the byte that it escapes
+-- after an escape sign, given what may follow after the byte that it escapes
 abbrev pub EscapedOn : (V : Type 0) → (List ℕ → List ℕ → V → Type 0) → List ℕ → List ℕ → V → Type 0
 EscapedOn V On a [] v = ⊥
 EscapedOn V On a (c ∷ u) v = On (a ++ c ∷ []) u v

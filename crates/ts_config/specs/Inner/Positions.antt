@@ -2,7 +2,7 @@
 use Rattle.std.specs.Prelude.{ℕ, ◌+◌, List, [], ◌∷◌}
 use Rattle.ts_base.specs.Dictionary.{WordAnswer, unknown_word, stop_word, word_lexemes}
 
--- the last position behind these answers, where n is the last before them
+-- the last position after these answers, where n is the last before them
 abbrev pub last_position : ℕ → List WordAnswer → ℕ
 last_position n [] = n
 last_position n (unknown_word ∷ more) = last_position n more

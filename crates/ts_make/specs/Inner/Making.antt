@@ -1,12 +1,12 @@
--- What is kept of two parts with an operator between them; drafts of trees.
+-- What is kept of two parts with an operator between them; sketches of trees.
 use Rattle.std.specs.Prelude.{ℕ, ◌+◌, List, [], ◌∷◌, Bool, true, false, max}
 use Rattle.ts_query.specs.Queries.{Joint, or_joint, and_joint, phrase_joint, Tree}
 use Rattle.ts_config.specs.Mappings.{Mapping}
 use Rattle.ts_config.specs.Known.{Known}
 use Rattle.ts_make.specs.Trees.{near}
-use Rattle.ts_make.specs.Made.{IsDrafted}
-use Rattle.ts_make.specs.Removal.{Draft}
-pub use Rattle.ts_make.specs.Making.{with_left, nodes_drafted, IsMaking, OperandFails}
+use Rattle.ts_make.specs.Made.{IsSketched}
+use Rattle.ts_make.specs.Removal.{Sketch}
+pub use Rattle.ts_make.specs.Making.{with_left, nodes_sketched, IsMaking, OperandFails}
 use Rattle.ts_make.specs.declared.maker.Part.{Part}
 use Rattle.ts_make.specs.declared.maker.Link.{Link}
 use Rattle.ts_make.specs.declared.maker.Link.TheVariants.{And, Or, Phrase}
@@ -42,10 +42,10 @@ kept_joint (phrase_joint n) x y = phrase_joint (near (n + x.right + y.left))
 kept_joint and_joint x y = and_joint
 kept_joint or_joint x y = or_joint
 
--- trees and their drafts, one by one
-abbrev pub AreDrafted : Known → Mapping → List Tree → List Draft → Type 0
-AreDrafted known mapping [] [] = Unit {0}
-AreDrafted known mapping [] (d ∷ ds) = ⊥
-AreDrafted known mapping (t ∷ ts) [] = ⊥
-AreDrafted known mapping (t ∷ ts) (d ∷ ds) =
-    IsDrafted known mapping t d × AreDrafted known mapping ts ds
+-- trees and their sketches, one by one
+abbrev pub AreSketched : Known → Mapping → List Tree → List Sketch → Type 0
+AreSketched known mapping [] [] = Unit {0}
+AreSketched known mapping [] (d ∷ ds) = ⊥
+AreSketched known mapping (t ∷ ts) [] = ⊥
+AreSketched known mapping (t ∷ ts) (d ∷ ds) =
+    IsSketched known mapping t d × AreSketched known mapping ts ds

@@ -9,7 +9,7 @@ use Rattle.ts_make.specs.declared.joining.Way.{Way}
 use Rattle.ts_make.specs.declared.joining.Way.TheVariants.{Phrase, Conjunction}
 use Rattle.ts_make.specs.declared.joining.Last.{Last}
 
--- what joins a group to the one that stands n positions before it
+-- what joins a group to the one that is n positions before it
 abbrev pub way_joint : Way → ℕ → Joint
 way_joint Phrase n = phrase_joint (near n)
 way_joint Conjunction n = and_joint
@@ -23,7 +23,7 @@ abbrev pub closed_last : Way → Option Last → List Tree → List Tree
 closed_last way None trees = trees
 closed_last way (Some last) trees = closed way last.distance trees
 
--- where the joining stands: the trees, and the last group
+-- where the joining is: the trees, and the last group
 pub record Stage : Type 0 where
   pub last : Option Last
   pub trees : List Tree

@@ -5,16 +5,16 @@ use Rattle.ts_query.specs.declared.query.Node.{Node}
 use Rattle.ts_query.specs.declared.query.Node.TheVariants.{Leaf, Not, And, Or, Phrase}
 use Rattle.ts_query.specs.declared.query.Operand.{Operand}
 use Rattle.ts_query.specs.Queries.{Tree, leaf, negated, joined, phrase_joint}
-use Rattle.ts_match.specs.declared.found.Found.{Found}
-use Rattle.ts_match.specs.declared.found.TheConstants.{FARTHEST}
+use Rattle.ts_match.specs.declared.ranges.EntryRange.{EntryRange}
+use Rattle.ts_match.specs.declared.ranges.TheConstants.{FARTHEST}
 use Rattle.ts_match.specs.declared.work.Place.{Place}
 use Rattle.ts_match.specs.declared.work.Place.TheVariants.{Outside, Within}
 use Rattle.ts_match.specs.declared.work.Step.{Step}
-use Rattle.ts_match.specs.declared.rows.Row.{Row}
-use Rattle.ts_match.specs.declared.rows.TheConstants.{WORD}
-use Rattle.ts_match.specs.Inner.Rows.{row_value}
+use Rattle.ts_match.specs.declared.bit_sets.BitSet.{BitSet}
+use Rattle.ts_match.specs.declared.bit_sets.TheConstants.{WORD}
+use Rattle.ts_match.specs.Inner.BitSets.{bit_value}
 use Rattle.ts_match.specs.Meaning.{width, at, places}
-use Rattle.ts_match.specs.Inner.Found.{NamesRange, stands_at}
+use Rattle.ts_match.specs.Inner.Ranges.{NamesRange, stands_at}
 use Rattle.ts_match.specs.Plan.{count_in, steps}
 use Rattle.ts_match.specs.Inner.Plan.{offset_of}
 use Rattle.ts_match.specs.Inner.Stacks.{top_or, below}
@@ -25,7 +25,7 @@ HasNumbers os k (leaf o) = slice_get os k ≡ Some o
 HasNumbers os k (negated x) = HasNumbers os k x
 HasNumbers os k (joined j x y) = HasNumbers os k x × HasNumbers os (k + count_in x) y
 
--- the steps of a phrase that stands in no other
+-- the steps of a phrase that is in no other
 pub record IsPhraseOf (os : List Operand) (ss : List Step) (t : Tree) : Type 0 where
   pub first : ℕ
   pub start : ℕ
@@ -38,7 +38,7 @@ pub record IsPhraseOf (os : List Operand) (ss : List Step) (t : Tree) : Type 0 w
   pub laid : ss ≡ steps first start (Outside on_true on_false) t
   pub numbered : HasNumbers os first t
 
--- where a step stands
+-- where a step is
 abbrev pub StandsOutside : Place → Type 0
 StandsOutside (Outside on_true on_false) = Unit {0}
 StandsOutside (Within offset needed) = ⊥
@@ -63,25 +63,25 @@ pub record IsStep (n : ℕ) (s : Step) : Type 0 where
   pub near : offset_of s.place ≤ FARTHEST
 
 -- the operand of a leaf names what was found for it
-abbrev pub FoundFor : Vector → List Operand → List Found → Node → Type 0
-FoundFor v os fs (Leaf k) = (o : Operand) (f : Found) → NamesRange v (slice_index_or os k o) (slice_index_or fs k f)
-FoundFor v os fs _ = Unit {0}
+abbrev pub RangeFor : Vector → List Operand → List EntryRange → Node → Type 0
+RangeFor v os fs (Leaf k) = (o : Operand) (f : EntryRange) → NamesRange v (slice_index_or os k o) (slice_index_or fs k f)
+RangeFor v os fs _ = Unit {0}
 
-abbrev pub HasFound : Vector → List Operand → List Found → Step → Type 0
-HasFound v os fs s = FoundFor v os fs s.node
+abbrev pub HasRange : Vector → List Operand → List EntryRange → Step → Type 0
+HasRange v os fs s = RangeFor v os fs s.node
 
 -- what is at hand when a phrase is matched
-pub record IsPrepared (v : Vector) (os : List Operand) (fs : List Found) (ss : List Step) : Type 0 where
+pub record IsPrepared (v : Vector) (os : List Operand) (fs : List EntryRange) (ss : List Step) : Type 0 where
   pub normal : IsNormal v
   pub same : length os ≤ length fs
-  pub found : All (HasFound v os fs) ss
+  pub found : All (HasRange v os fs) ss
   pub steps : All (IsStep (length os)) ss
 
 -- The place of a phrase whose beginning is counted as `from`: the count starts so far back that no beginning is below 0.
 abbrev pub place_from : Tree → ℕ → ℤ
 place_from t from = (pos from -ℤ pos FARTHEST) +ℤ pos (width t)
 
--- the phrase holds where the operand of this step stands at p
+-- the phrase holds where the operand of this step is at p
 pub record HoldsWith (v : Vector) (os : List Operand) (t : Tree) (s : Step) : Type 0 where
   pub number : ℕ
   pub offset : ℕ
@@ -122,24 +122,24 @@ truth_step And value st = (top_or false (below st) && top_or false st) ∷ below
 truth_step Or value st = (top_or false (below st) || top_or false st) ∷ below (below st)
 truth_step (Phrase n) value st = (top_or false (below st) && top_or false st) ∷ below (below st)
 
--- each position that was found for a leaf has a place in so many words, wherever in the phrase the leaf stands
-abbrev pub PlacesFor : Vector → List Found → ℕ → ℕ → Node → Type 0
-PlacesFor v fs reach count (Leaf k) = (f : Found) (i : ℕ) (e : Entry) (p : Position) → (slice_index_or fs k f).first ≤ i → i < (slice_index_or fs k f).end
+-- each position that was found for a leaf has a place in so many words, wherever in the phrase the leaf is
+abbrev pub PlacesFor : Vector → List EntryRange → ℕ → ℕ → Node → Type 0
+PlacesFor v fs reach count (Leaf k) = (f : EntryRange) (i : ℕ) (e : Entry) (p : Position) → (slice_index_or fs k f).first ≤ i → i < (slice_index_or fs k f).end
     → Contains (slice_index_or v i e).positions p → p.at + reach < WORD * count
 PlacesFor v fs reach count _ = Unit {0}
 
-abbrev pub HasPlaces : Vector → List Found → ℕ → ℕ → Step → Type 0
+abbrev pub HasPlaces : Vector → List EntryRange → ℕ → ℕ → Step → Type 0
 HasPlaces v fs reach count s = PlacesFor v fs reach count s.node
 
--- what is known of a step of a phrase that reaches no farther than `reach`, where so many words of a row are in use
-pub record IsLaidOut (v : Vector) (os : List Operand) (fs : List Found) (reach count : ℕ) (s : Step) : Type 0 where
+-- what is known of a step of a phrase that reaches no farther than `reach`, where so many words of a bit set are in use
+pub record IsLaidOut (v : Vector) (os : List Operand) (fs : List EntryRange) (reach count : ℕ) (s : Step) : Type 0 where
   pub operand : HasOperand (length os) s.node
   pub near : offset_of s.place ≤ reach
-  pub found : HasFound v os fs s
+  pub found : HasRange v os fs s
   pub places : HasPlaces v fs reach count s
 
--- The row of a tree: at each of its places the bit says whether the tree holds there, and the one bit for all others says it of
+-- The bit set of a tree: at each of its places the bit says whether the tree holds there, and the one bit for all others says it of
 -- each other whole number.
-pub record SaysWhere (v : Vector) (t : Tree) (count : ℕ) (row : Row) : Type 0 where
-  pub here : (j : ℕ) → row_value count row j ≡ at v t (pos j)
-  pub elsewhere : (n : ℕ) → row.rest ≡ at v t (negsuc n)
+pub record SaysWhere (v : Vector) (t : Tree) (count : ℕ) (bits : BitSet) : Type 0 where
+  pub here : (j : ℕ) → bit_value count bits j ≡ at v t (pos j)
+  pub elsewhere : (n : ℕ) → bits.rest ≡ at v t (negsuc n)

@@ -40,7 +40,7 @@ abbrev pub distance : Node → ℕ
 distance (Phrase n) = n
 distance _ = 0
 
--- where the node stands, if m is the step behind it
+-- where the node is, if m is the step after it
 abbrev pub due_place : ℕ → Due → Place
 due_place m (At p) = p
 due_place m (LeftOfAnd on_false) = Outside m on_false
@@ -67,7 +67,7 @@ abbrev pub offset_of : Place → ℕ
 offset_of (Outside on_true on_false) = 0
 offset_of (Within offset needed) = offset
 
--- whether the phrase needs what stands here
+-- whether the phrase needs what is here
 abbrev pub needs : Place → Bool
 needs (Outside on_true on_false) = false
 needs (Within offset needed) = needed

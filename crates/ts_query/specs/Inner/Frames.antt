@@ -18,7 +18,7 @@ need (open_frame ∷ fs) = 0
 need (not_frame ∷ fs) = 3
 need (joint_frame j x ∷ fs) = suc (level j)
 
--- y, of the level j, is made a z of the level l by the operators behind it
+-- y, of the level j, is made a z of the level l by the operators after it
 pub data Climb : ℕ → ℕ → Tree → List QueryToken → Tree → List QueryToken → Type 0 where
   here : (l : ℕ) (y : Tree) (r : List QueryToken) → Climb l l y r y r
   unary : (l : ℕ) (y z : Tree) (u r : List QueryToken) → Climb 3 l y u z r → Climb 4 l y u z r
@@ -26,7 +26,7 @@ pub data Climb : ℕ → ℕ → Tree → List QueryToken → Tree → List Quer
       → Climb k l x m z r → Climb (suc k) l y u z r
 
 mutual
-  -- behind the operand y that the innermost frame waited for: what follows, and the whole tree
+  -- after the operand y that the innermost frame waited for: what follows, and the whole tree
   pub data After : List Frame → Tree → List QueryToken → Tree → Type 0 where
     at_end : (y : Tree) → After [] y [] y
     at_close : (fs : List Frame) (y t : Tree) (u : List QueryToken) → On 4 fs y u t
@@ -36,7 +36,7 @@ mutual
     at_joint : (fs : List Frame) (j : Joint) (x y t : Tree) (u : List QueryToken)
         → On (suc (level j)) fs (joined j x y) u t → After (joint_frame j x ∷ fs) y u t
 
-  -- behind an expression y of the level j
+  -- after an expression y of the level j
   pub data On : ℕ → List Frame → Tree → List QueryToken → Tree → Type 0 where
     on : (j : ℕ) (fs : List Frame) (y z t : Tree) (u m : List QueryToken)
         → Climb j (need fs) y u z m → After fs z m t → On j fs y u t
@@ -55,7 +55,7 @@ NoTighter l (opening ∷ u) = Unit {0}
 NoTighter l (closing ∷ u) = Unit {0}
 NoTighter l (sign s j ∷ u) = level j < l
 
--- where the parser is: nothing was read, an operand is due, or one stands
+-- where the parser is: nothing was read, an operand is due, or one is there
 pub data Spot : Type 0 where
   start : Spot
   due : List Frame → Spot
@@ -79,7 +79,7 @@ SpotRest (due fs) u (Some t) = Want fs u t
 SpotRest (held fs y) u None = ⊥
 SpotRest (held fs y) u (Some t) = On 4 fs y u t
 
--- each operator stands on looser ones, up to a bracket
+-- each operator is on looser ones, up to a bracket
 abbrev pub Sorted : List Frame → Type 0
 Sorted [] = Unit {0}
 Sorted (open_frame ∷ fs) = Sorted fs

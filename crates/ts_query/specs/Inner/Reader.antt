@@ -24,13 +24,13 @@ Reading = List QueryToken × Query
 abbrev pub ReadsPair : List ℕ → Reading → Type 0
 ReadsPair text v = ReadsQuery text v.0 v.1
 
--- where the reader stands, in a token and between tokens, and the tokens so far
+-- where the reader is, in a token and between tokens, and the tokens so far
 pub record Stand : Type 0 where
   pub lexer : Lexer
   pub spot : Spot
   pub tokens : List QueryToken
 
--- within an operand one is due, and within a phrase operator one stands
+-- within an operand one is due, and within a phrase operator one is
 abbrev pub FitsSpot : Lexer → Spot → Type 0
 FitsSpot between p = Unit {0}
 FitsSpot (in_quoted s a) p = IsDue p
@@ -95,7 +95,7 @@ pub record Moved (i : ℕ) (old : Stand) (bytes : List ℕ) (r : Reader) : Type 
   pub holds : IsReaderAt r new
   pub moves : Moves Stand Reading QueryRest i old bytes new
 
--- the bytes are read, or can't stand there
+-- the bytes are read, or can't be there
 abbrev pub MovedOrStuck : ℕ → Stand → List ℕ → Bool → Reader → Type 0
 MovedOrStuck i old bytes true r = Moved i old bytes r
 MovedOrStuck i old bytes false r = Stuck Stand Reading QueryRest old bytes

@@ -17,14 +17,14 @@ abbrev pub LooksIn : List Rule → Option (Bor Tree) → Type 0
 LooksIn rules None = Unit {0}
 LooksIn rules (Some tree) = HasTree rules tree.now.states.items
 
--- and the state is that behind the answers
+-- and the state is that after the answers
 abbrev pub IsOnWay : List Rule → Option (Bor Tree) → List WordAnswer → Option ℕ → Type 0
 IsOnWay rules None answers state = Unit {0}
 IsOnWay rules (Some tree) answers state =
     HasTree rules tree.now.states.items
     × (state ≡ behind_all (steps_of tree.now.states.items) 0 answers)
 
--- the state behind a state by an answer, if there are a tree and a state
+-- the state after a state by an answer, if there are a tree and a state
 abbrev pub behind_in : Option (Bor Tree) → Option ℕ → WordAnswer → Option ℕ
 behind_in None state a = None
 behind_in (Some tree) state a = then_from state (λ s. behind (steps_of tree.now.states.items) s a)

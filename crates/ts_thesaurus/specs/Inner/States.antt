@@ -13,7 +13,7 @@ letter_value Stop = stop_letter
 letter_value (Word w) = word_letter w.now
 letter_value End = end_letter
 
--- the state behind this one by a letter
+-- the state after this one by a letter
 abbrev pub step_of : State → Letter → Option ℕ
 step_of state stop_letter = state.stop
 step_of state (word_letter w) = get_by_text state.words w
@@ -35,7 +35,7 @@ abbrev pub last_of : List State → ℕ → Option ℕ
 last_of states s = last_in (slice_get states s)
 
 -- nothing leads on, and no rule ends here
-pub record IsBlank (state : State) : Type 0 where
+pub record IsEmptyState (state : State) : Type 0 where
   pub alone : (l : Letter) → step_of state l ≡ None
   pub last : state.last ≡ None
 
@@ -84,7 +84,7 @@ EntersSamples old new p (x ∷ xs) next =
 abbrev pub HasRoot : List State → List State → Type 0
 HasRoot old new =
     ((0 < length old) × (new ≡ old))
-    ⊎ ((old ≡ []) × ((blank : State) × IsBlank blank × (new ≡ blank ∷ [])))
+    ⊎ ((old ≡ []) × ((blank : State) × IsEmptyState blank × (new ≡ blank ∷ [])))
 
 -- the states are a tree of the rules' samples
 abbrev pub HasTree : List Rule → List State → Type 0

@@ -11,7 +11,7 @@ pub data Letter : Type 0 where
   word_letter : List ℕ → Letter
   end_letter : Letter
 
--- the state behind a state by a letter
+-- the state after a state by a letter
 abbrev pub Steps : Type 0
 Steps = ℕ → Letter → Option ℕ
 
@@ -51,7 +51,7 @@ IsLastWith rules xs (Some k) =
     (rule : Rule) × (slice_get rules k ≡ Some rule) × (reverse rule.samples ≡ xs)
     × ((j : ℕ) (other : Rule) → slice_get rules j ≡ Some other → reverse other.samples ≡ xs → j ≤ k)
 
--- the tree has the samples of these rules, and of no others; `last` tells for a state the last rule that
+-- the tree has the samples of these rules, and of no others; `last` says for a state the last rule that
 -- ends there
 pub record IsTreeOf (rules : List Rule) (steps : Steps) (size : ℕ) (last : ℕ → Option ℕ) : Type 0 where
   pub tree : IsTree steps size

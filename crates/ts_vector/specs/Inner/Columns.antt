@@ -39,7 +39,7 @@ AreColumns ls ps es = AreEnds origin es (length ls) (length ps)
 abbrev pub entry : List ℕ → List Position → Entry
 entry l ps = record { lexeme = l; positions = ps }
 
--- the entry at the index k, and those at some indexes; behind the last one there are empty ones
+-- the entry at the index k, and those at some indexes; after the last one there are empty ones
 abbrev pub entry_at : List Entry → ℕ → Entry
 entry_at es k = get_or es k (entry [] [])
 

@@ -2,7 +2,7 @@
 use Rattle.std.specs.Prelude.{◌≡◌, ℕ, ◌-◌, ◌<◌, ◌≤◌, ◌⊎◌, if◌then◌else◌, List, [], ◌∷◌, ◌++◌, length, All, Any, nat_lt}
 use Rattle.std.specs.List.{flat_map}
 use Rattle.ts_base.specs.Vectors.{Position, Entry, Vector, IsNormal, content_size}
-use Rattle.ts_base.specs.Spelling.{entry_bytes, IsSpelling}
+use Rattle.ts_base.specs.Encoding.{entry_bytes, IsEncoding}
 use Rattle.ts_vector.specs.Decoded.{DecodedPart, counted, placed, entry_with, AreRising, ReadsFields, IsBadAt}
 use Rattle.ts_vector.specs.declared.bytes.Stop.{Stop}
 use Rattle.ts_vector.specs.declared.checker.Front.{Front}
@@ -12,7 +12,7 @@ pub record Goes (p : DecodedPart) (r : List ℕ) (q : DecodedPart) (s : List ℕ
   pub shorter : length s ≤ length r
   pub on : (bytes : List ℕ) → ReadsFields bytes p r → ReadsFields bytes q s
 
--- with r left behind the part p, the bytes are bad so many bytes before their end
+-- with r left after the part p, the bytes are bad so many bytes before their end
 pub record Spoils (p : DecodedPart) (r : List ℕ) (left : ℕ) : Type 0 where
   pub within : left ≤ length r
   pub bad : (bytes : List ℕ) → ReadsFields bytes p r → IsBadAt bytes (length bytes - left)
@@ -24,7 +24,7 @@ Stops p r stop = Spoils p r stop.left
 abbrev pub IsShort : ℕ → List ℕ → Stop → Type 0
 IsShort n r stop = (stop.left ≡ 0) × (length r < n)
 
--- behind the positions ps of m
+-- after the positions ps of m
 abbrev pub behind : ℕ → Vector → List ℕ → ℕ → List Position → DecodedPart
 behind n v l m ps =
     if nat_lt (length ps) m then placed n v l m ps else counted n (v ++ entry_with l ps ∷ [])
@@ -60,12 +60,12 @@ pub record IsFront (v : Vector) (front : Front) : Type 0 where
   pub size : front.size ≡ content_size v
   pub last : IsLastLexeme v front.last.now
 
--- behind the entries v the bytes have one more entry, and the front and s are left
+-- after the entries v the bytes have one more entry, and the front and s are left
 abbrev pub Adds : ℕ → Vector → List ℕ → Front → List ℕ → Type 0
 Adds n v r front s = (e : Entry) × Goes (counted n v) r (counted n (v ++ e ∷ [])) s
     × IsFront (v ++ e ∷ []) front
 
--- the bytes are a spelling that has so many entries, with these bytes
+-- the bytes are an encoding that has so many entries, with these bytes
 abbrev pub IsChecked : List ℕ → ℕ → List ℕ → Type 0
-IsChecked bytes count entries = (v : Vector) × IsSpelling bytes v × (length v ≡ count)
+IsChecked bytes count entries = (v : Vector) × IsEncoding bytes v × (length v ≡ count)
     × (entries ≡ flat_map entry_bytes v)

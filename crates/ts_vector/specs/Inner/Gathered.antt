@@ -17,7 +17,7 @@ IsHeld v l ps n =
     (Contains v (entry l ps) × (n ≡ length l + 2 * length ps))
     ⊎ ((¬ Names v l) × (ps ≡ []) × (n ≡ 0))
 
--- no position of the lexeme is behind one of these
+-- no position of the lexeme is after one of these
 abbrev pub AreBehind : Vector → List ℕ → List Position → Type 0
 AreBehind v l ps = (qs : List Position) → Contains v (entry l qs)
     → All (λ q. All (λ p. q.at ≤ p.at) ps) qs
@@ -35,7 +35,7 @@ pub record Puts (old : Vector) (e : Entry) (new : Vector) : Type 0 where
   pub to : (x : Entry) → Contains old x → (x.lexeme ≡ e.lexeme) ⊎ Contains new x
   pub size : content_size new ≤ content_size old + (length e.lexeme + 2 * length e.positions)
 
--- the list has 256 positions or more, and others stand behind the last one
+-- the list has 256 positions or more, and others are after the last one
 pub record IsFull (ps others : List Position) : Type 0 where
   pub long : MOST_POSITIONS ≤ length ps
   pub behind : (d : Position) → All (λ p. (get_or ps (length ps - 1) d).at < p.at) others

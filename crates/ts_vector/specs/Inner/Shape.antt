@@ -8,7 +8,7 @@ use Rattle.ts_vector.specs.declared.reader.State.{State}
 use Rattle.ts_vector.specs.declared.reader.State.TheVariants.{Between, InQuoted, QuotedEscape, Quote, InPlain, PlainEscape, Digits, Weighted}
 use Rattle.ts_vector.specs.declared.reader.Reader.{Reader}
 
--- within quotes, behind a quote there, and within a plain lexeme of the item that starts at s
+-- within quotes, after a quote there, and within a plain lexeme of the item that starts at s
 abbrev pub ItemQuoted : ℕ → ℕ → List Written → List ℕ → List ℕ → List Written → Type 0
 ItemQuoted size s its = QuotedOn (List Written) (LexemeTail size s its)
 
@@ -64,7 +64,7 @@ shape r =
 abbrev pub VectorRest : Shape → ℕ → List ℕ → List Written → Type 0
 VectorRest s size u v = StateRest size s.state s.items s.start s.word s.positions s.value u v
 
--- a byte is read, can't stand here, or one of both; and the text ends or can't end here
+-- a byte is read, can't be here, or one of both; and the text ends or can't end here
 abbrev pub ShapeMoves : ℕ → Shape → ℕ → Shape → Type 0
 ShapeMoves i old c new = Moves Shape (List Written) VectorRest i old (c ∷ []) new
 

@@ -5,7 +5,7 @@ use Rattle.ts_base.specs.declared.TheConstants.{WEIGHT_UNIT}
 use Rattle.ts_base.specs.declared.Weight.{Weight}
 use Rattle.ts_base.specs.declared.Weight.TheVariants.{D, C, B, A}
 use Rattle.ts_base.specs.Vectors.{Position, Entry, Vector, IsPosition, IsEntry, IsNormal, content_size}
-use Rattle.ts_base.specs.Spelling.{position_bytes, entry_bytes}
+use Rattle.ts_base.specs.Encoding.{position_bytes, entry_bytes}
 use Rattle.ts_base.specs.declared.TheConstants.{SIZE_LIMIT}
 
 -- the number in the first two bytes, the little end first
@@ -28,14 +28,14 @@ places_told [] = []
 places_told (a ∷ []) = []
 places_told (a ∷ b ∷ r) = place_told (number_told (a ∷ b ∷ [])) ∷ places_told r
 
--- the lexeme at the front, and what is behind it
+-- the lexeme at the front, and what is after it
 abbrev pub lexeme_told : List ℕ → List ℕ
 lexeme_told r = take (number_told r) (drop 2 r)
 
 abbrev pub behind_lexeme : List ℕ → List ℕ
 behind_lexeme r = drop (number_told r) (drop 2 r)
 
--- the bytes of as many positions as the front says, and what is behind them
+-- the bytes of as many positions as the front says, and what is after them
 abbrev pub place_bytes : List ℕ → List ℕ
 place_bytes r = take (2 * number_told r) (drop 2 r)
 

@@ -1,6 +1,6 @@
 use Rattle.std.proofs.Common.{◌≡◌, List, ℕ, subst}
 use Rattle.buffer_frames.specs.Counted.{AreRecords}
-use Rattle.buffer_frames.proofs.Rows.{one_log}
+use Rattle.buffer_frames.proofs.BatchRecords.{one_log}
 use Rattle.buffer_frames.proofs.laws.counted_are_one.Goals as goal
 
 pub returns : goal.returns

@@ -2,11 +2,11 @@ use Rattle.std.proofs.Common.{◌≡◌, ◌≤◌, ◌∙◌, ◌++◌, ℕ, Li
 use Rattle.page_types.specs.Records.{IsRecord, record_bytes}
 use Rattle.page_types.specs.declared.record.Record.{Record}
 use Rattle.buffer_frames.specs.First.{first_record}
-use Rattle.buffer_frames.proofs.FirstRecord.{first_spelled, first_short}
+use Rattle.buffer_frames.proofs.FirstRecord.{first_encoded, first_short}
 use Rattle.buffer_frames.proofs.opening.log_first.Goals as goal
 
 pub encode_record-requires : goal.encode_record-requires
-encode_record-requires c = subst IsRecord (sym c.in_ok-rec.ensures) first_spelled
+encode_record-requires c = subst IsRecord (sym c.in_ok-rec.ensures) first_encoded
 
 pub append-requires-clause-short : goal.append-requires-clause-short
 append-requires-clause-short c =

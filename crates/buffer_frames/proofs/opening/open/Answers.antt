@@ -50,7 +50,7 @@ unborn_is_store files unborn = record {
   counted = record {
     batches = [];
     opens = inl (unborn, refl);
-    records = record { rows = []; each = search rules; log_is = refl; numbered = search rules };
+    records = record { lists = []; each = search rules; log_is = refl; numbered = search rules };
   };
   applies = search rules;
 }

@@ -4,7 +4,7 @@ use Rattle.page_types.specs.Views.{entry_children_in}
 use Rattle.page_types.specs.declared.page.Body.{Body}
 use Rattle.page_types.specs.declared.page.Body.TheVariants as body
 use Rattle.core_state.specs.Log.{In}
-use Rattle.core_state.specs.TreeRows.{EntryParent}
+use Rattle.core_state.specs.TreeRules.{EntryParent}
 use Rattle.entry_tree.proofs.AdoptedPages.{adopted_page, is_parent, named_there}
 use Rattle.entry_tree.proofs.adopting.adopt.Goals as goal
 

@@ -1,5 +1,5 @@
 use Rattle.std.proofs.Common.{◌≡◌, ◌-◌, length, arith}
-use Rattle.page_types.specs.Spelling.{body_bytes}
+use Rattle.page_types.specs.Encoding.{body_bytes}
 use Rattle.page_types.proofs.Framing.{zeros_are, stamp_is, size_is}
 use Rattle.page_code.proofs.Sizes.{page_put}
 use Rattle.page_code.proofs.writing.encode_page.Goals as goal

@@ -1,7 +1,7 @@
 use Rattle.std.proofs.Common.{arith}
 use Rattle.page_types.specs.Parts.{entry_shown}
 use Rattle.page_types.specs.Pages.{IsEntry}
-use Rattle.page_types.specs.Spelling.{entry_bytes}
+use Rattle.page_types.specs.Encoding.{entry_bytes}
 use Rattle.page_code.proofs.Appending.{all_got, first_none, first_room, first_more}
 use Rattle.page_code.proofs.writing.put_entries.Goals as goal
 use Rattle.page_code.proofs.writing.put_entries.Goals.{in-Some, in_default}

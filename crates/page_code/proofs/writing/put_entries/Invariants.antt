@@ -1,4 +1,4 @@
-use Rattle.page_types.specs.Spelling.{entry_bytes}
+use Rattle.page_types.specs.Encoding.{entry_bytes}
 use Rattle.page_code.proofs.Appending.{PutsFirst}
 use Rattle.page_code.proofs.writing.put_entries.Given as goal
 

@@ -1,7 +1,7 @@
 use Rattle.std.proofs.Common.{arith}
 use Rattle.std.proofs.Common.{◌<◌, ◌^◌, length}
 use Rattle.page_types.specs.Parts.{child_shown}
-use Rattle.page_types.specs.Spelling.{entry_child_bytes}
+use Rattle.page_types.specs.Encoding.{entry_child_bytes}
 use Rattle.page_code.proofs.Appending.{all_got, first_none, first_room, first_more}
 use Rattle.page_code.proofs.writing.put_entry_children.Goals as goal
 use Rattle.page_code.proofs.writing.put_entry_children.Goals.{in-Some, in_default}

@@ -1,4 +1,4 @@
-use Rattle.page_types.specs.Spelling.{entry_child_bytes}
+use Rattle.page_types.specs.Encoding.{entry_child_bytes}
 use Rattle.page_code.proofs.Appending.{PutsFirst}
 use Rattle.page_code.proofs.writing.put_entry_children.Given as goal
 

@@ -1,6 +1,6 @@
 use Rattle.std.proofs.Common.{◌<◌, ◌^◌, length, arith}
 use Rattle.page_types.specs.Parts.{pieces_shown}
-use Rattle.page_types.specs.Spelling.{key_field}
+use Rattle.page_types.specs.Encoding.{key_field}
 use Rattle.page_code.proofs.Appending.{all_got, first_none, first_room, first_more}
 use Rattle.page_types.proofs.BodySizes.{length-key_field}
 use Rattle.page_code.proofs.writing.put_keys.Goals as goal

@@ -1,5 +1,5 @@
 use Rattle.page_types.specs.Parts.{pieces_shown}
-use Rattle.page_types.specs.Spelling.{key_field}
+use Rattle.page_types.specs.Encoding.{key_field}
 use Rattle.page_code.proofs.Appending.{PutsFirst}
 use Rattle.page_code.proofs.writing.put_keys.Given as goal
 

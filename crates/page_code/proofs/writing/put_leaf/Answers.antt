@@ -1,6 +1,6 @@
 use Rattle.std.proofs.Common.{arith}
 use Rattle.std.specs.List.{flat_map}
-use Rattle.page_types.specs.Spelling.{high_key_bytes, entry_bytes}
+use Rattle.page_types.specs.Encoding.{high_key_bytes, entry_bytes}
 use Rattle.page_code.proofs.Appending.{puts_then}
 use Rattle.page_code.proofs.writing.put_leaf.Goals as goal
 

@@ -1,5 +1,5 @@
 use Rattle.std.proofs.Common.{sym, ◌∙◌, arith}
-use Rattle.page_types.specs.Spelling.{post_child_bytes}
+use Rattle.page_types.specs.Encoding.{post_child_bytes}
 use Rattle.page_code.proofs.Appending.{first_none, first_room, first_more, some_there}
 use Rattle.page_code.proofs.writing.put_post_children.Goals as goal
 use Rattle.page_code.proofs.writing.put_post_children.Goals.{in-Some, in_default}

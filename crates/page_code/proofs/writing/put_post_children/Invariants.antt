@@ -1,4 +1,4 @@
-use Rattle.page_types.specs.Spelling.{post_child_bytes}
+use Rattle.page_types.specs.Encoding.{post_child_bytes}
 use Rattle.page_code.proofs.Appending.{PutsFirst}
 use Rattle.page_code.proofs.writing.put_post_children.Given as goal
 

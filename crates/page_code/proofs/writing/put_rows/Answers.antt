@@ -1,7 +1,7 @@
 use Rattle.std.proofs.Common.{arith}
 use Rattle.page_types.specs.Parts.{row_shown}
 use Rattle.page_types.specs.Pages.{IsRow}
-use Rattle.page_types.specs.Spelling.{row_bytes}
+use Rattle.page_types.specs.Encoding.{row_bytes}
 use Rattle.page_code.proofs.Appending.{all_got, first_none, first_room, first_more}
 use Rattle.page_code.proofs.writing.put_rows.Goals as goal
 use Rattle.page_code.proofs.writing.put_rows.Goals.{in-Some, in_default}

@@ -1,4 +1,4 @@
-use Rattle.page_types.specs.Spelling.{row_bytes}
+use Rattle.page_types.specs.Encoding.{row_bytes}
 use Rattle.page_code.proofs.Appending.{PutsFirst}
 use Rattle.page_code.proofs.writing.put_rows.Given as goal
 

@@ -1,6 +1,6 @@
 use Rattle.std.proofs.Common.{◌∷◌, [], arith}
 use Rattle.page_types.specs.Parts.{head_shown}
-use Rattle.page_types.specs.Spelling.{head_bytes}
+use Rattle.page_types.specs.Encoding.{head_bytes}
 use Rattle.page_code.proofs.Appending.{puts_then}
 use Rattle.page_types.proofs.BodySizes.{length-head_bytes}
 use Rattle.page_code.proofs.writing.put_slot.Goals as goal

@@ -1,7 +1,7 @@
 use Rattle.std.proofs.Common.{arith}
 use Rattle.std.specs.Option.{option_map}
 use Rattle.page_types.specs.Parts.{head_shown}
-use Rattle.page_types.specs.Spelling.{slot_bytes}
+use Rattle.page_types.specs.Encoding.{slot_bytes}
 use Rattle.page_code.proofs.Appending.{first_none, first_room, first_more, slot_got}
 use Rattle.page_code.proofs.writing.put_slots.Goals as goal
 

@@ -1,4 +1,4 @@
-use Rattle.page_types.specs.Spelling.{slot_bytes}
+use Rattle.page_types.specs.Encoding.{slot_bytes}
 use Rattle.page_code.proofs.Appending.{PutsFirst}
 use Rattle.page_code.proofs.writing.put_slots.Given as goal
 

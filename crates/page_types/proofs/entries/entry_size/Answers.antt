@@ -1,6 +1,6 @@
 use Rattle.std.proofs.Common.{length, ap, arith}
 use Rattle.page_types.specs.Parts.{entry_shown, postings_shown}
-use Rattle.page_types.specs.Spelling.{postings_bytes}
+use Rattle.page_types.specs.Encoding.{postings_bytes}
 use Rattle.page_types.proofs.BodySizes.{length-entry_bytes, length-inline, length-root}
 use Rattle.page_types.proofs.entries.entry_size.Goals as goal
 use Rattle.page_types.proofs.entries.entry_size.Goals.{in-Inline, in-Root}

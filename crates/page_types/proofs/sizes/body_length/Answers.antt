@@ -1,5 +1,5 @@
 use Rattle.std.proofs.Common.{length, ap, arith}
-use Rattle.page_types.specs.Spelling.{body_bytes}
+use Rattle.page_types.specs.Encoding.{body_bytes}
 use Rattle.page_types.proofs.BodySizes.{length-posting, length-meta}
 use Rattle.page_types.proofs.sizes.body_length.Goals as goal
 

@@ -1,5 +1,5 @@
 use Rattle.std.proofs.Common.{length, ap, arith}
-use Rattle.page_types.specs.Spelling.{gone_bytes}
+use Rattle.page_types.specs.Encoding.{gone_bytes}
 use Rattle.page_types.proofs.BodySizes.{length-posting}
 use Rattle.page_types.proofs.sizes.gone_size.Goals as goal
 

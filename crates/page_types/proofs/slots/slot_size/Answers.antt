@@ -1,7 +1,7 @@
 use Rattle.std.proofs.Common.{length, ap, arith}
 use Rattle.std.specs.Option.{option_map}
 use Rattle.page_types.specs.Parts.{head_shown}
-use Rattle.page_types.specs.Spelling.{slot_bytes}
+use Rattle.page_types.specs.Encoding.{slot_bytes}
 use Rattle.page_types.proofs.BodySizes.{length-slot_bytes}
 use Rattle.page_types.proofs.slots.slot_size.Goals as goal
 

@@ -4,7 +4,7 @@ use Rattle.std.proofs.lemmas.Grind.{common_steps}
 use Rattle.std.proofs.lemmas.Option.{none-some}
 use Rattle.page_types.specs.Numbers.{most_body}
 use Rattle.page_types.specs.Pages.{IsPage}
-use Rattle.page_types.specs.Spelling.{body_bytes}
+use Rattle.page_types.specs.Encoding.{body_bytes}
 use Rattle.page_types.specs.declared.page.Body.TheVariants as body
 use Rattle.pending_list.specs.Adding.{with_row}
 use Rattle.pending_list.proofs.PackedRows.{IsFitting, is_fitting}

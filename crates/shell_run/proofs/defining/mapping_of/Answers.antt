@@ -11,7 +11,7 @@ use Rattle.shell_run.proofs.defining.mapping_of.Goals as goal
 
 pub returns-in-Ok-clause-maps : goal.returns-in-Ok-clause-maps
 returns-in-Ok-clause-maps c =
-    subst (λ (d : Mapping). Maps c.args.configs.now d (counted_lines c.args.body) c.take_lines.new.made.draft)
+    subst (λ (d : Mapping). Maps c.args.configs.now d (counted_lines c.args.body) c.take_lines.new.made.partial)
     c.in_ok-empty.ensures
     (maps_all c.args.configs.now (counted_lines c.args.body) _ _ refl c.in-Ok.ensures.taken)
 

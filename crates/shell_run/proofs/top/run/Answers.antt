@@ -1,6 +1,6 @@
 use Rattle.std.proofs.Common.{◌≤◌, ℕ, List, length, sym, subst}
 use Rattle.shell_run.specs.HasRead.{HasRead}
-use Rattle.shell_run.specs.declared.reading.TheConstants.{SCRIPT_LIMIT}
+use Rattle.shell_run.specs.declared.script.TheConstants.{SCRIPT_LIMIT}
 use Rattle.shell_run.proofs.Ending.{is_err}
 use Rattle.shell_run.proofs.Meeting.{run_of_no_form, run_unread, run_served}
 use Rattle.shell_run.proofs.top.run.Goals as goal

@@ -52,7 +52,7 @@ operand-requires c =
     let n =
     remaking.next_operand c.args.configs.now c.args.config.now c.args.query.now
     c.loop-node.maker c.loop-node.next c.in-Leaf.field-0 _ _ c.loop-node.invariant e in
-    record { within = c.requires; making = (n.drafts, n.making) }
+    record { within = c.requires; making = (n.sketches, n.making) }
 
 pub returns-in_err-operand-in-Leaf-clause-refused :
     goal.returns-in_err-operand-in-Leaf-clause-refused
@@ -86,7 +86,7 @@ not-requires c =
     let n =
     remaking.next_not c.args.configs.now c.args.config.now c.args.query.now c.loop-node.maker
     c.loop-node.next _ _ c.loop-node.invariant e in
-    (n.draft, n.drafts, n.making)
+    (n.sketch, n.sketches, n.making)
 
 pub returns-in_err-not-in-Not-clause-refused : goal.returns-in_err-not-in-Not-clause-refused
 returns-in_err-not-in-Not-clause-refused c =
@@ -112,7 +112,7 @@ and-requires c =
     let n =
     remaking.next_joint c.args.configs.now c.args.config.now and_joint c.args.query.now
     c.loop-node.maker c.loop-node.next _ _ c.loop-node.invariant e in
-    (n.first_draft, n.second_draft, n.drafts, n.making)
+    (n.first_sketch, n.second_sketch, n.sketches, n.making)
 
 pub or-requires : goal.or-requires
 or-requires c =
@@ -122,7 +122,7 @@ or-requires c =
     let n =
     remaking.next_joint c.args.configs.now c.args.config.now or_joint c.args.query.now
     c.loop-node.maker c.loop-node.next _ _ c.loop-node.invariant e in
-    (n.first_draft, n.second_draft, n.drafts, n.making)
+    (n.first_sketch, n.second_sketch, n.sketches, n.making)
 
 pub phrase-requires : goal.phrase-requires
 phrase-requires c =
@@ -133,7 +133,7 @@ phrase-requires c =
     remaking.next_joint c.args.configs.now c.args.config.now
     (phrase_joint c.in-Phrase.distance) c.args.query.now c.loop-node.maker c.loop-node.next _ _
     c.loop-node.invariant e in
-    (n.first_draft, n.second_draft, n.drafts, n.making)
+    (n.first_sketch, n.second_sketch, n.sketches, n.making)
 
 pub returns-in_err-and-in-And-clause-refused : goal.returns-in_err-and-in-And-clause-refused
 returns-in_err-and-in-And-clause-refused c =
@@ -243,7 +243,7 @@ finish-requires c =
     remaking.remade c.args.configs.now c.args.config.now c.args.query.now c.loop-node.maker
     c.loop-node.next _ c.loop-node.invariant
     (drop_all c.loop-node.node-index c.nodes-node-items.result.now c.loop-node-test.false) in
-    (r.drafts, r.few, r.making)
+    (r.sketches, r.few, r.making)
 
 pub returns-clause-value : goal.returns-clause-value
 returns-clause-value c =
@@ -252,4 +252,4 @@ returns-clause-value c =
     c.loop-node.next _ c.loop-node.invariant
     (drop_all c.loop-node.node-index c.nodes-node-items.result.now c.loop-node-test.false) in
     subst (IsMadeOf c.args.configs.now c.args.config.now c.args.query.now)
-    (sym (c.finish.ensures.value r.drafts r.few r.making)) r.value
+    (sym (c.finish.ensures.value r.sketches r.few r.making)) r.value

@@ -1,7 +1,7 @@
 use Rattle.std.proofs.Common.{◌≡◌, ◌∷◌, List, Bool, true, false, ◌&&◌, ◌||◌, refl, sym, ap, ◌∙◌, reverse}
 use Rattle.std.specs.Prelude.{if◌then◌else◌}
 use Rattle.ts_query.specs.declared.query.Node.TheVariants.{And, Or}
-use Rattle.ts_match.specs.Inner.Rows.{truths_at, row_value}
+use Rattle.ts_match.specs.Inner.BitSets.{truths_at, bit_value}
 use Rattle.ts_match.specs.Inner.Phrases.{truth_step}
 use Rattle.ts_match.proofs.Laid.{pop_wide, truths_pop}
 use Rattle.ts_match.proofs.Spares.{same_trans, freed, changed, height_joined}
@@ -22,8 +22,8 @@ combine-requires-clause-other c = (pop_wide c.args.count _ _ c.in-Some.right c.i
 pub returns-clause-truths : goal.returns-clause-truths
 returns-clause-truths c = λ value j.
     let count = c.args.count in
-    let r = row_value count c.in-Some.right j in
-    let l = row_value count c.in-Some-pop.left j in
+    let r = bit_value count c.in-Some.right j in
+    let l = bit_value count c.in-Some-pop.left j in
     let st = truths_at count j (reverse c.pop-2.new.self.items) in
     ap (truths_at count j) c.put.ensures.stack ∙ ap (λ b. b ∷ st) (c.combine.ensures.value j) ∙ stepped c.args.both value l r st
     ∙ ap (λ x. truth_step (if c.args.both then And else Or) value (r ∷ x)) (sym (truths_pop count j _ _ c.in-Some-pop.left c.in-Some-pop.ensures.items))

@@ -1,5 +1,5 @@
 use Rattle.std.proofs.Common.{◌≡◌, ℕ, ◌+◌, ◌*◌, ◌<◌, ◌≤◌, get_or}
-use Rattle.ts_match.specs.declared.rows.TheConstants.{WORD}
+use Rattle.ts_match.specs.declared.bit_sets.TheConstants.{WORD}
 use Rattle.ts_match.specs.declared.work.Step.{Step}
 use Rattle.ts_match.specs.Inner.Phrases.{HasPlaces}
 use Rattle.ts_match.proofs.layout.last_place.Given as goal

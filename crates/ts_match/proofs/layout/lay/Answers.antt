@@ -3,15 +3,15 @@ use Rattle.std.specs.List.{list_any, slice_range}
 use Rattle.std.proofs.lemmas.List.{get_or_default}
 use Rattle.ts_query.specs.declared.query.Node.{Node}
 use Rattle.ts_query.specs.declared.query.Operand.{Operand}
-use Rattle.ts_match.specs.declared.found.Found.{Found}
+use Rattle.ts_match.specs.declared.ranges.EntryRange.{EntryRange}
 use Rattle.ts_match.specs.Inner.Plan.{offset_of}
-use Rattle.ts_match.specs.Inner.Rows.{beginning}
+use Rattle.ts_match.specs.Inner.BitSets.{beginning}
 use Rattle.ts_match.specs.Inner.Phrases.{no_operand, node_value, PlacesFor}
 use Rattle.ts_match.proofs.Prepared.{leaf_found, leaf_operand}
 use Rattle.ts_match.proofs.Laid.{sets_some, laid}
 use Rattle.ts_match.proofs.layout.lay.Goals as goal
 
-abbrev none : Found
+abbrev none : EntryRange
 none = record { first = 0; end = 0 }
 
 pub set_found-requires-clause-order : goal.set_found-requires-clause-order

@@ -5,7 +5,7 @@ use Rattle.std.proofs.lemmas.List.Elements.{Contains-get_or, All-contains}
 use Rattle.ts_query.specs.declared.query.Node.TheVariants.{Leaf}
 use Rattle.ts_match.specs.declared.work.Place.TheVariants.{Outside}
 use Rattle.ts_match.specs.declared.work.Step.{Step}
-use Rattle.ts_match.specs.declared.found.TheConstants.{FARTHEST}
+use Rattle.ts_match.specs.declared.ranges.TheConstants.{FARTHEST}
 use Rattle.ts_match.specs.Inner.Plan.{offset_of}
 use Rattle.ts_match.proofs.Order.{greater_is}
 use Rattle.ts_match.proofs.Reach.{reach_is}

@@ -1,6 +1,6 @@
 use Rattle.std.proofs.Common.{◌≡◌, ℕ, ◌<◌, ◌≤◌, ◌⊎◌, get_or}
 use Rattle.std.specs.Prelude.{Contains}
-use Rattle.ts_match.specs.declared.found.TheConstants.{FARTHEST}
+use Rattle.ts_match.specs.declared.ranges.TheConstants.{FARTHEST}
 use Rattle.ts_match.specs.declared.work.Step.{Step}
 use Rattle.ts_match.specs.Inner.Plan.{offset_of}
 use Rattle.ts_match.proofs.layout.reach_of.Given as goal

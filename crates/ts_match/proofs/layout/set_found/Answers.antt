@@ -2,7 +2,7 @@ use Rattle.std.proofs.Common.{◌≡◌, ◌<◌, ◌||◌, List, length, get_or
 use Rattle.std.specs.Prelude.{Contains}
 use Rattle.std.specs.List.{list_any, slice_range}
 use Rattle.ts_base.specs.Vectors.{Position}
-use Rattle.ts_match.specs.Inner.Rows.{row_value}
+use Rattle.ts_match.specs.Inner.BitSets.{bit_value}
 use Rattle.ts_match.proofs.Lookups.{nothing}
 use Rattle.ts_match.proofs.Laid.{sets, sets_some, any_one, or_assoc, none_between, slice_more}
 use Rattle.ts_match.proofs.layout.set_found.Goals as goal
@@ -13,7 +13,7 @@ set_positions-requires-clause-within c = λ q h.
 
 pub loop-i-init : goal.loop-i-init
 loop-i-init c = record {
-  value = λ j. none_between (row_value c.args.count c.args.row.now j) (sets_some c.args.by j c.args.weights) c.args.vector.now c.args.found.first;
+  value = λ j. none_between (bit_value c.args.count c.args.bits.now j) (sets_some c.args.by j c.args.weights) c.args.vector.now c.args.found.first;
   len = refl;
 }
 
@@ -26,7 +26,7 @@ loop-i-preserved c =
     let w = c.args.weights in
     let l : c.loop-i.i < length c.args.vector.now = (let x = c.requires.end in omega arith) in record {
       value = λ j.
-          let old = row_value c.args.count c.args.row.now j in
+          let old = bit_value c.args.count c.args.bits.now j in
           let so_far = list_any (sets_some by j w) (slice_range v first i) in
           c.set_positions.ensures.value j ∙ ap (λ b. b || list_any (sets by j w) c.positions.result.now) (c.loop-i.invariant.value j)
           ∙ or_assoc old so_far (list_any (sets by j w) c.positions.result.now)
@@ -39,4 +39,4 @@ loop-i-preserved c =
 pub returns-clause-value : goal.returns-clause-value
 returns-clause-value c = λ j.
     let end : c.loop-i.i ≡ c.args.found.end = (let m = c.loop-i.auto.i-end c.requires.order in let t = c.loop-i-test.false in omega arith) in
-    c.loop-i.invariant.value j ∙ ap (λ e. row_value c.args.count c.args.row.now j || list_any (sets_some c.args.by j c.args.weights) (slice_range c.args.vector.now c.args.found.first e)) end
+    c.loop-i.invariant.value j ∙ ap (λ e. bit_value c.args.count c.args.bits.now j || list_any (sets_some c.args.by j c.args.weights) (slice_range c.args.vector.now c.args.found.first e)) end

@@ -5,7 +5,7 @@ use Rattle.ts_base.specs.Vectors.{Position}
 use Rattle.std.proofs.Math.Seq.{take-length}
 use Rattle.std.proofs.lemmas.List.Folds.{list_any_more}
 use Rattle.std.proofs.lemmas.List.Elements.{Contains-get_or}
-use Rattle.ts_match.specs.Inner.Rows.{row_value}
+use Rattle.ts_match.specs.Inner.BitSets.{bit_value}
 use Rattle.ts_match.proofs.Laid.{sets, or_assoc, or_none}
 use Rattle.ts_match.proofs.layout.set_positions.Goals as goal
 
@@ -15,14 +15,14 @@ set_position-requires-clause-within c =
     (subst (λ (p : Position). Contains c.args.positions.now p) (sym c.position-item.is) (Contains-get_or c.args.positions.now c.loop-position.position-index c.position-item.result c.loop-position-test.true))
 
 pub loop-position-init : goal.loop-position-init
-loop-position-init c = record { value = λ j. sym (or_none (row_value c.args.count c.args.row.now j)); len = refl }
+loop-position-init c = record { value = λ j. sym (or_none (bit_value c.args.count c.args.bits.now j)); len = refl }
 
 pub loop-position-preserved : goal.loop-position-preserved
 loop-position-preserved c =
     let i = c.loop-position.position-index in
     let ps = c.args.positions.now in record {
       value = λ j.
-          let old = row_value c.args.count c.args.row.now j in
+          let old = bit_value c.args.count c.args.bits.now j in
           let p = sets c.args.by j c.args.weights in
           let x = c.position-item.result in
           c.set_position.ensures.value j ∙ ap (λ b. b || p x) (c.loop-position.invariant.value j)
@@ -36,4 +36,4 @@ returns-clause-value c = λ j.
     let ps = c.args.positions.now in
     let all : c.loop-position.position-index ≡ length c.args.positions.now = omega arith in
     c.loop-position.invariant.value j
-    ∙ ap (λ l. row_value c.args.count c.args.row.now j || list_any (sets c.args.by j c.args.weights) l) (ap (λ n. take n ps) all ∙ take-length ps)
+    ∙ ap (λ l. bit_value c.args.count c.args.bits.now j || list_any (sets c.args.by j c.args.weights) l) (ap (λ n. take n ps) all ∙ take-length ps)

@@ -41,7 +41,7 @@ loop-from-init c =
     record {
       way = subst (λ (os : List Operand). Way v os c.args.steps.now (Holds q v) 0) (sym c.operands-operands.ensures.value)
           (subst (λ (ss : List Step). Way v (operands_of q) ss (Holds q v) 0) (sym c.requires.plan) (way_of v q some));
-      rows = same_refl _ _;
+      bit_sets = same_refl _ _;
       found = refl;
       truths = refl;
     }
@@ -91,7 +91,7 @@ pub loop-from-preserved : goal.loop-from-preserved
 loop-from-preserved c =
     let n = unit_next c.args.vector.now c.operands-operands.result.now c.args.steps.now (Holds c.args.query.now c.args.vector.now) c.loop-from.from c.end_of_unit-end.result c.loop-from.invariant.way c.loop-from-test.true c.end_of_unit-end.ensures.from c.end_of_unit-end.ensures.within c.end_of_unit-end.ensures.inner c.end_of_unit-end.ensures.last first c.unit_value-value.result c.unit_value-value.ensures.leaf c.unit_value-value.ensures.phrase in record {
       way = subst (λ i. Way c.args.vector.now c.operands-operands.result.now c.args.steps.now (Holds c.args.query.now c.args.vector.now) i) (sym c.next_step-from.ensures) n.0;
-      rows = same_trans _ _ _ _ _ _ c.loop-from.invariant.rows c.unit_value-value.ensures.rows;
+      bit_sets = same_trans _ _ _ _ _ _ c.loop-from.invariant.bit_sets c.unit_value-value.ensures.bit_sets;
       found = c.unit_value-value.ensures.found ∙ c.loop-from.invariant.found;
       truths = c.unit_value-value.ensures.truths ∙ c.loop-from.invariant.truths;
     }
@@ -104,11 +104,11 @@ returns-clause-meaning c =
 pub unit_value-value-requires-clause-phrase : goal.unit_value-value-requires-clause-phrase
 unit_value-value-requires-clause-phrase c = unit_phrase c.args.vector.now c.operands-operands.result.now c.args.steps.now (Holds c.args.query.now c.args.vector.now) c.loop-from.from c.end_of_unit-end.result c.loop-from.invariant.way c.loop-from-test.true c.end_of_unit-end.ensures.from c.end_of_unit-end.ensures.within c.end_of_unit-end.ensures.inner c.end_of_unit-end.ensures.last first
 
-pub unit_value-value-requires-clause-rows : goal.unit_value-value-requires-clause-rows
-unit_value-value-requires-clause-rows c = rows_of_part c.args.steps.now _ _ _ _ c.loop-from.from (c.end_of_unit-end.result + 1) c.requires.rows c.loop-from.invariant.rows
+pub unit_value-value-requires-clause-bit_sets : goal.unit_value-value-requires-clause-bit_sets
+unit_value-value-requires-clause-bit_sets c = rows_of_part c.args.steps.now _ _ _ _ c.loop-from.from (c.end_of_unit-end.result + 1) c.requires.bit_sets c.loop-from.invariant.bit_sets
 
-pub returns-then-is_empty-clause-rows : goal.returns-then-is_empty-clause-rows
-returns-then-is_empty-clause-rows c = same_refl _ _
+pub returns-then-is_empty-clause-bit_sets : goal.returns-then-is_empty-clause-bit_sets
+returns-then-is_empty-clause-bit_sets c = same_refl _ _
 
 pub unit_value-value-requires-clause-bounds : goal.unit_value-value-requires-clause-bounds
 unit_value-value-requires-clause-bounds c = subst (λ (os : List Operand). AreBounds c.args.vector.now os c.args.bounds.now) (sym c.operands-operands.ensures.value) c.requires.bounds

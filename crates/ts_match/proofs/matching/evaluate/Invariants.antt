@@ -1,12 +1,12 @@
 use Rattle.std.proofs.Common.{◌≡◌, ◌+◌, ◌-◌, length, vec_len, vec_capacity}
 use Rattle.ts_match.specs.Meaning.{Holds}
-use Rattle.ts_match.specs.Inner.Heights.{SameRows}
+use Rattle.ts_match.specs.Inner.Heights.{SameBitSets}
 use Rattle.ts_match.proofs.Units.{Way}
 use Rattle.ts_match.proofs.matching.evaluate.Given as goal
 
 pub record Walking (l : goal.Live-loop-from) : Type 0 where
   pub way : Way l.vector l.operands l.steps (Holds l.query l.vector) l.from
-  pub rows : SameRows l.fn.rows.stack.items l.fn.rows.spare.items l.rows.stack.items l.rows.spare.items
+  pub bit_sets : SameBitSets l.fn.bit_sets.stack.items l.fn.bit_sets.spare.items l.bit_sets.stack.items l.bit_sets.spare.items
   pub found : vec_len l.found ≡ vec_len l.fn.found
   pub truths : vec_capacity l.truths ≡ vec_capacity l.fn.truths
 

@@ -2,7 +2,7 @@ use Rattle.std.proofs.Common.{◌≡◌, get_or, inl, inr, ap, sym, subst, ◌�
 use Rattle.std.proofs.lemmas.Bool.{cases_lt}
 use Rattle.std.proofs.lemmas.List.{get_or_default}
 use Rattle.ts_match.specs.declared.work.Step.{Step}
-use Rattle.ts_match.specs.Inner.Phrases.{HasFound}
+use Rattle.ts_match.specs.Inner.Phrases.{HasRange}
 use Rattle.ts_match.proofs.Prepared.{lacks}
 use Rattle.ts_match.proofs.matching.find_leaves.Goals as goal
 
@@ -18,7 +18,7 @@ loop-step-preserved c = record {
     | inr q ↦
         let same : i ≡ c.loop-step.step-index = omega arith in
         let e = ap (λ j. get_or c.args.steps.now j d) same ∙ get_or_default c.args.steps.now c.loop-step.step-index d _ c.loop-step-test.true in
-        subst (λ (s : Step). HasFound c.args.vector.now c.args.operands.now c.find_leaf.new.found.items s) (sym e) c.find_leaf.ensures.here
+        subst (λ (s : Step). HasRange c.args.vector.now c.args.operands.now c.find_leaf.new.found.items s) (sym e) c.find_leaf.ensures.here
   ];
   len = c.find_leaf.ensures.len ∙ c.loop-step.invariant.len;
 }

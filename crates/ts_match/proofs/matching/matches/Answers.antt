@@ -13,7 +13,7 @@ invariant_of-work c = (
   let a = c.work.invariant.0 in let b = c.evaluate.ensures.found in omega arith,
   let a = c.work.invariant.1 in let b = c.evaluate.ensures.truths in omega arith,
   c.work.invariant.2,
-  rows_kept _ _ _ _ _ c.work.invariant.3 c.evaluate.ensures.rows,
+  rows_kept _ _ _ _ _ c.work.invariant.3 c.evaluate.ensures.bit_sets,
 )
 
 pub returns-clause-meaning : goal.returns-clause-meaning

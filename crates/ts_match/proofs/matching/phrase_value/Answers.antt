@@ -16,8 +16,8 @@ returns-in-None-clause-meaning c = λ t p.
     let m = c.phrase_holds.ensures.meaning t p in
     (λ h. (sym c.is_stripped.ensures.stripped ∙ c.if-is_stripped.false, m.0 h), λ h. m.1 h.1)
 
-pub returns-then-is_stripped-clause-rows : goal.returns-then-is_stripped-clause-rows
-returns-then-is_stripped-clause-rows c = same_refl _ _
+pub returns-then-is_stripped-clause-bit_sets : goal.returns-then-is_stripped-clause-bit_sets
+returns-then-is_stripped-clause-bit_sets c = same_refl _ _
 
-pub returns-then-not-find_leaves-clause-rows : goal.returns-then-not-find_leaves-clause-rows
-returns-then-not-find_leaves-clause-rows c = same_refl _ _
+pub returns-then-not-find_leaves-clause-bit_sets : goal.returns-then-not-find_leaves-clause-bit_sets
+returns-then-not-find_leaves-clause-bit_sets c = same_refl _ _

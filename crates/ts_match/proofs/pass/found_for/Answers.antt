@@ -1,6 +1,6 @@
 use Rattle.std.proofs.Common.{get_or, subst}
 use Rattle.std.proofs.lemmas.List.{get_or_read}
-use Rattle.ts_match.specs.Inner.Found.{NamesRange}
+use Rattle.ts_match.specs.Inner.Ranges.{NamesRange}
 use Rattle.ts_match.proofs.pass.found_for.Goals as goal
 
 pub returns-in-Some : goal.returns-in-Some

@@ -2,10 +2,10 @@ use Rattle.std.proofs.Common.{◌≡◌, ◌+◌, ◌-◌, get_or, sym, ap, subs
 use Rattle.std.specs.Prelude.{IsTrue, slice_get}
 use Rattle.std.proofs.lemmas.Option.{get_or_from_slice_get}
 use Rattle.ts_query.specs.declared.query.Node.TheVariants.{Leaf}
-use Rattle.ts_match.specs.declared.found.TheConstants.{FARTHEST}
+use Rattle.ts_match.specs.declared.ranges.TheConstants.{FARTHEST}
 use Rattle.ts_match.specs.declared.work.Step.{Step}
 use Rattle.ts_match.specs.Meaning.{at}
-use Rattle.ts_match.specs.Inner.Found.{NamesRange}
+use Rattle.ts_match.specs.Inner.Ranges.{NamesRange}
 use Rattle.ts_match.specs.Inner.Plan.{offset_of}
 use Rattle.ts_match.specs.Inner.Phrases.{place_from, no_operand}
 use Rattle.ts_match.proofs.Prepared.{leaf_found}

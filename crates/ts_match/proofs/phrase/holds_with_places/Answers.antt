@@ -2,7 +2,7 @@ use Rattle.std.proofs.Common.{◌+◌, ◌-◌, List, inl, inr, refl, sym, ap, s
 use Rattle.std.specs.Prelude.{Contains}
 use Rattle.std.proofs.lemmas.Bool.{both_ways}
 use Rattle.ts_base.specs.Vectors.{Position}
-use Rattle.ts_match.specs.declared.found.TheConstants.{FARTHEST}
+use Rattle.ts_match.specs.declared.ranges.TheConstants.{FARTHEST}
 use Rattle.ts_match.specs.Meaning.{at}
 use Rattle.ts_match.specs.Inner.Phrases.{place_from}
 use Rattle.ts_match.specs.Laws.Elements.{Contains-cases, Contains-none}

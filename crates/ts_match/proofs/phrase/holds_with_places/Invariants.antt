@@ -2,7 +2,7 @@ use Rattle.std.proofs.Common.{◌≡◌, ◌+◌, ◌-◌, ◌⊎◌, false, vec
 use Rattle.std.specs.Prelude.{Contains}
 use Rattle.ts_base.specs.Vectors.{Position}
 use Rattle.ts_query.specs.Queries.{Tree}
-use Rattle.ts_match.specs.declared.found.TheConstants.{FARTHEST}
+use Rattle.ts_match.specs.declared.ranges.TheConstants.{FARTHEST}
 use Rattle.ts_match.specs.Meaning.{at}
 use Rattle.ts_match.specs.Inner.Phrases.{IsPhraseOf, place_from}
 use Rattle.ts_match.proofs.phrase.holds_with_places.Given as goal

@@ -11,13 +11,13 @@ use Rattle.ts_vector.proofs.TsVector.parse.Goals as goal
 
 pub normal_form-requires : goal.normal_form-requires
 normal_form-requires c =
-    let items = c.in-Ok-Ok.drafts in
+    let items = c.in-Ok-Ok.words in
     let found : IsVectorText c.as_bytes.result.now items = rw c.in-Ok-Ok.field-0-is at c.in-Ok-Ok.ensures.found in
     subst (All IsWritten) (sym c.into_entries.ensures) (written_of items (text_good c.as_bytes.result.now items found c.as_bytes.ensures.utf8) c.in_default.ensures)
 
 pub returns-in-Ok-clause-value : goal.returns-in-Ok-clause-value
 returns-in-Ok-clause-value c =
-    let items = c.in-Ok-Ok.drafts in
+    let items = c.in-Ok-Ok.words in
     let made = c.in-Ok.entries in
     let found : IsVectorText c.as_bytes.result.now items = rw c.in-Ok-Ok.field-0-is at c.in-Ok-Ok.ensures.found in
     let here : IsVectorText c.args.text.now items = subst (λ t. IsVectorText t items) c.as_bytes.ensures.value found in
@@ -28,7 +28,7 @@ returns-in-Ok-clause-value c =
 
 pub returns-in-Ok-clause-cause : goal.returns-in-Ok-clause-cause
 returns-in-Ok-clause-cause c =
-    let items = c.in-Ok-Ok.drafts in
+    let items = c.in-Ok-Ok.words in
     let made = c.in-Ok.entries in
     let found : IsVectorText c.as_bytes.result.now items = rw c.in-Ok-Ok.field-0-is at c.in-Ok-Ok.ensures.found in
     let here : IsVectorText c.args.text.now items = subst (λ t. IsVectorText t items) c.as_bytes.ensures.value found in

@@ -3,7 +3,7 @@ use Rattle.std.proofs.lemmas.List.{nil_from_length}
 use Rattle.std.proofs.lemmas.Result.{err_from_is_err_and}
 use Rattle.std.proofs.lemmas.Bool.{eqb-true, eqb-false}
 use Rattle.ts_vector.specs.Decoded.{ReadsFields, start, counted, begun}
-use Rattle.ts_vector.proofs.Decoding.{count_short, count_goes, bytes_stop, surplus, whole_spelling, none_front, same_entries}
+use Rattle.ts_vector.proofs.Decoding.{count_short, count_goes, bytes_stop, surplus, whole_encoding, none_front, same_entries}
 use Rattle.ts_vector.proofs.checker.checked.Goals as goal
 
 pub returns-in_err-count-clause-err : goal.returns-in_err-count-clause-err
@@ -45,5 +45,5 @@ returns-clause-ok c =
     let n = c.in_ok-count.count in
     let none : c.loop.rest.now ≡ [] = nil_from_length c.loop.rest.now (eqb-true (length c.loop.rest.now) 0 (sym c.if-not-is_empty.ensures)) in
     let whole : length is.0 ≡ n = omega (arith, is.1) in
-    let spelling = whole_spelling c.args.bytes.now n is.0 (subst (λ r. ReadsFields c.args.bytes.now (counted n is.0) r) none is.4) whole in
-    (is.0, spelling, whole, same_entries c.args.bytes.now n c.in_ok-count.entries.now is.0 whole c.in_ok-count.ensures.ok spelling)
+    let encoding = whole_encoding c.args.bytes.now n is.0 (subst (λ r. ReadsFields c.args.bytes.now (counted n is.0) r) none is.4) whole in
+    (is.0, encoding, whole, same_entries c.args.bytes.now n c.in_ok-count.entries.now is.0 whole c.in_ok-count.ensures.ok encoding)

@@ -87,7 +87,7 @@ finish-requires c =
     let l = c.loop-piece.invariant.1 in
     let r = web_made k m c.end_row-2.new.self (l.ended ++ l.row ∷ [])
     (c.in_ok-end_row-2.ensures.value k m l.ended l.row l.at) in
-    (r.drafts, r.few, r.making)
+    (r.sketches, r.few, r.making)
 
 pub returns-clause-value : goal.returns-clause-value
 returns-clause-value c =
@@ -101,5 +101,5 @@ returns-clause-value c =
       read_whole c.args.text.now c.loop-piece.rest.now l.ended l.row l.read
           c.in_default.ensures.none,
       subst (IsMadeOf k m (web_query rows))
-          (sym (c.finish.ensures.value r.drafts r.few r.making)) r.value,
+          (sym (c.finish.ensures.value r.sketches r.few r.making)) r.value,
     )

@@ -1,11 +1,11 @@
 use Rattle.std.proofs.Common.{◌≡◌, ◌≤◌, ◌<◌, ◌+◌, ◌++◌, ◌∷◌, [], ℕ, Bool, suc, length, length-append, arith, refl, sym, ◌∙◌, ap, subst}
 use Rattle.std.specs.Prelude.{cond, None, Err}
-use Rattle.ts_base.proofs.Spelling.{spelling_has_size}
+use Rattle.ts_base.proofs.Encoding.{encoding_has_size}
 use Rattle.buffer_frames.specs.Opens.{insertion}
 use Rattle.buffer_frames.specs.Journals.{logged_bytes}
 use Rattle.engine.specs.Inner.DbValue.{DbValue}
 use Rattle.engine.specs.Inner.Puts.{next_document}
-use Rattle.engine.specs.Inner.Drafts.{IsDraftOf}
+use Rattle.engine.specs.Inner.Prepared.{IsPreparedFor}
 use Rattle.engine.proofs.Sizes.{next_records, logged_size}
 use Rattle.engine.proofs.Inserting.{follows}
 use Rattle.wal.specs.Waiting.{waiting, down_of, end_of}
@@ -14,7 +14,7 @@ use Rattle.engine.specs.Inner.Refusals.{db_error}
 use Rattle.engine.specs.Inner.Heaps.{records_of}
 use Rattle.engine.specs.declared.error.DbError.TheVariants as errors
 use Rattle.engine.specs.Inner.Kept.{kept_in}
-use Rattle.engine.proofs.Spelled.{length_kept}
+use Rattle.engine.proofs.Encoded.{length_kept}
 use Rattle.engine.proofs.Storing.{draft_kept}
 use Rattle.engine.specs.Finding.{Name}
 use Rattle.disk_trait.specs.Device.{Rose}
@@ -30,22 +30,22 @@ use Rattle.engine.proofs.db.Db.put.Goals as goal
 pub log-requires-clause-next : goal.log-requires-clause-next
 log-requires-clause-next g c =
     let s : DbValue g.row.D.Denot = record { documents = kept_in c.self.inside.heap; heap = c.self.inside.heap; journal = c.self.inside.journal } in
-    let d = c.in_ok-draft.draft in
-    next_records g.D.Disk s c.self.inside.used c.args.vector.now d c.self.invariant (subst (λ z. IsDraftOf z c.args.vector.now d) (sym c.self.view_is) c.in_ok-draft.ensures.drafted)
+    let d = c.in_ok-prepare.prepared in
+    next_records g.D.Disk s c.self.inside.used c.args.vector.now d c.self.invariant (subst (λ z. IsPreparedFor z c.args.vector.now d) (sym c.self.view_is) c.in_ok-prepare.ensures.prepared)
 
 pub log-requires-clause-short : goal.log-requires-clause-short
 log-requires-clause-short g c =
     let s : DbValue g.row.D.Denot = record { documents = kept_in c.self.inside.heap; heap = c.self.inside.heap; journal = c.self.inside.journal } in
-    let d = c.in_ok-draft.draft in
-    let f : IsDraftOf s c.args.vector.now d = subst (λ z. IsDraftOf z c.args.vector.now d) (sym c.self.view_is) c.in_ok-draft.ensures.drafted in
+    let d = c.in_ok-prepare.prepared in
+    let f : IsPreparedFor s c.args.vector.now d = subst (λ z. IsPreparedFor z c.args.vector.now d) (sym c.self.view_is) c.in_ok-prepare.ensures.prepared in
     omega (arith, ap (λ rs. length (logged_bytes s.journal rs)) f.records, logged_size s.journal d.insertion d.heap f.page, owed_small s.journal.owes)
 
 pub log-requires-clause-follow : goal.log-requires-clause-follow
 log-requires-clause-follow g c t up R H st l =
     let s : DbValue g.row.D.Denot = record { documents = kept_in c.self.inside.heap; heap = c.self.inside.heap; journal = c.self.inside.journal } in
-    let d = c.in_ok-draft.draft in
-    let f : IsDraftOf s c.args.vector.now d = subst (λ z. IsDraftOf z c.args.vector.now d) (sym c.self.view_is) c.in_ok-draft.ensures.drafted in
-    (H ++ insertion (next_document s c.args.vector.now) ∷ [], follows g.D.Disk s c.self.inside.used c.args.vector.now d c.self.invariant f (spelling_has_size c.args.vector.now) t up R H st l, (insertion (next_document s c.args.vector.now) ∷ [], refl))
+    let d = c.in_ok-prepare.prepared in
+    let f : IsPreparedFor s c.args.vector.now d = subst (λ z. IsPreparedFor z c.args.vector.now d) (sym c.self.view_is) c.in_ok-prepare.ensures.prepared in
+    (H ++ insertion (next_document s c.args.vector.now) ∷ [], follows g.D.Disk s c.self.inside.used c.args.vector.now d c.self.invariant f (encoding_has_size c.args.vector.now) t up R H st l, (insertion (next_document s c.args.vector.now) ∷ [], refl))
 
 pub invariant_of-self : goal.invariant_of-self
 invariant_of-self g c =
@@ -57,8 +57,8 @@ pub returns-in-Err : goal.returns-in-Err
 returns-in-Err g c =
     let s : DbValue g.row.D.Denot = record { documents = kept_in c.self.inside.heap; heap = c.self.inside.heap; journal = c.self.inside.journal } in
     let new : DbValue g.row.D.Denot = record { documents = kept_in c.self.inside.heap; heap = c.self.inside.heap; journal = c.log.new.self } in
-    let d = c.in_ok-draft.draft in
-    let f : IsDraftOf s c.args.vector.now d = subst (λ z. IsDraftOf z c.args.vector.now d) (sym c.self.view_is) c.in_ok-draft.ensures.drafted in
+    let d = c.in_ok-prepare.prepared in
+    let f : IsPreparedFor s c.args.vector.now d = subst (λ z. IsPreparedFor z c.args.vector.now d) (sym c.self.view_is) c.in_ok-prepare.ensures.prepared in
     let up : down_of s.journal.wal ≡ None = sym c.fault.ensures ∙ c.in_default.is in
     let few : length (waiting s.journal.wal) ≤ 20000 = c.self.invariant.idle up in
     let less : length (waiting s.journal.wal) < 4194304 = omega (arith, few) in
@@ -78,8 +78,8 @@ returns-in-Err g c =
 pub invariant_of-self-in-Err-flush : goal.invariant_of-self-in-Err-flush
 invariant_of-self-in-Err-flush g c =
     let s : DbValue g.row.D.Denot = record { documents = kept_in c.self.inside.heap; heap = c.self.inside.heap; journal = c.self.inside.journal } in
-    let d = c.in_ok-draft.draft in
-    let draft : IsDraftOf s c.args.vector.now d = subst (λ z. IsDraftOf z c.args.vector.now d) (sym c.self.view_is) c.in_ok-draft.ensures.drafted in
+    let d = c.in_ok-prepare.prepared in
+    let prepared : IsPreparedFor s c.args.vector.now d = subst (λ z. IsPreparedFor z c.args.vector.now d) (sym c.self.view_is) c.in_ok-prepare.ensures.prepared in
     let up : down_of s.journal.wal ≡ None = sym c.fault.ensures ∙ c.in_default.is in
     let less : length (waiting s.journal.wal) < 4194304 = omega (arith, c.self.invariant.idle up) in
     let has : HasLogged s.journal c.log.new.self d.records = on_ok c.log.result _ _ c.in_default-log.is (c.log.ensures.now less).0 in
@@ -88,7 +88,7 @@ invariant_of-self-in-Err-flush g c =
     value_down g.D.Disk s c.log.new.self c.flush.new.self c.args.vector.now c.self.inside.used d
     (record {
       value = c.self.invariant;
-      draft = draft;
+      prepared = prepared;
       up = up;
       has = has;
       one = c.counted_are_one.ensures;
@@ -107,8 +107,8 @@ pub returns-in-Err-flush : goal.returns-in-Err-flush
 returns-in-Err-flush g c =
     let s : DbValue g.row.D.Denot = record { documents = kept_in c.self.inside.heap; heap = c.self.inside.heap; journal = c.self.inside.journal } in
     let new : DbValue g.row.D.Denot = record { documents = kept_in c.self.inside.heap; heap = c.self.inside.heap; journal = c.flush.new.self } in
-    let d = c.in_ok-draft.draft in
-    let draft : IsDraftOf s c.args.vector.now d = subst (λ z. IsDraftOf z c.args.vector.now d) (sym c.self.view_is) c.in_ok-draft.ensures.drafted in
+    let d = c.in_ok-prepare.prepared in
+    let prepared : IsPreparedFor s c.args.vector.now d = subst (λ z. IsPreparedFor z c.args.vector.now d) (sym c.self.view_is) c.in_ok-prepare.ensures.prepared in
     let up : down_of s.journal.wal ≡ None = sym c.fault.ensures ∙ c.in_default.is in
     let less : length (waiting s.journal.wal) < 4194304 = omega (arith, c.self.invariant.idle up) in
     let has : HasLogged s.journal c.log.new.self d.records = on_ok c.log.result _ _ c.in_default-log.is (c.log.ensures.now less).0 in
@@ -121,7 +121,7 @@ returns-in-Err-flush g c =
       down = down;
       puts = puts g.D.Disk s new c.log.new.self c.args.vector.now c.self.inside.used d (record {
         value = c.self.invariant;
-        draft = draft;
+        prepared = prepared;
         up = up;
         has = has;
         one = c.counted_are_one.ensures;
@@ -145,15 +145,15 @@ returns-in-Err-flush g c =
 pub invariant_of-self-2 : goal.invariant_of-self-2
 invariant_of-self-2 g c =
     let s : DbValue g.row.D.Denot = record { documents = kept_in c.self.inside.heap; heap = c.self.inside.heap; journal = c.self.inside.journal } in
-    let d = c.in_ok-draft.draft in
-    let draft : IsDraftOf s c.args.vector.now d = subst (λ z. IsDraftOf z c.args.vector.now d) (sym c.self.view_is) c.in_ok-draft.ensures.drafted in
+    let d = c.in_ok-prepare.prepared in
+    let prepared : IsPreparedFor s c.args.vector.now d = subst (λ z. IsPreparedFor z c.args.vector.now d) (sym c.self.view_is) c.in_ok-prepare.ensures.prepared in
     let up : down_of s.journal.wal ≡ None = sym c.fault.ensures ∙ c.in_default.is in
     let less : length (waiting s.journal.wal) < 4194304 = omega (arith, c.self.invariant.idle up) in
     let done = on_ok c.flush.result _ _ c.in_default-flush.is c.flush.ensures.done in
     value_up g.D.Disk s c.log.new.self c.flush.new.self c.args.vector.now c.self.inside.used d
     (record {
       value = c.self.invariant;
-      draft = draft;
+      prepared = prepared;
       up = up;
       has = on_ok c.log.result _ _ c.in_default-log.is (c.log.ensures.now less).0;
       one = c.counted_are_one.ensures;
@@ -166,42 +166,42 @@ invariant_of-self-2 g c =
       limit = c.flush.ensures.same.2 ∙ c.log.ensures.same;
       done = λ still. done.0;
     })
-    (kept_in d.heap) (draft_kept s c.args.vector.now d refl draft) done.0
+    (kept_in d.heap) (draft_kept s c.args.vector.now d refl prepared) done.0
 
 pub returns : goal.returns
 returns g c =
     let s : DbValue g.row.D.Denot = record { documents = kept_in c.self.inside.heap; heap = c.self.inside.heap; journal = c.self.inside.journal } in
-    let d = c.in_ok-draft.draft in
+    let d = c.in_ok-prepare.prepared in
     let new : DbValue g.row.D.Denot = record { documents = kept_in d.heap; heap = d.heap; journal = c.flush.new.self } in
-    let draft : IsDraftOf s c.args.vector.now d = subst (λ z. IsDraftOf z c.args.vector.now d) (sym c.self.view_is) c.in_ok-draft.ensures.drafted in
+    let prepared : IsPreparedFor s c.args.vector.now d = subst (λ z. IsPreparedFor z c.args.vector.now d) (sym c.self.view_is) c.in_ok-prepare.ensures.prepared in
     let up : down_of s.journal.wal ≡ None = sym c.fault.ensures ∙ c.in_default.is in
     let few : length (waiting s.journal.wal) ≤ 20000 = c.self.invariant.idle up in
     let less : length (waiting s.journal.wal) < 4194304 = omega (arith, few) in
     let has : HasLogged s.journal c.log.new.self d.records = on_ok c.log.result _ _ c.in_default-log.is (c.log.ensures.now less).0 in
     let done = on_ok c.flush.result _ _ c.in_default-flush.is c.flush.ensures.done in
-    let size : length (logged_bytes s.journal d.records) ≡ cond s.journal.owes 18 0 + 8267 = ap (λ rs. length (logged_bytes s.journal rs)) draft.records ∙ logged_size s.journal d.insertion d.heap draft.page in
+    let size : length (logged_bytes s.journal d.records) ≡ cond s.journal.owes 18 0 + 8267 = ap (λ rs. length (logged_bytes s.journal rs)) prepared.records ∙ logged_size s.journal d.insertion d.heap prepared.page in
     let waits : length (waiting c.log.new.self.wal) ≡ length (waiting s.journal.wal) + length (logged_bytes s.journal d.records) = ap length has.waits ∙ length-append (waiting s.journal.wal) (logged_bytes s.journal d.records) in
     let st = c.self.invariant.stands in
     let records : s.journal.state.records ≡ length c.self.invariant.log = ap (λ z. z.records) st.state ∙ state_number s.journal.state.pages s.journal.state.xid_limit c.self.invariant.log st.numbered in
     let serials : s.journal.state.next_serial ≤ suc (length c.self.invariant.log) = subst (λ z. z.next_serial ≤ suc (length c.self.invariant.log)) (sym st.state) (few_serials s.journal.state.pages s.journal.state.xid_limit c.self.invariant.log) in
-    let drawn = draws s.journal.owes s.journal.state d.insertion d.heap draft.xid (omega (arith, draft.xid, draft.some_xid)) draft.serial (omega (arith, draft.serial, serials, records, draft.number, draft.bound)) in
-    let state : c.flush.new.self.state ≡ steps_of (records_of d.insertion d.heap) (after_owed s.journal.owes s.journal.state) = c.flush.ensures.same.0 ∙ has.state ∙ ap (λ rs. steps_of rs (after_owed s.journal.owes s.journal.state)) draft.records in
+    let drawn = draws s.journal.owes s.journal.state d.insertion d.heap prepared.xid (omega (arith, prepared.xid, prepared.some_xid)) prepared.serial (omega (arith, prepared.serial, serials, records, prepared.number, prepared.bound)) in
+    let state : c.flush.new.self.state ≡ steps_of (records_of d.insertion d.heap) (after_owed s.journal.owes s.journal.state) = c.flush.ensures.same.0 ∙ has.state ∙ ap (λ rs. steps_of rs (after_owed s.journal.owes s.journal.state)) prepared.records in
     let owed : Bool → ℕ = λ b. cond b 18 0 in
     let at : ℕ → ℕ → Name = λ n m. record { page = 2; slot = n; serial = m } in
     let stored : IsPut g.D.Disk s new c.args.vector.now c.name_of-name.result = record {
-      named = c.name_of-name.ensures ∙ ap (λ n. at n d.insertion.serial) (c.len.ensures ∙ sym (length_kept s.heap)) ∙ ap (λ n. at (length s.documents) n) draft.serial;
-      documents = draft_kept s c.args.vector.now d refl draft;
-      fits = draft.fits;
+      named = c.name_of-name.ensures ∙ ap (λ n. at n d.insertion.serial) (c.len.ensures ∙ sym (length_kept s.heap)) ∙ ap (λ n. at (length s.documents) n) prepared.serial;
+      documents = draft_kept s c.args.vector.now d refl prepared;
+      fits = prepared.fits;
       up = up;
       still_up = still_at_ok c.flush.result _ _ _ _ c.in_default-flush.is c.flush.ensures.goes_down ∙ has.down ∙ up;
-      some_xid = draft.some_xid;
+      some_xid = prepared.some_xid;
       log_fits = omega (arith, size, length_idle s.journal (logged_bytes s.journal d.records) few, c.self.invariant.limit, full_left c.log.result _ _ _ c.in_default-log.is c.log.ensures.full);
       end = omega (arith, ap length done.0, done.1, end_some (end_of c.log.new.self.wal) (waiting c.log.new.self.wal) (omega (arith, waits, size)), waits, size, has.end, ap owed (c.flush.ensures.same.1 ∙ has.owes));
-      next_serial = omega (arith, ap (λ z. z.next_serial) state, drawn.0, draft.serial);
-      next_xid = omega (arith, ap (λ z. suc (length z.fates)) state, drawn.1, draft.xid);
+      next_serial = omega (arith, ap (λ z. z.next_serial) state, drawn.0, prepared.serial);
+      next_xid = omega (arith, ap (λ z. suc (length z.fates)) state, drawn.1, prepared.xid);
       puts = puts g.D.Disk s new c.log.new.self c.args.vector.now c.self.inside.used d (record {
         value = c.self.invariant;
-        draft = draft;
+        prepared = prepared;
         up = up;
         has = has;
         one = c.counted_are_one.ensures;

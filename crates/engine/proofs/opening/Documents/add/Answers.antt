@@ -11,7 +11,7 @@ returns-clause-added c more =
     let at = c.in-Some.ensures.some in
     let h = head_shown c.in-Some-head_of.head in
     let there = c.in-Some-head_of.ensures.some in
-    let v = c.spells.ensures.yes c.if-not-spells.false in
+    let v = c.encodes.ensures.yes c.if-not-encodes.false in
     record {
       document = record { serial = c.args.commit - 1 + 1; vector = v.0 };
       head = h;
@@ -19,7 +19,7 @@ returns-clause-added c more =
         serial = refl;
         slot = subst (λ (n : Name). slot_at c.args.slots.now n.slot ≡ Some h) at.0 there.0;
         plain = subst (λ (n : Name). IsPlain h n.serial) at.0 there.1;
-        spells = v.1;
+        encodes = v.1;
       };
       below = subst (λ (n : Name). n.serial < c.args.state.now.value.next_serial) at.0 at.1;
       heap = search rules;

@@ -1,6 +1,6 @@
 use Rattle.std.proofs.Common.{◌+◌, ◌∙◌, ap, arith}
 use Rattle.page_types.specs.Parts.{entry_shown}
-use Rattle.page_types.specs.Spelling.{entry_bytes}
+use Rattle.page_types.specs.Encoding.{entry_bytes}
 use Rattle.page_types.proofs.BodySizes.{grows, all_sized}
 use Rattle.page_types.proofs.entries.Entries.size.Goals as goal
 use Rattle.page_types.proofs.entries.Entries.size.Goals.{in-Some, in_default}

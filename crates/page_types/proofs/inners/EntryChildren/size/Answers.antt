@@ -1,6 +1,6 @@
 use Rattle.std.proofs.Common.{length, ap, arith}
 use Rattle.std.specs.List.{flat_map}
-use Rattle.page_types.specs.Spelling.{entry_child_bytes}
+use Rattle.page_types.specs.Encoding.{entry_child_bytes}
 use Rattle.page_types.proofs.BodySizes.{entry_children_size}
 use Rattle.page_types.proofs.inners.EntryChildren.size.Goals as goal
 

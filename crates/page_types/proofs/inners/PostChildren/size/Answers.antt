@@ -1,6 +1,6 @@
 use Rattle.std.proofs.Common.{length, ap, arith}
 use Rattle.std.specs.List.{flat_map}
-use Rattle.page_types.specs.Spelling.{post_child_bytes}
+use Rattle.page_types.specs.Encoding.{post_child_bytes}
 use Rattle.page_types.proofs.BodySizes.{post_children_size}
 use Rattle.page_types.proofs.inners.PostChildren.size.Goals as goal
 

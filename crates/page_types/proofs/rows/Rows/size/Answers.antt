@@ -1,6 +1,6 @@
 use Rattle.std.proofs.Common.{length, ap, arith}
 use Rattle.std.specs.List.{flat_map}
-use Rattle.page_types.specs.Spelling.{row_bytes}
+use Rattle.page_types.specs.Encoding.{row_bytes}
 use Rattle.page_types.proofs.BodySizes.{rows_size}
 use Rattle.page_types.proofs.rows.Rows.size.Goals as goal
 

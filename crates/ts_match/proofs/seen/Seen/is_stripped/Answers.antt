@@ -14,12 +14,12 @@ returns-in-Listed-clause-normal c =
     let same : c.in-Listed.vector.now ≡ c.args.self.now = ap entries_of (sym c.in-Listed.is) ∙ c.self.view_is in
     subst IsNormal same c.is_stripped.ensures.normal
 
-pub returns-in-Spelled-clause-stripped : goal.returns-in-Spelled-clause-stripped
-returns-in-Spelled-clause-stripped c =
-    let same : c.in-Spelled.vector.now ≡ c.args.self.now = ap entries_of (sym c.in-Spelled.is) ∙ c.self.view_is in
-    c.is_stripped-in-Spelled.ensures.stripped ∙ ap is_stripped same
+pub returns-in-Encoded-clause-stripped : goal.returns-in-Encoded-clause-stripped
+returns-in-Encoded-clause-stripped c =
+    let same : c.in-Encoded.vector.now ≡ c.args.self.now = ap entries_of (sym c.in-Encoded.is) ∙ c.self.view_is in
+    c.is_stripped-in-Encoded.ensures.stripped ∙ ap is_stripped same
 
-pub returns-in-Spelled-clause-normal : goal.returns-in-Spelled-clause-normal
-returns-in-Spelled-clause-normal c =
-    let same : c.in-Spelled.vector.now ≡ c.args.self.now = ap entries_of (sym c.in-Spelled.is) ∙ c.self.view_is in
-    subst IsNormal same c.is_stripped-in-Spelled.ensures.normal
+pub returns-in-Encoded-clause-normal : goal.returns-in-Encoded-clause-normal
+returns-in-Encoded-clause-normal c =
+    let same : c.in-Encoded.vector.now ≡ c.args.self.now = ap entries_of (sym c.in-Encoded.is) ∙ c.self.view_is in
+    subst IsNormal same c.is_stripped-in-Encoded.ensures.normal

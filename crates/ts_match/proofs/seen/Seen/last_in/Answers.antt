@@ -14,9 +14,9 @@ last_in-requires-clause-within c =
     let same : c.in-Listed.vector.now ≡ c.args.self.now = ap entries_of (sym c.in-Listed.is) ∙ c.self.view_is in
     subst (λ (v : Vector). c.args.found.end ≤ length v) (sym same) c.requires.within
 
-pub last_in-requires-in-Spelled : goal.last_in-requires-in-Spelled
-last_in-requires-in-Spelled c =
-    let same : c.in-Spelled.vector.now ≡ c.args.self.now = ap entries_of (sym c.in-Spelled.is) ∙ c.self.view_is in
+pub last_in-requires-in-Encoded : goal.last_in-requires-in-Encoded
+last_in-requires-in-Encoded c =
+    let same : c.in-Encoded.vector.now ≡ c.args.self.now = ap entries_of (sym c.in-Encoded.is) ∙ c.self.view_is in
     subst (λ (v : Vector). c.args.found.end ≤ length v) (sym same) c.requires.within
 
 pub returns-in-Listed-clause-each : goal.returns-in-Listed-clause-each
@@ -24,7 +24,7 @@ returns-in-Listed-clause-each c =
     let same : c.in-Listed.vector.now ≡ c.args.self.now = ap entries_of (sym c.in-Listed.is) ∙ c.self.view_is in
     λ i e p l m h. c.last_in.ensures.each i e p l m (subst (λ (v : Vector). Contains (get_or v i e).positions p) (sym same) h)
 
-pub returns-in-Spelled-clause-each : goal.returns-in-Spelled-clause-each
-returns-in-Spelled-clause-each c =
-    let same : c.in-Spelled.vector.now ≡ c.args.self.now = ap entries_of (sym c.in-Spelled.is) ∙ c.self.view_is in
-    λ i e p l m h. c.last_in-in-Spelled.ensures.each i e p l m (subst (λ (v : Vector). Contains (get_or v i e).positions p) (sym same) h)
+pub returns-in-Encoded-clause-each : goal.returns-in-Encoded-clause-each
+returns-in-Encoded-clause-each c =
+    let same : c.in-Encoded.vector.now ≡ c.args.self.now = ap entries_of (sym c.in-Encoded.is) ∙ c.self.view_is in
+    λ i e p l m h. c.last_in-in-Encoded.ensures.each i e p l m (subst (λ (v : Vector). Contains (get_or v i e).positions p) (sym same) h)

@@ -1,7 +1,7 @@
 use Rattle.std.proofs.Common.{◌≡◌, sym, ap, subst, ◌∙◌}
 use Rattle.ts_base.specs.Vectors.{Vector}
 use Rattle.ts_match.specs.Meaning.{is_met}
-use Rattle.ts_match.specs.Inner.Found.{NamesRange}
+use Rattle.ts_match.specs.Inner.Ranges.{NamesRange}
 use Rattle.ts_match.specs.Inner.Seen.{entries_of}
 use Rattle.ts_match.proofs.seen.Seen.meets.Goals as goal
 
@@ -10,9 +10,9 @@ meets-requires c =
     let same : c.in-Listed.vector.now ≡ c.args.self.now = ap entries_of (sym c.in-Listed.is) ∙ c.self.view_is in
     subst (λ (v : Vector). NamesRange v c.args.operand.now c.args.found) (sym same) c.requires
 
-pub meets-requires-in-Spelled : goal.meets-requires-in-Spelled
-meets-requires-in-Spelled c =
-    let same : c.in-Spelled.vector.now ≡ c.args.self.now = ap entries_of (sym c.in-Spelled.is) ∙ c.self.view_is in
+pub meets-requires-in-Encoded : goal.meets-requires-in-Encoded
+meets-requires-in-Encoded c =
+    let same : c.in-Encoded.vector.now ≡ c.args.self.now = ap entries_of (sym c.in-Encoded.is) ∙ c.self.view_is in
     subst (λ (v : Vector). NamesRange v c.args.operand.now c.args.found) (sym same) c.requires
 
 pub returns-in-Listed : goal.returns-in-Listed
@@ -20,7 +20,7 @@ returns-in-Listed c =
     let same : c.in-Listed.vector.now ≡ c.args.self.now = ap entries_of (sym c.in-Listed.is) ∙ c.self.view_is in
     c.meets.ensures ∙ ap (is_met c.args.operand.now) same
 
-pub returns-in-Spelled : goal.returns-in-Spelled
-returns-in-Spelled c =
-    let same : c.in-Spelled.vector.now ≡ c.args.self.now = ap entries_of (sym c.in-Spelled.is) ∙ c.self.view_is in
-    c.meets-in-Spelled.ensures ∙ ap (is_met c.args.operand.now) same
+pub returns-in-Encoded : goal.returns-in-Encoded
+returns-in-Encoded c =
+    let same : c.in-Encoded.vector.now ≡ c.args.self.now = ap entries_of (sym c.in-Encoded.is) ∙ c.self.view_is in
+    c.meets-in-Encoded.ensures ∙ ap (is_met c.args.operand.now) same

@@ -2,7 +2,7 @@ use Rattle.std.proofs.Common.{◌≡◌, ◌≤◌, ◌||◌, length, get_or, sy
 use Rattle.std.specs.Prelude.{Contains}
 use Rattle.std.specs.List.{list_any, slice_range}
 use Rattle.ts_base.specs.Vectors.{Vector}
-use Rattle.ts_match.specs.Inner.Rows.{row_value}
+use Rattle.ts_match.specs.Inner.BitSets.{bit_value}
 use Rattle.ts_match.proofs.Laid.{sets_some}
 use Rattle.ts_match.specs.Inner.Seen.{entries_of}
 use Rattle.ts_match.proofs.seen.Seen.set_found.Goals as goal
@@ -20,19 +20,19 @@ set_found-requires-clause-within c =
 pub returns-in-Listed-clause-value : goal.returns-in-Listed-clause-value
 returns-in-Listed-clause-value c =
     let same : c.in-Listed.vector.now ≡ c.args.self.now = ap entries_of (sym c.in-Listed.is) ∙ c.self.view_is in
-    λ j. c.set_found.ensures.value j ∙ ap (λ (v : Vector). row_value c.args.count c.args.row.now j || list_any (sets_some c.args.by j c.args.weights) (slice_range v c.args.found.first c.args.found.end)) same
+    λ j. c.set_found.ensures.value j ∙ ap (λ (v : Vector). bit_value c.args.count c.args.bits.now j || list_any (sets_some c.args.by j c.args.weights) (slice_range v c.args.found.first c.args.found.end)) same
 
-pub set_found-requires-in-Spelled-clause-end : goal.set_found-requires-in-Spelled-clause-end
-set_found-requires-in-Spelled-clause-end c =
-    let same : c.in-Spelled.vector.now ≡ c.args.self.now = ap entries_of (sym c.in-Spelled.is) ∙ c.self.view_is in
+pub set_found-requires-in-Encoded-clause-end : goal.set_found-requires-in-Encoded-clause-end
+set_found-requires-in-Encoded-clause-end c =
+    let same : c.in-Encoded.vector.now ≡ c.args.self.now = ap entries_of (sym c.in-Encoded.is) ∙ c.self.view_is in
     subst (λ (v : Vector). c.args.found.end ≤ length v) (sym same) c.requires.end
 
-pub set_found-requires-in-Spelled-clause-within : goal.set_found-requires-in-Spelled-clause-within
-set_found-requires-in-Spelled-clause-within c =
-    let same : c.in-Spelled.vector.now ≡ c.args.self.now = ap entries_of (sym c.in-Spelled.is) ∙ c.self.view_is in
+pub set_found-requires-in-Encoded-clause-within : goal.set_found-requires-in-Encoded-clause-within
+set_found-requires-in-Encoded-clause-within c =
+    let same : c.in-Encoded.vector.now ≡ c.args.self.now = ap entries_of (sym c.in-Encoded.is) ∙ c.self.view_is in
     λ i e p l m h. c.requires.within i e p l m (subst (λ (v : Vector). Contains (get_or v i e).positions p) same h)
 
-pub returns-in-Spelled-clause-value : goal.returns-in-Spelled-clause-value
-returns-in-Spelled-clause-value c =
-    let same : c.in-Spelled.vector.now ≡ c.args.self.now = ap entries_of (sym c.in-Spelled.is) ∙ c.self.view_is in
-    λ j. c.set_found-in-Spelled.ensures.value j ∙ ap (λ (v : Vector). row_value c.args.count c.args.row.now j || list_any (sets_some c.args.by j c.args.weights) (slice_range v c.args.found.first c.args.found.end)) same
+pub returns-in-Encoded-clause-value : goal.returns-in-Encoded-clause-value
+returns-in-Encoded-clause-value c =
+    let same : c.in-Encoded.vector.now ≡ c.args.self.now = ap entries_of (sym c.in-Encoded.is) ∙ c.self.view_is in
+    λ j. c.set_found-in-Encoded.ensures.value j ∙ ap (λ (v : Vector). bit_value c.args.count c.args.bits.now j || list_any (sets_some c.args.by j c.args.weights) (slice_range v c.args.found.first c.args.found.end)) same

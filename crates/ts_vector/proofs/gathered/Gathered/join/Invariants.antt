@@ -3,8 +3,8 @@ use Rattle.ts_vector.specs.Inner.CappedForm.{shifted_within}
 use Rattle.ts_vector.proofs.Gathering.{Gathers}
 use Rattle.ts_vector.proofs.gathered.Gathered.join.Given as goal
 
-abbrev pub invariant-loop-row : goal.invariant-loop-row
-invariant-loop-row l = record {
+abbrev pub invariant-loop-entry : goal.invariant-loop-entry
+invariant-loop-entry l = record {
   gathers : Gathers l.fn.self (shifted_within l.by l.yielded) l.self;
-  rest : l.yielded ++ l.row-iterator ≡ l.other;
+  rest : l.yielded ++ l.entry-iterator ≡ l.other;
 }

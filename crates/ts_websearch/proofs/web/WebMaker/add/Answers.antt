@@ -1,13 +1,13 @@
 use Rattle.std.proofs.Common.{◌∷◌, ap, sym, subst, refl}
 use Rattle.std.proofs.lemmas.Result.{err_from_is_err_and}
 use Rattle.ts_query.specs.Queries.{and_joint}
-use Rattle.ts_make.specs.Removal.{joint_draft}
+use Rattle.ts_make.specs.Removal.{joint_sketch}
 use Rattle.ts_make.specs.Making.{IsMaking}
 use Rattle.ts_websearch.specs.Made.{item_tree}
 use Rattle.ts_websearch.specs.Inner.Pieces.{piece_item}
 use Rattle.ts_websearch.specs.Inner.Stacks.{IsMadeOn}
 use Rattle.ts_websearch.specs.declared.web.WebMaker.{WebMaker}
-use Rattle.ts_websearch.proofs.Adding.{item_alone, item_behind, two_drafts, item_fails, joining_fails}
+use Rattle.ts_websearch.proofs.Adding.{item_alone, item_behind, two_sketches, item_fails, joining_fails}
 use Rattle.ts_websearch.proofs.web.WebMaker.add.Goals.{then-self+in_ok-and, else-self}
 use Rattle.ts_websearch.proofs.web.WebMaker.add.Goals as goal
 
@@ -22,7 +22,7 @@ returns-in_err-make_piece-clause-refused c =
 pub and-requires : goal.and-requires
 and-requires c =
     let h = c.requires.at in
-    two_drafts c.args.configs.now c.args.config.now c.args.self.now c.make_piece.new.maker h.0 h.1
+    two_sketches c.args.configs.now c.args.config.now c.args.self.now c.make_piece.new.maker h.0 h.1
     (piece_item c.args.piece) h.2 c.if-self.true c.in_ok-make_piece.ensures.value
 
 pub returns-in_err-and-clause-refused : goal.returns-in_err-and-clause-refused
@@ -46,7 +46,7 @@ returns-clause-value c = λ ended row at.
           (let maker = ap (λ (s : WebMaker). s.maker) w.self-is in
           item_behind k m old c.make_piece.new.maker ended row i at w.if-self.true
           c.in_ok-make_piece.ensures.value _
-          (λ d e ds n. subst (λ x. IsMaking x (joint_draft and_joint d e ∷ ds)) (sym maker)
+          (λ d e ds n. subst (λ x. IsMaking x (joint_sketch and_joint d e ∷ ds)) (sym maker)
           (w.in_ok-and.ensures.value d e ds n))
           (ap (λ (s : WebMaker). s.rows) w.self-is) refl)
       | else-self w ↦

@@ -1,7 +1,7 @@
 use Rattle.std.proofs.Common.{◌∙◌, ◌∷◌, ◌&&◌, ◌||◌, ap, sym, subst, refl}
 use Rattle.std.proofs.lemmas.Result.{err_from_is_err_and}
 use Rattle.ts_query.specs.Queries.{or_joint}
-use Rattle.ts_make.specs.Removal.{joint_draft}
+use Rattle.ts_make.specs.Removal.{joint_sketch}
 use Rattle.ts_make.specs.Making.{IsMaking}
 use Rattle.ts_websearch.specs.declared.web.WebMaker.{WebMaker}
 use Rattle.ts_websearch.proofs.Adding.{end_alone, end_joined, ending_fails, rows_behind}
@@ -24,7 +24,7 @@ returns-clause-value c = λ known mapping ended row at.
           (let both = ap (λ b. b && old.row) w.if-self.true ∙ w.if-self-2.true in
           let maker = ap (λ (s : WebMaker). s.maker) w.self-is in
           end_joined known mapping old ended row at both _
-          (λ d e ds m. subst (λ x. IsMaking x (joint_draft or_joint d e ∷ ds)) (sym maker)
+          (λ d e ds m. subst (λ x. IsMaking x (joint_sketch or_joint d e ∷ ds)) (sym maker)
           (w.in_ok-or.ensures.value d e ds m))
           (ap (λ (s : WebMaker). s.rows || s.row) w.self-is
           ∙ rows_behind known mapping old ended row at) refl)

@@ -8,15 +8,15 @@ pub returns-in_default-clause-end : goal.returns-in_default-clause-end
 returns-in_default-clause-end g c = λ told batches reading _.
     let log : List ℕ = (g.D.Disk.seen c.args.disk.now).log in
     let size : length log ≡ c.args.self.now.size = sym reading.size in
-    let shut : get_or log c.args.self.now.end 0 ≢ 1 = rw c.in_default.is at (c.in_ok-len.ensures.closed told size) in
-    (ended c.args.self.now log batches reading (c.args.self.now.inside reading.on) shut, reading.place)
+    let unset : get_or log c.args.self.now.end 0 ≢ 1 = rw c.in_default.is at (c.in_ok-len.ensures.closed told size) in
+    (ended c.args.self.now log batches reading (c.args.self.now.inside reading.on) unset, reading.place)
 
 pub returns-in_default-clause-settled : goal.returns-in_default-clause-settled
 returns-in_default-clause-settled g c = λ told batches reading log_is _.
     let log : List ℕ = (g.D.Disk.seen c.args.disk.now).log in
     let size : length log ≡ c.args.self.now.size = sym reading.size in
-    let shut : get_or log c.args.self.now.end 0 ≢ 1 = rw c.in_default.is at (c.in_ok-len.ensures.closed told size) in
-    settled g.D.Disk _ _ told c.next_length.ensures.keeps log batches c.args.self.now.end (ended c.args.self.now log batches reading (c.args.self.now.inside reading.on) shut) reading.place log_is
+    let unset : get_or log c.args.self.now.end 0 ≢ 1 = rw c.in_default.is at (c.in_ok-len.ensures.closed told size) in
+    settled g.D.Disk _ _ told c.next_length.ensures.keeps log batches c.args.self.now.end (ended c.args.self.now log batches reading (c.args.self.now.inside reading.on) unset) reading.place log_is
 
 pub returns-clause-given : goal.returns-clause-given
 returns-clause-given g c = λ told batches reading.

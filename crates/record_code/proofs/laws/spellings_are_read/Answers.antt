@@ -1,8 +1,0 @@
-use Rattle.record_code.proofs.RecordReading.{reading_is_spelled, spelling_is_read}
-use Rattle.record_code.proofs.laws.spellings_are_read.Goals as goal
-
-pub returns-clause-found : goal.returns-clause-found
-returns-clause-found c = reading_is_spelled
-
-pub returns-clause-only : goal.returns-clause-only
-returns-clause-only c = spelling_is_read

@@ -1,5 +1,0 @@
-use Rattle.ts_make.proofs.Made.{no_fewer}
-use Rattle.ts_make.proofs.laws.drafts_have_no_fewer.Goals as goal
-
-pub returns : goal.returns
-returns c known mapping tree draft h = no_fewer known mapping tree draft h

@@ -1,8 +1,0 @@
-use Rattle.std.proofs.Common.{◌≡◌, ℕ, ◌<◌, get_or}
-use Rattle.ts_match.proofs.rows.is_somewhere.Given as goal
-
-pub record SoFar (l : goal.Live-loop-k) : Type 0 where
-  pub below : (k : ℕ) → k < l.k → get_or l.row.words.items k 0 ≡ 0
-
-abbrev pub invariant-loop-k : goal.invariant-loop-k
-invariant-loop-k l = SoFar l
