@@ -78,7 +78,8 @@ pub record GoesOn (file : List ℕ) (R : Log) (rest : List ℕ) : Type 0 where
   pub can : CanApply file (next ∷ R)
 
 pub batch_goes_on : (file : List ℕ) (R : Log) (bytes rest : List ℕ) (done batch : List Record)
-    → AllByRecursion IsRecord done → bytes ≡ flat_map record_bytes done ++ rest → 0 < length rest → AreRecordsOf bytes batch
+    → AllByRecursion IsRecord done → bytes ≡ flat_map record_bytes done ++ rest → 0 < length rest
+    → AreRecordsOf bytes batch
     → AreNumbered (reverse batch ++ R)
     → CanApply file (reverse batch ++ R) → GoesOn file (reverse done ++ R) rest
 batch_goes_on file R bytes rest done batch each split some is numbered can =

@@ -39,7 +39,8 @@ one_record r s t u is_r is_s same =
     )
 
 -- the records that were read are the first of each batch
-pub batch_split : (done batch : List Record) (rest : List ℕ) → AllByRecursion IsRecord done → AllByRecursion IsRecord batch
+pub batch_split : (done batch : List Record) (rest : List ℕ) → AllByRecursion IsRecord done
+    → AllByRecursion IsRecord batch
     → flat_map record_bytes done ++ rest ≡ flat_map record_bytes batch
     → (more : List Record) × (batch ≡ done ++ more) × AllByRecursion IsRecord more × (rest ≡ flat_map record_bytes more)
 batch_split [] batch rest d w same = (batch, refl, w, same)
@@ -69,7 +70,8 @@ one_batch b xs ys a c =
     none (x ∷ more) e =
         absurd (omega (arith, ap length e, length-append (record_bytes x) (flat_map record_bytes more), some_bytes x))
 
-pub one_lists : (batches : List (List ℕ)) (xs ys : List (List Record)) → AreRecordLists batches xs → AreRecordLists batches ys
+pub one_lists : (batches : List (List ℕ)) (xs ys : List (List Record)) → AreRecordLists batches xs
+    → AreRecordLists batches ys
     → xs ≡ ys
 one_lists [] [] [] a c = refl
 one_lists [] [] (y ∷ ys) a c = absurd c

@@ -43,7 +43,8 @@ state_on p x R (r ∷ records) =
     ap (state_of p x) (ap (λ (l : List Record). l ++ R) (reverse-append (r ∷ []) records) ∙ append_assoc (reverse records) (r ∷ []) R) ∙ state_on p x (r ∷ R) records
 
 -- some records after others
-both_records : (a b : List ℕ) (rs ss : List Record) → AreRecordsOf a rs → AreRecordsOf b ss → AreRecordsOf (a ++ b) (rs ++ ss)
+both_records : (a b : List ℕ) (rs ss : List Record) → AreRecordsOf a rs → AreRecordsOf b ss
+    → AreRecordsOf (a ++ b) (rs ++ ss)
 both_records a b rs ss one two = record {
   each = both rs ss one.each two.each;
   encoded = ap (λ (l : List ℕ). l ++ b) one.encoded ∙ ap (λ (l : List ℕ). flat_map record_bytes rs ++ l) two.encoded ∙ sym (flat_map-append record_bytes rs ss);
@@ -60,7 +61,8 @@ owed owes n = cond owes (owed_abort n ∷ []) []
 owed_is_record : (n : ℕ) → n < 2 ^ 64 → IsRecord (owed_abort n)
 owed_is_record n small = record { number = small; xid = lit< tt; kind = tt; count = lit< tt; changes = tt; once = tt }
 
-owed_records : (owes : Bool) (n : ℕ) → n < 2 ^ 64 → AreRecordsOf (cond owes (record_bytes (owed_abort n)) []) (owed owes n)
+owed_records : (owes : Bool) (n : ℕ) → n < 2 ^ 64
+    → AreRecordsOf (cond owes (record_bytes (owed_abort n)) []) (owed owes n)
 owed_records false n small = record { each = tt; encoded = refl }
 owed_records true n small = record { each = (owed_is_record n small, tt); encoded = sym (append-nil (record_bytes (owed_abort n))) }
 

@@ -39,8 +39,8 @@ HasSince device c commits d =
     (m : ℕ) (f : Files) → c ≤ m → m ≤ device.clock d → device.image d m f
     → (kept : History) × OpensTo f kept × (commits ≤ length kept)
 
--- Where the device says what it holds, nothing has failed, and the files that were opened open to a history, a
--- crash now leaves what has all commits that are flushed.
+-- Where the device says what it holds, nothing has failed, and the files that were opened open to a
+-- history, a crash now leaves what has all commits that are flushed.
 abbrev pub HasFlushed : {D : Type 0} → Disk D → JournalValue D → Type 0
 HasFlushed device j =
     device.tells → down_of j.wal ≡ None → (found : History) → OpensTo (device.seen j.opened) found

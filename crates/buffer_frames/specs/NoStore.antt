@@ -13,9 +13,9 @@ pub record IsStoreOf (files : Files) (R : Log) : Type 0 where
   pub counted : IsCounted files.log R
   pub applies : CanApply files.pages R
 
--- Files are no store where the log is foreign; where after some batches a set commit byte has no batch;
--- or where some batches, whose next commit byte is there, are not records that are numbered on from
--- 1 and can be applied.
+-- Files are no store where the log is foreign; where after some batches a set commit byte has no
+-- batch; or where some batches, whose next commit byte is there, are not records that are
+-- numbered on from 1 and can be applied.
 pub data IsNoStore (files : Files) : Type 0 where
   foreign : IsForeign files.log → IsNoStore files
   broken : (read : List (List ℕ)) (rest : List ℕ) → AreBatches read → files.log ≡ front read ++ rest

@@ -26,9 +26,9 @@ abbrev pub owes_after : Log → Bool
 owes_after [] = false
 owes_after (r ∷ R) = true
 
--- What a device that says what it holds shows of an opening: its files are a store of these records, and the log ends
--- after their batches. Before c0 a crash leaves what it could leave on entry; from c0 on it leaves
--- the pages as they are read, and a log in which these records count.
+-- What a device that says what it holds shows of an opening: its files are a store of these
+-- records, and the log ends after their batches. Before c0 a crash leaves what it could leave on
+-- entry; from c0 on it leaves the pages as they are read, and a log in which these records count.
 pub record IsToldOpened {D : Type 0} (device : Disk D) (first : D) (c0 : ℕ) (disk : D)
     (end : ℕ) (R : Log) : Type 0 where
   pub store : IsStoreOf (device.seen first) R

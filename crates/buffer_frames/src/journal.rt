@@ -14,7 +14,7 @@ ghost use Rattle.buffer_frames.specs.LogCauses.{WriteHasCause, GoesDown, LogFull
 ghost use Rattle.buffer_frames.specs.Inner.Following.{MayGoOn};
 ghost use Rattle.buffer_frames.specs.declared.log_error.LogError.TheVariants.{DiskFault, LogFull, Down, OutOfMemory};
 
-use crate::inserting::{owed_abort, encode, step_insert, step_owed};
+use crate::inserting::{encode, owed_abort, step_insert, step_owed};
 use crate::laws::counted_are_one;
 use crate::log_error::LogError;
 use core_state::State;

@@ -176,7 +176,8 @@ fn read_batch_records<D: Disk>(
         (ReadsBatch D.Disk disk.new file pages xid_limit state.new.value map.new R bytes.now) }
     ensures refused { (file : List ℕ) (pages xid_limit : ℕ) (R : Log)
         → IsRead D.Disk disk.old file pages xid_limit state.old.value map.old R
-        → D.tells → IsErrOf result NotAStore → (records : List Record) → AreRecordsOf bytes.now records
+        → D.tells → IsErrOf result NotAStore → (records : List Record)
+        → AreRecordsOf bytes.now records
         → AreNumbered (reverse records ++ R) → CanApply file (reverse records ++ R) → ⊥ }
     ensures keeps { IsOnlyRead D.Disk disk.old disk.new }
     ensures cause { ReadHasCause D.Disk disk.old disk.new result }

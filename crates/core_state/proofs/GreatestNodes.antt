@@ -16,7 +16,8 @@ at_start : (at s : ℕ) → 1 ≤ s → at ≤ at * s
 at_start at s l = omega (arith, mul-le-mul_left at l)
 
 -- a place below a node isn't above it
-pub under : (w : ℕ) (t : List ℕ) (k at l : ℕ) → IsPeakTree w t → 0 < at → at * 2 ^ k ≤ l → l < (at + 1) * 2 ^ k → l < 2 * w
+pub under : (w : ℕ) (t : List ℕ) (k at l : ℕ) → IsPeakTree w t → 0 < at → at * 2 ^ k ≤ l → l < (at + 1) * 2 ^ k
+    → l < 2 * w
     → get_or t l 0 ≤ get_or t at 0
 under w t zero at l tree node low high in_row =
     let same : l ≡ at = omega (arith, low, high) in omega (arith, ap (λ (i : ℕ). get_or t i 0) same)

@@ -187,7 +187,8 @@ marks_old r R y c d v e m = elim (marked_back r R y d m) [
     running_not f = cc
 
 -- what a committed transaction has marked is deleted by its commit
-deleted_by : (k : Kind) (r : Record) (R : Log) (H : History) (n y c : ℕ) (d : Doc) → RecordsAreValid (r ∷ R) → r.kind ≡ k
+deleted_by : (k : Kind) (r : Record) (R : Log) (H : History) (n y c : ℕ) (d : Doc) → RecordsAreValid (r ∷ R)
+    → r.kind ≡ k
     → ((H' : History) → IsHistory R H' → fate R y ≡ Committed c → In d (marked R y)
     → In (name_of d) (deletes (take n H')))
     → IsHistoryWith k r.xid R (IsHistory R) H → fate (r ∷ R) y ≡ Committed c → c ≤ n → In d (marked (r ∷ R) y)

@@ -27,7 +27,8 @@ Here Part R P Q r = Part (known R P) r (map P (changed r)) (map Q (changed r))
 abbrev pub made_with : Record → ℕ → Body → Page
 made_with r right content = record { right = right; stamp = r.number; body = content }
 
--- a new page: the lowest unused one, or one that was deleted by a record of number `since` at most
+-- A page that the record of number `since`, or one before it, deleted may be taken again. A new page
+-- is the lowest unused one, or one that was so deleted.
 pub data IsNew (uses : ℕ → PageUse) (since p : ℕ) : Type 0 where
   unused : uses p ≡ usage.Unused → ((q : ℕ) → q < p → uses q ≢ usage.Unused) → IsNew uses since p
   deleted : (stamp : ℕ) → uses p ≡ usage.Deleted stamp → stamp ≤ since → IsNew uses since p

@@ -93,9 +93,9 @@ abbrev pub marked : Log → ℕ → List Doc
 marked [] x = []
 marked (r ∷ R) x = marked_with r.kind r.xid x (marked R x)
 
--- A document is dead where the transaction that placed it was aborted, or one that marked it is
--- among the first `floor` commits. The log alone says so, so that what is dead stays dead when its
--- slot is free or used again.
+-- The `floor` is the number of commits by which a document is dead: where the transaction that
+-- placed it was aborted, or one that marked it is among the first `floor` commits. The log alone says
+-- so, so that what is dead stays dead when its slot is free or used again.
 pub data IsDead (R : Log) (floor : ℕ) (d : Doc) : Type 0 where
   insert_aborted : (x : ℕ) → fate R x ≡ Aborted → In d (placed R x) → IsDead R floor d
   delete_counted : (x n : ℕ) → fate R x ≡ Committed n → n ≤ floor → In d (marked R x)

@@ -28,7 +28,8 @@ pub record Stays (old new : FolderState) : Type 0 where
   pub has : (f : File) → old.has f ≡ true → new.has f ≡ true
   pub names : (f : File) → old.names f ≡ true → new.names f ≡ true
 
--- Of a folder that says what it holds: no byte is another, and a crash now leaves what it could have left.
+-- Of a folder that says what it holds: no byte is another, and a crash now leaves what it could
+-- have left.
 pub record OnlyLooks (tells : Type 0) (old new : FolderState) : Type 0 where
   pub seen : tells → new.seen ≡ old.seen
   pub no_more : tells → LeavesNoMore (left_now old) (left_now new)

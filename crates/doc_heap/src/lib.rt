@@ -5,11 +5,11 @@
 #![tactic(auto)]
 
 mod changing;
+mod heads;
 mod laws;
 mod placing;
-mod heads;
 
 pub use changing::{free, mark};
+pub use heads::head;
 pub use laws::pages_may_be_logged;
 pub use placing::place;
-pub use heads::head;

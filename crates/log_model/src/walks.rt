@@ -1,7 +1,7 @@
 // The walks of a folder: what each reads for which query, and what it has to find.
 use anyhow::{Context, Result, bail};
 use log_scans::{
-    WalkResult, Moment, NoWalk, Pin, Query, Reading, all_sought, found_in, query_in, read_moments,
+    Moment, NoWalk, Pin, Query, Reading, WalkResult, all_sought, found_in, query_in, read_moments,
     scan_pages, told_wrong,
 };
 use log_walks::{Doc, Fault};

@@ -11,9 +11,9 @@ mod form;
 mod heap;
 mod items;
 mod laws;
+mod pages;
 mod pending;
 mod postings;
-mod pages;
 mod writing;
 
 pub use error::PageError;

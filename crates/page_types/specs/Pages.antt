@@ -1,4 +1,5 @@
--- What has an encoding as a page. Of bytes nothing is said: that they are below 256 their type says.
+-- What has an encoding as a page. Of bytes nothing is said: that they are below 256 their type
+-- says.
 use Rattle.std.specs.Prelude.{◌≡◌, ◌≢◌, ◌⊎◌, ℕ, ◌^◌, ◌<◌, ◌≤◌, List, [], length, Option, Some, None, ⊤}
 use Rattle.std.specs.List.{AllByRecursion}
 use Rattle.page_types.specs.Numbers.{page_limit, item_limit, most_slots, most_short, most_inline, most_body, no_bound}

@@ -14,7 +14,7 @@ ghost use Rattle.shell_run.specs.Inner.Definitions.{MapFails, MapsFail};
 
 use crate::body_lines::{FromLines, take_lines};
 use crate::dictionaries::define_dictionary;
-use shell_script::{OpeningLine, Line, Lines, Mapping, Names, Refusal, Reply, read_mapping};
+use shell_script::{Line, Lines, Mapping, Names, OpeningLine, Refusal, Reply, read_mapping};
 use std::alloc::{AllocError, Global};
 use ts_config::{Config, Configs};
 use ts_parser::TokenType;
@@ -142,6 +142,8 @@ pub fn define(
         OpeningLine::Dictionary { name, kind } => {
             define_dictionary(alloc, configs, number, name, kind, body)
         }
-        OpeningLine::Configuration { name } => define_configuration(alloc, configs, number, name, body),
+        OpeningLine::Configuration { name } => define_configuration(
+            alloc, configs, number, name, body,
+        ),
     }
 }

@@ -18,7 +18,7 @@ use crate::sending::{flush, put_reply};
 use crate::statement_counts::StatementCounts;
 use disk_trait::{Disk, Sink};
 use engine::{Db, Gate};
-use shell_script::{Refusal, Reply, Step, read_opening_line, read_line, steps};
+use shell_script::{Refusal, Reply, Step, read_line, read_opening_line, steps};
 use std::alloc::{AllocError, Global};
 use ts_config::Configs;
 

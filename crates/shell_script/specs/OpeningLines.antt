@@ -47,7 +47,8 @@ kind_tokens (synonym_kind cases) =
 kind_tokens (thesaurus_kind sub) = word (codes "thesaurus") ∷ word sub ∷ []
 
 abbrev pub opening_tokens : OpeningLine → List ScriptToken
-opening_tokens (dictionary_opening name kind) = word (codes "dictionary") ∷ word name ∷ kind_tokens kind
+opening_tokens (dictionary_opening name kind) =
+    word (codes "dictionary") ∷ word name ∷ kind_tokens kind
 opening_tokens (configuration_opening name) = word (codes "configuration") ∷ word name ∷ []
 
 -- what a kind names is a NAME

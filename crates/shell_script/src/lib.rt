@@ -6,11 +6,11 @@ ghost use Rattle.shell_script.specs.Lines.{script_lines};
 ghost use Rattle.shell_script.specs.Steps.{AreSteps};
 ghost use Rattle.shell_script.specs.StepsOf.{steps_of};
 
-mod opening_lines;
 mod laws;
 mod line;
 mod lines;
 mod mappings;
+mod opening_lines;
 mod replies;
 mod script;
 mod sources;
@@ -18,11 +18,11 @@ mod statement;
 mod texts;
 mod tokens;
 
-pub use opening_lines::{OpeningLine, Kind, LONGEST_NAME, read_opening_line};
 pub use laws::{one_meaning, one_reading, one_spelling};
 pub use line::is_skipped;
 pub use lines::{Line, Lines};
 pub use mappings::{Mapping, Names, Types, read_mapping};
+pub use opening_lines::{Kind, LONGEST_NAME, OpeningLine, read_opening_line};
 pub use replies::{Refusal, Reply, TextFault};
 pub use script::{Step, Steps};
 pub use sources::{Expr, Maker, Part, QuerySource, VectorSource};

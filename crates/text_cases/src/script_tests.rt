@@ -1,7 +1,9 @@
 // What a script says.
 use crate::kinds::{Kind, try_rows};
 use crate::rows::{push_number, push_word, said};
-use shell_script::{Lines, Mapping, Step, Types, read_opening_line, read_line, read_mapping, steps};
+use shell_script::{
+    Lines, Mapping, Step, Types, read_line, read_mapping, read_opening_line, steps,
+};
 use std::alloc::{AllocError, Global};
 use std::test::Fail;
 

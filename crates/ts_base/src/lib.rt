@@ -20,8 +20,8 @@ mod words;
 pub use bytes::{is_blank, is_white, weight_of};
 pub use error::LexemeError;
 pub use laws::{
-    keys_rise, quoted_has_one_reading, quoted_is_read_back, encoding_has_size,
-    encoding_tells_vector, words_are_one,
+    encoding_has_size, encoding_tells_vector, keys_rise, quoted_has_one_reading,
+    quoted_is_read_back, words_are_one,
 };
 pub use quoting::push_quoted;
 use std::alloc::{AllocError, Global};

@@ -8,8 +8,8 @@ mod queries;
 mod vector;
 
 pub use laws::{
-    sketches_have_no_fewer, groups_are_near, groups_are_one, groups_keep_lexemes, join_answer_is_one,
-    query_answer_is_one, removal_is_sound, removal_keeps_the_rest, vector_answer_is_one,
+    groups_are_near, groups_are_one, groups_keep_lexemes, join_answer_is_one, query_answer_is_one,
+    removal_is_sound, removal_keeps_the_rest, sketches_have_no_fewer, vector_answer_is_one,
     whole_trees_stay,
 };
 pub use maker::QueryMaker;

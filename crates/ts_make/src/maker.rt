@@ -119,8 +119,8 @@ fn write_link(builder: &mut QueryBuilder, link: Link, x: Part, y: Part) -> Resul
 }
 
 /// A query that is made of texts, node by node, each operator after its operands. What was made so
-/// far is kept as a list of sketches, the last of them first; an operator takes the last of them. An
-/// operand whose text has no lexemes is a stop operand, which is removed as it comes. After a
+/// far is kept as a list of sketches, the last of them first; an operator takes the last of them.
+/// An operand whose text has no lexemes is a stop operand, which is removed as it comes. After a
 /// refusal it is of no more use.
 #[derive(Drop)]
 pub struct QueryMaker {
@@ -245,9 +245,11 @@ impl QueryMaker {
 
     /// Joins the last two sketches by `&`.
     pub fn and(&mut self) -> Result<(), QueryError>
-        requires { (d : Sketch) × (e : Sketch) × (ds : List Sketch) × IsMaking self.old (e ∷ d ∷ ds) }
+        requires { (d : Sketch) × (e : Sketch) × (ds : List Sketch)
+            × IsMaking self.old (e ∷ d ∷ ds) }
         ensures value { OnOk result ((d e : Sketch) (ds : List Sketch)
-            → IsMaking self.old (e ∷ d ∷ ds) → IsMaking self.new (joint_sketch and_joint d e ∷ ds)) }
+            → IsMaking self.old (e ∷ d ∷ ds)
+            → IsMaking self.new (joint_sketch and_joint d e ∷ ds)) }
         ensures refused { IfErr result (λ r. (d e : Sketch) (ds : List Sketch)
             → IsMaking self.old (e ∷ d ∷ ds)
             → IsOnlyPast (nodes_sketched (joint_sketch and_joint d e ∷ ds)) r) }
@@ -257,7 +259,8 @@ impl QueryMaker {
 
     /// Joins the last two sketches by `|`.
     pub fn or(&mut self) -> Result<(), QueryError>
-        requires { (d : Sketch) × (e : Sketch) × (ds : List Sketch) × IsMaking self.old (e ∷ d ∷ ds) }
+        requires { (d : Sketch) × (e : Sketch) × (ds : List Sketch)
+            × IsMaking self.old (e ∷ d ∷ ds) }
         ensures value { OnOk result ((d e : Sketch) (ds : List Sketch)
             → IsMaking self.old (e ∷ d ∷ ds) → IsMaking self.new (joint_sketch or_joint d e ∷ ds)) }
         ensures refused { IfErr result (λ r. (d e : Sketch) (ds : List Sketch)
@@ -269,7 +272,8 @@ impl QueryMaker {
 
     /// Joins the last two sketches by a phrase operator.
     pub fn phrase(&mut self, distance: u16) -> Result<(), QueryError>
-        requires { (d : Sketch) × (e : Sketch) × (ds : List Sketch) × IsMaking self.old (e ∷ d ∷ ds) }
+        requires { (d : Sketch) × (e : Sketch) × (ds : List Sketch)
+            × IsMaking self.old (e ∷ d ∷ ds) }
         ensures value { OnOk result ((d e : Sketch) (ds : List Sketch)
             → IsMaking self.old (e ∷ d ∷ ds)
             → IsMaking self.new (joint_sketch (phrase_joint distance) d e ∷ ds)) }
@@ -282,7 +286,8 @@ impl QueryMaker {
 
     /// Joins the last two sketches.
     fn join(&mut self, link: Link) -> Result<(), QueryError>
-        requires { (d : Sketch) × (e : Sketch) × (ds : List Sketch) × IsMaking self.old (e ∷ d ∷ ds) }
+        requires { (d : Sketch) × (e : Sketch) × (ds : List Sketch)
+            × IsMaking self.old (e ∷ d ∷ ds) }
         ensures value { OnOk result ((d e : Sketch) (ds : List Sketch)
             → IsMaking self.old (e ∷ d ∷ ds)
             → IsMaking self.new (joint_sketch (link_joint link) d e ∷ ds)) }

@@ -215,5 +215,6 @@ pub push_wide : (count : ℕ) (old new : List BitSet) (bits : BitSet) → revers
 push_wide count old new bits e a w = subst (λ (l : List BitSet). All (IsWide count) l) (sym (pushed old new bits e)) (All-push (IsWide count) old bits a w)
 
 -- the last of one bit set
-pub last_one : (bit_sets : List BitSet) (bits x : BitSet) → bit_sets ≡ bits ∷ [] → Some x ≡ slice_get bit_sets (length bit_sets - 1) → x ≡ bits
+pub last_one : (bit_sets : List BitSet) (bits x : BitSet) → bit_sets ≡ bits ∷ []
+    → Some x ≡ slice_get bit_sets (length bit_sets - 1) → x ≡ bits
 last_one bit_sets bits x e h = let k : Some x ≡ slice_get (bits ∷ []) (length (bits ∷ []) - 1) = subst (λ (l : List BitSet). Some x ≡ slice_get l (length l - 1)) e h in cc

@@ -56,7 +56,8 @@ changed stack below stack' spare bits bits' e p l =
           };
     }
 
-pub height_pushed : (old new : List BitSet) (bits : BitSet) → reverse new ≡ bits ∷ reverse old → length new ≡ length old + 1
+pub height_pushed : (old new : List BitSet) (bits : BitSet) → reverse new ≡ bits ∷ reverse old
+    → length new ≡ length old + 1
 height_pushed old new bits p = ap length (pushed old new bits p) ∙ length-append old (bits ∷ [])
 
 pub height_popped : (old new : List BitSet) (bits : BitSet) → old ≡ new ++ bits ∷ [] → length old ≡ length new + 1
@@ -77,5 +78,6 @@ wide_enough last reach most stack spare l w m a = narrower (words_for (min most 
 pub wide_alone : (count : ℕ) (bit_sets : List BitSet) (bits : BitSet) → bit_sets ≡ bits ∷ [] → All (IsWide count) bit_sets → IsWide count bits
 wide_alone count bit_sets bits e a = subst (λ (z : List BitSet). All (IsWide count) z) e a 0 bits (omega arith)
 
-pub one_is_last : (bit_sets : List BitSet) (bits : BitSet) → bit_sets ≡ bits ∷ [] → None ≡ slice_get bit_sets (length bit_sets - 1) → ⊥
+pub one_is_last : (bit_sets : List BitSet) (bits : BitSet) → bit_sets ≡ bits ∷ []
+    → None ≡ slice_get bit_sets (length bit_sets - 1) → ⊥
 one_is_last bit_sets bits e h = let k : None ≡ slice_get (bits ∷ []) (length (bits ∷ []) - 1) = subst (λ (z : List BitSet). None ≡ slice_get z (length z - 1)) e h in let x : ⊥ = cc in x

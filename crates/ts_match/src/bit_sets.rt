@@ -194,7 +194,8 @@ fn spare_bit_sets(alloc: Global, height: usize, count: usize) -> Result<Vec<BitS
 
 /// A bit set for each level of the stack that the phrases need, and in each a place for each position moved by their widths.
 pub fn make_bit_sets(alloc: Global, steps: &[Step]) -> Result<BitSets, AllocError>
-    ensures { IfOk result (λ bit_sets. HasBitSets steps.now bit_sets.stack.items bit_sets.spare.items) }
+    ensures { IfOk result (λ bit_sets. HasBitSets steps.now bit_sets.stack.items
+        bit_sets.spare.items) }
 {
     let height = greatest_height(steps);
     let count = words_for(greatest_offset(steps).min(WIDEST));

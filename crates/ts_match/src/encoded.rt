@@ -8,9 +8,9 @@ ghost use Rattle.ts_match.specs.Meaning.{asks_for, fits as fits_weight, names as
 ghost use Rattle.ts_match.specs.Inner.Ranges.{NamesRange, stands_at};
 ghost use Rattle.ts_match.specs.Inner.BitSets.{bit_value, IsWide};
 
-use crate::ranges::{FARTHEST, EntryRange, any_weight, asked, begins_with, fits};
-use crate::layout::set_position;
 use crate::bit_sets::{BitSet, WORD};
+use crate::layout::set_position;
+use crate::ranges::{EntryRange, FARTHEST, any_weight, asked, begins_with, fits};
 use std::cmp::Ordering;
 use ts_base::{LAST_POSITION, Position, Weights};
 use ts_query::Operand;

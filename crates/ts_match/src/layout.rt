@@ -12,9 +12,11 @@ ghost use Rattle.ts_match.specs.Inner.BitSets.{bit_value, truths_at, beginning, 
 ghost use Rattle.ts_match.specs.Inner.Heights.{height_behind, HasRoom, HaveRoom, AreWide, SameBitSets, HasBitSets};
 ghost use Rattle.ts_match.specs.Inner.Phrases.{IsPhraseOf, IsPrepared, IsLaidOut, SaysWhere, HasOperand, HasRange, HasPlaces, leaf_value, truth_step};
 
-use crate::ranges::{FARTHEST, EntryRange, fits};
+use crate::bit_sets::{
+    BitSet, BitSets, WIDEST, WORD, clear, is_somewhere, join, meet, negate, set,
+};
 use crate::phrase::{Phrase, offset};
-use crate::bit_sets::{BitSet, BitSets, WIDEST, WORD, clear, is_somewhere, join, meet, negate, set};
+use crate::ranges::{EntryRange, FARTHEST, fits};
 use crate::stack::put;
 use crate::work::Step;
 use ts_base::{LAST_POSITION, Position, Weights};
@@ -102,7 +104,13 @@ fn last_place(phrase: &Phrase) -> usize
 }
 
 /// Lets a bit set be true also at a position, moved by `by`, if it has a fitting weight.
-pub fn set_position(bits: &mut BitSet, count: usize, position: Position, weights: Weights, by: usize)
+pub fn set_position(
+    bits: &mut BitSet,
+    count: usize,
+    position: Position,
+    weights: Weights,
+    by: usize,
+)
     requires wide { IsWide count bits.old }
     requires near { by ≤ FARTHEST }
     requires within { position.at + by < WORD * count }
@@ -117,7 +125,13 @@ pub fn set_position(bits: &mut BitSet, count: usize, position: Position, weights
 }
 
 /// Lets a bit set be true also at each of the positions of a fitting weight, moved by `by`.
-fn set_positions(bits: &mut BitSet, count: usize, positions: &[Position], weights: Weights, by: usize)
+fn set_positions(
+    bits: &mut BitSet,
+    count: usize,
+    positions: &[Position],
+    weights: Weights,
+    by: usize,
+)
     requires wide { IsWide count bits.old }
     requires near { by ≤ FARTHEST }
     requires within { (p : PlaceOf) → Contains positions.now p → p.at + by < WORD * count }
@@ -188,8 +202,8 @@ fn put_leaf(phrase: &Phrase, step: Step, k: u16, reach: usize, count: usize, bit
     requires wide { AreWide count bit_sets.old.stack.items bit_sets.old.spare.items }
     requires room { 0 < length bit_sets.old.spare.items }
     ensures height { length bit_sets.new.stack.items ≡ length bit_sets.old.stack.items + 1 }
-    ensures same { SameBitSets bit_sets.old.stack.items bit_sets.old.spare.items bit_sets.new.stack.items
-        bit_sets.new.spare.items }
+    ensures same { SameBitSets bit_sets.old.stack.items bit_sets.old.spare.items
+        bit_sets.new.stack.items bit_sets.new.spare.items }
     ensures truths { (j : ℕ) → truths_at count j (reverse bit_sets.new.stack.items)
         ≡ leaf_value phrase.now.vector.now phrase.now.operands.now (beginning reach j) step ∷
         truths_at count j (reverse bit_sets.old.stack.items) }
@@ -206,8 +220,8 @@ fn negate_top(bit_sets: &mut BitSets, count: usize)
     requires wide { AreWide count bit_sets.old.stack.items bit_sets.old.spare.items }
     requires operand { 0 < length bit_sets.old.stack.items }
     ensures height { length bit_sets.new.stack.items ≡ length bit_sets.old.stack.items }
-    ensures same { SameBitSets bit_sets.old.stack.items bit_sets.old.spare.items bit_sets.new.stack.items
-        bit_sets.new.spare.items }
+    ensures same { SameBitSets bit_sets.old.stack.items bit_sets.old.spare.items
+        bit_sets.new.stack.items bit_sets.new.spare.items }
     ensures truths { (value : _) (j : ℕ) → truths_at count j (reverse bit_sets.new.stack.items)
         ≡ truth_step NotNode value (truths_at count j (reverse bit_sets.old.stack.items)) }
 {
@@ -239,8 +253,8 @@ fn join_top(bit_sets: &mut BitSets, count: usize, both: bool)
     requires wide { AreWide count bit_sets.old.stack.items bit_sets.old.spare.items }
     requires operands { 1 < length bit_sets.old.stack.items }
     ensures height { length bit_sets.new.stack.items ≡ length bit_sets.old.stack.items - 1 }
-    ensures same { SameBitSets bit_sets.old.stack.items bit_sets.old.spare.items bit_sets.new.stack.items
-        bit_sets.new.spare.items }
+    ensures same { SameBitSets bit_sets.old.stack.items bit_sets.old.spare.items
+        bit_sets.new.stack.items bit_sets.new.spare.items }
     ensures truths { (value : _) (j : ℕ) → truths_at count j (reverse bit_sets.new.stack.items)
         ≡ truth_step (if both then AndNode else OrNode) value (truths_at count j (reverse
         bit_sets.old.stack.items)) }
@@ -264,12 +278,12 @@ fn work_on(phrase: &Phrase, step: Step, reach: usize, count: usize, bit_sets: &m
     requires placed { IsLaidOut phrase.now.vector.now phrase.now.operands.now phrase.now.found.now
         reach count step }
     requires wide { AreWide count bit_sets.old.stack.items bit_sets.old.spare.items }
-    requires room { HasRoom (length bit_sets.old.stack.items + length bit_sets.old.spare.items) step.node
-        (length bit_sets.old.stack.items) }
+    requires room { HasRoom (length bit_sets.old.stack.items + length bit_sets.old.spare.items)
+        step.node (length bit_sets.old.stack.items) }
     ensures height { length bit_sets.new.stack.items
         ≡ height_behind step.node (length bit_sets.old.stack.items) }
-    ensures same { SameBitSets bit_sets.old.stack.items bit_sets.old.spare.items bit_sets.new.stack.items
-        bit_sets.new.spare.items }
+    ensures same { SameBitSets bit_sets.old.stack.items bit_sets.old.spare.items
+        bit_sets.new.stack.items bit_sets.new.spare.items }
     ensures truths { (j : ℕ) → truths_at count j (reverse bit_sets.new.stack.items)
         ≡ truth_step step.node (leaf_value phrase.now.vector.now phrase.now.operands.now
         (beginning reach j) step)
@@ -286,8 +300,8 @@ fn work_on(phrase: &Phrase, step: Step, reach: usize, count: usize, bit_sets: &m
 /// Lets no bit set be in use.
 fn free_all(bit_sets: &mut BitSets)
     ensures free { bit_sets.new.stack.items ≡ [] }
-    ensures same { SameBitSets bit_sets.old.stack.items bit_sets.old.spare.items bit_sets.new.stack.items
-        bit_sets.new.spare.items }
+    ensures same { SameBitSets bit_sets.old.stack.items bit_sets.old.spare.items
+        bit_sets.new.stack.items bit_sets.new.spare.items }
 {
     while let Some(bits) = bit_sets.stack.pop() {
         bit_sets.spare.push_reserved(bits);
@@ -307,8 +321,8 @@ fn fill_bit_sets(phrase: &Phrase, reach: usize, count: usize, bit_sets: &mut Bit
     requires wide { AreWide count bit_sets.old.stack.items bit_sets.old.spare.items }
     requires room { HaveRoom (length bit_sets.old.stack.items + length bit_sets.old.spare.items)
         phrase.now.steps.now 0 }
-    ensures same { SameBitSets bit_sets.old.stack.items bit_sets.old.spare.items bit_sets.new.stack.items
-        bit_sets.new.spare.items }
+    ensures same { SameBitSets bit_sets.old.stack.items bit_sets.old.spare.items
+        bit_sets.new.stack.items bit_sets.new.spare.items }
     ensures bits { (t : Tree)
         → IsPhraseOf phrase.now.operands.now phrase.now.steps.now t
         → (bits : BitSetOf) × (bit_sets.new.stack.items ≡ bits ∷ [])
@@ -325,14 +339,15 @@ pub fn holds_by_bit_sets(phrase: &Phrase, bit_sets: &mut BitSets) -> Option<bool
     requires prepared { IsPrepared phrase.now.vector.now phrase.now.operands.now
         phrase.now.found.now phrase.now.steps.now }
     requires phrase { (t : Tree) × IsPhraseOf phrase.now.operands.now phrase.now.steps.now t }
-    requires bit_sets { HasBitSets phrase.now.steps.now bit_sets.old.stack.items bit_sets.old.spare.items }
+    requires bit_sets { HasBitSets phrase.now.steps.now bit_sets.old.stack.items
+        bit_sets.old.spare.items }
     ensures meaning { IfSome result (λ holds. (t : Tree)
         → IsPhraseOf phrase.now.operands.now phrase.now.steps.now t
         → IsTrue holds ↔ HoldsSomewhere phrase.now.vector.now t) }
     ensures none { (t : Tree) → IsPhraseOf phrase.now.operands.now phrase.now.steps.now t
         → result ≡ None ↔ (WIDEST < width t) }
-    ensures same { SameBitSets bit_sets.old.stack.items bit_sets.old.spare.items bit_sets.new.stack.items
-        bit_sets.new.spare.items }
+    ensures same { SameBitSets bit_sets.old.stack.items bit_sets.old.spare.items
+        bit_sets.new.stack.items bit_sets.new.spare.items }
 {
     let reach = reach_of(phrase);
     if reach > WIDEST {

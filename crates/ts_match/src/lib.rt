@@ -1,8 +1,9 @@
 //! What a query means: whether a vector satisfies it, what can be said of it from less, and its keys in an index.
 #![tactic(auto)]
 
+mod bit_sets;
 mod class;
-mod ranges;
+mod encoded;
 mod judging;
 mod keys;
 mod laws;
@@ -10,9 +11,8 @@ mod layout;
 mod matching;
 mod pass;
 mod phrase;
-mod bit_sets;
+mod ranges;
 mod seen;
-mod encoded;
 mod stack;
 mod work;
 

@@ -12,11 +12,11 @@ ghost use Rattle.ts_match.specs.Inner.Heights.{SameBitSets, HasBitSets};
 ghost use Rattle.ts_match.specs.Inner.Pass.{AreBounds};
 ghost use Rattle.ts_match.specs.Inner.Phrases.{IsPhraseOf, IsStep, HasOperand, HasRange, StandsWithin, StandsOutside, IsUnitNode, operand_at};
 
-use crate::ranges::EntryRange;
+use crate::bit_sets::BitSets;
 use crate::layout::holds_by_bit_sets;
 use crate::pass::{Bounds, find_bounds, found_for};
 use crate::phrase::{Phrase, is_needed, phrase_holds};
-use crate::bit_sets::BitSets;
+use crate::ranges::EntryRange;
 use crate::seen::Seen;
 use crate::work::{MatchWork, Place, Step};
 use ts_query::{Node, Operand, TsQuery};
@@ -96,8 +96,8 @@ fn phrase_value(
     requires bit_sets { HasBitSets steps.now bit_sets.old.stack.items bit_sets.old.spare.items }
     ensures meaning { (t : Tree) → IsPhraseOf operands.now steps.now t
         → IsTrue result ↔ ((stripped_vector vector.now ≡ false) × HoldsSomewhere vector.now t) }
-    ensures bit_sets { SameBitSets bit_sets.old.stack.items bit_sets.old.spare.items bit_sets.new.stack.items
-        bit_sets.new.spare.items }
+    ensures bit_sets { SameBitSets bit_sets.old.stack.items bit_sets.old.spare.items
+        bit_sets.new.stack.items bit_sets.new.spare.items }
     ensures found { vec_len found.new ≡ vec_len found.old }
     ensures truths { vec_capacity truths.new ≡ vec_capacity truths.old }
 {
@@ -143,8 +143,8 @@ fn unit_value(
         ≡ is_met (operand_at operands.now k) vector.now }
     ensures phrase { (n : ℕ) (t : Tree) → node ≡ PhraseNode n → IsPhraseOf operands.now steps.now t
         → IsTrue result ↔ ((stripped_vector vector.now ≡ false) × HoldsSomewhere vector.now t) }
-    ensures bit_sets { SameBitSets bit_sets.old.stack.items bit_sets.old.spare.items bit_sets.new.stack.items
-        bit_sets.new.spare.items }
+    ensures bit_sets { SameBitSets bit_sets.old.stack.items bit_sets.old.spare.items
+        bit_sets.new.stack.items bit_sets.new.spare.items }
     ensures found { vec_len found.new ≡ vec_len found.old }
     ensures truths { vec_capacity truths.new ≡ vec_capacity truths.old }
 {
@@ -205,8 +205,8 @@ fn evaluate(
     requires truths { length steps.now ≤ vec_capacity truths.old }
     requires bit_sets { HasBitSets steps.now bit_sets.old.stack.items bit_sets.old.spare.items }
     ensures meaning { IsTrue result ↔ Holds query.now vector.now }
-    ensures bit_sets { SameBitSets bit_sets.old.stack.items bit_sets.old.spare.items bit_sets.new.stack.items
-        bit_sets.new.spare.items }
+    ensures bit_sets { SameBitSets bit_sets.old.stack.items bit_sets.old.spare.items
+        bit_sets.new.stack.items bit_sets.new.spare.items }
     ensures found { vec_len found.new ≡ vec_len found.old }
     ensures truths { vec_capacity truths.new ≡ vec_capacity truths.old }
 {

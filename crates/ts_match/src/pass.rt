@@ -5,9 +5,9 @@ ghost use Rattle.ts_query.specs.declared.query.Operand.{Operand as OperandOf};
 ghost use Rattle.ts_match.specs.Inner.Ranges.{NamesRange};
 ghost use Rattle.ts_match.specs.Inner.Pass.{IsShort, AreShort, Splits, IsAt, IsBounds, AreBounds};
 
+use crate::encoded::names;
 use crate::ranges::EntryRange;
 use crate::seen::Seen;
-use crate::encoded::names;
 use std::alloc::{AllocError, Global};
 use std::cmp::Ordering;
 use ts_query::Operand;

@@ -8,7 +8,7 @@ ghost use Rattle.ts_match.specs.declared.work.Place.TheVariants.{Within};
 ghost use Rattle.ts_match.specs.Inner.Plan.{offset_of, needs};
 ghost use Rattle.ts_match.specs.Inner.Phrases.{IsPhraseOf, IsStep, IsPrepared, IsNeeded, HasRange, HoldsWith, place_from, leaf_value, truth_step};
 
-use crate::ranges::{FARTHEST, EntryRange};
+use crate::ranges::{EntryRange, FARTHEST};
 use crate::seen::{Kind, Seen};
 use crate::stack::{put, take_top};
 use crate::work::{Place as StepPlace, Step};

@@ -7,9 +7,9 @@ ghost use Rattle.ts_match.specs.Inner.Ranges.{NamesRange, stands_at};
 ghost use Rattle.ts_match.specs.Inner.BitSets.{bit_value, IsWide};
 ghost use Rattle.ts_match.specs.Inner.Seen.{entries_of};
 
-use crate::ranges::{FARTHEST, EntryRange};
 use crate::bit_sets::{BitSet, WORD};
-use crate::{layout, ranges, encoded};
+use crate::ranges::{EntryRange, FARTHEST};
+use crate::{encoded, layout, ranges};
 use std::marker::Model;
 use ts_base::{LAST_POSITION, Weights};
 use ts_query::Operand;
@@ -136,7 +136,14 @@ impl<'a> Seen<'a> {
     }
 
     /// Lets a bit set be true also at each position of a fitting weight that the found entries have, moved by `by`.
-    pub fn set_found(&self, bits: &mut BitSet, count: usize, found: EntryRange, weights: Weights, by: usize)
+    pub fn set_found(
+        &self,
+        bits: &mut BitSet,
+        count: usize,
+        found: EntryRange,
+        weights: Weights,
+        by: usize,
+    )
         requires wide { IsWide count bits.old }
         requires near { by ≤ FARTHEST }
         requires order { found.first ≤ found.end }

@@ -6,9 +6,9 @@ ghost use Rattle.ts_match.specs.declared.work.Due.TheVariants.{At};
 ghost use Rattle.ts_match.specs.Plan.{plan_of, under_not, right_place};
 ghost use Rattle.ts_match.specs.Inner.Plan.{left_widths_of, left_width, measured, distance, spread_on, left_due, due_place, offset_of};
 
-use crate::ranges::EntryRange;
-use crate::pass::{Bounds, Mark, UNKNOWN, make_marks};
 use crate::bit_sets::{BitSets, make_bit_sets};
+use crate::pass::{Bounds, Mark, UNKNOWN, make_marks};
+use crate::ranges::EntryRange;
 use crate::stack::{put, take_top};
 use std::alloc::{AllocError, Global};
 use std::marker::Model;

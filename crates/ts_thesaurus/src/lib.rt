@@ -4,8 +4,8 @@
 mod error;
 mod laws;
 mod line;
-mod matching;
 mod line_words;
+mod matching;
 mod rule;
 mod thesaurus;
 mod tree;

@@ -13,8 +13,8 @@ pub record IsOnlyRead {D : Type 0} (device : Disk D) (old new : D) : Type 0 wher
   pub same : device.tells → device.seen new ≡ device.seen old
   pub any_moment : device.tells → LeavesOnly device old new (images_now device old)
 
--- The log is being read, and these batches were given. They are how it begins, and the next commit byte
--- is after them.
+-- The log is being read, and these batches were given. They are how it begins, and the next commit
+-- byte is after them.
 pub record IsReading (wal : Wal) (log : List ℕ) (batches : List (List ℕ)) : Type 0 where
   pub on : wal.ended ≡ false
   pub size : wal.size ≡ length log
@@ -46,8 +46,8 @@ IsForeign log =
 abbrev pub IsLengthAt : List ℕ → ℕ → ℕ → Type 0
 IsLengthAt log at n = (n < BATCH_LIMIT) × (take LENGTH_BYTES (drop (at + 1) log) ≡ little_bytes LENGTH_BYTES n)
 
--- The commit byte at this place is set, and the batch after it is empty or passes the end of the file,
--- its next commit byte included.
+-- The commit byte at this place is set, and the batch after it is empty or passes the end of the
+-- file, its next commit byte included.
 abbrev pub IsBroken : List ℕ → ℕ → Type 0
 IsBroken log at =
     (get_or log at 0 ≡ 1)

@@ -44,8 +44,8 @@ end_then end w = if is_crowded w then end + FRAME_BYTES + length w else end
 abbrev pub waiting_then : List ℕ → List ℕ
 waiting_then w = if is_crowded w then [] else w
 
--- The log's length with one entry more, up to and with the next commit byte: the own batch's commit byte, its
--- length, what waits, the entry, and that commit byte.
+-- The log's length with one entry more, up to and with the next commit byte: the own batch's commit
+-- byte, its length, what waits, the entry, and that commit byte.
 abbrev pub length_with : Wal → List ℕ → ℕ
 length_with wal entry =
     end_then (end_of wal) (waiting wal) + FRAME_BYTES + length (waiting_then (waiting wal)) + length entry + 1

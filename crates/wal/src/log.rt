@@ -109,8 +109,8 @@ impl Wal {
 
     /// The entry waits after what waits, of which there is little. The device is not called. Of a
     /// refused entry nothing is there.
-    /// The log is full where its length up to the own batch's commit byte, what waits and the entry, with
-    /// four bytes for the length
+    /// The log is full where its length up to the own batch's commit byte, what waits and the
+    /// entry, with four bytes for the length
     /// and a commit byte on each side, would pass the limit.
     pub fn append(&mut self, bytes: &[u8]) -> Result<(), AppendError>
         requires ready { IsReadToEnd self.old }

@@ -55,8 +55,8 @@ fn number_in(bytes: &[u8]) -> u32
     LittleEndian::read_u32(bytes)
 }
 
-/// The length of a batch, if the commit byte before it is set. These are the commit byte and the length, as far
-/// as the file has them;
+/// The length of a batch, if the commit byte before it is set. These are the commit byte and the
+/// length, as far as the file has them;
 /// `room` is what the file has from the commit byte on.
 fn length_in(head: &[u8], room: u64) -> Result<Option<usize>, ReadError>
     ensures closed { IfOk result (λ some. IfNone some (get_or head.now 0 0 ≢ 1)) }
@@ -83,7 +83,8 @@ fn length_in(head: &[u8], room: u64) -> Result<Option<usize>, ReadError>
     Ok(Some(len as usize))
 }
 
-/// The length of the batch after the commit byte at `at`, if that is open. `size` is the log's length.
+/// The length of the batch after the commit byte at `at`, if that is set. `size` is the log's
+/// length.
 fn next_length<D: Disk>(disk: &mut D, at: u64, size: u64) -> Result<Option<usize>, ReadError>
     requires { at < size }
     ensures closed { D.tells → length (D.seen disk.old).log ≡ size

@@ -19,7 +19,8 @@ pub record GoesOn {D : Type 0} (device : Disk D) (j : JournalValue D) (records :
   pub next : IsLogOf (logged j.owes records log) new
   pub longer : Begins old new
 
--- so it is where the device says what it holds, nothing has failed, and the files that were opened open
+-- so it is where the device says what it holds, nothing has failed, and the files that were opened
+-- open
 abbrev pub MayGoOn : {D : Type 0} → Disk D → JournalValue D → List Record → Type 0
 MayGoOn device j records =
     device.tells → down_of j.wal ≡ None → (found : History) → OpensTo (device.seen j.opened) found

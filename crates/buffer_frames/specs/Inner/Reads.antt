@@ -65,8 +65,8 @@ pub record ReadsOne {D : Type 0} (device : Disk D) (disk : D) (file : List ℕ) 
   pub is_read : IsRead device disk file pages xid_limit state map (first ∷ R)
 
 -- these bytes were read, the records of a batch
-pub record ReadsBatch {D : Type 0} (device : Disk D) (disk : D) (file : List ℕ) (pages xid_limit : ℕ)
-    (state : StateValue) (map : PageMap) (R : Log) (bytes : List ℕ) : Type 0 where
+pub record ReadsBatch {D : Type 0} (device : Disk D) (disk : D) (file : List ℕ)
+    (pages xid_limit : ℕ) (state : StateValue) (map : PageMap) (R : Log) (bytes : List ℕ) : Type 0 where
   pub records : List Record
   pub encoded : AreRecordsOf bytes records
   pub is_read : IsRead device disk file pages xid_limit state map (reverse records ++ R)

@@ -125,7 +125,8 @@ list_run step pin (r ∷ R) k Q shown =
     )
 
 -- the same of each log of valid records
-pub plain_lists : StepHolds → (R : Log) → RecordsAreValid R → (P : Pages) → Shows R P → HasLists (commits R) (length R) R P
+pub plain_lists : StepHolds → (R : Log) → RecordsAreValid R → (P : Pages) → Shows R P
+    → HasLists (commits R) (length R) R P
 plain_lists step [] v P shown = (no_ghost, start 0 0 P shown, none_listed P)
 plain_lists step (r ∷ R) v Q shown =
     let before = plain_lists step R v.0 v.1.before v.1.shown in

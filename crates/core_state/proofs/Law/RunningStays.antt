@@ -201,7 +201,8 @@ module _ (step : StepHolds) where
       v.1.before shown v.1.shown runs (λ s i. leaves s (inr i))))
 
   -- a transaction that runs and of which no later record is runs on, and its documents stay as they are
-  pub runs_on_behind : (x : ℕ) (later R : Log) → RecordsAreValid R → RecordsAreValid (later ++ R) → R ≢ [] → (P Q : Pages)
+  pub runs_on_behind : (x : ℕ) (later R : Log) → RecordsAreValid R → RecordsAreValid (later ++ R) → R ≢ []
+      → (P Q : Pages)
       → Shows R P → Shows (later ++ R) Q → fate R x ≡ Running → LeavesXid x later
       → RunsOn R (later ++ R) P Q x
   runs_on_behind x later R v v' some P Q shown shown' runs leaves = record {

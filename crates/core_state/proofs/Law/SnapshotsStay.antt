@@ -187,7 +187,8 @@ module _ (step : StepHolds) (pin : Pin) where
       ∙ drop-append-le (length R - at) c.later (c.by ∷ c.earlier) (omega (arith, n, early, from))) b.0 b.1 Q shown'
 
 -- and by all commits of a log of valid records
-pub all_history_stands : StepHolds → (R : Log) (P : Pages) → RecordsAreValid R → Shows R P → HistoryStands R P (commits R)
+pub all_history_stands : StepHolds → (R : Log) (P : Pages) → RecordsAreValid R → Shows R P
+    → HistoryStands R P (commits R)
 all_history_stands step R P v shown =
     history_stands step (all_pin R) R P v (keeps_all (all_pin R) R v (omega arith) (omega arith)) shown
 

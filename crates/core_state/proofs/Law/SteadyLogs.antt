@@ -28,7 +28,8 @@ use Rattle.core_state.proofs.Law.PlacesStay.{places_stay, pinned_stay}
 use Rattle.core_state.proofs.Law.CommittedWhole.{AreWhole, committed_whole}
 use Rattle.core_state.proofs.Law.AllCases.{all_steps}
 
-facts : StepHolds → (R later : Log) (P Q : Pages) → R ≢ [] → RecordsAreValid R → RecordsAreValid (later ++ R) → Shows R P
+facts : StepHolds → (R later : Log) (P Q : Pages) → R ≢ [] → RecordsAreValid R → RecordsAreValid (later ++ R)
+    → Shows R P
     → Shows (later ++ R) Q → SteadyFacts R later (later ++ R) P Q
 facts step R later P Q some v v' shown shown' = record {
   runs_on = λ x runs leaves. runs_on_behind step x later R v v' some P Q shown shown' runs leaves;

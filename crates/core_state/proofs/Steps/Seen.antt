@@ -31,7 +31,8 @@ pub legal_behind : (later R : Log) → IsLegal (later ++ R) → IsLegal R
 legal_behind [] R l = l
 legal_behind (r ∷ later) R l = legal_behind later R (legal_less r (later ++ R) l)
 
-shown_behind : (later R : Log) (Q : Pages) → RecordsAreValid (later ++ R) → Shows (later ++ R) Q → (P : Pages) × Shows R P
+shown_behind : (later R : Log) (Q : Pages) → RecordsAreValid (later ++ R) → Shows (later ++ R) Q
+    → (P : Pages) × Shows R P
 shown_behind [] R Q v shown = (Q, shown)
 shown_behind (r ∷ later) R Q v shown = shown_behind later R v.1.before v.0 v.1.shown
 

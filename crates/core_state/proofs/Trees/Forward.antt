@@ -312,7 +312,8 @@ module _ {E : Type 0} (o : Order E) (bottom top : E) (N M : ℕ → Node E) (g :
           right_of : (a b : ℕ) (x y : E) (xs ys : List E) → leaf a x xs ≡ leaf b y ys → a ≡ b
           right_of a b x y xs ys f = cc
 
-      is_leaf_of : (p : ℕ) (z : TreePlace) (high : E) (keys : List E) → g.place p ≡ z → z ≢ none → N p ≡ leaf d high keys
+      is_leaf_of : (p : ℕ) (z : TreePlace) (high : E) (keys : List E) → g.place p ≡ z → z ≢ none
+          → N p ≡ leaf d high keys
           → g.place p ≡ tree r 0
       is_leaf_of p none high keys at off e = absurd (off refl)
       is_leaf_of p (tree s h) high keys at off e = same_leaf_tree p h s high keys at e

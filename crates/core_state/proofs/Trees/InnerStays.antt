@@ -48,7 +48,8 @@ module _ {E : Type 0} (o : Order E) (bottom top : E) (least : (x : E) → AtMost
   next_place d q s V = (child_here o top N g S q s 0 V.parent_right _ V.next V.parent V.before_parent
       (in_back V.next V.front _ (inr (inl refl)))).0
 
-  grows_inner : (g' : TreeGhost E) → Grows o bottom top N M g g' → (p r h : ℕ) → g.place p ≡ tree r (suc h) → IsInner g' r p
+  grows_inner : (g' : TreeGhost E) → Grows o bottom top N M g g' → (p r h : ℕ) → g.place p ≡ tree r (suc h)
+      → IsInner g' r p
   grows_inner g' (Grows.quiet same e) p r h at = subst (λ (G : TreeGhost E). IsInner G r p) (sym e) (h, at, refl)
   grows_inner g' (Grows.new_keys s t V e) p r h at = subst (λ (G : TreeGhost E). IsInner G r p) (sym e) (h, at, refl)
   grows_inner g' (Grows.make n V e) p r h at =

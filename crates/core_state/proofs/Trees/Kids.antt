@@ -11,7 +11,8 @@ abbrev pub Spans : {E : Type 0} → Order E → TreeGhost E → ℕ → ℕ → 
 Spans o g r h = (q : ℕ) → g.place q ≡ tree r h → o.less (g.low q) (g.high q)
 
 module _ {E : Type 0} (o : Order E) (top : E) where
-  pub kid_within : (g : TreeGhost E) (r h : ℕ) (lo hi : E) (cs : List (Child E)) → Spans o g r h → Kids o top g r h lo cs hi
+  pub kid_within : (g : TreeGhost E) (r h : ℕ) (lo hi : E) (cs : List (Child E)) → Spans o g r h
+      → Kids o top g r h lo cs hi
       → AtMost o top lo hi
   kid_within g r h lo hi [] span ok = inr ok
   kid_within g r h lo hi (c ∷ cs) span ok =
@@ -20,7 +21,8 @@ module _ {E : Type 0} (o : Order E) (top : E) where
       in
       inl (less_at_most o top lo c.bound hi first (kid_within g r h c.bound hi cs span ok.3))
 
-  pub kid_place : (g : TreeGhost E) (r h : ℕ) (lo hi : E) (cs : List (Child E)) → Spans o g r h → Kids o top g r h lo cs hi
+  pub kid_place : (g : TreeGhost E) (r h : ℕ) (lo hi : E) (cs : List (Child E)) → Spans o g r h
+      → Kids o top g r h lo cs hi
       → (c : Child E) → In c cs
       → (g.place c.page ≡ tree r h) × AtMost o top lo (g.low c.page) × AtMost o top (g.high c.page) hi
   kid_place g r h lo hi [] span ok c i = absurd i
@@ -36,7 +38,8 @@ module _ {E : Type 0} (o : Order E) (top : E) where
       (rest.0, inl (less_at_most o top lo d.bound (g.low c.page) first rest.1), rest.2)
 
   -- a child's bound is its high bound
-  pub kid_bound : (g : TreeGhost E) (r h : ℕ) (lo hi : E) (cs : List (Child E)) → Kids o top g r h lo cs hi → (c : Child E)
+  pub kid_bound : (g : TreeGhost E) (r h : ℕ) (lo hi : E) (cs : List (Child E)) → Kids o top g r h lo cs hi
+      → (c : Child E)
       → In c cs → g.high c.page ≡ c.bound
   kid_bound g r h lo hi [] ok c i = absurd i
   kid_bound g r h lo hi (d ∷ cs) ok c (inl e) = subst (λ (x : Child E). g.high x.page ≡ x.bound) (sym e) ok.2

@@ -62,7 +62,8 @@ live_once place (x ∷ xs) o = by (place x) (live_once place xs o.1)
     by none more = (λ i. o.0 (live_only place xs x i).0, more)
     by (tree r h) more = (λ i. o.0 (live_only place xs x i).0, more)
 
-live_comes : (place : ℕ → TreePlace) (L : List ℕ) (p q : ℕ) → Comes L p q → (IsLeft (place p) → ⊥) → (IsLeft (place q) → ⊥)
+live_comes : (place : ℕ → TreePlace) (L : List ℕ) (p q : ℕ) → Comes L p q → (IsLeft (place p) → ⊥)
+    → (IsLeft (place q) → ⊥)
     → Comes (live_of place L) p q
 live_comes place [] p q c off off' = absurd c
 live_comes place (x ∷ xs) p q (inl (e, i)) off off' = by (place x) (λ l. off (subst (λ z. IsLeft (place z)) e l))

@@ -153,7 +153,8 @@ module _ {E : Type 0} (o : Order E) (bottom top : E) (least : (x : E) → AtMost
   abbrev pub Gone : TreeGhost E → ℕ → ℕ → Type 0
   Gone g' r p = (g'.place p ≡ left r) × (g'.low p ≡ g.low p)
 
-  gone_new : (n p r : ℕ) (x : TreePlace) (l : E) → g.place n ≡ none → g.place p ≡ left r → ((put g.place n x) p ≡ left r)
+  gone_new : (n p r : ℕ) (x : TreePlace) (l : E) → g.place n ≡ none → g.place p ≡ left r
+      → ((put g.place n x) p ≡ left r)
       × ((put g.low n l) p ≡ g.low p)
   gone_new n p r x l new at = let w = not_new_left n p r new at in
       (put_else g.place n x p w ∙ at, put_else g.low n l p w)

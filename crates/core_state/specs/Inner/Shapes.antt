@@ -6,7 +6,8 @@ use Rattle.core_state.specs.Trees.Nodes.Node.{leaf, inner}
 use Rattle.core_state.specs.Trees.Nodes.TreePlace.{none, tree, left}
 
 -- the inner page p of height suc k in the tree r is divided after the child last; the new page is n, the parent q
-pub record IsSplitInner {E : Type 0} (N M : ℕ → Node E) (g : TreeGhost E) (p n q r k : ℕ) : Type 0 where
+pub record IsSplitInner {E : Type 0} (N M : ℕ → Node E) (g : TreeGhost E) (p n q r k : ℕ)
+    : Type 0 where
   pub at : g.place p ≡ tree r (suc k)
   pub new : g.place n ≡ none
   pub not_zero : n ≢ 0
@@ -28,8 +29,8 @@ pub record IsSplitInner {E : Type 0} (N M : ℕ → Node E) (g : TreeGhost E) (p
   pub else : (x : ℕ) → x ≢ p → x ≢ n → x ≢ q → M x ≡ N x
 
 -- a new page n becomes a tree of one leaf
-pub record IsNewTree {E : Type 0} (N M : ℕ → Node E) (g : TreeGhost E) (bottom top : E) (o : Order E)
-    (n : ℕ) : Type 0 where
+pub record IsNewTree {E : Type 0} (N M : ℕ → Node E) (g : TreeGhost E) (bottom top : E)
+    (o : Order E) (n : ℕ) : Type 0 where
   pub new : g.place n ≡ none
   pub not_zero : n ≢ 0
   pub no_tree : (x h : ℕ) → g.place x ≡ tree n h → ⊥

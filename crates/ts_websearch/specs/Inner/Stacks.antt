@@ -38,7 +38,8 @@ module _ (known : Known) (mapping : Mapping) where
   MakingFails tree old (LexemeTooLong at) = ⊥
 
   -- these rows have ended, and this one is read
-  pub record IsWebAt (web : WebMaker) (ended : List (List WebItem)) (row : List WebItem) : Type 0 where
+  pub record IsWebAt (web : WebMaker) (ended : List (List WebItem)) (row : List WebItem) : Type 0
+      where
     pub has_rows : web.rows ≡ is_some (web_query ended)
     pub has_row : web.row ≡ is_some (row_query row)
     pub sketches : List Sketch
@@ -60,5 +61,6 @@ module _ (known : Known) (mapping : Mapping) where
 -- what was read of a text: the rows that have ended, the row so far, and what is left
 pub record ReadTo (text : List ℕ) (rest : List ℕ) (ended : List (List WebItem))
     (row : List WebItem) : Type 0 where
-  pub goes_on : (is : List WebItem) (rows : List (List WebItem)) → AreItems rest is → AreRows row is rows
+  pub goes_on : (is : List WebItem) (rows : List (List WebItem)) → AreItems rest is
+      → AreRows row is rows
       → AreWebRows text (ended ++ rows)

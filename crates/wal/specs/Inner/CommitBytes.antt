@@ -16,7 +16,8 @@ pub record Unset (log : List ℕ) : Type 0 where
   pub unset : commit_byte ≢ 1
   pub short : length rest ≤ HEADER_BYTES
 
--- A batch is broken, seen from the commit byte before it: these are the first bytes from the commit byte on, and
+-- A batch is broken, seen from the commit byte before it: these are the first bytes from the commit
+-- byte on, and
 -- `room` is what the file has from there.
 abbrev pub IsBrokenHead : List ℕ → ℕ → Type 0
 IsBrokenHead head room =
