@@ -19,40 +19,35 @@ ghost use Rattle.buffer_frames.specs.declared.error.OpenFault.TheVariants.{NotAS
 
 use crate::error::OpenFault;
 use crate::laws::stores_are_known;
-use crate::page_map::{PageMap, RawPage};
+use crate::page_map::PageMap;
 use core_state::State;
 use disk_trait::{Disk, File};
-use page_types::{Change, Edit, PAGE_BYTES, Record};
+use page_types::{Change, Edit, PAGE_BYTES, PageBytes, Record, zero_page};
 use record_code::decode_record;
-use std::alloc::{AllocError, Global};
+use std::alloc::Global;
 use wal::Wal;
 
-/// A page of zeros.
-fn empty_page(alloc: Global) -> Result<Vec<u8>, AllocError>
-    ensures { IfOk result (λ bytes. length bytes.items ≡ PAGE_BYTES) }
-{
-    let mut bytes = Vec::with_capacity(alloc, PAGE_BYTES)?;
-    bytes.resize(PAGE_BYTES, 0u8)?;
-    Ok(bytes)
-}
-
 /// A page as it is in the page file, with zeros past the end.
-fn read_page<D: Disk>(alloc: Global, disk: &mut D, page: u32) -> Result<RawPage, OpenFault>
+fn read_page<D: Disk>(alloc: Global, disk: &mut D, page: u32) -> Result<PageBytes, OpenFault>
     ensures bytes { D.tells
         → IfOk result (λ raw. raw ≡ page_or_zeros (D.seen disk.old).pages page) }
     ensures error { IfErr result (λ e. (e ≡ DiskFault) ⊎ (e ≡ OutOfMemory)) }
     ensures keeps { IsOnlyRead D.Disk disk.old disk.new }
     ensures cause { ReadHasCause D.Disk disk.old disk.new result }
 {
-    let mut bytes = empty_page(alloc)?;
+    let mut bytes = zero_page(alloc)?;
     let n = disk.read(File::Pages, u64::from(page) * PAGE_BYTES as u64, &mut bytes)?;
     bytes.truncate(n);
     bytes.resize(PAGE_BYTES, 0)?;
-    Ok(RawPage::from_vec(bytes))
+    Ok(PageBytes::from_vec(bytes))
 }
 
 /// The bytes that the first change of a page begins from. Before an image they don't matter.
-fn first_bytes<D: Disk>(alloc: Global, disk: &mut D, change: &Change) -> Result<RawPage, OpenFault>
+fn first_bytes<D: Disk>(
+    alloc: Global,
+    disk: &mut D,
+    change: &Change,
+) -> Result<PageBytes, OpenFault>
     ensures begins { D.tells → IfOk result (λ raw. BeginsAs change.now.edit raw
         (page_or_zeros (D.seen disk.old).pages change.now.page)) }
     ensures error { IfErr result (λ e. (e ≡ DiskFault) ⊎ (e ≡ OutOfMemory)) }
@@ -60,7 +55,7 @@ fn first_bytes<D: Disk>(alloc: Global, disk: &mut D, change: &Change) -> Result<
     ensures cause { ReadHasCause D.Disk disk.old disk.new result }
 {
     match &change.edit {
-        Edit::Image(_) => Ok(RawPage::from_vec(empty_page(alloc)?)),
+        Edit::Image(_) => Ok(PageBytes::from_vec(zero_page(alloc)?)),
         Edit::Delta { .. } => read_page(alloc, disk, change.page),
     }
 }

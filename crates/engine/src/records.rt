@@ -12,8 +12,8 @@ ghost use Rattle.engine.specs.declared.db.TheConstants.{LONGEST};
 use crate::db::HEAP_PAGE;
 use page_code::encode_page;
 use page_types::{
-    Body, Change, Changes, Edit, HeadFields, HeadRef, Kind, MOST_SLOTS, PAGE_BYTES, Page,
-    PageBytes, Record, Slots,
+    Body, Change, Changes, Edit, HeadFields, HeadRef, Kind, MOST_SLOTS, Page, PageBytes, Record,
+    Slots, zero_page,
 };
 use std::alloc::{AllocError, Global};
 
@@ -45,22 +45,13 @@ pub fn slots_in(alloc: Global, page: Page) -> Slots
     }
 }
 
-/// So many zero bytes.
-fn zeros(alloc: Global, size: usize) -> Result<Vec<u8>, AllocError>
-    ensures { IfOk result (λ bytes. length bytes.items ≡ size) }
-{
-    let mut bytes = Vec::new(alloc);
-    bytes.resize(size, 0u8)?;
-    Ok(bytes)
-}
-
 /// The bytes of the heap page with these slots, as the record of this number leaves it, and the
 /// slots again.
 fn image_of(alloc: Global, stamp: u64, slots: Slots) -> Result<(PageBytes, Slots), AllocError>
     requires { IsPage (heap_with stamp slots) }
     ensures { IfOk result (λ r. (r.0 ≡ page_bytes (heap_with stamp slots)) × (r.1 ≡ slots)) }
 {
-    let mut bytes = zeros(alloc, PAGE_BYTES)?;
+    let mut bytes = zero_page(alloc)?;
     let page = Page {
         right: 0,
         stamp,

@@ -1,9 +1,11 @@
 // The records of the log, and how they change pages.
-ghost use Rattle.std.specs.Prelude.{◌≡◌, ◌<◌, ◌≤◌, [], ◌∷◌, ◌++◌, length, OnOk, OnErr, IfSome, IfNone, IfOk, Some};
+ghost use Rattle.std.specs.Prelude.{◌≡◌, ◌↔◌, ◌<◌, ◌≤◌, [], ◌∷◌, ◌++◌, length, OnOk, OnErr, IfSome, IfNone, IfOk, IsOk, Some};
 ghost use Rattle.std.specs.List.{slice_get};
 
 use crate::PAGE_BYTES;
 use crate::bytes::Bytes;
+use crate::edits::apply;
+use crate::error::BadChange;
 use std::alloc::{AllocError, Global};
 use std::marker::Model;
 
@@ -24,6 +26,8 @@ impl Model for PageBytes {
 }
 
 impl PageBytes {
+    ghost use Rattle.page_types.specs.Edits.{edited, CanEdit};
+
     /// These bytes, which are not copied.
     pub fn from_vec(bytes: Vec<u8>) -> PageBytes
         requires { length bytes.items ≡ PAGE_BYTES }
@@ -56,6 +60,15 @@ impl PageBytes {
     {
         let PageBytes { inner } = self;
         inner
+    }
+
+    /// Changes the bytes, as the record with this number does. A refusal leaves them as they are.
+    pub fn change(&mut self, number: u64, change: &Change) -> Result<(), BadChange>
+        ensures done { OnOk result (self.new ≡ edited number change.now.edit self.old) }
+        ensures ok { IsOk result ↔ CanEdit change.now.edit self.old }
+        ensures same { OnErr result (self.new ≡ self.old) }
+    {
+        apply(&mut self.inner, number, change)
     }
 }
 

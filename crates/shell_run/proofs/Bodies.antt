@@ -1,25 +1,25 @@
 -- The lines of a definition, one after another.
-use Rattle.std.proofs.Common.{◌≡◌, ◌⊎◌, ◌↔◌, inl, inr, ℕ, suc, Bool, true, false, List, [], ◌∷◌, ◌++◌, append_assoc, arith, refl, sym, ◌∙◌, ap, subst}
+use Rattle.std.proofs.Common.{◌≡◌, ◌⊎◌, inl, inr, ℕ, Bool, List, [], ◌∷◌, ◌++◌, arith, refl, sym, ◌∙◌, ap, subst}
 use Rattle.std.specs.Prelude.{Contains, Option, Some}
 use Rattle.std.specs.Str.{IsUtf8}
 use Rattle.std.specs.List.{All, Any}
-use Rattle.std.proofs.lemmas.List.{append-nil}
 use Rattle.std.proofs.lemmas.List.Elements.{All-nil, All-push}
 use Rattle.std.proofs.lemmas.List.Quantifiers.{Any-push}
 use Rattle.ts_base.specs.Dictionary.{WordAnswer}
+use Rattle.ts_base.specs.LineErrors.{IsBadFault}
 use Rattle.ts_words.specs.StopLists.{IsBadLine, Stops, IsStopList, Adds}
 use Rattle.ts_synonym.specs.Synonyms as synonyms
-use Rattle.ts_synonym.specs.Synonyms.{Synonyms, IsSynonymList}
+use Rattle.ts_synonym.specs.Synonyms.{IsSynonymList}
 use Rattle.ts_thesaurus.specs.Rules.{Rule}
+use Rattle.ts_thesaurus.specs.Lines as phrases
 use Rattle.ts_thesaurus.specs.Lines.{AreRules, IsRefused}
 use Rattle.ts_thesaurus.specs.Faults.{IsFault}
-use Rattle.ts_thesaurus.specs.declared.error.LineError.{LineError}
-use Rattle.ts_thesaurus.specs.declared.error.LineError.TheVariants.{Bad, StopInSample, UnknownInSample, Memory}
+use Rattle.ts_base.specs.declared.line_error.LineError.{LineError}
+use Rattle.ts_base.specs.declared.line_error.LineError.TheVariants.{Bad, StopInSample, UnknownInSample, Memory}
 use Rattle.ts_words.proofs.Members.{any_old, any_cases}
 use Rattle.ts_config.specs.Mappings.{Mapping, empty_mapping}
 use Rattle.ts_config.specs.Rules.{Rules, rules_of, answer_by}
-use Rattle.ts_config.specs.Known.{Known, HasDictionary, HasConfiguration, ArePlaces, place_of, sub_named}
-use Rattle.ts_thesaurus.proofs.Readings.{one_reading}
+use Rattle.ts_config.specs.Known.{Known, HasDictionary, HasConfiguration, sub_named}
 use Rattle.shell_script.specs.Lines.{Line}
 use Rattle.shell_script.specs.OpeningLines.{Kind, thesaurus_kind, dictionary_opening, configuration_opening}
 use Rattle.shell_script.specs.Replies.{Refusal, no_statement, no_dictionary}
@@ -28,7 +28,21 @@ use Rattle.shell_run.specs.Defining.{IsNoLine, answer_in, LacksOne, IsBadFor, by
 use Rattle.shell_run.specs.Inner.Definitions.{IsMadeOf, LineBad, LinesBad, MapsFail}
 use Rattle.shell_run.specs.declared.dictionaries.RulesOver.{RulesOver}
 use Rattle.shell_run.proofs.Taking.{AreMade}
-use Rattle.shell_run.specs.Inner.Refusing.{rule_refusal}
+use Rattle.shell_run.specs.Inner.Refusing.{line_refusal}
+
+-- ── lines ──
+-- a text that is not bad
+pub good_line : (IsBad : List ℕ → Type 0) (l : Line) → IsUtf8 l.bytes → ¬ IsBad l.bytes → ¬ IsNoLine IsBad l
+good_line IsBad l u n (inl k) = k u
+good_line IsBad l u n (inr b) = n b
+
+-- a line that can only be bad is so, or memory ran out
+pub line_bad : (IsBad : List ℕ → Type 0) (text : List ℕ) (l : Line) (error : LineError) → text ≡ l.bytes
+    → IsBadFault IsBad text error → LineBad (IsNoLine IsBad) l (line_refusal error l.number)
+line_bad IsBad text l Bad same f = inr (refl, inr (subst IsBad same f))
+line_bad IsBad text l StopInSample same f = absurd f
+line_bad IsBad text l UnknownInSample same f = absurd f
+line_bad IsBad text l Memory same f = inl refl
 
 -- ── stop words ──
 pub no_stops : (stops : List (List ℕ)) → stops ≡ [] → IsStopList [] stops
@@ -50,81 +64,47 @@ list_more ls line old new p h = record {
     back w (inr s) = inr s
 
 -- the stop words of lines, each of which adds its own
-pub stops_are : AreMade (λ l old new. (¬ IsNoLine IsBadLine l) × Adds l.bytes old new) (λ l old why. LineBad (IsNoLine IsBadLine) l why) (IsNoLine IsBadLine) IsStopList
+pub stops_are : AreMade (λ l old new. IsUtf8 l.bytes × Adds l.bytes old new)
+    (λ l old why. LineBad (IsNoLine IsBadLine) l why) (IsNoLine IsBadLine) IsStopList
 stops_are = record {
-  more = λ l ls old new h m. (h.0, list_more ls l.bytes old new m h.1);
+  more = λ l ls old new h m. (good_line IsBadLine l h.0 h.1.fit, list_more ls l.bytes old new m h.1);
   fails = λ l ls old why m f. f;
 }
 
 -- ── synonyms ──
 pub synonyms_are : (cases : Bool) → AreMade
-    (λ l old new. (¬ IsNoLine synonyms.IsBadLine l) × ((cases : Bool) (lines : List (List ℕ)) → IsSynonymList cases lines old → IsSynonymList cases (lines ++ l.bytes ∷ []) new))
+    (λ l old new. IsUtf8 l.bytes × synonyms.Adds l.bytes old new)
     (λ l old why. LineBad (IsNoLine synonyms.IsBadLine) l why) (IsNoLine synonyms.IsBadLine) (IsSynonymList cases)
 synonyms_are cases = record {
-  more = λ l ls old new h m. (h.0, h.1 cases ls m);
+  more = λ l ls old new h m. (good_line synonyms.IsBadLine l h.0 h.1.fit, h.1.each cases ls m);
   fails = λ l ls old why m f. f;
 }
 
--- a line that was taken is not bad
-pub not_bad : (IsBad : List ℕ → Type 0) (text : List ℕ) (l : Line) (good : Bool) → text ≡ l.bytes → IsUtf8 l.bytes → good ≡ true → (good ≡ false) ↔ IsBad text → ¬ IsNoLine IsBad l
-not_bad IsBad text l good same u is k (inl n) = n u
-not_bad IsBad text l good same u is k (inr b) = let e : good ≡ false = k.1 (subst IsBad (sym same) b) in let z : ⊥ = cc in z
-
 -- ── phrases ──
--- the last line of lines that have rules is not refused
-last_good : (answer : List ℕ → WordAnswer) (ls : List (List ℕ)) (line : List ℕ) (rules : List Rule) → AreRules answer (ls ++ line ∷ []) rules → ¬ IsRefused answer line
-last_good answer [] line rules h = λ r. one_reading.refused answer (line ∷ []) rules 1 h (inl (r, refl))
-last_good answer (l ∷ ls) line rules (inl h) = last_good answer ls line rules h.1
-last_good answer (l ∷ ls) line rules (inr h) = last_good answer ls line h.1 h.4
-
 -- a fault makes a line a refused one, or memory ran out
-pub fault_bad : (answer : List ℕ → WordAnswer) (text : List ℕ) (l : Line) (error : LineError) → text ≡ l.bytes → IsFault answer text error → LineBad (IsNoLine (IsRefused answer)) l (rule_refusal error l.number)
+pub fault_bad : (answer : List ℕ → WordAnswer) (text : List ℕ) (l : Line) (error : LineError) → text ≡ l.bytes
+    → IsFault answer text error → LineBad (IsNoLine (IsRefused answer)) l (line_refusal error l.number)
 fault_bad answer text l Bad same f = inr (refl, inr (subst (IsRefused answer) same (inl f)))
 fault_bad answer text l StopInSample same f = inr (refl, inr (subst (IsRefused answer) same (inr (inl f))))
 fault_bad answer text l UnknownInSample same f = inr (refl, inr (subst (IsRefused answer) same (inr (inr f))))
 fault_bad answer text l Memory same f = inl refl
-
-pub rule_good : (answer : List ℕ → WordAnswer) (ls : List (List ℕ)) (l : Line) (rules : List Rule) → IsUtf8 l.bytes → AreRules answer (ls ++ l.bytes ∷ []) rules → ¬ IsNoLine (IsRefused answer) l
-rule_good answer ls l rules u h (inl n) = n u
-rule_good answer ls l rules u h (inr r) = last_good answer ls l.bytes rules h r
 
 -- what a thesaurus over a dictionary that goes by these rules has of lines
 abbrev pub RulesMade : Rules → List (List ℕ) → RulesOver → Type 0
 RulesMade sub ls v = (rules_of v.sub.now ≡ sub) × AreRules (answer_by sub) ls v.thesaurus
 
 pub rules_are : (sub : Rules) → AreMade
-    (λ l old new. (new.sub ≡ old.sub) × IsUtf8 l.bytes × ((lines : List (List ℕ)) → AreRules (answer_by (rules_of old.sub.now)) lines old.thesaurus → AreRules (answer_by (rules_of old.sub.now)) (lines ++ l.bytes ∷ []) new.thesaurus))
-    (λ l old why. LineBad (IsNoLine (IsRefused (answer_by (rules_of old.sub.now)))) l why) (IsNoLine (IsRefused (answer_by sub))) (RulesMade sub)
+    (λ l old new. (new.sub ≡ old.sub) × IsUtf8 l.bytes
+    × phrases.Adds (answer_by (rules_of old.sub.now)) l.bytes old.thesaurus new.thesaurus)
+    (λ l old why. LineBad (IsNoLine (IsRefused (answer_by (rules_of old.sub.now)))) l why)
+    (IsNoLine (IsRefused (answer_by sub))) (RulesMade sub)
 rules_are sub = record {
   more = λ l ls old new h m.
-      let made : AreRules (answer_by sub) (ls ++ l.bytes ∷ []) new.thesaurus =
-      subst (λ r. AreRules (answer_by r) ls old.thesaurus → AreRules (answer_by r) (ls ++ l.bytes ∷ []) new.thesaurus) m.0 (h.2 ls) m.1 in
-      (rule_good (answer_by sub) ls l new.thesaurus h.1 made, (ap (λ s. rules_of s.now) h.0 ∙ m.0, made));
+      let adds : phrases.Adds (answer_by sub) l.bytes old.thesaurus new.thesaurus =
+      subst (λ r. phrases.Adds (answer_by r) l.bytes old.thesaurus new.thesaurus) m.0 h.2 in
+      (good_line (IsRefused (answer_by sub)) l h.1 adds.fit, (ap (λ s. rules_of s.now) h.0 ∙ m.0, adds.each ls m.1));
   fails = λ l ls old why m f. subst (λ r. LineBad (IsNoLine (IsRefused (answer_by r))) l why) m.0 f;
 }
-
--- ── places ──
-pub record PlacesRead (known : Known) (names left : List (List ℕ)) (places : List ℕ) : Type 0 where
-  pub goes_on : (more : List ℕ) → ArePlaces known left more → ArePlaces known names (places ++ more)
-  pub fails : Any (λ (name : List ℕ). ¬ HasDictionary known name) left → Any (λ (name : List ℕ). ¬ HasDictionary known name) names
-
-pub places_start : (known : Known) (names : List (List ℕ)) (places : List ℕ) → places ≡ [] → PlacesRead known names names places
-places_start known names places e = record { goes_on = λ more h. subst (λ z. ArePlaces known names (z ++ more)) (sym e) h; fails = λ h. h }
-
-any_behind : {X : Type 0} (P : X → Type 0) (x : X) (xs : List X) → Any P xs → Any P (x ∷ xs)
-any_behind P x xs (k, y, l, e, p) = (suc k, y, omega (arith, l), e, p)
-
-pub places_more : (known : Known) (names left : List (List ℕ)) (name : List ℕ) (old new : List ℕ) (place : ℕ) → PlacesRead known names (name ∷ left) old → place_of known name ≡ Some place → new ≡ old ++ place ∷ [] → PlacesRead known names left new
-places_more known names left name old new place p e is = record {
-  goes_on = λ more h. subst (ArePlaces known names) (sym (append_assoc old (place ∷ []) more) ∙ ap (λ z. z ++ more) (sym is)) (p.goes_on (place ∷ more) (place, more, refl, e, h));
-  fails = λ h. p.fails (any_behind (λ (name : List ℕ). ¬ HasDictionary known name) name left h);
-}
-
-pub places_end : (known : Known) (names : List (List ℕ)) (places : List ℕ) → PlacesRead known names [] places → ArePlaces known names places
-places_end known names places p = subst (ArePlaces known names) (append-nil places) (p.goes_on [] refl)
-
-pub places_fail : (known : Known) (names left : List (List ℕ)) (name : List ℕ) (places : List ℕ) → PlacesRead known names (name ∷ left) places → ¬ HasDictionary known name → Any (λ (name : List ℕ). ¬ HasDictionary known name) names
-places_fail known names left name places p n = p.fails (0, name, omega arith, refl, n)
 
 -- ── definitions ──
 pub kind_refuses : (known : Known) (number : ℕ) (name : List ℕ) (kind : Kind) (ls : List Line) (why : Refusal) → ¬ LacksOne known kind → ¬ HasDictionary known name → LinesBad (λ (l : Line). IsBadFor known kind l) ls why → IsDefined known number (dictionary_opening name kind) ls (refused why)

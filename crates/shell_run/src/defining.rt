@@ -1,5 +1,5 @@
 // Definitions of configurations, from the lines of their bodies.
-ghost use Rattle.std.specs.Prelude.{◌≡◌, IfOk, IfErr, OnOk, MatchOption};
+ghost use Rattle.std.specs.Prelude.{◌≡◌, map, IfOk, IfErr, OnOk, MatchOption};
 ghost use Rattle.std.specs.List.{Any};
 ghost use Rattle.ts_config.specs.Mappings.{empty_mapping};
 ghost use Rattle.ts_config.specs.Known.{HasDictionary, ArePlaces, IsWithin};
@@ -19,7 +19,13 @@ use std::alloc::{AllocError, Global};
 use ts_config::{Config, Configs};
 use ts_parser::TokenType;
 
-#[tactic(auto, using(crate::proofs::Bodies::places_start))]
+/// The names that are left of a line.
+fn listed<'a>(alloc: Global, names: Names<'a>) -> Result<Vec<&'a str>, AllocError>
+    ensures { IfOk result (λ listed. map (λ n. n.now) listed.items ≡ names.entry) }
+{
+    names.collect(alloc)
+}
+
 /// The places of the dictionaries of these names; none where one of them isn't there.
 fn places_of(
     alloc: Global,
@@ -30,14 +36,8 @@ fn places_of(
         (Any (λ name. ¬ HasDictionary configs.now name) names.entry)
         (λ places. ArePlaces configs.now names.entry places.items)) }
 {
-    let mut places = Vec::new(alloc);
-    for name in names {
-        match configs.place(name) {
-            Some(place) => places.push(place)?,
-            None => return Ok(None),
-        }
-    }
-    Ok(Some(places))
+    let texts = listed(alloc, names)?;
+    configs.places(alloc, &texts)
 }
 
 /// Gives the types of a line the dictionaries that it names.

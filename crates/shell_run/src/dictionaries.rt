@@ -1,9 +1,11 @@
 // Definitions of dictionaries, from the lines of their bodies.
-ghost use Rattle.std.specs.Prelude.{◌≡◌, ◌↔◌, ◌++◌, ◌∷◌, [], ℕ, Bool, List, All, IfOk, IfErr, OnOk, IsTrue};
+ghost use Rattle.std.specs.Prelude.{◌≡◌, ◌↔◌, All, IfOk, IfErr, OnOk, IsTrue};
 ghost use Rattle.std.specs.Str.{IsUtf8};
-ghost use Rattle.ts_words.specs.StopLists.{IsBadLine as IsBadStopLine, IsStopList, Adds};
+ghost use Rattle.ts_words.specs.StopLists.{IsBadLine as IsBadStopLine, IsStopList};
+ghost use Rattle.ts_words.specs.StopLists.{Adds as AddsStop};
 ghost use Rattle.ts_synonym.specs.Synonyms.{IsBadLine as IsBadSynonymLine, IsSynonymList};
-ghost use Rattle.ts_thesaurus.specs.Lines.{AreRules, IsRefused};
+ghost use Rattle.ts_synonym.specs.Synonyms.{Adds as AddsSynonym};
+ghost use Rattle.ts_thesaurus.specs.Lines.{AreRules, IsRefused, Adds as AddsRule};
 ghost use Rattle.ts_config.specs.Rules.{rules_of, answer_by};
 ghost use Rattle.shell_script.specs.Grammar.{define as defines};
 ghost use Rattle.shell_script.specs.OpeningLines.{dictionary_opening, thesaurus_kind};
@@ -13,22 +15,35 @@ ghost use Rattle.shell_script.specs.Says.{counted_lines};
 ghost use Rattle.shell_script.specs.ReplyView.{refusal, reply};
 ghost use Rattle.shell_run.specs.Defining.{IsNoLine, LacksOne, IsBadFor, IsDictionaryOf, IsDefined, Becomes};
 ghost use Rattle.shell_run.specs.Inner.Definitions.{IsMadeOf, LineBad, LinesBad};
-ghost use Rattle.shell_run.specs.Inner.Refusing.{rule_refusal};
+ghost use Rattle.shell_run.specs.Inner.Refusing.{line_refusal};
 
 use crate::body_lines::{FromLines, take_lines};
 use porter_stem::Porter;
 use shell_script::{Kind, Line, Lines, Refusal, Reply};
 use std::alloc::Global;
 use std::str;
+use ts_base::LineError;
 use ts_config::{AnyDictionary, Configs};
 use ts_synonym::Synonym;
-use ts_thesaurus::{LineError, Thesaurus};
+use ts_thesaurus::Thesaurus;
 use ts_words::{Simple, StopList};
+
+/// The refusal that a fault in the line of this number is printed as.
+fn line_refused(error: LineError, number: u64) -> Refusal
+    ensures { refusal result ≡ line_refusal error number }
+{
+    match error {
+        LineError::Bad | LineError::StopInSample | LineError::UnknownInSample => {
+            Refusal::NoStatement(number)
+        }
+        LineError::Memory => Refusal::Memory,
+    }
+}
 
 /// Adds the stop word of a line.
 fn add_stop(alloc: Global, stops: &mut StopList, line: Line<'_>) -> Result<(), Refusal>
-    ensures added { OnOk result ((¬ IsNoLine IsBadStopLine (shown line.entry))
-        × Adds line.entry.bytes.now stops.old stops.new) }
+    ensures added { OnOk result (IsUtf8 line.entry.bytes.now
+        × AddsStop line.entry.bytes.now stops.old stops.new) }
     ensures refused { IfErr result
         (λ why. LineBad (IsNoLine IsBadStopLine) (shown line.entry) (refusal why)) }
 {
@@ -36,14 +51,13 @@ fn add_stop(alloc: Global, stops: &mut StopList, line: Line<'_>) -> Result<(), R
         return Err(Refusal::NoStatement(line.number));
     };
     match stops.add_line(alloc, text) {
-        Ok(true) => Ok(()),
-        Ok(false) => Err(Refusal::NoStatement(line.number)),
-        Err(_) => Err(Refusal::Memory),
+        Ok(()) => Ok(()),
+        Err(error) => Err(line_refused(error, line.number)),
     }
 }
 
 impl FromLines for StopList {
-    ghost takes = { λ l old new. (¬ IsNoLine IsBadStopLine l) × Adds l.bytes old new };
+    ghost takes = { λ l old new. IsUtf8 l.bytes × AddsStop l.bytes old new };
 
     ghost refuses = { λ l old why. LineBad (IsNoLine IsBadStopLine) l why };
 
@@ -68,9 +82,8 @@ fn stop_words(alloc: Global, body: Lines<'_>) -> Result<StopList, Refusal>
 
 /// Adds the synonym of a line.
 fn add_synonym(alloc: Global, synonym: &mut Synonym, line: Line<'_>) -> Result<(), Refusal>
-    ensures added { OnOk result ((¬ IsNoLine IsBadSynonymLine (shown line.entry))
-        × ((cases : Bool) (lines : List (List ℕ)) → IsSynonymList cases lines synonym.old
-        → IsSynonymList cases (lines ++ line.entry.bytes.now ∷ []) synonym.new)) }
+    ensures added { OnOk result (IsUtf8 line.entry.bytes.now
+        × AddsSynonym line.entry.bytes.now synonym.old synonym.new) }
     ensures refused { IfErr result
         (λ why. LineBad (IsNoLine IsBadSynonymLine) (shown line.entry) (refusal why)) }
 {
@@ -78,15 +91,13 @@ fn add_synonym(alloc: Global, synonym: &mut Synonym, line: Line<'_>) -> Result<(
         return Err(Refusal::NoStatement(line.number));
     };
     match synonym.add_line(alloc, text) {
-        Ok(true) => Ok(()),
-        Ok(false) => Err(Refusal::NoStatement(line.number)),
-        Err(_) => Err(Refusal::Memory),
+        Ok(()) => Ok(()),
+        Err(error) => Err(line_refused(error, line.number)),
     }
 }
 
 impl FromLines for Synonym {
-    ghost takes = { λ l old new. (¬ IsNoLine IsBadSynonymLine l) × ((cases : Bool) (lines : List (List ℕ))
-        → IsSynonymList cases lines old → IsSynonymList cases (lines ++ l.bytes ∷ []) new) };
+    ghost takes = { λ l old new. IsUtf8 l.bytes × AddsSynonym l.bytes old new };
 
     ghost refuses = { λ l old why. LineBad (IsNoLine IsBadSynonymLine) l why };
 
@@ -109,18 +120,6 @@ fn synonyms_of(alloc: Global, case_sensitive: bool, body: Lines<'_>) -> Result<S
     }
 }
 
-/// The refusal that a fault in the line of this number is printed as.
-fn rule_refused(error: LineError, number: u64) -> Refusal
-    ensures { refusal result ≡ rule_refusal error number }
-{
-    match error {
-        LineError::Bad | LineError::StopInSample | LineError::UnknownInSample => {
-            Refusal::NoStatement(number)
-        }
-        LineError::Memory => Refusal::Memory,
-    }
-}
-
 /// Adds the rule of a line, over this dictionary.
 fn add_rule(
     alloc: Global,
@@ -128,9 +127,9 @@ fn add_rule(
     sub: &AnyDictionary,
     line: Line<'_>,
 ) -> Result<(), Refusal>
-    ensures added { OnOk result (IsUtf8 line.entry.bytes.now × ((lines : List (List ℕ))
-        → AreRules (answer_by (rules_of sub.now)) lines thesaurus.old
-        → AreRules (answer_by (rules_of sub.now)) (lines ++ line.entry.bytes.now ∷ []) thesaurus.new)) }
+    ensures added { OnOk result (IsUtf8 line.entry.bytes.now
+        × AddsRule (answer_by (rules_of sub.now)) line.entry.bytes.now thesaurus.old
+        thesaurus.new) }
     ensures refused { IfErr result (λ why. LineBad (IsNoLine (IsRefused (answer_by (rules_of sub.now))))
         (shown line.entry) (refusal why)) }
 {
@@ -139,7 +138,7 @@ fn add_rule(
     };
     match thesaurus.add_line(alloc, text, sub) {
         Ok(()) => Ok(()),
-        Err(error) => Err(rule_refused(error, line.number)),
+        Err(error) => Err(line_refused(error, line.number)),
     }
 }
 
@@ -153,9 +152,8 @@ struct RulesOver<'a> {
 }
 
 impl<'a> FromLines for RulesOver<'a> {
-    ghost takes = { λ l old new. (new.sub ≡ old.sub) × IsUtf8 l.bytes × ((lines : List (List ℕ))
-        → AreRules (answer_by (rules_of old.sub.now)) lines old.thesaurus
-        → AreRules (answer_by (rules_of old.sub.now)) (lines ++ l.bytes ∷ []) new.thesaurus) };
+    ghost takes = { λ l old new. (new.sub ≡ old.sub) × IsUtf8 l.bytes
+        × AddsRule (answer_by (rules_of old.sub.now)) l.bytes old.thesaurus new.thesaurus };
 
     ghost refuses = { λ l old why. LineBad (IsNoLine (IsRefused (answer_by (rules_of old.sub.now))))
         l why };

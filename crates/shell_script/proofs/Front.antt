@@ -1,13 +1,12 @@
 -- The first word of a line.
-use Rattle.std.proofs.Common.{◌≡◌, ℕ, zero, suc, ◌<◌, ◌≤◌, ◌-◌, List, [], ◌∷◌, ◌++◌, length, take, drop, arith, refl, sym, ◌∙◌, ap, subst}
+use Rattle.std.proofs.Common.{◌≡◌, ℕ, List, [], ◌∷◌, ◌++◌, arith, sym, ◌∙◌}
 use Rattle.std.specs.List.{All}
-use Rattle.std.proofs.lemmas.List.{append-nil, length-drop}
-use Rattle.std.proofs.Math.Seq.{take-length}
+use Rattle.std.proofs.lemmas.List.{append-nil}
 use Rattle.std.proofs.lemmas.List.Elements.{All-head}
 use Rattle.ts_base.specs.Bytes.{IsBlank, BeginsWithout}
 use Rattle.ts_base.specs.Words.{IsWord, EndsWord, BeginsWithWord}
 use Rattle.ts_base.proofs.Fronts.{same_front}
-use Rattle.ts_base.proofs.LineWords.{IsDark, cut}
+use Rattle.ts_base.proofs.LineWords.{IsDark}
 
 pub stops_word : (rest : List ℕ) → EndsWord rest → BeginsWithout IsDark rest
 stops_word [] h = tt
@@ -32,25 +31,3 @@ no_first_word line blank first rest h =
     none : (a b : List ℕ) → IsWord a → [] ≡ a ++ b → ⊥
     none [] b w e = omega (arith, w.some)
     none (x ∷ a) b w e = cc
-
-not_empty : (rest : List ℕ) (m : ℕ) → BeginsWithout IsBlank rest → 0 < length rest → m ≤ length rest → EndsWord (drop m rest) → 0 < length (take m rest)
-not_empty [] m b l le e = absurd (omega arith)
-not_empty (x ∷ rest) zero b l le e = absurd (b e)
-not_empty (x ∷ rest) (suc m) b l le e = omega arith
-
--- what is left after a place, cut to its length
-pub whole_rest : (line : List ℕ) (n : ℕ) → take (length line - n) (drop n line) ≡ drop n line
-whole_rest line n = ap (λ k. take k (drop n line)) (sym (length-drop n line)) ∙ take-length (drop n line)
-
-pub all_blank : (line : List ℕ) (n : ℕ) → n ≤ length line → length line - n ≡ 0 → All IsBlank (take n line) → All IsBlank line
-all_blank line n le e h = subst (All IsBlank) (ap (λ k. take k line) (let z : n ≡ length line = omega arith in z) ∙ take-length line) h
-
--- the word that a cut gives
-pub cut_word : (line rest : List ℕ) (n m : ℕ) → rest ≡ drop n line → All IsBlank (take n line) → BeginsWithout IsBlank rest → 0 < length rest → m ≤ length rest → All IsDark (take m rest) → EndsWord (drop m rest) → BeginsWithWord line (take m rest) (drop m rest)
-cut_word line rest n m e blank begins some le dark ends = record {
-  gap = take n line;
-  blank = blank;
-  is_word = record { some = not_empty rest m begins some le ends; dark = dark };
-  text = cut line (take n line) rest n refl e ∙ ap (λ z. take n line ++ z) (cut rest (take m rest) (drop m rest) m refl refl);
-  ends = ends;
-}

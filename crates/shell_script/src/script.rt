@@ -8,9 +8,10 @@ ghost use Rattle.shell_script.specs.StepsOf.{is_end, is_skipped as skips, role a
 ghost use Rattle.shell_script.specs.StepView.{line as shown, step as view_of};
 ghost use Rattle.shell_script.specs.Inner.Cuts.{IsCut};
 
-use crate::line::{first_word, is_skipped};
+use crate::line::is_skipped;
 use crate::lines::{Line, Lines, next_line};
 use std::marker::Model;
+use ts_base::first_word;
 
 /// What a line is where it is, if it is not skipped.
 #[derive(Clone, Copy, Debug, PartialEq, Eq)]

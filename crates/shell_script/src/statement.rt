@@ -9,11 +9,11 @@ ghost use Rattle.shell_script.specs.Inner.Said.{IsOfSession, IsPlain, IsStatemen
 ghost use Rattle.shell_script.specs.declared.statement.Statement.TheVariants.{Invalid};
 ghost use Rattle.shell_script.specs.StatementView.{statement, part, expr};
 
-use crate::line::first_word;
 use crate::sources::{Expr, QuerySource, expr_of, query_of, quote_of};
 use crate::tokens::front_word;
 use std::alloc::{AllocError, Global};
 use std::str;
+use ts_base::first_word;
 
 /// A statement of one line.
 #[derive(Debug, Drop)]

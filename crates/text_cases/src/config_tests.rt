@@ -92,7 +92,9 @@ fn cut(words: &str) -> (&str, &str) {
 fn simple(alloc: Global, stops: &str, accept: bool) -> Result<AnyDictionary, AllocError> {
     let mut list = StopList::new(alloc);
     for word in stops.split(' ') {
-        list.add_line(alloc, word)?;
+        if list.add_line(alloc, word).is_err() {
+            return Err(AllocError);
+        }
     }
     Ok(AnyDictionary::Simple(Simple::new(list, accept)))
 }
@@ -101,7 +103,9 @@ fn simple(alloc: Global, stops: &str, accept: bool) -> Result<AnyDictionary, All
 fn porter(alloc: Global, stops: &str) -> Result<AnyDictionary, AllocError> {
     let mut list = StopList::new(alloc);
     for word in stops.split(' ') {
-        list.add_line(alloc, word)?;
+        if list.add_line(alloc, word).is_err() {
+            return Err(AllocError);
+        }
     }
     Ok(AnyDictionary::Porter(Porter::new(list)))
 }
@@ -110,7 +114,9 @@ fn porter(alloc: Global, stops: &str) -> Result<AnyDictionary, AllocError> {
 fn synonym(alloc: Global, lines: &str) -> Result<AnyDictionary, AllocError> {
     let mut list = Synonym::new(alloc, true);
     for line in lines.split('|') {
-        list.add_line(alloc, line)?;
+        if list.add_line(alloc, line).is_err() {
+            return Err(AllocError);
+        }
     }
     Ok(AnyDictionary::Synonym(list))
 }

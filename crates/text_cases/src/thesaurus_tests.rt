@@ -3,8 +3,8 @@ use crate::kinds::{Kind, try_rows};
 use crate::rows::{cut, push_word, said};
 use std::alloc::{AllocError, Global};
 use std::test::Fail;
-use ts_base::{Answer, Dictionary, Found, LONGEST_LEXEME, Lexeme};
-use ts_thesaurus::{Thesaurus, ThesaurusError};
+use ts_base::{Answer, Dictionary, Found, LONGEST_LEXEME, Lexeme, LinesError};
+use ts_thesaurus::Thesaurus;
 
 /// Has the stop word `the`, doesn't know `no`, and gives each other word as it is, with a mark.
 struct Sub;
@@ -108,7 +108,7 @@ const BEST: &str = concat!(
 const GOING_ON: &str = "@new=yes;@new york=yes;@york=no;@?=yes;@new york city x=no;@=yes;#@=no";
 
 /// The thesaurus of a row's lines, and the row's answers.
-fn read(alloc: Global, lines: &str) -> Result<Thesaurus, ThesaurusError> {
+fn read(alloc: Global, lines: &str) -> Result<Thesaurus, LinesError> {
     Thesaurus::read(alloc, if lines.is_empty() { LINES } else { lines }, &Sub)
 }
 

@@ -5,7 +5,7 @@ use crate::thesaurus_tests::told;
 use porter_stem::{Porter, stem};
 use std::alloc::{AllocError, Global};
 use std::test::Fail;
-use ts_base::Dictionary;
+use ts_base::{Dictionary, LineError};
 use ts_synonym::Synonym;
 use ts_words::{Simple, StopList};
 
@@ -154,6 +154,15 @@ pub fn accepted(alloc: Global, word: &str) -> Result<String, Fail> {
     )
 }
 
+/// Whether a line is taken.
+fn is_taken(answer: Result<(), LineError>) -> Result<bool, AllocError> {
+    match answer {
+        Ok(()) => Ok(true),
+        Err(LineError::Memory) => Err(AllocError),
+        Err(_) => Ok(false),
+    }
+}
+
 /// Puts after others whether a line is taken.
 fn push_taken(text: &mut String, is_good: bool) -> Result<(), AllocError> {
     push_word(text, if is_good { "taken" } else { "refused" })
@@ -163,7 +172,7 @@ fn push_taken(text: &mut String, is_good: bool) -> Result<(), AllocError> {
 fn give_stops(alloc: Global, stops: &mut StopList, lines: &str) -> Result<String, AllocError> {
     let mut text = String::new(alloc);
     for line in lines.split('|') {
-        push_taken(&mut text, stops.add_line(alloc, line)?)?;
+        push_taken(&mut text, is_taken(stops.add_line(alloc, line))?)?;
     }
     Ok(text)
 }
@@ -172,7 +181,7 @@ fn give_stops(alloc: Global, stops: &mut StopList, lines: &str) -> Result<String
 fn give_synonyms(alloc: Global, synonym: &mut Synonym, lines: &str) -> Result<String, AllocError> {
     let mut text = String::new(alloc);
     for line in lines.split('|') {
-        push_taken(&mut text, synonym.add_line(alloc, line)?)?;
+        push_taken(&mut text, is_taken(synonym.add_line(alloc, line))?)?;
     }
     Ok(text)
 }

@@ -3,6 +3,9 @@ use Rattle.std.proofs.Common.{◌≡◌, inl, inr, ℕ, ◌+◌, List, [], ◌�
 use Rattle.std.specs.Prelude.{All}
 use Rattle.std.proofs.lemmas.List.Elements.{All-head, All-tail}
 use Rattle.ts_base.specs.FirstLine.{IsFirstLine}
+use Rattle.ts_base.specs.LineErrors.{error_at, IsBadFault, IsBadRefusal}
+use Rattle.ts_base.specs.declared.line_error.LineError.{LineError}
+use Rattle.ts_base.specs.declared.line_error.LineError.TheVariants.{Bad, StopInSample, UnknownInSample, Memory}
 
 module _ (P : List ℕ → Type 0) where
   -- after lines of which none is so, one that is so is the first
@@ -23,3 +26,11 @@ module _ (P : List ℕ → Type 0) where
   first_is_one (l ∷ ls) m n (inl f) (inr g) = absurd (g.0 f.0)
   first_is_one (l ∷ ls) m n (inr f) (inl g) = absurd (f.0 g.0)
   first_is_one (l ∷ ls) m n (inr f) (inr g) = f.1.1 ∙ ap (λ k. k + 1) (first_is_one ls f.1.0 g.1.0 f.1.2 g.1.2) ∙ sym g.1.1
+
+  -- a line that is refused is the first bad one, or memory ran out
+  pub refused_at : (ls : List (List ℕ)) (line : List ℕ) (n : ℕ) (e : LineError) → (P line → IsFirstLine P ls n)
+      → IsBadFault P line e → IsBadRefusal P ls (error_at e n)
+  refused_at ls line n Bad first f = first f
+  refused_at ls line n StopInSample first f = absurd f
+  refused_at ls line n UnknownInSample first f = absurd f
+  refused_at ls line n Memory first f = tt

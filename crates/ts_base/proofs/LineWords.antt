@@ -1,8 +1,9 @@
 -- A line has one list of words, and where its first word is cut off.
-use Rattle.std.proofs.Common.{◌≡◌, ◌⊎◌, inl, inr, ℕ, zero, suc, ◌<◌, ◌≤◌, List, [], ◌∷◌, ◌++◌, length, take, drop, get_or, refl, sym, ◌∙◌, ap, subst, add-one, arith}
+use Rattle.std.proofs.Common.{◌≡◌, ◌⊎◌, inl, inr, ℕ, zero, suc, ◌<◌, ◌≤◌, ◌-◌, List, [], ◌∷◌, ◌++◌, length, take, drop, get_or, refl, sym, ◌∙◌, ap, subst, add-one, arith}
 use Rattle.std.specs.Prelude.{All}
 use Rattle.std.specs.Str.{IsUtf8, IsCharBoundary}
-use Rattle.std.proofs.lemmas.List.{get_or-take, append-nil, take-append-drop}
+use Rattle.std.proofs.lemmas.List.{get_or-take, append-nil, length-drop, take-append-drop}
+use Rattle.std.proofs.Math.Seq.{take-length}
 use Rattle.std.proofs.lemmas.List.Elements.{All-head, All-tail}
 use Rattle.std.proofs.lemmas.Grind.{common_steps}
 use Rattle.std.proofs.lemmas.Str.{IsCharBoundary-start, IsCharBoundary-after_ascii}
@@ -77,3 +78,27 @@ nothing_left (c ∷ rest) h k = absurd (k h)
 -- where no word begins after blanks, the line is blank
 pub all_blank : (line gap rest : List ℕ) → All IsBlank gap → line ≡ gap ++ rest → BeginsWithout IsBlank rest → BeginsWithout IsDark rest → All IsBlank line
 all_blank line gap rest b e h k = subst (All IsBlank) (sym (append-nil gap) ∙ ap (λ z. gap ++ z) (sym (nothing_left rest h k)) ∙ sym e) b
+
+-- a word that is cut off where text is left has a byte
+not_empty : (rest : List ℕ) (m : ℕ) → BeginsWithout IsBlank rest → 0 < length rest → m ≤ length rest → EndsWord (drop m rest) → 0 < length (take m rest)
+not_empty [] m b l le e = absurd (omega arith)
+not_empty (x ∷ rest) zero b l le e = absurd (b e)
+not_empty (x ∷ rest) (suc m) b l le e = omega arith
+
+-- what is left after a place, cut to its length
+pub whole_rest : (line : List ℕ) (n : ℕ) → take (length line - n) (drop n line) ≡ drop n line
+whole_rest line n = ap (λ k. take k (drop n line)) (sym (length-drop n line)) ∙ take-length (drop n line)
+
+-- blanks up to the end
+pub blank_whole : (line : List ℕ) (n : ℕ) → n ≤ length line → length line - n ≡ 0 → All IsBlank (take n line) → All IsBlank line
+blank_whole line n le e h = subst (All IsBlank) (ap (λ k. take k line) (let z : n ≡ length line = omega arith in z) ∙ take-length line) h
+
+-- the word that a cut gives
+pub cut_word : (line rest : List ℕ) (n m : ℕ) → rest ≡ drop n line → All IsBlank (take n line) → BeginsWithout IsBlank rest → 0 < length rest → m ≤ length rest → All IsDark (take m rest) → EndsWord (drop m rest) → BeginsWithWord line (take m rest) (drop m rest)
+cut_word line rest n m e blank begins some le dark ends = record {
+  gap = take n line;
+  blank = blank;
+  is_word = record { some = not_empty rest m begins some le ends; dark = dark };
+  text = cut line (take n line) rest n refl e ∙ ap (λ z. take n line ++ z) (cut rest (take m rest) (drop m rest) m refl refl);
+  ends = ends;
+}

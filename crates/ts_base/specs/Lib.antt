@@ -6,6 +6,7 @@ pub mod Plain
 pub mod Digits
 pub mod Words
 pub mod FirstLine
+pub mod LineErrors
 pub mod Lexemes
 pub mod Vectors
 pub mod Encoding

@@ -14,6 +14,7 @@ ghost use Rattle.ts_base.specs.Vectors.{IsPosition};
 mod bytes;
 mod error;
 mod laws;
+mod line_error;
 mod quoting;
 mod words;
 
@@ -23,11 +24,12 @@ pub use laws::{
     encoding_has_size, encoding_tells_vector, keys_rise, quoted_has_one_reading,
     quoted_is_read_back, words_are_one,
 };
+pub use line_error::{LineError, LinesError};
 pub use quoting::push_quoted;
 use std::alloc::{AllocError, Global};
 use std::cmp::Ordering;
 use std::marker::Model;
-pub use words::{front_word, lower_case, without_blanks};
+pub use words::{first_word, front_word, lower_case, without_blanks};
 
 /// The most bytes that a lexeme has.
 pub const LONGEST_LEXEME: usize = 2046;

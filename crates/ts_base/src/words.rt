@@ -39,6 +39,19 @@ pub fn without_blanks(text: &str) -> &str
     &text[blanks_len(text.as_bytes())..]
 }
 
+/// The first word of a line that need not be UTF-8, and what is after it; none in a line of
+/// blanks.
+pub fn first_word(line: &[u8]) -> Option<(&[u8], &[u8])>
+    ensures some { IfSome result (λ r. BeginsWithWord line.now r.0.now r.1.now) }
+    ensures none { IfNone result (All IsBlank line.now) }
+{
+    let text = &line[blanks_len(line)..];
+    if text.is_empty() {
+        return None;
+    }
+    Some(text.split_at(word_len(text)))
+}
+
 /// The first word of a line, and what is after it; none in a line of blanks.
 pub fn front_word(line: &str) -> Option<(&str, &str)>
     ensures some { IfSome result (λ r. BeginsWithWord line.now r.0.now r.1.now) }

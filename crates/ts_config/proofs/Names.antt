@@ -151,10 +151,13 @@ places_more known [] ps n p e h = (p, [], ap (λ qs. qs ++ p ∷ []) e, h, refl)
 places_more known (m ∷ ns) ps n p (q, qs, e, f, k) h = (q, qs ++ p ∷ [], ap (λ rs. rs ++ p ∷ []) e, f, places_more known ns qs n p k h)
 
 -- a name of a list
-pub any_here : (P : List ℕ → Type 0) (names : List (String Global)) (i : ℕ) (d : String Global) → i < length names → P (string_bytes (get_or names i d)) → Any P (map string_bytes names)
-any_here P names i d l p = (i, string_bytes (get_or names i d), omega (arith, l, length-map names string_bytes), got names i d l, p)
+pub any_here : {X : Type 0} (text : X → List ℕ) (P : List ℕ → Type 0) (names : List X) (i : ℕ) (d : X)
+    → i < length names → P (text (get_or names i d)) → Any P (map text names)
+any_here {X} text P names i d l p =
+    (i, text (get_or names i d), omega (arith, l, length-map names text), got names i d l, p)
   where
-    got : (ns : List (String Global)) (j : ℕ) (e : String Global) → j < length ns → get_or (map string_bytes ns) j (string_bytes (get_or ns j e)) ≡ string_bytes (get_or ns j e)
+    got : (ns : List X) (j : ℕ) (e : X) → j < length ns
+        → get_or (map text ns) j (text (get_or ns j e)) ≡ text (get_or ns j e)
     got [] j e k = absurd (omega (arith, k))
     got (n ∷ ns) zero e k = refl
     got (n ∷ ns) (suc j) e k = got ns j e (omega (arith, k))

@@ -12,6 +12,7 @@ use crate::dictionaries::AnyDictionary;
 use crate::error::ConfigError;
 use indexmap::IndexMap;
 use std::alloc::{AllocError, Global};
+use std::convert::AsStr;
 use std::marker::Model;
 use ts_parser::TokenType;
 use ts_words::{Simple, StopList};
@@ -202,10 +203,14 @@ impl Configs {
     }
 
     /// The places of the dictionaries of these names; none where one of them isn't there.
-    fn places(&self, alloc: Global, names: &[String]) -> Result<Option<Vec<usize>>, AllocError>
+    pub fn places<N: AsStr>(
+        &self,
+        alloc: Global,
+        names: &[N],
+    ) -> Result<Option<Vec<usize>>, AllocError>
         ensures { IfOk result (λ r. MatchOption r
-            (Any (λ name. ¬ HasDictionary self.now name) (map string_bytes names.now))
-            (λ places. ArePlaces self.now (map string_bytes names.now) places.items)) }
+            (Any (λ name. ¬ HasDictionary self.now name) (map N.text names.now))
+            (λ places. ArePlaces self.now (map N.text names.now) places.items)) }
     {
         let mut places = Vec::new(alloc);
         for name in names {

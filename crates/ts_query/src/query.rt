@@ -227,6 +227,11 @@ impl TsQuery {
 
     /// The query that a text stands for. A fault of syntax comes before all other refusals, a distance that is too large
     /// before a lexeme that is too long, and both before too many nodes.
+    ///
+    /// ```rust
+    /// let query = TsQuery::parse(alloc, "(cat|rat)&fat:*")?;
+    /// assert_eq!(rt; query.to_text(alloc)?.as_str(), "( 'cat' | 'rat' ) & 'fat':*");
+    /// ```
     pub fn parse(alloc: Global, text: &str) -> Result<TsQuery, QueryError>
         ensures value { IfOk result (IsReadAs text.now) }
         ensures refused { IfErr result (IsRefused text.now) }

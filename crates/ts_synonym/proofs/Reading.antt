@@ -5,8 +5,10 @@ use Rattle.std.specs.Str.Iter.{lines_steps, lines_rest}
 use Rattle.std.specs.declared.str.Lines.{Lines}
 use Rattle.ts_base.specs.FirstLine.{IsFirstLine}
 use Rattle.ts_base.proofs.TextLines.{LinesDone, LineGiven, lines_start, line_given, lines_over, lines_few}
-use Rattle.ts_base.proofs.FirstLines.{first_behind}
-use Rattle.ts_synonym.specs.Synonyms.{IsBadLine, Synonyms, IsSynonymList}
+use Rattle.ts_base.specs.LineErrors.{error_at, IsBadFault, IsBadRefusal}
+use Rattle.ts_base.specs.declared.line_error.LineError.{LineError}
+use Rattle.ts_base.proofs.FirstLines.{first_behind, refused_at}
+use Rattle.ts_synonym.specs.Synonyms.{IsBadLine, Synonyms, IsSynonymList, Adds}
 use denote.Ref.{Bor}
 
 -- how far a text is read
@@ -27,15 +29,18 @@ module _ (sensitive : Bool) (text : List ℕ) (s t : Lines) (old : Synonyms) (nu
   pub number_fits : number + 1 ≤ length text
   number_fits = omega (arith, lines_few text, p.count, ap length given.whole, length-append p.done (x.now ∷ given.more))
 
-  pub first_bad : IsBadLine x.now → IsFirstLine IsBadLine (lines text) (number + 1)
+  first_bad : IsBadLine x.now → IsFirstLine IsBadLine (lines text) (number + 1)
   first_bad bad = subst (λ n. IsFirstLine IsBadLine (lines text) (n + 1)) (sym p.count)
       (subst (λ ls. IsFirstLine IsBadLine ls (length p.done + 1)) (sym given.whole) (first_behind IsBadLine p.done given.more x.now p.list.fit bad))
 
-  pub progress_more : (new : Synonyms) → ((lines : List (List ℕ)) → IsSynonymList sensitive lines old → IsSynonymList sensitive (lines ++ x.now ∷ []) new) → Progress sensitive text t new (number + 1)
+  pub first_refused : (e : LineError) → IsBadFault IsBadLine x.now e → IsBadRefusal IsBadLine (lines text) (error_at e (number + 1))
+  first_refused e f = refused_at IsBadLine (lines text) x.now (number + 1) e first_bad f
+
+  pub progress_more : (new : Synonyms) → Adds x.now old new → Progress sensitive text t new (number + 1)
   progress_more new h = record {
     done = p.done ++ x.now ∷ [];
     lines = given.then;
-    list = h p.done p.list;
+    list = h.each sensitive p.done p.list;
     count = ap (λ n. n + 1) p.count ∙ sym (length-append p.done (x.now ∷ []));
   }
 

@@ -1,12 +1,11 @@
 -- What a line of synonyms gives: one thing at most.
-use Rattle.std.proofs.Common.{◌≡◌, ◌⊎◌, ℕ, ◌<◌, List, [], ◌∷◌, ◌++◌, length, Bool, true, false, refl, sym, ◌∙◌, ap, subst}
+use Rattle.std.proofs.Common.{◌≡◌, ℕ, List, [], ◌∷◌, ◌++◌, Bool, true, false, refl, sym, ◌∙◌, ap, subst}
 use Rattle.std.specs.Prelude.{All}
-use Rattle.ts_base.specs.declared.TheConstants.{LONGEST_LEXEME}
 use Rattle.ts_base.specs.declared.Found.{Found}
 use Rattle.ts_base.specs.Bytes.{IsBlank}
 use Rattle.ts_base.specs.Words.{BeginsWithWord}
 use Rattle.ts_base.proofs.LineWords.{one_word, no_first_word}
-use Rattle.ts_synonym.specs.Synonyms.{cased, HasTwoWords, IsMarked, Gives, IsBadLine}
+use Rattle.ts_synonym.specs.Synonyms.{cased, HasTwoWords, IsMarked, Gives, IsBadPair, IsBadLine}
 
 -- a line has one pair of first words
 pub one_pair : (line w r v s : List ℕ) → HasTwoWords line w r → HasTwoWords line v s → (w ≡ v) × (r ≡ s)
@@ -58,10 +57,6 @@ one_given sensitive line v w f g h k =
     let lexeme : f.lexeme ≡ g.lexeme = h.lexeme_cased ∙ ap (cased sensitive) marks.0 ∙ sym k.lexeme_cased in
     let prefix : f.prefix ≡ g.prefix = marks.1 in
     λ i. record { lexeme = lexeme i; prefix = prefix i }
-
--- what makes two words a bad line
-abbrev pub IsBadPair : List ℕ → List ℕ → Type 0
-IsBadPair w r = (LONGEST_LEXEME < length w) ⊎ ((LONGEST_LEXEME < length r) ⊎ (r ≡ 42 ∷ []))
 
 -- a line of these words is bad only by them
 pub no_bad : (line w r : List ℕ) → HasTwoWords line w r → ¬ IsBadPair w r → ¬ IsBadLine line

@@ -5,8 +5,6 @@ use Rattle.ts_base.specs.declared.TheConstants.{LONGEST_LEXEME}
 use Rattle.ts_base.specs.declared.Found.{Found}
 use Rattle.ts_base.specs.Words.{lower, BeginsWithWord}
 use Rattle.ts_base.specs.FirstLine.{IsFirstLine}
-use Rattle.ts_synonym.specs.declared.error.SynonymError.{SynonymError}
-use Rattle.ts_synonym.specs.declared.error.SynonymError.TheVariants.{BadLine, OutOfMemory}
 use Rattle.ts_base.specs.Dictionary.{WordAnswer, unknown_word, word_lexemes}
 
 -- a word as it is compared: in lower case, unless the list is case sensitive
@@ -37,11 +35,16 @@ pub record Gives (sensitive : Bool) (line word : List ℕ) (found : Found) : Typ
   pub lexeme_cased : found.lexeme ≡ cased sensitive text
 
 -- one of the two words is longer than a lexeme, or the replacement is the mark alone
+abbrev pub IsBadPair : List ℕ → List ℕ → Type 0
+IsBadPair word replacement =
+    (LONGEST_LEXEME < length word) ⊎ ((LONGEST_LEXEME < length replacement) ⊎ (replacement ≡ 42 ∷ []))
+
+-- the line begins with two such words
 pub record IsBadLine (line : List ℕ) : Type 0 where
   pub word : List ℕ
   pub replacement : List ℕ
   pub words : HasTwoWords line word replacement
-  pub why : (LONGEST_LEXEME < length word) ⊎ ((LONGEST_LEXEME < length replacement) ⊎ (replacement ≡ 42 ∷ []))
+  pub why : IsBadPair word replacement
 
 -- the first of the lines that gives something for the word gives this
 abbrev pub IsFirstGiven : Bool → List (List ℕ) → List ℕ → Found → Type 0
@@ -73,10 +76,11 @@ pub record IsSynonymList (sensitive : Bool) (lines : List (List ℕ)) (kept : Sy
   pub casing : kept.sensitive ≡ sensitive
   pub each : (word : List ℕ) (found : Found) → (given_for kept word ≡ Some found) ↔ IsFirstGiven sensitive lines word found
 
--- Why lines are refused. Want of memory needs no cause.
-abbrev pub IsRefusal : List (List ℕ) → SynonymError → Type 0
-IsRefusal lines (BadLine n) = IsFirstLine IsBadLine lines n
-IsRefusal lines OutOfMemory = Unit {0}
+-- the line isn't bad, and the list is that of one line more, whichever lines it was of
+pub record Adds (line : List ℕ) (old new : Synonyms) : Type 0 where
+  pub fit : ¬ IsBadLine line
+  pub each : (sensitive : Bool) (lines : List (List ℕ)) → IsSynonymList sensitive lines old
+      → IsSynonymList sensitive (lines ++ line ∷ []) new
 
 -- Lines have one reading: they are refused or not, at one line, and all lists that are kept of them answer alike.
 pub record LinesHaveOneReading : Type 0 where

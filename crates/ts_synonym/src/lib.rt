@@ -1,11 +1,9 @@
 //! Synonym dictionaries, which replace one word by one.
 #![tactic(auto)]
 
-mod error;
 mod laws;
 mod line;
 mod synonym;
 
-pub use error::SynonymError;
 pub use laws::lines_have_one_reading;
 pub use synonym::Synonym;

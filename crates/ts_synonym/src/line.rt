@@ -1,7 +1,6 @@
 // The words of a line of synonyms.
-ghost use Rattle.std.specs.Prelude.{◌≡◌, ◌⊎◌, ◌↔◌, ◌<◌, ℕ, List, [], ◌∷◌, length, IfOk, IfSome, IfNone, IsTrue, string_bytes};
-ghost use Rattle.ts_base.specs.declared.TheConstants.{LONGEST_LEXEME};
-ghost use Rattle.ts_synonym.specs.Synonyms.{cased as cased_of, HasTwoWords, IsMarked};
+ghost use Rattle.std.specs.Prelude.{◌≡◌, ◌↔◌, ℕ, List, IfOk, IfSome, IfNone, IsTrue, string_bytes};
+ghost use Rattle.ts_synonym.specs.Synonyms.{cased as cased_of, HasTwoWords, IsBadPair, IsMarked};
 
 use std::alloc::{AllocError, Global};
 use ts_base::{LONGEST_LEXEME, front_word, lower_case};
@@ -19,8 +18,7 @@ pub fn two_words(line: &str) -> Option<(&str, &str)>
 
 /// Whether these two words make a line bad.
 pub fn is_bad(word: &str, replacement: &str) -> bool
-    ensures { IsTrue result ↔ ((LONGEST_LEXEME < length word.now)
-        ⊎ ((LONGEST_LEXEME < length replacement.now) ⊎ (replacement.now ≡ 42 ∷ []))) }
+    ensures { IsTrue result ↔ IsBadPair word.now replacement.now }
 {
     word.len() > LONGEST_LEXEME || replacement.len() > LONGEST_LEXEME || replacement == "*"
 }

@@ -1,15 +1,15 @@
 // The dictionary.
-ghost use Rattle.std.specs.Prelude.{◌≡◌, ◌↔◌, ℕ, Bool, List, [], ◌∷◌, ◌++◌, true, false, IfOk, IfErr, OnErr, option_copied};
+ghost use Rattle.std.specs.Prelude.{◌≡◌, [], IfOk, IfErr, OnOk, OnErr, option_copied};
 ghost use Rattle.std.specs.Str.Lines.{lines};
 ghost use Rattle.ts_base.specs.Dictionary.{IsWordAnswer};
-ghost use Rattle.ts_synonym.specs.Synonyms.{cased as cased_of, given_for, synonym_answer, IsBadLine, IsSynonymList, IsRefusal};
+ghost use Rattle.ts_base.specs.LineErrors.{IsBadFault, IsBadRefusal};
+ghost use Rattle.ts_synonym.specs.Synonyms.{cased as cased_of, given_for, synonym_answer, IsBadLine, IsSynonymList, Adds};
 
-use crate::error::SynonymError;
 use crate::line::{cased, is_bad, two_words, without_mark};
 use indexmap::IndexMap;
 use std::alloc::{AllocError, Global};
 use std::marker::Model;
-use ts_base::{Answer, Dictionary, Found, Lexeme, lower_case};
+use ts_base::{Answer, Dictionary, Found, Lexeme, LineError, LinesError, lower_case};
 
 /// A dictionary that replaces a word by one other.
 #[derive(Debug, Drop)]
@@ -46,47 +46,45 @@ impl Synonym {
     }
 
     /// The dictionary of these lines.
-    pub fn read(alloc: Global, text: &str, sensitive: bool) -> Result<Synonym, SynonymError>
+    pub fn read(alloc: Global, text: &str, sensitive: bool) -> Result<Synonym, LinesError>
         ensures value { IfOk result (IsSynonymList sensitive (lines text.now)) }
-        ensures bad { IfErr result (IsRefusal (lines text.now)) }
+        ensures bad { IfErr result (IsBadRefusal IsBadLine (lines text.now)) }
     {
         let mut synonym = Synonym::new(alloc, sensitive);
         let mut number = 0;
         for line in text.lines() {
             number += 1;
-            if !synonym.add_line(alloc, line)? {
-                return Err(SynonymError::BadLine { line: number });
+            if let Err(error) = synonym.add_line(alloc, line) {
+                return Err(error.at(number));
             }
         }
         Ok(synonym)
     }
 
-    /// Takes one line more; false where it is bad.
+    /// Takes one line more, of which the first two words count. A line of fewer is skipped, and a
+    /// word that an earlier line has keeps what that line gives.
     ///
-    /// Its first two words count, and a line of fewer is skipped. A word that an earlier line has keeps what that line gives.
-    pub fn add_line(&mut self, alloc: Global, line: &str) -> Result<bool, AllocError>
-        ensures added { IfOk result (λ good. good ≡ true
-            → (sensitive : Bool) (lines : List (List ℕ))
-            → IsSynonymList sensitive lines self.old
-            → IsSynonymList sensitive (lines ++ line.now ∷ []) self.new) }
-        ensures bad { IfOk result (λ good. (good ≡ false) ↔ IsBadLine line.now) }
-        ensures refused { IfOk result (λ good. good ≡ false → self.new ≡ self.old) }
+    /// A line is bad where one of the two words has more than 2046 bytes, or the replacement is
+    /// `*`. A refused line changes nothing.
+    pub fn add_line(&mut self, alloc: Global, line: &str) -> Result<(), LineError>
+        ensures taken { OnOk result (Adds line.now self.old self.new) }
+        ensures fault { IfErr result (IsBadFault IsBadLine line.now) }
         ensures failed { OnErr result (self.new ≡ self.old) }
     {
         let Some((word, replacement)) = two_words(line) else {
-            return Ok(true);
+            return Ok(());
         };
         if is_bad(word, replacement) {
-            return Ok(false);
+            return Err(LineError::Bad);
         }
         let word = cased(alloc, word, self.sensitive)?;
         if self.pairs.contains_key(word.as_str()) {
-            return Ok(true);
+            return Ok(());
         }
         let (text, prefix) = without_mark(replacement);
         let lexeme = Lexeme::from_string(cased(alloc, text, self.sensitive)?);
         self.pairs.insert(word, Found { lexeme, prefix })?;
-        Ok(true)
+        Ok(())
     }
 
     /// What stands for a word.

@@ -12,10 +12,11 @@ use Rattle.ts_base.specs.Dictionary.{WordAnswer, unknown_word, stop_word}
 use Rattle.ts_base.proofs.TextLines.{LinesDone, LineGiven, lines_start, line_given, lines_over, lines_few}
 use Rattle.ts_base.proofs.FirstLines.{first_behind}
 use Rattle.ts_thesaurus.specs.Rules.{Rule, SampleWord}
-use Rattle.ts_thesaurus.specs.Lines.{IsPassed, ahead, sample_word, sample_words, HasSample, IsRead, GivesRule, IsBadLine, HasStopSample, HasUnknownSample, IsRefused, AreRules, IsFirstFault}
-use Rattle.ts_thesaurus.specs.Faults.{IsFault, IsRefusal, error_at}
-use Rattle.ts_thesaurus.specs.declared.error.LineError.{LineError}
-use Rattle.ts_thesaurus.specs.declared.error.LineError.TheVariants.{Bad, StopInSample, UnknownInSample, Memory}
+use Rattle.ts_thesaurus.specs.Lines.{IsPassed, ahead, sample_word, sample_words, HasSample, IsRead, GivesRule, IsBadLine, HasStopSample, HasUnknownSample, IsRefused, AreRules, IsFirstFault, Adds}
+use Rattle.ts_base.specs.LineErrors.{error_at}
+use Rattle.ts_thesaurus.specs.Faults.{IsFault, IsRefusal}
+use Rattle.ts_base.specs.declared.line_error.LineError.{LineError}
+use Rattle.ts_base.specs.declared.line_error.LineError.TheVariants.{Bad, StopInSample, UnknownInSample, Memory}
 use Rattle.ts_thesaurus.proofs.Sides.{one_sides}
 use Rattle.ts_thesaurus.proofs.Samples.{known_word, known_unknown}
 use denote.Ref.{Bor}
@@ -102,11 +103,11 @@ module _ (answer : List ℕ → WordAnswer) where
     first_refused UnknownInSample f = first_fault (HasUnknownSample answer) (inr (inr f)) f
     first_refused Memory f = tt
 
-    pub progress_more : (new : List Rule) → ((ls : List (List ℕ)) → AreRules answer ls old → AreRules answer (ls ++ x.now ∷ []) new) → Progress text t new (number + 1)
+    pub progress_more : (new : List Rule) → Adds answer x.now old new → Progress text t new (number + 1)
     progress_more new h = record {
       done = p.done ++ x.now ∷ [];
       lines = given.then;
-      rules_are = h p.done p.rules_are;
+      rules_are = h.each p.done p.rules_are;
       count = ap (λ n. n + 1) p.count ∙ sym (length-append p.done (x.now ∷ []));
     }
 

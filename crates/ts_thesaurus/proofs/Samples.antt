@@ -15,8 +15,8 @@ use Rattle.ts_thesaurus.specs.Rules.{any_stop}
 use Rattle.ts_thesaurus.specs.Lines.{lexemes_in, as_it_is, sample_of}
 use Rattle.ts_thesaurus.specs.Views.{sample_value}
 use Rattle.ts_thesaurus.specs.declared.rule.Sample.{Sample}
-use Rattle.ts_thesaurus.specs.declared.error.LineError.{LineError}
-use Rattle.ts_thesaurus.specs.declared.error.LineError.TheVariants.{Bad, StopInSample, UnknownInSample, Memory}
+use Rattle.ts_base.specs.declared.line_error.LineError.{LineError}
+use Rattle.ts_base.specs.declared.line_error.LineError.TheVariants.{Bad, StopInSample, UnknownInSample, Memory}
 use Rattle.ts_thesaurus.specs.Inner.Reading.{IsWordFault, AreWordsFault, AreSampled, IsKnown}
 use denote.Ref.{Bor}
 

@@ -11,8 +11,8 @@ use Rattle.ts_base.proofs.LineWords.{words_are_one}
 use Rattle.ts_thesaurus.specs.Lines.{IsCut, HasSides, AreFit, IsPassed, indexed_words, IsRead, IsBadLine}
 use Rattle.ts_thesaurus.specs.Inner.Reading.{IsAsked, AreWordsFault}
 use Rattle.ts_thesaurus.specs.Faults.{IsFault}
-use Rattle.ts_thesaurus.specs.declared.error.LineError.{LineError}
-use Rattle.ts_thesaurus.specs.declared.error.LineError.TheVariants.{Bad, StopInSample, UnknownInSample, Memory}
+use Rattle.ts_base.specs.declared.line_error.LineError.{LineError}
+use Rattle.ts_base.specs.declared.line_error.LineError.TheVariants.{Bad, StopInSample, UnknownInSample, Memory}
 use Rattle.ts_thesaurus.proofs.Cuts.{texts, all_texts}
 use denote.Ref.{Bor}
 

@@ -139,3 +139,8 @@ module _ (answer : List ℕ → WordAnswer) where
     pub line : List ℕ
     pub there : slice_get lines (number - 1) ≡ Some line
     pub why : Why line
+
+  -- the line isn't refused, and its rule, if it has one, is put after the others, whichever lines they are of
+  pub record Adds (line : List ℕ) (old new : List Rule) : Type 0 where
+    pub fit : ¬ IsRefused line
+    pub each : (lines : List (List ℕ)) → AreRules lines old → AreRules (lines ++ line ∷ []) new

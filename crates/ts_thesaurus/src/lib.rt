@@ -1,7 +1,6 @@
 //! Thesaurus dictionaries, which replace phrases.
 #![tactic(auto)]
 
-mod error;
 mod laws;
 mod line;
 mod line_words;
@@ -12,7 +11,6 @@ mod tree;
 mod walk;
 mod words;
 
-pub use error::{LineError, ThesaurusError};
 pub use laws::{lines_have_one_reading, one_fits};
 pub use thesaurus::{Replaced, Thesaurus};
 pub use walk::Walk;

@@ -4,12 +4,11 @@ ghost use Rattle.ts_thesaurus.specs.Lines.{IsCut};
 ghost use Rattle.ts_thesaurus.specs.Faults.{IsFault};
 ghost use Rattle.ts_thesaurus.specs.Inner.Reading.{Reads};
 
-use crate::error::LineError;
 use crate::line_words::{indexed_words, sample_words};
 use crate::rule::KeptRule;
 use crate::words::{are_fit, is_passed, words_of};
 use std::alloc::Global;
-use ts_base::Dictionary;
+use ts_base::{Dictionary, LineError};
 
 /// What is before the first `:` of a line, and after it.
 fn sides(line: &str) -> Option<(&str, &str)>

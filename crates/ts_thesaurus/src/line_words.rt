@@ -5,10 +5,9 @@ ghost use Rattle.ts_thesaurus.specs.Lines.{lexemes_in as lexemes_in_of, indexed_
 ghost use Rattle.ts_thesaurus.specs.Inner.Reading.{IsAsked, StandsFor, IsWordFault, AreWordsFault};
 ghost use Rattle.ts_thesaurus.specs.Views.{sample_value};
 
-use crate::error::LineError;
 use crate::rule::Sample;
 use std::alloc::{AllocError, Global};
-use ts_base::{Answer, Dictionary, Found, Lexeme};
+use ts_base::{Answer, Dictionary, Found, Lexeme, LineError};
 
 /// The lexemes of an answer, if it has any.
 fn lexemes_in(answer: Answer) -> Option<Vec<Found>>

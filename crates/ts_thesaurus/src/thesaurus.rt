@@ -3,7 +3,7 @@ ghost use Rattle.std.specs.Prelude.{◌≡◌, ◌↔◌, ◌⊎◌, ℕ, ◌<�
 ghost use Rattle.std.specs.Str.Lines.{lines};
 ghost use Rattle.ts_base.specs.Dictionary.{answer_value};
 ghost use Rattle.ts_thesaurus.specs.Rules.{IsBest, NoneFits, Continues};
-ghost use Rattle.ts_thesaurus.specs.Lines.{AreRules};
+ghost use Rattle.ts_thesaurus.specs.Lines.{AreRules, Adds};
 ghost use Rattle.ts_thesaurus.specs.Faults.{IsFault, IsRefusal};
 ghost use Rattle.ts_thesaurus.specs.Inner.Best.{IsBestPlace};
 ghost use Rattle.ts_thesaurus.specs.Inner.Walks.{IsBestUpTo};
@@ -11,7 +11,6 @@ ghost use Rattle.ts_thesaurus.specs.Inner.States.{HasTree};
 ghost use Rattle.ts_thesaurus.specs.Inner.Index.{MayHaveTree};
 ghost use Rattle.ts_thesaurus.specs.Views.{rule_value};
 
-use crate::error::{LineError, ThesaurusError};
 use crate::line::read_line;
 use crate::matching::{fits_first, goes_on};
 use crate::rule::KeptRule;
@@ -19,7 +18,7 @@ use crate::tree::Tree;
 use crate::walk::Walk;
 use std::alloc::{AllocError, Global};
 use std::marker::Model;
-use ts_base::{Answer, Dictionary, Found};
+use ts_base::{Answer, Dictionary, Found, LineError, LinesError};
 
 /// A dictionary that replaces phrases. Contracts see it as the list of its rules, in the order of their lines.
 #[derive(Debug, Drop)]
@@ -107,11 +106,7 @@ impl Thesaurus {
     }
 
     /// The rules of these lines, by the answers of the subdictionary.
-    pub fn read<D: Dictionary>(
-        alloc: Global,
-        text: &str,
-        sub: &D,
-    ) -> Result<Thesaurus, ThesaurusError>
+    pub fn read<D: Dictionary>(alloc: Global, text: &str, sub: &D) -> Result<Thesaurus, LinesError>
         ensures value { IfOk result (AreRules (D.answer sub.now) (lines text.now)) }
         ensures bad { IfErr result (IsRefusal (D.answer sub.now) (lines text.now)) }
     {
@@ -137,16 +132,17 @@ impl Thesaurus {
         Ok(())
     }
 
-    /// Takes the rule of one line more, by the answers of the subdictionary. A refused line changes nothing.
+    /// Takes the rule of one line more, by the answers of the subdictionary.
+    ///
+    /// A line is bad that has no `:`, no words on a side, a word of more than 2046 bytes, or an
+    /// indexed word without lexemes. A refused line changes nothing.
     pub fn add_line<D: Dictionary>(
         &mut self,
         alloc: Global,
         line: &str,
         sub: &D,
     ) -> Result<(), LineError>
-        ensures taken { OnOk result ((lines : List (List ℕ))
-            → AreRules (D.answer sub.now) lines self.old
-            → AreRules (D.answer sub.now) (lines ++ line.now ∷ []) self.new) }
+        ensures taken { OnOk result (Adds (D.answer sub.now) line.now self.old self.new) }
         ensures fault { IfErr result (IsFault (D.answer sub.now) line.now) }
         ensures failed { OnErr result (self.new ≡ self.old) }
     {

@@ -283,6 +283,7 @@ impl<'a> Iterator for EntryRefs<'a> {
 
     ghost remaining = { item_count (λ left. left) };
 
+    /// The next entry.
     fn next(&mut self) -> Option<EntryRef<'a>> {
         let (end, ends) = self.ends.split_first()?;
         let entry = EntryRef {

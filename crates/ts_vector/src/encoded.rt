@@ -84,6 +84,7 @@ impl<'a> Iterator for Positions<'a> {
 
     ghost remaining = { item_count (λ left. left) };
 
+    /// The next position.
     fn next(&mut self) -> Option<Position> {
         if self.rest.is_empty() {
             return None;
@@ -188,6 +189,7 @@ impl<'a> Iterator for Entries<'a> {
 
     ghost remaining = { item_count (λ left. left) };
 
+    /// The next entry.
     fn next(&mut self) -> Option<EntryBytes<'a>> {
         if self.count == 0 {
             return None;

@@ -88,6 +88,11 @@ fn within_limit(entries: Columns) -> Result<TsVector, VectorError>
 
 impl TsVector {
     /// The vector of a text, in normal form.
+    ///
+    /// ```rust
+    /// let vector = TsVector::parse(alloc, "rat:2 cat:1A cat:3")?;
+    /// assert_eq!(rt; vector.to_text(alloc)?.as_str(), "'cat':1A,3 'rat':2");
+    /// ```
     pub fn parse(alloc: Global, text: &str) -> Result<TsVector, VectorError>
         ensures value { IfOk result (IsTextOf text.now) }
         ensures cause { IfErr result (TextFails text.now) }

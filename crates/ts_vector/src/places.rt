@@ -36,6 +36,7 @@ impl<'a> Iterator for Places<'a> {
 
     ghost remaining = { item_count (λ left. left) };
 
+    /// The next position.
     fn next(&mut self) -> Option<Position> {
         while self.here.is_empty() {
             if self.count == 0 {

@@ -9,7 +9,9 @@ use Rattle.std.proofs.lemmas.List.Elements.{All-nil, All-push}
 use Rattle.std.proofs.lemmas.List.Quantifiers.{Any-push}
 use Rattle.ts_base.specs.FirstLine.{IsFirstLine}
 use Rattle.ts_base.proofs.TextLines.{LinesDone, LineGiven, lines_start, line_given, lines_over, lines_few}
-use Rattle.ts_base.proofs.FirstLines.{first_behind, no_first, first_is_one}
+use Rattle.ts_base.specs.LineErrors.{error_at, IsBadFault, IsBadRefusal}
+use Rattle.ts_base.specs.declared.line_error.LineError.{LineError}
+use Rattle.ts_base.proofs.FirstLines.{first_behind, no_first, first_is_one, refused_at}
 use Rattle.ts_words.specs.StopLists.{IsBadLine, Stops, IsStopList, Adds, stop_words, bad_line, LinesHaveOneReading}
 use Rattle.ts_words.proofs.Members.{any_old, any_cases}
 use denote.Ref.{Bor}
@@ -41,9 +43,12 @@ module _ (text : List ℕ) (s t : Lines) (old : List (List ℕ)) (number : ℕ) 
   pub number_fits : number + 1 ≤ length text
   number_fits = omega (arith, lines_few text, p.count, ap length given.whole, length-append p.done (x.now ∷ given.more))
 
-  pub first_bad : IsBadLine x.now → IsFirstLine IsBadLine (lines text) (number + 1)
+  first_bad : IsBadLine x.now → IsFirstLine IsBadLine (lines text) (number + 1)
   first_bad bad = subst (λ n. IsFirstLine IsBadLine (lines text) (n + 1)) (sym p.count)
       (subst (λ ls. IsFirstLine IsBadLine ls (length p.done + 1)) (sym given.whole) (first_behind IsBadLine p.done given.more x.now p.list.fit bad))
+
+  pub first_refused : (e : LineError) → IsBadFault IsBadLine x.now e → IsBadRefusal IsBadLine (lines text) (error_at e (number + 1))
+  first_refused e f = refused_at IsBadLine (lines text) x.now (number + 1) e first_bad f
 
   pub progress_more : (new : List (List ℕ)) → Adds x.now old new → Progress text t new (number + 1)
   progress_more new h = record {

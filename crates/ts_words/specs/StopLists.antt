@@ -4,8 +4,6 @@ use Rattle.std.specs.List.{Any}
 use Rattle.ts_base.specs.FirstLine.{IsFirstLine}
 use Rattle.ts_base.specs.Words.{IsFirstWord, lower}
 use Rattle.ts_base.specs.declared.TheConstants.{LONGEST_LEXEME}
-use Rattle.ts_words.specs.declared.error.WordsError.{WordsError}
-use Rattle.ts_words.specs.declared.error.WordsError.TheVariants.{BadLine, OutOfMemory}
 
 -- the line's first word has more bytes than a lexeme may have
 abbrev pub IsBadLine : List ℕ → Type 0
@@ -24,11 +22,6 @@ pub record IsStopList (lines stops : List (List ℕ)) : Type 0 where
 pub record Adds (line : List ℕ) (old new : List (List ℕ)) : Type 0 where
   pub fit : ¬ IsBadLine line
   pub each : (word : List ℕ) → Contains new word ↔ (Contains old word ⊎ Stops word line)
-
--- why lines are refused; want of memory is no fault of theirs
-abbrev pub IsRefusal : List (List ℕ) → WordsError → Type 0
-IsRefusal lines (BadLine n) = IsFirstLine IsBadLine lines n
-IsRefusal lines OutOfMemory = Unit {0}
 
 -- what the reading of lines comes to: the stop words, or the number of the first bad line
 pub data Reading : Type 0 where

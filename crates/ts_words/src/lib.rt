@@ -1,12 +1,10 @@
 //! Stop lists, and the dictionary `simple`.
 #![tactic(auto)]
 
-mod error;
 mod laws;
 mod simple;
 mod stops;
 
-pub use error::WordsError;
 pub use laws::lines_have_one_reading;
 pub use simple::Simple;
 pub use stops::StopList;

@@ -1,14 +1,14 @@
 // Stop lists.
-ghost use Rattle.std.specs.Prelude.{◌≡◌, ◌↔◌, [], IfOk, IfErr, OnErr, IsTrue, MatchBool, Contains};
+ghost use Rattle.std.specs.Prelude.{◌≡◌, ◌↔◌, [], IfOk, IfErr, OnOk, OnErr, IsTrue, Contains};
 ghost use Rattle.std.specs.Str.Lines.{lines};
-ghost use Rattle.ts_words.specs.StopLists.{IsBadLine, IsStopList, Adds, IsRefusal};
+ghost use Rattle.ts_base.specs.LineErrors.{IsBadFault, IsBadRefusal};
+ghost use Rattle.ts_words.specs.StopLists.{IsBadLine, IsStopList, Adds};
 ghost use Rattle.ts_words.specs.Simple.{is_stop};
 
-use crate::error::WordsError;
-use std::alloc::{AllocError, Global};
+use std::alloc::Global;
 use std::collections::BTreeSet;
 use std::marker::Model;
-use ts_base::{LONGEST_LEXEME, front_word, lower_case};
+use ts_base::{LONGEST_LEXEME, LineError, LinesError, front_word, lower_case};
 
 /// The words that a dictionary leaves out. Contracts see them as a list.
 #[derive(Debug, Drop)]
@@ -37,38 +37,37 @@ impl StopList {
     }
 
     /// The stop words of a text: of each line the first word, in lower case.
-    pub fn read(alloc: Global, text: &str) -> Result<StopList, WordsError>
+    pub fn read(alloc: Global, text: &str) -> Result<StopList, LinesError>
         ensures stops { IfOk result (IsStopList (lines text.now)) }
-        ensures bad { IfErr result (IsRefusal (lines text.now)) }
+        ensures bad { IfErr result (IsBadRefusal IsBadLine (lines text.now)) }
     {
         let mut stops = StopList::new(alloc);
         let mut number = 0;
         for line in text.lines() {
             number += 1;
-            if !stops.add_line(alloc, line)? {
-                return Err(WordsError::BadLine { line: number });
+            if let Err(error) = stops.add_line(alloc, line) {
+                return Err(error.at(number));
             }
         }
         Ok(stops)
     }
 
-    /// Adds the stop word of one line more. False where the line is bad: its first word has more than
-    /// 2046 bytes. Then, and where memory runs out, nothing has changed.
-    pub fn add_line(&mut self, alloc: Global, line: &str) -> Result<bool, AllocError>
-        ensures cases { IfOk result (λ taken. MatchBool taken
-            (Adds line.now self.old self.new)
-            (IsBadLine line.now × (self.new ≡ self.old))) }
+    /// Takes the stop word of one line more. A line whose first word has more than 2046 bytes is
+    /// bad. A refused line changes nothing.
+    pub fn add_line(&mut self, alloc: Global, line: &str) -> Result<(), LineError>
+        ensures taken { OnOk result (Adds line.now self.old self.new) }
+        ensures fault { IfErr result (IsBadFault IsBadLine line.now) }
         ensures failed { OnErr result (self.new ≡ self.old) }
     {
         let Some((word, _)) = front_word(line) else {
-            return Ok(true);
+            return Ok(());
         };
         if word.len() > LONGEST_LEXEME {
-            return Ok(false);
+            return Err(LineError::Bad);
         }
         let word = lower_case(alloc, word)?;
         self.words.insert(word)?;
-        Ok(true)
+        Ok(())
     }
 
     /// Whether the list has this word.

@@ -3,9 +3,13 @@ use Rattle.std.specs.Prelude.{◌≡◌, ◌≢◌, ◌⊎◌, ℕ, ◌<◌, ◌
 use Rattle.byteorder.specs.Endian.{little_bytes}
 use Rattle.wal.specs.declared.sizes.TheConstants.{HEADER_BYTES, CREATED_BYTES, LENGTH_BYTES, BATCH_LIMIT}
 
+-- the name of the format
+abbrev pub format_name : List ℕ
+format_name = codes "GINSH DRAFT 0001"
+
 -- the commit byte of the store, set, and the name of the format
 abbrev pub header : List ℕ
-header = 1 ∷ codes "GINSH DRAFT 0001"
+header = 1 ∷ format_name
 
 -- a batch after its commit byte
 abbrev pub sealed : List ℕ → List ℕ

@@ -10,15 +10,13 @@ ghost use Rattle.wal.specs.Waiting.{end_of};
 ghost use Rattle.wal.specs.Inner.Beginnings.{BeginsSo, IsLongEnough};
 ghost use Rattle.wal.specs.declared.error.ReadError.TheVariants.{DiskFault, NotAStore, OutOfMemory};
 
+use crate::creating::CREATED;
 use crate::error::ReadError;
 use crate::log::Wal;
 use crate::log_batches::{log_length, read_log};
 use crate::sizes::{CREATED_BYTES, HEADER_BYTES, LENGTH_BYTES, LOG_LIMIT};
 use disk_trait::Disk;
 use std::alloc::Global;
-
-/// The store's commit byte, set, and the name of the format.
-const HEADER: &[u8; HEADER_BYTES] = b"\x01GINSH DRAFT 0001";
 
 /// How a log begins.
 #[derive(Clone, Copy, Debug)]
@@ -48,7 +46,7 @@ fn read_head<D: Disk>(disk: &mut D) -> Result<[u8; HEADER_BYTES], ReadError>
 fn is_header(head: &[u8; HEADER_BYTES]) -> bool
     ensures { IsTrue result ↔ (head.now ≡ header) }
 {
-    head.as_slice() == HEADER.as_slice()
+    CREATED.starts_with(head)
 }
 
 /// How the log begins. Its length and its first bytes are read once.

@@ -6,14 +6,23 @@ ghost use Rattle.wal.specs.Batches.{IsUnborn, Opens};
 ghost use Rattle.wal.specs.Pages.{KeepsPages};
 ghost use Rattle.wal.specs.Settled.{LogIs, Settled};
 ghost use Rattle.wal.specs.Creating.{From, CreateHasCause, created};
-ghost use Rattle.wal.specs.Inner.CommitBytes.{Unset};
+ghost use Rattle.wal.specs.Inner.CommitBytes.{name_and_commit_byte, Unset};
 
 use crate::log::Wal;
 use crate::sizes::{CREATED_BYTES, HEADER_BYTES};
 use disk_trait::{Disk, Failed, File, write_and_sync};
 
+/// A log without a batch: the store's commit byte, open, the name of the format, and the first batch's
+/// commit byte, closed.
+pub const CREATED: &[u8; 18] = b"\x01GINSH DRAFT 0001\0";
+
 /// The name of the format, and the first batch's commit byte, unset.
-const NAME_AND_COMMIT_BYTE: &[u8; 17] = b"GINSH DRAFT 0001\0";
+fn past_gate() -> &'static [u8]
+    ensures { result.now ≡ name_and_commit_byte }
+{
+    let created = CREATED.as_slice();
+    &created[1..]
+}
 
 /// The store's commit byte is unset, if it may be set: a write of it could set it by itself.
 fn unset<D: Disk>(disk: &mut D) -> Result<(), Failed>
@@ -48,7 +57,7 @@ fn write_name<D: Disk>(disk: &mut D) -> Result<(), Failed>
     ensures time { D.Disk.clock disk.old ≤ D.Disk.clock disk.new }
     ensures cause { RunHasCause D.Disk disk.old disk.new result }
 {
-    write_and_sync(disk, File::Log, 1, NAME_AND_COMMIT_BYTE)?;
+    write_and_sync(disk, File::Log, 1, past_gate())?;
     write_and_sync(disk, File::Log, 0, &[1])
 }
 

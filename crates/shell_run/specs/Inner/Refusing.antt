@@ -5,8 +5,8 @@ use Rattle.ts_vector.specs.declared.error.VectorError.{VectorError}
 use Rattle.ts_vector.specs.declared.error.VectorError.TheVariants as vectors
 use Rattle.ts_query.specs.declared.error.QueryError.{QueryError}
 use Rattle.ts_query.specs.declared.error.QueryError.TheVariants as queries
-use Rattle.ts_thesaurus.specs.declared.error.LineError.{LineError}
-use Rattle.ts_thesaurus.specs.declared.error.LineError.TheVariants as lines
+use Rattle.ts_base.specs.declared.line_error.LineError.{LineError}
+use Rattle.ts_base.specs.declared.line_error.LineError.TheVariants as lines
 use Rattle.shell_script.specs.Replies as replies
 use Rattle.engine.specs.declared.error.DbError.{DbError}
 use Rattle.engine.specs.declared.error.DbError.TheVariants as store
@@ -29,12 +29,12 @@ query_refusal (queries.TooManyNodes) = Text LargeQuery
 query_refusal (queries.LexemeTooLong at) = Text (LongLexeme at)
 query_refusal queries.OutOfMemory = Memory
 
--- the refusal that a fault of a thesaurus' line of this number is printed as
-abbrev pub rule_refusal : LineError → ℕ → replies.Refusal
-rule_refusal lines.Bad number = replies.no_statement number
-rule_refusal lines.StopInSample number = replies.no_statement number
-rule_refusal lines.UnknownInSample number = replies.no_statement number
-rule_refusal lines.Memory number = replies.memory
+-- the refusal that a fault of a dictionary's line of this number is printed as
+abbrev pub line_refusal : LineError → ℕ → replies.Refusal
+line_refusal lines.Bad number = replies.no_statement number
+line_refusal lines.StopInSample number = replies.no_statement number
+line_refusal lines.UnknownInSample number = replies.no_statement number
+line_refusal lines.Memory number = replies.memory
 
 -- the refusal that an error of the store is printed as
 abbrev pub refusal_for : DbError → replies.Refusal

@@ -6,8 +6,8 @@ use Rattle.ts_thesaurus.specs.Lines.{sample_word, sample_words, HasSample, IsPas
 use Rattle.ts_thesaurus.specs.Views.{sample_value, rule_value}
 use Rattle.ts_thesaurus.specs.declared.rule.Sample.{Sample}
 use Rattle.ts_thesaurus.specs.declared.rule.KeptRule.{KeptRule}
-use Rattle.ts_thesaurus.specs.declared.error.LineError.{LineError}
-use Rattle.ts_thesaurus.specs.declared.error.LineError.TheVariants.{Bad, StopInSample, UnknownInSample, Memory}
+use Rattle.ts_base.specs.declared.line_error.LineError.{LineError}
+use Rattle.ts_base.specs.declared.line_error.LineError.TheVariants.{Bad, StopInSample, UnknownInSample, Memory}
 
 -- a word that a dictionary may be asked
 abbrev pub IsAsked : List ℕ → Type 0

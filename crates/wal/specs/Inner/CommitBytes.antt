@@ -1,12 +1,12 @@
 -- What is at a commit byte of a log.
-use Rattle.std.specs.Prelude.{◌≡◌, ◌≢◌, ◌⊎◌, ℕ, ◌+◌, ◌<◌, ◌≤◌, List, [], ◌∷◌, ◌++◌, length, get_or, take, drop, codes}
+use Rattle.std.specs.Prelude.{◌≡◌, ◌≢◌, ◌⊎◌, ℕ, ◌+◌, ◌<◌, ◌≤◌, List, [], ◌∷◌, ◌++◌, length, get_or, take, drop}
 use Rattle.byteorder.specs.Endian.{little_bytes}
-use Rattle.wal.specs.Batches.{sealed}
+use Rattle.wal.specs.Batches.{format_name, sealed}
 use Rattle.wal.specs.declared.sizes.TheConstants.{HEADER_BYTES, LENGTH_BYTES, FRAME_BYTES, BATCH_LIMIT}
 
 -- the name of the format and the first batch's commit byte, unset
 abbrev pub name_and_commit_byte : List ℕ
-name_and_commit_byte = codes "GINSH DRAFT 0001" ++ 0 ∷ []
+name_and_commit_byte = format_name ++ 0 ∷ []
 
 -- the store's commit byte is there and unset
 pub record Unset (log : List ℕ) : Type 0 where

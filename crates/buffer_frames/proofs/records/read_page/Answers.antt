@@ -10,7 +10,7 @@ returns-clause-bytes g c = λ told.
     let n : ℕ = c.in_ok-n.n in
     let got = c.in_ok-n.ensures.bytes told in
     let full : length buf ≡ 8192 =
-    c.read.auto.buf ∙ c.deref_mut.ensures.len ∙ c.in_ok-bytes.bytes.ok.0 ∙ c.in_ok-bytes.ensures in
+    c.read.auto.buf ∙ c.deref_mut.ensures.len ∙ c.in_ok-bytes.bytes.ok.0 ∙ c.in_ok-bytes.ensures.size in
     let long : length buf ≡ c.in_ok-bytes.bytes.len = c.read.auto.buf ∙ c.deref_mut.ensures.len in
     let within : n ≤ length buf = omega (arith, got.0) in
     let size : vec_len c.truncate.new.self ≡ min n (length buf) = omega (arith, c.truncate.ensures.len, within, long) in

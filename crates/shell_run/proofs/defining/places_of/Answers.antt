@@ -1,16 +1,15 @@
-use Rattle.std.proofs.Common.{sym, subst}
-use Rattle.shell_run.proofs.Bodies.{PlacesRead, places_more, places_end, places_fail}
+use Rattle.std.proofs.Common.{◌≡◌, ◌∙◌, ℕ, List, ap, map, subst}
+use Rattle.std.specs.Prelude.{IfOk, MatchOption}
+use Rattle.std.specs.List.{Any}
+use Rattle.ts_config.specs.Known.{HasDictionary, ArePlaces}
 use Rattle.shell_run.proofs.defining.places_of.Goals as goal
-
-pub returns-in-None-place : goal.returns-in-None-place
-returns-in-None-place c =
-    places_fail c.args.configs.now c.args.names c.next.new.self c.in-Some.name.now c.loop-name.places.items (subst (λ z. PlacesRead c.args.configs.now c.args.names z c.loop-name.places.items) c.in-Some.ensures.steps c.loop-name.invariant)
-    (λ h. let e = c.in-None-place.ensures.found.1 h in let z : ⊥ = cc in z)
-
-pub loop-name-preserved : goal.loop-name-preserved
-loop-name-preserved c =
-    places_more c.args.configs.now c.args.names c.next.new.self c.in-Some.name.now c.loop-name.places.items c.push.new.self.items c.in-Some-place.place (subst (λ z. PlacesRead c.args.configs.now c.args.names z c.loop-name.places.items) c.in-Some.ensures.steps c.loop-name.invariant)
-    (sym c.in-Some-place.ensures.value) c.in_ok-push-in-Some-place.ensures.items
+use denote.Ref.{Bor}
 
 pub returns : goal.returns
-returns c = places_end c.args.configs.now c.args.names c.loop-name.places.items (subst (λ z. PlacesRead c.args.configs.now c.args.names z c.loop-name.places.items) c.in-None.ensures.steps.0 c.loop-name.invariant)
+returns c =
+    let known = c.args.configs.now in
+    let text : Bor (List ℕ) → List ℕ = λ n. n.now in
+    let same : map text c.deref.result.now ≡ c.args.names =
+    ap (map text) c.deref.ensures.value ∙ c.in_ok-texts.ensures in
+    subst (λ (ns : List (List ℕ)). IfOk c.places.result (λ found. MatchOption found
+    (Any (λ name. ¬ HasDictionary known name) ns) (λ places. ArePlaces known ns places.items))) same c.places.ensures

@@ -11,4 +11,5 @@ pub returns-in-Err-clause-refused : goal.returns-in-Err-clause-refused
 returns-in-Err-clause-refused c =
     let answer = answer_by (rules_of c.args.sub.now) in
     let same : c.in-Ok.text.now ≡ c.args.line.bytes.now = c.in-Ok.ensures.cases.0 in
-    subst (LineBad (IsNoLine (IsRefused answer)) (shown c.args.line)) (sym c.rule_refused.ensures) (fault_bad answer c.in-Ok.text.now (shown c.args.line) c.in-Err.error same c.in-Err.ensures.fault)
+    subst (LineBad (IsNoLine (IsRefused answer)) (shown c.args.line)) (sym c.line_refused.ensures)
+    (fault_bad answer c.in-Ok.text.now (shown c.args.line) c.in-Err.error same c.in-Err.ensures.fault)

@@ -1,5 +1,6 @@
 use Rattle.std.proofs.Common.{ap}
 use Rattle.shell_script.specs.StatementView.{statement}
+use Rattle.shell_script.proofs.Front.{no_first_word}
 use Rattle.shell_script.proofs.FirstTokens.{said_line, said_behind, no_word_says, says_nothing, says_statement}
 use Rattle.shell_script.proofs.statement.read_line.Goals as goal
 
@@ -7,7 +8,7 @@ pub returns-in_default : goal.returns-in_default
 returns-in_default c =
     let read = c.invalid in
     says_nothing c.args.line.now read.result.session (statement read.result.statement) read.ensures.session (ap statement read.ensures.statement)
-    (no_word_says c.args.line.now c.in_default.ensures.none)
+    (no_word_says c.args.line.now (no_first_word c.args.line.now c.in_default.ensures.none))
 
 pub returns-in-Some-2 : goal.returns-in-Some-2
 returns-in-Some-2 c =

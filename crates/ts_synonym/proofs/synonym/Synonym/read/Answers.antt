@@ -1,6 +1,6 @@
 use Rattle.std.proofs.Common.{◌∙◌, ◌≤◌, ◌+◌, ap, length, arith}
 use Rattle.std.specs.Str.Iter.{lines_rest}
-use Rattle.ts_synonym.proofs.Reading.{progress_start, number_fits, first_bad, progress_more, progress_over}
+use Rattle.ts_synonym.proofs.Reading.{progress_start, number_fits, first_refused, progress_more, progress_over}
 use Rattle.ts_synonym.proofs.synonym.Synonym.read.Goals as goal
 
 pub loop-line-init : goal.loop-line-init
@@ -15,15 +15,20 @@ overflow_add-number c =
     let fits : c.loop-line.number + 1 ≤ length c.args.text.now = number_fits c.args.sensitive c.args.text.now c.loop-line.line-iterator c.next.new.self c.loop-line.synonym c.loop-line.number c.in-Some.line c.loop-line.invariant.2 c.in-Some.ensures.steps in
     omega arith
 
-pub returns-then-not-branch-clause-bad : goal.returns-then-not-branch-clause-bad
-returns-then-not-branch-clause-bad c =
-    first_bad c.args.sensitive c.args.text.now c.loop-line.line-iterator c.next.new.self c.loop-line.synonym c.loop-line.number c.in-Some.line c.loop-line.invariant.2 c.in-Some.ensures.steps (c.in_ok-add_line.ensures.bad.0 c.if-not-branch.true)
+pub returns-in-Err-clause-bad : goal.returns-in-Err-clause-bad
+returns-in-Err-clause-bad c =
+    rw c.at.ensures
+    (first_refused c.args.sensitive c.args.text.now c.loop-line.line-iterator c.next.new.self c.loop-line.synonym
+    c.loop-line.number c.in-Some.line c.loop-line.invariant.2 c.in-Some.ensures.steps c.in-Err.error
+    c.in-Err.ensures.fault)
 
 pub loop-line-preserved : goal.loop-line-preserved
 loop-line-preserved c = (
   tt,
   tt,
-  progress_more c.args.sensitive c.args.text.now c.loop-line.line-iterator c.next.new.self c.loop-line.synonym c.loop-line.number c.in-Some.line c.loop-line.invariant.2 c.in-Some.ensures.steps _ (c.in_ok-add_line.ensures.added c.if-not-branch.false c.args.sensitive),
+  progress_more c.args.sensitive c.args.text.now c.loop-line.line-iterator c.next.new.self c.loop-line.synonym
+      c.loop-line.number c.in-Some.line c.loop-line.invariant.2 c.in-Some.ensures.steps c.add_line.new.self
+      c.in_default.ensures.taken,
 )
 
 pub returns-clause-value : goal.returns-clause-value
