@@ -6,3 +6,4 @@ pub mod Small
 pub mod Some
 pub mod Texts
 pub mod Answering
+mod Ends

@@ -1,5 +1,5 @@
 // A step by a table of rules.
-ghost use Rattle.std.specs.Prelude.{◌≡◌, ◌≤◌, ◌+◌, ◌++◌, length, map, take, IfSome};
+ghost use Rattle.std.specs.Prelude.{◌≡◌, ◌≤◌, ◌+◌, ◌++◌, length, map, take, false, IfSome, IsTrue};
 ghost use Rattle.std.specs.Vec.{vec_capacity, vec_len};
 ghost use Rattle.porter_stem.specs.Tables.{ends_in, holds, longest as longest_of, applied as applied_of, step as step_of};
 ghost use Rattle.porter_stem.specs.Views.{rule_of, found_of};
@@ -7,11 +7,25 @@ ghost use Rattle.porter_stem.specs.Views.{rule_of, found_of};
 use crate::rule::{Condition, Rule};
 use crate::shape::shape_of;
 
+/// Whether the last letters differ, which says most suffixes from a word's end.
+fn ends_apart(word: &[u8], suffix: &[u8]) -> bool
+    ensures { IsTrue result → ends_in suffix.now word.now ≡ false }
+{
+    match (word.last(), suffix.last()) {
+        (Some(letter), Some(end)) => letter != end,
+        _ => false,
+    }
+}
+
 /// Whether a word ends in this suffix.
 pub fn has_suffix(word: &[u8], suffix: &str) -> bool
     ensures { result ≡ ends_in suffix.now word.now }
 {
-    word.ends_with(suffix.as_bytes())
+    let suffix = suffix.as_bytes();
+    if ends_apart(word, suffix) {
+        return false;
+    }
+    word.ends_with(suffix)
 }
 
 /// Whether a condition holds of a stem.

@@ -53,8 +53,11 @@ fn step_1b(word: &mut Vec<u8>)
 fn step_5b(word: &mut Vec<u8>)
     ensures { word.new.items ≡ step_5b_of word.old.items }
 {
+    if !has_suffix(word, "l") {
+        return;
+    }
     let shape = shape_of(word);
-    if shape.measure > 1 && shape.ends_double(word) && has_suffix(word, "l") {
+    if shape.measure > 1 && shape.ends_double(word) {
         word.truncate(word.len() - 1);
     }
 }

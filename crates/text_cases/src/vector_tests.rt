@@ -4,7 +4,7 @@ use crate::rows::{expanded, push_number, push_word, said};
 use std::alloc::{AllocError, Global};
 use std::test::Fail;
 use ts_base::{Lexeme, Position, Weight};
-use ts_vector::{Joined, Positions, TsVector, VectorBytes, VectorError};
+use ts_vector::{Joined, Positions, TsVector, VectorBuilder, VectorBytes, VectorError};
 
 /// Texts and what they give; `+` joins vectors.
 const ROWS: &str = concat!(
@@ -254,13 +254,12 @@ pub fn encoded(alloc: Global, text: &str) -> Result<String, Fail> {
 
 /// A vector that is built of 257 positions.
 fn built(alloc: Global) -> Result<TsVector, Fail> {
-    let mut positions = Vec::new(alloc);
+    let mut builder = VectorBuilder::new(alloc)?;
+    let lexeme = Lexeme::new(alloc, "a")?;
     for k in (1..258u16).rev() {
-        positions.push(Position::new(k, Weight::D))?;
+        builder.push(&lexeme, Position::new(k, Weight::D))?;
     }
-    let mut items = Vec::new(alloc);
-    items.push((Lexeme::new(alloc, "a")?, positions))?;
-    Ok(TsVector::build(alloc, items)?)
+    Ok(builder.finish(alloc)?)
 }
 
 /// The entries of joined vectors, or of one that is built.

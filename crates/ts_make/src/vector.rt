@@ -2,14 +2,13 @@
 ghost use Rattle.std.specs.Prelude.{◌≡◌, ◌≤◌, All, map, min, IfOk, IfErr};
 ghost use Rattle.ts_base.specs.declared.Weight.TheVariants.{D};
 ghost use Rattle.ts_base.specs.Vectors.{IsPosition};
-ghost use Rattle.ts_vector.specs.Pairs.{pairs_of};
 ghost use Rattle.ts_config.specs.Known.{IsWithin};
 ghost use Rattle.ts_make.specs.Made.{made_entry, IsMadeVector, MadeVectorFails};
 
 use std::alloc::{AllocError, Global};
-use ts_base::{LAST_POSITION, Lexeme, Position, Weight};
+use ts_base::{LAST_POSITION, Position, Weight};
 use ts_config::{Config, Configs, Placed};
-use ts_vector::{TsVector, VectorError};
+use ts_vector::{TsVector, VectorBuilder, VectorError};
 
 /// The position of a lexeme in a vector: 16383 stands for each above it, and its weight is D.
 fn position_of(at: usize) -> Position
@@ -24,29 +23,32 @@ fn position_of(at: usize) -> Position
     Position::new(LAST_POSITION, Weight::D)
 }
 
-/// Each lexeme with its position.
-fn vector_items(
-    alloc: Global,
-    placed: Vec<Placed>,
-) -> Result<Vec<(Lexeme, Vec<Position>)>, AllocError>
+/// A vector that is built of each lexeme at its position.
+fn builder_of(alloc: Global, placed: Vec<Placed>) -> Result<VectorBuilder, AllocError>
     requires { All (λ p. 1 ≤ p.position) placed.items }
-    ensures { IfOk result (λ items. pairs_of items.items ≡ map made_entry placed.items) }
+    ensures { IfOk result (λ builder. builder ≡ map made_entry placed.items) }
 {
-    let mut items = Vec::with_capacity(alloc, placed.len())?;
+    let mut builder = VectorBuilder::new(alloc)?;
     for Placed {
         lexeme,
         position,
         ..
     } in placed {
-        let mut positions = Vec::with_capacity(alloc, 1)?;
-        positions.push(position_of(position))?;
-        items.push((lexeme, positions))?;
+        builder.push(&lexeme, position_of(position))?;
     }
-    Ok(items)
+    Ok(builder)
 }
 
 /// The vector that a text is made by a configuration of these: its placed lexemes in normal form,
 /// each position with the weight D. The mark of a prefix means nothing here.
+///
+/// ```
+/// let configs = Configs::new(alloc)?;
+/// if let Some(simple) = configs.config("simple") {
+///     let vector = to_tsvector(alloc, &configs, simple, "The fat cat")?;
+///     assert_eq!(rt; vector.to_text(alloc)?.as_str(), "'cat':3 'fat':2 'the':1");
+/// }
+/// ```
 pub fn to_tsvector(
     alloc: Global,
     configs: &Configs,
@@ -60,8 +62,8 @@ pub fn to_tsvector(
     let Ok(placed) = configs.lexize_all(alloc, config, text) else {
         return Err(VectorError::OutOfMemory);
     };
-    let Ok(items) = vector_items(alloc, placed) else {
+    let Ok(builder) = builder_of(alloc, placed) else {
         return Err(VectorError::OutOfMemory);
     };
-    TsVector::build(alloc, items)
+    builder.finish(alloc)
 }

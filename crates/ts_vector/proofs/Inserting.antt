@@ -25,7 +25,7 @@ Pair = List ℕ × Vec Position Global
 abbrev pub order : List ℕ → List ℕ → Ordering
 order = slice_cmp nat_cmp
 
-same_of : (a b : List ℕ) → order a b ≡ Equal → a ≡ b
+pub same_of : (a b : List ℕ) → order a b ≡ Equal → a ≡ b
 same_of a b e = slice_cmp-IsAntisymmetric nat_cmp-IsAntisymmetric a b e
 
 other_less : (a b : List ℕ) → order a b ≡ Less → b ≢ a

@@ -1,11 +1,11 @@
 -- The last entries of an encoding, found by how many bytes they have.
-use Rattle.std.proofs.Common.{◌≡◌, ℕ, zero, suc, ◌+◌, ◌-◌, ◌<◌, ◌≤◌, List, [], ◌∷◌, ◌++◌, length, take, drop, refl, sym, ◌∙◌, ap, arith, length-append}
+use Rattle.std.proofs.Common.{◌≡◌, ℕ, zero, suc, ◌-◌, ◌≤◌, List, [], ◌∷◌, ◌++◌, length, take, drop, sym, ◌∙◌, ap, arith, length-append}
 use Rattle.std.specs.Prelude.{sum_by}
 use Rattle.std.specs.List.{flat_map}
 use Rattle.std.proofs.lemmas.Grind.{flat_map-append}
 use Rattle.std.proofs.lemmas.List.{take-append-drop, length-drop, drop_at}
 use Rattle.std.proofs.lemmas.List.Sums.{sum_by-take-drop}
-use Rattle.ts_base.specs.Vectors.{Entry, Vector, IsNormal, content_size}
+use Rattle.ts_base.specs.Vectors.{Vector, IsNormal}
 use Rattle.ts_base.specs.Encoding.{entry_bytes, entry_size}
 use Rattle.ts_base.proofs.Encoding.{length-entries}
 use Rattle.ts_vector.specs.Inner.Told.{entries_told, AreEntries}

@@ -28,3 +28,4 @@ pub mod Inserting
 pub mod Keeping
 pub mod Gathering
 pub mod FullLists
+mod Building

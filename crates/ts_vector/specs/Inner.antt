@@ -8,3 +8,4 @@ pub mod Over
 pub mod Told
 pub mod Columns
 pub mod Gathered
+pub mod Building

@@ -1,4 +1,4 @@
--- Lexemes with their positions, as they are given to `build`.
+-- Lexemes with their positions, as a map has them.
 use Rattle.std.specs.Prelude.{ℕ, List, map, Vec}
 use Rattle.std.specs.declared.alloc.Global.{Global}
 use Rattle.ts_base.specs.Vectors.{Position, Entry}

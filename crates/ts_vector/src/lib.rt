@@ -7,24 +7,24 @@ ghost use Rattle.ts_base.specs.Vectors.{Entry, Vector, IsNormal, content_size};
 ghost use Rattle.ts_base.specs.Encoding.{vector_bytes, IsEncoding};
 ghost use Rattle.ts_vector.specs.Normal.{IsNormalFormOf};
 ghost use Rattle.ts_vector.specs.Text.{IsTextOf};
-ghost use Rattle.ts_vector.specs.Failures.{TextFails, ItemsFail, JoinFails};
+ghost use Rattle.ts_vector.specs.Failures.{TextFails, JoinFails};
 ghost use Rattle.ts_vector.specs.Inner.Over.{IsOver};
-ghost use Rattle.ts_vector.specs.Changes.{IsBuiltOf, stripped, reweighted, IsJoinOf};
-ghost use Rattle.ts_vector.specs.Pairs.{pairs_of};
+ghost use Rattle.ts_vector.specs.Changes.{stripped, reweighted, IsJoinOf};
 ghost use Rattle.ts_vector.specs.Decoded.{DecodeFails};
 ghost use Rattle.ts_vector.specs.Printed.{vector_text};
 
+mod builder;
 mod bytes;
 mod changes;
 mod checker;
 mod codec;
 mod columns;
 mod encoded;
-mod entries;
 mod error;
 mod gathered;
 mod joined;
 mod laws;
+mod lexemes;
 mod merge;
 mod normal;
 mod places;
@@ -32,11 +32,11 @@ mod printer;
 mod reader;
 mod written_lexemes;
 
+pub use builder::VectorBuilder;
 use changes::{entries_with_weight, greatest, without_positions};
 use codec::put_entries;
 use columns::Columns;
 pub use encoded::{Entries, EntryBytes, Positions, VectorBytes};
-use entries::from_pairs;
 pub use error::VectorError;
 pub use joined::Joined;
 pub use laws::{
@@ -106,23 +106,6 @@ impl TsVector {
             return Err(VectorError::LexemeTooLong { at });
         }
         match normal_form(alloc, words.into_entries()) {
-            Ok(entries) => within_limit(entries),
-            Err(_) => Err(VectorError::OutOfMemory),
-        }
-    }
-
-    /// The vector of these lexemes with these positions, in normal form.
-    pub fn build(
-        alloc: Global,
-        items: Vec<(Lexeme, Vec<Position>)>,
-    ) -> Result<TsVector, VectorError>
-        ensures value { IfOk result (IsBuiltOf (pairs_of items.items)) }
-        ensures cause { IfErr result (ItemsFail (pairs_of items.items)) }
-    {
-        let Ok(entries) = from_pairs(alloc, items) else {
-            return Err(VectorError::OutOfMemory);
-        };
-        match normal_form(alloc, entries) {
             Ok(entries) => within_limit(entries),
             Err(_) => Err(VectorError::OutOfMemory),
         }

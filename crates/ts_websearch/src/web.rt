@@ -123,6 +123,14 @@ impl WebMaker {
 /// The query that a web text is made by a configuration of these: its items as operands without weights,
 /// joined by `&`, and by `|` where `or` is between them, without those that have no lexemes. 32768 nodes
 /// or more are too many, counted before the removal, with one for each such operand.
+///
+/// ```
+/// let configs = Configs::new(alloc)?;
+/// if let Some(simple) = configs.config("simple") {
+///     let query = websearch_to_tsquery(alloc, &configs, simple, "rat or \"fat cat\" -dog")?;
+///     assert_eq!(rt; query.to_text(alloc)?.as_str(), "'rat' | 'fat' <-> 'cat' & !'dog'");
+/// }
+/// ```
 pub fn websearch_to_tsquery(
     alloc: Global,
     configs: &Configs,
