@@ -35,6 +35,7 @@ record HasBegun (s s' : StateValue) (x : ℕ) : Type 0 where
   fates : s'.fates ≡ s.fates ++ Running ∷ []
   serial : s'.next_serial ≡ s.next_serial
   runs : (u : Transaction) × (transaction x s'.running ≡ Some u)
+  limit : s'.xid_limit ≡ s.xid_limit
 
 begins : (s : StateValue) (r : Record) → r.kind ≡ kind.Begin → r.xid ≡ suc (length s.fates) → r.xid < xid_bound → HasBegun s (step_of r s) r.xid
 begins s r is next bound =
@@ -43,10 +44,12 @@ begins s r is next bound =
     let now : step_of r s ≡ more =
     ap (λ (k : Kind). stepped k r.xid (changed r) (noted r s)) is
     ∙ ap (λ (b : Bool). if b then more else noted r s) (passes r.xid (suc (length s.fates)) xid_bound next bound) in
-    subst (λ (z : StateValue). HasBegun s z r.xid) (sym now) (record { fates = refl; serial = refl; runs = last_runs s.running t r.xid refl })
+    subst (λ (z : StateValue). HasBegun s z r.xid) (sym now)
+    (record { fates = refl; serial = refl; runs = last_runs s.running t r.xid refl; limit = refl })
 
 places : (s : StateValue) (r : Record) (item serial : ℕ) (u : Transaction) → r.kind ≡ kind.PlaceHead item serial → transaction r.xid s.running ≡ Some u → serial ≡ s.next_serial → serial < 2 ^ 64 - 1
     → ((step_of r s).next_serial ≡ suc serial) × ((step_of r s).fates ≡ s.fates)
+    × ((step_of r s).xid_limit ≡ s.xid_limit)
 places s r item serial u is runs next small =
     let d : Doc = record { item = item; serial = serial } in
     let n : StateValue = noted r s in
@@ -63,7 +66,8 @@ places s r item serial u is runs next small =
     ap (λ (k : Kind). stepped k r.xid (changed r) n) is
     ∙ ap (λ (o : Option Transaction). placed_head o d n) runs
     ∙ ap (λ (b : Bool). if b then more else n) (passes serial s.next_serial (suc last_serial) next (omega (arith, small))) in
-    (ap (λ (z : StateValue). z.next_serial) now, ap (λ (z : StateValue). z.fates) now)
+    let fates = ap (λ (z : StateValue). z.fates) now in
+    (ap (λ (z : StateValue). z.next_serial) now, fates, ap (λ (z : StateValue). z.xid_limit) now)
 
 -- a state in which this transaction has committed
 abbrev ends : StateValue → Record → ℕ → Transaction → StateValue
@@ -75,33 +79,44 @@ ends s r n u = record (noted r s) {
   running = without r.xid s.running;
 }
 
-commits : (s : StateValue) (r : Record) (n : ℕ) → r.kind ≡ kind.Commit n → ((step_of r s).next_serial ≡ s.next_serial) × (length (step_of r s).fates ≡ length s.fates)
+commits : (s : StateValue) (r : Record) (n : ℕ) → r.kind ≡ kind.Commit n
+    → ((step_of r s).next_serial ≡ s.next_serial) × (length (step_of r s).fates ≡ length s.fates)
+    × ((step_of r s).xid_limit ≡ s.xid_limit)
 commits s r n is =
     let now : step_of r s ≡ committed n r.xid (transaction r.xid s.running) (noted r s) = ap (λ (k : Kind). stepped k r.xid (changed r) (noted r s)) is in
     let rest = by (transaction r.xid s.running) (n == suc (length s.deleted)) refl in
-    (ap (λ (z : StateValue). z.next_serial) now ∙ rest.0, ap (λ (z : StateValue). length z.fates) now ∙ rest.1)
+    let fates = ap (λ (z : StateValue). length z.fates) now ∙ rest.1 in
+    let limit = ap (λ (z : StateValue). z.xid_limit) now ∙ rest.2 in
+    (ap (λ (z : StateValue). z.next_serial) now ∙ rest.0, fates, limit)
   where
-    by : (o : Option Transaction) (b : Bool) → (n == suc (length s.deleted)) ≡ b → ((committed n r.xid o (noted r s)).next_serial ≡ s.next_serial) × (length (committed n r.xid o (noted r s)).fates ≡ length s.fates)
-    by None b e = (refl, refl)
+    by : (o : Option Transaction) (b : Bool) → (n == suc (length s.deleted)) ≡ b
+        → ((committed n r.xid o (noted r s)).next_serial ≡ s.next_serial)
+        × (length (committed n r.xid o (noted r s)).fates ≡ length s.fates)
+        × ((committed n r.xid o (noted r s)).xid_limit ≡ s.xid_limit)
+    by None b e = (refl, refl, refl)
     by (Some u) true e =
         let now : committed n r.xid (Some u) (noted r s) ≡ ends s r n u = ap (λ (b : Bool). if b then ends s r n u else noted r s) e in
-        (ap (λ (z : StateValue). z.next_serial) now, ap (λ (z : StateValue). length z.fates) now ∙ length-with_fate s.fates r.xid (Committed n))
+        let fates = ap (λ (z : StateValue). length z.fates) now ∙ length-with_fate s.fates r.xid (Committed n) in
+        (ap (λ (z : StateValue). z.next_serial) now, fates, ap (λ (z : StateValue). z.xid_limit) now)
     by (Some u) false e =
         let now : committed n r.xid (Some u) (noted r s) ≡ noted r s = ap (λ (b : Bool). if b then ends s r n u else noted r s) e in
-        (ap (λ (z : StateValue). z.next_serial) now, ap (λ (z : StateValue). length z.fates) now)
+        let fates = ap (λ (z : StateValue). length z.fates) now in
+        (ap (λ (z : StateValue). z.next_serial) now, fates, ap (λ (z : StateValue). z.xid_limit) now)
 
 -- the number of the state's last record
 pub numbers : (s : StateValue) (i : Insertion) (slots : List (Option Head)) → (steps_of (records_of i slots) s).records ≡ i.number + 2
 numbers s i slots = ap (λ (t : ℕ × ℕ × ℕ). t.2) (step_marks (commit_of i) (step_of (place_of i slots) (step_of (begin_of i) s)))
 
 -- an owed Abort draws nothing
-owed : (owes : Bool) (s : StateValue) → ((after_owed owes s).next_serial ≡ s.next_serial) × (length (after_owed owes s).fates ≡ length s.fates)
-owed false s = (refl, refl)
-owed true s = (refl, length-all_ended s.running s.fates)
+owed : (owes : Bool) (s : StateValue) → ((after_owed owes s).next_serial ≡ s.next_serial)
+    × (length (after_owed owes s).fates ≡ length s.fates) × ((after_owed owes s).xid_limit ≡ s.xid_limit)
+owed false s = (refl, refl, refl)
+owed true s = (refl, length-all_ended s.running s.fates, refl)
 
--- the records of an insertion draw the next xid and the next serial
+-- the records of an insertion draw the next xid and the next serial, and leave the limit of xids
 pub draws : (owes : Bool) (s : StateValue) (i : Insertion) (slots : List (Option Head)) → i.xid ≡ suc (length s.fates) → i.xid < xid_bound → i.serial ≡ s.next_serial → i.serial < 2 ^ 64 - 1
     → ((steps_of (records_of i slots) (after_owed owes s)).next_serial ≡ suc i.serial) × (suc (length (steps_of (records_of i slots) (after_owed owes s)).fates) ≡ suc i.xid)
+    × ((steps_of (records_of i slots) (after_owed owes s)).xid_limit ≡ s.xid_limit)
 draws owes s i slots xid bound serial small =
     let s0 : StateValue = after_owed owes s in
     let o = owed owes s in
@@ -110,7 +125,8 @@ draws owes s i slots xid bound serial small =
     let s2 : StateValue = step_of (place_of i slots) s1 in
     let p = places s1 (place_of i slots) (item_at heap_page i.slot) i.serial h.runs.0 refl h.runs.1 (serial ∙ sym o.0 ∙ sym h.serial) small in
     let c = commits s2 (commit_of i) i.commit refl in
-    (c.0 ∙ p.0, omega (arith, c.1, ap length p.1, ap length h.fates, length-append s0.fates (Running ∷ []), o.1, xid))
+    let all = length-append s0.fates (Running ∷ []) in
+    (c.0 ∙ p.0, omega (arith, c.1, ap length p.1, ap length h.fates, all, o.1, xid), c.2 ∙ p.2 ∙ h.limit ∙ o.2)
 
 -- ── a state has drawn no more serials than its log has records ──
 few_if : (s : StateValue) (b : Bool) (x y : StateValue) → x.next_serial ≤ suc s.next_serial → y.next_serial ≤ suc s.next_serial → (if b then x else y).next_serial ≤ suc s.next_serial

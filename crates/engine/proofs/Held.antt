@@ -1,6 +1,6 @@
 -- What the documents in memory have of a history.
-use Rattle.std.proofs.Common.{◌≡◌, ◌≢◌, inl, inr, ℕ, zero, suc, ◌+◌, ◌^◌, ◌<◌, ◌≤◌, cond, List, [], ◌∷◌, ◌++◌, length, length-append, map, take, arith, refl, sym, ◌∙◌, ap, subst}
-use Rattle.std.specs.Prelude.{Some, None, sum_by}
+use Rattle.std.proofs.Common.{◌≡◌, ◌≢◌, inl, inr, ℕ, zero, suc, ◌+◌, ◌<◌, ◌≤◌, cond, List, [], ◌∷◌, ◌++◌, length, length-append, map, take, arith, refl, sym, ◌∙◌, ap, subst}
+use Rattle.std.specs.Prelude.{Some, None, min, sum_by}
 use Rattle.std.specs.List.{All, AllPairs, Contains, slice_get, filter}
 use Rattle.std.proofs.lemmas.List.{append-nil, take-map, map_push, length-map}
 use Rattle.std.proofs.lemmas.List.Elements.{All-nil, All-cons, All-push, All-head, All-tail, All-weaker}
@@ -16,7 +16,8 @@ use Rattle.engine.specs.Inner.Kept.{Kept, document_at, documents_from, SerialsRi
 use Rattle.std.specs.Prelude.{Result, Ok, Err}
 use Rattle.engine.specs.Standing.{StandsFor, IsUp, disk_of, fault_of, Rests}
 use Rattle.engine.specs.Answers.{HasInserted}
-use Rattle.engine.specs.Inner.Inside.{documents_of, next_serial_of, end_ahead}
+use Rattle.core_state.specs.Log.{xid_bound}
+use Rattle.engine.specs.Inner.Inside.{documents_of, next_serial_of, end_ahead, log_limit_of}
 use Rattle.engine.specs.Inner.Puts.{next_document, IsPut, IsPutInDoubt, HasPut, IsTooLarge, IsSpent}
 use Rattle.engine.specs.declared.error.DbError.{DbError}
 use Rattle.engine.specs.declared.error.DbError.TheVariants.{StoreFull, LogFull, XidsSpent, Down, DiskFault, OutOfMemory}
@@ -160,6 +161,9 @@ module _ {D : Type 0} (device : Disk D) (found : AtOpening) where
         below = λ up. subst (λ n. All (λ (k : Kept). k.serial < n) h.kept) (sym serial) (h.below (sym down ∙ up));
         end = λ up. omega (arith, end_same old new r, ap length again, h.end (sym down ∙ up));
         xids = λ up. omega (arith, ap (λ z. length z.fates) r.journal.state, ap length again, h.xids (sym down ∙ up));
+        limits = λ up.
+            let l = h.limits (sym down ∙ up) in
+            (r.journal.limit ∙ l.0, ap (λ z. min z.xid_limit xid_bound) r.journal.state ∙ l.1);
       }
 
   -- the store with one document more, or with one in doubt
@@ -193,6 +197,7 @@ module _ {D : Type 0} (device : Disk D) (found : AtOpening) where
             serial;
         end = λ still. omega (arith, i.end, h.end up, length-append commits (next_commit old v ∷ []));
         xids = λ still. omega (arith, i.next_xid, h.xids up, length-append commits (next_commit old v ∷ []));
+        limits = λ still. (i.limits.0 ∙ (h.limits up).0, i.limits.1 ∙ (h.limits up).1);
       }
 
   pub held_failed : (old new : DbValue D) (commits : History) (v : Vector) → StandsFor found old commits → IsPutInDoubt device old new v → StandsFor found new (commits ++ next_commit old v ∷ [])
@@ -207,6 +212,7 @@ module _ {D : Type 0} (device : Disk D) (found : AtOpening) where
         below = λ up. absurd (fell up);
         end = λ up. absurd (fell up);
         xids = λ up. absurd (fell up);
+        limits = λ up. absurd (fell up);
       }
     where
       fell : IsUp new → ⊥
@@ -220,17 +226,19 @@ module _ {D : Type 0} (device : Disk D) (found : AtOpening) where
   too_large s v (inl b) = inl b
   too_large s v (inr b) = inr (omega (arith, b, rooms 0 s.documents))
 
-  pub log_is_full : (s : DbValue D) (commits : History) (n : ℕ) → StandsFor found s commits → IsUp s → n ≡ length commits → 2 ^ 40 < end_ahead s + 8273 → IsLogFull found n
-  log_is_full s commits n h up e b = omega (arith, e, b, h.more, h.end up)
+  pub log_is_full : (s : DbValue D) (commits : History) (n : ℕ) → StandsFor found s commits → IsUp s
+      → n ≡ length commits → log_limit_of s < end_ahead s + 8273 → IsLogFull found n
+  log_is_full s commits n h up e b = omega (arith, e, b, h.more, h.end up, (h.limits up).0)
 
-  pub log_not_full : (s : DbValue D) (commits : History) (n : ℕ) → StandsFor found s commits → IsUp s → n ≡ length commits → end_ahead s + 8273 ≤ 2 ^ 40 → IsLogFull found n → ⊥
-  log_not_full s commits n h up e b f = omega (arith, e, b, f, h.more, h.end up)
+  pub log_not_full : (s : DbValue D) (commits : History) (n : ℕ) → StandsFor found s commits → IsUp s
+      → n ≡ length commits → end_ahead s + 8273 ≤ log_limit_of s → IsLogFull found n → ⊥
+  log_not_full s commits n h up e b f = omega (arith, e, b, f, h.more, h.end up, (h.limits up).0)
 
   pub xids_spent : (s : DbValue D) (commits : History) (n : ℕ) → StandsFor found s commits → IsUp s → n ≡ length commits → IsSpent s → AreXidsSpent found n
-  xids_spent s commits n h up e b = omega (arith, e, b, h.more, h.xids up)
+  xids_spent s commits n h up e b = omega (arith, e, b, h.more, h.xids up, (h.limits up).1)
 
   pub xids_left : (s : DbValue D) (commits : History) (n : ℕ) → StandsFor found s commits → IsUp s → n ≡ length commits → (IsSpent s → ⊥) → AreXidsSpent found n → ⊥
-  xids_left s commits n h up e b f = b (omega (arith, e, f, h.more, h.xids up))
+  xids_left s commits n h up e b f = b (omega (arith, e, f, h.more, h.xids up, (h.limits up).1))
 
   -- what an insertion is answered, by the history that the store stood for
   stored : (H : History) (old new : DbValue D) (v : Vector) (name : Name) → StandsFor found old H → IsPut device old new v name → HasInserted device found H old new v (Ok name)

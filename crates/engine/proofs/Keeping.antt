@@ -1,5 +1,5 @@
 -- What an insertion leaves of a store, where the log refuses it or the device fails.
-use Rattle.std.proofs.Common.{◌≡◌, ◌⊎◌, inl, inr, ℕ, ◌+◌, ◌^◌, ◌<◌, ◌≤◌, Bool, true, false, cond, List, [], ◌∷◌, length, arith, refl, sym, ◌∙◌, ap, subst}
+use Rattle.std.proofs.Common.{◌≡◌, ◌⊎◌, inl, inr, ℕ, ◌+◌, ◌<◌, ◌≤◌, Bool, true, false, cond, List, [], ◌∷◌, length, arith, refl, sym, ◌∙◌, ap, subst}
 use Rattle.std.proofs.lemmas.Bool.Decides.{nat_tests}
 use Rattle.std.specs.Prelude.{Some, None, Option, Result, Ok, Err, OnOk, OnErr, sum_by, if◌then◌else◌}
 use Rattle.disk_trait.specs.declared.device.Disk.{Ghosts as Disk}
@@ -17,7 +17,7 @@ use Rattle.engine.specs.Inner.Heaps.{IsHeapOf}
 use Rattle.engine.specs.Inner.DbValue.{DbValue, IsDbValue}
 use Rattle.engine.specs.Inner.Refusals.{db_error}
 use Rattle.engine.specs.Standing.{IsUp}
-use Rattle.engine.specs.Inner.Inside.{end_ahead}
+use Rattle.engine.specs.Inner.Inside.{end_ahead, log_limit_of}
 use Rattle.engine.specs.Inner.Puts.{IsSpent, IsTooLarge, HasPut}
 use Rattle.engine.specs.declared.error.DbError.{DbError}
 use Rattle.engine.proofs.Standing.{same_stands}
@@ -90,7 +90,6 @@ module _ {D : Type 0} (device : Disk D) where
     each = k.each;
     encoded = k.encoded;
     idle = λ up. omega (arith, k.idle (sym same.down ∙ up), ap length same.waits);
-    limit = same.limit ∙ k.limit;
     made = subst (λ z. 0 < z) (sym (ap (λ z. z.records) same.state)) k.made;
     log = k.log;
     stands = same_stands device s.journal j k.log same k.stands;
@@ -104,7 +103,7 @@ module _ {D : Type 0} (device : Disk D) where
     pub up : IsUp old
     pub left : IsSpent old → ⊥
     pub fits : IsTooLarge old v → ⊥
-    pub full : e ≡ LogFull → 2 ^ 40 < end_ahead old + 8273
+    pub full : e ≡ LogFull → log_limit_of old < end_ahead old + 8273
     pub no_fault : e ≡ DiskFault → ⊥
     pub not_down : (f : ℕ) → e ≡ Down f → ⊥
 

@@ -1,16 +1,16 @@
 -- How a store is just after its opening, and how a device that was given back.
-use Rattle.std.proofs.Common.{◌≡◌, inl, inr, ◌≤◌, ℕ, suc, List, length, map, refl, sym, subst, ◌∙◌}
+use Rattle.std.proofs.Common.{◌≡◌, inl, inr, ◌≤◌, ℕ, suc, List, length, map, refl, sym, ap, subst, ◌∙◌}
 use Rattle.std.proofs.Common.{arith}
-use Rattle.std.specs.Prelude.{Option, Err}
+use Rattle.std.specs.Prelude.{min, Option, Err}
 use Rattle.std.proofs.lemmas.Bool.{cases_lt}
 use Rattle.std.proofs.lemmas.List.{length-map}
 use Rattle.disk_trait.specs.Files.{Files}
 use Rattle.disk_trait.specs.Runs.{images_now}
 use Rattle.disk_trait.specs.declared.device.Disk.{Ghosts as Disk}
-use Rattle.wal.specs.Waiting.{end_of}
+use Rattle.wal.specs.Waiting.{end_of, limit_of}
 use Rattle.wal.specs.Pages.{KeepsPages}
 use Rattle.page_types.specs.declared.page.Head.{Head}
-use Rattle.core_state.specs.Log.{Log}
+use Rattle.core_state.specs.Log.{Log, xid_bound}
 use Rattle.core_state.specs.History.{History}
 use Rattle.core_state.specs.Stores.{PagesStand}
 use Rattle.core_state.specs.declared.settings.Settings.{Settings}
@@ -27,7 +27,7 @@ use Rattle.engine.specs.Opening.{HasSamePages}
 use Rattle.engine.specs.AtOpening.{AtOpening, ahead_of}
 use Rattle.engine.specs.Inner.Heaps.{IsHeapOf}
 use Rattle.engine.specs.Inner.Kept.{Kept, documents_from}
-use Rattle.engine.specs.Opened.{IsLawfulSince, OpenedAt}
+use Rattle.engine.specs.Opened.{IsLawfulSince, OpenedAt, HasLimitsOf}
 use Rattle.engine.specs.Standing.{StandsFor}
 use Rattle.engine.specs.Inner.DbValue.{DbValue}
 use Rattle.engine.proofs.Standing.{pages_same}
@@ -110,6 +110,8 @@ found_of j R kept = record {
   end = end_of j.wal;
   ahead = ahead_of R;
   next_xid = suc (length j.state.fates);
+  log_limit = limit_of j.wal;
+  xid_limit = min j.state.xid_limit xid_bound;
 }
 
 count_of : (kept : List Kept) → length (history_of kept) ≡ length kept
@@ -193,4 +195,8 @@ module _ {D : Type 0} (device : Disk D) (settings : Settings) (first : D) (c0 : 
         below = λ up. w.read.below;
         end = λ up. omega (arith, count, ahead device settings first c0 j map_of kept heap used w);
         xids = λ up. omega (arith, count);
+        limits = λ up. (refl, refl);
       }
+
+  pub limits : HasLimitsOf settings (found_of j w.opened.counted kept)
+  limits = (w.opened.limit, ap (λ n. min n xid_bound) w.opened.xid_limit)

@@ -12,7 +12,6 @@ use Rattle.page_types.specs.declared.page.Body.TheVariants as body
 use Rattle.page_types.specs.declared.record.Change.{Change}
 use Rattle.page_types.specs.declared.record.Kind.{Kind}
 use Rattle.page_types.specs.declared.record.Kind.TheVariants as kind
-use Rattle.page_types.specs.declared.record.Record.{Record}
 use Rattle.page_types.proofs.Framing.{length-u32_bytes, length-u64_bytes}
 use Rattle.page_types.proofs.PageLaws.{has_parts}
 use Rattle.core_state.specs.Log.{Log, changed, next_xid}

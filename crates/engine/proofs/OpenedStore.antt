@@ -1,5 +1,5 @@
 -- The value of a store just after its opening.
-use Rattle.std.proofs.Common.{◌≡◌, ◌+◌, ◌^◌, ℕ, cond, List, [], ◌∷◌, length, sym, subst, ◌∙◌, arith}
+use Rattle.std.proofs.Common.{◌≡◌, ◌+◌, ℕ, cond, List, [], ◌∷◌, length, sym, subst, arith}
 use Rattle.std.specs.Prelude.{Option}
 use Rattle.disk_trait.specs.declared.device.Disk.{Ghosts as Disk}
 use Rattle.wal.specs.Waiting.{waiting}
@@ -49,7 +49,6 @@ pub record IsOpenedWith {D : Type 0} (device : Disk D) (settings : Settings) (fi
     (used : ℕ) : Type 0 where
   pub one : CountedAreOne
   pub opened : IsOpenedAt device settings first c0 j map
-  pub limit : settings.log_limit ≡ 2 ^ 40
   pub read : AreDocuments kept heap used j.state.next_serial
   pub known : IsHeapKnownBy j.state map kept heap
 
@@ -57,13 +56,12 @@ pub record IsOpenedWith {D : Type 0} (device : Disk D) (settings : Settings) (fi
 pub read_by : {D : Type 0} {device : Disk D} {settings : Settings} {first : D} {c0 : ℕ}
     {j : JournalValue D} {map : PageMap} {kept : List Kept} {heap : List (Option Head)} {used : ℕ}
     {s : StateValue} → CountedAreOne → IsOpenedAt device settings first c0 j map
-    → settings.log_limit ≡ 2 ^ 40 → s ≡ j.state → AreDocuments kept heap used s.next_serial
+    → s ≡ j.state → AreDocuments kept heap used s.next_serial
     → IsHeapKnownBy s map kept heap
     → IsOpenedWith device settings first c0 j map kept heap used
-read_by {D} {device} {settings} {first} {c0} {j} {map} {kept} {heap} {used} one opened limit same read known = record {
+read_by {D} {device} {settings} {first} {c0} {j} {map} {kept} {heap} {used} one opened same read known = record {
   one = one;
   opened = opened;
-  limit = limit;
   read = subst (λ (z : StateValue). AreDocuments kept heap used z.next_serial) same read;
   known = subst (λ (z : StateValue). IsHeapKnownBy z map kept heap) same known;
 }
@@ -102,7 +100,6 @@ module _ {D : Type 0} (device : Disk D) (settings : Settings) (first : D) (c0 : 
         each = w.read.each;
         encoded = w.read.encoded;
         idle = λ up. omega (arith, ahead, few_ahead o.counted);
-        limit = o.limit ∙ w.limit;
         made = records_made j.state.pages j.state.xid_limit o.counted j.state o.stands.state o.stands.numbered;
         log = opened_log o.counted;
         stands = o.stands;

@@ -5,7 +5,7 @@ use Rattle.std.proofs.lemmas.List.{reverse-reverse}
 use Rattle.disk_trait.specs.Runs.{LeavesOnly}
 use Rattle.disk_trait.specs.declared.device.Disk.{Ghosts as Disk}
 use Rattle.disk_trait.proofs.Runs.{started, weaker_run}
-use Rattle.wal.specs.Waiting.{waiting, down_of, limit_of}
+use Rattle.wal.specs.Waiting.{waiting, down_of}
 use Rattle.wal.specs.Pages.{KeepsPages}
 use Rattle.ts_base.specs.Vectors.{Vector}
 use Rattle.ts_base.proofs.Encoding.{encoding_has_size}
@@ -48,7 +48,6 @@ module _ {D : Type 0} (device : Disk D) where
     pub pages : device.tells → KeepsPages device mid.disk new.disk
     pub time : device.clock mid.disk ≤ device.clock new.disk
     pub state : new.state ≡ mid.state
-    pub limit : limit_of new.wal ≡ limit_of old.journal.wal
     pub done : down_of new.wal ≡ None → waiting new.wal ≡ []
 
   module _ (old new : DbValue D) (mid : JournalValue D) (v : Vector) (used : ℕ) (d : Prepared) (f : Flushes old mid new.journal v used d) where

@@ -64,7 +64,6 @@ module _ {D : Type 0} (device : Disk D) (old : DbValue D) (mid next : JournalVal
     each = f.value.each;
     encoded = f.value.encoded;
     idle = λ up. absurd (fell up);
-    limit = f.limit ∙ f.value.limit;
     made = some_made;
     log = logged old.journal.owes d.records f.value.log;
     stands = f.stands (logged old.journal.owes d.records f.value.log) (f.logged f.value.log f.value.stands);
@@ -105,11 +104,10 @@ module _ {D : Type 0} (device : Disk D) (old : DbValue D) (mid next : JournalVal
         fits = omega (arith, ap (λ z. length (flat_map slot_bytes z)) f.prepared.heap, bytes_push old.heap (Some h), head_room (next_serial_of old) (next_xid_of old) (vector_bytes v), f.value.fits, f.prepared.size);
         heads = omega (arith, ap length f.prepared.heap, length-append old.heap (Some h ∷ []), f.value.heads, ap length e, length-append old.documents (k ∷ []));
         each = subst (AllByRecursion IsSlot) (sym f.prepared.heap)
-            (slots_push old.heap (Some h) f.value.each (new_is_head (next_serial_of old) (next_xid_of old) (vector_bytes v) (omega (arith, f.prepared.serial, f.prepared.small_serial)) f.prepared.some_xid short));
+            (slots_push old.heap (Some h) f.value.each (new_is_head (next_serial_of old) (next_xid_of old) (vector_bytes v) (omega (arith, f.prepared.serial, f.prepared.small_serial)) (omega (arith, f.prepared.some_xid)) short));
         encoded = subst AreEncoded (sym f.prepared.heap)
             (encoded_push old.heap h v f.value.encoded (encoded v f.prepared.normal (encoding_has_size v) short));
         idle = λ up. omega (arith, ap length none);
-        limit = f.limit ∙ f.value.limit;
         made = some_made;
         log = logged old.journal.owes d.records f.value.log;
         stands = f.stands (logged old.journal.owes d.records f.value.log) (f.logged f.value.log f.value.stands);

@@ -23,12 +23,19 @@ abbrev pub insertion_size : ℕ
 insertion_size = record_size 0 0 + record_size 12 1 + record_size 4 0
 
 -- What an opening finds: how many commits there are, where the log's next commit byte is, how many
--- bytes go out ahead of the first insertion, and which xid is drawn next.
+-- bytes go out ahead of the first insertion, and which xid is drawn next. And the limits that the
+-- store is opened with: the most bytes of its log, and the number below which xids are drawn.
 pub record AtOpening : Type 0 where
   pub commits : ℕ
   pub end : ℕ
   pub ahead : ℕ
   pub next_xid : ℕ
+  pub log_limit : ℕ
+  pub xid_limit : ℕ
+
+-- the widest limits
+abbrev pub IsWidest : AtOpening → Type 0
+IsWidest found = (found.log_limit ≡ LOG_LIMIT) × (found.xid_limit ≡ xid_bound)
 
 -- how many insertions of the run went before one that saw so many commits
 abbrev pub made_before : AtOpening → ℕ → ℕ
@@ -43,11 +50,12 @@ end_behind found made = found.end + found.ahead + made * (FRAME_BYTES + insertio
 -- limit.
 abbrev pub IsLogFull : AtOpening → ℕ → Type 0
 IsLogFull found snapshot =
-    LOG_LIMIT < end_behind found (made_before found snapshot) + FRAME_BYTES + insertion_size + 1
+    found.log_limit
+    < end_behind found (made_before found snapshot) + FRAME_BYTES + insertion_size + 1
 
--- the next xid isn't below its bound: each insertion of the run drew one
+-- the next xid isn't below its limit: each insertion of the run drew one
 abbrev pub AreXidsSpent : AtOpening → ℕ → Type 0
-AreXidsSpent found snapshot = xid_bound ≤ found.next_xid + made_before found snapshot
+AreXidsSpent found snapshot = found.xid_limit ≤ found.next_xid + made_before found snapshot
 
 -- What goes out ahead of the first insertion: a new store's Create, with the images of two pages; and
 -- else the Abort that an opening owes.

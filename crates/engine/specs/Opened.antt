@@ -1,21 +1,21 @@
 -- A device on which a store was opened.
-use Rattle.std.specs.Prelude.{◌≡◌, ℕ, ◌<◌, ◌≤◌, length}
+use Rattle.std.specs.Prelude.{◌≡◌, ℕ, ◌<◌, ◌≤◌, min, length}
 use Rattle.disk_trait.specs.Files.{Files}
 use Rattle.disk_trait.specs.Runs.{images_now}
 use Rattle.disk_trait.specs.declared.device.Disk.{Ghosts as Disk}
 use Rattle.core_state.specs.Log.{xid_bound}
 use Rattle.core_state.specs.declared.settings.Settings.{Settings}
 use Rattle.disk_trait.specs.Device.{last_count}
-use Rattle.wal.specs.declared.sizes.TheConstants.{LOG_LIMIT}
 use Rattle.engine.specs.Opening.{OpensTo, StartedFrom}
 use Rattle.engine.specs.Finding.{History}
 use Rattle.engine.specs.AtOpening.{AtOpening, IsFoundIn}
 use Rattle.engine.specs.Standing.{disk_of, IsOpenedTo}
 use Rattle.engine.specs.Inner.DbValue.{DbValue}
 
--- until a store keeps other bounds: those of its log and of its xids are the widest
-abbrev pub IsWidest : Settings → Type 0
-IsWidest s = (s.log_limit ≡ LOG_LIMIT) × (s.xid_limit ≡ xid_bound)
+-- these are the limits of the settings; an xid stays below its bound, whatever they say
+abbrev pub HasLimitsOf : Settings → AtOpening → Type 0
+HasLimitsOf settings found =
+    (found.log_limit ≡ settings.log_limit) × (found.xid_limit ≡ min settings.xid_limit xid_bound)
 
 module _ {D : Type 0} (device : Disk D) where
   -- From c0 on a crash leaves the page file as it was read on entry; before c0 it leaves what it

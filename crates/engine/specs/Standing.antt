@@ -16,7 +16,7 @@ use Rattle.engine.specs.Finding.{insertion, Commit, History, IsNumbered}
 use Rattle.engine.specs.AtOpening.{AtOpening, insertion_size}
 use Rattle.engine.specs.Opening.{OpensTo, KeepsPages}
 use Rattle.engine.specs.Inner.Kept.{Kept, documents_from, SerialsRise}
-use Rattle.engine.specs.Inner.Inside.{next_serial_of, next_xid_of, end_ahead}
+use Rattle.engine.specs.Inner.Inside.{next_serial_of, next_xid_of, end_ahead, log_limit_of, xid_limit_of}
 use Rattle.engine.specs.Inner.DbValue.{DbValue}
 
 abbrev pub disk_of : {D : Type 0} → DbValue D → D
@@ -29,7 +29,8 @@ fault_of s = down_of s.journal.wal
 abbrev pub IsUp : {D : Type 0} → DbValue D → Type 0
 IsUp s = fault_of s ≡ None
 
--- The history that leaves these documents, and what the run has taken of the log and of the xids.
+-- The history that leaves these documents, what the run has taken of the log and of the xids, and
+-- the limits of both.
 -- Where the store is down, a commit in doubt may be in the history too.
 pub record StandsFor {D : Type 0} (found : AtOpening) (s : DbValue D) (commits : History) : Type 0 where
   pub kept : List Kept
@@ -42,6 +43,7 @@ pub record StandsFor {D : Type 0} (found : AtOpening) (s : DbValue D) (commits :
   pub end : IsUp s → end_ahead s + found.commits * (FRAME_BYTES + insertion_size)
       ≡ found.end + found.ahead + length commits * (FRAME_BYTES + insertion_size)
   pub xids : IsUp s → next_xid_of s + found.commits ≡ found.next_xid + length commits
+  pub limits : IsUp s → (log_limit_of s ≡ found.log_limit) × (xid_limit_of s ≡ found.xid_limit)
 
 module _ {D : Type 0} (device : Disk D) where
   -- The log of the store is a legal one with this history, and so is the part of it that counts; the

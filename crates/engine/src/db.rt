@@ -96,7 +96,8 @@ impl<D: Disk> Db<D> {
     {
         let state = self.journal.state();
         let (xid, serial, commits) = (state.next_xid(), state.next_serial(), state.commits());
-        if xid >= XID_BOUND {
+        let limit = state.xid_limit().min(XID_BOUND);
+        if xid >= limit {
             return Err(DbError::XidsSpent);
         }
         let mut bytes = Vec::new(self.alloc);

@@ -25,10 +25,10 @@ ghost use Rattle.engine.specs.Inner.Plain.{IsPlain};
 ghost use Rattle.engine.specs.Opening.{StartedFrom, OpensAsBefore, HasSamePages, IsNoStore, IsOnlyRead, IsUnmade};
 ghost use Rattle.engine.specs.AtOpening.{AtOpening};
 ghost use Rattle.engine.specs.Finding.{History};
-ghost use Rattle.engine.specs.Opened.{OpenedAt};
+ghost use Rattle.engine.specs.Opened.{OpenedAt, HasLimitsOf};
 ghost use Rattle.engine.specs.Standing.{StandsFor, IsUp};
-ghost use Rattle.engine.specs.Opened.{IsWidest};
 ghost use Rattle.engine.specs.declared.db.TheConstants.{PAGE_ROOM};
+ghost use Rattle.wal.specs.declared.sizes.TheConstants.{LOG_LIMIT};
 ghost use Rattle.buffer_frames.specs.declared.error.OpenFault.TheVariants.{NotAStore, DiskFault, OutOfMemory};
 
 use crate::db::{Db, HEAD, HEAP_PAGE, LONGEST};
@@ -197,10 +197,11 @@ impl<D: Disk> Db<D> {
     /// The store of a device, created if it is none yet. A refusal gives the device back; a store
     /// that is made, and files that are no store, were only read then.
     pub fn open(alloc: Global, store: D, settings: Settings) -> Result<Db<D>, Unopened<D>>
-        requires widest { IsWidest settings }
+        requires limit { settings.log_limit ≤ LOG_LIMIT }
         ensures opened { IfOk result
             (λ s. IsUp s × ((found : AtOpening) × (history : History) × (c0 : ℕ)
-            × OpenedAt D.Disk found history store c0 s × StandsFor found s history)) }
+            × HasLimitsOf settings found × OpenedAt D.Disk found history store c0 s
+            × StandsFor found s history)) }
         ensures store { D.tells → IfOk result (λ _. IsNoStore (D.seen store) → ⊥) }
 
         // The refusals.

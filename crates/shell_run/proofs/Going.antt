@@ -23,7 +23,7 @@ use Rattle.engine.specs.AtOpening.{IsFull}
 use Rattle.engine.specs.AtOpening.{AtOpening}
 use Rattle.shell_run.specs.Crash.{StartedFrom}
 use Rattle.shell_run.specs.Run.{Exchange, Note, Place, Counts, Refusal, Reply, stored, lists, shows_vector, shows_query, shows_tokens, refused, store_full, log_full, transactions_spent, down, device as device_fault, memory, no_statement, Run, IsAnswered, HasOwn, IsDownSince, FindsDown, HasFailed, HasCalled, IsOkOfStore, seen_by, AreTimed}
-use Rattle.shell_run.specs.RanOn.{counts_over}
+use Rattle.shell_run.specs.RanOn.{counts_over, IsLeftBy, AreLeftBy}
 use Rattle.engine.specs.Opened.{IsFixedSince}
 use Rattle.engine.specs.Standing.{disk_of, fault_of, IsUp, StandsFor, PutsCommit, Rests}
 use Rattle.shell_run.specs.Inner.Answering.{HasAnswered}
@@ -33,7 +33,7 @@ use Rattle.engine.specs.declared.error.DbError.TheVariants as errors
 use Rattle.engine.specs.Db.{DbValue}
 use Rattle.shell_run.proofs.Runs.{run_step, get_last}
 use Rattle.shell_run.proofs.Safety.{Safe, Grown, IsNext, safe_rests, safe_logs}
-use Rattle.shell_run.proofs.Timing.{timed_by, timed_push}
+use Rattle.shell_run.proofs.Timing.{timed_by, timed_push, left_push}
 use Rattle.engine.proofs.Held.{held_lawful, held_same}
 use Rattle.engine.proofs.Standing.{fixed_on, rests_disk, rests_fault}
 use Rattle.std.proofs.lemmas.List.{take_at}
@@ -102,6 +102,7 @@ module _ {D : Type 0} (device : Disk D) (found : AtOpening) (history : History) 
     pub counted : Counted (fault_of s) exchanges (device.fault_count first) (device.write_fault_count first) (device.fault_count (disk_of s)) (device.write_fault_count (disk_of s))
     pub fixed : device.tells → IsFixedSince device first c0 (disk_of s)
     pub timed : AreTimed (device.clock opened) (device.clock (disk_of s)) exchanges
+    pub left_by : AreLeftBy device exchanges opened (disk_of s)
     pub safe : device.tells → StartedFrom device first → Safe device first c0 s history commits exchanges
 
   -- The run with one statement more, which is what the documents hold now.
@@ -150,8 +151,19 @@ module _ {D : Type 0} (device : Disk D) (found : AtOpening) (history : History) 
       let clock : device.clock (disk_of new) ≡ device.clock (disk_of old) = ap device.clock (rests_disk device old new r) in
       let timed : AreTimed (device.clock opened) (device.clock (disk_of new)) (exchanges ++ exchange ∷ []) =
       timed_push (device.clock opened) (device.clock (disk_of old)) (device.clock (disk_of new)) exchanges exchange s.timed (omega (arith, clock)) (sym clock) last in
+      let left : IsLeftBy device exchange (disk_of old) (disk_of old) = record {
+        later = omega arith;
+        clock = refl;
+        count = refl;
+        faults = omega arith;
+        writes = omega arith;
+        uncalled = λ none. refl;
+      } in
+      let left_by : AreLeftBy device (exchanges ++ exchange ∷ []) opened (disk_of old) =
+      left_push device exchanges exchange opened (disk_of old) (disk_of old) s.left_by left in
       record {
         timed = timed;
+        left_by = subst (AreLeftBy device (exchanges ++ exchange ∷ []) opened) (sym (rests_disk device old new r)) left_by;
         run = subst (λ d. Run (counts_over device found first opened d) history (commits ++ []) (exchanges ++ exchange ∷ [])) (sym (rests_disk device old new r)) run;
         counted = subst (λ d. Counted (fault_of new) (exchanges ++ exchange ∷ []) (device.fault_count first) (device.write_fault_count first) (device.fault_count d) (device.write_fault_count d)) (sym (rests_disk device old new r)) counted;
         fixed = λ t. subst (λ d. IsFixedSince device first c0 d) (sym (rests_disk device old new r)) (s.fixed t);
@@ -232,8 +244,17 @@ module _ {D : Type 0} (device : Disk D) (found : AtOpening) (history : History) 
       let timed : AreTimed (device.clock opened) (device.clock (disk_of new)) (exchanges ++ exchange ∷ []) =
       timed_push (device.clock opened) (device.clock (disk_of old)) (device.clock (disk_of new)) exchanges exchange s.timed p.time n.clock last in
       let next : IsNext commits exchanges exchange = record { last = last; fresh = subst (λ o. IfSome o (λ p. length commits ≤ p)) (sym n.own) (let z : length commits ≤ length commits = omega arith in z) } in
+      let left : IsLeftBy device exchange (disk_of old) (disk_of new) = record {
+        later = p.time;
+        clock = n.clock;
+        count = n.count;
+        faults = n.faults;
+        writes = n.writes;
+        uncalled = λ none. absurd (none (n.called e));
+      } in
       record {
         timed = timed;
+        left_by = left_push device exchanges exchange opened (disk_of old) (disk_of new) s.left_by left;
         run = run;
         counted = counted;
         fixed = λ t. fixed_on device first (disk_of old) (disk_of new) c0 (s.fixed t) (p.keeps t);

@@ -17,7 +17,7 @@ use Rattle.shell_run.specs.declared.error.Stop.{Stop}
 use Rattle.shell_run.specs.Defining.{Becomes}
 use Rattle.engine.specs.Finding.{History}
 use Rattle.shell_run.specs.Run.{Exchange, Place}
-use Rattle.engine.specs.AtOpening.{AtOpening}
+use Rattle.engine.specs.AtOpening.{AtOpening, IsWidest}
 use Rattle.shell_run.specs.Crash.{StartedFrom, HasSamePages, Reaches, CrashSafe, Means}
 use Rattle.shell_run.specs.RanOn.{counts_over, RanOn}
 use Rattle.engine.specs.Opened.{IsFixedSince, IsLawfulSince, OpenedAt}
@@ -140,6 +140,7 @@ module _ {D : Type 0} (device : Disk D) (found : AtOpening) (history : History) 
       };
       fixed = o.fixed;
       timed = record { later = omega arith; within = All-nil _; order = All-nil _ };
+      left_by = refl;
       safe = λ t s.
           let e : IsLawfulSince device history first c0 run_state.store = o.lawful t s in
           record {
@@ -170,17 +171,19 @@ module _ {D : Type 0} (device : Disk D) (found : AtOpening) (history : History) 
   }
 
   -- the meaning of a run over a device, at its end
-  finish : ((d : D) → device.tells → device.image d (device.clock d) (device.seen d)) → (first : D) (opened : DbValue D) (c0 : ℕ) (s : DbValue D) (commits : History) (exchanges : List Exchange) → OpenedAt device found history first c0 opened
+  finish : ((d : D) → device.tells → device.image d (device.clock d) (device.seen d)) → (first : D) (opened : DbValue D) (c0 : ℕ) (s : DbValue D) (commits : History) (exchanges : List Exchange) → IsWidest found → OpenedAt device found history first c0 opened
       → StandsFor found s commits → State device found history first c0 (disk_of opened) s commits exchanges → RanOn device history first (disk_of s) commits exchanges × (device.tells → HasSamePages device first (disk_of s))
-  finish law first opened c0 s commits exchanges o held st = (
+  finish law first opened c0 s commits exchanges widest o held st = (
     record {
       opened = disk_of opened;
       found = found;
       found_commits = o.found_commits;
       found_in = o.found_in;
+      widest = widest;
       run = st.run;
       began = o.time;
       timed = st.timed;
+      left_by = st.left_by;
       placed = held_placed device found s commits held;
       numbered = λ t f. (st.safe t f).numbered;
       means = λ t f. by t f (fault_of s) refl;
@@ -227,8 +230,8 @@ module _ {D : Type 0} (device : Disk D) (found : AtOpening) (history : History) 
           }
 
   ran_by : ((d : D) → device.tells → device.image d (device.clock d) (device.seen d)) → (a c : Option (List ℕ)) (opened : DbValue D) (run_state : RunState D) (text : List ℕ) (left : List Step) (well : Bool) (h : Progress a c opened run_state text left well)
-      → (first : D) (c0 : ℕ) → OpenedAt device found history first c0 opened → RanOn device history first (disk_of run_state.store) h.commits h.exchanges × (device.tells → HasSamePages device first (disk_of run_state.store))
-  ran_by law a c opened run_state text left well h first c0 o = finish law first opened c0 run_state.store h.commits h.exchanges o h.held (h.state first c0 o)
+      → (first : D) (c0 : ℕ) → IsWidest found → OpenedAt device found history first c0 opened → RanOn device history first (disk_of run_state.store) h.commits h.exchanges × (device.tells → HasSamePages device first (disk_of run_state.store))
+  ran_by law a c opened run_state text left well h first c0 widest o = finish law first opened c0 run_state.store h.commits h.exchanges widest o h.held (h.state first c0 o)
 
   -- one step more was answered
   pub progress_step : (a b c : Option (List ℕ)) (opened : DbValue D) (old new : RunState D) (text : List ℕ) (s : Step) (left : List Step) (well : Bool) → Progress a b opened old text (s ∷ left) true → Served device s old new b c well → Progress a c opened new text left well

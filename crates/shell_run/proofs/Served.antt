@@ -7,7 +7,7 @@ use Rattle.disk_trait.specs.declared.device.Disk.{Ghosts as Disk}
 use Rattle.disk_trait.specs.declared.stream.Sink.{Ghosts as Sink}
 use Rattle.engine.specs.Opening.{IsNoStore}
 use Rattle.engine.specs.Finding.{History}
-use Rattle.engine.specs.AtOpening.{AtOpening}
+use Rattle.engine.specs.AtOpening.{AtOpening, IsWidest}
 use Rattle.shell_run.specs.Outcomes.{some_refused}
 use Rattle.shell_run.specs.Crash.{HasSamePages}
 use Rattle.shell_run.specs.RanOn.{RanOn}
@@ -85,6 +85,7 @@ module _ {K D : Type 0} (sink : Sink K) (device : Disk D) (text : List ℕ) (out
   -- the store that was opened, and what its steps left
   pub record Serves (found : AtOpening) (history : History) (c0 : ℕ) (s : DbValue D)
       (result : Result Bool Stop) : Type 0 where
+    pub widest : IsWidest found
     pub opened : OpenedAt device found history disk c0 s
     pub a_store : device.tells → IsNoStore (device.seen disk) → ⊥
     pub ran : HasRunSteps device found history text (sink.taken out)
@@ -107,7 +108,7 @@ module _ {K D : Type 0} (sink : Sink K) (device : Disk D) (text : List ℕ) (out
       subst (λ (z : Result Bool Stop). Ran text (sink.taken out) (sink.taken out') r.exchanges
       (is_ok z)) is r.ran in
       let over : RanOn device history disk disk' r.commits r.exchanges × (device.tells
-      → HasSamePages device disk disk') = r.over disk c0 h.opened in
+      → HasSamePages device disk disk') = r.over disk c0 h.widest h.opened in
       record {
         range = (omega (arith, n), λ x. omega (arith, n, x), λ x. omega (arith, n, x));
         causes = record {
@@ -156,7 +157,7 @@ module _ {K D : Type 0} (sink : Sink K) (device : Disk D) (text : List ℕ) (out
       subst (λ (z : Result Bool Stop). IfOk z (λ refused. refused ≡ some_refused r.exchanges)) is
       r.flag in
       let over : RanOn device history disk disk' r.commits r.exchanges × (device.tells
-      → HasSamePages device disk disk') = r.over disk c0 h.opened in
+      → HasSamePages device disk disk') = r.over disk c0 h.widest h.opened in
       record {
         range = (omega (arith, n), λ x. omega (arith, n, x), λ x. omega (arith, n, x));
         causes = record {

@@ -1,9 +1,11 @@
 -- The clocks of a run that grows by one statement.
-use Rattle.std.proofs.Common.{◌≡◌, ℕ, ◌<◌, ◌≤◌, List, [], ◌∷◌, ◌++◌, arith, get_or}
+use Rattle.std.proofs.Common.{◌≡◌, ℕ, ◌<◌, ◌≤◌, List, [], ◌∷◌, ◌++◌, arith, get_or, refl, subst}
 use Rattle.std.specs.Prelude.{Option, Some, None, IfSome}
 use Rattle.std.specs.List.{All}
 use Rattle.std.proofs.lemmas.List.Elements.{All-push, All-weaker}
+use Rattle.disk_trait.specs.declared.device.Disk.{Ghosts as Disk}
 use Rattle.shell_run.specs.Crash.{AreAnsweredBy}
+use Rattle.shell_run.specs.RanOn.{IsLeftBy, AreLeftBy}
 use Rattle.shell_run.specs.Run.{Exchange, Before, AreTimed}
 use Rattle.shell_run.proofs.Runs.{not_before, not_self}
 
@@ -72,3 +74,11 @@ answered_push m reached exchanges exchange h before own =
     old b f lower = if_map b.note.commit (λ p. p < reached → All (IsAnsweredBefore m b) exchanges)
         (λ p. p < reached → All (IsAnsweredBefore m b) (exchanges ++ exchange ∷ []))
         (λ p g lt. All-push (IsAnsweredBefore m b) exchanges exchange (g lt) (λ x. absurd (not_before exchange b lower x))) f
+
+-- one statement more, and the device as it leaves it
+pub left_push : {D : Type 0} (device : Disk D) (exchanges : List Exchange) (exchange : Exchange) (opened disk disk' : D)
+    → AreLeftBy device exchanges opened disk → IsLeftBy device exchange disk disk'
+    → AreLeftBy device (exchanges ++ exchange ∷ []) opened disk'
+left_push device [] exchange opened disk disk' h l = (disk', subst (λ d. IsLeftBy device exchange d disk') h l, refl)
+left_push device (r ∷ exchanges) exchange opened disk disk' h l =
+    (h.0, h.1, left_push device exchanges exchange h.0 disk disk' h.2 l)

@@ -20,7 +20,7 @@ use Rattle.shell_run.specs.Run.{Exchange, Note, Counts, Run, Before, IsAnswered,
 use Rattle.engine.specs.Finding.{History}
 use Rattle.shell_run.specs.Script.{printed_exchange, printed_exchanges}
 use Rattle.shell_run.specs.declared.sending.TheConstants.{PIECE_BYTES}
-use Rattle.shell_run.specs.Traces.{NoNameIsTakenTwice, NoneIsStoredAfterFailure, NoneIsCommittedAfterFailure, NoClockFalls, NoCommitIsEarly, NoCommitIsLate, EachFailureIsNoted, OneCountIsTold, NothingIsPrintedWith4, NoneRunsAfterTheSinkFailed, NoHalfScriptIsRun, NoLogIsWiped, NoStrayFileIsWritten, NoStoreIsWrittenUnrun, NoPageIsWritten}
+use Rattle.shell_run.specs.Traces.{NoNameIsTakenTwice, NoneIsStoredAfterFailure, NoneIsCommittedAfterFailure, NoClockFalls, NoCommitIsEarly, NoCommitIsLate, NoFlushIsLate, EachFailureIsNoted, OneCountIsTold, NothingIsPrintedWith4, NoneRunsAfterTheSinkFailed, NoHalfScriptIsRun, NoLogIsWiped, NoStrayFileIsWritten, NoStoreIsWrittenUnrun, NoPageIsWritten}
 
 -- a write failed in an insertion that is answered so
 has_failed : (counts : Counts) (first commits : History) (a b : Exchange) (e : Expr)
@@ -50,6 +50,13 @@ none_committed_after_failure counts first commits a b e n p statement reply repl
 pub no_clock_falls : {D : Type 0} (disk : Disk D) → NoClockFalls disk
 no_clock_falls disk history commits first new a b before fell ran =
     omega (arith, fell, ran.timed.order 0 a (omega arith) 1 b (omega arith) before)
+
+pub no_flush_is_late : {D : Type 0} (disk : Disk D) → NoFlushIsLate disk
+no_flush_is_late disk history commits first new a b n reply none late ran =
+    let left_a = ran.left_by.1 in
+    let left_b = ran.left_by.2.1 in
+    let still : new ≡ ran.left_by.0 = ran.left_by.2.2 ∙ left_b.uncalled none in
+    omega (arith, late, left_a.clock, ap disk.clock still)
 
 pub no_commit_is_early : NoCommitIsEarly
 no_commit_is_early files m p first commits a b before early own r below =

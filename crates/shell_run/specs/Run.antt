@@ -191,8 +191,8 @@ pub record IsSeenBy (a b : Exchange) : Type 0 where
   pub no_commit : 0 < a.note.writes → b.note.commit ≡ None
   pub count : a.note.count + b.note.faults ≤ b.note.count
 
--- The clocks of the exchanges, on a device that says its contents: they are not before the end of the
--- opening nor after the end of the run, and never fall from a statement to one after it.
+-- The clocks of the exchanges: they are not before the end of the opening nor after the end of the run,
+-- and never fall from a statement to one after it.
 pub record AreTimed (opened last : ℕ) (exchanges : List Exchange) : Type 0 where
   pub later : opened ≤ last
   pub within : All (λ (r : Exchange). (opened ≤ r.note.clock) × (r.note.clock ≤ last)) exchanges

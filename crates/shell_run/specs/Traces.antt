@@ -11,7 +11,7 @@ use Rattle.shell_script.specs.Steps.{Step}
 use Rattle.shell_script.specs.Grammar.{Expr, insert, define}
 use Rattle.engine.specs.Finding.{Name}
 use Rattle.engine.specs.Finding.{History}
-use Rattle.shell_run.specs.Run.{Exchange, Counts, Before, Run, stored, done, refused, down, device}
+use Rattle.shell_run.specs.Run.{Exchange, Counts, Before, Run, HasCalled, stored, done, refused, down, device}
 use Rattle.shell_run.specs.Script.{AreExchanges, printed_exchange}
 use Rattle.shell_run.specs.declared.sending.TheConstants.{PIECE_BYTES}
 use Rattle.shell_run.specs.Outcomes.{Answered}
@@ -40,6 +40,14 @@ abbrev pub NoClockFalls : {D : Type 0} → Disk D → Type 0
 NoClockFalls {D} disk =
     (history commits : History) (first new : D) (a b : Exchange) → Before a b
     → b.note.clock < a.note.clock → RanOn disk history first new commits (a ∷ b ∷ []) → ⊥
+
+-- an insertion that is stored, and calls of the device after its clock, though the statement after it
+-- makes none
+abbrev pub NoFlushIsLate : {D : Type 0} → Disk D → Type 0
+NoFlushIsLate {D} disk =
+    (history commits : History) (first new : D) (a b : Exchange) (n : Name) → a.reply ≡ stored n
+    → (HasCalled b.statement b.reply → ⊥) → a.note.clock < disk.clock new
+    → RanOn disk history first new commits (a ∷ b ∷ []) → ⊥
 
 -- a stop at a moment before an answer that leaves the commit of a statement after it
 abbrev pub NoCommitIsEarly : Type 0

@@ -2,7 +2,7 @@
 use Rattle.std.specs.Prelude.{◌≡◌, ℕ, ◌*◌, ◌<◌, ◌≤◌, List, length, sum_by, Option, None}
 use Rattle.std.specs.List.{flat_map, AllByRecursion}
 use Rattle.disk_trait.specs.declared.device.Disk.{Ghosts as Disk}
-use Rattle.wal.specs.Waiting.{waiting, limit_of, down_of}
+use Rattle.wal.specs.Waiting.{waiting, down_of}
 use Rattle.page_types.specs.Pages.{IsSlot}
 use Rattle.page_types.specs.Encoding.{slot_bytes}
 use Rattle.page_types.specs.declared.page.Head.{Head}
@@ -11,7 +11,6 @@ use Rattle.buffer_frames.specs.Journals.{JournalValue, Stands}
 use Rattle.engine.specs.Inner.Kept.{Kept, AreEncoded, room_of}
 use Rattle.engine.specs.Inner.Heaps.{HeapIsKnown}
 use Rattle.engine.specs.declared.db.TheConstants.{HEAD, PAGE_ROOM}
-use Rattle.wal.specs.declared.sizes.TheConstants.{LOG_LIMIT}
 
 -- the documents in memory, the slots of their heap page, and the journal
 pub record DbValue (D : Type 0) : Type 0 where
@@ -30,7 +29,6 @@ pub record IsDbValue {D : Type 0} (device : Disk D) (s : DbValue D) (used : ℕ)
   pub each : AllByRecursion IsSlot s.heap
   pub encoded : AreEncoded s.heap
   pub idle : down_of s.journal.wal ≡ None → length (waiting s.journal.wal) ≤ 20000
-  pub limit : limit_of s.journal.wal ≡ LOG_LIMIT
   pub made : 0 < s.journal.state.records
   pub log : Log
   pub stands : Stands device s.journal log

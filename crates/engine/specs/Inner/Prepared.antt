@@ -4,11 +4,10 @@ use Rattle.disk_trait.specs.declared.device.Disk.{Ghosts as Disk}
 use Rattle.ts_base.specs.Vectors.{Vector, IsNormal}
 use Rattle.ts_base.specs.Encoding.{vector_bytes}
 use Rattle.page_types.specs.Pages.{IsPage}
-use Rattle.core_state.specs.Log.{xid_bound}
 use Rattle.buffer_frames.specs.Journals.{next_number}
 use Rattle.engine.specs.Inner.Heaps.{new_head, heap_with, records_of}
 use Rattle.engine.specs.Inner.DbValue.{DbValue}
-use Rattle.engine.specs.Inner.Inside.{next_serial_of, next_xid_of}
+use Rattle.engine.specs.Inner.Inside.{next_serial_of, next_xid_of, xid_limit_of}
 use Rattle.engine.specs.Inner.Puts.{IsSpent, IsTooLarge}
 use Rattle.engine.specs.declared.error.DbError.{DbError}
 use Rattle.engine.specs.declared.error.DbError.TheVariants.{StoreFull, XidsSpent, OutOfMemory}
@@ -19,7 +18,7 @@ pub record IsPreparedFor {D : Type 0} (s : DbValue D) (v : Vector) (d : Prepared
   pub number : d.insertion.number ≡ next_number s.journal
   pub bound : d.insertion.number ≤ 2 ^ 63
   pub xid : d.insertion.xid ≡ next_xid_of s
-  pub some_xid : next_xid_of s < xid_bound
+  pub some_xid : next_xid_of s < xid_limit_of s
   pub slot : d.insertion.slot ≡ length s.heap
   pub serial : d.insertion.serial ≡ next_serial_of s
   pub small_serial : d.insertion.serial < 2 ^ 64

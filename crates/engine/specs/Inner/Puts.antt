@@ -3,15 +3,14 @@ use Rattle.std.specs.Prelude.{◌≡◌, ◌⊎◌, suc, ◌+◌, ◌<◌, ◌�
 use Rattle.std.specs.Prelude.{Some, Result, Ok, Err}
 use Rattle.disk_trait.specs.Device.{Rose}
 use Rattle.disk_trait.specs.declared.device.Disk.{Ghosts as Disk}
-use Rattle.wal.specs.declared.sizes.TheConstants.{FRAME_BYTES, LOG_LIMIT}
+use Rattle.wal.specs.declared.sizes.TheConstants.{FRAME_BYTES}
 use Rattle.ts_base.specs.Vectors.{Vector}
 use Rattle.ts_base.specs.Encoding.{vector_bytes}
-use Rattle.core_state.specs.Log.{xid_bound}
 use Rattle.engine.specs.Finding.{heap_page, insertion, Document, Name}
 use Rattle.engine.specs.AtOpening.{room, insertion_size}
 use Rattle.engine.specs.Standing.{disk_of, fault_of, IsUp, Rests, PutsCommit}
 use Rattle.engine.specs.Inner.Kept.{room_of}
-use Rattle.engine.specs.Inner.Inside.{next_serial_of, next_xid_of, end_ahead}
+use Rattle.engine.specs.Inner.Inside.{next_serial_of, next_xid_of, end_ahead, log_limit_of, xid_limit_of}
 use Rattle.engine.specs.Inner.DbValue.{DbValue}
 use Rattle.engine.specs.declared.error.DbError.{DbError}
 use Rattle.engine.specs.declared.error.DbError.TheVariants.{StoreFull, LogFull, XidsSpent, Down, DiskFault, OutOfMemory}
@@ -25,7 +24,7 @@ IsTooLarge s v =
 
 -- no xid is left
 abbrev pub IsSpent : {D : Type 0} → DbValue D → Type 0
-IsSpent s = xid_bound ≤ next_xid_of s
+IsSpent s = xid_limit_of s ≤ next_xid_of s
 
 -- the document of this vector that an insertion adds
 abbrev pub next_document : {D : Type 0} → DbValue D → Vector → Document
@@ -47,11 +46,12 @@ module _ {D : Type 0} (device : Disk D) where
     pub fits : IsTooLarge old v → ⊥
     pub up : IsUp old
     pub still_up : IsUp new
-    pub some_xid : next_xid_of old < xid_bound
-    pub log_fits : end_ahead old + FRAME_BYTES + insertion_size + 1 ≤ LOG_LIMIT
+    pub some_xid : next_xid_of old < xid_limit_of old
+    pub log_fits : end_ahead old + FRAME_BYTES + insertion_size + 1 ≤ log_limit_of old
     pub end : end_ahead new ≡ end_ahead old + FRAME_BYTES + insertion_size
     pub next_serial : next_serial_of old < next_serial_of new
     pub next_xid : next_xid_of new ≡ suc (next_xid_of old)
+    pub limits : (log_limit_of new ≡ log_limit_of old) × (xid_limit_of new ≡ xid_limit_of old)
     pub puts : PutsCommit device (insertion (next_document old v)) old new
     pub later : device.fault_count (disk_of old) ≤ device.fault_count (disk_of new)
     pub no_failure : device.write_fault_count (disk_of new) ≡ device.write_fault_count (disk_of old)
@@ -75,7 +75,7 @@ module _ {D : Type 0} (device : Disk D) where
       Rests device old new × IsUp old × (IsSpent old → ⊥) × IsTooLarge old v
   HasPut old new v (Err LogFull) =
       Rests device old new × IsUp old × (IsSpent old → ⊥) × (IsTooLarge old v → ⊥)
-      × (LOG_LIMIT < end_ahead old + FRAME_BYTES + insertion_size + 1)
+      × (log_limit_of old < end_ahead old + FRAME_BYTES + insertion_size + 1)
   HasPut old new v (Err (Down count)) = Rests device old new × (fault_of old ≡ Some count)
   HasPut old new v (Err DiskFault) = IsPutInDoubt old new v
   HasPut old new v (Err OutOfMemory) = Rests device old new × IsUp old

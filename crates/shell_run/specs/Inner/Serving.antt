@@ -12,7 +12,7 @@ use Rattle.shell_run.specs.Inner.Answering.{HasAnswered}
 use Rattle.shell_run.specs.Defining.{Becomes}
 use Rattle.shell_run.specs.Outcomes.{HasPrinted, is_refusal, some_refused}
 use Rattle.engine.specs.Finding.{History}
-use Rattle.engine.specs.AtOpening.{AtOpening}
+use Rattle.engine.specs.AtOpening.{AtOpening, IsWidest}
 use Rattle.shell_run.specs.Crash.{HasSamePages}
 use Rattle.engine.specs.Db.{DbValue}
 use Rattle.shell_run.specs.Run.{Exchange}
@@ -64,7 +64,8 @@ pub record HasRunSteps {D E : Type 0} (device : Disk D) (found : AtOpening) (his
   pub commits : History
   pub ran : Ran text before after exchanges (is_ok result)
   pub flag : IfOk result (λ refused. refused ≡ some_refused exchanges)
-  pub over : (first : D) (c0 : ℕ) → OpenedAt device found history first c0 opened
+  pub over : (first : D) (c0 : ℕ) → IsWidest found
+      → OpenedAt device found history first c0 opened
       → RanOn device history first disk commits exchanges
       × (device.tells → HasSamePages device first disk)
 

@@ -43,10 +43,11 @@ returns-in-Err-ran g c =
     let o = c.in-Ok-open.ensures.opened.1 in
     serve_stopped g.K.Sink g.D.Disk _ _ _ c.args.device _ o.0 o.1 o.2 _ _ c.in-Err-ran.stop _
     (record {
-      opened = o.3;
+      widest = o.3;
+      opened = o.4;
       a_store = c.in-Ok-open.ensures.store;
       ran =
-          c.run_steps-device.ensures.ran o.0 o.1 o.4;
+          c.run_steps-device.ensures.ran o.0 o.1 o.5;
     })
     c.in-Err-ran.is c.run_steps-device.ensures.error c.run_steps-device.ensures.fault
     c.status-in-Err-ran.ensures
@@ -56,10 +57,11 @@ returns g c =
     let o = c.in-Ok-open.ensures.opened.1 in
     serve_ended g.K.Sink g.D.Disk _ _ _ c.args.device _ o.0 o.1 o.2 _ _ c.in-Ok-ran.refused _
     (record {
-      opened = o.3;
+      widest = o.3;
+      opened = o.4;
       a_store = c.in-Ok-open.ensures.store;
       ran =
-          c.run_steps-device.ensures.ran o.0 o.1 o.4;
+          c.run_steps-device.ensures.ran o.0 o.1 o.5;
     })
     c.in-Ok-ran.is c.faults-before.result c.faults.result c.faults-before.ensures c.faults.ensures
     c.ending_status.ensures

@@ -7,7 +7,7 @@ use Rattle.engine.specs.Opening.{OpensAsBefore, HasSamePages}
 use Rattle.engine.specs.Inner.Kept.{kept_in}
 use Rattle.engine.proofs.OpenedStore.{read_by, value}
 use Rattle.engine.proofs.OpenedDevice.{no_store_at, given_back, same_back, found_of, history_of}
-use Rattle.engine.proofs.OpenedDevice.{opened_at, stands_for}
+use Rattle.engine.proofs.OpenedDevice.{opened_at, stands_for, limits}
 use Rattle.engine.proofs.db.Db.open.Goals as goal
 
 pub returns-in-Err-clause-no_store : goal.returns-in-Err-clause-no_store
@@ -20,7 +20,7 @@ pub invariant_of-result : goal.invariant_of-result
 invariant_of-result g c =
     let documents = c.in-Ok-read_documents.ensures in
     let one = c.counted_are_one.ensures in
-    let w = read_by one c.in-Ok.ensures.opened.1 c.requires.widest.0 c.state.ensures documents.read documents.known in
+    let w = read_by one c.in-Ok.ensures.opened.1 c.state.ensures documents.read documents.known in
     value g.D.Disk _ _ _ _ _ _ _ _ w
 
 pub returns-in-Ok-read_documents-clause-opened : goal.returns-in-Ok-read_documents-clause-opened
@@ -29,12 +29,13 @@ returns-in-Ok-read_documents-clause-opened g c =
     let kept = kept_in c.in-Ok-read_documents.documents.heap in
     let documents = c.in-Ok-read_documents.ensures in
     let one = c.counted_are_one.ensures in
-    let w = read_by one o.1 c.requires.widest.0 c.state.ensures documents.read documents.known in (
+    let w = read_by one o.1 c.state.ensures documents.read documents.known in (
       o.1.up,
       (
         found_of c.in-Ok.opened.0 w.opened.counted kept,
         history_of kept,
         o.0,
+        limits g.D.Disk _ _ _ _ _ _ _ _ w,
         opened_at g.D.Disk _ _ _ _ _ _ _ _ w,
         stands_for g.D.Disk _ _ _ _ _ _ _ _ w,
       ),

@@ -1,6 +1,7 @@
 use Rattle.std.proofs.Common.{◌≡◌, ◌≤◌, ◌<◌, ◌+◌, ◌++◌, ◌∷◌, [], ℕ, Bool, suc, length, length-append, arith, refl, sym, ◌∙◌, ap, subst}
-use Rattle.std.specs.Prelude.{cond, None, Err}
+use Rattle.std.specs.Prelude.{min, cond, None, Err}
 use Rattle.ts_base.proofs.Encoding.{encoding_has_size}
+use Rattle.core_state.specs.Log.{xid_bound}
 use Rattle.buffer_frames.specs.Opens.{insertion}
 use Rattle.buffer_frames.specs.Journals.{logged_bytes}
 use Rattle.engine.specs.Inner.DbValue.{DbValue}
@@ -70,7 +71,7 @@ returns-in-Err g c =
       up = up;
       left = λ x. omega (arith, x, f.some_xid);
       fits = f.fits;
-      full = λ e. omega (arith, size, length_idle s.journal (logged_bytes s.journal d.records) few, c.self.invariant.limit, full_is c.log.result _ _ (c.in-Err.is ∙ ap (λ z. Err z) e) c.log.ensures.full);
+      full = λ e. omega (arith, size, length_idle s.journal (logged_bytes s.journal d.records) few, full_is c.log.result _ _ (c.in-Err.is ∙ ap (λ z. Err z) e) c.log.ensures.full);
       no_fault = λ e. (c.log.ensures.idle less).2 (c.in-Err.is ∙ ap (λ z. Err z) e);
       not_down = λ n e. none_some n (sym up ∙ (c.log.ensures.is_down n).0 (c.in-Err.is ∙ ap (λ z. Err z) e));
     }))
@@ -98,7 +99,6 @@ invariant_of-self-in-Err-flush g c =
       pages = c.flush.ensures.pages;
       time = c.flush.ensures.cause.time;
       state = c.flush.ensures.same.0;
-      limit = c.flush.ensures.same.2 ∙ c.log.ensures.same;
       done = λ still. absurd (none_some _ (sym still ∙ down));
     })
     s.documents refl (λ still. none_some _ (sym still ∙ down))
@@ -131,7 +131,6 @@ returns-in-Err-flush g c =
         pages = c.flush.ensures.pages;
         time = c.flush.ensures.cause.time;
         state = c.flush.ensures.same.0;
-        limit = c.flush.ensures.same.2 ∙ c.log.ensures.same;
         done = λ still. absurd (none_some _ (sym still ∙ down));
       });
       later = (subst (λ z. g.D.Disk.fault_count z ≤ g.D.Disk.fault_count c.flush.new.self.disk) has.disk c.flush.ensures.cause.later.0, subst (λ z. g.D.Disk.write_fault_count z ≤ g.D.Disk.write_fault_count c.flush.new.self.disk) has.disk c.flush.ensures.cause.later.1);
@@ -163,7 +162,6 @@ invariant_of-self-2 g c =
       pages = c.flush.ensures.pages;
       time = c.flush.ensures.cause.time;
       state = c.flush.ensures.same.0;
-      limit = c.flush.ensures.same.2 ∙ c.log.ensures.same;
       done = λ still. done.0;
     })
     (kept_in d.heap) (draft_kept s c.args.vector.now d refl prepared) done.0
@@ -195,10 +193,14 @@ returns g c =
       up = up;
       still_up = still_at_ok c.flush.result _ _ _ _ c.in_default-flush.is c.flush.ensures.goes_down ∙ has.down ∙ up;
       some_xid = prepared.some_xid;
-      log_fits = omega (arith, size, length_idle s.journal (logged_bytes s.journal d.records) few, c.self.invariant.limit, full_left c.log.result _ _ _ c.in_default-log.is c.log.ensures.full);
+      log_fits = omega (arith, size, length_idle s.journal (logged_bytes s.journal d.records) few, full_left c.log.result _ _ _ c.in_default-log.is c.log.ensures.full);
       end = omega (arith, ap length done.0, done.1, end_some (end_of c.log.new.self.wal) (waiting c.log.new.self.wal) (omega (arith, waits, size)), waits, size, has.end, ap owed (c.flush.ensures.same.1 ∙ has.owes));
       next_serial = omega (arith, ap (λ z. z.next_serial) state, drawn.0, prepared.serial);
       next_xid = omega (arith, ap (λ z. suc (length z.fates)) state, drawn.1, prepared.xid);
+      limits = (
+        c.flush.ensures.same.2 ∙ c.log.ensures.same,
+        ap (λ z. min z.xid_limit xid_bound) state ∙ ap (λ n. min n xid_bound) drawn.2,
+      );
       puts = puts g.D.Disk s new c.log.new.self c.args.vector.now c.self.inside.used d (record {
         value = c.self.invariant;
         prepared = prepared;
@@ -211,7 +213,6 @@ returns g c =
         pages = c.flush.ensures.pages;
         time = c.flush.ensures.cause.time;
         state = c.flush.ensures.same.0;
-        limit = c.flush.ensures.same.2 ∙ c.log.ensures.same;
         done = λ still. done.0;
       });
       later = subst (λ z. g.D.Disk.fault_count z ≤ g.D.Disk.fault_count c.flush.new.self.disk) has.disk c.flush.ensures.cause.later.0;
