@@ -9,8 +9,6 @@ mod memory;
 mod opened;
 mod streams;
 mod system;
-#[cfg(test)]
-mod tests;
 
 pub use disk::FileDisk;
 pub use host::HostFolder;
