@@ -46,7 +46,7 @@ module _ {F J : Type 0} (frame : Framed F) (journal : Journaled J) (start : J) w
   taken_by h i id = with_holders h (put h.holder i (suc id)) h.owner
 
   -- what a view knows does not depend on what it found
-  found_knows : (h : Shape J) (id x : ℕ) (notes : Bool) (v : PassState J) → Knows journal start h id v → Knows journal start h id (found_by notes x v)
+  pub found_knows : (h : Shape J) (id x : ℕ) (notes : Bool) (v : PassState J) → Knows journal start h id v → Knows journal start h id (found_by notes x v)
   found_knows h id x notes v w = record {
     start_is = w.start_is;
     fresh = λ e. let f = w.fresh e in record { room = f.room; journal_is = f.journal_is };
@@ -67,13 +67,13 @@ module _ {F J : Type 0} (frame : Framed F) (journal : Journaled J) (start : J) w
     met = w.met;
   }
 
-  found_notes : (h : Shape J) (x : ℕ) (notes : Bool) (v : PassState J) (i : ℕ) → IsNoted h v i → IsNoted h (found_by notes x v) i
+  pub found_notes : (h : Shape J) (x : ℕ) (notes : Bool) (v : PassState J) (i : ℕ) → IsNoted h v i → IsNoted h (found_by notes x v) i
   found_notes h x notes v i (IsNoted.as_frame f in_) = IsNoted.as_frame f in_
   found_notes h x notes v i (IsNoted.as_journal b e) = IsNoted.as_journal b e
   found_notes h x notes v i (IsNoted.as_work at e) = IsNoted.as_work at e
 
   -- a word that was found taken stays as it was
-  found_taken : (s : St) (k : Rule s) (i id x : ℕ) (notes : Bool) (v : PassState J) → get_elem? s.views id ≡ some v
+  pub found_taken : (s : St) (k : Rule s) (i id x : ℕ) (notes : Bool) (v : PassState J) → get_elem? s.views id ≡ some v
       → Rule record { words = set s.words i (get_or s.words i 0); homes = s.homes; views = set s.views id (found_by notes x v) }
   found_taken s k i id x notes v at =
       let h = k.shape in

@@ -25,3 +25,12 @@ total_two f (x ∷ vs) zero zero v w ne a b = absurd (ne refl)
 total_two f (x ∷ vs) zero (suc j) v w ne a b = let e : f x ≡ f v = ap f (cc a) in let r = total_one f vs j w b in omega arith
 total_two f (x ∷ vs) (suc i) zero v w ne a b = let e : f x ≡ f w = ap f (cc b) in let r = total_one f vs i v a in omega arith
 total_two f (x ∷ vs) (suc i) (suc j) v w ne a b = let r = total_two f vs i j v w (λ e. ne (ap suc e)) a b in omega arith
+
+-- where one comes
+pub total_more : {V : Type 0} (f : V → ℕ) (vs : List V) (w : V) → total f (vs ++ w ∷ []) ≡ total f vs + f w
+total_more f [] w = omega arith
+total_more f (x ∷ vs) w = let r = total_more f vs w in omega arith
+
+pub times_more : (k : ℕ) (xs ys : List ℕ) → times k (xs ++ ys) ≡ times k xs + times k ys
+times_more k [] ys = omega arith
+times_more k (x ∷ xs) ys = let r = times_more k xs ys in omega arith

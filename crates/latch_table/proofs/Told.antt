@@ -35,7 +35,7 @@ module _ {J : Type 0} (journal : Journaled J) (start : J) where
   held_if h true p c ss t u = (t refl, u)
   held_if h false p c ss t u = u
 
-  are_held : (h : Shape J) (j : ℕ) (fs : List Note) → journal.lawful start → HasFrames journal start h j fs
+  pub are_held : (h : Shape J) (j : ℕ) (fs : List Note) → journal.lawful start → HasFrames journal start h j fs
       → AreHeld h.pages (sheets fs)
   are_held h j [] l t = tt
   are_held h j (f ∷ fs) l t = held_if h (nat_lt f.page page_limit) f.page f.content (sheets fs)

@@ -6,3 +6,4 @@ pub mod Passes
 pub mod Rule
 pub mod Laying
 pub mod Told
+pub mod Giving

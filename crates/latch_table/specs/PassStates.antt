@@ -1,5 +1,5 @@
 -- What a pass knows, in the core's words, and what each kind of step makes of it.
-use Rattle.std.specs.Prelude.{◌≡◌, ◌==◌, ◌-◌, Bool, true, false, nat_lt, cond, ℕ, zero, suc, List, [], ◌∷◌, ◌++◌, length, Option, Some, None}
+use Rattle.std.specs.Prelude.{◌≡◌, ◌==◌, ◌+◌, ◌-◌, Bool, true, false, nat_lt, cond, ℕ, zero, suc, List, [], ◌∷◌, ◌++◌, length, Option, Some, None}
 use Rattle.std.specs.declared.snapshot.Snapshot.{Snapshot}
 use Rattle.page_types.specs.Numbers.{page_limit}
 use Rattle.page_types.specs.declared.page.Page.{Page}
@@ -62,6 +62,13 @@ abbrev pub finds_if : Bool → ℕ → List ℕ → List ℕ
 finds_if true x xs = x ∷ xs
 finds_if false x xs = xs
 
+-- the longer of two logs, the first where they are as long as each other
+abbrev pub longer : Log → Log → Log
+longer xs ys = cond (nat_lt (length xs) (length ys)) ys xs
+
+abbrev pub greater : ℕ → ℕ → ℕ
+greater a b = cond (nat_lt a b) b a
+
 module _ {J : Type 0} where
   -- what the core sees of a pass
   abbrev pub view_of : PassState J → View
@@ -123,6 +130,99 @@ module _ {J : Type 0} where
         v.readings;
   }
 
+  -- a second pass, which has seen the same, with a room of 1
+  abbrev pub split_off : PassState J → PassState J
+  split_off v = record {
+    start = v.start;
+    fresh = false;
+    seen = v.seen;
+    shown = v.shown;
+    counted = v.counted;
+    shows = [];
+    floor = v.floor;
+    since = v.since;
+    faults = 0;
+    write_faults = 0;
+    count = v.count;
+    snapshot = v.snapshot;
+    pin = None;
+    from = 0;
+    readings = [];
+    frames = [];
+    journal = None;
+    own = [];
+    xids = [];
+    begun = [];
+    work = None;
+    redo = None;
+    walk = None;
+    room = 1;
+    finds = [];
+    met = [];
+  }
+
+  -- the pass that was split
+  abbrev pub with_less_room : PassState J → PassState J
+  with_less_room v = record v { room = v.room - 1 }
+
+  -- a pass that has taken in another, which holds nothing and has no pin
+  abbrev pub joined : PassState J → PassState J → PassState J
+  joined v w = record v {
+    seen = longer v.seen w.seen;
+    shown = greater v.shown w.shown;
+    counted = greater v.counted w.counted;
+    shows = v.shows ++ w.shows;
+    floor = greater v.floor w.floor;
+    since = greater v.since w.since;
+    faults = v.faults + w.faults;
+    write_faults = v.write_faults + w.write_faults;
+    count = greater v.count w.count;
+    own = v.own ++ w.own;
+    xids = v.xids ++ w.xids;
+    begun = v.begun ++ w.begun;
+    room = v.room + w.room;
+    met = v.seen ∷ w.seen ∷ v.met;
+  }
+
+  -- a pass that was joined to another
+  abbrev pub spent : PassState J
+  spent = record {
+    start = None;
+    fresh = false;
+    seen = [];
+    shown = 0;
+    counted = 0;
+    shows = [];
+    floor = 0;
+    since = 0;
+    faults = 0;
+    write_faults = 0;
+    count = 0;
+    snapshot = 0;
+    pin = None;
+    from = 0;
+    readings = [];
+    frames = [];
+    journal = None;
+    own = [];
+    xids = [];
+    begun = [];
+    work = None;
+    redo = None;
+    walk = None;
+    room = 0;
+    finds = [];
+    met = [];
+  }
+
+  -- a pass with the right of maintenance, which it got when the log had this length
+  abbrev pub with_work : ℕ → PassState J → PassState J
+  with_work at v = record v { work = Some at }
+
+  -- a pass that gave the right back
+  abbrev pub without_work : PassState J → PassState J
+  without_work v = record v { work = None }
+
   -- a pass that gave a frame back
   abbrev pub without_frame : ℕ → PassState J → PassState J
   without_frame k v = record v { frames = without k v.frames }
@@ -141,6 +241,17 @@ module _ {J : Type 0} (journal : Journaled J) where
     since = length R;
     count = journal.faults b;
     xids = running R;
+  }
+
+  -- a pass that has claimed the journal, and so has seen the log that it stands for, at a clock
+  -- value by which what is flushed is reached
+  abbrev pub with_journal : J → Log → ℕ → PassState J → PassState J
+  with_journal b R clock v = record v {
+    seen = R;
+    shown = journal.flushed b;
+    counted = journal.counted b;
+    shows = record { clock = clock; commits = journal.flushed b } ∷ v.shows;
+    journal = Some b;
   }
 
   -- the store was lawful at the opening

@@ -1,16 +1,20 @@
 //! Latches on frames, on the journal and on the right of maintenance, as the words of one table, whose rule ties what each session knows to the log.
 #![tactic(auto)]
 
+mod changes;
 mod claims;
 mod held;
 mod laws;
+mod laying;
 mod pass;
 mod plays;
 mod rule;
 mod slots;
 mod states;
 mod table;
+mod works;
 
+pub use changes::{Changes, Looked};
 pub use held::Held;
 pub use laws::empty_stores_lie;
 pub use pass::Pass;

@@ -1,10 +1,14 @@
 // What each kind of step says.
 ghost use Rattle.std.specs.Prelude.{true, false};
-ghost use Rattle.latch_table.specs.Told.{claimed, gave_back, opened};
+ghost use Rattle.latch_table.specs.PassStates.{with_less_room, split_off, joined, spent};
+ghost use Rattle.latch_table.specs.Told.{claimed, claimed_journal, claimed_work, gave_back, gave_work, looked, opened};
+ghost use Rattle.latch_table.specs.Giving.{gave_journal};
 
+use crate::changes::Changes;
 use crate::slots::{Framed, Journaled, Slot};
 use crate::states::PassState;
-use atomic_table::Play;
+use atomic_table::{Join, Play, Split};
+use std::marker::PhantomData;
 
 /// A claim of a frame.
 pub(crate) struct Claim;
@@ -20,11 +24,73 @@ impl<F: Framed, J: Journaled> Play<Slot<F, J>, PassState<J>> for TryClaim {
     ghost then = { claimed F.Framed J.Journaled true };
 }
 
+/// A claim of the journal.
+pub(crate) struct ClaimJournal;
+
+impl<F, J: Journaled> Play<Slot<F, J>, PassState<J>> for ClaimJournal {
+    ghost then = { claimed_journal J.Journaled };
+}
+
 /// The give back of a frame.
 pub(crate) struct GiveBack;
 
 impl<F, J> Play<Slot<F, J>, PassState<J>> for GiveBack {
     ghost then = { gave_back };
+}
+
+/// The journal is given back, with changes of this kind.
+pub(crate) struct GiveJournal<C> {
+    of: PhantomData<C>,
+}
+
+impl<F, J: Journaled, C: Changes<J>> Play<Slot<F, J>, PassState<J>> for GiveJournal<C> {
+    ghost then = { gave_journal J.Journaled C.change };
+}
+
+/// A claim of the right of maintenance.
+pub(crate) struct ClaimWork;
+
+impl<F, J: Journaled> Play<Slot<F, J>, PassState<J>> for ClaimWork {
+    ghost then = { claimed_work J.Journaled false };
+}
+
+/// A try to claim it, which notes what it found.
+pub(crate) struct TryClaimWork;
+
+impl<F, J: Journaled> Play<Slot<F, J>, PassState<J>> for TryClaimWork {
+    ghost then = { claimed_work J.Journaled true };
+}
+
+/// The right is given back.
+pub(crate) struct GiveWork;
+
+impl<F, J> Play<Slot<F, J>, PassState<J>> for GiveWork {
+    ghost then = { gave_work };
+}
+
+/// A second pass.
+pub(crate) struct Cut;
+
+impl<J> Split<PassState<J>> for Cut {
+    ghost left = { with_less_room };
+
+    ghost right = { split_off };
+}
+
+/// A pass takes in another.
+pub(crate) struct Glue;
+
+impl<J> Join<PassState<J>> for Glue {
+    ghost both = { joined };
+
+    ghost spent = { spent };
+}
+
+/// A look at what it has met.
+pub(crate) struct Look;
+
+impl<F, J> Play<Slot<F, J>, PassState<J>> for Look {
+    ghost then = { looked };
 }
 
 /// The first look of the first pass.

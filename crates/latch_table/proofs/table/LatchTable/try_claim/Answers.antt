@@ -2,7 +2,7 @@ use Rattle.std.proofs.Common.{rules, arith, refl, true, ap, sym, ◌∙◌, ◌�
 use Rattle.latch_table.specs.Held.{numbers}
 use Rattle.latch_table.specs.Passes.{state}
 use Rattle.latch_table.specs.PassStates.{found_by}
-use Rattle.latch_table.proofs.Passing.{claimed_by}
+use Rattle.latch_table.proofs.Passing.{claimed_by, like_pass}
 use Rattle.latch_table.proofs.Rotate.{frames_length}
 use Rattle.latch_table.proofs.table.LatchTable.try_claim.Goals as goal
 
@@ -16,4 +16,10 @@ pub returns-clause-pass : goal.returns-clause-pass
 returns-clause-pass g c =
     let took = c.in_ok-value.ensures.claimed in
     claimed_by g.F.Framed g.J.Journaled _ c.args.pass.now _ _ _ _ (found_by true took.0 (state c.args.pass.now)) c.requires.pass c.requires.may.frame_is c.requires.may.no_journal
-    refl refl refl c.try_take.ensures.same.0 took.1.1 took.1.2 c.with-pass.ensures
+    refl refl refl refl refl c.try_take.ensures.same.0 took.1.1 took.1.2 c.with-pass.ensures
+
+pub returns-in_err-value-clause-pass : goal.returns-in_err-value-clause-pass
+returns-in_err-value-clause-pass g c =
+    let t = c.in_err-value.ensures.claimed in
+    like_pass _ c.args.pass.now _ (found_by true t.0 (state c.args.pass.now)) c.requires.pass c.in_err-value.ensures.same.0 (ap (λ m. m.0) t.1.1)
+    refl refl refl refl refl (ap (λ m. m.1) t.1.1) refl
