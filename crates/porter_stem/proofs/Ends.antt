@@ -18,7 +18,7 @@ module _ (suffix word : List ℕ) (a b : ℕ) (last : slice_get word (length wor
       let some : length suffix - 1 < length suffix = slice_get_within suffix (length suffix - 1) b ends in
       let at : n + (length suffix - 1) ≡ length word - 1 = omega arith in
       let theirs : get_or suffix (length suffix - 1) 0 ≡ b = get_or_from_slice_get suffix
-          (length suffix - 1) b 0 ends in
+      (length suffix - 1) b 0 ends in
       let ours : get_or word (length word - 1) 0 ≡ a = get_or_from_slice_get word (length word - 1) a 0 last in
       sym ours ∙ ap (λ k. get_or word k 0) (sym at) ∙ sym (get_or-drop n word (length suffix - 1) 0)
       ∙ ap (λ l. get_or l (length suffix - 1) 0) (sym same) ∙ theirs

@@ -254,26 +254,28 @@ module _ (ls : List (List ℕ)) (os : List Occurrence) (lists : List (List Posit
         let x = of_any (λ x. (x.lexeme ≡ l) × Any (λ q. capped q ≡ p) x.positions) items n in
         let o = mapped_from (item_of ls) os x.0 x.1 in
         let q = of_any (λ q. capped q ≡ p) (o.0.position ∷ [])
-            (subst (λ (y : Entry). Any (λ q. capped q ≡ p) y.positions) (sym o.2) x.2.1) in
+        (subst (λ (y : Entry). Any (λ q. capped q ≡ p) y.positions) (sym o.2) x.2.1) in
         let here : capped o.0.position ≡ p = elim (contains_cases o.0.position q.0 [] q.1) [
           | inl e ↦ ap capped e ∙ q.2
           | inr t ↦ absurd (contains_none q.0 t)
         ] in
         any_of (λ y. (y.lexeme ≡ l) × Any (λ q. capped q ≡ p) y.positions) refs
-        (entry (get_or ls o.0.lexeme []) (get_or lists o.0.lexeme [])) (row_of o.0 o.1)
-        (ap (λ (y : Entry). y.lexeme) o.2 ∙ x.2.0, any_of (λ q. capped q ≡ p)
-        (get_or lists o.0.lexeme []) o.0.position (g.to o.0 o.1) here);
+        (entry (get_or ls o.0.lexeme []) (get_or lists o.0.lexeme [])) (row_of o.0 o.1) (
+          ap (λ (y : Entry). y.lexeme) o.2 ∙ x.2.0,
+          any_of (λ q. capped q ≡ p)
+              (get_or lists o.0.lexeme []) o.0.position (g.to o.0 o.1) here,
+        );
     places_from = λ l p n.
         let x = of_any (λ x. (x.lexeme ≡ l) × Any (λ q. capped q ≡ p) x.positions) refs n in
         let r = row_from ls lists x.0 x.1 in
         let q = of_any (λ q. capped q ≡ p) (get_or lists r.0 [])
-            (subst (λ (y : Entry). Any (λ q. capped q ≡ p) y.positions) r.2 x.2.1) in
+        (subst (λ (y : Entry). Any (λ q. capped q ≡ p) y.positions) r.2 x.2.1) in
         let o = of_any (λ y. (y.lexeme ≡ r.0) × (y.position ≡ q.0)) os (g.from r.0 q.0 q.1) in
         any_of (λ y. (y.lexeme ≡ l) × Any (λ q. capped q ≡ p) y.positions) items (item_of ls o.0)
         (mapped_to (item_of ls) os o.0 o.1) (
           ap (λ j. get_or ls j []) o.2.0 ∙ sym (ap (λ (y : Entry). y.lexeme) r.2) ∙ x.2.0,
           any_of (λ q. capped q ≡ p) (o.0.position ∷ []) o.0.position (contains_head o.0.position [])
-          (ap capped o.2.1 ∙ q.2),
+              (ap capped o.2.1 ∙ q.2),
         );
   }
 
@@ -298,12 +300,18 @@ form_of_same items refs out s f = record {
 }
   where
     highest_to : (l : List ℕ) (p : Position) → IsHighest items l p → IsHighest refs l p
-    highest_to l p t = record { placed = s.places_to l p t.placed; highest = λ w h. t.highest w
-        (s.places_from l (record { at = p.at; weight = w }) h) }
+    highest_to l p t = record {
+      placed = s.places_to l p t.placed;
+      highest = λ w h. t.highest w
+          (s.places_from l (record { at = p.at; weight = w }) h);
+    }
 
     highest_from : (l : List ℕ) (p : Position) → IsHighest refs l p → IsHighest items l p
-    highest_from l p t = record { placed = s.places_from l p t.placed; highest = λ w h. t.highest w
-        (s.places_to l (record { at = p.at; weight = w }) h) }
+    highest_from l p t = record {
+      placed = s.places_from l p t.placed;
+      highest = λ w h. t.highest w
+          (s.places_to l (record { at = p.at; weight = w }) h);
+    }
 
     listed : (l : List ℕ) (all : List Position) → ListsPositions refs l all → ListsPositions items l all
     listed l all h = record {

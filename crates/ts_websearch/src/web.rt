@@ -104,11 +104,11 @@ impl WebMaker {
             × (row : List WebItem) × IsWebAt known mapping self.old ended row }
         ensures value { OnOk result ((known : Known) (mapping : Mapping)
             (ended : List (List WebItem)) (row : List WebItem)
-                → IsWebAt known mapping self.old ended row
+            → IsWebAt known mapping self.old ended row
             → IsWebAt known mapping self.new (ended ++ row ∷ []) []) }
         ensures refused { IfErr result (λ e. (known : Known) (mapping : Mapping)
             (ended : List (List WebItem)) (row : List WebItem)
-                → IsWebAt known mapping self.old ended row
+            → IsWebAt known mapping self.old ended row
             → EndingFails known mapping ended row e) }
     {
         if self.rows && self.row {

@@ -39,12 +39,12 @@ module _ (known : Known) (mapping : Mapping) where
 
   -- these rows have ended, and this one is read
   pub record IsWebAt (web : WebMaker) (ended : List (List WebItem)) (row : List WebItem) : Type 0
-      where
-    pub has_rows : web.rows ≡ is_some (web_query ended)
-    pub has_row : web.row ≡ is_some (row_query row)
-    pub sketches : List Sketch
-    pub making : IsMaking web.maker sketches
-    pub are : AreSketched known mapping (stack_trees ended row) sketches
+    where
+      pub has_rows : web.rows ≡ is_some (web_query ended)
+      pub has_row : web.row ≡ is_some (row_query row)
+      pub sketches : List Sketch
+      pub making : IsMaking web.maker sketches
+      pub are : AreSketched known mapping (stack_trees ended row) sketches
 
   -- whatever follows, the query has too many nodes, or want of memory
   abbrev pub AddingFails : List (List WebItem) → List WebItem → QueryError → Type 0

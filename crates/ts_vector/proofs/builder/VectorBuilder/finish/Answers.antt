@@ -40,8 +40,11 @@ returns-in-Ok-normal_form-clause-value c =
     (rows_form ls os lists c.self.invariant g made (subst
     (λ t. IsNormalFormOf t made) is c.in-Ok-normal_form.ensures.form)) in
     IfOk-weaker c.within_limit.result (λ v. (v ≡ made) × (content_size v < 1048576)) (IsBuiltOf c.args.self)
-    (λ v h. record { form = subst (IsNormalFormOf c.args.self)
-    (sym h.0) form; small = h.1 }) c.within_limit.ensures.value
+    (λ v h. record {
+      form = subst (IsNormalFormOf c.args.self)
+          (sym h.0) form;
+      small = h.1;
+    }) c.within_limit.ensures.value
 
 pub returns-in-Ok-normal_form-clause-cause : goal.returns-in-Ok-normal_form-clause-cause
 returns-in-Ok-normal_form-clause-cause c =
