@@ -1,31 +1,30 @@
 -- A claim of a frame keeps the rule.
-use Rattle.std.proofs.Common.{◌≡◌, ◌≢◌, ◌⊎◌, ℕ, suc, ◌+◌, ◌-◌, ◌<◌, ◌≤◌, ◌==◌, cond, eqb, Bool, List, [], ◌∷◌, ◌++◌, length, get_or, set, refl, sym, ap, subst, ◌∙◌, inl, inr, arith, length-set, eq-eqb, ne_eqb}
-use Rattle.std.specs.Prelude.{Option, Some, None}
+use Rattle.std.proofs.Common.{◌≡◌, ◌≢◌, ℕ, suc, ◌+◌, ◌-◌, ◌<◌, ◌==◌, eqb, Bool, List, length, get_or, set, refl, sym, ap, subst, ◌∙◌, inl, inr, arith, length-set, eq-eqb, ne_eqb}
 use Rattle.std.proofs.lemmas.List.{set-get_or}
 use mathlib.Core.Logic.{dite}
 use mathlib.Core.Option.{none, some}
 use native.Mathlib.Decide.{ℕ_discrete}
 use lib.ListN.{get_elem?}
 use prog.Atomic.{either}
-use Rattle.atomic_table.specs.Table.{State, Me, step, Act, keeps, takes, stepped, Valid, Allows, carried_after}
+use Rattle.atomic_table.specs.Table.{State, Me, step, keeps, takes, stepped, Allows}
 use Rattle.atomic_table.proofs.Lists.{set_else}
 use Rattle.page_types.specs.Numbers.{page_limit}
 use Rattle.page_types.specs.Encoding.{page_bytes}
-use Rattle.core_state.specs.Log.{Log, In, Shows}
+use Rattle.core_state.specs.Log.{Shows}
 use Rattle.latch_table.specs.declared.slots.Framed.{Ghosts as Framed}
 use Rattle.latch_table.specs.declared.slots.Journaled.{Ghosts as Journaled}
 use Rattle.latch_table.specs.declared.slots.Slot.{Slot}
 use Rattle.latch_table.specs.declared.slots.Slot.TheVariants.{Frame}
 use Rattle.latch_table.specs.declared.states.Note.{Note}
 use Rattle.latch_table.specs.declared.states.PassState.{PassState}
-use Rattle.latch_table.specs.PassStates.{view_of, found_by, with_frame, IsLawful}
-use Rattle.latch_table.specs.Told.{HasClaimed, claimed}
+use Rattle.latch_table.specs.PassStates.{view_of, found_by, with_frame}
+use Rattle.latch_table.specs.Told.{claimed}
 use Rattle.latch_table.specs.Shapes.{Shape}
-use Rattle.latch_table.specs.Lines.{HasXids, IsFrame, IsNote, IsNoted, Knows}
+use Rattle.latch_table.specs.Lines.{IsFrame, IsNoted, Knows}
 use Rattle.latch_table.specs.Rule.{Kept}
 use Rattle.latch_table.proofs.Functions.{put, put_here, put_else, words_after}
 use Rattle.latch_table.proofs.Views.{views_stay, changed_at, still}
-use Rattle.latch_table.proofs.Frames.{absent_free, notes_holder, reads_if, shown_now}
+use Rattle.latch_table.proofs.Frames.{absent_free, reads_if, shown_now}
 use Rattle.latch_table.proofs.Told.{same_others, allowed, lawful_here}
 use Rattle.latch_table.proofs.Stay.{with_holders, is_free, renoted, store_stays, pins_stay, sums_stay, knows_stays}
 
@@ -63,7 +62,7 @@ module _ {F J : Type 0} (frame : Framed F) (journal : Journaled J) (start : J) w
     redo = w.redo;
     count = w.count;
     own = w.own;
-    spent = λ e. let t = w.spent e in record { pin = t.pin; frames = t.frames; journal_is = t.journal_is; work = t.work; redo = t.redo; walk = t.walk; xids = t.xids; begun = t.begun; own = t.own };
+    spent = λ e. let t = w.spent e in record { pin = t.pin; frames = t.frames; journal_is = t.journal_is; work = t.work; redo = t.redo; walk = t.walk; xids = t.xids; begun = t.begun; own = t.own; faults = t.faults; write_faults = t.write_faults };
     met = w.met;
   }
 
@@ -81,7 +80,7 @@ module _ {F J : Type 0} (frame : Framed F) (journal : Journaled J) (start : J) w
       subst (λ (l : List ℕ). Rule record { words = l; homes = s.homes; views = set s.views id w }) (sym (set-get_or s.words i 0)) record {
         shape = h;
         words = record { wide = k.words.wide; deep = k.words.deep; free = k.words.free; taken = k.words.taken };
-        homes = record { frames = k.homes.frames; journal_is = k.homes.journal_is };
+        homes = record { frames = k.homes.frames; journal_is = k.homes.journal_is; last = k.homes.last };
         noted = λ q j lt has.
             let t = k.noted q j lt has in
             still (λ y. IsNoted h y q) s.views id j v w t.0 at (found_notes h x notes v q) t.1 t.2;
@@ -168,6 +167,7 @@ module _ {F J : Type 0} (frame : Framed F) (journal : Journaled J) (start : J) w
           journal_is = λ none_has.
               let ne : h.frames ≢ i = λ e. omega arith in
               set_else s.homes i h.frames none ne ∙ k.homes.journal_is (sym (put_else h.holder i (suc id) h.frames ne) ∙ none_has);
+          last = set_else s.homes i (suc h.frames) none (λ e. omega arith) ∙ k.homes.last;
         };
         noted = λ q j lt has. dite (ℕ_discrete q i)
             (λ e.

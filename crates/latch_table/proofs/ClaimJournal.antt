@@ -1,5 +1,5 @@
 -- A claim of the journal keeps the rule.
-use Rattle.std.proofs.Common.{◌≡◌, ◌≢◌, ◌⊎◌, ℕ, suc, ◌+◌, ◌<◌, ◌≤◌, eqb, Bool, List, [], ◌∷◌, ◌++◌, length, get_or, set, refl, sym, ap, subst, ◌∙◌, inl, inr, ⊎_elim, arith, length-set, length-append, eq-eqb, ne_eqb}
+use Rattle.std.proofs.Common.{◌≡◌, ◌≢◌, ℕ, suc, ◌+◌, ◌≤◌, eqb, List, [], ◌∷◌, ◌++◌, length, get_or, set, refl, sym, ap, subst, ◌∙◌, ⊎_elim, arith, length-set, length-append, eq-eqb, ne_eqb}
 use Rattle.std.specs.Prelude.{Option, Some, None}
 use Rattle.std.proofs.lemmas.List.{set-get_or}
 use mathlib.Core.Logic.{dite}
@@ -7,20 +7,19 @@ use mathlib.Core.Option.{none, some}
 use native.Mathlib.Decide.{ℕ_discrete}
 use lib.ListN.{get_elem?}
 use prog.Atomic.{either}
-use Rattle.atomic_table.specs.Table.{State, Me, step, Act, keeps, takes, stepped, Allows}
+use Rattle.atomic_table.specs.Table.{State, Me, step, keeps, takes, stepped, Allows}
 use Rattle.atomic_table.proofs.Lists.{set_else, set_again}
 use Rattle.core_state.specs.Log.{Log, In}
 use Rattle.latch_table.specs.declared.slots.Framed.{Ghosts as Framed}
 use Rattle.latch_table.specs.declared.slots.Journaled.{Ghosts as Journaled}
 use Rattle.latch_table.specs.declared.slots.Slot.{Slot}
 use Rattle.latch_table.specs.declared.slots.Slot.TheVariants.{Journal}
-use Rattle.latch_table.specs.declared.states.Note.{Note}
 use Rattle.latch_table.specs.declared.states.Shown.{Shown}
 use Rattle.latch_table.specs.declared.states.PassState.{PassState}
-use Rattle.latch_table.specs.PassStates.{view_of, with_journal}
+use Rattle.latch_table.specs.PassStates.{with_journal}
 use Rattle.latch_table.specs.Told.{HasClaimedJournal, claimed_journal}
 use Rattle.latch_table.specs.Shapes.{Shape}
-use Rattle.latch_table.specs.Lines.{HasFrames, IsNoted, Knows}
+use Rattle.latch_table.specs.Lines.{IsNoted, Knows}
 use Rattle.latch_table.specs.Rule.{Kept}
 use Rattle.latch_table.proofs.Functions.{put, put_here, put_else, words_after}
 use Rattle.latch_table.proofs.Frames.{note_in}
@@ -137,6 +136,7 @@ module _ {F J : Type 0} (frame : Framed F) (journal : Journaled J) (start : J) w
               let was = k.homes.frames j lt (sym (put_else h.holder i (suc id) j ne) ∙ none_has') in
               (was.0, set_else s.homes i j none ne ∙ was.1, record { page = was.2.page; bytes = was.2.bytes });
           journal_is = λ none_has'. absurd (let t = put_here h.holder i (suc id) h.frames refl in omega arith);
+          last = set_else s.homes i (suc h.frames) none (λ e. omega arith) ∙ k.homes.last;
         };
         noted = λ q j lt has. dite (ℕ_discrete q i)
             (λ e.
@@ -167,7 +167,7 @@ module _ {F J : Type 0} (frame : Framed F) (journal : Journaled J) (start : J) w
       (λ n. (sym (set-get_or s.words i 0) n, sym (set_again s.views id v at) n)) record {
         shape = k.shape;
         words = record { wide = k.words.wide; deep = k.words.deep; free = k.words.free; taken = k.words.taken };
-        homes = record { frames = k.homes.frames; journal_is = k.homes.journal_is };
+        homes = record { frames = k.homes.frames; journal_is = k.homes.journal_is; last = k.homes.last };
         noted = k.noted;
         store = k.store;
         placed = k.placed;

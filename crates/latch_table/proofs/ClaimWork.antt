@@ -1,12 +1,12 @@
 -- A claim of the right of maintenance keeps the rule, and so does giving it back.
-use Rattle.std.proofs.Common.{◌≡◌, ◌≢◌, ◌⊎◌, ℕ, suc, ◌+◌, ◌-◌, ◌<◌, ◌≤◌, eqb, Bool, List, [], ◌∷◌, ◌++◌, length, get_or, set, refl, sym, ap, subst, ◌∙◌, inl, inr, ⊎_elim, arith, length-set, eq-eqb, ne_eqb}
+use Rattle.std.proofs.Common.{◌≡◌, ◌≢◌, ℕ, suc, ◌+◌, ◌≤◌, eqb, Bool, List, [], ◌∷◌, ◌++◌, length, get_or, set, refl, sym, ap, subst, ◌∙◌, inl, inr, ⊎_elim, arith, length-set, eq-eqb, ne_eqb}
 use Rattle.std.specs.Prelude.{Option, Some, None}
 use mathlib.Core.Logic.{dite}
 use mathlib.Core.Option.{none, some}
 use native.Mathlib.Decide.{ℕ_discrete}
 use lib.ListN.{get_elem?}
 use prog.Atomic.{either}
-use Rattle.atomic_table.specs.Table.{State, Me, step, Act, keeps, stepped, Allows}
+use Rattle.atomic_table.specs.Table.{State, Me, step, keeps, stepped, Allows}
 use Rattle.page_types.specs.declared.record.Record.{Record}
 use Rattle.core_state.specs.Log.{Log, In}
 use Rattle.core_state.specs.Legal.{RecordsAreValid}
@@ -16,7 +16,7 @@ use Rattle.latch_table.specs.declared.slots.Journaled.{Ghosts as Journaled}
 use Rattle.latch_table.specs.declared.slots.Slot.{Slot}
 use Rattle.latch_table.specs.declared.states.PassState.{PassState}
 use Rattle.latch_table.specs.PassStates.{view_of, found_by, with_work, without_work}
-use Rattle.latch_table.specs.Told.{HasClaimedWork, claimed_work, gave_work}
+use Rattle.latch_table.specs.Told.{claimed_work, gave_work}
 use Rattle.latch_table.specs.Shapes.{Shape}
 use Rattle.latch_table.specs.Lines.{HasFrames, IsNoted, Knows}
 use Rattle.latch_table.specs.Rule.{Kept}
@@ -157,6 +157,7 @@ module _ {F J : Type 0} (frame : Framed F) (journal : Journaled J) (start : J) w
               (was.0, was.1, record { page = was.2.page; bytes = was.2.bytes });
           journal_is = λ none_has'.
               k.homes.journal_is (sym (put_else h.holder i (suc id) h.frames (λ e. omega arith)) ∙ none_has');
+          last = k.homes.last;
         };
         noted = λ q j lt has. dite (ℕ_discrete q i)
             (λ e.
@@ -295,6 +296,7 @@ module _ {F J : Type 0} (frame : Framed F) (journal : Journaled J) (start : J) w
               let was = k.homes.frames j lt (sym (else_ j (λ e. omega arith)) ∙ none_has') in
               (was.0, was.1, record { page = was.2.page; bytes = was.2.bytes });
           journal_is = λ none_has'. k.homes.journal_is (sym (else_ h.frames (λ e. omega arith)) ∙ none_has');
+          last = k.homes.last;
         };
         noted = λ q j lt has.
             let ne : q ≢ i = λ e. (let z : 0 ≡ suc j = sym (put_here h.holder i 0 q e) ∙ has in omega arith) in

@@ -1,5 +1,5 @@
 -- A table may be laid over an empty store.
-use Rattle.std.proofs.Common.{◌≡◌, ℕ, ◌≤◌, List, [], length, replicate, refl, sym, ap, subst, ◌∙◌, arith}
+use Rattle.std.proofs.Common.{◌≡◌, ℕ, [], replicate, refl, sym, ap, subst, ◌∙◌, arith}
 use Rattle.page_types.specs.Numbers.{zeros, page_size, u16_bytes, u32_bytes, u64_bytes}
 use Rattle.page_types.specs.Encoding.{page_bytes, front_bytes, framed}
 use Rattle.page_types.specs.Pages.{IsPage}
@@ -7,7 +7,7 @@ use Rattle.page_types.specs.Views.{free_page}
 use Rattle.core_state.specs.Log.{Pages, Shows, commits, cut, replay}
 use Rattle.latch_table.specs.declared.slots.Framed.{Ghosts as Framed}
 use Rattle.latch_table.specs.declared.slots.Journaled.{Ghosts as Journaled}
-use Rattle.latch_table.specs.Laying.{CanLie, IsEmptyStore, EmptyStoresLie}
+use Rattle.latch_table.specs.Laying.{EmptyStoresLie}
 
 none_yet : Pages
 none_yet p = free_page

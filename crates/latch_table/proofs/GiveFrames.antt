@@ -1,11 +1,10 @@
 -- A frame that is given back keeps the rule.
-use Rattle.std.proofs.Common.{◌≡◌, ◌≢◌, ℕ, suc, ◌+◌, ◌<◌, List, [], ◌∷◌, length, set, refl, sym, ap, subst, ◌∙◌, arith, length-set}
-use Rattle.std.specs.Prelude.{Option, Some, None}
+use Rattle.std.proofs.Common.{◌≡◌, ◌≢◌, ℕ, suc, ◌+◌, ◌<◌, List, ◌∷◌, set, refl, sym, ap, subst, ◌∙◌, arith, length-set}
 use mathlib.Core.Logic.{dite}
 use mathlib.Core.Option.{none, some}
 use native.Mathlib.Decide.{ℕ_discrete}
 use lib.ListN.{get_elem?}
-use Rattle.atomic_table.specs.Table.{State, Me, step, Act, gives, stepped, rest, Allows}
+use Rattle.atomic_table.specs.Table.{State, Me, step, gives, stepped, rest, Allows}
 use Rattle.atomic_table.proofs.Lists.{set_here, set_else}
 use Rattle.page_types.specs.Numbers.{page_limit}
 use Rattle.page_types.specs.Encoding.{page_bytes}
@@ -124,6 +123,7 @@ module _ {F J : Type 0} (frame : Framed F) (journal : Journaled J) (start : J) w
           journal_is = λ none_has.
               let ne : h.frames ≢ i = λ e. omega arith in
               set_else s.homes i h.frames (some (Frame f)) ne ∙ k.homes.journal_is (sym (else_ h.frames ne) ∙ none_has);
+          last = set_else s.homes i (suc h.frames) (some (Frame f)) (λ e. omega arith) ∙ k.homes.last;
         };
         noted = λ q j lt has.
             let ne : q ≢ i = λ e. (let z : 0 ≡ suc j = sym (put_here h.holder i 0 q e) ∙ has in omega arith) in

@@ -1,17 +1,17 @@
 -- The journal that is given back keeps the rule.
-use Rattle.std.proofs.Common.{◌≡◌, ◌≢◌, ◌⊎◌, ℕ, suc, ◌+◌, ◌-◌, ◌<◌, ◌≤◌, Bool, false, List, [], ◌∷◌, ◌++◌, length, set, refl, sym, ap, subst, ◌∙◌, inl, inr, ⊎_elim, arith, length-set}
-use Rattle.std.specs.Prelude.{Option, Some, None}
+use Rattle.std.proofs.Common.{◌≡◌, ◌≢◌, ℕ, suc, ◌+◌, ◌<◌, false, List, [], ◌∷◌, set, refl, sym, ap, subst, ◌∙◌, inl, inr, ⊎_elim, arith, length-set}
+use Rattle.std.specs.Prelude.{Option, Some}
 use Rattle.std.specs.declared.snapshot.Snapshot.{Snapshot}
 use mathlib.Core.Option.{none, some}
 use lib.ListN.{get_elem?}
-use Rattle.atomic_table.specs.Table.{State, Me, step, Act, gives, stepped, rest, Allows}
+use Rattle.atomic_table.specs.Table.{State, Me, step, gives, stepped, rest, Allows}
 use Rattle.atomic_table.proofs.Lists.{set_here, set_else}
 use Rattle.page_types.specs.Encoding.{page_bytes}
-use Rattle.core_state.specs.Log.{Log, In, replay}
+use Rattle.core_state.specs.Log.{Log, In}
 use Rattle.latch_table.specs.declared.slots.Framed.{Ghosts as Framed}
 use Rattle.latch_table.specs.declared.slots.Journaled.{Ghosts as Journaled}
 use Rattle.latch_table.specs.declared.slots.Slot.{Slot}
-use Rattle.latch_table.specs.declared.slots.Slot.TheVariants.{Frame, Journal}
+use Rattle.latch_table.specs.declared.slots.Slot.TheVariants.{Journal}
 use Rattle.latch_table.specs.declared.states.Note.{Note}
 use Rattle.latch_table.specs.declared.states.PassState.{PassState}
 use Rattle.latch_table.specs.PassStates.{IsLawful}
@@ -123,6 +123,7 @@ module _ {F J : Type 0} (frame : Framed F) (journal : Journaled J) (start : J) w
                 let was = k.homes.frames j lt free in
                 (was.0, set_else s.homes i j (some (Journal b')) ne ∙ was.1, frame_after j was.0 lt free was.2);
             journal_is = λ none_has. set_here s.homes i (some (Journal b')) (omega (arith, d));
+            last = set_else s.homes i (suc h.frames) (some (Journal b')) (λ e. omega arith) ∙ k.homes.last;
           };
           noted = λ q j lt has'.
               let ne : q ≢ i = λ e. (let z : 0 ≡ suc j = sym (put_here h.holder i 0 q e) ∙ has' in omega arith) in

@@ -1,6 +1,6 @@
 -- The log with what was added: it is legal, shows the pages, keeps the pins, and was added by another
 -- to each other pass.
-use Rattle.std.proofs.Common.{◌≡◌, ◌≢◌, ◌⊎◌, ◌==◌, cond, ℕ, suc, ◌<◌, ◌≤◌, Bool, true, false, List, [], ◌∷◌, ◌++◌, length, refl, sym, ap, subst, ◌∙◌, inl, inr, ⊎_elim, arith, eq-eqb, ne_eqb}
+use Rattle.std.proofs.Common.{◌≡◌, ◌≢◌, ◌⊎◌, cond, ℕ, suc, ◌<◌, Bool, true, false, List, [], ◌∷◌, ◌++◌, refl, sym, ap, subst, ◌∙◌, inr, ⊎_elim, arith, eq-eqb, ne_eqb}
 use Rattle.std.specs.Prelude.{Option, Some, None, IfSome, nat_lt}
 use mathlib.Core.Logic.{dite}
 use mathlib.Core.Option.{some}
@@ -13,11 +13,11 @@ use Rattle.page_types.specs.declared.page.Page.{Page}
 use Rattle.page_types.specs.declared.record.Record.{Record}
 use Rattle.page_types.specs.declared.record.Kind.{Kind}
 use Rattle.page_types.specs.declared.record.Kind.TheVariants as kind
-use Rattle.core_state.specs.Log.{Log, Pages, In, Shows, replay, changed, next_xid}
+use Rattle.core_state.specs.Log.{Log, Pages, In, Shows, replay, next_xid}
 use Rattle.core_state.specs.Legal.{IsLegal, Pin, Keeps}
 use Rattle.core_state.specs.Steady.{IsMaintenance}
 use Rattle.core_state.specs.Readings.{Read, AreReads}
-use Rattle.core_state.specs.Allowed.{Sheet, View, IsOthers, IsAllowed, Step, AreMade, Leaves, MayLog, Owes, sheet_pages, made_by, drawn_kind, drawn_xid}
+use Rattle.core_state.specs.Allowed.{Sheet, View, IsOthers, Step, AreMade, MayLog, Owes, sheet_pages, made_by, drawn_kind, drawn_xid}
 use Rattle.core_state.specs.Logged.{IsRecordOf, pin_now, FloorAllows, IsBeside, StaysLegal, abort_all}
 use Rattle.core_state.proofs.Newest.{cut_less}
 use Rattle.core_state.proofs.Showing.{replay_kept}
@@ -26,7 +26,7 @@ use Rattle.latch_table.specs.declared.slots.Journaled.{Ghosts as Journaled}
 use Rattle.latch_table.specs.declared.states.Note.{Note}
 use Rattle.latch_table.specs.declared.states.PinNote.{PinNote}
 use Rattle.latch_table.specs.declared.states.PassState.{PassState}
-use Rattle.latch_table.specs.PassStates.{view_of, sheets, sheet_if, reads, pin_if, pin_of, IsLawful}
+use Rattle.latch_table.specs.PassStates.{view_of, sheets, sheet_if, pin_if, pin_of}
 use Rattle.latch_table.specs.Shapes.{Shape}
 use Rattle.latch_table.specs.Lines.{HasFrames, IsStore, ArePlaced, ArePinned, AddUp, Knows}
 use Rattle.latch_table.specs.Giving.{Entry, MayAppend, added, touched, content_after, content_of}

@@ -1,16 +1,14 @@
 -- What another pass knows, once the journal is given back.
-use Rattle.std.proofs.Common.{◌≡◌, ◌≢◌, ◌⊎◌, ℕ, suc, ◌+◌, ◌<◌, ◌≤◌, Bool, true, List, [], ◌∷◌, ◌++◌, length, refl, sym, ap, subst, ◌∙◌, inl, inr, ⊎_elim, arith}
+use Rattle.std.proofs.Common.{◌≡◌, ◌≢◌, ℕ, suc, ◌<◌, ◌≤◌, List, [], ◌∷◌, ◌++◌, length, refl, sym, ap, subst, ◌∙◌, ⊎_elim, arith}
 use Rattle.std.specs.Prelude.{Option, Some, None}
 use Rattle.std.proofs.lemmas.List.{append_assoc}
-use mathlib.Core.Logic.{dite}
 use mathlib.Core.Option.{some}
 use lib.ListN.{get_elem?}
-use native.Mathlib.Decide.{ℕ_discrete}
 use Rattle.page_types.specs.declared.record.Kind.{Kind}
 use Rattle.page_types.specs.declared.record.Kind.TheVariants as kind
 use Rattle.core_state.specs.Log.{Log, In, next_xid, xid_behind}
 use Rattle.core_state.specs.Legal.{Pin}
-use Rattle.core_state.specs.Allowed.{View, IsOthers, AreOthers, sheet_pages}
+use Rattle.core_state.specs.Allowed.{View, IsOthers, AreOthers}
 use Rattle.latch_table.specs.declared.slots.Journaled.{Ghosts as Journaled}
 use Rattle.latch_table.specs.declared.states.Note.{Note}
 use Rattle.latch_table.specs.declared.states.PinNote.{PinNote}
@@ -18,9 +16,9 @@ use Rattle.latch_table.specs.declared.states.PassState.{PassState}
 use Rattle.latch_table.specs.PassStates.{view_of, reads, pin_of, IsLawful}
 use Rattle.latch_table.specs.Shapes.{Shape}
 use Rattle.latch_table.specs.Lines.{HasFrames, HasFloor, ArePlaced, AddUp, Knows}
-use Rattle.latch_table.specs.Giving.{Entry, Swap, PinChange, Given, added, touched, content_of, PinsMove, MayGive}
+use Rattle.latch_table.specs.Giving.{Entry, Swap, PinChange, Given, added, content_of, PinsMove, MayGive}
 use Rattle.latch_table.proofs.Sums.{total_two}
-use Rattle.latch_table.proofs.Functions.{put, put_here, put_else}
+use Rattle.latch_table.proofs.Functions.{put_else}
 use Rattle.latch_table.proofs.Frames.{note_in}
 use Rattle.latch_table.proofs.GivenLog.{Follows, holds_frame, reads_added}
 use Rattle.latch_table.proofs.GivenShape.{owner_after, pinner_if, pinner_after, shape_after, length_added, pin_was}

@@ -1,13 +1,9 @@
 -- What the pass itself knows, once it has given the journal back.
-use Rattle.std.proofs.Common.{◌≡◌, ◌≢◌, ◌⊎◌, ◌==◌, cond, ℕ, suc, ◌+◌, ◌<◌, ◌≤◌, Bool, true, false, List, [], ◌∷◌, ◌++◌, length, refl, sym, ap, subst, ◌∙◌, inl, inr, ⊎_elim, arith, eq-eqb, ne_eqb}
+use Rattle.std.proofs.Common.{◌≡◌, ◌≢◌, ◌⊎◌, ◌==◌, cond, ℕ, suc, ◌<◌, ◌≤◌, Bool, true, false, List, [], ◌∷◌, ◌++◌, length, refl, sym, ap, subst, ◌∙◌, inl, inr, ⊎_elim, arith, eq-eqb, ne_eqb}
 use Rattle.std.specs.Prelude.{Option, Some, None}
 use mathlib.Core.Logic.{dite}
-use mathlib.Core.Option.{some}
-use lib.ListN.{get_elem?}
 use native.Mathlib.Decide.{ℕ_discrete}
-use Rattle.page_types.specs.Numbers.{page_limit}
 use Rattle.page_types.specs.Encoding.{page_bytes}
-use Rattle.page_types.specs.declared.page.Page.{Page}
 use Rattle.page_types.specs.declared.record.Kind.{Kind}
 use Rattle.page_types.specs.declared.record.Kind.TheVariants as kind
 use Rattle.core_state.specs.Log.{Log, Pages, In, Shows, next_xid, replay}
@@ -21,11 +17,11 @@ use Rattle.latch_table.specs.declared.states.PassState.{PassState}
 use Rattle.latch_table.specs.PassStates.{reads, pin_of, IsLawful}
 use Rattle.latch_table.specs.Shapes.{Shape}
 use Rattle.latch_table.specs.Lines.{Absent, HasFrames, IsNote, Knows}
-use Rattle.latch_table.specs.Giving.{Entry, Swap, PinChange, Given, added, numbers_added, content_of, bytes_of, changed_note, swapped, swapped_note, notes_after, less, less_all, xids_by, xids_after, pin_after, from_after, readings_after, given_back, PinsMove, MayGive}
+use Rattle.latch_table.specs.Giving.{Entry, Swap, PinChange, Given, added, numbers_added, content_of, bytes_of, changed_note, swapped_note, notes_after, less, less_all, xids_by, xids_after, pin_after, from_after, readings_after, given_back, PinsMove, MayGive}
 use Rattle.latch_table.proofs.Functions.{put, put_here, put_else}
 use Rattle.latch_table.proofs.GivenLog.{Follows, reads_added}
-use Rattle.latch_table.proofs.GivenShape.{owner_after, pinner_if, pinner_after, shape_after, length_added}
-use Rattle.latch_table.proofs.GivenOthers.{next_more, added_goes_on, floor_after}
+use Rattle.latch_table.proofs.GivenShape.{owner_after, pinner_after, shape_after, length_added}
+use Rattle.latch_table.proofs.GivenOthers.{next_more, added_goes_on}
 
 -- the xids of the pass afterwards
 

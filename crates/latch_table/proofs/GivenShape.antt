@@ -1,5 +1,5 @@
 -- The lines on the log, on places of pages and on pins, once the journal is given back.
-use Rattle.std.proofs.Common.{◌≡◌, ◌≢◌, ◌⊎◌, ℕ, zero, suc, ◌+◌, ◌-◌, ◌<◌, ◌≤◌, List, [], ◌∷◌, ◌++◌, length, drop, set, refl, sym, ap, subst, ◌∙◌, inl, inr, ⊎_elim, arith}
+use Rattle.std.proofs.Common.{◌≡◌, ◌≢◌, ◌⊎◌, ℕ, zero, suc, ◌-◌, ◌<◌, ◌≤◌, List, [], ◌∷◌, ◌++◌, length, drop, set, refl, sym, ap, subst, ◌∙◌, inl, inr, ⊎_elim, arith}
 use Rattle.std.specs.Prelude.{Option, Some, None}
 use mathlib.Core.Logic.{dite}
 use mathlib.Core.Option.{some}
@@ -17,7 +17,7 @@ use Rattle.latch_table.specs.declared.states.PassState.{PassState}
 use Rattle.latch_table.specs.PassStates.{IsLawful}
 use Rattle.latch_table.specs.Shapes.{Shape}
 use Rattle.latch_table.specs.Lines.{IsStore, ArePlaced, ArePinned}
-use Rattle.latch_table.specs.Giving.{Entry, Swap, PinChange, Given, added, content_of, pin_after, PinsMove, MaySwap, MayGive}
+use Rattle.latch_table.specs.Giving.{Entry, Swap, PinChange, Given, added, content_of, pin_after, PinsMove, MayGive}
 use Rattle.latch_table.proofs.Functions.{put, put_here, put_else}
 use Rattle.latch_table.proofs.Views.{changed_at, still}
 use Rattle.latch_table.proofs.GivenLog.{Follows}

@@ -1,13 +1,12 @@
 -- A pass that takes in another keeps the rule.
-use Rattle.std.proofs.Common.{◌≡◌, ◌≢◌, ◌⊎◌, ℕ, zero, suc, ◌+◌, ◌<◌, ◌≤◌, cond, nat_lt, Bool, true, false, List, [], ◌∷◌, ◌++◌, length, get_or, set, refl, sym, ap, subst, ◌∙◌, inl, inr, ⊎_elim, arith, length-append}
-use Rattle.std.specs.Prelude.{Option, Some, None}
+use Rattle.std.proofs.Common.{◌≡◌, ◌≢◌, ◌⊎◌, ℕ, suc, ◌+◌, ◌<◌, ◌≤◌, cond, nat_lt, Bool, true, false, List, [], ◌∷◌, ◌++◌, length, set, refl, sym, ap, subst, ◌∙◌, inl, inr, ⊎_elim, arith, length-append}
+use Rattle.std.specs.Prelude.{Some, None}
 use Rattle.std.proofs.lemmas.Bool.Decides.{nat_tests}
 use Rattle.std.proofs.lemmas.List.{append-nil}
-use mathlib.Core.Logic.{dite}
 use mathlib.Core.Option.{none, some}
 use native.Mathlib.Decide.{ℕ_discrete}
 use lib.ListN.{get_elem?}
-use Rattle.atomic_table.specs.Table.{State, Me, step, Act, keeps, Allows, Joins}
+use Rattle.atomic_table.specs.Table.{State, Me, step, keeps, Allows, Joins}
 use Rattle.atomic_table.proofs.Lists.{set_else}
 use Rattle.core_state.specs.Log.{Log, In}
 use Rattle.core_state.specs.Allowed.{AreOthers}
@@ -15,7 +14,6 @@ use Rattle.latch_table.specs.declared.slots.Framed.{Ghosts as Framed}
 use Rattle.latch_table.specs.declared.slots.Journaled.{Ghosts as Journaled}
 use Rattle.latch_table.specs.declared.slots.Slot.{Slot}
 use Rattle.latch_table.specs.declared.states.PinNote.{PinNote}
-use Rattle.latch_table.specs.declared.states.Shown.{Shown}
 use Rattle.latch_table.specs.declared.states.PassState.{PassState}
 use Rattle.latch_table.specs.PassStates.{view_of, longer, greater, joined, spent}
 use Rattle.latch_table.specs.Told.{looked}
@@ -23,9 +21,9 @@ use Rattle.latch_table.specs.Shapes.{Shape, total, times}
 use Rattle.latch_table.specs.Lines.{IsNoted, HasSeen, Knows}
 use Rattle.latch_table.specs.Rule.{Kept}
 use Rattle.latch_table.proofs.Sums.{total_set, times_more}
-use Rattle.latch_table.proofs.Views.{views_stay, changed_at, still}
+use Rattle.latch_table.proofs.Views.{views_stay, still}
 use Rattle.latch_table.proofs.Stay.{with_holders, renoted, store_stays, knows_stays}
-use Rattle.latch_table.proofs.ClaimJournal.{longer_log, unmoved}
+use Rattle.latch_table.proofs.ClaimJournal.{unmoved}
 
 -- of two beginnings of a log the shorter begins the longer
 pub behind : (a b seen l : Log) → a ++ seen ≡ b ++ l → length l ≤ length seen → (mid : Log) × (seen ≡ mid ++ l)
@@ -235,6 +233,8 @@ module _ {F J : Type 0} (frame : Framed F) (journal : Journaled J) (start : J) w
       xids = refl;
       begun = refl;
       own = refl;
+      faults = refl;
+      write_faults = refl;
     };
     met = λ l i. absurd i;
   }
@@ -277,6 +277,7 @@ module _ {F J : Type 0} (frame : Framed F) (journal : Journaled J) (start : J) w
           frames = λ i lt free.
               let t = k.homes.frames i lt free in (t.0, t.1, record { page = t.2.page; bytes = t.2.bytes });
           journal_is = k.homes.journal_is;
+          last = k.homes.last;
         };
         noted = λ q j lt has.
             let o = k.noted q j lt has in

@@ -22,3 +22,4 @@ pub mod Empty
 pub mod Popped
 pub mod Rotate
 pub mod Passing
+pub mod Closes

@@ -1,13 +1,13 @@
 -- The first look of the first pass keeps the rule.
-use Rattle.std.proofs.Common.{◌≡◌, ◌≢◌, ◌⊎◌, ℕ, zero, suc, ◌+◌, ◌-◌, ◌<◌, ◌≤◌, Bool, true, List, [], ◌∷◌, ◌++◌, length, get_or, set, refl, sym, ap, subst, ◌∙◌, inl, inr, ⊎_elim, arith}
-use Rattle.std.specs.Prelude.{Option, Some, None}
+use Rattle.std.proofs.Common.{◌≡◌, ◌⊎◌, ℕ, zero, suc, ◌-◌, ◌<◌, ◌≤◌, List, [], ◌∷◌, length, set, refl, sym, ap, subst, ◌∙◌, inr, ⊎_elim, arith}
+use Rattle.std.specs.Prelude.{Some, None}
 use Rattle.std.specs.declared.snapshot.Snapshot.{Snapshot}
 use Rattle.std.proofs.lemmas.List.{set-get_or}
 use mathlib.Core.Logic.{dite}
 use mathlib.Core.Option.{none, some}
 use native.Mathlib.Decide.{ℕ_discrete}
 use lib.ListN.{get_elem?}
-use Rattle.atomic_table.specs.Table.{State, Me, step, Act, keeps, Allows}
+use Rattle.atomic_table.specs.Table.{State, Me, step, keeps, Allows}
 use Rattle.core_state.specs.Log.{Log, In, fate, next_xid}
 use Rattle.core_state.specs.Legal.{Pin}
 use Rattle.core_state.specs.declared.answers.Fate.{Fate}
@@ -17,12 +17,12 @@ use Rattle.latch_table.specs.declared.slots.Journaled.{Ghosts as Journaled}
 use Rattle.latch_table.specs.declared.slots.Slot.{Slot}
 use Rattle.latch_table.specs.declared.states.Shown.{Shown}
 use Rattle.latch_table.specs.declared.states.PassState.{PassState}
-use Rattle.latch_table.specs.PassStates.{runs_if, running_to, running, first_state, open_state}
+use Rattle.latch_table.specs.PassStates.{runs_if, running_to, first_state, open_state}
 use Rattle.latch_table.specs.Told.{HasOpened, opened}
 use Rattle.latch_table.specs.Shapes.{Shape}
-use Rattle.latch_table.specs.Lines.{HasXids, IsNoted, IsSpent, Knows}
+use Rattle.latch_table.specs.Lines.{IsNoted, Knows}
 use Rattle.latch_table.specs.Rule.{Kept}
-use Rattle.latch_table.proofs.Views.{views_stay, changed_at, still}
+use Rattle.latch_table.proofs.Views.{views_stay, still}
 use Rattle.latch_table.proofs.Told.{allowed}
 use Rattle.latch_table.proofs.Stay.{with_holders, renoted, store_stays, pins_stay, sums_stay, knows_stays, spent_others}
 
@@ -114,6 +114,7 @@ module _ {F J : Type 0} (frame : Framed F) (journal : Journaled J) (start : J) w
         homes = record {
           frames = λ i lt free. let t = k.homes.frames i lt free in (t.0, t.1, record { page = t.2.page; bytes = t.2.bytes });
           journal_is = k.homes.journal_is;
+          last = k.homes.last;
         };
         noted = λ q j lt has.
             let o = k.noted q j lt has in
@@ -143,6 +144,7 @@ module _ {F J : Type 0} (frame : Framed F) (journal : Journaled J) (start : J) w
         log = h.log;
         clock = k.store.reached.0;
         stands = k.store.stands;
+        length_is = k.store.length_is;
         state = refl;
         allowed = λ l. allowed journal start (given_to h id) id w (store_stays journal start h h.holder (λ x. suc id) k.store) k.pinned.kept
             (opener_knows h id k.store.reached.0 key k.store.counted k.store.reached.1 (no_pins s k id key at) known) (lawful l);

@@ -12,7 +12,7 @@ use Rattle.latch_table.specs.declared.slots.Slot.TheVariants.{Away}
 use Rattle.latch_table.specs.declared.states.Note.{Note}
 use Rattle.latch_table.specs.declared.states.PassState.{PassState}
 use Rattle.latch_table.specs.declared.pass.Pass.{Pass}
-use Rattle.latch_table.specs.PassStates.{first_state, found_by, joined, split_off, with_frame, with_journal, without, without_frame}
+use Rattle.latch_table.specs.PassStates.{first_state, found_by, joined, split_off, with_frame, without, without_frame}
 use Rattle.latch_table.specs.Giving.{Entry, Swap, Given, notes_after, HasGivenJournal}
 use Rattle.latch_table.specs.Held.{numbers, position, removed, frames_of, turned_by, carried, journal_if}
 use Rattle.latch_table.specs.Told.{HasClaimed, HasClaimedJournal, HasClaimedWork, HasOpened}

@@ -1,5 +1,5 @@
 -- Slots with frames.
-use Rattle.std.proofs.Common.{◌≡◌, List, [], ◌∷◌, ◌++◌, map, refl, sym, ap, ◌∙◌}
+use Rattle.std.proofs.Common.{◌≡◌, List, [], ◌∷◌, ◌++◌, map, refl}
 use Rattle.latch_table.specs.declared.slots.Slot.{Slot}
 use Rattle.latch_table.specs.declared.slots.Slot.TheVariants.{Frame}
 

@@ -1,11 +1,9 @@
 -- A split keeps the rule.
-use Rattle.std.proofs.Common.{◌≡◌, ◌≢◌, ◌⊎◌, ℕ, zero, suc, ◌+◌, ◌-◌, ◌<◌, ◌≤◌, Bool, true, false, List, [], ◌∷◌, ◌++◌, set, refl, sym, ap, subst, ◌∙◌, ⊎_elim, arith}
-use Rattle.std.specs.Prelude.{Option, Some, None}
-use mathlib.Core.Option.{some}
-use lib.ListN.{get_elem?}
+use Rattle.std.proofs.Common.{◌≡◌, ℕ, ◌+◌, ◌<◌, true, false, [], ◌∷◌, ◌++◌, set, refl, sym, subst, ◌∙◌, ⊎_elim, arith}
+use Rattle.std.specs.Prelude.{Some}
 use Rattle.atomic_table.specs.Table.{State, Splits}
 use Rattle.atomic_table.proofs.Lists.{at_snoc, at_longer}
-use Rattle.core_state.specs.Log.{Log, In}
+use Rattle.core_state.specs.Log.{Log}
 use Rattle.core_state.specs.Allowed.{AreOthers}
 use Rattle.latch_table.specs.declared.slots.Framed.{Ghosts as Framed}
 use Rattle.latch_table.specs.declared.slots.Journaled.{Ghosts as Journaled}
@@ -101,7 +99,7 @@ module _ {F J : Type 0} (frame : Framed F) (journal : Journaled J) (start : J) w
       record {
         shape = h;
         words = record { wide = k.words.wide; deep = k.words.deep; free = k.words.free; taken = k.words.taken };
-        homes = record { frames = k.homes.frames; journal_is = k.homes.journal_is };
+        homes = record { frames = k.homes.frames; journal_is = k.homes.journal_is; last = k.homes.last };
         noted = λ i j lt has.
             let t = k.noted i j lt has in
             let u = still (λ x. IsNoted h x i) s.views id j v (with_less_room v) t.0 at (less_notes h v i) t.1 t.2 in

@@ -1,9 +1,9 @@
 -- The rule holds where a table is laid.
-use Rattle.std.proofs.Common.{◌≡◌, ◌≢◌, ℕ, zero, suc, ◌+◌, ◌<◌, List, [], ◌∷◌, ◌++◌, map, length, get_or, refl, sym, ap, subst, ◌∙◌, arith, length-append}
-use Rattle.std.specs.Prelude.{Option, Some, None}
+use Rattle.std.proofs.Common.{◌≡◌, ℕ, zero, suc, ◌+◌, ◌<◌, List, [], ◌∷◌, ◌++◌, map, length, get_or, refl, sym, ap, subst, ◌∙◌, arith}
+use Rattle.std.specs.Prelude.{Some, None}
 use Rattle.std.specs.declared.snapshot.Snapshot.{Snapshot}
-use mathlib.Core.Option.{none, some, some-injective, some-ne-none}
-use lib.ListN.{get_elem?, replicate, length-replicate, length-map}
+use mathlib.Core.Option.{some, some-injective, some-ne-none}
+use lib.ListN.{get_elem?, replicate, length-replicate}
 use Rattle.atomic_table.specs.Table.{opening}
 use Rattle.latch_table.specs.declared.slots.Framed.{Ghosts as Framed}
 use Rattle.latch_table.specs.declared.slots.Journaled.{Ghosts as Journaled}
@@ -11,7 +11,7 @@ use Rattle.latch_table.specs.declared.slots.Slot.{Slot}
 use Rattle.latch_table.specs.declared.slots.Slot.TheVariants.{Frame, Journal, Away}
 use Rattle.latch_table.specs.declared.states.PassState.{PassState}
 use Rattle.latch_table.specs.PassStates.{first_state}
-use Rattle.latch_table.specs.Shapes.{Shape, total, times}
+use Rattle.latch_table.specs.Shapes.{Shape}
 use Rattle.latch_table.specs.Lines.{IsStore, Knows, is_since}
 use Rattle.latch_table.specs.Laying.{CanLie, laid_shape}
 use Rattle.latch_table.specs.Rule.{Kept}
@@ -36,6 +36,11 @@ module _ {F J : Type 0} where
       → get_elem? (map some (map Frame fs ++ Journal b ∷ tail)) (length fs) ≡ some (some (Journal b))
   journal_there [] b tail = refl
   journal_there (f ∷ fs) b tail = journal_there fs b tail
+
+  last_there : (fs : List F) (b : J)
+      → get_elem? (map some (map Frame fs ++ Journal b ∷ Away ∷ [])) (suc (length fs)) ≡ some (some Away)
+  last_there [] b = refl
+  last_there (f ∷ fs) b = last_there fs b
 
   slot_count : (fs : List F) (b : J) → length (map some (map {B = Slot F J} Frame fs ++ Journal b ∷ Away ∷ [])) ≡ length fs + 2
   slot_count [] b = refl
@@ -84,6 +89,7 @@ module _ {F J : Type 0} (frame : Framed F) (journal : Journaled J) where
         homes = record {
           frames = λ i lt e. let t = frames_there frames (Journal key.value ∷ Away ∷ []) i lt in (t.0, t.2, can.lie i t.0 t.1);
           journal_is = λ e. journal_there frames key.value (Away ∷ []);
+          last = last_there frames key.value;
         };
         noted = λ i j lt e. absurd (omega arith);
         store = can.store;

@@ -1,13 +1,11 @@
 -- Lines that stay as they are where words, owners of xids or one view change.
-use Rattle.std.proofs.Common.{◌≡◌, ◌≢◌, ℕ, suc, ◌+◌, ◌<◌, ◌≤◌, List, [], ◌∷◌, get_or, set, refl, sym, ap, ◌∙◌, arith}
-use Rattle.std.specs.Prelude.{Option, Some, None}
+use Rattle.std.proofs.Common.{◌≡◌, ◌≢◌, ℕ, suc, ◌+◌, ◌<◌, List, get_or, set, ap, ◌∙◌, arith}
+use Rattle.std.specs.Prelude.{Some}
 use mathlib.Core.Logic.{dite}
 use mathlib.Core.Option.{some}
 use native.Mathlib.Decide.{ℕ_discrete}
 use lib.ListN.{get_elem?}
 use Rattle.atomic_table.specs.Table.{State}
-use Rattle.core_state.specs.Log.{In}
-use Rattle.latch_table.specs.declared.slots.Framed.{Ghosts as Framed}
 use Rattle.latch_table.specs.declared.slots.Journaled.{Ghosts as Journaled}
 use Rattle.latch_table.specs.declared.slots.Slot.{Slot}
 use Rattle.latch_table.specs.declared.states.PinNote.{PinNote}

@@ -12,7 +12,7 @@ use Rattle.core_state.specs.Legal.{Pin}
 use Rattle.atomic_table.specs.Table.{Me}
 use Rattle.atomic_table.specs.Table as table
 use Rattle.core_state.specs.Allowed.{Sheet, Step, MayLog, Owes, made_by}
-use Rattle.core_state.specs.Logged.{IsRecordOf, pin_now, abort_all}
+use Rattle.core_state.specs.Logged.{IsRecordOf, abort_all}
 use Rattle.latch_table.specs.declared.slots.Journaled.{Ghosts as Journaled}
 use Rattle.latch_table.specs.declared.slots.Slot.{Slot}
 use Rattle.latch_table.specs.declared.slots.Slot.TheVariants.{Journal}
@@ -21,7 +21,6 @@ use Rattle.latch_table.specs.declared.states.Reading.{Reading}
 use Rattle.latch_table.specs.declared.states.PinNote.{PinNote}
 use Rattle.latch_table.specs.declared.states.RedoNote.{RedoNote}
 use Rattle.latch_table.specs.declared.states.WalkNote.{WalkNote}
-use Rattle.latch_table.specs.declared.states.Shown.{Shown}
 use Rattle.latch_table.specs.declared.states.PassState.{PassState}
 use Rattle.latch_table.specs.PassStates.{view_of, IsLawful}
 
@@ -215,8 +214,8 @@ module _ {J : Type 0} (journal : Journaled J) where
     pub reached : IsLawful journal v → journal.reaches b x.clock (journal.flushed b)
 
   -- Why a record may be logged: it is of a step that the pass may log after each log that is
-  -- allowed to it, and of which it shows what it owes; or it is the abort of all that run, where that
-  -- is owed or no other pass has room.
+  -- allowed to it, and of which it shows what it owes; or it is the abort of all that run, where
+  -- that is owed or no other pass has room.
   pub data MayAppend (v : PassState J) (R : Log) (b : J) (e : Entry) : Type 0 where
     of_step : MayLog (view_of v) e.step → Owes (view_of v) e.step
         → IsRecordOf R e.step e.logged → MayAppend v R b e

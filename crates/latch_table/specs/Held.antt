@@ -1,5 +1,5 @@
 -- The frames that a pass holds, as numbers and as slots that are out with it.
-use Rattle.std.specs.Prelude.{ℕ, zero, suc, ◌==◌, ◌-◌, cond, List, [], ◌∷◌, ◌++◌, Option, Some, None}
+use Rattle.std.specs.Prelude.{ℕ, zero, suc, ◌==◌, cond, List, [], ◌∷◌, Option, Some, None}
 use Rattle.atomic_table.specs.Table.{turned}
 use Rattle.latch_table.specs.declared.held.Held.{Held}
 use Rattle.latch_table.specs.declared.held.Held.TheVariants as held

@@ -1,5 +1,5 @@
 -- What frames and journal are to be where a table is laid over them.
-use Rattle.std.specs.Prelude.{◌≡◌, ℕ, ◌<◌, List, [], length, Option, None}
+use Rattle.std.specs.Prelude.{◌≡◌, ℕ, ◌<◌, List, [], length, None}
 use Rattle.page_types.specs.Numbers.{page_limit, page_size, zeros}
 use mathlib.Core.Option.{some}
 use lib.ListN.{get_elem?}
@@ -25,7 +25,8 @@ laid_shape frames log pages b = record {
 
 -- The lines on the log, on resident pages and on pins hold of these frames and this journal, and no
 -- pin is taken.
-pub record CanLie {F J : Type 0} (frame : Framed F) (journal : Journaled J) (frames : List F) (b : J) : Type 0 where
+pub record CanLie {F J : Type 0} (frame : Framed F) (journal : Journaled J) (frames : List F)
+    (b : J) : Type 0 where
   pub log : Log
   pub pages : Pages
   pub store : IsStore journal b (laid_shape (length frames) log pages b)
@@ -36,7 +37,8 @@ pub record CanLie {F J : Type 0} (frame : Framed F) (journal : Journaled J) (fra
   pub now : journal.lawful b → Keeps log (pin_now (journal.flushed b) log)
 
 -- a journal whose log is empty, over frames whose pages are zeros
-pub record IsEmptyStore {F J : Type 0} (frame : Framed F) (journal : Journaled J) (frames : List F) (b : J) : Type 0 where
+pub record IsEmptyStore {F J : Type 0} (frame : Framed F) (journal : Journaled J) (frames : List F)
+    (b : J) : Type 0 where
   pub stands : journal.stands b []
   pub length_is : journal.length_of b ≡ 0
   pub counted : journal.counted b ≡ 0

@@ -7,3 +7,4 @@ pub mod Rule
 pub mod Laying
 pub mod Told
 pub mod Giving
+pub mod Closing

@@ -1,6 +1,6 @@
 -- The lines of the rule. What needs that the store was lawful at the opening is after `Lawful`;
 -- the rest holds of every store.
-use Rattle.std.specs.Prelude.{◌≡◌, ◌≢◌, ℕ, suc, ◌+◌, ◌<◌, ◌≤◌, Bool, true, nat_lt, ◌&&◌, not, cond, List, [], ◌∷◌, ◌++◌, length, slice_index, Option, Some, None, ⊤}
+use Rattle.std.specs.Prelude.{◌≡◌, ◌≢◌, ℕ, suc, ◌+◌, ◌<◌, ◌≤◌, true, nat_lt, ◌&&◌, not, cond, List, [], ◌∷◌, ◌++◌, length, slice_index, Option, Some, None, ⊤}
 use mathlib.Core.Option.{some}
 use lib.ListN.{get_elem?}
 use Rattle.std.specs.declared.snapshot.Snapshot.{Snapshot}
@@ -15,7 +15,7 @@ use Rattle.core_state.specs.Allowed.{AreOthers}
 use Rattle.latch_table.specs.declared.slots.Framed.{Ghosts as Framed}
 use Rattle.latch_table.specs.declared.slots.Journaled.{Ghosts as Journaled}
 use Rattle.latch_table.specs.declared.slots.Slot.{Slot}
-use Rattle.latch_table.specs.declared.slots.Slot.TheVariants.{Frame, Journal}
+use Rattle.latch_table.specs.declared.slots.Slot.TheVariants.{Frame, Journal, Away}
 use Rattle.latch_table.specs.declared.states.Note.{Note}
 use Rattle.latch_table.specs.declared.states.Reading.{Reading}
 use Rattle.latch_table.specs.declared.states.PinNote.{PinNote}
@@ -38,8 +38,8 @@ is_since opened len k = cond (nat_lt opened k && not (nat_lt len k)) 1 0
 -- The words
 
 module _ {F J : Type 0} where
-  -- One word a frame, then the journal's and that of the right of maintenance; a slot for each. A word
-  -- is 0 exactly where nobody holds it.
+  -- One word a frame, then the journal's and that of the right of maintenance; a slot for each. A
+  -- word is 0 exactly where nobody holds it.
   pub record Words (h : Shape J) (s : State (Slot F J) (PassState J)) : Type 0 where
     pub wide : length s.words ≡ h.frames + 2
     pub deep : length s.homes ≡ h.frames + 2
@@ -47,17 +47,20 @@ module _ {F J : Type 0} where
     pub taken : (i : ℕ) → i < h.frames + 2 → 0 < h.holder i → 0 < slice_index s.words i
 
 module _ {F J : Type 0} (frame : Framed F) (journal : Journaled J) (start : J) where
-  -- the frame i as it lies: it has the page that the journal names for it, and its bytes are the replay
+  -- the frame i as it lies: it has the page that the journal names for it, and its bytes are the
+  -- replay
   pub record IsFrame (h : Shape J) (i : ℕ) (f : F) : Type 0 where
     pub page : frame.page f ≡ journal.place h.journal i
     pub bytes : journal.lawful start → frame.page f < page_limit
         → frame.bytes f ≡ replay h.log (frame.page f)
 
-  -- where a word is free, its value is at home
+  -- where a word is free, its value is at home; the last slot is empty
   pub record Homes (h : Shape J) (s : State (Slot F J) (PassState J)) : Type 0 where
     pub frames : (i : ℕ) → i < h.frames → h.holder i ≡ 0
         → (f : F) × (get_elem? s.homes i ≡ some (some (Frame f))) × IsFrame h i f
-    pub journal_is : h.holder h.frames ≡ 0 → get_elem? s.homes h.frames ≡ some (some (Journal h.journal))
+    pub journal_is : h.holder h.frames ≡ 0
+        → get_elem? s.homes h.frames ≡ some (some (Journal h.journal))
+    pub last : get_elem? s.homes (suc h.frames) ≡ some (some Away)
 
 module _ {J : Type 0} where
   -- a word is noted in a view
@@ -82,6 +85,8 @@ module _ {J : Type 0} where
     pub xids : v.xids ≡ []
     pub begun : v.begun ≡ []
     pub own : v.own ≡ []
+    pub faults : v.faults ≡ 0
+    pub write_faults : v.write_faults ≡ 0
 
 -- no page has two frames
 abbrev pub ArePlaced : {J : Type 0} → Journaled J → Shape J → Type 0
@@ -102,7 +107,8 @@ module _ {J : Type 0} (journal : Journaled J) (start : J) where
     pub length_is : journal.length_of h.journal ≡ length h.log
     pub opened : journal.length_of start ≤ length h.log
     pub counted : journal.counted h.journal ≤ length h.log
-    pub flushed : Lawful → journal.flushed h.journal ≡ commits (cut (journal.counted h.journal) h.log)
+    pub flushed : Lawful
+        → journal.flushed h.journal ≡ commits (cut (journal.counted h.journal) h.log)
     pub reached : (c : ℕ) × (Lawful → journal.reaches h.journal c (journal.flushed h.journal))
     pub legal : Lawful → IsLegal h.log
     pub shown : Lawful → Shows h.log h.pages
@@ -111,8 +117,8 @@ module _ {J : Type 0} (journal : Journaled J) (start : J) where
   -- statement would take now
   pub record ArePinned (h : Shape J) (views : List (PassState J)) : Type 0 where
     pub of_views : (k : ℕ) (p : Pin) → journal.pins h.journal k ≡ Some p
-        → (j : ℕ) × (v : PassState J) × (q : PinNote) × (h.pinner k ≡ suc j) × (get_elem? views j ≡ some v)
-        × (v.pin ≡ Some q) × (q.place ≡ k)
+        → (j : ℕ) × (v : PassState J) × (q : PinNote) × (h.pinner k ≡ suc j)
+        × (get_elem? views j ≡ some v) × (v.pin ≡ Some q) × (q.place ≡ k)
     pub kept : Lawful → (k : ℕ) (p : Pin) → journal.pins h.journal k ≡ Some p → Keeps h.log p
     pub now : Lawful → Keeps h.log (pin_now (journal.flushed h.journal) h.log)
 
@@ -145,7 +151,8 @@ module _ {J : Type 0} (journal : Journaled J) (start : J) where
 
   -- the right of maintenance is this seat's, since a length of the log
   abbrev pub HasWork : Shape J → ℕ → Option ℕ → Type 0
-  HasWork h j work = (at : ℕ) → work ≡ Some at → (h.holder (suc h.frames) ≡ suc j) × (at ≤ length h.log)
+  HasWork h j work = (at : ℕ) → work ≡ Some at
+      → (h.holder (suc h.frames) ≡ suc j) × (at ≤ length h.log)
 
   -- the pin is this seat's, and the journal has it
   abbrev pub HasPin : Shape J → ℕ → Option PinNote → Type 0
@@ -211,7 +218,7 @@ module _ {J : Type 0} (journal : Journaled J) (start : J) where
     pub rooms : total (λ (v : PassState J). v.room) views ≡ 16
     pub faults : journal.faults start + total (λ (v : PassState J). v.faults) views
         ≡ journal.faults h.journal
-    pub write_faults : journal.write_faults start + total (λ (v : PassState J). v.write_faults) views
-        ≡ journal.write_faults h.journal
+    pub write_faults : journal.write_faults start
+        + total (λ (v : PassState J). v.write_faults) views ≡ journal.write_faults h.journal
     pub own : (k : ℕ) → total (λ (v : PassState J). times k v.own) views
         ≡ is_since (journal.length_of start) (length h.log) k

@@ -13,7 +13,6 @@ use Rattle.latch_table.specs.declared.slots.Journaled.{Ghosts as Journaled}
 use Rattle.latch_table.specs.declared.states.Note.{Note}
 use Rattle.latch_table.specs.declared.states.Reading.{Reading}
 use Rattle.latch_table.specs.declared.states.PinNote.{PinNote}
-use Rattle.latch_table.specs.declared.states.Shown.{Shown}
 use Rattle.latch_table.specs.declared.states.PassState.{PassState}
 
 -- the sheets, and this page in front where it is one
@@ -126,7 +125,8 @@ module _ {J : Type 0} where
   with_frame at sought f v = record v {
     frames = f ∷ v.frames;
     readings = cond (f.page == sought)
-        (v.readings ++ record { length = at; page = f.page; bytes = f.bytes; content = f.content } ∷ [])
+        (v.readings
+        ++ record { length = at; page = f.page; bytes = f.bytes; content = f.content } ∷ [])
         v.readings;
   }
 

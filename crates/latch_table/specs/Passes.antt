@@ -22,8 +22,8 @@ pub record IsPassOf {F J : Type 0} (z : TableId) (p : Pass F J) : Type 0 where
   pub out : p.seat.me.1 ≡ journal_if (z.slots - 2) (state p).journal (carried (state p).frames)
   pub room : 0 < (state p).room
 
--- the frame is one of the table's, and the pass may hold one more: it holds fewer than four, and not
--- the journal
+-- the frame is one of the table's, and the pass may hold one more: it holds fewer than four, and
+-- not the journal
 pub record MayClaim {J : Type 0} (z : TableId) (frame : ℕ) (v : PassState J) : Type 0 where
   pub frame_is : frame + 2 < z.slots
   pub no_journal : v.journal ≡ None

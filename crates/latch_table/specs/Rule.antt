@@ -1,5 +1,5 @@
 -- The rule of the table: what holds between any two steps, however threads fall.
-use Rattle.std.specs.Prelude.{◌≡◌, ℕ, List}
+use Rattle.std.specs.Prelude.{◌≡◌, ℕ}
 use mathlib.Core.Option.{some}
 use lib.ListN.{get_elem?}
 use Rattle.atomic_table.specs.Table.{State}
@@ -21,4 +21,5 @@ module _ {F J : Type 0} (frame : Framed F) (journal : Journaled J) where
     pub placed : ArePlaced journal shape
     pub pinned : ArePinned journal start shape s.views
     pub sums : AddUp journal start shape s.views
-    pub knows : (j : ℕ) (v : PassState J) → get_elem? s.views j ≡ some v → Knows journal start shape j v
+    pub knows : (j : ℕ) (v : PassState J) → get_elem? s.views j ≡ some v
+        → Knows journal start shape j v

@@ -1,5 +1,5 @@
 -- The witnesses of the rule, and sums over all passes.
-use Rattle.std.specs.Prelude.{◌≡◌, ℕ, ◌+◌, ◌==◌, Bool, cond, List, [], ◌∷◌}
+use Rattle.std.specs.Prelude.{ℕ, ◌+◌, ◌==◌, cond, List, [], ◌∷◌}
 use Rattle.core_state.specs.Log.{Log, Pages}
 
 pub record Shape (J : Type 0) : Type 0 where

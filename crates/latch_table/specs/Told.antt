@@ -19,9 +19,9 @@ use Rattle.latch_table.specs.declared.states.PassState.{PassState}
 use Rattle.latch_table.specs.PassStates.{view_of, pin_of, found_by, with_frame, without_frame, with_work, without_work, open_state, with_journal, IsLawful}
 
 module _ {F J : Type 0} (frame : Framed F) (journal : Journaled J) where
-  -- The frame `at`, with this value, was claimed when the log was one that goes on from what the pass
-  -- had seen. Of a lawful store, that log is allowed to the pass as it is then, and the page that is
-  -- noted encodes the frame's bytes.
+  -- The frame `at`, with this value, was claimed when the log was one that goes on from what the
+  -- pass had seen. Of a lawful store, that log is allowed to the pass as it is then, and the page
+  -- that is noted encodes the frame's bytes.
   pub record HasClaimed (at sought : ℕ) (f : F) (old new : PassState J) : Type 0 where
     pub log : Log
     pub content : Page
@@ -29,10 +29,12 @@ module _ {F J : Type 0} (frame : Framed F) (journal : Journaled J) where
     pub state : new ≡ with_frame (length log) sought
         (record { frame = at; page = frame.page f; bytes = frame.bytes f; content = content }) old
     pub allowed : IsLawful journal old → IsAllowed (view_of new) log
-    pub encoded : IsLawful journal old → frame.page f < page_limit → page_bytes content ≡ frame.bytes f
+    pub encoded : IsLawful journal old → frame.page f < page_limit
+        → page_bytes content ≡ frame.bytes f
 
   -- a try to claim a frame found its word free, or taken
-  abbrev pub claimed : Bool → Step (Slot F J) → Me (Slot F J) (PassState J) → ℕ → Me (Slot F J) (PassState J) → Type 0
+  abbrev pub claimed : Bool → Step (Slot F J) → Me (Slot F J) (PassState J) → ℕ
+      → Me (Slot F J) (PassState J) → Type 0
   claimed notes st m found m' =
       (found ≡ 0 → (f : F) × HasClaimed st.word (st.second - 1) f (found_by notes found m.0) m'.0
       × (m'.1 ≡ (st.word, Frame f) ∷ m.1))
@@ -45,6 +47,7 @@ module _ {J : Type 0} (journal : Journaled J) where
     pub log : Log
     pub clock : ℕ
     pub stands : journal.stands b log
+    pub length_is : journal.length_of b ≡ length log
     pub state : new ≡ open_state journal b log clock old
     pub allowed : journal.lawful b → IsAllowed (view_of new) log
     pub reached : journal.lawful b → journal.reaches b clock (journal.flushed b)
@@ -52,7 +55,8 @@ module _ {J : Type 0} (journal : Journaled J) where
   -- The journal was claimed, and the pass has seen the log that it stands for, which goes on from
   -- what the pass had seen. What the pass was shown to be flushed is so; it has the pin and the
   -- places of frames that the pass noted; and neither floor nor since is above what its pins give.
-  -- Of a lawful store, the log is allowed to the pass as it was, and keeps the pin that it would take.
+  -- Of a lawful store, the log is allowed to the pass as it was, and keeps the pin that it would
+  -- take.
   pub record HasClaimedJournal (b : J) (old new : PassState J) : Type 0 where
     pub log : Log
     pub clock : ℕ
@@ -104,7 +108,8 @@ module _ {F J : Type 0} (journal : Journaled J) where
 
 module _ {F J : Type 0} where
   -- a frame was given back
-  abbrev pub gave_back : Step (Slot F J) → Me (Slot F J) (PassState J) → ℕ → Me (Slot F J) (PassState J) → Type 0
+  abbrev pub gave_back : Step (Slot F J) → Me (Slot F J) (PassState J) → ℕ
+      → Me (Slot F J) (PassState J) → Type 0
   gave_back st m found m' =
       (m'.0 ≡ without_frame st.word m.0)
       × ((x : ℕ × Slot F J) (xs : List (ℕ × Slot F J)) → m.1 ≡ x ∷ xs → m'.1 ≡ xs)
@@ -123,5 +128,8 @@ module _ {F J : Type 0} where
       → (later : Log) × (m.0.seen ≡ later ++ l))
 
   -- the first pass looked at the journal as it was at the opening
-  abbrev pub opened : Journaled J → Step (Slot F J) → Me (Slot F J) (PassState J) → ℕ → Me (Slot F J) (PassState J) → Type 0
-  opened journal st m found m' = (k : Snapshot J) → m.0.start ≡ Some k → HasOpened journal k.value m.0 m'.0 × (m'.1 ≡ m.1)
+  abbrev pub opened : Journaled J → Step (Slot F J) → Me (Slot F J) (PassState J) → ℕ
+      → Me (Slot F J) (PassState J) → Type 0
+  opened journal st m found m' =
+      (k : Snapshot J) → m.0.start ≡ Some k
+      → HasOpened journal k.value m.0 m'.0 × (m'.1 ≡ m.1)

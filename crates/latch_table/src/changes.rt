@@ -3,7 +3,8 @@ ghost use Rattle.latch_table.specs.Giving.{unchanged};
 
 use crate::states::PassState;
 
-/// A kind of change, which says what it is, from the pass before and the journal as it is given back.
+/// A kind of change, which says what it is, from the pass before and the journal as it is given
+/// back.
 pub trait Changes<J> {
     ghost use Rattle.latch_table.specs.Giving.{Given};
     ghost use Rattle.latch_table.specs.declared.states.PassState.{PassState};

@@ -57,7 +57,8 @@ pub(crate) fn try_take<F: Framed, J: Journaled>(
     ensures claimed { (found : ℕ) × MatchOption result
         ((found ≢ 0) × (seat.new.me ≡ (found_by true found seat.old.me.0, seat.old.me.1)))
         (λ f. (found ≡ 0)
-        × HasClaimed F.Framed J.Journaled frame page f (found_by true found seat.old.me.0) seat.new.me.0
+        × HasClaimed F.Framed J.Journaled frame page f (found_by true found seat.old.me.0)
+        seat.new.me.0
         × (seat.new.me.1 ≡ (frame, Away) ∷ seat.old.me.1)) }
 {
     if latches.compare_exchange::<TryClaim>(seat, frame, 0, page as u64 + 1) != 0 {
@@ -144,7 +145,8 @@ pub(crate) fn put_journal<F: Framed, J: Journaled, C: Changes<J>>(
     requires front { (xs : List (ℕ × Slot F J)) × (seat.old.me.1 ≡ (word, Away) ∷ xs) }
     ensures same { (seat.new.table_id ≡ seat.old.table_id) × (seat.new.id ≡ seat.old.id) }
     ensures given { (b : J) → seat.old.me.0.journal ≡ Some b
-        → HasGivenJournal J.Journaled b journal (C.change seat.old.me.0 journal) seat.old.me.0 seat.new.me.0 }
+        → HasGivenJournal J.Journaled b journal (C.change seat.old.me.0 journal) seat.old.me.0
+        seat.new.me.0 }
     ensures rest { seat.new.me.1 ≡ rest seat.old.me.1 }
 {
     let away = latches.exchange(seat, word, Slot::Journal(journal));

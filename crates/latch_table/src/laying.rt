@@ -74,7 +74,8 @@ fn found<F: Framed + Drop, J: Journaled>(
     ensures table { IfOk result (λ t. (t.1.table_id ≡ t.0.shared.table_id)
         × (t.0.shared.table_id.words ≡ t.0.shared.table_id.slots)
         × (t.0.shared.table_id.slots ≡ length frames.items + 2)) }
-    ensures first { IfOk result (λ t. (key : Snapshot J) × (key.value ≡ journal) × (t.1.me ≡ (first_state key, []))) }
+    ensures first { IfOk result (λ t. (key : Snapshot J) × (key.value ≡ journal)
+        × (t.1.me ≡ (first_state key, []))) }
     ensures refused { IfErr result (λ b. b ≡ journal) }
 {
     let Ok(words) = Vec::from_elem(alloc, 0u64, frames.len() + 2) else {
@@ -113,7 +114,8 @@ fn counts(alloc: Global, count: usize) -> Result<Vec<AtomicU32>, AllocError>
 /// The slots of the table: the frames, the journal, and the empty one of the right of maintenance.
 fn fill<F: Drop, J>(alloc: Global, frames: Vec<F>, journal: J) -> Result<Vec<Slot<F, J>>, J>
     requires { length frames.items < 2 ^ 32 }
-    ensures ok { IfOk result (λ v. v.items ≡ map Frame frames.items ++ Journal journal ∷ Away ∷ []) }
+    ensures ok { IfOk result
+        (λ v. v.items ≡ map Frame frames.items ++ Journal journal ∷ Away ∷ []) }
     ensures refused { IfErr result (λ b. b ≡ journal) }
 {
     let Ok(mut slots) = Vec::with_capacity(alloc, frames.len() + 2) else {
@@ -149,8 +151,10 @@ fn push_frames<F: Drop, J>(slots: &mut Vec<Slot<F, J>>, frames: Vec<F>)
 
 /// The journal of a table's slots.
 fn journal_of<F: Drop, J>(mut slots: Vec<Slot<F, J>>) -> J
-    requires { (frames : List F) × (b : J) × (slots.items ≡ map Frame frames ++ Journal b ∷ Away ∷ []) }
-    ensures { (frames : List F) (b : J) → slots.items ≡ map Frame frames ++ Journal b ∷ Away ∷ [] → result ≡ b }
+    requires { (frames : List F) × (b : J)
+        × (slots.items ≡ map Frame frames ++ Journal b ∷ Away ∷ []) }
+    ensures { (frames : List F) (b : J) → slots.items ≡ map Frame frames ++ Journal b ∷ Away ∷ []
+        → result ≡ b }
 {
     let Some(slot) = slots.pop() else {
         unreachable!()

@@ -1,8 +1,10 @@
-//! Latches on frames, on the journal and on the right of maintenance, as the words of one table, whose rule ties what each session knows to the log.
+//! Latches on frames, on the journal and on the right of maintenance, as the words of one table,
+//! whose rule ties what each session knows to the log.
 #![tactic(auto)]
 
 mod changes;
 mod claims;
+mod closing;
 mod held;
 mod laws;
 mod laying;

@@ -20,7 +20,8 @@ pub trait Journaled {
     /// The store is a lawful one, where this is the journal at the opening.
     ghost lawful: { Self → Type 0 };
 
-    /// It stands for this log, the newest record first. Of a device that says nothing it may stand for several.
+    /// It stands for this log, the newest record first. Of a device that says nothing it may stand
+    /// for several.
     ghost stands: { Self → List Record → Type 0 };
 
     /// How many commits are flushed.
@@ -52,7 +53,8 @@ pub trait Journaled {
     /// What a redo number promises of this log; whether the write and the sync after it were made.
     ghost has_redo: { Self → List Record → ℕ → Bool → Bool → Type 0 };
 
-    /// What a write-back under way promises of this log: from a redo number on, below a bound, so many pages are passed.
+    /// What a write-back under way promises of this log: from a redo number on, below a bound, so
+    /// many pages are passed.
     ghost has_walked: { Self → List Record → ℕ → ℕ → ℕ → Type 0 };
 }
 

@@ -1,4 +1,5 @@
-// What a pass knows. No value of it is made: it is for clauses, where an array is a list of any length.
+// What a pass knows. No value of it is made: it is for clauses, where an array is a list of any
+// length.
 use page_types::{Page, Record};
 use std::snapshot::Snapshot;
 

@@ -8,11 +8,13 @@ ghost use Rattle.latch_table.specs.PassStates.{first_state, found_by, without_fr
 ghost use Rattle.latch_table.specs.Told.{HasClaimed, HasClaimedJournal, HasClaimedWork, HasOpened};
 ghost use Rattle.latch_table.specs.Giving.{HasGivenJournal, CanGive};
 ghost use Rattle.latch_table.specs.Laying.{CanLie};
+ghost use Rattle.latch_table.specs.Closing.{HasClosed};
 ghost use Rattle.latch_table.specs.Lines.{Absent};
 ghost use Rattle.latch_table.specs.Passes.{state, IsIdle, IsPassOf, MayClaim};
 
 use crate::changes::Changes;
 use crate::claims::{put, put_journal, take, take_journal, try_take, turn};
+use crate::closing::unlay;
 use crate::held::Held;
 use crate::laying::lay;
 use crate::pass::Pass;
@@ -42,8 +44,8 @@ pub struct LatchTable<F: Framed, J: Journaled> {
 }
 
 impl<F: Framed + Drop, J: Journaled> LatchTable<F, J> {
-    /// The table over these frames and this journal, with a first pass, which has seen the journal's
-    /// log. For want of memory the journal comes back.
+    /// The table over these frames and this journal, with a first pass, which has seen the
+    /// journal's log. For want of memory the journal comes back.
     pub fn new(
         alloc: Global,
         frames: Vec<F>,
@@ -52,12 +54,27 @@ impl<F: Framed + Drop, J: Journaled> LatchTable<F, J> {
         requires count { length frames.items < 2 ^ 32 }
         requires lie { CanLie F.Framed J.Journaled frames.items journal }
         ensures pass { IfOk result (λ t. IsPassOf t.0.table.shared.table_id t.1) }
-        ensures frames { IfOk result (λ t. t.0.table.shared.table_id.slots ≡ length frames.items + 2) }
+        ensures frames { IfOk result
+            (λ t. t.0.table.shared.table_id.slots ≡ length frames.items + 2) }
         ensures opened { IfOk result (λ t. (key : Snapshot J) × (key.value ≡ journal)
             × HasOpened J.Journaled journal (first_state key) (state t.1)) }
         ensures refused { IfErr result (λ b. b ≡ journal) }
     {
         lay(alloc, frames, journal)
+    }
+
+    /// Closes the table by the last pass, to which all others were joined. The frames are dropped,
+    /// and the journal comes back.
+    pub fn close(self, pass: Pass<F, J>) -> J
+        requires pass { IsPassOf self.table.shared.table_id pass }
+        requires idle { IsIdle (state pass) }
+        requires last { (state pass).room ≡ 16 }
+        ensures { HasClosed J.Journaled result (state pass) }
+    {
+        let LatchTable { table, waiting } = self;
+        let Pass { seat, held: _ } = pass;
+        drop(waiting);
+        unlay(table.close_with(seat))
     }
 }
 
@@ -68,7 +85,8 @@ impl<F: Framed, J: Journaled> LatchTable<F, J> {
         requires may { MayClaim self.now.table.shared.table_id frame (state pass.old) }
         requires not_held { Absent frame (state pass.old).frames }
         ensures pass { IsPassOf self.now.table.shared.table_id pass.new }
-        ensures claimed { HasClaimed F.Framed J.Journaled frame page result (state pass.old) (state pass.new) }
+        ensures claimed { HasClaimed F.Framed J.Journaled frame page result (state pass.old)
+            (state pass.new) }
     {
         let value = self.take_waiting(rt, &mut pass.seat, frame as usize, page);
         pass.held = pass.held.with(frame);
@@ -83,7 +101,8 @@ impl<F: Framed, J: Journaled> LatchTable<F, J> {
         ensures claimed { (found : ℕ) × MatchOption result
             ((found ≢ 0) × (state pass.new ≡ found_by true found (state pass.old)))
             (λ f. (found ≡ 0)
-            × HasClaimed F.Framed J.Journaled frame page f (found_by true found (state pass.old)) (state pass.new)) }
+            × HasClaimed F.Framed J.Journaled frame page f (found_by true found (state pass.old))
+            (state pass.new)) }
     {
         let value = try_take(&self.table.shared, &mut pass.seat, frame as usize, page)?;
         pass.held = pass.held.with(frame);
@@ -121,12 +140,12 @@ impl<F: Framed, J: Journaled> LatchTable<F, J> {
     /// Gives the journal back, with what the kind of change says that the pass changed.
     pub fn give_back_journal<C: Changes<J>>(&self, pass: &mut Pass<F, J>, journal: J)
         requires pass { IsPassOf self.now.table.shared.table_id pass.old }
-        requires can { CanGive J.Journaled (self.now.table.shared.table_id.slots - 2) (state pass.old) journal
-            (C.change (state pass.old) journal) }
+        requires can { CanGive J.Journaled (self.now.table.shared.table_id.slots - 2)
+            (state pass.old) journal (C.change (state pass.old) journal) }
         ensures pass { IsPassOf self.now.table.shared.table_id pass.new }
         ensures given { (b : J) → (state pass.old).journal ≡ Some b
-            → HasGivenJournal J.Journaled b journal (C.change (state pass.old) journal) (state pass.old)
-            (state pass.new) }
+            → HasGivenJournal J.Journaled b journal (C.change (state pass.old) journal)
+            (state pass.old) (state pass.new) }
     {
         let word = self.table.slot_count() - 2;
         put_journal::<F, J, C>(&self.table.shared, &mut pass.seat, word, journal);
@@ -151,7 +170,8 @@ impl<F: Framed, J: Journaled> LatchTable<F, J> {
         ensures claimed { (found : ℕ)
             × (result ≡ true → (found ≡ 0)
             × HasClaimedWork J.Journaled (found_by true found (state pass.old)) (state pass.new))
-            × (result ≡ false → (found ≢ 0) × (state pass.new ≡ found_by true found (state pass.old))) }
+            × (result ≡ false → (found ≢ 0)
+            × (state pass.new ≡ found_by true found (state pass.old))) }
     {
         let word = self.table.slot_count() - 1;
         try_take_work(&self.table.shared, &mut pass.seat, word)
@@ -221,7 +241,8 @@ impl<F: Framed, J: Journaled> LatchTable<F, J> {
         requires room { 0 < seat.old.me.0.room }
         ensures same { (seat.new.table_id ≡ seat.old.table_id) × (seat.new.id ≡ seat.old.id) }
         ensures claimed { HasClaimedJournal J.Journaled result seat.old.me.0 seat.new.me.0 }
-        ensures out { seat.new.me.1 ≡ (self.now.table.shared.table_id.slots - 2, Away) ∷ seat.old.me.1 }
+        ensures out { seat.new.me.1
+            ≡ (self.now.table.shared.table_id.slots - 2, Away) ∷ seat.old.me.1 }
     {
         let word = self.table.slot_count() - 2;
         for _ in rt.forever() {
@@ -238,7 +259,8 @@ impl<F: Framed, J: Journaled> LatchTable<F, J> {
             × (frame + 2 < self.now.table.shared.table_id.slots) }
         requires room { 0 < seat.old.me.0.room }
         ensures same { (seat.new.table_id ≡ seat.old.table_id) × (seat.new.id ≡ seat.old.id) }
-        ensures claimed { HasClaimed F.Framed J.Journaled frame page result seat.old.me.0 seat.new.me.0
+        ensures claimed { HasClaimed F.Framed J.Journaled frame page result seat.old.me.0
+            seat.new.me.0
             × (seat.new.me.1 ≡ (frame, Away) ∷ seat.old.me.1) }
     {
         for _ in rt.forever() {

@@ -1,8 +1,5 @@
-use Rattle.std.proofs.Common.{rules, arith, ap, sym, subst, ◌∙◌, ◌≡◌, ◌≢◌, ◌∷◌}
-use Rattle.std.specs.Prelude.{Some}
-use Rattle.std.specs.declared.snapshot.Snapshot.{Snapshot}
+use Rattle.std.proofs.Common.{rules, arith, ap, sym, subst, ◌∙◌, ◌≢◌}
 use Rattle.latch_table.specs.declared.states.PassState.{PassState}
-use Rattle.latch_table.specs.declared.slots.Slot.TheVariants.{Journal}
 use Rattle.latch_table.specs.Giving.{HasGivenJournal, CanGive}
 use Rattle.latch_table.proofs.GiveJournal.{gives_journal}
 use Rattle.latch_table.proofs.claims.put_journal.Goals as goal

@@ -1,4 +1,4 @@
-use Rattle.std.proofs.Common.{rules, arith, true, ap, sym, subst, ◌∙◌, ◌∷◌, ◌≡◌}
+use Rattle.std.proofs.Common.{rules, arith, true, ap, sym, ◌∙◌, ◌∷◌}
 use Rattle.atomic_table.specs.Table.{rest}
 use Rattle.latch_table.specs.declared.slots.Slot.TheVariants.{Frame}
 use Rattle.latch_table.proofs.ClaimFrames.{claims_frame}

@@ -1,4 +1,4 @@
-use Rattle.std.proofs.Common.{rules, arith, ap, sym, subst, ◌∙◌, ◌≡◌, ◌+◌, ◌++◌, ◌∷◌, [], List, ℕ, map, length}
+use Rattle.std.proofs.Common.{rules, ap, sym, subst, ◌∙◌, ◌≡◌, ◌+◌, ◌++◌, ◌∷◌, [], List, ℕ, map, length}
 use lib.ListN.{replicate}
 use Rattle.atomic_table.specs.Table.{opening}
 use Rattle.latch_table.specs.declared.slots.Slot.{Slot}

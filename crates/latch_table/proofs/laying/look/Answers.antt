@@ -1,4 +1,4 @@
-use Rattle.std.proofs.Common.{rules, arith, ap, sym, subst, ◌∙◌, ◌≡◌}
+use Rattle.std.proofs.Common.{rules, ap, subst, ◌∙◌}
 use Rattle.latch_table.specs.Told.{HasOpened}
 use Rattle.latch_table.specs.declared.states.PassState.{PassState}
 use Rattle.latch_table.proofs.Opens.{opens}

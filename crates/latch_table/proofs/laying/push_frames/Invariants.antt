@@ -1,5 +1,5 @@
-use Rattle.std.proofs.Common.{◌≡◌, ◌≤◌, ◌+◌, map, length}
-use Rattle.std.specs.Vec.{vec_capacity, vec_len}
+use Rattle.std.proofs.Common.{◌≡◌, ◌≤◌, map}
+use Rattle.std.specs.Vec.{vec_capacity}
 use Rattle.latch_table.specs.declared.slots.Slot.TheVariants.{Frame}
 use Rattle.latch_table.proofs.laying.push_frames.Given as goal
 

@@ -31,21 +31,21 @@ use Rattle.engine.proofs.db.Db.put.Goals as goal
 pub log-requires-clause-next : goal.log-requires-clause-next
 log-requires-clause-next g c =
     let s : DbValue g.row.D.Denot = record { documents = kept_in c.self.inside.heap; heap = c.self.inside.heap; journal = c.self.inside.journal } in
-    let d = c.in_ok-prepare.prepared in
-    next_records g.D.Disk s c.self.inside.used c.args.vector.now d c.self.invariant (subst (λ z. IsPreparedFor z c.args.vector.now d) (sym c.self.view_is) c.in_ok-prepare.ensures.prepared)
+    let d = c.in_ok-prepared.prepared in
+    next_records g.D.Disk s c.self.inside.used c.args.vector.now d c.self.invariant (subst (λ z. IsPreparedFor z c.args.vector.now d) (sym c.self.view_is) c.in_ok-prepared.ensures.prepared)
 
 pub log-requires-clause-short : goal.log-requires-clause-short
 log-requires-clause-short g c =
     let s : DbValue g.row.D.Denot = record { documents = kept_in c.self.inside.heap; heap = c.self.inside.heap; journal = c.self.inside.journal } in
-    let d = c.in_ok-prepare.prepared in
-    let f : IsPreparedFor s c.args.vector.now d = subst (λ z. IsPreparedFor z c.args.vector.now d) (sym c.self.view_is) c.in_ok-prepare.ensures.prepared in
+    let d = c.in_ok-prepared.prepared in
+    let f : IsPreparedFor s c.args.vector.now d = subst (λ z. IsPreparedFor z c.args.vector.now d) (sym c.self.view_is) c.in_ok-prepared.ensures.prepared in
     omega (arith, ap (λ rs. length (logged_bytes s.journal rs)) f.records, logged_size s.journal d.insertion d.heap f.page, owed_small s.journal.owes)
 
 pub log-requires-clause-follow : goal.log-requires-clause-follow
 log-requires-clause-follow g c t up R H st l =
     let s : DbValue g.row.D.Denot = record { documents = kept_in c.self.inside.heap; heap = c.self.inside.heap; journal = c.self.inside.journal } in
-    let d = c.in_ok-prepare.prepared in
-    let f : IsPreparedFor s c.args.vector.now d = subst (λ z. IsPreparedFor z c.args.vector.now d) (sym c.self.view_is) c.in_ok-prepare.ensures.prepared in
+    let d = c.in_ok-prepared.prepared in
+    let f : IsPreparedFor s c.args.vector.now d = subst (λ z. IsPreparedFor z c.args.vector.now d) (sym c.self.view_is) c.in_ok-prepared.ensures.prepared in
     (H ++ insertion (next_document s c.args.vector.now) ∷ [], follows g.D.Disk s c.self.inside.used c.args.vector.now d c.self.invariant f (encoding_has_size c.args.vector.now) t up R H st l, (insertion (next_document s c.args.vector.now) ∷ [], refl))
 
 pub invariant_of-self : goal.invariant_of-self
@@ -58,8 +58,8 @@ pub returns-in-Err : goal.returns-in-Err
 returns-in-Err g c =
     let s : DbValue g.row.D.Denot = record { documents = kept_in c.self.inside.heap; heap = c.self.inside.heap; journal = c.self.inside.journal } in
     let new : DbValue g.row.D.Denot = record { documents = kept_in c.self.inside.heap; heap = c.self.inside.heap; journal = c.log.new.self } in
-    let d = c.in_ok-prepare.prepared in
-    let f : IsPreparedFor s c.args.vector.now d = subst (λ z. IsPreparedFor z c.args.vector.now d) (sym c.self.view_is) c.in_ok-prepare.ensures.prepared in
+    let d = c.in_ok-prepared.prepared in
+    let f : IsPreparedFor s c.args.vector.now d = subst (λ z. IsPreparedFor z c.args.vector.now d) (sym c.self.view_is) c.in_ok-prepared.ensures.prepared in
     let up : down_of s.journal.wal ≡ None = sym c.fault.ensures ∙ c.in_default.is in
     let few : length (waiting s.journal.wal) ≤ 20000 = c.self.invariant.idle up in
     let less : length (waiting s.journal.wal) < 4194304 = omega (arith, few) in
@@ -79,8 +79,8 @@ returns-in-Err g c =
 pub invariant_of-self-in-Err-flush : goal.invariant_of-self-in-Err-flush
 invariant_of-self-in-Err-flush g c =
     let s : DbValue g.row.D.Denot = record { documents = kept_in c.self.inside.heap; heap = c.self.inside.heap; journal = c.self.inside.journal } in
-    let d = c.in_ok-prepare.prepared in
-    let prepared : IsPreparedFor s c.args.vector.now d = subst (λ z. IsPreparedFor z c.args.vector.now d) (sym c.self.view_is) c.in_ok-prepare.ensures.prepared in
+    let d = c.in_ok-prepared.prepared in
+    let prepared : IsPreparedFor s c.args.vector.now d = subst (λ z. IsPreparedFor z c.args.vector.now d) (sym c.self.view_is) c.in_ok-prepared.ensures.prepared in
     let up : down_of s.journal.wal ≡ None = sym c.fault.ensures ∙ c.in_default.is in
     let less : length (waiting s.journal.wal) < 4194304 = omega (arith, c.self.invariant.idle up) in
     let has : HasLogged s.journal c.log.new.self d.records = on_ok c.log.result _ _ c.in_default-log.is (c.log.ensures.now less).0 in
@@ -107,8 +107,8 @@ pub returns-in-Err-flush : goal.returns-in-Err-flush
 returns-in-Err-flush g c =
     let s : DbValue g.row.D.Denot = record { documents = kept_in c.self.inside.heap; heap = c.self.inside.heap; journal = c.self.inside.journal } in
     let new : DbValue g.row.D.Denot = record { documents = kept_in c.self.inside.heap; heap = c.self.inside.heap; journal = c.flush.new.self } in
-    let d = c.in_ok-prepare.prepared in
-    let prepared : IsPreparedFor s c.args.vector.now d = subst (λ z. IsPreparedFor z c.args.vector.now d) (sym c.self.view_is) c.in_ok-prepare.ensures.prepared in
+    let d = c.in_ok-prepared.prepared in
+    let prepared : IsPreparedFor s c.args.vector.now d = subst (λ z. IsPreparedFor z c.args.vector.now d) (sym c.self.view_is) c.in_ok-prepared.ensures.prepared in
     let up : down_of s.journal.wal ≡ None = sym c.fault.ensures ∙ c.in_default.is in
     let less : length (waiting s.journal.wal) < 4194304 = omega (arith, c.self.invariant.idle up) in
     let has : HasLogged s.journal c.log.new.self d.records = on_ok c.log.result _ _ c.in_default-log.is (c.log.ensures.now less).0 in
@@ -144,8 +144,8 @@ returns-in-Err-flush g c =
 pub invariant_of-self-2 : goal.invariant_of-self-2
 invariant_of-self-2 g c =
     let s : DbValue g.row.D.Denot = record { documents = kept_in c.self.inside.heap; heap = c.self.inside.heap; journal = c.self.inside.journal } in
-    let d = c.in_ok-prepare.prepared in
-    let prepared : IsPreparedFor s c.args.vector.now d = subst (λ z. IsPreparedFor z c.args.vector.now d) (sym c.self.view_is) c.in_ok-prepare.ensures.prepared in
+    let d = c.in_ok-prepared.prepared in
+    let prepared : IsPreparedFor s c.args.vector.now d = subst (λ z. IsPreparedFor z c.args.vector.now d) (sym c.self.view_is) c.in_ok-prepared.ensures.prepared in
     let up : down_of s.journal.wal ≡ None = sym c.fault.ensures ∙ c.in_default.is in
     let less : length (waiting s.journal.wal) < 4194304 = omega (arith, c.self.invariant.idle up) in
     let done = on_ok c.flush.result _ _ c.in_default-flush.is c.flush.ensures.done in
@@ -169,9 +169,9 @@ invariant_of-self-2 g c =
 pub returns : goal.returns
 returns g c =
     let s : DbValue g.row.D.Denot = record { documents = kept_in c.self.inside.heap; heap = c.self.inside.heap; journal = c.self.inside.journal } in
-    let d = c.in_ok-prepare.prepared in
+    let d = c.in_ok-prepared.prepared in
     let new : DbValue g.row.D.Denot = record { documents = kept_in d.heap; heap = d.heap; journal = c.flush.new.self } in
-    let prepared : IsPreparedFor s c.args.vector.now d = subst (λ z. IsPreparedFor z c.args.vector.now d) (sym c.self.view_is) c.in_ok-prepare.ensures.prepared in
+    let prepared : IsPreparedFor s c.args.vector.now d = subst (λ z. IsPreparedFor z c.args.vector.now d) (sym c.self.view_is) c.in_ok-prepared.ensures.prepared in
     let up : down_of s.journal.wal ≡ None = sym c.fault.ensures ∙ c.in_default.is in
     let few : length (waiting s.journal.wal) ≤ 20000 = c.self.invariant.idle up in
     let less : length (waiting s.journal.wal) < 4194304 = omega (arith, few) in

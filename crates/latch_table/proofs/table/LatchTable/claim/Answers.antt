@@ -1,7 +1,6 @@
-use Rattle.std.proofs.Common.{rules, arith, refl, true, ap, sym, ◌∙◌, ◌≡◌, length}
+use Rattle.std.proofs.Common.{arith, refl, ap, ◌∙◌, ◌≡◌, length}
 use Rattle.latch_table.specs.Held.{numbers}
 use Rattle.latch_table.specs.Passes.{state}
-use Rattle.latch_table.specs.PassStates.{found_by}
 use Rattle.latch_table.proofs.Passing.{claimed_by}
 use Rattle.latch_table.proofs.Rotate.{frames_length}
 use Rattle.latch_table.proofs.table.LatchTable.claim.Goals as goal

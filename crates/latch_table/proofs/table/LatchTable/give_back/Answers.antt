@@ -1,4 +1,4 @@
-use Rattle.std.proofs.Common.{rules, arith, ap, sym, ◌∙◌, ◌≡◌, ◌-◌, ℕ}
+use Rattle.std.proofs.Common.{arith, ap, ◌∙◌, ◌-◌, ℕ}
 use Rattle.atomic_table.specs.Table.{rest}
 use Rattle.latch_table.specs.PassStates.{without_frame}
 use Rattle.latch_table.specs.Held.{turned_by}

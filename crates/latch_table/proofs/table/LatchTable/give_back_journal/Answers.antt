@@ -1,4 +1,4 @@
-use Rattle.std.proofs.Common.{rules, arith, refl, ap, sym, subst, ◌∙◌, ◌≡◌, ◌∷◌, ◌-◌, ℕ}
+use Rattle.std.proofs.Common.{refl, ap, sym, subst, ◌∙◌, ◌∷◌, ◌-◌}
 use Rattle.latch_table.specs.Passes.{state}
 use Rattle.latch_table.specs.declared.slots.Slot.TheVariants.{Away}
 use Rattle.latch_table.specs.Held.{carried}

@@ -1,8 +1,7 @@
-use Rattle.std.proofs.Common.{rules, arith, refl, ap, sym, subst, ◌∙◌, ◌≡◌, ◌≢◌, ◌≤◌, ◌++◌, ◌∷◌, length, inl, inr}
+use Rattle.std.proofs.Common.{arith, refl, ap, sym, subst, ◌∙◌, ◌≤◌, length, inl, inr}
 use Rattle.core_state.specs.Log.{Log, In}
 use Rattle.latch_table.specs.declared.states.PassState.{PassState}
 use Rattle.latch_table.specs.Passes.{state}
-use Rattle.latch_table.specs.PassStates.{longer, joined}
 use Rattle.latch_table.proofs.Joins.{joins, looks, longer_left, longer_right}
 use Rattle.latch_table.proofs.Passing.{idle_out, joined_pass}
 use Rattle.latch_table.proofs.table.LatchTable.join.Goals as goal

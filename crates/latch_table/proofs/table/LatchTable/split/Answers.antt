@@ -1,4 +1,4 @@
-use Rattle.std.proofs.Common.{rules, arith, refl, ap, sym, subst, ◌∙◌, ◌≡◌, ◌<◌}
+use Rattle.std.proofs.Common.{arith, refl, ap, sym, subst, ◌<◌}
 use Rattle.latch_table.proofs.Splits.{splits}
 use Rattle.latch_table.proofs.Passing.{same_pass, split_pass}
 use Rattle.latch_table.proofs.table.LatchTable.split.Goals as goal

@@ -1,4 +1,4 @@
-use Rattle.std.proofs.Common.{rules, arith, refl, true, ap, sym, ◌∙◌, ◌≡◌, length}
+use Rattle.std.proofs.Common.{arith, refl, true, ap, ◌∙◌, ◌≡◌, length}
 use Rattle.latch_table.specs.Held.{numbers}
 use Rattle.latch_table.specs.Passes.{state}
 use Rattle.latch_table.specs.PassStates.{found_by}

@@ -1,0 +1,208 @@
+-- A table that its last pass closes has each value at home, and its journal has all that was logged.
+use Rattle.std.proofs.Common.{◌≡◌, ◌≢◌, ◌⊎◌, ℕ, zero, suc, ◌+◌, ◌<◌, ◌≤◌, ◌==◌, cond, List, [], ◌∷◌, ◌++◌, length, refl, sym, ap, subst, ◌∙◌, inl, inr, arith, ne_eqb, length-append, Bool, false, get_or, set}
+use Rattle.std.specs.Prelude.{Option, Some, None}
+use Rattle.std.specs.declared.snapshot.Snapshot.{Snapshot}
+use mathlib.Core.Logic.{dite}
+use mathlib.Core.Option.{some, some-ne-none}
+use native.Mathlib.Decide.{ℕ_discrete}
+use lib.ListN.{get_elem?}
+use Rattle.atomic_table.specs.Table.{State, Final, Seen}
+use Rattle.core_state.specs.Log.{Log, In}
+use Rattle.core_state.specs.Legal.{Pin}
+use Rattle.latch_table.specs.declared.slots.Framed.{Ghosts as Framed}
+use Rattle.latch_table.specs.declared.slots.Journaled.{Ghosts as Journaled}
+use Rattle.latch_table.specs.declared.slots.Slot.{Slot}
+use Rattle.latch_table.specs.declared.slots.Slot.TheVariants.{Frame, Journal, Away}
+use Rattle.latch_table.specs.declared.states.PassState.{PassState}
+use Rattle.latch_table.specs.PassStates.{IsLawful}
+use Rattle.latch_table.specs.Passes.{IsIdle}
+use Rattle.latch_table.specs.Shapes.{Shape, total, times}
+use Rattle.latch_table.specs.Lines.{IsNoted, IsSpent, Knows, is_since}
+use Rattle.latch_table.specs.Rule.{Kept}
+use Rattle.latch_table.specs.Closing.{IsAllSince, HasClosed}
+use Rattle.latch_table.proofs.Told.{lawful_here}
+use Rattle.latch_table.proofs.Stay.{spent_others}
+
+total_none : {V : Type 0} (f : V → ℕ) (vs : List V) → ((j : ℕ) (w : V) → get_elem? vs j ≡ some w → f w ≡ 0)
+    → total f vs ≡ 0
+total_none f [] none = refl
+total_none f (x ∷ vs) none =
+    let h = none zero x refl in
+    let r = total_none f vs (λ j w p. none (suc j) w p) in omega arith
+
+-- a sum of which all others have nothing
+total_alone : {V : Type 0} (f : V → ℕ) (vs : List V) (i : ℕ) (v : V) → get_elem? vs i ≡ some v
+    → ((j : ℕ) (w : V) → j ≢ i → get_elem? vs j ≡ some w → f w ≡ 0) → total f vs ≡ f v
+total_alone f [] i v at none = absurd (some-ne-none v (sym at))
+total_alone f (x ∷ vs) zero v at none =
+    let e : f x ≡ f v = ap f (cc at) in
+    let r = total_none f vs (λ j w p. none (suc j) w (λ q. omega arith) p) in omega arith
+total_alone f (x ∷ vs) (suc i) v at none =
+    let h = none zero x (λ q. omega arith) refl in
+    let r = total_alone f vs i v at (λ j w ne p. none (suc j) w (λ q. ne (let z : j ≡ i = omega arith in z)) p) in
+    omega arith
+
+-- what is counted is in the list
+in_times : (k : ℕ) (xs : List ℕ) → 0 < times k xs → In k xs
+in_times k [] lt = absurd (omega arith)
+in_times k (x ∷ xs) lt = dite (ℕ_discrete x k)
+    (λ (e : x ≡ k). inl (sym e))
+    (λ ne.
+    let rest : 0 < 0 + times k xs = subst (λ b. 0 < cond b 1 0 + times k xs) (ne_eqb x k ne) lt in
+    inr (in_times k xs (omega arith)))
+
+-- a place that is set to false has it, and so have those that had it
+pub set_false : (fs : List Bool) (i k : ℕ) → (k ≢ i → get_or fs k false ≡ false)
+    → get_or (set fs i false) k false ≡ false
+set_false [] i k f = refl
+set_false (x ∷ fs) zero zero f = refl
+set_false (x ∷ fs) zero (suc k) f = f (λ e. omega arith)
+set_false (x ∷ fs) (suc i) zero f = f (λ e. omega arith)
+set_false (x ∷ fs) (suc i) (suc k) f =
+    set_false fs i k (λ ne. f (λ e. ne (let z : k ≡ i = omega arith in z)))
+
+-- the last record is one since the opening, where there is one
+last_since : (n m : ℕ) → n < m → is_since n m m ≡ 1
+last_since n m lt = grind (arith, Rattle.std.proofs.lemmas.Bool.Decides.nat_tests)
+
+module _ {J : Type 0} where
+  none_noted : (h : Shape J) (w : PassState J) (i : ℕ) → w.frames ≡ [] → w.journal ≡ None → w.work ≡ None
+      → IsNoted h w i → ⊥
+  none_noted h w i a b c (IsNoted.as_frame f in_) = subst (In f) a in_
+  none_noted h w i a b c (IsNoted.as_journal x e) = let z : Some x ≡ None = sym e ∙ b in cc z
+  none_noted h w i a b c (IsNoted.as_work x e) = let z : Some x ≡ None = sym e ∙ c in cc z
+
+module _ {F J : Type 0} (frame : Framed F) (journal : Journaled J) (start : J) where
+  abbrev St : Type 0
+  St = State (Slot F J) (PassState J)
+
+  abbrev Rule : St → Type 0
+  Rule = Kept frame journal start
+
+  -- what the slots have, and the journal
+  pub record Ends (slots : List (Slot F J)) (v : PassState J) : Type 0 where
+    pub frames : (i : ℕ) → i + 2 < length slots → (f : F) × (get_elem? slots i ≡ some (Frame f))
+    pub journal_is : (b : J) × (i : ℕ) × (i + 2 ≡ length slots) × (get_elem? slots i ≡ some (Journal b))
+        × HasClosed journal b v
+    pub last : (i : ℕ) → i + 1 ≡ length slots → get_elem? slots i ≡ some Away
+
+  module _ (s : St) (k : Rule s) (id : ℕ) (v : PassState J) (at : get_elem? s.views id ≡ some v)
+      (full : v.room ≡ 16) (idle : IsIdle v) where
+    abbrev h : Shape J
+    h = k.shape
+
+    mine : Knows journal start h id v
+    mine = k.knows id v at
+
+    others : (j : ℕ) (w : PassState J) → j ≢ id → get_elem? s.views j ≡ some w → IsSpent w
+    others j w other there = spent_others journal start h s.views k.sums k.knows id v at full j w other there
+
+    the_same : (j : ℕ) (w : PassState J) → j ≡ id → get_elem? s.views j ≡ some w → w ≡ v
+    the_same j w same there = let z : some w ≡ some v = sym there ∙ ap (get_elem? s.views) same ∙ at in cc z
+
+    -- nobody holds a word
+    free : (i : ℕ) → i < h.frames + 2 → h.holder i ≡ 0
+    free i lt = go (h.holder i) refl
+      where
+        go : (n : ℕ) → h.holder i ≡ n → h.holder i ≡ 0
+        go zero e = e
+        go (suc j) e =
+            let o = k.noted i j lt e in
+            absurd (dite (ℕ_discrete j id)
+            (λ same.
+            let q = the_same j o.0 same o.1 in
+            none_noted h v i idle.frames idle.journal_is idle.work (subst (λ (y : PassState J). IsNoted h y i) q o.2))
+            (λ other.
+            let t = others j o.0 other o.1 in
+            none_noted h o.0 i t.frames t.journal_is t.work o.2))
+
+    -- nor has a pin
+    no_pins : (n : ℕ) → journal.pins h.journal n ≡ None
+    no_pins n = go (journal.pins h.journal n) refl
+      where
+        go : (o : Option Pin) → journal.pins h.journal n ≡ o → journal.pins h.journal n ≡ None
+        go None e = e
+        go (Some p) e =
+            let o = k.pinned.of_views n p e in
+            absurd (dite (ℕ_discrete o.0 id)
+            (λ same.
+            let q = the_same o.0 o.1 same o.4 in
+            let none : Some o.2 ≡ None = sym o.5 ∙ ap (λ (y : PassState J). y.pin) q ∙ idle.pin in cc none)
+            (λ other.
+            let t = others o.0 o.1 other o.4 in
+            let none : Some o.2 ≡ None = sym o.5 ∙ t.pin in cc none))
+
+    -- the pass has logged all since the opening
+    owns : (n : ℕ) → times n v.own ≡ is_since (journal.length_of start) (length h.log) n
+    owns n = sym (total_alone (λ (y : PassState J). times n y.own) s.views id v at
+        (λ j w other there. ap (times n) (others j w other there).own)) ∙ k.sums.own n
+
+    has_seen : journal.length_of start ≤ length v.seen → h.log ≡ v.seen
+    has_seen le = go mine.seen.later mine.seen.goes_on
+      where
+        go : (rs : Log) → h.log ≡ rs ++ v.seen → h.log ≡ v.seen
+        go [] e = e
+        go (r ∷ rs) e =
+            let n = ap length e in
+            let m = length-append (r ∷ rs) v.seen in
+            let more : length v.seen < length h.log = omega arith in
+            let one = last_since (journal.length_of start) (length h.log) (omega arith) in
+            let is = owns (length h.log) in
+            let own = mine.own (length h.log) (in_times (length h.log) v.own (omega arith)) in
+            absurd (omega arith)
+
+    all_since : IsAllSince journal start h.journal v h.log
+    all_since = record {
+      own = owns;
+      faults = ap (λ n. journal.faults start + n) (sym (total_alone (λ (y : PassState J). y.faults) s.views id v at
+          (λ j w other there. (others j w other there).faults))) ∙ k.sums.faults;
+      write_faults = ap (λ n. journal.write_faults start + n) (sym (total_alone (λ (y : PassState J). y.write_faults) s.views id v at
+          (λ j w other there. (others j w other there).write_faults))) ∙ k.sums.write_faults;
+      seen = has_seen;
+    }
+
+    closed : HasClosed journal h.journal v
+    closed =
+        let lawful = lawful_here journal start h id v mine in
+        record {
+          log = h.log;
+          clock = k.store.reached.0;
+          stands = k.store.stands;
+          length_is = k.store.length_is;
+          goes_on = (mine.seen.later, mine.seen.goes_on);
+          within = k.store.counted;
+          shown = mine.seen.shown;
+          counted = mine.seen.counted;
+          pins = no_pins;
+          owed = mine.owed;
+          all = λ key e. subst (λ (b : J). IsAllSince journal b h.journal v h.log) (sym (mine.start_is key e)) all_since;
+          legal = λ l. k.store.legal (lawful l);
+          flushed = λ l. k.store.flushed (lawful l);
+          reached = λ l. k.store.reached.1 (lawful l);
+          shows = λ l. mine.shown (lawful l);
+        }
+
+  pub ends : (id : ℕ) (v : PassState J) (words : List ℕ) (slots : List (Slot F J)) → IsIdle v → v.room ≡ 16
+      → Final (Seen Rule id v) words slots → Ends slots v
+  ends id v words slots idle full fin =
+      let s = fin.0 in
+      let k = fin.1.0 in
+      let at = fin.1.1 in
+      let deep = k.words.deep in
+      let long = fin.3 in
+      let none = free s k id v at full idle in
+      record {
+        frames = λ i lt.
+            let home = k.homes.frames i (omega arith) (none i (omega arith)) in
+            (home.0, fin.4 i (Frame home.0) home.1);
+        journal_is = (
+          k.shape.journal,
+          k.shape.frames,
+          omega arith,
+          fin.4 k.shape.frames (Journal k.shape.journal) (k.homes.journal_is (none k.shape.frames (omega arith))),
+          closed s k id v at full idle,
+        );
+        last = λ i e.
+            let is : i ≡ suc k.shape.frames = omega arith in
+            fin.4 i Away (ap (get_elem? s.homes) is ∙ k.homes.last);
+      }
