@@ -1,7 +1,6 @@
 -- A table that its last pass closes has each value at home, and its journal has all that was logged.
-use Rattle.std.proofs.Common.{◌≡◌, ◌≢◌, ◌⊎◌, ℕ, zero, suc, ◌+◌, ◌<◌, ◌≤◌, ◌==◌, cond, List, [], ◌∷◌, ◌++◌, length, refl, sym, ap, subst, ◌∙◌, inl, inr, arith, ne_eqb, length-append, Bool, false, get_or, set}
+use Rattle.std.proofs.Common.{◌≡◌, ◌≢◌, ℕ, zero, suc, ◌+◌, ◌<◌, ◌≤◌, cond, List, [], ◌∷◌, ◌++◌, length, refl, sym, ap, subst, ◌∙◌, inl, inr, arith, ne_eqb, length-append, Bool, false, get_or, set}
 use Rattle.std.specs.Prelude.{Option, Some, None}
-use Rattle.std.specs.declared.snapshot.Snapshot.{Snapshot}
 use mathlib.Core.Logic.{dite}
 use mathlib.Core.Option.{some, some-ne-none}
 use native.Mathlib.Decide.{ℕ_discrete}
@@ -14,7 +13,6 @@ use Rattle.latch_table.specs.declared.slots.Journaled.{Ghosts as Journaled}
 use Rattle.latch_table.specs.declared.slots.Slot.{Slot}
 use Rattle.latch_table.specs.declared.slots.Slot.TheVariants.{Frame, Journal, Away}
 use Rattle.latch_table.specs.declared.states.PassState.{PassState}
-use Rattle.latch_table.specs.PassStates.{IsLawful}
 use Rattle.latch_table.specs.Passes.{IsIdle}
 use Rattle.latch_table.specs.Shapes.{Shape, total, times}
 use Rattle.latch_table.specs.Lines.{IsNoted, IsSpent, Knows, is_since}

@@ -1,5 +1,5 @@
 -- What the call that closes a table says of the journal that comes back.
-use Rattle.std.specs.Prelude.{◌≡◌, ◌+◌, ◌≤◌, true, ℕ, List, [], ◌++◌, length, Some, None}
+use Rattle.std.specs.Prelude.{◌≡◌, ◌+◌, ◌≤◌, true, ℕ, [], ◌++◌, length, Some, None}
 use Rattle.std.specs.declared.snapshot.Snapshot.{Snapshot}
 use Rattle.core_state.specs.Log.{Log, In, commits, cut}
 use Rattle.core_state.specs.Legal.{IsLegal}
@@ -11,8 +11,8 @@ use Rattle.latch_table.specs.Shapes.{times}
 use Rattle.latch_table.specs.Lines.{is_since}
 
 module _ {J : Type 0} (journal : Journaled J) where
-  -- what the pass has logged, and by how much the device's counts rose, since this opening, is all
-  -- that was; and the log is what the pass has seen, where that is no shorter than the opening's log
+  -- what the pass has logged, and by how much the device's counts rose, is all that was since this
+  -- opening; and the log is what the pass has seen, where that is no shorter than the opening's
   pub record IsAllSince (start b : J) (v : PassState J) (log : Log) : Type 0 where
     pub own : (k : ℕ) → times k v.own ≡ is_since (journal.length_of start) (length log) k
     pub faults : journal.faults start + v.faults ≡ journal.faults b

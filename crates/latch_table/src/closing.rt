@@ -43,7 +43,8 @@ fn drop_first<F: Drop, J>(closed: &mut Closed<Slot<F, J>, Global>, count: usize)
     ensures items { slots_items closed.new.slots ≡ slots_items closed.old.slots }
     ensures length { slots_len closed.new.slots ≡ slots_len closed.old.slots }
     ensures rest { Filled (slots_filled closed.new.slots) count (slots_len closed.old.slots) }
-    ensures empty { (k : ℕ) → k < count → slice_index_or (slots_filled closed.new.slots) k false ≡ false }
+    ensures empty { (k : ℕ) → k < count
+        → slice_index_or (slots_filled closed.new.slots) k false ≡ false }
 {
     for i in 0..count {
         let slot = closed.take(i);
