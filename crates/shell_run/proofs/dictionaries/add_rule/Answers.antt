@@ -19,5 +19,5 @@ returns-in-Ok-add_line-clause-added c =
     let same : c.in-Ok.text.now ≡ c.args.line.bytes.now = c.in-Ok.ensures.cases.0 in (
       c.in-Ok.ensures.cases.1,
       subst (λ line. Adds (answer_by (rules_of c.args.sub.now)) line c.args.thesaurus.now c.add_line.new.self)
-      same c.in-Ok-add_line.ensures.taken,
+          same c.in-Ok-add_line.ensures.taken,
     )
