@@ -48,7 +48,7 @@ pub record RanOn {D : Type 0} (device : Disk D) (history : History) (first new :
   -- on every device, also on one that says nothing
   pub began : device.clock first ≤ device.clock opened
   pub timed : AreTimed (device.clock opened) (device.clock new) exchanges
-  -- so the clock of an insertion that is stored is not before the end of its flush
+  -- the clock of each exchange is that of the device as its statement left it
   pub left_by : AreLeftBy device exchanges opened new
   pub placed : ArePlaced commits
   pub numbered : device.tells → StartedFrom device first → IsNumbered commits
