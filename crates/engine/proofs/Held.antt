@@ -1,5 +1,6 @@
 -- What the documents in memory have of a history.
-use Rattle.std.proofs.Common.{◌≡◌, ◌≢◌, inl, inr, ℕ, zero, suc, ◌+◌, ◌<◌, ◌≤◌, cond, List, [], ◌∷◌, ◌++◌, length, length-append, map, take, arith, refl, sym, ◌∙◌, ap, subst}
+use Rattle.std.proofs.Common.{◌≡◌, ◌≢◌, inl, inr, ℕ, zero, suc, ◌+◌, ◌<◌, ◌≤◌, cond, List, [], ◌∷◌, ◌++◌, length}
+use Rattle.std.proofs.Common.{length-append, map, take, arith, refl, sym, ◌∙◌, ap, subst}
 use Rattle.std.specs.Prelude.{Some, None, min, sum_by}
 use Rattle.std.specs.List.{All, AllPairs, Contains, slice_get, filter}
 use Rattle.std.proofs.lemmas.List.{append-nil, take-map, map_push, length-map}
@@ -10,7 +11,8 @@ use Rattle.std.proofs.lemmas.Bool.{lt-ltb}
 use Rattle.ts_base.specs.Vectors.{Vector}
 use Rattle.page_types.specs.declared.page.Name.{Name}
 use Rattle.disk_trait.specs.declared.device.Disk.{Ghosts as Disk}
-use Rattle.engine.specs.Finding.{Document, Commit, History, IsLawful, AreApart, inserted_names, docs, insertion, inserts, deletes, with_document, by_serial, stays, ArePlacedFrom, ArePlaced}
+use Rattle.engine.specs.Finding.{Document, Commit, History, IsLawful, AreApart, inserted_names, docs, insertion}
+use Rattle.engine.specs.Finding.{inserts, deletes, with_document, by_serial, stays, ArePlacedFrom, ArePlaced}
 use Rattle.engine.specs.AtOpening.{AtOpening, record_size, IsFull, IsLogFull, AreXidsSpent, room}
 use Rattle.engine.specs.Inner.Kept.{Kept, document_at, documents_from, SerialsRise, room_of}
 use Rattle.std.specs.Prelude.{Result, Ok, Err}
@@ -41,15 +43,18 @@ in_order : (k low : ℕ) (ks : List Kept) → SerialsRise low ks → by_serial (
 in_order k low [] h = refl
 in_order k low (x ∷ ks) h = ap (with_document (document_at k x)) (in_order (k + 1) x.serial ks h.1) ∙ first k x ks h.1
   where
-    first : (k : ℕ) (x : Kept) (ks : List Kept) → SerialsRise x.serial ks → with_document (document_at k x) (documents_from (k + 1) ks) ≡ document_at k x ∷ documents_from (k + 1) ks
+    first : (k : ℕ) (x : Kept) (ks : List Kept) → SerialsRise x.serial ks
+        → with_document (document_at k x) (documents_from (k + 1) ks) ≡ document_at k x ∷ documents_from (k + 1) ks
     first k x [] h = refl
     first k x (y ∷ ys) h =
-        ap (λ b. cond b (document_at k x ∷ document_at (k + 1) y ∷ documents_from (k + 1 + 1) ys) (document_at (k + 1) y ∷ with_document (document_at k x) (documents_from (k + 1 + 1) ys))) (lt-ltb x.serial y.serial h.0)
+        ap (λ b. cond b (document_at k x ∷ document_at (k + 1) y ∷ documents_from (k + 1 + 1) ys) (document_at (k + 1) y
+        ∷ with_document (document_at k x) (documents_from (k + 1 + 1) ys))) (lt-ltb x.serial y.serial h.0)
 
 pub docs_of : (ks : List Kept) → SerialsRise 0 ks → docs (map insertion (documents_from 0 ks)) ≡ documents_from 0 ks
 docs_of ks h =
     let ds : List Document = documents_from 0 ks in
-    ap by_serial (ap (λ x. filter (λ (d : Document). stays d x) (inserts (map insertion ds))) (deletes_of ds) ∙ all_kept (inserts (map insertion ds)) ∙ inserts_of ds) ∙ in_order 0 0 ks h
+    ap by_serial (ap (λ x. filter (λ (d : Document). stays d x) (inserts (map insertion ds))) (deletes_of ds)
+    ∙ all_kept (inserts (map insertion ds)) ∙ inserts_of ds) ∙ in_order 0 0 ks h
 
 abbrev serials_in : List Document → List ℕ
 serials_in ds = map (λ (d : Document). d.name.serial) ds
@@ -58,18 +63,28 @@ above : (k low : ℕ) (ks : List Kept) → SerialsRise low ks → All (λ (s : �
 above k low [] h = All-nil (λ (s : ℕ). low < s)
 above k low (x ∷ ks) h =
     All-cons (λ (s : ℕ). low < s) x.serial (serials_in (documents_from (k + 1) ks)) h.0
-    (All-weaker (λ (s : ℕ). x.serial < s) (λ (s : ℕ). low < s) (λ s l. omega (arith, l, h.0)) (serials_in (documents_from (k + 1) ks)) (above (k + 1) x.serial ks h.1))
+    (All-weaker (λ (s : ℕ). x.serial < s) (λ (s : ℕ). low < s) (λ s l. omega (
+      arith,
+      l,
+      h.0,
+    )) (serials_in (documents_from (k + 1) ks)) (above (k + 1) x.serial ks h.1))
 
-serials_apart : (k low : ℕ) (ks : List Kept) → SerialsRise low ks → AllPairs (λ (a b : ℕ). a ≢ b) (serials_in (documents_from k ks))
+serials_apart : (k low : ℕ) (ks : List Kept) → SerialsRise low ks
+    → AllPairs (λ (a b : ℕ). a ≢ b) (serials_in (documents_from k ks))
 serials_apart k low [] h = λ i j d l m. absurd (omega arith)
 serials_apart k low (x ∷ ks) h =
     AllPairs-cons (λ (a b : ℕ). a ≢ b) x.serial (serials_in (documents_from (k + 1) ks))
-    (All-weaker (λ (s : ℕ). x.serial < s) (λ (s : ℕ). x.serial ≢ s) (λ s l e. omega (arith, l, e)) (serials_in (documents_from (k + 1) ks)) (above (k + 1) x.serial ks h.1))
+    (All-weaker (λ (s : ℕ). x.serial < s) (λ (s : ℕ). x.serial ≢ s) (λ s l e. omega (
+      arith,
+      l,
+      e,
+    )) (serials_in (documents_from (k + 1) ks)) (above (k + 1) x.serial ks h.1))
     (serials_apart (k + 1) x.serial ks h.1)
 
 slots_above : (k low : ℕ) (ks : List Kept) → low ≤ k → All (λ (d : Document). low ≤ d.name.slot) (documents_from k ks)
 slots_above k low [] h = All-nil (λ (d : Document). low ≤ d.name.slot)
-slots_above k low (x ∷ ks) h = All-cons (λ (d : Document). low ≤ d.name.slot) (document_at k x) (documents_from (k + 1) ks) h (slots_above (k + 1) low ks (omega (arith, h)))
+slots_above k low (x ∷ ks) h = All-cons (λ (d : Document). low ≤ d.name.slot) (document_at k x)
+    (documents_from (k + 1) ks) h (slots_above (k + 1) low ks (omega (arith, h)))
 
 abbrev LieApart : Document → Document → Type 0
 LieApart a b = AreApart a.name b.name
@@ -78,7 +93,8 @@ places_apart : (k : ℕ) (ks : List Kept) → AllPairs LieApart (documents_from 
 places_apart k [] = λ i j d l m. absurd (omega arith)
 places_apart k (x ∷ ks) =
     AllPairs-cons LieApart (document_at k x) (documents_from (k + 1) ks)
-    (All-weaker (λ (d : Document). k + 1 ≤ d.name.slot) (λ (d : Document). LieApart (document_at k x) d) (λ d l. inr (λ e. omega (arith, l, e))) (documents_from (k + 1) ks) (slots_above (k + 1) (k + 1) ks (omega arith)))
+    (All-weaker (λ (d : Document). k + 1 ≤ d.name.slot) (λ (d : Document). LieApart (document_at k x) d) (λ d l. inr
+    (λ e. omega (arith, l, e))) (documents_from (k + 1) ks) (slots_above (k + 1) (k + 1) ks (omega arith)))
     (places_apart (k + 1) ks)
 
 take_documents : (n k : ℕ) (ks : List Kept) → take n (documents_from k ks) ≡ documents_from k (take n ks)
@@ -100,29 +116,42 @@ lawful_of : (ks : List Kept) → SerialsRise 0 ks → IsLawful (map insertion (d
 lawful_of ks h =
     let ds : List Document = documents_from 0 ks in
     record {
-      apart = subst (λ es. AllPairs (λ (a b : ℕ). a ≢ b) (serials_in es)) (sym (inserts_of ds)) (serials_apart 0 0 ks h);
-      deleted_once = subst (λ ns. AllPairs (λ (a b : Name). a.serial ≢ b.serial) ns) (sym (deletes_of ds)) (λ i j d l m. absurd (omega arith));
+      apart =
+          subst (λ es. AllPairs (λ (a b : ℕ). a ≢ b) (serials_in es)) (sym (inserts_of ds)) (serials_apart 0 0 ks h);
+      deleted_once = subst (λ ns. AllPairs (λ (a b : Name). a.serial ≢ b.serial) ns) (sym (deletes_of ds))
+          (λ i j d l m. absurd (omega arith));
       deleted_later = λ k c e.
           let P : Name → Type 0 = λ x. Contains (inserted_names (take k (map insertion ds))) x in
           subst (λ ns. All P ns) (sym (none_deleted ds k c e)) (All-nil P);
       apart_places = λ n.
-          subst (AllPairs LieApart) (sym (ap docs (take-map insertion n ds ∙ ap (map insertion) (take_documents n 0 ks)) ∙ docs_of (take n ks) (take_rises n 0 ks h))) (places_apart 0 (take n ks));
+          subst (AllPairs LieApart) (sym (ap docs (take-map insertion n ds ∙ ap (map insertion) (take_documents n 0 ks))
+          ∙ docs_of (take n ks) (take_rises n 0 ks h))) (places_apart 0 (take n ks));
     }
 
 pub length_documents : (k : ℕ) (ks : List Kept) → length (documents_from k ks) ≡ length ks
 length_documents k [] = refl
 length_documents k (x ∷ ks) = ap suc (length_documents (k + 1) ks)
 
-pub rooms : (k : ℕ) (ks : List Kept) → sum_by (λ (d : Document). room d.vector) (documents_from k ks) ≡ sum_by room_of ks
+pub rooms : (k : ℕ) (ks : List Kept)
+    → sum_by (λ (d : Document). room d.vector) (documents_from k ks) ≡ sum_by room_of ks
 rooms k [] = refl
-rooms k (x ∷ ks) = sum_by-cons (λ (d : Document). room d.vector) (document_at k x) (documents_from (k + 1) ks) ∙ ap (λ n. room_of x + n) (rooms (k + 1) ks) ∙ sym (sum_by-cons room_of x ks)
+rooms k (x ∷ ks) = sum_by-cons (λ (d : Document). room d.vector) (document_at k x) (documents_from (k + 1) ks)
+    ∙ ap (λ n. room_of x + n) (rooms (k + 1) ks) ∙ sym (sum_by-cons room_of x ks)
 
-pub rises_push : (low : ℕ) (ks : List Kept) (x : Kept) → SerialsRise low ks → low < x.serial → All (λ (k : Kept). k.serial < x.serial) ks → SerialsRise low (ks ++ x ∷ [])
+pub rises_push : (low : ℕ) (ks : List Kept) (x : Kept) → SerialsRise low ks → low < x.serial
+    → All (λ (k : Kept). k.serial < x.serial) ks → SerialsRise low (ks ++ x ∷ [])
 rises_push low [] x h l all = (l, tt)
-rises_push low (y ∷ ks) x h l all = (h.0, rises_push y.serial ks x h.1 (All-head (λ (k : Kept). k.serial < x.serial) y ks all) (All-tail (λ (k : Kept). k.serial < x.serial) y ks all))
+rises_push low (y ∷ ks) x h l all = (
+  h.0,
+  rises_push y.serial ks x h.1 (All-head (λ (k : Kept). k.serial < x.serial) y ks all)
+      (All-tail (λ (k : Kept). k.serial < x.serial) y ks all),
+)
 
-pub pushed : (ks : List Kept) (x : Kept) → map insertion (documents_from 0 ks) ++ insertion (document_at (length ks) x) ∷ [] ≡ map insertion (documents_from 0 (ks ++ x ∷ []))
-pushed ks x = sym (ap (map insertion) (documents_push 0 ks x ∙ ap (λ n. documents_from 0 ks ++ document_at n x ∷ []) (let z : 0 + length ks ≡ length ks = omega arith in z)) ∙ map_push insertion (documents_from 0 ks) (document_at (length ks) x))
+pub pushed : (ks : List Kept) (x : Kept) → map insertion (documents_from 0 ks) ++ insertion (document_at
+    (length ks) x) ∷ [] ≡ map insertion (documents_from 0 (ks ++ x ∷ []))
+pushed ks x = sym (ap (map insertion) (documents_push 0 ks x
+    ∙ ap (λ n. documents_from 0 ks ++ document_at n x ∷ []) (let z : 0 + length ks ≡ length ks = omega arith in z))
+    ∙ map_push insertion (documents_from 0 ks) (document_at (length ks) x))
 
 placed : (k low : ℕ) (ks : List Kept) → SerialsRise low ks → ArePlacedFrom k low (map insertion (documents_from k ks))
 placed k low [] h = tt
@@ -136,17 +165,20 @@ module _ {D : Type 0} (device : Disk D) (found : AtOpening) where
   held_length s commits h = ap length h.all ∙ length-map (documents_from 0 h.kept) insertion ∙ length_documents 0 h.kept
 
   -- the documents of the history, while the store is up
-  pub sees_all : (s : DbValue D) (commits : History) → StandsFor found s commits → IsUp s → docs commits ≡ documents_of s
+  pub sees_all : (s : DbValue D) (commits : History) → StandsFor found s commits → IsUp s
+      → docs commits ≡ documents_of s
   sees_all s commits h up = ap docs h.all ∙ docs_of h.kept h.rises ∙ ap (documents_from 0) (h.same up)
 
   pub held_placed : (s : DbValue D) (commits : History) → StandsFor found s commits → ArePlaced commits
   held_placed s commits h = subst ArePlaced (sym h.all) (placed 0 0 h.kept h.rises)
 
   end_same : (old new : DbValue D) → Rests device old new → end_ahead new ≡ end_ahead old
-  end_same old new r = omega (arith, r.journal.end, ap length r.journal.waits, ap (λ b. cond b (record_size 0 0) 0) r.journal.owes)
+  end_same old new r =
+      omega (arith, r.journal.end, ap length r.journal.waits, ap (λ b. cond b (record_size 0 0) 0) r.journal.owes)
 
   -- the store after a statement that changes nothing
-  pub held_same : (old new : DbValue D) (commits : History) → StandsFor found old commits → Rests device old new → StandsFor found new (commits ++ [])
+  pub held_same : (old new : DbValue D) (commits : History) → StandsFor found old commits → Rests device old new
+      → StandsFor found new (commits ++ [])
   held_same old new commits h r =
       let again : commits ++ [] ≡ commits = append-nil commits in
       let down : fault_of new ≡ fault_of old = r.journal.down in
@@ -173,14 +205,19 @@ module _ {D : Type 0} (device : Disk D) (found : AtOpening) where
   abbrev pub next_commit : DbValue D → Vector → Commit
   next_commit s v = insertion (next_document s v)
 
-  all_more : (s : DbValue D) (commits : History) (v : Vector) → StandsFor found s commits → IsUp s → commits ++ next_commit s v ∷ [] ≡ map insertion (documents_from 0 (s.documents ++ next_kept s v ∷ []))
-  all_more s commits v h up = ap (λ z. z ++ next_commit s v ∷ []) (h.all ∙ ap (λ ks. map insertion (documents_from 0 ks)) (h.same up)) ∙ pushed s.documents (next_kept s v)
+  all_more : (s : DbValue D) (commits : History) (v : Vector) → StandsFor found s commits → IsUp s
+      → commits ++ next_commit s v ∷ [] ≡ map insertion (documents_from 0 (s.documents ++ next_kept s v ∷ []))
+  all_more s commits v h up = ap (λ z. z ++ next_commit s v ∷ [])
+      (h.all ∙ ap (λ ks. map insertion (documents_from 0 ks)) (h.same up)) ∙ pushed s.documents (next_kept s v)
 
-  rises_more : (s : DbValue D) (commits : History) (v : Vector) → StandsFor found s commits → IsUp s → SerialsRise 0 (s.documents ++ next_kept s v ∷ [])
+  rises_more : (s : DbValue D) (commits : History) (v : Vector) → StandsFor found s commits → IsUp s
+      → SerialsRise 0 (s.documents ++ next_kept s v ∷ [])
   rises_more s commits v h up =
-      rises_push 0 s.documents (next_kept s v) (subst (SerialsRise 0) (h.same up) h.rises) (h.some up) (subst (All (λ (k : Kept). k.serial < next_serial_of s)) (h.same up) (h.below up))
+      rises_push 0 s.documents (next_kept s v) (subst (SerialsRise 0) (h.same up) h.rises) (h.some up)
+      (subst (All (λ (k : Kept). k.serial < next_serial_of s)) (h.same up) (h.below up))
 
-  pub held_stored : (old new : DbValue D) (commits : History) (v : Vector) (name : Name) → StandsFor found old commits → IsPut device old new v name → StandsFor found new (commits ++ next_commit old v ∷ [])
+  pub held_stored : (old new : DbValue D) (commits : History) (v : Vector) (name : Name) → StandsFor found old commits
+      → IsPut device old new v name → StandsFor found new (commits ++ next_commit old v ∷ [])
   held_stored old new commits v name h i =
       let up : IsUp old = i.up in
       let serial : next_serial_of old < next_serial_of new = i.next_serial in
@@ -193,14 +230,20 @@ module _ {D : Type 0} (device : Disk D) (found : AtOpening) where
         some = λ still. omega (arith, serial);
         below = λ still.
             All-push (λ (k : Kept). k.serial < next_serial_of new) old.documents (next_kept old v)
-            (All-weaker (λ (k : Kept). k.serial < next_serial_of old) (λ (k : Kept). k.serial < next_serial_of new) (λ k l. omega (arith, l, serial)) old.documents (subst (All (λ (k : Kept). k.serial < next_serial_of old)) (h.same up) (h.below up)))
+            (All-weaker (λ (k : Kept). k.serial < next_serial_of old) (λ (k : Kept). k.serial < next_serial_of new)
+            (λ k l. omega (
+              arith,
+              l,
+              serial,
+            )) old.documents (subst (All (λ (k : Kept). k.serial < next_serial_of old)) (h.same up) (h.below up)))
             serial;
         end = λ still. omega (arith, i.end, h.end up, length-append commits (next_commit old v ∷ []));
         xids = λ still. omega (arith, i.next_xid, h.xids up, length-append commits (next_commit old v ∷ []));
         limits = λ still. (i.limits.0 ∙ (h.limits up).0, i.limits.1 ∙ (h.limits up).1);
       }
 
-  pub held_failed : (old new : DbValue D) (commits : History) (v : Vector) → StandsFor found old commits → IsPutInDoubt device old new v → StandsFor found new (commits ++ next_commit old v ∷ [])
+  pub held_failed : (old new : DbValue D) (commits : History) (v : Vector) → StandsFor found old commits
+      → IsPutInDoubt device old new v → StandsFor found new (commits ++ next_commit old v ∷ [])
   held_failed old new commits v h i =
       record {
         kept = old.documents ++ next_kept old v ∷ [];
@@ -234,14 +277,17 @@ module _ {D : Type 0} (device : Disk D) (found : AtOpening) where
       → n ≡ length commits → end_ahead s + 8273 ≤ log_limit_of s → IsLogFull found n → ⊥
   log_not_full s commits n h up e b f = omega (arith, e, b, f, h.more, h.end up, (h.limits up).0)
 
-  pub xids_spent : (s : DbValue D) (commits : History) (n : ℕ) → StandsFor found s commits → IsUp s → n ≡ length commits → IsSpent s → AreXidsSpent found n
+  pub xids_spent : (s : DbValue D) (commits : History) (n : ℕ) → StandsFor found s commits → IsUp s → n ≡ length commits
+      → IsSpent s → AreXidsSpent found n
   xids_spent s commits n h up e b = omega (arith, e, b, h.more, h.xids up, (h.limits up).1)
 
-  pub xids_left : (s : DbValue D) (commits : History) (n : ℕ) → StandsFor found s commits → IsUp s → n ≡ length commits → (IsSpent s → ⊥) → AreXidsSpent found n → ⊥
+  pub xids_left : (s : DbValue D) (commits : History) (n : ℕ) → StandsFor found s commits → IsUp s → n ≡ length commits
+      → (IsSpent s → ⊥) → AreXidsSpent found n → ⊥
   xids_left s commits n h up e b f = b (omega (arith, e, f, h.more, h.xids up, (h.limits up).1))
 
   -- what an insertion is answered, by the history that the store stood for
-  stored : (H : History) (old new : DbValue D) (v : Vector) (name : Name) → StandsFor found old H → IsPut device old new v name → HasInserted device found H old new v (Ok name)
+  stored : (H : History) (old new : DbValue D) (v : Vector) (name : Name) → StandsFor found old H
+      → IsPut device old new v name → HasInserted device found H old new v (Ok name)
   stored H old new v name h i =
       subst (λ n. HasInserted device found H old new v (Ok n)) (sym i.named) (record {
         up = i.up;
@@ -255,7 +301,8 @@ module _ {D : Type 0} (device : Disk D) (found : AtOpening) where
         no_failure = i.no_failure;
       })
 
-  pub inserted : (H : History) (old new : DbValue D) (v : Vector) (r : Result Name DbError) → StandsFor found old H → HasPut device old new v r → HasInserted device found H old new v r
+  pub inserted : (H : History) (old new : DbValue D) (v : Vector) (r : Result Name DbError) → StandsFor found old H
+      → HasPut device old new v r → HasInserted device found H old new v r
   inserted H old new v (Ok name) h i = stored H old new v name h i
   inserted H old new v (Err XidsSpent) h i = (i.0, i.1, xids_spent old H (length H) h i.1 refl i.2)
   inserted H old new v (Err StoreFull) h i = (
@@ -285,11 +332,14 @@ module _ {D : Type 0} (device : Disk D) (found : AtOpening) where
   }
 
 module _ {D : Type 0} (device : Disk D) where
-  rests_counts : (old new : DbValue D) → Rests device old new → device.fault_count (disk_of old) ≤ device.fault_count (disk_of new)
-  rests_counts old new r = subst (λ d. device.fault_count (disk_of old) ≤ device.fault_count d) (sym r.journal.disk) (omega arith)
+  rests_counts : (old new : DbValue D) → Rests device old new
+      → device.fault_count (disk_of old) ≤ device.fault_count (disk_of new)
+  rests_counts old new r =
+      subst (λ d. device.fault_count (disk_of old) ≤ device.fault_count d) (sym r.journal.disk) (omega arith)
 
   -- the device's count of faults never falls
-  pub put_counts : (old new : DbValue D) (v : Vector) (r : Result Name DbError) → HasPut device old new v r → device.fault_count (disk_of old) ≤ device.fault_count (disk_of new)
+  pub put_counts : (old new : DbValue D) (v : Vector) (r : Result Name DbError) → HasPut device old new v r
+      → device.fault_count (disk_of old) ≤ device.fault_count (disk_of new)
   put_counts old new v (Ok n) h = h.later
   put_counts old new v (Err XidsSpent) h = rests_counts old new h.0
   put_counts old new v (Err StoreFull) h = rests_counts old new h.0

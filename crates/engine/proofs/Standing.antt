@@ -22,21 +22,29 @@ use Rattle.engine.specs.Inner.DbValue.{DbValue}
 
 module _ {D : Type 0} (device : Disk D) where
   -- a journal that is as it was stands for the same, of which the same counts
-  pub same_stands : (old new : JournalValue D) (R : Log) → IsSameJournal old new → Stands device old R → Stands device new R
+  pub same_stands : (old new : JournalValue D) (R : Log) → IsSameJournal old new → Stands device old R
+      → Stands device new R
   same_stands old new R e s = record {
     counted = s.counted;
     waits = s.waits;
     all = s.all;
     numbered = s.numbered;
     state = subst (λ (v : StateValue). v ≡ state_of v.pages v.xid_limit R) (sym e.state) s.state;
-    flushed = λ up. e.flushed ∙ s.flushed (sym e.down ∙ up) ∙ ap (λ (v : StateValue). commits_in v s.counted) (sym e.state);
+    flushed =
+        λ up. e.flushed ∙ s.flushed (sym e.down ∙ up) ∙ ap (λ (v : StateValue). commits_in v s.counted) (sym e.state);
     waiting_is = λ up. subst (λ w. AreRecordsOf w (reverse s.waits)) (sym e.waits) (s.waiting_is (sym e.down ∙ up));
     settled = λ t up.
-        let k : (batches : List (List ℕ)) × Settled device batches (end_of old.wal) old.disk × AreRecords batches s.counted = s.settled t (sym e.down ∙ up) in
-        (k.0, subst (λ d. Settled device k.0 (end_of new.wal) d) (sym e.disk) (subst (λ n. Settled device k.0 n old.disk) (sym e.end) k.1), k.2);
+        let k : (batches : List (List ℕ)) × Settled device batches (end_of old.wal) old.disk
+        × AreRecords batches s.counted = s.settled t (sym e.down ∙ up) in (
+          k.0,
+          subst (λ d. Settled device k.0 (end_of new.wal) d) (sym e.disk)
+              (subst (λ n. Settled device k.0 n old.disk) (sym e.end) k.1),
+          k.2,
+        );
   }
 
-  pub opened_same : (file : List ℕ) (old new : DbValue D) (commits : History) → IsSameJournal old.journal new.journal → IsOpenedTo device file old commits → IsOpenedTo device file new commits
+  pub opened_same : (file : List ℕ) (old new : DbValue D) (commits : History) → IsSameJournal old.journal new.journal
+      → IsOpenedTo device file old commits → IsOpenedTo device file new commits
   unfolding same_stands
   opened_same file old new commits e o = record {
     log = o.log;
@@ -48,18 +56,31 @@ module _ {D : Type 0} (device : Disk D) where
   }
 
   -- what a crash leaves now opens to the history
-  pub opens_now : (file : List ℕ) (s : DbValue D) (commits : History) (c : Files) → device.tells → IsUp s → IsOpenedTo device file s commits → images_now device (disk_of s) c → OpensTo c commits
+  pub opens_now : (file : List ℕ) (s : DbValue D) (commits : History) (c : Files) → device.tells → IsUp s
+      → IsOpenedTo device file s commits → images_now device (disk_of s) c → OpensTo c commits
   opens_now file s commits c t up o left =
-      let k : (batches : List (List ℕ)) × Settled device batches (end_of s.journal.wal) s.journal.disk × AreRecords batches o.stands.counted = o.stands.settled t up in
+      let k : (batches : List (List ℕ)) × Settled device batches (end_of s.journal.wal) s.journal.disk
+      × AreRecords batches o.stands.counted = o.stands.settled t up in
       record {
         records = o.stands.counted;
-        counted = record { batches = k.0; opens = inr (record { commit_byte = k.1.commit_byte; rest = k.1.rest; split = k.1.log.durable c left; unset = k.1.unset; fit = k.1.fit }); records = k.2 };
+        counted = record {
+          batches = k.0;
+          opens = inr (record {
+            commit_byte = k.1.commit_byte;
+            rest = k.1.rest;
+            split = k.1.log.durable c left;
+            unset = k.1.unset;
+            fit = k.1.fit;
+          });
+          records = k.2;
+        };
         log_of = o.counted;
         pages = subst (PagesStand o.stands.counted) (sym (o.fixed c left)) o.beside;
       }
 
   -- calls that leave the pages of an earlier image leave the page file fixed
-  pub fixed_on : (first disk disk' : D) (c0 : ℕ) → IsFixedSince device first c0 disk → LeavesOnly device disk disk' (HasPagesOf (images_now device disk)) → IsFixedSince device first c0 disk'
+  pub fixed_on : (first disk disk' : D) (c0 : ℕ) → IsFixedSince device first c0 disk
+      → LeavesOnly device disk disk' (HasPagesOf (images_now device disk)) → IsFixedSince device first c0 disk'
   fixed_on first disk disk' c0 f run = record {
     began = (f.began.0, omega (arith, f.began.1, run.later));
     early = λ m c ge lt left. f.early m c ge lt (run.before m c (omega (arith, f.began.1)) left);
@@ -73,7 +94,16 @@ module _ {D : Type 0} (device : Disk D) where
 
   -- a store of which nothing has changed
   same_journal : (j : JournalValue D) → IsSameJournal j j
-  same_journal j = record { disk = refl; state = refl; flushed = refl; owes = refl; end = refl; waits = refl; limit = refl; down = refl }
+  same_journal j = record {
+    disk = refl;
+    state = refl;
+    flushed = refl;
+    owes = refl;
+    end = refl;
+    waits = refl;
+    limit = refl;
+    down = refl;
+  }
 
   pub rests : (s : DbValue D) → Rests device s s
   rests s = record { documents = refl; journal = same_journal s.journal }
@@ -84,14 +114,17 @@ module _ {D : Type 0} (device : Disk D) where
   pub rests_fault : (old new : DbValue D) → Rests device old new → fault_of new ≡ fault_of old
   rests_fault old new r = r.journal.down
 
-  pub rests_opened : (file : List ℕ) (old new : DbValue D) (commits : History) → Rests device old new → IsOpenedTo device file old commits → IsOpenedTo device file new commits
+  pub rests_opened : (file : List ℕ) (old new : DbValue D) (commits : History) → Rests device old new
+      → IsOpenedTo device file old commits → IsOpenedTo device file new commits
   rests_opened file old new commits r o = opened_same file old new commits r.journal o
 
-  pub opened_numbered : (file : List ℕ) (s : DbValue D) (commits : History) → IsOpenedTo device file s commits → IsNumbered commits
+  pub opened_numbered : (file : List ℕ) (s : DbValue D) (commits : History) → IsOpenedTo device file s commits
+      → IsNumbered commits
   opened_numbered file s commits o = o.log_of.numbered
 
   -- what is read of the page file stays the same, and each image has the pages of one before
-  pub pages_same : (old new : D) → (device.seen new).pages ≡ (device.seen old).pages → KeepsPages device old new → HasSamePages device old new
+  pub pages_same : (old new : D) → (device.seen new).pages ≡ (device.seen old).pages → KeepsPages device old new
+      → HasSamePages device old new
   pages_same old new same run = record { now = same; images = λ m c ge le left. run.each m c ge le left }
 
   pub same_pages : (d : D) → HasSamePages device d d

@@ -1,5 +1,6 @@
 -- How far a script has come.
-use Rattle.std.proofs.Common.{◌≡◌, ◌⊎◌, inl, inr, ℕ, ◌+◌, ◌<◌, Bool, true, false, ◌||◌, List, [], ◌∷◌, ◌++◌, length, append_assoc, arith, refl, sym, ◌∙◌, ap, subst}
+use Rattle.std.proofs.Common.{◌≡◌, ◌⊎◌, inl, inr, ℕ, ◌+◌, ◌<◌, Bool, true, false, ◌||◌, List, [], ◌∷◌, ◌++◌, length}
+use Rattle.std.proofs.Common.{append_assoc, arith, refl, sym, ◌∙◌, ap, subst}
 use Rattle.std.specs.Prelude.{Option, Some, None, Ok, Err}
 use Rattle.std.specs.List.{All, list_any}
 use Rattle.std.specs.Str.Lines.{lines}
@@ -36,11 +37,28 @@ use Rattle.shell_run.proofs.Safety.{Safe}
 use Rattle.shell_run.proofs.Going.{State, Goes, goes, exchange_of}
 
 -- a step more at the end
-exchanges_more : (known next last : Known) (ss : List Step) (exchanges : List Exchange) (s : Step) (exchange : Exchange) → AreExchanges known ss exchanges next → IsExchangeOf next s exchange → Becomes next exchange.statement exchange.reply last → AreExchanges known (ss ++ s ∷ []) (exchanges ++ exchange ∷ []) last
-exchanges_more known next last [] exchanges s exchange h k b =
-    (exchange, [], last, ap (λ z. z ++ exchange ∷ []) h.0, subst (λ z. IsExchangeOf z s exchange) h.1 k, subst (λ z. Becomes z exchange.statement exchange.reply last) h.1 b, (refl, refl))
-exchanges_more known next last (t ∷ ss) exchanges s exchange h k b =
-    (h.0, h.1 ++ exchange ∷ [], h.2, ap (λ z. z ++ exchange ∷ []) h.3, h.4, h.5, exchanges_more h.2 next last ss h.1 s exchange h.6 k b)
+exchanges_more : (known next last : Known) (ss : List Step) (exchanges : List Exchange) (s : Step) (exchange : Exchange)
+    → AreExchanges known ss exchanges next → IsExchangeOf next s exchange
+    → Becomes next exchange.statement exchange.reply last
+    → AreExchanges known (ss ++ s ∷ []) (exchanges ++ exchange ∷ []) last
+exchanges_more known next last [] exchanges s exchange h k b = (
+  exchange,
+  [],
+  last,
+  ap (λ z. z ++ exchange ∷ []) h.0,
+  subst (λ z. IsExchangeOf z s exchange) h.1 k,
+  subst (λ z. Becomes z exchange.statement exchange.reply last) h.1 b,
+  (refl, refl),
+)
+exchanges_more known next last (t ∷ ss) exchanges s exchange h k b = (
+  h.0,
+  h.1 ++ exchange ∷ [],
+  h.2,
+  ap (λ z. z ++ exchange ∷ []) h.3,
+  h.4,
+  h.5,
+  exchanges_more h.2 next last ss h.1 s exchange h.6 k b,
+)
 
 any_push : {X : Type 0} (p : X → Bool) (xs : List X) (x : X) → list_any p (xs ++ x ∷ []) ≡ (list_any p xs || p x)
 any_push p [] x = or_false (p x)
@@ -54,7 +72,8 @@ any_push p (y ∷ xs) x = ap (λ b. p y || b) (any_push p xs x) ∙ or_assoc (p 
     or_assoc true b c = refl
     or_assoc false b c = refl
 
-last_is : (exchanges : List Exchange) (exchange : Exchange) → last_text (exchanges ++ exchange ∷ []) ≡ printed_exchange exchange
+last_is : (exchanges : List Exchange) (exchange : Exchange)
+    → last_text (exchanges ++ exchange ∷ []) ≡ printed_exchange exchange
 last_is [] exchange = refl
 last_is (r ∷ []) exchange = refl
 last_is (r ∷ s ∷ exchanges) exchange = last_is (s ∷ exchanges) exchange
@@ -62,14 +81,19 @@ last_is (r ∷ s ∷ exchanges) exchange = last_is (s ∷ exchanges) exchange
 pub went_badly : (n : ℕ) → false ≡ true → n < PIECE_BYTES
 went_badly n e = absurd (let x : ⊥ = cc in x)
 
-fits_last : (exchanges : List Exchange) (exchange : Exchange) (n : ℕ) → n < PIECE_BYTES → n + length (printed_exchange exchange) < PIECE_BYTES + length (last_text (exchanges ++ exchange ∷ []))
-fits_last exchanges exchange n less = let last : length (last_text (exchanges ++ exchange ∷ [])) ≡ length (printed_exchange exchange) = ap length (last_is exchanges exchange) in omega (arith, less, last)
+fits_last : (exchanges : List Exchange) (exchange : Exchange) (n : ℕ) → n < PIECE_BYTES
+    → n + length (printed_exchange exchange) < PIECE_BYTES + length (last_text (exchanges ++ exchange ∷ []))
+fits_last exchanges exchange n less = let last : length (last_text (exchanges ++ exchange ∷ []))
+    ≡ length (printed_exchange exchange) = ap length (last_is exchanges exchange) in omega (arith, less, last)
 
 pub some_piece : 0 < PIECE_BYTES
 some_piece = let z : 0 < 8192 = omega arith in z
 
 -- the exchanges of the steps so far, of which some text may be unsent
-has_printed : (a c : Option (List ℕ)) (text : List ℕ) (exchanges : List Exchange) (done left : List Step) (known : Known) (waiting : List ℕ) (well : Bool) → steps_of text ≡ done ++ left → AreExchanges first_known done exchanges known → SendsBut (PIECE_BYTES + length (last_text exchanges)) a c (printed_exchanges exchanges) waiting well → HasPrinted text a c exchanges
+has_printed : (a c : Option (List ℕ)) (text : List ℕ) (exchanges : List Exchange) (done left : List Step)
+    (known : Known) (waiting : List ℕ) (well : Bool) → steps_of text ≡ done ++ left
+    → AreExchanges first_known done exchanges known → SendsBut (PIECE_BYTES + length
+    (last_text exchanges)) a c (printed_exchanges exchanges) waiting well → HasPrinted text a c exchanges
 has_printed a c text exchanges done left known waiting well e h k = record {
   done = done;
   left = left;
@@ -85,7 +109,8 @@ has_printed a c text exchanges done left known waiting well e h k = record {
 
 module _ {D : Type 0} (device : Disk D) (found : AtOpening) (history : History) where
   -- the steps so far were answered, and these are left
-  pub record Progress (before now : Option (List ℕ)) (opened : DbValue D) (run_state : RunState D) (text : List ℕ) (left : List Step) (well : Bool) : Type 0 where
+  pub record Progress (before now : Option (List ℕ)) (opened : DbValue D) (run_state : RunState D) (text : List ℕ)
+      (left : List Step) (well : Bool) : Type 0 where
     pub commits : History
     pub exchanges : List Exchange
     pub held : StandsFor found run_state.store commits
@@ -95,12 +120,17 @@ module _ {D : Type 0} (device : Disk D) (found : AtOpening) (history : History) 
     pub done : List Step
     pub script : steps_of text ≡ done ++ left
     pub each : AreExchanges first_known done exchanges run_state.configs
-    pub printed : SendsBut (PIECE_BYTES + length (last_text exchanges)) before now (printed_exchanges exchanges) run_state.waiting.items well
+    pub printed : SendsBut (PIECE_BYTES + length (last_text exchanges)) before now
+        (printed_exchanges exchanges) run_state.waiting.items well
     pub room : well ≡ true → length run_state.waiting.items < PIECE_BYTES
     pub flag : run_state.refused ≡ some_refused exchanges
-    pub state : (first : D) (c0 : ℕ) → OpenedAt device found history first c0 opened → State device found history first c0 (disk_of opened) run_state.store commits exchanges
+    pub state : (first : D) (c0 : ℕ) → OpenedAt device found history first c0 opened
+        → State device found history first c0 (disk_of opened) run_state.store commits exchanges
 
-  pub progress_start : (a : Option (List ℕ)) (run_state : RunState D) (text : List ℕ) → StandsFor found run_state.store history → IsUp run_state.store → run_state.configs ≡ first_known → run_state.waiting.items ≡ [] → run_state.refused ≡ false → Progress a a run_state.store run_state text (steps_of text) true
+  pub progress_start : (a : Option (List ℕ)) (run_state : RunState D) (text : List ℕ)
+      → StandsFor found run_state.store history → IsUp run_state.store
+      → run_state.configs ≡ first_known → run_state.waiting.items ≡ [] → run_state.refused ≡ false
+      → Progress a a run_state.store run_state text (steps_of text) true
   progress_start a run_state text h up k w f = record {
     commits = history;
     exchanges = [];
@@ -161,7 +191,8 @@ module _ {D : Type 0} (device : Disk D) (found : AtOpening) (history : History) 
   }
 
   -- a run keeps the page file
-  kept_pages : ((d : D) → device.tells → device.image d (device.clock d) (device.seen d)) → (first disk : D) (c0 : ℕ) → device.tells → IsFixedSince device first c0 disk → HasSamePages device first disk
+  kept_pages : ((d : D) → device.tells → device.image d (device.clock d) (device.seen d)) → (first disk : D) (c0 : ℕ)
+      → device.tells → IsFixedSince device first c0 disk → HasSamePages device first disk
   kept_pages law first disk c0 t f = record {
     now = f.pages (device.clock disk) (device.seen disk) f.began.1 (omega arith) (law disk t);
     images = λ m c ge le left. elim (cases_lt m c0) [
@@ -171,8 +202,11 @@ module _ {D : Type 0} (device : Disk D) (found : AtOpening) (history : History) 
   }
 
   -- the meaning of a run over a device, at its end
-  finish : ((d : D) → device.tells → device.image d (device.clock d) (device.seen d)) → (first : D) (opened : DbValue D) (c0 : ℕ) (s : DbValue D) (commits : History) (exchanges : List Exchange) → IsWidest found → OpenedAt device found history first c0 opened
-      → StandsFor found s commits → State device found history first c0 (disk_of opened) s commits exchanges → RanOn device history first (disk_of s) commits exchanges × (device.tells → HasSamePages device first (disk_of s))
+  finish : ((d : D) → device.tells → device.image d (device.clock d) (device.seen d))
+      → (first : D) (opened : DbValue D) (c0 : ℕ) (s : DbValue D) (commits : History) (exchanges : List Exchange)
+      → IsWidest found → OpenedAt device found history first c0 opened
+      → StandsFor found s commits → State device found history first c0 (disk_of opened) s commits exchanges → RanOn
+      device history first (disk_of s) commits exchanges × (device.tells → HasSamePages device first (disk_of s))
   finish law first opened c0 s commits exchanges widest o held st = (
     record {
       opened = disk_of opened;
@@ -204,7 +238,8 @@ module _ {D : Type 0} (device : Disk D) (found : AtOpening) (history : History) 
             pages = fixed.pages;
           }
 
-      by : device.tells → StartedFrom device first → (d : Option ℕ) → fault_of s ≡ d → Means device (counts_over device found first (disk_of opened) (disk_of s)) first (disk_of s) history commits exchanges
+      by : device.tells → StartedFrom device first → (d : Option ℕ) → fault_of s ≡ d → Means device (counts_over device
+          found first (disk_of opened) (disk_of s)) first (disk_of s) history commits exchanges
       by t f None is =
           let safe : Safe device first c0 s history commits exchanges = st.safe t f in
           record {
@@ -212,13 +247,15 @@ module _ {D : Type 0} (device : Disk D) (found : AtOpening) (history : History) 
             last = commits;
             more = [];
             all = append-nil commits;
-            is_last = opens_now device (device.seen first).pages s commits (device.seen (disk_of s)) t is (safe.stands is) (law (disk_of s) t);
+            is_last = opens_now device (device.seen first).pages s commits (device.seen (disk_of s)) t is
+                (safe.stands is) (law (disk_of s) t);
             in_doubt = λ l. absurd (omega arith);
             crash = crash t f;
           }
       by t f (Some n) is =
           let safe : Safe device first c0 s history commits exchanges = st.safe t f in
-          let r : Reaches (device.seen (disk_of s)) (device.clock (disk_of s)) history commits exchanges = safe.late (device.clock (disk_of s)) (device.seen (disk_of s)) safe.began (omega arith) (law (disk_of s) t) in
+          let r : Reaches (device.seen (disk_of s)) (device.clock (disk_of s)) history commits exchanges = safe.late
+          (device.clock (disk_of s)) (device.seen (disk_of s)) safe.began (omega arith) (law (disk_of s) t) in
           record {
             is_first = (o.lawful t f).entry;
             last = r.kept;
@@ -229,49 +266,80 @@ module _ {D : Type 0} (device : Disk D) (found : AtOpening) (history : History) 
             crash = crash t f;
           }
 
-  ran_by : ((d : D) → device.tells → device.image d (device.clock d) (device.seen d)) → (a c : Option (List ℕ)) (opened : DbValue D) (run_state : RunState D) (text : List ℕ) (left : List Step) (well : Bool) (h : Progress a c opened run_state text left well)
-      → (first : D) (c0 : ℕ) → IsWidest found → OpenedAt device found history first c0 opened → RanOn device history first (disk_of run_state.store) h.commits h.exchanges × (device.tells → HasSamePages device first (disk_of run_state.store))
-  ran_by law a c opened run_state text left well h first c0 widest o = finish law first opened c0 run_state.store h.commits h.exchanges widest o h.held (h.state first c0 o)
+  ran_by : ((d : D) → device.tells → device.image d (device.clock d) (device.seen d))
+      → (a c : Option (List ℕ)) (opened : DbValue D) (run_state : RunState D) (text : List ℕ) (left : List Step)
+      (well : Bool) (h : Progress a c opened run_state text left well)
+      → (first : D) (c0 : ℕ) → IsWidest found → OpenedAt device found history first c0 opened
+      → RanOn device history first (disk_of run_state.store) h.commits h.exchanges × (device.tells
+      → HasSamePages device first (disk_of run_state.store))
+  ran_by law a c opened run_state text left well h first c0 widest o =
+      finish law first opened c0 run_state.store h.commits h.exchanges widest o h.held (h.state first c0 o)
 
   -- one step more was answered
-  pub progress_step : (a b c : Option (List ℕ)) (opened : DbValue D) (old new : RunState D) (text : List ℕ) (s : Step) (left : List Step) (well : Bool) → Progress a b opened old text (s ∷ left) true → Served device s old new b c well → Progress a c opened new text left well
+  pub progress_step : (a b c : Option (List ℕ)) (opened : DbValue D) (old new : RunState D) (text : List ℕ) (s : Step)
+      (left : List Step) (well : Bool) → Progress a b opened old text (s ∷ left) true → Served device s old new b c well
+      → Progress a c opened new text left well
   progress_step a b c opened old new text s left well p t =
       let number : ℕ = number_of s in
       let place : Place = record { step = number; session = t.session; turn = 0 } in
-      let lower : All (λ (r : Exchange). r.place.step < number) p.exchanges = All-weaker (λ (r : Exchange). r.place.step < p.high) (λ (r : Exchange). r.place.step < number) (λ r l. omega (arith, l, p.rise.0)) p.exchanges p.last in
-      let g : Goes device found history p.commits p.exchanges old.store new.store place old.configs number t.turned.statement t.reply = goes device found history old.store new.store p.commits p.exchanges place old.configs number t.turned.statement t.reply p.held lower t.turned.answered in
+      let lower : All (λ (r : Exchange). r.place.step < number) p.exchanges = All-weaker (λ (r : Exchange). r.place.step
+      < p.high) (λ (r : Exchange). r.place.step < number) (λ r l. omega (arith, l, p.rise.0)) p.exchanges p.last in
+      let g : Goes device found history p.commits p.exchanges old.store new.store place old.configs number
+      t.turned.statement t.reply = goes device found history old.store new.store p.commits p.exchanges place
+      old.configs number t.turned.statement t.reply p.held lower t.turned.answered in
       let exchange : Exchange = exchange_of place old.configs number t.turned.statement t.reply g.note in
       record {
         commits = p.commits ++ g.more;
         exchanges = p.exchanges ++ exchange ∷ [];
         held = g.held;
         high = number + 1;
-        last = All-push (λ (r : Exchange). r.place.step < number + 1) p.exchanges exchange (All-weaker (λ (r : Exchange). r.place.step < number) (λ (r : Exchange). r.place.step < number + 1) (λ r l. omega (arith, l)) p.exchanges lower) (omega arith);
+        last = All-push (λ (r : Exchange). r.place.step < number + 1) p.exchanges exchange
+            (All-weaker (λ (r : Exchange). r.place.step < number) (λ (r : Exchange). r.place.step < number + 1)
+            (λ r l. omega (arith, l)) p.exchanges lower) (omega arith);
         rise = p.rise.1;
         done = p.done ++ s ∷ [];
         script = p.script ∙ sym (append_assoc p.done (s ∷ []) left);
-        each = exchanges_more first_known old.configs new.configs p.done p.exchanges s exchange p.each (record { step = refl; numbered = refl; turn = refl; before = refl; says = t.turned.says }) t.turned.becomes;
-        printed = subst (λ z. SendsBut (PIECE_BYTES + length (last_text (p.exchanges ++ exchange ∷ []))) a c z new.waiting.items well) (flat_map_more printed_exchange [] p.exchanges exchange)
-            (puts_few (PIECE_BYTES + length (last_text (p.exchanges ++ exchange ∷ []))) a b c (printed_exchanges p.exchanges) old.waiting.items (said t.session t.reply) new.waiting.items well p.printed.0 t.text (fits_last p.exchanges exchange (length old.waiting.items) (p.room refl)));
+        each = exchanges_more first_known old.configs new.configs p.done p.exchanges s exchange p.each (record {
+          step = refl;
+          numbered = refl;
+          turn = refl;
+          before = refl;
+          says = t.turned.says;
+        }) t.turned.becomes;
+        printed = subst (λ z. SendsBut (PIECE_BYTES + length (last_text (p.exchanges ++ exchange ∷ []))) a c z
+            new.waiting.items well) (flat_map_more printed_exchange [] p.exchanges exchange)
+            (puts_few (PIECE_BYTES + length (last_text (p.exchanges ++ exchange ∷ []))) a b c
+            (printed_exchanges p.exchanges) old.waiting.items (said t.session t.reply) new.waiting.items well
+            p.printed.0 t.text (fits_last p.exchanges exchange (length old.waiting.items) (p.room refl)));
         room = t.few;
-        flag = t.flag ∙ ap (λ b. b || is_refusal t.reply) p.flag ∙ sym (any_push (λ (r : Exchange). is_refusal r.reply) p.exchanges exchange);
+        flag = t.flag ∙ ap (λ b. b || is_refusal t.reply) p.flag
+            ∙ sym (any_push (λ (r : Exchange). is_refusal r.reply) p.exchanges exchange);
         state = λ first c0 o. g.state first c0 (disk_of opened) (p.state first c0 o);
       }
 
   -- the clause of `serve_steps`, where the run stopped
-  pub stopped_out : ((d : D) → device.tells → device.image d (device.clock d) (device.seen d)) → (a c : Option (List ℕ)) (opened : DbValue D) (run_state : RunState D) (text : List ℕ) (left : List Step) (stop : Stop) → Progress a c opened run_state text left false
+  pub stopped_out : ((d : D) → device.tells → device.image d (device.clock d) (device.seen d)) → (a c : Option (List ℕ))
+      (opened : DbValue D) (run_state : RunState D) (text : List ℕ) (left : List Step) (stop : Stop)
+      → Progress a c opened run_state text left false
       → HasRunSteps {E = Stop} device found history text a c opened (disk_of run_state.store) (Err stop)
   stopped_out law a c opened run_state text left stop p = record {
     exchanges = p.exchanges;
     commits = p.commits;
-    ran = record { so_far = has_printed a c text p.exchanges p.done left run_state.configs run_state.waiting.items false p.script p.each p.printed; whole = λ e. cc };
+    ran = record {
+      so_far = has_printed a c text p.exchanges p.done left run_state.configs run_state.waiting.items false p.script
+          p.each p.printed;
+      whole = λ e. cc;
+    };
     flag = tt;
     over = ran_by law a c opened run_state text left false p;
   }
 
   -- more was written of what waits
-  pub progress_sent : (a b c : Option (List ℕ)) (opened : DbValue D) (old new : RunState D) (text : List ℕ) (left : List Step) (well : Bool) → Progress a b opened old text left true → new.store ≡ old.store → new.configs ≡ old.configs → new.refused ≡ old.refused
-      → Sends b c old.waiting.items new.waiting.items well → (well ≡ true → length new.waiting.items < PIECE_BYTES) → Progress a c opened new text left well
+  pub progress_sent : (a b c : Option (List ℕ)) (opened : DbValue D) (old new : RunState D) (text : List ℕ)
+      (left : List Step) (well : Bool) → Progress a b opened old text left true → new.store ≡ old.store
+      → new.configs ≡ old.configs → new.refused ≡ old.refused
+      → Sends b c old.waiting.items new.waiting.items well → (well ≡ true → length new.waiting.items < PIECE_BYTES)
+      → Progress a c opened new text left well
   progress_sent a b c opened old new text left well p s k f t room = record {
     commits = p.commits;
     exchanges = p.exchanges;
@@ -282,34 +350,52 @@ module _ {D : Type 0} (device : Disk D) (found : AtOpening) (history : History) 
     done = p.done;
     script = p.script;
     each = subst (AreExchanges first_known p.done p.exchanges) (sym k) p.each;
-    printed = puts_none (PIECE_BYTES + length (last_text p.exchanges)) a b c (printed_exchanges p.exchanges) old.waiting.items new.waiting.items well p.printed.0 t (omega (arith, p.room refl));
+    printed = puts_none (PIECE_BYTES + length (last_text p.exchanges)) a b c (printed_exchanges p.exchanges)
+        old.waiting.items new.waiting.items well p.printed.0 t (omega (arith, p.room refl));
     room = room;
     flag = f ∙ p.flag;
-    state = λ first c0 o. subst (λ x. State device found history first c0 (disk_of opened) x p.commits p.exchanges) (sym s) (p.state first c0 o);
+    state = λ first c0 o. subst (λ x. State device found history first c0 (disk_of opened) x p.commits p.exchanges)
+        (sym s) (p.state first c0 o);
   }
 
-  pub progress_left : (a b : Option (List ℕ)) (opened : DbValue D) (run_state : RunState D) (text : List ℕ) (left other : List Step) (well : Bool) → Progress a b opened run_state text left well → left ≡ other → Progress a b opened run_state text other well
-  progress_left a b opened run_state text left other well p e = subst (λ z. Progress a b opened run_state text z well) e p
+  pub progress_left : (a b : Option (List ℕ)) (opened : DbValue D) (run_state : RunState D) (text : List ℕ)
+      (left other : List Step) (well : Bool) → Progress a b opened run_state text left well → left ≡ other
+      → Progress a b opened run_state text other well
+  progress_left a b opened run_state text left other well p e =
+      subst (λ z. Progress a b opened run_state text z well) e p
 
   -- the run stopped in a step
-  pub step_stop : ((d : D) → device.tells → device.image d (device.clock d) (device.seen d)) → (a b c : Option (List ℕ)) (opened : DbValue D) (old new : RunState D) (text : List ℕ) (s : Step) (left : List Step) (stop : Stop) → Progress a b opened old text (s ∷ left) true
-      → Served device s old new b c false ⊎ Passed old new b c false → HasRunSteps {E = Stop} device found history text a c opened (disk_of new.store) (Err stop)
-  step_stop law a b c opened old new text s left stop p (inl t) = stopped_out law a c opened new text left stop (progress_step a b c opened old new text s left false p t)
-  step_stop law a b c opened old new text s left stop p (inr t) = stopped_out law a c opened new text (s ∷ left) stop (progress_sent a b c opened old new text (s ∷ left) false p t.same.0 t.same.1 t.same.2 t.text (went_badly (length new.waiting.items)))
+  pub step_stop : ((d : D) → device.tells → device.image d (device.clock d) (device.seen d)) → (a b c : Option (List ℕ))
+      (opened : DbValue D) (old new : RunState D) (text : List ℕ) (s : Step) (left : List Step) (stop : Stop)
+      → Progress a b opened old text (s ∷ left) true
+      → Served device s old new b c false ⊎ Passed old new b c false
+      → HasRunSteps {E = Stop} device found history text a c opened (disk_of new.store) (Err stop)
+  step_stop law a b c opened old new text s left stop p (inl t) =
+      stopped_out law a c opened new text left stop (progress_step a b c opened old new text s left false p t)
+  step_stop law a b c opened old new text s left stop p (inr t) =
+      stopped_out law a c opened new text (s ∷ left) stop (progress_sent a b c opened old new text
+      (s ∷ left) false p t.same.0 t.same.1 t.same.2 t.text (went_badly (length new.waiting.items)))
 
-  pub step_goes : (a b c : Option (List ℕ)) (opened : DbValue D) (old new : RunState D) (text : List ℕ) (s : Step) (left : List Step) → Progress a b opened old text (s ∷ left) true
+  pub step_goes : (a b c : Option (List ℕ)) (opened : DbValue D) (old new : RunState D) (text : List ℕ) (s : Step)
+      (left : List Step) → Progress a b opened old text (s ∷ left) true
       → Served device s old new b c true ⊎ Passed old new b c true → Progress a c opened new text left true
   step_goes a b c opened old new text s left p (inl t) = progress_step a b c opened old new text s left true p t
   step_goes a b c opened old new text s left p (inr t) = absurd (let e : true ≡ false = t.short in let x : ⊥ = cc in x)
 
   -- the clause of `serve_steps`, where all steps were answered and all text was written
-  pub ended_out : ((d : D) → device.tells → device.image d (device.clock d) (device.seen d)) → (a c : Option (List ℕ)) (opened : DbValue D) (run_state : RunState D) (text : List ℕ) → Progress a c opened run_state text [] true → run_state.waiting.items ≡ []
+  pub ended_out : ((d : D) → device.tells → device.image d (device.clock d) (device.seen d))
+      → (a c : Option (List ℕ)) (opened : DbValue D) (run_state : RunState D) (text : List ℕ)
+      → Progress a c opened run_state text [] true → run_state.waiting.items ≡ []
       → HasRunSteps {E = Stop} device found history text a c opened (disk_of run_state.store) (Ok run_state.refused)
   unfolding has_printed
   ended_out law a c opened run_state text p empty = record {
     exchanges = p.exchanges;
     commits = p.commits;
-    ran = record { so_far = has_printed a c text p.exchanges p.done [] run_state.configs run_state.waiting.items true p.script p.each p.printed; whole = λ t. (refl, p.printed.0.waits refl ∙ empty) };
+    ran = record {
+      so_far = has_printed a c text p.exchanges p.done [] run_state.configs run_state.waiting.items true p.script
+          p.each p.printed;
+      whole = λ t. (refl, p.printed.0.waits refl ∙ empty);
+    };
     flag = p.flag;
     over = ran_by law a c opened run_state text [] true p;
   }

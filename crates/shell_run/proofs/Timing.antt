@@ -23,16 +23,19 @@ ClockIsBy m r = r.note.clock ≤ m
 abbrev IsAnsweredBefore : ℕ → Exchange → Exchange → Type 0
 IsAnsweredBefore m b a = Before a b → a.note.clock ≤ m
 
-pub clocks_by : (m n : ℕ) (exchanges : List Exchange) → m ≤ n → All (ClockIsBy m) exchanges → All (ClockIsBy n) exchanges
+pub clocks_by : (m n : ℕ) (exchanges : List Exchange) → m ≤ n → All (ClockIsBy m) exchanges
+    → All (ClockIsBy n) exchanges
 clocks_by m n exchanges le = All-weaker (ClockIsBy m) (ClockIsBy n) (λ r l. omega (arith, l, le)) exchanges
 
 pub timed_by : (opened last : ℕ) (exchanges : List Exchange) → AreTimed opened last exchanges
     → All (ClockIsBy last) exchanges
 timed_by opened last exchanges h k d l = (h.within k d l).1
 
-pub timed_push : (opened last last' : ℕ) (exchanges : List Exchange) (exchange : Exchange) → AreTimed opened last exchanges
+pub timed_push : (opened last last' : ℕ) (exchanges : List Exchange) (exchange : Exchange)
+    → AreTimed opened last exchanges
     → last ≤ last' → exchange.note.clock ≡ last'
-    → All (λ (r : Exchange). r.place.step < exchange.place.step) exchanges → AreTimed opened last' (exchanges ++ exchange ∷ [])
+    → All (λ (r : Exchange). r.place.step < exchange.place.step) exchanges
+    → AreTimed opened last' (exchanges ++ exchange ∷ [])
 timed_push opened last last' exchanges exchange h le is before = record {
   later = omega (arith, h.later, le);
   within = All-push (λ (r : Exchange). (opened ≤ r.note.clock) × (r.note.clock ≤ last')) exchanges exchange
@@ -40,7 +43,8 @@ timed_push opened last last' exchanges exchange h le is before = record {
       (omega (arith, h.later, le, is), omega (arith, is));
   order = All-push (λ (a : Exchange). All (λ (b : Exchange). Before a b → a.note.clock ≤ b.note.clock)
       (exchanges ++ exchange ∷ [])) exchanges exchange
-      (λ k d l. All-push (λ (b : Exchange). Before (get_or exchanges k d) b → (get_or exchanges k d).note.clock ≤ b.note.clock)
+      (λ k d l. All-push
+      (λ (b : Exchange). Before (get_or exchanges k d) b → (get_or exchanges k d).note.clock ≤ b.note.clock)
       exchanges exchange (h.order k d l) (λ b. omega (arith, (h.within k d l).1, le, is)))
       (All-push (λ (b : Exchange). Before exchange b → exchange.note.clock ≤ b.note.clock) exchanges exchange
       (λ k d l b. absurd (not_before exchange (get_or exchanges k d) (before k d l) b))
@@ -56,7 +60,8 @@ answered_all m reached exchanges h k d l =
     (λ p lt. All-weaker (ClockIsBy m) (IsAnsweredBefore m b) (λ a by before. by) exchanges h)
 
 -- one exchange more at the end
-pub answered_push : (m reached : ℕ) (exchanges : List Exchange) (exchange : Exchange) → AreAnsweredBy m reached exchanges
+pub answered_push : (m reached : ℕ) (exchanges : List Exchange) (exchange : Exchange)
+    → AreAnsweredBy m reached exchanges
     → All (λ (r : Exchange). r.place.step < exchange.place.step) exchanges
     → IfSome exchange.note.commit (λ p. p < reached → All (IsAnsweredBefore m exchange) exchanges)
     → AreAnsweredBy m reached (exchanges ++ exchange ∷ [])
@@ -66,14 +71,16 @@ answered_push m reached exchanges exchange h before own =
     (λ k d l. old (get_or exchanges k d) (h k d l) (before k d l))
     (if_map exchange.note.commit (λ p. p < reached → All (IsAnsweredBefore m exchange) exchanges)
     (λ p. p < reached → All (IsAnsweredBefore m exchange) (exchanges ++ exchange ∷ []))
-    (λ p f lt. All-push (IsAnsweredBefore m exchange) exchanges exchange (f lt) (λ b. absurd (not_self exchange b))) own)
+    (λ p f lt. All-push (IsAnsweredBefore m exchange) exchanges exchange (f lt) (λ b. absurd (not_self exchange b)))
+    own)
   where
     old : (b : Exchange) → IfSome b.note.commit (λ p. p < reached → All (IsAnsweredBefore m b) exchanges)
         → b.place.step < exchange.place.step
         → IfSome b.note.commit (λ p. p < reached → All (IsAnsweredBefore m b) (exchanges ++ exchange ∷ []))
     old b f lower = if_map b.note.commit (λ p. p < reached → All (IsAnsweredBefore m b) exchanges)
         (λ p. p < reached → All (IsAnsweredBefore m b) (exchanges ++ exchange ∷ []))
-        (λ p g lt. All-push (IsAnsweredBefore m b) exchanges exchange (g lt) (λ x. absurd (not_before exchange b lower x))) f
+        (λ p g lt. All-push (IsAnsweredBefore m b) exchanges exchange (g lt)
+        (λ x. absurd (not_before exchange b lower x))) f
 
 -- one statement more, and the device as it leaves it
 pub left_push : {D : Type 0} (device : Disk D) (exchanges : List Exchange) (exchange : Exchange) (opened disk disk' : D)

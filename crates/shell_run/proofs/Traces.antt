@@ -1,5 +1,6 @@
 -- Runs that no call leaves.
-use Rattle.std.proofs.Common.{◌≡◌, ◌+◌, ◌<◌, ◌≤◌, ℕ, inl, inr, List, [], ◌∷◌, ◌++◌, length, length-append, arith, refl, sym, ◌∙◌, ap, subst}
+use Rattle.std.proofs.Common.{◌≡◌, ◌+◌, ◌<◌, ◌≤◌, ℕ, inl, inr, List, [], ◌∷◌, ◌++◌, length, length-append, arith, refl}
+use Rattle.std.proofs.Common.{sym, ◌∙◌, ap, subst}
 use Rattle.std.specs.Prelude.{Option, Some, None, IfSome}
 use Rattle.std.specs.List.{All}
 use Rattle.std.specs.Io.KnownBytes.{Appends, IsAtEnd}
@@ -16,11 +17,15 @@ use Rattle.shell_script.specs.OpeningLines.{Kind, dictionary_opening}
 use Rattle.shell_script.specs.Grammar.{Expr, insert, define}
 use Rattle.engine.specs.Finding.{Name}
 use Rattle.shell_run.specs.Defining.{Becomes}
-use Rattle.shell_run.specs.Run.{Exchange, Note, Counts, Run, Before, IsAnswered, stored, done, refused, device, HasFailed, FindsDown, IsOkOfStore}
+use Rattle.shell_run.specs.Run.{Exchange, Note, Counts, Run, Before, IsAnswered, stored, done, refused, device}
+use Rattle.shell_run.specs.Run.{HasFailed, FindsDown, IsOkOfStore}
 use Rattle.engine.specs.Finding.{History}
 use Rattle.shell_run.specs.Script.{printed_exchange, printed_exchanges}
 use Rattle.shell_run.specs.declared.sending.TheConstants.{PIECE_BYTES}
-use Rattle.shell_run.specs.Traces.{NoNameIsTakenTwice, NoneIsStoredAfterFailure, NoneIsCommittedAfterFailure, NoClockFalls, NoCommitIsEarly, NoCommitIsLate, NoFlushIsLate, EachFailureIsNoted, OneCountIsTold, NothingIsPrintedWith4, NoneRunsAfterTheSinkFailed, NoHalfScriptIsRun, NoLogIsWiped, NoStrayFileIsWritten, NoStoreIsWrittenUnrun, NoPageIsWritten}
+use Rattle.shell_run.specs.Traces.{NoNameIsTakenTwice, NoneIsStoredAfterFailure, NoneIsCommittedAfterFailure}
+use Rattle.shell_run.specs.Traces.{NoClockFalls, NoCommitIsEarly, NoCommitIsLate, NoFlushIsLate, EachFailureIsNoted}
+use Rattle.shell_run.specs.Traces.{OneCountIsTold, NothingIsPrintedWith4, NoneRunsAfterTheSinkFailed, NoHalfScriptIsRun}
+use Rattle.shell_run.specs.Traces.{NoLogIsWiped, NoStrayFileIsWritten, NoStoreIsWrittenUnrun, NoPageIsWritten}
 
 -- a write failed in an insertion that is answered so
 has_failed : (counts : Counts) (first commits : History) (a b : Exchange) (e : Expr)
@@ -33,8 +38,10 @@ has_failed counts first commits a b e statement reply run =
 pub none_stored_after_failure : NoneIsStoredAfterFailure
 none_stored_after_failure counts first commits a b e f n statement reply ask' reply' before run =
     let failed : 0 < a.note.writes = has_failed counts first commits a b e statement reply run in
-    let finds : FindsDown b.known b.statement b.reply = (run.order 0 a (omega arith) 1 b (omega arith) before).down failed in
-    not_down b.known f n (subst (FindsDown b.known (insert f)) reply' (subst (λ q. FindsDown b.known q b.reply) ask' finds))
+    let finds : FindsDown b.known b.statement b.reply =
+    (run.order 0 a (omega arith) 1 b (omega arith) before).down failed in
+    not_down b.known f n
+    (subst (FindsDown b.known (insert f)) reply' (subst (λ q. FindsDown b.known q b.reply) ask' finds))
   where
     not_down : (known : Known) (f : Expr) (n : Name) → FindsDown known (insert f) (stored n) → ⊥
     not_down known f n (inl h) = h
@@ -75,10 +82,16 @@ no_commit_is_late files m p n first commits a reply own by r short =
 
 pub each_failure_is_noted : EachFailureIsNoted
 each_failure_is_noted counts first commits a b e f rose run =
-    omega (arith, run.writes, sum_by-cons (λ (r : Exchange). r.note.writes) a (b ∷ []), sum_by-cons (λ (r : Exchange). r.note.writes) b [])
+    omega (
+      arith,
+      run.writes,
+      sum_by-cons (λ (r : Exchange). r.note.writes) a (b ∷ []),
+      sum_by-cons (λ (r : Exchange). r.note.writes) b [],
+    )
 
 pub one_count_is_told : OneCountIsTold
-one_count_is_told counts first commits a b m n told told' other run = other (run.one_count 0 a (omega arith) 1 b (omega arith) m n told told')
+one_count_is_told counts first commits a b m n told told' other run =
+    other (run.one_count 0 a (omega arith) 1 b (omega arith) m n told told')
 
 pub nothing_is_printed_with_4 : NothingIsPrintedWith4
 nothing_is_printed_with_4 text before after exchanges h = elim h.statuses [
@@ -90,26 +103,37 @@ nothing_is_printed_with_4 text before after exchanges h = elim h.statuses [
 ]
 
 -- what is defined after a dictionary that is done has its name
-name_taken : (known next : Known) (name : List ℕ) (k : Kind) (ls : List Line) → Becomes known (define (dictionary_opening name k) ls) done next → HasDictionary next name
+name_taken : (known next : Known) (name : List ℕ) (k : Kind) (ls : List Line)
+    → Becomes known (define (dictionary_opening name k) ls) done next → HasDictionary next name
 name_taken known next name k ls h =
-    subst (λ n. HasDictionary n name) (sym h.2) (Any-push (λ (d : NamedRules). d.name ≡ name) known.dictionaries (record { name = name; rules = h.0 }) refl)
+    subst (λ n. HasDictionary n name) (sym h.2)
+    (Any-push (λ (d : NamedRules). d.name ≡ name) known.dictionaries (record { name = name; rules = h.0 }) refl)
 
-name_free : (counts : Counts) (commits : History) (known : Known) (line : ℕ) (name : List ℕ) (k : Kind) (ls : List Line) (note : Note) → IsAnswered counts commits known line (define (dictionary_opening name k) ls) done note → ¬ HasDictionary known name
+name_free : (counts : Counts) (commits : History) (known : Known) (line : ℕ) (name : List ℕ) (k : Kind) (ls : List Line)
+    (note : Note) → IsAnswered counts commits known line (define (dictionary_opening name k) ls) done note
+    → ¬ HasDictionary known name
 name_free counts commits known line name k ls note h = h.0.1
 
 first_is : {X : Type 0} (x y : X) (xs ys : List X) → x ∷ xs ≡ y ∷ ys → (x ≡ y) × (xs ≡ ys)
 first_is x y xs ys e = (cc, cc)
 
 pub no_name_is_taken_twice : NoNameIsTakenTwice
-no_name_is_taken_twice counts first commits known last s t a b name j k ls ms asked replied asked' replied' exchanges run =
+no_name_is_taken_twice counts first commits known last s t a b name j k ls ms asked replied asked' replied' exchanges
+    run =
     let head : (a ≡ exchanges.0) × (b ∷ [] ≡ exchanges.1) = first_is a exchanges.0 (b ∷ []) exchanges.1 exchanges.3 in
-    let becomes : Becomes known a.statement a.reply exchanges.2 = subst (λ (r : Exchange). Becomes known r.statement r.reply exchanges.2) (sym head.0) exchanges.5 in
-    let taken : HasDictionary exchanges.2 name = name_taken known exchanges.2 name j ls (subst (λ r. Becomes known (define (dictionary_opening name j) ls) r exchanges.2) replied (subst (λ q. Becomes known q a.reply exchanges.2) asked becomes)) in
+    let becomes : Becomes known a.statement a.reply exchanges.2 =
+    subst (λ (r : Exchange). Becomes known r.statement r.reply exchanges.2) (sym head.0) exchanges.5 in
+    let taken : HasDictionary exchanges.2 name = name_taken known exchanges.2 name j ls
+    (subst (λ r. Becomes known (define (dictionary_opening name j) ls) r exchanges.2) replied
+    (subst (λ q. Becomes known q a.reply exchanges.2) asked becomes)) in
     let next = exchanges.6 in
     let tail : (b ≡ next.0) × ([] ≡ next.1) = first_is b next.0 [] next.1 (head.1 ∙ next.3) in
     let before : b.known ≡ exchanges.2 = subst (λ (r : Exchange). r.known ≡ exchanges.2) (sym tail.0) next.4.before in
-    let answered : IsAnswered counts commits b.known b.line b.statement b.reply b.note = run.answers 1 b (omega arith) in
-    let free : ¬ HasDictionary b.known name = name_free counts commits b.known b.line name k ms b.note (subst (λ r. IsAnswered counts commits b.known b.line (define (dictionary_opening name k) ms) r b.note) replied' (subst (λ q. IsAnswered counts commits b.known b.line q b.reply b.note) asked' answered)) in
+    let answered : IsAnswered counts commits b.known b.line b.statement b.reply b.note =
+    run.answers 1 b (omega arith) in
+    let free : ¬ HasDictionary b.known name = name_free counts commits b.known b.line name k ms b.note
+    (subst (λ r. IsAnswered counts commits b.known b.line (define (dictionary_opening name k) ms) r b.note) replied'
+    (subst (λ q. IsAnswered counts commits b.known b.line q b.reply b.note) asked' answered)) in
     free (subst (λ n. HasDictionary n name) (sym before) taken)
 
 -- a sink that took nothing did not take more

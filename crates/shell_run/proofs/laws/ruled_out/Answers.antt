@@ -1,4 +1,8 @@
-use Rattle.shell_run.proofs.Traces.{none_stored_after_failure, none_committed_after_failure, no_clock_falls, no_flush_is_late, no_commit_is_early, no_commit_is_late, each_failure_is_noted, one_count_is_told, nothing_is_printed_with_4, no_name_is_taken_twice, none_runs_after_the_sink_failed, no_half_script_is_run, no_log_is_wiped, no_stray_file_is_written, no_store_is_written_unrun, no_page_is_written}
+use Rattle.shell_run.proofs.Traces.{none_stored_after_failure, none_committed_after_failure, no_clock_falls}
+use Rattle.shell_run.proofs.Traces.{no_flush_is_late, no_commit_is_early, no_commit_is_late, each_failure_is_noted}
+use Rattle.shell_run.proofs.Traces.{one_count_is_told, nothing_is_printed_with_4, no_name_is_taken_twice}
+use Rattle.shell_run.proofs.Traces.{none_runs_after_the_sink_failed, no_half_script_is_run, no_log_is_wiped}
+use Rattle.shell_run.proofs.Traces.{no_stray_file_is_written, no_store_is_written_unrun, no_page_is_written}
 use Rattle.shell_run.proofs.laws.ruled_out.Goals as goal
 
 pub returns : goal.returns
