@@ -292,6 +292,7 @@ module _ {D : Type 0} (device : Disk D) (found : AtOpening) where
       subst (λ n. HasInserted device found H old new v (Ok n)) (sym i.named) (record {
         up = i.up;
         still_up = i.still_up;
+        flushed = i.flushed;
         xids = xids_left old H (length H) h i.up refl (λ s. omega (arith, s, i.some_xid));
         room = λ f. i.fits (too_large old v (subst (λ ds. IsFull ds v) (sees_all old H h i.up) f));
         log_room = log_not_full old H (length H) h i.up refl (omega (arith, i.log_fits));

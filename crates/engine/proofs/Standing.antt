@@ -17,7 +17,7 @@ use Rattle.buffer_frames.specs.Logging.{IsSameJournal}
 use Rattle.engine.specs.Finding.{History, IsNumbered}
 use Rattle.engine.specs.Opening.{OpensTo, StartedFrom, OpensAsBefore, HasSamePages, HasPagesOf, KeepsPages, IsOnlyRead}
 use Rattle.engine.specs.Opened.{IsFixedSince}
-use Rattle.engine.specs.Standing.{disk_of, fault_of, IsUp, IsOpenedTo, Rests}
+use Rattle.engine.specs.Standing.{disk_of, fault_of, IsUp, IsFlushed, IsOpenedTo, Rests}
 use Rattle.engine.specs.Inner.DbValue.{DbValue}
 
 module _ {D : Type 0} (device : Disk D) where
@@ -113,6 +113,9 @@ module _ {D : Type 0} (device : Disk D) where
 
   pub rests_fault : (old new : DbValue D) → Rests device old new → fault_of new ≡ fault_of old
   rests_fault old new r = r.journal.down
+
+  pub rests_flushed : (old new : DbValue D) → Rests device old new → IsFlushed old → IsFlushed new
+  rests_flushed old new r flushed = r.journal.waits ∙ flushed
 
   pub rests_opened : (file : List ℕ) (old new : DbValue D) (commits : History) → Rests device old new
       → IsOpenedTo device file old commits → IsOpenedTo device file new commits

@@ -6,7 +6,7 @@ use Rattle.disk_trait.specs.declared.device.Disk.{Ghosts as Disk}
 use Rattle.ts_base.specs.Vectors.{Vector}
 use Rattle.engine.specs.Finding.{Name, Commit, History, docs, insertion, IsFound}
 use Rattle.engine.specs.AtOpening.{AtOpening, IsFull, IsLogFull, AreXidsSpent}
-use Rattle.engine.specs.Standing.{disk_of, fault_of, IsUp, StandsFor, Rests, PutsCommit}
+use Rattle.engine.specs.Standing.{disk_of, fault_of, IsUp, IsFlushed, StandsFor, Rests, PutsCommit}
 use Rattle.engine.specs.Inner.DbValue.{DbValue}
 use Rattle.engine.specs.declared.error.DbError.{DbError}
 use Rattle.engine.specs.declared.error.DbError.TheVariants.{StoreFull, LogFull, XidsSpent, Down, DiskFault, OutOfMemory}
@@ -16,10 +16,12 @@ abbrev pub commit_of : Name → Vector → Commit
 commit_of name v = insertion (record { name = name; vector = v })
 
 module _ {D : Type 0} (device : Disk D) (found : AtOpening) (H : History) where
-  -- Of a store that stood for H: the document of this vector is there, and its commit is flushed.
+  -- Of a store that stood for H: the document of this vector is there, and its commit is flushed, whatever the
+  -- device says.
   pub record HasStored (old new : DbValue D) (v : Vector) (name : Name) : Type 0 where
     pub up : IsUp old
     pub still_up : IsUp new
+    pub flushed : IsFlushed new
     pub xids : AreXidsSpent found (length H) → ⊥
     pub room : IsFull (docs H) v → ⊥
     pub log_room : IsLogFull found (length H) → ⊥

@@ -5,7 +5,7 @@ use Rattle.std.specs.List.{All}
 use Rattle.disk_trait.specs.Files.{Files}
 use Rattle.disk_trait.specs.Runs.{images_now, LeavesOnly}
 use Rattle.disk_trait.specs.declared.device.Disk.{Ghosts as Disk}
-use Rattle.wal.specs.Waiting.{down_of}
+use Rattle.wal.specs.Waiting.{waiting, down_of}
 use Rattle.wal.specs.declared.sizes.TheConstants.{FRAME_BYTES}
 use Rattle.core_state.specs.Log.{Log}
 use Rattle.core_state.specs.Stores.{PagesStand}
@@ -28,6 +28,10 @@ fault_of s = down_of s.journal.wal
 
 abbrev pub IsUp : {D : Type 0} → DbValue D → Type 0
 IsUp s = fault_of s ≡ None
+
+-- All that was put into the log is flushed: nothing waits.
+abbrev pub IsFlushed : {D : Type 0} → DbValue D → Type 0
+IsFlushed s = waiting s.journal.wal ≡ []
 
 -- The history that leaves these documents, what the run has taken of the log and of the xids, and
 -- the limits of both.

@@ -31,7 +31,7 @@ use Rattle.shell_run.specs.Run.{device as device_fault, memory, no_statement, Ru
 use Rattle.shell_run.specs.Run.{FindsDown, HasFailed, HasCalled, IsOkOfStore, seen_by, AreTimed}
 use Rattle.shell_run.specs.RanOn.{counts_over, IsLeftBy, AreLeftBy}
 use Rattle.engine.specs.Opened.{IsFixedSince}
-use Rattle.engine.specs.Standing.{disk_of, fault_of, IsUp, StandsFor, PutsCommit, Rests}
+use Rattle.engine.specs.Standing.{disk_of, fault_of, IsUp, IsFlushed, StandsFor, PutsCommit, Rests}
 use Rattle.shell_run.specs.Inner.Answering.{HasAnswered}
 use Rattle.shell_run.specs.Inner.Refusing.{stored_reply, found_reply}
 use Rattle.engine.specs.declared.error.DbError.{DbError}
@@ -39,10 +39,10 @@ use Rattle.engine.specs.declared.error.DbError.TheVariants as errors
 use Rattle.engine.specs.Db.{DbValue}
 use Rattle.shell_run.proofs.Runs.{run_step, get_last}
 use Rattle.shell_run.proofs.Safety.{Safe, Grown, IsNext, safe_rests, safe_logs}
-use Rattle.shell_run.proofs.Timing.{timed_by, timed_push, left_push}
+use Rattle.shell_run.proofs.Timing.{timed_by, timed_push, left_push, left_more}
 use Rattle.engine.proofs.Held.{held_lawful, held_same}
 use Rattle.engine.proofs.Standing.{fixed_on, rests_disk, rests_fault}
-use Rattle.std.proofs.lemmas.List.{take_at}
+use Rattle.std.proofs.lemmas.List.{take_at, take_all}
 use Rattle.std.specs.Prelude.{take}
 use Rattle.ts_match.specs.Meaning.{Holds}
 use Rattle.engine.specs.Finding.{docs}
@@ -116,14 +116,14 @@ pub record IsAnsweredAt (fall : Option ℕ) (known : Known) (statement : Stateme
 
 module _ {D : Type 0} (device : Disk D) (found : AtOpening) (history : History) where
   -- how a run is between two statements
-  pub record State (first : D) (c0 : ℕ) (opened : D) (s : DbValue D) (commits : History)
+  pub record State (first : D) (c0 : ℕ) (opened : DbValue D) (s : DbValue D) (commits : History)
       (exchanges : List Exchange) : Type 0 where
-    pub run : Run (counts_over device found first opened (disk_of s)) history commits exchanges
+    pub run : Run (counts_over device found first (disk_of opened) (disk_of s)) history commits exchanges
     pub counted : Counted (fault_of s) exchanges (device.fault_count first) (device.write_fault_count first)
         (device.fault_count (disk_of s)) (device.write_fault_count (disk_of s))
     pub fixed : device.tells → IsFixedSince device first c0 (disk_of s)
-    pub timed : AreTimed (device.clock opened) (device.clock (disk_of s)) exchanges
-    pub left_by : AreLeftBy device exchanges opened (disk_of s)
+    pub timed : AreTimed (device.clock (disk_of opened)) (device.clock (disk_of s)) exchanges
+    pub left_by : AreLeftBy device found commits exchanges opened s
     pub safe : device.tells → StartedFrom device first → Safe device first c0 s history commits exchanges
 
   -- The run with one statement more, which is what the documents hold now.
@@ -132,8 +132,8 @@ module _ {D : Type 0} (device : Disk D) (found : AtOpening) (history : History) 
     pub note : Note
     pub more : History
     pub held : StandsFor found new (commits ++ more)
-    pub state : (first : D) (c0 : ℕ) (opened : D) → State first c0 opened old commits exchanges → State first c0 opened
-        new (commits ++ more) (exchanges ++ exchange_of place known line statement reply note ∷ [])
+    pub state : (first : D) (c0 : ℕ) (opened : DbValue D) → State first c0 opened old commits exchanges → State first c0
+        opened new (commits ++ more) (exchanges ++ exchange_of place known line statement reply note ∷ [])
 
   grown : (k : Counts) (commits : History) (exchanges : List Exchange) → Run k history commits exchanges
       → Grown device history commits exchanges
@@ -149,18 +149,18 @@ module _ {D : Type 0} (device : Disk D) (found : AtOpening) (history : History) 
     clock = device.clock disk;
   }
 
-  quiet_state : (old new : DbValue D) (first : D) (c0 : ℕ) (opened : D) (commits : History) (exchanges : List Exchange)
-      (place : Place) (known : Known) (line : ℕ) (statement : Statement) (reply : Reply) → StandsFor found old commits
-      → All (λ (r : Exchange). r.place.step < place.step) exchanges → Rests device old new
+  quiet_state : (old new : DbValue D) (first : D) (c0 : ℕ) (opened : DbValue D) (commits : History)
+      (exchanges : List Exchange) (place : Place) (known : Known) (line : ℕ) (statement : Statement) (reply : Reply)
+      → StandsFor found old commits → All (λ (r : Exchange). r.place.step < place.step) exchanges → Rests device old new
       → IsAnsweredAt (fault_of old) known statement reply
-      → IsAnswered (counts_over device found first opened (disk_of old)) (commits
+      → IsAnswered (counts_over device found first (disk_of opened) (disk_of old)) (commits
       ++ []) known line statement reply (quiet_note (disk_of old) commits)
       → State first c0 opened old commits exchanges → State first c0 opened new (commits ++ []) (exchanges
       ++ exchange_of place known line statement reply (quiet_note (disk_of old) commits) ∷ [])
   unfolding quiet_note
   quiet_state old new first c0 opened commits exchanges place known line statement reply h last r q answered s =
       let exchange : Exchange = exchange_of place known line statement reply (quiet_note (disk_of old) commits) in
-      let k : Counts = counts_over device found first opened (disk_of old) in
+      let k : Counts = counts_over device found first (disk_of opened) (disk_of old) in
       let held : StandsFor found new (commits ++ []) = held_same device found old new commits h r in
       let run : Run k history (commits ++ []) (exchanges ++ exchange ∷ []) =
       run_step k k history commits [] exchanges exchange (record {
@@ -199,32 +199,32 @@ module _ {D : Type 0} (device : Disk D) (found : AtOpening) (history : History) 
       (device.fault_count (disk_of old)) (device.write_fault_count (disk_of old)) s.counted refl q.fell) in
       let clock : device.clock (disk_of new) ≡ device.clock (disk_of old) =
       ap device.clock (rests_disk device old new r) in
-      let timed : AreTimed (device.clock opened) (device.clock (disk_of new)) (exchanges ++ exchange ∷ []) =
-      timed_push (device.clock opened) (device.clock (disk_of old))
+      let timed : AreTimed (device.clock (disk_of opened)) (device.clock (disk_of new)) (exchanges ++ exchange ∷ []) =
+      timed_push (device.clock (disk_of opened)) (device.clock (disk_of old))
       (device.clock (disk_of new)) exchanges exchange s.timed (omega (arith, clock)) (sym clock) last in
-      let left : IsLeftBy device exchange (disk_of old) (disk_of old) = record {
-        later = omega arith;
-        clock = refl;
-        count = refl;
-        faults = omega arith;
-        writes = omega arith;
-        uncalled = λ none. refl;
+      let left : IsLeftBy device found (commits ++ []) exchange old new = record {
+        saw = subst (StandsFor found old) (sym (take_at commits [] (length commits) refl)) h;
+        later = omega (arith, clock);
+        clock = sym clock;
+        count = ap device.fault_count (sym (rests_disk device old new r));
+        faults = omega (arith, ap device.fault_count (rests_disk device old new r));
+        writes = omega (arith, ap device.write_fault_count (rests_disk device old new r));
+        flushed = λ ok. tt;
+        uncalled = λ none. r;
       } in
-      let left_by : AreLeftBy device (exchanges ++ exchange ∷ []) opened (disk_of old) =
-      left_push device exchanges exchange opened (disk_of old) (disk_of old) s.left_by left in
       record {
         timed = timed;
-        left_by =
-            subst (AreLeftBy device (exchanges ++ exchange ∷ []) opened) (sym (rests_disk device old new r)) left_by;
-        run = subst (λ d. Run (counts_over device found first opened d) history (commits ++ [])
+        left_by = left_push device found (commits ++ []) exchanges exchange opened old new
+            (left_more device found commits [] (length history) exchanges opened old s.run.within s.left_by) left;
+        run = subst (λ d. Run (counts_over device found first (disk_of opened) d) history (commits ++ [])
             (exchanges ++ exchange ∷ [])) (sym (rests_disk device old new r)) run;
         counted = subst (λ d. Counted (fault_of new) (exchanges ++ exchange ∷ []) (device.fault_count first)
             (device.write_fault_count first) (device.fault_count d) (device.write_fault_count d))
             (sym (rests_disk device old new r)) counted;
         fixed = λ t. subst (λ d. IsFixedSince device first c0 d) (sym (rests_disk device old new r)) (s.fixed t);
         safe = λ t f. safe_rests device first c0 old new history commits exchanges exchange t (s.safe t f)
-            (grown k (commits ++ []) (exchanges ++ exchange ∷ []) run) r (record { last = last; fresh = tt })
-            (timed_by (device.clock opened) (device.clock (disk_of new)) (exchanges ++ exchange ∷ []) timed) refl q.ok;
+            (grown k (commits ++ []) (exchanges ++ exchange ∷ []) run) r (record { last = last; fresh = tt }) (timed_by
+            (device.clock (disk_of opened)) (device.clock (disk_of new)) (exchanges ++ exchange ∷ []) timed) refl q.ok;
       }
 
   -- a statement for which the device was not called, whatever else is known of it
@@ -232,8 +232,8 @@ module _ {D : Type 0} (device : Disk D) (found : AtOpening) (history : History) 
       (known : Known) (line : ℕ) (statement : Statement) (reply : Reply) → StandsFor found old commits
       → All (λ (r : Exchange). r.place.step < place.step) exchanges → Rests device old new
       → IsAnsweredAt (fault_of old) known statement reply
-      → ((first : D) (c0 : ℕ) (opened : D) → State first c0 opened old commits exchanges
-      → IsAnswered (counts_over device found first opened (disk_of old)) (commits
+      → ((first : D) (c0 : ℕ) (opened : DbValue D) → State first c0 opened old commits exchanges
+      → IsAnswered (counts_over device found first (disk_of opened) (disk_of old)) (commits
       ++ []) known line statement reply (quiet_note (disk_of old) commits))
       → Goes commits exchanges old new place known line statement reply
   quiet old new commits exchanges place known line statement reply h last r q answered = record {
@@ -270,7 +270,7 @@ module _ {D : Type 0} (device : Disk D) (found : AtOpening) (history : History) 
       (λ first c0 opened s. let k : (device.fault_count first < count) × (count ≤ device.fault_count (disk_of old))
       × (device.write_fault_count first < device.write_fault_count (disk_of old)) × Any (FailedAt count) exchanges =
       s.counted.fallen count is in
-      answered (counts_over device found first opened (disk_of old)) (quiet_note (disk_of old) commits) refl
+      answered (counts_over device found first (disk_of opened) (disk_of old)) (quiet_note (disk_of old) commits) refl
       (k.0, k.1, k.2))
 
   -- the notes of a statement that puts a document into the log, or begins to
@@ -286,26 +286,27 @@ module _ {D : Type 0} (device : Disk D) (found : AtOpening) (history : History) 
     called : (e : Expr) → HasCalled (insert e) reply
 
   -- a statement that puts a document into the log
-  logs_state : (old new : DbValue D) (first : D) (c0 : ℕ) (opened : D) (commits : History) (exchanges : List Exchange)
-      (place : Place) (known : Known) (line : ℕ) (reply : Reply) (e : Expr) (v : Vector) (name : Name) (note : Note)
-      → (held' : StandsFor found new (commits ++ commit_of name v ∷ []))
+  logs_state : (old new : DbValue D) (first : D) (c0 : ℕ) (opened : DbValue D) (commits : History)
+      (exchanges : List Exchange) (place : Place) (known : Known) (line : ℕ) (reply : Reply) (e : Expr) (v : Vector)
+      (name : Name) (note : Note)
+      → StandsFor found old commits → (held' : StandsFor found new (commits ++ commit_of name v ∷ []))
       → All (λ (r : Exchange). r.place.step < place.step) exchanges
       → PutsCommit device (commit_of name v) old new
-      → IsUp old → (IsOkOfStore reply → IsUp new)
+      → IsUp old → (IsOkOfStore reply → IsUp new × IsFlushed new)
       → IsNoteOf (disk_of old) (disk_of new) commits reply note
-      → IsAnswered (counts_over device found first opened (disk_of new)) (commits ++ commit_of name v
-      ∷ []) known line (insert e) reply note
-      → Counted (fault_of new) (exchanges ++ exchange_of place known line (insert e) reply note
-      ∷ []) (device.fault_count first) (device.write_fault_count first) (device.fault_count
-      (disk_of new)) (device.write_fault_count (disk_of new))
+      → IsAnswered (counts_over device found first (disk_of opened) (disk_of new))
+      (commits ++ commit_of name v ∷ []) known line (insert e) reply note
+      → Counted (fault_of new) (exchanges ++ exchange_of place known line (insert e) reply note ∷ [])
+      (device.fault_count first) (device.write_fault_count first)
+      (device.fault_count (disk_of new)) (device.write_fault_count (disk_of new))
       → State first c0 opened old commits exchanges → State first c0 opened new (commits ++ commit_of name v
       ∷ []) (exchanges ++ exchange_of place known line (insert e) reply note ∷ [])
-  logs_state old new first c0 opened commits exchanges place known line reply e v name note held' last p up ok n
+  logs_state old new first c0 opened commits exchanges place known line reply e v name note held held' last p up ok n
       answered counted s =
       let c : Commit = commit_of name v in
       let exchange : Exchange = exchange_of place known line (insert e) reply note in
-      let k : Counts = counts_over device found first opened (disk_of old) in
-      let l : Counts = counts_over device found first opened (disk_of new) in
+      let k : Counts = counts_over device found first (disk_of opened) (disk_of old) in
+      let l : Counts = counts_over device found first (disk_of opened) (disk_of new) in
       let run : Run l history (commits ++ c ∷ []) (exchanges ++ exchange ∷ []) =
       run_step k l history commits (c ∷ []) exchanges exchange (record {
         run = s.run;
@@ -335,32 +336,41 @@ module _ {D : Type 0} (device : Disk D) (found : AtOpening) (history : History) 
         faults = n.faults;
         writes = n.writes;
       }) in
-      let timed : AreTimed (device.clock opened) (device.clock (disk_of new)) (exchanges ++ exchange ∷ []) =
-      timed_push (device.clock opened) (device.clock (disk_of old))
+      let timed : AreTimed (device.clock (disk_of opened)) (device.clock (disk_of new)) (exchanges ++ exchange ∷ []) =
+      timed_push (device.clock (disk_of opened)) (device.clock (disk_of old))
       (device.clock (disk_of new)) exchanges exchange s.timed p.time n.clock last in
       let next : IsNext commits exchanges exchange = record {
         last = last;
         fresh = subst (λ o. IfSome o (λ p. length commits ≤ p)) (sym n.own)
             (let z : length commits ≤ length commits = omega arith in z);
       } in
-      let left : IsLeftBy device exchange (disk_of old) (disk_of new) = record {
+      let all : take (length commits + 1) (commits ++ c ∷ []) ≡ commits ++ c ∷ [] =
+      take_all (length commits + 1) (commits ++ c ∷ []) (omega (arith, length-append commits (c ∷ []))) in
+      let left : IsLeftBy device found (commits ++ c ∷ []) exchange old new = record {
+        saw = subst (λ k. StandsFor found old (take k (commits ++ c ∷ []))) (sym n.snapshot)
+            (subst (StandsFor found old) (sym (take_at commits (c ∷ []) (length commits) refl)) held);
         later = p.time;
         clock = n.clock;
         count = n.count;
         faults = n.faults;
         writes = n.writes;
+        flushed = λ r. subst (λ o. IfSome o (λ p. IsUp new
+            × StandsFor found new (take (p + 1) (commits ++ c ∷ [])) × IsFlushed new))
+            (sym n.own) ((ok r).0, subst (StandsFor found new) (sym all) held', (ok r).1);
         uncalled = λ none. absurd (none (n.called e));
       } in
       record {
         timed = timed;
-        left_by = left_push device exchanges exchange opened (disk_of old) (disk_of new) s.left_by left;
+        left_by = left_push device found (commits ++ c ∷ []) exchanges exchange opened old new
+            (left_more device found commits (c ∷ []) (length history) exchanges opened old s.run.within s.left_by) left;
         run = run;
         counted = counted;
         fixed = λ t. fixed_on device first (disk_of old) (disk_of new) c0 (s.fixed t) (p.keeps t);
         safe = λ t f. safe_logs device first c0 old new history commits c exchanges exchange t up (s.safe t f)
             (grown k commits exchanges s.run) (grown l (commits ++ c ∷ []) (exchanges ++ exchange ∷ []) run) p next
-            (timed_by (device.clock opened) (device.clock (disk_of old)) exchanges s.timed)
-            (timed_by (device.clock opened) (device.clock (disk_of new)) (exchanges ++ exchange ∷ []) timed) n.clock ok;
+            (timed_by (device.clock (disk_of opened)) (device.clock (disk_of old)) exchanges s.timed)
+            (timed_by (device.clock (disk_of opened)) (device.clock (disk_of new)) (exchanges ++ exchange ∷ []) timed)
+            n.clock (λ r. (ok r).0);
       }
 
   own_of : (commits : History) (c : Commit) (note : Note) → note.commit ≡ Some (length commits)
@@ -396,7 +406,7 @@ module _ {D : Type 0} (device : Disk D) (found : AtOpening) (history : History) 
         more = c ∷ [];
         held = held';
         state = λ first c0 opened s. logs_state old new first c0 opened commits exchanges place known line
-            (stored name) e v name note held' last l.puts l.up (λ ok. l.still_up)
+            (stored name) e v name note h held' last l.puts l.up (λ ok. (l.still_up, l.flushed))
             (record {
               snapshot = refl;
               own = refl;
@@ -464,7 +474,7 @@ module _ {D : Type 0} (device : Disk D) (found : AtOpening) (history : History) 
             let above : device.fault_count first < device.fault_count (disk_of new) =
             omega (arith, s.counted.low.0, low, i.rose) in
             logs_state old new first c0 opened commits exchanges place known line
-            (refused device_fault) e v i.name note held' last
+            (refused device_fault) e v i.name note h held' last
             i.puts i.up (λ ok. absurd ok)
             (record {
               snapshot = refl;
@@ -665,7 +675,7 @@ module _ {D : Type 0} (device : Disk D) (found : AtOpening) (history : History) 
   unfolding quiet_note
   only_answers old new commits exchanges place known line statement reply h last r at answered =
       quiet old new commits exchanges place known line statement reply h last r at (λ first c0 opened s. answered
-      (counts_over device found first opened (disk_of old)) (quiet_note (disk_of old) commits) refl)
+      (counts_over device found first (disk_of opened) (disk_of old)) (quiet_note (disk_of old) commits) refl)
 
   pub goes : (old new : DbValue D) (commits : History) (exchanges : List Exchange) (place : Place)
       (known : Known) (line : ℕ) (statement : Statement) (reply : Reply) → StandsFor found old commits → All

@@ -113,6 +113,8 @@ module _ {D : Type 0} (device : Disk D) (found : AtOpening) (history : History) 
       (left : List Step) (well : Bool) : Type 0 where
     pub commits : History
     pub exchanges : List Exchange
+    pub up : IsUp opened
+    pub stood : StandsFor found opened history
     pub held : StandsFor found run_state.store commits
     pub high : ℕ
     pub last : All (λ (r : Exchange). r.place.step < high) exchanges
@@ -125,7 +127,7 @@ module _ {D : Type 0} (device : Disk D) (found : AtOpening) (history : History) 
     pub room : well ≡ true → length run_state.waiting.items < PIECE_BYTES
     pub flag : run_state.refused ≡ some_refused exchanges
     pub state : (first : D) (c0 : ℕ) → OpenedAt device found history first c0 opened
-        → State device found history first c0 (disk_of opened) run_state.store commits exchanges
+        → State device found history first c0 opened run_state.store commits exchanges
 
   pub progress_start : (a : Option (List ℕ)) (run_state : RunState D) (text : List ℕ)
       → StandsFor found run_state.store history → IsUp run_state.store
@@ -134,6 +136,8 @@ module _ {D : Type 0} (device : Disk D) (found : AtOpening) (history : History) 
   progress_start a run_state text h up k w f = record {
     commits = history;
     exchanges = [];
+    up = up;
+    stood = h;
     held = h;
     high = 1;
     last = All-nil _;
@@ -204,12 +208,15 @@ module _ {D : Type 0} (device : Disk D) (found : AtOpening) (history : History) 
   -- the meaning of a run over a device, at its end
   finish : ((d : D) → device.tells → device.image d (device.clock d) (device.seen d))
       → (first : D) (opened : DbValue D) (c0 : ℕ) (s : DbValue D) (commits : History) (exchanges : List Exchange)
-      → IsWidest found → OpenedAt device found history first c0 opened
-      → StandsFor found s commits → State device found history first c0 (disk_of opened) s commits exchanges → RanOn
-      device history first (disk_of s) commits exchanges × (device.tells → HasSamePages device first (disk_of s))
-  finish law first opened c0 s commits exchanges widest o held st = (
+      → IsWidest found → OpenedAt device found history first c0 opened → IsUp opened
+      → StandsFor found opened history → StandsFor found s commits
+      → State device found history first c0 opened s commits exchanges → RanOn device history first (disk_of
+      s) commits exchanges × (device.tells → HasSamePages device first (disk_of s))
+  finish law first opened c0 s commits exchanges widest o up stood held st = (
     record {
-      opened = disk_of opened;
+      opened = opened;
+      last = s;
+      closed = refl;
       found = found;
       found_commits = o.found_commits;
       found_in = o.found_in;
@@ -217,7 +224,10 @@ module _ {D : Type 0} (device : Disk D) (found : AtOpening) (history : History) 
       run = st.run;
       began = o.time;
       timed = st.timed;
+      up = up;
+      stood_for = stood;
       left_by = st.left_by;
+      stands_for = held;
       placed = held_placed device found s commits held;
       numbered = λ t f. (st.safe t f).numbered;
       means = λ t f. by t f (fault_of s) refl;
@@ -273,7 +283,7 @@ module _ {D : Type 0} (device : Disk D) (found : AtOpening) (history : History) 
       → RanOn device history first (disk_of run_state.store) h.commits h.exchanges × (device.tells
       → HasSamePages device first (disk_of run_state.store))
   ran_by law a c opened run_state text left well h first c0 widest o =
-      finish law first opened c0 run_state.store h.commits h.exchanges widest o h.held (h.state first c0 o)
+      finish law first opened c0 run_state.store h.commits h.exchanges widest o h.up h.stood h.held (h.state first c0 o)
 
   -- one step more was answered
   pub progress_step : (a b c : Option (List ℕ)) (opened : DbValue D) (old new : RunState D) (text : List ℕ) (s : Step)
@@ -291,6 +301,8 @@ module _ {D : Type 0} (device : Disk D) (found : AtOpening) (history : History) 
       record {
         commits = p.commits ++ g.more;
         exchanges = p.exchanges ++ exchange ∷ [];
+        up = p.up;
+        stood = p.stood;
         held = g.held;
         high = number + 1;
         last = All-push (λ (r : Exchange). r.place.step < number + 1) p.exchanges exchange
@@ -314,7 +326,7 @@ module _ {D : Type 0} (device : Disk D) (found : AtOpening) (history : History) 
         room = t.few;
         flag = t.flag ∙ ap (λ b. b || is_refusal t.reply) p.flag
             ∙ sym (any_push (λ (r : Exchange). is_refusal r.reply) p.exchanges exchange);
-        state = λ first c0 o. g.state first c0 (disk_of opened) (p.state first c0 o);
+        state = λ first c0 o. g.state first c0 opened (p.state first c0 o);
       }
 
   -- the clause of `serve_steps`, where the run stopped
@@ -343,6 +355,8 @@ module _ {D : Type 0} (device : Disk D) (found : AtOpening) (history : History) 
   progress_sent a b c opened old new text left well p s k f t room = record {
     commits = p.commits;
     exchanges = p.exchanges;
+    up = p.up;
+    stood = p.stood;
     held = subst (λ x. StandsFor found x p.commits) (sym s) p.held;
     high = p.high;
     last = p.last;
@@ -354,8 +368,8 @@ module _ {D : Type 0} (device : Disk D) (found : AtOpening) (history : History) 
         old.waiting.items new.waiting.items well p.printed.0 t (omega (arith, p.room refl));
     room = room;
     flag = f ∙ p.flag;
-    state = λ first c0 o. subst (λ x. State device found history first c0 (disk_of opened) x p.commits p.exchanges)
-        (sym s) (p.state first c0 o);
+    state = λ first c0 o. subst (λ x. State device found history first c0 opened x p.commits p.exchanges) (sym s)
+        (p.state first c0 o);
   }
 
   pub progress_left : (a b : Option (List ℕ)) (opened : DbValue D) (run_state : RunState D) (text : List ℕ)

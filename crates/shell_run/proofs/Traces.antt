@@ -1,7 +1,7 @@
 -- Runs that no call leaves.
 use Rattle.std.proofs.Common.{◌≡◌, ◌+◌, ◌<◌, ◌≤◌, ℕ, inl, inr, List, [], ◌∷◌, ◌++◌, length, length-append, arith, refl}
 use Rattle.std.proofs.Common.{sym, ◌∙◌, ap, subst}
-use Rattle.std.specs.Prelude.{Option, Some, None, IfSome}
+use Rattle.std.specs.Prelude.{Option, Some, None, IfSome, take}
 use Rattle.std.specs.List.{All}
 use Rattle.std.specs.Io.KnownBytes.{Appends, IsAtEnd}
 use Rattle.std.proofs.lemmas.List.Quantifiers.{Any-push}
@@ -16,6 +16,8 @@ use Rattle.shell_script.specs.Lines.{Line}
 use Rattle.shell_script.specs.OpeningLines.{Kind, dictionary_opening}
 use Rattle.shell_script.specs.Grammar.{Expr, insert, define}
 use Rattle.engine.specs.Finding.{Name}
+use Rattle.engine.specs.Standing.{disk_of, IsUp, IsFlushed, StandsFor, Rests}
+use Rattle.engine.proofs.Standing.{rests_disk, rests_flushed}
 use Rattle.shell_run.specs.Defining.{Becomes}
 use Rattle.shell_run.specs.Run.{Exchange, Note, Counts, Run, Before, IsAnswered, stored, done, refused, device}
 use Rattle.shell_run.specs.Run.{HasFailed, FindsDown, IsOkOfStore}
@@ -23,9 +25,10 @@ use Rattle.engine.specs.Finding.{History}
 use Rattle.shell_run.specs.Script.{printed_exchange, printed_exchanges}
 use Rattle.shell_run.specs.declared.sending.TheConstants.{PIECE_BYTES}
 use Rattle.shell_run.specs.Traces.{NoNameIsTakenTwice, NoneIsStoredAfterFailure, NoneIsCommittedAfterFailure}
-use Rattle.shell_run.specs.Traces.{NoClockFalls, NoCommitIsEarly, NoCommitIsLate, NoFlushIsLate, EachFailureIsNoted}
-use Rattle.shell_run.specs.Traces.{OneCountIsTold, NothingIsPrintedWith4, NoneRunsAfterTheSinkFailed, NoHalfScriptIsRun}
-use Rattle.shell_run.specs.Traces.{NoLogIsWiped, NoStrayFileIsWritten, NoStoreIsWrittenUnrun, NoPageIsWritten}
+use Rattle.shell_run.specs.Traces.{NoClockFalls, NoCommitIsEarly, NoCommitIsLate, NoFlushIsLate, NoFlushIsOwed}
+use Rattle.shell_run.specs.Traces.{EachFailureIsNoted, OneCountIsTold, NothingIsPrintedWith4}
+use Rattle.shell_run.specs.Traces.{NoneRunsAfterTheSinkFailed, NoHalfScriptIsRun, NoLogIsWiped, NoStrayFileIsWritten}
+use Rattle.shell_run.specs.Traces.{NoStoreIsWrittenUnrun, NoPageIsWritten}
 
 -- a write failed in an insertion that is answered so
 has_failed : (counts : Counts) (first commits : History) (a b : Exchange) (e : Expr)
@@ -62,8 +65,21 @@ pub no_flush_is_late : {D : Type 0} (disk : Disk D) → NoFlushIsLate disk
 no_flush_is_late disk history commits first new a b n reply none late ran =
     let left_a = ran.left_by.1 in
     let left_b = ran.left_by.2.1 in
-    let still : new ≡ ran.left_by.0 = ran.left_by.2.2 ∙ left_b.uncalled none in
+    let still : new ≡ disk_of ran.left_by.0 =
+    ran.closed ∙ ap (λ s. disk_of s) ran.left_by.2.2
+    ∙ rests_disk disk ran.left_by.0 ran.left_by.2.0 (left_b.uncalled none) in
     omega (arith, late, left_a.clock, ap disk.clock still)
+
+pub no_flush_is_owed : {D : Type 0} (disk : Disk D) → NoFlushIsOwed disk
+no_flush_is_owed disk history commits first new a b n p reply own none ran owed =
+    let ok : IsOkOfStore a.reply = subst IsOkOfStore (sym reply) tt in
+    let after = ran.left_by.0 in
+    let kept : IsUp after × StandsFor ran.found after (take (p + 1) commits) × IsFlushed after =
+    subst (λ o. IfSome o (λ p. IsUp after × StandsFor ran.found after (take (p + 1) commits) × IsFlushed after)) own
+    (ran.left_by.1.flushed ok) in
+    let rests : Rests disk after ran.left_by.2.0 = ran.left_by.2.1.uncalled none in
+    let flushed : IsFlushed ran.left_by.2.0 = rests_flushed disk after ran.left_by.2.0 rests kept.2 in
+    owed (subst (λ s. IsFlushed s) (sym ran.left_by.2.2) flushed)
 
 pub no_commit_is_early : NoCommitIsEarly
 no_commit_is_early files m p first commits a b before early own r below =

@@ -11,6 +11,7 @@ use Rattle.shell_script.specs.Steps.{Step}
 use Rattle.shell_script.specs.Grammar.{Expr, insert, define}
 use Rattle.engine.specs.Finding.{Name}
 use Rattle.engine.specs.Finding.{History}
+use Rattle.engine.specs.Standing.{IsFlushed}
 use Rattle.shell_run.specs.Run.{Exchange, Counts, Before, Run, HasCalled, stored, done, refused, down, device}
 use Rattle.shell_run.specs.Script.{AreExchanges, printed_exchange}
 use Rattle.shell_run.specs.declared.sending.TheConstants.{PIECE_BYTES}
@@ -48,6 +49,14 @@ NoFlushIsLate {D} disk =
     (history commits : History) (first new : D) (a b : Exchange) (n : Name) → a.reply ≡ stored n
     → (HasCalled b.statement b.reply → ⊥) → a.note.clock < disk.clock new
     → RanOn disk history first new commits (a ∷ b ∷ []) → ⊥
+
+-- an insertion that is stored, and a store in which something waits for a flush at the end, though the
+-- statement after it makes no call
+abbrev pub NoFlushIsOwed : {D : Type 0} → Disk D → Type 0
+NoFlushIsOwed {D} disk =
+    (history commits : History) (first new : D) (a b : Exchange) (n : Name) (p : ℕ) → a.reply ≡ stored n
+    → a.note.commit ≡ Some p → (HasCalled b.statement b.reply → ⊥)
+    → (r : RanOn disk history first new commits (a ∷ b ∷ [])) → (IsFlushed r.last → ⊥) → ⊥
 
 -- a stop at a moment before an answer that leaves the commit of a statement after it
 abbrev pub NoCommitIsEarly : Type 0

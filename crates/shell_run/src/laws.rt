@@ -4,7 +4,11 @@ ghost use Rattle.ts_config.specs.Known.{Known};
 ghost use Rattle.shell_script.specs.Lines.{Line};
 ghost use Rattle.shell_script.specs.OpeningLines.{OpeningLine};
 ghost use Rattle.shell_script.specs.Grammar.{Expr, QuerySource};
-ghost use Rattle.shell_run.specs.Traces.{NoneIsStoredAfterFailure, NoneIsCommittedAfterFailure, NoClockFalls, NoFlushIsLate, NoCommitIsEarly, NoCommitIsLate, EachFailureIsNoted, OneCountIsTold, NothingIsPrintedWith4, NoNameIsTakenTwice, NoneRunsAfterTheSinkFailed, NoHalfScriptIsRun, NoLogIsWiped, NoStrayFileIsWritten, NoStoreIsWrittenUnrun, NoPageIsWritten};
+ghost use Rattle.shell_run.specs.Traces.{NoneIsStoredAfterFailure, NoneIsCommittedAfterFailure, NoClockFalls};
+ghost use Rattle.shell_run.specs.Traces.{NoFlushIsLate, NoFlushIsOwed, NoCommitIsEarly, NoCommitIsLate};
+ghost use Rattle.shell_run.specs.Traces.{EachFailureIsNoted, OneCountIsTold, NothingIsPrintedWith4, NoNameIsTakenTwice};
+ghost use Rattle.shell_run.specs.Traces.{NoneRunsAfterTheSinkFailed, NoHalfScriptIsRun, NoLogIsWiped};
+ghost use Rattle.shell_run.specs.Traces.{NoStrayFileIsWritten, NoStoreIsWrittenUnrun, NoPageIsWritten};
 ghost use Rattle.shell_run.specs.NextRun.{OpensIsNoRefusal, EmptyMayStart, NextMayStart, NextHasAll};
 ghost use Rattle.shell_run.specs.Defining.{HasOneAnswer};
 ghost use Rattle.shell_run.specs.declared.script.TheConstants.{SCRIPT_LIMIT};
@@ -34,6 +38,7 @@ pub fn ruled_out<S: Source, K: Sink, D: Disk>()
     ensures committed_after_failure { NoneIsCommittedAfterFailure }
     ensures clock_falls { NoClockFalls D.Disk }
     ensures late_flush { NoFlushIsLate D.Disk }
+    ensures owed_flush { NoFlushIsOwed D.Disk }
     ensures early { NoCommitIsEarly }
     ensures late { NoCommitIsLate }
     ensures unnoted { EachFailureIsNoted }

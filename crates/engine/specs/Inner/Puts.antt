@@ -8,7 +8,7 @@ use Rattle.ts_base.specs.Vectors.{Vector}
 use Rattle.ts_base.specs.Encoding.{vector_bytes}
 use Rattle.engine.specs.Finding.{heap_page, insertion, Document, Name}
 use Rattle.engine.specs.AtOpening.{room, insertion_size}
-use Rattle.engine.specs.Standing.{disk_of, fault_of, IsUp, Rests, PutsCommit}
+use Rattle.engine.specs.Standing.{disk_of, fault_of, IsUp, IsFlushed, Rests, PutsCommit}
 use Rattle.engine.specs.Inner.Kept.{room_of}
 use Rattle.engine.specs.Inner.Inside.{next_serial_of, next_xid_of, end_ahead, log_limit_of, xid_limit_of}
 use Rattle.engine.specs.Inner.DbValue.{DbValue}
@@ -46,6 +46,7 @@ module _ {D : Type 0} (device : Disk D) where
     pub fits : IsTooLarge old v → ⊥
     pub up : IsUp old
     pub still_up : IsUp new
+    pub flushed : IsFlushed new
     pub some_xid : next_xid_of old < xid_limit_of old
     pub log_fits : end_ahead old + FRAME_BYTES + insertion_size + 1 ≤ log_limit_of old
     pub end : end_ahead new ≡ end_ahead old + FRAME_BYTES + insertion_size

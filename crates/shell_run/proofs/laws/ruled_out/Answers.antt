@@ -1,8 +1,9 @@
 use Rattle.shell_run.proofs.Traces.{none_stored_after_failure, none_committed_after_failure, no_clock_falls}
-use Rattle.shell_run.proofs.Traces.{no_flush_is_late, no_commit_is_early, no_commit_is_late, each_failure_is_noted}
-use Rattle.shell_run.proofs.Traces.{one_count_is_told, nothing_is_printed_with_4, no_name_is_taken_twice}
-use Rattle.shell_run.proofs.Traces.{none_runs_after_the_sink_failed, no_half_script_is_run, no_log_is_wiped}
-use Rattle.shell_run.proofs.Traces.{no_stray_file_is_written, no_store_is_written_unrun, no_page_is_written}
+use Rattle.shell_run.proofs.Traces.{no_flush_is_late, no_flush_is_owed, no_commit_is_early, no_commit_is_late}
+use Rattle.shell_run.proofs.Traces.{each_failure_is_noted, one_count_is_told, nothing_is_printed_with_4}
+use Rattle.shell_run.proofs.Traces.{no_name_is_taken_twice, none_runs_after_the_sink_failed, no_half_script_is_run}
+use Rattle.shell_run.proofs.Traces.{no_log_is_wiped, no_stray_file_is_written, no_store_is_written_unrun}
+use Rattle.shell_run.proofs.Traces.{no_page_is_written}
 use Rattle.shell_run.proofs.laws.ruled_out.Goals as goal
 
 pub returns : goal.returns
@@ -11,6 +12,7 @@ returns g c = record {
   committed_after_failure = none_committed_after_failure;
   clock_falls = no_clock_falls g.D.Disk;
   late_flush = no_flush_is_late g.D.Disk;
+  owed_flush = no_flush_is_owed g.D.Disk;
   early = no_commit_is_early;
   late = no_commit_is_late;
   unnoted = each_failure_is_noted;

@@ -256,6 +256,7 @@ returns g c =
       fits = prepared.fits;
       up = up;
       still_up = still_at_ok c.flush.result _ _ _ _ c.in_default-flush.is c.flush.ensures.goes_down ∙ has.down ∙ up;
+      flushed = done.0;
       some_xid = prepared.some_xid;
       log_fits = omega (
         arith,
