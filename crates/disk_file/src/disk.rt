@@ -1,11 +1,10 @@
 // The device over two files.
 ghost use Rattle.std.specs.Prelude.{◌≡◌, ◌⊎◌, ◌+◌, ◌<◌, ◌≤◌, length, IfOk, OnOk, OnErr};
 ghost use Rattle.std.specs.Io.{ReadsAtMost};
-ghost use Rattle.disk_trait.specs.Device.{HasCause, CountsFailures, FileTorn, FileWritten, Reads, Elapses, LeavesNoMore, Follows, Durable, Rose};
+ghost use Rattle.disk_trait.specs.Device.{FileTorn, FileWritten, Reads, Elapses, LeavesNoMore, Follows, Durable, Rose};
 ghost use Rattle.disk_trait.specs.Files.{file_bytes, file_limit};
-ghost use Rattle.disk_trait.specs.Schedules.{HasRisen};
-ghost use Rattle.disk_file.specs.FileDisk.{faults_of, write_faults_of, HasNoneOpen, IsAtLast, FailsAtLast};
-ghost use Rattle.disk_file.specs.Folder.{left_now, Holds};
+ghost use Rattle.disk_file.specs.FileDisk.{folder_of, faults_of, write_faults_of, HasNoneOpen, IsAtLast, CountsAsking, CountsWriting};
+ghost use Rattle.disk_file.specs.Folder.{left_now, OnlyLooks, Holds};
 
 use crate::counts::Counts;
 use crate::host::HostFolder;
@@ -73,23 +72,13 @@ impl<F: HostFolder> Disk for FileDisk<F> {
     fn read(&mut self, file: File, at: u64, buf: &mut [u8]) -> Result<usize, Failed>
         ensures bound { ReadsAtMost result buf.new }
         ensures bytes { F.tells → IfOk result
-            (λ n. Reads (file_bytes file (F.state self.old.opened.folder).seen) at buf.new n) }
-        ensures seen { F.tells
-            → (F.state self.new.opened.folder).seen ≡ (F.state self.old.opened.folder).seen }
-        ensures crash { F.tells → LeavesNoMore (left_now (F.state self.old.opened.folder))
-            (left_now (F.state self.new.opened.folder)) }
-        ensures time { Elapses (F.state self.old.opened.folder).clock
-            (F.state self.new.opened.folder).clock (F.state self.old.opened.folder).image
-            (F.state self.new.opened.folder).image }
-        ensures cause { HasCause (faults_of self.old) (faults_of self.new) result }
-        ensures writes { write_faults_of self.new ≡ write_faults_of self.old }
-        ensures counted { HasRisen (faults_of self.old) (faults_of self.new) result }
-        ensures last { FailsAtLast self.old self.new result }
+            (λ n. Reads (file_bytes file (folder_of self.old).seen) at buf.new n) }
+        ensures looks { OnlyLooks F.tells (folder_of self.old) (folder_of self.new) }
+        ensures counts { CountsAsking self.old self.new result }
         ensures holds { Holds file self.old.opened.log self.old.opened.pages
             self.new.opened.log self.new.opened.pages result }
         ensures reason { F.tells → OnErr result (IsAtLast self.old ⊎ (file_limit < at)
-            ⊎ Rose (F.state self.old.opened.folder).errors
-            (F.state self.new.opened.folder).errors) }
+            ⊎ Rose (folder_of self.old).errors (folder_of self.new).errors) }
     {
         if at > MOST_PLACE || self.counts.is_last() {
             return Err(self.counts.fail());
@@ -104,23 +93,16 @@ impl<F: HostFolder> Disk for FileDisk<F> {
     fn write_at(&mut self, file: File, at: u64, bytes: &[u8]) -> Result<(), Failed>
         requires { at + length bytes.now ≤ file_limit }
         ensures written { F.tells → OnOk result (FileWritten file at bytes.now
-            (F.state self.old.opened.folder).seen (F.state self.new.opened.folder).seen) }
+            (folder_of self.old).seen (folder_of self.new).seen) }
         ensures crash { F.tells → Follows (FileTorn file at (length bytes.now))
-            (left_now (F.state self.old.opened.folder))
-            (left_now (F.state self.new.opened.folder)) }
-        ensures time { Elapses (F.state self.old.opened.folder).clock
-            (F.state self.new.opened.folder).clock (F.state self.old.opened.folder).image
-            (F.state self.new.opened.folder).image }
-        ensures cause { HasCause (faults_of self.old) (faults_of self.new) result }
-        ensures writes { CountsFailures (write_faults_of self.old) (write_faults_of self.new) result }
-        ensures counted { HasRisen (faults_of self.old) (faults_of self.new) result }
-        ensures counted_write { HasRisen (write_faults_of self.old) (write_faults_of self.new) result }
-        ensures last { FailsAtLast self.old self.new result }
+            (left_now (folder_of self.old)) (left_now (folder_of self.new)) }
+        ensures time { Elapses (folder_of self.old).clock (folder_of self.new).clock
+            (folder_of self.old).image (folder_of self.new).image }
+        ensures counts { CountsWriting self.old self.new result }
         ensures holds { Holds file self.old.opened.log self.old.opened.pages
             self.new.opened.log self.new.opened.pages result }
         ensures reason { F.tells → OnErr result (IsAtLast self.old ⊎ (length bytes.now ≡ 0)
-            ⊎ Rose (F.state self.old.opened.folder).errors
-            (F.state self.new.opened.folder).errors) }
+            ⊎ Rose (folder_of self.old).errors (folder_of self.new).errors) }
     {
         if bytes.is_empty() || self.counts.is_last() {
             return Err(self.counts.fail_write());
@@ -134,25 +116,17 @@ impl<F: HostFolder> Disk for FileDisk<F> {
     /// It syncs the bytes of the file, and its length.
     fn sync(&mut self, file: File) -> Result<(), Failed>
         ensures durable { F.tells → OnOk result (Durable file
-            (file_bytes file (F.state self.old.opened.folder).seen)
-            (left_now (F.state self.new.opened.folder))) }
-        ensures seen { F.tells
-            → (F.state self.new.opened.folder).seen ≡ (F.state self.old.opened.folder).seen }
-        ensures crash { F.tells → LeavesNoMore (left_now (F.state self.old.opened.folder))
-            (left_now (F.state self.new.opened.folder)) }
-        ensures time { Elapses (F.state self.old.opened.folder).clock
-            (F.state self.new.opened.folder).clock (F.state self.old.opened.folder).image
-            (F.state self.new.opened.folder).image }
-        ensures cause { HasCause (faults_of self.old) (faults_of self.new) result }
-        ensures writes { CountsFailures (write_faults_of self.old) (write_faults_of self.new) result }
-        ensures counted { HasRisen (faults_of self.old) (faults_of self.new) result }
-        ensures counted_write { HasRisen (write_faults_of self.old) (write_faults_of self.new) result }
-        ensures last { FailsAtLast self.old self.new result }
+            (file_bytes file (folder_of self.old).seen) (left_now (folder_of self.new))) }
+        ensures seen { F.tells → (folder_of self.new).seen ≡ (folder_of self.old).seen }
+        ensures crash { F.tells → LeavesNoMore (left_now (folder_of self.old))
+            (left_now (folder_of self.new)) }
+        ensures time { Elapses (folder_of self.old).clock (folder_of self.new).clock
+            (folder_of self.old).image (folder_of self.new).image }
+        ensures counts { CountsWriting self.old self.new result }
         ensures holds { Holds file self.old.opened.log self.old.opened.pages
             self.new.opened.log self.new.opened.pages result }
         ensures reason { F.tells → OnErr result (IsAtLast self.old
-            ⊎ Rose (F.state self.old.opened.folder).errors
-            (F.state self.new.opened.folder).errors) }
+            ⊎ Rose (folder_of self.old).errors (folder_of self.new).errors) }
     {
         if self.counts.is_last() {
             return Err(self.counts.fail_write());
@@ -166,23 +140,13 @@ impl<F: HostFolder> Disk for FileDisk<F> {
     /// The length that the system gives.
     fn length(&mut self, file: File) -> Result<u64, Failed>
         ensures length { F.tells → IfOk result
-            (λ n. n ≡ length (file_bytes file (F.state self.old.opened.folder).seen)) }
-        ensures seen { F.tells
-            → (F.state self.new.opened.folder).seen ≡ (F.state self.old.opened.folder).seen }
-        ensures crash { F.tells → LeavesNoMore (left_now (F.state self.old.opened.folder))
-            (left_now (F.state self.new.opened.folder)) }
-        ensures time { Elapses (F.state self.old.opened.folder).clock
-            (F.state self.new.opened.folder).clock (F.state self.old.opened.folder).image
-            (F.state self.new.opened.folder).image }
-        ensures cause { HasCause (faults_of self.old) (faults_of self.new) result }
-        ensures writes { write_faults_of self.new ≡ write_faults_of self.old }
-        ensures counted { HasRisen (faults_of self.old) (faults_of self.new) result }
-        ensures last { FailsAtLast self.old self.new result }
+            (λ n. n ≡ length (file_bytes file (folder_of self.old).seen)) }
+        ensures looks { OnlyLooks F.tells (folder_of self.old) (folder_of self.new) }
+        ensures counts { CountsAsking self.old self.new result }
         ensures holds { Holds file self.old.opened.log self.old.opened.pages
             self.new.opened.log self.new.opened.pages result }
         ensures reason { F.tells → OnErr result (IsAtLast self.old
-            ⊎ Rose (F.state self.old.opened.folder).errors
-            (F.state self.new.opened.folder).errors) }
+            ⊎ Rose (folder_of self.old).errors (folder_of self.new).errors) }
     {
         if self.counts.is_last() {
             return Err(self.counts.fail());

@@ -29,8 +29,8 @@ impl MemoryDisk {
     ghost use Rattle.disk_trait.specs.Schedules.{IsUnused, HasCounted, HasRisen, MustFail};
     ghost use Rattle.disk_trait.specs.Inner.Kept.{HasBegunCall, HasWrittenTo, HasSyncedFile, HasKept, IsIdle, is_done, KeepsWrite, KeepsSync, Tries, SameFiles};
     ghost use Rattle.disk_trait.specs.Files.{Files, file_bytes, file_limit};
-    ghost use Rattle.disk_trait.specs.MemoryDisk.{seen_of, image_of, schedule_of, clock_of, write_faults_of, with_fails};
-    ghost use Rattle.disk_trait.specs.Device.{last_count, HasCause, CountsFailures, Elapses, LeavesNoMore};
+    ghost use Rattle.disk_trait.specs.MemoryDisk.{seen_of, image_of, schedule_of, clock_of, write_faults_of, with_fails, OnlyAsks};
+    ghost use Rattle.disk_trait.specs.Device.{last_count, HasCause, CountsFailures};
 
     /// Two empty files. The calls in the list fail.
     pub fn new(alloc: Global, fails: Vec<u64>) -> MemoryDisk
@@ -134,18 +134,7 @@ impl MemoryDisk {
 
     /// Counts a call that reads. A crash leaves what it could have left before.
     fn start(&mut self) -> Result<(), Failed>
-        ensures crash { LeavesNoMore (image_of self.old (clock_of self.old))
-            (image_of self.new (clock_of self.new)) }
-        ensures keeps { LeavesNoMore (image_of self.new (clock_of self.new))
-            (image_of self.old (clock_of self.old)) }
-        ensures time { Elapses (clock_of self.old) (clock_of self.new) (image_of self.old)
-            (image_of self.new) }
-        ensures seen { seen_of self.new ≡ seen_of self.old }
-        ensures cause { HasCause (schedule_of self.old).faults
-            (schedule_of self.new).faults result }
-        ensures writes { write_faults_of self.new ≡ write_faults_of self.old }
-        ensures counted { HasCounted (schedule_of self.old) (schedule_of self.new) result }
-        ensures fails { IsErr result ↔ MustFail (schedule_of self.old) }
+        ensures { OnlyAsks self.old self.new result }
     {
         self.begin_read()
     }
@@ -239,11 +228,9 @@ impl MemoryDisk {
 }
 
 impl Disk for MemoryDisk {
-    ghost use Rattle.disk_trait.specs.Schedules.{HasCounted, HasRisen, MustFail};
-    ghost use Rattle.disk_trait.specs.MemoryDisk.{MustFailWrite};
     ghost use Rattle.disk_trait.specs.Files.{Files, file_bytes, file_limit};
-    ghost use Rattle.disk_trait.specs.Device.{HasCause, CountsFailures, FileTorn, FileWritten, Reads, Elapses, LeavesNoMore, LeavesAll, Follows, Durable};
-    ghost use Rattle.disk_trait.specs.MemoryDisk.{seen_of, image_of, clock_of, faults_of, schedule_of, write_faults_of};
+    ghost use Rattle.disk_trait.specs.Device.{FileTorn, FileWritten, Reads, Elapses, LeavesNoMore, LeavesAll, Follows, Durable};
+    ghost use Rattle.disk_trait.specs.MemoryDisk.{seen_of, image_of, clock_of, faults_of, write_faults_of, OnlyAsks, CountsWrite};
     ghost use Rattle.disk_trait.specs.Inner.Standing.{seen_is_image};
 
     ghost tells = { Unit {0} };
@@ -264,17 +251,7 @@ impl Disk for MemoryDisk {
     fn read(&mut self, file: File, at: u64, buf: &mut [u8]) -> Result<usize, Failed>
         ensures bound { ReadsAtMost result buf.new }
         ensures bytes { IfOk result (λ n. Reads (file_bytes file (seen_of self.old)) at buf.new n) }
-        ensures seen { seen_of self.new ≡ seen_of self.old }
-        ensures crash { LeavesNoMore (image_of self.old (clock_of self.old))
-            (image_of self.new (clock_of self.new)) }
-        ensures keeps { LeavesNoMore (image_of self.new (clock_of self.new))
-            (image_of self.old (clock_of self.old)) }
-        ensures time { Elapses (clock_of self.old) (clock_of self.new) (image_of self.old)
-            (image_of self.new) }
-        ensures cause { HasCause (faults_of self.old) (faults_of self.new) result }
-        ensures writes { write_faults_of self.new ≡ write_faults_of self.old }
-        ensures counted { HasCounted (schedule_of self.old) (schedule_of self.new) result }
-        ensures fails { IsErr result ↔ MustFail (schedule_of self.old) }
+        ensures asks { OnlyAsks self.old self.new result }
     {
         self.start()?;
         Ok(self.read_of(file, at, buf))
@@ -296,13 +273,7 @@ impl Disk for MemoryDisk {
             (image_of self.old (clock_of self.old)) (image_of self.new (clock_of self.new)) }
         ensures time { Elapses (clock_of self.old) (clock_of self.new) (image_of self.old)
             (image_of self.new) }
-        ensures cause { HasCause (faults_of self.old) (faults_of self.new) result }
-        ensures writes { CountsFailures (write_faults_of self.old)
-            (write_faults_of self.new) result }
-        ensures counted { HasCounted (schedule_of self.old) (schedule_of self.new) result }
-        ensures counted_write { HasRisen (write_faults_of self.old)
-            (write_faults_of self.new) result }
-        ensures fails { MustFailWrite self.old → IsErr result }
+        ensures counts { CountsWrite self.old self.new result }
     {
         let tried = self.try_write(file, at as usize, bytes);
         self.answer(tried)
@@ -322,13 +293,7 @@ impl Disk for MemoryDisk {
             → image_of self.new (clock_of self.new) c }
         ensures time { Elapses (clock_of self.old) (clock_of self.new) (image_of self.old)
             (image_of self.new) }
-        ensures cause { HasCause (faults_of self.old) (faults_of self.new) result }
-        ensures writes { CountsFailures (write_faults_of self.old)
-            (write_faults_of self.new) result }
-        ensures counted { HasCounted (schedule_of self.old) (schedule_of self.new) result }
-        ensures counted_write { HasRisen (write_faults_of self.old)
-            (write_faults_of self.new) result }
-        ensures fails { MustFailWrite self.old → IsErr result }
+        ensures counts { CountsWrite self.old self.new result }
     {
         let tried = self.try_sync(file);
         self.answer(tried)
@@ -337,17 +302,7 @@ impl Disk for MemoryDisk {
     /// The length, where the call does not fail.
     fn length(&mut self, file: File) -> Result<u64, Failed>
         ensures length { IfOk result (λ n. n ≡ length (file_bytes file (seen_of self.old))) }
-        ensures seen { seen_of self.new ≡ seen_of self.old }
-        ensures crash { LeavesNoMore (image_of self.old (clock_of self.old))
-            (image_of self.new (clock_of self.new)) }
-        ensures keeps { LeavesNoMore (image_of self.new (clock_of self.new))
-            (image_of self.old (clock_of self.old)) }
-        ensures time { Elapses (clock_of self.old) (clock_of self.new) (image_of self.old)
-            (image_of self.new) }
-        ensures cause { HasCause (faults_of self.old) (faults_of self.new) result }
-        ensures writes { write_faults_of self.new ≡ write_faults_of self.old }
-        ensures counted { HasCounted (schedule_of self.old) (schedule_of self.new) result }
-        ensures fails { IsErr result ↔ MustFail (schedule_of self.old) }
+        ensures asks { OnlyAsks self.old self.new result }
     {
         self.start()?;
         Ok(self.len_of(file))
