@@ -107,7 +107,7 @@ fn plain_post_children(
     let mut all = Vec::new(alloc);
     for k in 0..children.len() {
         if let Some(child) = children.get(k) {
-            all.push(child)?;
+            all.push(*child)?;
         }
     }
     Ok(all)

@@ -244,7 +244,7 @@ fn put_post_children(out: &mut [u8], at: usize, children: &PostChildren) -> usiz
     let mut end = at;
     for k in 0..children.len() {
         if let Some(child) = children.get(k) {
-            end = put_post_child(out, end, child);
+            end = put_post_child(out, end, *child);
         }
     }
     end

@@ -5,6 +5,7 @@ ghost use Rattle.page_types.specs.Encoding.{entry_child_bytes, post_child_bytes}
 
 use crate::page::PostChild;
 use crate::pieces::Pieces;
+use crate::seq::Seq;
 use std::alloc::{AllocError, Global};
 use std::marker::Model;
 
@@ -135,59 +136,15 @@ impl Clone for EntryChildren {
 }
 
 /// The children of an inner page of a posting tree. Contracts see them as a list.
-#[derive(Debug, Drop)]
-pub struct PostChildren {
-    inner: Vec<PostChild>,
-}
+pub type PostChildren = Seq<PostChild>;
 
-impl Model for PostChildren {
-    ghost use Rattle.std.specs.Prelude.{List};
-    ghost use Rattle.page_types.specs.declared.page.PostChild.{PostChild};
-
-    ghost Value = { List PostChild };
-
-    ghost view = { λ c. c.inner.items };
-}
-
-impl PostChildren {
-    /// No children.
-    pub fn new(alloc: Global) -> PostChildren
-        ensures { result ≡ [] }
-    {
-        PostChildren {
-            inner: Vec::new(alloc),
-        }
-    }
-
-    /// How many children there are.
-    pub fn len(&self) -> usize
-        ensures { result ≡ length self.now }
-    {
-        self.inner.len()
-    }
-
+impl Seq<PostChild> {
     /// How many bytes their encoding has.
     pub(crate) fn size(&self) -> usize
         requires { length (flat_map post_child_bytes self.now) < 2 ^ 64 }
         ensures { result ≡ length (flat_map post_child_bytes self.now) }
     {
         8 * self.inner.len()
-    }
-
-    /// The child with this number.
-    pub fn get(&self, k: usize) -> Option<PostChild>
-        ensures { result ≡ slice_get self.now k }
-    {
-        self.inner.get(k).copied()
-    }
-
-    /// One child more, after the others. Without memory they stay as they are.
-    pub fn push(&mut self, child: PostChild) -> Result<(), AllocError>
-        ensures ok { OnOk result (self.new ≡ self.old ++ child ∷ []) }
-        ensures err { OnErr result (self.new ≡ self.old) }
-    {
-        self.inner.push(child)?;
-        Ok(())
     }
 
     /// Another child at a place. It takes no memory.
@@ -217,11 +174,11 @@ impl PostChildren {
     }
 }
 
-impl Clone for PostChildren {
+impl Clone for Seq<PostChild> {
     ghost is_clone = { λ a b. b ≡ a };
 
-    fn clone(&self) -> Result<PostChildren, AllocError> {
+    fn clone(&self) -> Result<Seq<PostChild>, AllocError> {
         let inner = self.inner.clone()?;
-        Ok(PostChildren { inner })
+        Ok(Seq { inner })
     }
 }

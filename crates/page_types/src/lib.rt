@@ -18,6 +18,7 @@ mod page;
 mod pieces;
 mod record;
 mod rows;
+mod seq;
 mod sizes;
 mod slots;
 mod splice;
@@ -34,6 +35,7 @@ pub use page::{Body, Entry, EntryChild, Gone, Head, Name, Page, PostChild, Posti
 pub use pieces::{Pieces, PiecesRef};
 pub use record::{Change, Changes, Edit, Kind, PageBytes, Record};
 pub use rows::{RowRef, Rows};
+pub use seq::Seq;
 pub use sizes::body_length;
 pub use slots::{HeadFields, HeadRef, Slots};
 

@@ -1,11 +1,11 @@
 // The records of the log, and how they change pages.
-ghost use Rattle.std.specs.Prelude.{◌≡◌, ◌↔◌, ◌<◌, ◌≤◌, [], ◌∷◌, ◌++◌, length, OnOk, OnErr, IfSome, IfNone, IfOk, IsOk, Some};
-ghost use Rattle.std.specs.List.{slice_get};
+ghost use Rattle.std.specs.Prelude.{◌≡◌, ◌↔◌, length, OnOk, OnErr, IfOk, IsOk};
 
 use crate::PAGE_BYTES;
 use crate::bytes::Bytes;
 use crate::edits::apply;
 use crate::error::BadChange;
+use crate::seq::Seq;
 use std::alloc::{AllocError, Global};
 use std::marker::Model;
 
@@ -155,67 +155,5 @@ pub struct Record {
     pub changes: Changes,
 }
 
-/// Changes. Contracts see them as a list.
-#[derive(Debug, Drop)]
-pub struct Changes {
-    inner: Vec<Change>,
-}
-
-impl Model for Changes {
-    ghost use Rattle.std.specs.Prelude.{List};
-    ghost use Rattle.page_types.specs.declared.record.Change.{Change};
-
-    ghost Value = { List Change };
-
-    ghost view = { λ c. c.inner.items };
-}
-
-impl Changes {
-    /// No changes.
-    pub fn new(alloc: Global) -> Changes
-        ensures { result ≡ [] }
-    {
-        Changes {
-            inner: Vec::new(alloc),
-        }
-    }
-
-    /// How many there are.
-    pub fn len(&self) -> usize
-        ensures { result ≡ length self.now }
-    {
-        self.inner.len()
-    }
-
-    /// The change with this number, by reference.
-    pub fn get(&self, k: usize) -> Option<&Change>
-        ensures some { IfSome result (λ c. slice_get self.now k ≡ Some c.now) }
-        ensures none { IfNone result (length self.now ≤ k) }
-    {
-        self.inner.get(k)
-    }
-
-    /// One change more, after the others. Without memory they stay as they are.
-    pub fn push(&mut self, change: Change) -> Result<(), AllocError>
-        ensures ok { OnOk result (self.new ≡ self.old ++ change ∷ []) }
-        ensures err { OnErr result (self.new ≡ self.old) }
-    {
-        self.inner.push(change)?;
-        Ok(())
-    }
-
-    /// All changes, by reference.
-    pub fn as_slice(&self) -> &[Change]
-        ensures { result.now ≡ self.now }
-    {
-        self.inner.as_slice()
-    }
-
-    /// The changes as a vector, which are not copied.
-    pub fn into_vec(self) -> Vec<Change>
-        ensures { result.items ≡ self }
-    {
-        let Changes { inner } = self;
-        inner
-    }
-}
+/// The changes of a record. Contracts see them as a list.
+pub type Changes = Seq<Change>;

@@ -30,7 +30,7 @@ pub(crate) const PAGES: &str = "\
         128, 128, 1] } } } | 07 00 0400 17000000 1300000000000000 0b00 000000000000 00410000017f8001808001
     post-leaf-last | Page { right: 0, stamp: 20, body: PostLeaf { high: 0, items: Bytes { inner: [] } } } | 07 00 \
         0000 00000000 1400000000000000 04
-    post-inner | Page { right: 0, stamp: 21, body: PostInner(PostChildren { inner: [PostChild { page: 24, bound: \
+    post-inner | Page { right: 0, stamp: 21, body: PostInner(Seq { inner: [PostChild { page: 24, bound: \
         256 }, PostChild { page: 25, bound: 4294967295 }] }) } | 08 00 0200 00000000 1500000000000000 1000 \
         000000000000 180000000001000019000000ffffffff
     deleted-pending | Page { right: 9, stamp: 22, body: Deleted(Pending(Rows { items: [4096], ends: [1], keys: \
