@@ -31,8 +31,7 @@ fn put_byte(out: &mut [u8], at: usize, byte: u8) -> usize
     requires { at + 1 ≤ length out.old }
     ensures { Puts at (byte ∷ []) out.old result out.new }
 {
-    put(out, at, &[byte]);
-    at + 1
+    put_bytes(out, at, &[byte])
 }
 
 /// Writes a number in two bytes, the little end first.
@@ -42,30 +41,7 @@ fn put_u16(out: &mut [u8], at: usize, number: u16) -> usize
     ensures puts { Puts at (u16_bytes number) out.old result out.new }
     ensures end { result ≡ at + 2 }
 {
-    put(out, at, &number.to_le_bytes());
-    at + 2
-}
-
-/// Writes a number in four bytes, the little end first.
-#[tactic(auto, unfolding(page_types::specs::Numbers::u32_bytes))]
-fn put_u32(out: &mut [u8], at: usize, number: u32) -> usize
-    requires { at + 4 ≤ length out.old }
-    ensures puts { Puts at (u32_bytes number) out.old result out.new }
-    ensures end { result ≡ at + 4 }
-{
-    put(out, at, &number.to_le_bytes());
-    at + 4
-}
-
-/// Writes a number in eight bytes, the little end first.
-#[tactic(auto, unfolding(page_types::specs::Numbers::u64_bytes))]
-fn put_u64(out: &mut [u8], at: usize, number: u64) -> usize
-    requires { at + 8 ≤ length out.old }
-    ensures puts { Puts at (u64_bytes number) out.old result out.new }
-    ensures end { result ≡ at + 8 }
-{
-    put(out, at, &number.to_le_bytes());
-    at + 8
+    put_bytes(out, at, &number.to_le_bytes())
 }
 
 /// Writes bytes after their length.
@@ -77,6 +53,26 @@ fn put_key(out: &mut [u8], at: usize, key: &[u8]) -> usize
 {
     let at = put_u16(out, at, key.len() as u16);
     put_bytes(out, at, key)
+}
+
+/// Writes a number in four bytes, the little end first.
+#[tactic(auto, unfolding(page_types::specs::Numbers::u32_bytes))]
+fn put_u32(out: &mut [u8], at: usize, number: u32) -> usize
+    requires { at + 4 ≤ length out.old }
+    ensures puts { Puts at (u32_bytes number) out.old result out.new }
+    ensures end { result ≡ at + 4 }
+{
+    put_bytes(out, at, &number.to_le_bytes())
+}
+
+/// Writes a number in eight bytes, the little end first.
+#[tactic(auto, unfolding(page_types::specs::Numbers::u64_bytes))]
+fn put_u64(out: &mut [u8], at: usize, number: u64) -> usize
+    requires { at + 8 ≤ length out.old }
+    ensures puts { Puts at (u64_bytes number) out.old result out.new }
+    ensures end { result ≡ at + 8 }
+{
+    put_bytes(out, at, &number.to_le_bytes())
 }
 
 /// Writes a head.
@@ -187,21 +183,6 @@ fn put_entry(out: &mut [u8], at: usize, entry: EntryRef<'_>) -> usize
     put_postings(out, at, entry.postings)
 }
 
-/// Writes entries.
-fn put_entries(out: &mut [u8], at: usize, entries: &Entries) -> usize
-    requires entries { AllByRecursion IsEntry entries.now }
-    requires room { at + length (flat_map entry_bytes entries.now) ≤ length out.old }
-    ensures { Puts at (flat_map entry_bytes entries.now) out.old result out.new }
-{
-    let mut end = at;
-    for k in 0..entries.len() {
-        if let Some(entry) = entries.get(k) {
-            end = put_entry(out, end, entry);
-        }
-    }
-    end
-}
-
 /// Writes a child of an inner page of the entry tree.
 fn put_entry_child(out: &mut [u8], at: usize, child: EntryChildRef<'_>) -> usize
     requires size { length child.bound.now < 2 ^ 16 }
@@ -305,8 +286,13 @@ fn put_leaf(out: &mut [u8], at: usize, high: &Bytes, entries: &Entries) -> usize
     ensures { Puts at (high_key_bytes high.now ++ flat_map entry_bytes entries.now) out.old
         result out.new }
 {
-    let at = put_high_key(out, at, high.as_slice());
-    put_entries(out, at, entries)
+    let mut end = put_high_key(out, at, high.as_slice());
+    for k in 0..entries.len() {
+        if let Some(entry) = entries.get(k) {
+            end = put_entry(out, end, entry);
+        }
+    }
+    end
 }
 
 /// Writes a body.

@@ -1,5 +1,5 @@
 -- Numbers as bytes, the little end first, and the limits of the formats.
-use Rattle.std.specs.Prelude.{ℕ, List, replicate}
+use Rattle.std.specs.Prelude.{ℕ, ◌-◌, ◌^◌, List, replicate}
 use Rattle.byteorder.specs.Endian.{little_bytes}
 
 -- a number in two bytes
@@ -30,11 +30,11 @@ most_body = 8168
 
 -- pages are numbered below this
 abbrev pub page_limit : ℕ
-page_limit = 1048576
+page_limit = 2 ^ 20
 
 -- an item is page * 2048 + slot, the slot below 2048
 abbrev pub item_limit : ℕ
-item_limit = 2147483648
+item_limit = 2 ^ 31
 
 abbrev pub most_slots : ℕ
 most_slots = 2048
@@ -53,4 +53,4 @@ most_key_text = 2046
 
 -- the bound of an item that is no bound
 abbrev pub no_bound : ℕ
-no_bound = 4294967295
+no_bound = 2 ^ 32 - 1
