@@ -22,6 +22,7 @@ pub mod Logged
 pub mod Stores
 pub mod Lives
 pub mod States
+pub mod Judging
 pub mod PageChoice
 pub mod Rooms
 pub mod Trees

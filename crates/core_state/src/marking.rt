@@ -1,12 +1,13 @@
 // When a record MarkDeleted or PutOverflow may come next, as far as the record, its pages before
 // and after, and the state of the log say.
-ghost use Rattle.std.specs.Prelude.{◌≡◌, ◌≢◌, ◌↔◌, ℕ, true, [], ◌∷◌, Some, IfSome, IfNone, IsOkAnd};
+ghost use Rattle.std.specs.Prelude.{◌≡◌, ◌≢◌, ◌↔◌, ℕ, true, [], ◌∷◌, Some, IfSome, IfNone};
 ghost use Rattle.page_types.specs.Parts.{head_shown, head_with};
 ghost use Rattle.page_types.specs.declared.page.Head.{Head};
 ghost use Rattle.core_state.specs.Log.{changed};
 ghost use Rattle.core_state.specs.Changes.{PutsSlot};
 ghost use Rattle.core_state.specs.HeapRules.{IsMarkDeletedHere, IsPutOverflowHere};
-ghost use Rattle.core_state.specs.States.{known_by, fate_of};
+ghost use Rattle.core_state.specs.Judging.{Judges};
+ghost use Rattle.core_state.specs.States.{fate_of};
 ghost use Rattle.core_state.specs.Inner.HeadChanges.{HasHead, LeavesInSlot, LeavesPart, MayBeMarked, MayBePut};
 
 use crate::answers::Fate;
@@ -17,7 +18,7 @@ use crate::valid::changes_pages;
 use page_types::{
     Body, HeadFields, HeadRef, Kind, MOST_BODY_BYTES, MOST_SHORT_BYTES, Name, Page, Record, Slots,
 };
-use std::alloc::{AllocError, Global};
+use std::alloc::AllocError;
 
 // The head of the document with this name, if it has its slot of this heap page.
 fn head_in(page: &Page, name: Name) -> Option<HeadRef<'_>>
@@ -99,7 +100,6 @@ fn leaves_part(rec: &Record, first: u32, new: &Page) -> bool
 /// Whether MarkDeleted may come next: its transaction runs, the slot's head has the serial, a commit
 /// inserted it, none who wasn't aborted marked it, and its deleting xid becomes the record's.
 pub fn valid_mark_deleted(
-    _alloc: Global,
     state: &State,
     rec: &Record,
     before: &[Page],
@@ -107,8 +107,7 @@ pub fn valid_mark_deleted(
     _floor: u32,
     _since: u64,
 ) -> Result<bool, AllocError>
-    ensures { IsOkAnd result (λ b. b ≡ true
-        ↔ IsMarkDeletedHere (known_by state.now.value) rec.now before.now after.now) }
+    ensures { Judges IsMarkDeletedHere state.now.value rec.now before.now after.now result }
 {
     let Kind::MarkDeleted { item, serial } = rec.kind else {
         return Ok(false);
@@ -160,7 +159,6 @@ fn second_page(rec: &Record, first: u32) -> Option<u32>
 /// Whether PutOverflow may come next: its transaction placed the head and runs, the vector is too
 /// long for its head, and a new page with a part of it becomes the head's first overflow page.
 pub fn valid_put_overflow(
-    _alloc: Global,
     state: &State,
     rec: &Record,
     before: &[Page],
@@ -168,8 +166,7 @@ pub fn valid_put_overflow(
     _floor: u32,
     since: u64,
 ) -> Result<bool, AllocError>
-    ensures { IsOkAnd result (λ b. b ≡ true
-        ↔ IsPutOverflowHere since (known_by state.now.value) rec.now before.now after.now) }
+    ensures { Judges (IsPutOverflowHere since) state.now.value rec.now before.now after.now result }
 {
     let Kind::PutOverflow { item, serial } = rec.kind else {
         return Ok(false);

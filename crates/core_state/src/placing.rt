@@ -1,11 +1,12 @@
 // When a record PlaceHead may come next, as far as the record, its heap page before and after, and
 // the state of the log say.
-ghost use Rattle.std.specs.Prelude.{◌≡◌, ◌≢◌, ◌↔◌, ℕ, true, IsOkAnd};
+ghost use Rattle.std.specs.Prelude.{◌≡◌, ◌≢◌, ◌↔◌, ℕ, true};
 ghost use Rattle.std.specs.Option.{option_map};
 ghost use Rattle.page_types.specs.Parts.{head_shown};
 ghost use Rattle.page_types.specs.Views.{slot_at};
 ghost use Rattle.core_state.specs.HeapRules.{IsNewHead, IsPlaceHeadHere};
-ghost use Rattle.core_state.specs.States.{known_by, use_of};
+ghost use Rattle.core_state.specs.Judging.{Judges};
+ghost use Rattle.core_state.specs.States.{use_of};
 ghost use Rattle.core_state.specs.Inner.Placing.{PlacesHead, LeavesHead};
 
 use crate::answers::Fate;
@@ -115,8 +116,7 @@ pub fn valid_place_head(
     _floor: u32,
     since: u64,
 ) -> Result<bool, AllocError>
-    ensures { IsOkAnd result (λ b. b ≡ true
-        ↔ IsPlaceHeadHere since (known_by state.now.value) rec.now before.now after.now) }
+    ensures { Judges (IsPlaceHeadHere since) state.now.value rec.now before.now after.now result }
 {
     let Kind::PlaceHead { item, serial } = rec.kind else {
         return Ok(false);

@@ -1,17 +1,17 @@
 // When a record may come next, as far as the record, its pages before and after, and the state of
 // the log say.
-ghost use Rattle.std.specs.Prelude.{◌≡◌, ◌↔◌, true, [], IsOkAnd};
+ghost use Rattle.std.specs.Prelude.{◌≡◌, ◌↔◌, true, []};
 ghost use Rattle.page_types.specs.declared.page.Body.TheVariants as body;
 ghost use Rattle.core_state.specs.Log.{changed, xid_bound};
 ghost use Rattle.core_state.specs.Changes.{made_with};
-ghost use Rattle.core_state.specs.States.{known_by};
+ghost use Rattle.core_state.specs.Judging.{Judges};
 ghost use Rattle.core_state.specs.TransactionRules.{IsCreateHere, IsBeginHere, IsCommitHere, IsAbortHere};
 
 use crate::answers::Fate;
 use crate::state::State;
 use crate::table::XID_BOUND;
 use page_types::{Body, Kind, Page, Record};
-use std::alloc::{AllocError, Global};
+use std::alloc::AllocError;
 
 // Whether a record changes these pages, in this order.
 pub(crate) fn changes_pages(rec: &Record, pages: &[u32]) -> bool
@@ -56,7 +56,6 @@ fn is_first_leaf(rec: &Record, page: &Page) -> bool
 /// Whether Create may come next: the log is empty, and an empty metapage and an empty leaf of the
 /// entry tree are made.
 pub fn valid_create(
-    _alloc: Global,
     state: &State,
     rec: &Record,
     before: &[Page],
@@ -64,8 +63,7 @@ pub fn valid_create(
     _floor: u32,
     _since: u64,
 ) -> Result<bool, AllocError>
-    ensures { IsOkAnd result (λ b. b ≡ true
-        ↔ IsCreateHere (known_by state.now.value) rec.now before.now after.now) }
+    ensures { Judges IsCreateHere state.now.value rec.now before.now after.now result }
 {
     let Kind::Create = rec.kind else {
         return Ok(false);
@@ -79,7 +77,6 @@ pub fn valid_create(
 /// Whether Begin may come next: its xid is the next one and below the bound of xids, and it changes
 /// no page.
 pub fn valid_begin(
-    _alloc: Global,
     state: &State,
     rec: &Record,
     before: &[Page],
@@ -87,8 +84,7 @@ pub fn valid_begin(
     _floor: u32,
     _since: u64,
 ) -> Result<bool, AllocError>
-    ensures { IsOkAnd result (λ b. b ≡ true
-        ↔ IsBeginHere (known_by state.now.value) rec.now before.now after.now) }
+    ensures { Judges IsBeginHere state.now.value rec.now before.now after.now result }
 {
     let Kind::Begin = rec.kind else {
         return Ok(false);
@@ -99,7 +95,6 @@ pub fn valid_begin(
 /// Whether Commit may come next: its transaction runs, its number is the next, and it changes no
 /// page.
 pub fn valid_commit(
-    _alloc: Global,
     state: &State,
     rec: &Record,
     before: &[Page],
@@ -107,8 +102,7 @@ pub fn valid_commit(
     _floor: u32,
     _since: u64,
 ) -> Result<bool, AllocError>
-    ensures { IsOkAnd result (λ b. b ≡ true
-        ↔ IsCommitHere (known_by state.now.value) rec.now before.now after.now) }
+    ensures { Judges IsCommitHere state.now.value rec.now before.now after.now result }
 {
     let Kind::Commit { commit } = rec.kind else {
         return Ok(false);
@@ -119,7 +113,6 @@ pub fn valid_commit(
 
 /// Whether Abort may come next: its transaction runs, or its xid is 0, and it changes no page.
 pub fn valid_abort(
-    _alloc: Global,
     state: &State,
     rec: &Record,
     before: &[Page],
@@ -127,8 +120,7 @@ pub fn valid_abort(
     _floor: u32,
     _since: u64,
 ) -> Result<bool, AllocError>
-    ensures { IsOkAnd result (λ b. b ≡ true
-        ↔ IsAbortHere (known_by state.now.value) rec.now before.now after.now) }
+    ensures { Judges IsAbortHere state.now.value rec.now before.now after.now result }
 {
     let Kind::Abort = rec.kind else {
         return Ok(false);

@@ -47,18 +47,18 @@ fn test(
     let floor = state.commits();
     let since = record.number;
     let found = match record.kind {
-        Kind::Create => valid_create(alloc, state, record, before, behind, floor, since)?,
-        Kind::Begin => valid_begin(alloc, state, record, before, behind, floor, since)?,
-        Kind::Commit { .. } => valid_commit(alloc, state, record, before, behind, floor, since)?,
-        Kind::Abort => valid_abort(alloc, state, record, before, behind, floor, since)?,
+        Kind::Create => valid_create(state, record, before, behind, floor, since)?,
+        Kind::Begin => valid_begin(state, record, before, behind, floor, since)?,
+        Kind::Commit { .. } => valid_commit(state, record, before, behind, floor, since)?,
+        Kind::Abort => valid_abort(state, record, before, behind, floor, since)?,
         Kind::PlaceHead { .. } => {
             valid_place_head(alloc, state, record, before, behind, floor, since)?
         }
         Kind::PutOverflow { .. } => {
-            valid_put_overflow(alloc, state, record, before, behind, floor, since)?
+            valid_put_overflow(state, record, before, behind, floor, since)?
         }
         Kind::MarkDeleted { .. } => {
-            valid_mark_deleted(alloc, state, record, before, behind, floor, since)?
+            valid_mark_deleted(state, record, before, behind, floor, since)?
         }
         _ => return Ok(None),
     };

@@ -227,10 +227,10 @@ struct Move<'a> {
 /// Which calls find a record valid: those of Create, Begin, Commit, Abort and PlaceHead.
 fn verdicts(alloc: Global, state: &State, m: &Move<'_>) -> Result<[bool; 5], AllocError> {
     Ok([
-        valid_create(alloc, state, m.record, m.before, m.after, 0, m.since)?,
-        valid_begin(alloc, state, m.record, m.before, m.after, 0, m.since)?,
-        valid_commit(alloc, state, m.record, m.before, m.after, 0, m.since)?,
-        valid_abort(alloc, state, m.record, m.before, m.after, 0, m.since)?,
+        valid_create(state, m.record, m.before, m.after, 0, m.since)?,
+        valid_begin(state, m.record, m.before, m.after, 0, m.since)?,
+        valid_commit(state, m.record, m.before, m.after, 0, m.since)?,
+        valid_abort(state, m.record, m.before, m.after, 0, m.since)?,
         valid_place_head(alloc, state, m.record, m.before, m.after, 0, m.since)?,
     ])
 }
