@@ -222,11 +222,10 @@ fn put_post_children(out: &mut [u8], at: usize, children: &PostChildren) -> usiz
     requires { at + length (flat_map post_child_bytes children.now) ≤ length out.old }
     ensures { Puts at (flat_map post_child_bytes children.now) out.old result out.new }
 {
+    let all = children.as_slice();
     let mut end = at;
-    for k in 0..children.len() {
-        if let Some(child) = children.get(k) {
-            end = put_post_child(out, end, *child);
-        }
+    for child in all {
+        end = put_post_child(out, end, *child);
     }
     end
 }

@@ -20,8 +20,12 @@ put_entry-end-requires-clause-room c =
     let high = rw c.as_slice.ensures at c.put_high_key-end.ensures in
     first_room entry_bytes c.args.entries.now c.loop-k.k c.put_high_key-end.result c.put_high_key-end.new.out
     c.loop-k.end c.loop-k.out (entry_shown c.in-Some.entry) _ c.loop-k.invariant c.in-Some.ensures.some
-    (omega (arith, c.requires.room, high.0,
-    length-append (high_key_bytes c.args.high.now) (flat_map entry_bytes c.args.entries.now)))
+    (omega (
+      arith,
+      c.requires.room,
+      high.0,
+      length-append (high_key_bytes c.args.high.now) (flat_map entry_bytes c.args.entries.now),
+    ))
 
 pub loop-k-preserved : goal.loop-k-preserved
 loop-k-preserved c =
