@@ -3,7 +3,7 @@ ghost use Rattle.std.specs.Prelude.{◌≡◌, ℕ, ◌+◌, ◌<◌, ◌≤◌,
 ghost use Rattle.std.specs.List.{flat_map, AllByRecursion};
 ghost use Rattle.std.specs.Option.{option_map};
 ghost use Rattle.page_types.specs.Numbers.{u16_bytes, u32_bytes, u64_bytes};
-ghost use Rattle.page_types.specs.Parts.{head_shown, pieces_shown, row_shown, postings_shown, entry_shown, child_shown};
+ghost use Rattle.page_types.specs.Parts.{head_shown, pieces_shown, row_shown, postings_shown, entry_shown};
 ghost use Rattle.page_types.specs.Encoding.{key_field, head_bytes, slot_bytes, row_bytes, postings_bytes, entry_bytes, entry_child_bytes, post_child_bytes, high_key_bytes, gone_bytes, body_bytes, kind_of, was_of, count_of, gone_kind, gone_count, front_bytes, page_bytes};
 ghost use Rattle.page_types.specs.Items.{items_of};
 ghost use Rattle.page_types.specs.Pages.{IsRow, ArePostings, IsEntry, IsGone, IsBody, IsPage};
@@ -11,9 +11,9 @@ ghost use Rattle.page_code.specs.Inner.Putting.{Puts};
 ghost use Rattle.page_types.specs.Writing.{overwritten};
 
 use page_types::{
-    Body, Bytes, Entries, EntryChildRef, EntryChildren, EntryRef, FRONT_BYTES, Gone, HeadRef,
-    PAGE_BYTES, Page, PageBytes, PiecesRef, PostChild, PostChildren, PostingsRef, RowRef, Rows,
-    Slots, put, zero_page,
+    Body, Bytes, Entries, EntryChildren, EntryRef, FRONT_BYTES, Gone, HeadRef, PAGE_BYTES, Page,
+    PageBytes, PiecesRef, PostChild, PostChildren, PostingsRef, RowRef, Rows, Slots, put,
+    zero_page,
 };
 use std::alloc::{AllocError, Global};
 
@@ -183,16 +183,6 @@ fn put_entry(out: &mut [u8], at: usize, entry: EntryRef<'_>) -> usize
     put_postings(out, at, entry.postings)
 }
 
-/// Writes a child of an inner page of the entry tree.
-fn put_entry_child(out: &mut [u8], at: usize, child: EntryChildRef<'_>) -> usize
-    requires size { length child.bound.now < 2 ^ 16 }
-    requires room { at + length (entry_child_bytes (child_shown child)) ≤ length out.old }
-    ensures { Puts at (entry_child_bytes (child_shown child.entry)) out.old result out.new }
-{
-    let at = put_u32(out, at, child.page);
-    put_key(out, at, child.bound)
-}
-
 /// Writes children of an inner page of the entry tree.
 fn put_entry_children(out: &mut [u8], at: usize, children: &EntryChildren) -> usize
     requires sizes { AllByRecursion (λ c. length c.bound < 2 ^ 16) children.now }
@@ -202,7 +192,8 @@ fn put_entry_children(out: &mut [u8], at: usize, children: &EntryChildren) -> us
     let mut end = at;
     for k in 0..children.len() {
         if let Some(child) = children.get(k) {
-            end = put_entry_child(out, end, child);
+            end = put_u32(out, end, child.page);
+            end = put_key(out, end, child.bound);
         }
     }
     end
