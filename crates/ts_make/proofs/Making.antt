@@ -3,7 +3,7 @@ use Rattle.std.proofs.Common.{◌≡◌, ℕ, ◌+◌, ◌≤◌, List, [], ◌�
 use Rattle.ts_query.specs.Queries.{Joint, or_joint, and_joint, phrase_joint, Tree, Query, HasNear}
 use Rattle.ts_query.specs.Postfix.{top}
 use Rattle.ts_make.specs.Removal.{Sketch, joint_sketch, sketch_of, Cleaned, clean_phrase, clean_pair, clean_joint, clean, query_left}
-use Rattle.ts_make.specs.Making.{is_left, part_of, parts_of, with_left, trees_left, IsKept}
+use Rattle.ts_make.specs.Making.{is_left, kept_part, kept_parts, with_left, trees_left, IsKept}
 use Rattle.ts_make.specs.Inner.Making.{part, joined_part}
 use Rattle.ts_make.specs.declared.maker.Part.{Part}
 use Rattle.ts_make.proofs.Removal.{whole_stays}
@@ -26,7 +26,7 @@ same_front (x ∷ xs) (y ∷ ys) a b e =
 -- ── parts ──
 -- of two parts what is left is known by what is left of each
 phrase_told : (n : ℕ) (a b : Query) (l r m k : ℕ)
-    → part_of (clean_phrase n (record { query = a; left = l; right = r })
+    → kept_part (clean_phrase n (record { query = a; left = l; right = r })
     (record { query = b; left = m; right = k }) a b)
     ≡ joined_part (phrase_joint n) (record { there = is_left a; left = l; right = r })
     (record { there = is_left b; left = m; right = k })
@@ -36,7 +36,7 @@ phrase_told n None (Some b) l r m k = refl
 phrase_told n None None l r m k = refl
 
 pair_told : (j : Joint) (a b : Query) (l r m k : ℕ)
-    → part_of (clean_pair j (record { query = a; left = l; right = r })
+    → kept_part (clean_pair j (record { query = a; left = l; right = r })
     (record { query = b; left = m; right = k }) a b)
     ≡ joined_part and_joint (record { there = is_left a; left = l; right = r })
     (record { there = is_left b; left = m; right = k })
@@ -46,7 +46,7 @@ pair_told j None (Some b) l r m k = refl
 pair_told j None None l r m k = refl
 
 pub joint_told : (j : Joint) (x y : Cleaned)
-    → part_of (clean_joint j x y) ≡ joined_part j (part_of x) (part_of y)
+    → kept_part (clean_joint j x y) ≡ joined_part j (kept_part x) (kept_part y)
 joint_told or_joint x y = pair_told or_joint x.query y.query x.left x.right y.left y.right
 joint_told and_joint x y = pair_told and_joint x.query y.query x.left x.right y.left y.right
 joint_told (phrase_joint n) x y = phrase_told n x.query y.query x.left x.right y.left y.right
@@ -57,7 +57,7 @@ pub whole_kept : (ps : List Part) (ts : List Tree) (r : ℕ) (ds : List Sketch) 
 whole_kept ps ts r ds t h k = record {
   has_parts =
       ap (λ l. l ++ part true 0 0 ∷ []) k.has_parts
-      ∙ ap (λ c. parts_of (map clean ds) ++ part_of c ∷ []) (sym (whole_stays t h));
+      ∙ ap (λ c. kept_parts (map clean ds) ++ kept_part c ∷ []) (sym (whole_stays t h));
   has_trees =
       ap (λ l. t ∷ l) k.has_trees
       ∙ ap (λ c. with_left c.query (trees_left (map clean ds))) (sym (whole_stays t h));
@@ -85,27 +85,27 @@ some_gone j (Some a) (Some b) l r m k ts h = absurd (let no : ⊥ = cc in no)
 
 -- the parts before the last two, and these
 pub record LastTwo (before : List Part) (x y : Part) (d e : Sketch) (ds : List Sketch) : Type 0 where
-  pub before_is : before ≡ parts_of (map clean ds)
-  pub x_is : x ≡ part_of (clean d)
-  pub y_is : y ≡ part_of (clean e)
+  pub before_is : before ≡ kept_parts (map clean ds)
+  pub x_is : x ≡ kept_part (clean d)
+  pub y_is : y ≡ kept_part (clean e)
 
 pub last_two : (ps qs rs : List Part) (x y : Part) (ts : List Tree) (r : ℕ) (d e : Sketch)
     (ds : List Sketch) → ps ≡ qs ++ y ∷ [] → qs ≡ rs ++ x ∷ [] → IsKept ps ts r (e ∷ d ∷ ds)
     → LastTwo rs x y d e ds
 last_two ps qs rs x y ts r d e ds f g k =
     let a =
-    same_front qs (parts_of (map clean (d ∷ ds))) y (part_of (clean e)) (sym f ∙ k.has_parts) in
-    let b = same_front rs (parts_of (map clean ds)) x (part_of (clean d)) (sym g ∙ a.0) in
+    same_front qs (kept_parts (map clean (d ∷ ds))) y (kept_part (clean e)) (sym f ∙ k.has_parts) in
+    let b = same_front rs (kept_parts (map clean ds)) x (kept_part (clean d)) (sym g ∙ a.0) in
     record { before_is = b.0; x_is = b.1; y_is = a.1 }
 
 module _ (j : Joint) (ps rs : List Part) (x y : Part) (ts : List Tree) (r : ℕ) (d e : Sketch)
     (ds : List Sketch) (w : LastTwo rs x y d e ds) (k : IsKept ps ts r (e ∷ d ∷ ds)) where
-  new_parts : rs ++ joined_part j x y ∷ [] ≡ parts_of (map clean (joint_sketch j d e ∷ ds))
+  new_parts : rs ++ joined_part j x y ∷ [] ≡ kept_parts (map clean (joint_sketch j d e ∷ ds))
   new_parts =
       ap (λ l. l ++ joined_part j x y ∷ []) w.before_is
-      ∙ ap (λ p. parts_of (map clean ds) ++ joined_part j p y ∷ []) w.x_is
-      ∙ ap (λ p. parts_of (map clean ds) ++ joined_part j (part_of (clean d)) p ∷ []) w.y_is
-      ∙ ap (λ p. parts_of (map clean ds) ++ p ∷ []) (sym (joint_told j (clean d) (clean e)))
+      ∙ ap (λ p. kept_parts (map clean ds) ++ joined_part j p y ∷ []) w.x_is
+      ∙ ap (λ p. kept_parts (map clean ds) ++ joined_part j (kept_part (clean d)) p ∷ []) w.y_is
+      ∙ ap (λ p. kept_parts (map clean ds) ++ p ∷ []) (sym (joint_told j (clean d) (clean e)))
 
   pub gone_kept : (x.there && y.there) ≡ false
       → IsKept (rs ++ joined_part j x y ∷ []) ts (r + 1) (joint_sketch j d e ∷ ds)
@@ -115,7 +115,7 @@ module _ (j : Joint) (ps rs : List Part) (x y : Part) (ts : List Tree) (r : ℕ)
         k.has_trees
         ∙ some_gone j (clean d).query (clean e).query (clean d).left (clean d).right (clean e).left
         (clean e).right (trees_left (map clean ds))
-        (ap (λ p. p.there && (part_of (clean e)).there) (sym w.x_is)
+        (ap (λ p. p.there && (kept_part (clean e)).there) (sym w.x_is)
         ∙ ap (λ p. x.there && p.there) (sym w.y_is) ∙ h);
     count = (let c = k.count in omega arith);
   }

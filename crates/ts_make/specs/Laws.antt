@@ -3,7 +3,8 @@ use Rattle.std.specs.Prelude.{◌≡◌, ◌≢◌, ℕ, ◌<◌, ◌≤◌, Lis
 use Rattle.ts_base.specs.declared.Weights.{Weights}
 use Rattle.ts_config.specs.declared.placed.Placed.{Placed}
 use Rattle.ts_query.specs.declared.TheConstants.{GREATEST_DISTANCE, NODE_LIMIT}
-use Rattle.ts_query.specs.Queries.{Tree, Query, operands_of, nodes_in, nodes_of, HasNear, HasNearPhrases, HasLexeme, IsSound}
+use Rattle.ts_query.specs.Queries.{Tree, Query, operands_of, nodes_in, nodes_of, HasNear, HasNearPhrases, HasLexeme}
+use Rattle.ts_query.specs.Queries.{IsSound}
 use Rattle.ts_query.specs.declared.error.QueryError.{QueryError}
 use Rattle.ts_query.specs.declared.error.QueryError.TheVariants.{OutOfMemory}
 use Rattle.ts_vector.specs.declared.error.VectorError.{VectorError}
@@ -11,7 +12,8 @@ use Rattle.ts_vector.specs.declared.error.VectorError.TheVariants as vector_erro
 use Rattle.ts_base.specs.Vectors.{Vector}
 use Rattle.ts_config.specs.Mappings.{Mapping}
 use Rattle.ts_config.specs.Known.{Known}
-use Rattle.ts_make.specs.Made.{IsMadeVector, MadeVectorFails, IsJoined, JoinedFails, IsSketched, IsMadeQuery, MadeQueryFails}
+use Rattle.ts_make.specs.Made.{IsMadeVector, MadeVectorFails, IsJoined, JoinedFails, IsSketched, IsMadeQuery}
+use Rattle.ts_make.specs.Made.{MadeQueryFails}
 use Rattle.ts_make.specs.Groups.{Group, AreGroups}
 use Rattle.ts_make.specs.Trees.{operand_for, phrase_of, conjunction_of}
 use Rattle.ts_make.specs.Removal.{Sketch, sketch_nodes, sketch_operands, sketch_of, Cleaned, cleaned, clean}

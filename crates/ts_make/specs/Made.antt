@@ -9,7 +9,8 @@ use Rattle.ts_vector.specs.declared.error.VectorError.{VectorError}
 use Rattle.ts_vector.specs.declared.error.VectorError.TheVariants as vector_error
 use Rattle.ts_query.specs.declared.TheConstants.{NODE_LIMIT}
 use Rattle.ts_query.specs.declared.error.QueryError.{QueryError}
-use Rattle.ts_query.specs.declared.error.QueryError.TheVariants.{Syntax, DistanceTooLarge, TooManyNodes, LexemeTooLong, OutOfMemory}
+use Rattle.ts_query.specs.declared.error.QueryError.TheVariants.{Syntax, DistanceTooLarge, TooManyNodes, LexemeTooLong}
+use Rattle.ts_query.specs.declared.error.QueryError.TheVariants.{OutOfMemory}
 use Rattle.ts_query.specs.declared.query.Operand.{Operand}
 use Rattle.ts_query.specs.Queries.{Joint, Tree, leaf, negated, joined, Query, nodes_of}
 use Rattle.ts_query.specs.Tokens.{no_weights}

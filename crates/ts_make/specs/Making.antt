@@ -1,10 +1,11 @@
 -- A query that is made node by node: the sketches that a maker has made, and what it holds of them.
 use Rattle.std.specs.Prelude.{◌≡◌, ℕ, ◌+◌, ◌≤◌, ◌<◌, List, [], ◌∷◌, ◌++◌, map, Bool, true, false, Some, None}
 use Rattle.ts_query.specs.declared.TheConstants.{NODE_LIMIT}
-use Rattle.ts_query.specs.Queries.{Tree, Query}
+use Rattle.ts_query.specs.Queries.{Joint, or_joint, and_joint, phrase_joint, Tree, Query}
 use Rattle.ts_query.specs.Building.{nodes_among}
 use Rattle.ts_query.specs.declared.error.QueryError.{QueryError}
-use Rattle.ts_query.specs.declared.error.QueryError.TheVariants.{Syntax, DistanceTooLarge, TooManyNodes, LexemeTooLong, OutOfMemory}
+use Rattle.ts_query.specs.declared.error.QueryError.TheVariants.{Syntax, DistanceTooLarge, TooManyNodes, LexemeTooLong}
+use Rattle.ts_query.specs.declared.error.QueryError.TheVariants.{OutOfMemory}
 use Rattle.ts_base.specs.declared.Weights.{Weights}
 use Rattle.ts_config.specs.Mappings.{Mapping}
 use Rattle.ts_config.specs.Known.{Known}
@@ -12,21 +13,29 @@ use Rattle.ts_make.specs.Groups.{Group}
 use Rattle.ts_make.specs.Trees.{phrase_of}
 use Rattle.ts_make.specs.Made.{HasGroups, sketched}
 use Rattle.ts_make.specs.Removal.{Sketch, sketch_nodes, Cleaned, clean}
+use Rattle.ts_make.specs.declared.maker.Link.{Link}
+use Rattle.ts_make.specs.declared.maker.Link.TheVariants.{And, Or, Phrase}
 use Rattle.ts_make.specs.declared.maker.Part.{Part}
 use Rattle.ts_make.specs.declared.maker.QueryMaker.{QueryMaker}
+
+-- the operator that a link is
+abbrev pub link_joint : Link → Joint
+link_joint And = and_joint
+link_joint Or = or_joint
+link_joint (Phrase n) = phrase_joint n
 
 abbrev pub is_left : Query → Bool
 is_left None = false
 is_left (Some t) = true
 
 -- what is kept of the part that is left of a sketch, beside its tree
-abbrev pub part_of : Cleaned → Part
-part_of c = record { there = is_left c.query; left = c.left; right = c.right }
+abbrev pub kept_part : Cleaned → Part
+kept_part c = record { there = is_left c.query; left = c.left; right = c.right }
 
 -- the parts of what is left, the last of them at the end
-abbrev pub parts_of : List Cleaned → List Part
-parts_of [] = []
-parts_of (c ∷ cs) = parts_of cs ++ part_of c ∷ []
+abbrev pub kept_parts : List Cleaned → List Part
+kept_parts [] = []
+kept_parts (c ∷ cs) = kept_parts cs ++ kept_part c ∷ []
 
 abbrev pub with_left : Query → List Tree → List Tree
 with_left None ts = ts
@@ -44,7 +53,7 @@ nodes_sketched (d ∷ ds) = nodes_sketched ds + sketch_nodes d
 -- these parts, trees and the number of removed nodes are those of the sketches
 pub record IsKept (parts : List Part) (trees : List Tree) (removed : ℕ)
     (sketches : List Sketch) : Type 0 where
-  pub has_parts : parts ≡ parts_of (map clean sketches)
+  pub has_parts : parts ≡ kept_parts (map clean sketches)
   pub has_trees : trees ≡ trees_left (map clean sketches)
   pub count : removed + nodes_among trees ≡ nodes_sketched sketches
 

@@ -4,7 +4,8 @@ ghost use Rattle.ts_query.specs.Queries.{and_joint};
 ghost use Rattle.ts_query.specs.Building.{with_joint, nodes_among};
 ghost use Rattle.ts_make.specs.Trees.{near as near_to};
 ghost use Rattle.ts_make.specs.Limits.{IsOnlyPast};
-ghost use Rattle.ts_make.specs.Inner.Writing.{way_joint, closed, closed_last, with_placed, joined_from, IsDeep, IsDeepAt};
+ghost use Rattle.ts_make.specs.Inner.Writing.{way_joint, closed, closed_last, with_placed, joined_from, IsDeep};
+ghost use Rattle.ts_make.specs.Inner.Writing.{IsDeepAt};
 
 use ts_base::Weights;
 use ts_config::Placed;

@@ -1,5 +1,7 @@
 // What holds of all groups, and of all removals of stop operands.
-ghost use Rattle.ts_make.specs.Laws.{GroupsAreOne, GroupsKeepLexemes, GroupsAreNear, WholeTreesStay, RemovalKeepsTheRest, RemovalIsSound, VectorAnswerIsOne, JoinAnswerIsOne, QueryAnswerIsOne, SketchesHaveNoFewer};
+ghost use Rattle.ts_make.specs.Laws.{GroupsAreOne, GroupsKeepLexemes, GroupsAreNear, WholeTreesStay};
+ghost use Rattle.ts_make.specs.Laws.{RemovalKeepsTheRest, RemovalIsSound, VectorAnswerIsOne, JoinAnswerIsOne};
+ghost use Rattle.ts_make.specs.Laws.{QueryAnswerIsOne, SketchesHaveNoFewer};
 
 /// Placed lexemes whose positions don't fall have exactly one list of groups.
 pub fn groups_are_one()

@@ -12,6 +12,6 @@ pub use laws::{
     removal_is_sound, removal_keeps_the_rest, sketches_have_no_fewer, vector_answer_is_one,
     whole_trees_stay,
 };
-pub use maker::QueryMaker;
-pub use queries::{phraseto_tsquery, plainto_tsquery, to_tsquery};
-pub use vector::to_tsvector;
+pub use maker::{Link, QueryMaker};
+pub use queries::{MadeQuery, phraseto_tsquery, plainto_tsquery, to_tsquery};
+pub use vector::{MadeVector, to_tsvector};

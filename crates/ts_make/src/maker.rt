@@ -1,6 +1,6 @@
 // Queries that are made of texts, without their stop operands.
 ghost use Rattle.std.specs.Prelude.{◌≡◌, ◌≢◌, ◌≤◌, ◌<◌, ◌+◌, ℕ, List, [], ◌∷◌, ◌++◌, length, vec_len, OnOk, IfErr};
-ghost use Rattle.ts_query.specs.Queries.{or_joint, and_joint, phrase_joint, IsNear, IsSound};
+ghost use Rattle.ts_query.specs.Queries.{and_joint, phrase_joint, IsNear, IsSound};
 ghost use Rattle.ts_query.specs.Building.{with_joint, nodes_among, AreSound};
 ghost use Rattle.ts_config.specs.Known.{IsWithin};
 ghost use Rattle.ts_make.specs.Groups.{Group, AreGroups};
@@ -8,8 +8,8 @@ ghost use Rattle.ts_make.specs.Trees.{phrase_of};
 ghost use Rattle.ts_make.specs.Removal.{Sketch, stop, not_sketch, joint_sketch, query_left};
 ghost use Rattle.ts_make.specs.Limits.{IsOnlyPast};
 ghost use Rattle.ts_make.specs.Made.{HasGroups, sketched};
-ghost use Rattle.ts_make.specs.Making.{nodes_sketched, IsMaking, OperandFails};
-ghost use Rattle.ts_make.specs.Inner.Making.{link_joint, part as part_value, joined_part, kept_joint};
+ghost use Rattle.ts_make.specs.Making.{link_joint, nodes_sketched, IsMaking, OperandFails};
+ghost use Rattle.ts_make.specs.Inner.Making.{part as part_value, joined_part, kept_joint};
 
 use crate::joining::{Marks, Way, near, write_groups};
 use std::alloc::Global;
@@ -19,7 +19,7 @@ use ts_query::{NODE_LIMIT, QueryBuilder, QueryError, TsQuery};
 
 /// What joins two queries.
 #[derive(Clone, Copy, Debug)]
-enum Link {
+pub enum Link {
     /// Both hold.
     And,
     /// One of both holds.
@@ -243,49 +243,8 @@ impl QueryMaker {
         self.check()
     }
 
-    /// Joins the last two sketches by `&`.
-    pub fn and(&mut self) -> Result<(), QueryError>
-        requires { (d : Sketch) × (e : Sketch) × (ds : List Sketch)
-            × IsMaking self.old (e ∷ d ∷ ds) }
-        ensures value { OnOk result ((d e : Sketch) (ds : List Sketch)
-            → IsMaking self.old (e ∷ d ∷ ds)
-            → IsMaking self.new (joint_sketch and_joint d e ∷ ds)) }
-        ensures refused { IfErr result (λ r. (d e : Sketch) (ds : List Sketch)
-            → IsMaking self.old (e ∷ d ∷ ds)
-            → IsOnlyPast (nodes_sketched (joint_sketch and_joint d e ∷ ds)) r) }
-    {
-        self.join(Link::And)
-    }
-
-    /// Joins the last two sketches by `|`.
-    pub fn or(&mut self) -> Result<(), QueryError>
-        requires { (d : Sketch) × (e : Sketch) × (ds : List Sketch)
-            × IsMaking self.old (e ∷ d ∷ ds) }
-        ensures value { OnOk result ((d e : Sketch) (ds : List Sketch)
-            → IsMaking self.old (e ∷ d ∷ ds) → IsMaking self.new (joint_sketch or_joint d e ∷ ds)) }
-        ensures refused { IfErr result (λ r. (d e : Sketch) (ds : List Sketch)
-            → IsMaking self.old (e ∷ d ∷ ds)
-            → IsOnlyPast (nodes_sketched (joint_sketch or_joint d e ∷ ds)) r) }
-    {
-        self.join(Link::Or)
-    }
-
-    /// Joins the last two sketches by a phrase operator.
-    pub fn phrase(&mut self, distance: u16) -> Result<(), QueryError>
-        requires { (d : Sketch) × (e : Sketch) × (ds : List Sketch)
-            × IsMaking self.old (e ∷ d ∷ ds) }
-        ensures value { OnOk result ((d e : Sketch) (ds : List Sketch)
-            → IsMaking self.old (e ∷ d ∷ ds)
-            → IsMaking self.new (joint_sketch (phrase_joint distance) d e ∷ ds)) }
-        ensures refused { IfErr result (λ r. (d e : Sketch) (ds : List Sketch)
-            → IsMaking self.old (e ∷ d ∷ ds)
-            → IsOnlyPast (nodes_sketched (joint_sketch (phrase_joint distance) d e ∷ ds)) r) }
-    {
-        self.join(Link::Phrase(distance))
-    }
-
-    /// Joins the last two sketches.
-    fn join(&mut self, link: Link) -> Result<(), QueryError>
+    /// Joins the last two sketches by an operator.
+    pub fn join(&mut self, link: Link) -> Result<(), QueryError>
         requires { (d : Sketch) × (e : Sketch) × (ds : List Sketch)
             × IsMaking self.old (e ∷ d ∷ ds) }
         ensures value { OnOk result ((d e : Sketch) (ds : List Sketch)

@@ -2,24 +2,23 @@
 ghost use Rattle.std.specs.Prelude.{◌≡◌, ◌≤◌, IfOk, IfErr};
 ghost use Rattle.ts_query.specs.Queries.{IsSound};
 ghost use Rattle.ts_config.specs.Known.{IsWithin};
-ghost use Rattle.ts_make.specs.Made.{IsMadeOf, RemakingFails, IsMadeQuery, MadeQueryFails, IsJoined, JoinedFails, IsPlainQuery, PlainQueryFails, IsPhraseQuery, PhraseQueryFails};
+ghost use Rattle.ts_make.specs.Made.{IsMadeOf, RemakingFails, IsMadeQuery, MadeQueryFails, IsJoined, JoinedFails};
+ghost use Rattle.ts_make.specs.Made.{IsPlainQuery, PlainQueryFails, IsPhraseQuery, PhraseQueryFails};
 ghost use Rattle.ts_make.specs.Inner.Joins.{groups_query};
 
 use crate::joining::{Marks, Way, write_groups};
-use crate::maker::QueryMaker;
+use crate::maker::{Link, QueryMaker};
 use std::alloc::Global;
 use ts_base::Weights;
 use ts_config::{Config, Configs};
 use ts_query::{Node, QueryBuilder, QueryError, TsQuery};
 
+/// The query that a text is made, or why there is none.
+pub type MadeQuery = Result<TsQuery, QueryError>;
+
 /// The query whose operands are texts, each made by a configuration of these, without its stop
 /// operands.
-fn remade(
-    alloc: Global,
-    configs: &Configs,
-    config: &Config,
-    query: &TsQuery,
-) -> Result<TsQuery, QueryError>
+fn remade(alloc: Global, configs: &Configs, config: &Config, query: &TsQuery) -> MadeQuery
     requires { IsWithin configs.now config.now }
     ensures value { IfOk result (IsMadeOf configs.now config.now query.now) }
     ensures sound { IfOk result IsSound }
@@ -43,9 +42,9 @@ fn remade(
                 )?;
             }
             Node::Not => maker.not()?,
-            Node::And => maker.and()?,
-            Node::Or => maker.or()?,
-            Node::Phrase(distance) => maker.phrase(distance)?,
+            Node::And => maker.join(Link::And)?,
+            Node::Or => maker.join(Link::Or)?,
+            Node::Phrase(distance) => maker.join(Link::Phrase(distance))?,
         }
     }
     Ok(maker.finish())
@@ -55,12 +54,7 @@ fn remade(
 /// operand is the phrase of its own text's position groups, with its weights and its mark, and
 /// operands without lexemes are removed. 32768 nodes or more are too many, counted before the
 /// removal, with one for each such operand.
-pub fn to_tsquery(
-    alloc: Global,
-    configs: &Configs,
-    config: &Config,
-    text: &str,
-) -> Result<TsQuery, QueryError>
+pub fn to_tsquery(alloc: Global, configs: &Configs, config: &Config, text: &str) -> MadeQuery
     requires { IsWithin configs.now config.now }
     ensures value { IfOk result (IsMadeQuery configs.now config.now text.now) }
     ensures sound { IfOk result IsSound }
@@ -77,7 +71,7 @@ fn groups_joined(
     config: &Config,
     text: &str,
     way: Way,
-) -> Result<TsQuery, QueryError>
+) -> MadeQuery
     requires { IsWithin configs.now config.now }
     ensures value { IfOk result (IsJoined (groups_query way) configs.now config.now text.now) }
     ensures sound { IfOk result IsSound }
@@ -96,12 +90,7 @@ fn groups_joined(
 
 /// The query for all lexemes that a text has by a configuration of these, in any order: the
 /// position groups joined by `&`.
-pub fn plainto_tsquery(
-    alloc: Global,
-    configs: &Configs,
-    config: &Config,
-    text: &str,
-) -> Result<TsQuery, QueryError>
+pub fn plainto_tsquery(alloc: Global, configs: &Configs, config: &Config, text: &str) -> MadeQuery
     requires { IsWithin configs.now config.now }
     ensures value { IfOk result (IsPlainQuery configs.now config.now text.now) }
     ensures sound { IfOk result IsSound }
@@ -112,12 +101,7 @@ pub fn plainto_tsquery(
 
 /// The query for all lexemes that a text has by a configuration of these, in its order: the
 /// position groups joined by `<N>`, N the difference of their positions, at most 16384.
-pub fn phraseto_tsquery(
-    alloc: Global,
-    configs: &Configs,
-    config: &Config,
-    text: &str,
-) -> Result<TsQuery, QueryError>
+pub fn phraseto_tsquery(alloc: Global, configs: &Configs, config: &Config, text: &str) -> MadeQuery
     requires { IsWithin configs.now config.now }
     ensures value { IfOk result (IsPhraseQuery configs.now config.now text.now) }
     ensures sound { IfOk result IsSound }

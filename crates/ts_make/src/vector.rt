@@ -39,6 +39,9 @@ fn builder_of(alloc: Global, placed: Vec<Placed>) -> Result<VectorBuilder, Alloc
     Ok(builder)
 }
 
+/// The vector that a text is made, or why there is none.
+pub type MadeVector = Result<TsVector, VectorError>;
+
 /// The vector that a text is made by a configuration of these: its placed lexemes in normal form,
 /// each position with the weight D. The mark of a prefix means nothing here.
 ///
@@ -49,12 +52,7 @@ fn builder_of(alloc: Global, placed: Vec<Placed>) -> Result<VectorBuilder, Alloc
 ///     assert_eq!(rt; vector.to_text(alloc)?.as_str(), "'cat':3 'fat':2 'the':1");
 /// }
 /// ```
-pub fn to_tsvector(
-    alloc: Global,
-    configs: &Configs,
-    config: &Config,
-    text: &str,
-) -> Result<TsVector, VectorError>
+pub fn to_tsvector(alloc: Global, configs: &Configs, config: &Config, text: &str) -> MadeVector
     requires { IsWithin configs.now config.now }
     ensures value { IfOk result (IsMadeVector configs.now config.now text.now) }
     ensures refused { IfErr result (MadeVectorFails configs.now config.now text.now) }

@@ -1,5 +1,6 @@
 // The items of a web text.
-ghost use Rattle.std.specs.Prelude.{◌≡◌, ◌≤◌, ◌<◌, ℕ, List, [], ◌∷◌, ◌++◌, length, take, drop, All, IfSome, IfNone, IsTrue, ◌↔◌, ◌≢◌};
+ghost use Rattle.std.specs.Prelude.{◌≡◌, ◌≤◌, ◌<◌, ℕ, List, [], ◌∷◌, ◌++◌, length, take, drop, All, IfSome, IfNone};
+ghost use Rattle.std.specs.Prelude.{IsTrue, ◌↔◌, ◌≢◌};
 ghost use Rattle.ts_base.specs.Bytes.{IsWhite, BeginsWithout};
 ghost use Rattle.ts_websearch.specs.Items.{WebItem, IsRowByte, QuotedText, RowText, AreItems};
 ghost use Rattle.ts_websearch.specs.Rows.{IsOr};

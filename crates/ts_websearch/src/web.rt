@@ -15,7 +15,7 @@ use crate::items::{Piece, is_or, next_piece};
 use std::alloc::Global;
 use ts_base::Weights;
 use ts_config::{Config, Configs};
-use ts_make::QueryMaker;
+use ts_make::{Link, QueryMaker};
 use ts_query::{QueryError, TsQuery};
 
 /// The text that an item asks for, and whether it is negated.
@@ -92,7 +92,7 @@ impl WebMaker {
     {
         make_piece(&mut self.maker, alloc, configs, config, piece)?;
         if self.row {
-            self.maker.and()?;
+            self.maker.join(Link::And)?;
         }
         self.row = true;
         Ok(())
@@ -112,7 +112,7 @@ impl WebMaker {
             → EndingFails known mapping ended row e) }
     {
         if self.rows && self.row {
-            self.maker.or()?;
+            self.maker.join(Link::Or)?;
         }
         self.rows |= self.row;
         self.row = false;

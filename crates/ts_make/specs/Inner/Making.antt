@@ -8,13 +8,6 @@ use Rattle.ts_make.specs.Made.{IsSketched}
 use Rattle.ts_make.specs.Removal.{Sketch}
 pub use Rattle.ts_make.specs.Making.{with_left, nodes_sketched, IsMaking, OperandFails}
 use Rattle.ts_make.specs.declared.maker.Part.{Part}
-use Rattle.ts_make.specs.declared.maker.Link.{Link}
-use Rattle.ts_make.specs.declared.maker.Link.TheVariants.{And, Or, Phrase}
-
-abbrev pub link_joint : Link → Joint
-link_joint And = and_joint
-link_joint Or = or_joint
-link_joint (Phrase n) = phrase_joint n
 
 abbrev pub part : Bool → ℕ → ℕ → Part
 part there left right = record { there = there; left = near left; right = near right }

@@ -6,7 +6,7 @@ use Rattle.ts_query.specs.declared.query.Node.TheVariants.{Leaf, Not, And, Or, P
 use Rattle.ts_query.proofs.Built.{next_node}
 use Rattle.ts_make.specs.Made.{IsMadeOf}
 use Rattle.ts_make.proofs.Remaking as remaking
-use Rattle.ts_make.proofs.queries.remade.Goals.{in-Leaf+in_ok-operand-in-Leaf, in-Not+in_ok-not-in-Not, in-And+in_ok-and-in-And, in-Or+in_ok-or-in-Or, in-Phrase+in_ok-phrase-in-Phrase}
+use Rattle.ts_make.proofs.queries.remade.Goals.{in-Leaf+in_ok-operand-in-Leaf, in-Not+in_ok-not-in-Not, in-And+in_ok-join-in-And, in-Or+in_ok-join-in-Or, in-Phrase+in_ok-join-in-Phrase}
 use Rattle.ts_make.proofs.queries.remade.Goals as goal
 
 pub loop-node-init : goal.loop-node-init
@@ -104,8 +104,8 @@ returns-in_err-not-in-Not-clause-refused c =
     c.in_err-not-in-Not.ensures.refused)
 
 -- ── it is an operator ──
-pub and-requires : goal.and-requires
-and-requires c =
+pub join-requires : goal.join-requires
+join-requires c =
     let e =
     next_node c.nodes-node-items.result.now c.loop-node.node-index And c.loop-node-test.true
     c.in-And.is in
@@ -114,8 +114,8 @@ and-requires c =
     c.loop-node.maker c.loop-node.next _ _ c.loop-node.invariant e in
     (n.first_sketch, n.second_sketch, n.sketches, n.making)
 
-pub or-requires : goal.or-requires
-or-requires c =
+pub join-requires-in-Or : goal.join-requires-in-Or
+join-requires-in-Or c =
     let e =
     next_node c.nodes-node-items.result.now c.loop-node.node-index Or c.loop-node-test.true
     c.in-Or.is in
@@ -124,8 +124,8 @@ or-requires c =
     c.loop-node.maker c.loop-node.next _ _ c.loop-node.invariant e in
     (n.first_sketch, n.second_sketch, n.sketches, n.making)
 
-pub phrase-requires : goal.phrase-requires
-phrase-requires c =
+pub join-requires-in-Phrase : goal.join-requires-in-Phrase
+join-requires-in-Phrase c =
     let e =
     next_node c.nodes-node-items.result.now c.loop-node.node-index
     (Phrase c.in-Phrase.distance) c.loop-node-test.true c.in-Phrase.is in
@@ -135,11 +135,11 @@ phrase-requires c =
     c.loop-node.invariant e in
     (n.first_sketch, n.second_sketch, n.sketches, n.making)
 
-pub returns-in_err-and-in-And-clause-refused : goal.returns-in_err-and-in-And-clause-refused
-returns-in_err-and-in-And-clause-refused c =
+pub returns-in_err-join-in-And-clause-refused : goal.returns-in_err-join-in-And-clause-refused
+returns-in_err-join-in-And-clause-refused c =
     let p =
-    err_from_is_err_and c.from_residual-in_err-and-in-And.result
-    c.from_residual-in_err-and-in-And.ensures.1 in
+    err_from_is_err_and c.from_residual-in_err-join-in-And.result
+    c.from_residual-in_err-join-in-And.ensures.1 in
     let e =
     next_node c.nodes-node-items.result.now c.loop-node.node-index And c.loop-node-test.true
     c.in-And.is in
@@ -147,14 +147,14 @@ returns-in_err-and-in-And-clause-refused c =
     remaking.next_joint c.args.configs.now c.args.config.now and_joint c.args.query.now
     c.loop-node.maker c.loop-node.next _ _ c.loop-node.invariant e in
     rw (p.1, p.2) (remaking.joint_refused c.args.configs.now c.args.config.now and_joint
-    c.args.query.now c.loop-node.maker c.loop-node.next _ n c.in_err-and-in-And.field-0.0
-    c.in_err-and-in-And.ensures.refused)
+    c.args.query.now c.loop-node.maker c.loop-node.next _ n c.in_err-join-in-And.field-0.0
+    c.in_err-join-in-And.ensures.refused)
 
-pub returns-in_err-or-in-Or-clause-refused : goal.returns-in_err-or-in-Or-clause-refused
-returns-in_err-or-in-Or-clause-refused c =
+pub returns-in_err-join-in-Or-clause-refused : goal.returns-in_err-join-in-Or-clause-refused
+returns-in_err-join-in-Or-clause-refused c =
     let p =
-    err_from_is_err_and c.from_residual-in_err-or-in-Or.result
-    c.from_residual-in_err-or-in-Or.ensures.1 in
+    err_from_is_err_and c.from_residual-in_err-join-in-Or.result
+    c.from_residual-in_err-join-in-Or.ensures.1 in
     let e =
     next_node c.nodes-node-items.result.now c.loop-node.node-index Or c.loop-node-test.true
     c.in-Or.is in
@@ -162,15 +162,15 @@ returns-in_err-or-in-Or-clause-refused c =
     remaking.next_joint c.args.configs.now c.args.config.now or_joint c.args.query.now
     c.loop-node.maker c.loop-node.next _ _ c.loop-node.invariant e in
     rw (p.1, p.2) (remaking.joint_refused c.args.configs.now c.args.config.now or_joint
-    c.args.query.now c.loop-node.maker c.loop-node.next _ n c.in_err-or-in-Or.field-0.0
-    c.in_err-or-in-Or.ensures.refused)
+    c.args.query.now c.loop-node.maker c.loop-node.next _ n c.in_err-join-in-Or.field-0.0
+    c.in_err-join-in-Or.ensures.refused)
 
-pub returns-in_err-phrase-in-Phrase-clause-refused :
-    goal.returns-in_err-phrase-in-Phrase-clause-refused
-returns-in_err-phrase-in-Phrase-clause-refused c =
+pub returns-in_err-join-in-Phrase-clause-refused :
+    goal.returns-in_err-join-in-Phrase-clause-refused
+returns-in_err-join-in-Phrase-clause-refused c =
     let p =
-    err_from_is_err_and c.from_residual-in_err-phrase-in-Phrase.result
-    c.from_residual-in_err-phrase-in-Phrase.ensures.1 in
+    err_from_is_err_and c.from_residual-in_err-join-in-Phrase.result
+    c.from_residual-in_err-join-in-Phrase.ensures.1 in
     let e =
     next_node c.nodes-node-items.result.now c.loop-node.node-index
     (Phrase c.in-Phrase.distance) c.loop-node-test.true c.in-Phrase.is in
@@ -181,8 +181,8 @@ returns-in_err-phrase-in-Phrase-clause-refused c =
     rw (p.1, p.2)
     (remaking.joint_refused c.args.configs.now c.args.config.now
     (phrase_joint c.in-Phrase.distance) c.args.query.now c.loop-node.maker c.loop-node.next _ n
-    c.in_err-phrase-in-Phrase.field-0.0
-    c.in_err-phrase-in-Phrase.ensures.refused)
+    c.in_err-join-in-Phrase.field-0.0
+    c.in_err-join-in-Phrase.ensures.refused)
 
 -- ── node by node ──
 pub loop-node-preserved : goal.loop-node-preserved
@@ -213,27 +213,27 @@ loop-node-preserved c =
           remaking.remaking_to k m q w.not.new.self _ _ _ _ w.maker-is w.next-is
           (remaking.not_made k m q c.loop-node.maker w.not.new.self c.loop-node.next _ n
           w.in_ok-not-in-Not.ensures.value))
-      | in-And+in_ok-and-in-And w ↦
+      | in-And+in_ok-join-in-And w ↦
           (let n = remaking.next_joint k m and_joint q c.loop-node.maker c.loop-node.next _ _
           c.loop-node.invariant (node And c.loop-node-test.true w.in-And.is) in
-          remaking.remaking_to k m q w.and.new.self _ _ _ _ w.maker-is w.next-is
-          (remaking.joint_made k m and_joint q c.loop-node.maker w.and.new.self c.loop-node.next _ n
-          w.in_ok-and-in-And.ensures.value))
-      | in-Or+in_ok-or-in-Or w ↦
+          remaking.remaking_to k m q w.join.new.self _ _ _ _ w.maker-is w.next-is
+          (remaking.joint_made k m and_joint q c.loop-node.maker w.join.new.self c.loop-node.next _ n
+          w.in_ok-join-in-And.ensures.value))
+      | in-Or+in_ok-join-in-Or w ↦
           (let n = remaking.next_joint k m or_joint q c.loop-node.maker c.loop-node.next _ _
           c.loop-node.invariant (node Or c.loop-node-test.true w.in-Or.is) in
-          remaking.remaking_to k m q w.or.new.self _ _ _ _ w.maker-is w.next-is
-          (remaking.joint_made k m or_joint q c.loop-node.maker w.or.new.self c.loop-node.next _ n
-          w.in_ok-or-in-Or.ensures.value))
-      | in-Phrase+in_ok-phrase-in-Phrase w ↦
+          remaking.remaking_to k m q w.join-in-Or.new.self _ _ _ _ w.maker-is w.next-is
+          (remaking.joint_made k m or_joint q c.loop-node.maker w.join-in-Or.new.self c.loop-node.next _ n
+          w.in_ok-join-in-Or.ensures.value))
+      | in-Phrase+in_ok-join-in-Phrase w ↦
           (let n = remaking.next_joint k m
           (phrase_joint w.in-Phrase.distance) q c.loop-node.maker c.loop-node.next _ _
           c.loop-node.invariant (node
           (Phrase w.in-Phrase.distance) c.loop-node-test.true w.in-Phrase.is) in
-          remaking.remaking_to k m q w.phrase.new.self _ _ _ _ w.maker-is w.next-is
+          remaking.remaking_to k m q w.join-in-Phrase.new.self _ _ _ _ w.maker-is w.next-is
           (remaking.joint_made k m
-          (phrase_joint w.in-Phrase.distance) q c.loop-node.maker w.phrase.new.self c.loop-node.next
-          _ n w.in_ok-phrase-in-Phrase.ensures.value))
+          (phrase_joint w.in-Phrase.distance) q c.loop-node.maker w.join-in-Phrase.new.self c.loop-node.next
+          _ n w.in_ok-join-in-Phrase.ensures.value))
     ]
 
 -- ── the end ──

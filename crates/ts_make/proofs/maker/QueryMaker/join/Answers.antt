@@ -1,5 +1,5 @@
 use Rattle.std.proofs.Common.{◌≡◌, ◌&&◌, false}
-use Rattle.ts_make.specs.Inner.Making.{link_joint}
+use Rattle.ts_make.specs.Making.{link_joint}
 use Rattle.ts_make.proofs.Operators.{first_gone, second_gone, gone_value}
 use Rattle.ts_make.proofs.maker.QueryMaker.join.Goals.{else-x-via-then-x+else-y, else-x-via-else-x}
 use Rattle.ts_make.proofs.maker.QueryMaker.join.Goals as goal
