@@ -10,7 +10,7 @@ use Rattle.ts_config.specs.Rules.{Rules, simple_rules, synonym_rules, porter_rul
 use Rattle.ts_config.specs.Mappings.{Mapping, list_for}
 use Rattle.ts_config.specs.Known.{NamedRules, Known}
 use Rattle.ts_config.specs.Answers.{word_of, asked_for, answer_of, answer_at, or_answer, first_answer, token_answer}
-use Rattle.ts_config.specs.Parts.{Gives, GivesAny, Decides, AreParts, no_part, part, IsWordWise, HasNoThesaurus, TokensAreParts}
+use Rattle.ts_config.specs.Parts.{GivesBy, GivesAny, Decides, AreParts, no_part, part, IsWordWise, HasNoThesaurus, TokensAreParts}
 
 or_known : (a b : WordAnswer) → a ≢ unknown_word → or_answer a b ≡ a
 or_known unknown_word b n = absurd (n refl)
@@ -26,7 +26,7 @@ module _ (known : Known) (m : Mapping) (text : List ℕ) where
   given_plain None p t ts a r w h = h
   given_plain (Some d) p t ts a r w h = by d.rules w h
     where
-      by : (rules : Rules) → is_thesaurus rules ≡ false → Gives known m text rules p t ts a r → (a ≡ answer_by rules (word_of text t)) × (r ≡ ts)
+      by : (rules : Rules) → is_thesaurus rules ≡ false → GivesBy known m text rules p t ts a r → (a ≡ answer_by rules (word_of text t)) × (r ≡ ts)
       by (simple_rules stops accept) e k = k
       by (synonym_rules kept) e k = k
       by (porter_rules stops) e k = k
@@ -36,7 +36,7 @@ module _ (known : Known) (m : Mapping) (text : List ℕ) where
   plain_given None p t ts w = (refl, refl)
   plain_given (Some d) p t ts w = by d.rules w
     where
-      by : (rules : Rules) → is_thesaurus rules ≡ false → Gives known m text rules p t ts (answer_by rules (word_of text t)) ts
+      by : (rules : Rules) → is_thesaurus rules ≡ false → GivesBy known m text rules p t ts (answer_by rules (word_of text t)) ts
       by (simple_rules stops accept) e = (refl, refl)
       by (synonym_rules kept) e = (refl, refl)
       by (porter_rules stops) e = (refl, refl)

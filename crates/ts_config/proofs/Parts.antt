@@ -15,7 +15,7 @@ use Rattle.ts_config.specs.Mappings.{Mapping}
 use Rattle.ts_config.specs.Known.{NamedRules, Known, rules_named}
 use Rattle.ts_config.specs.Answers.{word_of, asked_for}
 use Rattle.ts_config.specs.Phrases.{NoPhrase, GivesPhrase}
-use Rattle.ts_config.specs.Parts.{named_answer, Gives, GivesAny, GivesAt, Decides, AreParts, no_part, part}
+use Rattle.ts_config.specs.Parts.{named_answer, GivesBy, GivesAny, GivesAt, Decides, AreParts, no_part, part}
 use Rattle.ts_config.proofs.Seen.{behind_within}
 use Rattle.ts_config.proofs.Replacing.{phrase_one, no_sub}
 
@@ -40,7 +40,7 @@ module _ (known : Known) (m : Mapping) (text : List ℕ) where
   gives_same None p t ts a b r s (e, f) (g, h) = (e ∙ sym g, f ∙ sym h)
   gives_same (Some d) p t ts a b r s x y = by d.rules x y
     where
-      by : (rules : Rules) → Gives known m text rules p t ts a r → Gives known m text rules p t ts b s → Same a b r s
+      by : (rules : Rules) → GivesBy known m text rules p t ts a r → GivesBy known m text rules p t ts b s → Same a b r s
       by (simple_rules stops accept) (e, f) (g, h) = (e ∙ sym g, f ∙ sym h)
       by (synonym_rules kept) (e, f) (g, h) = (e ∙ sym g, f ∙ sym h)
       by (porter_rules stops) (e, f) (g, h) = (e ∙ sym g, f ∙ sym h)
@@ -68,7 +68,7 @@ module _ (known : Known) (m : Mapping) (text : List ℕ) where
   gives_left None p t ts a r (e, f) = ([], sym f)
   gives_left (Some d) p t ts a r x = by d.rules x
     where
-      by : (rules : Rules) → Gives known m text rules p t ts a r → IsLeft ts r
+      by : (rules : Rules) → GivesBy known m text rules p t ts a r → IsLeft ts r
       by (simple_rules stops accept) (e, f) = ([], sym f)
       by (synonym_rules kept) (e, f) = ([], sym f)
       by (porter_rules stops) (e, f) = ([], sym f)
@@ -85,7 +85,7 @@ module _ (known : Known) (m : Mapping) (text : List ℕ) where
   unknown_left None p t ts r (e, f) = f
   unknown_left (Some d) p t ts r x = by d.rules x
     where
-      by : (rules : Rules) → Gives known m text rules p t ts unknown_word r → r ≡ ts
+      by : (rules : Rules) → GivesBy known m text rules p t ts unknown_word r → r ≡ ts
       by (simple_rules stops accept) (e, f) = f
       by (synonym_rules kept) (e, f) = f
       by (porter_rules stops) (e, f) = f
@@ -98,11 +98,11 @@ module _ (known : Known) (m : Mapping) (text : List ℕ) where
   nobody_gives (Some d) p t ts e = let z : ⊥ = cc in absurd z
 
   pub rules_give : (o : Option NamedRules) (rules : Rules) (p : ℕ) (t : Token) (ts : List Token) (a : WordAnswer) (r : List Token) → Some rules ≡ option_map (λ d. d.rules) o
-      → Gives known m text rules p t ts a r → GivesAny known m text o p t ts a r
+      → GivesBy known m text rules p t ts a r → GivesAny known m text o p t ts a r
   rules_give None rules p t ts a r e h = let z : ⊥ = cc in absurd z
-  rules_give (Some d) rules p t ts a r e h = let same : rules ≡ d.rules = cc in subst (λ q. Gives known m text q p t ts a r) same h
+  rules_give (Some d) rules p t ts a r e h = let same : rules ≡ d.rules = cc in subst (λ q. GivesBy known m text q p t ts a r) same h
 
-  pub word_gives : (rules : Rules) (p : ℕ) (t : Token) (ts : List Token) (a : WordAnswer) → is_thesaurus rules ≡ false → a ≡ answer_by rules (word_of text t) → Gives known m text rules p t ts a ts
+  pub word_gives : (rules : Rules) (p : ℕ) (t : Token) (ts : List Token) (a : WordAnswer) → is_thesaurus rules ≡ false → a ≡ answer_by rules (word_of text t) → GivesBy known m text rules p t ts a ts
   word_gives (simple_rules stops accept) p t ts a n e = (e, refl)
   word_gives (synonym_rules kept) p t ts a n e = (e, refl)
   word_gives (porter_rules stops) p t ts a n e = (e, refl)

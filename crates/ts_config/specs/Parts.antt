@@ -20,16 +20,16 @@ module _ (known : Known) (mapping : Mapping) (text : List ℕ) where
   GivesWord rules t ts given rest = (given ≡ answer_by rules (word_of text t)) × (rest ≡ ts)
 
   -- what a dictionary with these rules, at this place, gives of the token t, which ts follow
-  abbrev pub Gives : Rules → ℕ → Token → List Token → WordAnswer → List Token → Type 0
-  Gives (simple_rules stops accept) place t ts given rest = GivesWord (simple_rules stops accept) t ts given rest
-  Gives (synonym_rules kept) place t ts given rest = GivesWord (synonym_rules kept) t ts given rest
-  Gives (porter_rules stops) place t ts given rest = GivesWord (porter_rules stops) t ts given rest
-  Gives (thesaurus_rules rules sub) place t ts given rest = GivesPhrase mapping text (named_answer (rules_named known sub)) place rules t ts given rest
+  abbrev pub GivesBy : Rules → ℕ → Token → List Token → WordAnswer → List Token → Type 0
+  GivesBy (simple_rules stops accept) place t ts given rest = GivesWord (simple_rules stops accept) t ts given rest
+  GivesBy (synonym_rules kept) place t ts given rest = GivesWord (synonym_rules kept) t ts given rest
+  GivesBy (porter_rules stops) place t ts given rest = GivesWord (porter_rules stops) t ts given rest
+  GivesBy (thesaurus_rules rules sub) place t ts given rest = GivesPhrase mapping text (named_answer (rules_named known sub)) place rules t ts given rest
 
   -- the same of a dictionary that may not be there
   abbrev pub GivesAny : Option NamedRules → ℕ → Token → List Token → WordAnswer → List Token → Type 0
   GivesAny None place t ts given rest = (given ≡ unknown_word) × (rest ≡ ts)
-  GivesAny (Some d) place t ts given rest = Gives d.rules place t ts given rest
+  GivesAny (Some d) place t ts given rest = GivesBy d.rules place t ts given rest
 
   abbrev pub GivesAt : ℕ → Token → List Token → WordAnswer → List Token → Type 0
   GivesAt place t ts given rest = GivesAny (slice_get known.dictionaries place) place t ts given rest

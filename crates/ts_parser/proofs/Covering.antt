@@ -7,7 +7,7 @@ use Rattle.ts_parser.specs.declared.kinds.TokenType.TheVariants.{Blank}
 use Rattle.ts_parser.specs.declared.iter.Token.{Token}
 use Rattle.ts_parser.specs.Kinds.{has_parts}
 use Rattle.ts_parser.specs.Words.{PartKind, ascii_part, letter_part, digit_part, IsLink}
-use Rattle.ts_parser.specs.TokenList.{token, AreParts, last_part, more_parts, Front, number, chain, run, blank, AreTokens, none, then}
+use Rattle.ts_parser.specs.TokenList.{token, AreChainParts, last_part, more_parts, Front, number, chain, run, blank, AreTokens, none, then}
 use Rattle.ts_parser.specs.Covers.{SideBySide, is_part, Covers, covered, plain, hyphened, TokensCover, TokensFew}
 use Rattle.ts_parser.proofs.KindLaws.{run_complete, whole_complete}
 use Rattle.ts_parser.proofs.Chains.{link_test}
@@ -22,7 +22,7 @@ part_is u k (digit_part _ h) = refl
 abbrev IsPart : Token → Type 0
 IsPart p = IsTrue (is_part p.kind)
 
-all_parts : (s : ℕ) (us : List (List ℕ)) (ts : List Token) → AreParts s us ts → All IsPart ts
+all_parts : (s : ℕ) (us : List (List ℕ)) (ts : List Token) → AreChainParts s us ts → All IsPart ts
 all_parts s _ _ (last_part _ u k p) = All-cons IsPart (token k s (length u)) [] (part_is u k p) (All-nil IsPart)
 all_parts s _ _ (more_parts _ u v us k ts p q) =
     All-cons IsPart (token k s (length u)) (token Blank (s + length u) 1 ∷ ts) (part_is u k p) (All-cons IsPart (token Blank (s + length u) 1) ts refl (all_parts (s + length u + 1) (v ∷ us) ts q))
@@ -31,7 +31,7 @@ move_end : (s e f : ℕ) (ts : List Token) → e ≡ f → SideBySide s ts e →
 move_end s e f ts q h = let P : ℕ → Type 0 = λ n. SideBySide s ts n in subst P q h
 
 -- the parts of a chain cover it
-parts_side : (s : ℕ) (us : List (List ℕ)) (ts : List Token) → AreParts s us ts → All IsLink us → SideBySide s ts (s + length (join_with_byte 45 us))
+parts_side : (s : ℕ) (us : List (List ℕ)) (ts : List Token) → AreChainParts s us ts → All IsLink us → SideBySide s ts (s + length (join_with_byte 45 us))
 parts_side s _ _ (last_part _ u k p) h = (refl, link_some u (link_test u (All-head IsLink u [] h)), refl)
 parts_side s _ _ (more_parts _ u v us k ts p q) h =
     let j : List ℕ = join_with_byte 45 (v ∷ us) in

@@ -11,7 +11,7 @@ use Rattle.ts_parser.specs.declared.kinds.TokenType.TheVariants.{Blank}
 use Rattle.ts_parser.specs.declared.iter.Token.{Token}
 use Rattle.ts_parser.specs.Letters.{IsWordByte, StartsWithout, is_word_byte}
 use Rattle.ts_parser.specs.Numbers.{last_byte, EndsNumber}
-use Rattle.ts_parser.specs.TokenList.{token, AreParts, last_part, more_parts, StartsForm, Front, number, chain, run, blank, AreTokens, none, then}
+use Rattle.ts_parser.specs.TokenList.{token, AreChainParts, last_part, more_parts, StartsForm, Front, number, chain, run, blank, AreTokens, none, then}
 use Rattle.ts_parser.specs.Between.{IsBetween, TokensBetween}
 use Rattle.ts_parser.proofs.ByteTests.{tells_word_byte}
 use Rattle.ts_parser.proofs.Blanks.{last_push, NoStart, next_none, move_start}
@@ -84,7 +84,7 @@ no_word_hyphen h = absurd (false≢true (sym ((let e : is_word_byte 45 ≡ false
 behind_hyphen : (before rest : List ℕ) → Apart (before ++ 45 ∷ []) rest
 behind_hyphen before rest c e w = absurd (no_word_hyphen (let k : 45 ≡ c = same_Some 45 c (sym (last_push before 45) ∙ e) in rw (← k) at w))
 
-parts_between : (text b r : List ℕ) (s : ℕ) (us : List (List ℕ)) (ts : List Token) → IsUtf8 text → text ≡ b ++ (join_with_byte 45 us ++ r) → s ≡ length b → Apart b (join_with_byte 45 us ++ r) → StartsWithout IsWordByte r → AreParts s us ts
+parts_between : (text b r : List ℕ) (s : ℕ) (us : List (List ℕ)) (ts : List Token) → IsUtf8 text → text ≡ b ++ (join_with_byte 45 us ++ r) → s ≡ length b → Apart b (join_with_byte 45 us ++ r) → StartsWithout IsWordByte r → AreChainParts s us ts
     → All (IsBetween text) ts
 parts_between text b r s _ _ u e l a h (last_part _ v k p) =
     All-cons (IsBetween text) (token k s (length v)) [] (between text b v r k s (length v) u e l refl a (apart_end (b ++ v) r h)) (All-nil (IsBetween text))
@@ -133,7 +133,7 @@ one_cut text before v r k u e a b = record {
   behind = b;
 }
 
-chain_cut : (text before v r : List ℕ) (us : List (List ℕ)) (k : TokenType) (ts : List Token) → IsUtf8 text → text ≡ before ++ (v ++ r) → Apart before (v ++ r) → v ≡ join_with_byte 45 us → StartsWithout IsWordByte r → AreParts (length before) us ts
+chain_cut : (text before v r : List ℕ) (us : List (List ℕ)) (k : TokenType) (ts : List Token) → IsUtf8 text → text ≡ before ++ (v ++ r) → Apart before (v ++ r) → v ≡ join_with_byte 45 us → StartsWithout IsWordByte r → AreChainParts (length before) us ts
     → Cut text before v r (token k (length before) (length v) ∷ ts)
 chain_cut text before v r us k ts u e a q h p =
     let b = apart_end (before ++ v) r h in

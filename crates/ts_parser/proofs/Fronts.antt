@@ -11,7 +11,7 @@ use Rattle.ts_parser.specs.Kinds.{has_parts}
 use Rattle.ts_parser.specs.Letters.{IsWordByte, is_word_byte, begins_with}
 use Rattle.ts_parser.specs.Numbers.{IsNumber, NumberAt, NoNumber, last_byte}
 use Rattle.ts_parser.specs.Words.{IsRun, RunKind, WholeKind, IsChain, NoChain}
-use Rattle.ts_parser.specs.TokenList.{token, AreParts, StartsForm, Front, number, chain, run, blank}
+use Rattle.ts_parser.specs.TokenList.{token, AreChainParts, StartsForm, Front, number, chain, run, blank}
 use Rattle.ts_parser.specs.WordForms.{begins_link, run_len, links_len, run_kind, whole_kind, word_form}
 use Rattle.ts_parser.specs.Forms.{form}
 use Rattle.ts_parser.specs.TokensOf.{word_or_blank, or_form, form_at, starts_form, blank_len, token_of, parts_from, parts_of}
@@ -127,7 +127,7 @@ link_begins (c ∷ z) h = link_begins_by (is_word_byte c) refl
 chain_begins : (z : List ℕ) → is_chain z ≡ true → begins_with is_word_byte z ≡ true
 chain_begins z h = link_begins z (and_parts (begins_link z) (nat_lt (run_len z) (links_len z)) h).0
 
-front_chain : (before v r : List ℕ) (us : List (List ℕ)) (k : TokenType) (ts : List Token) → v ≡ join_with_byte 45 us → IsChain us r → NoNumber (last_byte before) (v ++ r) → WholeKind us k → AreParts (length before) us ts
+front_chain : (before v r : List ℕ) (us : List (List ℕ)) (k : TokenType) (ts : List Token) → v ≡ join_with_byte 45 us → IsChain us r → NoNumber (last_byte before) (v ++ r) → WholeKind us k → AreChainParts (length before) us ts
     → FrontIs before v r (token k (length before) (length v) ∷ ts)
 front_chain before v r us k ts e c n w p =
     let b = last_byte before in
@@ -196,7 +196,7 @@ in_number before u f n = record {
 no_number_at : (b : Option ℕ) (u v : List ℕ) → u ≡ v → number_at b u ≡ None → NoNumber b v
 no_number_at b u v e n = no_number b v (ap (λ z. number_at b z) (sym e) ∙ n)
 
-parts_in : (n : ℕ) (us : List (List ℕ)) (r : List ℕ) → IsChain us r → AreParts n us (parts_from 0 n (join_with_byte 45 us))
+parts_in : (n : ℕ) (us : List (List ℕ)) (r : List ℕ) → IsChain us r → AreChainParts n us (parts_from 0 n (join_with_byte 45 us))
 parts_in n [] r h = absurd (let k = h.more in omega (arith, k))
 parts_in n (u ∷ us) r h = parts_sound n u us (links_test (u ∷ us) h.links)
 

@@ -5,7 +5,7 @@ use Rattle.std.proofs.lemmas.Bool.{and_parts}
 use Rattle.ts_parser.specs.declared.kinds.TokenType.TheVariants.{Blank}
 use Rattle.ts_parser.specs.declared.iter.Token.{Token}
 use Rattle.ts_parser.specs.declared.forms.Form.{Form}
-use Rattle.ts_parser.specs.TokenList.{token, AreParts, last_part, more_parts}
+use Rattle.ts_parser.specs.TokenList.{token, AreChainParts, last_part, more_parts}
 use Rattle.ts_parser.specs.Letters.{is_word_byte, is_word_letter, begins_with}
 use Rattle.ts_parser.specs.WordForms.{run_len, part_kind, part_form}
 use Rattle.ts_parser.specs.Forms.{form}
@@ -43,7 +43,7 @@ last_is s u h = ap (λ z. parts_from 0 s z) (sym (append-nil u)) ∙ part_here s
 more_is : (s : ℕ) (u z : List ℕ) → is_link u ≡ true → parts_from 0 s (u ++ 45 ∷ z) ≡ token (part_kind u) s (length u) ∷ token Blank (s + length u) 1 ∷ parts_from 0 (s + length u + 1) z
 more_is s u z h = part_here s u (45 ∷ z) (link_inner u h) (link_some u h) refl
 
-pub parts_complete : (s : ℕ) (us : List (List ℕ)) (ts : List Token) → AreParts s us ts → list_all is_link us ≡ true → parts_from 0 s (join_with_byte 45 us) ≡ ts
+pub parts_complete : (s : ℕ) (us : List (List ℕ)) (ts : List Token) → AreChainParts s us ts → list_all is_link us ≡ true → parts_from 0 s (join_with_byte 45 us) ≡ ts
 parts_complete s _ _ (last_part _ u k p) h =
     last_is s u (and_parts (is_link u) true h).0 ∙ ap (λ t. token t s (length u) ∷ []) (part_complete u k p)
 parts_complete s _ _ (more_parts _ u v us k ts p q) h =
@@ -52,13 +52,13 @@ parts_complete s _ _ (more_parts _ u v us k ts p q) h =
     ∙ ap (λ t. token t s (length u) ∷ token Blank (s + length u) 1 ∷ parts_from 0 (s + length u + 1) (join_with_byte 45 (v ∷ us))) (part_complete u k p)
     ∙ ap (λ l. token k s (length u) ∷ token Blank (s + length u) 1 ∷ l) (parts_complete (s + length u + 1) (v ∷ us) ts q a.1)
 
-pub parts_sound : (s : ℕ) (u : List ℕ) (us : List (List ℕ)) → list_all is_link (u ∷ us) ≡ true → AreParts s (u ∷ us) (parts_from 0 s (join_with_byte 45 (u ∷ us)))
+pub parts_sound : (s : ℕ) (u : List ℕ) (us : List (List ℕ)) → list_all is_link (u ∷ us) ≡ true → AreChainParts s (u ∷ us) (parts_from 0 s (join_with_byte 45 (u ∷ us)))
 parts_sound s u [] h =
     let a = (and_parts (is_link u) true h).0 in
-    let P : List Token → Type 0 = λ ts. AreParts s (u ∷ []) ts in
+    let P : List Token → Type 0 = λ ts. AreChainParts s (u ∷ []) ts in
     subst P (sym (last_is s u a)) (last_part s u (part_kind u) (part_sound u (link_inner u a)))
 parts_sound s u (v ∷ us) h =
     let a = and_parts (is_link u) (list_all is_link (v ∷ us)) h in
-    let P : List Token → Type 0 = λ ts. AreParts s (u ∷ v ∷ us) ts in
+    let P : List Token → Type 0 = λ ts. AreChainParts s (u ∷ v ∷ us) ts in
     subst P (sym (more_is s u (join_with_byte 45 (v ∷ us)) a.0))
     (more_parts s u v us (part_kind u) (parts_from 0 (s + length u + 1) (join_with_byte 45 (v ∷ us))) (part_sound u (link_inner u a.0)) (parts_sound (s + length u + 1) v us a.1))

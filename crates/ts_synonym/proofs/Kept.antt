@@ -7,7 +7,7 @@ use Rattle.std.proofs.lemmas.Slice.Eq.{bytes_eq-Decides}
 use Rattle.std.proofs.lemmas.List.Elements.{All-push}
 use Rattle.std.proofs.lemmas.List.{map-append}
 use Rattle.ts_base.specs.declared.Found.{Found}
-use Rattle.ts_synonym.specs.Synonyms.{cased, HasTwoWords, Gives, IsBadLine, IsFirstGiven, Synonyms, given_for, IsSynonymList}
+use Rattle.ts_synonym.specs.Synonyms.{cased, HasTwoWords, GivesFor, IsBadLine, IsFirstGiven, Synonyms, given_for, IsSynonymList}
 use Rattle.ts_synonym.specs.Views.{pair}
 use Rattle.ts_synonym.proofs.Said.{one_given_word, one_given, given_for_first}
 
@@ -18,7 +18,7 @@ looked_up word (e ∷ es) = ap (λ o. cond (bytes_eq word (string_bytes e.0)) (S
 
 -- the first that gives something is among the lines, or none is and it is the one after them
 pub first_more : (sensitive : Bool) (lines : List (List ℕ)) (line word : List ℕ) (found : Found) → IsFirstGiven sensitive (lines ++ line ∷ []) word found
-    → IsFirstGiven sensitive lines word found ⊎ (((other : Found) → ¬ IsFirstGiven sensitive lines word other) × Gives sensitive line word found)
+    → IsFirstGiven sensitive lines word found ⊎ (((other : Found) → ¬ IsFirstGiven sensitive lines word other) × GivesFor sensitive line word found)
 first_more sensitive [] line word found (inl g) = inr ((λ other h. h), g)
 first_more sensitive [] line word found (inr h) = absurd h.1
 first_more sensitive (l ∷ lines) line word found (inl g) = inl (inl g)
@@ -34,7 +34,7 @@ first_stays sensitive [] line word found h = absurd h
 first_stays sensitive (l ∷ lines) line word found (inl g) = inl g
 first_stays sensitive (l ∷ lines) line word found (inr h) = inr (h.0, first_stays sensitive lines line word found h.1)
 
-pub first_new : (sensitive : Bool) (lines : List (List ℕ)) (line word : List ℕ) (found : Found) → ((other : Found) → ¬ IsFirstGiven sensitive lines word other) → Gives sensitive line word found
+pub first_new : (sensitive : Bool) (lines : List (List ℕ)) (line word : List ℕ) (found : Found) → ((other : Found) → ¬ IsFirstGiven sensitive lines word other) → GivesFor sensitive line word found
     → IsFirstGiven sensitive (lines ++ line ∷ []) word found
 first_new sensitive [] line word found none g = inl g
 first_new sensitive (l ∷ lines) line word found none g =
@@ -57,7 +57,7 @@ lookup_more test (e ∷ es) x =
 
 -- the list of these lines is that of one line more, where the line gives nothing for a word that the list lacks
 pub list_stays : (sensitive : Bool) (lines : List (List ℕ)) (line : List ℕ) (kept : Synonyms) → ¬ IsBadLine line
-    → ((word : List ℕ) (found : Found) → Gives sensitive line word found → (other : Found) × (given_for kept word ≡ Some other))
+    → ((word : List ℕ) (found : Found) → GivesFor sensitive line word found → (other : Found) × (given_for kept word ≡ Some other))
     → IsSynonymList sensitive lines kept → IsSynonymList sensitive (lines ++ line ∷ []) kept
 list_stays sensitive lines line kept good says h =
     record {
@@ -73,7 +73,7 @@ list_stays sensitive lines line kept good says h =
     }
 
 module _ (sensitive : Bool) (lines : List (List ℕ)) (line key : List ℕ) (given : Found) (kept : Synonyms)
-    (gives : Gives sensitive line key given) (lacks : given_for kept key ≡ None) (h : IsSynonymList sensitive lines kept) where
+    (gives : GivesFor sensitive line key given) (lacks : given_for kept key ≡ None) (h : IsSynonymList sensitive lines kept) where
   abbrev grown : Synonyms
   grown = record { sensitive = kept.sensitive; pairs = kept.pairs ++ (key, given) ∷ [] }
 
@@ -89,7 +89,7 @@ module _ (sensitive : Bool) (lines : List (List ℕ)) (line key : List ℕ) (giv
           let is : given ≡ found = cc (all, none, t) in
           first_new sensitive lines line word found
           (λ other f. let x = (h.each word other).1 f in cc)
-          (subst (λ z. Gives sensitive line z found) (sym same) (subst (Gives sensitive line key) is gives))
+          (subst (λ z. GivesFor sensitive line z found) (sym same) (subst (GivesFor sensitive line key) is gives))
       new false t none = cc (all, none, t)
 
       there : (o : Option Found) → given_for kept word ≡ o → IsFirstGiven sensitive (lines ++ line ∷ []) word found

@@ -5,7 +5,7 @@ use Rattle.ts_base.specs.declared.Found.{Found}
 use Rattle.ts_base.specs.Bytes.{IsBlank}
 use Rattle.ts_base.specs.Words.{BeginsWithWord}
 use Rattle.ts_base.proofs.LineWords.{one_word, no_first_word}
-use Rattle.ts_synonym.specs.Synonyms.{cased, HasTwoWords, IsMarked, Gives, IsBadPair, IsBadLine}
+use Rattle.ts_synonym.specs.Synonyms.{cased, HasTwoWords, IsMarked, GivesFor, IsBadPair, IsBadLine}
 
 -- a line has one pair of first words
 pub one_pair : (line w r v s : List ℕ) → HasTwoWords line w r → HasTwoWords line v s → (w ≡ v) × (r ≡ s)
@@ -44,13 +44,13 @@ one_mark r s t false true h k = absurd (h.1 t k)
 one_mark r s t false false h k = (sym h.0 ∙ k.0, refl)
 
 -- the words that a line gives something for are one
-pub one_given_word : (sensitive : Bool) (line v w : List ℕ) (f g : Found) → Gives sensitive line v f → Gives sensitive line w g → v ≡ w
+pub one_given_word : (sensitive : Bool) (line v w : List ℕ) (f g : Found) → GivesFor sensitive line v f → GivesFor sensitive line w g → v ≡ w
 one_given_word sensitive line v w f g h k =
     let words = one_pair line h.written h.replacement k.written k.replacement h.words k.words in
     h.word_cased ∙ ap (cased sensitive) words.0 ∙ sym k.word_cased
 
 -- what a line gives is one
-pub one_given : (sensitive : Bool) (line v w : List ℕ) (f g : Found) → Gives sensitive line v f → Gives sensitive line w g → f ≡ g
+pub one_given : (sensitive : Bool) (line v w : List ℕ) (f g : Found) → GivesFor sensitive line v f → GivesFor sensitive line w g → f ≡ g
 one_given sensitive line v w f g h k =
     let words = one_pair line h.written h.replacement k.written k.replacement h.words k.words in
     let marks = one_mark k.replacement h.text k.text f.prefix g.prefix (subst (λ z. IsMarked z h.text f.prefix) words.1 h.marked) k.marked in
@@ -65,7 +65,7 @@ no_bad line w r t ne b =
     ne (subst (λ z. IsBadPair z r) same.0 (subst (IsBadPair b.word) same.1 b.why))
 
 -- whatever a line of these words gives, it gives for the first of them
-pub given_for_first : (sensitive : Bool) (line w r word : List ℕ) (found : Found) → HasTwoWords line w r → Gives sensitive line word found → word ≡ cased sensitive w
+pub given_for_first : (sensitive : Bool) (line w r word : List ℕ) (found : Found) → HasTwoWords line w r → GivesFor sensitive line word found → word ≡ cased sensitive w
 given_for_first sensitive line w r word found t g =
     let same = one_pair line g.written g.replacement w r g.words t in
     g.word_cased ∙ ap (cased sensitive) same.0

@@ -25,7 +25,7 @@ IsMarked replacement text true = replacement ≡ text ++ 42 ∷ []
 IsMarked replacement text false = (replacement ≡ text) × ((front : List ℕ) → replacement ≢ front ++ 42 ∷ [])
 
 -- the line gives this for the word
-pub record Gives (sensitive : Bool) (line word : List ℕ) (found : Found) : Type 0 where
+pub record GivesFor (sensitive : Bool) (line word : List ℕ) (found : Found) : Type 0 where
   pub written : List ℕ
   pub replacement : List ℕ
   pub text : List ℕ
@@ -50,8 +50,8 @@ pub record IsBadLine (line : List ℕ) : Type 0 where
 abbrev pub IsFirstGiven : Bool → List (List ℕ) → List ℕ → Found → Type 0
 IsFirstGiven sensitive [] word found = ⊥
 IsFirstGiven sensitive (line ∷ lines) word found =
-    Gives sensitive line word found
-    ⊎ (((other : Found) → ¬ Gives sensitive line word other) × IsFirstGiven sensitive lines word found)
+    GivesFor sensitive line word found
+    ⊎ (((other : Found) → ¬ GivesFor sensitive line word other) × IsFirstGiven sensitive lines word found)
 
 -- a list as it is kept: whether it is case sensitive, and its words, each with what stands for it
 pub record Synonyms : Type 0 where

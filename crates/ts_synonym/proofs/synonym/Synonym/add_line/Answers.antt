@@ -2,7 +2,7 @@ use Rattle.std.proofs.Common.{◌≡◌, true, ◌++◌, ◌∷◌, [], sym, ap,
 use Rattle.std.specs.Prelude.{string_bytes, map}
 use Rattle.indexmap.proofs.CallerLemmas.{insert_entry-new}
 use Rattle.ts_base.specs.declared.Found.{Found}
-use Rattle.ts_synonym.specs.Synonyms.{cased, given_for, IsBadLine, IsSynonymList, Synonyms, Gives}
+use Rattle.ts_synonym.specs.Synonyms.{cased, given_for, IsBadLine, IsSynonymList, Synonyms, GivesFor}
 use Rattle.ts_synonym.specs.Views.{pair}
 use Rattle.ts_synonym.proofs.Said.{no_bad}
 use Rattle.ts_synonym.proofs.Kept.{looked_up, fewer_words, fewer_stays, present_stays, none_of, view_more, list_grows}
@@ -53,7 +53,7 @@ returns-clause-taken c =
       fit = good;
       each = λ sensitive lines h.
           let before : IsSynonymList sensitive lines kept = subst (IsSynonymList sensitive lines) (sym c.self.view_is) h in
-          let gives : Gives sensitive c.args.line.now (string_bytes key) given = record {
+          let gives : GivesFor sensitive c.args.line.now (string_bytes key) given = record {
             written = c.in-Some.word.now;
             replacement = c.in-Some.replacement.now;
             text = c.without_mark-prefix.result.0.now;
