@@ -7,4 +7,5 @@ pub mod Seen
 pub mod BitSets
 pub mod Heights
 pub mod Phrases
+pub mod Setting
 pub mod Weighing

@@ -1,15 +1,15 @@
 // Which entries of an encoded vector an operand names, and where they are.
-ghost use Rattle.std.specs.Prelude.{◌≡◌, ℕ, ◌+◌, ◌*◌, ◌<◌, ◌≤◌, ◌==◌, ◌&&◌, ◌||◌, true, false, Contains, length, slice_index_or, vec_len};
-ghost use Rattle.std.specs.List.{list_any, flat_map, slice_range};
+ghost use Rattle.std.specs.Prelude.{◌≡◌, ℕ, ◌+◌, ◌<◌, ◌≤◌, ◌==◌, ◌&&◌, true, false, Contains, length, slice_index_or, vec_len};
+ghost use Rattle.std.specs.List.{flat_map};
 ghost use Rattle.std.specs.declared.cmp.Ordering.TheVariants.{Less, Equal, Greater};
 ghost use Rattle.ts_base.specs.Lexemes.{IsBefore};
 ghost use Rattle.ts_base.specs.Vectors.{Position as PlaceOf, Entry, IsNormal};
 ghost use Rattle.ts_match.specs.Meaning.{asks_for, fits as fits_weight, names as names_lexeme, is_met, is_stripped as stripped_vector};
 ghost use Rattle.ts_match.specs.Inner.Ranges.{NamesRange, stands_at};
-ghost use Rattle.ts_match.specs.Inner.BitSets.{bit_value, IsWide};
+ghost use Rattle.ts_match.specs.Inner.Setting.{CanSet, HasSet};
 
-use crate::bit_sets::{BitSet, WORD};
-use crate::layout::set_position;
+use crate::bit_sets::BitSet;
+use crate::layout::{Move, set_position};
 use crate::ranges::{EntryRange, FARTHEST, any_weight, asked, begins_with, fits};
 use std::cmp::Ordering;
 use ts_base::{LAST_POSITION, Position, Weights};
@@ -141,27 +141,19 @@ pub fn count_positions(vector: &VectorBytes, found: EntryRange) -> usize {
     count
 }
 
-/// Lets a bit set be true also at each position of a fitting weight that the found entries have, moved by `by`.
+/// Lets a bit set be true also at each position of a fitting weight that the found entries have, moved.
 pub fn set_found(
     bits: &mut BitSet,
     count: usize,
     vector: &VectorBytes,
     found: EntryRange,
-    weights: Weights,
-    by: usize,
+    how: Move,
 )
-    requires wide { IsWide count bits.old }
-    requires near { by ≤ FARTHEST }
-    requires end { found.end ≤ length vector.now }
-    requires within { (i : ℕ) (e : Entry) (p : PlaceOf) → found.first ≤ i → i < found.end
-        → Contains (slice_index_or vector.now i e).positions p → p.at + by < WORD * count }
-    ensures value { (j : ℕ) → bit_value count bits.new j
-        ≡ (bit_value count bits.old j || list_any (λ e. list_any (λ p. (j == p.at + by)
-        && fits_weight weights p.weight) e.positions) (slice_range vector.now found.first
-        found.end)) }
+    requires { CanSet count bits.old vector.now found how.by }
+    ensures value { HasSet count bits.old bits.new vector.now found how }
     ensures len { vec_len bits.new.words ≡ vec_len bits.old.words }
 {
     for position in vector.places(found.first, found.end) {
-        set_position(bits, count, position, weights, by);
+        set_position(bits, count, position, how.weights, how.by);
     }
 }

@@ -1,6 +1,6 @@
 // Whether a phrase holds of a vector, by a bit set of places for each of its nodes.
 ghost use Rattle.std.specs.Prelude.{◌≡◌, ◌∷◌, [], ℕ, ◌+◌, ◌-◌, ◌*◌, ◌<◌, ◌≤◌, ◌==◌, ◌&&◌, ◌||◌, ◌↔◌, if◌then◌else◌, IsTrue, IfSome, All, AllPairs, Contains, length, reverse, slice_index_or, vec_len};
-ghost use Rattle.std.specs.List.{list_any, slice_range};
+ghost use Rattle.std.specs.List.{list_any};
 ghost use Rattle.ts_base.specs.Vectors.{Position as PlaceOf, Entry, IsNormal};
 ghost use Rattle.ts_query.specs.declared.query.Node.TheVariants.{Leaf};
 ghost use Rattle.ts_query.specs.Queries.{Tree};
@@ -8,6 +8,7 @@ ghost use Rattle.ts_match.specs.Meaning.{fits as fits_weight, width, HoldsSomewh
 ghost use Rattle.ts_match.specs.Inner.Plan.{offset_of};
 ghost use Rattle.ts_match.specs.declared.bit_sets.BitSet.{BitSet as BitSetOf};
 ghost use Rattle.ts_query.specs.declared.query.Node.TheVariants.{Not as NotNode, And as AndNode, Or as OrNode};
+ghost use Rattle.ts_match.specs.Inner.Setting.{CanSet, HasSet};
 ghost use Rattle.ts_match.specs.Inner.BitSets.{bit_value, truths_at, beginning, IsWide};
 ghost use Rattle.ts_match.specs.Inner.Heights.{height_behind, HasRoom, HaveRoom, AreWide, SameBitSets, HasBitSets};
 ghost use Rattle.ts_match.specs.Inner.Phrases.{IsPhraseOf, IsPrepared, IsLaidOut, SaysWhere, HasOperand, HasRange, HasPlaces, leaf_value, truth_step};
@@ -103,6 +104,15 @@ fn last_place(phrase: &Phrase) -> usize
     last
 }
 
+/// How positions are put into a bit set: those of a fitting weight, moved by `by`.
+#[derive(Clone, Copy, Debug)]
+pub struct Move {
+    /// The weights that fit.
+    pub weights: Weights,
+    /// How far each is moved.
+    pub by: usize,
+}
+
 /// Lets a bit set be true also at a position, moved by `by`, if it has a fitting weight.
 pub fn set_position(
     bits: &mut BitSet,
@@ -145,29 +155,15 @@ fn set_positions(
     }
 }
 
-/// Lets a bit set be true also at each position of a fitting weight that the found entries have, moved by `by`.
-pub fn set_found(
-    bits: &mut BitSet,
-    count: usize,
-    vector: &TsVector,
-    found: EntryRange,
-    weights: Weights,
-    by: usize,
-)
-    requires wide { IsWide count bits.old }
-    requires near { by ≤ FARTHEST }
+/// Lets a bit set be true also at each position of a fitting weight that the found entries have, moved.
+pub fn set_found(bits: &mut BitSet, count: usize, vector: &TsVector, found: EntryRange, how: Move)
+    requires ready { CanSet count bits.old vector.now found how.by }
     requires order { found.first ≤ found.end }
-    requires end { found.end ≤ length vector.now }
-    requires within { (i : ℕ) (e : Entry) (p : PlaceOf) → found.first ≤ i → i < found.end
-        → Contains (slice_index_or vector.now i e).positions p → p.at + by < WORD * count }
-    ensures value { (j : ℕ) → bit_value count bits.new j
-        ≡ (bit_value count bits.old j || list_any (λ e. list_any (λ p. (j == p.at + by)
-        && fits_weight weights p.weight) e.positions) (slice_range vector.now found.first
-        found.end)) }
+    ensures value { HasSet count bits.old bits.new vector.now found how }
     ensures len { vec_len bits.new.words ≡ vec_len bits.old.words }
 {
     for i in found.first..found.end {
-        set_positions(bits, count, vector.positions(i), weights, by);
+        set_positions(bits, count, vector.positions(i), how.weights, how.by);
     }
 }
 
@@ -188,7 +184,9 @@ fn lay(phrase: &Phrase, step: Step, k: u16, reach: usize, count: usize, bits: &m
     let found = phrase.found[k as usize];
     let by = reach - offset(step.place);
     clear(bits, count);
-    phrase.vector.set_found(bits, count, found, weights, by);
+    phrase
+        .vector
+        .set_found(bits, count, found, Move { weights, by });
 }
 
 /// Puts the bit set of an operand on the stack.

@@ -228,6 +228,13 @@ fn evaluate(
 }
 
 /// Whether the vector satisfies the query, by work that was made for the query.
+///
+/// ```
+/// let vector = TsVector::parse(alloc, "cat:3 fat:2 the:1")?;
+/// let query = TsQuery::parse(alloc, "fat <-> cat & !dog")?;
+/// let mut work = MatchWork::new(alloc, &query)?;
+/// assert!(rt; matches(&query, &mut work, &vector));
+/// ```
 pub fn matches(query: &TsQuery, work: &mut MatchWork, vector: &TsVector) -> bool
     requires { work.old ≡ plan_of query.now }
     ensures meaning { IsTrue result ↔ Holds query.now vector.now }

@@ -6,7 +6,7 @@ ghost use Rattle.ts_match.specs.Meaning.{at, HoldsSomewhere};
 ghost use Rattle.ts_query.specs.declared.query.Node.TheVariants.{Leaf};
 ghost use Rattle.ts_match.specs.declared.work.Place.TheVariants.{Within};
 ghost use Rattle.ts_match.specs.Inner.Plan.{offset_of, needs};
-ghost use Rattle.ts_match.specs.Inner.Phrases.{IsPhraseOf, IsStep, IsPrepared, IsNeeded, HasRange, HoldsWith, place_from, leaf_value, truth_step};
+ghost use Rattle.ts_match.specs.Inner.Phrases.{IsPhraseOf, IsStep, IsPrepared, IsNeeded, HasRange, HoldsWith, CanTry, IsTried, place_from, leaf_value, truth_step};
 
 use crate::ranges::{EntryRange, FARTHEST};
 use crate::seen::{Kind, Seen};
@@ -112,21 +112,12 @@ fn holds_with_any(
     positions: &[Position],
     offset: usize,
 ) -> bool
-    requires ready { IsPrepared phrase.now.vector.now phrase.now.operands.now phrase.now.found.now
-        phrase.now.steps.now }
-    requires room { length phrase.now.steps.now ≤ vec_capacity stack.old }
-    requires near { offset ≤ FARTHEST }
-    ensures sound { (t : Tree) → IsPhraseOf phrase.now.operands.now phrase.now.steps.now t
-        → IsTrue result → HoldsSomewhere phrase.now.vector.now t }
-    ensures whole { (t : Tree) (p : Place)
-        → IsPhraseOf phrase.now.operands.now phrase.now.steps.now t → Contains positions.now p
-        → IsTrue (at phrase.now.vector.now t (place_from t (p.at + FARTHEST - offset)))
-        → IsTrue result }
+    requires { CanTry phrase.now (vec_capacity stack.old) offset }
+    ensures tried { IsTried phrase.now (Contains positions.now) offset result }
     ensures capacity { vec_capacity stack.new ≡ vec_capacity stack.old }
 {
     for position in positions {
-        let from = position.at() as usize + FARTHEST - offset;
-        if holds_at(phrase, stack, from) {
+        if holds_at(phrase, stack, position.at() as usize + FARTHEST - offset) {
             return true;
         }
     }
@@ -135,21 +126,12 @@ fn holds_with_any(
 
 /// Whether the phrase holds where an operand of this offset is at one of the positions of an encoding.
 fn holds_with_places(phrase: &Phrase, stack: &mut Vec<bool>, places: Places, offset: usize) -> bool
-    requires ready { IsPrepared phrase.now.vector.now phrase.now.operands.now phrase.now.found.now
-        phrase.now.steps.now }
-    requires room { length phrase.now.steps.now ≤ vec_capacity stack.old }
-    requires near { offset ≤ FARTHEST }
-    ensures sound { (t : Tree) → IsPhraseOf phrase.now.operands.now phrase.now.steps.now t
-        → IsTrue result → HoldsSomewhere phrase.now.vector.now t }
-    ensures whole { (t : Tree) (p : Place)
-        → IsPhraseOf phrase.now.operands.now phrase.now.steps.now t → Contains places.entry p
-        → IsTrue (at phrase.now.vector.now t (place_from t (p.at + FARTHEST - offset)))
-        → IsTrue result }
+    requires { CanTry phrase.now (vec_capacity stack.old) offset }
+    ensures tried { IsTried phrase.now (Contains places.entry) offset result }
     ensures capacity { vec_capacity stack.new ≡ vec_capacity stack.old }
 {
     for position in places {
-        let beginning = position.at() as usize + FARTHEST - offset;
-        if holds_at(phrase, stack, beginning) {
+        if holds_at(phrase, stack, position.at() as usize + FARTHEST - offset) {
             return true;
         }
     }

@@ -1,17 +1,17 @@
 // A vector, in memory or in an encoding.
-ghost use Rattle.std.specs.Prelude.{◌≡◌, ℕ, ◌+◌, ◌*◌, ◌<◌, ◌≤◌, ◌==◌, ◌&&◌, ◌||◌, Contains, length, slice_index_or, vec_len};
-ghost use Rattle.std.specs.List.{list_any, slice_range};
+ghost use Rattle.std.specs.Prelude.{◌≡◌, ℕ, ◌<◌, ◌≤◌, Contains, length, slice_index_or, vec_len};
 ghost use Rattle.ts_base.specs.Vectors.{Position as PlaceOf, Entry, IsNormal};
-ghost use Rattle.ts_match.specs.Meaning.{fits as fits_weight, is_met, is_stripped as stripped_vector};
+ghost use Rattle.ts_match.specs.Meaning.{is_met, is_stripped as stripped_vector};
 ghost use Rattle.ts_match.specs.Inner.Ranges.{NamesRange, stands_at};
-ghost use Rattle.ts_match.specs.Inner.BitSets.{bit_value, IsWide};
+ghost use Rattle.ts_match.specs.Inner.Setting.{CanSet, HasSet};
 ghost use Rattle.ts_match.specs.Inner.Seen.{entries_of};
 
-use crate::bit_sets::{BitSet, WORD};
-use crate::ranges::{EntryRange, FARTHEST};
+use crate::bit_sets::BitSet;
+use crate::layout::Move;
+use crate::ranges::EntryRange;
 use crate::{encoded, layout, ranges};
 use std::marker::Model;
-use ts_base::{LAST_POSITION, Weights};
+use ts_base::LAST_POSITION;
 use ts_query::Operand;
 use ts_vector::{TsVector, VectorBytes};
 
@@ -135,30 +135,16 @@ impl<'a> Seen<'a> {
         }
     }
 
-    /// Lets a bit set be true also at each position of a fitting weight that the found entries have, moved by `by`.
-    pub fn set_found(
-        &self,
-        bits: &mut BitSet,
-        count: usize,
-        found: EntryRange,
-        weights: Weights,
-        by: usize,
-    )
-        requires wide { IsWide count bits.old }
-        requires near { by ≤ FARTHEST }
+    /// Lets a bit set be true also at each position of a fitting weight that the found entries have, moved.
+    pub fn set_found(&self, bits: &mut BitSet, count: usize, found: EntryRange, how: Move)
+        requires ready { CanSet count bits.old self.now found how.by }
         requires order { found.first ≤ found.end }
-        requires end { found.end ≤ length self.now }
-        requires within { (i : ℕ) (e : Entry) (p : PlaceOf) → found.first ≤ i → i < found.end
-            → Contains (slice_index_or self.now i e).positions p → p.at + by < WORD * count }
-        ensures value { (j : ℕ) → bit_value count bits.new j
-            ≡ (bit_value count bits.old j || list_any (λ e. list_any (λ p. (j == p.at + by)
-            && fits_weight weights p.weight) e.positions) (slice_range self.now found.first
-            found.end)) }
+        ensures value { HasSet count bits.old bits.new self.now found how }
         ensures len { vec_len bits.new.words ≡ vec_len bits.old.words }
     {
         match self.kind {
-            Kind::Listed(vector) => layout::set_found(bits, count, vector, found, weights, by),
-            Kind::Encoded(vector) => encoded::set_found(bits, count, vector, found, weights, by),
+            Kind::Listed(vector) => layout::set_found(bits, count, vector, found, how),
+            Kind::Encoded(vector) => encoded::set_found(bits, count, vector, found, how),
         }
     }
 }

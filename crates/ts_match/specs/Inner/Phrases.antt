@@ -10,10 +10,11 @@ use Rattle.ts_match.specs.declared.ranges.TheConstants.{FARTHEST}
 use Rattle.ts_match.specs.declared.work.Place.{Place}
 use Rattle.ts_match.specs.declared.work.Place.TheVariants.{Outside, Within}
 use Rattle.ts_match.specs.declared.work.Step.{Step}
+use Rattle.ts_match.specs.declared.phrase.Phrase.{Phrase as PhraseAt}
 use Rattle.ts_match.specs.declared.bit_sets.BitSet.{BitSet}
 use Rattle.ts_match.specs.declared.bit_sets.TheConstants.{WORD}
 use Rattle.ts_match.specs.Inner.BitSets.{bit_value}
-use Rattle.ts_match.specs.Meaning.{width, at, places}
+use Rattle.ts_match.specs.Meaning.{width, at, places, HoldsSomewhere}
 use Rattle.ts_match.specs.Inner.Ranges.{NamesRange, stands_at}
 use Rattle.ts_match.specs.Plan.{count_in, steps}
 use Rattle.ts_match.specs.Inner.Plan.{offset_of}
@@ -92,6 +93,20 @@ pub record HoldsWith (v : Vector) (os : List Operand) (t : Tree) (s : Step) : Ty
   pub is_operand : slice_get os number ≡ Some operand
   pub stands : Contains (places operand v) p
   pub holds : IsTrue (at v t (place_from t (p + FARTHEST - offset)))
+
+-- what is at hand when a phrase is tried with an operand of this offset, by a stack with this room
+pub record CanTry (phrase : PhraseAt) (room offset : ℕ) : Type 0 where
+  pub ready : IsPrepared phrase.vector.now phrase.operands.now phrase.found.now phrase.steps.now
+  pub room_for : length phrase.steps.now ≤ room
+  pub near : offset ≤ FARTHEST
+
+-- A phrase is tried where an operand of this offset is at certain positions: where it then holds it does so somewhere,
+-- and it then holds if it does with the operand at one of these.
+pub record IsTried (phrase : PhraseAt) (IsThere : Position → Type 0) (offset : ℕ) (holds : Bool) : Type 0 where
+  pub sound : (t : Tree) → IsPhraseOf phrase.operands.now phrase.steps.now t → IsTrue holds
+      → HoldsSomewhere phrase.vector.now t
+  pub whole : (t : Tree) (p : Position) → IsPhraseOf phrase.operands.now phrase.steps.now t → IsThere p
+      → IsTrue (at phrase.vector.now t (place_from t (p.at + FARTHEST - offset))) → IsTrue holds
 
 -- the leaf of an operand without which the phrase holds nowhere
 pub record IsNeeded (ss : List Step) (s : Step) : Type 0 where

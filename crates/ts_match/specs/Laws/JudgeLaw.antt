@@ -1,5 +1,5 @@
 -- The law of the judge.
-use Rattle.std.proofs.Common.{◌≡◌, Bool, true, false, ◌&&◌, ◌||◌, List, [], ◌∷◌, ◌++◌, length, drop, None, Some, ◌⊎◌, inl, inr, refl, ap, ◌∙◌}
+use Rattle.std.proofs.Common.{◌≡◌, Bool, true, false, ◌&&◌, ◌||◌, List, [], ◌∷◌, ◌++◌, length, drop, None, Some, ◌⊎◌, inl, inr, refl, sym, ap, ◌∙◌}
 use Rattle.std.specs.Prelude.{ℤ, pos, negsuc, ◌+ℤ◌, ◌-ℤ◌, IsTrue, max}
 use Rattle.std.specs.List.{list_any}
 use Rattle.std.proofs.lemmas.Bool.{or_cases}
@@ -14,31 +14,13 @@ use Rattle.gin_opclass.specs.Class.{SoundValue, SoundValues}
 
 least_false : (s t : Tri) → least s t ≡ False → (s ≡ False) ⊎ (t ≡ False)
 least_false False t e = inl refl
-least_false Maybe False e = inr refl
-least_false Maybe Maybe e = absurd (let x : ⊥ = cc in x)
-least_false Maybe True e = absurd (let x : ⊥ = cc in x)
-least_false True t e = inr e
+least_false s False e = inr refl
+least_false s t e = absurd (let x : ⊥ = cc in x)
 
 least_true : (s t : Tri) → least s t ≡ True → (s ≡ True) × (t ≡ True)
-least_true False t e = absurd (let x : ⊥ = cc in x)
-least_true Maybe False e = absurd (let x : ⊥ = cc in x)
-least_true Maybe Maybe e = absurd (let x : ⊥ = cc in x)
-least_true Maybe True e = absurd (let x : ⊥ = cc in x)
 least_true True t e = (refl, e)
-
-greatest_true : (s t : Tri) → greatest s t ≡ True → (s ≡ True) ⊎ (t ≡ True)
-greatest_true True t e = inl refl
-greatest_true Maybe True e = inr refl
-greatest_true Maybe Maybe e = absurd (let x : ⊥ = cc in x)
-greatest_true Maybe False e = absurd (let x : ⊥ = cc in x)
-greatest_true False t e = inr e
-
-greatest_false : (s t : Tri) → greatest s t ≡ False → (s ≡ False) × (t ≡ False)
-greatest_false True t e = absurd (let x : ⊥ = cc in x)
-greatest_false Maybe True e = absurd (let x : ⊥ = cc in x)
-greatest_false Maybe Maybe e = absurd (let x : ⊥ = cc in x)
-greatest_false Maybe False e = absurd (let x : ⊥ = cc in x)
-greatest_false False t e = (refl, e)
+least_true Maybe True e = absurd (let x : ⊥ = cc in x)
+least_true s t e = absurd (let x : ⊥ = cc in x)
 
 opposite_true : (s : Tri) → opposite s ≡ True → s ≡ False
 opposite_true False e = refl
@@ -49,6 +31,24 @@ opposite_false : (s : Tri) → opposite s ≡ False → s ≡ True
 opposite_false False e = absurd (let x : ⊥ = cc in x)
 opposite_false Maybe e = absurd (let x : ⊥ = cc in x)
 opposite_false True e = refl
+
+-- the opposite of the greatest is the least of the opposites
+mirrored : (s t : Tri) → opposite (greatest s t) ≡ least (opposite s) (opposite t)
+mirrored Maybe True = refl
+mirrored Maybe Maybe = refl
+mirrored Maybe False = refl
+mirrored s t = refl
+
+greatest_true : (s t : Tri) → greatest s t ≡ True → (s ≡ True) ⊎ (t ≡ True)
+greatest_true s t e = elim (least_false (opposite s) (opposite t) (sym (mirrored s t) ∙ ap opposite e)) [
+  | inl a ↦ inl (opposite_false s a)
+  | inr b ↦ inr (opposite_false t b)
+]
+
+greatest_false : (s t : Tri) → greatest s t ≡ False → (s ≡ False) × (t ≡ False)
+greatest_false s t e =
+    let p = least_true (opposite s) (opposite t) (sym (mirrored s t) ∙ ap opposite e) in
+    (opposite_true s p.0, opposite_true t p.1)
 
 maybe_false : (s : Tri) → at_most_maybe s ≡ False → s ≡ False
 maybe_false False e = refl

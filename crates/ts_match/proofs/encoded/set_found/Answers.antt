@@ -10,7 +10,7 @@ use Rattle.ts_match.proofs.encoded.set_found.Goals as goal
 
 pub loop-position-init : goal.loop-position-init
 loop-position-init c = record {
-  value = λ j. ap (λ (ps : List Position). bit_value c.args.count c.args.bits.now j || list_any (sets c.args.by j c.args.weights) ps) (c.into_iter-position-iterator.ensures.into_iter_gives ∙ c.places-position-items.ensures);
+  value = λ j. ap (λ (ps : List Position). bit_value c.args.count c.args.bits.now j || list_any (sets c.args.how.by j c.args.how.weights) ps) (c.into_iter-position-iterator.ensures.into_iter_gives ∙ c.places-position-items.ensures);
   inside = λ p h. subst (λ (ps : List Position). Contains ps p) (c.into_iter-position-iterator.ensures.into_iter_gives ∙ c.places-position-items.ensures) h;
   len = refl;
 }
@@ -24,7 +24,7 @@ set_position-requires-clause-within c =
 pub loop-position-preserved : goal.loop-position-preserved
 loop-position-preserved c = record {
   value = λ j.
-      let test = sets c.args.by j c.args.weights in
+      let test = sets c.args.how.by j c.args.how.weights in
       ap (λ b. b || list_any test c.next.new.self) (c.set_position.ensures.value j)
       ∙ or_assoc (bit_value c.args.count c.loop-position.bits j) (test c.in-Some.position) (list_any test c.next.new.self)
       ∙ ap (λ (ps : List Position). bit_value c.args.count c.loop-position.bits j || list_any test ps) (sym c.in-Some.ensures.steps)
@@ -35,7 +35,7 @@ loop-position-preserved c = record {
 
 pub returns-clause-value : goal.returns-clause-value
 returns-clause-value c = λ j.
-    let test = sets c.args.by j c.args.weights in
+    let test = sets c.args.how.by j c.args.how.weights in
     let old = bit_value c.args.count c.args.bits.now j in
     sym (or_none (bit_value c.args.count c.loop-position.bits j))
     ∙ ap (λ (ps : List Position). bit_value c.args.count c.loop-position.bits j || list_any test ps) (sym c.in-None.ensures.steps.0)

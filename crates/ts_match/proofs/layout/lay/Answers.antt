@@ -19,17 +19,18 @@ set_found-requires-clause-order c =
     let p = c.args.phrase.now in
     (leaf_found p.vector.now p.operands.now p.found.now c.args.step.node c.args.k c.requires.leaf c.requires.placed.found no_operand none).ordered
 
-pub set_found-requires-clause-end : goal.set_found-requires-clause-end
-set_found-requires-clause-end c =
+pub set_found-requires-clause-ready : goal.set_found-requires-clause-ready
+set_found-requires-clause-ready c =
     let p = c.args.phrase.now in
-    (leaf_found p.vector.now p.operands.now p.found.now c.args.step.node c.args.k c.requires.leaf c.requires.placed.found no_operand none).within
-
-pub set_found-requires-clause-within : goal.set_found-requires-clause-within
-set_found-requires-clause-within c = λ i e q l m h.
-    let p = c.args.phrase.now in
-    let b = subst (λ (n : Node). PlacesFor p.vector.now p.found.now c.args.reach c.args.count n) c.requires.leaf c.requires.placed.places in
-    let a = b none i e q l m h in
-    omega arith
+    let f = leaf_found p.vector.now p.operands.now p.found.now c.args.step.node c.args.k c.requires.leaf
+    c.requires.placed.found no_operand none in
+    let b = subst (λ (n : Node). PlacesFor p.vector.now p.found.now c.args.reach c.args.count n) c.requires.leaf
+    c.requires.placed.places in record {
+      wide = let w = c.requires.wide in let l = c.clear.ensures.len in omega arith;
+      near = let n = c.requires.far in omega arith;
+      end = f.within;
+      within = λ i e q l m h. let a = b none i e q l m h in omega arith;
+    }
 
 pub returns-clause-value : goal.returns-clause-value
 returns-clause-value c = λ j.

@@ -9,11 +9,11 @@ use Rattle.ts_match.proofs.layout.set_found.Goals as goal
 
 pub set_positions-requires-clause-within : goal.set_positions-requires-clause-within
 set_positions-requires-clause-within c = λ q h.
-    c.requires.within c.loop-i.i nothing q (let x = c.loop-i.auto.i in x) c.loop-i-test.true (subst (λ (ps : List Position). Contains ps q) (c.positions.ensures nothing) h)
+    c.requires.ready.within c.loop-i.i nothing q (let x = c.loop-i.auto.i in x) c.loop-i-test.true (subst (λ (ps : List Position). Contains ps q) (c.positions.ensures nothing) h)
 
 pub loop-i-init : goal.loop-i-init
 loop-i-init c = record {
-  value = λ j. none_between (bit_value c.args.count c.args.bits.now j) (sets_some c.args.by j c.args.weights) c.args.vector.now c.args.found.first;
+  value = λ j. none_between (bit_value c.args.count c.args.bits.now j) (sets_some c.args.how.by j c.args.how.weights) c.args.vector.now c.args.found.first;
   len = refl;
 }
 
@@ -22,9 +22,9 @@ loop-i-preserved c =
     let v = c.args.vector.now in
     let i = c.loop-i.i in
     let first = c.args.found.first in
-    let by = c.args.by in
-    let w = c.args.weights in
-    let l : c.loop-i.i < length c.args.vector.now = (let x = c.requires.end in omega arith) in record {
+    let by = c.args.how.by in
+    let w = c.args.how.weights in
+    let l : c.loop-i.i < length c.args.vector.now = (let x = c.requires.ready.end in omega arith) in record {
       value = λ j.
           let old = bit_value c.args.count c.args.bits.now j in
           let so_far = list_any (sets_some by j w) (slice_range v first i) in
@@ -39,4 +39,4 @@ loop-i-preserved c =
 pub returns-clause-value : goal.returns-clause-value
 returns-clause-value c = λ j.
     let end : c.loop-i.i ≡ c.args.found.end = (let m = c.loop-i.auto.i-end c.requires.order in let t = c.loop-i-test.false in omega arith) in
-    c.loop-i.invariant.value j ∙ ap (λ e. bit_value c.args.count c.args.bits.now j || list_any (sets_some c.args.by j c.args.weights) (slice_range c.args.vector.now c.args.found.first e)) end
+    c.loop-i.invariant.value j ∙ ap (λ e. bit_value c.args.count c.args.bits.now j || list_any (sets_some c.args.how.by j c.args.how.weights) (slice_range c.args.vector.now c.args.found.first e)) end

@@ -19,5 +19,5 @@ pub returns-in-Encoded-clause-whole : goal.returns-in-Encoded-clause-whole
 returns-in-Encoded-clause-whole c t k e p ph l m h a =
     let same : c.in-Encoded.vector.now ≡ c.args.phrase.now.vector.now = ap entries_of (sym c.in-Encoded.is) ∙ c.kind.ensures in
     let places = c.places-places.ensures ∙ ap (λ (v : Vector). positions_in v c.args.found.first c.args.found.end) same in
-    c.holds_with_places.ensures.whole t p ph
+    c.holds_with_places.ensures.tried.whole t p ph
     (subst (λ (ps : List Position). Contains ps p) (sym places) (into_positions c.args.phrase.now.vector.now c.args.found.first c.args.found.end k e p c.requires.within l m h)) a

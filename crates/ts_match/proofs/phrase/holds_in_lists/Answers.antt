@@ -16,7 +16,7 @@ loop-k-preserved c = record {
         let same : j ≡ c.loop-k.k = omega arith in
         let here : Contains (get_or c.args.vector.now c.loop-k.k e).positions p = subst (λ i. Contains (get_or c.args.vector.now i e).positions p) same h in
         let there : Contains c.positions.result.now p = subst (λ (ps : List Position). Contains ps p) (sym (c.positions.ensures e)) here in
-        false_from _ (λ a. sym c.if-holds_with_any.false ∙ c.holds_with_any.ensures.whole t p ph there a)
+        false_from _ (λ a. sym c.if-holds_with_any.false ∙ c.holds_with_any.ensures.tried.whole t p ph there a)
   ];
   capacity = c.holds_with_any.ensures.capacity ∙ c.loop-k.invariant.capacity;
 }

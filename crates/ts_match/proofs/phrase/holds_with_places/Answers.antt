@@ -11,8 +11,14 @@ use Rattle.ts_match.proofs.phrase.holds_with_places.Goals as goal
 pub loop-position-init : goal.loop-position-init
 loop-position-init c = record { none = λ t p ph h. inr (subst (λ (ps : List Position). Contains ps p) (sym c.into_iter-position-iterator.ensures.into_iter_gives) h); capacity = refl }
 
-pub returns-then-holds_at-clause-sound : goal.returns-then-holds_at-clause-sound
-returns-then-holds_at-clause-sound c t p h = (place_from t (c.at.result + FARTHEST - c.args.offset), sym (c.holds_at.ensures.meaning t p) ∙ c.if-holds_at.true)
+pub returns-then-holds_at-clause-tried : goal.returns-then-holds_at-clause-tried
+returns-then-holds_at-clause-tried c = record {
+  sound = λ t p h. (
+    place_from t (c.at.result + FARTHEST - c.args.offset),
+    sym (c.holds_at.ensures.meaning t p) ∙ c.if-holds_at.true,
+  );
+  whole = λ t q p h a. refl;
+}
 
 pub loop-position-preserved : goal.loop-position-preserved
 loop-position-preserved c = record {
@@ -28,8 +34,11 @@ loop-position-preserved c = record {
   capacity = c.holds_at.ensures.capacity ∙ c.loop-position.invariant.capacity;
 }
 
-pub returns-clause-whole : goal.returns-clause-whole
-returns-clause-whole c t p ph h a = elim (c.loop-position.invariant.none t p ph h) [
-  | inl q ↦ absurd (both_ways _ q a)
-  | inr q ↦ absurd (Contains-none p (subst (λ (ps : List Position). Contains ps p) c.in-None.ensures.steps.0 q))
-]
+pub returns-clause-tried : goal.returns-clause-tried
+returns-clause-tried c = record {
+  sound = λ t p h. absurd (let x : ⊥ = cc in x);
+  whole = λ t p ph h a. elim (c.loop-position.invariant.none t p ph h) [
+    | inl q ↦ absurd (both_ways _ q a)
+    | inr q ↦ absurd (Contains-none p (subst (λ (ps : List Position). Contains ps p) c.in-None.ensures.steps.0 q))
+  ];
+}
