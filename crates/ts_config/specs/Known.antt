@@ -1,5 +1,6 @@
 -- What is defined: dictionaries and configurations by name, each in the order of their definitions.
-use Rattle.std.specs.Prelude.{◌≡◌, ℕ, ◌<◌, List, [], ◌∷◌, ◌++◌, length, true, if◌then◌else◌, bytes_eq, codes, position, Option, Some, None, All}
+use Rattle.std.specs.Prelude.{◌≡◌, ℕ, ◌<◌, List, [], ◌∷◌, ◌++◌, length, true, if◌then◌else◌, bytes_eq, codes, position}
+use Rattle.std.specs.Prelude.{Option, Some, None, All}
 use Rattle.std.specs.List.{Any, find}
 use Rattle.std.specs.Option.{option_map}
 use Rattle.ts_parser.specs.declared.kinds.TokenType.{TokenType}
@@ -47,7 +48,8 @@ mapping_named known name = option_map (λ c. c.mapping) (find (λ c. bytes_eq na
 -- the places of names, one by one
 abbrev pub ArePlaces : Known → List (List ℕ) → List ℕ → Type 0
 ArePlaces known [] places = places ≡ []
-ArePlaces known (n ∷ ns) places = (p : ℕ) × (ps : List ℕ) × (places ≡ p ∷ ps) × (place_of known n ≡ Some p) × ArePlaces known ns ps
+ArePlaces known (n ∷ ns) places =
+    (p : ℕ) × (ps : List ℕ) × (places ≡ p ∷ ps) × (place_of known n ≡ Some p) × ArePlaces known ns ps
 
 -- these rules, where they are no thesaurus's
 abbrev pub no_thesaurus : Option Rules → Option Rules
@@ -86,7 +88,8 @@ with_configuration known name mapping = record {
 abbrev pub remapped : List ℕ → TokenType → List ℕ → List NamedMapping → List NamedMapping
 remapped name kind places [] = []
 remapped name kind places (c ∷ cs) =
-    if bytes_eq name c.name then record { name = c.name; mapping = with_list c.mapping kind places } ∷ cs else c ∷ remapped name kind places cs
+    if bytes_eq name c.name then record { name = c.name; mapping = with_list c.mapping kind places } ∷ cs
+    else c ∷ remapped name kind places cs
 
 pub record AddsDictionary (old : Known) (name : List ℕ) (rules : Rules) (new : Known) : Type 0 where
   pub sub : ¬ LacksSub old rules
@@ -97,10 +100,12 @@ pub record AddsConfiguration (old : Known) (name : List ℕ) (mapping : Mapping)
   pub free : ¬ HasConfiguration old name
   pub value : new ≡ with_configuration old name mapping
 
-pub record AddsMapping (old : Known) (name : List ℕ) (kind : TokenType) (names : List (List ℕ)) (new : Known) : Type 0 where
+pub record AddsMapping (old : Known) (name : List ℕ) (kind : TokenType) (names : List (List ℕ))
+    (new : Known) : Type 0 where
   pub places : List ℕ
   pub are : ArePlaces old names places
-  pub value : new ≡ record { dictionaries = old.dictionaries; configurations = remapped name kind places old.configurations }
+  pub value : new
+      ≡ record { dictionaries = old.dictionaries; configurations = remapped name kind places old.configurations }
 
 -- ── refusals ──
 -- why a dictionary, a configuration or a mapping is refused; want of memory is no fault of theirs

@@ -1,7 +1,10 @@
--- Which dictionaries a configuration gives each type of token. A dictionary goes by its place among all, and the first has the place 0.
+-- Which dictionaries a configuration gives each type of token. A dictionary goes by its place among all, and the first
+-- has the place 0.
 use Rattle.std.specs.Prelude.{◌≡◌, ◌≢◌, ℕ, List, [], ◌∷◌, length, replicate, unwrap_or, slice_get, slice_set}
 use Rattle.ts_parser.specs.declared.kinds.TokenType.{TokenType}
-use Rattle.ts_parser.specs.declared.kinds.TokenType.TheVariants.{Asciiword, Word, Numword, Sfloat, Version, HwordNumpart, HwordPart, HwordAsciipart, Blank, Numhword, Asciihword, Hword, Float, Int, Uint}
+use Rattle.ts_parser.specs.declared.kinds.TokenType.TheVariants.{Asciiword, Word, Numword, Sfloat, Version}
+use Rattle.ts_parser.specs.declared.kinds.TokenType.TheVariants.{HwordNumpart, HwordPart, HwordAsciipart, Blank}
+use Rattle.ts_parser.specs.declared.kinds.TokenType.TheVariants.{Numhword, Asciihword, Hword, Float, Int, Uint}
 use Rattle.ts_config.specs.declared.TheConstants.{TYPES}
 
 -- a list of places for each type, in the order of the types' numbers
@@ -54,4 +57,5 @@ MappingReplacesOne = (mapping : Mapping) (kind other : TokenType) (places : List
 
 -- the configuration `simple` has the first dictionary for each type but blank
 abbrev pub SimpleMapsAllButBlank : Type 0
-SimpleMapsAllButBlank = (list_for simple_mapping Blank ≡ []) × ((kind : TokenType) → kind ≢ Blank → list_for simple_mapping kind ≡ 0 ∷ [])
+SimpleMapsAllButBlank =
+    (list_for simple_mapping Blank ≡ []) × ((kind : TokenType) → kind ≢ Blank → list_for simple_mapping kind ≡ 0 ∷ [])

@@ -1,5 +1,6 @@
 -- Phrases of a thesaurus among the tokens of a text.
-use Rattle.std.specs.Prelude.{◌≡◌, ◌⊎◌, ℕ, zero, suc, ◌<◌, ◌≤◌, List, [], ◌∷◌, ◌++◌, length, map, take, Bool, if◌then◌else◌, nat_eq, nat_lt, filter, take_while}
+use Rattle.std.specs.Prelude.{◌≡◌, ◌⊎◌, ℕ, zero, suc, ◌<◌, ◌≤◌, List, [], ◌∷◌, ◌++◌, length, map, take, Bool}
+use Rattle.std.specs.Prelude.{if◌then◌else◌, nat_eq, nat_lt, filter, take_while}
 use Rattle.std.specs.List.{list_any}
 use Rattle.ts_base.specs.declared.Found.{Found}
 use Rattle.ts_base.specs.Dictionary.{WordAnswer, unknown_word, word_lexemes}
@@ -16,8 +17,8 @@ is_asked mapping t = nat_lt 0 (length (asked_for mapping t))
 abbrev pub lists : Mapping → ℕ → Token → Bool
 lists mapping place t = list_any (λ p. nat_eq p place) (asked_for mapping t)
 
--- The tokens that the thesaurus at this place sees: of those for which any dictionary is asked, the ones before the first for which
--- the thesaurus isn't.
+-- The tokens that the thesaurus at this place sees: of those for which any dictionary is asked, the ones before the
+-- first for which the thesaurus isn't.
 abbrev pub seen : Mapping → ℕ → List Token → List Token
 seen mapping place ts = take_while (lists mapping place) (filter (is_asked mapping) ts)
 
@@ -32,8 +33,9 @@ abbrev pub answers_to : (List ℕ → WordAnswer) → List ℕ → List Token �
 answers_to answer text ts = map (λ t. answer (word_of text t)) ts
 
 module _ (mapping : Mapping) (text : List ℕ) (answer : List ℕ → WordAnswer) (place : ℕ) (rules : List Rule) where
-  -- A phrase begins with the first of these tokens: the rule that is best for what the subdictionary answers to the tokens that the
-  -- thesaurus sees. It replaces one token or more by these words, and the rest is after the last of them.
+  -- A phrase begins with the first of these tokens: the rule that is best for what the subdictionary answers to the
+  -- tokens that the thesaurus sees. It replaces one token or more by these words, and the rest is after the last of
+  -- them.
   pub record IsPhrase (ts : List Token) (words : List Found) (rest : List Token) : Type 0 where
     pub tokens : ℕ
     pub some : 0 < tokens
@@ -43,7 +45,8 @@ module _ (mapping : Mapping) (text : List ℕ) (answer : List ℕ → WordAnswer
   abbrev pub NoPhrase : List Token → Type 0
   NoPhrase ts = (words : List Found) (rest : List Token) → ¬ IsPhrase ts words rest
 
-  -- what the thesaurus gives of the token t, which ts follow: the words of a phrase, else that it doesn't know the token
+  -- what the thesaurus gives of the token t, which ts follow: the words of a phrase, else that it doesn't know the
+  -- token
   abbrev pub GivesPhrase : Token → List Token → WordAnswer → List Token → Type 0
   GivesPhrase t ts given rest =
       ((words : List Found) × IsPhrase (t ∷ ts) words rest × (given ≡ word_lexemes words))
@@ -52,4 +55,5 @@ module _ (mapping : Mapping) (text : List ℕ) (answer : List ℕ → WordAnswer
 -- What is after a phrase of n tokens follows tokens of which the phrase's are those for which any dictionary is asked.
 abbrev pub PhrasesAreWhole : Type 0
 PhrasesAreWhole = (mapping : Mapping) (place n : ℕ) (ts : List Token) → n ≤ length (seen mapping place ts)
-    → (front : List Token) × (ts ≡ front ++ behind mapping n ts) × (filter (is_asked mapping) front ≡ take n (seen mapping place ts))
+    → (front : List Token) × (ts ≡ front ++ behind mapping n ts)
+    × (filter (is_asked mapping) front ≡ take n (seen mapping place ts))

@@ -12,8 +12,8 @@ use Rattle.ts_config.specs.Parts.{AreParts}
 abbrev pub placed_at : ℕ → Found → Placed
 placed_at n f = record { lexeme = f.lexeme; prefix = f.prefix; position = n }
 
--- The answers to parts after the position n: a stop word takes a position, a token that nobody knows takes none, and all lexemes of
--- a part take one.
+-- The answers to parts after the position n: a stop word takes a position, a token that nobody knows takes none, and
+-- all lexemes of a part take one.
 abbrev pub placed_from : ℕ → List WordAnswer → List Placed
 placed_from n [] = []
 placed_from n (unknown_word ∷ more) = placed_from n more
@@ -30,7 +30,8 @@ pub record ArePlaced (known : Known) (mapping : Mapping) (text : List ℕ) (plac
 
 -- the placed lexemes of a text are one list
 abbrev pub PlacedAreOne : Type 0
-PlacedAreOne = (known : Known) (mapping : Mapping) (text : List ℕ) (p q : List Placed) → ArePlaced known mapping text p → ArePlaced known mapping text q → p ≡ q
+PlacedAreOne = (known : Known) (mapping : Mapping) (text : List ℕ) (p q : List Placed) → ArePlaced known mapping text p
+    → ArePlaced known mapping text q → p ≡ q
 
 -- positions are numbered from 1, and don't fall
 abbrev pub PositionsRise : Type 0

@@ -8,8 +8,8 @@ use Rattle.ts_thesaurus.specs.Rules.{Rule}
 use Rattle.ts_config.specs.declared.dictionaries.AnyDictionary.{AnyDictionary}
 use Rattle.ts_config.specs.declared.dictionaries.AnyDictionary.TheVariants.{Simple, Synonym, Porter, Thesaurus}
 
--- Each kind is a case. `simple` goes by its stop words, and by whether it accepts the others; `synonym` by its list; `porter` by its
--- stop words; a thesaurus by its rules, and by the subdictionary of this name.
+-- Each kind is a case. `simple` goes by its stop words, and by whether it accepts the others; `synonym` by its list;
+-- `porter` by its stop words; a thesaurus by its rules, and by the subdictionary of this name.
 pub data Rules : Type 0 where
   simple_rules : List (List ℕ) → Bool → Rules
   synonym_rules : Synonyms → Rules

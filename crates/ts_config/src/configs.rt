@@ -1,11 +1,15 @@
 // Dictionaries and configurations by name.
-ghost use Rattle.std.specs.Prelude.{◌≡◌, ◌<◌, ◌≤◌, ◌↔◌, length, map, IfOk, IfErr, OnOk, IfSome, IsSome, IsTrue, MatchOption, option_copied, slice_get, string_bytes};
+ghost use Rattle.std.specs.Prelude.{◌≡◌, ◌<◌, ◌≤◌, ◌↔◌, length, map, IfOk, IfErr, OnOk, IfSome, IsSome, IsTrue};
+ghost use Rattle.std.specs.Prelude.{MatchOption, option_copied, slice_get, string_bytes};
 ghost use Rattle.std.specs.List.{Any};
 ghost use Rattle.std.specs.Option.{option_map};
 ghost use Rattle.ts_config.specs.Rules.{rules_of};
 ghost use Rattle.ts_config.specs.Mappings.{empty_mapping};
 ghost use Rattle.ts_config.specs.Inner.Entries.{named_rules, named_mapping};
-ghost use Rattle.ts_config.specs.Known.{first_known, HasDictionary, HasConfiguration, LacksSub, place_of, sub_named, rules_named, mapping_named, ArePlaces, IsWithin, AddsDictionary, AddsConfiguration, AddsMapping, RefusesDictionary, RefusesConfiguration, RefusesMapping};
+ghost use Rattle.ts_config.specs.Known.{first_known, HasDictionary, HasConfiguration, LacksSub, place_of, sub_named};
+ghost use Rattle.ts_config.specs.Known.{rules_named, mapping_named, ArePlaces, IsWithin, AddsDictionary};
+ghost use Rattle.ts_config.specs.Known.{AddsConfiguration, AddsMapping, RefusesDictionary, RefusesConfiguration};
+ghost use Rattle.ts_config.specs.Known.{RefusesMapping};
 
 use crate::config::Config;
 use crate::dictionaries::AnyDictionary;

@@ -125,7 +125,8 @@ impl Listed<'_> {
         requires first { IsToken text.now first }
         requires rest { All (IsToken text.now) left.now }
         ensures { IfOk result (λ answers. AreSeen self.now.thesaurus.now
-            (answers_to (answer_by (rules_of self.now.sub.now)) text.now (seen config.now self.now.place (first ∷ left.now)))
+            (answers_to (answer_by (rules_of self.now.sub.now)) text.now
+            (seen config.now self.now.place (first ∷ left.now)))
             (map answer_value answers.items)) }
     {
         let mut ahead = left.again();

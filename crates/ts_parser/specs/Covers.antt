@@ -24,8 +24,10 @@ is_part k = false
 -- lie side by side from its start to its end.
 pub data Covers : ℕ → List Token → ℕ → Type 0 where
   covered : (s : ℕ) → Covers s [] s
-  plain : (s e : ℕ) (t : Token) (ts : List Token) → has_parts t.kind ≡ false → t.start ≡ s → 0 < t.length → Covers (s + t.length) ts e → Covers s (t ∷ ts) e
-  hyphened : (s e : ℕ) (t : Token) (ps ts : List Token) → has_parts t.kind ≡ true → t.start ≡ s → 0 < t.length → All (λ p. IsTrue (is_part p.kind)) ps
+  plain : (s e : ℕ) (t : Token) (ts : List Token) → has_parts t.kind ≡ false → t.start ≡ s → 0 < t.length
+      → Covers (s + t.length) ts e → Covers s (t ∷ ts) e
+  hyphened : (s e : ℕ) (t : Token) (ps ts : List Token) → has_parts t.kind ≡ true → t.start ≡ s → 0 < t.length
+      → All (λ p. IsTrue (is_part p.kind)) ps
       → SideBySide s ps (s + t.length) → Covers (s + t.length) ts e → Covers s (t ∷ (ps ++ ts)) e
 
 -- a text's tokens cover it

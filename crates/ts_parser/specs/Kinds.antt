@@ -1,7 +1,9 @@
 -- The types of tokens, their numbers and their names.
 use Rattle.std.specs.Prelude.{◌≡◌, ℕ, Bool, true, false, List, codes}
 use Rattle.ts_parser.specs.declared.kinds.TokenType.{TokenType}
-use Rattle.ts_parser.specs.declared.kinds.TokenType.TheVariants.{Asciiword, Word, Numword, Sfloat, Version, HwordNumpart, HwordPart, HwordAsciipart, Blank, Numhword, Asciihword, Hword, Float, Int, Uint}
+use Rattle.ts_parser.specs.declared.kinds.TokenType.TheVariants.{Asciiword, Word, Numword, Sfloat, Version}
+use Rattle.ts_parser.specs.declared.kinds.TokenType.TheVariants.{HwordNumpart, HwordPart, HwordAsciipart, Blank}
+use Rattle.ts_parser.specs.declared.kinds.TokenType.TheVariants.{Numhword, Asciihword, Hword, Float, Int, Uint}
 
 abbrev pub type_number : TokenType → ℕ
 type_number Asciiword = 1

@@ -1,5 +1,6 @@
 -- The number at the front of a text, computed.
-use Rattle.std.specs.Prelude.{ℕ, zero, suc, ◌+◌, List, [], ◌∷◌, drop, Bool, true, false, not, if◌then◌else◌, ◌==◌, ◌||◌, ◌&&◌, nat_lt, Option, Some, None}
+use Rattle.std.specs.Prelude.{ℕ, zero, suc, ◌+◌, List, [], ◌∷◌, drop, Bool, true, false, not, if◌then◌else◌, ◌==◌, ◌||◌}
+use Rattle.std.specs.Prelude.{◌&&◌, nat_lt, Option, Some, None}
 use Rattle.std.specs.List.{prefix_len}
 use Rattle.std.specs.Char.{is_ascii_digit}
 use Rattle.ts_parser.specs.declared.kinds.TokenType.{TokenType}
@@ -22,7 +23,8 @@ is_one_group u n = n == prefix_len is_ascii_digit u
 
 -- whether n bytes are two groups
 abbrev pub is_two_groups : List ℕ → ℕ → Bool
-is_two_groups u n = n == suc (prefix_len is_ascii_digit u + prefix_len is_ascii_digit (drop (suc (prefix_len is_ascii_digit u)) u))
+is_two_groups u n =
+    n == suc (prefix_len is_ascii_digit u + prefix_len is_ascii_digit (drop (suc (prefix_len is_ascii_digit u)) u))
 
 abbrev pub sign_len : List ℕ → ℕ
 sign_len u = if begins_with is_sign u then 1 else 0
@@ -34,7 +36,8 @@ with_digits n (suc d) = n + suc d
 -- the exponent at the front, 0 where none is
 abbrev pub exponent_len : List ℕ → ℕ
 exponent_len [] = 0
-exponent_len (c ∷ u) = if (c == 69) || (c == 101) then with_digits (1 + sign_len u) (prefix_len is_ascii_digit (drop (sign_len u) u)) else 0
+exponent_len (c ∷ u) = if (c == 69) || (c == 101)
+    then with_digits (1 + sign_len u) (prefix_len is_ascii_digit (drop (sign_len u) u)) else 0
 
 abbrev pub ends_number : List ℕ → Bool
 ends_number [] = true
@@ -55,7 +58,8 @@ is_scientific u n = (is_one_group u n || is_two_groups u n) && nat_lt 0 (exponen
 
 -- the number at the front, whose groups of digits have n bytes
 abbrev pub number_of : Bool → List ℕ → ℕ → Option Form
-number_of signed u n = if is_scientific u n then ended u (n + exponent_len (drop n u)) Sfloat else plain_number signed u n
+number_of signed u n =
+    if is_scientific u n then ended u (n + exponent_len (drop n u)) Sfloat else plain_number signed u n
 
 -- the number at the front, without its sign
 abbrev pub number_front : Bool → List ℕ → Option Form
@@ -71,4 +75,5 @@ with_sign (Some f) = Some (form f.kind (suc f.length))
 
 abbrev pub number_at : Option ℕ → List ℕ → Option Form
 number_at before [] = None
-number_at before (c ∷ u) = if is_sign c then (if is_free before then with_sign (number_front true u) else None) else number_front false (c ∷ u)
+number_at before (c ∷ u) =
+    if is_sign c then (if is_free before then with_sign (number_front true u) else None) else number_front false (c ∷ u)

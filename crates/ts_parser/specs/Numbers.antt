@@ -30,9 +30,11 @@ IsExponentMark c = (c ≡ 69) ⊎ (c ≡ 101)
 abbrev pub IsNumber : TokenType → List ℕ → Type 0
 IsNumber Uint u = Digits u
 IsNumber Int u = (c : ℕ) × (d : List ℕ) × IsSign c × Digits d × (u ≡ c ∷ d)
-IsNumber Float u = (s : List ℕ) × (a : List ℕ) × (b : List ℕ) × MaybeSign s × Digits a × Digits b × (u ≡ s ++ (a ++ 46 ∷ b))
+IsNumber Float u =
+    (s : List ℕ) × (a : List ℕ) × (b : List ℕ) × MaybeSign s × Digits a × Digits b × (u ≡ s ++ (a ++ 46 ∷ b))
 IsNumber Version u = (gs : List (List ℕ)) × (3 ≤ length gs) × All Digits gs × (u ≡ join_with_byte 46 gs)
-IsNumber Sfloat u = (s : List ℕ) × (m : List ℕ) × (e : ℕ) × (t : List ℕ) × (d : List ℕ) × MaybeSign s × Mantissa m × IsExponentMark e × MaybeSign t × Digits d
+IsNumber Sfloat u = (s : List ℕ) × (m : List ℕ) × (e : ℕ) × (t : List ℕ) × (d : List ℕ) × MaybeSign s × Mantissa m
+    × IsExponentMark e × MaybeSign t × Digits d
     × (u ≡ s ++ (m ++ e ∷ (t ++ d)))
 IsNumber k u = ⊥
 

@@ -1,5 +1,6 @@
 -- The token list of a text, computed.
-use Rattle.std.specs.Prelude.{◌≡◌, ◌↔◌, ℕ, zero, suc, ◌+◌, ◌-◌, List, [], ◌∷◌, ◌++◌, take, drop, Bool, if◌then◌else◌, ◌==◌, ◌||◌, Option, Some, None, is_some, slice_get}
+use Rattle.std.specs.Prelude.{◌≡◌, ◌↔◌, ℕ, zero, suc, ◌+◌, ◌-◌, List, [], ◌∷◌, ◌++◌, take, drop, Bool, if◌then◌else◌}
+use Rattle.std.specs.Prelude.{◌==◌, ◌||◌, Option, Some, None, is_some, slice_get}
 use Rattle.ts_parser.specs.declared.kinds.TokenType.{TokenType}
 use Rattle.ts_parser.specs.declared.kinds.TokenType.TheVariants.{Blank}
 use Rattle.ts_parser.specs.declared.iter.Token.{Token}
@@ -50,7 +51,8 @@ abbrev pub tokens_from : ℕ → ℕ → Option ℕ → List ℕ → List Token
 tokens_from k n before [] = []
 tokens_from (suc k) n before (c ∷ u) = tokens_from k (n + 1) (Some c) u
 tokens_from zero n before (c ∷ u) = token_of (form_at before (c ∷ u)) n
-    ∷ (parts_of (form_at before (c ∷ u)).kind n (take (form_at before (c ∷ u)).length (c ∷ u)) ++ tokens_from ((form_at before (c ∷ u)).length - 1) (n + 1) (Some c) u)
+    ∷ (parts_of (form_at before (c ∷ u)).kind n (take (form_at before (c ∷ u)).length (c ∷ u))
+    ++ tokens_from ((form_at before (c ∷ u)).length - 1) (n + 1) (Some c) u)
 
 abbrev pub byte_before : List ℕ → ℕ → Option ℕ
 byte_before text n = if n == 0 then None else slice_get text (n - 1)

@@ -4,7 +4,8 @@ use Rattle.std.specs.List.{All, Any, join_with_byte}
 use Rattle.std.specs.Char.{IsAsciiDigit, IsAsciiAlphabetic}
 use Rattle.ts_parser.specs.Letters.{IsWordLetter, IsWordByte, StartsWithout}
 use Rattle.ts_parser.specs.declared.kinds.TokenType.{TokenType}
-use Rattle.ts_parser.specs.declared.kinds.TokenType.TheVariants.{Asciiword, Word, Numword, HwordNumpart, HwordPart, HwordAsciipart, Numhword, Asciihword, Hword, Uint}
+use Rattle.ts_parser.specs.declared.kinds.TokenType.TheVariants.{Asciiword, Word, Numword, HwordNumpart, HwordPart}
+use Rattle.ts_parser.specs.declared.kinds.TokenType.TheVariants.{HwordAsciipart, Numhword, Asciihword, Hword, Uint}
 
 -- letters and digits, as many as are there
 pub record IsRun (u r : List ℕ) : Type 0 where
@@ -39,7 +40,8 @@ pub data WholeKind : List (List ℕ) → TokenType → Type 0 where
 
 -- after a chain comes neither a letter nor a digit, nor a hyphen with a link after it
 abbrev pub EndsChain : List ℕ → Type 0
-EndsChain r = StartsWithout IsWordByte r × ((u q : List ℕ) → r ≡ 45 ∷ (u ++ q) → IsLink u → StartsWithout IsWordByte q → ⊥)
+EndsChain r =
+    StartsWithout IsWordByte r × ((u q : List ℕ) → r ≡ 45 ∷ (u ++ q) → IsLink u → StartsWithout IsWordByte q → ⊥)
 
 -- two or more links, to be joined by single hyphens, and no more of them
 pub record IsChain (us : List (List ℕ)) (r : List ℕ) : Type 0 where

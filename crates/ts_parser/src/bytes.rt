@@ -1,7 +1,8 @@
 ghost use Rattle.std.specs.Prelude.{◌≡◌, ◌≤◌, length, nat_lt};
 ghost use Rattle.std.specs.List.{prefix_len, list_all, list_any};
 ghost use Rattle.std.specs.Char.{is_ascii_digit as digit_is, is_ascii_alphabetic as ascii_is};
-ghost use Rattle.ts_parser.specs.Letters.{is_word_letter as letter_is, is_word_byte as inner_is, begins_with as front_is};
+ghost use Rattle.ts_parser.specs.Letters.{is_word_letter as letter_is, is_word_byte as inner_is};
+ghost use Rattle.ts_parser.specs.Letters.{begins_with as front_is};
 ghost use Rattle.ts_parser.specs.NumberForms.{is_sign as sign_is, is_free as free_is, groups_len as groups_are};
 ghost use Rattle.ts_parser.specs.Rows.{begins_piece};
 ghost use Rattle.ts_parser.specs.WordForms.{links_len as links_are, begins_link as link_is, run_len as run_is};

@@ -1,6 +1,10 @@
 ghost use Rattle.std.specs.Prelude.{◌≡◌, ◌≤◌, ◌<◌, length, is_some, true};
-ghost use Rattle.ts_parser.specs.NumberForms.{exponent_len as exponent_is, ends_number as end_is, is_one_group as one_is, is_two_groups as two_are, ended as ended_is, number_of as number_is, number_front as front_number, number_at as number_here, groups_len as groups_are};
-ghost use Rattle.ts_parser.specs.WordForms.{word_form as word_is, run_kind as kind_of_run, whole_kind as kind_of_whole, part_form as part_is};
+ghost use Rattle.ts_parser.specs.NumberForms.{exponent_len as exponent_is, ends_number as end_is};
+ghost use Rattle.ts_parser.specs.NumberForms.{is_one_group as one_is, is_two_groups as two_are, ended as ended_is};
+ghost use Rattle.ts_parser.specs.NumberForms.{number_of as number_is, number_front as front_number};
+ghost use Rattle.ts_parser.specs.NumberForms.{number_at as number_here, groups_len as groups_are};
+ghost use Rattle.ts_parser.specs.WordForms.{word_form as word_is, run_kind as kind_of_run, whole_kind as kind_of_whole};
+ghost use Rattle.ts_parser.specs.WordForms.{part_form as part_is};
 ghost use Rattle.ts_parser.specs.Letters.{begins_with as front_is, is_word_byte as inner_is};
 ghost use Rattle.ts_parser.specs.TokensOf.{starts_form as form_starts, blank_len as blank_is, form_at as form_here};
 

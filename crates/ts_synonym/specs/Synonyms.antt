@@ -1,5 +1,6 @@
 -- Lists of synonyms: a word of a line and what stands for it.
-use Rattle.std.specs.Prelude.{◌≡◌, ◌≢◌, ◌⊎◌, ◌↔◌, ℕ, ◌<◌, List, [], ◌∷◌, ◌++◌, length, All, Bool, true, false, bytes_eq, Option, Some, None}
+use Rattle.std.specs.Prelude.{◌≡◌, ◌≢◌, ◌⊎◌, ◌↔◌, ℕ, ◌<◌, List, [], ◌∷◌, ◌++◌, length, All, Bool, true, false, bytes_eq}
+use Rattle.std.specs.Prelude.{Option, Some, None}
 use Rattle.std.specs.Map.{lookup}
 use Rattle.ts_base.specs.declared.TheConstants.{LONGEST_LEXEME}
 use Rattle.ts_base.specs.declared.Found.{Found}
@@ -74,7 +75,8 @@ synonym_answer kept word = given_answer (given_for kept (cased kept.sensitive wo
 pub record IsSynonymList (sensitive : Bool) (lines : List (List ℕ)) (kept : Synonyms) : Type 0 where
   pub fit : All (λ line. ¬ IsBadLine line) lines
   pub casing : kept.sensitive ≡ sensitive
-  pub each : (word : List ℕ) (found : Found) → (given_for kept word ≡ Some found) ↔ IsFirstGiven sensitive lines word found
+  pub each : (word : List ℕ) (found : Found) → (given_for kept word ≡ Some found)
+      ↔ IsFirstGiven sensitive lines word found
 
 -- the line isn't bad, and the list is that of one line more, whichever lines it was of
 pub record Adds (line : List ℕ) (old new : Synonyms) : Type 0 where

@@ -3,7 +3,8 @@ ghost use Rattle.std.specs.Prelude.{◌≡◌, [], IfOk, IfErr, OnOk, OnErr, opt
 ghost use Rattle.std.specs.Str.Lines.{lines};
 ghost use Rattle.ts_base.specs.Dictionary.{IsWordAnswer};
 ghost use Rattle.ts_base.specs.LineErrors.{IsBadFault, IsBadRefusal};
-ghost use Rattle.ts_synonym.specs.Synonyms.{cased as cased_of, given_for, synonym_answer, IsBadLine, IsSynonymList, Adds};
+ghost use Rattle.ts_synonym.specs.Synonyms.{cased as cased_of, given_for, synonym_answer, IsBadLine, IsSynonymList};
+ghost use Rattle.ts_synonym.specs.Synonyms.{Adds};
 
 use crate::line::{cased, is_bad, two_words, without_mark};
 use indexmap::IndexMap;

@@ -14,7 +14,10 @@ abbrev pub named_mapping : String Global × Mapping → NamedMapping
 named_mapping e = record { name = string_bytes e.0; mapping = e.1 }
 
 abbrev pub known_of : Inside → Known
-known_of c = record { dictionaries = map named_rules c.dictionaries.entries; configurations = map named_mapping c.configurations.entries }
+known_of c = record {
+  dictionaries = map named_rules c.dictionaries.entries;
+  configurations = map named_mapping c.configurations.entries;
+}
 
 -- each configuration has places of dictionaries alone
 abbrev pub AllWithin : Known → Type 0
