@@ -1,8 +1,15 @@
-//! What the benches share: the words of a call, a clock, the lines that they print, and texts that
-//! they make.
+//! What benches and programs of cases share: the words of a call, a clock, the lines that they print, texts that they
+//! make, a device whose calls are watched, the folders that they go over, and edits of logs.
 #![tactic(auto)]
 
+mod disk;
+mod edits;
+mod folders;
+
 use anyhow::Result;
+pub use disk::{Watch, WatchedDisk};
+pub use edits::EditLine;
+pub use folders::names_in;
 use std::alloc::{AllocError, Global};
 use std::env;
 use std::time::Instant;

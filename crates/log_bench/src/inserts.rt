@@ -35,8 +35,8 @@ where
     let ended = run_script(rt, script.into_bytes(), empty, timed)?;
     let all = start.elapsed(rt)?;
     ensure!(ended.status == 0, "a run of inserts fails");
-    let own = all.saturating_sub(ended.store.inside());
-    let calls = ended.store.calls();
+    let own = all.saturating_sub(ended.store.watch.inside());
+    let calls = ended.store.disk.calls();
     Ok(Cost { calls, own })
 }
 

@@ -1,6 +1,7 @@
 // A log of many records.
 use crate::shell::run_script;
 use anyhow::{Result, bail, ensure};
+use bench_base::WatchedDisk;
 use disk_trait::{Disk, File, MemoryDisk};
 use std::alloc::{AllocError, Global};
 use std::rt::Clock;
@@ -68,7 +69,8 @@ where
     let alloc = rt.alloc();
     let empty = MemoryDisk::new(alloc, Vec::new(alloc));
     let ended = run_script(rt, INSERT.to_vec(alloc)?, empty, false)?;
-    let mut disk = ended.store.into_memory();
+    let WatchedDisk { disk, .. } = ended.store;
+    let mut disk = disk;
     let mut log = log_of(alloc, &mut disk)?;
     ensure!(log.pop() == Some(0), "a log ends with a closed gate");
     for batch in 0..batches {

@@ -44,7 +44,7 @@ where
     println!(rt;
         "{batches} batches of 1000 records in {size} bytes: status {}, {reply}\n{} calls of the device",
         ended.status,
-        ended.store.calls()
+        ended.store.disk.calls()
     )?;
     Ok(seconds)
 }

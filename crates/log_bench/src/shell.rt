@@ -1,5 +1,6 @@
 // Runs of scripts over a timed device.
-use crate::device::TimedDisk;
+use crate::device::{Stopwatch, TimedDisk};
+use bench_base::WatchedDisk;
 use disk_trait::{MemoryDisk, MemorySink, MemorySource};
 use shell_run::{NoGate, Outcome, run_shell};
 use std::alloc::AllocError;
@@ -31,7 +32,10 @@ where
         &words,
         MemorySource::new(script, Vec::new(alloc), PIECE),
         MemorySink::new(alloc, Vec::new(alloc)),
-        TimedDisk::new(disk, rt, timed),
+        WatchedDisk {
+            disk,
+            watch: Stopwatch::new(rt, timed),
+        },
         &NoGate,
     ))
 }

@@ -1,10 +1,10 @@
 // A folder with a log, what is wanted of it, its walks and its edits.
-use crate::edits::EditLine;
 use crate::history::{history_lines, record_line};
 use crate::judge::{Beginning, Judged, Verdict, judge, records_of};
 use crate::same::same_in_front;
 use crate::walks::test_walks;
 use anyhow::{Context, Result};
+use bench_base::EditLine;
 use page_types::Record;
 use std::alloc::{AllocError, Global};
 use std::fs;
@@ -21,22 +21,6 @@ pub(crate) struct Asks {
     pub(crate) index: bool,
     /// Whether each edit's verdict is printed, with its rule.
     pub(crate) why: bool,
-}
-
-/// The names of the folders in a folder, in their order as text.
-pub(crate) fn names_in<R: Files + AllocGlobal + Clone + Drop>(
-    rt: &R,
-    folder: Path<'_>,
-) -> Result<Vec<String>> {
-    let mut names = Vec::new(rt.alloc());
-    for entry in fs::read_dir(rt, folder)? {
-        let entry = entry?;
-        if entry.file_type()?.is_dir() {
-            names.push(String::from_str(rt.alloc(), entry.file_name())?)?;
-        }
-    }
-    names.sort()?;
-    Ok(names)
 }
 
 /// Whether the record with this number is valid.

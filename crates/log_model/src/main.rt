@@ -33,7 +33,6 @@
 #![tactic(auto)]
 
 mod choices;
-mod edits;
 mod folder;
 mod history;
 mod images;
@@ -44,7 +43,8 @@ mod told;
 mod walks;
 
 use anyhow::Result;
-use folder::{Asks, names_in, test_folder};
+use bench_base::names_in;
+use folder::{Asks, test_folder};
 use std::env;
 use std::path::Path;
 use std::process::ExitCode;

@@ -1,8 +1,9 @@
-//! Reads 1,000 made documents from their texts and from their encodings, matches them against 20 queries, and prints how many
-//! each query finds; then two matches that are hard. With the word `time` it also prints how long each of these takes.
+//! Reads 1,000 made documents from their texts and from their encodings, matches them against 20 queries, and prints
+//! how many each query finds; then two matches that are hard. With the word `time` it also prints how long each of
+//! these takes.
 #![tactic(auto)]
 
-ghost use Rattle.std.specs.Prelude.{◌≡◌, ◌≤◌, length};
+ghost use Rattle.std.specs.Prelude.{◌≡◌};
 ghost use Rattle.ts_match.specs.Plan.{plan_of};
 
 use anyhow::Result;
@@ -49,8 +50,14 @@ const QUERIES: [&str; 20] = [
     "waa <-> (wab <2> w:*)",
     "(w:* <2> waa) & !(waa <-> wab)",
     "!(waa <-> wab) & (wac <-> wad | wae <-> waf)",
-    "waa | wab | wac | wad | wae | waf | wag | wah | wai | waj | wak | wal | wam | wan | wao | wap | waq | war | was | wat",
-    "(waa & wab & wac & wad & wae) | (waf & wag & wah & wai & waj) | (wak <3> wal & wam & wan & wao) | (wap & waq & war <9> was & wat)",
+    concat!(
+        "waa | wab | wac | wad | wae | waf | wag | wah | wai | waj | ",
+        "wak | wal | wam | wan | wao | wap | waq | war | was | wat",
+    ),
+    concat!(
+        "(waa & wab & wac & wad & wae) | (waf & wag & wah & wai & waj) | ",
+        "(wak <3> wal & wam & wan & wao) | (wap & waq & war <9> was & wat)",
+    ),
 ];
 
 /// The next of a row of numbers that look random.
@@ -148,20 +155,6 @@ fn check_all(encodings: &[Vec<u8>]) -> Result<usize> {
     Ok(lexemes)
 }
 
-/// How many documents satisfy the query.
-fn count(query: &TsQuery, work: &mut MatchWork, documents: &[TsVector]) -> usize
-    requires { work.old ≡ plan_of query.now }
-    ensures { result ≤ length documents.now }
-{
-    let mut found = 0;
-    for document in documents {
-        if matches(query, work, document) {
-            found += 1;
-        }
-    }
-    found
-}
-
 /// The documents of the encodings, each checked where it lies.
 fn check_each<'a>(alloc: Global, encodings: &'a [Vec<u8>]) -> Result<Vec<VectorBytes<'a>>> {
     let mut documents = Vec::new(alloc);
@@ -171,15 +164,40 @@ fn check_each<'a>(alloc: Global, encodings: &'a [Vec<u8>]) -> Result<Vec<VectorB
     Ok(documents)
 }
 
-/// How many documents satisfy the query, each read where it lies.
-fn count_in(query: &TsQuery, work: &mut MatchWork, documents: &[VectorBytes]) -> usize
+/// The documents, in memory or where they lie.
+#[derive(Clone, Copy)]
+enum Documents<'a> {
+    /// In memory.
+    Listed(&'a [TsVector]),
+    /// Each read where it lies.
+    Encoded(&'a [VectorBytes<'a>]),
+}
+
+/// Whether the document at a place satisfies the query.
+fn is_found(query: &TsQuery, work: &mut MatchWork, documents: &Documents, place: usize) -> bool
     requires { work.old ≡ plan_of query.now }
-    ensures { result ≤ length documents.now }
+    ensures { work.new ≡ work.old }
 {
-    let mut found = 0;
-    for document in documents {
-        if matches_encoded(query, work, document) {
-            found += 1;
+    match *documents {
+        Documents::Listed(all) => match all.get(place) {
+            Some(document) => matches(query, work, document),
+            None => false,
+        },
+        Documents::Encoded(all) => match all.get(place) {
+            Some(document) => matches_encoded(query, work, document),
+            None => false,
+        },
+    }
+}
+
+/// How many documents satisfy the query.
+fn count(query: &TsQuery, work: &mut MatchWork, documents: &Documents) -> usize
+    requires { work.old ≡ plan_of query.now }
+{
+    let mut found: usize = 0;
+    for place in 0..DOCUMENTS as usize {
+        if is_found(query, work, documents, place) {
+            found = found.saturating_add(1);
         }
     }
     found
@@ -325,7 +343,7 @@ fn match_all(
         let query = TsQuery::parse(alloc, text)?;
         let mut work = MatchWork::new(alloc, &query)?;
         let start = Instant::now(rt)?;
-        let found = count(&query, &mut work, documents);
+        let found = count(&query, &mut work, &Documents::Listed(documents));
         let taken = start.elapsed(rt)?.as_secs_f64();
         seconds += taken;
         println!(rt; "{found} {text}")?;
@@ -355,7 +373,8 @@ fn match_encoded(
         let query = TsQuery::parse(alloc, text)?;
         let mut work = MatchWork::new(alloc, &query)?;
         let start = Instant::now(rt)?;
-        found = found.saturating_add(count_in(&query, &mut work, &documents));
+        let count = count(&query, &mut work, &Documents::Encoded(&documents));
+        found = found.saturating_add(count);
         seconds += start.elapsed(rt)?.as_secs_f64();
     }
     println!(rt; "{found} found where the documents lie")?;

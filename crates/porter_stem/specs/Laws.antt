@@ -1,7 +1,9 @@
 -- What holds of all stems, and of the tables.
-use Rattle.std.specs.Prelude.{◌≡◌, ◌⊎◌, ℕ, ◌<◌, ◌≤◌, List, [], ◌∷◌, length, map, Bool, true, false, not, ◌&&◌, bytes_eq, Option, Some, None, IfSome, IsTrue}
+use Rattle.std.specs.Prelude.{◌≡◌, ◌⊎◌, ℕ, ◌<◌, ◌≤◌, List, [], ◌∷◌, length, map, Bool, true, false, not, ◌&&◌, bytes_eq}
+use Rattle.std.specs.Prelude.{Option, Some, None, IfSome, IsTrue}
 use Rattle.std.specs.List.{list_all, list_any}
-use Rattle.porter_stem.specs.Tables.{Rule, ends_in, longest, rules_1a, rules_1b, rules_1c, rules_2, rules_3, rules_4, rules_5a}
+use Rattle.porter_stem.specs.Tables.{Rule, ends_in, longest, rules_1a, rules_1b, rules_1c, rules_2, rules_3, rules_4}
+use Rattle.porter_stem.specs.Tables.{rules_5a}
 use Rattle.porter_stem.specs.Stem.{stem, is_small}
 
 -- a stem is not longer than its word
@@ -54,4 +56,5 @@ AreApart rules = IsTrue (all_differ (map (λ (r : Rule). r.suffix) rules))
 
 -- no table has a suffix twice
 abbrev pub TablesAreApart : Type 0
-TablesAreApart = AreApart rules_1a × AreApart rules_1b × AreApart rules_1c × AreApart rules_2 × AreApart rules_3 × AreApart rules_4 × AreApart rules_5a
+TablesAreApart = AreApart rules_1a × AreApart rules_1b × AreApart rules_1c × AreApart rules_2 × AreApart rules_3
+    × AreApart rules_4 × AreApart rules_5a

@@ -6,8 +6,8 @@ use Rattle.std.specs.List.{list_any}
 abbrev pub is_one_of : List ℕ → ℕ → Bool
 is_one_of letters c = list_any (λ (x : ℕ). c == x) letters
 
--- Whether a letter is a consonant, given whether the letter before it is: a, e, i, o and u are vowels, and so is y after
--- a consonant. A word begins as if after a vowel.
+-- Whether a letter is a consonant, given whether the letter before it is: a, e, i, o and u are vowels, and so is y
+-- after a consonant. A word begins as if after a vowel.
 abbrev pub is_consonant : Bool → ℕ → Bool
 is_consonant before c = if c == 121 then not before else not (is_one_of (codes "aeiou") c)
 
@@ -44,7 +44,8 @@ is_double letters kinds = false
 abbrev pub ends_double : List ℕ → Bool
 ends_double word = is_double (reverse word) (reverse (kinds word))
 
--- the letters from the last on, beside whether each is a consonant: consonant, vowel, consonant, and the last none of w, x, y
+-- the letters from the last on, beside whether each is a consonant: consonant, vowel, consonant, and the last none of
+-- w, x, y
 abbrev pub is_short : List ℕ → List Bool → Bool
 is_short (c ∷ letters) (true ∷ false ∷ true ∷ kinds) = not (is_one_of (codes "wxy") c)
 is_short letters kinds = false

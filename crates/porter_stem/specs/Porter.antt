@@ -7,7 +7,8 @@ use Rattle.porter_stem.specs.Stem.{stem}
 
 -- A stop word is left out; each other word has the stem of its lower case.
 abbrev pub porter_answer : List (List ℕ) → List ℕ → WordAnswer
-porter_answer stops word = if is_stop stops (lower word) then stop_word else word_lexemes (plain (stem (lower word)) ∷ [])
+porter_answer stops word =
+    if is_stop stops (lower word) then stop_word else word_lexemes (plain (stem (lower word)) ∷ [])
 
 -- it knows every word
 abbrev pub PorterKnowsAll : Type 0

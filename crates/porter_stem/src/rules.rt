@@ -1,7 +1,8 @@
 // A step by a table of rules.
 ghost use Rattle.std.specs.Prelude.{◌≡◌, ◌≤◌, ◌+◌, ◌++◌, length, map, take, false, IfSome, IsTrue};
 ghost use Rattle.std.specs.Vec.{vec_capacity, vec_len};
-ghost use Rattle.porter_stem.specs.Tables.{ends_in, holds, longest as longest_of, applied as applied_of, step as step_of};
+ghost use Rattle.porter_stem.specs.Tables.{ends_in, holds, longest as longest_of, applied as applied_of};
+ghost use Rattle.porter_stem.specs.Tables.{step as step_of};
 ghost use Rattle.porter_stem.specs.Views.{rule_of, found_of};
 
 use crate::rule::{Condition, Rule};
@@ -78,7 +79,8 @@ fn replace(word: &mut Vec<u8>, at: usize, given: &str)
 pub fn step(word: &mut Vec<u8>, rules: &[Rule]) -> Option<Rule>
     ensures applied { found_of result ≡ applied_of (map rule_of rules.now) word.old.items }
     ensures value { word.new.items ≡ step_of (map rule_of rules.now) word.old.items }
-    ensures shorter { IfSome result (λ r. vec_len word.new + length r.suffix.now ≡ vec_len word.old + length r.given.now) }
+    ensures shorter { IfSome result (λ r. vec_len word.new + length r.suffix.now
+        ≡ vec_len word.old + length r.given.now) }
     ensures capacity { vec_capacity word.old ≤ vec_capacity word.new }
 {
     let rule = longest(word, rules)?;

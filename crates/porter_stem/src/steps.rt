@@ -1,7 +1,8 @@
 // The steps of the algorithm.
 ghost use Rattle.std.specs.Prelude.{◌≡◌, ◌<◌, ◌++◌, ◌∷◌, []};
 ghost use Rattle.std.specs.Vec.{vec_capacity, vec_len};
-ghost use Rattle.porter_stem.specs.Stem.{stem as stem_of, step_1b as step_1b_of, step_5b as step_5b_of, mended, stemmed, is_small};
+ghost use Rattle.porter_stem.specs.Stem.{stem as stem_of, step_1b as step_1b_of, step_5b as step_5b_of, mended};
+ghost use Rattle.porter_stem.specs.Stem.{stemmed, is_small};
 ghost use Rattle.std.specs.List.{list_all};
 
 use crate::rules::{has_suffix, step};
@@ -85,8 +86,8 @@ fn all_steps(word: &mut Vec<u8>)
 
 /// Puts the stem of a word in its place, by M. F. Porter's "An algorithm for suffix stripping" of 1980.
 ///
-/// The word `s`, and a word with a byte other than a to z, stay as they are. It takes no memory: a stem is no longer than
-/// its word.
+/// The word `s`, and a word with a byte other than a to z, stay as they are. It takes no memory: a stem is no longer
+/// than its word.
 pub fn stem(word: &mut Vec<u8>)
     ensures { word.new.items ≡ stem_of word.old.items }
 {

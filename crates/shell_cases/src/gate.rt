@@ -2,7 +2,8 @@
 use crate::case::PIECE;
 use crate::tally::Tally;
 use anyhow::Result;
-use disk_trait::{Disk, Failed, File, MemoryDisk, MemorySink, MemorySource};
+use bench_base::{Watch, WatchedDisk};
+use disk_trait::{MemoryDisk, MemorySink, MemorySource};
 use shell_run::{Gate, run_shell};
 use std::sync::Wait;
 use std::sync::atomic::{AtomicU64, Ordering};
@@ -48,57 +49,23 @@ impl Gate for Events {
     }
 }
 
-/// A device in memory whose writes are noted. It says nothing of what it holds.
+/// Notes the writes of a device.
 #[derive(Drop)]
-struct NotedDisk<'a> {
-    /// The device.
-    disk: MemoryDisk,
+struct Writes<'a> {
     /// What has happened.
     events: &'a Events,
 }
 
-impl<'a> Disk for NotedDisk<'a> {
-    ghost use Rattle.disk_trait.specs.MemoryDisk.{seen_of, image_of, clock_of, faults_of, write_faults_of};
-
-    ghost tells = { ⊥ };
-
-    ghost seen = { λ d. seen_of d.disk };
-
-    ghost clock = { λ d. clock_of d.disk };
-
-    ghost image = { λ d. image_of d.disk };
-
-    ghost fault_count = { λ d. faults_of d.disk };
-
-    ghost write_fault_count = { λ d. write_faults_of d.disk };
-
-    ghost seen_is_image = { λ d told. absurd told };
-
-    /// As the device in memory does.
-    fn read(&mut self, file: File, at: u64, buf: &mut [u8]) -> Result<usize, Failed> {
-        self.disk.read(file, at, buf)
+impl<'a> Watch for Writes<'a> {
+    /// Notes a write.
+    fn begin(&mut self, writes: bool) {
+        if writes {
+            self.events.note_write();
+        }
     }
 
-    /// Notes it.
-    fn write_at(&mut self, file: File, at: u64, bytes: &[u8]) -> Result<(), Failed> {
-        self.events.note_write();
-        self.disk.write_at(file, at, bytes)
-    }
-
-    /// As the device in memory does.
-    fn sync(&mut self, file: File) -> Result<(), Failed> {
-        self.disk.sync(file)
-    }
-
-    /// As the device in memory does.
-    fn length(&mut self, file: File) -> Result<u64, Failed> {
-        self.disk.length(file)
-    }
-
-    /// As the device in memory does.
-    fn faults(&self) -> u64 {
-        self.disk.faults()
-    }
+    /// Notes nothing.
+    fn end(&mut self) {}
 }
 
 /// Statements of three sessions.
@@ -120,9 +87,9 @@ where
     let events = Events {
         number: AtomicU64::new(0),
     };
-    let store = NotedDisk {
+    let store = WatchedDisk {
         disk: MemoryDisk::new(alloc, Vec::new(alloc)),
-        events: &events,
+        watch: Writes { events: &events },
     };
     let script = MemorySource::new(SCRIPT.to_vec(alloc)?, Vec::new(alloc), PIECE);
     let out = MemorySink::new(alloc, Vec::new(alloc));

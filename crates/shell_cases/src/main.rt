@@ -17,7 +17,8 @@ mod streams;
 mod tally;
 
 use anyhow::{Context, Result};
-use case::{Case, Turn, log_of, names_in};
+use bench_base::names_in;
+use case::{Case, Turn, log_of};
 use compare::report;
 use edits::open_edits;
 use shell_run::{NoGate, run_shell};

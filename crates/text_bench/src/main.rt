@@ -28,11 +28,11 @@ use ts_words::StopList;
 /// What is said in each paragraph of the text.
 const PARAGRAPH: &str = concat!(
     "Full text searching provides the capability to identify natural-language documents that satisfy a query, and ",
-    "optionally to sort them by relevance to the query. The most common type of search is to find all documents containing ",
-    "given query terms and return them in order of their similarity to the query. In 2023 some 4.5 million people read such ",
-    "a well-known page; it wasn't the first one, nor - as far as we know - the last. Notions of query and similarity are ",
-    "very flexible and depend on the specific application. The simplest search considers the query as a set of words and ",
-    "similarity as the frequency of query words in the document.\n\n",
+    "optionally to sort them by relevance to the query. The most common type of search is to find all documents ",
+    "containing given query terms and return them in order of their similarity to the query. In 2023 some 4.5 ",
+    "million people read such a well-known page; it wasn't the first one, nor - as far as we know - the last. ",
+    "Notions of query and similarity are very flexible and depend on the specific application. The simplest search ",
+    "considers the query as a set of words and similarity as the frequency of query words in the document.\n\n",
 );
 
 /// How many paragraphs the text has.
