@@ -45,8 +45,9 @@ module _ {F J : Type 0} (frame : Framed F) (journal : Journaled J) (start : J) w
   taken_by h i id = with_holders h (put h.holder i (suc id)) h.owner
 
   -- what a view knows does not depend on what it found
-  pub found_knows : (h : Shape J) (id x : ℕ) (notes : Bool) (v : PassState J) → Knows journal start h id v → Knows journal start h id (found_by notes x v)
-  found_knows h id x notes v w = record {
+  pub found_knows : (h : Shape J) (id word x : ℕ) (notes : Bool) (v : PassState J) → Knows journal start h id v
+      → Knows journal start h id (found_by notes word x v)
+  found_knows h id word x notes v w = record {
     start_is = w.start_is;
     fresh = λ e. let f = w.fresh e in record { room = f.room; journal_is = f.journal_is };
     seen = record { later = w.seen.later; goes_on = w.seen.goes_on; others = w.seen.others; shown = w.seen.shown; counted = w.seen.counted };
@@ -66,29 +67,30 @@ module _ {F J : Type 0} (frame : Framed F) (journal : Journaled J) (start : J) w
     met = w.met;
   }
 
-  pub found_notes : (h : Shape J) (x : ℕ) (notes : Bool) (v : PassState J) (i : ℕ) → IsNoted h v i → IsNoted h (found_by notes x v) i
-  found_notes h x notes v i (IsNoted.as_frame f in_) = IsNoted.as_frame f in_
-  found_notes h x notes v i (IsNoted.as_journal b e) = IsNoted.as_journal b e
-  found_notes h x notes v i (IsNoted.as_work at e) = IsNoted.as_work at e
+  pub found_notes : (h : Shape J) (word x : ℕ) (notes : Bool) (v : PassState J) (i : ℕ) → IsNoted h v i
+      → IsNoted h (found_by notes word x v) i
+  found_notes h word x notes v i (IsNoted.as_frame f in_) = IsNoted.as_frame f in_
+  found_notes h word x notes v i (IsNoted.as_journal b e) = IsNoted.as_journal b e
+  found_notes h word x notes v i (IsNoted.as_work at e) = IsNoted.as_work at e
 
   -- a word that was found taken stays as it was
   pub found_taken : (s : St) (k : Rule s) (i id x : ℕ) (notes : Bool) (v : PassState J) → get_elem? s.views id ≡ some v
-      → Rule record { words = set s.words i (get_or s.words i 0); homes = s.homes; views = set s.views id (found_by notes x v) }
+      → Rule record { words = set s.words i (get_or s.words i 0); homes = s.homes; views = set s.views id (found_by notes i x v) }
   found_taken s k i id x notes v at =
       let h = k.shape in
-      let w : PassState J = found_by notes x v in
+      let w : PassState J = found_by notes i x v in
       subst (λ (l : List ℕ). Rule record { words = l; homes = s.homes; views = set s.views id w }) (sym (set-get_or s.words i 0)) record {
         shape = h;
         words = record { wide = k.words.wide; deep = k.words.deep; free = k.words.free; taken = k.words.taken };
         homes = record { frames = k.homes.frames; journal_is = k.homes.journal_is; last = k.homes.last };
         noted = λ q j lt has.
             let t = k.noted q j lt has in
-            still (λ y. IsNoted h y q) s.views id j v w t.0 at (found_notes h x notes v q) t.1 t.2;
+            still (λ y. IsNoted h y q) s.views id j v w t.0 at (found_notes h i x notes v q) t.1 t.2;
         store = k.store;
         placed = k.placed;
         pinned = pins_stay journal start h h.holder h.owner s.views id v w at refl k.pinned;
         sums = sums_stay journal start h h.holder h.owner s.views id v w at refl refl refl refl k.sums;
-        knows = views_stay (Knows journal start h) (Knows journal start h) s.views id w (found_knows h id x notes v (k.knows id v at)) (λ j y _ _ t. t) k.knows;
+        knows = views_stay (Knows journal start h) (Knows journal start h) s.views id w (found_knows h id i x notes v (k.knows id v at)) (λ j y _ _ t. t) k.knows;
       }
 
   with_notes : (h h' : Shape J) (i sought at : ℕ) (f : Note) (v : PassState J) (q : ℕ) → h'.frames ≡ h.frames → IsNoted h v q
@@ -144,12 +146,12 @@ module _ {F J : Type 0} (frame : Framed F) (journal : Journaled J) (start : J) w
       → k.shape.holder i ≡ 0 → v.room ≢ 0 → 0 < x → get_elem? s.homes i ≡ some (some (Frame f)) → IsFrame frame journal start k.shape i f
       → (journal.lawful start → frame.page f < page_limit → page_bytes (k.shape.pages (frame.page f)) ≡ frame.bytes f)
       → (notes : Bool) (found : ℕ)
-      → Rule record { words = set s.words i x; homes = set s.homes i none; views = set s.views id (after k.shape i sought f (found_by notes found v)) }
+      → Rule record { words = set s.words i x; homes = set s.homes i none; views = set s.views id (after k.shape i sought f (found_by notes i found v)) }
   claim_keeps s k id i sought x f v at within free room some_x there home encoded notes found =
       let h = k.shape in
       let holder' : ℕ → ℕ = put h.holder i (suc id) in
       let h' : Shape J = taken_by h i id in
-      let u : PassState J = found_by notes found v in
+      let u : PassState J = found_by notes i found v in
       let w : PassState J = after h i sought f u in
       let note : Note = record { frame = i; page = frame.page f; bytes = frame.bytes f; content = h.pages (frame.page f) } in
       let words = words_after s.words h.holder holder' (h.frames + 2) i x (omega (arith, k.words.wide)) (put_else h.holder i (suc id))
@@ -176,14 +178,14 @@ module _ {F J : Type 0} (frame : Framed F) (journal : Journaled J) (start : J) w
             (w, ap (get_elem? (set s.views id w)) jd ∙ changed_at s.views id v w at, subst (IsNoted h' w) (sym e) (IsNoted.as_frame note (inl refl))))
             (λ ne.
             let t = k.noted q j lt (sym (put_else h.holder i (suc id) q ne) ∙ has) in
-            let r = still (λ y. IsNoted h y q) s.views id j v u t.0 at (found_notes h found notes v q) t.1 t.2 in
-            still (λ y. IsNoted h' y q) s.views id j v w t.0 at (λ z. with_notes h' h' i sought (length h.log) note u q refl (found_notes h' found notes v q z)) t.1 (renoted h holder' h.owner t.0 q t.2));
+            let r = still (λ y. IsNoted h y q) s.views id j v u t.0 at (found_notes h i found notes v q) t.1 t.2 in
+            still (λ y. IsNoted h' y q) s.views id j v w t.0 at (λ z. with_notes h' h' i sought (length h.log) note u q refl (found_notes h' i found notes v q z)) t.1 (renoted h holder' h.owner t.0 q t.2));
         store = store_stays journal start h holder' h.owner k.store;
         placed = k.placed;
         pinned = pins_stay journal start h holder' h.owner s.views id v w at refl k.pinned;
         sums = sums_stay journal start h holder' h.owner s.views id v w at refl refl refl refl k.sums;
         knows = views_stay (Knows journal start h) (Knows journal start h') s.views id w
-            (claimer_knows h id i sought f u within free room home encoded k.store.shown (found_knows h id found notes v (k.knows id v at)))
+            (claimer_knows h id i sought f u within free room home encoded k.store.shown (found_knows h id i found notes v (k.knows id v at)))
             (λ j y _ _ t. knows_stays journal start h holder' h.owner j y (stays j) t.xids t) k.knows;
       }
 
@@ -199,7 +201,7 @@ module _ {F J : Type 0} (frame : Framed F) (journal : Journaled J) (start : J) w
       let free : h.holder i ≡ 0 = is_free h s k.words i (omega arith) hit in
       let home = k.homes.frames i within free in
       let f : F = home.0 in
-      let v : PassState J = found_by notes x me.0 in
+      let v : PassState J = found_by notes i x me.0 in
       let w : PassState J = after h i (sought + 1 - 1) f v in
       let encoded : journal.lawful start → frame.page f < page_limit → page_bytes (h.pages (frame.page f)) ≡ frame.bytes f
       = λ l lt. (k.store.shown l (frame.page f)).1 ∙ sym (home.2.bytes l lt) in
@@ -218,7 +220,7 @@ module _ {F J : Type 0} (frame : Framed F) (journal : Journaled J) (start : J) w
               goes_on = (known.seen.later, known.seen.goes_on);
               state = refl;
               allowed = λ l. allowed journal start (taken_by h i id) id w (store_stays journal start h (put h.holder i (suc id)) h.owner k.store) k.pinned.kept
-                  (claimer_knows h id i (sought + 1 - 1) f v within free room home.2 encoded k.store.shown (found_knows h id x notes me.0 known))
+                  (claimer_knows h id i (sought + 1 - 1) f v within free room home.2 encoded k.store.shown (found_knows h id i x notes me.0 known))
                   (lawful_here journal start h id me.0 known l);
               encoded = λ l lt. encoded (lawful_here journal start h id me.0 known l) lt;
             },
@@ -228,9 +230,9 @@ module _ {F J : Type 0} (frame : Framed F) (journal : Journaled J) (start : J) w
         ),
       ))
       (λ (miss : x ≢ 0). (
-        found_by notes x me.0,
+        found_by notes i x me.0,
         keeps,
         tt,
-        subst (λ b. Rule (stepped s i (either b (sought + 1) x) id me.1 (found_by notes x me.0) keeps)) (sym (ne_eqb x 0 miss)) (found_taken s k i id x notes me.0 at),
+        subst (λ b. Rule (stepped s i (either b (sought + 1) x) id me.1 (found_by notes i x me.0) keeps)) (sym (ne_eqb x 0 miss)) (found_taken s k i id x notes me.0 at),
         ((λ hit. absurd (miss hit)), λ _. refl),
       ))

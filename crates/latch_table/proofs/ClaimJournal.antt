@@ -17,6 +17,7 @@ use Rattle.latch_table.specs.declared.slots.Slot.TheVariants.{Journal}
 use Rattle.latch_table.specs.declared.states.Shown.{Shown}
 use Rattle.latch_table.specs.declared.states.PassState.{PassState}
 use Rattle.latch_table.specs.PassStates.{with_journal}
+use Rattle.latch_table.specs.Closing.{IsAllSince}
 use Rattle.latch_table.specs.Told.{HasClaimedJournal, claimed_journal}
 use Rattle.latch_table.specs.Shapes.{Shape}
 use Rattle.latch_table.specs.Lines.{IsNoted, Knows}
@@ -25,6 +26,8 @@ use Rattle.latch_table.proofs.Functions.{put, put_here, put_else, words_after}
 use Rattle.latch_table.proofs.Frames.{note_in}
 use Rattle.latch_table.proofs.Views.{views_stay, changed_at, still}
 use Rattle.latch_table.proofs.Told.{allowed, lawful_here}
+use Rattle.latch_table.proofs.Alone.{is_alone}
+use Rattle.latch_table.proofs.FreePlaces.{free_place}
 use Rattle.latch_table.proofs.Stay.{with_holders, is_free, renoted, store_stays, pins_stay, sums_stay, knows_stays}
 
 -- a log is as long as what it goes on from
@@ -177,9 +180,9 @@ module _ {F J : Type 0} (frame : Framed F) (journal : Journaled J) (start : J) w
       }
 
   -- what the claim says
-  told : (s : St) (k : Rule s) (id : ℕ) (v : PassState J) → get_elem? s.views id ≡ some v
+  told : (s : St) (k : Rule s) (id : ℕ) (v : PassState J) → get_elem? s.views id ≡ some v → v.room ≢ 0
       → HasClaimedJournal journal k.shape.journal v (with_journal journal k.shape.journal k.shape.log k.store.reached.0 v)
-  told s k id v at =
+  told s k id v at room =
       let h = k.shape in
       let w = k.knows id v at in
       let lawful = lawful_here journal start h id v w in
@@ -198,12 +201,18 @@ module _ {F J : Type 0} (frame : Framed F) (journal : Journaled J) (start : J) w
         since = w.floor.within;
         pins = w.floor.pins;
         pin = λ p e. (w.pin p e).1;
+        place_free = free_place journal start h s.views k.pinned k.sums k.knows id v at room;
         placed = λ f there. (note_in journal start h id f v.frames w.frames there).2.placed;
+        alone = λ full key e. subst (λ (b : J). IsAllSince journal b h.journal v h.log) (sym (w.start_is key e))
+            (is_alone journal start h s.views k.sums k.knows id v at full);
         owed = w.owed;
         allowed = λ l. allowed journal start h id v k.store k.pinned.kept w (lawful l);
         keeps = λ l. k.pinned.now (lawful l);
         flushed = λ l. k.store.flushed (lawful l);
         reached = λ l. k.store.reached.1 (lawful l);
+        shows = λ l. w.shown (lawful l);
+        redo = λ l. w.redo.number (lawful l);
+        walked = λ l. w.redo.walked (lawful l);
       }
 
   pub claims_journal : (slots id i : ℕ) (me : M) → i + 2 ≡ slots → me.0.room ≢ 0
@@ -224,7 +233,7 @@ module _ {F J : Type 0} (frame : Framed F) (journal : Journaled J) (start : J) w
         ap (get_elem? s.homes) same ∙ k.homes.journal_is free,
         subst (λ c. Rule (stepped s i (either c 1 x) id me.1 w (takes i (Journal b)))) (sym (eq-eqb x 0 hit))
             (subst (λ n. Rule (stepped s n 1 id me.1 w (takes n (Journal b)))) (sym same) rule),
-        ((λ _. (b, told s k id me.0 at, refl)), λ no. absurd (no hit)),
+        ((λ _. (b, told s k id me.0 at room, refl)), λ no. absurd (no hit)),
       ))
       (λ (miss : x ≢ 0). (
         me.0,

@@ -129,18 +129,18 @@ module _ {F J : Type 0} (frame : Framed F) (journal : Journaled J) (start : J) w
 
   -- the rule once a free right is claimed
   work_keeps : (s : St) (k : Rule s) (id : ℕ) (v : PassState J) → get_elem? s.views id ≡ some v
-      → k.shape.holder (suc k.shape.frames) ≡ 0 → v.room ≢ 0 → (notes : Bool) (found : ℕ)
+      → k.shape.holder (suc k.shape.frames) ≡ 0 → v.room ≢ 0 → (notes : Bool) (word found : ℕ)
       → Rule record {
         words = set s.words (suc k.shape.frames) 1;
         homes = s.homes;
-        views = set s.views id (with_work (length k.shape.log) (found_by notes found v));
+        views = set s.views id (with_work (length k.shape.log) (found_by notes word found v));
       }
-  work_keeps s k id v at free room notes found =
+  work_keeps s k id v at free room notes word found =
       let h = k.shape in
       let i : ℕ = suc h.frames in
       let holder' : ℕ → ℕ = put h.holder i (suc id) in
       let h' : Shape J = taken_by h id in
-      let u : PassState J = found_by notes found v in
+      let u : PassState J = found_by notes word found v in
       let w : PassState J = with_work (length h.log) u in
       let known = k.knows id v at in
       let empty = none_has h id v free known in
@@ -170,14 +170,14 @@ module _ {F J : Type 0} (frame : Framed F) (journal : Journaled J) (start : J) w
             (λ ne.
             let t = k.noted q j lt (sym (put_else h.holder i (suc id) q ne) ∙ has) in
             still (λ y. IsNoted h' y q) s.views id j v w t.0 at
-            (λ z. work_notes h' (length h.log) u q empty (found_notes frame journal start h' found notes v q z)) t.1
+            (λ z. work_notes h' (length h.log) u q empty (found_notes frame journal start h' word found notes v q z)) t.1
             (renoted h holder' h.owner t.0 q t.2));
         store = store_stays journal start h holder' h.owner k.store;
         placed = k.placed;
         pinned = pins_stay journal start h holder' h.owner s.views id v w at refl k.pinned;
         sums = sums_stay journal start h holder' h.owner s.views id v w at refl refl refl refl k.sums;
         knows = views_stay (Knows journal start h) (Knows journal start h') s.views id w
-            (worker_knows h id u free room (λ l. (k.store.legal l).valid) (found_knows frame journal start h id found notes v known))
+            (worker_knows h id u free room (λ l. (k.store.legal l).valid) (found_knows frame journal start h id word found notes v known))
             (λ j y _ _ t. knows_stays journal start h holder' h.owner j y (stays j) t.xids t) k.knows;
       }
 
@@ -192,10 +192,10 @@ module _ {F J : Type 0} (frame : Framed F) (journal : Journaled J) (start : J) w
       (λ (hit : x ≡ 0).
       let free : h.holder (suc h.frames) ≡ 0
       = ap h.holder (sym same) ∙ is_free h s k.words i (omega (arith, d, deep)) hit in
-      let v : PassState J = found_by notes x me.0 in
+      let v : PassState J = found_by notes i x me.0 in
       let w : PassState J = with_work (length h.log) v in
       let known = k.knows id me.0 at in
-      let rule = work_keeps s k id me.0 at free room notes x in (
+      let rule = work_keeps s k id me.0 at free room notes i x in (
         w,
         keeps,
         tt,
@@ -211,16 +211,16 @@ module _ {F J : Type 0} (frame : Framed F) (journal : Journaled J) (start : J) w
                 let here = lawful_here journal start h id me.0 known l in
                 allowed journal start (taken_by h id) id w (store_stays journal start h (put h.holder (suc h.frames) (suc id)) h.owner k.store)
                 k.pinned.kept
-                (worker_knows h id v free room (λ t. (k.store.legal t).valid) (found_knows frame journal start h id x notes me.0 known)) here;
+                (worker_knows h id v free room (λ t. (k.store.legal t).valid) (found_knows frame journal start h id i x notes me.0 known)) here;
           }),
           λ no. absurd (no hit),
         ),
       ))
       (λ (miss : x ≢ 0). (
-        found_by notes x me.0,
+        found_by notes i x me.0,
         keeps,
         tt,
-        subst (λ c. Rule (stepped s i (either c 1 x) id me.1 (found_by notes x me.0) keeps)) (sym (ne_eqb x 0 miss))
+        subst (λ c. Rule (stepped s i (either c 1 x) id me.1 (found_by notes i x me.0) keeps)) (sym (ne_eqb x 0 miss))
             (found_taken frame journal start s k i id x notes me.0 at),
         (refl, (λ hit. absurd (miss hit)), λ _. refl),
       ))

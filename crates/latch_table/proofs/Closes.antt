@@ -1,12 +1,12 @@
 -- A table that its last pass closes has each value at home, and its journal has all that was logged.
-use Rattle.std.proofs.Common.{◌≡◌, ◌≢◌, ℕ, zero, suc, ◌+◌, ◌<◌, ◌≤◌, cond, List, [], ◌∷◌, ◌++◌, length, refl, sym, ap, subst, ◌∙◌, inl, inr, arith, ne_eqb, length-append, Bool, false, get_or, set}
+use Rattle.std.proofs.Common.{◌≡◌, ◌≢◌, ℕ, zero, suc, ◌+◌, ◌<◌, List, [], ◌∷◌, length, refl, sym, ap, subst, ◌∙◌, arith, Bool, false, get_or, set}
 use Rattle.std.specs.Prelude.{Option, Some, None}
 use mathlib.Core.Logic.{dite}
-use mathlib.Core.Option.{some, some-ne-none}
+use mathlib.Core.Option.{some}
 use native.Mathlib.Decide.{ℕ_discrete}
 use lib.ListN.{get_elem?}
 use Rattle.atomic_table.specs.Table.{State, Final, Seen}
-use Rattle.core_state.specs.Log.{Log, In}
+use Rattle.core_state.specs.Log.{In}
 use Rattle.core_state.specs.Legal.{Pin}
 use Rattle.latch_table.specs.declared.slots.Framed.{Ghosts as Framed}
 use Rattle.latch_table.specs.declared.slots.Journaled.{Ghosts as Journaled}
@@ -14,40 +14,13 @@ use Rattle.latch_table.specs.declared.slots.Slot.{Slot}
 use Rattle.latch_table.specs.declared.slots.Slot.TheVariants.{Frame, Journal, Away}
 use Rattle.latch_table.specs.declared.states.PassState.{PassState}
 use Rattle.latch_table.specs.Passes.{IsIdle}
-use Rattle.latch_table.specs.Shapes.{Shape, total, times}
-use Rattle.latch_table.specs.Lines.{IsNoted, IsSpent, Knows, is_since}
+use Rattle.latch_table.specs.Shapes.{Shape}
+use Rattle.latch_table.specs.Lines.{IsNoted, IsSpent, Knows}
 use Rattle.latch_table.specs.Rule.{Kept}
 use Rattle.latch_table.specs.Closing.{IsAllSince, HasClosed}
 use Rattle.latch_table.proofs.Told.{lawful_here}
 use Rattle.latch_table.proofs.Stay.{spent_others}
-
-total_none : {V : Type 0} (f : V → ℕ) (vs : List V) → ((j : ℕ) (w : V) → get_elem? vs j ≡ some w → f w ≡ 0)
-    → total f vs ≡ 0
-total_none f [] none = refl
-total_none f (x ∷ vs) none =
-    let h = none zero x refl in
-    let r = total_none f vs (λ j w p. none (suc j) w p) in omega arith
-
--- a sum of which all others have nothing
-total_alone : {V : Type 0} (f : V → ℕ) (vs : List V) (i : ℕ) (v : V) → get_elem? vs i ≡ some v
-    → ((j : ℕ) (w : V) → j ≢ i → get_elem? vs j ≡ some w → f w ≡ 0) → total f vs ≡ f v
-total_alone f [] i v at none = absurd (some-ne-none v (sym at))
-total_alone f (x ∷ vs) zero v at none =
-    let e : f x ≡ f v = ap f (cc at) in
-    let r = total_none f vs (λ j w p. none (suc j) w (λ q. omega arith) p) in omega arith
-total_alone f (x ∷ vs) (suc i) v at none =
-    let h = none zero x (λ q. omega arith) refl in
-    let r = total_alone f vs i v at (λ j w ne p. none (suc j) w (λ q. ne (let z : j ≡ i = omega arith in z)) p) in
-    omega arith
-
--- what is counted is in the list
-in_times : (k : ℕ) (xs : List ℕ) → 0 < times k xs → In k xs
-in_times k [] lt = absurd (omega arith)
-in_times k (x ∷ xs) lt = dite (ℕ_discrete x k)
-    (λ (e : x ≡ k). inl (sym e))
-    (λ ne.
-    let rest : 0 < 0 + times k xs = subst (λ b. 0 < cond b 1 0 + times k xs) (ne_eqb x k ne) lt in
-    inr (in_times k xs (omega arith)))
+use Rattle.latch_table.proofs.Alone.{is_alone}
 
 -- a place that is set to false has it, and so have those that had it
 pub set_false : (fs : List Bool) (i k : ℕ) → (k ≢ i → get_or fs k false ≡ false)
@@ -58,10 +31,6 @@ set_false (x ∷ fs) zero (suc k) f = f (λ e. omega arith)
 set_false (x ∷ fs) (suc i) zero f = f (λ e. omega arith)
 set_false (x ∷ fs) (suc i) (suc k) f =
     set_false fs i k (λ ne. f (λ e. ne (let z : k ≡ i = omega arith in z)))
-
--- the last record is one since the opening, where there is one
-last_since : (n m : ℕ) → n < m → is_since n m m ≡ 1
-last_since n m lt = grind (arith, Rattle.std.proofs.lemmas.Bool.Decides.nat_tests)
 
 module _ {J : Type 0} where
   none_noted : (h : Shape J) (w : PassState J) (i : ℕ) → w.frames ≡ [] → w.journal ≡ None → w.work ≡ None
@@ -94,6 +63,9 @@ module _ {F J : Type 0} (frame : Framed F) (journal : Journaled J) (start : J) w
 
     others : (j : ℕ) (w : PassState J) → j ≢ id → get_elem? s.views j ≡ some w → IsSpent w
     others j w other there = spent_others journal start h s.views k.sums k.knows id v at full j w other there
+
+    alone : IsAllSince journal start h.journal v h.log
+    alone = is_alone journal start h s.views k.sums k.knows id v at full
 
     the_same : (j : ℕ) (w : PassState J) → j ≡ id → get_elem? s.views j ≡ some w → w ≡ v
     the_same j w same there = let z : some w ≡ some v = sym there ∙ ap (get_elem? s.views) same ∙ at in cc z
@@ -130,35 +102,6 @@ module _ {F J : Type 0} (frame : Framed F) (journal : Journaled J) (start : J) w
             let t = others o.0 o.1 other o.4 in
             let none : Some o.2 ≡ None = sym o.5 ∙ t.pin in cc none))
 
-    -- the pass has logged all since the opening
-    owns : (n : ℕ) → times n v.own ≡ is_since (journal.length_of start) (length h.log) n
-    owns n = sym (total_alone (λ (y : PassState J). times n y.own) s.views id v at
-        (λ j w other there. ap (times n) (others j w other there).own)) ∙ k.sums.own n
-
-    has_seen : journal.length_of start ≤ length v.seen → h.log ≡ v.seen
-    has_seen le = go mine.seen.later mine.seen.goes_on
-      where
-        go : (rs : Log) → h.log ≡ rs ++ v.seen → h.log ≡ v.seen
-        go [] e = e
-        go (r ∷ rs) e =
-            let n = ap length e in
-            let m = length-append (r ∷ rs) v.seen in
-            let more : length v.seen < length h.log = omega arith in
-            let one = last_since (journal.length_of start) (length h.log) (omega arith) in
-            let is = owns (length h.log) in
-            let own = mine.own (length h.log) (in_times (length h.log) v.own (omega arith)) in
-            absurd (omega arith)
-
-    all_since : IsAllSince journal start h.journal v h.log
-    all_since = record {
-      own = owns;
-      faults = ap (λ n. journal.faults start + n) (sym (total_alone (λ (y : PassState J). y.faults) s.views id v at
-          (λ j w other there. (others j w other there).faults))) ∙ k.sums.faults;
-      write_faults = ap (λ n. journal.write_faults start + n) (sym (total_alone (λ (y : PassState J). y.write_faults) s.views id v at
-          (λ j w other there. (others j w other there).write_faults))) ∙ k.sums.write_faults;
-      seen = has_seen;
-    }
-
     closed : HasClosed journal h.journal v
     closed =
         let lawful = lawful_here journal start h id v mine in
@@ -173,7 +116,7 @@ module _ {F J : Type 0} (frame : Framed F) (journal : Journaled J) (start : J) w
           counted = mine.seen.counted;
           pins = no_pins;
           owed = mine.owed;
-          all = λ key e. subst (λ (b : J). IsAllSince journal b h.journal v h.log) (sym (mine.start_is key e)) all_since;
+          all = λ key e. subst (λ (b : J). IsAllSince journal b h.journal v h.log) (sym (mine.start_is key e)) alone;
           legal = λ l. k.store.legal (lawful l);
           flushed = λ l. k.store.flushed (lawful l);
           reached = λ l. k.store.reached.1 (lawful l);

@@ -6,6 +6,8 @@ pub mod Told
 pub mod Stay
 pub mod ClaimFrames
 pub mod GiveFrames
+pub mod Alone
+pub mod FreePlaces
 pub mod ClaimJournal
 pub mod GivenLog
 pub mod GivenShape
@@ -13,6 +15,7 @@ pub mod GivenOthers
 pub mod GivenOwn
 pub mod GivenSums
 pub mod GiveJournal
+pub mod Appends
 pub mod Splits
 pub mod ClaimWork
 pub mod Joins

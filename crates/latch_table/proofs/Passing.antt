@@ -200,15 +200,15 @@ module _ {F J : Type 0} where
       (subst (λ n. 0 < n) (sym (ap (λ (w : PassState J). w.room) now ∙ room)) is.room) out held
 
   -- a pass that has tried to claim the right of maintenance
-  pub tried_work_pass : (journal : Journaled J) (z : TableId) (old new : Pass F J) (found : ℕ) (b : Bool) → IsPassOf z old
+  pub tried_work_pass : (journal : Journaled J) (z : TableId) (old new : Pass F J) (word found : ℕ) (b : Bool) → IsPassOf z old
       → new.seat.table_id ≡ old.seat.table_id
-      → (b ≡ true → (found ≡ 0) × HasClaimedWork journal (found_by true found (state old)) (state new))
-      → (b ≡ false → (found ≢ 0) × (state new ≡ found_by true found (state old)))
+      → (b ≡ true → (found ≡ 0) × HasClaimedWork journal (found_by true word found (state old)) (state new))
+      → (b ≡ false → (found ≢ 0) × (state new ≡ found_by true word found (state old)))
       → new.seat.me.1 ≡ old.seat.me.1 → numbers new.held ≡ numbers old.held → IsPassOf z new
-  tried_work_pass journal z old new found true is same hit miss out held =
-      claimed_work_pass journal z old new (found_by true found (state old)) is same (hit refl).1 refl refl refl refl refl out held
-  tried_work_pass journal z old new found false is same hit miss out held =
-      like_pass z old new (found_by true found (state old)) is same (miss refl).1 refl refl refl refl refl out held
+  tried_work_pass journal z old new word found true is same hit miss out held =
+      claimed_work_pass journal z old new (found_by true word found (state old)) is same (hit refl).1 refl refl refl refl refl out held
+  tried_work_pass journal z old new word found false is same hit miss out held =
+      like_pass z old new (found_by true word found (state old)) is same (miss refl).1 refl refl refl refl refl out held
 
   -- nothing is out with an idle pass
   pub idle_out : (z : TableId) (p : Pass F J) → IsPassOf z p → IsIdle (state p) → p.seat.me.1 ≡ []

@@ -5,6 +5,7 @@ pub mod Held
 pub mod Passes
 pub mod Rule
 pub mod Laying
+pub mod Closing
 pub mod Told
 pub mod Giving
-pub mod Closing
+pub mod Appending

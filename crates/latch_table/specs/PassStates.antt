@@ -13,6 +13,7 @@ use Rattle.latch_table.specs.declared.slots.Journaled.{Ghosts as Journaled}
 use Rattle.latch_table.specs.declared.states.Note.{Note}
 use Rattle.latch_table.specs.declared.states.Reading.{Reading}
 use Rattle.latch_table.specs.declared.states.PinNote.{PinNote}
+use Rattle.latch_table.specs.declared.states.Find.{Find}
 use Rattle.latch_table.specs.declared.states.PassState.{PassState}
 
 -- the sheets, and this page in front where it is one
@@ -57,7 +58,7 @@ without k [] = []
 without k (f ∷ fs) = cond (f.frame == k) fs (f ∷ without k fs)
 
 -- the list, and x in front where it is to be noted
-abbrev pub finds_if : Bool → ℕ → List ℕ → List ℕ
+abbrev pub finds_if : Bool → Find → List Find → List Find
 finds_if true x xs = x ∷ xs
 finds_if false x xs = xs
 
@@ -84,109 +85,9 @@ module _ {J : Type 0} where
     work = v.work;
   }
 
-  -- the first pass, before it has seen the log
-  abbrev pub first_state : Snapshot J → PassState J
-  first_state key = record {
-    start = Some key;
-    fresh = true;
-    seen = [];
-    shown = 0;
-    counted = 0;
-    shows = [];
-    floor = 0;
-    since = 0;
-    faults = 0;
-    write_faults = 0;
-    count = 0;
-    snapshot = 0;
-    pin = None;
-    from = 0;
-    readings = [];
-    frames = [];
-    journal = None;
-    own = [];
-    xids = [];
-    begun = [];
-    work = None;
-    redo = None;
-    walk = None;
-    room = 16;
-    finds = [];
-    met = [];
-  }
-
-  -- the pass after a try, which notes what it found
-  abbrev pub found_by : Bool → ℕ → PassState J → PassState J
-  found_by notes x v = record v { finds = finds_if notes x v.finds }
-
-  -- A pass with one frame more, claimed when the log had this length. It is a reading exactly where
-  -- its page is the one sought.
-  abbrev pub with_frame : ℕ → ℕ → Note → PassState J → PassState J
-  with_frame at sought f v = record v {
-    frames = f ∷ v.frames;
-    readings = cond (f.page == sought)
-        (v.readings
-        ++ record { length = at; page = f.page; bytes = f.bytes; content = f.content } ∷ [])
-        v.readings;
-  }
-
-  -- a second pass, which has seen the same, with a room of 1
-  abbrev pub split_off : PassState J → PassState J
-  split_off v = record {
-    start = v.start;
-    fresh = false;
-    seen = v.seen;
-    shown = v.shown;
-    counted = v.counted;
-    shows = [];
-    floor = v.floor;
-    since = v.since;
-    faults = 0;
-    write_faults = 0;
-    count = v.count;
-    snapshot = v.snapshot;
-    pin = None;
-    from = 0;
-    readings = [];
-    frames = [];
-    journal = None;
-    own = [];
-    xids = [];
-    begun = [];
-    work = None;
-    redo = None;
-    walk = None;
-    room = 1;
-    finds = [];
-    met = [];
-  }
-
-  -- the pass that was split
-  abbrev pub with_less_room : PassState J → PassState J
-  with_less_room v = record v { room = v.room - 1 }
-
-  -- a pass that has taken in another, which holds nothing and has no pin
-  abbrev pub joined : PassState J → PassState J → PassState J
-  joined v w = record v {
-    seen = longer v.seen w.seen;
-    shown = greater v.shown w.shown;
-    counted = greater v.counted w.counted;
-    shows = v.shows ++ w.shows;
-    floor = greater v.floor w.floor;
-    since = greater v.since w.since;
-    faults = v.faults + w.faults;
-    write_faults = v.write_faults + w.write_faults;
-    count = greater v.count w.count;
-    own = v.own ++ w.own;
-    xids = v.xids ++ w.xids;
-    begun = v.begun ++ w.begun;
-    room = v.room + w.room;
-    met = v.seen ∷ w.seen ∷ v.met;
-  }
-
-  -- a pass that was joined to another
-  abbrev pub spent : PassState J
-  spent = record {
+  -- a pass that knows nothing and holds nothing
+  abbrev pub blank : PassState J
+  blank = record {
     start = None;
     fresh = false;
     seen = [];
@@ -214,6 +115,68 @@ module _ {J : Type 0} where
     finds = [];
     met = [];
   }
+
+  -- the first pass, before it has seen the log
+  abbrev pub first_state : Snapshot J → PassState J
+  first_state key = record blank { start = Some key; fresh = true; room = 16 }
+
+  -- the pass after an exchange, where it notes what that found in this word
+  abbrev pub found_by : Bool → ℕ → ℕ → PassState J → PassState J
+  found_by notes word found v = record v {
+    finds = finds_if notes (record { word = word; found = found }) v.finds;
+  }
+
+  -- A pass with one frame more, claimed when the log had this length. It is a reading exactly where
+  -- its page is the one sought.
+  abbrev pub with_frame : ℕ → ℕ → Note → PassState J → PassState J
+  with_frame at sought f v = record v {
+    frames = f ∷ v.frames;
+    readings = cond (f.page == sought)
+        (v.readings
+        ++ record { length = at; page = f.page; bytes = f.bytes; content = f.content } ∷ [])
+        v.readings;
+  }
+
+  -- a second pass, which has seen the same, with a room of 1
+  abbrev pub split_off : PassState J → PassState J
+  split_off v = record blank {
+    start = v.start;
+    seen = v.seen;
+    shown = v.shown;
+    counted = v.counted;
+    floor = v.floor;
+    since = v.since;
+    count = v.count;
+    snapshot = v.snapshot;
+    room = 1;
+  }
+
+  -- the pass that was split
+  abbrev pub with_less_room : PassState J → PassState J
+  with_less_room v = record v { room = v.room - 1 }
+
+  -- a pass that has taken in another, which holds nothing and has no pin
+  abbrev pub joined : PassState J → PassState J → PassState J
+  joined v w = record v {
+    seen = longer v.seen w.seen;
+    shown = greater v.shown w.shown;
+    counted = greater v.counted w.counted;
+    shows = v.shows ++ w.shows;
+    floor = greater v.floor w.floor;
+    since = greater v.since w.since;
+    faults = v.faults + w.faults;
+    write_faults = v.write_faults + w.write_faults;
+    count = greater v.count w.count;
+    own = v.own ++ w.own;
+    xids = v.xids ++ w.xids;
+    begun = v.begun ++ w.begun;
+    room = v.room + w.room;
+    met = v.seen ∷ w.seen ∷ v.met;
+  }
+
+  -- a pass that was joined to another
+  abbrev pub spent : PassState J
+  spent = blank
 
   -- a pass with the right of maintenance, which it got when the log had this length
   abbrev pub with_work : ℕ → PassState J → PassState J

@@ -1,5 +1,5 @@
 -- What each kind of step says the pass that makes it.
-use Rattle.std.specs.Prelude.{◌≡◌, ◌≢◌, ◌<◌, ◌≤◌, ◌-◌, Bool, true, ℕ, List, [], ◌∷◌, ◌++◌, length, Some}
+use Rattle.std.specs.Prelude.{◌≡◌, ◌≢◌, ◌<◌, ◌≤◌, ◌-◌, Bool, true, ℕ, List, [], ◌∷◌, ◌++◌, length, Some, None}
 use Rattle.std.specs.declared.snapshot.Snapshot.{Snapshot}
 use Rattle.atomic_table.specs.Table.{Me, Step}
 use Rattle.page_types.specs.Numbers.{page_limit}
@@ -15,7 +15,11 @@ use Rattle.latch_table.specs.declared.slots.Slot.{Slot}
 use Rattle.latch_table.specs.declared.slots.Slot.TheVariants.{Frame, Journal}
 use Rattle.latch_table.specs.declared.states.Note.{Note}
 use Rattle.latch_table.specs.declared.states.PinNote.{PinNote}
+use Rattle.latch_table.specs.declared.states.RedoNote.{RedoNote}
+use Rattle.latch_table.specs.declared.states.WalkNote.{WalkNote}
+use Rattle.latch_table.specs.declared.states.Shown.{Shown}
 use Rattle.latch_table.specs.declared.states.PassState.{PassState}
+use Rattle.latch_table.specs.Closing.{IsAllSince}
 use Rattle.latch_table.specs.PassStates.{view_of, pin_of, found_by, with_frame, without_frame, with_work, without_work, open_state, with_journal, IsLawful}
 
 module _ {F J : Type 0} (frame : Framed F) (journal : Journaled J) where
@@ -36,9 +40,10 @@ module _ {F J : Type 0} (frame : Framed F) (journal : Journaled J) where
   abbrev pub claimed : Bool → Step (Slot F J) → Me (Slot F J) (PassState J) → ℕ
       → Me (Slot F J) (PassState J) → Type 0
   claimed notes st m found m' =
-      (found ≡ 0 → (f : F) × HasClaimed st.word (st.second - 1) f (found_by notes found m.0) m'.0
+      (found ≡ 0 → (f : F)
+      × HasClaimed st.word (st.second - 1) f (found_by notes st.word found m.0) m'.0
       × (m'.1 ≡ (st.word, Frame f) ∷ m.1))
-      × (found ≢ 0 → m' ≡ (found_by notes found m.0, m.1))
+      × (found ≢ 0 → m' ≡ (found_by notes st.word found m.0, m.1))
 
 module _ {J : Type 0} (journal : Journaled J) where
   -- The first pass has seen the log that the journal stands for. Of a lawful store, that log is
@@ -54,9 +59,11 @@ module _ {J : Type 0} (journal : Journaled J) where
 
   -- The journal was claimed, and the pass has seen the log that it stands for, which goes on from
   -- what the pass had seen. What the pass was shown to be flushed is so; it has the pin and the
-  -- places of frames that the pass noted; and neither floor nor since is above what its pins give.
-  -- Of a lawful store, the log is allowed to the pass as it was, and keeps the pin that it would
-  -- take.
+  -- places of frames that the pass noted; neither floor nor since is above what its pins give; and a
+  -- pass without a pin finds one of 16 places free. A pass with the whole room is alone, and so has
+  -- noted all that was since the opening. Of a lawful store, the log is allowed to the pass as it
+  -- was, and keeps the pin that it would take; what it was shown is reached still, and what its redo
+  -- number and its write-back promise holds.
   pub record HasClaimedJournal (b : J) (old new : PassState J) : Type 0 where
     pub log : Log
     pub clock : ℕ
@@ -73,13 +80,22 @@ module _ {J : Type 0} (journal : Journaled J) where
     pub pins : (k : ℕ) (p : Pin) → journal.pins b k ≡ Some p
         → (old.floor ≤ p.commits) × (old.since ≤ p.length)
     pub pin : (p : PinNote) → old.pin ≡ Some p → journal.pins b p.place ≡ Some (pin_of p)
+    pub place_free : old.pin ≡ None → (k : ℕ) × (k < 16) × (journal.pins b k ≡ None)
     pub placed : (f : Note) → In f old.frames → journal.place b f.frame ≡ f.page
+    pub alone : old.room ≡ 16 → (key : Snapshot J) → old.start ≡ Some key
+        → IsAllSince journal key.value b old log
     pub owed : journal.owes b ≡ true → old.begun ≡ []
     pub allowed : IsLawful journal old → IsAllowed (view_of old) log
     pub keeps : IsLawful journal old → Keeps log (pin_now (journal.flushed b) log)
     pub flushed : IsLawful journal old
         → journal.flushed b ≡ commits (cut (journal.counted b) log)
     pub reached : IsLawful journal old → journal.reaches b clock (journal.flushed b)
+    pub shows : IsLawful journal old → (x : Shown) → In x old.shows
+        → journal.reaches b x.clock x.commits
+    pub redo : IsLawful journal old → (x : RedoNote) → old.redo ≡ Some x
+        → journal.has_redo b log x.number x.written x.synced
+    pub walked : IsLawful journal old → (x : WalkNote) → old.walk ≡ Some x
+        → journal.has_walked b log x.number x.bound x.passed
 
   -- The right of maintenance was claimed when the log was one that goes on from what the pass had
   -- seen. Of a lawful store, that log is allowed to the pass as it is then.
@@ -95,8 +111,8 @@ module _ {F J : Type 0} (journal : Journaled J) where
       → Me (Slot F J) (PassState J) → Type 0
   claimed_work notes st m found m' =
       (m'.1 ≡ m.1)
-      × (found ≡ 0 → HasClaimedWork journal (found_by notes found m.0) m'.0)
-      × (found ≢ 0 → m'.0 ≡ found_by notes found m.0)
+      × (found ≡ 0 → HasClaimedWork journal (found_by notes st.word found m.0) m'.0)
+      × (found ≢ 0 → m'.0 ≡ found_by notes st.word found m.0)
 
   -- a claim found the journal free, or taken
   abbrev pub claimed_journal : Step (Slot F J) → Me (Slot F J) (PassState J) → ℕ

@@ -11,39 +11,14 @@ ghost use Rattle.latch_table.specs.Told.{HasClaimed, HasClaimedJournal};
 ghost use Rattle.latch_table.specs.Giving.{HasGivenJournal, CanGive};
 ghost use Rattle.std.specs.declared.snapshot.Snapshot.{Snapshot};
 
+use crate::attempts::Attempt;
 use crate::changes::Changes;
-use crate::plays::{Claim, ClaimJournal, GiveBack, GiveJournal, TryClaim};
+use crate::plays::{Claim, ClaimJournal, GiveBack, GiveJournal};
 use crate::rule::{Latches, Place};
 use crate::slots::{Framed, Journaled, Slot};
 
 /// Takes a frame where its word is free, with the page that is sought.
-pub(crate) fn take<F: Framed, J: Journaled>(
-    latches: &Latches<F, J>,
-    seat: &mut Place<F, J>,
-    frame: usize,
-    page: u32,
-) -> Option<F>
-    requires table { (seat.old.table_id ≡ latches.now.table_id)
-        × (frame + 2 < latches.now.table_id.slots)
-        × (latches.now.table_id.words ≡ latches.now.table_id.slots) }
-    requires room { 0 < seat.old.me.0.room }
-    ensures same { (seat.new.table_id ≡ seat.old.table_id) × (seat.new.id ≡ seat.old.id) }
-    ensures claimed { MatchOption result (seat.new.me ≡ seat.old.me)
-        (λ f. HasClaimed F.Framed J.Journaled frame page f seat.old.me.0 seat.new.me.0
-        × (seat.new.me.1 ≡ (frame, Away) ∷ seat.old.me.1)) }
-{
-    if latches.compare_exchange::<Claim>(seat, frame, 0, page as u64 + 1) != 0 {
-        return None;
-    }
-    let slot = latches.exchange(seat, frame, Slot::Away);
-    let Slot::Frame(value) = slot else {
-        unreachable!()
-    };
-    Some(value)
-}
-
-/// The same, and notes what it found in the word.
-pub(crate) fn try_take<F: Framed, J: Journaled>(
+pub(crate) fn take<F: Framed, J: Journaled, A: Attempt>(
     latches: &Latches<F, J>,
     seat: &mut Place<F, J>,
     frame: usize,
@@ -55,13 +30,13 @@ pub(crate) fn try_take<F: Framed, J: Journaled>(
     requires room { 0 < seat.old.me.0.room }
     ensures same { (seat.new.table_id ≡ seat.old.table_id) × (seat.new.id ≡ seat.old.id) }
     ensures claimed { (found : ℕ) × MatchOption result
-        ((found ≢ 0) × (seat.new.me ≡ (found_by true found seat.old.me.0, seat.old.me.1)))
+        ((found ≢ 0) × (seat.new.me ≡ (found_by A.notes frame found seat.old.me.0, seat.old.me.1)))
         (λ f. (found ≡ 0)
-        × HasClaimed F.Framed J.Journaled frame page f (found_by true found seat.old.me.0)
-        seat.new.me.0
+        × HasClaimed F.Framed J.Journaled frame page f
+        (found_by A.notes frame found seat.old.me.0) seat.new.me.0
         × (seat.new.me.1 ≡ (frame, Away) ∷ seat.old.me.1)) }
 {
-    if latches.compare_exchange::<TryClaim>(seat, frame, 0, page as u64 + 1) != 0 {
+    if latches.compare_exchange::<Claim<A>>(seat, frame, 0, page as u64 + 1) != 0 {
         return None;
     }
     let slot = latches.exchange(seat, frame, Slot::Away);

@@ -20,30 +20,8 @@ use std::alloc::{AllocError, Global};
 use std::snapshot::Snapshot;
 use std::sync::atomic::AtomicU32;
 
-/// The table, with a first pass, or the journal where memory ran out.
-pub(crate) fn lay<F: Framed + Drop, J: Journaled>(
-    alloc: Global,
-    frames: Vec<F>,
-    journal: J,
-) -> Result<(LatchTable<F, J>, Pass<F, J>), J>
-    requires count { length frames.items < 2 ^ 32 }
-    requires lie { CanLie F.Framed J.Journaled frames.items journal }
-    ensures pass { IfOk result (λ t. IsPassOf t.0.table.shared.table_id t.1) }
-    ensures frames { IfOk result (λ t. t.0.table.shared.table_id.slots ≡ length frames.items + 2) }
-    ensures opened { IfOk result (λ t. (key : Snapshot J) × (key.value ≡ journal)
-        × HasOpened J.Journaled journal (first_state key) (state t.1)) }
-    ensures refused { IfErr result (λ b. b ≡ journal) }
-{
-    let Ok(waiting) = counts(alloc, frames.len() + 2) else {
-        return Err(journal);
-    };
-    let made = found(alloc, frames, journal)?;
-    let (table, seat) = made;
-    Ok(open_first(table, seat, waiting))
-}
-
 /// The table, with the first pass once it has looked.
-fn open_first<F: Framed, J: Journaled>(
+pub(crate) fn open_first<F: Framed, J: Journaled>(
     table: Base<F, J>,
     mut seat: Place<F, J>,
     waiting: Vec<AtomicU32>,
@@ -64,7 +42,7 @@ fn open_first<F: Framed, J: Journaled>(
 }
 
 /// The words and slots, and the seat of the first pass, which has seen nothing.
-fn found<F: Framed + Drop, J: Journaled>(
+pub(crate) fn found<F: Framed + Drop, J: Journaled>(
     alloc: Global,
     frames: Vec<F>,
     journal: J,
@@ -101,7 +79,7 @@ fn look<F: Framed, J: Journaled>(latches: &Latches<F, J>, seat: &mut Place<F, J>
 }
 
 /// So many counts of those who wait.
-fn counts(alloc: Global, count: usize) -> Result<Vec<AtomicU32>, AllocError>
+pub(crate) fn counts(alloc: Global, count: usize) -> Result<Vec<AtomicU32>, AllocError>
     ensures { IfOk result (λ v. length v.items ≡ count) }
 {
     let mut counts = Vec::new(alloc);

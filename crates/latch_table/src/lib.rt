@@ -2,6 +2,7 @@
 //! whose rule ties what each session knows to the log.
 #![tactic(auto)]
 
+mod attempts;
 mod changes;
 mod claims;
 mod closing;
@@ -18,9 +19,9 @@ mod works;
 
 pub use changes::{Changes, Looked};
 pub use held::Held;
-pub use laws::empty_stores_lie;
+pub use laws::{empty_stores_lie, may_give};
 pub use pass::Pass;
 pub use rule::{LatchRule, Latches, Place};
 pub use slots::{Framed, Journaled, Slot};
-pub use states::{Note, PassState, PinNote, Reading, RedoNote, Shown, WalkNote};
+pub use states::{Find, Note, PassState, PinNote, Reading, RedoNote, Shown, WalkNote};
 pub use table::LatchTable;

@@ -1,9 +1,9 @@
 // What each kind of step says.
-ghost use Rattle.std.specs.Prelude.{true, false};
 ghost use Rattle.latch_table.specs.PassStates.{with_less_room, split_off, joined, spent};
 ghost use Rattle.latch_table.specs.Told.{claimed, claimed_journal, claimed_work, gave_back, gave_work, looked, opened};
 ghost use Rattle.latch_table.specs.Giving.{gave_journal};
 
+use crate::attempts::Attempt;
 use crate::changes::Changes;
 use crate::slots::{Framed, Journaled, Slot};
 use crate::states::PassState;
@@ -11,17 +11,12 @@ use atomic_table::{Join, Play, Split};
 use std::marker::PhantomData;
 
 /// A claim of a frame.
-pub(crate) struct Claim;
-
-impl<F: Framed, J: Journaled> Play<Slot<F, J>, PassState<J>> for Claim {
-    ghost then = { claimed F.Framed J.Journaled false };
+pub(crate) struct Claim<A> {
+    of: PhantomData<A>,
 }
 
-/// A try to claim a frame, which notes what it found.
-pub(crate) struct TryClaim;
-
-impl<F: Framed, J: Journaled> Play<Slot<F, J>, PassState<J>> for TryClaim {
-    ghost then = { claimed F.Framed J.Journaled true };
+impl<F: Framed, J: Journaled, A: Attempt> Play<Slot<F, J>, PassState<J>> for Claim<A> {
+    ghost then = { claimed F.Framed J.Journaled A.notes };
 }
 
 /// A claim of the journal.
@@ -48,17 +43,12 @@ impl<F, J: Journaled, C: Changes<J>> Play<Slot<F, J>, PassState<J>> for GiveJour
 }
 
 /// A claim of the right of maintenance.
-pub(crate) struct ClaimWork;
-
-impl<F, J: Journaled> Play<Slot<F, J>, PassState<J>> for ClaimWork {
-    ghost then = { claimed_work J.Journaled false };
+pub(crate) struct ClaimWork<A> {
+    of: PhantomData<A>,
 }
 
-/// A try to claim it, which notes what it found.
-pub(crate) struct TryClaimWork;
-
-impl<F, J: Journaled> Play<Slot<F, J>, PassState<J>> for TryClaimWork {
-    ghost then = { claimed_work J.Journaled true };
+impl<F, J: Journaled, A: Attempt> Play<Slot<F, J>, PassState<J>> for ClaimWork<A> {
+    ghost then = { claimed_work J.Journaled A.notes };
 }
 
 /// The right is given back.

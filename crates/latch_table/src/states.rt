@@ -46,6 +46,12 @@ pub struct Shown {
     pub commits: u64,
 }
 
+/// What an exchange found in a word.
+pub struct Find {
+    pub word: u64,
+    pub found: u64,
+}
+
 /// What a pass knows and holds.
 pub struct PassState<J> {
     /// The journal at the opening; none once the pass was joined to another.
@@ -87,8 +93,8 @@ pub struct PassState<J> {
     pub walk: Option<WalkNote>,
     /// How many passes it may still become; all passes together have 16.
     pub room: u64,
-    /// What each try found in its word, the newest first.
-    pub finds: [u64; 0],
+    /// What each try found, and in which word, the newest first.
+    pub finds: [Find; 0],
     /// The logs that it and those that it joined had seen when it joined them.
     pub met: [[Record; 0]; 0],
 }

@@ -12,16 +12,17 @@ ghost use Rattle.latch_table.specs.Closing.{HasClosed};
 ghost use Rattle.latch_table.specs.Lines.{Absent};
 ghost use Rattle.latch_table.specs.Passes.{state, IsIdle, IsPassOf, MayClaim};
 
+use crate::attempts::{Again, Once};
 use crate::changes::Changes;
-use crate::claims::{put, put_journal, take, take_journal, try_take, turn};
+use crate::claims::{put, put_journal, take, take_journal, turn};
 use crate::closing::unlay;
 use crate::held::Held;
-use crate::laying::lay;
+use crate::laying::{counts, found, open_first};
 use crate::pass::Pass;
 use crate::plays::{Cut, Glue, Look};
 use crate::rule::{Base, Place};
 use crate::slots::{Framed, Journaled};
-use crate::works::{put_work, take_work, try_take_work};
+use crate::works::{put_work, take_work};
 use std::alloc::Global;
 use std::hint::spin_loop;
 use std::sync::Wait;
@@ -60,7 +61,12 @@ impl<F: Framed + Drop, J: Journaled> LatchTable<F, J> {
             × HasOpened J.Journaled journal (first_state key) (state t.1)) }
         ensures refused { IfErr result (λ b. b ≡ journal) }
     {
-        lay(alloc, frames, journal)
+        let Ok(waiting) = counts(alloc, frames.len() + 2) else {
+            return Err(journal);
+        };
+        let made = found(alloc, frames, journal)?;
+        let (table, seat) = made;
+        Ok(open_first(table, seat, waiting))
     }
 
     /// Closes the table by the last pass, to which all others were joined. The frames are dropped,
@@ -85,6 +91,7 @@ impl<F: Framed, J: Journaled> LatchTable<F, J> {
         requires may { MayClaim self.now.table.shared.table_id frame (state pass.old) }
         requires not_held { Absent frame (state pass.old).frames }
         ensures pass { IsPassOf self.now.table.shared.table_id pass.new }
+        ensures seat { pass.new.seat.id ≡ pass.old.seat.id }
         ensures claimed { HasClaimed F.Framed J.Journaled frame page result (state pass.old)
             (state pass.new) }
     {
@@ -93,18 +100,20 @@ impl<F: Framed, J: Journaled> LatchTable<F, J> {
         value
     }
 
-    /// The same at once. None comes exactly where the one exchange found the frame's word taken.
+    /// The same at once. None comes exactly where the one exchange found the word of that frame
+    /// taken.
     pub fn try_claim(&self, pass: &mut Pass<F, J>, frame: u32, page: u32) -> Option<F>
         requires pass { IsPassOf self.now.table.shared.table_id pass.old }
         requires may { MayClaim self.now.table.shared.table_id frame (state pass.old) }
         ensures pass { IsPassOf self.now.table.shared.table_id pass.new }
+        ensures seat { pass.new.seat.id ≡ pass.old.seat.id }
         ensures claimed { (found : ℕ) × MatchOption result
-            ((found ≢ 0) × (state pass.new ≡ found_by true found (state pass.old)))
+            ((found ≢ 0) × (state pass.new ≡ found_by true frame found (state pass.old)))
             (λ f. (found ≡ 0)
-            × HasClaimed F.Framed J.Journaled frame page f (found_by true found (state pass.old))
-            (state pass.new)) }
+            × HasClaimed F.Framed J.Journaled frame page f
+            (found_by true frame found (state pass.old)) (state pass.new)) }
     {
-        let value = try_take(&self.table.shared, &mut pass.seat, frame as usize, page)?;
+        let value = take::<F, J, Once>(&self.table.shared, &mut pass.seat, frame as usize, page)?;
         pass.held = pass.held.with(frame);
         Some(value)
     }
@@ -116,6 +125,7 @@ impl<F: Framed, J: Journaled> LatchTable<F, J> {
         requires noted { (note : Note) × In note (state pass.old).frames × (note.frame ≡ frame)
             × (F.page value ≡ note.page) × (F.bytes value ≡ note.bytes) }
         ensures pass { IsPassOf self.now.table.shared.table_id pass.new }
+        ensures seat { pass.new.seat.id ≡ pass.old.seat.id }
         ensures given { state pass.new ≡ without_frame frame (state pass.old) }
     {
         let behind = pass.held.position(frame);
@@ -132,6 +142,7 @@ impl<F: Framed, J: Journaled> LatchTable<F, J> {
         requires pass { IsPassOf self.now.table.shared.table_id pass.old }
         requires no_journal { (state pass.old).journal ≡ None }
         ensures pass { IsPassOf self.now.table.shared.table_id pass.new }
+        ensures seat { pass.new.seat.id ≡ pass.old.seat.id }
         ensures claimed { HasClaimedJournal J.Journaled result (state pass.old) (state pass.new) }
     {
         self.take_journal_waiting(rt, &mut pass.seat)
@@ -143,6 +154,7 @@ impl<F: Framed, J: Journaled> LatchTable<F, J> {
         requires can { CanGive J.Journaled (self.now.table.shared.table_id.slots - 2)
             (state pass.old) journal (C.change (state pass.old) journal) }
         ensures pass { IsPassOf self.now.table.shared.table_id pass.new }
+        ensures seat { pass.new.seat.id ≡ pass.old.seat.id }
         ensures given { (b : J) → (state pass.old).journal ≡ Some b
             → HasGivenJournal J.Journaled b journal (C.change (state pass.old) journal)
             (state pass.old) (state pass.new) }
@@ -157,24 +169,30 @@ impl<F: Framed, J: Journaled> LatchTable<F, J> {
         requires pass { IsPassOf self.now.table.shared.table_id pass.old }
         requires no_right { (state pass.old).work ≡ None }
         ensures pass { IsPassOf self.now.table.shared.table_id pass.new }
+        ensures seat { pass.new.seat.id ≡ pass.old.seat.id }
         ensures claimed { HasClaimedWork J.Journaled (state pass.old) (state pass.new) }
     {
         self.take_work_waiting(rt, &mut pass.seat);
     }
 
-    /// The same at once. False comes exactly where the one exchange found the right taken.
+    /// The same at once. False comes exactly where the one exchange found the last word, that of
+    /// the right, taken.
     pub fn try_claim_work(&self, pass: &mut Pass<F, J>) -> bool
         requires pass { IsPassOf self.now.table.shared.table_id pass.old }
         requires no_right { (state pass.old).work ≡ None }
         ensures pass { IsPassOf self.now.table.shared.table_id pass.new }
+        ensures seat { pass.new.seat.id ≡ pass.old.seat.id }
         ensures claimed { (found : ℕ)
             × (result ≡ true → (found ≡ 0)
-            × HasClaimedWork J.Journaled (found_by true found (state pass.old)) (state pass.new))
+            × HasClaimedWork J.Journaled
+            (found_by true (self.now.table.shared.table_id.slots - 1) found (state pass.old))
+            (state pass.new))
             × (result ≡ false → (found ≢ 0)
-            × (state pass.new ≡ found_by true found (state pass.old))) }
+            × (state pass.new
+            ≡ found_by true (self.now.table.shared.table_id.slots - 1) found (state pass.old))) }
     {
         let word = self.table.slot_count() - 1;
-        try_take_work(&self.table.shared, &mut pass.seat, word)
+        take_work::<F, J, Once>(&self.table.shared, &mut pass.seat, word)
     }
 
     /// Gives the right of maintenance back.
@@ -182,6 +200,7 @@ impl<F: Framed, J: Journaled> LatchTable<F, J> {
         requires pass { IsPassOf self.now.table.shared.table_id pass.old }
         requires right { (at : ℕ) × ((state pass.old).work ≡ Some at) }
         ensures pass { IsPassOf self.now.table.shared.table_id pass.new }
+        ensures seat { pass.new.seat.id ≡ pass.old.seat.id }
         ensures given { state pass.new ≡ without_work (state pass.old) }
     {
         let word = self.table.slot_count() - 1;
@@ -194,6 +213,7 @@ impl<F: Framed, J: Journaled> LatchTable<F, J> {
         requires pass { IsPassOf self.now.table.shared.table_id pass.old }
         requires room { 1 < (state pass.old).room }
         ensures pass { IsPassOf self.now.table.shared.table_id pass.new }
+        ensures seat { pass.new.seat.id ≡ pass.old.seat.id }
         ensures second { IsPassOf self.now.table.shared.table_id result }
         ensures less { state pass.new ≡ with_less_room (state pass.old) }
         ensures same { state result ≡ split_off (state pass.old) }
@@ -210,6 +230,7 @@ impl<F: Framed, J: Journaled> LatchTable<F, J> {
         requires other { IsPassOf self.now.table.shared.table_id other }
         requires idle { IsIdle (state other) }
         ensures pass { IsPassOf self.now.table.shared.table_id pass.new }
+        ensures seat { pass.new.seat.id ≡ pass.old.seat.id }
         ensures both { state pass.new ≡ joined (state pass.old) (state other) }
         ensures this { (later : Log) × ((state pass.new).seen ≡ later ++ (state pass.old).seen) }
         ensures that { (later : Log) × ((state pass.new).seen ≡ later ++ (state other).seen) }
@@ -228,7 +249,7 @@ impl<F: Framed, J: Journaled> LatchTable<F, J> {
     {
         let word = self.table.slot_count() - 1;
         for _ in rt.forever() {
-            if take_work(&self.table.shared, seat, word) {
+            if take_work::<F, J, Again>(&self.table.shared, seat, word) {
                 return;
             }
             self.wait(rt, word);
@@ -264,7 +285,7 @@ impl<F: Framed, J: Journaled> LatchTable<F, J> {
             × (seat.new.me.1 ≡ (frame, Away) ∷ seat.old.me.1) }
     {
         for _ in rt.forever() {
-            if let Some(value) = take(&self.table.shared, seat, frame, page) {
+            if let Some(value) = take::<F, J, Again>(&self.table.shared, seat, frame, page) {
                 return value;
             }
             self.wait(rt, frame);

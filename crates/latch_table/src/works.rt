@@ -3,30 +3,13 @@ ghost use Rattle.std.specs.Prelude.{◌≡◌, ◌≢◌, ℕ, ◌+◌, ◌<◌,
 ghost use Rattle.latch_table.specs.PassStates.{found_by, without_work};
 ghost use Rattle.latch_table.specs.Told.{HasClaimedWork};
 
-use crate::plays::{ClaimWork, GiveWork, TryClaimWork};
+use crate::attempts::Attempt;
+use crate::plays::{ClaimWork, GiveWork};
 use crate::rule::{Latches, Place};
 use crate::slots::{Framed, Journaled};
 
 /// Takes the right where its word is free.
-pub(crate) fn take_work<F: Framed, J: Journaled>(
-    latches: &Latches<F, J>,
-    seat: &mut Place<F, J>,
-    word: usize,
-) -> bool
-    requires table { seat.old.table_id ≡ latches.now.table_id }
-    requires last { word + 1 ≡ latches.now.table_id.slots }
-    requires words { latches.now.table_id.words ≡ latches.now.table_id.slots }
-    requires room { 0 < seat.old.me.0.room }
-    ensures same { (seat.new.table_id ≡ seat.old.table_id) × (seat.new.id ≡ seat.old.id) }
-    ensures out { seat.new.me.1 ≡ seat.old.me.1 }
-    ensures claimed { result ≡ true → HasClaimedWork J.Journaled seat.old.me.0 seat.new.me.0 }
-    ensures taken { result ≡ false → seat.new.me.0 ≡ seat.old.me.0 }
-{
-    latches.compare_exchange::<ClaimWork>(seat, word, 0, 1) == 0
-}
-
-/// The same, and notes what it found in the word.
-pub(crate) fn try_take_work<F: Framed, J: Journaled>(
+pub(crate) fn take_work<F: Framed, J: Journaled, A: Attempt>(
     latches: &Latches<F, J>,
     seat: &mut Place<F, J>,
     word: usize,
@@ -39,10 +22,11 @@ pub(crate) fn try_take_work<F: Framed, J: Journaled>(
     ensures out { seat.new.me.1 ≡ seat.old.me.1 }
     ensures claimed { (found : ℕ)
         × (result ≡ true → (found ≡ 0)
-        × HasClaimedWork J.Journaled (found_by true found seat.old.me.0) seat.new.me.0)
-        × (result ≡ false → (found ≢ 0) × (seat.new.me.0 ≡ found_by true found seat.old.me.0)) }
+        × HasClaimedWork J.Journaled (found_by A.notes word found seat.old.me.0) seat.new.me.0)
+        × (result ≡ false → (found ≢ 0)
+        × (seat.new.me.0 ≡ found_by A.notes word found seat.old.me.0)) }
 {
-    latches.compare_exchange::<TryClaimWork>(seat, word, 0, 1) == 0
+    latches.compare_exchange::<ClaimWork<A>>(seat, word, 0, 1) == 0
 }
 
 /// Gives the right back.

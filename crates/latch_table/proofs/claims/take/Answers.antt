@@ -1,11 +1,11 @@
-use Rattle.std.proofs.Common.{rules, arith, false, ap, sym, ◌∙◌, ◌∷◌}
+use Rattle.std.proofs.Common.{rules, arith, ap, sym, ◌∙◌, ◌∷◌}
 use Rattle.atomic_table.specs.Table.{rest}
 use Rattle.latch_table.specs.declared.slots.Slot.TheVariants.{Frame}
 use Rattle.latch_table.proofs.ClaimFrames.{claims_frame}
 use Rattle.latch_table.proofs.claims.take.Goals as goal
 
 pub compare_exchange-requires : goal.compare_exchange-requires
-compare_exchange-requires g c = (search rules, omega arith, claims_frame g.F.Framed g.J.Journaled _ false _ _ _ c.args.page _ (omega arith) (λ e. absurd (omega arith)))
+compare_exchange-requires g c = (search rules, omega arith, claims_frame g.F.Framed g.J.Journaled _ g.A.Attempt.notes _ _ _ c.args.page _ (omega arith) (λ e. absurd (omega arith)))
 
 pub exchange-slot-requires : goal.exchange-slot-requires
 exchange-slot-requires g c =

@@ -2,7 +2,7 @@ use Rattle.std.proofs.Common.{subst}
 use Rattle.latch_table.specs.PassStates.{first_state}
 use Rattle.latch_table.specs.Told.{HasOpened}
 use Rattle.latch_table.specs.Passes.{state}
-use Rattle.latch_table.proofs.laying.lay.Goals as goal
+use Rattle.latch_table.proofs.table.LatchTable.new.Goals as goal
 
 pub returns-clause-opened : goal.returns-clause-opened
 returns-clause-opened g c =

@@ -1,7 +1,0 @@
-use Rattle.std.proofs.Common.{rules, arith, true}
-use Rattle.latch_table.proofs.ClaimWork.{claims_work}
-use Rattle.latch_table.proofs.works.try_take_work.Goals as goal
-
-pub compare_exchange-requires : goal.compare_exchange-requires
-compare_exchange-requires g c =
-    (search rules, omega arith, claims_work g.F.Framed g.J.Journaled _ true _ _ _ _ (omega arith) (λ e. absurd (omega arith)))
