@@ -9,7 +9,7 @@ use Rattle.latch_table.specs.declared.slots.Journaled.{Ghosts as Journaled}
 use Rattle.latch_table.specs.declared.states.PassState.{PassState}
 use Rattle.latch_table.specs.Shapes.{Shape, total, times}
 use Rattle.latch_table.specs.Lines.{AddUp, IsSpent, Knows, is_since}
-use Rattle.latch_table.specs.Closing.{IsAllSince}
+use Rattle.latch_table.specs.Closing.{IsAllSince, HadSeenAll}
 use Rattle.latch_table.proofs.Stay.{spent_others}
 
 total_none : {V : Type 0} (f : V → ℕ) (vs : List V) → ((j : ℕ) (w : V) → get_elem? vs j ≡ some w → f w ≡ 0)
@@ -79,3 +79,11 @@ module _ {J : Type 0} (journal : Journaled J) (start : J) (h : Shape J) (views :
         (sym (all_of (λ (y : PassState J). y.write_faults) (λ w t. t.write_faults))) ∙ sums.write_faults;
     seen = has_seen;
   }
+
+module _ {J : Type 0} (journal : Journaled J) (start : J) (h : Shape J) (views : List (PassState J))
+    (sums : AddUp journal start h views)
+    (knows : (j : ℕ) (v : PassState J) → get_elem? views j ≡ some v → Knows journal start h j v) where
+  pub had_seen_all : (id : ℕ) (v : PassState J) → get_elem? views id ≡ some v → HadSeenAll journal v h.log
+  had_seen_all id v at full key is le =
+      (is_alone journal start h views sums knows id v at full).seen
+      (subst (λ (b : J). journal.length_of b ≤ length v.seen) ((knows id v at).start_is key is) le)

@@ -1,5 +1,5 @@
--- A step that is logged may be given back with the journal.
-use Rattle.std.proofs.Common.{◌≡◌, ◌≤◌, ◌∷◌, length, sym, ap, subst, ◌∙◌, arith}
+-- The journal may be given back once a step is logged, and where nothing was changed.
+use Rattle.std.proofs.Common.{◌≡◌, ◌≤◌, ◌∷◌, length, refl, sym, ap, subst, ◌∙◌, arith}
 use Rattle.page_types.specs.declared.record.Kind.TheVariants as kind
 use Rattle.core_state.specs.Log.{Log, commits, cut}
 use Rattle.core_state.proofs.Newest.{cut_less}
@@ -7,7 +7,7 @@ use Rattle.latch_table.specs.declared.slots.Journaled.{Ghosts as Journaled}
 use Rattle.latch_table.specs.declared.states.PassState.{PassState}
 use Rattle.latch_table.specs.PassStates.{IsLawful}
 use Rattle.latch_table.specs.Giving.{Entry, MayAppend}
-use Rattle.latch_table.specs.Appending.{StepsMayBeGiven}
+use Rattle.latch_table.specs.Appending.{StepsMayBeGiven, LooksMayBeGiven}
 
 module _ {J : Type 0} (journal : Journaled J) where
   -- what a pass knows of its store is the same once it has the journal
@@ -56,5 +56,39 @@ module _ {J : Type 0} (journal : Journaled J) where
             a.walks l y.number y.bound y.passed
             (subst (λ (R : Log). journal.has_walked b R y.number y.bound y.passed) (sym seen)
             (h.walked (lawful_old old v start l) y (sym walk ∙ is)));
+        bounds = (x, bounds);
+      }
+
+  pub may_look : LooksMayBeGiven journal
+  may_look frames old v b x h bounds =
+      let seen : v.seen ≡ h.log = ap (λ (w : PassState J). w.seen) h.state in
+      let start : v.start ≡ old.start = ap (λ (w : PassState J). w.start) h.state in
+      let redo : v.redo ≡ old.redo = ap (λ (w : PassState J). w.redo) h.state in
+      let walk : v.walk ≡ old.walk = ap (λ (w : PassState J). w.walk) h.state in
+      record {
+        stands = subst (journal.stands b) (sym seen) h.stands;
+        length_is = h.length_is ∙ ap length (sym seen);
+        counted = omega arith;
+        within = subst (λ (R : Log). journal.counted b ≤ length R) (sym seen) h.within;
+        flushed = omega arith;
+        commits_are = λ l.
+            h.flushed (lawful_old old v start l) ∙ ap (λ (R : Log). commits (cut (journal.counted b) R)) (sym seen);
+        still_reached = λ l clock n t. t;
+        faults = omega arith;
+        write_faults = omega arith;
+        owes = λ e. e;
+        begins = λ e' is kind_is. cc is;
+        append = λ l e' is. cc is;
+        swap = λ s is. cc is;
+        places = λ i lt other. refl;
+        pins = λ i. refl;
+        redo = λ l n written synced t. t;
+        walks = λ l n bound passed t. t;
+        own_redo = λ l y is.
+            subst (λ (R : Log). journal.has_redo b R y.number y.written y.synced) (sym seen)
+            (h.redo (lawful_old old v start l) y (sym redo ∙ is));
+        own_walk = λ l y is.
+            subst (λ (R : Log). journal.has_walked b R y.number y.bound y.passed) (sym seen)
+            (h.walked (lawful_old old v start l) y (sym walk ∙ is));
         bounds = (x, bounds);
       }

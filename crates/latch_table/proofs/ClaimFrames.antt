@@ -26,6 +26,7 @@ use Rattle.latch_table.proofs.Functions.{put, put_here, put_else, words_after}
 use Rattle.latch_table.proofs.Views.{views_stay, changed_at, still}
 use Rattle.latch_table.proofs.Frames.{absent_free, reads_if, shown_now}
 use Rattle.latch_table.proofs.Told.{same_others, allowed, lawful_here}
+use Rattle.latch_table.proofs.Alone.{had_seen_all}
 use Rattle.latch_table.proofs.Stay.{with_holders, is_free, renoted, store_stays, pins_stay, sums_stay, knows_stays}
 
 module _ {F J : Type 0} (frame : Framed F) (journal : Journaled J) (start : J) where
@@ -219,6 +220,7 @@ module _ {F J : Type 0} (frame : Framed F) (journal : Journaled J) (start : J) w
               content = h.pages (frame.page f);
               goes_on = (known.seen.later, known.seen.goes_on);
               state = refl;
+              alone = had_seen_all journal start h s.views k.sums k.knows id me.0 at;
               allowed = λ l. allowed journal start (taken_by h i id) id w (store_stays journal start h (put h.holder i (suc id)) h.owner k.store) k.pinned.kept
                   (claimer_knows h id i (sought + 1 - 1) f v within free room home.2 encoded k.store.shown (found_knows h id i x notes me.0 known))
                   (lawful_here journal start h id me.0 known l);

@@ -23,6 +23,7 @@ use Rattle.latch_table.specs.Rule.{Kept}
 use Rattle.latch_table.proofs.Functions.{put, put_here, put_else, words_after}
 use Rattle.latch_table.proofs.Views.{views_stay, changed_at, still}
 use Rattle.latch_table.proofs.Told.{allowed, lawful_here}
+use Rattle.latch_table.proofs.Alone.{had_seen_all}
 use Rattle.latch_table.proofs.Stay.{with_holders, is_free, renoted, store_stays, pins_stay, sums_stay, knows_stays}
 use Rattle.latch_table.proofs.ClaimFrames.{found_knows, found_notes, found_taken}
 
@@ -207,6 +208,7 @@ module _ {F J : Type 0} (frame : Framed F) (journal : Journaled J) (start : J) w
             log = h.log;
             goes_on = (known.seen.later, known.seen.goes_on);
             state = refl;
+            alone = had_seen_all journal start h s.views k.sums k.knows id me.0 at;
             allowed = λ l.
                 let here = lawful_here journal start h id me.0 known l in
                 allowed journal start (taken_by h id) id w (store_stays journal start h (put h.holder (suc h.frames) (suc id)) h.owner k.store)

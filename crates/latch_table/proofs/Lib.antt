@@ -4,9 +4,9 @@ pub mod Views
 pub mod Frames
 pub mod Told
 pub mod Stay
+pub mod Alone
 pub mod ClaimFrames
 pub mod GiveFrames
-pub mod Alone
 pub mod FreePlaces
 pub mod ClaimJournal
 pub mod GivenLog
@@ -22,6 +22,7 @@ pub mod Joins
 pub mod Opens
 pub mod Starts
 pub mod Empty
+pub mod Worked
 pub mod Popped
 pub mod Rotate
 pub mod Passing

@@ -1,4 +1,5 @@
--- A step that is logged: what the journal promises of the append, and that it may then be given back.
+-- When the journal may be given back: a step was logged, by what the journal promises of the append,
+-- or nothing was changed.
 use Rattle.std.specs.Prelude.{◌≡◌, ◌≤◌, ℕ, suc, Bool, true, false, [], ◌∷◌, length, Some, None}
 use Rattle.page_types.specs.declared.record.Kind.TheVariants as kind
 use Rattle.core_state.specs.Log.{Log}
@@ -8,7 +9,7 @@ use Rattle.latch_table.specs.declared.slots.Journaled.{Ghosts as Journaled}
 use Rattle.latch_table.specs.declared.states.PassState.{PassState}
 use Rattle.latch_table.specs.PassStates.{view_of, IsLawful}
 use Rattle.latch_table.specs.Told.{HasClaimedJournal}
-use Rattle.latch_table.specs.Giving.{Entry, Given, Bounds, AreBounds, MayGive, same}
+use Rattle.latch_table.specs.Giving.{Entry, Given, Bounds, AreBounds, MayGive, same, unchanged}
 
 -- a record was logged, and nothing else changed
 abbrev pub logged : {J : Type 0} → Entry → PassState J → Given
@@ -53,3 +54,9 @@ module _ {J : Type 0} (journal : Journaled J) where
       → HasClaimedJournal journal b old v → HasAppended v v.seen b b' e
       → (IsLawful journal v → MayLog (view_of v) e.step × Owes (view_of v) e.step)
       → AreBounds journal v b' x → MayGive journal frames v v.seen b b' (logged e v)
+
+  -- A pass that has claimed the journal, and changed nothing, may give it back.
+  abbrev pub LooksMayBeGiven : Type 0
+  LooksMayBeGiven =
+      (frames : ℕ) (old v : PassState J) (b : J) (x : Bounds) → HasClaimedJournal journal b old v
+      → AreBounds journal v b x → MayGive journal frames v v.seen b b (unchanged v)

@@ -19,6 +19,13 @@ module _ {J : Type 0} (journal : Journaled J) where
     pub write_faults : journal.write_faults start + v.write_faults ≡ journal.write_faults b
     pub seen : journal.length_of start ≤ length v.seen → log ≡ v.seen
 
+  -- a pass with the whole room is alone: it had seen all of the log, where that was no less than the
+  -- opening's
+  abbrev pub HadSeenAll : PassState J → Log → Type 0
+  HadSeenAll v log =
+      v.room ≡ 16 → (key : Snapshot J) → v.start ≡ Some key
+      → journal.length_of key.value ≤ length v.seen → log ≡ v.seen
+
   -- The table was closed, and the pass was the last. The journal stands for a log that goes on from
   -- what the pass has seen; no pin is left. Of a lawful store, the log is legal, and what the pass
   -- was shown to be flushed is reached.

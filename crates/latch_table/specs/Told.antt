@@ -19,12 +19,12 @@ use Rattle.latch_table.specs.declared.states.RedoNote.{RedoNote}
 use Rattle.latch_table.specs.declared.states.WalkNote.{WalkNote}
 use Rattle.latch_table.specs.declared.states.Shown.{Shown}
 use Rattle.latch_table.specs.declared.states.PassState.{PassState}
-use Rattle.latch_table.specs.Closing.{IsAllSince}
+use Rattle.latch_table.specs.Closing.{IsAllSince, HadSeenAll}
 use Rattle.latch_table.specs.PassStates.{view_of, pin_of, found_by, with_frame, without_frame, with_work, without_work, open_state, with_journal, IsLawful}
 
 module _ {F J : Type 0} (frame : Framed F) (journal : Journaled J) where
   -- The frame `at`, with this value, was claimed when the log was one that goes on from what the
-  -- pass had seen. Of a lawful store, that log is allowed to the pass as it is then, and the page
+  -- pass had seen, and is that where the pass is alone. Of a lawful store, that log is allowed to the pass as it is then, and the page
   -- that is noted encodes the frame's bytes.
   pub record HasClaimed (at sought : ℕ) (f : F) (old new : PassState J) : Type 0 where
     pub log : Log
@@ -32,6 +32,7 @@ module _ {F J : Type 0} (frame : Framed F) (journal : Journaled J) where
     pub goes_on : (later : Log) × (log ≡ later ++ old.seen)
     pub state : new ≡ with_frame (length log) sought
         (record { frame = at; page = frame.page f; bytes = frame.bytes f; content = content }) old
+    pub alone : HadSeenAll journal old log
     pub allowed : IsLawful journal old → IsAllowed (view_of new) log
     pub encoded : IsLawful journal old → frame.page f < page_limit
         → page_bytes content ≡ frame.bytes f
@@ -98,11 +99,12 @@ module _ {J : Type 0} (journal : Journaled J) where
         → journal.has_walked b log x.number x.bound x.passed
 
   -- The right of maintenance was claimed when the log was one that goes on from what the pass had
-  -- seen. Of a lawful store, that log is allowed to the pass as it is then.
+  -- seen, and is that where the pass is alone. Of a lawful store, that log is allowed to the pass as it is then.
   pub record HasClaimedWork (old new : PassState J) : Type 0 where
     pub log : Log
     pub goes_on : (later : Log) × (log ≡ later ++ old.seen)
     pub state : new ≡ with_work (length log) old
+    pub alone : HadSeenAll journal old log
     pub allowed : IsLawful journal old → IsAllowed (view_of new) log
 
 module _ {F J : Type 0} (journal : Journaled J) where

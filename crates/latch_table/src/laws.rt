@@ -1,6 +1,6 @@
 // What holds of all frames and journals.
 ghost use Rattle.latch_table.specs.Laying.{EmptyStoresLie};
-ghost use Rattle.latch_table.specs.Appending.{StepsMayBeGiven};
+ghost use Rattle.latch_table.specs.Appending.{StepsMayBeGiven, LooksMayBeGiven};
 
 use crate::slots::{Framed, Journaled};
 
@@ -13,4 +13,9 @@ pub fn empty_stores_lie<F: Framed, J: Journaled>()
 /// journal: that the log stays legal is not asked.
 pub fn may_give<J: Journaled>()
     ensures { StepsMayBeGiven J.Journaled }
+{}
+
+/// And so may a journal of which nothing was changed.
+pub fn may_look<J: Journaled>()
+    ensures { LooksMayBeGiven J.Journaled }
 {}

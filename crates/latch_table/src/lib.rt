@@ -19,7 +19,7 @@ mod works;
 
 pub use changes::{Changes, Looked};
 pub use held::Held;
-pub use laws::{empty_stores_lie, may_give};
+pub use laws::{empty_stores_lie, may_give, may_look};
 pub use pass::Pass;
 pub use rule::{LatchRule, Latches, Place};
 pub use slots::{Framed, Journaled, Slot};

@@ -35,6 +35,7 @@ const SPINS: u32 = 64;
 const LOW: u64 = 1 << 32;
 
 /// The frames and the journal, each after its latch, and the right of maintenance.
+#[derive(Drop)]
 pub struct LatchTable<F: Framed, J: Journaled> {
     pub(crate) table: Base<F, J>,
     /// How many sleep, or are about to, until a word is free.
