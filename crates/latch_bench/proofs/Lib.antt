@@ -1,0 +1,4 @@
+mod Adding
+mod Claiming
+mod Leaves
+mod Lending

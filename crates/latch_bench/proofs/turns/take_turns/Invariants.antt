@@ -1,0 +1,8 @@
+use Rattle.std.proofs.Common.{◌≡◌}
+use Rattle.latch_table.specs.Passes.{state}
+use Rattle.latch_bench.specs.Hands.{IsFree}
+use Rattle.latch_bench.proofs.turns.take_turns.Given as goal
+
+abbrev pub invariant-loop-turn : goal.invariant-loop-turn
+invariant-loop-turn g l = (IsFree l.desk.table.shared.table_id l.hand)
+    × ((state l.hand).room ≡ (state l.initial.hand).room)

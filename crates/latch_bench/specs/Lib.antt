@@ -1,0 +1,4 @@
+pub mod Slots
+pub mod Adding
+pub mod Hands
+pub mod Lent
