@@ -1,5 +1,6 @@
 -- What a pass with the whole room knows: it is alone, and has noted all that was since the opening.
-use Rattle.std.proofs.Common.{◌≡◌, ◌≢◌, ℕ, zero, suc, ◌+◌, ◌<◌, ◌≤◌, cond, List, [], ◌∷◌, ◌++◌, length, refl, sym, ap, subst, ◌∙◌, inl, inr, arith, ne_eqb, length-append}
+use Rattle.std.proofs.Common.{◌≡◌, ◌≢◌, ℕ, zero, suc, ◌+◌, ◌<◌, ◌≤◌, cond, List, [], ◌∷◌, ◌++◌, length, refl, sym, ap}
+use Rattle.std.proofs.Common.{subst, ◌∙◌, inl, inr, arith, ne_eqb, length-append}
 use mathlib.Core.Logic.{dite}
 use mathlib.Core.Option.{some, some-ne-none}
 use native.Mathlib.Decide.{ℕ_discrete}
@@ -74,7 +75,8 @@ module _ {J : Type 0} (journal : Journaled J) (start : J) (h : Shape J) (views :
   pub is_alone : IsAllSince journal start h.journal v h.log
   is_alone = record {
     own = owns;
-    faults = ap (λ n. journal.faults start + n) (sym (all_of (λ (y : PassState J). y.faults) (λ w t. t.faults))) ∙ sums.faults;
+    faults = ap (λ n. journal.faults start + n) (sym (all_of (λ (y : PassState J). y.faults) (λ w t. t.faults)))
+        ∙ sums.faults;
     write_faults = ap (λ n. journal.write_faults start + n)
         (sym (all_of (λ (y : PassState J). y.write_faults) (λ w t. t.write_faults))) ∙ sums.write_faults;
     seen = has_seen;

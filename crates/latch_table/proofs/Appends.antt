@@ -20,7 +20,8 @@ module _ {J : Type 0} (journal : Journaled J) where
       let start : v.start ≡ old.start = ap (λ (w : PassState J). w.start) h.state in
       let redo : v.redo ≡ old.redo = ap (λ (w : PassState J). w.redo) h.state in
       let walk : v.walk ≡ old.walk = ap (λ (w : PassState J). w.walk) h.state in
-      let within : journal.counted b ≤ length v.seen = subst (λ (R : Log). journal.counted b ≤ length R) (sym seen) h.within in
+      let within : journal.counted b ≤ length v.seen =
+      subst (λ (R : Log). journal.counted b ≤ length R) (sym seen) h.within in
       let counted = a.counted in
       let flushed = a.flushed in
       record {
@@ -30,7 +31,8 @@ module _ {J : Type 0} (journal : Journaled J) where
         within = omega arith;
         flushed = omega arith;
         commits_are = λ l.
-            flushed ∙ h.flushed (lawful_old old v start l) ∙ ap (λ (R : Log). commits (cut (journal.counted b) R)) (sym seen)
+            flushed ∙ h.flushed (lawful_old old v start l)
+            ∙ ap (λ (R : Log). commits (cut (journal.counted b) R)) (sym seen)
             ∙ ap commits (sym (cut_less (journal.counted b) e.logged v.seen within))
             ∙ ap (λ n. commits (cut n (e.logged ∷ v.seen))) (sym counted);
         still_reached = a.reached;

@@ -1,5 +1,6 @@
 -- A claim of the journal keeps the rule.
-use Rattle.std.proofs.Common.{◌≡◌, ◌≢◌, ℕ, suc, ◌+◌, ◌≤◌, eqb, List, [], ◌∷◌, ◌++◌, length, get_or, set, refl, sym, ap, subst, ◌∙◌, ⊎_elim, arith, length-set, length-append, eq-eqb, ne_eqb}
+use Rattle.std.proofs.Common.{◌≡◌, ◌≢◌, ℕ, suc, ◌+◌, ◌≤◌, eqb, List, [], ◌∷◌, ◌++◌, length, get_or, set, refl, sym, ap}
+use Rattle.std.proofs.Common.{subst, ◌∙◌, ⊎_elim, arith, length-set, length-append, eq-eqb, ne_eqb}
 use Rattle.std.specs.Prelude.{Option, Some, None}
 use Rattle.std.proofs.lemmas.List.{set-get_or}
 use mathlib.Core.Logic.{dite}
@@ -49,7 +50,8 @@ module _ {F J : Type 0} (frame : Framed F) (journal : Journaled J) (start : J) w
   taken_by h id = with_holders h (put h.holder h.frames (suc id)) h.owner
 
   shown_more : (h : Shape J) (xs : List Shown) (c n : ℕ) → (journal.lawful start → journal.reaches h.journal c n)
-      → (journal.lawful start → (y : Shown) → In y xs → journal.reaches h.journal y.clock y.commits) → journal.lawful start
+      → (journal.lawful start → (y : Shown) → In y xs → journal.reaches h.journal y.clock y.commits)
+      → journal.lawful start
       → (y : Shown) → In y (record { clock = c; commits = n } ∷ xs) → journal.reaches h.journal y.clock y.commits
   shown_more h xs c n one all l y i = ⊎_elim
       (λ (e : y ≡ record { clock = c; commits = n }).
@@ -80,7 +82,8 @@ module _ {F J : Type 0} (frame : Framed F) (journal : Journaled J) (start : J) w
   claimer_knows h id c v free room counted reached w =
       let holder' : ℕ → ℕ = put h.holder h.frames (suc id) in
       let stays : (q : ℕ) → h.holder q ≡ suc id → holder' q ≡ suc id
-      = λ q has. put_else h.holder h.frames (suc id) q (λ e. let z : h.holder q ≡ 0 = ap h.holder e ∙ free in omega arith) ∙ has in
+      = λ q has. put_else h.holder h.frames (suc id) q
+      (λ e. let z : h.holder q ≡ 0 = ap h.holder e ∙ free in omega arith) ∙ has in
       let n = knows_stays journal start h holder' h.owner id v stays w.xids w in
       record {
         start_is = n.start_is;
@@ -121,10 +124,13 @@ module _ {F J : Type 0} (frame : Framed F) (journal : Journaled J) (start : J) w
       let w : PassState J = with_journal journal h.journal h.log c v in
       let known = k.knows id v at in
       let empty = none_has h id v free known in
-      let words = words_after s.words h.holder holder' (h.frames + 2) i 1 (omega (arith, k.words.wide)) (put_else h.holder i (suc id))
-      (λ e. absurd (omega (arith, put_here h.holder i (suc id) i refl))) (λ _. omega arith) k.words.free k.words.taken in
+      let words = words_after s.words h.holder holder' (h.frames + 2) i 1 (omega (arith, k.words.wide))
+      (put_else h.holder i (suc id))
+      (λ e. absurd (omega (arith, put_here h.holder i (suc id) i refl)))
+      (λ _. omega arith) k.words.free k.words.taken in
       let stays : (j q : ℕ) → h.holder q ≡ suc j → holder' q ≡ suc j
-      = λ j q has. put_else h.holder i (suc id) q (λ e. let z : h.holder q ≡ 0 = ap h.holder e ∙ free in omega arith) ∙ has in
+      = λ j q has. put_else h.holder i (suc id) q (λ e. let z : h.holder q ≡ 0 = ap h.holder e ∙ free in omega arith)
+      ∙ has in
       record {
         shape = h';
         words = record {
@@ -181,7 +187,8 @@ module _ {F J : Type 0} (frame : Framed F) (journal : Journaled J) (start : J) w
 
   -- what the claim says
   told : (s : St) (k : Rule s) (id : ℕ) (v : PassState J) → get_elem? s.views id ≡ some v → v.room ≢ 0
-      → HasClaimedJournal journal k.shape.journal v (with_journal journal k.shape.journal k.shape.log k.store.reached.0 v)
+      → HasClaimedJournal journal k.shape.journal v
+      (with_journal journal k.shape.journal k.shape.log k.store.reached.0 v)
   told s k id v at room =
       let h = k.shape in
       let w = k.knows id v at in
@@ -239,6 +246,7 @@ module _ {F J : Type 0} (frame : Framed F) (journal : Journaled J) (start : J) w
         me.0,
         keeps,
         tt,
-        subst (λ c. Rule (stepped s i (either c 1 x) id me.1 me.0 keeps)) (sym (ne_eqb x 0 miss)) (unmoved s k i id me.0 at),
+        subst (λ c. Rule (stepped s i (either c 1 x) id me.1 me.0 keeps)) (sym (ne_eqb x 0 miss))
+            (unmoved s k i id me.0 at),
         ((λ hit. absurd (miss hit)), λ _. refl),
       ))

@@ -1,5 +1,6 @@
 -- A claim of the right of maintenance keeps the rule, and so does giving it back.
-use Rattle.std.proofs.Common.{◌≡◌, ◌≢◌, ℕ, suc, ◌+◌, ◌≤◌, eqb, Bool, List, [], ◌∷◌, ◌++◌, length, get_or, set, refl, sym, ap, subst, ◌∙◌, inl, inr, ⊎_elim, arith, length-set, eq-eqb, ne_eqb}
+use Rattle.std.proofs.Common.{◌≡◌, ◌≢◌, ℕ, suc, ◌+◌, ◌≤◌, eqb, Bool, List, [], ◌∷◌, ◌++◌, length, get_or, set, refl}
+use Rattle.std.proofs.Common.{sym, ap, subst, ◌∙◌, inl, inr, ⊎_elim, arith, length-set, eq-eqb, ne_eqb}
 use Rattle.std.specs.Prelude.{Option, Some, None}
 use mathlib.Core.Logic.{dite}
 use mathlib.Core.Option.{none, some}
@@ -39,7 +40,8 @@ in_front r [] ys i = absurd i
 in_front r (x ∷ xs) ys i = ⊎_elim (λ (e : r ≡ x). inl e) (λ j. inr (in_front r xs ys j)) i
 
 module _ {J : Type 0} where
-  others_work : (v : PassState J) (n : ℕ) (rs : Log) → ((r : Record) → In r rs → r.number ≤ n) → AreOthers (view_of v) rs
+  others_work : (v : PassState J) (n : ℕ) (rs : Log) → ((r : Record) → In r rs → r.number ≤ n)
+      → AreOthers (view_of v) rs
       → AreOthers (view_of (with_work n v)) rs
   others_work v n [] low f = tt
   others_work v n (r ∷ rs) low f = (
@@ -81,7 +83,8 @@ module _ {F J : Type 0} (frame : Framed F) (journal : Journaled J) (start : J) w
       go None e = e
       go (Some at) e = let t = (k.work at e).0 in absurd (omega arith)
 
-  work_notes : (h : Shape J) (n : ℕ) (v : PassState J) (i : ℕ) → v.work ≡ None → IsNoted h v i → IsNoted h (with_work n v) i
+  work_notes : (h : Shape J) (n : ℕ) (v : PassState J) (i : ℕ) → v.work ≡ None → IsNoted h v i
+      → IsNoted h (with_work n v) i
   work_notes h n v i empty (IsNoted.as_frame f in_) = IsNoted.as_frame f in_
   work_notes h n v i empty (IsNoted.as_journal b e) = IsNoted.as_journal b e
   work_notes h n v i empty (IsNoted.as_work at e) = absurd (let z : Some at ≡ None = sym e ∙ empty in cc z)
@@ -98,7 +101,8 @@ module _ {F J : Type 0} (frame : Framed F) (journal : Journaled J) (start : J) w
   worker_knows h id v free room valid w =
       let i : ℕ = suc h.frames in
       let stays : (q : ℕ) → h.holder q ≡ suc id → put h.holder i (suc id) q ≡ suc id
-      = λ q has. put_else h.holder i (suc id) q (λ e. let z : h.holder q ≡ 0 = ap h.holder e ∙ free in omega arith) ∙ has in
+      = λ q has. put_else h.holder i (suc id) q (λ e. let z : h.holder q ≡ 0 = ap h.holder e ∙ free in omega arith)
+      ∙ has in
       let n = knows_stays journal start h (put h.holder i (suc id)) h.owner id v stays w.xids w in
       record {
         start_is = n.start_is;
@@ -108,7 +112,8 @@ module _ {F J : Type 0} (frame : Framed F) (journal : Journaled J) (start : J) w
           goes_on = w.seen.goes_on;
           others = λ l. others_work v (length h.log) w.seen.later
               (λ r there. numbers h.log (valid l) r
-              (subst (λ (R : Log). In r R) (sym w.seen.goes_on) (in_front r w.seen.later v.seen there))) (w.seen.others l);
+              (subst (λ (R : Log). In r R) (sym w.seen.goes_on) (in_front r w.seen.later v.seen there)))
+              (w.seen.others l);
           shown = w.seen.shown;
           counted = w.seen.counted;
         };
@@ -145,13 +150,21 @@ module _ {F J : Type 0} (frame : Framed F) (journal : Journaled J) (start : J) w
       let w : PassState J = with_work (length h.log) u in
       let known = k.knows id v at in
       let empty = none_has h id v free known in
-      let words = words_after s.words h.holder holder' (h.frames + 2) i 1 (omega (arith, k.words.wide)) (put_else h.holder i (suc id))
-      (λ e. absurd (omega (arith, put_here h.holder i (suc id) i refl))) (λ _. omega arith) k.words.free k.words.taken in
+      let words = words_after s.words h.holder holder' (h.frames + 2) i 1 (omega (arith, k.words.wide))
+      (put_else h.holder i (suc id))
+      (λ e. absurd (omega (arith, put_here h.holder i (suc id) i refl)))
+      (λ _. omega arith) k.words.free k.words.taken in
       let stays : (j q : ℕ) → h.holder q ≡ suc j → holder' q ≡ suc j
-      = λ j q has. put_else h.holder i (suc id) q (λ e. let z : h.holder q ≡ 0 = ap h.holder e ∙ free in omega arith) ∙ has in
+      = λ j q has. put_else h.holder i (suc id) q (λ e. let z : h.holder q ≡ 0 = ap h.holder e ∙ free in omega arith)
+      ∙ has in
       record {
         shape = h';
-        words = record { wide = length-set s.words i 1 ∙ k.words.wide; deep = k.words.deep; free = words.0; taken = words.1 };
+        words = record {
+          wide = length-set s.words i 1 ∙ k.words.wide;
+          deep = k.words.deep;
+          free = words.0;
+          taken = words.1;
+        };
         homes = record {
           frames = λ j lt none_has'.
               let was = k.homes.frames j lt (sym (put_else h.holder i (suc id) j (λ e. omega arith)) ∙ none_has') in
@@ -171,14 +184,16 @@ module _ {F J : Type 0} (frame : Framed F) (journal : Journaled J) (start : J) w
             (λ ne.
             let t = k.noted q j lt (sym (put_else h.holder i (suc id) q ne) ∙ has) in
             still (λ y. IsNoted h' y q) s.views id j v w t.0 at
-            (λ z. work_notes h' (length h.log) u q empty (found_notes frame journal start h' word found notes v q z)) t.1
+            (λ z. work_notes h' (length h.log) u q empty (found_notes frame journal start h' word found notes v q z))
+            t.1
             (renoted h holder' h.owner t.0 q t.2));
         store = store_stays journal start h holder' h.owner k.store;
         placed = k.placed;
         pinned = pins_stay journal start h holder' h.owner s.views id v w at refl k.pinned;
         sums = sums_stay journal start h holder' h.owner s.views id v w at refl refl refl refl k.sums;
         knows = views_stay (Knows journal start h) (Knows journal start h') s.views id w
-            (worker_knows h id u free room (λ l. (k.store.legal l).valid) (found_knows frame journal start h id word found notes v known))
+            (worker_knows h id u free room (λ l. (k.store.legal l).valid)
+            (found_knows frame journal start h id word found notes v known))
             (λ j y _ _ t. knows_stays journal start h holder' h.owner j y (stays j) t.xids t) k.knows;
       }
 
@@ -211,9 +226,11 @@ module _ {F J : Type 0} (frame : Framed F) (journal : Journaled J) (start : J) w
             alone = had_seen_all journal start h s.views k.sums k.knows id me.0 at;
             allowed = λ l.
                 let here = lawful_here journal start h id me.0 known l in
-                allowed journal start (taken_by h id) id w (store_stays journal start h (put h.holder (suc h.frames) (suc id)) h.owner k.store)
+                allowed journal start (taken_by h id) id w
+                (store_stays journal start h (put h.holder (suc h.frames) (suc id)) h.owner k.store)
                 k.pinned.kept
-                (worker_knows h id v free room (λ t. (k.store.legal t).valid) (found_knows frame journal start h id i x notes me.0 known)) here;
+                (worker_knows h id v free room (λ t. (k.store.legal t).valid)
+                (found_knows frame journal start h id i x notes me.0 known)) here;
           }),
           λ no. absurd (no hit),
         ),
@@ -271,7 +288,8 @@ module _ {F J : Type 0} (frame : Framed F) (journal : Journaled J) (start : J) w
         free_notes fs t.4,
       )
 
-  rest_keeps : (s : St) (k : Rule s) (id at' : ℕ) (v : PassState J) → get_elem? s.views id ≡ some v → v.work ≡ Some at' → v.room ≢ 0
+  rest_keeps : (s : St) (k : Rule s) (id at' : ℕ) (v : PassState J) → get_elem? s.views id ≡ some v → v.work ≡ Some at'
+      → v.room ≢ 0
       → Rule record {
         words = set s.words (suc k.shape.frames) 0;
         homes = s.homes;
@@ -286,13 +304,20 @@ module _ {F J : Type 0} (frame : Framed F) (journal : Journaled J) (start : J) w
       let known = k.knows id v at in
       let mine = (known.work at' has_work).0 in
       let else_ = put_else h.holder i 0 in
-      let words = words_after s.words h.holder holder' (h.frames + 2) i 0 (omega (arith, k.words.wide)) else_ (λ _. refl)
+      let words =
+      words_after s.words h.holder holder' (h.frames + 2) i 0 (omega (arith, k.words.wide)) else_ (λ _. refl)
       (λ z. absurd (omega (arith, put_here h.holder i 0 i refl))) k.words.free k.words.taken in
       let stays : (j q : ℕ) → j ≢ id → h.holder q ≡ suc j → holder' q ≡ suc j
-      = λ j q other has. else_ q (λ e. other (let z : suc id ≡ suc j = sym mine ∙ ap h.holder (sym e) ∙ has in omega arith)) ∙ has in
+      = λ j q other has. else_ q
+      (λ e. other (let z : suc id ≡ suc j = sym mine ∙ ap h.holder (sym e) ∙ has in omega arith)) ∙ has in
       record {
         shape = h';
-        words = record { wide = length-set s.words i 0 ∙ k.words.wide; deep = k.words.deep; free = words.0; taken = words.1 };
+        words = record {
+          wide = length-set s.words i 0 ∙ k.words.wide;
+          deep = k.words.deep;
+          free = words.0;
+          taken = words.1;
+        };
         homes = record {
           frames = λ j lt none_has'.
               let was = k.homes.frames j lt (sym (else_ j (λ e. omega arith)) ∙ none_has') in
@@ -303,12 +328,14 @@ module _ {F J : Type 0} (frame : Framed F) (journal : Journaled J) (start : J) w
         noted = λ q j lt has.
             let ne : q ≢ i = λ e. (let z : 0 ≡ suc j = sym (put_here h.holder i 0 q e) ∙ has in omega arith) in
             let o = k.noted q j lt (sym (else_ q ne) ∙ has) in
-            still (λ y. IsNoted h' y q) s.views id j v w o.0 at (rest_notes h' v q ne) o.1 (renoted h holder' h.owner o.0 q o.2);
+            still (λ y. IsNoted h' y q) s.views id j v w o.0 at (rest_notes h' v q ne) o.1
+            (renoted h holder' h.owner o.0 q o.2);
         store = store_stays journal start h holder' h.owner k.store;
         placed = k.placed;
         pinned = pins_stay journal start h holder' h.owner s.views id v w at refl k.pinned;
         sums = sums_stay journal start h holder' h.owner s.views id v w at refl refl refl refl k.sums;
-        knows = views_stay (Knows journal start h) (Knows journal start h') s.views id w (rester_knows h id v room known)
+        knows =
+            views_stay (Knows journal start h) (Knows journal start h') s.views id w (rester_knows h id v room known)
             (λ j y other _ z. knows_stays journal start h holder' h.owner j y (λ q. stays j q other) z.xids z) k.knows;
       }
 

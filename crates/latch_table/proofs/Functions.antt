@@ -37,7 +37,8 @@ pub words_after : (words : List ℕ) (holder holder' : ℕ → ℕ) (n i x : ℕ
     × ((j : ℕ) → j < n → 0 < holder' j → 0 < get_or (set words i x) j 0)
 words_after words holder holder' n i x inside others free taken was_free was_taken = (
   (λ j le none. dite (ℕ_discrete j i)
-      (λ e. ap (λ k. get_or (set words i x) k 0) e ∙ get_or-set_same words i x 0 inside ∙ free (ap holder' (sym e) ∙ none))
+      (λ e. ap (λ k. get_or (set words i x) k 0) e ∙ get_or-set_same words i x 0 inside
+      ∙ free (ap holder' (sym e) ∙ none))
       (λ ne. get_or-set_other words i j x 0 ne ∙ was_free j le (sym (others j ne) ∙ none))),
   (λ j le some. dite (ℕ_discrete j i)
       (λ e. subst (λ k. 0 < k) (sym (ap (λ k. get_or (set words i x) k 0) e ∙ get_or-set_same words i x 0 inside))

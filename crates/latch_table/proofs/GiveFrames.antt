@@ -56,7 +56,8 @@ module _ {F J : Type 0} (frame : Framed F) (journal : Journaled J) (start : J) w
         seen = record {
           later = w.seen.later;
           goes_on = w.seen.goes_on;
-          others = λ l. same_others (view_of v) (view_of (without_frame i v)) w.seen.later refl refl refl (w.seen.others l);
+          others =
+              λ l. same_others (view_of v) (view_of (without_frame i v)) w.seen.later refl refl refl (w.seen.others l);
           shown = w.seen.shown;
           counted = w.seen.counted;
         };
@@ -77,7 +78,8 @@ module _ {F J : Type 0} (frame : Framed F) (journal : Journaled J) (start : J) w
       }
 
   -- the frame that a pass gives back, as it noted it, lies as the rule wants it
-  lies : (s : St) (k : Rule s) (id : ℕ) (v : PassState J) (note : Note) (f : F) → get_elem? s.views id ≡ some v → In note v.frames
+  lies : (s : St) (k : Rule s) (id : ℕ) (v : PassState J) (note : Note) (f : F) → get_elem? s.views id ≡ some v
+      → In note v.frames
       → frame.page f ≡ note.page → frame.bytes f ≡ note.bytes → IsFrame frame journal start k.shape note.frame f
   lies s k id v note f at there page bytes =
       let h = k.shape in
@@ -91,7 +93,11 @@ module _ {F J : Type 0} (frame : Framed F) (journal : Journaled J) (start : J) w
 
   give_keeps : (s : St) (k : Rule s) (id i : ℕ) (v : PassState J) (note : Note) (f : F) → get_elem? s.views id ≡ some v
       → In note v.frames → note.frame ≡ i → v.room ≢ 0 → IsFrame frame journal start k.shape i f
-      → Rule record { words = set s.words i 0; homes = set s.homes i (some (Frame f)); views = set s.views id (without_frame i v) }
+      → Rule record {
+        words = set s.words i 0;
+        homes = set s.homes i (some (Frame f));
+        views = set s.views id (without_frame i v);
+      }
   give_keeps s k id i v note f at there is room home =
       let h = k.shape in
       let known = k.knows id v at in
@@ -103,23 +109,35 @@ module _ {F J : Type 0} (frame : Framed F) (journal : Journaled J) (start : J) w
       let w : PassState J = without_frame i v in
       let else_ = put_else h.holder i 0 in
       let d = k.words.deep in
-      let words = words_after s.words h.holder holder' (h.frames + 2) i 0 (omega (arith, k.words.wide)) else_ (λ _. refl)
+      let words =
+      words_after s.words h.holder holder' (h.frames + 2) i 0 (omega (arith, k.words.wide)) else_ (λ _. refl)
       (λ z. absurd (omega (arith, put_here h.holder i 0 i refl))) k.words.free k.words.taken in
       let stays : (j q : ℕ) → j ≢ id → h.holder q ≡ suc j → holder' q ≡ suc j
-      = λ j q other has. else_ q (λ e. other (let z : suc id ≡ suc j = sym mine ∙ ap h.holder (sym e) ∙ has in omega arith)) ∙ has in
+      = λ j q other has. else_ q
+      (λ e. other (let z : suc id ≡ suc j = sym mine ∙ ap h.holder (sym e) ∙ has in omega arith)) ∙ has in
       record {
         shape = h';
-        words = record { wide = length-set s.words i 0 ∙ k.words.wide; deep = length-set s.homes i (some (Frame f)) ∙ k.words.deep; free = words.0; taken = words.1 };
+        words = record {
+          wide = length-set s.words i 0 ∙ k.words.wide;
+          deep = length-set s.homes i (some (Frame f)) ∙ k.words.deep;
+          free = words.0;
+          taken = words.1;
+        };
         homes = record {
           frames = λ j lt none_has. dite (ℕ_discrete j i)
               (λ e. (
                 f,
-                ap (get_elem? (set s.homes i (some (Frame f)))) e ∙ set_here s.homes i (some (Frame f)) (omega (arith, d)),
-                subst (λ n. IsFrame frame journal start h' n f) (sym e) (record { page = home.page; bytes = home.bytes }),
+                ap (get_elem? (set s.homes i (some (Frame f)))) e
+                    ∙ set_here s.homes i (some (Frame f)) (omega (arith, d)),
+                subst (λ n. IsFrame frame journal start h' n f) (sym e)
+                    (record { page = home.page; bytes = home.bytes }),
               ))
               (λ ne.
-              let was = k.homes.frames j lt (sym (else_ j ne) ∙ none_has) in
-              (was.0, set_else s.homes i j (some (Frame f)) ne ∙ was.1, record { page = was.2.page; bytes = was.2.bytes }));
+              let was = k.homes.frames j lt (sym (else_ j ne) ∙ none_has) in (
+                was.0,
+                set_else s.homes i j (some (Frame f)) ne ∙ was.1,
+                record { page = was.2.page; bytes = was.2.bytes },
+              ));
           journal_is = λ none_has.
               let ne : h.frames ≢ i = λ e. omega arith in
               set_else s.homes i h.frames (some (Frame f)) ne ∙ k.homes.journal_is (sym (else_ h.frames ne) ∙ none_has);
@@ -128,24 +146,29 @@ module _ {F J : Type 0} (frame : Framed F) (journal : Journaled J) (start : J) w
         noted = λ q j lt has.
             let ne : q ≢ i = λ e. (let z : 0 ≡ suc j = sym (put_here h.holder i 0 q e) ∙ has in omega arith) in
             let o = k.noted q j lt (sym (else_ q ne) ∙ has) in
-            still (λ y. IsNoted h' y q) s.views id j v w o.0 at (noted_else h' i v q ne) o.1 (renoted h holder' h.owner o.0 q o.2);
+            still (λ y. IsNoted h' y q) s.views id j v w o.0 at (noted_else h' i v q ne) o.1
+            (renoted h holder' h.owner o.0 q o.2);
         store = store_stays journal start h holder' h.owner k.store;
         placed = k.placed;
         pinned = pins_stay journal start h holder' h.owner s.views id v w at refl k.pinned;
         sums = sums_stay journal start h holder' h.owner s.views id v w at refl refl refl refl k.sums;
-        knows = views_stay (Knows journal start h) (Knows journal start h') s.views id w (giver_knows h id i v within room known)
+        knows = views_stay (Knows journal start h) (Knows journal start h') s.views id w
+            (giver_knows h id i v within room known)
             (λ j y other _ z. knows_stays journal start h holder' h.owner j y (λ q. stays j q other) z.xids z) k.knows;
       }
 
-  pub gives_frame : (slots id i : ℕ) (me : M) (note : Note) (f : F) (xs : List (ℕ × Slot F J)) → me.0.room ≢ 0 → In note me.0.frames
+  pub gives_frame : (slots id i : ℕ) (me : M) (note : Note) (f : F) (xs : List (ℕ × Slot F J)) → me.0.room ≢ 0
+      → In note me.0.frames
       → note.frame ≡ i → frame.page f ≡ note.page → frame.bytes f ≡ note.bytes → me.1 ≡ (i, Frame f) ∷ xs
       → Allows Rule slots id me i (λ _. 0) (λ _. gave_back (step slots i 0 0 none) me 0)
   gives_frame slots id i me note f xs room there is page bytes carried s k deep at _ =
-      let home = subst (λ n. IsFrame frame journal start k.shape n f) is (lies s k id me.0 note f at there page bytes) in
+      let home =
+      subst (λ n. IsFrame frame journal start k.shape n f) is (lies s k id me.0 note f at there page bytes) in
       let w : PassState J = without_frame i me.0 in (
         w,
         gives,
         tt,
-        subst (λ (c : List (ℕ × Slot F J)). Rule (stepped s i 0 id c w gives)) (sym carried) (give_keeps s k id i me.0 note f at there is room home),
+        subst (λ (c : List (ℕ × Slot F J)). Rule (stepped s i 0 id c w gives)) (sym carried)
+            (give_keeps s k id i me.0 note f at there is room home),
         (refl, λ y ys e. ap rest e),
       )

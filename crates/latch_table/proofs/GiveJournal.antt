@@ -1,5 +1,6 @@
 -- The journal that is given back keeps the rule.
-use Rattle.std.proofs.Common.{◌≡◌, ◌≢◌, ℕ, suc, ◌+◌, ◌<◌, false, List, [], ◌∷◌, set, refl, sym, ap, subst, ◌∙◌, inl, inr, ⊎_elim, arith, length-set}
+use Rattle.std.proofs.Common.{◌≡◌, ◌≢◌, ℕ, suc, ◌+◌, ◌<◌, false, List, [], ◌∷◌, set, refl, sym, ap, subst, ◌∙◌, inl}
+use Rattle.std.proofs.Common.{inr, ⊎_elim, arith, length-set}
 use Rattle.std.specs.Prelude.{Option, Some}
 use Rattle.std.specs.declared.snapshot.Snapshot.{Snapshot}
 use mathlib.Core.Option.{none, some}
@@ -18,7 +19,8 @@ use Rattle.latch_table.specs.PassStates.{IsLawful}
 use Rattle.latch_table.specs.Shapes.{Shape}
 use Rattle.latch_table.specs.Lines.{IsFrame, IsNoted, Knows}
 use Rattle.latch_table.specs.Rule.{Kept}
-use Rattle.latch_table.specs.Giving.{Entry, Swap, Given, Bounds, changed_note, swapped_note, notes_after, given_back, MayGive, HasGivenJournal, CanGive, gave_journal}
+use Rattle.latch_table.specs.Giving.{Entry, Swap, Given, Bounds, changed_note, swapped_note, notes_after, given_back}
+use Rattle.latch_table.specs.Giving.{MayGive, HasGivenJournal, CanGive, gave_journal}
 use Rattle.latch_table.proofs.Functions.{put, put_here, put_else, words_after}
 use Rattle.latch_table.proofs.Views.{views_stay, still}
 use Rattle.latch_table.proofs.GivenLog.{Follows, follows}
@@ -51,7 +53,8 @@ module _ {F J : Type 0} (frame : Framed F) (journal : Journaled J) (start : J) w
   same_frames h h' v i same (IsNoted.as_work at e) = subst (λ n. IsNoted h' v (suc n)) same (IsNoted.as_work at e)
 
   -- another word that is noted stays so
-  noted_else : (h : Shape J) (v : PassState J) (R : Log) (b b' : J) (g : Given) (x : Bounds) (q : ℕ) → q ≢ h.frames → IsNoted h v q
+  noted_else : (h : Shape J) (v : PassState J) (R : Log) (b b' : J) (g : Given) (x : Bounds) (q : ℕ) → q ≢ h.frames
+      → IsNoted h v q
       → IsNoted h (given_back journal R b b' g x v) q
   noted_else h v R b b' g x q ne (IsNoted.as_frame f in_) =
       let t = in_notes g.entry g.swap f v.frames in_ in
@@ -60,7 +63,8 @@ module _ {F J : Type 0} (frame : Framed F) (journal : Journaled J) (start : J) w
   noted_else h v R b b' g x q ne (IsNoted.as_work at e) = IsNoted.as_work at e
 
   module _ (s : St) (k : Rule s) (id : ℕ) (v : PassState J) (at : get_elem? s.views id ≡ some v) (b' : J) (g : Given)
-      (m : MayGive journal k.shape.frames v k.shape.log k.shape.journal b' g) (lawful : journal.lawful start → IsLawful journal v)
+      (m : MayGive journal k.shape.frames v k.shape.log k.shape.journal b' g)
+      (lawful : journal.lawful start → IsLawful journal v)
       (has : v.journal ≡ Some k.shape.journal) (room : v.room ≢ 0) (seen : v.fresh ≡ false) where
     abbrev h : Shape J
     h = k.shape
@@ -81,7 +85,8 @@ module _ {F J : Type 0} (frame : Framed F) (journal : Journaled J) (start : J) w
     whole = (mine.journal_is h.journal has).2
 
     then : journal.lawful start → Follows journal start h s.views id v g.entry
-    then l = follows journal start h s.views k.store k.placed k.pinned k.sums k.knows id v at l g.entry (m.append (lawful l))
+    then l =
+        follows journal start h s.views k.store k.placed k.pinned k.sums k.knows id v at l g.entry (m.append (lawful l))
 
     -- a frame at home has its page still, and its bytes are the replay
     frame_after : (i : ℕ) (f : F) → i < h.frames → h.holder i ≡ 0 → IsFrame frame journal start h i f
@@ -89,10 +94,12 @@ module _ {F J : Type 0} (frame : Framed F) (journal : Journaled J) (start : J) w
     frame_after i f lt free t =
         let other : h.holder i ≢ suc id = λ e. (let z : 0 ≡ suc id = sym free ∙ e in omega arith) in
         record {
-          page = t.page ∙ sym (m.places i lt (not_swapped journal start h s.views id v b' g m lawful then k.placed mine i other));
+          page = t.page
+              ∙ sym (m.places i lt (not_swapped journal start h s.views id v b' g m lawful then k.placed mine i other));
           bytes = λ l low.
               let p : ℕ = frame.page f in
-              let same = not_touched journal start h s.views id v b' g m lawful then k.placed mine l i p lt other (sym t.page) in
+              let same = not_touched journal start h s.views id v b' g m lawful
+              then k.placed mine l i p lt other (sym t.page) in
               t.bytes l low ∙ sym (k.store.shown l p).1 ∙ ap page_bytes (sym same) ∙ ((then l).shown p).1;
         }
 
@@ -106,7 +113,8 @@ module _ {F J : Type 0} (frame : Framed F) (journal : Journaled J) (start : J) w
         let holder' : ℕ → ℕ = put h.holder i 0 in
         let else_ = put_else h.holder i 0 in
         let d = k.words.deep in
-        let words = words_after s.words h.holder holder' (h.frames + 2) i 0 (omega (arith, k.words.wide)) else_ (λ _. refl)
+        let words =
+        words_after s.words h.holder holder' (h.frames + 2) i 0 (omega (arith, k.words.wide)) else_ (λ _. refl)
         (λ z. absurd (omega (arith, put_here h.holder i 0 i refl))) k.words.free k.words.taken in
         record {
           shape = h';
@@ -128,7 +136,8 @@ module _ {F J : Type 0} (frame : Framed F) (journal : Journaled J) (start : J) w
           noted = λ q j lt has'.
               let ne : q ≢ i = λ e. (let z : 0 ≡ suc j = sym (put_here h.holder i 0 q e) ∙ has' in omega arith) in
               let o = k.noted q j lt (sym (else_ q ne) ∙ has') in
-              still (λ y. IsNoted h' y q) s.views id j v w o.0 at (noted_else h' v h.log h.journal b' g m.bounds.0 q ne) o.1
+              still (λ y. IsNoted h' y q) s.views id j v w o.0 at
+              (noted_else h' v h.log h.journal b' g m.bounds.0 q ne) o.1
               (same_frames h h' o.0 q refl o.2);
           store = store_after journal start h s.views id v b' g m lawful then k.store;
           placed = placed_after journal start h id v b' g m k.placed;
@@ -137,7 +146,8 @@ module _ {F J : Type 0} (frame : Framed F) (journal : Journaled J) (start : J) w
           knows = views_stay (Knows journal start h) (Knows journal start h') s.views id w
               (own_knows journal start h s.views id v b' g m lawful then k.store.shown room seen whole mine)
               (λ j y other there t.
-              other_knows journal start h s.views id v b' g m lawful then k.placed mine k.sums at room holds j y other there t) k.knows;
+              other_knows journal start h s.views id v b' g m lawful
+              then k.placed mine k.sums at room holds j y other there t) k.knows;
         }
 
   slot_of : J → Slot F J → J
@@ -149,12 +159,14 @@ module _ {F J : Type 0} (frame : Framed F) (journal : Journaled J) (start : J) w
   first_of d (x ∷ xs) = slot_of d x.1
 
   -- a seat's slots say one journal
-  same_journal : (i : ℕ) (b c : J) (xs ys : List (ℕ × Slot F J)) → (i, Journal b) ∷ xs ≡ (i, Journal c) ∷ ys → (b ≡ c) × (xs ≡ ys)
+  same_journal : (i : ℕ) (b c : J) (xs ys : List (ℕ × Slot F J)) → (i, Journal b) ∷ xs ≡ (i, Journal c) ∷ ys
+      → (b ≡ c) × (xs ≡ ys)
   unfolding first_of slot_of
   same_journal i b c xs ys e = (ap (first_of b) e, ap rest e)
 
   -- the journal goes home
-  pub gives_journal : (change : PassState J → J → Given) (slots id i : ℕ) (me : M) (b' : J) (xs : List (ℕ × Slot F J)) → i + 2 ≡ slots
+  pub gives_journal : (change : PassState J → J → Given) (slots id i : ℕ) (me : M) (b' : J) (xs : List (ℕ × Slot F J))
+      → i + 2 ≡ slots
       → me.0.room ≢ 0 → me.0.fresh ≡ false → (key : Snapshot J) × (me.0.start ≡ Some key) → me.1 ≡ (i, Journal b') ∷ xs
       → CanGive journal i me.0 b' (change me.0 b')
       → Allows Rule slots id me i (λ _. 0) (λ _. gave_journal journal change (step slots i 0 0 none) me 0)
@@ -180,11 +192,12 @@ module _ {F J : Type 0} (frame : Framed F) (journal : Journaled J) (start : J) w
         λ b c ys is there.
             let both = same_journal i b' c xs ys (sym carried ∙ there) in
             let one : can.0 ≡ b = (let z : Some can.0 ≡ Some b = sym can.1 ∙ is in cc z) in (
-              subst (λ (p : J × J). HasGivenJournal journal p.0 p.1 (change v p.1) v w) (λ n. ((sym has.1 ∙ one) n, both.0 n)) record {
-                bounds = m.bounds.0;
-                are_bounds = m.bounds.1;
-                state = ap (λ (R : Log). given_back journal R h.journal b' g m.bounds.0 v) (sym has.2);
-              },
+              subst (λ (p : J × J). HasGivenJournal journal p.0 p.1 (change v p.1) v w)
+                  (λ n. ((sym has.1 ∙ one) n, both.0 n)) record {
+                    bounds = m.bounds.0;
+                    are_bounds = m.bounds.1;
+                    state = ap (λ (R : Log). given_back journal R h.journal b' g m.bounds.0 v) (sym has.2);
+                  },
               ap rest carried ∙ both.1,
             ),
       )

@@ -1,6 +1,7 @@
 -- The log with what was added: it is legal, shows the pages, keeps the pins, and was added by another
 -- to each other pass.
-use Rattle.std.proofs.Common.{◌≡◌, ◌≢◌, ◌⊎◌, cond, ℕ, suc, ◌<◌, Bool, true, false, List, [], ◌∷◌, ◌++◌, refl, sym, ap, subst, ◌∙◌, inr, ⊎_elim, arith, eq-eqb, ne_eqb}
+use Rattle.std.proofs.Common.{◌≡◌, ◌≢◌, ◌⊎◌, cond, ℕ, suc, ◌<◌, Bool, true, false, List, [], ◌∷◌, ◌++◌, refl, sym, ap}
+use Rattle.std.proofs.Common.{subst, ◌∙◌, inr, ⊎_elim, arith, eq-eqb, ne_eqb}
 use Rattle.std.specs.Prelude.{Option, Some, None, IfSome, nat_lt}
 use mathlib.Core.Logic.{dite}
 use mathlib.Core.Option.{some}
@@ -17,7 +18,8 @@ use Rattle.core_state.specs.Log.{Log, Pages, In, Shows, replay, next_xid}
 use Rattle.core_state.specs.Legal.{IsLegal, Pin, Keeps}
 use Rattle.core_state.specs.Steady.{IsMaintenance}
 use Rattle.core_state.specs.Readings.{Read, AreReads}
-use Rattle.core_state.specs.Allowed.{Sheet, View, IsOthers, Step, AreMade, MayLog, Owes, sheet_pages, made_by, drawn_kind, drawn_xid}
+use Rattle.core_state.specs.Allowed.{Sheet, View, IsOthers, Step, AreMade, MayLog, Owes, sheet_pages, made_by}
+use Rattle.core_state.specs.Allowed.{drawn_kind, drawn_xid}
 use Rattle.core_state.specs.Logged.{IsRecordOf, pin_now, FloorAllows, IsBeside, StaysLegal, abort_all}
 use Rattle.core_state.proofs.Newest.{cut_less}
 use Rattle.core_state.proofs.Showing.{replay_kept}
@@ -43,7 +45,8 @@ reads_on r R from (x ∷ xs) t = (
   reads_on r R x.length xs t.3,
 )
 
-pub reads_added : (o : Option Entry) (R : Log) (from : ℕ) (xs : List Read) → AreReads R from xs → AreReads (added o ++ R) from xs
+pub reads_added : (o : Option Entry) (R : Log) (from : ℕ) (xs : List Read) → AreReads R from xs
+    → AreReads (added o ++ R) from xs
 reads_added None R from xs t = t
 reads_added (Some e) R from xs t = reads_on e.logged R from xs t
 
@@ -52,7 +55,8 @@ left_is : (r : Record) (Q : Pages) (p : ℕ) (old : Page) (ss : List Sheet) → 
     → ((In p (sheet_pages ss) → ⊥) → Q p ≡ old) → content_after r ss p old ≡ Q p
 left_is r Q p old [] made off = sym (off (λ i. i))
 left_is r Q p old (s ∷ ss) made off = dite (ℕ_discrete s.page p)
-    (λ (e : s.page ≡ p). subst (λ b. cond b (made_by r s.content) (content_after r ss p old) ≡ Q p) (sym (eq-eqb s.page p e))
+    (λ (e : s.page ≡ p). subst (λ b. cond b (made_by r s.content) (content_after r ss p old) ≡ Q p)
+    (sym (eq-eqb s.page p e))
     (sym made.0 ∙ ap Q e))
     (λ ne. subst (λ b. cond b (made_by r s.content) (content_after r ss p old) ≡ Q p) (sym (ne_eqb s.page p ne))
     (left_is r Q p old ss made.1 (λ none. off (λ i. ⊎_elim (λ (e : p ≡ s.page). ne (sym e)) none i))))
@@ -78,13 +82,16 @@ pin_allows v (Some q) f = f q refl
 
 module _ {J : Type 0} (journal : Journaled J) (start : J) where
   -- a page that a seat holds is in a frame of its own
-  pub holds_frame : (h : Shape J) (j p : ℕ) (fs : List Note) → In p (sheet_pages (sheets fs)) → HasFrames journal start h j fs
+  pub holds_frame : (h : Shape J) (j p : ℕ) (fs : List Note) → In p (sheet_pages (sheets fs))
+      → HasFrames journal start h j fs
       → (i : ℕ) × (i < h.frames) × (h.holder i ≡ suc j) × (journal.place h.journal i ≡ p)
   holds_frame h j p [] i t = absurd i
   holds_frame h j p (f ∷ fs) i t = ⊎_elim (λ (e : p ≡ f.page). (f.frame, t.0, t.1, t.2.placed ∙ sym e))
-      (λ later. holds_frame h j p fs later t.4) (in_sheet_if (nat_lt f.page page_limit) p f.page f.content (sheets fs) i)
+      (λ later. holds_frame h j p fs later t.4)
+      (in_sheet_if (nat_lt f.page page_limit) p f.page f.content (sheets fs) i)
 
-  pub record Follows (h : Shape J) (views : List (PassState J)) (id : ℕ) (v : PassState J) (o : Option Entry) : Type 0 where
+  pub record Follows (h : Shape J) (views : List (PassState J)) (id : ℕ) (v : PassState J)
+      (o : Option Entry) : Type 0 where
     pub legal : IsLegal (added o ++ h.log)
     pub shown : Shows (added o ++ h.log) (λ p. content_of o p (h.pages p))
     pub elsewhere : (p : ℕ) → (In p (sheet_pages (touched o)) → ⊥) → content_of o p (h.pages p) ≡ h.pages p
@@ -161,10 +168,12 @@ module _ {J : Type 0} (journal : Journaled J) (start : J) where
         = λ p. left_is e.logged t.pages p (h.pages p) e.step.after t.leaves.here (t.leaves.elsewhere p) in
         record {
           legal = t.legal;
-          shown = λ p. subst (λ (c : Page). IsPage c × (page_bytes c ≡ replay (e.logged ∷ h.log) p)) (sym (is p)) (t.shown p);
+          shown = λ p. subst (λ (c : Page). IsPage c × (page_bytes c ≡ replay (e.logged ∷ h.log) p)) (sym (is p))
+              (t.shown p);
           elsewhere = λ p off. is p ∙ t.leaves.elsewhere p off;
           keeps = λ k p has.
-              let b = mine.floor.pins k p has in t.keeps p (record { floor = b.0; since = b.1 }) (pinned.kept l k p has);
+              let b = mine.floor.pins k p has in
+              t.keeps p (record { floor = b.0; since = b.1 }) (pinned.kept l k p has);
           now = t.now;
           others = λ j w other there e' same.
               let kw = knows j w there in
@@ -174,8 +183,10 @@ module _ {J : Type 0} (journal : Journaled J) (start : J) where
           held = owes.pages;
           begun = λ e' same b.
               let q : e ≡ e' = cc same in
-              let drawn = begin_drawn h.log e.step.kind (sym made.drawn.kind ∙ ap (λ (x : Entry). x.logged.kind) q ∙ b) in
-              ap (λ (x : Entry). x.logged.xid) (sym q) ∙ made.drawn.xid ∙ ap (λ (k : Kind). drawn_xid h.log k e.step.xid) drawn;
+              let drawn =
+              begin_drawn h.log e.step.kind (sym made.drawn.kind ∙ ap (λ (x : Entry). x.logged.kind) q ∙ b) in
+              ap (λ (x : Entry). x.logged.xid) (sym q) ∙ made.drawn.xid
+              ∙ ap (λ (k : Kind). drawn_xid h.log k e.step.xid) drawn;
         }
 
     -- no other pass has begun a transaction
@@ -197,14 +208,16 @@ module _ {J : Type 0} (journal : Journaled J) (start : J) where
           shown = λ p.
               let was = store.shown l p in
               let same = replay_kept h.log e.logged p (λ i. subst (In p) made'.drawn.pages i) in
-              subst (λ (c : Page). IsPage c × (page_bytes c ≡ replay (e.logged ∷ h.log) p)) (sym (is p)) (was.0, was.1 ∙ sym same);
+              subst (λ (c : Page). IsPage c × (page_bytes c ≡ replay (e.logged ∷ h.log) p)) (sym (is p))
+              (was.0, was.1 ∙ sym same);
           elsewhere = λ p off. is p;
           keeps = λ k p has. t.1 p (pinned.kept l k p has);
           now = t.2;
           others = λ j w other there e' same.
               let q : e ≡ e' = cc same in
               subst (λ (x : Entry). IsOthers (view_of w) x.logged) q record {
-                not_own = λ i. let x = ((knows j w there).xids l e.logged.xid i).0 in let z : e.logged.xid ≡ 0 = made'.drawn.xid in omega arith;
+                not_own = λ i. let x = ((knows j w there).xids l e.logged.xid i).0 in
+                    let z : e.logged.xid ≡ 0 = made'.drawn.xid in omega arith;
                 not_all = λ begun. absurd (begun (none_begun why j w other there));
                 not_work = λ n has lt work. no_work (subst IsMaintenance made'.drawn.kind work);
               };

@@ -1,5 +1,6 @@
 -- What another pass knows, once the journal is given back.
-use Rattle.std.proofs.Common.{◌≡◌, ◌≢◌, ℕ, suc, ◌<◌, ◌≤◌, List, [], ◌∷◌, ◌++◌, length, refl, sym, ap, subst, ◌∙◌, ⊎_elim, arith}
+use Rattle.std.proofs.Common.{◌≡◌, ◌≢◌, ℕ, suc, ◌<◌, ◌≤◌, List, [], ◌∷◌, ◌++◌, length, refl, sym, ap, subst, ◌∙◌}
+use Rattle.std.proofs.Common.{⊎_elim, arith}
 use Rattle.std.specs.Prelude.{Option, Some, None}
 use Rattle.std.proofs.lemmas.List.{append_assoc}
 use mathlib.Core.Option.{some}
@@ -31,7 +32,8 @@ pub next_more : (o : Option Entry) (R : Log) → next_xid R ≤ next_xid (added 
 next_more None R = omega arith
 next_more (Some e) R = xid_more e.logged.kind (next_xid R)
 
-owner_stays : (o : Option Entry) (owner : ℕ → ℕ) (id x n : ℕ) → ((e : Entry) → o ≡ Some e → x ≢ e.logged.xid) → owner x ≡ n
+owner_stays : (o : Option Entry) (owner : ℕ → ℕ) (id x n : ℕ) → ((e : Entry) → o ≡ Some e → x ≢ e.logged.xid)
+    → owner x ≡ n
     → owner_after o owner id x ≡ n
 owner_stays None owner id x n other is = is
 owner_stays (Some e) owner id x n other is = put_else owner e.logged.xid (suc id) x (other e refl) ∙ is
@@ -42,7 +44,8 @@ others_added u None later one t = t
 others_added u (Some e) later one t = (one e refl, t)
 
 -- what goes on from a log does so with what was added
-pub added_goes_on : (o : Option Entry) (later seen log : Log) → log ≡ later ++ seen → added o ++ log ≡ (added o ++ later) ++ seen
+pub added_goes_on : (o : Option Entry) (later seen log : Log) → log ≡ later ++ seen
+    → added o ++ log ≡ (added o ++ later) ++ seen
 added_goes_on o later seen log e = ap (λ (l : Log). added o ++ l) e ∙ sym (append_assoc (added o) later seen)
 
 module _ {J : Type 0} (journal : Journaled J) (start : J) where
@@ -68,12 +71,14 @@ module _ {J : Type 0} (journal : Journaled J) (start : J) where
   pin_other v b b' len PinChange.same pinner id j q other own move is has = (is, move q.place ∙ has)
   pin_other v b b' len PinChange.anew pinner id j q other own move is has = (is, move q.place ∙ has)
   pin_other v b b' len (PinChange.takes k) pinner id j q other own move is has =
-      let ne : q.place ≢ k = λ e. (let z : None ≡ Some (pin_of q) = sym move.1 ∙ ap (journal.pins b) (sym e) ∙ has in cc z) in
+      let ne : q.place ≢ k =
+      λ e. (let z : None ≡ Some (pin_of q) = sym move.1 ∙ ap (journal.pins b) (sym e) ∙ has in cc z) in
       (put_else pinner k (suc id) q.place ne ∙ is, move.3 q.place ne ∙ has)
   pin_other v b b' len PinChange.drops pinner id j q other own move is has =
       let ne : q.place ≢ (move.0).place
       = λ e. other (let z : suc j ≡ suc id = sym is ∙ ap pinner e ∙ own move.0 move.1 in omega arith) in (
-        subst (λ (o : Option PinNote). pinner_if o pinner q.place ≡ suc j) (sym move.1) (put_else pinner (move.0).place 0 q.place ne ∙ is),
+        subst (λ (o : Option PinNote). pinner_if o pinner q.place ≡ suc j) (sym move.1)
+            (put_else pinner (move.0).place 0 q.place ne ∙ is),
         move.3 q.place ne ∙ has,
       )
 
@@ -89,7 +94,8 @@ module _ {J : Type 0} (journal : Journaled J) (start : J) where
         other (ap h.holder (is ∙ sym t.2) ∙ u.1)
 
     -- nor is its page changed
-    pub not_touched : journal.lawful start → (i p : ℕ) → i < h.frames → h.holder i ≢ suc id → journal.place h.journal i ≡ p
+    pub not_touched : journal.lawful start → (i p : ℕ) → i < h.frames → h.holder i ≢ suc id
+        → journal.place h.journal i ≡ p
         → content_of g.entry p (h.pages p) ≡ h.pages p
     not_touched l i p lt other is = (follows l).elsewhere p (λ there.
         let x = holds_frame journal start h id p v.frames ((follows l).held p there) mine.frames in
@@ -113,7 +119,8 @@ module _ {J : Type 0} (journal : Journaled J) (start : J) where
           notes_other j other fs t.4,
         )
 
-    pub other_knows : AddUp journal start h views → get_elem? views id ≡ some v → v.room ≢ 0 → h.holder h.frames ≡ suc id
+    pub other_knows : AddUp journal start h views → get_elem? views id ≡ some v → v.room ≢ 0
+        → h.holder h.frames ≡ suc id
         → (j : ℕ) (w : PassState J) → j ≢ id → get_elem? views j ≡ some w → Knows journal start h j w
         → Knows journal start (shape_after h id v b' g) j w
     other_knows sums at room holds j w other there kw = record {
@@ -125,7 +132,8 @@ module _ {J : Type 0} (journal : Journaled J) (start : J) where
       seen = record {
         later = added g.entry ++ kw.seen.later;
         goes_on = added_goes_on g.entry kw.seen.later w.seen h.log kw.seen.goes_on;
-        others = λ l. others_added (view_of w) g.entry kw.seen.later ((follows l).others j w other there) (kw.seen.others l);
+        others =
+            λ l. others_added (view_of w) g.entry kw.seen.later ((follows l).others j w other there) (kw.seen.others l);
         shown = (let a = kw.seen.shown in let c = m.flushed in omega arith);
         counted = (let a = kw.seen.counted in let c = m.counted in omega arith);
       };
@@ -138,7 +146,8 @@ module _ {J : Type 0} (journal : Journaled J) (start : J) where
           (put_else h.holder h.frames 0 (suc h.frames) (λ z. omega arith) ∙ t.0, omega arith);
       pin = λ q e.
           let t = kw.pin q e in
-          pin_other v h.journal b' (length (added g.entry ++ h.log)) g.pin h.pinner id j q other (λ p is. (mine.pin p is).0) m.pins t.0 t.1;
+          pin_other v h.journal b' (length (added g.entry ++ h.log)) g.pin h.pinner id j q other
+          (λ p is. (mine.pin p is).0) m.pins t.0 t.1;
       floor = floor_after h id v b' g w.floor w.since m kw.floor;
       read = λ l.
           let t = kw.read l in
@@ -152,7 +161,8 @@ module _ {J : Type 0} (journal : Journaled J) (start : J) where
             t.0,
             omega arith,
             owner_stays g.entry h.owner id x (suc j)
-                (λ e is same. ((follows l).others j w other there e is).not_own (subst (λ (y : ℕ). In y w.xids) same i)) t.2,
+                (λ e is same. ((follows l).others j w other there e is).not_own (subst (λ (y : ℕ). In y w.xids) same i))
+                t.2,
           );
       owed = λ e. kw.owed (m.owes e);
       shown = λ l x i. m.still_reached (lawful l) x.clock x.commits (kw.shown l x i);

@@ -1,12 +1,13 @@
 -- What the pass itself knows, once it has given the journal back.
-use Rattle.std.proofs.Common.{◌≡◌, ◌≢◌, ◌⊎◌, ◌==◌, cond, ℕ, suc, ◌<◌, ◌≤◌, Bool, true, false, List, [], ◌∷◌, ◌++◌, length, refl, sym, ap, subst, ◌∙◌, inl, inr, ⊎_elim, arith, eq-eqb, ne_eqb}
+use Rattle.std.proofs.Common.{◌≡◌, ◌≢◌, ◌⊎◌, ◌==◌, cond, ℕ, suc, ◌<◌, ◌≤◌, Bool, true, false, List, [], ◌∷◌, ◌++◌}
+use Rattle.std.proofs.Common.{length, refl, sym, ap, subst, ◌∙◌, inl, inr, ⊎_elim, arith, eq-eqb, ne_eqb}
 use Rattle.std.specs.Prelude.{Option, Some, None}
 use mathlib.Core.Logic.{dite}
 use native.Mathlib.Decide.{ℕ_discrete}
 use Rattle.page_types.specs.Encoding.{page_bytes}
 use Rattle.page_types.specs.declared.record.Kind.{Kind}
 use Rattle.page_types.specs.declared.record.Kind.TheVariants as kind
-use Rattle.core_state.specs.Log.{Log, Pages, In, Shows, next_xid, replay}
+use Rattle.core_state.specs.Log.{Log, In, Shows, next_xid, replay}
 use Rattle.core_state.specs.Readings.{AreReads}
 use Rattle.latch_table.specs.declared.slots.Journaled.{Ghosts as Journaled}
 use Rattle.latch_table.specs.declared.states.Note.{Note}
@@ -17,7 +18,9 @@ use Rattle.latch_table.specs.declared.states.PassState.{PassState}
 use Rattle.latch_table.specs.PassStates.{reads, pin_of, IsLawful}
 use Rattle.latch_table.specs.Shapes.{Shape}
 use Rattle.latch_table.specs.Lines.{Absent, HasFrames, IsNote, Knows}
-use Rattle.latch_table.specs.Giving.{Entry, Swap, PinChange, Given, added, numbers_added, content_of, bytes_of, changed_note, swapped_note, notes_after, less, less_all, xids_by, xids_after, pin_after, from_after, readings_after, given_back, PinsMove, MayGive}
+use Rattle.latch_table.specs.Giving.{Entry, Swap, PinChange, Given, added, numbers_added, content_of, bytes_of}
+use Rattle.latch_table.specs.Giving.{changed_note, swapped_note, notes_after, less, less_all, xids_by, xids_after}
+use Rattle.latch_table.specs.Giving.{pin_after, from_after, readings_after, given_back, PinsMove, MayGive}
 use Rattle.latch_table.proofs.Functions.{put, put_here, put_else}
 use Rattle.latch_table.proofs.GivenLog.{Follows, reads_added}
 use Rattle.latch_table.proofs.GivenShape.{owner_after, pinner_after, shape_after, length_added}
@@ -31,7 +34,8 @@ in_less_if false y z ys i = i
 
 in_less : (x z : ℕ) (ys : List ℕ) → In z (less x ys) → In z ys
 in_less x z [] i = i
-in_less x z (y ∷ ys) i = ⊎_elim (λ (e : z ≡ y). inl e) (λ j. inr (in_less x z ys j)) (in_less_if (y == x) y z (less x ys) i)
+in_less x z (y ∷ ys) i =
+    ⊎_elim (λ (e : z ≡ y). inl e) (λ j. inr (in_less x z ys j)) (in_less_if (y == x) y z (less x ys) i)
 
 in_less_all : (xs : List ℕ) (z : ℕ) (ys : List ℕ) → In z (less_all xs ys) → In z ys
 in_less_all [] z ys i = i
@@ -51,7 +55,8 @@ in_by _ x z ys i = inl i
 in_after : (o : Option Entry) (z : ℕ) (ys : List ℕ) → In z (xids_after o ys)
     → In z ys ⊎ ((e : Entry) × (o ≡ Some e) × (e.logged.kind ≡ kind.Begin) × (z ≡ e.logged.xid))
 in_after None z ys i = inl i
-in_after (Some e) z ys i = ⊎_elim (λ old. inl old) (λ (t : (e.logged.kind ≡ kind.Begin) × (z ≡ e.logged.xid)). inr (e, refl, t.0, t.1))
+in_after (Some e) z ys i =
+    ⊎_elim (λ old. inl old) (λ (t : (e.logged.kind ≡ kind.Begin) × (z ≡ e.logged.xid)). inr (e, refl, t.0, t.1))
     (in_by e.logged.kind e.logged.xid z ys i)
 
 none_less : (xs : List ℕ) → less_all xs [] ≡ []
@@ -74,7 +79,8 @@ none_after (Some e) ne = none_by e.logged.kind e.logged.xid (ne e refl)
 
 owner_own : (o : Option Entry) (owner : ℕ → ℕ) (id x : ℕ) → owner x ≡ suc id → owner_after o owner id x ≡ suc id
 owner_own None owner id x is = is
-owner_own (Some e) owner id x is = dite (ℕ_discrete x e.logged.xid) (λ same. put_here owner e.logged.xid (suc id) x same)
+owner_own (Some e) owner id x is =
+    dite (ℕ_discrete x e.logged.xid) (λ same. put_here owner e.logged.xid (suc id) x same)
     (λ ne. put_else owner e.logged.xid (suc id) x ne ∙ is)
 
 owner_begun : (o : Option Entry) (owner : ℕ → ℕ) (id x : ℕ) (e : Entry) → o ≡ Some e → x ≡ e.logged.xid
@@ -92,12 +98,14 @@ next_begun (Some e') R e is b =
 
 some_xid : (R : Log) → 0 < next_xid R
 some_xid [] = omega arith
-some_xid (r ∷ R) = let a = some_xid R in let b = next_more (Some (record { step = record { kind = r.kind; xid = 0; after = [] }; logged = r })) R in omega arith
+some_xid (r ∷ R) = let a = some_xid R in let b =
+    next_more (Some (record { step = record { kind = r.kind; xid = 0; after = [] }; logged = r })) R in omega arith
 
 own_numbers : (o : Option Entry) (R : Log) (xs : List ℕ) (k : ℕ) → ((n : ℕ) → In n xs → n ≤ length R)
     → In k (numbers_added o (length R) ++ xs) → k ≤ length (added o ++ R)
 own_numbers None R xs k all i = all k i
-own_numbers (Some e) R xs k all i = ⊎_elim (λ (is : k ≡ suc (length R)). omega arith) (λ j. let t = all k j in omega arith) i
+own_numbers (Some e) R xs k all i =
+    ⊎_elim (λ (is : k ≡ suc (length R)). omega arith) (λ j. let t = all k j in omega arith) i
 
 -- the replay with what was added
 pub replay_added : (o : Option Entry) (R : Log) (p : ℕ) → replay (added o ++ R) p ≡ bytes_of o p (replay R p)
@@ -105,7 +113,8 @@ unfolding replay
 replay_added None R p = refl
 replay_added (Some e) R p = refl
 
-absent_after : (k : ℕ) (o : Option Entry) (s : Option Swap) (fs : List Note) → Absent k fs → Absent k (notes_after o s fs)
+absent_after : (k : ℕ) (o : Option Entry) (s : Option Swap) (fs : List Note) → Absent k fs
+    → Absent k (notes_after o s fs)
 absent_after k o s [] t = tt
 absent_after k o s (f ∷ fs) t = (t.0, absent_after k o s fs t.1)
 
@@ -123,13 +132,16 @@ module _ {J : Type 0} (journal : Journaled J) (start : J) where
       (put_here pinner k (suc id) k refl, move.2)
   pin_own v b b' len PinChange.drops pinner id own move q e = cc e
 
-  read_own : (c : PinChange) (o : Option Entry) (R : Log) (from : ℕ) (xs : List Reading) → from ≤ length R → AreReads R from (reads xs)
+  read_own : (c : PinChange) (o : Option Entry) (R : Log) (from : ℕ) (xs : List Reading) → from ≤ length R
+      → AreReads R from (reads xs)
       → (from_after c (length (added o ++ R)) from ≤ length (added o ++ R))
       × AreReads (added o ++ R) (from_after c (length (added o ++ R)) from) (reads (readings_after c xs))
-  read_own PinChange.same o R from xs le t = let n = length_added o R in (omega arith, reads_added o R from (reads xs) t)
+  read_own PinChange.same o R from xs le t =
+      let n = length_added o R in (omega arith, reads_added o R from (reads xs) t)
   read_own PinChange.anew o R from xs le t = (omega arith, tt)
   read_own (PinChange.takes k) o R from xs le t = (omega arith, tt)
-  read_own PinChange.drops o R from xs le t = let n = length_added o R in (omega arith, reads_added o R from (reads xs) t)
+  read_own PinChange.drops o R from xs le t =
+      let n = length_added o R in (omega arith, reads_added o R from (reads xs) t)
 
   module _ (h : Shape J) (views : List (PassState J)) (id : ℕ) (v : PassState J) (b' : J) (g : Given)
       (m : MayGive journal h.frames v h.log h.journal b' g) (lawful : journal.lawful start → IsLawful journal v)
@@ -139,7 +151,8 @@ module _ {J : Type 0} (journal : Journaled J) (start : J) where
     h' = shape_after h id v b' g
 
     -- a note whose frame has the page that it had
-    kept_note : (f : Note) → IsNote journal start h f → journal.place b' f.frame ≡ f.page → IsNote journal start h' (changed_note g.entry f)
+    kept_note : (f : Note) → IsNote journal start h f → journal.place b' f.frame ≡ f.page
+        → IsNote journal start h' (changed_note g.entry f)
     kept_note f t placed = record {
       placed = placed;
       shown = λ l lt.
@@ -148,7 +161,8 @@ module _ {J : Type 0} (journal : Journaled J) (start : J) where
           = ap (content_of g.entry f.page) u.0 in
           let was : replay h.log f.page ≡ f.bytes = sym (shows l f.page).1 ∙ ap page_bytes u.0 ∙ u.1 in (
             is,
-            ap page_bytes (sym is) ∙ ((follows l).shown f.page).1 ∙ replay_added g.entry h.log f.page ∙ ap (bytes_of g.entry f.page) was,
+            ap page_bytes (sym is) ∙ ((follows l).shown f.page).1 ∙ replay_added g.entry h.log f.page
+                ∙ ap (bytes_of g.entry f.page) was,
           );
     }
 
@@ -183,7 +197,8 @@ module _ {J : Type 0} (journal : Journaled J) (start : J) where
           content = cond b s.content old.content;
         })) (sym (ne_eqb f.frame s.frame ne)) record { placed = u.placed; shown = u.shown })
 
-    notes_own : (fs : List Note) → HasFrames journal start h id fs → HasFrames journal start h' id (notes_after g.entry g.swap fs)
+    notes_own : (fs : List Note) → HasFrames journal start h id fs
+        → HasFrames journal start h' id (notes_after g.entry g.swap fs)
     notes_own [] t = tt
     notes_own (f ∷ fs) t = (
       t.0,
@@ -193,15 +208,18 @@ module _ {J : Type 0} (journal : Journaled J) (start : J) where
       notes_own fs t.4,
     )
 
-    own_owed : Knows journal start h id v → journal.owes b' ≡ true → less_all g.gives_up (xids_after g.entry v.begun) ≡ []
+    own_owed : Knows journal start h id v → journal.owes b' ≡ true
+        → less_all g.gives_up (xids_after g.entry v.begun) ≡ []
     own_owed mine e =
         let none = mine.owed (m.owes e) in
         let ne : (x : Entry) → g.entry ≡ Some x → x.logged.kind ≢ kind.Begin
         = λ x is b. (let z : true ≡ false = sym e ∙ m.begins x is b in cc z) in
-        ap (λ (xs : List ℕ). less_all g.gives_up (xids_after g.entry xs)) none ∙ ap (less_all g.gives_up) (none_after g.entry ne)
+        ap (λ (xs : List ℕ). less_all g.gives_up (xids_after g.entry xs)) none
+        ∙ ap (less_all g.gives_up) (none_after g.entry ne)
         ∙ none_less g.gives_up
 
-    own_xids : Knows journal start h id v → journal.lawful start → (x : ℕ) → In x (less_all g.gives_up (xids_after g.entry v.xids))
+    own_xids : Knows journal start h id v → journal.lawful start → (x : ℕ)
+        → In x (less_all g.gives_up (xids_after g.entry v.xids))
         → (0 < x) × (x < next_xid (added g.entry ++ h.log)) × (owner_after g.entry h.owner id x ≡ suc id)
     own_xids mine l x i = ⊎_elim
         (λ old.
@@ -218,7 +236,8 @@ module _ {J : Type 0} (journal : Journaled J) (start : J) where
         (in_after g.entry x v.xids (in_less_all g.gives_up x (xids_after g.entry v.xids) i))
 
     own_shown : Knows journal start h id v → journal.lawful start → (y : Shown)
-        → In y (record { clock = (m.bounds.0).clock; commits = journal.flushed b' } ∷ v.shows) → journal.reaches b' y.clock y.commits
+        → In y (record { clock = (m.bounds.0).clock; commits = journal.flushed b' } ∷ v.shows)
+        → journal.reaches b' y.clock y.commits
     own_shown mine l y i = ⊎_elim
         (λ (e : y ≡ record { clock = (m.bounds.0).clock; commits = journal.flushed b' }).
         subst (λ (z : Shown). journal.reaches b' z.clock z.commits) (sym e) (m.bounds.1.reached (lawful l)))
@@ -249,7 +268,8 @@ module _ {J : Type 0} (journal : Journaled J) (start : J) where
       shown = own_shown mine;
       redo = record { number = λ l x e. m.own_redo (lawful l) x e; walked = λ l x e. m.own_walk (lawful l) x e };
       count = omega arith;
-      own = λ k i. own_numbers g.entry h.log v.own k (λ n j. let t = mine.own n j in let e = ap length whole in omega arith) i;
+      own = λ k i. own_numbers g.entry h.log v.own k
+          (λ n j. let t = mine.own n j in let e = ap length whole in omega arith) i;
       spent = λ e. absurd (room e);
       met = λ log i.
           let t = mine.met log i in (added g.entry ++ t.0, added_goes_on g.entry t.0 log h.log t.1);

@@ -1,5 +1,6 @@
 -- The lines on the log, on places of pages and on pins, once the journal is given back.
-use Rattle.std.proofs.Common.{◌≡◌, ◌≢◌, ◌⊎◌, ℕ, zero, suc, ◌-◌, ◌<◌, ◌≤◌, List, [], ◌∷◌, ◌++◌, length, drop, set, refl, sym, ap, subst, ◌∙◌, inl, inr, ⊎_elim, arith}
+use Rattle.std.proofs.Common.{◌≡◌, ◌≢◌, ◌⊎◌, ℕ, zero, suc, ◌-◌, ◌<◌, ◌≤◌, List, [], ◌∷◌, ◌++◌, length, drop, set, refl}
+use Rattle.std.proofs.Common.{sym, ap, subst, ◌∙◌, inl, inr, ⊎_elim, arith}
 use Rattle.std.specs.Prelude.{Option, Some, None}
 use mathlib.Core.Logic.{dite}
 use mathlib.Core.Option.{some}
@@ -72,7 +73,8 @@ module _ {J : Type 0} (journal : Journaled J) (start : J) where
       → ((i : ℕ) → i < n → ((s : Swap) → o ≡ Some s → i ≢ s.frame) → journal.place b' i ≡ journal.place b i)
       → ((i k : ℕ) → i < n → k < n → journal.place b i ≡ journal.place b k → i ≡ k)
       → (i k : ℕ) → i < n → k < n → journal.place b' i ≡ journal.place b' k → i ≡ k
-  placed_by n b b' None f same old i k li lk e = old i k li lk (sym (same i li (λ s q. cc q)) ∙ e ∙ same k lk (λ s q. cc q))
+  placed_by n b b' None f same old i k li lk e =
+      old i k li lk (sym (same i li (λ s q. cc q)) ∙ e ∙ same k lk (λ s q. cc q))
   placed_by n b b' (Some s) f same old i k li lk e =
       let t = f s refl in
       let else_ : (j : ℕ) → j < n → j ≢ s.frame → journal.place b' j ≡ journal.place b j
@@ -84,9 +86,11 @@ module _ {J : Type 0} (journal : Journaled J) (start : J) where
       (λ ek. absurd (t.1 i li ni (sym (else_ i li ni) ∙ e ∙ ap (journal.place b') ek ∙ t.0)))
       (λ nk. old i k li lk (sym (else_ i li ni) ∙ e ∙ else_ k lk nk)))
 
-  pub placed_after : (h : Shape J) (id : ℕ) (v : PassState J) (b' : J) (g : Given) → MayGive journal h.frames v h.log h.journal b' g
+  pub placed_after : (h : Shape J) (id : ℕ) (v : PassState J) (b' : J) (g : Given)
+      → MayGive journal h.frames v h.log h.journal b' g
       → ArePlaced journal h → ArePlaced journal (shape_after h id v b' g)
-  placed_after h id v b' g m old = placed_by h.frames h.journal b' g.swap (λ s e. let t = m.swap s e in (t.placed, t.nowhere)) m.places old
+  placed_after h id v b' g m old =
+      placed_by h.frames h.journal b' g.swap (λ s e. let t = m.swap s e in (t.placed, t.nowhere)) m.places old
 
   pub store_after : (h : Shape J) (views : List (PassState J)) (id : ℕ) (v : PassState J) (b' : J) (g : Given)
       → MayGive journal h.frames v h.log h.journal b' g → (journal.lawful start → IsLawful journal v)
@@ -104,13 +108,16 @@ module _ {J : Type 0} (journal : Journaled J) (start : J) where
   }
 
   -- a pin afterwards was one before, or is the one that was taken
-  pub pin_was : (v : PassState J) (b b' : J) (len : ℕ) (c : PinChange) → PinsMove journal v b b' len c → (n : ℕ) (p : Pin)
-      → journal.pins b' n ≡ Some p → (journal.pins b n ≡ Some p) ⊎ (p ≡ record { commits = journal.flushed b'; length = len })
+  pub pin_was : (v : PassState J) (b b' : J) (len : ℕ) (c : PinChange) → PinsMove journal v b b' len c
+      → (n : ℕ) (p : Pin)
+      → journal.pins b' n ≡ Some p
+      → (journal.pins b n ≡ Some p) ⊎ (p ≡ record { commits = journal.flushed b'; length = len })
   pin_was v b b' len PinChange.same move n p e = inl (sym (move n) ∙ e)
   pin_was v b b' len PinChange.anew move n p e = inl (sym (move n) ∙ e)
   pin_was v b b' len (PinChange.takes k) move n p e = dite (ℕ_discrete n k)
       (λ (is : n ≡ k).
-      let z : Some p ≡ Some (record { commits = journal.flushed b'; length = len }) = sym e ∙ ap (journal.pins b') is ∙ move.2 in
+      let z : Some p ≡ Some (record { commits = journal.flushed b'; length = len }) =
+      sym e ∙ ap (journal.pins b') is ∙ move.2 in
       inr (cc z))
       (λ ne. inl (sym (move.3 n ne) ∙ e))
   pin_was v b b' len PinChange.drops move n p e = dite (ℕ_discrete n (move.0).place)
@@ -119,11 +126,13 @@ module _ {J : Type 0} (journal : Journaled J) (start : J) where
       (λ ne. inl (sym (move.3 n ne) ∙ e))
 
   abbrev HasOne : Shape J → List (PassState J) → (ℕ → ℕ) → ℕ → Type 0
-  HasOne h views pinner n = (j : ℕ) × (x : PassState J) × (q : PinNote) × (pinner n ≡ suc j) × (get_elem? views j ≡ some x)
+  HasOne h views pinner n =
+      (j : ℕ) × (x : PassState J) × (q : PinNote) × (pinner n ≡ suc j) × (get_elem? views j ≡ some x)
       × (x.pin ≡ Some q) × (q.place ≡ n)
 
   -- each pin of the journal is some view's
-  pins_of : (h : Shape J) (views : List (PassState J)) (id : ℕ) (v w : PassState J) → get_elem? views id ≡ some v → (b' : J) (len : ℕ)
+  pins_of : (h : Shape J) (views : List (PassState J)) (id : ℕ) (v w : PassState J) → get_elem? views id ≡ some v
+      → (b' : J) (len : ℕ)
       (c : PinChange) → PinsMove journal v h.journal b' len c → w.pin ≡ pin_after c (journal.flushed b') len v.pin
       → ((n : ℕ) (p : Pin) → journal.pins h.journal n ≡ Some p → HasOne h views h.pinner n)
       → (n : ℕ) (p : Pin) → journal.pins b' n ≡ Some p → HasOne h (set views id w) (pinner_after c v.pin h.pinner id) n
@@ -165,13 +174,15 @@ module _ {J : Type 0} (journal : Journaled J) (start : J) where
         o.0,
         u.0,
         u.2.0,
-        subst (λ (own : Option PinNote). pinner_if own h.pinner n ≡ suc o.0) (sym move.1) (put_else h.pinner (move.0).place 0 n ne ∙ o.3),
+        subst (λ (own : Option PinNote). pinner_if own h.pinner n ≡ suc o.0) (sym move.1)
+            (put_else h.pinner (move.0).place 0 n ne ∙ o.3),
         u.1,
         u.2.1,
         u.2.2,
       ))
 
-  pub pinned_after : (h : Shape J) (views : List (PassState J)) (id : ℕ) (v w : PassState J) → get_elem? views id ≡ some v → (b' : J) (g : Given)
+  pub pinned_after : (h : Shape J) (views : List (PassState J)) (id : ℕ) (v w : PassState J)
+      → get_elem? views id ≡ some v → (b' : J) (g : Given)
       → MayGive journal h.frames v h.log h.journal b' g → (journal.lawful start → IsLawful journal v)
       → (journal.lawful start → Follows journal start h views id v g.entry)
       → w.pin ≡ pin_after g.pin (journal.flushed b') (length (added g.entry ++ h.log)) v.pin

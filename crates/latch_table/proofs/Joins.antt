@@ -1,5 +1,6 @@
 -- A pass that takes in another keeps the rule.
-use Rattle.std.proofs.Common.{◌≡◌, ◌≢◌, ◌⊎◌, ℕ, suc, ◌+◌, ◌<◌, ◌≤◌, cond, nat_lt, Bool, true, false, List, [], ◌∷◌, ◌++◌, length, set, refl, sym, ap, subst, ◌∙◌, inl, inr, ⊎_elim, arith, length-append}
+use Rattle.std.proofs.Common.{◌≡◌, ◌≢◌, ◌⊎◌, ℕ, suc, ◌+◌, ◌<◌, ◌≤◌, cond, nat_lt, Bool, true, false, List, [], ◌∷◌}
+use Rattle.std.proofs.Common.{◌++◌, length, set, refl, sym, ap, subst, ◌∙◌, inl, inr, ⊎_elim, arith, length-append}
 use Rattle.std.specs.Prelude.{Some, None}
 use Rattle.std.proofs.lemmas.Bool.Decides.{nat_tests}
 use Rattle.std.proofs.lemmas.List.{append-nil}
@@ -41,17 +42,20 @@ greater_has P a b p q = cond_has P (nat_lt a b) b a q p
 
 in_either : {A : Type 0} (x : A) (xs ys : List A) → In x (xs ++ ys) → In x xs ⊎ In x ys
 in_either x [] ys i = inr i
-in_either x (y ∷ xs) ys i = ⊎_elim (λ e. inl (inl e)) (λ j. ⊎_elim (λ a. inl (inr a)) (λ b. inr b) (in_either x xs ys j)) i
+in_either x (y ∷ xs) ys i =
+    ⊎_elim (λ e. inl (inl e)) (λ j. ⊎_elim (λ a. inl (inr a)) (λ b. inr b) (in_either x xs ys j)) i
 
 some_of : (xs ys : List ℕ) → (xs ++ ys) ≢ [] → (xs ≢ []) ⊎ (ys ≢ [])
 some_of [] ys n = inr n
 some_of (x ∷ xs) ys n = inl (λ e. cc e)
 
-others_front : {J : Type 0} (v : PassState J) (xs ys : Log) → AreOthers (view_of v) (xs ++ ys) → AreOthers (view_of v) xs
+others_front : {J : Type 0} (v : PassState J) (xs ys : Log) → AreOthers (view_of v) (xs ++ ys)
+    → AreOthers (view_of v) xs
 others_front v [] ys f = tt
 others_front v (x ∷ xs) ys f = (f.0, others_front v xs ys f.1)
 
-others_joined : {J : Type 0} (v w : PassState J) (rs : Log) → w.work ≡ None → AreOthers (view_of v) rs → AreOthers (view_of w) rs
+others_joined : {J : Type 0} (v w : PassState J) (rs : Log) → w.work ≡ None → AreOthers (view_of v) rs
+    → AreOthers (view_of w) rs
     → AreOthers (view_of (joined v w)) rs
 others_joined v w [] idle f g = tt
 others_joined v w (r ∷ rs) idle f g = (
@@ -102,7 +106,8 @@ module _ {F J : Type 0} (frame : Framed F) (journal : Journaled J) (start : J) w
   after h id other = with_holders h h.holder (moved h.owner id other)
 
   -- what comes past the longer of two logs seen is others' to both
-  seen_joined : (h : Shape J) (v w : PassState J) → w.work ≡ None → HasSeen journal start h v → HasSeen journal start h w
+  seen_joined : (h : Shape J) (v w : PassState J) → w.work ≡ None → HasSeen journal start h v
+      → HasSeen journal start h w
       → HasSeen journal start h (joined v w)
   seen_joined h v w idle a b = go (nat_lt (length v.seen) (length w.seen)) refl
     where
@@ -120,7 +125,8 @@ module _ {F J : Type 0} (frame : Framed F) (journal : Journaled J) (start : J) w
           let lt : length v.seen < length w.seen = grind (arith, nat_tests) in
           let t = behind b.later a.later w.seen v.seen (sym b.goes_on ∙ a.goes_on) (omega arith) in
           let parts : h.log ≡ (b.later ++ t.0) ++ v.seen
-          = b.goes_on ∙ ap (λ (l : Log). b.later ++ l) t.1 ∙ sym (Rattle.std.proofs.lemmas.List.append_assoc b.later t.0 v.seen) in
+          = b.goes_on ∙ ap (λ (l : Log). b.later ++ l) t.1
+          ∙ sym (Rattle.std.proofs.lemmas.List.append_assoc b.later t.0 v.seen) in
           let same : a.later ≡ b.later ++ t.0 = back a.later (b.later ++ t.0) v.seen (sym a.goes_on ∙ parts) in
           record {
             later = b.later;
@@ -134,7 +140,8 @@ module _ {F J : Type 0} (frame : Framed F) (journal : Journaled J) (start : J) w
           let le : length w.seen ≤ length v.seen = grind (arith, nat_tests) in
           let t = behind a.later b.later v.seen w.seen (sym a.goes_on ∙ b.goes_on) le in
           let parts : h.log ≡ (a.later ++ t.0) ++ w.seen
-          = a.goes_on ∙ ap (λ (l : Log). a.later ++ l) t.1 ∙ sym (Rattle.std.proofs.lemmas.List.append_assoc a.later t.0 w.seen) in
+          = a.goes_on ∙ ap (λ (l : Log). a.later ++ l) t.1
+          ∙ sym (Rattle.std.proofs.lemmas.List.append_assoc a.later t.0 w.seen) in
           let same : b.later ≡ a.later ++ t.0 = back b.later (a.later ++ t.0) w.seen (sym b.goes_on ∙ parts) in
           record {
             later = a.later;
@@ -146,7 +153,8 @@ module _ {F J : Type 0} (frame : Framed F) (journal : Journaled J) (start : J) w
           }
 
   -- where one has seen the whole log, it is the longer
-  longer_is : (v w : PassState J) (log : Log) → v.seen ≡ log → (later : Log) → log ≡ later ++ w.seen → longer v.seen w.seen ≡ log
+  longer_is : (v w : PassState J) (log : Log) → v.seen ≡ log → (later : Log) → log ≡ later ++ w.seen
+      → longer v.seen w.seen ≡ log
   longer_is v w log is later e =
       let n = ap length e ∙ length-append later w.seen in
       let m = ap length is in
@@ -154,12 +162,17 @@ module _ {F J : Type 0} (frame : Framed F) (journal : Journaled J) (start : J) w
       ap (λ (b : Bool). cond b w.seen v.seen) test ∙ is
 
   -- what the pass that takes in the other knows
-  joiner_knows : (h : Shape J) (id other : ℕ) (v w : PassState J) → other ≢ id → v.room ≢ 0 → v.fresh ≡ false → w.work ≡ None
-      → Knows journal start h id v → Knows journal start h other w → Knows journal start (after h id other) id (joined v w)
+  joiner_knows : (h : Shape J) (id other : ℕ) (v w : PassState J) → other ≢ id → v.room ≢ 0 → v.fresh ≡ false
+      → w.work ≡ None
+      → Knows journal start h id v → Knows journal start h other w
+      → Knows journal start (after h id other) id (joined v w)
   joiner_knows h id other v w apart room seen idle a b =
       let n = knows_stays journal start h h.holder (moved h.owner id other) id v (λ q has. has)
-      (λ l x i. let t = a.xids l x i in
-      (t.0, t.1, moved_else h.owner id other x (λ e. apart (let z : suc id ≡ suc other = sym t.2 ∙ e in omega arith)) ∙ t.2)) a in
+      (λ l x i. let t = a.xids l x i in (
+        t.0,
+        t.1,
+        moved_else h.owner id other x (λ e. apart (let z : suc id ≡ suc other = sym t.2 ∙ e in omega arith)) ∙ t.2,
+      )) a in
       let s = seen_joined h v w idle a.seen b.seen in
       record {
         start_is = n.start_is;
@@ -174,8 +187,10 @@ module _ {F J : Type 0} (frame : Framed F) (journal : Journaled J) (start : J) w
           within = greater_has (λ k. k ≤ length h.log) v.since w.since a.floor.within b.floor.within;
           pins = λ k p e.
               let x = a.floor.pins k p e in
-              let y = b.floor.pins k p e in
-              (greater_has (λ m. m ≤ p.commits) v.floor w.floor x.0 y.0, greater_has (λ m. m ≤ p.length) v.since w.since x.1 y.1);
+              let y = b.floor.pins k p e in (
+                greater_has (λ m. m ≤ p.commits) v.floor w.floor x.0 y.0,
+                greater_has (λ m. m ≤ p.length) v.since w.since x.1 y.1,
+              );
         };
         read = n.read;
         xids = λ l x i. ⊎_elim (n.xids l x)
@@ -190,7 +205,8 @@ module _ {F J : Type 0} (frame : Framed F) (journal : Journaled J) (start : J) w
         spent = λ e. absurd (room (omega arith));
         met = λ log i. ⊎_elim
             (λ (e : log ≡ v.seen). (a.seen.later, a.seen.goes_on ∙ ap (λ (l : Log). a.seen.later ++ l) (sym e)))
-            (λ j. ⊎_elim (λ (e : log ≡ w.seen). (b.seen.later, b.seen.goes_on ∙ ap (λ (l : Log). b.seen.later ++ l) (sym e)))
+            (λ j. ⊎_elim
+            (λ (e : log ≡ w.seen). (b.seen.later, b.seen.goes_on ∙ ap (λ (l : Log). b.seen.later ++ l) (sym e)))
             (λ k. a.met log k) j) i;
       }
 
@@ -244,7 +260,8 @@ module _ {F J : Type 0} (frame : Framed F) (journal : Journaled J) (start : J) w
   joined_notes h v w i (IsNoted.as_journal b e) = IsNoted.as_journal b e
   joined_notes h v w i (IsNoted.as_work at e) = IsNoted.as_work at e
 
-  idle_notes : (h : Shape J) (w : PassState J) (i : ℕ) → w.frames ≡ [] → w.journal ≡ None → w.work ≡ None → IsNoted h w i → ⊥
+  idle_notes : (h : Shape J) (w : PassState J) (i : ℕ) → w.frames ≡ [] → w.journal ≡ None → w.work ≡ None
+      → IsNoted h w i → ⊥
   idle_notes h w i a b c (IsNoted.as_frame f in_) = subst (In f) a in_
   idle_notes h w i a b c (IsNoted.as_journal x e) = let z : Some x ≡ None = sym e ∙ b in cc z
   idle_notes h w i a b c (IsNoted.as_work x e) = let z : Some x ≡ None = sym e ∙ c in cc z
@@ -253,8 +270,11 @@ module _ {F J : Type 0} (frame : Framed F) (journal : Journaled J) (start : J) w
   third_knows : (h : Shape J) (id other j : ℕ) (v : PassState J) → j ≢ other → Knows journal start h j v
       → Knows journal start (after h id other) j v
   third_knows h id other j v ne k = knows_stays journal start h h.holder (moved h.owner id other) j v (λ q has. has)
-      (λ l x i. let t = k.xids l x i in
-      (t.0, t.1, moved_else h.owner id other x (λ e. ne (let z : suc j ≡ suc other = sym t.2 ∙ e in omega arith)) ∙ t.2)) k
+      (λ l x i. let t = k.xids l x i in (
+        t.0,
+        t.1,
+        moved_else h.owner id other x (λ e. ne (let z : suc j ≡ suc other = sym t.2 ∙ e in omega arith)) ∙ t.2,
+      )) k
 
   pub joins : (id : ℕ) (v : PassState J) (other : ℕ) (w : PassState J) → v.room ≢ 0 → v.fresh ≡ false → w.frames ≡ []
       → w.journal ≡ None → w.work ≡ None → w.pin ≡ None → Joins Rule id v other w (joined v w) spent
@@ -281,7 +301,8 @@ module _ {F J : Type 0} (frame : Framed F) (journal : Journaled J) (start : J) w
         };
         noted = λ q j lt has.
             let o = k.noted q j lt has in
-            let t = still (λ y. IsNoted h' y q) s.views id j v u o.0 at (joined_notes h' v w q) o.1 (renoted h h.holder owner' o.0 q o.2) in
+            let t = still (λ y. IsNoted h' y q) s.views id j v u o.0 at (joined_notes h' v w q) o.1
+            (renoted h h.holder owner' o.0 q o.2) in
             still (λ y. IsNoted h' y q) vs other j w spent t.0 there
             (λ z. absurd (idle_notes h' w q no_frames no_journal no_work z)) t.1 t.2;
         store = store_stays journal start h h.holder owner' k.store;
@@ -308,10 +329,12 @@ module _ {F J : Type 0} (frame : Framed F) (journal : Journaled J) (start : J) w
               let b = two (λ y. times n y.own) in
               let m = times_more n v.own w.own in let c = k.sums.own n in omega arith;
         };
-        knows = views_stay (λ j y. j ≢ other → Knows journal start h' j y) (Knows journal start h') vs other spent (spent_knows h' other)
+        knows = views_stay (λ j y. j ≢ other → Knows journal start h' j y) (Knows journal start h') vs other spent
+            (spent_knows h' other)
             (λ j y ne _ t. t ne)
             (λ j y p ne. ⊎_elim
-            (λ (t : (j ≡ id) × (u ≡ y)). subst (λ (x : ℕ × PassState J). Knows journal start h' x.0 x.1) (λ i. (sym t.0 i, t.1 i))
+            (λ (t : (j ≡ id) × (u ≡ y)). subst (λ (x : ℕ × PassState J). Knows journal start h' x.0 x.1)
+            (λ i. (sym t.0 i, t.1 i))
             (joiner_knows h id other v w apart room seen no_work mine theirs))
             (λ (t : (j ≢ id) × (get_elem? s.views j ≡ some y)). third_knows h id other j y ne (k.knows j y t.1))
             (Rattle.atomic_table.proofs.Lists.at_set s.views id j u y p));

@@ -23,6 +23,7 @@ pub mod Opens
 pub mod Starts
 pub mod Empty
 pub mod Worked
+mod WorkedCalls
 pub mod Popped
 pub mod Rotate
 pub mod Passing

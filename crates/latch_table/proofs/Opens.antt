@@ -1,5 +1,6 @@
 -- The first look of the first pass keeps the rule.
-use Rattle.std.proofs.Common.{◌≡◌, ◌⊎◌, ℕ, zero, suc, ◌-◌, ◌<◌, ◌≤◌, List, [], ◌∷◌, length, set, refl, sym, ap, subst, ◌∙◌, inr, ⊎_elim, arith}
+use Rattle.std.proofs.Common.{◌≡◌, ◌⊎◌, ℕ, zero, suc, ◌-◌, ◌<◌, ◌≤◌, List, [], ◌∷◌, length, set, refl, sym, ap, subst}
+use Rattle.std.proofs.Common.{◌∙◌, inr, ⊎_elim, arith}
 use Rattle.std.specs.Prelude.{Some, None}
 use Rattle.std.specs.declared.snapshot.Snapshot.{Snapshot}
 use Rattle.std.proofs.lemmas.List.{set-get_or}
@@ -36,7 +37,8 @@ in_if (Committed c) n x xs i = inr i
 in_running : (R : Log) (n x : ℕ) → In x (running_to R n) → (0 < x) × (x ≤ n)
 in_running R zero x i = absurd i
 in_running R (suc n) x i = ⊎_elim (λ (e : x ≡ suc n). (omega arith, omega arith))
-    (λ later. let t = in_running R n x later in (t.0, omega arith)) (in_if (fate R (suc n)) (suc n) x (running_to R n) i)
+    (λ later. let t = in_running R n x later in (t.0, omega arith))
+    (in_if (fate R (suc n)) (suc n) x (running_to R n) i)
 
 module _ {F J : Type 0} (frame : Framed F) (journal : Journaled J) (start : J) where
   abbrev St : Type 0
@@ -52,12 +54,17 @@ module _ {F J : Type 0} (frame : Framed F) (journal : Journaled J) (start : J) w
   abbrev given_to : Shape J → ℕ → Shape J
   given_to h id = with_holders h h.holder (λ x. suc id)
 
-  one_shown : (h : Shape J) (c n : ℕ) → (journal.lawful start → journal.reaches h.journal c n) → journal.lawful start → (y : Shown)
+  one_shown : (h : Shape J) (c n : ℕ) → (journal.lawful start → journal.reaches h.journal c n) → journal.lawful start
+      → (y : Shown)
       → In y (record { clock = c; commits = n } ∷ []) → journal.reaches h.journal y.clock y.commits
   one_shown h c n one l y i = ⊎_elim
-      (λ (e : y ≡ record { clock = c; commits = n }). subst (λ (z : Shown). journal.reaches h.journal z.clock z.commits) (sym e) (one l)) (λ none. absurd none) i
+      (λ (e : y ≡ record {
+        clock = c;
+        commits = n;
+      }). subst (λ (z : Shown). journal.reaches h.journal z.clock z.commits) (sym e) (one l)) (λ none. absurd none) i
 
-  none_noted : (h : Shape J) (q : ℕ) (key : Snapshot J) (w : PassState J) → IsNoted h (first_state key) q → IsNoted h w q
+  none_noted : (h : Shape J) (q : ℕ) (key : Snapshot J) (w : PassState J) → IsNoted h (first_state key) q
+      → IsNoted h w q
   none_noted h q key w (IsNoted.as_frame f in_) = absurd in_
   none_noted h q key w (IsNoted.as_journal b e) = cc e
   none_noted h q key w (IsNoted.as_work at e) = cc e
@@ -97,11 +104,16 @@ module _ {F J : Type 0} (frame : Framed F) (journal : Journaled J) (start : J) w
       let q : o.1 ≡ first_state key = cc z in
       let none : Some o.2 ≡ None = sym o.5 ∙ ap (λ (v : PassState J). v.pin) q in cc none)
       (λ other.
-      let spent = spent_others journal start k.shape s.views k.sums k.knows id (first_state key) at refl o.0 o.1 other o.4 in
+      let spent =
+      spent_others journal start k.shape s.views k.sums k.knows id (first_state key) at refl o.0 o.1 other o.4 in
       let none : Some o.2 ≡ None = sym o.5 ∙ spent.pin in cc none)
 
   open_keeps : (s : St) (k : Rule s) (id : ℕ) (key : Snapshot J) → get_elem? s.views id ≡ some (first_state key)
-      → Rule record { words = s.words; homes = s.homes; views = set s.views id (open_state journal k.shape.journal k.shape.log k.store.reached.0 (first_state key)) }
+      → Rule record {
+        words = s.words;
+        homes = s.homes;
+        views = set s.views id (open_state journal k.shape.journal k.shape.log k.store.reached.0 (first_state key));
+      }
   open_keeps s k id key at =
       let h = k.shape in
       let h' : Shape J = given_to h id in
@@ -112,26 +124,31 @@ module _ {F J : Type 0} (frame : Framed F) (journal : Journaled J) (start : J) w
         shape = h';
         words = record { wide = k.words.wide; deep = k.words.deep; free = k.words.free; taken = k.words.taken };
         homes = record {
-          frames = λ i lt free. let t = k.homes.frames i lt free in (t.0, t.1, record { page = t.2.page; bytes = t.2.bytes });
+          frames = λ i lt free. let t = k.homes.frames i lt free in
+              (t.0, t.1, record { page = t.2.page; bytes = t.2.bytes });
           journal_is = k.homes.journal_is;
           last = k.homes.last;
         };
         noted = λ q j lt has.
             let o = k.noted q j lt has in
-            still (λ y. IsNoted h' y q) s.views id j v w o.0 at (none_noted h' q key w) o.1 (renoted h h.holder owner' o.0 q o.2);
+            still (λ y. IsNoted h' y q) s.views id j v w o.0 at (none_noted h' q key w) o.1
+            (renoted h h.holder owner' o.0 q o.2);
         store = store_stays journal start h h.holder owner' k.store;
         placed = k.placed;
         pinned = pins_stay journal start h h.holder owner' s.views id v w at refl k.pinned;
         sums = sums_stay journal start h h.holder owner' s.views id v w at refl refl refl refl k.sums;
         knows = views_stay (Knows journal start h) (Knows journal start h') s.views id w
-            (opener_knows h id k.store.reached.0 key k.store.counted k.store.reached.1 (no_pins s k id key at) (k.knows id v at))
+            (opener_knows h id k.store.reached.0 key k.store.counted k.store.reached.1 (no_pins s k id key at)
+            (k.knows id v at))
             (λ j y other there z.
             let spent = spent_others journal start h s.views k.sums k.knows id v at refl j y other there in
-            knows_stays journal start h h.holder owner' j y (λ q has. has) (λ l x i. absurd (subst (In x) spent.xids i)) z) k.knows;
+            knows_stays journal start h h.holder owner' j y (λ q has. has)
+            (λ l x i. absurd (subst (In x) spent.xids i)) z) k.knows;
       }
 
   pub opens : (slots id : ℕ) (key : Snapshot J)
-      → Allows Rule slots id (first_state key, []) 0 (λ n. n) (opened journal (step slots 0 0 0 none) (first_state key, []))
+      → Allows Rule slots id (first_state key, []) 0 (λ n. n)
+      (opened journal (step slots 0 0 0 none) (first_state key, []))
   opens slots id key s k deep at _ =
       let h = k.shape in
       let v : PassState J = first_state key in
@@ -146,15 +163,21 @@ module _ {F J : Type 0} (frame : Framed F) (journal : Journaled J) (start : J) w
         stands = k.store.stands;
         length_is = k.store.length_is;
         state = refl;
-        allowed = λ l. allowed journal start (given_to h id) id w (store_stays journal start h h.holder (λ x. suc id) k.store) k.pinned.kept
-            (opener_knows h id k.store.reached.0 key k.store.counted k.store.reached.1 (no_pins s k id key at) known) (lawful l);
+        allowed = λ l. allowed journal start (given_to h id) id w
+            (store_stays journal start h h.holder (λ x. suc id) k.store) k.pinned.kept
+            (opener_knows h id k.store.reached.0 key k.store.counted k.store.reached.1 (no_pins s k id key at) known)
+            (lawful l);
         reached = λ l. k.store.reached.1 (lawful l);
       } in (
         w,
         keeps,
         tt,
-        subst (λ (l : List ℕ). Rule record { words = l; homes = s.homes; views = set s.views id w }) (sym (set-get_or s.words 0 0)) rule,
+        subst (λ (l : List ℕ). Rule record { words = l; homes = s.homes; views = set s.views id w })
+            (sym (set-get_or s.words 0 0)) rule,
         λ key' e.
-            let same : key ≡ key' = cc e in
-            (subst (λ (b : J). HasOpened journal b v w) (fresh.journal_is ∙ sym (known.start_is key refl) ∙ ap (λ (z : Snapshot J). z.value) same) here, refl),
+            let same : key ≡ key' = cc e in (
+              subst (λ (b : J). HasOpened journal b v w)
+                  (fresh.journal_is ∙ sym (known.start_is key refl) ∙ ap (λ (z : Snapshot J). z.value) same) here,
+              refl,
+            ),
       )

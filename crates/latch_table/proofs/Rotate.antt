@@ -1,5 +1,6 @@
 -- The slots that are out with a pass, turned until one is in front, and back.
-use Rattle.std.proofs.Common.{◌≡◌, ◌≢◌, ℕ, zero, suc, ◌+◌, ◌-◌, ◌<◌, cond, List, [], ◌∷◌, ◌++◌, length, refl, sym, ap, subst, ◌∙◌, inl, inr, ⊎_elim, arith, eq-eqb, ne_eqb, length-append}
+use Rattle.std.proofs.Common.{◌≡◌, ◌≢◌, ℕ, zero, suc, ◌+◌, ◌-◌, ◌<◌, cond, List, [], ◌∷◌, ◌++◌, length, refl, sym, ap}
+use Rattle.std.proofs.Common.{subst, ◌∙◌, inl, inr, ⊎_elim, arith, eq-eqb, ne_eqb, length-append}
 use Rattle.std.proofs.lemmas.List.{append_assoc, append-nil}
 use mathlib.Core.Logic.{dite}
 use native.Mathlib.Decide.{ℕ_discrete}
@@ -40,8 +41,10 @@ further i f fs ne c = record {
   back = c.back;
   is = c.is;
   all = ap (λ (l : List Note). f ∷ l) c.all;
-  less = subst (λ b. cond b fs (f ∷ without i fs) ≡ f ∷ (c.front ++ c.back)) (sym (ne_eqb f.frame i ne)) (ap (λ (l : List Note). f ∷ l) c.less);
-  behind = subst (λ b. cond b 0 (suc (position i (frames_of fs))) ≡ suc (length c.front)) (sym (ne_eqb f.frame i ne)) (ap suc c.behind);
+  less = subst (λ b. cond b fs (f ∷ without i fs) ≡ f ∷ (c.front ++ c.back)) (sym (ne_eqb f.frame i ne))
+      (ap (λ (l : List Note). f ∷ l) c.less);
+  behind = subst (λ b. cond b 0 (suc (position i (frames_of fs))) ≡ suc (length c.front)) (sym (ne_eqb f.frame i ne))
+      (ap suc c.behind);
 }
 
 here_it_is : (i : ℕ) (f : Note) (fs : List Note) → f.frame ≡ i → Cut i (f ∷ fs)
@@ -58,7 +61,8 @@ here_it_is i f fs e = record {
 cut_at : (i : ℕ) (note : Note) (fs : List Note) → In note fs → note.frame ≡ i → Cut i fs
 cut_at i note [] there is = absurd there
 cut_at i note (f ∷ fs) there is = dite (ℕ_discrete f.frame i) (λ e. here_it_is i f fs e)
-    (λ ne. further i f fs ne (⊎_elim (λ (e : note ≡ f). absurd (ne (ap (λ (x : Note). x.frame) (sym e) ∙ is))) (λ later. cut_at i note fs later is) there))
+    (λ ne. further i f fs ne (⊎_elim (λ (e : note ≡ f). absurd (ne (ap (λ (x : Note). x.frame) (sym e) ∙ is)))
+    (λ later. cut_at i note fs later is) there))
 
 -- as many frames as notes
 pub frames_length : (fs : List Note) → length (frames_of fs) ≡ length fs
@@ -66,7 +70,8 @@ frames_length [] = refl
 frames_length (f ∷ fs) = ap suc (frames_length fs)
 
 -- a frame that is noted is in front of the end
-pub position_within : (i : ℕ) (note : Note) (fs : List Note) → In note fs → note.frame ≡ i → position i (frames_of fs) < length (frames_of fs)
+pub position_within : (i : ℕ) (note : Note) (fs : List Note) → In note fs → note.frame ≡ i
+    → position i (frames_of fs) < length (frames_of fs)
 position_within i note fs there is =
     let c = cut_at i note fs there is in
     let all : length (frames_of fs) ≡ length c.front + suc (length c.back)
@@ -75,13 +80,15 @@ position_within i note fs there is =
 
 pub in_frames : (note : Note) (fs : List Note) → In note fs → In note.frame (frames_of fs)
 in_frames note [] there = there
-in_frames note (f ∷ fs) there = ⊎_elim (λ (e : note ≡ f). inl (ap (λ (x : Note). x.frame) e)) (λ later. inr (in_frames note fs later)) there
+in_frames note (f ∷ fs) there =
+    ⊎_elim (λ (e : note ≡ f). inl (ap (λ (x : Note). x.frame) e)) (λ later. inr (in_frames note fs later)) there
 
 pub in_removed : (i k : ℕ) (xs : List ℕ) → In k (removed i xs) → In k xs
 in_removed i k [] t = t
 in_removed i k (x ∷ xs) t = dite (ℕ_discrete x i)
     (λ (e : x ≡ i). inr (subst (λ b. In k (cond b xs (x ∷ removed i xs))) (eq-eqb x i e) t))
-    (λ ne. ⊎_elim (λ (same : k ≡ x). inl same) (λ later. inr (in_removed i k xs later)) (subst (λ b. In k (cond b xs (x ∷ removed i xs))) (ne_eqb x i ne) t))
+    (λ ne. ⊎_elim (λ (same : k ≡ x). inl same) (λ later. inr (in_removed i k xs later))
+    (subst (λ b. In k (cond b xs (x ∷ removed i xs))) (ne_eqb x i ne) t))
 
 carried_length : (F J : Type 0) (fs : List Note) → length (carried {F = F} {J = J} fs) ≡ length fs
 carried_length F J [] = refl
@@ -97,31 +104,38 @@ module _ {F J : Type 0} where
       → (xs : List (ℕ × Slot F J)) × (turned_by (position i (frames_of fs)) (carried fs) ≡ (i, Away) ∷ xs)
   in_front i note fs there is =
       let c = cut_at i note fs there is in
-      let e : turned_by (length c.front) (carried {F = F} {J = J} fs) ≡ (c.here.frame, Away) ∷ (carried c.back ++ carried c.front)
+      let e : turned_by (length c.front) (carried {F = F} {J = J} fs)
+      ≡ (c.here.frame, Away) ∷ (carried c.back ++ carried c.front)
       = ap (λ (l : List Note). turned_by (length c.front) (carried {F = F} {J = J} l)) c.all
       ∙ ap (turned_by (length c.front)) (carried_both c.front (c.here ∷ c.back))
-      ∙ ap (λ n. turned_by n (carried {F = F} {J = J} c.front ++ carried (c.here ∷ c.back))) (sym (carried_length F J c.front))
+      ∙ ap (λ n. turned_by n (carried {F = F} {J = J} c.front ++ carried (c.here ∷ c.back)))
+      (sym (carried_length F J c.front))
       ∙ turned_front (carried c.front) (carried (c.here ∷ c.back)) in (
         carried c.back ++ carried c.front,
-        ap (λ n. turned_by n (carried {F = F} {J = J} fs)) c.behind ∙ e ∙ ap (λ k. (k, Away) ∷ (carried c.back ++ carried c.front)) c.is,
+        ap (λ n. turned_by n (carried {F = F} {J = J} fs)) c.behind ∙ e
+            ∙ ap (λ k. (k, Away) ∷ (carried c.back ++ carried c.front)) c.is,
       )
 
   -- and once it is given back and the others are turned on, they are in their order
   pub back_again : (i : ℕ) (note : Note) (fs : List Note) → In note fs → note.frame ≡ i
-      → turned_by (length (frames_of fs) - 1 - position i (frames_of fs)) (rest (turned_by (position i (frames_of fs)) (carried {F = F} {J = J} fs)))
+      → turned_by (length (frames_of fs) - 1 - position i (frames_of fs))
+      (rest (turned_by (position i (frames_of fs)) (carried {F = F} {J = J} fs)))
       ≡ carried (without i fs)
   back_again i note fs there is =
       let c = cut_at i note fs there is in
-      let e : turned_by (position i (frames_of fs)) (carried {F = F} {J = J} fs) ≡ (c.here.frame, Away) ∷ (carried c.back ++ carried c.front)
+      let e : turned_by (position i (frames_of fs)) (carried {F = F} {J = J} fs)
+      ≡ (c.here.frame, Away) ∷ (carried c.back ++ carried c.front)
       = ap (λ n. turned_by n (carried {F = F} {J = J} fs)) c.behind
       ∙ ap (λ (l : List Note). turned_by (length c.front) (carried {F = F} {J = J} l)) c.all
       ∙ ap (turned_by (length c.front)) (carried_both c.front (c.here ∷ c.back))
-      ∙ ap (λ n. turned_by n (carried {F = F} {J = J} c.front ++ carried (c.here ∷ c.back))) (sym (carried_length F J c.front))
+      ∙ ap (λ n. turned_by n (carried {F = F} {J = J} c.front ++ carried (c.here ∷ c.back)))
+      (sym (carried_length F J c.front))
       ∙ turned_front (carried c.front) (carried (c.here ∷ c.back)) in
       let all : length (frames_of fs) ≡ length c.front + suc (length c.back)
       = frames_length fs ∙ ap length c.all ∙ length-append c.front (c.here ∷ c.back) in
       let left : length (frames_of fs) - 1 - position i (frames_of fs) ≡ length (carried {F = F} {J = J} c.back)
-      = (let b = c.behind in let l : length (carried {F = F} {J = J} c.back) ≡ length c.back = carried_length F J c.back in omega arith) in
+      = (let b = c.behind in
+      let l : length (carried {F = F} {J = J} c.back) ≡ length c.back = carried_length F J c.back in omega arith) in
       ap (λ n. turned_by n (rest (turned_by (position i (frames_of fs)) (carried {F = F} {J = J} fs)))) left
       ∙ ap (λ (l : List (ℕ × Slot F J)). turned_by (length (carried {F = F} {J = J} c.back)) (rest l)) e
       ∙ turned_front (carried c.back) (carried c.front)
@@ -131,5 +145,7 @@ module _ {F J : Type 0} where
 pub removed_is : (i : ℕ) (fs : List Note) → removed i (frames_of fs) ≡ frames_of (without i fs)
 removed_is i [] = refl
 removed_is i (f ∷ fs) = dite (ℕ_discrete f.frame i)
-    (λ (e : f.frame ≡ i). subst (λ b. cond b (frames_of fs) (f.frame ∷ removed i (frames_of fs)) ≡ frames_of (cond b fs (f ∷ without i fs))) (sym (eq-eqb f.frame i e)) refl)
-    (λ ne. subst (λ b. cond b (frames_of fs) (f.frame ∷ removed i (frames_of fs)) ≡ frames_of (cond b fs (f ∷ without i fs))) (sym (ne_eqb f.frame i ne)) (ap (λ (l : List ℕ). f.frame ∷ l) (removed_is i fs)))
+    (λ (e : f.frame ≡ i). subst (λ b. cond b (frames_of fs) (f.frame ∷ removed i (frames_of fs))
+    ≡ frames_of (cond b fs (f ∷ without i fs))) (sym (eq-eqb f.frame i e)) refl)
+    (λ ne. subst (λ b. cond b (frames_of fs) (f.frame ∷ removed i (frames_of fs)) ≡ frames_of (cond b fs
+    (f ∷ without i fs))) (sym (ne_eqb f.frame i ne)) (ap (λ (l : List ℕ). f.frame ∷ l) (removed_is i fs)))

@@ -60,7 +60,8 @@ module _ {F J : Type 0} (frame : Framed F) (journal : Journaled J) (start : J) w
   others_of_new v (r ∷ rs) =
       (record { not_own = λ i. i; not_all = λ n. absurd (n refl); not_work = λ at e. cc e }, others_of_new v rs)
 
-  new_knows : (h : Shape J) (j i : ℕ) (v : PassState J) → Knows journal start h j v → Knows journal start h i (split_off v)
+  new_knows : (h : Shape J) (j i : ℕ) (v : PassState J) → Knows journal start h j v
+      → Knows journal start h i (split_off v)
   new_knows h j i v k = record {
     start_is = k.start_is;
     fresh = λ e. cc e;
@@ -87,7 +88,8 @@ module _ {F J : Type 0} (frame : Framed F) (journal : Journaled J) (start : J) w
     met = λ l i. absurd i;
   }
 
-  pub splits : (id : ℕ) (v : PassState J) → 1 < v.room → v.fresh ≡ false → Splits Rule id v (with_less_room v) (split_off v)
+  pub splits : (id : ℕ) (v : PassState J) → 1 < v.room → v.fresh ≡ false
+      → Splits Rule id v (with_less_room v) (split_off v)
   splits id v room seen s k at =
       let h = k.shape in
       let mine = k.knows id v at in

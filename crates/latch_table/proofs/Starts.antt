@@ -1,5 +1,6 @@
 -- The rule holds where a table is laid.
-use Rattle.std.proofs.Common.{◌≡◌, ℕ, zero, suc, ◌+◌, ◌<◌, List, [], ◌∷◌, ◌++◌, map, length, get_or, refl, sym, ap, subst, ◌∙◌, arith}
+use Rattle.std.proofs.Common.{◌≡◌, ℕ, zero, suc, ◌+◌, ◌<◌, List, [], ◌∷◌, ◌++◌, map, length, get_or, refl, sym, ap}
+use Rattle.std.proofs.Common.{subst, ◌∙◌, arith}
 use Rattle.std.specs.Prelude.{Some, None}
 use Rattle.std.specs.declared.snapshot.Snapshot.{Snapshot}
 use mathlib.Core.Option.{some, some-injective, some-ne-none}
@@ -42,40 +43,53 @@ module _ {F J : Type 0} where
   last_there [] b = refl
   last_there (f ∷ fs) b = last_there fs b
 
-  slot_count : (fs : List F) (b : J) → length (map some (map {B = Slot F J} Frame fs ++ Journal b ∷ Away ∷ [])) ≡ length fs + 2
+  slot_count : (fs : List F) (b : J)
+      → length (map some (map {B = Slot F J} Frame fs ++ Journal b ∷ Away ∷ [])) ≡ length fs + 2
   slot_count [] b = refl
-  slot_count (f ∷ fs) b = ap suc (slot_count fs b) ∙ (let z : suc (length fs + 2) ≡ suc (length fs) + 2 = omega arith in z)
+  slot_count (f ∷ fs) b =
+      ap suc (slot_count fs b) ∙ (let z : suc (length fs + 2) ≡ suc (length fs) + 2 = omega arith in z)
 
 module _ {F J : Type 0} (frame : Framed F) (journal : Journaled J) where
   first_knows : (key : Snapshot J) (h : Shape J) → h.journal ≡ key.value → ((k : ℕ) → journal.pins h.journal k ≡ None)
-      → IsStore journal key.value h → (j : ℕ) (v : PassState J) → get_elem? (first_state key ∷ []) j ≡ some v → Knows journal key.value h j v
+      → IsStore journal key.value h → (j : ℕ) (v : PassState J) → get_elem? (first_state key ∷ []) j ≡ some v
+      → Knows journal key.value h j v
   first_knows key h is no_pins store (suc j) v at = absurd (some-ne-none v (sym at))
-  first_knows key h is no_pins store zero v at = subst (Knows journal key.value h 0) (some-injective (first_state key) v at) record {
-    start_is = λ k e. let z : key ≡ k = cc e in ap (λ (x : Snapshot J). x.value) (sym z);
-    fresh = λ _. record { room = refl; journal_is = is };
-    seen = record { later = h.log; goes_on = sym (Rattle.std.proofs.lemmas.List.append-nil h.log); others = λ l. none_own h.log; shown = omega arith; counted = omega arith };
-    frames = tt;
-    journal_is = λ b e. cc e;
-    work = λ at e. cc e;
-    pin = λ p e. cc e;
-    floor = record { flushed = omega arith; within = omega arith; pins = λ k p e. (omega arith, omega arith) };
-    read = λ l. (omega arith, tt);
-    xids = λ l x i. absurd i;
-    owed = λ e. refl;
-    shown = λ l x i. absurd i;
-    redo = record { number = λ l x e. cc e; walked = λ l x e. cc e };
-    count = omega arith;
-    own = λ n i. absurd i;
-    spent = λ e. absurd (omega arith);
-    met = λ l i. absurd i;
-  }
+  first_knows key h is no_pins store zero v at =
+      subst (Knows journal key.value h 0) (some-injective (first_state key) v at) record {
+        start_is = λ k e. let z : key ≡ k = cc e in ap (λ (x : Snapshot J). x.value) (sym z);
+        fresh = λ _. record { room = refl; journal_is = is };
+        seen = record {
+          later = h.log;
+          goes_on = sym (Rattle.std.proofs.lemmas.List.append-nil h.log);
+          others = λ l. none_own h.log;
+          shown = omega arith;
+          counted = omega arith;
+        };
+        frames = tt;
+        journal_is = λ b e. cc e;
+        work = λ at e. cc e;
+        pin = λ p e. cc e;
+        floor = record { flushed = omega arith; within = omega arith; pins = λ k p e. (omega arith, omega arith) };
+        read = λ l. (omega arith, tt);
+        xids = λ l x i. absurd i;
+        owed = λ e. refl;
+        shown = λ l x i. absurd i;
+        redo = record { number = λ l x e. cc e; walked = λ l x e. cc e };
+        count = omega arith;
+        own = λ n i. absurd i;
+        spent = λ e. absurd (omega arith);
+        met = λ l i. absurd i;
+      }
     where
-      none_own : (rs : Rattle.core_state.specs.Log.Log) → Rattle.core_state.specs.Allowed.AreOthers (Rattle.latch_table.specs.PassStates.view_of (first_state key)) rs
+      none_own : (rs : Rattle.core_state.specs.Log.Log)
+          → Rattle.core_state.specs.Allowed.AreOthers (Rattle.latch_table.specs.PassStates.view_of (first_state key)) rs
       none_own [] = tt
-      none_own (r ∷ rs) = (record { not_own = λ i. i; not_all = λ n. absurd (n refl); not_work = λ at e. cc e }, none_own rs)
+      none_own (r ∷ rs) =
+          (record { not_own = λ i. i; not_all = λ n. absurd (n refl); not_work = λ at e. cc e }, none_own rs)
 
   pub starts : (frames : List F) (key : Snapshot J) → CanLie frame journal frames key.value
-      → Kept frame journal key.value (opening (replicate (length frames + 2) 0) (map Frame frames ++ Journal key.value ∷ Away ∷ []) (first_state key))
+      → Kept frame journal key.value (opening (replicate (length frames + 2) 0)
+      (map Frame frames ++ Journal key.value ∷ Away ∷ []) (first_state key))
   starts frames key can =
       let h : Shape J = laid_shape (length frames) can.log can.pages key.value in
       record {
@@ -87,7 +101,8 @@ module _ {F J : Type 0} (frame : Framed F) (journal : Journaled J) where
           taken = λ i lt e. absurd (omega arith);
         };
         homes = record {
-          frames = λ i lt e. let t = frames_there frames (Journal key.value ∷ Away ∷ []) i lt in (t.0, t.2, can.lie i t.0 t.1);
+          frames = λ i lt e. let t = frames_there frames (Journal key.value ∷ Away ∷ []) i lt in
+              (t.0, t.2, can.lie i t.0 t.1);
           journal_is = λ e. journal_there frames key.value (Away ∷ []);
           last = last_there frames key.value;
         };
@@ -103,7 +118,8 @@ module _ {F J : Type 0} (frame : Framed F) (journal : Journaled J) where
           rooms = refl;
           faults = omega arith;
           write_faults = omega arith;
-          own = λ k. none_since (journal.length_of key.value) k ∙ ap (λ n. is_since (journal.length_of key.value) n k) can.store.length_is;
+          own = λ k. none_since (journal.length_of key.value) k
+              ∙ ap (λ n. is_since (journal.length_of key.value) n k) can.store.length_is;
         };
         knows = first_knows key h refl can.no_pins can.store;
       }

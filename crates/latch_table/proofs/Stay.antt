@@ -74,13 +74,15 @@ module _ {J : Type 0} (journal : Journaled J) (start : J) where
       record {
         rooms = part (λ y. y.room) room ∙ t.rooms;
         faults = ap (λ n. journal.faults start + n) (part (λ y. y.faults) faults) ∙ t.faults;
-        write_faults = ap (λ n. journal.write_faults start + n) (part (λ y. y.write_faults) write_faults) ∙ t.write_faults;
+        write_faults =
+            ap (λ n. journal.write_faults start + n) (part (λ y. y.write_faults) write_faults) ∙ t.write_faults;
         own = λ n. part (λ y. times n y.own) (ap (times n) own) ∙ t.own n;
       }
 
   -- what a view knows, where its words stay with it, and its xids
   pub knows_stays : (h : Shape J) (holder' owner' : ℕ → ℕ) (j : ℕ) (v : PassState J)
-      → ((k : ℕ) → h.holder k ≡ suc j → holder' k ≡ suc j) → HasXids journal start (with_holders h holder' owner') j v.xids
+      → ((k : ℕ) → h.holder k ≡ suc j → holder' k ≡ suc j)
+      → HasXids journal start (with_holders h holder' owner') j v.xids
       → Knows journal start h j v → Knows journal start (with_holders h holder' owner') j v
   knows_stays h holder' owner' j v stays xids w = record {
     start_is = w.start_is;

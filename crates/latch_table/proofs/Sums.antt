@@ -22,8 +22,10 @@ pub total_two : {V : Type 0} (f : V → ℕ) (vs : List V) (i j : ℕ) (v w : V)
     → get_elem? vs j ≡ some w → f v + f w ≤ total f vs
 total_two f [] i j v w ne a b = absurd (some-ne-none v (sym a))
 total_two f (x ∷ vs) zero zero v w ne a b = absurd (ne refl)
-total_two f (x ∷ vs) zero (suc j) v w ne a b = let e : f x ≡ f v = ap f (cc a) in let r = total_one f vs j w b in omega arith
-total_two f (x ∷ vs) (suc i) zero v w ne a b = let e : f x ≡ f w = ap f (cc b) in let r = total_one f vs i v a in omega arith
+total_two f (x ∷ vs) zero (suc j) v w ne a b =
+    let e : f x ≡ f v = ap f (cc a) in let r = total_one f vs j w b in omega arith
+total_two f (x ∷ vs) (suc i) zero v w ne a b =
+    let e : f x ≡ f w = ap f (cc b) in let r = total_one f vs i v a in omega arith
 total_two f (x ∷ vs) (suc i) (suc j) v w ne a b = let r = total_two f vs i j v w (λ e. ne (ap suc e)) a b in omega arith
 
 -- where one comes

@@ -40,7 +40,8 @@ module _ {J : Type 0} (journal : Journaled J) (start : J) where
   are_held h j (f ∷ fs) l t = held_if h (nat_lt f.page page_limit) f.page f.content (sheets fs)
       (λ e. (t.2.shown l (grind (arith, nat_tests))).0) (are_held h j fs l t.4)
 
-  keeps_if : (R : Log) (o : Option PinNote) → ((p : PinNote) → o ≡ Some p → Keeps R (pin_of p)) → IfSome (pin_if o) (Keeps R)
+  keeps_if : (R : Log) (o : Option PinNote) → ((p : PinNote) → o ≡ Some p → Keeps R (pin_of p))
+      → IfSome (pin_if o) (Keeps R)
   keeps_if R None k = tt
   keeps_if R (Some p) k = k p refl
 
@@ -61,5 +62,6 @@ module _ {J : Type 0} (journal : Journaled J) (start : J) where
   }
 
   -- what a pass is said to be lawful was so at the opening
-  pub lawful_here : (h : Shape J) (j : ℕ) (v : PassState J) → Knows journal start h j v → IsLawful journal v → journal.lawful start
+  pub lawful_here : (h : Shape J) (j : ℕ) (v : PassState J) → Knows journal start h j v → IsLawful journal v
+      → journal.lawful start
   lawful_here h j v w l = subst journal.lawful (w.start_is l.0 l.1) l.2

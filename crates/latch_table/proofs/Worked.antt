@@ -1,25 +1,25 @@
 -- A table laid over an empty store, which is lawful. By its calls a pass logs a Create, a Begin and an
 -- Abort: whatever the calls before have said of it, the journal may be given back with the next record.
-use Rattle.std.proofs.Common.{◌≡◌, ◌≢◌, ℕ, zero, suc, ◌+◌, ◌<◌, ◌≤◌, true, false, List, [], ◌∷◌, ◌++◌, length, map, refl, sym, ap, subst, ◌∙◌, inl, inr, ⊎_elim, arith}
+use Rattle.std.proofs.Common.{◌≡◌, ◌≢◌, ℕ, zero, suc, ◌≤◌, false, List, [], ◌∷◌, ◌++◌, length, map}
+use Rattle.std.proofs.Common.{refl, sym, ap, subst, ◌∙◌, inl, inr, ⊎_elim, arith}
 use Rattle.std.proofs.lemmas.List.{append-nil}
-use Rattle.std.specs.Prelude.{Option, Some, None, ⊤, nat_lt}
+use Rattle.std.specs.Prelude.{Some, None, ⊤, nat_lt}
 use Rattle.std.specs.declared.snapshot.Snapshot.{Snapshot}
 use mathlib.Core.Option.{some, some-ne-none}
 use lib.ListN.{get_elem?}
 use Rattle.page_types.specs.Numbers.{page_limit, page_size, zeros}
 use Rattle.page_types.specs.Encoding.{page_bytes}
-use Rattle.page_types.specs.Edits.{edited, CanEdit}
+use Rattle.page_types.specs.Edits.{edited}
 use Rattle.page_types.specs.Pages.{IsPage}
-use Rattle.page_types.specs.Records.{IsRecord}
 use Rattle.page_types.specs.declared.page.Page.{Page}
-use Rattle.page_types.specs.declared.record.Change.{Change}
 use Rattle.page_types.specs.declared.record.Record.{Record}
 use Rattle.page_types.specs.declared.record.Kind.{Kind}
 use Rattle.page_types.specs.declared.record.Kind.TheVariants as kind
 use Rattle.core_state.specs.Log.{Log, In, fate, replay}
-use Rattle.core_state.specs.Legal.{RecordsAreValid, ImagesFrom, RuleHolds}
+use Rattle.core_state.specs.Legal.{RecordsAreValid, RuleHolds}
 use Rattle.core_state.specs.Steady.{IsMaintenance}
-use Rattle.core_state.specs.Allowed.{Sheet, View, AreOthers, Step, IsDrawn, MayLog, Owes, drawn_body, sheet_pages, made_by}
+use Rattle.core_state.specs.Allowed.{Sheet, View, AreOthers, Step, MayLog, Owes, drawn_body, sheet_pages}
+use Rattle.core_state.specs.Allowed.{made_by}
 use Rattle.core_state.specs.Logged.{IsRecordOf}
 use Rattle.core_state.specs.Steps.{sheet}
 use Rattle.core_state.proofs.Worked.{meta_page, root_page, image, meta_is, root_is, legal}
@@ -30,21 +30,21 @@ use Rattle.latch_table.specs.declared.states.Note.{Note}
 use Rattle.latch_table.specs.declared.states.PassState.{PassState}
 use Rattle.latch_table.specs.PassStates.{view_of, sheets, sheet_if, first_state, running}
 use Rattle.latch_table.specs.Told.{HasOpened, HasClaimed, HasClaimedWork, HasClaimedJournal}
-use Rattle.latch_table.specs.Giving.{Entry, Bounds, AreBounds, MayGive, HasGivenJournal, xids_by}
-use Rattle.latch_table.specs.Appending.{HasAppended, logged}
+use Rattle.latch_table.specs.Giving.{Entry, AreBounds, MayGive, HasGivenJournal, xids_by}
+use Rattle.latch_table.specs.Appending.{logged}
 use Rattle.latch_table.specs.Laying.{IsEmptyStore, CanLie}
 use Rattle.latch_table.proofs.Appends.{may_give}
 use Rattle.latch_table.proofs.Empty.{empty_stores_lie}
 
 -- a frame is the number of its page, and its bytes
-abbrev Leaf : Type 0
+abbrev pub Leaf : Type 0
 Leaf = ℕ × List ℕ
 
-abbrev leaf : Framed Leaf
+abbrev pub leaf : Framed Leaf
 leaf = record { page = λ f. f.0; bytes = λ f. f.1 }
 
 -- a journal that is its log; nothing of it is flushed, and each frame has the page of its number
-abbrev paper : Journaled Log
+abbrev pub paper : Journaled Log
 paper = record {
   lawful = λ b. ⊤;
   stands = λ b log. b ≡ log;
@@ -63,7 +63,7 @@ paper = record {
 
 -- A table may be laid over two frames and the empty log
 
-abbrev frames : List Leaf
+abbrev pub frames : List Leaf
 frames = (0, zeros page_size) ∷ (1, zeros page_size) ∷ []
 
 same_page : (i : ℕ) (f : Leaf) → get_elem? frames i ≡ some f → f.0 ≡ i
@@ -103,22 +103,22 @@ begin_step = record { kind = kind.Begin; xid = 0; after = [] }
 abbrev abort_step : Step
 abort_step = record { kind = kind.Abort; xid = 1; after = [] }
 
-abbrev create_record : Record
+abbrev pub create_record : Record
 create_record = record { number = 1; xid = 0; kind = kind.Create; changes = image 0 meta_page ∷ image 1 root_page ∷ [] }
 
-abbrev begin_record : Record
+abbrev pub begin_record : Record
 begin_record = record { number = 2; xid = 1; kind = kind.Begin; changes = [] }
 
-abbrev abort_record : Record
+abbrev pub abort_record : Record
 abort_record = record { number = 3; xid = 1; kind = kind.Abort; changes = [] }
 
-abbrev create : Entry
+abbrev pub create : Entry
 create = record { step = create_step; logged = create_record }
 
-abbrev begin : Entry
+abbrev pub begin : Entry
 begin = record { step = begin_step; logged = begin_record }
 
-abbrev abort : Entry
+abbrev pub abort : Entry
 abort = record { step = abort_step; logged = abort_record }
 
 meta_bytes : replay (create_record ∷ []) 0 ≡ page_bytes meta_page
@@ -132,13 +132,16 @@ root_bytes = refl
 create_bytes : (x : Sheet) → In x create_step.after
     → replay (create_record ∷ []) x.page ≡ page_bytes (made_by create_record x.content)
 create_bytes x (inl e) =
-    subst (λ (s : Sheet). replay (create_record ∷ []) s.page ≡ page_bytes (made_by create_record s.content)) (sym e) meta_bytes
+    subst (λ (s : Sheet). replay (create_record ∷ []) s.page ≡ page_bytes (made_by create_record s.content))
+    (sym e) meta_bytes
 create_bytes x (inr (inl e)) =
-    subst (λ (s : Sheet). replay (create_record ∷ []) s.page ≡ page_bytes (made_by create_record s.content)) (sym e) root_bytes
+    subst (λ (s : Sheet). replay (create_record ∷ []) s.page ≡ page_bytes (made_by create_record s.content))
+    (sym e) root_bytes
 create_bytes x (inr (inr e)) = absurd e
 
 no_redo : (R : Log) (r : Record) (redo : ℕ) → (r.kind ≡ kind.Checkpoint redo → ⊥)
-    → ((x : Record) → In x R → x.kind ≡ kind.Checkpoint redo → ⊥) → (x : Record) → In x (r ∷ R) → x.kind ≡ kind.Checkpoint redo → ⊥
+    → ((x : Record) → In x R → x.kind ≡ kind.Checkpoint redo → ⊥) → (x : Record) → In x (r ∷ R)
+    → x.kind ≡ kind.Checkpoint redo → ⊥
 no_redo R r redo here later x (inl e) is = here (ap (λ (y : Record). y.kind) (sym e) ∙ is)
 no_redo R r redo here later x (inr i) is = later x i is
 
@@ -148,7 +151,8 @@ no_create redo = no_redo [] create_record redo (λ e. cc e) (λ x i e. i)
 no_begin : (redo : ℕ) (x : Record) → In x (begin_record ∷ create_record ∷ []) → x.kind ≡ kind.Checkpoint redo → ⊥
 no_begin redo = no_redo (create_record ∷ []) begin_record redo (λ e. cc e) (no_create redo)
 
-no_abort : (redo : ℕ) (x : Record) → In x (abort_record ∷ begin_record ∷ create_record ∷ []) → x.kind ≡ kind.Checkpoint redo → ⊥
+no_abort : (redo : ℕ) (x : Record) → In x (abort_record ∷ begin_record ∷ create_record ∷ [])
+    → x.kind ≡ kind.Checkpoint redo → ⊥
 no_abort redo = no_redo (begin_record ∷ create_record ∷ []) abort_record redo (λ e. cc e) (no_begin redo)
 
 create_is : IsRecordOf [] create_step create_record
@@ -174,7 +178,8 @@ begin_is = record {
 abort_is : IsRecordOf (begin_record ∷ create_record ∷ []) abort_step abort_record
 abort_is = record {
   drawn = record { number = refl; fits = λ e. cc e; xid = refl; kind = refl; pages = refl };
-  is_record = record { number = omega arith; xid = omega arith; kind = tt; count = omega arith; changes = tt; once = tt };
+  is_record =
+      record { number = omega arith; xid = omega arith; kind = tt; count = omega arith; changes = tt; once = tt };
   can_edit = λ c i. absurd i;
   bytes = λ x i. absurd i;
   images = (legal.images.0.0, λ c i l. absurd i);
@@ -203,7 +208,8 @@ may_create v seen right R a r Q n l =
         kind_is = is;
         pages = n.pages;
         empty = ap length none;
-        after_is = ap (map Q) n.pages ∙ (λ i. (made_as r meta_page Q 0 is l.here.0 i ∷ made_as r root_page Q 1 is l.here.1.0 i ∷ []));
+        after_is = ap (map Q) n.pages
+            ∙ (λ i. (made_as r meta_page Q 0 is l.here.0 i ∷ made_as r root_page Q 1 is l.here.1.0 i ∷ []));
       };
     })
   where
@@ -222,7 +228,8 @@ held_pages f g one none =
 owes_create : (v : View) → sheet_pages v.held ≡ 1 ∷ 0 ∷ [] → v.work ≡ Some 0 → Owes v create_step
 owes_create v held right = record {
   started = inr refl;
-  pages = λ p i. subst (In p) (sym held) (⊎_elim (λ (e : p ≡ 0). inr (inl e)) (λ rest. ⊎_elim (λ (e : p ≡ 1). inl e) (λ none. absurd none) rest) i);
+  pages = λ p i. subst (In p) (sym held)
+      (⊎_elim (λ (e : p ≡ 0). inr (inl e)) (λ rest. ⊎_elim (λ (e : p ≡ 1). inl e) (λ none. absurd none) rest) i);
   once = (((λ e. omega (arith, e)), tt), (tt, tt));
   fits = fits;
   xid = inl refl;
@@ -305,15 +312,16 @@ may_log old v b R e h seen made may owes =
     (λ l. (may, owes)) (bounds v (e.logged ∷ R))
 
 -- what is known of a pass that has the whole room, over a log that it has seen, with these xids
-record Stands (key : Snapshot Log) (R : Log) (xids begun : List ℕ) (v : PassState Log) : Type 0 where
-  start : v.start ≡ Some key
-  seen : v.seen ≡ R
-  xids_are : v.xids ≡ xids
-  begun_are : v.begun ≡ begun
-  room : v.room ≡ 16
+pub record Stands (key : Snapshot Log) (R : Log) (xids begun : List ℕ) (v : PassState Log) : Type 0 where
+  pub start : v.start ≡ Some key
+  pub seen : v.seen ≡ R
+  pub xids_are : v.xids ≡ xids
+  pub begun_are : v.begun ≡ begun
+  pub fresh : v.fresh ≡ false
+  pub room : v.room ≡ 16
 
 -- a pass that claims the journal has seen the same log
-has_claimed : (key : Snapshot Log) (R b : Log) (xids begun : List ℕ) (v w : PassState Log) → key.value ≡ []
+pub has_claimed : (key : Snapshot Log) (R b : Log) (xids begun : List ℕ) (v w : PassState Log) → key.value ≡ []
     → Stands key R xids begun v → HasClaimedJournal paper b v w → Stands key R xids begun w
 has_claimed key R b xids begun v w opening s h =
     let all = h.alone s.room key s.start in
@@ -323,11 +331,12 @@ has_claimed key R b xids begun v w opening s h =
       seen = ap (λ (x : PassState Log). x.seen) h.state ∙ same ∙ s.seen;
       xids_are = ap (λ (x : PassState Log). x.xids) h.state ∙ s.xids_are;
       begun_are = ap (λ (x : PassState Log). x.begun) h.state ∙ s.begun_are;
+      fresh = ap (λ (x : PassState Log). x.fresh) h.state ∙ s.fresh;
       room = ap (λ (x : PassState Log). x.room) h.state ∙ s.room;
     }
 
 -- and one that gives it back with a record has seen that too
-has_given : (key : Snapshot Log) (R b b' : Log) (e : Entry) (xids begun : List ℕ) (v w : PassState Log)
+pub has_given : (key : Snapshot Log) (R b b' : Log) (e : Entry) (xids begun : List ℕ) (v w : PassState Log)
     → Stands key R xids begun v → HasGivenJournal paper b b' (logged e v) v w
     → Stands key (e.logged ∷ R) (xids_by e.logged.kind e.logged.xid xids)
     (xids_by e.logged.kind e.logged.xid begun) w
@@ -338,102 +347,113 @@ has_given key R b b' e xids begun v w s g = record {
       ∙ ap (xids_by e.logged.kind e.logged.xid) s.xids_are;
   begun_are = ap (λ (x : PassState Log). x.begun) g.state
       ∙ ap (xids_by e.logged.kind e.logged.xid) s.begun_are;
+  fresh = ap (λ (x : PassState Log). x.fresh) g.state ∙ s.fresh;
   room = ap (λ (x : PassState Log). x.room) g.state ∙ s.room;
 }
 
-module _ (key : Snapshot Log) (opening : key.value ≡ []) (v1 v2 v3 v4 v5 : PassState Log) (f0 f1 : Leaf) (b1 : Log)
+module _ (key : Snapshot Log) (opening : key.value ≡ []) (v1 v2 v3 v4 : PassState Log) (f0 f1 : Leaf)
     (laid : HasOpened paper [] (first_state key) v1) (right : HasClaimedWork paper v1 v2)
-    (first : HasClaimed leaf paper 0 0 f0 v2 v3) (second : HasClaimed leaf paper 1 1 f1 v3 v4)
-    (has : HasClaimedJournal paper b1 v4 v5) where
+    (first : HasClaimed leaf paper 0 0 f0 v2 v3) (second : HasClaimed leaf paper 1 1 f1 v3 v4) where
   opened : Stands key [] [] [] v1
   opened = record {
     start = ap (λ (x : PassState Log). x.start) laid.state;
     seen = ap (λ (x : PassState Log). x.seen) laid.state ∙ sym laid.stands;
     xids_are = ap (λ (x : PassState Log). x.xids) laid.state ∙ ap running (sym laid.stands);
     begun_are = ap (λ (x : PassState Log). x.begun) laid.state;
+    fresh = ap (λ (x : PassState Log). x.fresh) laid.state;
     room = ap (λ (x : PassState Log). x.room) laid.state;
   }
 
-  holding : Stands key [] [] [] v4
+  pub holding : Stands key [] [] [] v4
   holding =
       let c = second.state in
       let b = first.state in
       let a = right.state in
       let s = opened in
       record {
-        start = ap (λ (x : PassState Log). x.start) c ∙ ap (λ (x : PassState Log). x.start) b ∙ ap (λ (x : PassState Log). x.start) a ∙ s.start;
-        seen = ap (λ (x : PassState Log). x.seen) c ∙ ap (λ (x : PassState Log). x.seen) b ∙ ap (λ (x : PassState Log). x.seen) a ∙ s.seen;
-        xids_are = ap (λ (x : PassState Log). x.xids) c ∙ ap (λ (x : PassState Log). x.xids) b ∙ ap (λ (x : PassState Log). x.xids) a ∙ s.xids_are;
-        begun_are = ap (λ (x : PassState Log). x.begun) c ∙ ap (λ (x : PassState Log). x.begun) b ∙ ap (λ (x : PassState Log). x.begun) a ∙ s.begun_are;
-        room = ap (λ (x : PassState Log). x.room) c ∙ ap (λ (x : PassState Log). x.room) b ∙ ap (λ (x : PassState Log). x.room) a ∙ s.room;
+        start = ap (λ (x : PassState Log). x.start) c ∙ ap (λ (x : PassState Log). x.start) b
+            ∙ ap (λ (x : PassState Log). x.start) a ∙ s.start;
+        seen = ap (λ (x : PassState Log). x.seen) c ∙ ap (λ (x : PassState Log). x.seen) b
+            ∙ ap (λ (x : PassState Log). x.seen) a ∙ s.seen;
+        xids_are = ap (λ (x : PassState Log). x.xids) c ∙ ap (λ (x : PassState Log). x.xids) b
+            ∙ ap (λ (x : PassState Log). x.xids) a ∙ s.xids_are;
+        begun_are = ap (λ (x : PassState Log). x.begun) c ∙ ap (λ (x : PassState Log). x.begun) b
+            ∙ ap (λ (x : PassState Log). x.begun) a ∙ s.begun_are;
+        fresh = ap (λ (x : PassState Log). x.fresh) c ∙ ap (λ (x : PassState Log). x.fresh) b
+            ∙ ap (λ (x : PassState Log). x.fresh) a ∙ s.fresh;
+        room = ap (λ (x : PassState Log). x.room) c ∙ ap (λ (x : PassState Log). x.room) b
+            ∙ ap (λ (x : PassState Log). x.room) a ∙ s.room;
       }
 
-  ready : Stands key [] [] [] v5
-  ready = has_claimed key [] b1 [] [] v4 v5 opening holding has
+  module _ (v5 : PassState Log) (b1 : Log) (has : HasClaimedJournal paper b1 v4 v5) where
+    pub ready : Stands key [] [] [] v5
+    ready = has_claimed key [] b1 [] [] v4 v5 opening holding has
 
-  -- the right is held since the empty log
-  since_none : v5.work ≡ Some 0
-  since_none =
-      let none : right.log ≡ v1.seen = right.alone opened.room key opened.start
-      (subst (λ (S : Log). length S ≤ length v1.seen) (sym opening) (omega arith)) in
-      ap (λ (x : PassState Log). x.work) has.state ∙ ap (λ (x : PassState Log). x.work) second.state
-      ∙ ap (λ (x : PassState Log). x.work) first.state ∙ ap (λ (x : PassState Log). x.work) right.state
-      ∙ ap (λ (S : Log). Some (length S)) (none ∙ opened.seen)
+    -- the right is held since the empty log
+    since_none : v5.work ≡ Some 0
+    since_none =
+        let none : right.log ≡ v1.seen = right.alone opened.room key opened.start
+        (subst (λ (S : Log). length S ≤ length v1.seen) (sym opening) (omega arith)) in
+        ap (λ (x : PassState Log). x.work) has.state ∙ ap (λ (x : PassState Log). x.work) second.state
+        ∙ ap (λ (x : PassState Log). x.work) first.state ∙ ap (λ (x : PassState Log). x.work) right.state
+        ∙ ap (λ (S : Log). Some (length S)) (none ∙ opened.seen)
 
-  -- and so are both frames, which have the first pages
-  abbrev note0 : Note
-  note0 = record { frame = 0; page = f0.0; bytes = f0.1; content = first.content }
+    -- and so are both frames, which have the first pages
+    abbrev note0 : Note
+    note0 = record { frame = 0; page = f0.0; bytes = f0.1; content = first.content }
 
-  abbrev note1 : Note
-  note1 = record { frame = 1; page = f1.0; bytes = f1.1; content = second.content }
+    abbrev note1 : Note
+    note1 = record { frame = 1; page = f1.0; bytes = f1.1; content = second.content }
 
-  noted : v4.frames ≡ note1 ∷ note0 ∷ []
-  noted =
-      ap (λ (x : PassState Log). x.frames) second.state
-      ∙ ap (λ (fs : List Note). note1 ∷ fs)
-      (ap (λ (x : PassState Log). x.frames) first.state
-      ∙ ap (λ (fs : List Note). note0 ∷ fs)
-      (ap (λ (x : PassState Log). x.frames) right.state ∙ ap (λ (x : PassState Log). x.frames) laid.state))
+    noted : v4.frames ≡ note1 ∷ note0 ∷ []
+    noted =
+        ap (λ (x : PassState Log). x.frames) second.state
+        ∙ ap (λ (fs : List Note). note1 ∷ fs)
+        (ap (λ (x : PassState Log). x.frames) first.state
+        ∙ ap (λ (fs : List Note). note0 ∷ fs)
+        (ap (λ (x : PassState Log). x.frames) right.state ∙ ap (λ (x : PassState Log). x.frames) laid.state))
 
-  held : sheet_pages (sheets v5.frames) ≡ 1 ∷ 0 ∷ []
-  held =
-      ap (λ (x : PassState Log). sheet_pages (sheets x.frames)) has.state
-      ∙ ap (λ (fs : List Note). sheet_pages (sheets fs)) noted
-      ∙ held_pages note1 note0 (sym (has.placed note1 (subst (In note1) (sym noted) (inl refl))))
-      (sym (has.placed note0 (subst (In note0) (sym noted) (inr (inl refl)))))
+    held : sheet_pages (sheets v5.frames) ≡ 1 ∷ 0 ∷ []
+    held =
+        ap (λ (x : PassState Log). sheet_pages (sheets x.frames)) has.state
+        ∙ ap (λ (fs : List Note). sheet_pages (sheets fs)) noted
+        ∙ held_pages note1 note0 (sym (has.placed note1 (subst (In note1) (sym noted) (inl refl))))
+        (sym (has.placed note0 (subst (In note0) (sym noted) (inr (inl refl)))))
 
-  -- a Create may be logged
-  pub creates : MayGive paper 2 v5 v5.seen b1 (create_record ∷ []) (logged create v5)
-  creates =
-      may_log v4 v5 b1 [] create has ready.seen create_is (may_create (view_of v5) ready.seen since_none)
-      (owes_create (view_of v5) held since_none)
+    -- a Create may be logged
+    pub creates : MayGive paper 2 v5 v5.seen b1 (create_record ∷ []) (logged create v5)
+    creates =
+        may_log v4 v5 b1 [] create has ready.seen create_is (may_create (view_of v5) ready.seen since_none)
+        (owes_create (view_of v5) held since_none)
 
-  module _ (v6 v7 : PassState Log) (b2 : Log)
-      (made : HasGivenJournal paper b1 (create_record ∷ []) (logged create v5) v5 v6)
-      (again : HasClaimedJournal paper b2 v6 v7) where
-    created : Stands key (create_record ∷ []) [] [] v7
-    created =
-        has_claimed key (create_record ∷ []) b2 [] [] v6 v7 opening
-        (has_given key [] b1 (create_record ∷ []) create [] [] v5 v6 ready made) again
+    module _ (v6 v7 : PassState Log) (b2 : Log)
+        (made : HasGivenJournal paper b1 (create_record ∷ []) (logged create v5) v5 v6)
+        (again : HasClaimedJournal paper b2 v6 v7) where
+      created : Stands key (create_record ∷ []) [] [] v7
+      created =
+          has_claimed key (create_record ∷ []) b2 [] [] v6 v7 opening
+          (has_given key [] b1 (create_record ∷ []) create [] [] v5 v6 ready made) again
 
-    -- and then a Begin
-    pub begins : MayGive paper 2 v7 v7.seen b2 (begin_record ∷ create_record ∷ []) (logged begin v7)
-    begins =
-        may_log v6 v7 b2 (create_record ∷ []) begin again created.seen begin_is
-        (begin_may (view_of v7) begin_step (λ P ok shown. record { kind_is = refl; after_is = refl }))
-        (owes_begin (view_of v7) (λ e. (let z : create_record ∷ [] ≡ [] = sym created.seen ∙ e in cc z)))
+      -- and then a Begin
+      pub begins : MayGive paper 2 v7 v7.seen b2 (begin_record ∷ create_record ∷ []) (logged begin v7)
+      begins =
+          may_log v6 v7 b2 (create_record ∷ []) begin again created.seen begin_is
+          (begin_may (view_of v7) begin_step (λ P ok shown. record { kind_is = refl; after_is = refl }))
+          (owes_begin (view_of v7) (λ e. (let z : create_record ∷ [] ≡ [] = sym created.seen ∙ e in cc z)))
 
-    module _ (v8 v9 : PassState Log) (b3 : Log)
-        (has_begun : HasGivenJournal paper b2 (begin_record ∷ create_record ∷ []) (logged begin v7) v7 v8)
-        (last : HasClaimedJournal paper b3 v8 v9) where
-      runs : Stands key (begin_record ∷ create_record ∷ []) (1 ∷ []) (1 ∷ []) v9
-      runs =
-          has_claimed key (begin_record ∷ create_record ∷ []) b3 (1 ∷ []) (1 ∷ []) v8 v9 opening
-          (has_given key (create_record ∷ []) b2 (begin_record ∷ create_record ∷ []) begin [] [] v7 v8 created has_begun) last
+      module _ (v8 v9 : PassState Log) (b3 : Log)
+          (has_begun : HasGivenJournal paper b2 (begin_record ∷ create_record ∷ []) (logged begin v7) v7 v8)
+          (last : HasClaimedJournal paper b3 v8 v9) where
+        runs : Stands key (begin_record ∷ create_record ∷ []) (1 ∷ []) (1 ∷ []) v9
+        runs =
+            has_claimed key (begin_record ∷ create_record ∷ []) b3 (1 ∷ []) (1 ∷ []) v8 v9 opening
+            (has_given key (create_record ∷ []) b2
+            (begin_record ∷ create_record ∷ []) begin [] [] v7 v8 created has_begun) last
 
-      -- and then an Abort of it
-      pub aborts : MayGive paper 2 v9 v9.seen b3 (abort_record ∷ begin_record ∷ create_record ∷ []) (logged abort v9)
-      aborts =
-          may_log v8 v9 b3 (begin_record ∷ create_record ∷ []) abort last runs.seen abort_is
-          (may_abort (view_of v9) runs.seen runs.xids_are runs.begun_are)
-          (owes_abort (view_of v9) (λ e. (let z : begin_record ∷ create_record ∷ [] ≡ [] = sym runs.seen ∙ e in cc z)) runs.xids_are)
+        -- and then an Abort of it
+        pub aborts : MayGive paper 2 v9 v9.seen b3 (abort_record ∷ begin_record ∷ create_record ∷ []) (logged abort v9)
+        aborts =
+            may_log v8 v9 b3 (begin_record ∷ create_record ∷ []) abort last runs.seen abort_is
+            (may_abort (view_of v9) runs.seen runs.xids_are runs.begun_are)
+            (owes_abort (view_of v9) (λ e. (let z : begin_record ∷ create_record ∷ [] ≡ [] = sym runs.seen ∙ e in cc z))
+            runs.xids_are)

@@ -1,6 +1,7 @@
 -- What a pass changed while it had the journal, and what it owes of it when it gives the journal
 -- back.
-use Rattle.std.specs.Prelude.{◌≡◌, ◌≢◌, ◌⊎◌, ◌==◌, cond, ℕ, suc, ◌+◌, ◌-◌, ◌<◌, ◌≤◌, Bool, true, false, List, [], ◌∷◌, ◌++◌, length, Option, Some, None}
+use Rattle.std.specs.Prelude.{◌≡◌, ◌≢◌, ◌⊎◌, ◌==◌, cond, ℕ, suc, ◌+◌, ◌-◌, ◌<◌, ◌≤◌, Bool, true, false, List, [], ◌∷◌}
+use Rattle.std.specs.Prelude.{◌++◌, length, Option, Some, None}
 use Rattle.page_types.specs.Numbers.{page_limit}
 use Rattle.page_types.specs.Encoding.{page_bytes}
 use Rattle.page_types.specs.declared.page.Page.{Page}

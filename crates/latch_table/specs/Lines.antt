@@ -1,6 +1,7 @@
 -- The lines of the rule. What needs that the store was lawful at the opening is after `Lawful`;
 -- the rest holds of every store.
-use Rattle.std.specs.Prelude.{◌≡◌, ◌≢◌, ℕ, suc, ◌+◌, ◌<◌, ◌≤◌, true, nat_lt, ◌&&◌, not, cond, List, [], ◌∷◌, ◌++◌, length, slice_index, Option, Some, None, ⊤}
+use Rattle.std.specs.Prelude.{◌≡◌, ◌≢◌, ℕ, suc, ◌+◌, ◌<◌, ◌≤◌, true, nat_lt, ◌&&◌, not, cond, List, [], ◌∷◌, ◌++◌}
+use Rattle.std.specs.Prelude.{length, slice_index, Option, Some, None, ⊤}
 use mathlib.Core.Option.{some}
 use lib.ListN.{get_elem?}
 use Rattle.std.specs.declared.snapshot.Snapshot.{Snapshot}

@@ -1,5 +1,6 @@
 -- What a pass knows, in the core's words, and what each kind of step makes of it.
-use Rattle.std.specs.Prelude.{◌≡◌, ◌==◌, ◌+◌, ◌-◌, Bool, true, false, nat_lt, cond, ℕ, zero, suc, List, [], ◌∷◌, ◌++◌, length, Option, Some, None}
+use Rattle.std.specs.Prelude.{◌≡◌, ◌==◌, ◌+◌, ◌-◌, Bool, true, false, nat_lt, cond, ℕ, zero, suc, List, [], ◌∷◌, ◌++◌}
+use Rattle.std.specs.Prelude.{length, Option, Some, None}
 use Rattle.std.specs.declared.snapshot.Snapshot.{Snapshot}
 use Rattle.page_types.specs.Numbers.{page_limit}
 use Rattle.page_types.specs.declared.page.Page.{Page}

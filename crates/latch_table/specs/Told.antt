@@ -20,12 +20,13 @@ use Rattle.latch_table.specs.declared.states.WalkNote.{WalkNote}
 use Rattle.latch_table.specs.declared.states.Shown.{Shown}
 use Rattle.latch_table.specs.declared.states.PassState.{PassState}
 use Rattle.latch_table.specs.Closing.{IsAllSince, HadSeenAll}
-use Rattle.latch_table.specs.PassStates.{view_of, pin_of, found_by, with_frame, without_frame, with_work, without_work, open_state, with_journal, IsLawful}
+use Rattle.latch_table.specs.PassStates.{view_of, pin_of, found_by, with_frame, without_frame, with_work, without_work}
+use Rattle.latch_table.specs.PassStates.{open_state, with_journal, IsLawful}
 
 module _ {F J : Type 0} (frame : Framed F) (journal : Journaled J) where
   -- The frame `at`, with this value, was claimed when the log was one that goes on from what the
-  -- pass had seen, and is that where the pass is alone. Of a lawful store, that log is allowed to the pass as it is then, and the page
-  -- that is noted encodes the frame's bytes.
+  -- pass had seen, and is that where the pass is alone. Of a lawful store, that log is allowed to the pass as it is
+  -- then, and the page that is noted encodes the frame's bytes.
   pub record HasClaimed (at sought : ℕ) (f : F) (old new : PassState J) : Type 0 where
     pub log : Log
     pub content : Page

@@ -1,5 +1,5 @@
 // Claims of frames, and frames given back.
-ghost use Rattle.std.specs.Prelude.{◌≡◌, ◌≢◌, ℕ, List, ◌∷◌, ◌+◌, ◌-◌, ◌<◌, Bool, true, false, Some, None, MatchOption};
+ghost use Rattle.std.specs.Prelude.{◌≡◌, ◌≢◌, ℕ, List, ◌∷◌, ◌+◌, ◌<◌, false, Some, None, MatchOption};
 ghost use Rattle.atomic_table.specs.Table.{rest};
 ghost use Rattle.core_state.specs.Log.{In};
 ghost use Rattle.latch_table.specs.declared.slots.Slot.{Slot};

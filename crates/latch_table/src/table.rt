@@ -1,10 +1,12 @@
 // The table with its memory.
-ghost use Rattle.std.specs.Prelude.{◌≡◌, ◌≢◌, ℕ, ◌+◌, ◌-◌, ◌<◌, ◌≤◌, ◌^◌, ◌∷◌, ◌++◌, true, false, Some, None, length, IfOk, IfErr, MatchOption};
+ghost use Rattle.std.specs.Prelude.{◌≡◌, ◌≢◌, ℕ, ◌+◌, ◌-◌, ◌<◌, ◌≤◌, ◌^◌, ◌∷◌, ◌++◌, true, false, Some, None, length};
+ghost use Rattle.std.specs.Prelude.{IfOk, IfErr, MatchOption};
 ghost use Rattle.std.specs.declared.snapshot.Snapshot.{Snapshot};
 ghost use Rattle.core_state.specs.Log.{Log, In};
 ghost use Rattle.latch_table.specs.declared.slots.Slot.TheVariants.{Away};
 ghost use Rattle.latch_table.specs.declared.states.Note.{Note};
-ghost use Rattle.latch_table.specs.PassStates.{first_state, found_by, without_frame, without_work, with_less_room, split_off, joined};
+ghost use Rattle.latch_table.specs.PassStates.{first_state, found_by, without_frame, without_work, with_less_room};
+ghost use Rattle.latch_table.specs.PassStates.{split_off, joined};
 ghost use Rattle.latch_table.specs.Told.{HasClaimed, HasClaimedJournal, HasClaimedWork, HasOpened};
 ghost use Rattle.latch_table.specs.Giving.{HasGivenJournal, CanGive};
 ghost use Rattle.latch_table.specs.Laying.{CanLie};

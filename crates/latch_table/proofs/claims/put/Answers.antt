@@ -9,6 +9,7 @@ store-requires g c =
     let e = c.exchange-away.ensures.3 in (
       search rules,
       omega arith,
-      gives_frame g.F.Framed g.J.Journaled _ _ _ _ _ n.0 c.args.value _ (subst (λ m. m.0.room ≢ 0) (sym e) (λ z. absurd (omega arith)))
+      gives_frame g.F.Framed g.J.Journaled _ _ _ _ _ n.0 c.args.value _
+          (subst (λ m. m.0.room ≢ 0) (sym e) (λ z. absurd (omega arith)))
           (subst (λ m. In n.0 m.0.frames) (sym e) n.1) n.2 n.3 n.4 (ap (λ m. m.1) e),
     )

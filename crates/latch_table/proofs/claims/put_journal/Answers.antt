@@ -16,17 +16,20 @@ store-requires g c =
           (subst (λ (v : PassState g.row.J.Denot). v.room ≢ 0) (sym state) (λ z. absurd (omega arith)))
           (ap (λ (v : PassState g.row.J.Denot). v.fresh) state ∙ c.requires.seen)
           (c.requires.start.0, ap (λ (v : PassState g.row.J.Denot). v.start) state ∙ c.requires.start.1) out
-          (subst (λ (v : PassState g.row.J.Denot). CanGive g.J.Journaled c.args.word v c.args.journal (g.C.Changes.change v c.args.journal)) (sym state) c.requires.can),
+          (subst (λ (v : PassState g.row.J.Denot). CanGive g.J.Journaled c.args.word v c.args.journal
+          (g.C.Changes.change v c.args.journal)) (sym state) c.requires.can),
     )
 
 pub returns-clause-given : goal.returns-clause-given
 returns-clause-given g c b is =
     let e = c.exchange-away.ensures.3 in
     let t = c.store.ensures.2 b c.args.journal _ (ap (λ m. m.0.journal) e ∙ is) (ap (λ m. m.1) e) in
-    subst (λ (v : PassState g.row.J.Denot). HasGivenJournal g.J.Journaled b c.args.journal (g.C.Changes.change v c.args.journal) v c.store.new.seat.me.0)
+    subst (λ (v : PassState g.row.J.Denot). HasGivenJournal g.J.Journaled b c.args.journal
+    (g.C.Changes.change v c.args.journal) v c.store.new.seat.me.0)
     (ap (λ m. m.0) e) t.0
 
 pub returns-clause-rest : goal.returns-clause-rest
 returns-clause-rest g c =
     let e = c.exchange-away.ensures.3 in
-    (c.store.ensures.2 c.requires.can.0 c.args.journal _ (ap (λ m. m.0.journal) e ∙ c.requires.can.1) (ap (λ m. m.1) e)).1
+    (c.store.ensures.2 c.requires.can.0 c.args.journal _ (ap (λ m. m.0.journal) e ∙ c.requires.can.1)
+    (ap (λ m. m.1) e)).1

@@ -5,7 +5,12 @@ use Rattle.latch_table.proofs.ClaimFrames.{claims_frame}
 use Rattle.latch_table.proofs.claims.take.Goals as goal
 
 pub compare_exchange-requires : goal.compare_exchange-requires
-compare_exchange-requires g c = (search rules, omega arith, claims_frame g.F.Framed g.J.Journaled _ g.A.Attempt.notes _ _ _ c.args.page _ (omega arith) (λ e. absurd (omega arith)))
+compare_exchange-requires g c = (
+  search rules,
+  omega arith,
+  claims_frame g.F.Framed g.J.Journaled _ g.A.Attempt.notes _ _ _ c.args.page _ (omega arith)
+      (λ e. absurd (omega arith)),
+)
 
 pub exchange-slot-requires : goal.exchange-slot-requires
 exchange-slot-requires g c =

@@ -5,7 +5,11 @@ use Rattle.latch_table.proofs.ClaimJournal.{claims_journal}
 use Rattle.latch_table.proofs.claims.take_journal.Goals as goal
 
 pub compare_exchange-requires : goal.compare_exchange-requires
-compare_exchange-requires g c = (search rules, omega arith, claims_journal g.F.Framed g.J.Journaled _ _ _ _ _ (omega arith) (λ e. absurd (omega arith)))
+compare_exchange-requires g c = (
+  search rules,
+  omega arith,
+  claims_journal g.F.Framed g.J.Journaled _ _ _ _ _ (omega arith) (λ e. absurd (omega arith)),
+)
 
 pub exchange-slot-requires : goal.exchange-slot-requires
 exchange-slot-requires g c =

@@ -14,9 +14,12 @@ new-requires g c =
     let key = c.of-start.result in
     let about : key.value ≡ c.args.journal = c.of-start.ensures in
     let words : c.as_slice.result.now ≡ replicate (length c.args.frames.items + 2) 0 = search rules in
-    let slots : c.in_ok-slots.slots.items ≡ map Frame c.args.frames.items ++ Journal c.args.journal ∷ Away ∷ [] = search rules in
+    let slots : c.in_ok-slots.slots.items ≡ map Frame c.args.frames.items ++ Journal c.args.journal ∷ Away ∷ [] =
+    search rules in
     let is : c.in_ok-slots.slots.items ≡ map Frame c.args.frames.items ++ Journal key.value ∷ Away ∷ []
     = slots ∙ ap (λ b. map Frame c.args.frames.items ++ Journal b ∷ Away ∷ []) (sym about) in
-    subst (λ (p : List ℕ × List (Slot g.row.F.Denot g.row.J.Denot)). Kept g.F.Framed g.J.Journaled key.value (opening p.0 p.1 (first_state key)))
+    subst (λ (p : List ℕ × List (Slot g.row.F.Denot g.row.J.Denot)). Kept g.F.Framed g.J.Journaled key.value
+    (opening p.0 p.1 (first_state key)))
     (λ i. (sym words i, sym is i))
-    (starts g.F.Framed g.J.Journaled c.args.frames.items key (subst (CanLie g.F.Framed g.J.Journaled c.args.frames.items) (sym about) c.requires.lie))
+    (starts g.F.Framed g.J.Journaled c.args.frames.items key
+    (subst (CanLie g.F.Framed g.J.Journaled c.args.frames.items) (sym about) c.requires.lie))

@@ -12,6 +12,7 @@ load-requires g c =
 pub returns-clause-opened : goal.returns-clause-opened
 returns-clause-opened g c key is =
     let told = c.load.ensures.2 key (ap (λ m. m.0.start) is) in (
-      subst (λ (v : PassState g.row.J.Denot). HasOpened g.J.Journaled key.value v c.load.new.seat.me.0) (ap (λ m. m.0) is) told.0,
+      subst (λ (v : PassState g.row.J.Denot). HasOpened g.J.Journaled key.value v c.load.new.seat.me.0)
+          (ap (λ m. m.0) is) told.0,
       told.1 ∙ ap (λ m. m.1) is,
     )

@@ -4,5 +4,8 @@ use Rattle.latch_table.proofs.works.put_work.Goals as goal
 
 pub store-requires : goal.store-requires
 store-requires g c =
-    let r = c.requires.right in
-    (search rules, omega arith, gives_work g.F.Framed g.J.Journaled _ _ _ _ r.0 _ (omega arith) (λ e. absurd (omega arith)) r.1)
+    let r = c.requires.right in (
+      search rules,
+      omega arith,
+      gives_work g.F.Framed g.J.Journaled _ _ _ _ r.0 _ (omega arith) (λ e. absurd (omega arith)) r.1,
+    )

@@ -14,5 +14,6 @@ with-pass-requires g c =
 pub returns-clause-pass : goal.returns-clause-pass
 returns-clause-pass g c =
     let took = c.take_waiting-value.ensures.claimed in
-    claimed_by g.F.Framed g.J.Journaled _ c.args.pass.now _ _ _ _ (state c.args.pass.now) c.requires.pass c.requires.may.frame_is c.requires.may.no_journal
+    claimed_by g.F.Framed g.J.Journaled _ c.args.pass.now _ _ _ _
+    (state c.args.pass.now) c.requires.pass c.requires.may.frame_is c.requires.may.no_journal
     refl refl refl refl refl c.take_waiting-value.ensures.same.0 took.0 took.1 c.with-pass.ensures

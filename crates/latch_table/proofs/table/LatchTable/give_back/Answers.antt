@@ -14,8 +14,10 @@ put-requires-clause-table g c =
 pub put-requires-clause-front : goal.put-requires-clause-front
 put-requires-clause-front g c =
     let n = c.requires.noted in
-    let t = front_of _ c.args.pass.now c.args.frame n.0 c.requires.pass c.requires.no_journal n.1 n.2 in
-    (t.0, ap (λ m. m.1) c.turn.ensures.2 ∙ ap (λ k. turned_by k c.args.pass.now.seat.me.1) c.position-behind.ensures ∙ t.1)
+    let t = front_of _ c.args.pass.now c.args.frame n.0 c.requires.pass c.requires.no_journal n.1 n.2 in (
+      t.0,
+      ap (λ m. m.1) c.turn.ensures.2 ∙ ap (λ k. turned_by k c.args.pass.now.seat.me.1) c.position-behind.ensures ∙ t.1,
+    )
 
 pub overflow_sub-count : goal.overflow_sub-count
 overflow_sub-count g c =
@@ -44,8 +46,11 @@ returns-clause-pass g c =
     let n = c.requires.noted in
     gave_pass _ c.args.pass.now _ c.args.frame n.0 c.requires.pass c.requires.no_journal n.1 n.2
     (c.turn-2.ensures.0 ∙ c.put.ensures.0 ∙ c.turn.ensures.0)
-    (ap (λ m. m.0) c.turn-2.ensures.2 ∙ ap (λ m. m.0) c.put.ensures.2 ∙ ap (λ m. without_frame c.args.frame m.0) c.turn.ensures.2)
-    (ap (λ m. m.1) c.turn-2.ensures.2 ∙ ap (λ m. turned_by (c.count-count.result - 1 - c.position-behind.result) m.1) c.put.ensures.2
+    (ap (λ m. m.0) c.turn-2.ensures.2 ∙ ap (λ m. m.0) c.put.ensures.2
+    ∙ ap (λ m. without_frame c.args.frame m.0) c.turn.ensures.2)
+    (ap (λ m. m.1) c.turn-2.ensures.2
+    ∙ ap (λ m. turned_by (c.count-count.result - 1 - c.position-behind.result) m.1) c.put.ensures.2
     ∙ ap (λ m. turned_by (c.count-count.result - 1 - c.position-behind.result) (rest m.1)) c.turn.ensures.2
-    ∙ ap (λ (p : ℕ × ℕ). turned_by (p.0 - 1 - p.1) (rest (turned_by p.1 c.args.pass.now.seat.me.1))) (λ i. (c.count-count.ensures i, c.position-behind.ensures i)))
+    ∙ ap (λ (p : ℕ × ℕ). turned_by (p.0 - 1 - p.1) (rest (turned_by p.1 c.args.pass.now.seat.me.1)))
+    (λ i. (c.count-count.ensures i, c.position-behind.ensures i)))
     c.without-pass.ensures

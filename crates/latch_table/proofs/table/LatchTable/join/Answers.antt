@@ -14,12 +14,16 @@ join_seat-requires g c =
       c.requires.other.table,
       idle_out _ c.args.other c.requires.other i,
       omega (arith, c.args.self.now.words, c.args.self.now.last),
-      joins g.F.Framed g.J.Journaled _ _ _ _ _ (λ e. absurd (omega arith)) c.requires.pass.seen i.frames i.journal_is i.work i.pin,
+      joins g.F.Framed g.J.Journaled _ _ _ _ _
+          (λ e. absurd (omega arith)) c.requires.pass.seen i.frames i.journal_is i.work i.pin,
     )
 
 pub load-requires : goal.load-requires
-load-requires g c =
-    (c.join_seat.ensures.0 ∙ c.requires.pass.table, omega (arith, c.args.self.now.words, c.args.self.now.last), looks g.F.Framed g.J.Journaled _ _ _ _)
+load-requires g c = (
+  c.join_seat.ensures.0 ∙ c.requires.pass.table,
+  omega (arith, c.args.self.now.words, c.args.self.now.last),
+  looks g.F.Framed g.J.Journaled _ _ _ _,
+)
 
 pub returns-clause-both : goal.returns-clause-both
 returns-clause-both g c = ap (λ m. m.0) c.load.ensures.2.0 ∙ ap (λ m. m.0) c.join_seat.ensures.2
@@ -31,7 +35,8 @@ returns-clause-this g c =
     let now = ap (λ m. m.0) c.join_seat.ensures.2 in
     let met = ap (λ (x : PassState g.row.J.Denot). x.met) now in
     let seen = ap (λ (x : PassState g.row.J.Denot). x.seen) now in
-    let t = c.load.ensures.2.1 v.seen (subst (In v.seen) (sym met) (inl refl)) (subst (λ (l : Log). length v.seen ≤ length l) (sym seen) (longer_left v.seen w.seen)) in
+    let t = c.load.ensures.2.1 v.seen (subst (In v.seen) (sym met) (inl refl))
+    (subst (λ (l : Log). length v.seen ≤ length l) (sym seen) (longer_left v.seen w.seen)) in
     (t.0, ap (λ m. m.0.seen) c.load.ensures.2.0 ∙ t.1)
 
 pub returns-clause-that : goal.returns-clause-that
@@ -41,7 +46,8 @@ returns-clause-that g c =
     let now = ap (λ m. m.0) c.join_seat.ensures.2 in
     let met = ap (λ (x : PassState g.row.J.Denot). x.met) now in
     let seen = ap (λ (x : PassState g.row.J.Denot). x.seen) now in
-    let t = c.load.ensures.2.1 w.seen (subst (In w.seen) (sym met) (inr (inl refl))) (subst (λ (l : Log). length w.seen ≤ length l) (sym seen) (longer_right v.seen w.seen)) in
+    let t = c.load.ensures.2.1 w.seen (subst (In w.seen) (sym met) (inr (inl refl)))
+    (subst (λ (l : Log). length w.seen ≤ length l) (sym seen) (longer_right v.seen w.seen)) in
     (t.0, ap (λ m. m.0.seen) c.load.ensures.2.0 ∙ t.1)
 
 pub returns-clause-pass : goal.returns-clause-pass

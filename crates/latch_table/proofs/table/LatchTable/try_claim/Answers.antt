@@ -15,11 +15,13 @@ with-pass-requires g c =
 pub returns-clause-pass : goal.returns-clause-pass
 returns-clause-pass g c =
     let took = c.in_ok-value.ensures.claimed in
-    claimed_by g.F.Framed g.J.Journaled _ c.args.pass.now _ _ _ _ (found_by true c.args.frame took.0 (state c.args.pass.now)) c.requires.pass c.requires.may.frame_is c.requires.may.no_journal
+    claimed_by g.F.Framed g.J.Journaled _ c.args.pass.now _ _ _ _ (found_by true c.args.frame took.0
+    (state c.args.pass.now)) c.requires.pass c.requires.may.frame_is c.requires.may.no_journal
     refl refl refl refl refl c.take.ensures.same.0 took.1.1 took.1.2 c.with-pass.ensures
 
 pub returns-in_err-value-clause-pass : goal.returns-in_err-value-clause-pass
 returns-in_err-value-clause-pass g c =
     let t = c.in_err-value.ensures.claimed in
-    like_pass _ c.args.pass.now _ (found_by true c.args.frame t.0 (state c.args.pass.now)) c.requires.pass c.in_err-value.ensures.same.0 (ap (λ m. m.0) t.1.1)
+    like_pass _ c.args.pass.now _ (found_by true c.args.frame t.0 (state c.args.pass.now)) c.requires.pass
+    c.in_err-value.ensures.same.0 (ap (λ m. m.0) t.1.1)
     refl refl refl refl refl (ap (λ m. m.1) t.1.1) refl
