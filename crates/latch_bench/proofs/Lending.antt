@@ -1,5 +1,6 @@
 -- Values of frames in a row, where one is claimed or given back.
-use Rattle.std.proofs.Common.{◌≡◌, ◌≢◌, ℕ, zero, suc, ◌+◌, ◌<◌, ◌≤◌, cond, List, [], ◌∷◌, length, get_or, set, refl, sym, ap, subst, ◌∙◌, inl, inr, ⊎_elim, arith, eq-eqb, ne_eqb, length-set}
+use Rattle.std.proofs.Common.{◌≡◌, ◌≢◌, ℕ, zero, suc, ◌+◌, ◌<◌, cond, List, [], ◌∷◌, length, get_or, set, refl}
+use Rattle.std.proofs.Common.{sym, ap, subst, ◌∙◌, inl, inr, ⊎_elim, arith, eq-eqb, ne_eqb, length-set}
 use Rattle.std.specs.Prelude.{Option, Some, None}
 use mathlib.Core.Logic.{dite}
 use mathlib.Core.Option.{some, some-ne-none}
@@ -34,19 +35,25 @@ in_without k f (g ∷ fs) i ne = dite (ℕ_discrete g.frame k)
 fewer : (k : ℕ) (f : Note) (fs : List Note) → In f fs → f.frame ≡ k → suc (length (without k fs)) ≡ length fs
 fewer k f [] i at = absurd i
 fewer k f (g ∷ fs) i at = dite (ℕ_discrete g.frame k)
-    (λ (e : g.frame ≡ k). subst (λ b. suc (length (cond b fs (g ∷ without k fs))) ≡ suc (length fs)) (sym (eq-eqb g.frame k e)) refl)
+    (λ (e : g.frame ≡ k). subst (λ b. suc (length (cond b fs (g ∷ without k fs))) ≡ suc (length fs))
+    (sym (eq-eqb g.frame k e)) refl)
     (λ off. subst (λ b. suc (length (cond b fs (g ∷ without k fs))) ≡ suc (length fs)) (sym (ne_eqb g.frame k off))
-    (⊎_elim (λ (same : f ≡ g). absurd (off (sym (ap (λ (n : Note). n.frame) same) ∙ at))) (λ j. ap suc (fewer k f fs j at)) i))
+    (⊎_elim (λ (same : f ≡ g). absurd (off (sym (ap (λ (n : Note). n.frame) same) ∙ at)))
+    (λ j. ap suc (fewer k f fs j at)) i))
 
-taken_more : (xs : List (Option Leaf)) (k : ℕ) (x : Leaf) → get_elem? xs k ≡ some None → taken (set xs k (Some x)) ≡ suc (taken xs)
+taken_more : (xs : List (Option Leaf)) (k : ℕ) (x : Leaf) → get_elem? xs k ≡ some None
+    → taken (set xs k (Some x)) ≡ suc (taken xs)
 taken_more [] k x e = absurd (some-ne-none None (sym e))
-taken_more (y ∷ xs) zero x e = let q : y ≡ None = cc e in subst (λ (z : Option Leaf). suc (taken xs) ≡ suc (taken (z ∷ xs))) (sym q) refl
+taken_more (y ∷ xs) zero x e =
+    let q : y ≡ None = cc e in subst (λ (z : Option Leaf). suc (taken xs) ≡ suc (taken (z ∷ xs))) (sym q) refl
 taken_more (None ∷ xs) (suc k) x e = taken_more xs k x e
 taken_more (Some y ∷ xs) (suc k) x e = ap suc (taken_more xs k x e)
 
-taken_less : (xs : List (Option Leaf)) (k : ℕ) (x : Leaf) → get_elem? xs k ≡ some (Some x) → suc (taken (set xs k None)) ≡ taken xs
+taken_less : (xs : List (Option Leaf)) (k : ℕ) (x : Leaf) → get_elem? xs k ≡ some (Some x)
+    → suc (taken (set xs k None)) ≡ taken xs
 taken_less [] k x e = absurd (some-ne-none (Some x) (sym e))
-taken_less (y ∷ xs) zero x e = let q : y ≡ Some x = cc e in subst (λ (z : Option Leaf). suc (taken xs) ≡ taken (z ∷ xs)) (sym q) refl
+taken_less (y ∷ xs) zero x e =
+    let q : y ≡ Some x = cc e in subst (λ (z : Option Leaf). suc (taken xs) ≡ taken (z ∷ xs)) (sym q) refl
 taken_less (None ∷ xs) (suc k) x e = taken_less xs k x e
 taken_less (Some y ∷ xs) (suc k) x e = ap suc (taken_less xs k x e)
 
@@ -57,7 +64,8 @@ taken_none (y ∷ xs) all =
     subst (λ (z : Option Leaf). taken (z ∷ xs) ≡ 0) (sym q) (taken_none xs (λ k lt. all (suc k) (omega arith)))
 
 -- one more frame is claimed, at a place without a value
-pub lent_more : (notes : List Note) (base k : ℕ) (row : List (Option Leaf)) (note : Note) (x : Leaf) → AreLent notes base row
+pub lent_more : (notes : List Note) (base k : ℕ) (row : List (Option Leaf)) (note : Note) (x : Leaf)
+    → AreLent notes base row
     → get_elem? row k ≡ some None → note.frame ≡ base + k → x.page ≡ note.page → note.bytes ≡ []
     → AreLent (note ∷ notes) base (set row k (Some x))
 lent_more notes base k row note x a empty frame page bytes = record {

@@ -1,5 +1,5 @@
 -- Passes that hold nothing, or frames alone.
-use Rattle.std.specs.Prelude.{◌≡◌, ℕ, None}
+use Rattle.std.specs.Prelude.{◌≡◌, None}
 use Rattle.atomic_table.specs.Seated.{TableId}
 use Rattle.latch_table.specs.declared.pass.Pass.{Pass}
 use Rattle.latch_table.specs.declared.states.PassState.{PassState}

@@ -1,5 +1,5 @@
 // Threads, each with a pass of its own.
-ghost use Rattle.std.specs.Prelude.{◌≡◌, ◌<◌, ◌+◌, ℕ, All, length, slice_index_or, IfOk};
+ghost use Rattle.std.specs.Prelude.{◌≡◌, ◌<◌, ◌+◌, All, length, IfOk};
 ghost use Rattle.latch_table.specs.Passes.{state};
 ghost use Rattle.latch_bench.specs.Hands.{IsFree, IsReady};
 

@@ -23,4 +23,5 @@ pub returns-in-None-clause-alike : goal.returns-in-None-clause-alike
 returns-in-None-clause-alike g c =
     let h = c.claim_journal-tally.ensures.claimed in
     alike_looked _ _ _ c.claim_journal-tally.result _ h
-    (c.give_back_journal-in-None.ensures.given c.claim_journal-tally.result (ap (λ (v : PassState Tally). v.journal) h.state))
+    (c.give_back_journal-in-None.ensures.given c.claim_journal-tally.result
+    (ap (λ (v : PassState Tally). v.journal) h.state))
