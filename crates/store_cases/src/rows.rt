@@ -1,6 +1,7 @@
 // Rows of text, one a line, and what their words stand for. A row's fields are parted by `|`.
 ghost use Rattle.std.specs.Prelude.{◌≡◌, length, IfOk};
 
+use hex::FromHexError;
 use page_types::PAGE_BYTES;
 use std::alloc::{AllocError, Global};
 use std::process::Abort;
@@ -64,29 +65,17 @@ pub(crate) fn numbers(alloc: Global, words: &str) -> Result<Vec<u64>, AllocError
     Ok(all)
 }
 
-/// The number that a digit of hexadecimal stands for.
-fn digit(byte: u8) -> u8 {
-    match byte {
-        b'0'..=b'9' => byte - b'0',
-        b'a'..=b'f' => byte - b'a' + 10,
-        _ => 0,
-    }
-}
-
-/// Appends the bytes that a word stands for: two digits a byte, or a byte and how many times it is there.
+/// Appends the bytes that a word stands for: two digits a byte, or a byte and how many times it is
+/// there. Other words stand for none, so that their row fails.
 fn put_word(out: &mut Vec<u8>, word: &str) -> Result<(), AllocError> {
     let (digits, times) = word.split_once('*').unwrap_or((word, "1"));
-    let times = number(times);
-    let mut high = None;
-    for byte in digits.bytes() {
-        let low = digit(byte);
-        let Some(half) = high.take() else {
-            high = Some(low);
-            continue;
-        };
-        for _ in 0..times {
-            out.push(half << 4 | low)?;
-        }
+    let bytes = match hex::decode(*out.allocator(), digits) {
+        Ok(bytes) => bytes,
+        Err(FromHexError::OutOfMemory) => return Err(AllocError),
+        Err(_) => return Ok(()),
+    };
+    for _ in 0..number(times) {
+        out.extend_from_slice(&bytes)?;
     }
     Ok(())
 }
