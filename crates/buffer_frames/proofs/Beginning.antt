@@ -1,5 +1,6 @@
 -- What the images of a journal's device open to, call by call.
-use Rattle.std.proofs.Common.{◌≡◌, ◌⊎◌, ◌≤◌, Bool, inl, inr, ⊎_elim, ℕ, List, [], ◌∷◌, ◌++◌, refl, sym, ap, subst, ◌∙◌, arith, append-nil, append_assoc, length, length-append}
+use Rattle.std.proofs.Common.{◌≡◌, ◌⊎◌, ◌≤◌, Bool, inl, inr, ⊎_elim, ℕ, List, [], ◌∷◌, ◌++◌, refl, sym, ap, subst, ◌∙◌}
+use Rattle.std.proofs.Common.{arith, append-nil, append_assoc, length, length-append}
 use Rattle.std.proofs.lemmas.Bool.{cases_lt}
 use Rattle.std.proofs.lemmas.List.{reverse-reverse}
 use Rattle.std.specs.Prelude.{Option, Some, None, reverse}
@@ -45,7 +46,8 @@ same_opens one f K H a b =
     (subst (λ (l : Log). IsHistory l H) (sym (one f.log a.records b.records a.counted b.counted)) b.log_of.history)
 
 -- files whose log counts the same records, beside the same pages
-opens_as : CountedAreOne → (old new : Files) (R : Log) (H : History) → OpensTo old H → IsCounted old.log R → IsCounted new.log R
+opens_as : CountedAreOne → (old new : Files) (R : Log) (H : History) → OpensTo old H → IsCounted old.log R
+    → IsCounted new.log R
     → new.pages ≡ old.pages → OpensTo new H
 opens_as one old new R H o was is pages =
     let same : o.records ≡ R = one old.log o.records R o.counted was in
@@ -53,20 +55,24 @@ opens_as one old new R H o was is pages =
       records = R;
       counted = is;
       log_of = subst (λ (l : Log). IsLogOf l H) same o.log_of;
-      pages = subst (λ (l : List ℕ). PagesStand R l) (sym pages) (subst (λ (l : Log). PagesStand l old.pages) same o.pages);
+      pages =
+          subst (λ (l : List ℕ). PagesStand R l) (sym pages) (subst (λ (l : Log). PagesStand l old.pages) same o.pages);
     }
 
 -- and those whose log counts more of them
-opens_more : CountedAreOne → (old new : Files) (more R S : Log) (K H : History) → S ≡ more ++ R → OpensTo old K → IsCounted old.log R → IsCounted new.log S
+opens_more : CountedAreOne → (old new : Files) (more R S : Log) (K H : History) → S ≡ more ++ R → OpensTo old K
+    → IsCounted old.log R → IsCounted new.log S
     → new.pages ≡ old.pages → IsLogOf S H → OpensTo new H
 opens_more one old new more R S K H parts o was is pages log =
     let same : o.records ≡ R = one old.log o.records R o.counted was in
-    let beside : PagesStand (more ++ R) old.pages = stands_beside_more more R H old.pages (subst (λ (l : Log). IsLogOf l H) parts log) (subst (λ (l : Log). PagesStand l old.pages) same o.pages) in
+    let beside : PagesStand (more ++ R) old.pages = stands_beside_more more R H old.pages
+    (subst (λ (l : Log). IsLogOf l H) parts log) (subst (λ (l : Log). PagesStand l old.pages) same o.pages) in
     record {
       records = S;
       counted = is;
       log_of = log;
-      pages = subst (λ (l : List ℕ). PagesStand S l) (sym pages) (subst (λ (l : Log). PagesStand l old.pages) (sym parts) beside);
+      pages = subst (λ (l : List ℕ). PagesStand S l) (sym pages)
+          (subst (λ (l : Log). PagesStand l old.pages) (sym parts) beside);
     }
 
 -- the log of a store that was opened
@@ -76,31 +82,51 @@ opened_is_log (r ∷ R) H l = l
 
 module _ {D : Type 0} (device : Disk D) (one : CountedAreOne) where
   -- what counts in each image of a log that is up
-  image_counted : (j : JournalValue D) (R : Log) (s : Stands device j R) → device.tells → down_of j.wal ≡ None → (c : Files) → images_now device j.disk c → IsCounted c.log s.counted
+  image_counted : (j : JournalValue D) (R : Log) (s : Stands device j R) → device.tells → down_of j.wal ≡ None
+      → (c : Files) → images_now device j.disk c → IsCounted c.log s.counted
   image_counted j R s t up c left =
-      let was : (batches : List (List ℕ)) × Settled device batches (end_of j.wal) j.disk × AreRecords batches s.counted = s.settled t up in
+      let was : (batches : List (List ℕ)) × Settled device batches (end_of j.wal) j.disk
+      × AreRecords batches s.counted = s.settled t up in
       record {
         batches = was.0;
-        opens = inr (record { commit_byte = was.1.commit_byte; rest = was.1.rest; split = was.1.log.durable c left; unset = was.1.unset; fit = was.1.fit });
+        opens = inr (record {
+          commit_byte = was.1.commit_byte;
+          rest = was.1.rest;
+          split = was.1.log.durable c left;
+          unset = was.1.unset;
+          fit = was.1.fit;
+        });
         records = was.2;
       }
 
   -- where the device says what it holds, a journal that is up stands for one log
-  pub stands_one : ((d : D) → images_now device d (device.seen d)) → (j : JournalValue D) (R S : Log) → Stands device j R → Stands device j S → device.tells → down_of j.wal ≡ None → R ≡ S
+  pub stands_one : ((d : D) → images_now device d (device.seen d)) → (j : JournalValue D) (R S : Log)
+      → Stands device j R → Stands device j S → device.tells → down_of j.wal ≡ None → R ≡ S
   stands_one law j R S r s t up =
-      let counted : r.counted ≡ s.counted = one (device.seen j.disk).log r.counted s.counted (image_counted j R r t up (device.seen j.disk) (law j.disk)) (image_counted j S s t up (device.seen j.disk) (law j.disk)) in
-      let turned : reverse r.waits ≡ reverse s.waits = one_batch (waiting j.wal) (reverse r.waits) (reverse s.waits) (r.waiting_is up) (s.waiting_is up) in
+      let counted : r.counted ≡ s.counted = one (device.seen j.disk).log r.counted s.counted (image_counted j R r t up
+      (device.seen j.disk) (law j.disk)) (image_counted j S s t up (device.seen j.disk) (law j.disk)) in
+      let turned : reverse r.waits ≡ reverse s.waits =
+      one_batch (waiting j.wal) (reverse r.waits) (reverse s.waits) (r.waiting_is up) (s.waiting_is up) in
       let waits : r.waits ≡ s.waits = sym (reverse-reverse r.waits) ∙ ap reverse turned ∙ reverse-reverse s.waits in
       r.all ∙ ap (λ (l : Log). l ++ r.counted) waits ∙ ap (λ (l : Log). s.waits ++ l) counted ∙ sym s.all
 
   -- an image of a flush opens to what an image before it did, or to the whole history
-  flush_image : (j : JournalValue D) (found : History) (k : KeepsBeginnings device j found) → device.tells → down_of j.wal ≡ None → (c : Files) → CountsEither device j.disk k.stands.counted k.log c
+  flush_image : (j : JournalValue D) (found : History) (k : KeepsBeginnings device j found) → device.tells
+      → down_of j.wal ≡ None → (c : Files) → CountsEither device j.disk k.stands.counted k.log c
       → (kept : History) × OpensTo c kept × Begins found kept × Begins kept k.history
   flush_image j found k t up c either =
       let b = k.images (device.clock j.disk) either.before k.later (omega arith) either.was in
-      let was : IsCounted either.before.log k.stands.counted = image_counted j k.log k.stands t up either.before either.was in
-      ⊎_elim (λ (is : IsCounted c.log k.stands.counted). (b.0, opens_as one either.before c k.stands.counted b.0 b.1 was is either.pages, b.2, b.3))
-      (λ (is : IsCounted c.log k.log). (k.history, opens_more one either.before c k.stands.waits k.stands.counted k.log b.0 k.history k.stands.all b.1 was is either.pages k.log_of, k.goes_on, begins_all k.history))
+      let was : IsCounted either.before.log k.stands.counted =
+      image_counted j k.log k.stands t up either.before either.was in
+      ⊎_elim (λ (is : IsCounted c.log k.stands.counted).
+      (b.0, opens_as one either.before c k.stands.counted b.0 b.1 was is either.pages, b.2, b.3))
+      (λ (is : IsCounted c.log k.log). (
+        k.history,
+        opens_more one either.before c k.stands.waits k.stands.counted k.log b.0 k.history k.stands.all b.1 was is
+            either.pages k.log_of,
+        k.goes_on,
+        begins_all k.history,
+      ))
       either.log_is
 
   -- what a crash now leaves has the commits that are flushed
@@ -109,24 +135,31 @@ module _ {D : Type 0} (device : Disk D) (one : CountedAreOne) where
       let k = keeps t found opens in
       let now : m ≡ device.clock j.disk = omega (arith, ge, le) in
       let b = k.images m f (omega (arith, k.later, ge)) le left in
-      let is : IsCounted f.log k.stands.counted = image_counted j k.log k.stands t up f (subst (λ (x : ℕ). device.image j.disk x f) now left) in
+      let is : IsCounted f.log k.stands.counted =
+      image_counted j k.log k.stands t up f (subst (λ (x : ℕ). device.image j.disk x f) now left) in
       let same : b.1.records ≡ k.stands.counted = one f.log b.1.records k.stands.counted b.1.counted is in
       let log_of : IsLogOf k.stands.counted b.0 = subst (λ (l : Log). IsLogOf l b.0) same b.1.log_of in
-      let commits : commits_in j.state k.stands.counted ≡ length b.0 = (state_is_of j.state.pages j.state.xid_limit k.stands.counted b.0 log_of).commits_are in
+      let commits : commits_in j.state k.stands.counted ≡ length b.0 =
+      (state_is_of j.state.pages j.state.xid_limit k.stands.counted b.0 log_of).commits_are in
       (b.0, b.1, omega (arith, k.stands.flushed up, commits))
 
   -- an image of a flush has what the images before it had
-  reached_image : (j : JournalValue D) (found : History) (k : KeepsBeginnings device j found) → device.tells → down_of j.wal ≡ None → (f : Files) → CountsEither device j.disk k.stands.counted k.log f
-      → (c commits : ℕ) → c ≤ device.clock j.disk → HasSince device c commits j.disk → (kept : History) × OpensTo f kept × (commits ≤ length kept)
+  reached_image : (j : JournalValue D) (found : History) (k : KeepsBeginnings device j found) → device.tells
+      → down_of j.wal ≡ None → (f : Files) → CountsEither device j.disk k.stands.counted k.log f
+      → (c commits : ℕ) → c ≤ device.clock j.disk → HasSince device c commits j.disk
+      → (kept : History) × OpensTo f kept × (commits ≤ length kept)
   reached_image j found k t up f either c commits early has =
       let b = has (device.clock j.disk) either.before early (omega arith) either.was in
       let d = k.images (device.clock j.disk) either.before k.later (omega arith) either.was in
       let same : length b.0 ≡ length d.0 = ap length (same_opens one either.before b.0 d.0 b.1 d.1) in
-      let was : IsCounted either.before.log k.stands.counted = image_counted j k.log k.stands t up either.before either.was in
-      ⊎_elim (λ (is : IsCounted f.log k.stands.counted). (b.0, opens_as one either.before f k.stands.counted b.0 b.1 was is either.pages, b.2))
+      let was : IsCounted either.before.log k.stands.counted =
+      image_counted j k.log k.stands t up either.before either.was in
+      ⊎_elim (λ (is : IsCounted f.log k.stands.counted).
+      (b.0, opens_as one either.before f k.stands.counted b.0 b.1 was is either.pages, b.2))
       (λ (is : IsCounted f.log k.log). (
         k.history,
-        opens_more one either.before f k.stands.waits k.stands.counted k.log b.0 k.history k.stands.all b.1 was is either.pages k.log_of,
+        opens_more one either.before f k.stands.waits k.stands.counted k.log b.0 k.history k.stands.all b.1 was is
+            either.pages k.log_of,
         omega (arith, b.2, same, begins_short d.0 k.history d.3),
       ))
       either.log_is
@@ -138,7 +171,9 @@ module _ {D : Type 0} (device : Disk D) (one : CountedAreOne) where
   ]
 
   -- no call of the device
-  pub keeps_still : (j j' : JournalValue D) (found : History) (k : KeepsBeginnings device j found) (log : Log) (history : History) → j'.disk ≡ j.disk → j'.opened ≡ j.opened → Stands device j' log → IsLogOf log history → Begins k.history history
+  pub keeps_still : (j j' : JournalValue D) (found : History) (k : KeepsBeginnings device j found) (log : Log)
+      (history : History) → j'.disk ≡ j.disk → j'.opened ≡ j.opened → Stands device j' log → IsLogOf log history
+      → Begins k.history history
       → KeepsBeginnings device j' found
   keeps_still j j' found k log history disk opened stands log_of longer =
       record {
@@ -147,19 +182,26 @@ module _ {D : Type 0} (device : Disk D) (one : CountedAreOne) where
         stands = stands;
         log_of = log_of;
         goes_on = begins_then found k.history history k.goes_on longer;
-        later = subst (λ (d : D). device.clock d ≤ device.clock j'.disk) (sym opened) (subst (λ (d : D). device.clock j.opened ≤ device.clock d) (sym disk) k.later);
+        later = subst (λ (d : D). device.clock d ≤ device.clock j'.disk) (sym opened)
+            (subst (λ (d : D). device.clock j.opened ≤ device.clock d) (sym disk) k.later);
         images = λ m c ge le left.
-            let b = k.images m c (subst (λ (d : D). device.clock d ≤ m) opened ge) (subst (λ (d : D). m ≤ device.clock d) disk le) (subst (λ (d : D). device.image d m c) disk left) in
+            let b = k.images m c (subst (λ (d : D). device.clock d ≤ m) opened ge)
+            (subst (λ (d : D). m ≤ device.clock d) disk le) (subst (λ (d : D). device.image d m c) disk left) in
             (b.0, b.1, b.2, begins_then b.0 k.history history b.3 longer);
         before = λ m c le left.
-            subst (λ (d : D). device.image d m c) (sym opened) (k.before m c (subst (λ (d : D). m ≤ device.clock d) opened le) (subst (λ (d : D). device.image d m c) disk left));
+            subst (λ (d : D). device.image d m c) (sym opened) (k.before m c
+            (subst (λ (d : D). m ≤ device.clock d) opened le) (subst (λ (d : D). device.image d m c) disk left));
       }
 
   -- a flush
-  pub keeps_flush : (j j' : JournalValue D) (found : History) (k : KeepsBeginnings device j found) (o : Option ℕ) → device.tells → down_of j.wal ≡ o → ((f : ℕ) → down_of j.wal ≡ Some f → j'.disk ≡ j.disk)
-      → (j'.disk ≡ j.disk) ⊎ LeavesOnly device j.disk j'.disk (CountsEither device j.disk k.stands.counted k.log) → j'.opened ≡ j.opened → Stands device j' k.log → KeepsBeginnings device j' found
-  keeps_flush j j' found k (Some f) t is rests left opened stands = keeps_still j j' found k k.log k.history (rests f is) opened stands k.log_of (begins_all k.history)
-  keeps_flush j j' found k None t up rests (inl same) opened stands = keeps_still j j' found k k.log k.history same opened stands k.log_of (begins_all k.history)
+  pub keeps_flush : (j j' : JournalValue D) (found : History) (k : KeepsBeginnings device j found) (o : Option ℕ)
+      → device.tells → down_of j.wal ≡ o → ((f : ℕ) → down_of j.wal ≡ Some f → j'.disk ≡ j.disk)
+      → (j'.disk ≡ j.disk) ⊎ LeavesOnly device j.disk j'.disk (CountsEither device j.disk k.stands.counted k.log)
+      → j'.opened ≡ j.opened → Stands device j' k.log → KeepsBeginnings device j' found
+  keeps_flush j j' found k (Some f) t is rests left opened stands =
+      keeps_still j j' found k k.log k.history (rests f is) opened stands k.log_of (begins_all k.history)
+  keeps_flush j j' found k None t up rests (inl same) opened stands =
+      keeps_still j j' found k k.log k.history same opened stands k.log_of (begins_all k.history)
   keeps_flush j j' found k None t up rests (inr run) opened stands =
       record {
         log = k.log;
@@ -167,26 +209,34 @@ module _ {D : Type 0} (device : Disk D) (one : CountedAreOne) where
         stands = stands;
         log_of = k.log_of;
         goes_on = k.goes_on;
-        later = subst (λ (d : D). device.clock d ≤ device.clock j'.disk) (sym opened) (omega (arith, k.later, run.later));
+        later =
+            subst (λ (d : D). device.clock d ≤ device.clock j'.disk) (sym opened) (omega (arith, k.later, run.later));
         images = λ m c ge le left. elim (cases_lt (device.clock j.disk) m) [
           | inl lt ↦ flush_image j found k t up c (run.each m c (omega arith) le left)
           | inr below ↦ k.images m c (subst (λ (d : D). device.clock d ≤ m) opened ge) below (run.before m c below left)
         ];
         before = λ m c le left.
             let early : m ≤ device.clock j.opened = subst (λ (d : D). m ≤ device.clock d) opened le in
-            subst (λ (d : D). device.image d m c) (sym opened) (k.before m c early (run.before m c (omega (arith, early, k.later)) left));
+            subst (λ (d : D). device.image d m c) (sym opened)
+            (k.before m c early (run.before m c (omega (arith, early, k.later)) left));
       }
 
   -- records that are logged
-  pub keeps_logged : ((d : D) → images_now device d (device.seen d)) → (j j' : JournalValue D) (records : List Record) (found : History) (k : KeepsBeginnings device j found) → device.tells → down_of j.wal ≡ None → (g : GoesOn device j records)
-      → j'.disk ≡ j.disk → j'.opened ≡ j.opened → ((R : Log) → Stands device j R → Stands device j' (logged j.owes records R)) → KeepsBeginnings device j' found
+  pub keeps_logged : ((d : D) → images_now device d (device.seen d))
+      → (j j' : JournalValue D) (records : List Record) (found : History) (k : KeepsBeginnings device j found)
+      → device.tells → down_of j.wal ≡ None → (g : GoesOn device j records)
+      → j'.disk ≡ j.disk → j'.opened ≡ j.opened → ((R : Log) → Stands device j R
+      → Stands device j' (logged j.owes records R)) → KeepsBeginnings device j' found
   keeps_logged law j j' records found k t up g disk opened stands =
       let logs : g.log ≡ k.log = stands_one law j g.log k.log g.stands k.stands t up in
-      let histories : k.history ≡ g.old = history_one g.log k.history g.old (subst (λ (l : Log). IsHistory l k.history) (sym logs) k.log_of.history) g.log_of.history in
-      keeps_still j j' found k (logged j.owes records g.log) g.new disk opened (stands g.log g.stands) g.next (subst (λ (H : History). Begins H g.new) (sym histories) g.longer)
+      let histories : k.history ≡ g.old = history_one g.log k.history g.old
+      (subst (λ (l : Log). IsHistory l k.history) (sym logs) k.log_of.history) g.log_of.history in
+      keeps_still j j' found k (logged j.owes records g.log) g.new disk opened (stands g.log g.stands) g.next
+      (subst (λ (H : History). Begins H g.new) (sym histories) g.longer)
 
   -- an opening
-  pub keeps_opened : ((d : D) → images_now device d (device.seen d)) → device.tells → (settings : Settings) (first : D) (c0 : ℕ) (j : JournalValue D) (map : PageMap) → IsOpenedAt device settings first c0 j map → j.opened ≡ j.disk
+  pub keeps_opened : ((d : D) → images_now device d (device.seen d)) → device.tells → (settings : Settings) (first : D)
+      (c0 : ℕ) (j : JournalValue D) (map : PageMap) → IsOpenedAt device settings first c0 j map → j.opened ≡ j.disk
       → (found : History) → OpensTo (device.seen j.opened) found → KeepsBeginnings device j found
   keeps_opened law t settings first c0 j map o opened found opens =
       let told = o.told t in
@@ -202,28 +252,37 @@ module _ {D : Type 0} (device : Disk D) (one : CountedAreOne) where
         later = subst (λ (d : D). device.clock d ≤ device.clock j.disk) (sym opened) (omega arith);
         images = λ m c ge le left.
             let ge' : device.clock j.disk ≤ m = subst (λ (d : D). device.clock d ≤ m) opened ge in
-            let now = told.late m c (omega (arith, told.began.1, ge')) le left in
-            (found, opens_as one (device.seen j.disk) c o.counted found here seen.0 now.0 (now.1 ∙ sym seen.1), begins_all found, begins_all found);
+            let now = told.late m c (omega (arith, told.began.1, ge')) le left in (
+              found,
+              opens_as one (device.seen j.disk) c o.counted found here seen.0 now.0 (now.1 ∙ sym seen.1),
+              begins_all found,
+              begins_all found,
+            );
         before = λ m c le left. subst (λ (d : D). device.image d m c) (sym opened) left;
       }
 
   -- the same of a journal's invariant: with no call of the device
-  pub still_keeps : (i i' : JournalValue D) → i'.disk ≡ i.disk → i'.opened ≡ i.opened → ((R : Log) → Stands device i R → Stands device i' R) → KeepsHistory device i → KeepsHistory device i'
+  pub still_keeps : (i i' : JournalValue D) → i'.disk ≡ i.disk → i'.opened ≡ i.opened
+      → ((R : Log) → Stands device i R → Stands device i' R) → KeepsHistory device i → KeepsHistory device i'
   still_keeps i i' disk opened stands keeps t found opens =
       let k = keeps t found (subst (λ (d : D). OpensTo (device.seen d) found) opened opens) in
       keeps_still i i' found k k.log k.history disk opened (stands k.log k.stands) k.log_of (begins_all k.history)
 
   -- with a flush
-  pub flush_keeps : (i i' : JournalValue D) → i'.opened ≡ i.opened → ((f : ℕ) → down_of i.wal ≡ Some f → i'.disk ≡ i.disk)
-      → (device.tells → (R : Log) (s : Stands device i R) → (i'.disk ≡ i.disk) ⊎ LeavesOnly device i.disk i'.disk (CountsEither device i.disk s.counted R))
+  pub flush_keeps : (i i' : JournalValue D) → i'.opened ≡ i.opened
+      → ((f : ℕ) → down_of i.wal ≡ Some f → i'.disk ≡ i.disk)
+      → (device.tells → (R : Log) (s : Stands device i R)
+      → (i'.disk ≡ i.disk) ⊎ LeavesOnly device i.disk i'.disk (CountsEither device i.disk s.counted R))
       → ((R : Log) → Stands device i R → Stands device i' R) → KeepsHistory device i → KeepsHistory device i'
   flush_keeps i i' opened rests moments stands keeps t found opens =
       let k = keeps t found (subst (λ (d : D). OpensTo (device.seen d) found) opened opens) in
       keeps_flush i i' found k (down_of i.wal) t refl rests (moments t k.log k.stands) opened (stands k.log k.stands)
 
   -- and with records that are logged
-  pub logged_keeps : (device.tells → (d : D) → images_now device d (device.seen d)) → (i j i' : JournalValue D) (records : List Record) → i ≡ j → down_of j.wal ≡ None → MayGoOn device j records
-      → i'.disk ≡ i.disk → i'.opened ≡ i.opened → ((R : Log) → Stands device i R → Stands device i' (logged i.owes records R)) → KeepsHistory device i → KeepsHistory device i'
+  pub logged_keeps : (device.tells → (d : D) → images_now device d (device.seen d))
+      → (i j i' : JournalValue D) (records : List Record) → i ≡ j → down_of j.wal ≡ None → MayGoOn device j records
+      → i'.disk ≡ i.disk → i'.opened ≡ i.opened → ((R : Log) → Stands device i R
+      → Stands device i' (logged i.owes records R)) → KeepsHistory device i → KeepsHistory device i'
   logged_keeps law i j i' records is up follow disk opened stands keeps t found opens =
       let was : OpensTo (device.seen i.opened) found = subst (λ (d : D). OpensTo (device.seen d) found) opened opens in
       let up' : down_of i.wal ≡ None = ap (λ (x : JournalValue D). down_of x.wal) is ∙ up in
@@ -231,7 +290,8 @@ module _ {D : Type 0} (device : Disk D) (one : CountedAreOne) where
       keeps_logged (law t) i i' records found (keeps t found was) t up' (go t up' found was) disk opened stands
 
   -- what it reads opens to what it opened to on entry
-  pub opens_still : ((d : D) → images_now device d (device.seen d)) → device.tells → (settings : Settings) (first : D) (c0 : ℕ) (j : JournalValue D) (map : PageMap) → IsOpenedAt device settings first c0 j map
+  pub opens_still : ((d : D) → images_now device d (device.seen d)) → device.tells → (settings : Settings) (first : D)
+      (c0 : ℕ) (j : JournalValue D) (map : PageMap) → IsOpenedAt device settings first c0 j map
       → (H : History) → OpensTo (device.seen first) H → OpensTo (device.seen j.disk) H
   opens_still law t settings first c0 j map o H opens =
       let told = o.told t in
@@ -240,7 +300,8 @@ module _ {D : Type 0} (device : Disk D) (one : CountedAreOne) where
 
 module _ {D : Type 0} (device : Disk D) where
   -- the records that follow a journal follow it after a flush
-  pub may_go_on : (i j mid : JournalValue D) (records : List Record) → i ≡ j → down_of j.wal ≡ None → mid.owes ≡ j.owes → mid.opened ≡ j.opened → ((R : Log) → Stands device j R → Stands device mid R)
+  pub may_go_on : (i j mid : JournalValue D) (records : List Record) → i ≡ j → down_of j.wal ≡ None → mid.owes ≡ j.owes
+      → mid.opened ≡ j.opened → ((R : Log) → Stands device j R → Stands device mid R)
       → KeepsHistory device i → MayFollow device j records → MayGoOn device mid records
   may_go_on i j mid records is up owes opened stands keeps follow t up' found opens =
       let all : KeepsHistory device j = subst (λ (x : JournalValue D). KeepsHistory device x) is keeps in

@@ -1,5 +1,6 @@
 -- A log that is read batch by batch into a state and a map.
-use Rattle.std.proofs.Common.{◌≡◌, ℕ, List, [], ◌∷◌, ◌++◌, length, reverse, refl, sym, ap, ap₂, subst, None, Ok, Bool, true, ◌∙◌, inr, arith, length-append}
+use Rattle.std.proofs.Common.{◌≡◌, ℕ, List, [], ◌∷◌, ◌++◌, length, reverse, refl, sym, ap, ap₂, subst, None, Ok, Bool}
+use Rattle.std.proofs.Common.{true, ◌∙◌, inr, arith, length-append}
 use Rattle.disk_trait.specs.Files.{Files}
 use Rattle.disk_trait.specs.declared.device.Disk.{Ghosts as Disk}
 use Rattle.wal.specs.Batches.{front, HasBatches}

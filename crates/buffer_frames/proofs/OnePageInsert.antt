@@ -206,7 +206,8 @@ module _ (R : Log) (H : History) (P : Pages) (number xid place : ℕ) (v : Vecto
     number = omega (arith, m.number_is);
     started = inr m.made;
     rule =
-        RuleHolds.begin (record { here = record { kind_is = refl; pages = refl; next = m.xid_is; bound = m.xid_fits } });
+        RuleHolds.begin
+        (record { here = record { kind_is = refl; pages = refl; next = m.xid_is; bound = m.xid_fits } });
   }
 
   begin_legal : IsLegal (begin ∷ R)

@@ -60,7 +60,8 @@ item_one [] r s item other serial v i j e f = absurd i
 item_one (t ∷ R) r s item other serial v (inl a) (inl b) e f =
     let kinds : r.kind ≡ s.kind = ap (λ (x : Record). x.kind) (a ∙ sym b) in cc
 item_one (t ∷ R) r s item other serial v (inl a) (inr j) e f =
-    let drawn = next_drawn R v.1.before v.1.after t _ _ item serial v.1.rule (sym (ap (λ (x : Record). x.kind) a) ∙ e) in
+    let drawn =
+    next_drawn R v.1.before v.1.after t _ _ item serial v.1.rule (sym (ap (λ (x : Record). x.kind) a) ∙ e) in
     absurd (omega (arith, drawn, (serial_drawn R s other serial v.0 j f).1))
 item_one (t ∷ R) r s item other serial v (inr i) (inl b) e f =
     let drawn =

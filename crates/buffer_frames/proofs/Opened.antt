@@ -1,5 +1,6 @@
 -- What a crash leaves of an opening, and what a journal stands for after it.
-use Rattle.std.proofs.Common.{◌≡◌, inl, inr, ⊎_elim, ◌≤◌, ℕ, Bool, true, false, List, [], ◌∷◌, length, refl, sym, ap, subst, ◌∙◌, arith}
+use Rattle.std.proofs.Common.{◌≡◌, inl, inr, ⊎_elim, ◌≤◌, ℕ, Bool, true, false, List, [], ◌∷◌, length, refl, sym, ap}
+use Rattle.std.proofs.Common.{subst, ◌∙◌, arith}
 use Rattle.std.proofs.lemmas.Bool.{cases_lt}
 use Rattle.std.proofs.lemmas.List.{append-nil}
 use Rattle.disk_trait.specs.Files.{Files}
@@ -33,29 +34,38 @@ use Rattle.buffer_frames.proofs.StoreBefore.{counted_empty}
 
 module _ {D : Type 0} (device : Disk D) where
   -- each image has the pages of one on entry
-  pub runs_keep : device.tells → ((d : D) → images_now device d (device.seen d)) → (first disk : D) → RunsFrom device first disk → KeepsPages device first disk
-  runs_keep told law first disk (inl only) = weaker_run device first disk (images_now device first) (HasPagesOf (images_now device first)) (only.any_moment told) (λ c here. (c, here, refl))
+  pub runs_keep : device.tells → ((d : D) → images_now device d (device.seen d)) → (first disk : D)
+      → RunsFrom device first disk → KeepsPages device first disk
+  runs_keep told law first disk (inl only) = weaker_run device first disk (images_now device first)
+      (HasPagesOf (images_now device first)) (only.any_moment told) (λ c here. (c, here, refl))
   runs_keep told law first disk (inr (c0, run)) =
       then device first run.mid disk (HasPagesOf (images_now device first)) _
-      (weaker_run device first run.mid (images_now device first) (HasPagesOf (images_now device first)) run.synced (λ c here. (c, here, refl)))
+      (weaker_run device first run.mid (images_now device first) (HasPagesOf (images_now device first)) run.synced
+      (λ c here. (c, here, refl)))
       run.rest (λ c left. (device.seen first, law first, left.0))
 
   -- what a read gives of the page file is as it was
-  pub runs_seen : device.tells → ((d : D) → images_now device d (device.seen d)) → (first disk : D) → RunsFrom device first disk → (device.seen disk).pages ≡ (device.seen first).pages
+  pub runs_seen : device.tells → ((d : D) → images_now device d (device.seen d)) → (first disk : D)
+      → RunsFrom device first disk → (device.seen disk).pages ≡ (device.seen first).pages
   runs_seen told law first disk (inl only) = ap (λ (f : Files). f.pages) (only.same told)
-  runs_seen told law first disk (inr (c0, run)) = (run.rest.each (device.clock disk) (device.seen disk) run.rest.later (omega arith) (law disk)).0
+  runs_seen told law first disk (inr (c0, run)) =
+      (run.rest.each (device.clock disk) (device.seen disk) run.rest.later (omega arith) (law disk)).0
 
   -- an image of it opens to what the files did
-  image_opens : OpensToOneList → (first : D) (c : Files) (H : History) → (c.pages ≡ (device.seen first).pages) × IsLogBefore (device.seen first).log c.log → OpensTo (device.seen first) H → OpensTo c H
+  image_opens : OpensToOneList → (first : D) (c : Files) (H : History) → (c.pages ≡ (device.seen first).pages)
+      × IsLogBefore (device.seen first).log c.log → OpensTo (device.seen first) H → OpensTo c H
   image_opens one first c H left opens = record {
     records = opens.records;
-    counted = ⊎_elim (λ (same : c.log ≡ (device.seen first).log). subst (λ (l : List ℕ). IsCounted l opens.records) (sym same) opens.counted)
-        (λ (new : IsUnborn (device.seen first).log × Opens c.log []). counted_empty one (device.seen first).log c.log opens.records new.0 new.1 opens.counted) left.1;
+    counted = ⊎_elim (λ (same : c.log ≡ (device.seen first).log). subst (λ (l : List ℕ). IsCounted l opens.records)
+        (sym same) opens.counted)
+        (λ (new : IsUnborn (device.seen first).log × Opens c.log []). counted_empty one
+        (device.seen first).log c.log opens.records new.0 new.1 opens.counted) left.1;
     log_of = opens.log_of;
     pages = subst (λ (l : List ℕ). PagesStand opens.records l) (sym left.0) opens.pages;
   }
 
-  pub runs_open : device.tells → OpensToOneList → ((d : D) → images_now device d (device.seen d)) → (first disk : D) → RunsFrom device first disk → StartedFrom device first → OpensAsBefore device first disk
+  pub runs_open : device.tells → OpensToOneList → ((d : D) → images_now device d (device.seen d)) → (first disk : D)
+      → RunsFrom device first disk → StartedFrom device first → OpensAsBefore device first disk
   runs_open told one law first disk (inl only) s = record {
     images = λ m c ge le left.
         let here : images_now device first c = (only.any_moment told).each m c ge le left in
@@ -75,7 +85,8 @@ module _ {D : Type 0} (device : Disk D) where
   }
 
   -- the log ends after the batches that count
-  end_told : (disk : D) → OpensToOneList → device.image disk (device.clock disk) (device.seen disk) → (first : D) (c0 : ℕ)
+  end_told : (disk : D) → OpensToOneList → device.image disk (device.clock disk) (device.seen disk)
+      → (first : D) (c0 : ℕ)
       → HasRun device first c0 disk → (read counted : List (List ℕ)) (end : ℕ) → Settled device read end disk
       → Opens (device.seen first).log counted → end ≡ length (front counted)
   end_told disk one here first c0 run read counted end settled opens =
@@ -102,22 +113,28 @@ module _ {D : Type 0} (device : Disk D) where
     store = store;
     end_is = end_told disk one (law disk) first c0 run batches store.counted.batches end settled store.counted.opens;
     began = (omega (arith, run.synced.later, run.at), omega (arith, run.rest.later, run.at));
-    early = λ m c ge lt left. run.synced.each m c ge (omega (arith, run.at, lt)) (run.rest.before m c (omega (arith, run.at, lt)) left);
+    early = λ m c ge lt left. run.synced.each m c ge (omega (arith, run.at, lt))
+        (run.rest.before m c (omega (arith, run.at, lt)) left);
     late = λ m c ge le left.
         let now = run.rest.each m c (omega (arith, run.at, ge)) le left in (
-          ⊎_elim (λ (same : c.log ≡ (device.seen first).log). subst (λ (l : List ℕ). IsCounted l R) (sym same) store.counted)
-              (λ (new : IsUnborn (device.seen first).log × Opens c.log []). counted_empty one (device.seen first).log c.log R new.0 new.1 store.counted) now.1,
+          ⊎_elim (λ (same : c.log ≡ (device.seen first).log). subst (λ (l : List ℕ). IsCounted l R)
+              (sym same) store.counted)
+              (λ (new : IsUnborn (device.seen first).log × Opens c.log []). counted_empty one
+              (device.seen first).log c.log R new.0 new.1 store.counted) now.1,
           now.0,
         );
   }
 
   -- what the journal stands for where records were read
-  goes_on : (settings : Settings) (first disk : D) (wal : Wal) (v : StateValue) (map : PageMap) (R : Log) (n : ℕ) → IsReadAs device settings first disk wal v map R → n ≡ length v.deleted → Stands device (seen_as disk wal v n true disk) R
+  goes_on : (settings : Settings) (first disk : D) (wal : Wal) (v : StateValue) (map : PageMap) (R : Log) (n : ℕ)
+      → IsReadAs device settings first disk wal v map R → n ≡ length v.deleted
+      → Stands device (seen_as disk wal v n true disk) R
   goes_on settings first disk wal v map R n read count =
       let b = state_bounds settings.pages settings.xid_limit R in
       let pages : v.pages ≡ settings.pages = ap (λ (s : StateValue). s.pages) read.state_is ∙ b.0 in
       let limit : v.xid_limit ≡ settings.xid_limit = ap (λ (s : StateValue). s.xid_limit) read.state_is ∙ b.1 in
-      let state : v ≡ state_of v.pages v.xid_limit R = read.state_is ∙ ap (λ (k : ℕ). state_of k settings.xid_limit R) (sym pages) ∙ ap (λ (k : ℕ). state_of v.pages k R) (sym limit) in
+      let state : v ≡ state_of v.pages v.xid_limit R = read.state_is ∙ ap (λ (k : ℕ). state_of k settings.xid_limit R)
+      (sym pages) ∙ ap (λ (k : ℕ). state_of v.pages k R) (sym limit) in
       record {
         counted = R;
         waits = [];
@@ -125,12 +142,15 @@ module _ {D : Type 0} (device : Disk D) where
         numbered = read.numbered;
         state = state;
         flushed = λ up. count ∙ ap (λ (s : StateValue). length s.deleted) state;
-        waiting_is = λ up. subst (λ (w : List ℕ). AreRecordsOf w []) (sym read.fresh.none) (record { each = tt; encoded = refl });
+        waiting_is = λ up. subst (λ (w : List ℕ). AreRecordsOf w []) (sym read.fresh.none)
+            (record { each = tt; encoded = refl });
         settled = λ t up. read.settled t;
       }
 
   -- and where there was none
-  starts : (settings : Settings) (first disk : D) (wal wal' : Wal) (v v' : StateValue) (map : PageMap) (n : ℕ) → IsReadAs device settings first disk wal v map [] → n ≡ length v.deleted → waiting wal' ≡ record_bytes first_record → end_of wal' ≡ end_of wal → v' ≡ step_of first_record v
+  starts : (settings : Settings) (first disk : D) (wal wal' : Wal) (v v' : StateValue) (map : PageMap) (n : ℕ)
+      → IsReadAs device settings first disk wal v map [] → n ≡ length v.deleted
+      → waiting wal' ≡ record_bytes first_record → end_of wal' ≡ end_of wal → v' ≡ step_of first_record v
       → Stands device (seen_as disk wal' v' n false disk) (first_record ∷ [])
   starts settings first disk wal wal' v v' map n read count waits end state =
       let p : ℕ = settings.pages in
@@ -144,17 +164,26 @@ module _ {D : Type 0} (device : Disk D) where
         waits = first_record ∷ [];
         all = refl;
         numbered = (tt, refl);
-        state = now ∙ ap (λ (k : ℕ). state_of k x (first_record ∷ [])) (sym pages) ∙ ap (λ (k : ℕ). state_of v'.pages k (first_record ∷ [])) (sym limit);
+        state = now ∙ ap (λ (k : ℕ). state_of k x (first_record ∷ [])) (sym pages)
+            ∙ ap (λ (k : ℕ). state_of v'.pages k (first_record ∷ [])) (sym limit);
         flushed = λ up. count ∙ ap (λ (s : StateValue). length s.deleted) read.state_is;
-        waiting_is = λ up. subst (λ (w : List ℕ). AreRecordsOf w (first_record ∷ [])) (sym waits) (record { each = (first_encoded, tt); encoded = sym (append-nil (record_bytes first_record)) });
-        settled = λ t up. let was = read.settled t in (was.0, subst (λ (e : ℕ). Settled device was.0 e disk) (sym end) was.1, was.2);
+        waiting_is = λ up. subst (λ (w : List ℕ). AreRecordsOf w (first_record ∷ [])) (sym waits)
+            (record { each = (first_encoded, tt); encoded = sym (append-nil (record_bytes first_record)) });
+        settled = λ t up. let was = read.settled t in
+            (was.0, subst (λ (e : ℕ). Settled device was.0 e disk) (sym end) was.1, was.2);
       }
 
-  pub opened_at : OpensToOneList → (settings : Settings) (first disk : D) (wal wal' : Wal) (v v' : StateValue) (map : PageMap) (R : Log) (n : ℕ) (owes : Bool) → (device.tells → (d : D) → images_now device d (device.seen d)) → IsReadAs device settings first disk wal v map R → (c0 : ℕ) → (device.tells → HasRun device first c0 disk)
-      → device.clock first ≤ device.clock disk → device.fault_count first ≤ device.fault_count disk → device.write_fault_count disk ≡ device.write_fault_count first → AreBelowLast device first disk → n ≡ length v.deleted → HasBegun owes wal wal' v v' → IsOpenedAt device settings first c0 (seen_as disk wal' v' n owes disk) map
+  pub opened_at : OpensToOneList → (settings : Settings) (first disk : D) (wal wal' : Wal) (v v' : StateValue)
+      (map : PageMap) (R : Log) (n : ℕ) (owes : Bool) → (device.tells → (d : D) → images_now device d (device.seen d))
+      → IsReadAs device settings first disk wal v map R → (c0 : ℕ) → (device.tells → HasRun device first c0 disk)
+      → device.clock first ≤ device.clock disk → device.fault_count first ≤ device.fault_count disk
+      → device.write_fault_count disk ≡ device.write_fault_count first
+      → AreBelowLast device first disk → n ≡ length v.deleted → HasBegun owes wal wal' v v'
+      → IsOpenedAt device settings first c0 (seen_as disk wal' v' n owes disk) map
   unfolding starts goes_on
   opened_at one settings first disk wal wal' v v' map [] n false law read c0 run time later writes below count begun =
-      let now : v' ≡ state_of settings.pages settings.xid_limit (first_record ∷ []) = begun.5 ∙ ap (step_of first_record) read.state_is in
+      let now : v' ≡ state_of settings.pages settings.xid_limit (first_record ∷ []) =
+      begun.5 ∙ ap (step_of first_record) read.state_is in
       let b = state_bounds settings.pages settings.xid_limit (first_record ∷ []) in
       record {
         counted = [];
@@ -175,12 +204,14 @@ module _ {D : Type 0} (device : Disk D) where
             (subst (λ (e : ℕ). Settled device was.0 e disk) (sym begun.2) was.1);
         applied = read.applied;
       }
-  opened_at one settings first disk wal wal' v v' map (r ∷ R) n true law read c0 run time later writes below count begun =
+  opened_at one settings first disk wal wal' v v' map
+      (r ∷ R) n true law read c0 run time later writes below count begun =
       let b = state_bounds settings.pages settings.xid_limit (r ∷ R) in
       let same : v' ≡ v = begun.2 in
       let wals : wal' ≡ wal = begun.1 in
       subst (λ (w : Wal). IsOpenedAt device settings first c0 (seen_as disk w v' n true disk) map) (sym wals)
-      (subst (λ (s : StateValue). IsOpenedAt device settings first c0 (seen_as disk wal s n true disk) map) (sym same) (record {
+      (subst (λ (s : StateValue). IsOpenedAt device settings first c0 (seen_as disk wal s n true disk) map) (sym same)
+      (record {
         counted = r ∷ R;
         stands = goes_on settings first disk wal v map (r ∷ R) n read count;
         none_lost = refl;
@@ -200,5 +231,12 @@ module _ {D : Type 0} (device : Disk D) where
       }))
   opened_at one settings first disk wal wal' v v' map [] n true law read c0 run time later writes below count begun =
       absurd (omega (arith, begun.0, ap (λ (s : StateValue). s.records) read.state_is))
-  opened_at one settings first disk wal wal' v v' map (r ∷ R) n false law read c0 run time later writes below count begun =
-      absurd (omega (arith, begun.0, ap (λ (s : StateValue). s.records) read.state_is, ap (λ (t : ℕ × ℕ × ℕ). t.2) (step_marks r (state_of settings.pages settings.xid_limit R)), read.numbered.1))
+  opened_at one settings first disk wal wal' v v' map
+      (r ∷ R) n false law read c0 run time later writes below count begun =
+      absurd (omega (
+        arith,
+        begun.0,
+        ap (λ (s : StateValue). s.records) read.state_is,
+        ap (λ (t : ℕ × ℕ × ℕ). t.2) (step_marks r (state_of settings.pages settings.xid_limit R)),
+        read.numbered.1,
+      ))

@@ -1,5 +1,6 @@
 -- What a journal stands for after a flush.
-use Rattle.std.proofs.Common.{◌≡◌, ◌⊎◌, inl, inr, ⊎_elim, ℕ, ◌<◌, List, [], ◌∷◌, ◌++◌, length, refl, sym, ◌∙◌, ap, subst}
+use Rattle.std.proofs.Common.{◌≡◌, ◌⊎◌, inl, inr, ⊎_elim, ℕ, ◌<◌, List, [], ◌∷◌, ◌++◌, length, refl, sym, ◌∙◌, ap}
+use Rattle.std.proofs.Common.{subst}
 use Rattle.std.specs.Prelude.{Option, Some, None}
 use Rattle.disk_trait.specs.Files.{Files}
 use Rattle.disk_trait.specs.Runs.{images_now, LeavesOnly}
@@ -21,12 +22,14 @@ use Rattle.buffer_frames.proofs.Batching.{records_more, records_with}
 pub not_both : (o : Option ℕ) (f : ℕ) → o ≡ None → o ≡ Some f → ⊥
 not_both o f up down = cc
 
-state_same : (v v' : StateValue) (R : Log) → v' ≡ v → v ≡ state_of v.pages v.xid_limit R → v' ≡ state_of v'.pages v'.xid_limit R
+state_same : (v v' : StateValue) (R : Log) → v' ≡ v → v ≡ state_of v.pages v.xid_limit R
+    → v' ≡ state_of v'.pages v'.xid_limit R
 state_same v v' R same is = subst (λ (x : StateValue). x ≡ state_of x.pages x.xid_limit R) (sym same) is
 
 module _ {D : Type 0} (device : Disk D) where
   -- once the log is down, the state alone counts
-  pub down_stands : (j j' : JournalValue D) (R : Log) (f : ℕ) → Stands device j R → j'.state ≡ j.state → down_of j'.wal ≡ Some f → Stands device j' R
+  pub down_stands : (j j' : JournalValue D) (R : Log) (f : ℕ) → Stands device j R → j'.state ≡ j.state
+      → down_of j'.wal ≡ Some f → Stands device j' R
   down_stands j j' R f s same down = record {
     counted = s.counted;
     waits = s.waits;
@@ -39,8 +42,10 @@ module _ {D : Type 0} (device : Disk D) where
   }
 
   -- what waited counts
-  pub flushed_stands : (j j' : JournalValue D) (R : Log) → Stands device j R → j'.state ≡ j.state → j'.flushed ≡ length j.state.deleted → down_of j.wal ≡ None → waiting j'.wal ≡ []
-      → (device.tells → (batches : List (List ℕ)) → Settled device batches (end_of j.wal) j.disk → StandsNow device (with_waiting batches (waiting j.wal)) (end_of j'.wal) j.disk j'.disk)
+  pub flushed_stands : (j j' : JournalValue D) (R : Log) → Stands device j R → j'.state ≡ j.state
+      → j'.flushed ≡ length j.state.deleted → down_of j.wal ≡ None → waiting j'.wal ≡ []
+      → (device.tells → (batches : List (List ℕ)) → Settled device batches (end_of j.wal) j.disk
+      → StandsNow device (with_waiting batches (waiting j.wal)) (end_of j'.wal) j.disk j'.disk)
       → Stands device j' R
   flushed_stands j j' R s same count up none stands = record {
     counted = R;
@@ -48,19 +53,24 @@ module _ {D : Type 0} (device : Disk D) where
     all = refl;
     numbered = s.numbered;
     state = state_same j.state j'.state R same s.state;
-    flushed = λ up'. count ∙ ap (λ (v : StateValue). length v.deleted) s.state ∙ ap (λ (v : StateValue). commits_in v R) (sym same);
+    flushed = λ up'. count ∙ ap (λ (v : StateValue). length v.deleted) s.state
+        ∙ ap (λ (v : StateValue). commits_in v R) (sym same);
     waiting_is = λ up'. subst (λ (w : List ℕ). AreRecordsOf w []) (sym none) (record { each = tt; encoded = refl });
     settled = λ t up'.
-        let was : (batches : List (List ℕ)) × Settled device batches (end_of j.wal) j.disk × AreRecords batches s.counted = s.settled t up in (
+        let was : (batches : List (List ℕ)) × Settled device batches (end_of j.wal) j.disk
+        × AreRecords batches s.counted = s.settled t up in (
           with_waiting was.0 (waiting j.wal),
           (stands t was.0 was.1).0,
           subst (λ (l : Log). AreRecords (with_waiting was.0 (waiting j.wal)) l) (sym s.all)
-              (records_with was.0 s.counted s.waits (waiting j.wal) was.2 (s.waiting_is up) (subst AreNumbered s.all s.numbered)),
+              (records_with was.0 s.counted s.waits (waiting j.wal) was.2 (s.waiting_is up)
+              (subst AreNumbered s.all s.numbered)),
         );
   }
 
   -- an image of a flush has the records that counted, or those that waited too
-  counts_either : (j : JournalValue D) (R : Log) (s : Stands device j R) (batches : List (List ℕ)) → AreRecords batches s.counted → down_of j.wal ≡ None → (c : Files) → BeforeOrAfter batches (waiting j.wal) (images_now device j.disk) c → CountsEither device j.disk s.counted R c
+  counts_either : (j : JournalValue D) (R : Log) (s : Stands device j R) (batches : List (List ℕ))
+      → AreRecords batches s.counted → down_of j.wal ≡ None → (c : Files)
+      → BeforeOrAfter batches (waiting j.wal) (images_now device j.disk) c → CountsEither device j.disk s.counted R c
   counts_either j R s batches records up c left = record {
     before = left.before;
     was = left.was;
@@ -70,21 +80,30 @@ module _ {D : Type 0} (device : Disk D) where
           batches = batches ++ waiting j.wal ∷ [];
           opens = o;
           records = subst (λ (l : Log). AreRecords (batches ++ waiting j.wal ∷ []) l) (sym s.all)
-              (records_more batches s.counted s.waits (waiting j.wal) records (s.waiting_is up) (subst AreNumbered s.all s.numbered));
+              (records_more batches s.counted s.waits (waiting j.wal) records (s.waiting_is up)
+              (subst AreNumbered s.all s.numbered));
         })) left.log;
   }
 
-  pub flush_moments : (o : Option ℕ) (j : JournalValue D) (R : Log) (s : Stands device j R) (disk' : D) → down_of j.wal ≡ o → device.tells → ((f : ℕ) → down_of j.wal ≡ Some f → disk' ≡ j.disk)
-      → ((batches : List (List ℕ)) → Settled device batches (end_of j.wal) j.disk → (disk' ≡ j.disk) ⊎ ((0 < length (waiting j.wal)) × FlushLeaves device batches (waiting j.wal) j.disk disk'))
+  pub flush_moments : (o : Option ℕ) (j : JournalValue D) (R : Log) (s : Stands device j R) (disk' : D)
+      → down_of j.wal ≡ o → device.tells → ((f : ℕ) → down_of j.wal ≡ Some f → disk' ≡ j.disk)
+      → ((batches : List (List ℕ)) → Settled device batches (end_of j.wal) j.disk
+      → (disk' ≡ j.disk) ⊎ ((0 < length (waiting j.wal)) × FlushLeaves device batches (waiting j.wal) j.disk disk'))
       → (disk' ≡ j.disk) ⊎ LeavesOnly device j.disk disk' (CountsEither device j.disk s.counted R)
   flush_moments None j R s disk' up t down moments =
-      let was : (batches : List (List ℕ)) × Settled device batches (end_of j.wal) j.disk × AreRecords batches s.counted = s.settled t up in
+      let was : (batches : List (List ℕ)) × Settled device batches (end_of j.wal) j.disk
+      × AreRecords batches s.counted = s.settled t up in
       ⊎_elim (λ (same : disk' ≡ j.disk). inl same)
-      (λ (left : (0 < length (waiting j.wal)) × FlushLeaves device was.0 (waiting j.wal) j.disk disk'). inr (weaker_run device j.disk disk' (BeforeOrAfter was.0 (waiting j.wal) (images_now device j.disk)) (CountsEither device j.disk s.counted R) left.1 (counts_either j R s was.0 was.2 up)))
+      (λ (left : (0 < length (waiting j.wal)) × FlushLeaves device was.0 (waiting j.wal) j.disk disk'). inr
+      (weaker_run device j.disk disk' (BeforeOrAfter was.0 (waiting j.wal) (images_now device j.disk))
+      (CountsEither device j.disk s.counted R) left.1 (counts_either j R s was.0 was.2 up)))
       (moments was.0 was.1)
   flush_moments (Some f) j R s disk' is t down moments = inl (down f is)
 
   -- a flush was refused
-  pub refused_stands : (j j' : JournalValue D) (R : Log) (e : FlushError) (n : ℕ) → Stands device j R → j'.state ≡ j.state → (e ≡ DiskFault) ⊎ ((f : ℕ) × (e ≡ Down f)) → (e ≡ DiskFault → down_of j'.wal ≡ Some n) → ((f : ℕ) → e ≡ Down f → j' ≡ j) → Stands device j' R
+  pub refused_stands : (j j' : JournalValue D) (R : Log) (e : FlushError) (n : ℕ) → Stands device j R
+      → j'.state ≡ j.state → (e ≡ DiskFault) ⊎ ((f : ℕ) × (e ≡ Down f)) → (e ≡ DiskFault → down_of j'.wal ≡ Some n)
+      → ((f : ℕ) → e ≡ Down f → j' ≡ j) → Stands device j' R
   refused_stands j j' R e n s same (inl fault) down rests = down_stands j j' R n s same (down fault)
-  refused_stands j j' R e n s same (inr (f, is)) down rests = subst (λ (x : JournalValue D). Stands device x R) (sym (rests f is)) s
+  refused_stands j j' R e n s same (inr (f, is)) down rests =
+      subst (λ (x : JournalValue D). Stands device x R) (sym (rests f is)) s

@@ -6,7 +6,8 @@ use Rattle.page_types.specs.declared.record.Kind.TheVariants as kind
 use Rattle.page_types.specs.declared.record.Record.{Record}
 use Rattle.core_state.specs.Log.{Log, changed, xid_bound}
 use Rattle.core_state.specs.Documents.{Doc}
-use Rattle.core_state.specs.States.{StateValue, uses_after, sizes_after, stepped, step_of, state_of, committed, aborted, ended_all, placed_head, marked_head, transaction, last_serial}
+use Rattle.core_state.specs.States.{StateValue, uses_after, sizes_after, stepped, step_of, state_of, committed, aborted}
+use Rattle.core_state.specs.States.{ended_all, placed_head, marked_head, transaction, last_serial}
 use Rattle.core_state.specs.declared.transactions.Transaction.{Transaction}
 use Rattle.core_state.proofs.Framing.{framed_step}
 use Rattle.buffer_frames.specs.Counted.{AreNumbered}

@@ -1,5 +1,6 @@
 -- In every legal log a walk from a pin reads no page twice.
-use Rattle.std.proofs.Common.{◌≡◌, ◌≢◌, ◌⊎◌, ◌<◌, ◌≤◌, ◌+◌, ◌-◌, ℕ, zero, suc, Bool, true, false, List, [], ◌∷◌, ◌++◌, map, length, refl, sym, ap, subst, ◌∙◌, inl, inr, arith}
+use Rattle.std.proofs.Common.{◌≡◌, ◌≢◌, ◌⊎◌, ◌<◌, ◌≤◌, ◌+◌, ◌-◌, ℕ, zero, suc, Bool, true, false, List, [], ◌∷◌, ◌++◌}
+use Rattle.std.proofs.Common.{map, length, refl, sym, ap, subst, ◌∙◌, inl, inr, arith}
 use Rattle.page_types.specs.Views.{entries_of, first_of}
 use Rattle.page_types.specs.declared.page.Page.{Page}
 use Rattle.page_types.specs.declared.page.Entry.{Entry}
@@ -11,7 +12,9 @@ use Rattle.core_state.specs.Readings.{Read, AreReads}
 use Rattle.core_state.proofs.Trees.Walk as w
 use Rattle.core_state.proofs.Trees.PendWalk as pend
 use Rattle.core_state.proofs.Moments.Links.{Links, BeginsAt, links}
-use Rattle.core_moments.specs.Walk.{Walk, KeyWalk, IsKeyWalk, LeafRead, Sought, IsWalk, Follows, LeadTo, AreLeaves, AreTrees, Branch, toward, along, beyond, rightward, first_key, fits, reads_of, leaf_reads, tree_reads, key_reads}
+use Rattle.core_moments.specs.Walk.{Walk, KeyWalk, IsKeyWalk, LeafRead, Sought, IsWalk, Follows, LeadTo, AreLeaves}
+use Rattle.core_moments.specs.Walk.{AreTrees, Branch, toward, along, beyond, rightward, first_key, fits, reads_of}
+use Rattle.core_moments.specs.Walk.{leaf_reads, tree_reads, key_reads}
 use Rattle.core_moments.specs.Law.{ReadOnce, path_of, ReadsOnce, WalksEnd}
 use Rattle.core_moments.proofs.Moments.{reads_at}
 use Rattle.core_moments.proofs.Once.{once_of, once_pages, chain_once, rise, path_reads, path_linked, tree_linked}

@@ -1,5 +1,6 @@
 -- From what a walk has read of a document's item to keeping it, and to a yes without its vector.
-use Rattle.std.proofs.Common.{◌≡◌, ◌≢◌, ◌⊎◌, ℕ, Bool, true, false, cond, not, ◌&&◌, ◌||◌, List, [], ◌∷◌, map, refl, sym, ap, subst, ap₂, inl, inr}
+use Rattle.std.proofs.Common.{◌≡◌, ◌≢◌, ◌⊎◌, ℕ, Bool, true, false, cond, not, ◌&&◌, ◌||◌, List, [], ◌∷◌, map, refl, sym}
+use Rattle.std.proofs.Common.{ap, subst, ap₂, inl, inr}
 use Rattle.ts_base.specs.Vectors.{Vector}
 use Rattle.core_state.specs.Log.{In}
 use Rattle.ts_base.specs.declared.Tri.{Tri}

@@ -1,5 +1,6 @@
 -- The law over walks, from what holds at each moment of the walk.
-use Rattle.std.proofs.Common.{◌≡◌, ◌≢◌, ◌≤◌, ℕ, Bool, true, false, ◌&&◌, nat_eq, List, [], ◌∷◌, ◌++◌, map, refl, sym, ap, subst, subst₂, ap₂, ◌∙◌, inl, inr, arith}
+use Rattle.std.proofs.Common.{◌≡◌, ◌≢◌, ◌≤◌, ℕ, Bool, true, false, ◌&&◌, nat_eq, List, [], ◌∷◌, ◌++◌, map, refl, sym}
+use Rattle.std.proofs.Common.{ap, subst, subst₂, ap₂, ◌∙◌, inl, inr, arith}
 use Rattle.std.specs.List.{list_any}
 use Rattle.core_state.specs.Trees.Nodes.{AtMost}
 use Rattle.core_state.proofs.Trees.Walk as w
@@ -7,14 +8,16 @@ use Rattle.core_state.proofs.Trees.EntryWalk as e
 use Rattle.core_state.proofs.Trees.PendWalk as pend
 use Rattle.core_state.proofs.Trees.PendWalk.{PendStep, reads_rows, Seen}
 use Rattle.core_state.proofs.Trees.MainWalk as m
-use Rattle.core_state.proofs.Trees.MainWalk.{Run, GrowRun, NeverRemoved, tree_meets, tree_inside, main_finds, Under, Stands, leaf_time, rising_in}
+use Rattle.core_state.proofs.Trees.MainWalk.{Run, GrowRun, NeverRemoved, tree_meets, tree_inside, main_finds, Under}
+use Rattle.core_state.proofs.Trees.MainWalk.{Stands, leaf_time, rising_in}
 use Rattle.page_types.specs.declared.page.Page.{Page}
 use Rattle.page_types.specs.declared.page.Row.{Row}
 use Rattle.page_types.specs.declared.page.Entry.{Entry}
 use Rattle.page_types.specs.declared.page.Postings.{Postings}
 use Rattle.page_types.specs.declared.page.Postings.TheVariants.{Inline, Root}
 use Rattle.page_types.specs.declared.page.Body.{Body}
-use Rattle.page_types.specs.declared.page.Body.TheVariants.{Free, Meta, Heap, Overflow, Pending, EntryLeaf, EntryInner, PostLeaf, PostInner, Deleted}
+use Rattle.page_types.specs.declared.page.Body.TheVariants.{Free, Meta, Heap, Overflow, Pending, EntryLeaf, EntryInner}
+use Rattle.page_types.specs.declared.page.Body.TheVariants.{PostLeaf, PostInner, Deleted}
 use Rattle.page_types.specs.Items.{items_of}
 use Rattle.page_types.specs.Views.{entries_of, kept_rows_of, first_of}
 use Rattle.ts_base.specs.Vectors.{Vector}
@@ -24,14 +27,17 @@ use Rattle.ts_base.specs.Keys.{Key}
 use Rattle.page_types.specs.Views.{posting_items_in}
 use Rattle.gin_opclass.specs.Class.{Asked, Meaning, FitsAsked, HasKey, JudgeIsSound}
 use Rattle.core_state.specs.Readings.{Read}
-use Rattle.core_moments.specs.Walk.{Follows, rightward, Sought, first_key, fits, LeafRead, leaf_reads, key_reads, reads_of, KeyWalk, IsKeyWalk, Walk, IsWalk, sought_of}
-use Rattle.core_moments.specs.Judging.{met, pending_has, is_exception, starts_row, starts_page, main_read, main_has, in_leaves, under, fits_asked, IsKept, HasYes}
+use Rattle.core_moments.specs.Walk.{Follows, rightward, Sought, first_key, fits, LeafRead, leaf_reads, key_reads}
+use Rattle.core_moments.specs.Walk.{reads_of, KeyWalk, IsKeyWalk, Walk, IsWalk, sought_of}
+use Rattle.core_moments.specs.Judging.{met, pending_has, is_exception, starts_row, starts_page, main_read, main_has}
+use Rattle.core_moments.specs.Judging.{in_leaves, under, fits_asked, IsKept, HasYes}
 use Rattle.core_moments.specs.Law.{AreSought}
 use Rattle.core_state.specs.Trees.Ext.{Ext, ext_less}
 use Rattle.core_state.specs.Trees.Ext.Ext.{least, at, greatest}
 use Rattle.page_types.specs.Keys.{KeyLess}
 use Rattle.core_state.proofs.Trees.Orders.{ext_order, ext_top, key_order, nat_order}
-use Rattle.core_moments.proofs.Words.{upto, is_upto, not_upto, and_true, same_number, number_itself, contained, contains}
+use Rattle.core_moments.proofs.Words.{upto, is_upto, not_upto, and_true, same_number, number_itself, contained}
+use Rattle.core_moments.proofs.Words.{contains}
 use Rattle.core_moments.proofs.Judging.{Shown, keeps, yes_holds}
 use Rattle.core_state.proofs.Moments.Told as told
 use Rattle.core_state.proofs.Moments.Told.{Trees, Pends, entry_of}
@@ -39,8 +45,10 @@ use Rattle.core_moments.proofs.Views.{tr, tr_leaf, goes, toward_same}
 use Rattle.core_state.specs.Trees.TreeNodes.{entry_node, post_node}
 use Rattle.core_state.proofs.PageLists.{in_either, in_front, in_back}
 use Rattle.core_state.proofs.Trees.Members.{in_map, of_map}
-use Rattle.core_moments.proofs.Walks.{any_true, any_in, Reads, reads_rise, reads_shown, follows_same, lead_same, leaves_same, leaf_trees, under_true, under_back, ReadUnder, walk_reads_same}
-use Rattle.core_moments.proofs.Parts.{of_fits, to_fits, from_first, goes_far, walk_for, is_walk, reads_end, reads_front, reads_back, key_part, leaf_shown, leaf_tree_in, more_under}
+use Rattle.core_moments.proofs.Walks.{any_true, any_in, Reads, reads_rise, reads_shown, follows_same, lead_same}
+use Rattle.core_moments.proofs.Walks.{leaves_same, leaf_trees, under_true, under_back, ReadUnder, walk_reads_same}
+use Rattle.core_moments.proofs.Parts.{of_fits, to_fits, from_first, goes_far, walk_for, is_walk, reads_end, reads_front}
+use Rattle.core_moments.proofs.Parts.{reads_back, key_part, leaf_shown, leaf_tree_in, more_under}
 
 module _ (P : ℕ → Pages) (start end : ℕ) (T : Trees P start end) (i : ℕ) (D : Pends P start end i) (v : Vector) where
   abbrev entries_at : ℕ → ℕ → List (m.Entry (Ext Key) (Ext ℕ))
@@ -418,7 +426,8 @@ module _ (P : ℕ → Pages) (start end : ℕ) (T : Trees P start end) (i : ℕ)
                   (λ u p. post_node (P u p)) T.gp start end T.posts l.0.leaf.length r r (map tr t) times.0
                   (inr (T.roots l.0.leaf.length l.0.leaf.page told.0 r times.0 times.1 on u.2)) rise
                   (follows_same P r t (tree_shown x.0 x.1 l.0 l.1 t u.3) u.4) (tr y.0) member in
-                  F.own_trees l.0.leaf.length l.0.leaf.page told.0 r y.0.length y.0.page times.0 bounds.0 bounds.1 on u.2
+                  F.own_trees l.0.leaf.length l.0.leaf.page told.0 r y.0.length y.0.page times.0 bounds.0 bounds.1 on
+                  u.2
                   inside
                   (subst (λ (p : Page). In i (posting_items_in p.body))
                   (sym (tree_shown x.0 x.1 l.0 l.1 t u.3 y.0 y.1)) y.2)

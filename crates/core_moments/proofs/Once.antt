@@ -1,5 +1,6 @@
 -- A walk from a pin reads no page twice.
-use Rattle.std.proofs.Common.{◌≡◌, ◌≢◌, ◌⊎◌, ◌<◌, ◌≤◌, ◌+◌, ◌-◌, ℕ, zero, suc, Bool, true, false, cond, List, [], ◌∷◌, ◌++◌, map, length, length-append, refl, sym, ap, subst, ◌∙◌, inl, inr, arith}
+use Rattle.std.proofs.Common.{◌≡◌, ◌≢◌, ◌⊎◌, ◌<◌, ◌≤◌, ◌+◌, ◌-◌, ℕ, zero, suc, Bool, true, false, cond, List, [], ◌∷◌}
+use Rattle.std.proofs.Common.{◌++◌, map, length, length-append, refl, sym, ap, subst, ◌∙◌, inl, inr, arith}
 use Rattle.page_types.specs.declared.page.Page.{Page}
 use Rattle.core_state.specs.Log.{Pages, In}
 use Rattle.core_state.specs.Readings.{Read}
@@ -8,7 +9,8 @@ use Rattle.core_state.specs.Trees.Nodes.Node.{other, leaf, inner, gone}
 use Rattle.core_state.proofs.Trees.Walk as w
 use Rattle.core_state.proofs.Trees.EntryWalk as e
 use Rattle.core_state.proofs.Trees.PendWalk as pend
-use Rattle.core_moments.specs.Walk.{LeafRead, Sought, Follows, LeadTo, AreLeaves, toward, along, beyond, leaf_reads, tree_reads}
+use Rattle.core_moments.specs.Walk.{LeafRead, Sought, Follows, LeadTo, AreLeaves, toward, along, beyond, leaf_reads}
+use Rattle.core_moments.specs.Walk.{tree_reads}
 use Rattle.core_moments.specs.Law.{ReadOnce}
 use Rattle.core_state.proofs.Moments.Apart.{Apart, Linked}
 use Rattle.core_state.proofs.Trees.Behind.{Once}

@@ -1,5 +1,6 @@
 -- Parts of a walk: the keys that fit, its single walks, and their reads.
-use Rattle.std.proofs.Common.{◌≡◌, ◌≢◌, ◌⊎◌, ◌≤◌, ℕ, zero, suc, Bool, true, false, cond, not, ◌&&◌, ◌||◌, nat_eq, List, [], ◌∷◌, ◌++◌, map, refl, sym, ap, subst, subst₂, ap₂, ◌∙◌, inl, inr, arith}
+use Rattle.std.proofs.Common.{◌≡◌, ◌≢◌, ◌⊎◌, ◌≤◌, ℕ, zero, suc, Bool, true, false, cond, not, ◌&&◌, ◌||◌, nat_eq, List}
+use Rattle.std.proofs.Common.{[], ◌∷◌, ◌++◌, map, refl, sym, ap, subst, subst₂, ap₂, ◌∙◌, inl, inr, arith}
 use Rattle.std.specs.List.{list_any}
 use Rattle.core_state.specs.Trees.Nodes.{AtMost}
 use Rattle.core_state.proofs.Trees.Order.{at_most_less}
@@ -12,13 +13,15 @@ use Rattle.ts_base.specs.Keys.{Key}
 use Rattle.page_types.specs.Views.{posting_items_in}
 use Rattle.gin_opclass.specs.Class.{Asked, FitsAsked}
 use Rattle.core_state.specs.Readings.{Read}
-use Rattle.core_moments.specs.Walk.{Sought, first_key, fits, LeafRead, leaf_reads, tree_reads, key_reads, KeyWalk, IsKeyWalk, AreKeyWalks, begins}
+use Rattle.core_moments.specs.Walk.{Sought, first_key, fits, LeafRead, leaf_reads, tree_reads, key_reads, KeyWalk}
+use Rattle.core_moments.specs.Walk.{IsKeyWalk, AreKeyWalks, begins}
 use Rattle.core_moments.specs.Judging.{under, under_entry, fits_asked}
 use Rattle.core_state.specs.Trees.Ext.{Ext, ext_less}
 use Rattle.core_state.specs.Trees.Ext.Ext.{least, at, greatest}
 use Rattle.page_types.specs.Keys.{KeyLess}
 use Rattle.core_state.proofs.Trees.Orders.{ext_order, key_order}
-use Rattle.core_moments.proofs.Words.{and_true, begins_at_most, begins_both, begins_itself, begins_append, append_of_begins, begins_between}
+use Rattle.core_moments.proofs.Words.{and_true, begins_at_most, begins_both, begins_itself, begins_append}
+use Rattle.core_moments.proofs.Words.{append_of_begins, begins_between}
 use Rattle.core_moments.proofs.Judging.{or_right}
 use Rattle.core_moments.proofs.Views.{goes}
 use Rattle.core_state.proofs.PageLists.{in_front, in_back}

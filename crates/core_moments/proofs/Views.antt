@@ -6,7 +6,8 @@ use Rattle.ts_base.specs.Keys.{Key}
 use Rattle.page_types.specs.declared.page.Page.{Page}
 use Rattle.page_types.specs.declared.page.EntryChild.{EntryChild}
 use Rattle.page_types.specs.declared.page.Body.{Body}
-use Rattle.page_types.specs.declared.page.Body.TheVariants.{Free, Meta, Heap, Overflow, Pending, EntryLeaf, EntryInner, PostLeaf, PostInner, Deleted}
+use Rattle.page_types.specs.declared.page.Body.TheVariants.{Free, Meta, Heap, Overflow, Pending, EntryLeaf, EntryInner}
+use Rattle.page_types.specs.declared.page.Body.TheVariants.{PostLeaf, PostInner, Deleted}
 use Rattle.core_state.specs.Readings.{Read}
 use Rattle.core_state.specs.Trees.Ext.{Ext}
 use Rattle.core_state.specs.Trees.Ext.Ext.{least, at, greatest}

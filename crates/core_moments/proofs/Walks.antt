@@ -1,5 +1,6 @@
 -- A walk as it is defined is a walk over the nodes; what a leaf and its trees say of an item.
-use Rattle.std.proofs.Common.{◌≡◌, ◌⊎◌, ◌≤◌, ℕ, Bool, true, false, ◌&&◌, ◌||◌, nat_eq, List, [], ◌∷◌, ◌++◌, map, refl, sym, ap, subst, ap₂, ◌∙◌, inl, inr}
+use Rattle.std.proofs.Common.{◌≡◌, ◌⊎◌, ◌≤◌, ℕ, Bool, true, false, ◌&&◌, ◌||◌, nat_eq, List, [], ◌∷◌, ◌++◌, map, refl}
+use Rattle.std.proofs.Common.{sym, ap, subst, ap₂, ◌∙◌, inl, inr}
 use Rattle.std.specs.List.{list_any}
 use Rattle.core_state.proofs.Trees.Walk as w
 use Rattle.core_state.proofs.Trees.EntryWalk as e
@@ -13,7 +14,8 @@ use Rattle.core_state.specs.Log.{Pages, In}
 use Rattle.ts_base.specs.Keys.{Key}
 use Rattle.page_types.specs.Views.{posting_items_in}
 use Rattle.core_state.specs.Readings.{Read}
-use Rattle.core_moments.specs.Walk.{Follows, LeadTo, toward, along, beyond, Sought, fits, LeafRead, AreLeaves, AreTrees, Branch, leaf_reads, tree_reads}
+use Rattle.core_moments.specs.Walk.{Follows, LeadTo, toward, along, beyond, Sought, fits, LeafRead, AreLeaves, AreTrees}
+use Rattle.core_moments.specs.Walk.{Branch, leaf_reads, tree_reads}
 use Rattle.core_moments.specs.Judging.{under, under_entry}
 use Rattle.core_state.specs.Trees.Ext.Ext.{at}
 use Rattle.core_moments.proofs.Words.{upto, and_true, same_number, number_itself}

@@ -1,5 +1,6 @@
 -- Transactions in the order of their xids, of which some have ended.
-use Rattle.std.proofs.Common.{◌≡◌, ◌≢◌, ◌<◌, ◌≤◌, ℕ, zero, suc, Bool, true, false, cond, List, [], ◌∷◌, ◌++◌, length, get_or, set, refl, sym, ap, subst, ◌∙◌, inl, inr, arith}
+use Rattle.std.proofs.Common.{◌≡◌, ◌≢◌, ◌<◌, ◌≤◌, ℕ, zero, suc, Bool, true, false, cond, List, [], ◌∷◌, ◌++◌, length}
+use Rattle.std.proofs.Common.{get_or, set, refl, sym, ap, subst, ◌∙◌, inl, inr, arith}
 use Rattle.std.specs.Prelude.{Some, None, Ok, Err}
 use Rattle.std.specs.List.{slice_get}
 use Rattle.std.specs.List.Sorted.{IsBinarySearchResult, IsNonDecreasingBy}
@@ -11,7 +12,8 @@ use Rattle.core_state.specs.States.{transaction, without, replaced}
 use Rattle.core_state.specs.Inner.Begun.{running_of, kept, AreBegun, end_of}
 use Rattle.core_state.specs.declared.transactions.Transaction.{Transaction}
 use Rattle.core_state.specs.declared.running.Begun.{Begun}
-use Rattle.core_state.proofs.RunningOnes.{on_same, on_other, first_is, first_isnt, first_goes, first_stays, none_behind, same_or_other, below_or_past}
+use Rattle.core_state.proofs.RunningOnes.{on_same, on_other, first_is, first_isnt, first_goes, first_stays, none_behind}
+use Rattle.core_state.proofs.RunningOnes.{same_or_other, below_or_past}
 
 pub some_begun : (a b : Begun) → Some a ≡ Some b → a ≡ b
 some_begun a b e = cc

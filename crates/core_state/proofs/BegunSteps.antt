@@ -1,5 +1,6 @@
 -- What the calls on the running transactions make of those that have begun.
-use Rattle.std.proofs.Common.{◌≡◌, ◌<◌, ◌≤◌, ◌*◌, ◌-◌, ◌+◌, ℕ, zero, suc, true, false, List, [], ◌∷◌, ◌++◌, length, get_or, set, refl, sym, ap, subst, ◌∙◌, arith}
+use Rattle.std.proofs.Common.{◌≡◌, ◌<◌, ◌≤◌, ◌*◌, ◌-◌, ◌+◌, ℕ, zero, suc, true, false, List, [], ◌∷◌, ◌++◌, length}
+use Rattle.std.proofs.Common.{get_or, set, refl, sym, ap, subst, ◌∙◌, arith}
 use Rattle.std.specs.Prelude.{Option, Some, IfSome}
 use Rattle.page_types.specs.declared.page.Name.{Name}
 use Rattle.std.specs.List.{slice_get}
@@ -8,7 +9,9 @@ use Rattle.core_state.specs.States.{transaction, without, replaced, with_placed,
 use Rattle.core_state.specs.Inner.Begun.{running_of, kept, AreBegun, end_of, IsRunningAt}
 use Rattle.core_state.specs.declared.transactions.Transaction.{Transaction}
 use Rattle.core_state.specs.declared.running.Begun.{Begun}
-use Rattle.core_state.proofs.BegunOnes.{none_begun, some_begun, found_runs, running_put, running_left, begun_put, count_put, count_left, running_kept, length_kept, begun_kept, running_more, begun_more}
+use Rattle.core_state.proofs.BegunOnes.{none_begun, some_begun, found_runs, running_put, running_left, begun_put}
+use Rattle.core_state.proofs.BegunOnes.{count_put, count_left, running_kept, length_kept, begun_kept, running_more}
+use Rattle.core_state.proofs.BegunOnes.{begun_more}
 
 got : (bs : List Begun) (i : ℕ) (b d : Begun) → slice_get bs i ≡ Some b
     → (i < length bs) × (get_or bs i d ≡ b)

@@ -24,7 +24,8 @@ use Rattle.core_state.specs.Inner.ItemChains.{Chains, AreOverflows, ArePrivates}
 use Rattle.core_state.proofs.Histories.{chain_one}
 use Rattle.core_state.proofs.PageLists.{same_or_not, in_or_not, two_pages}
 use Rattle.core_state.proofs.RulesByKind.{kind_rule}
-use Rattle.core_state.specs.Inner.PageKinds.{IsHeap, IsOverflow, IsPending, IsMeta, IsTree, IsFirstOf, IsChanged, Touched}
+use Rattle.core_state.specs.Inner.PageKinds.{IsHeap, IsOverflow, IsPending, IsMeta, IsTree, IsFirstOf, IsChanged}
+use Rattle.core_state.specs.Inner.PageKinds.{Touched}
 use Rattle.core_state.proofs.TouchedPages.{head_was}
 use Rattle.core_state.proofs.LivePages.{new_was}
 use Rattle.core_state.proofs.HeadSteps.{HeadStep}

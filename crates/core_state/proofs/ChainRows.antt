@@ -19,7 +19,8 @@ use Rattle.core_state.specs.Inner.PageKinds.{IsHeap, IsOverflow, IsPending, IsMe
 use Rattle.core_state.specs.Inner.ItemChains.{Chains, AreOverflows, ArePrivates}
 use Rattle.core_state.proofs.PageLists.{two_pages}
 use Rattle.core_state.proofs.HeadSteps.{HeadTurned, HeadStep, put_turned, rows_turned, link_turned, drop_turned}
-use Rattle.core_state.proofs.ChainSteps.{new_not_zero, chains_stay, chain_longer, chain_gone, chain_shorter, chain_beside}
+use Rattle.core_state.proofs.ChainSteps.{new_not_zero, chains_stay, chain_longer, chain_gone, chain_shorter}
+use Rattle.core_state.proofs.ChainSteps.{chain_beside}
 use Rattle.core_state.proofs.ChainFrames.{only_overflow, only_pending, overflow_stays, pending_stays, first_in}
 
 -- a record of this kind changes no overflow chain, and no private one

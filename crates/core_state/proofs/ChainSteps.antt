@@ -15,7 +15,8 @@ use Rattle.core_state.proofs.PageLists.{same_or_not}
 use Rattle.core_state.specs.Inner.PageKinds.{IsMeta, IsFirstOf}
 use Rattle.core_state.proofs.LivePages.{new_was}
 use Rattle.core_state.proofs.HeadSteps.{IsTurned, HeadTurned, IsFreed, HeadStep}
-use Rattle.core_state.proofs.Chains.{HeadBefore, FreeBefore, same_chain, longer_chain, shorter_chain, no_chain, chains_kept, chains_turned}
+use Rattle.core_state.proofs.Chains.{HeadBefore, FreeBefore, same_chain, longer_chain, shorter_chain, no_chain}
+use Rattle.core_state.proofs.Chains.{chains_kept, chains_turned}
 
 -- the metapage is no new page
 pub new_not_zero : (P : Pages) (since p : ℕ) → IsMeta (P 0).body → IsNew (use_in P) since p → p ≢ 0

@@ -1,5 +1,6 @@
 -- Which commits inserted and deleted each document of a legal log.
-use Rattle.std.proofs.Common.{◌≡◌, ◌≢◌, ◌⊎◌, ◌<◌, ◌-◌, ◌&&◌, nat_lt, ℕ, zero, suc, Bool, true, false, ◌==◌, List, [], ◌∷◌, length, get_or, refl, sym, ap, ap₂, subst, ◌∙◌, inl, inr, arith}
+use Rattle.std.proofs.Common.{◌≡◌, ◌≢◌, ◌⊎◌, ◌<◌, ◌-◌, ◌&&◌, nat_lt, ℕ, zero, suc, Bool, true, false, ◌==◌, List, []}
+use Rattle.std.proofs.Common.{◌∷◌, length, get_or, refl, sym, ap, ap₂, subst, ◌∙◌, inl, inr, arith}
 use Rattle.std.specs.Prelude.{Option, Some, None, if◌then◌else◌}
 use Rattle.std.specs.List.{slice_get}
 use Rattle.std.proofs.lemmas.List.{length-set, get_or-set_other}
@@ -7,7 +8,8 @@ use Rattle.std.proofs.lemmas.Grind.{get_or-set_at}
 use Rattle.page_types.specs.declared.page.Name.{Name}
 use Rattle.core_state.specs.Log.{Log, In, fate}
 use Rattle.core_state.specs.Documents.{Doc, page_of, slot_of, name_of, placed, marked, doc_at}
-use Rattle.core_state.specs.Lives.{IsInsertedBy, IsDeletedBy, IsDeletedIfAny, IsLife, placer_in, placer, first_end, with_end, with_ends, some_commit, life_by, life_in}
+use Rattle.core_state.specs.Lives.{IsInsertedBy, IsDeletedBy, IsDeletedIfAny, IsLife, placer_in, placer, first_end}
+use Rattle.core_state.specs.Lives.{with_end, with_ends, some_commit, life_by, life_in}
 use Rattle.core_state.specs.Inner.LivesKept.{IsPlacedAt, IsEnd, LivesKept}
 use Rattle.core_state.specs.declared.answers.Fate.{Fate}
 use Rattle.core_state.specs.declared.answers.Fate.TheVariants.{Unused, Running, Aborted, Committed}
@@ -142,7 +144,8 @@ one_end_by commit ps n (Some x) es k p is at lt =
           let here : n.serial - 1 ≡ k = place ∙ e in
           inl (
             ap₂ (λ (q : Placed) (j : ℕ). name_of (doc_at q.item (suc j))) (sym same) (sym e) ∙ f.named,
-            get_or-set_at es (n.serial - 1) k v 0 (sym here) (omega (arith, lt, here)) ∙ ap (λ (j : ℕ). first_end commit (get_or es j 0)) here,
+            get_or-set_at es (n.serial - 1) k v 0 (sym here) (omega (arith, lt, here))
+                ∙ ap (λ (j : ℕ). first_end commit (get_or es j 0)) here,
           )
       | inr off ↦ inr (
         λ e. off (omega (arith, serial, ap (λ (m : Name). m.serial) e)),
@@ -212,7 +215,8 @@ not_inserted : (R : Log) (ps : List Placed) (es : List ℕ) (n : Name) (x : ℕ)
 not_inserted R ps es n x k f off commit w =
     let d = doc_at f.it.item (suc f.place) in
     let same : w.doc ≡ d = one_named w.doc d (w.named ∙ sym f.named) in
-    let there : IsPlacedAt ps d w.xid = subst (λ (z : Doc). IsPlacedAt ps z w.xid) same (k.there w.xid w.doc w.placed_it) in
+    let there : IsPlacedAt ps d w.xid =
+    subst (λ (z : Doc). IsPlacedAt ps z w.xid) same (k.there w.xid w.doc w.placed_it) in
     let place : f.place ≡ there.place = omega (arith, there.serial) in
     let one : f.it ≡ record { item = f.it.item; xid = w.xid } = some_one f.it (record { item = f.it.item; xid = w.xid })
     (sym f.at ∙ ap (slice_get ps) place ∙ there.at) in
@@ -221,15 +225,19 @@ not_inserted R ps es n x k f off commit w =
 
 life_told_by : (R : Log) (ps : List Placed) (es : List ℕ) (n : Name) (x : ℕ) (g : Fate) → LivesKept R ps es
     → IsFound ps n x → fate R x ≡ g → IsLife R n (life_by g (get_or es (n.serial - 1) 0))
-life_told_by R ps es n x Unused k f is = not_inserted R ps es n x k f (λ c e. let b : Unused ≡ Committed c = sym is ∙ e in cc)
-life_told_by R ps es n x Running k f is = not_inserted R ps es n x k f (λ c e. let b : Running ≡ Committed c = sym is ∙ e in cc)
-life_told_by R ps es n x Aborted k f is = not_inserted R ps es n x k f (λ c e. let b : Aborted ≡ Committed c = sym is ∙ e in cc)
+life_told_by R ps es n x Unused k f is =
+    not_inserted R ps es n x k f (λ c e. let b : Unused ≡ Committed c = sym is ∙ e in cc)
+life_told_by R ps es n x Running k f is =
+    not_inserted R ps es n x k f (λ c e. let b : Running ≡ Committed c = sym is ∙ e in cc)
+life_told_by R ps es n x Aborted k f is =
+    not_inserted R ps es n x k f (λ c e. let b : Aborted ≡ Committed c = sym is ∙ e in cc)
 life_told_by R ps es n x (Committed c) k f is =
     let d = doc_at f.it.item (suc f.place) in
     let serial : suc f.place ≡ n.serial = ap (λ (m : Name). m.serial) f.named in
     let place : f.place ≡ n.serial - 1 = omega (arith, serial) in
     let by : In d (placed R x) = subst (λ (y : ℕ). In d (placed R y)) f.by (k.placed_by f.place f.it f.at) in
-    let end : IsEnd R d (get_or es (n.serial - 1) 0) = subst (λ (j : ℕ). IsEnd R d (get_or es j 0)) place (k.ended f.place f.it f.at) in (
+    let end : IsEnd R d (get_or es (n.serial - 1) 0) =
+    subst (λ (j : ℕ). IsEnd R d (get_or es j 0)) place (k.ended f.place f.it f.at) in (
       record { xid = x; doc = d; named = f.named; placed_it = by; committed = is },
       deleted_told R n d (get_or es (n.serial - 1) 0) f.named end,
     )

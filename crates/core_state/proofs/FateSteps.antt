@@ -1,9 +1,11 @@
 -- What each record does to xids, and to the documents that transactions placed and marked.
-use Rattle.std.proofs.Common.{◌≡◌, ◌≢◌, ◌⊎◌, ◌≤◌, ◌==◌, cond, ℕ, suc, List, [], ◌∷◌, ◌++◌, refl, sym, ap, subst, ◌∙◌, inl, inr, arith}
+use Rattle.std.proofs.Common.{◌≡◌, ◌≢◌, ◌⊎◌, ◌≤◌, ◌==◌, cond, ℕ, suc, List, [], ◌∷◌, ◌++◌, refl, sym, ap, subst, ◌∙◌}
+use Rattle.std.proofs.Common.{inl, inr, arith}
 use Rattle.page_types.specs.declared.record.Record.{Record}
 use Rattle.page_types.specs.declared.record.Kind.{Kind}
 use Rattle.page_types.specs.declared.record.Kind.TheVariants as kind
-use Rattle.core_state.specs.Log.{Log, Pages, In, fate, fate_with, ended, xid_behind, next_xid, serial_behind, next_serial, commits}
+use Rattle.core_state.specs.Log.{Log, Pages, In, fate, fate_with, ended, xid_behind, next_xid, serial_behind}
+use Rattle.core_state.specs.Log.{next_serial, commits}
 use Rattle.core_state.specs.Documents.{Doc, IsDead, placed_with, placed, marked_with, marked, doc_at}
 use Rattle.core_state.specs.Legal.{RuleHolds}
 use Rattle.core_state.specs.Inner.XidsDrawn.{XidsDrawn}

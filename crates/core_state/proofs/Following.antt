@@ -1,5 +1,6 @@
 -- The state of a legal log says of its transactions, numbers and commits.
-use Rattle.std.proofs.Common.{◌≡◌, ◌≢◌, ◌⊎◌, ◌<◌, ◌≤◌, ◌&&◌, nat_lt, ◌^◌, ℕ, zero, suc, true, cond, ◌==◌, List, [], ◌∷◌, ◌++◌, length, map, refl, sym, ap, ap₂, subst, ◌∙◌, inl, inr, arith}
+use Rattle.std.proofs.Common.{◌≡◌, ◌≢◌, ◌⊎◌, ◌<◌, ◌≤◌, ◌&&◌, nat_lt, ◌^◌, ℕ, zero, suc, true, cond, ◌==◌, List, [], ◌∷◌}
+use Rattle.std.proofs.Common.{◌++◌, length, map, refl, sym, ap, ap₂, subst, ◌∙◌, inl, inr, arith}
 use Rattle.std.specs.Prelude.{Option, Some, None, if◌then◌else◌, ⊤}
 use Rattle.std.proofs.lemmas.List.{length-append, map-append, get_or_past}
 use Rattle.page_types.specs.declared.record.Change.{Change}
@@ -7,16 +8,21 @@ use Rattle.page_types.specs.declared.record.Record.{Record}
 use Rattle.page_types.specs.declared.record.Kind.{Kind}
 use Rattle.page_types.specs.declared.record.Kind.TheVariants as kind
 use Rattle.page_types.specs.declared.page.Name.{Name}
-use Rattle.core_state.specs.Log.{Log, Pages, commits, next_xid, next_serial, serial_behind, fate, redo_of, ended, xid_bound}
+use Rattle.core_state.specs.Log.{Log, Pages, commits, next_xid, next_serial, serial_behind, fate, redo_of, ended}
+use Rattle.core_state.specs.Log.{xid_bound}
 use Rattle.core_state.specs.Documents.{Doc, name_of, placed, marked}
 use Rattle.core_state.specs.History.{Document, Commit, History, AreInserts, IsHistory}
 use Rattle.core_state.specs.Legal.{RuleHolds, RecordsAreValid}
 use Rattle.core_state.specs.Lives.{with_ends}
-use Rattle.core_state.specs.States.{StateValue, fate_at, with_fate, all_ended, uses_after, sizes_after, done_by, transaction, without, replaced, begun, committed, aborted, ended_all, placed_head, marked_head, last_serial, step_of, state_of, names}
+use Rattle.core_state.specs.States.{StateValue, fate_at, with_fate, all_ended, uses_after, sizes_after, done_by}
+use Rattle.core_state.specs.States.{transaction, without, replaced, begun, committed, aborted, ended_all, placed_head}
+use Rattle.core_state.specs.States.{marked_head, last_serial, step_of, state_of, names}
 use Rattle.core_state.specs.declared.transactions.Transaction.{Transaction}
 use Rattle.core_state.specs.declared.answers.Fate.{Fate}
 use Rattle.core_state.specs.declared.answers.Fate.TheVariants.{Unused, Running, Aborted, Committed}
-use Rattle.core_state.proofs.RunningOnes.{same_or_other, on_same, on_other, is_same, is_other, with_fate_at, length-with_fate, past_fate, begun_at, joined_at, without_at, replaced_at, HaveBegun, ended_by, all_ended_at, length-all_ended}
+use Rattle.core_state.proofs.RunningOnes.{same_or_other, on_same, on_other, is_same, is_other, with_fate_at}
+use Rattle.core_state.proofs.RunningOnes.{length-with_fate, past_fate, begun_at, joined_at, without_at, replaced_at}
+use Rattle.core_state.proofs.RunningOnes.{HaveBegun, ended_by, all_ended_at, length-all_ended}
 
 -- a transaction is kept where it runs
 abbrev pub kept_by : Fate → Transaction → Option Transaction
@@ -306,7 +312,8 @@ abort_all_kept R s n cs number k =
 
 -- a head is placed
 placed_running : (R : Log) (s : StateValue) (x y : ℕ) (d : Doc) → Kept R s → fate R x ≡ Running
-    → transaction y (replaced (record (done_by R x) { inserted = map name_of (placed R x) ++ name_of d ∷ [] }) s.running)
+    → transaction y
+    (replaced (record (done_by R x) { inserted = map name_of (placed R x) ++ name_of d ∷ [] }) s.running)
     ≡ kept_by (fate R y) (record {
       xid = y;
       deleted = map name_of (marked R y);
@@ -411,7 +418,8 @@ mark_kept : (R : Log) (s : StateValue) (n x : ℕ) (cs : List Change) (item seri
 mark_kept R s n x cs item serial number runs k =
     let d : Doc = record { item = item; serial = serial } in
     let s1 : StateValue = before n cs s in
-    let kept : Kept (rec_of n x (kind.MarkDeleted item serial) cs ∷ R) (marked_head (Some (done_by R x)) d s1) = record {
+    let kept : Kept (rec_of n x (kind.MarkDeleted item serial) cs ∷ R) (marked_head (Some (done_by R x)) d s1) =
+    record {
       records = number;
       fates = k.fates;
       next_xid_is = k.next_xid_is;

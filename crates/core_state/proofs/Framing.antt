@@ -7,7 +7,8 @@ use Rattle.page_types.specs.declared.record.Kind.TheVariants as kind
 use Rattle.page_types.specs.declared.record.Record.{Record}
 use Rattle.core_state.specs.Log.{xid_bound, changed}
 use Rattle.core_state.specs.Documents.{Doc}
-use Rattle.core_state.specs.States.{StateValue, begun, committed, aborted, ended_all, placed_head, marked_head, stepped, transaction, last_serial, uses_after, sizes_after, step_of}
+use Rattle.core_state.specs.States.{StateValue, begun, committed, aborted, ended_all, placed_head, marked_head, stepped}
+use Rattle.core_state.specs.States.{transaction, last_serial, uses_after, sizes_after, step_of}
 use Rattle.core_state.specs.declared.transactions.Transaction.{Transaction}
 use Rattle.core_state.specs.declared.answers.PageUse.{PageUse}
 
@@ -23,7 +24,8 @@ cond_both : {A B : Type 0} (b : Bool) (f : A → B) (x y : A) → cond b (f x) (
 cond_both true f x y = refl
 cond_both false f x y = refl
 
-paged_begun : (x n : ℕ) (us : List PageUse) (ns : List ℕ) (s : StateValue) → begun x (paged n us ns s) ≡ paged n us ns (begun x s)
+paged_begun : (x n : ℕ) (us : List PageUse) (ns : List ℕ) (s : StateValue)
+    → begun x (paged n us ns s) ≡ paged n us ns (begun x s)
 paged_begun x n us ns s = if_both ((x == suc (length s.fates)) && nat_lt x xid_bound) (paged n us ns) _ s
 
 paged_committed : (m x n : ℕ) (us : List PageUse) (ns : List ℕ) (o : Option Transaction) (s : StateValue)
@@ -37,7 +39,8 @@ paged_aborted x n us ns None s = refl
 paged_aborted x n us ns (Some t) s = refl
 
 paged_abort : (x n : ℕ) (us : List PageUse) (ns : List ℕ) (s : StateValue)
-    → cond (x == 0) (ended_all (paged n us ns s)) (aborted x (transaction x s.running) (paged n us ns s)) ≡ paged n us ns
+    → cond (x == 0) (ended_all (paged n us ns s)) (aborted x (transaction x s.running) (paged n us ns s))
+    ≡ paged n us ns
     (cond (x == 0) (ended_all s) (aborted x (transaction x s.running) s))
 paged_abort x n us ns s =
     ap (cond (x == 0) (ended_all (paged n us ns s))) (paged_aborted x n us ns (transaction x s.running) s)
@@ -61,7 +64,8 @@ paged_step (kind.Commit m) x ps n us ns s = paged_committed m x n us ns (transac
 paged_step kind.Abort x ps n us ns s = paged_abort x n us ns s
 paged_step (kind.PlaceHead item serial) x ps n us ns s = paged_placed (record { item = item; serial = serial }) n us ns
     (transaction x s.running) s
-paged_step (kind.MarkDeleted item serial) x ps n us ns s = paged_marked (record { item = item; serial = serial }) n us ns
+paged_step (kind.MarkDeleted item serial) x ps n us ns s =
+    paged_marked (record { item = item; serial = serial }) n us ns
     (transaction x s.running) s
 paged_step _ x ps n us ns s = refl
 

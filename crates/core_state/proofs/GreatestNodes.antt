@@ -1,5 +1,6 @@
 -- The greatest ones of a row of numbers, found in a tree.
-use Rattle.std.proofs.Common.{◌≡◌, ◌<◌, ◌≤◌, ◌+◌, ◌*◌, ◌/◌, ◌%◌, ◌^◌, ℕ, zero, suc, List, ◌-◌, replicate, get_or, drop, refl, sym, ap, subst, ◌∙◌, inl, inr, arith}
+use Rattle.std.proofs.Common.{◌≡◌, ◌<◌, ◌≤◌, ◌+◌, ◌*◌, ◌/◌, ◌%◌, ◌^◌, ℕ, zero, suc, List, ◌-◌, replicate, get_or, drop}
+use Rattle.std.proofs.Common.{refl, sym, ap, subst, ◌∙◌, inl, inr, arith}
 use Rattle.std.proofs.Math.Nat.{one-le-pow, mul-le-mul_left}
 use Rattle.std.proofs.lemmas.List.{drop-replicate}
 use Rattle.core_state.specs.Inner.PeakTrees.{IsPeak, IsWidth, IsPeakTree, IsReached, IsFirstAt}
@@ -32,7 +33,8 @@ under w t (suc k) at l tree node low high in_row =
     let peak : IsPeak t at = tree.peaks at node inner in
     elim (below_or_past l ((2 * at + 1) * s)) [
       | inl left ↦
-          let below : get_or t l 0 ≤ get_or t (2 * at) 0 = under w t k (2 * at) l tree (omega arith) (omega (arith, low'))
+          let below : get_or t l 0 ≤ get_or t (2 * at) 0 =
+          under w t k (2 * at) l tree (omega arith) (omega (arith, low'))
           left in_row in
           omega (arith, below, peak)
       | inr right ↦
@@ -64,7 +66,8 @@ next_node w from bound t at span start tree r small high = record {
   start_is = omega (arith, r.start_is);
   low = omega (arith, r.low);
   high = high;
-  before = λ l low below. more_before w from bound t at span start tree r small l low below (omega (arith, below, high));
+  before =
+      λ l low below. more_before w from bound t at span start tree r small l low below (omega (arith, below, high));
 }
 
 pub node_above : (w from bound : ℕ) (t : List ℕ) (at span start : ℕ) → IsReached w from bound t at span start

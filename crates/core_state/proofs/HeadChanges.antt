@@ -23,7 +23,8 @@ use Rattle.core_state.proofs.PlacedHeads.{same_heap}
 pub one_head : (p : Page) (n : Name) (h g : Head) → HasHead p n h → HasHead p n g → h ≡ g
 one_head p n h g a b =
     let same : a.slots ≡ b.slots = same_heap a.slots b.slots p.body a.content b.content in
-    let there : slot_at b.slots n.slot ≡ Some h = subst (λ (s : List (Option Head)). slot_at s n.slot ≡ Some h) same a.at in
+    let there : slot_at b.slots n.slot ≡ Some h =
+    subst (λ (s : List (Option Head)). slot_at s n.slot ≡ Some h) same a.at in
     let both : Some h ≡ Some g = sym there ∙ b.at in cc
 
 pub head_change : (r : Record) (d : Doc) (old new : Page) (h g : Head) → HasHead old (name_of d) h

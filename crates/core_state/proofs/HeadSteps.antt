@@ -19,7 +19,8 @@ use Rattle.core_state.specs.PendingRules.{IsPutPending, IsLinkHere, IsLinkPendin
 use Rattle.core_state.specs.VacuumRules.{IsDropped, IsDropPage, IsGoneFrom, SlotLoses, IsFreeSlots}
 use Rattle.core_state.specs.Legal.{RuleHolds}
 use Rattle.core_state.proofs.PageLists.{same_or_not, in_or_not, one_page, two_pages, three_pages}
-use Rattle.core_state.specs.Inner.PageKinds.{IsOverflow, IsPending, IsMeta, IsTree, IsDeleted, IsPlain, IsHeadPage, IsChanged, Touched}
+use Rattle.core_state.specs.Inner.PageKinds.{IsOverflow, IsPending, IsMeta, IsTree, IsDeleted, IsPlain, IsHeadPage}
+use Rattle.core_state.specs.Inner.PageKinds.{IsChanged, Touched}
 use Rattle.core_state.proofs.TouchedPages.{head_was}
 use Rattle.core_state.proofs.LivePages.{new_was}
 
@@ -196,7 +197,8 @@ module _ (R : Log) (P Q : Pages) (r : Record) (floor since : ℕ) (touch : (p : 
       let d = x.here.doc in
       let f = two_pages P (changed r) (page_of d.item) x.here.new x.here.old x.here.was x.here.pages x.here.before_is in
       let g = two_pages Q (changed r) (page_of d.item) x.here.new x.here.heap_then _ x.here.pages x.here.after_is in
-      turns (kind.PutOverflow d.item d.serial) d x.here.old x.here.heap_then x.here.head _ x.here.kind_is (λ p e. e) f.0 g.0
+      turns (kind.PutOverflow d.item d.serial) d x.here.old x.here.heap_then x.here.head _ x.here.kind_is
+      (λ p e. e) f.0 g.0
       x.here.head_after refl
 
   pub mark_turned : (x : IsMarkDeleted R P Q r) → HeadTurned P Q x.here.doc x.here.head (record x.here.head
@@ -214,7 +216,8 @@ module _ (R : Log) (P Q : Pages) (r : Record) (floor since : ℕ) (touch : (p : 
       let d = x.here.doc in
       let f = two_pages P (changed r) (page_of d.item) x.here.new x.here.old x.here.was x.here.pages x.here.before_is in
       let g = two_pages Q (changed r) (page_of d.item) x.here.new x.here.heap_then _ x.here.pages x.here.after_is in
-      turns (kind.PutPending d.item d.serial) d x.here.old x.here.heap_then x.here.head _ x.here.kind_is (λ p e. e) f.0 g.0
+      turns (kind.PutPending d.item d.serial) d x.here.old x.here.heap_then x.here.head _ x.here.kind_is
+      (λ p e. e) f.0 g.0
       x.here.head_after refl
 
   -- the heap page of a link, before and after it
@@ -236,7 +239,8 @@ module _ (R : Log) (P Q : Pages) (r : Record) (floor since : ℕ) (touch : (p : 
       let f = link_page (page_of d.item) x.here.head.private x.here.end x.here.added x.here.others x.here.old
       x.here.heap_then x.here.others_before x.here.others_after x.here.linked x.here.pages
       x.here.before_is x.here.after_is in
-      turns (kind.LinkPending d.item d.serial) d x.here.old x.here.heap_then x.here.head _ x.here.kind_is (λ p e. e) f.0 f.1
+      turns (kind.LinkPending d.item d.serial) d x.here.old x.here.heap_then x.here.head _ x.here.kind_is
+      (λ p e. e) f.0 f.1
       x.here.head_after refl
 
   dropped_serial : (h h' : Head) (page right : ℕ) (b : Body) (g : Gone) → IsDropped h page right b g h'

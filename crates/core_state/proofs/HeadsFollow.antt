@@ -1,5 +1,6 @@
 -- The heads follow the log through all kinds of record, with dead meant by any floor.
-use Rattle.std.proofs.Common.{◌≡◌, ◌≢◌, ◌⊎◌, ◌<◌, ◌≤◌, ℕ, [], ◌∷◌, refl, sym, ap, subst, subst₂, ap₂, ◌∙◌, inl, inr, arith}
+use Rattle.std.proofs.Common.{◌≡◌, ◌≢◌, ◌⊎◌, ◌<◌, ◌≤◌, ℕ, [], ◌∷◌, refl, sym, ap, subst, subst₂, ap₂, ◌∙◌, inl, inr}
+use Rattle.std.proofs.Common.{arith}
 use Rattle.std.specs.Prelude.{Some, None}
 use Rattle.page_types.specs.Views.{free_page, slots_of, slot_at}
 use Rattle.page_types.specs.declared.page.Page.{Page}
@@ -18,7 +19,9 @@ use Rattle.core_state.proofs.PageLists.{same_or_not, one_page}
 use Rattle.core_state.proofs.RulesByKind.{kind_rule}
 use Rattle.core_state.proofs.TouchedPages.{head_was}
 use Rattle.core_state.proofs.HeadSteps.{HeadStep}
-use Rattle.core_state.proofs.FateSteps.{HasEnded, FateStep, fate_step, ends_stay, drawn_step, dead_stays, dead_more, placed_on, placed_new, placed_back, marked_on, marked_new, marked_back, serial_grows, serial_next}
+use Rattle.core_state.proofs.FateSteps.{HasEnded, FateStep, fate_step, ends_stay, drawn_step, dead_stays, dead_more}
+use Rattle.core_state.proofs.FateSteps.{placed_on, placed_new, placed_back, marked_on, marked_new, marked_back}
+use Rattle.core_state.proofs.FateSteps.{serial_grows, serial_next}
 
 some_one : (a b : Head) → Some a ≡ Some b → a ≡ b
 some_one a b e = cc

@@ -25,7 +25,8 @@ use Rattle.core_state.proofs.HeadsFollow.{marks_doc, heads_more}
 use Rattle.core_state.proofs.FateSteps.{dead_more}
 use Rattle.core_state.proofs.StaysIndexed.{same_doc, placed_by_head, runs_alive}
 use Rattle.core_state.proofs.Chains.{chain_kept}
-use Rattle.core_state.proofs.ChainFrames.{RemovesDocs, Removed, drop_gone, overflow_chain_stays, private_chain_stays, whole_kept}
+use Rattle.core_state.proofs.ChainFrames.{RemovesDocs, Removed, drop_gone, overflow_chain_stays, private_chain_stays}
+use Rattle.core_state.proofs.ChainFrames.{whole_kept}
 
 -- what a record does to a head: it stays, or it is the record's transaction's own, or it is marked, or its document is
 -- removed

@@ -16,7 +16,8 @@ use Rattle.core_state.specs.Index.{Line}
 use Rattle.core_state.specs.Changes.{made_with}
 use Rattle.core_state.specs.PendingRules.{IsPutPending, IsAddRow, IsLinkHere, IsLinkPending, IsShift}
 use Rattle.core_state.specs.Legal.{RuleHolds}
-use Rattle.core_state.specs.Inner.PageKinds.{IsHeap, IsOverflow, IsPending, IsMeta, IsTree, IsDeleted, PutsRows, ChangesLine, IsChanged, Touched}
+use Rattle.core_state.specs.Inner.PageKinds.{IsHeap, IsOverflow, IsPending, IsMeta, IsTree, IsDeleted, PutsRows}
+use Rattle.core_state.specs.Inner.PageKinds.{ChangesLine, IsChanged, Touched}
 use Rattle.core_state.proofs.PageLists.{in_either, one_page, two_pages, three_pages}
 use Rattle.core_state.proofs.RulesByKind.{kind_rule}
 use Rattle.core_state.proofs.HeadSteps.{rows_turned, link_turned}

@@ -13,7 +13,8 @@ use Rattle.core_state.specs.Index.{children_in, Below, Under, Main}
 use Rattle.core_state.specs.TreeRules.{IsRoot}
 use Rattle.core_state.specs.Known.{use_in}
 use Rattle.core_state.specs.Changes.{IsNew}
-use Rattle.core_state.specs.Inner.PageKinds.{IsHeap, IsOverflow, IsPending, IsMeta, IsTree, IsDeleted, ChangesTrees, IsChanged, Touched}
+use Rattle.core_state.specs.Inner.PageKinds.{IsHeap, IsOverflow, IsPending, IsMeta, IsTree, IsDeleted, ChangesTrees}
+use Rattle.core_state.specs.Inner.PageKinds.{IsChanged, Touched}
 use Rattle.core_state.proofs.PageLists.{in_or_not}
 use Rattle.core_state.proofs.LivePages.{new_was}
 

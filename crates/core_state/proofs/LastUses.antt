@@ -1,5 +1,6 @@
 -- The last of the pages that a log has changed, and how many there are.
-use Rattle.std.proofs.Common.{◌≡◌, ◌≢◌, ◌<◌, ◌≤◌, nat_lt, ◌-◌, ◌+◌, ℕ, suc, Bool, true, false, ◌==◌, List, [], ◌∷◌, ◌++◌, length, get_or, replicate, max, zero, refl, sym, ap, ◌∙◌, inl, inr, arith}
+use Rattle.std.proofs.Common.{◌≡◌, ◌≢◌, ◌<◌, ◌≤◌, nat_lt, ◌-◌, ◌+◌, ℕ, suc, Bool, true, false, ◌==◌, List, [], ◌∷◌}
+use Rattle.std.proofs.Common.{◌++◌, length, get_or, replicate, max, zero, refl, sym, ap, ◌∙◌, inl, inr, arith}
 use Rattle.std.specs.Prelude.{if◌then◌else◌}
 use Rattle.std.proofs.lemmas.List.{length-append, length-replicate, length-set, get_or_past}
 use Rattle.page_types.specs.Numbers.{page_limit}
@@ -23,7 +24,8 @@ ends_put : (us : List PageUse) (p : ℕ) (u : PageUse) → u ≢ usage.Unused �
 ends_put us p u new old n is e =
     let size : length us + (suc p - length us) ≡ suc n = sym (length-with_use us p u) ∙ is in
     elim (same_or_other n p) [
-      | inl f ↦ new (sym (put_here usage.Unused us p u) ∙ ap (λ (q : ℕ). get_or (with_use p u us) q usage.Unused) (sym f) ∙ e)
+      | inl f ↦ new
+          (sym (put_here usage.Unused us p u) ∙ ap (λ (q : ℕ). get_or (with_use p u us) q usage.Unused) (sym f) ∙ e)
       | inr d ↦ old n (omega (arith, size, d)) (sym (put_else usage.Unused us p n u d) ∙ e)
     ]
 
@@ -62,7 +64,8 @@ long_enough us (suc n) q is ends changed = omega (arith, changed n (ends n is))
 pub extent_is : (s : StateValue) (us : List PageUse) (e : ℕ) → us ≡ s.uses → EndsUsed us → e ≡ max s.pages (length us)
     → IsLeast (AreBelow s) e
 extent_is s us e same ends is =
-    let told : (p : ℕ) → use_of s p ≡ get_or us p usage.Unused = λ p. ap (λ (vs : List PageUse). get_or vs p usage.Unused)
+    let told : (p : ℕ) → use_of s p ≡ get_or us p usage.Unused =
+    λ p. ap (λ (vs : List PageUse). get_or vs p usage.Unused)
     (sym same) in
     record {
       holds = record {
@@ -73,7 +76,8 @@ extent_is s us e same ends is =
         ];
       };
       least = λ q b.
-          let long : length us ≤ q = long_enough us (length us) q refl ends (λ p used. b.changed p (λ f. used (sym (told p) ∙ f))) in
+          let long : length us ≤ q =
+          long_enough us (length us) q refl ends (λ p used. b.changed p (λ f. used (sym (told p) ∙ f))) in
           let pages : s.pages ≤ q = b.pages in
           omega (arith, is, long, pages);
     }

@@ -1,5 +1,6 @@
 -- The kinds of records as the lists of placed documents see them, and what each does to these lists.
-use Rattle.std.proofs.Common.{◌≡◌, ◌≢◌, ◌⊎◌, ◌<◌, ◌&&◌, nat_lt, ℕ, zero, suc, Bool, true, false, cond, ◌==◌, List, [], ◌∷◌, ◌++◌, length, map, refl, ap, subst, inl, inr, arith}
+use Rattle.std.proofs.Common.{◌≡◌, ◌≢◌, ◌⊎◌, ◌<◌, ◌&&◌, nat_lt, ℕ, zero, suc, Bool, true, false, cond, ◌==◌, List, []}
+use Rattle.std.proofs.Common.{◌∷◌, ◌++◌, length, map, refl, ap, subst, inl, inr, arith}
 use Rattle.std.specs.Prelude.{Option, Some, None, if◌then◌else◌, ⊤}
 use Rattle.std.specs.List.{slice_get}
 use Rattle.page_types.specs.declared.record.Kind.{Kind}
@@ -7,7 +8,8 @@ use Rattle.page_types.specs.declared.record.Kind.TheVariants as kind
 use Rattle.core_state.specs.Log.{In, serial_behind, xid_bound}
 use Rattle.core_state.specs.Documents.{Doc, page_of, name_of}
 use Rattle.core_state.specs.Lives.{with_ends}
-use Rattle.core_state.specs.States.{StateValue, transaction, committed, aborted, ended_all, placed_head, marked_head, last_serial, with_page, stepped}
+use Rattle.core_state.specs.States.{StateValue, transaction, committed, aborted, ended_all, placed_head, marked_head}
+use Rattle.core_state.specs.States.{last_serial, with_page, stepped}
 use Rattle.core_state.specs.declared.answers.Fate.{Fate}
 use Rattle.core_state.specs.declared.answers.Fate.TheVariants.{Unused, Running, Aborted, Committed}
 use Rattle.core_state.specs.declared.lives.Placed.{Placed}
@@ -69,7 +71,8 @@ pub stepped_same : (k : Kind) (x : ℕ) (ps : List ℕ) (s : StateValue) → IsO
 stepped_same (kind.PlaceHead i n) x ps s o = absurd o
 stepped_same (kind.Commit n) x ps s o = absurd o
 stepped_same kind.Begin x ps s o =
-    begun_same ((x == suc (length s.fates)) && nat_lt x xid_bound) s _ (record { placed_same = refl; ends_same = refl; heaps_same = refl })
+    begun_same ((x == suc (length s.fates)) && nat_lt x xid_bound) s _
+    (record { placed_same = refl; ends_same = refl; heaps_same = refl })
 stepped_same kind.Abort x ps s o = cond_same (x == 0) s (ended_all s) (aborted x (transaction x s.running) s)
     (record { placed_same = refl; ends_same = refl; heaps_same = refl }) (aborted_same x (transaction x s.running) s)
 stepped_same (kind.MarkDeleted item serial) x ps s o =
@@ -90,7 +93,8 @@ tested a b c e = grind (arith, e)
 
 pub placing_by : (b : Bool) (t : Transaction) (d : Doc) (s s' : StateValue) → (b ≡ true → d.serial ≡ s.next_serial)
     → s'.placed ≡ s.placed ++ record { item = d.item; xid = t.xid } ∷ [] → s'.ends ≡ s.ends ++ 0 ∷ []
-    → s'.heaps ≡ with_page (page_of d.item) s.heaps → (if b then s' else s).next_serial ≢ s.next_serial → Placing (Some t) d s (if b then s' else s)
+    → s'.heaps ≡ with_page (page_of d.item) s.heaps → (if b then s' else s).next_serial ≢ s.next_serial
+    → Placing (Some t) d s (if b then s' else s)
 placing_by true t d s s' next p e h off =
     record { t = t; is = refl; next = next refl; placed_is = p; ends_is = e; heaps_is = h }
 placing_by false t d s s' next p e h off = absurd (off refl)
@@ -123,7 +127,8 @@ committing_by false n t s s' some p e h off = absurd (off refl)
 pub committing_of : (n x : ℕ) (o : Option Transaction) (s : StateValue)
     → length (committed n x o s).deleted ≢ length s.deleted → Committing n o s (committed n x o s)
 committing_of n x None s off = absurd (off refl)
-committing_of n x (Some t) s off = committing_by (n == suc (length s.deleted)) n t s _ (above_zero n (length s.deleted)) refl refl refl off
+committing_of n x (Some t) s off =
+    committing_by (n == suc (length s.deleted)) n t s _ (above_zero n (length s.deleted)) refl refl refl off
 
 -- a transaction that is kept runs
 pub runs_of : (f : Fate) (t u : Transaction) → kept_by f t ≡ Some u → (f ≡ Running) × (t ≡ u)

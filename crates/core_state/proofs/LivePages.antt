@@ -11,7 +11,8 @@ use Rattle.core_state.specs.Log.{Pages, In, changed}
 use Rattle.core_state.specs.Known.{use_by, use_in}
 use Rattle.core_state.specs.Changes.{IsNew}
 use Rattle.core_state.specs.declared.answers.PageUse.TheVariants as usage
-use Rattle.core_state.specs.Inner.PageKinds.{IsHeap, IsOverflow, IsPending, IsMeta, IsTree, IsDeleted, IsPlain, IsChanged, Touched}
+use Rattle.core_state.specs.Inner.PageKinds.{IsHeap, IsOverflow, IsPending, IsMeta, IsTree, IsDeleted, IsPlain}
+use Rattle.core_state.specs.Inner.PageKinds.{IsChanged, Touched}
 
 -- content of a kind that isn't that of a free page
 not_free_of : (K : Body → Type 0) (b : Body) → (K body.Free → ⊥) → K b → b ≢ body.Free

@@ -1,5 +1,6 @@
 -- The documents that were placed, and the commits that deleted them, after each record of a legal log.
-use Rattle.std.proofs.Common.{◌≡◌, ◌≢◌, ◌<◌, ◌+◌, ◌-◌, ℕ, zero, suc, List, [], ◌∷◌, ◌++◌, length, get_or, map, refl, sym, ap, subst, ◌∙◌, inl, inr, arith}
+use Rattle.std.proofs.Common.{◌≡◌, ◌≢◌, ◌<◌, ◌+◌, ◌-◌, ℕ, zero, suc, List, [], ◌∷◌, ◌++◌, length, get_or, map, refl}
+use Rattle.std.proofs.Common.{sym, ap, subst, ◌∙◌, inl, inr, arith}
 use Rattle.std.specs.Prelude.{Option, Some, None, ◌↔◌}
 use Rattle.std.specs.List.{slice_get}
 use Rattle.std.proofs.lemmas.List.{length-append, get_or_append_left}
@@ -7,25 +8,31 @@ use Rattle.page_types.specs.declared.page.Name.{Name}
 use Rattle.page_types.specs.declared.record.Record.{Record}
 use Rattle.page_types.specs.declared.record.Kind.{Kind}
 use Rattle.page_types.specs.declared.record.Kind.TheVariants as kind
-use Rattle.core_state.specs.Log.{Log, Pages, In, changed, fate, next_serial, serial_behind, commits, commits_with, fate_with}
+use Rattle.core_state.specs.Log.{Log, Pages, In, changed, fate, next_serial, serial_behind, commits, commits_with}
+use Rattle.core_state.specs.Log.{fate_with}
 use Rattle.core_state.specs.Documents.{Doc, page_of, name_of, placed, marked, doc_at}
 use Rattle.core_state.specs.Legal.{RuleHolds, RecordsAreValid}
 use Rattle.core_state.specs.Lives.{IsLife, IsHeapPage, first_end, with_ends, life_by, life_in}
-use Rattle.core_state.specs.States.{StateValue, fate_of, transaction, committed, placed_head, noted, done_by, with_page, stepped, step_of, state_of, life_of}
+use Rattle.core_state.specs.States.{StateValue, fate_of, transaction, committed, placed_head, noted, done_by, with_page}
+use Rattle.core_state.specs.States.{stepped, step_of, state_of, life_of}
 use Rattle.core_state.specs.Inner.HeadsKept.{HeadsKept}
 use Rattle.core_state.specs.Inner.LivesKept.{IsPlacedAt, IsEnd, LivesKept}
 use Rattle.core_state.specs.declared.answers.Fate.{Fate}
 use Rattle.core_state.specs.declared.answers.Fate.TheVariants.{Running, Committed}
 use Rattle.core_state.specs.declared.lives.Placed.{Placed}
 use Rattle.core_state.specs.declared.transactions.Transaction.{Transaction}
-use Rattle.core_state.proofs.FateSteps.{FateStep, HasEnded, fate_step, ends_stay, commits_back, placed_on, placed_new, placed_back, marked_on, marked_back}
+use Rattle.core_state.proofs.FateSteps.{FateStep, HasEnded, fate_step, ends_stay, commits_back, placed_on, placed_new}
+use Rattle.core_state.proofs.FateSteps.{placed_back, marked_on, marked_back}
 use Rattle.core_state.proofs.HeadsFollow.{marks_doc}
 use Rattle.core_state.proofs.SteadyEnds.{heads_kept}
 use Rattle.core_state.proofs.RisingSearch.{in_with, in_still, in_back}
 use Rattle.core_state.proofs.RunningOnes.{on_same}
 use Rattle.core_state.proofs.Following.{Kept, kept}
 use Rattle.core_state.proofs.DocumentLives.{AnEnd, an_end, length-with_ends, suc_end, life_told}
-use Rattle.core_state.proofs.LifeCases.{IsOther, KindCase, kind_case, other_places, other_commits, other_serial, SameLists, stepped_same, Placing, placing_of, Committing, committing_of, runs_of, get_front, get_last, get_back, get_within, in_named, named_in, running_committed}
+use Rattle.core_state.proofs.LifeCases.{IsOther, KindCase, kind_case, other_places, other_commits, other_serial}
+use Rattle.core_state.proofs.LifeCases.{SameLists, stepped_same, Placing, placing_of, Committing, committing_of}
+use Rattle.core_state.proofs.LifeCases.{runs_of, get_front, get_last, get_back, get_within, in_named, named_in}
+use Rattle.core_state.proofs.LifeCases.{running_committed}
 
 -- a document as transaction xid placed it
 abbrev placed_as : ℕ → ℕ → Placed
@@ -93,7 +100,8 @@ module _ (R : Log) (P Q : Pages) (r : Record) (floor since n : ℕ) (D : HeadsKe
         record {
           place = length ps;
           serial = sym serial ∙ last;
-          at = get_last ps q ∙ ap (λ (j : ℕ). Some (placed_as j r.xid)) item ∙ ap (λ (y : ℕ). Some (placed_as d.item y)) w.1;
+          at = get_last ps q ∙ ap (λ (j : ℕ). Some (placed_as j r.xid)) item
+              ∙ ap (λ (y : ℕ). Some (placed_as d.item y)) w.1;
         }
 
     old_there : (x : ℕ) (d : Doc) → IsPlacedAt ps d x → IsPlacedAt (ps ++ q ∷ []) d x
@@ -224,7 +232,8 @@ module _ (R : Log) (P Q : Pages) (r : Record) (floor since n : ℕ) (D : HeadsKe
 
 lists_of : (R : Log) (s : StateValue) (ps qs : List Placed) (es fs : List ℕ) → ps ≡ qs → es ≡ fs → LivesKept R qs fs
     → LivesKept R ps es
-lists_of R s ps qs es fs e f k = subst (λ (z : List Placed). LivesKept R z es) (sym e) (subst (LivesKept R qs) (sym f) k)
+lists_of R s ps qs es fs e f k =
+    subst (λ (z : List Placed). LivesKept R z es) (sym e) (subst (LivesKept R qs) (sym f) k)
 
 -- the heap pages say of the log
 abbrev HeapsTold : Log → List ℕ → Type 0
@@ -302,7 +311,8 @@ module _ (R : Log) (P Q : Pages) (r : Record) (floor since n : ℕ) (s : StateVa
     | KindCase.is_commit c e ↦ commit_row c e
     | KindCase.is_other o ↦
         let w : SameLists (noted r s) (step_of r s) = stepped_same r.kind r.xid (changed r) (noted r s) o in
-        lists_of (r ∷ R) s _ _ _ _ w.placed_same w.ends_same (other_lives R P Q r floor since n D row s.placed s.ends L o)
+        lists_of (r ∷ R) s _ _ _ _ w.placed_same w.ends_same
+        (other_lives R P Q r floor since n D row s.placed s.ends L o)
   ]
 
   -- the heap pages say of the log
@@ -338,14 +348,16 @@ module _ (R : Log) (P Q : Pages) (r : Record) (floor since n : ℕ) (s : StateVa
           let both : kind.PlaceHead i sr ≡ kind.PlaceHead w.doc.item w.doc.serial = sym e ∙ new.0 in
           let item : i ≡ w.doc.item = cc in
           let page : page_of i ≡ p = ap page_of item ∙ w.on in
-          subst (In p) (sym is) (subst (λ (x : ℕ). In x (with_page (page_of i) s.heaps)) page (in_with (page_of i) s.heaps))
+          subst (In p) (sym is)
+          (subst (λ (x : ℕ). In x (with_page (page_of i) s.heaps)) page (in_with (page_of i) s.heaps))
     ],
   )
 
   pub row_heaps : HeapsTold R s.heaps → Heaps (step_of r s)
   row_heaps h = elim (kind_case r.kind) [
     | KindCase.is_place i sr e ↦ subst Heaps (sym (placed_step i sr e))
-        (heaps_grow i sr (placed_head (transaction r.xid s.running) (doc_at i sr) (noted r s)).heaps e (placing i sr e).heaps_is h)
+        (heaps_grow i sr (placed_head (transaction r.xid s.running) (doc_at i sr) (noted r s)).heaps e
+        (placing i sr e).heaps_is h)
     | KindCase.is_commit c e ↦ subst Heaps (sym (committed_step c e))
         (heaps_stay (committed c r.xid (transaction r.xid s.running) (noted r s)).heaps (committing c e).heaps_is
         (λ i sr f. let both : kind.Commit c ≡ kind.PlaceHead i sr = sym e ∙ f in absurd (cc)) h)

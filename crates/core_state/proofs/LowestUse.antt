@@ -1,5 +1,6 @@
 -- The lowest unused page, after each change.
-use Rattle.std.proofs.Common.{◌≡◌, ◌≢◌, ◌≤◌, nat_lt, ℕ, Bool, true, false, cond, ◌==◌, List, [], ◌∷◌, get_or, sym, ◌∙◌, inl, inr, arith}
+use Rattle.std.proofs.Common.{◌≡◌, ◌≢◌, ◌≤◌, nat_lt, ℕ, Bool, true, false, cond, ◌==◌, List, [], ◌∷◌, get_or, sym, ◌∙◌}
+use Rattle.std.proofs.Common.{inl, inr, arith}
 use Rattle.std.specs.Prelude.{if◌then◌else◌}
 use Rattle.page_types.specs.Numbers.{page_limit}
 use Rattle.page_types.specs.declared.record.Change.{Change}

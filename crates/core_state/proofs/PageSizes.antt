@@ -1,5 +1,6 @@
 -- The state of a legal log says the length of each page's body.
-use Rattle.std.proofs.Common.{◌≡◌, ◌≢◌, ◌≤◌, ◌+◌, ◌-◌, nat_lt, ℕ, suc, Bool, true, false, cond, ◌==◌, List, [], ◌∷◌, ◌++◌, length, take, drop, get_or, map, refl, sym, ap, subst, ◌∙◌, inl, inr, arith}
+use Rattle.std.proofs.Common.{◌≡◌, ◌≢◌, ◌≤◌, ◌+◌, ◌-◌, nat_lt, ℕ, suc, Bool, true, false, cond, ◌==◌, List, [], ◌∷◌}
+use Rattle.std.proofs.Common.{◌++◌, length, take, drop, get_or, map, refl, sym, ap, subst, ◌∙◌, inl, inr, arith}
 use Rattle.std.specs.Prelude.{if◌then◌else◌}
 use Rattle.std.specs.List.{AllByRecursion}
 use Rattle.std.proofs.lemmas.List.{length-append, length-take, length-drop, get_or_past}
@@ -109,7 +110,8 @@ sized_by number (c ∷ cs) ns p old is once (inl e) =
     (first_sized number c cs ns old is.0 (not_again c cs once.0))
 sized_by number (c ∷ cs) ns p old is once (inr i) =
     let off : p ≢ c.page = λ e. not_again c cs once.0 (subst (λ (q : ℕ). In q (map (λ (d : Change). d.page) cs)) e i) in
-    let there = sized_by number cs (one_size c ns) p (cond (c.page == p) (edited number c.edit old) old) is.1 once.1 i in
+    let there =
+    sized_by number cs (one_size c ns) p (cond (c.page == p) (edited number c.edit old) old) is.1 once.1 i in
     record {
       change = there.change;
       there = inr there.there;

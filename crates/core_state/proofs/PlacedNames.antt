@@ -1,5 +1,6 @@
 -- The names that a transaction placed rise by serial.
-use Rattle.std.proofs.Common.{◌≡◌, ◌<◌, ℕ, suc, List, [], ◌∷◌, ◌++◌, length, map, refl, sym, subst, ◌∙◌, inl, inr, arith}
+use Rattle.std.proofs.Common.{◌≡◌, ◌<◌, ℕ, suc, List, [], ◌∷◌, ◌++◌, length, map, refl, sym, subst, ◌∙◌, inl, inr}
+use Rattle.std.proofs.Common.{arith}
 use Rattle.std.specs.List.{AllByRecursion}
 use Rattle.page_types.specs.declared.page.Name.{Name}
 use Rattle.page_types.specs.declared.record.Kind.{Kind}
@@ -29,7 +30,8 @@ step_rises : (k : Kind) (xid x : ℕ) (ds : List Doc) → RiseBySerial (map name
 step_rises (kind.PlaceHead i s) xid x ds up below = elim (same_or_other xid x) [
   | inl e ↦ subst (λ (es : List Doc). RiseBySerial (map name_of es)) (sym (on_same xid x (ds ++ doc_at i s ∷ []) ds e))
       (rise_more ds (doc_at i s) up (below i s refl))
-  | inr d ↦ subst (λ (es : List Doc). RiseBySerial (map name_of es)) (sym (on_other xid x (ds ++ doc_at i s ∷ []) ds d)) up
+  | inr d ↦ subst (λ (es : List Doc). RiseBySerial (map name_of es))
+      (sym (on_other xid x (ds ++ doc_at i s ∷ []) ds d)) up
 ]
 step_rises _ xid x ds up below = up
 

@@ -1,6 +1,8 @@
 -- A list with an element at a place, which may lie after its end.
-use Rattle.std.proofs.Common.{◌≡◌, ◌≢◌, ◌-◌, ℕ, suc, List, ◌++◌, length, get_or, replicate, refl, sym, ◌∙◌, inl, inr, arith}
-use Rattle.std.proofs.lemmas.List.{length-append, length-replicate, get_or-set_other, get_or_past, get_or_append_left, get_or-append_right, get_or-replicate}
+use Rattle.std.proofs.Common.{◌≡◌, ◌≢◌, ◌-◌, ℕ, suc, List, ◌++◌, length, get_or, replicate, refl, sym, ◌∙◌, inl, inr}
+use Rattle.std.proofs.Common.{arith}
+use Rattle.std.proofs.lemmas.List.{length-append, length-replicate, get_or-set_other, get_or_past, get_or_append_left}
+use Rattle.std.proofs.lemmas.List.{get_or-append_right, get_or-replicate}
 use Rattle.std.proofs.lemmas.Grind.{get_or-set_at}
 use Rattle.core_state.specs.States.{put_at}
 use Rattle.core_state.proofs.RunningOnes.{below_or_past}

@@ -1,5 +1,6 @@
 -- Which head a snapshot sees: that of a document which is there after so many first commits.
-use Rattle.std.proofs.Common.{◌≡◌, ◌≢◌, ◌⊎◌, ◌<◌, ◌≤◌, ◌==◌, cond, ℕ, zero, suc, Bool, true, false, not, nat_lt, List, [], ◌∷◌, ◌++◌, map, take, length, refl, sym, ap, ap₂, subst, ◌∙◌, inl, inr, arith}
+use Rattle.std.proofs.Common.{◌≡◌, ◌≢◌, ◌⊎◌, ◌<◌, ◌≤◌, ◌==◌, cond, ℕ, zero, suc, Bool, true, false, not, nat_lt, List}
+use Rattle.std.proofs.Common.{[], ◌∷◌, ◌++◌, map, take, length, refl, sym, ap, ap₂, subst, ◌∙◌, inl, inr, arith}
 use Rattle.std.specs.Prelude.{Some, if◌then◌else◌, ◌↔◌}
 use Rattle.std.specs.List.{filter}
 use Rattle.page_types.specs.declared.page.Head.{Head}
@@ -9,7 +10,8 @@ use Rattle.page_types.specs.declared.record.Kind.{Kind}
 use Rattle.page_types.specs.declared.record.Kind.TheVariants as kind
 use Rattle.core_state.specs.Log.{Log, Pages, In, fate, fate_with, commits}
 use Rattle.core_state.specs.Documents.{Doc, name_of, placed, placed_with, marked, head_of, doc_at}
-use Rattle.core_state.specs.History.{Document, Commit, History, inserts, deletes, AreInserts, IsHistoryWith, IsHistory, docs, has_serial, with_document, by_serial, stays}
+use Rattle.core_state.specs.History.{Document, Commit, History, inserts, deletes, AreInserts, IsHistoryWith, IsHistory}
+use Rattle.core_state.specs.History.{docs, has_serial, with_document, by_serial, stays}
 use Rattle.core_state.specs.Legal.{RecordsAreValid}
 use Rattle.core_state.specs.Standing.{Sees, IsInSnapshot}
 use Rattle.core_state.specs.Inner.HeadsKept.{HeadsKept}
@@ -128,7 +130,8 @@ deleter_of (kind.Commit m) r R H n x v k known h i =
     let j = in_joined (λ (c : Commit). c.deleted) (take n H) x i in
     let at : In j.0 (take n (h.0 ++ h.1 ∷ [])) = subst (λ z. In j.0 (take n z)) h.4 j.1 in
     elim (take_last n h.0 h.1 j.0 at) [
-      | inl old ↦ deleter_on r R n x v (known h.0 h.2 (joined_in (λ (c : Commit). c.deleted) (take n h.0) j.0 x old j.2))
+      | inl old ↦ deleter_on r R n x v
+          (known h.0 h.2 (joined_in (λ (c : Commit). c.deleted) (take n h.0) j.0 x old j.2))
       | inr new ↦
           let d = of_map name_of x (marked R r.xid)
           (subst (In x) h.3.deleted (subst (λ (z : Commit). In x z.deleted) new.0 j.2)) in
@@ -204,14 +207,16 @@ no_serial s (x ∷ xs) off = ap₂ Rattle.std.proofs.Common.◌||◌ (differs x.
 there_in : (H : History) (D : Document) → In D (inserts H) → ((x : Name) → In x (deletes H)
     → x.serial ≢ D.name.serial) → In D (docs H)
 there_in H D i off = sorted_in (filter (λ (d : Document). stays d (deletes H)) (inserts H)) D
-    (filter_in (λ (d : Document). stays d (deletes H)) (inserts H) D i (ap not (no_serial D.name.serial (deletes H) off)))
+    (filter_in (λ (d : Document). stays d (deletes H)) (inserts H) D i
+    (ap not (no_serial D.name.serial (deletes H) off)))
 
 -- a name is one document's
 same_name : (d e : Doc) → name_of d ≡ name_of e → d ≡ e
 same_name d e f = ap₂ doc_at (one_item d.item e.item (ap (λ (n : Name). n.page) f) (ap (λ (n : Name). n.slot) f))
     (ap (λ (n : Name). n.serial) f)
 
-module _ (k : ℕ) (R : Log) (P : Pages) (v : RecordsAreValid R) (K : HeadsKept k R P) (i : ℕ) (h : Head) (at : head_of P i
+module _ (k : ℕ) (R : Log) (P : Pages) (v : RecordsAreValid R) (K : HeadsKept k R P) (i : ℕ) (h : Head)
+    (at : head_of P i
     ≡ Some h) (H : History) (n : ℕ) (history : IsHistory R H) where
   abbrev doc : Doc
   doc = doc_at i h.serial
@@ -228,7 +233,8 @@ module _ (k : ℕ) (R : Log) (P : Pages) (v : RecordsAreValid R) (K : HeadsKept 
         within = V.inserted.counted;
         not_deleted = λ m e l. elim (K.deleted i h at) [
           | inl none ↦ unused m (sym K.xids.none ∙ ap (fate R) (sym none) ∙ e)
-          | inr marks ↦ V.unmarked h.deleted_by m e l (subst (λ (d : Doc). In d (marked R h.deleted_by)) (sym same) marks)
+          | inr marks ↦ V.unmarked h.deleted_by m e l
+              (subst (λ (d : Doc). In d (marked R h.deleted_by)) (sym same) marks)
         ];
       }
     where

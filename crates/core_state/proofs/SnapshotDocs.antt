@@ -1,10 +1,12 @@
 -- The documents that are there after some commits are among those inserted, and were not deleted.
-use Rattle.std.proofs.Common.{◌≡◌, ◌≢◌, ◌⊎◌, ◌<◌, ◌≤◌, ℕ, zero, suc, Bool, true, false, not, ◌==◌, nat_lt, List, [], ◌∷◌, ◌++◌, length, take, map, refl, sym, ap, subst, ◌∙◌, inl, inr, arith}
+use Rattle.std.proofs.Common.{◌≡◌, ◌≢◌, ◌⊎◌, ◌<◌, ◌≤◌, ℕ, zero, suc, Bool, true, false, not, ◌==◌, nat_lt, List, []}
+use Rattle.std.proofs.Common.{◌∷◌, ◌++◌, length, take, map, refl, sym, ap, subst, ◌∙◌, inl, inr, arith}
 use Rattle.std.specs.Prelude.{if◌then◌else◌}
 use Rattle.std.specs.List.{flat_map, filter, list_any}
 use Rattle.page_types.specs.declared.page.Name.{Name}
 use Rattle.core_state.specs.Log.{In}
-use Rattle.core_state.specs.History.{Document, History, inserts, deletes, has_serial, with_document, by_serial, stays, docs}
+use Rattle.core_state.specs.History.{Document, History, inserts, deletes, has_serial, with_document, by_serial, stays}
+use Rattle.core_state.specs.History.{docs}
 use Rattle.core_state.proofs.PageLists.{in_either, in_front, in_back}
 
 -- elements of joined lists

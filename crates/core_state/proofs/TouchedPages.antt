@@ -1,5 +1,6 @@
 -- What each page that a record changes was before it, and is after it.
-use Rattle.std.proofs.Common.{◌≡◌, ◌≢◌, ◌⊎◌, ℕ, suc, List, [], ◌∷◌, ◌++◌, length, map, refl, sym, ap, subst, ◌∙◌, inl, inr, arith}
+use Rattle.std.proofs.Common.{◌≡◌, ◌≢◌, ◌⊎◌, ℕ, suc, List, [], ◌∷◌, ◌++◌, length, map, refl, sym, ap, subst, ◌∙◌, inl}
+use Rattle.std.proofs.Common.{inr, arith}
 use Rattle.std.specs.Prelude.{Option}
 use Rattle.ts_base.specs.Keys.{Key}
 use Rattle.page_types.specs.Views.{free_page, slots_in, slots_of, slot_at, first_in, first_of}
@@ -20,13 +21,17 @@ use Rattle.core_state.specs.Changes.{made_with, IsNew, IsHeadChange}
 use Rattle.core_state.specs.TransactionRules.{IsCreate}
 use Rattle.core_state.specs.HeapRules.{IsPlaceHead, IsPutOverflow, IsMarkDeleted}
 use Rattle.core_state.specs.PendingRules.{IsPutPending, IsAddRow, IsLinkHere, IsLinkPending, IsShift}
-use Rattle.core_state.specs.TreeRules.{IsAddItems, IsMakeTree, IsAddPostings, OneChild, IsGrowRoot, EntryHalves, PostHalves, IsDivided, IsSplit, IsDeletePost}
+use Rattle.core_state.specs.TreeRules.{IsAddItems, IsMakeTree, IsAddPostings, OneChild, IsGrowRoot, EntryHalves}
+use Rattle.core_state.specs.TreeRules.{PostHalves, IsDivided, IsSplit, IsDeletePost}
 use Rattle.core_state.specs.VacuumRules.{ListsLose, IsRemoveItems, IsDropped, IsDropPage, IsFreeSlots}
 use Rattle.core_state.specs.Legal.{RuleHolds}
-use Rattle.core_state.specs.Inner.PageKinds.{IsHeap, IsOverflow, IsPending, IsMeta, IsTree, IsDeleted, IsPlain, IsHeadPage, PutsRows, ChangesLine, ChangesTrees, IsFirstOf, IsChanged, Touched}
+use Rattle.core_state.specs.Inner.PageKinds.{IsHeap, IsOverflow, IsPending, IsMeta, IsTree, IsDeleted, IsPlain}
+use Rattle.core_state.specs.Inner.PageKinds.{IsHeadPage, PutsRows, ChangesLine, ChangesTrees, IsFirstOf, IsChanged}
+use Rattle.core_state.specs.Inner.PageKinds.{Touched}
 use Rattle.core_state.proofs.Showing.{shown_one, none_yet, shown_none}
 use Rattle.core_state.proofs.Histories.{chain_one}
-use Rattle.core_state.proofs.PageLists.{in_back, of_none, of_one, of_two, of_three, one_page, two_pages, three_pages, unlinked_pages}
+use Rattle.core_state.proofs.PageLists.{in_back, of_none, of_one, of_two, of_three, one_page, two_pages, three_pages}
+use Rattle.core_state.proofs.PageLists.{unlinked_pages}
 
 -- a body at a page that is known
 was_body : (K : Body → Type 0) (P : Pages) (p : ℕ) (old : Page) (b : Body) → P p ≡ old → old.body ≡ b → K b

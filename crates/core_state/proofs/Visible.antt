@@ -1,6 +1,7 @@
 -- A document of a snapshot in the log: who placed and committed it, with which vector, and that no commit of the
 -- snapshot marked it.
-use Rattle.std.proofs.Common.{◌≡◌, ◌<◌, ◌≤◌, ◌==◌, cond, ℕ, zero, suc, Bool, true, false, List, [], ◌∷◌, ◌++◌, length, length-append, take, refl, sym, ap, subst, ◌∙◌, inl, inr, arith}
+use Rattle.std.proofs.Common.{◌≡◌, ◌<◌, ◌≤◌, ◌==◌, cond, ℕ, zero, suc, Bool, true, false, List, [], ◌∷◌, ◌++◌, length}
+use Rattle.std.proofs.Common.{length-append, take, refl, sym, ap, subst, ◌∙◌, inl, inr, arith}
 use Rattle.ts_base.specs.Vectors.{Vector}
 use Rattle.page_types.specs.declared.page.Name.{Name}
 use Rattle.page_types.specs.declared.record.Record.{Record}
@@ -8,7 +9,8 @@ use Rattle.page_types.specs.declared.record.Kind.{Kind}
 use Rattle.page_types.specs.declared.record.Kind.TheVariants as kind
 use Rattle.core_state.specs.Log.{Log, Pages, In, Shows, fate, fate_with, ended, commits}
 use Rattle.core_state.specs.Documents.{Doc, HasVector, name_of, placed, marked}
-use Rattle.core_state.specs.History.{Document, Commit, History, inserts, deletes, AreInserts, IsCommitOf, IsHistoryWith, IsHistory, docs}
+use Rattle.core_state.specs.History.{Document, Commit, History, inserts, deletes, AreInserts, IsCommitOf, IsHistoryWith}
+use Rattle.core_state.specs.History.{IsHistory, docs}
 use Rattle.core_state.specs.Legal.{RecordsAreValid}
 use Rattle.core_state.specs.declared.answers.Fate.{Fate}
 use Rattle.core_state.specs.declared.answers.Fate.TheVariants.{Unused, Running, Aborted, Committed}
@@ -18,7 +20,8 @@ use Rattle.core_state.proofs.SteadyEnds.{xids_drawn, fates_step}
 use Rattle.core_state.proofs.HeadsFollow.{marks_doc}
 use Rattle.core_state.proofs.RulesByKind.{kind_rule}
 use Rattle.core_state.proofs.Trees.Members.{in_map}
-use Rattle.core_state.proofs.SnapshotDocs.{in_joined, joined_in, take_last, take_more, take_end, there_inserted, there_undeleted}
+use Rattle.core_state.proofs.SnapshotDocs.{in_joined, joined_in, take_last, take_more, take_end, there_inserted}
+use Rattle.core_state.proofs.SnapshotDocs.{there_undeleted}
 
 -- the commit of a document, whose vector was in the pages before it
 pub record CommittedAt (R : Log) (d : Doc) (v : Vector) (number : ℕ) : Type 0 where
@@ -158,7 +161,8 @@ unended Running c e = cc
 unended Aborted c e = cc
 unended (Committed n) c e = e
 
-pub committed_before : (k : Kind) (x y c : ℕ) (f : Fate) → NotCommit k → fate_with k x y f ≡ Committed c → f ≡ Committed c
+pub committed_before : (k : Kind) (x y c : ℕ) (f : Fate) → NotCommit k → fate_with k x y f ≡ Committed c
+    → f ≡ Committed c
 committed_before (kind.Commit n) x y c f off e = absurd off
 committed_before kind.Begin x y c f off e = by (x == y) e
   where

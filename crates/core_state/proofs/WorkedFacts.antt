@@ -1,6 +1,7 @@
 -- What the laws say of pages and of documents, at pages that were worked out: it is so where they are, and not
 -- where one thing of them is broken.
-use Rattle.std.proofs.Common.{◌≡◌, ◌==◌, cond, Bool, true, false, ℕ, zero, suc, List, [], ◌∷◌, ◌++◌, length, length-append, get_or, refl, sym, ap, subst, ◌∙◌, inl, inr, arith}
+use Rattle.std.proofs.Common.{◌≡◌, ◌==◌, cond, Bool, true, false, ℕ, zero, suc, List, [], ◌∷◌, ◌++◌, length}
+use Rattle.std.proofs.Common.{length-append, get_or, refl, sym, ap, subst, ◌∙◌, inl, inr, arith}
 use Rattle.std.specs.Prelude.{Option, Some, None}
 use Rattle.ts_base.specs.Keys.{Key}
 use Rattle.page_types.specs.Views.{free_page, rows_of}
@@ -22,7 +23,8 @@ use Rattle.core_state.specs.Readings.{Read, AreReads}
 use Rattle.core_state.specs.Standing.{DocumentsStand}
 use Rattle.core_state.specs.Steady.{LiveStay, DeadGetNoRow, PlacesStay, PinnedPlacesStay}
 use Rattle.core_state.specs.Bullets.PagePlace.{line}
-use Rattle.core_state.specs.PagesTold.{IsLastOf, HasRowOn, StartsWith, ListStands, KindsStand, HasHighKey, HasHighItem, LeavesInOrder, IsEntryLeaf, OnEntryLeaf, UpEntryLeaf, IsLastChange}
+use Rattle.core_state.specs.PagesTold.{IsLastOf, HasRowOn, StartsWith, ListStands, KindsStand, HasHighKey, HasHighItem}
+use Rattle.core_state.specs.PagesTold.{LeavesInOrder, IsEntryLeaf, OnEntryLeaf, UpEntryLeaf, IsLastChange}
 use Rattle.core_state.specs.RecordKeeps.{PlacingKeeps, RecordKeeps}
 use Rattle.core_state.specs.declared.answers.Fate.TheVariants.{Unused, Running, Aborted, Committed}
 use Rattle.core_state.proofs.Histories.{chain_one}

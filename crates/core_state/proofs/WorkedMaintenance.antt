@@ -1,7 +1,8 @@
 -- The rules of maintenance, at pages that the document of the first run leaves: checkpoints, trees of postings, and
 -- what is
 -- removed where its transaction was aborted.
-use Rattle.std.proofs.Common.{◌≡◌, ◌≢◌, ℕ, zero, suc, ◌<◌, ◌≤◌, List, [], ◌∷◌, length, get_or, refl, sym, ap, subst, ◌∙◌, inl, inr, arith}
+use Rattle.std.proofs.Common.{◌≡◌, ◌≢◌, ℕ, zero, suc, ◌<◌, ◌≤◌, List, [], ◌∷◌, length, get_or, refl, sym, ap, subst}
+use Rattle.std.proofs.Common.{◌∙◌, inl, inr, arith}
 use Rattle.std.specs.Prelude.{Option, Some, None}
 use Rattle.std.specs.List.{slice_get}
 use Rattle.page_types.specs.Numbers.{no_bound}
@@ -27,7 +28,8 @@ use Rattle.core_state.specs.Known.{use_in}
 use Rattle.core_state.specs.Changes.{IsNew, IsDeadHead}
 use Rattle.core_state.specs.TransactionRules.{IsCheckpoint}
 use Rattle.core_state.specs.TreeRules.{IsMakeTree, IsLeftLeaf, IsUnlinked, IsDeletePost}
-use Rattle.core_state.specs.VacuumRules.{ItemsLeave, ItemGoes, EntryLoses, ListsLose, MayLeave, IsRemoveItems, IsDropped, IsDropPage}
+use Rattle.core_state.specs.VacuumRules.{ItemsLeave, ItemGoes, EntryLoses, ListsLose, MayLeave, IsRemoveItems}
+use Rattle.core_state.specs.VacuumRules.{IsDropped, IsDropPage}
 use Rattle.core_state.specs.declared.answers.PageUse.TheVariants as usage
 use Rattle.core_state.proofs.Worked as first
 use Rattle.core_state.proofs.WorkedPending as rows
@@ -176,7 +178,8 @@ each_leaves floor i (inr e) = absurd e
 
 each_went : (i : ℕ) → In i (4096 ∷ []) → ItemGoes i (body.EntryLeaf [] full) (body.EntryLeaf [] emptied)
 each_went i (inl e) =
-    ItemGoes.from_entry [] full emptied 0 (rows.entry rows.cat_key) (bare rows.cat_key) (128 ∷ 32 ∷ []) [] refl refl refl
+    ItemGoes.from_entry [] full emptied 0 (rows.entry rows.cat_key) (bare rows.cat_key)
+    (128 ∷ 32 ∷ []) [] refl refl refl
     refl (subst (In i) (sym rows.list_is) (inl e)) (λ there. subst (In i) rows.none_is there)
 each_went i (inr e) = absurd e
 

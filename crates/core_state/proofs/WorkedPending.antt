@@ -1,7 +1,8 @@
 -- The rules of kinds that no worked log has yet, at the document of the first run: its row is put and linked, and
 -- moves to the
 -- tree of keys; and where its transaction is aborted its slot becomes free.
-use Rattle.std.proofs.Common.{◌≡◌, ◌≢◌, ℕ, zero, suc, ◌<◌, List, [], ◌∷◌, length, get_or, refl, sym, ap, subst, ◌∙◌, inl, inr, arith}
+use Rattle.std.proofs.Common.{◌≡◌, ◌≢◌, ℕ, zero, suc, ◌<◌, List, [], ◌∷◌, length, get_or, refl, sym, ap, subst, ◌∙◌}
+use Rattle.std.proofs.Common.{inl, inr, arith}
 use Rattle.std.specs.Prelude.{Option, Some, None}
 use Rattle.ts_base.specs.Vectors.{Vector}
 use Rattle.ts_base.specs.Keys.{Key, keys_of}

@@ -1,5 +1,6 @@
 -- Steps of sessions at a log that was worked out: one insert on an empty store.
-use Rattle.std.proofs.Common.{◌≡◌, ◌≢◌, ◌<◌, ℕ, zero, suc, List, [], ◌∷◌, length, refl, sym, ap, subst, ◌∙◌, inl, inr, arith}
+use Rattle.std.proofs.Common.{◌≡◌, ◌≢◌, ◌<◌, ℕ, zero, suc, List, [], ◌∷◌, length, refl, sym, ap, subst, ◌∙◌, inl, inr}
+use Rattle.std.proofs.Common.{arith}
 use Rattle.std.proofs.lemmas.List.{length-append}
 use Rattle.std.specs.Prelude.{Option, Some, None}
 use Rattle.ts_base.specs.Vectors.{Vector}
@@ -20,7 +21,8 @@ use Rattle.core_state.specs.declared.answers.Fate.TheVariants.{Running}
 use Rattle.core_state.specs.declared.answers.PageUse.TheVariants as usage
 use Rattle.core_state.proofs.Showing.{shown_one}
 use Rattle.core_state.proofs.Newest.{legal_less}
-use Rattle.core_state.proofs.Worked.{head, heap_page, made, placed_by, head_record, commit_record, log_begun, log_placed, shown_begun, shown_placed, ready, legal}
+use Rattle.core_state.proofs.Worked.{head, heap_page, made, placed_by, head_record, commit_record, log_begun}
+use Rattle.core_state.proofs.Worked.{log_placed, shown_begun, shown_placed, ready, legal}
 use Rattle.core_state.proofs.Steps.Transactions.{commit_may}
 use Rattle.core_state.proofs.WorkedMore as more
 use Rattle.core_state.proofs.WorkedLong as long

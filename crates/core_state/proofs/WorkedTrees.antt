@@ -1,6 +1,7 @@
 -- Rules that only later logs meet: a row comes after those of the last pending page, items come to
 -- a posting tree, and a root grows.
-use Rattle.std.proofs.Common.{◌≡◌, ◌≢◌, ℕ, zero, suc, ◌<◌, List, [], ◌∷◌, ◌++◌, length, refl, sym, ap, subst, ◌∙◌, inl, inr, arith}
+use Rattle.std.proofs.Common.{◌≡◌, ◌≢◌, ℕ, zero, suc, ◌<◌, List, [], ◌∷◌, ◌++◌, length, refl, sym, ap, subst, ◌∙◌, inl}
+use Rattle.std.proofs.Common.{inr, arith}
 use Rattle.page_types.specs.Items.{items_of}
 use Rattle.page_types.specs.Encoding.{body_bytes}
 use Rattle.page_types.specs.Views.{free_page, rows_in}

@@ -1,5 +1,6 @@
 -- What the calls of a device in memory do to a folder over it.
-use Rattle.std.proofs.Common.{◌≡◌, ◌⊎◌, ℕ, ◌<◌, ◌≤◌, true, Bool, ◌&&◌, List, ◌++◌, length, refl, ◌∙◌, subst, ⊎_elim, arith, length-append}
+use Rattle.std.proofs.Common.{◌≡◌, ◌⊎◌, ℕ, ◌<◌, ◌≤◌, true, Bool, ◌&&◌, List, ◌++◌, length, refl, ◌∙◌, subst, ⊎_elim}
+use Rattle.std.proofs.Common.{arith, length-append}
 use Rattle.std.proofs.lemmas.List.{take-append-le}
 use Rattle.disk_trait.specs.Device.{FileTorn, Follows, LeavesNoMore, LeavesAll, Elapses, Reads}
 use Rattle.disk_trait.specs.declared.device.File.{File}
@@ -33,13 +34,15 @@ pub tears_part : {X : Type 0} (tells : Type 0) (file f : File) (at k n : ℕ) (a
     → (X × LeavesNoMore (left_now b) (left_now a))
     ⊎ LeavesAll (FileTorn file at k) (left_now a) (left_now b)
     → Elapses a.clock b.clock a.image b.image → Stays a b → OnlyTears tells f at n a b
-tears_part {X} tells file f at k n a b same within torn all time stays = subst (λ g. OnlyTears tells g at n a b) same (record {
-  torn = λ _ c left.
-      let d = torn c left in
-      (d.0, d.1, file_torn_within file at n at k d.0 c (omega arith) (omega (arith, within)) d.2);
-  no_less = λ c left. ⊎_elim
-      (λ (none : X × LeavesNoMore (left_now b) (left_now a)). none.1 c left)
-      (λ (more : LeavesAll (FileTorn file at k) (left_now a) (left_now b)). more c c left (torn_none file at k c)) all;
-  time = time;
-  stays = stays;
-})
+tears_part {X} tells file f at k n a b same within torn all time stays =
+    subst (λ g. OnlyTears tells g at n a b) same (record {
+      torn = λ _ c left.
+          let d = torn c left in
+          (d.0, d.1, file_torn_within file at n at k d.0 c (omega arith) (omega (arith, within)) d.2);
+      no_less = λ c left. ⊎_elim
+          (λ (none : X × LeavesNoMore (left_now b) (left_now a)). none.1 c left)
+          (λ (more : LeavesAll (FileTorn file at k) (left_now a) (left_now b)). more c c left (torn_none file at k c))
+          all;
+      time = time;
+      stays = stays;
+    })

@@ -1,5 +1,6 @@
 -- Bytes that are read or written in parts.
-use Rattle.std.proofs.Common.{◌≡◌, ℕ, ◌+◌, ◌-◌, ◌≤◌, List, [], ◌∷◌, ◌++◌, length, take, drop, replicate, refl, sym, ◌∙◌, ap, subst, arith, append_assoc, length-append, length-take-le}
+use Rattle.std.proofs.Common.{◌≡◌, ℕ, ◌+◌, ◌-◌, ◌≤◌, List, [], ◌∷◌, ◌++◌, length, take, drop, replicate, refl, sym, ◌∙◌}
+use Rattle.std.proofs.Common.{ap, subst, arith, append_assoc, length-append, length-take-le}
 use Rattle.std.proofs.Math.Seq.{take-add, take-append-add}
 use Rattle.std.proofs.lemmas.List.{take-append-le, drop-drop, take_at, drop_at, append-nil, length-replicate}
 use Rattle.disk_trait.specs.Files.{Files, file_bytes, padded, overwritten}
@@ -21,7 +22,14 @@ read_more got n k buf part rest within in_part before is =
 pub within_more : (got n k : ℕ) (buf part : List ℕ) → got ≤ length buf → n ≤ length part
     → got + n ≤ length (put_mid got k buf part)
 within_more got n k buf part within in_part =
-    omega (arith, within, in_part, length-take-le got buf within, length-append (take got buf) (part ++ post_of got k buf), length-append part (post_of got k buf))
+    omega (
+      arith,
+      within,
+      in_part,
+      length-take-le got buf within,
+      length-append (take got buf) (part ++ post_of got k buf),
+      length-append part (post_of got k buf),
+    )
 
 length-padded : (at : ℕ) (old : List ℕ) → at ≤ length (padded at old)
 length-padded at old =
@@ -35,7 +43,8 @@ overwritten_then at xs ys old =
     let behind : List ℕ = drop (at + length xs) old in
     let gap : List ℕ = replicate (at + length xs - length (front ++ behind)) 0 in
     let size : length (take at (padded at old) ++ xs) ≡ at + length xs =
-    omega (arith, length-append (take at (padded at old)) xs, length-take-le at (padded at old) (length-padded at old)) in
+    omega (arith, length-append (take at (padded at old)) xs, length-take-le at (padded at old) (length-padded at old))
+    in
     let long : at + length xs ≤ length ((take at (padded at old) ++ xs) ++ drop (at + length xs) old) =
     omega (arith, size, length-append (take at (padded at old) ++ xs) (drop (at + length xs) old)) in
     let kept : take (at + length xs) ((front ++ behind) ++ gap) ≡ front =
@@ -56,14 +65,16 @@ put_then f at [] ys a b c x y =
     subst (λ (s : Files). HasPut f at ys s c) same (subst (λ i. HasPut f i ys b c) place y)
 put_then f at (x1 ∷ xs) [] a b c x y =
     let same : c ≡ b = y.none refl in
-    subst (λ (l : List ℕ). HasPut f at l a c) (sym (append-nil (x1 ∷ xs))) (subst (λ (s : Files). HasPut f at (x1 ∷ xs) a s) (sym same) x)
+    subst (λ (l : List ℕ). HasPut f at l a c) (sym (append-nil (x1 ∷ xs)))
+    (subst (λ (s : Files). HasPut f at (x1 ∷ xs) a s) (sym same) x)
 put_then f at (x1 ∷ xs) (y1 ∷ ys) a b c x y =
     let first : FileWritten f at (x1 ∷ xs) a b = x.some (omega arith) in
     let second : FileWritten f (at + length (x1 ∷ xs)) (y1 ∷ ys) b c = y.some (omega arith) in
     record {
       none = λ no. let never : ⊥ = omega (arith, no, length-append (x1 ∷ xs) (y1 ∷ ys)) in absurd never;
       some = λ _. record {
-        written = second.written ∙ ap (overwritten (at + length (x1 ∷ xs)) (y1 ∷ ys)) first.written ∙ overwritten_then at (x1 ∷ xs) (y1 ∷ ys) (file_bytes f a);
+        written = second.written ∙ ap (overwritten (at + length (x1 ∷ xs)) (y1 ∷ ys)) first.written
+            ∙ overwritten_then at (x1 ∷ xs) (y1 ∷ ys) (file_bytes f a);
         same = second.same ∙ first.same;
       };
     }
@@ -76,4 +87,5 @@ put_more f at put n bytes part a b c within is x y =
     let rest : HasPut f (at + put) (take n (drop put bytes)) b c =
     subst (λ (l : List ℕ). HasPut f (at + put) (take n l) b c) is y in
     subst (λ (l : List ℕ). HasPut f at l a c) (sym (take-add put n bytes))
-    (put_then f at (take put bytes) (take n (drop put bytes)) a b c x (subst (λ i. HasPut f i (take n (drop put bytes)) b c) place rest))
+    (put_then f at (take put bytes) (take n (drop put bytes)) a b c x
+    (subst (λ i. HasPut f i (take n (drop put bytes)) b c) place rest))

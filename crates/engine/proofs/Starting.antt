@@ -6,7 +6,8 @@ use Rattle.engine.specs.Opening.{OpensTo, IsNoStore, NoStoreIsNone}
 use Rattle.buffer_frames.proofs.OnePageFirst.{empty_opens}
 use Rattle.buffer_frames.proofs.OnePageFiles.{opens_is_store}
 
-pub no_refusal : NoStoreIsNone → (files : Files) (H : History) → ((i : ℕ) → get_or files.log i 0 < 256) → OpensTo files H → IsNoStore files → ⊥
+pub no_refusal : NoStoreIsNone → (files : Files) (H : History) → ((i : ℕ) → get_or files.log i 0 < 256)
+    → OpensTo files H → IsNoStore files → ⊥
 no_refusal none files H bytes o refused = (none files bytes).0 refused o.records (opens_is_store files H o)
 
 pub none_opens : OpensTo (record { log = []; pages = [] }) []

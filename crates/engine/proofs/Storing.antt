@@ -1,5 +1,6 @@
 -- The value of a store after an insertion.
-use Rattle.std.proofs.Common.{◌≡◌, inl, inr, ℕ, ◌+◌, ◌<◌, ◌≤◌, List, [], ◌∷◌, ◌++◌, length, length-append, map, arith, refl, sym, ◌∙◌, ap, subst}
+use Rattle.std.proofs.Common.{◌≡◌, inl, inr, ℕ, ◌+◌, ◌<◌, ◌≤◌, List, [], ◌∷◌, ◌++◌, length, length-append, map, arith}
+use Rattle.std.proofs.Common.{refl, sym, ◌∙◌, ap, subst}
 use Rattle.std.specs.Prelude.{Some, None, sum_by}
 use Rattle.std.proofs.lemmas.Bool.{cases_lt}
 use Rattle.std.proofs.lemmas.List.Sums.{sum_by_push}
@@ -42,19 +43,24 @@ pub draft_kept : {D : Type 0} (s : DbValue D) (v : Vector) (d : Prepared) → s.
     → kept_in d.heap ≡ s.documents ++ (let k : Kept = record { serial = next_serial_of s; vector = v } in k) ∷ []
 draft_kept s v d same f =
     let h : Head = new_head (next_serial_of s) (next_xid_of s) (vector_bytes v) in
-    let short : length (vector_bytes v) ≤ 2000 = elim (cases_lt 2000 (length (vector_bytes v))) [ inl lt ↦ absurd (f.fits (inl lt)) | inr le ↦ le ] in
+    let short : length (vector_bytes v) ≤ 2000 =
+    elim (cases_lt 2000 (length (vector_bytes v))) [ inl lt ↦ absurd (f.fits (inl lt)) | inr le ↦ le ] in
     let k : Kept = record { serial = next_serial_of s; vector = v } in
     ap kept_in f.heap ∙ kept_more s.heap h k refl (encoded v f.normal (encoding_has_size v) short)
     ∙ ap (λ ks. ks ++ k ∷ []) (sym same)
 
-module _ {D : Type 0} (device : Disk D) (old : DbValue D) (mid next : JournalValue D) (v : Vector) (used : ℕ) (d : Prepared) (f : Flushes device old mid next v used d) where
+module _ {D : Type 0} (device : Disk D) (old : DbValue D) (mid next : JournalValue D) (v : Vector) (used : ℕ)
+    (d : Prepared) (f : Flushes device old mid next v used d) where
   some_made : 0 < next.state.records
   some_made =
-      let number : mid.state.records ≡ d.insertion.number + 2 = ap (λ z. z.records) (f.has.state ∙ ap (λ rs. steps_of rs (after_owed old.journal.owes old.journal.state)) f.prepared.records) ∙ numbers (after_owed old.journal.owes old.journal.state) d.insertion d.heap in
+      let number : mid.state.records ≡ d.insertion.number + 2 = ap (λ z. z.records)
+      (f.has.state ∙ ap (λ rs. steps_of rs (after_owed old.journal.owes old.journal.state)) f.prepared.records)
+      ∙ numbers (after_owed old.journal.owes old.journal.state) d.insertion d.heap in
       omega (arith, ap (λ z. z.records) f.state, number)
 
   -- where the device failed
-  pub value_down : (documents : List Kept) → documents ≡ old.documents → (down_of next.wal ≡ None → ⊥) → IsDbValue device (record { documents = documents; heap = old.heap; journal = next }) used
+  pub value_down : (documents : List Kept) → documents ≡ old.documents → (down_of next.wal ≡ None → ⊥)
+      → IsDbValue device (record { documents = documents; heap = old.heap; journal = next }) used
   value_down documents e fell = record {
     small = f.value.small;
     few = omega (arith, f.value.few, ap length e);
@@ -71,7 +77,11 @@ module _ {D : Type 0} (device : Disk D) (old : DbValue D) (mid next : JournalVal
   }
 
   -- where the records were put: the longer log has the new page
-  known_up : (documents : List Kept) → documents ≡ old.documents ++ (let k : Kept = record { serial = next_serial_of old; vector = v } in k) ∷ [] → device.tells → down_of next.wal ≡ None → (R : Log) (H : History) → Stands device next R → IsLogOf R H → IsHeapOf R H documents d.heap
+  known_up : (documents : List Kept) → documents ≡ old.documents ++ (let k : Kept = record {
+    serial = next_serial_of old;
+    vector = v;
+  } in k) ∷ [] → device.tells → down_of next.wal ≡ None → (R : Log) (H : History) → Stands device next R → IsLogOf R H
+      → IsHeapOf R H documents d.heap
   known_up documents e t up R H st l =
       let log : Log = f.value.log in
       let k : Kept = record { serial = next_serial_of old; vector = v } in
@@ -79,32 +89,60 @@ module _ {D : Type 0} (device : Disk D) (old : DbValue D) (mid next : JournalVal
       let R' : Log = logged old.journal.owes d.records log in
       let same : R ≡ R' = stands_one device f.one next R R' st (f.stands R' (f.logged log f.value.stands)) t up in
       let l' : IsLogOf R' H = subst (λ z. IsLogOf z H) same l in
-      let b : (K : History) × IsLogOf log K = lawful_before old.journal.owes d.insertion d.heap log H (subst (λ rs. IsLogOf (logged old.journal.owes rs log) H) f.prepared.records l') in
-      let more : IsLogOf R' (b.0 ++ c ∷ []) = follows device old used v d f.value f.prepared (encoding_has_size v) t f.up log b.0 f.value.stands b.1 in
+      let b : (K : History) × IsLogOf log K = lawful_before old.journal.owes d.insertion d.heap log H
+      (subst (λ rs. IsLogOf (logged old.journal.owes rs log) H) f.prepared.records l') in
+      let more : IsLogOf R' (b.0 ++ c ∷ []) =
+      follows device old used v d f.value f.prepared (encoding_has_size v) t f.up log b.0 f.value.stands b.1 in
       let longer : H ≡ b.0 ++ c ∷ [] = history_one R' H (b.0 ++ c ∷ []) l'.history more.history in
       let before : IsHeapOf log b.0 old.documents old.heap = f.value.known t f.up log b.0 f.value.stands b.1 in
       record {
-        documents = longer ∙ ap (λ z. z ++ c ∷ []) before.documents ∙ pushed old.documents k ∙ ap (λ z. map insertion (documents_from 0 z)) (sym e);
+        documents = longer ∙ ap (λ z. z ++ c ∷ []) before.documents ∙ pushed old.documents k
+            ∙ ap (λ z. map insertion (documents_from 0 z)) (sym e);
         slots_are = λ P shown.
             let bytes : page_bytes (P 2) ≡ page_bytes (heap_with (d.insertion.number + 1) d.heap) =
-            (shown 2).1 ∙ ap (λ z. replay z 2) (same ∙ ap (λ rs. logged old.journal.owes rs log) f.prepared.records) ∙ replayed old.journal.owes d.insertion d.heap log in
+            (shown 2).1 ∙ ap (λ z. replay z 2) (same ∙ ap (λ rs. logged old.journal.owes rs log) f.prepared.records)
+            ∙ replayed old.journal.owes d.insertion d.heap log in
             ap slots_of (page_told (P 2) (heap_with (d.insertion.number + 1) d.heap) (shown 2).0 f.prepared.page bytes);
       }
 
-  pub value_up : (documents : List Kept) → documents ≡ old.documents ++ (let k : Kept = record { serial = next_serial_of old; vector = v } in k) ∷ [] → waiting next.wal ≡ [] → IsDbValue device (record { documents = documents; heap = d.heap; journal = next }) (used + (29 + d.size))
+  pub value_up : (documents : List Kept) → documents ≡ old.documents ++ (let k : Kept =
+      record { serial = next_serial_of old; vector = v } in k) ∷ [] → waiting next.wal ≡ []
+      → IsDbValue device (record { documents = documents; heap = d.heap; journal = next }) (used + (29 + d.size))
   value_up documents e none =
       let k : Kept = record { serial = next_serial_of old; vector = v } in
       let h : Head = new_head (next_serial_of old) (next_xid_of old) (vector_bytes v) in
-      let short : length (vector_bytes v) ≤ 2000 = elim (cases_lt 2000 (length (vector_bytes v))) [ inl lt ↦ absurd (f.prepared.fits (inl lt)) | inr le ↦ le ] in
-      let left : sum_by room_of old.documents + room v ≤ 8168 = elim (cases_lt 8168 (sum_by room_of old.documents + room v)) [ inl lt ↦ absurd (f.prepared.fits (inr lt)) | inr le ↦ le ] in
+      let short : length (vector_bytes v) ≤ 2000 =
+      elim (cases_lt 2000 (length (vector_bytes v))) [ inl lt ↦ absurd (f.prepared.fits (inl lt)) | inr le ↦ le ] in
+      let left : sum_by room_of old.documents + room v ≤ 8168 = elim (cases_lt 8168
+      (sum_by room_of old.documents + room v)) [ inl lt ↦ absurd (f.prepared.fits (inr lt)) | inr le ↦ le ] in
       record {
         small = omega (arith, f.value.taken, f.prepared.size, left);
         few = omega (arith, f.value.few, ap length e, length-append old.documents (k ∷ []));
-        taken = omega (arith, f.value.taken, f.prepared.size, ap (sum_by room_of) e, sum_by_push room_of old.documents k);
-        fits = omega (arith, ap (λ z. length (flat_map slot_bytes z)) f.prepared.heap, bytes_push old.heap (Some h), head_room (next_serial_of old) (next_xid_of old) (vector_bytes v), f.value.fits, f.prepared.size);
-        heads = omega (arith, ap length f.prepared.heap, length-append old.heap (Some h ∷ []), f.value.heads, ap length e, length-append old.documents (k ∷ []));
+        taken =
+            omega (arith, f.value.taken, f.prepared.size, ap (sum_by room_of) e, sum_by_push room_of old.documents k);
+        fits = omega (
+          arith,
+          ap (λ z. length (flat_map slot_bytes z)) f.prepared.heap,
+          bytes_push old.heap (Some h),
+          head_room (next_serial_of old) (next_xid_of old) (vector_bytes v),
+          f.value.fits,
+          f.prepared.size,
+        );
+        heads = omega (
+          arith,
+          ap length f.prepared.heap,
+          length-append old.heap (Some h ∷ []),
+          f.value.heads,
+          ap length e,
+          length-append old.documents (k ∷ []),
+        );
         each = subst (AllByRecursion IsSlot) (sym f.prepared.heap)
-            (slots_push old.heap (Some h) f.value.each (new_is_head (next_serial_of old) (next_xid_of old) (vector_bytes v) (omega (arith, f.prepared.serial, f.prepared.small_serial)) (omega (arith, f.prepared.some_xid)) short));
+            (slots_push old.heap (Some h) f.value.each
+            (new_is_head (next_serial_of old) (next_xid_of old) (vector_bytes v) (omega (
+              arith,
+              f.prepared.serial,
+              f.prepared.small_serial,
+            )) (omega (arith, f.prepared.some_xid)) short));
         encoded = subst AreEncoded (sym f.prepared.heap)
             (encoded_push old.heap h v f.value.encoded (encoded v f.prepared.normal (encoding_has_size v) short));
         idle = λ up. omega (arith, ap length none);

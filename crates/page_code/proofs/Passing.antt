@@ -1,5 +1,6 @@
 -- The tests of reading, and what they test.
-use Rattle.std.proofs.Common.{◌≡◌, ℕ, zero, suc, ◌≤◌, Bool, true, false, ◌&&◌, eqb, List, [], ◌∷◌, length, Result, Ok, Err, refl, sym, ap, ◌∙◌, arith, inl, inr}
+use Rattle.std.proofs.Common.{◌≡◌, ℕ, zero, suc, ◌≤◌, Bool, true, false, ◌&&◌, eqb, List, [], ◌∷◌, length, Result, Ok}
+use Rattle.std.proofs.Common.{Err, refl, sym, ap, ◌∙◌, arith, inl, inr}
 use Rattle.std.specs.Prelude.{nat_le, MatchResult, ◌||◌, ◌⊎◌}
 use Rattle.std.specs.Result.{is_ok}
 use Rattle.std.specs.Str.{IsUtf8, is_utf8}
@@ -66,7 +67,8 @@ text_tested P Q text (Ok s) passes h is = is ∙ sym (is_utf8-from_IsUtf8 text h
 text_tested P Q text (Err e) passes h is = is ∙ sym (no_text text (is_utf8 text) h.0 refl)
 
 -- what the test for UTF-8 says of a text of a lexeme's length
-pub lexeme_tested : (text : List ℕ) (passes : Bool) → 1 ≤ length text → length text ≤ 2046 → passes ≡ is_utf8 text → passes ≡ is_key_text text
+pub lexeme_tested : (text : List ℕ) (passes : Bool) → 1 ≤ length text → length text ≤ 2046 → passes ≡ is_utf8 text
+    → passes ≡ is_key_text text
 lexeme_tested text passes some most is = rw (le-leb 1 (length text) some, le-leb (length text) 2046 most) is
 
 less_by : (o : Ordering) → is_lt o ≡ true → o ≡ Less

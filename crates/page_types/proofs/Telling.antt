@@ -45,7 +45,8 @@ u64_told m n a b p q e =
     (number_told 8 m n p q parts.0, parts.1)
 
 -- a list whose length is said before it
-pub sized_told : (x y a b : List ℕ) → length x < 2 ^ 16 → length y < 2 ^ 16 → u16_bytes (length x) ++ (x ++ a) ≡ u16_bytes (length y) ++ (y ++ b) → (x ≡ y) × (a ≡ b)
+pub sized_told : (x y a b : List ℕ) → length x < 2 ^ 16 → length y < 2 ^ 16
+    → u16_bytes (length x) ++ (x ++ a) ≡ u16_bytes (length y) ++ (y ++ b) → (x ≡ y) × (a ≡ b)
 sized_told x y a b p q e =
     let sizes = u16_told (length x) (length y) (x ++ a) (y ++ b) p q e in
     parts_told x y a b sizes.0 sizes.1
@@ -56,7 +57,9 @@ key_told x y a b p q e =
     sized_told x y a b p q (sym (append_assoc (u16_bytes (length x)) x a) ∙ e ∙ append_assoc (u16_bytes (length y)) y b)
 
 -- a list of so many values
-pub each_told : {A : Type 0} (encode : A → List ℕ) (Fits : A → Type 0) → Tells encode Fits → (xs ys : List A) (a b : List ℕ) → length xs ≡ length ys → AllByRecursion Fits xs → AllByRecursion Fits ys → flat_map encode xs ++ a ≡ flat_map encode ys ++ b → (xs ≡ ys) × (a ≡ b)
+pub each_told : {A : Type 0} (encode : A → List ℕ) (Fits : A → Type 0) → Tells encode Fits
+    → (xs ys : List A) (a b : List ℕ) → length xs ≡ length ys → AllByRecursion Fits xs → AllByRecursion Fits ys
+    → flat_map encode xs ++ a ≡ flat_map encode ys ++ b → (xs ≡ ys) × (a ≡ b)
 each_told encode Fits told [] [] a b l p q e = (refl, e)
 each_told encode Fits told [] (y ∷ ys) a b l p q e = absurd (omega arith)
 each_told encode Fits told (x ∷ xs) [] a b l p q e = absurd (omega arith)
@@ -69,5 +72,7 @@ each_told {A} encode Fits told (x ∷ xs) (y ∷ ys) a b l p q e =
     (ap (λ h. P h xs) first.0 ∙ ap (P y) rest.0, rest.1)
 
 -- with nothing after it
-pub all_told : {A : Type 0} (encode : A → List ℕ) (Fits : A → Type 0) → Tells encode Fits → (xs ys : List A) → length xs ≡ length ys → AllByRecursion Fits xs → AllByRecursion Fits ys → flat_map encode xs ≡ flat_map encode ys → xs ≡ ys
-all_told encode Fits told xs ys l p q e = (each_told encode Fits told xs ys [] [] l p q (ap (λ (t : List ℕ). t ++ []) e)).0
+pub all_told : {A : Type 0} (encode : A → List ℕ) (Fits : A → Type 0) → Tells encode Fits → (xs ys : List A) → length xs
+    ≡ length ys → AllByRecursion Fits xs → AllByRecursion Fits ys → flat_map encode xs ≡ flat_map encode ys → xs ≡ ys
+all_told encode Fits told xs ys l p q e =
+    (each_told encode Fits told xs ys [] [] l p q (ap (λ (t : List ℕ). t ++ []) e)).0

@@ -50,7 +50,8 @@ alone item keys w (inl e) = ap (λ (x : Row). x.item) e
 alone item keys w (inr h) = absurd h
 
 pub packed_logged : PackedPageIsLogged
-packed_logged k r since d h new old was heap_then page keys pages packed are on kind_is changed_is own is_new head_after =
+packed_logged k r since d h new old was heap_then page keys pages packed are on kind_is changed_is own is_new
+    head_after =
     let one = one_of d.item keys pages page packed are.rising on in
     record {
       doc = d;

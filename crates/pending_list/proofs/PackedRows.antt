@@ -1,7 +1,9 @@
 -- How long rows are, and pages that are packed one after the other.
-use Rattle.std.proofs.Common.{◌≡◌, ◌≢◌, ℕ, zero, suc, ◌+◌, ◌<◌, ◌≤◌, List, [], ◌∷◌, ◌++◌, length, map, take, drop, get_or, refl, sym, ap, subst, ◌∙◌, append_assoc, arith}
+use Rattle.std.proofs.Common.{◌≡◌, ◌≢◌, ℕ, zero, suc, ◌+◌, ◌<◌, ◌≤◌, List, [], ◌∷◌, ◌++◌, length, map, take, drop}
+use Rattle.std.proofs.Common.{get_or, refl, sym, ap, subst, ◌∙◌, append_assoc, arith}
 use Rattle.std.specs.List.{AllByRecursion, flat_map}
-use Rattle.std.proofs.lemmas.List.{length-append, length-map, length-take-le, take_more, take_all, drop_more, take-append-drop}
+use Rattle.std.proofs.lemmas.List.{length-append, length-map, length-take-le, take_more, take_all, drop_more}
+use Rattle.std.proofs.lemmas.List.{take-append-drop}
 use Rattle.std.proofs.lemmas.List.Concat.{flat_map-append}
 use Rattle.page_types.specs.Numbers.{most_body, item_limit}
 use Rattle.page_types.specs.Keys.{IsKey, KeyLess, Rising}

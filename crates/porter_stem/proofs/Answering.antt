@@ -22,7 +22,8 @@ stem_lexeme word h = record {
   utf8 = stem_utf8 word h.utf8;
 }
 
-pub porter_valid : (stops : List (List ℕ)) (word : List ℕ) → 1 ≤ length word → length word ≤ LONGEST_LEXEME → IsUtf8 word → IsWordAnswer (porter_answer stops word)
+pub porter_valid : (stops : List (List ℕ)) (word : List ℕ) → 1 ≤ length word → length word ≤ LONGEST_LEXEME
+    → IsUtf8 word → IsWordAnswer (porter_answer stops word)
 porter_valid stops word some most utf8 = by (is_stop stops (lower word))
   where
     by : (b : Bool) → IsWordAnswer (cond b stop_word (word_lexemes (plain (stem (lower word)) ∷ [])))

@@ -1,5 +1,6 @@
 -- The rule with the longest suffix.
-use Rattle.std.proofs.Common.{◌≡◌, inl, inr, ℕ, ◌≤◌, List, [], ◌∷◌, length, refl, ap, ◌∙◌, arith, Bool, true, false, nat_lt, if◌then◌else◌, ◌&&◌, IfSome, Option, Some, None}
+use Rattle.std.proofs.Common.{◌≡◌, inl, inr, ℕ, ◌≤◌, List, [], ◌∷◌, length, refl, ap, ◌∙◌, arith, Bool, true, false}
+use Rattle.std.proofs.Common.{nat_lt, if◌then◌else◌, ◌&&◌, IfSome, Option, Some, None}
 use Rattle.std.specs.List.{list_all}
 use Rattle.porter_stem.specs.Tables.{Rule, ends_in, longer, longest_from, longest}
 use Rattle.porter_stem.specs.Laws.{Each, IsOneOf, IsNoLongerThan, IsRuleOf, IsLongest}
@@ -20,7 +21,8 @@ up_to_trans (Some r) None q a b = absurd a
 up_to_trans (Some r) (Some s) None a b = absurd b
 up_to_trans (Some r) (Some s) (Some t) a b = omega arith
 
-pick : (P : Option Rule → Type 0) (b : Bool) (x y : Option Rule) → (b ≡ true → P x) → (b ≡ false → P y) → P (if b then x else y)
+pick : (P : Option Rule → Type 0) (b : Bool) (x y : Option Rule) → (b ≡ true → P x) → (b ≡ false → P y)
+    → P (if b then x else y)
 pick P true x y h k = h refl
 pick P false x y h k = k refl
 
@@ -40,12 +42,15 @@ one_false false b e h = cc
 
 longer_up_to : (w : List ℕ) (o : Option Rule) (r : Rule) → IsUpTo o (longer w o r)
 longer_up_to w None r = tt
-longer_up_to w (Some s) r = pick (IsUpTo (Some s)) (ends_in r.suffix w && nat_lt (length s.suffix) (length r.suffix)) (Some r) (Some s)
+longer_up_to w (Some s) r =
+    pick (IsUpTo (Some s)) (ends_in r.suffix w && nat_lt (length s.suffix) (length r.suffix)) (Some r) (Some s)
     (λ e. lt_of _ _ ((both_true _ _ e).1)) (λ e. omega arith)
 
 longer_no_shorter : (w : List ℕ) (o : Option Rule) (r : Rule) → IsNoLongerThan w (longer w o r) r
-longer_no_shorter w None r = pick (λ (o : Option Rule). IsNoLongerThan w o r) (ends_in r.suffix w) (Some r) None (λ e h. omega arith) (λ e. e)
-longer_no_shorter w (Some s) r = pick (λ (o : Option Rule). IsNoLongerThan w o r) (ends_in r.suffix w && nat_lt (length s.suffix) (length r.suffix)) (Some r) (Some s)
+longer_no_shorter w None r =
+    pick (λ (o : Option Rule). IsNoLongerThan w o r) (ends_in r.suffix w) (Some r) None (λ e h. omega arith) (λ e. e)
+longer_no_shorter w (Some s) r = pick (λ (o : Option Rule). IsNoLongerThan w o r)
+    (ends_in r.suffix w && nat_lt (length s.suffix) (length r.suffix)) (Some r) (Some s)
     (λ e h. omega arith) (λ e h. le_of _ _ (one_false _ _ e h))
 
 from_up_to : (w : List ℕ) (o : Option Rule) (rs : List Rule) → IsUpTo o (longest_from w o rs)
@@ -60,7 +65,10 @@ above w (Some s) (Some t) r u h = λ e. let k = h e in omega arith
 
 from_above : (w : List ℕ) (o : Option Rule) (rs : List Rule) → Each (IsNoLongerThan w (longest_from w o rs)) rs
 from_above w o [] = tt
-from_above w o (r ∷ rs) = (above w (longer w o r) _ r (from_up_to w (longer w o r) rs) (longer_no_shorter w o r), from_above w (longer w o r) rs)
+from_above w o (r ∷ rs) = (
+  above w (longer w o r) _ r (from_up_to w (longer w o r) rs) (longer_no_shorter w o r),
+  from_above w (longer w o r) rs,
+)
 
 -- what holds of the rule so far, and of each rule whose suffix the word has, holds of the one that is found
 pub from_keeps : (P : Rule → Type 0) (w : List ℕ) (o : Option Rule) (rs : List Rule) → IfSome o P
@@ -70,7 +78,8 @@ from_keeps P w None (r ∷ rs) h k = from_keeps P w (longer w None r) rs
     (pick (λ (o : Option Rule). IfSome o P) (ends_in r.suffix w) (Some r) None (λ e. k r (inl refl) e) (λ e. tt))
     (λ s m e. k s (inr m) e)
 from_keeps P w (Some s) (r ∷ rs) h k = from_keeps P w (longer w (Some s) r) rs
-    (pick (λ (o : Option Rule). IfSome o P) (ends_in r.suffix w && nat_lt (length s.suffix) (length r.suffix)) (Some r) (Some s) (λ e. k r (inl refl) ((both_true _ _ e).0)) (λ e. h))
+    (pick (λ (o : Option Rule). IfSome o P) (ends_in r.suffix w && nat_lt (length s.suffix) (length r.suffix)) (Some r)
+    (Some s) (λ e. k r (inl refl) ((both_true _ _ e).0)) (λ e. h))
     (λ s m e. k s (inr m) e)
 
 pub longest_is_longest : (rules : List Rule) (word : List ℕ) → IsLongest rules word (longest rules word)

@@ -1,5 +1,6 @@
 -- One letter more.
-use Rattle.std.proofs.Common.{◌≡◌, ℕ, ◌+◌, ◌<◌, ◌≤◌, take, length, get_or, List, [], ◌∷◌, ◌++◌, refl, ap, sym, subst, ◌∙◌, arith, add_assoc, Bool, true, false, not, if◌then◌else◌, ◌&&◌, ◌||◌, reverse}
+use Rattle.std.proofs.Common.{◌≡◌, ℕ, ◌+◌, ◌<◌, ◌≤◌, take, length, get_or, List, [], ◌∷◌, ◌++◌, refl, ap, sym, subst}
+use Rattle.std.proofs.Common.{◌∙◌, arith, add_assoc, Bool, true, false, not, if◌then◌else◌, ◌&&◌, ◌||◌, reverse}
 use Rattle.std.specs.List.{list_any}
 use Rattle.std.proofs.lemmas.List.Folds.{list_any-append}
 use Rattle.std.proofs.lemmas.List.{reverse-append, take_more}
@@ -22,7 +23,8 @@ first_or-snoc b k (x ∷ xs) = refl
 
 pub last_or-reverse : (b : Bool) (ks : List Bool) → last_or b ks ≡ first_or b (reverse ks)
 last_or-reverse b [] = refl
-last_or-reverse b (k ∷ ks) = last_or-reverse k ks ∙ sym (ap (first_or b) (reverse-append (k ∷ []) ks) ∙ first_or-snoc b k (reverse ks))
+last_or-reverse b (k ∷ ks) =
+    last_or-reverse k ks ∙ sym (ap (first_or b) (reverse-append (k ∷ []) ks) ∙ first_or-snoc b k (reverse ks))
 
 first_of-first_or : (xs : List Bool) → first_of xs ≡ first_or false xs
 first_of-first_or [] = refl
@@ -31,19 +33,25 @@ first_of-first_or (x ∷ xs) = refl
 pub last_is : (ks : List Bool) → first_of (reverse ks) ≡ last_or false ks
 last_is ks = first_of-first_or (reverse ks) ∙ sym (last_or-reverse false ks)
 
-pub kinds_behind-snoc : (b : Bool) (word : List ℕ) (c : ℕ) → kinds_behind b (word ++ c ∷ []) ≡ kinds_behind b word ++ is_consonant (last_or b (kinds_behind b word)) c ∷ []
+pub kinds_behind-snoc : (b : Bool) (word : List ℕ) (c : ℕ)
+    → kinds_behind b (word ++ c ∷ []) ≡ kinds_behind b word ++ is_consonant (last_or b (kinds_behind b word)) c ∷ []
 kinds_behind-snoc b [] c = refl
-kinds_behind-snoc b (x ∷ word) c = ap (λ (t : List Bool). is_consonant b x ∷ t) (kinds_behind-snoc (is_consonant b x) word c)
+kinds_behind-snoc b (x ∷ word) c =
+    ap (λ (t : List Bool). is_consonant b x ∷ t) (kinds_behind-snoc (is_consonant b x) word c)
 
-pub kinds-snoc : (word : List ℕ) (c : ℕ) → kinds (word ++ c ∷ []) ≡ kinds word ++ is_consonant (first_of (reverse (kinds word))) c ∷ []
-kinds-snoc word c = kinds_behind-snoc false word c ∙ ap (λ (b : Bool). kinds word ++ is_consonant b c ∷ []) (sym (last_is (kinds word)))
+pub kinds-snoc : (word : List ℕ) (c : ℕ)
+    → kinds (word ++ c ∷ []) ≡ kinds word ++ is_consonant (first_of (reverse (kinds word))) c ∷ []
+kinds-snoc word c =
+    kinds_behind-snoc false word c ∙ ap (λ (b : Bool). kinds word ++ is_consonant b c ∷ []) (sym (last_is (kinds word)))
 
 abbrev pub turn : Bool → Bool → ℕ
 turn before kind = if not before && kind then 1 else 0
 
-turns_behind-snoc : (b k : Bool) (ks : List Bool) → turns_behind b (ks ++ k ∷ []) ≡ turns_behind b ks + turn (last_or b ks) k
+turns_behind-snoc : (b k : Bool) (ks : List Bool)
+    → turns_behind b (ks ++ k ∷ []) ≡ turns_behind b ks + turn (last_or b ks) k
 turns_behind-snoc b k [] = omega arith
-turns_behind-snoc b k (x ∷ ks) = ap (λ (n : ℕ). turn b x + n) (turns_behind-snoc x k ks) ∙ sym (add_assoc (turn b x) (turns_behind x ks) (turn (last_or x ks) k))
+turns_behind-snoc b k (x ∷ ks) = ap (λ (n : ℕ). turn b x + n) (turns_behind-snoc x k ks)
+    ∙ sym (add_assoc (turn b x) (turns_behind x ks) (turn (last_or x ks) k))
 
 -- where the last of some kinds is a vowel there is one
 vowel_is_there : (b : Bool) (ks : List Bool) → last_or b ks ≡ false → b ≡ true → list_any not ks ≡ true
@@ -57,13 +65,16 @@ turn_cases true false v h = refl
 turn_cases false false v h = refl
 turn_cases false true v h = ap (λ (b : Bool). if b then 1 else 0) (sym (h refl))
 
-pub turns-snoc : (ks : List Bool) (k : Bool) → turns (ks ++ k ∷ []) ≡ turns ks + (if turn_counts k (first_of (reverse ks)) (list_any not ks) then 1 else 0)
+pub turns-snoc : (ks : List Bool) (k : Bool)
+    → turns (ks ++ k ∷ []) ≡ turns ks + (if turn_counts k (first_of (reverse ks)) (list_any not ks) then 1 else 0)
 turns-snoc [] true = refl
 turns-snoc [] false = refl
 turns-snoc (x ∷ xs) k =
     turns_behind-snoc x k xs
-    ∙ ap (λ (n : ℕ). turns_behind x xs + n) (turn_cases (last_or x xs) k (list_any not (x ∷ xs)) (λ e. vowel_is_there true (x ∷ xs) e refl))
-    ∙ ap (λ (b : Bool). turns_behind x xs + (if turn_counts k b (list_any not (x ∷ xs)) then 1 else 0)) (sym (last_is (x ∷ xs)))
+    ∙ ap (λ (n : ℕ). turns_behind x xs + n)
+    (turn_cases (last_or x xs) k (list_any not (x ∷ xs)) (λ e. vowel_is_there true (x ∷ xs) e refl))
+    ∙ ap (λ (b : Bool). turns_behind x xs + (if turn_counts k b (list_any not (x ∷ xs)) then 1 else 0))
+    (sym (last_is (x ∷ xs)))
 
 reverse-snoc : (ks : List Bool) (k : Bool) → reverse (ks ++ k ∷ []) ≡ k ∷ reverse ks
 reverse-snoc ks k = reverse-append ks (k ∷ [])
@@ -75,7 +86,8 @@ or_false false = refl
 any-snoc : (ks : List Bool) (k : Bool) → list_any not (ks ++ k ∷ []) ≡ (list_any not ks || not k)
 any-snoc ks k = list_any-append not ks (k ∷ []) ∙ ap (λ (b : Bool). list_any not ks || b) (or_false (not k))
 
-pub shape_follows : (ks : List Bool) (k : Bool) (s t : Shape) → HasShape ks s → Follows s k t → HasShape (ks ++ k ∷ []) t
+pub shape_follows : (ks : List Bool) (k : Bool) (s t : Shape) → HasShape ks s → Follows s k t
+    → HasShape (ks ++ k ∷ []) t
 shape_follows ks k s t h f = record {
   measure_is = f.measure_is ∙ (ap (λ (n : ℕ). n + (if turn_counts k s.last s.has_vowel then 1 else 0)) h.measure_is
       ∙ (ap (λ (b : Bool). turns ks + (if turn_counts k b s.has_vowel then 1 else 0)) h.last_is
@@ -91,7 +103,8 @@ pub shape_more : (word : List ℕ) (i : ℕ) (s t : Shape) → i < length word �
     → Follows s (is_consonant s.last (get_or word i 0)) t → HasShape (kinds (take (i + 1) word)) t
 shape_more word i s t l h f =
     let f2 = subst (λ (b : Bool). Follows s (is_consonant b (get_or word i 0)) t) h.last_is f in
-    subst (λ (ks : List Bool). HasShape ks t) (sym (ap kinds (take_more word i 0 l) ∙ kinds-snoc (take i word) (get_or word i 0)))
+    subst (λ (ks : List Bool). HasShape ks t)
+    (sym (ap kinds (take_more word i 0 l) ∙ kinds-snoc (take i word) (get_or word i 0)))
     (shape_follows (kinds (take i word)) _ s t h f2)
 
 at_most_one : (b : Bool) → (if b then 1 else 0) ≤ 1

@@ -1,10 +1,13 @@
 -- A word that is not empty has a stem that is not empty.
-use Rattle.std.proofs.Common.{◌≡◌, ℕ, ◌+◌, ◌-◌, ◌<◌, ◌≤◌, List, [], ◌∷◌, ◌++◌, length, refl, sym, subst, Some, None, arith, Bool, true, false, not, nat_lt, nat_eq, ◌&&◌, ◌||◌, ◌==◌, if◌then◌else◌, length-append, length-take, codes, bytes_eq}
+use Rattle.std.proofs.Common.{◌≡◌, ℕ, ◌+◌, ◌-◌, ◌<◌, ◌≤◌, List, [], ◌∷◌, ◌++◌, length, refl, sym, subst, Some, None}
+use Rattle.std.proofs.Common.{arith, Bool, true, false, not, nat_lt, nat_eq, ◌&&◌, ◌||◌, ◌==◌, if◌then◌else◌}
+use Rattle.std.proofs.Common.{length-append, length-take, codes, bytes_eq}
 use Rattle.std.specs.List.{list_all}
 use Rattle.porter_stem.specs.declared.rule.Condition.{Condition}
 use Rattle.porter_stem.specs.declared.rule.Condition.TheVariants.{Always, HasVowel, MeasureAbove, IonBehind, FinalE}
 use Rattle.porter_stem.specs.Letters.{ends_double}
-use Rattle.porter_stem.specs.Tables.{Rule, rule, before, holds, changed, if_holds, step, rules_1a, rules_1b, rules_1c, rules_2, rules_3, rules_4, rules_5a}
+use Rattle.porter_stem.specs.Tables.{Rule, rule, before, holds, changed, if_holds, step, rules_1a, rules_1b, rules_1c}
+use Rattle.porter_stem.specs.Tables.{rules_2, rules_3, rules_4, rules_5a}
 use Rattle.porter_stem.specs.Stem.{without_last, step_1b, step_5b, stemmed, stem, is_small}
 use Rattle.porter_stem.proofs.Longest.{passes}
 use Rattle.porter_stem.proofs.Lengths.{suffix_fits, length_changed}
@@ -35,10 +38,13 @@ met_some FinalE [] a h = cc
 some_append : (u v : List ℕ) → IsSome u → IsSome (u ++ v)
 some_append u v h = let e : length (u ++ v) ≡ length u + length v = length-append u v in omega (arith, e)
 
-changed_some : (rules : List Rule) (word : List ℕ) → list_all rule_asks rules ≡ true → (r : Rule) → IsApplied rules word r → IsSome (before r.suffix word ++ r.given)
-changed_some rules word a r k = some_append (before r.suffix word) r.given (met_some r.condition (before r.suffix word) (passes rule_asks rules r a k.among) k.met)
+changed_some : (rules : List Rule) (word : List ℕ) → list_all rule_asks rules ≡ true → (r : Rule)
+    → IsApplied rules word r → IsSome (before r.suffix word ++ r.given)
+changed_some rules word a r k = some_append (before r.suffix word) r.given
+    (met_some r.condition (before r.suffix word) (passes rule_asks rules r a k.among) k.met)
 
-step_some : (rules : List Rule) (word : List ℕ) → list_all rule_asks rules ≡ true → IsSome word → IsSome (step rules word)
+step_some : (rules : List Rule) (word : List ℕ) → list_all rule_asks rules ≡ true → IsSome word
+    → IsSome (step rules word)
 step_some rules word a h = step_case IsSome rules word h (changed_some rules word a)
 
 double_is_two : (word : List ℕ) → ends_double word ≡ true → IsSome (without_last word)
@@ -48,7 +54,8 @@ double_is_two (c ∷ d ∷ word) e = simp length-take (omega arith)
 
 step_1b_some : (word : List ℕ) → IsSome word → IsSome (step_1b word)
 step_1b_some word h = step_1b_case IsSome rules_1b word h
-    (λ r k z. let u = before r.suffix word ++ r.given in let s : IsSome u = changed_some rules_1b word refl r k in mended_case IsSome u s (some_append u (codes "e") s) (double_is_two u))
+    (λ r k z. let u = before r.suffix word ++ r.given in let s : IsSome u = changed_some rules_1b word refl r k in
+    mended_case IsSome u s (some_append u (codes "e") s) (double_is_two u))
     (changed_some rules_1b word refl)
 
 step_5b_some : (word : List ℕ) → IsSome word → IsSome (step_5b word)
@@ -77,9 +84,11 @@ one_or_some : (m n k : ℕ) → (nat_lt 0 m || (n == 1)) ≡ true → 2 ≤ k �
 one_or_some m n k e h f = grind arith
 
 -- step 1a empties the word `s` alone
-one_letter : (c : ℕ) (b : Bool) → nat_eq 115 c ≡ b → bytes_eq (c ∷ []) (codes "s") ≡ false → IsSome (step rules_1a (c ∷ []))
+one_letter : (c : ℕ) (b : Bool) → nat_eq 115 c ≡ b → bytes_eq (c ∷ []) (codes "s") ≡ false
+    → IsSome (step rules_1a (c ∷ []))
 one_letter c true e h = absurd (same_byte 115 c e (left_false (nat_eq c 115) h))
-one_letter c false e h = subst (λ (x : Bool). IsSome (changed (if_holds (c ∷ []) (if x && true then Some (rule Always (codes "s") []) else None)) (c ∷ []))) (sym e) (omega arith)
+one_letter c false e h = subst (λ (x : Bool). IsSome (changed
+    (if_holds (c ∷ []) (if x && true then Some (rule Always (codes "s") []) else None)) (c ∷ []))) (sym e) (omega arith)
 
 step_1a_some : (word : List ℕ) → IsSome word → bytes_eq word (codes "s") ≡ false → IsSome (step rules_1a word)
 step_1a_some [] h n = h
@@ -87,11 +96,14 @@ step_1a_some (c ∷ []) h n = one_letter c (nat_eq 115 c) refl n
 step_1a_some (c ∷ d ∷ word) h n = step_case IsSome rules_1a (c ∷ d ∷ word) h
     (λ r k. let fits : length r.suffix ≤ length (c ∷ d ∷ word) = suffix_fits r.suffix (c ∷ d ∷ word) k.ends in
     subst (λ (n : ℕ). 0 < n) (sym (length_changed r.suffix r.given (c ∷ d ∷ word) fits))
-    (one_or_some (length r.given) (length r.suffix) (length (c ∷ d ∷ word)) (passes takes_one rules_1a r refl k.among) (omega arith) fits))
+    (one_or_some (length r.given) (length r.suffix) (length (c ∷ d ∷ word)) (passes takes_one rules_1a r refl k.among)
+    (omega arith) fits))
 
 stemmed_some : (word : List ℕ) → IsSome word → bytes_eq word (codes "s") ≡ false → IsSome (stemmed word)
-stemmed_some word h n = stemmed_keeps IsSome word (step_1a_some word h n) step_1b_some (λ w k. step_some rules_1c w refl k) (λ w k. step_some rules_2 w refl k)
-    (λ w k. step_some rules_3 w refl k) (λ w k. step_some rules_4 w refl k) (λ w k. step_some rules_5a w refl k) step_5b_some
+stemmed_some word h n = stemmed_keeps IsSome word (step_1a_some word h n) step_1b_some
+    (λ w k. step_some rules_1c w refl k) (λ w k. step_some rules_2 w refl k)
+    (λ w k. step_some rules_3 w refl k) (λ w k. step_some rules_4 w refl k)
+    (λ w k. step_some rules_5a w refl k) step_5b_some
 
 pub stem_some : (word : List ℕ) → IsSome word → IsSome (stem word)
 stem_some word h = if_else IsSome _ word (stemmed word) h

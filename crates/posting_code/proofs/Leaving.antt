@@ -1,5 +1,6 @@
 -- Items of a list that are left, written one after the other.
-use Rattle.std.proofs.Common.{◌≡◌, ◌↔◌, ℕ, zero, suc, ◌+◌, ◌-◌, ◌<◌, ◌≤◌, List, [], ◌∷◌, ◌++◌, length, take, get_or, Result, Ok, Err, refl, sym, ap, subst, ◌∙◌, append_assoc, arith, inl, inr}
+use Rattle.std.proofs.Common.{◌≡◌, ◌↔◌, ℕ, zero, suc, ◌+◌, ◌-◌, ◌<◌, ◌≤◌, List, [], ◌∷◌, ◌++◌, length, take, get_or}
+use Rattle.std.proofs.Common.{Result, Ok, Err, refl, sym, ap, subst, ◌∙◌, append_assoc, arith, inl, inr}
 use Rattle.std.specs.List.{Contains}
 use Rattle.std.specs.Result.{is_ok}
 use Rattle.std.specs.Prelude.{IsTrue, Bool}
@@ -21,7 +22,8 @@ use Rattle.posting_code.proofs.Sizing.{fewer_shorter}
 -- ---- a set
 
 -- items rise by their places
-pub rises_by_place : (last : ℕ) (is : List ℕ) → AreItemsFrom last is → (i j : ℕ) → i ≤ j → j < length is → get_or is i 0 ≤ get_or is j 0
+pub rises_by_place : (last : ℕ) (is : List ℕ) → AreItemsFrom last is → (i j : ℕ) → i ≤ j → j < length is
+    → get_or is i 0 ≤ get_or is j 0
 rises_by_place last [] h i j le lt = absurd (omega arith)
 rises_by_place last (x ∷ is) h zero zero le lt = omega arith
 rises_by_place last (x ∷ is) h zero (suc j) le lt = omega (arith, above_at x is h.2 j (omega arith))
@@ -39,7 +41,8 @@ same_at (x ∷ xs) zero c d lt = refl
 same_at (x ∷ xs) (suc k) c d lt = same_at xs k c d (omega arith)
 
 -- what a binary search says
-pub set_has : (xs : List ℕ) (x : ℕ) (r : Result ℕ ℕ) (b : Bool) → AreItems xs → IsBinarySearchResult (λ y. nat_cmp y x) xs r → b ≡ is_ok r → IsTrue b ↔ Contains xs x
+pub set_has : (xs : List ℕ) (x : ℕ) (r : Result ℕ ℕ) (b : Bool) → AreItems xs
+    → IsBinarySearchResult (λ y. nat_cmp y x) xs r → b ≡ is_ok r → IsTrue b ↔ Contains xs x
 set_has xs x (Ok i) b h found is =
     let at = searched xs x (Ok i) found (rises_by_place 0 xs h) in
     (λ e. (i, at.0, same_at xs i x 0 at.0 ∙ at.1), λ c. is)
@@ -47,10 +50,14 @@ set_has xs x (Err i) b h found is =
     let at = searched xs x (Err i) found (rises_by_place 0 xs h) in
     (λ e. absurd (false≢true (sym is ∙ e)), λ c. absurd (elsewhere at.1 at.2 c))
   where
-    elsewhere : ((k : ℕ) → k < i → get_or xs k 0 < x) → ((k : ℕ) → i ≤ k → k < length xs → x < get_or xs k 0) → Contains xs x → ⊥
+    elsewhere : ((k : ℕ) → k < i → get_or xs k 0 < x) → ((k : ℕ) → i ≤ k → k < length xs → x < get_or xs k 0)
+        → Contains xs x → ⊥
     elsewhere low high (k, lt, e) =
         let here : get_or xs k 0 ≡ x = same_at xs k 0 x lt ∙ e in
-        elim (cases_lt k i) [ inl below ↦ absurd (omega (arith, low k below, here)) | inr above ↦ absurd (omega (arith, high k above lt, here)) ]
+        elim (cases_lt k i) [
+          | inl below ↦ absurd (omega (arith, low k below, here))
+          | inr above ↦ absurd (omega (arith, high k above lt, here))
+        ]
 
 -- ---- what is left
 
@@ -94,14 +101,16 @@ leaving_starts start list dead h = record {
 }
 
 -- a dead item is passed
-pub dead_passed : (start list dead out : List ℕ) (before : ℕ) (rest : List ℕ) (last count item : ℕ) (after : List ℕ) → IsLeaving start list dead out before rest last count → item_at before rest ≡ Ok (item, after) → Contains dead item
+pub dead_passed : (start list dead out : List ℕ) (before : ℕ) (rest : List ℕ) (last count item : ℕ) (after : List ℕ)
+    → IsLeaving start list dead out before rest last count → item_at before rest ≡ Ok (item, after) → Contains dead item
     → IsLeaving start list dead out item after last count
 dead_passed start list dead out before rest last count item after g r gone =
     let n = next_place before rest item after g.stands r in
     record {
       passed = g.passed ++ item ∷ [];
       written = g.written;
-      all = g.all ∙ ap (λ (l : List ℕ). g.passed ++ l) n.left ∙ sym (append_assoc g.passed (item ∷ []) (items_left item after));
+      all = g.all ∙ ap (λ (l : List ℕ). g.passed ++ l) n.left
+          ∙ sym (append_assoc g.passed (item ∷ []) (items_left item after));
       before_is = sym (last_or-append 0 g.passed (item ∷ []));
       stands = n.stands;
       out_is = g.out_is;
@@ -114,25 +123,33 @@ dead_passed start list dead out before rest last count item after g r gone =
     }
   where
     from : (i : ℕ) → Contains (g.passed ++ item ∷ []) i × (Contains dead i → ⊥) → Contains g.written i
-    from i (c, alive) = elim (Contains-push_cases g.passed item i c) [ inl p ↦ (g.has i).1 (p, alive) | inr e ↦ absurd (alive (subst (Contains dead) e gone)) ]
+    from i (c, alive) = elim (Contains-push_cases g.passed item i c)
+        [ inl p ↦ (g.has i).1 (p, alive) | inr e ↦ absurd (alive (subst (Contains dead) e gone)) ]
 
 -- another one is written
-pub live_written : (start list dead out out' : List ℕ) (before : ℕ) (rest : List ℕ) (last count item : ℕ) (after : List ℕ) → IsLeaving start list dead out before rest last count → item_at before rest ≡ Ok (item, after) → (Contains dead item → ⊥)
+pub live_written : (start list dead out out' : List ℕ) (before : ℕ) (rest : List ℕ) (last count item : ℕ)
+    (after : List ℕ) → IsLeaving start list dead out before rest last count → item_at before rest ≡ Ok (item, after)
+    → (Contains dead item → ⊥)
     → out' ≡ out ++ varbyte (item - last) → IsLeaving start list dead out' item after item (count + 1)
 live_written start list dead out out' before rest last count item after g r alive e =
     let n = next_place before rest item after g.stands r in
     let one : item_list_from last (item ∷ []) ≡ varbyte (item - last) = append-nil (varbyte (item - last)) in
-    let first : AreItemsFrom before (item ∷ items_left item after) = subst (AreItemsFrom before) n.left g.stands.items in
+    let first : AreItemsFrom before (item ∷ items_left item after) =
+    subst (AreItemsFrom before) n.left g.stands.items in
     record {
       passed = g.passed ++ item ∷ [];
       written = g.written ++ item ∷ [];
-      all = g.all ∙ ap (λ (l : List ℕ). g.passed ++ l) n.left ∙ sym (append_assoc g.passed (item ∷ []) (items_left item after));
+      all = g.all ∙ ap (λ (l : List ℕ). g.passed ++ l) n.left
+          ∙ sym (append_assoc g.passed (item ∷ []) (items_left item after));
       before_is = sym (last_or-append 0 g.passed (item ∷ []));
       stands = n.stands;
-      out_is = e ∙ ap (λ (l : List ℕ). l ++ varbyte (item - last)) g.out_is ∙ append_assoc start (item_list g.written) (varbyte (item - last))
+      out_is = e ∙ ap (λ (l : List ℕ). l ++ varbyte (item - last)) g.out_is
+          ∙ append_assoc start (item_list g.written) (varbyte (item - last))
           ∙ ap (λ (l : List ℕ). start ++ (item_list g.written ++ l)) (sym one)
-          ∙ ap (λ k. start ++ (item_list g.written ++ item_list_from k (item ∷ []))) g.last_is ∙ ap (λ (l : List ℕ). start ++ l) (sym (item_list_from-append 0 g.written (item ∷ [])));
-      rises = AreItemsFrom-join 0 g.written (item ∷ []) g.rises (subst (λ k. AreItemsFrom k (item ∷ [])) g.last_is (omega (arith, g.low, n.rises), first.1, tt));
+          ∙ ap (λ k. start ++ (item_list g.written ++ item_list_from k (item ∷ []))) g.last_is
+          ∙ ap (λ (l : List ℕ). start ++ l) (sym (item_list_from-append 0 g.written (item ∷ [])));
+      rises = AreItemsFrom-join 0 g.written (item ∷ []) g.rises
+          (subst (λ k. AreItemsFrom k (item ∷ [])) g.last_is (omega (arith, g.low, n.rises), first.1, tt));
       last_is = sym (last_or-append 0 g.written (item ∷ []));
       low = omega arith;
       counted = omega (arith, g.counted, length-append g.written (item ∷ []));
@@ -143,7 +160,10 @@ live_written start list dead out out' before rest last count item after g r aliv
     to : (i : ℕ) → Contains (g.written ++ item ∷ []) i → Contains (g.passed ++ item ∷ []) i × (Contains dead i → ⊥)
     to i c = elim (Contains-push_cases g.written item i c) [
       | inl p ↦ (Contains-append_left g.passed (item ∷ []) i ((g.has i).0 p).0, ((g.has i).0 p).1)
-      | inr e ↦ (subst (Contains (g.passed ++ item ∷ [])) e (Contains-push g.passed item), λ k. alive (subst (Contains dead) (sym e) k))
+      | inr e ↦ (
+        subst (Contains (g.passed ++ item ∷ [])) e (Contains-push g.passed item),
+        λ k. alive (subst (Contains dead) (sym e) k),
+      )
     ]
 
     from : (i : ℕ) → Contains (g.passed ++ item ∷ []) i × (Contains dead i → ⊥) → Contains (g.written ++ item ∷ []) i
@@ -152,24 +172,33 @@ live_written start list dead out out' before rest last count item after g r aliv
       | inr e ↦ subst (Contains (g.written ++ item ∷ [])) e (Contains-push g.written item)
     ]
 
-pub leaving_ends : (start list dead out : List ℕ) (before : ℕ) (rest : List ℕ) (last count left : ℕ) → IsItemList list → IsLeaving start list dead out before rest last count → item_at before rest ≡ Err left
+pub leaving_ends : (start list dead out : List ℕ) (before : ℕ) (rest : List ℕ) (last count left : ℕ) → IsItemList list
+    → IsLeaving start list dead out before rest last count → item_at before rest ≡ Err left
     → (bytes : List ℕ) × (out ≡ start ++ bytes) × IsLeft list dead bytes × (count ≡ length (items_of bytes))
 leaving_ends start list dead out before rest last count left h g r =
-    let passed : items_of list ≡ g.passed = g.all ∙ ap (λ (l : List ℕ). g.passed ++ l) (no_place before rest left g.stands r) ∙ append-nil g.passed in
+    let passed : items_of list ≡ g.passed =
+    g.all ∙ ap (λ (l : List ℕ). g.passed ++ l) (no_place before rest left g.stands r) ∙ append-nil g.passed in
     let whole = is_list (item_list g.written) g.written g.rises refl in
-    let fewer = fewer_shorter 0 g.written (items_of list) g.rises h.items (λ i c. subst (λ (l : List ℕ). Contains l i) (sym passed) ((g.has i).0 c).0) in (
+    let fewer = fewer_shorter 0 g.written (items_of list) g.rises h.items
+    (λ i c. subst (λ (l : List ℕ). Contains l i) (sym passed) ((g.has i).0 c).0) in (
       item_list g.written,
       g.out_is,
       record {
         is_list = whole.0;
-        has = λ i. subst (λ (l : List ℕ). Contains l i ↔ (Contains (items_of list) i × (Contains dead i → ⊥))) (sym whole.1)
-            (subst (λ (l : List ℕ). Contains g.written i ↔ (Contains l i × (Contains dead i → ⊥))) (sym passed) (g.has i));
+        has = λ i. subst (λ (l : List ℕ). Contains l i ↔ (Contains (items_of list) i × (Contains dead i → ⊥)))
+            (sym whole.1)
+            (subst (λ (l : List ℕ). Contains g.written i ↔ (Contains l i × (Contains dead i → ⊥))) (sym passed)
+            (g.has i));
         short = omega (arith, fewer, ap length h.encoding);
       },
       g.counted ∙ ap length (sym whole.1),
     )
 
-pub leaving_cut : (start list dead out out' : List ℕ) (before : ℕ) (rest : List ℕ) (last count : ℕ) → IsLeaving start list dead out before rest last count → take (length out) out' ≡ out → take (length start) out' ≡ start
+pub leaving_cut : (start list dead out out' : List ℕ) (before : ℕ) (rest : List ℕ) (last count : ℕ)
+    → IsLeaving start list dead out before rest last count → take (length out) out' ≡ out
+    → take (length start) out' ≡ start
 leaving_cut start list dead out out' before rest last count g e =
-    let size : length start ≤ length out = omega (arith, ap length g.out_is, length-append start (item_list g.written)) in
-    sym (take-take (length start) (length out) out' size) ∙ ap (take (length start)) e ∙ ap (take (length start)) g.out_is ∙ take_at start (item_list g.written) (length start) refl
+    let size : length start ≤ length out =
+    omega (arith, ap length g.out_is, length-append start (item_list g.written)) in
+    sym (take-take (length start) (length out) out' size) ∙ ap (take (length start)) e
+    ∙ ap (take (length start)) g.out_is ∙ take_at start (item_list g.written) (length start) refl

@@ -1,5 +1,6 @@
 -- How many bytes differences have: two that are added have no more than both, so fewer items have no longer list.
-use Rattle.std.proofs.Common.{◌≡◌, ℕ, zero, suc, ◌+◌, ◌-◌, ◌/◌, ◌^◌, ◌<◌, ◌≤◌, List, [], ◌∷◌, length, refl, sym, ap, subst, arith, inl, inr}
+use Rattle.std.proofs.Common.{◌≡◌, ℕ, zero, suc, ◌+◌, ◌-◌, ◌/◌, ◌^◌, ◌<◌, ◌≤◌, List, [], ◌∷◌, length, refl, sym, ap}
+use Rattle.std.proofs.Common.{subst, arith, inl, inr}
 use Rattle.std.specs.List.{Contains}
 use Rattle.std.proofs.lemmas.Bool.{cases_lt}
 use Rattle.std.proofs.lemmas.List.{length-append}
@@ -40,15 +41,22 @@ small_number (suc k) n fits le =
 pub most_bytes : (n : ℕ) → n < 2 ^ 31 → length (varbyte n) ≤ 5
 most_bytes n lt = few_bytes 4 n lt (omega arith)
 
-both : (p q a b : ℕ) → a + b < 2 ^ 31 → length (varbyte a) ≡ p → length (varbyte b) ≡ q → length (varbyte (a + b)) ≤ p + q
+both : (p q a b : ℕ) → a + b < 2 ^ 31 → length (varbyte a) ≡ p → length (varbyte b) ≡ q
+    → length (varbyte (a + b)) ≤ p + q
 both zero q a b fits x y = absurd (omega (arith, some_bytes a))
 both (suc p) zero a b fits x y = absurd (omega (arith, some_bytes b))
-both (suc zero) (suc zero) a b fits x y = few_bytes 1 (a + b) fits (omega (arith, small_number 1 a (omega arith) (omega (arith, x)), small_number 1 b (omega arith) (omega (arith, y))))
-both (suc zero) (suc (suc zero)) a b fits x y = few_bytes 2 (a + b) fits (omega (arith, small_number 1 a (omega arith) (omega (arith, x)), small_number 2 b (omega arith) (omega (arith, y))))
-both (suc zero) (suc (suc (suc zero))) a b fits x y = few_bytes 3 (a + b) fits (omega (arith, small_number 1 a (omega arith) (omega (arith, x)), small_number 3 b (omega arith) (omega (arith, y))))
-both (suc (suc zero)) (suc zero) a b fits x y = few_bytes 2 (a + b) fits (omega (arith, small_number 2 a (omega arith) (omega (arith, x)), small_number 1 b (omega arith) (omega (arith, y))))
-both (suc (suc zero)) (suc (suc zero)) a b fits x y = few_bytes 3 (a + b) fits (omega (arith, small_number 2 a (omega arith) (omega (arith, x)), small_number 2 b (omega arith) (omega (arith, y))))
-both (suc (suc (suc zero))) (suc zero) a b fits x y = few_bytes 3 (a + b) fits (omega (arith, small_number 3 a (omega arith) (omega (arith, x)), small_number 1 b (omega arith) (omega (arith, y))))
+both (suc zero) (suc zero) a b fits x y = few_bytes 1 (a + b) fits (omega
+    (arith, small_number 1 a (omega arith) (omega (arith, x)), small_number 1 b (omega arith) (omega (arith, y))))
+both (suc zero) (suc (suc zero)) a b fits x y = few_bytes 2 (a + b) fits (omega
+    (arith, small_number 1 a (omega arith) (omega (arith, x)), small_number 2 b (omega arith) (omega (arith, y))))
+both (suc zero) (suc (suc (suc zero))) a b fits x y = few_bytes 3 (a + b) fits (omega
+    (arith, small_number 1 a (omega arith) (omega (arith, x)), small_number 3 b (omega arith) (omega (arith, y))))
+both (suc (suc zero)) (suc zero) a b fits x y = few_bytes 2 (a + b) fits (omega
+    (arith, small_number 2 a (omega arith) (omega (arith, x)), small_number 1 b (omega arith) (omega (arith, y))))
+both (suc (suc zero)) (suc (suc zero)) a b fits x y = few_bytes 3 (a + b) fits (omega
+    (arith, small_number 2 a (omega arith) (omega (arith, x)), small_number 2 b (omega arith) (omega (arith, y))))
+both (suc (suc (suc zero))) (suc zero) a b fits x y = few_bytes 3 (a + b) fits (omega
+    (arith, small_number 3 a (omega arith) (omega (arith, x)), small_number 1 b (omega arith) (omega (arith, y))))
 both (suc zero) (suc (suc (suc (suc q)))) a b fits x y = omega (arith, most_bytes (a + b) fits)
 both (suc (suc zero)) (suc (suc (suc q))) a b fits x y = omega (arith, most_bytes (a + b) fits)
 both (suc (suc (suc zero))) (suc (suc q)) a b fits x y = omega (arith, most_bytes (a + b) fits)
@@ -60,13 +68,15 @@ sum_no_longer a b fits = both (length (varbyte a)) (length (varbyte b)) a b fits
 
 -- ---- lists
 
-pub length-from : (last i : ℕ) (is : List ℕ) → length (item_list_from last (i ∷ is)) ≡ length (varbyte (i - last)) + length (item_list_from i is)
+pub length-from : (last i : ℕ) (is : List ℕ)
+    → length (item_list_from last (i ∷ is)) ≡ length (varbyte (i - last)) + length (item_list_from i is)
 length-from last i is = length-append (varbyte (i - last)) (item_list_from i is)
 
 above_each : (last i : ℕ) (is : List ℕ) → AreItemsFrom last is → Contains is i → last < i
 above_each last i [] h c = absurd (omega (arith, c.1))
 above_each last i (x ∷ is) h (zero, lt, e) = omega (arith, h.0, e)
-above_each last i (x ∷ is) h (suc k, lt, e) = let later = above_each x i is h.2 (k, omega arith, e) in omega (arith, h.0, later)
+above_each last i (x ∷ is) h (suc k, lt, e) =
+    let later = above_each x i is h.2 (k, omega arith, e) in omega (arith, h.0, later)
 
 tail_has : (i b : ℕ) (bs : List ℕ) → b < i → Contains (b ∷ bs) i → Contains bs i
 tail_has i b bs lt (zero, l, e) = absurd (omega (arith, e))
@@ -76,20 +86,31 @@ later_has : (i a : ℕ) (is : List ℕ) → Contains is i → Contains (a ∷ is
 later_has i a is (k, lt, e) = (suc k, omega arith, e)
 
 -- fewer items have no longer list
-pub fewer_shorter : (last : ℕ) (is js : List ℕ) → AreItemsFrom last is → AreItemsFrom last js → ((i : ℕ) → Contains is i → Contains js i) → length (item_list_from last is) ≤ length (item_list_from last js)
+pub fewer_shorter : (last : ℕ) (is js : List ℕ) → AreItemsFrom last is → AreItemsFrom last js
+    → ((i : ℕ) → Contains is i → Contains js i) → length (item_list_from last is) ≤ length (item_list_from last js)
 fewer_shorter last [] js h k sub = omega arith
 fewer_shorter last (a ∷ more_is) [] h k sub = let c = sub a (0, omega arith, refl) in absurd (omega (arith, c.1))
 fewer_shorter last (a ∷ more_is) (b ∷ bs) h k sub =
     elim (cases_lt b a) [
       | inl less ↦
-          let rest = fewer_shorter b (a ∷ more_is) bs (less, h.1, h.2) k.2 (λ i c. tail_has i b bs (above_each b i (a ∷ more_is) (less, h.1, h.2) c) (sub i c)) in
+          let rest = fewer_shorter b (a ∷ more_is) bs (less, h.1, h.2) k.2
+          (λ i c. tail_has i b bs (above_each b i (a ∷ more_is) (less, h.1, h.2) c) (sub i c)) in
           let gap : (b - last) + (a - b) ≡ a - last = omega (arith, k.0) in
-          let one = subst (λ n. length (varbyte n) ≤ length (varbyte (b - last)) + length (varbyte (a - b))) gap (sum_no_longer (b - last) (a - b) (omega (arith, h.1, k.0))) in
+          let one = subst (λ n. length (varbyte n) ≤ length (varbyte (b - last)) + length (varbyte (a - b))) gap
+          (sum_no_longer (b - last) (a - b) (omega (arith, h.1, k.0))) in
           omega (arith, length-from last a more_is, length-from last b bs, length-from b a more_is, rest, one)
       | inr more ↦
           let same : a ≡ b = first_same (sub a (0, omega arith, refl)) more in
-          let rest = fewer_shorter b more_is bs (subst (λ n. AreItemsFrom n more_is) same h.2) k.2 (λ i c. tail_has i b bs (omega (arith, same, above_each a i more_is h.2 c)) (sub i (later_has i a more_is c))) in
-          omega (arith, length-from last a more_is, length-from last b bs, rest, ap (λ n. length (varbyte (n - last))) same, ap (λ n. length (item_list_from n more_is)) same)
+          let rest = fewer_shorter b more_is bs (subst (λ n. AreItemsFrom n more_is) same h.2) k.2 (λ i c.
+          tail_has i b bs (omega (arith, same, above_each a i more_is h.2 c)) (sub i (later_has i a more_is c))) in
+          omega (
+            arith,
+            length-from last a more_is,
+            length-from last b bs,
+            rest,
+            ap (λ n. length (varbyte (n - last))) same,
+            ap (λ n. length (item_list_from n more_is)) same,
+          )
     ]
   where
     first_same : Contains (b ∷ bs) a → a ≤ b → a ≡ b

@@ -6,7 +6,8 @@ pub guard_ok : {A : Type 0} (b : Bool) (d : ℕ) (x y : A) → cond b (Err d) (O
 guard_ok true d x y e = absurd cc
 guard_ok false d x y e = (refl, cc)
 
-pub guard_held : {A : Type 0} (b : Bool) (d : ℕ) (r : Result A ℕ) (y : A) → cond b r (Err d) ≡ Ok y → (b ≡ true) × (r ≡ Ok y)
+pub guard_held : {A : Type 0} (b : Bool) (d : ℕ) (r : Result A ℕ) (y : A) → cond b r (Err d) ≡ Ok y
+    → (b ≡ true) × (r ≡ Ok y)
 guard_held true d r y e = (refl, e)
 guard_held false d r y e = absurd cc
 

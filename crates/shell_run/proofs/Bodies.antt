@@ -47,9 +47,13 @@ line_bad IsBad text l Memory same f = inl refl
 -- ── stop words ──
 pub no_stops : (stops : List (List ℕ)) → stops ≡ [] → IsStopList [] stops
 no_stops stops e =
-    subst (IsStopList []) (sym e) (record { fit = All-nil (λ line. ¬ IsBadLine line); each = λ word. (λ c. absurd (omega (arith, c.1)), λ a. absurd (omega (arith, a.2))) })
+    subst (IsStopList []) (sym e) (record {
+      fit = All-nil (λ line. ¬ IsBadLine line);
+      each = λ word. (λ c. absurd (omega (arith, c.1)), λ a. absurd (omega (arith, a.2)));
+    })
 
-pub list_more : (ls : List (List ℕ)) (line : List ℕ) (old new : List (List ℕ)) → IsStopList ls old → Adds line old new → IsStopList (ls ++ line ∷ []) new
+pub list_more : (ls : List (List ℕ)) (line : List ℕ) (old new : List (List ℕ)) → IsStopList ls old → Adds line old new
+    → IsStopList (ls ++ line ∷ []) new
 list_more ls line old new p h = record {
   fit = All-push (λ line. ¬ IsBadLine line) ls line p.fit h.fit;
   each = λ w. (λ c. ahead w ((h.each w).0 c), λ a. (h.each w).1 (back w (any_cases (Stops w) ls line a)));
@@ -107,37 +111,60 @@ rules_are sub = record {
 }
 
 -- ── definitions ──
-pub kind_refuses : (known : Known) (number : ℕ) (name : List ℕ) (kind : Kind) (ls : List Line) (why : Refusal) → ¬ LacksOne known kind → ¬ HasDictionary known name → LinesBad (λ (l : Line). IsBadFor known kind l) ls why → IsDefined known number (dictionary_opening name kind) ls (refused why)
-kind_refuses known number name kind ls why s n (inl e) = subst (λ w. IsDefined known number (dictionary_opening name kind) ls (refused w)) (sym e) tt
-kind_refuses known number name kind ls why s n (inr h) = subst (λ w. IsDefined known number (dictionary_opening name kind) ls (refused w)) (sym h.1) (s, inr (n, h.2))
+pub kind_refuses : (known : Known) (number : ℕ) (name : List ℕ) (kind : Kind) (ls : List Line) (why : Refusal)
+    → ¬ LacksOne known kind → ¬ HasDictionary known name → LinesBad (λ (l : Line). IsBadFor known kind l) ls why
+    → IsDefined known number (dictionary_opening name kind) ls (refused why)
+kind_refuses known number name kind ls why s n (inl e) =
+    subst (λ w. IsDefined known number (dictionary_opening name kind) ls (refused w)) (sym e) tt
+kind_refuses known number name kind ls why s n (inr h) =
+    subst (λ w. IsDefined known number (dictionary_opening name kind) ls (refused w)) (sym h.1) (s, inr (n, h.2))
 
 -- the subdictionary's answers
 pub answers_in : (o : Option Rules) (rules : Rules) → o ≡ Some rules → answer_in o ≡ answer_by rules
 answers_in o rules e = ap answer_in e
 
-pub thesaurus_good : (known : Known) (sub : List ℕ) (rules : Rules) (ls : List Line) (phrases : List Rule) → sub_named known sub ≡ Some rules → IsMadeOf (IsNoLine (IsRefused (answer_by rules))) (AreRules (answer_by rules)) ls phrases → All (λ (l : Line). ¬ IsBadFor known (thesaurus_kind sub) l) ls
-thesaurus_good known sub rules ls phrases e h = subst (λ (answer : List ℕ → WordAnswer). All (λ (l : Line). ¬ IsNoLine (IsRefused answer) l) ls) (sym (answers_in (sub_named known sub) rules e)) h.good
+pub thesaurus_good : (known : Known) (sub : List ℕ) (rules : Rules) (ls : List Line) (phrases : List Rule)
+    → sub_named known sub ≡ Some rules → IsMadeOf (IsNoLine (IsRefused (answer_by rules))) (AreRules
+    (answer_by rules)) ls phrases → All (λ (l : Line). ¬ IsBadFor known (thesaurus_kind sub) l) ls
+thesaurus_good known sub rules ls phrases e h =
+    subst (λ (answer : List ℕ → WordAnswer). All (λ (l : Line). ¬ IsNoLine (IsRefused answer) l) ls)
+    (sym (answers_in (sub_named known sub) rules e)) h.good
 
-pub thesaurus_read : (known : Known) (sub : List ℕ) (rules : Rules) (ls : List Line) (phrases : List Rule) → sub_named known sub ≡ Some rules → IsMadeOf (IsNoLine (IsRefused (answer_by rules))) (AreRules (answer_by rules)) ls phrases → AreRules (answer_in (sub_named known sub)) (bytes_of ls) phrases
-thesaurus_read known sub rules ls phrases e h = subst (λ (answer : List ℕ → WordAnswer). AreRules answer (bytes_of ls) phrases) (sym (answers_in (sub_named known sub) rules e)) h.made
+pub thesaurus_read : (known : Known) (sub : List ℕ) (rules : Rules) (ls : List Line) (phrases : List Rule)
+    → sub_named known sub ≡ Some rules → IsMadeOf (IsNoLine (IsRefused (answer_by rules))) (AreRules
+    (answer_by rules)) ls phrases → AreRules (answer_in (sub_named known sub)) (bytes_of ls) phrases
+thesaurus_read known sub rules ls phrases e h =
+    subst (λ (answer : List ℕ → WordAnswer). AreRules answer (bytes_of ls) phrases)
+    (sym (answers_in (sub_named known sub) rules e)) h.made
 
-pub thesaurus_refuses : (known : Known) (sub : List ℕ) (rules : Rules) (ls : List Line) (why : Refusal) → sub_named known sub ≡ Some rules → LinesBad (IsNoLine (IsRefused (answer_by rules))) ls why → LinesBad (λ (l : Line). IsBadFor known (thesaurus_kind sub) l) ls why
-thesaurus_refuses known sub rules ls why e h = subst (λ (answer : List ℕ → WordAnswer). LinesBad (IsNoLine (IsRefused answer)) ls why) (sym (answers_in (sub_named known sub) rules e)) h
+pub thesaurus_refuses : (known : Known) (sub : List ℕ) (rules : Rules) (ls : List Line) (why : Refusal)
+    → sub_named known sub ≡ Some rules → LinesBad (IsNoLine (IsRefused (answer_by rules))) ls why
+    → LinesBad (λ (l : Line). IsBadFor known (thesaurus_kind sub) l) ls why
+thesaurus_refuses known sub rules ls why e h =
+    subst (λ (answer : List ℕ → WordAnswer). LinesBad (IsNoLine (IsRefused answer)) ls why)
+    (sym (answers_in (sub_named known sub) rules e)) h
 
 -- a line fails with one of two refusals
-line_causes : (known : Known) (l : Line) (why : Refusal) → LineFails known l why → ((at : ℕ) × (why ≡ no_statement at)) ⊎ (why ≡ no_dictionary)
+line_causes : (known : Known) (l : Line) (why : Refusal) → LineFails known l why
+    → ((at : ℕ) × (why ≡ no_statement at)) ⊎ (why ≡ no_dictionary)
 line_causes known l (no_statement at) f = inl (at, refl)
 line_causes known l no_dictionary f = inr refl
 line_causes known l why f = absurd f
 
-lines_causes : (known : Known) (old : Mapping) (ls : List Line) (why : Refusal) → LinesFail known old ls why → ((at : ℕ) × (why ≡ no_statement at)) ⊎ (why ≡ no_dictionary)
+lines_causes : (known : Known) (old : Mapping) (ls : List Line) (why : Refusal) → LinesFail known old ls why
+    → ((at : ℕ) × (why ≡ no_statement at)) ⊎ (why ≡ no_dictionary)
 lines_causes known old [] why f = absurd f
 lines_causes known old (l ∷ ls) why (inl f) = line_causes known l why f
 lines_causes known old (l ∷ ls) why (inr f) = lines_causes known f.0 ls why f.2
 
-pub maps_refuse : (known : Known) (number : ℕ) (name : List ℕ) (ls : List Line) (why : Refusal) → ¬ HasConfiguration known name → MapsFail known empty_mapping ls why → IsDefined known number (configuration_opening name) ls (refused why)
-maps_refuse known number name ls why n (inl e) = subst (λ w. IsDefined known number (configuration_opening name) ls (refused w)) (sym e) tt
+pub maps_refuse : (known : Known) (number : ℕ) (name : List ℕ) (ls : List Line) (why : Refusal)
+    → ¬ HasConfiguration known name → MapsFail known empty_mapping ls why
+    → IsDefined known number (configuration_opening name) ls (refused why)
+maps_refuse known number name ls why n (inl e) =
+    subst (λ w. IsDefined known number (configuration_opening name) ls (refused w)) (sym e) tt
 maps_refuse known number name ls why n (inr h) = elim (lines_causes known empty_mapping ls why h) [
-  | inl e ↦ subst (λ w. IsDefined known number (configuration_opening name) ls (refused w)) (sym e.1) (inr (n, subst (LinesFail known empty_mapping ls) e.1 h))
-  | inr e ↦ subst (λ w. IsDefined known number (configuration_opening name) ls (refused w)) (sym e) (n, subst (LinesFail known empty_mapping ls) e h)
+  | inl e ↦ subst (λ w. IsDefined known number (configuration_opening name) ls (refused w)) (sym e.1)
+      (inr (n, subst (LinesFail known empty_mapping ls) e.1 h))
+  | inr e ↦ subst (λ w. IsDefined known number (configuration_opening name) ls (refused w)) (sym e)
+      (n, subst (LinesFail known empty_mapping ls) e h)
 ]

@@ -1,5 +1,6 @@
 -- What a run meets, by how far it came.
-use Rattle.std.proofs.Common.{◌≡◌, ◌≢◌, ◌⊎◌, inl, inr, ℕ, ◌<◌, ◌≤◌, List, length, length-append, arith, refl, ap, IfSome}
+use Rattle.std.proofs.Common.{◌≡◌, ◌≢◌, ◌⊎◌, inl, inr, ℕ, ◌<◌, ◌≤◌, List, length, length-append, arith, refl, ap}
+use Rattle.std.proofs.Common.{IfSome}
 use Rattle.std.specs.Prelude.{Option, Some, None, String}
 use Rattle.std.specs.Io.KnownBytes.{Consumes, IsAtEnd}
 use Rattle.std.specs.declared.alloc.Global.{Global}

@@ -11,7 +11,8 @@ use Rattle.engine.proofs.Starting.{no_refusal, none_opens}
 use Rattle.engine.specs.Finding.{History, Begins}
 use Rattle.shell_run.specs.Run.{Exchange, IsOkOfStore}
 use Rattle.shell_run.specs.Crash.{StartedFrom, IsKnownBy, CrashSafe}
-use Rattle.shell_run.specs.NextRun.{OpensIsNoRefusal, EmptyMayStart, Refused, IsRefusedOver, IsLeft, NextMayStart, NextHasAll}
+use Rattle.shell_run.specs.NextRun.{OpensIsNoRefusal, EmptyMayStart, Refused, IsRefusedOver, IsLeft, NextMayStart}
+use Rattle.shell_run.specs.NextRun.{NextHasAll}
 
 pub opens_is_no_refusal : NoStoreIsNone → OpensIsNoRefusal
 opens_is_no_refusal none files H bytes o refused = no_refusal none files H bytes o refused
@@ -102,7 +103,8 @@ module _ {D E : Type 0} (device : Disk D) (next : Disk E) where
           (k.0, k.1)
 
   pub next_has_all : OpensToOne → NextHasAll device next
-  next_has_all one counts counts' old new first commits exchanges m between entry end found commits' exchanges' means means' ge le left =
+  next_has_all one counts counts' old new first commits exchanges m between entry end found commits' exchanges' means
+      means' ge le left =
       elim (cases_lt m means.crash.c0) [
         | inl early ↦ (
           none_known m means.crash.c0 (device.clock new) (length found) exchanges early means.crash.clocks,

@@ -1,11 +1,13 @@
 -- Streams that are read, and written, piece by piece.
-use Rattle.std.proofs.Common.{◌≡◌, ℕ, take, drop, ◌+◌, ◌<◌, List, [], ◌++◌, length, length-append, append_assoc, arith, refl, sym, ◌∙◌, ap, subst, IfSome}
+use Rattle.std.proofs.Common.{◌≡◌, ℕ, take, drop, ◌+◌, ◌<◌, List, [], ◌++◌, length, length-append, append_assoc, arith}
+use Rattle.std.proofs.Common.{refl, sym, ◌∙◌, ap, subst, IfSome}
 use Rattle.std.specs.Prelude.{Option, Some, None, Bool, true, false}
 use Rattle.std.proofs.lemmas.List.{append-nil, take-append-drop}
 use Rattle.shell_run.specs.Inner.Sending.{Sends, SendsBut}
 use Rattle.std.specs.Io.KnownBytes.{Consumes, Appends, Keeps}
 
-pub consumes_then : (a b c : Option (List ℕ)) (xs ys : List ℕ) → Consumes a b xs → Consumes b c ys → Consumes a c (xs ++ ys)
+pub consumes_then : (a b c : Option (List ℕ)) (xs ys : List ℕ) → Consumes a b xs → Consumes b c ys
+    → Consumes a c (xs ++ ys)
 consumes_then None b c xs ys h k = tt
 consumes_then (Some a) None c xs ys h k = absurd h
 consumes_then (Some a) (Some b) None xs ys h k = absurd k
@@ -15,7 +17,8 @@ pub consumes_none : (a : Option (List ℕ)) → Consumes a a []
 consumes_none None = tt
 consumes_none (Some a) = refl
 
-pub consumes_long : (a b : Option (List ℕ)) (xs : List ℕ) (n : ℕ) → Consumes a b xs → n < length xs → IfSome a (λ bytes. n < length bytes)
+pub consumes_long : (a b : Option (List ℕ)) (xs : List ℕ) (n : ℕ) → Consumes a b xs → n < length xs
+    → IfSome a (λ bytes. n < length bytes)
 consumes_long None b xs n h k = tt
 consumes_long (Some a) None xs n h k = absurd h
 consumes_long (Some a) (Some b) xs n h k = omega (arith, ap length h, length-append xs b)
@@ -38,7 +41,8 @@ appends_kept (Some a) (Some b) h = h ∙ sym (append-nil a)
 pub puts_start : (a : Option (List ℕ)) (text : List ℕ) (b : Bool) → Sends a a text text b
 puts_start a text b = record { sent = []; unsent = text; all = refl; took = appends_none a; waits = λ e. refl }
 
-pub puts_more : (a b c : Option (List ℕ)) (text rest sent more : List ℕ) (w : Bool) → Sends a b text rest true → Appends b c sent → rest ≡ sent ++ more → Sends a c text more w
+pub puts_more : (a b c : Option (List ℕ)) (text rest sent more : List ℕ) (w : Bool) → Sends a b text rest true
+    → Appends b c sent → rest ≡ sent ++ more → Sends a c text more w
 puts_more a b c text rest sent more w h k e = record {
   sent = h.sent ++ sent;
   unsent = more;
@@ -47,7 +51,8 @@ puts_more a b c text rest sent more w h k e = record {
   waits = λ e. refl;
 }
 
-pub puts_stop : (a b c : Option (List ℕ)) (text rest waiting : List ℕ) → Sends a b text rest true → Keeps b c → Sends a c text waiting false
+pub puts_stop : (a b c : Option (List ℕ)) (text rest waiting : List ℕ) → Sends a b text rest true → Keeps b c
+    → Sends a c text waiting false
 puts_stop a b c text rest waiting h k = record {
   sent = h.sent ++ [];
   unsent = h.unsent;
@@ -56,7 +61,8 @@ puts_stop a b c text rest waiting h k = record {
   waits = λ e. cc;
 }
 
-pub puts_kept : (a b c : Option (List ℕ)) (text rest : List ℕ) (w : Bool) → Sends a b text rest true → Sends b c rest [] w → Sends a c text [] w
+pub puts_kept : (a b c : Option (List ℕ)) (text rest : List ℕ) (w : Bool) → Sends a b text rest true
+    → Sends b c rest [] w → Sends a c text [] w
 puts_kept a b c text rest w h k = record {
   sent = h.sent ++ k.sent;
   unsent = k.unsent;
@@ -68,24 +74,31 @@ puts_kept a b c text rest w h k = record {
 pub puts_at_stop : (a b : Option (List ℕ)) (text x y : List ℕ) → Sends a b text x false → Sends a b text y false
 puts_at_stop a b text x y h = record { sent = h.sent; unsent = h.unsent; all = h.all; took = h.took; waits = λ e. cc }
 
-pub puts_drop : (a b c : Option (List ℕ)) (text rest : List ℕ) (n : ℕ) → Sends a b text rest true → Appends b c (take n rest) → Sends a c text (drop n rest) true
-puts_drop a b c text rest n h k = puts_more a b c text rest (take n rest) (drop n rest) true h k (sym (take-append-drop n rest))
+pub puts_drop : (a b c : Option (List ℕ)) (text rest : List ℕ) (n : ℕ) → Sends a b text rest true
+    → Appends b c (take n rest) → Sends a c text (drop n rest) true
+puts_drop a b c text rest n h k =
+    puts_more a b c text rest (take n rest) (drop n rest) true h k (sym (take-append-drop n rest))
 
 -- a text more after what waits
-pub puts_behind : (a b c : Option (List ℕ)) (text rest t w : List ℕ) (well : Bool) → Sends a b text rest true → Sends b c (rest ++ t) w well → Sends a c (text ++ t) w well
+pub puts_behind : (a b c : Option (List ℕ)) (text rest t w : List ℕ) (well : Bool) → Sends a b text rest true
+    → Sends b c (rest ++ t) w well → Sends a c (text ++ t) w well
 puts_behind a b c text rest t w well h k = record {
   sent = h.sent ++ k.sent;
   unsent = k.unsent;
-  all = append_assoc h.sent k.sent k.unsent ∙ ap (λ z. h.sent ++ z) (k.all ∙ ap (λ z. z ++ t) (sym (h.waits refl))) ∙ sym (append_assoc h.sent h.unsent t) ∙ ap (λ z. z ++ t) h.all;
+  all = append_assoc h.sent k.sent k.unsent ∙ ap (λ z. h.sent ++ z) (k.all ∙ ap (λ z. z ++ t) (sym (h.waits refl)))
+      ∙ sym (append_assoc h.sent h.unsent t) ∙ ap (λ z. z ++ t) h.all;
   took = appends_then a b c h.sent k.sent h.took k.took;
   waits = k.waits;
 }
 
-pub puts_on : (a b c : Option (List ℕ)) (text rest w : List ℕ) (well : Bool) → Sends a b text rest true → Sends b c rest w well → Sends a c text w well
-puts_on a b c text rest w well h k = subst (λ z. Sends a c z w well) (append-nil text) (puts_behind a b c text rest [] w well h (subst (λ z. Sends b c z w well) (sym (append-nil rest)) k))
+pub puts_on : (a b c : Option (List ℕ)) (text rest w : List ℕ) (well : Bool) → Sends a b text rest true
+    → Sends b c rest w well → Sends a c text w well
+puts_on a b c text rest w well h k = subst (λ z. Sends a c z w well) (append-nil text)
+    (puts_behind a b c text rest [] w well h (subst (λ z. Sends b c z w well) (sym (append-nil rest)) k))
 
 -- a run that stops has more to write, of which nothing is written
-pub puts_short : (a b : Option (List ℕ)) (text more waiting rest : List ℕ) (well : Bool) → Sends a b text waiting well → Sends a b (text ++ more) rest false
+pub puts_short : (a b : Option (List ℕ)) (text more waiting rest : List ℕ) (well : Bool) → Sends a b text waiting well
+    → Sends a b (text ++ more) rest false
 puts_short a b text more waiting rest well h = record {
   sent = h.sent;
   unsent = h.unsent ++ more;
@@ -101,7 +114,8 @@ pub puts_few : (n : ℕ) (a b c : Option (List ℕ)) (text rest t w : List ℕ) 
 unfolding puts_behind
 puts_few n a b c text rest t w well h k few = (
   puts_behind a b c text rest t w well h k,
-  (let l : length k.unsent < n = omega (arith, few, ap length k.all, length-append k.sent k.unsent, length-append rest t) in l),
+  (let l : length k.unsent < n =
+      omega (arith, few, ap length k.all, length-append k.sent k.unsent, length-append rest t) in l),
 )
 
 -- likewise where no more was put

@@ -18,7 +18,8 @@ counted_over : (l : Line) (ls : List Line) → IsSkipped l.bytes → counted_lin
 counted_over l ls h = ap (λ b. cond (not b) (l ∷ counted_lines ls) (counted_lines ls)) (skipped_true l.bytes h)
 
 counted_with : (l : Line) (ls : List Line) → ¬ IsSkipped l.bytes → counted_lines (l ∷ ls) ≡ l ∷ counted_lines ls
-counted_with l ls n = ap (λ b. cond (not b) (l ∷ counted_lines ls) (counted_lines ls)) (false_is (is_skipped l.bytes) (λ e. n (true_skipped l.bytes e)))
+counted_with l ls n = ap (λ b. cond (not b) (l ∷ counted_lines ls) (counted_lines ls))
+    (false_is (is_skipped l.bytes) (λ e. n (true_skipped l.bytes e)))
 
 module _ {V : Type 0} (takes : Line → V → V → Type 0) (refuses : Line → V → Refusal → Type 0) where
   -- some lines were taken, and these are left

@@ -28,7 +28,9 @@ defines_none known (Parse t) r = refl
 defines_none known Invalid r = refl
 
 module _ {D : Type 0} (device : Disk D) where
-  pub turned_line : (l : Line) (old new : RunState D) (session : ℕ) (asked : Statement) (r : Reply) → IsStatement l.bytes session (statement asked) → HasAnswered device old.configs l.number old.store new.store (statement asked) r → new.configs ≡ old.configs
+  pub turned_line : (l : Line) (old new : RunState D) (session : ℕ) (asked : Statement) (r : Reply)
+      → IsStatement l.bytes session (statement asked)
+      → HasAnswered device old.configs l.number old.store new.store (statement asked) r → new.configs ≡ old.configs
       → HasTurned device (single l) old new session r
   turned_line l old new session asked r says answered same = record {
     statement = statement asked;
@@ -37,10 +39,14 @@ module _ {D : Type 0} (device : Disk D) where
     becomes = subst (Becomes old.configs (statement asked) r) (sym same) (defines_none old.configs asked r);
   }
 
-  pub turned_nothing : (s : Step) (run_state : RunState D) → Says s 0 invalid → HasTurned device s run_state run_state 0 (refused (no_statement (line_of s).number))
-  turned_nothing s run_state says = record { statement = invalid; says = says; answered = (rests device run_state.store, refl); becomes = refl }
+  pub turned_nothing : (s : Step) (run_state : RunState D) → Says s 0 invalid
+      → HasTurned device s run_state run_state 0 (refused (no_statement (line_of s).number))
+  turned_nothing s run_state says =
+      record { statement = invalid; says = says; answered = (rests device run_state.store, refl); becomes = refl }
 
-  pub turned_definition : (l : Line) (body : List Line) (old new : RunState D) (head : OpeningLine) (r : Reply) → IsOpeningLine l.bytes head → new.store ≡ old.store → IsDefined old.configs l.number head (counted_lines body) r → Becomes old.configs (define head (counted_lines body)) r new.configs
+  pub turned_definition : (l : Line) (body : List Line) (old new : RunState D) (head : OpeningLine) (r : Reply)
+      → IsOpeningLine l.bytes head → new.store ≡ old.store → IsDefined old.configs l.number head (counted_lines body) r
+      → Becomes old.configs (define head (counted_lines body)) r new.configs
       → HasTurned device (definition l body) old new 0 r
   turned_definition l body old new head r is same answered becomes = record {
     statement = define head (counted_lines body);

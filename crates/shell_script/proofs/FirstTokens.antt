@@ -1,5 +1,6 @@
 -- The first token of a statement, and the first word of a line that says it.
-use Rattle.std.proofs.Common.{◌≡◌, ℕ, zero, suc, ◌+◌, ◌<◌, ◌≤◌, false, List, [], ◌∷◌, ◌++◌, length, length-append, get_or, codes, arith, refl, sym, ◌∙◌, ap, subst}
+use Rattle.std.proofs.Common.{◌≡◌, ℕ, zero, suc, ◌+◌, ◌<◌, ◌≤◌, false, List, [], ◌∷◌, ◌++◌, length, length-append}
+use Rattle.std.proofs.Common.{get_or, codes, arith, refl, sym, ◌∙◌, ap, subst}
 use Rattle.std.specs.Prelude.{nat_eq}
 use Rattle.std.specs.List.{All}
 use Rattle.std.specs.Str.{IsUtf8, IsAscii, IsCharBoundary}
@@ -13,7 +14,9 @@ use Rattle.ts_base.specs.Words.{EndsWord, BeginsWithWord}
 use Rattle.ts_base.proofs.ByteKinds.{blank_ascii}
 use Rattle.shell_script.specs.Tokens.{ScriptToken, word, quote, IsSpelled}
 use Rattle.shell_script.specs.Lines.{HasNo}
-use Rattle.shell_script.specs.Grammar.{Statement, insert, search, show, ask, parse, define, invalid, IsSession, HasSession, IsWrittenAs, IsStatement, label, expr_tokens, query_tokens, body_tokens, statement_tokens}
+use Rattle.shell_script.specs.Grammar.{Statement, insert, search, show, ask, parse, define, invalid, IsSession}
+use Rattle.shell_script.specs.Grammar.{HasSession, IsWrittenAs, IsStatement, label, expr_tokens, query_tokens}
+use Rattle.shell_script.specs.Grammar.{body_tokens, statement_tokens}
 use Rattle.shell_script.specs.Inner.Said.{IsSaidBehind}
 use Rattle.shell_script.specs.Inner.Fronts.{IsNoQuote}
 use Rattle.shell_script.proofs.Front.{one_first_word}
@@ -50,16 +53,21 @@ more b w low high h = record {
     by (suc i) = h.ascii i
 
 label_letters : (s : ℕ) → IsSession s → AreLetters (label s)
-label_letters s h = more 64 ((48 + s) ∷ []) (omega arith) (omega arith) (more (48 + s) [] (omega arith) (omega (arith, h.1)) none)
+label_letters s h =
+    more 64 ((48 + s) ∷ []) (omega arith) (omega arith) (more (48 + s) [] (omega arith) (omega (arith, h.1)) none)
 
 show_letters : AreLetters (codes "show")
-show_letters = more 115 (codes "how") (omega arith) (omega arith) (more 104 (codes "ow") (omega arith) (omega arith) (more 111 (codes "w") (omega arith) (omega arith) (more 119 [] (omega arith) (omega arith) none)))
+show_letters = more 115 (codes "how") (omega arith) (omega arith) (more 104 (codes "ow") (omega arith) (omega arith)
+    (more 111 (codes "w") (omega arith) (omega arith) (more 119 [] (omega arith) (omega arith) none)))
 
 ask_letters : AreLetters (codes "ask")
-ask_letters = more 97 (codes "sk") (omega arith) (omega arith) (more 115 (codes "k") (omega arith) (omega arith) (more 107 [] (omega arith) (omega arith) none))
+ask_letters = more 97 (codes "sk") (omega arith) (omega arith)
+    (more 115 (codes "k") (omega arith) (omega arith) (more 107 [] (omega arith) (omega arith) none))
 
 parse_letters : AreLetters (codes "parse")
-parse_letters = more 112 (codes "arse") (omega arith) (omega arith) (more 97 (codes "rse") (omega arith) (omega arith) (more 114 (codes "se") (omega arith) (omega arith) (more 115 (codes "e") (omega arith) (omega arith) (more 101 [] (omega arith) (omega arith) none))))
+parse_letters = more 112 (codes "arse") (omega arith) (omega arith)
+    (more 97 (codes "rse") (omega arith) (omega arith) (more 114 (codes "se") (omega arith) (omega arith)
+    (more 115 (codes "e") (omega arith) (omega arith) (more 101 [] (omega arith) (omega arith) none))))
 
 -- a statement's first token is a word
 record FirstToken (s : ℕ) (statement : Statement) : Type 0 where
@@ -71,14 +79,28 @@ record FirstToken (s : ℕ) (statement : Statement) : Type 0 where
 
 by_label : (s : ℕ) (statement : Statement) → IsSession s → FirstToken s statement
 by_label zero statement h = absurd (omega (arith, h.0))
-by_label (suc n) statement h = record { first = label (suc n); others = body_tokens statement; tokens = refl; some = omega arith; letters = label_letters (suc n) h }
+by_label (suc n) statement h = record {
+  first = label (suc n);
+  others = body_tokens statement;
+  tokens = refl;
+  some = omega arith;
+  letters = label_letters (suc n) h;
+}
 
 first_token : (s : ℕ) (statement : Statement) → HasSession s statement → FirstToken s statement
 first_token s (insert e) h = by_label s (insert e) h
 first_token s (search t) h = by_label s (search t) h
-first_token s (show e) h = subst (λ n. FirstToken n (show e)) (sym h) (record { first = codes "show"; others = expr_tokens e; tokens = refl; some = omega arith; letters = show_letters })
-first_token s (ask t) h = subst (λ n. FirstToken n (ask t)) (sym h) (record { first = codes "ask"; others = query_tokens t; tokens = refl; some = omega arith; letters = ask_letters })
-first_token s (parse t) h = subst (λ n. FirstToken n (parse t)) (sym h) (record { first = codes "parse"; others = quote t ∷ []; tokens = refl; some = omega arith; letters = parse_letters })
+first_token s (show e) h = subst (λ n. FirstToken n (show e)) (sym h)
+    (record { first = codes "show"; others = expr_tokens e; tokens = refl; some = omega arith; letters = show_letters })
+first_token s (ask t) h = subst (λ n. FirstToken n (ask t)) (sym h)
+    (record { first = codes "ask"; others = query_tokens t; tokens = refl; some = omega arith; letters = ask_letters })
+first_token s (parse t) h = subst (λ n. FirstToken n (parse t)) (sym h) (record {
+  first = codes "parse";
+  others = quote t ∷ [];
+  tokens = refl;
+  some = omega arith;
+  letters = parse_letters;
+})
 first_token s (define head body) h = absurd h
 first_token s invalid h = absurd h
 
@@ -88,7 +110,8 @@ words_same v w xs ys e = (cc, cc)
 -- a character begins after a word
 seam : (front rest : List ℕ) → EndsWord rest → IsCharBoundary (front ++ rest) (length front)
 seam front [] h = (omega (arith, length-append front []), λ lt. absurd (omega (arith, lt, length-append front [])))
-seam front (b ∷ rest) h = (omega (arith, length-append front (b ∷ rest)), λ lt wide. absurd (by h (subst (λ n. 128 ≤ n) at wide)))
+seam front (b ∷ rest) h =
+    (omega (arith, length-append front (b ∷ rest)), λ lt wide. absurd (by h (subst (λ n. 128 ≤ n) at wide)))
   where
     get_seam : (xs : List ℕ) → get_or (xs ++ b ∷ rest) (length xs) 0 ≡ b
     get_seam [] = refl
@@ -104,27 +127,35 @@ rest_utf8 : (line first rest : List ℕ) → BeginsWithWord line first rest → 
 rest_utf8 line first rest b u =
     let front : List ℕ = b.gap ++ first in
     let whole : line ≡ front ++ rest = b.text ∙ sym (append_assoc b.gap first rest) in
-    subst IsUtf8 (drop-append_seam front rest) (IsUtf8-drop (front ++ rest) (length front) (subst IsUtf8 whole u) (seam front rest b.ends))
+    subst IsUtf8 (drop-append_seam front rest)
+    (IsUtf8-drop (front ++ rest) (length front) (subst IsUtf8 whole u) (seam front rest b.ends))
 
 line_utf8 : (line first rest : List ℕ) → BeginsWithWord line first rest → AreLetters first → IsUtf8 rest → IsUtf8 line
-line_utf8 line first rest b letters u = subst IsUtf8 (sym b.text) (IsUtf8-append b.gap (first ++ rest) (IsUtf8-from_ascii b.gap (blanks_ascii b.gap b.blank)) (IsUtf8-append first rest (IsUtf8-from_ascii first letters.ascii) u))
+line_utf8 line first rest b letters u = subst IsUtf8 (sym b.text)
+    (IsUtf8-append b.gap (first ++ rest) (IsUtf8-from_ascii b.gap (blanks_ascii b.gap b.blank))
+    (IsUtf8-append first rest (IsUtf8-from_ascii first letters.ascii) u))
 
 -- what a line says is what is said after its first word
-pub said_line : (line first rest : List ℕ) (s : ℕ) (statement : Statement) → BeginsWithWord line first rest → IsSaidBehind first rest s statement → IsWrittenAs line s statement
+pub said_line : (line first rest : List ℕ) (s : ℕ) (statement : Statement) → BeginsWithWord line first rest
+    → IsSaidBehind first rest s statement → IsWrittenAs line s statement
 said_line line first rest s statement b k =
     let f : FirstToken s statement = first_token s statement k.session in
-    let letters : AreLetters first = subst AreLetters (words_same f.first first f.others k.others (sym f.tokens ∙ k.tokens)).0 f.letters in
+    let letters : AreLetters first =
+    subst AreLetters (words_same f.first first f.others k.others (sym f.tokens ∙ k.tokens)).0 f.letters in
     record {
       session = k.session;
       named = k.named;
       utf8 = line_utf8 line first rest b letters k.utf8;
-      spelled = subst (IsSpelled line) (sym k.tokens) (b.gap, rest, b.blank, (b.is_word, letters.free), b.text, b.ends, k.spelled);
+      spelled = subst (IsSpelled line) (sym k.tokens)
+          (b.gap, rest, b.blank, (b.is_word, letters.free), b.text, b.ends, k.spelled);
     }
 
-pub said_behind : (line first rest : List ℕ) (s : ℕ) (statement : Statement) → BeginsWithWord line first rest → IsWrittenAs line s statement → IsSaidBehind first rest s statement
+pub said_behind : (line first rest : List ℕ) (s : ℕ) (statement : Statement) → BeginsWithWord line first rest
+    → IsWrittenAs line s statement → IsSaidBehind first rest s statement
 said_behind line first rest s statement b k =
     let f : FirstToken s statement = first_token s statement k.session in
-    let found : (r : List ℕ) × BeginsWithWord line f.first r × IsSpelled r f.others = spelled_word line f.first f.others (subst (IsSpelled line) f.tokens k.spelled) in
+    let found : (r : List ℕ) × BeginsWithWord line f.first r × IsSpelled r f.others =
+    spelled_word line f.first f.others (subst (IsSpelled line) f.tokens k.spelled) in
     let same : (f.first ≡ first) × (found.0 ≡ rest) = one_first_word line f.first first found.0 rest found.1 b in
     record {
       session = k.session;
@@ -136,14 +167,17 @@ said_behind line first rest s statement b k =
     }
 
 -- a line without a word is no statement
-pub no_word_says : (line : List ℕ) → ((first rest : List ℕ) → BeginsWithWord line first rest → ⊥) → (s : ℕ) (statement : Statement) → IsWrittenAs line s statement → ⊥
+pub no_word_says : (line : List ℕ) → ((first rest : List ℕ) → BeginsWithWord line first rest → ⊥)
+    → (s : ℕ) (statement : Statement) → IsWrittenAs line s statement → ⊥
 no_word_says line wordless s statement k =
     let f : FirstToken s statement = first_token s statement k.session in
-    let found : (r : List ℕ) × BeginsWithWord line f.first r × IsSpelled r f.others = spelled_word line f.first f.others (subst (IsSpelled line) f.tokens k.spelled) in
+    let found : (r : List ℕ) × BeginsWithWord line f.first r × IsSpelled r f.others =
+    spelled_word line f.first f.others (subst (IsSpelled line) f.tokens k.spelled) in
     wordless f.first found.0 found.1
 
 -- what the program's answer for a line says
-pub says_nothing : (line : List ℕ) (s : ℕ) (a : Statement) → s ≡ 0 → a ≡ invalid → ((t : ℕ) (b : Statement) → IsWrittenAs line t b → ⊥) → IsStatement line s a
+pub says_nothing : (line : List ℕ) (s : ℕ) (a : Statement) → s ≡ 0 → a ≡ invalid
+    → ((t : ℕ) (b : Statement) → IsWrittenAs line t b → ⊥) → IsStatement line s a
 says_nothing line s a e f none = subst (IsStatement line s) (sym f) (e, none)
 
 pub says_statement : (line : List ℕ) (s : ℕ) (a : Statement) → IsWrittenAs line s a → IsStatement line s a

@@ -19,13 +19,15 @@ begins_word (b ∷ bs) rest w = All-head IsDark b bs w.dark
 -- a line has one first word, and one rest after it
 pub one_first_word : (line v w r s : List ℕ) → BeginsWithWord line v r → BeginsWithWord line w s → (v ≡ w) × (r ≡ s)
 one_first_word line v w r s h k =
-    let gaps = same_front IsBlank h.gap k.gap (v ++ r) (w ++ s) h.blank k.blank (begins_word v r h.is_word) (begins_word w s k.is_word) (sym h.text ∙ k.text) in
+    let gaps = same_front IsBlank h.gap k.gap (v ++ r) (w ++ s) h.blank k.blank (begins_word v r h.is_word)
+    (begins_word w s k.is_word) (sym h.text ∙ k.text) in
     same_front IsDark v w r s h.is_word.dark k.is_word.dark (stops_word r h.ends) (stops_word s k.ends) gaps.1
 
 -- a line of blanks alone has no word
 pub no_first_word : (line : List ℕ) → All IsBlank line → (first rest : List ℕ) → BeginsWithWord line first rest → ⊥
 no_first_word line blank first rest h =
-    let same = same_front IsBlank line h.gap [] (first ++ rest) blank h.blank tt (begins_word first rest h.is_word) (append-nil line ∙ h.text) in
+    let same = same_front IsBlank line h.gap [] (first ++ rest) blank h.blank tt (begins_word first rest h.is_word)
+    (append-nil line ∙ h.text) in
     none first rest h.is_word same.1
   where
     none : (a b : List ℕ) → IsWord a → [] ≡ a ++ b → ⊥

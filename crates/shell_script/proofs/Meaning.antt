@@ -1,16 +1,22 @@
 -- A step has one meaning.
-use Rattle.std.proofs.Common.{◌≡◌, ◌⊎◌, inl, inr, ℕ, ◌+◌, List, [], ◌∷◌, get_or, Bool, true, false, codes, arith, refl, sym, ◌∙◌, ap}
+use Rattle.std.proofs.Common.{◌≡◌, ◌⊎◌, inl, inr, ℕ, ◌+◌, List, [], ◌∷◌, get_or, Bool, true, false, codes, arith, refl}
+use Rattle.std.proofs.Common.{sym, ◌∙◌, ap}
 use Rattle.std.specs.Prelude.{not}
 use Rattle.shell_script.specs.Tokens.{ScriptToken, word, quote}
-use Rattle.shell_script.specs.Grammar.{Statement, insert, show, ask, parse, define, invalid, IsSession, IsWrittenAs, IsStatement, HasSession, IsNamed, label, expr_tokens, query_tokens, body_tokens, statement_tokens}
+use Rattle.shell_script.specs.Grammar.{Statement, insert, show, ask, parse, define, invalid, IsSession, IsWrittenAs}
+use Rattle.shell_script.specs.Grammar.{IsStatement, HasSession, IsNamed, label, expr_tokens, query_tokens, body_tokens}
+use Rattle.shell_script.specs.Grammar.{statement_tokens}
 use Rattle.shell_script.specs.Grammar.{search as finding}
 use Rattle.shell_script.specs.Lines.{Line}
-use Rattle.shell_script.specs.OpeningLines.{Kind, simple_kind, porter_kind, synonym_kind, thesaurus_kind, OpeningLine, dictionary_opening, configuration_opening, mark_tokens, kind_tokens, opening_tokens, IsOpeningLine}
+use Rattle.shell_script.specs.OpeningLines.{Kind, simple_kind, porter_kind, synonym_kind, thesaurus_kind, OpeningLine}
+use Rattle.shell_script.specs.OpeningLines.{dictionary_opening, configuration_opening, mark_tokens, kind_tokens}
+use Rattle.shell_script.specs.OpeningLines.{opening_tokens, IsOpeningLine}
 use Rattle.shell_script.specs.Steps.{Step, single, definition, stray}
 use Rattle.shell_script.specs.Says.{counted_lines, IsDefinition, Says}
 use Rattle.shell_script.specs.Inner.Said.{IsOfSession, IsPlain}
 use Rattle.shell_script.proofs.FirstTokens.{heads_differ, words_same}
-use Rattle.shell_script.proofs.Saying.{one_of_session, one_plain, label_or_show, label_or_ask, label_or_parse, labelled_tokens, plain_tokens}
+use Rattle.shell_script.proofs.Saying.{one_of_session, one_plain, label_or_show, label_or_ask, label_or_parse}
+use Rattle.shell_script.proofs.Saying.{labelled_tokens, plain_tokens}
 use Rattle.shell_script.proofs.Spelling.{one_spelling}
 
 labels_same : (s t : ℕ) → label s ≡ label t → s ≡ t
@@ -18,7 +24,8 @@ labels_same s t e = let numbers : 48 + s ≡ 48 + t = cc in omega arith
 
 -- a statement is after a label, or alone
 abbrev Stands : ℕ → Statement → Type 0
-Stands s a = (IsOfSession a × IsSession s × (statement_tokens s a ≡ word (label s) ∷ body_tokens a)) ⊎ (IsPlain a × (s ≡ 0) × (statement_tokens s a ≡ body_tokens a))
+Stands s a = (IsOfSession a × IsSession s × (statement_tokens s a ≡ word (label s) ∷ body_tokens a))
+    ⊎ (IsPlain a × (s ≡ 0) × (statement_tokens s a ≡ body_tokens a))
 
 stands : (s : ℕ) (a : Statement) → HasSession s a → IsNamed a → Stands s a
 stands s (insert e) h n = inl (n, h, labelled_tokens s (insert e) h)
@@ -39,7 +46,8 @@ label_or_plain s ts (finding x) h same = h
 label_or_plain s ts (define head body) h same = h
 label_or_plain s ts invalid h same = h
 
-one_said : (s t : ℕ) (a b : Statement) → Stands s a → Stands t b → statement_tokens s a ≡ statement_tokens t b → (s ≡ t) × (a ≡ b)
+one_said : (s t : ℕ) (a b : Statement) → Stands s a → Stands t b → statement_tokens s a ≡ statement_tokens t b
+    → (s ≡ t) × (a ≡ b)
 one_said s t a b (inl h) (inl k) same =
     let o = words_same (label s) (label t) (body_tokens a) (body_tokens b) (sym h.2 ∙ same ∙ k.2) in
     (labels_same s t o.0, one_of_session a b h.0 k.0 o.1)
@@ -47,11 +55,14 @@ one_said s t a b (inr h) (inr k) same = (h.1 ∙ sym k.1, one_plain a b h.0 k.0 
 one_said s t a b (inl h) (inr k) same = absurd (label_or_plain s (body_tokens a) b k.0 (sym h.2 ∙ same ∙ k.2))
 one_said s t a b (inr h) (inl k) same = absurd (label_or_plain t (body_tokens b) a h.0 (sym k.2 ∙ sym same ∙ h.2))
 
-one_written : (line : List ℕ) (s t : ℕ) (a b : Statement) → IsWrittenAs line s a → IsWrittenAs line t b → (s ≡ t) × (a ≡ b)
-one_written line s t a b h k = one_said s t a b (stands s a h.session h.named) (stands t b k.session k.named) (one_spelling line (statement_tokens s a) (statement_tokens t b) h.spelled k.spelled)
+one_written : (line : List ℕ) (s t : ℕ) (a b : Statement) → IsWrittenAs line s a → IsWrittenAs line t b
+    → (s ≡ t) × (a ≡ b)
+one_written line s t a b h k = one_said s t a b (stands s a h.session h.named) (stands t b k.session k.named)
+    (one_spelling line (statement_tokens s a) (statement_tokens t b) h.spelled k.spelled)
 
 -- a line that says nothing, or a statement
-says : (line : List ℕ) (s : ℕ) (a : Statement) → IsStatement line s a → IsWrittenAs line s a ⊎ ((s ≡ 0) × (a ≡ invalid) × ((t : ℕ) (b : Statement) → IsWrittenAs line t b → ⊥))
+says : (line : List ℕ) (s : ℕ) (a : Statement) → IsStatement line s a
+    → IsWrittenAs line s a ⊎ ((s ≡ 0) × (a ≡ invalid) × ((t : ℕ) (b : Statement) → IsWrittenAs line t b → ⊥))
 says line s (insert e) h = inl h
 says line s (finding t) h = inl h
 says line s (show e) h = inl h
@@ -60,10 +71,13 @@ says line s (parse t) h = inl h
 says line s (define head body) h = inl h
 says line s invalid h = inr (h.0, refl, h.1)
 
-one_statement : (line : List ℕ) (s t : ℕ) (a b : Statement) → IsStatement line s a → IsStatement line t b → (s ≡ t) × (a ≡ b)
+one_statement : (line : List ℕ) (s t : ℕ) (a b : Statement) → IsStatement line s a → IsStatement line t b
+    → (s ≡ t) × (a ≡ b)
 one_statement line s t a b h k = by (says line s a h) (says line t b k)
   where
-    by : IsWrittenAs line s a ⊎ ((s ≡ 0) × (a ≡ invalid) × ((n : ℕ) (e : Statement) → IsWrittenAs line n e → ⊥)) → IsWrittenAs line t b ⊎ ((t ≡ 0) × (b ≡ invalid) × ((n : ℕ) (e : Statement) → IsWrittenAs line n e → ⊥)) → (s ≡ t) × (a ≡ b)
+    by : IsWrittenAs line s a ⊎ ((s ≡ 0) × (a ≡ invalid) × ((n : ℕ) (e : Statement) → IsWrittenAs line n e → ⊥))
+        → IsWrittenAs line t b ⊎ ((t ≡ 0) × (b ≡ invalid) × ((n : ℕ) (e : Statement) → IsWrittenAs line n e → ⊥))
+        → (s ≡ t) × (a ≡ b)
     by (inl x) (inl y) = one_written line s t a b x y
     by (inl x) (inr y) = absurd (y.2 s a x)
     by (inr x) (inl y) = absurd (x.2 t b y)
@@ -106,7 +120,8 @@ abbrev second : Kind → ℕ
 second k = get_or (kind_word k) 1 0
 
 kinds_tell : (j k : Kind) → second j ≡ second k → kind_rest j ≡ kind_rest k → j ≡ k
-kinds_tell (simple_kind a) (simple_kind b) e f = ap simple_kind (not_tells a b (marks_tell (not a) (not b) (codes "pass") f))
+kinds_tell (simple_kind a) (simple_kind b) e f =
+    ap simple_kind (not_tells a b (marks_tell (not a) (not b) (codes "pass") f))
 kinds_tell porter_kind porter_kind e f = refl
 kinds_tell (synonym_kind a) (synonym_kind b) e f = ap synonym_kind (marks_tell a b (codes "casesensitive") f)
 kinds_tell (thesaurus_kind m) (thesaurus_kind n) e f = ap thesaurus_kind (words_same m n [] [] f).0
@@ -130,23 +145,28 @@ one_kind j k same =
 
 tokens_tell : (h k : OpeningLine) → opening_tokens h ≡ opening_tokens k → h ≡ k
 tokens_tell (dictionary_opening n i) (dictionary_opening m j) same =
-    let o = words_same (codes "dictionary") (codes "dictionary") (word n ∷ kind_tokens i) (word m ∷ kind_tokens j) same in
+    let o =
+    words_same (codes "dictionary") (codes "dictionary") (word n ∷ kind_tokens i) (word m ∷ kind_tokens j) same in
     let p = words_same n m (kind_tokens i) (kind_tokens j) o.1 in
     ap (λ x. dictionary_opening x i) p.0 ∙ ap (dictionary_opening m) (one_kind i j p.1)
 tokens_tell (configuration_opening n) (configuration_opening m) same =
     let o = words_same (codes "configuration") (codes "configuration") (word n ∷ []) (word m ∷ []) same in
     ap configuration_opening (words_same n m [] [] o.1).0
 tokens_tell (dictionary_opening n i) (configuration_opening m) same =
-    absurd (heads_differ (codes "dictionary") (codes "configuration") refl (words_same (codes "dictionary") (codes "configuration") (word n ∷ kind_tokens i) (word m ∷ []) same).0)
+    absurd (heads_differ (codes "dictionary") (codes "configuration") refl
+    (words_same (codes "dictionary") (codes "configuration") (word n ∷ kind_tokens i) (word m ∷ []) same).0)
 tokens_tell (configuration_opening n) (dictionary_opening m j) same =
-    absurd (heads_differ (codes "configuration") (codes "dictionary") refl (words_same (codes "configuration") (codes "dictionary") (word n ∷ []) (word m ∷ kind_tokens j) same).0)
+    absurd (heads_differ (codes "configuration") (codes "dictionary") refl
+    (words_same (codes "configuration") (codes "dictionary") (word n ∷ []) (word m ∷ kind_tokens j) same).0)
 
 pub one_opening_line : (line : List ℕ) (h k : OpeningLine) → IsOpeningLine line h → IsOpeningLine line k → h ≡ k
-one_opening_line line h k p q = tokens_tell h k (one_spelling line (opening_tokens h) (opening_tokens k) p.spelled q.spelled)
+one_opening_line line h k p q =
+    tokens_tell h k (one_spelling line (opening_tokens h) (opening_tokens k) p.spelled q.spelled)
 
 -- a definition says its first line and its body, or nothing
 abbrev Defines : Line → List Line → Statement → Type 0
-Defines l body a = ((h : OpeningLine) × IsOpeningLine l.bytes h × (a ≡ define h (counted_lines body))) ⊎ ((a ≡ invalid) × ((h : OpeningLine) → IsOpeningLine l.bytes h → ⊥))
+Defines l body a = ((h : OpeningLine) × IsOpeningLine l.bytes h × (a ≡ define h (counted_lines body)))
+    ⊎ ((a ≡ invalid) × ((h : OpeningLine) → IsOpeningLine l.bytes h → ⊥))
 
 defined : (l : Line) (body : List Line) (a : Statement) → IsDefinition l body a → Defines l body a
 defined l body (define h ls) d = inl (h, d.0, ap (define h) d.1)
@@ -158,12 +178,14 @@ defined l body (ask t) d = absurd d
 defined l body (parse t) d = absurd d
 
 one_definition : (l : Line) (body : List Line) (a b : Statement) → Defines l body a → Defines l body b → a ≡ b
-one_definition l body a b (inl x) (inl y) = x.2 ∙ ap (λ h. define h (counted_lines body)) (one_opening_line l.bytes x.0 y.0 x.1 y.1) ∙ sym y.2
+one_definition l body a b (inl x) (inl y) =
+    x.2 ∙ ap (λ h. define h (counted_lines body)) (one_opening_line l.bytes x.0 y.0 x.1 y.1) ∙ sym y.2
 one_definition l body a b (inl x) (inr y) = absurd (y.1 x.0 x.1)
 one_definition l body a b (inr x) (inl y) = absurd (x.1 y.0 y.1)
 one_definition l body a b (inr x) (inr y) = x.0 ∙ sym y.0
 
 pub one_meaning : (step : Step) (s t : ℕ) (a b : Statement) → Says step s a → Says step t b → (s ≡ t) × (a ≡ b)
 one_meaning (single l) s t a b h k = one_statement l.bytes s t a b h k
-one_meaning (definition l body) s t a b h k = (h.0 ∙ sym k.0, one_definition l body a b (defined l body a h.1) (defined l body b k.1))
+one_meaning (definition l body) s t a b h k =
+    (h.0 ∙ sym k.0, one_definition l body a b (defined l body a h.1) (defined l body b k.1))
 one_meaning (stray l) s t a b h k = (h.0 ∙ sym k.0, h.1 ∙ sym k.1)

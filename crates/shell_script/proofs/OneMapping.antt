@@ -19,7 +19,9 @@ words_tell (n ∷ ns) (m ∷ ms) e =
 types_tell : (ks js : List TokenType) → types_text ks ≡ types_text js → ks ≡ js
 types_tell ks js e = sym (types_read ks) ∙ ap types_in e ∙ types_read js
 
-pub one_mapping : (line : List ℕ) (ks js : List TokenType) (ns ms : List (List ℕ)) → IsMapping line ks ns → IsMapping line js ms → (ks ≡ js) × (ns ≡ ms)
+pub one_mapping : (line : List ℕ) (ks js : List TokenType) (ns ms : List (List ℕ)) → IsMapping line ks ns
+    → IsMapping line js ms → (ks ≡ js) × (ns ≡ ms)
 one_mapping line ks js ns ms h k =
-    let o = words_same (types_text ks) (types_text js) (map word ns) (map word ms) (one_spelling line (word (types_text ks) ∷ map word ns) (word (types_text js) ∷ map word ms) h.spelled k.spelled) in
+    let o = words_same (types_text ks) (types_text js) (map word ns) (map word ms) (one_spelling line
+    (word (types_text ks) ∷ map word ns) (word (types_text js) ∷ map word ms) h.spelled k.spelled) in
     (types_tell ks js o.0, words_tell ns ms o.1)

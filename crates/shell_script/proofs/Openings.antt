@@ -1,5 +1,6 @@
 -- What a line opens, by its first word.
-use Rattle.std.proofs.Common.{◌≡◌, ◌⊎◌, inl, inr, ℕ, ◌<◌, ◌==◌, ◌||◌, Bool, true, false, cond, if◌then◌else◌, List, [], ◌∷◌, ◌++◌, length, codes, arith, refl, sym, ◌∙◌, ap, subst, eq-eqb}
+use Rattle.std.proofs.Common.{◌≡◌, ◌⊎◌, inl, inr, ℕ, ◌<◌, ◌==◌, ◌||◌, Bool, true, false, cond, if◌then◌else◌, List, []}
+use Rattle.std.proofs.Common.{◌∷◌, ◌++◌, length, codes, arith, refl, sym, ◌∙◌, ap, subst, eq-eqb}
 use Rattle.std.specs.Prelude.{bytes_eq}
 use Rattle.std.specs.List.{All}
 use Rattle.std.proofs.lemmas.Bool.{eqb-true}
@@ -50,38 +51,64 @@ first_at [] (b ∷ w) rest g k e =
     ap (λ x. if x then first_word (w ++ rest) else b ∷ word_of (w ++ rest)) (dark_false b (All-head IsDark b w k.dark))
     ∙ ap (λ z. b ∷ z) (word_before w rest (All-tail IsDark b w k.dark) e)
 first_at (b ∷ gap) w rest g k e =
-    ap (λ x. if x then first_word (gap ++ (w ++ rest)) else b ∷ word_of (gap ++ (w ++ rest))) (blank_true b (All-head IsBlank b gap g))
+    ap (λ x. if x then first_word (gap ++ (w ++ rest)) else b ∷ word_of (gap ++ (w ++ rest)))
+    (blank_true b (All-head IsBlank b gap g))
     ∙ first_at gap w rest (All-tail IsBlank b gap g) k e
 
 pub first_is : (line w rest : List ℕ) → BeginsWithWord line w rest → first_word line ≡ w
 first_is line w rest h = ap first_word h.text ∙ first_at h.gap w rest h.blank h.is_word h.ends
 
 -- what is after the first word
-pub word_cut : (bytes : List ℕ) → (rest : List ℕ) × (bytes ≡ word_of bytes ++ rest) × EndsWord rest × All IsDark (word_of bytes)
+pub word_cut : (bytes : List ℕ)
+    → (rest : List ℕ) × (bytes ≡ word_of bytes ++ rest) × EndsWord rest × All IsDark (word_of bytes)
 word_cut [] = ([], refl, tt, All-nil IsDark)
 word_cut (b ∷ bytes) = by (is_blank b) refl (word_cut bytes)
   where
-    by : (x : Bool) → is_blank b ≡ x → (rest : List ℕ) × (bytes ≡ word_of bytes ++ rest) × EndsWord rest × All IsDark (word_of bytes) → (rest : List ℕ) × (b ∷ bytes ≡ cond x [] (b ∷ word_of bytes) ++ rest) × EndsWord rest × All IsDark (cond x [] (b ∷ word_of bytes))
+    by : (x : Bool) → is_blank b ≡ x → (rest : List ℕ) × (bytes ≡ word_of bytes ++ rest) × EndsWord rest
+        × All IsDark (word_of bytes) → (rest : List ℕ) × (b ∷ bytes ≡ cond x [] (b ∷ word_of bytes) ++ rest)
+        × EndsWord rest × All IsDark (cond x [] (b ∷ word_of bytes))
     by true e cut = (b ∷ bytes, refl, blank_is b e, All-nil IsDark)
     by false e cut =
         let dark : IsDark b = λ k. absurd (let x : true ≡ false = sym (blank_true b k) ∙ e in let y : ⊥ = cc in y) in
         (cut.0, ap (λ z. b ∷ z) cut.1, cut.2, All-cons IsDark b (word_of bytes) dark cut.3)
 
 -- a line begins with its first word, or is blank
-pub first_found : (line : List ℕ) → (first_word line ≡ []) ⊎ ((rest : List ℕ) × BeginsWithWord line (first_word line) rest)
+pub first_found : (line : List ℕ)
+    → (first_word line ≡ []) ⊎ ((rest : List ℕ) × BeginsWithWord line (first_word line) rest)
 first_found [] = inl refl
 first_found (b ∷ bytes) = by (is_blank b) refl (first_found bytes)
   where
-    behind : IsBlank b → (first_word bytes ≡ []) ⊎ ((rest : List ℕ) × BeginsWithWord bytes (first_word bytes) rest) → (first_word bytes ≡ []) ⊎ ((rest : List ℕ) × BeginsWithWord (b ∷ bytes) (first_word bytes) rest)
+    behind : IsBlank b → (first_word bytes ≡ []) ⊎ ((rest : List ℕ) × BeginsWithWord bytes (first_word bytes) rest)
+        → (first_word bytes ≡ []) ⊎ ((rest : List ℕ) × BeginsWithWord (b ∷ bytes) (first_word bytes) rest)
     behind k (inl e) = inl e
-    behind k (inr (rest, h)) = inr (rest, record { gap = b ∷ h.gap; blank = All-cons IsBlank b h.gap k h.blank; is_word = h.is_word; text = ap (λ z. b ∷ z) h.text; ends = h.ends })
+    behind k (inr (rest, h)) = inr (
+      rest,
+      record {
+        gap = b ∷ h.gap;
+        blank = All-cons IsBlank b h.gap k h.blank;
+        is_word = h.is_word;
+        text = ap (λ z. b ∷ z) h.text;
+        ends = h.ends;
+      },
+    )
 
-    by : (x : Bool) → is_blank b ≡ x → (first_word bytes ≡ []) ⊎ ((rest : List ℕ) × BeginsWithWord bytes (first_word bytes) rest) → (cond x (first_word bytes) (b ∷ word_of bytes) ≡ []) ⊎ ((rest : List ℕ) × BeginsWithWord (b ∷ bytes) (cond x (first_word bytes) (b ∷ word_of bytes)) rest)
+    by : (x : Bool) → is_blank b ≡ x → (first_word bytes ≡ []) ⊎ ((rest : List ℕ)
+        × BeginsWithWord bytes (first_word bytes) rest) → (cond x (first_word bytes) (b ∷ word_of bytes) ≡ [])
+        ⊎ ((rest : List ℕ) × BeginsWithWord (b ∷ bytes) (cond x (first_word bytes) (b ∷ word_of bytes)) rest)
     by true e found = behind (blank_is b e) found
     by false e found =
         let cut = word_cut bytes in
         let dark : IsDark b = λ k. absurd (let x : true ≡ false = sym (blank_true b k) ∙ e in let y : ⊥ = cc in y) in
-        inr (cut.0, record { gap = []; blank = All-nil IsBlank; is_word = record { some = omega arith; dark = All-cons IsDark b (word_of bytes) dark cut.3 }; text = ap (λ z. b ∷ z) cut.1; ends = cut.2 })
+        inr (
+          cut.0,
+          record {
+            gap = [];
+            blank = All-nil IsBlank;
+            is_word = record { some = omega arith; dark = All-cons IsDark b (word_of bytes) dark cut.3 };
+            text = ap (λ z. b ∷ z) cut.1;
+            ends = cut.2;
+          },
+        )
 
 pub no_first : (line : List ℕ) → ((w rest : List ℕ) → BeginsWithWord line w rest → ⊥) → first_word line ≡ []
 no_first line none = elim (first_found line) [ inl e ↦ e | inr h ↦ absurd (none (first_word line) h.0 h.1) ]
@@ -119,17 +146,21 @@ pub true_end : (l : Line) → is_end l.bytes ≡ true → IsEnd l
 true_end l e = bytes_same l.bytes (codes "end") e
 
 pub definition_true : (l : Line) → OpensDefinition l → opens_definition l.bytes ≡ true
-definition_true l (inl h) = ap (λ x. x || bytes_eq (first_word l.bytes) (codes "configuration")) (has_first_true (codes "dictionary") l h)
-definition_true l (inr h) = by (bytes_eq (first_word l.bytes) (codes "dictionary")) (has_first_true (codes "configuration") l h)
+definition_true l (inl h) =
+    ap (λ x. x || bytes_eq (first_word l.bytes) (codes "configuration")) (has_first_true (codes "dictionary") l h)
+definition_true l (inr h) =
+    by (bytes_eq (first_word l.bytes) (codes "dictionary")) (has_first_true (codes "configuration") l h)
   where
-    by : (x : Bool) → bytes_eq (first_word l.bytes) (codes "configuration") ≡ true → (x || bytes_eq (first_word l.bytes) (codes "configuration")) ≡ true
+    by : (x : Bool) → bytes_eq (first_word l.bytes) (codes "configuration") ≡ true
+        → (x || bytes_eq (first_word l.bytes) (codes "configuration")) ≡ true
     by true f = refl
     by false f = f
 
 pub true_definition : (l : Line) → opens_definition l.bytes ≡ true → OpensDefinition l
 true_definition l e = by (bytes_eq (first_word l.bytes) (codes "dictionary")) refl e
   where
-    by : (x : Bool) → bytes_eq (first_word l.bytes) (codes "dictionary") ≡ x → (x || bytes_eq (first_word l.bytes) (codes "configuration")) ≡ true → OpensDefinition l
+    by : (x : Bool) → bytes_eq (first_word l.bytes) (codes "dictionary") ≡ x
+        → (x || bytes_eq (first_word l.bytes) (codes "configuration")) ≡ true → OpensDefinition l
     by true f g = inl (true_has_first (codes "dictionary") l (omega arith) f)
     by false f g = inr (true_has_first (codes "configuration") l (omega arith) g)
 

@@ -1,12 +1,16 @@
 -- The types that a text names.
-use Rattle.std.proofs.Common.{◌≡◌, ◌≢◌, ◌⊎◌, inl, inr, ℕ, suc, ◌+◌, ◌<◌, ◌==◌, Bool, true, false, cond, if◌then◌else◌, List, [], ◌∷◌, ◌++◌, length, length-append, append_assoc, drop, map, arith, refl, sym, ◌∙◌, ap, subst}
+use Rattle.std.proofs.Common.{◌≡◌, ◌≢◌, ◌⊎◌, inl, inr, ℕ, suc, ◌+◌, ◌<◌, ◌==◌, Bool, true, false, cond, if◌then◌else◌}
+use Rattle.std.proofs.Common.{List, [], ◌∷◌, ◌++◌, length, length-append, append_assoc, drop, map, arith, refl, sym}
+use Rattle.std.proofs.Common.{◌∙◌, ap, subst}
 use Rattle.std.specs.Prelude.{Option, Some, None, MatchOption}
 use Rattle.std.specs.List.{join_with_byte, flat_map}
 use Rattle.std.proofs.lemmas.Bool.{ne_eqb, eqb-true, eqb-false}
 use Rattle.std.proofs.lemmas.List.{flat_map_more}
 use Rattle.std.proofs.lemmas.List.Elements.{All-nil, All-cons, All-head, All-tail}
 use Rattle.ts_parser.specs.declared.kinds.TokenType.{TokenType}
-use Rattle.ts_parser.specs.declared.kinds.TokenType.TheVariants.{Asciiword, Word, Numword, Sfloat, Version, HwordNumpart, HwordPart, HwordAsciipart, Blank, Numhword, Asciihword, Hword, Float, Int, Uint}
+use Rattle.ts_parser.specs.declared.kinds.TokenType.TheVariants.{Asciiword, Word, Numword, Sfloat, Version}
+use Rattle.ts_parser.specs.declared.kinds.TokenType.TheVariants.{HwordNumpart, HwordPart, HwordAsciipart, Blank}
+use Rattle.ts_parser.specs.declared.kinds.TokenType.TheVariants.{Numhword, Asciihword, Hword, Float, Int, Uint}
 use Rattle.ts_parser.specs.Kinds.{type_name}
 use Rattle.shell_script.specs.Lines.{HasNo}
 use Rattle.shell_script.specs.Inner.Parts.{comma, part_of, type_named, with_type, types_from, types_in, IsTypes}
@@ -23,7 +27,8 @@ plain : (bytes : List ℕ) → is_plain bytes ≡ true → HasNo comma bytes
 plain [] e = All-nil (λ (b : ℕ). b ≢ comma)
 plain (b ∷ bytes) e = by (b == comma) refl e (plain bytes)
   where
-    by : (x : Bool) → (b == comma) ≡ x → cond x false (is_plain bytes) ≡ true → (is_plain bytes ≡ true → HasNo comma bytes) → HasNo comma (b ∷ bytes)
+    by : (x : Bool) → (b == comma) ≡ x → cond x false (is_plain bytes) ≡ true
+        → (is_plain bytes ≡ true → HasNo comma bytes) → HasNo comma (b ∷ bytes)
     by true f g k = cc
     by false f g k = All-cons (λ (b : ℕ). b ≢ comma) b bytes (eqb-false b comma f) (k g)
 
@@ -89,15 +94,19 @@ part_whole (b ∷ p) h =
     ∙ ap (λ z. b ∷ z) (part_whole p (All-tail (λ (b : ℕ). b ≢ comma) b p h))
 
 -- the part is all, or a comma is after it
-pub part_cut : (text : List ℕ) → (part_of text ≡ text) ⊎ (text ≡ part_of text ++ comma ∷ drop (length (part_of text) + 1) text)
+pub part_cut : (text : List ℕ)
+    → (part_of text ≡ text) ⊎ (text ≡ part_of text ++ comma ∷ drop (length (part_of text) + 1) text)
 part_cut [] = inl refl
 part_cut (b ∷ text) = by (b == comma) refl (part_cut text)
   where
-    by : (x : Bool) → (b == comma) ≡ x → (part_of text ≡ text) ⊎ (text ≡ part_of text ++ comma ∷ drop (length (part_of text) + 1) text)
-        → (cond x [] (b ∷ part_of text) ≡ b ∷ text) ⊎ (b ∷ text ≡ cond x [] (b ∷ part_of text) ++ comma ∷ drop (length (cond x [] (b ∷ part_of text)) + 1) (b ∷ text))
+    by : (x : Bool) → (b == comma) ≡ x
+        → (part_of text ≡ text) ⊎ (text ≡ part_of text ++ comma ∷ drop (length (part_of text) + 1) text)
+        → (cond x [] (b ∷ part_of text) ≡ b ∷ text) ⊎ (b ∷ text
+        ≡ cond x [] (b ∷ part_of text) ++ comma ∷ drop (length (cond x [] (b ∷ part_of text)) + 1) (b ∷ text))
     by true e cut = inr (ap (λ c. c ∷ text) (eqb-true b comma e))
     by false e (inl whole) = inl (ap (λ z. b ∷ z) whole)
-    by false e (inr cut) = inr (ap (λ z. b ∷ z) cut ∙ ap (λ n. b ∷ (part_of text ++ comma ∷ drop n (b ∷ text))) (let z : suc (length (part_of text) + 1) ≡ suc (length (part_of text)) + 1 = omega arith in z))
+    by false e (inr cut) = inr (ap (λ z. b ∷ z) cut ∙ ap (λ n. b ∷ (part_of text ++ comma ∷ drop n (b ∷ text)))
+        (let z : suc (length (part_of text) + 1) ≡ suc (length (part_of text)) + 1 = omega arith in z))
 
 -- ── lists of types ──
 skip_name : (p rest : List ℕ) → types_from (suc (length p)) (p ++ comma ∷ rest) ≡ types_from 0 rest
@@ -115,7 +124,8 @@ types_first k p rest e =
     let free : HasNo comma p = subst (HasNo comma) e (no_comma k) in
     let named : type_named p ≡ Some k = ap type_named (sym e) ∙ name_named k in
     ap (λ z. types_in (z ++ comma ∷ rest)) is
-    ∙ ap (λ z. with_type (type_named z) (types_from (length z) (some.1 ++ comma ∷ rest))) (ap (λ z. part_of (z ++ comma ∷ rest)) (sym is) ∙ part_before p rest free)
+    ∙ ap (λ z. with_type (type_named z) (types_from (length z) (some.1 ++ comma ∷ rest)))
+    (ap (λ z. part_of (z ++ comma ∷ rest)) (sym is) ∙ part_before p rest free)
     ∙ ap (λ o. with_type o (types_from (length p) (some.1 ++ comma ∷ rest))) named
     ∙ ap (λ n. k ∷ types_from n (some.1 ++ comma ∷ rest)) (ap length is)
     ∙ ap (λ z. k ∷ z) (skip_name some.1 rest)
@@ -147,14 +157,17 @@ types_are text ks e =
 
 drop_past : (p rest : List ℕ) → drop (length p + 1) (p ++ comma ∷ rest) ≡ rest
 drop_past [] rest = refl
-drop_past (x ∷ p) rest = ap (λ m. drop m (x ∷ (p ++ comma ∷ rest))) (let z : suc (length p) + 1 ≡ suc (length p + 1) = omega arith in z) ∙ drop_past p rest
+drop_past (x ∷ p) rest = ap (λ m. drop m (x ∷ (p ++ comma ∷ rest)))
+    (let z : suc (length p) + 1 ≡ suc (length p + 1) = omega arith in z) ∙ drop_past p rest
 
 drop_all : (p : List ℕ) → drop (length p + 1) p ≡ []
 drop_all [] = refl
-drop_all (x ∷ p) = ap (λ m. drop m (x ∷ p)) (let z : suc (length p) + 1 ≡ suc (length p + 1) = omega arith in z) ∙ drop_all p
+drop_all (x ∷ p) =
+    ap (λ m. drop m (x ∷ p)) (let z : suc (length p) + 1 ≡ suc (length p + 1) = omega arith in z) ∙ drop_all p
 
 -- the first of a text's types, and those after it
-pub next_type : (text name rest : List ℕ) (k : TokenType) → IsTypes text → name ≡ part_of text → rest ≡ drop (length (part_of text) + 1) text → type_name k ≡ name → (types_in text ≡ k ∷ types_in rest) × IsTypes rest
+pub next_type : (text name rest : List ℕ) (k : TokenType) → IsTypes text → name ≡ part_of text → rest
+    ≡ drop (length (part_of text) + 1) text → type_name k ≡ name → (types_in text ≡ k ∷ types_in rest) × IsTypes rest
 next_type text name rest k h n r e = by (types_in text) h
   where
     none : (k : TokenType) → type_name k ≡ [] → ⊥
@@ -165,21 +178,32 @@ next_type text name rest k h n r e = by (types_in text) h
     by (j ∷ []) e' =
         let part : part_of text ≡ type_name j = ap part_of e' ∙ part_whole (type_name j) (no_comma j) in
         let same : k ≡ j = names_tell k j (e ∙ n ∙ part) in
-        let over : rest ≡ [] = r ∙ ap (λ p. drop (length p + 1) text) (part ∙ sym e') ∙ drop_all text in
-        ((types_are text (j ∷ []) e').0 ∙ ap (λ z. z ∷ []) (sym same) ∙ ap (λ z. k ∷ types_in z) (sym over), over ∙ ap (λ z. types_text (types_in z)) (sym over))
+        let over : rest ≡ [] = r ∙ ap (λ p. drop (length p + 1) text) (part ∙ sym e') ∙ drop_all text in (
+          (types_are text (j ∷ []) e').0 ∙ ap (λ z. z ∷ []) (sym same) ∙ ap (λ z. k ∷ types_in z) (sym over),
+          over ∙ ap (λ z. types_text (types_in z)) (sym over),
+        )
     by (j ∷ i ∷ ks) e' =
-        let part : part_of text ≡ type_name j = ap part_of e' ∙ part_before (type_name j) (types_text (i ∷ ks)) (no_comma j) in
+        let part : part_of text ≡ type_name j =
+        ap part_of e' ∙ part_before (type_name j) (types_text (i ∷ ks)) (no_comma j) in
         let same : k ≡ j = names_tell k j (e ∙ n ∙ part) in
-        let left : rest ≡ types_text (i ∷ ks) = r ∙ ap (λ p. drop (length p + 1) text) part ∙ ap (λ z. drop (length (type_name j) + 1) z) e' ∙ drop_past (type_name j) (types_text (i ∷ ks)) in
-        ((types_are text (j ∷ i ∷ ks) e').0 ∙ ap (λ z. z ∷ i ∷ ks) (sym same) ∙ ap (λ z. k ∷ z) (sym (types_are rest (i ∷ ks) left).0), (types_are rest (i ∷ ks) left).1)
+        let left : rest ≡ types_text (i ∷ ks) = r ∙ ap (λ p. drop (length p + 1) text) part
+        ∙ ap (λ z. drop (length (type_name j) + 1) z) e' ∙ drop_past (type_name j) (types_text (i ∷ ks)) in (
+          (types_are text (j ∷ i ∷ ks) e').0 ∙ ap (λ z. z ∷ i ∷ ks) (sym same)
+              ∙ ap (λ z. k ∷ z) (sym (types_are rest (i ∷ ks) left).0),
+          (types_are rest (i ∷ ks) left).1,
+        )
 
 -- ── where a text is cut ──
-pub part_found : (text front rest : List ℕ) → text ≡ front ++ comma ∷ rest → HasNo comma front → (front ≡ part_of text) × (rest ≡ drop (length (part_of text) + 1) text)
+pub part_found : (text front rest : List ℕ) → text ≡ front ++ comma ∷ rest → HasNo comma front
+    → (front ≡ part_of text) × (rest ≡ drop (length (part_of text) + 1) text)
 part_found text front rest e free =
-    let part : part_of text ≡ front = ap part_of e ∙ part_before front rest free in
-    (sym part, sym (ap (λ p. drop (length p + 1) text) part ∙ ap (λ z. drop (length front + 1) z) e ∙ drop_past front rest))
+    let part : part_of text ≡ front = ap part_of e ∙ part_before front rest free in (
+      sym part,
+      sym (ap (λ p. drop (length p + 1) text) part ∙ ap (λ z. drop (length front + 1) z) e ∙ drop_past front rest),
+    )
 
-pub part_missed : (text : List ℕ) → HasNo comma text → (text ≡ part_of text) × ([] ≡ drop (length (part_of text) + 1) text)
+pub part_missed : (text : List ℕ) → HasNo comma text
+    → (text ≡ part_of text) × ([] ≡ drop (length (part_of text) + 1) text)
 part_missed text free =
     let part : part_of text ≡ text = part_whole text free in
     (sym part, sym (ap (λ p. drop (length p + 1) text) part ∙ drop_all text))
@@ -201,54 +225,76 @@ pub record TypesRead (text rest : List ℕ) : Type 0 where
   pub done : List TokenType
   pub whole : text ≡ flat_map type_comma done ++ rest
   -- whatever types the text names, the others are those of the rest
-  pub only : (ks : List TokenType) → 0 < length ks → text ≡ types_text ks → (more : List TokenType) × (0 < length more) × (rest ≡ types_text more)
+  pub only : (ks : List TokenType) → 0 < length ks → text ≡ types_text ks
+      → (more : List TokenType) × (0 < length more) × (rest ≡ types_text more)
 
 pub read_start : (text : List ℕ) → TypesRead text text
 read_start text = record { done = []; whole = refl; only = λ ks some e. (ks, some, e) }
 
-pub read_more : (text rest name more : List ℕ) (k : TokenType) → TypesRead text rest → name ≡ part_of rest → more ≡ drop (length (part_of rest) + 1) rest → type_name k ≡ name → (length name ≡ length rest → ⊥) → TypesRead text more
+pub read_more : (text rest name more : List ℕ) (k : TokenType) → TypesRead text rest → name ≡ part_of rest → more
+    ≡ drop (length (part_of rest) + 1) rest → type_name k ≡ name → (length name ≡ length rest → ⊥) → TypesRead text more
 read_more text rest name more k r n m e longer = record {
   done = r.done ++ k ∷ [];
-  whole = r.whole ∙ ap (λ z. flat_map type_comma r.done ++ z) here ∙ sym (append_assoc (flat_map type_comma r.done) (type_comma k) more) ∙ ap (λ z. z ++ more) (flat_map_more type_comma [] r.done k);
+  whole = r.whole ∙ ap (λ z. flat_map type_comma r.done ++ z) here ∙ sym (append_assoc (flat_map type_comma r.done)
+      (type_comma k) more) ∙ ap (λ z. z ++ more) (flat_map_more type_comma [] r.done k);
   only = λ ks some same. let o = r.only ks some same in behind o.0 o.1 o.2;
 }
   where
     cut : rest ≡ part_of rest ++ comma ∷ more
-    cut = elim (part_cut rest) [ inl whole ↦ absurd (longer (ap length (n ∙ whole))) | inr c ↦ c ∙ ap (λ z. part_of rest ++ comma ∷ z) (sym m) ]
+    cut = elim (part_cut rest) [
+      | inl whole ↦ absurd (longer (ap length (n ∙ whole)))
+      | inr c ↦ c ∙ ap (λ z. part_of rest ++ comma ∷ z) (sym m)
+    ]
 
     here : rest ≡ type_comma k ++ more
     here = cut ∙ ap (λ z. z ++ comma ∷ more) (sym (e ∙ n)) ∙ sym (append_assoc (type_name k) (comma ∷ []) more)
 
-    behind : (ks : List TokenType) → 0 < length ks → rest ≡ types_text ks → (ms : List TokenType) × (0 < length ms) × (more ≡ types_text ms)
+    behind : (ks : List TokenType) → 0 < length ks → rest ≡ types_text ks
+        → (ms : List TokenType) × (0 < length ms) × (more ≡ types_text ms)
     behind [] some same = absurd (omega (arith, some))
-    behind (j ∷ []) some same = absurd (longer (ap length (n ∙ ap part_of same ∙ part_whole (type_name j) (no_comma j) ∙ sym same)))
-    behind (j ∷ i ∷ ks) some same = (i ∷ ks, omega arith, m ∙ sym (part_found rest (type_name j) (types_text (i ∷ ks)) same (no_comma j)).1)
+    behind (j ∷ []) some same =
+        absurd (longer (ap length (n ∙ ap part_of same ∙ part_whole (type_name j) (no_comma j) ∙ sym same)))
+    behind (j ∷ i ∷ ks) some same =
+        (i ∷ ks, omega arith, m ∙ sym (part_found rest (type_name j) (types_text (i ∷ ks)) same (no_comma j)).1)
 
 text_of : (ks : List TokenType) (k : TokenType) → flat_map type_comma ks ++ type_name k ≡ types_text (ks ++ k ∷ [])
 text_of [] k = refl
-text_of (j ∷ []) k = append_assoc (type_comma j) [] (type_name k) ∙ append_assoc (type_name j) (comma ∷ []) ([] ++ type_name k)
-text_of (j ∷ i ∷ ks) k = append_assoc (type_name j ++ comma ∷ []) (flat_map type_comma (i ∷ ks)) (type_name k) ∙ append_assoc (type_name j) (comma ∷ []) (flat_map type_comma (i ∷ ks) ++ type_name k) ∙ ap (λ z. type_name j ++ comma ∷ z) (text_of (i ∷ ks) k)
+text_of (j ∷ []) k =
+    append_assoc (type_comma j) [] (type_name k) ∙ append_assoc (type_name j) (comma ∷ []) ([] ++ type_name k)
+text_of (j ∷ i ∷ ks) k = append_assoc (type_name j ++ comma ∷ []) (flat_map type_comma (i ∷ ks)) (type_name k)
+    ∙ append_assoc (type_name j) (comma ∷ []) (flat_map type_comma (i ∷ ks) ++ type_name k)
+    ∙ ap (λ z. type_name j ++ comma ∷ z) (text_of (i ∷ ks) k)
 
 -- the last type
-pub read_last : (text rest name : List ℕ) (k : TokenType) → TypesRead text rest → name ≡ part_of rest → type_name k ≡ name → length name ≡ length rest → (ks : List TokenType) × (0 < length ks) × (text ≡ types_text ks)
+pub read_last : (text rest name : List ℕ) (k : TokenType) → TypesRead text rest → name ≡ part_of rest
+    → type_name k ≡ name → length name ≡ length rest → (ks : List TokenType) × (0 < length ks) × (text ≡ types_text ks)
 read_last text rest name k r n e same =
     let whole : rest ≡ type_name k = elim (part_cut rest) [
       | inl whole ↦ sym (e ∙ n ∙ whole)
-      | inr c ↦ absurd (let z : length rest ≡ length (part_of rest) + suc (length (drop (length (part_of rest) + 1) rest)) = ap length c ∙ length-append (part_of rest) (comma ∷ drop (length (part_of rest) + 1) rest) in omega (arith, z, same, ap length n))
-    ] in
-    (r.done ++ k ∷ [], omega (arith, length-append r.done (k ∷ [])), r.whole ∙ ap (λ z. flat_map type_comma r.done ++ z) whole ∙ text_of r.done k)
+      | inr c ↦ absurd (let z : length rest
+          ≡ length (part_of rest) + suc (length (drop (length (part_of rest) + 1) rest)) = ap length c ∙ length-append
+          (part_of rest) (comma ∷ drop (length (part_of rest) + 1) rest) in omega (arith, z, same, ap length n))
+    ] in (
+      r.done ++ k ∷ [],
+      omega (arith, length-append r.done (k ∷ [])),
+      r.whole ∙ ap (λ z. flat_map type_comma r.done ++ z) whole ∙ text_of r.done k,
+    )
 
 -- no type's name is there
-pub read_fault : (text rest name : List ℕ) → TypesRead text rest → name ≡ part_of rest → ((k : TokenType) → type_name k ≢ name) → (ks : List TokenType) → 0 < length ks → text ≢ types_text ks
+pub read_fault : (text rest name : List ℕ) → TypesRead text rest → name ≡ part_of rest
+    → ((k : TokenType) → type_name k ≢ name) → (ks : List TokenType) → 0 < length ks → text ≢ types_text ks
 read_fault text rest name r n none ks some e = let o = r.only ks some e in by o.0 o.1 o.2
   where
     by : (ks : List TokenType) → 0 < length ks → rest ≡ types_text ks → ⊥
     by [] some same = omega (arith, some)
     by (j ∷ []) some same = none j (sym (n ∙ ap part_of same ∙ part_whole (type_name j) (no_comma j)))
-    by (j ∷ i ∷ ks) some same = none j (sym (n ∙ ap part_of same ∙ part_before (type_name j) (types_text (i ∷ ks)) (no_comma j)))
+    by (j ∷ i ∷ ks) some same =
+        none j (sym (n ∙ ap part_of same ∙ part_before (type_name j) (types_text (i ∷ ks)) (no_comma j)))
 
 -- the type that was found is the first
-pub yields_type : (text name rest : List ℕ) (o : Option TokenType) → IsTypes text → 0 < length text → name ≡ part_of text → rest ≡ drop (length (part_of text) + 1) text
-    → MatchOption o ((k : TokenType) → type_name k ≢ name) (λ k. type_name k ≡ name) → MatchOption o ((types_in text ≡ []) × (types_in rest ≡ [])) (λ k. types_in text ≡ k ∷ types_in rest)
+pub yields_type : (text name rest : List ℕ) (o : Option TokenType) → IsTypes text → 0 < length text
+    → name ≡ part_of text → rest ≡ drop (length (part_of text) + 1) text
+    → MatchOption o ((k : TokenType) → type_name k ≢ name) (λ k. type_name k ≡ name)
+    → MatchOption o ((types_in text ≡ []) × (types_in rest ≡ [])) (λ k. types_in text ≡ k ∷ types_in rest)
 yields_type text name rest None h some n r none = let k = some_type text h some in absurd (none k.0 (k.1 ∙ sym n))
 yields_type text name rest (Some k) h some n r e = (next_type text name rest k h n r e).0

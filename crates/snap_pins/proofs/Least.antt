@@ -1,5 +1,6 @@
 -- The least number of the first places of a list of pins.
-use Rattle.std.proofs.Common.{◌≡◌, ℕ, ◌+◌, ◌<◌, ◌≤◌, ◌⊎◌, min, List, Option, None, Some, slice_get, length, arith, inl, inr, ◌∙◌}
+use Rattle.std.proofs.Common.{◌≡◌, ℕ, ◌+◌, ◌<◌, ◌≤◌, ◌⊎◌, min, List, Option, None, Some, slice_get, length, arith, inl}
+use Rattle.std.proofs.Common.{inr, ◌∙◌}
 use Rattle.std.proofs.lemmas.Option.{slice_get_within}
 use Rattle.snap_pins.specs.declared.Pin.{Pin}
 use Rattle.snap_pins.specs.Taken.{IsPinned, IsLeast}
@@ -37,13 +38,16 @@ pin_more pins number given n least added holds at =
       met = met_by;
     }
   where
-    pinned_place : (place : ℕ) (pin : Pin) → place < n + 1 → IsPinned pins place pin → min least (number added) ≤ number pin
+    pinned_place : (place : ℕ) (pin : Pin) → place < n + 1 → IsPinned pins place pin
+        → min least (number added) ≤ number pin
     pinned_place place pin below is = grind (arith, holds.pinned)
 
-    met_by : (min least (number added) ≡ given) ⊎ ((place : ℕ) × (pin : Pin) × IsPinned pins place pin × (min least (number added) ≡ number pin))
+    met_by : (min least (number added) ≡ given)
+        ⊎ ((place : ℕ) × (pin : Pin) × IsPinned pins place pin × (min least (number added) ≡ number pin))
     met_by =
         elim (either_min least (number added)) [
-          | inl is_least ↦ elim holds.met [ inl is ↦ inl (is_least ∙ is) | inr of ↦ inr (of.0, of.1, of.2, is_least ∙ of.3) ]
+          | inl is_least ↦ elim holds.met
+              [ inl is ↦ inl (is_least ∙ is) | inr of ↦ inr (of.0, of.1, of.2, is_least ∙ of.3) ]
           | inr is_added ↦ inr (n, added, at, is_added)
         ]
 

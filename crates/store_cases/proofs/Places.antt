@@ -1,5 +1,6 @@
 -- A place stays taken when another snapshot is pinned.
-use Rattle.std.proofs.Common.{◌≡◌, ℕ, zero, suc, List, [], ◌∷◌, Option, Some, None, slice_get, slice_set, refl, subst, sym}
+use Rattle.std.proofs.Common.{◌≡◌, ℕ, zero, suc, List, [], ◌∷◌, Option, Some, None, slice_get, slice_set, refl, subst}
+use Rattle.std.proofs.Common.{sym}
 use Rattle.snap_pins.specs.declared.Pin.{Pin}
 use Rattle.snap_pins.specs.Taken.{IsFree, IsTaken}
 

@@ -1,5 +1,6 @@
 -- The bytes of a character.
-use Rattle.std.proofs.Common.{◌≡◌, ℕ, ◌+◌, ◌/◌, ◌%◌, ◌<◌, ◌≤◌, ◌⊎◌, inl, inr, List, [], ◌∷◌, length, Bool, true, false, cond, nat_lt, refl, ap, ◌∙◌, arith}
+use Rattle.std.proofs.Common.{◌≡◌, ℕ, ◌+◌, ◌/◌, ◌%◌, ◌<◌, ◌≤◌, ◌⊎◌, inl, inr, List, [], ◌∷◌, length, Bool, true, false}
+use Rattle.std.proofs.Common.{cond, nat_lt, refl, ap, ◌∙◌, arith}
 use Rattle.std.proofs.lemmas.Bool.Decides.{nat_tests}
 use Rattle.std.specs.Char.{encode_utf8}
 use Rattle.std.proofs.lemmas.Str.{encode_ascii}
@@ -14,7 +15,8 @@ Each P (b ∷ bs) = P b × Each P bs
 abbrev pub Some : (ℕ → Type 0) → List ℕ → Type 0
 Some P l = (b : ℕ) × (bs : List ℕ) × (l ≡ b ∷ bs) × P b × Each P bs
 
-by_size : (P : ℕ → Type 0) (x y z : Bool) (k l m n : List ℕ) → x ≡ false → Some P l → Some P m → Some P n → Some P (cond x k (cond y l (cond z m n)))
+by_size : (P : ℕ → Type 0) (x y z : Bool) (k l m n : List ℕ) → x ≡ false → Some P l → Some P m → Some P n
+    → Some P (cond x k (cond y l (cond z m n)))
 by_size P true y z k l m n e f g h = absurd (let no : ⊥ = cc in no)
 by_size P false true z k l m n e f g h = f
 by_size P false false true k l m n e f g h = g
@@ -26,9 +28,22 @@ unfolding encode
 encode_wide P c h f =
     let small : nat_lt c 128 ≡ false = grind (arith, nat_tests) in
     by_size P _ _ _ (c ∷ []) _ _ _ small
-    (192 + c / 64, (128 + c % 64) ∷ [], refl, f (192 + c / 64) (omega arith), (f (128 + c % 64) (omega arith), tt))
-    (224 + c / 4096, (128 + c / 64 % 64) ∷ (128 + c % 64) ∷ [], refl, f (224 + c / 4096) (omega arith), (f (128 + c / 64 % 64) (omega arith), (f (128 + c % 64) (omega arith), tt)))
-    (240 + c / 262144, (128 + c / 4096 % 64) ∷ (128 + c / 64 % 64) ∷ (128 + c % 64) ∷ [], refl, f (240 + c / 262144) (omega arith), (f (128 + c / 4096 % 64) (omega arith), (f (128 + c / 64 % 64) (omega arith), (f (128 + c % 64) (omega arith), tt))))
+    (192 + c / 64, (128 + c % 64) ∷ [], refl, f (192 + c / 64) (omega arith), (f (128 + c % 64) (omega arith), tt)) (
+      224 + c / 4096,
+      (128 + c / 64 % 64) ∷ (128 + c % 64) ∷ [],
+      refl,
+      f (224 + c / 4096) (omega arith),
+      (f (128 + c / 64 % 64) (omega arith), (f (128 + c % 64) (omega arith), tt)),
+    ) (
+      240 + c / 262144,
+      (128 + c / 4096 % 64) ∷ (128 + c / 64 % 64) ∷ (128 + c % 64) ∷ [],
+      refl,
+      f (240 + c / 262144) (omega arith),
+      (
+        f (128 + c / 4096 % 64) (omega arith),
+        (f (128 + c / 64 % 64) (omega arith), (f (128 + c % 64) (omega arith), tt)),
+      ),
+    )
 
 -- the same of any character, where it holds of that as a byte
 pub encode_some : (P : ℕ → Type 0) (c : ℕ) → (c < 128 → P c) → ((b : ℕ) → 128 ≤ b → P b) → Some P (encode_utf8 c)

@@ -9,9 +9,13 @@ use Rattle.ts_base.specs.declared.line_error.LineError.TheVariants.{Bad, StopInS
 
 module _ (P : List ℕ → Type 0) where
   -- after lines of which none is so, one that is so is the first
-  pub first_behind : (done more : List (List ℕ)) (l : List ℕ) → All (λ x. ¬ P x) done → P l → IsFirstLine P (done ++ l ∷ more) (length done + 1)
+  pub first_behind : (done more : List (List ℕ)) (l : List ℕ) → All (λ x. ¬ P x) done → P l
+      → IsFirstLine P (done ++ l ∷ more) (length done + 1)
   first_behind [] more l h p = inl (p, refl)
-  first_behind (d ∷ done) more l h p = inr (All-head (λ x. ¬ P x) d done h, (length done + 1, omega arith, first_behind done more l (All-tail (λ x. ¬ P x) d done h) p))
+  first_behind (d ∷ done) more l h p = inr (
+    All-head (λ x. ¬ P x) d done h,
+    (length done + 1, omega arith, first_behind done more l (All-tail (λ x. ¬ P x) d done h) p),
+  )
 
   -- where none is so, there is no first one
   pub no_first : (ls : List (List ℕ)) (n : ℕ) → All (λ x. ¬ P x) ls → ¬ IsFirstLine P ls n
@@ -25,7 +29,8 @@ module _ (P : List ℕ → Type 0) where
   first_is_one (l ∷ ls) m n (inl f) (inl g) = f.1 ∙ sym g.1
   first_is_one (l ∷ ls) m n (inl f) (inr g) = absurd (g.0 f.0)
   first_is_one (l ∷ ls) m n (inr f) (inl g) = absurd (f.0 g.0)
-  first_is_one (l ∷ ls) m n (inr f) (inr g) = f.1.1 ∙ ap (λ k. k + 1) (first_is_one ls f.1.0 g.1.0 f.1.2 g.1.2) ∙ sym g.1.1
+  first_is_one (l ∷ ls) m n (inr f) (inr g) =
+      f.1.1 ∙ ap (λ k. k + 1) (first_is_one ls f.1.0 g.1.0 f.1.2 g.1.2) ∙ sym g.1.1
 
   -- a line that is refused is the first bad one, or memory ran out
   pub refused_at : (ls : List (List ℕ)) (line : List ℕ) (n : ℕ) (e : LineError) → (P line → IsFirstLine P ls n)

@@ -4,7 +4,8 @@ use Rattle.std.specs.Prelude.{All}
 use Rattle.std.proofs.lemmas.List.Elements.{All-head, All-tail}
 use Rattle.ts_base.specs.Bytes.{BeginsWithout}
 
-pub same_front : (P : ℕ → Type 0) (a b x y : List ℕ) → All P a → All P b → BeginsWithout P x → BeginsWithout P y → a ++ x ≡ b ++ y → (a ≡ b) × (x ≡ y)
+pub same_front : (P : ℕ → Type 0) (a b x y : List ℕ) → All P a → All P b → BeginsWithout P x → BeginsWithout P y
+    → a ++ x ≡ b ++ y → (a ≡ b) × (x ≡ y)
 same_front P [] [] x y p q s t e = (refl, e)
 same_front P [] (c ∷ b) x y p q s t e = absurd (subst (BeginsWithout P) e s (All-head P c b q))
 same_front P (c ∷ a) [] x y p q s t e = absurd (subst (BeginsWithout P) (sym e) t (All-head P c a p))

@@ -14,13 +14,15 @@ length-keys : (v : Vector) → length (map entry_key v) ≡ length v
 length-keys [] = refl
 length-keys (e ∷ v) = ap suc (length-keys v)
 
-key_at : (v : Vector) (i : ℕ) (d : Key) (e : Entry) → i < length v → get_or (map entry_key v) i d ≡ entry_key (get_or v i e)
+key_at : (v : Vector) (i : ℕ) (d : Key) (e : Entry) → i < length v
+    → get_or (map entry_key v) i d ≡ entry_key (get_or v i e)
 key_at [] i d e h = absurd (omega arith)
 key_at (x ∷ v) zero d e h = refl
 key_at (x ∷ v) (suc i) d e h = key_at v i d e (omega arith)
 
 lexemes_valid : (v : Vector) → IsNormal v → All IsKey (map entry_key v)
-lexemes_valid v n = All-map IsKey entry_key v (All-weaker IsEntry (λ e. IsKey (entry_key e)) (λ e i. of_lexeme e.lexeme i.lexeme) v n.entries)
+lexemes_valid v n = All-map IsKey entry_key v
+    (All-weaker IsEntry (λ e. IsKey (entry_key e)) (λ e i. of_lexeme e.lexeme i.lexeme) v n.entries)
 
 lexemes_order : (v : Vector) → IsNormal v → AllPairs (λ a b. key_order a b ≡ Less) (map entry_key v)
 lexemes_order v n i j d l m =

@@ -1,5 +1,6 @@
 -- A line has one list of words, and where its first word is cut off.
-use Rattle.std.proofs.Common.{◌≡◌, ◌⊎◌, inl, inr, ℕ, zero, suc, ◌<◌, ◌≤◌, ◌-◌, List, [], ◌∷◌, ◌++◌, length, take, drop, get_or, refl, sym, ◌∙◌, ap, subst, add-one, arith}
+use Rattle.std.proofs.Common.{◌≡◌, ◌⊎◌, inl, inr, ℕ, zero, suc, ◌<◌, ◌≤◌, ◌-◌, List, [], ◌∷◌, ◌++◌, length, take, drop}
+use Rattle.std.proofs.Common.{get_or, refl, sym, ◌∙◌, ap, subst, add-one, arith}
 use Rattle.std.specs.Prelude.{All}
 use Rattle.std.specs.Str.{IsUtf8, IsCharBoundary}
 use Rattle.std.proofs.lemmas.List.{get_or-take, append-nil, length-drop, take-append-drop}
@@ -13,14 +14,16 @@ use Rattle.ts_base.proofs.ByteKinds.{blank_ascii}
 use Rattle.ts_base.proofs.Fronts.{same_front}
 
 -- after blanks a text may be cut
-pub behind_blanks : (text : List ℕ) (n : ℕ) → IsUtf8 text → n ≤ length text → All IsBlank (take n text) → IsCharBoundary text n
+pub behind_blanks : (text : List ℕ) (n : ℕ) → IsUtf8 text → n ≤ length text → All IsBlank (take n text)
+    → IsCharBoundary text n
 behind_blanks text zero u le h = IsCharBoundary-start text u
 behind_blanks text (suc m) u le h =
     let lt : m < length text = omega arith in
     let here : m < suc m = omega arith in
     let inside : m < length (take (suc m) text) = grind (arith, common_steps) in
     let blank : IsBlank (get_or text m 0) = subst IsBlank (get_or-take (suc m) text m 0 here) (h m 0 inside) in
-    subst (IsCharBoundary text) (add-one m) (IsCharBoundary-after_ascii text m u lt (blank_ascii (get_or text m 0) blank))
+    subst (IsCharBoundary text) (add-one m)
+    (IsCharBoundary-after_ascii text m u lt (blank_ascii (get_or text m 0) blank))
 
 abbrev pub IsDark : ℕ → Type 0
 IsDark c = ¬ IsBlank c
@@ -41,7 +44,8 @@ blanks_no_word (c ∷ gap) word rest w h = blanks_no_word gap word rest w (All-t
 -- a line begins with one word
 pub one_word : (line v w r s : List ℕ) → BeginsWithWord line v r → BeginsWithWord line w s → (v ≡ w) × (r ≡ s)
 one_word line v w r s h k =
-    let gaps = same_front IsBlank h.gap k.gap (v ++ r) (w ++ s) h.blank k.blank (word_begins v r h.is_word) (word_begins w s k.is_word) (sym h.text ∙ k.text) in
+    let gaps = same_front IsBlank h.gap k.gap (v ++ r) (w ++ s) h.blank k.blank (word_begins v r h.is_word)
+    (word_begins w s k.is_word) (sym h.text ∙ k.text) in
     same_front IsDark v w r s h.is_word.dark k.is_word.dark (word_ends r h.ends) (word_ends s k.ends) gaps.1
 
 pub first_word_is_one : (line v w : List ℕ) → IsFirstWord line v → IsFirstWord line w → v ≡ w
@@ -62,7 +66,8 @@ words_are_one line (v ∷ vs) (w ∷ ws) (r, b, h) (s, d, k) =
 
 -- ── a word is cut off ──
 pub cut : (text front back : List ℕ) (n : ℕ) → front ≡ take n text → back ≡ drop n text → text ≡ front ++ back
-cut text front back n e f = sym (take-append-drop n text) ∙ ap (λ z. z ++ drop n text) (sym e) ∙ ap (λ z. front ++ z) (sym f)
+cut text front back n e f =
+    sym (take-append-drop n text) ∙ ap (λ z. z ++ drop n text) (sym e) ∙ ap (λ z. front ++ z) (sym f)
 
 blank_or : (c : ℕ) → IsBlank c ⊎ (¬ IsBlank c)
 blank_or c = grind arith
@@ -76,11 +81,14 @@ nothing_left [] h k = refl
 nothing_left (c ∷ rest) h k = absurd (k h)
 
 -- where no word begins after blanks, the line is blank
-pub all_blank : (line gap rest : List ℕ) → All IsBlank gap → line ≡ gap ++ rest → BeginsWithout IsBlank rest → BeginsWithout IsDark rest → All IsBlank line
-all_blank line gap rest b e h k = subst (All IsBlank) (sym (append-nil gap) ∙ ap (λ z. gap ++ z) (sym (nothing_left rest h k)) ∙ sym e) b
+pub all_blank : (line gap rest : List ℕ) → All IsBlank gap → line ≡ gap ++ rest → BeginsWithout IsBlank rest
+    → BeginsWithout IsDark rest → All IsBlank line
+all_blank line gap rest b e h k =
+    subst (All IsBlank) (sym (append-nil gap) ∙ ap (λ z. gap ++ z) (sym (nothing_left rest h k)) ∙ sym e) b
 
 -- a word that is cut off where text is left has a byte
-not_empty : (rest : List ℕ) (m : ℕ) → BeginsWithout IsBlank rest → 0 < length rest → m ≤ length rest → EndsWord (drop m rest) → 0 < length (take m rest)
+not_empty : (rest : List ℕ) (m : ℕ) → BeginsWithout IsBlank rest → 0 < length rest → m ≤ length rest
+    → EndsWord (drop m rest) → 0 < length (take m rest)
 not_empty [] m b l le e = absurd (omega arith)
 not_empty (x ∷ rest) zero b l le e = absurd (b e)
 not_empty (x ∷ rest) (suc m) b l le e = omega arith
@@ -90,15 +98,20 @@ pub whole_rest : (line : List ℕ) (n : ℕ) → take (length line - n) (drop n 
 whole_rest line n = ap (λ k. take k (drop n line)) (sym (length-drop n line)) ∙ take-length (drop n line)
 
 -- blanks up to the end
-pub blank_whole : (line : List ℕ) (n : ℕ) → n ≤ length line → length line - n ≡ 0 → All IsBlank (take n line) → All IsBlank line
-blank_whole line n le e h = subst (All IsBlank) (ap (λ k. take k line) (let z : n ≡ length line = omega arith in z) ∙ take-length line) h
+pub blank_whole : (line : List ℕ) (n : ℕ) → n ≤ length line → length line - n ≡ 0 → All IsBlank (take n line)
+    → All IsBlank line
+blank_whole line n le e h =
+    subst (All IsBlank) (ap (λ k. take k line) (let z : n ≡ length line = omega arith in z) ∙ take-length line) h
 
 -- the word that a cut gives
-pub cut_word : (line rest : List ℕ) (n m : ℕ) → rest ≡ drop n line → All IsBlank (take n line) → BeginsWithout IsBlank rest → 0 < length rest → m ≤ length rest → All IsDark (take m rest) → EndsWord (drop m rest) → BeginsWithWord line (take m rest) (drop m rest)
+pub cut_word : (line rest : List ℕ) (n m : ℕ) → rest ≡ drop n line → All IsBlank (take n line)
+    → BeginsWithout IsBlank rest → 0 < length rest → m ≤ length rest → All IsDark (take m rest) → EndsWord (drop m rest)
+    → BeginsWithWord line (take m rest) (drop m rest)
 cut_word line rest n m e blank begins some le dark ends = record {
   gap = take n line;
   blank = blank;
   is_word = record { some = not_empty rest m begins some le ends; dark = dark };
-  text = cut line (take n line) rest n refl e ∙ ap (λ z. take n line ++ z) (cut rest (take m rest) (drop m rest) m refl refl);
+  text = cut line (take n line) rest n refl e
+      ∙ ap (λ z. take n line ++ z) (cut rest (take m rest) (drop m rest) m refl refl);
   ends = ends;
 }

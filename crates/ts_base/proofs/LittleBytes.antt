@@ -16,8 +16,10 @@ same_fronts (c ∷ a) (d ∷ b) x y n e =
     (λ i. h i ∷ r.0 i, r.1)
 
 -- two numbers that fit into k bytes, and what follows them
-pub little_same : (k m n : ℕ) (x y : List ℕ) → m < 256 ^ k → n < 256 ^ k → little_bytes k m ++ x ≡ little_bytes k n ++ y → (m ≡ n) × (x ≡ y)
+pub little_same : (k m n : ℕ) (x y : List ℕ) → m < 256 ^ k → n < 256 ^ k → little_bytes k m ++ x ≡ little_bytes k n ++ y
+    → (m ≡ n) × (x ≡ y)
 little_same k m n x y p q e = (
   sym (little_number-reads_back k m x p) ∙ ap (λ bytes. little_number k bytes) e ∙ little_number-reads_back k n y q,
-  (same_fronts (little_bytes k m) (little_bytes k n) x y (length-bytes_low_first 0 k m ∙ sym (length-bytes_low_first 0 k n)) e).1,
+  (same_fronts (little_bytes k m) (little_bytes k n) x y
+      (length-bytes_low_first 0 k m ∙ sym (length-bytes_low_first 0 k n)) e).1,
 )

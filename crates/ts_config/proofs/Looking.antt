@@ -1,5 +1,6 @@
 -- Looking ahead among the tokens of a text.
-use Rattle.std.proofs.Common.{◌≡◌, inl, inr, ℕ, ◌<◌, List, [], ◌∷◌, ◌++◌, true, false, length, refl, sym, ◌∙◌, ap, subst, append_assoc, arith}
+use Rattle.std.proofs.Common.{◌≡◌, inl, inr, ℕ, ◌<◌, List, [], ◌∷◌, ◌++◌, true, false, length, refl, sym, ◌∙◌, ap}
+use Rattle.std.proofs.Common.{subst, append_assoc, arith}
 use Rattle.std.specs.Prelude.{All}
 use Rattle.std.proofs.lemmas.List.Elements.{All-head, All-tail}
 use Rattle.std.proofs.lemmas.List.{length-append}
@@ -44,11 +45,13 @@ module _ (m : Mapping) (p : ℕ) (old : List Token) where
   pub passed_end : (now : List Token) → Passed m p old now → now ≡ [] → seen m p old ≡ []
   passed_end now passed e = passed.value ∙ ap (seen m p) e
 
-pub next_nearer : (m : Mapping) (p : ℕ) (old new : List Token) (t : Token) → IsNextSeen m p old t new → length new < length old
+pub next_nearer : (m : Mapping) (p : ℕ) (old new : List Token) (t : Token) → IsNextSeen m p old t new
+    → length new < length old
 next_nearer m p old new t h = omega (arith, ap length h.split, length-append h.front (t ∷ new))
 
 -- what holds of all tokens holds of the next one, and of those after it
-pub next_all : (P : Token → Type 0) (m : Mapping) (p : ℕ) (old new : List Token) (t : Token) → All P old → IsNextSeen m p old t new → P t × All P new
+pub next_all : (P : Token → Type 0) (m : Mapping) (p : ℕ) (old new : List Token) (t : Token) → All P old
+    → IsNextSeen m p old t new → P t × All P new
 next_all P m p old new t h n =
     let k = after n.front (subst (All P) n.split h) in (All-head P t new k, All-tail P t new k)
   where
@@ -61,12 +64,15 @@ module _ (m : Mapping) (text : List ℕ) (answer : List ℕ → WordAnswer) (p :
   abbrev pub given_to : List Token → List WordAnswer
   given_to ts = answers_to answer text (seen m p ts)
 
-  pub asked_start : (t : Token) (ts : List Token) (a : WordAnswer) (answers : List WordAnswer) → lists m p t ≡ true → a ≡ answer (word_of text t) → answers ≡ a ∷ []
+  pub asked_start : (t : Token) (ts : List Token) (a : WordAnswer) (answers : List WordAnswer) → lists m p t ≡ true
+      → a ≡ answer (word_of text t) → answers ≡ a ∷ []
       → given_to (t ∷ ts) ≡ answers ++ given_to ts
-  asked_start t ts a answers l e f = ap (answers_to answer text) (seen_takes m p t ts l) ∙ ap (λ b. b ∷ given_to ts) (sym e) ∙ ap (λ bs. bs ++ given_to ts) (sym f)
+  asked_start t ts a answers l e f = ap (answers_to answer text) (seen_takes m p t ts l)
+      ∙ ap (λ b. b ∷ given_to ts) (sym e) ∙ ap (λ bs. bs ++ given_to ts) (sym f)
 
   module _ (all answers : List WordAnswer) (ahead : List Token) (so_far : all ≡ answers ++ given_to ahead) where
-    pub asked_more : (t : Token) (new : List Token) (a : WordAnswer) (next : List WordAnswer) → IsNextSeen m p ahead t new → a ≡ answer (word_of text t) → next ≡ answers ++ a ∷ []
+    pub asked_more : (t : Token) (new : List Token) (a : WordAnswer) (next : List WordAnswer)
+        → IsNextSeen m p ahead t new → a ≡ answer (word_of text t) → next ≡ answers ++ a ∷ []
         → all ≡ next ++ given_to new
     asked_more t new a next n e f =
         so_far ∙ ap (λ bs. answers ++ answers_to answer text bs) n.value ∙ ap (λ b. answers ++ b ∷ given_to new) (sym e)
@@ -81,4 +87,8 @@ module _ (m : Mapping) (text : List ℕ) (answer : List ℕ → WordAnswer) (p :
       asked_end e = record { more = given_to ahead; split = whole; enough = inl (ap (answers_to answer text) e) }
 
       pub asked_enough : (walked : List Rule) → walked ≡ rules → ¬ Continues walked answers → AreSeen rules all given
-      asked_enough walked same n = record { more = given_to ahead; split = whole; enough = inr (λ c. n (subst (Continues walked) is (subst (λ z. Continues z given) (sym same) c))) }
+      asked_enough walked same n = record {
+        more = given_to ahead;
+        split = whole;
+        enough = inr (λ c. n (subst (Continues walked) is (subst (λ z. Continues z given) (sym same) c)));
+      }

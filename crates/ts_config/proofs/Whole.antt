@@ -1,5 +1,6 @@
 -- A phrase has the tokens that the thesaurus sees, and ends with the last of them.
-use Rattle.std.proofs.Common.{◌≡◌, ℕ, zero, suc, ◌-◌, ◌<◌, ◌≤◌, List, [], ◌∷◌, ◌++◌, Bool, true, false, cond, length, take, refl, sym, ◌∙◌, ap, subst, arith}
+use Rattle.std.proofs.Common.{◌≡◌, ℕ, zero, suc, ◌-◌, ◌<◌, ◌≤◌, List, [], ◌∷◌, ◌++◌, Bool, true, false, cond, length}
+use Rattle.std.proofs.Common.{take, refl, sym, ◌∙◌, ap, subst, arith}
 use Rattle.std.specs.Prelude.{filter}
 use Rattle.ts_parser.specs.declared.iter.Token.{Token}
 use Rattle.ts_config.specs.Mappings.{Mapping}
@@ -15,7 +16,8 @@ module _ (m : Mapping) (p : ℕ) where
       let l : 0 < suc n = omega arith in (
         t ∷ front,
         ap (λ xs. t ∷ xs) (f ∙ ap (λ xs. front ++ xs) (sym (behind_over m (suc n) t ts l e))),
-        ap (λ b. cond b (t ∷ filter (is_asked m) front) (filter (is_asked m) front)) e ∙ g ∙ ap (take (suc n)) (sym (seen_over m p t ts e)),
+        ap (λ b. cond b (t ∷ filter (is_asked m) front) (filter (is_asked m) front)) e ∙ g
+            ∙ ap (take (suc n)) (sym (seen_over m p t ts e)),
       )
 
   whole_takes : (n : ℕ) (t : Token) (ts : List Token) → lists m p t ≡ true → Whole n ts → Whole (suc n) (t ∷ ts)
@@ -23,10 +25,12 @@ module _ (m : Mapping) (p : ℕ) where
       let l : 0 < suc n = omega arith in
       let one : suc n - 1 ≡ n = omega arith in
       let asked = lists_asked m p t e in
-      let left : behind m (suc n) (t ∷ ts) ≡ behind m n ts = behind_asked m (suc n) t ts l asked ∙ ap (λ k. behind m k ts) one in (
+      let left : behind m (suc n) (t ∷ ts) ≡ behind m n ts =
+      behind_asked m (suc n) t ts l asked ∙ ap (λ k. behind m k ts) one in (
         t ∷ front,
         ap (λ xs. t ∷ xs) (f ∙ ap (λ xs. front ++ xs) (sym left)),
-        ap (λ b. cond b (t ∷ filter (is_asked m) front) (filter (is_asked m) front)) asked ∙ ap (λ xs. t ∷ xs) g ∙ ap (take (suc n)) (sym (seen_takes m p t ts e)),
+        ap (λ b. cond b (t ∷ filter (is_asked m) front) (filter (is_asked m) front)) asked ∙ ap (λ xs. t ∷ xs) g
+            ∙ ap (take (suc n)) (sym (seen_takes m p t ts e)),
       )
 
   whole : (n : ℕ) (ts : List Token) → n ≤ length (seen m p ts) → Whole n ts
@@ -34,7 +38,8 @@ module _ (m : Mapping) (p : ℕ) where
   whole (suc n) [] l = absurd (omega (arith, l))
   whole (suc n) (t ∷ ts) l = by (is_asked m t) (lists m p t) refl refl (λ k. whole (suc n) ts k) (λ k. whole n ts k)
     where
-      by : (a b : Bool) → is_asked m t ≡ a → lists m p t ≡ b → (suc n ≤ length (seen m p ts) → Whole (suc n) ts) → (n ≤ length (seen m p ts) → Whole n ts) → Whole (suc n) (t ∷ ts)
+      by : (a b : Bool) → is_asked m t ≡ a → lists m p t ≡ b → (suc n ≤ length (seen m p ts) → Whole (suc n) ts)
+          → (n ≤ length (seen m p ts) → Whole n ts) → Whole (suc n) (t ∷ ts)
       by false b e f over takes = whole_over n t ts e (over (subst (λ xs. suc n ≤ length xs) (seen_over m p t ts e) l))
       by true true e f over takes =
           let k : suc n ≤ length (t ∷ seen m p ts) = subst (λ xs. suc n ≤ length xs) (seen_takes m p t ts f) l in

@@ -7,7 +7,8 @@ use Rattle.ts_config.specs.Known.{Known}
 use Rattle.ts_config.specs.Placing.{ArePlaced}
 use Rattle.ts_query.specs.declared.TheConstants.{NODE_LIMIT}
 use Rattle.ts_query.specs.declared.error.QueryError.{QueryError}
-use Rattle.ts_query.specs.declared.error.QueryError.TheVariants.{Syntax, DistanceTooLarge, TooManyNodes, LexemeTooLong, OutOfMemory}
+use Rattle.ts_query.specs.declared.error.QueryError.TheVariants.{Syntax, DistanceTooLarge, TooManyNodes, LexemeTooLong}
+use Rattle.ts_query.specs.declared.error.QueryError.TheVariants.{OutOfMemory}
 use Rattle.ts_query.specs.Queries.{Tree, Query, nodes_of}
 use Rattle.ts_query.specs.Tokens.{no_weights}
 use Rattle.ts_query.specs.Postfix.{top}

@@ -1,5 +1,6 @@
 -- A text has one answer.
-use Rattle.std.proofs.Common.{◌≡◌, ◌≢◌, inl, inr, ℕ, suc, ◌≤◌, min, ◌^◌, ◌-◌, List, map, refl, sym, subst, ap, ◌∙◌, Some, None, Result, Ok, Err, arith}
+use Rattle.std.proofs.Common.{◌≡◌, ◌≢◌, inl, inr, ℕ, suc, ◌≤◌, min, ◌^◌, ◌-◌, List, map, refl, sym, subst, ap, ◌∙◌}
+use Rattle.std.proofs.Common.{Some, None, Result, Ok, Err, arith}
 use Rattle.ts_base.specs.Vectors.{Vector, content_size}
 use Rattle.ts_vector.specs.Normal.{IsNormalFormOf}
 use Rattle.ts_vector.specs.Failures.{ItemsFail}
@@ -7,7 +8,8 @@ use Rattle.ts_vector.specs.declared.error.VectorError.{VectorError}
 use Rattle.ts_vector.specs.declared.error.VectorError.TheVariants as vector_error
 use Rattle.ts_vector.proofs.Forms.{normal_form_one}
 use Rattle.ts_query.specs.declared.error.QueryError.{QueryError}
-use Rattle.ts_query.specs.declared.error.QueryError.TheVariants.{Syntax, DistanceTooLarge, TooManyNodes, LexemeTooLong, OutOfMemory}
+use Rattle.ts_query.specs.declared.error.QueryError.TheVariants.{Syntax, DistanceTooLarge, TooManyNodes, LexemeTooLong}
+use Rattle.ts_query.specs.declared.error.QueryError.TheVariants.{OutOfMemory}
 use Rattle.ts_query.specs.Queries.{Tree, leaf, negated, joined, Query, nodes_in, nodes_of}
 use Rattle.ts_query.specs.Refusals.{IsReadAs, IsRefused}
 use Rattle.ts_query.proofs.Answer.{one_answer}
@@ -19,7 +21,9 @@ use Rattle.ts_config.proofs.Placing.{placed_are_one}
 use Rattle.ts_make.specs.Groups.{Group, AreGroups}
 use Rattle.ts_make.specs.Trees.{phrase_of}
 use Rattle.ts_make.specs.Removal.{Sketch, not_sketch, joint_sketch, sketch_nodes, sketch_of, clean}
-use Rattle.ts_make.specs.Made.{made_entry, IsMadeVector, MadeVectorFails, HasGroups, IsJoined, JoinedFails, sketched, IsSketched, operand_sketched, not_sketched, joint_sketched, IsMadeOf, IsTooManyOf, RemakingFails, IsMadeQuery, MadeQueryFails}
+use Rattle.ts_make.specs.Made.{made_entry, IsMadeVector, MadeVectorFails, HasGroups, IsJoined, JoinedFails, sketched}
+use Rattle.ts_make.specs.Made.{IsSketched, operand_sketched, not_sketched, joint_sketched, IsMadeOf, IsTooManyOf}
+use Rattle.ts_make.specs.Made.{RemakingFails, IsMadeQuery, MadeQueryFails}
 use Rattle.ts_make.specs.Laws.{SketchesHaveNoFewer, VectorAnswerIsOne, JoinAnswerIsOne, QueryAnswerIsOne}
 use Rattle.ts_make.proofs.Grouping.{same_groups}
 

@@ -1,8 +1,10 @@
 -- Sketches that are made node by node.
-use Rattle.std.proofs.Common.{◌≡◌, ℕ, ◌+◌, ◌≤◌, List, [], ◌∷◌, ◌++◌, map, length, refl, sym, subst, ap, ◌∙◌, true, false, ◌&&◌, Some, None, arith}
+use Rattle.std.proofs.Common.{◌≡◌, ℕ, ◌+◌, ◌≤◌, List, [], ◌∷◌, ◌++◌, map, length, refl, sym, subst, ap, ◌∙◌, true}
+use Rattle.std.proofs.Common.{false, ◌&&◌, Some, None, arith}
 use Rattle.ts_query.specs.Queries.{Joint, or_joint, and_joint, phrase_joint, Tree, Query, HasNear}
 use Rattle.ts_query.specs.Postfix.{top}
-use Rattle.ts_make.specs.Removal.{Sketch, joint_sketch, sketch_of, Cleaned, clean_phrase, clean_pair, clean_joint, clean, query_left}
+use Rattle.ts_make.specs.Removal.{Sketch, joint_sketch, sketch_of, Cleaned, clean_phrase, clean_pair, clean_joint}
+use Rattle.ts_make.specs.Removal.{clean, query_left}
 use Rattle.ts_make.specs.Making.{is_left, kept_part, kept_parts, with_left, trees_left, IsKept}
 use Rattle.ts_make.specs.Inner.Making.{part, joined_part}
 use Rattle.ts_make.specs.declared.maker.Part.{Part}

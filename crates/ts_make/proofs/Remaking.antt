@@ -1,28 +1,33 @@
 -- A query whose operands are made, node by node.
-use Rattle.std.proofs.Common.{◌≡◌, ◌≢◌, ℕ, suc, ◌+◌, ◌<◌, ◌≤◌, List, [], ◌∷◌, ◌++◌, length, get_or, refl, sym, subst, ap, ◌∙◌, append_assoc, Some, None, arith}
+use Rattle.std.proofs.Common.{◌≡◌, ◌≢◌, ℕ, suc, ◌+◌, ◌<◌, ◌≤◌, List, [], ◌∷◌, ◌++◌, length, get_or, refl, sym, subst}
+use Rattle.std.proofs.Common.{ap, ◌∙◌, append_assoc, Some, None, arith}
 use Rattle.std.proofs.lemmas.List.{length-append}
 use Rattle.std.proofs.Math.Seq.{get_or-append_seam}
 use Rattle.ts_query.specs.declared.query.Node.{Node}
 use Rattle.ts_query.specs.declared.query.Node.TheVariants.{Leaf, Not}
 use Rattle.ts_query.specs.declared.query.Operand.{Operand}
 use Rattle.ts_query.specs.Queries.{Joint, Tree, leaf, negated, joined, Query, operands_of, nodes_of}
-use Rattle.ts_query.specs.Postfix.{Item, operand_item, not_item, joint_item, postfix_of, run, joint_node, nodes_from, nodes_for}
+use Rattle.ts_query.specs.Postfix.{Item, operand_item, not_item, joint_item, postfix_of, run, joint_node, nodes_from}
+use Rattle.ts_query.specs.Postfix.{nodes_for}
 use Rattle.ts_query.specs.Inner.Built.{operands_from}
 use Rattle.ts_query.proofs.Built.{operands_from-postfix_of, few_operands}
 use Rattle.ts_query.specs.declared.error.QueryError.{QueryError}
-use Rattle.ts_query.specs.declared.error.QueryError.TheVariants.{Syntax, DistanceTooLarge, TooManyNodes, LexemeTooLong, OutOfMemory}
+use Rattle.ts_query.specs.declared.error.QueryError.TheVariants.{Syntax, DistanceTooLarge, TooManyNodes, LexemeTooLong}
+use Rattle.ts_query.specs.declared.error.QueryError.TheVariants.{OutOfMemory}
 use Rattle.ts_config.specs.Mappings.{Mapping}
 use Rattle.ts_config.specs.Known.{Known}
 use Rattle.ts_make.specs.Groups.{Group}
 use Rattle.ts_make.specs.Trees.{phrase_of}
 use Rattle.ts_make.specs.Limits.{IsOnlyPast}
 use Rattle.ts_make.specs.Removal.{Sketch, not_sketch, joint_sketch, sketch_nodes, query_left}
-use Rattle.ts_make.specs.Made.{HasGroups, sketched, IsSketched, operand_sketched, not_sketched, joint_sketched, IsMadeOf, IsTooManyOf, RemakingFails}
+use Rattle.ts_make.specs.Made.{HasGroups, sketched, IsSketched, operand_sketched, not_sketched, joint_sketched}
+use Rattle.ts_make.specs.Made.{IsMadeOf, IsTooManyOf, RemakingFails}
 use Rattle.ts_make.specs.Making.{nodes_sketched, IsMaking, OperandFails}
 use Rattle.ts_make.specs.Inner.Making.{AreSketched}
 use Rattle.ts_make.specs.declared.maker.QueryMaker.{QueryMaker}
 use Rattle.ts_make.proofs.Made.{sketch_one}
-use Rattle.ts_make.proofs.Nodes.{next_after, first_item, leaf_item, not_item_is, joint_item_is, IsEnough, enough_query, query_trees, run_query, some_query, nothing_left}
+use Rattle.ts_make.proofs.Nodes.{next_after, first_item, leaf_item, not_item_is, joint_item_is, IsEnough, enough_query}
+use Rattle.ts_make.proofs.Nodes.{query_trees, run_query, some_query, nothing_left}
 
 module _ (known : Known) (mapping : Mapping) where
   -- the nodes that are left of a query, and what was made of those before them

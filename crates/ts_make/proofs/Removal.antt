@@ -1,9 +1,12 @@
 -- What is left where stop operands are removed.
-use Rattle.std.proofs.Common.{◌≡◌, ℕ, ◌+◌, ◌≤◌, max, List, [], ◌∷◌, ◌++◌, refl, sym, subst, ap, ◌∙◌, Some, None, All, arith}
+use Rattle.std.proofs.Common.{◌≡◌, ℕ, ◌+◌, ◌≤◌, max, List, [], ◌∷◌, ◌++◌, refl, sym, subst, ap, ◌∙◌, Some, None, All}
+use Rattle.std.proofs.Common.{arith}
 use Rattle.ts_query.specs.declared.query.Operand.{Operand}
-use Rattle.ts_query.specs.Queries.{Joint, or_joint, and_joint, phrase_joint, Tree, leaf, negated, joined, Query, HasNear, HasLexeme}
+use Rattle.ts_query.specs.Queries.{Joint, or_joint, and_joint, phrase_joint, Tree, leaf, negated, joined, Query}
+use Rattle.ts_query.specs.Queries.{HasNear, HasLexeme}
 use Rattle.ts_make.specs.Trees.{near}
-use Rattle.ts_make.specs.Removal.{Sketch, stop, kept, not_sketch, joint_sketch, sketch_of, Cleaned, cleaned, clean_phrase, clean_pair, clean_joint, clean_not, clean}
+use Rattle.ts_make.specs.Removal.{Sketch, stop, kept, not_sketch, joint_sketch, sketch_of, Cleaned, cleaned}
+use Rattle.ts_make.specs.Removal.{clean_phrase, clean_pair, clean_joint, clean_not, clean}
 use Rattle.ts_make.specs.Laws.{WholeTreesStay, IsCleaned, RemovalKeepsTheRest, RemovalIsSound}
 
 pub near_most : (n : ℕ) → near n ≤ 16384

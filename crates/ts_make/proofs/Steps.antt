@@ -1,5 +1,6 @@
 -- What one more node does to a maker.
-use Rattle.std.proofs.Common.{◌≡◌, ◌≢◌, ℕ, ◌+◌, ◌<◌, List, [], ◌∷◌, ◌++◌, length, refl, sym, subst, ap, ◌∙◌, Bool, true, false, true≢false, inl, inr, Some, None, Result, Ok, Err, arith}
+use Rattle.std.proofs.Common.{◌≡◌, ◌≢◌, ℕ, ◌+◌, ◌<◌, List, [], ◌∷◌, ◌++◌, length, refl, sym, subst, ap, ◌∙◌, Bool, true}
+use Rattle.std.proofs.Common.{false, true≢false, inl, inr, Some, None, Result, Ok, Err, arith}
 use Rattle.std.specs.Prelude.{OnOk, IfErr, ◌==◌}
 use Rattle.std.proofs.lemmas.Bool.Decides.{eqb_tells}
 use Rattle.ts_base.specs.declared.Weights.{Weights}
@@ -10,7 +11,8 @@ use Rattle.ts_config.specs.Placing.{ArePlaced}
 use Rattle.ts_config.proofs.Placing.{positions_rise}
 use Rattle.ts_query.specs.declared.TheConstants.{NODE_LIMIT}
 use Rattle.ts_query.specs.declared.error.QueryError.{QueryError}
-use Rattle.ts_query.specs.declared.error.QueryError.TheVariants.{Syntax, DistanceTooLarge, TooManyNodes, LexemeTooLong, OutOfMemory}
+use Rattle.ts_query.specs.declared.error.QueryError.TheVariants.{Syntax, DistanceTooLarge, TooManyNodes, LexemeTooLong}
+use Rattle.ts_query.specs.declared.error.QueryError.TheVariants.{OutOfMemory}
 use Rattle.ts_query.specs.Queries.{Tree, HasNear}
 use Rattle.ts_query.specs.Building.{nodes_among}
 use Rattle.ts_make.specs.Groups.{Group, AreGroups}

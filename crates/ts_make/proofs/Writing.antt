@@ -1,18 +1,21 @@
 -- Placed lexemes that are joined in turn are joined by groups.
-use Rattle.std.proofs.Common.{◌≡◌, ℕ, ◌+◌, ◌-◌, ◌<◌, ◌≤◌, List, [], ◌∷◌, ◌++◌, map, length, refl, sym, subst, ap, ◌∙◌, Bool, true, false, Option, Some, None, All, AllPairs, arith}
+use Rattle.std.proofs.Common.{◌≡◌, ℕ, ◌+◌, ◌-◌, ◌<◌, ◌≤◌, List, [], ◌∷◌, ◌++◌, map, length, refl, sym, subst, ap, ◌∙◌}
+use Rattle.std.proofs.Common.{Bool, true, false, Option, Some, None, All, AllPairs, arith}
 use Rattle.std.specs.Prelude.{◌==◌}
 use Rattle.std.specs.List.{flat_map}
 use Rattle.std.proofs.lemmas.List.Elements.{All-head, All-tail}
 use Rattle.ts_base.specs.declared.Weights.{Weights}
 use Rattle.ts_config.specs.declared.placed.Placed.{Placed}
 use Rattle.ts_query.specs.declared.error.QueryError.{QueryError}
-use Rattle.ts_query.specs.declared.error.QueryError.TheVariants.{Syntax, DistanceTooLarge, TooManyNodes, LexemeTooLong, OutOfMemory}
+use Rattle.ts_query.specs.declared.error.QueryError.TheVariants.{Syntax, DistanceTooLarge, TooManyNodes, LexemeTooLong}
+use Rattle.ts_query.specs.declared.error.QueryError.TheVariants.{OutOfMemory}
 use Rattle.ts_query.specs.Queries.{Joint, and_joint, Tree, joined}
 use Rattle.ts_query.specs.Building.{with_joint, nodes_among}
 use Rattle.ts_make.specs.Groups.{Group, members, IsTogether, AreGroups}
 use Rattle.ts_make.specs.Trees.{leaf_for, and_on, group_tree, phrase_on}
 use Rattle.ts_make.specs.Limits.{IsOnlyPast}
-use Rattle.ts_make.specs.Inner.Writing.{way_joint, closed, closed_last, group_last, with_next, with_placed, joined_from, IsDeepAt, IsDeep}
+use Rattle.ts_make.specs.Inner.Writing.{way_joint, closed, closed_last, group_last, with_next, with_placed, joined_from}
+use Rattle.ts_make.specs.Inner.Writing.{IsDeepAt, IsDeep}
 use Rattle.ts_make.specs.Inner.Joins.{groups_by}
 use Rattle.ts_make.specs.Making.{with_left}
 use Rattle.ts_make.specs.declared.joining.Way.{Way}

@@ -1,5 +1,6 @@
 -- The keys of vectors and of queries.
-use Rattle.std.proofs.Common.{◌≡◌, ℕ, ◌+◌, ◌<◌, List, [], ◌∷◌, ◌++◌, length, map, take, get_or, refl, sym, ap, subst, ◌∙◌, arith, add-one}
+use Rattle.std.proofs.Common.{◌≡◌, ℕ, ◌+◌, ◌<◌, List, [], ◌∷◌, ◌++◌, length, map, take, get_or, refl, sym, ap, subst}
+use Rattle.std.proofs.Common.{◌∙◌, arith, add-one}
 use Rattle.std.specs.Prelude.{All, AllPairs}
 use Rattle.std.specs.declared.cmp.Ordering.TheVariants.{Less}
 use Rattle.std.proofs.Math.Seq.{take-suc}
@@ -12,11 +13,13 @@ map-append f [] ys = refl
 map-append f (x ∷ xs) ys = ap (λ l. f x ∷ l) (map-append f xs ys)
 
 -- one more on both sides
-pub map_more : {X Y Z : Type 0} (f : X → Z) (g : Y → Z) (xs xs' : List X) (ys : List Y) (i : ℕ) (x : X) (d : Y) → i < length ys → map f xs ≡ map g (take i ys) → xs' ≡ xs ++ x ∷ [] → f x ≡ g (get_or ys i d)
+pub map_more : {X Y Z : Type 0} (f : X → Z) (g : Y → Z) (xs xs' : List X) (ys : List Y) (i : ℕ) (x : X) (d : Y)
+    → i < length ys → map f xs ≡ map g (take i ys) → xs' ≡ xs ++ x ∷ [] → f x ≡ g (get_or ys i d)
     → map f xs' ≡ map g (take (i + 1) ys)
 map_more f g xs xs' ys i x d h m e p =
     ap (map f) e ∙ map-append f xs (x ∷ []) ∙ ap (λ l. l ++ f x ∷ []) m ∙ ap (λ z. map g (take i ys) ++ z ∷ []) p
-    ∙ sym (map-append g (take i ys) (get_or ys i d ∷ [])) ∙ ap (map g) (sym (take-suc ys i d h)) ∙ ap (λ k. map g (take k ys)) (sym (add-one i))
+    ∙ sym (map-append g (take i ys) (get_or ys i d ∷ [])) ∙ ap (map g) (sym (take-suc ys i d h))
+    ∙ ap (λ k. map g (take k ys)) (sym (add-one i))
 
 pub keys_without : (v : Vector) → 0 ≡ length v → placeholder ∷ [] ≡ keys_of v
 keys_without [] h = refl

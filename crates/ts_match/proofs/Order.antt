@@ -1,5 +1,6 @@
 -- The order of lexemes, and lexemes that begin alike.
-use Rattle.std.proofs.Common.{◌≡◌, ◌≢◌, ℕ, ◌<◌, ◌≤◌, ◌⊎◌, true, eqb, List, [], ◌∷◌, length, take, inl, inr, refl, sym, ap, ◌∙◌, arith}
+use Rattle.std.proofs.Common.{◌≡◌, ◌≢◌, ℕ, ◌<◌, ◌≤◌, ◌⊎◌, true, eqb, List, [], ◌∷◌, length, take, inl, inr, refl, sym}
+use Rattle.std.proofs.Common.{ap, ◌∙◌, arith}
 use Rattle.std.specs.Prelude.{nat_eq, max}
 use Rattle.std.specs.List.{starts_with}
 use Rattle.std.specs.Ordering.{nat_cmp}
@@ -40,7 +41,8 @@ prefix_first (x ∷ p) (y ∷ a) h e =
     prefix_first p a b.1 (rw t at e)
 
 -- what is between p and a word that begins with p begins with p
-pub between_prefix : (p a b : List ℕ) → slice_cmp nat_cmp a p ≢ Less → IsBefore a b → starts_with nat_eq b p ≡ true → starts_with nat_eq a p ≡ true
+pub between_prefix : (p a b : List ℕ) → slice_cmp nat_cmp a p ≢ Less → IsBefore a b → starts_with nat_eq b p ≡ true
+    → starts_with nat_eq a p ≡ true
 between_prefix [] a b n h s = refl
 between_prefix (x ∷ p) [] b n h s = absurd (n refl)
 between_prefix (x ∷ p) (y ∷ a) [] n h s = absurd (let z : ⊥ = cc in z)
@@ -54,7 +56,8 @@ between_prefix (x ∷ p) (y ∷ a) (z ∷ b) n h s =
           let r = between_prefix p a b (λ l. n (rw t l)) (rw u at h) f.1 in
           rw (eq-eqb x y (sym q)) r
       | inr (inl q) ↦ absurd (n (rw (less y x q) refl))
-      | inr (inr q) ↦ absurd (let u : nat_cmp y z ≡ Greater = greater y z (let k = e in omega arith) in let v = rw u at h in let w : ⊥ = cc in w)
+      | inr (inr q) ↦ absurd (let u : nat_cmp y z ≡ Greater = greater y z (let k = e in omega arith) in
+          let v = rw u at h in let w : ⊥ = cc in w)
     ]
 
 -- the greater of two numbers

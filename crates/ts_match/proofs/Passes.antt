@@ -1,5 +1,7 @@
 -- A walk over the entries of a vector, and the places of operands to which it comes.
-use Rattle.std.proofs.Common.{◌≡◌, ◌≢◌, ℕ, suc, ◌+◌, ◌-◌, ◌<◌, ◌≤◌, true, false, eqb, Option, None, Some, List, [], ◌∷◌, length, get_or, set, get_or-set_same, get_or-set_other, drop, ◌⊎◌, inl, inr, refl, sym, ap, subst, ◌∙◌, arith}
+use Rattle.std.proofs.Common.{◌≡◌, ◌≢◌, ℕ, suc, ◌+◌, ◌-◌, ◌<◌, ◌≤◌, true, false, eqb, Option, None, Some, List, [], ◌∷◌}
+use Rattle.std.proofs.Common.{length, get_or, set, get_or-set_same, get_or-set_other, drop, ◌⊎◌, inl, inr, refl, sym}
+use Rattle.std.proofs.Common.{ap, subst, ◌∙◌, arith}
 use Rattle.std.specs.Prelude.{IfSome}
 use Rattle.std.specs.Ordering.{nat_cmp}
 use Rattle.std.specs.Cmp.Lexicographic.{slice_cmp}
@@ -42,7 +44,8 @@ short_closed o First a b h k = before_trans a b o.lexeme h k
 short_closed o End a b h k = elim k [ inl e ↦ inl (before_trans a b o.lexeme h e) | inr n ↦ named_closed o a b h n ]
 
 -- all up to a short one are short
-pub short_up_to : (v : Vector) (o : Operand) (s : Side) (i : ℕ) (l : List ℕ) → IsNormal v → i < length v → ((d : Entry) → (get_or v i d).lexeme ≡ l) → IsShort o s l → AreShort v o s (i + 1)
+pub short_up_to : (v : Vector) (o : Operand) (s : Side) (i : ℕ) (l : List ℕ) → IsNormal v → i < length v
+    → ((d : Entry) → (get_or v i d).lexeme ≡ l) → IsShort o s l → AreShort v o s (i + 1)
 short_up_to v o s i l normal w is h = λ k d m. elim (cases_lt k i) [
   | inl q ↦
       let r : IsBefore (get_or v k d).lexeme (get_or v i d).lexeme = normal.rising k i d q w in
@@ -53,7 +56,9 @@ short_up_to v o s i l normal w is h = λ k d m. elim (cases_lt k i) [
 ]
 
 -- none from one that is not short on is short
-pub not_short_from : (v : Vector) (o : Operand) (s : Side) (i : ℕ) → IsNormal v → ((d : Entry) → IsShort o s (get_or v i d).lexeme → ⊥) → (k : ℕ) (d : Entry) → i ≤ k → k < length v → IsShort o s (get_or v k d).lexeme → ⊥
+pub not_short_from : (v : Vector) (o : Operand) (s : Side) (i : ℕ) → IsNormal v
+    → ((d : Entry) → IsShort o s (get_or v i d).lexeme → ⊥) → (k : ℕ) (d : Entry) → i ≤ k → k < length v
+    → IsShort o s (get_or v k d).lexeme → ⊥
 not_short_from v o s i normal n k d l m h = elim (cases_lt i k) [
   | inl q ↦
       let r : IsBefore (get_or v i d).lexeme (get_or v k d).lexeme = normal.rising i k d q m in
@@ -64,7 +69,8 @@ not_short_from v o s i normal n k d l m h = elim (cases_lt i k) [
 ]
 
 -- what is named lies between the two places
-pub named_between : (v : Vector) (o : Operand) (i j : ℕ) → Splits v o First i → Splits v o End j → NamesRange v o (record { first = i; end = j })
+pub named_between : (v : Vector) (o : Operand) (i j : ℕ) → Splits v o First i → Splits v o End j
+    → NamesRange v o (record { first = i; end = j })
 named_between v o i j a b =
     let order : i ≤ j = elim (cases_lt j i) [
       | inl q ↦ absurd (b.above j nothing (omega arith) (let w = a.within in omega arith) (inl (a.below j nothing q)))
@@ -102,7 +108,8 @@ reached v w l a e =
       left = (let i = h.within in omega arith);
       is = h.is;
       others = h.others;
-      is_lexeme = λ m g. (let x = sym e ∙ g in subst (λ a. IfSome a (λ y. y.now ≡ (f.0).lexeme)) g (subst (λ a. IfSome a (λ y. y.now ≡ (f.0).lexeme)) (sym e) f.2));
+      is_lexeme = λ m g. (let x = sym e ∙ g in subst (λ a. IfSome a (λ y. y.now ≡ (f.0).lexeme)) g
+          (subst (λ a. IfSome a (λ y. y.now ≡ (f.0).lexeme)) (sym e) f.2));
     }
 
 pub reached_some : (v : Vector) (w : Walk) → IsAt v w → 0 < w.left → Reached v w
@@ -112,7 +119,8 @@ reached_some v w a h = elim (some_or w.ahead) [
 ]
 
 pub started : (v : Vector) (w : Walk) (rest : Vector) → rest ≡ v → w.left ≡ length v → w.behind ≡ None
-    → IfSome w.ahead (λ l. (e : Entry) × (rest ≡ e ∷ w.rest) × (l.now ≡ e.lexeme)) → (w.ahead ≡ None → rest ≡ []) → IsAt v w
+    → IfSome w.ahead (λ l. (e : Entry) × (rest ≡ e ∷ w.rest) × (l.now ≡ e.lexeme)) → (w.ahead ≡ None → rest ≡ [])
+    → IsAt v w
 started v w rest is left behind some none =
     let zero : length v - w.left ≡ 0 = omega arith in record {
       within = omega arith;
@@ -125,7 +133,8 @@ started v w rest is left behind some none =
     }
 
 pub stepped : (v : Vector) (w x : Walk) → IsAt v w → 0 < w.left → x.left ≡ w.left - 1 → x.behind ≡ w.ahead
-    → IfSome x.ahead (λ l. (e : Entry) × (w.rest ≡ e ∷ x.rest) × (l.now ≡ e.lexeme)) → (x.ahead ≡ None → w.rest ≡ []) → IsAt v x
+    → IfSome x.ahead (λ l. (e : Entry) × (w.rest ≡ e ∷ x.rest) × (l.now ≡ e.lexeme)) → (x.ahead ≡ None → w.rest ≡ [])
+    → IsAt v x
 stepped v w x a pos left behind some none =
     let r = reached_some v w a pos in
     let within = a.within in
@@ -136,17 +145,23 @@ stepped v w x a pos left behind some none =
           let f = subst (λ a. IfSome a (λ m. (e : Entry) × (w.rest ≡ e ∷ x.rest) × (m.now ≡ e.lexeme))) e some in
           (f.0, ap (λ n. drop n v) next ∙ r.others ∙ f.1, f.2);
       at_end = λ e. (let h = drop_none v (suc (length v - w.left)) (r.others ∙ none e) in omega arith);
-      behind = λ l e. (omega arith, λ d. ap (λ n. (get_or v n d).lexeme) last ∙ ap (λ (y : Entry). y.lexeme) (r.is d) ∙ sym (r.is_lexeme l (sym behind ∙ e)));
+      behind = λ l e. (
+        omega arith,
+        λ d. ap (λ n. (get_or v n d).lexeme) last ∙ ap (λ (y : Entry). y.lexeme) (r.is d)
+            ∙ sym (r.is_lexeme l (sym behind ∙ e)),
+      );
       fresh = λ e. absurd (let z = a.at_end (sym behind ∙ e) in omega arith);
     }
 
 -- one operand's bounds anew
-pub set_bounds : (v : Vector) (os : List Operand) (bs : List Bounds) (k : ℕ) (x : Bounds) → k < length bs → AreBounds v os bs → ((o : Operand) → k < length os → IsBounds v (get_or os k o) x) → AreBounds v os (set bs k x)
+pub set_bounds : (v : Vector) (os : List Operand) (bs : List Bounds) (k : ℕ) (x : Bounds) → k < length bs
+    → AreBounds v os bs → ((o : Operand) → k < length os → IsBounds v (get_or os k o) x) → AreBounds v os (set bs k x)
 set_bounds v os bs k x w all new = λ j o b l m. elim (cases_Bool (eqb j k)) [
   | inl t ↦
       let e = eqb-true j k t in
       let a : IsBounds v (get_or os j o) x = subst (λ i. IsBounds v (get_or os i o) x) (sym e) (new o (omega arith)) in
-      subst (λ (y : Bounds). IsBounds v (get_or os j o) y) (sym (ap (λ i. get_or (set bs k x) i b) e ∙ get_or-set_same bs k x b w)) a
+      subst (λ (y : Bounds). IsBounds v (get_or os j o) y)
+      (sym (ap (λ i. get_or (set bs k x) i b) e ∙ get_or-set_same bs k x b w)) a
   | inr t ↦
       let n : j ≢ k = λ e. (let q = eq-eqb j k e in let z : ⊥ = cc in z) in
       let s : j < length bs = subst (λ i. j < i) (length-set bs k x) m in
@@ -156,10 +171,13 @@ set_bounds v os bs k x w all new = λ j o b l m. elim (cases_Bool (eqb j k)) [
 some_is : (a b : ℕ) → Some a ≡ Some b → a ≡ b
 some_is a b e = cc
 
-pub first_bound : (v : Vector) (o : Operand) (b : Bounds) (i : ℕ) → IsBounds v o b → Splits v o First i → IsBounds v o (record { first = Some i; end = b.end })
-first_bound v o b i old new = record { first = λ j e. subst (λ n. Splits v o First n) (some_is i j e) new; end = old.end }
+pub first_bound : (v : Vector) (o : Operand) (b : Bounds) (i : ℕ) → IsBounds v o b → Splits v o First i
+    → IsBounds v o (record { first = Some i; end = b.end })
+first_bound v o b i old new =
+    record { first = λ j e. subst (λ n. Splits v o First n) (some_is i j e) new; end = old.end }
 
-pub end_bound : (v : Vector) (o : Operand) (b : Bounds) (i : ℕ) → IsBounds v o b → Splits v o End i → IsBounds v o (record { first = b.first; end = Some i })
+pub end_bound : (v : Vector) (o : Operand) (b : Bounds) (i : ℕ) → IsBounds v o b → Splits v o End i
+    → IsBounds v o (record { first = b.first; end = Some i })
 end_bound v o b i old new = record { first = old.first; end = λ j e. subst (λ n. Splits v o End n) (some_is i j e) new }
 
 pub unknown_bounds : (v : Vector) (o : Operand) → IsBounds v o (record { first = None; end = None })
@@ -175,20 +193,26 @@ not_first o s l e n h = n (subst (λ x. IsShort o x l) e h)
 pub named_at_end : (o : Operand) (s : Side) (l : List ℕ) → s ≡ End → names o l ≡ true → IsShort o s l
 named_at_end o s l e n = subst (λ x. IsShort o x l) (sym e) (inr n)
 
-pub not_end : (o : Operand) (s : Side) (l : List ℕ) → s ≡ End → (IsBefore l o.lexeme → ⊥) → names o l ≡ false → IsShort o s l → ⊥
-not_end o s l e n f h = elim (subst (λ x. IsShort o x l) e h) [ inl q ↦ n q | inr q ↦ (let z = sym f ∙ q in let x : ⊥ = cc in x) ]
+pub not_end : (o : Operand) (s : Side) (l : List ℕ) → s ≡ End → (IsBefore l o.lexeme → ⊥) → names o l ≡ false
+    → IsShort o s l → ⊥
+not_end o s l e n f h =
+    elim (subst (λ x. IsShort o x l) e h) [ inl q ↦ n q | inr q ↦ (let z = sym f ∙ q in let x : ⊥ = cc in x) ]
 
 -- one entry more was passed
 pub passed_short : (v : Vector) (o : Operand) (s : Side) (w : Walk) (left : ℕ) → IsNormal v → IsAt v w
-    → (e : Entry) × ((d : Entry) → get_or v (length v - w.left) d ≡ e) × (0 < w.left) × IsShort o s e.lexeme → left ≡ w.left - 1 → AreShort v o s (length v - left)
+    → (e : Entry) × ((d : Entry) → get_or v (length v - w.left) d ≡ e) × (0 < w.left) × IsShort o s e.lexeme
+    → left ≡ w.left - 1 → AreShort v o s (length v - left)
 passed_short v o s w left n a y e =
     let i : (length v - w.left) + 1 ≡ length v - left = (let t = a.within in let p = y.2 in omega arith) in
     subst (λ k. AreShort v o s k) i
-    (short_up_to v o s (length v - w.left) (y.0).lexeme n (let t = a.within in let p = y.2 in omega arith) (λ d. ap (λ (x : Entry). x.lexeme) (y.1 d)) y.3)
+    (short_up_to v o s (length v - w.left) (y.0).lexeme n (let t = a.within in let p = y.2 in omega arith)
+    (λ d. ap (λ (x : Entry). x.lexeme) (y.1 d)) y.3)
 
 -- the walk has come to the first entry that is not short
-pub splits_at : (v : Vector) (o : Operand) (s : Side) (w : Walk) → IsNormal v → IsAt v w → AreShort v o s (length v - w.left)
-    → (0 < w.left → (d : Entry) → IsShort o s (get_or v (length v - w.left) d).lexeme → ⊥) → Splits v o s (length v - w.left)
+pub splits_at : (v : Vector) (o : Operand) (s : Side) (w : Walk) → IsNormal v → IsAt v w
+    → AreShort v o s (length v - w.left)
+    → (0 < w.left → (d : Entry) → IsShort o s (get_or v (length v - w.left) d).lexeme → ⊥)
+    → Splits v o s (length v - w.left)
 splits_at v o s w n a short first = record {
   within = omega arith;
   below = short;

@@ -66,7 +66,8 @@ pub at_start : (v : Vector) (t : Tree) (i : ℤ) → at v t i ≡ truth (there v
 at_start v t i = ap (λ k. at v t k) (sym (start_of i (width t))) ∙ at_truth v t (i -ℤ pos (width t)) 0
 
 -- tables that agree at the operands give one truth
-pub agree : (f g : Operand → ℕ → Bool) (t : Tree) (e : ℕ) → ((k : Operand × ℕ) → Contains (offsets t e) k → f k.0 k.1 ≡ g k.0 k.1) → truth f t e ≡ truth g t e
+pub agree : (f g : Operand → ℕ → Bool) (t : Tree) (e : ℕ)
+    → ((k : Operand × ℕ) → Contains (offsets t e) k → f k.0 k.1 ≡ g k.0 k.1) → truth f t e ≡ truth g t e
 agree f g (leaf o) e h = h (o, e) (Contains-here (o, e) [])
 agree f g (negated x) e h = ap not (agree f g x e h)
 agree f g (joined or_joint x y) e h =
@@ -95,7 +96,8 @@ offsets_within (joined and_joint x y) e k h = elim (Contains-append_cases (offse
   | inl a ↦ let p = offsets_within x e k a in omega arith
   | inr b ↦ let p = offsets_within y e k b in omega arith
 ]
-offsets_within (joined (phrase_joint n) x y) e k h = elim (Contains-append_cases (offsets x e) (offsets y (e + (width x + n))) k h) [
-  | inl a ↦ let p = offsets_within x e k a in omega arith
-  | inr b ↦ let p = offsets_within y (e + (width x + n)) k b in omega arith
-]
+offsets_within (joined (phrase_joint n) x y) e k h =
+    elim (Contains-append_cases (offsets x e) (offsets y (e + (width x + n))) k h) [
+      | inl a ↦ let p = offsets_within x e k a in omega arith
+      | inr b ↦ let p = offsets_within y (e + (width x + n)) k b in omega arith
+    ]

@@ -1,12 +1,16 @@
 -- How a query is laid out, node by node.
-use Rattle.std.proofs.Common.{◌≡◌, ℕ, suc, ◌+◌, ◌^◌, ◌≤◌, ◌<◌, List, [], ◌∷◌, ◌++◌, length, take, drop, get_or, reverse, Some, None, refl, sym, ap, subst, ◌∙◌, arith, append_assoc, add-one, length-append, drop-cons}
+use Rattle.std.proofs.Common.{◌≡◌, ℕ, suc, ◌+◌, ◌^◌, ◌≤◌, ◌<◌, List, [], ◌∷◌, ◌++◌, length, take, drop, get_or, reverse}
+use Rattle.std.proofs.Common.{Some, None, refl, sym, ap, subst, ◌∙◌, arith, append_assoc, add-one, length-append}
+use Rattle.std.proofs.Common.{drop-cons}
 use Rattle.std.specs.Prelude.{All}
 use Rattle.std.proofs.lemmas.List.{append-nil, reverse-append, length-reverse, length-take}
 use Rattle.std.proofs.Math.Seq.{take-suc}
 use Rattle.std.proofs.lemmas.List.Elements.{All-nil, All-cons, All-append}
 use Rattle.ts_query.specs.declared.query.Node.{Node}
 use Rattle.ts_query.specs.declared.query.Node.TheVariants.{Leaf, Not, And, Or, Phrase}
-use Rattle.ts_query.specs.Queries.{Tree, leaf, negated, joined, Joint, or_joint, and_joint, phrase_joint, Query, operands_in, operands_of, nodes_in, nodes_of, HasNear, HasNearPhrases, IsNear, IsSound}
+use Rattle.ts_query.specs.Queries.{Tree, leaf, negated, joined, Joint, or_joint, and_joint, phrase_joint, Query}
+use Rattle.ts_query.specs.Queries.{operands_in, operands_of, nodes_in, nodes_of, HasNear, HasNearPhrases, IsNear}
+use Rattle.ts_query.specs.Queries.{IsSound}
 use Rattle.ts_query.specs.Postfix.{joint_node, Item, not_item, joint_item, postfix, nodes_from, nodes_for}
 use Rattle.ts_match.specs.declared.work.Place.{Place}
 use Rattle.ts_match.specs.declared.work.Place.TheVariants.{Outside, Within}
@@ -16,7 +20,8 @@ use Rattle.ts_match.specs.Inner.Stacks.{top_or, below}
 use Rattle.ts_match.specs.declared.work.Due.{Due}
 use Rattle.ts_match.specs.declared.work.Due.TheVariants.{At, LeftOfAnd, LeftOfOr}
 use Rattle.ts_match.specs.Plan.{count_in, under_not, left_place, right_place, steps, plan_of}
-use Rattle.ts_match.specs.Inner.Plan.{left_widths, left_widths_of, left_width, measured, distance, left_due, due_place, spread_on, offset_of}
+use Rattle.ts_match.specs.Inner.Plan.{left_widths, left_widths_of, left_width, measured, distance, left_due, due_place}
+use Rattle.ts_match.specs.Inner.Plan.{spread_on, offset_of}
 
 -- the nodes of a tree, its operands numbered from k on
 abbrev pub tree_nodes : ℕ → Tree → List Node
@@ -24,23 +29,28 @@ tree_nodes k (leaf o) = Leaf k ∷ []
 tree_nodes k (negated x) = tree_nodes k x ++ Not ∷ []
 tree_nodes k (joined j x y) = tree_nodes k x ++ tree_nodes (k + count_in x) y ++ joint_node j ∷ []
 
-nodes_from-postfix : (k : ℕ) (t : Tree) (is : List Item) → nodes_from k (postfix t ++ is) ≡ tree_nodes k t ++ nodes_from (k + count_in t) is
+nodes_from-postfix : (k : ℕ) (t : Tree) (is : List Item)
+    → nodes_from k (postfix t ++ is) ≡ tree_nodes k t ++ nodes_from (k + count_in t) is
 nodes_from-postfix k (leaf o) is = ap (λ m. Leaf k ∷ nodes_from m is) (sym (add-one k))
 nodes_from-postfix k (negated x) is =
     ap (nodes_from k) (append_assoc (postfix x) (not_item ∷ []) is) ∙ nodes_from-postfix k x (not_item ∷ is)
     ∙ sym (append_assoc (tree_nodes k x) (Not ∷ []) (nodes_from (k + count_in x) is))
 nodes_from-postfix k (joined j x y) is =
     let m = k + count_in x in
-    let e : m + count_in y ≡ k + count_in (joined j x y) = omega (arith, length-append (operands_in x) (operands_in y)) in
-    ap (nodes_from k) (append_assoc (postfix x ++ postfix y) (joint_item j ∷ []) is ∙ append_assoc (postfix x) (postfix y) (joint_item j ∷ is))
+    let e : m + count_in y ≡ k + count_in (joined j x y) =
+    omega (arith, length-append (operands_in x) (operands_in y)) in
+    ap (nodes_from k) (append_assoc (postfix x ++ postfix y) (joint_item j ∷ []) is
+    ∙ append_assoc (postfix x) (postfix y) (joint_item j ∷ is))
     ∙ nodes_from-postfix k x (postfix y ++ joint_item j ∷ is)
     ∙ ap (λ l. tree_nodes k x ++ l) (nodes_from-postfix m y (joint_item j ∷ is))
     ∙ sym (append_assoc (tree_nodes k x) (tree_nodes m y) (joint_node j ∷ nodes_from (m + count_in y) is))
     ∙ ap (λ n. (tree_nodes k x ++ tree_nodes m y) ++ joint_node j ∷ nodes_from n is) e
-    ∙ sym (append_assoc (tree_nodes k x ++ tree_nodes m y) (joint_node j ∷ []) (nodes_from (k + count_in (joined j x y)) is))
+    ∙ sym (append_assoc (tree_nodes k x ++ tree_nodes m y) (joint_node j ∷ [])
+    (nodes_from (k + count_in (joined j x y)) is))
 
 pub nodes_for_tree : (t : Tree) → nodes_for (Some t) ≡ tree_nodes 0 t
-nodes_for_tree t = ap (nodes_from 0) (sym (append-nil (postfix t))) ∙ nodes_from-postfix 0 t [] ∙ append-nil (tree_nodes 0 t)
+nodes_for_tree t =
+    ap (nodes_from 0) (sym (append-nil (postfix t))) ∙ nodes_from-postfix 0 t [] ∙ append-nil (tree_nodes 0 t)
 
 pub length-tree_nodes : (k : ℕ) (t : Tree) → length (tree_nodes k t) ≡ nodes_in t
 length-tree_nodes k (leaf o) = refl
@@ -62,10 +72,12 @@ near_joint (phrase_joint n) h = h
 
 near_tree : (k : ℕ) (t : Tree) → HasNear t → All IsNearNode (tree_nodes k t)
 near_tree k (leaf o) h = All-cons IsNearNode (Leaf k) [] (omega arith) (All-nil IsNearNode)
-near_tree k (negated x) h = All-append IsNearNode (tree_nodes k x) (Not ∷ []) (near_tree k x h) (All-cons IsNearNode Not [] (omega arith) (All-nil IsNearNode))
+near_tree k (negated x) h = All-append IsNearNode (tree_nodes k x) (Not ∷ []) (near_tree k x h)
+    (All-cons IsNearNode Not [] (omega arith) (All-nil IsNearNode))
 near_tree k (joined j x y) h =
     All-append IsNearNode (tree_nodes k x ++ tree_nodes (k + count_in x) y) (joint_node j ∷ [])
-    (All-append IsNearNode (tree_nodes k x) (tree_nodes (k + count_in x) y) (near_tree k x h.1) (near_tree (k + count_in x) y h.2))
+    (All-append IsNearNode (tree_nodes k x) (tree_nodes (k + count_in x) y) (near_tree k x h.1)
+    (near_tree (k + count_in x) y h.2))
     (All-cons IsNearNode (joint_node j) [] (near_joint j h.0) (All-nil IsNearNode))
 
 pub near_nodes : (q : Query) → HasNearPhrases q → All IsNearNode (nodes_for q)
@@ -77,19 +89,22 @@ abbrev pub measure_all : List Node → List ℕ → List ℕ
 measure_all [] st = []
 measure_all (n ∷ ns) st = left_width n st ∷ measure_all ns (measured n st)
 
-measure_joint : (j : Joint) (ns : List Node) (x y : Tree) (st : List ℕ) → measure_all (joint_node j ∷ ns) (width y ∷ width x ∷ st) ≡ width x ∷ measure_all ns (width (joined j x y) ∷ st)
+measure_joint : (j : Joint) (ns : List Node) (x y : Tree) (st : List ℕ)
+    → measure_all (joint_node j ∷ ns) (width y ∷ width x ∷ st) ≡ width x ∷ measure_all ns (width (joined j x y) ∷ st)
 measure_joint or_joint ns x y st = refl
 measure_joint and_joint ns x y st = refl
 measure_joint (phrase_joint n) ns x y st = refl
 
-measure_tree : (k : ℕ) (t : Tree) (ns : List Node) (st : List ℕ) → measure_all (tree_nodes k t ++ ns) st ≡ left_widths t ++ measure_all ns (width t ∷ st)
+measure_tree : (k : ℕ) (t : Tree) (ns : List Node) (st : List ℕ)
+    → measure_all (tree_nodes k t ++ ns) st ≡ left_widths t ++ measure_all ns (width t ∷ st)
 measure_tree k (leaf o) ns st = refl
 measure_tree k (negated x) ns st =
     ap (λ l. measure_all l st) (append_assoc (tree_nodes k x) (Not ∷ []) ns) ∙ measure_tree k x (Not ∷ ns) st
     ∙ sym (append_assoc (left_widths x) (0 ∷ []) (measure_all ns (width x ∷ st)))
 measure_tree k (joined j x y) ns st =
     let m = k + count_in x in
-    ap (λ l. measure_all l st) (append_assoc (tree_nodes k x ++ tree_nodes m y) (joint_node j ∷ []) ns ∙ append_assoc (tree_nodes k x) (tree_nodes m y) (joint_node j ∷ ns))
+    ap (λ l. measure_all l st) (append_assoc (tree_nodes k x ++ tree_nodes m y) (joint_node j ∷ []) ns
+    ∙ append_assoc (tree_nodes k x) (tree_nodes m y) (joint_node j ∷ ns))
     ∙ measure_tree k x (tree_nodes m y ++ joint_node j ∷ ns) st
     ∙ ap (λ l. left_widths x ++ l) (measure_tree m y (joint_node j ∷ ns) (width x ∷ st))
     ∙ ap (λ l. left_widths x ++ (left_widths y ++ l)) (measure_joint j ns x y st)
@@ -99,25 +114,30 @@ measure_tree k (joined j x y) ns st =
 pub measure_query : (q : Query) → measure_all (nodes_for q) [] ≡ left_widths_of q
 measure_query None = refl
 measure_query (Some t) =
-    ap (λ l. measure_all l []) (nodes_for_tree t ∙ sym (append-nil (tree_nodes 0 t))) ∙ measure_tree 0 t [] [] ∙ append-nil (left_widths t)
+    ap (λ l. measure_all l []) (nodes_for_tree t ∙ sym (append-nil (tree_nodes 0 t))) ∙ measure_tree 0 t [] []
+    ∙ append-nil (left_widths t)
 
 length-left_widths : (t : Tree) → length (left_widths t) ≡ nodes_in t
 length-left_widths (leaf o) = refl
 length-left_widths (negated x) = let h = length-left_widths x in simp length-append (omega arith)
-length-left_widths (joined j x y) = let h = length-left_widths x in let g = length-left_widths y in simp length-append (omega arith)
+length-left_widths (joined j x y) =
+    let h = length-left_widths x in let g = length-left_widths y in simp length-append (omega arith)
 
 pub length-left_widths_of : (q : Query) → length (left_widths_of q) ≡ nodes_of q
 length-left_widths_of None = refl
 length-left_widths_of (Some t) = length-left_widths t
 
--- From the last node back: the steps, the last one first. The step after a node has as its index how many nodes there are up to it.
+-- From the last node back: the steps, the last one first. The step after a node has as its index how many nodes there
+-- are up to it.
 abbrev pub lay_all : Due → List Node → List ℕ → List Due → List Step
 lay_all r [] ws due = []
 lay_all r (n ∷ ns) [] due = []
 lay_all r (n ∷ ns) (w ∷ ws) due =
-    record { node = n; place = due_place (suc (length ns)) (top_or r due) } ∷ lay_all r ns ws (spread_on n w (due_place (suc (length ns)) (top_or r due)) (below due))
+    record { node = n; place = due_place (suc (length ns)) (top_or r due) }
+    ∷ lay_all r ns ws (spread_on n w (due_place (suc (length ns)) (top_or r due)) (below due))
 
-spread_joint : (j : Joint) (w : ℕ) (p : Place) (due : List Due) → spread_on (joint_node j) w p due ≡ At (right_place j w p) ∷ left_due j p ∷ due
+spread_joint : (j : Joint) (w : ℕ) (p : Place) (due : List Due)
+    → spread_on (joint_node j) w p due ≡ At (right_place j w p) ∷ left_due j p ∷ due
 spread_joint or_joint w p due = refl
 spread_joint and_joint w p due = refl
 spread_joint (phrase_joint n) w p due = refl
@@ -133,15 +153,20 @@ due_left (phrase_joint n) m (Within o b) = refl
 back_one : {X : Type 0} (xs : List X) (x : X) (ys : List X) → reverse (xs ++ x ∷ []) ++ ys ≡ x ∷ (reverse xs ++ ys)
 back_one xs x ys = ap (λ l. l ++ ys) (reverse-append xs (x ∷ []))
 
-back_two : {X : Type 0} (xs ys : List X) (z : X) (us : List X) → reverse (xs ++ ys ++ z ∷ []) ++ us ≡ z ∷ (reverse ys ++ (reverse xs ++ us))
+back_two : {X : Type 0} (xs ys : List X) (z : X) (us : List X)
+    → reverse (xs ++ ys ++ z ∷ []) ++ us ≡ z ∷ (reverse ys ++ (reverse xs ++ us))
 back_two xs ys z us =
-    back_one (xs ++ ys) z us ∙ ap (λ l. z ∷ (l ++ us)) (reverse-append xs ys) ∙ ap (λ l. z ∷ l) (append_assoc (reverse ys) (reverse xs) us)
+    back_one (xs ++ ys) z us ∙ ap (λ l. z ∷ (l ++ us)) (reverse-append xs ys)
+    ∙ ap (λ l. z ∷ l) (append_assoc (reverse ys) (reverse xs) us)
 
 count_back : (k : ℕ) (t : Tree) (ns : List Node) → length (reverse (tree_nodes k t) ++ ns) ≡ nodes_in t + length ns
-count_back k t ns = length-append (reverse (tree_nodes k t)) ns ∙ ap (λ n. n + length ns) (length-reverse (tree_nodes k t) ∙ length-tree_nodes k t)
+count_back k t ns = length-append (reverse (tree_nodes k t)) ns
+    ∙ ap (λ n. n + length ns) (length-reverse (tree_nodes k t) ∙ length-tree_nodes k t)
 
-lay_tree : (r : Due) (k m : ℕ) (t : Tree) (d : Due) (p : Place) (ns : List Node) (ws : List ℕ) (due : List Due) → length ns ≡ m → due_place (m + nodes_in t) d ≡ p
-    → lay_all r (reverse (tree_nodes k t) ++ ns) (reverse (left_widths t) ++ ws) (d ∷ due) ≡ reverse (steps k m p t) ++ lay_all r ns ws due
+lay_tree : (r : Due) (k m : ℕ) (t : Tree) (d : Due) (p : Place) (ns : List Node) (ws : List ℕ) (due : List Due)
+    → length ns ≡ m → due_place (m + nodes_in t) d ≡ p
+    → lay_all r (reverse (tree_nodes k t) ++ ns) (reverse (left_widths t) ++ ws) (d ∷ due)
+    ≡ reverse (steps k m p t) ++ lay_all r ns ws due
 lay_tree r k m (leaf o) d p ns ws due l e =
     let i : suc (length ns) ≡ m + 1 = omega arith in
     ap (λ q. record { node = Leaf k; place = q } ∷ lay_all r ns ws due) (ap (λ j. due_place j d) i ∙ e)
@@ -151,8 +176,10 @@ lay_tree r k m (negated x) d p ns ws due l e =
     let i : suc (length (reverse (tree_nodes k x) ++ ns)) ≡ m + suc (nodes_in x) = omega (arith, count_back k x ns) in
     ap (λ l. lay_all r l (reverse (left_widths x ++ 0 ∷ []) ++ ws) (d ∷ due)) (back_one (tree_nodes k x) Not ns)
     ∙ ap (λ l. lay_all r (Not ∷ N) l (d ∷ due)) (back_one (left_widths x) 0 ws)
-    ∙ ap (λ q. record { node = Not; place = q } ∷ lay_all r N W (At (under_not q) ∷ due)) (ap (λ j. due_place j d) i ∙ e)
-    ∙ ap (λ l. record { node = Not; place = p } ∷ l) (lay_tree r k m x (At (under_not p)) (under_not p) ns ws due l refl)
+    ∙ ap (λ q. record { node = Not; place = q } ∷ lay_all r N W (At (under_not q) ∷ due))
+    (ap (λ j. due_place j d) i ∙ e)
+    ∙ ap (λ l. record { node = Not; place = p } ∷ l)
+    (lay_tree r k m x (At (under_not p)) (under_not p) ns ws due l refl)
     ∙ sym (back_one (steps k m (under_not p) x) (record { node = Not; place = p }) (lay_all r ns ws due))
 lay_tree r k m (joined j x y) d p ns ws due l e =
     let n = k + count_in x in
@@ -168,19 +195,24 @@ lay_tree r k m (joined j x y) d p ns ws due l e =
     let cy = count_back n y M in
     let i : suc (length (reverse (tree_nodes n y) ++ M)) ≡ m + suc (nodes_in x + nodes_in y) = omega (arith, cx, cy) in
     let f : length (reverse (tree_nodes k x) ++ ns) ≡ m + nodes_in x = omega (arith, cx) in
-    ap (λ l. lay_all r l (reverse (left_widths x ++ left_widths y ++ width x ∷ []) ++ ws) (d ∷ due)) (back_two (tree_nodes k x) (tree_nodes n y) (joint_node j) ns)
+    ap (λ l. lay_all r l (reverse (left_widths x ++ left_widths y ++ width x ∷ []) ++ ws) (d ∷ due))
+    (back_two (tree_nodes k x) (tree_nodes n y) (joint_node j) ns)
     ∙ ap (λ l. lay_all r (joint_node j ∷ N) l (d ∷ due)) (back_two (left_widths x) (left_widths y) (width x) ws)
-    ∙ ap (λ z. record { node = joint_node j; place = z } ∷ lay_all r N W (spread_on (joint_node j) (width x) z due)) (ap (λ j. due_place j d) i ∙ e)
+    ∙ ap (λ z. record { node = joint_node j; place = z } ∷ lay_all r N W (spread_on (joint_node j) (width x) z due))
+    (ap (λ j. due_place j d) i ∙ e)
     ∙ ap (λ z. q ∷ lay_all r N W z) (spread_joint j (width x) p due)
-    ∙ ap (λ l. q ∷ l) (lay_tree r n h y (At (right_place j (width x) p)) (right_place j (width x) p) M V (left_due j p ∷ due) f refl)
-    ∙ ap (λ l. q ∷ (reverse sy ++ l)) (lay_tree r k m x (left_due j p) (left_place j (m + nodes_in x) p) ns ws due l (due_left j (m + nodes_in x) p))
+    ∙ ap (λ l. q ∷ l)
+    (lay_tree r n h y (At (right_place j (width x) p)) (right_place j (width x) p) M V (left_due j p ∷ due) f refl)
+    ∙ ap (λ l. q ∷ (reverse sy ++ l))
+    (lay_tree r k m x (left_due j p) (left_place j (m + nodes_in x) p) ns ws due l (due_left j (m + nodes_in x) p))
     ∙ sym (back_two sx sy q (lay_all r ns ws due))
 
 -- what is known of the root
 abbrev pub root_due : ℕ → Due
 root_due n = At (Outside n (n + 1))
 
-lay_root : (n : ℕ) (q : Query) → n ≡ nodes_of q → lay_all (root_due n) (reverse (nodes_for q)) (reverse (left_widths_of q)) (root_due n ∷ []) ≡ reverse (plan_of q)
+lay_root : (n : ℕ) (q : Query) → n ≡ nodes_of q
+    → lay_all (root_due n) (reverse (nodes_for q)) (reverse (left_widths_of q)) (root_due n ∷ []) ≡ reverse (plan_of q)
 lay_root n None e = refl
 lay_root n (Some t) e =
     let r = root_due n in
@@ -190,7 +222,8 @@ lay_root n (Some t) e =
     ∙ lay_tree r 0 0 t r (Outside n (n + 1)) [] [] [] refl refl ∙ append-nil (reverse (steps 0 0 (Outside n (n + 1)) t))
     ∙ ap (λ c. reverse (steps 0 0 (Outside c (c + 1)) t)) e
 
-pub lay_query : (q : Query) (ns : List Node) → ns ≡ nodes_for q → lay_all (root_due (length ns)) (reverse (nodes_for q)) (reverse (left_widths_of q)) (root_due (length ns) ∷ []) ≡ reverse (plan_of q)
+pub lay_query : (q : Query) (ns : List Node) → ns ≡ nodes_for q → lay_all (root_due (length ns)) (reverse
+    (nodes_for q)) (reverse (left_widths_of q)) (root_due (length ns) ∷ []) ≡ reverse (plan_of q)
 lay_query q ns e = lay_root (length ns) q (ap length e ∙ length-nodes_for q)
 
 -- how far what is due is from its phrase's beginning
@@ -231,7 +264,8 @@ left_near or_joint (Within o b) = omega arith
 left_near and_joint (Within o b) = omega arith
 left_near (phrase_joint n) (Within o b) = omega arith
 
-right_near : (j : Joint) (w : ℕ) (p : Place) → offset_of (right_place j w p) ≤ offset_of p + (w + distance (joint_node j))
+right_near : (j : Joint) (w : ℕ) (p : Place)
+    → offset_of (right_place j w p) ≤ offset_of p + (w + distance (joint_node j))
 right_near or_joint w (Outside on_true on_false) = omega arith
 right_near and_joint w (Outside on_true on_false) = omega arith
 right_near (phrase_joint n) w (Outside on_true on_false) = omega arith
@@ -243,41 +277,53 @@ right_near (phrase_joint n) w (Within o b) = omega arith
 abbrev pub STRIDE : ℕ
 STRIDE = 2 ^ 33
 
-reach_two : (j : Joint) (w m : ℕ) (p : Place) (due : List Due) → offset_of p ≤ m → WithinReach m due → w < 2 ^ 32 → distance (joint_node j) < 2 ^ 16
+reach_two : (j : Joint) (w m : ℕ) (p : Place) (due : List Due) → offset_of p ≤ m → WithinReach m due → w < 2 ^ 32
+    → distance (joint_node j) < 2 ^ 16
     → WithinReach (m + STRIDE) (At (right_place j w p) ∷ left_due j p ∷ due)
-reach_two j w m p due h r lw ln =
-    (let q = right_near j w p in omega arith, (let q = left_near j p in omega arith, reach_more m (m + STRIDE) due (omega arith) r))
+reach_two j w m p due h r lw ln = (
+  let q = right_near j w p in omega arith,
+  (let q = left_near j p in omega arith, reach_more m (m + STRIDE) due (omega arith) r),
+)
 
-pub reach_spread : (n : Node) (w m : ℕ) (p : Place) (due : List Due) → offset_of p ≤ m → WithinReach m due → w < 2 ^ 32 → distance n < 2 ^ 16 → WithinReach (m + STRIDE) (spread_on n w p due)
+pub reach_spread : (n : Node) (w m : ℕ) (p : Place) (due : List Due) → offset_of p ≤ m → WithinReach m due → w < 2 ^ 32
+    → distance n < 2 ^ 16 → WithinReach (m + STRIDE) (spread_on n w p due)
 reach_spread (Leaf k) w m p due h r lw ln = reach_more m (m + STRIDE) due (omega arith) r
-reach_spread Not w m p due h r lw ln = (let q = under_not_near p in omega arith, reach_more m (m + STRIDE) due (omega arith) r)
+reach_spread Not w m p due h r lw ln =
+    (let q = under_not_near p in omega arith, reach_more m (m + STRIDE) due (omega arith) r)
 reach_spread And w m p due h r lw ln = reach_two and_joint w m p due h r lw ln
 reach_spread Or w m p due h r lw ln = reach_two or_joint w m p due h r lw ln
 reach_spread (Phrase n) w m p due h r lw ln = reach_two (phrase_joint n) w m p due h r lw ln
 
 -- facts on the nodes of a query
-pub node_near : (q : Query) (ns : List Node) (i : ℕ) (d : Node) → ns ≡ nodes_for q → IsSound q → i < length ns → distance (get_or ns i d) ≤ 16384
-node_near q ns i d e s l = let a : All IsNearNode ns = subst (λ (m : List Node). All IsNearNode m) (sym e) (near_nodes q s.phrases) in a i d l
+pub node_near : (q : Query) (ns : List Node) (i : ℕ) (d : Node) → ns ≡ nodes_for q → IsSound q → i < length ns
+    → distance (get_or ns i d) ≤ 16384
+node_near q ns i d e s l =
+    let a : All IsNearNode ns = subst (λ (m : List Node). All IsNearNode m) (sym e) (near_nodes q s.phrases) in a i d l
 
 pub few_nodes : (q : Query) (ns : List Node) → ns ≡ nodes_for q → IsSound q → length ns < 32768
 few_nodes q ns e s = let a = ap length e ∙ length-nodes_for q in let n = s.nodes in omega arith
 
 -- one node more
-pub measure_more : (ns : List Node) (i : ℕ) (d : Node) (ws st : List ℕ) (l : ℕ) (st' : List ℕ) → i < length ns → l ≡ left_width (get_or ns i d) st → st' ≡ measured (get_or ns i d) st
+pub measure_more : (ns : List Node) (i : ℕ) (d : Node) (ws st : List ℕ) (l : ℕ) (st' : List ℕ) → i < length ns
+    → l ≡ left_width (get_or ns i d) st → st' ≡ measured (get_or ns i d) st
     → (ws ++ l ∷ []) ++ measure_all (drop (i + 1) ns) st' ≡ ws ++ measure_all (drop i ns) st
 measure_more ns i d ws st l st' h p q =
     append_assoc ws (l ∷ []) (measure_all (drop (i + 1) ns) st')
     ∙ ap (λ k. ws ++ (k ∷ measure_all (drop (i + 1) ns) st')) p
     ∙ ap (λ s. ws ++ (left_width (get_or ns i d) st ∷ measure_all (drop (i + 1) ns) s)) q
-    ∙ ap (λ m. ws ++ (left_width (get_or ns i d) st ∷ measure_all (drop m ns) (measured (get_or ns i d) st))) (add-one i)
+    ∙ ap (λ m. ws ++ (left_width (get_or ns i d) st ∷ measure_all (drop m ns) (measured (get_or ns i d) st)))
+    (add-one i)
     ∙ ap (λ k. ws ++ measure_all k st) (sym (drop-cons ns i d h))
 
-last_of : {X : Type 0} (xs : List X) (i : ℕ) (d : X) → i < length xs → reverse (take (suc i) xs) ≡ get_or xs i d ∷ reverse (take i xs)
+last_of : {X : Type 0} (xs : List X) (i : ℕ) (d : X) → i < length xs
+    → reverse (take (suc i) xs) ≡ get_or xs i d ∷ reverse (take i xs)
 last_of xs i d h = ap reverse (take-suc xs i d h) ∙ reverse-append (take i xs) (get_or xs i d ∷ [])
 
-pub lay_more : (r : Due) (ns : List Node) (ws : List ℕ) (i : ℕ) (d : Node) (out : List Step) (due due' : List Due) (p : Place) → i < length ns → i < length ws
+pub lay_more : (r : Due) (ns : List Node) (ws : List ℕ) (i : ℕ) (d : Node) (out : List Step) (due due' : List Due)
+    (p : Place) → i < length ns → i < length ws
     → p ≡ due_place (i + 1) (top_or r due) → due' ≡ spread_on (get_or ns i d) (get_or ws i 0) p (below due)
-    → (out ++ record { node = get_or ns i d; place = p } ∷ []) ++ lay_all r (reverse (take i ns)) (reverse (take i ws)) due' ≡ out ++ lay_all r (reverse (take (suc i) ns)) (reverse (take (suc i) ws)) due
+    → (out ++ record { node = get_or ns i d; place = p } ∷ []) ++ lay_all r (reverse (take i ns))
+    (reverse (take i ws)) due' ≡ out ++ lay_all r (reverse (take (suc i) ns)) (reverse (take (suc i) ws)) due
 lay_more r ns ws i d out due due' p ln lw ep ed =
     let n = get_or ns i d in
     let w = get_or ws i 0 in
@@ -287,7 +333,8 @@ lay_more r ns ws i d out due due' p ln lw ep ed =
     let behind : i + 1 ≡ suc (length (reverse (take i ns))) = omega arith in
     append_assoc out (record { node = n; place = p } ∷ []) (lay_all r N W due')
     ∙ ap (λ d. out ++ (record { node = n; place = p } ∷ lay_all r N W d)) ed
-    ∙ ap (λ q. out ++ (record { node = n; place = q } ∷ lay_all r N W (spread_on n w q (below due)))) (ep ∙ ap (λ m. due_place m (top_or r due)) behind)
+    ∙ ap (λ q. out ++ (record { node = n; place = q } ∷ lay_all r N W (spread_on n w q (below due))))
+    (ep ∙ ap (λ m. due_place m (top_or r due)) behind)
     ∙ ap (λ l. out ++ lay_all r l (w ∷ W) due) (sym (last_of ns i d ln))
     ∙ ap (λ l. out ++ lay_all r (reverse (take (suc i) ns)) l due) (sym (last_of ws i 0 lw))
 

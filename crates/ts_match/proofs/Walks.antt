@@ -1,5 +1,6 @@
 -- What an operand finds in an encoded vector, walked from its beginning.
-use Rattle.std.proofs.Common.{◌≡◌, ℕ, zero, suc, ◌+◌, ◌-◌, ◌<◌, ◌≤◌, Bool, true, false, ◌&&◌, ◌||◌, eqb, nat_eq, List, [], ◌∷◌, ◌++◌, length, get_or, take, drop, inl, inr, refl, sym, ap, subst, ◌∙◌, arith}
+use Rattle.std.proofs.Common.{◌≡◌, ℕ, zero, suc, ◌+◌, ◌-◌, ◌<◌, ◌≤◌, Bool, true, false, ◌&&◌, ◌||◌, eqb, nat_eq, List}
+use Rattle.std.proofs.Common.{[], ◌∷◌, ◌++◌, length, get_or, take, drop, inl, inr, refl, sym, ap, subst, ◌∙◌, arith}
 use Rattle.std.specs.Prelude.{Contains}
 use Rattle.std.specs.List.{list_any, list_all, flat_map, starts_with, slice_range}
 use Rattle.std.specs.Cmp.Lexicographic.{pointwise, bytes_decides}
@@ -25,7 +26,8 @@ pub drop_head : {X : Type 0} (xs : List X) (k : ℕ) (x : X) (rest : List X) →
 drop_head [] zero x rest e = absurd (let z : ⊥ = cc in z)
 drop_head [] (suc k) x rest e = absurd (let z : ⊥ = cc in z)
 drop_head (y ∷ ys) zero x rest e = record { within = omega arith; is = λ d. cc; others = cc }
-drop_head (y ∷ ys) (suc k) x rest e = let h = drop_head ys k x rest e in record { within = (let w = h.within in omega arith); is = h.is; others = h.others }
+drop_head (y ∷ ys) (suc k) x rest e = let h = drop_head ys k x rest e in
+    record { within = (let w = h.within in omega arith); is = h.is; others = h.others }
 
 pub to_prefix : (o : Operand) (l : List ℕ) → o.prefix ≡ true → names o l ≡ starts_with nat_eq l o.lexeme
 to_prefix o l e = rw e refl
@@ -46,7 +48,8 @@ named_not_before o l n h = named_cases o l o.prefix refl n h
 pub before_unnamed : (o : Operand) (l : List ℕ) → IsBefore l o.lexeme → names o l ≡ false
 before_unnamed o l h = false_from (names o l) (λ n. named_not_before o l n h)
 
-behind_cases : (o : Operand) (l k : List ℕ) (b : Bool) → o.prefix ≡ b → (IsBefore l o.lexeme → ⊥) → names o l ≡ false → IsBefore l k → names o k ≡ true → ⊥
+behind_cases : (o : Operand) (l k : List ℕ) (b : Bool) → o.prefix ≡ b → (IsBefore l o.lexeme → ⊥) → names o l ≡ false
+    → IsBefore l k → names o k ≡ true → ⊥
 behind_cases o l k true e n f h t =
     let s = between_prefix o.lexeme l k n h (sym (to_prefix o k e) ∙ t) in
     let z = sym f ∙ to_prefix o l e ∙ s in
@@ -55,7 +58,8 @@ behind_cases o l k false e n f h t =
     let same : k ≡ o.lexeme = (bytes_decides k o.lexeme).0 (sym (to_word o k e) ∙ t) in
     n (subst (λ (x : List ℕ). IsBefore l x) same h)
 
-pub behind_unnamed : (o : Operand) (l k : List ℕ) → (IsBefore l o.lexeme → ⊥) → names o l ≡ false → IsBefore l k → names o k ≡ false
+pub behind_unnamed : (o : Operand) (l k : List ℕ) → (IsBefore l o.lexeme → ⊥) → names o l ≡ false → IsBefore l k
+    → names o k ≡ false
 behind_unnamed o l k n f h = false_from (names o k) (λ t. behind_cases o l k o.prefix refl n f h t)
 
 -- the walk up to `end`: those below `first` are before what is named, the others are named
@@ -67,9 +71,16 @@ pub record Walked (v : Vector) (o : Operand) (first end : ℕ) (left : Vector) :
   pub named : (k : ℕ) (d : Entry) → first ≤ k → k < end → names o (get_or v k d).lexeme ≡ true
 
 pub walk_from : (v : Vector) (o : Operand) (left : Vector) → left ≡ v → Walked v o 0 0 left
-walk_from v o left e = record { tail = e; order = omega arith; within = omega arith; below = λ k d l. absurd (omega arith); named = λ k d l m. absurd (omega arith) }
+walk_from v o left e = record {
+  tail = e;
+  order = omega arith;
+  within = omega arith;
+  below = λ k d l. absurd (omega arith);
+  named = λ k d l m. absurd (omega arith);
+}
 
-module _ (v : Vector) (o : Operand) (first end : ℕ) (left : Vector) (x : Entry) (rest : Vector) (normal : IsNormal v) (w : Walked v o first end left) (e : left ≡ x ∷ rest) where
+module _ (v : Vector) (o : Operand) (first end : ℕ) (left : Vector) (x : Entry) (rest : Vector) (normal : IsNormal v)
+    (w : Walked v o first end left) (e : left ≡ x ∷ rest) where
   head : DropHead v end x rest
   head = drop_head v end x rest (sym w.tail ∙ e)
 
@@ -114,24 +125,28 @@ module _ (v : Vector) (o : Operand) (first end : ℕ) (left : Vector) (x : Entry
     ];
   }
 
-  pub walk_behind : (IsBefore x.lexeme o.lexeme → ⊥) → names o x.lexeme ≡ false → (k : ℕ) (d : Entry) → end ≤ k → k < length v → names o (get_or v k d).lexeme ≡ false
+  pub walk_behind : (IsBefore x.lexeme o.lexeme → ⊥) → names o x.lexeme ≡ false → (k : ℕ) (d : Entry) → end ≤ k
+      → k < length v → names o (get_or v k d).lexeme ≡ false
   walk_behind n f k d l m = elim (cases_lt end k) [
     | inl q ↦
         let r : IsBefore (get_or v end d).lexeme (get_or v k d).lexeme = normal.rising end k d q m in
-        behind_unnamed o x.lexeme (get_or v k d).lexeme n f (subst (λ (y : Entry). IsBefore y.lexeme (get_or v k d).lexeme) (head.is d) r)
+        behind_unnamed o x.lexeme (get_or v k d).lexeme n f
+        (subst (λ (y : Entry). IsBefore y.lexeme (get_or v k d).lexeme) (head.is d) r)
     | inr q ↦
         let same : k ≡ end = omega arith in
         subst (λ (y : Entry). names o y.lexeme ≡ false) (sym (ap (λ i. get_or v i d) same ∙ head.is d)) f
   ]
 
 pub walked_range : (v : Vector) (o : Operand) (first end : ℕ) (left : Vector) → Walked v o first end left
-    → ((k : ℕ) (d : Entry) → end ≤ k → k < length v → names o (get_or v k d).lexeme ≡ false) → NamesRange v o (record { first = first; end = end })
+    → ((k : ℕ) (d : Entry) → end ≤ k → k < length v → names o (get_or v k d).lexeme ≡ false)
+    → NamesRange v o (record { first = first; end = end })
 walked_range v o first end left w b =
     let e : first + (end - first) ≡ end = (let i = w.order in omega arith) in record {
       ordered = w.order;
       within = w.within;
       named = passing_part (λ (x : Entry). names o x.lexeme) v first (end - first) (let i = w.within in omega arith)
-          (λ k d l. before_unnamed o (get_or v k d).lexeme (w.below k d l)) (λ k d l m. w.named k d l (omega arith)) (λ k d l m. b k d (omega arith) m);
+          (λ k d l. before_unnamed o (get_or v k d).lexeme (w.below k d l)) (λ k d l m. w.named k d l (omega arith))
+          (λ k d l m. b k d (omega arith) m);
     }
 
 pub drop_none : {X : Type 0} (xs : List X) (k : ℕ) → drop k xs ≡ [] → length xs ≤ k
@@ -139,22 +154,28 @@ drop_none [] k e = omega arith
 drop_none (x ∷ xs) zero e = absurd (let z : ⊥ = cc in z)
 drop_none (x ∷ xs) (suc k) e = let i = drop_none xs k e in omega arith
 
-pub walked_all : (v : Vector) (o : Operand) (first end count : ℕ) (left : Vector) → Walked v o first end left → left ≡ [] → count ≡ length v → NamesRange v o (record { first = first; end = count })
+pub walked_all : (v : Vector) (o : Operand) (first end count : ℕ) (left : Vector) → Walked v o first end left
+    → left ≡ [] → count ≡ length v → NamesRange v o (record { first = first; end = count })
 walked_all v o first end count left w e c =
     let all = drop_none v end (sym w.tail ∙ e) in
     let same : end ≡ count = (let i = w.within in omega arith) in
-    subst (λ (n : ℕ). NamesRange v o (record { first = first; end = n })) same (walked_range v o first end left w (λ k d l m. absurd (omega arith)))
+    subst (λ (n : ℕ). NamesRange v o (record { first = first; end = n })) same
+    (walked_range v o first end left w (λ k d l m. absurd (omega arith)))
 
 -- an index below those of a walk can be counted
-pub walk_short : (v : Vector) (o : Operand) (first end count : ℕ) (left : Vector) (x : Entry) (rest : Vector) → Walked v o first end left → left ≡ x ∷ rest → count ≡ length v → end < count
-walk_short v o first end count left x rest w e c = let h = drop_head v end x rest (sym w.tail ∙ e) in let i = h.within in omega arith
+pub walk_short : (v : Vector) (o : Operand) (first end count : ℕ) (left : Vector) (x : Entry) (rest : Vector)
+    → Walked v o first end left → left ≡ x ∷ rest → count ≡ length v → end < count
+walk_short v o first end count left x rest w e c =
+    let h = drop_head v end x rest (sym w.tail ∙ e) in let i = h.within in omega arith
 
 -- the positions of the entries from a on and below b
 abbrev pub positions_in : Vector → ℕ → ℕ → List Position
 positions_in v a b = flat_map (λ (e : Entry). e.positions) (slice_range v a b)
 
-pub into_positions : (v : Vector) (a b i : ℕ) (d : Entry) (p : Position) → b ≤ length v → a ≤ i → i < b → Contains (get_or v i d).positions p → Contains (positions_in v a b) p
-into_positions v a b i d p w l m h = Contains-flat_map (λ (e : Entry). e.positions) (slice_range v a b) (get_or v i d) p (in_part v a b i d w l m) h
+pub into_positions : (v : Vector) (a b i : ℕ) (d : Entry) (p : Position) → b ≤ length v → a ≤ i → i < b
+    → Contains (get_or v i d).positions p → Contains (positions_in v a b) p
+into_positions v a b i d p w l m h =
+    Contains-flat_map (λ (e : Entry). e.positions) (slice_range v a b) (get_or v i d) p (in_part v a b i d w l m) h
 
 -- where a position comes from
 pub record ComesFrom (v : Vector) (a b : ℕ) (p : Position) : Type 0 where
@@ -164,7 +185,8 @@ pub record ComesFrom (v : Vector) (a b : ℕ) (p : Position) : Type 0 where
   pub entry : Entry
   pub there : Contains (get_or v index entry).positions p
 
-pub from_positions : (v : Vector) (a b : ℕ) (p : Position) → b ≤ length v → Contains (positions_in v a b) p → ComesFrom v a b p
+pub from_positions : (v : Vector) (a b : ℕ) (p : Position) → b ≤ length v → Contains (positions_in v a b) p
+    → ComesFrom v a b p
 from_positions v a b p w h =
     let r = from_flat_map (λ (e : Entry). e.positions) (slice_range v a b) p h in
     let s = from_part v a b r.element w r.there in record {
@@ -176,10 +198,12 @@ from_positions v a b p w h =
     }
 
 -- one element more of a list that is walked
-pub any_next : {X : Type 0} (test : X → Bool) (xs ys : List X) (x : X) → xs ≡ x ∷ ys → test x ≡ false → list_any test ys ≡ list_any test xs
+pub any_next : {X : Type 0} (test : X → Bool) (xs ys : List X) (x : X) → xs ≡ x ∷ ys → test x ≡ false
+    → list_any test ys ≡ list_any test xs
 any_next test xs ys x e f = sym (ap (list_any test) e ∙ ap (λ b. b || list_any test ys) f)
 
-pub any_found : {X : Type 0} (test : X → Bool) (xs ys : List X) (x : X) → xs ≡ x ∷ ys → test x ≡ true → list_any test xs ≡ true
+pub any_found : {X : Type 0} (test : X → Bool) (xs ys : List X) (x : X) → xs ≡ x ∷ ys → test x ≡ true
+    → list_any test xs ≡ true
 any_found test xs ys x e t = ap (list_any test) e ∙ ap (λ b. b || list_any test ys) t
 
 pub first_in : {X : Type 0} (xs ys : List X) (x : X) → xs ≡ x ∷ ys → Contains xs x
@@ -198,18 +222,23 @@ bare_first (p ∷ ps) others h = absurd (let x : ⊥ = cc in x)
 
 pub all_bare : (v : Vector) → flat_map (λ (e : Entry). e.positions) v ≡ [] → list_all bare v ≡ true
 all_bare [] h = refl
-all_bare (e ∷ v) h = let b = bare_first e.positions (flat_map (λ (e : Entry). e.positions) v) h in rw b.0 (all_bare v b.1)
+all_bare (e ∷ v) h =
+    let b = bare_first e.positions (flat_map (λ (e : Entry). e.positions) v) h in rw b.0 (all_bare v b.1)
 
-some_first : (ps others : List Position) (x : Position) (rest : List Position) (b : Bool) → ps ++ others ≡ x ∷ rest → (others ≡ x ∷ rest → b ≡ false) → (eqb (length ps) 0 && b) ≡ false
+some_first : (ps others : List Position) (x : Position) (rest : List Position) (b : Bool) → ps ++ others ≡ x ∷ rest
+    → (others ≡ x ∷ rest → b ≡ false) → (eqb (length ps) 0 && b) ≡ false
 some_first [] others x rest b h k = k h
 some_first (p ∷ ps) others x rest b h k = ap (λ c. c && b) (ne_eqb (length (p ∷ ps)) 0 (λ e. omega arith))
 
-pub not_bare : (v : Vector) (x : Position) (rest : List Position) → flat_map (λ (e : Entry). e.positions) v ≡ x ∷ rest → list_all bare v ≡ false
+pub not_bare : (v : Vector) (x : Position) (rest : List Position) → flat_map (λ (e : Entry). e.positions) v ≡ x ∷ rest
+    → list_all bare v ≡ false
 not_bare [] x rest h = absurd (let z : ⊥ = cc in z)
-not_bare (e ∷ v) x rest h = some_first e.positions (flat_map (λ (e : Entry). e.positions) v) x rest (list_all bare v) h (λ k. not_bare v x rest k)
+not_bare (e ∷ v) x rest h = some_first e.positions (flat_map (λ (e : Entry). e.positions) v) x rest (list_all bare v) h
+    (λ k. not_bare v x rest k)
 
 -- those of all entries
 pub all_positions : (v : Vector) (n : ℕ) → n ≡ length v → positions_in v 0 n ≡ flat_map (λ (e : Entry). e.positions) v
 all_positions v n e =
     let k : n - 0 ≡ length v = omega arith in
-    ap (λ m. flat_map (λ (x : Entry). x.positions) (take m v)) k ∙ ap (flat_map (λ (x : Entry). x.positions)) (take-length v)
+    ap (λ m. flat_map (λ (x : Entry). x.positions) (take m v)) k
+    ∙ ap (flat_map (λ (x : Entry). x.positions)) (take-length v)

@@ -1,11 +1,19 @@
 -- A type is known by its name, and by its number.
 use Rattle.std.proofs.Common.{◌≡◌, ℕ, List, codes, bytes_eq, ◌==◌, if◌then◌else◌, refl, sym, ap, ◌∙◌}
 use Rattle.ts_parser.specs.declared.kinds.TokenType.{TokenType}
-use Rattle.ts_parser.specs.declared.kinds.TokenType.TheVariants.{Asciiword, Word, Numword, Sfloat, Version, HwordNumpart, HwordPart, HwordAsciipart, Blank, Numhword, Asciihword, Hword, Float, Int, Uint}
+use Rattle.ts_parser.specs.declared.kinds.TokenType.TheVariants.{Asciiword, Word, Numword, Sfloat, Version}
+use Rattle.ts_parser.specs.declared.kinds.TokenType.TheVariants.{HwordNumpart, HwordPart, HwordAsciipart, Blank}
+use Rattle.ts_parser.specs.declared.kinds.TokenType.TheVariants.{Numhword, Asciihword, Hword, Float, Int, Uint}
 use Rattle.ts_parser.specs.Kinds.{type_number, type_name, NamesTellTypes, NumbersTellTypes}
 
 abbrev named : List ℕ → TokenType
-named w = if bytes_eq w (codes "asciiword") then Asciiword else (if bytes_eq w (codes "word") then Word else (if bytes_eq w (codes "numword") then Numword else (if bytes_eq w (codes "sfloat") then Sfloat else (if bytes_eq w (codes "version") then Version else (if bytes_eq w (codes "hword_numpart") then HwordNumpart else (if bytes_eq w (codes "hword_part") then HwordPart else (if bytes_eq w (codes "hword_asciipart") then HwordAsciipart else (if bytes_eq w (codes "blank") then Blank else (if bytes_eq w (codes "numhword") then Numhword else (if bytes_eq w (codes "asciihword") then Asciihword else (if bytes_eq w (codes "hword") then Hword else (if bytes_eq w (codes "float") then Float else (if bytes_eq w (codes "int") then Int else Uint)))))))))))))
+named w = if bytes_eq w (codes "asciiword") then Asciiword else (if bytes_eq w (codes "word") then Word
+    else (if bytes_eq w (codes "numword") then Numword else (if bytes_eq w (codes "sfloat") then Sfloat
+    else (if bytes_eq w (codes "version") then Version else (if bytes_eq w (codes "hword_numpart") then HwordNumpart
+    else (if bytes_eq w (codes "hword_part") then HwordPart else (if bytes_eq w (codes "hword_asciipart") then
+    HwordAsciipart else (if bytes_eq w (codes "blank") then Blank else (if bytes_eq w (codes "numhword") then Numhword
+    else (if bytes_eq w (codes "asciihword") then Asciihword else (if bytes_eq w (codes "hword") then Hword
+    else (if bytes_eq w (codes "float") then Float else (if bytes_eq w (codes "int") then Int else Uint)))))))))))))
 
 named_is : (k : TokenType) → named (type_name k) ≡ k
 named_is Asciiword = refl
@@ -25,7 +33,10 @@ named_is Int = refl
 named_is Uint = refl
 
 abbrev numbered : ℕ → TokenType
-numbered i = if i == 1 then Asciiword else (if i == 2 then Word else (if i == 3 then Numword else (if i == 7 then Sfloat else (if i == 8 then Version else (if i == 9 then HwordNumpart else (if i == 10 then HwordPart else (if i == 11 then HwordAsciipart else (if i == 12 then Blank else (if i == 15 then Numhword else (if i == 16 then Asciihword else (if i == 17 then Hword else (if i == 20 then Float else (if i == 21 then Int else Uint)))))))))))))
+numbered i = if i == 1 then Asciiword else (if i == 2 then Word else (if i == 3 then Numword else (if i == 7 then Sfloat
+    else (if i == 8 then Version else (if i == 9 then HwordNumpart else (if i == 10 then HwordPart else (if i == 11
+    then HwordAsciipart else (if i == 12 then Blank else (if i == 15 then Numhword else (if i == 16 then Asciihword
+    else (if i == 17 then Hword else (if i == 20 then Float else (if i == 21 then Int else Uint)))))))))))))
 
 numbered_is : (k : TokenType) → numbered (type_number k) ≡ k
 numbered_is Asciiword = refl

@@ -1,7 +1,8 @@
 -- Which tokens a byte can begin.
 use Rattle.std.proofs.Common.{◌≡◌, ◌≢◌, ℕ, List, ◌∷◌, ◌⊎◌, refl, arith, inr}
 use Rattle.ts_query.specs.Queries.{Joint}
-use Rattle.ts_query.specs.Tokens.{QueryToken, closing, sign, bang, opening, Lex, space, not_sign, open_sign, close_sign, and_sign, or_sign, phrase_sign, quoted, plain, escape, IsDelimiter}
+use Rattle.ts_query.specs.Tokens.{QueryToken, closing, sign, bang, opening, Lex, space, not_sign, open_sign, close_sign}
+use Rattle.ts_query.specs.Tokens.{and_sign, or_sign, phrase_sign, quoted, plain, escape, IsDelimiter}
 use Rattle.ts_base.specs.Bytes.{IsWhite}
 use Rattle.ts_query.specs.Inner.Frames.{Spot, IsDue}
 use Rattle.ts_query.specs.Inner.Parsing.{Never}
@@ -23,16 +24,19 @@ abbrev pub IsBehind : ℕ → Type 0
 IsBehind c = (c ≡ 38) ⊎ ((c ≡ 41) ⊎ ((c ≡ 124) ⊎ ((c ≡ 60) ⊎ (c ≡ 58))))
 
 -- such a byte between tokens begins no operand
-pub behind_starts : (n c : ℕ) (u : List ℕ) (ks : List QueryToken) → IsBehind c → Lex n (c ∷ u) ks → Starts BehindOperand ks
+pub behind_starts : (n c : ℕ) (u : List ℕ) (ks : List QueryToken) → IsBehind c → Lex n (c ∷ u) ks
+    → Starts BehindOperand ks
 behind_starts n c u ks k (space _ _ _ _ h w) = absurd (let no : ⊥ = grind arith in no)
 behind_starts n c u ks k (not_sign _ _ _ w) = absurd (let no : ⊥ = grind arith in no)
 behind_starts n c u ks k (open_sign _ _ _ w) = absurd (let no : ⊥ = grind arith in no)
 behind_starts n c u ks k (close_sign _ _ rest w) = record { k = closing; rest = rest; is = refl; kind = close_behind }
 behind_starts n c u ks k (and_sign _ _ rest w) = record { k = _; rest = rest; is = refl; kind = sign_behind _ _ }
 behind_starts n c u ks k (or_sign _ _ rest w) = record { k = _; rest = rest; is = refl; kind = sign_behind _ _ }
-behind_starts n c u ks k (phrase_sign _ _ _ _ rest d w) = record { k = _; rest = rest; is = refl; kind = sign_behind _ _ }
+behind_starts n c u ks k (phrase_sign _ _ _ _ rest d w) =
+    record { k = _; rest = rest; is = refl; kind = sign_behind _ _ }
 behind_starts n c u ks k (quoted _ _ _ _ _ _ _ q ne b w) = absurd (let no : ⊥ = grind arith in no)
-behind_starts n c u ks k (plain _ _ _ _ _ _ _ _ p m q b w) = absurd (let d : ¬ IsDelimiter c = λ x. p.no_end (inr x) in let no : ⊥ = grind arith in no)
+behind_starts n c u ks k (plain _ _ _ _ _ _ _ _ p m q b w) =
+    absurd (let d : ¬ IsDelimiter c = λ x. p.no_end (inr x) in let no : ⊥ = grind arith in no)
 behind_starts n c u ks k (escape _ _ _ _ _ _ _ _ q b w) = absurd (let no : ⊥ = grind arith in no)
 
 -- neither white space nor one of `&`, `)`, `|` and `<`
@@ -52,6 +56,9 @@ other_starts n c u ks k (close_sign _ _ rest w) = absurd (k.no_close refl)
 other_starts n c u ks k (and_sign _ _ rest w) = absurd (k.no_and refl)
 other_starts n c u ks k (or_sign _ _ rest w) = absurd (k.no_or refl)
 other_starts n c u ks k (phrase_sign _ _ _ _ rest d w) = absurd (k.no_less refl)
-other_starts n c u ks k (quoted _ _ _ _ _ o rest q ne b w) = record { k = _; rest = rest; is = refl; kind = word_begins _ o }
-other_starts n c u ks k (plain _ _ _ _ _ _ o rest p m q b w) = record { k = _; rest = rest; is = refl; kind = word_begins _ o }
-other_starts n c u ks k (escape _ _ _ _ _ _ o rest q b w) = record { k = _; rest = rest; is = refl; kind = word_begins _ o }
+other_starts n c u ks k (quoted _ _ _ _ _ o rest q ne b w) =
+    record { k = _; rest = rest; is = refl; kind = word_begins _ o }
+other_starts n c u ks k (plain _ _ _ _ _ _ o rest p m q b w) =
+    record { k = _; rest = rest; is = refl; kind = word_begins _ o }
+other_starts n c u ks k (escape _ _ _ _ _ _ o rest q b w) =
+    record { k = _; rest = rest; is = refl; kind = word_begins _ o }

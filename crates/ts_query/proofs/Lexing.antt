@@ -4,11 +4,17 @@ use Rattle.ts_base.specs.declared.Weight.{Weight}
 use Rattle.ts_base.specs.declared.Weight.TheVariants.{A, B, C, D}
 use Rattle.ts_base.specs.declared.Weights.{Weights}
 use Rattle.ts_query.specs.Queries.{Operand, or_joint, and_joint, phrase_joint}
-use Rattle.ts_query.specs.Tokens.{QueryToken, word, bang, opening, closing, sign, IsDelimiter, IsMark, BeginsWithMark, no_weights, with_weight, Marks, unmarked, star, letter, operand, BehindLexeme, bare, marked, DistanceNumber, over, digit, Distance, arrow, number, offset, Lex, space, not_sign, open_sign, close_sign, and_sign, or_sign, phrase_sign, quoted, plain, escape, EndsOperand}
+use Rattle.ts_query.specs.Tokens.{QueryToken, word, bang, opening, closing, sign, IsDelimiter, IsMark, BeginsWithMark}
+use Rattle.ts_query.specs.Tokens.{no_weights, with_weight, Marks, unmarked, star, letter, operand, BehindLexeme, bare}
+use Rattle.ts_query.specs.Tokens.{marked, DistanceNumber, over, digit, Distance, arrow, number, offset, Lex, space}
+use Rattle.ts_query.specs.Tokens.{not_sign, open_sign, close_sign, and_sign, or_sign, phrase_sign, quoted, plain}
+use Rattle.ts_query.specs.Tokens.{escape, EndsOperand}
 use Rattle.ts_base.specs.Bytes.{IsWhite, IsDigit, IsLetter}
 use Rattle.ts_base.specs.Plain.{IsPlain}
 use Rattle.ts_base.specs.Digits.{with_digit}
-use Rattle.ts_query.specs.Inner.Lexer.{between, behind_quote, in_plain, in_marks, behind_dash, in_digits, WordOn, BehindLexemeOn, OperandQuoted, OperandQuote, OperandPlain, MarksOn, SignOn, LessOn, DashOn, DigitsOn, LexerRest, Ready}
+use Rattle.ts_query.specs.Inner.Lexer.{between, behind_quote, in_plain, in_marks, behind_dash, in_digits, WordOn}
+use Rattle.ts_query.specs.Inner.Lexer.{BehindLexemeOn, OperandQuoted, OperandQuote, OperandPlain, MarksOn, SignOn}
+use Rattle.ts_query.specs.Inner.Lexer.{LessOn, DashOn, DigitsOn, LexerRest, Ready}
 use Rattle.ts_base.specs.Inner.Residuals.{EscapedOn}
 use Rattle.ts_base.proofs.ByteKinds.{white_39, white_92, white_58, letter_ascii, letter_one}
 use Rattle.ts_base.proofs.QuotedTexts.{quote_other}
@@ -87,18 +93,23 @@ module _ (n : ℕ) where
   lex_quote u ks (plain _ _ _ _ _ _ _ _ p m q b w) = absurd (m refl)
 
   pub quote_lex : (u : List ℕ) (ks : List QueryToken) → OperandQuoted n (offset n (39 ∷ u)) [] u ks → Lex n (39 ∷ u) ks
-  quote_lex u ks (l, m, q, ne, b) = let w = b.3 in subst (λ x. Lex n (39 ∷ u) x) (sym w.1) (quoted n u l m b.1 b.0 w.0 q ne b.2 w.2)
+  quote_lex u ks (l, m, q, ne, b) =
+      let w = b.3 in subst (λ x. Lex n (39 ∷ u) x) (sym w.1) (quoted n u l m b.1 b.0 w.0 q ne b.2 w.2)
 
-  pub lex_escape : (u : List ℕ) (ks : List QueryToken) → Lex n (92 ∷ u) ks → EscapedOn (List QueryToken) (OperandPlain n (offset n (92 ∷ u))) [] u ks
+  pub lex_escape : (u : List ℕ) (ks : List QueryToken) → Lex n (92 ∷ u) ks
+      → EscapedOn (List QueryToken) (OperandPlain n (offset n (92 ∷ u))) [] u ks
   lex_escape u ks (space _ _ _ _ h w) = absurd (white_92 h)
   lex_escape u ks (plain _ _ _ _ _ _ _ _ p m q b w) = absurd (p.no_escape refl)
   lex_escape u ks (escape _ c v l m r o rest q b w) = (l, m, q, (o, r, b, (rest, refl, w)))
 
-  pub escape_lex : (u : List ℕ) (ks : List QueryToken) → EscapedOn (List QueryToken) (OperandPlain n (offset n (92 ∷ u))) [] u ks → Lex n (92 ∷ u) ks
+  pub escape_lex : (u : List ℕ) (ks : List QueryToken)
+      → EscapedOn (List QueryToken) (OperandPlain n (offset n (92 ∷ u))) [] u ks → Lex n (92 ∷ u) ks
   escape_lex [] ks h = absurd h
-  escape_lex (c ∷ u) ks (l, m, q, b) = let w = b.3 in subst (λ x. Lex n (92 ∷ c ∷ u) x) (sym w.1) (escape n c u l m b.1 b.0 w.0 q b.2 w.2)
+  escape_lex (c ∷ u) ks (l, m, q, b) =
+      let w = b.3 in subst (λ x. Lex n (92 ∷ c ∷ u) x) (sym w.1) (escape n c u l m b.1 b.0 w.0 q b.2 w.2)
 
-  pub lex_plain : (c : ℕ) (u : List ℕ) (ks : List QueryToken) → IsPlain EndsOperand c → c ≢ 39 → Lex n (c ∷ u) ks → OperandPlain n (offset n (c ∷ u)) (c ∷ []) u ks
+  pub lex_plain : (c : ℕ) (u : List ℕ) (ks : List QueryToken) → IsPlain EndsOperand c → c ≢ 39 → Lex n (c ∷ u) ks
+      → OperandPlain n (offset n (c ∷ u)) (c ∷ []) u ks
   lex_plain c u ks k e (space _ _ _ _ h w) = absurd (k.no_end (inl h))
   lex_plain c u ks k e (not_sign _ _ _ w) = absurd (k.no_end (inr delimiter_33))
   lex_plain c u ks k e (open_sign _ _ _ w) = absurd (k.no_end (inr delimiter_40))
@@ -110,8 +121,10 @@ module _ (n : ℕ) where
   lex_plain c u ks k e (plain _ _ _ l m r o rest _ _ q b w) = (l, m, q, (o, r, b, (rest, refl, w)))
   lex_plain c u ks k e (escape _ _ _ _ _ _ _ _ q b w) = absurd (k.no_escape refl)
 
-  pub plain_lex : (c : ℕ) (u : List ℕ) (ks : List QueryToken) → IsPlain EndsOperand c → c ≢ 39 → OperandPlain n (offset n (c ∷ u)) (c ∷ []) u ks → Lex n (c ∷ u) ks
-  plain_lex c u ks k e (l, m, q, b) = let w = b.3 in subst (λ x. Lex n (c ∷ u) x) (sym w.1) (plain n c u l m b.1 b.0 w.0 k e q b.2 w.2)
+  pub plain_lex : (c : ℕ) (u : List ℕ) (ks : List QueryToken) → IsPlain EndsOperand c → c ≢ 39
+      → OperandPlain n (offset n (c ∷ u)) (c ∷ []) u ks → Lex n (c ∷ u) ks
+  plain_lex c u ks k e (l, m, q, b) =
+      let w = b.3 in subst (λ x. Lex n (c ∷ u) x) (sym w.1) (plain n c u l m b.1 b.0 w.0 k e q b.2 w.2)
 
   pub lex_less : (u : List ℕ) (ks : List QueryToken) → Lex n (60 ∷ u) ks → LessOn n (offset n (60 ∷ u)) u ks
   lex_less u ks (space _ _ _ _ h w) = absurd (white_60 h)
@@ -122,57 +135,69 @@ module _ (n : ℕ) where
   less_lex u ks (d, r, s, w) = subst (λ x. Lex n (60 ∷ u) x) (sym w.1) (phrase_sign n d u r w.0 s w.2)
 
   -- tokens of one byte
-  pub lex_bang : (u : List ℕ) (ks : List QueryToken) → Lex n (33 ∷ u) ks → (rest : List QueryToken) × (ks ≡ bang ∷ rest) × Lex n u rest
+  pub lex_bang : (u : List ℕ) (ks : List QueryToken) → Lex n (33 ∷ u) ks
+      → (rest : List QueryToken) × (ks ≡ bang ∷ rest) × Lex n u rest
   lex_bang u ks (space _ _ _ _ h w) = absurd (white_33 h)
   lex_bang u ks (not_sign _ _ rest w) = (rest, refl, w)
   lex_bang u ks (plain _ _ _ _ _ _ _ _ p m q b w) = absurd (p.no_end (inr delimiter_33))
 
-  pub lex_open : (u : List ℕ) (ks : List QueryToken) → Lex n (40 ∷ u) ks → (rest : List QueryToken) × (ks ≡ opening ∷ rest) × Lex n u rest
+  pub lex_open : (u : List ℕ) (ks : List QueryToken) → Lex n (40 ∷ u) ks
+      → (rest : List QueryToken) × (ks ≡ opening ∷ rest) × Lex n u rest
   lex_open u ks (space _ _ _ _ h w) = absurd (white_40 h)
   lex_open u ks (open_sign _ _ rest w) = (rest, refl, w)
   lex_open u ks (plain _ _ _ _ _ _ _ _ p m q b w) = absurd (p.no_end (inr delimiter_40))
 
-  pub lex_close : (u : List ℕ) (ks : List QueryToken) → Lex n (41 ∷ u) ks → (rest : List QueryToken) × (ks ≡ closing ∷ rest) × Lex n u rest
+  pub lex_close : (u : List ℕ) (ks : List QueryToken) → Lex n (41 ∷ u) ks
+      → (rest : List QueryToken) × (ks ≡ closing ∷ rest) × Lex n u rest
   lex_close u ks (space _ _ _ _ h w) = absurd (white_41 h)
   lex_close u ks (close_sign _ _ rest w) = (rest, refl, w)
   lex_close u ks (plain _ _ _ _ _ _ _ _ p m q b w) = absurd (p.no_end (inr delimiter_41))
 
-  pub lex_and : (u : List ℕ) (ks : List QueryToken) → Lex n (38 ∷ u) ks → (rest : List QueryToken) × (ks ≡ sign (offset n (38 ∷ u)) and_joint ∷ rest) × Lex n u rest
+  pub lex_and : (u : List ℕ) (ks : List QueryToken) → Lex n (38 ∷ u) ks
+      → (rest : List QueryToken) × (ks ≡ sign (offset n (38 ∷ u)) and_joint ∷ rest) × Lex n u rest
   lex_and u ks (space _ _ _ _ h w) = absurd (white_38 h)
   lex_and u ks (and_sign _ _ rest w) = (rest, refl, w)
   lex_and u ks (plain _ _ _ _ _ _ _ _ p m q b w) = absurd (p.no_end (inr delimiter_38))
 
-  pub lex_or : (u : List ℕ) (ks : List QueryToken) → Lex n (124 ∷ u) ks → (rest : List QueryToken) × (ks ≡ sign (offset n (124 ∷ u)) or_joint ∷ rest) × Lex n u rest
+  pub lex_or : (u : List ℕ) (ks : List QueryToken) → Lex n (124 ∷ u) ks
+      → (rest : List QueryToken) × (ks ≡ sign (offset n (124 ∷ u)) or_joint ∷ rest) × Lex n u rest
   lex_or u ks (space _ _ _ _ h w) = absurd (white_124 h)
   lex_or u ks (or_sign _ _ rest w) = (rest, refl, w)
   lex_or u ks (plain _ _ _ _ _ _ _ _ p m q b w) = absurd (p.no_end (inr delimiter_124))
 
   -- ── after a lexeme ──
   module _ (s : ℕ) (a : List ℕ) where
-    behind_colon : (u r : List ℕ) (o : Operand) (ks : List QueryToken) → BehindLexeme a (58 ∷ u) o r → WordOn n s o r ks → MarksOn n s a no_weights false u ks
+    behind_colon : (u r : List ℕ) (o : Operand) (ks : List QueryToken) → BehindLexeme a (58 ∷ u) o r → WordOn n s o r ks
+        → MarksOn n s a no_weights false u ks
     behind_colon u r o ks (bare _ _) h = absurd (colon_never n u h.0 h.2)
     behind_colon u r o ks (marked _ _ _ w p m) h = (w, p, r, m, h)
 
-    pub colon_to : (u : List ℕ) (ks : List QueryToken) → BehindLexemeOn n s a (58 ∷ u) ks → MarksOn n s a no_weights false u ks
+    pub colon_to : (u : List ℕ) (ks : List QueryToken) → BehindLexemeOn n s a (58 ∷ u) ks
+        → MarksOn n s a no_weights false u ks
     colon_to u ks (o, r, b, h) = behind_colon u r o ks b h
 
-    pub colon_from : (u : List ℕ) (ks : List QueryToken) → MarksOn n s a no_weights false u ks → BehindLexemeOn n s a (58 ∷ u) ks
+    pub colon_from : (u : List ℕ) (ks : List QueryToken) → MarksOn n s a no_weights false u ks
+        → BehindLexemeOn n s a (58 ∷ u) ks
     colon_from u ks (w, p, r, m, h) = (operand a w p, r, marked a u r w p m, h)
 
-    behind_other : (c : ℕ) (u r : List ℕ) (o : Operand) (ks : List QueryToken) → c ≢ 58 → BehindLexeme a (c ∷ u) o r → WordOn n s o r ks → WordOn n s (operand a no_weights false) (c ∷ u) ks
+    behind_other : (c : ℕ) (u r : List ℕ) (o : Operand) (ks : List QueryToken) → c ≢ 58 → BehindLexeme a (c ∷ u) o r
+        → WordOn n s o r ks → WordOn n s (operand a no_weights false) (c ∷ u) ks
     behind_other c u r o ks e (bare _ _) h = h
     behind_other c u r o ks e (marked _ _ _ w p m) h = absurd (e refl)
 
-    other_to : (c : ℕ) (u : List ℕ) (ks : List QueryToken) → c ≢ 58 → BehindLexemeOn n s a (c ∷ u) ks → WordOn n s (operand a no_weights false) (c ∷ u) ks
+    other_to : (c : ℕ) (u : List ℕ) (ks : List QueryToken) → c ≢ 58 → BehindLexemeOn n s a (c ∷ u) ks
+        → WordOn n s (operand a no_weights false) (c ∷ u) ks
     other_to c u ks e (o, r, b, h) = behind_other c u r o ks e b h
 
-    behind_end : (r : List ℕ) (o : Operand) (ks : List QueryToken) → BehindLexeme a [] o r → WordOn n s o r ks → WordOn n s (operand a no_weights false) [] ks
+    behind_end : (r : List ℕ) (o : Operand) (ks : List QueryToken) → BehindLexeme a [] o r → WordOn n s o r ks
+        → WordOn n s (operand a no_weights false) [] ks
     behind_end r o ks (bare _ _) h = h
 
     end_to : (ks : List QueryToken) → BehindLexemeOn n s a [] ks → WordOn n s (operand a no_weights false) [] ks
     end_to ks (o, r, b, h) = behind_end r o ks b h
 
-    word_from : (u : List ℕ) (rest : List QueryToken) → Lex n u rest → BehindLexemeOn n s a u (word s (operand a no_weights false) ∷ rest)
+    word_from : (u : List ℕ) (rest : List QueryToken) → Lex n u rest
+        → BehindLexemeOn n s a u (word s (operand a no_weights false) ∷ rest)
     word_from u rest w = (operand a no_weights false, u, bare a u, (rest, refl, w))
 
 -- ── marks ──
@@ -216,18 +241,23 @@ module _ (n s : ℕ) (l : List ℕ) (w : Weights) (p : Bool) where
   pub star_from : (u : List ℕ) (ks : List QueryToken) → MarksOn n s l w true u ks → MarksOn n s l w p (42 ∷ u) ks
   star_from u ks (v, q, r, m, h) = (v, q, r, star w v p q u r m, h)
 
-  pub letter_on : (c : ℕ) (x : Weight) (u r : List ℕ) (v : Weights) (q : Bool) → IsLetter c x → Marks w p (c ∷ u) v q r → Marks (with_weight x w) p u v q r
+  pub letter_on : (c : ℕ) (x : Weight) (u r : List ℕ) (v : Weights) (q : Bool) → IsLetter c x → Marks w p (c ∷ u) v q r
+      → Marks (with_weight x w) p u v q r
   letter_on c x u r v q k (unmarked _ _ _ m) = absurd (m (inr (x, k)))
   letter_on c x u r v q k (star _ _ _ _ _ _ m) = absurd (letter_42 x k)
-  letter_on c x u r v q k (letter _ y _ _ _ _ _ _ h m) = subst (λ z. Marks (with_weight z w) p u v q r) (letter_one c y x h k) m
+  letter_on c x u r v q k (letter _ y _ _ _ _ _ _ h m) =
+      subst (λ z. Marks (with_weight z w) p u v q r) (letter_one c y x h k) m
 
-  pub letter_to : (c : ℕ) (x : Weight) (u : List ℕ) (ks : List QueryToken) → IsLetter c x → MarksOn n s l w p (c ∷ u) ks → MarksOn n s l (with_weight x w) p u ks
+  pub letter_to : (c : ℕ) (x : Weight) (u : List ℕ) (ks : List QueryToken) → IsLetter c x → MarksOn n s l w p (c ∷ u) ks
+      → MarksOn n s l (with_weight x w) p u ks
   letter_to c x u ks k (v, q, r, m, h) = (v, q, r, letter_on c x u r v q k m, h)
 
-  pub letter_from : (c : ℕ) (x : Weight) (u : List ℕ) (ks : List QueryToken) → IsLetter c x → MarksOn n s l (with_weight x w) p u ks → MarksOn n s l w p (c ∷ u) ks
+  pub letter_from : (c : ℕ) (x : Weight) (u : List ℕ) (ks : List QueryToken) → IsLetter c x
+      → MarksOn n s l (with_weight x w) p u ks → MarksOn n s l w p (c ∷ u) ks
   letter_from c x u ks k (v, q, r, m, h) = (v, q, r, letter c x w v p q u r k m, h)
 
-  marks_over : (u r : List ℕ) (v : Weights) (q : Bool) (ks : List QueryToken) → ¬ BeginsWithMark u → Marks w p u v q r → WordOn n s (operand l v q) r ks → WordOn n s (operand l w p) u ks
+  marks_over : (u r : List ℕ) (v : Weights) (q : Bool) (ks : List QueryToken) → ¬ BeginsWithMark u → Marks w p u v q r
+      → WordOn n s (operand l v q) r ks → WordOn n s (operand l w p) u ks
   marks_over u r v q ks k (unmarked _ _ _ m) h = h
   marks_over u r v q ks k (star _ _ _ _ _ _ m) h = absurd (k (inl refl))
   marks_over u r v q ks k (letter _ x _ _ _ _ _ _ e m) h = absurd (k (inr (x, e)))
@@ -246,7 +276,8 @@ pub digit_62 : ¬ IsDigit 62
 digit_62 h = omega arith
 
 module _ (n s : ℕ) where
-  dash_on : (u : List ℕ) (d : ℕ) (r : List ℕ) (ks : List QueryToken) → Distance (45 ∷ u) d r → SignOn n s d r ks → DashOn n s u ks
+  dash_on : (u : List ℕ) (d : ℕ) (r : List ℕ) (ks : List QueryToken) → Distance (45 ∷ u) d r → SignOn n s d r ks
+      → DashOn n s u ks
   dash_on u d r ks (arrow _) h = (refl, h)
   dash_on u d r ks (number _ _ _ _ k m) h = absurd (digit_45 k)
 
@@ -257,14 +288,17 @@ module _ (n s : ℕ) where
   dash_from [] ks h = absurd h
   dash_from (c ∷ u) ks (e, h) = (1, u, subst (λ x. Distance (45 ∷ x ∷ u) 1 u) (sym e) (arrow u), h)
 
-  pub number_on : (c : ℕ) (u : List ℕ) (d : ℕ) (r : List ℕ) → IsDigit c → Distance (c ∷ u) d r → DistanceNumber (with_digit PAST_DISTANCE 0 c) u d r
+  pub number_on : (c : ℕ) (u : List ℕ) (d : ℕ) (r : List ℕ) → IsDigit c → Distance (c ∷ u) d r
+      → DistanceNumber (with_digit PAST_DISTANCE 0 c) u d r
   number_on c u d r k (arrow _) = absurd (digit_45 k)
   number_on c u d r k (number _ _ _ _ _ m) = m
 
-  pub number_to : (c : ℕ) (u : List ℕ) (ks : List QueryToken) → IsDigit c → LessOn n s (c ∷ u) ks → DigitsOn n s (with_digit PAST_DISTANCE 0 c) u ks
+  pub number_to : (c : ℕ) (u : List ℕ) (ks : List QueryToken) → IsDigit c → LessOn n s (c ∷ u) ks
+      → DigitsOn n s (with_digit PAST_DISTANCE 0 c) u ks
   number_to c u ks k (d, r, m, h) = (d, r, number_on c u d r k m, h)
 
-  pub number_from : (c : ℕ) (u : List ℕ) (ks : List QueryToken) → IsDigit c → DigitsOn n s (with_digit PAST_DISTANCE 0 c) u ks → LessOn n s (c ∷ u) ks
+  pub number_from : (c : ℕ) (u : List ℕ) (ks : List QueryToken) → IsDigit c
+      → DigitsOn n s (with_digit PAST_DISTANCE 0 c) u ks → LessOn n s (c ∷ u) ks
   number_from c u ks k (d, r, m, h) = (d, r, number c d u r k m, h)
 
   less_other : (c : ℕ) (u : List ℕ) (d : ℕ) (r : List ℕ) → ¬ IsDigit c → c ≢ 45 → ¬ Distance (c ∷ u) d r
@@ -281,14 +315,17 @@ module _ (n s : ℕ) where
   less_ends ks (d, r, m, h) = less_end d r m
 
   module _ (m : ℕ) where
-    pub digit_on : (c : ℕ) (u : List ℕ) (d : ℕ) (r : List ℕ) → IsDigit c → DistanceNumber m (c ∷ u) d r → DistanceNumber (with_digit PAST_DISTANCE m c) u d r
+    pub digit_on : (c : ℕ) (u : List ℕ) (d : ℕ) (r : List ℕ) → IsDigit c → DistanceNumber m (c ∷ u) d r
+        → DistanceNumber (with_digit PAST_DISTANCE m c) u d r
     digit_on c u d r k (over _ _) = absurd (digit_62 k)
     digit_on c u d r k (digit _ _ _ _ _ _ h) = h
 
-    pub digit_to : (c : ℕ) (u : List ℕ) (ks : List QueryToken) → IsDigit c → DigitsOn n s m (c ∷ u) ks → DigitsOn n s (with_digit PAST_DISTANCE m c) u ks
+    pub digit_to : (c : ℕ) (u : List ℕ) (ks : List QueryToken) → IsDigit c → DigitsOn n s m (c ∷ u) ks
+        → DigitsOn n s (with_digit PAST_DISTANCE m c) u ks
     digit_to c u ks k (d, r, h, w) = (d, r, digit_on c u d r k h, w)
 
-    pub digit_from : (c : ℕ) (u : List ℕ) (ks : List QueryToken) → IsDigit c → DigitsOn n s (with_digit PAST_DISTANCE m c) u ks → DigitsOn n s m (c ∷ u) ks
+    pub digit_from : (c : ℕ) (u : List ℕ) (ks : List QueryToken) → IsDigit c
+        → DigitsOn n s (with_digit PAST_DISTANCE m c) u ks → DigitsOn n s m (c ∷ u) ks
     digit_from c u ks k (d, r, h, w) = (d, r, digit c m d u r k h, w)
 
     digits_other : (c : ℕ) (u : List ℕ) (d : ℕ) (r : List ℕ) → ¬ IsDigit c → c ≢ 62 → ¬ DistanceNumber m (c ∷ u) d r
@@ -304,7 +341,8 @@ module _ (n s : ℕ) where
     pub digits_ends : (ks : List QueryToken) → ¬ DigitsOn n s m [] ks
     digits_ends ks (d, r, h, w) = digits_end d r h
 
-    digits_over : (u : List ℕ) (d : ℕ) (r : List ℕ) (ks : List QueryToken) → DistanceNumber m (62 ∷ u) d r → SignOn n s d r ks → SignOn n s m u ks
+    digits_over : (u : List ℕ) (d : ℕ) (r : List ℕ) (ks : List QueryToken) → DistanceNumber m (62 ∷ u) d r
+        → SignOn n s d r ks → SignOn n s m u ks
     digits_over u d r ks (over _ _) w = w
     digits_over u d r ks (digit _ _ _ _ _ h _) w = absurd (digit_62 h)
 
@@ -322,7 +360,8 @@ module _ (n s : ℕ) where
 
 -- ── an operand is over ──
 module _ (n s : ℕ) (a : List ℕ) where
-  pub quote_ready : (c : ℕ) (u : List ℕ) → a ≢ [] → c ≢ 39 → c ≢ 58 → Ready n (behind_quote s a) (word s (operand a no_weights false)) (c ∷ u) (c ∷ u)
+  pub quote_ready : (c : ℕ) (u : List ℕ) → a ≢ [] → c ≢ 39 → c ≢ 58
+      → Ready n (behind_quote s a) (word s (operand a no_weights false)) (c ∷ u) (c ∷ u)
   quote_ready c u ne e f = record {
     to = λ ks h. other_to n s a c u ks f (quote_other (List QueryToken) (BehindLexemeOn n s) a c u ks e h).1;
     from = λ rest w. inr (e, ne, word_from n s a (c ∷ u) rest w);
@@ -331,16 +370,20 @@ module _ (n s : ℕ) (a : List ℕ) where
   pub quote_ready_end : a ≢ [] → Ready n (behind_quote s a) (word s (operand a no_weights false)) [] []
   quote_ready_end ne = record { to = λ ks h. end_to n s a ks h.1; from = λ rest w. (ne, word_from n s a [] rest w) }
 
-  pub plain_ready : (c : ℕ) (u : List ℕ) → EndsOperand c → c ≢ 58 → Ready n (in_plain s a) (word s (operand a no_weights false)) (c ∷ u) (c ∷ u)
+  pub plain_ready : (c : ℕ) (u : List ℕ) → EndsOperand c → c ≢ 58
+      → Ready n (in_plain s a) (word s (operand a no_weights false)) (c ∷ u) (c ∷ u)
   plain_ready c u k f = record {
-    to = λ ks h. other_to n s a c u ks f (plain_over_to (List QueryToken) EndsOperand (BehindLexemeOn n s) a c u ks end_92 k h);
-    from = λ rest w. plain_over_from (List QueryToken) EndsOperand (BehindLexemeOn n s) a c u (word s (operand a no_weights false) ∷ rest) k (word_from n s a (c ∷ u) rest w);
+    to = λ ks h. other_to n s a c u ks f
+        (plain_over_to (List QueryToken) EndsOperand (BehindLexemeOn n s) a c u ks end_92 k h);
+    from = λ rest w. plain_over_from (List QueryToken) EndsOperand (BehindLexemeOn n s) a c u
+        (word s (operand a no_weights false) ∷ rest) k (word_from n s a (c ∷ u) rest w);
   }
 
   pub plain_ready_end : Ready n (in_plain s a) (word s (operand a no_weights false)) [] []
   plain_ready_end = record {
     to = λ ks h. end_to n s a ks (plain_end_to (List QueryToken) EndsOperand (BehindLexemeOn n s) a ks h);
-    from = λ rest w. plain_end_from (List QueryToken) EndsOperand (BehindLexemeOn n s) a (word s (operand a no_weights false) ∷ rest) (word_from n s a [] rest w);
+    from = λ rest w. plain_end_from (List QueryToken) EndsOperand (BehindLexemeOn n s) a
+        (word s (operand a no_weights false) ∷ rest) (word_from n s a [] rest w);
   }
 
 -- an empty quoted lexeme has to go on
@@ -348,7 +391,8 @@ empty_other : (n s c : ℕ) (a u : List ℕ) (ks : List QueryToken) → a ≡ []
 empty_other n s c a u ks e m (inl (f, h)) = m f
 empty_other n s c a u ks e m (inr (k, ne, w)) = ne e
 
-pub empty_quote_never : (n s c : ℕ) (a u : List ℕ) (ks : List QueryToken) → a ≡ [] → c ≢ 39 → ¬ LexerRest n (behind_quote s a) (c ∷ u) ks
+pub empty_quote_never : (n s c : ℕ) (a u : List ℕ) (ks : List QueryToken) → a ≡ [] → c ≢ 39
+    → ¬ LexerRest n (behind_quote s a) (c ∷ u) ks
 empty_quote_never n s c a u ks e m h = empty_other n s c a u ks e m h
 
 -- ── tokens of one byte ──

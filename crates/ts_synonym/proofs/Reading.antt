@@ -1,5 +1,6 @@
 -- A list of synonyms, line after line of a text.
-use Rattle.std.proofs.Common.{◌≡◌, ℕ, ◌+◌, ◌≤◌, List, [], ◌∷◌, ◌++◌, Bool, length, refl, sym, ◌∙◌, ap, subst, Some, None, arith, length-append}
+use Rattle.std.proofs.Common.{◌≡◌, ℕ, ◌+◌, ◌≤◌, List, [], ◌∷◌, ◌++◌, Bool, length, refl, sym, ◌∙◌, ap, subst, Some}
+use Rattle.std.proofs.Common.{None, arith, length-append}
 use Rattle.std.specs.Str.Lines.{lines}
 use Rattle.std.specs.Str.Iter.{lines_steps, lines_rest}
 use Rattle.std.specs.declared.str.Lines.{Lines}
@@ -18,10 +19,12 @@ pub record Progress (sensitive : Bool) (text : List ℕ) (s : Lines) (kept : Syn
   pub list : IsSynonymList sensitive done kept
   pub count : number ≡ length done
 
-pub progress_start : (sensitive : Bool) (text : List ℕ) (s : Lines) (kept : Synonyms) → lines_rest s ≡ text → IsSynonymList sensitive [] kept → Progress sensitive text s kept 0
+pub progress_start : (sensitive : Bool) (text : List ℕ) (s : Lines) (kept : Synonyms) → lines_rest s ≡ text
+    → IsSynonymList sensitive [] kept → Progress sensitive text s kept 0
 progress_start sensitive text s kept e h = record { done = []; lines = lines_start text s e; list = h; count = refl }
 
-module _ (sensitive : Bool) (text : List ℕ) (s t : Lines) (old : Synonyms) (number : ℕ) (x : Bor (List ℕ)) (p : Progress sensitive text s old number) (k : lines_steps s (Some x) t) where
+module _ (sensitive : Bool) (text : List ℕ) (s t : Lines) (old : Synonyms) (number : ℕ) (x : Bor (List ℕ))
+    (p : Progress sensitive text s old number) (k : lines_steps s (Some x) t) where
   given : LineGiven text p.done x.now t
   given = line_given text p.done s t x p.lines k
 
@@ -31,9 +34,11 @@ module _ (sensitive : Bool) (text : List ℕ) (s t : Lines) (old : Synonyms) (nu
 
   first_bad : IsBadLine x.now → IsFirstLine IsBadLine (lines text) (number + 1)
   first_bad bad = subst (λ n. IsFirstLine IsBadLine (lines text) (n + 1)) (sym p.count)
-      (subst (λ ls. IsFirstLine IsBadLine ls (length p.done + 1)) (sym given.whole) (first_behind IsBadLine p.done given.more x.now p.list.fit bad))
+      (subst (λ ls. IsFirstLine IsBadLine ls (length p.done + 1)) (sym given.whole)
+      (first_behind IsBadLine p.done given.more x.now p.list.fit bad))
 
-  pub first_refused : (e : LineError) → IsBadFault IsBadLine x.now e → IsBadRefusal IsBadLine (lines text) (error_at e (number + 1))
+  pub first_refused : (e : LineError) → IsBadFault IsBadLine x.now e
+      → IsBadRefusal IsBadLine (lines text) (error_at e (number + 1))
   first_refused e f = refused_at IsBadLine (lines text) x.now (number + 1) e first_bad f
 
   pub progress_more : (new : Synonyms) → Adds x.now old new → Progress sensitive text t new (number + 1)
@@ -44,5 +49,7 @@ module _ (sensitive : Bool) (text : List ℕ) (s t : Lines) (old : Synonyms) (nu
     count = ap (λ n. n + 1) p.count ∙ sym (length-append p.done (x.now ∷ []));
   }
 
-pub progress_over : (sensitive : Bool) (text : List ℕ) (s t : Lines) (kept : Synonyms) (number : ℕ) → Progress sensitive text s kept number → lines_steps s None t → IsSynonymList sensitive (lines text) kept
-progress_over sensitive text s t kept number p k = subst (λ ls. IsSynonymList sensitive ls kept) (sym (lines_over text p.done s t p.lines k)) p.list
+pub progress_over : (sensitive : Bool) (text : List ℕ) (s t : Lines) (kept : Synonyms) (number : ℕ)
+    → Progress sensitive text s kept number → lines_steps s None t → IsSynonymList sensitive (lines text) kept
+progress_over sensitive text s t kept number p k =
+    subst (λ ls. IsSynonymList sensitive ls kept) (sym (lines_over text p.done s t p.lines k)) p.list

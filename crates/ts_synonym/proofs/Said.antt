@@ -11,11 +11,13 @@ use Rattle.ts_synonym.specs.Synonyms.{cased, HasTwoWords, IsMarked, GivesFor, Is
 pub one_pair : (line w r v s : List ℕ) → HasTwoWords line w r → HasTwoWords line v s → (w ≡ v) × (r ≡ s)
 one_pair line w r v s h k =
     let firsts = one_word line w v h.behind k.behind h.first k.first in
-    let seconds = one_word k.behind r s h.rest k.rest (subst (λ z. BeginsWithWord z r h.rest) firsts.1 h.second) k.second in
+    let seconds =
+    one_word k.behind r s h.rest k.rest (subst (λ z. BeginsWithWord z r h.rest) firsts.1 h.second) k.second in
     (firsts.0, seconds.0)
 
 -- after a first word there are only blanks, so there is no second
-pub no_second : (line word behind : List ℕ) → BeginsWithWord line word behind → All IsBlank behind → (w r : List ℕ) → ¬ HasTwoWords line w r
+pub no_second : (line word behind : List ℕ) → BeginsWithWord line word behind → All IsBlank behind → (w r : List ℕ)
+    → ¬ HasTwoWords line w r
 no_second line word behind b h w r t =
     let firsts = one_word line word w behind t.behind b t.first in
     no_first_word t.behind r (subst (All IsBlank) firsts.1 h) (t.rest, t.second)
@@ -44,16 +46,19 @@ one_mark r s t false true h k = absurd (h.1 t k)
 one_mark r s t false false h k = (sym h.0 ∙ k.0, refl)
 
 -- the words that a line gives something for are one
-pub one_given_word : (sensitive : Bool) (line v w : List ℕ) (f g : Found) → GivesFor sensitive line v f → GivesFor sensitive line w g → v ≡ w
+pub one_given_word : (sensitive : Bool) (line v w : List ℕ) (f g : Found) → GivesFor sensitive line v f
+    → GivesFor sensitive line w g → v ≡ w
 one_given_word sensitive line v w f g h k =
     let words = one_pair line h.written h.replacement k.written k.replacement h.words k.words in
     h.word_cased ∙ ap (cased sensitive) words.0 ∙ sym k.word_cased
 
 -- what a line gives is one
-pub one_given : (sensitive : Bool) (line v w : List ℕ) (f g : Found) → GivesFor sensitive line v f → GivesFor sensitive line w g → f ≡ g
+pub one_given : (sensitive : Bool) (line v w : List ℕ) (f g : Found) → GivesFor sensitive line v f
+    → GivesFor sensitive line w g → f ≡ g
 one_given sensitive line v w f g h k =
     let words = one_pair line h.written h.replacement k.written k.replacement h.words k.words in
-    let marks = one_mark k.replacement h.text k.text f.prefix g.prefix (subst (λ z. IsMarked z h.text f.prefix) words.1 h.marked) k.marked in
+    let marks = one_mark k.replacement h.text k.text f.prefix g.prefix
+    (subst (λ z. IsMarked z h.text f.prefix) words.1 h.marked) k.marked in
     let lexeme : f.lexeme ≡ g.lexeme = h.lexeme_cased ∙ ap (cased sensitive) marks.0 ∙ sym k.lexeme_cased in
     let prefix : f.prefix ≡ g.prefix = marks.1 in
     λ i. record { lexeme = lexeme i; prefix = prefix i }
@@ -65,7 +70,8 @@ no_bad line w r t ne b =
     ne (subst (λ z. IsBadPair z r) same.0 (subst (IsBadPair b.word) same.1 b.why))
 
 -- whatever a line of these words gives, it gives for the first of them
-pub given_for_first : (sensitive : Bool) (line w r word : List ℕ) (found : Found) → HasTwoWords line w r → GivesFor sensitive line word found → word ≡ cased sensitive w
+pub given_for_first : (sensitive : Bool) (line w r word : List ℕ) (found : Found) → HasTwoWords line w r
+    → GivesFor sensitive line word found → word ≡ cased sensitive w
 given_for_first sensitive line w r word found t g =
     let same = one_pair line g.written g.replacement w r g.words t in
     g.word_cased ∙ ap (cased sensitive) same.0

@@ -28,7 +28,8 @@ one_fits (w ∷ answers) (x ∷ a) (y ∷ b) f g e =
     let tail : a ≡ b = one_fits answers a b f.1 g.1 (omega arith) in
     ap (λ z. z ∷ a) head ∙ ap (λ z. y ∷ z) tail
 
-one_rule : (answer : List ℕ → WordAnswer) (line : List ℕ) (a b : Rule) → GivesRule answer line a → GivesRule answer line b → a ≡ b
+one_rule : (answer : List ℕ → WordAnswer) (line : List ℕ) (a b : Rule) → GivesRule answer line a
+    → GivesRule answer line b → a ≡ b
 one_rule answer line a b g h =
     let same = one_sides line g.sample g.read.indexed h.sample h.read.indexed g.read.sides h.read.sides in
     let some : Some a.samples ≡ Some b.samples = sym g.samples ∙ ap (sample_words answer) same.0 ∙ h.samples in
@@ -37,7 +38,8 @@ one_rule answer line a b g h =
     let words : a.words ≡ b.words = cc in
     λ i. record { samples = samples i; words = words i }
 
-one_list : (answer : List ℕ → WordAnswer) (lines : List (List ℕ)) (a b : List Rule) → AreRules answer lines a → AreRules answer lines b → a ≡ b
+one_list : (answer : List ℕ → WordAnswer) (lines : List (List ℕ)) (a b : List Rule) → AreRules answer lines a
+    → AreRules answer lines b → a ≡ b
 one_list answer [] a b h k = h ∙ sym k
 one_list answer (l ∷ lines) a b (inl h) (inl k) = one_list answer lines a b h.1 k.1
 one_list answer (l ∷ lines) a b (inl h) (inr k) = absurd (k.3.read.counts h.0)

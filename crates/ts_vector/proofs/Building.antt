@@ -1,5 +1,6 @@
 -- A vector that is built: in memory, and with the positions of each lexeme together.
-use Rattle.std.proofs.Common.{◌≡◌, ◌≢◌, ℕ, zero, suc, ◌<◌, inl, inr, ◌⊎◌, List, [], ◌∷◌, ◌++◌, length, map, get_or, refl, sym, ap, subst, ◌∙◌, arith, replicate}
+use Rattle.std.proofs.Common.{◌≡◌, ◌≢◌, ℕ, zero, suc, ◌<◌, inl, inr, ◌⊎◌, List, [], ◌∷◌, ◌++◌, length, map, get_or}
+use Rattle.std.proofs.Common.{refl, sym, ap, subst, ◌∙◌, arith, replicate}
 use Rattle.std.specs.Prelude.{All, Any, Contains, Some, cond}
 use Rattle.std.specs.BTreeMap.{insert_entry, is_at}
 use Rattle.std.specs.Map.{lookup}
@@ -7,8 +8,10 @@ use Rattle.std.specs.Ordering.{match_ordering, is_eq}
 use Rattle.std.specs.declared.cmp.Ordering.{Ordering}
 use Rattle.std.specs.declared.cmp.Ordering.TheVariants.{Less, Equal, Greater}
 use Rattle.std.proofs.Math.ListN.{set}
-use Rattle.std.proofs.lemmas.List.{length-set, length-replicate, map_push, get_or_append_left, get_or_push, get_or-set_same, get_or-set_other, length_push}
-use Rattle.std.proofs.lemmas.List.Elements.{All-cons, All-nil, All-head, All-tail, All-push, All-weaker, All-contains, Contains-push, Contains-push_cases, Contains-append_left, Contains-get_or}
+use Rattle.std.proofs.lemmas.List.{length-set, length-replicate, map_push, get_or_append_left, get_or_push}
+use Rattle.std.proofs.lemmas.List.{get_or-set_same, get_or-set_other, length_push}
+use Rattle.std.proofs.lemmas.List.Elements.{All-cons, All-nil, All-head, All-tail, All-push, All-weaker, All-contains}
+use Rattle.std.proofs.lemmas.List.Elements.{Contains-push, Contains-push_cases, Contains-append_left, Contains-get_or}
 use Rattle.std.proofs.lemmas.Bool.Decides.{eqb_tells}
 use Rattle.ts_base.specs.Lexemes.{IsLexeme}
 use Rattle.ts_base.specs.Vectors.{Position, Entry, IsPosition}
@@ -16,7 +19,8 @@ use Rattle.ts_vector.specs.declared.builder.Occurrence.{Occurrence}
 use Rattle.ts_vector.specs.Normal.{capped, Names, IsHighest, ListsPositions, IsPlaced, IsNormalFormOf}
 use Rattle.ts_vector.specs.Inner.Columns.{entry}
 use Rattle.ts_vector.specs.Inner.Steps.{IsWritten, HaveSame}
-use Rattle.ts_vector.specs.Inner.Building.{item_of, items_of, AreBuilding, IsEntered, IsNumbered, AreNumbered, AreGrouped, rows_of}
+use Rattle.ts_vector.specs.Inner.Building.{item_of, items_of, AreBuilding, IsEntered, IsNumbered, AreNumbered}
+use Rattle.ts_vector.specs.Inner.Building.{AreGrouped, rows_of}
 use Rattle.ts_vector.proofs.Rising.{contains_head, contains_later, contains_cases, contains_none, any_of, of_any}
 use Rattle.ts_vector.proofs.Merging.{all_of, any_left}
 use Rattle.ts_vector.proofs.Inserting.{order, same_of}

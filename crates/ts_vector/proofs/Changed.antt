@@ -1,5 +1,6 @@
 -- Vectors made of vectors.
-use Rattle.std.proofs.Common.{◌≡◌, ℕ, ◌+◌, ◌<◌, ◌≤◌, inl, inr, min, List, [], ◌∷◌, ◌++◌, map, refl, sym, ◌∙◌, subst, arith, ◌^◌}
+use Rattle.std.proofs.Common.{◌≡◌, ℕ, ◌+◌, ◌<◌, ◌≤◌, inl, inr, min, List, [], ◌∷◌, ◌++◌, map, refl, sym, ◌∙◌, subst}
+use Rattle.std.proofs.Common.{arith, ◌^◌}
 use Rattle.std.specs.Prelude.{All, Any}
 use Rattle.std.proofs.lemmas.List.{length-map}
 use Rattle.std.proofs.lemmas.List.Elements.{All-nil, All-head, All-tail, All-map, All-weaker}
@@ -7,7 +8,8 @@ use Rattle.ts_base.specs.declared.Weight.{Weight}
 use Rattle.ts_base.specs.Lexemes.{IsBefore}
 use Rattle.ts_base.specs.Vectors.{Position, Entry, Vector, IsPosition, IsEntry, IsNormal, content_size}
 use Rattle.ts_vector.specs.declared.error.VectorError.{VectorError}
-use Rattle.ts_vector.specs.declared.error.VectorError.TheVariants.{Syntax, LexemeTooLong, VectorTooLarge, BadBytes, OutOfMemory}
+use Rattle.ts_vector.specs.declared.error.VectorError.TheVariants.{Syntax, LexemeTooLong, VectorTooLarge, BadBytes}
+use Rattle.ts_vector.specs.declared.error.VectorError.TheVariants.{OutOfMemory}
 use Rattle.ts_vector.specs.Normal.{capped, Names, IsHighest, IsPlaced, IsNormalFormOf}
 use Rattle.ts_vector.specs.Inner.Steps.{IsWritten, HaveSame}
 use Rattle.ts_vector.specs.Changes.{stripped, weighted, reweighted, moved_position, shifted, IsGreatest, IsJoinOf}
@@ -29,13 +31,15 @@ strip_entry e h = record {
 
 pub stripped_normal : (v : Vector) → IsNormal v → IsNormal (stripped v)
 stripped_normal v n = record {
-  entries = All-map IsEntry (λ e. record { lexeme = e.lexeme; positions = [] }) v (All-weaker IsEntry (λ e. IsEntry (record { lexeme = e.lexeme; positions = [] })) strip_entry v n.entries);
+  entries = All-map IsEntry (λ e. record { lexeme = e.lexeme; positions = [] }) v
+      (All-weaker IsEntry (λ e. IsEntry (record { lexeme = e.lexeme; positions = [] })) strip_entry v n.entries);
   rising = pairs_map (λ e. record { lexeme = e.lexeme; positions = [] }) (λ a b. IsBefore a.lexeme b.lexeme) v n.rising;
 }
 
 pub stripped_size : (v : Vector) → content_size (stripped v) ≤ content_size v
 stripped_size [] = omega arith
-stripped_size (e ∷ v) = omega (arith, stripped_size v, size-cons e v, size-cons (record { lexeme = e.lexeme; positions = [] }) (stripped v))
+stripped_size (e ∷ v) =
+    omega (arith, stripped_size v, size-cons e v, size-cons (record { lexeme = e.lexeme; positions = [] }) (stripped v))
 
 module _ (w : Weight) where
   abbrev weigh : Entry → Entry
@@ -57,15 +61,27 @@ module _ (w : Weight) where
 
   pub reweighted_size : (v : Vector) → content_size (reweighted w v) ≤ content_size v
   reweighted_size [] = omega arith
-  reweighted_size (e ∷ v) = omega (arith, reweighted_size v, size-cons e v, size-cons (weigh e) (reweighted w v), length-map e.positions (weighted w))
+  reweighted_size (e ∷ v) = omega (
+    arith,
+    reweighted_size v,
+    size-cons e v,
+    size-cons (weigh e) (reweighted w v),
+    length-map e.positions (weighted w),
+  )
 
 -- ── items with the same content have the same normal form ──
 module _ (items others : List Entry) (same : HaveSame items others) where
   highest_to : (l : List ℕ) (p : Position) → IsHighest items l p → IsHighest others l p
-  highest_to l p h = record { placed = same.places_to l p h.placed; highest = λ w k. h.highest w (same.places_from l (record { at = p.at; weight = w }) k) }
+  highest_to l p h = record {
+    placed = same.places_to l p h.placed;
+    highest = λ w k. h.highest w (same.places_from l (record { at = p.at; weight = w }) k);
+  }
 
   highest_from : (l : List ℕ) (p : Position) → IsHighest others l p → IsHighest items l p
-  highest_from l p h = record { placed = same.places_from l p h.placed; highest = λ w k. h.highest w (same.places_to l (record { at = p.at; weight = w }) k) }
+  highest_from l p h = record {
+    placed = same.places_from l p h.placed;
+    highest = λ w k. h.highest w (same.places_to l (record { at = p.at; weight = w }) k);
+  }
 
   placed_from : (e : Entry) → IsPlaced others e → IsPlaced items e
   placed_from e (all, h, is) = (
@@ -81,7 +97,8 @@ module _ (items others : List Entry) (same : HaveSame items others) where
   pub form_same : (v : Vector) → IsNormalFormOf others v → IsNormalFormOf items v
   form_same v f = record {
     rising = f.rising;
-    only = All-weaker (λ e. Names others e.lexeme) (λ e. Names items e.lexeme) (λ e n. same.names_from e.lexeme n) v f.only;
+    only = All-weaker (λ e. Names others e.lexeme) (λ e. Names items e.lexeme)
+        (λ e n. same.names_from e.lexeme n) v f.only;
     each = λ l n. f.each l (same.names_to l n);
     placed = All-weaker (IsPlaced others) (IsPlaced items) placed_from v f.placed;
   }
@@ -113,7 +130,8 @@ any_weaker : {X : Type 0} (P Q : X → Type 0) → ((x : X) → P x → Q x) →
 any_weaker P Q f xs h = let y = of_any P xs h in any_of Q xs y.0 y.1 (f y.0 y.2)
 
 capped_twice : (p : Position) → capped (capped p) ≡ capped p
-capped_twice p = let e : min (min p.at 16383) 16383 ≡ min p.at 16383 = omega arith in λ i. record { at = e i; weight = p.weight }
+capped_twice p =
+    let e : min (min p.at 16383) 16383 ≡ min p.at 16383 = omega arith in λ i. record { at = e i; weight = p.weight }
 
 module _ (n : ℕ) where
   abbrev move : Entry → Entry
@@ -129,7 +147,8 @@ module _ (n : ℕ) where
   place_to l p e (is, a) = (
     is,
     any_map_to (λ q. capped q ≡ p) (moved_within n) e.positions
-        (any_weaker (λ q. capped (moved_position n q) ≡ p) (λ q. capped (moved_within n q) ≡ p) (λ q k. capped_twice (moved_position n q) ∙ k) e.positions
+        (any_weaker (λ q. capped (moved_position n q) ≡ p) (λ q. capped (moved_within n q) ≡ p)
+        (λ q k. capped_twice (moved_position n q) ∙ k) e.positions
         (any_map_from (λ q. capped q ≡ p) (moved_position n) e.positions a)),
   )
 
@@ -137,15 +156,18 @@ module _ (n : ℕ) where
   place_from l p e (is, a) = (
     is,
     any_map_to (λ q. capped q ≡ p) (moved_position n) e.positions
-        (any_weaker (λ q. capped (moved_within n q) ≡ p) (λ q. capped (moved_position n q) ≡ p) (λ q k. sym (capped_twice (moved_position n q)) ∙ k) e.positions
+        (any_weaker (λ q. capped (moved_within n q) ≡ p) (λ q. capped (moved_position n q) ≡ p)
+        (λ q k. sym (capped_twice (moved_position n q)) ∙ k) e.positions
         (any_map_from (λ q. capped q ≡ p) (moved_within n) e.positions a)),
   )
 
   -- an element with the property on the left, or a moved one
-  on : (P Q : Entry → Type 0) (v w : Vector) (f g : Entry → Entry) → ((e : Entry) → P e → Q e) → ((e : Entry) → P (f e) → Q (g e)) → Any P (v ++ map f w) → Any Q (v ++ map g w)
+  on : (P Q : Entry → Type 0) (v w : Vector) (f g : Entry → Entry) → ((e : Entry) → P e → Q e)
+      → ((e : Entry) → P (f e) → Q (g e)) → Any P (v ++ map f w) → Any Q (v ++ map g w)
   on P Q v w f g left right h = elim (any_cases P v (map f w) h) [
     | inl a ↦ any_left Q v (map g w) (any_weaker P Q left v a)
-    | inr b ↦ any_right Q v (map g w) (any_map_to Q g w (any_weaker (λ e. P (f e)) (λ e. Q (g e)) right w (any_map_from P f w b)))
+    | inr b ↦ any_right Q v (map g w)
+        (any_map_to Q g w (any_weaker (λ e. P (f e)) (λ e. Q (g e)) right w (any_map_from P f w b)))
   ]
 
   pub moved_same : (v w : Vector) → HaveSame (v ++ shifted n w) (v ++ shifted_within n w)
@@ -162,18 +184,27 @@ module _ (n : ℕ) where
   move_written : (e : Entry) → IsEntry e → IsWritten (move_within e)
   move_written e h = record {
     lexeme = h.lexeme;
-    positions = All-map IsPosition (moved_within n) e.positions (All-weaker IsPosition (λ p. IsPosition (moved_within n p)) move_position e.positions h.positions);
+    positions = All-map IsPosition (moved_within n) e.positions
+        (All-weaker IsPosition (λ p. IsPosition (moved_within n p)) move_position e.positions h.positions);
   }
 
   pub moved_written : (w : Vector) → IsNormal w → All IsWritten (shifted_within n w)
-  moved_written w h = All-map IsWritten move_within w (All-weaker IsEntry (λ e. IsWritten (move_within e)) move_written w h.entries)
+  moved_written w h =
+      All-map IsWritten move_within w (All-weaker IsEntry (λ e. IsWritten (move_within e)) move_written w h.entries)
 
   pub moved_size : (w : Vector) → content_size (shifted_within n w) ≡ content_size w
   moved_size [] = refl
-  moved_size (e ∷ w) = omega (arith, moved_size w, size-cons e w, size-cons (move_within e) (shifted_within n w), length-map e.positions (moved_within n))
+  moved_size (e ∷ w) = omega (
+    arith,
+    moved_size w,
+    size-cons e w,
+    size-cons (move_within e) (shifted_within n w),
+    length-map e.positions (moved_within n),
+  )
 
 pub normal_written : (v : Vector) → IsNormal v → All IsWritten v
-normal_written v n = All-weaker IsEntry IsWritten (λ e h. record { lexeme = h.lexeme; positions = h.positions }) v n.entries
+normal_written v n =
+    All-weaker IsEntry IsWritten (λ e h. record { lexeme = h.lexeme; positions = h.positions }) v n.entries
 
 unmoved_positions : (ps : List Position) → All IsPosition ps → map (moved_within 0) ps ≡ ps
 unmoved_positions [] h = refl
@@ -192,7 +223,8 @@ unmoved (e ∷ v) h =
     λ i. record { lexeme = e.lexeme; positions = p i } ∷ t i
 
 -- ── joins ──
-module _ (v w : Vector) (n : ℕ) (greatest : IsGreatest v n) (made : Vector) (form : IsNormalFormOf (v ++ shifted_within n w) made) where
+module _ (v w : Vector) (n : ℕ) (greatest : IsGreatest v n) (made : Vector)
+    (form : IsNormalFormOf (v ++ shifted_within n w) made) where
   pub join_form : IsNormalFormOf (v ++ shifted n w) made
   join_form = form_same (v ++ shifted n w) (v ++ shifted_within n w) (moved_same n v w) made form
 

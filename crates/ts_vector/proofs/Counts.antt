@@ -7,4 +7,5 @@ use Rattle.ts_vector.proofs.Merging.{size-cons}
 
 pub length-le-content : (v : Vector) → All IsEntry v → length v ≤ content_size v
 length-le-content [] h = omega arith
-length-le-content (e ∷ v) h = let i = All-head IsEntry e v h in omega (arith, size-cons e v, i.lexeme.some, length-le-content v (All-tail IsEntry e v h))
+length-le-content (e ∷ v) h = let i = All-head IsEntry e v h in
+    omega (arith, size-cons e v, i.lexeme.some, length-le-content v (All-tail IsEntry e v h))

@@ -1,18 +1,24 @@
 -- Bytes are read field by field in one way.
-use Rattle.std.proofs.Common.{◌≡◌, ℕ, ◌+◌, ◌*◌, ◌<◌, ◌⊎◌, inl, inr, List, [], ◌∷◌, ◌++◌, length, refl, sym, ◌∙◌, ap, subst, arith, length-append}
+use Rattle.std.proofs.Common.{◌≡◌, ℕ, ◌+◌, ◌*◌, ◌<◌, ◌⊎◌, inl, inr, List, [], ◌∷◌, ◌++◌, length, refl, sym, ◌∙◌, ap}
+use Rattle.std.proofs.Common.{subst, arith, length-append}
 use Rattle.ts_base.specs.Vectors.{Position, Vector}
 use Rattle.ts_base.specs.Encoding.{weight_number, position_number, position_bytes}
 use Rattle.ts_base.proofs.LittleBytes.{same_fronts, little_same}
 use Rattle.ts_base.proofs.Encoding.{weight_number_small, weight_number_same}
-use Rattle.ts_vector.specs.Decoded.{DecodedPart, Next, Width, IsBeginning, ReadsFields, IsCut, IsSurplus, IsWrong, IsBadAt, BadPlaceIsOne, entry_with, start, counted, measured, named, placed, count, measure, name, no_places, places, place, last_place, of_count, of_length, of_lexeme, of_number, of_place, begun, field}
+use Rattle.ts_vector.specs.Decoded.{DecodedPart, Next, Width, IsBeginning, ReadsFields, IsCut, IsSurplus, IsWrong}
+use Rattle.ts_vector.specs.Decoded.{IsBadAt, BadPlaceIsOne, entry_with, start, counted, measured, named, placed, count}
+use Rattle.ts_vector.specs.Decoded.{measure, name, no_places, places, place, last_place, of_count, of_length, of_lexeme}
+use Rattle.ts_vector.specs.Decoded.{of_number, of_place, begun, field}
 
 -- ── a field says one thing ──
 numbers_apart : (a b p q : ℕ) → p < 16384 → q < 16384 → a * 16384 + p ≡ b * 16384 + q → (a ≡ b) × (p ≡ q)
 numbers_apart a b p q h k e = (omega arith, omega arith)
 
-word_same : (p q : Position) (x y : List ℕ) → p.at < 16384 → q.at < 16384 → position_bytes p ++ x ≡ position_bytes q ++ y → (p ≡ q) × (x ≡ y)
+word_same : (p q : Position) (x y : List ℕ) → p.at < 16384 → q.at < 16384
+    → position_bytes p ++ x ≡ position_bytes q ++ y → (p ≡ q) × (x ≡ y)
 word_same p q x y h k e =
-    let t = little_same 2 (position_number p) (position_number q) x y (omega (arith, weight_number_small p.weight)) (omega (arith, weight_number_small q.weight)) e in
+    let t = little_same 2 (position_number p) (position_number q) x y (omega (arith, weight_number_small p.weight))
+    (omega (arith, weight_number_small q.weight)) e in
     let n = numbers_apart (weight_number p.weight) (weight_number q.weight) p.at q.at h k t.0 in
     let w = weight_number_same p.weight q.weight n.0 in
     (λ i. record { at = n.1 i; weight = w i }, t.1)
@@ -23,13 +29,20 @@ Same q x r y = (q ≡ r) × (x ≡ y)
 
 pub next_one : (p q r : DecodedPart) (f g x y : List ℕ) → Next p f q → Next p g r → f ++ x ≡ g ++ y → Same q x r y
 next_one p q r f g x y (count n h) (count m k) e = let s = little_same 4 n m x y h k e in (λ i. counted (s.0 i) [], s.1)
-next_one p q r f g x y (measure n k v h a) (measure _ l _ _ b) e = let s = little_same 2 k l x y a b e in (λ i. measured n v (s.0 i), s.1)
-next_one p q r f g x y (name n k v l a) (name _ _ _ m b) e = let s = same_fronts l m x y (a ∙ sym b) e in (λ i. named n v (s.0 i), s.1)
-next_one p q r f g x y (no_places n v l) (no_places _ _ _) e = let s = little_same 2 0 0 x y (omega arith) (omega arith) e in (refl, s.1)
-next_one p q r f g x y (no_places n v l) (places _ m _ _ h k) e = let s = little_same 2 0 m x y (omega arith) k e in absurd (let z = s.0 in omega arith)
-next_one p q r f g x y (places n m v l h k) (no_places _ _ _) e = let s = little_same 2 m 0 x y k (omega arith) e in absurd (let z = s.0 in omega arith)
-next_one p q r f g x y (places n m v l h k) (places _ j _ _ a b) e = let s = little_same 2 m j x y k b e in (λ i. placed n v l (s.0 i) [], s.1)
-next_one p q r f g x y (place n m v l ps a h k) (place _ _ _ _ _ b c d) e = let s = word_same a b x y h c e in (λ i. placed n v l m (ps ++ s.0 i ∷ []), s.1)
+next_one p q r f g x y (measure n k v h a) (measure _ l _ _ b) e =
+    let s = little_same 2 k l x y a b e in (λ i. measured n v (s.0 i), s.1)
+next_one p q r f g x y (name n k v l a) (name _ _ _ m b) e =
+    let s = same_fronts l m x y (a ∙ sym b) e in (λ i. named n v (s.0 i), s.1)
+next_one p q r f g x y (no_places n v l) (no_places _ _ _) e =
+    let s = little_same 2 0 0 x y (omega arith) (omega arith) e in (refl, s.1)
+next_one p q r f g x y (no_places n v l) (places _ m _ _ h k) e =
+    let s = little_same 2 0 m x y (omega arith) k e in absurd (let z = s.0 in omega arith)
+next_one p q r f g x y (places n m v l h k) (no_places _ _ _) e =
+    let s = little_same 2 m 0 x y k (omega arith) e in absurd (let z = s.0 in omega arith)
+next_one p q r f g x y (places n m v l h k) (places _ j _ _ a b) e =
+    let s = little_same 2 m j x y k b e in (λ i. placed n v l (s.0 i) [], s.1)
+next_one p q r f g x y (place n m v l ps a h k) (place _ _ _ _ _ b c d) e =
+    let s = word_same a b x y h c e in (λ i. placed n v l m (ps ++ s.0 i ∷ []), s.1)
 next_one p q r f g x y (place n m v l ps a h k) (last_place _ _ _ _ _ b c d) e = absurd (omega arith)
 next_one p q r f g x y (last_place n m v l ps a h k) (place _ _ _ _ _ b c d) e = absurd (omega arith)
 next_one p q r f g x y (last_place n m v l ps a h k) (last_place _ _ _ _ _ b c d) e =
@@ -57,21 +70,25 @@ data Onward : DecodedPart → List ℕ → DecodedPart → List ℕ → Type 0 w
   here : (p : DecodedPart) (r : List ℕ) → Onward p r p r
   on : (p x q : DecodedPart) (f r s : List ℕ) → Next p f x → IsBeginning x → Onward x r q s → Onward p (f ++ r) q s
 
-onward_more : (p q x : DecodedPart) (r t f s : List ℕ) → Onward p r q t → t ≡ f ++ s → Next q f x → IsBeginning x → Onward p r x s
+onward_more : (p q x : DecodedPart) (r t f s : List ℕ) → Onward p r q t → t ≡ f ++ s → Next q f x → IsBeginning x
+    → Onward p r x s
 onward_more p q x r t f s (here _ _) e n b = subst (λ u. Onward q u x s) (sym e) (on q x x f s s n b (here x s))
 onward_more p q x r t f s (on _ y _ g u _ m c o) e n b = on p y x g u s m c (onward_more y q x u t f s o e n b)
 
 from_start : (bytes : List ℕ) (q : DecodedPart) (s : List ℕ) → ReadsFields bytes q s → Onward start bytes q s
 from_start bytes q s begun = here start bytes
-from_start bytes q s (field p _ f _ h n b) = onward_more start p q bytes (f ++ s) f s (from_start bytes p (f ++ s) h) refl n b
+from_start bytes q s (field p _ f _ h n b) =
+    onward_more start p q bytes (f ++ s) f s (from_start bytes p (f ++ s) h) refl n b
 
-step_or : (p x q : DecodedPart) (t f r s : List ℕ) → Onward p t q s → t ≡ f ++ r → Next p f x → IsBeginning x → Onward x r q s ⊎ Onward q s x r
+step_or : (p x q : DecodedPart) (t f r s : List ℕ) → Onward p t q s → t ≡ f ++ r → Next p f x → IsBeginning x
+    → Onward x r q s ⊎ Onward q s x r
 step_or p x q t f r s (here _ _) e n b = inr (subst (λ u. Onward p u x r) (sym e) (on p x x f r r n b (here x r)))
 step_or p x q t f r s (on _ y _ g u _ m c o) e n b =
     let k = next_one p y x g f u r m n e in
     inl (subst (λ z. Onward z r q s) k.0 (subst (λ w. Onward y w q s) k.1 o))
 
-two_reads : (bytes : List ℕ) (p q : DecodedPart) (r s : List ℕ) → ReadsFields bytes p r → ReadsFields bytes q s → Onward p r q s ⊎ Onward q s p r
+two_reads : (bytes : List ℕ) (p q : DecodedPart) (r s : List ℕ) → ReadsFields bytes p r → ReadsFields bytes q s
+    → Onward p r q s ⊎ Onward q s p r
 two_reads bytes p q r s begun k = inl (from_start bytes q s k)
 two_reads bytes p q r s (field x _ f _ h n b) k = elim (two_reads bytes x q (f ++ r) s h k) [
   | inl o ↦ step_or x p q (f ++ r) f r s o refl n b
@@ -115,7 +132,8 @@ same_stop bytes m n a b = elim (two_reads bytes a.part b.part a.rest b.rest a.re
 
 -- a field that is cut is no surplus, nor there
 cut_alone : (p : DecodedPart) (r : List ℕ) → IsCut p r → ¬ (IsSurplus p r ⊎ IsWrong p r)
-cut_alone p r (w, width, short) (inl (k, v, is, whole, more)) = let lt = counted_width k v w (subst (λ z. Width z w) is width) in omega arith
+cut_alone p r (w, width, short) (inl (k, v, is, whole, more)) =
+    let lt = counted_width k v w (subst (λ z. Width z w) is width) in omega arith
 cut_alone p r (w, width, short) (inr (g, more, is, k, never)) =
     let e = width_one p w (length g) width k in
     let m = ap length is ∙ length-append g more in
@@ -124,7 +142,8 @@ cut_alone p r (w, width, short) (inr (g, more, is, k, never)) =
 abbrev CauseAt : List ℕ → DecodedPart → List ℕ → ℕ → Type 0
 CauseAt bytes p r n = (IsCut p r × (n ≡ length bytes)) ⊎ ((IsSurplus p r ⊎ IsWrong p r) × (n + length r ≡ length bytes))
 
-one_place : (bytes : List ℕ) (p : DecodedPart) (r : List ℕ) (m n : ℕ) → CauseAt bytes p r m → CauseAt bytes p r n → m ≡ n
+one_place : (bytes : List ℕ) (p : DecodedPart) (r : List ℕ) (m n : ℕ) → CauseAt bytes p r m → CauseAt bytes p r n
+    → m ≡ n
 one_place bytes p r m n (inl (h, e)) (inl (k, f)) = e ∙ sym f
 one_place bytes p r m n (inl (h, e)) (inr (k, f)) = absurd (cut_alone p r h k)
 one_place bytes p r m n (inr (h, e)) (inl (k, f)) = absurd (cut_alone p r k h)
@@ -133,13 +152,17 @@ one_place bytes p r m n (inr (h, e)) (inr (k, f)) = omega arith
 pub bad_place_is_one : BadPlaceIsOne
 bad_place_is_one bytes m n a b =
     let s = same_stop bytes m n a b in
-    one_place bytes b.part b.rest m n (subst (λ p. CauseAt bytes p b.rest m) s.0 (subst (λ r. CauseAt bytes a.part r m) s.1 a.cause)) b.cause
+    one_place bytes b.part b.rest m n
+    (subst (λ p. CauseAt bytes p b.rest m) s.0 (subst (λ r. CauseAt bytes a.part r m) s.1 a.cause)) b.cause
 
 -- a whole reading is no bad one
-pub whole_not_bad : (bytes : List ℕ) (v : Vector) → ReadsFields bytes (counted (length v) v) [] → (n : ℕ) → ¬ IsBadAt bytes n
+pub whole_not_bad : (bytes : List ℕ) (v : Vector) → ReadsFields bytes (counted (length v) v) [] → (n : ℕ)
+    → ¬ IsBadAt bytes n
 whole_not_bad bytes v whole n b = elim (two_reads bytes b.part (counted (length v) v) b.rest [] b.reads whole) [
-  | inl o ↦ let s = halts_here b.part (counted (length v) v) b.rest [] (halts bytes n b) o in never v (subst (λ p. Halts p []) s.0 (subst (λ r. Halts b.part r) s.1 (halts bytes n b)))
-  | inr o ↦ let s = stays v b.part b.rest o in never v (subst (λ p. Halts p []) (sym s.0) (subst (λ r. Halts b.part r) (sym s.1) (halts bytes n b)))
+  | inl o ↦ let s = halts_here b.part (counted (length v) v) b.rest [] (halts bytes n b) o in
+      never v (subst (λ p. Halts p []) s.0 (subst (λ r. Halts b.part r) s.1 (halts bytes n b)))
+  | inr o ↦ let s = stays v b.part b.rest o in
+      never v (subst (λ p. Halts p []) (sym s.0) (subst (λ r. Halts b.part r) (sym s.1) (halts bytes n b)))
 ]
   where
     never : (w : Vector) → ¬ Halts (counted (length w) w) []
@@ -150,9 +173,11 @@ whole_not_bad bytes v whole n b = elim (two_reads bytes b.part (counted (length 
     stuck : (w : Vector) (x : DecodedPart) (f : List ℕ) → ¬ Next (counted (length w) w) f x
     stuck w x f n = let lt = counted_next (length w) w f x n in omega arith
 
-    stays_at : (w : Vector) (p q : DecodedPart) (r s : List ℕ) → p ≡ counted (length w) w → Onward p r q s → Same p r q s
+    stays_at : (w : Vector) (p q : DecodedPart) (r s : List ℕ) → p ≡ counted (length w) w → Onward p r q s
+        → Same p r q s
     stays_at w p q r s e (here _ _) = (refl, refl)
     stays_at w p q r s e (on _ x _ f t _ k c o) = absurd (stuck w x f (subst (λ z. Next z f x) e k))
 
-    stays : (w : Vector) (q : DecodedPart) (s : List ℕ) → Onward (counted (length w) w) [] q s → Same (counted (length w) w) [] q s
+    stays : (w : Vector) (q : DecodedPart) (s : List ℕ) → Onward (counted (length w) w) [] q s
+        → Same (counted (length w) w) [] q s
     stays w q s o = stays_at w (counted (length w) w) q [] s refl o

@@ -1,13 +1,16 @@
 -- A list of positions that has no room for others.
-use Rattle.std.proofs.Common.{◌≡◌, ℕ, ◌-◌, ◌<◌, ◌≤◌, ◌⊎◌, inl, inr, List, [], ◌∷◌, ◌++◌, length, get_or, refl, sym, ap, ◌∙◌, arith}
+use Rattle.std.proofs.Common.{◌≡◌, ℕ, ◌-◌, ◌<◌, ◌≤◌, ◌⊎◌, inl, inr, List, [], ◌∷◌, ◌++◌, length, get_or, refl, sym, ap}
+use Rattle.std.proofs.Common.{◌∙◌, arith}
 use Rattle.std.specs.Prelude.{AllPairs, Contains}
 use Rattle.std.specs.List.{dedup}
 use Rattle.std.specs.List.Sorted.{IsPermutation}
 use Rattle.std.proofs.lemmas.Bool.{cases_lt}
 use Rattle.std.proofs.lemmas.List.{take-append-le, take_all, get_or_default}
-use Rattle.std.proofs.lemmas.List.Elements.{All-cons, All-append, All-contains, Contains-append_left, Contains-append_right, Contains-append_cases}
+use Rattle.std.proofs.lemmas.List.Elements.{All-cons, All-append, All-contains, Contains-append_left}
+use Rattle.std.proofs.lemmas.List.Elements.{Contains-append_right, Contains-append_cases}
 use Rattle.std.proofs.lemmas.List.Kept.{AllPairs-cons}
-use Rattle.std.proofs.lemmas.List.Sorted.{IsPermutation-refl, IsPermutation-cons, IsPermutation-trans, IsPermutation-append_left, IsPermutation-to_front, All-permutation}
+use Rattle.std.proofs.lemmas.List.Sorted.{IsPermutation-refl, IsPermutation-cons, IsPermutation-trans}
+use Rattle.std.proofs.lemmas.List.Sorted.{IsPermutation-append_left, IsPermutation-to_front, All-permutation}
 use Rattle.ts_base.specs.Vectors.{Position, Vector, IsEntry, IsNormal}
 use Rattle.ts_base.specs.Encoding.{weight_number}
 use Rattle.ts_vector.specs.Inner.Columns.{entry}
@@ -47,13 +50,16 @@ sort_in p (x ∷ xs) up = elim (falls_either p x) [
   | inl first ↦ (
     p ∷ x ∷ xs,
     IsPermutation-refl (p ∷ x ∷ xs),
-    AllPairs-cons Falls p (x ∷ xs) (All-cons (Falls p) x xs first (all_of (Falls p) xs (λ y c. falls_through p x y first (All-contains (Falls x) xs y (pairs_head Falls x xs up) c)))) up,
+    AllPairs-cons Falls p (x ∷ xs) (All-cons (Falls p) x xs first (all_of (Falls p) xs
+        (λ y c. falls_through p x y first (All-contains (Falls x) xs y (pairs_head Falls x xs up) c)))) up,
   )
   | inr later ↦
       let rest = sort_in p xs (pairs_tail Falls x xs up) in (
         x ∷ rest.0,
-        IsPermutation-trans (p ∷ x ∷ xs) (x ∷ p ∷ xs) (x ∷ rest.0) (swapped p x xs) (IsPermutation-cons x (p ∷ xs) rest.0 rest.1),
-        AllPairs-cons Falls x rest.0 (All-permutation (Falls x) (p ∷ xs) rest.0 rest.1 (All-cons (Falls x) p xs later (pairs_head Falls x xs up))) rest.2,
+        IsPermutation-trans (p ∷ x ∷ xs) (x ∷ p ∷ xs) (x ∷ rest.0) (swapped p x xs)
+            (IsPermutation-cons x (p ∷ xs) rest.0 rest.1),
+        AllPairs-cons Falls x rest.0 (All-permutation (Falls x) (p ∷ xs) rest.0 rest.1
+            (All-cons (Falls x) p xs later (pairs_head Falls x xs up))) rest.2,
       )
 ]
   where
@@ -71,9 +77,11 @@ sorted_of (p ∷ ps) =
 abbrev Rises : Position → Position → Type 0
 Rises p q = p.at < q.at
 
-one_number : (ps : List Position) (p q : Position) → AllPairs Rises ps → Contains ps p → Contains ps q → p.at ≡ q.at → p ≡ q
+one_number : (ps : List Position) (p q : Position) → AllPairs Rises ps → Contains ps p → Contains ps q → p.at ≡ q.at
+    → p ≡ q
 one_number ps p q up (i, lt, e) (j, le, f) same =
-    let at : (k : ℕ) (x : Position) → k < length ps → get_or ps k x ≡ get_or ps k p = λ k x h. get_or_default ps k x p h in
+    let at : (k : ℕ) (x : Position) → k < length ps → get_or ps k x ≡ get_or ps k p =
+    λ k x h. get_or_default ps k x p h in
     elim (cases_lt i j) [
       | inl less ↦
           let r : (get_or ps i p).at < (get_or ps j p).at = up i j p less le in
@@ -90,20 +98,24 @@ one_number ps p q up (i, lt, e) (j, le, f) same =
       ]
     ]
 
-pairs_both : (R : Position → Position → Type 0) (xs ys : List Position) → AllPairs R xs → AllPairs R ys → ((x y : Position) → Contains xs x → Contains ys y → R x y) → AllPairs R (xs ++ ys)
+pairs_both : (R : Position → Position → Type 0) (xs ys : List Position) → AllPairs R xs → AllPairs R ys
+    → ((x y : Position) → Contains xs x → Contains ys y → R x y) → AllPairs R (xs ++ ys)
 pairs_both R [] ys up on across = on
 pairs_both R (x ∷ xs) ys up on across =
-    AllPairs-cons R x (xs ++ ys) (All-append (R x) xs ys (pairs_head R x xs up) (all_of (R x) ys (λ y c. across x y (contains_head x xs) c)))
+    AllPairs-cons R x (xs ++ ys)
+    (All-append (R x) xs ys (pairs_head R x xs up) (all_of (R x) ys (λ y c. across x y (contains_head x xs) c)))
     (pairs_both R xs ys (pairs_tail R x xs up) on (λ a b c k. across a b (contains_later x a xs c) k))
 
-module _ (before ps all : List Position) (up : AllPairs Rises before) (lower : (q p : Position) → Contains before q → Contains ps p → q.at < p.at) (h : ListsTops ps all) where
+module _ (before ps all : List Position) (up : AllPairs Rises before)
+    (lower : (q p : Position) → Contains before q → Contains ps p → q.at < p.at) (h : ListsTops ps all) where
   top_before : (q : Position) → Contains before q → IsTop (before ++ ps) q
   top_before q c = record {
     there = Contains-append_left before ps q c;
     highest = λ w k.
         let r : Position = record { at = q.at; weight = w } in
         elim (Contains-append_cases before ps r k) [
-          | inl a ↦ let e = ap (λ (x : Position). weight_number x.weight) (one_number before r q up a c refl) in omega (arith, e)
+          | inl a ↦ let e = ap (λ (x : Position). weight_number x.weight) (one_number before r q up a c refl) in
+              omega (arith, e)
           | inr b ↦ let lt : q.at < q.at = lower q r c b in absurd (omega arith)
         ];
   }
@@ -123,31 +135,40 @@ module _ (before ps all : List Position) (up : AllPairs Rises before) (lower : (
 
   both_tops : ListsTops (before ++ ps) (before ++ all)
   both_tops = record {
-    rising = pairs_both Rises before all up h.rising (λ q p c k. lower q p c (All-contains (IsTop ps) all p h.only k).there);
-    only = All-append (IsTop (before ++ ps)) before all (all_of (IsTop (before ++ ps)) before top_before) (all_of (IsTop (before ++ ps)) all top_behind);
+    rising =
+        pairs_both Rises before all up h.rising (λ q p c k. lower q p c (All-contains (IsTop ps) all p h.only k).there);
+    only = All-append (IsTop (before ++ ps)) before all (all_of (IsTop (before ++ ps)) before top_before)
+        (all_of (IsTop (before ++ ps)) all top_behind);
     each = λ p t. elim (Contains-append_cases before ps p t.there) [
       | inl a ↦ Contains-append_left before all p a
-      | inr b ↦ Contains-append_right before all p (h.each p (record { there = b; highest = λ w k. t.highest w (Contains-append_right before ps (record { at = p.at; weight = w }) k) }))
+      | inr b ↦ Contains-append_right before all p (h.each p (record {
+        there = b;
+        highest = λ w k. t.highest w (Contains-append_right before ps (record { at = p.at; weight = w }) k);
+      }))
     ];
     numbers = λ p c. elim (Contains-append_cases before ps p c) [
       | inl a ↦ any_of (λ q. q.at ≡ p.at) (before ++ all) p (Contains-append_left before all p a) refl
-      | inr b ↦ let x = of_any (λ q. q.at ≡ p.at) all (h.numbers p b) in any_of (λ q. q.at ≡ p.at) (before ++ all) x.0 (Contains-append_right before all x.0 x.1) x.2
+      | inr b ↦ let x = of_any (λ q. q.at ≡ p.at) all (h.numbers p b) in
+          any_of (λ q. q.at ≡ p.at) (before ++ all) x.0 (Contains-append_right before all x.0 x.1) x.2
     ];
   }
 
-full_lower : (before ps : List Position) → AllPairs Rises before → IsFull before ps → (q p : Position) → Contains before q → Contains ps p → q.at < p.at
+full_lower : (before ps : List Position) → AllPairs Rises before → IsFull before ps → (q p : Position)
+    → Contains before q → Contains ps p → q.at < p.at
 full_lower before ps up full q p (i, lt, e) c =
     let last = All-contains (λ p. (get_or before (length before - 1) q).at < p.at) ps p (full.behind q) c in
     let a = ap (λ (x : Position). x.at) e in
     elim (cases_lt i (length before - 1)) [
-      | inl less ↦ let r : (get_or before i q).at < (get_or before (length before - 1) q).at = up i (length before - 1) q less (omega arith) in omega arith
+      | inl less ↦ let r : (get_or before i q).at < (get_or before (length before - 1) q).at =
+          up i (length before - 1) q less (omega arith) in omega arith
       | inr most ↦
           let k : i ≡ length before - 1 = omega arith in
           let b = ap (λ n. (get_or before n q).at) k in
           omega arith
     ]
 
-full_settles : (before ps : List Position) → AllPairs Rises before → length before ≤ 256 → IsFull before ps → SettlesTo (before ++ ps) before
+full_settles : (before ps : List Position) → AllPairs Rises before → length before ≤ 256 → IsFull before ps
+    → SettlesTo (before ++ ps) before
 full_settles before ps up few full =
     let s = sorted_of ps in
     let all = dedup same_number s.0 in
@@ -159,7 +180,8 @@ full_settles before ps up few full =
     )
 
 -- so the entries stay as they are
-pub kept : (v : Vector) (l : List ℕ) (before ps : List Position) (n : ℕ) → IsNormal v → IsHeld v l before n → IsFull before ps → Puts v (entry l ps) v
+pub kept : (v : Vector) (l : List ℕ) (before ps : List Position) (n : ℕ) → IsNormal v → IsHeld v l before n
+    → IsFull before ps → Puts v (entry l ps) v
 kept v l before ps n normal (inl (there, size)) full =
     let e = All-contains IsEntry v (entry l before) normal.entries there in
     record {
@@ -177,4 +199,5 @@ kept v l before ps n normal (inl (there, size)) full =
       to = λ x c. inr c;
       size = omega arith;
     }
-kept v l before ps n normal (inr (free, none, size)) full = let k = ap length none in let m = full.long in absurd (omega arith)
+kept v l before ps n normal (inr (free, none, size)) full =
+    let k = ap length none in let m = full.long in absurd (omega arith)

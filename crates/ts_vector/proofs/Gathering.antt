@@ -1,10 +1,12 @@
 -- Entries are added one after another to those of a vector, each with a lexeme of its own.
-use Rattle.std.proofs.Common.{◌≡◌, ℕ, ◌+◌, ◌*◌, ◌<◌, ◌≤◌, ◌⊎◌, inl, inr, List, [], ◌∷◌, ◌++◌, length, map, get_or, refl, sym, ap, subst, ◌∙◌, arith, append-nil, length-append}
+use Rattle.std.proofs.Common.{◌≡◌, ℕ, ◌+◌, ◌*◌, ◌<◌, ◌≤◌, ◌⊎◌, inl, inr, List, [], ◌∷◌, ◌++◌, length, map, get_or, refl}
+use Rattle.std.proofs.Common.{sym, ap, subst, ◌∙◌, arith, append-nil, length-append}
 use Rattle.std.specs.Prelude.{All, AllPairs, Any, Contains, Vec}
 use Rattle.std.specs.declared.alloc.Global.{Global}
 use Rattle.std.proofs.Math.Seq.{get_or-append_seam}
 use Rattle.std.proofs.lemmas.List.{get_or_append_left, map-append}
-use Rattle.std.proofs.lemmas.List.Elements.{All-map, All-take, All-weaker, All-contains, Contains-append_left, Contains-append_right, Contains-append_cases, Contains-push}
+use Rattle.std.proofs.lemmas.List.Elements.{All-map, All-take, All-weaker, All-contains, Contains-append_left}
+use Rattle.std.proofs.lemmas.List.Elements.{Contains-append_right, Contains-append_cases, Contains-push}
 use Rattle.ts_base.specs.Lexemes.{IsLexeme, IsBefore}
 use Rattle.ts_base.specs.Vectors.{Position, Entry, Vector, IsPosition, IsEntry, IsNormal, content_size}
 use Rattle.ts_vector.specs.Changes.{IsGreatest}
@@ -20,21 +22,26 @@ use Rattle.ts_vector.proofs.Settling.{rising_one, capped_same, pairs_take, lengt
 use Rattle.ts_vector.proofs.Forms.{before_one_way, normal_form_one}
 use Rattle.ts_vector.proofs.Changed.{any_map_from, unmoved}
 use Rattle.ts_vector.proofs.Joining.{moved}
-use Rattle.ts_vector.proofs.Inserting.{Pair, insert_there, insert_from, insert_to, insert_new, insert_over, insert_rising, inserted}
+use Rattle.ts_vector.proofs.Inserting.{Pair, insert_there, insert_from, insert_to, insert_new, insert_over}
+use Rattle.ts_vector.proofs.Inserting.{insert_rising, inserted}
 use Rattle.ts_vector.proofs.Keeping.{stays, settled_itself}
 
 -- ── one entry is put into a map ──
-module _ (es new : List Pair) (k : List ℕ) (ps before : List Position) (held : ℕ) (v : Vec Position Global) (is : new ≡ inserted k v es)
-    (normal : IsNormal (pairs_of es)) (at : IsHeld (pairs_of es) k before held) (settles : SettlesTo (before ++ ps) v.items) (fewer : length v.items ≤ length (before ++ ps)) where
+module _ (es new : List Pair) (k : List ℕ) (ps before : List Position) (held : ℕ) (v : Vec Position Global)
+    (is : new ≡ inserted k v es)
+    (normal : IsNormal (pairs_of es)) (at : IsHeld (pairs_of es) k before held)
+    (settles : SettlesTo (before ++ ps) v.items) (fewer : length v.items ≤ length (before ++ ps)) where
   old_at : IsAt (pairs_of es) k before
   old_at = elim at [ inl (c, n) ↦ inl c | inr (none, e, n) ↦ inr (none, e) ]
 
   -- the content has so much more
   pub size_put : content_size (pairs_of new) + held ≡ content_size (pairs_of es) + (length k + 2 * length v.items)
-  size_put = subst (λ t. content_size (pairs_of t) + held ≡ content_size (pairs_of es) + (length k + 2 * length v.items)) (sym is) (elim at [
-    | inl (c, n) ↦ let s = insert_over k v es before normal.rising c in omega arith
-    | inr (none, e, n) ↦ let s = insert_new k v es normal.rising none in omega arith
-  ])
+  size_put =
+      subst (λ t. content_size (pairs_of t) + held ≡ content_size (pairs_of es) + (length k + 2 * length v.items))
+      (sym is) (elim at [
+        | inl (c, n) ↦ let s = insert_over k v es before normal.rising c in omega arith
+        | inr (none, e, n) ↦ let s = insert_new k v es normal.rising none in omega arith
+      ])
 
   pub held_least : 2 * length before ≤ held
   held_least = elim at [ inl (c, n) ↦ omega arith | inr (none, e, n) ↦ let z = ap length e in omega arith ]
@@ -63,11 +70,13 @@ module _ (es new : List Pair) (k : List ℕ) (ps before : List Position) (held :
     put_entry : IsEntry (pair_of (k, v))
     put_entry = record {
       lexeme = lexeme;
-      positions = subst (All IsPosition) (sym settles.2) (All-take IsPosition 256 settles.0 (All-weaker (IsTop (before ++ ps)) IsPosition (λ p t. elim (Contains-append_cases before ps p t.there) [
-        | inl b ↦ All-contains IsPosition before p before_valid b
-        | inr a ↦ All-contains IsPosition ps p valid a
-      ]) settles.0 settles.1.only));
-      rising = subst (AllPairs (λ p q. p.at < q.at)) (sym settles.2) (pairs_take (λ p q. p.at < q.at) 256 settles.0 settles.1.rising);
+      positions = subst (All IsPosition) (sym settles.2) (All-take IsPosition 256 settles.0
+          (All-weaker (IsTop (before ++ ps)) IsPosition (λ p t. elim (Contains-append_cases before ps p t.there) [
+            | inl b ↦ All-contains IsPosition before p before_valid b
+            | inr a ↦ All-contains IsPosition ps p valid a
+          ]) settles.0 settles.1.only));
+      rising = subst (AllPairs (λ p q. p.at < q.at)) (sym settles.2)
+          (pairs_take (λ p q. p.at < q.at) 256 settles.0 settles.1.rising);
       few = subst (λ qs. length qs ≤ 256) (sym settles.2) (length_take 256 settles.0);
     }
 
@@ -80,7 +89,8 @@ module _ (es new : List Pair) (k : List ℕ) (ps before : List Position) (held :
       rising = insert_rising k v es normal.rising;
     })
 
-  module _ (g h : ℕ) (greatest : IsGreatest (pairs_of es) g) (behind : AreBehind (pairs_of es) k ps) (lower : g ≤ h) (bound : All (λ p. p.at ≤ h) v.items) (met : (h ≡ g) ⊎ Any (λ p. p.at ≡ h) v.items) where
+  module _ (g h : ℕ) (greatest : IsGreatest (pairs_of es) g) (behind : AreBehind (pairs_of es) k ps) (lower : g ≤ h)
+      (bound : All (λ p. p.at ≤ h) v.items) (met : (h ≡ g) ⊎ Any (λ p. p.at ≡ h) v.items) where
     abbrev HasNumber : ℕ → Entry → Type 0
     HasNumber n e = Any (λ p. p.at ≡ n) e.positions
 
@@ -91,24 +101,29 @@ module _ (es new : List Pair) (k : List ℕ) (ps before : List Position) (held :
           let s : y ≡ entry k before = rising_one (pairs_of es) y (entry k before) normal.rising c o l in
           let q = of_any (λ p. p.at ≡ g) before (subst (HasNumber g) s a) in
           let e = All-contains IsEntry (pairs_of es) (entry k before) normal.entries o in
-          subst (Any (λ p. p.at ≡ g)) (sym settles.2) (stays g before ps settles.0 settles.1 e.rising e.few (behind before o) q.0 q.1 q.2)
+          subst (Any (λ p. p.at ≡ g)) (sym settles.2)
+          (stays g before ps settles.0 settles.1 e.rising e.few (behind before o) q.0 q.1 q.2)
       | inr (none, e, n) ↦ absurd (none (any_of (λ x. x.lexeme ≡ k) (pairs_of es) y c l))
     ]
 
     greatest_inserted : IsGreatest (pairs_of (inserted k v es)) h
     greatest_inserted = record {
-      bound = all_of (λ e. All (λ p. p.at ≤ h) e.positions) (pairs_of (inserted k v es)) (λ x c. elim (insert_from k v es x normal.rising c) [
-        | inl s ↦ subst (λ e. All (λ p. p.at ≤ h) e.positions) (sym s) bound
-        | inr (ne, o) ↦ All-weaker (λ p. p.at ≤ g) (λ p. p.at ≤ h) (λ p le. omega arith) x.positions (All-contains (λ e. All (λ p. p.at ≤ g) e.positions) (pairs_of es) x greatest.bound o)
-      ]);
+      bound = all_of (λ e. All (λ p. p.at ≤ h) e.positions) (pairs_of (inserted k v es))
+          (λ x c. elim (insert_from k v es x normal.rising c) [
+            | inl s ↦ subst (λ e. All (λ p. p.at ≤ h) e.positions) (sym s) bound
+            | inr (ne, o) ↦ All-weaker (λ p. p.at ≤ g) (λ p. p.at ≤ h) (λ p le. omega arith) x.positions
+                (All-contains (λ e. All (λ p. p.at ≤ g) e.positions) (pairs_of es) x greatest.bound o)
+          ]);
       met = elim met [
         | inr a ↦ inr (any_of (HasNumber h) (pairs_of (inserted k v es)) (pair_of (k, v)) (insert_there k v es) a)
         | inl s ↦ elim greatest.met [
           | inl z ↦ inl (s ∙ z)
           | inr a ↦
               let y = of_any (HasNumber g) (pairs_of es) a in
-              inr (subst (λ n. Any (HasNumber n) (pairs_of (inserted k v es))) (sym s) (elim (insert_to k v es y.0 y.1) [
-                | inl l ↦ any_of (HasNumber g) (pairs_of (inserted k v es)) (pair_of (k, v)) (insert_there k v es) (still y.0 y.1 l y.2)
+              inr (subst (λ n. Any (HasNumber n) (pairs_of (inserted k v es))) (sym s)
+              (elim (insert_to k v es y.0 y.1) [
+                | inl l ↦ any_of (HasNumber g) (pairs_of (inserted k v es)) (pair_of (k, v)) (insert_there k v es)
+                    (still y.0 y.1 l y.2)
                 | inr c ↦ any_of (HasNumber g) (pairs_of (inserted k v es)) y.0 c y.2
               ]))
         ]
@@ -123,7 +138,8 @@ module _ (es new : List Pair) (k : List ℕ) (ps before : List Position) (held :
 abbrev pub IsMade : Vector → List Entry → Entry → Type 0
 IsMade v done x =
     (Contains v x × ¬ Names done x.lexeme)
-    ⊎ ((a : List Position) × (b : List Position) × IsAt v x.lexeme a × Contains done (entry x.lexeme b) × SettlesTo (a ++ b) x.positions)
+    ⊎ ((a : List Position) × (b : List Position) × IsAt v x.lexeme a × Contains done (entry x.lexeme b)
+    × SettlesTo (a ++ b) x.positions)
 
 pub record Gathers (v : Vector) (done cur : List Entry) : Type 0 where
   pub from : (x : Entry) → Contains cur x → IsMade v done x
@@ -142,7 +158,8 @@ gather_start v up = record {
   size = omega arith;
 }
 
-module _ (v : Vector) (done cur new : List Entry) (e : Entry) (g : Gathers v done cur) (p : Puts cur e new) (fresh : ¬ Names done e.lexeme) where
+module _ (v : Vector) (done cur new : List Entry) (e : Entry) (g : Gathers v done cur) (p : Puts cur e new)
+    (fresh : ¬ Names done e.lexeme) where
   -- what the vector has at the lexeme of e
   own : IsAt cur e.lexeme p.before → IsAt v e.lexeme p.before
   own (inl c) = elim (g.from (entry e.lexeme p.before) c) [
@@ -196,20 +213,25 @@ module _ (v : Vector) (done cur new : List Entry) (e : Entry) (g : Gathers v don
       ]
 
 -- ── the whole ──
-module _ (v : Vector) (done cur : List Entry) (g : Gathers v done cur) (normal : IsNormal v) (rising : AllPairs Before done) (written : All IsWritten done) where
+module _ (v : Vector) (done cur : List Entry) (g : Gathers v done cur) (normal : IsNormal v)
+    (rising : AllPairs Before done) (written : All IsWritten done) where
   -- the positions of one entry
   module _ (l : List ℕ) (a b : List Position) (at : IsAt v l a) (ad : IsAt done l b) where
-    in_one : (w : List Entry) (ps : List Position) → AllPairs Before w → ((x : Entry) → Contains w x → All IsPosition x.positions) → IsAt w l ps → (p : Position) → Any (HasPlace l p) w → Contains ps p
+    in_one : (w : List Entry) (ps : List Position) → AllPairs Before w → ((x : Entry) → Contains w x
+        → All IsPosition x.positions) → IsAt w l ps → (p : Position) → Any (HasPlace l p) w → Contains ps p
     in_one w ps up ok (inl c) p h =
         let x = of_any (HasPlace l p) w h in
         let q = of_any (λ q. capped q ≡ p) x.0.positions x.2.1 in
         let s : x.0 ≡ entry l ps = rising_one w x.0 (entry l ps) up x.1 c x.2.0 in
         let z : q.0 ≡ p = sym (capped_same q.0 (All-contains IsPosition x.0.positions q.0 (ok x.0 x.1) q.1)) ∙ q.2 in
         subst (λ y. Contains y.positions p) s (subst (λ y. Contains x.0.positions y) z q.1)
-    in_one w ps up ok (inr (none, is)) p h = let x = of_any (HasPlace l p) w h in absurd (none (any_of (Has l) w x.0 x.1 x.2.0))
+    in_one w ps up ok (inr (none, is)) p h =
+        let x = of_any (HasPlace l p) w h in absurd (none (any_of (Has l) w x.0 x.1 x.2.0))
 
-    of_one : (w : List Entry) (ps : List Position) → ((x : Entry) → Contains w x → All IsPosition x.positions) → IsAt w l ps → (p : Position) → Contains ps p → Any (HasPlace l p) w
-    of_one w ps ok (inl c) p h = any_of (HasPlace l p) w (entry l ps) c (refl, any_of (λ q. capped q ≡ p) ps p h (capped_same p (All-contains IsPosition ps p (ok (entry l ps) c) h)))
+    of_one : (w : List Entry) (ps : List Position) → ((x : Entry) → Contains w x → All IsPosition x.positions)
+        → IsAt w l ps → (p : Position) → Contains ps p → Any (HasPlace l p) w
+    of_one w ps ok (inl c) p h = any_of (HasPlace l p) w (entry l ps) c
+        (refl, any_of (λ q. capped q ≡ p) ps p h (capped_same p (All-contains IsPosition ps p (ok (entry l ps) c) h)))
     of_one w ps ok (inr (none, is)) p h = absurd (contains_none p (subst (λ t. Contains t p) is h))
 
     own_valid : (x : Entry) → Contains v x → All IsPosition x.positions
@@ -231,10 +253,16 @@ module _ (v : Vector) (done cur : List Entry) (g : Gathers v done cur) (normal :
     ]
 
     top_to : (p : Position) → IsTop (a ++ b) p → IsHighest (v ++ done) l p
-    top_to p t = record { placed = place_from p t.there; highest = λ w h. t.highest w (place_to (record { at = p.at; weight = w }) h) }
+    top_to p t = record {
+      placed = place_from p t.there;
+      highest = λ w h. t.highest w (place_to (record { at = p.at; weight = w }) h);
+    }
 
     top_from : (p : Position) → IsHighest (v ++ done) l p → IsTop (a ++ b) p
-    top_from p t = record { there = place_to p t.placed; highest = λ w h. t.highest w (place_from (record { at = p.at; weight = w }) h) }
+    top_from p t = record {
+      there = place_to p t.placed;
+      highest = λ w h. t.highest w (place_from (record { at = p.at; weight = w }) h);
+    }
 
     all_placed : (all : List Position) → ListsTops (a ++ b) all → ListsPositions (v ++ done) l all
     all_placed all h = record {
@@ -246,13 +274,15 @@ module _ (v : Vector) (done cur : List Entry) (g : Gathers v done cur) (normal :
   placed : (x : Entry) → IsMade v done x → IsPlaced (v ++ done) x
   placed x (inl (c, none)) =
       let e = All-contains IsEntry v x normal.entries c in
-      let s : SettlesTo (x.positions ++ []) x.positions = subst (λ t. SettlesTo t x.positions) (sym (append-nil x.positions)) (settled_itself x.positions e.rising e.few) in
+      let s : SettlesTo (x.positions ++ []) x.positions = subst (λ t. SettlesTo t x.positions)
+      (sym (append-nil x.positions)) (settled_itself x.positions e.rising e.few) in
       (s.0, all_placed x.lexeme x.positions [] (inl c) (inr (none, refl)) s.0 s.1, s.2)
   placed x (inr (a, b, at, d, s)) = (s.0, all_placed x.lexeme a b at (inl d) s.0 s.1, s.2)
 
   named : (x : Entry) → IsMade v done x → Names (v ++ done) x.lexeme
   named x (inl (c, none)) = any_left (Has x.lexeme) v done (any_of (Has x.lexeme) v x c refl)
-  named x (inr (a, b, at, d, s)) = any_right (Has x.lexeme) v done (any_of (Has x.lexeme) done (entry x.lexeme b) d refl)
+  named x (inr (a, b, at, d, s)) =
+      any_right (Has x.lexeme) v done (any_of (Has x.lexeme) done (entry x.lexeme b) d refl)
 
   pub gather_end : IsNormalFormOf (v ++ done) cur
   gather_end = record {
@@ -264,10 +294,12 @@ module _ (v : Vector) (done cur : List Entry) (g : Gathers v done cur) (normal :
 
 -- a vector is its own normal form
 pub normal_itself : (v : Vector) → IsNormal v → IsNormalFormOf v v
-normal_itself v n = subst (λ t. IsNormalFormOf t v) (append-nil v) (gather_end v [] v (gather_start v n.rising) n (λ i j d lt le. absurd (omega arith)) (λ k d lt. absurd (omega arith)))
+normal_itself v n = subst (λ t. IsNormalFormOf t v) (append-nil v) (gather_end v [] v (gather_start v n.rising) n
+    (λ i j d lt le. absurd (omega arith)) (λ k d lt. absurd (omega arith)))
 
 -- joined to nothing it stays as it is
-pub joined_to_none : (v made : Vector) (n : ℕ) → IsNormal v → IsGreatest [] n → IsNormalFormOf (shifted_within n v) made → made ≡ v
+pub joined_to_none : (v made : Vector) (n : ℕ) → IsNormal v → IsGreatest [] n → IsNormalFormOf (shifted_within n v) made
+    → made ≡ v
 joined_to_none v made n normal greatest form =
     let z : n ≡ 0 = elim greatest.met [
       | inl z ↦ z
@@ -277,9 +309,11 @@ joined_to_none v made n normal greatest form =
     normal_form_one v made v (subst (λ t. IsNormalFormOf t made) e form) (normal_itself v normal)
 
 -- ── one entry more of a vector w ──
-module _ (w : Vector) (normal : IsNormal w) (done rest : Vector) (row : Entry) (is : done ++ row ∷ rest ≡ w) (by : ℕ) where
+module _ (w : Vector) (normal : IsNormal w) (done rest : Vector) (row : Entry) (is : done ++ row ∷ rest ≡ w)
+    (by : ℕ) where
   pub row_entry : IsEntry row
-  row_entry = All-contains IsEntry w row normal.entries (subst (λ t. Contains t row) is (Contains-append_right done (row ∷ rest) row (contains_head row rest)))
+  row_entry = All-contains IsEntry w row normal.entries
+      (subst (λ t. Contains t row) is (Contains-append_right done (row ∷ rest) row (contains_head row rest)))
 
   pub row_size : content_size done + (length row.lexeme + 2 * length row.positions) ≤ content_size w
   row_size = let s = ap content_size is in omega (arith, size-append done (row ∷ rest), size-cons row rest)
@@ -290,7 +324,8 @@ module _ (w : Vector) (normal : IsNormal w) (done rest : Vector) (row : Entry) (
       let n = length-append done (row ∷ rest) in
       let p = up k (length done) x lt (omega arith) in
       subst (λ z. Before x z) (get_or-append_seam done row rest x)
-      (subst (λ z. Before z (get_or (done ++ row ∷ rest) (length done) x)) (get_or_append_left done (row ∷ rest) x k lt ∙ read) p)
+      (subst (λ z. Before z (get_or (done ++ row ∷ rest) (length done) x))
+      (get_or_append_left done (row ∷ rest) x k lt ∙ read) p)
 
   pub fresh : ¬ Names (shifted_within by done) row.lexeme
   fresh n =
@@ -303,13 +338,16 @@ module _ (w : Vector) (normal : IsNormal w) (done rest : Vector) (row : Entry) (
   shifted_push = map-append (moved by) done (row ∷ [])
 
   pub moved_valid : All IsPosition (map (moved_within by) row.positions)
-  moved_valid = All-map IsPosition (moved_within by) row.positions (All-weaker IsPosition (λ p. IsPosition (moved_within by p)) (λ p h. (omega arith, omega arith)) row.positions row_entry.positions)
+  moved_valid = All-map IsPosition (moved_within by) row.positions (All-weaker IsPosition
+      (λ p. IsPosition (moved_within by p)) (λ p h. (omega arith, omega arith)) row.positions row_entry.positions)
 
-  pub moved_behind : (v cur : Vector) → by ≤ 16383 → IsGreatest v by → Gathers v (shifted_within by done) cur → AreBehind cur row.lexeme (map (moved_within by) row.positions)
+  pub moved_behind : (v cur : Vector) → by ≤ 16383 → IsGreatest v by → Gathers v (shifted_within by done) cur
+      → AreBehind cur row.lexeme (map (moved_within by) row.positions)
   moved_behind v cur most greatest g qs c = elim (g.from (entry row.lexeme qs) c) [
     | inl (o, none) ↦
         All-weaker (λ q. q.at ≤ by) (λ q. All (λ p. q.at ≤ p.at) (map (moved_within by) row.positions))
         (λ q le. All-map (λ p. q.at ≤ p.at) (moved_within by) row.positions (λ k d lt. omega arith))
         qs (All-contains (λ e. All (λ p. p.at ≤ by) e.positions) v (entry row.lexeme qs) greatest.bound o)
-    | inr (a, b, at, d, s) ↦ absurd (fresh (any_of (Has row.lexeme) (shifted_within by done) (entry row.lexeme b) d refl))
+    | inr (a, b, at, d, s) ↦ absurd
+        (fresh (any_of (Has row.lexeme) (shifted_within by done) (entry row.lexeme b) d refl))
   ]

@@ -1,5 +1,6 @@
 -- Two rising lists of entries become one.
-use Rattle.std.proofs.Common.{◌≡◌, ℕ, suc, ◌+◌, ◌<◌, ◌≤◌, ◌⊎◌, inl, inr, List, [], ◌∷◌, ◌++◌, length, map, drop, sym, ap, subst, arith, length-append, ◌∙◌, get_or}
+use Rattle.std.proofs.Common.{◌≡◌, ℕ, suc, ◌+◌, ◌<◌, ◌≤◌, ◌⊎◌, inl, inr, List, [], ◌∷◌, ◌++◌, length, map, drop, sym}
+use Rattle.std.proofs.Common.{ap, subst, arith, length-append, ◌∙◌, get_or}
 use Rattle.std.specs.List.{AllZip}
 use Rattle.std.specs.Ordering.{nat_cmp, ordering_reverse}
 use Rattle.std.specs.declared.cmp.Ordering.{Ordering}
@@ -10,17 +11,20 @@ use Rattle.std.proofs.Math.ListN.{drop_of_length-le}
 use Rattle.std.proofs.lemmas.Bool.{cases_lt}
 use Rattle.std.proofs.lemmas.List.{get_or_default}
 use Rattle.std.specs.Prelude.{All, AllPairs, Any, Contains}
-use Rattle.std.proofs.lemmas.List.Elements.{AllZip-push, All-append, All-push, All-head, All-tail, All-nil, Contains-push_cases, Contains-get_or}
+use Rattle.std.proofs.lemmas.List.Elements.{AllZip-push, All-append, All-push, All-head, All-tail, All-nil}
+use Rattle.std.proofs.lemmas.List.Elements.{Contains-push_cases, Contains-get_or}
 use Rattle.std.proofs.lemmas.List.Quantifiers.{all_pairs_push}
 use Rattle.std.specs.Cmp.Lexicographic.{slice_cmp, nat_list_cmp_total}
 use Rattle.ts_base.specs.Lexemes.{IsBefore}
 use Rattle.ts_base.specs.Vectors.{Position, Entry, IsPosition, IsNormal, content_size}
 use Rattle.ts_vector.specs.Inner.CappedForm.{moved_within, shifted_within}
 use Rattle.ts_vector.specs.Inner.Steps.{IsWritten, joined, Merges, Settles, PutsSettled, HeadsStand}
-use Rattle.ts_vector.proofs.Rising.{contains_head, contains_later, contains_cases, contains_none, any_of, of_any, pairs_tail, head_before}
+use Rattle.ts_vector.proofs.Rising.{contains_head, contains_later, contains_cases, contains_none, any_of, of_any}
+use Rattle.ts_vector.proofs.Rising.{pairs_tail, head_before}
 use Rattle.ts_vector.proofs.Sorts.{pairs_map}
 use Rattle.ts_vector.proofs.Changed.{moved_written}
-use Rattle.ts_vector.proofs.Merging.{Before, HasPlace, any_left, any_right, any_cases, size-append, size-cons, place_left, place_right, place_back}
+use Rattle.ts_vector.proofs.Merging.{Before, HasPlace, any_left, any_right, any_cases, size-append, size-cons}
+use Rattle.ts_vector.proofs.Merging.{place_left, place_right, place_back}
 
 -- ── what one of some entries has ──
 module _ (P : Entry → Type 0) where
@@ -85,7 +89,8 @@ module _ (P : Entry → Type 0) where
       ];
     }
 
-    take_both : (x y e : Entry) (xs ys : List Entry) → (P x → P e) → (P y → P e) → (P e → P x ⊎ P y) → HaveAll items out (x ∷ xs) (y ∷ ys) → HaveAll items (out ++ e ∷ []) xs ys
+    take_both : (x y e : Entry) (xs ys : List Entry) → (P x → P e) → (P y → P e) → (P e → P x ⊎ P y)
+        → HaveAll items out (x ∷ xs) (y ∷ ys) → HaveAll items (out ++ e ∷ []) xs ys
     take_both x y e xs ys l r back h = record {
       to = λ n. elim (h.to n) [
         | inl a ↦ inl (any_left P out (e ∷ []) a)
@@ -95,7 +100,8 @@ module _ (P : Entry → Type 0) where
       from = λ n. elim n [
         | inl a ↦ elim (push_split out e a) [
           | inl t ↦ h.from (inl t)
-          | inr p ↦ elim (back p) [ inl q ↦ h.from (inr (inl (any_head x xs q))) | inr q ↦ h.from (inr (inr (any_head y ys q))) ]
+          | inr p ↦ elim (back p)
+              [ inl q ↦ h.from (inr (inl (any_head x xs q))) | inr q ↦ h.from (inr (inr (any_head y ys q))) ]
         ]
         | inr (inl b) ↦ h.from (inr (inl (any_later x xs b)))
         | inr (inr c) ↦ h.from (inr (inr (any_later y ys c)))
@@ -119,10 +125,12 @@ pub record Joining (items out xs ys : List Entry) : Type 0 where
 all_of_split : (P : Entry → Type 0) (xs ys : List Entry) → HaveAll P (xs ++ ys) [] xs ys
 all_of_split P xs ys = record {
   to = λ n. elim (any_cases P xs ys n) [ inl a ↦ inr (inl a) | inr b ↦ inr (inr b) ];
-  from = λ n. elim n [ inl z ↦ absurd (any_none P z) | inr (inl a) ↦ any_left P xs ys a | inr (inr b) ↦ any_right P xs ys b ];
+  from = λ n.
+      elim n [ inl z ↦ absurd (any_none P z) | inr (inl a) ↦ any_left P xs ys a | inr (inr b) ↦ any_right P xs ys b ];
 }
 
-pub join_start : (xs ys : List Entry) → AllPairs Before xs → AllPairs Before ys → All IsWritten xs → All IsWritten ys → Joining (xs ++ ys) [] xs ys
+pub join_start : (xs ys : List Entry) → AllPairs Before xs → AllPairs Before ys → All IsWritten xs → All IsWritten ys
+    → Joining (xs ++ ys) [] xs ys
 join_start xs ys h k v w = record {
   rising = λ i j d lt le. absurd (omega arith);
   first = h;
@@ -138,7 +146,8 @@ join_start xs ys h k v w = record {
 }
 
 only_out : (P : Entry → Type 0) (items out : List Entry) → HaveAll P items out [] [] → Any P items → Any P out
-only_out P items out h n = elim (h.to n) [ inl a ↦ a | inr (inl b) ↦ absurd (any_none P b) | inr (inr c) ↦ absurd (any_none P c) ]
+only_out P items out h n =
+    elim (h.to n) [ inl a ↦ a | inr (inl b) ↦ absurd (any_none P b) | inr (inr c) ↦ absurd (any_none P c) ]
 
 pub join_end : (items out : List Entry) → Joining items out [] [] → Merges items out
 join_end items out j = record {
@@ -154,20 +163,25 @@ join_end items out j = record {
 }
 
 module _ (items out : List Entry) where
-  pushed : (e : Entry) → AllPairs Before out → ((a : Entry) → Contains out a → Before a e) → AllPairs Before (out ++ e ∷ [])
+  pushed : (e : Entry) → AllPairs Before out → ((a : Entry) → Contains out a → Before a e)
+      → AllPairs Before (out ++ e ∷ [])
   pushed e up lower = all_pairs_push Before out e up (λ k d lt. lower (get_or out k d) (Contains-get_or out k d lt))
 
-  below_push : (e : Entry) (zs : List Entry) → ((a b : Entry) → Contains out a → Contains zs b → Before a b) → ((b : Entry) → Contains zs b → Before e b)
+  below_push : (e : Entry) (zs : List Entry) → ((a b : Entry) → Contains out a → Contains zs b → Before a b)
+      → ((b : Entry) → Contains zs b → Before e b)
       → (a b : Entry) → Contains (out ++ e ∷ []) a → Contains zs b → Before a b
-  below_push e zs old new a b c k = elim (Contains-push_cases out e a c) [ inl t ↦ old a b t k | inr s ↦ subst (λ x. Before x b) s (new b k) ]
+  below_push e zs old new a b c k =
+      elim (Contains-push_cases out e a c) [ inl t ↦ old a b t k | inr s ↦ subst (λ x. Before x b) s (new b k) ]
 
   -- the first list's next entry comes before all of the second list
-  pub join_first : (x : Entry) (xs ys : List Entry) → Joining items out (x ∷ xs) ys → ((b : Entry) → Contains ys b → Before x b) → Joining items (out ++ x ∷ []) xs ys
+  pub join_first : (x : Entry) (xs ys : List Entry) → Joining items out (x ∷ xs) ys
+      → ((b : Entry) → Contains ys b → Before x b) → Joining items (out ++ x ∷ []) xs ys
   join_first x xs ys j over = record {
     rising = pushed x j.rising (λ a c. j.below_first a x c (contains_head x xs));
     first = pairs_tail Before x xs j.first;
     second = j.second;
-    below_first = below_push x xs (λ a b c k. j.below_first a b c (contains_later x b xs k)) (λ b k. head_before Before x b xs j.first k);
+    below_first = below_push x xs (λ a b c k. j.below_first a b c (contains_later x b xs k))
+        (λ b k. head_before Before x b xs j.first k);
     below_second = below_push x ys j.below_second over;
     valid = All-push IsWritten out x j.valid (All-head IsWritten x xs j.valid_first);
     valid_first = All-tail IsWritten x xs j.valid_first;
@@ -177,13 +191,15 @@ module _ (items out : List Entry) where
     size = let s = j.size in omega (arith, size-append out (x ∷ []), size-cons x [], size-cons x xs);
   }
 
-  pub join_second : (y : Entry) (xs ys : List Entry) → Joining items out xs (y ∷ ys) → ((b : Entry) → Contains xs b → Before y b) → Joining items (out ++ y ∷ []) xs ys
+  pub join_second : (y : Entry) (xs ys : List Entry) → Joining items out xs (y ∷ ys)
+      → ((b : Entry) → Contains xs b → Before y b) → Joining items (out ++ y ∷ []) xs ys
   join_second y xs ys j over = record {
     rising = pushed y j.rising (λ a c. j.below_second a y c (contains_head y ys));
     first = j.first;
     second = pairs_tail Before y ys j.second;
     below_first = below_push y xs j.below_first over;
-    below_second = below_push y ys (λ a b c k. j.below_second a b c (contains_later y b ys k)) (λ b k. head_before Before y b ys j.second k);
+    below_second = below_push y ys (λ a b c k. j.below_second a b c (contains_later y b ys k))
+        (λ b k. head_before Before y b ys j.second k);
     valid = All-push IsWritten out y j.valid (All-head IsWritten y ys j.valid_second);
     valid_first = j.valid_first;
     valid_second = All-tail IsWritten y ys j.valid_second;
@@ -192,7 +208,8 @@ module _ (items out : List Entry) where
     size = let s = j.size in omega (arith, size-append out (y ∷ []), size-cons y [], size-cons y ys);
   }
 
-  pub join_both : (x y : Entry) (xs ys : List Entry) → Joining items out (x ∷ xs) (y ∷ ys) → x.lexeme ≡ y.lexeme → Joining items (out ++ joined x y ∷ []) xs ys
+  pub join_both : (x y : Entry) (xs ys : List Entry) → Joining items out (x ∷ xs) (y ∷ ys) → x.lexeme ≡ y.lexeme
+      → Joining items (out ++ joined x y ∷ []) xs ys
   join_both x y xs ys j eq =
       let vx = All-head IsWritten x xs j.valid_first in
       let vy = All-head IsWritten y ys j.valid_second in
@@ -200,19 +217,33 @@ module _ (items out : List Entry) where
         rising = pushed (joined x y) j.rising (λ a c. j.below_first a x c (contains_head x xs));
         first = pairs_tail Before x xs j.first;
         second = pairs_tail Before y ys j.second;
-        below_first = below_push (joined x y) xs (λ a b c k. j.below_first a b c (contains_later x b xs k)) (λ b k. head_before Before x b xs j.first k);
+        below_first = below_push (joined x y) xs (λ a b c k. j.below_first a b c (contains_later x b xs k))
+            (λ b k. head_before Before x b xs j.first k);
         below_second = below_push (joined x y) ys (λ a b c k. j.below_second a b c (contains_later y b ys k))
             (λ b k. subst (λ l. IsBefore l b.lexeme) (sym eq) (head_before Before y b ys j.second k));
-        valid = All-push IsWritten out (joined x y) j.valid (record { lexeme = vx.lexeme; positions = All-append IsPosition x.positions y.positions vx.positions vy.positions });
+        valid = All-push IsWritten out (joined x y) j.valid (record {
+          lexeme = vx.lexeme;
+          positions = All-append IsPosition x.positions y.positions vx.positions vy.positions;
+        });
         valid_first = All-tail IsWritten x xs j.valid_first;
         valid_second = All-tail IsWritten y ys j.valid_second;
-        names = λ l. take_both (λ e. e.lexeme ≡ l) items out x y (joined x y) xs ys (λ h. h) (λ h. eq ∙ h) (λ h. inl h) (j.names l);
-        places = λ l p. take_both (HasPlace l p) items out x y (joined x y) xs ys (place_left x y eq l p) (place_right x y eq l p) (place_back x y eq l p) (j.places l p);
-        size = let s = j.size in omega (arith, size-append out (joined x y ∷ []), size-cons (joined x y) [], size-cons x xs, size-cons y ys, length-append x.positions y.positions);
+        names = λ l. take_both (λ e. e.lexeme ≡ l) items out x y (joined x y) xs ys (λ h. h) (λ h. eq ∙ h) (λ h. inl h)
+            (j.names l);
+        places = λ l p. take_both (HasPlace l p) items out x y (joined x y) xs ys (place_left x y eq l p)
+            (place_right x y eq l p) (place_back x y eq l p) (j.places l p);
+        size = let s = j.size in omega (
+          arith,
+          size-append out (joined x y ∷ []),
+          size-cons (joined x y) [],
+          size-cons x xs,
+          size-cons y ys,
+          length-append x.positions y.positions,
+        );
       }
 
 -- the head of a rising list is over all that its bound is under
-pub over_all : (x y : Entry) (ys : List Entry) → AllPairs Before (y ∷ ys) → Before x y → (b : Entry) → Contains (y ∷ ys) b → Before x b
+pub over_all : (x y : Entry) (ys : List Entry) → AllPairs Before (y ∷ ys) → Before x y → (b : Entry)
+    → Contains (y ∷ ys) b → Before x b
 over_all x y ys up le b c = elim (contains_cases y b ys c) [
   | inl s ↦ subst (Before x) s le
   | inr t ↦ nat_list_cmp_total.trans x.lexeme y.lexeme b.lexeme le (head_before Before y b ys up t)
@@ -227,7 +258,8 @@ pub record Merged (v w : List Entry) (by i j : ℕ) (out : List Entry) : Type 0 
   pub first_in : i ≤ length v
   pub second_in : j ≤ length w
   pub made : List Entry
-  pub joining : Joining (shifted_within 0 v ++ shifted_within by w) made (shifted_within 0 (drop i v)) (shifted_within by (drop j w))
+  pub joining : Joining (shifted_within 0 v ++ shifted_within by w) made (shifted_within 0 (drop i v))
+      (shifted_within by (drop j w))
   pub settled : AllZip Settles made out
 
 pub up_moved : (n : ℕ) (v : List Entry) → AllPairs Before v → AllPairs Before (shifted_within n v)
@@ -238,31 +270,40 @@ merged_start v w by n m = record {
   first_in = omega arith;
   second_in = omega arith;
   made = [];
-  joining = join_start (shifted_within 0 v) (shifted_within by w) (up_moved 0 v n.rising) (up_moved by w m.rising) (moved_written 0 v n) (moved_written by w m);
+  joining = join_start (shifted_within 0 v) (shifted_within by w) (up_moved 0 v n.rising) (up_moved by w m.rising)
+      (moved_written 0 v n) (moved_written by w m);
   settled = tt;
 }
 
-pub merged_end : (v w : List Entry) (by i j : ℕ) (out : List Entry) → Merged v w by i j out → length v ≤ i → length w ≤ j
+pub merged_end : (v w : List Entry) (by i j : ℕ) (out : List Entry) → Merged v w by i j out → length v ≤ i
+    → length w ≤ j
     → (made : List Entry) × Merges (shifted_within 0 v ++ shifted_within by w) made × AllZip Settles made out
 merged_end v w by i j out m le lf =
     let a : drop i v ≡ [] = drop_of_length-le v le in
     let b : drop j w ≡ [] = drop_of_length-le w lf in
-    let items = shifted_within 0 v ++ shifted_within by w in
-    (m.made, join_end items m.made (subst (λ t. Joining items m.made [] (shifted_within by t)) b (subst (λ t. Joining items m.made (shifted_within 0 t) (shifted_within by (drop j w))) a m.joining)), m.settled)
+    let items = shifted_within 0 v ++ shifted_within by w in (
+      m.made,
+      join_end items m.made (subst (λ t. Joining items m.made [] (shifted_within by t)) b
+          (subst (λ t. Joining items m.made (shifted_within 0 t) (shifted_within by (drop j w))) a m.joining)),
+      m.settled,
+    )
 
 nothing : Entry
 nothing = record { lexeme = []; positions = [] }
 
 -- the rest from a place on
-rest_from : (n i : ℕ) (v : List Entry) (d : Entry) → i < length v → shifted_within n (drop i v) ≡ moved n (get_or v i d) ∷ shifted_within n (drop (suc i) v)
+rest_from : (n i : ℕ) (v : List Entry) (d : Entry) → i < length v
+    → shifted_within n (drop i v) ≡ moved n (get_or v i d) ∷ shifted_within n (drop (suc i) v)
 rest_from n i v d lt = ap (shifted_within n) (drop-cons v i d lt)
 
 -- what is before the head of the rest is before all of it
-over_rest : (n j : ℕ) (w : List Entry) (x : Entry) → AllPairs Before (shifted_within n (drop j w)) → (j < length w → Before x (get_or w j x)) → (b : Entry) → Contains (shifted_within n (drop j w)) b → Before x b
+over_rest : (n j : ℕ) (w : List Entry) (x : Entry) → AllPairs Before (shifted_within n (drop j w))
+    → (j < length w → Before x (get_or w j x)) → (b : Entry) → Contains (shifted_within n (drop j w)) b → Before x b
 over_rest n j w x up le b c = elim (cases_lt j (length w)) [
   | inl lt ↦
       let e = rest_from n j w x lt in
-      over_all x (moved n (get_or w j x)) (shifted_within n (drop (suc j) w)) (subst (AllPairs Before) e up) (le lt) b (subst (λ t. Contains t b) e c)
+      over_all x (moved n (get_or w j x)) (shifted_within n (drop (suc j) w)) (subst (AllPairs Before) e up) (le lt) b
+      (subst (λ t. Contains t b) e c)
   | inr ge ↦ absurd (contains_none b (subst (λ t. Contains (shifted_within n t) b) (drop_of_length-le w ge) c))
 ]
 
@@ -276,12 +317,15 @@ module _ (v w : List Entry) (by i j : ℕ) (out new : List Entry) (is : Merged v
   abbrev ys : ℕ → List Entry
   ys k = shifted_within by (drop k w)
 
-  pub merged_first : HeadsStand v i w j Less → ((d : Entry) → PutsSettled out (moved 0 (get_or v i d)) new) → Merged v w by (i + 1) j new
+  pub merged_first : HeadsStand v i w j Less → ((d : Entry) → PutsSettled out (moved 0 (get_or v i d)) new)
+      → Merged v w by (i + 1) j new
   merged_first h puts =
       let x = get_or v i nothing in
       let p = puts nothing in
-      let old : Joining both is.made (moved 0 x ∷ xs (suc i)) (ys j) = subst (λ t. Joining both is.made t (ys j)) (rest_from 0 i v nothing h.0) is.joining in
-      let over = over_rest by j w (moved 0 x) is.joining.second (λ lt. subst (λ e. IsBefore x.lexeme e.lexeme) (get_or_default w j nothing (moved 0 x) lt) (h.1 nothing lt)) in
+      let old : Joining both is.made (moved 0 x ∷ xs (suc i)) (ys j) =
+      subst (λ t. Joining both is.made t (ys j)) (rest_from 0 i v nothing h.0) is.joining in
+      let over = over_rest by j w (moved 0 x) is.joining.second (λ lt. subst (λ e. IsBefore x.lexeme e.lexeme)
+      (get_or_default w j nothing (moved 0 x) lt) (h.1 nothing lt)) in
       let step = join_first both is.made (moved 0 x) (xs (suc i)) (ys j) old over in
       let next : suc i ≡ i + 1 = omega arith in
       record {
@@ -289,15 +333,19 @@ module _ (v w : List Entry) (by i j : ℕ) (out new : List Entry) (is : Merged v
         second_in = is.second_in;
         made = is.made ++ moved 0 x ∷ [];
         joining = subst (λ k. Joining both (is.made ++ moved 0 x ∷ []) (xs k) (ys j)) next step;
-        settled = subst (AllZip Settles (is.made ++ moved 0 x ∷ [])) (sym p.2) (AllZip-push Settles is.made out (moved 0 x) p.0 is.settled p.1);
+        settled = subst (AllZip Settles (is.made ++ moved 0 x ∷ [])) (sym p.2)
+            (AllZip-push Settles is.made out (moved 0 x) p.0 is.settled p.1);
       }
 
-  pub merged_second : HeadsStand v i w j Greater → ((d : Entry) → PutsSettled out (moved by (get_or w j d)) new) → Merged v w by i (j + 1) new
+  pub merged_second : HeadsStand v i w j Greater → ((d : Entry) → PutsSettled out (moved by (get_or w j d)) new)
+      → Merged v w by i (j + 1) new
   merged_second h puts =
       let y = get_or w j nothing in
       let p = puts nothing in
-      let old : Joining both is.made (xs i) (moved by y ∷ ys (suc j)) = subst (λ t. Joining both is.made (xs i) t) (rest_from by j w nothing h.0) is.joining in
-      let over = over_rest 0 i v (moved by y) is.joining.first (λ lt. subst (λ e. IsBefore y.lexeme e.lexeme) (get_or_default v i nothing (moved by y) lt) (h.1 nothing lt)) in
+      let old : Joining both is.made (xs i) (moved by y ∷ ys (suc j)) =
+      subst (λ t. Joining both is.made (xs i) t) (rest_from by j w nothing h.0) is.joining in
+      let over = over_rest 0 i v (moved by y) is.joining.first (λ lt. subst (λ e. IsBefore y.lexeme e.lexeme)
+      (get_or_default v i nothing (moved by y) lt) (h.1 nothing lt)) in
       let step = join_second both is.made (moved by y) (xs i) (ys (suc j)) old over in
       let next : suc j ≡ j + 1 = omega arith in
       record {
@@ -305,17 +353,22 @@ module _ (v w : List Entry) (by i j : ℕ) (out new : List Entry) (is : Merged v
         second_in = let lt = h.0 in omega arith;
         made = is.made ++ moved by y ∷ [];
         joining = subst (λ k. Joining both (is.made ++ moved by y ∷ []) (xs i) (ys k)) next step;
-        settled = subst (AllZip Settles (is.made ++ moved by y ∷ [])) (sym p.2) (AllZip-push Settles is.made out (moved by y) p.0 is.settled p.1);
+        settled = subst (AllZip Settles (is.made ++ moved by y ∷ [])) (sym p.2)
+            (AllZip-push Settles is.made out (moved by y) p.0 is.settled p.1);
       }
 
-  pub merged_both : HeadsStand v i w j Equal → ((d : Entry) → PutsSettled out (joined (moved 0 (get_or v i d)) (moved by (get_or w j d))) new) → Merged v w by (i + 1) (j + 1) new
+  pub merged_both : HeadsStand v i w j Equal
+      → ((d : Entry) → PutsSettled out (joined (moved 0 (get_or v i d)) (moved by (get_or w j d))) new)
+      → Merged v w by (i + 1) (j + 1) new
   merged_both h puts =
       let x = get_or v i nothing in
       let y = get_or w j nothing in
       let p = puts nothing in
       let e = joined (moved 0 x) (moved by y) in
-      let some : Joining both is.made (moved 0 x ∷ xs (suc i)) (ys j) = subst (λ t. Joining both is.made t (ys j)) (rest_from 0 i v nothing h.0) is.joining in
-      let old : Joining both is.made (moved 0 x ∷ xs (suc i)) (moved by y ∷ ys (suc j)) = subst (λ t. Joining both is.made (moved 0 x ∷ xs (suc i)) t) (rest_from by j w nothing h.1) some in
+      let some : Joining both is.made (moved 0 x ∷ xs (suc i)) (ys j) =
+      subst (λ t. Joining both is.made t (ys j)) (rest_from 0 i v nothing h.0) is.joining in
+      let old : Joining both is.made (moved 0 x ∷ xs (suc i)) (moved by y ∷ ys (suc j)) =
+      subst (λ t. Joining both is.made (moved 0 x ∷ xs (suc i)) t) (rest_from by j w nothing h.1) some in
       let step = join_both both is.made (moved 0 x) (moved by y) (xs (suc i)) (ys (suc j)) old (h.2 nothing) in
       let a : suc i ≡ i + 1 = omega arith in
       let b : suc j ≡ j + 1 = omega arith in
@@ -323,12 +376,22 @@ module _ (v w : List Entry) (by i j : ℕ) (out new : List Entry) (is : Merged v
         first_in = let lt = h.0 in omega arith;
         second_in = let lt = h.1 in omega arith;
         made = is.made ++ e ∷ [];
-        joining = subst (λ k. Joining both (is.made ++ e ∷ []) (xs (i + 1)) (ys k)) b (subst (λ k. Joining both (is.made ++ e ∷ []) (xs k) (ys (suc j))) a step);
-        settled = subst (AllZip Settles (is.made ++ e ∷ [])) (sym p.2) (AllZip-push Settles is.made out e p.0 is.settled p.1);
+        joining = subst (λ k. Joining both (is.made ++ e ∷ []) (xs (i + 1)) (ys k)) b
+            (subst (λ k. Joining both (is.made ++ e ∷ []) (xs k) (ys (suc j))) a step);
+        settled =
+            subst (AllZip Settles (is.made ++ e ∷ [])) (sym p.2) (AllZip-push Settles is.made out e p.0 is.settled p.1);
       }
 
 -- ── which comes next ──
-pub heads : (v : List Entry) (i : ℕ) (w : List Entry) (j : ℕ) (r : Ordering) → i < length v → j < length w → ((d : Entry) → r ≡ slice_cmp nat_cmp (get_or v i d).lexeme (get_or w j d).lexeme) → HeadsStand v i w j r
+pub heads : (v : List Entry) (i : ℕ) (w : List Entry) (j : ℕ) (r : Ordering) → i < length v → j < length w
+    → ((d : Entry) → r ≡ slice_cmp nat_cmp (get_or v i d).lexeme (get_or w j d).lexeme) → HeadsStand v i w j r
 heads v i w j Less lt lf is = (lt, λ d _. sym (is d))
-heads v i w j Equal lt lf is = (lt, lf, λ d. slice_cmp-IsAntisymmetric nat_cmp-IsAntisymmetric (get_or v i d).lexeme (get_or w j d).lexeme (sym (is d)))
-heads v i w j Greater lt lf is = (lf, λ d _. nat_list_cmp_total.antisymm (get_or w j d).lexeme (get_or v i d).lexeme ∙ ap ordering_reverse (sym (is d)))
+heads v i w j Equal lt lf is = (
+  lt,
+  lf,
+  λ d. slice_cmp-IsAntisymmetric nat_cmp-IsAntisymmetric (get_or v i d).lexeme (get_or w j d).lexeme (sym (is d)),
+)
+heads v i w j Greater lt lf is = (
+  lf,
+  λ d _. nat_list_cmp_total.antisymm (get_or w j d).lexeme (get_or v i d).lexeme ∙ ap ordering_reverse (sym (is d)),
+)

@@ -1,9 +1,11 @@
 -- The positions of a lexeme stay where later ones are joined to them: the 256 least are kept.
-use Rattle.std.proofs.Common.{◌≡◌, ℕ, ◌<◌, ◌≤◌, inl, inr, List, [], ◌∷◌, ◌++◌, length, take, get_or, refl, sym, ap, subst, ◌∙◌, arith, length-append}
+use Rattle.std.proofs.Common.{◌≡◌, ℕ, ◌<◌, ◌≤◌, inl, inr, List, [], ◌∷◌, ◌++◌, length, take, get_or, refl, sym, ap}
+use Rattle.std.proofs.Common.{subst, ◌∙◌, arith, length-append}
 use Rattle.std.specs.Prelude.{All, AllPairs, Any, Contains}
 use Rattle.std.proofs.lemmas.Bool.{cases_lt}
 use Rattle.std.proofs.lemmas.List.{length-take, get_or-take, get_or_default, take_all}
-use Rattle.std.proofs.lemmas.List.Elements.{All-contains, Contains-append_left, Contains-append_cases, Contains-push_cases, Contains-get_or}
+use Rattle.std.proofs.lemmas.List.Elements.{All-contains, Contains-append_left, Contains-append_cases}
+use Rattle.std.proofs.lemmas.List.Elements.{Contains-push_cases, Contains-get_or}
 use Rattle.std.proofs.lemmas.List.Quantifiers.{all_pairs_push}
 use Rattle.ts_base.specs.Encoding.{weight_number}
 use Rattle.ts_base.specs.Vectors.{Position}
@@ -19,11 +21,15 @@ below_one_way : (p q : Position) → Below p q → ¬ Below q p
 below_one_way p q h k = omega arith
 
 -- an element of the first ones
-contains_take : (n : ℕ) (xs : List Position) (x : Position) → Contains (take n xs) x → (i : ℕ) × (i < n) × (i < length xs) × (get_or xs i x ≡ x)
-contains_take n xs x (i, lt, read) = let m = length-take n xs in let low : i < n = omega arith in (i, low, omega arith, sym (get_or-take n xs i x low) ∙ read)
+contains_take : (n : ℕ) (xs : List Position) (x : Position) → Contains (take n xs) x
+    → (i : ℕ) × (i < n) × (i < length xs) × (get_or xs i x ≡ x)
+contains_take n xs x (i, lt, read) = let m = length-take n xs in
+    let low : i < n = omega arith in (i, low, omega arith, sym (get_or-take n xs i x low) ∙ read)
 
-module _ (g : ℕ) (before later all : List Position) (tops : ListsTops (before ++ later) all) (rising : AllPairs Below before) (few : length before ≤ 256)
-    (behind : All (λ q. All (λ p. q.at ≤ p.at) later) before) (p : Position) (there : Contains before p) (at : p.at ≡ g) where
+module _ (g : ℕ) (before later all : List Position) (tops : ListsTops (before ++ later) all)
+    (rising : AllPairs Below before) (few : length before ≤ 256)
+    (behind : All (λ q. All (λ p. q.at ≤ p.at) later) before) (p : Position) (there : Contains before p)
+    (at : p.at ≡ g) where
   -- the least 256 can't all be before p
   not_full : (q : Position) (j : ℕ) → j < length all → get_or all j q ≡ q → q.at ≡ g → 256 ≤ j → ⊥
   not_full q j lt read is far =
@@ -37,17 +43,20 @@ module _ (g : ℕ) (before later all : List Position) (tops : ListsTops (before 
       let s : x.at < q.at = subst (λ z. x.at < z.at) b (subst (λ z. z.at < (get_or all j x).at) a r) in
       omega arith
       in
-      let inside : (x : Position) → Contains (xs ++ p ∷ []) x → Contains before x = λ x c. elim (Contains-push_cases xs p x c) [
+      let inside : (x : Position) → Contains (xs ++ p ∷ []) x → Contains before x =
+      λ x c. elim (Contains-push_cases xs p x c) [
         | inl t ↦
             let i = contains_take 256 all x t in
             let top = All-contains (IsTop (before ++ later)) all x tops.only (i.0, i.2, i.3) in
             elim (Contains-append_cases before later x top.there) [
               | inl b ↦ b
-              | inr l ↦ absurd (let le : p.at ≤ x.at = All-contains (λ p'. p.at ≤ p'.at) later x (All-contains (λ q. All (λ p. q.at ≤ p.at) later) before p behind there) l in let lt = lower x t in omega arith)
+              | inr l ↦ absurd (let le : p.at ≤ x.at = All-contains (λ p'. p.at ≤ p'.at) later x (All-contains
+                  (λ q. All (λ p. q.at ≤ p.at) later) before p behind there) l in let lt = lower x t in omega arith)
             ]
         | inr s ↦ subst (Contains before) s there
       ] in
-      let up : AllPairs Below (xs ++ p ∷ []) = all_pairs_push Below xs p (pairs_take Below 256 all tops.rising) (λ k d lt. lower (get_or xs k d) (Contains-get_or xs k d lt)) in
+      let up : AllPairs Below (xs ++ p ∷ []) = all_pairs_push Below xs p (pairs_take Below 256 all tops.rising)
+      (λ k d lt. lower (get_or xs k d) (Contains-get_or xs k d lt)) in
       let m = length_rising Below below_one_way (xs ++ p ∷ []) before up rising inside in
       omega (arith, length-append xs (p ∷ []))
 
@@ -87,7 +96,8 @@ module _ (ps : List Position) (rising : AllPairs Below ps) where
     rising = rising;
     only = all_of (IsTop ps) ps (λ p c. record {
       there = c;
-      highest = λ w k. let s : p ≡ record { at = p.at; weight = w } = one_at p (record { at = p.at; weight = w }) c k refl in let n : weight_number p.weight ≡ weight_number w = ap (λ q. weight_number q.weight) s in omega arith;
+      highest = λ w k. let s : p ≡ record { at = p.at; weight = w } = one_at p (record { at = p.at; weight = w }) c k
+          refl in let n : weight_number p.weight ≡ weight_number w = ap (λ q. weight_number q.weight) s in omega arith;
     });
     each = λ p t. t.there;
     numbers = λ p c. any_of (λ q. q.at ≡ p.at) ps p c refl;

@@ -1,5 +1,6 @@
 -- The last entries of an encoding, found by how many bytes they have.
-use Rattle.std.proofs.Common.{◌≡◌, ℕ, zero, suc, ◌-◌, ◌≤◌, List, [], ◌∷◌, ◌++◌, length, take, drop, sym, ◌∙◌, ap, arith, length-append}
+use Rattle.std.proofs.Common.{◌≡◌, ℕ, zero, suc, ◌-◌, ◌≤◌, List, [], ◌∷◌, ◌++◌, length, take, drop, sym, ◌∙◌, ap, arith}
+use Rattle.std.proofs.Common.{length-append}
 use Rattle.std.specs.Prelude.{sum_by}
 use Rattle.std.specs.List.{flat_map}
 use Rattle.std.proofs.lemmas.Grind.{flat_map-append}
@@ -17,21 +18,30 @@ drop_normal zero v n = n
 drop_normal (suc k) [] n = n
 drop_normal (suc k) (e ∷ v) n = drop_normal k v (tail_normal e v n)
 
-pub bytes_count : (n : ℕ) (bytes : List ℕ) → AreEntries n bytes (entries_told n bytes) → length bytes ≡ sum_by entry_size (entries_told n bytes)
+pub bytes_count : (n : ℕ) (bytes : List ℕ) → AreEntries n bytes (entries_told n bytes)
+    → length bytes ≡ sum_by entry_size (entries_told n bytes)
 bytes_count n bytes are = ap length are.bytes_of ∙ length-entries (entries_told n bytes)
 
-module _ (n : ℕ) (bytes : List ℕ) (v : Vector) (are : AreEntries n bytes v) (k left : ℕ) (has : left ≡ sum_by entry_size (drop k v)) where
+module _ (n : ℕ) (bytes : List ℕ) (v : Vector) (are : AreEntries n bytes v) (k left : ℕ)
+    (has : left ≡ sum_by entry_size (drop k v)) where
   pub left_within : left ≤ length bytes
   left_within = omega (arith, ap length are.bytes_of, length-entries v, sum_by-take-drop entry_size v k)
 
   parts : bytes ≡ flat_map entry_bytes (take k v) ++ flat_map entry_bytes (drop k v)
-  parts = are.bytes_of ∙ ap (flat_map entry_bytes) (sym (take-append-drop k v)) ∙ flat_map-append entry_bytes (take k v) (drop k v)
+  parts = are.bytes_of ∙ ap (flat_map entry_bytes) (sym (take-append-drop k v))
+      ∙ flat_map-append entry_bytes (take k v) (drop k v)
 
   before : length (flat_map entry_bytes (take k v)) ≡ length bytes - left
-  before = omega (arith, ap length parts, length-append (flat_map entry_bytes (take k v)) (flat_map entry_bytes (drop k v)), length-entries (drop k v))
+  before = omega (
+    arith,
+    ap length parts,
+    length-append (flat_map entry_bytes (take k v)) (flat_map entry_bytes (drop k v)),
+    length-entries (drop k v),
+  )
 
   last_bytes : drop (length bytes - left) bytes ≡ flat_map entry_bytes (drop k v)
-  last_bytes = ap (drop (length bytes - left)) parts ∙ drop_at (flat_map entry_bytes (take k v)) (flat_map entry_bytes (drop k v)) (length bytes - left) before
+  last_bytes = ap (drop (length bytes - left)) parts
+      ∙ drop_at (flat_map entry_bytes (take k v)) (flat_map entry_bytes (drop k v)) (length bytes - left) before
 
   last_are : k ≤ length v → AreEntries (n - k) (drop (length bytes - left) bytes) (drop k v)
   last_are le = record {
@@ -44,5 +54,6 @@ module _ (n : ℕ) (bytes : List ℕ) (v : Vector) (are : AreEntries n bytes v) 
   pub last_told : k ≤ length v → entries_told (n - k) (drop (length bytes - left) bytes) ≡ drop k v
   last_told le = told (n - k) (drop (length bytes - left) bytes) (drop k v) (last_are le)
 
-  pub last_told_are : k ≤ length v → AreEntries (n - k) (drop (length bytes - left) bytes) (entries_told (n - k) (drop (length bytes - left) bytes))
+  pub last_told_are : k ≤ length v
+      → AreEntries (n - k) (drop (length bytes - left) bytes) (entries_told (n - k) (drop (length bytes - left) bytes))
   last_told_are le = told_are (n - k) (drop (length bytes - left) bytes) (drop k v) (last_are le)

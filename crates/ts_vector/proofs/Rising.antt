@@ -34,7 +34,8 @@ module _ {X : Type 0} (R : X → X → Type 0) where
   head_before x y xs h (k, lt, read) = subst (λ z. R x z) read (h 0 (suc k) y (omega arith) (omega arith))
 
   module _ (one_way : (x y : X) → R x y → ¬ R y x) where
-    same_tails : (x : X) (xs ys : List X) → AllPairs R (x ∷ xs) → ((z : X) → Contains (x ∷ xs) z → Contains (x ∷ ys) z) → (z : X) → Contains xs z → Contains ys z
+    same_tails : (x : X) (xs ys : List X) → AllPairs R (x ∷ xs) → ((z : X) → Contains (x ∷ xs) z → Contains (x ∷ ys) z)
+        → (z : X) → Contains xs z → Contains ys z
     same_tails x xs ys h to z c =
         let r : R x z = head_before x z xs h c in
         elim (contains_cases x z ys (to z (contains_later x z xs c))) [
@@ -42,7 +43,8 @@ module _ {X : Type 0} (R : X → X → Type 0) where
           | inr t ↦ t
         ]
 
-    same_heads : (x y : X) (xs ys : List X) → AllPairs R (x ∷ xs) → AllPairs R (y ∷ ys) → Contains (y ∷ ys) x → Contains (x ∷ xs) y → x ≡ y
+    same_heads : (x y : X) (xs ys : List X) → AllPairs R (x ∷ xs) → AllPairs R (y ∷ ys) → Contains (y ∷ ys) x
+        → Contains (x ∷ xs) y → x ≡ y
     same_heads x y xs ys h k cx cy =
         elim (contains_cases y x ys cx) [
           | inl e ↦ sym e
@@ -53,26 +55,32 @@ module _ {X : Type 0} (R : X → X → Type 0) where
         ]
 
     -- two rising lists with the same elements are one
-    pub same_rising : (xs ys : List X) → AllPairs R xs → AllPairs R ys → ((x : X) → Contains xs x → Contains ys x) → ((x : X) → Contains ys x → Contains xs x) → xs ≡ ys
+    pub same_rising : (xs ys : List X) → AllPairs R xs → AllPairs R ys → ((x : X) → Contains xs x → Contains ys x)
+        → ((x : X) → Contains ys x → Contains xs x) → xs ≡ ys
     same_rising [] [] h k to from = refl
     same_rising [] (y ∷ ys) h k to from = absurd (contains_none y (from y (contains_head y ys)))
     same_rising (x ∷ xs) [] h k to from = absurd (contains_none x (to x (contains_head x xs)))
     same_rising (x ∷ xs) (y ∷ ys) h k to from =
         let e = same_heads x y xs ys h k (to x (contains_head x xs)) (from y (contains_head y ys)) in
         let k' : AllPairs R (x ∷ ys) = subst (λ w. AllPairs R (w ∷ ys)) (sym e) k in
-        let to' : (z : X) → Contains (x ∷ xs) z → Contains (x ∷ ys) z = λ z c. subst (λ w. Contains (w ∷ ys) z) (sym e) (to z c) in
-        let from' : (z : X) → Contains (x ∷ ys) z → Contains (x ∷ xs) z = λ z c. from z (subst (λ w. Contains (w ∷ ys) z) e c) in
-        let t = same_rising xs ys (pairs_tail x xs h) (pairs_tail y ys k) (same_tails x xs ys h to') (same_tails x ys xs k' from') in
+        let to' : (z : X) → Contains (x ∷ xs) z → Contains (x ∷ ys) z =
+        λ z c. subst (λ w. Contains (w ∷ ys) z) (sym e) (to z c) in
+        let from' : (z : X) → Contains (x ∷ ys) z → Contains (x ∷ xs) z =
+        λ z c. from z (subst (λ w. Contains (w ∷ ys) z) e c) in
+        let t = same_rising xs ys (pairs_tail x xs h) (pairs_tail y ys k) (same_tails x xs ys h to')
+        (same_tails x ys xs k' from') in
         λ i. e i ∷ t i
 
     -- a rising list whose elements another one has is no longer than that
-    pub length_rising : (xs ys : List X) → AllPairs R xs → AllPairs R ys → ((x : X) → Contains xs x → Contains ys x) → length xs ≤ length ys
+    pub length_rising : (xs ys : List X) → AllPairs R xs → AllPairs R ys → ((x : X) → Contains xs x → Contains ys x)
+        → length xs ≤ length ys
     length_rising [] ys h k to = omega arith
     length_rising (x ∷ xs) [] h k to = absurd (contains_none x (to x (contains_head x xs)))
     length_rising (x ∷ xs) (y ∷ ys) h k to =
         elim (contains_cases y x ys (to x (contains_head x xs))) [
           | inl e ↦
-              let to' : (z : X) → Contains (x ∷ xs) z → Contains (x ∷ ys) z = λ z c. subst (λ w. Contains (w ∷ ys) z) e (to z c) in
+              let to' : (z : X) → Contains (x ∷ xs) z → Contains (x ∷ ys) z =
+              λ z c. subst (λ w. Contains (w ∷ ys) z) e (to z c) in
               let n = length_rising xs ys (pairs_tail x xs h) (pairs_tail y ys k) (same_tails x xs ys h to') in
               omega arith
           | inr t ↦

@@ -1,5 +1,6 @@
 -- Lists of bytes that a program compares.
-use Rattle.std.proofs.Common.{◌≡◌, ◌≢◌, ◌⊎◌, ℕ, inl, inr, Bool, true, false, not, eqb, List, [], ◌∷◌, refl, sym, subst, ◌∙◌}
+use Rattle.std.proofs.Common.{◌≡◌, ◌≢◌, ◌⊎◌, ℕ, inl, inr, Bool, true, false, not, eqb, List, [], ◌∷◌, refl, sym, subst}
+use Rattle.std.proofs.Common.{◌∙◌}
 use Rattle.std.specs.Cmp.Lexicographic.{pointwise}
 use Rattle.std.proofs.lemmas.Bool.Decides.{eqb_tells}
 
@@ -17,7 +18,8 @@ pointwise_itself [] = refl
 pointwise_itself (x ∷ xs) = elim (eqb_tells x x) [ inl h ↦ rw h.0 (pointwise_itself xs) | inr n ↦ absurd (n.1 refl) ]
 
 pub other_bytes : (a b : List ℕ) → pointwise eqb a b ≡ false → a ≢ b
-other_bytes a b e s = let t : pointwise eqb a b ≡ true = subst (λ x. pointwise eqb a x ≡ true) s (pointwise_itself a) in cc
+other_bytes a b e s =
+    let t : pointwise eqb a b ≡ true = subst (λ x. pointwise eqb a x ≡ true) s (pointwise_itself a) in cc
 
 not_true : (x : Bool) → true ≡ not x → x ≡ false
 not_true true h = absurd (cc)

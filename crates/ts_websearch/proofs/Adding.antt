@@ -1,8 +1,10 @@
 -- What an item, and the end of a row, do to a web query that is made.
-use Rattle.std.proofs.Common.{◌≡◌, ℕ, ◌≤◌, List, [], ◌∷◌, ◌++◌, refl, sym, subst, ap, ◌∙◌, Bool, true, false, ◌&&◌, ◌||◌, Some, None, arith}
+use Rattle.std.proofs.Common.{◌≡◌, ℕ, ◌≤◌, List, [], ◌∷◌, ◌++◌, refl, sym, subst, ap, ◌∙◌, Bool, true, false, ◌&&◌}
+use Rattle.std.proofs.Common.{◌||◌, Some, None, arith}
 use Rattle.std.specs.Prelude.{is_some}
 use Rattle.ts_query.specs.declared.error.QueryError.{QueryError}
-use Rattle.ts_query.specs.declared.error.QueryError.TheVariants.{Syntax, DistanceTooLarge, TooManyNodes, LexemeTooLong, OutOfMemory}
+use Rattle.ts_query.specs.declared.error.QueryError.TheVariants.{Syntax, DistanceTooLarge, TooManyNodes, LexemeTooLong}
+use Rattle.ts_query.specs.declared.error.QueryError.TheVariants.{OutOfMemory}
 use Rattle.ts_query.specs.Queries.{or_joint, and_joint, Tree, leaf, Query}
 use Rattle.ts_query.specs.Tokens.{operand, no_weights}
 use Rattle.ts_config.specs.Mappings.{Mapping}
@@ -11,7 +13,8 @@ use Rattle.ts_make.specs.Groups.{Group}
 use Rattle.ts_make.specs.Trees.{phrase_of}
 use Rattle.ts_make.specs.Limits.{IsOnlyPast}
 use Rattle.ts_make.specs.Removal.{Sketch, not_sketch, joint_sketch}
-use Rattle.ts_make.specs.Made.{HasGroups, sketched, IsSketched, operand_sketched, not_sketched, joint_sketched, IsTooManyOf}
+use Rattle.ts_make.specs.Made.{HasGroups, sketched, IsSketched, operand_sketched, not_sketched, joint_sketched}
+use Rattle.ts_make.specs.Made.{IsTooManyOf}
 use Rattle.ts_make.specs.Making.{with_left, nodes_sketched, IsMaking, OperandFails}
 use Rattle.ts_make.specs.Inner.Making.{AreSketched}
 use Rattle.ts_make.specs.declared.maker.QueryMaker.{QueryMaker}
@@ -21,7 +24,8 @@ use Rattle.ts_websearch.specs.Items.{WebItem}
 use Rattle.ts_websearch.specs.Made.{text_tree, item_tree, row_query, web_query}
 use Rattle.ts_websearch.specs.Inner.Stacks.{stack_trees, IsMadeOn, MakingFails, IsWebAt, AddingFails, EndingFails}
 use Rattle.ts_websearch.specs.declared.web.WebMaker.{WebMaker}
-use Rattle.ts_websearch.proofs.Stacks.{onto_query, row_more, with_row, web_more, added_alone, TopTwo, added_behind, row_tree, web_some, under_ended, under_row, many_by}
+use Rattle.ts_websearch.proofs.Stacks.{onto_query, row_more, with_row, web_more, added_alone, TopTwo, added_behind}
+use Rattle.ts_websearch.proofs.Stacks.{row_tree, web_some, under_ended, under_row, many_by}
 
 module _ (known : Known) (mapping : Mapping) where
   -- ── one item ──

@@ -1,5 +1,7 @@
 -- How the code cuts a web text gives its items.
-use Rattle.std.proofs.Common.{◌≡◌, ◌≢◌, inl, inr, ℕ, zero, suc, ◌<◌, ◌≤◌, List, [], ◌∷◌, ◌++◌, length, take, get_or, refl, sym, subst, ap, ◌∙◌, add-one, All, false, true, Option, Some, None, unwrap_or, Bor, lit<, arith}
+use Rattle.std.proofs.Common.{◌≡◌, ◌≢◌, inl, inr, ℕ, zero, suc, ◌<◌, ◌≤◌, List, [], ◌∷◌, ◌++◌, length, take, get_or}
+use Rattle.std.proofs.Common.{refl, sym, subst, ap, ◌∙◌, add-one, All, false, true, Option, Some, None, unwrap_or, Bor}
+use Rattle.std.proofs.Common.{lit<, arith}
 use Rattle.std.specs.Str.{IsUtf8, IsCharBoundary}
 use Rattle.std.proofs.lemmas.Str.{IsCharBoundary-start, IsCharBoundary-after_ascii}
 use Rattle.std.proofs.lemmas.Str.Pattern.{IsSplitOnceResult, split_parts}
@@ -8,7 +10,9 @@ use Rattle.std.proofs.lemmas.List.Elements.{All-head, All-tail}
 use Rattle.std.proofs.lemmas.Grind.{common_steps}
 use Rattle.ts_base.specs.Bytes.{IsWhite, BeginsWithout}
 use Rattle.ts_base.proofs.ByteKinds.{white_ascii, white_or}
-use Rattle.ts_websearch.specs.Items.{WebItem, quoted, row, hyphen, IsNoQuote, IsRowByte, QuotedText, RowText, IsLoneBefore, AreItems, no_item, white_space, quotation, not_quotation, plain_row, not_row, lone_hyphen}
+use Rattle.ts_websearch.specs.Items.{WebItem, quoted, row, hyphen, IsNoQuote, IsRowByte, QuotedText, RowText}
+use Rattle.ts_websearch.specs.Items.{IsLoneBefore, AreItems, no_item, white_space, quotation, not_quotation, plain_row}
+use Rattle.ts_websearch.specs.Items.{not_row, lone_hyphen}
 use Rattle.ts_websearch.specs.Inner.Pieces.{IsNext}
 
 -- ── texts in quotes ──

@@ -1,10 +1,13 @@
 -- A web text has one list of items.
-use Rattle.std.proofs.Common.{◌≡◌, ◌≢◌, ◌⊎◌, inl, inr, ℕ, zero, suc, ◌<◌, ◌≤◌, List, [], ◌∷◌, ◌++◌, length, refl, sym, subst, ap, ◌∙◌, Bool, true, false, arith}
+use Rattle.std.proofs.Common.{◌≡◌, ◌≢◌, ◌⊎◌, inl, inr, ℕ, zero, suc, ◌<◌, ◌≤◌, List, [], ◌∷◌, ◌++◌, length, refl, sym}
+use Rattle.std.proofs.Common.{subst, ap, ◌∙◌, Bool, true, false, arith}
 use Rattle.std.proofs.lemmas.List.Elements.{All-nil, All-cons, All-head}
 use Rattle.ts_base.specs.Bytes.{IsWhite, BeginsWithout}
 use Rattle.ts_base.proofs.ByteKinds.{same_or, white_or}
 use Rattle.ts_base.proofs.Fronts.{same_front}
-use Rattle.ts_websearch.specs.Items.{WebItem, quoted, row, hyphen, IsNoQuote, IsRowByte, QuotedText, RowText, IsLoneBefore, AreItems, no_item, white_space, quotation, not_quotation, plain_row, not_row, lone_hyphen}
+use Rattle.ts_websearch.specs.Items.{WebItem, quoted, row, hyphen, IsNoQuote, IsRowByte, QuotedText, RowText}
+use Rattle.ts_websearch.specs.Items.{IsLoneBefore, AreItems, no_item, white_space, quotation, not_quotation, plain_row}
+use Rattle.ts_websearch.specs.Items.{not_row, lone_hyphen}
 use Rattle.ts_websearch.specs.Laws.{ItemsAreOne}
 
 -- ── kinds of bytes ──

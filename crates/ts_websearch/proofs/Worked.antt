@@ -1,10 +1,12 @@
 -- Worked web texts: their items and rows.
-use Rattle.std.proofs.Common.{Some, None, ◌≡◌, ◌≢◌, inl, inr, refl, ℕ, ◌<◌, List, [], ◌∷◌, ◌++◌, Bool, true, false, ◌&&◌, ltb, codes, All, arith}
+use Rattle.std.proofs.Common.{Some, None, ◌≡◌, ◌≢◌, inl, inr, refl, ℕ, ◌<◌, List, [], ◌∷◌, ◌++◌, Bool, true, false}
+use Rattle.std.proofs.Common.{◌&&◌, ltb, codes, All, arith}
 use Rattle.std.proofs.lemmas.Bool.{ltb-true}
 use Rattle.std.proofs.lemmas.List.Elements.{All-nil, All-cons}
 use Rattle.ts_base.specs.Bytes.{BeginsWithout}
 use Rattle.ts_base.specs.Words.{lower}
-use Rattle.ts_websearch.specs.Items.{WebItem, quoted, row, hyphen, IsNoQuote, IsRowByte, QuotedText, AreItems, no_item, white_space, quotation, not_quotation, plain_row, not_row, lone_hyphen}
+use Rattle.ts_websearch.specs.Items.{WebItem, quoted, row, hyphen, IsNoQuote, IsRowByte, QuotedText, AreItems, no_item}
+use Rattle.ts_websearch.specs.Items.{white_space, quotation, not_quotation, plain_row, not_row, lone_hyphen}
 use Rattle.ts_query.specs.Queries.{or_joint, and_joint, joined}
 use Rattle.ts_websearch.specs.Made.{text_tree, web_query}
 use Rattle.ts_websearch.specs.Rows.{IsOperator, AreRows, rows_end, item_more, or_between}

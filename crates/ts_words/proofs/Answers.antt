@@ -12,9 +12,13 @@ use Rattle.ts_words.proofs.Lowered.{lower_lexeme}
 
 -- a lexeme alone is an answer
 pub plain_answer : (lexeme : List ℕ) → IsLexeme lexeme → IsWordAnswer (word_lexemes (plain lexeme ∷ []))
-plain_answer lexeme h = ((λ e. cc), All-cons (λ (f : Found). IsLexeme f.lexeme) (plain lexeme) [] h (All-nil (λ (f : Found). IsLexeme f.lexeme)))
+plain_answer lexeme h = (
+  (λ e. cc),
+  All-cons (λ (f : Found). IsLexeme f.lexeme) (plain lexeme) [] h (All-nil (λ (f : Found). IsLexeme f.lexeme)),
+)
 
-pub simple_valid : (stops : List (List ℕ)) (accept : Bool) (word : List ℕ) → 1 ≤ length word → length word ≤ LONGEST_LEXEME → IsUtf8 word
+pub simple_valid : (stops : List (List ℕ)) (accept : Bool) (word : List ℕ) → 1 ≤ length word
+    → length word ≤ LONGEST_LEXEME → IsUtf8 word
     → IsWordAnswer (simple_answer stops accept word)
 simple_valid stops accept word some most utf8 = by (is_stop stops (lower word)) accept
   where

@@ -1,5 +1,6 @@
 -- A stop list, line after line.
-use Rattle.std.proofs.Common.{◌≡◌, ◌⊎◌, inl, inr, ℕ, ◌+◌, ◌≤◌, List, [], ◌∷◌, ◌++◌, length, refl, sym, ◌∙◌, ap, subst, arith, length-append}
+use Rattle.std.proofs.Common.{◌≡◌, ◌⊎◌, inl, inr, ℕ, ◌+◌, ◌≤◌, List, [], ◌∷◌, ◌++◌, length, refl, sym, ◌∙◌, ap, subst}
+use Rattle.std.proofs.Common.{arith, length-append}
 use Rattle.std.specs.Prelude.{Contains, Some, None}
 use Rattle.std.specs.List.{Any}
 use Rattle.std.specs.Str.Lines.{lines}
@@ -17,13 +18,17 @@ use Rattle.ts_words.proofs.Members.{any_old, any_cases}
 use denote.Ref.{Bor}
 
 pub lines_have_one_reading : LinesHaveOneReading
-lines_have_one_reading lines (stop_words a) (stop_words b) h k = λ word. (λ c. (k.each word).1 ((h.each word).0 c), λ c. (h.each word).1 ((k.each word).0 c))
+lines_have_one_reading lines (stop_words a) (stop_words b) h k =
+    λ word. (λ c. (k.each word).1 ((h.each word).0 c), λ c. (h.each word).1 ((k.each word).0 c))
 lines_have_one_reading lines (stop_words a) (bad_line n) h k = no_first IsBadLine lines n h.fit k
 lines_have_one_reading lines (bad_line m) (stop_words b) h k = no_first IsBadLine lines m k.fit h
 lines_have_one_reading lines (bad_line m) (bad_line n) h k = first_is_one IsBadLine lines m n h k
 
 no_stops : IsStopList [] []
-no_stops = record { fit = All-nil (λ line. ¬ IsBadLine line); each = λ word. (λ c. absurd (omega (arith, c.1)), λ a. absurd (omega (arith, a.2))) }
+no_stops = record {
+  fit = All-nil (λ line. ¬ IsBadLine line);
+  each = λ word. (λ c. absurd (omega (arith, c.1)), λ a. absurd (omega (arith, a.2)));
+}
 
 -- how far a text is read
 pub record Progress (text : List ℕ) (s : Lines) (stops : List (List ℕ)) (number : ℕ) : Type 0 where
@@ -35,7 +40,8 @@ pub record Progress (text : List ℕ) (s : Lines) (stops : List (List ℕ)) (num
 pub progress_start : (text : List ℕ) (s : Lines) → lines_rest s ≡ text → Progress text s [] 0
 progress_start text s e = record { done = []; lines = lines_start text s e; list = no_stops; count = refl }
 
-module _ (text : List ℕ) (s t : Lines) (old : List (List ℕ)) (number : ℕ) (x : Bor (List ℕ)) (p : Progress text s old number) (k : lines_steps s (Some x) t) where
+module _ (text : List ℕ) (s t : Lines) (old : List (List ℕ)) (number : ℕ) (x : Bor (List ℕ))
+    (p : Progress text s old number) (k : lines_steps s (Some x) t) where
   given : LineGiven text p.done x.now t
   given = line_given text p.done s t x p.lines k
 
@@ -45,9 +51,11 @@ module _ (text : List ℕ) (s t : Lines) (old : List (List ℕ)) (number : ℕ) 
 
   first_bad : IsBadLine x.now → IsFirstLine IsBadLine (lines text) (number + 1)
   first_bad bad = subst (λ n. IsFirstLine IsBadLine (lines text) (n + 1)) (sym p.count)
-      (subst (λ ls. IsFirstLine IsBadLine ls (length p.done + 1)) (sym given.whole) (first_behind IsBadLine p.done given.more x.now p.list.fit bad))
+      (subst (λ ls. IsFirstLine IsBadLine ls (length p.done + 1)) (sym given.whole)
+      (first_behind IsBadLine p.done given.more x.now p.list.fit bad))
 
-  pub first_refused : (e : LineError) → IsBadFault IsBadLine x.now e → IsBadRefusal IsBadLine (lines text) (error_at e (number + 1))
+  pub first_refused : (e : LineError) → IsBadFault IsBadLine x.now e
+      → IsBadRefusal IsBadLine (lines text) (error_at e (number + 1))
   first_refused e f = refused_at IsBadLine (lines text) x.now (number + 1) e first_bad f
 
   pub progress_more : (new : List (List ℕ)) → Adds x.now old new → Progress text t new (number + 1)
@@ -69,5 +77,7 @@ module _ (text : List ℕ) (s t : Lines) (old : List (List ℕ)) (number : ℕ) 
       back w (inl a) = inl ((p.list.each w).1 a)
       back w (inr s) = inr s
 
-pub progress_over : (text : List ℕ) (s t : Lines) (stops : List (List ℕ)) (number : ℕ) → Progress text s stops number → lines_steps s None t → IsStopList (lines text) stops
-progress_over text s t stops number p k = subst (λ ls. IsStopList ls stops) (sym (lines_over text p.done s t p.lines k)) p.list
+pub progress_over : (text : List ℕ) (s t : Lines) (stops : List (List ℕ)) (number : ℕ) → Progress text s stops number
+    → lines_steps s None t → IsStopList (lines text) stops
+progress_over text s t stops number p k =
+    subst (λ ls. IsStopList ls stops) (sym (lines_over text p.done s t p.lines k)) p.list

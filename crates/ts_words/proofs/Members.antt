@@ -1,5 +1,6 @@
 -- Which words a list has.
-use Rattle.std.proofs.Common.{◌≡◌, ◌⊎◌, inl, inr, ℕ, List, [], ◌∷◌, ◌++◌, Bool, true, false, cond, ◌||◌, map, refl, sym, ◌∙◌, ap, subst}
+use Rattle.std.proofs.Common.{◌≡◌, ◌⊎◌, inl, inr, ℕ, List, [], ◌∷◌, ◌++◌, Bool, true, false, cond, ◌||◌, map, refl, sym}
+use Rattle.std.proofs.Common.{◌∙◌, ap, subst}
 use Rattle.std.specs.Prelude.{◌↔◌, bytes_eq, string_bytes, String, Contains}
 use Rattle.std.specs.List.{Any, list_any}
 use Rattle.std.specs.Ordering.{nat_cmp}
@@ -13,7 +14,8 @@ use Rattle.std.proofs.lemmas.List.Elements.{Contains-append_left, Contains-push_
 use Rattle.ts_words.specs.Simple.{is_stop}
 
 -- the set is asked by the order of bytes, and the list by equality
-pub asked : (word : List ℕ) (ks : List (String Global)) → list_any (is_at (λ k. slice_cmp nat_cmp word (string_bytes k))) ks ≡ is_stop (map string_bytes ks) word
+pub asked : (word : List ℕ) (ks : List (String Global))
+    → list_any (is_at (λ k. slice_cmp nat_cmp word (string_bytes k))) ks ≡ is_stop (map string_bytes ks) word
 asked word [] = refl
 asked word (k ∷ ks) = (λ i. is_eq-slice_cmp word (string_bytes k) i || asked word ks i)
 
@@ -24,11 +26,14 @@ pub found : (words : List (List ℕ)) (word : List ℕ) → Contains words word 
 found words word h = list_any-from_Contains nat_list_eq_equiv word words h
 
 -- one word more
-pub one_more : (old new : List (List ℕ)) (added : List ℕ) → ((w : List ℕ) → is_stop new w ≡ cond (bytes_eq added w) true (is_stop old w)) → (w : List ℕ)
+pub one_more : (old new : List (List ℕ)) (added : List ℕ)
+    → ((w : List ℕ) → is_stop new w ≡ cond (bytes_eq added w) true (is_stop old w)) → (w : List ℕ)
     → Contains new w ↔ (Contains old w ⊎ (w ≡ added))
-one_more old new added h w = (λ c. first (bytes_eq added w) refl (sym (h w) ∙ found new w c), λ c. there new w (h w ∙ second c))
+one_more old new added h w =
+    (λ c. first (bytes_eq added w) refl (sym (h w) ∙ found new w c), λ c. there new w (h w ∙ second c))
   where
-    first : (b : Bool) → bytes_eq added w ≡ b → cond (bytes_eq added w) true (is_stop old w) ≡ true → Contains old w ⊎ (w ≡ added)
+    first : (b : Bool) → bytes_eq added w ≡ b → cond (bytes_eq added w) true (is_stop old w) ≡ true
+        → Contains old w ⊎ (w ≡ added)
     first true e k = inr (sym ((bytes_eq-Decides added w).0 e))
     first false e k = inl (there old w (sym (ap (λ t. cond t true (is_stop old w)) e) ∙ k))
 

@@ -18,7 +18,8 @@ adds_nothing line words h = record {
     back word (inr s) = absurd (no_first_word line s.0 h s.1)
 
 -- the stop word of a line is added
-pub adds_word : (line first added : List ℕ) (old new : List (List ℕ)) → IsFirstWord line first → length first ≤ 2046 → added ≡ lower first
+pub adds_word : (line first added : List ℕ) (old new : List (List ℕ)) → IsFirstWord line first → length first ≤ 2046
+    → added ≡ lower first
     → ((w : List ℕ) → Contains new w ↔ (Contains old w ⊎ (w ≡ added))) → Adds line old new
 adds_word line first added old new f l same h = record {
   fit = λ (w, g, k). omega (arith, l, k, ap length (first_word_is_one line w first g f));

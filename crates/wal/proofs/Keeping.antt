@@ -8,8 +8,10 @@ use Rattle.wal.specs.Reading.{IsOnlyRead}
 
 module _ {D : Type 0} (device : Disk D) (old new : D) where
   -- a crash leaves no more than before
-  pub no_more : device.tells → IsOnlyRead device old new → (c : Files) → images_now device new c → images_now device old c
-  no_more told read c left = let run = read.any_moment told in run.each (device.clock new) c run.later (omega arith) left
+  pub no_more : device.tells → IsOnlyRead device old new → (c : Files) → images_now device new c
+      → images_now device old c
+  no_more told read c left =
+      let run = read.any_moment told in run.each (device.clock new) c run.later (omega arith) left
 
   -- the log is as it was
   pub still_is : device.tells → IsOnlyRead device old new → (log : List ℕ) → LogIs device log old → LogIs device log new

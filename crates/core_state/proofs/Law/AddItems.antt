@@ -22,7 +22,8 @@ use Rattle.core_state.proofs.Law.Steps.{Before, Left, CaseOf}
 use Rattle.core_state.proofs.Law.SamePages.{not_first}
 use Rattle.core_state.proofs.Law.TreeCases.{add_items_trees}
 use Rattle.core_state.proofs.Law.TreeKinds.{TreePage, EntryWas, EntryNow, TreeMoves, tree_case, Taken, Given}
-use Rattle.core_state.proofs.Law.TreeViews.{no_items, body_entries, same_was, same_now, leaf_same, leaf_stays, entry_not_post}
+use Rattle.core_state.proofs.Law.TreeViews.{no_items, body_entries, same_was, same_now, leaf_same, leaf_stays}
+use Rattle.core_state.proofs.Law.TreeViews.{entry_not_post}
 
 module _ (n L : ℕ) (R : Log) (P Q : Pages) (r : Record) (floor since : ℕ) (g : Ghost)
     (b : Before n L R P Q r floor since g) (l : Left n since R P Q r) (x : IsAddItems R P Q r) where

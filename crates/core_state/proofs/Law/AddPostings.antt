@@ -27,7 +27,8 @@ use Rattle.core_state.proofs.Law.SamePages.{not_first}
 use Rattle.core_state.proofs.Law.TreeFields.{post_places}
 use Rattle.core_state.proofs.Law.TreeCases.{add_postings_trees}
 use Rattle.core_state.proofs.Law.TreeKinds.{TreePage, TreeMoves, tree_case, Taken, Given}
-use Rattle.core_state.proofs.Law.TreeViews.{body_items, post_entries, same_was, same_now, leaf_same, leaf_stays, same_post}
+use Rattle.core_state.proofs.Law.TreeViews.{body_items, post_entries, same_was, same_now, leaf_same, leaf_stays}
+use Rattle.core_state.proofs.Law.TreeViews.{same_post}
 
 module _ (n L : ℕ) (R : Log) (P Q : Pages) (r : Record) (floor since : ℕ) (g : Ghost)
     (b : Before n L R P Q r floor since g) (l : Left n since R P Q r) (x : IsAddPostings R P Q r) where

@@ -3,7 +3,8 @@ use Rattle.core_state.proofs.Law.Steps.{Cases, StepHolds}
 use Rattle.core_state.proofs.Law.OneStep.{step_holds}
 use Rattle.core_state.proofs.Law.Create.{create_case}
 use Rattle.core_state.proofs.Law.SamePages.{begin_case, commit_case, abort_case, checkpoint_case}
-use Rattle.core_state.proofs.Law.DocumentCases.{place_head_case, put_overflow_case, mark_deleted_case, put_pending_case, drop_page_case, free_slots_case}
+use Rattle.core_state.proofs.Law.DocumentCases.{place_head_case, put_overflow_case, mark_deleted_case, put_pending_case}
+use Rattle.core_state.proofs.Law.DocumentCases.{drop_page_case, free_slots_case}
 use Rattle.core_state.proofs.Law.AddRow.{add_row_case}
 use Rattle.core_state.proofs.Law.LinkPending.{link_pending_case}
 use Rattle.core_state.proofs.Law.Shift.{shift_case}

@@ -15,7 +15,8 @@ use Rattle.core_state.specs.Trees.Ext.Ext.{greatest}
 use Rattle.core_state.specs.Trees.Nodes as nodes
 use Rattle.core_state.specs.Trees.TreeNodes.{post_child, post_body, post_nodes}
 use Rattle.core_state.specs.Inner.Ghosts.{Place, Ghost, post_place, post_ghost}
-use Rattle.core_state.specs.Inner.Ghosts.Place.{unused, meta, heap, line, past, shifted, left, entry, post, overflow_of, private_of}
+use Rattle.core_state.specs.Inner.Ghosts.Place.{unused, meta, heap, line, past, shifted, left, entry, post, overflow_of}
+use Rattle.core_state.specs.Inner.Ghosts.Place.{private_of}
 use Rattle.core_state.specs.Inner.Kinds.{Fits}
 use Rattle.core_state.proofs.Trees.Kids.{kid_place}
 use Rattle.core_state.proofs.Trees.Order.{same_inner}

@@ -1,5 +1,6 @@
 -- The bounds of the trees of a legal log: children and leaves.
-use Rattle.std.proofs.Common.{◌≡◌, ◌≢◌, ◌<◌, ◌==◌, cond, Bool, false, ℕ, zero, suc, List, [], ◌∷◌, ◌++◌, map, refl, sym, ap, subst, ◌∙◌, inl, inr, arith}
+use Rattle.std.proofs.Common.{◌≡◌, ◌≢◌, ◌<◌, ◌==◌, cond, Bool, false, ℕ, zero, suc, List, [], ◌∷◌, ◌++◌, map, refl, sym}
+use Rattle.std.proofs.Common.{ap, subst, ◌∙◌, inl, inr, arith}
 use Rattle.ts_base.specs.Keys.{Key}
 use Rattle.page_types.specs.Numbers.{no_bound}
 use Rattle.page_types.specs.Keys.{KeyLess}
@@ -11,12 +12,14 @@ use Rattle.page_types.specs.declared.page.Body.{Body}
 use Rattle.page_types.specs.declared.page.Body.TheVariants as body
 use Rattle.core_state.specs.Log.{Log, Pages, In, Shows}
 use Rattle.core_state.specs.TreeRules.{IsRoot}
-use Rattle.core_state.specs.PagesTold.{HasHighKey, HasHighItem, LeavesInOrder, IsEntryLeaf, OnEntryLeaf, UpEntryLeaf, IsPostLeaf, OnPostLeaf, UpPostLeaf, BoundsStand}
+use Rattle.core_state.specs.PagesTold.{HasHighKey, HasHighItem, LeavesInOrder, IsEntryLeaf, OnEntryLeaf, UpEntryLeaf}
+use Rattle.core_state.specs.PagesTold.{IsPostLeaf, OnPostLeaf, UpPostLeaf, BoundsStand}
 use Rattle.core_state.specs.Trees.Ext.{Ext, ext_less}
 use Rattle.core_state.specs.Trees.Ext.Ext.{least, at, greatest}
 use Rattle.core_state.specs.Trees.Nodes as nodes
 use Rattle.core_state.specs.Trees.Nodes.{AtMost, Kids}
-use Rattle.core_state.specs.Trees.TreeNodes.{bound, entry_child, entry_nodes, high_bound, child_bound, post_child, post_nodes}
+use Rattle.core_state.specs.Trees.TreeNodes.{bound, entry_child, entry_nodes, high_bound, child_bound, post_child}
+use Rattle.core_state.specs.Trees.TreeNodes.{post_nodes}
 use Rattle.core_state.specs.Inner.Ghosts.{Place, Ghost, entry_place, post_place, entry_ghost, post_ghost}
 use Rattle.core_state.specs.Inner.Ghosts.Place.{entry, post}
 use Rattle.core_state.specs.Inner.Kinds.{Fits}
@@ -238,7 +241,8 @@ module _ (n L : ℕ) (R : Log) (P : Pages) (g : Ghost) (v : Inv n L R P g) (show
     )
 
     post_order : LeavesInOrder P (IsPostLeaf P root) (OnPostLeaf P) (UpPostLeaf P)
-    post_order = leaves_in_order items least greatest (no_less (λ i j. i < j)) (no_more (λ i j. i < j)) (post_nodes P) (post_ghost g) v.posts
+    post_order = leaves_in_order items least greatest (no_less (λ i j. i < j)) (no_more (λ i j. i < j)) (post_nodes P)
+        (post_ghost g) v.posts
         v.posts_rooted root top (ap post_place at_root) P (IsPostLeaf P root) (OnPostLeaf P) (UpPostLeaf P) at
         (zero_place g (page_0 n L R P g v shown)).1 post_at at_post
         (λ p l. ap right_in (posts.leaf_node (P p) l.1.0 l.1.1 l.1.2)) post_within post_up up_post (λ k. tt)

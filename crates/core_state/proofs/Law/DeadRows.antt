@@ -1,5 +1,6 @@
 -- A dead document that has its slot gets no more rows; and a reading of a log stays one.
-use Rattle.std.proofs.Common.{◌≡◌, ◌<◌, ◌≤◌, ◌+◌, ◌++◌, ℕ, suc, [], ◌∷◌, length, length-append, refl, sym, subst, ◌∙◌, inl, inr, arith}
+use Rattle.std.proofs.Common.{◌≡◌, ◌<◌, ◌≤◌, ◌+◌, ◌++◌, ℕ, suc, [], ◌∷◌, length, length-append, refl, sym, subst, ◌∙◌}
+use Rattle.std.proofs.Common.{inl, inr, arith}
 use Rattle.page_types.specs.declared.page.Head.{Head}
 use Rattle.page_types.specs.declared.page.Row.{Row}
 use Rattle.page_types.specs.declared.record.Record.{Record}
@@ -29,7 +30,8 @@ dead_placed n floor R P D d (IsDead.delete_counted x k e l m) =
 
 module _ (step : StepHolds) where
   -- over one record
-  module _ (S : Log) (r : Record) (v : RecordsAreValid S) (u : Valid S r (commits S) (suc (length S))) (d : Doc) (h : Head)
+  module _ (S : Log) (r : Record) (v : RecordsAreValid S) (u : Valid S r (commits S) (suc (length S))) (d : Doc)
+      (h : Head)
       (floor : ℕ) (dead : IsDead S floor d) (has : Has u.after d h) where
     before : Holds (commits S) (length S) S u.before
     before = plain_run step S v u.before u.shown

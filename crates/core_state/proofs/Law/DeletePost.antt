@@ -26,7 +26,8 @@ use Rattle.core_state.proofs.Law.Steps.{Before, Left, CaseOf}
 use Rattle.core_state.proofs.Law.SamePages.{not_first}
 use Rattle.core_state.proofs.Law.TreeCases.{delete_post_trees}
 use Rattle.core_state.proofs.Law.TreeKinds.{TreePage, TreeMoves, tree_case, Taken, Given}
-use Rattle.core_state.proofs.Law.TreeViews.{no_items, same_was, same_now, leaf_same, leaf_stays, same_post, entry_not_post}
+use Rattle.core_state.proofs.Law.TreeViews.{no_items, same_was, same_now, leaf_same, leaf_stays, same_post}
+use Rattle.core_state.proofs.Law.TreeViews.{entry_not_post}
 
 -- a posting leaf that keeps its items
 pub record LeafKept (P Q : Pages) (p : ℕ) : Type 0 where

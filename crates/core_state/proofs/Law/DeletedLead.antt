@@ -1,5 +1,6 @@
 -- A leaf that was deleted since a kept pin leads along right links to what was after it.
-use Rattle.std.proofs.Common.{◌≡◌, ◌⊎◌, ◌<◌, ◌≤◌, ℕ, suc, List, [], ◌∷◌, ◌++◌, length, map, refl, sym, ap, subst, ◌∙◌, inl, inr}
+use Rattle.std.proofs.Common.{◌≡◌, ◌⊎◌, ◌<◌, ◌≤◌, ℕ, suc, List, [], ◌∷◌, ◌++◌, length, map, refl, sym, ap, subst, ◌∙◌}
+use Rattle.std.proofs.Common.{inl, inr}
 use Rattle.page_types.specs.Items.{items_of}
 use Rattle.page_types.specs.declared.page.Page.{Page}
 use Rattle.page_types.specs.declared.page.Body.{Body}
@@ -18,7 +19,8 @@ use Rattle.core_state.specs.Trees.Nodes as nodes
 use Rattle.core_state.specs.Trees.Nodes.{AtMost}
 use Rattle.core_state.specs.Trees.TreeNodes.{high_bound, post_nodes}
 use Rattle.core_state.specs.Inner.Ghosts.{Place, Ghost, post_place, post_ghost}
-use Rattle.core_state.specs.Inner.Ghosts.Place.{unused, meta, heap, line, past, shifted, left, entry, post, overflow_of, private_of}
+use Rattle.core_state.specs.Inner.Ghosts.Place.{unused, meta, heap, line, past, shifted, left, entry, post, overflow_of}
+use Rattle.core_state.specs.Inner.Ghosts.Place.{private_of}
 use Rattle.core_state.specs.Inner.Kinds.{Fits}
 use Rattle.core_state.proofs.PageLists.{Unlinked, unlinked_pages}
 use Rattle.core_state.proofs.Trees.Order.{same_tree, at_most_less}

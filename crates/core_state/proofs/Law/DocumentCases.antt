@@ -29,7 +29,8 @@ use Rattle.core_state.proofs.TouchedPages.{head_was}
 use Rattle.core_state.proofs.HeadSteps.{rows_turned}
 use Rattle.core_state.proofs.StaysIndexed.{runs_alive}
 use Rattle.core_state.proofs.ChainFrames.{first_in}
-use Rattle.core_state.proofs.ChainRows.{LeavesOverflows, LeavesPrivates, DropsFrom, overflows_stay, put_overflows, privates_stay, put_privates, drop_overflows, drop_privates, drops_from}
+use Rattle.core_state.proofs.ChainRows.{LeavesOverflows, LeavesPrivates, DropsFrom, overflows_stay, put_overflows}
+use Rattle.core_state.proofs.ChainRows.{privates_stay, put_privates, drop_overflows, drop_privates, drops_from}
 use Rattle.core_state.proofs.Law.ChainsStay.{overflows, privates, chained_stay}
 use Rattle.core_state.proofs.Trees.Order.{put_here, put_else}
 use Rattle.core_state.proofs.Law.Steps.{Before, Left, Case, CaseOf}
@@ -209,7 +210,8 @@ module _ (n L : ℕ) (R : Log) (P Q : Pages) (r : Record) (floor since : ℕ) (g
       let h = page_of i in
       let c = x.here.head_after in
       let f = two_pages P (changed r) h a x.here.old x.here.was x.here.pages x.here.before_is in
-      let e = two_pages Q (changed r) h a x.here.heap_then (made_with r x.here.head.overflow (body.Overflow x.here.part))
+      let e =
+      two_pages Q (changed r) h a x.here.heap_then (made_with r x.here.head.overflow (body.Overflow x.here.part))
       x.here.pages x.here.after_is in
       let k = kind.PutOverflow x.here.doc.item x.here.doc.serial in
       doc_case n L R P Q r since a g (overflow_of i) b.inv l some

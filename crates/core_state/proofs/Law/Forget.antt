@@ -12,8 +12,10 @@ use Rattle.core_state.specs.Trees.Ext.Ext.{least, greatest}
 use Rattle.core_state.specs.Trees.TreeNodes.{entry_nodes, post_nodes}
 use Rattle.core_state.proofs.Trees.Below.{Rooted}
 use Rattle.core_state.proofs.Law.Rooted.{AreRooted}
-use Rattle.core_state.specs.Inner.Ghosts.{Place, Ghost, entry_place, post_place, entry_ghost, post_ghost, forgotten_place, forgotten}
-use Rattle.core_state.specs.Inner.Ghosts.Place.{unused, meta, heap, line, past, shifted, left, entry, post, overflow_of, private_of}
+use Rattle.core_state.specs.Inner.Ghosts.{Place, Ghost, entry_place, post_place, entry_ghost, post_ghost}
+use Rattle.core_state.specs.Inner.Ghosts.{forgotten_place, forgotten}
+use Rattle.core_state.specs.Inner.Ghosts.Place.{unused, meta, heap, line, past, shifted, left, entry, post, overflow_of}
+use Rattle.core_state.specs.Inner.Ghosts.Place.{private_of}
 use Rattle.core_state.specs.Inner.ItemChains.{Chains}
 use Rattle.core_state.specs.Inner.Kinds.{Fits, PagesStart, IsLined, AreChained}
 use Rattle.core_state.specs.Inner.Effects.{AreIndexed}

@@ -28,7 +28,8 @@ use Rattle.core_state.proofs.Law.LooseSteps.{no_entries}
 use Rattle.core_state.proofs.Law.MakeTree.{nowhere_taken}
 use Rattle.core_state.proofs.Law.TreeCases.{grow_root_trees}
 use Rattle.core_state.proofs.Law.TreeKinds.{TreePage, EntryWas, EntryNow, TreeMoves, tree_case, Taken, Given}
-use Rattle.core_state.proofs.Law.TreeViews.{fits_entry, fits_post, post_entries, body_items, body_entries, same_was, same_now, leaf_same, leaf_stays, same_post, entry_not_post}
+use Rattle.core_state.proofs.Law.TreeViews.{fits_entry, fits_post, post_entries, body_items, body_entries, same_was}
+use Rattle.core_state.proofs.Law.TreeViews.{same_now, leaf_same, leaf_stays, same_post, entry_not_post}
 
 -- content of the entry tree, and of a posting tree
 abbrev EntryBody : Body → Type 0

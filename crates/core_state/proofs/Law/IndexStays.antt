@@ -1,6 +1,7 @@
 -- Without the kinds 12 to 21 the trees and the main part stay, linked rows stay linked, whole documents stay whole,
 -- and dead ones stay as they are and get no more rows.
-use Rattle.std.proofs.Common.{◌≡◌, ◌≢◌, ◌⊎◌, ◌++◌, ◌+◌, ℕ, suc, [], ◌∷◌, length, refl, sym, ap, subst, ◌∙◌, inl, inr, arith}
+use Rattle.std.proofs.Common.{◌≡◌, ◌≢◌, ◌⊎◌, ◌++◌, ◌+◌, ℕ, suc, [], ◌∷◌, length, refl, sym, ap, subst, ◌∙◌, inl, inr}
+use Rattle.std.proofs.Common.{arith}
 use Rattle.ts_base.specs.Vectors.{Vector}
 use Rattle.page_types.specs.Views.{rows_of}
 use Rattle.page_types.specs.declared.page.Page.{Page}
@@ -18,7 +19,8 @@ use Rattle.core_state.specs.Index.{IsLinked, Below}
 use Rattle.core_state.specs.TreeRules.{IsRoot}
 use Rattle.core_state.specs.Legal.{RuleHolds, Valid, RecordsAreValid}
 use Rattle.core_state.specs.Steady.{IsIndexWork, LeavesIndex, KeepsHead, IndexStays}
-use Rattle.core_state.specs.Inner.PageKinds.{IsHeap, IsOverflow, IsPending, IsTree, IsDeleted, ChangesTrees, IsChanged, Touched}
+use Rattle.core_state.specs.Inner.PageKinds.{IsHeap, IsOverflow, IsPending, IsTree, IsDeleted, ChangesTrees, IsChanged}
+use Rattle.core_state.specs.Inner.PageKinds.{Touched}
 use Rattle.core_state.specs.Inner.Ghosts.{Place, Ghost}
 use Rattle.core_state.specs.Inner.Ghosts.Place.{line, shifted, overflow_of, private_of}
 use Rattle.core_state.specs.Inner.Kinds.{Fits}
@@ -151,7 +153,8 @@ module _ (n L : ℕ) (R : Log) (P Q : Pages) (r : Record) (floor since : ℕ) (g
   pub quiet_step : Quiet R P Q
   quiet_step = record {
     same = trees_stay P Q r since touch other no_trees later;
-    trees = λ root p is below. tree_stays P Q r since touch other no_trees later p (root_tree n L R P g v some root p is below);
+    trees = λ root p is below. tree_stays P Q r since touch other no_trees later p
+        (root_tree n L R P g v some root p is below);
     rows = λ w k. rows_on w a.case.line k;
     whole = whole_on;
     dead = λ d h level dead has. dead_keeps R P Q r floor since row touch other g.line (λ i q. g.place q ≡ overflow_of

@@ -20,7 +20,8 @@ use Rattle.core_state.specs.Trees.Ext.Ext.{greatest}
 use Rattle.core_state.specs.Trees.TreeNodes.{entry_child, entry_body, entry_nodes}
 use Rattle.core_state.specs.Inner.PageKinds.{IsHeap, IsOverflow, IsPending, IsMeta, IsTree, IsChanged}
 use Rattle.core_state.specs.Inner.Ghosts.{Place, Ghost, entry_place, entry_ghost}
-use Rattle.core_state.specs.Inner.Ghosts.Place.{unused, meta, heap, line, past, shifted, left, entry, post, overflow_of, private_of}
+use Rattle.core_state.specs.Inner.Ghosts.Place.{unused, meta, heap, line, past, shifted, left, entry, post, overflow_of}
+use Rattle.core_state.specs.Inner.Ghosts.Place.{private_of}
 use Rattle.core_state.specs.Inner.Kinds.{Fits}
 use Rattle.core_state.specs.Inner.ItemChains.{Chains}
 use Rattle.core_state.proofs.PageLists.{in_or_not}
@@ -140,7 +141,8 @@ heap_only : (b : Body) → IsHeap b → (IsOverflow b → ⊥) × (IsTree b → 
 heap_only (body.Heap slots) is = (λ f. f, λ f. f, λ f. f, λ f. f)
 heap_only _ is = absurd is
 
-pub heap_stays : (P Q : Pages) (r : Record) (since p : ℕ) → IsHeap (P p).body → IsChanged P Q r since p → IsHeap (Q p).body
+pub heap_stays : (P Q : Pages) (r : Record) (since p : ℕ) → IsHeap (P p).body → IsChanged P Q r since p
+    → IsHeap (Q p).body
 heap_stays P Q r since p is (IsChanged.made k was after) =
     absurd (subst IsHeap (ap (λ (x : Page). x.body) was) is)
 heap_stays P Q r since p is (IsChanged.heads was after at) = after
@@ -189,7 +191,8 @@ heap_page (r ∷ R) P v shown x d i =
       | inl old ↦
           let was = heap_page R u.before v.0 u.shown x d old in
           elim (in_or_not (page_of d.item) (changed r)) [
-            | inl on ↦ heap_stays u.before u.after r _ (page_of d.item) was (touches R r _ _ u (page_of d.item) on).change
+            | inl on ↦ heap_stays u.before u.after r _ (page_of d.item) was
+                (touches R r _ _ u (page_of d.item) on).change
             | inr off ↦ subst (λ (q : Page). IsHeap q.body) (sym (elsewhere R r _ _ u (page_of d.item) off)) was
           ]
     ])

@@ -1,5 +1,6 @@
 -- The pages that a link of a private chain changes, and the places after it.
-use Rattle.std.proofs.Common.{◌≡◌, ◌≢◌, ◌⊎◌, ◌+◌, ℕ, ◌==◌, cond, List, [], ◌∷◌, ◌++◌, map, refl, sym, ap, subst, ◌∙◌, inl, inr, arith}
+use Rattle.std.proofs.Common.{◌≡◌, ◌≢◌, ◌⊎◌, ◌+◌, ℕ, ◌==◌, cond, List, [], ◌∷◌, ◌++◌, map, refl, sym, ap, subst, ◌∙◌}
+use Rattle.std.proofs.Common.{inl, inr, arith}
 use Rattle.page_types.specs.declared.page.Page.{Page}
 use Rattle.page_types.specs.declared.page.Row.{Row}
 use Rattle.page_types.specs.declared.page.Body.TheVariants as body
@@ -10,7 +11,8 @@ use Rattle.core_state.specs.Index.{Line}
 use Rattle.core_state.specs.Changes.{made_with}
 use Rattle.core_state.specs.PendingRules.{IsLinkHere}
 use Rattle.core_state.specs.Inner.Ghosts.{Place}
-use Rattle.core_state.specs.Inner.Ghosts.Place.{unused, meta, heap, line, past, shifted, left, entry, post, overflow_of, private_of}
+use Rattle.core_state.specs.Inner.Ghosts.Place.{unused, meta, heap, line, past, shifted, left, entry, post, overflow_of}
+use Rattle.core_state.specs.Inner.Ghosts.Place.{private_of}
 use Rattle.core_state.specs.Inner.Kinds.{last_of}
 use Rattle.core_state.proofs.PageLists.{same_or_not, two_pages, three_pages}
 

@@ -1,5 +1,6 @@
 -- The case of a private chain that comes after the pending list.
-use Rattle.std.proofs.Common.{◌≡◌, ◌≢◌, ◌⊎◌, ◌+◌, ℕ, List, [], ◌∷◌, ◌++◌, length, refl, sym, ap, ap₂, subst, ◌∙◌, inl, inr, append_assoc, append-nil, length-append}
+use Rattle.std.proofs.Common.{◌≡◌, ◌≢◌, ◌⊎◌, ◌+◌, ℕ, List, [], ◌∷◌, ◌++◌, length, refl, sym, ap, ap₂, subst, ◌∙◌, inl}
+use Rattle.std.proofs.Common.{inr, append_assoc, append-nil, length-append}
 use Rattle.std.proofs.lemmas.List.{map-append}
 use Rattle.ts_base.specs.Vectors.{Vector}
 use Rattle.ts_base.specs.Keys.{Key, keys_of}
@@ -38,8 +39,10 @@ use Rattle.core_state.proofs.Law.SamePages.{not_first}
 use Rattle.core_state.proofs.Law.OwnersStay.{PrivateNow, rows_stay, all_keys_stay, on_line_row, same_rows}
 use Rattle.core_state.proofs.Law.LooseSteps.{Loose, PageNow, kinds_now, trees_now, named_now, main_now, items_now}
 use Rattle.core_state.proofs.Law.ChainsStay.{overflows, privates}
-use Rattle.core_state.proofs.Law.Groups.{Filled, in_either, first_more, key_before, key_behind, link_grouped, chain_grouped, last_once}
-use Rattle.core_state.proofs.Law.LinkPages.{joined, joined_back, joined_here, joined_on, joined_was, LinkPages, link_pages, chain_join, last_is}
+use Rattle.core_state.proofs.Law.Groups.{Filled, in_either, first_more, key_before, key_behind, link_grouped}
+use Rattle.core_state.proofs.Law.Groups.{chain_grouped, last_once}
+use Rattle.core_state.proofs.Law.LinkPages.{joined, joined_back, joined_here, joined_on, joined_was, LinkPages}
+use Rattle.core_state.proofs.Law.LinkPages.{link_pages, chain_join, last_is}
 
 meta_count : (a b c d e f : ℕ) → body.Meta a b c ≡ body.Meta d e f → (a ≡ d) × (c ≡ f)
 meta_count a b c d e f m = (cc, cc)

@@ -3,8 +3,10 @@ use Rattle.std.proofs.Common.{◌≡◌, ◌⊎◌, ℕ, suc, List, [], ◌∷�
 use Rattle.page_types.specs.declared.record.Record.{Record}
 use Rattle.core_state.specs.Log.{Log, Pages, Shows, commits}
 use Rattle.core_state.specs.Legal.{Pin, KeepsEach, RecordsAreValid}
-use Rattle.core_state.specs.Inner.Ghosts.{Ghost, Place, entry_place, post_place, entry_ghost, post_ghost, forgotten, forgotten_place, no_ghost}
-use Rattle.core_state.specs.Inner.Ghosts.Place.{unused, meta, heap, line, past, shifted, left, entry, post, overflow_of, private_of}
+use Rattle.core_state.specs.Inner.Ghosts.{Ghost, Place, entry_place, post_place, entry_ghost, post_ghost, forgotten}
+use Rattle.core_state.specs.Inner.Ghosts.{forgotten_place, no_ghost}
+use Rattle.core_state.specs.Inner.Ghosts.Place.{unused, meta, heap, line, past, shifted, left, entry, post, overflow_of}
+use Rattle.core_state.specs.Inner.Ghosts.Place.{private_of}
 use Rattle.core_state.specs.Trees.Ext.Ext.{least, greatest}
 use Rattle.core_state.specs.Trees.Nodes.TreePlace.{none}
 use Rattle.core_state.specs.Trees.TreeNodes.{entry_nodes, post_nodes}

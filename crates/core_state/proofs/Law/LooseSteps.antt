@@ -46,7 +46,8 @@ no_entries L x p f e = go p.body refl
     go (body.Deleted gone) s = ap entries_in s
 
 tree_not_loose : (x : Place) (r h : ℕ) → Loose x → x ≡ post r h → ⊥
-tree_not_loose x r h l e = let z : nodes.TreePlace.tree r h ≡ nodes.TreePlace.none = sym (ap post_place e) ∙ l.post in cc
+tree_not_loose x r h l e =
+    let z : nodes.TreePlace.tree r h ≡ nodes.TreePlace.none = sym (ap post_place e) ∙ l.post in cc
 
 module _ (n since L : ℕ) (R : Log) (P Q : Pages) (r : Record) (g : Ghost) (v : Inv n L R P g)
     (l : Left n since R P Q r) (f : ℕ → Place) (ln : List ℕ) where

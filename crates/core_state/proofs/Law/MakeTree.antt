@@ -26,7 +26,8 @@ use Rattle.core_state.proofs.Law.NewPlaces.{Nowhere, nowhere_loose, nowhere_not,
 use Rattle.core_state.proofs.Law.LooseSteps.{no_entries}
 use Rattle.core_state.proofs.Law.TreeCases.{make_tree_trees}
 use Rattle.core_state.proofs.Law.TreeKinds.{TreePage, EntryWas, EntryNow, TreeMoves, tree_case, Taken, Given}
-use Rattle.core_state.proofs.Law.TreeViews.{body_entries, same_was, same_now, leaf_same, leaf_stays, same_post, entry_not_post}
+use Rattle.core_state.proofs.Law.TreeViews.{body_entries, same_was, same_now, leaf_same, leaf_stays, same_post}
+use Rattle.core_state.proofs.Law.TreeViews.{entry_not_post}
 
 pub nowhere_taken : (x : Place) → Nowhere x → Taken x
 nowhere_taken x (inl e) = subst Taken (sym e) tt

@@ -90,7 +90,8 @@ module _ (n L : ℕ) (R : Log) (P : Pages) (g : Ghost) (v : Inv n L R P g) (some
   stands p (told.PagePlace.posting_tree r) b = ap place_told (in_tree r p b.0 b.1 b.2).1
   stands p (told.PagePlace.overflow_of i) c =
       ap place_told (on_chain (λ h. h.overflow) overflow_of v.chained.overflow p i c)
-  stands p (told.PagePlace.private_of i) c = ap place_told (on_chain (λ h. h.private) private_of v.chained.private p i c)
+  stands p (told.PagePlace.private_of i) c =
+      ap place_told (on_chain (λ h. h.private) private_of v.chained.private p i c)
   stands p told.PagePlace.line c =
       ap place_told ((v.lined.on p).0 (subst (In p) (chain_one P _ c.0 g.line c.1 v.lined.is_line) c.2))
 

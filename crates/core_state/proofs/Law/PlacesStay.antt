@@ -1,5 +1,6 @@
 -- Where pages are in a log, and in one that goes on from it.
-use Rattle.std.proofs.Common.{◌≡◌, ◌≢◌, ◌⊎◌, ◌<◌, ◌≤◌, ◌++◌, ℕ, suc, List, [], ◌∷◌, length, length-append, refl, sym, ap, subst, ◌∙◌, inl, inr, arith}
+use Rattle.std.proofs.Common.{◌≡◌, ◌≢◌, ◌⊎◌, ◌<◌, ◌≤◌, ◌++◌, ℕ, suc, List, [], ◌∷◌, length, length-append, refl, sym}
+use Rattle.std.proofs.Common.{ap, subst, ◌∙◌, inl, inr, arith}
 use Rattle.std.specs.Prelude.{Option}
 use Rattle.page_types.specs.Views.{first_of}
 use Rattle.page_types.specs.declared.page.Page.{Page}
@@ -165,11 +166,14 @@ module _ (step : StepHolds) where
       let pages = shown_one (r ∷ S) Q u.after shown' u.shown_after in
       elim (in_or_not p (changed r)) [
         | inl on ↦
-            let now = is_heap (u.after p).body (heap_stays u.before u.after r _ p (heap_of (u.before p).body old.0 old.1)
+            let now =
+            is_heap (u.after p).body (heap_stays u.before u.after r _ p (heap_of (u.before p).body old.0 old.1)
             (touches S r _ _ u p on).change) in
             (now.0, ap (λ (T : Pages). (T p).body) pages ∙ now.1)
-        | inr off ↦
-            (old.0, ap (λ (T : Pages). (T p).body) pages ∙ ap (λ (q : Page). q.body) (elsewhere S r _ _ u p off) ∙ old.1)
+        | inr off ↦ (
+          old.0,
+          ap (λ (T : Pages). (T p).body) pages ∙ ap (λ (q : Page). q.body) (elsewhere S r _ _ u p off) ∙ old.1,
+        )
       ]
 
   pub places_stay : (later R : Log) → RecordsAreValid (later ++ R) → R ≢ [] → (P Q : Pages) → Shows R P

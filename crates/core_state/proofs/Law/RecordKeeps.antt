@@ -1,5 +1,6 @@
 -- What one record more leaves as it is.
-use Rattle.std.proofs.Common.{◌≡◌, ◌≢◌, ◌⊎◌, ◌≤◌, ℕ, suc, [], ◌∷◌, length, refl, sym, ap, subst, subst₂, ◌∙◌, inl, inr, arith}
+use Rattle.std.proofs.Common.{◌≡◌, ◌≢◌, ◌⊎◌, ◌≤◌, ℕ, suc, [], ◌∷◌, length, refl, sym, ap, subst, subst₂, ◌∙◌, inl, inr}
+use Rattle.std.proofs.Common.{arith}
 use Rattle.std.specs.Prelude.{⊤, None}
 use Rattle.ts_base.specs.Keys.{Key}
 use Rattle.page_types.specs.Views.{slots_of, slot_at}
@@ -13,7 +14,9 @@ use Rattle.core_state.specs.Log.{Log, Pages, In, changed, commits}
 use Rattle.core_state.specs.Documents.{Doc, page_of, slot_of, head_of}
 use Rattle.core_state.specs.Index.{IsLinked, Main}
 use Rattle.core_state.specs.Legal.{Valid, RecordsAreValid}
-use Rattle.core_state.specs.RecordKeeps.{IsOwnRow, SameHeads, SameRows, SameMain, TreesStay, PlacingKeeps, RemovingKeeps, DeletingKeeps, DroppingKeeps, FreeingKeeps, RecordKeeps, RecordsKeep}
+use Rattle.core_state.specs.RecordKeeps.{IsOwnRow, SameHeads, SameRows, SameMain, TreesStay, PlacingKeeps}
+use Rattle.core_state.specs.RecordKeeps.{RemovingKeeps, DeletingKeeps, DroppingKeeps, FreeingKeeps, RecordKeeps}
+use Rattle.core_state.specs.RecordKeeps.{RecordsKeep}
 use Rattle.core_state.specs.Inner.PageKinds.{ChangesLine, ChangesTrees, Touched}
 use Rattle.core_state.specs.Inner.Ghosts.Place.{overflow_of, private_of}
 use Rattle.core_state.proofs.Showing.{shown_one}

@@ -20,7 +20,8 @@ use Rattle.core_state.proofs.Law.Steps.{Before, Left, CaseOf, Departs}
 use Rattle.core_state.proofs.Law.SamePages.{not_first}
 use Rattle.core_state.proofs.Law.TreeCases.{remove_items_trees}
 use Rattle.core_state.proofs.Law.TreeKinds.{TreePage, EntryWas, EntryNow, TreeMoves, tree_case, Taken, Given}
-use Rattle.core_state.proofs.Law.TreeViews.{body_items, body_entries, may_leave, same_was, same_now, leaf_same, leaf_stays}
+use Rattle.core_state.proofs.Law.TreeViews.{body_items, body_entries, may_leave, same_was, same_now, leaf_same}
+use Rattle.core_state.proofs.Law.TreeViews.{leaf_stays}
 
 -- an entry that lost items was there, and each that was there is there with what is left
 pub entry_old : (removed : List ℕ) (old new : List Entry) → EntriesLose removed old new → (f : Entry) → In f new

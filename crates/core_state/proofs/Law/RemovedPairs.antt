@@ -14,7 +14,8 @@ use Rattle.core_state.specs.Index.{children_in, Main}
 use Rattle.core_state.specs.Changes.{made_with}
 use Rattle.core_state.specs.TreeRules.{IsDeletePost}
 use Rattle.core_state.specs.VacuumRules.{EntryLoses, ListsLose, IsRemoveItems}
-use Rattle.core_state.proofs.PageLists.{same_or_not, in_or_not, in_front, in_back, in_either, one_page, Unlinked, LeftLeaf, unlinked_pages}
+use Rattle.core_state.proofs.PageLists.{same_or_not, in_or_not, in_front, in_back, in_either, one_page, Unlinked}
+use Rattle.core_state.proofs.PageLists.{LeftLeaf, unlinked_pages}
 use Rattle.core_state.proofs.Trees.Members.{in_map, of_map}
 use Rattle.core_state.proofs.Law.PairFrames.{EntryGoes, PairsGo, main_goes}
 use Rattle.core_state.proofs.Law.RemoveItems.{entry_old, entry_new}
@@ -160,7 +161,8 @@ module _ (R : Log) (P Q : Pages) (r : Record) (x : IsDeletePost R P Q r) (elsewh
             let c = of_map (λ (z : PostChild). z.page) q (x.here.front ++ x.here.next ∷ x.here.back) i in
             subst (λ (z : ℕ). In z (map (λ (d : PostChild). d.page)
             (x.here.front ++ record { page = leaf; bound = x.here.bound } ∷ x.here.next ∷ x.here.back))) (sym c.2)
-            (in_map (λ (z : PostChild). z.page) c.0 _ (elim (in_either c.0 x.here.front (x.here.next ∷ x.here.back) c.1) [
+            (in_map (λ (z : PostChild). z.page) c.0 _
+            (elim (in_either c.0 x.here.front (x.here.next ∷ x.here.back) c.1) [
               | inl f ↦ in_front c.0 x.here.front _ f
               | inr b ↦ in_back c.0 x.here.front _ (inr b)
             ]));

@@ -10,7 +10,8 @@ use Rattle.core_state.specs.Log.{Log, Pages, In, changed}
 use Rattle.core_state.specs.Documents.{IsChain}
 use Rattle.core_state.specs.Index.{Line, IsLinked}
 use Rattle.core_state.specs.RecordKeeps.{SameRows}
-use Rattle.core_state.specs.Inner.PageKinds.{IsHeap, IsOverflow, IsPending, IsMeta, IsTree, ChangesLine, IsFirstOf, IsChanged, Touched}
+use Rattle.core_state.specs.Inner.PageKinds.{IsHeap, IsOverflow, IsPending, IsMeta, IsTree, ChangesLine, IsFirstOf}
+use Rattle.core_state.specs.Inner.PageKinds.{IsChanged, Touched}
 use Rattle.core_state.specs.Inner.Ghosts.{Place, Ghost}
 use Rattle.core_state.specs.Inner.Ghosts.Place.{meta, line, private_of}
 use Rattle.core_state.specs.Inner.Kinds.{Fits}

@@ -1,5 +1,6 @@
 -- In every legal log the document of a linked row is indexed.
-use Rattle.std.proofs.Common.{◌≡◌, ◌≢◌, ◌⊎◌, ◌++◌, ℕ, suc, List, [], ◌∷◌, length, refl, sym, ap, subst, ◌∙◌, inl, inr, arith}
+use Rattle.std.proofs.Common.{◌≡◌, ◌≢◌, ◌⊎◌, ◌++◌, ℕ, suc, List, [], ◌∷◌, length, refl, sym, ap, subst, ◌∙◌, inl, inr}
+use Rattle.std.proofs.Common.{arith}
 use Rattle.ts_base.specs.Keys.{Key, keys_of}
 use Rattle.page_types.specs.Views.{rows_of, first_of, first_in}
 use Rattle.page_types.specs.declared.page.Page.{Page}

@@ -1,5 +1,6 @@
 -- The case of the first pending page that leaves the pending list.
-use Rattle.std.proofs.Common.{◌≡◌, ◌≢◌, ◌⊎◌, ◌<◌, ℕ, suc, List, [], ◌∷◌, length, refl, sym, ap, ap₂, subst, ◌∙◌, inl, inr, arith}
+use Rattle.std.proofs.Common.{◌≡◌, ◌≢◌, ◌⊎◌, ◌<◌, ℕ, suc, List, [], ◌∷◌, length, refl, sym, ap, ap₂, subst, ◌∙◌, inl}
+use Rattle.std.proofs.Common.{inr, arith}
 use Rattle.ts_base.specs.Keys.{keys_of}
 use Rattle.page_types.specs.Views.{rows_of, kept_rows_of, first_of, first_in}
 use Rattle.page_types.specs.declared.page.Page.{Page}

@@ -25,7 +25,8 @@ use Rattle.core_state.proofs.Law.Steps.{Before, Left, TreesStep}
 use Rattle.core_state.proofs.Law.Belows.{post_is}
 use Rattle.core_state.proofs.Law.LooseSteps.{Loose}
 use Rattle.core_state.proofs.Law.TreeFields.{entry_is, put_through, put_unseen}
-use Rattle.core_state.proofs.Law.TreeCases.{in_entries, in_posts, not_empty, meta_page, new_apart, quiet_entries, quiet_posts, entries_at, posts_at, grown}
+use Rattle.core_state.proofs.Law.TreeCases.{in_entries, in_posts, not_empty, meta_page, new_apart, quiet_entries}
+use Rattle.core_state.proofs.Law.TreeCases.{quiet_posts, entries_at, posts_at, grown}
 
 -- what is divided is a page of the tree in which it is divided
 entry_whole : (mid : Key) (whole left right : Body) → EntryHalves mid whole left right → IsNoPostPage whole

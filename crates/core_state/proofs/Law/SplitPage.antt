@@ -1,5 +1,6 @@
 -- The case of a page of a tree that is divided.
-use Rattle.std.proofs.Common.{◌≡◌, ◌≢◌, ◌⊎◌, ◌<◌, ℕ, zero, suc, List, [], ◌∷◌, ◌++◌, refl, sym, ap, subst, ◌∙◌, inl, inr}
+use Rattle.std.proofs.Common.{◌≡◌, ◌≢◌, ◌⊎◌, ◌<◌, ℕ, zero, suc, List, [], ◌∷◌, ◌++◌, refl, sym, ap, subst, ◌∙◌, inl}
+use Rattle.std.proofs.Common.{inr}
 use Rattle.ts_base.specs.Keys.{Key}
 use Rattle.page_types.specs.Items.{items_of}
 use Rattle.page_types.specs.Views.{entries_of, entries_in, posting_items_in}
@@ -33,7 +34,8 @@ use Rattle.core_state.proofs.Law.LooseSteps.{no_entries}
 use Rattle.core_state.proofs.Law.MakeTree.{nowhere_taken}
 use Rattle.core_state.proofs.Law.SplitCases.{split_trees}
 use Rattle.core_state.proofs.Law.TreeKinds.{TreePage, EntryWas, EntryNow, TreeMoves, tree_case, Taken, Given}
-use Rattle.core_state.proofs.Law.TreeViews.{post_entries, same_was, same_now, leaf_same, leaf_stays, same_post, entry_not_post}
+use Rattle.core_state.proofs.Law.TreeViews.{post_entries, same_was, same_now, leaf_same, leaf_stays, same_post}
+use Rattle.core_state.proofs.Law.TreeViews.{entry_not_post}
 
 -- what the two parts show of the whole
 pub record EntryParts (whole left right : Body) : Type 0 where

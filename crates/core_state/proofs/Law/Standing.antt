@@ -61,7 +61,8 @@ module _ (n : ℕ) (R : Log) (P : Pages) (D : HeadsKept n R P) where
       clash f = cc
 
   runs_not_dead : (x : ℕ) (d : Doc) (floor : ℕ) → fate R x ≡ Running → In d (placed R x) → IsDead R floor d → ⊥
-  runs_not_dead x d floor runs p dead = placed_alive (n + floor) R P (heads_more n (n + floor) R P (omega arith) D) x d p
+  runs_not_dead x d floor runs p dead =
+      placed_alive (n + floor) R P (heads_more n (n + floor) R P (omega arith) D) x d p
       runs (dead_more R floor (n + floor) d (omega arith) dead)
 
 pub documents_hold : StepHolds → DocumentsHold

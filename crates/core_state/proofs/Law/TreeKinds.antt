@@ -13,7 +13,8 @@ use Rattle.core_state.specs.Log.{Log, Pages, In}
 use Rattle.core_state.specs.Index.{Pending}
 use Rattle.core_state.specs.Bullets.{Owned}
 use Rattle.core_state.specs.Inner.Ghosts.{Place, Ghost}
-use Rattle.core_state.specs.Inner.Ghosts.Place.{unused, meta, line, past, shifted, left, entry, post, overflow_of, private_of}
+use Rattle.core_state.specs.Inner.Ghosts.Place.{unused, meta, line, past, shifted, left, entry, post, overflow_of}
+use Rattle.core_state.specs.Inner.Ghosts.Place.{private_of}
 use Rattle.core_state.specs.Inner.Kinds.{Fits, PagesStart, AreChained}
 use Rattle.core_state.specs.Inner.Owners.{RowsOwned, ItemsOwned, TreesNamed}
 use Rattle.core_state.proofs.ChainRows.{LeavesOverflows, LeavesPrivates}

@@ -1,5 +1,6 @@
 -- The trees' parts of what holds in every legal log, and under each pin that it keeps, from the step over one record.
-use Rattle.std.proofs.Common.{◌≡◌, ◌⊎◌, ◌<◌, ◌≤◌, ◌+◌, ℕ, suc, List, [], ◌∷◌, ◌++◌, length, sym, ap, subst, subst₂, ◌∙◌, inl, inr, arith}
+use Rattle.std.proofs.Common.{◌≡◌, ◌⊎◌, ◌<◌, ◌≤◌, ◌+◌, ℕ, suc, List, [], ◌∷◌, ◌++◌, length, sym, ap, subst, subst₂, ◌∙◌}
+use Rattle.std.proofs.Common.{inl, inr, arith}
 use Rattle.std.proofs.lemmas.List.{length-append}
 use Rattle.page_types.specs.declared.record.Record.{Record}
 use Rattle.page_types.specs.declared.record.Kind.TheVariants as kind
@@ -7,7 +8,8 @@ use Rattle.core_state.specs.Log.{Log, Pages, Shows, commits, changed}
 use Rattle.core_state.specs.Index.{Below}
 use Rattle.core_state.specs.TreeRules.{IsDeletePost}
 use Rattle.core_state.specs.Legal.{RuleHolds, RecordsAreValid, Pin, KeepsEach}
-use Rattle.core_state.specs.Bullets.{WasDeleted, LeavesAreNamed, TreesAreBounded, LeavesLead, DeletedLeavesLead, OnePlace}
+use Rattle.core_state.specs.Bullets.{WasDeleted, LeavesAreNamed, TreesAreBounded, LeavesLead, DeletedLeavesLead}
+use Rattle.core_state.specs.Bullets.{OnePlace}
 use Rattle.core_state.specs.Inner.Ghosts.{Ghost}
 use Rattle.core_state.proofs.Showing.{shown_one}
 use Rattle.core_state.proofs.RulesByKind.{RuleOf, rule_of}

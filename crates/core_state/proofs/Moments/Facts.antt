@@ -1,5 +1,6 @@
 -- What holds, over the moments past a pin, of a document of its snapshot.
-use Rattle.std.proofs.Common.{◌≡◌, ◌<◌, ◌≤◌, ◌+◌, ◌-◌, ℕ, suc, [], ◌∷◌, ◌++◌, length, length-append, append_assoc, drop, refl, sym, ap, subst, ◌∙◌, arith}
+use Rattle.std.proofs.Common.{◌≡◌, ◌<◌, ◌≤◌, ◌+◌, ◌-◌, ℕ, suc, [], ◌∷◌, ◌++◌, length, length-append, append_assoc, drop}
+use Rattle.std.proofs.Common.{refl, sym, ap, subst, ◌∙◌, arith}
 use Rattle.std.proofs.lemmas.List.{drop-append-le}
 use Rattle.core_state.specs.Log.{Log, Pages, In, Shows, fate, fate_with, cut}
 use Rattle.core_state.specs.Documents.{Doc, HasVector, IsDead, placed}

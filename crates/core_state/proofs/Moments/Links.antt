@@ -1,5 +1,6 @@
 -- Over the moments past a pin a walk along links reads no page twice.
-use Rattle.std.proofs.Common.{◌≡◌, ◌≢◌, ◌<◌, ◌≤◌, ◌+◌, ◌-◌, ℕ, zero, suc, List, [], ◌∷◌, length, refl, sym, ap, subst, ◌∙◌, inl, inr, arith}
+use Rattle.std.proofs.Common.{◌≡◌, ◌≢◌, ◌<◌, ◌≤◌, ◌+◌, ◌-◌, ℕ, zero, suc, List, [], ◌∷◌, length, refl, sym, ap, subst}
+use Rattle.std.proofs.Common.{◌∙◌, inl, inr, arith}
 use Rattle.page_types.specs.Views.{entries_of, kept_rows_of, first_of, free_page}
 use Rattle.page_types.specs.declared.page.Page.{Page}
 use Rattle.page_types.specs.declared.page.Entry.{Entry}
@@ -158,7 +159,8 @@ module _ (step : StepHolds) (R : Log) (pin : Pin) (legal : IsLegal R) (keeps : K
           let q = subst (Rising s (length R)) e rise in
           let bound = rising_end y.time (length R) (z ∷ ys) q.1 in
           let named = (T.inv s low high).named.is_root p r x on is in
-          let there = stays_in (y.time - s) s r low (omega (arith, q.0, bound)) (inl (named.0, ap post_place named.1)) in
+          let there =
+          stays_in (y.time - s) s r low (omega (arith, q.0, bound)) (inl (named.0, ap post_place named.1)) in
           let now : w.IsIn (post_ghost (g y.time)) r r = subst (λ c. w.IsIn (post_ghost (g c)) r r)
           (let h : s + (y.time - s) ≡ y.time = omega (arith, q.0) in h) there in
           subst (λ c. (post_ghost (g y.time)).place c ≢ nodes.TreePlace.none) (sym one)

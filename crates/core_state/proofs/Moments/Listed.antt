@@ -5,7 +5,8 @@ use Rattle.core_state.specs.Legal.{Pin, KeepsEach}
 use Rattle.core_state.specs.Inner.Ghosts.{Ghost}
 use Rattle.core_state.proofs.Law.Steps.{StepHolds}
 use Rattle.core_state.proofs.Law.Runs.{step_over}
-use Rattle.core_state.proofs.Moments.Timeline.{Moments, one_moment, one_pages, one_ghosts, one_more, more_pages, more_ghosts}
+use Rattle.core_state.proofs.Moments.Timeline.{Moments, one_moment, one_pages, one_ghosts, one_more, more_pages}
+use Rattle.core_state.proofs.Moments.Timeline.{more_ghosts}
 use Rattle.core_state.proofs.Law.Lists.{Listed, HasLists, list_run}
 
 -- the moments past a pin's length, at which there are lists

@@ -1,5 +1,6 @@
 -- The trees and the pending list over the moments past a pin: what the walks need of them.
-use Rattle.std.proofs.Common.{◌≡◌, ◌≢◌, ◌<◌, ◌≤◌, ◌+◌, ◌-◌, ℕ, List, [], ◌∷◌, ◌++◌, length, refl, sym, ap, subst, ◌∙◌, inl, inr, arith}
+use Rattle.std.proofs.Common.{◌≡◌, ◌≢◌, ◌<◌, ◌≤◌, ◌+◌, ◌-◌, ℕ, List, [], ◌∷◌, ◌++◌, length, refl, sym, ap, subst, ◌∙◌}
+use Rattle.std.proofs.Common.{inl, inr, arith}
 use Rattle.std.proofs.lemmas.List.{length-drop}
 use Rattle.page_types.specs.Views.{rows_of, kept_rows_of, first_of}
 use Rattle.page_types.specs.declared.page.Page.{Page}
@@ -120,8 +121,10 @@ module _ (pin : Pin) (R : Log) (P : ℕ → Pages) (g : ℕ → Ghost) (start : 
         ((T.inv t a (omega (arith, b))).kinds p) in
         let c = T.case t a b in
         let log : (later : Log) × (R ≡ later ++ (c.0 ∷ cut t R)) =
-        (let k = Rattle.core_state.proofs.Law.SnapshotsStay.behind_cut R (t + 1) in (k.0, k.1 ∙ ap (λ z. k.0 ++ z) c.1)) in
-        let valid = Rattle.core_state.proofs.SteadyPages.valid_behind log.0 (c.0 ∷ cut t R) (subst RecordsAreValid log.1 v) in
+        (let k = Rattle.core_state.proofs.Law.SnapshotsStay.behind_cut R (t + 1) in (k.0, k.1 ∙ ap (λ z. k.0 ++ z) c.1))
+        in
+        let valid =
+        Rattle.core_state.proofs.SteadyPages.valid_behind log.0 (c.0 ∷ cut t R) (subst RecordsAreValid log.1 v) in
         let kept = Rattle.core_state.proofs.Law.SnapshotsStay.keeps_behind pin log.0 (c.0 ∷ cut t R)
         (subst (KeepsEach pin) log.1 keeps) in
         let shown = subst (λ z. Rattle.core_state.specs.Log.Shows z (P (t + 1))) c.1

@@ -24,7 +24,8 @@ use Rattle.core_state.proofs.StaysIndexed.{placed_by_head}
 use Rattle.core_state.proofs.Law.AllCases.{all_steps}
 use Rattle.core_state.proofs.Law.SteadyLogs.{all_owned}
 use Rattle.core_state.proofs.Steps.Seen.{held_page, own_runs_on, own_placed, steady_facts, some_seen, still_new, shows}
-use Rattle.core_state.proofs.Steps.Heads.{drawn_as, drawn_by, drawn_pages, one_of, two_of, left_all, left_is, head_changes, has_head, numbered_at, numbered_else}
+use Rattle.core_state.proofs.Steps.Heads.{drawn_as, drawn_by, drawn_pages, one_of, two_of, left_all, left_is}
+use Rattle.core_state.proofs.Steps.Heads.{head_changes, has_head, numbered_at, numbered_else}
 
 -- no slot is used on a new page
 none_on_new : (P : Pages) (since p k : ℕ) (c : Page) → IsNewSheet P since p c → slot_at (slots_in c.body) k ≡ None

@@ -11,7 +11,8 @@ use Rattle.page_types.specs.declared.record.Kind.{Kind}
 use Rattle.core_state.specs.Log.{Log, Pages, changed}
 use Rattle.core_state.specs.Documents.{Doc, Has, page_of, slot_of}
 use Rattle.core_state.specs.Changes.{made_with, IsHeadChange}
-use Rattle.core_state.specs.Allowed.{Sheet, Step, IsDrawn, Leaves, AreMade, with_serial, numbered, made_by, drawn_kind, drawn_xid, drawn_body, sheet_pages}
+use Rattle.core_state.specs.Allowed.{Sheet, Step, IsDrawn, Leaves, AreMade, with_serial, numbered, made_by, drawn_kind}
+use Rattle.core_state.specs.Allowed.{drawn_xid, drawn_body, sheet_pages}
 use Rattle.core_state.specs.Steps.{ChangesHead}
 
 module _ (R : Log) (s : Step) (r : Record) (n : IsDrawn R s r) where

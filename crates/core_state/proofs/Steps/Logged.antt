@@ -1,5 +1,6 @@
 -- A logged step keeps the log legal, each pin, and what is allowed to other sessions.
-use Rattle.std.proofs.Common.{◌≡◌, ◌≢◌, ◌⊎◌, ◌≤◌, ℕ, suc, List, [], ◌∷◌, ◌++◌, length, refl, sym, ap, subst, subst₂, ◌∙◌, inl, inr, arith}
+use Rattle.std.proofs.Common.{◌≡◌, ◌≢◌, ◌⊎◌, ◌≤◌, ℕ, suc, List, [], ◌∷◌, ◌++◌, length, refl, sym, ap, subst, subst₂}
+use Rattle.std.proofs.Common.{◌∙◌, inl, inr, arith}
 use Rattle.std.specs.Prelude.{Option, Some, None, IfSome}
 use Rattle.page_types.specs.Keys.{Rising}
 use Rattle.page_types.specs.Pages.{IsPage}
@@ -10,8 +11,10 @@ use Rattle.core_state.specs.Log.{Log, Pages, In, Shows, commits, next_xid}
 use Rattle.core_state.specs.Legal.{RuleHolds, Valid, IsLegal, Pin, Keeps}
 use Rattle.core_state.specs.Steady.{IsMaintenance}
 use Rattle.core_state.specs.Readings.{Read, AreReads}
-use Rattle.core_state.specs.Allowed.{Sheet, View, IsOthers, IsAllowed, AreHeld, Step, IsDrawn, MayLog, Owes, sheet_pages, drawn_kind, drawn_xid}
-use Rattle.core_state.specs.Logged.{IsRecordOf, pin_now, FloorAllows, IsBeside, LoggedStepsHold, abort_all, AbortOfAllHolds}
+use Rattle.core_state.specs.Allowed.{Sheet, View, IsOthers, IsAllowed, AreHeld, Step, IsDrawn, MayLog, Owes}
+use Rattle.core_state.specs.Allowed.{sheet_pages, drawn_kind, drawn_xid}
+use Rattle.core_state.specs.Logged.{IsRecordOf, pin_now, FloorAllows, IsBeside, LoggedStepsHold, abort_all}
+use Rattle.core_state.specs.Logged.{AbortOfAllHolds}
 use Rattle.core_state.proofs.Showing.{shown_one}
 use Rattle.core_state.proofs.Monotone.{rule_more}
 use Rattle.core_state.proofs.Newest.{cut_less}

@@ -11,7 +11,8 @@ use Rattle.page_types.specs.declared.record.Kind.{Kind}
 use Rattle.page_types.specs.declared.record.Kind.TheVariants as kind
 use Rattle.core_state.specs.Log.{Log, Pages, In, Shows, replay}
 use Rattle.core_state.specs.Legal.{RuleHolds}
-use Rattle.core_state.specs.Allowed.{Sheet, View, IsAllowed, Step, Leaves, AreMade, MayLog, sheet_pages, made_by, drawn_body}
+use Rattle.core_state.specs.Allowed.{Sheet, View, IsAllowed, Step, Leaves, AreMade, MayLog, sheet_pages, made_by}
+use Rattle.core_state.specs.Allowed.{drawn_body}
 use Rattle.core_state.specs.Logged.{IsRecordOf}
 use Rattle.core_state.proofs.Showing.{replay_kept}
 use Rattle.core_state.proofs.Leaving.{made_is_page}

@@ -1,5 +1,6 @@
 -- How many pages come after each in a list: fewer along each link.
-use Rattle.std.proofs.Common.{◌≡◌, ◌≢◌, ◌<◌, ◌==◌, ℕ, suc, Bool, cond, List, [], ◌∷◌, length, refl, sym, subst, inl, inr, arith}
+use Rattle.std.proofs.Common.{◌≡◌, ◌≢◌, ◌<◌, ◌==◌, ℕ, suc, Bool, cond, List, [], ◌∷◌, length, refl, sym, subst, inl}
+use Rattle.std.proofs.Common.{inr, arith}
 use Rattle.core_state.specs.Log.{In}
 use Rattle.core_state.specs.Trees.Nodes.{Node, TreeGhost}
 use Rattle.core_state.specs.Trees.Nodes.Node.{other, leaf, inner, gone}

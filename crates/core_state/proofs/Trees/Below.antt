@@ -33,7 +33,8 @@ as_child q [] m = absurd m
 as_child q (c ∷ cs) (inl e) = (c, inl refl, sym e)
 as_child q (c ∷ cs) (inr m) = let r = as_child q cs m in (r.0, inr r.1, r.2)
 
-module _ {E : Type 0} (o : Order E) (top_key : E) (N : ℕ → Node E) (g : TreeGhost E) (S : Sane o top_key N g) (r top : ℕ)
+module _ {E : Type 0} (o : Order E) (top_key : E) (N : ℕ → Node E) (g : TreeGhost E) (S : Sane o top_key N g)
+    (r top : ℕ)
     (T : Rooted N g r top) where
   step_down : (p q h : ℕ) → g.place p ≡ tree r h → In q (children (N p)) → (h' : ℕ) × (g.place q ≡ tree r h')
   step_down p q zero e m = absurd (subst (λ (z : Node E). In q (children z)) (S.leaves p r e).node m)

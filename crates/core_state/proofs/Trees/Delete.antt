@@ -1,17 +1,22 @@
 -- The deletion of an empty leaf keeps the trees sane.
-use Rattle.std.proofs.Common.{◌≡◌, ◌≢◌, ◌⊎◌, ℕ, suc, List, [], ◌∷◌, ◌++◌, refl, sym, ap, subst, subst₂, ◌∙◌, inl, inr, arith}
+use Rattle.std.proofs.Common.{◌≡◌, ◌≢◌, ◌⊎◌, ℕ, suc, List, [], ◌∷◌, ◌++◌, refl, sym, ap, subst, subst₂, ◌∙◌, inl, inr}
+use Rattle.std.proofs.Common.{arith}
 use mathlib.Core.Logic.{⊎_swap}
 use Rattle.core_state.specs.Log.{In}
-use Rattle.core_state.specs.Trees.Nodes.{Order, Child, Node, TreePlace, TreeGhost, put, AtMost, RightOk, Kids, LeafOk, InnerOk, LeftOk, Sane, IsDeleteLeaf, delete_ghost}
+use Rattle.core_state.specs.Trees.Nodes.{Order, Child, Node, TreePlace, TreeGhost, put, AtMost, RightOk, Kids, LeafOk}
+use Rattle.core_state.specs.Trees.Nodes.{InnerOk, LeftOk, Sane, IsDeleteLeaf, delete_ghost}
 use Rattle.core_state.specs.Trees.Nodes.Node.{leaf}
 use Rattle.core_state.specs.Trees.Nodes.TreePlace.{none, tree, left}
 use Rattle.core_state.proofs.PageLists.{same_or_not, in_back}
-use Rattle.core_state.proofs.Trees.Order.{put_here, put_else, tree_not_none, tree_not_left, same_tree, zero_suc, same_leaf, same_inner, inner_not_leaf, gone_not_leaf, less_at_most, at_most_trans}
+use Rattle.core_state.proofs.Trees.Order.{put_here, put_else, tree_not_none, tree_not_left, same_tree, zero_suc}
+use Rattle.core_state.proofs.Trees.Order.{same_leaf, same_inner, inner_not_leaf, gone_not_leaf, less_at_most}
+use Rattle.core_state.proofs.Trees.Order.{at_most_trans}
 use Rattle.core_state.proofs.Trees.Members.{in_middle}
 use Rattle.core_state.proofs.Trees.Kids.{kid_place, kids_kept, kids_tail}
 use Rattle.core_state.proofs.Trees.Find.{one_low, one_high, one_parent}
 
-module _ {E : Type 0} (o : Order E) (top : E) (least : (x : E) → AtMost o top x top) (N M : ℕ → Node E) (g : TreeGhost E)
+module _ {E : Type 0} (o : Order E) (top : E) (least : (x : E) → AtMost o top x top) (N M : ℕ → Node E)
+    (g : TreeGhost E)
     (S : Sane o top N g)
     (d q r : ℕ) (V : IsDeleteLeaf o top N M g d q r) (nil : g.place 0 ≡ none) where
   spans : (h : ℕ) (y : ℕ) → g.place y ≡ tree r h → o.less (g.low y) (g.high y)
@@ -133,7 +138,8 @@ module _ {E : Type 0} (o : Order E) (top : E) (least : (x : E) → AtMost o top 
             let yn : y ≢ n = λ z. ne (w ∙ sym z) in
             let at_y : g.place y ≡ tree r 0 = oy.1 ∙ sym ox.1 ∙ ap g.place w ∙ at_next in
             subst (λ (z : ℕ). AtMost o top (g.high z) (g'.low y) ⊎ AtMost o top (g.high y) (g'.low z)) (sym w)
-            (subst₂ (λ (a b : E). AtMost o top (g.high n) a ⊎ AtMost o top (g.high y) b) (sym (low_else y yn)) (sym low_n)
+            (subst₂ (λ (a b : E). AtMost o top (g.high n) a ⊎ AtMost o top (g.high y) b) (sym (low_else y yn))
+            (sym low_n)
             (wider y yn oy.0 at_y))
         | inr w ↦ elim (same_or_not n y) [
           | inl u ↦
@@ -380,7 +386,10 @@ module _ {E : Type 0} (o : Order E) (top : E) (least : (x : E) → AtMost o top 
               kids_ok = subst₂ (λ (a b : E). Kids o top g' r' h a l.kids b) (sym (low_else x xn)) (sym (high_same x))
                   (kids_kept o top g g' r' h (g.low x) (g.high x) l.kids (λ c i. (
                     place_else c.page (λ z. v
-                        (only_parent x r' h l old c (record { page = d; bound = g.high d }) i (in_middle V.front _ _) z)),
+                        (only_parent x r' h l old c (record {
+                          page = d;
+                          bound = g.high d;
+                        }) i (in_middle V.front _ _) z)),
                     low_else c.page (λ z. v (only_parent x r' h l old c V.next i
                         (in_back V.next V.front _ (inr (inl refl))) z)),
                     high_same c.page,

@@ -2,17 +2,20 @@
 use Rattle.std.proofs.Common.{◌≡◌, ◌≢◌, ◌⊎◌, ℕ, suc, List, [], ◌∷◌, ◌++◌, sym, ap, subst, subst₂, ◌∙◌, inl, inr, arith}
 use mathlib.Core.Logic.{⊎_swap}
 use Rattle.core_state.specs.Log.{In}
-use Rattle.core_state.specs.Trees.Nodes.{Order, Child, Node, TreePlace, TreeGhost, put, AtMost, RightOk, Kids, LeafOk, InnerOk, LeftOk, Sane, split_ghost}
+use Rattle.core_state.specs.Trees.Nodes.{Order, Child, Node, TreePlace, TreeGhost, put, AtMost, RightOk, Kids, LeafOk}
+use Rattle.core_state.specs.Trees.Nodes.{InnerOk, LeftOk, Sane, split_ghost}
 use Rattle.core_state.specs.Trees.Nodes.Node.{leaf, inner}
 use Rattle.core_state.specs.Trees.Nodes.TreePlace.{none, tree, left}
 use Rattle.core_state.proofs.PageLists.{same_or_not}
-use Rattle.core_state.proofs.Trees.Order.{put_here, put_else, tree_not_none, tree_not_left, left_not_none, same_tree, zero_suc, same_suc, same_inner, less_at_most, at_most_less}
+use Rattle.core_state.proofs.Trees.Order.{put_here, put_else, tree_not_none, tree_not_left, left_not_none, same_tree}
+use Rattle.core_state.proofs.Trees.Order.{zero_suc, same_suc, same_inner, less_at_most, at_most_less}
 use Rattle.core_state.proofs.Trees.Members.{in_middle}
 use Rattle.core_state.proofs.Trees.Kids.{kid_place, kids_kept}
 use Rattle.core_state.proofs.Trees.Find.{not_before, kid_of, one_parent}
 
 -- the page p of height H in the tree r is divided at m; the new page is n, the parent q
-pub record IsDivision {E : Type 0} (o : Order E) (N M : ℕ → Node E) (g : TreeGhost E) (p n q r H : ℕ) (m : E) : Type 0 where
+pub record IsDivision {E : Type 0} (o : Order E) (N M : ℕ → Node E) (g : TreeGhost E) (p n q r H : ℕ)
+    (m : E) : Type 0 where
   pub at : g.place p ≡ tree r H
   pub new : g.place n ≡ none
   pub not_zero : n ≢ 0

@@ -1,5 +1,6 @@
 -- The way down from a root to each page that covers a key.
-use Rattle.std.proofs.Common.{◌≡◌, ◌+◌, ◌-◌, ℕ, zero, suc, List, [], ◌∷◌, ◌++◌, map, refl, sym, ap, ap₂, subst, ◌∙◌, inl, inr, arith}
+use Rattle.std.proofs.Common.{◌≡◌, ◌+◌, ◌-◌, ℕ, zero, suc, List, [], ◌∷◌, ◌++◌, map, refl, sym, ap, ap₂, subst, ◌∙◌}
+use Rattle.std.proofs.Common.{inl, inr, arith}
 use Rattle.core_state.specs.Log.{In}
 use Rattle.core_state.specs.Trees.Nodes.{Order, Child, Node, TreeGhost, AtMost, Kids, Sane}
 use Rattle.core_state.specs.Trees.Nodes.Node.{inner}
@@ -41,7 +42,8 @@ cut_map f (x ∷ xs) (w ∷ ws) z back e =
     parts : {B : Type 0} (a b : B) (us vs : List B) → a ∷ us ≡ b ∷ vs → (a ≡ b) × (us ≡ vs)
     parts a b us vs e = (cc, cc)
 
-module _ {E : Type 0} (o : Order E) (top : E) (N : ℕ → Node E) (g : TreeGhost E) (S : Sane o top N g) (k : E) (q : ℕ) where
+module _ {E : Type 0} (o : Order E) (top : E) (N : ℕ → Node E) (g : TreeGhost E) (S : Sane o top N g) (k : E)
+    (q : ℕ) where
   -- one step up, from a child that covers the key
   up_one : (x y r h : ℕ) → g.place y ≡ tree r (suc h) → In x (children (N y)) → o.less (g.low x) k
       → AtMost o top k (g.high x) → Down o top N k q x

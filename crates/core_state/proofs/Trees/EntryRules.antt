@@ -28,7 +28,8 @@ use Rattle.core_state.proofs.Trees.Roots.{IsRootAt}
 use Rattle.core_state.proofs.Trees.FromNodes.{unlinked, grow_nodes}
 use Rattle.core_state.proofs.Trees.Steps.{Grows}
 use Rattle.core_state.proofs.Trees.Growing.{quiet_here}
-use Rattle.core_state.proofs.Trees.EntryViews.{EntryGrows, new_not_zero, leaf_node, new_apart, leaf_high, leaf_keys, toward_low}
+use Rattle.core_state.proofs.Trees.EntryViews.{EntryGrows, new_not_zero, leaf_node, new_apart, leaf_high, leaf_keys}
+use Rattle.core_state.proofs.Trees.EntryViews.{toward_low}
 use Rattle.core_state.proofs.Trees.Orders.{keys, key_order, ext_top, up_to_bound}
 
 -- an entry beside the new one was there

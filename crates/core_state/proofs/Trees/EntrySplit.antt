@@ -103,10 +103,12 @@ module _ (P Q : Pages) (r : Record) (page new parent : ℕ) (g : TreeGhost (Ext 
         suc at_page.0,
         at_page.1,
         split_inner_nodes keys least greatest (entry_nodes P) (entry_nodes Q) g S page new parent
-            1 (suc at_page.0) 1 placed.0 (P parent).right front back (bound V.bound) (bound mid) at_page.1 fresh not_zero
+            1 (suc at_page.0) 1 placed.0 (P parent).right front back (bound V.bound)
+            (bound mid) at_page.1 fresh not_zero
             placed.1 node_was node_now (λ x a b c. ap entry_node (else x a b c)) at_page.0 refl (P page).right
             (map entry_child cs) (entry_child last) (map entry_child ds)
-            (inner_node (P page) (cs ++ last ∷ ds) was ∙ ap (inner (P page).right) (map-append entry_child cs (last ∷ ds)))
+            (inner_node (P page) (cs ++ last ∷ ds) was
+            ∙ ap (inner (P page).right) (map-append entry_child cs (last ∷ ds)))
             (ap entry_node now ∙ ap (inner new) (map-append entry_child cs (last ∷ []))) (ap entry_node now_new)
             (some_map entry_child ds some_ds) (ap bound last_is),
       )

@@ -1,5 +1,6 @@
 -- A walk over rising moments down the entry tree and along its leaves reads each key that fits, where it is then.
-use Rattle.std.proofs.Common.{◌≡◌, ◌≢◌, ◌⊎◌, ◌<◌, ◌≤◌, ◌+◌, ◌-◌, ℕ, zero, suc, Bool, true, false, cond, List, [], ◌∷◌, ◌++◌, refl, sym, ap, subst, ◌∙◌, inl, inr, arith}
+use Rattle.std.proofs.Common.{◌≡◌, ◌≢◌, ◌⊎◌, ◌<◌, ◌≤◌, ◌+◌, ◌-◌, ℕ, zero, suc, Bool, true, false, cond, List, [], ◌∷◌}
+use Rattle.std.proofs.Common.{◌++◌, refl, sym, ap, subst, ◌∙◌, inl, inr, arith}
 use Rattle.core_state.specs.Log.{In}
 use Rattle.core_state.specs.Trees.Nodes.{Order, Child, Node, TreeGhost, AtMost, RightOk, Kids, LeafOk, InnerOk, Sane}
 use Rattle.core_state.specs.Trees.Nodes.Node.{other, leaf, inner, gone}
@@ -73,7 +74,8 @@ module _ {E : Type 0} (o : Order E) (bottom top : E) (least : (x : E) → AtMost
     (goes : E → Bool) (goes_on : (h : E) → AtMost o top k h → o.less h x → goes h ≡ true)
     (sane : (t : ℕ) → start ≤ t → t ≤ end → Sane o top (N t) (g t))
     (nil : (t : ℕ) → start ≤ t → t ≤ end → (g t).place 0 ≡ none)
-    (live : (t p h : ℕ) → start ≤ t → t < end → (g t).place p ≡ tree r h → ((h' : ℕ) × ((g (t + 1)).place p ≡ tree r h'))
+    (live : (t p h : ℕ) → start ≤ t → t < end → (g t).place p ≡ tree r h
+    → ((h' : ℕ) × ((g (t + 1)).place p ≡ tree r h'))
     × ((g (t + 1)).low p ≡ (g t).low p))
     (level : (t p h : ℕ) → start ≤ t → t < end → (g t).place p ≡ tree r h → o.less bottom ((g t).low p)
     → ((g (t + 1)).place p ≡ tree r h) × ((g (t + 1)).low p ≡ (g t).low p))
@@ -226,7 +228,8 @@ module _ {E : Type 0} (o : Order E) (bottom top : E) (least : (x : E) → AtMost
         ]
 
     first_leaf : (t p : ℕ) (l : LeafRead) (ls : List LeafRead) → start ≤ t → o.less bottom k
-        → Rising t end (leaf_reads (l ∷ ls)) → toward upto k (N l.leaf.time l.leaf.page) ≡ 0 → AreLeaves goes N p (l ∷ ls)
+        → Rising t end (leaf_reads (l ∷ ls)) → toward upto k (N l.leaf.time l.leaf.page) ≡ 0
+        → AreLeaves goes N p (l ∷ ls)
         → Above t p → Found (l ∷ ls)
     first_leaf t p l ls a bk rise is_leaf f h =
         let s = l.leaf.time in

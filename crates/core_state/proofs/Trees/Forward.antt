@@ -2,7 +2,8 @@
 -- two.
 use Rattle.std.proofs.Common.{◌≡◌, ◌≢◌, ◌⊎◌, ℕ, zero, suc, List, [], ◌∷◌, ◌++◌, refl, sym, ap, subst, ◌∙◌, inl, inr}
 use Rattle.core_state.specs.Log.{In}
-use Rattle.core_state.specs.Trees.Nodes.{Order, Child, Node, TreePlace, TreeGhost, put, Sane, IsSplitLeaf, IsDeleteLeaf, split_ghost, delete_ghost}
+use Rattle.core_state.specs.Trees.Nodes.{Order, Child, Node, TreePlace, TreeGhost, put, Sane, IsSplitLeaf, IsDeleteLeaf}
+use Rattle.core_state.specs.Trees.Nodes.{split_ghost, delete_ghost}
 use Rattle.core_state.specs.Trees.Nodes.Node.{other, leaf, inner, gone}
 use Rattle.core_state.specs.Trees.Nodes.TreePlace.{none, tree, left}
 use Rattle.core_state.specs.Inner.Shapes.{IsSplitInner, IsNewTree, IsNewKeys}
@@ -11,7 +12,8 @@ use Rattle.core_state.proofs.Trees.Order.{put_here, put_else, tree_not_none, lef
 use Rattle.core_state.proofs.Trees.Grow.{IsGrow, grow_ghost}
 use Rattle.core_state.proofs.Trees.Lists.{make_ghost}
 use Rattle.core_state.proofs.Trees.Steps.{Grows, Step}
-use Rattle.core_state.proofs.Trees.Behind.{Comes, Once, comes_to, comes_on, Inserts, inserted, insert_in, insert_new, insert_only, insert_keeps, insert_after, insert_once}
+use Rattle.core_state.proofs.Trees.Behind.{Comes, Once, comes_to, comes_on, Inserts, inserted, insert_in, insert_new}
+use Rattle.core_state.proofs.Trees.Behind.{insert_only, insert_keeps, insert_after, insert_once}
 
 abbrev pub HasChild : {E : Type 0} → List (Child E) → ℕ → Type 0
 HasChild [] q = ⊥
@@ -143,7 +145,8 @@ module _ {E : Type 0} (o : Order E) (bottom top : E) (N M : ℕ → Node E) (g :
         ];
         leads = λ x q i l off. elim (same_or_not n x) [
           | inl e ↦ subst (λ z. Comes K z q) (sym e)
-              (insert_after p n L K F.once s q (F.leads p q at (new_links q (subst (λ z. LinksTo (M z) q) e l) off) off))
+              (insert_after p n L K F.once s q
+              (F.leads p q at (new_links q (subst (λ z. LinksTo (M z) q) e l) off) off))
           | inr d ↦ old x q d (λ e. i ((else x d).1 e)) l off
         ];
       },
@@ -356,7 +359,8 @@ module _ {E : Type 0} (o : Order E) (bottom top : E) (N M : ℕ → Node E) (g :
             | inr away ↦ F.on p (λ f. at ((else_put d (left r) p away).1 f))
           ];
           only = λ p i e. elim (same_or_not d p) [
-            | inl same ↦ left_not_none r (sym (put_here g.place d (left r)) ∙ ap (put g.place d (left r)) (sym same) ∙ e)
+            | inl same ↦ left_not_none r
+                (sym (put_here g.place d (left r)) ∙ ap (put g.place d (left r)) (sym same) ∙ e)
             | inr away ↦ F.only p i ((else_put d (left r) p away).0 e)
           ];
           leads = λ p y at l off. elim (same_or_not d p) [

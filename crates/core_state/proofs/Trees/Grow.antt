@@ -1,6 +1,8 @@
 -- A root that grows keeps its tree sane: the new page takes its content, and the root has it as its one child.
-use Rattle.std.proofs.Common.{◌≡◌, ◌≢◌, ◌⊎◌, ℕ, suc, List, [], ◌∷◌, refl, sym, ap, subst, subst₂, ap₂, ◌∙◌, inl, inr, arith}
-use Rattle.core_state.specs.Trees.Nodes.{Order, Child, Node, TreePlace, TreeGhost, put, AtMost, RightOk, Kids, LeafOk, InnerOk, LeftOk, Sane}
+use Rattle.std.proofs.Common.{◌≡◌, ◌≢◌, ◌⊎◌, ℕ, suc, List, [], ◌∷◌, refl, sym, ap, subst, subst₂, ap₂, ◌∙◌, inl, inr}
+use Rattle.std.proofs.Common.{arith}
+use Rattle.core_state.specs.Trees.Nodes.{Order, Child, Node, TreePlace, TreeGhost, put, AtMost, RightOk, Kids, LeafOk}
+use Rattle.core_state.specs.Trees.Nodes.{InnerOk, LeftOk, Sane}
 use Rattle.core_state.specs.Trees.Nodes.Node.{leaf, inner}
 use Rattle.core_state.specs.Trees.Nodes.TreePlace.{none, tree, left}
 use Rattle.core_state.proofs.PageLists.{same_or_not}
@@ -37,7 +39,8 @@ grow_ghost g bottom top r n H =
           put g.high n top;
     }
 
-module _ {E : Type 0} (o : Order E) (bottom top : E) (N M : ℕ → Node E) (g : TreeGhost E) (S : Sane o top N g) (r n H : ℕ)
+module _ {E : Type 0} (o : Order E) (bottom top : E) (N M : ℕ → Node E) (g : TreeGhost E) (S : Sane o top N g)
+    (r n H : ℕ)
     (V : IsGrow N M g bottom top r n H) where
   g' : TreeGhost E
   g' = grow_ghost g bottom top r n H

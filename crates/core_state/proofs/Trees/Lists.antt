@@ -1,11 +1,13 @@
 -- A new tree, and other keys on one leaf, keep the trees sane; so does a step that touches no page of a tree.
 use Rattle.std.proofs.Common.{◌≡◌, ◌≢◌, ◌⊎◌, ℕ, suc, refl, sym, ap, subst, subst₂, ◌∙◌, inl, inr, arith}
-use Rattle.core_state.specs.Trees.Nodes.{Order, Node, TreePlace, TreeGhost, put, AtMost, RightOk, Kids, LeafOk, InnerOk, LeftOk, Sane}
+use Rattle.core_state.specs.Trees.Nodes.{Order, Node, TreePlace, TreeGhost, put, AtMost, RightOk, Kids, LeafOk, InnerOk}
+use Rattle.core_state.specs.Trees.Nodes.{LeftOk, Sane}
 use Rattle.core_state.specs.Trees.Nodes.Node.{leaf}
 use Rattle.core_state.specs.Trees.Nodes.TreePlace.{none, tree, left}
 use Rattle.core_state.specs.Inner.Shapes.{IsNewTree, IsNewKeys}
 use Rattle.core_state.proofs.PageLists.{same_or_not}
-use Rattle.core_state.proofs.Trees.Order.{put_here, put_else, tree_not_none, tree_not_left, left_not_none, same_tree, zero_suc, same_leaf}
+use Rattle.core_state.proofs.Trees.Order.{put_here, put_else, tree_not_none, tree_not_left, left_not_none, same_tree}
+use Rattle.core_state.proofs.Trees.Order.{zero_suc, same_leaf}
 use Rattle.core_state.proofs.Trees.Kids.{kid_place, kids_kept}
 
 module _ {E : Type 0} (o : Order E) (top : E) (N M : ℕ → Node E) (g : TreeGhost E) (S : Sane o top N g) (same : (p : ℕ)

@@ -1,12 +1,15 @@
 -- The main part of a walk over real steps: an item that stays under a key that is sought is read under it.
-use Rattle.std.proofs.Common.{◌≡◌, ◌≢◌, ◌⊎◌, ◌<◌, ◌≤◌, ◌+◌, ◌-◌, ℕ, zero, suc, Bool, true, false, List, [], ◌∷◌, ◌++◌, refl, sym, ap, subst, subst₂, ◌∙◌, inl, inr, arith}
+use Rattle.std.proofs.Common.{◌≡◌, ◌≢◌, ◌⊎◌, ◌<◌, ◌≤◌, ◌+◌, ◌-◌, ℕ, zero, suc, Bool, true, false, List, [], ◌∷◌, ◌++◌}
+use Rattle.std.proofs.Common.{refl, sym, ap, subst, subst₂, ◌∙◌, inl, inr, arith}
 use Rattle.core_state.specs.Log.{In}
 use Rattle.core_state.specs.Trees.Nodes.{Order, Child, Node, TreeGhost, AtMost, Kids, Sane}
 use Rattle.core_state.specs.Trees.Nodes.TreePlace.{none, tree}
 use Rattle.core_state.proofs.Trees.Walk.{Read, Rising, rising_end, Follows, along, IsIn, keys_of, meets}
 use Rattle.core_state.proofs.Trees.Walk as walking
-use Rattle.core_state.proofs.Trees.Steps.{Grows, Step, Keeps, OnTree, step_keeps, step_nil, step_stays, step_items, grows_live, grows_level}
-use Rattle.core_state.proofs.Trees.EntryWalk.{LeafRead, tree_reads, leaf_reads, rising_front, rising_back, toward, LeadTo, AreLeaves, finds}
+use Rattle.core_state.proofs.Trees.Steps.{Grows, Step, Keeps, OnTree, step_keeps, step_nil, step_stays, step_items}
+use Rattle.core_state.proofs.Trees.Steps.{grows_live, grows_level}
+use Rattle.core_state.proofs.Trees.EntryWalk.{LeafRead, tree_reads, leaf_reads, rising_front, rising_back, toward}
+use Rattle.core_state.proofs.Trees.EntryWalk.{LeadTo, AreLeaves, finds}
 
 -- the steps between two moments, from a sane beginning
 pub record Run {E : Type 0} (o : Order E) (bottom top : E) (N : ℕ → ℕ → Node E) (g : ℕ → TreeGhost E)

@@ -1,5 +1,6 @@
 -- New trees, divided pages, grown roots and deleted leaves leave all trees hanging together below their roots.
-use Rattle.std.proofs.Common.{◌≡◌, ◌≢◌, ◌⊎◌, ◌≤◌, ℕ, zero, suc, ◌∷◌, ◌++◌, refl, sym, ap, ap₂, subst, ◌∙◌, inl, inr, arith}
+use Rattle.std.proofs.Common.{◌≡◌, ◌≢◌, ◌⊎◌, ◌≤◌, ℕ, zero, suc, ◌∷◌, ◌++◌, refl, sym, ap, ap₂, subst, ◌∙◌, inl, inr}
+use Rattle.std.proofs.Common.{arith}
 use Rattle.core_state.specs.Log.{In}
 use Rattle.core_state.specs.Trees.Nodes.{Order, Node, TreePlace, TreeGhost, put, Sane, split_ghost}
 use Rattle.core_state.specs.Trees.Nodes.Node.{inner}
@@ -11,9 +12,11 @@ use Rattle.core_state.proofs.Trees.Below.{child_pages, children}
 use Rattle.core_state.proofs.Trees.Division.{IsDivision}
 use Rattle.core_state.proofs.Trees.Grow.{IsGrow, grow_ghost}
 use Rattle.core_state.proofs.Trees.Lists.{make_ghost}
-use Rattle.core_state.proofs.Trees.Parents.{HasParent, HangsOn, seen, pages_append, pages_front, pages_back, was, stays, not_new, lefts_stay}
+use Rattle.core_state.proofs.Trees.Parents.{HasParent, HangsOn, seen, pages_append, pages_front, pages_back, was, stays}
+use Rattle.core_state.proofs.Trees.Parents.{not_new, lefts_stay}
 
-module _ {E : Type 0} (o : Order E) (bottom top : E) (N M : ℕ → Node E) (g : TreeGhost E) (H : HangsOn bottom top N g) where
+module _ {E : Type 0} (o : Order E) (bottom top : E) (N M : ℕ → Node E) (g : TreeGhost E)
+    (H : HangsOn bottom top N g) where
   pub make_hangs : (n : ℕ) → IsNewTree N M g bottom top o n → HangsOn bottom top M (make_ghost g bottom top n)
   make_hangs n V = record {
     parent = λ x s k e. elim (was bottom top N M g H n n 0 V.new x s k e) [

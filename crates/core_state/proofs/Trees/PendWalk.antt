@@ -1,6 +1,7 @@
 -- The pending phase over real steps: what was read of a document that is not being written are exactly its rows on the
 -- line of the first moment.
-use Rattle.std.proofs.Common.{◌≡◌, ◌≢◌, ◌⊎◌, ◌<◌, ◌≤◌, ◌+◌, ◌-◌, ℕ, zero, suc, List, [], ◌∷◌, ◌++◌, refl, sym, ap, subst, subst₂, ◌∙◌, inl, inr, arith, append_assoc, append-nil}
+use Rattle.std.proofs.Common.{◌≡◌, ◌≢◌, ◌⊎◌, ◌<◌, ◌≤◌, ◌+◌, ◌-◌, ℕ, zero, suc, List, [], ◌∷◌, ◌++◌, refl, sym, ap}
+use Rattle.std.proofs.Common.{subst, subst₂, ◌∙◌, inl, inr, arith, append_assoc, append-nil}
 use Rattle.core_state.specs.Log.{In}
 use Rattle.core_state.proofs.PageLists.{in_either, in_front, in_back}
 use Rattle.core_state.proofs.Trees.Walk.{Read, Rising, rising_end}
@@ -69,7 +70,8 @@ module _ {W : Type 0} (item : W → ℕ) (V : ℕ → Type 0) (rows : ℕ → �
   pub data PendStep (t : ℕ) : Type 0 where
     grow : (chain : List ℕ) → line (t + 1) ≡ line t ++ chain → first (t + 1) ≡ first t ⊎ (line t ≡ [])
         → ((q : ℕ) → In q chain → NoneOf (rows (t + 1) q))
-        → ((q : ℕ) → In q (line t) → (extra : List W) × (rows (t + 1) q ≡ rows t q ++ extra) × NoneOf extra) → PendStep t
+        → ((q : ℕ) → In q (line t) → (extra : List W) × (rows (t + 1) q ≡ rows t q ++ extra) × NoneOf extra)
+        → PendStep t
     shift : (p : ℕ) → line t ≡ p ∷ line (t + 1) → first (t + 1) ≡ right t p → Gone (t + 1) p
         → right (t + 1) p ≡ right t p
         → ((q : ℕ) → In q (line t) → rows (t + 1) q ≡ rows t q) → PendStep t
@@ -171,7 +173,8 @@ module _ {W : Type 0} (item : W → ℕ) (V : ℕ → Type 0) (rows : ℕ → �
       lane_step t lane a b l (PendStep.grow ch e f none more) = go l.state
         where
           news : (p : ℕ) → In p (lane ++ ch) → In p (line start) ⊎ NoneOf (rows (t + 1) p)
-          news p m = elim (in_either p lane ch m) [ inl c ↦ (rows_step t lane a b l more).1 p c | inr c ↦ inr (none p c) ]
+          news p m =
+              elim (in_either p lane ch m) [ inl c ↦ (rows_step t lane a b l more).1 p c | inr c ↦ inr (none p c) ]
 
           shut : IsChain (right t) (first start) lane → ((p : ℕ) → In p lane → Gone t p) → (m : List ℕ)
               × Lane (t + 1) (lane ++ m)
@@ -278,7 +281,10 @@ module _ {W : Type 0} (item : W → ℕ) (V : ℕ → Type 0) (rows : ℕ → �
           (subst (λ (z : ℕ). In z (seen ++ q ∷ (qs ++ now.0))) (sym page)
           (in_back q seen (q ∷ (qs ++ now.0)) (inl refl))) in
           let here : Seen x = record { kept = λ m. now.1.kept x.page m; news = now.1.news x.page on } in (
-            (done.0.0, ap (λ (z : ℕ). seen ++ z ∷ pages xs) page ∙ sym (append_assoc seen (q ∷ []) (pages xs)) ∙ done.0.1),
+            (
+              done.0.0,
+              ap (λ (z : ℕ). seen ++ z ∷ pages xs) page ∙ sym (append_assoc seen (q ∷ []) (pages xs)) ∙ done.0.1,
+            ),
             λ y m. elim m [ inl e ↦ subst Seen (sym e) here | inr n ↦ done.1 y n ],
           )
 

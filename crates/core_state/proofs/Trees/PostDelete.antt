@@ -42,7 +42,8 @@ leaf_page right (body.Heap s) a h ks e = absurd (cc)
 leaf_page right (body.Overflow s) a h ks e = absurd (cc)
 leaf_page right (body.Pending s) a h ks e = absurd (cc)
 
-module _ (R : Log) (P Q : Pages) (r : Record) (since : ℕ) (g : TreeGhost (Ext ℕ)) (S : Sane items greatest (post_nodes P) g)
+module _ (R : Log) (P Q : Pages) (r : Record) (since : ℕ) (g : TreeGhost (Ext ℕ))
+    (S : Sane items greatest (post_nodes P) g)
     (K : PostPlaces P since g) (elsewhere : (q : ℕ) → (In q (changed r) → ⊥) → Q q ≡ P q) (meta : HasMeta P)
     (V : IsDeletePost R P Q r) where
   abbrev page : ℕ

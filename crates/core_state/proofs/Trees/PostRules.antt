@@ -58,7 +58,8 @@ all_old removed old new l k m =
     let i = of_map at k (items_of new) m in
     subst (λ (z : Ext ℕ). In z (map at (items_of old))) (sym i.2) (in_map at i.0 (items_of old) (l.no_other i.0 i.1))
 
-module _ (R : Log) (P Q : Pages) (r : Record) (since : ℕ) (g : TreeGhost (Ext ℕ)) (S : Sane items greatest (post_nodes P) g)
+module _ (R : Log) (P Q : Pages) (r : Record) (since : ℕ) (g : TreeGhost (Ext ℕ))
+    (S : Sane items greatest (post_nodes P) g)
     (K : PostPlaces P since g)
     (elsewhere : (q : ℕ) → (In q (changed r) → ⊥) → Q q ≡ P q) where
   -- the items of a leaf become others within its bounds

@@ -1,5 +1,6 @@
 -- The rule of a divided page, as a step of the posting trees.
-use Rattle.std.proofs.Common.{◌≡◌, ◌≢◌, ◌<◌, ◌≤◌, ℕ, suc, List, [], ◌∷◌, ◌++◌, map, refl, sym, ap, subst, ◌∙◌, inl, inr, arith}
+use Rattle.std.proofs.Common.{◌≡◌, ◌≢◌, ◌<◌, ◌≤◌, ℕ, suc, List, [], ◌∷◌, ◌++◌, map, refl, sym, ap, subst, ◌∙◌, inl, inr}
+use Rattle.std.proofs.Common.{arith}
 use Rattle.std.proofs.lemmas.List.{map-append}
 use Rattle.page_types.specs.Items.{items_of}
 use Rattle.page_types.specs.Numbers.{no_bound, item_limit}
@@ -89,8 +90,10 @@ module _ (P Q : Pages) (r : Record) (page new parent since : ℕ) (g : TreeGhost
         0,
         at_page.1,
         split_leaf_nodes items least greatest (post_nodes P) (post_nodes Q) g S page new parent
-            at_page.0 0 placed.0 placed.1 (P parent).right front back (child_bound V.bound) (child_bound mid) at_page.1 fresh
-            not_zero placed.2 node_was node_now (λ x a b c. ap post_node (else x a b c)) refl (P page).right (high_bound high)
+            at_page.0 0 placed.0 placed.1 (P parent).right front back (child_bound V.bound)
+            (child_bound mid) at_page.1 fresh
+            not_zero placed.2 node_was node_now (λ x a b c. ap post_node (else x a b c)) refl (P page).right
+            (high_bound high)
             (map at (items_of whole)) (map at (items_of is)) (map at (items_of js)) (leaf_node (P page) high whole was)
             (ap post_node now ∙ ap (λ (z : Ext ℕ). leaf new z (map at (items_of is))) (mid_is.0 ∙ sym mid_is.1))
             (ap post_node now_new) (ap (map at) both ∙ map-append at (items_of is) (items_of js))
@@ -115,7 +118,8 @@ module _ (P Q : Pages) (r : Record) (page new parent since : ℕ) (g : TreeGhost
             (child_bound mid)
             at_page.2 fresh not_zero placed.2 node_was node_now (λ x a b c. ap post_node (else x a b c)) at_page.1 refl
             (P page).right (map post_child cs) (post_child last) (map post_child ds)
-            (inner_node (P page) (cs ++ last ∷ ds) was ∙ ap (inner (P page).right) (map-append post_child cs (last ∷ ds)))
+            (inner_node (P page) (cs ++ last ∷ ds) was
+            ∙ ap (inner (P page).right) (map-append post_child cs (last ∷ ds)))
             (ap post_node now ∙ ap (inner new) (map-append post_child cs (last ∷ []))) (ap post_node now_new)
             (some_map post_child ds some_ds) (ap child_bound last_is),
       )

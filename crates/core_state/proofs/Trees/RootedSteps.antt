@@ -1,7 +1,9 @@
 -- Each step of trees leaves them hanging together below their roots.
-use Rattle.std.proofs.Common.{◌≡◌, ◌≢◌, ◌⊎◌, ℕ, zero, suc, List, [], ◌∷◌, ◌++◌, refl, sym, ap, subst, ◌∙◌, inl, inr, arith}
+use Rattle.std.proofs.Common.{◌≡◌, ◌≢◌, ◌⊎◌, ℕ, zero, suc, List, [], ◌∷◌, ◌++◌, refl, sym, ap, subst, ◌∙◌, inl, inr}
+use Rattle.std.proofs.Common.{arith}
 use Rattle.core_state.specs.Log.{In}
-use Rattle.core_state.specs.Trees.Nodes.{Order, Node, TreePlace, TreeGhost, put, Sane, IsSplitLeaf, IsDeleteLeaf, delete_ghost}
+use Rattle.core_state.specs.Trees.Nodes.{Order, Node, TreePlace, TreeGhost, put, Sane, IsSplitLeaf, IsDeleteLeaf}
+use Rattle.core_state.specs.Trees.Nodes.{delete_ghost}
 use Rattle.core_state.specs.Trees.Nodes.Node.{leaf, inner}
 use Rattle.core_state.specs.Trees.Nodes.TreePlace.{tree, left}
 use Rattle.core_state.specs.Inner.Shapes.{IsSplitInner}
@@ -11,7 +13,8 @@ use Rattle.core_state.proofs.Trees.Find.{child_here}
 use Rattle.core_state.proofs.Trees.Below.{child_pages, children}
 use Rattle.core_state.proofs.Trees.Split.{leaf_division, inner_division}
 use Rattle.core_state.proofs.Trees.Steps.{Grows, Step}
-use Rattle.core_state.proofs.Trees.Parents.{HasParent, HangsOn, hangs, rooted, seen, pages_append, pages_front, pages_back, quiet_hangs, new_keys_hang}
+use Rattle.core_state.proofs.Trees.Parents.{HasParent, HangsOn, hangs, rooted, seen, pages_append, pages_front}
+use Rattle.core_state.proofs.Trees.Parents.{pages_back, quiet_hangs, new_keys_hang}
 use Rattle.core_state.proofs.Trees.ParentSteps.{make_hangs, division_hangs, grow_hangs}
 use Rattle.core_state.proofs.Law.Rooted.{AreRooted}
 

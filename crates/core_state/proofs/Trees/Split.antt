@@ -2,12 +2,14 @@
 -- parent and nothing else.
 use Rattle.std.proofs.Common.{◌≡◌, ◌≢◌, ℕ, suc, List, [], ◌∷◌, ◌++◌, sym, ap, subst, subst₂, ◌∙◌, arith}
 use Rattle.core_state.specs.Log.{In}
-use Rattle.core_state.specs.Trees.Nodes.{Order, Child, Node, TreeGhost, AtMost, RightOk, Kids, LeafOk, InnerOk, Sane, IsSplitLeaf, split_ghost}
+use Rattle.core_state.specs.Trees.Nodes.{Order, Child, Node, TreeGhost, AtMost, RightOk, Kids, LeafOk, InnerOk, Sane}
+use Rattle.core_state.specs.Trees.Nodes.{IsSplitLeaf, split_ghost}
 use Rattle.core_state.specs.Trees.Nodes.Node.{leaf}
 use Rattle.core_state.specs.Inner.Shapes.{IsSplitInner}
 use Rattle.core_state.proofs.Trees.Order.{same_leaf, same_inner}
 use Rattle.core_state.proofs.Trees.Kids.{kids_front, kids_back, kids_span}
-use Rattle.core_state.proofs.Trees.Division.{IsDivision, now, low_page, low_new, high_page, high_new, right_page, right_new, kids_below, division_keeps}
+use Rattle.core_state.proofs.Trees.Division.{IsDivision, now, low_page, low_new, high_page, high_new, right_page}
+use Rattle.core_state.proofs.Trees.Division.{right_new, kids_below, division_keeps}
 
 zero_not_suc : (h : ℕ) → 0 ≡ suc h → ⊥
 zero_not_suc h e = omega arith

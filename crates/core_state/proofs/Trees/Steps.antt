@@ -3,12 +3,14 @@
 use Rattle.std.proofs.Common.{◌≡◌, ◌≢◌, ℕ, suc, List, [], refl, sym, ap, subst, subst₂, ap₂, ◌∙◌, inl, inr}
 use Rattle.std.specs.Prelude.{⊤}
 use Rattle.core_state.specs.Log.{In}
-use Rattle.core_state.specs.Trees.Nodes.{Order, Node, TreePlace, TreeGhost, put, AtMost, Sane, IsSplitLeaf, IsDeleteLeaf, split_ghost, delete_ghost}
+use Rattle.core_state.specs.Trees.Nodes.{Order, Node, TreePlace, TreeGhost, put, AtMost, Sane, IsSplitLeaf}
+use Rattle.core_state.specs.Trees.Nodes.{IsDeleteLeaf, split_ghost, delete_ghost}
 use Rattle.core_state.specs.Trees.Nodes.Node.{leaf}
 use Rattle.core_state.specs.Trees.Nodes.TreePlace.{none, tree, left}
 use Rattle.core_state.specs.Inner.Shapes.{IsSplitInner, IsNewTree, IsNewKeys}
 use Rattle.core_state.proofs.PageLists.{same_or_not}
-use Rattle.core_state.proofs.Trees.Order.{put_here, put_else, tree_not_none, tree_not_left, left_not_none, same_tree, zero_suc, same_leaf}
+use Rattle.core_state.proofs.Trees.Order.{put_here, put_else, tree_not_none, tree_not_left, left_not_none, same_tree}
+use Rattle.core_state.proofs.Trees.Order.{zero_suc, same_leaf}
 use Rattle.core_state.proofs.Trees.Split.{split_leaf_keeps, split_inner_keeps}
 use Rattle.core_state.proofs.Trees.Grow.{IsGrow, grow_ghost, grow_keeps}
 use Rattle.core_state.proofs.Trees.Delete.{delete_keeps, low_next_page}
@@ -61,7 +63,8 @@ module _ {E : Type 0} (o : Order E) (bottom top : E) (least : (x : E) → AtMost
   sane_delete d q r V = delete_keeps o top least N M g S d q r V nil
 
   grows_keeps : (g' : TreeGhost E) → Grows o bottom top N M g g' → Sane o top M g'
-  grows_keeps g' (Grows.quiet same e) = subst (λ (G : TreeGhost E). Sane o top M G) (sym e) (quiet_keeps o top N M g S same)
+  grows_keeps g' (Grows.quiet same e) =
+      subst (λ (G : TreeGhost E). Sane o top M G) (sym e) (quiet_keeps o top N M g S same)
   grows_keeps g' (Grows.new_keys p r V e) =
       subst (λ (G : TreeGhost E). Sane o top M G) (sym e) (new_keys_keep o top N M g S p r V)
   grows_keeps g' (Grows.make n V e) =
@@ -117,9 +120,11 @@ module _ {E : Type 0} (o : Order E) (bottom top : E) (least : (x : E) → AtMost
       subst (λ (G : TreeGhost E). Live G r p) (sym e) (let l = live_new n p r h (tree n 0) bottom V.new at in
       ((h, l.0), l.1))
   grows_live g' (Grows.split_leaf s n q t m V e) p r h at =
-      subst (λ (G : TreeGhost E). Live G r p) (sym e) (let l = live_new n p r h (tree t 0) m V.new at in ((h, l.0), l.1))
+      subst (λ (G : TreeGhost E). Live G r p) (sym e)
+      (let l = live_new n p r h (tree t 0) m V.new at in ((h, l.0), l.1))
   grows_live g' (Grows.split_inner s n q t k V e) p r h at =
-      subst (λ (G : TreeGhost E). Live G r p) (sym e) (let l = live_new n p r h (tree t (suc k)) V.last.bound V.new at in
+      subst (λ (G : TreeGhost E). Live G r p) (sym e)
+      (let l = live_new n p r h (tree t (suc k)) V.last.bound V.new at in
       ((h, l.0), l.1))
   grows_live g' (Grows.grow s n H V e) p r h at =
       subst (λ (G : TreeGhost E). Live G r p) (sym e) (live_grow s n H p r h V at)
@@ -178,7 +183,8 @@ module _ {E : Type 0} (o : Order E) (bottom top : E) (least : (x : E) → AtMost
       subst (λ (G : TreeGhost E). Gone G r p) (sym e) (gone_new n p r (tree t 0) m V.new at)
   grows_gone g' (Grows.split_inner s n q t k V e) p r at =
       subst (λ (G : TreeGhost E). Gone G r p) (sym e) (gone_new n p r (tree t (suc k)) V.last.bound V.new at)
-  grows_gone g' (Grows.grow s n H V e) p r at = subst (λ (G : TreeGhost E). Gone G r p) (sym e) (gone_grow s n H p r V at)
+  grows_gone g' (Grows.grow s n H V e) p r at =
+      subst (λ (G : TreeGhost E). Gone G r p) (sym e) (gone_grow s n H p r V at)
 
   abbrev pub Stays : TreeGhost E → ℕ → ℕ → Type 0
   Stays g' r p = IsIn g' r p × AtMost o top (g'.low p) (g.low p)

@@ -1,7 +1,9 @@
 -- A walk over rising moments along a posting tree meets each item that stays in the tree.
-use Rattle.std.proofs.Common.{◌≡◌, ◌≢◌, ◌⊎◌, ◌<◌, ◌≤◌, ◌+◌, ◌-◌, ℕ, zero, suc, List, [], ◌∷◌, refl, sym, ap, subst, ◌∙◌, inl, inr, arith}
+use Rattle.std.proofs.Common.{◌≡◌, ◌≢◌, ◌⊎◌, ◌<◌, ◌≤◌, ◌+◌, ◌-◌, ℕ, zero, suc, List, [], ◌∷◌, refl, sym, ap, subst, ◌∙◌}
+use Rattle.std.proofs.Common.{inl, inr, arith}
 use Rattle.core_state.specs.Log.{In}
-use Rattle.core_state.specs.Trees.Nodes.{Order, Child, Node, TreeGhost, AtMost, RightOk, Kids, LeafOk, InnerOk, LeftOk, Sane}
+use Rattle.core_state.specs.Trees.Nodes.{Order, Child, Node, TreeGhost, AtMost, RightOk, Kids, LeafOk, InnerOk, LeftOk}
+use Rattle.core_state.specs.Trees.Nodes.{Sane}
 use Rattle.core_state.specs.Trees.Nodes.Node.{other, leaf, inner, gone}
 use Rattle.core_state.specs.Trees.Nodes.TreePlace.{none, tree, left}
 use Rattle.core_state.proofs.Trees.Order.{at_most_less}
@@ -96,7 +98,8 @@ module _ {E : Type 0} (o : Order E) (top : E) (least : (x : E) → AtMost o top 
         going_right : (right : ℕ) → RightOk o top (g t) r 0 p right → o.less ((g t).high p) i → Before t right
         going_right right (inl z) l =
             absurd (o.irrefl i (at_most_less o top i top i (least i) (subst (λ (x : E). o.less x i) z.1 l)))
-        going_right right (inr z) l = record { inside = inl (0, z.1); below = subst (λ (x : E). o.less x i) (sym z.2) l }
+        going_right right (inr z) l =
+            record { inside = inl (0, z.1); below = subst (λ (x : E). o.less x i) (sym z.2) l }
 
         here : (q : ℕ) → (g t).place q ≡ tree r 0 → In i (keys_of (N t q)) → (g t).place p ≡ tree r 0
             → AtMost o top i ((g t).high p) → In i (keys_of (N t p))
@@ -111,7 +114,8 @@ module _ {E : Type 0} (o : Order E) (top : E) (least : (x : E) → AtMost o top 
         on_leaf l e = elim (o.total i ((g t).high p)) [
           | inl m ↦ let q = there t a b in inl (here q.0 q.1 q.2 e (inl m))
           | inr (inl m) ↦ let q = there t a b in inl (here q.0 q.1 q.2 e (inr m))
-          | inr (inr m) ↦ inr (subst (λ (z : Node E). Before t (along z)) (sym l.node) (going_right l.right l.right_ok m))
+          | inr (inr m) ↦ inr
+              (subst (λ (z : Node E). Before t (along z)) (sym l.node) (going_right l.right l.right_ok m))
         ]
 
     pub meets : (t p : ℕ) (xs : List Read) → start ≤ t → Rising t end xs → Follows N p xs → Before t p → Met xs

@@ -10,4 +10,5 @@ pub first_image-requires : goal.first_image-requires
 first_image-requires c =
     let high : c.from_vec.result ≡ [] = cc in
     let entries : c.new-2.result ≡ [] = c.new-2.ensures in
-    subst (λ (x : List ℕ). IsPage (first_page (body.EntryLeaf x c.new-2.result))) (sym high) (subst (λ (es : List Entry). IsPage (first_page (body.EntryLeaf [] es))) (sym entries) root_is)
+    subst (λ (x : List ℕ). IsPage (first_page (body.EntryLeaf x c.new-2.result))) (sym high)
+    (subst (λ (es : List Entry). IsPage (first_page (body.EntryLeaf [] es))) (sym entries) root_is)

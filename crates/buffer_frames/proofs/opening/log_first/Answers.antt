@@ -10,5 +10,7 @@ encode_record-requires c = subst IsRecord (sym c.in_ok-rec.ensures) first_encode
 
 pub append-requires-clause-short : goal.append-requires-clause-short
 append-requires-clause-short c =
-    let bytes : c.deref.result.now ≡ record_bytes first_record = c.deref.ensures.value ∙ c.in_ok-encode_record.ensures.ok ∙ ap (λ (l : List ℕ). l ++ record_bytes c.in_ok-rec.rec) c.new-bytes.ensures.items ∙ ap (λ (r : Record). record_bytes r) c.in_ok-rec.ensures in
+    let bytes : c.deref.result.now ≡ record_bytes first_record = c.deref.ensures.value
+    ∙ c.in_ok-encode_record.ensures.ok ∙ ap (λ (l : List ℕ). l ++ record_bytes c.in_ok-rec.rec)
+    c.new-bytes.ensures.items ∙ ap (λ (r : Record). record_bytes r) c.in_ok-rec.ensures in
     subst (λ (l : List ℕ). length l ≤ 4194304) (sym bytes) first_short

@@ -15,16 +15,20 @@ use Rattle.buffer_frames.proofs.Opened.{runs_keep, runs_open, runs_seen}
 use Rattle.buffer_frames.proofs.opening.open.Goals as goal
 
 pub returns-in-Ok-clause-keeps_pages : goal.returns-in-Ok-clause-keeps_pages
-returns-in-Ok-clause-keeps_pages g c t = runs_keep g.D.Disk t (λ d. g.met.D.Disk.seen_is_image d t) c.args.disk c.open_parts.new.disk (c.open_parts.ensures.runs t)
+returns-in-Ok-clause-keeps_pages g c t = runs_keep g.D.Disk t
+    (λ d. g.met.D.Disk.seen_is_image d t) c.args.disk c.open_parts.new.disk (c.open_parts.ensures.runs t)
 
 pub returns-in-Err-clause-refused : goal.returns-in-Err-clause-refused
-returns-in-Err-clause-refused g c t s = runs_open g.D.Disk t c.one_list.ensures.opens (λ d. g.met.D.Disk.seen_is_image d t) c.args.disk c.open_parts.new.disk (c.open_parts.ensures.runs t) s
+returns-in-Err-clause-refused g c t s = runs_open g.D.Disk t c.one_list.ensures.opens
+    (λ d. g.met.D.Disk.seen_is_image d t) c.args.disk c.open_parts.new.disk (c.open_parts.ensures.runs t) s
 
 pub returns-in-Err-clause-refused_pages : goal.returns-in-Err-clause-refused_pages
-returns-in-Err-clause-refused_pages g c t = runs_keep g.D.Disk t (λ d. g.met.D.Disk.seen_is_image d t) c.args.disk c.open_parts.new.disk (c.open_parts.ensures.runs t)
+returns-in-Err-clause-refused_pages g c t = runs_keep g.D.Disk t
+    (λ d. g.met.D.Disk.seen_is_image d t) c.args.disk c.open_parts.new.disk (c.open_parts.ensures.runs t)
 
 pub returns-in-Err-clause-refused_seen : goal.returns-in-Err-clause-refused_seen
-returns-in-Err-clause-refused_seen g c t = runs_seen g.D.Disk t (λ d. g.met.D.Disk.seen_is_image d t) c.args.disk c.open_parts.new.disk (c.open_parts.ensures.runs t)
+returns-in-Err-clause-refused_seen g c t = runs_seen g.D.Disk t
+    (λ d. g.met.D.Disk.seen_is_image d t) c.args.disk c.open_parts.new.disk (c.open_parts.ensures.runs t)
 
 pub invariant_of-journal : goal.invariant_of-journal
 invariant_of-journal g c =
@@ -33,8 +37,10 @@ invariant_of-journal g c =
     let disk : g.row.D.Denot = c.open_parts.new.disk in (
       c.in-Ok.ensures.ready,
       c.in-Ok.ensures.fits,
-      subst (λ (d : g.row.D.Denot). KeepsHistory g.D.Disk (seen_as disk p.wal p.state.value p.flushed p.owes d)) (sym c.of-opened.ensures)
-          (λ t. keeps_opened g.D.Disk c.counted_are_one.ensures (λ d. g.met.D.Disk.seen_is_image d t) t c.args.settings.now c.args.disk at.0
+      subst (λ (d : g.row.D.Denot). KeepsHistory g.D.Disk (seen_as disk p.wal p.state.value p.flushed p.owes d))
+          (sym c.of-opened.ensures)
+          (λ t. keeps_opened g.D.Disk c.counted_are_one.ensures
+          (λ d. g.met.D.Disk.seen_is_image d t) t c.args.settings.now c.args.disk at.0
           (seen_as disk p.wal p.state.value p.flushed p.owes disk) p.map at.1 refl),
     )
 
@@ -43,7 +49,8 @@ returns-in-Ok-clause-opens_on g c t =
     let p = c.in-Ok.parts in
     let at = c.in-Ok.ensures.opened in
     let disk : g.row.D.Denot = c.open_parts.new.disk in
-    opens_still g.D.Disk c.counted_are_one.ensures (λ d. g.met.D.Disk.seen_is_image d t) t c.args.settings.now c.args.disk at.0 (seen_as disk p.wal p.state.value p.flushed p.owes disk) p.map at.1
+    opens_still g.D.Disk c.counted_are_one.ensures (λ d. g.met.D.Disk.seen_is_image d t) t c.args.settings.now
+    c.args.disk at.0 (seen_as disk p.wal p.state.value p.flushed p.owes disk) p.map at.1
 
 unborn_is_store : (files : Files) → IsUnborn files.log → IsStoreOf files []
 unborn_is_store files unborn = record {
@@ -57,32 +64,42 @@ unborn_is_store files unborn = record {
 
 files_are : (c d : Files) → c.log ≡ d.log → c.pages ≡ d.pages → c ≡ d
 files_are c d log pages =
-    let first : c ≡ record { log = d.log; pages = c.pages } = ap (λ (l : List ℕ). let f : Files = record { log = l; pages = c.pages } in f) log in
-    let second : record { log = d.log; pages = c.pages } ≡ d = ap (λ (p : List ℕ). let f : Files = record { log = d.log; pages = p } in f) pages in
+    let first : c ≡ record { log = d.log; pages = c.pages } =
+    ap (λ (l : List ℕ). let f : Files = record { log = l; pages = c.pages } in f) log in
+    let second : record { log = d.log; pages = c.pages } ≡ d =
+    ap (λ (p : List ℕ). let f : Files = record { log = d.log; pages = p } in f) pages in
     first ∙ second
 
 module _ {D : Type 0} (device : Disk D) where
-  stays : (first : D) (c : Files) → (IsUnborn (device.seen first).log → ⊥) → (c.pages ≡ (device.seen first).pages) × IsLogBefore (device.seen first).log c.log → c ≡ device.seen first
-  stays first c born left = ⊎_elim (λ (same : c.log ≡ (device.seen first).log). files_are c (device.seen first) same left.0)
+  stays : (first : D) (c : Files) → (IsUnborn (device.seen first).log → ⊥)
+      → (c.pages ≡ (device.seen first).pages) × IsLogBefore (device.seen first).log c.log → c ≡ device.seen first
+  stays first c born left =
+      ⊎_elim (λ (same : c.log ≡ (device.seen first).log). files_are c (device.seen first) same left.0)
       (λ (new : IsUnborn (device.seen first).log × Opens c.log []). absurd (born new.0)) left.1
 
-  runs_only : device.tells → ((d : D) → images_now device d (device.seen d)) → (first disk : D) → RunsFrom device first disk → (IsUnborn (device.seen first).log → ⊥) → IsOnlyRead device first disk
+  runs_only : device.tells → ((d : D) → images_now device d (device.seen d)) → (first disk : D)
+      → RunsFrom device first disk → (IsUnborn (device.seen first).log → ⊥) → IsOnlyRead device first disk
   runs_only told law first disk (inl only) born = only
   runs_only told law first disk (inr (c0, run)) born = record {
-    same = λ t. stays first (device.seen disk) born (run.rest.each (device.clock disk) (device.seen disk) run.rest.later (omega arith) (law disk));
+    same = λ t. stays first (device.seen disk) born
+        (run.rest.each (device.clock disk) (device.seen disk) run.rest.later (omega arith) (law disk));
     any_moment = λ t. then device first run.mid disk (images_now device first) _ run.synced run.rest
         (λ c left. subst (images_now device first) (sym (stays first c born left)) (law first));
   }
 
 pub returns-in-Err-clause-no_store_kept : goal.returns-in-Err-clause-no_store_kept
 returns-in-Err-clause-no_store_kept g c = λ t none.
-    runs_only g.D.Disk t (λ d. g.met.D.Disk.seen_is_image d t) c.args.disk c.open_parts.new.disk (c.open_parts.ensures.runs t)
-    (λ unborn. c.stores_are_known.ensures (g.D.Disk.seen c.args.disk) [] (unborn_is_store (g.D.Disk.seen c.args.disk) unborn) none)
+    runs_only g.D.Disk t (λ d. g.met.D.Disk.seen_is_image d t) c.args.disk c.open_parts.new.disk
+    (c.open_parts.ensures.runs t)
+    (λ unborn. c.stores_are_known.ensures (g.D.Disk.seen c.args.disk) []
+    (unborn_is_store (g.D.Disk.seen c.args.disk) unborn) none)
 
 pub returns-in-Ok-clause-born : goal.returns-in-Ok-clause-born
 returns-in-Ok-clause-born g c = λ t born.
-    runs_only g.D.Disk t (λ d. g.met.D.Disk.seen_is_image d t) c.args.disk c.open_parts.new.disk (c.open_parts.ensures.runs t) born
+    runs_only g.D.Disk t (λ d. g.met.D.Disk.seen_is_image d t) c.args.disk c.open_parts.new.disk
+    (c.open_parts.ensures.runs t) born
 
 pub returns-in-Err-clause-born_kept : goal.returns-in-Err-clause-born_kept
 returns-in-Err-clause-born_kept g c = λ t born.
-    runs_only g.D.Disk t (λ d. g.met.D.Disk.seen_is_image d t) c.args.disk c.open_parts.new.disk (c.open_parts.ensures.runs t) born
+    runs_only g.D.Disk t (λ d. g.met.D.Disk.seen_is_image d t) c.args.disk c.open_parts.new.disk
+    (c.open_parts.ensures.runs t) born

@@ -6,6 +6,10 @@ returns-clause-opened g c =
     let read = c.in_ok-wal.ensures.read in
     let ran = c.in_ok-wal.ensures.ran in (
       ran.0,
-      opened_at g.D.Disk c.one_list.ensures.opens c.args.settings.now c.args.disk.now c.read_store.new.disk c.in_ok-wal.wal c.begin_log.new.wal c.in_ok-wal.state.value c.begin_log.new.state.value c.in_ok-wal.map read.0 c.commits-flushed.result c.in_ok-owes.owes
-          (λ t d. g.met.D.Disk.seen_is_image d t) read.1 ran.0 ran.1 c.read_store.ensures.cause.time c.read_store.ensures.cause.later c.in_ok-wal.ensures.cause.at_ok c.in_ok-wal.ensures.below_last c.commits-flushed.ensures c.in_ok-owes.ensures.begun,
+      opened_at g.D.Disk c.one_list.ensures.opens c.args.settings.now c.args.disk.now c.read_store.new.disk
+          c.in_ok-wal.wal c.begin_log.new.wal c.in_ok-wal.state.value c.begin_log.new.state.value c.in_ok-wal.map read.0
+          c.commits-flushed.result c.in_ok-owes.owes
+          (λ t d. g.met.D.Disk.seen_is_image d t) read.1 ran.0 ran.1 c.read_store.ensures.cause.time
+          c.read_store.ensures.cause.later c.in_ok-wal.ensures.cause.at_ok c.in_ok-wal.ensures.below_last
+          c.commits-flushed.ensures c.in_ok-owes.ensures.begun,
     )

@@ -7,7 +7,8 @@ use Rattle.buffer_frames.proofs.BatchRecords.{some_bytes, one_record}
 use Rattle.buffer_frames.proofs.Steps.{state_number}
 use Rattle.buffer_frames.proofs.ReadingOn.{read_more}
 use Rattle.buffer_frames.proofs.records.read_record.Goals as goal
-use Rattle.buffer_frames.proofs.records.read_record.Goals.{then-rec-eq0-via-then-rec-eq0, then-rec-eq0-via-else-rec-eq0+then-rec-length}
+use Rattle.buffer_frames.proofs.records.read_record.Goals.{then-rec-eq0-via-then-rec-eq0}
+use Rattle.buffer_frames.proofs.records.read_record.Goals.{then-rec-eq0-via-else-rec-eq0+then-rec-length}
 
 pub returns-then-rec-eq0-clause-refused : goal.returns-then-rec-eq0-clause-refused
 returns-then-rec-eq0-clause-refused g c = λ file pages xid_limit R read told at r behind is encoded number can.

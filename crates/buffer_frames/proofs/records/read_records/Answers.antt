@@ -10,7 +10,8 @@ use Rattle.buffer_frames.specs.NoStore.{IsNoStore}
 use Rattle.buffer_frames.specs.Causes.{NotAStoreWhere}
 use Rattle.buffer_frames.proofs.Only.{none_read, read_then}
 use Rattle.buffer_frames.proofs.Exits.{refused_log, refused_where}
-use Rattle.buffer_frames.proofs.Loading.{none_loaded, more_loaded, limits_loaded, all_loaded, broken_there, no_batch_there, still_read, given_goes}
+use Rattle.buffer_frames.proofs.Loading.{none_loaded, more_loaded, limits_loaded, all_loaded, broken_there}
+use Rattle.buffer_frames.proofs.Loading.{no_batch_there, still_read, given_goes}
 use Rattle.buffer_frames.specs.declared.page_map.PageMap.{PageMap}
 use Rattle.buffer_frames.proofs.records.read_records.Goals as goal
 
@@ -81,10 +82,12 @@ returns-in_err-read_batch_records-clause-no_store g c = λ told.
     let read =
     still_read g.D.Disk c.loop.disk c.read_batch.new.disk _ _ _ _ _ i.loads.R c.read_batch.ensures.keeps
     i.loads.is_read in
-    let p = err_from_is_err_and c.from_residual-in_err-read_batch_records.result c.from_residual-in_err-read_batch_records.ensures.1 in
+    let p = err_from_is_err_and c.from_residual-in_err-read_batch_records.result
+    c.from_residual-in_err-read_batch_records.ensures.1 in
     subst (NotAStoreWhere (IsNoStore files)) (sym (p.1 ∙ ap Err p.2))
     (refused_where PageMap (IsNoStore files) c.in_err-read_batch_records.field-0.0
-    (λ is. no_batch_there g.D.Disk c.args.disk.now c.loop.disk c.read_batch_records.new.disk c.loop.wal c.read_batch.new.self _ _
+    (λ is. no_batch_there g.D.Disk c.args.disk.now c.loop.disk c.read_batch_records.new.disk c.loop.wal
+    c.read_batch.new.self _ _
     c.loop.state.value c.loop.map c.deref.result.now i.loads told
     (λ batches. given_goes c.loop.wal c.read_batch.new.self (g.D.Disk.seen c.args.disk.now).log
     (g.D.Disk.seen c.loop.disk).log c.in_ok-read_batch.field-0 c.read_batch.new.out.items c.deref.result.now
@@ -110,7 +113,8 @@ loop-preserved g c =
         down_is = c.read_batch.ensures.same.down_is ∙ i.same.down_is;
       };
       loads =
-          more_loaded g.D.Disk c.args.disk.now c.loop.disk c.read_batch_records.new.disk c.loop.wal c.read_batch.new.self _ _
+          more_loaded g.D.Disk c.args.disk.now c.loop.disk c.read_batch_records.new.disk c.loop.wal
+          c.read_batch.new.self _ _
           c.loop.state.value _ c.loop.map _ c.deref.result.now i.loads
           (λ told. (λ batches. given_goes c.loop.wal c.read_batch.new.self (g.D.Disk.seen c.args.disk.now).log
           (g.D.Disk.seen c.loop.disk).log c.in_ok-read_batch.field-0 c.read_batch.new.out.items c.deref.result.now

@@ -5,9 +5,14 @@ use Rattle.core_state.specs.Changes.{IsNew}
 use Rattle.core_state.specs.Documents.{Doc}
 use Rattle.core_state.specs.States.{known_by, use_of}
 use Rattle.core_state.specs.Inner.HeadChanges.{HasHead}
-use Rattle.core_state.proofs.HeadChanges.{PutParts, PutLeft, put_told, put_back, put_left, two_told, first_of_two, second_of_two, two_with, no_head, same_second}
+use Rattle.core_state.proofs.HeadChanges.{PutParts, PutLeft, put_told, put_back, put_left, two_told, first_of_two}
+use Rattle.core_state.proofs.HeadChanges.{second_of_two, two_with, no_head, same_second}
 use Rattle.core_state.proofs.marking.valid_put_overflow.Goals as goal
-use Rattle.core_state.proofs.marking.valid_put_overflow.Goals.{then-before-ne2-via-then-before-ne2, then-before-ne2-via-else-before-ne2+then-after-ne2, then-before-ne2-via-else-before-ne2+else-after-ne2+then-not-is_new}
+use Rattle.core_state.proofs.marking.valid_put_overflow.Goals.{then-before-ne2-via-then-before-ne2}
+use Rattle.core_state.proofs.marking.valid_put_overflow.Goals.{then-before-ne2-via-else-before-ne2+then-after-ne2}
+use Rattle.core_state.proofs.marking.valid_put_overflow.Goals.{
+  then-before-ne2-via-else-before-ne2+else-after-ne2+then-not-is_new,
+}
 
 pub returns-then-before-ne2 : goal.returns-then-before-ne2
 returns-then-before-ne2 c =

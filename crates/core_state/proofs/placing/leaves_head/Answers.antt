@@ -8,7 +8,10 @@ use Rattle.core_state.specs.States.{use_of}
 use Rattle.core_state.specs.Inner.Placing.{PlacesHead}
 use Rattle.core_state.proofs.PlacedHeads.{OnOld, leaves_old, leaves_new, leaves_back, same_heap}
 use Rattle.core_state.proofs.placing.leaves_head.Goals as goal
-use Rattle.core_state.proofs.placing.leaves_head.Goals.{in-Heap-body+else-new-old, else-new-old-via-then-new-old+else-places_head, else-new-old-via-else-new-old, in_default-body, then-new-eq0, else-new-eq0}
+use Rattle.core_state.proofs.placing.leaves_head.Goals.{in-Heap-body+else-new-old}
+use Rattle.core_state.proofs.placing.leaves_head.Goals.{else-new-old-via-then-new-old+else-places_head}
+use Rattle.core_state.proofs.placing.leaves_head.Goals.{else-new-old-via-else-new-old, in_default-body, then-new-eq0}
+use Rattle.core_state.proofs.placing.leaves_head.Goals.{else-new-eq0}
 
 pub returns-then-places_head : goal.returns-then-places_head
 returns-then-places_head c = (

@@ -18,17 +18,30 @@ tears_rest tells locked at put bytes part a b c rest was torn f is =
 
 pub returns-in-Ok-eq0-clause-tears : goal.returns-in-Ok-eq0-clause-tears
 returns-in-Ok-eq0-clause-tears g c =
-    tears_rest g.F.HostFolder.tells (λ f. g.F.HostFolder.locks c.args.handle.now f ≡ true) c.args.at c.loop-put.put c.args.bytes.now _ _ _ _ (take_rest c.args.bytes.now c.loop-put.put) c.loop-put.invariant c.write_once.ensures.tears
+    tears_rest g.F.HostFolder.tells
+    (λ f. g.F.HostFolder.locks c.args.handle.now f ≡ true) c.args.at c.loop-put.put c.args.bytes.now _ _ _ _
+    (take_rest c.args.bytes.now c.loop-put.put) c.loop-put.invariant c.write_once.ensures.tears
 
 pub returns-in-Err-clause-tears : goal.returns-in-Err-clause-tears
 returns-in-Err-clause-tears g c =
-    tears_rest g.F.HostFolder.tells (λ f. g.F.HostFolder.locks c.args.handle.now f ≡ true) c.args.at c.loop-put.put c.args.bytes.now _ _ _ _ (take_rest c.args.bytes.now c.loop-put.put) c.loop-put.invariant c.write_once.ensures.tears
+    tears_rest g.F.HostFolder.tells
+    (λ f. g.F.HostFolder.locks c.args.handle.now f ≡ true) c.args.at c.loop-put.put c.args.bytes.now _ _ _ _
+    (take_rest c.args.bytes.now c.loop-put.put) c.loop-put.invariant c.write_once.ensures.tears
 
 pub loop-put-preserved : goal.loop-put-preserved
 loop-put-preserved g c = record {
-  within = omega (arith, c.loop-put.invariant.within, c.in-Ok.ensures.bound, ap length (take_rest c.args.bytes.now c.loop-put.put), length-drop c.loop-put.put c.args.bytes.now);
-  tears = tears_rest g.F.HostFolder.tells (λ f. g.F.HostFolder.locks c.args.handle.now f ≡ true) c.args.at c.loop-put.put c.args.bytes.now _ _ _ _ (take_rest c.args.bytes.now c.loop-put.put) c.loop-put.invariant c.write_once.ensures.tears;
+  within = omega (
+    arith,
+    c.loop-put.invariant.within,
+    c.in-Ok.ensures.bound,
+    ap length (take_rest c.args.bytes.now c.loop-put.put),
+    length-drop c.loop-put.put c.args.bytes.now,
+  );
+  tears = tears_rest g.F.HostFolder.tells
+      (λ f. g.F.HostFolder.locks c.args.handle.now f ≡ true) c.args.at c.loop-put.put c.args.bytes.now _ _ _ _
+      (take_rest c.args.bytes.now c.loop-put.put) c.loop-put.invariant c.write_once.ensures.tears;
   later = λ told. omega (arith, c.loop-put.invariant.later told, (c.write_once.ensures.errors told).later);
   written = λ told f is.
-      put_more f c.args.at c.loop-put.put c.in-Ok.n c.args.bytes.now _ _ _ _ c.loop-put.invariant.within (take_rest c.args.bytes.now c.loop-put.put) (c.loop-put.invariant.written told f is) (c.in-Ok.ensures.written told f is);
+      put_more f c.args.at c.loop-put.put c.in-Ok.n c.args.bytes.now _ _ _ _ c.loop-put.invariant.within (take_rest
+      c.args.bytes.now c.loop-put.put) (c.loop-put.invariant.written told f is) (c.in-Ok.ensures.written told f is);
 }

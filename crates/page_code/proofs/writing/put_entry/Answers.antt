@@ -16,4 +16,6 @@ put_postings-requires-clause-room c = omega (arith, c.requires.room, length-entr
 
 pub returns : goal.returns
 returns c =
-    puts_entry c.args.at c.put_key-at.result c.put_postings.result (entry_shown c.args.entry) c.args.out.now c.put_key-at.new.out c.put_postings.new.out (omega (arith, c.requires.room)) c.put_key-at.ensures.puts c.put_postings.ensures
+    puts_entry c.args.at c.put_key-at.result c.put_postings.result
+    (entry_shown c.args.entry) c.args.out.now c.put_key-at.new.out c.put_postings.new.out
+    (omega (arith, c.requires.room)) c.put_key-at.ensures.puts c.put_postings.ensures

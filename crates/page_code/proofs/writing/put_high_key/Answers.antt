@@ -9,7 +9,8 @@ put_key-requires-clause-room c =
     omega (arith, c.requires.room, some.1)
 
 pub returns-then-is_empty : goal.returns-then-is_empty
-returns-then-is_empty c = high_none c.args.at c.args.high.now c.args.out.now c.is_empty.result c.if-is_empty.true c.is_empty.ensures
+returns-then-is_empty c =
+    high_none c.args.at c.args.high.now c.args.out.now c.is_empty.result c.if-is_empty.true c.is_empty.ensures
 
 pub returns-else-is_empty : goal.returns-else-is_empty
 returns-else-is_empty c =

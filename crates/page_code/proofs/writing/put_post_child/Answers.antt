@@ -10,4 +10,5 @@ pub put_u32-requires : goal.put_u32-requires
 put_u32-requires c = omega (arith, c.requires, length-post_child_bytes c.args.child)
 
 pub returns : goal.returns
-returns c = puts_post_child c.args.at c.put_u32-at.result c.put_u32.result c.args.child c.args.out.now c.put_u32-at.new.out c.put_u32.new.out (omega (arith, c.requires)) c.put_u32-at.ensures.puts c.put_u32.ensures.puts
+returns c = puts_post_child c.args.at c.put_u32-at.result c.put_u32.result c.args.child c.args.out.now
+    c.put_u32-at.new.out c.put_u32.new.out (omega (arith, c.requires)) c.put_u32-at.ensures.puts c.put_u32.ensures.puts

@@ -18,5 +18,7 @@ put_keys-requires-clause-room c = omega (arith, c.requires.room, length-row_byte
 
 pub returns : goal.returns
 returns c =
-    puts_row c.args.at c.put_u32-at.result c.put_u16-at.result c.put_keys.result _ (row_shown c.args.row) c.args.out.now c.put_u32-at.new.out c.put_u16-at.new.out c.put_keys.new.out c.len.ensures (omega (arith, c.requires.room)) (omega (arith, c.requires.room, length-row_bytes (row_shown c.args.row)))
+    puts_row c.args.at c.put_u32-at.result c.put_u16-at.result c.put_keys.result _
+    (row_shown c.args.row) c.args.out.now c.put_u32-at.new.out c.put_u16-at.new.out c.put_keys.new.out c.len.ensures
+    (omega (arith, c.requires.room)) (omega (arith, c.requires.room, length-row_bytes (row_shown c.args.row)))
     c.put_u32-at.ensures.puts c.put_u16-at.ensures.puts c.put_keys.ensures

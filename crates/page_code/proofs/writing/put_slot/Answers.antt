@@ -13,4 +13,6 @@ put_head-requires c =
 pub returns-in-Some : goal.returns-in-Some
 returns-in-Some c =
     let room = rw c.in-Some.is at c.requires in
-    rw c.in-Some.is (puts_then c.args.at c.put_byte-at.result c.put_head.result (1 ∷ []) (head_bytes (head_shown c.in-Some.head)) c.args.out.now c.put_byte-at.new.out c.put_head.new.out (omega (arith, room)) c.put_byte-at.ensures c.put_head.ensures)
+    rw c.in-Some.is (puts_then c.args.at c.put_byte-at.result c.put_head.result (1 ∷ [])
+    (head_bytes (head_shown c.in-Some.head)) c.args.out.now c.put_byte-at.new.out c.put_head.new.out
+    (omega (arith, room)) c.put_byte-at.ensures c.put_head.ensures)

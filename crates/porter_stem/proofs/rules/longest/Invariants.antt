@@ -5,6 +5,7 @@ use Rattle.porter_stem.proofs.rules.longest.Given as goal
 
 abbrev pub invariant-loop-rule : goal.invariant-loop-rule
 invariant-loop-rule l = record {
-  best : longest_from l.word (found_of l.found) (map rule_of (drop l.rule-index l.rules)) ≡ longest (map rule_of l.rules) l.word;
+  best : longest_from l.word (found_of l.found) (map rule_of (drop l.rule-index l.rules))
+      ≡ longest (map rule_of l.rules) l.word;
   fits : IfSome l.found (λ r. length r.suffix.now ≤ length l.word);
 }

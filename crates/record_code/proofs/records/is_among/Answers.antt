@@ -6,4 +6,5 @@ use Rattle.record_code.proofs.records.is_among.Goals as goal
 
 pub returns : goal.returns
 returns c =
-    any_from_yields_List (λ (x : Change). eqb x.page c.args.page) _ _ _ c.any.ensures.ran (YieldsList-from_slice c.args.changes.now cc) (λ x b q k. search (rules, tests))
+    any_from_yields_List (λ (x : Change). eqb x.page c.args.page) _ _ _ c.any.ensures.ran
+    (YieldsList-from_slice c.args.changes.now cc) (λ x b q k. search (rules, tests))

@@ -9,18 +9,24 @@ use Rattle.shell_run.proofs.dictionaries.thesaurus_of.Goals as goal
 
 pub returns-in-Err-clause-refused : goal.returns-in-Err-clause-refused
 returns-in-Err-clause-refused c =
-    let is : sub_named c.args.configs.now c.args.sub.now ≡ Some (rules_of c.in-Some.dictionary.now) = sym c.in-Some.ensures in
-    thesaurus_refuses c.args.configs.now c.args.sub.now (rules_of c.in-Some.dictionary.now) (counted_lines c.args.body) (refusal c.in-Err.why) is c.in-Err.ensures.refused
+    let is : sub_named c.args.configs.now c.args.sub.now ≡ Some (rules_of c.in-Some.dictionary.now) =
+    sym c.in-Some.ensures in
+    thesaurus_refuses c.args.configs.now c.args.sub.now (rules_of c.in-Some.dictionary.now) (counted_lines c.args.body)
+    (refusal c.in-Err.why) is c.in-Err.ensures.refused
 
 pub returns-in-Ok-from_str-clause-good : goal.returns-in-Ok-from_str-clause-good
 returns-in-Ok-from_str-clause-good c =
-    let is : sub_named c.args.configs.now c.args.sub.now ≡ Some (rules_of c.in-Some.dictionary.now) = sym c.in-Some.ensures in
-    thesaurus_good c.args.configs.now c.args.sub.now (rules_of c.in-Some.dictionary.now) (counted_lines c.args.body) c.in-Ok.thesaurus is c.in-Ok.ensures.rules
+    let is : sub_named c.args.configs.now c.args.sub.now ≡ Some (rules_of c.in-Some.dictionary.now) =
+    sym c.in-Some.ensures in
+    thesaurus_good c.args.configs.now c.args.sub.now (rules_of c.in-Some.dictionary.now)
+    (counted_lines c.args.body) c.in-Ok.thesaurus is c.in-Ok.ensures.rules
 
 pub returns-in-Ok-from_str-clause-made : goal.returns-in-Ok-from_str-clause-made
 returns-in-Ok-from_str-clause-made c =
-    let is : sub_named c.args.configs.now c.args.sub.now ≡ Some (rules_of c.in-Some.dictionary.now) = sym c.in-Some.ensures in (
+    let is : sub_named c.args.configs.now c.args.sub.now ≡ Some (rules_of c.in-Some.dictionary.now) =
+    sym c.in-Some.ensures in (
       c.in-Ok.thesaurus,
-      thesaurus_read c.args.configs.now c.args.sub.now (rules_of c.in-Some.dictionary.now) (counted_lines c.args.body) c.in-Ok.thesaurus is c.in-Ok.ensures.rules,
+      thesaurus_read c.args.configs.now c.args.sub.now (rules_of c.in-Some.dictionary.now)
+          (counted_lines c.args.body) c.in-Ok.thesaurus is c.in-Ok.ensures.rules,
       ap (thesaurus_rules c.in-Ok.thesaurus) c.in-Ok-from_str.ensures.ok,
     )

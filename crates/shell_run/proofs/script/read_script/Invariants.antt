@@ -9,7 +9,8 @@ pub record SoFar {S : Type 0} (left : S → Option (List ℕ)) (faults : S → �
   pub short : length text ≤ 2 ^ 30 + 1
 
 abbrev pub invariant-loop-text : goal.invariant-loop-text
-invariant-loop-text g l = SoFar g.S.Source.left g.S.Source.fault_count l.fn.script l.script l.text.items × (vec_len l.chunk ≡ 65536)
+invariant-loop-text g l =
+    SoFar g.S.Source.left g.S.Source.fault_count l.fn.script l.script l.text.items × (vec_len l.chunk ≡ 65536)
 
 abbrev pub decreases-loop-text : goal.decreases-loop-text
 decreases-loop-text g l = 2 ^ 30 + 1 - vec_len l.text

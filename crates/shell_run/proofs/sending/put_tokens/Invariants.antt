@@ -8,5 +8,6 @@ use Rattle.shell_run.proofs.sending.put_tokens.Given as goal
 abbrev pub invariant-loop-token : goal.invariant-loop-token
 invariant-loop-token g l =
     (l.yielded ++ l.token-iterator ≡ tokens_of l.text)
-    × Sends (g.K.Sink.taken l.fn.out) (g.K.Sink.taken l.out) (l.fn.waiting.items ++ flat_map token_line l.yielded) l.waiting.items true
+    × Sends (g.K.Sink.taken l.fn.out) (g.K.Sink.taken l.out)
+    (l.fn.waiting.items ++ flat_map token_line l.yielded) l.waiting.items true
     × (g.K.Sink.fault_count l.fn.out ≤ g.K.Sink.fault_count l.out)

@@ -18,7 +18,10 @@ returns-clause-served g c =
       session = c.in_ok-session.session;
       reply = shown;
       turned = record { statement = t.statement; says = t.says; answered = t.answered; becomes = t.becomes };
-      text = subst (λ w. Sends (g.K.Sink.taken c.args.out.now) (g.K.Sink.taken c.put_reply.new.out) (w.items ++ said c.in_ok-session.session shown) c.put_reply.new.waiting.items (is_ok c.put_reply.result)) c.turn.ensures.waiting c.put_reply.ensures.text;
+      text = subst (λ w. Sends (g.K.Sink.taken c.args.out.now) (g.K.Sink.taken c.put_reply.new.out)
+          (w.items ++ said c.in_ok-session.session shown) c.put_reply.new.waiting.items (is_ok c.put_reply.result))
+          c.turn.ensures.waiting c.put_reply.ensures.text;
       few = λ e. at_ok c.put_reply.result _ e c.put_reply.ensures.few;
-      flag = ap (λ b. c.turn.new.state.refused || b) c.is_refused.ensures ∙ ap (λ b. b || is_refusal shown) c.turn.ensures.refused;
+      flag = ap (λ b. c.turn.new.state.refused || b) c.is_refused.ensures
+          ∙ ap (λ b. b || is_refusal shown) c.turn.ensures.refused;
     })

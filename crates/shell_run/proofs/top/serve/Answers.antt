@@ -11,7 +11,8 @@ returns-in_default g c =
 
 pub returns-in-Err : goal.returns-in-Err
 returns-in-Err g c =
-    let u = unopened c.from.result _ c.status-in-Err.ensures (stop_is c.in-Err.field-0.why c.from.result c.from.ensures) in
+    let u =
+    unopened c.from.result _ c.status-in-Err.ensures (stop_is c.in-Err.field-0.why c.from.result c.from.ensures) in
     let n = u.number in
     record {
       range = (omega (arith, n), λ e. omega (arith, n), λ e. omega (arith, n));
@@ -22,7 +23,10 @@ returns-in-Err g c =
         keeps_no_store = λ t none. c.in-Err.ensures.no_store_kept t none;
         status_7 = λ e. absurd (omega (arith, n));
         status_3 =
-            λ e. (λ three. c.in-Err.ensures.fault (at_fault c.in-Err.field-0.why (sym c.from.ensures ∙ u.at_3 three)), λ rose. omega (arith, n, e));
+            λ e. (
+              λ three. c.in-Err.ensures.fault (at_fault c.in-Err.field-0.why (sym c.from.ensures ∙ u.at_3 three)),
+              λ rose. omega (arith, n, e),
+            );
         pages = λ t. c.in-Err.ensures.pages t;
       };
       headline = inl (record {

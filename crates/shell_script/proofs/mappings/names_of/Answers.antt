@@ -11,11 +11,16 @@ loop-rest-init c = (search rules, names_start c.args.text.now)
 
 pub returns-in_default-clause-none : goal.returns-in_default-clause-none
 returns-in_default-clause-none c =
-    names_fault c.args.text.now c.loop-rest.rest.now c.loop-rest.invariant.1 (λ b. false≢true (c.loop-rest-test.ensures.1 b)) c.in_default.ensures.none
+    names_fault c.args.text.now c.loop-rest.rest.now c.loop-rest.invariant.1
+    (λ b. false≢true (c.loop-rest-test.ensures.1 b)) c.in_default.ensures.none
 
 pub loop-rest-preserved : goal.loop-rest-preserved
-loop-rest-preserved c =
-    (search rules, names_more c.args.text.now c.loop-rest.rest.now c.in-Some.field-0-0.now c.in-Some.more.now c.loop-rest.invariant.1 c.in-Some.ensures.front c.in-Some.ensures.begins c.in-Some.ensures.name)
+loop-rest-preserved c = (
+  search rules,
+  names_more c.args.text.now c.loop-rest.rest.now c.in-Some.field-0-0.now c.in-Some.more.now
+      c.loop-rest.invariant.1 c.in-Some.ensures.front c.in-Some.ensures.begins c.in-Some.ensures.name,
+)
 
 pub returns-clause-some : goal.returns-clause-some
-returns-clause-some c = names_end c.args.text.now c.loop-rest.rest.now c.loop-rest.invariant.1 (c.loop-rest-test.ensures.0 refl) (λ b. false≢true (c.if-is_all_blank.ensures.1 b))
+returns-clause-some c = names_end c.args.text.now c.loop-rest.rest.now c.loop-rest.invariant.1
+    (c.loop-rest-test.ensures.0 refl) (λ b. false≢true (c.if-is_all_blank.ensures.1 b))

@@ -10,5 +10,6 @@ returns-in_err-found-clause-none c = missed c.from_residual.result _ (λ n ts k 
 
 pub returns-else-is_name-clause-none : goal.returns-else-is_name-clause-none
 returns-else-is_name-clause-none c = λ n ts k s.
-    let o = named_behind c.args.text.now c.in_ok-found.found.now c.in_ok-found.rest.now n ts c.in_ok-found.ensures.some s in
+    let o =
+    named_behind c.args.text.now c.in_ok-found.found.now c.in_ok-found.rest.now n ts c.in_ok-found.ensures.some s in
     false≢true (c.if-is_name.ensures.1 (subst IsName o.0 k))

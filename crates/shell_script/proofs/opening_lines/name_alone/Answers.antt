@@ -9,4 +9,5 @@ returns-in_err-name-clause-none c = missed c.from_residual.result _ (λ n k s. c
 
 pub returns-then-not-is_all_blank-clause-none : goal.returns-then-not-is_all_blank-clause-none
 returns-then-not-is_all_blank-clause-none c = λ n k s.
-    false≢true (c.if-not-is_all_blank.ensures.1 (named_behind c.args.text.now c.in_ok-name.name.now c.in_ok-name.rest.now n [] c.in_ok-name.ensures.front s).1)
+    false≢true (c.if-not-is_all_blank.ensures.1
+    (named_behind c.args.text.now c.in_ok-name.name.now c.in_ok-name.rest.now n [] c.in_ok-name.ensures.front s).1)

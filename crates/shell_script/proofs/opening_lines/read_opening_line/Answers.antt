@@ -13,13 +13,15 @@ returns-in_err-first-clause-none c =
     let same : c.in-Ok.text.now ≡ c.args.line.now = c.in-Ok.ensures.cases.0 in
     missed c.from_residual.result _ (λ h k.
     let f = opening_first h in
-    c.in_err-first.ensures.none f.0 f.1 (subst (IsSpelled c.in-Ok.text.now) f.2 (subst (λ z. IsSpelled z (opening_tokens h)) (sym same) k.spelled)))
+    c.in_err-first.ensures.none f.0 f.1
+    (subst (IsSpelled c.in-Ok.text.now) f.2 (subst (λ z. IsSpelled z (opening_tokens h)) (sym same) k.spelled)))
 
 pub returns-in_err-name-clause-none : goal.returns-in_err-name-clause-none
 returns-in_err-name-clause-none c =
     let same : c.in-Ok.text.now ≡ c.args.line.now = c.in-Ok.ensures.cases.0 in
     missed c.from_residual-in_err-name.result _ (λ h k.
-    dictionary_outside c.in-Ok.text.now c.in_ok-first.first.now c.in_ok-first.rest.now c.in_ok-first.ensures.some (bytes_same c.in_ok-first.first.now (codes "dictionary") (sym c.if-eq.ensures)) c.in_err-name.ensures.none h
+    dictionary_outside c.in-Ok.text.now c.in_ok-first.first.now c.in_ok-first.rest.now c.in_ok-first.ensures.some
+    (bytes_same c.in_ok-first.first.now (codes "dictionary") (sym c.if-eq.ensures)) c.in_err-name.ensures.none h
     (subst (λ z. IsOpeningLine z h) (sym same) k))
 
 pub returns-then-eq-clause-some : goal.returns-then-eq-clause-some
@@ -28,7 +30,9 @@ returns-then-eq-clause-some c =
     let utf8 : IsUtf8 c.in-Ok.text.now = subst IsUtf8 (sym same) c.in-Ok.ensures.cases.1 in
     let found = c.in_ok-name.ensures.some in
     subst (λ z. IsOpeningLine z (dictionary_opening c.in_ok-name.name.now (kind c.in_ok-name.kind))) same
-    (dictionary_is c.in-Ok.text.now c.in_ok-first.first.now c.in_ok-first.rest.now c.in_ok-name.name.now (kind c.in_ok-name.kind) utf8 c.in_ok-first.ensures.some (bytes_same c.in_ok-first.first.now (codes "dictionary") (sym c.if-eq.ensures)) found.0 found.1 found.2)
+    (dictionary_is c.in-Ok.text.now c.in_ok-first.first.now c.in_ok-first.rest.now c.in_ok-name.name.now
+    (kind c.in_ok-name.kind) utf8 c.in_ok-first.ensures.some
+    (bytes_same c.in_ok-first.first.now (codes "dictionary") (sym c.if-eq.ensures)) found.0 found.1 found.2)
 
 pub returns-then-eq-2-clause-some : goal.returns-then-eq-2-clause-some
 returns-then-eq-2-clause-some c =
@@ -36,4 +40,6 @@ returns-then-eq-2-clause-some c =
     let utf8 : IsUtf8 c.in-Ok.text.now = subst IsUtf8 (sym same) c.in-Ok.ensures.cases.1 in
     let found = c.in_ok-name-2.ensures.some in
     subst (λ z. IsOpeningLine z (configuration_opening c.in_ok-name-2.name.now)) same
-    (configuration_is c.in-Ok.text.now c.in_ok-first.first.now c.in_ok-first.rest.now c.in_ok-name-2.name.now utf8 c.in_ok-first.ensures.some (bytes_same c.in_ok-first.first.now (codes "configuration") (sym c.if-eq-2.ensures)) found.0 found.1)
+    (configuration_is c.in-Ok.text.now c.in_ok-first.first.now c.in_ok-first.rest.now
+    c.in_ok-name-2.name.now utf8 c.in_ok-first.ensures.some
+    (bytes_same c.in_ok-first.first.now (codes "configuration") (sym c.if-eq-2.ensures)) found.0 found.1)

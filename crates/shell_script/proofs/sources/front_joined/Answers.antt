@@ -10,7 +10,8 @@ returns-in-Some-clause-none c =
     if_missed c.front_part.result
     ((p : Part) (ts : List ScriptToken) → IsSource p.source → IsSpelled c.in-Some.rest.now (part_tokens p ++ ts) → ⊥)
     ((p : Part) (ts : List ScriptToken) → IsSource p.source → IsSpelled c.args.text.now (joined_tokens p ++ ts) → ⊥)
-    (λ bad p ts is k. bad p ts is (front_rest c.args.text.now (word (codes "||") ∷ []) c.in-Some.rest.now (part_tokens p ++ ts) c.in-Some.ensures.some k))
+    (λ bad p ts is k. bad p ts is (front_rest c.args.text.now (word (codes "||") ∷ []) c.in-Some.rest.now
+    (part_tokens p ++ ts) c.in-Some.ensures.some k))
     c.front_part.ensures.none
 
 pub returns-in-None-clause-none : goal.returns-in-None-clause-none

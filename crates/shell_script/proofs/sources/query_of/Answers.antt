@@ -11,9 +11,12 @@ returns-in_default-2-clause-none c =
 
 pub returns-in_default-front_name-clause-none : goal.returns-in_default-front_name-clause-none
 returns-in_default-front_name-clause-none c =
-    no_made_query c.args.text.now c.in-Some.found.now c.in-Some.rest.now c.in-Some.ensures.some (λ n t is k. c.in_default-front_name.ensures.none n (quote t ∷ []) is k)
+    no_made_query c.args.text.now c.in-Some.found.now c.in-Some.rest.now c.in-Some.ensures.some
+    (λ n t is k. c.in_default-front_name.ensures.none n (quote t ∷ []) is k)
 
 pub returns-in-None-clause-none : goal.returns-in-None-clause-none
 returns-in-None-clause-none c =
     let no = rw c.in-None.is at c.in_ok-text-2.ensures.none in
-    no_made_query c.args.text.now c.in-Some.found.now c.in-Some.rest.now c.in-Some.ensures.some (λ n t is k. no t (named_behind c.in-Some.rest.now c.in-Some-front_name.config.now c.in-Some-front_name.rest.now n (quote t ∷ []) c.in-Some-front_name.ensures.front k).1)
+    no_made_query c.args.text.now c.in-Some.found.now c.in-Some.rest.now c.in-Some.ensures.some
+    (λ n t is k. no t (named_behind c.in-Some.rest.now c.in-Some-front_name.config.now c.in-Some-front_name.rest.now
+    n (quote t ∷ []) c.in-Some-front_name.ensures.front k).1)

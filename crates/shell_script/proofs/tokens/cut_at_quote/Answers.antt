@@ -7,7 +7,8 @@ use Rattle.shell_script.proofs.tokens.cut_at_quote.Goals as goal
 pub range_from-requires : goal.range_from-requires
 range_from-requires c some =
     let found = rw c.as_bytes.ensures.value at c.in-Some.ensures in
-    behind_quote_at c.args.text.now c.in-Some.at c.utf8.text found.0.high (eqb-true (get_or c.args.text.now c.in-Some.at 0) 39 found.1)
+    behind_quote_at c.args.text.now c.in-Some.at c.utf8.text found.0.high
+    (eqb-true (get_or c.args.text.now c.in-Some.at 0) 39 found.1)
 
 pub returns-in-Some-clause-some : goal.returns-in-Some-clause-some
 returns-in-Some-clause-some c =
@@ -15,7 +16,8 @@ returns-in-Some-clause-some c =
     let lt : c.in-Some.at < length c.args.text.now = found.0.high in
     let le : c.in-Some.at ≤ length c.args.text.now = omega arith in
     let e = cut_at c.args.text.now c.in-Some.at lt (eqb-true (get_or c.args.text.now c.in-Some.at 0) 39 found.1) in
-    let front : c.range.result.now ≡ take c.in-Some.at c.args.text.now = c.range.ensures.value ∙ ap (λ n. take n c.args.text.now) (sub-zero c.in-Some.at) in
+    let front : c.range.result.now ≡ take c.in-Some.at c.args.text.now =
+    c.range.ensures.value ∙ ap (λ n. take n c.args.text.now) (sub-zero c.in-Some.at) in
     rw (front, c.range_from.ensures.value) (e, no_quote_before c.args.text.now c.in-Some.at le found.0.before)
 
 pub returns-in-None-clause-none : goal.returns-in-None-clause-none

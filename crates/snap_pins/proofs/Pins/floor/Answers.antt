@@ -13,12 +13,16 @@ loop-place-preserved c =
     elim c.match-place.branch [
       | in-Some w ↦
           let at = read ∙ ap Some w.in-Some.is in
-          let commits = pin_more places (λ p. p.commits) c.args.commits n c.loop-place.floor.0 w.in-Some.pin c.loop-place.invariant.0 at in
-          let length = pin_more places (λ p. p.length) c.args.length n c.loop-place.floor.1 w.in-Some.pin c.loop-place.invariant.1 at in
+          let commits = pin_more places (λ p. p.commits) c.args.commits n c.loop-place.floor.0 w.in-Some.pin
+          c.loop-place.invariant.0 at in
+          let length = pin_more places (λ p. p.length) c.args.length n c.loop-place.floor.1 w.in-Some.pin
+          c.loop-place.invariant.1 at in
           (rw (w.floor-is, w.min.ensures) commits, rw (w.floor-is, w.min-in-Some.ensures) length)
       | in_default w ↦
           let at = read ∙ ap Some w.in_default.is in
-          let commits = free_more places (λ p. p.commits) c.args.commits n c.loop-place.floor.0 c.loop-place.invariant.0 at in
-          let length = free_more places (λ p. p.length) c.args.length n c.loop-place.floor.1 c.loop-place.invariant.1 at in
+          let commits =
+          free_more places (λ p. p.commits) c.args.commits n c.loop-place.floor.0 c.loop-place.invariant.0 at in
+          let length =
+          free_more places (λ p. p.length) c.args.length n c.loop-place.floor.1 c.loop-place.invariant.1 at in
           (rw w.floor-is commits, rw w.floor-is length)
     ]

@@ -11,7 +11,9 @@ put_configuration-requires c =
     let empty = subst (IsWithin known) (sym c.in_ok-config.ensures) (within_empty known) in
     elim c.match-place.branch [
       | in-Some+in_ok-map w ↦
-          (let below = All-cons (λ p. p < length known.dictionaries) w.in-Some.place [] w.in-Some.ensures.within (All-nil (λ p. p < length known.dictionaries)) in
-          subst (IsWithin known) (sym (w.config-is ∙ w.in_ok-map.ensures.mapped)) (within_mapped known c.in_ok-config.config (w.type_named.result ∷ []) (w.in-Some.place ∷ []) empty below))
+          (let below = All-cons (λ p. p < length known.dictionaries) w.in-Some.place [] w.in-Some.ensures.within
+          (All-nil (λ p. p < length known.dictionaries)) in
+          subst (IsWithin known) (sym (w.config-is ∙ w.in_ok-map.ensures.mapped))
+          (within_mapped known c.in_ok-config.config (w.type_named.result ∷ []) (w.in-Some.place ∷ []) empty below))
       | in_default w ↦ subst (IsWithin known) (sym w.config-is) empty
     ]

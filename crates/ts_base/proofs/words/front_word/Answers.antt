@@ -13,8 +13,10 @@ returns-then-is_empty-clause-none c =
     let back = c.split_at.result.1.now in
     let all = rw (c.as_bytes.ensures.value, ← c.split_at.ensures.back) at c.word_len.ensures.all in
     let none : front ≡ [] = nil_from_length front (eqb-true (length front) 0 (sym c.if-is_empty.ensures)) in
-    let same : inner ≡ back = cut inner front back c.word_len.result c.split_at.ensures.front c.split_at.ensures.back ∙ ap (λ f. f ++ back) none in
-    all_blank c.args.line.now gap.0 inner gap.1 gap.2 c.without_blanks-text.ensures.all (subst (BeginsWithout IsDark) (sym same) all)
+    let same : inner ≡ back = cut inner front back c.word_len.result c.split_at.ensures.front c.split_at.ensures.back
+    ∙ ap (λ f. f ++ back) none in
+    all_blank c.args.line.now gap.0 inner gap.1 gap.2 c.without_blanks-text.ensures.all
+    (subst (BeginsWithout IsDark) (sym same) all)
 
 pub returns-clause-some : goal.returns-clause-some
 returns-clause-some c =
@@ -30,6 +32,7 @@ returns-clause-some c =
       gap = gap.0;
       blank = gap.1;
       is_word = record { some = some; dark = word };
-      text = gap.2 ∙ ap (λ z. gap.0 ++ z) (cut inner front back c.word_len.result c.split_at.ensures.front c.split_at.ensures.back);
+      text = gap.2 ∙ ap (λ z. gap.0 ++ z)
+          (cut inner front back c.word_len.result c.split_at.ensures.front c.split_at.ensures.back);
       ends = ends_of back all;
     }

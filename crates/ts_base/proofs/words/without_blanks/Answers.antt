@@ -13,5 +13,6 @@ pub returns-clause-blanks : goal.returns-clause-blanks
 returns-clause-blanks c = (
   take c.blanks_len.result c.args.text.now,
   rw c.as_bytes.ensures.value at c.blanks_len.ensures.blank,
-  sym (take-append-drop c.blanks_len.result c.args.text.now) ∙ ap (λ z. take c.blanks_len.result c.args.text.now ++ z) (sym c.range_from.ensures.value),
+  sym (take-append-drop c.blanks_len.result c.args.text.now)
+      ∙ ap (λ z. take c.blanks_len.result c.args.text.now ++ z) (sym c.range_from.ensures.value),
 )

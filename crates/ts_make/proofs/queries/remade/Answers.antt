@@ -6,7 +6,9 @@ use Rattle.ts_query.specs.declared.query.Node.TheVariants.{Leaf, Not, And, Or, P
 use Rattle.ts_query.proofs.Built.{next_node}
 use Rattle.ts_make.specs.Made.{IsMadeOf}
 use Rattle.ts_make.proofs.Remaking as remaking
-use Rattle.ts_make.proofs.queries.remade.Goals.{in-Leaf+in_ok-operand-in-Leaf, in-Not+in_ok-not-in-Not, in-And+in_ok-join-in-And, in-Or+in_ok-join-in-Or, in-Phrase+in_ok-join-in-Phrase}
+use Rattle.ts_make.proofs.queries.remade.Goals.{in-Leaf+in_ok-operand-in-Leaf, in-Not+in_ok-not-in-Not}
+use Rattle.ts_make.proofs.queries.remade.Goals.{in-And+in_ok-join-in-And, in-Or+in_ok-join-in-Or}
+use Rattle.ts_make.proofs.queries.remade.Goals.{in-Phrase+in_ok-join-in-Phrase}
 use Rattle.ts_make.proofs.queries.remade.Goals as goal
 
 pub loop-node-init : goal.loop-node-init

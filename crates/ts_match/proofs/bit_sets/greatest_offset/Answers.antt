@@ -11,7 +11,8 @@ loop-step-preserved c =
     let ss = c.args.steps.now in
     let i = c.loop-step.step-index in
     let g = greater_is c.loop-step.reach c.offset.result c.max-reach.result c.max-reach.ensures in
-    let here = λ (d : Step). c.offset.ensures ∙ ap (λ (s : Step). offset_of s.place) (get_or_default ss i _ d c.loop-step-test.true) in
+    let here = λ (d : Step). c.offset.ensures
+    ∙ ap (λ (s : Step). offset_of s.place) (get_or_default ss i _ d c.loop-step-test.true) in
     λ k d l. elim (cases_lt k i) [
       | inl q ↦ (let a = c.loop-step.invariant k d q in let b = g.left in omega arith)
       | inr q ↦

@@ -7,8 +7,13 @@ use Rattle.ts_match.proofs.bit_sets.is_somewhere.Goals as goal
 
 pub returns-then-bits : goal.returns-then-bits
 returns-then-bits c =
-    let r = c.args.bits.now in
-    (λ h. (WORD * c.args.count, beyond_words c.args.count r.words.items r.rest (WORD * c.args.count) (omega arith) ∙ c.if-bits.true), λ h. refl)
+    let r = c.args.bits.now in (
+      λ h. (
+        WORD * c.args.count,
+        beyond_words c.args.count r.words.items r.rest (WORD * c.args.count) (omega arith) ∙ c.if-bits.true,
+      ),
+      λ h. refl,
+    )
 
 pub returns-then-has_bit : goal.returns-then-has_bit
 returns-then-has_bit c =

@@ -4,7 +4,8 @@ use Rattle.ts_match.specs.declared.bit_sets.TheConstants.{WORD}
 use Rattle.ts_match.proofs.bit_sets.negate.Given as goal
 
 pub record SoFar (l : goal.Live-loop-k) : Type 0 where
-  pub below : (k : ℕ) → k < l.k → (i : ℕ) → i < WORD → bit_at (get_or l.bits.words.items k 0) i ≡ 1 - bit_at (get_or l.initial.bits.words.items k 0) i
+  pub below : (k : ℕ) → k < l.k → (i : ℕ) → i < WORD
+      → bit_at (get_or l.bits.words.items k 0) i ≡ 1 - bit_at (get_or l.initial.bits.words.items k 0) i
   pub above : (k : ℕ) → l.k ≤ k → get_or l.bits.words.items k 0 ≡ get_or l.initial.bits.words.items k 0
   pub rest : l.bits.rest ≡ l.initial.bits.rest
   pub len : vec_len l.bits.words ≡ vec_len l.initial.bits.words

@@ -12,5 +12,7 @@ returns-clause-value c =
     let p = c.args.place in
     let wide : c.args.count ≤ length c.args.bits.now.words.items = omega (arith, c.args.bits.now.words.ok.0) in
     let l : p / WORD < length c.args.bits.now.words.items = let r = c.requires.within in omega arith in
-    set_row c.args.count ws (set ws (p / WORD) (bit_or c.index_mut.result.now (1 * 2 ^ (p % WORD) % 2 ^ 64))) c.args.bits.now.rest c.args.bits.now.rest p c.requires.within wide
-    (ap (λ w. set ws (p / WORD) (bit_or w (1 * 2 ^ (p % WORD) % 2 ^ 64))) (get_or_read ws _ _ l c.index_mut.ensures.value 0)) refl
+    set_row c.args.count ws (set ws (p / WORD) (bit_or c.index_mut.result.now (1 * 2 ^ (p % WORD) % 2 ^ 64)))
+    c.args.bits.now.rest c.args.bits.now.rest p c.requires.within wide
+    (ap (λ w. set ws (p / WORD) (bit_or w (1 * 2 ^ (p % WORD) % 2 ^ 64)))
+    (get_or_read ws _ _ l c.index_mut.ensures.value 0)) refl

@@ -8,4 +8,5 @@ use Rattle.ts_match.proofs.encoded.meets.Given as goal
 abbrev pub invariant-loop-position : goal.invariant-loop-position
 invariant-loop-position l =
     list_any (λ (p : Position). asks_for l.operand.weights p.weight) l.position-iterator
-    ≡ list_any (λ (p : Position). asks_for l.operand.weights p.weight) (positions_in l.vector l.fn.found.first l.fn.found.end)
+    ≡ list_any (λ (p : Position). asks_for l.operand.weights p.weight)
+    (positions_in l.vector l.fn.found.first l.fn.found.end)

@@ -5,4 +5,5 @@ pub loop-bits-init : goal.loop-bits-init
 loop-bits-init c = same_refl _ _
 
 pub loop-bits-preserved : goal.loop-bits-preserved
-loop-bits-preserved c = same_trans _ _ _ _ _ _ c.loop-bits.invariant (freed _ _ _ _ c.in-Some.bits c.in-Some.ensures.items c.push_reserved.ensures.items)
+loop-bits-preserved c = same_trans _ _ _ _ _ _ c.loop-bits.invariant
+    (freed _ _ _ _ c.in-Some.bits c.in-Some.ensures.items c.push_reserved.ensures.items)

@@ -16,9 +16,11 @@ loop-step-preserved c =
         | inr q ↦
             let same : k ≡ c.loop-step.step-index = omega arith in
             let e = ap (λ j. get_or p.steps.now j d) same ∙ get_or_default p.steps.now i d _ c.loop-step-test.true in
-            subst (λ (s : Step). HasPlaces c.args.phrase.now.vector.now c.args.phrase.now.found.now reach count s) (sym e) (c.last_of.ensures.each reach count (let b = g.right in omega arith))
+            subst (λ (s : Step). HasPlaces c.args.phrase.now.vector.now c.args.phrase.now.found.now reach count s)
+            (sym e) (c.last_of.ensures.each reach count (let b = g.right in omega arith))
       ];
-      small = (let a = c.loop-step.invariant.small in let b = c.last_of.ensures.small in elim g.one [ inl x ↦ omega arith | inr x ↦ omega arith ]);
+      small = (let a = c.loop-step.invariant.small in
+          let b = c.last_of.ensures.small in elim g.one [ inl x ↦ omega arith | inr x ↦ omega arith ]);
       same = refl;
     }
 

@@ -10,12 +10,15 @@ pub negate-requires : goal.negate-requires
 negate-requires c = (pop_wide c.args.count _ _ c.in-Some.bits c.in-Some.ensures.items c.requires.wide.stack).1
 
 pub returns-clause-height : goal.returns-clause-height
-returns-clause-height c = height_pushed _ _ _ c.put.ensures.stack ∙ sym (height_popped _ _ c.in-Some.bits c.in-Some.ensures.items)
+returns-clause-height c =
+    height_pushed _ _ _ c.put.ensures.stack ∙ sym (height_popped _ _ c.in-Some.bits c.in-Some.ensures.items)
 
 pub returns-clause-same : goal.returns-clause-same
-returns-clause-same c = changed _ _ _ _ c.in-Some.bits _ c.in-Some.ensures.items c.put.ensures.stack c.negate.ensures.len
+returns-clause-same c =
+    changed _ _ _ _ c.in-Some.bits _ c.in-Some.ensures.items c.put.ensures.stack c.negate.ensures.len
 
 pub returns-clause-truths : goal.returns-clause-truths
 returns-clause-truths c = λ value j.
-    ap (truths_at c.args.count j) c.put.ensures.stack ∙ ap (λ b. b ∷ truths_at c.args.count j (reverse c.pop.new.self.items)) (c.negate.ensures.value j)
+    ap (truths_at c.args.count j) c.put.ensures.stack
+    ∙ ap (λ b. b ∷ truths_at c.args.count j (reverse c.pop.new.self.items)) (c.negate.ensures.value j)
     ∙ ap (truth_step Not value) (sym (truths_pop c.args.count j _ _ c.in-Some.bits c.in-Some.ensures.items))

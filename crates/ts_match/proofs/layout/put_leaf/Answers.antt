@@ -15,4 +15,5 @@ returns-clause-same c = taken _ _ _ _ c.in-Some.bits _ c.in-Some.ensures.items c
 
 pub returns-clause-truths : goal.returns-clause-truths
 returns-clause-truths c = λ j.
-    ap (truths_at c.args.count j) c.put.ensures.stack ∙ ap (λ b. b ∷ truths_at c.args.count j (reverse c.args.bit_sets.now.stack.items)) (c.lay.ensures.value j)
+    ap (truths_at c.args.count j) c.put.ensures.stack
+    ∙ ap (λ b. b ∷ truths_at c.args.count j (reverse c.args.bit_sets.now.stack.items)) (c.lay.ensures.value j)

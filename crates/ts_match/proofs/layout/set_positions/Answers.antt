@@ -12,7 +12,8 @@ use Rattle.ts_match.proofs.layout.set_positions.Goals as goal
 pub set_position-requires-clause-within : goal.set_position-requires-clause-within
 set_position-requires-clause-within c =
     c.requires.within c.position-item.result
-    (subst (λ (p : Position). Contains c.args.positions.now p) (sym c.position-item.is) (Contains-get_or c.args.positions.now c.loop-position.position-index c.position-item.result c.loop-position-test.true))
+    (subst (λ (p : Position). Contains c.args.positions.now p) (sym c.position-item.is) (Contains-get_or
+    c.args.positions.now c.loop-position.position-index c.position-item.result c.loop-position-test.true))
 
 pub loop-position-init : goal.loop-position-init
 loop-position-init c = record { value = λ j. sym (or_none (bit_value c.args.count c.args.bits.now j)); len = refl }
@@ -26,7 +27,8 @@ loop-position-preserved c =
           let p = sets c.args.by j c.args.weights in
           let x = c.position-item.result in
           c.set_position.ensures.value j ∙ ap (λ b. b || p x) (c.loop-position.invariant.value j)
-          ∙ or_assoc old (list_any p (take i ps)) (p x) ∙ ap (λ y. old || (list_any p (take i ps) || p y)) c.position-item.is
+          ∙ or_assoc old (list_any p (take i ps)) (p x)
+          ∙ ap (λ y. old || (list_any p (take i ps) || p y)) c.position-item.is
           ∙ ap (λ b. old || b) (sym (list_any_more p ps i x c.loop-position-test.true));
       len = c.set_position.ensures.len ∙ c.loop-position.invariant.len;
     }
@@ -36,4 +38,5 @@ returns-clause-value c = λ j.
     let ps = c.args.positions.now in
     let all : c.loop-position.position-index ≡ length c.args.positions.now = omega arith in
     c.loop-position.invariant.value j
-    ∙ ap (λ l. bit_value c.args.count c.args.bits.now j || list_any (sets c.args.by j c.args.weights) l) (ap (λ n. take n ps) all ∙ take-length ps)
+    ∙ ap (λ l. bit_value c.args.count c.args.bits.now j || list_any (sets c.args.by j c.args.weights) l)
+    (ap (λ n. take n ps) all ∙ take-length ps)

@@ -7,13 +7,15 @@ pub returns-in-Leaf-clause-truths : goal.returns-in-Leaf-clause-truths
 returns-in-Leaf-clause-truths c = λ j.
     let p = c.args.phrase.now in
     let x = leaf_value p.vector.now p.operands.now (beginning c.args.reach j) c.args.step in
-    c.put_leaf.ensures.truths j ∙ ap (λ n. truth_step n x (truths_at c.args.count j (reverse c.args.bit_sets.now.stack.items))) (sym c.in-Leaf.is)
+    c.put_leaf.ensures.truths j ∙ ap
+    (λ n. truth_step n x (truths_at c.args.count j (reverse c.args.bit_sets.now.stack.items))) (sym c.in-Leaf.is)
 
 pub returns-in-Not-clause-truths : goal.returns-in-Not-clause-truths
 returns-in-Not-clause-truths c = λ j.
     let p = c.args.phrase.now in
     let x = leaf_value p.vector.now p.operands.now (beginning c.args.reach j) c.args.step in
-    c.negate_top.ensures.truths x j ∙ ap (λ n. truth_step n x (truths_at c.args.count j (reverse c.args.bit_sets.now.stack.items))) (sym c.in-Not.is)
+    c.negate_top.ensures.truths x j ∙ ap
+    (λ n. truth_step n x (truths_at c.args.count j (reverse c.args.bit_sets.now.stack.items))) (sym c.in-Not.is)
 
 pub returns-in-And-clause-truths : goal.returns-in-And-clause-truths
 returns-in-And-clause-truths c = λ j.
@@ -29,4 +31,5 @@ pub returns-in-Or-clause-truths : goal.returns-in-Or-clause-truths
 returns-in-Or-clause-truths c = λ j.
     let p = c.args.phrase.now in
     let x = leaf_value p.vector.now p.operands.now (beginning c.args.reach j) c.args.step in
-    c.join_top-in-Or.ensures.truths x j ∙ ap (λ n. truth_step n x (truths_at c.args.count j (reverse c.args.bit_sets.now.stack.items))) (sym c.in-Or.is)
+    c.join_top-in-Or.ensures.truths x j
+    ∙ ap (λ n. truth_step n x (truths_at c.args.count j (reverse c.args.bit_sets.now.stack.items))) (sym c.in-Or.is)

@@ -1,4 +1,5 @@
-use Rattle.std.proofs.Common.{◌≡◌, ℕ, ◌+◌, ◌<◌, false, eqb, inl, inr, None, Some, List, length, sym, ap, subst, ◌∙◌, refl, arith}
+use Rattle.std.proofs.Common.{◌≡◌, ℕ, ◌+◌, ◌<◌, false, eqb, inl, inr, None, Some, List, length, sym, ap, subst, ◌∙◌}
+use Rattle.std.proofs.Common.{refl, arith}
 use Rattle.std.proofs.lemmas.Bool.{cases_lt, eq-eqb, eqb-true}
 use Rattle.std.proofs.lemmas.List.Elements.{All-take, All-drop}
 use Rattle.ts_query.specs.declared.query.Node.TheVariants.{Leaf}
@@ -37,9 +38,11 @@ pub loop-from-init : goal.loop-from-init
 loop-from-init c =
     let v = c.args.vector.now in
     let q = c.args.query.now in
-    let some : 0 < length (plan_of q) = (let e = ap length c.requires.plan in some_steps (length (plan_of q)) (ap (λ n. eqb n 0) (sym e) ∙ sym c.is_empty.ensures ∙ c.if-is_empty.false)) in
+    let some : 0 < length (plan_of q) = (let e = ap length c.requires.plan in
+    some_steps (length (plan_of q)) (ap (λ n. eqb n 0) (sym e) ∙ sym c.is_empty.ensures ∙ c.if-is_empty.false)) in
     record {
-      way = subst (λ (os : List Operand). Way v os c.args.steps.now (Holds q v) 0) (sym c.operands-operands.ensures.value)
+      way =
+          subst (λ (os : List Operand). Way v os c.args.steps.now (Holds q v) 0) (sym c.operands-operands.ensures.value)
           (subst (λ (ss : List Step). Way v (operands_of q) ss (Holds q v) 0) (sym c.requires.plan) (way_of v q some));
       bit_sets = same_refl _ _;
       found = refl;
@@ -48,22 +51,38 @@ loop-from-init c =
 
 pub returns-then-is_empty-clause-meaning : goal.returns-then-is_empty-clause-meaning
 returns-then-is_empty-clause-meaning c =
-    let e : length c.args.steps.now ≡ 0 = eqb-true (length c.args.steps.now) 0 (sym c.is_empty.ensures ∙ c.if-is_empty.true) in
-    (λ h. absurd (let x : ⊥ = cc in x), λ h. absurd (no_steps c.args.vector.now c.args.query.now (sym (ap length c.requires.plan) ∙ e) h))
+    let e : length c.args.steps.now ≡ 0 =
+    eqb-true (length c.args.steps.now) 0 (sym c.is_empty.ensures ∙ c.if-is_empty.true) in (
+      λ h. absurd (let x : ⊥ = cc in x),
+      λ h. absurd (no_steps c.args.vector.now c.args.query.now (sym (ap length c.requires.plan) ∙ e) h),
+    )
 
 pub bounds-steps-end : goal.bounds-steps-end
-bounds-steps-end c = unit_within c.args.vector.now c.operands-operands.result.now c.args.steps.now (Holds c.args.query.now c.args.vector.now) c.loop-from.from c.end_of_unit-end.result c.loop-from.invariant.way c.loop-from-test.true c.end_of_unit-end.ensures.from c.end_of_unit-end.ensures.within c.end_of_unit-end.ensures.inner c.end_of_unit-end.ensures.last
+bounds-steps-end c = unit_within c.args.vector.now c.operands-operands.result.now c.args.steps.now
+    (Holds c.args.query.now c.args.vector.now) c.loop-from.from c.end_of_unit-end.result c.loop-from.invariant.way
+    c.loop-from-test.true c.end_of_unit-end.ensures.from c.end_of_unit-end.ensures.within
+    c.end_of_unit-end.ensures.inner c.end_of_unit-end.ensures.last
 
 pub slice_bounds-unit-end : goal.slice_bounds-unit-end
-slice_bounds-unit-end c = let w = unit_within c.args.vector.now c.operands-operands.result.now c.args.steps.now (Holds c.args.query.now c.args.vector.now) c.loop-from.from c.end_of_unit-end.result c.loop-from.invariant.way c.loop-from-test.true c.end_of_unit-end.ensures.from c.end_of_unit-end.ensures.within c.end_of_unit-end.ensures.inner c.end_of_unit-end.ensures.last in omega arith
+slice_bounds-unit-end c = let w = unit_within c.args.vector.now c.operands-operands.result.now c.args.steps.now
+    (Holds c.args.query.now c.args.vector.now) c.loop-from.from c.end_of_unit-end.result c.loop-from.invariant.way
+    c.loop-from-test.true c.end_of_unit-end.ensures.from c.end_of_unit-end.ensures.within
+    c.end_of_unit-end.ensures.inner c.end_of_unit-end.ensures.last in omega arith
 
 pub unit_value-value-requires-clause-kind : goal.unit_value-value-requires-clause-kind
-unit_value-value-requires-clause-kind c = unit_kind c.args.vector.now c.operands-operands.result.now c.args.steps.now (Holds c.args.query.now c.args.vector.now) c.loop-from.from c.end_of_unit-end.result c.loop-from.invariant.way c.loop-from-test.true c.end_of_unit-end.ensures.from c.end_of_unit-end.ensures.within c.end_of_unit-end.ensures.inner c.end_of_unit-end.ensures.last first
+unit_value-value-requires-clause-kind c = unit_kind c.args.vector.now c.operands-operands.result.now c.args.steps.now
+    (Holds c.args.query.now c.args.vector.now) c.loop-from.from c.end_of_unit-end.result c.loop-from.invariant.way
+    c.loop-from-test.true c.end_of_unit-end.ensures.from c.end_of_unit-end.ensures.within
+    c.end_of_unit-end.ensures.inner c.end_of_unit-end.ensures.last first
 
 pub unit_value-value-requires-clause-operand : goal.unit_value-value-requires-clause-operand
 unit_value-value-requires-clause-operand c =
-    let a = ready_steps c.args.query.now c.args.steps.now c.operands-operands.result.now c.requires.plan c.operands-operands.ensures.value c.operands-operands.ensures.sound in
-    let w = unit_within c.args.vector.now c.operands-operands.result.now c.args.steps.now (Holds c.args.query.now c.args.vector.now) c.loop-from.from c.end_of_unit-end.result c.loop-from.invariant.way c.loop-from-test.true c.end_of_unit-end.ensures.from c.end_of_unit-end.ensures.within c.end_of_unit-end.ensures.inner c.end_of_unit-end.ensures.last in
+    let a = ready_steps c.args.query.now c.args.steps.now c.operands-operands.result.now c.requires.plan
+    c.operands-operands.ensures.value c.operands-operands.ensures.sound in
+    let w = unit_within c.args.vector.now c.operands-operands.result.now c.args.steps.now
+    (Holds c.args.query.now c.args.vector.now) c.loop-from.from c.end_of_unit-end.result c.loop-from.invariant.way
+    c.loop-from-test.true c.end_of_unit-end.ensures.from c.end_of_unit-end.ensures.within
+    c.end_of_unit-end.ensures.inner c.end_of_unit-end.ensures.last in
     (a c.end_of_unit-end.result first w).operand
 
 pub unit_value-value-requires-clause-found : goal.unit_value-value-requires-clause-found
@@ -76,12 +95,18 @@ unit_value-value-requires-clause-found c =
 
 pub unit_value-value-requires-clause-steps : goal.unit_value-value-requires-clause-steps
 unit_value-value-requires-clause-steps c =
-    let a = ready_steps c.args.query.now c.args.steps.now c.operands-operands.result.now c.requires.plan c.operands-operands.ensures.value c.operands-operands.ensures.sound in
-    All-take (IsStep (length c.operands-operands.result.now)) _ _ (All-drop (IsStep (length c.operands-operands.result.now)) c.loop-from.from c.args.steps.now a)
+    let a = ready_steps c.args.query.now c.args.steps.now c.operands-operands.result.now c.requires.plan
+    c.operands-operands.ensures.value c.operands-operands.ensures.sound in
+    All-take (IsStep (length c.operands-operands.result.now)) _ _
+    (All-drop (IsStep (length c.operands-operands.result.now)) c.loop-from.from c.args.steps.now a)
 
 pub loop-from-smaller : goal.loop-from-smaller
 loop-from-smaller c =
-    let n = unit_next c.args.vector.now c.operands-operands.result.now c.args.steps.now (Holds c.args.query.now c.args.vector.now) c.loop-from.from c.end_of_unit-end.result c.loop-from.invariant.way c.loop-from-test.true c.end_of_unit-end.ensures.from c.end_of_unit-end.ensures.within c.end_of_unit-end.ensures.inner c.end_of_unit-end.ensures.last first c.unit_value-value.result c.unit_value-value.ensures.leaf c.unit_value-value.ensures.phrase in
+    let n = unit_next c.args.vector.now c.operands-operands.result.now c.args.steps.now
+    (Holds c.args.query.now c.args.vector.now) c.loop-from.from c.end_of_unit-end.result c.loop-from.invariant.way
+    c.loop-from-test.true c.end_of_unit-end.ensures.from c.end_of_unit-end.ensures.within
+    c.end_of_unit-end.ensures.inner c.end_of_unit-end.ensures.last first c.unit_value-value.result
+    c.unit_value-value.ensures.leaf c.unit_value-value.ensures.phrase in
     let a = n.1 in
     let e = c.next_step-from.ensures in
     let l = c.loop-from-test.true in
@@ -89,8 +114,13 @@ loop-from-smaller c =
 
 pub loop-from-preserved : goal.loop-from-preserved
 loop-from-preserved c =
-    let n = unit_next c.args.vector.now c.operands-operands.result.now c.args.steps.now (Holds c.args.query.now c.args.vector.now) c.loop-from.from c.end_of_unit-end.result c.loop-from.invariant.way c.loop-from-test.true c.end_of_unit-end.ensures.from c.end_of_unit-end.ensures.within c.end_of_unit-end.ensures.inner c.end_of_unit-end.ensures.last first c.unit_value-value.result c.unit_value-value.ensures.leaf c.unit_value-value.ensures.phrase in record {
-      way = subst (λ i. Way c.args.vector.now c.operands-operands.result.now c.args.steps.now (Holds c.args.query.now c.args.vector.now) i) (sym c.next_step-from.ensures) n.0;
+    let n = unit_next c.args.vector.now c.operands-operands.result.now c.args.steps.now
+    (Holds c.args.query.now c.args.vector.now) c.loop-from.from c.end_of_unit-end.result c.loop-from.invariant.way
+    c.loop-from-test.true c.end_of_unit-end.ensures.from c.end_of_unit-end.ensures.within
+    c.end_of_unit-end.ensures.inner c.end_of_unit-end.ensures.last first c.unit_value-value.result
+    c.unit_value-value.ensures.leaf c.unit_value-value.ensures.phrase in record {
+      way = subst (λ i. Way c.args.vector.now c.operands-operands.result.now c.args.steps.now
+          (Holds c.args.query.now c.args.vector.now) i) (sym c.next_step-from.ensures) n.0;
       bit_sets = same_trans _ _ _ _ _ _ c.loop-from.invariant.bit_sets c.unit_value-value.ensures.bit_sets;
       found = c.unit_value-value.ensures.found ∙ c.loop-from.invariant.found;
       truths = c.unit_value-value.ensures.truths ∙ c.loop-from.invariant.truths;
@@ -98,17 +128,26 @@ loop-from-preserved c =
 
 pub returns-clause-meaning : goal.returns-clause-meaning
 returns-clause-meaning c =
-    let a = at_end c.args.vector.now c.operands-operands.result.now c.args.steps.now (Holds c.args.query.now c.args.vector.now) c.loop-from.from c.loop-from.invariant.way c.loop-from-test.false in
-    (λ h. a.0 (eqb-true c.loop-from.from (length c.args.steps.now) h), λ h. eq-eqb c.loop-from.from (length c.args.steps.now) (a.1 h))
+    let a = at_end c.args.vector.now c.operands-operands.result.now c.args.steps.now
+    (Holds c.args.query.now c.args.vector.now) c.loop-from.from c.loop-from.invariant.way c.loop-from-test.false in (
+      λ h. a.0 (eqb-true c.loop-from.from (length c.args.steps.now) h),
+      λ h. eq-eqb c.loop-from.from (length c.args.steps.now) (a.1 h),
+    )
 
 pub unit_value-value-requires-clause-phrase : goal.unit_value-value-requires-clause-phrase
-unit_value-value-requires-clause-phrase c = unit_phrase c.args.vector.now c.operands-operands.result.now c.args.steps.now (Holds c.args.query.now c.args.vector.now) c.loop-from.from c.end_of_unit-end.result c.loop-from.invariant.way c.loop-from-test.true c.end_of_unit-end.ensures.from c.end_of_unit-end.ensures.within c.end_of_unit-end.ensures.inner c.end_of_unit-end.ensures.last first
+unit_value-value-requires-clause-phrase c = unit_phrase c.args.vector.now c.operands-operands.result.now
+    c.args.steps.now (Holds c.args.query.now c.args.vector.now) c.loop-from.from c.end_of_unit-end.result
+    c.loop-from.invariant.way c.loop-from-test.true c.end_of_unit-end.ensures.from c.end_of_unit-end.ensures.within
+    c.end_of_unit-end.ensures.inner c.end_of_unit-end.ensures.last first
 
 pub unit_value-value-requires-clause-bit_sets : goal.unit_value-value-requires-clause-bit_sets
-unit_value-value-requires-clause-bit_sets c = rows_of_part c.args.steps.now _ _ _ _ c.loop-from.from (c.end_of_unit-end.result + 1) c.requires.bit_sets c.loop-from.invariant.bit_sets
+unit_value-value-requires-clause-bit_sets c = rows_of_part c.args.steps.now _ _ _ _ c.loop-from.from
+    (c.end_of_unit-end.result + 1) c.requires.bit_sets c.loop-from.invariant.bit_sets
 
 pub returns-then-is_empty-clause-bit_sets : goal.returns-then-is_empty-clause-bit_sets
 returns-then-is_empty-clause-bit_sets c = same_refl _ _
 
 pub unit_value-value-requires-clause-bounds : goal.unit_value-value-requires-clause-bounds
-unit_value-value-requires-clause-bounds c = subst (λ (os : List Operand). AreBounds c.args.vector.now os c.args.bounds.now) (sym c.operands-operands.ensures.value) c.requires.bounds
+unit_value-value-requires-clause-bounds c =
+    subst (λ (os : List Operand). AreBounds c.args.vector.now os c.args.bounds.now)
+    (sym c.operands-operands.ensures.value) c.requires.bounds

@@ -17,4 +17,5 @@ invariant_of-work c = (
 )
 
 pub returns-clause-meaning : goal.returns-clause-meaning
-returns-clause-meaning c = subst (λ (v : Vector). IsTrue c.evaluate.result ↔ Holds c.args.query.now v) c.listed.ensures c.evaluate.ensures.meaning
+returns-clause-meaning c = subst (λ (v : Vector). IsTrue c.evaluate.result ↔ Holds c.args.query.now v) c.listed.ensures
+    c.evaluate.ensures.meaning

@@ -14,8 +14,10 @@ evaluate-requires-clause-bounds c =
     let os = operands_of c.args.query.now in
     let v = c.args.vector.now in
     let b = c.find_bounds.new.bounds.items in
-    let known : AreBounds v os b = subst (λ (x : List Operand). AreBounds v x b) c.operands.ensures.value c.find_bounds.ensures in
-    subst (λ (x : Vector). AreBounds x os c.as_slice.result.now) (sym c.encoded.ensures) (subst (λ (x : List Bounds). AreBounds v os x) (sym c.as_slice.ensures.value) known)
+    let known : AreBounds v os b =
+    subst (λ (x : List Operand). AreBounds v x b) c.operands.ensures.value c.find_bounds.ensures in
+    subst (λ (x : Vector). AreBounds x os c.as_slice.result.now) (sym c.encoded.ensures)
+    (subst (λ (x : List Bounds). AreBounds v os x) (sym c.as_slice.ensures.value) known)
 
 pub invariant_of-work : goal.invariant_of-work
 invariant_of-work c = (
@@ -26,4 +28,5 @@ invariant_of-work c = (
 )
 
 pub returns-clause-meaning : goal.returns-clause-meaning
-returns-clause-meaning c = subst (λ (v : Vector). IsTrue c.evaluate.result ↔ Holds c.args.query.now v) c.encoded.ensures c.evaluate.ensures.meaning
+returns-clause-meaning c = subst (λ (v : Vector). IsTrue c.evaluate.result ↔ Holds c.args.query.now v) c.encoded.ensures
+    c.evaluate.ensures.meaning

@@ -3,8 +3,10 @@ use Rattle.ts_match.proofs.Spares.{same_refl}
 use Rattle.ts_match.proofs.matching.phrase_value.Goals as goal
 
 pub returns-then-not-find_leaves-clause-meaning : goal.returns-then-not-find_leaves-clause-meaning
-returns-then-not-find_leaves-clause-meaning c = λ t p.
-    (λ h. absurd (let x : ⊥ = cc in x), λ h. absurd (c.find_leaves.ensures.lacking c.if-not-find_leaves.true c.is_stripped.ensures.normal t p h.1))
+returns-then-not-find_leaves-clause-meaning c = λ t p. (
+  λ h. absurd (let x : ⊥ = cc in x),
+  λ h. absurd (c.find_leaves.ensures.lacking c.if-not-find_leaves.true c.is_stripped.ensures.normal t p h.1),
+)
 
 pub returns-in-Some-clause-meaning : goal.returns-in-Some-clause-meaning
 returns-in-Some-clause-meaning c = λ t p.

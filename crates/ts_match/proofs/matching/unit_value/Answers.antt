@@ -11,4 +11,5 @@ pub returns-in-Leaf-clause-bit_sets : goal.returns-in-Leaf-clause-bit_sets
 returns-in-Leaf-clause-bit_sets c = same_refl _ _
 
 pub meets-requires : goal.meets-requires
-meets-requires c = subst (λ (o : Operand). NamesRange c.args.vector.now o c.found_for-range.result) (sym c.index-operands-k.is) (c.found_for-range.ensures c.index-operands-k.result)
+meets-requires c = subst (λ (o : Operand). NamesRange c.args.vector.now o c.found_for-range.result)
+    (sym c.index-operands-k.is) (c.found_for-range.ensures c.index-operands-k.result)

@@ -10,7 +10,8 @@ returns-in-Some c = λ v n a e.
     let passed : ℕ = length v - c.args.walk.now.left in
     let last : (passed - 1) + 1 ≡ passed = (let w = b.0 in omega arith) in
     subst (λ i. AreShort v c.args.operand.now c.args.side i) last
-    (short_up_to v c.args.operand.now c.args.side (passed - 1) c.in-Some.lexeme.now n (let w = b.0 in omega arith) b.1 (c.is_short.ensures.yes (not-false c.is_short.result e)))
+    (short_up_to v c.args.operand.now c.args.side (passed - 1) c.in-Some.lexeme.now n (let w = b.0 in omega arith) b.1
+    (c.is_short.ensures.yes (not-false c.is_short.result e)))
 
 pub returns-in-None : goal.returns-in-None
 returns-in-None c = λ v n a e k d l. let z = a.fresh c.in-None.is in absurd (omega arith)

@@ -14,7 +14,8 @@ loop-side-preserved c = record {
 pub returns-clause-splits : goal.returns-clause-splits
 returns-clause-splits c = λ v n a s.
     let b = c.loop-side.invariant.at v a in
-    splits_at v c.args.operand.now c.args.side _ n b (c.loop-side.invariant.short v n a s) (c.is_ahead_short.ensures.no v b c.loop-side-test.false)
+    splits_at v c.args.operand.now c.args.side _ n b (c.loop-side.invariant.short v n a s)
+    (c.is_ahead_short.ensures.no v b c.loop-side-test.false)
 
 pub step-requires : goal.step-requires
 step-requires c =

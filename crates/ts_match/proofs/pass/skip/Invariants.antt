@@ -5,7 +5,8 @@ use Rattle.ts_match.proofs.pass.skip.Given as goal
 
 pub record SoFar (l : goal.Live-loop-side) : Type 0 where
   pub at : (v : Vector) → IsAt v l.fn.walk → IsAt v l.walk
-  pub short : (v : Vector) → IsNormal v → IsAt v l.fn.walk → AreShort v l.operand l.side (length v - l.fn.walk.left) → AreShort v l.operand l.side (length v - l.walk.left)
+  pub short : (v : Vector) → IsNormal v → IsAt v l.fn.walk → AreShort v l.operand l.side (length v - l.fn.walk.left)
+      → AreShort v l.operand l.side (length v - l.walk.left)
 
 abbrev pub invariant-loop-side : goal.invariant-loop-side
 invariant-loop-side l = SoFar l

@@ -7,7 +7,9 @@ use Rattle.ts_match.specs.Inner.Phrases.{IsPhraseOf, place_from}
 use Rattle.ts_match.proofs.phrase.holds_with_any.Given as goal
 
 pub record NoneYet (l : goal.Live-loop-position) : Type 0 where
-  pub none : (t : Tree) (j : ℕ) (d : Position) → IsPhraseOf l.phrase.operands.now l.phrase.steps.now t → j < l.position-index → at l.phrase.vector.now t (place_from t ((get_or l.positions j d).at + FARTHEST - l.offset)) ≡ false
+  pub none : (t : Tree) (j : ℕ) (d : Position)
+      → IsPhraseOf l.phrase.operands.now l.phrase.steps.now t → j < l.position-index
+      → at l.phrase.vector.now t (place_from t ((get_or l.positions j d).at + FARTHEST - l.offset)) ≡ false
   pub capacity : vec_capacity l.stack ≡ vec_capacity l.fn.stack
 
 abbrev pub invariant-loop-position : goal.invariant-loop-position

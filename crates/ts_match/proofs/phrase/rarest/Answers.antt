@@ -9,4 +9,5 @@ count_positions-count-requires c =
     let e = c.in-Some.ensures in
     let p = c.args.phrase.now in
     let h = c.requires.found c.loop-step.step-index _ c.loop-step-test.true in
-    (leaf_found p.vector.now p.operands.now p.found.now _ c.in-Some.k (ap (λ (x : Step). x.node) e.1) h no_operand (record { first = 0; end = 0 })).within
+    (leaf_found p.vector.now p.operands.now p.found.now _ c.in-Some.k (ap (λ (x : Step). x.node) e.1) h no_operand
+    (record { first = 0; end = 0 })).within

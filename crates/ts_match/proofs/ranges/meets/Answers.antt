@@ -10,16 +10,23 @@ nothing : Entry
 nothing = record { lexeme = []; positions = [] }
 
 pub returns-then-any_weight : goal.returns-then-any_weight
-returns-then-any_weight c = met_any c.args.vector.now c.args.operand.now c.args.found c.requires (sym c.any_weight.ensures ∙ c.if-any_weight.true)
+returns-then-any_weight c = met_any c.args.vector.now c.args.operand.now c.args.found c.requires
+    (sym c.any_weight.ensures ∙ c.if-any_weight.true)
 
 pub returns-then-has_weight : goal.returns-then-has_weight
 returns-then-has_weight c = sym (
-    met_weighed c.args.vector.now c.args.operand.now c.args.found c.requires (sym c.any_weight.ensures ∙ c.if-any_weight.false)
-    ∙ some_in_part (λ (e : Entry). list_any (λ (p : Position). asks_for c.args.operand.now.weights p.weight) e.positions) c.args.vector.now c.args.found.first c.args.found.end c.loop-k.k nothing c.requires.within (omega arith) (omega arith)
-    (ap (λ (ps : List Position). list_any (λ (p : Position). asks_for c.args.operand.now.weights p.weight) ps) (sym (c.positions.ensures nothing)) ∙ sym c.has_weight.ensures ∙ c.if-has_weight.true))
+    met_weighed c.args.vector.now c.args.operand.now c.args.found c.requires
+    (sym c.any_weight.ensures ∙ c.if-any_weight.false)
+    ∙ some_in_part (λ (e : Entry). list_any (λ (p : Position). asks_for c.args.operand.now.weights p.weight)
+    e.positions) c.args.vector.now c.args.found.first c.args.found.end c.loop-k.k nothing c.requires.within
+    (omega arith) (omega arith)
+    (ap (λ (ps : List Position). list_any (λ (p : Position). asks_for c.args.operand.now.weights p.weight) ps)
+    (sym (c.positions.ensures nothing)) ∙ sym c.has_weight.ensures ∙ c.if-has_weight.true))
 
 pub returns : goal.returns
 returns c = sym (
-    met_weighed c.args.vector.now c.args.operand.now c.args.found c.requires (sym c.any_weight.ensures ∙ c.if-any_weight.false)
-    ∙ none_in_part (λ (e : Entry). list_any (λ (p : Position). asks_for c.args.operand.now.weights p.weight) e.positions) c.args.vector.now c.args.found.first c.args.found.end c.requires.within
+    met_weighed c.args.vector.now c.args.operand.now c.args.found c.requires
+    (sym c.any_weight.ensures ∙ c.if-any_weight.false)
+    ∙ none_in_part (λ (e : Entry). list_any (λ (p : Position). asks_for c.args.operand.now.weights p.weight)
+    e.positions) c.args.vector.now c.args.found.first c.args.found.end c.requires.within
     (λ j d l m. c.loop-k.invariant j d l (omega arith)))

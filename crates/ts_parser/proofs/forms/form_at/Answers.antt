@@ -9,4 +9,5 @@ returns-in-Some-clause-within c =
 pub returns-then-begins_with_word_byte-clause-within :
     goal.returns-then-begins_with_word_byte-clause-within
 returns-then-begins_with_word_byte-clause-within c =
-    word_fits c.args.u.now c.word_form.result c.word_form.ensures (sym c.begins_with_word_byte.ensures ∙ c.if-begins_with_word_byte.true)
+    word_fits c.args.u.now c.word_form.result c.word_form.ensures
+    (sym c.begins_with_word_byte.ensures ∙ c.if-begins_with_word_byte.true)

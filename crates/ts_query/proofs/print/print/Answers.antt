@@ -8,5 +8,6 @@ parts_back-requires c = (c.requires.0, c.requires.1)
 
 pub returns : goal.returns
 returns c t e f =
-    c.in_ok-text.ensures ∙ ap (λ l. text_of l c.args.operands.now) (c.as_slice.ensures.value ∙ c.reverse.ensures.items ∙ c.in_ok-parts.ensures t e)
+    c.in_ok-text.ensures ∙ ap (λ l. text_of l c.args.operands.now)
+    (c.as_slice.ensures.value ∙ c.reverse.ensures.items ∙ c.in_ok-parts.ensures t e)
     ∙ ap (λ os. text_of (pieces_at t 0) os) f ∙ writes_all t

@@ -6,7 +6,11 @@ use Rattle.ts_thesaurus.specs.Views.{sample_value}
 use Rattle.ts_thesaurus.specs.Inner.Best.{Suits, size}
 use Rattle.ts_thesaurus.proofs.Best.{best_new, best_unfit, best_short}
 use Rattle.ts_thesaurus.proofs.thesaurus.best_place.Goals as goal
-use Rattle.ts_thesaurus.proofs.thesaurus.best_place.Goals.{then-longest-samples+then-fits_first, else-longest-samples, else-longest-samples-via-then-longest-samples+else-fits_first, else-longest-samples-via-else-longest-samples}
+use Rattle.ts_thesaurus.proofs.thesaurus.best_place.Goals.{then-longest-samples+then-fits_first, else-longest-samples}
+use Rattle.ts_thesaurus.proofs.thesaurus.best_place.Goals.{
+  else-longest-samples-via-then-longest-samples+else-fits_first,
+}
+use Rattle.ts_thesaurus.proofs.thesaurus.best_place.Goals.{else-longest-samples-via-else-longest-samples}
 
 pub loop-i-preserved : goal.loop-i-preserved
 loop-i-preserved c =
@@ -17,17 +21,22 @@ loop-i-preserved c =
     let value = c.as_slice-samples.ensures.value in
     elim c.if-longest-samples.branch [
       | then-longest-samples+then-fits_first w ↦
-          let suits : Suits answers rule = subst (λ z. FitsFirst (map sample_value z) answers) value (w.fits_first.ensures.0 w.if-fits_first.true) in
-          let le : c.loop-i.longest ≤ size rule = subst (λ z. c.loop-i.longest ≤ length z) value w.if-longest-samples.true in
-          rw (w.best-is, w.longest-is, value) (best_new rules answers c.loop-i.i rule at c.loop-i.best c.loop-i.longest c.loop-i.invariant suits le)
+          let suits : Suits answers rule =
+          subst (λ z. FitsFirst (map sample_value z) answers) value (w.fits_first.ensures.0 w.if-fits_first.true) in
+          let le : c.loop-i.longest ≤ size rule =
+          subst (λ z. c.loop-i.longest ≤ length z) value w.if-longest-samples.true in
+          rw (w.best-is, w.longest-is, value)
+          (best_new rules answers c.loop-i.i rule at c.loop-i.best c.loop-i.longest c.loop-i.invariant suits le)
       | else-longest-samples w ↦
           rw (w.best-is, w.longest-is)
           (elim w.else-longest-samples.branch [
             | else-longest-samples-via-then-longest-samples+else-fits_first v ↦
-                let unfit : ¬ Suits answers rule = λ s. true≢false (sym (v.fits_first.ensures.1 (subst (λ z. FitsFirst (map sample_value z) answers) (sym value) s)) ∙ v.if-fits_first.false) in
+                let unfit : ¬ Suits answers rule = λ s. true≢false (sym (v.fits_first.ensures.1
+                (subst (λ z. FitsFirst (map sample_value z) answers) (sym value) s)) ∙ v.if-fits_first.false) in
                 best_unfit rules answers c.loop-i.i rule at c.loop-i.best c.loop-i.longest c.loop-i.invariant unfit
             | else-longest-samples-via-else-longest-samples v ↦
-                let short : size rule < c.loop-i.longest = subst (λ z. length z < c.loop-i.longest) value v.if-longest-samples.false in
+                let short : size rule < c.loop-i.longest =
+                subst (λ z. length z < c.loop-i.longest) value v.if-longest-samples.false in
                 best_short rules answers c.loop-i.i rule at c.loop-i.best c.loop-i.longest c.loop-i.invariant short
           ])
     ]

@@ -7,5 +7,7 @@ pub invariant_of-result : goal.invariant_of-result
 invariant_of-result c =
     let v = c.self.inside.entries in
     let w = c.args.weight in
-    let e = c.in_ok-entries.ensures in
-    (subst IsNormal (sym e) (reweighted_normal w v c.self.invariant.0), subst (λ u. content_size u < 1048576) (sym e) (omega (arith, reweighted_size w v, c.self.invariant.1)))
+    let e = c.in_ok-entries.ensures in (
+      subst IsNormal (sym e) (reweighted_normal w v c.self.invariant.0),
+      subst (λ u. content_size u < 1048576) (sym e) (omega (arith, reweighted_size w v, c.self.invariant.1)),
+    )

@@ -5,4 +5,5 @@ use Rattle.ts_vector.specs.Inner.Fields.{Lists, IsLast}
 use Rattle.ts_vector.proofs.bytes.positions.Given as goal
 
 abbrev pub invariant-loop : goal.invariant-loop
-invariant-loop l = (ps : List Position) × (length ps ≡ l.counter) × AreRising ps × Lists l.count l.bytes ps l.rest × IsLast ps l.last
+invariant-loop l =
+    (ps : List Position) × (length ps ≡ l.counter) × AreRising ps × Lists l.count l.bytes ps l.rest × IsLast ps l.last

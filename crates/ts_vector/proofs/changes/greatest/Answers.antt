@@ -13,5 +13,6 @@ loop-entry-preserved c =
           (subst (All (λ p. p.at ≤ h)) e c.greatest_from-greatest.ensures.bound)
           (subst (λ ps. (h ≡ c.loop-entry.greatest) ⊎ Any (λ p. p.at ≡ h) ps) e c.greatest_from-greatest.ensures.met),
       c.greatest_from-greatest.ensures.upper,
-      append_assoc c.loop-entry.yielded (entry ∷ []) c.next.new.self ∙ ap (λ t. c.loop-entry.yielded ++ t) (sym c.in-Some.ensures.steps) ∙ is.2,
+      append_assoc c.loop-entry.yielded (entry ∷ []) c.next.new.self
+          ∙ ap (λ t. c.loop-entry.yielded ++ t) (sym c.in-Some.ensures.steps) ∙ is.2,
     )

@@ -12,8 +12,10 @@ loop-entry-preserved c =
     let is = c.loop-entry.invariant in
     let entry = c.in-Some.entry in
     let done = c.loop-entry.yielded in (
-      c.in_ok-put_entry.ensures.ok ∙ ap (λ t. t ++ entry_bytes entry) is.0 ∙ append_assoc c.args.out.now.items (flat_map entry_bytes done) (entry_bytes entry)
-          ∙ ap (λ t. c.args.out.now.items ++ t) (sym (flat_map-append entry_bytes done (entry ∷ []) ∙ ap (λ t. flat_map entry_bytes done ++ t) (append-nil (entry_bytes entry)))),
+      c.in_ok-put_entry.ensures.ok ∙ ap (λ t. t ++ entry_bytes entry) is.0
+          ∙ append_assoc c.args.out.now.items (flat_map entry_bytes done) (entry_bytes entry)
+          ∙ ap (λ t. c.args.out.now.items ++ t) (sym (flat_map-append entry_bytes done (entry ∷ [])
+          ∙ ap (λ t. flat_map entry_bytes done ++ t) (append-nil (entry_bytes entry)))),
       append_assoc done (entry ∷ []) c.next.new.self ∙ ap (λ t. done ++ t) (sym c.in-Some.ensures.steps) ∙ is.1,
       All-tail IsEntry entry c.next.new.self (subst (All IsEntry) c.in-Some.ensures.steps is.2),
     )

@@ -6,5 +6,6 @@ use Rattle.ts_base.specs.Vectors.{IsEntry}
 use Rattle.ts_vector.proofs.codec.put_each.Given as goal
 
 abbrev pub invariant-loop-entry : goal.invariant-loop-entry
-invariant-loop-entry l = (l.out.items ≡ l.initial.out.items ++ flat_map entry_bytes l.yielded) × (l.yielded ++ l.entry-iterator ≡ l.entries)
+invariant-loop-entry l =
+    (l.out.items ≡ l.initial.out.items ++ flat_map entry_bytes l.yielded) × (l.yielded ++ l.entry-iterator ≡ l.entries)
     × All IsEntry l.entry-iterator

@@ -13,7 +13,13 @@ split_at-requires-2 c =
     let len : length l ≡ n = c.split_at.ensures.front_len ∙ c.from.ensures in
     let m = c.first_number-count.result.0 in
     let t = c.first_number-count.result.1.now in
-    omega (arith, c.from-2.ensures, places_within e c.requires.1 c.args.bytes.now c.requires.2 n r c.first_number-length.ensures.value c.first_number-length.ensures.fits l s whole len m t c.first_number-count.ensures.value c.first_number-count.ensures.fits)
+    omega (
+      arith,
+      c.from-2.ensures,
+      places_within e c.requires.1 c.args.bytes.now c.requires.2 n r c.first_number-length.ensures.value
+          c.first_number-length.ensures.fits l s whole len m t c.first_number-count.ensures.value
+          c.first_number-count.ensures.fits,
+    )
 
 pub returns : goal.returns
 returns c = λ e rest is.
@@ -29,8 +35,12 @@ returns c = λ e rest is.
     let u = c.split_at-2.result.1.now in
     let count : length ps ≡ 2 * m = c.split_at-2.ensures.front_len ∙ ap (λ k. 2 * k) c.from-2.ensures in
     let split = whole_of (2 * c.from-2.result) t ps u c.split_at-2.ensures.front c.split_at-2.ensures.back in
-    let entry = entry_is e rest c.args.bytes.now is n r c.first_number-length.ensures.value c.first_number-length.ensures.fits l s whole len m t c.first_number-count.ensures.value c.first_number-count.ensures.fits ps u split count in
-    let places = places_are e rest c.args.bytes.now is n r c.first_number-length.ensures.value c.first_number-length.ensures.fits l s whole len m t c.first_number-count.ensures.value c.first_number-count.ensures.fits ps u split count in
+    let entry =
+    entry_is e rest c.args.bytes.now is n r c.first_number-length.ensures.value c.first_number-length.ensures.fits l
+    s whole len m t c.first_number-count.ensures.value c.first_number-count.ensures.fits ps u split count in
+    let places =
+    places_are e rest c.args.bytes.now is n r c.first_number-length.ensures.value c.first_number-length.ensures.fits
+    l s whole len m t c.first_number-count.ensures.value c.first_number-count.ensures.fits ps u split count in
     (rw c.from_utf8_unchecked-lexeme.ensures entry, places.1)
 
 pub invariant_of-result : goal.invariant_of-result
@@ -50,6 +60,10 @@ invariant_of-result c =
     let u = c.split_at-2.result.1.now in
     let count : length ps ≡ 2 * m = c.split_at-2.ensures.front_len ∙ ap (λ k. 2 * k) c.from-2.ensures in
     let split = whole_of (2 * c.from-2.result) t ps u c.split_at-2.ensures.front c.split_at-2.ensures.back in
-    let entry = entry_is e rest c.args.bytes.now is n r c.first_number-length.ensures.value c.first_number-length.ensures.fits l s whole len m t c.first_number-count.ensures.value c.first_number-count.ensures.fits ps u split count in
-    let places = places_are e rest c.args.bytes.now is n r c.first_number-length.ensures.value c.first_number-length.ensures.fits l s whole len m t c.first_number-count.ensures.value c.first_number-count.ensures.fits ps u split count in
+    let entry =
+    entry_is e rest c.args.bytes.now is n r c.first_number-length.ensures.value c.first_number-length.ensures.fits l
+    s whole len m t c.first_number-count.ensures.value c.first_number-count.ensures.fits ps u split count in
+    let places =
+    places_are e rest c.args.bytes.now is n r c.first_number-length.ensures.value c.first_number-length.ensures.fits
+    l s whole len m t c.first_number-count.ensures.value c.first_number-count.ensures.fits ps u split count in
     rw c.from_utf8_unchecked-lexeme.ensures (entry_valid e l ps is.valid entry places.0)

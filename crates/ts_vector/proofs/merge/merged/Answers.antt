@@ -10,15 +10,19 @@ use Rattle.ts_vector.proofs.Joining.{Merged, moved, merged_start, merged_first, 
 use Rattle.ts_vector.proofs.merge.merged.Goals as goal
 
 pub loop-i-init : goal.loop-i-init
-loop-i-init c = subst (Merged c.args.first.now c.args.second.now c.args.by 0 0) (sym c.new-out.ensures) (merged_start c.args.first.now c.args.second.now c.args.by c.requires.first c.requires.second)
+loop-i-init c = subst (Merged c.args.first.now c.args.second.now c.args.by 0 0) (sym c.new-out.ensures)
+    (merged_start c.args.first.now c.args.second.now c.args.by c.requires.first c.requires.second)
 
 pub loop-i-preserved-in-Less : goal.loop-i-preserved-in-Less
 loop-i-preserved-in-Less c =
     let v = c.args.first.now in
     let i = c.loop-i.i in
-    let same : (d : Entry) → entry c.lexeme.result.now c.in_ok-positions-in-Less.positions.items ≡ moved 0 (get_or v i d) =
-    λ d. let ps = c.in_ok-positions-in-Less.ensures ∙ ap (map (moved_within 0)) (c.positions.ensures d) in λ t. record { lexeme = c.lexeme.ensures d t; positions = ps t } in
-    merged_first v c.args.second.now c.args.by i c.loop-i.j c.loop-i.out c.put.new.out c.loop-i.invariant c.in-Less.ensures
+    let same : (d : Entry)
+    → entry c.lexeme.result.now c.in_ok-positions-in-Less.positions.items ≡ moved 0 (get_or v i d) =
+    λ d. let ps = c.in_ok-positions-in-Less.ensures ∙ ap (map (moved_within 0)) (c.positions.ensures d) in
+    λ t. record { lexeme = c.lexeme.ensures d t; positions = ps t } in
+    merged_first v c.args.second.now c.args.by i c.loop-i.j c.loop-i.out c.put.new.out c.loop-i.invariant
+    c.in-Less.ensures
     (λ d. subst (λ e. PutsSettled c.loop-i.out e c.put.new.out) (same d) c.in_ok-put-in-Less.ensures.ok)
 
 pub overflow_add-j : goal.overflow_add-j
@@ -30,8 +34,10 @@ loop-i-preserved-in-Equal c =
     let w = c.args.second.now in
     let i = c.loop-i.i in
     let j = c.loop-i.j in
-    let all : c.extend_from_slice.new.self.items ≡ c.in_ok-positions-in-Equal.positions.items ++ c.in_ok-others-in-Equal.others.items = grind (arith, common_steps, c.as_slice.ensures.value) in
-    let same : (d : Entry) → entry c.lexeme-in-Equal.result.now c.extend_from_slice.new.self.items ≡ joined (moved 0 (get_or v i d)) (moved c.args.by (get_or w j d)) =
+    let all : c.extend_from_slice.new.self.items ≡ c.in_ok-positions-in-Equal.positions.items
+    ++ c.in_ok-others-in-Equal.others.items = grind (arith, common_steps, c.as_slice.ensures.value) in
+    let same : (d : Entry) → entry c.lexeme-in-Equal.result.now c.extend_from_slice.new.self.items
+    ≡ joined (moved 0 (get_or v i d)) (moved c.args.by (get_or w j d)) =
     λ d.
     let ps = c.in_ok-positions-in-Equal.ensures ∙ ap (map (moved_within 0)) (c.positions-in-Equal.ensures d) in
     let qs = c.in_ok-others-in-Equal.ensures ∙ ap (map (moved_within c.args.by)) (c.positions-in-Equal-2.ensures d) in
@@ -47,9 +53,13 @@ pub loop-i-preserved : goal.loop-i-preserved
 loop-i-preserved c =
     let w = c.args.second.now in
     let j = c.loop-i.j in
-    let same : (d : Entry) → entry c.lexeme-in-Greater.result.now c.in_ok-positions-in-Greater.positions.items ≡ moved c.args.by (get_or w j d) =
-    λ d. let ps = c.in_ok-positions-in-Greater.ensures ∙ ap (map (moved_within c.args.by)) (c.positions-in-Greater.ensures d) in λ t. record { lexeme = c.lexeme-in-Greater.ensures d t; positions = ps t } in
-    merged_second c.args.first.now w c.args.by c.loop-i.i j c.loop-i.out c.put-in-Greater.new.out c.loop-i.invariant c.in-Greater.ensures
+    let same : (d : Entry) → entry c.lexeme-in-Greater.result.now c.in_ok-positions-in-Greater.positions.items
+    ≡ moved c.args.by (get_or w j d) =
+    λ d. let ps =
+    c.in_ok-positions-in-Greater.ensures ∙ ap (map (moved_within c.args.by)) (c.positions-in-Greater.ensures d) in
+    λ t. record { lexeme = c.lexeme-in-Greater.ensures d t; positions = ps t } in
+    merged_second c.args.first.now w c.args.by c.loop-i.i j c.loop-i.out c.put-in-Greater.new.out c.loop-i.invariant
+    c.in-Greater.ensures
     (λ d. subst (λ e. PutsSettled c.loop-i.out e c.put-in-Greater.new.out) (same d) c.in_ok-put-in-Greater.ensures.ok)
 
 pub returns-clause-form : goal.returns-clause-form
@@ -57,7 +67,8 @@ returns-clause-form c =
     let v = c.args.first.now in
     let w = c.args.second.now in
     let items = shifted_within 0 v ++ shifted_within c.args.by w in
-    let m = merged_end v w c.args.by c.loop-i.i c.loop-i.j c.loop-i.out c.loop-i.invariant (omega (arith, c.len-firsts.ensures)) (omega (arith, c.len-seconds.ensures)) in
+    let m = merged_end v w c.args.by c.loop-i.i c.loop-i.j c.loop-i.out c.loop-i.invariant
+    (omega (arith, c.len-firsts.ensures)) (omega (arith, c.len-seconds.ensures)) in
     form items items m.0 c.loop-i.out (IsPermutation-refl items) m.1 m.2
 
 pub returns-clause-normal : goal.returns-clause-normal
@@ -65,7 +76,8 @@ returns-clause-normal c =
     let v = c.args.first.now in
     let w = c.args.second.now in
     let items = shifted_within 0 v ++ shifted_within c.args.by w in
-    let m = merged_end v w c.args.by c.loop-i.i c.loop-i.j c.loop-i.out c.loop-i.invariant (omega (arith, c.len-firsts.ensures)) (omega (arith, c.len-seconds.ensures)) in
+    let m = merged_end v w c.args.by c.loop-i.i c.loop-i.j c.loop-i.out c.loop-i.invariant
+    (omega (arith, c.len-firsts.ensures)) (omega (arith, c.len-seconds.ensures)) in
     form_normal items items m.0 c.loop-i.out (IsPermutation-refl items) m.1 m.2
 
 pub returns-clause-size : goal.returns-clause-size
@@ -73,5 +85,6 @@ returns-clause-size c =
     let v = c.args.first.now in
     let w = c.args.second.now in
     let items = shifted_within 0 v ++ shifted_within c.args.by w in
-    let m = merged_end v w c.args.by c.loop-i.i c.loop-i.j c.loop-i.out c.loop-i.invariant (omega (arith, c.len-firsts.ensures)) (omega (arith, c.len-seconds.ensures)) in
+    let m = merged_end v w c.args.by c.loop-i.i c.loop-i.j c.loop-i.out c.loop-i.invariant
+    (omega (arith, c.len-firsts.ensures)) (omega (arith, c.len-seconds.ensures)) in
     form_size items items m.0 c.loop-i.out (IsPermutation-refl items) m.1 m.2

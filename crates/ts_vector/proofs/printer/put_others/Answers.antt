@@ -14,7 +14,9 @@ loop-entry-preserved c =
     let entry = c.in-Some.entry in
     let next = c.next.new.self in
     let spaced : string_bytes c.push.new.self ≡ string_bytes c.loop-entry.out ++ 32 ∷ [] = search rules in (
-      next_end (string_bytes c.loop-entry.out) (string_bytes c.push.new.self) (string_bytes c.put_entry.new.out) (entry_text entry) (flat_map (λ x. 32 ∷ entry_text x) next) spaced c.in_ok-put_entry.ensures
-          ∙ ap (λ t. string_bytes c.loop-entry.out ++ flat_map (λ x. 32 ∷ entry_text x) t) (sym c.in-Some.ensures.steps) ∙ is.0,
+      next_end (string_bytes c.loop-entry.out) (string_bytes c.push.new.self) (string_bytes c.put_entry.new.out)
+          (entry_text entry) (flat_map (λ x. 32 ∷ entry_text x) next) spaced c.in_ok-put_entry.ensures
+          ∙ ap (λ t. string_bytes c.loop-entry.out ++ flat_map (λ x. 32 ∷ entry_text x) t) (sym c.in-Some.ensures.steps)
+          ∙ is.0,
       All-tail IsEntry entry next (subst (All IsEntry) c.in-Some.ensures.steps is.1),
     )

@@ -5,7 +5,8 @@ use Rattle.ts_make.specs.Made.{IsMadeOf}
 use Rattle.ts_websearch.specs.Made.{web_query}
 use Rattle.ts_websearch.specs.Inner.Pieces.{piece_item}
 use Rattle.ts_websearch.proofs.Adding.{web_made}
-use Rattle.ts_websearch.proofs.Reading.{read_whole, loop_start, loop_word, loop_operator, word_fails, operator_fails, end_fails}
+use Rattle.ts_websearch.proofs.Reading.{read_whole, loop_start, loop_word, loop_operator, word_fails, operator_fails}
+use Rattle.ts_websearch.proofs.Reading.{end_fails}
 use Rattle.ts_websearch.proofs.web.websearch_to_tsquery.Goals as goal
 
 pub loop-piece-init : goal.loop-piece-init

@@ -13,42 +13,58 @@ use Rattle.buffer_frames.proofs.journal.Journal.log_now.Goals as goal
 pub returns-in-Err-clause-refused : goal.returns-in-Err-clause-refused
 returns-in-Err-clause-refused g c =
     let same = c.append.ensures.same in
-    let kept : IsKept c.self.inside.wal c.append.new.self = append_refused c.self.inside.wal c.append.new.self c.append.result c.in-Err.error c.in-Err.is c.append.ensures.err same.0 same.3 in
-    kept_journal c.args.self.now c.self.inside.disk c.self.inside.disk c.self.inside.wal c.append.new.self c.self.inside.state.value c.make_room_to_insert.new.self.value c.self.inside.flushed c.self.inside.owes c.self.inside.opened.value c.self.view_is
+    let kept : IsKept c.self.inside.wal c.append.new.self = append_refused c.self.inside.wal c.append.new.self
+    c.append.result c.in-Err.error c.in-Err.is c.append.ensures.err same.0 same.3 in
+    kept_journal c.args.self.now c.self.inside.disk c.self.inside.disk c.self.inside.wal c.append.new.self
+    c.self.inside.state.value c.make_room_to_insert.new.self.value c.self.inside.flushed c.self.inside.owes
+    c.self.inside.opened.value c.self.view_is
     refl c.make_room_to_insert.ensures.same same.1 kept
 
 pub returns-in-Err-clause-error : goal.returns-in-Err-clause-error
 returns-in-Err-clause-error g c =
     let up = ap (λ (k : JournalValue g.row.D.Denot). down_of k.wal) c.self.view_is ∙ c.requires.up in
-    ⊎_elim (λ e. inl (c.from.ensures ∙ e)) (λ e. inr (c.from.ensures ∙ e)) (append_error c.append.result c.in-Err.error (down_of c.self.inside.wal) c.in-Err.is up c.append.ensures.is_down)
+    ⊎_elim (λ e. inl (c.from.ensures ∙ e)) (λ e. inr (c.from.ensures ∙ e)) (append_error c.append.result c.in-Err.error
+    (down_of c.self.inside.wal) c.in-Err.is up c.append.ensures.is_down)
 
 pub invariant_of-self-in-Err : goal.invariant_of-self-in-Err
 invariant_of-self-in-Err g c =
     let same = c.append.ensures.same in
-    let kept : IsKept c.self.inside.wal c.append.new.self = append_refused c.self.inside.wal c.append.new.self c.append.result c.in-Err.error c.in-Err.is c.append.ensures.err same.0 same.3 in
-    let i : JournalValue g.row.D.Denot = seen_as c.self.inside.disk c.self.inside.wal c.self.inside.state.value c.self.inside.flushed c.self.inside.owes c.self.inside.opened.value in
-    let i' : JournalValue g.row.D.Denot = seen_as c.self.inside.disk c.append.new.self c.make_room_to_insert.new.self.value c.self.inside.flushed c.self.inside.owes c.self.inside.opened.value in (
+    let kept : IsKept c.self.inside.wal c.append.new.self = append_refused c.self.inside.wal c.append.new.self
+    c.append.result c.in-Err.error c.in-Err.is c.append.ensures.err same.0 same.3 in
+    let i : JournalValue g.row.D.Denot = seen_as c.self.inside.disk c.self.inside.wal c.self.inside.state.value
+    c.self.inside.flushed c.self.inside.owes c.self.inside.opened.value in
+    let i' : JournalValue g.row.D.Denot = seen_as c.self.inside.disk c.append.new.self
+    c.make_room_to_insert.new.self.value c.self.inside.flushed c.self.inside.owes c.self.inside.opened.value in (
       search rules,
       omega (arith, c.self.invariant.1, ap (λ (v : StateValue). v.records) c.make_room_to_insert.ensures.same),
       still_keeps g.D.Disk c.counted_are_one.ensures i i' refl refl
           (λ R s. same_stands g.D.Disk i i' R s
-          (kept_journal i c.self.inside.disk c.self.inside.disk c.self.inside.wal c.append.new.self c.self.inside.state.value c.make_room_to_insert.new.self.value c.self.inside.flushed c.self.inside.owes c.self.inside.opened.value refl
+          (kept_journal i c.self.inside.disk c.self.inside.disk c.self.inside.wal c.append.new.self
+          c.self.inside.state.value c.make_room_to_insert.new.self.value c.self.inside.flushed c.self.inside.owes
+          c.self.inside.opened.value refl
           refl c.make_room_to_insert.ensures.same same.1 kept))
           c.self.invariant.2,
     )
 
 pub invariant_of-self-2 : goal.invariant_of-self-2
 invariant_of-self-2 g c =
-    let i : JournalValue g.row.D.Denot = seen_as c.self.inside.disk c.self.inside.wal c.self.inside.state.value c.self.inside.flushed c.self.inside.owes c.self.inside.opened.value in
-    let i' : JournalValue g.row.D.Denot = seen_as c.self.inside.disk c.append.new.self c.step_insert.new.state.value c.self.inside.flushed false c.self.inside.opened.value in
+    let i : JournalValue g.row.D.Denot = seen_as c.self.inside.disk c.self.inside.wal c.self.inside.state.value
+    c.self.inside.flushed c.self.inside.owes c.self.inside.opened.value in
+    let i' : JournalValue g.row.D.Denot = seen_as c.self.inside.disk c.append.new.self c.step_insert.new.state.value
+    c.self.inside.flushed false c.self.inside.opened.value in
     let has : HasLogged i i' c.args.records.now = search rules in
-    let next : AreNext (next_number i) c.args.records.now = subst (λ (k : JournalValue g.row.D.Denot). AreNext (next_number k) c.args.records.now) (sym c.self.view_is) c.requires.next in (
+    let next : AreNext (next_number i) c.args.records.now = subst (λ (k : JournalValue g.row.D.Denot). AreNext
+    (next_number k) c.args.records.now) (sym c.self.view_is) c.requires.next in (
       c.append.ensures.same.2 ∙ c.self.invariant.0,
       subst (λ k. k + 2 ≤ 2 ^ 63) (sym (ap (λ (v : StateValue). v.records) c.step_insert.ensures))
-          (insert_fits c.step_owed.new.state.value c.args.self.now.state c.args.records.now c.self.inside.owes c.length-number.result
-          c.requires.insert (subst (λ n. AreNext (1 + (n + cond c.self.inside.owes 1 0)) c.args.records.now) (sym c.length-number.ensures) next)
+          (insert_fits c.step_owed.new.state.value c.args.self.now.state c.args.records.now c.self.inside.owes
+          c.length-number.result
+          c.requires.insert (subst (λ n. AreNext (1 + (n + cond c.self.inside.owes 1 0)) c.args.records.now)
+          (sym c.length-number.ensures) next)
           c.if-number-gt-MOST_RECORDS.false),
-      logged_keeps g.D.Disk c.counted_are_one.ensures (λ t d. g.met.D.Disk.seen_is_image d t) i c.args.self.now i' c.args.records.now c.self.view_is c.requires.up c.requires.follow refl refl
-          (λ R s. logged_stands g.D.Disk i i' c.args.records.now R s has next (next_fits c.self.inside.state.value.records c.self.invariant.1))
+      logged_keeps g.D.Disk c.counted_are_one.ensures (λ t d. g.met.D.Disk.seen_is_image d t) i c.args.self.now i'
+          c.args.records.now c.self.view_is c.requires.up c.requires.follow refl refl
+          (λ R s. logged_stands g.D.Disk i i' c.args.records.now R s has next
+          (next_fits c.self.inside.state.value.records c.self.invariant.1))
           c.self.invariant.2,
     )

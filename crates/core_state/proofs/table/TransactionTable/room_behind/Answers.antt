@@ -4,7 +4,8 @@ use Rattle.core_state.specs.PageChoice.{IsLeast, IsLeastIfAny, HasRoomAt}
 use Rattle.core_state.specs.Inner.PageRooms.{HasRoomIn}
 use Rattle.core_state.proofs.HeapRooms.{none_later, room_later}
 use Rattle.core_state.proofs.table.TransactionTable.room_behind.Goals as goal
-use Rattle.core_state.proofs.table.TransactionTable.room_behind.Goals.{else-k-eq0-via-then-k-eq0+else-has_room, else-k-eq0-via-else-k-eq0}
+use Rattle.core_state.proofs.table.TransactionTable.room_behind.Goals.{else-k-eq0-via-then-k-eq0+else-has_room}
+use Rattle.core_state.proofs.table.TransactionTable.room_behind.Goals.{else-k-eq0-via-else-k-eq0}
 
 pub returns-in_err-place : goal.returns-in_err-place
 returns-in_err-place c =

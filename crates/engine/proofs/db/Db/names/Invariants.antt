@@ -6,4 +6,5 @@ use Rattle.ts_match.specs.Plan.{plan_of}
 use Rattle.engine.proofs.db.Db.names.Given as goal
 
 abbrev pub invariant-loop-place : goal.invariant-loop-place
-invariant-loop-place g l = IsFound (Holds l.query) (documents_from 0 (take l.place l.self.documents)) l.names.items × (l.work ≡ plan_of l.query)
+invariant-loop-place g l = IsFound (Holds l.query) (documents_from 0 (take l.place l.self.documents)) l.names.items
+    × (l.work ≡ plan_of l.query)

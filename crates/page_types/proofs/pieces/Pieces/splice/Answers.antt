@@ -6,8 +6,10 @@ use Rattle.page_types.proofs.pieces.Pieces.splice.Goals as goal
 
 pub returns-clause-none : goal.returns-clause-none
 returns-clause-none c = λ none.
-    let nothing = no_lists c.with.inside.ends.items c.with.inside.bytes.items c.with.invariant (c.with.view_is ∙ none) in
-    c.replace.ensures.short (omega (arith, nothing.0, ap length c.deref-2.ensures.value)) (omega (arith, nothing.1, ap length c.deref.ensures.value))
+    let nothing =
+    no_lists c.with.inside.ends.items c.with.inside.bytes.items c.with.invariant (c.with.view_is ∙ none) in
+    c.replace.ensures.short (omega (arith, nothing.0, ap length c.deref-2.ensures.value))
+    (omega (arith, nothing.1, ap length c.deref.ensures.value))
 
 pub returns-clause-short : goal.returns-clause-short
 returns-clause-short c = λ few small.
@@ -17,4 +19,11 @@ returns-clause-short c = λ few small.
     let range = ap (λ n. sum_by length (slice_range c.args.self.now c.args.from n)) to in
     c.replace.ensures.short
     (omega (arith, count, few, ap length c.with.view_is, ap length c.deref-2.ensures.value))
-    (omega (arith, size, small, range, ap (λ (l : List (List ℕ)). sum_by length l) c.with.view_is, ap length c.deref.ensures.value))
+    (omega (
+      arith,
+      size,
+      small,
+      range,
+      ap (λ (l : List (List ℕ)). sum_by length l) c.with.view_is,
+      ap length c.deref.ensures.value,
+    ))

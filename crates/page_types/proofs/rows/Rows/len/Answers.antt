@@ -8,4 +8,10 @@ use Rattle.page_types.proofs.rows.Rows.len.Goals as goal
 pub returns : goal.returns
 returns c =
     let cuts = length-cut_at 0 c.self.inside.ends.items c.self.inside.keys in
-    omega (arith, length-joined row_with c.self.inside.items.items (cut_at 0 c.self.inside.ends.items c.self.inside.keys) (omega (arith, cuts, c.self.invariant.1)), ap length c.self.view_is, c.len.ensures)
+    omega (
+      arith,
+      length-joined row_with c.self.inside.items.items (cut_at 0 c.self.inside.ends.items c.self.inside.keys)
+          (omega (arith, cuts, c.self.invariant.1)),
+      ap length c.self.view_is,
+      c.len.ensures,
+    )

@@ -4,4 +4,5 @@ use Rattle.posting_code.proofs.Lists.{last_any}
 use Rattle.posting_code.proofs.items.Items.last_item.Goals as goal
 
 pub returns : goal.returns
-returns c = λ some. c.self.invariant.ends ∙ last_any c.self.inside.previous 0 _ (λ e. some (sym c.self.view_is ∙ e)) ∙ ap (last_or 0) c.self.view_is
+returns c = λ some. c.self.invariant.ends ∙ last_any c.self.inside.previous 0 _ (λ e. some (sym c.self.view_is ∙ e))
+    ∙ ap (last_or 0) c.self.view_is

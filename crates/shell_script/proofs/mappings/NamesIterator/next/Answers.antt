@@ -9,7 +9,8 @@ returns-in_default-clause-steps c =
     (e, e)
 
 pub returns-clause-steps : goal.returns-clause-steps
-returns-clause-steps c = sym c.self.view_is ∙ words_first c.self.inside.text.now c.in-Some.name.now c.in-Some.rest.now c.in-Some.ensures.some
+returns-clause-steps c =
+    sym c.self.view_is ∙ words_first c.self.inside.text.now c.in-Some.name.now c.in-Some.rest.now c.in-Some.ensures.some
 
 pub returns-clause-goes : goal.returns-clause-goes
 returns-clause-goes c =

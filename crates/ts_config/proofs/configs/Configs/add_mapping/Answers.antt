@@ -21,12 +21,14 @@ invariant_of-self c =
     let all = remapped_within name c.args.kind places known (map named_mapping old) below c.self.invariant in
     elim c.match-get_mut.branch [
       | in-Some-get_mut w ↦
-          (let found = written name c.args.kind places w.in-Some-get_mut.config.now old (sym w.in-Some-get_mut.ensures.value) in
+          (let found =
+          written name c.args.kind places w.in-Some-get_mut.config.now old (sym w.in-Some-get_mut.ensures.value) in
           let new = ap (map named_mapping) (c.get_mut.follows.holds w.set.new.self).0
           ∙ ap (λ m. map named_mapping (set_value (λ k. bytes_eq name (string_bytes k)) old m)) w.set.ensures ∙ found in
           let P : NamedMapping → Type 0 = λ m. IsWithin known m.mapping in
           subst AllWithin (ap known_of (sym w.self-inside-is)) (subst (All P) (sym new) all))
-      | in_default-get_mut w ↦ absurd (absent name old w.in_default-get_mut.ensures.value (subst (λ k. HasConfiguration k name) (sym c.self.view_is) c.requires))
+      | in_default-get_mut w ↦ absurd (absent name old w.in_default-get_mut.ensures.value
+          (subst (λ k. HasConfiguration k name) (sym c.self.view_is) c.requires))
     ]
 
 pub returns-clause-added : goal.returns-clause-added
@@ -36,14 +38,17 @@ returns-clause-added c =
     let old = c.self.inside.configurations.entries in
     elim c.match-get_mut.branch [
       | in-Some-get_mut w ↦
-          (let found = written name c.args.kind places w.in-Some-get_mut.config.now old (sym w.in-Some-get_mut.ensures.value) in
+          (let found =
+          written name c.args.kind places w.in-Some-get_mut.config.now old (sym w.in-Some-get_mut.ensures.value) in
           let new = ap (map named_mapping) (c.get_mut.follows.holds w.set.new.self).0
           ∙ ap (λ m. map named_mapping (set_value (λ k. bytes_eq name (string_bytes k)) old m)) w.set.ensures ∙ found
           ∙ ap (λ k. remapped name c.args.kind places k.configurations) c.self.view_is in
           record {
             places = places;
             are = rw c.in-Some.is at c.in_ok-places.ensures;
-            value = ap known_of w.self-inside-is ∙ (λ i. record { dictionaries = (c.self.view_is i).dictionaries; configurations = new i });
+            value = ap known_of w.self-inside-is
+                ∙ (λ i. record { dictionaries = (c.self.view_is i).dictionaries; configurations = new i });
           })
-      | in_default-get_mut w ↦ absurd (absent name old w.in_default-get_mut.ensures.value (subst (λ k. HasConfiguration k name) (sym c.self.view_is) c.requires))
+      | in_default-get_mut w ↦ absurd (absent name old w.in_default-get_mut.ensures.value
+          (subst (λ k. HasConfiguration k name) (sym c.self.view_is) c.requires))
     ]

@@ -12,7 +12,8 @@ returns-in-None g c =
     let same : c.as_str.result.now ≡ text (get_or names i c.name-item.result) =
     c.as_str.ensures ∙ ap text c.name-item.is in
     any_here text (λ n. ¬ HasDictionary c.args.self.now n) names i c.name-item.result c.loop-name-test.true
-    (subst (λ n. ¬ HasDictionary c.args.self.now n) same (λ h. let e = c.in-None.ensures.found.1 h in let z : ⊥ = cc in z))
+    (subst (λ n. ¬ HasDictionary c.args.self.now n) same
+    (λ h. let e = c.in-None.ensures.found.1 h in let z : ⊥ = cc in z))
 
 pub loop-name-preserved : goal.loop-name-preserved
 loop-name-preserved g c =

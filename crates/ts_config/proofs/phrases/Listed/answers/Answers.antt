@@ -18,7 +18,8 @@ loop-ahead-init c =
     let p = c.args.self.now.place in
     let a = answer_value c.in_ok-answer_to.field-0 in
     let pushed = ap (λ w. w.answers) c.in_ok-push.ensures.pushed ∙ ap (λ w. w.answers ++ a ∷ []) c.walk-walk.ensures in
-    let start = asked_start m text answer p c.args.first c.again-ahead.result a c.push.new.self.answers c.requires.listed c.in_ok-answer_to.ensures pushed in
+    let start = asked_start m text answer p c.args.first c.again-ahead.result a c.push.new.self.answers
+    c.requires.listed c.in_ok-answer_to.ensures pushed in
     record {
       tokens = subst (All (IsToken text)) (sym c.again-ahead.ensures) c.requires.rest;
       rules = ap (λ w. w.rules) c.in_ok-push.ensures.pushed ∙ ap (λ w. w.rules) c.walk-walk.ensures;
@@ -27,11 +28,13 @@ loop-ahead-init c =
 
 pub answer_to-requires-in-loop-ahead-clause-between : goal.answer_to-requires-in-loop-ahead-clause-between
 answer_to-requires-in-loop-ahead-clause-between c =
-    (next_all (IsToken c.args.text.now) c.args.config.now c.args.self.now.place c.loop-ahead.ahead c.next_seen.new.ahead c.in-Some.next c.loop-ahead.invariant.tokens c.in-Some.ensures).0.0
+    (next_all (IsToken c.args.text.now) c.args.config.now c.args.self.now.place c.loop-ahead.ahead c.next_seen.new.ahead
+    c.in-Some.next c.loop-ahead.invariant.tokens c.in-Some.ensures).0.0
 
 pub answer_to-requires-in-loop-ahead-clause-some : goal.answer_to-requires-in-loop-ahead-clause-some
 answer_to-requires-in-loop-ahead-clause-some c =
-    (next_all (IsToken c.args.text.now) c.args.config.now c.args.self.now.place c.loop-ahead.ahead c.next_seen.new.ahead c.in-Some.next c.loop-ahead.invariant.tokens c.in-Some.ensures).0.1
+    (next_all (IsToken c.args.text.now) c.args.config.now c.args.self.now.place c.loop-ahead.ahead c.next_seen.new.ahead
+    c.in-Some.next c.loop-ahead.invariant.tokens c.in-Some.ensures).0.1
 
 pub loop-ahead-preserved : goal.loop-ahead-preserved
 loop-ahead-preserved c =
@@ -40,7 +43,11 @@ loop-ahead-preserved c =
     let p = c.args.self.now.place in
     let step = c.in-Some.ensures in
     record {
-      tokens = (next_all (IsToken text) m p c.loop-ahead.ahead c.next_seen.new.ahead c.in-Some.next c.loop-ahead.invariant.tokens step).1;
+      tokens = (next_all (IsToken text) m p c.loop-ahead.ahead c.next_seen.new.ahead c.in-Some.next
+          c.loop-ahead.invariant.tokens step).1;
       rules = ap (λ w. w.rules) c.in_ok-push-2.ensures.pushed ∙ c.loop-ahead.invariant.rules;
-      so_far = asked_more m text (answer_by (rules_of c.args.self.now.sub.now)) p _ c.loop-ahead.walk.answers c.loop-ahead.ahead c.loop-ahead.invariant.so_far c.in-Some.next c.next_seen.new.ahead _ c.push-in-loop-ahead.new.self.answers step c.in_ok-answer_to-2.ensures (ap (λ w. w.answers) c.in_ok-push-2.ensures.pushed);
+      so_far = asked_more m text (answer_by (rules_of c.args.self.now.sub.now)) p _
+          c.loop-ahead.walk.answers c.loop-ahead.ahead c.loop-ahead.invariant.so_far c.in-Some.next
+          c.next_seen.new.ahead _ c.push-in-loop-ahead.new.self.answers step c.in_ok-answer_to-2.ensures
+          (ap (λ w. w.answers) c.in_ok-push-2.ensures.pushed);
     }

@@ -22,9 +22,11 @@ last_in-requires-in-Encoded c =
 pub returns-in-Listed-clause-each : goal.returns-in-Listed-clause-each
 returns-in-Listed-clause-each c =
     let same : c.in-Listed.vector.now ≡ c.args.self.now = ap entries_of (sym c.in-Listed.is) ∙ c.self.view_is in
-    λ i e p l m h. c.last_in.ensures.each i e p l m (subst (λ (v : Vector). Contains (get_or v i e).positions p) (sym same) h)
+    λ i e p l m h. c.last_in.ensures.each i e p l m
+    (subst (λ (v : Vector). Contains (get_or v i e).positions p) (sym same) h)
 
 pub returns-in-Encoded-clause-each : goal.returns-in-Encoded-clause-each
 returns-in-Encoded-clause-each c =
     let same : c.in-Encoded.vector.now ≡ c.args.self.now = ap entries_of (sym c.in-Encoded.is) ∙ c.self.view_is in
-    λ i e p l m h. c.last_in-in-Encoded.ensures.each i e p l m (subst (λ (v : Vector). Contains (get_or v i e).positions p) (sym same) h)
+    λ i e p l m h. c.last_in-in-Encoded.ensures.each i e p l m
+    (subst (λ (v : Vector). Contains (get_or v i e).positions p) (sym same) h)

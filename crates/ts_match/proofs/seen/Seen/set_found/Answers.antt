@@ -15,7 +15,8 @@ set_found-requires-clause-ready c =
 pub returns-in-Listed-clause-value : goal.returns-in-Listed-clause-value
 returns-in-Listed-clause-value c =
     let same : c.in-Listed.vector.now ≡ c.args.self.now = ap entries_of (sym c.in-Listed.is) ∙ c.self.view_is in
-    λ j. c.set_found.ensures.value j ∙ ap (λ (v : Vector). bit_value c.args.count c.args.bits.now j || list_any (sets_some c.args.how.by j c.args.how.weights) (slice_range v c.args.found.first c.args.found.end)) same
+    λ j. c.set_found.ensures.value j ∙ ap (λ (v : Vector). bit_value c.args.count c.args.bits.now j || list_any
+    (sets_some c.args.how.by j c.args.how.weights) (slice_range v c.args.found.first c.args.found.end)) same
 
 pub set_found-requires-in-Encoded : goal.set_found-requires-in-Encoded
 set_found-requires-in-Encoded c =
@@ -25,4 +26,6 @@ set_found-requires-in-Encoded c =
 pub returns-in-Encoded-clause-value : goal.returns-in-Encoded-clause-value
 returns-in-Encoded-clause-value c =
     let same : c.in-Encoded.vector.now ≡ c.args.self.now = ap entries_of (sym c.in-Encoded.is) ∙ c.self.view_is in
-    λ j. c.set_found-in-Encoded.ensures.value j ∙ ap (λ (v : Vector). bit_value c.args.count c.args.bits.now j || list_any (sets_some c.args.how.by j c.args.how.weights) (slice_range v c.args.found.first c.args.found.end)) same
+    λ j. c.set_found-in-Encoded.ensures.value j
+    ∙ ap (λ (v : Vector). bit_value c.args.count c.args.bits.now j || list_any
+    (sets_some c.args.how.by j c.args.how.weights) (slice_range v c.args.found.first c.args.found.end)) same

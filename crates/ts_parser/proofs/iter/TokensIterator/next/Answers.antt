@@ -15,7 +15,8 @@ returns-then-self-clause-steps c =
     let f : Form = c.part_form-part.result in
     let b = ap length c.behind-word.ensures in
     let w = c.part_form-part.ensures.within.1 in
-    sym c.self.view_is ∙ next_part text part at f (c.part_form-part.ensures.value ∙ ap part_form c.behind-word.ensures) c.part_form-part.ensures.within.0 (omega (arith, b, w))
+    sym c.self.view_is ∙ next_part text part at f (c.part_form-part.ensures.value ∙ ap part_form c.behind-word.ensures)
+    c.part_form-part.ensures.within.0 (omega (arith, b, w))
 
 pub returns-then-self-clause-goes : goal.returns-then-self-clause-goes
 returns-then-self-clause-goes c =
@@ -37,8 +38,10 @@ invariant_of-self-2 c =
     let i = c.self.invariant.within in
     record {
       within = omega (arith, b, d, w, i);
-      parts = start_fits at (at + f.length) f.kind c.parts_start-self-inside.result c.parts_start-self-inside.ensures (omega arith);
-      groups = groups_left text at f.length c.groups_here-groups.result (c.groups_here-groups.ensures.value ∙ ap groups_len c.behind-rest.ensures);
+      parts = start_fits at (at + f.length) f.kind c.parts_start-self-inside.result c.parts_start-self-inside.ensures
+          (omega arith);
+      groups = groups_left text at f.length c.groups_here-groups.result
+          (c.groups_here-groups.ensures.value ∙ ap groups_len c.behind-rest.ensures);
     }
 
 pub returns-clause-steps : goal.returns-clause-steps
@@ -48,7 +51,8 @@ returns-clause-steps c =
     let at = c.self.inside.at in
     let f : Form = c.form_at-form.result in
     let is : f ≡ form_at (byte_before text at) (drop at text) =
-    c.form_at-form.ensures.value ∙ ap (λ o. form_at o c.behind-rest.result.now) c.byte_before-before.ensures ∙ ap (λ z. form_at (byte_before text at) z) c.behind-rest.ensures in
+    c.form_at-form.ensures.value ∙ ap (λ o. form_at o c.behind-rest.result.now) c.byte_before-before.ensures
+    ∙ ap (λ z. form_at (byte_before text at) z) c.behind-rest.ensures in
     let b = ap length c.behind-rest.ensures in
     let d = length-drop at text in
     let w = c.form_at-form.ensures.within in
@@ -56,7 +60,8 @@ returns-clause-steps c =
     let high = w.1 in
     let i = c.self.invariant.within in
     let fits : at + f.length ≤ length text = omega (arith, b, d, high, i) in
-    sym c.self.view_is ∙ next_form text part at f c.self.invariant.parts c.if-self.false (omega (arith, low, fits)) is low fits
+    sym c.self.view_is
+    ∙ next_form text part at f c.self.invariant.parts c.if-self.false (omega (arith, low, fits)) is low fits
     ∙ ap (λ n. token_of f at ∷ left text n (at + f.length)) (sym c.parts_start-self-inside.ensures)
 
 pub returns-clause-goes : goal.returns-clause-goes

@@ -15,7 +15,9 @@ returns-in_ok-apply-in-Some-Not-clause-applied c j fs y s =
 pub returns-in_ok-apply-in-Some-Pending-clause-applied : goal.returns-in_ok-apply-in-Some-Pending-clause-applied
 returns-in_ok-apply-in-Some-Pending-clause-applied c j fs y s =
     let k = c.in-Some-Pending.ensures in
-    let e : c.args.self.now.ops.items ≡ k.0 ++ Pending c.in-Some-Pending.link ∷ [] = rw c.in-Some-Pending.field-0-is at k.1 in
+    let e : c.args.self.now.ops.items ≡ k.0 ++ Pending c.in-Some-Pending.link ∷ [] =
+    rw c.in-Some-Pending.field-0-is at k.1 in
     let b : c.args.least ≤ level (link_joint c.in-Some-Pending.link) = omega arith in
     applied_joint c.in-Some-Pending.link c.args.least j fs y _ _ k.0 b s e c.in_ok-apply-in-Some-Pending.ensures.place
-    (c.in_ok-apply-in-Some-Pending.ensures.ops (Pending c.in-Some-Pending.link) k.0 e) c.in_ok-apply-in-Some-Pending.ensures.out
+    (c.in_ok-apply-in-Some-Pending.ensures.ops (Pending c.in-Some-Pending.link) k.0 e)
+    c.in_ok-apply-in-Some-Pending.ensures.out

@@ -3,7 +3,8 @@ use Rattle.std.proofs.lemmas.Bool.Decides.{nat_tests}
 use Rattle.ts_query.specs.Queries.{nodes_of}
 use Rattle.ts_query.specs.Inner.Parsing.{link_joint}
 use Rattle.ts_query.specs.Joining.{joined_queries}
-use Rattle.ts_query.proofs.Joined.{length-nodes_for, joined_empty, empty_joined, joined_size, joined_built, joined_sound, copied_operands}
+use Rattle.ts_query.proofs.Joined.{length-nodes_for, joined_empty, empty_joined, joined_size, joined_built}
+use Rattle.ts_query.proofs.Joined.{joined_sound, copied_operands}
 use Rattle.ts_query.proofs.query.TsQuery.joined.Goals as goal
 
 pub returns-then-is_empty-clause-value : goal.returns-then-is_empty-clause-value
@@ -30,7 +31,8 @@ returns-then-nodes-ge-NODE_LIMIT-clause-refused c =
     omega arith
 
 pub copy-requires-2 : goal.copy-requires-2
-copy-requires-2 c = (_, c.in_ok-copy.ensures.items [] c.new-builder.ensures, copied_operands c.args.self.now c.nodes.ensures.sound)
+copy-requires-2 c =
+    (_, c.in_ok-copy.ensures.items [] c.new-builder.ensures, copied_operands c.args.self.now c.nodes.ensures.sound)
 
 pub finish-requires : goal.finish-requires
 finish-requires c =
@@ -42,8 +44,11 @@ finish-requires c =
     let z : nodes_of c.args.other.now ≢ 0 = λ x. grind (arith, nat_tests) in
     let few : nodes_of c.args.self.now + nodes_of c.args.other.now + 1 < 32768 = omega arith in (
       joined_queries (link_joint c.args.link) c.args.self.now c.args.other.now,
-      joined_built (link_joint c.args.link) c.args.self.now c.args.other.now c.link.new.self y z (c.in_ok-link.ensures.built _ (c.in_ok-copy-2.ensures.items _ (c.in_ok-copy.ensures.items [] c.new-builder.ensures))),
-      joined_sound (link_joint c.args.link) c.args.self.now c.args.other.now c.requires c.nodes.ensures.sound c.nodes-2.ensures.sound y z few,
+      joined_built (link_joint c.args.link) c.args.self.now c.args.other.now c.link.new.self y z
+          (c.in_ok-link.ensures.built _
+          (c.in_ok-copy-2.ensures.items _ (c.in_ok-copy.ensures.items [] c.new-builder.ensures))),
+      joined_sound (link_joint c.args.link) c.args.self.now c.args.other.now c.requires c.nodes.ensures.sound
+          c.nodes-2.ensures.sound y z few,
     )
 
 pub returns-clause-value : goal.returns-clause-value
@@ -53,4 +58,6 @@ returns-clause-value c =
     let y : nodes_of c.args.self.now ≢ 0 = λ x. grind (arith, nat_tests) in
     let z : nodes_of c.args.other.now ≢ 0 = λ x. grind (arith, nat_tests) in
     c.finish.ensures.value (joined_queries (link_joint c.args.link) c.args.self.now c.args.other.now)
-    (joined_built (link_joint c.args.link) c.args.self.now c.args.other.now c.link.new.self y z (c.in_ok-link.ensures.built _ (c.in_ok-copy-2.ensures.items _ (c.in_ok-copy.ensures.items [] c.new-builder.ensures))))
+    (joined_built (link_joint c.args.link) c.args.self.now c.args.other.now c.link.new.self y z
+    (c.in_ok-link.ensures.built _
+    (c.in_ok-copy-2.ensures.items _ (c.in_ok-copy.ensures.items [] c.new-builder.ensures))))

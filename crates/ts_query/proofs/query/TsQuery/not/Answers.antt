@@ -24,11 +24,16 @@ finish-requires c =
     let e = ap length c.nodes.ensures.value ∙ length-nodes_for c.args.self.now in
     let f = ap length c.nodes-2.ensures.value ∙ length-nodes_for c.args.self.now in
     let z : nodes_of c.args.self.now ≢ 0 = λ x. grind (arith, nat_tests) in
-    let few : nodes_of c.args.self.now + 1 < 32768 = omega arith in
-    (negated_query c.args.self.now, negated_built c.args.self.now c.not.new.self z (c.in_ok-not.ensures.built _ (c.in_ok-copy.ensures.items [] c.new-builder.ensures)), negated_sound c.args.self.now c.nodes.ensures.sound z few)
+    let few : nodes_of c.args.self.now + 1 < 32768 = omega arith in (
+      negated_query c.args.self.now,
+      negated_built c.args.self.now c.not.new.self z
+          (c.in_ok-not.ensures.built _ (c.in_ok-copy.ensures.items [] c.new-builder.ensures)),
+      negated_sound c.args.self.now c.nodes.ensures.sound z few,
+    )
 
 pub returns-clause-value : goal.returns-clause-value
 returns-clause-value c =
     let e = ap length c.nodes.ensures.value ∙ length-nodes_for c.args.self.now in
     let z : nodes_of c.args.self.now ≢ 0 = λ x. grind (arith, nat_tests) in
-    c.finish.ensures.value (negated_query c.args.self.now) (negated_built c.args.self.now c.not.new.self z (c.in_ok-not.ensures.built _ (c.in_ok-copy.ensures.items [] c.new-builder.ensures)))
+    c.finish.ensures.value (negated_query c.args.self.now) (negated_built c.args.self.now c.not.new.self z
+    (c.in_ok-not.ensures.built _ (c.in_ok-copy.ensures.items [] c.new-builder.ensures)))

@@ -25,10 +25,13 @@ returns-clause-value c =
     ∙ ap (λ b. given_for c.args.self.now (cased_of b c.args.word.now)) (sym cased)
 
 pub returns-then-self-clause-named : goal.returns-then-self-clause-named
-returns-then-self-clause-named c = named_valid c.self.inside.sensitive c.self.inside.pairs.entries c.args.self.now c.args.word.now c.self.view_is c.self.invariant
+returns-then-self-clause-named c = named_valid c.self.inside.sensitive c.self.inside.pairs.entries c.args.self.now
+    c.args.word.now c.self.view_is c.self.invariant
 
 pub returns-in_err-word-clause-named : goal.returns-in_err-word-clause-named
-returns-in_err-word-clause-named c = named_valid c.self.inside.sensitive c.self.inside.pairs.entries c.args.self.now c.args.word.now c.self.view_is c.self.invariant
+returns-in_err-word-clause-named c = named_valid c.self.inside.sensitive c.self.inside.pairs.entries c.args.self.now
+    c.args.word.now c.self.view_is c.self.invariant
 
 pub returns-clause-named : goal.returns-clause-named
-returns-clause-named c = named_valid c.self.inside.sensitive c.self.inside.pairs.entries c.args.self.now c.args.word.now c.self.view_is c.self.invariant
+returns-clause-named c = named_valid c.self.inside.sensitive c.self.inside.pairs.entries c.args.self.now c.args.word.now
+    c.self.view_is c.self.invariant

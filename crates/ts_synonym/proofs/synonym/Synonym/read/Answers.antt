@@ -7,12 +7,15 @@ pub loop-line-init : goal.loop-line-init
 loop-line-init c = (
   tt,
   tt,
-  progress_start c.args.sensitive c.args.text.now _ _ (ap lines_rest c.into_iter-line-iterator.ensures.into_iter_gives ∙ c.lines-line-items.ensures.rest) c.new-synonym.ensures,
+  progress_start c.args.sensitive c.args.text.now _ _ (ap lines_rest c.into_iter-line-iterator.ensures.into_iter_gives
+      ∙ c.lines-line-items.ensures.rest) c.new-synonym.ensures,
 )
 
 pub overflow_add-number : goal.overflow_add-number
 overflow_add-number c =
-    let fits : c.loop-line.number + 1 ≤ length c.args.text.now = number_fits c.args.sensitive c.args.text.now c.loop-line.line-iterator c.next.new.self c.loop-line.synonym c.loop-line.number c.in-Some.line c.loop-line.invariant.2 c.in-Some.ensures.steps in
+    let fits : c.loop-line.number + 1 ≤ length c.args.text.now =
+    number_fits c.args.sensitive c.args.text.now c.loop-line.line-iterator c.next.new.self c.loop-line.synonym
+    c.loop-line.number c.in-Some.line c.loop-line.invariant.2 c.in-Some.ensures.steps in
     omega arith
 
 pub returns-in-Err-clause-bad : goal.returns-in-Err-clause-bad
@@ -32,4 +35,5 @@ loop-line-preserved c = (
 )
 
 pub returns-clause-value : goal.returns-clause-value
-returns-clause-value c = progress_over c.args.sensitive c.args.text.now _ _ _ _ c.loop-line.invariant.2 c.in-None.ensures.steps
+returns-clause-value c =
+    progress_over c.args.sensitive c.args.text.now _ _ _ _ c.loop-line.invariant.2 c.in-None.ensures.steps

@@ -19,7 +19,8 @@ returns-clause-taken g c =
     let answer = g.D.Dictionary.answer c.args.sub.now in
     let line = c.args.line.now in
     let rule = rule_value c.in-Some.rule in
-    let gives : Reads answer line (Some c.in-Some.rule) = subst (Reads answer line) c.in-Some.is c.in_ok-rule.ensures.value in
+    let gives : Reads answer line (Some c.in-Some.rule) =
+    subst (Reads answer line) c.in-Some.is c.in_ok-rule.ensures.value in
     rw c.in_ok-keep.ensures.kept (record {
       fit = rule_not_refused answer line rule gives;
       each = λ lines h. rules_more answer lines line c.args.self.now rule h gives;

@@ -14,11 +14,13 @@ returns-in-Some c = λ n.
     let answers = map answer_value c.args.answers.now in
     let has = subst (MayHaveTree rules) c.in-Some.is c.self.invariant in
     subst (λ z. IsBestUpTo z answers n c.best.result) c.self.view_is
-    (subst (IsBestUpTo rules answers n) (sym c.best.ensures) (tree_best rules c.in-Some.tree.states.items has answers n))
+    (subst (IsBestUpTo rules answers n) (sym c.best.ensures)
+    (tree_best rules c.in-Some.tree.states.items has answers n))
 
 pub returns-in-None : goal.returns-in-None
 returns-in-None c = λ n.
     let kept = c.self.inside.rules.items in
     let answers = map answer_value c.args.answers.now in
     let best = subst (λ z. IsBestPlace z answers c.best_place.result) c.deref.ensures.value c.best_place.ensures in
-    subst (λ z. IsBestUpTo z answers n c.best_place.result) c.self.view_is (best_up_to kept answers c.best_place.result best n)
+    subst (λ z. IsBestUpTo z answers n c.best_place.result) c.self.view_is
+    (best_up_to kept answers c.best_place.result best n)

@@ -6,5 +6,7 @@ use Rattle.ts_thesaurus.proofs.tree.Tree.best.Given as goal
 
 abbrev pub invariant-loop-answer : goal.invariant-loop-answer
 invariant-loop-answer l =
-    best_on (steps_of l.self.states.items) (last_of l.self.states.items) 0 (last_of l.self.states.items 0) (map answer_value l.answers)
-    ≡ best_on (steps_of l.self.states.items) (last_of l.self.states.items) l.state l.best (map answer_value (drop l.answer-index l.answers))
+    best_on (steps_of l.self.states.items) (last_of l.self.states.items) 0 (last_of l.self.states.items 0)
+    (map answer_value l.answers)
+    ≡ best_on (steps_of l.self.states.items) (last_of l.self.states.items) l.state l.best
+    (map answer_value (drop l.answer-index l.answers))

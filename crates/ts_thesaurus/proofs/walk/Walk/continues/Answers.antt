@@ -13,7 +13,10 @@ returns-then-not-is_empty c =
     let rules = map rule_value kept in
     let answers = map answer_value c.self.inside.answers.items in
     let some : rules ≢ [] =
-    λ e. true≢false (sym (ap (λ n. eqb n 0) (sym (length-map kept rule_value) ∙ ap length e)) ∙ sym c.is_empty.ensures ∙ c.if-not-is_empty.true) in
+    λ e. true≢false (sym (ap (λ n. eqb n 0) (sym (length-map kept rule_value) ∙ ap length e)) ∙ sym c.is_empty.ensures
+    ∙ c.if-not-is_empty.true) in
     let way = subst (λ o. IsOnWay rules o answers c.self.inside.state) c.in-Some.is c.self.invariant in
-    subst (λ w. (c.is_some.result ≡ true → Continues w.rules w.answers) × (Continues w.rules w.answers → c.is_some.result ≡ true)) c.self.view_is
-    (tree_truth rules c.in-Some.field-0.now.states.items way.0 answers c.self.inside.state c.is_some.result (sym way.1) c.is_some.ensures some)
+    subst (λ w. (c.is_some.result ≡ true → Continues w.rules w.answers)
+    × (Continues w.rules w.answers → c.is_some.result ≡ true)) c.self.view_is
+    (tree_truth rules c.in-Some.field-0.now.states.items way.0 answers c.self.inside.state c.is_some.result
+    (sym way.1) c.is_some.ensures some)

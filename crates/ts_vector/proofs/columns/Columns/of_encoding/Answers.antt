@@ -13,13 +13,29 @@ loop-entry-preserved c =
     let e = c.in-Some.entry in
     let ends = c.in_ok-ends_at.field-0 in
     let x : c.extend_from_slice.new.self.items ≡ ls ++ c.as_bytes.result.now = grind (arith, common_steps) in
-    let a : c.extend_from_slice.new.self.items ≡ ls ++ e.lexeme = x ∙ ap (λ t. ls ++ t) (c.as_bytes.ensures.value ∙ c.lexeme.ensures.value) in
-    let b : c.put_places.new.list.items ≡ ps ++ e.positions = c.in_ok-put_places.ensures ∙ ap (λ t. ps ++ t) c.positions.ensures.value in
+    let a : c.extend_from_slice.new.self.items ≡ ls ++ e.lexeme =
+    x ∙ ap (λ t. ls ++ t) (c.as_bytes.ensures.value ∙ c.lexeme.ensures.value) in
+    let b : c.put_places.new.list.items ≡ ps ++ e.positions =
+    c.in_ok-put_places.ensures ∙ ap (λ t. ps ++ t) c.positions.ensures.value in
     let d : c.push.new.self.items ≡ es ++ ends ∷ [] = grind (arith, common_steps) in
     let l : ends.lexeme ≡ length ls + length e.lexeme =
-    omega (arith, c.in_ok-ends_at.ensures.lexeme, c.len.ensures, c.extend_from_slice.new.self.ok.0, ap length a, length-append ls e.lexeme) in
+    omega (
+      arith,
+      c.in_ok-ends_at.ensures.lexeme,
+      c.len.ensures,
+      c.extend_from_slice.new.self.ok.0,
+      ap length a,
+      length-append ls e.lexeme,
+    ) in
     let p : ends.positions ≡ length ps + length e.positions =
-    omega (arith, c.in_ok-ends_at.ensures.positions, c.len-in-loop-entry.ensures, c.put_places.new.list.ok.0, ap length b, length-append ps e.positions) in
+    omega (
+      arith,
+      c.in_ok-ends_at.ensures.positions,
+      c.len-in-loop-entry.ensures,
+      c.put_places.new.list.ok.0,
+      ap length b,
+      length-append ps e.positions,
+    ) in
     record {
       are = rw (a, b, d) (push_are ls ps es is.are e.lexeme e.positions ends l p);
       read = rw (a, b, d) (

@@ -5,4 +5,5 @@ use Rattle.ts_vector.proofs.LastEntries.{bytes_count}
 use Rattle.ts_vector.proofs.encoded.Entries.bytes_left.Goals as goal
 
 pub returns : goal.returns
-returns c = bytes_count c.self.inside.count c.self.inside.rest.now c.self.invariant ∙ ap (sum_by entry_size) c.self.view_is
+returns c =
+    bytes_count c.self.inside.count c.self.inside.rest.now c.self.invariant ∙ ap (sum_by entry_size) c.self.view_is

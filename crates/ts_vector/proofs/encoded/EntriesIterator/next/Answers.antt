@@ -21,12 +21,14 @@ returns-clause-steps c =
     let n = c.self.inside.count in
     let is = next_entry n c.self.inside.rest.now c.self.invariant (omega arith) in
     let made = c.first_entry-entry.ensures is.entry _ is.first in
-    sym c.self.view_is ∙ is.all ∙ (λ i. sym made.0 i ∷ (sym (is.more (n - 1) (omega arith)).1 ∙ ap (entries_told (n - 1)) (sym made.1)) i)
+    sym c.self.view_is ∙ is.all
+    ∙ (λ i. sym made.0 i ∷ (sym (is.more (n - 1) (omega arith)).1 ∙ ap (entries_told (n - 1)) (sym made.1)) i)
 
 pub returns-clause-goes : goal.returns-clause-goes
 returns-clause-goes c =
     let n = c.self.inside.count in
     let is = next_entry n c.self.inside.rest.now c.self.invariant (omega arith) in
     let made = c.first_entry-entry.ensures is.entry _ is.first in
-    let left = sym c.self.view_is ∙ is.all ∙ (λ i. is.entry ∷ (sym (is.more (n - 1) (omega arith)).1 ∙ ap (entries_told (n - 1)) (sym made.1)) i) in
+    let left = sym c.self.view_is ∙ is.all
+    ∙ (λ i. is.entry ∷ (sym (is.more (n - 1) (omega arith)).1 ∙ ap (entries_told (n - 1)) (sym made.1)) i) in
     record { on = λ f. (tt, tt, omega (arith, ap length left)); keeps = tt; rests = λ f. tt }

@@ -18,6 +18,7 @@ tail_is (Some e) s t h = sym (ap (drop 1) h)
 
 pub loop-skipped-preserved : goal.loop-skipped-preserved
 loop-skipped-preserved c = record {
-  left = tail_is c.next.result c.loop-skipped.entries c.next.new.self c.next.ensures.steps ∙ ap (drop 1) c.loop-skipped.invariant.left ∙ sym (drop_more c.args.self.now c.loop-skipped.skipped);
+  left = tail_is c.next.result c.loop-skipped.entries c.next.new.self c.next.ensures.steps
+      ∙ ap (drop 1) c.loop-skipped.invariant.left ∙ sym (drop_more c.args.self.now c.loop-skipped.skipped);
   within = omega arith;
 }

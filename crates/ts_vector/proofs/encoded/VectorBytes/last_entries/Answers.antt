@@ -17,7 +17,8 @@ invariant_of-result c =
     let n = c.self.inside.count in
     let bytes = c.self.inside.entries.now in
     let has = c.requires.bytes ∙ ap (λ v. sum_by entry_size (drop c.args.first v)) (sym c.self.view_is) in
-    let within : c.args.first ≤ length (entries_told n bytes) = omega (arith, c.requires.within, ap length c.self.view_is) in
+    let within : c.args.first ≤ length (entries_told n bytes) =
+    omega (arith, c.requires.within, ap length c.self.view_is) in
     subst (λ r. AreEntries (n - c.args.first) r (entries_told (n - c.args.first) r)) (sym c.split_at.ensures.back)
     (last_told_are n bytes (entries_told n bytes) c.self.invariant c.args.first c.args.bytes_left has within)
 
@@ -26,7 +27,8 @@ returns c =
     let n = c.self.inside.count in
     let bytes = c.self.inside.entries.now in
     let has = c.requires.bytes ∙ ap (λ v. sum_by entry_size (drop c.args.first v)) (sym c.self.view_is) in
-    let within : c.args.first ≤ length (entries_told n bytes) = omega (arith, c.requires.within, ap length c.self.view_is) in
+    let within : c.args.first ≤ length (entries_told n bytes) =
+    omega (arith, c.requires.within, ap length c.self.view_is) in
     ap (entries_told (n - c.args.first)) c.split_at.ensures.back
     ∙ last_told n bytes (entries_told n bytes) c.self.invariant c.args.first c.args.bytes_left has within
     ∙ ap (drop c.args.first) c.self.view_is

@@ -11,7 +11,8 @@ pub overflow_add-size : goal.overflow_add-size
 overflow_add-size c =
     let es = c.self.inside.lexemes.entries in
     let there = found_there c.args.lexeme.now es c.in-Some.positions.now (sym c.in-Some.ensures.value) in
-    let few = (All-contains IsEntry (pairs_of es) (entry c.args.lexeme.now c.in-Some.positions.now.items) c.self.invariant.0.entries there).few in
+    let few = (All-contains IsEntry (pairs_of es)
+    (entry c.args.lexeme.now c.in-Some.positions.now.items) c.self.invariant.0.entries there).few in
     let n = ap length c.as_str.ensures.value in
     omega (arith, few, n, c.as_str.ensures.valid.most, c.len.ensures)
 
@@ -22,9 +23,11 @@ returns-in-Some c =
     let there = found_there l c.self.inside.lexemes.entries c.in-Some.positions.now (sym c.in-Some.ensures.value) in
     let same : c.as_slice.result.now ≡ ps = c.as_slice.ensures.value in
     let n = ap length c.as_str.ensures.value in
-    let size : length c.as_str.result.now + 2 * c.len.result ≡ length l + 2 * length ps = omega (arith, n, c.len.ensures) in
+    let size : length c.as_str.result.now + 2 * c.len.result ≡ length l + 2 * length ps =
+    omega (arith, n, c.len.ensures) in
     subst (λ v. IsHeld v l c.as_slice.result.now (length c.as_str.result.now + 2 * c.len.result)) c.self.view_is
-    (subst (λ qs. IsHeld (pairs_of c.self.inside.lexemes.entries) l qs (length c.as_str.result.now + 2 * c.len.result)) (sym same) (inl (there, size)))
+    (subst (λ qs. IsHeld (pairs_of c.self.inside.lexemes.entries) l qs (length c.as_str.result.now + 2 * c.len.result))
+    (sym same) (inl (there, size)))
 
 pub returns-in-None : goal.returns-in-None
 returns-in-None c =

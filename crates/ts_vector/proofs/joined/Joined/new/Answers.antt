@@ -12,7 +12,8 @@ invariant_of-result c =
     let made = c.join.new.self in
     let j = c.in_ok-join.ensures in
     let none = c.new-entries.ensures in
-    let e : made ≡ v = joined_to_none v made j.0 c.first.invariant.0 (subst (λ t. IsGreatest t j.0) none j.1) (subst (λ t. IsNormalFormOf (t ++ shifted_within j.0 v) made) none j.2) in
+    let e : made ≡ v = joined_to_none v made j.0 c.first.invariant.0 (subst (λ t. IsGreatest t j.0) none j.1)
+    (subst (λ t. IsNormalFormOf (t ++ shifted_within j.0 v) made) none j.2) in
     subst (λ t. content_size t < 1048576) (sym e) c.first.invariant.1
 
 pub returns : goal.returns
@@ -21,4 +22,5 @@ returns c =
     let made = c.join.new.self in
     let j = c.in_ok-join.ensures in
     let none = c.new-entries.ensures in
-    joined_to_none v made j.0 c.first.invariant.0 (subst (λ t. IsGreatest t j.0) none j.1) (subst (λ t. IsNormalFormOf (t ++ shifted_within j.0 v) made) none j.2) ∙ c.first.view_is
+    joined_to_none v made j.0 c.first.invariant.0 (subst (λ t. IsGreatest t j.0) none j.1)
+    (subst (λ t. IsNormalFormOf (t ++ shifted_within j.0 v) made) none j.2) ∙ c.first.view_is

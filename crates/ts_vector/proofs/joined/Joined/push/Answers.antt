@@ -20,7 +20,8 @@ returns-then-bytes-ge-SIZE_LIMIT-clause-cause c =
       size = c.size-bytes.ensures.size;
       large = c.if-bytes-ge-SIZE_LIMIT.true;
     } in
-    subst (λ t. IsTooLargeJoin t c.args.part.now c.size-bytes.result) c.self.view_is (subst (λ t. IsTooLargeJoin v t c.size-bytes.result) c.part.view_is over)
+    subst (λ t. IsTooLargeJoin t c.args.part.now c.size-bytes.result) c.self.view_is
+    (subst (λ t. IsTooLargeJoin v t c.size-bytes.result) c.part.view_is over)
 
 pub returns-clause-value : goal.returns-clause-value
 returns-clause-value c =
@@ -28,5 +29,7 @@ returns-clause-value c =
     let w = c.part.inside.entries in
     let made = c.join.new.self in
     let j = c.in-Ok.ensures in
-    let small : content_size made < 1048576 = omega (arith, c.size-bytes.ensures.size, c.if-bytes-ge-SIZE_LIMIT.false) in
-    subst (λ t. IsJoinOf t c.args.part.now made) c.self.view_is (subst (λ t. IsJoinOf v t made) c.part.view_is (is_join v w j.0 j.1 made j.2 made refl small))
+    let small : content_size made < 1048576 =
+    omega (arith, c.size-bytes.ensures.size, c.if-bytes-ge-SIZE_LIMIT.false) in
+    subst (λ t. IsJoinOf t c.args.part.now made) c.self.view_is
+    (subst (λ t. IsJoinOf v t made) c.part.view_is (is_join v w j.0 j.1 made j.2 made refl small))

@@ -12,5 +12,6 @@ pub returns-in_ok-put-in_default : goal.returns-in_ok-put-in_default
 returns-in_ok-put-in_default c =
     let m : c.args.byte ≢ 39 = omega arith in
     let n : c.args.byte ≢ 92 = omega arith in
-    byte_within _ _ _ _ _ _ _ _ _ _ _ _ _ _ c.in_ok-put-in_default.ensures.items c.in_ok-put-in_default.ensures.start c.requires m n
+    byte_within _ _ _ _ _ _ _ _ _ _ _ _ _ _ c.in_ok-put-in_default.ensures.items c.in_ok-put-in_default.ensures.start
+    c.requires m n
     c.in_ok-put-in_default.ensures.state c.in_ok-put-in_default.ensures.word

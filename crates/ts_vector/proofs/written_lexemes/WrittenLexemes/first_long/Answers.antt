@@ -18,7 +18,8 @@ returns-then-lexeme-gt-LONGEST_LEXEME c =
     let n = ap (λ (x : Written). length x.lexeme) at.1 in
     let m = ap length (c.lexeme.ensures (entry [] [])) in
     let long : 2046 < length (get_or v k d).lexeme = omega arith in
-    let start : (get_or v k d).start ≡ c.index.result.now = ap (λ (x : Written). x.start) at.1 ∙ sym (get_or_read f.starts.items k c.index.result.now lt c.index.ensures 0) in
+    let start : (get_or v k d).start ≡ c.index.result.now = ap (λ (x : Written). x.start) at.1
+    ∙ sym (get_or_read f.starts.items k c.index.result.now lt c.index.ensures 0) in
     subst (λ n. FirstLong v n) start (long_here v k d at.0 long c.loop-k.invariant.first)
 
 pub loop-k-preserved : goal.loop-k-preserved
@@ -43,4 +44,5 @@ returns c =
     let v = c.args.self.now in
     let n = drafts_long f.starts.items f.entries c.self.invariant in
     let m = ap length c.self.view_is in
-    subst (All (λ item. length item.lexeme ≤ 2046)) (take_all c.loop-k.k v (omega (arith, c.len-k-end.ensures, f.starts.ok.0))) c.loop-k.invariant.fit
+    subst (All (λ item. length item.lexeme ≤ 2046))
+    (take_all c.loop-k.k v (omega (arith, c.len-k-end.ensures, f.starts.ok.0))) c.loop-k.invariant.fit

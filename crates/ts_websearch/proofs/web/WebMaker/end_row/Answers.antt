@@ -5,7 +5,8 @@ use Rattle.ts_make.specs.Removal.{joint_sketch}
 use Rattle.ts_make.specs.Making.{IsMaking}
 use Rattle.ts_websearch.specs.declared.web.WebMaker.{WebMaker}
 use Rattle.ts_websearch.proofs.Adding.{end_alone, end_joined, ending_fails, rows_behind}
-use Rattle.ts_websearch.proofs.web.WebMaker.end_row.Goals.{then-self+then-self-2+in_ok-join, else-self, else-self-via-then-self+else-self-2, else-self-via-else-self}
+use Rattle.ts_websearch.proofs.web.WebMaker.end_row.Goals.{then-self+then-self-2+in_ok-join, else-self}
+use Rattle.ts_websearch.proofs.web.WebMaker.end_row.Goals.{else-self-via-then-self+else-self-2, else-self-via-else-self}
 use Rattle.ts_websearch.proofs.web.WebMaker.end_row.Goals as goal
 
 pub returns-in_err-join-clause-refused : goal.returns-in_err-join-clause-refused

@@ -8,11 +8,16 @@ loop-line-init c = (
   tt,
   tt,
   subst (λ s. Progress c.args.text.now c.into_iter-line-iterator.result s 0) (sym c.new-stops.ensures)
-      (progress_start c.args.text.now c.into_iter-line-iterator.result (ap lines_rest c.into_iter-line-iterator.ensures.into_iter_gives ∙ c.lines-line-items.ensures.rest)),
+      (progress_start c.args.text.now c.into_iter-line-iterator.result
+      (ap lines_rest c.into_iter-line-iterator.ensures.into_iter_gives ∙ c.lines-line-items.ensures.rest)),
 )
 
 pub overflow_add-number : goal.overflow_add-number
-overflow_add-number c = omega (arith, number_fits c.args.text.now c.loop-line.line-iterator c.next.new.self c.loop-line.stops c.loop-line.number c.in-Some.line c.loop-line.invariant.2 c.in-Some.ensures.steps)
+overflow_add-number c = omega (
+  arith,
+  number_fits c.args.text.now c.loop-line.line-iterator c.next.new.self c.loop-line.stops c.loop-line.number
+      c.in-Some.line c.loop-line.invariant.2 c.in-Some.ensures.steps,
+)
 
 pub returns-in-Err-clause-bad : goal.returns-in-Err-clause-bad
 returns-in-Err-clause-bad c =
@@ -29,4 +34,5 @@ loop-line-preserved c = (
 )
 
 pub returns-clause-stops : goal.returns-clause-stops
-returns-clause-stops c = progress_over c.args.text.now c.loop-line.line-iterator c.next.new.self c.loop-line.stops c.loop-line.number c.loop-line.invariant.2 c.in-None.ensures.steps
+returns-clause-stops c = progress_over c.args.text.now c.loop-line.line-iterator c.next.new.self c.loop-line.stops
+    c.loop-line.number c.loop-line.invariant.2 c.in-None.ensures.steps

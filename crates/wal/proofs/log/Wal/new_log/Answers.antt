@@ -22,12 +22,14 @@ returns-clause-any_moment g c = λ told.
 
 pub returns-clause-made : goal.returns-clause-made
 returns-clause-made g c = λ told.
-    at_ok c.at_start.result (made_new g.D.Disk c.args.disk.now c.create.new.disk (c.requires.unborn told).0 (c.in_ok-create.ensures.stands told) (c.in_ok-create.ensures.pages told))
+    at_ok c.at_start.result (made_new g.D.Disk c.args.disk.now c.create.new.disk (c.requires.unborn told).0
+    (c.in_ok-create.ensures.stands told) (c.in_ok-create.ensures.pages told))
 
 pub returns-clause-reading : goal.returns-clause-reading
 returns-clause-reading g c = λ told.
     let log : List ℕ = (g.D.Disk.seen c.create.new.disk).log in
     let is : log ≡ created = (c.in_ok-create.ensures.stands told).now in
     let long : 18 ≡ length log = sym (ap length is) in
-    IfOk-weaker c.at_start.result (λ wal. (wal.ended ≡ false) × (wal.size ≡ 18) × (end_of wal ≡ 17)) (λ wal. IsReading wal log [])
+    IfOk-weaker c.at_start.result (λ wal. (wal.ended ≡ false) × (wal.size ≡ 18) × (end_of wal ≡ 17))
+    (λ wal. IsReading wal log [])
     (λ wal start. begun wal log start.0 (start.1 ∙ long) start.2 (ap (take 17) is)) c.at_start.ensures.start
