@@ -44,8 +44,8 @@ abbrev pub leaf : Framed Leaf
 leaf = record { page = λ f. f.0; bytes = λ f. f.1 }
 
 -- a journal that is its log; nothing of it is flushed, and each frame has the page of its number
-abbrev pub paper : Journaled Log
-paper = record {
+abbrev pub diary : Journaled Log
+diary = record {
   lawful = λ b. ⊤;
   stands = λ b log. b ≡ log;
   flushed = λ b. 0;
@@ -76,7 +76,7 @@ same_bytes zero f e = let q : (0, zeros page_size) ≡ f = cc e in ap (λ (x : L
 same_bytes (suc zero) f e = let q : (1, zeros page_size) ≡ f = cc e in ap (λ (x : Leaf). x.1) (sym q)
 same_bytes (suc (suc i)) f e = absurd (some-ne-none f (sym e))
 
-empty_is : IsEmptyStore leaf paper frames []
+empty_is : IsEmptyStore leaf diary frames []
 empty_is = record {
   stands = refl;
   length_is = refl;
@@ -89,8 +89,8 @@ empty_is = record {
   placed = λ i k a b e. e;
 }
 
-pub can_lie : CanLie leaf paper frames []
-can_lie = empty_stores_lie leaf paper frames [] empty_is
+pub can_lie : CanLie leaf diary frames []
+can_lie = empty_stores_lie leaf diary frames [] empty_is
 
 -- The three steps, and their records
 
@@ -278,7 +278,7 @@ owes_abort v some_log xids = record {
 
 -- The journal with one record more
 
-bounds : (v : PassState Log) (b : Log) → AreBounds paper v b (record { floor = 0; since = length b; clock = 0 })
+bounds : (v : PassState Log) (b : Log) → AreBounds diary v b (record { floor = 0; since = length b; clock = 0 })
 bounds v b = record {
   flushed = omega arith;
   within = omega arith;
@@ -288,11 +288,11 @@ bounds v b = record {
 }
 
 -- the pass's step is logged, over this log, which it has seen
-may_log : (old v : PassState Log) (b R : Log) (e : Entry) → HasClaimedJournal paper b old v → v.seen ≡ R
+may_log : (old v : PassState Log) (b R : Log) (e : Entry) → HasClaimedJournal diary b old v → v.seen ≡ R
     → IsRecordOf R e.step e.logged → MayLog (view_of v) e.step → Owes (view_of v) e.step
-    → MayGive paper 2 v v.seen b (e.logged ∷ R) (logged e v)
+    → MayGive diary 2 v v.seen b (e.logged ∷ R) (logged e v)
 may_log old v b R e h seen made may owes =
-    may_give paper 2 old v b (e.logged ∷ R) e (record { floor = 0; since = suc (length R); clock = 0 }) h
+    may_give diary 2 old v b (e.logged ∷ R) e (record { floor = 0; since = suc (length R); clock = 0 }) h
     (record {
       stands = ap (λ (S : Log). e.logged ∷ S) (sym seen);
       length_is = ap (λ (S : Log). suc (length S)) (sym seen);
@@ -322,7 +322,7 @@ pub record Stands (key : Snapshot Log) (R : Log) (xids begun : List ℕ) (v : Pa
 
 -- a pass that claims the journal has seen the same log
 pub has_claimed : (key : Snapshot Log) (R b : Log) (xids begun : List ℕ) (v w : PassState Log) → key.value ≡ []
-    → Stands key R xids begun v → HasClaimedJournal paper b v w → Stands key R xids begun w
+    → Stands key R xids begun v → HasClaimedJournal diary b v w → Stands key R xids begun w
 has_claimed key R b xids begun v w opening s h =
     let all = h.alone s.room key s.start in
     let same : h.log ≡ v.seen = all.seen (subst (λ (S : Log). length S ≤ length v.seen) (sym opening) (omega arith)) in
@@ -337,7 +337,7 @@ has_claimed key R b xids begun v w opening s h =
 
 -- and one that gives it back with a record has seen that too
 pub has_given : (key : Snapshot Log) (R b b' : Log) (e : Entry) (xids begun : List ℕ) (v w : PassState Log)
-    → Stands key R xids begun v → HasGivenJournal paper b b' (logged e v) v w
+    → Stands key R xids begun v → HasGivenJournal diary b b' (logged e v) v w
     → Stands key (e.logged ∷ R) (xids_by e.logged.kind e.logged.xid xids)
     (xids_by e.logged.kind e.logged.xid begun) w
 has_given key R b b' e xids begun v w s g = record {
@@ -352,8 +352,8 @@ has_given key R b b' e xids begun v w s g = record {
 }
 
 module _ (key : Snapshot Log) (opening : key.value ≡ []) (v1 v2 v3 v4 : PassState Log) (f0 f1 : Leaf)
-    (laid : HasOpened paper [] (first_state key) v1) (right : HasClaimedWork paper v1 v2)
-    (first : HasClaimed leaf paper 0 0 f0 v2 v3) (second : HasClaimed leaf paper 1 1 f1 v3 v4) where
+    (laid : HasOpened diary [] (first_state key) v1) (right : HasClaimedWork diary v1 v2)
+    (first : HasClaimed leaf diary 0 0 f0 v2 v3) (second : HasClaimed leaf diary 1 1 f1 v3 v4) where
   opened : Stands key [] [] [] v1
   opened = record {
     start = ap (λ (x : PassState Log). x.start) laid.state;
@@ -385,7 +385,7 @@ module _ (key : Snapshot Log) (opening : key.value ≡ []) (v1 v2 v3 v4 : PassSt
             ∙ ap (λ (x : PassState Log). x.room) a ∙ s.room;
       }
 
-  module _ (v5 : PassState Log) (b1 : Log) (has : HasClaimedJournal paper b1 v4 v5) where
+  module _ (v5 : PassState Log) (b1 : Log) (has : HasClaimedJournal diary b1 v4 v5) where
     pub ready : Stands key [] [] [] v5
     ready = has_claimed key [] b1 [] [] v4 v5 opening holding has
 
@@ -421,29 +421,29 @@ module _ (key : Snapshot Log) (opening : key.value ≡ []) (v1 v2 v3 v4 : PassSt
         (sym (has.placed note0 (subst (In note0) (sym noted) (inr (inl refl)))))
 
     -- a Create may be logged
-    pub creates : MayGive paper 2 v5 v5.seen b1 (create_record ∷ []) (logged create v5)
+    pub creates : MayGive diary 2 v5 v5.seen b1 (create_record ∷ []) (logged create v5)
     creates =
         may_log v4 v5 b1 [] create has ready.seen create_is (may_create (view_of v5) ready.seen since_none)
         (owes_create (view_of v5) held since_none)
 
     module _ (v6 v7 : PassState Log) (b2 : Log)
-        (made : HasGivenJournal paper b1 (create_record ∷ []) (logged create v5) v5 v6)
-        (again : HasClaimedJournal paper b2 v6 v7) where
+        (made : HasGivenJournal diary b1 (create_record ∷ []) (logged create v5) v5 v6)
+        (again : HasClaimedJournal diary b2 v6 v7) where
       created : Stands key (create_record ∷ []) [] [] v7
       created =
           has_claimed key (create_record ∷ []) b2 [] [] v6 v7 opening
           (has_given key [] b1 (create_record ∷ []) create [] [] v5 v6 ready made) again
 
       -- and then a Begin
-      pub begins : MayGive paper 2 v7 v7.seen b2 (begin_record ∷ create_record ∷ []) (logged begin v7)
+      pub begins : MayGive diary 2 v7 v7.seen b2 (begin_record ∷ create_record ∷ []) (logged begin v7)
       begins =
           may_log v6 v7 b2 (create_record ∷ []) begin again created.seen begin_is
           (begin_may (view_of v7) begin_step (λ P ok shown. record { kind_is = refl; after_is = refl }))
           (owes_begin (view_of v7) (λ e. (let z : create_record ∷ [] ≡ [] = sym created.seen ∙ e in cc z)))
 
       module _ (v8 v9 : PassState Log) (b3 : Log)
-          (has_begun : HasGivenJournal paper b2 (begin_record ∷ create_record ∷ []) (logged begin v7) v7 v8)
-          (last : HasClaimedJournal paper b3 v8 v9) where
+          (has_begun : HasGivenJournal diary b2 (begin_record ∷ create_record ∷ []) (logged begin v7) v7 v8)
+          (last : HasClaimedJournal diary b3 v8 v9) where
         runs : Stands key (begin_record ∷ create_record ∷ []) (1 ∷ []) (1 ∷ []) v9
         runs =
             has_claimed key (begin_record ∷ create_record ∷ []) b3 (1 ∷ []) (1 ∷ []) v8 v9 opening
@@ -451,7 +451,7 @@ module _ (key : Snapshot Log) (opening : key.value ≡ []) (v1 v2 v3 v4 : PassSt
             (begin_record ∷ create_record ∷ []) begin [] [] v7 v8 created has_begun) last
 
         -- and then an Abort of it
-        pub aborts : MayGive paper 2 v9 v9.seen b3 (abort_record ∷ begin_record ∷ create_record ∷ []) (logged abort v9)
+        pub aborts : MayGive diary 2 v9 v9.seen b3 (abort_record ∷ begin_record ∷ create_record ∷ []) (logged abort v9)
         aborts =
             may_log v8 v9 b3 (begin_record ∷ create_record ∷ []) abort last runs.seen abort_is
             (may_abort (view_of v9) runs.seen runs.xids_are runs.begun_are)

@@ -24,7 +24,7 @@ use Rattle.latch_table.proofs.ClaimFrames.{claims_frame}
 use Rattle.latch_table.proofs.ClaimJournal.{claims_journal}
 use Rattle.latch_table.proofs.ClaimWork.{claims_work}
 use Rattle.latch_table.proofs.GiveJournal.{gives_journal}
-use Rattle.latch_table.proofs.Worked.{Leaf, leaf, paper, frames, can_lie, create_record, begin_record, abort_record}
+use Rattle.latch_table.proofs.Worked.{Leaf, leaf, diary, frames, can_lie, create_record, begin_record, abort_record}
 use Rattle.latch_table.proofs.Worked.{create, begin, abort, has_claimed, has_given, holding, ready, creates, begins}
 use Rattle.latch_table.proofs.Worked.{aborts}
 use Rattle.latch_table.proofs.Views.{changed_at}
@@ -34,7 +34,7 @@ module _ (key : Snapshot Log) (empty : key.value ≡ []) where
   St = State (Slot Leaf Log) (PassState Log)
 
   abbrev Rule : St → Type 0
-  Rule = Kept leaf paper key.value
+  Rule = Kept leaf diary key.value
 
   -- a table that keeps the rule, with these words, of which the first seat has this view
   pub record At (v : PassState Log) (words : List ℕ) : Type 0 where
@@ -68,55 +68,55 @@ module _ (key : Snapshot Log) (empty : key.value ≡ []) where
   start : At (first_state key) (0 ∷ 0 ∷ 0 ∷ 0 ∷ [])
   start = record {
     state = opening (replicate 4 0) (map Frame frames ++ Journal key.value ∷ Away ∷ []) (first_state key);
-    rule = starts leaf paper frames key (subst (CanLie leaf paper frames) (sym empty) can_lie);
+    rule = starts leaf diary frames key (subst (CanLie leaf diary frames) (sym empty) can_lie);
     is = refl;
     at = refl;
   }
 
-  opened_at : (v : PassState Log) × At v (0 ∷ 0 ∷ 0 ∷ 0 ∷ []) × HasOpened paper [] (first_state key) v
+  opened_at : (v : PassState Log) × At v (0 ∷ 0 ∷ 0 ∷ 0 ∷ []) × HasOpened diary [] (first_state key) v
   opened_at =
       let t = start in
-      let r = opens leaf paper key.value 4 0 key t.state t.rule (deep _ _ t refl) t.at (low _ _ t 0 (omega arith)) in (
+      let r = opens leaf diary key.value 4 0 key t.state t.rule (deep _ _ t refl) t.at (low _ _ t 0 (omega arith)) in (
         r.0,
         after _ _ t 0 (λ n. n) [] r.0 r.1 r.3,
-        subst (λ (b : Log). HasOpened paper b (first_state key) r.0) empty (r.4 key refl).0,
+        subst (λ (b : Log). HasOpened diary b (first_state key) r.0) empty (r.4 key refl).0,
       )
 
-  worker_at : (v : PassState Log) × At v (0 ∷ 0 ∷ 0 ∷ 1 ∷ []) × HasClaimedWork paper opened_at.0 v
+  worker_at : (v : PassState Log) × At v (0 ∷ 0 ∷ 0 ∷ 1 ∷ []) × HasClaimedWork diary opened_at.0 v
   worker_at =
       let t = opened_at.1 in
       let room = some_room opened_at.0 (ap (λ (x : PassState Log). x.room) opened_at.2.state) in
-      let r = claims_work leaf paper key.value false 4 0 3 (opened_at.0, []) refl room t.state t.rule
+      let r = claims_work leaf diary key.value false 4 0 3 (opened_at.0, []) refl room t.state t.rule
       (deep _ _ t refl) t.at (low _ _ t 3 (omega arith)) in
       let found = ap (λ (l : List ℕ). get_or l 3 0) t.is in
       (r.0, after _ _ t 3 (λ x. either (eqb x 0) 1 x) [] r.0 r.1 r.3, r.4.1 found)
 
-  first_at : (v : PassState Log) × (f : Leaf) × At v (1 ∷ 0 ∷ 0 ∷ 1 ∷ []) × HasClaimed leaf paper 0 0 f worker_at.0 v
+  first_at : (v : PassState Log) × (f : Leaf) × At v (1 ∷ 0 ∷ 0 ∷ 1 ∷ []) × HasClaimed leaf diary 0 0 f worker_at.0 v
   first_at =
       let t = worker_at.1 in
       let room = some_room worker_at.0
       (ap (λ (x : PassState Log). x.room) worker_at.2.state ∙ ap (λ (x : PassState Log). x.room) opened_at.2.state) in
-      let r = claims_frame leaf paper key.value false 4 0 0 0 (worker_at.0, []) (omega arith) room t.state t.rule
+      let r = claims_frame leaf diary key.value false 4 0 0 0 (worker_at.0, []) (omega arith) room t.state t.rule
       (deep _ _ t refl) t.at (low _ _ t 0 (omega arith)) in
       let told = r.4.0 (ap (λ (l : List ℕ). get_or l 0 0) t.is) in
       (r.0, told.0, after _ _ t 0 (λ x. either (eqb x 0) 1 x) [] r.0 r.1 r.3, told.1)
 
-  second_at : (v : PassState Log) × (f : Leaf) × At v (1 ∷ 2 ∷ 0 ∷ 1 ∷ []) × HasClaimed leaf paper 1 1 f first_at.0 v
+  second_at : (v : PassState Log) × (f : Leaf) × At v (1 ∷ 2 ∷ 0 ∷ 1 ∷ []) × HasClaimed leaf diary 1 1 f first_at.0 v
   second_at =
       let t = first_at.2 in
       let room = some_room first_at.0
       (ap (λ (x : PassState Log). x.room) first_at.3.state ∙ ap (λ (x : PassState Log). x.room) worker_at.2.state
       ∙ ap (λ (x : PassState Log). x.room) opened_at.2.state) in
-      let r = claims_frame leaf paper key.value false 4 0 1 1 (first_at.0, []) (omega arith) room t.state t.rule
+      let r = claims_frame leaf diary key.value false 4 0 1 1 (first_at.0, []) (omega arith) room t.state t.rule
       (deep _ _ t refl) t.at (low _ _ t 1 (omega arith)) in
       let told = r.4.0 (ap (λ (l : List ℕ). get_or l 1 0) t.is) in
       (r.0, told.0, after _ _ t 1 (λ x. either (eqb x 0) 2 x) [] r.0 r.1 r.3, told.1)
 
   -- the journal is claimed
   claim : (v : PassState Log) → v.room ≡ 16 → At v (1 ∷ 2 ∷ 0 ∷ 1 ∷ [])
-      → (w : PassState Log) × (b : Log) × At w (1 ∷ 2 ∷ 1 ∷ 1 ∷ []) × HasClaimedJournal paper b v w
+      → (w : PassState Log) × (b : Log) × At w (1 ∷ 2 ∷ 1 ∷ 1 ∷ []) × HasClaimedJournal diary b v w
   claim v full t =
-      let r = claims_journal leaf paper key.value 4 0 2 (v, []) refl (some_room v full) t.state t.rule
+      let r = claims_journal leaf diary key.value 4 0 2 (v, []) refl (some_room v full) t.state t.rule
       (deep _ _ t refl) t.at (low _ _ t 2 (omega arith)) in
       let told = r.4.0 (ap (λ (l : List ℕ). get_or l 2 0) t.is) in
       (r.0, told.0, after _ _ t 2 (λ x. either (eqb x 0) 1 x) [] r.0 r.1 r.3, told.1)
@@ -124,11 +124,11 @@ module _ (key : Snapshot Log) (empty : key.value ≡ []) where
   -- and given back with a record
   give : (v w : PassState Log) (b b' : Log) (e : Entry) → v.room ≡ 16 → v.fresh ≡ false → v.start ≡ Some key
       → At w (1 ∷ 2 ∷ 1 ∷ 1 ∷ [])
-      → HasClaimedJournal paper b v w → MayGive paper 2 w w.seen b b' (logged e w)
-      → (x : PassState Log) × At x (1 ∷ 2 ∷ 0 ∷ 1 ∷ []) × HasGivenJournal paper b b' (logged e w) w x
+      → HasClaimedJournal diary b v w → MayGive diary 2 w w.seen b b' (logged e w)
+      → (x : PassState Log) × At x (1 ∷ 2 ∷ 0 ∷ 1 ∷ []) × HasGivenJournal diary b b' (logged e w) w x
   give v w b b' e full seen begun t has may =
       let is = ap (λ (y : PassState Log). y.journal) has.state in
-      let r = gives_journal leaf paper key.value (λ y c. logged e y) 4 0 2 (w, (2, Journal b') ∷ []) b' [] refl
+      let r = gives_journal leaf diary key.value (λ y c. logged e y) 4 0 2 (w, (2, Journal b') ∷ []) b' [] refl
       (some_room w (ap (λ (y : PassState Log). y.room) has.state ∙ full))
       (ap (λ (y : PassState Log). y.fresh) has.state ∙ seen)
       (key, ap (λ (y : PassState Log). y.start) has.state ∙ begun) refl (b, is, may)
