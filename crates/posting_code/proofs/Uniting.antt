@@ -235,18 +235,16 @@ item_left start list items out k before last x rest g lt is there =
           (Contains-append_right g.written (items_left before rest) x there) i);
     }
 
--- what is left is written too
-pub merging_ends : (start list items out out' : List ℕ) (k before last : ℕ) (rest : List ℕ)
-    → IsMerging start list items out k before last rest → length items ≤ k
+-- with what is left, the list of the list's items and of the first k others
+pub merged_so_far : (start list items out out' : List ℕ) (k before last : ℕ) (rest : List ℕ)
+    → IsMerging start list items out k before last rest
     → out' ≡ out ++ item_list_from last (items_left before rest)
-    → (bytes : List ℕ) × (out' ≡ start ++ bytes) × IsUnited list items bytes
-merging_ends start list items out out' k before last rest g le e =
-    let both : List ℕ = g.written ++ items_left before rest in
+    → (bytes : List ℕ) × (out' ≡ start ++ bytes) × IsUnited list (take k items) bytes
+merged_so_far start list items out out' k before last rest g e =
     let rises : AreItems (g.written ++ items_left before rest) = AreItemsFrom-join 0 g.written (items_left before rest)
     g.rises (subst (λ n. AreItemsFrom n (items_left before rest)) g.last_is g.left_above) in
     let whole =
-    is_list (item_list (g.written ++ items_left before rest)) (g.written ++ items_left before rest) rises refl in
-    let all : take k items ≡ items = take_all k items le in (
+    is_list (item_list (g.written ++ items_left before rest)) (g.written ++ items_left before rest) rises refl in (
       item_list (g.written ++ items_left before rest),
       e ∙ ap (λ (l : List ℕ). l ++ item_list_from last (items_left before rest)) g.out_is
           ∙ append_assoc start (item_list g.written) (item_list_from last (items_left before rest))
@@ -254,11 +252,20 @@ merging_ends start list items out out' k before last rest g le e =
           ∙ ap (λ (l : List ℕ). start ++ l) (sym (item_list_from-append 0 g.written (items_left before rest))),
       record {
         is_list = whole.0;
-        has = λ i. subst (λ (l : List ℕ). Contains l i ↔ (Contains (items_of list) i ⊎ Contains items i)) (sym whole.1)
-            (subst (λ (l : List ℕ). Contains (g.written ++ items_left before rest) i
-            ↔ (Contains (items_of list) i ⊎ Contains l i)) all (g.has i));
+        has = λ i. subst (λ (l : List ℕ). Contains l i ↔ (Contains (items_of list) i ⊎ Contains (take k items) i))
+            (sym whole.1) (g.has i);
       },
     )
+
+-- what is left is written too
+pub merging_ends : (start list items out out' : List ℕ) (k before last : ℕ) (rest : List ℕ)
+    → IsMerging start list items out k before last rest → length items ≤ k
+    → out' ≡ out ++ item_list_from last (items_left before rest)
+    → (bytes : List ℕ) × (out' ≡ start ++ bytes) × IsUnited list items bytes
+merging_ends start list items out out' k before last rest g le e =
+    let all : take k items ≡ items = take_all k items le in
+    let r = merged_so_far start list items out out' k before last rest g e in
+    (r.0, r.1, subst (λ (l : List ℕ). IsUnited list l r.0) all r.2)
 
 -- ---- whether all are in the list
 

@@ -5,6 +5,7 @@ ghost use Rattle.posting_code.specs.Inner.Searching.{IsFirstFrom, IsLastWithin};
 ghost use Rattle.posting_code.specs.declared.dividing.Keep.TheVariants.{Most};
 ghost use Rattle.posting_code.specs.Dividing.{IsDivision, IsEven, IsCut, AreHalves};
 
+use crate::writing::varbyte_size;
 use page_types::{MOST_BODY_BYTES, next_item};
 
 /// What a split keeps in the first part.
@@ -31,24 +32,6 @@ pub struct Halves<'a> {
 
 /// The most bytes of a leaf's list.
 const MOST_LIST: usize = MOST_BODY_BYTES - 4;
-
-/// How many bytes a number has as a varbyte.
-fn varbyte_size(n: u32) -> usize
-    requires { n < 2 ^ 31 }
-    ensures { result ≡ length (varbyte n) }
-{
-    if n < 128 {
-        1
-    } else if n < 16_384 {
-        2
-    } else if n < 2_097_152 {
-        3
-    } else if n < 268_435_456 {
-        4
-    } else {
-        5
-    }
-}
 
 /// The division of a list after the shortest first part of at least so many bytes.
 fn first_from(list: &[u8], least: usize) -> Option<Halves<'_>>

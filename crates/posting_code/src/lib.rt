@@ -15,6 +15,6 @@ mod writing;
 pub use dividing::{Halves, Keep, cut};
 pub use error::ListError;
 pub use items::Items;
-pub use merging::{lacks, merge};
+pub use merging::{fitting, lacks, merge};
 pub use removing::{ItemSet, without};
 pub use writing::encode_items;

@@ -1,12 +1,12 @@
 // Lists of more items.
-ghost use Rattle.std.specs.Prelude.{◌≡◌, ◌+◌, ◌⊎◌, ◌↔◌, ◌++◌, ◌^◌, ◌<◌, ℕ, List, take, length, OnOk, OnErr, IsTrue};
-ghost use Rattle.std.specs.List.{Contains};
+ghost use Rattle.std.specs.Prelude.{◌≡◌, ◌+◌, ◌↔◌, ◌++◌, ◌^◌, ◌<◌, ◌≤◌, ℕ, List, take, length, OnOk, OnErr, IsTrue};
+ghost use Rattle.std.specs.List.{AllByRecursion, Contains};
 ghost use Rattle.page_types.specs.Items.{varbyte, items_of, item_list_from, AreItems, AreItemsFrom, IsItemList};
-ghost use Rattle.posting_code.specs.Uniting.{IsUnited};
-ghost use Rattle.posting_code.specs.Inner.Places.{IsListAfter, items_left};
+ghost use Rattle.posting_code.specs.Uniting.{IsUnited, TakesFirst};
+ghost use Rattle.posting_code.specs.Inner.Places.{IsListAfter, items_left, TakesItem};
 
 use crate::walking::{Place, skip_below, stands_here};
-use crate::writing::put_varbyte;
+use crate::writing::{put_varbyte, varbyte_size};
 use page_types::next_item;
 use std::alloc::AllocError;
 
@@ -94,4 +94,70 @@ pub fn merge(list: &[u8], items: &[u32], out: &mut Vec<u8>) -> Result<(), AllocE
             Err(e)
         }
     }
+}
+
+/// How many bytes the list of items has that come after the item `last`, where the bytes are their list after another
+/// one.
+fn run_size(before: u32, run: &[u8], last: u32) -> usize
+    requires run { IsListAfter before run.now }
+    requires above { AreItemsFrom last (items_left before run.now) }
+    ensures { result ≡ length (item_list_from last (items_left before run.now)) }
+{
+    match next_item(before, run) {
+        Ok((first, after)) => varbyte_size(first - last) + after.len(),
+        Err(_) => 0,
+    }
+}
+
+/// What the items of a list and others come to, up to a place in the list.
+#[derive(Clone, Copy, Debug)]
+struct Taken {
+    /// The last item of both, or 0.
+    last: u32,
+    /// How many bytes their list has.
+    size: usize,
+}
+
+/// The same with an item more, which is taken where it is not in the list.
+fn with_item(place: Place<'_>, taken: Taken, item: u32) -> Taken
+    requires list { IsListAfter place.last place.rest.now }
+    requires above { AllByRecursion (λ i. item ≤ i) (items_left place.last place.rest.now) }
+    requires rises { taken.last < item }
+    requires item { item < 2 ^ 31 }
+    requires size { taken.size < 2 ^ 63 }
+    ensures { TakesItem (items_left place.entry.last place.entry.rest.now) item
+        taken.last taken.size result.last result.size }
+{
+    if stands_here(place, item) {
+        return taken;
+    }
+    Taken {
+        last: item,
+        size: taken.size + varbyte_size(item - taken.last),
+    }
+}
+
+/// How many of these items, the first of them, a list takes within so many bytes. It takes no memory.
+pub fn fitting(list: &[u8], items: &[u32], most: usize) -> usize
+    requires list { IsItemList list.now }
+    requires items { AreItems items.now }
+    ensures { TakesFirst list.now items.now most result }
+{
+    let mut place = Place {
+        last: 0,
+        rest: list,
+    };
+    let mut taken = Taken { last: 0, size: 0 };
+    for (k, item) in items.iter().enumerate() {
+        let next = skip_below(place, *item);
+        let run = &place.rest[..place.rest.len() - next.rest.len()];
+        let size = taken.size + run_size(place.last, run, taken.last);
+        let last = taken.last.max(next.last);
+        taken = with_item(next, Taken { last, size }, *item);
+        place = next;
+        if taken.size + run_size(place.last, place.rest, taken.last) > most {
+            return k;
+        }
+    }
+    items.len()
 }

@@ -4,6 +4,24 @@ ghost use Rattle.page_types.specs.Items.{varbyte, item_list, AreItems};
 
 use std::alloc::AllocError;
 
+/// How many bytes a number has as a varbyte.
+pub(crate) fn varbyte_size(n: u32) -> usize
+    requires { n < 2 ^ 31 }
+    ensures { result ≡ length (varbyte n) }
+{
+    if n < 128 {
+        1
+    } else if n < 16_384 {
+        2
+    } else if n < 2_097_152 {
+        3
+    } else if n < 268_435_456 {
+        4
+    } else {
+        5
+    }
+}
+
 /// The number as a varbyte. Without memory some of its bytes may be there.
 pub(crate) fn put_varbyte(n: u32, out: &mut Vec<u8>) -> Result<(), AllocError>
     requires { n < 2 ^ 31 }

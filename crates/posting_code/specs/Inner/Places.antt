@@ -1,7 +1,7 @@
 -- Places in an item list.
-use Rattle.std.specs.Prelude.{◌≡◌, ℕ, ◌<◌, List, ◌++◌, ◌≤◌}
-use Rattle.std.specs.List.{AllByRecursion}
-use Rattle.page_types.specs.Items.{item_list_from, AreItemsFrom, differences, sums_from}
+use Rattle.std.specs.Prelude.{◌≡◌, ℕ, ◌+◌, ◌-◌, ◌<◌, List, ◌++◌, ◌≤◌, length}
+use Rattle.std.specs.List.{AllByRecursion, Contains}
+use Rattle.page_types.specs.Items.{varbyte, item_list_from, AreItemsFrom, differences, sums_from}
 use Rattle.page_types.specs.ItemReading.{last_or}
 
 -- the items after a place
@@ -21,3 +21,9 @@ pub record Passes (bound last : ℕ) (rest : List ℕ) (last' : ℕ) (rest' : Li
   pub below : AllByRecursion (λ i. i < bound) front
   pub above : AllByRecursion (λ i. bound ≤ i) (items_left last' rest')
   pub stands : IsListAfter last' rest'
+
+-- an item is taken after the last one, with the bytes of their difference, where it is not among those that are left
+pub data TakesItem (left : List ℕ) (item last size last' size' : ℕ) : Type 0 where
+  there : Contains left item → last' ≡ last → size' ≡ size → TakesItem left item last size last' size'
+  new : (Contains left item → ⊥) → last' ≡ item → size' ≡ size + length (varbyte (item - last))
+      → TakesItem left item last size last' size'

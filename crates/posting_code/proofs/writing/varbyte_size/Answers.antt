@@ -1,6 +1,6 @@
 use Rattle.std.proofs.Common.{sym, arith}
 use Rattle.posting_code.proofs.Sizing.{exact_bytes, one_byte, five_bytes}
-use Rattle.posting_code.proofs.dividing.varbyte_size.Goals as goal
+use Rattle.posting_code.proofs.writing.varbyte_size.Goals as goal
 
 pub returns-then-n-lt128 : goal.returns-then-n-lt128
 returns-then-n-lt128 c = sym (one_byte c.args.n c.if-n-lt128.true)
