@@ -2,6 +2,8 @@ mod KeyOrders
 mod SearchSteps
 mod FoundPlaces
 mod Reached
+mod EntryLists
+mod AddedPages
 mod AdoptedPages
 mod GrownPages
 mod LoggedPages

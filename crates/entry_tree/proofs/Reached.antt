@@ -10,6 +10,7 @@ use Rattle.page_types.specs.Pages.{IsEntry, AreEntries}
 use Rattle.page_types.specs.declared.page.Entry.{Entry}
 use Rattle.page_types.specs.declared.page.EntryChild.{EntryChild}
 use Rattle.page_types.specs.declared.page.Body.TheVariants as body
+use Rattle.core_state.specs.Log.{In}
 use Rattle.entry_tree.specs.Finding.{IsBelow, IsFoundIn}
 use Rattle.entry_tree.specs.Inner.Searching.{keys_of, bounds_of, IsBetween}
 use Rattle.entry_tree.specs.declared.finding.Found.TheVariants as found
@@ -68,6 +69,20 @@ entry_above entries key place j e are w at le not_so =
               w.above place (omega arith) (omega (arith, less, within)) (rises.0, below)
         ]
 
+-- the entries before such a place are less than the key
+pub before_less : (entries : List Entry) (key : List ℕ) (place : ℕ) → IsBetween key (keys_of entries) place place
+    → (e : Entry) → In e (take place entries) → KeyLess e.key key
+before_less entries key place w e on =
+    let r = in_front (λ (d : Entry). d.key) place entries e on in entry_below entries key place r.0 e w r.2 r.1
+
+-- those from the place on are greater, where none is there with the key
+pub from_greater : (entries : List Entry) (key : List ℕ) (place : ℕ) → AreEntries entries
+    → IsBetween key (keys_of entries) place place
+    → ((d : Entry) × (slice_get entries place ≡ Some d) × (d.key ≡ key) → ⊥)
+    → (e : Entry) → In e (drop place entries) → KeyLess key e.key
+from_greater entries key place are w none e on =
+    let r = in_back (λ (d : Entry). d.key) place entries e on in entry_above entries key place r.0 e are w r.2 r.1 none
+
 pub found_absent : (right : ℕ) (high : List ℕ) (entries : List Entry) (key : List ℕ) (place : ℕ)
     → AreEntries entries → IsBetween key (keys_of entries) place place
     → ((d : Entry) × (slice_get entries place ≡ Some d) × (d.key ≡ key) → ⊥) → (IsBelow high key → ⊥)
@@ -76,12 +91,8 @@ found_absent right high entries key place are w none not_so =
     let size : length (keys_of entries) ≡ length entries = length-map entries (λ (d : Entry). d.key) in
     IsFoundIn.absent place high (take place entries) (drop place entries)
     (ap (body.EntryLeaf high) (sym (take-append-drop place entries)))
-    (sym (length-take-le place entries (omega (arith, w.within, size))))
-    (λ e on. let r = in_front (λ (d : Entry). d.key) place entries e on in
-    entry_below entries key place r.0 e w r.2 r.1)
-    (λ e on. let r = in_back (λ (d : Entry). d.key) place entries e on in
-    entry_above entries key place r.0 e are w r.2 r.1 none)
-    (up_to high key not_so)
+    (sym (length-take-le place entries (omega (arith, w.within, size)))) (before_less entries key place w)
+    (from_greater entries key place are w none) (up_to high key not_so)
 
 child_below : (children : List EntryChild) (key : List ℕ) (place j : ℕ) (c : EntryChild)
     → IsBetween key (bounds_of children) place place → IsAt (λ (d : EntryChild). d.bound) children c j → j < place

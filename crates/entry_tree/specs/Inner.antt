@@ -1,2 +1,3 @@
--- How far a search on a page has come.
+-- How far a search on a page has come, and what it has found.
 pub mod Searching
+pub mod Spots

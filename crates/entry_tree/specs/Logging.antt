@@ -1,15 +1,22 @@
--- What is found is on the way of a key, and a root that has grown is what its record asks.
+-- What is found is on the way of a key, and the pages that are made here are what their records ask of pages.
 use Rattle.std.specs.Prelude.{◌≡◌, ℕ, ◌<◌, List, [], ◌∷◌, length}
+use Rattle.std.specs.List.{Contains}
+use Rattle.page_types.specs.Items.{items_of}
 use Rattle.page_types.specs.Encoding.{body_bytes}
+use Rattle.page_types.specs.Views.{entries_in}
 use Rattle.page_types.specs.declared.page.Page.{Page}
+use Rattle.page_types.specs.declared.page.Body.{Body}
 use Rattle.page_types.specs.declared.record.Record.{Record}
 use Rattle.page_types.specs.declared.record.Kind.TheVariants as kind
-use Rattle.core_state.specs.Log.{Pages, changed}
+use Rattle.core_state.specs.Log.{Pages, In, changed}
 use Rattle.core_state.specs.Known.{Known}
-use Rattle.core_state.specs.Changes.{made_with, IsNew}
-use Rattle.core_state.specs.TreeRules.{Toward, IsGrowRootHere, half_body}
+use Rattle.core_state.specs.Changes.{made_with, IsNew, UpTo}
+use Rattle.core_state.specs.TreeRules.{Toward, IsAddItemsHere, IsGrowRootHere, half_body}
 use Rattle.entry_tree.specs.declared.finding.Found.TheVariants as found
+use Rattle.entry_tree.specs.declared.adding.Added.TheVariants as added
 use Rattle.entry_tree.specs.Finding.{IsEntryBody, IsFound}
+use Rattle.entry_tree.specs.Reading.{upper_in}
+use Rattle.entry_tree.specs.Adding.{IsEntryLeaf, list_entry, IsAdded}
 use Rattle.entry_tree.specs.Growing.{root_over, moved_down}
 
 -- the way of a key goes from a page on to the child that is found there
@@ -27,3 +34,24 @@ GrownRootIsLogged =
     → IsGrowRootHere since k r (old ∷ was ∷ [])
     (made_with r (root_over old new).right (root_over old new).body
     ∷ made_with r (moved_down old).right (moved_down old).body ∷ [])
+
+-- no list of the key has the item
+abbrev pub IsNewUnder : Body → List ℕ → ℕ → Type 0
+IsNewUnder content key i =
+    (list : List ℕ) → In (list_entry key list) (entries_in content) → Contains (items_of list) i → ⊥
+
+-- what an AddItems of these items under this key asks of its page
+pub record AddsItems (k : Known) (r : Record) (page : ℕ) (key items : List ℕ) (before after : List Page) : Type 0 where
+  pub here : IsAddItemsHere k r before after
+  pub page_is : here.page ≡ page
+  pub key_is : here.key ≡ key
+  pub items_are : here.items ≡ items
+
+-- a leaf with items added under a key up to its high key, one of which at least is new there, is that
+abbrev pub AddedItemsAreLogged : Type 0
+AddedItemsAreLogged =
+    (k : Known) (r : Record) (page : ℕ) (key items : List ℕ) (old new : Page)
+    → IsEntryLeaf old.body → IsAdded old key items (added.Done new) → UpTo key (upper_in old.body)
+    → ((i : ℕ) × Contains items i × IsNewUnder old.body key i)
+    → r.kind ≡ kind.AddItems → changed r ≡ page ∷ []
+    → AddsItems k r page key items (old ∷ []) (made_with r new.right new.body ∷ [])

@@ -1,10 +1,11 @@
-//! Pages of the entry tree: a key is sought on one, a root grows, and a parent takes the new page of
-//! a page that was split.
+//! Pages of the entry tree: a key is sought on one, items are added under it, a root grows, and a
+//! parent takes the new page of a page that was split.
 //!
 //! The entry tree is a B-tree of keys. A leaf has entries, each a key with its items; an inner page
 //! has children, each with the greatest key that may be below it.
 #![tactic(auto)]
 
+mod adding;
 mod adopting;
 mod finding;
 mod growing;
@@ -12,6 +13,7 @@ mod laws;
 mod pages;
 mod searching;
 
+pub use adding::{Added, add};
 pub use adopting::adopt;
 pub use finding::{Found, find};
 pub use growing::grow;

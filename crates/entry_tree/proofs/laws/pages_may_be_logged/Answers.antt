@@ -1,5 +1,5 @@
-use Rattle.entry_tree.proofs.LoggedPages.{grown_logged}
+use Rattle.entry_tree.proofs.LoggedPages.{grown_logged, added_logged}
 use Rattle.entry_tree.proofs.laws.pages_may_be_logged.Goals as goal
 
 pub returns : goal.returns
-returns c = record { grown = grown_logged }
+returns c = record { grown = grown_logged; added = added_logged }
