@@ -8,7 +8,8 @@ use Rattle.page_types.specs.Numbers.{item_limit}
 use Rattle.page_types.specs.Items.{varbyte, item_list_from, item_list, AreItemsFrom, AreItems, items_of, IsItemList}
 use Rattle.page_types.specs.ItemReading.{item_at, last_or}
 use Rattle.page_types.proofs.Varbytes.{some_bytes}
-use Rattle.posting_code.specs.Dividing.{IsDivision, AreHalves, KeepsHalf, FitsLeaf, IsHalf, IsMost, IsEven, IsCut}
+use Rattle.posting_code.specs.Cutting.{IsHalf, IsMost, IsEven, IsCut}
+use Rattle.posting_code.specs.Dividing.{IsDivision, AreHalves, KeepsHalf, FitsLeaf, list_cutting}
 use Rattle.posting_code.specs.declared.dividing.Keep.TheVariants.{Most}
 use Rattle.posting_code.specs.Inner.Searching.{IsFirstFrom, IsLastWithin}
 use Rattle.posting_code.specs.Inner.Places.{items_left, IsListAfter}
@@ -316,14 +317,14 @@ ends_all most list found last rest left g r =
 from_front : (list f b : List ℕ) → IsItemList list → IsDivision list f b → length (item_list f) ≤ length list
 from_front list f b h d = omega (arith, ap length h.encoding, ap (λ l. length (item_list l)) d.all, front_less f b)
 
-is_half : (list f b : List ℕ) → IsFirstFrom (length list - length list / 2) list f b → IsHalf list f b
+is_half : (list f b : List ℕ) → IsFirstFrom (length list - length list / 2) list f b → IsHalf (list_cutting list) f b
 is_half list f b x = record {
   divides = x.divides;
   keeps = omega (arith, x.reaches);
   least = λ g c d k. x.first g c d (omega (arith, k));
 }
 
-is_most : (list f b : List ℕ) → IsLastWithin 8164 list f b → IsMost list f b
+is_most : (list f b : List ℕ) → IsLastWithin 8164 list f b → IsMost (list_cutting list) f b
 is_most list f b x =
     record { divides = x.divides; fits = omega (arith, x.within); most = λ g c d k. x.last g c d (omega (arith, k)) }
 
@@ -333,12 +334,12 @@ back_size h f b x = ap length (sym x.back_is) ∙ length-append (varbyte h.next)
 
 pub even_half : (list f b : List ℕ) (h : Halves) → IsFirstFrom (length list - length list / 2) list f b
     → AreHalves h f b → 4 + length h.front.now ≤ 8168 → 4 + (length (varbyte h.next) + length h.rest.now) ≤ 8168
-    → IsEven list f b
+    → IsEven (list_cutting list) f b
 even_half list f b h x y p q =
     IsEven.half (is_half list f b x) (omega (arith, p, ap length y.front_is)) (omega (arith, q, back_size h f b y))
 
 pub even_none : (list f b : List ℕ) → ((g c : List ℕ) → IsDivision list g c
-    → length (item_list g) < length list - length list / 2) → IsLastWithin 8164 list f b → IsEven list f b
+    → length (item_list g) < length list - length list / 2) → IsLastWithin 8164 list f b → IsEven (list_cutting list) f b
 even_none list f b none x =
     IsEven.longest (λ g c k p q. absurd (omega (arith, none g c k.divides, k.keeps))) (is_most list f b x)
 
@@ -354,10 +355,10 @@ same_length (x ∷ f) b (y ∷ g) c e n =
 
 pub even_longest : (list f b g c : List ℕ) (h : Halves) → IsFirstFrom (length list - length list / 2) list f b
     → AreHalves h f b → ((4 + length h.front.now ≤ 8168) × (4 + (length (varbyte h.next) + length h.rest.now) ≤ 8168)
-    → ⊥) → IsLastWithin 8164 list g c → IsEven list g c
+    → ⊥) → IsLastWithin 8164 list g c → IsEven (list_cutting list) g c
 even_longest list f b g c h x y large most = IsEven.longest (λ f' b' k p q. other f' b' k p q) (is_most list g c most)
   where
-    other : (f' b' : List ℕ) → IsHalf list f' b' → FitsLeaf f' → FitsLeaf b' → ⊥
+    other : (f' b' : List ℕ) → IsHalf (list_cutting list) f' b' → FitsLeaf f' → FitsLeaf b' → ⊥
     other f' b' k p q =
         let here = is_half list f b x in
         let same = same_length f' b' f b (sym k.divides.all ∙ x.divides.all)
@@ -368,11 +369,11 @@ even_longest list f b g c h x y large most = IsEven.longest (λ f' b' k p q. oth
         )
 
 pub cut_most : (list f b : List ℕ) (h : Halves) → IsLastWithin 8164 list f b → AreHalves h f b
-    → length list - length h.front.now ≤ length h.front.now → IsCut list f b Most
+    → length list - length h.front.now ≤ length h.front.now → IsCut (list_cutting list) f b Most
 cut_most list f b h x y le = IsCut.most (is_most list f b x) (omega (arith, le, ap length y.front_is))
 
 pub less_than_half : (list f b : List ℕ) (h : Halves) → IsLastWithin 8164 list f b → AreHalves h f b
-    → length h.front.now < length list - length h.front.now → (g c : List ℕ) → IsMost list g c → KeepsHalf list g → ⊥
+    → length h.front.now < length list - length h.front.now → (g c : List ℕ) → IsMost (list_cutting list) g c → KeepsHalf list g → ⊥
 less_than_half list f b h x y lt g c m k =
     let here = is_most list f b x in
     let same = same_length g c f b (sym m.divides.all ∙ x.divides.all)
@@ -442,11 +443,11 @@ pub map_none : (P Q : Type 0) (r : Option Halves) → (P → Q) → IfNone r P �
 map_none P Q None f p = f p
 map_none P Q (Some h) f p = tt
 
-even_divides : (list f b : List ℕ) → IsEven list f b → IsDivision list f b
+even_divides : (list f b : List ℕ) → IsEven (list_cutting list) f b → IsDivision list f b
 even_divides list f b (IsEven.half x p q) = x.divides
 even_divides list f b (IsEven.longest n m) = m.divides
 
-pub none_few : (list : List ℕ) (r : Option Halves) → IfSome r (λ h. (f b : List ℕ) × IsEven list f b × AreHalves h f b)
+pub none_few : (list : List ℕ) (r : Option Halves) → IfSome r (λ h. (f b : List ℕ) × IsEven (list_cutting list) f b × AreHalves h f b)
     → IfNone r ((f b : List ℕ) → IsDivision list f b → ⊥) → IsNone r ↔ (length (items_of list) < 2)
 none_few list None some none = (λ e. divides_two list none, λ lt. refl)
 none_few list (Some h) some none =

@@ -1,4 +1,5 @@
 pub mod Inner
 pub mod Faults
 pub mod Uniting
+pub mod Cutting
 pub mod Dividing

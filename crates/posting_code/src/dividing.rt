@@ -3,7 +3,8 @@ ghost use Rattle.std.specs.Prelude.{◌≡◌, ◌+◌, ◌≤◌, ◌<◌, ◌^
 ghost use Rattle.page_types.specs.Items.{varbyte, items_of, item_list, IsItemList};
 ghost use Rattle.posting_code.specs.Inner.Searching.{IsFirstFrom, IsLastWithin};
 ghost use Rattle.posting_code.specs.declared.dividing.Keep.TheVariants.{Most};
-ghost use Rattle.posting_code.specs.Dividing.{IsDivision, IsEven, IsCut, AreHalves};
+ghost use Rattle.posting_code.specs.Cutting.{IsEven, IsCut};
+ghost use Rattle.posting_code.specs.Dividing.{IsDivision, list_cutting, AreHalves};
 
 use crate::writing::varbyte_size;
 use page_types::{MOST_BODY_BYTES, next_item};
@@ -103,7 +104,7 @@ fn both_fit(halves: Halves<'_>) -> bool
 /// The division at half of the bytes where both parts then fit, else after the longest first part that fits.
 fn even(list: &[u8]) -> Option<Halves<'_>>
     requires { IsItemList list.now }
-    ensures some { IfSome result (λ h. (front back : List ℕ) × IsEven list.now front back
+    ensures some { IfSome result (λ h. (front back : List ℕ) × IsEven (list_cutting list.now) front back
         × AreHalves h front back) }
     ensures none { IfNone result ((f b : List ℕ) → IsDivision list.now f b → ⊥) }
 {
@@ -118,7 +119,7 @@ fn even(list: &[u8]) -> Option<Halves<'_>>
 /// The division after the longest first part that fits, where it has at least half of the bytes; else as `even`.
 fn most_or_even(list: &[u8]) -> Option<Halves<'_>>
     requires { IsItemList list.now }
-    ensures some { IfSome result (λ h. (front back : List ℕ) × IsCut list.now front back Most
+    ensures some { IfSome result (λ h. (front back : List ℕ) × IsCut (list_cutting list.now) front back Most
         × AreHalves h front back) }
     ensures none { IsNone result ↔ (length (items_of list.now) < 2) }
 {
@@ -133,7 +134,7 @@ fn most_or_even(list: &[u8]) -> Option<Halves<'_>>
 /// Where a split divides a page's item list. It takes no memory.
 pub fn cut(list: &[u8], keep: Keep) -> Option<Halves<'_>>
     requires { IsItemList list.now }
-    ensures some { IfSome result (λ h. (front back : List ℕ) × IsCut list.now front back keep
+    ensures some { IfSome result (λ h. (front back : List ℕ) × IsCut (list_cutting list.now) front back keep
         × AreHalves h front back) }
     ensures none { IsNone result ↔ (length (items_of list.now) < 2) }
 {

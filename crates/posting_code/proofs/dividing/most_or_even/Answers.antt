@@ -1,5 +1,5 @@
 use Rattle.std.proofs.Common.{arith}
-use Rattle.posting_code.specs.Dividing.{IsCut}
+use Rattle.posting_code.specs.Cutting.{IsCut}
 use Rattle.posting_code.proofs.Cutting.{cut_most, less_than_half, nothing_fits, map_some, none_few}
 use Rattle.posting_code.proofs.dividing.most_or_even.Goals as goal
 use Rattle.posting_code.proofs.dividing.most_or_even.Goals.{in-Some+else-saturating_sub-halves, in_default}
