@@ -37,7 +37,7 @@ bound_trans a b c l m = (
 
 -- ---- two children in place of one
 
-all_here : {A : Type 0} (P : A → Type 0) (front back : List A) (c : A) → AllByRecursion P (front ++ c ∷ back) → P c
+pub all_here : {A : Type 0} (P : A → Type 0) (front back : List A) (c : A) → AllByRecursion P (front ++ c ∷ back) → P c
 all_here P [] back c h = h.0
 all_here P (f ∷ front) back c h = all_here P front back c h.1
 
@@ -99,13 +99,13 @@ many_fields : (children : List EntryChild) → 6 * length children ≤ length (f
 many_fields [] = omega arith
 many_fields (c ∷ children) = omega (arith, fields_more c children, many_fields children)
 
-key_length : (key : List ℕ) → IsKey key → length key ≤ 2047
+pub key_length : (key : List ℕ) → IsKey key → length key ≤ 2047
 key_length [] is = absurd is
 key_length (zero ∷ text) is = omega (arith, is.most)
 key_length (suc zero ∷ rest) is = omega (arith, ap length is)
 key_length (suc (suc b) ∷ rest) is = absurd is
 
-not_none : {A : Type 0} (front : List A) (a : A) (back : List A) → front ++ a ∷ back ≢ []
+pub not_none : {A : Type 0} (front : List A) (a : A) (back : List A) → front ++ a ∷ back ≢ []
 not_none [] a back e = cc
 not_none (f ∷ front) a back e = cc
 

@@ -6,4 +6,7 @@ mod EntryLists
 mod AddedPages
 mod AdoptedPages
 mod GrownPages
+mod SplitParts
+mod SplitRule
+mod SplitPages
 mod LoggedPages

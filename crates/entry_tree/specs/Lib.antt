@@ -4,4 +4,5 @@ pub mod Reading
 pub mod Growing
 pub mod Adding
 pub mod Adopting
+pub mod Splitting
 pub mod Logging

@@ -3,6 +3,7 @@ use Rattle.std.specs.Prelude.{◌≡◌, ℕ, ◌<◌, List, [], ◌∷◌, leng
 use Rattle.std.specs.List.{Contains}
 use Rattle.page_types.specs.Items.{items_of}
 use Rattle.page_types.specs.Encoding.{body_bytes}
+use Rattle.page_types.specs.Pages.{IsPage}
 use Rattle.page_types.specs.Views.{entries_in}
 use Rattle.page_types.specs.declared.page.Page.{Page}
 use Rattle.page_types.specs.declared.page.Body.{Body}
@@ -11,13 +12,15 @@ use Rattle.page_types.specs.declared.record.Kind.TheVariants as kind
 use Rattle.core_state.specs.Log.{Pages, In, changed}
 use Rattle.core_state.specs.Known.{Known}
 use Rattle.core_state.specs.Changes.{made_with, IsNew, UpTo}
-use Rattle.core_state.specs.TreeRules.{Toward, IsAddItemsHere, IsGrowRootHere, half_body}
+use Rattle.core_state.specs.TreeRules.{Toward, IsAddItemsHere, IsGrowRootHere, EntryParent, IsSplitHere, half_body}
+use Rattle.posting_code.specs.declared.dividing.Keep.{Keep}
 use Rattle.entry_tree.specs.declared.finding.Found.TheVariants as found
 use Rattle.entry_tree.specs.declared.adding.Added.TheVariants as added
 use Rattle.entry_tree.specs.Finding.{IsEntryBody, IsFound}
 use Rattle.entry_tree.specs.Reading.{upper_in}
 use Rattle.entry_tree.specs.Adding.{IsEntryLeaf, list_entry, IsAdded}
 use Rattle.entry_tree.specs.Growing.{root_over, moved_down}
+use Rattle.entry_tree.specs.Splitting.{AreParts}
 
 -- the way of a key goes from a page on to the child that is found there
 abbrev pub FoundLeadsDown : Type 0
@@ -55,3 +58,17 @@ AddedItemsAreLogged =
     → ((i : ℕ) × Contains items i × IsNewUnder old.body key i)
     → r.kind ≡ kind.AddItems → changed r ≡ page ∷ []
     → AddsItems k r page key items (old ∷ []) (made_with r new.right new.body ∷ [])
+
+-- the two pages of a page with a large body, and the parent that has taken the new one with the first part's greatest
+-- key, are what a Split asks of its pages
+abbrev pub SplitPagesAreLogged : Type 0
+SplitPagesAreLogged =
+    (k : Known) (r : Record) (since page new parent : ℕ) (keep : Keep) (old was old_parent left right adopted : Page)
+    → IsEntryBody old.body → IsPage old → half_body < length (body_bytes old.body)
+    → AreParts old new keep left right
+    → EntryParent page new (upper_in left.body) old_parent.body adopted.body
+    → adopted ≡ record old_parent { body = adopted.body }
+    → r.kind ≡ kind.Split → changed r ≡ page ∷ new ∷ parent ∷ [] → IsNew k.uses since new
+    → IsSplitHere since k r (old ∷ was ∷ old_parent ∷ [])
+    (made_with r left.right left.body ∷ made_with r right.right right.body
+    ∷ made_with r adopted.right adopted.body ∷ [])

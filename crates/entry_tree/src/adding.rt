@@ -1,5 +1,5 @@
 // Items added under a key of a leaf.
-ghost use Rattle.std.specs.Prelude.{◌≡◌, ◌^◌, ◌<◌, ◌≤◌, ℕ, List, length, IfOk, IfSome, IfNone, Some};
+ghost use Rattle.std.specs.Prelude.{◌≡◌, ◌≤◌, ℕ, List, length, IfOk, IfSome, IfNone, Some};
 ghost use Rattle.std.specs.List.{slice_get};
 ghost use Rattle.page_types.specs.Numbers.{most_body, most_inline};
 ghost use Rattle.page_types.specs.Items.{AreItems, IsItemList};

@@ -1,5 +1,5 @@
-//! Pages of the entry tree: a key is sought on one, items are added under it, a root grows, and a
-//! parent takes the new page of a page that was split.
+//! Pages of the entry tree: a key is sought on one, items are added under it, a page is split, a
+//! root grows, and a parent takes the new page of a page that was split.
 //!
 //! The entry tree is a B-tree of keys. A leaf has entries, each a key with its items; an inner page
 //! has children, each with the greatest key that may be below it.
@@ -12,6 +12,7 @@ mod growing;
 mod laws;
 mod pages;
 mod searching;
+mod splitting;
 
 pub use adding::{Added, add};
 pub use adopting::adopt;
@@ -19,3 +20,4 @@ pub use finding::{Found, find};
 pub use growing::grow;
 pub use laws::{found_leads_down, pages_may_be_logged};
 pub use pages::{first_child, has_room, upper};
+pub use splitting::split;
