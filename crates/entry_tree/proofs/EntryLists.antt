@@ -42,7 +42,7 @@ all_of : {A : Type 0} (P : A → Type 0) (xs : List A) → ((x : A) → In x xs 
 all_of P [] h = tt
 all_of P (x ∷ xs) h = (h x (inl refl), all_of P xs (λ y on. h y (inr on)))
 
-all_in : {A : Type 0} (P : A → Type 0) (xs : List A) (x : A) → AllByRecursion P xs → In x xs → P x
+pub all_in : {A : Type 0} (P : A → Type 0) (xs : List A) (x : A) → AllByRecursion P xs → In x xs → P x
 all_in P [] x h on = absurd on
 all_in P (y ∷ ys) x h (inl e) = subst P (sym e) h.0
 all_in P (y ∷ ys) x h (inr on) = all_in P ys x h.1 on

@@ -24,6 +24,7 @@ use Rattle.entry_tree.specs.Splitting.{body_cutting, AreParts}
 use Rattle.entry_tree.specs.Logging.{SplitPagesAreLogged}
 use Rattle.entry_tree.specs.Inner.Parts.{last_key, left_of, right_of, bytes_before, IsCutPlace}
 use Rattle.entry_tree.proofs.FoundPlaces.{all_there}
+use Rattle.entry_tree.proofs.EntryLists.{all_in}
 use Rattle.entry_tree.proofs.AdoptedPages.{all_here, not_none}
 use Rattle.entry_tree.proofs.SplitParts.{there_is, last_key-take, some_left, halves_only, count_left}
 use Rattle.entry_tree.proofs.SplitParts.{left_listed, right_small}
@@ -50,11 +51,6 @@ rising_drop R zero xs h = h
 rising_drop R (suc n) [] h = tt
 rising_drop R (suc n) (x ∷ xs) h = rising_drop R n xs h.1
 
-all_there_in : {A : Type 0} (P : A → Type 0) (xs : List A) (x : A) → AllByRecursion P xs → In x xs → P x
-all_there_in P [] x h on = absurd on
-all_there_in P (y ∷ ys) x h (inl e) = subst P (sym e) h.0
-all_there_in P (y ∷ ys) x h (inr on) = all_there_in P ys x h.1 on
-
 -- what comes before and after an element of a list that rises
 middle_less : {A : Type 0} (R : A → A → Type 0) (front back : List A) (x f : A) → Rising R (front ++ x ∷ back)
     → In f front → R f x
@@ -64,7 +60,7 @@ middle_less R (g ∷ front) back x f h (inr on) = middle_less R front back x f h
 
 middle_greater : {A : Type 0} (R : A → A → Type 0) (front back : List A) (x b : A) → Rising R (front ++ x ∷ back)
     → In b back → R x b
-middle_greater R [] back x b h on = all_there_in (R x) back b h.0 on
+middle_greater R [] back x b h on = all_in (R x) back b h.0 on
 middle_greater R (g ∷ front) back x b h on = middle_greater R front back x b h.1 on
 
 -- ---- the pages

@@ -5,7 +5,6 @@ use Rattle.std.specs.Prelude.{Some}
 use Rattle.std.specs.List.{slice_get, flat_map}
 use Rattle.std.proofs.lemmas.List.{length-append, length-drop, length-take-le, take-append-drop, take_all}
 use Rattle.std.proofs.lemmas.List.Concat.{flat_map-append}
-use Rattle.std.proofs.lemmas.Option.{same_Some}
 use Rattle.page_types.specs.Pages.{IsPage, IsBody, IsEntry, ArePostings, IsEntryChild}
 use Rattle.page_types.specs.Encoding.{entry_bytes, entry_child_bytes, postings_bytes, high_key_bytes, body_bytes}
 use Rattle.page_types.specs.Encoding.{count_of}
@@ -17,7 +16,8 @@ use Rattle.page_types.specs.declared.page.Postings.TheVariants.{Inline, Root}
 use Rattle.page_types.specs.declared.page.Body.{Body}
 use Rattle.page_types.specs.declared.page.Body.TheVariants as body
 use Rattle.page_types.proofs.BodySizes.{length-key_field, length-entry_bytes, length-entry_child_bytes, length-inline}
-use Rattle.page_types.proofs.BodySizes.{length-root}
+use Rattle.page_types.proofs.BodySizes.{length-root, grows}
+use Rattle.page_types.proofs.Cutting.{take_get}
 use Rattle.core_state.specs.TreeRules.{EntryHalves, Halves, FitsPage, listed_bytes}
 use Rattle.entry_tree.specs.Finding.{IsEntryBody}
 use Rattle.entry_tree.specs.Inner.Parts.{last_key, left_of, right_of, bytes_before, IsCutPlace}
@@ -34,9 +34,7 @@ there_is (x ∷ xs) (suc k) lt = there_is xs k (omega (arith, lt))
 
 pub take_one : {A : Type 0} (xs : List A) (k : ℕ) (x : A) → slice_get xs k ≡ Some x
     → take (suc k) xs ≡ take k xs ++ x ∷ []
-take_one [] k x e = absurd cc
-take_one (y ∷ ys) zero x e = ap (λ z. z ∷ []) (same_Some y x e)
-take_one (y ∷ ys) (suc k) x e = ap (λ zs. y ∷ zs) (take_one ys k x e)
+take_one xs k x e = ap (λ n. take n xs) (sym (add-one k)) ∙ take_get xs k x e
 
 take_front : {A : Type 0} (front back : List A) (x : A)
     → take (suc (length front)) (front ++ x ∷ back) ≡ front ++ x ∷ []
@@ -170,14 +168,8 @@ right_small _ k (IsEntryBody.inner children) = omega (arith, parts_of_map entry_
 one_more : {A : Type 0} (f : A → List ℕ) (xs : List A) (k : ℕ) (x : A) → slice_get xs k ≡ Some x
     → length (flat_map f (take (suc k) xs)) ≡ length (flat_map f (take k xs)) + length (f x)
 one_more f xs k x at =
-    let one : length (flat_map f (x ∷ [])) ≡ length (f x) = omega (arith, length-append (f x) []) in
-    omega (
-      arith,
-      ap (λ ys. length (flat_map f ys)) (take_one xs k x at),
-      ap length (flat_map-append f (take k xs) (x ∷ [])),
-      length-append (flat_map f (take k xs)) (flat_map f (x ∷ [])),
-      one,
-    )
+    let g = grows f xs k (length (flat_map f (take k xs))) x at refl in
+    omega (arith, g.next, ap (λ n. length (flat_map f (take n xs))) (add-one k))
 
 pub next_entry : (whole : Body) (high : List ℕ) (entries : List Entry) (k : ℕ) (e : Entry)
     → whole ≡ body.EntryLeaf high entries → slice_get entries k ≡ Some e
@@ -287,4 +279,4 @@ pub between_more : {A : Type 0} (xs part part' : List A) (from k : ℕ) (x : A) 
     → slice_get xs k ≡ Some x → part' ≡ part ++ x ∷ [] → take from xs ++ part' ≡ take (k + 1) xs
 between_more xs part part' from k x so_far at e =
     ap (λ p. take from xs ++ p) e ∙ sym (append_assoc (take from xs) part (x ∷ [])) ∙ ap (λ l. l ++ x ∷ []) so_far
-    ∙ sym (take_one xs k x at) ∙ ap (λ n. take n xs) (sym (add-one k))
+    ∙ sym (take_get xs k x at)

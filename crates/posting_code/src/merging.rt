@@ -137,7 +137,8 @@ fn with_item(place: Place<'_>, taken: Taken, item: u32) -> Taken
     }
 }
 
-/// How many of these items, the first of them, a list takes within so many bytes. It takes no memory.
+/// How many of these items, the first of them, a list takes within so many bytes; none where it has more already. It
+/// takes no memory.
 pub fn fitting(list: &[u8], items: &[u32], most: usize) -> usize
     requires list { IsItemList list.now }
     requires items { AreItems items.now }
