@@ -1,7 +1,8 @@
 //! Item lists: rising items, written and read.
 //!
-//! A list is the differences of the items, the first from 0, each as a varbyte: seven bits at a time, the low ones first,
-//! the high bit set where more follow, in the fewest bytes. An empty list has no bytes.
+//! A list is the differences of the items, the first from 0, each as a varbyte: seven bits at a
+//! time, the low ones first, the high bit set where more follow, in the fewest bytes. An empty list
+//! has no bytes.
 #![tactic(auto)]
 
 mod dividing;
