@@ -1,0 +1,2 @@
+-- How a search among children ends.
+pub mod Searching

@@ -1,0 +1,11 @@
+//! Pages of posting trees: an item is sought on one.
+//!
+//! A posting tree is a B-tree of the items of one key. A leaf has an item list; an inner page has children, each with
+//! the greatest item that may be below it.
+#![tactic(auto)]
+
+mod finding;
+mod pages;
+
+pub use finding::{Found, find};
+pub use pages::{first_child, has_room, upper};
