@@ -1,3 +1,4 @@
 mod Lists
 mod Members
 mod Reached
+mod LeafPages

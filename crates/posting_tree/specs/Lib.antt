@@ -1,3 +1,4 @@
 pub mod Inner
 pub mod Reading
 pub mod Finding
+pub mod Adding

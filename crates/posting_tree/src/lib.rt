@@ -1,11 +1,13 @@
-//! Pages of posting trees: an item is sought on one.
+//! Pages of posting trees: an item is sought on one, a tree's first leaf is made, and items are added to a leaf.
 //!
 //! A posting tree is a B-tree of the items of one key. A leaf has an item list; an inner page has children, each with
 //! the greatest item that may be below it.
 #![tactic(auto)]
 
+mod adding;
 mod finding;
 mod pages;
 
+pub use adding::{Added, MOST_LIST_BYTES, add, leaf};
 pub use finding::{Found, find};
 pub use pages::{first_child, has_room, upper};
