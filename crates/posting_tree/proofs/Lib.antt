@@ -2,3 +2,4 @@ mod Lists
 mod Members
 mod Reached
 mod LeafPages
+mod InnerPages
