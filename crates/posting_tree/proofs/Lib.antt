@@ -3,3 +3,7 @@ mod Members
 mod Reached
 mod LeafPages
 mod InnerPages
+mod Cuts
+mod LeafParts
+mod InnerParts
+mod SplitPages

@@ -3,4 +3,5 @@ pub mod Reading
 pub mod Finding
 pub mod Adding
 pub mod Growing
+pub mod Splitting
 pub mod Adopting

@@ -1,5 +1,5 @@
-//! Pages of posting trees: an item is sought on one, a tree's first leaf is made, items are added to a leaf, a root
-//! grows, and a parent takes the new page of a page that was split.
+//! Pages of posting trees: an item is sought on one, a tree's first leaf is made, items are added to a leaf, a page is
+//! split, a root grows, and a parent takes the new page of a page that was split.
 //!
 //! A posting tree is a B-tree of the items of one key. A leaf has an item list; an inner page has children, each with
 //! the greatest item that may be below it.
@@ -10,9 +10,11 @@ mod adopting;
 mod finding;
 mod growing;
 mod pages;
+mod splitting;
 
 pub use adding::{Added, MOST_LIST_BYTES, add, leaf};
 pub use adopting::adopt;
 pub use finding::{Found, find};
 pub use growing::grow;
 pub use pages::{first_child, has_room, upper};
+pub use splitting::split;
