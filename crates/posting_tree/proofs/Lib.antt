@@ -7,3 +7,6 @@ mod Cuts
 mod LeafParts
 mod InnerParts
 mod SplitPages
+mod SplitsLogged
+mod LoggedPages
+mod FullPages

@@ -5,3 +5,5 @@ pub mod Adding
 pub mod Growing
 pub mod Splitting
 pub mod Adopting
+pub mod Full
+pub mod Logging

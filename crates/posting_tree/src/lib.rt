@@ -9,6 +9,7 @@ mod adding;
 mod adopting;
 mod finding;
 mod growing;
+mod laws;
 mod pages;
 mod splitting;
 
@@ -16,5 +17,6 @@ pub use adding::{Added, MOST_LIST_BYTES, add, leaf};
 pub use adopting::adopt;
 pub use finding::{Found, find};
 pub use growing::grow;
+pub use laws::{found_leads_down, full_pages_are_large, pages_may_be_logged};
 pub use pages::{first_child, has_room, upper};
 pub use splitting::split;
