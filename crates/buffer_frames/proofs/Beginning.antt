@@ -1,6 +1,6 @@
 -- What the images of a journal's device open to, call by call.
-use Rattle.std.proofs.Common.{◌≡◌, ◌⊎◌, ◌≤◌, Bool, inl, inr, ⊎_elim, ℕ, List, [], ◌∷◌, ◌++◌, refl, sym, ap, subst, ◌∙◌}
-use Rattle.std.proofs.Common.{arith, append-nil, append_assoc, length, length-append}
+use Rattle.std.proofs.Common.{◌≡◌, ◌⊎◌, ◌<◌, ◌≤◌, ◌+◌, Bool, true, false, inl, inr, ⊎_elim, ℕ, List, [], ◌∷◌, ◌++◌}
+use Rattle.std.proofs.Common.{refl, sym, ap, subst, ◌∙◌, arith, append-nil, append_assoc, length, length-append}
 use Rattle.std.proofs.lemmas.Bool.{cases_lt}
 use Rattle.std.proofs.lemmas.List.{reverse-reverse}
 use Rattle.std.specs.Prelude.{Option, Some, None, reverse}
@@ -9,31 +9,42 @@ use Rattle.disk_trait.specs.Runs.{images_now, LeavesOnly}
 use Rattle.disk_trait.specs.declared.device.Disk.{Ghosts as Disk}
 use Rattle.wal.specs.Settled.{Settled}
 use Rattle.wal.specs.Waiting.{waiting, end_of, down_of}
+use Rattle.page_types.specs.Records.{IsRecord}
 use Rattle.page_types.specs.declared.record.Record.{Record}
-use Rattle.core_state.specs.Log.{Log}
+use Rattle.core_state.specs.Log.{Log, xid_bound}
 use Rattle.core_state.specs.History.{History, Begins, IsHistory}
+use Rattle.page_types.specs.declared.record.Kind.{Kind}
+use Rattle.page_types.specs.declared.record.Kind.TheVariants as kind
+use Rattle.core_state.specs.Allowed.{Step}
+use Rattle.core_state.specs.Legal.{IsLegal}
+use Rattle.core_state.specs.States.{StateValue}
 use Rattle.core_state.specs.Stores.{PagesStand}
 use Rattle.core_state.specs.declared.settings.Settings.{Settings}
-use Rattle.core_state.proofs.Histories.{history_one}
-use Rattle.buffer_frames.specs.Beginnings.{KeepsBeginnings, KeepsHistory, HasSince, HasFlushed, StaysSince}
+use Rattle.core_state.proofs.Histories.{history_one, legal_history}
+use Rattle.core_state.proofs.StateTold.{state_told}
+use Rattle.buffer_frames.specs.Beginnings.{BeginsBy, KeepsBeginnings, KeepsHistory, HasSince, HasFlushed}
+use Rattle.buffer_frames.specs.Beginnings.{BeginsOn, BeginsWith, StaysSince}
 use Rattle.buffer_frames.specs.Counted.{AreRecords, IsCounted}
-use Rattle.buffer_frames.specs.Journals.{JournalValue, Stands, CountsEither, MayFollow, logged, commits_in}
+use Rattle.buffer_frames.specs.Drawing.{kind_by, record_of}
+use Rattle.buffer_frames.specs.Journals.{JournalValue, Stands, CountsEither, CanDraw, MayFollow, after_owed, owed_abort}
+use Rattle.buffer_frames.specs.Journals.{with_owed, logged, next_record, commits_in}
 use Rattle.buffer_frames.specs.NoStore.{CountedAreOne}
 use Rattle.buffer_frames.specs.First.{first_record}
-use Rattle.buffer_frames.specs.Opens.{IsLogOf, OpensTo}
+use Rattle.buffer_frames.specs.Opens.{IsEarlyKind, IsLogOf, OpensTo}
+use Rattle.buffer_frames.specs.Inner.LogFiles.{AreEarly}
 use Rattle.buffer_frames.specs.Opening.{IsOpenedAt, opened_log}
 use Rattle.buffer_frames.specs.Inner.Following.{GoesOn, MayGoOn}
 use Rattle.buffer_frames.specs.declared.page_map.PageMap.{PageMap}
-use Rattle.buffer_frames.proofs.OnePageFiles.{stands_beside_more}
-use Rattle.buffer_frames.proofs.OnePageFirst.{first_is_log}
-use Rattle.buffer_frames.proofs.OnePageRoom.{state_is_of}
+use Rattle.buffer_frames.proofs.LogFiles.{stands_beside_more}
+use Rattle.buffer_frames.proofs.FirstLogs.{first_is_log, early_more}
+use Rattle.buffer_frames.proofs.HistoryParts.{commits_told, history_begins}
 use Rattle.buffer_frames.proofs.BatchRecords.{one_batch}
 
 -- beginnings of beginnings
-begins_all : (H : History) → Begins H H
+pub begins_all : (H : History) → Begins H H
 begins_all H = ([], append-nil H)
 
-begins_then : (A B C : History) → Begins A B → Begins B C → Begins A C
+pub begins_then : (A B C : History) → Begins A B → Begins B C → Begins A C
 begins_then A B C a b = (a.0 ++ b.0, sym (append_assoc A a.0 b.0) ∙ ap (λ (H : History). H ++ b.0) a.1 ∙ b.1)
 
 begins_short : (A B : History) → Begins A B → length A ≤ length B
@@ -46,7 +57,7 @@ same_opens one f K H a b =
     (subst (λ (l : Log). IsHistory l H) (sym (one f.log a.records b.records a.counted b.counted)) b.log_of.history)
 
 -- files whose log counts the same records, beside the same pages
-opens_as : CountedAreOne → (old new : Files) (R : Log) (H : History) → OpensTo old H → IsCounted old.log R
+pub opens_as : CountedAreOne → (old new : Files) (R : Log) (H : History) → OpensTo old H → IsCounted old.log R
     → IsCounted new.log R
     → new.pages ≡ old.pages → OpensTo new H
 opens_as one old new R H o was is pages =
@@ -111,21 +122,21 @@ module _ {D : Type 0} (device : Disk D) (one : CountedAreOne) where
       r.all ∙ ap (λ (l : Log). l ++ r.counted) waits ∙ ap (λ (l : Log). s.waits ++ l) counted ∙ sym s.all
 
   -- an image of a flush opens to what an image before it did, or to the whole history
-  flush_image : (j : JournalValue D) (found : History) (k : KeepsBeginnings device j found) → device.tells
-      → down_of j.wal ≡ None → (c : Files) → CountsEither device j.disk k.stands.counted k.log c
-      → (kept : History) × OpensTo c kept × Begins found kept × Begins kept k.history
-  flush_image j found k t up c either =
+  flush_image : (j : JournalValue D) (found H : History) (R : Log) (k : BeginsBy device j found R H) → device.tells
+      → down_of j.wal ≡ None → (c : Files) → CountsEither device j.disk k.stands.counted R c
+      → (kept : History) × OpensTo c kept × Begins found kept × Begins kept H
+  flush_image j found H R k t up c either =
       let b = k.images (device.clock j.disk) either.before k.later (omega arith) either.was in
       let was : IsCounted either.before.log k.stands.counted =
-      image_counted j k.log k.stands t up either.before either.was in
+      image_counted j R k.stands t up either.before either.was in
       ⊎_elim (λ (is : IsCounted c.log k.stands.counted).
       (b.0, opens_as one either.before c k.stands.counted b.0 b.1 was is either.pages, b.2, b.3))
-      (λ (is : IsCounted c.log k.log). (
-        k.history,
-        opens_more one either.before c k.stands.waits k.stands.counted k.log b.0 k.history k.stands.all b.1 was is
+      (λ (is : IsCounted c.log R). (
+        H,
+        opens_more one either.before c k.stands.waits k.stands.counted R b.0 H k.stands.all b.1 was is
             either.pages k.log_of,
         k.goes_on,
-        begins_all k.history,
+        begins_all H,
       ))
       either.log_is
 
@@ -134,32 +145,33 @@ module _ {D : Type 0} (device : Disk D) (one : CountedAreOne) where
   has_flushed j keeps t up found opens m f ge le left =
       let k = keeps t found opens in
       let now : m ≡ device.clock j.disk = omega (arith, ge, le) in
-      let b = k.images m f (omega (arith, k.later, ge)) le left in
-      let is : IsCounted f.log k.stands.counted =
-      image_counted j k.log k.stands t up f (subst (λ (x : ℕ). device.image j.disk x f) now left) in
-      let same : b.1.records ≡ k.stands.counted = one f.log b.1.records k.stands.counted b.1.counted is in
-      let log_of : IsLogOf k.stands.counted b.0 = subst (λ (l : Log). IsLogOf l b.0) same b.1.log_of in
-      let commits : commits_in j.state k.stands.counted ≡ length b.0 =
-      (state_is_of j.state.pages j.state.xid_limit k.stands.counted b.0 log_of).commits_are in
-      (b.0, b.1, omega (arith, k.stands.flushed up, commits))
+      let b = k.begins.images m f (omega (arith, k.begins.later, ge)) le left in
+      let is : IsCounted f.log k.begins.stands.counted =
+      image_counted j k.log k.begins.stands t up f (subst (λ (x : ℕ). device.image j.disk x f) now left) in
+      let same : b.1.records ≡ k.begins.stands.counted = one f.log b.1.records k.begins.stands.counted b.1.counted is in
+      let log_of : IsLogOf k.begins.stands.counted b.0 = subst (λ (l : Log). IsLogOf l b.0) same b.1.log_of in
+      let commits : commits_in j.state k.begins.stands.counted ≡ length b.0 =
+      (state_told j.state.pages j.state.xid_limit k.begins.stands.counted log_of.legal).commits
+      ∙ commits_told k.begins.stands.counted b.0 log_of.history in
+      (b.0, b.1, omega (arith, k.begins.stands.flushed up, commits))
 
   -- an image of a flush has what the images before it had
   reached_image : (j : JournalValue D) (found : History) (k : KeepsBeginnings device j found) → device.tells
-      → down_of j.wal ≡ None → (f : Files) → CountsEither device j.disk k.stands.counted k.log f
+      → down_of j.wal ≡ None → (f : Files) → CountsEither device j.disk k.begins.stands.counted k.log f
       → (c commits : ℕ) → c ≤ device.clock j.disk → HasSince device c commits j.disk
       → (kept : History) × OpensTo f kept × (commits ≤ length kept)
   reached_image j found k t up f either c commits early has =
       let b = has (device.clock j.disk) either.before early (omega arith) either.was in
-      let d = k.images (device.clock j.disk) either.before k.later (omega arith) either.was in
+      let d = k.begins.images (device.clock j.disk) either.before k.begins.later (omega arith) either.was in
       let same : length b.0 ≡ length d.0 = ap length (same_opens one either.before b.0 d.0 b.1 d.1) in
-      let was : IsCounted either.before.log k.stands.counted =
-      image_counted j k.log k.stands t up either.before either.was in
-      ⊎_elim (λ (is : IsCounted f.log k.stands.counted).
-      (b.0, opens_as one either.before f k.stands.counted b.0 b.1 was is either.pages, b.2))
+      let was : IsCounted either.before.log k.begins.stands.counted =
+      image_counted j k.log k.begins.stands t up either.before either.was in
+      ⊎_elim (λ (is : IsCounted f.log k.begins.stands.counted).
+      (b.0, opens_as one either.before f k.begins.stands.counted b.0 b.1 was is either.pages, b.2))
       (λ (is : IsCounted f.log k.log). (
         k.history,
-        opens_more one either.before f k.stands.waits k.stands.counted k.log b.0 k.history k.stands.all b.1 was is
-            either.pages k.log_of,
+        opens_more one either.before f k.begins.stands.waits k.begins.stands.counted k.log b.0 k.history
+            k.begins.stands.all b.1 was is either.pages k.begins.log_of,
         omega (arith, b.2, same, begins_short d.0 k.history d.3),
       ))
       either.log_is
@@ -170,82 +182,101 @@ module _ {D : Type 0} (device : Disk D) (one : CountedAreOne) where
     | inr below ↦ has m f ge below (run.before m f below left)
   ]
 
-  -- no call of the device
-  pub keeps_still : (j j' : JournalValue D) (found : History) (k : KeepsBeginnings device j found) (log : Log)
-      (history : History) → j'.disk ≡ j.disk → j'.opened ≡ j.opened → Stands device j' log → IsLogOf log history
-      → Begins k.history history
-      → KeepsBeginnings device j' found
-  keeps_still j j' found k log history disk opened stands log_of longer =
+  -- no call of the device: the history goes on
+  begins_still : (j j' : JournalValue D) (found H H' : History) (R R' : Log) → BeginsBy device j found R H
+      → j'.disk ≡ j.disk → j'.opened ≡ j.opened → Stands device j' R' → IsLogOf R' H' → Begins H H'
+      → BeginsBy device j' found R' H'
+  begins_still j j' found H H' R R' k disk opened stands log_of longer =
       record {
-        log = log;
-        history = history;
         stands = stands;
         log_of = log_of;
-        goes_on = begins_then found k.history history k.goes_on longer;
+        goes_on = begins_then found H H' k.goes_on longer;
         later = subst (λ (d : D). device.clock d ≤ device.clock j'.disk) (sym opened)
             (subst (λ (d : D). device.clock j.opened ≤ device.clock d) (sym disk) k.later);
         images = λ m c ge le left.
             let b = k.images m c (subst (λ (d : D). device.clock d ≤ m) opened ge)
             (subst (λ (d : D). m ≤ device.clock d) disk le) (subst (λ (d : D). device.image d m c) disk left) in
-            (b.0, b.1, b.2, begins_then b.0 k.history history b.3 longer);
+            (b.0, b.1, b.2, begins_then b.0 H H' b.3 longer);
         before = λ m c le left.
             subst (λ (d : D). device.image d m c) (sym opened) (k.before m c
             (subst (λ (d : D). m ≤ device.clock d) opened le) (subst (λ (d : D). device.image d m c) disk left));
       }
 
-  -- a flush
-  pub keeps_flush : (j j' : JournalValue D) (found : History) (k : KeepsBeginnings device j found) (o : Option ℕ)
-      → device.tells → down_of j.wal ≡ o → ((f : ℕ) → down_of j.wal ≡ Some f → j'.disk ≡ j.disk)
-      → (j'.disk ≡ j.disk) ⊎ LeavesOnly device j.disk j'.disk (CountsEither device j.disk k.stands.counted k.log)
-      → j'.opened ≡ j.opened → Stands device j' k.log → KeepsBeginnings device j' found
-  keeps_flush j j' found k (Some f) t is rests left opened stands =
-      keeps_still j j' found k k.log k.history (rests f is) opened stands k.log_of (begins_all k.history)
-  keeps_flush j j' found k None t up rests (inl same) opened stands =
-      keeps_still j j' found k k.log k.history same opened stands k.log_of (begins_all k.history)
-  keeps_flush j j' found k None t up rests (inr run) opened stands =
+  -- what an image after a flush opens to
+  moved_image : (j j' : JournalValue D) (found H : History) (R : Log) (k : BeginsBy device j found R H) → device.tells
+      → down_of j.wal ≡ None → LeavesOnly device j.disk j'.disk (CountsEither device j.disk k.stands.counted R)
+      → (m : ℕ) (c : Files) → device.clock j.opened ≤ m → m ≤ device.clock j'.disk → device.image j'.disk m c
+      → (kept : History) × OpensTo c kept × Begins found kept × Begins kept H
+  moved_image j j' found H R k t up run m c ge le left = elim (cases_lt (device.clock j.disk) m) [
+    | inl lt ↦ flush_image j found H R k t up c (run.each m c (omega arith) le left)
+    | inr below ↦ k.images m c ge below (run.before m c below left)
+  ]
+
+  -- a flush, in which the history goes on
+  begins_moved : (j j' : JournalValue D) (found H H' : History) (R R' : Log) (k : BeginsBy device j found R H)
+      (o : Option ℕ) → device.tells → down_of j.wal ≡ o → ((f : ℕ) → down_of j.wal ≡ Some f → j'.disk ≡ j.disk)
+      → (j'.disk ≡ j.disk) ⊎ LeavesOnly device j.disk j'.disk (CountsEither device j.disk k.stands.counted R)
+      → j'.opened ≡ j.opened → Stands device j' R' → IsLogOf R' H' → Begins H H' → BeginsBy device j' found R' H'
+  begins_moved j j' found H H' R R' k (Some f) t is rests left opened stands log_of longer =
+      begins_still j j' found H H' R R' k (rests f is) opened stands log_of longer
+  begins_moved j j' found H H' R R' k None t up rests (inl same) opened stands log_of longer =
+      begins_still j j' found H H' R R' k same opened stands log_of longer
+  begins_moved j j' found H H' R R' k None t up rests (inr run) opened stands log_of longer =
       record {
-        log = k.log;
-        history = k.history;
         stands = stands;
-        log_of = k.log_of;
-        goes_on = k.goes_on;
+        log_of = log_of;
+        goes_on = begins_then found H H' k.goes_on longer;
         later =
             subst (λ (d : D). device.clock d ≤ device.clock j'.disk) (sym opened) (omega (arith, k.later, run.later));
-        images = λ m c ge le left. elim (cases_lt (device.clock j.disk) m) [
-          | inl lt ↦ flush_image j found k t up c (run.each m c (omega arith) le left)
-          | inr below ↦ k.images m c (subst (λ (d : D). device.clock d ≤ m) opened ge) below (run.before m c below left)
-        ];
+        images = λ m c ge le left.
+            let late : device.clock j.opened ≤ m = subst (λ (d : D). device.clock d ≤ m) opened ge in
+            let b = moved_image j j' found H R k t up run m c late le left in
+            (b.0, b.1, b.2, begins_then b.0 H H' b.3 longer);
         before = λ m c le left.
             let early : m ≤ device.clock j.opened = subst (λ (d : D). m ≤ device.clock d) opened le in
             subst (λ (d : D). device.image d m c) (sym opened)
             (k.before m c early (run.before m c (omega (arith, early, k.later)) left));
       }
 
-  -- records that are logged
-  pub keeps_logged : ((d : D) → images_now device d (device.seen d))
-      → (j j' : JournalValue D) (records : List Record) (found : History) (k : KeepsBeginnings device j found)
-      → device.tells → down_of j.wal ≡ None → (g : GoesOn device j records)
-      → j'.disk ≡ j.disk → j'.opened ≡ j.opened → ((R : Log) → Stands device j R
-      → Stands device j' (logged j.owes records R)) → KeepsBeginnings device j' found
-  keeps_logged law j j' records found k t up g disk opened stands =
-      let logs : g.log ≡ k.log = stands_one law j g.log k.log g.stands k.stands t up in
+  -- so a call that logs nothing goes on
+  pub begins_on : (j j' : JournalValue D) → j'.opened ≡ j.opened
+      → ((f : ℕ) → down_of j.wal ≡ Some f → j'.disk ≡ j.disk)
+      → (device.tells → (R : Log) (s : Stands device j R)
+      → (j'.disk ≡ j.disk) ⊎ LeavesOnly device j.disk j'.disk (CountsEither device j.disk s.counted R))
+      → ((R : Log) → Stands device j R → Stands device j' R) → BeginsOn device j j'
+  begins_on j j' opened rests moments stands t found R H k =
+      begins_moved j j' found H H R R k (down_of j.wal) t refl rests (moments t R k.stands) opened
+      (stands R k.stands) k.log_of (begins_all H)
+
+  -- a record that is logged
+  keeps_logged : ((d : D) → images_now device d (device.seen d))
+      → (j j' : JournalValue D) (r : Record) (found : History) (k : KeepsBeginnings device j found) → device.tells
+      → down_of j.wal ≡ None → (g : GoesOn device j r)
+      → j'.disk ≡ j.disk → j'.opened ≡ j.opened → ((R : Log) → Stands device j R → Stands device j' (logged j.owes r R))
+      → KeepsBeginnings device j' found
+  keeps_logged law j j' r found k t up g disk opened stands =
+      let logs : g.log ≡ k.log = stands_one law j g.log k.log g.stands k.begins.stands t up in
       let histories : k.history ≡ g.old = history_one g.log k.history g.old
-      (subst (λ (l : Log). IsHistory l k.history) (sym logs) k.log_of.history) g.log_of.history in
-      keeps_still j j' found k (logged j.owes records g.log) g.new disk opened (stands g.log g.stands) g.next
-      (subst (λ (H : History). Begins H g.new) (sym histories) g.longer)
+      (subst (λ (l : Log). IsHistory l k.history) (sym logs) k.begins.log_of.history) g.log_of.history in
+      record {
+        log = logged j.owes r g.log;
+        history = g.new;
+        begins =
+            begins_still j j' found k.history g.new k.log (logged j.owes r g.log) k.begins disk opened
+            (stands g.log g.stands) g.next (subst (λ (H : History). Begins H g.new) (sym histories) g.longer);
+      }
 
   -- an opening
-  pub keeps_opened : ((d : D) → images_now device d (device.seen d)) → device.tells → (settings : Settings) (first : D)
-      (c0 : ℕ) (j : JournalValue D) (map : PageMap) → IsOpenedAt device settings first c0 j map → j.opened ≡ j.disk
-      → (found : History) → OpensTo (device.seen j.opened) found → KeepsBeginnings device j found
-  keeps_opened law t settings first c0 j map o opened found opens =
+  pub begins_opened : ((d : D) → images_now device d (device.seen d)) → device.tells → (settings : Settings) (first : D)
+      (c0 : ℕ) (j : JournalValue D) (map : PageMap) (o : IsOpenedAt device settings first c0 j map)
+      → j.opened ≡ j.disk → (found : History) → OpensTo (device.seen j.opened) found
+      → BeginsBy device j found (opened_log o.counted) found
+  begins_opened law t settings first c0 j map o opened found opens =
       let told = o.told t in
       let here : OpensTo (device.seen j.disk) found = subst (λ (d : D). OpensTo (device.seen d) found) opened opens in
       let seen = told.late (device.clock j.disk) (device.seen j.disk) told.began.1 (omega arith) (law j.disk) in
       let same : here.records ≡ o.counted = one (device.seen j.disk).log here.records o.counted here.counted seen.0 in
       record {
-        log = opened_log o.counted;
-        history = found;
         stands = o.stands;
         log_of = opened_is_log o.counted found (subst (λ (l : Log). IsLogOf l found) same here.log_of);
         goes_on = begins_all found;
@@ -261,12 +292,27 @@ module _ {D : Type 0} (device : Disk D) (one : CountedAreOne) where
         before = λ m c le left. subst (λ (d : D). device.image d m c) (sym opened) left;
       }
 
-  -- the same of a journal's invariant: with no call of the device
+  pub keeps_opened : ((d : D) → images_now device d (device.seen d)) → device.tells → (settings : Settings) (first : D)
+      (c0 : ℕ) (j : JournalValue D) (map : PageMap) → IsOpenedAt device settings first c0 j map → j.opened ≡ j.disk
+      → (found : History) → OpensTo (device.seen j.opened) found → KeepsBeginnings device j found
+  keeps_opened law t settings first c0 j map o opened found opens = record {
+    log = opened_log o.counted;
+    history = found;
+    begins = begins_opened law t settings first c0 j map o opened found opens;
+  }
+
+  -- the same of a journal's invariant: with a call that logs nothing
+  on_keeps : (i i' : JournalValue D) → i'.opened ≡ i.opened → BeginsOn device i i' → KeepsHistory device i
+      → KeepsHistory device i'
+  on_keeps i i' opened on keeps t found opens =
+      let k = keeps t found (subst (λ (d : D). OpensTo (device.seen d) found) opened opens) in
+      record { log = k.log; history = k.history; begins = on t found k.log k.history k.begins }
+
+  -- with no call of the device
   pub still_keeps : (i i' : JournalValue D) → i'.disk ≡ i.disk → i'.opened ≡ i.opened
       → ((R : Log) → Stands device i R → Stands device i' R) → KeepsHistory device i → KeepsHistory device i'
-  still_keeps i i' disk opened stands keeps t found opens =
-      let k = keeps t found (subst (λ (d : D). OpensTo (device.seen d) found) opened opens) in
-      keeps_still i i' found k k.log k.history disk opened (stands k.log k.stands) k.log_of (begins_all k.history)
+  still_keeps i i' disk opened stands =
+      on_keeps i i' opened (begins_on i i' opened (λ f down. disk) (λ t R s. inl disk) stands)
 
   -- with a flush
   pub flush_keeps : (i i' : JournalValue D) → i'.opened ≡ i.opened
@@ -274,20 +320,19 @@ module _ {D : Type 0} (device : Disk D) (one : CountedAreOne) where
       → (device.tells → (R : Log) (s : Stands device i R)
       → (i'.disk ≡ i.disk) ⊎ LeavesOnly device i.disk i'.disk (CountsEither device i.disk s.counted R))
       → ((R : Log) → Stands device i R → Stands device i' R) → KeepsHistory device i → KeepsHistory device i'
-  flush_keeps i i' opened rests moments stands keeps t found opens =
-      let k = keeps t found (subst (λ (d : D). OpensTo (device.seen d) found) opened opens) in
-      keeps_flush i i' found k (down_of i.wal) t refl rests (moments t k.log k.stands) opened (stands k.log k.stands)
+  flush_keeps i i' opened rests moments stands =
+      on_keeps i i' opened (begins_on i i' opened rests moments stands)
 
-  -- and with records that are logged
+  -- and with a record that is logged
   pub logged_keeps : (device.tells → (d : D) → images_now device d (device.seen d))
-      → (i j i' : JournalValue D) (records : List Record) → i ≡ j → down_of j.wal ≡ None → MayGoOn device j records
-      → i'.disk ≡ i.disk → i'.opened ≡ i.opened → ((R : Log) → Stands device i R
-      → Stands device i' (logged i.owes records R)) → KeepsHistory device i → KeepsHistory device i'
-  logged_keeps law i j i' records is up follow disk opened stands keeps t found opens =
+      → (i j i' : JournalValue D) (r : Record) → i ≡ j → down_of j.wal ≡ None → MayGoOn device j r
+      → i'.disk ≡ i.disk → i'.opened ≡ i.opened → ((R : Log) → Stands device i R → Stands device i' (logged i.owes r R))
+      → KeepsHistory device i → KeepsHistory device i'
+  logged_keeps law i j i' r is up follow disk opened stands keeps t found opens =
       let was : OpensTo (device.seen i.opened) found = subst (λ (d : D). OpensTo (device.seen d) found) opened opens in
       let up' : down_of i.wal ≡ None = ap (λ (x : JournalValue D). down_of x.wal) is ∙ up in
-      let go : MayGoOn device i records = subst (λ (x : JournalValue D). MayGoOn device x records) (sym is) follow in
-      keeps_logged (law t) i i' records found (keeps t found was) t up' (go t up' found was) disk opened stands
+      let go : MayGoOn device i r = subst (λ (x : JournalValue D). MayGoOn device x r) (sym is) follow in
+      keeps_logged (law t) i i' r found (keeps t found was) t up' (go t up' found was) disk opened stands
 
   -- what it reads opens to what it opened to on entry
   pub opens_still : ((d : D) → images_now device d (device.seen d)) → device.tells → (settings : Settings) (first : D)
@@ -298,21 +343,97 @@ module _ {D : Type 0} (device : Disk D) (one : CountedAreOne) where
       let seen = told.late (device.clock j.disk) (device.seen j.disk) told.began.1 (omega arith) (law j.disk) in
       opens_as one (device.seen first) (device.seen j.disk) o.counted H opens told.store.counted seen.0 seen.1
 
+-- a kind that is drawn is as early
+pub early_drawn : (s : StateValue) (k : Kind) → IsEarlyKind k → IsEarlyKind (kind_by s k)
+early_drawn s (kind.Commit n) e = tt
+early_drawn s (kind.PlaceHead item serial) e = tt
+early_drawn s kind.Create e = tt
+early_drawn s kind.Begin e = tt
+early_drawn s kind.Abort e = tt
+early_drawn s (kind.PutOverflow item serial) e = tt
+early_drawn s (kind.MarkDeleted item serial) e = tt
+early_drawn s (kind.Checkpoint redo) e = absurd e
+early_drawn s (kind.PutPending item serial) e = absurd e
+early_drawn s (kind.AddRow item serial) e = absurd e
+early_drawn s (kind.LinkPending item serial) e = absurd e
+early_drawn s kind.Shift e = absurd e
+early_drawn s kind.AddItems e = absurd e
+early_drawn s kind.MakeTree e = absurd e
+early_drawn s kind.AddPostings e = absurd e
+early_drawn s kind.GrowRoot e = absurd e
+early_drawn s kind.Split e = absurd e
+early_drawn s kind.RemoveItems e = absurd e
+early_drawn s kind.DeletePost e = absurd e
+early_drawn s (kind.DropPage item serial) e = absurd e
+early_drawn s kind.FreeSlots e = absurd e
+
+-- a log with a record more goes on with a history
+early_owed : (owes : Bool) (R : Log) → AreEarly R → AreEarly (with_owed owes R)
+early_owed true R early = early_more R (owed_abort (1 + length R)) early tt
+early_owed false R early = early
+
+pub owed_begins : (owes : Bool) (R : Log) → (more : Log) × (with_owed owes R ≡ more ++ R)
+owed_begins true R = (owed_abort (1 + length R) ∷ [], refl)
+owed_begins false R = ([], refl)
+
+log_goes_on : (owes : Bool) (r : Record) (R : Log) (H : History) → IsLogOf R H → IsEarlyKind r.kind
+    → IsLegal (logged owes r R)
+    → (H' : History) × IsLogOf (logged owes r R) H' × Begins H H'
+log_goes_on owes r R H l early legal =
+    let h = legal_history (logged owes r R) legal in
+    let o = owed_begins owes R in
+    let b = history_begins (r ∷ o.0) R h.0 (subst (λ (S : Log). IsHistory (r ∷ S) h.0) o.1 h.1) in (
+      h.0,
+      record {
+        legal = legal;
+        history = h.1;
+        early = early_more (with_owed owes R) r (early_owed owes R l.early) early;
+      },
+      subst (λ (K : History). Begins K h.0) (history_one R b.0 H b.1 l.history) b.2,
+    )
+
 module _ {D : Type 0} (device : Disk D) where
-  -- the records that follow a journal follow it after a flush
-  pub may_go_on : (i j mid : JournalValue D) (records : List Record) → i ≡ j → down_of j.wal ≡ None → mid.owes ≡ j.owes
-      → mid.opened ≡ j.opened → ((R : Log) → Stands device j R → Stands device mid R)
-      → KeepsHistory device i → MayFollow device j records → MayGoOn device mid records
-  may_go_on i j mid records is up owes opened stands keeps follow t up' found opens =
+  -- a step that may follow a journal goes on with it after a flush
+  pub may_go_on : (i j mid : JournalValue D) (step : Step) → i ≡ j → down_of j.wal ≡ None → mid.owes ≡ j.owes
+      → mid.state ≡ j.state → mid.opened ≡ j.opened → ((R : Log) → Stands device j R → Stands device mid R)
+      → IsEarlyKind step.kind → KeepsHistory device i → MayFollow device j step → CanDraw mid step
+      → MayGoOn device mid (next_record mid step)
+  may_go_on i j mid step is up owes state opened stands early keeps follow can t up' found opens =
       let all : KeepsHistory device j = subst (λ (x : JournalValue D). KeepsHistory device x) is keeps in
       let k = all t found (subst (λ (d : D). OpensTo (device.seen d) found) opened opens) in
-      let f = follow t up k.log k.history k.stands k.log_of in
-      record {
+      let same : next_record mid step ≡ next_record j step =
+      ap (λ (b : Bool). record_of (after_owed b mid.state) step) owes
+      ∙ ap (λ (v : StateValue). record_of (after_owed j.owes v) step) state in
+      let r : Record = next_record j step in
+      let f = log_goes_on j.owes r k.log k.history k.begins.log_of
+      (early_drawn (after_owed j.owes j.state) step.kind early)
+      (follow t up (let can' : CanDraw j step = record {
+        encoded = subst IsRecord same can.encoded;
+        below = λ e. subst (λ (x : Record). x.xid < xid_bound) same (can.below e);
+      } in can') k.log k.begins.stands k.begins.log_of.legal) in
+      subst (λ (x : Record). GoesOn device mid x) (sym same) (record {
         log = k.log;
         old = k.history;
         new = f.0;
-        stands = stands k.log k.stands;
-        log_of = k.log_of;
-        next = subst (λ (b : Bool). IsLogOf (logged b records k.log) f.0) (sym owes) f.1;
+        stands = stands k.log k.begins.stands;
+        log_of = k.begins.log_of;
+        next = subst (λ (b : Bool). IsLogOf (logged b r k.log) f.0) (sym owes) f.1;
         longer = f.2;
-      }
+      })
+
+module _ {D : Type 0} (device : Disk D) (one : CountedAreOne) where
+  -- a call that logs a record of an early kind, which leaves a legal log legal
+  pub begins_with : (j j' : JournalValue D) (r : Record) → j'.opened ≡ j.opened
+      → ((f : ℕ) → down_of j.wal ≡ Some f → j'.disk ≡ j.disk)
+      → (device.tells → (R : Log) (s : Stands device j R)
+      → (j'.disk ≡ j.disk) ⊎ LeavesOnly device j.disk j'.disk (CountsEither device j.disk s.counted R))
+      → ((R : Log) → Stands device j R → Stands device j' (logged j.owes r R)) → IsEarlyKind r.kind
+      → (device.tells → (R : Log) → Stands device j R → IsLegal R → IsLegal (logged j.owes r R))
+      → BeginsWith device j j' r
+  begins_with j j' r opened rests moments stands early legal t found R H k =
+      let h = log_goes_on j.owes r R H k.log_of early (legal t R k.stands k.log_of.legal) in (
+        h.0,
+        h.2,
+        begins_moved device one j j' found H h.0 R (logged j.owes r R) k (down_of j.wal) t refl rests
+            (moments t R k.stands) opened (stands R k.stands) h.1 h.2,
+      )

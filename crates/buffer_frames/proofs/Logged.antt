@@ -1,53 +1,42 @@
--- Records that wait after those that did.
-use Rattle.std.proofs.Common.{◌≡◌, ◌⊎◌, ◌<◌, ◌+◌, ◌^◌, ℕ, Bool, true, false, cond, List, [], ◌∷◌, ◌++◌, length, refl}
-use Rattle.std.proofs.Common.{sym, ap, subst, ◌∙◌, arith, append_assoc, lit<}
-use Rattle.std.specs.Prelude.{Result, Ok, Err, OnOk, OnErr, reverse, flat_map}
+-- A record that waits after those that did.
+use Rattle.std.proofs.Common.{◌≡◌, ◌⊎◌, inl, inr, suc, ◌<◌, ◌≤◌, ◌+◌, ◌-◌, ◌^◌, ℕ, Bool, true, false, cond, List, []}
+use Rattle.std.proofs.Common.{◌∷◌, ◌++◌, length, refl, sym, ap, subst, ◌∙◌, arith, append_assoc, lit<}
+use Rattle.std.specs.Prelude.{Result, Ok, Err, OnOk, OnErr, IfOk, reverse, flat_map}
 use Rattle.std.specs.List.{AllByRecursion}
-use Rattle.std.proofs.lemmas.List.{reverse-append, reverse-reverse, append-nil}
+use Rattle.std.proofs.lemmas.List.{reverse-append, append-nil}
 use Rattle.std.proofs.lemmas.Grind.{flat_map-append}
 use Rattle.disk_trait.specs.declared.device.Disk.{Ghosts as Disk}
 use Rattle.disk_trait.specs.Runs.{LeavesOnly}
 use Rattle.wal.specs.Settled.{Settled}
-use Rattle.wal.specs.Waiting.{waiting, end_of}
+use Rattle.wal.specs.Waiting.{waiting, end_of, limit_of, end_then, waiting_then, length_with}
+use Rattle.wal.specs.declared.sizes.TheConstants.{FRAME_BYTES}
 use Rattle.page_types.specs.Records.{record_bytes, IsRecord}
 use Rattle.page_types.specs.declared.record.Record.{Record}
-use Rattle.core_state.specs.Log.{Log}
+use Rattle.core_state.specs.Log.{Log, xid_bound}
+use Rattle.core_state.specs.Allowed.{Step}
 use Rattle.core_state.specs.States.{StateValue, state_of, step_of}
 use Rattle.core_state.specs.Stores.{AreRecordsOf}
 use Rattle.core_state.proofs.Bounds.{step_marks, state_bounds}
 use Rattle.buffer_frames.specs.Counted.{AreNumbered}
-use Rattle.buffer_frames.specs.Journals.{JournalValue, Stands, CountsEither, AreNext, logged, with_owed, owed_abort}
-use Rattle.buffer_frames.specs.Journals.{logged_bytes, next_number, commits_in}
-use Rattle.buffer_frames.specs.Logging.{steps_of, IsSameJournal, HasLogged}
+use Rattle.buffer_frames.specs.Journals.{JournalValue, lasting, Stands, CountsEither, IsSpent, CanDraw, after_owed}
+use Rattle.buffer_frames.specs.Journals.{next_record, logged, with_owed, owed_abort, logged_bytes, next_number}
+use Rattle.buffer_frames.specs.Journals.{commits_in}
+use Rattle.buffer_frames.specs.Logging.{IsSameJournal, HasLogged}
+use Rattle.page_types.specs.declared.record.Kind.{Kind}
+use Rattle.core_state.proofs.RunningOnes.{below_or_past}
+use Rattle.buffer_frames.specs.Drawing.{xid_by, drawn_by, record_of}
+use Rattle.buffer_frames.specs.LogCauses.{LogFullWhere}
+use Rattle.buffer_frames.specs.declared.step.Drawn.{Drawn}
+use Rattle.buffer_frames.proofs.DrawnRecords.{owed_number, draws_alike}
+use Rattle.buffer_frames.proofs.LastingStates.{alike_step}
 use Rattle.buffer_frames.specs.declared.log_error.LogError.{LogError}
 
 -- the number of the state's last record is the log's length
-last_number : (s : StateValue) (R : Log) → s ≡ state_of s.pages s.xid_limit R → AreNumbered R → s.records ≡ length R
+pub last_number : (s : StateValue) (R : Log) → lasting s ≡ lasting (state_of s.pages s.xid_limit R) → AreNumbered R
+    → s.records ≡ length R
 last_number s [] is numbered = ap (λ (x : StateValue). x.records) is
 last_number s (r ∷ R) is numbered = ap (λ (x : StateValue). x.records) is
     ∙ ap (λ (t : ℕ × ℕ × ℕ). t.2) (step_marks r (state_of s.pages s.xid_limit R)) ∙ numbered.1
-
--- records that come one after another
-numbered_on : (R : Log) (records : List Record) (n : ℕ) → AreNumbered R → n ≡ 1 + length R → AreNext n records
-    → AreNumbered (reverse records ++ R)
-numbered_on R [] n numbered at next = numbered
-numbered_on R (r ∷ records) n numbered at next =
-    let here : AreNumbered (r ∷ R) = (numbered, omega (arith, next.1, at)) in
-    subst AreNumbered (sym (ap (λ (l : List Record). l ++ R) (reverse-append (r ∷ []) records)
-    ∙ append_assoc (reverse records) (r ∷ []) R))
-    (numbered_on (r ∷ R) records (1 + n) here (omega (arith, at)) next.2)
-
-records_of : (records : List Record) (n : ℕ) → AreNext n records → AllByRecursion IsRecord records
-records_of [] n next = tt
-records_of (r ∷ records) n next = (next.0, records_of records (1 + n) next.2)
-
--- the state of the log after them
-state_on : (p x : ℕ) (R : Log) (records : List Record)
-    → state_of p x (reverse records ++ R) ≡ steps_of records (state_of p x R)
-state_on p x R [] = refl
-state_on p x R (r ∷ records) =
-    ap (state_of p x) (ap (λ (l : List Record). l ++ R) (reverse-append (r ∷ []) records)
-    ∙ append_assoc (reverse records) (r ∷ []) R) ∙ state_on p x (r ∷ R) records
 
 -- some records after others
 both_records : (a b : List ℕ) (rs ss : List Record) → AreRecordsOf a rs → AreRecordsOf b ss
@@ -97,30 +86,136 @@ owed_reverse : (owes : Bool) (n : ℕ) → reverse (owed owes n) ≡ owed owes n
 owed_reverse true n = refl
 owed_reverse false n = refl
 
-module _ {D : Type 0} (device : Disk D) where
-  -- the records with the owed Abort
-  rest_of : JournalValue D → List Record → Log
-  rest_of j records = reverse records ++ owed j.owes (1 + j.state.records)
+-- what the owed Abort makes of states that are alike
+owed_alike : (owes : Bool) (n : ℕ) (s t : StateValue) → lasting s ≡ lasting t
+    → lasting (cond owes (step_of (owed_abort n) s) s) ≡ lasting (cond owes (step_of (owed_abort n) t) t)
+owed_alike true n s t same = alike_step (owed_abort n) s t same
+owed_alike false n s t same = same
 
-  pub logged_stands : (j j' : JournalValue D) (records : List Record) (R : Log) → Stands device j R
-      → HasLogged j j' records → AreNext (next_number j) records → 1 + j.state.records < 2 ^ 64
-      → Stands device j' (logged j.owes records R)
-  logged_stands j j' records R s has next small = record {
+-- turned round, the record comes last
+pub turned_round : (r : Record) (more waits : Log) → reverse more ≡ more
+    → reverse ((r ∷ more) ++ waits) ≡ reverse waits ++ (more ++ r ∷ [])
+turned_round r more waits same =
+    reverse-append (r ∷ more) waits
+    ∙ ap (λ (l : Log). reverse waits ++ l) (reverse-append (r ∷ []) more ∙ ap (λ (l : Log). l ++ r ∷ []) same)
+
+-- a flush leaves the record that is drawn
+pub mid_record : {D : Type 0} (j mid : JournalValue D) (step : Step) → mid.owes ≡ j.owes → mid.state ≡ j.state
+    → next_record mid step ≡ next_record j step
+mid_record j mid step owes state =
+    ap (λ (b : Bool). record_of (after_owed b mid.state) step) owes
+    ∙ ap (λ (v : StateValue). record_of (after_owed j.owes v) step) state
+
+-- the number that the state then has leaves room for more
+pub records_left : {D : Type 0} (j j' : JournalValue D) (r : Record) → HasLogged j j' r → r.number ≡ next_number j
+    → j.state.records + 1 ≤ 2 ^ 63 - 8 → (j'.state.records + 2 ≤ 2 ^ 63) × (0 < j'.state.records)
+records_left j j' r has at most =
+    let is : j'.state.records ≡ r.number = ap (λ (v : StateValue). v.records) has.state
+    ∙ ap (λ (t : ℕ × ℕ × ℕ). t.2) (step_marks r (after_owed j.owes j.state)) in
+    (go j.owes (is ∙ at), omega (arith, is, at))
+  where
+    go : (b : Bool) → j'.state.records ≡ 1 + (j.state.records + cond b 1 0) → j'.state.records + 2 ≤ 2 ^ 63
+    go true e = omega (arith, e, most)
+    go false e = omega (arith, e, most)
+
+-- and its bounds stay
+pub limit_kept : {D : Type 0} (j j' : JournalValue D) (r : Record) → HasLogged j j' r → j.state.xid_limit ≤ xid_bound
+    → j'.state.xid_limit ≤ xid_bound
+limit_kept j j' r has le =
+    let is : j'.state.xid_limit ≡ (after_owed j.owes j.state).xid_limit = ap (λ (v : StateValue). v.xid_limit) has.state
+    ∙ ap (λ (t : ℕ × ℕ × ℕ). t.1) (step_marks r (after_owed j.owes j.state)) in
+    omega (arith, le, is, (draws_alike j.owes j.state).xid_limit)
+
+-- so it leaves what is drawn, what the record makes, and its bytes
+pub mid_drawn : {D : Type 0} (j mid : JournalValue D) (k : Kind) (r : Result Drawn LogError)
+    → mid.owes ≡ j.owes → mid.state ≡ j.state → IfOk r (λ d. d ≡ drawn_by (after_owed mid.owes mid.state) k)
+    → IfOk r (λ d. d ≡ drawn_by (after_owed j.owes j.state) k)
+mid_drawn j mid k r owes state drawn =
+    subst (λ (v : StateValue). IfOk r (λ d. d ≡ drawn_by (after_owed j.owes v) k)) state
+    (subst (λ (b : Bool). IfOk r (λ d. d ≡ drawn_by (after_owed b mid.state) k)) owes drawn)
+
+pub mid_state : {D T : Type 0} (j mid j' : JournalValue D) (step : Step) (r : Result T LogError)
+    → mid.owes ≡ j.owes → mid.state ≡ j.state → OnOk r (HasLogged mid j' (next_record mid step))
+    → OnOk r (j'.state ≡ step_of (next_record j step) (after_owed j.owes j.state))
+mid_state j mid j' step (Err e) owes state has = tt
+mid_state j mid j' step (Ok x) owes state has =
+    has.state
+    ∙ ap (λ (r : Record). step_of r (after_owed mid.owes mid.state)) (mid_record j mid step owes state)
+    ∙ ap (λ (b : Bool). step_of (next_record j step) (after_owed b mid.state)) owes
+    ∙ ap (λ (v : StateValue). step_of (next_record j step) (after_owed j.owes v)) state
+
+pub mid_bytes : {D : Type 0} (j mid : JournalValue D) (step : Step) → mid.owes ≡ j.owes → mid.state ≡ j.state
+    → logged_bytes mid (next_record mid step) ≡ logged_bytes j (next_record j step)
+mid_bytes j mid step owes state =
+    ap (λ (r : Record). logged_bytes mid r) (mid_record j mid step owes state)
+    ∙ ap (λ (b : Bool). cond b (record_bytes (owed_abort (1 + mid.state.records))) []
+    ++ record_bytes (next_record j step)) owes
+    ∙ ap (λ (v : StateValue). cond j.owes (record_bytes (owed_abort (1 + v.records))) []
+    ++ record_bytes (next_record j step)) state
+
+pub mid_can : {D T : Type 0} (j mid : JournalValue D) (step : Step) (r : Result T LogError) → mid.owes ≡ j.owes
+    → mid.state ≡ j.state → OnOk r (CanDraw mid step) → OnOk r (CanDraw j step)
+mid_can j mid step (Err e) owes state can = tt
+mid_can j mid step (Ok x) owes state can =
+    let same = mid_record j mid step owes state in
+    record {
+      encoded = subst IsRecord same can.encoded;
+      below = λ e. subst (λ (r : Record). r.xid < xid_bound) same (can.below e);
+    }
+
+pub mid_full : {D T : Type 0} (j mid : JournalValue D) (step : Step) (r : Result T LogError)
+    → limit_of mid.wal ≡ limit_of j.wal → end_of mid.wal ≡ end_then (end_of j.wal) (waiting j.wal)
+    → waiting mid.wal ≡ waiting_then (waiting j.wal) → mid.owes ≡ j.owes → mid.state ≡ j.state
+    → LogFullWhere (limit_of mid.wal) (end_of mid.wal + FRAME_BYTES + length
+    (waiting mid.wal) + length (logged_bytes mid (next_record mid step)) + 1) r
+    → LogFullWhere (limit_of j.wal) (length_with j.wal (logged_bytes j (next_record j step))) r
+mid_full j mid step r limit end waits owes state full =
+    subst (λ (l : ℕ). LogFullWhere l (length_with j.wal (logged_bytes j (next_record j step))) r) limit
+    (subst (λ (n : ℕ). LogFullWhere (limit_of mid.wal) n r)
+    (ap (λ (b : List ℕ). end_of mid.wal + FRAME_BYTES + length (waiting mid.wal) + length b + 1)
+    (mid_bytes j mid step owes state)
+    ∙ ap (λ (w : List ℕ). end_of mid.wal + FRAME_BYTES + length w + length (logged_bytes j (next_record j step)) + 1)
+    waits
+    ∙ ap (λ (e : ℕ). e + FRAME_BYTES + length (waiting_then (waiting j.wal)) + length
+    (logged_bytes j (next_record j step)) + 1) end) full)
+
+-- a record that is drawn can be
+pub can_draw : {D : Type 0} (j : JournalValue D) (step : Step) → IsRecord (next_record j step)
+    → (IsSpent j.state step.kind → ⊥) → j.state.xid_limit ≤ xid_bound → CanDraw j step
+can_draw j step is spent limit = record {
+  encoded = is;
+  below = λ e. elim (below_or_past (suc (length j.state.fates)) j.state.xid_limit) [
+    | inl lt ↦
+        let xid : (next_record j step).xid ≡ suc (length (after_owed j.owes j.state).fates) =
+        ap (λ (k : Kind). xid_by (after_owed j.owes j.state) k step.xid) e in
+        omega (arith, xid, (draws_alike j.owes j.state).fates, lt, limit)
+    | inr past ↦ absurd (spent (e, past))
+  ];
+}
+
+module _ {D : Type 0} (device : Disk D) where
+  pub logged_stands : (j j' : JournalValue D) (r : Record) (R : Log) → Stands device j R → HasLogged j j' r → IsRecord r
+      → r.number ≡ next_number j → 1 + j.state.records < 2 ^ 64 → Stands device j' (logged j.owes r R)
+  logged_stands j j' r R s has is at small = record {
     counted = s.counted;
-    waits = (reverse records ++ more) ++ s.waits;
-    all = log_is ∙ ap (λ (l : Log). reverse records ++ (more ++ l)) s.all ∙ parts;
-    numbered = subst AreNumbered (sym log_is) numbered;
+    waits = (r ∷ more) ++ s.waits;
+    all = log_is ∙ ap (λ (l : Log). r ∷ (more ++ l)) s.all
+        ∙ ap (λ (l : Log). r ∷ l) (sym (append_assoc more s.waits s.counted));
+    numbered = subst AreNumbered (sym log_is) (
+      numbered,
+      at ∙ ap (λ (n : ℕ). 1 + (n + cond j.owes 1 0)) last ∙ owed_length j.owes (1 + j.state.records) R ∙ omega arith,
+    );
     state = states;
     flushed = λ up. has.flushed ∙ s.flushed (sym has.down ∙ up)
         ∙ ap (λ (t : ℕ × ℕ). length (state_of t.0 t.1 s.counted).deleted) (sym bounds);
-    waiting_is =
-        λ up. subst (λ (b : List ℕ). AreRecordsOf b (reverse ((reverse records ++ more) ++ s.waits))) (sym has.waits)
-        (subst (AreRecordsOf (waiting j.wal ++ logged_bytes j records)) (sym turned) (both_records (waiting j.wal)
-        (logged_bytes j records) (reverse s.waits) (more ++ records) (s.waiting_is (sym has.down ∙ up))
-        (both_records (cond j.owes (record_bytes (owed_abort (1 + j.state.records))) [])
-        (flat_map record_bytes records) more records (owed_records j.owes (1 + j.state.records) small) (record {
-          each = records_of records (next_number j) next;
-          encoded = refl;
+    waiting_is = λ up. subst (λ (b : List ℕ). AreRecordsOf b (reverse ((r ∷ more) ++ s.waits))) (sym has.waits)
+        (subst (AreRecordsOf (waiting j.wal ++ logged_bytes j r))
+        (sym (turned_round r more s.waits (owed_reverse j.owes (1 + j.state.records)))) (both_records
+        (waiting j.wal) (logged_bytes j r) (reverse s.waits) (more ++ r ∷ []) (s.waiting_is (sym has.down ∙ up))
+        (both_records (cond j.owes (record_bytes (owed_abort (1 + j.state.records))) []) (record_bytes r) more (r ∷ [])
+        (owed_records j.owes (1 + j.state.records) small) (record {
+          each = (is, tt);
+          encoded = sym (append-nil (record_bytes r));
         }))));
     settled = λ t up.
         let was = s.settled t (sym has.down ∙ up) in (
@@ -137,44 +232,35 @@ module _ {D : Type 0} (device : Disk D) where
       more : List Record
       more = owed j.owes (1 + j.state.records)
 
-      log_is : logged j.owes records R ≡ reverse records ++ (more ++ R)
-      log_is = ap (λ (l : Log). reverse records ++ l)
-          (with_owed_is j.owes R ∙ ap (λ (n : ℕ). owed j.owes (1 + n) ++ R) (sym last))
+      log_is : logged j.owes r R ≡ r ∷ (more ++ R)
+      log_is = ap (λ (l : Log). r ∷ l) (with_owed_is j.owes R ∙ ap (λ (n : ℕ). owed j.owes (1 + n) ++ R) (sym last))
 
-      parts : reverse records ++ (more ++ (s.waits ++ s.counted)) ≡ ((reverse records ++ more) ++ s.waits) ++ s.counted
-      parts = simp append_assoc
+      numbered : AreNumbered (more ++ R)
+      numbered =
+          subst (λ (n : ℕ). AreNumbered (owed j.owes (1 + n) ++ R)) (sym last) (owed_numbered j.owes R s.numbered)
 
-      numbered : AreNumbered (reverse records ++ (more ++ R))
-      numbered = numbered_on (more ++ R) records (next_number j)
-          (subst (λ (n : ℕ). AreNumbered (owed j.owes (1 + n) ++ R)) (sym last) (owed_numbered j.owes R s.numbered))
-          (ap (λ (n : ℕ). 1 + (n + cond j.owes 1 0)) last ∙ owed_length j.owes (1 + j.state.records) R) next
+      now : (p x : ℕ) → state_of p x (logged j.owes r R)
+          ≡ step_of r (cond j.owes (step_of (owed_abort (1 + j.state.records)) (state_of p x R)) (state_of p x R))
+      now p x = ap (state_of p x) log_is ∙ ap (step_of r) (owed_state j.owes p x (1 + j.state.records) R)
 
-      turned : reverse ((reverse records ++ more) ++ s.waits) ≡ reverse s.waits ++ (more ++ records)
-      turned =
-          reverse-append (reverse records ++ more) s.waits
-          ∙ ap (λ (l : Log). reverse s.waits ++ l)
-          (reverse-append (reverse records) more ∙ ap (λ (l : Log). l ++ reverse (reverse records))
-          (owed_reverse j.owes (1 + j.state.records)) ∙ ap (λ (l : Log). more ++ l) (reverse-reverse records))
-
-      now : (p x : ℕ) → state_of p x (logged j.owes records R) ≡ steps_of records (cond j.owes
-          (step_of (owed_abort (1 + j.state.records)) (state_of p x R)) (state_of p x R))
-      now p x = ap (state_of p x) log_is ∙ state_on p x (more ++ R) records
-          ∙ ap (steps_of records) (owed_state j.owes p x (1 + j.state.records) R)
-
-      here : j'.state ≡ state_of j.state.pages j.state.xid_limit (logged j.owes records R)
-      here = has.state ∙ ap
-          (λ (v : StateValue). steps_of records (cond j.owes (step_of (owed_abort (1 + j.state.records)) v) v)) s.state
-          ∙ sym (now j.state.pages j.state.xid_limit)
+      here : lasting j'.state ≡ lasting (state_of j.state.pages j.state.xid_limit (logged j.owes r R))
+      here =
+          ap lasting has.state
+          ∙ alike_step r (after_owed j.owes j.state) (cond j.owes (step_of (owed_abort (1 + j.state.records))
+          (state_of j.state.pages j.state.xid_limit R)) (state_of j.state.pages j.state.xid_limit R))
+          (owed_alike j.owes (1 + j.state.records) j.state (state_of j.state.pages j.state.xid_limit R) s.state)
+          ∙ ap lasting (sym (now j.state.pages j.state.xid_limit))
 
       bounds : let t : ℕ × ℕ = (j'.state.pages, j'.state.xid_limit) in t ≡ (j.state.pages, j.state.xid_limit)
       bounds =
-          let b = state_bounds j.state.pages j.state.xid_limit (logged j.owes records R) in
+          let b = state_bounds j.state.pages j.state.xid_limit (logged j.owes r R) in
           let p : j'.state.pages ≡ j.state.pages = ap (λ (v : StateValue). v.pages) here ∙ b.0 in
           let x : j'.state.xid_limit ≡ j.state.xid_limit = ap (λ (v : StateValue). v.xid_limit) here ∙ b.1 in
           cc
 
-      states : j'.state ≡ state_of j'.state.pages j'.state.xid_limit (logged j.owes records R)
-      states = subst (λ (t : ℕ × ℕ). j'.state ≡ state_of t.0 t.1 (logged j.owes records R)) (sym bounds) here
+      states : lasting j'.state ≡ lasting (state_of j'.state.pages j'.state.xid_limit (logged j.owes r R))
+      states =
+          subst (λ (t : ℕ × ℕ). lasting j'.state ≡ lasting (state_of t.0 t.1 (logged j.owes r R))) (sym bounds) here
 
   pub same_stands : (j j' : JournalValue D) (R : Log) → Stands device j R → IsSameJournal j j' → Stands device j' R
   same_stands j j' R s same = record {
@@ -182,7 +268,7 @@ module _ {D : Type 0} (device : Disk D) where
     waits = s.waits;
     all = s.all;
     numbered = s.numbered;
-    state = subst (λ (v : StateValue). v ≡ state_of v.pages v.xid_limit R) (sym same.state) s.state;
+    state = subst (λ (v : StateValue). lasting v ≡ lasting (state_of v.pages v.xid_limit R)) (sym same.state) s.state;
     flushed = λ up. same.flushed ∙ s.flushed (sym same.down ∙ up)
         ∙ ap (λ (v : StateValue). commits_in v s.counted) (sym same.state);
     waiting_is = λ up. subst (λ (b : List ℕ). AreRecordsOf b (reverse s.waits)) (sym same.waits)
@@ -196,38 +282,34 @@ module _ {D : Type 0} (device : Disk D) where
         );
   }
 
-  -- what a call of log does, after a flush where much waits
-  pub log_stands : (j mid j' : JournalValue D) (records : List Record) (r : Result (Unit {0}) LogError)
-      → OnOk r (HasLogged mid j' records) → mid.owes ≡ j.owes → mid.state ≡ j.state → AreNext (next_number j) records
-      → 1 + j.state.records < 2 ^ 64
+  -- what a call does, after a flush where much waits
+  pub log_stands : {T : Type 0} (j mid j' : JournalValue D) (step : Step) (r : Result T LogError)
+      → OnOk r (HasLogged mid j' (next_record mid step)) → OnOk r (CanDraw mid step) → mid.owes ≡ j.owes
+      → mid.state ≡ j.state → 1 + j.state.records < 2 ^ 64
       → ((R : Log) → Stands device j R → Stands device mid R) → (R : Log) → Stands device j R
-      → OnOk r (Stands device j' (logged j.owes records R))
-  log_stands j mid j' records (Err e) has owes state next small stands R s = tt
-  log_stands j mid j' records (Ok x) has owes state next small stands R s =
-      subst (λ (b : Bool). Stands device j' (logged b records R)) owes
-      (logged_stands mid j' records R (stands R s) has (subst (λ (n : ℕ). AreNext n records)
-      (sym (let o : mid.owes ≡ j.owes = owes in let v : mid.state ≡ j.state = state in next_same o v)) next)
-      (subst (λ (v : StateValue). 1 + v.records < 2 ^ 64) (sym state) small))
-    where
-      next_same : mid.owes ≡ j.owes → mid.state ≡ j.state → next_number mid ≡ next_number j
-      next_same o v = ap (λ (x : StateValue). 1 + (x.records + cond mid.owes 1 0)) v
-          ∙ ap (λ (b : Bool). 1 + (j.state.records + cond b 1 0)) o
+      → OnOk r (Stands device j' (logged j.owes (next_record j step) R))
+  log_stands j mid j' step (Err e) has can owes state small stands R s = tt
+  log_stands j mid j' step (Ok x) has can owes state small stands R s =
+      subst (λ (r : Record). Stands device j' (logged j.owes r R)) (mid_record j mid step owes state)
+      (subst (λ (b : Bool). Stands device j' (logged b (next_record mid step) R)) owes
+      (logged_stands mid j' (next_record mid step) R (stands R s) has can.encoded (owed_number mid.owes mid.state)
+      (subst (λ (v : StateValue). 1 + v.records < 2 ^ 64) (sym state) small)))
 
-  pub log_refused : (j mid j' : JournalValue D) (r : Result (Unit {0}) LogError) → OnErr r (IsSameJournal mid j')
+  pub log_refused : {T : Type 0} (j mid j' : JournalValue D) (r : Result T LogError) → OnErr r (IsSameJournal mid j')
       → ((R : Log) → Stands device j R → Stands device mid R) → (R : Log) → Stands device j R
       → OnErr r (Stands device j' R)
   log_refused j mid j' (Ok x) same stands R s = tt
   log_refused j mid j' (Err e) same stands R s = same_stands mid j' R (stands R s) same
 
-  log_disk : (mid j' : JournalValue D) (records : List Record) (r : Result (Unit {0}) LogError)
-      → OnOk r (HasLogged mid j' records) → OnErr r (IsSameJournal mid j') → j'.disk ≡ mid.disk
-  log_disk mid j' records (Ok x) has same = has.disk
-  log_disk mid j' records (Err e) has same = same.disk
+  log_disk : {T : Type 0} (mid j' : JournalValue D) (rec : Record) (r : Result T LogError)
+      → OnOk r (HasLogged mid j' rec) → OnErr r (IsSameJournal mid j') → j'.disk ≡ mid.disk
+  log_disk mid j' rec (Ok x) has same = has.disk
+  log_disk mid j' rec (Err e) has same = same.disk
 
-  pub log_moments : (j mid j' : JournalValue D) (records : List Record) (r : Result (Unit {0}) LogError)
-      → OnOk r (HasLogged mid j' records) → OnErr r (IsSameJournal mid j') → (R : Log) (s : Stands device j R)
+  pub log_moments : {T : Type 0} (j mid j' : JournalValue D) (rec : Record) (r : Result T LogError)
+      → OnOk r (HasLogged mid j' rec) → OnErr r (IsSameJournal mid j') → (R : Log) (s : Stands device j R)
       → (mid.disk ≡ j.disk) ⊎ LeavesOnly device j.disk mid.disk (CountsEither device j.disk s.counted R)
       → (j'.disk ≡ j.disk) ⊎ LeavesOnly device j.disk j'.disk (CountsEither device j.disk s.counted R)
-  log_moments j mid j' records r has same R s left =
+  log_moments j mid j' rec r has same R s left =
       subst (λ (d : D). (d ≡ j.disk) ⊎ LeavesOnly device j.disk d (CountsEither device j.disk s.counted R))
-      (sym (log_disk mid j' records r has same)) left
+      (sym (log_disk mid j' rec r has same)) left

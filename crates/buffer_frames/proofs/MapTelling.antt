@@ -32,7 +32,7 @@ in_stands p (c ∷ cs) i = elim i [
     either false d e = e
 
 -- a page is touched where some record changes it
-touched_from : (R : Log) (p : ℕ) → ChangesFrom 0 R p → touches R p ≡ true
+pub touched_from : (R : Log) (p : ℕ) → ChangesFrom 0 R p → touches R p ≡ true
 touched_from [] p t = absurd t.1
 touched_from (r ∷ R) p t = elim t.1 [
   | inl same ↦ ap (λ b. b || touches R p) (in_stands p r.changes (subst_in same))
@@ -46,7 +46,7 @@ touched_from (r ∷ R) p t = elim t.1 [
     either true d e = refl
     either false d e = e
 
-from_touched : (R : Log) (p : ℕ) → touches R p ≡ true → ChangesFrom 0 R p
+pub from_touched : (R : Log) (p : ℕ) → touches R p ≡ true → ChangesFrom 0 R p
 from_touched [] p e = absurd cc
 from_touched (r ∷ R) p e = elim (either (stands p r.changes) (touches R p) e) [
   | inl now ↦ (r, inl refl, omega arith, stands_in p r.changes now)

@@ -15,13 +15,13 @@ use Rattle.wal.specs.declared.log.Wal.{Wal}
 use Rattle.page_types.specs.Records.{record_bytes}
 use Rattle.core_state.specs.Log.{Log}
 use Rattle.core_state.specs.History.{History}
-use Rattle.core_state.specs.States.{StateValue, state_of, step_of}
+use Rattle.core_state.specs.States.{StateValue, state_of, step_of, run_started}
 use Rattle.core_state.specs.Stores.{AreRecordsOf, PagesStand}
 use Rattle.core_state.specs.declared.settings.Settings.{Settings}
 use Rattle.core_state.proofs.Bounds.{step_marks, state_bounds}
 use Rattle.buffer_frames.specs.Counted.{IsCounted}
 use Rattle.buffer_frames.specs.First.{first_record}
-use Rattle.buffer_frames.specs.Journals.{Stands}
+use Rattle.buffer_frames.specs.Journals.{lasting, Stands}
 use Rattle.buffer_frames.specs.NoStore.{IsStoreOf}
 use Rattle.buffer_frames.specs.Opens.{OpensTo, StartedFrom, OpensAsBefore}
 use Rattle.buffer_frames.specs.Opening.{IsOpenedAt, IsToldOpened}
@@ -140,7 +140,7 @@ module _ {D : Type 0} (device : Disk D) where
         waits = [];
         all = refl;
         numbered = read.numbered;
-        state = state;
+        state = ap lasting state;
         flushed = λ up. count ∙ ap (λ (s : StateValue). length s.deleted) state;
         waiting_is = λ up. subst (λ (w : List ℕ). AreRecordsOf w []) (sym read.fresh.none)
             (record { each = tt; encoded = refl });
@@ -164,8 +164,8 @@ module _ {D : Type 0} (device : Disk D) where
         waits = first_record ∷ [];
         all = refl;
         numbered = (tt, refl);
-        state = now ∙ ap (λ (k : ℕ). state_of k x (first_record ∷ [])) (sym pages)
-            ∙ ap (λ (k : ℕ). state_of v'.pages k (first_record ∷ [])) (sym limit);
+        state = ap lasting (now ∙ ap (λ (k : ℕ). state_of k x (first_record ∷ [])) (sym pages)
+            ∙ ap (λ (k : ℕ). state_of v'.pages k (first_record ∷ [])) (sym limit));
         flushed = λ up. count ∙ ap (λ (s : StateValue). length s.deleted) read.state_is;
         waiting_is = λ up. subst (λ (w : List ℕ). AreRecordsOf w (first_record ∷ [])) (sym waits)
             (record { each = (first_encoded, tt); encoded = sym (append-nil (record_bytes first_record)) });
@@ -240,3 +240,33 @@ module _ {D : Type 0} (device : Disk D) where
         ap (λ (t : ℕ × ℕ × ℕ). t.2) (step_marks r (state_of settings.pages settings.xid_limit R)),
         read.numbered.1,
       ))
+
+  -- once a run begins
+  pub run_at : (settings : Settings) (first disk : D) (wal : Wal) (v : StateValue) (map : PageMap)
+      (c0 n : ℕ) (owes : Bool) → IsOpenedAt device settings first c0 (seen_as disk wal v n owes disk) map
+      → IsOpenedAt device settings first c0 (seen_as disk wal (run_started v) n owes disk) map
+  run_at settings first disk wal v map c0 n owes o = record {
+    counted = o.counted;
+    stands = record {
+      counted = (o.stands).counted;
+      waits = (o.stands).waits;
+      all = (o.stands).all;
+      numbered = (o.stands).numbered;
+      state = (o.stands).state;
+      flushed = (o.stands).flushed;
+      waiting_is = (o.stands).waiting_is;
+      settled = (o.stands).settled;
+    };
+    none_lost = o.none_lost;
+    owes = o.owes;
+    up = o.up;
+    limit = o.limit;
+    pages = o.pages;
+    xid_limit = o.xid_limit;
+    time = o.time;
+    no_fall = o.no_fall;
+    no_write_failed = o.no_write_failed;
+    below_last = o.below_last;
+    told = o.told;
+    applied = o.applied;
+  }

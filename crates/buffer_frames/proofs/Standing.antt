@@ -15,16 +15,17 @@ use Rattle.core_state.specs.Log.{Log}
 use Rattle.core_state.specs.States.{StateValue, state_of}
 use Rattle.core_state.specs.Stores.{AreRecordsOf}
 use Rattle.buffer_frames.specs.Counted.{AreNumbered, AreRecords}
-use Rattle.buffer_frames.specs.Journals.{JournalValue, Stands, commits_in, CountsEither}
+use Rattle.buffer_frames.specs.Journals.{JournalValue, lasting, Stands, commits_in, CountsEither}
 use Rattle.buffer_frames.proofs.Batching.{records_more, records_with}
 
 -- nothing is both up and down
 pub not_both : (o : Option ℕ) (f : ℕ) → o ≡ None → o ≡ Some f → ⊥
 not_both o f up down = cc
 
-state_same : (v v' : StateValue) (R : Log) → v' ≡ v → v ≡ state_of v.pages v.xid_limit R
-    → v' ≡ state_of v'.pages v'.xid_limit R
-state_same v v' R same is = subst (λ (x : StateValue). x ≡ state_of x.pages x.xid_limit R) (sym same) is
+state_same : (v v' : StateValue) (R : Log) → v' ≡ v → lasting v ≡ lasting (state_of v.pages v.xid_limit R)
+    → lasting v' ≡ lasting (state_of v'.pages v'.xid_limit R)
+state_same v v' R same is =
+    subst (λ (x : StateValue). lasting x ≡ lasting (state_of x.pages x.xid_limit R)) (sym same) is
 
 module _ {D : Type 0} (device : Disk D) where
   -- once the log is down, the state alone counts

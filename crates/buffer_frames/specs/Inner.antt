@@ -5,4 +5,4 @@ pub mod Known
 pub mod Refusals
 pub mod Making
 pub mod Following
-pub mod OnePage
+pub mod LogFiles

@@ -3,8 +3,12 @@ pub mod Applied
 pub mod NoStore
 pub mod Opens
 pub mod First
+pub mod Drawing
 pub mod Journals
 pub mod Beginnings
+pub mod Homes
+pub mod Frames
+pub mod Passes
 pub mod LogCauses
 pub mod Logging
 pub mod Opening

@@ -7,6 +7,7 @@ use Rattle.disk_trait.specs.declared.device.Disk.{Ghosts as Disk}
 use Rattle.wal.specs.Batches.{front}
 use Rattle.wal.specs.Waiting.{end_of, limit_of, down_of}
 use Rattle.core_state.specs.Log.{Log}
+use Rattle.core_state.specs.States.{StateValue}
 use Rattle.core_state.specs.declared.settings.Settings.{Settings}
 use Rattle.buffer_frames.specs.Counted.{IsCounted}
 use Rattle.buffer_frames.specs.First.{first_record}
@@ -62,3 +63,7 @@ pub record IsOpenedAt {D : Type 0} (device : Disk D) (settings : Settings) (firs
 abbrev pub without_disk : {D T : Type 0} → Result T (D × OpenFault) → Result T OpenFault
 without_disk (Ok x) = Ok x
 without_disk (Err e) = Err e.1
+
+-- a run has begun: the highest heap page comes first, and no slot was freed
+abbrev pub HasStarted : StateValue → Type 0
+HasStarted s = (s.current ≡ s.highest) × (s.freed ≡ [])

@@ -4,23 +4,27 @@ ghost use Rattle.disk_trait.specs.Runs.{LeavesOnly};
 ghost use Rattle.wal.specs.Pages.{KeepsPages};
 ghost use Rattle.wal.specs.Waiting.{waiting, end_of, limit_of, down_of, end_with, end_then, waiting_then, length_with};
 ghost use Rattle.wal.specs.declared.sizes.TheConstants.{MOST_WAITING, FRAME_BYTES};
-ghost use Rattle.std.specs.List.{AllByRecursion};
-ghost use Rattle.page_types.specs.Records.{IsRecord, record_bytes};
+ghost use Rattle.buffer_frames.specs.declared.journal.TheConstants.{MOST_RECORDS};
+ghost use Rattle.page_types.specs.Records.{IsRecord};
 ghost use Rattle.core_state.specs.Log.{Log};
-ghost use Rattle.buffer_frames.specs.Journals.{Stands, logged, logged_bytes, next_number, AreNext, IsOneInsert, MayFollow, CountsEither};
+ghost use Rattle.core_state.specs.States.{step_of};
+ghost use Rattle.buffer_frames.specs.Drawing.{HasEncoding, drawn_by, made_sheets};
+ghost use Rattle.buffer_frames.specs.Opens.{IsEarlyKind};
+ghost use Rattle.buffer_frames.specs.Journals.{Stands, logged, logged_bytes, after_owed, next_number, next_record, IsSpent, CanDraw, MayFollow, CountsEither};
 ghost use Rattle.buffer_frames.specs.Beginnings.{KeepsHistory, HasFlushed};
 ghost use Rattle.buffer_frames.specs.Logging.{IsSameJournal, HasLogged};
 ghost use Rattle.buffer_frames.specs.LogCauses.{WriteHasCause, GoesDown, LogFullWhere};
 ghost use Rattle.buffer_frames.specs.Inner.Following.{MayGoOn};
-ghost use Rattle.buffer_frames.specs.declared.log_error.LogError.TheVariants.{DiskFault, LogFull, Down, OutOfMemory};
+ghost use Rattle.buffer_frames.specs.declared.log_error.LogError.TheVariants.{DiskFault, LogFull, Down, XidsSpent, OutOfMemory};
 
-use crate::inserting::{encode, owed_abort, step_insert, step_owed};
+use crate::drawing::{drawn_kind, drawn_value, drawn_xid, images};
 use crate::laws::counted_are_one;
 use crate::log_error::LogError;
-use core_state::State;
+use crate::owed::{encoded, owed_abort, step_owed};
+use crate::step::{Drawn, Step};
+use core_state::{State, pages_are_shown};
 use disk_trait::Disk;
-use page_types::Record;
-use record_code::encode_record;
+use page_types::{Changes, Kind, Record};
 use std::alloc::{AllocError, Global};
 use std::marker::Model;
 use std::snapshot::Snapshot;
@@ -45,9 +49,9 @@ pub struct Journal<D: Disk> {
 }
 
 impl<D: Disk> Model for Journal<D> {
-    ghost use Rattle.std.specs.Prelude.{◌+◌, ◌^◌, ◌≤◌};
+    ghost use Rattle.std.specs.Prelude.{◌+◌, ◌^◌, ◌<◌, ◌≤◌};
     ghost use Rattle.wal.specs.Waiting.{IsReadToEnd};
-    ghost use Rattle.buffer_frames.specs.Journals.{JournalValue};
+    ghost use Rattle.buffer_frames.specs.Journals.{JournalValue, HasXidLimit};
     ghost use Rattle.buffer_frames.specs.Beginnings.{KeepsHistory};
 
     ghost Value = { JournalValue D };
@@ -62,6 +66,7 @@ impl<D: Disk> Model for Journal<D> {
     } };
 
     ghost invariant = { λ j. IsReadToEnd j.wal × (j.state.value.records + 2 ≤ 2 ^ 63)
+        × (0 < j.state.value.records) × HasXidLimit j.state.value
         × KeepsHistory D.Disk (record {
           disk = j.disk;
           wal = j.wal;
@@ -73,16 +78,25 @@ impl<D: Disk> Model for Journal<D> {
 }
 
 impl<D: Disk> Journal<D> {
-    /// These records wait after those that do, the owed Abort before them, or none of them does.
+    /// One record waits after those that do, that of the step with what it draws, the owed Abort
+    /// before it; or none does. Each page that the step leaves is written as an image, and is from
+    /// now on as the record makes it.
     /// Where much waits already a flush comes first.
     /// The log is full where with them it would pass its limit after a flush.
-    pub fn log(&mut self, records: &[Record]) -> Result<(), LogError>
-        requires next { AreNext (next_number self.old) records.now }
-        requires insert { IsOneInsert self.old.state records.now }
-        requires short { length (logged_bytes self.old records.now) ≤ MOST_WAITING }
-        requires follow { MayFollow D.Disk self.old records.now }
-        ensures stands { (R : Log) → Stands D.Disk self.old R
-            → OnOk result (Stands D.Disk self.new (logged self.old.owes records.now R)) }
+    pub fn log_step(&mut self, step: &mut Step) -> Result<Drawn, LogError>
+        requires encoded { HasEncoding step.old }
+        requires early { IsEarlyKind step.old.kind }
+        requires follow { MayFollow D.Disk self.old step.old }
+        ensures stands { (R : Log) → Stands D.Disk self.old R → OnOk result
+            (Stands D.Disk self.new (logged self.old.owes (next_record self.old step.old) R)) }
+        ensures drawn { IfOk result
+            (λ d. d ≡ drawn_by (after_owed self.old.owes self.old.state) step.old.kind) }
+        ensures state { OnOk result (self.new.state
+            ≡ step_of (next_record self.old step.old) (after_owed self.old.owes self.old.state)) }
+        ensures made { OnOk result (step.new ≡ record step.old {
+          after = made_sheets (next_record self.old step.old) step.old.after;
+        }) }
+        ensures can_draw { OnOk result (CanDraw self.old step.old) }
         ensures owes { OnOk result (self.new.owes ≡ false) }
         ensures same { limit_of self.new.wal ≡ limit_of self.old.wal }
         ensures opened { self.new.opened ≡ self.old.opened }
@@ -92,7 +106,7 @@ impl<D: Disk> Journal<D> {
             → (self.new.disk ≡ self.old.disk) × (self.new.flushed ≡ self.old.flushed)
             × (IsErrOf result DiskFault → ⊥) }
         ensures now { length (waiting self.old.wal) < MOST_WAITING
-            → OnOk result (HasLogged self.old self.new records.now)
+            → OnOk result (HasLogged self.old self.new (next_record self.old step.old))
             × OnErr result (IsSameJournal self.old self.new) }
         ensures any_moment { D.tells → (R : Log) (s : Stands D.Disk self.old R)
             → (self.new.disk ≡ self.old.disk)
@@ -100,13 +114,19 @@ impl<D: Disk> Journal<D> {
             (CountsEither D.Disk self.old.disk s.counted R) }
         ensures pages { D.tells → KeepsPages D.Disk self.old.disk self.new.disk }
 
-        // The refusals: none of the records is there.
+        ensures flushed { (self.new.flushed ≡ self.old.flushed)
+            ⊎ (self.new.flushed ≡ length self.old.state.deleted) }
+
+        // The refusals: the record isn't there.
         ensures refused { (R : Log) → Stands D.Disk self.old R
             → OnErr result (Stands D.Disk self.new R) }
         ensures refused_state { OnErr result ((self.new.state ≡ self.old.state)
             × (self.new.owes ≡ self.old.owes)) }
         ensures full { LogFullWhere (limit_of self.old.wal)
-            (length_with self.old.wal (logged_bytes self.old records.now)) result }
+            (length_with self.old.wal (logged_bytes self.old (next_record self.old step.old)))
+            result }
+        ensures spent { (result ≡ Err XidsSpent)
+            ↔ ((down_of self.old.wal ≡ None) × IsSpent self.old.state step.old.kind) }
         ensures is_down { (f : ℕ) → (result ≡ Err (Down f)) ↔ (down_of self.old.wal ≡ Some f) }
         ensures stays_down { (f : ℕ) → down_of self.old.wal ≡ Some f → self.new ≡ self.old }
         ensures goes_down { GoesDown result (D.fault_count self.new.disk) (down_of self.old.wal)
@@ -116,8 +136,18 @@ impl<D: Disk> Journal<D> {
         if let Some(fault) = self.wal.fault() {
             return Err(LogError::Down { fault });
         }
+        if self.is_spent(step.kind()) {
+            return Err(LogError::XidsSpent);
+        }
         self.flush_much()?;
-        self.log_now(records)
+        self.log_now(step)
+    }
+
+    /// Whether a record of this kind would draw an xid, and there is none more.
+    fn is_spent(&self, kind: Kind) -> bool
+        ensures { result ≡ true ↔ IsSpent self.now.state kind }
+    {
+        kind == Kind::Begin && self.state.next_xid() >= self.state.xid_limit()
     }
 
     /// Where much waits it counts from now on.
@@ -134,6 +164,8 @@ impl<D: Disk> Journal<D> {
         ensures opened { self.new.opened ≡ self.old.opened }
         ensures idle { length (waiting self.old.wal) < MOST_WAITING
             → IsOk result × (self.new ≡ self.old) }
+        ensures flushed { (self.new.flushed ≡ self.old.flushed)
+            ⊎ (self.new.flushed ≡ length self.old.state.deleted) }
         ensures any_moment { D.tells → (R : Log) (s : Stands D.Disk self.old R)
             → (self.new.disk ≡ self.old.disk)
             ⊎ LeavesOnly D.Disk self.old.disk self.new.disk
@@ -150,53 +182,105 @@ impl<D: Disk> Journal<D> {
         self.flush()
     }
 
-    /// These records wait after those that do, of which there are few.
-    fn log_now(&mut self, records: &[Record]) -> Result<(), LogError>
-        requires next { AreNext (next_number self.old) records.now }
-        requires insert { IsOneInsert self.old.state records.now }
-        requires short { length (logged_bytes self.old records.now) ≤ MOST_WAITING }
+    /// The record of the step waits after those that do, of which there are few.
+    fn log_now(&mut self, step: &mut Step) -> Result<Drawn, LogError>
+        requires encoded { HasEncoding step.old }
+        requires early { IsEarlyKind step.old.kind }
         requires few { length (waiting self.old.wal) < MOST_WAITING }
         requires up { down_of self.old.wal ≡ None }
-        requires follow { MayGoOn D.Disk self.old records.now }
-        ensures ok { OnOk result (HasLogged self.old self.new records.now) }
+        requires xids { IsSpent self.old.state step.old.kind → ⊥ }
+        requires follow { CanDraw self.old step.old
+            → MayGoOn D.Disk self.old (next_record self.old step.old) }
+        ensures ok { OnOk result (HasLogged self.old self.new (next_record self.old step.old)) }
+        ensures can_draw { OnOk result (CanDraw self.old step.old) }
+        ensures drawn { IfOk result
+            (λ d. d ≡ drawn_by (after_owed self.old.owes self.old.state) step.old.kind) }
+        ensures made { OnOk result (step.new ≡ record step.old {
+          after = made_sheets (next_record self.old step.old) step.old.after;
+        }) }
         ensures refused { OnErr result (IsSameJournal self.old self.new) }
         ensures opened { self.new.opened ≡ self.old.opened }
         ensures full { LogFullWhere (limit_of self.old.wal)
             (end_of self.old.wal + FRAME_BYTES + length (waiting self.old.wal)
-            + length (logged_bytes self.old records.now) + 1) result }
+            + length (logged_bytes self.old (next_record self.old step.old)) + 1) result }
+        ensures error { IfErr result (λ e. (e ≡ LogFull) ⊎ (e ≡ OutOfMemory)) }
+    {
+        let number = self.state.length() + 1;
+        if number > MOST_RECORDS || self.state.commits() == u32::MAX {
+            return Err(LogError::OutOfMemory);
+        }
+        let drawn = self.drawn(step);
+        let rec = self.draw(step)?;
+        self.put(&rec)?;
+        Ok(drawn)
+    }
+
+    /// This record waits after those that do, of which there are few, the owed Abort before it.
+    fn put(&mut self, rec: &Record) -> Result<(), LogError>
+        requires encoded { IsRecord rec.now }
+        requires next { rec.now.number ≡ next_number self.old }
+        requires early { IsEarlyKind rec.now.kind }
+        requires short { length (logged_bytes self.old rec.now) ≤ MOST_WAITING }
+        requires most { self.old.state.records + 1 ≤ MOST_RECORDS }
+        requires few { length (waiting self.old.wal) < MOST_WAITING }
+        requires up { down_of self.old.wal ≡ None }
+        requires follow { MayGoOn D.Disk self.old rec.now }
+        ensures ok { OnOk result (HasLogged self.old self.new rec.now) }
+        ensures refused { OnErr result (IsSameJournal self.old self.new) }
+        ensures opened { self.new.opened ≡ self.old.opened }
+        ensures full { LogFullWhere (limit_of self.old.wal)
+            (end_of self.old.wal + FRAME_BYTES + length (waiting self.old.wal)
+            + length (logged_bytes self.old rec.now) + 1) result }
         ensures error { IfErr result (λ e. (e ≡ LogFull) ⊎ (e ≡ OutOfMemory)) }
     {
         counted_are_one();
-        let number = self.state.length() + 1;
-        if number > MOST_RECORDS {
-            return Err(LogError::OutOfMemory);
-        }
-        let owed = owed_abort(self.alloc, number);
-        let bytes = self.encoded(&owed, records)?;
-        self.state
-            .make_room_to_insert(&records[0], &records[1], &records[2])?;
+        let owed = owed_abort(self.alloc, self.state.length() + 1);
+        let bytes = encoded(self.alloc, self.owes, &owed, rec)?;
+        self.state.make_room(rec)?;
         if let Err(error) = self.wal.append(&bytes) {
             return Err(LogError::from(error));
         }
-        step_owed(&mut self.state, self.owes, &owed);
+        step_owed(&mut self.state, self.owes, &owed, rec);
         self.owes = false;
-        step_insert(&mut self.state, records);
+        self.state.step_reserved(rec);
         Ok(())
     }
 
-    /// The bytes of the records, after those of the owed Abort, where one is owed.
-    fn encoded(&self, owed: &Record, records: &[Record]) -> Result<Vec<u8>, AllocError>
-        requires owed { IsRecord owed.now }
-        requires each { AllByRecursion IsRecord records.now }
-        ensures { IfOk result (λ bytes. bytes.items
-            ≡ cond self.now.owes (record_bytes owed.now) [] ++ flat_map record_bytes records.now) }
+    /// What a step draws.
+    fn drawn(&self, step: &Step) -> Drawn
+        requires number { self.now.state.records + 2 < 2 ^ 64 }
+        requires commits { suc (length self.now.state.deleted) < 2 ^ 32 }
+        ensures { result ≡ drawn_by (after_owed self.now.owes self.now.state) step.now.kind }
     {
-        let mut bytes = Vec::new(self.alloc);
-        if self.owes {
-            encode_record(owed, &mut bytes)?;
+        Drawn {
+            number: self.next_number(),
+            value: drawn_value(&self.state, step.kind()),
         }
-        encode(records, &mut bytes)?;
-        Ok(bytes)
+    }
+
+    /// The record of a step, whose pages are from now on as the record makes them.
+    fn draw(&self, step: &mut Step) -> Result<Record, AllocError>
+        requires encoded { HasEncoding step.old }
+        requires number { self.now.state.records + 2 < 2 ^ 64 }
+        requires commits { suc (length self.now.state.deleted) < 2 ^ 32 }
+        ensures drawn { IfOk result (λ r. r ≡ next_record self.now step.old) }
+        ensures encoded { IfOk result IsRecord }
+        ensures short { IfOk result
+            (λ r. length (logged_bytes self.now r) ≤ MOST_WAITING) }
+        ensures made { OnOk result (step.new ≡ record step.old {
+          after = made_sheets (next_record self.now step.old) step.old.after;
+        }) }
+    {
+        pages_are_shown();
+        let mut rec = Record {
+            number: self.next_number(),
+            xid: drawn_xid(&self.state, step.kind(), step.xid()),
+            kind: drawn_kind(&self.state, step.kind()),
+            changes: Changes::new(self.alloc),
+        };
+        step.make_pages(&rec);
+        rec.changes = images(self.alloc, step.sheets())?;
+        Ok(rec)
     }
 
     /// What waits counts from now on. It takes no memory.
@@ -219,6 +303,7 @@ impl<D: Disk> Journal<D> {
         ensures pages { D.tells → KeepsPages D.Disk self.old.disk self.new.disk }
 
         // The refusals: after a fault of the device what waited may count or not.
+        ensures refused_flushed { OnErr result (self.new.flushed ≡ self.old.flushed) }
         ensures error { IfErr result (λ e. (e ≡ DiskFault) ⊎ ((f : ℕ) × (e ≡ Down f))) }
         ensures is_down { (f : ℕ) → (result ≡ Err (Down f)) ↔ (down_of self.old.wal ≡ Some f) }
         ensures stays_down { (f : ℕ) → down_of self.old.wal ≡ Some f → self.new ≡ self.old }
@@ -258,6 +343,13 @@ impl<D: Disk> Journal<D> {
         ensures { result ≡ self.now.flushed }
     {
         self.flushed
+    }
+
+    /// Whether the Abort of all that ran before comes before the next record.
+    pub(crate) fn owes(&self) -> bool
+        ensures { result ≡ self.now.owes }
+    {
+        self.owes
     }
 
     /// The device's count of faults just after the fault that brought the log down, if one did.

@@ -20,6 +20,9 @@ pub enum LogError {
     /// number after it.
     #[error("down {fault}")]
     Down { fault: u64 },
+    /// There is no xid more.
+    #[error("xids spent")]
+    XidsSpent,
     /// There was no memory for this call.
     #[error("out of memory")]
     OutOfMemory,

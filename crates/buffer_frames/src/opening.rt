@@ -10,14 +10,14 @@ ghost use Rattle.wal.specs.Settled.{LogIs};
 ghost use Rattle.wal.specs.Waiting.{waiting, end_of, limit_of, down_of, IsReadToEnd};
 ghost use Rattle.wal.specs.declared.sizes.TheConstants.{LOG_LIMIT};
 ghost use Rattle.page_types.specs.Records.{record_bytes};
-ghost use Rattle.core_state.specs.Log.{Log};
+ghost use Rattle.core_state.specs.Log.{Log, xid_bound};
 ghost use Rattle.core_state.specs.History.{History};
 ghost use Rattle.core_state.specs.States.{step_of};
 ghost use Rattle.buffer_frames.specs.Causes.{ReadHasCause, NotAStoreWhere};
 ghost use Rattle.buffer_frames.specs.First.{first_record as first};
 ghost use Rattle.buffer_frames.specs.NoStore.{IsNoStore};
 ghost use Rattle.buffer_frames.specs.Opens.{OpensTo, StartedFrom, OpensAsBefore};
-ghost use Rattle.buffer_frames.specs.Opening.{IsOpenedAt, without_disk};
+ghost use Rattle.buffer_frames.specs.Opening.{IsOpenedAt, HasStarted, without_disk};
 ghost use Rattle.wal.specs.Creating.{IsMade};
 ghost use Rattle.buffer_frames.specs.Inner.Making.{HasRun, RunsFrom, IsReadAs, HasBegun, MakesHasCause, AreBelowLast};
 ghost use Rattle.buffer_frames.specs.declared.error.OpenFault.TheVariants.{NotAStore, DiskFault, OutOfMemory};
@@ -158,8 +158,10 @@ fn open_parts<D: Disk>(alloc: Global, disk: &mut D, settings: &Settings) -> Resu
           owes = x.owes;
           opened = disk.new;
         }) x.map) }
+    ensures started { IfOk result (λ x. HasStarted (x.state).value) }
     ensures ready { IfOk result (λ x. IsReadToEnd x.wal) }
     ensures fits { IfOk result (λ x. ((x.state).value).records + 2 ≤ 2 ^ 63) }
+    ensures some { IfOk result (λ x. 0 < ((x.state).value).records) }
     ensures runs { D.tells → RunsFrom D.Disk disk.old disk.new }
     ensures no_store { D.tells → NotAStoreWhere (IsNoStore (D.seen disk.old)) result }
     ensures only_read { IsErrOf result NotAStore → IsOnlyRead D.Disk disk.old disk.new }
@@ -172,6 +174,7 @@ fn open_parts<D: Disk>(alloc: Global, disk: &mut D, settings: &Settings) -> Resu
     }
     let flushed = state.commits();
     let owes = begin_log(alloc, &mut wal, &mut state)?;
+    state.start_run();
     Ok(Parts {
         wal,
         state,
@@ -189,10 +192,12 @@ pub fn open<D: Disk>(
     settings: &Settings,
 ) -> Result<(Journal<D>, PageMap), (D, OpenFault)>
     requires limit { settings.now.log_limit ≤ LOG_LIMIT }
+    requires xids { settings.now.xid_limit ≤ xid_bound }
     ensures opened { IfOk result
         (λ x. (c0 : ℕ) × IsOpenedAt D.Disk settings.now disk c0 x.0 x.1) }
     ensures keeps_pages { D.tells → IfOk result (λ x. KeepsPages D.Disk disk (x.0).disk) }
     ensures since { IfOk result (λ x. (x.0).opened ≡ (x.0).disk) }
+    ensures started { IfOk result (λ x. HasStarted (x.0).state) }
     ensures opens_on { D.tells → IfOk result (λ x. (H : History) → OpensTo (D.seen disk) H
         → OpensTo (D.seen (x.0).disk) H) }
 

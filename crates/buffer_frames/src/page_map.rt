@@ -1,17 +1,48 @@
 // Pages by their numbers, each as its bytes.
-ghost use Rattle.std.specs.Prelude.{◌≡◌, ◌↔◌, ◌==◌, ℕ, List, Some, None, cond, is_some, length, OnOk, OnErr, IfSome, IsOk};
+ghost use Rattle.std.specs.Prelude.{◌≡◌, ◌≢◌, ◌↔◌, ◌==◌, ◌<◌, ◌^◌, ℕ, List, Some, None, cond, is_some, length, get_or, OnOk, OnErr, IfOk, IfSome, IsOk};
 ghost use Rattle.std.specs.Option.{option_copied};
 ghost use Rattle.page_types.specs.Edits.{edited, CanEdit};
+ghost use Rattle.buffer_frames.specs.Homes.{home_at, home_of};
 ghost use Rattle.buffer_frames.specs.Maps.{lookup};
 
+use crate::home::Home;
 use page_types::{BadChange, Change, PAGE_BYTES, PageBytes};
 use std::alloc::{AllocError, Global};
-use std::collections::BTreeMap;
+
+/// There is a place for this page.
+#[tactic(auto, using(crate::proofs::Padded::get_or_padded))]
+fn make_place(pages: &mut Vec<Option<PageBytes>>, page: usize) -> Result<(), AllocError>
+    requires { page < 2 ^ 32 }
+    ensures there { OnOk result (page < length pages.new.items) }
+    ensures same { (p : ℕ) → get_or pages.new.items p None ≡ get_or pages.old.items p None }
+{
+    let missing = (page + 1).saturating_sub(pages.len());
+    pages.reserve(missing)?;
+    for added in 0..missing {
+        let _ = added;
+        pages.push_reserved(None);
+    }
+    Ok(())
+}
+
+/// Changes the bytes of a page, if they are there, as the record with this number does.
+fn change_raw(slot: &mut Option<PageBytes>, number: u64, change: &Change) -> Result<(), BadChange>
+    ensures done { OnOk result ((b : List ℕ) → slot.old ≡ Some b
+        → slot.new ≡ Some (edited number change.now.edit b)) }
+    ensures ok { (b : List ℕ) → slot.old ≡ Some b → IsOk result ↔ CanEdit change.now.edit b }
+    ensures same { OnErr result (slot.new ≡ slot.old) }
+    ensures there { OnOk result (slot.old ≢ None) }
+{
+    match slot {
+        Some(raw) => raw.change(number, change),
+        None => Err(BadChange),
+    }
+}
 
 /// Pages by their numbers, each as its 8192 bytes.
 #[derive(Debug, Drop)]
 pub struct PageMap {
-    pages: BTreeMap<u32, PageBytes>,
+    pages: Vec<Option<PageBytes>>,
 }
 
 impl PageMap {
@@ -20,7 +51,7 @@ impl PageMap {
         ensures { (p : ℕ) → lookup result p ≡ None }
     {
         PageMap {
-            pages: BTreeMap::new(alloc),
+            pages: Vec::new(alloc),
         }
     }
 
@@ -29,9 +60,9 @@ impl PageMap {
         ensures value { option_copied result ≡ lookup self.now page }
         ensures size { IfSome result (λ b. length b.now ≡ PAGE_BYTES) }
     {
-        match self.pages.get(&page) {
-            Some(bytes) => Some(bytes.as_slice()),
-            None => None,
+        match self.pages.get(page as usize) {
+            Some(Some(raw)) => Some(raw.as_slice()),
+            _ => None,
         }
     }
 
@@ -39,7 +70,7 @@ impl PageMap {
     pub fn contains(&self, page: u32) -> bool
         ensures { result ≡ is_some (lookup self.now page) }
     {
-        self.pages.contains_key(&page)
+        matches!(self.pages.get(page as usize), Some(Some(_)))
     }
 
     /// Puts a page. Without memory all stays as it is.
@@ -48,7 +79,9 @@ impl PageMap {
             → lookup self.new p ≡ cond (page == p) (Some bytes) (lookup self.old p)) }
         ensures err { OnErr result ((p : ℕ) → lookup self.new p ≡ lookup self.old p) }
     {
-        self.pages.insert(page, bytes)?;
+        let place = page as usize;
+        make_place(&mut self.pages, place)?;
+        self.pages[place] = Some(bytes);
         Ok(())
     }
 
@@ -63,9 +96,24 @@ impl PageMap {
             → IsOk result ↔ CanEdit change.now.edit b }
         ensures same { OnErr result ((p : ℕ) → lookup self.new p ≡ lookup self.old p) }
     {
-        match self.pages.get_mut(&change.page) {
-            Some(bytes) => bytes.change(number, change),
-            None => Err(BadChange),
+        let place = change.page as usize;
+        if place >= self.pages.len() {
+            return Err(BadChange);
         }
+        change_raw(&mut self.pages[place], number, change)
+    }
+
+    /// Where each page lies in memory. The bytes are not copied.
+    pub(crate) fn into_homes(self, alloc: Global) -> Result<Vec<Home>, AllocError>
+        ensures { IfOk result (λ homes. (p : ℕ)
+            → home_at homes.items p ≡ home_of (lookup self p)) }
+    {
+        let PageMap { pages } = self;
+        let mut pages = pages;
+        let mut homes = Vec::with_capacity(alloc, pages.len())?;
+        for place in 0..pages.len() {
+            homes.push_reserved(Home::of(pages[place].take()));
+        }
+        Ok(homes)
     }
 }

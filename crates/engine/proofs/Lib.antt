@@ -1,19 +1,45 @@
-pub mod Standing
-pub mod Documents
-pub mod Held
-mod Pages
+pub mod Logs
+pub mod Growing
+pub mod Works
+pub mod Doing
+pub mod Causing
+pub mod Ending
+pub mod Listing
+pub mod Statements
+pub mod Storing
+pub mod LawfulWork
+pub mod Openings
+pub mod Searching
+pub mod LawfulReads
+pub mod PinsRisen
+pub mod Paths
+pub mod Carrying
+pub mod Choosing
+pub mod Asking
+pub mod Telling
+pub mod ChainLengths
+pub mod ReadSteps
+pub mod SnapshotReads
+pub mod NamesInOrder
+pub mod PlacedOnce
+pub mod ApartLists
+pub mod LawfulHistories
+pub mod SnapshotNames
+pub mod Plain
 pub mod Starting
-mod Sizes
-mod Inserting
-mod Keeping
-mod Putting
-mod Drawing
-mod Knowing
-mod Storing
-mod HeapRead
-mod Encoded
-mod LawfulHeap
-mod Applying
-mod OpenedLog
-mod OpenedStore
-mod OpenedDevice
+pub mod Entering
+pub mod HeadChanges
+pub mod StepSeen
+pub mod Marking
+pub mod LawfulMarks
+pub mod Logging
+pub mod Standings
+pub mod Placing
+pub mod Parts
+pub mod PartPuts
+pub mod Puts
+pub mod Running
+pub mod Lawful
+pub mod LawfulBefore
+pub mod HeapPagesKept
+pub mod Putting

@@ -1,124 +1,391 @@
--- What a crash leaves while an insertion's records are put into the log, and what is then.
-use Rattle.std.proofs.Common.{◌≡◌, ◌⊎◌, inl, inr, ℕ, List, [], ◌∷◌, ◌++◌, ◌≤◌, arith, sym, ◌∙◌, ap, subst}
-use Rattle.std.specs.Prelude.{None, reverse}
-use Rattle.std.proofs.lemmas.List.{reverse-reverse}
-use Rattle.disk_trait.specs.Runs.{LeavesOnly}
+-- A document is put: its head is placed, then its parts are put from the last to the first.
+use Rattle.std.proofs.Common.{◌≡◌, ◌⊎◌, ◌<◌, ◌≤◌, ◌+◌, ◌-◌, ◌*◌, ◌^◌, ℕ, suc, List, [], ◌∷◌, ◌++◌, length, take, drop}
+use Rattle.std.proofs.Common.{refl, sym, ap, subst, ◌∙◌, inl, inr, arith, length-drop, drop-drop}
+use Rattle.std.specs.Prelude.{◌/◌, min, Bool, true, false, nat_le, if◌then◌else◌, All, sum_by}
+use Rattle.std.proofs.lemmas.Bool.{le-leb, lt-leb}
+use Rattle.std.proofs.lemmas.Bool.Decides.{leb_tells}
+use Rattle.std.proofs.lemmas.List.{length-take, take-append-drop, drop_all}
+use Rattle.std.proofs.lemmas.List.Sums.{sum_by-cons}
 use Rattle.disk_trait.specs.declared.device.Disk.{Ghosts as Disk}
-use Rattle.disk_trait.proofs.Runs.{started, weaker_run}
-use Rattle.wal.specs.Waiting.{waiting, down_of}
-use Rattle.wal.specs.Pages.{KeepsPages}
-use Rattle.ts_base.specs.Vectors.{Vector}
+use Rattle.ts_base.specs.Vectors.{Vector, Entry, IsEntry, content_size}
+use Rattle.ts_base.specs.Encoding.{IsEncoding, entry_size}
 use Rattle.ts_base.proofs.Encoding.{encoding_has_size}
-use Rattle.core_state.specs.Log.{Log}
-use Rattle.core_state.specs.History.{History}
-use Rattle.core_state.specs.Stores.{PagesStand, AreRecordsOf}
-use Rattle.buffer_frames.specs.Counted.{IsCounted}
-use Rattle.buffer_frames.specs.NoStore.{CountedAreOne}
-use Rattle.buffer_frames.specs.Opens.{IsLogOf, insertion}
-use Rattle.buffer_frames.specs.Journals.{JournalValue, Stands, logged, CountsEither}
-use Rattle.buffer_frames.specs.Logging.{HasLogged}
-use Rattle.buffer_frames.proofs.Batching.{no_batch}
-use Rattle.engine.specs.Inner.DbValue.{DbValue, IsDbValue}
-use Rattle.engine.specs.Standing.{disk_of, IsUp, IsOpenedTo, OpensToEither, PutsCommit}
-use Rattle.engine.specs.Inner.Puts.{next_document}
-use Rattle.engine.specs.Inner.Prepared.{IsPreparedFor}
-use Rattle.engine.specs.declared.db.Prepared.{Prepared}
-use Rattle.engine.proofs.Standing.{opens_now}
-use Rattle.engine.proofs.Knowing.{counted_now}
-use Rattle.engine.proofs.Inserting.{follows, stands_beside, either}
+use Rattle.page_types.specs.Numbers.{most_short, most_body, most_slots}
+use Rattle.page_types.specs.declared.page.Name.{Name}
+use Rattle.page_types.specs.declared.record.Record.{Record}
+use Rattle.page_types.specs.declared.record.Kind.{Kind}
+use Rattle.core_state.specs.Log.{In}
+use Rattle.core_state.specs.Documents.{Doc, doc_at}
+use Rattle.core_state.specs.History.{Commit}
+use Rattle.core_state.specs.States.{heap_pages}
+use Rattle.buffer_frames.specs.declared.pass.Pass.{Pass}
+use Rattle.engine.specs.Answers.{MeetsNoBadPage}
+use Rattle.engine.specs.Db.{DbValue, state_of}
+use Rattle.engine.specs.Causes.{IsStoreFull, HasNoRoomFor, IsHeap, IsNone, HasHeadIn, IsBadPage}
+use Rattle.engine.specs.Finding.{document}
+use Rattle.engine.specs.Going.{Goes, MetNoFault}
+use Rattle.engine.specs.Work.{IsPlaceOf, IsPartOf, AreParts, ArePut, parts_for}
+use Rattle.engine.specs.Inner.Parts.{IsRunning, KeepsWork, HasChanged, HasPlaced, Puts, NeedsPageFor, CannotPut}
+use Rattle.engine.specs.Inner.Parts.{with_inserted}
+use Rattle.engine.specs.Inner.Changing.{doc_of, IsNextPart, IsNoNewPage, CannotPlace, CannotPutPart}
+use Rattle.engine.specs.declared.transaction.Transaction.{Transaction}
+use Rattle.engine.specs.declared.error.DbError.{DbError}
+use Rattle.engine.specs.declared.error.DbError.TheVariants as store
+use Rattle.engine.proofs.Carrying.{keeps_on}
+use Rattle.engine.proofs.LawfulBefore.{no_bad_before}
+use Rattle.engine.proofs.Logs.{NotCommit, AreNoCommits}
+use Rattle.engine.proofs.Marking.{page_is, slot_is, named}
+use Rattle.engine.proofs.Paths.{goes_on, goes_still, none_in_turn}
+use Rattle.engine.proofs.Puts.{some_place, some_part, some_parts, some_put, parts_more, put_so_far, AllThere, put_done}
+use Rattle.engine.proofs.Works.{parts_plain}
 
--- a log of which nothing waits counts all
-pub all_count : {D : Type 0} (device : Disk D) (j : JournalValue D) (R : Log) → (s : Stands device j R)
-    → down_of j.wal ≡ None → waiting j.wal ≡ [] → s.counted ≡ R
-all_count device j R s up none =
-    let turned : reverse s.waits ≡ [] =
-    no_batch (reverse s.waits) (subst (λ b. AreRecordsOf b (reverse s.waits)) none (s.waiting_is up)) in
-    let waits : s.waits ≡ [] = sym (reverse-reverse s.waits) ∙ ap reverse turned in
-    sym (s.all ∙ ap (λ z. z ++ s.counted) waits)
+-- ── how many bytes an encoding has ──
+
+sizes : (v : Vector) → All IsEntry v → sum_by entry_size v ≤ 5 * content_size v
+sizes [] all = omega arith
+sizes (e ∷ v) all =
+    let here : IsEntry e = all 0 e (omega arith) in
+    let few : 1 ≤ length e.lexeme = (here.lexeme).some in
+    omega (
+      arith,
+      few,
+      sizes v (λ k d lt. all (suc k) d (omega (arith, lt))),
+      sum_by-cons entry_size e v,
+      sum_by-cons (λ (d : Entry). length d.lexeme + 2 * length d.positions) e v,
+    )
+
+pub encoding_small : (bytes : List ℕ) (v : Vector) → IsEncoding bytes v → length bytes < 2 ^ 32
+encoding_small bytes v is =
+    omega (arith, ap length is.bytes_of, encoding_has_size v, sizes v (is.normal).entries, is.small)
+
+-- ── on how many pages they are ──
+
+parts_short : (n : ℕ) → n ≤ most_short → parts_for n ≡ 0
+parts_short n le = ap (λ (b : Bool). if b then 0 else (n + most_body - 1) / most_body) (le-leb n most_short le)
+
+parts_long : (n : ℕ) → most_short < n → parts_for n ≡ (n + most_body - 1) / most_body
+parts_long n lt = ap (λ (b : Bool). if b then 0 else (n + most_body - 1) / most_body) (lt-leb n most_short lt)
+
+covers : (n q : ℕ) → q ≡ (n + most_body - 1) / most_body → n ≤ q * most_body
+covers n q is = omega arith
+
+within : (n q k : ℕ) → q ≡ (n + most_body - 1) / most_body → k < q → k * most_body < n
+within n q k is lt = omega arith
+
+abbrev Tells : ℕ → ℕ → Type 0
+Tells a b = ((nat_le a b ≡ true) × (a ≤ b)) ⊎ ((nat_le a b ≡ false) × (b < a))
+
+before_in : (n k : ℕ) → Tells n most_short → k < parts_for n → (most_short < n) × (k * most_body < n)
+before_in n k (inl t) lt = absurd (omega (arith, lt, parts_short n t.1))
+before_in n k (inr t) lt = (t.1, within n (parts_for n) k (parts_long n t.1) lt)
+
+-- what is before a part is not all
+part_before : (n k : ℕ) → k < parts_for n → (most_short < n) × (k * most_body < n)
+part_before n k lt = before_in n k (leb_tells n most_short) lt
+
+-- ── the next part ──
+
+module _ (bytes behind : List ℕ) (k : ℕ) (lt : k < parts_for (length bytes))
+    (is : behind ≡ drop ((k + 1) * most_body) bytes) where
+  joined : take most_body (drop (k * most_body) bytes) ++ behind ≡ drop (k * most_body) bytes
+  joined =
+      let rest : List ℕ = drop (k * most_body) bytes in
+      let more : k * most_body + most_body ≡ (k + 1) * most_body = omega arith in
+      let further : drop most_body rest ≡ behind =
+      drop-drop most_body (k * most_body) bytes ∙ ap (λ (n : ℕ). drop n bytes) more ∙ sym is in
+      ap (λ (l : List ℕ). take most_body rest ++ l) (sym further) ∙ take-append-drop most_body rest
+
+  part_length : length (take most_body (drop (k * most_body) bytes)) ≡ min most_body (length bytes - k * most_body)
+  part_length =
+      length-take most_body (drop (k * most_body) bytes)
+      ∙ ap (λ (n : ℕ). min most_body n) (length-drop (k * most_body) bytes)
+
+  full_in : Tells (length bytes) ((k + 1) * most_body) → (behind ≡ [] → ⊥)
+      → length (take most_body (drop (k * most_body) bytes)) ≡ most_body
+  full_in (inl t) some = absurd (some (is ∙ drop_all ((k + 1) * most_body) bytes t.1))
+  full_in (inr t) some = omega (arith, t.1, part_length)
+
+  next_part : IsNextPart bytes behind (take most_body (drop (k * most_body) bytes))
+  next_part =
+      let b = part_before (length bytes) k lt in
+      record {
+        front = take (k * most_body) bytes;
+        order = sym (take-append-drop (k * most_body) bytes)
+            ∙ ap (λ (l : List ℕ). take (k * most_body) bytes ++ l) (sym joined);
+        long = b.0;
+        some = λ none. let z : ⊥ = omega (arith, b.1, part_length, ap length none) in z;
+        full = full_in (leb_tells (length bytes) ((k + 1) * most_body));
+      }
+
+-- ── some of the parts are put ──
+
+all_in : (bytes behind : List ℕ) → (most_short < length bytes → behind ≡ bytes) → Tells (length bytes) most_short
+    → AllThere bytes behind
+all_in bytes behind all (inl t) = AllThere.short t.1
+all_in bytes behind all (inr t) = AllThere.long t.1 (all t.1)
 
 module _ {D : Type 0} (device : Disk D) where
-  -- what the journal's two calls leave, by which an insertion puts its records into the log
-  pub record Flushes (old : DbValue D) (mid : JournalValue D) (new : JournalValue D) (v : Vector) (used : ℕ)
-      (d : Prepared) : Type 0 where
-    pub value : IsDbValue device old used
-    pub prepared : IsPreparedFor old v d
-    pub up : IsUp old
-    pub has : HasLogged old.journal mid d.records
-    pub one : CountedAreOne
-    pub logged : (R : Log) → Stands device old.journal R → Stands device mid (logged old.journal.owes d.records R)
-    pub stands : (R : Log) → Stands device mid R → Stands device new R
-    pub moments : device.tells → (R : Log) (s : Stands device mid R)
-        → (new.disk ≡ mid.disk) ⊎ LeavesOnly device mid.disk new.disk (CountsEither device mid.disk s.counted R)
-    pub pages : device.tells → KeepsPages device mid.disk new.disk
-    pub time : device.clock mid.disk ≤ device.clock new.disk
-    pub state : new.state ≡ mid.state
-    pub done : down_of new.wal ≡ None → waiting new.wal ≡ []
+  -- the head was placed, and so many parts were put
+  pub record PutsSoFar (old : DbValue D) (pass : Pass) (t : Transaction) (bytes : List ℕ) (name : Name) (done : ℕ)
+      (new : DbValue D) (pass' : Pass) : Type 0 where
+    pub running : IsRunning device new pass' t
+    pub keeps : KeepsWork pass pass'
+    pub met : MetNoFault device old new
+    pub slot : name.slot < most_slots
+    pub place : Record
+    pub is_place : IsPlaceOf t.xid (doc_of name) place
+    pub puts : List Record
+    pub are_parts : AreParts (doc_of name) t.xid done puts
+    pub goes : Goes device old new (place ∷ puts)
+    pub behind : List ℕ
+    pub is_behind : most_short < length bytes → behind ≡ drop ((parts_for (length bytes) - done) * most_body) bytes
+    pub placed : (c : Commit) → c.inserted ≡ [] → HasChanged device old pass t.xid c
+        → HasPlaced device new pass' t.xid (doc_of name) bytes behind c.deleted
 
-  module _ (old new : DbValue D) (mid : JournalValue D) (v : Vector) (used : ℕ) (d : Prepared)
-      (f : Flushes old mid new.journal v used d) where
-    lawful : (file : List ℕ) (commits : History) → device.tells → (o : IsOpenedTo device file old commits)
-        → IsLogOf (logged old.journal.owes d.records o.log) (commits ++ insertion (next_document old v) ∷ [])
-    lawful file commits t o =
-        follows device old used v d f.value f.prepared (encoding_has_size v) t f.up o.log commits o.stands o.log_of
+  -- none is put yet
+  pub puts_begin : (old new : DbValue D) (pass pass' : Pass) (t : Transaction) (bytes : List ℕ) (name : Name)
+      → IsRunning device new pass' t → KeepsWork pass pass' → MetNoFault device old new → name.slot < most_slots
+      → (r : Record) × IsPlaceOf t.xid (doc_of name) r × Goes device old new (r ∷ [])
+      → ((c : Commit) → c.inserted ≡ [] → HasChanged device old pass t.xid c
+      → HasPlaced device new pass' t.xid (doc_of name) bytes [] c.deleted)
+      → PutsSoFar old pass t bytes name 0 new pass'
+  puts_begin old new pass pass' t bytes name running keeps met slot goes placed = record {
+    running = running;
+    keeps = keeps;
+    met = met;
+    slot = slot;
+    place = goes.0;
+    is_place = goes.1;
+    puts = [];
+    are_parts = refl;
+    goes = goes.2;
+    behind = [];
+    is_behind = λ long.
+        let n = parts_for (length bytes) in
+        let c : length bytes ≤ n * most_body = covers (length bytes) n (parts_long (length bytes) long) in
+        sym (drop_all ((n - 0) * most_body) bytes (omega (arith, c)));
+    placed = placed;
+  }
 
-    beside : (file : List ℕ) (commits : History) → device.tells → (o : IsOpenedTo device file old commits)
-        → PagesStand (logged old.journal.owes d.records o.log) file
-    beside file commits t o = stands_beside device file old.journal.owes d.records o.stands.waits o.stands.counted o.log
-        (commits ++ insertion (next_document old v) ∷ []) o.stands.all o.beside (lawful file commits t o)
+  module _ (old mid : DbValue D) (pass q : Pass) (t : Transaction) (bytes : List ℕ) (name : Name) (done : ℕ)
+      (s : PutsSoFar old pass t bytes name done mid q) where
+    -- ── one more ──
 
-    -- of the longer log the same counts
-    same_counts : (R : Log) (r : Stands device old.journal R)
-        (s : Stands device mid (logged old.journal.owes d.records R)) → device.tells → s.counted ≡ r.counted
-    same_counts R r s t =
-        f.one (device.seen (disk_of old)).log s.counted r.counted
-        (subst (λ z. IsCounted (device.seen z).log s.counted) f.has.disk
-        (counted_now device f.one mid (logged old.journal.owes d.records R) s t (f.has.down ∙ f.up)))
-        (counted_now device f.one old.journal R r t f.up)
+    next_here : (part : List ℕ) → done < parts_for (length bytes)
+        → part ≡ take most_body (drop ((parts_for (length bytes) - 1 - done) * most_body) bytes)
+        → IsNextPart bytes s.behind part
+    next_here part lt is =
+        let n = parts_for (length bytes) in
+        let k = n - 1 - done in
+        let below : k < n = omega (arith, lt) in
+        let same : n - done ≡ k + 1 = omega (arith, lt) in
+        subst (IsNextPart bytes s.behind) (sym is)
+        (next_part bytes s.behind k below
+        (s.is_behind (part_before (length bytes) k below).0
+        ∙ ap (λ (m : ℕ). drop (m * most_body) bytes) same))
 
-    between : (file : List ℕ) (commits : History) → device.tells → (o : IsOpenedTo device file old commits) → LeavesOnly
-        device (disk_of old) (disk_of new) (OpensToEither device file commits (insertion (next_document old v)))
-    between file commits t o =
-        let R' : Log = logged old.journal.owes d.records o.log in
-        let s : Stands device mid R' = f.logged o.log o.stands in
-        elim (f.moments t R' s) [
-          | inl same ↦
-              let here : LeavesOnly device (disk_of old) (disk_of old)
-              (OpensToEither device file commits (insertion (next_document old v))) =
-              started device (disk_of old) (OpensToEither device file commits (insertion (next_document old v)))
-              (λ c left. record {
-                pages = o.fixed c left;
-                opens = inl (opens_now device file old commits c t f.up o left);
-              }) in
-              subst (λ z. LeavesOnly device (disk_of old) z
-              (OpensToEither device file commits (insertion (next_document old v)))) (sym (same ∙ f.has.disk)) here
-          | inr run ↦
-              subst (λ z. LeavesOnly device z (disk_of new)
-              (OpensToEither device file commits (insertion (next_document old v)))) f.has.disk
-              (weaker_run device mid.disk (disk_of new) (CountsEither device mid.disk s.counted R')
-              (OpensToEither device file commits (insertion (next_document old v))) run
-              (λ c e. either device file old commits (insertion (next_document old v)) R' o (lawful file commits t o)
-              (beside file commits t o) c (subst (λ z. CountsEither device z o.stands.counted R' c) f.has.disk
-              (subst (λ z. CountsEither device mid.disk z R' c) (same_counts o.log o.stands s t) e))))
-        ]
+    pub part_starts : done < parts_for (length bytes)
+        → (parts_for (length bytes) - 1 - done) * most_body < length bytes
+    part_starts lt =
+        let n = parts_for (length bytes) in
+        let below : n - 1 - done < n = omega (arith, lt) in
+        (part_before (length bytes) (n - 1 - done) below).1
 
-    pub puts : PutsCommit device (insertion (next_document old v)) old new
-    puts = record {
-      time = subst (λ z. device.clock z ≤ device.clock (disk_of new)) f.has.disk f.time;
-      keeps = λ t. subst (λ z. KeepsPages device z (disk_of new)) f.has.disk (f.pages t);
-      moments = λ t file commits o. between file commits t o;
-      numbered = λ t file commits o. (lawful file commits t o).numbered;
-      stands = λ t file commits still o.
-          let R' : Log = logged old.journal.owes d.records o.log in
-          let s : Stands device new.journal R' = f.stands R' (f.logged o.log o.stands) in
-          let all : s.counted ≡ R' = all_count device new.journal R' s still (f.done still) in
-          record {
-            log = R';
-            stands = s;
-            log_of = lawful file commits t o;
-            counted = subst (λ z. IsLogOf z (commits ++ insertion (next_document old v) ∷ [])) (sym all)
-                (lawful file commits t o);
-            beside = subst (λ z. PagesStand z file) (sym all) (beside file commits t o);
-            fixed = λ c left. ((between file commits t o).each (device.clock (disk_of new)) c
-                (between file commits t o).later (omega arith) left).pages;
-          };
+    pub part_fits : (part : List ℕ)
+        → part ≡ take most_body (drop ((parts_for (length bytes) - 1 - done) * most_body) bytes)
+        → length part ≤ most_body
+    part_fits part is =
+        let rest : List ℕ = drop ((parts_for (length bytes) - 1 - done) * most_body) bytes in
+        omega (arith, ap length is, length-take most_body rest)
+
+    pub next_is : (part : List ℕ) → done < parts_for (length bytes)
+        → part ≡ take most_body (drop ((parts_for (length bytes) - 1 - done) * most_body) bytes)
+        → (c : Commit) × (c.inserted ≡ []) × HasChanged device old pass t.xid c
+        → (whole behind : List ℕ) × (names : List Name)
+        × IsNextPart whole behind part × HasPlaced device mid q t.xid (doc_of name) whole behind names
+    next_is part lt is had =
+        (bytes, s.behind, had.0.deleted, next_here part lt is, s.placed had.0 had.1 had.2)
+
+    pub puts_more : (part : List ℕ) (new : DbValue D) (r : Pass) → done < parts_for (length bytes)
+        → part ≡ take most_body (drop ((parts_for (length bytes) - 1 - done) * most_body) bytes)
+        → IsRunning device new r t → KeepsWork q r → MetNoFault device mid new
+        → (p : Record) × IsPartOf t.xid (doc_of name) p × Goes device mid new (p ∷ [])
+        → ((whole behind : List ℕ) (names : List Name) → IsNextPart whole behind part
+        → HasPlaced device mid q t.xid (doc_of name) whole behind names
+        → HasPlaced device new r t.xid (doc_of name) whole (part ++ behind) names)
+        → PutsSoFar old pass t bytes name (done + 1) new r
+    puts_more part new r lt is running keeps met goes put = record {
+      running = running;
+      keeps = keeps_on pass q r s.keeps keeps;
+      met = none_in_turn device s.met met;
+      slot = s.slot;
+      place = s.place;
+      is_place = s.is_place;
+      puts = s.puts ++ goes.0 ∷ [];
+      are_parts = parts_more (doc_of name) t.xid done 1 s.puts (goes.0 ∷ []) s.are_parts
+          (goes.1, (0, omega arith, refl));
+      goes = goes_on device s.goes goes.2;
+      behind = part ++ s.behind;
+      is_behind = λ long.
+          let n = parts_for (length bytes) in
+          let k = n - 1 - done in
+          let below : k < n = omega (arith, lt) in
+          let same : n - done ≡ k + 1 = omega (arith, lt) in
+          let left : k ≡ n - (done + 1) = omega (arith, lt) in
+          let was = s.is_behind long ∙ ap (λ (m : ℕ). drop (m * most_body) bytes) same in
+          ap (λ (l : List ℕ). l ++ s.behind) is ∙ joined bytes s.behind k below was
+          ∙ ap (λ (m : ℕ). drop (m * most_body) bytes) left;
+      placed = λ c none had. put bytes s.behind c.deleted (next_here part lt is) (s.placed c none had);
     }
+
+    -- ── all are put ──
+
+    pub puts_all : done ≡ parts_for (length bytes)
+        → (rs : List Record) × ArePut bytes t.xid rs × Goes device old mid rs
+    puts_all all = (
+      s.place ∷ s.puts,
+      (doc_of name, s.is_place, subst (λ (n : ℕ). AreParts (doc_of name) t.xid n s.puts) all s.are_parts),
+      s.goes,
+    )
+
+    pub puts_it : done ≡ parts_for (length bytes) → (v : Vector) (c : Commit) → IsEncoding bytes v → c.inserted ≡ []
+        → HasChanged device old pass t.xid c → HasChanged device mid q t.xid (with_inserted (document name v) c)
+    puts_it all v c is none had =
+        let none_left : parts_for (length bytes) - done ≡ 0 = omega (arith, all) in
+        put_done device mid q t.xid (doc_of name) name bytes s.behind v c (sym (named name s.slot))
+        (all_in bytes s.behind
+        (λ long. s.is_behind long ∙ ap (λ (m : ℕ). drop (m * most_body) bytes) none_left)
+        (leb_tells (length bytes) most_short))
+        is none (s.placed c none had)
+
+    -- ── one is refused ──
+
+    pub puts_some : (new : DbValue D) → done < parts_for (length bytes) → Goes device mid new []
+        → (logged rest : List Record) × ArePut bytes t.xid (logged ++ rest) × Goes device old new logged
+    puts_some new lt goes =
+        let n = parts_for (length bytes) in
+        let rest = some_parts t.xid (doc_of name) (n - done) in
+        let sum : done + (n - done) ≡ n = omega (arith, lt) in (
+          s.place ∷ s.puts,
+          rest.0,
+          put_so_far t.xid bytes (doc_of name) done (n - done) s.place s.puts rest.0 sum s.is_place s.are_parts rest.1,
+          goes_still device s.goes goes,
+        )
+
+    -- this would have been the next record
+    stopped : (Why : DbValue D → List Record → Record → Type 0) (z : DbValue D) (r : Record)
+        → done < parts_for (length bytes) → IsPartOf t.xid (doc_of name) r → Goes device mid z []
+        → Why z (s.place ∷ s.puts) r → Puts device old t.xid bytes Why
+    stopped Why z r lt is goes why =
+        let n = parts_for (length bytes) in
+        let m = n - 1 - done in
+        let rest = some_parts t.xid (doc_of name) m in
+        let sum : done + (m + 1) ≡ n = omega (arith, lt) in
+        record {
+          store = z;
+          done = s.place ∷ s.puts;
+          next = r;
+          rest = rest.0;
+          are_put = put_so_far t.xid bytes (doc_of name) done (m + 1) s.place s.puts (r ∷ rest.0) sum s.is_place
+              s.are_parts (is, (m, refl, rest.1));
+          goes = goes_still device s.goes goes;
+          why = why;
+        }
+
+    own_bad : (z : DbValue D) (p : ℕ) → p ≡ name.page → IsNone z (HasHeadIn z name.slot) p
+        → IsBadPage z (λ (n : Name). ⊥) (s.place ∷ s.puts) p
+    own_bad z p same none = IsBadPage.own name.slot
+        (record {
+          placing = s.place;
+          there = inl refl;
+          item = (doc_of name).item;
+          serial = (doc_of name).serial;
+          kind_is = (s.is_place).kind_is;
+          place = (page_is name s.slot ∙ sym same, slot_is name s.slot);
+        }) none
+
+    bad_part : (z : DbValue D) (p : ℕ) → ((p ≡ name.page) × IsNone z (HasHeadIn z name.slot) p) ⊎ IsNoNewPage z p
+        → IsBadPage z (λ (n : Name). ⊥) (s.place ∷ s.puts) p
+    bad_part z p (inl own) = own_bad z p own.0 own.1
+    bad_part z p (inr new) = IsBadPage.new new.0 new.1 new.2
+
+    pub part_cause : (e : DbError) → done < parts_for (length bytes) → CannotPutPart device mid t.xid name e
+        → CannotPut device old t.xid bytes e
+    part_cause (store.Down f) lt why = sym (s.met).down ∙ why
+    part_cause store.StoreFull lt why =
+        let r = some_part t.xid (doc_of name) in
+        stopped
+        (λ (z : DbValue D) (rs : List Record) (n : Record). NeedsPageFor device bytes t.xid z n.kind × IsStoreFull z)
+        why.0 r.0 lt r.1 why.1
+        (subst (λ (k : Kind). NeedsPageFor device bytes t.xid why.0 k) (sym (r.1).kind_is) tt, why.2)
+    part_cause store.LogFull lt why =
+        stopped (λ (z : DbValue D) (rs : List Record) (n : Record). HasNoRoomFor z n)
+        why.0 why.2.0 lt why.2.1 why.1 why.2.2
+    part_cause (store.BadPage p) lt why =
+        let r = some_part t.xid (doc_of name) in
+        stopped (λ (z : DbValue D) (rs : List Record) (n : Record). IsBadPage z (λ (m : Name). ⊥) rs p)
+        why.0 r.0 lt r.1 why.1 (bad_part why.0 p why.2)
+    part_cause store.DiskFault lt why = tt
+    part_cause store.OutOfMemory lt why = tt
+    part_cause store.NoDocument lt why = why
+    part_cause (store.Conflict x) lt why = why
+    part_cause store.XidsSpent lt why = why
+
+    -- none of the records is a Commit
+    puts_plain : AreNoCommits (s.place ∷ s.puts)
+    puts_plain = (
+      subst NotCommit (sym (s.is_place).kind_is) tt,
+      parts_plain t.xid (doc_of name) done s.puts s.are_parts,
+    )
+
+    pub part_lawful : (e : DbError) → MeetsNoBadPage device mid e → MeetsNoBadPage device old e
+    part_lawful = no_bad_before device old mid s.goes puts_plain s.met
+
+  -- ── the head is refused ──
+
+  pub puts_none : (old new : DbValue D) (x : ℕ) (bytes : List ℕ) → Goes device old new []
+      → (logged rest : List Record) × ArePut bytes x (logged ++ rest) × Goes device old new logged
+  puts_none old new x bytes goes = let rest = some_put x bytes in ([], rest.0, rest.1, goes)
+
+  unplaced : (old : DbValue D) (x : ℕ) (bytes : List ℕ) (Why : DbValue D → List Record → Record → Type 0)
+      (z : DbValue D) (d : Doc) (r : Record) → IsPlaceOf x d r → Goes device old z [] → Why z [] r
+      → Puts device old x bytes Why
+  unplaced old x bytes Why z d r is goes why =
+      let rest = some_parts x d (parts_for (length bytes)) in
+      record {
+        store = z;
+        done = [];
+        next = r;
+        rest = rest.0;
+        are_put = (d, is, rest.1);
+        goes = goes;
+        why = why;
+      }
+
+  bad_place : (z : DbValue D) (p : ℕ) → (In p (heap_pages (state_of z)) × IsNone z (IsHeap z) p) ⊎ IsNoNewPage z p
+      → IsBadPage z (λ (n : Name). ⊥) [] p
+  bad_place z p (inl heap) = IsBadPage.heap (inl heap.0) heap.1
+  bad_place z p (inr new) = IsBadPage.new new.0 new.1 new.2
+
+  pub place_cause : (old : DbValue D) (x : ℕ) (bytes : List ℕ) (e : DbError) → CannotPlace device old x bytes e
+      → CannotPut device old x bytes e
+  place_cause old x bytes (store.Down f) why = why
+  place_cause old x bytes store.StoreFull why =
+      let r = some_place x (doc_at 0 0) in
+      unplaced old x bytes
+      (λ (z : DbValue D) (rs : List Record) (n : Record). NeedsPageFor device bytes x z n.kind × IsStoreFull z)
+      why.0 (doc_at 0 0) r.0 r.1 why.1
+      (subst (λ (k : Kind). NeedsPageFor device bytes x why.0 k) (sym (r.1).kind_is) why.2.0, why.2.1)
+  place_cause old x bytes store.LogFull why =
+      unplaced old x bytes (λ (z : DbValue D) (rs : List Record) (n : Record). HasNoRoomFor z n)
+      why.0 why.2.0 why.2.1 why.2.2 why.1 why.2.3
+  place_cause old x bytes (store.BadPage p) why =
+      let r = some_place x (doc_at 0 0) in
+      unplaced old x bytes
+      (λ (z : DbValue D) (rs : List Record) (n : Record). IsBadPage z (λ (m : Name). ⊥) rs p)
+      why.0 (doc_at 0 0) r.0 r.1 why.1 (bad_place why.0 p why.2)
+  place_cause old x bytes store.DiskFault why = tt
+  place_cause old x bytes store.OutOfMemory why = tt
+  place_cause old x bytes store.NoDocument why = why
+  place_cause old x bytes (store.Conflict y) why = why
+  place_cause old x bytes store.XidsSpent why = why

@@ -1,153 +1,151 @@
--- The value of a store after an insertion.
-use Rattle.std.proofs.Common.{◌≡◌, inl, inr, ℕ, ◌+◌, ◌<◌, ◌≤◌, List, [], ◌∷◌, ◌++◌, length, length-append, map, arith}
-use Rattle.std.proofs.Common.{refl, sym, ◌∙◌, ap, subst}
-use Rattle.std.specs.Prelude.{Some, None, sum_by}
-use Rattle.std.proofs.lemmas.Bool.{cases_lt}
-use Rattle.std.proofs.lemmas.List.Sums.{sum_by_push}
+-- What a statement that changes documents answers, from its parts.
+use Rattle.std.proofs.Common.{◌≡◌, inl, inr, List, [], ◌∷◌, ◌++◌, refl, sym, subst, ◌∙◌, arith}
+use Rattle.std.specs.Prelude.{Option, Some, None, Result, Ok, Err, OnOk, OnErr, IfOk, IfErr, IfSome}
+use Rattle.std.specs.List.{All}
+use Rattle.std.proofs.lemmas.List.Elements.{All-nil, All-cons}
 use Rattle.disk_trait.specs.declared.device.Disk.{Ghosts as Disk}
-use Rattle.wal.specs.Waiting.{waiting, down_of}
-use Rattle.ts_base.specs.Vectors.{Vector}
-use Rattle.ts_base.specs.Encoding.{vector_bytes}
-use Rattle.ts_base.proofs.Encoding.{encoding_has_size}
-use Rattle.std.specs.List.{flat_map, AllByRecursion}
-use Rattle.page_types.specs.Pages.{IsSlot}
-use Rattle.page_types.specs.Encoding.{slot_bytes, page_bytes}
-use Rattle.page_types.specs.Views.{slots_of}
-use Rattle.page_types.specs.declared.page.Head.{Head}
-use Rattle.page_types.proofs.PageLaws.{page_told}
-use Rattle.core_state.specs.Log.{Log, replay}
-use Rattle.core_state.specs.History.{Commit, History}
-use Rattle.core_state.proofs.Histories.{history_one}
-use Rattle.buffer_frames.specs.Opens.{IsLogOf, insertion}
-use Rattle.buffer_frames.specs.Journals.{JournalValue, Stands, logged}
-use Rattle.buffer_frames.specs.Logging.{steps_of, after_owed}
-use Rattle.engine.specs.AtOpening.{room}
-use Rattle.engine.specs.Inner.Kept.{Kept, AreEncoded, kept_in, documents_from, room_of}
-use Rattle.engine.specs.Inner.Heaps.{new_head, heap_with, IsHeapOf}
-use Rattle.engine.specs.Inner.DbValue.{DbValue, IsDbValue}
-use Rattle.engine.specs.Inner.Inside.{next_serial_of, next_xid_of}
-use Rattle.engine.specs.Inner.Puts.{next_document}
-use Rattle.engine.specs.Inner.Prepared.{IsPreparedFor}
-use Rattle.engine.specs.declared.db.Prepared.{Prepared}
-use Rattle.engine.proofs.Held.{pushed}
-use Rattle.engine.proofs.Pages.{slots_push, bytes_push, new_is_head, head_room}
-use Rattle.engine.proofs.Inserting.{follows, encoded}
-use Rattle.engine.proofs.Encoded.{kept_more, encoded_push}
-use Rattle.engine.proofs.Drawing.{numbers}
-use Rattle.engine.proofs.Knowing.{stands_one, lawful_before, replayed}
-use Rattle.engine.proofs.Putting.{Flushes}
+use Rattle.page_types.specs.declared.record.Record.{Record}
+use Rattle.core_state.specs.History.{Commit}
+use Rattle.buffer_frames.specs.Passes.{IsPassOf}
+use Rattle.buffer_frames.specs.declared.pass.Pass.{Pass}
+use Rattle.engine.specs.Finding.{Name}
+use Rattle.engine.specs.Work.{Work, commit_of, deleted_by, deleting, IsBeginOf}
+use Rattle.engine.specs.Going.{Goes, MetNoFault, FaultIsTold}
+use Rattle.engine.specs.Causes.{IsListed, AreXidsSpent}
+use Rattle.engine.specs.Answers.{TakesSnapshot, HasCommitted, HasRefused, HasStored, HasDeleted, WereThere}
+use Rattle.engine.specs.Db.{DbValue, flushed_of, IsUp}
+use Rattle.engine.specs.Inner.Parts.{IsRunning, KeepsWork, KeepsRoom, HasChanged, CannotBegin, GivesUp, IsNotEnded}
+use Rattle.engine.specs.Inner.Parts.{EndsAs}
+use Rattle.engine.specs.Inner.Doing.{HasDone, HasStopped, IsNotDone}
+use Rattle.engine.specs.declared.transaction.Transaction.{Transaction}
+use Rattle.engine.specs.declared.error.DbError.{DbError}
+use Rattle.engine.proofs.Paths.{goes_on}
+use Rattle.engine.proofs.Causing.{HasBegun, refuse_with, refuses_begin}
+use Rattle.engine.proofs.Listing.{listed_is_there}
+use Rattle.engine.proofs.Statements.{is_refused, TellsErr, fault_told, refused, committed, failed}
 
--- the documents of the slots with the new head
-pub draft_kept : {D : Type 0} (s : DbValue D) (v : Vector) (d : Prepared) → s.documents ≡ kept_in s.heap
-    → IsPreparedFor s v d
-    → kept_in d.heap ≡ s.documents ++ (let k : Kept = record { serial = next_serial_of s; vector = v } in k) ∷ []
-draft_kept s v d same f =
-    let h : Head = new_head (next_serial_of s) (next_xid_of s) (vector_bytes v) in
-    let short : length (vector_bytes v) ≤ 2000 =
-    elim (cases_lt 2000 (length (vector_bytes v))) [ inl lt ↦ absurd (f.fits (inl lt)) | inr le ↦ le ] in
-    let k : Kept = record { serial = next_serial_of s; vector = v } in
-    ap kept_in f.heap ∙ kept_more s.heap h k refl (encoded v f.normal (encoding_has_size v) short)
-    ∙ ap (λ ks. ks ++ k ∷ []) (sym same)
+-- ── the pass ──
 
-module _ {D : Type 0} (device : Disk D) (old : DbValue D) (mid next : JournalValue D) (v : Vector) (used : ℕ)
-    (d : Prepared) (f : Flushes device old mid next v used d) where
-  some_made : 0 < next.state.records
-  some_made =
-      let number : mid.state.records ≡ d.insertion.number + 2 = ap (λ z. z.records)
-      (f.has.state ∙ ap (λ rs. steps_of rs (after_owed old.journal.owes old.journal.state)) f.prepared.records)
-      ∙ numbers (after_owed old.journal.owes old.journal.state) d.insertion d.heap in
-      omega (arith, ap (λ z. z.records) f.state, number)
+pub snapshot_on : {D : Type 0} (old s new : DbValue D) (p q r u : Pass) → TakesSnapshot old s p q → KeepsWork q r
+    → KeepsRoom r u → IsPassOf new.frames u → TakesSnapshot old new p u
+snapshot_on old s new p q r u takes work room of = record {
+  before = takes.before;
+  then = (omega (arith, takes.then.0, work.shown, room.shown), of.shown);
+  up = λ up. let le = takes.up up in omega (arith, le, work.shown, room.shown);
+  room = room.room ∙ work.room ∙ takes.room;
+}
 
-  -- where the device failed
-  pub value_down : (documents : List Kept) → documents ≡ old.documents → (down_of next.wal ≡ None → ⊥)
-      → IsDbValue device (record { documents = documents; heap = old.heap; journal = next }) used
-  value_down documents e fell = record {
-    small = f.value.small;
-    few = omega (arith, f.value.few, ap length e);
-    taken = f.value.taken ∙ ap (sum_by room_of) (sym e);
-    fits = f.value.fits;
-    heads = f.value.heads ∙ ap length (sym e);
-    each = f.value.each;
-    encoded = f.value.encoded;
-    idle = λ up. absurd (fell up);
-    made = some_made;
-    log = logged old.journal.owes d.records f.value.log;
-    stands = f.stands (logged old.journal.owes d.records f.value.log) (f.logged f.value.log f.value.stands);
-    known = λ t up. absurd (fell up);
+module _ {D : Type 0} (device : Disk D) where
+  -- ── a statement begins ──
+
+  listed_all : (old : DbValue D) (o : Option Name) → IfSome o (λ n. IsListed old n)
+      → All (IsListed old) (deleted_by o)
+  listed_all old None l = All-nil (IsListed old)
+  listed_all old (Some n) l = All-cons (IsListed old) n [] l (All-nil (IsListed old))
+
+  pub has_begun : (old s : DbValue D) (t : Transaction) (w : Work) → t.snapshot ≡ flushed_of old
+      → (b : Record) × IsBeginOf t.xid b × Goes device old s (b ∷ [])
+      → IsUp old × (AreXidsSpent old → ⊥) × IfSome w.deletes (λ n. IsListed old n) → MetNoFault device old s
+      → HasBegun device old s t w
+  has_begun old s t w snapshot begun may met = record {
+    up = may.0;
+    listed = listed_all old w.deletes may.2;
+    xids = may.1;
+    snapshot = snapshot;
+    first = begun.0;
+    is_begin = begun.1;
+    goes = begun.2;
+    met = met;
   }
 
-  -- where the records were put: the longer log has the new page
-  known_up : (documents : List Kept) → documents ≡ old.documents ++ (let k : Kept = record {
-    serial = next_serial_of old;
-    vector = v;
-  } in k) ∷ [] → device.tells → down_of next.wal ≡ None → (R : Log) (H : History) → Stands device next R → IsLogOf R H
-      → IsHeapOf R H documents d.heap
-  known_up documents e t up R H st l =
-      let log : Log = f.value.log in
-      let k : Kept = record { serial = next_serial_of old; vector = v } in
-      let c : Commit = insertion (next_document old v) in
-      let R' : Log = logged old.journal.owes d.records log in
-      let same : R ≡ R' = stands_one device f.one next R R' st (f.stands R' (f.logged log f.value.stands)) t up in
-      let l' : IsLogOf R' H = subst (λ z. IsLogOf z H) same l in
-      let b : (K : History) × IsLogOf log K = lawful_before old.journal.owes d.insertion d.heap log H
-      (subst (λ rs. IsLogOf (logged old.journal.owes rs log) H) f.prepared.records l') in
-      let more : IsLogOf R' (b.0 ++ c ∷ []) =
-      follows device old used v d f.value f.prepared (encoding_has_size v) t f.up log b.0 f.value.stands b.1 in
-      let longer : H ≡ b.0 ++ c ∷ [] = history_one R' H (b.0 ++ c ∷ []) l'.history more.history in
-      let before : IsHeapOf log b.0 old.documents old.heap = f.value.known t f.up log b.0 f.value.stands b.1 in
-      record {
-        documents = longer ∙ ap (λ z. z ++ c ∷ []) before.documents ∙ pushed old.documents k
-            ∙ ap (λ z. map insertion (documents_from 0 z)) (sym e);
-        slots_are = λ P shown.
-            let bytes : page_bytes (P 2) ≡ page_bytes (heap_with (d.insertion.number + 1) d.heap) =
-            (shown 2).1 ∙ ap (λ z. replay z 2) (same ∙ ap (λ rs. logged old.journal.owes rs log) f.prepared.records)
-            ∙ replayed old.journal.owes d.insertion d.heap log in
-            ap slots_of (page_told (P 2) (heap_with (d.insertion.number + 1) d.heap) (shown 2).0 f.prepared.page bytes);
-      }
+  pub not_begun : (T : Type 0) (old new : DbValue D) (w : Work) (e : DbError) → Goes device old new []
+      → CannotBegin device old new w.deletes e → TellsErr device T old new e → HasRefused device old new w e
+  not_begun T old new w e p why told =
+      refuse_with device old new w e (refuses_begin device old new w e (fault_told device T old new e told) why)
+      (is_refused device w p (Rattle.engine.specs.Work.AreRefused.none refl))
 
-  pub value_up : (documents : List Kept) → documents ≡ old.documents ++ (let k : Kept =
-      record { serial = next_serial_of old; vector = v } in k) ∷ [] → waiting next.wal ≡ []
-      → IsDbValue device (record { documents = documents; heap = d.heap; journal = next }) (used + (29 + d.size))
-  value_up documents e none =
-      let k : Kept = record { serial = next_serial_of old; vector = v } in
-      let h : Head = new_head (next_serial_of old) (next_xid_of old) (vector_bytes v) in
-      let short : length (vector_bytes v) ≤ 2000 =
-      elim (cases_lt 2000 (length (vector_bytes v))) [ inl lt ↦ absurd (f.prepared.fits (inl lt)) | inr le ↦ le ] in
-      let left : sum_by room_of old.documents + room v ≤ 8168 = elim (cases_lt 8168
-      (sum_by room_of old.documents + room v)) [ inl lt ↦ absurd (f.prepared.fits (inr lt)) | inr le ↦ le ] in
-      record {
-        small = omega (arith, f.value.taken, f.prepared.size, left);
-        few = omega (arith, f.value.few, ap length e, length-append old.documents (k ∷ []));
-        taken =
-            omega (arith, f.value.taken, f.prepared.size, ap (sum_by room_of) e, sum_by_push room_of old.documents k);
-        fits = omega (
-          arith,
-          ap (λ z. length (flat_map slot_bytes z)) f.prepared.heap,
-          bytes_push old.heap (Some h),
-          head_room (next_serial_of old) (next_xid_of old) (vector_bytes v),
-          f.value.fits,
-          f.prepared.size,
-        );
-        heads = omega (
-          arith,
-          ap length f.prepared.heap,
-          length-append old.heap (Some h ∷ []),
-          f.value.heads,
-          ap length e,
-          length-append old.documents (k ∷ []),
-        );
-        each = subst (AllByRecursion IsSlot) (sym f.prepared.heap)
-            (slots_push old.heap (Some h) f.value.each
-            (new_is_head (next_serial_of old) (next_xid_of old) (vector_bytes v) (omega (
-              arith,
-              f.prepared.serial,
-              f.prepared.small_serial,
-            )) (omega (arith, f.prepared.some_xid)) short));
-        encoded = subst AreEncoded (sym f.prepared.heap)
-            (encoded_push old.heap h v f.value.encoded (encoded v f.prepared.normal (encoding_has_size v) short));
-        idle = λ up. omega (arith, ap length none);
-        made = some_made;
-        log = logged old.journal.owes d.records f.value.log;
-        stands = f.stands (logged old.journal.owes d.records f.value.log) (f.logged f.value.log f.value.stands);
-        known = known_up documents e;
-      }
+  -- ── it ends ──
+
+  -- what has changed, where the work is done
+  pub changed_some : (s d : DbValue D) (pass : Pass) (t : Transaction) (w : Work) (r : Result Name DbError)
+      → IfOk r (λ n. HasDone device s d pass t w (commit_of w n))
+      → OnOk r ((c : Commit) × HasChanged device d pass t.xid c)
+  changed_some s d pass t w (Ok n) done = (commit_of w n, done.changed)
+  changed_some s d pass t w (Err e) done = tt
+
+  pub removed_some : (s d : DbValue D) (pass : Pass) (t : Transaction) (n : Name) (r : Result (Unit {0}) DbError)
+      → OnOk r (HasDone device s d pass t (deleting n) (commit_of (deleting n) n))
+      → OnOk r ((c : Commit) × HasChanged device d pass t.xid c)
+  removed_some s d pass t n (Ok u) done = (commit_of (deleting n) n, done.changed)
+  removed_some s d pass t n (Err e) done = tt
+
+  pub stopped_none : (s d : DbValue D) (t : Transaction) (n : Name) (r : Result (Unit {0}) DbError)
+      → OnErr r (Goes device s d []) → OnErr r (HasStopped device s d t.xid (deleting n))
+  stopped_none s d t n (Ok u) p = tt
+  stopped_none s d t n (Err e) p = inl p
+
+  -- what work is answered, where the document that it inserts gets a name
+  abbrev pub Answers : (T : Type 0) → (T → Name) → DbValue D → DbValue D → Pass → Work → Result T DbError → Type 0
+  Answers T name old new pass w (Ok a) = HasCommitted device old new pass w (name a)
+  Answers T name old new pass w (Err e) = HasRefused device old new w e
+
+  pub stored : (old new : DbValue D) (pass : Pass) (w : Work) (r : Result Name DbError)
+      → Answers Name (λ n. n) old new pass w r → HasStored device old new pass w r
+  stored old new pass w (Ok n) a = a
+  stored old new pass w (Err e) a = a
+
+  pub deleted : (n : Name) (old new : DbValue D) (pass : Pass) (w : Work) (r : Result (Unit {0}) DbError)
+      → Answers (Unit {0}) (λ u. n) old new pass w r → HasDeleted device old new pass w r
+  deleted n old new pass w (Ok u) a = (n, a)
+  deleted n old new pass w (Err e) a = a
+
+  module _ (T : Type 0) (name : T → Name) (old s d new : DbValue D) (pass pass' : Pass) (t : Transaction) (w : Work)
+      (B : HasBegun device old s t w) (up : IsUp s) (run : IsRunning device d pass t) where
+    were_there : WereThere device old new w
+    were_there tells found H f = λ k n lt. listed_is_there device tells found H old f B.up _ (B.listed k n lt)
+
+    pub answers : (r q : Result T DbError)
+        → IfOk r (λ a. HasDone device s d pass t w (commit_of w (name a))) → OnErr r (HasStopped device s d t.xid w)
+        → IfErr r (λ e. IsNotDone device s t w e) → FaultIsTold device s d r → EndsAs device d new pass' t.xid r q
+        → Answers T name old new pass' w q × FaultIsTold device old new q
+    answers (Ok a) (Ok g) done stop why told ends =
+        let c =
+        committed device old s t w B d pass (name a) done run.is_pass run.xid told new pass' a g were_there ends in
+        (subst (λ (x : T). HasCommitted device old new pass' w (name x)) (sym ends.0) c.0, c.1)
+    answers (Ok a) (Err e) done stop why told ends =
+        failed device old s t w B d pass (name a) done run.is_pass run.xid told T new pass' a e ends
+    answers (Err r) (Ok g) done stop why told ends = absurd ends
+    answers (Err r) (Err e) done stop why told ends =
+        refused device old s t w B T d new r e up stop why told ends.0 ends.1
+
+    abbrev SomePath : DbValue D → DbValue D → Type 0
+    SomePath a b = (rs : List Record) × Goes device a b rs
+
+    gone_path : GivesUp device d new t.xid → SomePath d new
+    gone_path (inl p) = ([], p)
+    gone_path (inr a) = (a.0 ∷ [], a.2)
+
+    not_ended_path : (e : DbError) → IsNotEnded device d new t.xid e → SomePath d new
+    not_ended_path e (IsNotEnded.full l gone) = gone_path gone
+    not_ended_path e (IsNotEnded.memory gone) = gone_path gone
+    not_ended_path e (IsNotEnded.failed gone) = gone_path gone
+    not_ended_path e (IsNotEnded.flush c is p) = (c ∷ [], p)
+
+    end_path : (r q : Result T DbError) → EndsAs device d new pass' t.xid r q → SomePath d new
+    end_path (Ok a) (Ok g) ends = (ends.1.0 ∷ [], ends.1.2)
+    end_path (Ok a) (Err e) ends = not_ended_path e ends.0
+    end_path (Err r) (Ok g) ends = absurd ends
+    end_path (Err r) (Err e) ends = gone_path ends.0
+
+    done_path : (r : Result T DbError) → IfOk r (λ a. HasDone device s d pass t w (commit_of w (name a)))
+        → OnErr r (HasStopped device s d t.xid w) → SomePath s d
+    done_path (Ok a) done stop = (done.records, done.goes)
+    done_path (Err e) done (inl p) = ([], p)
+    done_path (Err e) done (inr a) = (a.0, a.2)
+
+    pub path : (r q : Result T DbError) → IfOk r (λ a. HasDone device s d pass t w (commit_of w (name a)))
+        → OnErr r (HasStopped device s d t.xid w) → EndsAs device d new pass' t.xid r q → SomePath old new
+    path r q done stop ends =
+        let mid = done_path r done stop in
+        let last = end_path r q ends in
+        ((B.first ∷ mid.0) ++ last.0, goes_on device (goes_on device B.goes mid.1) last.1)

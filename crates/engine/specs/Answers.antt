@@ -1,64 +1,187 @@
 -- What the calls of a store answer, and what they leave.
-use Rattle.std.specs.Prelude.{◌≡◌, ◌≤◌, [], ◌∷◌, ◌++◌, length, Some, Result, Ok, Err, Vec}
+use Rattle.std.specs.Prelude.{◌≡◌, ◌⊎◌, suc, ◌≤◌, List, [], ◌∷◌, ◌++◌, length, reverse, take, Some, None, Result, Ok}
+use Rattle.std.specs.Prelude.{Err, Vec, ⊤}
 use Rattle.std.specs.declared.alloc.Global.{Global}
-use Rattle.disk_trait.specs.Device.{Rose}
 use Rattle.disk_trait.specs.declared.device.Disk.{Ghosts as Disk}
 use Rattle.ts_base.specs.Vectors.{Vector}
-use Rattle.engine.specs.Finding.{Name, Commit, History, docs, insertion, IsFound}
-use Rattle.engine.specs.AtOpening.{AtOpening, IsFull, IsLogFull, AreXidsSpent}
-use Rattle.engine.specs.Standing.{disk_of, fault_of, IsUp, IsFlushed, StandsFor, Rests, PutsCommit}
-use Rattle.engine.specs.Inner.DbValue.{DbValue}
+use Rattle.core_state.specs.Log.{Log}
+use Rattle.page_types.specs.declared.record.Record.{Record}
+use Rattle.std.specs.List.{All}
+use Rattle.buffer_frames.specs.Frames.{Stands}
+use Rattle.buffer_frames.specs.Journals.{owed_abort}
+use Rattle.buffer_frames.specs.Passes.{IsPassOf}
+pub use Rattle.buffer_frames.specs.declared.pass.Pass.{Pass}
+use Rattle.engine.specs.Finding.{Name, History, docs, IsFound, IsInSnapshot, AreCommitNames}
+use Rattle.engine.specs.Db.{DbValue, disk_of, fault_of, state_of, IsUp, IsFlushed, flushed_of}
+use Rattle.engine.specs.Standing.{StandsFor, HasGrown}
+use Rattle.engine.specs.Going.{Goes, MetFault}
+use Rattle.engine.specs.Work.{Work, commit_of, deleted_by, AreCommitted, AreRefused}
+use Rattle.engine.specs.Causes.{IsDown, AreXidsSpent, IsListed, IsBadPage, IsMissing, Conflicts, AreThere, LacksPage}
+use Rattle.engine.specs.Causes.{LacksLog, LacksLogForBegin, MeetsBadPage}
+use Rattle.engine.specs.declared.commit_names.CommitNames.{CommitNames}
 use Rattle.engine.specs.declared.error.DbError.{DbError}
-use Rattle.engine.specs.declared.error.DbError.TheVariants.{StoreFull, LogFull, XidsSpent, Down, DiskFault, OutOfMemory}
+use Rattle.engine.specs.declared.error.DbError.TheVariants.{NoDocument, Conflict, StoreFull, LogFull, XidsSpent, Down}
+use Rattle.engine.specs.declared.error.DbError.TheVariants.{DiskFault, BadPage, OutOfMemory}
 
--- the commit of a document that has this name
-abbrev pub commit_of : Name → Vector → Commit
-commit_of name v = insertion (record { name = name; vector = v })
+-- ── what every call keeps ──
 
-module _ {D : Type 0} (device : Disk D) (found : AtOpening) (H : History) where
-  -- Of a store that stood for H: the document of this vector is there, and its commit is flushed, whatever the
-  -- device says.
-  pub record HasStored (old new : DbValue D) (v : Vector) (name : Name) : Type 0 where
+-- a session between two calls: it holds no page, no snapshot and no transaction
+pub record IsSession {D : Type 0} (s : DbValue D) (pass : Pass) : Type 0 where
+  pub is_pass : IsPassOf s.frames pass
+  pub idle : (pass.pin ≡ None) × (pass.held ≡ 0) × (pass.xid ≡ None)
+
+-- another session stays one
+abbrev pub KeepsSessions : {D : Type 0} → DbValue D → DbValue D → Type 0
+KeepsSessions old new = (other : Pass) → IsSession old other → IsSession new other
+
+-- The snapshot of a call is of all flushed commits. What its session was shown before is among them,
+-- and afterwards it was shown them. Its room stays.
+pub record TakesSnapshot {D : Type 0} (old new : DbValue D) (pass pass' : Pass) : Type 0 where
+  pub before : pass.shown ≤ flushed_of old
+  pub then : (pass.shown ≤ pass'.shown) × (pass'.shown ≤ flushed_of new)
+  pub up : IsUp old → flushed_of old ≤ pass'.shown
+  pub room : pass'.room ≡ pass.room
+
+-- the log has these records more, after the Abort that an opening owed, where there is any
+abbrev pub HasLogged : {D : Type 0} → Disk D → DbValue D → DbValue D → (List Record → Type 0)
+    → Type 0
+HasLogged device old new Are =
+    (R : Log) → Stands device old.frames R
+    → (rs : List Record) × (before : Log) × Are rs × Stands device new.frames (reverse rs ++ (before ++ R))
+    × ((before ≡ []) ⊎ (before ≡ owed_abort (suc (length R)) ∷ []))
+
+-- ── refusals of a lawful store ──
+
+module _ {D : Type 0} (device : Disk D) (old : DbValue D) where
+  -- What a refusal tells of the snapshot of a store with the history H: no document is answered where what
+  -- the work deletes isn't in it, and no page is bad; where the work could begin, it is.
+  abbrev pub TellsOf : History → Work → DbError → Type 0
+  TellsOf H w NoDocument = All (λ (name : Name). IsInSnapshot H (flushed_of old) name → ⊥) (deleted_by w.deletes)
+  TellsOf H w (BadPage p) = ⊥
+  TellsOf H w (Down fault) = ⊤
+  TellsOf H w DiskFault = ⊤
+  TellsOf H w OutOfMemory = ⊤
+  TellsOf H w e = All (IsInSnapshot H (flushed_of old)) (deleted_by w.deletes)
+
+  -- what work on a lawful store is refused by
+  abbrev pub IsLawfulRefusal : Work → DbError → Type 0
+  IsLawfulRefusal w e =
+      device.tells → (found H : History) → StandsFor device found old H → IsUp old → TellsOf H w e
+
+  -- what calls that only read a lawful store are refused by: no page is bad
+  abbrev pub MeetsNoBadPage : DbError → Type 0
+  MeetsNoBadPage (BadPage p) =
+      device.tells → (found H : History) → StandsFor device found old H → IsUp old → ⊥
+  MeetsNoBadPage e = ⊤
+
+module _ {D : Type 0} (device : Disk D) (old new : DbValue D) where
+  -- no document has changed
+  abbrev pub ChangesNothing : Type 0
+  ChangesNothing = HasGrown device old new []
+
+  -- ── work that is done ──
+
+  -- what the work deletes was in the snapshot of a lawful store
+  abbrev pub WereThere : Work → Type 0
+  WereThere w =
+      device.tells → (found H : History) → StandsFor device found old H
+      → All (IsInSnapshot H (flushed_of old)) (deleted_by w.deletes)
+
+  -- The work was done as this commit, which is flushed as all is, and the pass was shown it. For each
+  -- of its records there was room in the log.
+  pub record HasCommitted (pass : Pass) (w : Work) (name : Name) : Type 0 where
     pub up : IsUp old
     pub still_up : IsUp new
-    pub flushed : IsFlushed new
-    pub xids : AreXidsSpent found (length H) → ⊥
-    pub room : IsFull (docs H) v → ⊥
-    pub log_room : IsLogFull found (length H) → ⊥
-    pub stands : StandsFor found new (H ++ commit_of name v ∷ [])
-    pub puts : PutsCommit device (commit_of name v) old new
-    pub later : device.fault_count (disk_of old) ≤ device.fault_count (disk_of new)
-    pub no_failure : device.write_fault_count (disk_of new) ≡ device.write_fault_count (disk_of old)
+    pub is_flushed : IsFlushed new
+    pub xids : AreXidsSpent old → ⊥
+    pub there : AreThere device old w
+    pub were_there : WereThere w
+    pub goes : (rs : List Record) × AreCommitted w rs × Goes device old new rs
+    pub logged : HasLogged device old new (AreCommitted w)
+    pub grown : device.tells → HasGrown device old new (commit_of w name ∷ [])
+    pub flushed : device.tells → (found H : History) → StandsFor device found old H
+        → flushed_of new ≡ suc (length H)
+    pub shown : pass.shown ≡ flushed_of new
+    pub writes : device.write_fault_count (disk_of new) ≡ device.write_fault_count (disk_of old)
 
-  -- The device failed, so that the commit may be in the log or not.
-  pub record IsInDoubt (old new : DbValue D) (v : Vector) : Type 0 where
-    pub name : Name
-    pub up : IsUp old
+  -- the device failed as the commit was flushed, which may be there or not
+  pub record IsInDoubt (w : Work) (name : Name) : Type 0 where
+    pub there : AreThere device old w
+    pub goes : (rs : List Record) × AreCommitted w rs × Goes device old new rs
+    pub logged : HasLogged device old new (AreCommitted w)
+    pub grown : device.tells → HasGrown device old new (commit_of w name ∷ [])
     pub down : fault_of new ≡ Some (device.fault_count (disk_of new))
-    pub stands : StandsFor found new (H ++ commit_of name v ∷ [])
-    pub puts : PutsCommit device (commit_of name v) old new
-    pub later : (device.fault_count (disk_of old) ≤ device.fault_count (disk_of new))
-        × (device.write_fault_count (disk_of old) ≤ device.write_fault_count (disk_of new))
-    pub rose : Rose (device.fault_count (disk_of old)) (device.fault_count (disk_of new))
-    pub failure : Rose (device.write_fault_count (disk_of old)) (device.write_fault_count (disk_of new))
 
-  -- what an insertion is answered, and what it leaves: each refusal but that of a device leaves all
-  abbrev pub HasInserted : DbValue D → DbValue D → Vector → Result Name DbError → Type 0
-  HasInserted old new v (Ok name) = HasStored old new v name
-  HasInserted old new v (Err XidsSpent) = Rests device old new × IsUp old × AreXidsSpent found (length H)
-  HasInserted old new v (Err StoreFull) =
-      Rests device old new × IsUp old × (AreXidsSpent found (length H) → ⊥) × IsFull (docs H) v
-  HasInserted old new v (Err LogFull) =
-      Rests device old new × IsUp old × (AreXidsSpent found (length H) → ⊥)
-      × (IsFull (docs H) v → ⊥) × IsLogFull found (length H)
-  HasInserted old new v (Err (Down count)) = Rests device old new × (fault_of old ≡ Some count)
-  HasInserted old new v (Err DiskFault) = IsInDoubt old new v
-  HasInserted old new v (Err OutOfMemory) = Rests device old new × IsUp old
+  -- ── work that is refused ──
 
--- what a search for the vectors of this property is answered, in a store that stands for H
-abbrev pub HasFound : {D : Type 0} → History → DbValue D → (Vector → Type 0)
-    → Result (Vec Name Global) DbError → Type 0
-HasFound H s P (Ok names) = IsUp s × IsFound P (docs H) names.items
-HasFound H s P (Err (Down count)) = fault_of s ≡ Some count
-HasFound H s P (Err OutOfMemory) = IsUp s
-HasFound H s P (Err e) = ⊥
+  -- the work was not done, and no document has changed
+  pub record IsRefused (w : Work) : Type 0 where
+    pub nothing : device.tells → ChangesNothing
+    pub logged : HasLogged device old new (AreRefused w)
+
+  -- The work may begin: what it deletes is in the snapshot, and there is an xid.
+  pub record MayStart (w : Work) : Type 0 where
+    pub up : IsUp old
+    pub listed : All (IsListed old) (deleted_by w.deletes)
+    pub xids : AreXidsSpent old → ⊥
+
+  -- Why the work is refused. Where more than one is so, the first is answered in the order: down, no
+  -- document, no xid, no room in the log for the Begin, a conflict, and then no page or no room in the
+  -- log at the record that meets it.
+  abbrev pub Refuses : Work → DbError → Type 0
+  Refuses w (Down fault) = IsDown old fault × (new ≡ old)
+  Refuses w NoDocument = IsUp old × ((name : Name) × (w.deletes ≡ Some name) × IsMissing device old w name)
+  Refuses w XidsSpent = IsUp old × All (IsListed old) (deleted_by w.deletes) × AreXidsSpent old
+  Refuses w (Conflict y) = MayStart w × ((name : Name) × (w.deletes ≡ Some name) × Conflicts device old w name y)
+  Refuses w StoreFull = MayStart w × AreThere device old w × LacksPage device old w
+  Refuses w LogFull =
+      MayStart w × (LacksLogForBegin device old w ⊎ (AreThere device old w × LacksLog device old w))
+  Refuses w DiskFault = MetFault device old new
+  Refuses w (BadPage p) = IsUp old × MeetsBadPage device old w p
+  Refuses w OutOfMemory = IsUp old
+
+  -- it was refused so; the device's fault may leave its commit in doubt
+  abbrev pub HasRefused : Work → DbError → Type 0
+  HasRefused w DiskFault = Refuses w DiskFault × (IsRefused w ⊎ ((name : Name) × IsInDoubt w name))
+  HasRefused w e = Refuses w e × IsRefused w
+
+  -- what work that inserts a document is answered, and what it leaves
+  abbrev pub HasStored : Pass → Work → Result Name DbError → Type 0
+  HasStored pass w (Ok name) = HasCommitted pass w name
+  HasStored pass w (Err e) = HasRefused w e
+
+  -- what work that inserts none is answered, and what it leaves; its commit has no name
+  abbrev pub HasDeleted : {T : Type 0} → Pass → Work → Result T DbError → Type 0
+  HasDeleted pass w (Ok done) = (name : Name) × HasCommitted pass w name
+  HasDeleted pass w (Err e) = HasRefused w e
+
+  -- ── calls that only read ──
+
+  -- They log nothing: the log stays, and so does its state.
+  pub record OnlyReads : Type 0 where
+    pub nothing : device.tells → ChangesNothing
+    pub log : (R : Log) → Stands device old.frames R → Stands device new.frames R
+    pub state : state_of new ≡ state_of old
+
+  -- why such a call is refused
+  abbrev pub CannotRead : DbError → Type 0
+  CannotRead (Down fault) = IsDown old fault × (new ≡ old)
+  CannotRead DiskFault = MetFault device old new
+  CannotRead (BadPage p) =
+      IsUp old × ((s : DbValue D) × Goes device old s [] × IsBadPage s (IsListed old) [] p)
+  CannotRead OutOfMemory = IsUp old
+  CannotRead e = ⊥
+
+  -- a search for the vectors of this property finds exactly the documents of the snapshot
+  abbrev pub HasFound : (Vector → Type 0) → Result (Vec Name Global) DbError → Type 0
+  HasFound P (Ok found_names) =
+      IsUp old × (device.tells → (found H : History) → StandsFor device found old H
+      → IsFound P (docs (take (flushed_of old) H)) found_names.items)
+  HasFound P (Err e) = CannotRead e
+
+  -- the commits are those of the snapshot
+  abbrev pub HasListed : Result (Vec CommitNames Global) DbError → Type 0
+  HasListed (Ok commits) =
+      IsUp old × (device.tells → (found H : History) → StandsFor device found old H
+      → AreCommitNames commits.items (take (flushed_of old) H))
+  HasListed (Err e) = CannotRead e

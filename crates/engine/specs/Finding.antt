@@ -1,9 +1,13 @@
 -- Documents, commits and histories, and what a search finds.
-use Rattle.std.specs.Prelude.{◌≡◌, ◌⊎◌, ℕ, ◌+◌, ◌<◌, ⊤, List, [], ◌∷◌}
+use Rattle.std.specs.Prelude.{◌≡◌, ◌⊎◌, List, [], ◌∷◌}
 use Rattle.ts_base.specs.Vectors.{Vector}
+pub use Rattle.core_state.specs.States.{names}
+use Rattle.engine.specs.declared.commit_names.CommitNames.{CommitNames}
 pub use Rattle.page_types.specs.declared.page.Name.{Name}
-pub use Rattle.core_state.specs.History.{Document, Commit, History, inserts, deletes, has_serial, with_document, by_serial, stays, docs, Begins, serials, IsLawful, AreApart, inserted_names}
-pub use Rattle.buffer_frames.specs.Opens.{heap_page, name_of, insertion, IsNumbered}
+pub use Rattle.core_state.specs.History.{Document, Commit, History, inserts, deletes, has_serial, with_document}
+pub use Rattle.core_state.specs.History.{by_serial, stays, docs, Begins, serials, IsLawful, AreApart, inserted_names}
+pub use Rattle.core_state.specs.Standing.{IsInSnapshot}
+pub use Rattle.core_state.specs.Log.{In}
 
 -- the names of the documents whose vectors have this property, in their order
 abbrev pub IsFound : (Vector → Type 0) → List Document → List Name → Type 0
@@ -12,13 +16,29 @@ IsFound P (d ∷ ds) names =
     (P d.vector × ((rest : List Name) × (names ≡ d.name ∷ rest) × IsFound P ds rest))
     ⊎ (¬ P d.vector × IsFound P ds names)
 
--- Until documents lie on more pages, each commit inserts one document: on the first heap page, in
--- the slot of its place, and with a serial above those before it.
-abbrev pub ArePlacedFrom : ℕ → ℕ → History → Type 0
-ArePlacedFrom place low [] = ⊤
-ArePlacedFrom place low (c ∷ H) =
-    (d : Document) × (c ≡ insertion d) × (d.name.page ≡ heap_page) × (d.name.slot ≡ place)
-    × (low < d.name.serial) × ArePlacedFrom (place + 1) d.name.serial H
+-- the document of this name and this vector
+abbrev pub document : Name → Vector → Document
+document name v = record { name = name; vector = v }
 
-abbrev pub ArePlaced : History → Type 0
-ArePlaced H = ArePlacedFrom 0 0 H
+-- the commit that inserts a document
+abbrev pub insertion : Document → Commit
+insertion d = record { deleted = []; inserted = d ∷ [] }
+
+-- the commit that deletes the document of a name, and inserts another
+abbrev pub replacement : Name → Document → Commit
+replacement name d = record { deleted = name ∷ []; inserted = d ∷ [] }
+
+-- the commit that deletes the document of a name
+abbrev pub deletion : Name → Commit
+deletion name = record { deleted = name ∷ []; inserted = [] }
+
+-- these are the names of a commit
+pub record AreNamesOf (n : CommitNames) (c : Commit) : Type 0 where
+  pub deleted : n.deleted.items ≡ c.deleted
+  pub inserted : n.inserted.items ≡ names c.inserted
+
+-- these are the names of the commits, in their order
+abbrev pub AreCommitNames : List CommitNames → List Commit → Type 0
+AreCommitNames [] H = H ≡ []
+AreCommitNames (n ∷ ns) [] = ⊥
+AreCommitNames (n ∷ ns) (c ∷ cs) = AreNamesOf n c × AreCommitNames ns cs

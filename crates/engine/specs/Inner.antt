@@ -1,9 +1,8 @@
-pub mod DbValue
-pub mod Documents
-pub mod Prepared
-pub mod Heaps
-pub mod Inside
-pub mod Kept
+pub mod Asked
+pub mod Changing
+pub mod Choosing
+pub mod Finds
+pub mod Parts
 pub mod Plain
-pub mod Puts
 pub mod Refusals
+pub mod Doing

@@ -1,10 +1,13 @@
 pub mod Db
 pub mod Finding
-pub mod AtOpening
 pub mod Opening
 pub mod Standing
-pub mod Opened
+pub mod Work
+pub mod Going
+pub mod Places
+pub mod Causes
 pub mod Answers
+pub mod Opened
 pub mod Inner
 pub use Rattle.disk_trait.specs.Files
 pub use Rattle.disk_trait.specs.Device
@@ -12,8 +15,10 @@ pub use Rattle.wal.specs.Batches
 pub use Rattle.wal.specs.Pages
 pub use Rattle.wal.specs.Reading
 pub use Rattle.core_state.specs.History
+pub use Rattle.core_state.specs.Standing as StandingDocuments
 pub use Rattle.buffer_frames.specs.Opens
 pub use Rattle.buffer_frames.specs.NoStore
+pub use Rattle.buffer_frames.specs.Passes
 pub use Rattle.ts_base.specs.Vectors
 pub use Rattle.ts_query.specs.Queries
 pub use Rattle.ts_match.specs.Meaning

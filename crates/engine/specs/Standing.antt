@@ -1,84 +1,58 @@
--- What a store stands for, and what of it and of its device stays as calls go on.
-use Rattle.std.specs.Prelude.{◌≡◌, ◌⊎◌, ℕ, ◌+◌, ◌*◌, ◌<◌, ◌≤◌, List, [], ◌∷◌, ◌++◌, map, length}
-use Rattle.std.specs.Prelude.{Option, None}
-use Rattle.std.specs.List.{All}
+-- What a store stands for, and how it and its device go on.
+use Rattle.std.specs.Prelude.{◌≡◌, ℕ, ◌<◌, ◌≤◌, List, ◌++◌}
 use Rattle.disk_trait.specs.Files.{Files}
-use Rattle.disk_trait.specs.Runs.{images_now, LeavesOnly}
 use Rattle.disk_trait.specs.declared.device.Disk.{Ghosts as Disk}
-use Rattle.wal.specs.Waiting.{waiting, down_of}
-use Rattle.wal.specs.declared.sizes.TheConstants.{FRAME_BYTES}
-use Rattle.core_state.specs.Log.{Log}
-use Rattle.core_state.specs.Stores.{PagesStand}
-use Rattle.buffer_frames.specs.Opens.{IsLogOf}
-use Rattle.buffer_frames.specs.Journals.{Stands}
-use Rattle.buffer_frames.specs.Logging.{IsSameJournal}
-use Rattle.engine.specs.Finding.{insertion, Commit, History, IsNumbered}
-use Rattle.engine.specs.AtOpening.{AtOpening, insertion_size}
-use Rattle.engine.specs.Opening.{OpensTo, KeepsPages}
-use Rattle.engine.specs.Inner.Kept.{Kept, documents_from, SerialsRise}
-use Rattle.engine.specs.Inner.Inside.{next_serial_of, next_xid_of, end_ahead, log_limit_of, xid_limit_of}
-use Rattle.engine.specs.Inner.DbValue.{DbValue}
-
-abbrev pub disk_of : {D : Type 0} → DbValue D → D
-disk_of s = s.journal.disk
-
--- the device's count after the fault that brought the store down
-abbrev pub fault_of : {D : Type 0} → DbValue D → Option ℕ
-fault_of s = down_of s.journal.wal
-
-abbrev pub IsUp : {D : Type 0} → DbValue D → Type 0
-IsUp s = fault_of s ≡ None
-
--- All that was put into the log is flushed: nothing waits.
-abbrev pub IsFlushed : {D : Type 0} → DbValue D → Type 0
-IsFlushed s = waiting s.journal.wal ≡ []
-
--- The history that leaves these documents, what the run has taken of the log and of the xids, and
--- the limits of both.
--- Where the store is down, a commit in doubt may be in the history too.
-pub record StandsFor {D : Type 0} (found : AtOpening) (s : DbValue D) (commits : History) : Type 0 where
-  pub kept : List Kept
-  pub more : found.commits ≤ length commits
-  pub all : commits ≡ map insertion (documents_from 0 kept)
-  pub rises : SerialsRise 0 kept
-  pub same : IsUp s → kept ≡ s.documents
-  pub some : IsUp s → 0 < next_serial_of s
-  pub below : IsUp s → All (λ (k : Kept). k.serial < next_serial_of s) kept
-  pub end : IsUp s → end_ahead s + found.commits * (FRAME_BYTES + insertion_size)
-      ≡ found.end + found.ahead + length commits * (FRAME_BYTES + insertion_size)
-  pub xids : IsUp s → next_xid_of s + found.commits ≡ found.next_xid + length commits
-  pub limits : IsUp s → (log_limit_of s ≡ found.log_limit) × (xid_limit_of s ≡ found.xid_limit)
+use Rattle.wal.specs.Pages.{KeepsPages}
+use Rattle.page_types.specs.Numbers.{page_limit}
+use Rattle.core_state.specs.Log.{Log, In}
+use Rattle.core_state.specs.States.{heap_pages}
+use Rattle.buffer_frames.specs.Frames.{Stands}
+use Rattle.buffer_frames.specs.Beginnings.{BeginsBy, HasSince}
+use Rattle.buffer_frames.specs.Opens.{OpensTo}
+use Rattle.engine.specs.Finding.{Commit, History, IsLawful}
+use Rattle.engine.specs.Db.{DbValue, disk_of, opened_of, state_of, IsUp, flushed_of}
 
 module _ {D : Type 0} (device : Disk D) where
-  -- The log of the store is a legal one with this history, and so is the part of it that counts; the
-  -- page file, which a crash leaves as it is, is beside it.
-  pub record IsOpenedTo (file : List ℕ) (s : DbValue D) (commits : History) : Type 0 where
+  -- What the device held as it was opened opens to the history that was found. The store's log is a
+  -- legal one with the history H, which goes on from that one. What a crash leaves at a moment since then
+  -- opens to a history between these two: one that goes on from what was found, and is a beginning of H.
+  -- At an earlier moment a crash left no more than it did at the opening. The pages that a head is tried
+  -- on are heap pages of the log, and each page that the store may have has a number.
+  pub record StandsFor (found : History) (s : DbValue D) (H : History) : Type 0 where
+    pub entry : OpensTo (device.seen (opened_of s)) found
     pub log : Log
-    pub stands : Stands device s.journal log
-    pub log_of : IsLogOf log commits
-    pub counted : IsLogOf stands.counted commits
-    pub beside : PagesStand stands.counted file
-    pub fixed : (c : Files) → images_now device (disk_of s) c → c.pages ≡ file
+    pub stands : Stands device s.frames log
+    pub begins : BeginsBy device s.frames.journal found log H
+    pub heaps : (p : ℕ) → In p (heap_pages (state_of s)) → In p (state_of s).heaps
+    pub few : (state_of s).pages ≤ page_limit
 
-  -- At each moment a crash leaves what opens to the history, or to it with one commit more, beside
-  -- the page file.
-  pub record OpensToEither (file : List ℕ) (commits : History) (more : Commit)
-      (c : Files) : Type 0 where
-    pub pages : c.pages ≡ file
-    pub opens : OpensTo c commits ⊎ OpensTo c (commits ++ more ∷ [])
+  -- the history has these commits more
+  abbrev pub HasGrown : DbValue D → DbValue D → List Commit → Type 0
+  HasGrown old new more = (found H : History) → StandsFor found old H → StandsFor found new (H ++ more)
 
-  -- A commit was put into the log, or was begun, or the device was not called.
-  pub record PutsCommit (more : Commit) (old new : DbValue D) : Type 0 where
+  -- the history that a store stands for is a lawful one
+  abbrev pub HistoriesAreLawful : Type 0
+  HistoriesAreLawful = (found H : History) (s : DbValue D) → StandsFor found s H → IsLawful H
+
+  -- from now on a crash leaves what has so many commits
+  abbrev pub IsKept : DbValue D → ℕ → Type 0
+  IsKept s commits = HasSince device (device.clock (disk_of s)) commits (disk_of s)
+
+  -- What a call leaves of the device, and of what is flushed: the clock and the counts don't fall, and
+  -- no fewer commits are flushed. At an earlier moment a crash left what it leaves now, and commits
+  -- that it left from a moment on it leaves still. It leaves pages that it could have left before. While
+  -- the store is up it leaves all that are flushed.
+  pub record GoesOn (old new : DbValue D) : Type 0 where
+    pub opened : opened_of new ≡ opened_of old
     pub time : device.clock (disk_of old) ≤ device.clock (disk_of new)
-    pub keeps : device.tells → KeepsPages device (disk_of old) (disk_of new)
-    pub moments : device.tells → (file : List ℕ) (commits : History) → IsOpenedTo file old commits
-        → LeavesOnly device (disk_of old) (disk_of new) (OpensToEither file commits more)
-    pub numbered : device.tells → (file : List ℕ) (commits : History) → IsOpenedTo file old commits
-        → IsNumbered (commits ++ more ∷ [])
-    pub stands : device.tells → (file : List ℕ) (commits : History) → IsUp new
-        → IsOpenedTo file old commits → IsOpenedTo file new (commits ++ more ∷ [])
-
-  -- nothing of the store or of the device has changed
-  pub record Rests (old new : DbValue D) : Type 0 where
-    pub documents : new.documents ≡ old.documents
-    pub journal : IsSameJournal old.journal new.journal
+    pub faults : device.fault_count (disk_of old) ≤ device.fault_count (disk_of new)
+    pub writes : device.write_fault_count (disk_of old) ≤ device.write_fault_count (disk_of new)
+    pub flushed : flushed_of old ≤ flushed_of new
+    pub before : device.tells → (m : ℕ) (c : Files) → m < device.clock (disk_of old)
+        → device.image (disk_of new) m c → device.image (disk_of old) m c
+    pub since : device.tells → (found H : History) → StandsFor found old H → (clock commits : ℕ)
+        → clock ≤ device.clock (disk_of old) → HasSince device clock commits (disk_of old)
+        → HasSince device clock commits (disk_of new)
+    pub pages : device.tells → KeepsPages device (disk_of old) (disk_of new)
+    pub kept : device.tells → (found H : History) → StandsFor found new H → IsUp new
+        → IsKept new (flushed_of new)

@@ -1,209 +1,297 @@
 // An open store.
-ghost use Rattle.std.specs.Prelude.{◌≡◌, ℕ, ◌+◌, ◌*◌, ◌<◌, ◌≤◌, ◌^◌, List, [], ◌∷◌, ◌++◌, length, IfOk, IfErr, OnOk, IfSome, IfNone, take, vec_len, vec_capacity};
-ghost use Rattle.engine.specs.Finding.{heap_page};
+ghost use Rattle.std.specs.Prelude.{◌≡◌, ◌≤◌, ◌+◌, List, [], IfOk, IfErr, OnOk, OnErr};
+ghost use Rattle.ts_base.specs.Encoding.{IsEncoding};
+ghost use Rattle.ts_match.specs.Meaning.{Holds};
 
+use crate::commit_names::CommitNames;
 use crate::error::DbError;
-use crate::records::{Insertion, with_head};
-use buffer_frames::{Journal, counted_are_one};
-use core_state::XID_BOUND;
+use crate::transaction::Transaction;
+use buffer_frames::{Frames, Pass};
 use disk_trait::Disk;
-use page_types::{MOST_BODY_BYTES, MOST_SHORT_BYTES, Name, Record, Slots};
+use page_types::Name;
 use std::alloc::{AllocError, Global};
 use std::marker::Model;
-use ts_match::{MatchWork, matches_encoded};
 use ts_query::TsQuery;
-use ts_vector::{TsVector, VectorBytes};
+use ts_vector::TsVector;
 
-/// The most bytes of one vector, until documents may be longer than a page.
-pub const LONGEST: u64 = MOST_SHORT_BYTES as u64;
-
-/// The bytes of a page that its documents share.
-const PAGE_ROOM: u64 = MOST_BODY_BYTES as u64;
-
-/// What a document takes beside the bytes of its vector.
-pub const HEAD: u64 = 29;
-
-/// The page on which documents lie.
-pub const HEAP_PAGE: u32 = 2;
-
-/// An open store: its heap page, and the journal.
+/// An open store.
 #[derive(Drop)]
 pub struct Db<D: Disk> {
     pub(crate) alloc: Global,
-    // the heads of the documents, in their order, with the bytes of their vectors
-    pub(crate) heap: Slots,
-    // the bytes of the page that they take
-    pub(crate) used: u64,
-    pub(crate) journal: Journal<D>,
-}
-
-/// What an insertion will log: what it draws, the heap page's slots with the new head, the bytes of
-/// the vector, and the records.
-#[derive(Drop)]
-struct Prepared {
-    insertion: Insertion,
-    heap: Slots,
-    size: u64,
-    records: [Record; 3],
-}
-
-/// The name of the document that is at this place.
-fn name_of(place: usize, serial: u64) -> Name
-    requires { place < 2 ^ 16 }
-    ensures { result ≡ record { page = heap_page; slot = place; serial = serial } }
-{
-    Name {
-        page: HEAP_PAGE,
-        slot: place as u16,
-        serial,
-    }
+    pub(crate) frames: Frames<D>,
 }
 
 impl<D: Disk> Model for Db<D> {
-    ghost use Rattle.engine.specs.Inner.DbValue.{DbValue, IsDbValue};
-    ghost use Rattle.engine.specs.Inner.Kept.{kept_in};
+    ghost use Rattle.engine.specs.Db.{DbValue};
 
     ghost Value = { DbValue D };
 
-    ghost view = { λ s. record {
-      documents = kept_in s.heap;
-      heap = s.heap;
-      journal = s.journal;
-    } };
+    ghost view = { λ s. record { frames = s.frames } };
+}
 
-    ghost invariant = { λ s. IsDbValue D.Disk (record {
-      documents = kept_in s.heap;
-      heap = s.heap;
-      journal = s.journal;
-    }) s.used };
+/// The bytes of a vector.
+fn encoded(alloc: Global, vector: &TsVector) -> Result<Vec<u8>, AllocError>
+    ensures { IfOk result (λ bytes. IsEncoding bytes.items vector.now) }
+{
+    let _lexemes = vector.count();
+    let mut bytes = Vec::new(alloc);
+    vector.encode(&mut bytes)?;
+    Ok(bytes)
 }
 
 impl<D: Disk> Db<D> {
-    ghost use Rattle.engine.specs.Standing.{StandsFor, disk_of};
-    ghost use Rattle.engine.specs.Answers.{HasInserted, HasFound};
-    ghost use Rattle.engine.specs.AtOpening.{AtOpening};
-    ghost use Rattle.engine.specs.Inner.Inside.{documents_of};
-    ghost use Rattle.engine.specs.Inner.Kept.{IsAt};
-    ghost use Rattle.engine.specs.Inner.Puts.{HasPut};
-    ghost use Rattle.engine.specs.Inner.Prepared.{IsPreparedFor, CannotPrepare};
-    ghost use Rattle.engine.specs.Finding.{History, IsFound};
-    ghost use Rattle.ts_match.specs.Meaning.{Holds};
+    ghost use Rattle.page_types.specs.declared.record.Record.{Record};
+    ghost use Rattle.buffer_frames.specs.Passes.{split_of, joined_with};
+    ghost use Rattle.engine.specs.Db.{disk_of};
+    ghost use Rattle.engine.specs.Standing.{GoesOn};
+    ghost use Rattle.engine.specs.Work.{commit_of, storing, inserting, updating, deleting};
+    ghost use Rattle.engine.specs.Going.{Goes, FaultIsTold};
+    ghost use Rattle.engine.specs.Answers.{IsSession, KeepsSessions, TakesSnapshot, HasStored, HasDeleted, HasFound};
+    ghost use Rattle.engine.specs.Answers.{HasListed, OnlyReads, IsLawfulRefusal, MeetsNoBadPage};
+    ghost use Rattle.engine.specs.Inner.Parts.{IsRunning, HasChanged, KeepsWork, no_changes};
+    ghost use Rattle.engine.specs.Inner.Doing.{HasDone, HasStopped, IsNotDone, TellsOfWork, removing, removal};
 
-    /// What an insertion of the vector draws, if the document has room.
-    fn prepare(&self, vector: &TsVector) -> Result<Prepared, DbError>
-        ensures refused { IfErr result (λ e. CannotPrepare D.Disk self.now vector.now e) }
-        ensures prepared { IfOk result (λ d. IsPreparedFor self.now vector.now d) }
-    {
-        let state = self.journal.state();
-        let (xid, serial, commits) = (state.next_xid(), state.next_serial(), state.commits());
-        let limit = state.xid_limit().min(XID_BOUND);
-        if xid >= limit {
-            return Err(DbError::XidsSpent);
-        }
-        let mut bytes = Vec::new(self.alloc);
-        vector.encode(&mut bytes)?;
-        let size = bytes.len() as u64;
-        if size > LONGEST || self.used + HEAD + size > PAGE_ROOM {
-            return Err(DbError::StoreFull);
-        }
-        let insertion = Insertion {
-            number: self.journal.next_number(),
-            xid,
-            slot: self.heap.len(),
-            serial,
-            commit: commits.saturating_add(1),
-        };
-        let slots = with_head(&self.heap, serial, xid, &bytes)?;
-        let (records, heap) = insertion.records(self.alloc, slots)?;
-        Ok(Prepared {
-            insertion,
-            heap,
-            size,
-            records,
-        })
-    }
+    /// Marks the document of a name deleted, where one is given.
+    fn remove(
+        &mut self,
+        pass: &mut Pass,
+        work: Transaction,
+        deletes: Option<Name>,
+    ) -> Result<(), DbError>
+        requires running { IsRunning D.Disk self.old pass.old work }
+        requires changed { HasChanged D.Disk self.old pass.old work.xid no_changes }
+        ensures running { IsRunning D.Disk self.new pass.new work }
+        ensures done { OnOk result (HasDone D.Disk self.old self.new pass.new work
+            (removing deletes) (removal deletes)) }
+        ensures keeps { KeepsWork pass.old pass.new }
+        ensures fault { FaultIsTold D.Disk self.old self.new result }
 
-    /// The records of a document of this vector go into the log, and the document to the others.
-    fn put(&mut self, vector: &TsVector) -> Result<Name, DbError>
-        ensures { HasPut D.Disk self.old self.new vector.now result }
+        // The refusals: it is not marked.
+        ensures refused { OnErr result (Goes D.Disk self.old self.new []) }
+        ensures cause { IfErr result (λ e. IsNotDone D.Disk self.old work (removing deletes) e) }
+        ensures lawful { IfErr result (λ e. TellsOfWork D.Disk self.old work (removing deletes) e) }
     {
-        if let Some(fault) = self.journal.fault() {
-            return Err(DbError::Down { fault });
-        }
-        counted_are_one();
-        let prepared = self.prepare(vector)?;
-        if let Err(error) = self.journal.log(&prepared.records) {
-            return Err(DbError::from(error));
-        }
-        if let Err(error) = self.journal.flush() {
-            return Err(DbError::from(error));
-        }
-        let name = name_of(self.heap.len(), prepared.insertion.serial);
-        self.heap = prepared.heap;
-        self.used += HEAD + prepared.size;
-        Ok(name)
-    }
-
-    /// A document of this vector, committed and flushed: its name. A store that is down, that has no
-    /// room for it, or that wants memory stays as it was. Where the device fails the commit may count
-    /// or not.
-    pub fn insert(&mut self, vector: &TsVector) -> Result<Name, DbError>
-        ensures answered { (found : AtOpening) (H : History) → StandsFor found self.old H
-            → HasInserted D.Disk found H self.old self.new vector.now result }
-        ensures later { D.fault_count (disk_of self.old) ≤ D.fault_count (disk_of self.new) }
-    {
-        self.put(vector)
-    }
-
-    /// The document at this place: its serial, and its vector as it lies on the page.
-    fn document(&self, place: usize) -> Option<(u64, VectorBytes<'_>)>
-        requires { place < length self.now.documents }
-        ensures some { IfSome result (λ d. IsAt self.now.documents place d.0 d.1) }
-        ensures there { IfNone result ⊥ }
-    {
-        let Some(head) = self.heap.get(place) else {
-            return None;
-        };
-        match VectorBytes::new(head.vector) {
-            Ok(vector) => Some((head.fields.serial, vector)),
-            Err(_) => None,
+        match deletes {
+            Some(name) => self.mark(pass, work, name),
+            None => Ok(()),
         }
     }
 
-    /// The names of the documents that satisfy the query, in their order.
-    fn names(&self, query: &TsQuery) -> Result<Vec<Name>, AllocError>
-        ensures { IfOk result (λ v. IsFound (Holds query.now) (documents_of self.now) v.items) }
+    /// Places a document of this vector, once the one of a name is marked, where one is given: its name.
+    fn place(
+        &mut self,
+        pass: &mut Pass,
+        work: Transaction,
+        deletes: Option<Name>,
+        vector: &TsVector,
+    ) -> Result<Name, DbError>
+        requires running { IsRunning D.Disk self.old pass.old work }
+        requires changed { HasChanged D.Disk self.old pass.old work.xid no_changes }
+        ensures running { IsRunning D.Disk self.new pass.new work }
+        ensures done { IfOk result (λ name. HasDone D.Disk self.old self.new pass.new work
+            (storing deletes vector.now) (commit_of (storing deletes vector.now) name)) }
+        ensures keeps { KeepsWork pass.old pass.new }
+        ensures fault { FaultIsTold D.Disk self.old self.new result }
+
+        // The refusals: some of the work may be done.
+        ensures refused { OnErr result
+            (HasStopped D.Disk self.old self.new work.xid (storing deletes vector.now)) }
+        ensures cause { IfErr result
+            (λ e. IsNotDone D.Disk self.old work (storing deletes vector.now) e) }
+        ensures lawful { IfErr result
+            (λ e. TellsOfWork D.Disk self.old work (storing deletes vector.now) e) }
     {
-        let mut work = MatchWork::new(self.alloc, query)?;
-        let mut names = Vec::new(self.alloc);
-        for place in 0..self.heap.len() {
-            if let Some((serial, vector)) = self.document(place) {
-                if matches_encoded(query, &mut work, &vector) {
-                    names.push(name_of(place, serial))?;
-                }
-            }
-        }
-        Ok(names)
+        let bytes = encoded(self.alloc, vector)?;
+        self.remove(pass, work, deletes)?;
+        self.put(pass, work, &bytes)
     }
 
-    /// The names of the documents that satisfy the query, if the store is not down.
-    pub fn search(&self, query: &TsQuery) -> Result<Vec<Name>, DbError>
-        ensures { (found : AtOpening) (H : History) → StandsFor found self.now H
-            → HasFound H self.now (Holds query.now) result }
+    /// A document of this vector, in place of that of a name, where one is given: its name.
+    fn store(
+        &mut self,
+        pass: &mut Pass,
+        deletes: Option<Name>,
+        vector: &TsVector,
+    ) -> Result<Name, DbError>
+        requires session { IsSession self.old pass.old }
+        ensures session { IsSession self.new pass.new }
+        ensures answered { HasStored D.Disk self.old self.new pass.new
+            (storing deletes vector.now) result }
+        ensures snapshot { TakesSnapshot self.old self.new pass.old pass.new }
+        ensures path { (rs : List Record) × Goes D.Disk self.old self.new rs }
+        ensures fault { FaultIsTold D.Disk self.old self.new result }
+        ensures lawful { IfErr result (λ e. IsLawfulRefusal D.Disk self.old (storing deletes vector.now) e) }
     {
-        if let Some(count) = self.journal.fault() {
-            return Err(DbError::Down { fault: count });
-        }
-        match self.names(query) {
-            Ok(names) => Ok(names),
-            Err(_) => Err(DbError::OutOfMemory),
-        }
+        let work = self.begin(pass, deletes)?;
+        let placed = self.place(pass, work, deletes, vector);
+        self.finish(pass, work, placed)
     }
 
-    /// The device, as the store leaves it.
-    pub fn close(self) -> D
+    /// The document of a name is deleted.
+    fn take_away(&mut self, pass: &mut Pass, name: Name) -> Result<(), DbError>
+        requires session { IsSession self.old pass.old }
+        ensures session { IsSession self.new pass.new }
+        ensures answered { HasDeleted D.Disk self.old self.new pass.new (deleting name) result }
+        ensures snapshot { TakesSnapshot self.old self.new pass.old pass.new }
+        ensures path { (rs : List Record) × Goes D.Disk self.old self.new rs }
+        ensures fault { FaultIsTold D.Disk self.old self.new result }
+        ensures lawful { IfErr result (λ e. IsLawfulRefusal D.Disk self.old (deleting name) e) }
+    {
+        let work = self.begin(pass, Some(name))?;
+        let removed = self.remove(pass, work, Some(name));
+        self.finish(pass, work, removed)
+    }
+
+    /// A document of this vector, committed and flushed: its name.
+    pub fn insert(&mut self, pass: &mut Pass, vector: &TsVector) -> Result<Name, DbError>
+        requires session { IsSession self.old pass.old }
+        ensures session { IsSession self.new pass.new }
+        ensures others { KeepsSessions self.old self.new }
+        ensures answered { HasStored D.Disk self.old self.new pass.new
+            (inserting vector.now) result }
+        ensures snapshot { TakesSnapshot self.old self.new pass.old pass.new }
+        ensures goes_on { GoesOn D.Disk self.old self.new }
+        ensures fault { FaultIsTold D.Disk self.old self.new result }
+        ensures lawful { IfErr result (λ e. IsLawfulRefusal D.Disk self.old (inserting vector.now) e) }
+    {
+        let stored = self.store(pass, None, vector);
+        self.frames.keeps_history();
+        stored
+    }
+
+    /// A document of this vector in place of the one of a name, committed and flushed: its name.
+    pub fn update(
+        &mut self,
+        pass: &mut Pass,
+        name: Name,
+        vector: &TsVector,
+    ) -> Result<Name, DbError>
+        requires session { IsSession self.old pass.old }
+        ensures session { IsSession self.new pass.new }
+        ensures others { KeepsSessions self.old self.new }
+        ensures answered { HasStored D.Disk self.old self.new pass.new
+            (updating name vector.now) result }
+        ensures snapshot { TakesSnapshot self.old self.new pass.old pass.new }
+        ensures goes_on { GoesOn D.Disk self.old self.new }
+        ensures fault { FaultIsTold D.Disk self.old self.new result }
+        ensures lawful { IfErr result (λ e. IsLawfulRefusal D.Disk self.old (updating name vector.now) e) }
+    {
+        let stored = self.store(pass, Some(name), vector);
+        self.frames.keeps_history();
+        stored
+    }
+
+    /// The document of a name is deleted, committed and flushed.
+    pub fn delete(&mut self, pass: &mut Pass, name: Name) -> Result<(), DbError>
+        requires session { IsSession self.old pass.old }
+        ensures session { IsSession self.new pass.new }
+        ensures others { KeepsSessions self.old self.new }
+        ensures answered { HasDeleted D.Disk self.old self.new pass.new (deleting name) result }
+        ensures snapshot { TakesSnapshot self.old self.new pass.old pass.new }
+        ensures goes_on { GoesOn D.Disk self.old self.new }
+        ensures fault { FaultIsTold D.Disk self.old self.new result }
+        ensures lawful { IfErr result (λ e. IsLawfulRefusal D.Disk self.old (deleting name) e) }
+    {
+        let deleted = self.take_away(pass, name);
+        self.frames.keeps_history();
+        deleted
+    }
+
+    /// The names of the documents of the snapshot that satisfy the query, by serial.
+    fn search_now(&mut self, pass: &mut Pass, query: &TsQuery) -> Result<Vec<Name>, DbError>
+        requires session { IsSession self.old pass.old }
+        ensures session { IsSession self.new pass.new }
+        ensures found { HasFound D.Disk self.old self.new (Holds query.now) result }
+        ensures snapshot { TakesSnapshot self.old self.new pass.old pass.new }
+        ensures path { Goes D.Disk self.old self.new [] }
+        ensures fault { FaultIsTold D.Disk self.old self.new result }
+        ensures lawful { IfErr result (λ e. MeetsNoBadPage D.Disk self.old e) }
+    {
+        let snapshot = self.frames.pin(pass)?;
+        let found = self.find(pass, query, snapshot);
+        self.frames.unpin(pass);
+        found
+    }
+
+    /// The names of the documents that satisfy the query, by serial.
+    pub fn search(&mut self, pass: &mut Pass, query: &TsQuery) -> Result<Vec<Name>, DbError>
+        requires session { IsSession self.old pass.old }
+        ensures session { IsSession self.new pass.new }
+        ensures others { KeepsSessions self.old self.new }
+        ensures found { HasFound D.Disk self.old self.new (Holds query.now) result }
+        ensures reads { OnlyReads D.Disk self.old self.new }
+        ensures snapshot { TakesSnapshot self.old self.new pass.old pass.new }
+        ensures goes_on { GoesOn D.Disk self.old self.new }
+        ensures fault { FaultIsTold D.Disk self.old self.new result }
+        ensures lawful { IfErr result (λ e. MeetsNoBadPage D.Disk self.old e) }
+    {
+        let found = self.search_now(pass, query);
+        self.frames.keeps_history();
+        found
+    }
+
+    /// The names of the commits of the snapshot, in their order.
+    fn commits_now(&mut self, pass: &mut Pass) -> Result<Vec<CommitNames>, DbError>
+        requires session { IsSession self.old pass.old }
+        ensures session { IsSession self.new pass.new }
+        ensures listed { HasListed D.Disk self.old self.new result }
+        ensures snapshot { TakesSnapshot self.old self.new pass.old pass.new }
+        ensures path { Goes D.Disk self.old self.new [] }
+        ensures fault { FaultIsTold D.Disk self.old self.new result }
+        ensures lawful { IfErr result (λ e. MeetsNoBadPage D.Disk self.old e) }
+    {
+        let snapshot = self.frames.pin(pass)?;
+        let listed = self.list(pass, snapshot);
+        self.frames.unpin(pass);
+        listed
+    }
+
+    /// The names of the flushed commits, in their order.
+    pub fn commits(&mut self, pass: &mut Pass) -> Result<Vec<CommitNames>, DbError>
+        requires session { IsSession self.old pass.old }
+        ensures session { IsSession self.new pass.new }
+        ensures others { KeepsSessions self.old self.new }
+        ensures listed { HasListed D.Disk self.old self.new result }
+        ensures reads { OnlyReads D.Disk self.old self.new }
+        ensures snapshot { TakesSnapshot self.old self.new pass.old pass.new }
+        ensures goes_on { GoesOn D.Disk self.old self.new }
+        ensures fault { FaultIsTold D.Disk self.old self.new result }
+        ensures lawful { IfErr result (λ e. MeetsNoBadPage D.Disk self.old e) }
+    {
+        let listed = self.commits_now(pass);
+        self.frames.keeps_history();
+        listed
+    }
+
+    /// A pass for another session, of room 1, which has seen as much.
+    pub fn split(&self, pass: &mut Pass) -> Pass
+        requires session { IsSession self.now pass.old }
+        requires room { 2 ≤ pass.old.room }
+        ensures session { IsSession self.now pass.new }
+        ensures other { IsSession self.now result }
+        ensures room { (pass.new ≡ record pass.old { room = pass.new.room })
+            × (pass.new.room + 1 ≡ pass.old.room) }
+        ensures same { result ≡ split_of pass.old }
+    {
+        self.frames.split(pass)
+    }
+
+    /// Another pass ends in this one, which has then seen what either has, and has both rooms.
+    pub fn join(&self, pass: &mut Pass, other: Pass)
+        requires session { IsSession self.now pass.old }
+        requires other { IsSession self.now other }
+        requires rooms { pass.old.room + other.room ≤ 16 }
+        ensures session { IsSession self.now pass.new }
+        ensures both { pass.new ≡ joined_with other pass.old }
+    {
+        self.frames.join(pass, other);
+    }
+
+    /// The device, as the store leaves it. It needs the room of all passes.
+    pub fn close(self, pass: Pass) -> D
+        requires { pass.room ≡ 16 }
         ensures { result ≡ disk_of self }
     {
-        self.journal.close()
+        self.frames.close(pass)
     }
 }

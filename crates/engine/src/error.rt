@@ -1,9 +1,9 @@
 // Why a store is not opened, and why it refuses a call.
 ghost use Rattle.std.specs.Prelude.{◌≡◌};
-ghost use Rattle.engine.specs.Inner.Refusals.{db_error};
+ghost use Rattle.engine.specs.Inner.Refusals.{log_refusal, frame_refusal};
 ghost use Rattle.engine.specs.declared.error.DbError.TheVariants.{OutOfMemory};
 
-use buffer_frames::{LogError, OpenFault};
+use buffer_frames::{FrameError, LogError, OpenFault};
 use std::alloc::AllocError;
 use thiserror::Error;
 
@@ -19,7 +19,13 @@ pub struct Unopened<D> {
 /// Why a store refuses a call.
 #[derive(Clone, Copy, Debug, PartialEq, Eq, Error)]
 pub enum DbError {
-    /// The document has no room.
+    /// No document of this name is in the statement's snapshot.
+    #[error("no document")]
+    NoDocument,
+    /// This transaction deletes the document: it runs, or has committed since the statement began.
+    #[error("conflict {xid}")]
+    Conflict { xid: u32 },
+    /// There is no page for the document.
     #[error("store full")]
     StoreFull,
     /// The log would pass its limit.
@@ -35,6 +41,9 @@ pub enum DbError {
     /// The device failed in this call.
     #[error("device")]
     DiskFault,
+    /// The bytes of this page are no page, or one of another kind than the one sought.
+    #[error("bad page {page}")]
+    BadPage { page: u32 },
     /// Memory ran out.
     #[error("out of memory")]
     OutOfMemory,
@@ -49,14 +58,28 @@ impl From<AllocError> for DbError {
 }
 
 impl From<LogError> for DbError {
-    ghost from_gives = { λ w e. e ≡ db_error w };
+    ghost from_gives = { λ w e. e ≡ log_refusal w };
 
     fn from(error: LogError) -> DbError {
         match error {
             LogError::LogFull => DbError::LogFull,
+            LogError::XidsSpent => DbError::XidsSpent,
             LogError::Down { fault } => DbError::Down { fault },
-            LogError::OutOfMemory => DbError::OutOfMemory,
             LogError::DiskFault => DbError::DiskFault,
+            LogError::OutOfMemory => DbError::OutOfMemory,
+        }
+    }
+}
+
+impl From<FrameError> for DbError {
+    ghost from_gives = { λ w e. e ≡ frame_refusal w };
+
+    fn from(error: FrameError) -> DbError {
+        match error {
+            FrameError::Down { fault } => DbError::Down { fault },
+            FrameError::DiskFault => DbError::DiskFault,
+            FrameError::BadPage { page } => DbError::BadPage { page },
+            FrameError::OutOfMemory => DbError::OutOfMemory,
         }
     }
 }

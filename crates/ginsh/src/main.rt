@@ -6,8 +6,7 @@ ghost use Rattle.std.specs.Prelude.{◌≡◌, ◌≢◌, ◌↔◌, ◌≤◌, 
 ghost use Rattle.std.specs.IoError.{error_kind};
 ghost use Rattle.std.specs.Process.{exit_status};
 ghost use Rattle.shell_run.specs.declared.top.Outcome.{Outcome};
-ghost use Rattle.shell_run.specs.Words.{IsForm};
-ghost use Rattle.shell_run.specs.declared.words.Settings.{Settings};
+ghost use Rattle.shell_run.specs.Words.{IsForm, Options};
 ghost use Rattle.ginsh.specs.Started.{RunsOver};
 ghost use Rattle.disk_file.specs.declared.disk.FileDisk.{FileDisk};
 ghost use Rattle.disk_file.specs.declared.streams.StdSource.{StdSource};
@@ -87,7 +86,7 @@ where
         (λ w. (r : Outcome (StdSource I) (StdSink O) (FileDisk F F.Handle F.HostFolder))
         × RunsOver ⟦<StdSource<I> as Source>⟧ ⟦<StdSink<O> as Sink>⟧
         ⟦<FileDisk<F> as Disk>⟧ w.items folder reader writer r × (exit_status result ≡ r.status)) }
-    ensures form { IfOk words (λ w. (exit_status result ≡ 2) ↔ ((settings : Settings) → IsForm w.items settings → ⊥)) }
+    ensures form { IfOk words (λ w. (exit_status result ≡ 2) ↔ ((options : Options) → IsForm w.items options → ⊥)) }
     ensures no_text { IfErr words (λ e. (exit_status result ≡ 2) ↔ (error_kind e ≡ ErrorKind.InvalidData)) }
     ensures range { exit_status result ≤ 8 }
 {

@@ -1,4 +1,5 @@
 // A log of many records.
+use crate::device::Times;
 use crate::shell::run_script;
 use anyhow::{Result, bail, ensure};
 use bench_base::WatchedDisk;
@@ -48,7 +49,7 @@ fn push_batch(log: &mut Vec<u8>, first: u32) -> Result<(), AllocError> {
 }
 
 /// The bytes of the log.
-fn log_of(alloc: Global, disk: &mut MemoryDisk) -> Result<Vec<u8>> {
+pub(crate) fn log_of(alloc: Global, disk: &mut MemoryDisk) -> Result<Vec<u8>> {
     let Ok(len) = disk.length(File::Log) else {
         bail!("a length fails");
     };
@@ -68,7 +69,8 @@ where
 {
     let alloc = rt.alloc();
     let empty = MemoryDisk::new(alloc, Vec::new(alloc));
-    let ended = run_script(rt, INSERT.to_vec(alloc)?, empty, false)?;
+    let times = Times::begin(alloc, rt, false)?;
+    let ended = run_script(rt, &times, INSERT.to_vec(alloc)?, empty)?;
     let WatchedDisk { disk, .. } = ended.store;
     let mut disk = disk;
     let mut log = log_of(alloc, &mut disk)?;

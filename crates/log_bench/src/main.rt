@@ -1,15 +1,18 @@
-//! Opens a log of many records of transactions that begin and abort, and inserts documents; it prints counts. With
-//! the word `time` there are a million records in place of 10,000, and it is also printed how long the opening takes,
-//! and what an insert costs beside its calls of the device, after few documents and after many.
+//! Opens a log of many records of transactions that begin and abort; then inserts, updates, deletes and searches
+//! documents of a store that grows, and opens its log. It prints counts. With the word `time` there are a million
+//! records in place of 10,000 and 20,000 inserts in place of 200, and it is also printed how long the openings take,
+//! and what each statement costs beside its calls of the device, among few documents and among many.
 #![tactic(auto)]
 
 mod device;
-mod inserts;
+mod growth;
 mod logs;
 mod shell;
+mod statements;
 
 use anyhow::Result;
-use inserts::{count_calls, measure_inserts};
+use device::Times;
+use growth::grow;
 use logs::{holding, long_log};
 use shell::run_script;
 use std::env;
@@ -37,8 +40,9 @@ where
     let size = log.len();
     let disk = holding(alloc, &log)?;
     let script = SEARCH.to_vec(alloc)?;
+    let times = Times::begin(alloc, rt, false)?;
     let start = Instant::now(rt)?;
-    let ended = run_script(rt, script, disk, false)?;
+    let ended = run_script(rt, &times, script, disk)?;
     let seconds = start.elapsed(rt)?.as_secs_f64();
     let reply = ended.out.bytes().trim_ascii_end().escape_ascii();
     println!(rt;
@@ -58,12 +62,10 @@ where
         .nth(1)
         .is_some_and(|word| word.as_str() == "time");
     let seconds = open_log(rt, if timed { MANY } else { SOME })?;
-    count_calls(rt)?;
     if timed {
         println!(rt; "the log was opened in {seconds:.3} seconds")?;
-        measure_inserts(rt)?;
     }
-    Ok(())
+    grow(rt, timed)
 }
 
 /// The whole program, at the process's own output.

@@ -1,8 +1,8 @@
 // Runs of scripts over a timed device.
-use crate::device::{Stopwatch, TimedDisk};
+use crate::device::{Stopwatch, TimedDisk, Times};
 use bench_base::WatchedDisk;
 use disk_trait::{MemoryDisk, MemorySink, MemorySource};
-use shell_run::{NoGate, Outcome, run_shell};
+use shell_run::{Outcome, run_shell};
 use std::alloc::AllocError;
 use std::rt::Clock;
 use std::sync::Wait;
@@ -17,16 +17,16 @@ pub(crate) type Ended<'a, R> = Outcome<MemorySource, MemorySink, TimedDisk<'a, R
 /// A run over a device in memory.
 pub(crate) fn run_script<'a, R>(
     rt: &'a R,
+    times: &'a Times<'a, R>,
     script: Vec<u8>,
     disk: MemoryDisk,
-    timed: bool,
 ) -> Result<Ended<'a, R>, AllocError>
 where
     R: Threads + Wait + Sync + Clock + AllocGlobal,
 {
     let alloc = rt.alloc();
     let words = vec![in alloc; String::from_str(alloc, "run")?]?;
-    Ok(run_shell(
+    let ended = run_shell(
         rt,
         alloc,
         &words,
@@ -34,8 +34,10 @@ where
         MemorySink::new(alloc, Vec::new(alloc)),
         WatchedDisk {
             disk,
-            watch: Stopwatch::new(rt, timed),
+            watch: Stopwatch::new(times),
         },
-        &NoGate,
-    ))
+        times,
+    );
+    times.turn(0);
+    Ok(ended)
 }

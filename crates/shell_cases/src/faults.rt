@@ -13,7 +13,7 @@ use std::thread::Threads;
 /// How many bytes a read gives, and a write takes.
 const SHORT: usize = 7;
 
-/// Each statement, with inserts between the others.
+/// Each statement
 pub const SCRIPT: &[u8] = b"# each statement
 @1 insert vector 'a:1'
 show vector 'a:2' || strip vector 'b:1'
@@ -29,6 +29,8 @@ end
 @2 search web en 'cat -b'
 parse 'a-b 1.5'
 @1 insert vector 'c:1'
+@2 update 2/1#2 vector 'd:1'
+@1 delete 2/0#1
 @1 search '!b'
 ";
 
@@ -97,7 +99,7 @@ fn lines_in(text: &[u8]) -> usize {
 }
 
 /// Whether a run in which a call of the device failed has printed nothing, or as many lines as a run in which none did
-/// and the same up to an insert that is answered so.
+/// and the same up to a change that is answered so.
 fn is_cut_short(text: &[u8], good: &[u8]) -> bool {
     let same = text.iter().zip(good).take_while(|(a, b)| a == b).count();
     let differs = text.get(same..).unwrap_or(b"");

@@ -13,7 +13,7 @@ const OPENING: &[u8] = b"@1 search '!z'\n@1 insert vector 'd:1'\n";
 const NEW: &[u8] = b"@1 found\n@1 ok 2/0#1\n";
 
 /// What it is answered where the store has those of the script.
-const WHOLE: &[u8] = b"@1 found 2/0#1 2/1#2 2/2#3\n@1 ok 2/3#4\n";
+const WHOLE: &[u8] = b"@1 found 2/2#3 2/3#4\n@1 ok 2/4#5\n";
 
 /// How many bytes at the beginning of the log are each replaced.
 const REPLACED: usize = 200;
@@ -49,7 +49,7 @@ where
     R: Threads + Wait + Sync + Print + AllocGlobal,
 {
     let log = script_log(rt)?;
-    let some = (0..log.len()).filter(|len| *len <= 200 || len % 101 == 0);
+    let some = (0..log.len()).filter(|len| *len <= 200 || len % 211 == 0);
     for len in some {
         let text = if len <= 17 { NEW } else { b"" };
         let holds = ends_so(rt, log.get(..len).unwrap_or(b""), text)?;
@@ -60,9 +60,10 @@ where
     Ok(())
 }
 
-/// What a run prints over a log of which the byte at this place is 99: nothing, as of no store, where the store's commit byte
-/// is closed, the header's text is another, or what its first batch holds has no reading. Where the first batch's commit byte
-/// is closed there is no batch. Any other byte is of a page that the first record changes, and no statement reads it.
+/// What a run prints over a log of which the byte at this place is 99: nothing, as of no store, where the store's
+/// commit byte is closed, the header's text is another, or what its first batch holds has no reading. Where the first
+/// batch's commit byte is closed there is no batch. Any other byte is of a page that the first record changes, and no
+/// statement reads it.
 fn printed_over(place: usize) -> &'static [u8] {
     match place {
         17 => NEW,

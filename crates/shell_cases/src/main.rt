@@ -4,6 +4,7 @@
 //! fail, cuts logs, and runs scripts over the files of the working directory.
 #![tactic(auto)]
 
+mod calls;
 mod case;
 mod compare;
 mod edits;
@@ -88,6 +89,7 @@ where
     logs::see_other_bytes(rt, tally)?;
     streams::see_a_long_script(rt, tally)?;
     streams::see_streams(rt, tally)?;
+    calls::see_calls(rt, tally)?;
     gate::see_a_gate(rt, tally)?;
     files::see_stops(rt, tally)?;
     files::see_files(files, tally)?;

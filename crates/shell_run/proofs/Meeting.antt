@@ -9,7 +9,8 @@ use Rattle.disk_trait.specs.declared.device.Disk.{Ghosts as Disk}
 use Rattle.disk_trait.specs.declared.stream.Source.{Ghosts as Source}
 use Rattle.disk_trait.specs.declared.stream.Sink.{Ghosts as Sink}
 use Rattle.shell_run.specs.HasRead.{HasRead}
-use Rattle.shell_run.specs.Words.{IsForm}
+use Rattle.shell_script.specs.declared.command_words.Options.{Options}
+use Rattle.shell_run.specs.Words.{IsForm, settings_for}
 use Rattle.shell_run.specs.RunMeets.{RunMeets}
 use Rattle.shell_run.specs.Inner.Serving.{ServeMeets}
 use Rattle.shell_run.specs.Inner.Statuses.{stop_number}
@@ -17,7 +18,6 @@ use Rattle.shell_run.specs.declared.error.Stop.{Stop}
 use Rattle.shell_run.specs.declared.error.Stop.TheVariants.{SourceFault, TooLong, OutOfMemory}
 use Rattle.shell_run.specs.declared.script.TheConstants.{SCRIPT_LIMIT}
 use Rattle.shell_run.specs.declared.top.Outcome.{Outcome}
-use Rattle.shell_run.specs.declared.words.Settings.{Settings}
 use Rattle.shell_run.proofs.Ending.{Unread, unread}
 use Rattle.shell_run.proofs.Served.{idle_causes, idle}
 
@@ -41,7 +41,7 @@ module _ {S K D : Type 0} (source : Source S) (sink : Sink K) (device : Disk D)
   outcome status script' out' disk' =
       record { status = status; script = script'; out = out'; store = disk' }
 
-  pub run_of_no_form : ((settings : Settings) → IsForm words settings → ⊥)
+  pub run_of_no_form : ((options : Options) → IsForm words options → ⊥)
       → RunMeets source sink device words script out disk (outcome 2 script out disk)
   run_of_no_form none = record {
     range = omega arith;
@@ -57,20 +57,20 @@ module _ {S K D : Type 0} (source : Source S) (sink : Sink K) (device : Disk D)
     headline = inl (idle sink device out disk 2 (inl refl));
   }
 
-  pub run_unread : (settings : Settings) → IsForm words settings
+  pub run_unread : (options : Options) → IsForm words options
       → (script' : S) (stop : Stop) (status : ℕ) → status ≡ stop_number stop
       → (stop ≡ SourceFault) ⊎ (stop ≡ TooLong) ⊎ (stop ≡ OutOfMemory)
       → (stop ≡ SourceFault → Rose (source.fault_count script) (source.fault_count script'))
       → (stop ≡ TooLong → IfSome (source.left script) (λ bytes. SCRIPT_LIMIT < length bytes))
       → RunMeets source sink device words script out disk (outcome status script' out disk)
-  run_unread settings form script' stop status number error fault long =
+  run_unread options form script' stop status number error fault long =
       let u : Unread stop status = unread stop status number error in
       let n : (status ≡ 6) ⊎ (status ≡ 8) ⊎ (status ≡ 5) = u.number in
       record {
         range = omega (arith, n);
         status_2 = (
           λ e. absurd (let x : ⊥ = omega (arith, n, e) in x),
-          λ none. absurd (none settings form),
+          λ none. absurd (none options form),
         );
         nothing_2 = λ e. absurd (let x : ⊥ = omega (arith, n, e) in x);
         status_6 = λ e. fault (u.at_6 e);
@@ -98,16 +98,17 @@ module _ {S K D : Type 0} (source : Source S) (sink : Sink K) (device : Disk D)
       other (inr (inl e)) m = m.3 e
       other (inr (inr e)) m = m.1 e
 
-  pub run_served : (settings : Settings) → IsForm words settings → (script' : S) (text : List ℕ)
+  pub run_served : (options : Options) → IsForm words options → (script' : S) (text : List ℕ)
       → HasRead (source.left script) (source.left script') text → IsAtEnd (source.left script')
       → length text ≤ SCRIPT_LIMIT
-      → (status : ℕ) (out' : K) (disk' : D) → ServeMeets sink device text status out out' disk disk'
+      → (status : ℕ) (out' : K) (disk' : D)
+      → ServeMeets sink device (settings_for options) text status out out' disk disk'
       → RunMeets source sink device words script out disk (outcome status script' out' disk')
-  run_served settings form script' text read end short status out' disk' m =
+  run_served options form script' text read end short status out' disk' m =
       let below : status ≤ 7 = m.range.0 in
       record {
         range = omega (arith, below);
-        status_2 = (λ e. absurd (m.range.1 e), λ none. absurd (none settings form));
+        status_2 = (λ e. absurd (m.range.1 e), λ none. absurd (none options form));
         nothing_2 = λ e. absurd (m.range.1 e);
         status_6 = λ e. absurd (m.range.2 e);
         status_8 = λ e. absurd (let x : ⊥ = omega (arith, below, e) in x);
@@ -122,5 +123,5 @@ module _ {S K D : Type 0} (source : Source S) (sink : Sink K) (device : Disk D)
             ];
         causes = m.causes;
         read = λ e. end;
-        headline = elim m.headline [ inl h ↦ inl h | inr h ↦ inr (text, read, end, h) ];
+        headline = elim m.headline [ inl h ↦ inl h | inr h ↦ inr (options, text, form, read, end, h) ];
       }

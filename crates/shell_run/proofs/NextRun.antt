@@ -7,7 +7,7 @@ use Rattle.std.proofs.lemmas.List.Elements.{All-weaker}
 use Rattle.disk_trait.specs.Files.{Files}
 use Rattle.disk_trait.specs.declared.device.Disk.{Ghosts as Disk}
 use Rattle.engine.specs.Opening.{OpensTo, OpensToOne, NoStoreIsNone}
-use Rattle.engine.proofs.Starting.{no_refusal, none_opens}
+use Rattle.engine.proofs.Entering.{no_refusal, none_opens}
 use Rattle.engine.specs.Finding.{History, Begins}
 use Rattle.shell_run.specs.Run.{Exchange, IsOkOfStore}
 use Rattle.shell_run.specs.Crash.{StartedFrom, IsKnownBy, CrashSafe}

@@ -27,7 +27,7 @@ use Rattle.shell_script.specs.declared.sources.Maker.{Maker}
 use Rattle.shell_script.specs.declared.sources.Maker.TheVariants.{To, Plain, Phrase, Web}
 use Rattle.shell_script.specs.Replies.{bad_vector, bad_query, long_lexeme, large_vector, large_query}
 use Rattle.shell_script.specs.Replies.{Refusal, no_statement, no_configuration, no_dictionary, text_refused, store_full}
-use Rattle.shell_script.specs.Replies.{log_full, transactions_spent, down, device, memory}
+use Rattle.shell_script.specs.Replies.{log_full, transactions_spent, down, device, memory, no_document, conflict, bad_page}
 use Rattle.shell_script.specs.ReplyView.{refusal}
 use Rattle.shell_run.specs.Inner.Refusing.{vector_refusal, query_refusal}
 use Rattle.shell_run.specs.Values.{IsConfig, with_weight, IsSourceOf, SourceFails, IsPartOf, IsJoinedOf, PartFails}
@@ -106,6 +106,9 @@ text_told known text (Err (text_refused (large_vector bytes))) m h = (vectors.Ve
 text_told known text (Err (text_refused large_query)) m h = absurd h
 text_told known text (Err no_configuration) m h = absurd h
 text_told known text (Err no_dictionary) m h = absurd h
+text_told known text (Err no_document) m h = absurd h
+text_told known text (Err (conflict xid)) m h = absurd h
+text_told known text (Err (bad_page page)) m h = absurd h
 text_told known text (Err store_full) m h = absurd h
 text_told known text (Err log_full) m h = absurd h
 text_told known text (Err transactions_spent) m h = absurd h
@@ -145,6 +148,9 @@ made_told known config weight text (Err (text_refused (large_vector bytes))) m h
 made_told known config weight text (Err (text_refused large_query)) m h = absurd h
 made_told known config weight text (Err no_configuration) m h = (Err no_configuration, refl, inl (refl, h))
 made_told known config weight text (Err no_dictionary) m h = absurd h
+made_told known config weight text (Err no_document) m h = absurd h
+made_told known config weight text (Err (conflict xid)) m h = absurd h
+made_told known config weight text (Err (bad_page page)) m h = absurd h
 made_told known config weight text (Err store_full) m h = absurd h
 made_told known config weight text (Err log_full) m h = absurd h
 made_told known config weight text (Err transactions_spent) m h = absurd h
@@ -199,6 +205,9 @@ join_told v w (Err (text_refused (large_vector bytes))) m h = (vectors.VectorToo
 join_told v w (Err (text_refused large_query)) m h = absurd h
 join_told v w (Err no_configuration) m h = absurd h
 join_told v w (Err no_dictionary) m h = absurd h
+join_told v w (Err no_document) m h = absurd h
+join_told v w (Err (conflict xid)) m h = absurd h
+join_told v w (Err (bad_page page)) m h = absurd h
 join_told v w (Err store_full) m h = absurd h
 join_told v w (Err log_full) m h = absurd h
 join_told v w (Err transactions_spent) m h = absurd h
@@ -280,6 +289,9 @@ read_told known text (Err (text_refused (large_vector bytes))) m h = absurd h
 read_told known text (Err (text_refused large_query)) m h = (queries.TooManyNodes, (λ e. cc), refl, h)
 read_told known text (Err no_configuration) m h = absurd h
 read_told known text (Err no_dictionary) m h = absurd h
+read_told known text (Err no_document) m h = absurd h
+read_told known text (Err (conflict xid)) m h = absurd h
+read_told known text (Err (bad_page page)) m h = absurd h
 read_told known text (Err store_full) m h = absurd h
 read_told known text (Err log_full) m h = absurd h
 read_told known text (Err transactions_spent) m h = absurd h
@@ -341,6 +353,9 @@ by_told known maker config text (Err (text_refused large_query)) m h =
     inr (h.0, h.1, (queries.TooManyNodes, (λ e. cc), refl, h.2))
 by_told known maker config text (Err no_configuration) m h = inl (refl, h)
 by_told known maker config text (Err no_dictionary) m h = absurd h
+by_told known maker config text (Err no_document) m h = absurd h
+by_told known maker config text (Err (conflict xid)) m h = absurd h
+by_told known maker config text (Err (bad_page page)) m h = absurd h
 by_told known maker config text (Err store_full) m h = absurd h
 by_told known maker config text (Err log_full) m h = absurd h
 by_told known maker config text (Err transactions_spent) m h = absurd h

@@ -1,12 +1,13 @@
 -- How far a script has come.
 use Rattle.std.proofs.Common.{◌≡◌, ◌⊎◌, inl, inr, ℕ, ◌+◌, ◌<◌, Bool, true, false, ◌||◌, List, [], ◌∷◌, ◌++◌, length}
-use Rattle.std.proofs.Common.{append_assoc, arith, refl, sym, ◌∙◌, ap, subst}
+use Rattle.std.proofs.Common.{append_assoc, length-append, ◌≤◌, arith, refl, sym, ◌∙◌, ap, subst}
 use Rattle.std.specs.Prelude.{Option, Some, None, Ok, Err}
 use Rattle.std.specs.List.{All, list_any}
 use Rattle.std.specs.Str.Lines.{lines}
 use Rattle.std.proofs.lemmas.List.{append-nil, flat_map_more}
 use Rattle.std.proofs.lemmas.Bool.{cases_lt}
 use Rattle.std.proofs.lemmas.List.Elements.{All-nil, All-push, All-weaker}
+use Rattle.disk_trait.specs.Files.{Files}
 use Rattle.disk_trait.specs.declared.device.Disk.{Ghosts as Disk}
 use Rattle.ts_config.specs.Known.{Known, first_known}
 use Rattle.shell_script.specs.Steps.{Step}
@@ -14,27 +15,28 @@ use Rattle.shell_script.specs.StepsOf.{steps_of}
 use Rattle.shell_script.specs.Texts.{said}
 use Rattle.shell_script.proofs.StepsLaw.{one_reading}
 use Rattle.shell_script.proofs.Rising.{Rise, number_of, steps_rise}
+use Rattle.engine.specs.Opening.{OpensToOne}
+use Rattle.engine.specs.Standing.{HistoriesAreLawful}
+use Rattle.engine.specs.Answers.{Pass}
+use Rattle.engine.specs.Db.{DbValue, disk_of, fault_of, flushed_of, IsUp}
+use Rattle.engine.specs.Finding.{History}
+use Rattle.engine.specs.Opened.{Settings, IsFixedSince, IsLawfulSince, OpenedAt}
 use Rattle.shell_run.specs.declared.error.Stop.{Stop}
 use Rattle.shell_run.specs.Defining.{Becomes}
-use Rattle.engine.specs.Finding.{History}
 use Rattle.shell_run.specs.Run.{Exchange, Place}
-use Rattle.engine.specs.AtOpening.{AtOpening, IsWidest}
-use Rattle.shell_run.specs.Crash.{StartedFrom, HasSamePages, Reaches, CrashSafe, Means}
-use Rattle.shell_run.specs.RanOn.{counts_over, RanOn}
-use Rattle.engine.specs.Opened.{IsFixedSince, IsLawfulSince, OpenedAt}
+use Rattle.shell_run.specs.Crash.{HasSamePages, Reaches, CrashSafe, Means}
+use Rattle.shell_run.specs.RanOn.{counts_over, RanOn, IsLawfulRun}
 use Rattle.shell_run.specs.Script.{IsExchangeOf, AreExchanges, printed_exchange, printed_exchanges}
 use Rattle.shell_run.specs.Inner.Sending.{Sends, SendsBut}
 use Rattle.shell_run.specs.declared.sending.TheConstants.{PIECE_BYTES}
-use Rattle.engine.specs.Standing.{StandsFor, IsUp, disk_of, fault_of}
 use Rattle.shell_run.specs.Outcomes.{HasPrinted, is_refusal, some_refused, last_text}
 use Rattle.shell_run.specs.Inner.Serving.{Served, Passed, HasRunSteps}
 use Rattle.shell_run.specs.declared.serving.RunState.{RunState}
-use Rattle.engine.specs.Db.{DbValue}
 use Rattle.shell_run.proofs.Streams.{appends_none, puts_few, puts_none}
-use Rattle.engine.proofs.Held.{held_lawful, held_placed}
-use Rattle.engine.proofs.Standing.{opens_now, opened_numbered}
-use Rattle.shell_run.proofs.Safety.{Safe}
-use Rattle.shell_run.proofs.Going.{State, Goes, goes, exchange_of}
+use Rattle.shell_run.proofs.Safety.{reached}
+use Rattle.shell_run.proofs.Moving.{Moves}
+use Rattle.shell_run.proofs.Calling.{moves}
+use Rattle.shell_run.proofs.Going.{State, Lawful, goes, exchange_of, note_of}
 
 -- a step more at the end
 exchanges_more : (known next last : Known) (ss : List Step) (exchanges : List Exchange) (s : Step) (exchange : Exchange)
@@ -107,15 +109,19 @@ has_printed a c text exchanges done left known waiting well e h k = record {
   few = k.1;
 }
 
-module _ {D : Type 0} (device : Disk D) (found : AtOpening) (history : History) where
+-- what holds of all devices, files and logs
+pub record Laws {D : Type 0} (device : Disk D) : Type 0 where
+  pub image : (d : D) → device.tells → device.image d (device.clock d) (device.seen d)
+  pub one : OpensToOne
+  pub lawful : HistoriesAreLawful device
+
+module _ {D : Type 0} (device : Disk D) where
   -- the steps so far were answered, and these are left
-  pub record Progress (before now : Option (List ℕ)) (opened : DbValue D) (run_state : RunState D) (text : List ℕ)
-      (left : List Step) (well : Bool) : Type 0 where
-    pub commits : History
+  pub record Progress (before now : Option (List ℕ)) (opened : DbValue D) (pass : Pass) (run_state : RunState D)
+      (text : List ℕ) (left : List Step) (well : Bool) : Type 0 where
+    pub added : History
     pub exchanges : List Exchange
     pub up : IsUp opened
-    pub stood : StandsFor found opened history
-    pub held : StandsFor found run_state.store commits
     pub high : ℕ
     pub last : All (λ (r : Exchange). r.place.step < high) exchanges
     pub rise : Rise high left
@@ -126,19 +132,37 @@ module _ {D : Type 0} (device : Disk D) (found : AtOpening) (history : History) 
         (printed_exchanges exchanges) run_state.waiting.items well
     pub room : well ≡ true → length run_state.waiting.items < PIECE_BYTES
     pub flag : run_state.refused ≡ some_refused exchanges
-    pub state : (first : D) (c0 : ℕ) → OpenedAt device found history first c0 opened
-        → State device found history first c0 opened run_state.store commits exchanges
+    pub state : (settings : Settings) (first : D) (c0 : ℕ) → OpenedAt device settings first c0 opened pass
+        → State device first c0 opened run_state.store added exchanges
 
-  pub progress_start : (a : Option (List ℕ)) (run_state : RunState D) (text : List ℕ)
-      → StandsFor found run_state.store history → IsUp run_state.store
-      → run_state.configs ≡ first_known → run_state.waiting.items ≡ [] → run_state.refused ≡ false
-      → Progress a a run_state.store run_state text (steps_of text) true
-  progress_start a run_state text h up k w f = record {
-    commits = history;
+  start_lawful : (settings : Settings) (first : D) (c0 : ℕ) (opened : DbValue D) (pass : Pass)
+      → OpenedAt device settings first c0 opened pass → (history : History)
+      → IsLawfulSince device first c0 opened history → HistoriesAreLawful device
+      → Lawful device first c0 opened opened history (history ++ []) [] refl
+  start_lawful settings first c0 opened pass o history h lawful =
+      subst (λ z. Lawful device first c0 opened opened history z [] refl) (sym (append-nil history)) (record {
+        run = record {
+          lawful = lawful history history opened h.stands;
+          begins = ([], append-nil history);
+          answers = All-nil _;
+          within = All-nil _;
+          own = λ k l m. absurd (omega arith);
+          order = All-nil _;
+        };
+        since = record { lawful = h; opened_is = o.opened; stands = h.stands };
+        seen = tt;
+        flushed = λ up. omega (arith, h.flushed);
+        kept = λ up. h.kept;
+        safe = record { known = All-nil _; fresh = All-nil _ };
+      })
+
+  pub progress_start : Laws device → (a : Option (List ℕ)) (pass : Pass) (run_state : RunState D) (text : List ℕ)
+      → IsUp run_state.store → run_state.configs ≡ first_known → run_state.waiting.items ≡ []
+      → run_state.refused ≡ false → Progress a a run_state.store pass run_state text (steps_of text) true
+  progress_start laws a pass run_state text up k w f = record {
+    added = [];
     exchanges = [];
     up = up;
-    stood = h;
-    held = h;
     high = 1;
     last = All-nil _;
     rise = steps_rise 0 false 1 (lines text);
@@ -148,13 +172,8 @@ module _ {D : Type 0} (device : Disk D) (found : AtOpening) (history : History) 
     printed = (record { sent = []; unsent = []; all = refl; took = appends_none a; waits = λ e. sym w }, some_piece);
     room = λ e. subst (λ z. length z < PIECE_BYTES) (sym w) some_piece;
     flag = f;
-    state = λ first c0 o. record {
-      run = record {
-        lawful = held_lawful device found run_state.store history h;
-        begins = ([], append-nil history);
-        answers = All-nil _;
-        within = All-nil _;
-        own = λ k l m. absurd (omega arith);
+    state = λ settings first c0 o. record {
+      noted = record {
         order = All-nil _;
         owed = All-nil _;
         one_count = All-nil _;
@@ -174,136 +193,136 @@ module _ {D : Type 0} (device : Disk D) (found : AtOpening) (history : History) 
       };
       fixed = o.fixed;
       timed = record { later = omega arith; within = All-nil _; order = All-nil _ };
-      left_by = refl;
-      safe = λ t s.
-          let e : IsLawfulSince device history first c0 run_state.store = o.lawful t s in
-          record {
-            began = (o.fixed t).began.1;
-            stands = λ u. e.stands;
-            numbered = opened_numbered device (device.seen first).pages run_state.store history e.stands;
-            clocks = All-nil _;
-            late = λ m c ge le left. record {
-              kept = history;
-              opens = e.late m c ge le left;
-              begins = ([], append-nil history);
-              since = ([], append-nil history);
-              known = All-nil _;
-              answered = All-nil _;
-            };
-          };
+      chain = refl;
+      lawful = λ t s history h.
+          start_lawful settings first c0 run_state.store pass o history h laws.lawful;
     };
   }
 
   -- a run keeps the page file
-  kept_pages : ((d : D) → device.tells → device.image d (device.clock d) (device.seen d)) → (first disk : D) (c0 : ℕ)
-      → device.tells → IsFixedSince device first c0 disk → HasSamePages device first disk
-  kept_pages law first disk c0 t f = record {
-    now = f.pages (device.clock disk) (device.seen disk) f.began.1 (omega arith) (law disk t);
+  kept_pages : Laws device → (first disk : D) (c0 : ℕ) → device.tells → IsFixedSince device first c0 disk
+      → HasSamePages device first disk
+  kept_pages laws first disk c0 t f = record {
+    now = f.pages (device.clock disk) (device.seen disk) f.began.1 (omega arith) (laws.image disk t);
     images = λ m c ge le left. elim (cases_lt m c0) [
       | inl lt ↦ (c, f.early m c ge lt left, refl)
-      | inr above ↦ (device.seen first, law first t, f.pages m c above le left)
+      | inr above ↦ (device.seen first, laws.image first t, f.pages m c above le left)
     ];
   }
 
-  -- the meaning of a run over a device, at its end
-  finish : ((d : D) → device.tells → device.image d (device.clock d) (device.seen d))
-      → (first : D) (opened : DbValue D) (c0 : ℕ) (s : DbValue D) (commits : History) (exchanges : List Exchange)
-      → IsWidest found → OpenedAt device found history first c0 opened → IsUp opened
-      → StandsFor found opened history → StandsFor found s commits
-      → State device found history first c0 opened s commits exchanges → RanOn device history first (disk_of
-      s) commits exchanges × (device.tells → HasSamePages device first (disk_of s))
-  finish law first opened c0 s commits exchanges widest o up stood held st = (
+  -- what a run over a lawful device means, at its end
+  module _ (laws : Laws device) (t : device.tells) (settings : Settings) (first : D) (c0 : ℕ) (opened s : DbValue D)
+      (pass : Pass) (added : History) (exchanges : List Exchange) (o : OpenedAt device settings first c0 opened pass)
+      (st : State device first c0 opened s added exchanges) (history : History)
+      (h : IsLawfulSince device first c0 opened history)
+      (l : Lawful device first c0 opened s history (history ++ added) exchanges st.chain) where
+    abbrev commits : History
+    commits = history ++ added
+
+    fixed : IsFixedSince device first c0 (disk_of s)
+    fixed = st.fixed t
+
+    reaches : (m : ℕ) (c : Files) → c0 ≤ m → m ≤ device.clock (disk_of s) → device.image (disk_of s) m c
+        → Reaches c m history commits exchanges
+    reaches = reached device laws.one first c0 opened s history commits exchanges l.since l.safe
+
+    crash : CrashSafe device first (disk_of s) history commits exchanges
+    crash = record {
+      c0 = c0;
+      began = fixed.began;
+      clocks = λ k d n ok. let w = st.timed.within k d n in
+          (omega (arith, w.0, (o.fixed t).began.1), w.1);
+      early = fixed.early;
+      late = reaches;
+      pages = fixed.pages;
+    }
+
+    means : Means device (counts_over device first (disk_of opened) (disk_of s)) first
+        (disk_of s) history commits exchanges
+    means =
+        let r : Reaches (device.seen (disk_of s)) (device.clock (disk_of s)) history commits exchanges =
+        reaches (device.clock (disk_of s)) (device.seen (disk_of s)) fixed.began.1 (omega arith)
+        (laws.image (disk_of s) t) in
+        record {
+          is_first = h.entry;
+          last = r.kept;
+          more = r.begins.0;
+          all = r.begins.1;
+          is_last = r.opens;
+          in_doubt = λ some. doubt r some (fault_of s) refl;
+          crash = crash;
+        }
+      where
+        doubt : (r : Reaches (device.seen (disk_of s)) (device.clock (disk_of s)) history commits exchanges)
+            → 0 < length r.begins.0 → (d : Option ℕ) → fault_of s ≡ d
+            → device.fault_count first < device.fault_count (disk_of s)
+        doubt r some (Some n) is = omega (arith, (st.counted.fallen n is).0, (st.counted.fallen n is).1)
+        doubt r some None is =
+            let k = l.kept is (device.clock (disk_of s)) (device.seen (disk_of s)) (omega arith) (omega arith)
+            (laws.image (disk_of s) t) in
+            let same : length k.0 ≡ length r.kept =
+            ap length (laws.one (device.seen (disk_of s)) k.0 r.kept k.1 r.opens) in
+            absurd (let x : ⊥ = omega (
+              arith,
+              some,
+              k.2,
+              same,
+              ap length r.begins.1,
+              length-append r.kept r.begins.0,
+            ) in x)
+
+    lawful_run : IsLawfulRun device history commits (counts_over device first (disk_of opened) (disk_of s)) first
+        (disk_of s) exchanges opened s st.chain
+    lawful_run = record {
+      run = l.run;
+      stood_for = h.stands;
+      seen = l.seen;
+      stands_for = l.since.stands;
+      means = means;
+    }
+
+  ran_by : Laws device → (settings : Settings) (first : D) (c0 : ℕ) (opened s : DbValue D) (pass : Pass)
+      (added : History) (exchanges : List Exchange) → OpenedAt device settings first c0 opened pass → IsUp opened
+      → State device first c0 opened s added exchanges
+      → RanOn device settings first (disk_of s) exchanges × (device.tells → HasSamePages device first (disk_of s))
+  ran_by laws settings first c0 opened s pass added exchanges o up st = (
     record {
       opened = opened;
       last = s;
       closed = refl;
-      found = found;
-      found_commits = o.found_commits;
-      found_in = o.found_in;
-      widest = widest;
-      run = st.run;
-      began = o.time;
-      timed = st.timed;
       up = up;
-      stood_for = stood;
-      left_by = st.left_by;
-      stands_for = held;
-      placed = held_placed device found s commits held;
-      numbered = λ t f. (st.safe t f).numbered;
-      means = λ t f. by t f (fault_of s) refl;
+      limits = o.limits;
+      began = o.time;
+      caused = st.chain;
+      timed = st.timed;
+      noted = st.noted;
+      lawful = λ t f. let h = o.lawful t f in (
+        h.0,
+        h.0 ++ added,
+        lawful_run laws t settings first c0 opened s pass added exchanges o st h.0 h.1 (st.lawful t f h.0 h.1),
+      );
     },
-    λ t. kept_pages law first (disk_of s) c0 t (st.fixed t),
+    λ t. kept_pages laws first (disk_of s) c0 t (st.fixed t),
   )
-    where
-      crash : device.tells → StartedFrom device first → CrashSafe device first (disk_of s) history commits exchanges
-      crash t f =
-          let safe : Safe device first c0 s history commits exchanges = st.safe t f in
-          let fixed : IsFixedSince device first c0 (disk_of s) = st.fixed t in
-          record {
-            c0 = c0;
-            began = fixed.began;
-            clocks = safe.clocks;
-            early = fixed.early;
-            late = safe.late;
-            pages = fixed.pages;
-          }
-
-      by : device.tells → StartedFrom device first → (d : Option ℕ) → fault_of s ≡ d → Means device (counts_over device
-          found first (disk_of opened) (disk_of s)) first (disk_of s) history commits exchanges
-      by t f None is =
-          let safe : Safe device first c0 s history commits exchanges = st.safe t f in
-          record {
-            is_first = (o.lawful t f).entry;
-            last = commits;
-            more = [];
-            all = append-nil commits;
-            is_last = opens_now device (device.seen first).pages s commits (device.seen (disk_of s)) t is
-                (safe.stands is) (law (disk_of s) t);
-            in_doubt = λ l. absurd (omega arith);
-            crash = crash t f;
-          }
-      by t f (Some n) is =
-          let safe : Safe device first c0 s history commits exchanges = st.safe t f in
-          let r : Reaches (device.seen (disk_of s)) (device.clock (disk_of s)) history commits exchanges = safe.late
-          (device.clock (disk_of s)) (device.seen (disk_of s)) safe.began (omega arith) (law (disk_of s) t) in
-          record {
-            is_first = (o.lawful t f).entry;
-            last = r.kept;
-            more = r.begins.0;
-            all = r.begins.1;
-            is_last = r.opens;
-            in_doubt = λ l. omega (arith, (st.counted.fallen n is).0, (st.counted.fallen n is).1);
-            crash = crash t f;
-          }
-
-  ran_by : ((d : D) → device.tells → device.image d (device.clock d) (device.seen d))
-      → (a c : Option (List ℕ)) (opened : DbValue D) (run_state : RunState D) (text : List ℕ) (left : List Step)
-      (well : Bool) (h : Progress a c opened run_state text left well)
-      → (first : D) (c0 : ℕ) → IsWidest found → OpenedAt device found history first c0 opened
-      → RanOn device history first (disk_of run_state.store) h.commits h.exchanges × (device.tells
-      → HasSamePages device first (disk_of run_state.store))
-  ran_by law a c opened run_state text left well h first c0 widest o =
-      finish law first opened c0 run_state.store h.commits h.exchanges widest o h.up h.stood h.held (h.state first c0 o)
 
   -- one step more was answered
-  pub progress_step : (a b c : Option (List ℕ)) (opened : DbValue D) (old new : RunState D) (text : List ℕ) (s : Step)
-      (left : List Step) (well : Bool) → Progress a b opened old text (s ∷ left) true → Served device s old new b c well
-      → Progress a c opened new text left well
-  progress_step a b c opened old new text s left well p t =
+  pub progress_step : Laws device → (a b c : Option (List ℕ)) (opened : DbValue D) (pass : Pass) (old new : RunState D)
+      (text : List ℕ) (s : Step) (left : List Step) (well : Bool) → Progress a b opened pass old text (s ∷ left) true
+      → Served device s old new b c well → Progress a c opened pass new text left well
+  progress_step laws a b c opened pass old new text s left well p t =
       let number : ℕ = number_of s in
       let place : Place = record { step = number; session = t.session; turn = 0 } in
       let lower : All (λ (r : Exchange). r.place.step < number) p.exchanges = All-weaker (λ (r : Exchange). r.place.step
       < p.high) (λ (r : Exchange). r.place.step < number) (λ r l. omega (arith, l, p.rise.0)) p.exchanges p.last in
-      let g : Goes device found history p.commits p.exchanges old.store new.store place old.configs number
-      t.turned.statement t.reply = goes device found history old.store new.store p.commits p.exchanges place
-      old.configs number t.turned.statement t.reply p.held lower t.turned.answered in
-      let exchange : Exchange = exchange_of place old.configs number t.turned.statement t.reply g.note in
+      let m : Moves device old.store new.store old.configs number t.turned.statement t.reply =
+      moves device old.store new.store old.pass new.pass old.configs number t.turned.statement t.reply
+      t.turned.answered in
+      let exchange : Exchange = exchange_of place old.configs number t.turned.statement t.reply
+      (note_of device old.store new.store (flushed_of opened + length p.added) m.more) in
       record {
-        commits = p.commits ++ g.more;
+        added = p.added ++ m.more;
         exchanges = p.exchanges ++ exchange ∷ [];
         up = p.up;
-        stood = p.stood;
-        held = g.held;
         high = number + 1;
         last = All-push (λ (r : Exchange). r.place.step < number + 1) p.exchanges exchange
             (All-weaker (λ (r : Exchange). r.place.step < number) (λ (r : Exchange). r.place.step < number + 1)
@@ -326,38 +345,37 @@ module _ {D : Type 0} (device : Disk D) (found : AtOpening) (history : History) 
         room = t.few;
         flag = t.flag ∙ ap (λ b. b || is_refusal t.reply) p.flag
             ∙ sym (any_push (λ (r : Exchange). is_refusal r.reply) p.exchanges exchange);
-        state = λ first c0 o. g.state first c0 opened (p.state first c0 o);
+        state = λ settings first c0 o. goes device first c0 opened old.store new.store p.added p.exchanges place
+            old.configs number t.turned.statement t.reply (p.state settings first c0 o) m lower
+            laws.one laws.lawful;
       }
 
   -- the clause of `serve_steps`, where the run stopped
-  pub stopped_out : ((d : D) → device.tells → device.image d (device.clock d) (device.seen d)) → (a c : Option (List ℕ))
-      (opened : DbValue D) (run_state : RunState D) (text : List ℕ) (left : List Step) (stop : Stop)
-      → Progress a c opened run_state text left false
-      → HasRunSteps {E = Stop} device found history text a c opened (disk_of run_state.store) (Err stop)
-  stopped_out law a c opened run_state text left stop p = record {
+  pub stopped_out : Laws device → (a c : Option (List ℕ)) (opened : DbValue D) (pass : Pass) (run_state : RunState D)
+      (text : List ℕ) (left : List Step) (stop : Stop) → Progress a c opened pass run_state text left false
+      → HasRunSteps {E = Stop} device text a c opened pass (disk_of run_state.store) (Err stop)
+  stopped_out laws a c opened pass run_state text left stop p = record {
     exchanges = p.exchanges;
-    commits = p.commits;
     ran = record {
       so_far = has_printed a c text p.exchanges p.done left run_state.configs run_state.waiting.items false p.script
           p.each p.printed;
       whole = λ e. cc;
     };
     flag = tt;
-    over = ran_by law a c opened run_state text left false p;
+    over = λ settings first c0 o. ran_by laws settings first c0 opened run_state.store pass p.added p.exchanges o p.up
+        (p.state settings first c0 o);
   }
 
   -- more was written of what waits
-  pub progress_sent : (a b c : Option (List ℕ)) (opened : DbValue D) (old new : RunState D) (text : List ℕ)
-      (left : List Step) (well : Bool) → Progress a b opened old text left true → new.store ≡ old.store
-      → new.configs ≡ old.configs → new.refused ≡ old.refused
+  pub progress_sent : (a b c : Option (List ℕ)) (opened : DbValue D) (pass : Pass) (old new : RunState D)
+      (text : List ℕ) (left : List Step) (well : Bool) → Progress a b opened pass old text left true
+      → new.store ≡ old.store → new.configs ≡ old.configs → new.refused ≡ old.refused
       → Sends b c old.waiting.items new.waiting.items well → (well ≡ true → length new.waiting.items < PIECE_BYTES)
-      → Progress a c opened new text left well
-  progress_sent a b c opened old new text left well p s k f t room = record {
-    commits = p.commits;
+      → Progress a c opened pass new text left well
+  progress_sent a b c opened pass old new text left well p s k f t room = record {
+    added = p.added;
     exchanges = p.exchanges;
     up = p.up;
-    stood = p.stood;
-    held = subst (λ x. StandsFor found x p.commits) (sym s) p.held;
     high = p.high;
     last = p.last;
     rise = p.rise;
@@ -368,48 +386,50 @@ module _ {D : Type 0} (device : Disk D) (found : AtOpening) (history : History) 
         old.waiting.items new.waiting.items well p.printed.0 t (omega (arith, p.room refl));
     room = room;
     flag = f ∙ p.flag;
-    state = λ first c0 o. subst (λ x. State device found history first c0 opened x p.commits p.exchanges) (sym s)
-        (p.state first c0 o);
+    state = λ settings first c0 o. subst (λ x. State device first c0 opened x p.added p.exchanges) (sym s)
+        (p.state settings first c0 o);
   }
 
-  pub progress_left : (a b : Option (List ℕ)) (opened : DbValue D) (run_state : RunState D) (text : List ℕ)
-      (left other : List Step) (well : Bool) → Progress a b opened run_state text left well → left ≡ other
-      → Progress a b opened run_state text other well
-  progress_left a b opened run_state text left other well p e =
-      subst (λ z. Progress a b opened run_state text z well) e p
+  pub progress_left : (a b : Option (List ℕ)) (opened : DbValue D) (pass : Pass) (run_state : RunState D)
+      (text : List ℕ) (left other : List Step) (well : Bool) → Progress a b opened pass run_state text left well
+      → left ≡ other → Progress a b opened pass run_state text other well
+  progress_left a b opened pass run_state text left other well p e =
+      subst (λ z. Progress a b opened pass run_state text z well) e p
 
   -- the run stopped in a step
-  pub step_stop : ((d : D) → device.tells → device.image d (device.clock d) (device.seen d)) → (a b c : Option (List ℕ))
-      (opened : DbValue D) (old new : RunState D) (text : List ℕ) (s : Step) (left : List Step) (stop : Stop)
-      → Progress a b opened old text (s ∷ left) true
+  pub step_stop : Laws device → (a b c : Option (List ℕ)) (opened : DbValue D) (pass : Pass) (old new : RunState D)
+      (text : List ℕ) (s : Step) (left : List Step) (stop : Stop)
+      → Progress a b opened pass old text (s ∷ left) true
       → Served device s old new b c false ⊎ Passed old new b c false
-      → HasRunSteps {E = Stop} device found history text a c opened (disk_of new.store) (Err stop)
-  step_stop law a b c opened old new text s left stop p (inl t) =
-      stopped_out law a c opened new text left stop (progress_step a b c opened old new text s left false p t)
-  step_stop law a b c opened old new text s left stop p (inr t) =
-      stopped_out law a c opened new text (s ∷ left) stop (progress_sent a b c opened old new text
-      (s ∷ left) false p t.same.0 t.same.1 t.same.2 t.text (went_badly (length new.waiting.items)))
+      → HasRunSteps {E = Stop} device text a c opened pass (disk_of new.store) (Err stop)
+  step_stop laws a b c opened pass old new text s left stop p (inl t) =
+      stopped_out laws a c opened pass new text left stop
+      (progress_step laws a b c opened pass old new text s left false p t)
+  step_stop laws a b c opened pass old new text s left stop p (inr t) =
+      stopped_out laws a c opened pass new text (s ∷ left) stop (progress_sent a b c opened pass old new text
+      (s ∷ left) false p t.same.0 t.same.2 t.same.3 t.text (went_badly (length new.waiting.items)))
 
-  pub step_goes : (a b c : Option (List ℕ)) (opened : DbValue D) (old new : RunState D) (text : List ℕ) (s : Step)
-      (left : List Step) → Progress a b opened old text (s ∷ left) true
-      → Served device s old new b c true ⊎ Passed old new b c true → Progress a c opened new text left true
-  step_goes a b c opened old new text s left p (inl t) = progress_step a b c opened old new text s left true p t
-  step_goes a b c opened old new text s left p (inr t) = absurd (let e : true ≡ false = t.short in let x : ⊥ = cc in x)
+  pub step_goes : Laws device → (a b c : Option (List ℕ)) (opened : DbValue D) (pass : Pass) (old new : RunState D)
+      (text : List ℕ) (s : Step) (left : List Step) → Progress a b opened pass old text (s ∷ left) true
+      → Served device s old new b c true ⊎ Passed old new b c true → Progress a c opened pass new text left true
+  step_goes laws a b c opened pass old new text s left p (inl t) =
+      progress_step laws a b c opened pass old new text s left true p t
+  step_goes laws a b c opened pass old new text s left p (inr t) =
+      absurd (let e : true ≡ false = t.short in let x : ⊥ = cc in x)
 
   -- the clause of `serve_steps`, where all steps were answered and all text was written
-  pub ended_out : ((d : D) → device.tells → device.image d (device.clock d) (device.seen d))
-      → (a c : Option (List ℕ)) (opened : DbValue D) (run_state : RunState D) (text : List ℕ)
-      → Progress a c opened run_state text [] true → run_state.waiting.items ≡ []
-      → HasRunSteps {E = Stop} device found history text a c opened (disk_of run_state.store) (Ok run_state.refused)
+  pub ended_out : Laws device → (a c : Option (List ℕ)) (opened : DbValue D) (pass : Pass) (run_state : RunState D)
+      (text : List ℕ) → Progress a c opened pass run_state text [] true → run_state.waiting.items ≡ []
+      → HasRunSteps {E = Stop} device text a c opened pass (disk_of run_state.store) (Ok run_state.refused)
   unfolding has_printed
-  ended_out law a c opened run_state text p empty = record {
+  ended_out laws a c opened pass run_state text p empty = record {
     exchanges = p.exchanges;
-    commits = p.commits;
     ran = record {
       so_far = has_printed a c text p.exchanges p.done [] run_state.configs run_state.waiting.items true p.script
           p.each p.printed;
       whole = λ t. (refl, p.printed.0.waits refl ∙ empty);
     };
     flag = p.flag;
-    over = ran_by law a c opened run_state text [] true p;
+    over = λ settings first c0 o. ran_by laws settings first c0 opened run_state.store pass p.added p.exchanges o p.up
+        (p.state settings first c0 o);
   }

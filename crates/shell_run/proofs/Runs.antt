@@ -1,6 +1,7 @@
 -- A run grows by one statement.
 use Rattle.std.proofs.Common.{◌≡◌, ◌≢◌, ◌⊎◌, inl, inr, ℕ, zero, suc, ◌+◌, ◌<◌, ◌≤◌, Bool, true, false, cond, List, []}
 use Rattle.std.proofs.Common.{◌∷◌, ◌++◌, length, length-append, append_assoc, arith, refl, sym, ◌∙◌, ap, subst, get_or}
+use Rattle.std.proofs.Common.{map}
 use Rattle.std.specs.Prelude.{◌↔◌, Option, Some, None, IfSome, count_by, sum_by, ◌==◌}
 use Rattle.std.specs.List.{All, Any, slice_get}
 use Rattle.std.proofs.lemmas.List.{take-append-le, get_or_append_left}
@@ -9,17 +10,18 @@ use Rattle.std.proofs.lemmas.List.Sums.{sum_by_push, sum_by-cons}
 use Rattle.std.proofs.lemmas.Bool.{ne_eqb, eqb-false, eqb-true}
 use Rattle.ts_base.specs.Vectors.{Vector}
 use Rattle.ts_query.specs.Queries.{Query}
-use Rattle.shell_script.specs.Grammar.{Statement, insert, search as finding, show, ask, parse, define, invalid}
+use Rattle.shell_script.specs.Grammar.{Statement, insert, update, delete, search as finding, show, ask, parse}
+use Rattle.shell_script.specs.Grammar.{list_commits, define, invalid}
 use Rattle.ts_config.specs.Known.{Known}
-use Rattle.engine.specs.Finding.{Document, Commit, History, IsLawful, Begins, docs, IsFound}
-use Rattle.engine.specs.Answers.{commit_of}
+use Rattle.engine.specs.Finding.{Commit, History, Name, IsLawful, Begins, docs, IsFound, In}
 use Rattle.ts_match.specs.Meaning.{Holds}
-use Rattle.engine.specs.AtOpening.{IsFull}
-use Rattle.engine.specs.AtOpening.{IsLogFull, AreXidsSpent}
-use Rattle.shell_run.specs.Run.{Exchange, Note, Counts, Reply, stored, lists, refused, store_full, log_full}
-use Rattle.shell_run.specs.Run.{transactions_spent, down, device, memory, Run, IsWithin, IsAnswered, IsInserted}
-use Rattle.shell_run.specs.Run.{IsSearched, MayHaveOwn, MetFault, IsDownSince, FindsDown, HasFailed, HasCalled}
-use Rattle.shell_run.specs.Run.{IsSeenBy, Before, has_commit, is_at, seen_by, HasOwn}
+use Rattle.shell_run.specs.Run.{Exchange, Note, Counts, Reply, stored, removed, lists, shows_commits, refused}
+use Rattle.shell_run.specs.Run.{store_full, log_full, transactions_spent, no_document, conflict, down, device, memory}
+use Rattle.shell_run.specs.Run.{Run, AreNoted, IsWithin, IsAnswered, IsInserted, IsInsertion, IsUpdatedMore}
+use Rattle.shell_run.specs.Run.{IsReplacement, IsDeletedMore, IsDeletion, IsOfName, AreListed, line_for}
+use Rattle.shell_run.specs.Run.{IsSearched, IsRefusedWork, MayHaveOwn, HasSeen, MetFault, IsDownSince, FindsDown}
+use Rattle.shell_run.specs.Run.{MayCall}
+use Rattle.shell_run.specs.Run.{IsSeenBy, IsAfter, Before, has_commit, is_at, seen_by, HasOwn}
 
 get_more : {X : Type 0} (xs ys : List X) (i : ℕ) (x : X) → slice_get xs i ≡ Some x → slice_get (xs ++ ys) i ≡ Some x
 get_more [] ys i x e = cc
@@ -42,14 +44,8 @@ pub record Grows (k l : Counts) : Type 0 where
   pub faults : l.faults ≡ k.faults
   pub faults_opened : l.faults_opened ≡ k.faults_opened
   pub writes : l.writes ≡ k.writes
-  pub found : l.found ≡ k.found
   pub faults_after : k.faults_after ≤ l.faults_after
   pub writes_after : k.writes_after ≤ l.writes_after
-
-own_may : (commits more : History) (note : Note) (v : Vector) → MayHaveOwn commits note v
-    → MayHaveOwn (commits ++ more) note v
-own_may commits more note v (inl n) = inl n
-own_may commits more note v (inr h) = inr (h.0, own_more commits more note (commit_of h.0 v) h.1)
 
 met_more : (k l : Counts) (note : Note) → Grows k l → MetFault k note → MetFault l note
 met_more k l note g (inl h) = inl h
@@ -59,64 +55,94 @@ down_more : (k l : Counts) (count : ℕ) → Grows k l → IsDownSince k count �
 down_more k l count g h =
     (omega (arith, g.faults, h.0), omega (arith, g.faults_after, h.1), omega (arith, g.writes, g.writes_after, h.2))
 
-not_full_more : (commits more : History) (note : Note) (P : List Document → Type 0) → note.snapshot ≤ length commits
-    → (P (seen_by commits note) → ⊥) → P (seen_by (commits ++ more) note) → ⊥
-not_full_more commits more note P le h f = h (subst P (seen_more commits more note le) f)
+-- a row of a statement stays as the history and the counts grow
+module _ (k l : Counts) (commits more : History) (note : Note) (g : Grows k l)
+    (le : note.snapshot ≤ length commits) where
+  may_more : (Is : Commit → Type 0) → MayHaveOwn commits note Is → MayHaveOwn (commits ++ more) note Is
+  may_more Is (inl n) = inl n
+  may_more Is (inr h) = inr (h.0, h.1, own_more commits more note h.0 h.2)
 
-is_full_more : (commits more : History) (note : Note) (P : List Document → Type 0) → note.snapshot ≤ length commits
-    → P (seen_by commits note) → P (seen_by (commits ++ more) note)
-is_full_more commits more note P le h = subst P (sym (seen_more commits more note le)) h
+  saw_more : (name : Name) → HasSeen commits note name → HasSeen (commits ++ more) note name
+  saw_more name h = (
+    h.0,
+    subst (λ ds. In h.0 ds) (sym (seen_more commits more note le)) h.1,
+    h.2,
+  )
 
-insert_more : (k l : Counts) (commits more : History) (v : Vector) (reply : Reply) (note : Note) → Grows k l
-    → note.snapshot ≤ length commits → IsInserted k commits v reply note → IsInserted l (commits ++ more) v reply note
-insert_more k l commits more v (stored name) note g le h = (
-  own_more commits more note (commit_of name v) h.0,
-  subst (λ f. AreXidsSpent f note.snapshot → ⊥) (sym g.found) h.1,
-  not_full_more commits more note (λ ds. IsFull ds v) le h.2,
-  subst (λ f. IsLogFull f note.snapshot → ⊥) (sym g.found) h.3,
-)
-insert_more k l commits more v (refused transactions_spent) note g le h =
-    (h.0, subst (λ f. AreXidsSpent f note.snapshot) (sym g.found) h.1)
-insert_more k l commits more v (refused store_full) note g le h = (
-  h.0,
-  subst (λ f. AreXidsSpent f note.snapshot → ⊥) (sym g.found) h.1,
-  is_full_more commits more note (λ ds. IsFull ds v) le h.2,
-)
-insert_more k l commits more v (refused log_full) note g le h = (
-  h.0,
-  subst (λ f. AreXidsSpent f note.snapshot → ⊥) (sym g.found) h.1,
-  not_full_more commits more note (λ ds. IsFull ds v) le h.2,
-  subst (λ f. IsLogFull f note.snapshot) (sym g.found) h.3,
-)
-insert_more k l commits more v (refused (down count)) note g le h =
-    (own_may commits more note v h.0, down_more k l count g h.1)
-insert_more k l commits more v (refused device) note g le h = (own_may commits more note v h.0, met_more k l note g h.1)
-insert_more k l commits more v (refused memory) note g le h = h
-insert_more k l commits more v reply note g le h = absurd h
+  saw_less : (name : Name) → HasSeen (commits ++ more) note name → HasSeen commits note name
+  saw_less name h = (h.0, subst (λ ds. In h.0 ds) (seen_more commits more note le) h.1, h.2)
 
-search_more : (k l : Counts) (commits more : History) (q : Query) (reply : Reply) (note : Note) → Grows k l
-    → note.snapshot ≤ length commits → IsSearched k commits q reply note → IsSearched l (commits ++ more) q reply note
-search_more k l commits more q (lists names) note g le h =
-    (h.0, subst (λ ds. IsFound (Holds q) ds names) (sym (seen_more commits more note le)) h.1)
-search_more k l commits more q (refused (down count)) note g le h = (h.0, down_more k l count g h.1)
-search_more k l commits more q (refused memory) note g le h = h
-search_more k l commits more q reply note g le h = absurd h
+  work_more : (Is : Commit → Type 0) (reply : Reply) → IsRefusedWork k commits Is reply note
+      → IsRefusedWork l (commits ++ more) Is reply note
+  work_more Is (refused transactions_spent) h = h
+  work_more Is (refused store_full) h = h
+  work_more Is (refused log_full) h = h
+  work_more Is (refused (down count)) h = (may_more Is h.0, down_more k l count g h.1)
+  work_more Is (refused device) h = (may_more Is h.0, met_more k l note g h.1)
+  work_more Is (refused memory) h = h
+  work_more Is reply h = absurd h
 
-answered_more : (k l : Counts) (commits more : History) (known : Known)
-    (line : ℕ) (statement : Statement) (reply : Reply) (note : Note) → Grows k l
-    → note.snapshot ≤ length commits → IsAnswered k commits known line statement reply note
-    → IsAnswered l (commits ++ more) known line statement reply note
-answered_more k l commits more known line (insert e) reply note g le (inl h) = inl h
-answered_more k l commits more known line (insert e) reply note g le (inr h) =
-    inr (h.0, h.1, insert_more k l commits more h.0 reply note g le h.2)
-answered_more k l commits more known line (finding text) reply note g le (inl h) = inl h
-answered_more k l commits more known line (finding text) reply note g le (inr h) =
-    inr (h.0, h.1, search_more k l commits more h.0 reply note g le h.2)
-answered_more k l commits more known line (show e) reply note g le h = h
-answered_more k l commits more known line (ask text) reply note g le h = h
-answered_more k l commits more known line (parse text) reply note g le h = h
-answered_more k l commits more known line (define head ls) reply note g le h = h
-answered_more k l commits more known line invalid reply note g le h = h
+  insert_more : (v : Vector) (reply : Reply) → IsInserted k commits v reply note
+      → IsInserted l (commits ++ more) v reply note
+  insert_more v (stored name) h = (h.0, h.1, get_more commits more h.0 _ h.2)
+  insert_more v (refused why) h = work_more (IsInsertion v) (refused why) h
+  insert_more v reply h = absurd h
+
+  of_name_more : (name : Name) (reply : Reply) (P Q : Type 0) → (P → Q) → IsOfName commits name reply note P
+      → IsOfName (commits ++ more) name reply note Q
+  of_name_more name (refused no_document) P Q f h = (h.0, λ s. h.1 (saw_less name s))
+  of_name_more name (refused (conflict xid)) P Q f h = (h.0, saw_more name h.1)
+  of_name_more name (refused memory) P Q f h = f h
+  of_name_more name (refused (down count)) P Q f h = f h
+  of_name_more name (refused device) P Q f h = f h
+  of_name_more name reply P Q f h = (saw_more name h.0, f h.1)
+
+  update_more : (old : Name) (v : Vector) (reply : Reply) → IsUpdatedMore k commits old v reply note
+      → IsUpdatedMore l (commits ++ more) old v reply note
+  update_more old v (stored name) h = (h.0, h.1, get_more commits more h.0 _ h.2)
+  update_more old v (refused why) h = work_more (IsReplacement old v) (refused why) h
+  update_more old v reply h = absurd h
+
+  delete_more : (name : Name) (reply : Reply) → IsDeletedMore k commits name reply note
+      → IsDeletedMore l (commits ++ more) name reply note
+  delete_more name removed h = (h.0, h.1, get_more commits more h.0 _ h.2)
+  delete_more name (refused why) h = work_more (IsDeletion name) (refused why) h
+  delete_more name reply h = absurd h
+
+  list_more : (reply : Reply) → AreListed k commits reply note → AreListed l (commits ++ more) reply note
+  list_more (shows_commits ls) h =
+      (h.0, h.1 ∙ ap (λ z. map line_for z) (sym (take-append-le note.snapshot commits more le)))
+  list_more (refused (down count)) h = (h.0, down_more k l count g h.1)
+  list_more (refused device) h = (h.0, met_more k l note g h.1)
+  list_more (refused memory) h = h
+  list_more reply h = absurd h
+
+  search_more : (q : Query) (reply : Reply) → IsSearched k commits q reply note
+      → IsSearched l (commits ++ more) q reply note
+  search_more q (lists names) h =
+      (h.0, subst (λ ds. IsFound (Holds q) ds names) (sym (seen_more commits more note le)) h.1)
+  search_more q (refused (down count)) h = (h.0, down_more k l count g h.1)
+  search_more q (refused device) h = (h.0, met_more k l note g h.1)
+  search_more q (refused memory) h = h
+  search_more q reply h = absurd h
+
+  answered_more : (known : Known) (line : ℕ) (statement : Statement) (reply : Reply)
+      → IsAnswered k commits known line statement reply note
+      → IsAnswered l (commits ++ more) known line statement reply note
+  answered_more known line (insert e) reply (inl h) = inl h
+  answered_more known line (insert e) reply (inr h) = inr (h.0, h.1, insert_more h.0 reply h.2)
+  answered_more known line (update d e) reply (inl h) = inl h
+  answered_more known line (update d e) reply (inr h) =
+      inr (h.0, h.1, of_name_more d.name reply _ _ (update_more d.name h.0 reply) h.2)
+  answered_more known line (delete d) reply h = of_name_more d.name reply _ _ (delete_more d.name reply) h
+  answered_more known line (finding text) reply (inl h) = inl h
+  answered_more known line (finding text) reply (inr h) = inr (h.0, h.1, search_more h.0 reply h.2)
+  answered_more known line list_commits reply h = list_more reply h
+  answered_more known line (show e) reply h = h
+  answered_more known line (ask text) reply h = h
+  answered_more known line (parse text) reply h = h
+  answered_more known line (define head ls) reply h = h
+  answered_more known line invalid reply h = h
 
 below_some : (o : Option ℕ) (s n m : ℕ) → n ≤ m → IfSome o (λ p. (s ≤ p) × (p < n)) → IfSome o (λ p. (s ≤ p) × (p < m))
 below_some None s n m le h = tt
@@ -145,7 +171,7 @@ none_yet low n (r ∷ exchanges) h =
     ∙ (let z : 0 + count_by (has_commit n) exchanges ≡ 0 =
     omega (arith, none_yet low n exchanges (All-tail (λ (r : Exchange). IsWithin low n r.note) r exchanges h)) in z)
 
--- What is known of one statement more.
+-- What is known of one statement more of a lawful device.
 pub record Step (k l : Counts) (first commits more : History) (exchanges : List Exchange)
     (exchange : Exchange) : Type 0 where
   pub run : Run k first commits exchanges
@@ -157,18 +183,7 @@ pub record Step (k l : Counts) (first commits more : History) (exchanges : List 
       ⊎ ((c : Commit) × (more ≡ c ∷ []) × (exchange.note.commit ≡ Some (length commits)))
   pub lawful : IsLawful (commits ++ more)
   pub last : All (λ (r : Exchange). r.place.step < exchange.place.step) exchanges
-  pub finds_down : All
-      (λ (r : Exchange). 0 < r.note.writes → FindsDown exchange.known exchange.statement exchange.reply) exchanges
   pub no_commit : All (λ (r : Exchange). 0 < r.note.writes → exchange.note.commit ≡ None) exchanges
-  pub fell : (n : ℕ) → exchange.reply ≡ refused (down n)
-      → Any (λ (r : Exchange). (0 < r.note.writes) × (r.note.count ≡ n)) exchanges
-  pub one_count : (n : ℕ) → exchange.reply ≡ refused (down n)
-      → All (λ (r : Exchange). (m : ℕ) → r.reply ≡ refused (down m) → m ≡ n) exchanges
-  pub failed : (0 < exchange.note.writes) ↔ HasFailed exchange.statement exchange.reply
-  pub called : 0 < exchange.note.faults → HasCalled exchange.statement exchange.reply
-  pub count : exchange.note.count ≡ l.faults_after
-  pub faults : k.faults_after + exchange.note.faults ≡ l.faults_after
-  pub writes : k.writes_after + exchange.note.writes ≡ l.writes_after
 
 low_below : (first commits : History) → Begins first commits → length first ≤ length commits
 low_below first commits h = omega (arith, ap length h.1, length-append first h.0)
@@ -188,14 +203,11 @@ within_new k l first commits more exchanges exchange h =
     }
 
 seen_new : (n : ℕ) (low : ℕ) (a b : Exchange) → IsWithin low n a.note → b.note.snapshot ≡ n
-    → (0 < a.note.writes → FindsDown b.known b.statement b.reply) → (0 < a.note.writes → b.note.commit ≡ None)
-    → a.note.count + b.note.faults ≤ b.note.count → IsSeenBy a b
-seen_new n low a b h e d none c = record {
+    → (0 < a.note.writes → b.note.commit ≡ None) → IsSeenBy a b
+seen_new n low a b h e none = record {
   snapshot = omega (arith, h.high_is);
   commit = λ ok. under a.note.commit h.own;
-  down = d;
   no_commit = none;
-  count = c;
 }
   where
     under : (o : Option ℕ) → IfSome o (λ p. (a.note.snapshot ≤ p) × (p < n)) → IfSome o (λ p. p < b.note.snapshot)
@@ -293,6 +305,61 @@ module _ (exchanges : List Exchange) (exchange : Exchange) where
       (All-push (λ (b : Exchange). HaveOneCount exchange b) exchanges exchange (λ k d l m n a b. sym (h m a k d l n b))
       (λ m n a b. cc))
 
+-- what is known of one statement more on every device
+pub record NotedStep (k l : Counts) (exchanges : List Exchange) (exchange : Exchange) : Type 0 where
+  pub noted : AreNoted k exchanges
+  pub grows : Grows k l
+  pub last : All (λ (r : Exchange). r.place.step < exchange.place.step) exchanges
+  pub finds_down : All
+      (λ (r : Exchange). 0 < r.note.writes → FindsDown exchange.known exchange.statement exchange.reply) exchanges
+  pub fell : (n : ℕ) → exchange.reply ≡ refused (down n)
+      → Any (λ (r : Exchange). (0 < r.note.writes) × (r.note.count ≡ n)) exchanges
+  pub one_count : (n : ℕ) → exchange.reply ≡ refused (down n)
+      → All (λ (r : Exchange). (m : ℕ) → r.reply ≡ refused (down m) → m ≡ n) exchanges
+  pub failed : (0 < exchange.note.writes) ↔ (exchange.reply ≡ refused device)
+  pub called : 0 < exchange.note.faults → MayCall exchange.statement exchange.reply
+  pub count : exchange.note.count ≡ l.faults_after
+  pub faults : k.faults_after + exchange.note.faults ≡ l.faults_after
+  pub writes : k.writes_after + exchange.note.writes ≡ l.writes_after
+
+pub noted_step : (k l : Counts) (exchanges : List Exchange) (exchange : Exchange)
+    → NotedStep k l exchanges exchange → AreNoted l (exchanges ++ exchange ∷ [])
+noted_step j l exchanges exchange h = record {
+  order = All-push (λ (a : Exchange). All (λ (b : Exchange). Before a b → IsAfter a b) (exchanges ++ exchange ∷ []))
+      exchanges exchange
+      (λ k d m. let a : Exchange = get_or exchanges k d in
+      All-push (λ (b : Exchange). Before a b → IsAfter a b) exchanges exchange (h.noted.order k d m)
+      (λ before. record {
+        down = h.finds_down k d m;
+        count = omega (arith, (h.noted.counted k d m).1, h.faults, h.count);
+      }))
+      (All-push (λ (b : Exchange). Before exchange b → IsAfter exchange b) exchanges exchange
+      (λ k d m before. absurd (not_before exchange (get_or exchanges k d) (h.last k d m) before))
+      (λ before. absurd (not_self exchange before)));
+  owed = All-push (λ (b : Exchange). (n : ℕ) → b.reply ≡ refused (down n) → Any (λ (a : Exchange). (Before b a → ⊥)
+      × (0 < a.note.writes) × (a.note.count ≡ n)) (exchanges ++ exchange ∷ [])) exchanges exchange
+      (λ k d m n is. let b : Exchange = get_or exchanges k d in
+      let P : Exchange → Type 0 = λ (a : Exchange). (Before b a → ⊥) × (0 < a.note.writes) × (a.note.count ≡ n) in
+      any_more P P exchanges (exchange ∷ []) (λ x p. p) (h.noted.owed k d m n is))
+      (λ n is. any_before n exchanges exchange h.last (h.fell n is));
+  one_count = one_count_more exchanges exchange h.noted.one_count h.one_count;
+  failed = All-push (λ (r : Exchange). (0 < r.note.writes) ↔ (r.reply ≡ refused device)) exchanges exchange
+      h.noted.failed h.failed;
+  called = All-push (λ (r : Exchange). 0 < r.note.faults → MayCall r.statement r.reply) exchanges exchange
+      h.noted.called h.called;
+  counted = All-push (λ (r : Exchange). (l.faults_opened + r.note.faults ≤ r.note.count)
+      × (r.note.count ≤ l.faults_after)) exchanges exchange
+      (λ k d m. counted_more j l (get_or exchanges k d) h.grows (h.noted.counted k d m))
+      (omega (arith, h.noted.faults, h.grows.faults_opened, h.faults, h.count), omega (arith, h.count));
+  opening = omega (arith, h.noted.opening, h.grows.faults, h.grows.faults_opened);
+  faults = sums_grow (λ (r : Exchange). r.note.faults) exchanges exchange l.faults_opened j.faults_after l.faults_after
+      (subst (λ n. n + sum_by (λ (r : Exchange). r.note.faults) exchanges ≡ j.faults_after)
+      (sym h.grows.faults_opened) h.noted.faults) h.faults;
+  writes = sums_grow (λ (r : Exchange). r.note.writes) exchanges exchange l.writes j.writes_after l.writes_after
+      (subst (λ n. n + sum_by (λ (r : Exchange). r.note.writes) exchanges ≡ j.writes_after)
+      (sym h.grows.writes) h.noted.writes) h.writes;
+}
+
 pub run_step : (k l : Counts) (first commits more : History) (exchanges : List Exchange) (exchange : Exchange)
     → Step k l first commits more exchanges exchange → Run l first (commits ++ more) (exchanges ++ exchange ∷ [])
 run_step j l first commits more exchanges exchange h = record {
@@ -302,7 +369,7 @@ run_step j l first commits more exchanges exchange h = record {
       exchanges exchange
       (λ k d m. let r : Exchange = get_or exchanges k d in
       let w : IsWithin (length first) (length commits) r.note = h.run.within k d m in answered_more j l commits more
-      r.known r.line r.statement r.reply r.note h.grows w.high_is (h.run.answers k d m)) h.answered;
+      r.note h.grows w.high_is r.known r.line r.statement r.reply (h.run.answers k d m)) h.answered;
   within = All-push (λ (r : Exchange). IsWithin (length first) (length (commits ++ more)) r.note) exchanges exchange
       (λ k d m. let r : Exchange = get_or exchanges k d in within_more (length first) (length commits)
       (length (commits ++ more)) r.note (omega (arith, length-append commits more)) (h.run.within k d m))
@@ -313,30 +380,8 @@ run_step j l first commits more exchanges exchange h = record {
       (λ k d m. let a : Exchange = get_or exchanges k d in
       All-push (λ (b : Exchange). Before a b → IsSeenBy a b) exchanges exchange (h.run.order k d m)
       (λ before. seen_new (length commits) (length first) a exchange (h.run.within k d m) h.snapshot
-      (h.finds_down k d m) (h.no_commit k d m) (omega (arith, (h.run.counted k d m).1, h.faults, h.count))))
+      (h.no_commit k d m)))
       (All-push (λ (b : Exchange). Before exchange b → IsSeenBy exchange b) exchanges exchange
       (λ k d m before. absurd (not_before exchange (get_or exchanges k d) (h.last k d m) before))
       (λ before. absurd (not_self exchange before)));
-  owed = All-push (λ (b : Exchange). (n : ℕ) → b.reply ≡ refused (down n) → Any (λ (a : Exchange). (Before b a → ⊥)
-      × (0 < a.note.writes) × (a.note.count ≡ n)) (exchanges ++ exchange ∷ [])) exchanges exchange
-      (λ k d m n is. let b : Exchange = get_or exchanges k d in
-      let P : Exchange → Type 0 = λ (a : Exchange). (Before b a → ⊥) × (0 < a.note.writes) × (a.note.count ≡ n) in
-      any_more P P exchanges (exchange ∷ []) (λ x p. p) (h.run.owed k d m n is))
-      (λ n is. any_before n exchanges exchange h.last (h.fell n is));
-  one_count = one_count_more exchanges exchange h.run.one_count h.one_count;
-  failed = All-push (λ (r : Exchange). (0 < r.note.writes) ↔ HasFailed r.statement r.reply) exchanges exchange
-      h.run.failed h.failed;
-  called = All-push (λ (r : Exchange). 0 < r.note.faults → HasCalled r.statement r.reply) exchanges exchange
-      h.run.called h.called;
-  counted = All-push (λ (r : Exchange). (l.faults_opened + r.note.faults ≤ r.note.count)
-      × (r.note.count ≤ l.faults_after)) exchanges exchange
-      (λ k d m. counted_more j l (get_or exchanges k d) h.grows (h.run.counted k d m))
-      (omega (arith, h.run.faults, h.grows.faults_opened, h.faults, h.count), omega (arith, h.count));
-  opening = omega (arith, h.run.opening, h.grows.faults, h.grows.faults_opened);
-  faults = sums_grow (λ (r : Exchange). r.note.faults) exchanges exchange l.faults_opened j.faults_after l.faults_after
-      (subst (λ n. n + sum_by (λ (r : Exchange). r.note.faults) exchanges ≡ j.faults_after)
-      (sym h.grows.faults_opened) h.run.faults) h.faults;
-  writes = sums_grow (λ (r : Exchange). r.note.writes) exchanges exchange l.writes j.writes_after l.writes_after
-      (subst (λ n. n + sum_by (λ (r : Exchange). r.note.writes) exchanges ≡ j.writes_after)
-      (sym h.grows.writes) h.run.writes) h.writes;
 }

@@ -6,20 +6,19 @@ use Rattle.disk_trait.specs.Device.{Rose, last_count}
 use Rattle.disk_trait.specs.declared.device.Disk.{Ghosts as Disk}
 use Rattle.disk_trait.specs.declared.stream.Sink.{Ghosts as Sink}
 use Rattle.engine.specs.Opening.{IsNoStore}
-use Rattle.engine.specs.Finding.{History}
-use Rattle.engine.specs.AtOpening.{AtOpening, IsWidest}
+use Rattle.engine.specs.Answers.{Pass}
 use Rattle.shell_run.specs.Outcomes.{some_refused}
 use Rattle.shell_run.specs.Crash.{HasSamePages}
 use Rattle.shell_run.specs.RanOn.{RanOn}
 use Rattle.shell_run.specs.RunMeets.{HasCauses, HasNotRun}
-use Rattle.engine.specs.Opened.{OpenedAt}
+use Rattle.engine.specs.Opened.{Settings, OpenedAt}
 use Rattle.shell_run.specs.Inner.Serving.{Ran, HasRunSteps, ServeMeets}
 use Rattle.shell_run.specs.Inner.Statuses.{ending_number, stop_number}
 use Rattle.engine.specs.Db.{DbValue}
 use Rattle.shell_run.specs.declared.error.Stop.{Stop}
 use Rattle.shell_run.specs.declared.error.Stop.TheVariants.{SinkFault, OutOfMemory}
 use Rattle.shell_run.proofs.Streams.{appends_none}
-use Rattle.engine.proofs.Standing.{as_before_same, same_pages, only_same}
+use Rattle.shell_run.proofs.Standing.{as_before_same, same_pages, only_same}
 use Rattle.shell_run.proofs.Ending.{answered_stop, answered_end, Stopped, stopped, ended}
 
 -- the status of a run that ended says whether the device's count rose
@@ -70,9 +69,9 @@ module _ {K D : Type 0} (sink : Sink K) (device : Disk D) (out : K) (disk : D) w
   }
 
   -- where memory ran out before the store was opened
-  pub serve_short : (text : List ℕ) (status : ℕ) → status ≡ 5
-      → ServeMeets sink device text status out out disk disk
-  serve_short text status five =
+  pub serve_short : (settings : Settings) (text : List ℕ) (status : ℕ) → status ≡ 5
+      → ServeMeets sink device settings text status out out disk disk
+  serve_short settings text status five =
       let n : (status ≡ 2) ⊎ (status ≡ 6) ⊎ (status ≡ 8) ⊎ (status ≡ 5) = inr (inr (inr five)) in
       record {
         range = (omega (arith, five), λ e. omega (arith, five, e), λ e. omega (arith, five, e));
@@ -80,35 +79,31 @@ module _ {K D : Type 0} (sink : Sink K) (device : Disk D) (out : K) (disk : D) w
         headline = inl (idle status n);
       }
 
-module _ {K D : Type 0} (sink : Sink K) (device : Disk D) (text : List ℕ) (out out' : K)
+module _ {K D : Type 0} (sink : Sink K) (device : Disk D) (settings : Settings) (text : List ℕ) (out out' : K)
     (disk disk' : D) where
   -- the store that was opened, and what its steps left
-  pub record Serves (found : AtOpening) (history : History) (c0 : ℕ) (s : DbValue D)
-      (result : Result Bool Stop) : Type 0 where
-    pub widest : IsWidest found
-    pub opened : OpenedAt device found history disk c0 s
+  pub record Serves (c0 : ℕ) (s : DbValue D) (pass : Pass) (result : Result Bool Stop) : Type 0 where
+    pub opened : OpenedAt device settings disk c0 s pass
     pub a_store : device.tells → IsNoStore (device.seen disk) → ⊥
-    pub ran : HasRunSteps device found history text (sink.taken out)
-        (sink.taken out') s disk' result
+    pub ran : HasRunSteps device text (sink.taken out) (sink.taken out') s pass disk' result
 
-  pub serve_stopped : (found : AtOpening) (history : History) (c0 : ℕ) (s : DbValue D)
-      (result : Result Bool Stop) (stop : Stop) (status : ℕ) → Serves found history c0 s result
+  pub serve_stopped : (c0 : ℕ) (s : DbValue D) (pass : Pass)
+      (result : Result Bool Stop) (stop : Stop) (status : ℕ) → Serves c0 s pass result
       → result ≡ Err stop → IfErr result (λ e. (e ≡ SinkFault) ⊎ (e ≡ OutOfMemory))
       → (IsErrOf result SinkFault → Rose (sink.fault_count out) (sink.fault_count out'))
-      → status ≡ stop_number stop → ServeMeets sink device text status out out' disk disk'
-  serve_stopped found history c0 s result stop status h is error fault number =
+      → status ≡ stop_number stop → ServeMeets sink device settings text status out out' disk disk'
+  serve_stopped c0 s pass result stop status h is error fault number =
       let e : (stop ≡ SinkFault) ⊎ (stop ≡ OutOfMemory) =
       subst (λ (z : Result Bool Stop). IfErr z (λ e. (e ≡ SinkFault) ⊎ (e ≡ OutOfMemory))) is
       error in
       let st : Stopped stop status = stopped stop status e number in
       let n : (status ≡ 5) ⊎ (status ≡ 7) = st.number in
-      let r : HasRunSteps device found history text (sink.taken out)
-      (sink.taken out') s disk' result = h.ran in
+      let r : HasRunSteps device text (sink.taken out) (sink.taken out') s pass disk' result = h.ran in
       let part : Ran text (sink.taken out) (sink.taken out') r.exchanges false =
       subst (λ (z : Result Bool Stop). Ran text (sink.taken out) (sink.taken out') r.exchanges
       (is_ok z)) is r.ran in
-      let over : RanOn device history disk disk' r.commits r.exchanges × (device.tells
-      → HasSamePages device disk disk') = r.over disk c0 h.widest h.opened in
+      let over : RanOn device settings disk disk' r.exchanges × (device.tells
+      → HasSamePages device disk disk') = r.over settings disk c0 h.opened in
       record {
         range = (omega (arith, n), λ x. omega (arith, n, x), λ x. omega (arith, n, x));
         causes = record {
@@ -126,8 +121,6 @@ module _ {K D : Type 0} (sink : Sink K) (device : Disk D) (text : List ℕ) (out
             inr (record {
               a_store = h.a_store;
               exchanges = r.exchanges;
-              first = history;
-              commits = r.commits;
               answered =
                   answered_stop text (sink.taken out) (sink.taken out') r.exchanges status part n;
               ran =
@@ -135,29 +128,28 @@ module _ {K D : Type 0} (sink : Sink K) (device : Disk D) (text : List ℕ) (out
             });
       }
 
-  pub serve_ended : (found : AtOpening) (history : History) (c0 : ℕ) (s : DbValue D)
-      (result : Result Bool Stop) (refused : Bool) (status : ℕ) → Serves found history c0 s result
+  pub serve_ended : (c0 : ℕ) (s : DbValue D) (pass : Pass)
+      (result : Result Bool Stop) (refused : Bool) (status : ℕ) → Serves c0 s pass result
       → result ≡ Ok refused
       → (before after : ℕ) → before ≡ device.fault_count disk → after ≡ device.fault_count disk'
       → status ≡ ending_number (ltb before after) refused
-      → ServeMeets sink device text status out out' disk disk'
-  serve_ended found history c0 s result refused status h is before after first last told =
+      → ServeMeets sink device settings text status out out' disk disk'
+  serve_ended c0 s pass result refused status h is before after first last told =
       let number : status ≡ ending_number
       (ltb (device.fault_count disk) (device.fault_count disk')) refused =
       subst (λ n. status ≡ ending_number (ltb (device.fault_count disk) n) refused) last
       (subst (λ n. status ≡ ending_number (ltb n after) refused) first told) in
       let failed : Bool = ltb (device.fault_count disk) (device.fault_count disk') in
       let n : (status ≡ 0) ⊎ (status ≡ 1) ⊎ (status ≡ 3) = ended failed refused status number in
-      let r : HasRunSteps device found history text (sink.taken out)
-      (sink.taken out') s disk' result = h.ran in
+      let r : HasRunSteps device text (sink.taken out) (sink.taken out') s pass disk' result = h.ran in
       let whole : Ran text (sink.taken out) (sink.taken out') r.exchanges true =
       subst (λ (z : Result Bool Stop). Ran text (sink.taken out) (sink.taken out') r.exchanges
       (is_ok z)) is r.ran in
       let flag : refused ≡ some_refused r.exchanges =
       subst (λ (z : Result Bool Stop). IfOk z (λ refused. refused ≡ some_refused r.exchanges)) is
       r.flag in
-      let over : RanOn device history disk disk' r.commits r.exchanges × (device.tells
-      → HasSamePages device disk disk') = r.over disk c0 h.widest h.opened in
+      let over : RanOn device settings disk disk' r.exchanges × (device.tells
+      → HasSamePages device disk disk') = r.over settings disk c0 h.opened in
       record {
         range = (omega (arith, n), λ x. omega (arith, n, x), λ x. omega (arith, n, x));
         causes = record {
@@ -175,8 +167,6 @@ module _ {K D : Type 0} (sink : Sink K) (device : Disk D) (text : List ℕ) (out
             inr (record {
               a_store = h.a_store;
               exchanges = r.exchanges;
-              first = history;
-              commits = r.commits;
               answered =
                   answered_end text (sink.taken out)
                   (sink.taken out') r.exchanges status failed refused whole flag number;

@@ -1,27 +1,10 @@
 -- Streams that are read, and written, piece by piece.
 use Rattle.std.proofs.Common.{◌≡◌, ℕ, take, drop, ◌+◌, ◌<◌, List, [], ◌++◌, length, length-append, append_assoc, arith}
-use Rattle.std.proofs.Common.{refl, sym, ◌∙◌, ap, subst, IfSome}
+use Rattle.std.proofs.Common.{refl, sym, ◌∙◌, ap, subst}
 use Rattle.std.specs.Prelude.{Option, Some, None, Bool, true, false}
 use Rattle.std.proofs.lemmas.List.{append-nil, take-append-drop}
 use Rattle.shell_run.specs.Inner.Sending.{Sends, SendsBut}
-use Rattle.std.specs.Io.KnownBytes.{Consumes, Appends, Keeps}
-
-pub consumes_then : (a b c : Option (List ℕ)) (xs ys : List ℕ) → Consumes a b xs → Consumes b c ys
-    → Consumes a c (xs ++ ys)
-consumes_then None b c xs ys h k = tt
-consumes_then (Some a) None c xs ys h k = absurd h
-consumes_then (Some a) (Some b) None xs ys h k = absurd k
-consumes_then (Some a) (Some b) (Some c) xs ys h k = h ∙ ap (λ z. xs ++ z) k ∙ sym (append_assoc xs ys c)
-
-pub consumes_none : (a : Option (List ℕ)) → Consumes a a []
-consumes_none None = tt
-consumes_none (Some a) = refl
-
-pub consumes_long : (a b : Option (List ℕ)) (xs : List ℕ) (n : ℕ) → Consumes a b xs → n < length xs
-    → IfSome a (λ bytes. n < length bytes)
-consumes_long None b xs n h k = tt
-consumes_long (Some a) None xs n h k = absurd h
-consumes_long (Some a) (Some b) xs n h k = omega (arith, ap length h, length-append xs b)
+use Rattle.std.specs.Io.KnownBytes.{Appends, Keeps}
 
 pub appends_none : (a : Option (List ℕ)) → Appends a a []
 appends_none None = tt
@@ -61,19 +44,6 @@ puts_stop a b c text rest waiting h k = record {
   waits = λ e. cc;
 }
 
-pub puts_kept : (a b c : Option (List ℕ)) (text rest : List ℕ) (w : Bool) → Sends a b text rest true
-    → Sends b c rest [] w → Sends a c text [] w
-puts_kept a b c text rest w h k = record {
-  sent = h.sent ++ k.sent;
-  unsent = k.unsent;
-  all = append_assoc h.sent k.sent k.unsent ∙ ap (λ z. h.sent ++ z) (k.all ∙ sym (h.waits refl)) ∙ h.all;
-  took = appends_then a b c h.sent k.sent h.took k.took;
-  waits = k.waits;
-}
-
-pub puts_at_stop : (a b : Option (List ℕ)) (text x y : List ℕ) → Sends a b text x false → Sends a b text y false
-puts_at_stop a b text x y h = record { sent = h.sent; unsent = h.unsent; all = h.all; took = h.took; waits = λ e. cc }
-
 pub puts_drop : (a b c : Option (List ℕ)) (text rest : List ℕ) (n : ℕ) → Sends a b text rest true
     → Appends b c (take n rest) → Sends a c text (drop n rest) true
 puts_drop a b c text rest n h k =
@@ -90,11 +60,6 @@ puts_behind a b c text rest t w well h k = record {
   took = appends_then a b c h.sent k.sent h.took k.took;
   waits = k.waits;
 }
-
-pub puts_on : (a b c : Option (List ℕ)) (text rest w : List ℕ) (well : Bool) → Sends a b text rest true
-    → Sends b c rest w well → Sends a c text w well
-puts_on a b c text rest w well h k = subst (λ z. Sends a c z w well) (append-nil text)
-    (puts_behind a b c text rest [] w well h (subst (λ z. Sends b c z w well) (sym (append-nil rest)) k))
 
 -- a run that stops has more to write, of which nothing is written
 pub puts_short : (a b : Option (List ℕ)) (text more waiting rest : List ℕ) (well : Bool) → Sends a b text waiting well

@@ -2,6 +2,7 @@
 use Rattle.std.proofs.Common.{◌≡◌, ◌+◌, ◌<◌, ◌≤◌, ℕ, inl, inr, List, [], ◌∷◌, ◌++◌, length, length-append, arith, refl}
 use Rattle.std.proofs.Common.{sym, ◌∙◌, ap, subst}
 use Rattle.std.specs.Prelude.{Option, Some, None, IfSome, take}
+use Rattle.std.proofs.lemmas.List.{length-map, length-take}
 use Rattle.std.specs.List.{All}
 use Rattle.std.specs.Io.KnownBytes.{Appends, IsAtEnd}
 use Rattle.std.proofs.lemmas.List.Quantifiers.{Any-push}
@@ -14,13 +15,13 @@ use Rattle.disk_trait.specs.Files.{Files}
 use Rattle.ts_config.specs.Known.{Known, NamedRules, HasDictionary}
 use Rattle.shell_script.specs.Lines.{Line}
 use Rattle.shell_script.specs.OpeningLines.{Kind, dictionary_opening}
-use Rattle.shell_script.specs.Grammar.{Expr, insert, define}
+use Rattle.shell_script.specs.Grammar.{Expr, insert, update, define}
 use Rattle.engine.specs.Finding.{Name}
-use Rattle.engine.specs.Standing.{disk_of, IsUp, IsFlushed, StandsFor, Rests}
-use Rattle.engine.proofs.Standing.{rests_disk, rests_flushed}
+use Rattle.engine.specs.Db.{disk_of, IsFlushed}
 use Rattle.shell_run.specs.Defining.{Becomes}
-use Rattle.shell_run.specs.Run.{Exchange, Note, Counts, Run, Before, IsAnswered, stored, done, refused, device}
-use Rattle.shell_run.specs.Run.{HasFailed, FindsDown, IsOkOfStore}
+use Rattle.shell_run.specs.Run.{Exchange, Note, Counts, AreNoted, Before, IsAnswered, stored, done, refused}
+use Rattle.shell_run.specs.Run.{device, shows_commits, AreListed, line_for}
+use Rattle.shell_run.specs.Run.{FindsDown, IsOkOfStore, IsOkOfChange}
 use Rattle.engine.specs.Finding.{History}
 use Rattle.shell_run.specs.Script.{printed_exchange, printed_exchanges}
 use Rattle.shell_run.specs.declared.sending.TheConstants.{PIECE_BYTES}
@@ -28,21 +29,18 @@ use Rattle.shell_run.specs.Traces.{NoNameIsTakenTwice, NoneIsStoredAfterFailure,
 use Rattle.shell_run.specs.Traces.{NoClockFalls, NoCommitIsEarly, NoCommitIsLate, NoFlushIsLate, NoFlushIsOwed}
 use Rattle.shell_run.specs.Traces.{EachFailureIsNoted, OneCountIsTold, NothingIsPrintedWith4}
 use Rattle.shell_run.specs.Traces.{NoneRunsAfterTheSinkFailed, NoHalfScriptIsRun, NoLogIsWiped, NoStrayFileIsWritten}
-use Rattle.shell_run.specs.Traces.{NoStoreIsWrittenUnrun, NoPageIsWritten}
+use Rattle.shell_run.specs.Traces.{NoStoreIsWrittenUnrun, NoPageIsWritten, NoCommitIsLeftOut, NoneIsReplacedUnseen}
 
--- a write failed in an insertion that is answered so
-has_failed : (counts : Counts) (first commits : History) (a b : Exchange) (e : Expr)
-    → a.statement ≡ insert e → a.reply ≡ refused device → Run counts first commits (a ∷ b ∷ [])
+-- a write failed in a statement that is answered so
+has_failed : (counts : Counts) (a b : Exchange) → a.reply ≡ refused device → AreNoted counts (a ∷ b ∷ [])
     → 0 < a.note.writes
-has_failed counts first commits a b e statement reply run =
-    (run.failed 0 a (omega arith)).1
-    (subst (λ q. HasFailed q a.reply) (sym statement) (subst (HasFailed (insert e)) (sym reply) tt))
+has_failed counts a b reply noted = (noted.failed 0 a (omega arith)).1 reply
 
 pub none_stored_after_failure : NoneIsStoredAfterFailure
-none_stored_after_failure counts first commits a b e f n statement reply ask' reply' before run =
-    let failed : 0 < a.note.writes = has_failed counts first commits a b e statement reply run in
+none_stored_after_failure counts a b e f n statement reply ask' reply' before noted =
+    let failed : 0 < a.note.writes = has_failed counts a b reply noted in
     let finds : FindsDown b.known b.statement b.reply =
-    (run.order 0 a (omega arith) 1 b (omega arith) before).down failed in
+    (noted.order 0 a (omega arith) 1 b (omega arith) before).down failed in
     not_down b.known f n
     (subst (FindsDown b.known (insert f)) reply' (subst (λ q. FindsDown b.known q b.reply) ask' finds))
   where
@@ -51,35 +49,29 @@ none_stored_after_failure counts first commits a b e f n statement reply ask' re
     not_down known f n (inr h) = h
 
 pub none_committed_after_failure : NoneIsCommittedAfterFailure
-none_committed_after_failure counts first commits a b e n p statement reply reply' own before run =
-    let failed : 0 < a.note.writes = has_failed counts first commits a b e statement reply run in
+none_committed_after_failure counts first commits a b e n p statement reply reply' own before noted run =
+    let failed : 0 < a.note.writes = has_failed counts a b reply noted in
     let none : b.note.commit ≡ None =
     (run.order 0 a (omega arith) 1 b (omega arith) before).no_commit failed in
     let x : None ≡ Some p = sym none ∙ own in cc
 
 pub no_clock_falls : {D : Type 0} (disk : Disk D) → NoClockFalls disk
-no_clock_falls disk history commits first new a b before fell ran =
+no_clock_falls disk settings first new a b before fell ran =
     omega (arith, fell, ran.timed.order 0 a (omega arith) 1 b (omega arith) before)
 
 pub no_flush_is_late : {D : Type 0} (disk : Disk D) → NoFlushIsLate disk
-no_flush_is_late disk history commits first new a b n reply none late ran =
-    let left_a = ran.left_by.1 in
-    let left_b = ran.left_by.2.1 in
-    let still : new ≡ disk_of ran.left_by.0 =
-    ran.closed ∙ ap (λ s. disk_of s) ran.left_by.2.2
-    ∙ rests_disk disk ran.left_by.0 ran.left_by.2.0 (left_b.uncalled none) in
+no_flush_is_late disk settings first new a b n reply none late ran =
+    let left_a = ran.caused.2 in
+    let next = ran.caused.3 in
+    let still : new ≡ disk_of ran.caused.0 =
+    ran.closed ∙ ap (λ s. disk_of s) next.3 ∙ ap (λ s. disk_of s) (next.2.uncalled none) in
     omega (arith, late, left_a.clock, ap disk.clock still)
 
 pub no_flush_is_owed : {D : Type 0} (disk : Disk D) → NoFlushIsOwed disk
-no_flush_is_owed disk history commits first new a b n p reply own none ran owed =
-    let ok : IsOkOfStore a.reply = subst IsOkOfStore (sym reply) tt in
-    let after = ran.left_by.0 in
-    let kept : IsUp after × StandsFor ran.found after (take (p + 1) commits) × IsFlushed after =
-    subst (λ o. IfSome o (λ p. IsUp after × StandsFor ran.found after (take (p + 1) commits) × IsFlushed after)) own
-    (ran.left_by.1.flushed ok) in
-    let rests : Rests disk after ran.left_by.2.0 = ran.left_by.2.1.uncalled none in
-    let flushed : IsFlushed ran.left_by.2.0 = rests_flushed disk after ran.left_by.2.0 rests kept.2 in
-    owed (subst (λ s. IsFlushed s) (sym ran.left_by.2.2) flushed)
+no_flush_is_owed disk settings first new a b n reply none ran owed =
+    let ok : IsOkOfChange a.reply = subst IsOkOfChange (sym reply) tt in
+    let next = ran.caused.3 in
+    owed (subst (λ s. IsFlushed s) (sym (next.3 ∙ next.2.uncalled none)) (ran.caused.2.flushed ok).1)
 
 pub no_commit_is_early : NoCommitIsEarly
 no_commit_is_early files m p first commits a b before early own r below =
@@ -96,8 +88,36 @@ no_commit_is_late files m p n first commits a reply own by r short =
     (r.known 0 a (omega arith) ok by).1 in
     omega (arith, below, short)
 
+pub no_commit_is_left_out : NoCommitIsLeftOut
+no_commit_is_left_out counts first commits a b n p ls reply own ask reply' short before run =
+    let ok : IsOkOfStore a.reply = subst IsOkOfStore (sym reply) tt in
+    let later : p < b.note.snapshot = subst (λ o. IfSome o (λ p. p < b.note.snapshot)) own
+    ((run.order 0 a (omega arith) 1 b (omega arith) before).commit ok) in
+    let high : b.note.snapshot ≤ length commits = (run.within 1 b (omega arith)).high_is in
+    let listed : AreListed counts commits (shows_commits ls) b.note =
+    subst (λ r. AreListed counts commits r b.note) reply'
+    (subst (λ s. IsAnswered counts commits b.known b.line s b.reply b.note) ask (run.answers 1 b (omega arith))) in
+    omega (
+      arith,
+      later,
+      high,
+      short,
+      ap length listed.1,
+      length-map (take b.note.snapshot commits) line_for,
+      length-take b.note.snapshot commits,
+    )
+
+pub none_is_replaced_unseen : NoneIsReplacedUnseen
+none_is_replaced_unseen counts first commits a d e n ask reply unseen run = by
+    (subst (λ r. IsAnswered counts commits a.known a.line (update d e) r a.note) reply
+    (subst (λ s. IsAnswered counts commits a.known a.line s a.reply a.note) ask (run.answers 0 a (omega arith))))
+  where
+    by : IsAnswered counts commits a.known a.line (update d e) (stored n) a.note → ⊥
+    by (inl h) = absurd h.0
+    by (inr h) = unseen h.2.0
+
 pub each_failure_is_noted : EachFailureIsNoted
-each_failure_is_noted counts first commits a b e f rose run =
+each_failure_is_noted counts a b e f rose run =
     omega (
       arith,
       run.writes,
@@ -106,7 +126,7 @@ each_failure_is_noted counts first commits a b e f rose run =
     )
 
 pub one_count_is_told : OneCountIsTold
-one_count_is_told counts first commits a b m n told told' other run =
+one_count_is_told counts a b m n told told' other run =
     other (run.one_count 0 a (omega arith) 1 b (omega arith) m n told told')
 
 pub nothing_is_printed_with_4 : NothingIsPrintedWith4
@@ -190,9 +210,9 @@ not_at_end left b bytes is h =
 
 pub no_half_script_is_run : {S K D : Type 0} (source : Source S) (sink : Sink K) (disk : Disk D)
     → NoHalfScriptIsRun source sink disk
-no_half_script_is_run source sink disk script out d r b c bytes before text left took took' h = elim h [
+no_half_script_is_run source sink disk words script out d r b c bytes before text left took took' h = elim h [
   | inl n ↦ took_none (sink.taken out) (sink.taken r.out) before text c took took' n.nothing.sink
-  | inr ran ↦ not_at_end (source.left r.script) b bytes left ran.2
+  | inr ran ↦ not_at_end (source.left r.script) b bytes left ran.4
 ]
 
 module _ {K D : Type 0} (sink : Sink K) (disk : Disk D) where

@@ -10,10 +10,9 @@ use Rattle.shell_script.specs.Says.{counted_lines, Says, line_of}
 use Rattle.shell_script.specs.Replies.{Reply, refused, no_statement}
 use Rattle.shell_script.specs.StatementView.{statement}
 use Rattle.shell_script.specs.declared.statement.Statement.{Statement}
-use Rattle.shell_script.specs.declared.statement.Statement.TheVariants.{Insert, Search, Show, Ask, Parse, Invalid}
+use Rattle.shell_script.specs.declared.statement.Statement.TheVariants.{Insert, Update, Delete, Search, Show, Ask}
+use Rattle.shell_script.specs.declared.statement.Statement.TheVariants.{Parse, Commits, Invalid}
 use Rattle.shell_run.specs.Defining.{IsDefined, Becomes}
-use Rattle.engine.specs.Standing.{Rests}
-use Rattle.engine.proofs.Standing.{rests}
 use Rattle.shell_run.specs.Inner.Answering.{HasAnswered}
 use Rattle.shell_run.specs.Inner.Serving.{HasTurned}
 use Rattle.shell_run.specs.declared.serving.RunState.{RunState}
@@ -21,16 +20,20 @@ use Rattle.shell_run.specs.declared.serving.RunState.{RunState}
 -- a statement of one line defines nothing
 defines_none : (known : Known) (asked : Statement) (r : Reply) → Becomes known (statement asked) r known
 defines_none known (Insert e) r = refl
+defines_none known (Update d e) r = refl
+defines_none known (Delete d) r = refl
 defines_none known (Search t) r = refl
 defines_none known (Show e) r = refl
 defines_none known (Ask t) r = refl
 defines_none known (Parse t) r = refl
+defines_none known Commits r = refl
 defines_none known Invalid r = refl
 
 module _ {D : Type 0} (device : Disk D) where
   pub turned_line : (l : Line) (old new : RunState D) (session : ℕ) (asked : Statement) (r : Reply)
       → IsStatement l.bytes session (statement asked)
-      → HasAnswered device old.configs l.number old.store new.store (statement asked) r → new.configs ≡ old.configs
+      → HasAnswered device old.store new.store old.pass new.pass old.configs l.number (statement asked) r
+      → new.configs ≡ old.configs
       → HasTurned device (single l) old new session r
   turned_line l old new session asked r says answered same = record {
     statement = statement asked;
@@ -42,15 +45,16 @@ module _ {D : Type 0} (device : Disk D) where
   pub turned_nothing : (s : Step) (run_state : RunState D) → Says s 0 invalid
       → HasTurned device s run_state run_state 0 (refused (no_statement (line_of s).number))
   turned_nothing s run_state says =
-      record { statement = invalid; says = says; answered = (rests device run_state.store, refl); becomes = refl }
+      record { statement = invalid; says = says; answered = ((refl, refl), refl); becomes = refl }
 
   pub turned_definition : (l : Line) (body : List Line) (old new : RunState D) (head : OpeningLine) (r : Reply)
-      → IsOpeningLine l.bytes head → new.store ≡ old.store → IsDefined old.configs l.number head (counted_lines body) r
+      → IsOpeningLine l.bytes head → (new.store ≡ old.store) × (new.pass ≡ old.pass)
+      → IsDefined old.configs l.number head (counted_lines body) r
       → Becomes old.configs (define head (counted_lines body)) r new.configs
       → HasTurned device (definition l body) old new 0 r
   turned_definition l body old new head r is same answered becomes = record {
     statement = define head (counted_lines body);
     says = (refl, (is, refl));
-    answered = (subst (λ s. Rests device old.store s) (sym same) (rests device old.store), answered);
+    answered = (same, answered);
     becomes = becomes;
   }

@@ -12,9 +12,11 @@ use Rattle.ts_thesaurus.specs.Rules.{Rule}
 use Rattle.ts_thesaurus.specs.Lines.{AreRules, IsRefused}
 use Rattle.ts_config.specs.Rules.{Rules, simple_rules, synonym_rules, porter_rules, thesaurus_rules, answer_by}
 use Rattle.ts_config.specs.Mappings.{Mapping, empty_mapping, mapped}
-use Rattle.ts_config.specs.Known.{Known, HasDictionary, HasConfiguration, ArePlaces, sub_named, with_dictionary, with_configuration}
+use Rattle.ts_config.specs.Known.{Known, HasDictionary, HasConfiguration, ArePlaces, sub_named, with_dictionary}
+use Rattle.ts_config.specs.Known.{with_configuration}
 use Rattle.shell_script.specs.Lines.{Line}
-use Rattle.shell_script.specs.OpeningLines.{Kind, simple_kind, porter_kind, synonym_kind, thesaurus_kind, OpeningLine, dictionary_opening, configuration_opening, IsMapping}
+use Rattle.shell_script.specs.OpeningLines.{Kind, simple_kind, porter_kind, synonym_kind, thesaurus_kind, OpeningLine}
+use Rattle.shell_script.specs.OpeningLines.{dictionary_opening, configuration_opening, IsMapping}
 use Rattle.shell_script.specs.Grammar.{Statement, define}
 use Rattle.shell_script.specs.Replies.{Refusal, no_statement, no_dictionary, memory}
 use Rattle.shell_script.specs.Replies.{Reply, done, refused}

@@ -2,6 +2,8 @@ pub mod HasRead
 pub mod Values
 pub mod Defining
 pub mod Run
+pub mod Refusing
+pub mod Caused
 pub mod Script
 pub mod Outcomes
 pub mod Words
@@ -14,10 +16,12 @@ pub mod Inner
 pub use Rattle.disk_trait.specs.Files
 pub use Rattle.disk_trait.specs.Device
 pub use Rattle.engine.specs.Finding
-pub use Rattle.engine.specs.AtOpening
 pub use Rattle.engine.specs.Opening
 pub use Rattle.engine.specs.Opened
 pub use Rattle.engine.specs.Standing
+pub use Rattle.engine.specs.Db
+pub use Rattle.engine.specs.Work
+pub use Rattle.engine.specs.Answers
 pub use Rattle.ts_base.specs.Vectors
 pub use Rattle.ts_base.specs.Bytes
 pub use Rattle.ts_query.specs.Queries
@@ -28,3 +32,5 @@ pub use Rattle.shell_script.specs.Says
 pub use Rattle.shell_script.specs.Grammar
 pub use Rattle.shell_script.specs.Replies
 pub use Rattle.shell_script.specs.Texts
+pub use Rattle.shell_script.specs.CommandWords
+pub use Rattle.shell_script.specs.Docs

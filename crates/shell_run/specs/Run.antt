@@ -1,20 +1,24 @@
 -- What a run is: each statement with its reply and its notes.
-use Rattle.std.specs.Prelude.{◌≡◌, ◌⊎◌, ◌↔◌, ℕ, ◌+◌, ◌-◌, ◌^◌, ◌<◌, ◌≤◌, Bool, false, ◌==◌, List, length, take, count_by, sum_by}
+use Rattle.std.specs.Prelude.{◌≡◌, ◌⊎◌, ◌↔◌, ℕ, ◌+◌, ◌-◌, ◌^◌, ◌<◌, ◌≤◌, Bool, false, ◌==◌, List, map, length, take}
+use Rattle.std.specs.Prelude.{count_by, sum_by}
 use Rattle.std.specs.Prelude.{Option, Some, None, IfSome}
 use Rattle.std.specs.List.{All, Any, slice_get}
 use Rattle.ts_base.specs.Vectors.{Vector}
 use Rattle.ts_query.specs.Queries.{Query}
 use Rattle.ts_match.specs.Meaning.{Holds}
 use Rattle.ts_config.specs.Known.{Known}
-use Rattle.shell_script.specs.Grammar.{Statement, insert, search, show, ask, parse, define, invalid}
-use Rattle.engine.specs.Finding.{Document, Commit, History, Name, docs, IsFound, Begins, IsLawful}
-use Rattle.engine.specs.Answers.{commit_of}
-use Rattle.engine.specs.AtOpening.{IsFull}
-use Rattle.engine.specs.AtOpening.{AtOpening, IsLogFull, AreXidsSpent}
+use Rattle.shell_script.specs.Grammar.{Statement, insert, update, delete, search, show, ask, parse, list_commits}
+use Rattle.shell_script.specs.Grammar.{define, invalid}
+use Rattle.engine.specs.Finding.{Document, Commit, History, Name, docs, IsFound, Begins, IsLawful, IsInSnapshot}
+use Rattle.engine.specs.Finding.{document, insertion, replacement, deletion, names}
 use Rattle.shell_run.specs.Defining.{IsDefined}
-pub use Rattle.shell_script.specs.Replies.{Refusal, no_statement, no_configuration, no_dictionary, store_full, log_full, transactions_spent, down, device, memory, text_refused}
-pub use Rattle.shell_script.specs.Replies.{Reply, stored, lists, shows_vector, shows_query, shows_tokens, done, refused}
-use Rattle.shell_run.specs.Values.{IsValueOf, ExprFails, IsQueryOf, QueryFails, IsRefusedBy, IsShown, IsQueried, IsParsed}
+pub use Rattle.shell_script.specs.Replies.{Refusal, no_statement, no_configuration, no_dictionary, no_document}
+pub use Rattle.shell_script.specs.Replies.{conflict, store_full, log_full, transactions_spent, down, device, bad_page}
+pub use Rattle.shell_script.specs.Replies.{memory, text_refused}
+pub use Rattle.shell_script.specs.Replies.{CommitLine, Reply, stored, removed, lists, shows_vector, shows_query}
+pub use Rattle.shell_script.specs.Replies.{shows_tokens, shows_commits, done, refused}
+use Rattle.shell_run.specs.Values.{IsValueOf, ExprFails, IsQueryOf, QueryFails, IsRefusedBy, IsShown, IsQueried}
+use Rattle.shell_run.specs.Values.{IsParsed}
 
 -- Where a statement is: the step of the script, where a block is one step; the session; and
 -- its place there.
@@ -46,14 +50,13 @@ pub record Exchange : Type 0 where
   pub note : Note
 
 -- the device's counts at the beginning and at the end of the run, of faults also just after the
--- opening; and what the opening found
+-- opening
 pub record Counts : Type 0 where
   pub faults : ℕ
   pub faults_opened : ℕ
   pub faults_after : ℕ
   pub writes : ℕ
   pub writes_after : ℕ
-  pub found : AtOpening
 
 -- one ended before the other began
 abbrev pub Before : Exchange → Exchange → Type 0
@@ -67,11 +70,24 @@ Before a b =
 abbrev pub HasOwn : History → Note → Commit → Type 0
 HasOwn commits note c = (p : ℕ) × (note.commit ≡ Some p) × (slice_get commits p ≡ Some c)
 
--- the commit that a fault may have left of an insertion
-abbrev pub MayHaveOwn : History → Note → Vector → Type 0
-MayHaveOwn commits note v =
-    (note.commit ≡ None)
-    ⊎ ((name : Name) × HasOwn commits note (commit_of name v))
+-- the commit that a fault may have left: one of these
+abbrev pub MayHaveOwn : History → Note → (Commit → Type 0) → Type 0
+MayHaveOwn commits note Is =
+    (note.commit ≡ None) ⊎ ((c : Commit) × Is c × HasOwn commits note c)
+
+-- the commits of a statement: an insertion, an update, a deletion
+abbrev pub IsInsertion : Vector → Commit → Type 0
+IsInsertion v c = (name : Name) × (c ≡ insertion (document name v))
+
+abbrev pub IsReplacement : Name → Vector → Commit → Type 0
+IsReplacement old v c = (name : Name) × (c ≡ replacement old (document name v))
+
+abbrev pub IsDeletion : Name → Commit → Type 0
+IsDeletion name c = c ≡ deletion name
+
+-- the document of a name was there for the statement
+abbrev pub HasSeen : History → Note → Name → Type 0
+HasSeen commits note name = IsInSnapshot commits note.snapshot name
 
 -- the documents that a statement saw
 abbrev pub seen_by : History → Note → List Document
@@ -90,30 +106,68 @@ abbrev pub IsDownSince : Counts → ℕ → Type 0
 IsDownSince counts count =
     (counts.faults < count) × (count ≤ counts.faults_after) × (counts.writes < counts.writes_after)
 
+-- What a statement whose commit is such a one is answered where it is refused, or not at all.
+abbrev pub IsRefusedWork : Counts → History → (Commit → Type 0) → Reply → Note → Type 0
+IsRefusedWork counts commits Is (refused transactions_spent) note = note.commit ≡ None
+IsRefusedWork counts commits Is (refused store_full) note = note.commit ≡ None
+IsRefusedWork counts commits Is (refused log_full) note = note.commit ≡ None
+IsRefusedWork counts commits Is (refused (down count)) note =
+    MayHaveOwn commits note Is × IsDownSince counts count
+IsRefusedWork counts commits Is (refused device) note =
+    MayHaveOwn commits note Is × MetFault counts note
+IsRefusedWork counts commits Is (refused memory) note = note.commit ≡ None
+IsRefusedWork counts commits Is reply note = ⊥
+
 -- what an insertion of the vector is answered
 abbrev pub IsInserted : Counts → History → Vector → Reply → Note → Type 0
-IsInserted counts commits v (stored name) note =
-    HasOwn commits note (commit_of name v)
-    × (AreXidsSpent counts.found note.snapshot → ⊥)
-    × (IsFull (seen_by commits note) v → ⊥)
-    × (IsLogFull counts.found note.snapshot → ⊥)
-IsInserted counts commits v (refused transactions_spent) note =
-    (note.commit ≡ None) × AreXidsSpent counts.found note.snapshot
-IsInserted counts commits v (refused store_full) note =
-    (note.commit ≡ None)
-    × (AreXidsSpent counts.found note.snapshot → ⊥)
-    × IsFull (seen_by commits note) v
-IsInserted counts commits v (refused log_full) note =
-    (note.commit ≡ None)
-    × (AreXidsSpent counts.found note.snapshot → ⊥)
-    × (IsFull (seen_by commits note) v → ⊥)
-    × IsLogFull counts.found note.snapshot
-IsInserted counts commits v (refused (down count)) note =
-    MayHaveOwn commits note v × IsDownSince counts count
-IsInserted counts commits v (refused device) note =
-    MayHaveOwn commits note v × MetFault counts note
-IsInserted counts commits v (refused memory) note = note.commit ≡ None
-IsInserted counts commits v reply note = ⊥
+IsInserted counts commits v (stored name) note = HasOwn commits note (insertion (document name v))
+IsInserted counts commits v reply note = IsRefusedWork counts commits (IsInsertion v) reply note
+
+-- what is asked of a name is answered: there is no such document, another deletes it, or more
+abbrev pub IsOfName : History → Name → Reply → Note → Type 0 → Type 0
+IsOfName commits name (refused no_document) note More =
+    (note.commit ≡ None) × (HasSeen commits note name → ⊥)
+IsOfName commits name (refused (conflict xid)) note More =
+    (note.commit ≡ None) × HasSeen commits note name
+IsOfName commits name (refused memory) note More = More
+IsOfName commits name (refused (down count)) note More = More
+IsOfName commits name (refused device) note More = More
+IsOfName commits name reply note More = HasSeen commits note name × More
+
+-- what an update to the vector is answered
+abbrev pub IsUpdatedMore : Counts → History → Name → Vector → Reply → Note → Type 0
+IsUpdatedMore counts commits old v (stored name) note =
+    HasOwn commits note (replacement old (document name v))
+IsUpdatedMore counts commits old v reply note =
+    IsRefusedWork counts commits (IsReplacement old v) reply note
+
+abbrev pub IsUpdated : Counts → History → Name → Vector → Reply → Note → Type 0
+IsUpdated counts commits old v reply note =
+    IsOfName commits old reply note (IsUpdatedMore counts commits old v reply note)
+
+-- what a deletion is answered
+abbrev pub IsDeletedMore : Counts → History → Name → Reply → Note → Type 0
+IsDeletedMore counts commits name removed note = HasOwn commits note (deletion name)
+IsDeletedMore counts commits name reply note =
+    IsRefusedWork counts commits (IsDeletion name) reply note
+
+abbrev pub IsDeleted : Counts → History → Name → Reply → Note → Type 0
+IsDeleted counts commits name reply note =
+    IsOfName commits name reply note (IsDeletedMore counts commits name reply note)
+
+-- the line of a commit
+abbrev pub line_for : Commit → CommitLine
+line_for c = record { deleted = c.deleted; inserted = names c.inserted }
+
+-- what a list of commits is answered
+abbrev pub AreListed : Counts → History → Reply → Note → Type 0
+AreListed counts commits (shows_commits ls) note =
+    (note.commit ≡ None) × (ls ≡ map line_for (take note.snapshot commits))
+AreListed counts commits (refused (down count)) note =
+    (note.commit ≡ None) × IsDownSince counts count
+AreListed counts commits (refused device) note = (note.commit ≡ None) × MetFault counts note
+AreListed counts commits (refused memory) note = note.commit ≡ None
+AreListed counts commits reply note = ⊥
 
 -- what a search by the query is answered
 abbrev pub IsSearched : Counts → History → Query → Reply → Note → Type 0
@@ -121,6 +175,7 @@ IsSearched counts commits q (lists names) note =
     (note.commit ≡ None) × IsFound (Holds q) (seen_by commits note) names
 IsSearched counts commits q (refused (down count)) note =
     (note.commit ≡ None) × IsDownSince counts count
+IsSearched counts commits q (refused device) note = (note.commit ≡ None) × MetFault counts note
 IsSearched counts commits q (refused memory) note = note.commit ≡ None
 IsSearched counts commits q reply note = ⊥
 
@@ -134,6 +189,11 @@ abbrev pub IsAnswered : Counts → History → Known → ℕ → Statement → R
 IsAnswered counts commits known line (insert e) reply note =
     (IsRefusedBy (ExprFails known e) reply × (note.commit ≡ None))
     ⊎ ((v : Vector) × IsValueOf known e v × IsInserted counts commits v reply note)
+IsAnswered counts commits known line (update d e) reply note =
+    (IsRefusedBy (ExprFails known e) reply × (note.commit ≡ None))
+    ⊎ ((v : Vector) × IsValueOf known e v × IsUpdated counts commits d.name v reply note)
+IsAnswered counts commits known line (delete d) reply note =
+    IsDeleted counts commits d.name reply note
 IsAnswered counts commits known line (search s) reply note =
     (IsRefusedBy (QueryFails known s) reply × (note.commit ≡ None))
     ⊎ ((q : Query) × IsQueryOf known s q × IsSearched counts commits q reply note)
@@ -143,6 +203,7 @@ IsAnswered counts commits known line (ask s) reply note =
     IsQueried known s reply × (note.commit ≡ None)
 IsAnswered counts commits known line (parse text) reply note =
     IsParsed text reply × (note.commit ≡ None)
+IsAnswered counts commits known line list_commits reply note = AreListed counts commits reply note
 IsAnswered counts commits known line (define head ls) reply note =
     IsDefined known line head ls reply × (note.commit ≡ None)
 IsAnswered counts commits known line invalid reply note = IsLineRefused line reply note
@@ -150,7 +211,9 @@ IsAnswered counts commits known line invalid reply note = IsLineRefused line rep
 -- an answer Ok of the store
 abbrev pub IsOkOfStore : Reply → Type 0
 IsOkOfStore (stored name) = Unit {0}
-IsOkOfStore (lists names) = Unit {0}
+IsOkOfStore removed = Unit {0}
+IsOkOfStore (lists found) = Unit {0}
+IsOkOfStore (shows_commits ls) = Unit {0}
 IsOkOfStore reply = ⊥
 
 abbrev pub IsDownReply : Reply → Type 0
@@ -160,19 +223,34 @@ IsDownReply reply = ⊥
 -- a statement of the store is answered that the store is down, if its texts are not refused before
 abbrev pub FindsDown : Known → Statement → Reply → Type 0
 FindsDown known (insert e) reply = IsDownReply reply ⊎ IsRefusedBy (ExprFails known e) reply
+FindsDown known (update d e) reply = IsDownReply reply ⊎ IsRefusedBy (ExprFails known e) reply
+FindsDown known (delete d) reply = IsDownReply reply
+FindsDown known list_commits reply = IsDownReply reply
 FindsDown known (search s) reply = IsDownReply reply ⊎ IsRefusedBy (QueryFails known s) reply
 FindsDown known statement reply = Unit {0}
 
--- A write or a sync failed in the statement: only an insertion makes them.
-abbrev pub HasFailed : Statement → Reply → Type 0
-HasFailed (insert e) (refused device) = Unit {0}
-HasFailed statement reply = ⊥
+-- an answer Ok of one that changes documents
+abbrev pub IsOkOfChange : Reply → Type 0
+IsOkOfChange (stored name) = Unit {0}
+IsOkOfChange removed = Unit {0}
+IsOkOfChange reply = ⊥
 
--- The statement called the device: an insertion does, where it comes to the log.
-abbrev pub HasCalled : Statement → Reply → Type 0
-HasCalled (insert e) (stored name) = Unit {0}
-HasCalled (insert e) (refused device) = Unit {0}
-HasCalled statement reply = ⊥
+-- the statement is one of the store
+abbrev pub IsOfStore : Statement → Type 0
+IsOfStore (insert e) = Unit {0}
+IsOfStore (update d e) = Unit {0}
+IsOfStore (delete d) = Unit {0}
+IsOfStore (search s) = Unit {0}
+IsOfStore list_commits = Unit {0}
+IsOfStore statement = ⊥
+
+-- A statement of the store may call the device, if it comes to it: its texts aren't refused before, and
+-- it doesn't find the store down.
+abbrev pub MayCall : Statement → Reply → Type 0
+MayCall statement (refused (down count)) = ⊥
+MayCall statement (refused (text_refused fault)) = ⊥
+MayCall statement (refused no_configuration) = ⊥
+MayCall statement reply = IsOfStore statement
 
 abbrev pub is_at : ℕ → Option ℕ → Bool
 is_at k None = false
@@ -181,14 +259,18 @@ is_at k (Some p) = p == k
 abbrev pub has_commit : ℕ → Exchange → Bool
 has_commit k exchange = is_at k exchange.note.commit
 
--- what is known where the one ended before the other began
+-- what is known of the history where the one ended before the other began
 pub record IsSeenBy (a b : Exchange) : Type 0 where
   -- what the one saw, and what it committed where it answered Ok, the other has seen
   pub snapshot : a.note.snapshot ≤ b.note.snapshot
   pub commit : IsOkOfStore a.reply → IfSome a.note.commit (λ p. p < b.note.snapshot)
-  -- where a write or a sync failed in the one, the other finds the store down and has no commit
-  pub down : 0 < a.note.writes → FindsDown b.known b.statement b.reply
+  -- where a write or a sync failed in the one, the other has no commit
   pub no_commit : 0 < a.note.writes → b.note.commit ≡ None
+
+-- what is known of the device
+pub record IsAfter (a b : Exchange) : Type 0 where
+  -- where a write or a sync failed in the one, the other finds the store down
+  pub down : 0 < a.note.writes → FindsDown b.known b.statement b.reply
   pub count : a.note.count + b.note.faults ≤ b.note.count
 
 -- The clocks of the exchanges: they are not before the end of the opening nor after the end of the run,
@@ -196,7 +278,8 @@ pub record IsSeenBy (a b : Exchange) : Type 0 where
 pub record AreTimed (opened last : ℕ) (exchanges : List Exchange) : Type 0 where
   pub later : opened ≤ last
   pub within : All (λ (r : Exchange). (opened ≤ r.note.clock) × (r.note.clock ≤ last)) exchanges
-  pub order : All (λ (a : Exchange). All (λ (b : Exchange). Before a b → a.note.clock ≤ b.note.clock) exchanges) exchanges
+  pub order : All (λ (a : Exchange). All (λ (b : Exchange). Before a b → a.note.clock ≤ b.note.clock) exchanges)
+      exchanges
 
 -- A note that is within two lengths of the history, at the start and at the end of the run.
 -- A statement's own commit comes after what it saw.
@@ -205,7 +288,26 @@ pub record IsWithin (low high : ℕ) (note : Note) : Type 0 where
   pub high_is : note.snapshot ≤ high
   pub own : IfSome note.commit (λ p. (note.snapshot ≤ p) × (p < high))
 
--- from the history `first` to `commits`
+-- what the notes say of the device, on every one
+pub record AreNoted (counts : Counts) (exchanges : List Exchange) : Type 0 where
+  pub order : All (λ (a : Exchange). All (λ (b : Exchange). Before a b → IsAfter a b) exchanges) exchanges
+  -- A statement finds the store down only where a write or a sync failed in one that did not come
+  -- after it. It says the device's count just after that one, and all say the same.
+  pub owed : All (λ (b : Exchange). (n : ℕ) → b.reply ≡ refused (down n)
+      → Any (λ (a : Exchange). (Before b a → ⊥) × (0 < a.note.writes) × (a.note.count ≡ n)) exchanges) exchanges
+  pub one_count : All (λ (a : Exchange). All (λ (b : Exchange). (m n : ℕ) → a.reply ≡ refused (down m)
+      → b.reply ≡ refused (down n) → m ≡ n) exchanges) exchanges
+  -- a write or a sync failed in a statement exactly where it is answered so
+  pub failed : All (λ (r : Exchange). (0 < r.note.writes) ↔ (r.reply ≡ refused device)) exchanges
+  pub called : All (λ (r : Exchange). 0 < r.note.faults → MayCall r.statement r.reply) exchanges
+  -- each rise of the counts was in the opening or in a statement
+  pub counted : All (λ (r : Exchange). (counts.faults_opened + r.note.faults ≤ r.note.count)
+      × (r.note.count ≤ counts.faults_after)) exchanges
+  pub opening : counts.faults ≤ counts.faults_opened
+  pub faults : counts.faults_opened + sum_by (λ (r : Exchange). r.note.faults) exchanges ≡ counts.faults_after
+  pub writes : counts.writes + sum_by (λ (r : Exchange). r.note.writes) exchanges ≡ counts.writes_after
+
+-- from the history `first` to `commits`, of a lawful device
 pub record Run (counts : Counts) (first commits : History) (exchanges : List Exchange) : Type 0 where
   pub lawful : IsLawful commits
   pub begins : Begins first commits
@@ -214,18 +316,3 @@ pub record Run (counts : Counts) (first commits : History) (exchanges : List Exc
   -- each commit past the first is the commit of one statement
   pub own : (k : ℕ) → length first ≤ k → k < length commits → count_by (has_commit k) exchanges ≡ 1
   pub order : All (λ (a : Exchange). All (λ (b : Exchange). Before a b → IsSeenBy a b) exchanges) exchanges
-  -- A statement finds the store down only where a write or a sync failed in one that did not come
-  -- after it. It says the device's count just after that one, and all say the same.
-  pub owed : All (λ (b : Exchange). (n : ℕ) → b.reply ≡ refused (down n)
-      → Any (λ (a : Exchange). (Before b a → ⊥) × (0 < a.note.writes) × (a.note.count ≡ n)) exchanges) exchanges
-  pub one_count : All (λ (a : Exchange). All (λ (b : Exchange). (m n : ℕ) → a.reply ≡ refused (down m)
-      → b.reply ≡ refused (down n) → m ≡ n) exchanges) exchanges
-  -- a write or a sync failed in a statement exactly where it is answered so
-  pub failed : All (λ (r : Exchange). (0 < r.note.writes) ↔ HasFailed r.statement r.reply) exchanges
-  pub called : All (λ (r : Exchange). 0 < r.note.faults → HasCalled r.statement r.reply) exchanges
-  -- each rise of the counts was in the opening or in a statement
-  pub counted : All (λ (r : Exchange). (counts.faults_opened + r.note.faults ≤ r.note.count)
-      × (r.note.count ≤ counts.faults_after)) exchanges
-  pub opening : counts.faults ≤ counts.faults_opened
-  pub faults : counts.faults_opened + sum_by (λ (r : Exchange). r.note.faults) exchanges ≡ counts.faults_after
-  pub writes : counts.writes + sum_by (λ (r : Exchange). r.note.writes) exchanges ≡ counts.writes_after

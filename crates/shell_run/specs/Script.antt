@@ -20,7 +20,8 @@ pub record IsExchangeOf (known : Known) (s : Step) (exchange : Exchange) : Type 
 abbrev pub AreExchanges : Known → List Step → List Exchange → Known → Type 0
 AreExchanges known [] exchanges last = (exchanges ≡ []) × (last ≡ known)
 AreExchanges known (s ∷ ss) exchanges last =
-    (exchange : Exchange) × (rest : List Exchange) × (next : Known) × (exchanges ≡ exchange ∷ rest) × IsExchangeOf known s exchange
+    (exchange : Exchange) × (rest : List Exchange) × (next : Known) × (exchanges ≡ exchange ∷ rest)
+    × IsExchangeOf known s exchange
     × Becomes known exchange.statement exchange.reply next × AreExchanges next ss rest last
 
 abbrev pub printed_exchange : Exchange → List ℕ

@@ -1,5 +1,6 @@
 -- Runs that no call leaves: what each field of a run rules out.
-use Rattle.std.specs.Prelude.{◌≡◌, ◌≢◌, ℕ, ◌<◌, ◌≤◌, List, [], ◌∷◌, ◌++◌, length, Option, Some}
+use Rattle.std.specs.Prelude.{◌≡◌, ◌≢◌, ℕ, ◌<◌, ◌≤◌, List, [], ◌∷◌, ◌++◌, length, Option, Some, String}
+use Rattle.std.specs.declared.alloc.Global.{Global}
 use Rattle.disk_trait.specs.Files.{Files}
 use Rattle.disk_trait.specs.declared.device.Disk.{Ghosts as Disk}
 use Rattle.disk_trait.specs.declared.stream.Source.{Ghosts as Source}
@@ -8,11 +9,13 @@ use Rattle.ts_config.specs.Known.{Known}
 use Rattle.shell_script.specs.Lines.{Line}
 use Rattle.shell_script.specs.OpeningLines.{Kind, dictionary_opening}
 use Rattle.shell_script.specs.Steps.{Step}
-use Rattle.shell_script.specs.Grammar.{Expr, insert, define}
-use Rattle.engine.specs.Finding.{Name}
-use Rattle.engine.specs.Finding.{History}
-use Rattle.engine.specs.Standing.{IsFlushed}
-use Rattle.shell_run.specs.Run.{Exchange, Counts, Before, Run, HasCalled, stored, done, refused, down, device}
+use Rattle.shell_script.specs.Grammar.{Expr, insert, update, list_commits, define}
+use Rattle.shell_script.specs.Docs.{Doc}
+use Rattle.engine.specs.Opened.{Settings}
+use Rattle.engine.specs.Db.{IsFlushed}
+use Rattle.engine.specs.Finding.{Name, History}
+use Rattle.shell_run.specs.Run.{Exchange, Counts, Before, Run, AreNoted, MayCall, HasSeen, stored, done, refused, down}
+use Rattle.shell_run.specs.Run.{CommitLine, shows_commits, device}
 use Rattle.shell_run.specs.Script.{AreExchanges, printed_exchange}
 use Rattle.shell_run.specs.declared.sending.TheConstants.{PIECE_BYTES}
 use Rattle.shell_run.specs.Outcomes.{Answered}
@@ -24,9 +27,9 @@ use Rattle.shell_run.specs.declared.top.Outcome.{Outcome}
 
 -- an insertion in which a write failed, and one after it that is stored
 abbrev pub NoneIsStoredAfterFailure : Type 0
-NoneIsStoredAfterFailure = (counts : Counts) (first commits : History) (a b : Exchange) (e f : Expr)
-    (n : Name) → a.statement ≡ insert e → a.reply ≡ refused device → b.statement ≡ insert f
-    → b.reply ≡ stored n → Before a b → Run counts first commits (a ∷ b ∷ []) → ⊥
+NoneIsStoredAfterFailure = (counts : Counts) (a b : Exchange) (e f : Expr) (n : Name)
+    → a.statement ≡ insert e → a.reply ≡ refused device → b.statement ≡ insert f
+    → b.reply ≡ stored n → Before a b → AreNoted counts (a ∷ b ∷ []) → ⊥
 
 -- an insertion in which a write failed, and one after it that finds the store down and still has a
 -- commit
@@ -34,29 +37,30 @@ abbrev pub NoneIsCommittedAfterFailure : Type 0
 NoneIsCommittedAfterFailure =
     (counts : Counts) (first commits : History) (a b : Exchange) (e : Expr) (n p : ℕ)
     → a.statement ≡ insert e → a.reply ≡ refused device → b.reply ≡ refused (down n)
-    → b.note.commit ≡ Some p → Before a b → Run counts first commits (a ∷ b ∷ []) → ⊥
+    → b.note.commit ≡ Some p → Before a b → AreNoted counts (a ∷ b ∷ [])
+    → Run counts first commits (a ∷ b ∷ []) → ⊥
 
 -- a clock that falls from a statement to one after it
 abbrev pub NoClockFalls : {D : Type 0} → Disk D → Type 0
 NoClockFalls {D} disk =
-    (history commits : History) (first new : D) (a b : Exchange) → Before a b
-    → b.note.clock < a.note.clock → RanOn disk history first new commits (a ∷ b ∷ []) → ⊥
+    (settings : Settings) (first new : D) (a b : Exchange) → Before a b
+    → b.note.clock < a.note.clock → RanOn disk settings first new (a ∷ b ∷ []) → ⊥
 
 -- an insertion that is stored, and calls of the device after its clock, though the statement after it
 -- makes none
 abbrev pub NoFlushIsLate : {D : Type 0} → Disk D → Type 0
 NoFlushIsLate {D} disk =
-    (history commits : History) (first new : D) (a b : Exchange) (n : Name) → a.reply ≡ stored n
-    → (HasCalled b.statement b.reply → ⊥) → a.note.clock < disk.clock new
-    → RanOn disk history first new commits (a ∷ b ∷ []) → ⊥
+    (settings : Settings) (first new : D) (a b : Exchange) (n : Name) → a.reply ≡ stored n
+    → (MayCall b.statement b.reply → ⊥) → a.note.clock < disk.clock new
+    → RanOn disk settings first new (a ∷ b ∷ []) → ⊥
 
 -- an insertion that is stored, and a store in which something waits for a flush at the end, though the
 -- statement after it makes no call
 abbrev pub NoFlushIsOwed : {D : Type 0} → Disk D → Type 0
 NoFlushIsOwed {D} disk =
-    (history commits : History) (first new : D) (a b : Exchange) (n : Name) (p : ℕ) → a.reply ≡ stored n
-    → a.note.commit ≡ Some p → (HasCalled b.statement b.reply → ⊥)
-    → (r : RanOn disk history first new commits (a ∷ b ∷ [])) → (IsFlushed r.last → ⊥) → ⊥
+    (settings : Settings) (first new : D) (a b : Exchange) (n : Name) → a.reply ≡ stored n
+    → (MayCall b.statement b.reply → ⊥)
+    → (r : RanOn disk settings first new (a ∷ b ∷ [])) → (IsFlushed r.last → ⊥) → ⊥
 
 -- a stop at a moment before an answer that leaves the commit of a statement after it
 abbrev pub NoCommitIsEarly : Type 0
@@ -72,17 +76,30 @@ NoCommitIsLate =
     → a.note.commit ≡ Some p → a.note.clock ≤ m
     → (r : Reaches files m first commits (a ∷ [])) → length r.kept ≤ p → ⊥
 
+-- an insertion that is stored, and a list of commits after it that ends before its commit
+abbrev pub NoCommitIsLeftOut : Type 0
+NoCommitIsLeftOut = (counts : Counts) (first commits : History) (a b : Exchange) (n : Name) (p : ℕ)
+    (ls : List CommitLine) → a.reply ≡ stored n → a.note.commit ≡ Some p
+    → b.statement ≡ list_commits → b.reply ≡ shows_commits ls → length ls ≤ p → Before a b
+    → Run counts first commits (a ∷ b ∷ []) → ⊥
+
+-- an update that is stored in place of a document that it did not see
+abbrev pub NoneIsReplacedUnseen : Type 0
+NoneIsReplacedUnseen = (counts : Counts) (first commits : History) (a : Exchange) (d : Doc) (e : Expr) (n : Name)
+    → a.statement ≡ update d e → a.reply ≡ stored n → (HasSeen commits a.note d.name → ⊥)
+    → Run counts first commits (a ∷ []) → ⊥
+
 -- a failed write or sync that no statement notes
 abbrev pub EachFailureIsNoted : Type 0
-EachFailureIsNoted = (counts : Counts) (first commits : History) (a b : Exchange)
+EachFailureIsNoted = (counts : Counts) (a b : Exchange)
     → a.note.writes ≡ 0 → b.note.writes ≡ 0 → counts.writes < counts.writes_after
-    → Run counts first commits (a ∷ b ∷ []) → ⊥
+    → AreNoted counts (a ∷ b ∷ []) → ⊥
 
 -- one failure that is said with two counts
 abbrev pub OneCountIsTold : Type 0
-OneCountIsTold = (counts : Counts) (first commits : History) (a b : Exchange) (m n : ℕ)
+OneCountIsTold = (counts : Counts) (a b : Exchange) (m n : ℕ)
     → a.reply ≡ refused (down m) → b.reply ≡ refused (down n) → m ≢ n
-    → Run counts first commits (a ∷ b ∷ []) → ⊥
+    → AreNoted counts (a ∷ b ∷ []) → ⊥
 
 -- replies that are printed with status 4
 abbrev pub NothingIsPrintedWith4 : Type 0
@@ -106,9 +123,10 @@ NoneRunsAfterTheSinkFailed =
 -- replies that are printed though the source has bytes left
 abbrev pub NoHalfScriptIsRun : {S K D : Type 0} → Source S → Sink K → Disk D → Type 0
 NoHalfScriptIsRun {S} {K} {D} source sink disk =
-    (script : S) (out : K) (d : D) (r : Outcome S K D) (b c : ℕ) (bytes before text : List ℕ)
+    (words : List (String Global)) (script : S) (out : K) (d : D) (r : Outcome S K D) (b c : ℕ)
+    (bytes before text : List ℕ)
     → source.left r.script ≡ Some (b ∷ bytes) → sink.taken out ≡ Some before
-    → sink.taken r.out ≡ Some (before ++ c ∷ text) → Headline source sink disk script out d r → ⊥
+    → sink.taken r.out ≡ Some (before ++ c ∷ text) → Headline source sink disk words script out d r → ⊥
 
 module _ {K D : Type 0} (sink : Sink K) (disk : Disk D) where
   -- a log that is written over, and status 4

@@ -15,9 +15,11 @@ use Rattle.ts_query.specs.declared.error.QueryError.{QueryError}
 use Rattle.ts_query.specs.declared.error.QueryError.TheVariants as queries
 use Rattle.ts_config.specs.Mappings.{Mapping}
 use Rattle.ts_config.specs.Known.{Known, mapping_named}
-use Rattle.ts_make.specs.Made.{IsMadeVector, MadeVectorFails, IsMadeQuery, MadeQueryFails, IsPlainQuery, PlainQueryFails, IsPhraseQuery, PhraseQueryFails}
+use Rattle.ts_make.specs.Made.{IsMadeVector, MadeVectorFails, IsMadeQuery, MadeQueryFails, IsPlainQuery}
+use Rattle.ts_make.specs.Made.{PlainQueryFails, IsPhraseQuery, PhraseQueryFails}
 use Rattle.ts_websearch.specs.Made.{IsWebQuery, WebQueryFails}
-use Rattle.shell_script.specs.Grammar.{VectorSource, vector_text, vector_by, QuerySource, query_text, query_by, Part, Expr}
+use Rattle.shell_script.specs.Grammar.{VectorSource, vector_text, vector_by, QuerySource, query_text, query_by, Part}
+use Rattle.shell_script.specs.Grammar.{Expr}
 use Rattle.shell_script.specs.declared.sources.Maker.{Maker}
 use Rattle.shell_script.specs.declared.sources.Maker.TheVariants.{To, Plain, Phrase, Web}
 use Rattle.shell_script.specs.Replies.{bad_vector, bad_query, long_lexeme, large_vector, large_query}

@@ -1,12 +1,13 @@
 -- The words of a call.
-use Rattle.std.specs.Prelude.{◌≡◌, ◌⊎◌, ℕ, List, [], ◌∷◌, String, string_bytes, codes}
-use Rattle.std.specs.declared.alloc.Global.{Global}
-use Rattle.shell_run.specs.declared.words.Settings.{Settings}
+use Rattle.std.specs.Prelude.{◌≡◌, ◌⊎◌, ℕ}
+use Rattle.engine.specs.Opened.{Settings}
+use Rattle.engine.specs.declared.opening.TheConstants.{WIDEST}
+pub use Rattle.shell_script.specs.declared.command_words.Options.{Options}
+pub use Rattle.shell_script.specs.CommandWords.{IsForm}
 
--- the words have a form, and it sets this: one form, which sets nothing
-abbrev pub IsForm : List (String Global) → Settings → Type 0
-IsForm (word ∷ []) settings = string_bytes word ≡ codes "run"
-IsForm words settings = ⊥
+-- the settings of a store with these options: else the widest
+abbrev pub settings_for : Options → Settings
+settings_for options = record WIDEST { pages = options.pages }
 
 -- a status that says of the whole run
 abbrev pub IsEnding : ℕ → Type 0

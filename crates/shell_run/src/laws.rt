@@ -6,6 +6,7 @@ ghost use Rattle.shell_script.specs.OpeningLines.{OpeningLine};
 ghost use Rattle.shell_script.specs.Grammar.{Expr, QuerySource};
 ghost use Rattle.shell_run.specs.Traces.{NoneIsStoredAfterFailure, NoneIsCommittedAfterFailure, NoClockFalls};
 ghost use Rattle.shell_run.specs.Traces.{NoFlushIsLate, NoFlushIsOwed, NoCommitIsEarly, NoCommitIsLate};
+ghost use Rattle.shell_run.specs.Traces.{NoCommitIsLeftOut, NoneIsReplacedUnseen};
 ghost use Rattle.shell_run.specs.Traces.{EachFailureIsNoted, OneCountIsTold, NothingIsPrintedWith4, NoNameIsTakenTwice};
 ghost use Rattle.shell_run.specs.Traces.{NoneRunsAfterTheSinkFailed, NoHalfScriptIsRun, NoLogIsWiped};
 ghost use Rattle.shell_run.specs.Traces.{NoStrayFileIsWritten, NoStoreIsWrittenUnrun, NoPageIsWritten};
@@ -41,6 +42,8 @@ pub fn ruled_out<S: Source, K: Sink, D: Disk>()
     ensures owed_flush { NoFlushIsOwed D.Disk }
     ensures early { NoCommitIsEarly }
     ensures late { NoCommitIsLate }
+    ensures left_out { NoCommitIsLeftOut }
+    ensures unseen { NoneIsReplacedUnseen }
     ensures unnoted { EachFailureIsNoted }
     ensures two_counts { OneCountIsTold }
     ensures printed_with_4 { NothingIsPrintedWith4 }

@@ -13,9 +13,8 @@ mod serving;
 mod statement_counts;
 mod top;
 mod values;
-mod words;
 
 pub use engine::{Gate, NoGate};
 pub use laws::{limits, next_run, one_answer, ruled_out};
+pub use shell_script::Options;
 pub use top::{Outcome, run_shell};
-pub use words::Settings;

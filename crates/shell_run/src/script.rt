@@ -1,5 +1,6 @@
 // The whole script, from its source.
-ghost use Rattle.std.specs.Prelude.{◌≡◌, ℕ, ◌+◌, ◌-◌, ◌*◌, ◌^◌, ◌<◌, ◌≤◌, List, length, IfOk, IfSome, IfErr, ◌⊎◌, IsErrOf, Vec, vec_len, ◌++◌};
+ghost use Rattle.std.specs.Prelude.{◌≡◌, ℕ, ◌+◌, ◌-◌, ◌*◌, ◌^◌, ◌<◌, ◌≤◌, List, length, IfOk, IfSome, IfErr, ◌⊎◌};
+ghost use Rattle.std.specs.Prelude.{IsErrOf, Vec, vec_len, ◌++◌};
 ghost use Rattle.std.specs.Io.KnownBytes.{Consumes, IsAtEnd};
 ghost use Rattle.disk_trait.specs.Device.{Rose};
 ghost use Rattle.shell_run.specs.HasRead.{HasRead};

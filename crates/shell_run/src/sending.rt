@@ -1,16 +1,17 @@
 // Text into the sink.
 ghost use Rattle.std.specs.Prelude.{◌≡◌, ◌⊎◌, ℕ, ◌<◌, ◌≤◌, List, [], ◌++◌, length, IfErr, OnOk, IsErrOf, is_ok, drop};
+ghost use Rattle.std.specs.Prelude.{map, ◌+◌};
 ghost use Rattle.std.specs.List.{flat_map};
 ghost use Rattle.ts_parser.specs.TokensOf.{tokens_of};
-ghost use Rattle.shell_script.specs.ReplyView.{reply};
-ghost use Rattle.shell_script.specs.Texts.{token_line, token_lines, said};
+ghost use Rattle.shell_script.specs.ReplyView.{reply, commit_line};
+ghost use Rattle.shell_script.specs.Texts.{token_line, commit_text, commit_texts, lines_before, said};
 ghost use Rattle.disk_trait.specs.Device.{Rose};
 ghost use Rattle.shell_run.specs.Inner.Sending.{Sends};
 ghost use Rattle.shell_run.specs.declared.error.Stop.TheVariants.{SinkFault, OutOfMemory};
 
 use crate::error::Stop;
 use disk_trait::Sink;
-use shell_script::{Reply, last_line_of, push_token};
+use shell_script::{CommitLine, Reply, last_line_of, push_commit, push_token};
 use std::alloc::Global;
 use ts_parser::{Token, tokens};
 
@@ -121,10 +122,51 @@ fn put_tokens<K: Sink>(out: &mut K, waiting: &mut Vec<u8>, text: &str) -> Result
     Ok(())
 }
 
-/// The lines of a reply's tokens, if it has any.
-fn put_token_lines<K: Sink>(out: &mut K, waiting: &mut Vec<u8>, answer: &Reply) -> Result<(), Stop>
+/// The line of a commit, which is put like a text.
+fn put_commit<K: Sink>(
+    out: &mut K,
+    waiting: &mut Vec<u8>,
+    number: u64,
+    commit: &CommitLine,
+) -> Result<(), Stop>
     ensures text { Sends (K.taken out.old) (K.taken out.new)
-        (waiting.old.items ++ token_lines (reply answer.now)) waiting.new.items (is_ok result) }
+        (waiting.old.items ++ commit_text number (commit_line commit.now)) waiting.new.items
+        (is_ok result) }
+    ensures later { K.fault_count out.old ≤ K.fault_count out.new }
+    ensures error { IfErr result (λ e. (e ≡ SinkFault) ⊎ (e ≡ OutOfMemory)) }
+    ensures fault { IsErrOf result SinkFault
+        → Rose (K.fault_count out.old) (K.fault_count out.new) }
+{
+    push_commit(waiting, number, commit)?;
+    flush_piece(out, waiting)
+}
+
+/// The lines of commits, one after another, so that few of them wait.
+fn put_commits<K: Sink>(
+    out: &mut K,
+    waiting: &mut Vec<u8>,
+    commits: &[CommitLine],
+) -> Result<(), Stop>
+    ensures text { Sends (K.taken out.old) (K.taken out.new)
+        (waiting.old.items ++ commit_texts 1 (map commit_line commits.now)) waiting.new.items
+        (is_ok result) }
+    ensures later { K.fault_count out.old ≤ K.fault_count out.new }
+    ensures error { IfErr result (λ e. (e ≡ SinkFault) ⊎ (e ≡ OutOfMemory)) }
+    ensures fault { IsErrOf result SinkFault
+        → Rose (K.fault_count out.old) (K.fault_count out.new) }
+{
+    for (place, commit) in commits.iter().enumerate() {
+        if let Err(stop) = put_commit(out, waiting, place as u64 + 1, commit) {
+            return Err(stop);
+        }
+    }
+    Ok(())
+}
+
+/// The lines before the last one of a reply, if it has any: those of its tokens or commits.
+fn put_lines_before<K: Sink>(out: &mut K, waiting: &mut Vec<u8>, answer: &Reply) -> Result<(), Stop>
+    ensures text { Sends (K.taken out.old) (K.taken out.new)
+        (waiting.old.items ++ lines_before (reply answer.now)) waiting.new.items (is_ok result) }
     ensures later { K.fault_count out.old ≤ K.fault_count out.new }
     ensures error { IfErr result (λ e. (e ≡ SinkFault) ⊎ (e ≡ OutOfMemory)) }
     ensures fault { IsErrOf result SinkFault
@@ -132,11 +174,12 @@ fn put_token_lines<K: Sink>(out: &mut K, waiting: &mut Vec<u8>, answer: &Reply) 
 {
     match answer {
         Reply::Tokens(text) => put_tokens(out, waiting, text.as_str()),
+        Reply::Commits(commits) => put_commits(out, waiting, commits.as_slice()),
         _ => Ok(()),
     }
 }
 
-/// A reply: the lines of its tokens, and its last line.
+/// A reply: the lines of its tokens or commits, and its last line.
 pub fn put_reply<K: Sink>(
     alloc: Global,
     out: &mut K,
@@ -152,7 +195,7 @@ pub fn put_reply<K: Sink>(
     ensures fault { IsErrOf result SinkFault
         → Rose (K.fault_count out.old) (K.fault_count out.new) }
 {
-    if let Err(stop) = put_token_lines(out, waiting, answer) {
+    if let Err(stop) = put_lines_before(out, waiting, answer) {
         return Err(stop);
     }
     match last_line_of(alloc, session, answer) {

@@ -1,14 +1,14 @@
 // A script's steps, one after another.
-ghost use Rattle.std.specs.Prelude.{◌≡◌, ◌⊎◌, ℕ, ◌+◌, ◌-◌, ◌^◌, ◌<◌, ◌≤◌, List, [], ◌++◌, ◌||◌, ◌∷◌, min, true, false, length, IfOk, IfErr, OnOk, OnErr, IsErrOf, is_ok, IfSome, IfNone};
+ghost use Rattle.std.specs.Prelude.{◌≡◌, ◌⊎◌, ℕ, ◌+◌, ◌-◌, ◌^◌, ◌<◌, ◌≤◌, List, [], ◌++◌, ◌||◌, ◌∷◌, min, true, false};
+ghost use Rattle.std.specs.Prelude.{length, IfOk, IfErr, OnOk, OnErr, IsErrOf, is_ok, IfSome, IfNone};
 ghost use Rattle.disk_trait.specs.Device.{Rose};
 ghost use Rattle.shell_script.specs.ReplyView.{reply};
 ghost use Rattle.shell_script.specs.StepView.{step as shown};
 ghost use Rattle.ts_config.specs.Known.{first_known};
 ghost use Rattle.shell_run.specs.Inner.Serving.{HasTurned, Served, Passed, HasRunSteps};
 ghost use Rattle.shell_run.specs.Outcomes.{is_refusal};
-ghost use Rattle.engine.specs.Standing.{StandsFor, IsUp, disk_of};
-ghost use Rattle.engine.specs.Finding.{History};
-ghost use Rattle.engine.specs.AtOpening.{AtOpening};
+ghost use Rattle.engine.specs.Answers.{IsSession};
+ghost use Rattle.engine.specs.Db.{IsUp, disk_of};
 ghost use Rattle.shell_run.specs.declared.error.Stop.TheVariants.{SinkFault, OutOfMemory};
 
 use crate::answers::answer;
@@ -17,7 +17,7 @@ use crate::error::Stop;
 use crate::sending::{flush, put_reply};
 use crate::statement_counts::StatementCounts;
 use disk_trait::{Disk, Sink};
-use engine::{Db, Gate};
+use engine::{Db, Gate, Pass, histories_are_lawful, opens_to_one};
 use shell_script::{Refusal, Reply, Step, read_line, read_opening_line, steps};
 use std::alloc::{AllocError, Global};
 use ts_config::Configs;
@@ -27,6 +27,8 @@ use ts_config::Configs;
 pub struct RunState<D: Disk> {
     /// The store.
     pub store: Db<D>,
+    /// The driver's pass.
+    pub pass: Pass,
     /// What is defined.
     pub configs: Configs,
     /// The text that is not yet written.
@@ -51,6 +53,9 @@ fn turn<D: Disk, G: Gate>(
     state: &mut RunState<D>,
     step: Step<'_>,
 ) -> Result<(u8, Reply), AllocError>
+    requires session { IsSession state.old.store state.old.pass }
+    ensures session { IsSession state.new.store state.new.pass }
+    ensures room { state.new.pass.room ≡ state.old.pass.room }
     ensures turned { IfOk result
         (λ r. HasTurned D.Disk (shown step.entry) state.old state.new r.0 (reply r.1)) }
     ensures short { OnErr result (state.new ≡ state.old) }
@@ -66,6 +71,7 @@ fn turn<D: Disk, G: Gate>(
                 alloc,
                 &state.configs,
                 &mut state.store,
+                &mut state.pass,
                 line.number,
                 said.statement,
             );
@@ -91,6 +97,9 @@ fn serve_step<K: Sink, D: Disk, G: Gate>(
     out: &mut K,
     step: Step<'_>,
 ) -> Result<(), Stop>
+    requires session { IsSession state.old.store state.old.pass }
+    ensures session { IsSession state.new.store state.new.pass }
+    ensures room { state.new.pass.room ≡ state.old.pass.room }
     ensures served { Served D.Disk (shown step.entry) state.old state.new (K.taken out.old)
         (K.taken out.new) (is_ok result)
         ⊎ Passed state.old state.new (K.taken out.old) (K.taken out.new) (is_ok result) }
@@ -114,17 +123,21 @@ fn serve_steps<K: Sink, D: Disk, G: Gate>(
     text: &[u8],
 ) -> Result<bool, Stop>
     requires up { IsUp state.old.store }
+    requires session { IsSession state.old.store state.old.pass }
     requires first { state.old.configs ≡ first_known }
     requires fresh { (state.old.waiting.items ≡ []) × (state.old.refused ≡ false) }
-    ensures ran { (found : AtOpening) (history : History) → StandsFor found state.old.store history
-        → HasRunSteps D.Disk found history text.now (K.taken out.old) (K.taken out.new)
-        state.old.store (disk_of state.new.store) result }
+    ensures session { IsSession state.new.store state.new.pass }
+    ensures room { state.new.pass.room ≡ state.old.pass.room }
+    ensures ran { HasRunSteps D.Disk text.now (K.taken out.old) (K.taken out.new) state.old.store
+        state.old.pass (disk_of state.new.store) result }
     ensures counts { D.fault_count (disk_of state.old.store) ≤ D.fault_count (disk_of state.new.store) }
     ensures later { K.fault_count out.old ≤ K.fault_count out.new }
     ensures error { IfErr result (λ e. (e ≡ SinkFault) ⊎ (e ≡ OutOfMemory)) }
     ensures fault { IsErrOf result SinkFault
         → Rose (K.fault_count out.old) (K.fault_count out.new) }
 {
+    opens_to_one();
+    histories_are_lawful::<D>();
     for step in steps(text) {
         if let Err(stop) = serve_step(alloc, gate, state, out, step) {
             return Err(stop);
@@ -143,14 +156,16 @@ pub fn run_steps<K: Sink, D: Disk, G: Gate>(
     gate: &G,
     out: &mut K,
     store: Db<D>,
+    pass: Pass,
     configs: Configs,
     text: &[u8],
 ) -> (D, Result<bool, Stop>)
     requires up { IsUp store }
+    requires session { IsSession store pass }
+    requires room { pass.room ≡ 16 }
     requires first { configs ≡ first_known }
-    ensures ran { (found : AtOpening) (history : History) → StandsFor found store history
-        → HasRunSteps D.Disk found history text.now (K.taken out.old) (K.taken out.new) store
-        result.0 result.1 }
+    ensures ran { HasRunSteps D.Disk text.now (K.taken out.old) (K.taken out.new) store pass result.0
+        result.1 }
     ensures counts { D.fault_count (disk_of store) ≤ D.fault_count result.0 }
     ensures later { K.fault_count out.old ≤ K.fault_count out.new }
     ensures error { IfErr result.1 (λ e. (e ≡ SinkFault) ⊎ (e ≡ OutOfMemory)) }
@@ -159,11 +174,13 @@ pub fn run_steps<K: Sink, D: Disk, G: Gate>(
 {
     let mut state = RunState {
         store,
+        pass,
         configs,
         waiting: Vec::new(alloc),
         refused: false,
         statements: StatementCounts::new(),
     };
     let ran = serve_steps(alloc, gate, out, &mut state, text);
-    (state.store.close(), ran)
+    let RunState { store, pass, .. } = state;
+    (store.close(pass), ran)
 }

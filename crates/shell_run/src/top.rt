@@ -1,15 +1,17 @@
 // The top call.
-ghost use Rattle.std.specs.Prelude.{◌≡◌};
+ghost use Rattle.std.specs.Prelude.{◌≡◌, ◌≤◌};
 ghost use Rattle.shell_run.specs.RunMeets.{RunMeets};
+ghost use Rattle.shell_run.specs.Words.{settings_for};
 ghost use Rattle.shell_run.specs.Inner.Statuses.{ending_number};
 ghost use Rattle.shell_run.specs.Inner.Serving.{ServeMeets};
+ghost use Rattle.shell_script.specs.declared.command_words.TheConstants.{MOST_PAGES};
 
 use crate::error::Stop;
 use crate::script::read_script;
 use crate::serving::run_steps;
-use crate::words::settings_of;
 use disk_trait::{Disk, Sink, Source};
-use engine::{Db, Gate, Unopened, WIDEST};
+use engine::{Db, Gate, Settings, Unopened, WIDEST};
+use shell_script::{Options, options_of};
 use std::alloc::Global;
 use std::sync::Wait;
 use std::thread::Threads;
@@ -38,25 +40,38 @@ fn ending_status(failed: bool, refused: bool) -> u8
     if refused { 1 } else { 0 }
 }
 
+/// The settings of a store with these options.
+fn settings_of(options: Options) -> Settings
+    ensures { result ≡ settings_for options }
+{
+    Settings {
+        pages: options.pages,
+        ..WIDEST
+    }
+}
+
 /// The script's statements over a device: the status, where nothing stopped before, and the device.
 fn serve<K: Sink, D: Disk, G: Gate>(
     alloc: Global,
     gate: &G,
+    options: Options,
     out: &mut K,
     device: D,
     text: &[u8],
 ) -> (u8, D)
-    ensures { ServeMeets K.Sink D.Disk text.now result.0 out.old out.new device result.1 }
+    requires { options.pages ≤ MOST_PAGES }
+    ensures { ServeMeets K.Sink D.Disk (settings_for options) text.now result.0 out.old out.new
+        device result.1 }
 {
     let Ok(configs) = Configs::new(alloc) else {
         return (Stop::OutOfMemory.status(), device);
     };
     let before = device.faults();
-    let store = match Db::open(alloc, device, WIDEST) {
-        Ok(store) => store,
+    let (store, pass) = match Db::open(alloc, device, settings_of(options)) {
+        Ok(opened) => opened,
         Err(Unopened { store, why }) => return (Stop::from(why).status(), store),
     };
-    let (device, ran) = run_steps(alloc, gate, out, store, configs, text);
+    let (device, ran) = run_steps(alloc, gate, out, store, pass, configs, text);
     let refused = match ran {
         Ok(refused) => refused,
         Err(stop) => return (stop.status(), device),
@@ -75,7 +90,7 @@ fn run<S: Source, K: Sink, D: Disk, G: Gate>(
 ) -> Outcome<S, K, D>
     ensures { RunMeets S.Source K.Sink D.Disk words.now script out store result }
 {
-    let Some(_settings) = settings_of(words) else {
+    let Some(options) = options_of(words) else {
         return Outcome {
             status: 2,
             script,
@@ -94,7 +109,7 @@ fn run<S: Source, K: Sink, D: Disk, G: Gate>(
             };
         }
     };
-    let (status, store) = serve(alloc, gate, &mut out, store, &text);
+    let (status, store) = serve(alloc, gate, options, &mut out, store, &text);
     Outcome {
         status,
         script,

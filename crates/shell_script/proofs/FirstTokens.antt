@@ -14,9 +14,9 @@ use Rattle.ts_base.specs.Words.{EndsWord, BeginsWithWord}
 use Rattle.ts_base.proofs.ByteKinds.{blank_ascii}
 use Rattle.shell_script.specs.Tokens.{ScriptToken, word, quote, IsSpelled}
 use Rattle.shell_script.specs.Lines.{HasNo}
-use Rattle.shell_script.specs.Grammar.{Statement, insert, search, show, ask, parse, define, invalid, IsSession}
-use Rattle.shell_script.specs.Grammar.{HasSession, IsWrittenAs, IsStatement, label, expr_tokens, query_tokens}
-use Rattle.shell_script.specs.Grammar.{body_tokens, statement_tokens}
+use Rattle.shell_script.specs.Grammar.{Statement, insert, update, delete, search, show, ask, parse, list_commits}
+use Rattle.shell_script.specs.Grammar.{define, invalid, IsSession, HasSession, IsWrittenAs, IsStatement, label}
+use Rattle.shell_script.specs.Grammar.{expr_tokens, query_tokens, body_tokens, statement_tokens}
 use Rattle.shell_script.specs.Inner.Said.{IsSaidBehind}
 use Rattle.shell_script.specs.Inner.Fronts.{IsNoQuote}
 use Rattle.shell_script.proofs.Front.{one_first_word}
@@ -69,6 +69,13 @@ parse_letters = more 112 (codes "arse") (omega arith) (omega arith)
     (more 97 (codes "rse") (omega arith) (omega arith) (more 114 (codes "se") (omega arith) (omega arith)
     (more 115 (codes "e") (omega arith) (omega arith) (more 101 [] (omega arith) (omega arith) none))))
 
+commits_letters : AreLetters (codes "commits")
+commits_letters =
+    more 99 (codes "ommits") (omega arith) (omega arith)
+    (more 111 (codes "mmits") (omega arith) (omega arith) (more 109 (codes "mits") (omega arith) (omega arith)
+    (more 109 (codes "its") (omega arith) (omega arith) (more 105 (codes "ts") (omega arith) (omega arith)
+    (more 116 (codes "s") (omega arith) (omega arith) (more 115 [] (omega arith) (omega arith) none))))))
+
 -- a statement's first token is a word
 record FirstToken (s : ℕ) (statement : Statement) : Type 0 where
   first : List ℕ
@@ -89,6 +96,8 @@ by_label (suc n) statement h = record {
 
 first_token : (s : ℕ) (statement : Statement) → HasSession s statement → FirstToken s statement
 first_token s (insert e) h = by_label s (insert e) h
+first_token s (update d e) h = by_label s (update d e) h
+first_token s (delete d) h = by_label s (delete d) h
 first_token s (search t) h = by_label s (search t) h
 first_token s (show e) h = subst (λ n. FirstToken n (show e)) (sym h)
     (record { first = codes "show"; others = expr_tokens e; tokens = refl; some = omega arith; letters = show_letters })
@@ -101,6 +110,8 @@ first_token s (parse t) h = subst (λ n. FirstToken n (parse t)) (sym h) (record
   some = omega arith;
   letters = parse_letters;
 })
+first_token s list_commits h = subst (λ n. FirstToken n list_commits) (sym h)
+    (record { first = codes "commits"; others = []; tokens = refl; some = omega arith; letters = commits_letters })
 first_token s (define head body) h = absurd h
 first_token s invalid h = absurd h
 
@@ -182,9 +193,12 @@ says_nothing line s a e f none = subst (IsStatement line s) (sym f) (e, none)
 
 pub says_statement : (line : List ℕ) (s : ℕ) (a : Statement) → IsWrittenAs line s a → IsStatement line s a
 says_statement line s (insert e) k = k
+says_statement line s (update d e) k = k
+says_statement line s (delete d) k = k
 says_statement line s (search t) k = k
 says_statement line s (show e) k = k
 says_statement line s (ask t) k = k
 says_statement line s (parse t) k = k
+says_statement line s list_commits k = k
 says_statement line s (define head body) k = k
 says_statement line s invalid k = absurd k.session

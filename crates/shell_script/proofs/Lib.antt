@@ -2,6 +2,7 @@ pub mod Front
 pub mod Cuts
 pub mod Spelling
 pub mod Exprs
+pub mod DocTexts
 pub mod FirstTokens
 pub mod Made
 pub mod Saying

@@ -3,9 +3,9 @@ use Rattle.std.proofs.Common.{◌≡◌, ◌⊎◌, inl, inr, ℕ, ◌+◌, List
 use Rattle.std.proofs.Common.{sym, ◌∙◌, ap}
 use Rattle.std.specs.Prelude.{not}
 use Rattle.shell_script.specs.Tokens.{ScriptToken, word, quote}
-use Rattle.shell_script.specs.Grammar.{Statement, insert, show, ask, parse, define, invalid, IsSession, IsWrittenAs}
-use Rattle.shell_script.specs.Grammar.{IsStatement, HasSession, IsNamed, label, expr_tokens, query_tokens, body_tokens}
-use Rattle.shell_script.specs.Grammar.{statement_tokens}
+use Rattle.shell_script.specs.Grammar.{Statement, insert, update, delete, show, ask, parse, list_commits, define}
+use Rattle.shell_script.specs.Grammar.{invalid, IsSession, IsWrittenAs, IsStatement, HasSession, IsNamed, label}
+use Rattle.shell_script.specs.Grammar.{expr_tokens, query_tokens, body_tokens, statement_tokens}
 use Rattle.shell_script.specs.Grammar.{search as finding}
 use Rattle.shell_script.specs.Lines.{Line}
 use Rattle.shell_script.specs.OpeningLines.{Kind, simple_kind, porter_kind, synonym_kind, thesaurus_kind, OpeningLine}
@@ -16,7 +16,7 @@ use Rattle.shell_script.specs.Says.{counted_lines, IsDefinition, Says}
 use Rattle.shell_script.specs.Inner.Said.{IsOfSession, IsPlain}
 use Rattle.shell_script.proofs.FirstTokens.{heads_differ, words_same}
 use Rattle.shell_script.proofs.Saying.{one_of_session, one_plain, label_or_show, label_or_ask, label_or_parse}
-use Rattle.shell_script.proofs.Saying.{labelled_tokens, plain_tokens}
+use Rattle.shell_script.proofs.Saying.{label_or_commits, labelled_tokens, plain_tokens}
 use Rattle.shell_script.proofs.Spelling.{one_spelling}
 
 labels_same : (s t : ℕ) → label s ≡ label t → s ≡ t
@@ -29,10 +29,13 @@ Stands s a = (IsOfSession a × IsSession s × (statement_tokens s a ≡ word (la
 
 stands : (s : ℕ) (a : Statement) → HasSession s a → IsNamed a → Stands s a
 stands s (insert e) h n = inl (n, h, labelled_tokens s (insert e) h)
+stands s (update d e) h n = inl (n, h, labelled_tokens s (update d e) h)
+stands s (delete d) h n = inl (n, h, labelled_tokens s (delete d) h)
 stands s (finding q) h n = inl (n, h, labelled_tokens s (finding q) h)
 stands s (show e) h n = inr (n, h, plain_tokens s (show e) h)
 stands s (ask q) h n = inr (n, h, plain_tokens s (ask q) h)
 stands s (parse t) h n = inr (tt, h, plain_tokens s (parse t) h)
+stands s list_commits h n = inr (tt, h, plain_tokens s list_commits h)
 stands s (define head body) h n = absurd h
 stands s invalid h n = absurd h
 
@@ -41,7 +44,10 @@ label_or_plain : (s : ℕ) (ts : List ScriptToken) (b : Statement) → IsPlain b
 label_or_plain s ts (show e) h same = label_or_show s (words_same (label s) (codes "show") ts (expr_tokens e) same).0
 label_or_plain s ts (ask x) h same = label_or_ask s (words_same (label s) (codes "ask") ts (query_tokens x) same).0
 label_or_plain s ts (parse x) h same = label_or_parse s (words_same (label s) (codes "parse") ts (quote x ∷ []) same).0
+label_or_plain s ts list_commits h same = label_or_commits s (words_same (label s) (codes "commits") ts [] same).0
 label_or_plain s ts (insert e) h same = h
+label_or_plain s ts (update d e) h same = h
+label_or_plain s ts (delete d) h same = h
 label_or_plain s ts (finding x) h same = h
 label_or_plain s ts (define head body) h same = h
 label_or_plain s ts invalid h same = h
@@ -64,10 +70,13 @@ one_written line s t a b h k = one_said s t a b (stands s a h.session h.named) (
 says : (line : List ℕ) (s : ℕ) (a : Statement) → IsStatement line s a
     → IsWrittenAs line s a ⊎ ((s ≡ 0) × (a ≡ invalid) × ((t : ℕ) (b : Statement) → IsWrittenAs line t b → ⊥))
 says line s (insert e) h = inl h
+says line s (update d e) h = inl h
+says line s (delete d) h = inl h
 says line s (finding t) h = inl h
 says line s (show e) h = inl h
 says line s (ask t) h = inl h
 says line s (parse t) h = inl h
+says line s list_commits h = inl h
 says line s (define head body) h = inl h
 says line s invalid h = inr (h.0, refl, h.1)
 
@@ -172,7 +181,10 @@ defined : (l : Line) (body : List Line) (a : Statement) → IsDefinition l body 
 defined l body (define h ls) d = inl (h, d.0, ap (define h) d.1)
 defined l body invalid d = inr (refl, d)
 defined l body (insert e) d = absurd d
+defined l body (update c e) d = absurd d
+defined l body (delete c) d = absurd d
 defined l body (finding t) d = absurd d
+defined l body list_commits d = absurd d
 defined l body (show e) d = absurd d
 defined l body (ask t) d = absurd d
 defined l body (parse t) d = absurd d

@@ -7,6 +7,7 @@ use Rattle.ts_base.specs.declared.Weight.TheVariants.{A, B, C, D}
 use Rattle.shell_script.specs.Tokens.{ScriptToken, word, quote, IsSpelled}
 use Rattle.shell_script.specs.Lines.{Line}
 use Rattle.shell_script.specs.OpeningLines.{OpeningLine, IsName}
+use Rattle.shell_script.specs.Docs.{Doc, IsDoc}
 use Rattle.shell_script.specs.declared.sources.Maker.{Maker}
 use Rattle.shell_script.specs.declared.sources.Maker.TheVariants.{To, Plain, Phrase, Web}
 
@@ -94,20 +95,26 @@ IsQuery (query_by maker config text) = IsName config
 -- count. Later kinds of statement are more cases.
 pub data Statement : Type 0 where
   insert : Expr → Statement
+  update : Doc → Expr → Statement
+  delete : Doc → Statement
   search : QuerySource → Statement
   show : Expr → Statement
   ask : QuerySource → Statement
   parse : List ℕ → Statement
+  list_commits : Statement
   define : OpeningLine → List Line → Statement
   invalid : Statement
 
 -- the tokens of a statement of one line, but for a session's label
 abbrev pub body_tokens : Statement → List ScriptToken
 body_tokens (insert e) = word (codes "insert") ∷ expr_tokens e
+body_tokens (update d e) = word (codes "update") ∷ word d.text ∷ expr_tokens e
+body_tokens (delete d) = word (codes "delete") ∷ word d.text ∷ []
 body_tokens (search q) = word (codes "search") ∷ query_tokens q
 body_tokens (show e) = word (codes "show") ∷ expr_tokens e
 body_tokens (ask q) = word (codes "ask") ∷ query_tokens q
 body_tokens (parse text) = word (codes "parse") ∷ quote text ∷ []
+body_tokens list_commits = word (codes "commits") ∷ []
 body_tokens (define head body) = []
 body_tokens invalid = []
 
@@ -122,16 +129,21 @@ statement_tokens s statement = label_tokens s ++ body_tokens statement
 -- a statement of the store has a session, and another of one line has none
 abbrev pub HasSession : ℕ → Statement → Type 0
 HasSession s (insert e) = IsSession s
+HasSession s (update d e) = IsSession s
+HasSession s (delete d) = IsSession s
 HasSession s (search q) = IsSession s
 HasSession s (show e) = s ≡ 0
 HasSession s (ask q) = s ≡ 0
 HasSession s (parse text) = s ≡ 0
+HasSession s list_commits = s ≡ 0
 HasSession s (define head body) = ⊥
 HasSession s invalid = ⊥
 
--- what a statement is made of is named by a NAME
+-- what a statement is made of is named by a NAME, and a document by a DOC
 abbrev pub IsNamed : Statement → Type 0
 IsNamed (insert e) = IsExpr e
+IsNamed (update d e) = IsDoc d × IsExpr e
+IsNamed (delete d) = IsDoc d
 IsNamed (search q) = IsQuery q
 IsNamed (show e) = IsExpr e
 IsNamed (ask q) = IsQuery q

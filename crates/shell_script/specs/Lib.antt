@@ -1,5 +1,6 @@
 pub mod Lines
 pub mod Tokens
+pub mod Docs
 pub mod Grammar
 pub mod Steps
 pub mod StepsOf
@@ -11,4 +12,5 @@ pub mod StatementView
 pub mod Replies
 pub mod ReplyView
 pub mod Texts
+pub mod CommandWords
 pub mod Inner

@@ -13,25 +13,37 @@ pub data TextFault : Type 0 where
   large_query : TextFault
 
 -- The refusals: 1 with the line's number; 4 and 5, where a configuration or a dictionary isn't there;
--- those of texts; 11 to 13, 14 with the device's count just after the fault, 15 and 17.
+-- those of texts; 9, 10 with a transaction's number, 11 to 13, 14 with the device's count just after
+-- the fault, 15, 16 with a page's number, and 17.
 pub data Refusal : Type 0 where
   no_statement : ℕ → Refusal
   no_configuration : Refusal
   no_dictionary : Refusal
   text_refused : TextFault → Refusal
+  no_document : Refusal
+  conflict : ℕ → Refusal
   store_full : Refusal
   log_full : Refusal
   transactions_spent : Refusal
   down : ℕ → Refusal
   device : Refusal
+  bad_page : ℕ → Refusal
   memory : Refusal
 
--- A vector or a query is shown by its text, and a text by its tokens. A definition is done.
+-- a commit: the names that it deleted, and those that it inserted
+pub record CommitLine : Type 0 where
+  pub deleted : List Name
+  pub inserted : List Name
+
+-- A vector or a query is shown by its text, a text by its tokens, and commits in their order. A
+-- definition is done.
 pub data Reply : Type 0 where
   stored : Name → Reply
+  removed : Reply
   lists : List Name → Reply
   shows_vector : List ℕ → Reply
   shows_query : List ℕ → Reply
   shows_tokens : List Token → Reply
+  shows_commits : List CommitLine → Reply
   done : Reply
   refused : Refusal → Reply

@@ -1,13 +1,15 @@
 -- Replies without where they lie in memory.
+use Rattle.std.specs.Prelude.{map}
 use Rattle.std.specs.String.{string_bytes}
 use Rattle.ts_parser.specs.TokensOf.{tokens_of}
 use Rattle.shell_script.specs.Replies as replies
 use Rattle.shell_script.specs.declared.replies.TextFault.{TextFault}
 use Rattle.shell_script.specs.declared.replies.TextFault.TheVariants.{BadVector, BadQuery, LongLexeme, LargeVector, LargeQuery}
 use Rattle.shell_script.specs.declared.replies.Refusal.{Refusal}
-use Rattle.shell_script.specs.declared.replies.Refusal.TheVariants.{NoStatement, NoConfiguration, NoDictionary, Text, StoreFull, LogFull, TransactionsSpent, Down, Device, Memory}
+use Rattle.shell_script.specs.declared.replies.Refusal.TheVariants.{NoStatement, NoConfiguration, NoDictionary, Text, NoDocument, Conflict, StoreFull, LogFull, TransactionsSpent, Down, Device, BadPage, Memory}
+use Rattle.shell_script.specs.declared.replies.CommitLine.{CommitLine}
 use Rattle.shell_script.specs.declared.replies.Reply.{Reply}
-use Rattle.shell_script.specs.declared.replies.Reply.TheVariants.{Stored, Lists, Vector, Query, Tokens, Done, Refused}
+use Rattle.shell_script.specs.declared.replies.Reply.TheVariants.{Stored, Removed, Lists, Vector, Query, Tokens, Commits, Done, Refused}
 
 abbrev pub text_fault : TextFault → replies.TextFault
 text_fault (BadVector at) = replies.bad_vector at
@@ -21,18 +23,26 @@ refusal (NoStatement number) = replies.no_statement number
 refusal NoConfiguration = replies.no_configuration
 refusal NoDictionary = replies.no_dictionary
 refusal (Text fault) = replies.text_refused (text_fault fault)
+refusal NoDocument = replies.no_document
+refusal (Conflict xid) = replies.conflict xid
 refusal StoreFull = replies.store_full
 refusal LogFull = replies.log_full
 refusal TransactionsSpent = replies.transactions_spent
 refusal (Down count) = replies.down count
 refusal Device = replies.device
+refusal (BadPage page) = replies.bad_page page
 refusal Memory = replies.memory
+
+abbrev pub commit_line : CommitLine → replies.CommitLine
+commit_line c = record { deleted = c.deleted.items; inserted = c.inserted.items }
 
 abbrev pub reply : Reply → replies.Reply
 reply (Stored n) = replies.stored n
+reply Removed = replies.removed
 reply (Lists names) = replies.lists names.items
 reply (Vector text) = replies.shows_vector (string_bytes text)
 reply (Query text) = replies.shows_query (string_bytes text)
 reply (Tokens text) = replies.shows_tokens (tokens_of (string_bytes text))
+reply (Commits commits) = replies.shows_commits (map commit_line commits.items)
 reply Done = replies.done
 reply (Refused why) = replies.refused (refusal why)

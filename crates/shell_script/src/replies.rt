@@ -30,6 +30,10 @@ pub enum Refusal {
     NoDictionary,
     /// A text of the statement is at fault.
     Text(TextFault),
+    /// There is no document of this name.
+    NoDocument,
+    /// A transaction with this number deletes the document, or has since the statement began.
+    Conflict(u32),
     /// The store has no room for the document.
     StoreFull,
     /// The log has no room for the document.
@@ -40,6 +44,8 @@ pub enum Refusal {
     Down(u64),
     /// A call of the device failed.
     Device,
+    /// The bytes of this page are no page, or one of another kind.
+    BadPage(u32),
     /// Memory ran out.
     Memory,
 }
@@ -55,11 +61,22 @@ impl From<AllocError> for Refusal {
     }
 }
 
+/// The names that a commit deleted, and those that it inserted.
+#[derive(Debug, Drop)]
+pub struct CommitLine {
+    /// The names that it deleted.
+    pub deleted: Vec<Name>,
+    /// The names that it inserted.
+    pub inserted: Vec<Name>,
+}
+
 /// What a statement is answered; a vector or a query by its text, tokens by the text that has them.
 #[derive(Debug, Drop)]
 pub enum Reply {
     /// The document was stored under this name.
     Stored(Name),
+    /// The document was deleted.
+    Removed,
     /// The documents that a search found.
     Lists(Vec<Name>),
     /// The vector that was asked for.
@@ -68,6 +85,8 @@ pub enum Reply {
     Query(String),
     /// The tokens of this text.
     Tokens(String),
+    /// The commits, in their order.
+    Commits(Vec<CommitLine>),
     /// The definition is done.
     Done,
     /// The statement was refused.

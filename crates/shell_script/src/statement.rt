@@ -1,7 +1,8 @@
 // What a line says.
 ghost use Rattle.std.specs.Prelude.{◌≡◌, ◌↔◌, ℕ, List, [], ◌∷◌, ◌++◌, IfOk, IfSome, IfNone, IsTrue, codes, map, string_bytes};
 ghost use Rattle.shell_script.specs.Grammar.{IsSession, IsStatement, label};
-ghost use Rattle.shell_script.specs.Grammar.{Statement as Said};
+ghost use Rattle.shell_script.specs.Grammar.{Statement as Said, Expr as Joined, IsExpr, expr_tokens};
+ghost use Rattle.shell_script.specs.Docs.{Doc as Named, IsDoc};
 ghost use Rattle.shell_script.specs.Tokens.{IsSpelled, word, quote};
 ghost use Rattle.shell_script.specs.Inner.Fronts.{Fronts};
 ghost use Rattle.shell_script.specs.Tokens.{ScriptToken as Spelled};
@@ -9,8 +10,9 @@ ghost use Rattle.shell_script.specs.Inner.Said.{IsOfSession, IsPlain, IsStatemen
 ghost use Rattle.shell_script.specs.declared.statement.Statement.TheVariants.{Invalid};
 ghost use Rattle.shell_script.specs.StatementView.{statement, part, expr};
 
+use crate::docs::{Doc, front_doc};
 use crate::sources::{Expr, QuerySource, expr_of, query_of, quote_of};
-use crate::tokens::front_word;
+use crate::tokens::{front_word, is_all_blank};
 use std::alloc::{AllocError, Global};
 use std::str;
 use ts_base::first_word;
@@ -20,6 +22,10 @@ use ts_base::first_word;
 pub enum Statement<'a> {
     /// A document is to be stored.
     Insert(Expr<'a>),
+    /// A document is to be deleted, and another stored.
+    Update(Doc<'a>, Expr<'a>),
+    /// A document is to be deleted.
+    Delete(Doc<'a>),
     /// The documents are asked for that satisfy a query.
     Search(QuerySource<'a>),
     /// The text of an expression's vector is asked for.
@@ -28,6 +34,8 @@ pub enum Statement<'a> {
     Ask(QuerySource<'a>),
     /// The tokens of a text are asked for.
     Parse(String),
+    /// The names of the commits are asked for.
+    Commits,
     /// The line is no statement.
     Invalid,
 }
@@ -72,6 +80,39 @@ fn is_word(found: &[u8], word: &str) -> bool
     found == word.as_bytes()
 }
 
+/// The update that is said after its word.
+fn update_of<'a>(alloc: Global, rest: &'a str) -> Result<Option<Statement<'a>>, AllocError>
+    ensures some { IfOk result (λ found. IfSome found
+        (λ s. IsStatementBody IsOfSession (codes "update") rest.now (statement s))) }
+    ensures none { IfOk result (λ found. IfNone found ((d : Named) (e : Joined) → IsDoc d
+        → IsExpr e → IsSpelled rest.now (word d.text ∷ expr_tokens e) → ⊥)) }
+{
+    let Some((doc, rest)) = front_doc(rest) else {
+        return Ok(None);
+    };
+    let Some(expr) = expr_of(alloc, rest)? else {
+        return Ok(None);
+    };
+    Ok(Some(Statement::Update(doc, expr)))
+}
+
+/// The deletion that is said after its word.
+fn delete_of(rest: &str) -> Option<Statement<'_>>
+    ensures some { IfSome result
+        (λ s. IsStatementBody IsOfSession (codes "delete") rest.now (statement s)) }
+    ensures none { IfNone result ((d : Named) → IsDoc d
+        → IsSpelled rest.now (word d.text ∷ []) → ⊥) }
+{
+    let Some((doc, rest)) = front_doc(rest) else {
+        return None;
+    };
+    if is_all_blank(rest) {
+        Some(Statement::Delete(doc))
+    } else {
+        None
+    }
+}
+
 /// The statement after a session's label, by its first word and what is after it.
 fn session_statement<'a>(
     alloc: Global,
@@ -88,6 +129,18 @@ fn session_statement<'a>(
             return Ok(None);
         };
         return Ok(Some(Statement::Insert(expr)));
+    }
+    if is_word(first, "update") {
+        let Some(update) = update_of(alloc, rest)? else {
+            return Ok(None);
+        };
+        return Ok(Some(update));
+    }
+    if is_word(first, "delete") {
+        let Some(deletion) = delete_of(rest) else {
+            return Ok(None);
+        };
+        return Ok(Some(deletion));
     }
     if is_word(first, "search") {
         let Some(query) = query_of(alloc, rest)? else {
@@ -126,6 +179,9 @@ fn plain_statement<'a>(
             return Ok(None);
         };
         return Ok(Some(Statement::Parse(text)));
+    }
+    if is_word(first, "commits") && is_all_blank(rest) {
+        return Ok(Some(Statement::Commits));
     }
     Ok(None)
 }

@@ -1,11 +1,11 @@
 // Replies as text.
 ghost use Rattle.std.specs.Prelude.{◌≡◌, List, [], ◌∷◌, ◌++◌, IfOk, OnOk, codes, decimal};
 ghost use Rattle.std.specs.List.{flat_map};
-ghost use Rattle.shell_script.specs.ReplyView.{text_fault, refusal, reply};
-ghost use Rattle.shell_script.specs.Texts.{name_text, label_text, behind_space, refusal_text, reply_text, token_line, last_line};
+ghost use Rattle.shell_script.specs.ReplyView.{text_fault, refusal, reply, commit_line};
+ghost use Rattle.shell_script.specs.Texts.{name_text, names_after, label_text, behind_space, refusal_text, reply_text, token_line, commit_text, last_line};
 ghost use Rattle.shell_script.specs.Texts.{fault_words as words_of_fault, fault_detail as detail_of_fault, refusal_words as words_of, refusal_detail as detail_of};
 
-use crate::replies::{Refusal, Reply, TextFault};
+use crate::replies::{CommitLine, Refusal, Reply, TextFault};
 use itoa::Buffer;
 use page_types::Name;
 use std::alloc::{AllocError, Global};
@@ -30,13 +30,12 @@ fn push_name(text: &mut Vec<u8>, n: &Name) -> Result<(), AllocError>
     push_number(text, n.serial)
 }
 
-/// Each name after a space.
-fn push_names(text: &mut Vec<u8>, names: &[Name]) -> Result<(), AllocError>
-    ensures { OnOk result (text.new.items ≡ text.old.items ++ flat_map
-        (λ n. codes " " ++ name_text n) names.now) }
+/// Each name after a text.
+fn push_names(text: &mut Vec<u8>, before: &[u8], names: &[Name]) -> Result<(), AllocError>
+    ensures { OnOk result (text.new.items ≡ text.old.items ++ names_after before.now names.now) }
 {
     for n in names {
-        text.extend_from_slice(b" ")?;
+        text.extend_from_slice(before)?;
         push_name(text, n)?;
     }
     Ok(())
@@ -87,11 +86,14 @@ fn refusal_words(why: &Refusal) -> &str
         Refusal::NoConfiguration => "4 configuration",
         Refusal::NoDictionary => "5 dictionary",
         Refusal::Text(fault) => fault_words(fault),
+        Refusal::NoDocument => "9 no document",
+        Refusal::Conflict(_) => "10 conflict",
         Refusal::StoreFull => "11 store full",
         Refusal::LogFull => "12 log full",
         Refusal::TransactionsSpent => "13 transactions spent",
         Refusal::Down(_) => "14 down",
         Refusal::Device => "15 device",
+        Refusal::BadPage(_) => "16 page",
         Refusal::Memory => "17 memory",
     }
 }
@@ -109,14 +111,16 @@ fn fault_detail(fault: &TextFault) -> Option<u64>
     }
 }
 
-/// The line, offset, size or count that a refusal says.
+/// The line, offset, size, transaction, count or page that a refusal says.
 fn refusal_detail(why: &Refusal) -> Option<u64>
     ensures { result ≡ detail_of (refusal why.now) }
 {
     match why {
         Refusal::NoStatement(line) => Some(*line),
         Refusal::Text(fault) => fault_detail(fault),
+        Refusal::Conflict(xid) => Some(u64::from(*xid)),
         Refusal::Down(count) => Some(*count),
+        Refusal::BadPage(page) => Some(u64::from(*page)),
         _ => None,
     }
 }
@@ -146,7 +150,7 @@ fn push_reply(text: &mut Vec<u8>, answer: &Reply) -> Result<(), AllocError>
         }
         Reply::Lists(names) => {
             text.extend_from_slice(b"found")?;
-            push_names(text, names.as_slice())
+            push_names(text, b" ", names.as_slice())
         }
         Reply::Vector(shown) => {
             text.extend_from_slice(b"vector")?;
@@ -156,7 +160,11 @@ fn push_reply(text: &mut Vec<u8>, answer: &Reply) -> Result<(), AllocError>
             text.extend_from_slice(b"query")?;
             push_shown(text, shown.as_str())
         }
-        Reply::Tokens(_) | Reply::Done => text.extend_from_slice(b"ok"),
+        Reply::Commits(commits) => {
+            text.extend_from_slice(b"commits ")?;
+            push_number(text, commits.len() as u64)
+        }
+        Reply::Removed | Reply::Tokens(_) | Reply::Done => text.extend_from_slice(b"ok"),
         Reply::Refused(why) => {
             text.extend_from_slice(b"error ")?;
             push_refusal(text, why)
@@ -177,7 +185,20 @@ pub fn push_token(text: &mut Vec<u8>, token: Token) -> Result<(), AllocError>
     text.extend_from_slice(b"\n")
 }
 
-/// The last line of a reply, which is all of it where it has no tokens.
+/// Puts the line of a commit, which has this number, after a text. Such lines are before the last
+/// line of a reply.
+pub fn push_commit(text: &mut Vec<u8>, number: u64, commit: &CommitLine) -> Result<(), AllocError>
+    ensures { OnOk result (text.new.items
+        ≡ text.old.items ++ commit_text number (commit_line commit.now)) }
+{
+    text.extend_from_slice(b"commit ")?;
+    push_number(text, number)?;
+    push_names(text, b" -", commit.deleted.as_slice())?;
+    push_names(text, b" +", commit.inserted.as_slice())?;
+    text.extend_from_slice(b"\n")
+}
+
+/// The last line of a reply, which is all of it where it has no tokens and no commits.
 pub fn last_line_of(alloc: Global, session: u8, answer: &Reply) -> Result<Vec<u8>, AllocError>
     ensures { IfOk result (λ text. text.items ≡ last_line session (reply answer.now)) }
 {

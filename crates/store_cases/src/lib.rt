@@ -1,5 +1,5 @@
-//! Cases of the device in memory, of the log and its journal, of pages, records and item lists, of the state of a
-//! log, and of heads, new pages and snapshots, by their public calls.
+//! Cases of the device in memory, of the log, of pages in memory over their journal, of pages, records and item lists,
+//! of the state of a log, and of heads, new pages and snapshots, by their public calls.
 //!
 //! Cases are rows of text that one reader runs, for each kind of row, since a row costs nothing in proof and a
 //! function much. Tests are in a crate of their own, since a crate with tests is proved twice.
@@ -10,11 +10,11 @@ mod change_tests;
 #[cfg(test)]
 mod device_tests;
 #[cfg(test)]
+mod frames_tests;
+#[cfg(test)]
 mod heap_tests;
 #[cfg(test)]
 mod item_tests;
-#[cfg(test)]
-mod journal_tests;
 #[cfg(test)]
 mod list_tests;
 #[cfg(test)]

@@ -88,6 +88,11 @@ const ASKING: &str = "\
     ask ''''=ScriptLine { session: 0, statement: Ask(Text(~'~)) };\
     \x20\t@8 search 'it''s' \t=ScriptLine { session: 8, statement: Search(Text(~it's~)) };\
     @2 search 'end || @1'=ScriptLine { session: 2, statement: Search(Text(~end || @1~)) };\
+    @3 update 2/0#1 vector 'a'=ScriptLine { session: 3, statement: Update(Doc { text: ~2/0#1~, name: Name { page: 2, \
+    slot: 0, serial: 1 } }, Expr { first: Part { stripped: false, source: Text(~a~) }, others: [] }) };\
+    @1 delete\t4294967295/00#18446744073709551615 =ScriptLine { session: 1, statement: Delete(Doc { text: \
+    ~4294967295/00#18446744073709551615~, name: Name { page: 4294967295, slot: 0, serial: 18446744073709551615 } }) };\
+    \x20commits\t=ScriptLine { session: 0, statement: Commits };\
     @3\tinsert\tvector\t'é'\t=ScriptLine { session: 3, statement: Insert(Expr { first: Part { stripped: false, \
     source: Text(~é~) }, others: [] }) };\
     show c 'a b' || strip _d B 'c'=ScriptLine { session: 0, statement: Show(Expr { first: Part { stripped: false, \
@@ -112,7 +117,8 @@ const NO_STATEMENTS: &str = "\
     @1 @2 search 'a';@1 search a;@1 search strip vector 'a';ask 'a' 'b';@1 parse 'a';parse vector 'a';ask 'ÿ';\
     dictionary d simple;configuration c;parallel;show c a 'x';show c E 'x';show c A B 'x';show 9 'x';show c A;\
     show c 'x' || A strip 'x';ask c 'x';ask to 'x';ask to c;ask to vector 'x';ask To c 'x';ask to c A 'x';\
-    ask web c 'x' 'x'";
+    ask web c 'x' 'x';commits now;@1 commits;delete 2/0#1;@1 delete 2/65536#1;@1 delete +2/0#1;@1 delete 2/0;\
+    @1 delete 2/0#;@1 delete 2/0#1 x;@1 update 2/0#1;@1 update vector 'a'";
 
 /// The bytes of a line.
 fn bytes_of(alloc: Global, line: &str) -> Result<Vec<u8>, AllocError> {
@@ -216,6 +222,6 @@ fn scripts(rt: HostRuntime) -> Result<(), Fail> {
     try_rows(&rt, alloc, Kind::Script, STEPS, 8)?;
     try_rows(&rt, alloc, Kind::OpeningLine, OPENING_LINES, 32)?;
     try_rows(&rt, alloc, Kind::Mapping, MAPPINGS, 15)?;
-    try_rows(&rt, alloc, Kind::Statement, ASKING, 15)?;
-    try_rows(&rt, alloc, Kind::Nothing, NO_STATEMENTS, 54)
+    try_rows(&rt, alloc, Kind::Statement, ASKING, 18)?;
+    try_rows(&rt, alloc, Kind::Nothing, NO_STATEMENTS, 64)
 }

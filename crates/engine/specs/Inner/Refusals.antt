@@ -1,11 +1,20 @@
--- The refusals of a journal, as those of a store.
+-- The refusals of the journal and of pages in memory as those of the store.
 use Rattle.buffer_frames.specs.declared.log_error.LogError.{LogError}
-use Rattle.buffer_frames.specs.declared.log_error.LogError.TheVariants as log
+use Rattle.buffer_frames.specs.declared.log_error.LogError.TheVariants as logs
+use Rattle.buffer_frames.specs.declared.frame_error.FrameError.{FrameError}
+use Rattle.buffer_frames.specs.declared.frame_error.FrameError.TheVariants as frames
 use Rattle.engine.specs.declared.error.DbError.{DbError}
-use Rattle.engine.specs.declared.error.DbError.TheVariants.{LogFull, Down, DiskFault, OutOfMemory}
+use Rattle.engine.specs.declared.error.DbError.TheVariants as store
 
-abbrev pub db_error : LogError → DbError
-db_error log.DiskFault = DiskFault
-db_error log.LogFull = LogFull
-db_error (log.Down fault) = Down fault
-db_error log.OutOfMemory = OutOfMemory
+abbrev pub log_refusal : LogError → DbError
+log_refusal logs.DiskFault = store.DiskFault
+log_refusal logs.LogFull = store.LogFull
+log_refusal (logs.Down fault) = store.Down fault
+log_refusal logs.XidsSpent = store.XidsSpent
+log_refusal logs.OutOfMemory = store.OutOfMemory
+
+abbrev pub frame_refusal : FrameError → DbError
+frame_refusal frames.DiskFault = store.DiskFault
+frame_refusal (frames.Down fault) = store.Down fault
+frame_refusal (frames.BadPage page) = store.BadPage page
+frame_refusal frames.OutOfMemory = store.OutOfMemory

@@ -1,56 +1,83 @@
--- What a statement is answered, and what it does to the store.
-use Rattle.std.specs.Prelude.{◌≡◌, ◌⊎◌, ℕ, Result, Vec}
+-- What a statement is answered, and what it does to the store and its pass.
+use Rattle.std.specs.Prelude.{◌≡◌, ◌⊎◌, ℕ, Result, Vec, IfErr}
 use Rattle.std.specs.declared.alloc.Global.{Global}
 use Rattle.disk_trait.specs.declared.device.Disk.{Ghosts as Disk}
 use Rattle.ts_base.specs.Vectors.{Vector}
 use Rattle.ts_query.specs.Queries.{Query}
 use Rattle.ts_match.specs.Meaning.{Holds}
 use Rattle.ts_config.specs.Known.{Known}
-use Rattle.engine.specs.Finding.{Name, History}
-use Rattle.engine.specs.AtOpening.{AtOpening}
+use Rattle.engine.specs.Answers.{Pass}
+use Rattle.engine.specs.Finding.{Name}
 use Rattle.engine.specs.Db.{DbValue}
-use Rattle.engine.specs.Standing.{StandsFor, Rests}
-use Rattle.engine.specs.Answers.{HasInserted, HasFound}
+use Rattle.engine.specs.Work.{Work, inserting, updating, deleting}
+use Rattle.engine.specs.Answers.{HasStored, HasDeleted, HasFound, HasListed, OnlyReads, TakesSnapshot}
+use Rattle.engine.specs.Answers.{IsLawfulRefusal, MeetsNoBadPage}
+use Rattle.engine.specs.Going.{FaultIsTold}
+use Rattle.engine.specs.Standing.{GoesOn}
 use Rattle.engine.specs.declared.error.DbError.{DbError}
-use Rattle.shell_script.specs.Grammar.{Statement, insert, search, show, ask, parse, define, invalid}
+use Rattle.shell_script.specs.Grammar.{Statement, insert, update, delete, search, show, ask, parse, list_commits}
+use Rattle.shell_script.specs.Grammar.{define, invalid}
 use Rattle.shell_script.specs.Replies.{Reply, refused, no_statement}
 use Rattle.shell_run.specs.Defining.{IsDefined}
-use Rattle.shell_run.specs.Values.{IsValueOf, ExprFails, IsQueryOf, QueryFails, IsRefusedBy, IsShown, IsQueried, IsParsed}
-use Rattle.shell_run.specs.Inner.Refusing.{stored_reply, found_reply}
+use Rattle.shell_run.specs.Values.{IsValueOf, ExprFails, IsQueryOf, QueryFails, IsRefusedBy, IsShown, IsQueried}
+use Rattle.shell_run.specs.Values.{IsParsed}
+use Rattle.shell_run.specs.Inner.Refusing.{stored_reply, removed_reply, found_reply, IsListReply}
 
--- what a search is answered, whatever the store stands for
-abbrev pub Finds : {D : Type 0} → DbValue D → Query → Result (Vec Name Global) DbError → Type 0
-Finds s q answer = (found : AtOpening) (H : History) → StandsFor found s H → HasFound H s (Holds q) answer
+module _ {D : Type 0} (device : Disk D) (old new : DbValue D) (pass pass' : Pass) where
+  -- the store was not touched
+  abbrev pub Rests : Type 0
+  Rests = (new ≡ old) × (pass' ≡ pass)
 
-module _ {D : Type 0} (device : Disk D) where
-  -- what an insertion is answered, and what it leaves, whatever the store stood for
-  abbrev pub Inserts : DbValue D → DbValue D → Vector → Result Name DbError → Type 0
-  Inserts old new v answer =
-      (found : AtOpening) (H : History) → StandsFor found old H
-      → HasInserted device found H old new v answer
+  -- and the reply is of this kind
+  abbrev pub HasOnlyAnswered : (Reply → Type 0) → Reply → Type 0
+  HasOnlyAnswered P r = Rests × P r
 
-  -- the store was not touched, and the reply is of this kind
-  abbrev pub HasOnlyAnswered : DbValue D → DbValue D → (Reply → Type 0) → Reply → Type 0
-  HasOnlyAnswered old new P r = Rests device old new × P r
+  -- a call of the store was answered, on a lawful store not by a refusal without this, and the pass took
+  -- its snapshot
+  abbrev pub HasCalled : {T : Type 0} → (Result T DbError → Type 0) → (DbError → Type 0)
+      → (Result T DbError → Reply → Type 0) → Reply → Type 0
+  HasCalled {T} Has IsLawful IsReply r =
+      (answer : Result T DbError) × Has answer × FaultIsTold device old new answer × IfErr answer IsLawful
+      × GoesOn device old new × TakesSnapshot old new pass pass' × IsReply answer r
+
+  -- what work is answered that stores a document, and what other work is
+  abbrev pub HasStoredWork : Work → Reply → Type 0
+  HasStoredWork w r =
+      HasCalled (HasStored device old new pass' w) (IsLawfulRefusal device old w)
+      (λ (a : Result Name DbError). λ r. r ≡ stored_reply a) r
+
+  abbrev pub HasRemoved : Work → Reply → Type 0
+  HasRemoved w r =
+      HasCalled (HasDeleted device old new pass' w) (IsLawfulRefusal device old w)
+      (λ (a : Result (Unit {0}) DbError). λ r. r ≡ removed_reply a) r
+
+  -- what a call is answered that only reads
+  abbrev pub HasSearched : Query → Reply → Type 0
+  HasSearched q r =
+      OnlyReads device old new
+      × HasCalled (HasFound device old new (Holds q)) (MeetsNoBadPage device old)
+      (λ (a : Result (Vec Name Global) DbError). λ r. r ≡ found_reply a) r
+
+  abbrev pub HasListedCommits : Reply → Type 0
+  HasListedCommits r =
+      OnlyReads device old new × HasCalled (HasListed device old new) (MeetsNoBadPage device old) IsListReply r
 
   -- what the statement of this line is answered, before which this is defined
-  abbrev pub HasAnswered : Known → ℕ → DbValue D → DbValue D → Statement → Reply → Type 0
-  HasAnswered known line old new (insert e) r =
-      HasOnlyAnswered old new (IsRefusedBy (ExprFails known e)) r
-      ⊎ ((v : Vector) × IsValueOf known e v × ((answer : Result Name DbError)
-      × Inserts old new v answer × (r ≡ stored_reply answer)))
-  HasAnswered known line old new (search s) r =
-      HasOnlyAnswered old new (IsRefusedBy (QueryFails known s)) r
-      ⊎ ((q : Query) × IsQueryOf known s q × ((answer : Result (Vec Name Global) DbError)
-      × Rests device old new × Finds old q answer × (r ≡ found_reply answer)))
-  HasAnswered known line old new (show e) r =
-      HasOnlyAnswered old new (IsShown known e) r
-  HasAnswered known line old new (ask s) r =
-      HasOnlyAnswered old new (IsQueried known s) r
-  HasAnswered known line old new (parse text) r =
-      HasOnlyAnswered old new (IsParsed text) r
-  HasAnswered known line old new (define head ls) r =
-      HasOnlyAnswered old new (IsDefined known line head ls) r
-  HasAnswered known line old new invalid (refused (no_statement at)) =
-      Rests device old new × (at ≡ line)
-  HasAnswered known line old new invalid r = ⊥
+  abbrev pub HasAnswered : Known → ℕ → Statement → Reply → Type 0
+  HasAnswered known line (insert e) r =
+      HasOnlyAnswered (IsRefusedBy (ExprFails known e)) r
+      ⊎ ((v : Vector) × IsValueOf known e v × HasStoredWork (inserting v) r)
+  HasAnswered known line (update d e) r =
+      HasOnlyAnswered (IsRefusedBy (ExprFails known e)) r
+      ⊎ ((v : Vector) × IsValueOf known e v × HasStoredWork (updating d.name v) r)
+  HasAnswered known line (delete d) r = HasRemoved (deleting d.name) r
+  HasAnswered known line (search s) r =
+      HasOnlyAnswered (IsRefusedBy (QueryFails known s)) r
+      ⊎ ((q : Query) × IsQueryOf known s q × HasSearched q r)
+  HasAnswered known line list_commits r = HasListedCommits r
+  HasAnswered known line (show e) r = HasOnlyAnswered (IsShown known e) r
+  HasAnswered known line (ask s) r = HasOnlyAnswered (IsQueried known s) r
+  HasAnswered known line (parse text) r = HasOnlyAnswered (IsParsed text) r
+  HasAnswered known line (define head ls) r = HasOnlyAnswered (IsDefined known line head ls) r
+  HasAnswered known line invalid (refused (no_statement at)) = Rests × (at ≡ line)
+  HasAnswered known line invalid r = ⊥

@@ -8,7 +8,8 @@ use Rattle.shell_script.specs.Replies.{Refusal, no_statement, memory}
 use Rattle.shell_run.specs.Defining.{FirstIs, bytes_of, LineFails, LinesFail}
 
 -- none of the lines is bad, and this is made of them
-pub record IsMadeOf {V : Type 0} (IsBad : Line → Type 0) (Made : List (List ℕ) → V → Type 0) (ls : List Line) (kept : V) : Type 0 where
+pub record IsMadeOf {V : Type 0} (IsBad : Line → Type 0) (Made : List (List ℕ) → V → Type 0) (ls : List Line)
+    (kept : V) : Type 0 where
   pub good : All (λ (l : Line). ¬ IsBad l) ls
   pub made : Made (bytes_of ls) kept
 

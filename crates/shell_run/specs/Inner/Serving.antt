@@ -11,15 +11,14 @@ use Rattle.shell_run.specs.Inner.Sending.{Sends}
 use Rattle.shell_run.specs.Inner.Answering.{HasAnswered}
 use Rattle.shell_run.specs.Defining.{Becomes}
 use Rattle.shell_run.specs.Outcomes.{HasPrinted, is_refusal, some_refused}
-use Rattle.engine.specs.Finding.{History}
-use Rattle.engine.specs.AtOpening.{AtOpening, IsWidest}
+use Rattle.engine.specs.Answers.{Pass}
 use Rattle.shell_run.specs.Crash.{HasSamePages}
 use Rattle.engine.specs.Db.{DbValue}
 use Rattle.shell_run.specs.Run.{Exchange}
 use Rattle.shell_run.specs.declared.sending.TheConstants.{PIECE_BYTES}
 use Rattle.shell_run.specs.RanOn.{RanOn}
 use Rattle.shell_run.specs.RunMeets.{HasCauses, HasNotRun, HasRun}
-use Rattle.engine.specs.Opened.{OpenedAt}
+use Rattle.engine.specs.Opened.{Settings, OpenedAt}
 use Rattle.disk_trait.specs.declared.stream.Sink.{Ghosts as Sink}
 use Rattle.shell_run.specs.declared.serving.RunState.{RunState}
 
@@ -28,8 +27,8 @@ pub record HasTurned {D : Type 0} (device : Disk D) (step : Step) (old new : Run
     (session : ℕ) (reply : Reply) : Type 0 where
   pub statement : Statement
   pub says : Says step session statement
-  pub answered : HasAnswered device old.configs (line_of step).number old.store new.store statement
-      reply
+  pub answered : HasAnswered device old.store new.store old.pass new.pass old.configs (line_of step).number
+      statement reply
   pub becomes : Becomes old.configs statement reply new.configs
 
 -- the step was answered, and its reply's text is on its way
@@ -46,7 +45,8 @@ pub record Served {D : Type 0} (device : Disk D) (step : Step) (old new : RunSta
 pub record Passed {D : Type 0} (old new : RunState D) (before after : Option (List ℕ))
     (well : Bool) : Type 0 where
   pub short : well ≡ false
-  pub same : (new.store ≡ old.store) × (new.configs ≡ old.configs) × (new.refused ≡ old.refused)
+  pub same : (new.store ≡ old.store) × (new.pass ≡ old.pass) × (new.configs ≡ old.configs)
+      × (new.refused ≡ old.refused)
   pub text : Sends before after old.waiting.items new.waiting.items well
 
 -- The exchanges are those of a first part of the steps. Where this went well, they are those of all, and
@@ -56,23 +56,19 @@ pub record Ran (text : List ℕ) (before after : Option (List ℕ)) (exchanges :
   pub so_far : HasPrinted text before after exchanges
   pub whole : well ≡ true → (so_far.left ≡ []) × (so_far.unsent ≡ [])
 
--- The steps of a text were run over a store that had a history; the device is as it is left.
-pub record HasRunSteps {D E : Type 0} (device : Disk D) (found : AtOpening) (history : History)
-    (text : List ℕ) (before after : Option (List ℕ)) (opened : DbValue D) (disk : D)
-    (result : Result Bool E) : Type 0 where
+-- The steps of a text were run over a store just after its opening; the device is as it is left.
+pub record HasRunSteps {D E : Type 0} (device : Disk D) (text : List ℕ) (before after : Option (List ℕ))
+    (opened : DbValue D) (pass : Pass) (disk : D) (result : Result Bool E) : Type 0 where
   pub exchanges : List Exchange
-  pub commits : History
   pub ran : Ran text before after exchanges (is_ok result)
   pub flag : IfOk result (λ refused. refused ≡ some_refused exchanges)
-  pub over : (first : D) (c0 : ℕ) → IsWidest found
-      → OpenedAt device found history first c0 opened
-      → RanOn device history first disk commits exchanges
-      × (device.tells → HasSamePages device first disk)
+  pub over : (settings : Settings) (first : D) (c0 : ℕ) → OpenedAt device settings first c0 opened pass
+      → RanOn device settings first disk exchanges × (device.tells → HasSamePages device first disk)
 
 -- What a text is answered, where the words are right and the text is a whole script.
-pub record ServeMeets {K D : Type 0} (sink : Sink K) (device : Disk D) (text : List ℕ) (status : ℕ)
-    (out out' : K) (disk disk' : D) : Type 0 where
+pub record ServeMeets {K D : Type 0} (sink : Sink K) (device : Disk D) (settings : Settings) (text : List ℕ)
+    (status : ℕ) (out out' : K) (disk disk' : D) : Type 0 where
   pub range : (status ≤ 7) × (status ≢ 2) × (status ≢ 6)
   pub causes : HasCauses sink device status out out' disk disk'
   pub headline : HasNotRun sink device status out out' disk disk'
-      ⊎ HasRun sink device text status out out' disk disk'
+      ⊎ HasRun sink device settings text status out out' disk disk'

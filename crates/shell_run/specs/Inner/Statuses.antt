@@ -3,7 +3,8 @@ use Rattle.std.specs.Prelude.{ℕ, Bool, true, false}
 use Rattle.engine.specs.Opening as opening
 use Rattle.engine.specs.Opening.{OpenFault}
 use Rattle.shell_run.specs.declared.error.Stop.{Stop}
-use Rattle.shell_run.specs.declared.error.Stop.TheVariants.{SourceFault, TooLong, NotAStore, DiskFault, SinkFault, OutOfMemory}
+use Rattle.shell_run.specs.declared.error.Stop.TheVariants.{SourceFault, TooLong, NotAStore, DiskFault, SinkFault}
+use Rattle.shell_run.specs.declared.error.Stop.TheVariants.{OutOfMemory}
 
 -- the status of a run that stopped
 abbrev pub stop_number : Stop → ℕ

@@ -2,11 +2,14 @@
 use Rattle.std.specs.Prelude.{◌≡◌, ℕ, List, ◌∷◌}
 use Rattle.std.specs.Str.{IsUtf8}
 use Rattle.shell_script.specs.Tokens.{ScriptToken, word, IsSpelled}
-use Rattle.shell_script.specs.Grammar.{Statement, insert, search, show, ask, parse, IsExpr, IsQuery, IsNamed, HasSession, body_tokens, statement_tokens}
+use Rattle.shell_script.specs.Docs.{IsDoc}
+use Rattle.shell_script.specs.Grammar.{Statement, insert, update, delete, search, show, ask, parse, list_commits, IsExpr, IsQuery, IsNamed, HasSession, body_tokens, statement_tokens}
 
--- the statements that a session's label comes before, in which a name is a NAME
+-- the statements that a session's label comes before, in which a name is a NAME or a DOC
 abbrev pub IsOfSession : Statement → Type 0
 IsOfSession (insert e) = IsExpr e
+IsOfSession (update d e) = IsDoc d × IsExpr e
+IsOfSession (delete d) = IsDoc d
 IsOfSession (search q) = IsQuery q
 IsOfSession statement = ⊥
 
@@ -15,6 +18,7 @@ abbrev pub IsPlain : Statement → Type 0
 IsPlain (show e) = IsExpr e
 IsPlain (ask q) = IsQuery q
 IsPlain (parse text) = Unit {0}
+IsPlain list_commits = Unit {0}
 IsPlain statement = ⊥
 
 -- the body of such a statement is this word and the tokens of what is after it

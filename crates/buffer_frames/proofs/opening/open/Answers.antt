@@ -37,6 +37,8 @@ invariant_of-journal g c =
     let disk : g.row.D.Denot = c.open_parts.new.disk in (
       c.in-Ok.ensures.ready,
       c.in-Ok.ensures.fits,
+      c.in-Ok.ensures.some,
+      omega (arith, (at.1).xid_limit, c.requires.xids),
       subst (λ (d : g.row.D.Denot). KeepsHistory g.D.Disk (seen_as disk p.wal p.state.value p.flushed p.owes d))
           (sym c.of-opened.ensures)
           (λ t. keeps_opened g.D.Disk c.counted_are_one.ensures

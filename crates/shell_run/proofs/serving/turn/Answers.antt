@@ -16,7 +16,7 @@ pub returns-in-Some-clause-turned : goal.returns-in-Some-clause-turned
 returns-in-Some-clause-turned g c =
     rw c.in-Definition.is (turned_definition g.D.Disk
     (shown c.in-Definition.line) c.in-Definition.body c.args.state.now _ (opening_line_of c.in-Some.head)
-    (reply c.define.result) c.in-Some.ensures.some refl c.define.ensures.answered c.define.ensures.becomes)
+    (reply c.define.result) c.in-Some.ensures.some (refl, refl) c.define.ensures.answered c.define.ensures.becomes)
 
 pub returns-in-None-clause-turned : goal.returns-in-None-clause-turned
 returns-in-None-clause-turned g c = rw c.in-Definition.is (turned_nothing g.D.Disk

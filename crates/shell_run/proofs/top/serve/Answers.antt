@@ -1,4 +1,5 @@
-use Rattle.std.proofs.Common.{inl, arith, sym, ◌∙◌}
+use Rattle.std.proofs.Common.{inl, arith, sym, subst, ◌∙◌}
+use Rattle.shell_run.specs.Inner.Serving.{ServeMeets}
 use Rattle.shell_run.proofs.Ending.{unopened, stop_is, at_store, at_fault, at_memory}
 use Rattle.shell_run.proofs.Served.{serve_short, serve_stopped, serve_ended}
 use Rattle.shell_run.proofs.Streams.{appends_none}
@@ -6,7 +7,7 @@ use Rattle.shell_run.proofs.top.serve.Goals as goal
 
 pub returns-in_default : goal.returns-in_default
 returns-in_default g c =
-    serve_short g.K.Sink g.D.Disk c.args.out.now c.args.device c.args.text.now c.status.result
+    serve_short g.K.Sink g.D.Disk c.args.out.now c.args.device _ c.args.text.now c.status.result
     c.status.ensures
 
 pub returns-in-Err : goal.returns-in-Err
@@ -44,28 +45,22 @@ returns-in-Err g c =
 
 pub returns-in-Err-ran : goal.returns-in-Err-ran
 returns-in-Err-ran g c =
-    let o = c.in-Ok-open.ensures.opened.1 in
-    serve_stopped g.K.Sink g.D.Disk _ _ _ c.args.device _ o.0 o.1 o.2 _ _ c.in-Err-ran.stop _
-    (record {
-      widest = o.3;
-      opened = o.4;
-      a_store = c.in-Ok-open.ensures.store;
-      ran =
-          c.run_steps-device.ensures.ran o.0 o.1 o.5;
-    })
+    let o = c.in-Ok-open.ensures.opened in
+    subst (λ z. ServeMeets g.K.Sink g.D.Disk z c.args.text.now c.status-in-Err-ran.result c.args.out.now
+    c.run_steps-device.new.out c.args.device c.run_steps-device.result.0) c.settings_of.ensures
+    (serve_stopped g.K.Sink g.D.Disk c.settings_of.result c.args.text.now c.args.out.now c.run_steps-device.new.out
+    c.args.device c.run_steps-device.result.0 o.0 _ _ _ c.in-Err-ran.stop c.status-in-Err-ran.result
+    (record { opened = o.1; a_store = c.in-Ok-open.ensures.store; ran = c.run_steps-device.ensures.ran })
     c.in-Err-ran.is c.run_steps-device.ensures.error c.run_steps-device.ensures.fault
-    c.status-in-Err-ran.ensures
+    c.status-in-Err-ran.ensures)
 
 pub returns : goal.returns
 returns g c =
-    let o = c.in-Ok-open.ensures.opened.1 in
-    serve_ended g.K.Sink g.D.Disk _ _ _ c.args.device _ o.0 o.1 o.2 _ _ c.in-Ok-ran.refused _
-    (record {
-      widest = o.3;
-      opened = o.4;
-      a_store = c.in-Ok-open.ensures.store;
-      ran =
-          c.run_steps-device.ensures.ran o.0 o.1 o.5;
-    })
+    let o = c.in-Ok-open.ensures.opened in
+    subst (λ z. ServeMeets g.K.Sink g.D.Disk z c.args.text.now c.ending_status.result c.args.out.now
+    c.run_steps-device.new.out c.args.device c.run_steps-device.result.0) c.settings_of.ensures
+    (serve_ended g.K.Sink g.D.Disk c.settings_of.result c.args.text.now c.args.out.now c.run_steps-device.new.out
+    c.args.device c.run_steps-device.result.0 o.0 _ _ _ c.in-Ok-ran.refused c.ending_status.result
+    (record { opened = o.1; a_store = c.in-Ok-open.ensures.store; ran = c.run_steps-device.ensures.ran })
     c.in-Ok-ran.is c.faults-before.result c.faults.result c.faults-before.ensures c.faults.ensures
-    c.ending_status.ensures
+    c.ending_status.ensures)

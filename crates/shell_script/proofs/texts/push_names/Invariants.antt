@@ -1,7 +1,6 @@
-use Rattle.std.proofs.Common.{◌≡◌, ◌++◌, take, codes}
-use Rattle.std.specs.List.{flat_map}
-use Rattle.shell_script.specs.Texts.{name_text}
+use Rattle.std.proofs.Common.{◌≡◌, ◌++◌, take}
+use Rattle.shell_script.specs.Texts.{names_after}
 use Rattle.shell_script.proofs.texts.push_names.Given as goal
 
 abbrev pub invariant-loop-n : goal.invariant-loop-n
-invariant-loop-n l = l.text.items ≡ l.fn.text.items ++ flat_map (λ n. codes " " ++ name_text n) (take l.n-index l.names)
+invariant-loop-n l = l.text.items ≡ l.fn.text.items ++ names_after l.before (take l.n-index l.names)

@@ -67,6 +67,8 @@ invariant_of-self g c =
     c.commits-self-inside.result c.self.inside.owes c.self.inside.opened.value in (
       c.flush.ensures.same.0,
       c.self.invariant.1,
+      c.self.invariant.2,
+      c.self.invariant.3,
       flush_keeps g.D.Disk c.counted_are_one.ensures i i' refl (λ f is. (c.flush.ensures.stays_down f is).0)
           (λ t. moments_either g.D.Disk i c.self.inside.disk c.flush.new.disk c.self.inside.wal
           c.self.inside.state.value c.self.inside.flushed c.self.inside.owes c.self.inside.opened.value refl t
@@ -75,7 +77,7 @@ invariant_of-self g c =
           c.self.inside.state.value c.self.inside.flushed c.commits-self-inside.result c.self.inside.owes
           c.self.inside.opened.value c.flush.result tt refl c.in-Ok.is c.flush.ensures.is_down
           c.commits-self-inside.ensures c.in-Ok.ensures.ok.0 c.in-Ok.ensures.counts)
-          c.self.invariant.2,
+          c.self.invariant.4,
     )
 
 pub invariant_of-self-in-Err : goal.invariant_of-self-in-Err
@@ -86,6 +88,8 @@ invariant_of-self-in-Err g c =
     c.self.inside.flushed c.self.inside.owes c.self.inside.opened.value in (
       c.flush.ensures.same.0,
       c.self.invariant.1,
+      c.self.invariant.2,
+      c.self.invariant.3,
       flush_keeps g.D.Disk c.counted_are_one.ensures i i' refl (λ f is. (c.flush.ensures.stays_down f is).0)
           (λ t. moments_either g.D.Disk i c.self.inside.disk c.flush.new.disk c.self.inside.wal
           c.self.inside.state.value c.self.inside.flushed c.self.inside.owes c.self.inside.opened.value refl t
@@ -94,5 +98,5 @@ invariant_of-self-in-Err g c =
           c.self.inside.state.value c.self.inside.flushed (g.D.Disk.fault_count c.flush.new.disk) c.self.inside.owes
           c.self.inside.opened.value c.flush.result c.in-Err.error refl c.in-Err.is c.in-Err.ensures.error
           c.flush.ensures.is_down c.flush.ensures.goes_down c.flush.ensures.stays_down)
-          c.self.invariant.2,
+          c.self.invariant.4,
     )

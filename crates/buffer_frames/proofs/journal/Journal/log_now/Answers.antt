@@ -1,70 +1,36 @@
-use Rattle.std.proofs.Common.{◌+◌, ◌^◌, ◌≤◌, cond, false, inl, inr, ⊎_elim, refl, sym, ap, subst, ◌∙◌, rules, arith}
-use Rattle.wal.specs.Waiting.{down_of}
-use Rattle.core_state.specs.States.{StateValue}
-use Rattle.buffer_frames.specs.Journals.{JournalValue, AreNext, next_number}
-use Rattle.buffer_frames.specs.Logging.{HasLogged}
-use Rattle.buffer_frames.proofs.InsertNumbers.{insert_fits, next_fits}
-use Rattle.buffer_frames.proofs.Beginning.{still_keeps, logged_keeps}
-use Rattle.buffer_frames.proofs.Refused.{IsKept, append_refused, append_error}
-use Rattle.buffer_frames.proofs.Flushing.{seen_as, kept_journal}
-use Rattle.buffer_frames.proofs.Logged.{same_stands, logged_stands}
+use Rattle.std.proofs.Common.{◌≤◌, sym, ap, subst, ◌∙◌}
+use Rattle.page_types.specs.declared.record.Record.{Record}
+use Rattle.buffer_frames.specs.Journals.{JournalValue, after_owed}
+use Rattle.buffer_frames.specs.Opens.{IsEarlyKind}
+use Rattle.buffer_frames.proofs.Beginning.{early_drawn}
+use Rattle.page_types.specs.Records.{IsRecord}
+use Rattle.core_state.specs.Log.{xid_bound}
+use Rattle.buffer_frames.specs.Inner.Following.{GoesOn}
+use Rattle.buffer_frames.proofs.DrawnRecords.{owed_number}
+use Rattle.buffer_frames.proofs.Logged.{can_draw}
 use Rattle.buffer_frames.proofs.journal.Journal.log_now.Goals as goal
 
-pub returns-in-Err-clause-refused : goal.returns-in-Err-clause-refused
-returns-in-Err-clause-refused g c =
-    let same = c.append.ensures.same in
-    let kept : IsKept c.self.inside.wal c.append.new.self = append_refused c.self.inside.wal c.append.new.self
-    c.append.result c.in-Err.error c.in-Err.is c.append.ensures.err same.0 same.3 in
-    kept_journal c.args.self.now c.self.inside.disk c.self.inside.disk c.self.inside.wal c.append.new.self
-    c.self.inside.state.value c.make_room_to_insert.new.self.value c.self.inside.flushed c.self.inside.owes
-    c.self.inside.opened.value c.self.view_is
-    refl c.make_room_to_insert.ensures.same same.1 kept
+pub put-requires-clause-next : goal.put-requires-clause-next
+put-requires-clause-next g c =
+    ap (λ (r : Record). r.number) c.in_ok-rec.ensures.drawn ∙ owed_number c.args.self.now.owes c.args.self.now.state
 
-pub returns-in-Err-clause-error : goal.returns-in-Err-clause-error
-returns-in-Err-clause-error g c =
-    let up = ap (λ (k : JournalValue g.row.D.Denot). down_of k.wal) c.self.view_is ∙ c.requires.up in
-    ⊎_elim (λ e. inl (c.from.ensures ∙ e)) (λ e. inr (c.from.ensures ∙ e)) (append_error c.append.result c.in-Err.error
-    (down_of c.self.inside.wal) c.in-Err.is up c.append.ensures.is_down)
+pub put-requires-clause-early : goal.put-requires-clause-early
+put-requires-clause-early g c =
+    subst (λ (r : Record). IsEarlyKind r.kind) (sym c.in_ok-rec.ensures.drawn)
+    (early_drawn (after_owed c.args.self.now.owes c.args.self.now.state) c.args.step.now.kind c.requires.early)
 
-pub invariant_of-self-in-Err : goal.invariant_of-self-in-Err
-invariant_of-self-in-Err g c =
-    let same = c.append.ensures.same in
-    let kept : IsKept c.self.inside.wal c.append.new.self = append_refused c.self.inside.wal c.append.new.self
-    c.append.result c.in-Err.error c.in-Err.is c.append.ensures.err same.0 same.3 in
-    let i : JournalValue g.row.D.Denot = seen_as c.self.inside.disk c.self.inside.wal c.self.inside.state.value
-    c.self.inside.flushed c.self.inside.owes c.self.inside.opened.value in
-    let i' : JournalValue g.row.D.Denot = seen_as c.self.inside.disk c.append.new.self
-    c.make_room_to_insert.new.self.value c.self.inside.flushed c.self.inside.owes c.self.inside.opened.value in (
-      search rules,
-      omega (arith, c.self.invariant.1, ap (λ (v : StateValue). v.records) c.make_room_to_insert.ensures.same),
-      still_keeps g.D.Disk c.counted_are_one.ensures i i' refl refl
-          (λ R s. same_stands g.D.Disk i i' R s
-          (kept_journal i c.self.inside.disk c.self.inside.disk c.self.inside.wal c.append.new.self
-          c.self.inside.state.value c.make_room_to_insert.new.self.value c.self.inside.flushed c.self.inside.owes
-          c.self.inside.opened.value refl
-          refl c.make_room_to_insert.ensures.same same.1 kept))
-          c.self.invariant.2,
-    )
+pub put-requires-clause-follow : goal.put-requires-clause-follow
+put-requires-clause-follow g c t up found opens =
+    let limit : c.args.self.now.state.xid_limit ≤ xid_bound =
+    subst (λ (k : JournalValue g.row.D.Denot). k.state.xid_limit ≤ xid_bound) c.self.view_is c.self.invariant.3 in
+    let can = can_draw c.args.self.now c.args.step.now
+    (subst IsRecord c.in_ok-rec.ensures.drawn c.in_ok-rec.ensures.encoded) c.requires.xids limit in
+    subst (λ (r : Record). GoesOn g.D.Disk c.args.self.now r) (sym c.in_ok-rec.ensures.drawn)
+    (c.requires.follow can t up found opens)
 
-pub invariant_of-self-2 : goal.invariant_of-self-2
-invariant_of-self-2 g c =
-    let i : JournalValue g.row.D.Denot = seen_as c.self.inside.disk c.self.inside.wal c.self.inside.state.value
-    c.self.inside.flushed c.self.inside.owes c.self.inside.opened.value in
-    let i' : JournalValue g.row.D.Denot = seen_as c.self.inside.disk c.append.new.self c.step_insert.new.state.value
-    c.self.inside.flushed false c.self.inside.opened.value in
-    let has : HasLogged i i' c.args.records.now = search rules in
-    let next : AreNext (next_number i) c.args.records.now = subst (λ (k : JournalValue g.row.D.Denot). AreNext
-    (next_number k) c.args.records.now) (sym c.self.view_is) c.requires.next in (
-      c.append.ensures.same.2 ∙ c.self.invariant.0,
-      subst (λ k. k + 2 ≤ 2 ^ 63) (sym (ap (λ (v : StateValue). v.records) c.step_insert.ensures))
-          (insert_fits c.step_owed.new.state.value c.args.self.now.state c.args.records.now c.self.inside.owes
-          c.length-number.result
-          c.requires.insert (subst (λ n. AreNext (1 + (n + cond c.self.inside.owes 1 0)) c.args.records.now)
-          (sym c.length-number.ensures) next)
-          c.if-number-gt-MOST_RECORDS.false),
-      logged_keeps g.D.Disk c.counted_are_one.ensures (λ t d. g.met.D.Disk.seen_is_image d t) i c.args.self.now i'
-          c.args.records.now c.self.view_is c.requires.up c.requires.follow refl refl
-          (λ R s. logged_stands g.D.Disk i i' c.args.records.now R s has next
-          (next_fits c.self.inside.state.value.records c.self.invariant.1))
-          c.self.invariant.2,
-    )
+pub returns-clause-can_draw : goal.returns-clause-can_draw
+returns-clause-can_draw g c =
+    let limit : c.args.self.now.state.xid_limit ≤ xid_bound =
+    subst (λ (k : JournalValue g.row.D.Denot). k.state.xid_limit ≤ xid_bound) c.self.view_is c.self.invariant.3 in
+    can_draw c.args.self.now c.args.step.now
+    (subst IsRecord c.in_ok-rec.ensures.drawn c.in_ok-rec.ensures.encoded) c.requires.xids limit

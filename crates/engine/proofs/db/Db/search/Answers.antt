@@ -1,14 +1,21 @@
-use Rattle.std.proofs.Common.{sym, subst, ◌∙◌}
-use Rattle.ts_match.specs.Meaning.{Holds}
-use Rattle.engine.specs.Finding.{IsFound}
-use Rattle.engine.specs.Standing.{IsUp}
-use Rattle.engine.proofs.Held.{sees_all}
+-- A search of the flushed commits.
+use Rattle.std.proofs.Common.{subst}
+use Rattle.buffer_frames.specs.Beginnings.{HasFlushed}
+use Rattle.engine.specs.Db.{DbValue}
+use Rattle.engine.proofs.Growing.{goes_on_by}
+use Rattle.engine.proofs.Searching.{only_reads}
+use Rattle.engine.proofs.PinsRisen.{others_stay}
 use Rattle.engine.proofs.db.Db.search.Goals as goal
 
-pub returns-in-Ok : goal.returns-in-Ok
-returns-in-Ok g c = λ found H held.
-    let up : IsUp c.args.self.now = subst IsUp c.self.view_is (sym c.fault.ensures ∙ c.in_default.is) in (
-      up,
-      subst (λ ds. IsFound (Holds c.args.query.now) ds c.in-Ok.names.items)
-          (sym (sees_all g.D.Disk found c.args.self.now H held up)) c.in-Ok.ensures,
-    )
+pub returns-clause-others : goal.returns-clause-others
+returns-clause-others g c =
+    others_stay g.D.Disk c.search_now-found.ensures.path _ c.search_now-found.ensures.session
+
+pub returns-clause-reads : goal.returns-clause-reads
+returns-clause-reads g c = only_reads g.D.Disk _ _ c.search_now-found.ensures.path
+
+pub returns-clause-goes_on : goal.returns-clause-goes_on
+returns-clause-goes_on g c =
+    goes_on_by g.D.Disk c.search_now-found.ensures.path
+    (subst (λ (s : DbValue g.row.D.Denot). HasFlushed g.D.Disk s.frames.journal) c.self.view_is
+    c.keeps_history.ensures.flushed)

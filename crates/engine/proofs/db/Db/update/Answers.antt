@@ -1,0 +1,20 @@
+-- A document takes the place of another.
+use Rattle.std.proofs.Common.{subst}
+use Rattle.buffer_frames.specs.Beginnings.{HasFlushed}
+use Rattle.engine.specs.Db.{DbValue}
+use Rattle.engine.proofs.Growing.{goes_on_by}
+use Rattle.engine.proofs.PinsRisen.{others_stay}
+use Rattle.engine.proofs.db.Db.update.Goals as goal
+
+pub returns-clause-others : goal.returns-clause-others
+returns-clause-others g c =
+    others_stay g.D.Disk (c.store-stored.ensures.path).1 _ c.store-stored.ensures.session
+
+pub returns-clause-goes_on : goal.returns-clause-goes_on
+returns-clause-goes_on g c =
+    goes_on_by g.D.Disk c.store-stored.ensures.path.1
+    (subst (λ (s : DbValue g.row.D.Denot). HasFlushed g.D.Disk s.frames.journal) c.self.view_is
+    c.keeps_history.ensures.flushed)
+
+pub returns-clause-lawful : goal.returns-clause-lawful
+returns-clause-lawful g c = c.store-stored.ensures.lawful

@@ -1,0 +1,117 @@
+// A script of statements over a store that grows.
+use std::alloc::{AllocError, Global};
+
+/// The statements of a script, in turn: of which session, what they do, the numbers of the first and the last one, and
+/// what they are called. A document with a number below 60 lies on page 2, in that slot.
+const FEW: &str = "\
+1 insert 0 100 inserts behind 0
+4 update 0 15 updates among 100
+5 delete 15 30 deletes among 100
+2 insert 100 200 inserts behind 100
+6 update 30 45 updates among 200
+7 delete 45 60 deletes among 200
+8 search 0 10 searches among 200";
+
+/// The same where time is asked for.
+const MANY: &str = "\
+1 insert 0 1000 inserts behind 0
+4 update 0 15 updates among 1000
+5 delete 15 30 deletes among 1000
+2 insert 1000 19000 inserts behind 1000
+3 insert 19000 20000 inserts behind 19000
+6 update 30 45 updates among 20000
+7 delete 45 60 deletes among 20000
+8 search 0 10 searches among 20000";
+
+/// So many statements of a session.
+#[derive(Clone, Copy, Debug)]
+pub(crate) struct Row<'a> {
+    /// The session's number.
+    pub(crate) session: u32,
+    /// The verb.
+    verb: &'a str,
+    /// The numbers of the first and the last one.
+    first: u32,
+    end: u32,
+    /// What they are called.
+    pub(crate) name: &'a str,
+}
+
+impl<'a> Row<'a> {
+    /// The row that a line says.
+    fn read(line: &'a str) -> Row<'a> {
+        let mut words = line.splitn(5, ' ');
+        let session = words.next().unwrap_or("").parse().unwrap_or(0);
+        let verb = words.next().unwrap_or("");
+        let first = words.next().unwrap_or("").parse().unwrap_or(0);
+        let end = words.next().unwrap_or("").parse().unwrap_or(0);
+        let name = words.next().unwrap_or("");
+        Row {
+            session,
+            verb,
+            first,
+            end,
+            name,
+        }
+    }
+
+    /// How many statements these are.
+    pub(crate) fn count(&self) -> u32 {
+        self.end.saturating_sub(self.first)
+    }
+}
+
+/// The rows of the script.
+pub(crate) fn rows(alloc: Global, timed: bool) -> Result<Vec<Row<'static>>, AllocError> {
+    let text = if timed { MANY } else { FEW };
+    text.lines().map(Row::read).collect(alloc)
+}
+
+/// Pushes eight words, as numbers drawn one after another say.
+fn push_words(script: &mut String, drawn: &mut u32) -> Result<(), AllocError> {
+    script.push_str(" simple '")?;
+    for _ in 0..8 {
+        *drawn = drawn.wrapping_mul(1_664_525).wrapping_add(1_013_904_223);
+        write!(script, " w{}", *drawn >> 22)?;
+    }
+    script.push_str("'\n")
+}
+
+/// Pushes the statement of this number.
+fn push_statement(
+    script: &mut String,
+    row: &Row<'_>,
+    number: u32,
+    drawn: &mut u32,
+) -> Result<(), AllocError> {
+    write!(script, "@{} {}", row.session, row.verb)?;
+    match row.verb {
+        "search" => script.push_str(" 'w241'\n"),
+        "insert" => push_words(script, drawn),
+        _ => {
+            write!(script, " 2/{number}#{}", number.saturating_add(1))?;
+            if row.verb == "update" {
+                return push_words(script, drawn);
+            }
+            script.push('\n')
+        }
+    }
+}
+
+/// Pushes the statements of a row.
+fn push_row(script: &mut String, row: &Row<'_>, drawn: &mut u32) -> Result<(), AllocError> {
+    for number in row.first..row.end {
+        push_statement(script, row, number, drawn)?;
+    }
+    Ok(())
+}
+
+/// The script of these rows.
+pub(crate) fn script_of(alloc: Global, rows: &[Row<'_>]) -> Result<Vec<u8>, AllocError> {
+    let mut script = String::new(alloc);
+    let mut drawn = 0;
+    for row in rows {
+        push_row(&mut script, row, &mut drawn)?;
+    }
+    Ok(script.into_bytes())
+}

@@ -1,0 +1,93 @@
+-- What each statement is answered by the store as it was, and how it leaves it, on every device.
+use Rattle.std.specs.Prelude.{◌≡◌, ◌⊎◌, ℕ, ◌+◌, ◌≤◌, List, [], ◌∷◌}
+use Rattle.disk_trait.specs.declared.device.Disk.{Ghosts as Disk}
+use Rattle.ts_base.specs.Vectors.{Vector}
+use Rattle.ts_query.specs.Queries.{Query}
+use Rattle.ts_config.specs.Known.{Known}
+use Rattle.engine.specs.Db.{DbValue, disk_of, IsUp, IsFlushed}
+use Rattle.engine.specs.Finding.{Name}
+use Rattle.engine.specs.Work.{Work, inserting, updating, deleting}
+use Rattle.engine.specs.Answers.{Pass, HasCommitted, HasRefused, OnlyReads, CannotRead}
+use Rattle.engine.specs.declared.error.DbError.{DbError}
+use Rattle.shell_script.specs.Grammar.{Statement, insert, update, delete, search, show, ask, parse, list_commits}
+use Rattle.shell_script.specs.Grammar.{define, invalid}
+use Rattle.shell_script.specs.Replies.{Reply, stored, removed, lists, shows_commits, refused, no_statement}
+use Rattle.shell_run.specs.Defining.{IsDefined}
+use Rattle.shell_run.specs.Values.{IsValueOf, ExprFails, IsQueryOf, QueryFails, IsRefusedBy, IsShown, IsQueried}
+use Rattle.shell_run.specs.Values.{IsParsed}
+use Rattle.shell_run.specs.Refusing.{refusal_for}
+use Rattle.shell_run.specs.Run.{Exchange, MayCall, IsOkOfChange}
+
+-- The store as a statement found it and as it left it. The exchange's clock and counts are those that its
+-- device then has.
+pub record IsLeftBy {D : Type 0} (device : Disk D) (exchange : Exchange) (before after : DbValue D)
+    : Type 0 where
+  pub later : device.clock (disk_of before) ≤ device.clock (disk_of after)
+  pub clock : exchange.note.clock ≡ device.clock (disk_of after)
+  pub count : exchange.note.count ≡ device.fault_count (disk_of after)
+  pub faults : device.fault_count (disk_of before) + exchange.note.faults ≡ device.fault_count (disk_of after)
+  pub writes : device.write_fault_count (disk_of before) + exchange.note.writes
+      ≡ device.write_fault_count (disk_of after)
+  -- where it changed documents and answered Ok, the store is up and nothing of it waits for a flush
+  pub flushed : IsOkOfChange exchange.reply → IsUp after × IsFlushed after
+  -- a statement that can't call the device leaves all as it was
+  pub uncalled : (MayCall exchange.statement exchange.reply → ⊥) → after ≡ before
+
+-- the reply is the store's answer Ok, or a refusal that such an error is printed as
+abbrev pub IsReplyFor : (Reply → Type 0) → (DbError → Type 0) → Reply → Type 0
+IsReplyFor IsOk Cause (refused why) = (e : DbError) × (why ≡ refusal_for e) × Cause e
+IsReplyFor IsOk Cause reply = IsOk reply
+
+module _ {D : Type 0} (device : Disk D) (old new : DbValue D) where
+  -- replies Ok to work: its commit is done
+  abbrev pub IsStored : Work → Reply → Type 0
+  IsStored w (stored name) = (pass : Pass) × HasCommitted device old new pass w name
+  IsStored w reply = ⊥
+
+  abbrev pub IsRemoved : Work → Reply → Type 0
+  IsRemoved w removed = (pass : Pass) × (name : Name) × HasCommitted device old new pass w name
+  IsRemoved w reply = ⊥
+
+  -- replies Ok to what only reads
+  abbrev pub IsListOfNames : Reply → Type 0
+  IsListOfNames (lists names) = IsUp old
+  IsListOfNames reply = ⊥
+
+  abbrev pub IsListOfCommits : Reply → Type 0
+  IsListOfCommits (shows_commits ls) = IsUp old
+  IsListOfCommits reply = ⊥
+
+module _ {D : Type 0} (device : Disk D) where
+  -- The store was as `old`, and is as `new` after the statement. What is answered Ok was done, and each
+  -- refusal has its cause, told of the store as it was or at the step that met it. A statement that doesn't
+  -- come to the store leaves it.
+  abbrev pub IsCaused : DbValue D → DbValue D → Known → ℕ → Statement → Reply → Type 0
+  IsCaused old new known line (insert e) r =
+      (IsRefusedBy (ExprFails known e) r × (new ≡ old))
+      ⊎ ((v : Vector) × IsValueOf known e v
+      × IsReplyFor (IsStored device old new (inserting v)) (HasRefused device old new (inserting v)) r)
+  IsCaused old new known line (update d e) r =
+      (IsRefusedBy (ExprFails known e) r × (new ≡ old))
+      ⊎ ((v : Vector) × IsValueOf known e v
+      × IsReplyFor (IsStored device old new (updating d.name v)) (HasRefused device old new (updating d.name v)) r)
+  IsCaused old new known line (delete d) r =
+      IsReplyFor (IsRemoved device old new (deleting d.name)) (HasRefused device old new (deleting d.name)) r
+  IsCaused old new known line (search s) r =
+      (IsRefusedBy (QueryFails known s) r × (new ≡ old))
+      ⊎ ((q : Query) × IsQueryOf known s q × OnlyReads device old new
+      × IsReplyFor (IsListOfNames device old new) (CannotRead device old new) r)
+  IsCaused old new known line list_commits r =
+      OnlyReads device old new × IsReplyFor (IsListOfCommits device old new) (CannotRead device old new) r
+  IsCaused old new known line (show e) r = IsShown known e r × (new ≡ old)
+  IsCaused old new known line (ask s) r = IsQueried known s r × (new ≡ old)
+  IsCaused old new known line (parse text) r = IsParsed text r × (new ≡ old)
+  IsCaused old new known line (define head ls) r = IsDefined known line head ls r × (new ≡ old)
+  IsCaused old new known line invalid (refused (no_statement at)) = (at ≡ line) × (new ≡ old)
+  IsCaused old new known line invalid r = ⊥
+
+  -- The statements of these exchanges, one after another, took the store from the one state to the other.
+  abbrev pub AreCaused : List Exchange → DbValue D → DbValue D → Type 0
+  AreCaused [] old new = new ≡ old
+  AreCaused (x ∷ xs) old new =
+      (next : DbValue D) × IsCaused old next x.known x.line x.statement x.reply
+      × IsLeftBy device x old next × AreCaused xs next new
