@@ -2,7 +2,6 @@
 use Rattle.std.proofs.Common.{◌≡◌, ◌≢◌, ◌⊎◌, ◌<◌, ◌≤◌, ◌+◌, ◌-◌, ℕ, zero, suc, Bool, true, false, List, [], ◌∷◌, ◌++◌}
 use Rattle.std.proofs.Common.{map, length, refl, sym, ap, subst, ◌∙◌, inl, inr, arith}
 use Rattle.page_types.specs.Views.{entries_of, first_of}
-use Rattle.page_types.specs.declared.page.Page.{Page}
 use Rattle.page_types.specs.declared.page.Entry.{Entry}
 use Rattle.page_types.specs.declared.page.Postings.{Postings}
 use Rattle.page_types.specs.declared.page.Postings.TheVariants.{Inline, Root}
@@ -10,14 +9,14 @@ use Rattle.core_state.specs.Log.{Log, Pages, In}
 use Rattle.core_state.specs.Legal.{IsLegal, Pin, Keeps}
 use Rattle.core_state.specs.Readings.{Read, AreReads}
 use Rattle.core_state.proofs.Trees.Walk as w
-use Rattle.core_state.proofs.Trees.PendWalk as pend
 use Rattle.core_state.proofs.Moments.Links.{Links, BeginsAt, links}
 use Rattle.core_moments.specs.Walk.{Walk, KeyWalk, IsKeyWalk, LeafRead, Sought, IsWalk, Follows, LeadTo, AreLeaves}
 use Rattle.core_moments.specs.Walk.{AreTrees, Branch, toward, along, beyond, rightward, first_key, fits, reads_of}
 use Rattle.core_moments.specs.Walk.{leaf_reads, tree_reads, key_reads}
 use Rattle.core_moments.specs.Law.{ReadOnce, path_of, ReadsOnce, WalksEnd}
 use Rattle.core_moments.proofs.Moments.{reads_at}
-use Rattle.core_moments.proofs.Once.{once_of, once_pages, chain_once, rise, path_reads, path_linked, tree_linked}
+use Rattle.core_moments.proofs.Once.{once_of, rise, path_reads, path_linked, tree_linked}
+use Rattle.core_moments.proofs.OpenLists.{lead_on, first_reads, list_once}
 use Rattle.core_moments.proofs.Parts.{is_walk, reads_front, reads_back, reads_end, key_part}
 use Rattle.core_moments.proofs.Views.{tr}
 use Rattle.core_moments.proofs.Walks.{Reads}
@@ -107,9 +106,6 @@ module _ (R : Log) (pin : Pin) (sought : List Sought) (walk : Walk) (legal : IsL
   all_reads = reads_at R walk.meta.length P (λ t a b. L.shown t (omega (arith, from, a)) b) within
       (reads_of walk) walk.meta.length (omega arith) within (omega arith, reads.1, reads.2, reads.3)
 
-  pending_reads : Reads P walk.meta.length (length R) walk.pending
-  pending_reads = reads_front P walk.meta.length (length R) walk.pending (key_reads walk.keys) all_reads.2
-
   keys_reads : Reads P walk.meta.length (length R) (key_reads walk.keys)
   keys_reads = reads_back P walk.meta.length (length R) walk.pending (key_reads walk.keys) all_reads.2
 
@@ -152,27 +148,10 @@ module _ (R : Log) (pin : Pin) (sought : List Sought) (walk : Walk) (legal : IsL
           ap (λ (c : w.Read). c.page) (sym (same_head (tr z) y (map tr zs) ys e)) ∙ f.1
 
   -- the pending list
-  rights : (s p : ℕ) (xs : List Read) → Reads P s (length R) xs → Follows rightward p xs
-      → pend.Follows (λ t q. (P t q).right) p (map tr xs)
-  rights s p [] r f = f
-  rights s p (x ∷ xs) r f = (
-    f.0,
-    f.1,
-    subst (λ q. pend.Follows (λ t z. (P t z).right) q (map tr xs))
-        (ap (λ (z : Page). z.right) (sym r.1)) (rights x.length (rightward x.content) xs r.2 f.2),
-  )
-
-  meta_is : P walk.meta.length 0 ≡ walk.meta.content
-  meta_is = subst (λ p. P walk.meta.length p ≡ walk.meta.content) W.meta_page all_reads.1
-
   pending_once : ReadOnce walk.pending
-  pending_once =
-      let c = L.line walk.meta.length (map tr walk.pending) from within
-      (rise P (length R) walk.meta.length walk.pending pending_reads)
-      (subst (λ q. pend.Follows (λ t z. (P t z).right) q (map tr walk.pending)) (ap first_of (sym meta_is))
-      (rights walk.meta.length (first_of walk.meta.content) walk.pending pending_reads W.pending_ok)) in
-      once_pages walk.pending (chain_once (λ q. (P c.0 q).right) (first_of (P walk.meta.length 0))
-      (pend.pages (map tr walk.pending)) c.1)
+  pending_once = list_once R pin walk.meta walk.pending 0 legal keeps W.meta_page
+      (lead_on rightward (first_of walk.meta.content) walk.pending W.pending_ok)
+      (first_reads R pin.length (walk.meta ∷ walk.pending) (key_reads walk.keys) reads)
 
   pub reads_once : ReadsOnce walk
   reads_once = record { pending = pending_once; paths = path_once; trees = tree_once }

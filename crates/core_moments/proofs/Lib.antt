@@ -6,4 +6,6 @@ pub mod Parts
 pub mod Law
 pub mod Moments
 pub mod Once
+pub mod OpenLists
+pub mod LongReads
 pub mod Ends

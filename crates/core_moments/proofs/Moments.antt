@@ -4,7 +4,6 @@ use Rattle.core_state.specs.Log.{Log, Pages, In, Shows, cut}
 use Rattle.core_state.specs.Documents.{item_at}
 use Rattle.core_state.specs.History.{Document, History, IsHistory, docs}
 use Rattle.core_state.specs.Legal.{IsLegal, Pin, Keeps}
-use Rattle.core_state.specs.Standing.{CommitsIndexed}
 use Rattle.core_state.specs.Readings.{Read, AreReads}
 use Rattle.core_state.proofs.Showing.{shown_one}
 use Rattle.core_state.proofs.Moments.Snapshots.{Told, snapshot_told}
@@ -30,10 +29,10 @@ reads_at R start P shown within (x ∷ xs) from low high r =
 
 module _ {Q : Type 0} (M : Meaning Q) (S : JudgeIsSound M) (R : Log) (pin : Pin) (H : History)
     (q : Q) (w : Walk) (legal : IsLegal R) (keeps : Keeps R pin)
-    (all : CommitsIndexed R) (history : IsHistory R H) (walk : IsWalkFrom M q R pin w) (D : Document)
+    (history : IsHistory R H) (walk : IsWalkFrom M q R pin w) (D : Document)
     (there : In D (docs (take pin.commits H))) where
   told : Told R w.meta.length D
-  told = snapshot_told R pin H legal keeps all history D there w.meta.length walk.reads.0 walk.reads.1
+  told = snapshot_told R pin H legal keeps history D there w.meta.length walk.reads.0 walk.reads.1
 
   reads : Reads told.pages w.meta.length (length R) (reads_of w)
   reads = reads_at R w.meta.length told.pages told.shown walk.reads.1 (reads_of w) w.meta.length (omega arith)
@@ -50,7 +49,7 @@ module _ {Q : Type 0} (M : Meaning Q) (S : JudgeIsSound M) (R : Log) (pin : Pin)
       walk.sought walk.are_sought walk.is_walk refl reads (subst (HasYes M q w) (sym told.item_is) given)
 
 pub law_holds : {Q : Type 0} (M : Meaning Q) → MomentsHold M
-law_holds M S R pin H q w legal keeps all history walk = record {
-  kept = λ D i sat. keeps_it M S R pin H q w legal keeps all history walk D i sat;
-  yes = λ D i y. satisfies_it M S R pin H q w legal keeps all history walk D i y;
+law_holds M S R pin H q w legal keeps history walk = record {
+  kept = λ D i sat. keeps_it M S R pin H q w legal keeps history walk D i sat;
+  yes = λ D i y. satisfies_it M S R pin H q w legal keeps history walk D i y;
 }

@@ -3,7 +3,6 @@ use Rattle.std.specs.Prelude.{◌≡◌, ◌≢◌, ℕ, true, false, List, [], 
 use Rattle.core_state.specs.Log.{Log, In}
 use Rattle.core_state.specs.Documents.{item_at}
 use Rattle.core_state.specs.History.{Document, History, IsHistory, docs}
-use Rattle.core_state.specs.Standing.{CommitsIndexed}
 use Rattle.core_state.specs.Changes.{KeyAtMost}
 use Rattle.core_state.specs.Legal.{IsLegal, Pin, Keeps}
 use Rattle.core_state.specs.Readings.{Read, AreReads}
@@ -37,7 +36,7 @@ pub record IsWalkFrom {Q : Type 0} (M : Meaning Q) (q : Q) (R : Log) (pin : Pin)
 abbrev pub MomentsHold : {Q : Type 0} → Meaning Q → Type 0
 MomentsHold {Q} M =
     JudgeIsSound M → (R : Log) (pin : Pin) (H : History) (q : Q) (w : Walk) → IsLegal R → Keeps R pin
-    → CommitsIndexed R → IsHistory R H → IsWalkFrom M q R pin w → FindsAll M q H pin.commits w
+    → IsHistory R H → IsWalkFrom M q R pin w → FindsAll M q H pin.commits w
 
 -- no page is read twice
 abbrev pub ReadOnce : List Read → Type 0

@@ -97,7 +97,7 @@ rule_history : (R : Log) (r : Record) (P Q : Pages) (floor since : ℕ) → Show
 rule_history R r P Q floor since shown (RuleHolds.create x) h = of_kind R r kind.Create x.here.kind_is h
 rule_history R r P Q floor since shown (RuleHolds.begin x) h = of_kind R r kind.Begin x.here.kind_is h
 rule_history R r P Q floor since shown (RuleHolds.commit x) h =
-    let inserts = whole_inserts P (placed R r.xid) x.rest in
+    let inserts = whole_inserts P (placed R r.xid) (λ d i. let is = x.rest d i in (is.vector, is.whole)) in
     let c : Commit = record { deleted = map name_of (marked R r.xid); inserted = inserts.0 } in
     of_kind R r (kind.Commit (suc (commits R))) x.here.kind_is
     (h.0 ++ c ∷ [], (h.0, c, h.1, record { pages = P; shown = shown; deleted = refl; inserted = inserts.1 }, refl))

@@ -58,6 +58,10 @@ pub mod PairFrames
 pub mod RemovedPairs
 pub mod RecordKeeps
 pub mod RowsIndexed
+pub mod NowIndexed
+pub mod CommitsIndexed
+pub mod PutsInFront
+pub mod OtherRows
 pub mod ListStands
 pub mod StampsStand
 pub mod KindsStand

@@ -15,6 +15,15 @@ pub mod Bounds
 pub mod Moments
 pub mod LawsHold
 pub mod Steps
+pub mod PlacedOnce
+pub mod NamesInOrder
+pub mod ApartLists
+pub mod LawfulHistories
+pub mod SnapshotOrder
+pub mod ChainLengths
+pub mod LongVectors
+pub mod ChangedPages
+pub mod TouchedPages
 -- Private is how the laws are proved.
 mod Taken
 mod Leaving
@@ -31,6 +40,7 @@ mod WorkedMore
 mod WorkedSplit
 mod WorkedLong
 mod WorkedPending
+mod WorkedRun
 mod WorkedMaintenance
 mod WorkedTrees
 mod WorkedFacts
@@ -53,7 +63,6 @@ mod PlacedHeads
 mod PlacedNames
 mod HeadChanges
 mod Law
-mod TouchedPages
 mod LivePages
 mod HeadSteps
 mod FateSteps
@@ -68,3 +77,7 @@ mod ChainRows
 mod KeptTrees
 mod KeptHeads
 mod KeptRows
+mod RisingKeys
+mod FollowingRows
+mod LinkedPages
+mod LinkedHeads

@@ -3,7 +3,9 @@ pub mod Seen
 pub mod Drawn
 pub mod Heads
 pub mod Transactions
+pub mod OwnHeads
 pub mod Documents
+pub mod Pending
 pub mod Pinned
 pub mod Pins
 pub mod Making

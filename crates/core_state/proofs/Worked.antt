@@ -1,5 +1,5 @@
--- The definitions at a log whose bytes were worked out apart from them: one insert of 'cat':1 'fat':2 on an empty
--- store.
+-- The definitions at a log whose bytes were worked out apart from them: on an empty store the head of
+-- 'cat':1 'fat':2 is placed, whose keys are not in the index yet.
 use Rattle.std.proofs.Common.{◌≡◌, ◌≢◌, ◌<◌, ◌≤◌, ◌⊎◌, ℕ, zero, suc, List, [], ◌∷◌, ◌++◌, replicate, refl, sym, ap}
 use Rattle.std.proofs.Common.{subst, ◌∙◌, inl, inr, arith}
 use Rattle.std.specs.Prelude.{Option, Some, None}
@@ -11,6 +11,7 @@ use Rattle.std.proofs.lemmas.Str.Ascii.{IsAscii-nil, IsAscii-cons}
 use Rattle.ts_base.specs.declared.Weight.TheVariants.{D}
 use Rattle.ts_base.specs.Lexemes.{IsLexeme, IsBefore}
 use Rattle.ts_base.specs.Vectors.{Position, Entry, Vector, IsPosition, IsEntry, IsNormal}
+use Rattle.ts_base.specs.Keys.{Key, lexeme_key, placeholder, keys_of}
 use Rattle.page_types.specs.Numbers.{page_limit, u16_bytes, u32_bytes, u64_bytes, zeros}
 use Rattle.page_types.specs.Encoding.{page_bytes, front_bytes, framed, head_bytes}
 use Rattle.page_types.specs.Pages.{IsPage, IsHead}
@@ -28,13 +29,14 @@ use Rattle.page_types.specs.declared.record.Record.{Record}
 use Rattle.page_types.specs.declared.record.Kind.{Kind}
 use Rattle.page_types.specs.declared.record.Kind.TheVariants as kind
 use Rattle.core_state.specs.Log.{Log, Pages, In, Shows, replay}
-use Rattle.core_state.specs.Documents.{Doc, slot_of, IsChain, HasBytes, HasVector}
-use Rattle.core_state.specs.History.{IsHistory}
-use Rattle.core_state.specs.Index.{NoPair}
+use Rattle.core_state.specs.Documents.{Doc, slot_of, IsChain}
+use Rattle.core_state.specs.Index.{NoPair, IsIndexed}
 use Rattle.core_state.specs.Known.{use_in}
 use Rattle.core_state.specs.Changes.{IsNew}
+use Rattle.core_state.specs.TransactionRules.{IsCommit}
 use Rattle.core_state.specs.Legal.{RuleHolds, ChangesFrom, IsImageOf, ImagesFrom, RecordsAreValid, IsLegal}
 use Rattle.core_state.specs.declared.answers.PageUse.TheVariants as usage
+use Rattle.core_state.proofs.RulesByKind.{kind_rule}
 use Rattle.core_state.proofs.Showing.{replay_kept, none_yet, free_is, shown_none}
 
 -- the vector, and its bytes
@@ -119,8 +121,9 @@ begin_record xid = record { number = 2; xid = xid; kind = kind.Begin; changes = 
 abbrev pub head_record : ℕ → Record
 head_record xid = record { number = 3; xid = 1; kind = kind.PlaceHead 4096 1; changes = image 2 (heap_page xid) ∷ [] }
 
-abbrev pub commit_record : Record
-commit_record = record { number = 4; xid = 1; kind = kind.Commit 1; changes = [] }
+-- a commit right behind it
+abbrev early_record : Record
+early_record = record { number = 4; xid = 1; kind = kind.Commit 1; changes = [] }
 
 abbrev log_made : Log
 log_made = create_record ∷ []
@@ -130,9 +133,6 @@ log_begun = begin_record 1 ∷ log_made
 
 abbrev pub log_placed : Log
 log_placed = head_record 1 ∷ log_begun
-
-abbrev pub first_run : Log
-first_run = commit_record ∷ log_placed
 
 abbrev pub doc : Doc
 doc = record { item = 4096; serial = 1 }
@@ -214,10 +214,6 @@ shown_placed (suc (suc (suc p))) = (
       ∙ sym (replay_kept log_begun (head_record 1) (suc (suc (suc p))) (behind_three p)),
 )
 
-pub shown_run : Shows first_run (placed_by 1)
-unfolding replay
-shown_run p = shown_placed p
-
 -- no page of the index has anything on it
 pub in_no_chain : (P : Pages) (qs : List ℕ) (q : ℕ) → IsChain P 0 qs → In q qs → ⊥
 in_no_chain P [] q c i = absurd i
@@ -234,7 +230,19 @@ no_pair i = record {
   no_posting = λ k m. no_entry m.page m.entry m.on;
 }
 
--- the rules of the four records
+no_more : (p : ℕ) (e : on_page.Entry) → In e (entries_of (placed_by 1 p)) → ⊥
+no_more zero e i = absurd i
+no_more (suc zero) e i = absurd i
+no_more (suc (suc zero)) e i = absurd i
+no_more (suc (suc (suc p))) e i = absurd i
+
+pub none_placed : (i : ℕ) → NoPair (placed_by 1) i
+none_placed i = record {
+  no_row = λ r. in_no_chain (placed_by 1) r.linked.line r.linked.page r.linked.is_line r.linked.on;
+  no_posting = λ k m. no_more m.page m.entry m.on;
+}
+
+-- the rules of the three records
 create_row : (floor since : ℕ) → RuleHolds [] none_yet made create_record floor since
 create_row floor since = RuleHolds.create
     (record { here = record { kind_is = refl; pages = refl; empty = refl; after_is = refl } })
@@ -276,7 +284,7 @@ head_row floor since = RuleHolds.place_head (record {
   rest = no_pair 4096;
 })
 
-cat_is : IsLexeme cat
+pub cat_is : IsLexeme cat
 cat_is = record {
   some = omega arith;
   most = omega arith;
@@ -285,7 +293,7 @@ cat_is = record {
       (IsAscii-cons 97 (116 ∷ []) (omega arith) (IsAscii-cons 116 [] (omega arith) IsAscii-nil)));
 }
 
-fat_is : IsLexeme fat
+pub fat_is : IsLexeme fat
 fat_is = record {
   some = omega arith;
   most = omega arith;
@@ -318,28 +326,29 @@ vector_is = record {
       (one_alone Before second_entry);
 }
 
-vector_there : HasVector (placed_by 1) doc vector
-vector_there = (
-  head 1,
-  record { at = refl; serial = refl },
-  record {
-    bytes = bytes;
-    there = HasBytes.short (omega arith);
-    size = refl;
-    encodes = record { normal = vector_is; small = omega arith; bytes_of = refl };
-  },
-)
+-- the commit right behind the head is not valid, since no pair of the index has the document
+some_key : (v : Vector) → (k : Key) × In k (keys_of v)
+some_key [] = (placeholder, inl refl)
+some_key (e ∷ es) = (lexeme_key e.lexeme, inl refl)
 
-pub ready : (d : Doc) → In d (doc ∷ []) → (v : Vector) × HasVector (placed_by 1) d v
-ready d (inl e) = (vector, subst (λ x. HasVector (placed_by 1) x vector) (sym e) vector_there)
-ready d (inr i) = absurd i
+not_indexed : IsIndexed (placed_by 1) doc → ⊥
+not_indexed x =
+    let k = some_key x.vector in
+    elim x.there [
+      | inl pending ↦
+          let p = pending k.0 k.1 in
+          (none_placed 4096).no_row (record { row = p.row; linked = p.linked; item = p.item })
+      | inr main ↦ (none_placed 4096).no_posting k.0 (main k.0 k.1)
+    ]
 
-commit_row : (floor since : ℕ) → RuleHolds log_placed (placed_by 1) (placed_by 1) commit_record floor since
-commit_row floor since = RuleHolds.commit
-    (record { here = record { kind_is = refl; pages = refl; runs = refl }; rest = ready })
+commit_too_early : (Q : Pages) (floor since : ℕ) → RuleHolds log_placed (placed_by 1) Q early_record floor since → ⊥
+commit_too_early Q floor since x =
+    let row : IsCommit log_placed (placed_by 1) Q early_record =
+    kind_rule log_placed (placed_by 1) Q early_record floor since (kind.Commit 1) refl x in
+    not_indexed (row.rest doc (inl refl))
 
 -- each is a record
-image_is : (p : ℕ) (page : Page) → p < page_limit → IsPage page → IsChange page.stamp (image p page)
+pub image_is : (p : ℕ) (page : Page) → p < page_limit → IsPage page → IsChange page.stamp (image p page)
 image_is p page small is =
     let parts = has_parts page is in
     record { page = small; edit = record { size = parts.size; stamp = parts.stamp } }
@@ -367,18 +376,8 @@ head_record_is = record {
   once = (tt, tt);
 }
 
-commit_is : IsRecord commit_record
-commit_is = record {
-  number = omega arith;
-  xid = omega arith;
-  kind = omega arith;
-  count = omega arith;
-  changes = tt;
-  once = tt;
-}
-
 -- each change can be made
-can_image : (p : ℕ) (page : Page) (old : List ℕ) (c : Change) → c ≡ image p page → CanEdit c.edit old
+pub can_image : (p : ℕ) (page : Page) (old : List ℕ) (c : Change) → c ≡ image p page → CanEdit c.edit old
 can_image p page old c e = subst (λ (x : Change). CanEdit x.edit old) (sym e) tt
 
 create_can : (c : Change) → In c create_record.changes → CanEdit c.edit (replay [] c.page)
@@ -391,70 +390,53 @@ head_record_can c (inl e) = can_image 2 (heap_page 1) (replay log_begun c.page) 
 head_record_can c (inr e) = absurd e
 
 -- so the log is legal
-rows_valid : RecordsAreValid first_run
-rows_valid = ((
+pub rows_valid : RecordsAreValid log_placed
+rows_valid = (
   (
     (
-      (
-        tt,
-        record {
-          before = none_yet;
-          after = made;
-          shown = shown_none;
-          shown_after = shown_made;
-          is_record = create_is;
-          can_edit = create_can;
-          number = refl;
-          started = inl refl;
-          rule = create_row 0 1;
-        },
-      ),
+      tt,
       record {
-        before = made;
+        before = none_yet;
         after = made;
-        shown = shown_made;
-        shown_after = shown_begun;
-        is_record = begin_is;
-        can_edit = λ c i. absurd i;
+        shown = shown_none;
+        shown_after = shown_made;
+        is_record = create_is;
+        can_edit = create_can;
         number = refl;
-        started = inr (λ e. cc);
-        rule = begin_row 0 2;
+        started = inl refl;
+        rule = create_row 0 1;
       },
     ),
     record {
       before = made;
-      after = placed_by 1;
-      shown = shown_begun;
-      shown_after = shown_placed;
-      is_record = head_record_is;
-      can_edit = λ c i. head_record_can c i;
+      after = made;
+      shown = shown_made;
+      shown_after = shown_begun;
+      is_record = begin_is;
+      can_edit = λ c i. absurd i;
       number = refl;
       started = inr (λ e. cc);
-      rule = head_row 0 3;
+      rule = begin_row 0 2;
     },
   ),
   record {
-    before = placed_by 1;
+    before = made;
     after = placed_by 1;
-    shown = shown_placed;
-    shown_after = shown_run;
-    is_record = commit_is;
-    can_edit = λ c i. absurd i;
+    shown = shown_begun;
+    shown_after = shown_placed;
+    is_record = head_record_is;
+    can_edit = λ c i. head_record_can c i;
     number = refl;
     started = inr (λ e. cc);
-    rule = commit_row 0 4;
+    rule = head_row 0 3;
   },
-))
+)
 
-image_of : (p : ℕ) (page : Page) (c : Change) → c ≡ image p page → IsImageOf c
+pub image_of : (p : ℕ) (page : Page) (c : Change) → c ≡ image p page → IsImageOf c
 image_of p page c e = (page_bytes page, ap (λ (x : Change). x.edit) e)
 
-are_images : ImagesFrom 1 first_run
-are_images = (
-  (((tt, made_by), λ c i l. absurd i), λ c i l. inr (image_of 2 (heap_page 1) c (only c i))),
-  λ c i l.
-      absurd i,
-)
+pub are_images : ImagesFrom 1 log_placed
+are_images = (((tt, made_by), λ c i l. absurd i), λ c i l. inr (image_of 2 (heap_page 1) c (only c i)))
   where
     made_by : (c : Change) → In c create_record.changes → 1 ≤ 1 → ChangesFrom 1 [] c.page ⊎ IsImageOf c
     made_by c (inl e) l = inr (image_of 0 meta_page c e)
@@ -465,40 +447,19 @@ are_images = (
     only c (inl e) = e
     only c (inr e) = absurd e
 
-no_checkpoint : (r : Record) (redo : ℕ) → In r first_run → r.kind ≡ kind.Checkpoint redo → ⊥
+pub no_checkpoint : (r : Record) (redo : ℕ) → In r log_placed → r.kind ≡ kind.Checkpoint redo → ⊥
 no_checkpoint r redo (inl e) k = let f = sym (ap (λ (x : Record). x.kind) e) ∙ k in cc
 no_checkpoint r redo (inr (inl e)) k = let f = sym (ap (λ (x : Record). x.kind) e) ∙ k in cc
 no_checkpoint r redo (inr (inr (inl e))) k = let f = sym (ap (λ (x : Record). x.kind) e) ∙ k in cc
-no_checkpoint r redo (inr (inr (inr (inl e)))) k = let f = sym (ap (λ (x : Record). x.kind) e) ∙ k in cc
-no_checkpoint r redo (inr (inr (inr (inr e)))) k = absurd e
+no_checkpoint r redo (inr (inr (inr e))) k = absurd e
 
-pub legal : IsLegal first_run
+pub legal : IsLegal log_placed
 legal = record {
   valid = rows_valid;
   images = are_images;
   redo_images = λ r redo i k. absurd
       (no_checkpoint r redo i k);
 }
-
--- its history is one insert
-history : IsHistory first_run
-    (record {
-      deleted = [];
-      inserted = record { name = record { page = 2; slot = 0; serial = 1 }; vector = vector } ∷
-          [];
-    } ∷ [])
-history = (
-  [],
-  record {
-    deleted = [];
-    inserted = record
-        { name = record { page = 2; slot = 0; serial = 1 }; vector = vector } ∷ [];
-  },
-  refl,
-  record
-      { pages = placed_by 1; shown = shown_placed; deleted = refl; inserted = (refl, vector_there, tt) },
-  refl,
-)
 
 -- the second record with the xid 2 is not valid
 begin_of_two : (P Q : Pages) (floor since : ℕ) → RuleHolds log_made P Q (begin_record 2) floor since → ⊥

@@ -30,6 +30,7 @@ use Rattle.core_state.specs.declared.answers.Fate.TheVariants.{Unused, Running, 
 use Rattle.core_state.proofs.Histories.{chain_one}
 use Rattle.core_state.proofs.Worked as first
 use Rattle.core_state.proofs.WorkedPending as rows
+use Rattle.core_state.proofs.WorkedRun as run
 
 -- a document of the first run's history
 abbrev document : Document
@@ -65,11 +66,11 @@ unfolding stored
 lost_alive R alive stay = not_stored (stay document stored alive)
 
 -- a head whose transaction committed, unmarked: neither it nor its document is dead
-head_alive : (floor : ℕ) → IsDeadHead (fate first.first_run) floor (first.head 1) → ⊥
+head_alive : (floor : ℕ) → IsDeadHead (fate run.first_run) floor (first.head 1) → ⊥
 head_alive floor (IsDeadHead.insert_aborted e) = let f : Committed 1 ≡ Aborted = e in cc
 head_alive floor (IsDeadHead.delete_counted n e l) = unused n e
   where
-    unused : (n : ℕ) → fate first.first_run 0 ≡ Committed n → ⊥
+    unused : (n : ℕ) → fate run.first_run 0 ≡ Committed n → ⊥
     unused n e = cc
 
 -- a head that names a committed transaction which marked nothing breaks what heads say
@@ -80,7 +81,7 @@ misled (suc (suc zero)) =
     record { right = 0; stamp = 3; body = body.Heap (Some (record (first.head 1) { deleted_by = 1 }) ∷ []) }
 misled (suc (suc (suc p))) = free_page
 
-not_dead : IsDead first.first_run 1 first.doc → ⊥
+not_dead : IsDead run.first_run 1 first.doc → ⊥
 not_dead (IsDead.insert_aborted x e p) = by (1 == x) e
   where
     by : (b : Bool) → cond b (Committed 1) (cond b Running Unused) ≡ Aborted → ⊥
@@ -88,16 +89,16 @@ not_dead (IsDead.insert_aborted x e p) = by (1 == x) e
     by false e = cc
 not_dead (IsDead.delete_counted x n e l p) = p
 
-misled_head : DocumentsStand first.first_run misled → ⊥
+misled_head : DocumentsStand run.first_run misled → ⊥
 misled_head d = not_dead ((d.dead 4096 (record (first.head 1) { deleted_by = 1 }) 1 refl).1
     (IsDeadHead.delete_counted 1 refl (omega arith)))
 
 -- what was read at a length of a log stays so read; other content was not
 abbrev read : Page → Read
-read content = record { length = 4; page = 2; content = content }
+read content = record { length = 6; page = 2; content = content }
 
-was_read : AreReads first.first_run 0 (read (first.heap_page 1) ∷ [])
-was_read = (omega arith, omega arith, (first.placed_by 1, first.shown_run, refl), omega arith)
+was_read : AreReads run.first_run 0 (read (rows.heap_page 5 0) ∷ [])
+was_read = (omega arith, omega arith, (rows.with_link, run.shown_run, refl), omega arith)
 
 -- the document's row is linked
 both_linked : IsLinked rows.with_both rows.row
@@ -231,7 +232,7 @@ free_on_line k =
     no_rows ws e = cc
 
 -- a placed head's page that isn't a heap page
-no_heap : KindsStand first.first_run leads_away → ⊥
+no_heap : KindsStand run.first_run leads_away → ⊥
 no_heap k = let h = k.heaps 1 first.doc (inl refl) in no_slots h.0 h.1
   where
     no_slots : (slots : List (Option Head)) → body.Free ≡ body.Heap slots → ⊥
@@ -284,9 +285,9 @@ two_leaves l =
         no_leaf : (high : Key) (es : List on_page.Entry) → body.Free ≡ body.EntryLeaf high es → ⊥
         no_leaf high es e = cc
 
--- the stamp of the heap page of the first run is its head's number, and no other
-heap_stamp : IsLastChange first.first_run 2 3
-heap_stamp = IsLastChange.by (record { number = 4; xid = 1; kind = _; changes = [] } ∷ []) _ first.log_begun refl
+-- the stamp of the heap page of the first run is the number of the record that links the row, and no other
+heap_stamp : IsLastChange run.first_run 2 5
+heap_stamp = IsLastChange.by (run.commit_record ∷ []) rows.link_record rows.log_put refl
     (inl refl) (λ s i. elim i [ inl e ↦ λ m. subst (λ (z : Record). In 2 (changed z)) e m | inr z ↦ absurd z ])
 
 -- a placing record that takes a pair away
@@ -296,11 +297,11 @@ pair_lost k = rows.no_fat 4096 (k.main rows.fat_key 4096 (rows.main_there rows.f
 
 -- a row of a document that another transaction placed
 row_of_other : (P : Pages) (r : Record) → r.xid ≡ 2 → (IsLinked P rows.row → ⊥)
-    → RecordKeeps first.first_run P rows.with_both r → ⊥
+    → RecordKeeps run.first_run P rows.with_both r → ⊥
 row_of_other P r xid off k =
     elim (k.own_rows rows.row both_linked) [
       | inl old ↦ off old
-      | inr own ↦ subst (λ (x : ℕ). In own.doc (placed first.first_run x)) xid own.placed_by
+      | inr own ↦ subst (λ (x : ℕ). In own.doc (placed run.first_run x)) xid own.placed_by
     ]
 
 -- of a log with one record a page has no other stamp than its number

@@ -1,24 +1,25 @@
--- The definitions at the same store opened again: a second run ends what runs, and inserts once more.
+-- The definitions at the same store opened again: a second run ends what runs, and inserts once more,
+-- whose row comes after the first one.
 use Rattle.std.proofs.Common.{◌≡◌, ◌≢◌, ℕ, zero, suc, ◌+◌, ◌≤◌, List, [], ◌∷◌, refl, sym, ap, subst, ◌∙◌, inl, inr}
 use Rattle.std.proofs.Common.{arith}
 use Rattle.std.specs.Prelude.{Option, Some, None}
-use Rattle.ts_base.specs.Vectors.{Vector}
+use Rattle.ts_base.specs.Keys.{Key, keys_of}
 use Rattle.page_types.specs.Numbers.{u16_bytes, u32_bytes, u64_bytes, zeros}
 use Rattle.page_types.specs.Encoding.{page_bytes, front_bytes, framed, head_bytes}
 use Rattle.page_types.specs.Pages.{IsPage, IsHead}
 use Rattle.page_types.specs.Edits.{used_in, body_in, edited}
-use Rattle.page_types.specs.Views.{free_page, entries_of, slots_in, slots_of, slot_at}
+use Rattle.page_types.specs.Views.{free_page, slots_in, slots_of, slot_at}
 use Rattle.page_types.specs.declared.page.Page.{Page}
 use Rattle.page_types.specs.declared.page.Head.{Head}
-use Rattle.page_types.specs.declared.page.Entry as on_page
+use Rattle.page_types.specs.declared.page.Row.{Row}
 use Rattle.page_types.specs.declared.page.Body.TheVariants as body
 use Rattle.page_types.specs.declared.record.Edit.{Edit}
 use Rattle.page_types.specs.declared.record.Edit.TheVariants.{Image, Delta}
 use Rattle.page_types.specs.declared.record.Record.{Record}
 use Rattle.page_types.specs.declared.record.Kind.TheVariants as kind
 use Rattle.core_state.specs.Log.{Log, Pages, In, Shows, replay}
-use Rattle.core_state.specs.Documents.{Doc, page_of, slot_of, HasBytes, HasVector}
-use Rattle.core_state.specs.Index.{NoPair}
+use Rattle.core_state.specs.Documents.{Doc, page_of, slot_of, HasBytes, IsWhole}
+use Rattle.core_state.specs.Index.{Pending, HasRow, IsIndexed}
 use Rattle.core_state.specs.Known.{use_in}
 use Rattle.core_state.specs.Changes.{IsNew}
 use Rattle.core_state.specs.declared.answers.PageUse.TheVariants as usage
@@ -26,6 +27,8 @@ use Rattle.core_state.specs.HeapRules.{IsMarkDeleted}
 use Rattle.core_state.specs.Legal.{RuleHolds, Valid}
 use Rattle.core_state.proofs.Showing.{replay_kept, free_is}
 use Rattle.core_state.proofs.Worked as first
+use Rattle.core_state.proofs.WorkedPending as rows
+use Rattle.core_state.proofs.WorkedRun as run
 
 -- the heap page with a second head
 abbrev second_head : Head
@@ -44,33 +47,50 @@ abbrev pub two_slots : List (Option Head)
 two_slots = Some (first.head 1) ∷ Some second_head ∷ []
 
 abbrev pub two_heads : Page
-two_heads = record { right = 0; stamp = 7; body = body.Heap two_slots }
+two_heads = record { right = 0; stamp = 9; body = body.Heap two_slots }
 
-abbrev pub with_two : Pages
-with_two zero = first.meta_page
-with_two (suc zero) = first.root_page
-with_two (suc (suc zero)) = two_heads
-with_two (suc (suc (suc p))) = free_page
+-- and the row of its document
+abbrev second_row : Row
+second_row = record { item = 4097; keys = rows.cat_key ∷ rows.fat_key ∷ [] }
+
+abbrev two_rows : Page
+two_rows = record { right = 0; stamp = 10; body = body.Pending (rows.row ∷ second_row ∷ []) }
+
+abbrev with_both : Page → Page → Pages
+with_both heap listed zero = rows.meta_page 5 3 3 1
+with_both heap listed (suc zero) = first.root_page
+with_both heap listed (suc (suc zero)) = heap
+with_both heap listed (suc (suc (suc zero))) = listed
+with_both heap listed (suc (suc (suc (suc p)))) = free_page
+
+abbrev with_two : Pages
+with_two = with_both two_heads (rows.row_page rows.row)
+
+abbrev pub with_rows : Pages
+with_rows = with_both two_heads two_rows
 
 -- the records of the second run
 abbrev abort_record : ℕ → Record
-abort_record xid = record { number = 5; xid = xid; kind = kind.Abort; changes = [] }
+abort_record xid = record { number = 7; xid = xid; kind = kind.Abort; changes = [] }
 
 abbrev begin_record : Record
-begin_record = record { number = 6; xid = 2; kind = kind.Begin; changes = [] }
+begin_record = record { number = 8; xid = 2; kind = kind.Begin; changes = [] }
 
 abbrev edit_record : ℕ → Edit → Record
 edit_record item edit = record
-    { number = 7; xid = 2; kind = kind.PlaceHead item 2; changes = record { page = 2; edit = edit } ∷ [] }
+    { number = 9; xid = 2; kind = kind.PlaceHead item 2; changes = record { page = 2; edit = edit } ∷ [] }
 
 abbrev head_record : ℕ → Record
 head_record item = edit_record item (Image (page_bytes two_heads))
 
+abbrev row_record : Record
+row_record = record { number = 10; xid = 2; kind = kind.AddRow 4097 2; changes = first.image 3 two_rows ∷ [] }
+
 abbrev commit_record : ℕ → Record
-commit_record xid = record { number = 8; xid = xid; kind = kind.Commit 2; changes = [] }
+commit_record xid = record { number = 11; xid = xid; kind = kind.Commit 2; changes = [] }
 
 abbrev log_ended : Log
-log_ended = abort_record 0 ∷ first.first_run
+log_ended = abort_record 0 ∷ run.first_run
 
 abbrev log_begun : Log
 log_begun = begin_record ∷ log_ended
@@ -78,8 +98,11 @@ log_begun = begin_record ∷ log_ended
 abbrev log_placed : Log
 log_placed = head_record 4097 ∷ log_begun
 
+abbrev log_added : Log
+log_added = row_record ∷ log_placed
+
 abbrev second_run : Log
-second_run = commit_record 2 ∷ log_placed
+second_run = commit_record 2 ∷ log_added
 
 abbrev doc : Doc
 doc = record { item = 4097; serial = 2 }
@@ -106,55 +129,41 @@ two_is = record {
   fits = omega arith;
 }
 
-shown_begun : Shows log_begun (first.placed_by 1)
+shown_begun : Shows log_begun rows.with_link
 unfolding replay
-shown_begun p = first.shown_run p
+shown_begun p = run.shown_run p
 
-shown_ended : Shows log_ended (first.placed_by 1)
-unfolding replay
-shown_ended p = first.shown_run p
+only : (q p : ℕ) → p ≢ q → In p (q ∷ []) → ⊥
+only q p off (inl e) = off e
+only q p off (inr n) = absurd n
 
 shown_placed : Shows log_placed with_two
 unfolding replay edited
 shown_placed zero = (
-  first.meta_is,
-  (shown_begun 0).1
-      ∙ sym (replay_kept log_begun (head_record 4097) 0 (λ i. elim i [ inl e ↦ omega (arith, e) | inr n ↦ absurd n ])),
+  run.meta_is,
+  (shown_begun 0).1 ∙ sym (replay_kept log_begun (head_record 4097) 0 (only 2 0 (λ e. omega (arith, e)))),
 )
 shown_placed (suc zero) = (
   first.root_is,
-  (shown_begun 1).1
-      ∙ sym (replay_kept log_begun (head_record 4097) 1 (λ i. elim i [ inl e ↦ omega (arith, e) | inr n ↦ absurd n ])),
+  (shown_begun 1).1 ∙ sym (replay_kept log_begun (head_record 4097) 1 (only 2 1 (λ e. omega (arith, e)))),
 )
 shown_placed (suc (suc zero)) = (two_is, refl)
-shown_placed (suc (suc (suc p))) = (
+shown_placed (suc (suc (suc zero))) = (
+  run.row_page_is,
+  (shown_begun 3).1 ∙ sym (replay_kept log_begun (head_record 4097) 3 (only 2 3 (λ e. omega (arith, e)))),
+)
+shown_placed (suc (suc (suc (suc p)))) = (
   free_is,
-  (shown_begun (suc (suc (suc p)))).1
-      ∙ sym (replay_kept log_begun (head_record 4097) (suc (suc (suc p))) (first.behind_three p)),
+  (shown_begun (suc (suc (suc (suc p))))).1
+      ∙ sym (replay_kept log_begun (head_record 4097) (suc (suc (suc (suc p))))
+      (only 2 (suc (suc (suc (suc p)))) (λ e. omega (arith, e)))),
 )
 
-shown_run : Shows second_run with_two
-unfolding replay
-shown_run p = shown_placed p
-
-no_entry : (p : ℕ) (e : on_page.Entry) → In e (entries_of (first.placed_by 1 p)) → ⊥
-no_entry zero e i = absurd i
-no_entry (suc zero) e i = absurd i
-no_entry (suc (suc zero)) e i = absurd i
-no_entry (suc (suc (suc p))) e i = absurd i
-
-pub no_pair : (i : ℕ) → NoPair (first.placed_by 1) i
-no_pair i = record {
-  no_row = λ r. first.in_no_chain (first.placed_by 1) r.linked.line r.linked.page r.linked.is_line r.linked.on;
-  no_posting = λ k m. no_entry m.page m.entry m.on;
-}
-
--- the rules of the four records
-abort_row : (floor since : ℕ) → RuleHolds first.first_run (first.placed_by 1) (first.placed_by 1)
-    (abort_record 0) floor since
+-- the rules of the five records
+abort_row : (floor since : ℕ) → RuleHolds run.first_run rows.with_link rows.with_link (abort_record 0) floor since
 abort_row floor since = RuleHolds.abort (record { here = record { kind_is = refl; pages = refl; runs = inr refl } })
 
-begin_row : (floor since : ℕ) → RuleHolds log_ended (first.placed_by 1) (first.placed_by 1) begin_record floor since
+begin_row : (floor since : ℕ) → RuleHolds log_ended rows.with_link rows.with_link begin_record floor since
 begin_row floor since = RuleHolds.begin
     (record { here = record { kind_is = refl; pages = refl; next = refl; bound = omega arith } })
 
@@ -164,12 +173,12 @@ others_stay (suc zero) off = absurd (off refl)
 others_stay (suc (suc j)) off = refl
 
 head_row : (edit : Edit) (floor since : ℕ)
-    → RuleHolds log_begun (first.placed_by 1) with_two (edit_record 4097 edit) floor since
+    → RuleHolds log_begun rows.with_link with_two (edit_record 4097 edit) floor since
 head_row edit floor since = RuleHolds.place_head (record {
   here = record {
     doc = doc;
     head = second_head;
-    old = first.heap_page 1;
+    old = rows.heap_page 5 0;
     slots = Some (first.head 1) ∷ [];
     new_slots = two_slots;
     right = 0;
@@ -185,31 +194,81 @@ head_row edit floor since = RuleHolds.place_head (record {
     put = record { put = refl; others = others_stay; size = refl };
     after_is = refl;
   };
-  rest = no_pair 4097;
+  rest = run.no_pair 4097 (λ e. omega (arith, e));
 })
 
-vector_there : HasVector with_two doc first.vector
-vector_there = (
-  second_head,
-  record { at = refl; serial = refl },
-  record {
-    bytes = first.bytes;
-    there = HasBytes.short (omega arith);
-    size = refl;
-    encodes = record { normal = first.vector_is; small = omega arith; bytes_of = refl };
-  },
-)
+whole : (P : Pages) → IsWhole P second_head first.vector
+whole P = record {
+  bytes = first.bytes;
+  there = HasBytes.short (omega arith);
+  size = refl;
+  encodes = record { normal = first.vector_is; small = omega arith; bytes_of = refl };
+}
 
-ready : (d : Doc) → In d (doc ∷ []) → (v : Vector) × HasVector with_two d v
-ready d (inl e) = (first.vector, subst (λ x. HasVector with_two x first.vector) (sym e) vector_there)
+no_row : HasRow with_two 4097 → ⊥
+no_row h =
+    let only : h.row ≡ rows.row = rows.linked_alone with_two refl refl refl h.row h.linked in
+    let item : 4097 ≡ 4096 = sym h.item ∙ ap (λ (w : Row). w.item) only in
+    omega (arith, item)
+
+add_row : (floor since : ℕ) → RuleHolds log_placed with_two with_rows row_record floor since
+add_row floor since = RuleHolds.add_row (record {
+  here = record {
+    doc = doc;
+    last = 3;
+    rows = rows.row ∷ [];
+    row = second_row;
+    old = rows.row_page rows.row;
+    kind_is = refl;
+    pages = refl;
+    runs = refl;
+    item = refl;
+    before_is = refl;
+    was = refl;
+    after_is = refl;
+  };
+  rest = record {
+    head = second_head;
+    has = record { at = refl; serial = refl };
+    by = refl;
+    vector = first.vector;
+    whole = whole with_two;
+    no_row = no_row;
+    keys = refl;
+    front = [];
+    is_last = (refl, (λ e. omega (arith, e)), refl);
+  };
+})
+
+pending_there : (k : Key) → In k (keys_of first.vector) → Pending with_rows k 4097
+pending_there k i = record {
+  row = second_row;
+  linked = record {
+    line = 3 ∷ [];
+    is_line = (refl, (λ e. omega (arith, e)), refl);
+    page = 3;
+    on = inl refl;
+    there = inr (inl refl);
+  };
+  item = refl;
+  key = i;
+}
+
+ready : (d : Doc) → In d (doc ∷ []) → IsIndexed with_rows d
+ready d (inl e) = subst (IsIndexed with_rows) (sym e)
+    (record {
+      vector = first.vector;
+      whole = (second_head, record { at = refl; serial = refl }, whole with_rows);
+      there = inl pending_there;
+    })
 ready d (inr i) = absurd i
 
-commit_row : (floor since : ℕ) → RuleHolds log_placed with_two with_two (commit_record 2) floor since
+commit_row : (floor since : ℕ) → RuleHolds log_added with_rows with_rows (commit_record 2) floor since
 commit_row floor since = RuleHolds.commit
     (record { here = record { kind_is = refl; pages = refl; runs = refl }; rest = ready })
 
 -- an abort of the transaction that has committed is not valid
-abort_of_one : (P Q : Pages) (floor since : ℕ) → RuleHolds first.first_run P Q (abort_record 1) floor since → ⊥
+abort_of_one : (P Q : Pages) (floor since : ℕ) → RuleHolds run.first_run P Q (abort_record 1) floor since → ⊥
 abort_of_one P Q floor since (RuleHolds.create x) = let f = x.here.kind_is in cc
 abort_of_one P Q floor since (RuleHolds.begin x) = let f = x.here.kind_is in cc
 abort_of_one P Q floor since (RuleHolds.commit x) = let f = x.here.kind_is in cc
@@ -232,14 +291,14 @@ abort_of_one P Q floor since (RuleHolds.delete_post x) = let f = x.here.kind_is 
 abort_of_one P Q floor since (RuleHolds.drop_page x) = let f = x.here.kind_is in cc
 abort_of_one P Q floor since (RuleHolds.free_slots x) = let f = x.here.kind_is in cc
 
-in_use : (since p : ℕ) → 2 ≡ p → IsNew (use_in (first.placed_by 1)) since p → ⊥
-in_use since p e (IsNew.unused u low) = let f : use_in (first.placed_by 1) 2 ≡ usage.Unused = ap
-    (use_in (first.placed_by 1)) e ∙ u in cc
-in_use since p e (IsNew.deleted stamp u small) = let f : use_in (first.placed_by 1) 2 ≡ usage.Deleted stamp = ap
-    (use_in (first.placed_by 1)) e ∙ u in cc
+in_use : (since p : ℕ) → 2 ≡ p → IsNew (use_in rows.with_link) since p → ⊥
+in_use since p e (IsNew.unused u low) = let f : use_in rows.with_link 2 ≡ usage.Unused = ap
+    (use_in rows.with_link) e ∙ u in cc
+in_use since p e (IsNew.deleted stamp u small) = let f : use_in rows.with_link 2 ≡ usage.Deleted stamp = ap
+    (use_in rows.with_link) e ∙ u in cc
 
 -- a head in a used slot is not valid
-head_in_use : (Q : Pages) (floor since : ℕ) → RuleHolds log_begun (first.placed_by 1) Q (head_record 4096) floor since
+head_in_use : (Q : Pages) (floor since : ℕ) → RuleHolds log_begun rows.with_link Q (head_record 4096) floor since
     → ⊥
 head_in_use Q floor since (RuleHolds.create x) = let f = x.here.kind_is in cc
 head_in_use Q floor since (RuleHolds.begin x) = let f = x.here.kind_is in cc
@@ -279,11 +338,11 @@ head_in_use Q floor since (RuleHolds.place_head x) =
 abbrev behind_used : Edit
 behind_used = Delta (2 ∷ 0 ∷ 2 ∷ 0 ∷ 0 ∷ 0 ∷ 0 ∷ 0 ∷ []) 52 0 (1 ∷ head_bytes second_head)
 
-would_be_shown : page_bytes two_heads ≡ edited 7 behind_used (page_bytes (first.heap_page 1))
+would_be_shown : page_bytes two_heads ≡ edited 9 behind_used (page_bytes (rows.heap_page 5 0))
 unfolding edited used_in body_in page_bytes front_bytes framed u16_bytes u32_bytes u64_bytes zeros head_bytes
 would_be_shown = refl
 
-used_before : used_in (page_bytes (first.heap_page 1)) ≡ 51
+used_before : used_in (page_bytes (rows.heap_page 5 0)) ≡ 51
 unfolding used_in page_bytes front_bytes framed u16_bytes u32_bytes u64_bytes zeros head_bytes
 used_before = refl
 
@@ -319,23 +378,20 @@ commit_of_one P Q floor since (RuleHolds.free_slots x) = let f = x.here.kind_is 
 
 -- a transaction 3 marks the first document: the rule of MarkDeleted holds
 abbrev pub log_third : Log
-log_third = record { number = 9; xid = 3; kind = kind.Begin; changes = [] } ∷ second_run
+log_third = record { number = 12; xid = 3; kind = kind.Begin; changes = [] } ∷ second_run
 
 abbrev pub marked_slots : List (Option Head)
 marked_slots = Some (record (first.head 1) { deleted_by = 3 }) ∷ Some second_head ∷ []
 
 abbrev pub marked_page : Page
-marked_page = record { right = 0; stamp = 10; body = body.Heap marked_slots }
+marked_page = record { right = 0; stamp = 13; body = body.Heap marked_slots }
 
 abbrev pub with_mark : Pages
-with_mark zero = first.meta_page
-with_mark (suc zero) = first.root_page
-with_mark (suc (suc zero)) = marked_page
-with_mark (suc (suc (suc p))) = free_page
+with_mark = with_both marked_page two_rows
 
 abbrev pub mark_record : Record
 mark_record = record {
-  number = 10;
+  number = 13;
   xid = 3;
   kind = kind.MarkDeleted 4096 1;
   changes = first.image 2 marked_page ∷ [];
@@ -345,7 +401,7 @@ pub other_slots : (j : ℕ) → j ≢ 0 → slot_at marked_slots j ≡ slot_at t
 other_slots zero off = absurd (off refl)
 other_slots (suc j) off = refl
 
-mark_row : IsMarkDeleted log_third with_two with_mark mark_record
+mark_row : IsMarkDeleted log_third with_rows with_mark mark_record
 mark_row = record {
   here = record {
     doc = record { item = 4096; serial = 1 };

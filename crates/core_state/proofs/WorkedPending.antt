@@ -1,6 +1,5 @@
--- The rules of kinds that no worked log has yet, at the document of the first run: its row is put and linked, and
--- moves to the
--- tree of keys; and where its transaction is aborted its slot becomes free.
+-- The rules of the kinds that index a document, at the one of the worked log: its row is put and linked, and
+-- moves to the tree of keys; and where its transaction is aborted its slot becomes free.
 use Rattle.std.proofs.Common.{◌≡◌, ◌≢◌, ℕ, zero, suc, ◌<◌, List, [], ◌∷◌, length, get_or, refl, sym, ap, subst, ◌∙◌}
 use Rattle.std.proofs.Common.{inl, inr, arith}
 use Rattle.std.specs.Prelude.{Option, Some, None}
@@ -20,7 +19,7 @@ use Rattle.page_types.specs.declared.record.Record.{Record}
 use Rattle.page_types.specs.declared.record.Kind.TheVariants as kind
 use Rattle.core_state.specs.Log.{Log, Pages, In}
 use Rattle.core_state.specs.Documents.{Doc, head_of, HasBytes, IsChain, IsWhole, HasVector, IsDead, item_at}
-use Rattle.core_state.specs.Index.{keys_on, InRows, Pending, HasRow, Under, Main}
+use Rattle.core_state.specs.Index.{keys_on, InRows, IsLinked, Pending, HasRow, Under, Main}
 use Rattle.core_state.specs.Known.{known, use_in}
 use Rattle.core_state.specs.Changes.{IsNew, IsHeadChange, IsDeadHead}
 use Rattle.core_state.specs.PendingRules.{IsPutPending, IsLinkHere, IsLinkPending, IsLastAfter, IsShift}
@@ -29,7 +28,6 @@ use Rattle.core_state.specs.VacuumRules.{SlotLoses, IsGoneFrom, IsFreeSlots}
 use Rattle.core_state.specs.declared.answers.PageUse.TheVariants as usage
 use Rattle.core_state.proofs.Histories.{whole_one}
 use Rattle.core_state.proofs.Worked as first
-use Rattle.core_state.proofs.WorkedMore.{no_pair}
 
 -- the keys and the row of the document
 abbrev pub cat_key : Key
@@ -78,7 +76,7 @@ linked leaf (suc (suc zero)) = heap_page 5 0
 linked leaf (suc (suc (suc zero))) = row_page row
 linked leaf (suc (suc (suc (suc p)))) = free_page
 
-abbrev with_link : Pages
+abbrev pub with_link : Pages
 with_link = linked first.root_page
 
 abbrev pub with_cat : Pages
@@ -95,7 +93,7 @@ shifted (suc (suc (suc zero))) = record { right = 0; stamp = 8; body = body.Dele
 shifted (suc (suc (suc (suc p)))) = free_page
 
 -- the records
-abbrev put_record : Row → Record
+abbrev pub put_record : Row → Record
 put_record w = record {
   number = 4;
   xid = 1;
@@ -107,7 +105,7 @@ put_record w = record {
 abbrev pub log_put : Log
 log_put = put_record row ∷ first.log_placed
 
-abbrev link_record : Record
+abbrev pub link_record : Record
 link_record = record {
   number = 5;
   xid = 1;
@@ -159,6 +157,21 @@ head_changes r stamp a b = record {
   after = refl;
 }
 
+-- a chain that begins with page 3, which leads nowhere, has that page alone
+pub one_page : (P : Pages) (qs : List ℕ) (p : ℕ) → (P 3).right ≡ 0 → IsChain P 3 qs → In p qs → p ≡ 3
+one_page P [] p end c i = absurd i
+one_page P (q ∷ qs) p end c (inl e) = e ∙ sym c.0
+one_page P (q ∷ qs) p end c (inr i) =
+    let none : (P q).right ≡ 0 = ap (λ k. (P k).right) (sym c.0) ∙ end in
+    absurd (first.in_no_chain P qs p (subst (λ k. IsChain P k qs) none c.2) i)
+
+-- so the row on that page alone is linked where the list begins there
+pub linked_alone : (P : Pages) → first_of (P 0) ≡ 3 → (P 3).right ≡ 0 → rows_of (P 3) ≡ row ∷ [] → (w : Row)
+    → IsLinked P w → w ≡ row
+linked_alone P begins end on w k =
+    let here : k.page ≡ 3 = one_page P k.line k.page end (subst (λ n. IsChain P n k.line) begins k.is_line) k.on in
+    elim (subst (In w) on (subst (λ p. In w (rows_of (P p))) here k.there)) [ inl e ↦ e | inr z ↦ absurd z ]
+
 -- 9: the row is put
 used_below : (q : ℕ) → q < 3 → use_in (first.placed_by 1) q ≢ usage.Unused
 used_below zero l e = cc
@@ -174,7 +187,7 @@ pub no_row : (P : Pages) → P 0 ≡ first.meta_page → (i : ℕ) → HasRow P 
 no_row P e i h = first.in_no_chain P h.linked.line h.linked.page
     (subst (λ (m : Page). IsChain P (first_of m) h.linked.line) e h.linked.is_line) h.linked.on
 
-put_row : (since : ℕ) → IsPutPending first.log_placed (first.placed_by 1) (with_row row) (put_record row) since
+pub put_row : (since : ℕ) → IsPutPending first.log_placed (first.placed_by 1) (with_row row) (put_record row) since
 put_row since = record {
   here = record {
     doc = first.doc;
@@ -225,7 +238,7 @@ put_of_falling R P since x = falls x.here.rows (ap second_rows x.here.after_is) 
 all_keys : (k : Key) → In k (keys_of first.vector) → InRows (row ∷ []) k 4096
 all_keys k i = (row, inl refl, refl, i)
 
-link_row : IsLinkPending log_put (with_row row) with_link link_record
+pub link_row : IsLinkPending log_put (with_row row) with_link link_record
 link_row = record {
   here = record {
     doc = first.doc;
@@ -263,7 +276,7 @@ link_row = record {
     one_more last e = let n : 1 ≡ 2 = ap length e in omega (arith, n)
 
 -- 13: its keys come into the tree
-pending_there : (leaf : Page) (k : Key) → In k (keys_of first.vector) → Pending (linked leaf) k 4096
+pub pending_there : (leaf : Page) (k : Key) → In k (keys_of first.vector) → Pending (linked leaf) k 4096
 pending_there leaf k i = record {
   row = row;
   linked = record {
@@ -495,6 +508,6 @@ free_row floor = record {
         → IsGoneFrom log_aborted (first.placed_by 1) floor (record { item = item_at 2 slot; serial = h.serial })
     gone_doc zero h e f = record {
       dead = IsDead.insert_aborted 1 refl (inl (ap (λ s. record { item = 4096; serial = s }) (sym (ap serial_of e))));
-      no_pair = no_pair 4096;
+      no_pair = first.none_placed 4096;
     }
     gone_doc (suc slot) h e f = absurd (none_some h e)

@@ -15,13 +15,14 @@ use Rattle.core_state.specs.States.{state_of, size_of, edited_size, transaction,
 use Rattle.core_state.specs.declared.transactions.Transaction.{Transaction}
 use Rattle.core_state.specs.declared.answers.Fate.TheVariants.{Running, Committed}
 use Rattle.core_state.proofs.Worked as first
+use Rattle.core_state.proofs.WorkedRun as run
 
 -- the states after the placed head and after the commit
 abbrev placed : StateValue
 placed = state_of 10 100 first.log_placed
 
 abbrev ended : StateValue
-ended = state_of 10 100 first.first_run
+ended = state_of 10 100 run.first_run
 
 -- the body with the head has 51 bytes; one with no length breaks what is said
 body_size : length (body_bytes (body.Heap (Some (first.head 1) ∷ []))) ≡ 51
@@ -61,7 +62,7 @@ lost_name t =
 none_runs : transaction 1 ended.running ≡ None
 none_runs = refl
 
-kept_runner : StateTells first.first_run (record ended { running = placed.running }) → ⊥
+kept_runner : StateTells run.first_run (record ended { running = placed.running }) → ⊥
 kept_runner t =
     let count : 1 ≡ 0 = ap name_count (t.not_running 1 not_on) in
     omega (arith, count)

@@ -3,7 +3,6 @@ use Rattle.std.proofs.Common.{◌≡◌, ◌≢◌, ◌<◌, ℕ, zero, suc, Lis
 use Rattle.std.proofs.Common.{arith}
 use Rattle.std.proofs.lemmas.List.{length-append}
 use Rattle.std.specs.Prelude.{Option, Some, None}
-use Rattle.ts_base.specs.Vectors.{Vector}
 use Rattle.page_types.specs.Views.{free_page, slot_at}
 use Rattle.page_types.specs.declared.page.Page.{Page}
 use Rattle.page_types.specs.declared.page.Head.{Head}
@@ -12,7 +11,8 @@ use Rattle.page_types.specs.declared.page.Body.TheVariants as body
 use Rattle.page_types.specs.declared.record.Record.{Record}
 use Rattle.page_types.specs.declared.record.Kind.TheVariants as kind
 use Rattle.core_state.specs.Log.{Log, Pages, In, Shows, fate}
-use Rattle.core_state.specs.Documents.{Doc, HasVector, placed, page_of, slot_of}
+use Rattle.core_state.specs.Documents.{Doc, placed, page_of, slot_of}
+use Rattle.core_state.specs.Index.{IsIndexed}
 use Rattle.core_state.specs.Known.{use_in}
 use Rattle.core_state.specs.Allowed.{Sheet, View, IsOthers, IsAllowed, Step, IsDrawn, AreMade, Leaves, MayLog}
 use Rattle.core_state.specs.Steps.{sheet, RunsOwn, IsNewSheet, CanPlace, CanPutOverflow}
@@ -20,9 +20,10 @@ use Rattle.core_state.specs.Steady.{IsMaintenance}
 use Rattle.core_state.specs.declared.answers.Fate.TheVariants.{Running}
 use Rattle.core_state.specs.declared.answers.PageUse.TheVariants as usage
 use Rattle.core_state.proofs.Showing.{shown_one}
-use Rattle.core_state.proofs.Newest.{legal_less}
-use Rattle.core_state.proofs.Worked.{head, heap_page, made, placed_by, head_record, commit_record, log_begun}
-use Rattle.core_state.proofs.Worked.{log_placed, shown_begun, shown_placed, ready, legal}
+use Rattle.core_state.proofs.Worked.{head, heap_page, made, placed_by, head_record, log_begun}
+use Rattle.core_state.proofs.Worked.{log_placed, shown_begun, shown_placed, legal}
+use Rattle.core_state.proofs.WorkedPending.{log_linked, with_link}
+use Rattle.core_state.proofs.WorkedRun.{shown_linked, ready}
 use Rattle.core_state.proofs.Steps.Transactions.{commit_may}
 use Rattle.core_state.proofs.WorkedMore as more
 use Rattle.core_state.proofs.WorkedLong as long
@@ -138,20 +139,20 @@ no_second P c = elim c.held [
     not_new old is (IsNewSheet.unused free low) = let f = ap (λ (p : Page). p.body) (sym is) ∙ free in cc
     not_new old is (IsNewSheet.deleted g gone small) = let f = ap (λ (p : Page). p.body) (sym is) ∙ gone in cc
 
--- the transaction may commit then, its document being whole
+-- the transaction may commit once the row of its document is linked
 abbrev commit_step : Step
 commit_step = record { kind = kind.Commit 0; xid = 1; after = [] }
 
-abbrev AreWhole : Pages → Type 0
-AreWhole P = (d : Doc) → In d (placed log_placed 1) → (w : Vector) × HasVector P d w
+abbrev AreIndexed : Pages → Type 0
+AreIndexed P = (d : Doc) → In d (placed log_linked 1) → IsIndexed P d
 
-may_commit : MayLog (session log_placed []) commit_step
-may_commit = commit_may (session log_placed []) commit_step (λ P ok shown. record {
+may_commit : MayLog (session log_linked []) commit_step
+may_commit = commit_may (session log_linked []) commit_step (λ P ok shown. record {
   number = 0;
   kind_is = refl;
   after_is = refl;
-  own = owns 1 log_placed [] refl;
-  whole = subst AreWhole (shown_one log_placed (placed_by 1) P shown_placed shown) ready;
+  own = owns 1 log_linked [] refl;
+  indexed = subst AreIndexed (shown_one log_linked with_link P shown_linked shown) ready;
 })
 
 -- a document that had committed may be marked by transaction 3, which leaves the worked page
@@ -248,7 +249,7 @@ allowed_placed = record {
   later = [];
   goes_on = refl;
   others = tt;
-  legal = legal_less commit_record log_placed legal;
+  legal = legal;
   keeps = tt;
   pages = placed_by 1;
   shown = shown_placed;

@@ -14,7 +14,6 @@ use Rattle.page_types.specs.declared.page.Body.TheVariants as body
 use Rattle.page_types.specs.declared.record.Record.{Record}
 use Rattle.page_types.specs.declared.record.Kind.TheVariants as kind
 use Rattle.core_state.specs.Log.{Log, Pages, In, fate}
-use Rattle.core_state.specs.Documents.{IsChain}
 use Rattle.core_state.specs.Index.{Pending, HasRow}
 use Rattle.core_state.specs.Known.{use_in}
 use Rattle.core_state.specs.Changes.{IsNew}
@@ -30,14 +29,6 @@ use Rattle.core_state.proofs.WorkedSplit as large
 abbrev first_page : List Page → Page
 first_page (p ∷ ps) = p
 first_page [] = free_page
-
--- a chain that begins with page 3, which leads nowhere, has that page alone
-one_page : (P : Pages) (qs : List ℕ) (p : ℕ) → (P 3).right ≡ 0 → IsChain P 3 qs → In p qs → p ≡ 3
-one_page P [] p end c i = absurd i
-one_page P (q ∷ qs) p end c (inl e) = e ∙ sym c.0
-one_page P (q ∷ qs) p end c (inr i) =
-    let none : (P q).right ≡ 0 = ap (λ k. (P k).right) (sym c.0) ∙ end in
-    absurd (first.in_no_chain P qs p (subst (λ k. IsChain P k qs) none c.2) i)
 
 -- 10: the document's row comes after that of another
 abbrev other : Row
@@ -69,7 +60,7 @@ no_own_row : HasRow (listing 5 (other ∷ [])) 4096 → ⊥
 no_own_row h =
     let P : Pages = listing 5 (other ∷ []) in
     let at : h.linked.page ≡ 3 =
-    one_page P h.linked.line h.linked.page refl h.linked.is_line h.linked.on in
+    rows.one_page P h.linked.line h.linked.page refl h.linked.is_line h.linked.on in
     let there : In h.row (other ∷ []) =
     subst (λ p. In h.row (rows_in (P p).body)) at h.linked.there in
     omega (arith, h.item, of_other h.row there)

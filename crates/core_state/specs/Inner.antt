@@ -2,6 +2,7 @@
 pub mod Lists
 pub mod Rising
 pub mod Placing
+pub mod PendingRows
 pub mod HeadChanges
 pub mod Lowest
 pub mod Begun

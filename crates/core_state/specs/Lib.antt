@@ -18,6 +18,7 @@ pub mod PagesTold
 pub mod RecordKeeps
 pub mod Allowed
 pub mod Steps
+pub mod PendingSteps
 pub mod Logged
 pub mod Stores
 pub mod Lives

@@ -29,6 +29,10 @@ CommitsIndexed R =
     → r.kind ≡ kind.Commit number → Shows earlier P
     → (d : Doc) → In d (placed earlier r.xid) → IsIndexed P d
 
+-- it is so of every legal log
+abbrev pub CommitsHold : Type 0
+CommitsHold = (R : Log) → IsLegal R → CommitsIndexed R
+
 -- Documents that are there have their slots and are whole, each in a slot of its own.
 pub record AreThere (R : Log) (P : Pages) (floor : ℕ) : Type 0 where
   pub whole : (d : Doc) → IsThere R floor d → (v : Vector) × HasVector P d v

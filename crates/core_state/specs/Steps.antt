@@ -12,6 +12,7 @@ use Rattle.page_types.specs.declared.page.Body.TheVariants as body
 use Rattle.page_types.specs.declared.record.Kind.TheVariants as kind
 use Rattle.core_state.specs.Log.{Log, Pages, In, Shows, next_xid, fate}
 use Rattle.core_state.specs.Documents.{Doc, IsChain, HasVector, placed, marked, page_of, slot_of, parts}
+use Rattle.core_state.specs.Index.{IsIndexed}
 use Rattle.core_state.specs.Known.{use_in}
 use Rattle.core_state.specs.Changes.{PutsSlot}
 use Rattle.core_state.specs.HeapRules.{IsNewHead}
@@ -57,14 +58,14 @@ pub record CanBegin (v : View) (P : Pages) (s : Step) : Type 0 where
   pub kind_is : s.kind ≡ kind.Begin
   pub after_is : s.after ≡ []
 
--- An own transaction is committed: each document that it placed is whole. The number is drawn when
--- it is logged, whatever is here.
+-- An own transaction is committed: each document that it placed is whole and indexed. The number is
+-- drawn when it is logged, whatever is here.
 pub record CanCommit (v : View) (P : Pages) (s : Step) : Type 0 where
   pub number : ℕ
   pub kind_is : s.kind ≡ kind.Commit number
   pub after_is : s.after ≡ []
   pub own : RunsOwn v s.xid
-  pub whole : (d : Doc) → In d (placed v.seen s.xid) → (w : Vector) × HasVector P d w
+  pub indexed : (d : Doc) → In d (placed v.seen s.xid) → IsIndexed P d
 
 -- an own transaction is aborted
 pub record CanAbort (v : View) (P : Pages) (s : Step) : Type 0 where

@@ -1,13 +1,13 @@
 -- When a record of the kinds 1 to 5 may come next: the store is made, transactions begin and end,
 -- checkpoints.
 use Rattle.std.specs.Prelude.{◌≡◌, ◌⊎◌, ℕ, suc, ◌<◌, ◌≤◌, List, [], ◌∷◌}
-use Rattle.ts_base.specs.Vectors.{Vector}
 use Rattle.page_types.specs.declared.page.Page.{Page}
 use Rattle.page_types.specs.declared.page.Body.TheVariants as body
 use Rattle.page_types.specs.declared.record.Record.{Record}
 use Rattle.page_types.specs.declared.record.Kind.TheVariants as kind
 use Rattle.core_state.specs.Log.{Log, Pages, In, changed, xid_bound}
-use Rattle.core_state.specs.Documents.{Doc, HasVector, placed}
+use Rattle.core_state.specs.Documents.{Doc, placed}
+use Rattle.core_state.specs.Index.{IsIndexed}
 use Rattle.core_state.specs.Known.{Known}
 use Rattle.core_state.specs.Changes.{Here, made_with}
 use Rattle.core_state.specs.declared.answers.Fate.TheVariants.{Running}
@@ -40,10 +40,10 @@ pub record IsCommitHere (k : Known) (r : Record) (before after : List Page) : Ty
   pub pages : changed r ≡ []
   pub runs : k.fates r.xid ≡ Running
 
--- 3 Commit: each document that the transaction placed is whole
+-- 3 Commit: each document that the transaction placed is whole and indexed
 pub record IsCommit (R : Log) (P Q : Pages) (r : Record) : Type 0 where
   pub here : Here IsCommitHere R P Q r
-  pub rest : (d : Doc) → In d (placed R r.xid) → (v : Vector) × HasVector P d v
+  pub rest : (d : Doc) → In d (placed R r.xid) → IsIndexed P d
 
 -- the transaction runs, or the xid is 0, which ends every running one
 pub record IsAbortHere (k : Known) (r : Record) (before after : List Page) : Type 0 where

@@ -2,7 +2,7 @@
 ghost use Rattle.core_state.specs.Laws.{KeysAreOne, ShownAreOne, OthersStay, MadeIsPage, ValidIsMonotone, LegalWithoutNewest, KeepsWithoutNewest, HistoryIsOne, LegalHasHistory};
 ghost use Rattle.core_state.specs.States.{StateFollows};
 ghost use Rattle.core_state.specs.Bullets.{BulletsHold};
-ghost use Rattle.core_state.specs.Standing.{DocumentsHold};
+ghost use Rattle.core_state.specs.Standing.{DocumentsHold, CommitsHold};
 ghost use Rattle.core_state.specs.Steady.{SteadyHold};
 ghost use Rattle.core_state.specs.PagesTold.{PagesHold};
 ghost use Rattle.core_state.specs.RecordKeeps.{RecordsKeep};
@@ -59,9 +59,11 @@ pub fn steady_hold()
 {}
 
 /// A document that is committed and not dead has its slot, is whole, and no other has its slot, also
-/// under each pin that the log keeps; a head's deleting xid is 0 or has marked the document.
+/// under each pin that the log keeps; a head's deleting xid is 0 or has marked the document. Each commit
+/// found the documents of its transaction indexed.
 pub fn documents_hold()
-    ensures { DocumentsHold }
+    ensures documents { DocumentsHold }
+    ensures commits { CommitsHold }
 {}
 
 /// What the pages of a legal log say of each other: the metapage of the pending list, whose rows are

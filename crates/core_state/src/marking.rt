@@ -21,7 +21,7 @@ use page_types::{
 use std::alloc::AllocError;
 
 // The head of the document with this name, if it has its slot of this heap page.
-fn head_in(page: &Page, name: Name) -> Option<HeadRef<'_>>
+pub(crate) fn head_in(page: &Page, name: Name) -> Option<HeadRef<'_>>
     ensures some { IfSome result (λ h. HasHead page.now name (head_shown h)) }
     ensures none { IfNone result ((h : Head) → HasHead page.now name h → ⊥) }
 {
@@ -50,7 +50,7 @@ fn puts_head(slots: &Slots, slot: u16, fields: HeadFields, vector: &[u8], new: &
 }
 
 // Whether a record leaves the page with such a head in the slot, and all else as it was.
-fn leaves_in_slot(
+pub(crate) fn leaves_in_slot(
     rec: &Record,
     slot: u16,
     old: &Page,
@@ -145,7 +145,7 @@ fn may_be_put(state: &State, xid: u32, fields: HeadFields) -> bool
 }
 
 // The second of two pages that a record changes, of which this is the first.
-fn second_page(rec: &Record, first: u32) -> Option<u32>
+pub(crate) fn second_page(rec: &Record, first: u32) -> Option<u32>
     ensures some { IfSome result (λ p. changed rec.now ≡ first ∷ p ∷ []) }
     ensures none { IfNone result ((p : ℕ) → changed rec.now ≢ first ∷ p ∷ []) }
 {

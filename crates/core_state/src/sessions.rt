@@ -1,5 +1,7 @@
 // What a session may conclude of a log of which it has seen a part, and what it may log.
 ghost use Rattle.core_state.specs.Steps.{CanBegin, CanCommit, CanAbort, CanPlace, CanPutOverflow, CanMark, MayBy, IdleHolds, NotDrawnHolds, OwnHolds, PinHolds, RightHolds};
+ghost use Rattle.core_state.specs.PendingSteps.{CanPutPending, CanAddRow, CanLinkPending};
+ghost use Rattle.core_state.specs.PendingSteps.{LinkedIsIndexed, PutIsInFront, OthersKeepRows};
 ghost use Rattle.core_state.specs.Logged.{LegalKeepsNow, FlushKeepsNow, PinIsTaken, LoggedStepsHold, AbortOfAllHolds};
 
 /// In each log that is allowed to a session an own transaction's documents are as they were seen,
@@ -22,6 +24,18 @@ pub fn steps_hold()
     ensures place { MayBy CanPlace }
     ensures put_overflow { MayBy CanPutOverflow }
     ensures mark { MayBy CanMark }
+{}
+
+/// So may a step that puts rows of an own document, adds one to the pending list or links those that
+/// it put. Behind such a row or link the document is indexed; behind a page of rows its head leads to it
+/// and to those before. Records of other kinds than AddRow, LinkPending and Shift keep the linked rows.
+pub fn pending_steps_hold()
+    ensures put_pending { MayBy CanPutPending }
+    ensures add_row { MayBy CanAddRow }
+    ensures link_pending { MayBy CanLinkPending }
+    ensures indexed { LinkedIsIndexed }
+    ensures in_front { PutIsInFront }
+    ensures others { OthersKeepRows }
 {}
 
 /// A legal log keeps the pin that a statement would take, also once more commits are flushed; and it

@@ -158,20 +158,20 @@ no_abort redo = no_redo (begin_record ∷ create_record ∷ []) abort_record red
 create_is : IsRecordOf [] create_step create_record
 create_is = record {
   drawn = record { number = refl; fits = λ e. cc e; xid = refl; kind = refl; pages = refl };
-  is_record = legal.valid.0.0.0.1.is_record;
-  can_edit = legal.valid.0.0.0.1.can_edit;
+  is_record = legal.valid.0.0.1.is_record;
+  can_edit = legal.valid.0.0.1.can_edit;
   bytes = create_bytes;
-  images = legal.images.0.0.0;
+  images = legal.images.0.0;
   redo_images = λ x redo i is. absurd (no_create redo x i is);
 }
 
 begin_is : IsRecordOf (create_record ∷ []) begin_step begin_record
 begin_is = record {
   drawn = record { number = refl; fits = λ e. omega arith; xid = refl; kind = refl; pages = refl };
-  is_record = legal.valid.0.0.1.is_record;
+  is_record = legal.valid.0.1.is_record;
   can_edit = λ c i. absurd i;
   bytes = λ x i. absurd i;
-  images = legal.images.0.0;
+  images = legal.images.0;
   redo_images = λ x redo i is. absurd (no_begin redo x i is);
 }
 
@@ -182,7 +182,7 @@ abort_is = record {
       record { number = omega arith; xid = omega arith; kind = tt; count = omega arith; changes = tt; once = tt };
   can_edit = λ c i. absurd i;
   bytes = λ x i. absurd i;
-  images = (legal.images.0.0, λ c i l. absurd i);
+  images = (legal.images.0, λ c i l. absurd i);
   redo_images = λ x redo i is. absurd (no_abort redo x i is);
 }
 

@@ -10,6 +10,7 @@ use Rattle.page_types.specs.declared.record.Record.{Record}
 use Rattle.page_types.specs.declared.record.Kind.TheVariants as kind
 use Rattle.core_state.specs.Log.{Log, Pages, In, changed, fate}
 use Rattle.core_state.specs.Documents.{IsChain, HasVector}
+use Rattle.core_state.specs.Index.{IsIndexed}
 use Rattle.core_state.specs.Changes.{made_with}
 use Rattle.core_state.specs.PendingRules.{IsAddRow}
 use Rattle.core_state.specs.declared.answers.Fate.TheVariants.{Running}
@@ -227,6 +228,26 @@ module _ (n L : ℕ) (R : Log) (P Q : Pages) (r : Record) (since : ℕ) (g : Gho
     main = main_now n since L R P Q r g v l g.place g.line each;
     line = line_step;
     shifted_stays = λ p e. e;
+  }
+
+  -- so the document is indexed
+  pub indexed_now : IsIndexed Q x.here.doc
+  indexed_now = record {
+    vector = x.rest.vector;
+    whole = whole_now;
+    there = inl (λ k m. record {
+      row = x.here.row;
+      linked = record {
+        line = g.line;
+        is_line = lined.is_line;
+        page = last;
+        on = (v.lined.on last).1 on_line;
+        there = subst (In x.here.row) (sym rows_are)
+            (in_back x.here.row x.here.rows (x.here.row ∷ []) (inl refl));
+      };
+      item = item;
+      key = subst (In k) (sym x.rest.keys) m;
+    });
   }
 
 pub add_row_case : CaseOf (λ R P Q r floor since. IsAddRow R P Q r)

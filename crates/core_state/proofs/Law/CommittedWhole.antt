@@ -55,7 +55,8 @@ module _ (n L : ℕ) (R : Log) (r : Record) (floor since : ℕ) (u : Valid R r f
           | inl there ↦
               let row : IsCommit R u.before u.after r = kind_rule R u.before u.after r floor since (kind.Commit k) now.0
               u.rule in
-              still d before (row.rest d (subst (λ (z : ℕ). In d (placed R z)) (sym now.1) there))
+              let is = row.rest d (subst (λ (z : ℕ). In d (placed R z)) (sym now.1) there) in
+              still d before (is.vector, is.whole)
         ]
       ]
 

@@ -14,7 +14,7 @@ use Rattle.page_types.specs.declared.record.Record.{Record}
 use Rattle.page_types.specs.declared.record.Kind.TheVariants as kind
 use Rattle.core_state.specs.Log.{Log, Pages, In, changed, fate}
 use Rattle.core_state.specs.Documents.{Has, IsChain, IsWhole, HasVector, IsDead, page_of, doc_at}
-use Rattle.core_state.specs.Index.{Line, InRows, rows_on}
+use Rattle.core_state.specs.Index.{Line, InRows, IsIndexed, rows_on}
 use Rattle.core_state.specs.PendingRules.{IsLinkPending}
 use Rattle.core_state.specs.declared.answers.Fate.TheVariants.{Running}
 use Rattle.core_state.specs.Inner.Effects.{NewRow}
@@ -34,6 +34,7 @@ use Rattle.core_state.proofs.StaysIndexed.{same_doc, runs_alive}
 use Rattle.core_state.proofs.ChainRows.{LeavesOverflows, overflows_stay, link_privates}
 use Rattle.core_state.proofs.Law.Invariant.{Inv}
 use Rattle.core_state.proofs.Law.Places.{place_for}
+use Rattle.core_state.proofs.Law.RowsIndexed.{on_some}
 use Rattle.core_state.proofs.Law.Steps.{Left, Case, CaseOf}
 use Rattle.core_state.proofs.Law.SamePages.{not_first}
 use Rattle.core_state.proofs.Law.OwnersStay.{PrivateNow, rows_stay, all_keys_stay, on_line_row, same_rows}
@@ -433,6 +434,28 @@ module _ (n L : ℕ) (R : Log) (P Q : Pages) (r : Record) (since : ℕ) (g : Gho
     main = main_now n since L R P Q r g v l f ln each;
     line = line_step;
     shifted_stays = λ p e. joined_on item (g.place p) shifted e (λ z. cc);
+  }
+
+  -- so the document is indexed
+  pub indexed_now : IsIndexed Q x.here.doc
+  indexed_now = record {
+    vector = x.rest.vector;
+    whole = whole_now;
+    there = inl (λ k m.
+        let w = x.rest.all_keys k m in
+        let o = on_some P chain w.0 w.1 in
+        record {
+          row = w.0;
+          linked = record {
+            line = ln;
+            is_line = lined.is_line;
+            page = o.0;
+            on = in_back o.0 g.line chain o.1;
+            there = subst (λ (p : Page). In w.0 (rows_of p)) (sym (chain_same o.0 o.1)) o.2;
+          };
+          item = w.2;
+          key = w.3;
+        });
   }
 
 pub link_pending_case : CaseOf (λ R P Q r floor since. IsLinkPending R P Q r)

@@ -101,7 +101,7 @@ module _ (n L : ℕ) (R : Log) (P Q : Pages) (r : Record) (floor since : ℕ) (g
   turns : HeadStep R P Q r n
   turns = head_step R P Q r n since touch elsewhere row_n
 
-  left : Left n since R P Q r
+  pub left : Left n since R P Q r
   left = record {
     touched = touch;
     elsewhere = elsewhere;

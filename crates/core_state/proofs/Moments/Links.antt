@@ -1,19 +1,22 @@
 -- Over the moments past a pin a walk along links reads no page twice.
-use Rattle.std.proofs.Common.{◌≡◌, ◌≢◌, ◌<◌, ◌≤◌, ◌+◌, ◌-◌, ℕ, zero, suc, List, [], ◌∷◌, length, refl, sym, ap, subst}
-use Rattle.std.proofs.Common.{◌∙◌, inl, inr, arith}
+use Rattle.std.proofs.Common.{◌≡◌, ◌≢◌, ◌⊎◌, ◌<◌, ◌≤◌, ◌+◌, ◌-◌, ℕ, zero, suc, List, [], ◌∷◌, ◌++◌, length, refl, sym}
+use Rattle.std.proofs.Common.{ap, subst, ◌∙◌, inl, inr, arith}
 use Rattle.page_types.specs.Views.{entries_of, kept_rows_of, first_of, free_page}
 use Rattle.page_types.specs.declared.page.Page.{Page}
 use Rattle.page_types.specs.declared.page.Entry.{Entry}
 use Rattle.page_types.specs.declared.page.Row.{Row}
 use Rattle.page_types.specs.declared.page.Postings.TheVariants.{Root}
+use Rattle.page_types.specs.declared.page.Body.TheVariants as body
+use Rattle.page_types.specs.declared.page.Gone.TheVariants as gone
 use Rattle.core_state.specs.Log.{Log, Pages, In, Shows, cut}
 use Rattle.core_state.specs.Legal.{IsLegal, RecordsAreValid, Pin, Keeps}
 use Rattle.core_state.specs.Trees.Ext.{Ext}
 use Rattle.core_state.specs.Trees.Ext.Ext.{least, greatest}
 use Rattle.core_state.specs.Trees.Nodes as nodes
 use Rattle.core_state.specs.Trees.TreeNodes.{entry_node, entry_nodes, post_node, post_nodes}
-use Rattle.core_state.specs.Inner.Ghosts.{Ghost, entry_place, post_place, entry_ghost, post_ghost}
-use Rattle.core_state.specs.Inner.Ghosts.Place.{shifted}
+use Rattle.core_state.specs.Inner.Ghosts.{Place, Ghost, entry_place, post_place, entry_ghost, post_ghost}
+use Rattle.core_state.specs.Inner.Ghosts.Place.{line as lined, shifted}
+use Rattle.core_state.specs.Inner.Kinds.{Fits}
 use Rattle.core_state.proofs.Showing.{shown_one, none_yet, shown_none}
 use Rattle.core_state.proofs.Law.Steps.{StepHolds}
 use Rattle.core_state.proofs.Law.OneStep.{page_0}
@@ -34,8 +37,21 @@ use Rattle.core_state.proofs.Moments.Timeline.{Timeline, from_later}
 abbrev pub BeginsAt : ℕ → List Read → Type 0
 BeginsAt p xs = (x : Read) (ys : List Read) → xs ≡ x ∷ ys → x.page ≡ p
 
+-- the page is one of the pending list, or was one when it was deleted
+abbrev pub IsListPage : Page → Type 0
+IsListPage p = (rows : List Row) × ((p.body ≡ body.Pending rows) ⊎ (p.body ≡ body.Deleted (gone.Pending rows)))
+
+-- A walk along the pending list up to page q: the pages that were read are the first of a chain at the moment of the
+-- last read, and q leads on along it; from then on q is a page of the list, or was one.
+pub record OpenLine (R : Log) (pages : ℕ → Pages) (from : ℕ) (xs : List Read) (q : ℕ) : Type 0 where
+  pub more : List ℕ
+  pub whole : pend.IsChain (λ p. (pages (pend.last_time from xs) p).right) (first_of (pages from 0))
+      (pend.pages xs ++ more)
+  pub next : pend.IsChain (λ p. (pages (pend.last_time from xs) p).right) q more
+  pub stays_on : q ≢ 0 → (t : ℕ) → pend.last_time from xs ≤ t → t ≤ length R → IsListPage (pages t q)
+
 -- the pages of a log past a pin, and that walks over them, at rising moments, read no page twice: through the entry
--- tree from page 1, through a posting tree that an entry named, and along the pending list
+-- tree from page 1, through a posting tree that an entry named, and along the pending list, also up to some page of it
 pub record Links (R : Log) (pin : Pin) : Type 0 where
   pub pages : ℕ → Pages
   pub shown : (t : ℕ) → pin.length ≤ t → t ≤ length R → Shows (cut t R) (pages t)
@@ -44,9 +60,8 @@ pub record Links (R : Log) (pin : Pin) : Type 0 where
   pub posts : (s p : ℕ) (x : Entry) (r : ℕ) (xs : List Read) → pin.length ≤ s → s ≤ length R
       → In x (entries_of (pages s p)) → x.postings ≡ Root r → Rising s (length R) xs
       → Linked (λ t q. post_node (pages t q)) xs → BeginsAt r xs → Apart xs
-  pub line : (from : ℕ) (xs : List Read) → pin.length ≤ from → from ≤ length R → Rising from (length R) xs
-      → pend.Follows (λ t q. (pages t q).right) (first_of (pages from 0)) xs
-      → (u : ℕ) × pend.IsChain (λ q. (pages u q).right) (first_of (pages from 0)) (pend.pages xs)
+  pub line : (from : ℕ) (xs : List Read) (q : ℕ) → pin.length ≤ from → from ≤ length R → Rising from (length R) xs
+      → pend.Leads (λ t p. (pages t p).right) (first_of (pages from 0)) xs q → OpenLine R pages from xs q
 
 some_pages : (R : Log) → RecordsAreValid R → (P : Pages) × Shows R P
 some_pages [] v = (none_yet, shown_none)
@@ -167,18 +182,31 @@ module _ (step : StepHolds) (R : Log) (pin : Pin) (legal : IsLegal R) (keeps : K
           (in_tree (post_ghost (g y.time)) r r now)
 
   -- the pending list
-  abbrev Line : ℕ → List Read → Type 0
-  Line from xs = (u : ℕ) × pend.IsChain (λ q. (P u q).right) (first_of (P from 0)) (pend.pages xs)
+  abbrev Line : ℕ → List Read → ℕ → Type 0
+  Line from xs q = OpenLine R M.moments.pages from xs q
 
   no_log : (S : Log) → length S ≡ 0 → S ≡ []
   no_log [] h = refl
   no_log (r ∷ S) h = absurd (omega (arith, h))
 
-  line_late : (from : ℕ) (xs : List Read) → pin.length ≤ from → from ≤ length R → 1 ≤ from
-      → Rising from (length R) xs → pend.Follows (λ t q. (P t q).right) (first_of (P from 0)) xs → Line from xs
-  line_late from xs low within some rise follows =
+  -- what is on the line, or was shifted since the pin
+  list_page : (t q : ℕ) → pin.length ≤ t → t ≤ length R → ((g t).place q ≡ shifted) ⊎ In q (g t).line
+      → IsListPage (P t q)
+  list_page t q a b (inl e) =
+      let f : Fits pin.length shifted (P t q) =
+      subst (λ (z : Place). Fits pin.length z (P t q)) e ((T.inv t a b).kinds q) in
+      (f.0, inr f.1)
+  list_page t q a b (inr i) =
+      let e = ((T.inv t a b).lined.on q).0 i in
+      let f : Fits pin.length lined (P t q) =
+      subst (λ (z : Place). Fits pin.length z (P t q)) e ((T.inv t a b).kinds q) in
+      (f.0, inl f.1)
+
+  line_late : (from : ℕ) (xs : List Read) (q : ℕ) → pin.length ≤ from → from ≤ length R → 1 ≤ from
+      → Rising from (length R) xs → pend.Leads (λ t p. (P t p).right) (first_of (P from 0)) xs q → Line from xs q
+  line_late from xs q low within some rise leads =
       let S = from_later pin pin.length from R P g low T in
-      pend.reads_chain (λ (row : Row). row.item) (λ j. ⊥) (λ u p. kept_rows_of (P u p))
+      let w = pend.reads_open (λ (row : Row). row.item) (λ j. ⊥) (λ u p. kept_rows_of (P u p))
       (λ u p. (P u p).right) (λ u. first_of (P u 0)) (λ u. (g u).line) (λ u p. (g u).place p ≡ shifted)
       from (length R)
       (λ t a b. phases.as_chain (P t) (first_of (P t 0)) (g t).line (S.inv t a b).lined.is_line)
@@ -191,25 +219,33 @@ module _ (step : StepHolds) (R : Log) (pin : Pin) (legal : IsLegal R) (keeps : K
             (λ u c h j f n. f) t p a b e),
       ))
       (phases.steps pin R P g from S some within legal.valid keeps.each (λ j. ⊥) (λ u c h j f n. f))
-      xs within rise follows
+      xs q within rise leads in
+      let between = pend.last_between from (length R) xs rise in
+      record {
+        more = w.more;
+        whole = w.whole;
+        next = w.next;
+        stays_on = λ off t a b. list_page t q (omega (arith, low, between.0, a)) b (w.stays_on off t a b);
+      }
 
   free_first : (from : ℕ) → pin.length ≤ from → from ≤ length R → from ≡ 0 → first_of (P from 0) ≡ 0
   free_first from low within e = ap (λ (z : Pages). first_of (z 0)) (shown_one [] (P from) none_yet
       (subst (λ z. Shows z (P from)) (no_log (cut from R) (phases.cut_length R from within ∙ e))
       (T.shown from low within)) shown_none)
 
-  line_early : (from : ℕ) (xs : List Read) → first_of (P from 0) ≡ 0
-      → pend.Follows (λ t q. (P t q).right) (first_of (P from 0)) xs → Line from xs
-  line_early from [] e f = (from, e)
-  line_early from (x ∷ xs) e f = absurd (f.0 e)
+  line_early : (from : ℕ) (xs : List Read) (q : ℕ) → first_of (P from 0) ≡ 0
+      → pend.Leads (λ t p. (P t p).right) (first_of (P from 0)) xs q → Line from xs q
+  line_early from [] q e f =
+      record { more = []; whole = e; next = sym f ∙ e; stays_on = λ off t a b. absurd (off (sym f ∙ e)) }
+  line_early from (x ∷ xs) q e f = absurd (f.0 e)
 
-  line_chain : (from : ℕ) (xs : List Read) → pin.length ≤ from → from ≤ length R
-      → Rising from (length R) xs → pend.Follows (λ t q. (P t q).right) (first_of (P from 0)) xs → Line from xs
-  line_chain from xs low within rise follows = by from refl
+  line_chain : (from : ℕ) (xs : List Read) (q : ℕ) → pin.length ≤ from → from ≤ length R
+      → Rising from (length R) xs → pend.Leads (λ t p. (P t p).right) (first_of (P from 0)) xs q → Line from xs q
+  line_chain from xs q low within rise leads = by from refl
     where
-      by : (n : ℕ) → from ≡ n → Line from xs
-      by zero e = line_early from xs (free_first from low within e) follows
-      by (suc n) e = line_late from xs low within (omega (arith, e)) rise follows
+      by : (n : ℕ) → from ≡ n → Line from xs q
+      by zero e = line_early from xs q (free_first from low within e) leads
+      by (suc n) e = line_late from xs q low within (omega (arith, e)) rise leads
 
   links_by : Links R pin
   links_by = record {

@@ -5,14 +5,14 @@ use Rattle.core_state.specs.Log.{Log, Pages, In, Shows, cut}
 use Rattle.core_state.specs.Documents.{Doc, item_at, name_of}
 use Rattle.core_state.specs.History.{Document, History, IsHistory, docs}
 use Rattle.core_state.specs.Bullets.{WasIndexed}
-use Rattle.core_state.specs.Legal.{IsLegal, Pin, Keeps}
-use Rattle.core_state.specs.Standing.{CommitsIndexed}
+use Rattle.core_state.specs.Legal.{RecordsAreValid, IsLegal, Pin, Keeps}
 use Rattle.core_state.specs.Inner.Ghosts.{Ghost}
 use Rattle.core_state.proofs.HeadSteps.{item_is}
 use Rattle.core_state.proofs.Visible.{Visible, visible}
 use Rattle.core_state.proofs.Law.Steps.{StepHolds}
 use Rattle.core_state.proofs.Law.Runs.{past_run}
 use Rattle.core_state.proofs.Law.AllCases.{all_steps}
+use Rattle.core_state.proofs.Law.CommitsIndexed.{commits_indexed}
 use Rattle.core_state.proofs.Law.SnapshotsStay.{shown_pages, commit_within, commit_before}
 use Rattle.core_state.proofs.Moments.Timeline.{Timeline, Moments, moments_of, from_later}
 use Rattle.core_state.proofs.Moments.Told.{Trees, Pends, Facts}
@@ -31,10 +31,10 @@ pub record Told (R : Log) (start : ℕ) (D : Document) : Type 1 where
   pub facts : Facts pages start (length R) trees item pends D.vector
 
 -- at the pin's length a document of its snapshot was indexed
-pub was_indexed : (pin : Pin) (R : Log) (D : Document) (V : Visible R pin.commits D) → CommitsIndexed R
+pub was_indexed : (pin : Pin) (R : Log) (D : Document) (V : Visible R pin.commits D) → RecordsAreValid R
     → length V.inserted.commit.earlier < pin.length → pin.length ≤ length R
     → WasIndexed (cut pin.length R) V.inserted.doc
-was_indexed pin R D V all l w =
+was_indexed pin R D V valid l w =
     let c = V.inserted.commit in
     let b = commit_before pin R D V l w in
     record {
@@ -43,8 +43,8 @@ was_indexed pin R D V all l w =
       goes_on = b.1 ∙ sym (Rattle.std.proofs.Common.append_assoc b.0 (c.by ∷ []) c.earlier);
       pages = c.pages;
       shown = c.shown;
-      indexed = all c.later c.earlier c.by V.inserted.number c.pages c.log_is c.kind_is c.shown V.inserted.doc
-          c.placed_by;
+      indexed = commits_indexed R valid c.later c.earlier c.by V.inserted.number c.pages c.log_is c.kind_is c.shown
+          V.inserted.doc c.placed_by;
     }
 
 -- what was indexed at a moment was so for all later ones
@@ -75,7 +75,7 @@ later_indexed R early late d l b w =
     between = parts (length R - late) (length R - early) R (omega (arith, l, b))
 
 module _ (step : StepHolds) (R : Log) (pin : Pin) (H : History) (legal : IsLegal R) (keeps : Keeps R pin)
-    (all : CommitsIndexed R) (history : IsHistory R H) (D : Document) (there : In D (docs (take pin.commits H)))
+    (history : IsHistory R H) (D : Document) (there : In D (docs (take pin.commits H)))
     (start : ℕ) (from : pin.length ≤ start) (within : start ≤ length R) where
   V : Visible R pin.commits D
   V = visible R H pin.commits D legal.valid history there
@@ -96,7 +96,8 @@ module _ (step : StepHolds) (R : Log) (pin : Pin) (H : History) (legal : IsLegal
   T = from_later pin pin.length start R moments.2.pages moments.2.ghosts from moments.2.timeline
 
   was : WasIndexed (cut start R) V.inserted.doc
-  was = later_indexed R pin.length start V.inserted.doc from within (was_indexed pin R D V all early keeps.within)
+  was = later_indexed R pin.length start V.inserted.doc from within
+      (was_indexed pin R D V legal.valid early keeps.within)
 
   same_item : V.inserted.doc.item ≡ item_at D.name.page D.name.slot
   same_item = sym (item_is V.inserted.doc.item (name_of V.inserted.doc).page refl)
@@ -117,8 +118,8 @@ module _ (step : StepHolds) (R : Log) (pin : Pin) (H : History) (legal : IsLegal
   }
 
 -- it holds of each document of a kept pin's snapshot
-pub snapshot_told : (R : Log) (pin : Pin) (H : History) → IsLegal R → Keeps R pin → CommitsIndexed R → IsHistory R H
+pub snapshot_told : (R : Log) (pin : Pin) (H : History) → IsLegal R → Keeps R pin → IsHistory R H
     → (D : Document) → In D (docs (take pin.commits H)) → (start : ℕ) → pin.length ≤ start → start ≤ length R
     → Told R start D
-snapshot_told R pin H legal keeps all history D there start from within =
-    told_by all_steps R pin H legal keeps all history D there start from within
+snapshot_told R pin H legal keeps history D there start from within =
+    told_by all_steps R pin H legal keeps history D there start from within

@@ -11,21 +11,20 @@ use Rattle.page_types.specs.declared.page.Body.TheVariants as body
 use Rattle.page_types.specs.declared.record.Kind.{Kind}
 use Rattle.page_types.specs.declared.record.Kind.TheVariants as kind
 use Rattle.core_state.specs.Log.{Pages, In, next_serial, fate}
-use Rattle.core_state.specs.Documents.{Doc, Has, HasBytes, IsChain, IsWhole, placed, page_of, slot_of, head_of, parts}
+use Rattle.core_state.specs.Documents.{Doc, Has, HasBytes, IsChain, IsWhole, page_of, slot_of, head_of, parts}
 use Rattle.core_state.specs.Changes.{PutsSlot, made_with}
 use Rattle.core_state.specs.Legal.{RuleHolds}
 use Rattle.core_state.specs.Steady.{KeepsHead}
 use Rattle.core_state.specs.Allowed.{numbered, with_serial, drawn_body}
 use Rattle.core_state.specs.Steps.{IsNewSheet, ChangesHead, CanPlace, CanPutOverflow, CanMark, MayBy}
 use Rattle.core_state.proofs.Leaving.{numbered_length}
-use Rattle.core_state.proofs.Histories.{chain_one, head_one}
-use Rattle.core_state.proofs.SteadyEnds.{heads_kept}
-use Rattle.core_state.proofs.StaysIndexed.{placed_by_head}
+use Rattle.core_state.proofs.Histories.{chain_one}
 use Rattle.core_state.proofs.Law.AllCases.{all_steps}
 use Rattle.core_state.proofs.Law.SteadyLogs.{all_owned}
-use Rattle.core_state.proofs.Steps.Seen.{held_page, own_runs_on, own_placed, steady_facts, some_seen, still_new, shows}
+use Rattle.core_state.proofs.Steps.Seen.{held_page, own_runs_on, steady_facts, some_seen, still_new, shows}
 use Rattle.core_state.proofs.Steps.Heads.{drawn_as, drawn_by, drawn_pages, one_of, two_of, left_all, left_is}
 use Rattle.core_state.proofs.Steps.Heads.{head_changes, has_head, numbered_at, numbered_else}
+use Rattle.core_state.proofs.Steps.OwnHeads.{held_head}
 
 -- no slot is used on a new page
 none_on_new : (P : Pages) (since p k : ℕ) (c : Page) → IsNewSheet P since p c → slot_at (slots_in c.body) k ≡ None
@@ -161,11 +160,8 @@ put_overflow_may v s can R a r Q n l =
     let left = left_all a.pages Q r s _ l c.after_is in
     let on = own_runs_on v R a P t.1 s.xid c.own in
     let has : Has a.pages d c.head = has_head a.pages d c.old c.head _ c.heap was c.head_after in
-    let mine : In d (placed v.seen s.xid) = subst (In d) (ap (placed R) c.placed_by ∙ own_placed v R a s.xid c.own)
-    (placed_by_head _ R a.pages (heads_kept R a.pages a.legal.valid a.shown) d c.head has) in
-    let h = on.heads d mine in
-    let one : h.0 ≡ c.head = head_one a.pages d h.0 c.head h.2.head has in
-    let keeps : KeepsHead P a.pages d c.head = subst (KeepsHead P a.pages d) one h.2 in
+    let keeps : KeepsHead P a.pages d c.head =
+    (held_head v R a P t.1 s.xid c.own d c.head c.placed_by has).1 in
     let chain = keeps.overflow c.chain c.is_chain in
     RuleHolds.put_overflow (record {
       here = record {

@@ -2,10 +2,9 @@
 use Rattle.std.proofs.Common.{◌≡◌, [], ap, subst, ◌∙◌, inl}
 use Rattle.page_types.specs.declared.record.Kind.TheVariants as kind
 use Rattle.core_state.specs.Log.{In, fate}
-use Rattle.core_state.specs.Documents.{IsWhole, placed}
+use Rattle.core_state.specs.Documents.{placed}
 use Rattle.core_state.specs.Legal.{RuleHolds}
 use Rattle.core_state.specs.Steps.{CanBegin, CanCommit, CanAbort, MayBy}
-use Rattle.core_state.proofs.Histories.{head_one}
 use Rattle.core_state.proofs.Steps.Seen.{own_runs_on, own_placed, shows}
 use Rattle.core_state.proofs.Steps.Heads.{drawn_as, drawn_by, drawn_pages}
 
@@ -36,10 +35,7 @@ commit_may v s can R a r Q n l =
       };
       rest = λ d i.
           let j : In d (placed v.seen s.xid) = subst (In d) (ap (placed R) xid ∙ own_placed v R a s.xid c.own) i in
-          let w = c.whole d j in
-          let h = on.heads d j in
-          let whole = subst (λ k. IsWhole P k w.0) (head_one P d w.1.0 h.0 w.1.1 h.1) w.1.2 in
-          (w.0, (h.0, h.2.head, h.2.vector w.0 whole));
+          on.indexed d j (c.indexed d j);
     })
 
 pub abort_may : MayBy CanAbort

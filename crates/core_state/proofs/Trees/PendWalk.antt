@@ -19,6 +19,20 @@ abbrev pub Follows : (ℕ → ℕ → ℕ) → ℕ → List Read → Type 0
 Follows right p [] = p ≡ 0
 Follows right p (x ∷ xs) = (p ≢ 0) × (x.page ≡ p) × Follows right (right x.time x.page) xs
 
+-- the same, where q is the page that is next: 0, or one to be read
+abbrev pub Leads : (ℕ → ℕ → ℕ) → ℕ → List Read → ℕ → Type 0
+Leads right p [] q = p ≡ q
+Leads right p (x ∷ xs) q = (p ≢ 0) × (x.page ≡ p) × Leads right (right x.time x.page) xs q
+
+-- when the last page was read
+abbrev pub last_time : ℕ → List Read → ℕ
+last_time t [] = t
+last_time t (x ∷ xs) = last_time x.time xs
+
+pub last_between : (t end : ℕ) (xs : List Read) → Rising t end xs → (t ≤ last_time t xs) × (last_time t xs ≤ end)
+last_between t end [] r = (omega arith, r)
+last_between t end (x ∷ xs) r = let l = last_between x.time end xs r.1 in (omega (arith, r.0, l.0), l.1)
+
 abbrev pub pages : List Read → List ℕ
 pages [] = []
 pages (x ∷ xs) = x.page ∷ pages xs
@@ -294,34 +308,64 @@ module _ {W : Type 0} (item : W → ℕ) (V : ℕ → Type 0) (rows : ℕ → �
       reads_rows xs o r f = walk_from [] start (first start) (line start) (line start) xs (omega arith)
           (lane_first o) refl (chain start (omega arith) o) r f
 
-      -- the pages that were read are a chain at the last moment
-      chain_from : (seen : List ℕ) (t p : ℕ) (rest : List ℕ) (lane : List ℕ) (xs : List Read) → start ≤ t → t ≤ end
-          → Lane t lane → lane ≡ seen ++ rest → IsChain (right t) p rest → Rising t end xs → Follows right p xs
-          → (s : ℕ) × IsChain (right s) (first start) (seen ++ pages xs)
-      chain_from seen t p [] lane [] a b l g c r f =
-          (t, subst (IsChain (right t) (first start)) g (lane_chain t lane a b l))
-      chain_from seen t p (q ∷ qs) lane [] a b l g c r f = absurd (c.1 (sym c.0 ∙ f))
-      chain_from seen t p [] lane (x ∷ xs) a b l g c r f = absurd (f.0 c)
-      chain_from seen t p (q ∷ qs) lane (x ∷ xs) a b l g c r f =
+      -- the pages that were read are the first of those that lie before the walk
+      record Open (t : ℕ) (front : List ℕ) (q : ℕ) : Type 0 where
+        pub more : List ℕ
+        pub lane : Lane t (front ++ more)
+        pub next : IsChain (right t) q more
+
+      open_from : (seen : List ℕ) (t p : ℕ) (rest : List ℕ) (lane : List ℕ) (xs : List Read) (z : ℕ) → start ≤ t
+          → t ≤ end → Lane t lane → lane ≡ seen ++ rest → IsChain (right t) p rest → Rising t end xs
+          → Leads right p xs z → Open (last_time t xs) (seen ++ pages xs) z
+      open_from seen t p rest lane [] z a b l g c r f = record {
+        more = rest;
+        lane = subst (Lane t) (g ∙ sym (append_assoc seen [] rest)) l;
+        next = subst (λ (y : ℕ). IsChain (right t) y rest) f c;
+      }
+      open_from seen t p [] lane (x ∷ xs) z a b l g c r f = absurd (f.0 c)
+      open_from seen t p (q ∷ qs) lane (x ∷ xs) z a b l g c r f =
           let s = x.time in
           let late : start ≤ s = omega (arith, a, r.0) in
           let early : s ≤ end = rising_end s end xs r.1 in
           let now = lane_to t s lane a r.0 early l in
           let page : x.page ≡ q = f.1 ∙ c.0 in
-          let form : lane ++ now.0 ≡ seen ++ q ∷ (qs ++ now.0) = ap (λ (z : List ℕ). z ++ now.0) g
+          let form : lane ++ now.0 ≡ seen ++ q ∷ (qs ++ now.0) = ap (λ (y : List ℕ). y ++ now.0) g
           ∙ append_assoc seen (q ∷ qs) now.0 in
           let next : IsChain (right s) (right s x.page) (qs ++ now.0) =
-          subst (λ (z : ℕ). IsChain (right s) (right s z) (qs ++ now.0)) (sym page)
+          subst (λ (y : ℕ). IsChain (right s) (right s y) (qs ++ now.0)) (sym page)
           (behind (right s) (first start) q seen (qs ++ now.0)
           (subst (IsChain (right s) (first start)) form (lane_chain s (lane ++ now.0) late early now.1))) in
-          let done = chain_from (seen ++ q ∷ []) s (right s x.page) (qs ++ now.0) (lane ++ now.0) xs late early now.1
-          (form ∙ sym (append_assoc seen (q ∷ []) (qs ++ now.0))) next r.1 f.2 in (
-            done.0,
-            subst (IsChain (right done.0) (first start))
-                (append_assoc seen (q ∷ []) (pages xs) ∙ ap (λ (z : ℕ). seen ++ z ∷ pages xs) (sym page)) done.1,
-          )
+          let done = open_from (seen ++ q ∷ []) s (right s x.page) (qs ++ now.0) (lane ++ now.0) xs z late early now.1
+          (form ∙ sym (append_assoc seen (q ∷ []) (qs ++ now.0))) next r.1 f.2 in
+          subst (λ (front : List ℕ). Open (last_time s xs) front z)
+          (append_assoc seen (q ∷ []) (pages xs) ∙ ap (λ (y : ℕ). seen ++ y ∷ pages xs) (sym page)) done
 
-      pub reads_chain : (xs : List Read) → start ≤ end → Rising start end xs → Follows right (first start) xs
-          → (s : ℕ) × IsChain (right s) (first start) (pages xs)
-      reads_chain xs o r f = chain_from [] start (first start) (line start) (line start) xs (omega arith) o
-          (lane_first o) refl (chain start (omega arith) o) r f
+      -- The pages that were read are the first of a chain at the moment of the last read, and q leads on along it;
+      -- from then on q is on the line, or gone.
+      pub record Ahead (xs : List Read) (q : ℕ) : Type 0 where
+        pub more : List ℕ
+        pub whole : IsChain (right (last_time start xs)) (first start) (pages xs ++ more)
+        pub next : IsChain (right (last_time start xs)) q more
+        pub stays_on : q ≢ 0 → (t : ℕ) → last_time start xs ≤ t → t ≤ end → Gone t q ⊎ In q (line t)
+
+      chain_first : (t q : ℕ) (qs : List ℕ) → q ≢ 0 → IsChain (right t) q qs → In q qs
+      chain_first t q [] off c = absurd (off c)
+      chain_first t q (x ∷ xs) off c = inl c.0
+
+      pub reads_open : (xs : List Read) (q : ℕ) → start ≤ end → Rising start end xs → Leads right (first start) xs q
+          → Ahead xs q
+      reads_open xs q o r f =
+          let s = last_time start xs in
+          let between = last_between start end xs r in
+          let w = open_from [] start (first start) (line start) (line start) xs q (omega arith) o
+          (lane_first o) refl (chain start (omega arith) o) r f in
+          record {
+            more = w.more;
+            whole = lane_chain s (pages xs ++ w.more) between.0 between.1 w.lane;
+            next = w.next;
+            stays_on = λ off t a b.
+                let now = lane_to s t (pages xs ++ w.more) between.0 a b w.lane in
+                where_is t ((pages xs ++ w.more) ++ now.0) q now.1.state
+                (in_front q (pages xs ++ w.more) now.0
+                (in_back q (pages xs) w.more (chain_first s q w.more off w.next)));
+          }

@@ -1,5 +1,8 @@
-use Rattle.core_state.proofs.LawsHold.{documents}
+use Rattle.core_state.proofs.LawsHold.{documents, commits_hold}
 use Rattle.core_state.proofs.laws.documents_hold.Goals as goal
 
-pub returns : goal.returns
-returns c = documents
+pub returns-clause-documents : goal.returns-clause-documents
+returns-clause-documents c = documents
+
+pub returns-clause-commits : goal.returns-clause-commits
+returns-clause-commits c = commits_hold
