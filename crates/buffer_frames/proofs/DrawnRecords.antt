@@ -156,6 +156,9 @@ not_checkpoint s kind.Abort redo early e = cc
 not_checkpoint s (kind.PlaceHead item serial) redo early e = cc
 not_checkpoint s (kind.PutOverflow item serial) redo early e = cc
 not_checkpoint s (kind.MarkDeleted item serial) redo early e = cc
+not_checkpoint s (kind.PutPending item serial) redo early e = cc
+not_checkpoint s (kind.AddRow item serial) redo early e = cc
+not_checkpoint s (kind.LinkPending item serial) redo early e = cc
 not_checkpoint s _ redo early e = absurd early
 
 pub drawn_is_made : (R : Log) (s : StateValue) (step : Step) → IsLegal R → StateTells R s → HasEncoding step

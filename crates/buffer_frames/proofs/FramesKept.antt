@@ -139,16 +139,16 @@ module _ {D : Type 0} (device : Disk D) (one : CountedAreOne)
 
   -- a page more is held
   pub holds_more : (j : JournalValue D) (pins : List (Option PinInUse)) (homes homes' : List Home) (page : ℕ)
-      (c : Page) (pass : Pass) (held : List Sheet) → AreFrames device (framed j pins homes)
+      (c : Page) (pass : Pass) (n : ℕ) (held : List Sheet) → AreFrames device (framed j pins homes)
       → HasTaken homes homes' page c → IsHolding device (framed j pins homes) pass held
-      → IsHolding device (framed j pins homes') (record pass { held = pass.held + 1 })
+      → IsHolding device (framed j pins homes') (record pass { held = pass.held + 1; holds = n })
       (record { page = page; content = c } ∷ held)
-  holds_more j pins homes homes' page c pass held are taken h = record {
+  holds_more j pins homes homes' page c pass n held are taken h = record {
     all = omega (arith, h.all);
     away = ((taken.away, taken.there), taken_away homes homes' page c taken held h.away);
     once = (taken_apart homes homes' page c taken held h.away, h.once);
     allowed = behind_on j j pins pins homes homes' (λ R. IsAllowed (view_of (framed j pins homes) pass R held) R)
-        (λ R. IsAllowed (view_of (framed j pins homes') (record pass { held = pass.held + 1 }) R
+        (λ R. IsAllowed (view_of (framed j pins homes') (record pass { held = pass.held + 1; holds = n }) R
         (record { page = page; content = c } ∷ held)) R)
         are (homes_stand j pins homes homes' (λ R. taken_shows homes homes' page c R taken)) (λ up. up) h.allowed
         (λ R t up up' s s' legal a. record {

@@ -1,5 +1,6 @@
 -- Pages in memory by their numbers, and which bytes they show.
-use Rattle.std.specs.Prelude.{◌≡◌, ◌≢◌, ◌<◌, ◌≤◌, ℕ, Bool, true, false, List, length, get_or, Option, Some, None, Result, Ok, Err, ⊤}
+use Rattle.std.specs.Prelude.{◌≡◌, ◌≢◌, ◌<◌, ◌≤◌, ℕ, Bool, true, false, List}
+use Rattle.std.specs.Prelude.{length, get_or, Option, Some, None, Result, Ok, Err, ⊤}
 use Rattle.page_types.specs.Numbers.{zeros, page_size}
 use Rattle.page_types.specs.Pages.{IsPage}
 use Rattle.page_types.specs.Encoding.{page_bytes}

@@ -11,7 +11,7 @@ use Rattle.core_state.specs.Legal.{IsLegal}
 use Rattle.core_state.specs.Stores.{PagesStand}
 use Rattle.buffer_frames.specs.Counted.{IsCounted}
 
--- the kinds of record of a store whose documents are not indexed
+-- the kinds of record of a store whose pending list is never moved into trees
 abbrev pub IsEarlyKind : Kind → Type 0
 IsEarlyKind kind.Create = ⊤
 IsEarlyKind kind.Begin = ⊤
@@ -20,10 +20,13 @@ IsEarlyKind kind.Abort = ⊤
 IsEarlyKind (kind.PlaceHead item serial) = ⊤
 IsEarlyKind (kind.PutOverflow item serial) = ⊤
 IsEarlyKind (kind.MarkDeleted item serial) = ⊤
+IsEarlyKind (kind.PutPending item serial) = ⊤
+IsEarlyKind (kind.AddRow item serial) = ⊤
+IsEarlyKind (kind.LinkPending item serial) = ⊤
 IsEarlyKind _ = ⊥
 
--- A legal log with its history. Until documents are indexed it has no record that only an index or a
--- checkpoint needs.
+-- A legal log with its history. Until cleanup is built it has no record that only a tree or a checkpoint
+-- needs.
 pub record IsLogOf (R : Log) (H : History) : Type 0 where
   pub legal : IsLegal R
   pub history : IsHistory R H

@@ -1,6 +1,8 @@
 -- Passes: what a session has seen of the log, and how crates above speak of it.
-use Rattle.std.specs.Prelude.{◌≡◌, ◌≢◌, ℕ, ◌+◌, ◌<◌, ◌≤◌, max, List, [], ◌∷◌, ◌++◌, length, map, reverse, Bool, true, false, Option, Some, None, IfSome, slice_set}
+use Rattle.std.specs.Prelude.{◌≡◌, ◌≢◌, ℕ, ◌+◌, ◌<◌, ◌≤◌, min, max, List, [], ◌∷◌, ◌++◌, length}
+use Rattle.std.specs.Prelude.{map, reverse, Bool, true, false, Option, Some, None, IfSome, slice_set}
 use Rattle.std.specs.List.{AllByRecursion}
+use Rattle.disk_trait.specs.Device.{last_count}
 use Rattle.disk_trait.specs.declared.device.Disk.{Ghosts as Disk}
 use Rattle.wal.specs.Waiting.{down_of}
 use Rattle.page_types.specs.Keys.{Rising}
@@ -149,6 +151,10 @@ pub record IsLogged (v : View) (step : Step) (S : Log) (Q : Pages) : Type 0 wher
 abbrev pub SeesOn : {D : Type 0} → Disk D → FramesValue D → Pass → Pass → Type 0
 SeesOn device f old new = Seen device f new (λ S P. IsAllowed (view_of f old S []) S)
 
+-- how many pages a pass has held, after one more: the count stays at its last number
+abbrev pub holds_after : ℕ → ℕ
+holds_after holds = min (holds + 1) last_count
+
 -- the xid of a pass that has logged a record of this kind, which drew this value
 abbrev pub xid_after : Kind → ℕ → Option ℕ → Option ℕ
 xid_after kind.Begin value xid = Some value
@@ -181,15 +187,16 @@ IsWhole j pass = pass ≡ record {
   since = j.state.records;
   pin = None;
   held = 0;
+  holds = 0;
   xid = None;
   room = 16;
 }
 
--- a pass that is made of another, of room 1
+-- a pass that is made of another, of room 1; it has held no page
 abbrev pub split_of : Pass → Pass
-split_of pass = record pass { pin = None; held = 0; xid = None; room = 1 }
+split_of pass = record pass { pin = None; held = 0; holds = 0; xid = None; room = 1 }
 
--- a pass in which another ends
+-- a pass in which another ends; the pages that it has held are its own
 abbrev pub joined_with : Pass → Pass → Pass
 joined_with other pass = record pass {
   seen = max pass.seen other.seen;

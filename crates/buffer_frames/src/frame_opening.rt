@@ -68,6 +68,7 @@ fn first_pass<D: Disk>(journal: &Journal<D>) -> Pass
         since: length,
         pin: None,
         held: 0,
+        holds: 0,
         xid: None,
         room: ROOM,
     }

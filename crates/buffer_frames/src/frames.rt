@@ -1,5 +1,6 @@
 // Pages in memory over the journal of a store.
-ghost use Rattle.std.specs.Prelude.{◌≡◌, ◌≢◌, ◌⊎◌, ◌↔◌, ℕ, ◌<◌, List, [], ◌∷◌, length, Some, None, Err, OnOk, OnErr, IfOk, IfErr, IsErrOf, IfSome, MatchOption, slice_set};
+ghost use Rattle.std.specs.Prelude.{◌≡◌, ◌≢◌, ◌⊎◌, ◌↔◌, ℕ, ◌<◌, List, [], ◌∷◌, length, Some, None, Err};
+ghost use Rattle.std.specs.Prelude.{OnOk, OnErr, IfOk, IfErr, IsErrOf, IfSome, MatchOption, slice_set};
 ghost use Rattle.wal.specs.Waiting.{waiting, limit_of, down_of, length_with};
 ghost use Rattle.page_types.specs.Records.{kind_number};
 ghost use Rattle.page_types.specs.declared.record.Kind.TheVariants as kinds;
@@ -14,8 +15,10 @@ ghost use Rattle.buffer_frames.specs.Journals.{after_owed, logged, logged_bytes,
 ghost use Rattle.buffer_frames.specs.LogCauses.{WriteHasCause, GoesDown, LogFullWhere, IsCalm, HoldHasCause};
 ghost use Rattle.buffer_frames.specs.Homes.{IsNoPage, BadPageWhere};
 ghost use Rattle.buffer_frames.specs.Beginnings.{KeepsHistory, HasFlushed, BeginsOn, BeginsWith};
-ghost use Rattle.buffer_frames.specs.Frames.{Stands, Behind, AreFrames, RunsOn, KeepsState, Lies, LieThere, KeepsOthers};
-ghost use Rattle.buffer_frames.specs.Passes.{IsPassOf, IsHolding, HasPinned, view_of, Seen, SeesOn, IsLogged, HasAdded, KeepsPass, PassRises, xid_after as xid_then};
+ghost use Rattle.buffer_frames.specs.Frames.{Stands, Behind, AreFrames, RunsOn};
+ghost use Rattle.buffer_frames.specs.Frames.{KeepsState, Lies, LieThere, KeepsOthers};
+ghost use Rattle.buffer_frames.specs.Passes.{IsPassOf, IsHolding, HasPinned, view_of, Seen, SeesOn, IsLogged};
+ghost use Rattle.buffer_frames.specs.Passes.{HasAdded, KeepsPass, PassRises, holds_after, xid_after as xid_then};
 ghost use Rattle.buffer_frames.specs.declared.log_error.LogError.TheVariants.{DiskFault, Down, XidsSpent};
 ghost use Rattle.buffer_frames.specs.declared.frame_error.FrameError.TheVariants as frames;
 
@@ -63,6 +66,7 @@ impl<D: Disk> Frames<D> {
         requires few { pass.old.held < 4 }
         ensures pass { IsPassOf self.new pass.new }
         ensures number { IfOk result (λ h. h.page ≡ page) }
+        ensures holds { OnOk result (pass.new.holds ≡ holds_after pass.old.holds) }
         ensures lies { IfOk result (λ h. Lies self.old page h.content) }
         ensures others { OnOk result (KeepsOthers self.old self.new (page ∷ [])) }
         ensures holding { (held : List SheetValue) → IsHolding D.Disk self.old pass.old held
@@ -81,6 +85,7 @@ impl<D: Disk> Frames<D> {
         ensures still { OnErr result ((held : List SheetValue) → IsHolding D.Disk self.old pass.old held
             → IsHolding D.Disk self.new pass.new held) }
         ensures held { OnErr result (pass.new.held ≡ pass.old.held) }
+        ensures holds_still { OnErr result (pass.new.holds ≡ pass.old.holds) }
         ensures unmoved { OnErr result (KeepsOthers self.old self.new []) }
         ensures is_down { (f : ℕ) → (result ≡ Err (frames.Down f))
             ↔ (down_of self.old.journal.wal ≡ Some f) }
@@ -94,6 +99,7 @@ impl<D: Disk> Frames<D> {
         }
         let content = take_page(self.alloc, &mut self.homes, page)?;
         pass.held += 1;
+        pass.holds = pass.holds.saturating_add(1);
         Ok(Held::new(page, content))
     }
 
@@ -113,6 +119,7 @@ impl<D: Disk> Frames<D> {
         ensures rises { PassRises pass.old pass.new }
         ensures same { (pass.new.pin ≡ pass.old.pin) × (pass.new.room ≡ pass.old.room)
             × (pass.new.xid ≡ pass.old.xid) }
+        ensures holds { pass.new.holds ≡ pass.old.holds }
         ensures runs_on { RunsOn D.Disk self.old self.new }
         ensures begins { BeginsOn D.Disk self.old.journal self.new.journal }
         ensures state { KeepsState self.old self.new }
@@ -147,6 +154,7 @@ impl<D: Disk> Frames<D> {
         ensures keeps { KeepsPass pass.old pass.new }
         ensures rises { PassRises pass.old pass.new }
         ensures xid { pass.new.xid ≡ pass.old.xid }
+        ensures holds { pass.new.holds ≡ pass.old.holds }
         ensures runs_on { RunsOn D.Disk self.old self.new }
         ensures begins { BeginsOn D.Disk self.old.journal self.new.journal }
         ensures state { KeepsState self.old self.new }
@@ -201,6 +209,7 @@ impl<D: Disk> Frames<D> {
         ensures added { HasAdded D.Disk self.old self.new [] }
         ensures same { (pass.new.held ≡ pass.old.held) × (pass.new.room ≡ pass.old.room)
             × (pass.new.xid ≡ pass.old.xid) }
+        ensures holds { pass.new.holds ≡ pass.old.holds }
         ensures rises { PassRises pass.old pass.new }
         ensures journal { self.new.journal ≡ self.old.journal }
         ensures begins { BeginsOn D.Disk self.old.journal self.new.journal }
@@ -242,6 +251,7 @@ impl<D: Disk> Frames<D> {
         ensures added { HasAdded D.Disk self.old self.new [] }
         ensures same { (pass.new.held ≡ pass.old.held) × (pass.new.room ≡ pass.old.room)
             × (pass.new.xid ≡ pass.old.xid) }
+        ensures holds { pass.new.holds ≡ pass.old.holds }
         ensures rises { PassRises pass.old pass.new }
         ensures journal { self.new.journal ≡ self.old.journal }
         ensures begins { BeginsOn D.Disk self.old.journal self.new.journal }
@@ -286,6 +296,7 @@ impl<D: Disk> Frames<D> {
         ensures none_held { IsHolding D.Disk self.new pass.new [] }
         ensures xid { IfOk result (λ d. pass.new.xid ≡ xid_then step.kind d.value pass.old.xid) }
         ensures same { (pass.new.pin ≡ pass.old.pin) × (pass.new.room ≡ pass.old.room) }
+        ensures holds { pass.new.holds ≡ pass.old.holds }
         ensures rises { PassRises pass.old pass.new }
         ensures runs_on { RunsOn D.Disk self.old self.new }
         ensures begins { OnOk result (BeginsWith D.Disk self.old.journal self.new.journal
@@ -352,6 +363,7 @@ impl<D: Disk> Frames<D> {
         ensures keeps { KeepsPass pass.old pass.new }
         ensures rises { PassRises pass.old pass.new }
         ensures xid { pass.new.xid ≡ pass.old.xid }
+        ensures holds { pass.new.holds ≡ pass.old.holds }
         ensures runs_on { RunsOn D.Disk self.old self.new }
         ensures begins { BeginsOn D.Disk self.old.journal self.new.journal }
         ensures state { KeepsState self.old self.new }

@@ -6,7 +6,8 @@ ghost use Rattle.page_types.specs.Encoding.{page_bytes};
 ghost use Rattle.core_state.specs.Allowed.{sheet_pages};
 ghost use Rattle.page_types.specs.declared.page.Page.{Page as PageValue};
 ghost use Rattle.page_types.specs.Views.{free_page as free};
-ghost use Rattle.buffer_frames.specs.Homes.{home_at, home_of, HavePages, IsNoPage, LiesAs, IsNoPageHere, BadPageWhere, HasTaken, AreAlike, HasPut};
+ghost use Rattle.buffer_frames.specs.Homes.{home_at, home_of, HavePages, IsNoPage, LiesAs};
+ghost use Rattle.buffer_frames.specs.Homes.{IsNoPageHere, BadPageWhere, HasTaken, AreAlike, HasPut};
 ghost use Rattle.buffer_frames.specs.declared.frame_error.FrameError.TheVariants.{BadPage, OutOfMemory};
 ghost use Rattle.buffer_frames.specs.declared.home.Home.TheVariants.{Content, Away};
 

@@ -8,7 +8,7 @@ use crate::pass::Pass;
 use disk_trait::Disk;
 
 impl<D: Disk> Frames<D> {
-    /// A pass for another session, of room 1, which has seen as much.
+    /// A pass for another session, of room 1, which has seen as much and has held no page.
     pub fn split(&self, pass: &mut Pass) -> Pass
         requires pass { IsPassOf self.now pass.old }
         requires room { 1 < pass.old.room }
@@ -30,12 +30,14 @@ impl<D: Disk> Frames<D> {
             since: pass.since,
             pin: None,
             held: 0,
+            holds: 0,
             xid: None,
             room: 1,
         }
     }
 
-    /// Another pass ends in this one, which has then seen what either has, and has both rooms.
+    /// Another pass ends in this one, which has then seen what either has, and has both rooms. The
+    /// pages that the other held are not counted here.
     pub fn join(&self, pass: &mut Pass, other: Pass)
         requires pass { IsPassOf self.now pass.old }
         requires other { IsPassOf self.now other }

@@ -1,5 +1,7 @@
 // The journal: the device of a store, its log, and the state of the log's records.
-ghost use Rattle.std.specs.Prelude.{◌≡◌, ◌⊎◌, ◌↔◌, ℕ, suc, ◌+◌, ◌^◌, ◌<◌, ◌≤◌, List, [], ◌∷◌, length, flat_map, cond, ◌++◌, OnOk, OnErr, IfOk, IfErr, IsErrOf, IsOk, Option, None, Some, Err, true, false};
+ghost use Rattle.std.specs.Prelude.{◌≡◌, ◌⊎◌, ◌↔◌, ℕ, suc, ◌+◌, ◌^◌, ◌<◌, ◌≤◌, List, [], ◌∷◌};
+ghost use Rattle.std.specs.Prelude.{length, flat_map, cond, ◌++◌, OnOk, OnErr, IfOk, IfErr};
+ghost use Rattle.std.specs.Prelude.{IsErrOf, IsOk, Option, None, Some, Err, true, false};
 ghost use Rattle.disk_trait.specs.Runs.{LeavesOnly};
 ghost use Rattle.wal.specs.Pages.{KeepsPages};
 ghost use Rattle.wal.specs.Waiting.{waiting, end_of, limit_of, down_of, end_with, end_then, waiting_then, length_with};
@@ -10,12 +12,14 @@ ghost use Rattle.core_state.specs.Log.{Log};
 ghost use Rattle.core_state.specs.States.{step_of};
 ghost use Rattle.buffer_frames.specs.Drawing.{HasEncoding, drawn_by, made_sheets};
 ghost use Rattle.buffer_frames.specs.Opens.{IsEarlyKind};
-ghost use Rattle.buffer_frames.specs.Journals.{Stands, logged, logged_bytes, after_owed, next_number, next_record, IsSpent, CanDraw, MayFollow, CountsEither};
+ghost use Rattle.buffer_frames.specs.Journals.{Stands, logged, logged_bytes, after_owed, next_number};
+ghost use Rattle.buffer_frames.specs.Journals.{next_record, IsSpent, CanDraw, MayFollow, CountsEither};
 ghost use Rattle.buffer_frames.specs.Beginnings.{KeepsHistory, HasFlushed};
 ghost use Rattle.buffer_frames.specs.Logging.{IsSameJournal, HasLogged};
 ghost use Rattle.buffer_frames.specs.LogCauses.{WriteHasCause, GoesDown, LogFullWhere};
 ghost use Rattle.buffer_frames.specs.Inner.Following.{MayGoOn};
-ghost use Rattle.buffer_frames.specs.declared.log_error.LogError.TheVariants.{DiskFault, LogFull, Down, XidsSpent, OutOfMemory};
+ghost use Rattle.buffer_frames.specs.declared.log_error.LogError.TheVariants.{DiskFault, LogFull, Down};
+ghost use Rattle.buffer_frames.specs.declared.log_error.LogError.TheVariants.{XidsSpent, OutOfMemory};
 
 use crate::drawing::{drawn_kind, drawn_value, drawn_xid, images};
 use crate::laws::counted_are_one;

@@ -1,5 +1,6 @@
 // The opening of a journal.
-ghost use Rattle.std.specs.Prelude.{◌≡◌, ◌↔◌, ◌+◌, ◌<◌, ◌-◌, ◌^◌, ℕ, ◌≤◌, [], length, IfOk, IfErr, OnOk, OnErr, IsErrOf, IsTrue, None};
+ghost use Rattle.std.specs.Prelude.{◌≡◌, ◌↔◌, ◌+◌, ◌<◌, ◌-◌, ◌^◌, ℕ, ◌≤◌, [], length};
+ghost use Rattle.std.specs.Prelude.{IfOk, IfErr, OnOk, OnErr, IsErrOf, IsTrue, None};
 ghost use Rattle.disk_trait.specs.Device.{Rose, Durable};
 ghost use Rattle.disk_trait.specs.Runs.{images_now, LeavesOnly};
 ghost use Rattle.disk_trait.specs.declared.device.File.TheVariants.{Pages};

@@ -1,5 +1,6 @@
 // Pages by their numbers, each as its bytes.
-ghost use Rattle.std.specs.Prelude.{◌≡◌, ◌≢◌, ◌↔◌, ◌==◌, ◌<◌, ◌^◌, ℕ, List, Some, None, cond, is_some, length, get_or, OnOk, OnErr, IfOk, IfSome, IsOk};
+ghost use Rattle.std.specs.Prelude.{◌≡◌, ◌≢◌, ◌↔◌, ◌==◌, ◌<◌, ◌^◌, ℕ, List, Some, None, cond};
+ghost use Rattle.std.specs.Prelude.{is_some, length, get_or, OnOk, OnErr, IfOk, IfSome, IsOk};
 ghost use Rattle.std.specs.Option.{option_copied};
 ghost use Rattle.page_types.specs.Edits.{edited, CanEdit};
 ghost use Rattle.buffer_frames.specs.Homes.{home_at, home_of};

@@ -30,6 +30,8 @@ pub struct Pass {
     pub(crate) pin: Option<Pinned>,
     // how many pages it holds
     pub(crate) held: u32,
+    // how many it has held since it was made; the count stays at its last number
+    pub(crate) holds: u64,
     // its transaction that runs, if it has one
     pub(crate) xid: Option<u32>,
     // how many passes may be made of it
@@ -42,6 +44,14 @@ impl Pass {
         ensures { self.new ≡ record self.old { xid = None } }
     {
         self.xid = None;
+    }
+
+    /// How many pages it has held since it was made, each hold counted. The count stays at its last
+    /// number.
+    pub fn holds(&self) -> u64
+        ensures { result ≡ self.now.holds }
+    {
+        self.holds
     }
 
     /// The transaction that runs, if there is one.

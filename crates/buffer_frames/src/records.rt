@@ -1,5 +1,6 @@
 // The records of a log, read into a state and into the pages that they change.
-ghost use Rattle.std.specs.Prelude.{◌≡◌, ◌≢◌, ◌⊎◌, ◌+◌, ◌<◌, ◌≤◌, ◌++◌, ℕ, suc, List, [], ◌∷◌, length, reverse, Some, IfOk, OnOk, IfErr, IsErrOf};
+ghost use Rattle.std.specs.Prelude.{◌≡◌, ◌≢◌, ◌⊎◌, ◌+◌, ◌<◌, ◌≤◌, ◌++◌, ℕ, suc, List, []};
+ghost use Rattle.std.specs.Prelude.{◌∷◌, length, reverse, Some, IfOk, OnOk, IfErr, IsErrOf};
 ghost use Rattle.wal.specs.Reading.{IsOnlyRead, IsReading, IsSameBut};
 ghost use Rattle.page_types.specs.Edits.{CanEdit};
 ghost use Rattle.page_types.specs.Records.{IsRecord, record_bytes};

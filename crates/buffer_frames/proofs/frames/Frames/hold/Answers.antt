@@ -65,16 +65,16 @@ returns-clause-holding g c held h =
     (sym c.self.view_is) h in
     subst (λ (x : Sheet). IsHolding g.D.Disk (framed c.self.inside.journal c.self.inside.pins
     c.take_page.new.homes.items) (record (c.args.pass.now)
-    { held = c.args.pass.now.held + 1 }) (x ∷ held)) (sym c.new.ensures)
+    { held = c.args.pass.now.held + 1; holds = c.saturating_add-pass.result }) (x ∷ held)) (sym c.new.ensures)
     (holds_more g.D.Disk c.counted_are_one.ensures (λ t d. g.met.D.Disk.seen_is_image d t)
     c.self.inside.journal c.self.inside.pins c.self.inside.homes.items c.take_page.new.homes.items c.args.page
-    c.in_ok-content.content c.args.pass.now held c.self.invariant c.in_ok-content.ensures.taken holds)
+    c.in_ok-content.content c.args.pass.now c.saturating_add-pass.result held c.self.invariant c.in_ok-content.ensures.taken holds)
 
 pub returns-clause-sees_on : goal.returns-clause-sees_on
 returns-clause-sees_on g c =
     sees_kept g.D.Disk c.counted_are_one.ensures (λ t d. g.met.D.Disk.seen_is_image d t) c.args.self.now
     (framed c.self.inside.journal c.self.inside.pins c.take_page.new.homes.items) c.args.pass.now
-    (record (c.args.pass.now) { held = c.args.pass.now.held + 1 })
+    (record (c.args.pass.now) { held = c.args.pass.now.held + 1; holds = c.saturating_add-pass.result })
     (subst (λ (f : FramesValue g.row.D.Denot). AreFrames g.D.Disk f) c.self.view_is c.self.invariant)
     (ap (λ (f : FramesValue g.row.D.Denot). f.journal) c.self.view_is) c.requires.pass (omega arith)
     (c.requires.pass).seen
