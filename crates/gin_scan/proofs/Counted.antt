@@ -1,0 +1,113 @@
+-- How many pages a scan holds.
+use Rattle.std.proofs.Common.{◌≡◌, ℕ, suc, ◌+◌, ◌-◌, ◌*◌, ◌<◌, ◌≤◌, Bool, true, false, length, sym, ap, subst, ◌∙◌}
+use Rattle.std.proofs.Common.{arith}
+use Rattle.ts_base.specs.Vectors.{Vector}
+use Rattle.gin_scan.specs.Counting.{IsCounted, CountsOn}
+use Rattle.gin_scan.specs.Inner.Parts.{BeginsLong, AddedIf, AddsIfTold}
+use Rattle.gin_scan.specs.declared.scan_core.ScanCore.{ScanCore}
+use Rattle.gin_scan.specs.declared.stage.LongVector.{LongVector}
+use Rattle.gin_scan.specs.declared.stage.Stage.TheVariants as stage
+
+-- the metapage was read
+pub meta_counted : (s new : ScanCore) (page holds holds' : ℕ) → s.stage ≡ stage.Meta → new.extent ≡ s.extent
+    → holds' ≤ suc holds → (before : ℕ) → IsCounted before s holds s.stage
+    → IsCounted before new holds' (stage.Pending page s.extent)
+meta_counted s new page holds holds' at extent one before had =
+    let were : holds ≤ before = subst (IsCounted before s holds) at had in
+    let are : holds' + s.extent ≤ before + suc new.extent = omega (arith, were, one, extent) in
+    are
+
+-- a page of the list was read
+pub list_counted : (s new : ScanCore) (page next left holds holds' : ℕ) → s.stage ≡ stage.Pending page left
+    → new.extent ≡ s.extent → (left ≡ 0 → ⊥) → holds' ≤ suc holds → (before : ℕ)
+    → IsCounted before s holds s.stage → IsCounted before new holds' (stage.Pending next (left - 1))
+list_counted s new page next left holds holds' at extent some one before had =
+    let were : holds + left ≤ before + suc s.extent = subst (IsCounted before s holds) at had in
+    let are : holds' + (left - 1) ≤ before + suc new.extent = omega (arith, were, one, extent, some) in
+    are
+
+-- pages go further
+pub further_counted : (s new : ScanCore) (page extent holds holds' : ℕ) → s.stage ≡ stage.Pending page 0
+    → s.extent < extent
+    → new ≡ record s { stage = stage.Pending page (extent - s.extent); extent = extent } → holds' ≡ holds
+    → CountsOn s holds new holds'
+further_counted s new page extent holds holds' at more same one = λ before had.
+    let were : holds + 0 ≤ before + suc s.extent = subst (IsCounted before s holds) at had in
+    let are : holds' + (extent - s.extent) ≤ before + suc extent = omega (arith, were, one, more) in
+    subst (λ (z : ScanCore). IsCounted before z holds' z.stage) (sym same) are
+
+-- all items were judged
+pub judged_counted : (s new : ScanCore) (page left holds : ℕ) → s.stage ≡ stage.Pending page left
+    → new.extent ≡ s.extent → (before : ℕ) → IsCounted before s holds s.stage
+    → IsCounted before new holds (stage.Heads 0)
+judged_counted s new page left holds at extent before had =
+    let were : holds + left ≤ before + suc s.extent = subst (IsCounted before s holds) at had in
+    let are : holds ≤ before + suc new.extent + 0 = omega (arith, were, extent) in
+    are
+
+-- a page of heads was read
+pub heads_counted : (s new : ScanCore) (at end holds holds' : ℕ) → s.stage ≡ stage.Heads at
+    → new.extent ≡ s.extent → at < end → holds' ≤ suc holds → (before : ℕ)
+    → IsCounted before s holds s.stage → IsCounted before new holds' (stage.Heads end)
+heads_counted s new at end holds holds' is extent less one before had =
+    let were : holds ≤ before + suc s.extent + at = subst (IsCounted before s holds) is had in
+    let are : holds' ≤ before + suc new.extent + end = omega (arith, were, one, extent, less) in
+    are
+
+-- a vector is next, or none is left
+pub long_counted : (s new : ScanCore) (at holds before : ℕ) → BeginsLong s at new → at ≤ length s.long.items
+    → holds ≤ before + suc s.extent + length s.kept.items + at * s.extent → IsCounted before new holds new.stage
+long_counted s new at holds before begins within were = elim begins [
+  | BeginsLong.next l there below empty same ↦
+      let are : holds + s.extent ≤ before + suc s.extent + length s.kept.items + suc at * s.extent =
+      omega (arith, were) in
+      subst (λ (z : ScanCore). IsCounted before z holds z.stage) (sym same) are
+  | BeginsLong.end all moved ordered same ↦
+      let one : at ≡ length s.long.items = omega (arith, all, within) in
+      let are : holds ≤ before + suc s.extent + length s.kept.items + length s.long.items * s.extent =
+      subst (λ (n : ℕ). holds ≤ before + suc s.extent + length s.kept.items + n * s.extent) one were in
+      subst (λ (z : ScanCore). IsCounted before z holds z.stage) (sym same) are
+]
+
+-- the heads end
+pub ended_counted : (s new : ScanCore) (at holds : ℕ) → s.stage ≡ stage.Heads at → at ≤ length s.kept.items
+    → BeginsLong s 0 new → CountsOn s holds new holds
+ended_counted s new at holds is within begins = λ before had.
+    let were : holds ≤ before + suc s.extent + at = subst (IsCounted before s holds) is had in
+    let are : holds ≤ before + suc s.extent + length s.kept.items + 0 * s.extent = omega (arith, were, within) in
+    long_counted s new 0 holds before begins (omega arith) are
+
+-- a part of a vector was read
+pub part_counted : (s new : ScanCore) (at page next left holds holds' : ℕ)
+    → s.stage ≡ stage.Parts at page left → new.extent ≡ s.extent → new.kept ≡ s.kept → (left ≡ 0 → ⊥)
+    → holds' ≤ suc holds → (before : ℕ) → IsCounted before s holds s.stage
+    → IsCounted before new holds' (stage.Parts at next (left - 1))
+part_counted s new at page next left holds holds' is extent kept some one before had =
+    let were : holds + left ≤ before + suc s.extent + length s.kept.items + suc at * s.extent =
+    subst (IsCounted before s holds) is had in
+    let are : holds' + (left - 1) ≤ before + suc s.extent + length s.kept.items + suc at * s.extent =
+    omega (arith, were, one, some) in
+    let kept_is : holds' + (left - 1) ≤ before + suc s.extent + length new.kept.items + suc at * s.extent =
+    subst (λ ks. holds' + (left - 1) ≤ before + suc s.extent + length ks.items + suc at * s.extent) (sym kept) are in
+    subst (λ (n : ℕ). holds' + (left - 1) ≤ before + suc n + length new.kept.items + suc at * n) (sym extent) kept_is
+
+-- a vector was matched
+same_names : (s mid : ScanCore) (l : LongVector) (b : Bool) → AddedIf s l b mid
+    → mid ≡ record s { names = mid.names }
+same_names s mid l true added = added.1
+same_names s mid l false added = added ∙ ap (λ (z : ScanCore). record s { names = z.names }) (sym added)
+
+pub match_counted : (P : Vector → Type 0) (s mid new : ScanCore) (at next page left holds : ℕ)
+    → s.stage ≡ stage.Parts at page left → next ≡ suc at → at < length s.long.items → AddsIfTold P s at mid
+    → BeginsLong mid next new → CountsOn s holds new holds
+match_counted P s mid new at next page left holds is after within adds begins = λ before had.
+    let were : holds + left ≤ before + suc s.extent + length s.kept.items + suc at * s.extent =
+    subst (IsCounted before s holds) is had in
+    let are : holds ≤ before + suc s.extent + length s.kept.items + suc at * s.extent = omega (arith, were) in
+    let same = same_names s mid adds.waits adds.answer adds.added in
+    let r : (suc at ≤ length mid.long.items)
+    × (holds ≤ before + suc mid.extent + length mid.kept.items + suc at * mid.extent) =
+    subst (λ (z : ScanCore). (suc at ≤ length z.long.items)
+    × (holds ≤ before + suc z.extent + length z.kept.items + suc at * z.extent)) (sym same) (within, are) in
+    let start = subst (λ (n : ℕ). BeginsLong mid n new) after begins in
+    long_counted mid new (suc at) holds before start r.0 r.1

@@ -1,0 +1,100 @@
+-- The end of a scan, and what it has found then.
+use Rattle.std.proofs.Common.{◌≡◌, ◌≢◌, Bool, true, false, [], length, take, refl, sym, subst}
+use Rattle.std.proofs.Common.{◌∙◌, arith, AllPairs, append-nil}
+use Rattle.std.specs.Prelude.{Some, None, MatchOption, slice_set}
+use Rattle.std.proofs.lemmas.List.{drop_all}
+use Rattle.disk_trait.specs.declared.device.Disk.{Ghosts as Disk}
+use Rattle.page_types.specs.declared.page.Name.{Name}
+use Rattle.core_state.specs.Log.{Log}
+use Rattle.core_state.specs.History.{docs}
+use Rattle.core_state.specs.Legal.{Pin}
+use Rattle.core_state.specs.Steady.{LeavesIndex}
+use Rattle.core_state.proofs.SnapshotOrder.{apart_rise}
+use Rattle.gin_opclass.specs.Class.{Meaning, JudgeIsSound}
+use Rattle.buffer_frames.specs.Beginnings.{BeginsOn}
+use Rattle.buffer_frames.specs.Frames.{FramesValue, Stands, Behind, KeepsOthers}
+use Rattle.buffer_frames.specs.Passes.{IsPassOf, HasAdded, PassRises, pin_in}
+use Rattle.buffer_frames.specs.declared.pass.Pass.{Pass}
+use Rattle.buffer_frames.specs.declared.pass.Pinned.{Pinned}
+use Rattle.gin_scan.specs.Calls.{AddsNothing, GivesUp, EndsReading}
+use Rattle.gin_scan.specs.Finding.{IsFound, HasFound}
+use Rattle.gin_scan.specs.Taking.{AreTaken, first_items}
+use Rattle.gin_scan.specs.Scanning.{HasRead, IsScanOf, Scanning, IsAtEnd}
+use Rattle.gin_scan.specs.declared.scan_core.ScanCore.{ScanCore}
+use Rattle.gin_scan.specs.declared.found.Found.{Found}
+use Rattle.gin_scan.proofs.FoundNames.{of_name}
+use Rattle.gin_scan.proofs.Finished.{all_found}
+use Rattle.gin_scan.proofs.GoingOn.{kept_pin}
+use Rattle.gin_scan.proofs.PinCalls.{unpin_once, keeps_work, lie_still}
+use Rattle.gin_scan.proofs.PinLaws.{pin_laws}
+use Rattle.gin_scan.proofs.ReadCalls.{adds_once, still_works}
+use Rattle.gin_scan.proofs.StepsTaken.{same_log}
+
+module _ {D : Type 0} (device : Disk D) (s : ScanCore) where
+  -- the pass keeps the snapshot, which it had
+  pub ends_still : (f : FramesValue D) (p : Pass) → s.took_pin ≡ false → IsPassOf f p → p.held ≡ 0
+      → EndsReading device s f p f p
+  ends_still f p took of none = record {
+    is_pass = of;
+    held = none;
+    adds = AddsNothing.stays;
+    journal = refl;
+    lying = λ n c l. l;
+    keeps = still_works device p;
+    holds = refl;
+    pin = subst (λ (b : Bool). GivesUp b f p f p) (sym took) (refl, refl);
+  }
+
+  -- it gives up what the scan took
+  pub ends_unpinned : (f f' : FramesValue D) (p p' : Pass) → s.took_pin ≡ true → p.held ≡ 0 → IsPassOf f' p'
+      → p'.pin ≡ None
+      → MatchOption p.pin (f'.pins ≡ f.pins) (λ (z : Pinned). f'.pins ≡ slice_set f.pins z.place None)
+      → HasAdded device f f' [] → (p'.held ≡ p.held) × (p'.room ≡ p.room) × (p'.xid ≡ p.xid)
+      → p'.holds ≡ p.holds → PassRises p p' → f'.journal ≡ f.journal → BeginsOn device f.journal f'.journal
+      → KeepsOthers f f' []
+      → EndsReading device s f p f' p'
+  ends_unpinned f f' p p' took none of gone pins added same holds rises journal begins others = record {
+    is_pass = of;
+    held = same.0 ∙ none;
+    adds = adds_once device f f' (unpin_once device f f' p.pin pins added begins journal);
+    journal = journal;
+    lying = lie_still f f' others;
+    keeps = keeps_work p p' same.2 same.1 rises;
+    holds = holds;
+    pin = subst (λ (b : Bool). GivesUp b f p f' p') (sym took) (gone, pins);
+  }
+
+-- ── what it has found ──
+
+pub has_found : {D Q : Type 0} (device : Disk D) (M : Meaning Q) (sound : JudgeIsSound M) (q : Q)
+    (f f' : FramesValue D) (pass : Pass) (s : ScanCore) (found : Found) → IsPassOf f pass
+    → HasAdded device f f' [] → IsAtEnd s → Scanning device M q f pass s → found.names ≡ s.names
+    → found.heads_read ≡ s.heads_read → found.candidates ≡ length s.kept.items
+    → Behind device f' (λ (R : Log). LeavesIndex R → (pin : Pin) → pin_in pass.pin ≡ Some pin
+    → HasFound M q R pin found)
+has_found device M sound q f f' pass s found of added end scan names heads count told up R' stands legal leaves
+    pin e =
+    let up_old = added.was_up up in
+    let b = added.back told up R' stands in
+    let one : R' ≡ b.0 = same_log f.journal.owes b.0 R' b.2 in
+    let old : Stands device f R' = subst (Stands device f) (sym one) b.1 in
+    let keeps = kept_pin device f pass R' pin of told up_old old legal e in
+    let o : IsScanOf M q R' pin s = scan told up_old R' old legal leaves pin e in
+    let had = subst (HasRead M q R' pin o.from s) end o.read in record {
+      names = λ H history.
+          let t : AreTaken (M.satisfies q) R' pin H (first_items (length s.kept.items) s.kept.items) s.names.items [] =
+          subst (λ ls. AreTaken (M.satisfies q) R' pin H (first_items (length s.kept.items) s.kept.items)
+          s.names.items ls) (drop_all (length s.long.items) s.long.items (omega arith)) (had.1 H history) in
+          subst (λ ns. IsFound (M.satisfies q)
+          (docs (take pin.commits H)) ns.items) (sym names)
+          (all_found M sound q R' pin legal keeps o.from s had.0 had.1 H history
+          (pin_laws R' pin H legal keeps history).rise
+          (apart_rise of_name s.names.items had.3 (subst (AllPairs (λ (a b : Name). a.serial ≢ b.serial))
+          (append-nil s.names.items) t.once)));
+      walk = had.0.walk;
+      is_walk = had.0.is_walk;
+      kept = s.kept.items;
+      are_kept = had.0.kept;
+      candidates = count;
+      heads_read = omega (arith, heads, count, had.2);
+    }

@@ -1,0 +1,149 @@
+-- What a scan keeps once it has judged all items is what the walk keeps.
+use Rattle.std.proofs.Common.{◌≡◌, ◌⊎◌, ◌↔◌, ℕ, zero, suc, ◌<◌, Bool, true, false, ◌&&◌, ◌||◌, not, IsTrue, nat_eq}
+use Rattle.std.proofs.Common.{List, [], ◌∷◌}
+use Rattle.std.proofs.Common.{length, map, Option, Some, refl, sym, ap, subst, inl, inr, arith, slice_get, All}
+use Rattle.std.proofs.Common.{AllPairs}
+use Rattle.std.proofs.lemmas.List.{length-map}
+use Rattle.std.specs.List.{list_any}
+use Rattle.std.proofs.lemmas.List.Kept.{AllPairs-cons}
+use Rattle.std.proofs.lemmas.Option.{slice_get_within}
+use Rattle.core_state.specs.Log.{In}
+use Rattle.gin_opclass.specs.Class.{Asked, Meaning, JudgeIsSound}
+use Rattle.core_moments.specs.Walk.{Walk}
+use Rattle.core_moments.specs.Judging.{met, pending_has, main_read, main_has, is_exception, fits_asked, IsKept}
+use Rattle.core_moments.proofs.Words.{and_true}
+use Rattle.core_moments.proofs.Walks.{any_true, any_in}
+use Rattle.gin_scan.specs.Rows.{lists_of}
+use Rattle.gin_scan.specs.Sides.{Side, pending_side, main_side, TellOf, TellOfWalk, InLists, MayBeKept, AreKeptOf}
+use Rattle.gin_scan.specs.Sides.{AreKept}
+use Rattle.gin_scan.specs.declared.hits.Hits.{Hits}
+use Rattle.gin_scan.proofs.Verdicts.{exception_met, some_has, kept_from, kept_to, kept_sure}
+
+or_either : (a b : Bool) → (a || b) ≡ true → (a ≡ true) ⊎ (b ≡ true)
+or_either true b e = inl refl
+or_either false b e = inr e
+
+no_bool : (b : Bool) → b ≡ true → b ≡ false → ⊥
+no_bool true e f = cc
+no_bool false e f = cc
+
+pub in_all : {A : Type 0} (P : A → Type 0) (xs : List A) → ((x : A) → In x xs → P x) → All P xs
+in_all P [] f i d l = absurd (omega (arith, l))
+in_all P (x ∷ xs) f zero d l = f x (inl refl)
+in_all P (x ∷ xs) f (suc i) d l = in_all P xs (λ y m. f y (inr m)) i d (omega (arith, l))
+
+all_at : {A : Type 0} (P : A → Type 0) (xs : List A) → All P xs → (x : A) → In x xs → P x
+all_at P [] h x i = absurd i
+all_at P (y ∷ ys) h x (inl e) = subst P (sym e) (h zero y (omega arith))
+all_at P (y ∷ ys) h x (inr i) = all_at P ys (λ k d l. h (suc k) d (omega (arith, l))) x i
+
+-- the number of an element
+pub number_of : {A : Type 0} (x : A) (xs : List A) → In x xs → (k : ℕ) × (slice_get xs k ≡ Some x)
+number_of x [] i = absurd i
+number_of x (y ∷ ys) (inl e) = (zero, ap Some (sym e))
+number_of x (y ∷ ys) (inr i) = let f = number_of x ys i in (suc f.0, f.1)
+
+pub element_in : {A : Type 0} (x : A) (xs : List A) (k : ℕ) → slice_get xs k ≡ Some x → In x xs
+element_in x [] k e = absurd (let z : ⊥ = cc in z)
+element_in x (y ∷ ys) zero e = inl (let z : y ≡ x = cc in sym z)
+element_in x (y ∷ ys) (suc k) e = inr (element_in x ys k e)
+
+-- there is an element with each number below the length
+pub element_at : {A : Type 0} (xs : List A) (k : ℕ) → k < length xs → (x : A) × (slice_get xs k ≡ Some x)
+element_at [] k l = absurd (omega (arith, l))
+element_at (x ∷ xs) zero l = (x, refl)
+element_at (x ∷ xs) (suc k) l = element_at xs k (omega (arith, l))
+
+-- a key that fits is one of a row that was met
+has_is_met : (w : Walk) (i : ℕ) (a : Asked) → pending_has w i a ≡ true → met w i ≡ true
+has_is_met w i a e =
+    let x = any_in (λ x. list_any (λ row. nat_eq row.item i && list_any (fits_asked a) row.keys)
+    (Rattle.page_types.specs.Views.kept_rows_of x.content)) w.pending e in
+    let r = any_in (λ row. nat_eq row.item i && list_any (fits_asked a) row.keys)
+    (Rattle.page_types.specs.Views.kept_rows_of x.0.content) x.2 in
+    any_true (λ y. list_any (λ row. nat_eq row.item i) (Rattle.page_types.specs.Views.kept_rows_of y.content)) x.0
+    w.pending x.1 (any_true (λ row. nat_eq row.item i) r.0 (Rattle.page_types.specs.Views.kept_rows_of x.0.content)
+    r.1 (and_true (nat_eq r.0.item i) (list_any (fits_asked a) r.0.keys) r.2).0)
+
+module _ {Q : Type 0} (M : Meaning Q) (q : Q) (w : Walk) (pending main : Hits) (first : Option ℕ)
+    (told : TellOfWalk (M.asked q) w pending main first) (none_read : (i : ℕ) → main_read w i ≡ false)
+    (none_has : (i : ℕ) (a : Asked) → main_has w i a ≡ false) where
+  lists_count : (h : Hits) → length (lists_of h) ≡ length h.by_key.items
+  lists_count h = length-map h.by_key.items _
+
+  -- the key that a list of the side is of
+  key_of : (side : Side) (h : Hits) → TellOf (M.asked q) side h → (i : ℕ) → InLists i h
+      → (a : Asked) × IsTrue (side.has i a)
+  key_of side h t i m =
+      let k = number_of m.0 (lists_of h) m.1 in
+      let a = element_at (M.asked q) k.0
+      (omega (arith, slice_get_within (lists_of h) k.0 m.0 k.1, lists_count h, t.count)) in
+      (a.0, ((t.by_key k.0 a.0 m.0 a.1 k.1).just i).0 m.2)
+
+  -- the list of a key that is asked
+  list_of : (side : Side) (h : Hits) → TellOf (M.asked q) side h → (i : ℕ) (a : Asked) → In a (M.asked q)
+      → IsTrue (side.has i a) → InLists i h
+  list_of side h t i a m e =
+      let k = number_of a (M.asked q) m in
+      let l = element_at (lists_of h) k.0
+      (omega (arith, slice_get_within (M.asked q) k.0 a k.1, lists_count h, t.count)) in
+      (l.0, element_in l.0 (lists_of h) k.0 l.1, ((t.by_key k.0 a l.0 k.1 l.1).just i).1 e)
+
+  -- each item that may be kept was met
+  pub may_was_met : (all : Bool) (i : ℕ) → MayBeKept all pending main i → met w i ≡ true
+  may_was_met true i (inl m) = (told.pending_told.any.just i).0 m
+  may_was_met true i (inr m) = absurd (no_bool (main_read w i) ((told.main_told.any.just i).0 m) (none_read i))
+  may_was_met false i (inl m) =
+      let f = key_of (pending_side w) pending told.pending_told i m in has_is_met w i f.0 f.1
+  may_was_met false i (inr m) =
+      let f = key_of (main_side w) main told.main_told i m in absurd (no_bool (main_has w i f.0) f.1 (none_has i f.0))
+
+  kept_was_met : (i : ℕ) → IsKept M q w i → met w i ≡ true
+  kept_was_met i (IsKept.by_pending m j) = m
+  kept_was_met i (IsKept.by_main m j) = elim (or_either (is_exception w i) (not (met w i) && main_read w i) m) [
+    | inl e ↦ exception_met i w.pending e
+    | inr e ↦ absurd (no_bool (main_read w i) (and_true (not (met w i)) (main_read w i) e).1 (none_read i))
+  ]
+
+  -- each that is kept may be
+  pub kept_may : JudgeIsSound M → (all : Bool) → M.all q ≡ all → (i : ℕ) → IsKept M q w i → MayBeKept all pending main i
+  kept_may S true e i k = inl ((told.pending_told.any.just i).1 (kept_was_met i k))
+  kept_may S false e i (IsKept.by_pending m j) =
+      let f = some_has M S q (pending_has w i) e j in
+      inl (list_of (pending_side w) pending told.pending_told i f.0 f.1 f.2)
+  kept_may S false e i (IsKept.by_main m j) =
+      let f = some_has M S q (main_has w i) e j in
+      absurd (no_bool (main_has w i f.0) f.2 (none_has i f.0))
+
+  kept_rise : (is : List ℕ) (kept : List (ℕ × Bool)) → AllPairs (λ (i j : ℕ). i < j) is → AreKeptOf M q w is kept
+      → AllPairs (λ (a b : ℕ × Bool). a.0 < b.0) kept
+  kept_rise [] kept rise e =
+      subst (AllPairs (λ (a b : ℕ × Bool). a.0 < b.0)) (sym e) (λ i j d lt within. absurd (omega (arith, lt, within)))
+  kept_rise (i ∷ is) kept rise (inl f) =
+      subst (AllPairs (λ (a b : ℕ × Bool). a.0 < b.0)) (sym f.1.2)
+      (AllPairs-cons (λ (a b : ℕ × Bool). a.0 < b.0) (i, f.1.0) f.1.1
+      (in_all (λ (b : ℕ × Bool). i < b.0) f.1.1 (λ b m. all_at (λ (j : ℕ). i < j) is
+      (λ k d l. rise zero (suc k) d (omega arith) (omega (arith, l))) b.0
+      (kept_from M q w is f.1.1 f.1.4 b.0 (in_map b f.1.1 m)).0))
+      (kept_rise is f.1.1 (λ k l d lt within. rise (suc k) (suc l) d (omega (arith, lt)) (omega (arith, within)))
+      f.1.4))
+    where
+      in_map : (b : ℕ × Bool) (ks : List (ℕ × Bool)) → In b ks → In b.0 (map (λ (k : ℕ × Bool). k.0) ks)
+      in_map b [] m = absurd m
+      in_map b (k ∷ ks) (inl e) = inl (ap (λ (z : ℕ × Bool). z.0) e)
+      in_map b (k ∷ ks) (inr m) = inr (in_map b ks m)
+  kept_rise (i ∷ is) kept rise (inr f) =
+      kept_rise is kept (λ k l d lt within. rise (suc k) (suc l) d (omega (arith, lt)) (omega (arith, within))) f.1
+
+  -- what is kept of all items that may be is what the walk keeps
+  pub are_kept : JudgeIsSound M → (all : Bool) → M.all q ≡ all → (items : List ℕ) (kept : List (ℕ × Bool))
+      → AllPairs (λ (i j : ℕ). i < j) items → ((i : ℕ) → In i items ↔ MayBeKept all pending main i)
+      → AreKeptOf M q w items kept → AreKept M q w kept
+  are_kept S all e items kept rise just of' = record {
+    rising = kept_rise items kept rise of';
+    just = λ i. (
+      (λ m. (kept_from M q w items kept of' i m).1),
+      (λ k. kept_to M q w items kept of' i ((just i).1 (kept_may S all e i k)) k),
+    );
+    sure = λ k m. kept_sure M q w items kept of' k m;
+  }

@@ -1,0 +1,185 @@
+-- Steps along the pending list.
+use Rattle.std.proofs.Common.{◌≡◌, ◌≢◌, ℕ, zero, suc, ◌+◌, ◌-◌, ◌*◌, ◌^◌, ◌<◌, ◌≤◌, true, List, [], ◌++◌, length, cond}
+use Rattle.std.proofs.Common.{refl, sym, ap, subst, ◌∙◌, arith}
+use Rattle.std.proofs.lemmas.List.{length-map}
+use Rattle.disk_trait.specs.declared.device.Disk.{Ghosts as Disk}
+use Rattle.page_types.specs.Pages.{IsPage}
+use Rattle.page_types.specs.Views.{kept_rows_of, first_of}
+use Rattle.page_types.specs.declared.page.Page.{Page}
+use Rattle.page_types.specs.declared.page.Row.{Row}
+use Rattle.core_state.specs.Log.{Log}
+use Rattle.core_state.specs.Legal.{Pin}
+use Rattle.core_state.specs.Readings.{WasShown}
+use Rattle.gin_opclass.specs.Class.{Asked, Meaning, JudgeIsSound}
+use Rattle.core_moments.specs.Walk.{rightward}
+use Rattle.buffer_frames.specs.Frames.{FramesValue, Lies}
+use Rattle.buffer_frames.specs.Passes.{IsPassOf}
+use Rattle.buffer_frames.specs.declared.pass.Pass.{Pass}
+use Rattle.buffer_frames.proofs.AtHand.{log_length}
+use Rattle.buffer_frames.proofs.FirstLogs.{shown_by}
+use Rattle.gin_scan.specs.Rows.{asked_by, lists_of, first_of_rows, AreNoted}
+use Rattle.gin_scan.specs.Reading.{ReadsList}
+use Rattle.gin_scan.specs.Scanning.{AsksFor, IsScan, HasRead, IsScanOf, asked_in, stages_left, steps_of, steps_left}
+use Rattle.gin_scan.specs.declared.scan_core.ScanCore.{ScanCore}
+use Rattle.gin_scan.specs.declared.stage.Stage.{Stage}
+use Rattle.gin_scan.specs.declared.stage.Stage.TheVariants as stage
+use Rattle.gin_scan.proofs.ToldHits.{lists_length}
+use Rattle.gin_scan.proofs.ListRead.{now, read_now, meta_read, page_read}
+use Rattle.gin_scan.proofs.StepsTaken.{Known}
+use Rattle.gin_scan.proofs.JudgedList.{JudgesAll, judged_all}
+
+-- the log of frames over which there is a pass isn't empty
+pub log_some : {D : Type 0} (device : Disk D) (f : FramesValue D) (pass : Pass) (R : Log) (pin : Pin) → IsPassOf f pass
+    → Known device f R pin → R ≢ []
+log_some device f pass R pin of known e =
+    let long = log_length device f.journal R known.stands.journal in
+    omega (arith, of.some, of.seen, long, ap length e)
+
+-- what lies in memory was shown
+was_shown : {D : Type 0} (device : Disk D) (f : FramesValue D) (R : Log) (pin : Pin)
+    → Known device f R pin → (p : ℕ) (c : Page) → IsPage c → Lies f p c → WasShown R (now R p c)
+was_shown device f R pin known p c is lies =
+    let P = shown_by R known.legal.valid in
+    read_now device f R known.told known.up known.stands known.legal P.0 P.1 p c is lies
+
+lists_asked : {Q : Type 0} (M : Meaning Q) (q : Q) (s : ScanCore) → IsScan s → AsksFor M q s
+    → length (lists_of s.pending) ≡ length (M.asked q)
+lists_asked M q s is asks =
+    lists_length s.pending ∙ is.pending ∙ sym (length-map s.keys.keys.items asked_by) ∙ ap length asks.asked
+
+module _ {D Q : Type 0} (device : Disk D) (M : Meaning Q) (q : Q) (f : FramesValue D) (pass : Pass) (s s' : ScanCore)
+    (of : IsPassOf f pass) (is : IsScan s) (asks : AsksFor M q s) (R : Log) (pin : Pin) (known : Known device f R pin)
+    (o : IsScanOf M q R pin s) where
+  -- the metapage was read
+  pub meta_step : (c : Page) → IsPage c → Lies f 0 c → s.stage ≡ stage.Meta
+      → s' ≡ record s { stage = stage.Pending (first_of c) s.extent } → IsScanOf M q R pin s'
+  meta_step c page lies at same =
+      let now_at : s'.stage ≡ stage.Pending (first_of c) s.extent = ap (λ (z : ScanCore). z.stage) same in
+      record {
+        from = o.from;
+        since = o.since;
+        within = o.within;
+        below = λ P p shown used. subst (λ (n : ℕ). p < n) (sym (ap (λ (z : ScanCore). z.extent) same))
+            (o.below P p shown used);
+        read = subst (HasRead M q R pin o.from s') (sym now_at)
+            (meta_read R o.from (M.asked q) s s' c o.within (was_shown device f R pin known 0 c page lies)
+            (subst (HasRead M q R pin o.from s) at o.read) (lists_asked M q s is asks)
+            (same ∙ ap (λ (z : Stage). record s { stage = z }) (sym now_at)));
+      }
+
+  -- a page of the list was read
+  pub page_step : (page left : ℕ) (c : Page) → IsPage c → Lies f page c → s.stage ≡ stage.Pending page left → page ≢ 0
+      → left ≢ 0
+      → ((rows : List Row) → AreNoted (asked_in s) rows s.pending
+      → AreNoted (asked_in s) (rows ++ kept_rows_of c) s'.pending)
+      → s'.first_item ≡ cond s.has_begun s.first_item (first_of_rows (kept_rows_of c))
+      → s' ≡ record s {
+        pending = s'.pending;
+        has_begun = true;
+        first_item = s'.first_item;
+        stage = stage.Pending (rightward c) (left - 1);
+      } → IsScanOf M q R pin s'
+  page_step page left c is_page lies at some more noted first same =
+      let now_at : s'.stage ≡ stage.Pending (rightward c) (left - 1) = ap (λ (z : ScanCore). z.stage) same in
+      record {
+        from = o.from;
+        since = o.since;
+        within = o.within;
+        below = λ P p shown used. subst (λ (n : ℕ). p < n) (sym (ap (λ (z : ScanCore). z.extent) same))
+            (o.below P p shown used);
+        read = subst (HasRead M q R pin o.from s') (sym now_at)
+            (page_read R o.from (M.asked q) s s' page left c o.within
+            (was_shown device f R pin known page c is_page lies) some more
+            (subst (HasRead M q R pin o.from s) at o.read)
+            (subst (λ (asked : List Asked). (rows : List Row) → AreNoted asked rows s.pending
+            → AreNoted asked (rows ++ kept_rows_of c) s'.pending) asks.asked noted)
+            first
+            (same ∙ ap (λ (z : Stage). record s {
+              pending = s'.pending;
+              has_begun = true;
+              first_item = s'.first_item;
+              stage = z;
+            }) (sym now_at)));
+      }
+
+  -- pages go further
+  pub further_step : (page more : ℕ) → s.stage ≡ stage.Pending page 0
+      → s' ≡ record s { stage = stage.Pending page more; extent = s.extent + more } → IsScanOf M q R pin s'
+  further_step page more at same =
+      let now_at : s'.stage ≡ stage.Pending page more = ap (λ (z : ScanCore). z.stage) same in
+      let far : s'.extent ≡ s.extent + more = ap (λ (z : ScanCore). z.extent) same in
+      let r : ReadsList R o.from (M.asked q) s page 0 = subst (HasRead M q R pin o.from s) at o.read in
+      record {
+        from = o.from;
+        since = o.since;
+        within = o.within;
+        below = λ P p shown used. omega (arith, o.below P p shown used, far);
+        read = subst (HasRead M q R pin o.from s') (sym now_at)
+            (subst (λ (z : ScanCore). ReadsList R o.from (M.asked q) z page more) (sym same) (record {
+              meta = r.meta;
+              pending = r.pending;
+              meta_page = r.meta_page;
+              leads = r.leads;
+              reads = r.reads;
+              noted = r.noted;
+              begun = r.begun;
+              first = r.first;
+              unjudged = record {
+                main = r.unjudged.main;
+                kept = r.unjudged.kept;
+                long = r.unjudged.long;
+                names = r.unjudged.names;
+                heads_read = r.unjudged.heads_read;
+              };
+              left_is = omega (arith, r.left_is);
+            }));
+      }
+
+  -- all that was met was judged
+  pub judge_step : JudgeIsSound M → (left : ℕ) → s.stage ≡ stage.Pending 0 left → JudgesAll M q s s'
+      → IsScanOf M q R pin s'
+  judge_step S left at j = record {
+    from = o.from;
+    since = o.since;
+    within = o.within;
+    below = λ P p shown used. subst (λ (n : ℕ). p < n) (sym (ap (λ (z : ScanCore). z.extent) j.rest))
+        (o.below P p shown used);
+    read = judged_all M q S R pin s s' o.from left o.since o.within known.legal (log_some device f pass R pin of known)
+        known.leaves is asks (subst (HasRead M q R pin o.from s) at o.read) j;
+  }
+
+-- ── the bound on steps ──
+
+steps_at : (s : ScanCore) (z : Stage) → s.stage ≡ z → steps_left s ≡ stages_left z * 2 ^ 98 + steps_of s z
+steps_at s z e = ap (λ (y : Stage). stages_left y * 2 ^ 98 + steps_of s y) e
+
+pub meta_lower : (s s' : ScanCore) (page : ℕ) → s.stage ≡ stage.Meta → s'.stage ≡ stage.Pending page s.extent
+    → s'.extent ≡ s.extent → steps_left s' < steps_left s
+meta_lower s s' page at to same =
+    let a = steps_at s stage.Meta at in
+    let b = steps_at s' (stage.Pending page s.extent) to in
+    let c : 2 ^ 32 - s'.extent ≡ 2 ^ 32 - s.extent = ap (λ (n : ℕ). 2 ^ 32 - n) same in
+    omega (arith, a, b, c)
+
+pub page_lower : (s s' : ScanCore) (page next left : ℕ) → s.stage ≡ stage.Pending page left
+    → s'.stage ≡ stage.Pending next (left - 1) → left ≢ 0 → s'.extent ≡ s.extent → steps_left s' < steps_left s
+page_lower s s' page next left at to some same =
+    let a = steps_at s (stage.Pending page left) at in
+    let b = steps_at s' (stage.Pending next (left - 1)) to in
+    let c : 2 ^ 32 - s'.extent ≡ 2 ^ 32 - s.extent = ap (λ (n : ℕ). 2 ^ 32 - n) same in
+    omega (arith, a, b, c, one_more left some)
+  where
+    one_more : (n : ℕ) → n ≢ 0 → 1 ≤ n
+    one_more zero off = absurd (off refl)
+    one_more (suc n) off = omega arith
+
+pub further_lower : (s s' : ScanCore) (page more : ℕ) → s.stage ≡ stage.Pending page 0
+    → s'.stage ≡ stage.Pending page more → s'.extent ≡ s.extent + more → 0 < more → s'.extent < 2 ^ 32
+    → steps_left s' < steps_left s
+further_lower s s' page more at to far some within =
+    omega (arith, steps_at s (stage.Pending page 0) at, steps_at s' (stage.Pending page more) to, far, some, within)
+
+pub judged_lower : (s s' : ScanCore) (page left : ℕ) → s.stage ≡ stage.Pending page left → s'.stage ≡ stage.Heads 0
+    → length s'.kept.items < 2 ^ 64 → steps_left s' < steps_left s
+judged_lower s s' page left at to short =
+    omega (arith, steps_at s (stage.Pending page left) at, steps_at s' (stage.Heads 0) to, short)

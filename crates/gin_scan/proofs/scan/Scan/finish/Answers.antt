@@ -1,0 +1,6 @@
+-- The judge of text queries is sound.
+use Rattle.gin_scan.proofs.scan.Scan.finish.Goals as goal
+
+pub returns-clause-found : goal.returns-clause-found
+returns-clause-found g c =
+    c.finish.ensures.found c.args.self.query.now c.text_class-class.ensures c.requires.query.asks c.requires.walk

@@ -1,0 +1,4 @@
+pub mod Searching
+pub mod Steps
+pub mod Heads
+pub mod Parts

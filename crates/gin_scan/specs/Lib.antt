@@ -1,0 +1,16 @@
+pub mod Rows
+pub mod Sides
+pub mod Seen
+pub mod Reading
+pub mod Taking
+pub mod Scanning
+pub mod Counting
+pub mod Causes
+pub mod Finding
+pub mod Calls
+pub mod TextScans
+pub mod Laws
+pub mod Inner
+pub use Rattle.core_moments.specs.Law
+pub use Rattle.core_moments.specs.Judging
+pub use Rattle.buffer_frames.specs.Passes

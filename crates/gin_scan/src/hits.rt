@@ -1,0 +1,105 @@
+// The items that were read on one side of the index.
+ghost use Rattle.std.specs.Prelude.{◌≡◌, ◌≤◌, ◌↔◌, [], ◌∷◌, ◌++◌, List, IsTrue, length, map, replicate, IfOk, OnOk};
+ghost use Rattle.std.specs.List.{All, AllPairs};
+ghost use Rattle.page_types.specs.Parts.{row_shown};
+ghost use Rattle.page_types.specs.Pages.{IsRow};
+ghost use Rattle.page_types.specs.declared.page.Row.{Row};
+ghost use Rattle.core_state.specs.Log.{In};
+
+use crate::fitting::has_fitting;
+use gin_opclass::{CompareKeys, Judge, Meaning, OpClass};
+use page_types::{RowRef, Rows};
+use std::alloc::{AllocError, Global};
+
+/// The items that were read on one side of the index: all of them, and for each key that is asked those
+/// of which a key was read that fits it.
+#[derive(Debug, Drop)]
+pub(crate) struct Hits {
+    pub(crate) any: Vec<u32>,
+    pub(crate) by_key: Vec<Vec<u32>>,
+}
+
+/// Whether a list that is in order has the item.
+pub(crate) fn has(items: &[u32], item: u32) -> bool
+    requires { AllPairs (λ i j. i ≤ j) items.now }
+    ensures { IsTrue result ↔ In item items.now }
+{
+    items.binary_search(&item).is_ok()
+}
+
+impl Hits {
+    ghost use Rattle.gin_scan.specs.Rows.{asked_by, lists_of, AreNoted};
+    ghost use Rattle.gin_scan.specs.Sides.{AreInOrder, HaveSame};
+
+    /// No item, for so many keys.
+    pub(crate) fn new(alloc: Global, count: usize) -> Result<Hits, AllocError>
+        ensures any { IfOk result (λ h. h.any.items ≡ []) }
+        ensures by_key { IfOk result (λ h. lists_of h ≡ replicate count []) }
+    {
+        let mut by_key = Vec::with_capacity(alloc, count)?;
+        for _ in 0..count {
+            by_key.push(Vec::new(alloc))?;
+        }
+        Ok(Hits {
+            any: Vec::new(alloc),
+            by_key,
+        })
+    }
+
+    /// Notes the item of a row: among all items, and for each asked key that one of its keys fits.
+    fn add_row<Q, W: Meaning<Q>, C: CompareKeys, J: Judge<Q, W>>(
+        &mut self,
+        class: &OpClass<Q, W, C, J>,
+        asked: &[(Vec<u8>, bool)],
+        row: RowRef<'_>,
+    ) -> Result<(), AllocError>
+        requires lists { length self.old.by_key.items ≡ length asked.now }
+        requires row { IsRow (row_shown row) }
+        ensures lists { length self.new.by_key.items ≡ length asked.now }
+        ensures noted { OnOk result ((rows : List Row)
+            → AreNoted (map asked_by asked.now) rows self.old
+            → AreNoted (map asked_by asked.now) (rows ++ row_shown row.entry ∷ []) self.new) }
+    {
+        self.any.push(row.item)?;
+        for k in 0..asked.len() {
+            if has_fitting(row.keys, class, asked[k].0.as_slice(), asked[k].1) {
+                self.by_key[k].push(row.item)?;
+            }
+        }
+        Ok(())
+    }
+
+    /// Notes the items of all these rows.
+    pub(crate) fn add_rows<Q, W: Meaning<Q>, C: CompareKeys, J: Judge<Q, W>>(
+        &mut self,
+        class: &OpClass<Q, W, C, J>,
+        asked: &[(Vec<u8>, bool)],
+        rows: &Rows,
+    ) -> Result<(), AllocError>
+        requires lists { length self.old.by_key.items ≡ length asked.now }
+        requires rows { All IsRow rows.now }
+        ensures lists { length self.new.by_key.items ≡ length asked.now }
+        ensures noted { OnOk result ((before : List Row)
+            → AreNoted (map asked_by asked.now) before self.old
+            → AreNoted (map asked_by asked.now) (before ++ rows.now) self.new) }
+    {
+        for k in 0..rows.len() {
+            if let Some(row) = rows.get(k) {
+                self.add_row(class, asked, row)?;
+            }
+        }
+        Ok(())
+    }
+
+    /// Each list is in order from now on.
+    pub(crate) fn put_in_order(&mut self)
+        ensures in_order { AreInOrder self.new }
+        ensures same { HaveSame self.old self.new }
+        ensures lists { length self.new.by_key.items ≡ length self.old.by_key.items }
+    {
+        self.any.sort_unstable();
+        for items in self.by_key.iter_mut() {
+            items.sort_unstable();
+        }
+    }
+}

@@ -1,0 +1,185 @@
+// How items are judged by the keys that were read of them.
+ghost use Rattle.std.specs.Prelude.{◌≡◌, ◌↔◌, ◌⊎◌, ℕ, ◌<◌, ◌||◌, ◌++◌, List, Bool, length, map, IfOk, OnOk};
+ghost use Rattle.std.specs.List.{All, AllPairs};
+ghost use Rattle.ts_base.specs.declared.Tri.TheVariants.{False, Maybe};
+ghost use Rattle.core_state.specs.Log.{In};
+ghost use Rattle.gin_opclass.specs.Class.{Asked, meaning, JudgeIsSound};
+ghost use Rattle.core_moments.specs.Walk.{Walk};
+ghost use Rattle.core_moments.specs.Judging.{values as values_of};
+ghost use Rattle.gin_scan.specs.Sides.{Side, AreInOrder, TellOf, TellOfWalk, IsVerdictBy, IsVerdict};
+ghost use Rattle.gin_scan.specs.Sides.{WasRead, MayBeKept, AreKeptOf};
+
+use crate::hits::{Hits, has};
+use gin_opclass::{CompareKeys, Judge, Meaning, OpClass};
+use std::alloc::{AllocError, Global};
+use ts_base::Tri;
+
+/// What is known of an item without its vector: whether it is kept, and whether it satisfies the query
+/// for sure.
+#[derive(Clone, Copy, Debug, PartialEq, Eq)]
+pub(crate) struct Verdict {
+    pub(crate) kept: bool,
+    pub(crate) yes: bool,
+}
+
+/// The verdict of two, of which each keeps an item and says a yes.
+fn either(a: Verdict, b: Verdict) -> Verdict
+    ensures kept { result.kept ≡ (a.kept || b.kept) }
+    ensures yes { result.yes ≡ (a.yes || b.yes) }
+{
+    Verdict {
+        kept: a.kept || b.kept,
+        yes: a.yes || b.yes,
+    }
+}
+
+/// A value for each key that is asked: True where the item has one that fits, else this one.
+fn put_values(values: &mut Vec<Tri>, hits: &Hits, item: u32, absent: Tri)
+    requires lists { length hits.now.by_key.items ≡ length values.old.items }
+    requires in_order { AreInOrder hits.now }
+    ensures count { length values.new.items ≡ length values.old.items }
+    ensures values { (asked : List Asked) (side : Side) → TellOf asked side hits.now
+        → values.new.items ≡ values_of (side.has item) absent asked }
+{
+    for k in 0..values.len() {
+        values[k] = if has(&hits.by_key[k], item) {
+            Tri::True
+        } else {
+            absent
+        };
+    }
+}
+
+/// The verdict of one side, where an absent key counts as this for a yes.
+fn judge_by<Q, W: Meaning<Q>, C: CompareKeys, J: Judge<Q, W>>(
+    class: &OpClass<Q, W, C, J>,
+    query: &Q,
+    work: &mut W,
+    values: &mut Vec<Tri>,
+    hits: &Hits,
+    item: u32,
+    absent: Tri,
+) -> Verdict
+    requires serves { J.serves work.old query.now }
+    requires each { length values.old.items ≡ length (W.asked query.now) }
+    requires lists { length hits.now.by_key.items ≡ length values.old.items }
+    requires in_order { AreInOrder hits.now }
+    ensures serves { J.serves work.new query.now }
+    ensures count { length values.new.items ≡ length values.old.items }
+    ensures verdict { (side : Side) → TellOf (W.asked query.now) side hits.now
+        → IsVerdictBy (meaning W.asked W.all W.satisfies W.judged) query.now side item absent
+        result }
+{
+    put_values(values, hits, item, Tri::False);
+    let answer = class.judge(query, work, values.as_slice());
+    put_values(values, hits, item, absent);
+    let sure = class.judge(query, work, values.as_slice());
+    Verdict {
+        kept: answer != Tri::False,
+        yes: sure == Tri::True,
+    }
+}
+
+/// The verdict on an item. The first row's document may have rows before it, which are in the main part
+/// now, so both sides have a say; each other item is judged where it was met.
+fn judge_item<Q, W: Meaning<Q>, C: CompareKeys, J: Judge<Q, W>>(
+    class: &OpClass<Q, W, C, J>,
+    query: &Q,
+    work: &mut W,
+    values: &mut Vec<Tri>,
+    pending: &Hits,
+    main: &Hits,
+    first_item: Option<u32>,
+    item: u32,
+) -> Verdict
+    requires serves { J.serves work.old query.now }
+    requires each { length values.old.items ≡ length (W.asked query.now) }
+    requires pending { (length pending.now.by_key.items ≡ length values.old.items)
+        × AreInOrder pending.now }
+    requires main { (length main.now.by_key.items ≡ length values.old.items) × AreInOrder main.now }
+    ensures serves { J.serves work.new query.now }
+    ensures count { length values.new.items ≡ length values.old.items }
+    ensures verdict { (w : Walk)
+        → TellOfWalk (W.asked query.now) w pending.now main.now first_item → WasRead w item
+        → IsVerdict (meaning W.asked W.all W.satisfies W.judged) query.now w item result }
+{
+    if first_item == Some(item) {
+        let listed = judge_by(class, query, work, values, pending, item, Tri::Maybe);
+        let moved = judge_by(class, query, work, values, main, item, Tri::Maybe);
+        return either(listed, moved);
+    }
+    if has(pending.any.as_slice(), item) {
+        return judge_by(class, query, work, values, pending, item, Tri::False);
+    }
+    judge_by(class, query, work, values, main, item, Tri::Maybe)
+}
+
+/// Adds the items of each of these lists.
+fn add_all(items: &mut Vec<u32>, lists: &[Vec<u32>]) -> Result<(), AllocError>
+    ensures { OnOk result ((i : ℕ) → In i items.new.items
+        ↔ (In i items.old.items ⊎ ((list : List ℕ) × In list (map (λ v. v.items) lists.now)
+        × In i list))) }
+{
+    for list in lists {
+        items.extend_from_slice(list.as_slice())?;
+    }
+    Ok(())
+}
+
+/// The items that may be kept, rising. Where the whole index isn't read these are those with a key that
+/// fits one that is asked, since the judge answers False where there is none.
+pub(crate) fn items_of(
+    alloc: Global,
+    pending: &Hits,
+    main: &Hits,
+    all: bool,
+) -> Result<Vec<u32>, AllocError>
+    ensures rising { IfOk result (λ v. AllPairs (λ i j. i < j) v.items) }
+    ensures just { IfOk result (λ v. (i : ℕ)
+        → In i v.items ↔ MayBeKept all pending.now main.now i) }
+{
+    let mut items = Vec::new(alloc);
+    if all {
+        items.extend_from_slice(pending.any.as_slice())?;
+        items.extend_from_slice(main.any.as_slice())?;
+    } else {
+        add_all(&mut items, pending.by_key.as_slice())?;
+        add_all(&mut items, main.by_key.as_slice())?;
+    }
+    items.sort_unstable();
+    items.dedup();
+    Ok(items)
+}
+
+/// Adds those of the items that are kept, each with whether it satisfies the query for sure.
+pub(crate) fn add_kept<Q, W: Meaning<Q>, C: CompareKeys, J: Judge<Q, W>>(
+    class: &OpClass<Q, W, C, J>,
+    query: &Q,
+    work: &mut W,
+    values: &mut Vec<Tri>,
+    pending: &Hits,
+    main: &Hits,
+    first_item: Option<u32>,
+    items: &[u32],
+    kept: &mut Vec<(u32, bool)>,
+) -> Result<(), AllocError>
+    requires serves { J.serves work.old query.now }
+    requires each { length values.old.items ≡ length (W.asked query.now) }
+    requires pending { (length pending.now.by_key.items ≡ length values.old.items)
+        × AreInOrder pending.now }
+    requires main { (length main.now.by_key.items ≡ length values.old.items) × AreInOrder main.now }
+    ensures serves { J.serves work.new query.now }
+    ensures kept { OnOk result ((w : Walk)
+        → TellOfWalk (W.asked query.now) w pending.now main.now first_item
+        → All (WasRead w) items.now → (more : List (ℕ × Bool))
+        × (kept.new.items ≡ kept.old.items ++ more)
+        × AreKeptOf (meaning W.asked W.all W.satisfies W.judged) query.now w items.now more) }
+{
+    for item in items {
+        let verdict = judge_item(class, query, work, values, pending, main, first_item, *item);
+        if verdict.kept {
+            kept.push((*item, verdict.yes))?;
+        }
+    }
+    Ok(())
+}

@@ -1,0 +1,236 @@
+// What a scan reads of long vectors, and the end of a scan.
+ghost use Rattle.std.specs.Prelude.{◌≡◌, ◌≢◌, ◌↔◌, ◌⊎◌, ℕ, ◌+◌, ◌<◌, ◌≤◌, ◌++◌, length, true, IsTrue, Some, IfOk, IfErr, OnOk};
+ghost use Rattle.std.specs.List.{slice_get};
+ghost use Rattle.std.specs.List.Sorted.{IsPermutation, IsNonDecreasingBy};
+ghost use Rattle.page_types.specs.Views.{part_of};
+ghost use Rattle.page_types.specs.declared.page.Name.{Name as NameValue};
+ghost use Rattle.core_moments.specs.Walk.{rightward};
+ghost use Rattle.buffer_frames.specs.declared.frame_error.FrameError.TheVariants.{BadPage, OutOfMemory};
+ghost use Rattle.gin_opclass.specs.Class.{meaning};
+ghost use Rattle.gin_scan.specs.Causes.{HasPart};
+
+use crate::check::Check;
+use crate::scan_core::{ScanCore, hold_page, satisfies};
+use crate::stage::Stage;
+use buffer_frames::{FrameError, Frames, Pass};
+use disk_trait::Disk;
+use gin_opclass::{Judge, Meaning};
+use page_types::{Body, Name, Page};
+use std::alloc::AllocError;
+
+/// Adds the part of a vector that is on this page, which has this number: the page that it leads to.
+fn add_part_of(page: &Page, number: u32, bytes: &mut Vec<u8>) -> Result<u32, FrameError>
+    ensures added { IfOk result (λ right. HasPart page.now × (right ≡ rightward page.now)
+        × (bytes.new.items ≡ bytes.old.items ++ part_of page.now)) }
+    ensures cause { IfErr result (λ e. (e ≡ OutOfMemory) ⊎ ((e ≡ BadPage number) × (HasPart page.now → ⊥))) }
+{
+    match &page.body {
+        Body::Overflow(part) => {
+            bytes.extend_from_slice(part.as_slice())?;
+            Ok(page.right)
+        }
+        _ => Err(FrameError::BadPage { page: number }),
+    }
+}
+
+/// The names are by serial from now on.
+fn put_by_serial(names: &mut Vec<Name>)
+    ensures same { IsPermutation names.old.items names.new.items }
+    ensures rise { IsNonDecreasingBy (λ (name : NameValue). name.serial) names.new.items }
+{
+    names.sort_unstable_by_key(|name| name.serial);
+}
+
+impl ScanCore {
+    ghost use Rattle.buffer_frames.specs.LogCauses.{HoldHasCause};
+    ghost use Rattle.gin_scan.specs.Scanning.{IsScan};
+    ghost use Rattle.gin_scan.specs.Causes.{CannotStep, IsLawfulRefusal};
+    ghost use Rattle.gin_scan.specs.Calls.{ReadsOn};
+    ghost use Rattle.gin_scan.specs.Counting.{CountsOn};
+    ghost use Rattle.gin_scan.specs.Inner.Steps.{MayStep, HasStepped};
+    ghost use Rattle.gin_scan.specs.Inner.Parts.{IsReadUp, BeginsLong, AddsIfTold};
+    ghost use Rattle.gin_scan.specs.declared.stage.Stage.TheVariants as stages;
+
+    /// How many pages a chain has at most.
+    fn most_pages(&self) -> u32
+        ensures { result ≡ self.now.extent }
+    {
+        self.extent
+    }
+
+    /// Begins the vector that waits under this number, or ends where there are no more.
+    pub(crate) fn begin_long(&mut self, at: usize)
+        requires { at ≤ length self.old.long.items }
+        ensures { BeginsLong self.old at self.new }
+    {
+        if at < self.long.len() {
+            self.bytes.clear();
+            self.stage = Stage::Parts {
+                at,
+                page: self.long[at].first,
+                left: self.most_pages(),
+            };
+            return;
+        }
+        put_by_serial(&mut self.names);
+        self.stage = Stage::Done;
+    }
+
+    /// Ends the heads, all of which were read.
+    pub(crate) fn end_heads<D: Disk, Q, W: Meaning<Q>>(
+        &mut self,
+        frames: &Frames<D>,
+        pass: &Pass,
+        query: &Q,
+        work: &W,
+    )
+        requires may { MayStep D.Disk (meaning W.asked W.all W.satisfies W.judged) query.now
+            frames.now pass.now self.old }
+        requires stage { (at : ℕ) × (self.old.stage ≡ stages.Heads at)
+            × (length self.old.kept.items ≤ at) }
+        ensures took { self.new.took_pin ≡ self.old.took_pin }
+        ensures stepped { HasStepped D.Disk (meaning W.asked W.all W.satisfies W.judged) query.now
+            self.old frames.now pass.now self.new }
+        ensures counted { CountsOn self.old pass.now.holds self.new pass.now.holds }
+    {
+        let _ = frames;
+        let _ = pass;
+        let _ = query;
+        let _ = work;
+        self.begin_long(0);
+    }
+
+    /// Whether no part more is read of the vector that waits under this number: there is none, or there are
+    /// more bytes than it has.
+    fn is_read(&self, at: usize, page: u32, left: u32) -> bool
+        requires { at < length self.now.long.items }
+        ensures { IsTrue result ↔ IsReadUp self.now at page left }
+    {
+        page == 0 || left == 0 || self.bytes.len() > self.long[at].size as usize
+    }
+
+    /// Reads a part of the vector that waits under this number.
+    fn read_part<D: Disk, Q, W: Meaning<Q>>(
+        &mut self,
+        frames: &mut Frames<D>,
+        pass: &mut Pass,
+        query: &Q,
+        work: &W,
+        at: usize,
+        page: u32,
+        left: u32,
+    ) -> Result<(), FrameError>
+        requires may { MayStep D.Disk (meaning W.asked W.all W.satisfies W.judged) query.now
+            frames.old pass.old self.old }
+        requires stage { self.old.stage ≡ stages.Parts at page left }
+        requires more { IsReadUp self.old at page left → ⊥ }
+        ensures took { self.new.took_pin ≡ self.old.took_pin }
+        ensures stepped { OnOk result
+            (HasStepped D.Disk (meaning W.asked W.all W.satisfies W.judged) query.now self.old
+            frames.new pass.new self.new) }
+        ensures counted { OnOk result (CountsOn self.old pass.old.holds self.new pass.new.holds) }
+        ensures reads { ReadsOn D.Disk frames.old pass.old frames.new pass.new }
+        ensures fault { HoldHasCause D.Disk frames.old.journal frames.new.journal result }
+        ensures cause { IfErr result (CannotStep frames.old self.old self.old.stage) }
+        ensures lawful { IfErr result (IsLawfulRefusal D.Disk frames.old) }
+    {
+        let _ = query;
+        let _ = work;
+        let held = hold_page(frames, pass, page)?;
+        let right = add_part_of(held.page(), page, &mut self.bytes);
+        frames.release(pass, held);
+        self.stage = Stage::Parts {
+            at,
+            page: right?,
+            left: left - 1,
+        };
+        Ok(())
+    }
+
+    /// Takes the name of the vector that waits under this number, if the bytes that were read are all and
+    /// it satisfies the query.
+    fn take_long<Q, W: Meaning<Q>, J: Judge<Q, W>, M: Check<Q, W, J>>(
+        &mut self,
+        query: &Q,
+        work: &mut W,
+        check: &M,
+        at: usize,
+    ) -> Result<(), AllocError>
+        requires serves { J.serves work.old query.now }
+        requires within { at < length self.old.long.items }
+        ensures serves { J.serves work.new query.now }
+        ensures took { self.new.took_pin ≡ self.old.took_pin }
+        ensures taken { OnOk result (AddsIfTold (W.satisfies query.now) self.old at self.new) }
+    {
+        let long = self.long[at];
+        if self.bytes.len() == long.size as usize
+            && satisfies(check, query, work, self.bytes.as_slice())
+        {
+            self.names.push(long.name)?;
+        }
+        Ok(())
+    }
+
+    /// Matches the vector that waits under this number, of which all parts were read.
+    fn match_long<D: Disk, Q, W: Meaning<Q>, J: Judge<Q, W>, M: Check<Q, W, J>>(
+        &mut self,
+        frames: &Frames<D>,
+        pass: &Pass,
+        query: &Q,
+        work: &mut W,
+        check: &M,
+        at: usize,
+    ) -> Result<(), AllocError>
+        requires may { MayStep D.Disk (meaning W.asked W.all W.satisfies W.judged) query.now
+            frames.now pass.now self.old }
+        requires stage { (page left : ℕ) × (self.old.stage ≡ stages.Parts at page left)
+            × IsReadUp self.old at page left }
+        requires serves { J.serves work.old query.now }
+        ensures serves { J.serves work.new query.now }
+        ensures took { self.new.took_pin ≡ self.old.took_pin }
+        ensures stepped { OnOk result
+            (HasStepped D.Disk (meaning W.asked W.all W.satisfies W.judged) query.now self.old
+            frames.now pass.now self.new) }
+        ensures counted { OnOk result (CountsOn self.old pass.now.holds self.new pass.now.holds) }
+    {
+        let _ = frames;
+        let _ = pass;
+        self.take_long(query, work, check, at)?;
+        self.begin_long(at + 1);
+        Ok(())
+    }
+
+    /// Reads a part of the vector that waits under this number, or matches it where all were read.
+    pub(crate) fn go_on_long<D: Disk, Q, W: Meaning<Q>, J: Judge<Q, W>, M: Check<Q, W, J>>(
+        &mut self,
+        frames: &mut Frames<D>,
+        pass: &mut Pass,
+        query: &Q,
+        work: &mut W,
+        check: &M,
+        at: usize,
+        page: u32,
+        left: u32,
+    ) -> Result<(), FrameError>
+        requires may { MayStep D.Disk (meaning W.asked W.all W.satisfies W.judged) query.now
+            frames.old pass.old self.old }
+        requires stage { self.old.stage ≡ stages.Parts at page left }
+        requires serves { J.serves work.old query.now }
+        ensures serves { J.serves work.new query.now }
+        ensures took { self.new.took_pin ≡ self.old.took_pin }
+        ensures stepped { OnOk result
+            (HasStepped D.Disk (meaning W.asked W.all W.satisfies W.judged) query.now self.old
+            frames.new pass.new self.new) }
+        ensures counted { OnOk result (CountsOn self.old pass.old.holds self.new pass.new.holds) }
+        ensures reads { ReadsOn D.Disk frames.old pass.old frames.new pass.new }
+        ensures fault { HoldHasCause D.Disk frames.old.journal frames.new.journal result }
+        ensures cause { IfErr result (CannotStep frames.old self.old self.old.stage) }
+        ensures lawful { IfErr result (IsLawfulRefusal D.Disk frames.old) }
+    {
+        if self.is_read(at, page, left) {
+            self.match_long(frames, pass, query, work, check, at)?;
+            return Ok(());
+        }
+        self.read_part(frames, pass, query, work, at, page, left)
+    }
+}

@@ -1,0 +1,303 @@
+// What a scan reads of the metapage and of the pending list.
+ghost use Rattle.std.specs.Prelude.{◌≡◌, ℕ, ◌⊎◌, List, Option, Some, IfOk, IfErr, IfSome, IfNone, OnOk};
+ghost use Rattle.page_types.specs.Views.{kept_rows_of, first_of};
+ghost use Rattle.page_types.specs.declared.page.Row.{Row};
+ghost use Rattle.buffer_frames.specs.declared.frame_error.FrameError.TheVariants.{BadPage, OutOfMemory};
+ghost use Rattle.gin_opclass.specs.Class.{meaning};
+ghost use Rattle.gin_scan.specs.Rows.{first_of_rows};
+ghost use Rattle.gin_scan.specs.Causes.{HasMeta, HasRows};
+
+use crate::asks::Extent;
+use crate::judged::{add_kept, items_of};
+use crate::scan_core::{ScanCore, hold_page};
+use crate::stage::Stage;
+use buffer_frames::{FrameError, Frames, Pass};
+use disk_trait::Disk;
+use gin_opclass::{CompareKeys, Judge, Meaning, OpClass};
+use page_types::{Body, Gone, Page, Rows};
+use std::alloc::{AllocError, Global};
+use ts_base::Tri;
+
+/// The first page of the pending list, where the page of this number is a metapage.
+fn first_pending(page: &Page, number: u32) -> Result<u32, FrameError>
+    ensures first { IfOk result (λ first. HasMeta page.now × (first ≡ first_of page.now)) }
+    ensures bad { IfErr result (λ e. (e ≡ BadPage number) × (HasMeta page.now → ⊥)) }
+{
+    match &page.body {
+        Body::Meta { first, .. } => Ok(*first),
+        _ => Err(FrameError::BadPage { page: number }),
+    }
+}
+
+/// The rows of a pending page, which one that was deleted keeps.
+fn kept_rows(page: &Page) -> Option<&Rows>
+    ensures some { IfSome result (λ rows. HasRows page.now × (rows.now ≡ kept_rows_of page.now)) }
+    ensures none { IfNone result (HasRows page.now → ⊥) }
+{
+    match &page.body {
+        Body::Pending(rows) => Some(rows),
+        Body::Deleted(Gone::Pending(rows)) => Some(rows),
+        _ => None,
+    }
+}
+
+/// The item of the first row, if there is one.
+fn first_item(rows: &Rows) -> Option<u32>
+    ensures { result ≡ first_of_rows rows.now }
+{
+    match rows.get(0) {
+        Some(row) => Some(row.item),
+        None => None,
+    }
+}
+
+impl ScanCore {
+    ghost use Rattle.std.specs.Prelude.{◌≢◌, ◌-◌, ◌^◌, ◌<◌, [], ◌∷◌, ◌++◌, length, true, false, cond};
+    ghost use Rattle.page_types.specs.Pages.{IsPage};
+    ghost use Rattle.buffer_frames.specs.LogCauses.{HoldHasCause};
+    ghost use Rattle.gin_scan.specs.Rows.{AreNoted};
+    ghost use Rattle.gin_scan.specs.Scanning.{IsScan, AsksFor, asked_in};
+    ghost use Rattle.gin_scan.specs.Causes.{CannotStep, IsLawfulRefusal};
+    ghost use Rattle.gin_scan.specs.Calls.{ReadsOn};
+    ghost use Rattle.gin_scan.specs.Counting.{CountsOn};
+    ghost use Rattle.gin_scan.specs.Inner.Steps.{MayStep, HasStepped, IsFurthest};
+    ghost use Rattle.gin_scan.specs.declared.stage.Stage.TheVariants as stages;
+    ghost use Rattle.core_moments.specs.Walk.{rightward};
+
+    /// Reads the metapage.
+    pub(crate) fn read_meta<D: Disk, Q, W: Meaning<Q>>(
+        &mut self,
+        frames: &mut Frames<D>,
+        pass: &mut Pass,
+        query: &Q,
+        work: &W,
+    ) -> Result<(), FrameError>
+        requires may { MayStep D.Disk (meaning W.asked W.all W.satisfies W.judged) query.now
+            frames.old pass.old self.old }
+        requires stage { self.old.stage ≡ stages.Meta }
+        ensures took { self.new.took_pin ≡ self.old.took_pin }
+        ensures stepped { OnOk result
+            (HasStepped D.Disk (meaning W.asked W.all W.satisfies W.judged) query.now self.old
+            frames.new pass.new self.new) }
+        ensures counted { OnOk result (CountsOn self.old pass.old.holds self.new pass.new.holds) }
+        ensures reads { ReadsOn D.Disk frames.old pass.old frames.new pass.new }
+        ensures fault { HoldHasCause D.Disk frames.old.journal frames.new.journal result }
+        ensures cause { IfErr result (CannotStep frames.old self.old self.old.stage) }
+        ensures lawful { IfErr result (IsLawfulRefusal D.Disk frames.old) }
+    {
+        let _ = query;
+        let _ = work;
+        let held = hold_page(frames, pass, 0)?;
+        let first = first_pending(held.page(), 0);
+        frames.release(pass, held);
+        self.stage = Stage::Pending {
+            page: first?,
+            left: self.extent,
+        };
+        Ok(())
+    }
+
+    /// Notes the items of the rows on a page of the list, which has this number: the page that it leads to.
+    fn note_rows<Q, W: Meaning<Q>, C: CompareKeys, J: Judge<Q, W>>(
+        &mut self,
+        class: &OpClass<Q, W, C, J>,
+        page: &Page,
+        number: u32,
+    ) -> Result<u32, FrameError>
+        requires scan { IsScan self.old }
+        requires page { IsPage page.now }
+        ensures took { self.new.took_pin ≡ self.old.took_pin }
+        ensures right { IfOk result (λ right. HasRows page.now × (right ≡ rightward page.now)) }
+        ensures noted { OnOk result ((rows : List Row) → AreNoted (asked_in self.old) rows self.old.pending
+            → AreNoted (asked_in self.old) (rows ++ kept_rows_of page.now) self.new.pending) }
+        ensures first { OnOk result (self.new.first_item
+            ≡ cond self.old.has_begun self.old.first_item (first_of_rows (kept_rows_of page.now))) }
+        ensures rest { OnOk result (self.new ≡ record self.old {
+          pending = self.new.pending;
+          has_begun = true;
+          first_item = self.new.first_item;
+        }) }
+        ensures lists { OnOk result
+            (length self.new.pending.by_key.items ≡ length self.old.pending.by_key.items) }
+        ensures bad { IfErr result (λ e. (e ≡ OutOfMemory)
+            ⊎ ((e ≡ BadPage number) × (HasRows page.now → ⊥))) }
+    {
+        let Some(rows) = kept_rows(page) else {
+            return Err(FrameError::BadPage { page: number });
+        };
+        if !self.has_begun {
+            self.has_begun = true;
+            self.first_item = first_item(rows);
+        }
+        self.pending
+            .add_rows(class, self.keys.keys.as_slice(), rows)?;
+        Ok(page.right)
+    }
+
+    /// Reads a page of the pending list.
+    fn read_pending<D: Disk, Q, W: Meaning<Q>, C: CompareKeys, J: Judge<Q, W>>(
+        &mut self,
+        frames: &mut Frames<D>,
+        pass: &mut Pass,
+        class: &OpClass<Q, W, C, J>,
+        query: &Q,
+        page: u32,
+        left: u32,
+    ) -> Result<(), FrameError>
+        requires may { MayStep D.Disk (meaning W.asked W.all W.satisfies W.judged) query.now
+            frames.old pass.old self.old }
+        requires stage { self.old.stage ≡ stages.Pending page left }
+        requires some { page ≢ 0 }
+        requires more { left ≢ 0 }
+        ensures took { self.new.took_pin ≡ self.old.took_pin }
+        ensures stepped { OnOk result
+            (HasStepped D.Disk (meaning W.asked W.all W.satisfies W.judged) query.now self.old
+            frames.new pass.new self.new) }
+        ensures counted { OnOk result (CountsOn self.old pass.old.holds self.new pass.new.holds) }
+        ensures reads { ReadsOn D.Disk frames.old pass.old frames.new pass.new }
+        ensures fault { HoldHasCause D.Disk frames.old.journal frames.new.journal result }
+        ensures cause { IfErr result (CannotStep frames.old self.old self.old.stage) }
+        ensures lawful { IfErr result (IsLawfulRefusal D.Disk frames.old) }
+    {
+        let _ = query;
+        let held = hold_page(frames, pass, page)?;
+        let right = self.note_rows(class, held.page(), page);
+        frames.release(pass, held);
+        self.stage = Stage::Pending {
+            page: right?,
+            left: left - 1,
+        };
+        Ok(())
+    }
+
+    /// Judges all items that were read. It reads no page.
+    fn judge_all<D: Disk, Q, W: Meaning<Q>, C: CompareKeys, J: Judge<Q, W>>(
+        &mut self,
+        alloc: Global,
+        frames: &Frames<D>,
+        pass: &Pass,
+        class: &OpClass<Q, W, C, J>,
+        query: &Q,
+        work: &mut W,
+    ) -> Result<(), AllocError>
+        requires may { MayStep D.Disk (meaning W.asked W.all W.satisfies W.judged) query.now
+            frames.now pass.now self.old }
+        requires stage { (page left : ℕ) × (self.old.stage ≡ stages.Pending page left)
+            × ((page ≡ 0) ⊎ IsFurthest frames.now self.old left) }
+        requires serves { J.serves work.old query.now }
+        ensures serves { J.serves work.new query.now }
+        ensures took { self.new.took_pin ≡ self.old.took_pin }
+        ensures stepped { OnOk result
+            (HasStepped D.Disk (meaning W.asked W.all W.satisfies W.judged) query.now self.old
+            frames.now pass.now self.new) }
+        ensures counted { OnOk result (CountsOn self.old pass.now.holds self.new pass.now.holds) }
+    {
+        let _ = frames;
+        let _ = pass;
+        self.pending.put_in_order();
+        self.main.put_in_order();
+        let mut values = vec![in alloc; Tri::False; self.keys.keys.len()]?;
+        let items = items_of(alloc, &self.pending, &self.main, self.keys.all)?;
+        add_kept(
+            class,
+            query,
+            work,
+            &mut values,
+            &self.pending,
+            &self.main,
+            self.first_item,
+            items.as_slice(),
+            &mut self.kept,
+        )?;
+        self.stage = Stage::Heads { at: 0 };
+        Ok(())
+    }
+    /// Pages go as far as this now, further than when that was last asked, and this page of the list is next.
+    fn raise_extent(&mut self, page: u32, extent: u32)
+        requires further { self.old.extent < extent }
+        ensures raised { self.new ≡ record self.old {
+          stage = stages.Pending page (extent - self.old.extent);
+          extent = extent;
+        } }
+        ensures within { extent < 2 ^ 32 }
+    {
+        self.stage = Stage::Pending {
+            page,
+            left: extent - self.extent,
+        };
+        self.extent = extent;
+    }
+
+    /// Goes on along the list if pages go further now than when that was last asked, and else judges all
+    /// items that were read.
+    fn go_further<D: Disk, Q, W: Meaning<Q>, C: CompareKeys, J: Judge<Q, W>>(
+        &mut self,
+        alloc: Global,
+        frames: &mut Frames<D>,
+        pass: &mut Pass,
+        class: &OpClass<Q, W, C, J>,
+        query: &Q,
+        work: &mut W,
+        page: u32,
+    ) -> Result<(), FrameError>
+        requires may { MayStep D.Disk (meaning W.asked W.all W.satisfies W.judged) query.now
+            frames.old pass.old self.old }
+        requires stage { self.old.stage ≡ stages.Pending page 0 }
+        requires serves { J.serves work.old query.now }
+        ensures serves { J.serves work.new query.now }
+        ensures took { self.new.took_pin ≡ self.old.took_pin }
+        ensures stepped { OnOk result
+            (HasStepped D.Disk (meaning W.asked W.all W.satisfies W.judged) query.now self.old
+            frames.new pass.new self.new) }
+        ensures counted { OnOk result (CountsOn self.old pass.old.holds self.new pass.new.holds) }
+        ensures reads { ReadsOn D.Disk frames.old pass.old frames.new pass.new }
+        ensures fault { HoldHasCause D.Disk frames.old.journal frames.new.journal result }
+        ensures cause { IfErr result (CannotStep frames.old self.old self.old.stage) }
+        ensures lawful { IfErr result (IsLawfulRefusal D.Disk frames.old) }
+    {
+        let extent = frames.look(pass, &Extent)?;
+        if extent > self.extent {
+            self.raise_extent(page, extent);
+            return Ok(());
+        }
+        self.judge_all(alloc, frames, pass, class, query, work)?;
+        Ok(())
+    }
+
+    /// Reads the next page of the list, or judges all items that were read where there is none.
+    pub(crate) fn go_on_list<D: Disk, Q, W: Meaning<Q>, C: CompareKeys, J: Judge<Q, W>>(
+        &mut self,
+        alloc: Global,
+        frames: &mut Frames<D>,
+        pass: &mut Pass,
+        class: &OpClass<Q, W, C, J>,
+        query: &Q,
+        work: &mut W,
+        page: u32,
+        left: u32,
+    ) -> Result<(), FrameError>
+        requires may { MayStep D.Disk (meaning W.asked W.all W.satisfies W.judged) query.now
+            frames.old pass.old self.old }
+        requires stage { self.old.stage ≡ stages.Pending page left }
+        requires serves { J.serves work.old query.now }
+        ensures serves { J.serves work.new query.now }
+        ensures took { self.new.took_pin ≡ self.old.took_pin }
+        ensures stepped { OnOk result
+            (HasStepped D.Disk (meaning W.asked W.all W.satisfies W.judged) query.now self.old
+            frames.new pass.new self.new) }
+        ensures counted { OnOk result (CountsOn self.old pass.old.holds self.new pass.new.holds) }
+        ensures reads { ReadsOn D.Disk frames.old pass.old frames.new pass.new }
+        ensures fault { HoldHasCause D.Disk frames.old.journal frames.new.journal result }
+        ensures cause { IfErr result (CannotStep frames.old self.old self.old.stage) }
+        ensures lawful { IfErr result (IsLawfulRefusal D.Disk frames.old) }
+    {
+        if page == 0 {
+            self.judge_all(alloc, frames, pass, class, query, work)?;
+            return Ok(());
+        }
+        if left == 0 {
+            return self.go_further(alloc, frames, pass, class, query, work, page);
+        }
+        self.read_pending(frames, pass, class, query, page, left)
+    }
+}

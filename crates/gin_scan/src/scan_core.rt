@@ -1,0 +1,359 @@
+// A scan for the queries of any class.
+ghost use Rattle.std.specs.Prelude.{◌≡◌, ◌↔◌, ℕ, suc, ◌<◌, ◌≤◌, [], ◌∷◌, ⊤, true, false, length, map, None, Some, IsTrue, IfOk, IfErr, OnOk, OnErr};
+ghost use Rattle.wal.specs.Waiting.{down_of};
+ghost use Rattle.core_state.specs.PageChoice.{IsLeast, AreBelow};
+ghost use Rattle.buffer_frames.specs.LogCauses.{HoldHasCause, IsCalm};
+ghost use Rattle.buffer_frames.specs.Frames.{Lies, KeepsOthers};
+ghost use Rattle.buffer_frames.specs.Passes.{IsPassOf, IsHolding};
+ghost use Rattle.buffer_frames.specs.declared.frame_error.FrameError.TheVariants as frames_of;
+ghost use Rattle.gin_opclass.specs.Class.{meaning, JudgeIsSound};
+ghost use Rattle.gin_scan.specs.Calls.{AddsNothing, LieStill, KeepsWork, ReadsOn};
+ghost use Rattle.gin_scan.specs.Causes.{CannotRead};
+ghost use Rattle.gin_scan.specs.Inner.Heads.{TellsOf};
+
+use crate::asks::Extent;
+use crate::check::Check;
+use crate::found::Found;
+use crate::hits::Hits;
+use crate::stage::{LongVector, Stage};
+use buffer_frames::{FrameError, Frames, Held, Pass};
+use disk_trait::Disk;
+use gin_opclass::{CompareKeys, Judge, Meaning, OpClass, QueryKeys};
+use page_types::{Name, PAGE_LIMIT};
+use std::alloc::Global;
+use ts_vector::VectorBytes;
+
+/// A scan for the keys of a query.
+#[derive(Debug, Drop)]
+pub struct ScanCore {
+    // the keys of the query
+    pub(crate) keys: QueryKeys,
+    // how many commits its snapshot has
+    pub(crate) snapshot: u32,
+    // how far pages went when that was last asked: a chain has no more pages
+    pub(crate) extent: u32,
+    // whether it took its pass's pin, which it then gives up at its end
+    pub(crate) took_pin: bool,
+    // what is read next
+    pub(crate) stage: Stage,
+    // what was read on the pending list
+    pub(crate) pending: Hits,
+    // and in the main part
+    pub(crate) main: Hits,
+    // whether a page of the list was read
+    pub(crate) has_begun: bool,
+    // the item of the first row on the first page of the list
+    pub(crate) first_item: Option<u32>,
+    // the items that the judge did not leave out, rising, each with whether it satisfies the query for sure
+    pub(crate) kept: Vec<(u32, bool)>,
+    // the documents whose vectors are still to be matched
+    pub(crate) long: Vec<LongVector>,
+    // the names that were found
+    pub(crate) names: Vec<Name>,
+    // how many heads were read
+    pub(crate) heads_read: u64,
+    // the parts of a long vector that were read
+    pub(crate) bytes: Vec<u8>,
+}
+
+/// Holds a page. A number past the last that a page may have is no page's.
+pub(crate) fn hold_page<D: Disk>(
+    frames: &mut Frames<D>,
+    pass: &mut Pass,
+    page: u32,
+) -> Result<Held, FrameError>
+    requires pass { IsPassOf frames.old pass.old }
+    requires none { pass.old.held ≡ 0 }
+    ensures pass { IsPassOf frames.new pass.new }
+    ensures number { IfOk result (λ h. h.page ≡ page) }
+    ensures lies { IfOk result (λ h. Lies frames.old page h.content) }
+    ensures others { OnOk result (KeepsOthers frames.old frames.new (page ∷ [])) }
+    ensures holding { IfOk result (λ h. IsHolding D.Disk frames.new pass.new (h ∷ [])) }
+    ensures adds { AddsNothing D.Disk frames.old frames.new }
+    ensures keeps { KeepsWork pass.old pass.new }
+    ensures holds { pass.new.holds ≤ suc pass.old.holds }
+    ensures pin { pass.new.pin ≡ pass.old.pin }
+    ensures pins { frames.new.pins ≡ frames.old.pins }
+    ensures fault { HoldHasCause D.Disk frames.old.journal frames.new.journal result }
+
+    // The refusals: no page is held.
+    ensures refused { OnErr result (ReadsOn D.Disk frames.old pass.old frames.new pass.new) }
+    ensures cause { IfErr result (CannotRead frames.old (λ c. ⊤) page) }
+{
+    if page >= PAGE_LIMIT {
+        return Err(FrameError::BadPage { page });
+    }
+    frames.hold(pass, page)
+}
+
+/// Whether these bytes encode a vector that satisfies the query. Bytes that encode none do not.
+pub(crate) fn satisfies<Q, W: Meaning<Q>, J: Judge<Q, W>, M: Check<Q, W, J>>(
+    check: &M,
+    query: &Q,
+    work: &mut W,
+    bytes: &[u8],
+) -> bool
+    requires serves { J.serves work.old query.now }
+    ensures serves { J.serves work.new query.now }
+    ensures tells { TellsOf (W.satisfies query.now) bytes.now result }
+{
+    match VectorBytes::new(bytes) {
+        Ok(vector) => check.check(query, work, &vector),
+        Err(_) => false,
+    }
+}
+
+impl ScanCore {
+    ghost use Rattle.std.specs.Prelude.{List, replicate};
+    ghost use Rattle.gin_opclass.specs.Class.{Asked};
+    ghost use Rattle.core_state.specs.Legal.{Pin};
+    ghost use Rattle.core_state.specs.Log.{Log};
+    ghost use Rattle.core_state.specs.Steady.{LeavesIndex};
+    ghost use Rattle.buffer_frames.specs.Frames.{Behind};
+    ghost use Rattle.buffer_frames.specs.Passes.{HasPinned, pin_in};
+    ghost use Rattle.gin_scan.specs.Causes.{CannotStep, CannotBegin, IsLawfulRefusal};
+    ghost use Rattle.gin_scan.specs.Counting.{IsCounted, CountsOn};
+    ghost use Rattle.gin_scan.specs.Finding.{HasFound};
+    ghost use Rattle.gin_scan.specs.Calls.{EndsReading};
+    ghost use Rattle.gin_scan.specs.Rows.{asked_by, lists_of};
+    ghost use Rattle.gin_scan.specs.Scanning.{IsNewScan, IsScanning, AsksFor, Scanning};
+    ghost use Rattle.gin_scan.specs.Scanning.{IsAtEnd, steps_left, asked_in};
+    ghost use Rattle.gin_scan.specs.Inner.Steps.{MayStep, HasStepped};
+    ghost use Rattle.gin_scan.specs.declared.stage.Stage.TheVariants as stages;
+
+    /// A scan that has read nothing, for the keys of a query, in the snapshot of so many commits.
+    fn new(
+        alloc: Global,
+        keys: QueryKeys,
+        snapshot: u32,
+        extent: u32,
+        took_pin: bool,
+        pending: Hits,
+        main: Hits,
+    ) -> ScanCore
+        ensures new { IsNewScan keys snapshot extent pending main result }
+        ensures took { result.took_pin ≡ took_pin }
+    {
+        ScanCore {
+            keys,
+            snapshot,
+            extent,
+            took_pin,
+            stage: Stage::Meta,
+            pending,
+            main,
+            has_begun: false,
+            first_item: None,
+            kept: Vec::new(alloc),
+            long: Vec::new(alloc),
+            names: Vec::new(alloc),
+            heads_read: 0,
+            bytes: Vec::new(alloc),
+        }
+    }
+
+    /// Takes a snapshot into use, and begins a scan for the keys of a query in it.
+    pub fn begin<D: Disk, Q, W: Meaning<Q>>(
+        alloc: Global,
+        frames: &mut Frames<D>,
+        pass: &mut Pass,
+        keys: QueryKeys,
+    ) -> Result<ScanCore, FrameError>
+        requires pass { IsPassOf frames.old pass.old }
+        requires none { pass.old.pin ≡ None }
+        requires held { pass.old.held ≡ 0 }
+        ensures scanning { IfOk result (IsScanning frames.new pass.new) }
+        ensures asks { IfOk result (λ s. (asked_in s ≡ map asked_by keys.keys.items)
+            × (s.keys.all ≡ keys.all)) }
+        ensures walk { IfOk result (λ s. (q : Q) → Scanning D.Disk
+            (meaning W.asked W.all W.satisfies W.judged) q frames.new pass.new s) }
+        ensures pinned { IfOk result (λ s. HasPinned frames.old frames.new pass.new s.snapshot) }
+        ensures took { IfOk result (λ s. s.took_pin ≡ true) }
+        ensures adds { AddsNothing D.Disk frames.old frames.new }
+        ensures lying { LieStill frames.old frames.new }
+        ensures keeps { KeepsWork pass.old pass.new }
+        ensures holds { pass.new.holds ≡ pass.old.holds }
+        ensures counted { IfOk result (λ s. IsCounted pass.old.holds s pass.new.holds s.stage) }
+        ensures calm { IsCalm D.Disk frames.old.journal frames.new.journal }
+
+        // The refusals: the pass has no snapshot.
+        ensures is_pass { IsPassOf frames.new pass.new }
+        ensures idle { pass.new.held ≡ 0 }
+        ensures unpinned { OnErr result (pass.new.pin ≡ None) }
+        ensures cause { IfErr result (CannotBegin frames.old) }
+    {
+        let pending = Hits::new(alloc, keys.keys.len())?;
+        let main = Hits::new(alloc, keys.keys.len())?;
+        let extent = frames.look(pass, &Extent)?;
+        let snapshot = frames.pin(pass)?;
+        Ok(ScanCore::new(alloc, keys, snapshot, extent, true, pending, main))
+    }
+
+    /// Begins a scan for the keys of a query in the snapshot that the pass has in use, of so many
+    /// commits. The pass keeps it when the scan ends.
+    pub fn within<D: Disk, Q, W: Meaning<Q>>(
+        alloc: Global,
+        frames: &mut Frames<D>,
+        pass: &mut Pass,
+        keys: QueryKeys,
+        commits: u32,
+    ) -> Result<ScanCore, FrameError>
+        requires pass { IsPassOf frames.old pass.old }
+        requires taken { (pin : Pin) × (pin_in pass.old.pin ≡ Some pin) × (commits ≡ pin.commits) }
+        requires held { pass.old.held ≡ 0 }
+        ensures scanning { IfOk result (IsScanning frames.new pass.new) }
+        ensures asks { IfOk result (λ s. (asked_in s ≡ map asked_by keys.keys.items)
+            × (s.keys.all ≡ keys.all)) }
+        ensures walk { IfOk result (λ s. (q : Q) → Scanning D.Disk
+            (meaning W.asked W.all W.satisfies W.judged) q frames.new pass.new s) }
+        ensures took { IfOk result (λ s. s.took_pin ≡ false) }
+        ensures pin { pass.new.pin ≡ pass.old.pin }
+        ensures pins { frames.new.pins ≡ frames.old.pins }
+        ensures adds { AddsNothing D.Disk frames.old frames.new }
+        ensures lying { LieStill frames.old frames.new }
+        ensures keeps { KeepsWork pass.old pass.new }
+        ensures holds { pass.new.holds ≡ pass.old.holds }
+        ensures counted { IfOk result (λ s. IsCounted pass.old.holds s pass.new.holds s.stage) }
+        ensures calm { IsCalm D.Disk frames.old.journal frames.new.journal }
+        ensures is_pass { IsPassOf frames.new pass.new }
+        ensures idle { pass.new.held ≡ 0 }
+
+        // The refusals.
+        ensures cause { IfErr result (CannotBegin frames.old) }
+    {
+        let pending = Hits::new(alloc, keys.keys.len())?;
+        let main = Hits::new(alloc, keys.keys.len())?;
+        let extent = frames.look(pass, &Extent)?;
+        Ok(ScanCore::new(alloc, keys, commits, extent, false, pending, main))
+    }
+
+    /// Whether no further step reads anything.
+    fn is_done(&self) -> bool
+        ensures { IsTrue result ↔ IsAtEnd self.now }
+    {
+        matches!(self.stage, Stage::Done)
+    }
+
+    /// One step of a scan that is not at its end.
+    fn go_on<D: Disk, Q, W: Meaning<Q>, C: CompareKeys, J: Judge<Q, W>, M: Check<Q, W, J>>(
+        &mut self,
+        alloc: Global,
+        frames: &mut Frames<D>,
+        pass: &mut Pass,
+        class: &OpClass<Q, W, C, J>,
+        query: &Q,
+        work: &mut W,
+        check: &M,
+    ) -> Result<(), FrameError>
+        requires may { MayStep D.Disk (meaning W.asked W.all W.satisfies W.judged) query.now
+            frames.old pass.old self.old }
+        requires more { IsAtEnd self.old → ⊥ }
+        requires serves { J.serves work.old query.now }
+        ensures serves { J.serves work.new query.now }
+        ensures took { self.new.took_pin ≡ self.old.took_pin }
+        ensures stepped { OnOk result
+            (HasStepped D.Disk (meaning W.asked W.all W.satisfies W.judged) query.now self.old
+            frames.new pass.new self.new) }
+        ensures counted { OnOk result (CountsOn self.old pass.old.holds self.new pass.new.holds) }
+        ensures reads { ReadsOn D.Disk frames.old pass.old frames.new pass.new }
+        ensures fault { HoldHasCause D.Disk frames.old.journal frames.new.journal result }
+        ensures cause { IfErr result (CannotStep frames.old self.old self.old.stage) }
+        ensures lawful { IfErr result (IsLawfulRefusal D.Disk frames.old) }
+    {
+        match self.stage {
+            Stage::Meta => self.read_meta(frames, pass, query, work),
+            Stage::Pending { page, left } => {
+                self.go_on_list(alloc, frames, pass, class, query, work, page, left)
+            }
+            Stage::Heads { at } => { self.go_on_heads(alloc, frames, pass, query, work, check, at) }
+            Stage::Parts { at, page, left } => {
+                self.go_on_long(frames, pass, query, work, check, at, page, left)
+            }
+            Stage::Done => Ok(()),
+        }
+    }
+
+    /// Reads one page, or judges what was read; false exactly at the end. No page stays held.
+    pub fn step<D: Disk, Q, W: Meaning<Q>, C: CompareKeys, J: Judge<Q, W>, M: Check<Q, W, J>>(
+        &mut self,
+        alloc: Global,
+        frames: &mut Frames<D>,
+        pass: &mut Pass,
+        class: &OpClass<Q, W, C, J>,
+        query: &Q,
+        work: &mut W,
+        check: &M,
+    ) -> Result<bool, FrameError>
+        requires scanning { IsScanning frames.old pass.old self.old }
+        requires asks { AsksFor (meaning W.asked W.all W.satisfies W.judged) query.now self.old }
+        requires walk { Scanning D.Disk (meaning W.asked W.all W.satisfies W.judged) query.now
+            frames.old pass.old self.old }
+        requires serves { J.serves work.old query.now }
+        ensures scanning { OnOk result (IsScanning frames.new pass.new self.new) }
+        ensures asks { OnOk result (AsksFor (meaning W.asked W.all W.satisfies W.judged) query.now
+            self.new) }
+        ensures walk { OnOk result (Scanning D.Disk (meaning W.asked W.all W.satisfies W.judged)
+            query.now frames.new pass.new self.new) }
+        ensures serves { J.serves work.new query.now }
+        ensures took { self.new.took_pin ≡ self.old.took_pin }
+        ensures counted { OnOk result (CountsOn self.old pass.old.holds self.new pass.new.holds) }
+        ensures reads { ReadsOn D.Disk frames.old pass.old frames.new pass.new }
+
+        // It ends: false exactly at the end, and else a bound is lower.
+        ensures end { IfOk result (λ more. (more ≡ false) ↔ IsAtEnd self.old) }
+        ensures stays { IfOk result (λ more. more ≡ false → self.new ≡ self.old) }
+        ensures lower { IfOk result (λ more. more ≡ true → steps_left self.new < steps_left self.old) }
+
+        // The refusals.
+        ensures fault { HoldHasCause D.Disk frames.old.journal frames.new.journal result }
+        ensures cause { IfErr result (CannotStep frames.old self.old self.old.stage) }
+        ensures lawful { IfErr result (IsLawfulRefusal D.Disk frames.old) }
+    {
+        if self.is_done() {
+            return Ok(false);
+        }
+        self.go_on(alloc, frames, pass, class, query, work, check)?;
+        Ok(true)
+    }
+
+    /// What was found. The snapshot is given up. It takes no memory.
+    pub fn finish<D: Disk, Q, W: Meaning<Q>>(self, frames: &mut Frames<D>, pass: &mut Pass) -> Found
+        requires scanning { IsScanning frames.old pass.old self }
+        requires end { IsAtEnd self }
+        ensures ends { EndsReading D.Disk self frames.old pass.old frames.new pass.new }
+        ensures found { (q : Q) → JudgeIsSound (meaning W.asked W.all W.satisfies W.judged)
+            → AsksFor (meaning W.asked W.all W.satisfies W.judged) q self
+            → Scanning D.Disk (meaning W.asked W.all W.satisfies W.judged) q frames.old pass.old self
+            → Behind D.Disk frames.new (λ (R : Log). LeavesIndex R → (pin : Pin)
+            → pin_in pass.old.pin ≡ Some pin
+            → HasFound (meaning W.asked W.all W.satisfies W.judged) q R pin result) }
+    {
+        let ScanCore {
+            took_pin,
+            kept,
+            names,
+            heads_read,
+            ..
+        } = self;
+        if took_pin {
+            frames.unpin(pass);
+        }
+        Found {
+            names,
+            heads_read,
+            candidates: kept.len() as u64,
+        }
+    }
+
+    /// Gives up the snapshot of a scan that is not finished. It takes no memory.
+    pub fn drop_scan<D: Disk>(self, frames: &mut Frames<D>, pass: &mut Pass)
+        requires pass { IsPassOf frames.old pass.old }
+        requires held { pass.old.held ≡ 0 }
+        ensures ends { EndsReading D.Disk self frames.old pass.old frames.new pass.new }
+    {
+        if self.took_pin {
+            frames.unpin(pass);
+        }
+        drop(self);
+    }
+}
