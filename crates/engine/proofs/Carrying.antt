@@ -3,12 +3,16 @@ use Rattle.std.proofs.Common.{◌≡◌, ◌≤◌, ◌+◌, ◌-◌, ℕ, List,
 use Rattle.std.proofs.Common.{◌∙◌, inl, inr, arith, length-drop, drop-drop}
 use Rattle.std.specs.Prelude.{Option, Some, map}
 use Rattle.disk_trait.specs.declared.device.Disk.{Ghosts as Disk}
-use Rattle.page_types.specs.Views.{part_of}
+use Rattle.page_types.specs.Views.{part_of, rows_of}
+use Rattle.ts_base.specs.Vectors.{Vector}
+use Rattle.page_types.specs.declared.page.Page.{Page}
+use Rattle.page_types.specs.declared.page.Row.{Row}
 use Rattle.page_types.specs.declared.page.Head.{Head}
 use Rattle.page_types.specs.declared.page.Name.{Name}
 use Rattle.core_state.specs.Log.{Log, Pages, In, Shows, cut, fate}
 use Rattle.core_state.specs.Documents.{Doc, Has, name_of, placed, marked, parts}
 use Rattle.core_state.specs.History.{Commit, Document, AreInserts, IsCommitOf}
+use Rattle.core_state.specs.Index.{rows_on}
 use Rattle.core_state.specs.Steady.{KeepsHead, RunsOn}
 use Rattle.core_state.specs.Steps.{RunsOwn}
 use Rattle.core_state.specs.declared.answers.Fate.TheVariants.{Running}
@@ -20,7 +24,7 @@ use Rattle.buffer_frames.specs.declared.pass.Pass.{Pass}
 use Rattle.buffer_frames.proofs.AtHand.{log_length, none_held}
 use Rattle.buffer_frames.proofs.Begun.{same_by_none}
 use Rattle.engine.specs.Db.{DbValue}
-use Rattle.engine.specs.Inner.Parts.{KeepsWork, IsPlacedSoFar, CarriesOwn}
+use Rattle.engine.specs.Inner.Parts.{KeepsWork, IsPlacedSoFar, IsRowedSoFar, AreIndexed, CarriesOwn}
 
 -- ── a running transaction's documents in a later log ──
 
@@ -56,10 +60,16 @@ parts_stay P P' [] same = refl
 parts_stay P P' (q ∷ qs) same =
     ap₂ (λ (a b : List ℕ). a ++ b) (ap part_of (same q (inl refl))) (parts_stay P P' qs (λ p i. same p (inr i)))
 
+pub rows_kept : (P P' : Pages) (qs : List ℕ) → ((q : ℕ) → In q qs → P' q ≡ P q) → rows_on P' qs ≡ rows_on P qs
+rows_kept P P' [] same = refl
+rows_kept P P' (q ∷ qs) same =
+    ap₂ (λ (a b : List Row). a ++ b) (ap rows_of (same q (inl refl))) (rows_kept P P' qs (λ p i. same p (inr i)))
+
 -- What a running transaction has changed in the log S, with its pages P, it has changed in S', with P'.
 module _ (S S' : Log) (P P' : Pages) (x : ℕ) (on : RunsOn S S' P P' x) (same : placed S' x ≡ placed S x)
     (marks : marked S' x ≡ marked S x) (shown : Shows S P) (shown' : Shows S' P') where
-  commit_stays : (c : Commit) → (fate S x ≡ Running) × IsCommitOf S x c → (fate S' x ≡ Running) × IsCommitOf S' x c
+  commit_stays : (c : Commit) → (fate S x ≡ Running) × IsCommitOf S x c × AreIndexed S P x
+      → (fate S' x ≡ Running) × IsCommitOf S' x c × AreIndexed S' P' x
   commit_stays c had = (
     on.runs,
     record {
@@ -71,6 +81,7 @@ module _ (S S' : Log) (P P' : Pages) (x : ℕ) (on : RunsOn S S' P P' x) (same :
           (subst (λ (Q : Pages). AreInserts Q (placed S x) c.inserted)
           (shown_one S had.1.pages P had.1.shown shown) had.1.inserted));
     },
+    λ d i. let was : In d (placed S x) = subst (In d) same i in on.indexed d was (had.2 d was),
   )
 
   document_stays : (d : Doc) (bytes behind : List ℕ) → IsPlacedSoFar S P x d bytes behind
@@ -92,7 +103,35 @@ module _ (S S' : Log) (P P' : Pages) (x : ℕ) (on : RunsOn S S' P P' x) (same :
         none = p.none;
         front = p.front;
         ends = p.ends;
+        no_rows = p.no_rows;
+        no_row = on.no_row d (subst (In d) (sym p.placed_one) (inl refl)) p.no_row;
       }
+
+  rows_stay : (d : Doc) (v : Vector) (back : List Page) (last : ℕ) → IsRowedSoFar S P x d v back last
+      → IsRowedSoFar S' P' x d v back last
+  rows_stay d v back last p =
+      let here : In d (placed S x) = subst (In d) (sym p.placed_one) (inl refl) in
+      let k = keeps_this P P' d p.head p.has (on.heads d here) in
+      let chain = k.private p.chain p.is_chain in
+      record {
+        runs = on.runs;
+        placed_one = same ∙ p.placed_one;
+        head = p.head;
+        has = k.head;
+        by = p.by;
+        whole = k.vector v p.whole;
+        no_row = on.no_row d here p.no_row;
+        chain = p.chain;
+        is_chain = chain.0;
+        rows = rows_kept P P' p.chain chain.1 ∙ p.rows;
+        many = p.many;
+        ends = p.ends;
+      }
+
+  rowed_stays : (d : Doc) (v : Vector) (back : List Page) (last : ℕ) (names : List Name)
+      → IsRowedSoFar S P x d v back last × (map name_of (marked S x) ≡ names)
+      → IsRowedSoFar S' P' x d v back last × (map name_of (marked S' x) ≡ names)
+  rowed_stays d v back last names had = (rows_stay d v back last had.0, ap (map name_of) marks ∙ had.1)
 
   placed_stays : (d : Doc) (bytes behind : List ℕ) (names : List Name)
       → IsPlacedSoFar S P x d bytes behind × (map name_of (marked S x) ≡ names)
@@ -143,7 +182,8 @@ module _ {D : Type 0} (device : Disk D) (old new : DbValue D) (pass pass' : Pass
   carries = record {
     runs = λ x is had. carried x (λ (S : Log) (P : Pages). fate S x ≡ Running) is (λ S P h. h)
         (λ S S' P P' on same marks shown shown' h. on.runs) had;
-    changed = λ x c is had. carried x (λ (S : Log) (P : Pages). (fate S x ≡ Running) × IsCommitOf S x c) is
+    changed = λ x c is had.
+        carried x (λ (S : Log) (P : Pages). (fate S x ≡ Running) × IsCommitOf S x c × AreIndexed S P x) is
         (λ S P h. h.0)
         (λ S S' P P' on same marks shown shown' h. commit_stays S S' P P' x on same marks shown shown' c h) had;
     placed = λ x d bytes behind names is had.
@@ -151,6 +191,11 @@ module _ {D : Type 0} (device : Disk D) (old new : DbValue D) (pass pass' : Pass
         × (map name_of (marked S x) ≡ names)) is (λ S P h. (h.0).runs)
         (λ S S' P P' on same marks shown shown' h.
         placed_stays S S' P P' x on same marks shown shown' d bytes behind names h) had;
+    rows = λ x d v back last names is had.
+        carried x (λ (S : Log) (P : Pages). IsRowedSoFar S P x d v back last
+        × (map name_of (marked S x) ≡ names)) is (λ S P h. (h.0).runs)
+        (λ S S' P P' on same marks shown shown' h.
+        rowed_stays S S' P P' x on same marks shown shown' d v back last names h) had;
   }
 
 -- ── calls one after another ──
@@ -162,6 +207,7 @@ module _ {D : Type 0} (device : Disk D) where
     runs = λ x is had. had;
     changed = λ x c is had. had;
     placed = λ x d bytes behind names is had. had;
+    rows = λ x d v back last names is had. had;
   }
 
   pub carries_on : (a b c : DbValue D) (p q r : Pass) → q.xid ≡ p.xid → CarriesOwn device a p b q
@@ -171,6 +217,8 @@ module _ {D : Type 0} (device : Disk D) where
     changed = λ x w is had. then.changed x w (same ∙ is) (first.changed x w is had);
     placed = λ x d bytes behind names is had.
         then.placed x d bytes behind names (same ∙ is) (first.placed x d bytes behind names is had);
+    rows = λ x d v back last names is had.
+        then.rows x d v back last names (same ∙ is) (first.rows x d v back last names is had);
   }
 
   -- a pass that holds no page

@@ -1,11 +1,12 @@
 -- Why the work of a statement is refused, as the statement tells it.
-use Rattle.std.proofs.Common.{◌≡◌, inl, inr, ℕ, List, [], ◌∷◌, ◌++◌, refl, sym, subst, ◌∙◌, append_assoc}
+use Rattle.std.proofs.Common.{◌≡◌, ◌⊎◌, inl, inr, ℕ, List, [], ◌∷◌, ◌++◌, refl, sym, subst, ◌∙◌, append_assoc}
 use Rattle.std.specs.Prelude.{Option, Some, None}
 use Rattle.std.specs.List.{All}
 use Rattle.std.proofs.lemmas.List.Elements.{All-head}
 use Rattle.disk_trait.specs.declared.device.Disk.{Ghosts as Disk}
 use Rattle.ts_base.specs.Vectors.{Vector}
 use Rattle.ts_base.specs.Encoding.{vector_bytes}
+use Rattle.ts_base.specs.Keys.{keys_of}
 use Rattle.page_types.specs.declared.record.Record.{Record}
 use Rattle.page_types.specs.declared.record.Kind.{Kind}
 use Rattle.page_types.specs.declared.record.Kind.TheVariants as kind
@@ -14,11 +15,12 @@ use Rattle.engine.specs.Finding.{Name}
 use Rattle.engine.specs.Work.{Work, deleted_by, IsBeginOf, AreMarks, ArePlaces, IsNext, IsBegunWork}
 use Rattle.engine.specs.Going.{Goes, MetFault, MetNoFault}
 use Rattle.engine.specs.Causes.{IsListed, AreXidsSpent, SoFar, ShowsHead, IsInConflict, MayBeDeleted, AreThere}
-use Rattle.engine.specs.Causes.{IsBadPage}
+use Rattle.engine.specs.Causes.{IsBadPage, IsBadList}
 use Rattle.engine.specs.Causes.{NeedsPage, IsStoreFull, HasNoRoomFor}
 use Rattle.engine.specs.Answers.{MayStart, Refuses, IsRefused, HasRefused}
 use Rattle.engine.specs.Db.{DbValue, fault_of, state_of, flushed_of, IsUp}
-use Rattle.engine.specs.Inner.Parts.{Puts, NeedsPageFor, CannotBegin, CannotMark, CannotPut}
+use Rattle.engine.specs.Inner.Parts.{NeedsPageFor, CannotBegin, CannotMark}
+use Rattle.engine.specs.Inner.Indexing.{Stores, NeedsRowPage, NeedsPageAt, CannotStore}
 use Rattle.engine.specs.Inner.Doing.{MayMark, IsNotDone}
 use Rattle.engine.specs.declared.transaction.Transaction.{Transaction}
 use Rattle.engine.specs.declared.error.DbError.{DbError}
@@ -43,7 +45,6 @@ bad_more : {D : Type 0} (u : DbValue D) (Reads : Name → Type 0) (front done : 
     → IsBadPage u (λ (n : Name). ⊥) done p → IsBadPage u Reads (front ++ done) p
 bad_more u Reads front done p (IsBadPage.heap (inl i) none) = IsBadPage.heap (inl i) none
 bad_more u Reads front done p (IsBadPage.heap (inr n) none) = absurd n.1
-bad_more u Reads front done p (IsBadPage.part h none) = absurd h.2
 bad_more u Reads front done p (IsBadPage.new since sought none) = IsBadPage.new since sought none
 bad_more u Reads front done p (IsBadPage.own slot was none) = IsBadPage.own slot (record {
   placing = was.placing;
@@ -54,11 +55,27 @@ bad_more u Reads front done p (IsBadPage.own slot was none) = IsBadPage.own slot
   place = was.place;
 }) none
 
-needs_page : {D : Type 0} (device : Disk D) (s : DbValue D) (v : Vector) (x : ℕ) (k : Kind)
+needs_put : {D : Type 0} (device : Disk D) (s : DbValue D) (v : Vector) (x : ℕ) (k : Kind)
     → NeedsPageFor device (vector_bytes v) x s k → NeedsPage s v x k
-needs_page device s v x (kind.PlaceHead item serial) n = n
-needs_page device s v x (kind.PutOverflow item serial) n = n
-needs_page device s v x _ n = absurd n
+needs_put device s v x (kind.PlaceHead item serial) n = n
+needs_put device s v x (kind.PutOverflow item serial) n = n
+needs_put device s v x _ n = absurd n
+
+needs_rows : {D : Type 0} (device : Disk D) (s : DbValue D) (v : Vector) (x : ℕ) (k : Kind)
+    → NeedsRowPage device k → NeedsPage s v x k
+needs_rows device s v x (kind.PutPending item serial) n = n
+needs_rows device s v x _ n = absurd n
+
+needs_page : {D : Type 0} (device : Disk D) (s : DbValue D) (v : Vector) (x : ℕ) (k : Kind)
+    → NeedsPageAt device (vector_bytes v) x s k → NeedsPage s v x k
+needs_page device s v x k (inl n) = needs_put device s v x k n
+needs_page device s v x k (inr n) = needs_rows device s v x k n
+
+-- a page that is bad for a part of the work, or one of the pending list, is so for all of it
+bad_in_work : {D : Type 0} (u : DbValue D) (Reads : Name → Type 0) (front done : List Record) (p : ℕ)
+    → IsBadPage u (λ (n : Name). ⊥) done p ⊎ IsBadList u p → IsBadPage u Reads (front ++ done) p ⊎ IsBadList u p
+bad_in_work u Reads front done p (inl bad) = inl (bad_more u Reads front done p bad)
+bad_in_work u Reads front done p (inr bad) = inr bad
 
 not_down : (o : Option ℕ) (f : ℕ) → o ≡ None → o ≡ Some f → ⊥
 not_down o f none some = let e : None ≡ Some f = sym none ∙ some in cc
@@ -176,8 +193,8 @@ module _ {D : Type 0} (device : Disk D) (old new : DbValue D) (w : Work) where
         )
     refuses_mark n (BadPage p) is up met why = (
       B.up,
-      at_begin (λ (u : DbValue D) (x : ℕ) (rs : List Record). IsBadPage u (IsListed old) rs p) why.1.0 why.1.1
-          (IsBadPage.heap (inr (n, listed_one n is, sym why.0)) why.1.2),
+      at_begin (λ (u : DbValue D) (x : ℕ) (rs : List Record). IsBadPage u (IsListed old) rs p ⊎ IsBadList u p)
+          why.1.0 why.1.1 (inl (IsBadPage.heap (inr (n, listed_one n is, sym why.0)) why.1.2)),
     )
     refuses_mark n DiskFault is up met why = met refl
     refuses_mark n OutOfMemory is up met why = B.up
@@ -190,10 +207,10 @@ module _ {D : Type 0} (device : Disk D) (old new : DbValue D) (w : Work) where
       at_put : (Why : DbValue D → ℕ → List Record → Type 0) (Met : DbValue D → List Record → Record → Type 0)
           → ((u : DbValue D) (done : List Record) (r : Record) → IsNext w t.xid (B.first ∷ (marks ++ done)) r
           → Met u done r → Why u t.xid (B.first ∷ (marks ++ done)))
-          → Puts device mid t.xid (vector_bytes v) Met → SoFar device old w Why
+          → Stores device mid t.xid (vector_bytes v) (keys_of v) Met → SoFar device old w Why
       at_put Why Met tells p =
           let put : ArePlaces w.inserts t.xid (p.done ++ p.next ∷ p.rest) =
-          subst (λ (o : Option Vector). ArePlaces o t.xid (p.done ++ p.next ∷ p.rest)) (sym ins) p.are_put in
+          subst (λ (o : Option Vector). ArePlaces o t.xid (p.done ++ p.next ∷ p.rest)) (sym ins) p.are_stored in
           let more : ArePlaces w.inserts t.xid ((p.done ++ p.next ∷ []) ++ p.rest) =
           subst (ArePlaces w.inserts t.xid) (sym (append_assoc p.done (p.next ∷ []) p.rest)) put in
           let next : IsBegunWork w t.xid (B.first ∷ ((marks ++ p.done) ++ p.next ∷ [])) =
@@ -210,7 +227,7 @@ module _ {D : Type 0} (device : Disk D) (old new : DbValue D) (w : Work) where
           }
 
       refuses_put : (e : DbError) → IsUp mid → MayMark device s t w.deletes → (e ≡ DiskFault → MetFault device old new)
-          → CannotPut device mid t.xid (vector_bytes v) e → Refuses device old new w e
+          → CannotStore device mid t.xid (vector_bytes v) (keys_of v) e → Refuses device old new w e
       refuses_put (Down f) up may met why = absurd (not_down (fault_of mid) f up why)
       refuses_put StoreFull up may met why = (
         may_start,
@@ -218,7 +235,7 @@ module _ {D : Type 0} (device : Disk D) (old new : DbValue D) (w : Work) where
         at_put (λ (u : DbValue D) (x : ℕ) (rs : List Record). (r : Record) × (z : Vector) × IsNext w x rs r
             × (w.inserts ≡ Some z) × NeedsPage u z x r.kind × IsStoreFull u)
             (λ (u : DbValue D) (done : List Record) (r : Record).
-            NeedsPageFor device (vector_bytes v) t.xid u r.kind × IsStoreFull u)
+            NeedsPageAt device (vector_bytes v) t.xid u r.kind × IsStoreFull u)
             (λ u done r next met. (r, v, next, ins, needs_page device u v t.xid r.kind met.0, met.1)) why,
       )
       refuses_put LogFull up may met why = (
@@ -232,9 +249,10 @@ module _ {D : Type 0} (device : Disk D) (old new : DbValue D) (w : Work) where
       )
       refuses_put (BadPage p) up may met why = (
         B.up,
-        at_put (λ (u : DbValue D) (x : ℕ) (rs : List Record). IsBadPage u (IsListed old) rs p)
-            (λ (u : DbValue D) (done : List Record) (r : Record). IsBadPage u (λ (n : Name). ⊥) done p)
-            (λ u done r next met. bad_more u (IsListed old) (B.first ∷ marks) done p met) why,
+        at_put (λ (u : DbValue D) (x : ℕ) (rs : List Record). IsBadPage u (IsListed old) rs p ⊎ IsBadList u p)
+            (λ (u : DbValue D) (done : List Record) (r : Record).
+            IsBadPage u (λ (n : Name). ⊥) done p ⊎ IsBadList u p)
+            (λ u done r next met. bad_in_work u (IsListed old) (B.first ∷ marks) done p met) why,
       )
       refuses_put DiskFault up may met why = met refl
       refuses_put OutOfMemory up may met why = B.up

@@ -5,16 +5,18 @@ use Rattle.std.proofs.lemmas.List.{append-nil}
 use Rattle.disk_trait.specs.declared.device.Disk.{Ghosts as Disk}
 use Rattle.ts_base.specs.Vectors.{Vector}
 use Rattle.ts_base.specs.Encoding.{IsEncoding}
+use Rattle.ts_base.specs.Keys.{Key, keys_of}
 use Rattle.page_types.specs.declared.record.Record.{Record}
 use Rattle.core_state.specs.History.{Commit}
 use Rattle.buffer_frames.specs.declared.pass.Pass.{Pass}
 use Rattle.engine.specs.Finding.{Name, document}
-use Rattle.engine.specs.Work.{storing, commit_of, IsMarkOf, ArePut, IsWork}
+use Rattle.engine.specs.Work.{storing, commit_of, IsMarkOf, AreStored, IsWork}
 use Rattle.engine.specs.Going.{Goes, stays, MetNoFault}
 use Rattle.engine.specs.Causes.{MayBeDeleted}
 use Rattle.engine.specs.Db.{DbValue}
-use Rattle.engine.specs.Inner.Parts.{KeepsWork, HasChanged, Later, CannotMark, CannotPut, no_changes, only_deleted}
+use Rattle.engine.specs.Inner.Parts.{KeepsWork, HasChanged, Later, CannotMark, no_changes, only_deleted}
 use Rattle.engine.specs.Inner.Parts.{with_inserted}
+use Rattle.engine.specs.Inner.Indexing.{CannotStore}
 use Rattle.engine.specs.Inner.Doing.{HasDone, HasStopped, IsNotDone, removing, removal}
 use Rattle.engine.specs.declared.transaction.Transaction.{Transaction}
 use Rattle.engine.specs.declared.error.DbError.{DbError}
@@ -98,38 +100,40 @@ module _ {D : Type 0} (device : Disk D) (old new : DbValue D) (pass : Pass) (t :
   not_removed v e (IsNotDone.put u mid marks ins are goes none may why) =
       absurd (let z : None ≡ Some u = ins in let no : ⊥ = cc in no)
 
-  module _ (mid : DbValue D) (pass' : Pass) (bytes : List ℕ) (v : Vector) (encodes : IsEncoding bytes v)
+  module _ (mid : DbValue D) (pass' : Pass) (bytes : List ℕ) (keys : List Key) (v : Vector)
+      (encodes : IsEncoding bytes v) (of : keys ≡ keys_of v)
       (done : HasDone device old mid pass' t (removing o) (removal o)) where
     marks_alone : done.records ≡ done.are_work.marks
     marks_alone =
         done.are_work.order ∙ ap (λ (l : List Record). done.are_work.marks ++ l) done.are_work.are_places
         ∙ append-nil done.are_work.marks
 
-    works : (rs : List Record) → ArePut bytes t.xid rs → IsWork (storing o v) t.xid (done.records ++ rs)
+    works : (rs : List Record) → AreStored bytes (keys_of v) t.xid rs → IsWork (storing o v) t.xid (done.records ++ rs)
     works rs put = record {
       marks = done.are_work.marks;
       places = rs;
       order = ap (λ (l : List Record). l ++ rs) marks_alone;
       are_marks = done.are_work.are_marks;
-      are_places = subst (λ (b : List ℕ). ArePut b t.xid rs) encodes.bytes_of put;
+      are_places = subst (λ (b : List ℕ). AreStored b (keys_of v) t.xid rs) encodes.bytes_of put;
     }
 
     pub placed : (r : Result Name DbError)
-        → ((u : Vector) (c : Commit) → IsEncoding bytes u → c.inserted ≡ [] → HasChanged device mid pass' t.xid c
+        → ((u : Vector) (c : Commit) → IsEncoding bytes u → keys ≡ keys_of u → c.inserted ≡ []
+        → HasChanged device mid pass' t.xid c
         → IfOk r (λ n. HasChanged device new pass t.xid (with_inserted (document n u) c)))
-        → OnOk r ((rs : List Record) × ArePut bytes t.xid rs × Goes device mid new rs)
+        → OnOk r ((rs : List Record) × AreStored bytes keys t.xid rs × Goes device mid new rs)
         → IfOk r (λ n. HasDone device old new pass t (storing o v) (commit_of (storing o v) n))
     placed (Ok n) changed goes = record {
       records = done.records ++ goes.0;
-      are_work = works goes.0 goes.1;
+      are_work = works goes.0 (subst (λ (ks : List Key). AreStored bytes ks t.xid goes.0) of goes.1);
       goes = goes_on device done.goes goes.2;
       there = done.there;
-      changed = changed v (removal o) encodes refl done.changed;
+      changed = changed v (removal o) encodes of refl done.changed;
     }
     placed (Err e) changed goes = tt
 
     pub stopped : (r : Result Name DbError)
-        → OnErr r ((front rest : List Record) × ArePut bytes t.xid (front ++ rest) × Goes device mid new front)
+        → OnErr r ((front rest : List Record) × AreStored bytes keys t.xid (front ++ rest) × Goes device mid new front)
         → OnErr r (HasStopped device old new t.xid (storing o v))
     stopped (Ok n) some = tt
     stopped (Err e) some = inr (
@@ -137,15 +141,17 @@ module _ {D : Type 0} (device : Disk D) (old new : DbValue D) (pass : Pass) (t :
       (
         some.1,
         subst (IsWork (storing o v) t.xid) (sym (append_assoc done.records some.0 some.1))
-            (works (some.0 ++ some.1) some.2),
+            (works (some.0 ++ some.1)
+            (subst (λ (ks : List Key). AreStored bytes ks t.xid (some.0 ++ some.1)) of some.2)),
       ),
       goes_on device done.goes some.3,
     )
 
     pub unplaced : (r : Result Name DbError) → MetNoFault device old mid
-        → IfErr r (λ e. CannotPut device mid t.xid bytes e)
+        → IfErr r (λ e. CannotStore device mid t.xid bytes keys e)
         → IfErr r (λ e. IsNotDone device old t (storing o v) e)
     unplaced (Ok n) none why = tt
     unplaced (Err e) none why = IsNotDone.put v mid done.are_work.marks refl done.are_work.are_marks
         (subst (Goes device old mid) marks_alone done.goes) none done.there
-        (subst (λ (b : List ℕ). CannotPut device mid t.xid b e) encodes.bytes_of why)
+        (subst (λ (b : List ℕ). CannotStore device mid t.xid b (keys_of v) e) encodes.bytes_of
+        (subst (λ (ks : List Key). CannotStore device mid t.xid bytes ks e) of why))

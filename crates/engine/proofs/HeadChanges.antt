@@ -93,7 +93,7 @@ changed_is old new k h h' w there same is page =
     })
 
 -- the slot of a page becomes this
-slot_changes : (old : Page) (slots new : List (Option Head)) (k : ℕ) (h h' : Head) → old.body ≡ body.Heap slots
+pub slot_changes : (old : Page) (slots new : List (Option Head)) (k : ℕ) (h h' : Head) → old.body ≡ body.Heap slots
     → head_on old k ≡ Some h → new ≡ set slots k (Some h')
     → ChangesSlot old k (Some h') (record old { body = body.Heap new })
 slot_changes old slots new k h h' was there list =

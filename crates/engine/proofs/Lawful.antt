@@ -5,7 +5,7 @@ use Rattle.std.specs.Prelude.{Option, Some, None, Bool, true, false, cond, ◌==
 use Rattle.std.proofs.lemmas.List.{reverse-append}
 use Rattle.std.specs.List.{AllByRecursion}
 use Rattle.disk_trait.specs.declared.device.Disk.{Ghosts as Disk}
-use Rattle.page_types.specs.Numbers.{page_limit, most_short}
+use Rattle.page_types.specs.Numbers.{page_limit}
 use Rattle.page_types.specs.Pages.{IsPage}
 use Rattle.page_types.specs.Records.{IsChange}
 use Rattle.page_types.specs.Views.{free_page, slots_in, slots_of, slot_at}
@@ -20,10 +20,10 @@ use Rattle.page_types.specs.declared.record.Kind.{Kind}
 use Rattle.page_types.specs.declared.record.Kind.TheVariants as kind
 use Rattle.ts_base.specs.Vectors.{Vector}
 use Rattle.ts_base.specs.Encoding.{vector_bytes}
+use Rattle.ts_base.specs.Keys.{Key, keys_of}
 use Rattle.page_types.proofs.PageLaws.{page_told}
 use Rattle.core_state.specs.Log.{Log, Pages, In, Shows, pages_of, replay, fate, fate_with}
-use Rattle.core_state.specs.Bullets.PagePlace.{overflow_of}
-use Rattle.core_state.specs.Documents.{Doc, HasBytes, IsChain, page_of, slot_of, head_of, doc_at, placed}
+use Rattle.core_state.specs.Documents.{Doc, page_of, slot_of, doc_at, placed}
 use Rattle.core_state.specs.Documents.{placed_with}
 use Rattle.core_state.specs.History.{Document, History, IsHistory, IsStored, docs}
 use Rattle.core_state.specs.Known.{use_by}
@@ -47,12 +47,13 @@ use Rattle.buffer_frames.specs.declared.home.Home.{Home}
 use Rattle.buffer_frames.specs.declared.home.Home.TheVariants.{Free, Bytes, Content, Away}
 use Rattle.buffer_frames.proofs.HomesLie.{lies_shown}
 use Rattle.buffer_frames.proofs.LastingStates.{told_alike}
-use Rattle.engine.specs.Causes.{IsListedIn, IsHeap, IsPart, IsNone, IsNew, IsNewSought}
-use Rattle.engine.specs.Causes.{HasHead, HasHeadIn, LeadsTo, WasPlaced, IsBadPage}
+use Rattle.engine.specs.Causes.{IsListedIn, IsHeap, IsNone, IsNew, IsNewSought}
+use Rattle.engine.specs.Causes.{HasHeadIn, WasPlaced, IsBadPage}
 use Rattle.engine.specs.Db.{DbValue, state_of, IsUp}
 use Rattle.engine.specs.Finding.{Name}
 use Rattle.engine.specs.Places.{Lies}
-use Rattle.engine.specs.Work.{Work, IsWork, IsBegunWork, AreMarks, AreParts, ArePut, ArePlaces, parts_for}
+use Rattle.engine.specs.Work.{Work, IsWork, IsBegunWork, AreMarks, AreParts, ArePut, ArePlaces, AreIndexing, AreStored}
+use Rattle.engine.specs.Work.{IsRowPageOf, parts_for}
 use Rattle.buffer_frames.specs.Journals.{with_owed}
 use Rattle.engine.specs.Standing.{StandsFor}
 use Rattle.buffer_frames.specs.Passes.{IsPassOf}
@@ -90,18 +91,8 @@ has_slots _ k h e = absurd (let z : ⊥ = cc in z)
 heap_not_free : (b : Body) (slots : List (Option Head)) → b ≡ body.Heap slots → b ≢ body.Free
 heap_not_free b slots is free = let z : ⊥ = cc in z
 
-part_not_free : (b : Body) (bytes : List ℕ) → b ≡ body.Overflow bytes → b ≢ body.Free
-part_not_free b bytes is free = let z : ⊥ = cc in z
-
 gone_not_free : (b : Body) (g : Gone) → b ≡ body.Deleted g → b ≢ body.Free
 gone_not_free b g is free = let z : ⊥ = cc in z
-
-meta_not_part : (b : Body) (first last count : ℕ) (bytes : List ℕ) → b ≡ body.Meta first last count
-    → b ≡ body.Overflow bytes → ⊥
-meta_not_part b first last count bytes is part = let z : ⊥ = cc in z
-
-one_head : (h k : Head) → Some h ≡ Some k → h ≡ k
-one_head h k e = cc
 
 -- ── what a running transaction has placed ──
 
@@ -156,6 +147,9 @@ abbrev pub IsDoing : Kind → Type 0
 IsDoing (kind.MarkDeleted item serial) = ⊤
 IsDoing (kind.PlaceHead item serial) = ⊤
 IsDoing (kind.PutOverflow item serial) = ⊤
+IsDoing (kind.PutPending item serial) = ⊤
+IsDoing (kind.AddRow item serial) = ⊤
+IsDoing (kind.LinkPending item serial) = ⊤
 IsDoing k = ⊥
 
 abbrev pub Does : ℕ → Record → Type 0
@@ -174,15 +168,45 @@ parts_do x d n (q ∷ rs) are r (inl e) =
     subst (Does x) (sym e) (are.0.xid, subst IsDoing (sym are.0.kind_is) tt)
 parts_do x d n (q ∷ rs) are r (inr i) = parts_do x d are.1.0 rs are.1.2 r i
 
-put_do : (x : ℕ) (bytes : List ℕ) (rs : List Record) → ArePut bytes x rs → (r : Record) → In r rs → Does x r
-put_do x bytes [] are r i = absurd i
-put_do x bytes (q ∷ rs) are r (inl e) =
-    subst (Does x) (sym e) (are.1.xid, subst IsDoing (sym are.1.kind_is) tt)
-put_do x bytes (q ∷ rs) are r (inr i) = parts_do x are.0 (parts_for (length bytes)) rs are.2 r i
+put_do : (x : ℕ) (bytes : List ℕ) (d : Doc) (rs : List Record) → ArePut bytes x d rs → (r : Record) → In r rs
+    → Does x r
+put_do x bytes d [] are r i = absurd i
+put_do x bytes d (q ∷ rs) are r (inl e) =
+    subst (Does x) (sym e) (are.0.xid, subst IsDoing (sym are.0.kind_is) tt)
+put_do x bytes d (q ∷ rs) are r (inr i) = parts_do x d (parts_for (length bytes)) rs are.1 r i
+
+row_pages_do : (x : ℕ) (d : Doc) (rs : List Record) → AllByRecursion (IsRowPageOf x d) rs → (r : Record) → In r rs
+    → Does x r
+row_pages_do x d [] all r i = absurd i
+row_pages_do x d (q ∷ rs) all r (inl e) =
+    subst (Does x) (sym e) ((all.0).xid, subst IsDoing (sym (all.0).kind_is) tt)
+row_pages_do x d (q ∷ rs) all r (inr i) = row_pages_do x d rs all.1 r i
+
+rows_do : (x : ℕ) (d : Doc) (keys : List Key) (rs : List Record) → AreIndexing x d keys rs → (r : Record) → In r rs
+    → Does x r
+rows_do x d keys rs (AreIndexing.row q is all) r i = elim (subst (In r) all i) [
+  | inl e ↦ subst (Does x) (sym e) (is.xid, subst IsDoing (sym is.kind_is) tt)
+  | inr none ↦ absurd none
+]
+rows_do x d keys rs (AreIndexing.pages packed puts link pack are few is all) r i =
+    elim (in_either r puts (link ∷ []) (subst (In r) all i)) [
+      | inl p ↦ row_pages_do x d puts are r p
+      | inr l ↦ elim l [
+        | inl e ↦ subst (Does x) (sym e) (is.xid, subst IsDoing (sym is.kind_is) tt)
+        | inr none ↦ absurd none
+      ]
+    ]
+
+stored_do : (x : ℕ) (bytes : List ℕ) (keys : List Key) (rs : List Record) → AreStored bytes keys x rs → (r : Record)
+    → In r rs → Does x r
+stored_do x bytes keys rs are r i = elim (in_either r are.puts are.rows (subst (In r) are.order i)) [
+  | inl p ↦ put_do x bytes are.doc are.puts are.are_put r p
+  | inr w ↦ rows_do x are.doc keys are.rows are.are_rows r w
+]
 
 places_do : (x : ℕ) (o : Option Vector) (rs : List Record) → ArePlaces o x rs → (r : Record) → In r rs → Does x r
 places_do x None rs are r i = absurd (subst (In r) are i)
-places_do x (Some v) rs are r i = put_do x (vector_bytes v) rs are r i
+places_do x (Some v) rs are r i = stored_do x (vector_bytes v) (keys_of v) rs are r i
 
 work_does : (w : Work) (x : ℕ) (rs : List Record) → IsWork w x rs → (r : Record) → In r rs → Does x r
 work_does w x rs is r i = elim (in_either r is.marks is.places (subst (In r) is.order i)) [
@@ -200,6 +224,9 @@ runs_over (r ∷ S) L x all runs =
     by (kind.MarkDeleted item serial) d f = f
     by (kind.PlaceHead item serial) d f = f
     by (kind.PutOverflow item serial) d f = f
+    by (kind.PutPending item serial) d f = f
+    by (kind.AddRow item serial) d f = f
+    by (kind.LinkPending item serial) d f = f
     by _ d f = absurd d
 
 -- the transaction of the work so far runs
@@ -250,7 +277,7 @@ module _ {D : Type 0} (device : Disk D) (s : DbValue D) (R : Log) (P : Pages) (t
       told_alike R st (states.state_of st.pages st.xid_limit R) stands.journal.state
       (state_told st.pages st.xid_limit R legal)
 
-  small : (p : ℕ) → (P p).body ≢ body.Free → p < page_limit
+  pub small : (p : ℕ) → (P p).body ≢ body.Free → p < page_limit
   small p used = elim (below_or_past p page_limit) [
     | inl low ↦ low
     | inr high ↦ absurd (used (ap (λ (c : Page). c.body) (past_free R legal.valid P shown p high)))
@@ -260,9 +287,6 @@ module _ {D : Type 0} (device : Disk D) (s : DbValue D) (R : Log) (P : Pages) (t
 
   pub no_heap : (p : ℕ) → IsHeap s (P p) → IsNone s (IsHeap s) p → ⊥
   no_heap p heap none = not_none (IsHeap s) p (small p (heap_not_free (P p).body heap.0 heap.1)) heap none
-
-  pub no_part : (p : ℕ) → IsPart s (P p) → IsNone s (IsPart s) p → ⊥
-  no_part p part none = not_none (IsPart s) p (small p (part_not_free (P p).body part.0 part.1)) part none
 
   -- a heap page of the state
   pub heap_of_state : (p : ℕ) → In p (state_of s).heaps → IsHeap s (P p)
@@ -275,75 +299,6 @@ module _ {D : Type 0} (device : Disk D) (s : DbValue D) (R : Log) (P : Pages) (t
   heap_of_stored d st =
       subst (λ (n : Name). IsHeap s (P n.page)) (sym st.name)
       (has_slots (P (page_of st.doc.item)).body (slot_of st.doc.item) st.head st.has.at)
-
-  -- the head that lies in its slot is its own
-  pub head_of_stored : (d : Document) (st : IsStored P d) (h : Head) → HasHead s d.name h → h ≡ st.head
-  head_of_stored d st h has =
-      let here : has.page ≡ P d.name.page = lies_is d.name.page has.page has.is_page has.lies in
-      let at : slot_at (slots_of (P d.name.page)) d.name.slot ≡ Some h =
-      ap (λ (c : Page). slot_at (slots_of c) d.name.slot) (sym here) ∙ has.head in
-      let named : slot_at (slots_of (P d.name.page)) d.name.slot ≡ head_of P st.doc.item =
-      ap (λ (n : Name). slot_at (slots_of (P n.page)) n.slot) st.name in
-      one_head h st.head (sym at ∙ named ∙ st.has.at)
-
-  some_log : (d : Document) → IsStored P d → R ≢ []
-  some_log d st e =
-      subst (λ (L : Log). In (doc_at st.doc.item st.head.serial) (placed L st.head.inserted_by)) e
-      ((documents R P legal shown).inserted st.doc.item st.head st.has.at)
-
-  -- page 0 is no part
-  zero_no_part : R ≢ [] → IsPart s (P 0) → ⊥
-  zero_no_part some part =
-      let meta = (pages R P legal shown).list.meta some in
-      meta_not_part (P 0).body meta.0 meta.1 _ part.0 meta.2 part.1
-
-  -- pages that a chain's first leads to are on it
-  pub record LiesOn (q : ℕ) (qs : List ℕ) : Type 0 where
-    pub rest : List ℕ
-    pub chain : IsChain P q rest
-    pub on : (k : ℕ) → In k rest → In k qs
-
-  on_next : (q right : ℕ) (qs rest : List ℕ) → q ≢ 0 → right ≡ (P q).right → IsChain P q rest
-      → ((k : ℕ) → In k rest → In k qs) → LiesOn right qs
-  on_next q right qs [] some is chain on = absurd (some chain)
-  on_next q right qs (r ∷ rest) some is chain on = record {
-    rest = rest;
-    chain = subst (λ (k : ℕ). IsChain P k rest) (ap (λ (k : ℕ). (P k).right) (sym chain.0) ∙ sym is) chain.2;
-    on = λ k i. on k (inr i);
-  }
-
-  leads_along : R ≢ [] → (first q : ℕ) → LeadsTo s first q → (qs : List ℕ) → IsChain P first qs → LiesOn q qs
-  leads_along some first q LeadsTo.here qs chain = record { rest = qs; chain = chain; on = λ k i. i }
-  leads_along some first q (LeadsTo.next {q = n} l c page lies part) qs chain =
-      let w = leads_along some first n l qs chain in
-      let same : c ≡ P n = lies_is n c page lies in
-      on_next n c.right qs w.rest
-      (λ e. zero_no_part some (subst (IsPart s) (same ∙ ap P e) part))
-      (ap (λ (x : Page). x.right) same) w.chain w.on
-
-  on_chain : (p : ℕ) (qs : List ℕ) → p ≢ 0 → LiesOn p qs → In p qs
-  on_chain p qs off w = by w.rest w.chain w.on
-    where
-      by : (rest : List ℕ) → IsChain P p rest → ((k : ℕ) → In k rest → In k qs) → In p qs
-      by [] chain on = absurd (off chain)
-      by (r ∷ rest) chain on = on p (inl chain.0)
-
-  -- a page of a document's chain
-  pub part_of_stored : (d : Document) → IsStored P d → (h : Head) (p : ℕ) → HasHead s d.name h → most_short < h.bytes
-      → LeadsTo s h.overflow p → p ≢ 0 → IsPart s (P p)
-  part_of_stored d st h p has long leads off =
-      let same : h ≡ st.head = head_of_stored d st h has in
-      by st.content.bytes st.content.there (subst (λ (k : Head). most_short < k.bytes) same long)
-      (subst (λ (k : Head). LeadsTo s k.overflow p) same leads)
-    where
-      by : (bytes : List ℕ) → HasBytes P st.head bytes → most_short < st.head.bytes → LeadsTo s st.head.overflow p
-          → IsPart s (P p)
-      by bytes (HasBytes.short few) much l = absurd (omega (arith, few, much))
-      by bytes (HasBytes.long much qs chain) much' l =
-          let some = some_log d st in
-          let i = on_chain p qs off (leads_along some st.head.overflow p l qs chain) in
-          (pages R P legal shown).kinds.kinds some p (overflow_of st.doc.item)
-          (st.doc, st.head, qs, refl, st.has, chain, i)
 
   -- a page that is taken as a new one
   pub no_new : (since p : ℕ) → (state_of s).pages ≤ page_limit → IsTaken (state_of s) since p
@@ -411,10 +366,6 @@ module _ {D : Type 0} (device : Disk D) (s : DbValue D) (R : Log) (P : Pages) (t
           let d = there n.0 n.1 in
           no_heap p (subst (λ (q : ℕ). IsHeap s (P q)) (ap (λ (x : Name). x.page) d.2 ∙ n.2)
           (heap_of_stored d.0 (stored d.0 d.1))) none
-      by (IsBadPage.part w none) =
-          let d = there w.0 w.2 in
-          no_part p (part_of_stored d.0 (stored d.0 d.1) w.1 p (subst (λ (x : Name). HasHead s x w.1) (sym d.2) w.3) w.4
-          w.5 w.6) none
       by (IsBadPage.new since w none) = no_new since p few w.1 none
       by (IsBadPage.own slot w none) =
           let h = own slot w in

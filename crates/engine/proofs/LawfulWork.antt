@@ -5,6 +5,7 @@ use Rattle.std.specs.List.{All}
 use Rattle.std.proofs.lemmas.List.Elements.{All-nil, All-cons, All-head}
 use Rattle.disk_trait.specs.declared.device.Disk.{Ghosts as Disk}
 use Rattle.ts_base.specs.Vectors.{Vector}
+use Rattle.ts_base.specs.Keys.{Key}
 use Rattle.buffer_frames.specs.declared.pass.Pass.{Pass}
 use Rattle.engine.specs.Finding.{Name, History, IsInSnapshot}
 use Rattle.engine.specs.Work.{Work, deleted_by, storing}
@@ -13,7 +14,8 @@ use Rattle.engine.specs.Standing.{StandsFor}
 use Rattle.engine.specs.Causes.{IsListed}
 use Rattle.engine.specs.Answers.{IsLawfulRefusal, MeetsNoBadPage}
 use Rattle.engine.specs.Db.{DbValue, flushed_of, IsUp}
-use Rattle.engine.specs.Inner.Parts.{CannotBegin, CannotPut, IsNotEnded, EndsAs, TellsOfMark, TellsRefusal}
+use Rattle.engine.specs.Inner.Parts.{CannotBegin, IsNotEnded, EndsAs, TellsOfMark, TellsRefusal}
+use Rattle.engine.specs.Inner.Indexing.{CannotStore}
 use Rattle.engine.specs.Inner.Doing.{HasDone, IsUnseenBy, TellsOfWork, removing, removal}
 use Rattle.engine.specs.declared.transaction.Transaction.{Transaction}
 use Rattle.engine.specs.declared.error.DbError.{DbError}
@@ -51,20 +53,21 @@ module _ {D : Type 0} (device : Disk D) where
 
   module _ (old mid : DbValue D) (pass : Pass) (t : Transaction) (o : Option Name) (v : Vector)
       (done : HasDone device old mid pass t (removing o) (removal o)) (none : MetNoFault device old mid) where
-    put_tells : (bytes : List ℕ) (e : DbError) → CannotPut device mid t.xid bytes e → MeetsNoBadPage device mid e
-        → TellsOfWork device old t (storing o v) e
-    put_tells bytes NoDocument why told = absurd why
-    put_tells bytes (BadPage p) why told = λ tells found H f up all.
+    put_tells : (bytes : List ℕ) (keys : List Key) (e : DbError) → CannotStore device mid t.xid bytes keys e
+        → MeetsNoBadPage device mid e → TellsOfWork device old t (storing o v) e
+    put_tells bytes keys NoDocument why told = absurd why
+    put_tells bytes keys (BadPage p) why told = λ tells found H f up all.
         told tells found H
         (stays_for device tells done.goes (work_plain (removing o) t.xid done.records done.are_work) found H f)
         (none.down ∙ up)
-    put_tells bytes _ why told = tt
+    put_tells bytes keys _ why told = tt
 
     -- a document that is put
-    pub placing_tells : (bytes : List ℕ) (r : Result Name DbError) → IfErr r (λ e. CannotPut device mid t.xid bytes e)
-        → IfErr r (λ e. MeetsNoBadPage device mid e) → IfErr r (λ e. TellsOfWork device old t (storing o v) e)
-    placing_tells bytes (Ok n) why told = tt
-    placing_tells bytes (Err e) why told = put_tells bytes e why told
+    pub placing_tells : (bytes : List ℕ) (keys : List Key) (r : Result Name DbError)
+        → IfErr r (λ e. CannotStore device mid t.xid bytes keys e) → IfErr r (λ e. MeetsNoBadPage device mid e)
+        → IfErr r (λ e. TellsOfWork device old t (storing o v) e)
+    placing_tells bytes keys (Ok n) why told = tt
+    placing_tells bytes keys (Err e) why told = put_tells bytes keys e why told
 
   -- ── a statement ──
 

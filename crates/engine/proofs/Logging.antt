@@ -23,6 +23,9 @@ pub early_of : (k : Kind) → ChangesDocument k → IsEarlyKind k
 early_of (kind.PlaceHead item serial) doc = tt
 early_of (kind.PutOverflow item serial) doc = tt
 early_of (kind.MarkDeleted item serial) doc = tt
+early_of (kind.PutPending item serial) doc = tt
+early_of (kind.AddRow item serial) doc = tt
+early_of (kind.LinkPending item serial) doc = tt
 early_of _ doc = absurd doc
 
 pub no_begin : (k : Kind) → ChangesDocument k → k ≡ kind.Begin → ⊥
@@ -33,6 +36,9 @@ pub xid_stays : (k : Kind) (value : ℕ) (xid : Option ℕ) → ChangesDocument 
 xid_stays (kind.PlaceHead item serial) value xid doc = refl
 xid_stays (kind.PutOverflow item serial) value xid doc = refl
 xid_stays (kind.MarkDeleted item serial) value xid doc = refl
+xid_stays (kind.PutPending item serial) value xid doc = refl
+xid_stays (kind.AddRow item serial) value xid doc = refl
+xid_stays (kind.LinkPending item serial) value xid doc = refl
 xid_stays _ value xid doc = absurd doc
 
 -- why a record isn't logged

@@ -46,7 +46,7 @@ use Rattle.engine.specs.declared.error.DbError.{DbError}
 use Rattle.engine.specs.declared.error.DbError.TheVariants.{NoDocument, Conflict, LogFull, Down, DiskFault, BadPage}
 use Rattle.engine.specs.declared.error.DbError.TheVariants.{OutOfMemory}
 use Rattle.engine.specs.Db.{DbValue, state_of, state_then, fault_of}
-use Rattle.engine.specs.Inner.Parts.{HasChanged, CannotHold, CannotMark, no_changes, only_deleted}
+use Rattle.engine.specs.Inner.Parts.{HasChanged, AreIndexed, CannotHold, CannotMark, no_changes, only_deleted}
 use Rattle.engine.specs.Inner.Changing.{doc_of, IsMarkStep, MayBeMarked, IsMarkedBy, MayNotBeMarked, ChangesDocument}
 use Rattle.engine.specs.Inner.Changing.{MayLogStep, LogsStep, CannotLog}
 use Rattle.engine.proofs.Choosing.{lies_one, none_at}
@@ -215,8 +215,8 @@ placed_still R r x item serial is = ap (λ (k : Kind). placed_with k r.xid x (pl
 mark_commit : (x : ℕ) (name : Name) (step : Step) (page : Page) → name.slot < most_slots → IsMarkStep x name page step
     → (held : List Sheet) (serial : ℕ) (S R : Log) (P P' Q : Pages) (r : Record)
     → GrowsBy held step x serial S P R P' r Q
-    → (fate S x ≡ Running) × IsCommitOf S x no_changes
-    → (fate (r ∷ R) x ≡ Running) × IsCommitOf (r ∷ R) x (only_deleted name)
+    → (fate S x ≡ Running) × IsCommitOf S x no_changes × AreIndexed S P x
+    → (fate (r ∷ R) x ≡ Running) × IsCommitOf (r ∷ R) x (only_deleted name) × AreIndexed (r ∷ R) Q x
 mark_commit x name step page lt made held serial S R P P' Q r g had =
     let item = item_at name.page name.slot in
     let kinds : r.kind ≡ kind.MarkDeleted item name.serial =
@@ -236,6 +236,7 @@ mark_commit x name step page lt made held serial S R P P' Q r g had =
         inserted = subst (λ (ds : List Doc). AreInserts Q ds [])
             (sym (placed_still R r x item name.serial kinds ∙ empty)) tt;
       },
+      λ d i. absurd (subst (In d) (placed_still R r x item name.serial kinds ∙ empty) i),
     )
 
 module _ {D : Type 0} (device : Disk D) (old new : DbValue D) (pass pass' : Pass) (held : List Sheet) (step : Step)
@@ -246,8 +247,8 @@ module _ {D : Type 0} (device : Disk D) (old new : DbValue D) (pass pass' : Pass
       → HasChanged device new pass' x (only_deleted name)
   marked_then x name page is lt made changed =
       after_step device old new pass pass' held step w was of x
-      (λ (S : Log) (P : Pages). (fate S x ≡ Running) × IsCommitOf S x no_changes)
-      (λ (S : Log) (P : Pages). (fate S x ≡ Running) × IsCommitOf S x (only_deleted name)) is
+      (λ (S : Log) (P : Pages). (fate S x ≡ Running) × IsCommitOf S x no_changes × AreIndexed S P x)
+      (λ (S : Log) (P : Pages). (fate S x ≡ Running) × IsCommitOf S x (only_deleted name) × AreIndexed S P x) is
       (λ S P had. had.0) (mark_commit x name step page lt made held (state_then old).next_serial) changed
 
 -- ── what is told of it ──

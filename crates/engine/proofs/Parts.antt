@@ -6,6 +6,7 @@ use Rattle.std.specs.Prelude.{Option, Some}
 use Rattle.disk_trait.specs.declared.device.Disk.{Ghosts as Disk}
 use Rattle.page_types.specs.Numbers.{most_slots}
 use Rattle.page_types.specs.Pages.{IsPage}
+use Rattle.page_types.specs.Records.{kind_number}
 use Rattle.page_types.specs.Views.{slots_in, slots_of, slot_at, part_in}
 use Rattle.page_types.specs.declared.page.Page.{Page}
 use Rattle.page_types.specs.declared.page.Head.{Head}
@@ -16,7 +17,7 @@ use Rattle.page_types.specs.declared.page.Body.TheVariants as body
 use Rattle.page_types.specs.declared.record.Record.{Record}
 use Rattle.page_types.specs.declared.record.Kind.{Kind}
 use Rattle.page_types.specs.declared.record.Kind.TheVariants as kind
-use Rattle.core_state.specs.Log.{Log, Pages, In, fate}
+use Rattle.core_state.specs.Log.{Log, Pages, In}
 use Rattle.core_state.specs.Allowed.{Sheet, Step, MayLog, Owes, made_by, drawn_body}
 use Rattle.core_state.specs.Bullets.PagePlace.{meta, overflow_of}
 use Rattle.core_state.specs.Changes.{PutsSlot}
@@ -25,7 +26,6 @@ use Rattle.core_state.specs.Documents.{placed_with, placed, marked_with, marked,
 use Rattle.core_state.specs.PagesTold.{PagesTold}
 use Rattle.core_state.specs.Steady.{KeepsHead}
 use Rattle.core_state.specs.Steps.{RunsOwn, IsNewSheet, sheet}
-use Rattle.core_state.specs.declared.answers.Fate.TheVariants.{Unused, Running}
 use Rattle.core_state.proofs.Histories.{head_one}
 use Rattle.core_state.proofs.LawsHold.{pages}
 use Rattle.core_state.proofs.Steps.Seen.{held_page, own_holds}
@@ -40,6 +40,7 @@ use Rattle.engine.specs.Inner.Parts.{IsPlacedSoFar, HasPlaced}
 use Rattle.engine.specs.Inner.Changing.{doc_of, part_page, IsPartStep, IsNextPart, ChangesDocument, MayLogStep}
 use Rattle.engine.proofs.Carrying.{parts_stay}
 use Rattle.engine.proofs.Marking.{page_is, slot_is}
+use Rattle.engine.proofs.RowsKept.{no_row_after, some_log}
 use Rattle.engine.proofs.StepSeen.{GrowsBy, owes_of, own_here, own_begun, runs_still}
 
 some_one : (a b : Head) (o : Option Head) → o ≡ Some a → o ≡ Some b → a ≡ b
@@ -202,9 +203,6 @@ not_new : (P : Pages) (since p : ℕ) (c : Page) → IsNewSheet P since p c → 
 not_new P since p c (IsNewSheet.unused free low) a b = a free
 not_new P since p c (IsNewSheet.deleted g gone small) a b = b g gone
 
-some_log : (R : Log) (x : ℕ) → fate R x ≡ Running → R ≢ []
-some_log R x runs none = let e : Unused ≡ Running = sym (ap (λ (S : Log). fate S x) none) ∙ runs in cc
-
 module _ (heap fresh : Sheet) (x serial since : ℕ) (name : Name) (bytes behind part : List ℕ) (names : List Name)
     (new : Page) (next_page : ℕ) (h : Head) (there : head_on heap.content name.slot ≡ Some h)
     (changes : ChangesSlot heap.content name.slot (Some (record h { overflow = fresh.page })) new)
@@ -323,6 +321,10 @@ module _ (heap fresh : Sheet) (x serial since : ℕ) (name : Name) (bytes behind
           let z : ⊥ = omega (arith, size, length-append part behind, some_length part next.some) in z);
       front = next.front;
       ends = next.order;
+      no_rows = ap (λ (k : Head). k.private) same ∙ p.no_rows;
+      no_row = no_row_after R r P' Q some g.legal_now g.shown_then g.shown_now item
+          (let number : kind_number r.kind ≡ 7 = ap kind_number kinds in omega (arith, number))
+          ((g.runs_on).no_row d (subst (In d) (sym p.placed_one) (inl refl)) p.no_row);
     },
     ap (map name_of) (ap (λ (k : Kind). marked_with k r.xid x (marked R x)) kinds ∙ g.marked_same) ∙ marks,
   )

@@ -41,12 +41,13 @@ use Rattle.engine.specs.Going.{Goes}
 use Rattle.engine.specs.Places.{head_for, NoHeapPageHasRoom}
 use Rattle.engine.specs.Work.{IsPlaceOf}
 use Rattle.engine.specs.Inner.Choosing.{CannotChoose}
-use Rattle.engine.specs.Inner.Parts.{Runs, IsPlacedSoFar, HasChanged, HasPlaced}
+use Rattle.engine.specs.Inner.Parts.{Runs, IsPlacedSoFar, AreIndexed, HasChanged, HasPlaced}
 use Rattle.engine.specs.Inner.Changing.{MayLogStep, LogsStep, CannotLog, CannotPlace, place_of}
 use Rattle.engine.specs.declared.error.DbError.{DbError}
 use Rattle.engine.specs.declared.error.DbError.TheVariants.{StoreFull, LogFull, Down, DiskFault, BadPage, OutOfMemory}
 use Rattle.engine.proofs.Growing.{stays_for}
 use Rattle.engine.proofs.Lawful.{tried_is_heap, taken_is_new}
+use Rattle.engine.proofs.RowsKept.{no_row_placed, some_log}
 use Rattle.engine.proofs.StepSeen.{GrowsBy, after_step, owes_of, own_here, own_begun, runs_still}
 
 page_at : (page slot : ℕ) → slot < most_slots → page_of (item_at page slot) ≡ page
@@ -112,7 +113,7 @@ place_done : (held : Sheet) (x serial slot : ℕ) (bytes : List ℕ) (new : Page
     → IsPlaced held.content (head_for x bytes) new slot → c.inserted ≡ []
     → (S R : Log) (P P' Q : Pages) (r : Record)
     → GrowsBy (held ∷ []) (place_of x held.page slot new) x serial S P R P' r Q
-    → (fate S x ≡ Running) × IsCommitOf S x c
+    → (fate S x ≡ Running) × IsCommitOf S x c × AreIndexed S P x
     → IsPlacedSoFar (r ∷ R) Q x (doc_at (item_at held.page slot) serial) bytes []
     × (map name_of (marked (r ∷ R) x) ≡ c.deleted)
 place_done held x serial slot bytes new c on none S R P P' Q r g had =
@@ -150,6 +151,9 @@ place_done held x serial slot bytes new c on none S R P P' Q r g had =
         none = λ e. refl;
         front = bytes;
         ends = sym (append-nil bytes);
+        no_rows = refl;
+        no_row = no_row_placed R r P' Q (some_log R x (g.runs_on).runs) g.legal_now g.shown_then g.shown_now item
+            serial kinds;
       },
       ap (map name_of) (ap (λ (k : Kind). marked_with k r.xid x (marked R x)) kinds ∙ g.marked_same)
           ∙ sym (had.1).deleted,
@@ -167,7 +171,7 @@ module _ {D : Type 0} (device : Disk D) (old new : DbValue D) (pass pass' : Pass
       let serial = (state_then old).next_serial in
       let d = doc_at (item_at held.page slot) serial in
       after_step device old new pass pass' (held ∷ []) (place_of x held.page slot page) w was of x
-      (λ (S : Log) (P : Pages). (fate S x ≡ Running) × IsCommitOf S x c)
+      (λ (S : Log) (P : Pages). (fate S x ≡ Running) × IsCommitOf S x c × AreIndexed S P x)
       (λ (S : Log) (P : Pages). IsPlacedSoFar S P x d bytes [] × (map name_of (marked S x) ≡ c.deleted)) is
       (λ S P had. had.0) (place_done held x serial slot bytes page c on none) changed
 

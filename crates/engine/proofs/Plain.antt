@@ -1,21 +1,17 @@
 -- A pass that holds no page may log a record that leaves none: it begins a transaction, or ends its own.
-use Rattle.std.proofs.Common.{◌≡◌, ◌≢◌, ◌⊎◌, inl, inr, ◌<◌, ◌≤◌, ◌-◌, ℕ, suc, List, [], ◌∷◌, length, refl, sym, ap}
+use Rattle.std.proofs.Common.{◌≡◌, ◌≢◌, ◌⊎◌, inl, inr, ◌<◌, ◌≤◌, ◌-◌, ℕ, suc, [], length, refl, sym, ap}
 use Rattle.std.proofs.Common.{subst, ◌∙◌, arith}
 use Rattle.std.proofs.Common.{length-drop}
 use Rattle.std.specs.Prelude.{◌↔◌, Option, Some, None, Result, Err}
-use Rattle.ts_base.specs.Vectors.{Vector}
 use Rattle.disk_trait.specs.declared.device.Disk.{Ghosts as Disk}
 use Rattle.wal.specs.Waiting.{limit_of, length_with}
 use Rattle.page_types.specs.declared.record.Kind.{Kind}
 use Rattle.page_types.specs.declared.record.Kind.TheVariants as kind
-use Rattle.core_state.specs.Log.{Log, Pages, In, cut, fate}
-use Rattle.core_state.specs.Documents.{Doc, HasVector, placed}
-use Rattle.core_state.specs.History.{Document, AreInserts}
+use Rattle.core_state.specs.Log.{Log, In, cut, fate}
 use Rattle.core_state.specs.Allowed.{MayLog, Owes, Step}
 use Rattle.core_state.specs.Steady.{IsMaintenance}
 use Rattle.core_state.specs.Steps.{RunsOwn}
 use Rattle.core_state.specs.declared.answers.Fate.TheVariants.{Running}
-use Rattle.core_state.proofs.Showing.{shown_one}
 use Rattle.core_state.proofs.Steps.Transactions.{begin_may, commit_may, abort_may}
 use Rattle.buffer_frames.specs.Drawing.{HasEncoding}
 use Rattle.buffer_frames.specs.Opens.{IsEarlyKind}
@@ -33,15 +29,6 @@ use Rattle.engine.specs.Db.{DbValue, state_of, state_then, fault_of, IsUp}
 use Rattle.engine.specs.Inner.Plain.{plain_step, plain_record, CannotLog, MayBePlain}
 use Rattle.engine.specs.Inner.Refusals.{log_refusal}
 use Rattle.engine.specs.Work.{IsBeginOf, IsCommitOf, IsAbortOf}
-
--- a document that was placed is whole
-whole_one : (P : Pages) (ds : List Doc) (is : List Document) → AreInserts P ds is → (d : Doc) → In d ds
-    → (w : Vector) × HasVector P d w
-whole_one P [] is are d i = absurd i
-whole_one P (e ∷ ds) [] are d i = absurd are
-whole_one P (e ∷ ds) (j ∷ is) are d (inl same) =
-    (j.vector, subst (λ (c : Doc). HasVector P c j.vector) (sym same) (are.1.0, are.1.1, are.1.2))
-whole_one P (e ∷ ds) (j ∷ is) are d (inr i) = whole_one P ds is are.2 d i
 
 -- a log that a pass has seen isn't empty
 seen_some : (n : ℕ) (R : Log) → 0 < n → n ≤ length R → cut n R ≢ []
@@ -129,9 +116,7 @@ module _ {D : Type 0} (device : Disk D) (s : DbValue D) (pass : Pass) (x : ℕ) 
         kind_is = refl;
         after_is = refl;
         own = own_runs R may.0 had.0;
-        whole = whole_one P (placed (cut pass.seen R) x) may.2.0.inserted
-            (subst (λ (Q : Pages). AreInserts Q (placed (cut pass.seen R) x) may.2.0.inserted)
-            (shown_one (cut pass.seen R) had.1.pages P had.1.shown shown) had.1.inserted);
+        indexed = had.2;
       })
   plain_may kind.Abort may t up R stands legal =
       abort_may (view_of s.frames pass R []) (plain_step kind.Abort x) (λ P seen shown.

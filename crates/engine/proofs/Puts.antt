@@ -1,6 +1,6 @@
 -- A document is put: its records, and the commit that it is part of then.
 use Rattle.std.proofs.Common.{◌≡◌, ◌<◌, ◌≤◌, ◌+◌, ℕ, zero, suc, List, [], ◌∷◌, ◌++◌, length, map}
-use Rattle.std.proofs.Common.{refl, sym, ap, subst, ◌∙◌, arith}
+use Rattle.std.proofs.Common.{refl, sym, ap, subst, ◌∙◌, inl, inr, arith}
 use Rattle.std.specs.Prelude.{Bool, if◌then◌else◌}
 use Rattle.std.proofs.lemmas.Bool.{le-leb}
 use Rattle.disk_trait.specs.declared.device.Disk.{Ghosts as Disk}
@@ -11,8 +11,10 @@ use Rattle.page_types.specs.Views.{free_page}
 use Rattle.page_types.specs.declared.page.Name.{Name}
 use Rattle.page_types.specs.declared.record.Record.{Record}
 use Rattle.page_types.specs.declared.record.Kind.TheVariants as kind
-use Rattle.core_state.specs.Log.{Log, Pages, Shows, cut, fate}
-use Rattle.core_state.specs.Documents.{Doc, HasBytes, IsWhole, doc_at, name_of, placed, marked}
+use Rattle.core_state.specs.Log.{Log, Pages, In, Shows, cut, fate}
+use Rattle.core_state.specs.Documents.{Doc, HasBytes, HasVector, IsWhole, name_of, placed, marked}
+use Rattle.core_state.specs.Index.{IsIndexed}
+use Rattle.core_state.specs.PagesTold.{IsLastOf}
 use Rattle.core_state.specs.History.{Commit, Document, AreInserts, IsCommitOf}
 use Rattle.core_state.specs.Steps.{sheet}
 use Rattle.core_state.specs.declared.answers.Fate.TheVariants.{Running}
@@ -22,7 +24,7 @@ use Rattle.engine.specs.Db.{DbValue}
 use Rattle.engine.specs.Finding.{document}
 use Rattle.engine.specs.Places.{bytes_in_head}
 use Rattle.engine.specs.Work.{IsPlaceOf, IsPartOf, AreParts, ArePut, parts_for}
-use Rattle.engine.specs.Inner.Parts.{IsPlacedSoFar, HasPlaced, HasChanged, with_inserted}
+use Rattle.engine.specs.Inner.Parts.{IsPlacedSoFar, IsRowedSoFar, AreIndexed, HasPlaced, HasRows, with_inserted}
 
 -- ── records that might come ──
 
@@ -51,12 +53,11 @@ some_parts x d (suc n) =
     (r.0 ∷ rs.0, (r.1, (n, omega arith, rs.1)))
 
 -- a document's records, none of which is logged
-pub some_put : (x : ℕ) (bytes : List ℕ) → (rs : List Record) × ArePut bytes x rs
-some_put x bytes =
-    let d = doc_at 0 0 in
+pub some_put : (x : ℕ) (bytes : List ℕ) (d : Doc) → (rs : List Record) × ArePut bytes x d rs
+some_put x bytes d =
     let r = some_place x d in
     let rs = some_parts x d (parts_for (length bytes)) in
-    (r.0 ∷ rs.0, (d, r.1, rs.1))
+    (r.0 ∷ rs.0, (r.1, rs.1))
 
 -- parts and more parts
 pub parts_more : (d : Doc) (x n m : ℕ) (rs qs : List Record) → AreParts d x n rs → AreParts d x m qs
@@ -70,9 +71,9 @@ parts_more d x n m (r ∷ rs) qs one are = (
 -- a document that is placed, with its first parts, and those that come
 pub put_so_far : (x : ℕ) (bytes : List ℕ) (d : Doc) (n m : ℕ) (r : Record) (rs qs : List Record)
     → n + m ≡ parts_for (length bytes) → IsPlaceOf x d r → AreParts d x n rs → AreParts d x m qs
-    → ArePut bytes x ((r ∷ rs) ++ qs)
+    → ArePut bytes x d ((r ∷ rs) ++ qs)
 put_so_far x bytes d n m r rs qs all place first rest =
-    (d, place, subst (λ (k : ℕ). AreParts d x k (rs ++ qs)) all (parts_more d x n m rs qs first rest))
+    (place, subst (λ (k : ℕ). AreParts d x k (rs ++ qs)) all (parts_more d x n m rs qs first rest))
 
 -- ── a document that is whole ──
 
@@ -102,27 +103,49 @@ whole_here S P x d bytes behind v p (AllThere.long lt all) is = record {
   encodes = is;
 }
 
--- so the transaction inserts it
-pub inserts_it : (S : Log) (P : Pages) (x : ℕ) (d : Doc) (n : Name) (bytes behind : List ℕ) (v : Vector) (c : Commit)
-    → Shows S P → n ≡ name_of d → AllThere bytes behind → IsEncoding bytes v → c.inserted ≡ []
-    → IsPlacedSoFar S P x d bytes behind × (map name_of (marked S x) ≡ c.deleted)
-    → (fate S x ≡ Running) × IsCommitOf S x (with_inserted (document n v) c)
-inserts_it S P x d n bytes behind v c shown named all is none had = (
-  (had.0).runs,
+-- so its rows may be put
+whole_so_far : (S : Log) (P : Pages) (x : ℕ) (d : Doc) (bytes behind : List ℕ) (v : Vector) → AllThere bytes behind
+    → IsEncoding bytes v → IsPlacedSoFar S P x d bytes behind → IsRowedSoFar S P x d v [] 0
+whole_so_far S P x d bytes behind v all is p = record {
+  runs = p.runs;
+  placed_one = p.placed_one;
+  head = p.head;
+  has = p.has;
+  by = p.by;
+  whole = whole_here S P x d bytes behind v p all is;
+  no_row = p.no_row;
+  chain = [];
+  is_chain = p.no_rows;
+  rows = refl;
+  many = refl;
+  ends = IsLastOf.none;
+}
+
+-- where it is indexed the transaction inserts it
+pub inserts_it : (S : Log) (P : Pages) (x : ℕ) (d : Doc) (n : Name) (v : Vector) (c : Commit) → Shows S P
+    → n ≡ name_of d → c.inserted ≡ [] → fate S x ≡ Running → placed S x ≡ d ∷ []
+    → map name_of (marked S x) ≡ c.deleted → HasVector P d v → IsIndexed P d
+    → (fate S x ≡ Running) × IsCommitOf S x (with_inserted (document n v) c) × AreIndexed S P x
+inserts_it S P x d n v c shown named none runs one names has indexed = (
+  runs,
   record {
     pages = P;
     shown = shown;
-    deleted = sym had.1;
+    deleted = sym names;
     inserted = subst (λ (l : List Document). AreInserts P (placed S x) (l ++ document n v ∷ [])) (sym none)
-        (subst (λ (ds : List Doc). AreInserts P ds (document n v ∷ [])) (sym (had.0).placed_one)
-        (named, ((had.0).head, (had.0).has, whole_here S P x d bytes behind v had.0 all is), tt));
+        (subst (λ (ds : List Doc). AreInserts P ds (document n v ∷ [])) (sym one) (named, has, tt));
   },
+  λ e i. alone e (subst (In e) one i),
 )
+  where
+    alone : (e : Doc) → In e (d ∷ []) → IsIndexed P e
+    alone e (inl same) = subst (IsIndexed P) (sym same) indexed
+    alone e (inr z) = absurd z
 
-module _ {D : Type 0} (device : Disk D) (s : DbValue D) (pass : Pass) (x : ℕ) (d : Doc) (n : Name)
-    (bytes behind : List ℕ) (v : Vector) (c : Commit) where
-  pub put_done : n ≡ name_of d → AllThere bytes behind → IsEncoding bytes v → c.inserted ≡ []
-      → HasPlaced device s pass x d bytes behind c.deleted
-      → HasChanged device s pass x (with_inserted (document n v) c)
-  put_done named all is none placed t up R stands legal P shown =
-      inserts_it (cut pass.seen R) P x d n bytes behind v c shown named all is none (placed t up R stands legal P shown)
+module _ {D : Type 0} (device : Disk D) (s : DbValue D) (pass : Pass) (x : ℕ) (d : Doc)
+    (bytes behind : List ℕ) (v : Vector) (names : List Name) where
+  pub put_done : AllThere bytes behind → IsEncoding bytes v → HasPlaced device s pass x d bytes behind names
+      → HasRows device s pass x d v [] 0 names
+  put_done all is placed t up R stands legal P shown =
+      let had = placed t up R stands legal P shown in
+      (whole_so_far (cut pass.seen R) P x d bytes behind v all is had.0, had.1)

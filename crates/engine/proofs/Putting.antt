@@ -10,7 +10,7 @@ use Rattle.disk_trait.specs.declared.device.Disk.{Ghosts as Disk}
 use Rattle.ts_base.specs.Vectors.{Vector, Entry, IsEntry, content_size}
 use Rattle.ts_base.specs.Encoding.{IsEncoding, entry_size}
 use Rattle.ts_base.proofs.Encoding.{encoding_has_size}
-use Rattle.page_types.specs.Numbers.{most_short, most_body, most_slots}
+use Rattle.page_types.specs.Numbers.{most_short, most_body, most_slots, page_limit}
 use Rattle.page_types.specs.declared.page.Name.{Name}
 use Rattle.page_types.specs.declared.record.Record.{Record}
 use Rattle.page_types.specs.declared.record.Kind.{Kind}
@@ -22,11 +22,10 @@ use Rattle.buffer_frames.specs.declared.pass.Pass.{Pass}
 use Rattle.engine.specs.Answers.{MeetsNoBadPage}
 use Rattle.engine.specs.Db.{DbValue, state_of}
 use Rattle.engine.specs.Causes.{IsStoreFull, HasNoRoomFor, IsHeap, IsNone, HasHeadIn, IsBadPage}
-use Rattle.engine.specs.Finding.{document}
 use Rattle.engine.specs.Going.{Goes, MetNoFault}
 use Rattle.engine.specs.Work.{IsPlaceOf, IsPartOf, AreParts, ArePut, parts_for}
-use Rattle.engine.specs.Inner.Parts.{IsRunning, KeepsWork, HasChanged, HasPlaced, Puts, NeedsPageFor, CannotPut}
-use Rattle.engine.specs.Inner.Parts.{with_inserted}
+use Rattle.engine.specs.Inner.Parts.{IsRunning, KeepsWork, HasChanged, HasPlaced, HasRows, Puts, NeedsPageFor}
+use Rattle.engine.specs.Inner.Parts.{CannotPut}
 use Rattle.engine.specs.Inner.Changing.{doc_of, IsNextPart, IsNoNewPage, CannotPlace, CannotPutPart}
 use Rattle.engine.specs.declared.transaction.Transaction.{Transaction}
 use Rattle.engine.specs.declared.error.DbError.{DbError}
@@ -34,7 +33,7 @@ use Rattle.engine.specs.declared.error.DbError.TheVariants as store
 use Rattle.engine.proofs.Carrying.{keeps_on}
 use Rattle.engine.proofs.LawfulBefore.{no_bad_before}
 use Rattle.engine.proofs.Logs.{NotCommit, AreNoCommits}
-use Rattle.engine.proofs.Marking.{page_is, slot_is, named}
+use Rattle.engine.proofs.Marking.{page_is, slot_is}
 use Rattle.engine.proofs.Paths.{goes_on, goes_still, none_in_turn}
 use Rattle.engine.proofs.Puts.{some_place, some_part, some_parts, some_put, parts_more, put_so_far, AllThere, put_done}
 use Rattle.engine.proofs.Works.{parts_plain}
@@ -131,6 +130,7 @@ module _ {D : Type 0} (device : Disk D) where
     pub running : IsRunning device new pass' t
     pub keeps : KeepsWork pass pass'
     pub met : MetNoFault device old new
+    pub low : name.page < page_limit
     pub slot : name.slot < most_slots
     pub place : Record
     pub is_place : IsPlaceOf t.xid (doc_of name) place
@@ -144,16 +144,18 @@ module _ {D : Type 0} (device : Disk D) where
 
   -- none is put yet
   pub puts_begin : (old new : DbValue D) (pass pass' : Pass) (t : Transaction) (bytes : List ℕ) (name : Name)
-      → IsRunning device new pass' t → KeepsWork pass pass' → MetNoFault device old new → name.slot < most_slots
+      → IsRunning device new pass' t → KeepsWork pass pass' → MetNoFault device old new
+      → (name.page < page_limit) × (name.slot < most_slots)
       → (r : Record) × IsPlaceOf t.xid (doc_of name) r × Goes device old new (r ∷ [])
       → ((c : Commit) → c.inserted ≡ [] → HasChanged device old pass t.xid c
       → HasPlaced device new pass' t.xid (doc_of name) bytes [] c.deleted)
       → PutsSoFar old pass t bytes name 0 new pass'
-  puts_begin old new pass pass' t bytes name running keeps met slot goes placed = record {
+  puts_begin old new pass pass' t bytes name running keeps met at goes placed = record {
     running = running;
     keeps = keeps;
     met = met;
-    slot = slot;
+    low = at.0;
+    slot = at.1;
     place = goes.0;
     is_place = goes.1;
     puts = [];
@@ -218,6 +220,7 @@ module _ {D : Type 0} (device : Disk D) where
       running = running;
       keeps = keeps_on pass q r s.keeps keeps;
       met = none_in_turn device s.met met;
+      low = s.low;
       slot = s.slot;
       place = s.place;
       is_place = s.is_place;
@@ -241,31 +244,32 @@ module _ {D : Type 0} (device : Disk D) where
     -- ── all are put ──
 
     pub puts_all : done ≡ parts_for (length bytes)
-        → (rs : List Record) × ArePut bytes t.xid rs × Goes device old mid rs
+        → (rs : List Record) × ArePut bytes t.xid (doc_of name) rs × Goes device old mid rs
     puts_all all = (
       s.place ∷ s.puts,
-      (doc_of name, s.is_place, subst (λ (n : ℕ). AreParts (doc_of name) t.xid n s.puts) all s.are_parts),
+      (s.is_place, subst (λ (n : ℕ). AreParts (doc_of name) t.xid n s.puts) all s.are_parts),
       s.goes,
     )
 
     pub puts_it : done ≡ parts_for (length bytes) → (v : Vector) (c : Commit) → IsEncoding bytes v → c.inserted ≡ []
-        → HasChanged device old pass t.xid c → HasChanged device mid q t.xid (with_inserted (document name v) c)
+        → HasChanged device old pass t.xid c → HasRows device mid q t.xid (doc_of name) v [] 0 c.deleted
     puts_it all v c is none had =
         let none_left : parts_for (length bytes) - done ≡ 0 = omega (arith, all) in
-        put_done device mid q t.xid (doc_of name) name bytes s.behind v c (sym (named name s.slot))
+        put_done device mid q t.xid (doc_of name) bytes s.behind v c.deleted
         (all_in bytes s.behind
         (λ long. s.is_behind long ∙ ap (λ (m : ℕ). drop (m * most_body) bytes) none_left)
         (leb_tells (length bytes) most_short))
-        is none (s.placed c none had)
+        is (s.placed c none had)
 
     -- ── one is refused ──
 
     pub puts_some : (new : DbValue D) → done < parts_for (length bytes) → Goes device mid new []
-        → (logged rest : List Record) × ArePut bytes t.xid (logged ++ rest) × Goes device old new logged
+        → (d : Doc) × (logged rest : List Record) × ArePut bytes t.xid d (logged ++ rest) × Goes device old new logged
     puts_some new lt goes =
         let n = parts_for (length bytes) in
         let rest = some_parts t.xid (doc_of name) (n - done) in
         let sum : done + (n - done) ≡ n = omega (arith, lt) in (
+          doc_of name,
           s.place ∷ s.puts,
           rest.0,
           put_so_far t.xid bytes (doc_of name) done (n - done) s.place s.puts rest.0 sum s.is_place s.are_parts rest.1,
@@ -283,6 +287,7 @@ module _ {D : Type 0} (device : Disk D) where
         let sum : done + (m + 1) ≡ n = omega (arith, lt) in
         record {
           store = z;
+          doc = doc_of name;
           done = s.place ∷ s.puts;
           next = r;
           rest = rest.0;
@@ -344,8 +349,11 @@ module _ {D : Type 0} (device : Disk D) where
   -- ── the head is refused ──
 
   pub puts_none : (old new : DbValue D) (x : ℕ) (bytes : List ℕ) → Goes device old new []
-      → (logged rest : List Record) × ArePut bytes x (logged ++ rest) × Goes device old new logged
-  puts_none old new x bytes goes = let rest = some_put x bytes in ([], rest.0, rest.1, goes)
+      → (d : Doc) × (logged rest : List Record) × ArePut bytes x d (logged ++ rest) × Goes device old new logged
+  puts_none old new x bytes goes =
+      let d : Doc = doc_at 0 0 in
+      let rest = some_put x bytes d in
+      (d, [], rest.0, rest.1, goes)
 
   unplaced : (old : DbValue D) (x : ℕ) (bytes : List ℕ) (Why : DbValue D → List Record → Record → Type 0)
       (z : DbValue D) (d : Doc) (r : Record) → IsPlaceOf x d r → Goes device old z [] → Why z [] r
@@ -354,10 +362,11 @@ module _ {D : Type 0} (device : Disk D) where
       let rest = some_parts x d (parts_for (length bytes)) in
       record {
         store = z;
+        doc = d;
         done = [];
         next = r;
         rest = rest.0;
-        are_put = (d, is, rest.1);
+        are_put = (is, rest.1);
         goes = goes;
         why = why;
       }

@@ -1,10 +1,9 @@
 -- What calls that only read answer, from their parts: a snapshot is taken into use, read, and given up.
-use Rattle.std.proofs.Common.{◌≡◌, inl, inr, ℕ, [], refl, sym, ap, subst, subst₂, ◌∙◌, arith}
+use Rattle.std.proofs.Common.{◌≡◌, ◌≤◌, ℕ, [], refl, sym, ap, subst, ◌∙◌, arith}
 use Rattle.std.specs.Prelude.{IfSome, Option, None, Result, Ok, Err, IfOk, IfErr, Vec, take}
 use Rattle.std.specs.declared.alloc.Global.{Global}
 use Rattle.disk_trait.specs.declared.device.Disk.{Ghosts as Disk}
 use Rattle.ts_base.specs.Vectors.{Vector}
-use Rattle.core_state.specs.States.{StateValue}
 use Rattle.buffer_frames.specs.Frames.{FramesValue}
 use Rattle.buffer_frames.specs.Journals.{JournalValue}
 use Rattle.buffer_frames.specs.Passes.{IsPassOf, PassRises, HasPinned}
@@ -12,11 +11,10 @@ use Rattle.buffer_frames.specs.declared.pass.Pass.{Pass}
 use Rattle.buffer_frames.specs.declared.pass.Pinned.{Pinned}
 use Rattle.engine.specs.Finding.{Name, docs, IsFound, AreCommitNames}
 use Rattle.engine.specs.Going.{Goes, stays, MetNoFault, FaultIsTold}
-use Rattle.engine.specs.Causes.{IsDown, IsListed, IsListedIn, IsBadPage}
+use Rattle.engine.specs.Causes.{IsDown}
 use Rattle.engine.specs.Answers.{IsSession, TakesSnapshot, OnlyReads, HasFound, HasListed}
-use Rattle.engine.specs.Db.{DbValue, state_of, flushed_of, IsUp}
-use Rattle.engine.specs.Inner.Parts.{KeepsWork}
-use Rattle.engine.specs.Inner.Finds.{IsReading, FindsAll, ListsAll, IsBadRead, CannotFind}
+use Rattle.engine.specs.Db.{DbValue, flushed_of, IsUp}
+use Rattle.engine.specs.Inner.Finds.{IsReading, FindsAll, ListsAll, CannotFind, CannotList}
 use Rattle.engine.specs.declared.commit_names.CommitNames.{CommitNames}
 use Rattle.engine.specs.declared.error.DbError.{DbError}
 use Rattle.engine.specs.declared.error.DbError.TheVariants.{NoDocument, Conflict, StoreFull, LogFull, XidsSpent, Down}
@@ -28,25 +26,25 @@ use Rattle.engine.proofs.Growing.{stays_for, grows_by_none}
 
 -- a session that has taken a snapshot into use, read, and given it up
 pub session_after : {D : Type 0} (old new : DbValue D) (p q r u : Pass) → IsSession old p → (q.xid ≡ p.xid)
-    → KeepsWork q r → r.held ≡ 0 → u.held ≡ r.held → u.xid ≡ r.xid → u.pin ≡ None → IsPassOf new.frames u
+    → r.xid ≡ q.xid → r.held ≡ 0 → u.held ≡ r.held → u.xid ≡ r.xid → u.pin ≡ None → IsPassOf new.frames u
     → IsSession new u
 session_after old new p q r u session xid keeps none held same pin of = record {
   is_pass = of;
-  idle = (pin, held ∙ none, same ∙ keeps.xid ∙ xid ∙ session.idle.2);
+  idle = (pin, held ∙ none, same ∙ keeps ∙ xid ∙ session.idle.2);
 }
 
 pub snapshot_after : {D : Type 0} (old m new : DbValue D) (f : FramesValue D) (p q r u : Pass) (n : ℕ)
     → IsSession old p → m.frames.journal ≡ old.frames.journal → HasPinned f m.frames q n → PassRises p q
-    → q.room ≡ p.room → KeepsWork q r → PassRises r u → u.room ≡ r.room → IsPassOf new.frames u
+    → q.room ≡ p.room → r.room ≡ q.room → q.shown ≤ r.shown → PassRises r u → u.room ≡ r.room → IsPassOf new.frames u
     → TakesSnapshot old new p u
-snapshot_after {D} old m new f p q r u n session same pinned rises room keeps last room' of =
+snapshot_after {D} old m new f p q r u n session same pinned rises room kept shown last room' of =
     let all : n ≡ flushed_of old =
     pinned.commits ∙ ap (λ (j : JournalValue D). j.flushed) same in
     record {
       before = session.is_pass.shown;
-      then = (omega (arith, rises.shown, keeps.shown, last.shown), of.shown);
-      up = λ up. omega (arith, all, pinned.shown, keeps.shown, last.shown);
-      room = room' ∙ keeps.room ∙ room;
+      then = (omega (arith, rises.shown, shown, last.shown), of.shown);
+      up = λ up. omega (arith, all, pinned.shown, shown, last.shown);
+      room = room' ∙ kept ∙ room;
     }
 
 -- it logs nothing
@@ -88,11 +86,6 @@ rests {D} device old new p q f session down same still =
       same = refl;
     }))
 
-bad_read : {D : Type 0} (t : DbValue D) (Reads : Name → Type 0) (p : ℕ) → IsBadRead t Reads p
-    → IsBadPage t Reads [] p
-bad_read t Reads p (inl b) = IsBadPage.heap (inr (b.0, b.1, b.2)) b.3
-bad_read t Reads p (inr b) = IsBadPage.part b.0 b.1
-
 module _ {D : Type 0} (device : Disk D) (old m s new : DbValue D) (begins : Goes device old m [])
     (reads : Goes device m s []) (ends : Goes device s new []) where
   pub read_path : Goes device old new []
@@ -105,13 +98,8 @@ module _ {D : Type 0} (device : Disk D) (old m s new : DbValue D) (begins : Goes
         (told_in_turn device old m s r (time_of device begins) (kept_fault device old m same) told) kept
 
     module _ (n : ℕ) (up : IsUp old) (all : n ≡ flushed_of old) where
-      bad : (p : ℕ) (t : DbValue D) → IsBadRead t (IsListedIn (state_of m) n) p → IsBadPage t (IsListed old) [] p
-      bad p t b = bad_read t (IsListed old) p
-          (subst₂ (λ (st : StateValue) (k : ℕ). IsBadRead t (IsListedIn st k) p)
-          (ap (λ (j : JournalValue D). j.state) same) all b)
-
       pub found : (P : Vector → Type 0) (r : Result (Vec Name Global) DbError)
-          → IfOk r (λ names. FindsAll device m n P names.items) → IfErr r (λ e. CannotFind device m n e)
+          → IfOk r (λ names. FindsAll device m n P names.items) → IfErr r (λ e. CannotFind device m e)
           → FaultIsTold device old new r → HasFound device old new P r
       found P (Ok names) finds why told = (
         up,
@@ -120,7 +108,7 @@ module _ {D : Type 0} (device : Disk D) (old m s new : DbValue D) (begins : Goes
             (finds tells first H (stays_for device tells begins tt first H f)),
       )
       found P (Err DiskFault) finds why told = told
-      found P (Err (BadPage p)) finds why told = (up, (why.0, goes_on device begins why.1, bad p why.0 why.2.1))
+      found P (Err (BadPage p)) finds why told = (up, (why.0, goes_on device begins why.1, why.2.1))
       found P (Err OutOfMemory) finds why told = up
       found P (Err NoDocument) finds why told = absurd why
       found P (Err (Conflict y)) finds why told = absurd why
@@ -130,7 +118,7 @@ module _ {D : Type 0} (device : Disk D) (old m s new : DbValue D) (begins : Goes
       found P (Err (Down f)) finds why told = absurd why
 
       pub listed : (r : Result (Vec CommitNames Global) DbError)
-          → IfOk r (λ names. ListsAll device m n names.items) → IfErr r (λ e. CannotFind device m n e)
+          → IfOk r (λ names. ListsAll device m n names.items) → IfErr r (λ e. CannotList e)
           → FaultIsTold device old new r → HasListed device old new r
       listed (Ok names) finds why told = (
         up,
@@ -138,8 +126,8 @@ module _ {D : Type 0} (device : Disk D) (old m s new : DbValue D) (begins : Goes
             subst (λ (k : ℕ). AreCommitNames names.items (take k H)) all
             (finds tells first H (stays_for device tells begins tt first H f)),
       )
-      listed (Err DiskFault) finds why told = told
-      listed (Err (BadPage p)) finds why told = (up, (why.0, goes_on device begins why.1, bad p why.0 why.2.1))
+      listed (Err DiskFault) finds why told = absurd why
+      listed (Err (BadPage p)) finds why told = absurd why
       listed (Err OutOfMemory) finds why told = up
       listed (Err NoDocument) finds why told = absurd why
       listed (Err (Conflict y)) finds why told = absurd why

@@ -8,7 +8,7 @@ use Rattle.disk_trait.specs.declared.device.Disk.{Ghosts as Disk}
 use Rattle.page_types.specs.declared.record.Kind.{Kind}
 use Rattle.page_types.specs.declared.record.Kind.TheVariants as kind
 use Rattle.page_types.specs.declared.record.Record.{Record}
-use Rattle.core_state.specs.Log.{Log, Pages, Shows, cut, fate, fate_with, next_xid}
+use Rattle.core_state.specs.Log.{Log, Pages, In, Shows, cut, fate, fate_with, next_xid}
 use Rattle.core_state.specs.Documents.{Doc, name_of, placed, placed_with, marked, marked_with}
 use Rattle.core_state.specs.History.{AreInserts, IsCommitOf}
 use Rattle.core_state.specs.Legal.{IsLegal}
@@ -31,7 +31,7 @@ use Rattle.engine.specs.Causes.{IsDown, AreXidsSpent, IsListed, IsListedIn}
 use Rattle.engine.specs.Db.{DbValue, state_of, state_then, fault_of, flushed_of, IsUp}
 use Rattle.engine.specs.Finding.{Name}
 use Rattle.engine.specs.Going.{Goes, LogsOne}
-use Rattle.engine.specs.Inner.Parts.{HasChanged, CannotBegin, no_changes}
+use Rattle.engine.specs.Inner.Parts.{HasChanged, AreIndexed, CannotBegin, no_changes}
 use Rattle.engine.specs.Inner.Plain.{plain_step, plain_record, CannotLog, IsThereOf, CannotStart}
 use Rattle.engine.specs.Work.{deleted_by}
 use Rattle.engine.specs.declared.error.DbError.{DbError}
@@ -46,6 +46,7 @@ module _ (log : Log) (x : ℕ) (is : x ≡ next_xid log) (legal : IsLegal log) w
   -- after a record of this kind and xid
   begun_by : (newest : Record) → newest.kind ≡ kind.Begin → newest.xid ≡ x → (P : Pages) → Shows (newest ∷ log) P
       → (fate (newest ∷ log) x ≡ Running) × IsCommitOf (newest ∷ log) x no_changes
+      × AreIndexed (newest ∷ log) P x
   begun_by newest begins own P shown =
       let none = not_drawn log x legal (omega (arith, is)) in
       let same : (newest.xid == x) ≡ true = eq-eqb newest.xid x own in
@@ -61,6 +62,7 @@ module _ (log : Log) (x : ℕ) (is : x ≡ next_xid log) (legal : IsLegal log) w
           deleted = sym (ap (map name_of) marks);
           inserted = subst (λ (ds : List Doc). AreInserts P ds []) (sym places) tt;
         },
+        λ d i. absurd (subst (In d) places i),
       )
 
 module _ {D : Type 0} (device : Disk D) where
@@ -84,7 +86,8 @@ module _ {D : Type 0} (device : Disk D) where
       let newest : at.newest ≡ r = cc in
       let own : at.newest.xid ≡ x = ap (λ (q : Record). q.xid) newest ∙ sym is in
       let next : x ≡ next_xid at.log = sym own ∙ (at.drawn).xid in
-      subst (λ (S : Log). (Q : Pages) → Shows S Q → (fate S x ≡ Running) × IsCommitOf S x no_changes)
+      subst (λ (S : Log). (Q : Pages) → Shows S Q
+      → (fate S x ≡ Running) × IsCommitOf S x no_changes × AreIndexed S Q x)
       (sym at.log_is)
       (begun_by at.log x next (at.allowed).legal at.newest (at.drawn).kind own) P shown
 

@@ -55,6 +55,7 @@ on_by_more false R R' k g = (g.added, g.log_is)
 pub record GrowsBy (held : List Sheet) (step : Step) (x serial : ℕ) (S : Log) (P : Pages) (R : Log) (P' : Pages)
     (r : Record) (Q : Pages) : Type 0 where
   pub legal : IsLegal R
+  pub legal_now : IsLegal (r ∷ R)
   pub here : AreHeld P' held
   pub next : next_serial R ≡ serial
   pub runs_on : RunsOn S R P P' x
@@ -96,6 +97,9 @@ same_fate : (R : Log) (k : Kind) (xid x : ℕ) (f : Fate) → ChangesDocument k 
 same_fate R (kind.PlaceHead item serial) xid x f doc = refl
 same_fate R (kind.PutOverflow item serial) xid x f doc = refl
 same_fate R (kind.MarkDeleted item serial) xid x f doc = refl
+same_fate R (kind.PutPending item serial) xid x f doc = refl
+same_fate R (kind.AddRow item serial) xid x f doc = refl
+same_fate R (kind.LinkPending item serial) xid x f doc = refl
 same_fate R _ xid x f doc = absurd doc
 
 pub runs_still : (R : Log) (step : Step) (r : Record) (x : ℕ) → IsDrawn R step r → ChangesDocument step.kind
@@ -159,6 +163,7 @@ module _ {D : Type 0} (device : Disk D) (old new : DbValue D) (pass pass' : Pass
       let grows : GrowsBy held step x (state_then old).next_serial (cut pass.seen S) P.0 l.log l.allowed.pages l.newest
       Q = record {
         legal = l.allowed.legal;
+        legal_now = subst IsLegal (sym whole ∙ l.log_is) legal;
         here = l.allowed.held;
         next = ap next_serial behind ∙ next_owed old.frames.journal.owes back.0 ∙ sym tells.next_serial
             ∙ sym (draws_alike old.frames.journal.owes (state_of old)).serial;
@@ -193,6 +198,9 @@ no_work : (k : Kind) → ChangesDocument k → IsMaintenance k → ⊥
 no_work (kind.PlaceHead item serial) doc work = omega (arith, work.0)
 no_work (kind.PutOverflow item serial) doc work = omega (arith, work.0)
 no_work (kind.MarkDeleted item serial) doc work = omega (arith, work.0)
+no_work (kind.PutPending item serial) doc work = omega (arith, work.0)
+no_work (kind.AddRow item serial) doc work = omega (arith, work.0)
+no_work (kind.LinkPending item serial) doc work = omega (arith, work.0)
 no_work _ doc work = doc
 
 no_abort : (k : Kind) → ChangesDocument k → k ≢ kind.Abort

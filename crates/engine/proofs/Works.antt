@@ -3,9 +3,10 @@ use Rattle.std.proofs.Common.{◌≡◌, ℕ, zero, suc, ◌+◌, ◌-◌, Bool,
 use Rattle.std.proofs.Common.{◌∷◌, ◌++◌, length, refl, sym, ap, subst, ◌∙◌, append_assoc, arith}
 use Rattle.std.specs.Prelude.{Option, Some, None, if◌then◌else◌}
 use Rattle.std.proofs.lemmas.List.{append-nil}
-use Rattle.std.specs.List.{slice_get}
+use Rattle.std.specs.List.{slice_get, AllByRecursion}
 use Rattle.ts_base.specs.Vectors.{Vector}
 use Rattle.ts_base.specs.Encoding.{vector_bytes}
+use Rattle.ts_base.specs.Keys.{Key, keys_of}
 use Rattle.page_types.specs.Views.{free_page}
 use Rattle.page_types.specs.declared.record.Record.{Record}
 use Rattle.page_types.specs.declared.record.Kind.{Kind}
@@ -20,7 +21,8 @@ use Rattle.core_state.specs.declared.lives.Placed.{Placed}
 use Rattle.buffer_frames.specs.Drawing.{images_of}
 use Rattle.engine.specs.Finding.{Name}
 use Rattle.engine.specs.Work.{Work, IsBeginOf, IsMarkOf, IsPlaceOf, IsPartOf, AreMarks, AreParts}
-use Rattle.engine.specs.Work.{ArePut, ArePlaces, IsWork, IsBegunWork, AreRefused, parts_for}
+use Rattle.engine.specs.Work.{ArePut, ArePlaces, AreIndexing, AreStored, IsRowPageOf, IsRowOf, IsLinkOf, IsWork}
+use Rattle.engine.specs.Work.{IsBegunWork, AreRefused, parts_for}
 use Rattle.engine.specs.Causes.{IsListedIn}
 use Rattle.engine.proofs.Logs.{NotCommit, AreNoCommits, none_of_both}
 
@@ -99,18 +101,37 @@ some_parts x d (suc n) =
       (part, (n, more, rest.1)),
     )
 
-some_put : (x : ℕ) (bytes : List ℕ) → (rs : List Record) × ArePut bytes x rs
+some_put : (x : ℕ) (bytes : List ℕ) (d : Doc) → (rs : List Record) × ArePut bytes x d rs
 unfolding record_with
-some_put x bytes =
-    let d : Doc = doc_at 0 0 in
+some_put x bytes d =
     let rest = some_parts x d (parts_for (length bytes)) in
-    let place : IsPlaceOf x d (record_with x (kind.PlaceHead 0 0) (some_sheet ∷ [])) =
+    let place : IsPlaceOf x d (record_with x (kind.PlaceHead d.item d.serial) (some_sheet ∷ [])) =
     record { xid = refl; kind_is = refl; images = (some_sheet ∷ [], refl, refl) } in
-    (record_with x (kind.PlaceHead 0 0) (some_sheet ∷ []) ∷ rest.0, (d, place, rest.1))
+    (record_with x (kind.PlaceHead d.item d.serial) (some_sheet ∷ []) ∷ rest.0, (place, rest.1))
+
+-- a row of all keys
+pub some_row : (x : ℕ) (d : Doc) → (r : Record) × IsRowOf x d r
+unfolding record_with
+some_row x d = (
+  record_with x (kind.AddRow d.item d.serial) (some_sheet ∷ []),
+  record { xid = refl; kind_is = refl; images = (some_sheet ∷ [], refl, refl) },
+)
+
+pub some_rows : (x : ℕ) (d : Doc) (keys : List Key) → (rs : List Record) × AreIndexing x d keys rs
+some_rows x d keys = let r = some_row x d in (r.0 ∷ [], AreIndexing.row r.0 r.1 refl)
+
+some_stored : (x : ℕ) (bytes : List ℕ) (keys : List Key) → (rs : List Record) × AreStored bytes keys x rs
+some_stored x bytes keys =
+    let d : Doc = doc_at 0 0 in
+    let puts = some_put x bytes d in
+    let rows = some_rows x d keys in (
+      puts.0 ++ rows.0,
+      record { doc = d; puts = puts.0; rows = rows.0; order = refl; are_put = puts.1; are_rows = rows.1 },
+    )
 
 some_places : (x : ℕ) (o : Option Vector) → (rs : List Record) × ArePlaces o x rs
 some_places x None = ([], refl)
-some_places x (Some v) = some_put x (vector_bytes v)
+some_places x (Some v) = some_stored x (vector_bytes v) (keys_of v)
 
 -- ── the work so far ──
 
@@ -187,16 +208,37 @@ parts_plain x d n [] are = tt
 parts_plain x d n (r ∷ rs) are =
     (plain_of r (kind.PutOverflow d.item d.serial) are.0.kind_is tt, parts_plain x d are.1.0 rs are.1.2)
 
-put_plain : (x : ℕ) (bytes : List ℕ) (rs : List Record) → ArePut bytes x rs → AreNoCommits rs
-put_plain x bytes [] are = tt
-put_plain x bytes (r ∷ rs) are = (
-  plain_of r (kind.PlaceHead are.0.item are.0.serial) are.1.kind_is tt,
-  parts_plain x are.0 (parts_for (length bytes)) rs are.2,
+pub put_plain : (x : ℕ) (bytes : List ℕ) (d : Doc) (rs : List Record) → ArePut bytes x d rs → AreNoCommits rs
+put_plain x bytes d [] are = tt
+put_plain x bytes d (r ∷ rs) are = (
+  plain_of r (kind.PlaceHead d.item d.serial) are.0.kind_is tt,
+  parts_plain x d (parts_for (length bytes)) rs are.1,
 )
+
+pub row_pages_plain : (x : ℕ) (d : Doc) (rs : List Record) → AllByRecursion (IsRowPageOf x d) rs → AreNoCommits rs
+row_pages_plain x d [] all = tt
+row_pages_plain x d (r ∷ rs) all =
+    (plain_of r (kind.PutPending d.item d.serial) (all.0).kind_is tt, row_pages_plain x d rs all.1)
+
+pub link_plain : (x : ℕ) (d : Doc) (r : Record) → IsLinkOf x d r → AreNoCommits (r ∷ [])
+link_plain x d r is = (plain_of r (kind.LinkPending d.item d.serial) is.kind_is tt, tt)
+
+pub rows_plain : (x : ℕ) (d : Doc) (keys : List Key) (rs : List Record) → AreIndexing x d keys rs → AreNoCommits rs
+rows_plain x d keys rs (AreIndexing.row r is all) =
+    subst AreNoCommits (sym all) (plain_of r (kind.AddRow d.item d.serial) is.kind_is tt, tt)
+rows_plain x d keys rs (AreIndexing.pages packed puts link pack are few is all) =
+    subst AreNoCommits (sym all) (none_of_both puts (link ∷ []) (row_pages_plain x d puts are) (link_plain x d link is))
+
+stored_plain : (x : ℕ) (bytes : List ℕ) (keys : List Key) (rs : List Record) → AreStored bytes keys x rs
+    → AreNoCommits rs
+stored_plain x bytes keys rs are =
+    subst AreNoCommits (sym are.order)
+    (none_of_both are.puts are.rows (put_plain x bytes are.doc are.puts are.are_put)
+    (rows_plain x are.doc keys are.rows are.are_rows))
 
 places_plain : (x : ℕ) (o : Option Vector) (rs : List Record) → ArePlaces o x rs → AreNoCommits rs
 places_plain x None rs are = subst AreNoCommits (sym are) tt
-places_plain x (Some v) rs are = put_plain x (vector_bytes v) rs are
+places_plain x (Some v) rs are = stored_plain x (vector_bytes v) (keys_of v) rs are
 
 pub work_plain : (w : Work) (x : ℕ) (rs : List Record) → IsWork w x rs → AreNoCommits rs
 work_plain w x rs is = subst AreNoCommits (sym is.order)

@@ -16,7 +16,7 @@ use Rattle.engine.specs.Db.{DbValue, disk_of, fault_of, state_of, IsUp, IsFlushe
 use Rattle.engine.specs.Standing.{StandsFor, HasGrown}
 use Rattle.engine.specs.Going.{Goes, MetFault}
 use Rattle.engine.specs.Work.{Work, commit_of, deleted_by, AreCommitted, AreRefused}
-use Rattle.engine.specs.Causes.{IsDown, AreXidsSpent, IsListed, IsBadPage, IsMissing, Conflicts, AreThere, LacksPage}
+use Rattle.engine.specs.Causes.{IsDown, AreXidsSpent, IsListed, IsBadRead, IsMissing, Conflicts, AreThere, LacksPage}
 use Rattle.engine.specs.Causes.{LacksLog, LacksLogForBegin, MeetsBadPage}
 use Rattle.engine.specs.declared.commit_names.CommitNames.{CommitNames}
 use Rattle.engine.specs.declared.error.DbError.{DbError}
@@ -163,12 +163,11 @@ module _ {D : Type 0} (device : Disk D) (old new : DbValue D) where
     pub log : (R : Log) → Stands device old.frames R → Stands device new.frames R
     pub state : state_of new ≡ state_of old
 
-  -- why such a call is refused
+  -- why such a call is refused; only a search meets a bad page
   abbrev pub CannotRead : DbError → Type 0
   CannotRead (Down fault) = IsDown old fault × (new ≡ old)
   CannotRead DiskFault = MetFault device old new
-  CannotRead (BadPage p) =
-      IsUp old × ((s : DbValue D) × Goes device old s [] × IsBadPage s (IsListed old) [] p)
+  CannotRead (BadPage p) = IsUp old × ((s : DbValue D) × Goes device old s [] × IsBadRead s p)
   CannotRead OutOfMemory = IsUp old
   CannotRead e = ⊥
 

@@ -2,11 +2,12 @@
 use Rattle.std.specs.Prelude.{◌≡◌, ◌≢◌, ◌⊎◌, ℕ, suc, ◌<◌, ◌≤◌, List, [], length, Option, Some, ⊤}
 use Rattle.disk_trait.specs.declared.device.Disk.{Ghosts as Disk}
 use Rattle.wal.specs.Waiting.{limit_of, length_with}
-use Rattle.page_types.specs.Numbers.{page_limit, most_short}
+use Rattle.page_types.specs.Numbers.{page_limit}
 use Rattle.page_types.specs.Pages.{IsPage}
 use Rattle.page_types.specs.Views.{slots_of, slot_at}
 use Rattle.page_types.specs.declared.page.Page.{Page}
 use Rattle.page_types.specs.declared.page.Head.{Head}
+use Rattle.page_types.specs.declared.page.Row.{Row}
 use Rattle.page_types.specs.declared.page.Gone.{Gone}
 use Rattle.page_types.specs.declared.page.Body.TheVariants as body
 use Rattle.page_types.specs.declared.record.Record.{Record}
@@ -23,6 +24,7 @@ use Rattle.buffer_frames.specs.Homes.{IsNoPage}
 use Rattle.buffer_frames.specs.Journals.{logged_bytes}
 use Rattle.ts_base.specs.Vectors.{Vector}
 use Rattle.ts_base.specs.Encoding.{vector_bytes}
+use Rattle.gin_scan.specs.Causes.{HasMeta, HasRows}
 use Rattle.engine.specs.Finding.{Name}
 use Rattle.engine.specs.Places.{Lies, IsSince, head_for, NoHeapPageHasRoom}
 use Rattle.engine.specs.Work.{Work, IsBegunWork, IsNext}
@@ -95,6 +97,7 @@ module _ {D : Type 0} (s : DbValue D) where
   abbrev pub NeedsPage : Vector → ℕ → Kind → Type 0
   NeedsPage v x (kind.PlaceHead item serial) = NoHeapPageHasRoom s (head_for x (vector_bytes v))
   NeedsPage v x (kind.PutOverflow item serial) = ⊤
+  NeedsPage v x (kind.PutPending item serial) = ⊤
   NeedsPage v x k = ⊥
 
   -- the log would pass its limit with this record
@@ -109,6 +112,14 @@ module _ {D : Type 0} (s : DbValue D) where
   abbrev pub IsPart : Page → Type 0
   IsPart c = (bytes : List ℕ) × (c.body ≡ body.Overflow bytes)
 
+  -- it names the first and the last page of the pending list, which has no more pages than have numbers
+  abbrev pub IsListMeta : Page → Type 0
+  IsListMeta c =
+      (first last count : ℕ) × (c.body ≡ body.Meta first last count) × (count ≤ page_limit)
+
+  abbrev pub IsRows : Page → Type 0
+  IsRows c = (rows : List Row) × (c.body ≡ body.Pending rows)
+
   -- No page has this number; or what lies under it in memory are bytes of no page, or a page that isn't
   -- so.
   pub data IsNone (Is : Page → Type 0) (p : ℕ) : Type 0 where
@@ -120,21 +131,10 @@ module _ {D : Type 0} (s : DbValue D) where
   abbrev pub IsNoPageAt : ℕ → Type 0
   IsNoPageAt p = IsNone (λ (c : Page). ⊤) p
 
-  -- page q is p, or one that overflow pages from p on lead to
-  pub data LeadsTo (p : ℕ) : ℕ → Type 0 where
-    here : LeadsTo p p
-    next : {q : ℕ} → LeadsTo p q → (c : Page) → IsPage c → Lies s q c → IsPart c → LeadsTo p c.right
-
   -- a heap page is sought under this number: one that a head is tried on, or that of a name which is read
   abbrev pub IsHeapSought : (Name → Type 0) → ℕ → Type 0
   IsHeapSought Reads p =
       In p (heap_pages (state_of s)) ⊎ ((name : Name) × Reads name × (name.page ≡ p))
-
-  -- a part of a vector that is too long for its head is sought under this number
-  abbrev pub IsPartSought : (Name → Type 0) → ℕ → Type 0
-  IsPartSought Reads p =
-      (name : Name) × (h : Head) × Reads name × HasHead name h × (most_short < h.bytes) × LeadsTo h.overflow p
-      × (p ≢ 0)
 
   -- a new page is sought under this number
   abbrev pub IsNewSought : ℕ → ℕ → Type 0
@@ -158,13 +158,35 @@ module _ {D : Type 0} (s : DbValue D) where
   abbrev pub HasHeadIn : ℕ → Page → Type 0
   HasHeadIn slot c = (h : Head) × (slot_at (slots_of c) slot ≡ Some h)
 
+  -- the metapage, as it lies in memory, names this page as the last of the pending list
+  pub record IsNamedLast (p : ℕ) : Type 0 where
+    pub meta : Page
+    pub is_page : IsPage meta
+    pub lies : Lies s 0 meta
+    pub first : ℕ
+    pub count : ℕ
+    pub names : meta.body ≡ body.Meta first p count
+    pub some : p ≢ 0
+
+  -- page 0 is no metapage; or the last page of the pending list has no rows of it, or is none
+  pub data IsBadList (p : ℕ) : Type 0 where
+    meta : p ≡ 0 → IsNone IsListMeta 0 → IsBadList p
+    last : IsNamedLast p → IsNone IsRows p → IsBadList p
+
   -- the bytes of this page are no page, or one of another kind than the one sought; or it lacks the head
   -- that was placed on it
   pub data IsBadPage (Reads : Name → Type 0) (rs : List Record) (p : ℕ) : Type 0 where
     heap : IsHeapSought Reads p → IsNone IsHeap p → IsBadPage Reads rs p
-    part : IsPartSought Reads p → IsNone IsPart p → IsBadPage Reads rs p
     new : (since : ℕ) → IsNewSought since p → IsNone (IsNew since) p → IsBadPage Reads rs p
     own : (slot : ℕ) → WasPlaced rs p slot → IsNone (HasHeadIn slot) p → IsBadPage Reads rs p
+
+  -- A page that a search reads is none, or not what it has to be: the metapage, a page with rows of the
+  -- pending list, the heap page of a document, or a page with a part of a long vector.
+  pub data IsBadRead (p : ℕ) : Type 0 where
+    meta : p ≡ 0 → IsNone HasMeta p → IsBadRead p
+    rows : IsNone HasRows p → IsBadRead p
+    heap : IsNone IsHeap p → IsBadRead p
+    part : IsNone IsPart p → IsBadRead p
 
 -- As the work of a statement so far has left the store: it began from an old one, transaction x is its
 -- own, and it has logged these records.
@@ -219,4 +241,4 @@ module _ {D : Type 0} (device : Disk D) (old : DbValue D) (w : Work) where
   -- at one of its steps a page is none, or one of another kind than the one sought
   abbrev pub MeetsBadPage : ℕ → Type 0
   MeetsBadPage p =
-      SoFar (λ (s : DbValue D) (x : ℕ) (rs : List Record). IsBadPage s (IsListed old) rs p)
+      SoFar (λ (s : DbValue D) (x : ℕ) (rs : List Record). IsBadPage s (IsListed old) rs p ⊎ IsBadList s p)

@@ -1,5 +1,5 @@
 -- Documents, commits and histories, and what a search finds.
-use Rattle.std.specs.Prelude.{◌≡◌, ◌⊎◌, List, [], ◌∷◌}
+use Rattle.std.specs.Prelude.{◌≡◌, List, [], ◌∷◌}
 use Rattle.ts_base.specs.Vectors.{Vector}
 pub use Rattle.core_state.specs.States.{names}
 use Rattle.engine.specs.declared.commit_names.CommitNames.{CommitNames}
@@ -8,13 +8,7 @@ pub use Rattle.core_state.specs.History.{Document, Commit, History, inserts, del
 pub use Rattle.core_state.specs.History.{by_serial, stays, docs, Begins, serials, IsLawful, AreApart, inserted_names}
 pub use Rattle.core_state.specs.Standing.{IsInSnapshot}
 pub use Rattle.core_state.specs.Log.{In}
-
--- the names of the documents whose vectors have this property, in their order
-abbrev pub IsFound : (Vector → Type 0) → List Document → List Name → Type 0
-IsFound P [] names = names ≡ []
-IsFound P (d ∷ ds) names =
-    (P d.vector × ((rest : List Name) × (names ≡ d.name ∷ rest) × IsFound P ds rest))
-    ⊎ (¬ P d.vector × IsFound P ds names)
+pub use Rattle.gin_scan.specs.Finding.{IsFound}
 
 -- the document of this name and this vector
 abbrev pub document : Name → Vector → Document

@@ -2,6 +2,7 @@ pub mod Asked
 pub mod Changing
 pub mod Choosing
 pub mod Finds
+pub mod Indexing
 pub mod Parts
 pub mod Plain
 pub mod Refusals

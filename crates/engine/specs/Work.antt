@@ -1,7 +1,9 @@
 -- What a statement does to documents, and the records of its work.
 use Rattle.std.specs.Prelude.{◌≡◌, ℕ, ◌+◌, ◌-◌, ◌/◌, List, [], ◌∷◌, ◌++◌, length, nat_le, if◌then◌else◌, Option, Some}
-use Rattle.std.specs.Prelude.{None}
+use Rattle.std.specs.Prelude.{None, ◌⊎◌}
+use Rattle.std.specs.List.{AllByRecursion}
 use Rattle.page_types.specs.Numbers.{most_short, most_body}
+use Rattle.page_types.specs.declared.page.Page.{Page}
 use Rattle.page_types.specs.declared.record.Kind.TheVariants as kind
 use Rattle.page_types.specs.declared.record.Record.{Record}
 use Rattle.core_state.specs.Allowed.{Sheet}
@@ -9,6 +11,8 @@ use Rattle.core_state.specs.Documents.{Doc, name_of}
 use Rattle.buffer_frames.specs.Drawing.{images_of}
 use Rattle.ts_base.specs.Vectors.{Vector}
 use Rattle.ts_base.specs.Encoding.{vector_bytes}
+use Rattle.ts_base.specs.Keys.{Key, keys_of}
+use Rattle.pending_list.specs.Packing.{ArePacked}
 use Rattle.engine.specs.Finding.{Name, Document, Commit, document}
 
 -- the document of a name is deleted, and one of a vector inserted
@@ -92,6 +96,24 @@ pub record IsPartOf (x : ℕ) (d : Doc) (r : Record) : Type 0 where
   pub kind_is : r.kind ≡ kind.PutOverflow d.item d.serial
   pub images : HasImages 2 r
 
+-- it puts a page of rows of the document's keys
+pub record IsRowPageOf (x : ℕ) (d : Doc) (r : Record) : Type 0 where
+  pub xid : r.xid ≡ x
+  pub kind_is : r.kind ≡ kind.PutPending d.item d.serial
+  pub images : HasImages 2 r
+
+-- it adds a row of all its keys to the last page of the pending list
+pub record IsRowOf (x : ℕ) (d : Doc) (r : Record) : Type 0 where
+  pub xid : r.xid ≡ x
+  pub kind_is : r.kind ≡ kind.AddRow d.item d.serial
+  pub images : HasImages 1 r
+
+-- it links the pages of rows that were put, as the pending list or behind its last page
+pub record IsLinkOf (x : ℕ) (d : Doc) (r : Record) : Type 0 where
+  pub xid : r.xid ≡ x
+  pub kind_is : r.kind ≡ kind.LinkPending d.item d.serial
+  pub images : HasImages 2 r ⊎ HasImages 3 r
+
 -- a mark of the document of this name, if there is one to delete
 abbrev pub AreMarks : Option Name → ℕ → List Record → Type 0
 AreMarks None x rs = rs ≡ []
@@ -105,17 +127,34 @@ AreParts d x n (r ∷ rs) = IsPartOf x d r × ((m : ℕ) × (n ≡ m + 1) × Are
 
 -- a document with a vector of these bytes is placed, and then the parts of the vector are put, if it
 -- has any
-abbrev pub ArePut : List ℕ → ℕ → List Record → Type 0
-ArePut bytes x [] = ⊥
-ArePut bytes x (r ∷ rs) = (d : Doc) × IsPlaceOf x d r × AreParts d x (parts_for (length bytes)) rs
+abbrev pub ArePut : List ℕ → ℕ → Doc → List Record → Type 0
+ArePut bytes x d [] = ⊥
+ArePut bytes x d (r ∷ rs) = IsPlaceOf x d r × AreParts d x (parts_for (length bytes)) rs
+
+-- The document's keys come to the pending list: as one row on its last page; or packed on pages, of
+-- which each is put, and then they are linked.
+pub data AreIndexing (x : ℕ) (d : Doc) (keys : List Key) (rs : List Record) : Type 0 where
+  row : (r : Record) → IsRowOf x d r → rs ≡ r ∷ [] → AreIndexing x d keys rs
+  pages : (packed : List Page) (puts : List Record) (link : Record) → ArePacked d.item keys packed
+      → AllByRecursion (IsRowPageOf x d) puts → length puts ≡ length packed → IsLinkOf x d link
+      → rs ≡ puts ++ link ∷ [] → AreIndexing x d keys rs
+
+-- a document with a vector of these bytes and with these keys is put, and its keys come to the pending list
+pub record AreStored (bytes : List ℕ) (keys : List Key) (x : ℕ) (rs : List Record) : Type 0 where
+  pub doc : Doc
+  pub puts : List Record
+  pub rows : List Record
+  pub order : rs ≡ puts ++ rows
+  pub are_put : ArePut bytes x doc puts
+  pub are_rows : AreIndexing x doc keys rows
 
 -- so it is of the vector, if there is one to insert
 abbrev pub ArePlaces : Option Vector → ℕ → List Record → Type 0
 ArePlaces None x rs = rs ≡ []
-ArePlaces (Some v) x rs = ArePut (vector_bytes v) x rs
+ArePlaces (Some v) x rs = AreStored (vector_bytes v) (keys_of v) x rs
 
 -- The records of the work of transaction x, but for its Begin and its end: the document of the name is
--- marked, then the other is placed, and then its parts are put.
+-- marked, then the other is placed, then its parts are put, and then its keys come to the pending list.
 pub record IsWork (w : Work) (x : ℕ) (rs : List Record) : Type 0 where
   pub marks : List Record
   pub places : List Record

@@ -1,7 +1,7 @@
 // What is asked of the state of a store's log.
-ghost use Rattle.std.specs.Prelude.{◌≡◌, ◌≤◌, ◌-◌, ◌++◌, [], length, Some, OnOk, IfOk};
-ghost use Rattle.std.specs.List.{slice_get, filter, slice_index_or};
-ghost use Rattle.engine.specs.Inner.Asked.{is_in, listed_in};
+ghost use Rattle.std.specs.Prelude.{◌≡◌, ◌≤◌, ◌-◌, length, Some, IfOk};
+ghost use Rattle.std.specs.List.{slice_get};
+ghost use Rattle.engine.specs.Inner.Asked.{is_in};
 
 use crate::commit_names::CommitNames;
 use buffer_frames::Ask;
@@ -113,71 +113,6 @@ impl Ask<Option<(u32, u64)>> for NewPage {
             Ok(page) => Some((page, since)),
             Err(_) => None,
         }
-    }
-}
-
-/// How far pages go.
-#[derive(Clone, Copy, Debug)]
-pub struct Extent;
-
-impl Ask<u32> for Extent {
-    ghost use Rattle.engine.specs.Inner.Asked.{extent_answer};
-
-    ghost answers = { extent_answer };
-
-    fn ask(&self, state: &State, _floor: u32, _since: u64) -> u32 {
-        state.extent()
-    }
-}
-
-/// The names of the documents in the snapshot of so many commits, by serial.
-#[derive(Drop)]
-pub struct SnapshotNames {
-    pub alloc: Global,
-    pub commits: u32,
-}
-
-/// Adds those names of a commit that are in the snapshot of so many commits.
-fn add_listed(
-    names: &mut Vec<Name>,
-    state: &State,
-    commit: u32,
-    commits: u32,
-) -> Result<(), AllocError>
-    requires first { 1 ≤ commit }
-    requires last { commit ≤ length state.now.value.deleted }
-    ensures { OnOk result (names.new.items ≡ names.old.items
-        ++ filter (is_in state.now.value commits)
-        (slice_index_or state.now.value.inserted (commit - 1) [])) }
-{
-    for name in state.inserted(commit) {
-        if is_listed(state, name, commits) {
-            names.push(*name)?;
-        }
-    }
-    Ok(())
-}
-
-/// The names in a snapshot, in the order of their commits.
-fn listed(alloc: Global, state: &State, commits: u32) -> Result<Vec<Name>, AllocError>
-    ensures { IfOk result (λ names. names.items ≡ listed_in state.now.value commits) }
-{
-    let mut names = Vec::new(alloc);
-    for place in 0..commits.min(state.commits()) {
-        add_listed(&mut names, state, place + 1, commits)?;
-    }
-    Ok(names)
-}
-
-impl Ask<Result<Vec<Name>, AllocError>> for SnapshotNames {
-    ghost use Rattle.engine.specs.Inner.Asked.{snapshot_answer};
-
-    ghost answers = { snapshot_answer };
-
-    fn ask(&self, state: &State, _floor: u32, _since: u64) -> Result<Vec<Name>, AllocError> {
-        let mut names = listed(self.alloc, state, self.commits)?;
-        names.sort_by_key(|name| name.serial)?;
-        Ok(names)
     }
 }
 

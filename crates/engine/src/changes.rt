@@ -28,7 +28,7 @@ use page_types::{
 use std::alloc::{AllocError, Global};
 
 /// The item of a name.
-fn item_of(name: Name) -> u32
+pub(crate) fn item_of(name: Name) -> u32
     requires { (name.page < 2 ^ 20) × (name.slot < 2048) }
     ensures { result ≡ item_at name.page name.slot }
 {
@@ -215,7 +215,8 @@ impl<D: Disk> Db<D> {
     ghost use Rattle.buffer_frames.specs.Journals.{next_record};
     ghost use Rattle.buffer_frames.specs.Passes.{IsPassOf, IsHolding, Seen as SeenBy};
     ghost use Rattle.engine.specs.Db.{state_of, state_then};
-    ghost use Rattle.engine.specs.Finding.{document, Name as NameValue};
+    ghost use Rattle.core_state.specs.Documents.{Doc};
+    ghost use Rattle.engine.specs.Finding.{Name as NameValue};
     ghost use Rattle.engine.specs.Work.{IsMarkOf, IsPlaceOf, IsPartOf, ArePut};
     ghost use Rattle.engine.specs.Going.{Goes, FaultIsTold, MetNoFault};
     ghost use Rattle.engine.specs.Causes.{MayBeDeleted, IsDown};
@@ -224,7 +225,7 @@ impl<D: Disk> Db<D> {
     ghost use Rattle.engine.specs.Inner.Changing.{CannotPlace, CannotPutPart, IsNextPart};
     ghost use Rattle.engine.specs.Inner.Parts.{IsRunning, HasChanged, HasPlaced, CarriesOwn, Later, CannotMark};
     ghost use Rattle.engine.specs.Inner.Parts.{TellsOfMark, CannotPut, KeepsWork, no_changes, only_deleted};
-    ghost use Rattle.engine.specs.Inner.Parts.{with_inserted};
+    ghost use Rattle.engine.specs.Inner.Parts.{HasRows};
     ghost use Rattle.engine.specs.declared.error.DbError.TheVariants.{Down};
 
     /// Logs a step on one page that is held; it is given back.
@@ -380,7 +381,7 @@ impl<D: Disk> Db<D> {
     }
 
     /// Logs a step on two pages that are held; they are given back.
-    fn log_two(
+    pub(crate) fn log_two(
         &mut self,
         pass: &mut Pass,
         heap: Held,
@@ -465,7 +466,7 @@ impl<D: Disk> Db<D> {
 
     /// Places a document with a vector of these bytes, its head and then the parts of a long one from
     /// the last to the first: its name.
-    pub(crate) fn put(
+    pub(crate) fn put_document(
         &mut self,
         pass: &mut Pass,
         work: Transaction,
@@ -476,17 +477,18 @@ impl<D: Disk> Db<D> {
             × HasChanged D.Disk self.old pass.old work.xid c }
         requires vector { (v : Vector) × IsEncoding bytes.now v }
         ensures running { IsRunning D.Disk self.new pass.new work }
+        ensures place { IfOk result (λ n. (n.page < page_limit) × (n.slot < most_slots)) }
         ensures placed { (v : Vector) (c : Commit) → IsEncoding bytes.now v → c.inserted ≡ []
             → HasChanged D.Disk self.old pass.old work.xid c → IfOk result (λ n.
-            HasChanged D.Disk self.new pass.new work.xid (with_inserted (document n v) c)) }
-        ensures goes { OnOk result ((rs : List Record) × ArePut bytes.now work.xid rs
+            HasRows D.Disk self.new pass.new work.xid (doc_of n) v [] 0 c.deleted) }
+        ensures goes { IfOk result (λ n. (rs : List Record) × ArePut bytes.now work.xid (doc_of n) rs
             × Goes D.Disk self.old self.new rs) }
         ensures keeps { KeepsWork pass.old pass.new }
         ensures fault { FaultIsTold D.Disk self.old self.new result }
 
         // The refusals: some of its records may be there.
-        ensures refused { OnErr result ((done rest : List Record)
-            × ArePut bytes.now work.xid (done ++ rest) × Goes D.Disk self.old self.new done) }
+        ensures refused { OnErr result ((d : Doc) × (done rest : List Record)
+            × ArePut bytes.now work.xid d (done ++ rest) × Goes D.Disk self.old self.new done) }
         ensures cause { IfErr result (λ e. CannotPut D.Disk self.old work.xid bytes.now e) }
         ensures lawful { IfErr result (λ e. MeetsNoBadPage D.Disk self.old e) }
     {

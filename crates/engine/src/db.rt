@@ -11,6 +11,7 @@ use disk_trait::Disk;
 use page_types::Name;
 use std::alloc::{AllocError, Global};
 use std::marker::Model;
+use ts_match::vector_keys;
 use ts_query::TsQuery;
 use ts_vector::TsVector;
 
@@ -102,8 +103,9 @@ impl<D: Disk> Db<D> {
             (λ e. TellsOfWork D.Disk self.old work (storing deletes vector.now) e) }
     {
         let bytes = encoded(self.alloc, vector)?;
+        let keys = vector_keys(self.alloc, vector)?;
         self.remove(pass, work, deletes)?;
-        self.put(pass, work, &bytes)
+        self.put(pass, work, &bytes, &keys)
     }
 
     /// A document of this vector, in place of that of a name, where one is given: its name.

@@ -93,7 +93,8 @@ impl<D: Disk> Db<D> {
     ghost use Rattle.engine.specs.Causes.{IsNoPageAt, IsNone, IsHeap, IsNew};
     ghost use Rattle.engine.specs.Going.{Goes, FaultIsTold};
     ghost use Rattle.engine.specs.Inner.Parts.{CarriesOwn, KeepsWork, CannotHold};
-    ghost use Rattle.engine.specs.Inner.Choosing.{IsChosen, LiesAsBefore, WorksOn, HoldsNoMore, HoldsNew, HoldsPlaced};
+    ghost use Rattle.engine.specs.Inner.Choosing.{IsChosen, LiesAsBefore, WorksOn, HoldsNoMore, GivesBack, HoldsNew};
+    ghost use Rattle.engine.specs.Inner.Choosing.{HoldsPlaced};
     ghost use Rattle.engine.specs.Inner.Choosing.{CannotTake, CannotChoose};
 
     /// Holds a page. A number past the last that a page may have is no page's.
@@ -126,6 +127,16 @@ impl<D: Disk> Db<D> {
             return Err(DbError::BadPage { page });
         }
         Ok(self.frames.hold(pass, page)?)
+    }
+
+    /// Gives a page back that is held.
+    pub(crate) fn give_back(&mut self, pass: &mut Pass, held: Held)
+        requires pass { IsPassOf self.old.frames pass.old }
+        requires holding { (others : List SheetValue)
+            × IsHolding D.Disk self.old.frames pass.old (held ∷ others) }
+        ensures { GivesBack D.Disk self.old pass.old self.new pass.new (held ∷ []) }
+    {
+        self.frames.release(pass, held);
     }
 
     /// An old heap page with the head, which is held, where it has room for it; else it is given back.

@@ -41,7 +41,7 @@ fn push_batch(log: &mut Vec<u8>, first: u32) -> Result<(), AllocError> {
     log.extend_from_slice(&BATCH_BYTES.to_le_bytes())?;
     for offset in 0..TRANSACTIONS {
         let xid = first.saturating_add(offset);
-        let number = u64::from(xid).saturating_mul(2).saturating_add(1);
+        let number = u64::from(xid).saturating_mul(2).saturating_add(3);
         push_record(log, BEGIN, xid, number)?;
         push_record(log, ABORT, xid, number.saturating_add(1))?;
     }
@@ -62,7 +62,7 @@ pub(crate) fn log_of(alloc: Global, disk: &mut MemoryDisk) -> Result<Vec<u8>> {
 }
 
 /// A log that a run with one insert leaves, and after it so many batches of records. The insert's transaction is the
-/// first, and its records have the numbers up to 4.
+/// first, and its records have the numbers up to 6.
 pub(crate) fn long_log<R>(rt: &R, batches: u32) -> Result<Vec<u8>>
 where
     R: Threads + Wait + Sync + Clock + AllocGlobal,

@@ -19,15 +19,32 @@ const SPENT: Settings = Settings {
     ..WIDEST
 };
 
-/// A log that has room for five documents; and one in which, behind six, a deletion's mark finds room, and then neither
-/// its Commit nor its Abort.
+/// Logs that have room for one document. To a second insert the first of them refuses the head, the next its row, one
+/// byte being short, and the last its Commit, one byte being short.
 const SHORT: Settings = Settings {
     log_limit: 65_536,
     ..WIDEST
 };
 
+const ROWLESS: Settings = Settings {
+    log_limit: 74_026,
+    ..WIDEST
+};
+
+const UNENDED: Settings = Settings {
+    log_limit: 74_048,
+    ..WIDEST
+};
+
+/// One that has just room for two.
+const JUST: Settings = Settings {
+    log_limit: 74_049,
+    ..WIDEST
+};
+
+/// One in which, behind two documents, a deletion's mark finds room, and then neither its Commit nor its Abort.
 const BARELY: Settings = Settings {
-    log_limit: 74_322,
+    log_limit: 82_310,
     ..WIDEST
 };
 
@@ -40,36 +57,40 @@ delete 2/0#1 | transactions spent
 delete 2/2#3 | no document
 search a | 2/0#1 2/1#2";
 
+/// What is refused is never found.
 const SHORT_ROWS: &str = "\
 insert a:1 | 2/0#1
-insert a:1 | 2/1#2
-insert a:1 | 2/2#3
-insert a:1 | 2/3#4
-insert a:1 | 2/4#5
 insert a:1 | log full
-search a | 2/0#1 2/1#2 2/2#3 2/3#4 2/4#5
+search a | 2/0#1
 delete 2/0#1 | log full
+update 2/0#1 a:2 | log full
+search a | 2/0#1";
+
+const JUST_ROWS: &str = "\
+insert a:1 | 2/0#1
+insert a:1 | 2/1#2
 insert a:1 | log full
-search a | 2/0#1 2/1#2 2/2#3 2/3#4 2/4#5";
+search a | 2/0#1 2/1#2";
 
 const BARELY_ROWS: &str = "\
 insert a:1 | 2/0#1
 insert a:1 | 2/1#2
-insert a:1 | 2/2#3
-insert a:1 | 2/3#4
-insert a:1 | 2/4#5
-insert a:1 | 2/5#6
 delete 2/0#1 | log full
 delete 2/0#1 | log full
-search a | 2/0#1 2/1#2 2/2#3 2/3#4 2/4#5 2/5#6";
+search a | 2/0#1 2/1#2";
 
-/// The same store, opened again with the widest limits.
+/// Such a store, opened again with the widest limits: after one document, and after two.
+const ONE_ROWS: &str = "\
+search a | 2/0#1
+insert a:1 | 2/1#2
+search a | 2/0#1 2/1#2";
+
 const WIDE_ROWS: &str = "\
-search a | 2/0#1 2/1#2 2/2#3 2/3#4 2/4#5 2/5#6
+search a | 2/0#1 2/1#2
 delete 2/0#1 |
 delete 2/0#1 | no document
-search a | 2/1#2 2/2#3 2/3#4 2/4#5 2/5#6
-insert a:1 | 2/6#7";
+search a | 2/1#2
+insert a:1 | 2/2#3";
 
 /// A store that two sessions share: each sees what the other has committed, and takes no part in what it deletes.
 const SHARED_ROWS: &str = "\
@@ -222,16 +243,36 @@ fn see_rows(
     Ok(disk)
 }
 
-/// Stores with narrow limits, one of them opened again with wide ones, and one that two sessions share.
+/// A new store with narrow limits, which is opened again with wide ones.
+fn see_narrow(
+    rt: &(impl Print + AllocGlobal),
+    settings: Settings,
+    rows: &str,
+    wide: &str,
+    tally: &mut Tally,
+) -> Result<()>
+    requires log { settings.log_limit ≤ LOG_LIMIT }
+    requires xids { settings.xid_limit ≤ xid_bound }
+    requires pages { settings.pages ≤ page_limit }
+{
+    let alloc = rt.alloc();
+    let disk = MemoryDisk::new(alloc, Vec::new(alloc));
+    let disk = see_rows(rt, disk, settings, rows, tally)?;
+    see_rows(rt, disk, WIDEST, wide, tally)?;
+    Ok(())
+}
+
+/// Stores with narrow limits, each opened again with wide ones but where no xid is left, and one that two sessions
+/// share.
 pub fn see_calls(rt: &(impl Print + AllocGlobal), tally: &mut Tally) -> Result<()> {
     let alloc = rt.alloc();
     let none = Vec::new(alloc);
     see_rows(rt, MemoryDisk::new(alloc, none), SPENT, SPENT_ROWS, tally)?;
-    let none = Vec::new(alloc);
-    see_rows(rt, MemoryDisk::new(alloc, none), SHORT, SHORT_ROWS, tally)?;
-    let none = Vec::new(alloc);
-    let disk = see_rows(rt, MemoryDisk::new(alloc, none), BARELY, BARELY_ROWS, tally)?;
-    see_rows(rt, disk, WIDEST, WIDE_ROWS, tally)?;
+    see_narrow(rt, SHORT, SHORT_ROWS, ONE_ROWS, tally)?;
+    see_narrow(rt, ROWLESS, SHORT_ROWS, ONE_ROWS, tally)?;
+    see_narrow(rt, UNENDED, SHORT_ROWS, ONE_ROWS, tally)?;
+    see_narrow(rt, JUST, JUST_ROWS, WIDE_ROWS, tally)?;
+    see_narrow(rt, BARELY, BARELY_ROWS, WIDE_ROWS, tally)?;
     let none = Vec::new(alloc);
     see_rows(rt, MemoryDisk::new(alloc, none), WIDEST, SHARED_ROWS, tally)?;
     Ok(())

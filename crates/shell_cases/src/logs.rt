@@ -49,7 +49,7 @@ where
     R: Threads + Wait + Sync + Print + AllocGlobal,
 {
     let log = script_log(rt)?;
-    let some = (0..log.len()).filter(|len| *len <= 200 || len % 211 == 0);
+    let some = (0..log.len()).filter(|len| *len <= 200 || len % 401 == 0);
     for len in some {
         let text = if len <= 17 { NEW } else { b"" };
         let holds = ends_so(rt, log.get(..len).unwrap_or(b""), text)?;

@@ -3,16 +3,17 @@ ghost use Rattle.std.specs.Prelude.{◌≤◌};
 ghost use Rattle.disk_trait.specs.MemoryDisk.{clock_of};
 
 use crate::case::{Ended, run_on};
+use crate::short::expanded;
 use crate::tally::Tally;
 use anyhow::Result;
 use disk_trait::MemoryDisk;
-use std::alloc::{AllocError, Global};
+use std::alloc::Global;
 use std::sync::Wait;
 use std::thread::Threads;
 
-/// Statements over documents that `GO_ON` finds, from an empty store on.
+/// Statements over documents that `GO_ON` finds, from an empty store on. The second document's rows are on three pages.
 const STATEMENTS: &str = "@1 insert vector 'a:1'
-@1 insert vector 'a:2'
+@1 insert vector 'a:2 {0~7~@~ }'
 @1 update 2/0#1 vector 'a:3'
 @1 delete 2/1#2
 @1 insert vector 'a:4'
@@ -51,22 +52,18 @@ const REPLIES: &str = "@1 found
 ";
 
 /// So many of the statements, those after the first `done`.
-fn script_after(alloc: Global, done: usize, count: usize) -> Result<String, AllocError> {
+fn script_after(alloc: Global, done: usize, count: usize) -> Result<String> {
     let mut script = String::new(alloc);
     for line in STATEMENTS.split_inclusive('\n').skip(done).take(count) {
-        script.push_str(line)?;
+        let line = expanded(alloc, line)?;
+        script.push_str(&line)?;
     }
     Ok(script)
 }
 
 /// A run of so many of the statements over a device of which these calls fail, those after the first `done`; these are
 /// in a run before it, where there are any.
-fn run_after<R>(
-    rt: &R,
-    fails: Vec<u64>,
-    done: usize,
-    count: usize,
-) -> Result<Ended<MemoryDisk>, AllocError>
+fn run_after<R>(rt: &R, fails: Vec<u64>, done: usize, count: usize) -> Result<Ended<MemoryDisk>>
 where
     R: Threads + Wait + Sync + AllocGlobal,
 {
@@ -77,11 +74,11 @@ where
         store = run_on(rt, script.as_bytes(), store)?.store;
     }
     let script = script_after(alloc, done, count)?;
-    run_on(rt, script.as_bytes(), store)
+    Ok(run_on(rt, script.as_bytes(), store)?)
 }
 
 /// What such runs leave on a device of which no call fails.
-fn left_after<R>(rt: &R, done: usize, count: usize) -> Result<MemoryDisk, AllocError>
+fn left_after<R>(rt: &R, done: usize, count: usize) -> Result<MemoryDisk>
 where
     R: Threads + Wait + Sync + AllocGlobal,
 {
@@ -89,7 +86,7 @@ where
 }
 
 /// Whether a store opens and goes on, as after so many statements, or after so many more.
-fn goes_on<R>(rt: &R, store: MemoryDisk, least: usize, more: usize) -> Result<bool, AllocError>
+fn goes_on<R>(rt: &R, store: MemoryDisk, least: usize, more: usize) -> Result<bool>
 where
     R: Threads + Wait + Sync + AllocGlobal,
 {
@@ -125,7 +122,7 @@ where
 }
 
 /// The moments at which each statement was answered.
-fn ends<R>(rt: &R) -> Result<Vec<u64>, AllocError>
+fn ends<R>(rt: &R) -> Result<Vec<u64>>
 where
     R: Threads + Wait + Sync + AllocGlobal,
 {
@@ -156,7 +153,7 @@ where
 /// Whether a run of the statement after the first `done`, in which this call of the device fails, ends with status 3,
 /// has printed nothing where the call is of the opening, else that the device failed, and the next run opens what is
 /// left and goes on.
-fn fails_at<R>(rt: &R, call: u64, done: usize, opening: bool) -> Result<bool, AllocError>
+fn fails_at<R>(rt: &R, call: u64, done: usize, opening: bool) -> Result<bool>
 where
     R: Threads + Wait + Sync + AllocGlobal,
 {

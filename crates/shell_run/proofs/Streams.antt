@@ -49,6 +49,9 @@ pub puts_drop : (a b c : Option (List ℕ)) (text rest : List ℕ) (n : ℕ) →
 puts_drop a b c text rest n h k =
     puts_more a b c text rest (take n rest) (drop n rest) true h k (sym (take-append-drop n rest))
 
+-- the steps of a text that is written piece by piece
+pub ruleset writing_steps = (puts_start, puts_drop, puts_stop)
+
 -- a text more after what waits
 pub puts_behind : (a b c : Option (List ℕ)) (text rest t w : List ℕ) (well : Bool) → Sends a b text rest true
     → Sends b c (rest ++ t) w well → Sends a c (text ++ t) w well

@@ -23,7 +23,7 @@ fn behind(bytes: &[u8], n: usize) -> &[u8]
     &bytes[n..]
 }
 
-#[tactic(auto, using(crate::proofs::Streams::puts_start, crate::proofs::Streams::puts_drop, crate::proofs::Streams::puts_stop))]
+#[tactic(auto, using(crate::proofs::Streams::writing_steps))]
 /// All of the bytes, or a beginning of them.
 fn write_all<K: Sink>(out: &mut K, bytes: &[u8]) -> Result<(), Stop>
     ensures text { Sends (K.taken out.old) (K.taken out.new) bytes.now [] (is_ok result) }

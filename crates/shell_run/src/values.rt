@@ -159,12 +159,15 @@ fn finished(alloc: Global, value: Joined) -> Result<TsVector, Refusal>
 }
 
 /// The vector of an expression. Its parts are made and joined in turn, and the first refusal
-/// counts.
+/// counts. That of one part is the part's, and nothing is copied.
 pub fn expr_value(alloc: Global, configs: &Configs, from: &Expr<'_>) -> Result<TsVector, Refusal>
     ensures value { IfOk result (IsValueOf configs.now (expr from.now)) }
     ensures cause { IfErr result (λ why. ExprFails configs.now (expr from.now) (refusal why)) }
 {
     let first = part_value(alloc, configs, &from.first)?;
+    if from.others.is_empty() {
+        return Ok(first);
+    }
     let mut value = begun(alloc, &first)?;
     for other in &from.others {
         let next = part_value(alloc, configs, other)?;

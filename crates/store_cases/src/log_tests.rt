@@ -41,12 +41,13 @@ const OPENED: &str = "\
     00*19 | refused
     01 47494e53482053544f52452030303032 00 | refused
     01 47494e534820445241465420 30303031 00 | refused
-    01 47494e534820445241465420 30303032 01 00*5 | refused
-    01 47494e534820445241465420 30303032 01 05000000 616263 00 | refused
-    01 47494e534820445241465420 30303032 01 02000000 6162 | refused
-    01 47494e534820445241465420 30303032 01 02000000 6162 01 | refused
-    01 47494e534820445241465420 30303032 01 0200 | refused
-    01 47494e534820445241465420 30303032 01 02000000 6162 02 78797a | 02 6162
+    01 47494e534820445241465420 30303032 00 | refused
+    01 47494e534820445241465420 30303033 01 00*5 | refused
+    01 47494e534820445241465420 30303033 01 05000000 616263 00 | refused
+    01 47494e534820445241465420 30303033 01 02000000 6162 | refused
+    01 47494e534820445241465420 30303033 01 02000000 6162 01 | refused
+    01 47494e534820445241465420 30303033 01 0200 | refused
+    01 47494e534820445241465420 30303033 01 02000000 6162 02 78797a | 02 6162
 ";
 
 /// Calls of a log with what each gives. `new` begins another log, on a device of its own, with a limit or with the
@@ -67,7 +68,7 @@ const CALLS: &str = "\
     calls 18
     flush
     calls 18
-    holds 01 47494e534820445241465420 30303032 01 03000000 616263 01 01000000 64 00
+    holds 01 47494e534820445241465420 30303033 01 03000000 616263 01 01000000 64 00
     batches 03 616263 01 64
     new 26
     append full 61626364
@@ -144,7 +145,7 @@ fn is_created_over(alloc: Global, word: &str) -> Result<bool, Fail> {
     }
     let mut disk = holding(alloc, &bytes)?;
     Wal::create(&mut disk)?;
-    let is_new = content(alloc, &mut disk)?.as_slice() == b"\x01GINSH DRAFT 0002\0".as_slice();
+    let is_new = content(alloc, &mut disk)?.as_slice() == b"\x01GINSH DRAFT 0003\0".as_slice();
     Ok(is_new && batches(alloc, &mut disk)?.is_empty())
 }
 

@@ -3,13 +3,11 @@ use Rattle.std.specs.Prelude.{◌≡◌, ◌≢◌, ◌↔◌, ℕ, Bool, true, 
 use Rattle.std.specs.Prelude.{Option, Some, None, Result, Ok, Err, Vec, ⊤}
 use Rattle.std.specs.declared.alloc.Global.{Global}
 use Rattle.std.specs.declared.alloc.AllocError.{AllocError}
-use Rattle.std.specs.List.{slice_get, filter, flat_map}
-use Rattle.std.specs.List.Sorted.{IsPermutation, IsNonDecreasingBy}
+use Rattle.std.specs.List.{slice_get}
 use Rattle.page_types.specs.declared.page.Head.{Head}
 use Rattle.page_types.specs.declared.page.Name.{Name}
 use Rattle.core_state.specs.Standing.{Sees}
 use Rattle.core_state.specs.States.{StateValue, fate_of, life_of, heap_pages}
-use Rattle.core_state.specs.PageChoice.{IsLeast, AreBelow}
 use Rattle.page_space.specs.Taking.{IsTaken, HasNoPage}
 use Rattle.core_state.specs.declared.lives.Life.{Life}
 use Rattle.engine.specs.Causes.{IsListedIn, IsPastOf}
@@ -19,8 +17,6 @@ use Rattle.engine.specs.declared.asks.Standing.TheVariants.{Unseen, Seen, Past}
 use Rattle.engine.specs.declared.asks.HeadStanding.{HeadStanding}
 use Rattle.engine.specs.declared.asks.HeapPage.{HeapPage}
 use Rattle.engine.specs.declared.asks.NewPage.{NewPage}
-use Rattle.engine.specs.declared.asks.Extent.{Extent}
-use Rattle.engine.specs.declared.asks.SnapshotNames.{SnapshotNames}
 use Rattle.engine.specs.declared.asks.FirstCommits.{FirstCommits}
 use Rattle.engine.specs.declared.commit_names.CommitNames.{CommitNames}
 
@@ -53,9 +49,6 @@ abbrev pub new_page_answer : NewPage → StateValue → ℕ → ℕ → Option (
 new_page_answer ask s floor since None = HasNoPage s since
 new_page_answer ask s floor since (Some p) = IsTaken s since p.0 × (p.1 ≡ since)
 
-abbrev pub extent_answer : Extent → StateValue → ℕ → ℕ → ℕ → Type 0
-extent_answer ask s floor since n = IsLeast (AreBelow s) n
-
 -- no commit, or one past the first n
 abbrev pub is_past : ℕ → Option ℕ → Bool
 is_past n None = true
@@ -73,20 +66,6 @@ is_in s n name = is_within n (life_of s name)
 -- the names that each of the first n commits inserted
 abbrev pub first_inserted : StateValue → ℕ → List (List Name)
 first_inserted s n = take (min n (length s.deleted)) s.inserted
-
--- those of them that are in the snapshot of n first commits, in the order of their commits
-abbrev pub listed_in : StateValue → ℕ → List Name
-listed_in s n = filter (is_in s n) (flat_map (λ (xs : List Name). xs) (first_inserted s n))
-
--- these names by serial
-pub record AreListed (s : StateValue) (n : ℕ) (names : List Name) : Type 0 where
-  pub same : IsPermutation (listed_in s n) names
-  pub rise : IsNonDecreasingBy (λ (x : Name). x.serial) names
-
-abbrev pub snapshot_answer : SnapshotNames → StateValue → ℕ → ℕ
-    → Result (Vec Name Global) AllocError → Type 0
-snapshot_answer ask s floor since (Ok names) = AreListed s ask.commits names.items
-snapshot_answer ask s floor since (Err e) = ⊤
 
 -- the names of the first commits, as the state has them
 pub record AreFirst (s : StateValue) (n : ℕ) (commits : List CommitNames) : Type 0 where

@@ -141,11 +141,14 @@ MayNotBeMarked s n x name page e = ⊥
 
 -- ── what is logged ──
 
--- the kinds 6 to 8 change documents
+-- the kinds 6 to 11 change documents and their rows
 abbrev pub ChangesDocument : Kind → Type 0
 ChangesDocument (kind.PlaceHead item serial) = ⊤
 ChangesDocument (kind.PutOverflow item serial) = ⊤
 ChangesDocument (kind.MarkDeleted item serial) = ⊤
+ChangesDocument (kind.PutPending item serial) = ⊤
+ChangesDocument (kind.AddRow item serial) = ⊤
+ChangesDocument (kind.LinkPending item serial) = ⊤
 ChangesDocument _ = ⊥
 
 module _ {D : Type 0} where

@@ -1,5 +1,5 @@
 -- The page that a head goes on.
-use Rattle.std.specs.Prelude.{◌≡◌, ◌⊎◌, ℕ, ◌<◌, List, [], ◌∷◌, Some, None, ⊤}
+use Rattle.std.specs.Prelude.{◌≡◌, ◌⊎◌, ℕ, ◌<◌, List, [], ◌∷◌, ◌++◌, Some, None, ⊤}
 use Rattle.std.specs.List.{slice_get}
 use Rattle.disk_trait.specs.declared.device.Disk.{Ghosts as Disk}
 use Rattle.page_types.specs.Pages.{IsPage}
@@ -8,17 +8,17 @@ use Rattle.page_types.specs.declared.page.Head.{Head}
 use Rattle.core_state.specs.Allowed.{Sheet}
 use Rattle.core_state.specs.Log.{Log, Pages, In}
 use Rattle.core_state.specs.States.{heap_pages}
-use Rattle.core_state.specs.Steps.{IsNewSheet}
+use Rattle.core_state.specs.Steps.{IsNewSheet, sheet}
 use Rattle.page_space.specs.Taking.{IsTaken}
 use Rattle.doc_heap.specs.HeapPages.{HasNoRoom, IsPlaced}
 use Rattle.buffer_frames.specs.Frames.{KeepsState}
 use Rattle.buffer_frames.specs.Passes.{IsPassOf, IsHolding, PassRises, Seen}
 use Rattle.buffer_frames.specs.declared.pass.Pass.{Pass}
-use Rattle.engine.specs.Going.{Goes}
+use Rattle.engine.specs.Going.{Goes, MetNoFault}
 use Rattle.engine.specs.Places.{Lies, NoHeapPageHasRoom}
 use Rattle.engine.specs.Causes.{IsDown, IsHeap, IsNone, IsNew, IsNewSought, IsStoreFull}
 use Rattle.engine.specs.Inner.Parts.{Later, CarriesOwn, KeepsWork}
-use Rattle.engine.specs.Db.{DbValue, state_of, IsUp}
+use Rattle.engine.specs.Db.{DbValue, fault_of, state_of, IsUp}
 use Rattle.engine.specs.declared.pages.Placed.{Placed}
 use Rattle.engine.specs.declared.error.DbError.{DbError}
 use Rattle.engine.specs.declared.error.DbError.TheVariants.{StoreFull, Down, DiskFault, BadPage, OutOfMemory}
@@ -65,6 +65,22 @@ module _ {D : Type 0} (device : Disk D) where
     pub holding : (held : List Sheet) → IsHolding device was.frames pass held
         → IsHolding device now.frames pass' held
     pub held : pass'.held ≡ pass.held
+
+  -- these pages are given back, and lie in memory again
+  pub record GivesBack (was : DbValue D) (pass : Pass) (now : DbValue D) (pass' : Pass) (back : List Sheet)
+      : Type 0 where
+    pub is_pass : IsPassOf now.frames pass'
+    pub carries : CarriesOwn device was pass now pass'
+    pub goes : Goes device was now []
+    pub met : MetNoFault device was now
+    pub rests : (fault : ℕ) → fault_of was ≡ Some fault → now.frames.journal ≡ was.frames.journal
+    pub state : KeepsState was.frames now.frames
+    pub pins : now.frames.pins ≡ was.frames.pins
+    pub lying : (p : ℕ) (c : Page) → Lies now p c → Lies was p c ⊎ In (sheet p c) back
+    pub keeps : KeepsWork pass pass'
+    pub rises : PassRises pass pass'
+    pub holding : (held : List Sheet) → IsHolding device was.frames pass (back ++ held)
+        → IsHolding device now.frames pass' held
 
   -- a page is held more, which is taken as a new one, and is new
   pub record HoldsNew (was : DbValue D) (pass : Pass) (now : DbValue D) (pass' : Pass) (h : Sheet) : Type 0 where

@@ -4,6 +4,7 @@ use Rattle.std.specs.List.{All}
 use Rattle.disk_trait.specs.declared.device.Disk.{Ghosts as Disk}
 use Rattle.ts_base.specs.Vectors.{Vector}
 use Rattle.ts_base.specs.Encoding.{vector_bytes}
+use Rattle.ts_base.specs.Keys.{keys_of}
 use Rattle.page_types.specs.declared.record.Record.{Record}
 use Rattle.buffer_frames.specs.declared.pass.Pass.{Pass}
 use Rattle.engine.specs.Finding.{Name, Commit, History, IsInSnapshot}
@@ -12,7 +13,8 @@ use Rattle.engine.specs.Work.{Work, IsWork, IsWorkSoFar, AreMarks, deleted_by}
 use Rattle.engine.specs.Going.{Goes, MetNoFault}
 use Rattle.engine.specs.Causes.{MayBeDeleted}
 use Rattle.engine.specs.Db.{DbValue, IsUp}
-use Rattle.engine.specs.Inner.Parts.{HasChanged, Later, CannotMark, CannotPut}
+use Rattle.engine.specs.Inner.Parts.{HasChanged, Later, CannotMark}
+use Rattle.engine.specs.Inner.Indexing.{CannotStore}
 use Rattle.engine.specs.declared.transaction.Transaction.{Transaction}
 use Rattle.engine.specs.declared.error.DbError.{DbError}
 use Rattle.engine.specs.declared.error.DbError.TheVariants.{NoDocument, BadPage, OutOfMemory}
@@ -53,7 +55,8 @@ module _ {D : Type 0} (device : Disk D) where
         → CannotMark device old t.snapshot t.xid name e → IsNotDone old t w e
     put : (v : Vector) (mid : DbValue D) (marks : List Record) {e : DbError} → w.inserts ≡ Some v
         → AreMarks w.deletes t.xid marks → Goes device old mid marks → MetNoFault device old mid
-        → MayMark old t w.deletes → CannotPut device mid t.xid (vector_bytes v) e → IsNotDone old t w e
+        → MayMark old t w.deletes → CannotStore device mid t.xid (vector_bytes v) (keys_of v) e
+        → IsNotDone old t w e
 
   -- the store is not lawful and up, or what the work deletes is not in the snapshot of n first commits
   abbrev pub IsUnseenBy : DbValue D → ℕ → Work → Type 0

@@ -1,15 +1,20 @@
 -- The parts of a statement's work: it begins, changes documents, and ends.
 use Rattle.std.specs.Prelude.{◌≡◌, ◌≢◌, ◌⊎◌, ℕ, ◌<◌, ◌≤◌, List, [], ◌∷◌, ◌++◌, length, map, Option, Some, None}
 use Rattle.std.specs.Prelude.{IfSome, Result, Ok, Err, ⊤}
-use Rattle.std.specs.List.{All}
+use Rattle.std.specs.List.{All, flat_map}
 use Rattle.disk_trait.specs.declared.device.Disk.{Ghosts as Disk}
+use Rattle.ts_base.specs.Vectors.{Vector}
+use Rattle.page_types.specs.Views.{rows_of}
+use Rattle.page_types.specs.declared.page.Page.{Page}
 use Rattle.page_types.specs.declared.page.Head.{Head}
 use Rattle.page_types.specs.declared.page.Name.{Name}
 use Rattle.page_types.specs.declared.record.Record.{Record}
 use Rattle.page_types.specs.declared.record.Kind.{Kind}
 use Rattle.page_types.specs.declared.record.Kind.TheVariants as kind
-use Rattle.core_state.specs.Log.{Log, Pages, fate}
-use Rattle.core_state.specs.Documents.{Doc, Has, name_of, placed, marked, IsChain, parts}
+use Rattle.core_state.specs.Log.{Log, Pages, In, fate}
+use Rattle.core_state.specs.Documents.{Doc, Has, IsWhole, name_of, placed, marked, IsChain, parts}
+use Rattle.core_state.specs.Index.{HasRow, IsIndexed, rows_on}
+use Rattle.core_state.specs.PagesTold.{IsLastOf}
 use Rattle.core_state.specs.History.{Commit, Document, IsCommitOf}
 use Rattle.core_state.specs.declared.answers.Fate.TheVariants.{Running}
 use Rattle.buffer_frames.specs.Passes.{IsPassOf, Seen}
@@ -91,17 +96,49 @@ pub record IsPlacedSoFar (S : Log) (P : Pages) (x : ℕ) (d : Doc) (bytes behind
   pub none : behind ≡ [] → head.overflow ≡ 0
   pub front : List ℕ
   pub ends : bytes ≡ front ++ behind
+  pub no_rows : head.private ≡ 0
+  pub no_row : HasRow P d.item → ⊥
+
+-- Transaction x, which runs, has placed a document, which is whole with this vector, and no other. On
+-- the head's private chain are pages with these rows: those of the pages `back`. Its last page is
+-- `last`, 0 where it has none. No row of the document is linked.
+pub record IsRowedSoFar (S : Log) (P : Pages) (x : ℕ) (d : Doc) (v : Vector) (back : List Page) (last : ℕ)
+    : Type 0 where
+  pub runs : fate S x ≡ Running
+  pub placed_one : placed S x ≡ d ∷ []
+  pub head : Head
+  pub has : Has P d head
+  pub by : head.inserted_by ≡ x
+  pub whole : IsWhole P head v
+  pub no_row : HasRow P d.item → ⊥
+  pub chain : List ℕ
+  pub is_chain : IsChain P head.private chain
+  pub rows : rows_on P chain ≡ flat_map rows_of back
+  pub many : length chain ≡ length back
+  pub ends : IsLastOf chain last
+
+-- each document that transaction x has placed is indexed
+abbrev pub AreIndexed : Log → Pages → ℕ → Type 0
+AreIndexed S P x = (d : Doc) → In d (placed S x) → IsIndexed P d
 
 module _ {D : Type 0} (device : Disk D) where
-  -- transaction x runs, and what it has changed so far is this, in the log that the pass has seen
+  -- transaction x runs, and what it has changed so far is this, in the log that the pass has seen; what it
+  -- has placed is indexed
   abbrev pub HasChanged : DbValue D → Pass → ℕ → Commit → Type 0
   HasChanged s pass x c =
-      Seen device s.frames pass (λ (S : Log) (P : Pages). (fate S x ≡ Running) × IsCommitOf S x c)
+      Seen device s.frames pass
+      (λ (S : Log) (P : Pages). (fate S x ≡ Running) × IsCommitOf S x c × AreIndexed S P x)
 
   -- it has placed a document so far, and deleted these
   abbrev pub HasPlaced : DbValue D → Pass → ℕ → Doc → List ℕ → List ℕ → List Name → Type 0
   HasPlaced s pass x d bytes behind names =
       Seen device s.frames pass (λ (S : Log) (P : Pages). IsPlacedSoFar S P x d bytes behind
+      × (map name_of (marked S x) ≡ names))
+
+  -- it has placed a document with this vector and put these pages of its rows so far, and deleted these
+  abbrev pub HasRows : DbValue D → Pass → ℕ → Doc → Vector → List Page → ℕ → List Name → Type 0
+  HasRows s pass x d v back last names =
+      Seen device s.frames pass (λ (S : Log) (P : Pages). IsRowedSoFar S P x d v back last
       × (map name_of (marked S x) ≡ names))
 
   -- the pass's own transaction runs on, and what it has changed is what it had changed
@@ -111,6 +148,9 @@ module _ {D : Type 0} (device : Disk D) where
         → HasChanged new pass' x c
     pub placed : (x : ℕ) (d : Doc) (bytes behind : List ℕ) (names : List Name) → pass.xid ≡ Some x
         → HasPlaced old pass x d bytes behind names → HasPlaced new pass' x d bytes behind names
+    pub rows : (x : ℕ) (d : Doc) (v : Vector) (back : List Page) (last : ℕ) (names : List Name)
+        → pass.xid ≡ Some x → HasRows old pass x d v back last names
+        → HasRows new pass' x d v back last names
 
   -- ── refusals ──
 
@@ -172,10 +212,11 @@ module _ {D : Type 0} (device : Disk D) where
   pub record Puts (old : DbValue D) (x : ℕ) (bytes : List ℕ)
       (Why : DbValue D → List Record → Record → Type 0) : Type 0 where
     pub store : DbValue D
+    pub doc : Doc
     pub done : List Record
     pub next : Record
     pub rest : List Record
-    pub are_put : ArePut bytes x (done ++ next ∷ rest)
+    pub are_put : ArePut bytes x doc (done ++ next ∷ rest)
     pub goes : Goes device old store done
     pub why : Why store done next
 

@@ -1,5 +1,5 @@
 -- The history of a store is a lawful one.
-use Rattle.engine.proofs.LawfulHistories.{history_lawful}
+use Rattle.core_state.proofs.LawfulHistories.{history_lawful}
 use Rattle.engine.proofs.laws.histories_are_lawful.Goals as goal
 
 pub returns : goal.returns

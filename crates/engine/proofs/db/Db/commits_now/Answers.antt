@@ -14,7 +14,8 @@ use Rattle.engine.specs.Going.{Goes, FaultIsTold}
 use Rattle.engine.specs.Inner.Refusals.{frame_refusal}
 use Rattle.engine.specs.declared.error.DbError.{DbError}
 use Rattle.engine.proofs.Paths.{one_nothing, pin_step, unpin_step}
-use Rattle.engine.proofs.LawfulReads.{lawful_answer}
+use Rattle.engine.proofs.ReadSteps.{if_err}
+use Rattle.engine.proofs.IndexReads.{list_meets}
 use Rattle.engine.proofs.Starting.{up_at_pin}
 use Rattle.engine.proofs.Searching.{rests, session_after, snapshot_after, read_path, read_told, listed}
 use Rattle.engine.proofs.db.Db.commits_now.Goals as goal
@@ -131,8 +132,8 @@ returns-clause-session g c =
     let kept : b.frames.journal ≡ c.list-listed.new.self.frames.journal =
     u.journal ∙ ap (λ (s : DbValue g.row.D.Denot). s.frames.journal) c.self-2.view_is in
     session_after c.args.self.now b c.args.pass.now c.pin.new.pass c.list-listed.new.pass c.unpin.new.pass
-    c.requires.session e.same.2 c.list-listed.ensures.keeps c.list-listed.ensures.reading.held u.same.0 u.same.2 u.none
-    u.pass
+    c.requires.session e.same.2 c.list-listed.ensures.keeps.xid c.list-listed.ensures.reading.held u.same.0 u.same.2
+    u.none u.pass
 
 pub returns-clause-listed : goal.returns-clause-listed
 returns-clause-listed g c =
@@ -185,7 +186,8 @@ returns-clause-snapshot g c =
     let kept : b.frames.journal ≡ c.list-listed.new.self.frames.journal =
     u.journal ∙ ap (λ (s : DbValue g.row.D.Denot). s.frames.journal) c.self-2.view_is in
     snapshot_after c.args.self.now m b c.self.inside.frames c.args.pass.now c.pin.new.pass c.list-listed.new.pass
-    c.unpin.new.pass n c.requires.session same pinned e.rises e.same.1 c.list-listed.ensures.keeps u.rises u.same.1
+    c.unpin.new.pass n c.requires.session same pinned e.rises e.same.1 c.list-listed.ensures.keeps.room
+    c.list-listed.ensures.keeps.shown u.rises u.same.1
     u.pass
 
 pub returns-clause-path : goal.returns-clause-path
@@ -242,14 +244,4 @@ returns-in_err-snapshot-clause-lawful g c =
 
 pub returns-clause-lawful : goal.returns-clause-lawful
 returns-clause-lawful g c =
-    let a : DbValue g.row.D.Denot = record { frames = c.self.inside.frames } in
-    let m : DbValue g.row.D.Denot = record { frames = c.pin.new.self } in
-    let e = c.pin.ensures in
-    let begins : Goes g.D.Disk c.args.self.now m [] =
-    subst (λ (s : DbValue g.row.D.Denot). Goes g.D.Disk s m []) c.self.view_is
-    (one_nothing g.D.Disk (pin_step g.D.Disk a m e.added e.journal e.begins c.in_ok-snapshot.ensures.pinned)) in
-    let same : m.frames.journal ≡ c.args.self.now.frames.journal =
-    e.journal ∙ ap (λ (s : DbValue g.row.D.Denot). s.frames.journal) c.self.view_is in
-    lawful_answer g.D.Disk c.args.self.now m begins same c.in_ok-snapshot.snapshot
-    ((c.in_ok-snapshot.ensures.pinned).commits ∙ ap (λ (j : JournalValue g.row.D.Denot). j.flushed) same)
-    c.list-listed.result c.list-listed.ensures.cause
+    if_err c.list-listed.result (list_meets g.D.Disk c.args.self.now) c.list-listed.ensures.cause

@@ -1,214 +1,103 @@
--- The documents of a snapshot are tried, one after another.
-use Rattle.std.proofs.Common.{◌≡◌, ◌+◌, ◌<◌, ◌≤◌, [], ◌∷◌, ◌++◌, List, cond, length, get_or, take, refl, sym, ap, subst}
-use Rattle.std.proofs.Common.{◌∙◌, arith}
-use Rattle.std.proofs.lemmas.List.{take_more, take_all}
-use Rattle.std.specs.Prelude.{Bool, Vec, Result, Err, IfOk, IfErr}
-use Rattle.std.specs.declared.alloc.Global.{Global}
-use Rattle.std.proofs.lemmas.Result.{err_from_is_err_and}
+-- A search: a scan begins in the snapshot, is stepped to its end, and ends.
+use Rattle.std.proofs.Common.{◌≡◌, ap, subst, ◌∙◌}
+use Rattle.wal.specs.Waiting.{down_of}
+use Rattle.buffer_frames.specs.Journals.{JournalValue}
+use Rattle.buffer_frames.specs.Passes.{pin_in}
+use Rattle.gin_opclass.specs.Class.{meaning}
+use Rattle.ts_query.specs.Queries.{Query}
 use Rattle.ts_match.specs.Meaning.{Holds}
-use Rattle.ts_match.specs.Plan.{plan_of}
-use Rattle.engine.specs.Finding.{Name}
-use Rattle.engine.specs.Causes.{IsListedIn}
-use Rattle.engine.specs.Db.{state_of}
-use Rattle.engine.specs.Going.{FaultIsTold}
-use Rattle.engine.specs.Inner.Finds.{Tells, FindsAll, CannotFind}
-use Rattle.engine.specs.declared.error.DbError.{DbError}
-use Rattle.engine.specs.declared.error.DbError.TheVariants.{OutOfMemory}
-use Rattle.engine.proofs.Paths.{none_in_turn, told_in_turn, time_of}
-use Rattle.engine.proofs.ReadSteps.{FindsSoFar, reading_on, reads_in_turn, still_up, refused_told, find_cause}
-use Rattle.engine.proofs.SnapshotReads.{finds_begins, finds_more, tells_here, names_listed}
-use Rattle.engine.proofs.SnapshotNames.{list_listed, finds_all}
+use Rattle.ts_match.specs.Judging.{judged}
+use Rattle.ts_match.specs.Class.{asked_of, reads_all}
+use Rattle.engine.specs.Db.{DbValue, fault_of, IsUp}
+use Rattle.engine.specs.Going.{MetNoFault}
+use Rattle.engine.specs.Inner.Finds.{ReadsOn, EndsReading, FindsAll}
+use Rattle.engine.proofs.Paths.{calm_fault}
+use Rattle.engine.proofs.IndexReads.{store_of, pin_taken, begun_by, ends_now, scan_ends, find_later}
+use Rattle.engine.proofs.IndexReads.{meets_later, finds_by}
 use Rattle.engine.proofs.db.Db.find.Goals as goal
 
--- where there is no element
-abbrev no_name : Name
-no_name = record { page = 0; slot = 0; serial = 0 }
+pub within-requires-clause-taken : goal.within-requires-clause-taken
+within-requires-clause-taken g c =
+    pin_taken c.args.pass.now.pin c.args.commits c.requires.reading.taken c.requires.reading.snapshot
 
-pub returns-in_err-listed : goal.returns-in_err-listed
-returns-in_err-listed g c = absurd c.in_err-listed.ensures.always
+pub returns-in_err-scan-clause-reads : goal.returns-in_err-scan-clause-reads
+returns-in_err-scan-clause-reads g c =
+    let a : DbValue g.row.D.Denot = store_of c.self.inside.frames in
+    let m : DbValue g.row.D.Denot = store_of c.within.new.frames in
+    let e = c.within.ensures in
+    subst (λ (s : DbValue g.row.D.Denot). EndsReading g.D.Disk s c.args.pass.now m c.within.new.pass) c.self.view_is
+    (ends_now g.D.Disk a m c.args.pass.now c.within.new.pass
+    (begun_by g.D.Disk a m c.args.pass.now c.within.new.pass e.is_pass e.idle e.adds e.lying e.keeps e.pin))
 
-pub returns-in_err-names : goal.returns-in_err-names
-returns-in_err-names g c =
-    let p = err_from_is_err_and c.from_residual-in_err-names.result c.from_residual-in_err-names.ensures.1 in
-    let out : c.from_residual-in_err-names.result ≡ Err OutOfMemory = p.1 ∙ ap Err p.2 in
-    record {
-      reading = reading_on g.D.Disk c.args.self.now c.ask.new.self c.args.pass.now c.ask.new.pass c.args.commits
-          c.requires.reading
-          c.in_ok-listed.ensures.reads;
-      found = subst (λ (r : Result (Vec Name Global) DbError). IfOk r (λ ns.
-          FindsAll g.D.Disk c.args.self.now c.args.commits (Holds c.args.query.now) ns.items)) (sym out) tt;
-      goes = c.in_ok-listed.ensures.reads.goes;
-      keeps = c.in_ok-listed.ensures.reads.keeps;
-      fault = subst (FaultIsTold g.D.Disk c.args.self.now c.ask.new.self) (sym out) c.in_ok-listed.ensures.met;
-      cause =
-          subst (λ (r : Result _ DbError). IfErr r (CannotFind g.D.Disk c.args.self.now c.args.commits)) (sym out) tt;
-    }
+pub returns-in-Ok-clause-reads : goal.returns-in-Ok-clause-reads
+returns-in-Ok-clause-reads g c =
+    let a : DbValue g.row.D.Denot = store_of c.self.inside.frames in
+    let m : DbValue g.row.D.Denot = store_of c.within.new.frames in
+    let e = c.within.ensures in
+    let begun : ReadsOn g.D.Disk c.args.self.now c.args.pass.now m c.within.new.pass =
+    subst (λ (s : DbValue g.row.D.Denot). ReadsOn g.D.Disk s c.args.pass.now m c.within.new.pass) c.self.view_is
+    (begun_by g.D.Disk a m c.args.pass.now c.within.new.pass e.is_pass e.idle e.adds e.lying e.keeps e.pin) in
+    scan_ends g.D.Disk c.read_index.new.scan.core c.args.self.now m c.read_index.new.self
+    (store_of c.self-2.inside.frames) (store_of c.finish.new.frames) c.args.pass.now c.within.new.pass
+    c.read_index.new.pass c.finish.new.pass begun c.read_index.ensures.reads c.self-2.view_is c.finish.ensures.ends
 
-pub returns-in_err-work : goal.returns-in_err-work
-returns-in_err-work g c =
-    let p = err_from_is_err_and c.from_residual-in_err-work.result c.from_residual-in_err-work.ensures.1 in
-    let out : c.from_residual-in_err-work.result ≡ Err OutOfMemory = p.1 ∙ ap Err p.2 in
-    record {
-      reading = reading_on g.D.Disk c.args.self.now c.ask.new.self c.args.pass.now c.ask.new.pass c.args.commits
-          c.requires.reading
-          c.in_ok-listed.ensures.reads;
-      found = subst (λ (r : Result (Vec Name Global) DbError). IfOk r (λ ns.
-          FindsAll g.D.Disk c.args.self.now c.args.commits (Holds c.args.query.now) ns.items)) (sym out) tt;
-      goes = c.in_ok-listed.ensures.reads.goes;
-      keeps = c.in_ok-listed.ensures.reads.keeps;
-      fault = subst (FaultIsTold g.D.Disk c.args.self.now c.ask.new.self) (sym out) c.in_ok-listed.ensures.met;
-      cause =
-          subst (λ (r : Result _ DbError). IfErr r (CannotFind g.D.Disk c.args.self.now c.args.commits)) (sym out) tt;
-    }
+pub returns-in-Ok-clause-found : goal.returns-in-Ok-clause-found
+returns-in-Ok-clause-found g c =
+    let a : DbValue g.row.D.Denot = store_of c.self.inside.frames in
+    let m : DbValue g.row.D.Denot = store_of c.within.new.frames in
+    let b : DbValue g.row.D.Denot = store_of c.finish.new.frames in
+    let e = c.within.ensures in
+    let begun : ReadsOn g.D.Disk c.args.self.now c.args.pass.now m c.within.new.pass =
+    subst (λ (s : DbValue g.row.D.Denot). ReadsOn g.D.Disk s c.args.pass.now m c.within.new.pass) c.self.view_is
+    (begun_by g.D.Disk a m c.args.pass.now c.within.new.pass e.is_pass e.idle e.adds e.lying e.keeps e.pin) in
+    let reads = scan_ends g.D.Disk c.read_index.new.scan.core c.args.self.now m c.read_index.new.self
+    (store_of c.self-2.inside.frames) b c.args.pass.now c.within.new.pass
+    c.read_index.new.pass c.finish.new.pass begun c.read_index.ensures.reads c.self-2.view_is c.finish.ensures.ends in
+    let up_m : IsUp m = e.calm.down ∙ ap fault_of c.self.view_is ∙ c.requires.up in
+    let met : MetNoFault g.D.Disk m c.read_index.new.self = c.in-Ok.ensures.fault in
+    let up_b : IsUp b =
+    ap (λ (j : JournalValue g.row.D.Denot). down_of j.wal) c.finish.ensures.ends.journal
+    ∙ ap fault_of c.self-2.view_is ∙ met.down ∙ up_m in
+    let pin =
+    pin_taken c.args.pass.now.pin c.args.commits c.requires.reading.taken c.requires.reading.snapshot in
+    let asked : c.read_index.new.scan.query.now ≡ c.args.query.now =
+    c.read_index.ensures.same ∙ c.in_ok-scan.ensures.query.query in
+    subst (λ (x : Query). FindsAll g.D.Disk c.args.self.now c.args.commits (Holds x) c.finish.result.names.items) asked
+    (finds_by g.D.Disk (meaning asked_of reads_all Holds judged) c.read_index.new.scan.query.now c.args.self.now b
+    c.args.commits c.read_index.new.pass.pin pin.0 c.finish.result reads.goes up_b
+    (ap pin_in (c.read_index.ensures.reads.keeps.pin ∙ e.pin) ∙ pin.1) pin.2 c.finish.ensures.found)
 
-pub returns-in_err-add_if : goal.returns-in_err-add_if
-returns-in_err-add_if g c =
-    let p = err_from_is_err_and c.from_residual-in_err-add_if.result c.from_residual-in_err-add_if.ensures.1 in
-    let out : c.from_residual-in_err-add_if.result ≡ Err OutOfMemory = p.1 ∙ ap Err p.2 in
-    record {
-      reading = reading_on g.D.Disk c.args.self.now c.satisfies.new.self c.args.pass.now c.satisfies.new.pass
-          c.args.commits c.requires.reading
-          (reads_in_turn g.D.Disk c.args.self.now c.loop-name.self c.satisfies.new.self c.args.pass.now c.loop-name.pass
-          c.satisfies.new.pass c.loop-name.invariant.reads c.in_ok-satisfied.ensures.reads);
-      found = subst (λ (r : Result (Vec Name Global) DbError). IfOk r (λ ns.
-          FindsAll g.D.Disk c.args.self.now c.args.commits (Holds c.args.query.now) ns.items)) (sym out) tt;
-      goes =
-          (reads_in_turn g.D.Disk c.args.self.now c.loop-name.self c.satisfies.new.self c.args.pass.now c.loop-name.pass
-          c.satisfies.new.pass c.loop-name.invariant.reads c.in_ok-satisfied.ensures.reads).goes;
-      keeps =
-          (reads_in_turn g.D.Disk c.args.self.now c.loop-name.self c.satisfies.new.self c.args.pass.now c.loop-name.pass
-          c.satisfies.new.pass c.loop-name.invariant.reads c.in_ok-satisfied.ensures.reads).keeps;
-      fault = subst (FaultIsTold g.D.Disk c.args.self.now c.satisfies.new.self) (sym out)
-          (none_in_turn g.D.Disk c.loop-name.invariant.met c.in_ok-satisfied.ensures.fault);
-      cause =
-          subst (λ (r : Result _ DbError). IfErr r (CannotFind g.D.Disk c.args.self.now c.args.commits)) (sym out) tt;
-    }
+pub returns-in-Err-clause-reads : goal.returns-in-Err-clause-reads
+returns-in-Err-clause-reads g c =
+    let a : DbValue g.row.D.Denot = store_of c.self.inside.frames in
+    let m : DbValue g.row.D.Denot = store_of c.within.new.frames in
+    let e = c.within.ensures in
+    let begun : ReadsOn g.D.Disk c.args.self.now c.args.pass.now m c.within.new.pass =
+    subst (λ (s : DbValue g.row.D.Denot). ReadsOn g.D.Disk s c.args.pass.now m c.within.new.pass) c.self.view_is
+    (begun_by g.D.Disk a m c.args.pass.now c.within.new.pass e.is_pass e.idle e.adds e.lying e.keeps e.pin) in
+    scan_ends g.D.Disk c.read_index.new.scan.core c.args.self.now m c.read_index.new.self
+    (store_of c.self-2.inside.frames) (store_of c.drop_scan.new.frames) c.args.pass.now c.within.new.pass
+    c.read_index.new.pass c.drop_scan.new.pass begun c.read_index.ensures.reads c.self-2.view_is
+    c.drop_scan.ensures.ends
 
-pub loop-name-init : goal.loop-name-init
-loop-name-init g c = record {
-  reads = c.in_ok-listed.ensures.reads;
-  met = c.in_ok-listed.ensures.met;
-  ready = c.in_ok-work.ensures;
-  query = refl;
-  finds = subst (FindsSoFar g.D.Disk c.args.self.now c.args.commits (Holds c.args.query.now) [])
-      (sym c.new-found.ensures.items) (finds_begins g.D.Disk c.args.self.now c.args.commits (Holds c.args.query.now));
-}
+pub returns-in-Err-clause-cause : goal.returns-in-Err-clause-cause
+returns-in-Err-clause-cause g c =
+    let a : DbValue g.row.D.Denot = store_of c.self.inside.frames in
+    let m : DbValue g.row.D.Denot = store_of c.within.new.frames in
+    let e = c.within.ensures in
+    let begun : ReadsOn g.D.Disk c.args.self.now c.args.pass.now m c.within.new.pass =
+    subst (λ (s : DbValue g.row.D.Denot). ReadsOn g.D.Disk s c.args.pass.now m c.within.new.pass) c.self.view_is
+    (begun_by g.D.Disk a m c.args.pass.now c.within.new.pass e.is_pass e.idle e.adds e.lying e.keeps e.pin) in
+    find_later g.D.Disk c.args.self.now m c.in-Err.refusal begun.goes c.in-Err.ensures.cause
 
-pub satisfies-requires-clause-pass : goal.satisfies-requires-clause-pass
-satisfies-requires-clause-pass g c = c.loop-name.invariant.reads.is_pass
-
-pub satisfies-requires-clause-none : goal.satisfies-requires-clause-none
-satisfies-requires-clause-none g c = c.loop-name.invariant.reads.held
-
-pub satisfies-requires-clause-up : goal.satisfies-requires-clause-up
-satisfies-requires-clause-up g c =
-    still_up g.D.Disk c.args.self.now c.loop-name.self c.loop-name.invariant.met c.requires.up
-
-pub satisfies-requires-clause-ready : goal.satisfies-requires-clause-ready
-satisfies-requires-clause-ready g c = c.loop-name.invariant.ready
-
-pub returns-in_err-satisfied-clause-reading : goal.returns-in_err-satisfied-clause-reading
-returns-in_err-satisfied-clause-reading g c =
-    reading_on g.D.Disk c.args.self.now c.satisfies.new.self c.args.pass.now c.satisfies.new.pass c.args.commits
-    c.requires.reading
-    (reads_in_turn g.D.Disk c.args.self.now c.loop-name.self c.satisfies.new.self c.args.pass.now c.loop-name.pass
-    c.satisfies.new.pass c.loop-name.invariant.reads c.satisfies.ensures.reads)
-
-pub returns-in_err-satisfied-clause-goes : goal.returns-in_err-satisfied-clause-goes
-returns-in_err-satisfied-clause-goes g c =
-    (reads_in_turn g.D.Disk c.args.self.now c.loop-name.self c.satisfies.new.self c.args.pass.now c.loop-name.pass
-    c.satisfies.new.pass c.loop-name.invariant.reads c.satisfies.ensures.reads).goes
-
-pub returns-in_err-satisfied-clause-keeps : goal.returns-in_err-satisfied-clause-keeps
-returns-in_err-satisfied-clause-keeps g c =
-    (reads_in_turn g.D.Disk c.args.self.now c.loop-name.self c.satisfies.new.self c.args.pass.now c.loop-name.pass
-    c.satisfies.new.pass c.loop-name.invariant.reads c.satisfies.ensures.reads).keeps
-
-pub returns-in_err-satisfied-clause-fault : goal.returns-in_err-satisfied-clause-fault
-returns-in_err-satisfied-clause-fault g c =
-    let p = err_from_is_err_and c.from_residual-in_err-satisfied.result c.from_residual-in_err-satisfied.ensures.1 in
-    let was = c.loop-name.invariant in
-    refused_told g.D.Disk c.args.self.now c.satisfies.new.self c.satisfies.result
-    c.from_residual-in_err-satisfied.result _
-    p.0 c.in_err-satisfied.was p.1 p.2
-    (told_in_turn g.D.Disk c.args.self.now c.loop-name.self c.satisfies.new.self c.satisfies.result
-    (time_of g.D.Disk was.reads.goes) was.met c.satisfies.ensures.fault)
-
-pub returns-in_err-satisfied-clause-cause : goal.returns-in_err-satisfied-clause-cause
-returns-in_err-satisfied-clause-cause g c =
-    let p = err_from_is_err_and c.from_residual-in_err-satisfied.result c.from_residual-in_err-satisfied.ensures.1 in
-    let goes = (reads_in_turn g.D.Disk c.args.self.now c.loop-name.self c.satisfies.new.self c.args.pass.now
-    c.loop-name.pass c.satisfies.new.pass c.loop-name.invariant.reads c.satisfies.ensures.reads).goes in
-    let i = c.loop-name.name-index in
-    let xs = c.deref-name-items.result.now in
-    let same = c.deref-name-items.ensures.value in
-    let listed =
-    names_listed _ (state_of c.args.self.now) c.ask.new.pass.floor c.ask.new.pass.since c.in_ok-listed.listed
-    c.in_ok-names.names c.in_ok-names.was c.in_ok-listed.ensures.answers in
-    let below : i < length xs = omega arith in
-    let here = list_listed (state_of c.args.self.now) c.args.commits c.in_ok-names.names.items listed i no_name
-    (subst (λ (ns : List Name). i < length ns) same below) in
-    let was = c.loop-name.invariant in
-    let told = told_in_turn g.D.Disk c.args.self.now c.loop-name.self c.satisfies.new.self c.satisfies.result
-    (time_of g.D.Disk was.reads.goes) was.met c.satisfies.ensures.fault in
-    let why = find_cause g.D.Disk Bool c.args.self.now c.satisfies.new.self c.args.commits (get_or xs i no_name) _ goes
-    c.requires.up
-    (subst (FaultIsTold g.D.Disk c.args.self.now c.satisfies.new.self) c.in_err-satisfied.was told)
-    (subst (λ (ns : List Name). IsListedIn (state_of c.args.self.now) c.args.commits (get_or ns i no_name))
-    (sym same) here)
-    c.in_err-satisfied.ensures.cause in
-    subst (λ (r : Result _ DbError). IfErr r (CannotFind g.D.Disk c.args.self.now c.args.commits)) (sym p.1)
-    (subst (CannotFind g.D.Disk c.args.self.now c.args.commits) (sym p.2) why)
-
-pub loop-name-preserved : goal.loop-name-preserved
-loop-name-preserved g c =
-    let was = c.loop-name.invariant in
-    let e = c.in_ok-satisfied.ensures in
-    let i = c.loop-name.name-index in
-    let xs = c.deref-name-items.result.now in
-    let x = get_or xs i no_name in
-    let b = c.in_ok-satisfied.satisfied in
-    let fs = c.loop-name.found.items in
-    let P = Holds c.args.query.now in
-    let s = c.args.self.now in
-    let n = c.args.commits in
-    let reading =
-    reading_on g.D.Disk s c.loop-name.self c.args.pass.now c.loop-name.pass n c.requires.reading was.reads in
-    let here =
-    tells_here g.D.Disk s c.loop-name.self n P c.loop-name.pass x b was.reads.goes reading.taken reading.snapshot
-    (subst (λ q. Tells g.D.Disk c.loop-name.self c.loop-name.pass (Holds q) x b) was.query e.tells) in
-    let more = finds_more g.D.Disk s n P (take i xs) fs x b was.finds here in
-    let below : i < length xs = omega arith in
-    record {
-      reads = reads_in_turn g.D.Disk s c.loop-name.self c.satisfies.new.self c.args.pass.now c.loop-name.pass
-          c.satisfies.new.pass was.reads e.reads;
-      met = none_in_turn g.D.Disk was.met e.fault;
-      ready = e.work ∙ was.ready ∙ ap plan_of (sym e.query);
-      query = e.query ∙ was.query;
-      finds = subst (FindsSoFar g.D.Disk s n P (take (i + 1) xs)) (sym c.in_ok-add_if.ensures)
-          (subst (λ (ns : List Name). FindsSoFar g.D.Disk s n P ns (cond b (fs ++ x ∷ []) fs))
-          (sym (take_more xs i no_name below)) more);
-    }
-
-pub returns : goal.returns
-returns g c =
-    let was = c.loop-name.invariant in
-    let i = c.loop-name.name-index in
-    let xs = c.deref-name-items.result.now in
-    let s = c.args.self.now in
-    let n = c.args.commits in
-    let P = Holds c.args.query.now in
-    let all : length xs ≤ i = omega arith in
-    let listed = names_listed _ (state_of s) c.ask.new.pass.floor c.ask.new.pass.since c.in_ok-listed.listed
-    c.in_ok-names.names c.in_ok-names.was c.in_ok-listed.ensures.answers in
-    record {
-      reading = reading_on g.D.Disk s c.loop-name.self c.args.pass.now c.loop-name.pass n c.requires.reading was.reads;
-      found = finds_all g.D.Disk s n P c.args.pass.now c.in_ok-names.names.items c.loop-name.found.items c.requires.up
-          c.requires.reading listed
-          (subst (λ (ns : List Name). FindsSoFar g.D.Disk s n P ns c.loop-name.found.items)
-          (take_all i xs all ∙ c.deref-name-items.ensures.value) was.finds);
-      goes = was.reads.goes;
-      keeps = was.reads.keeps;
-      fault = was.met;
-      cause = tt;
-    }
+pub returns-in-Err-clause-lawful : goal.returns-in-Err-clause-lawful
+returns-in-Err-clause-lawful g c =
+    let a : DbValue g.row.D.Denot = store_of c.self.inside.frames in
+    let m : DbValue g.row.D.Denot = store_of c.within.new.frames in
+    let e = c.within.ensures in
+    let begun : ReadsOn g.D.Disk c.args.self.now c.args.pass.now m c.within.new.pass =
+    subst (λ (s : DbValue g.row.D.Denot). ReadsOn g.D.Disk s c.args.pass.now m c.within.new.pass) c.self.view_is
+    (begun_by g.D.Disk a m c.args.pass.now c.within.new.pass e.is_pass e.idle e.adds e.lying e.keeps e.pin) in
+    let met : MetNoFault g.D.Disk c.args.self.now m =
+    subst (λ (s : DbValue g.row.D.Denot). MetNoFault g.D.Disk s m) c.self.view_is (calm_fault g.D.Disk a m e.calm) in
+    meets_later g.D.Disk c.args.self.now m c.in-Err.refusal begun.goes met c.in-Err.ensures.lawful

@@ -5,7 +5,7 @@ use Rattle.std.specs.declared.alloc.Global.{Global}
 use Rattle.std.proofs.lemmas.Result.{err_from_is_err_and}
 use Rattle.engine.specs.Db.{state_of}
 use Rattle.engine.specs.Going.{FaultIsTold}
-use Rattle.engine.specs.Inner.Finds.{ListsAll, CannotFind}
+use Rattle.engine.specs.Inner.Finds.{ListsAll, CannotList}
 use Rattle.engine.specs.declared.commit_names.CommitNames.{CommitNames}
 use Rattle.engine.specs.declared.error.DbError.{DbError}
 use Rattle.engine.specs.declared.error.DbError.TheVariants.{OutOfMemory}
@@ -29,8 +29,7 @@ returns-in_err-names g c =
       goes = c.in_ok-listed.ensures.reads.goes;
       keeps = c.in_ok-listed.ensures.reads.keeps;
       fault = subst (FaultIsTold g.D.Disk c.args.self.now c.ask.new.self) (sym out) c.in_ok-listed.ensures.met;
-      cause = subst (λ (r : Result _ DbError). IfErr r (CannotFind g.D.Disk c.args.self.now c.args.commits)) (sym out)
-          tt;
+      cause = subst (λ (r : Result _ DbError). IfErr r CannotList) (sym out) tt;
     }
 
 pub returns : goal.returns

@@ -14,8 +14,9 @@ use Rattle.engine.specs.Finding.{Name}
 use Rattle.engine.specs.Going.{Goes, FaultIsTold}
 use Rattle.engine.specs.Inner.Refusals.{frame_refusal}
 use Rattle.engine.specs.declared.error.DbError.{DbError}
-use Rattle.engine.proofs.Paths.{one_nothing, pin_step, unpin_step}
-use Rattle.engine.proofs.LawfulReads.{lawful_answer}
+use Rattle.engine.proofs.Paths.{one_nothing, pin_step, unpin_step, kept_fault}
+use Rattle.engine.proofs.ReadSteps.{if_err}
+use Rattle.engine.proofs.IndexReads.{meets_later}
 use Rattle.engine.proofs.Starting.{up_at_pin}
 use Rattle.engine.proofs.Searching.{rests, session_after, snapshot_after, read_path, read_told, found}
 use Rattle.engine.proofs.db.Db.search_now.Goals as goal
@@ -132,7 +133,7 @@ returns-clause-session g c =
     let kept : b.frames.journal ≡ c.find-found.new.self.frames.journal =
     u.journal ∙ ap (λ (s : DbValue g.row.D.Denot). s.frames.journal) c.self-2.view_is in
     session_after c.args.self.now b c.args.pass.now c.pin.new.pass c.find-found.new.pass c.unpin.new.pass
-    c.requires.session e.same.2 c.find-found.ensures.keeps c.find-found.ensures.reading.held u.same.0 u.same.2 u.none
+    c.requires.session e.same.2 c.find-found.ensures.reads.xid c.find-found.ensures.reads.held u.same.0 u.same.2 u.none
     u.pass
 
 pub returns-clause-found : goal.returns-clause-found
@@ -160,9 +161,10 @@ returns-clause-found g c =
     u.journal ∙ ap (λ (s : DbValue g.row.D.Denot). s.frames.journal) c.self-2.view_is in
     let all : n ≡ flushed_of c.args.self.now =
     pinned.commits ∙ ap (λ (j : JournalValue g.row.D.Denot). j.flushed) same in
-    found g.D.Disk c.args.self.now m c.find-found.new.self b begins c.find-found.ensures.goes ends same kept n up all
+    found g.D.Disk c.args.self.now m c.find-found.new.self b begins c.find-found.ensures.reads.goes ends same kept n up
+    all
     (Holds c.args.query.now) c.find-found.result c.find-found.ensures.found c.find-found.ensures.cause
-    (read_told g.D.Disk c.args.self.now m c.find-found.new.self b begins c.find-found.ensures.goes ends same kept
+    (read_told g.D.Disk c.args.self.now m c.find-found.new.self b begins c.find-found.ensures.reads.goes ends same kept
     c.find-found.result c.find-found.ensures.fault)
 
 pub returns-clause-snapshot : goal.returns-clause-snapshot
@@ -186,7 +188,8 @@ returns-clause-snapshot g c =
     let kept : b.frames.journal ≡ c.find-found.new.self.frames.journal =
     u.journal ∙ ap (λ (s : DbValue g.row.D.Denot). s.frames.journal) c.self-2.view_is in
     snapshot_after c.args.self.now m b c.self.inside.frames c.args.pass.now c.pin.new.pass c.find-found.new.pass
-    c.unpin.new.pass n c.requires.session same pinned e.rises e.same.1 c.find-found.ensures.keeps u.rises u.same.1
+    c.unpin.new.pass n c.requires.session same pinned e.rises e.same.1 c.find-found.ensures.reads.room
+    c.find-found.ensures.reads.shown u.rises u.same.1
     u.pass
 
 pub returns-clause-path : goal.returns-clause-path
@@ -209,7 +212,7 @@ returns-clause-path g c =
     (one_nothing g.D.Disk (unpin_step g.D.Disk s b c.find-found.new.pass.pin u.added u.journal u.begins u.pins)) in
     let kept : b.frames.journal ≡ c.find-found.new.self.frames.journal =
     u.journal ∙ ap (λ (s : DbValue g.row.D.Denot). s.frames.journal) c.self-2.view_is in
-    read_path g.D.Disk c.args.self.now m c.find-found.new.self b begins c.find-found.ensures.goes ends
+    read_path g.D.Disk c.args.self.now m c.find-found.new.self b begins c.find-found.ensures.reads.goes ends
 
 pub returns-clause-fault : goal.returns-clause-fault
 returns-clause-fault g c =
@@ -231,7 +234,7 @@ returns-clause-fault g c =
     (one_nothing g.D.Disk (unpin_step g.D.Disk s b c.find-found.new.pass.pin u.added u.journal u.begins u.pins)) in
     let kept : b.frames.journal ≡ c.find-found.new.self.frames.journal =
     u.journal ∙ ap (λ (s : DbValue g.row.D.Denot). s.frames.journal) c.self-2.view_is in
-    read_told g.D.Disk c.args.self.now m c.find-found.new.self b begins c.find-found.ensures.goes ends same kept
+    read_told g.D.Disk c.args.self.now m c.find-found.new.self b begins c.find-found.ensures.reads.goes ends same kept
     c.find-found.result c.find-found.ensures.fault
 
 pub returns-in_err-snapshot-clause-lawful : goal.returns-in_err-snapshot-clause-lawful
@@ -251,6 +254,6 @@ returns-clause-lawful g c =
     (one_nothing g.D.Disk (pin_step g.D.Disk a m e.added e.journal e.begins c.in_ok-snapshot.ensures.pinned)) in
     let same : m.frames.journal ≡ c.args.self.now.frames.journal =
     e.journal ∙ ap (λ (s : DbValue g.row.D.Denot). s.frames.journal) c.self.view_is in
-    lawful_answer g.D.Disk c.args.self.now m begins same c.in_ok-snapshot.snapshot
-    ((c.in_ok-snapshot.ensures.pinned).commits ∙ ap (λ (j : JournalValue g.row.D.Denot). j.flushed) same)
-    c.find-found.result c.find-found.ensures.cause
+    if_err c.find-found.result
+    (λ x. meets_later g.D.Disk c.args.self.now m x begins (kept_fault g.D.Disk c.args.self.now m same))
+    c.find-found.ensures.lawful
