@@ -33,7 +33,7 @@ use Rattle.entry_tree.proofs.EntryLists.{in_there, after_greater, with_postings_
 
 -- ---- how many bytes entries have
 
-abbrev fields : List Entry → List ℕ
+abbrev pub fields : List Entry → List ℕ
 fields entries = flat_map entry_bytes entries
 
 fields_both : (front back : List Entry)
@@ -41,24 +41,24 @@ fields_both : (front back : List Entry)
 fields_both front back =
     ap length (flat_map-append entry_bytes front back) ∙ length-append (fields front) (fields back)
 
-fields_with : (front back : List Entry) (e : Entry)
+pub fields_with : (front back : List Entry) (e : Entry)
     → length (fields (front ++ e ∷ back)) ≡ length (fields (front ++ back)) + length (entry_bytes e)
 fields_with front back e = omega
     (arith, fields_both front (e ∷ back), fields_both front back, length-append (entry_bytes e) (fields back))
 
-list_size : (key list : List ℕ) → length (entry_bytes (list_entry key list)) ≡ 5 + length key + length list
+pub list_size : (key list : List ℕ) → length (entry_bytes (list_entry key list)) ≡ 5 + length key + length list
 list_size key list = omega (arith, length-entry_bytes (list_entry key list), length-inline list)
 
-many_fields : (entries : List Entry) → 2 * length entries ≤ length (fields entries)
+pub many_fields : (entries : List Entry) → 2 * length entries ≤ length (fields entries)
 many_fields [] = omega arith
 many_fields (e ∷ entries) =
     omega (arith, length-append (entry_bytes e) (fields entries), length-entry_bytes e, many_fields entries)
 
-leaf_size : (high : List ℕ) (entries : List Entry)
+pub leaf_size : (high : List ℕ) (entries : List Entry)
     → length (body_bytes (body.EntryLeaf high entries)) ≡ length (high_key_bytes high) + length (fields entries)
 leaf_size high entries = length-append (high_key_bytes high) (fields entries)
 
-entries_size : (high : List ℕ) (front back : List Entry) (key list : List ℕ)
+pub entries_size : (high : List ℕ) (front back : List Entry) (key list : List ℕ)
     → length (body_bytes (body.EntryLeaf high (front ++ list_entry key list ∷ back)))
     ≡ length (body_bytes (body.EntryLeaf high (front ++ back))) + (5 + length key + length list)
 entries_size high front back key list = omega (

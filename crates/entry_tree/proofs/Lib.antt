@@ -4,6 +4,7 @@ mod FoundPlaces
 mod Reached
 mod EntryLists
 mod AddedPages
+pub mod RootedPages
 mod AdoptedPages
 mod GrownPages
 mod SplitParts

@@ -3,6 +3,7 @@ pub mod Finding
 pub mod Reading
 pub mod Growing
 pub mod Adding
+pub mod Rooting
 pub mod Adopting
 pub mod Splitting
 pub mod Logging

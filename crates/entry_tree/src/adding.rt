@@ -142,7 +142,7 @@ fn with_list(
 }
 
 /// The page as a leaf with these entries.
-fn leaf_of(page: &Page, high: &Bytes, entries: Entries) -> Result<Page, AllocError>
+pub(crate) fn leaf_of(page: &Page, high: &Bytes, entries: Entries) -> Result<Page, AllocError>
     ensures { IfOk result (λ leaf.
         leaf ≡ record page.now { body = body.EntryLeaf high.now entries }) }
 {

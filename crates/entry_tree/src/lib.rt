@@ -1,5 +1,6 @@
-//! Pages of the entry tree: a key is sought on one, items are added under it, a page is split, a
-//! root grows, and a parent takes the new page of a page that was split.
+//! Pages of the entry tree: a key is sought on one, items are added under it, an entry leads to a
+//! posting tree, a page is split, a root grows, and a parent takes the new page of a page that was
+//! split.
 //!
 //! The entry tree is a B-tree of keys. A leaf has entries, each a key with its items; an inner page
 //! has children, each with the greatest key that may be below it.
@@ -11,6 +12,7 @@ mod finding;
 mod growing;
 mod laws;
 mod pages;
+mod rooting;
 mod searching;
 mod splitting;
 
@@ -20,4 +22,5 @@ pub use finding::{Found, find};
 pub use growing::grow;
 pub use laws::{found_leads_down, pages_may_be_logged};
 pub use pages::{first_child, has_room, upper};
+pub use rooting::root_at;
 pub use splitting::split;

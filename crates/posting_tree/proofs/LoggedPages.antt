@@ -1,18 +1,20 @@
 -- Found pages lead on, and the pages that are made here are what their records ask.
-use Rattle.std.proofs.Common.{◌≡◌, ℕ, [], ◌∷◌, refl, sym, ap, subst}
+use Rattle.std.proofs.Common.{◌≡◌, ℕ, suc, [], ◌∷◌, take, drop, refl, sym, ap, subst}
 use Rattle.std.specs.List.{Contains}
 use Rattle.page_types.specs.Numbers.{no_bound}
-use Rattle.page_types.specs.Views.{posting_items_in}
+use Rattle.page_types.specs.Views.{entries_in, posting_items_in}
 use Rattle.page_types.specs.declared.page.Page.{Page}
 use Rattle.page_types.specs.declared.page.Body.{Body}
 use Rattle.page_types.specs.declared.page.Body.TheVariants as body
 use Rattle.core_state.specs.Changes.{made_with, ItemUpTo}
 use Rattle.core_state.specs.TreeRules.{TowardItem, OneChild}
+use Rattle.entry_tree.specs.Reading.{upper_in as high_in}
+use Rattle.entry_tree.proofs.RootedPages.{listed_is, rooted_is}
 use Rattle.posting_tree.specs.declared.adding.Added.{Added}
 use Rattle.posting_tree.specs.declared.adding.Added.TheVariants as added
 use Rattle.posting_tree.specs.Reading.{IsPostBody, upper_in}
 use Rattle.posting_tree.specs.Finding.{IsFoundIn}
-use Rattle.posting_tree.specs.Adding.{IsAnswer}
+use Rattle.posting_tree.specs.Adding.{first_leaf, IsAnswer}
 use Rattle.posting_tree.specs.Logging.{FoundLeadsDown, FirstLeafIsLogged, AddedPostingsAreLogged, GrownRootIsLogged}
 use Rattle.posting_tree.proofs.Members.{items_added, contained}
 
@@ -21,22 +23,24 @@ leads_down P item p _ q (IsFoundIn.down front back c content below up) way =
     TowardItem.down front back c content below up way
 
 pub first_logged : FirstLeafIsLogged
-first_logged k r since page new key high list front back old was entry kind_is pages is_new = record {
+first_logged k r since page new place key list old was of_leaf at kind_is pages is_new = record {
   page = page;
   new = new;
   key = key;
-  high = high;
+  high = high_in old.body;
   items = list;
-  front = front;
-  back = back;
+  front = take place (entries_in old.body);
+  back = drop (suc place) (entries_in old.body);
   old = old;
   was = was;
   kind_is = kind_is;
   pages = pages;
   is_new = is_new;
   before_is = refl;
-  inline = entry;
-  after_is = refl;
+  inline = listed_is old.body place key list of_leaf at;
+  after_is = ap
+      (λ (b : Body). made_with r old.right b ∷ made_with r (first_leaf list).right (first_leaf list).body ∷ [])
+      (rooted_is old.body place new key list at);
 }
 
 one_child : (new : ℕ) (b : Body) → IsPostBody b

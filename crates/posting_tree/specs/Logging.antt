@@ -1,12 +1,10 @@
 -- What is found is on the way of an item, and the pages that are made here are what their records ask of pages.
-use Rattle.std.specs.Prelude.{◌≡◌, ℕ, ◌<◌, List, [], ◌∷◌, ◌++◌, length}
-use Rattle.std.specs.List.{Contains}
+use Rattle.std.specs.Prelude.{◌≡◌, ℕ, ◌<◌, List, [], ◌∷◌, length, Some}
+use Rattle.std.specs.List.{slice_get, Contains}
 use Rattle.page_types.specs.Encoding.{body_bytes}
 use Rattle.page_types.specs.Pages.{IsPage}
-use Rattle.page_types.specs.Views.{posting_items_in}
+use Rattle.page_types.specs.Views.{entries_in, posting_items_in}
 use Rattle.page_types.specs.declared.page.Page.{Page}
-use Rattle.page_types.specs.declared.page.Entry.{Entry}
-use Rattle.page_types.specs.declared.page.Body.TheVariants as body
 use Rattle.page_types.specs.declared.record.Record.{Record}
 use Rattle.page_types.specs.declared.record.Kind.TheVariants as kind
 use Rattle.core_state.specs.Log.{Pages, changed}
@@ -15,7 +13,8 @@ use Rattle.core_state.specs.Changes.{made_with, IsNew, ItemUpTo}
 use Rattle.core_state.specs.TreeRules.{TowardItem, IsMakeTreeHere, IsAddPostingsHere, IsGrowRootHere, PostParent}
 use Rattle.core_state.specs.TreeRules.{IsSplitHere, half_body}
 use Rattle.posting_code.specs.declared.dividing.Keep.{Keep}
-use Rattle.entry_tree.specs.Adding.{list_entry, tree_entry}
+use Rattle.entry_tree.specs.Adding.{IsEntryLeaf, list_entry}
+use Rattle.entry_tree.specs.Rooting.{rooted}
 use Rattle.entry_tree.specs.Growing.{moved_down}
 use Rattle.entry_tree.specs.Splitting.{AreParts}
 use Rattle.posting_tree.specs.declared.finding.Found.TheVariants as found
@@ -31,15 +30,15 @@ FoundLeadsDown =
     (P : Pages) (item p child q : ℕ)
     → IsFound (P p) item (found.Down child) → TowardItem P item child q → TowardItem P item p q
 
--- the first leaf of a key's list, and the leaf of entries where the key's entry then names it, are what a MakeTree asks
--- of its pages
+-- the first leaf of a key's list, and the leaf of entries where the key's entry then leads to it, are what a MakeTree
+-- asks of its pages
 abbrev pub FirstLeafIsLogged : Type 0
 FirstLeafIsLogged =
-    (k : Known) (r : Record) (since page new : ℕ) (key high list : List ℕ) (front back : List Entry) (old was : Page)
-    → old.body ≡ body.EntryLeaf high (front ++ list_entry key list ∷ back)
+    (k : Known) (r : Record) (since page new place : ℕ) (key list : List ℕ) (old was : Page)
+    → IsEntryLeaf old.body → slice_get (entries_in old.body) place ≡ Some (list_entry key list)
     → r.kind ≡ kind.MakeTree → changed r ≡ page ∷ new ∷ [] → IsNew k.uses since new
     → IsMakeTreeHere since k r (old ∷ was ∷ [])
-    (made_with r old.right (body.EntryLeaf high (front ++ tree_entry key new ∷ back))
+    (made_with r old.right (rooted old.body place new)
     ∷ made_with r (first_leaf list).right (first_leaf list).body ∷ [])
 
 -- what an AddPostings of these items asks of its page
