@@ -4,12 +4,16 @@ use Rattle.std.specs.String.{string_bytes}
 use Rattle.ts_parser.specs.TokensOf.{tokens_of}
 use Rattle.shell_script.specs.Replies as replies
 use Rattle.shell_script.specs.declared.replies.TextFault.{TextFault}
-use Rattle.shell_script.specs.declared.replies.TextFault.TheVariants.{BadVector, BadQuery, LongLexeme, LargeVector, LargeQuery}
+use Rattle.shell_script.specs.declared.replies.TextFault.TheVariants.{BadVector, BadQuery, LongLexeme}
+use Rattle.shell_script.specs.declared.replies.TextFault.TheVariants.{LargeVector, LargeQuery}
 use Rattle.shell_script.specs.declared.replies.Refusal.{Refusal}
-use Rattle.shell_script.specs.declared.replies.Refusal.TheVariants.{NoStatement, NoConfiguration, NoDictionary, Text, NoDocument, Conflict, StoreFull, LogFull, TransactionsSpent, Down, Device, BadPage, Memory}
+use Rattle.shell_script.specs.declared.replies.Refusal.TheVariants.{NoStatement, NoConfiguration, NoDictionary}
+use Rattle.shell_script.specs.declared.replies.Refusal.TheVariants.{Text, NoDocument, Conflict, StoreFull, LogFull}
+use Rattle.shell_script.specs.declared.replies.Refusal.TheVariants.{TransactionsSpent, Down, Device, BadPage, Memory}
 use Rattle.shell_script.specs.declared.replies.CommitLine.{CommitLine}
 use Rattle.shell_script.specs.declared.replies.Reply.{Reply}
-use Rattle.shell_script.specs.declared.replies.Reply.TheVariants.{Stored, Removed, Lists, Vector, Query, Tokens, Commits, Done, Refused}
+use Rattle.shell_script.specs.declared.replies.Reply.TheVariants.{Stored, Removed, Lists, Vector}
+use Rattle.shell_script.specs.declared.replies.Reply.TheVariants.{Query, Tokens, Commits, Done, Refused}
 
 abbrev pub text_fault : TextFault → replies.TextFault
 text_fault (BadVector at) = replies.bad_vector at

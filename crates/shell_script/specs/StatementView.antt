@@ -11,7 +11,8 @@ use Rattle.shell_script.specs.declared.sources.Part.{Part}
 use Rattle.shell_script.specs.declared.sources.Expr.{Expr}
 use Rattle.shell_script.specs.declared.docs.Doc.{Doc}
 use Rattle.shell_script.specs.declared.statement.Statement.{Statement}
-use Rattle.shell_script.specs.declared.statement.Statement.TheVariants.{Insert, Update, Delete, Search, Show, Ask, Parse, Commits, Invalid}
+use Rattle.shell_script.specs.declared.statement.Statement.TheVariants.{Insert, Update, Delete, Search}
+use Rattle.shell_script.specs.declared.statement.Statement.TheVariants.{Show, Ask, Parse, Commits, Invalid}
 
 abbrev pub vector_source : VectorSource → grammar.VectorSource
 vector_source (vectors.Text text) = grammar.vector_text (string_bytes text)

@@ -1,5 +1,6 @@
 -- The steps of a script, computed.
-use Rattle.std.specs.Prelude.{◌≡◌, ◌↔◌, ℕ, zero, suc, List, [], ◌∷◌, length, codes, Bool, true, false, if◌then◌else◌, ◌==◌, ◌||◌, bytes_eq}
+use Rattle.std.specs.Prelude.{◌≡◌, ◌↔◌, ℕ, zero, suc, List, [], ◌∷◌, length, codes}
+use Rattle.std.specs.Prelude.{Bool, true, false, if◌then◌else◌, ◌==◌, ◌||◌, bytes_eq}
 use Rattle.std.specs.List.{list_any}
 use Rattle.shell_script.specs.Lines.{Line, script_lines}
 use Rattle.shell_script.specs.Steps.{Step, single, definition, stray, AreSteps}
@@ -69,7 +70,8 @@ steps_from k within [] = []
 steps_from (suc k) within (l ∷ ls) = steps_from k within ls
 steps_from zero within (l ∷ ls) =
     if is_skipped l.bytes then steps_from 0 within ls
-    else steps_at (role within l.bytes) l ls (steps_from 0 false ls) (steps_from 0 true ls) (steps_from (suc (length (body_of ls))) false ls)
+    else steps_at (role within l.bytes) l ls (steps_from 0 false ls) (steps_from 0 true ls)
+    (steps_from (suc (length (body_of ls))) false ls)
 
 abbrev pub steps_of : List ℕ → List Step
 steps_of text = steps_from 0 false (script_lines text)

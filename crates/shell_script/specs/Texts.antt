@@ -5,8 +5,11 @@ use Rattle.ts_parser.specs.declared.iter.Token.{Token}
 use Rattle.ts_parser.specs.Kinds.{type_number}
 use Rattle.page_types.specs.declared.page.Name.{Name}
 use Rattle.shell_script.specs.Replies.{TextFault, bad_vector, bad_query, long_lexeme, large_vector, large_query}
-use Rattle.shell_script.specs.Replies.{Refusal, no_statement, no_configuration, no_dictionary, text_refused, no_document, conflict, store_full, log_full, transactions_spent, down, device, bad_page, memory}
-use Rattle.shell_script.specs.Replies.{CommitLine, Reply, stored, removed, lists, shows_vector, shows_query, shows_tokens, shows_commits, done, refused}
+use Rattle.shell_script.specs.Replies.{Refusal, no_statement, no_configuration, no_dictionary, text_refused}
+use Rattle.shell_script.specs.Replies.{no_document, conflict, store_full, log_full, transactions_spent}
+use Rattle.shell_script.specs.Replies.{down, device, bad_page, memory}
+use Rattle.shell_script.specs.Replies.{CommitLine, Reply, stored, removed, lists, shows_vector}
+use Rattle.shell_script.specs.Replies.{shows_query, shows_tokens, shows_commits, done, refused}
 
 abbrev pub name_text : Name → List ℕ
 name_text n = decimal n.page ++ codes "/" ++ decimal n.slot ++ codes "#" ++ decimal n.serial

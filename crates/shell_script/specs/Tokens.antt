@@ -26,4 +26,5 @@ IsToken (quote t) = Unit {0}
 -- the line has these tokens, between blanks: after each is what may be after a word
 abbrev pub IsSpelled : List ℕ → List ScriptToken → Type 0
 IsSpelled line [] = All IsBlank line
-IsSpelled line (t ∷ ts) = (gap : List ℕ) × (rest : List ℕ) × All IsBlank gap × IsToken t × (line ≡ gap ++ (spelling t ++ rest)) × EndsWord rest × IsSpelled rest ts
+IsSpelled line (t ∷ ts) = (gap : List ℕ) × (rest : List ℕ) × All IsBlank gap × IsToken t
+    × (line ≡ gap ++ (spelling t ++ rest)) × EndsWord rest × IsSpelled rest ts

@@ -1,5 +1,6 @@
 // The lines of a configuration.
-ghost use Rattle.std.specs.Prelude.{◌≡◌, ◌≢◌, ℕ, ◌<◌, List, [], ◌∷◌, length, map, drop, ◌+◌, IfSome, IfNone, MatchOption, Some, None};
+ghost use Rattle.std.specs.Prelude.{◌≡◌, ◌≢◌, ℕ, ◌<◌, List, [], ◌∷◌, length, map};
+ghost use Rattle.std.specs.Prelude.{drop, ◌+◌, IfSome, IfNone, MatchOption, Some, None};
 ghost use Rattle.std.specs.Iterator.{YieldsFirst, YieldsFirstRef, item_count};
 ghost use Rattle.std.specs.List.{All, join_with_byte};
 ghost use Rattle.ts_parser.specs.declared.kinds.TokenType.{TokenType as Kinds};

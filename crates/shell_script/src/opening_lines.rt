@@ -4,7 +4,8 @@ ghost use Rattle.std.specs.Char.{IsAsciiDigit};
 ghost use Rattle.ts_base.specs.Bytes.{BeginsWithout};
 ghost use Rattle.ts_base.specs.Words.{BeginsWithWord};
 ghost use Rattle.shell_script.specs.Tokens.{ScriptToken, IsSpelled, word};
-ghost use Rattle.shell_script.specs.OpeningLines.{IsNameByte, IsName, IsNamedKind, IsOpeningLine, OpeningLine as Said, Kind as KindOf, mark_tokens, kind_tokens};
+ghost use Rattle.shell_script.specs.OpeningLines.{IsNameByte, IsName, IsNamedKind, IsOpeningLine};
+ghost use Rattle.shell_script.specs.OpeningLines.{OpeningLine as Said, Kind as KindOf, mark_tokens, kind_tokens};
 ghost use Rattle.shell_script.specs.OpeningLineView.{opening_line, kind};
 ghost use Rattle.shell_script.specs.Inner.Fronts.{Fronts};
 

@@ -1,10 +1,12 @@
 // The steps of a script, one after another.
-ghost use Rattle.std.specs.Prelude.{◌≡◌, ◌≢◌, ℕ, ◌+◌, ◌<◌, ◌≤◌, ◌^◌, List, [], ◌∷◌, ◌++◌, ◌||◌, length, IfSome, IfNone, codes, Bool, true, false, bytes_eq, suc};
+ghost use Rattle.std.specs.Prelude.{◌≡◌, ◌≢◌, ℕ, ◌+◌, ◌<◌, ◌≤◌, ◌^◌, List, [], ◌∷◌, ◌++◌, ◌||◌};
+ghost use Rattle.std.specs.Prelude.{length, IfSome, IfNone, codes, Bool, true, false, bytes_eq, suc};
 ghost use Rattle.std.specs.Iterator.{YieldsFirstBy, item_count};
 ghost use Rattle.std.specs.List.{All};
 ghost use Rattle.std.specs.Str.Lines.{lines};
 ghost use Rattle.shell_script.specs.Lines.{lines_from};
-ghost use Rattle.shell_script.specs.StepsOf.{is_end, is_skipped as skips, role as role_in, role_outside, body_of, has_end, defined_steps, steps_from};
+ghost use Rattle.shell_script.specs.StepsOf.{is_end, is_skipped as skips, role as role_in};
+ghost use Rattle.shell_script.specs.StepsOf.{role_outside, body_of, has_end, defined_steps, steps_from};
 ghost use Rattle.shell_script.specs.StepView.{line as shown, step as view_of};
 ghost use Rattle.shell_script.specs.Inner.Cuts.{IsCut};
 

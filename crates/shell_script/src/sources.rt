@@ -1,8 +1,11 @@
 // What vectors and queries are made of: expressions, and queries by a configuration.
-ghost use Rattle.std.specs.Prelude.{◌≡◌, ℕ, List, [], ◌∷◌, ◌++◌, IfOk, IfSome, IfNone, IsTrue, codes, map, string_bytes, MatchOption, ◌≢◌};
-ghost use Rattle.shell_script.specs.Grammar.{strip_tokens, weight_letter, weight_tokens, source_tokens, part_tokens, joined_tokens, expr_tokens, maker_word, query_tokens};
+ghost use Rattle.std.specs.Prelude.{◌≡◌, ℕ, List, [], ◌∷◌, ◌++◌, IfOk, IfSome, IfNone};
+ghost use Rattle.std.specs.Prelude.{IsTrue, codes, map, string_bytes, MatchOption, ◌≢◌};
+ghost use Rattle.shell_script.specs.Grammar.{strip_tokens, weight_letter, weight_tokens, source_tokens, part_tokens};
+ghost use Rattle.shell_script.specs.Grammar.{joined_tokens, expr_tokens, maker_word, query_tokens};
 ghost use Rattle.shell_script.specs.Grammar.{IsSource, IsExpr, IsQuery};
-ghost use Rattle.shell_script.specs.Grammar.{VectorSource as Vectors, QuerySource as Queries, Part as Parted, Expr as Joined};
+ghost use Rattle.shell_script.specs.Grammar.{VectorSource as Vectors, QuerySource as Queries};
+ghost use Rattle.shell_script.specs.Grammar.{Part as Parted, Expr as Joined};
 ghost use Rattle.shell_script.specs.Tokens.{IsSpelled, word, quote};
 ghost use Rattle.shell_script.specs.Tokens.{ScriptToken as Spelled};
 ghost use Rattle.shell_script.specs.Inner.Fronts.{Fronts};

@@ -1,5 +1,6 @@
 // What a line says.
-ghost use Rattle.std.specs.Prelude.{◌≡◌, ◌↔◌, ℕ, List, [], ◌∷◌, ◌++◌, IfOk, IfSome, IfNone, IsTrue, codes, map, string_bytes};
+ghost use Rattle.std.specs.Prelude.{◌≡◌, ◌↔◌, ℕ, List, [], ◌∷◌, ◌++◌, IfOk, IfSome};
+ghost use Rattle.std.specs.Prelude.{IfNone, IsTrue, codes, map, string_bytes};
 ghost use Rattle.shell_script.specs.Grammar.{IsSession, IsStatement, label};
 ghost use Rattle.shell_script.specs.Grammar.{Statement as Said, Expr as Joined, IsExpr, expr_tokens};
 ghost use Rattle.shell_script.specs.Docs.{Doc as Named, IsDoc};

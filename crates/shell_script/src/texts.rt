@@ -2,8 +2,10 @@
 ghost use Rattle.std.specs.Prelude.{◌≡◌, List, [], ◌∷◌, ◌++◌, IfOk, OnOk, codes, decimal};
 ghost use Rattle.std.specs.List.{flat_map};
 ghost use Rattle.shell_script.specs.ReplyView.{text_fault, refusal, reply, commit_line};
-ghost use Rattle.shell_script.specs.Texts.{name_text, names_after, label_text, behind_space, refusal_text, reply_text, token_line, commit_text, last_line};
-ghost use Rattle.shell_script.specs.Texts.{fault_words as words_of_fault, fault_detail as detail_of_fault, refusal_words as words_of, refusal_detail as detail_of};
+ghost use Rattle.shell_script.specs.Texts.{name_text, names_after, label_text, behind_space};
+ghost use Rattle.shell_script.specs.Texts.{refusal_text, reply_text, token_line, commit_text, last_line};
+ghost use Rattle.shell_script.specs.Texts.{fault_words as words_of_fault, fault_detail as detail_of_fault};
+ghost use Rattle.shell_script.specs.Texts.{refusal_words as words_of, refusal_detail as detail_of};
 
 use crate::replies::{CommitLine, Refusal, Reply, TextFault};
 use itoa::Buffer;

@@ -17,5 +17,6 @@ IsNoQuote b = b ≢ 39
 -- Each token takes a byte at least.
 pub record Fronts (text : List ℕ) (front : List ScriptToken) (rest : List ℕ) : Type 0 where
   pub goes_on : (ts : List ScriptToken) → IsSpelled rest ts → IsSpelled text (front ++ ts)
-  pub came_so : (us : List ScriptToken) → IsSpelled text us → (ts : List ScriptToken) × (us ≡ front ++ ts) × IsSpelled rest ts
+  pub came_so : (us : List ScriptToken) → IsSpelled text us
+      → (ts : List ScriptToken) × (us ≡ front ++ ts) × IsSpelled rest ts
   pub takes : length front + length rest ≤ length text

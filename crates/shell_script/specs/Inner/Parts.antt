@@ -1,8 +1,11 @@
 -- The words of a text, and the types that it names.
-use Rattle.std.specs.Prelude.{◌≡◌, ℕ, zero, suc, ◌==◌, if◌then◌else◌, List, [], ◌∷◌, length, map, Option, Some, None, bytes_eq}
+use Rattle.std.specs.Prelude.{◌≡◌, ℕ, zero, suc, ◌==◌, if◌then◌else◌, List, []}
+use Rattle.std.specs.Prelude.{◌∷◌, length, map, Option, Some, None, bytes_eq}
 use Rattle.std.specs.List.{join_with_byte}
 use Rattle.ts_parser.specs.declared.kinds.TokenType.{TokenType}
-use Rattle.ts_parser.specs.declared.kinds.TokenType.TheVariants.{Asciiword, Word, Numword, Sfloat, Version, HwordNumpart, HwordPart, HwordAsciipart, Blank, Numhword, Asciihword, Hword, Float, Int, Uint}
+use Rattle.ts_parser.specs.declared.kinds.TokenType.TheVariants.{Asciiword, Word, Numword, Sfloat, Version}
+use Rattle.ts_parser.specs.declared.kinds.TokenType.TheVariants.{HwordNumpart, HwordPart, HwordAsciipart, Blank}
+use Rattle.ts_parser.specs.declared.kinds.TokenType.TheVariants.{Numhword, Asciihword, Hword, Float, Int, Uint}
 use Rattle.ts_parser.specs.Kinds.{type_name}
 use Rattle.shell_script.specs.StepsOf.{is_blank, word_of}
 
@@ -10,7 +13,8 @@ use Rattle.shell_script.specs.StepsOf.{is_blank, word_of}
 abbrev pub words_from : ℕ → List ℕ → List (List ℕ)
 words_from k [] = []
 words_from (suc k) (b ∷ bytes) = words_from k bytes
-words_from zero (b ∷ bytes) = if is_blank b then words_from 0 bytes else (b ∷ word_of bytes) ∷ words_from (length (word_of bytes)) bytes
+words_from zero (b ∷ bytes) =
+    if is_blank b then words_from 0 bytes else (b ∷ word_of bytes) ∷ words_from (length (word_of bytes)) bytes
 
 abbrev pub words_in : List ℕ → List (List ℕ)
 words_in text = words_from 0 text
@@ -25,7 +29,8 @@ part_of [] = []
 part_of (b ∷ bytes) = if b == comma then [] else b ∷ part_of bytes
 
 abbrev pub all_types : List TokenType
-all_types = Asciiword ∷ Word ∷ Numword ∷ Sfloat ∷ Version ∷ HwordNumpart ∷ HwordPart ∷ HwordAsciipart ∷ Blank ∷ Numhword ∷ Asciihword ∷ Hword ∷ Float ∷ Int ∷ Uint ∷ []
+all_types = Asciiword ∷ Word ∷ Numword ∷ Sfloat ∷ Version ∷ HwordNumpart ∷ HwordPart ∷ HwordAsciipart ∷ Blank
+    ∷ Numhword ∷ Asciihword ∷ Hword ∷ Float ∷ Int ∷ Uint ∷ []
 
 -- the first of these types that has this name
 abbrev pub named_among : List TokenType → List ℕ → Option TokenType
@@ -43,7 +48,8 @@ with_type (Some k) ks = k ∷ ks
 abbrev pub types_from : ℕ → List ℕ → List TokenType
 types_from k [] = []
 types_from (suc k) (b ∷ bytes) = types_from k bytes
-types_from zero (b ∷ bytes) = with_type (type_named (part_of (b ∷ bytes))) (types_from (length (part_of (b ∷ bytes))) bytes)
+types_from zero (b ∷ bytes) =
+    with_type (type_named (part_of (b ∷ bytes))) (types_from (length (part_of (b ∷ bytes))) bytes)
 
 abbrev pub types_in : List ℕ → List TokenType
 types_in text = types_from 0 text
