@@ -1,6 +1,7 @@
-//! Inserts made documents of eight words into a store in memory, and searches it: by calls of the store, and by scans
-//! over its pages, which say how many heads they read. It prints counts. With the word `time` there are 20,000 documents
-//! in place of 1,000, and it is also printed what an insert, a search and a page that is held and given back cost.
+//! Inserts made documents of eight words into a store in memory, and searches it: by calls of the
+//! store, and by scans over its pages, which say how many heads they read. It prints counts. With the
+//! word `time` there are 20,000 documents in place of 1,000, and it is also printed what an insert, a
+//! search and a page that is held and given back cost.
 #![tactic(auto)]
 
 mod documents;
