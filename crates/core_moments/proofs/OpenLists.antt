@@ -118,7 +118,8 @@ last_same t [] = refl
 last_same t (x ∷ xs) = last_same x.length xs
 
 -- a page that was read after others
-read_behind : (R : Log) (from : ℕ) (front : List Read) (x : Read) (back : List Read) → AreReads R from (front ++ x ∷ back)
+read_behind : (R : Log) (from : ℕ) (front : List Read) (x : Read) (back : List Read)
+    → AreReads R from (front ++ x ∷ back)
     → (last_length from front ≤ x.length) × (x.length ≤ length R) × WasShown R x
 read_behind R from [] x back r = (r.0, r.1, r.2)
 read_behind R from (y ∷ ys) x back r = read_behind R y.length ys x back r.3

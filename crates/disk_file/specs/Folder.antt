@@ -1,5 +1,6 @@
 -- A folder with the two files of a store, and what its calls do to it.
-use Rattle.std.specs.Prelude.{◌≡◌, ◌≢◌, ℕ, ◌-◌, ◌<◌, ◌≤◌, min, Bool, true, ◌&&◌, List, length, take, drop, Option, None, Some, Result, OnOk, OnErr, IfOk}
+use Rattle.std.specs.Prelude.{◌≡◌, ◌≢◌, ℕ, ◌-◌, ◌<◌, ◌≤◌, min, Bool, true, ◌&&◌, List, length, take, drop, Option, None}
+use Rattle.std.specs.Prelude.{Some, Result, OnOk, OnErr, IfOk}
 use Rattle.disk_trait.specs.Files.{Files}
 use Rattle.disk_trait.specs.Device.{Past, Elapses, LeavesNoMore, Follows, FileTorn, FileWritten, Rose}
 use Rattle.disk_trait.specs.declared.device.File.{File}

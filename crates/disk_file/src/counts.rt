@@ -4,6 +4,7 @@ ghost use Rattle.disk_trait.specs.Device.{last_count};
 
 use disk_trait::Failed;
 
+/// The counts of a device's failures.
 #[derive(Drop)]
 pub struct Counts {
     /// Of all calls.
@@ -13,6 +14,7 @@ pub struct Counts {
 }
 
 impl Counts {
+    /// Nothing has failed.
     pub fn new() -> Counts
         ensures { (result.faults ≡ 0) × (result.writes ≡ 0) }
     {

@@ -3,7 +3,8 @@ ghost use Rattle.std.specs.Prelude.{◌≡◌, ◌⊎◌, ◌+◌, ◌<◌, ◌�
 ghost use Rattle.std.specs.Io.{ReadsAtMost};
 ghost use Rattle.disk_trait.specs.Device.{FileTorn, FileWritten, Reads, Elapses, LeavesNoMore, Follows, Durable, Rose};
 ghost use Rattle.disk_trait.specs.Files.{file_bytes, file_limit};
-ghost use Rattle.disk_file.specs.FileDisk.{folder_of, faults_of, write_faults_of, HasNoneOpen, IsAtLast, CountsAsking, CountsWriting};
+ghost use Rattle.disk_file.specs.FileDisk.{folder_of, faults_of, write_faults_of, HasNoneOpen, IsAtLast, CountsAsking};
+ghost use Rattle.disk_file.specs.FileDisk.{CountsWriting};
 ghost use Rattle.disk_file.specs.Folder.{left_now, OnlyLooks, Holds};
 
 use crate::counts::Counts;

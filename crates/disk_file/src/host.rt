@@ -5,7 +5,8 @@ ghost use Rattle.std.specs.IoError.{error_kind};
 ghost use Rattle.disk_trait.specs.Files.{file_bytes, file_limit};
 ghost use Rattle.disk_trait.specs.Device.{Durable};
 ghost use Rattle.disk_trait.specs.declared.device.File.{File};
-ghost use Rattle.disk_file.specs.Folder.{FolderState, left_now, StandsStill, OnlyLooks, OnlyTears, OnlySettles, ReadsSome, HasPut, Blames, TakesSome};
+ghost use Rattle.disk_file.specs.Folder.{FolderState, left_now, StandsStill, OnlyLooks, OnlyTears, OnlySettles};
+ghost use Rattle.disk_file.specs.Folder.{ReadsSome, HasPut, Blames, TakesSome};
 
 use disk_trait::File;
 use std::io::{self, ErrorKind};

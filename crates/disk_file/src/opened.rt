@@ -5,7 +5,8 @@ ghost use Rattle.disk_trait.specs.Files.{file_bytes, file_limit};
 ghost use Rattle.disk_trait.specs.Device.{Reads, Durable};
 ghost use Rattle.disk_trait.specs.declared.device.File.{File};
 ghost use Rattle.disk_trait.specs.declared.device.File.TheVariants.{Log, Pages};
-ghost use Rattle.disk_file.specs.Folder.{left_now, StandsStill, OnlyLooks, OnlyTears, OnlySettles, HasPut, Blames, is_held, slot, other_slot, StaysHeld, Holds};
+ghost use Rattle.disk_file.specs.Folder.{left_now, StandsStill, OnlyLooks, OnlyTears, OnlySettles, HasPut, Blames};
+ghost use Rattle.disk_file.specs.Folder.{is_held, slot, other_slot, StaysHeld, Holds};
 
 use crate::calls::{length_of, open_file, read_from, write_to};
 use crate::host::HostFolder;
@@ -26,6 +27,7 @@ pub struct Opened<F: HostFolder> {
 }
 
 impl<F: HostFolder> Opened<F> {
+    /// Neither file is opened.
     pub fn new(folder: F) -> Opened<F>
         ensures closed { (result.log ≡ None) × (result.pages ≡ None) }
         ensures over { result.folder ≡ folder }
@@ -76,6 +78,7 @@ impl<F: HostFolder> Opened<F> {
         }
     }
 
+    /// Reads bytes of a file from a place on, and says how many; the first call on the file opens it.
     pub fn read(&mut self, file: File, at: u64, buf: &mut [u8]) -> io::Result<usize>
         requires { at ≤ file_limit }
         ensures holds { Holds file self.old.log self.old.pages self.new.log self.new.pages
@@ -97,6 +100,7 @@ impl<F: HostFolder> Opened<F> {
         }
     }
 
+    /// Writes all of these bytes at a place of a file; the first call on the file opens it.
     pub fn write(&mut self, file: File, at: u64, bytes: &[u8]) -> io::Result<()>
         requires { at + length bytes.now ≤ file_limit }
         ensures holds { Holds file self.old.log self.old.pages self.new.log self.new.pages
@@ -114,6 +118,7 @@ impl<F: HostFolder> Opened<F> {
         answer
     }
 
+    /// Syncs a file; the first call on it opens it.
     pub fn sync(&mut self, file: File) -> io::Result<()>
         ensures holds { Holds file self.old.log self.old.pages self.new.log self.new.pages
             result }
@@ -129,6 +134,7 @@ impl<F: HostFolder> Opened<F> {
         answer
     }
 
+    /// How many bytes a file has; the first call on it opens it.
     pub fn length(&mut self, file: File) -> io::Result<u64>
         ensures holds { Holds file self.old.log self.old.pages self.new.log self.new.pages
             result }

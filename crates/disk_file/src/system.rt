@@ -24,6 +24,7 @@ impl<'a, R: Files<File = fs::File>> SystemFolder<'a, R> {
     }
 }
 
+/// The name of a file in the folder.
 fn name_of(file: File) -> &'static str {
     match file {
         File::Log => "ginsh.log",

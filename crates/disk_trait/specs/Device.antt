@@ -1,6 +1,7 @@
 -- What the calls of a device do to its files, to its clock and its counts, and to what a crash
 -- leaves.
-use Rattle.std.specs.Prelude.{◌≡◌, ◌⊎◌, ℕ, ◌+◌, ◌-◌, ◌^◌, ◌<◌, ◌≤◌, min, max, List, length, get_or, take, drop, Result, OnOk, OnErr}
+use Rattle.std.specs.Prelude.{◌≡◌, ◌⊎◌, ℕ, ◌+◌, ◌-◌, ◌^◌, ◌<◌, ◌≤◌, min, max, List, length, get_or, take, drop, Result}
+use Rattle.std.specs.Prelude.{OnOk, OnErr}
 use Rattle.disk_trait.specs.Files.{Files, file_bytes, other_bytes, overwritten}
 use Rattle.disk_trait.specs.declared.device.File.{File}
 

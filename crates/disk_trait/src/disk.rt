@@ -1,5 +1,6 @@
 // The device over two files in memory.
-ghost use Rattle.std.specs.Prelude.{◌≡◌, ◌⊎◌, ◌↔◌, ◌+◌, ◌-◌, ◌^◌, ◌<◌, ◌≤◌, min, length, take, drop, [], true, false, OnOk, OnErr, IfOk, IsErr, IsOk};
+ghost use Rattle.std.specs.Prelude.{◌≡◌, ◌⊎◌, ◌↔◌, ◌+◌, ◌-◌, ◌^◌, ◌<◌, ◌≤◌, min, length, take, drop, [], true, false};
+ghost use Rattle.std.specs.Prelude.{OnOk, OnErr, IfOk, IsErr, IsOk};
 ghost use Rattle.std.specs.Io.{ReadsAtMost};
 ghost use Rattle.disk_trait.specs.Events.{newest};
 
@@ -27,9 +28,11 @@ pub struct MemoryDisk {
 
 impl MemoryDisk {
     ghost use Rattle.disk_trait.specs.Schedules.{IsUnused, HasCounted, HasRisen, MustFail};
-    ghost use Rattle.disk_trait.specs.Inner.Kept.{HasBegunCall, HasWrittenTo, HasSyncedFile, HasKept, IsIdle, is_done, KeepsWrite, KeepsSync, Tries, SameFiles};
+    ghost use Rattle.disk_trait.specs.Inner.Kept.{HasBegunCall, HasWrittenTo, HasSyncedFile, HasKept, IsIdle, is_done};
+    ghost use Rattle.disk_trait.specs.Inner.Kept.{KeepsWrite, KeepsSync, Tries, SameFiles};
     ghost use Rattle.disk_trait.specs.Files.{Files, file_bytes, file_limit};
-    ghost use Rattle.disk_trait.specs.MemoryDisk.{seen_of, image_of, schedule_of, clock_of, write_faults_of, with_fails, OnlyAsks};
+    ghost use Rattle.disk_trait.specs.MemoryDisk.{seen_of, image_of, schedule_of, clock_of, write_faults_of};
+    ghost use Rattle.disk_trait.specs.MemoryDisk.{with_fails, OnlyAsks};
     ghost use Rattle.disk_trait.specs.Device.{last_count, HasCause, CountsFailures};
 
     /// Two empty files. The calls in the list fail.
@@ -229,8 +232,10 @@ impl MemoryDisk {
 
 impl Disk for MemoryDisk {
     ghost use Rattle.disk_trait.specs.Files.{Files, file_bytes, file_limit};
-    ghost use Rattle.disk_trait.specs.Device.{FileTorn, FileWritten, Reads, Elapses, LeavesNoMore, LeavesAll, Follows, Durable};
-    ghost use Rattle.disk_trait.specs.MemoryDisk.{seen_of, image_of, clock_of, faults_of, write_faults_of, OnlyAsks, CountsWrite};
+    ghost use Rattle.disk_trait.specs.Device.{FileTorn, FileWritten, Reads, Elapses, LeavesNoMore, LeavesAll, Follows};
+    ghost use Rattle.disk_trait.specs.Device.{Durable};
+    ghost use Rattle.disk_trait.specs.MemoryDisk.{seen_of, image_of, clock_of, faults_of, write_faults_of, OnlyAsks};
+    ghost use Rattle.disk_trait.specs.MemoryDisk.{CountsWrite};
     ghost use Rattle.disk_trait.specs.Inner.Standing.{seen_is_image};
 
     ghost tells = { Unit {0} };

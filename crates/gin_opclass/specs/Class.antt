@@ -10,14 +10,16 @@ pub record Asked : Type 0 where
   pub key : Key
   pub prefix : Bool
 
--- its keys, whether it reads the whole index, the vectors that satisfy it, and the judge's answer to a value for each key
+-- its keys, whether it reads the whole index, the vectors that satisfy it, and the judge's answer to a value for
+-- each key
 pub record Meaning (Q : Type 0) : Type 1 where
   pub asked : Q → List Asked
   pub all : Q → Bool
   pub satisfies : Q → Vector → Type 0
   pub judged : Q → List Tri → Tri
 
-abbrev pub meaning : {Q : Type 0} → (Q → List Asked) → (Q → Bool) → (Q → Vector → Type 0) → (Q → List Tri → Tri) → Meaning Q
+abbrev pub meaning : {Q : Type 0} → (Q → List Asked) → (Q → Bool) → (Q → Vector → Type 0) → (Q → List Tri → Tri)
+    → Meaning Q
 meaning a b c d = record { asked = a; all = b; satisfies = c; judged = d }
 
 -- the key that is asked for, or one that begins with it
@@ -47,6 +49,8 @@ SoundValues P (x ∷ xs) (t ∷ ts) = SoundValue (P x) t × SoundValues P xs ts
 -- For sound values True says that the vector satisfies the query, and False that it does not.
 -- The whole index is read for a query of which not even False for each key excludes a vector.
 pub record JudgeIsSound {Q : Type 0} (M : Meaning Q) : Type 0 where
-  pub yes : (q : Q) (v : Vector) (values : List Tri) → SoundValues (HasKey v) (M.asked q) values → M.judged q values ≡ True → M.satisfies q v
-  pub no : (q : Q) (v : Vector) (values : List Tri) → SoundValues (HasKey v) (M.asked q) values → M.judged q values ≡ False → ¬ M.satisfies q v
+  pub yes : (q : Q) (v : Vector) (values : List Tri) → SoundValues (HasKey v) (M.asked q) values
+      → M.judged q values ≡ True → M.satisfies q v
+  pub no : (q : Q) (v : Vector) (values : List Tri) → SoundValues (HasKey v) (M.asked q) values
+      → M.judged q values ≡ False → ¬ M.satisfies q v
   pub whole : (q : Q) → M.judged q (map (λ a. False) (M.asked q)) ≢ False → M.all q ≡ true

@@ -11,7 +11,8 @@ use std::cmp::Ordering;
 use std::marker::PhantomData;
 use ts_base::Tri;
 
-/// The keys that a query asks for, one for each operand, each with whether it is a prefix; and whether the whole index is read.
+/// The keys that a query asks for, one for each operand, each with whether it is a prefix; and whether the whole
+/// index is read.
 #[derive(Debug, Drop)]
 pub struct QueryKeys {
     /// A key for each operand, and whether it is a prefix.

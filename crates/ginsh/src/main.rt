@@ -96,8 +96,8 @@ where
     }
 }
 
-// A file that is opened gets the lowest number that is free. So where a standard stream is closed, the folder `/`
-// takes its number, which can be neither read nor written: no reply goes into a file of the store.
+/// A file that is opened gets the lowest number that is free. So where a standard stream is closed, the folder `/`
+/// takes its number, which can be neither read nor written: no reply goes into a file of the store.
 fn main(rt: HostRuntime) -> ExitCode {
     let _first = File::open(&rt, "/");
     let _second = File::open(&rt, "/");

@@ -73,6 +73,7 @@ impl Held {
     }
 }
 
+/// The place of a frame among two; 2 where it is not there.
 fn two(frame: u32, a: u32, b: u32) -> usize
     ensures { result ≡ position frame (a ∷ b ∷ []) }
 {
@@ -85,18 +86,21 @@ fn two(frame: u32, a: u32, b: u32) -> usize
     }
 }
 
+/// The place of a frame among three; 3 where it is not there.
 fn three(frame: u32, a: u32, b: u32, c: u32) -> usize
     ensures { result ≡ position frame (a ∷ b ∷ c ∷ []) }
 {
     if a == frame { 0 } else { 1 + two(frame, b, c) }
 }
 
+/// What is left of one without this frame; all, where it is not there.
 fn without_one(frame: u32, a: u32) -> Held
     ensures { numbers result ≡ removed frame (a ∷ []) }
 {
     if a == frame { Held::None } else { Held::One(a) }
 }
 
+/// What is left of two without this frame; all, where it is not there.
 fn without_two(frame: u32, a: u32, b: u32) -> Held
     ensures { numbers result ≡ removed frame (a ∷ b ∷ []) }
 {
@@ -110,6 +114,7 @@ fn without_two(frame: u32, a: u32, b: u32) -> Held
     }
 }
 
+/// What is left of three without this frame; all, where it is not there.
 fn without_three(frame: u32, a: u32, b: u32, c: u32) -> Held
     ensures { numbers result ≡ removed frame (a ∷ b ∷ c ∷ []) }
 {
@@ -126,6 +131,7 @@ fn without_three(frame: u32, a: u32, b: u32, c: u32) -> Held
     }
 }
 
+/// What is left of four without this frame; all, where it is not there.
 fn without_four(frame: u32, a: u32, b: u32, c: u32, d: u32) -> Held
     ensures { numbers result ≡ removed frame (a ∷ b ∷ c ∷ d ∷ []) }
 {

@@ -148,6 +148,7 @@ fn journal_of<F: Drop, J>(mut slots: Vec<Slot<F, J>>) -> J
     journal
 }
 
+/// Drops the frames in these slots.
 fn drop_frames<F: Drop, J>(mut slots: Vec<Slot<F, J>>)
     requires { (frames : List F) × (slots.items ≡ map Frame frames) }
 {

@@ -243,6 +243,7 @@ impl<F: Framed, J: Journaled> LatchTable<F, J> {
         self.table.shared.load::<Look>(&mut pass.seat, 0);
     }
 
+    /// Claims the right of maintenance, and waits until it is free.
     fn take_work_waiting<R: Wait>(&self, rt: &R, seat: &mut Place<F, J>)
         requires table { seat.old.table_id ≡ self.now.table.shared.table_id }
         requires room { 0 < seat.old.me.0.room }
@@ -260,6 +261,7 @@ impl<F: Framed, J: Journaled> LatchTable<F, J> {
         unreachable!()
     }
 
+    /// Claims the journal, and waits until it is free.
     fn take_journal_waiting<R: Wait>(&self, rt: &R, seat: &mut Place<F, J>) -> J
         requires table { seat.old.table_id ≡ self.now.table.shared.table_id }
         requires room { 0 < seat.old.me.0.room }
@@ -278,6 +280,7 @@ impl<F: Framed, J: Journaled> LatchTable<F, J> {
         unreachable!()
     }
 
+    /// Claims a frame for a page, and waits until it is free.
     fn take_waiting<R: Wait>(&self, rt: &R, seat: &mut Place<F, J>, frame: usize, page: u32) -> F
         requires table { (seat.old.table_id ≡ self.now.table.shared.table_id)
             × (frame + 2 < self.now.table.shared.table_id.slots) }

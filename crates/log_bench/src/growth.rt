@@ -2,7 +2,7 @@
 use crate::device::Times;
 use crate::logs::log_of;
 use crate::shell::{Ended, run_script};
-use crate::statements::{Row, rows, script_of};
+use crate::statements::{Series, all_series, script_of};
 use anyhow::{Result, ensure};
 use bench_base::WatchedDisk;
 use disk_trait::MemoryDisk;
@@ -23,17 +23,17 @@ where
     Ok(ended)
 }
 
-/// Prints how long a statement of each row took, beside its calls of the device.
-fn print_times<R>(rt: &R, rows: &[Row<'_>], times: &Times<'_, R>) -> Result<()>
+/// Prints how long a statement of each series took, beside its calls of the device.
+fn print_times<R>(rt: &R, series: &[Series<'_>], times: &Times<'_, R>) -> Result<()>
 where
     R: Clock + Print,
 {
-    for row in rows {
-        let all = Duration::from_nanos(times.of(row.session)).as_secs_f64();
-        let each = all * 1_000_000.0 / f64::from(row.count());
+    for one in series {
+        let all = Duration::from_nanos(times.of(one.session)).as_secs_f64();
+        let each = all * 1_000_000.0 / f64::from(one.count());
         println!(rt;
             "{}: {each:.1} microseconds each, beside their calls",
-            row.name
+            one.name
         )?;
     }
     Ok(())
@@ -60,10 +60,10 @@ where
     R: Threads + Wait + Sync + Clock + Print + AllocGlobal,
 {
     let alloc = rt.alloc();
-    let rows = rows(alloc, timed)?;
+    let series = all_series(alloc, timed)?;
     let untimed = Times::begin(alloc, rt, false)?;
     let none = run_over_none(rt, &untimed, Vec::new(alloc))?;
-    let script = script_of(alloc, &rows)?;
+    let script = script_of(alloc, &series)?;
     let times = Times::begin(alloc, rt, timed)?;
     let ended = run_over_none(rt, &times, script)?;
     let WatchedDisk { disk, .. } = ended.store;
@@ -73,7 +73,7 @@ where
     println!(rt; "a store that grows: {calls} calls of the device, a log of {bytes} bytes")?;
     let seconds = open_again(rt, disk)?;
     if timed {
-        print_times(rt, &rows, &times)?;
+        print_times(rt, &series, &times)?;
         println!(rt; "its log was opened in {seconds:.3} seconds")?;
     }
     Ok(())

@@ -15,9 +15,10 @@ const TRANSACTIONS: u32 = 500;
 /// The bytes of a batch: a record that has no fields and changes no page has 18.
 const BATCH_BYTES: u32 = TRANSACTIONS * 2 * 18;
 
-/// The kinds of the records that begin a transaction and abort it.
+/// The kind of the record that begins a transaction.
 const BEGIN: u8 = 2;
 
+/// The kind of the record that aborts it.
 const ABORT: u8 = 4;
 
 /// The most bytes of a log here.

@@ -25,7 +25,7 @@ const MANY: &str = "\
 
 /// So many statements of a session.
 #[derive(Clone, Copy, Debug)]
-pub(crate) struct Row<'a> {
+pub(crate) struct Series<'a> {
     /// The session's number.
     pub(crate) session: u32,
     /// The verb.
@@ -37,16 +37,16 @@ pub(crate) struct Row<'a> {
     pub(crate) name: &'a str,
 }
 
-impl<'a> Row<'a> {
-    /// The row that a line says.
-    fn read(line: &'a str) -> Row<'a> {
+impl<'a> Series<'a> {
+    /// The series that a line says.
+    fn read(line: &'a str) -> Series<'a> {
         let mut words = line.splitn(5, ' ');
         let session = words.next().unwrap_or("").parse().unwrap_or(0);
         let verb = words.next().unwrap_or("");
         let first = words.next().unwrap_or("").parse().unwrap_or(0);
         let end = words.next().unwrap_or("").parse().unwrap_or(0);
         let name = words.next().unwrap_or("");
-        Row {
+        Series {
             session,
             verb,
             first,
@@ -61,10 +61,10 @@ impl<'a> Row<'a> {
     }
 }
 
-/// The rows of the script.
-pub(crate) fn rows(alloc: Global, timed: bool) -> Result<Vec<Row<'static>>, AllocError> {
+/// The series of the script.
+pub(crate) fn all_series(alloc: Global, timed: bool) -> Result<Vec<Series<'static>>, AllocError> {
     let text = if timed { MANY } else { FEW };
-    text.lines().map(Row::read).collect(alloc)
+    text.lines().map(Series::read).collect(alloc)
 }
 
 /// Pushes eight words, as numbers drawn one after another say.
@@ -80,17 +80,17 @@ fn push_words(script: &mut String, drawn: &mut u32) -> Result<(), AllocError> {
 /// Pushes the statement of this number.
 fn push_statement(
     script: &mut String,
-    row: &Row<'_>,
+    one: &Series<'_>,
     number: u32,
     drawn: &mut u32,
 ) -> Result<(), AllocError> {
-    write!(script, "@{} {}", row.session, row.verb)?;
-    match row.verb {
+    write!(script, "@{} {}", one.session, one.verb)?;
+    match one.verb {
         "search" => script.push_str(" 'w241'\n"),
         "insert" => push_words(script, drawn),
         _ => {
             write!(script, " 2/{number}#{}", number.saturating_add(1))?;
-            if row.verb == "update" {
+            if one.verb == "update" {
                 return push_words(script, drawn);
             }
             script.push('\n')
@@ -98,20 +98,20 @@ fn push_statement(
     }
 }
 
-/// Pushes the statements of a row.
-fn push_row(script: &mut String, row: &Row<'_>, drawn: &mut u32) -> Result<(), AllocError> {
-    for number in row.first..row.end {
-        push_statement(script, row, number, drawn)?;
+/// Pushes the statements of a series.
+fn push_series(script: &mut String, one: &Series<'_>, drawn: &mut u32) -> Result<(), AllocError> {
+    for number in one.first..one.end {
+        push_statement(script, one, number, drawn)?;
     }
     Ok(())
 }
 
-/// The script of these rows.
-pub(crate) fn script_of(alloc: Global, rows: &[Row<'_>]) -> Result<Vec<u8>, AllocError> {
+/// The script of these series.
+pub(crate) fn script_of(alloc: Global, series: &[Series<'_>]) -> Result<Vec<u8>, AllocError> {
     let mut script = String::new(alloc);
     let mut drawn = 0;
-    for row in rows {
-        push_row(&mut script, row, &mut drawn)?;
+    for one in series {
+        push_series(&mut script, one, &mut drawn)?;
     }
     Ok(script.into_bytes())
 }

@@ -79,7 +79,7 @@ pub fn page_in(alloc: Global, bytes: &PageBytes) -> Result<PlainPage, Fault> {
         },
         Err(PageError::OutOfMemory) => Err(Fault::OutOfMemory),
         Err(PageError::BadPage { .. }) => Err(Fault::Broken(
-            "the bytes of a page are its spelling",
+            "the bytes of a page are its encoding",
         )),
     }
 }

@@ -1,5 +1,6 @@
 -- The bodies of pages, read from left to right.
-use Rattle.std.specs.Prelude.{ℕ, zero, suc, ◌+◌, ◌-◌, Bool, ◌&&◌, ◌||◌, List, [], ◌∷◌, length, take, Option, Some, None, Result, Ok, Err, nat_lt, nat_le, ◌==◌, if◌then◌else◌}
+use Rattle.std.specs.Prelude.{ℕ, zero, suc, ◌+◌, ◌-◌, Bool, ◌&&◌, ◌||◌, List, [], ◌∷◌, length, take, Option, Some, None}
+use Rattle.std.specs.Prelude.{Result, Ok, Err, nat_lt, nat_le, ◌==◌, if◌then◌else◌}
 use Rattle.page_types.specs.Numbers.{page_limit, item_limit, most_short, most_inline, no_bound}
 use Rattle.page_types.specs.Fields.{◌>>=◌, number_at, bytes_at, tested}
 use Rattle.page_types.specs.declared.page.Head.{Head}
@@ -37,7 +38,18 @@ head_at bytes = do
   private ← below_at page_limit overflow.1
   size ← number_at 4 private.1
   vector ← vector_at size.0 size.1
-  Ok (record { serial = serial.0; inserted_by = inserted_by.0; deleted_by = deleted_by.0; overflow = overflow.0; private = private.0; bytes = size.0; vector = vector.0 }, vector.1)
+  Ok (
+    record {
+      serial = serial.0;
+      inserted_by = inserted_by.0;
+      deleted_by = deleted_by.0;
+      overflow = overflow.0;
+      private = private.0;
+      bytes = size.0;
+      vector = vector.0;
+    },
+    vector.1,
+  )
 
 -- a used slot after the byte 1
 unfoldable pub used_slot_at : List ℕ → Read (Option Head)
@@ -137,7 +149,8 @@ entry_child_at right last behind bytes = do
   Ok (record { page = page.0; bound = bound.0 }, bound.1)
 
 abbrev pub entry_children_at : ℕ → ℕ → List ℕ → Read (List EntryChild)
-entry_children_at right count bytes = each_at (λ last behind rest. entry_child_at right last behind rest) (λ c. c.bound) [] count [] bytes
+entry_children_at right count bytes =
+    each_at (λ last behind rest. entry_child_at right last behind rest) (λ c. c.bound) [] count [] bytes
 
 -- a bound that is at least so great
 unfoldable pub item_bound_at : Bool → ℕ → List ℕ → Read ℕ
@@ -152,7 +165,8 @@ post_child_at right least behind bytes = do
   Ok (record { page = page.0; bound = bound.0 }, bound.1)
 
 abbrev pub post_children_at : ℕ → ℕ → List ℕ → Read (List PostChild)
-post_children_at right count bytes = each_at (λ least behind rest. post_child_at right least behind rest) (λ c. c.bound + 1) 0 count [] bytes
+post_children_at right count bytes =
+    each_at (λ least behind rest. post_child_at right least behind rest) (λ c. c.bound + 1) 0 count [] bytes
 
 -- a high item, which is 0 exactly where there is no right link
 abbrev pub is_high_item : ℕ → ℕ → Bool

@@ -1,9 +1,11 @@
 -- What the first two bytes of a page say: the kind of a live page, or of a deleted one, and what goes with it.
-use Rattle.std.specs.Prelude.{ℕ, zero, suc, Bool, true, ◌&&◌, List, [], ◌∷◌, Option, Some, None, nat_le, nat_lt, ◌==◌, if◌then◌else◌}
+use Rattle.std.specs.Prelude.{ℕ, zero, suc, Bool, true, ◌&&◌, List, [], ◌∷◌, Option, Some, None, nat_le, nat_lt, ◌==◌}
+use Rattle.std.specs.Prelude.{if◌then◌else◌}
 use Rattle.std.specs.List.{slice_get}
 use Rattle.page_types.specs.Numbers.{page_limit, most_slots}
 use Rattle.page_code.specs.declared.form.Form.{Form}
-use Rattle.page_code.specs.declared.form.Form.TheVariants.{Free, Meta, Heap, Overflow, Pending, EntryLeaf, EntryInner, PostLeaf, PostInner, GoneOverflow, GonePending, GonePostLeaf}
+use Rattle.page_code.specs.declared.form.Form.TheVariants.{Free, Meta, Heap, Overflow, Pending, EntryLeaf, EntryInner}
+use Rattle.page_code.specs.declared.form.Form.TheVariants.{PostLeaf, PostInner, GoneOverflow, GonePending, GonePostLeaf}
 
 -- the kind of a deleted page
 abbrev pub deleted_kind : ℕ

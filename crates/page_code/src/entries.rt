@@ -2,7 +2,8 @@
 ghost use Rattle.std.specs.Prelude.{◌≡◌, [], Ok};
 ghost use Rattle.page_types.specs.Fields.{Gives};
 ghost use Rattle.page_types.specs.Parts.{postings_shown, entry_shown, child_shown};
-ghost use Rattle.page_code.specs.Bodies.{inline_size_at, inline_at, root_at, postings_at, entry_at, entries_at, high_key_at, entry_leaf_at, may_lack_bound, entry_child_at, entry_children_at};
+ghost use Rattle.page_code.specs.Bodies.{inline_size_at, inline_at, root_at, postings_at, entry_at, entries_at};
+ghost use Rattle.page_code.specs.Bodies.{high_key_at, entry_leaf_at, may_lack_bound, entry_child_at, entry_children_at};
 
 use crate::fields::{read_below, read_bound, read_key};
 use crate::items::skip_list;

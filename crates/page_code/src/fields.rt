@@ -2,7 +2,8 @@
 ghost use Rattle.std.specs.Prelude.{◌≡◌, IsTrue};
 ghost use Rattle.std.specs.Str.{IsAscii, is_utf8};
 ghost use Rattle.page_types.specs.Fields.{Gives};
-ghost use Rattle.page_code.specs.Fields.{below_at, are_zeros, zeros_at, is_key_text, is_key, is_above, sized_at, key_at, bound_at};
+ghost use Rattle.page_code.specs.Fields.{below_at, are_zeros, zeros_at, is_key_text, is_key, is_above, sized_at};
+ghost use Rattle.page_code.specs.Fields.{key_at, bound_at};
 
 use page_types::{MOST_KEY_TEXT, ReadError, slice_at, u16_at, u32_at};
 use std::cmp::Ordering;

@@ -1,7 +1,8 @@
 // The pages of a posting tree, read from left to right.
 ghost use Rattle.std.specs.Prelude.{◌≡◌, [], Ok};
 ghost use Rattle.page_types.specs.Fields.{Gives};
-ghost use Rattle.page_code.specs.Bodies.{item_bound_at, may_lack_bound, post_child_at, post_children_at, is_high_item, high_item_at, posting_at};
+ghost use Rattle.page_code.specs.Bodies.{item_bound_at, may_lack_bound, post_child_at, post_children_at, is_high_item};
+ghost use Rattle.page_code.specs.Bodies.{high_item_at, posting_at};
 
 use crate::fields::read_below;
 use crate::items::skip_items;

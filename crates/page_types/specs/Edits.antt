@@ -26,4 +26,5 @@ edited number (Delta front start cut bytes) old = framed front number (spliced s
 -- A delta can be made where it lies within the used length, which is that of a page, and so is the new one.
 abbrev pub CanEdit : Edit → List ℕ → Type 0
 CanEdit (Image bytes) old = ⊤
-CanEdit (Delta front start cut bytes) old = (used_in old ≤ most_body) × (start + cut ≤ used_in old) × (used_in old + length bytes ≤ most_body + cut)
+CanEdit (Delta front start cut bytes) old =
+    (used_in old ≤ most_body) × (start + cut ≤ used_in old) × (used_in old + length bytes ≤ most_body + cut)

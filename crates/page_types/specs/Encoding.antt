@@ -12,7 +12,8 @@ use Rattle.page_types.specs.declared.page.Postings.TheVariants.{Inline, Root}
 use Rattle.page_types.specs.declared.page.EntryChild.{EntryChild}
 use Rattle.page_types.specs.declared.page.PostChild.{PostChild}
 use Rattle.page_types.specs.declared.page.Body.{Body}
-use Rattle.page_types.specs.declared.page.Body.TheVariants.{Free, Meta, Heap, Overflow, Pending, EntryLeaf, EntryInner, PostLeaf, PostInner, Deleted}
+use Rattle.page_types.specs.declared.page.Body.TheVariants.{Free, Meta, Heap, Overflow, Pending, EntryLeaf, EntryInner}
+use Rattle.page_types.specs.declared.page.Body.TheVariants.{PostLeaf, PostInner, Deleted}
 use Rattle.page_types.specs.declared.page.Gone.{Gone}
 use Rattle.page_types.specs.declared.page.Gone.TheVariants as gone
 
@@ -21,7 +22,8 @@ unfoldable pub key_field : List ℕ → List ℕ
 key_field key = u16_bytes (length key) ++ key
 
 unfoldable pub head_bytes : Head → List ℕ
-head_bytes h = u64_bytes h.serial ++ (u32_bytes h.inserted_by ++ (u32_bytes h.deleted_by ++ (u32_bytes h.overflow ++ (u32_bytes h.private ++ (u32_bytes h.bytes ++ h.vector)))))
+head_bytes h = u64_bytes h.serial ++ (u32_bytes h.inserted_by ++ (u32_bytes h.deleted_by
+    ++ (u32_bytes h.overflow ++ (u32_bytes h.private ++ (u32_bytes h.bytes ++ h.vector)))))
 
 -- a slot is the byte 0, free, or the byte 1 and a head
 abbrev pub slot_bytes : Option Head → List ℕ
@@ -114,7 +116,8 @@ front_bytes p = kind_of p.body ∷ was_of p.body ∷ (u16_bytes (count_of p.body
 
 -- a page with these bytes 0 to 7, this stamp and this body
 unfoldable pub framed : List ℕ → ℕ → List ℕ → List ℕ
-framed front stamp body = front ++ (u64_bytes stamp ++ (u16_bytes (length body) ++ (zeros 6 ++ (body ++ zeros (most_body - length body)))))
+framed front stamp body =
+    front ++ (u64_bytes stamp ++ (u16_bytes (length body) ++ (zeros 6 ++ (body ++ zeros (most_body - length body)))))
 
 unfoldable pub page_bytes : Page → List ℕ
 page_bytes p = framed (front_bytes p) p.stamp (body_bytes p.body)

@@ -1,6 +1,7 @@
 -- An item list read from left to right, with the first fault that is met: the number of bytes that were left before
 -- the field that is refused, 0 where the bytes end within it.
-use Rattle.std.specs.Prelude.{ℕ, zero, suc, ◌+◌, ◌-◌, ◌*◌, ◌&&◌, nat_lt, cond, List, [], ◌∷◌, length, Option, Some, None, Result, Ok, Err}
+use Rattle.std.specs.Prelude.{ℕ, zero, suc, ◌+◌, ◌-◌, ◌*◌, ◌&&◌, nat_lt, cond, List, [], ◌∷◌, length, Option, Some}
+use Rattle.std.specs.Prelude.{None, Result, Ok, Err}
 use Rattle.page_types.specs.Numbers.{item_limit}
 use Rattle.page_types.specs.Fields.{◌>>=◌}
 
@@ -35,7 +36,8 @@ number_within (suc most) (b ∷ bs) = cond (nat_lt b 128) (Some (Some b, bs)) (w
 abbrev pub item_with : ℕ → ℕ → Option (Option ℕ × List ℕ) → Result (ℕ × List ℕ) ℕ
 item_with last left None = Err 0
 item_with last left (Some (None, rest)) = Err left
-item_with last left (Some (Some n, rest)) = cond (nat_lt 0 n && nat_lt (last + n) item_limit) (Ok (last + n, rest)) (Err left)
+item_with last left (Some (Some n, rest)) =
+    cond (nat_lt 0 n && nat_lt (last + n) item_limit) (Ok (last + n, rest)) (Err left)
 
 -- the next item after the item `last`, and the bytes after it
 unfoldable pub item_at : ℕ → List ℕ → Result (ℕ × List ℕ) ℕ

@@ -27,7 +27,8 @@ EncodingHasParts = (p : Page) → IsPage p → HasParts p
 
 -- a delta with a page's front that makes its body of another's gives its encoding
 abbrev pub DeltaLeadsToPage : Type 0
-DeltaLeadsToPage = (p q : Page) (start cut : ℕ) (bytes : List ℕ) → IsPage p → body_bytes q.body ≡ spliced start cut bytes (body_bytes p.body)
+DeltaLeadsToPage = (p q : Page) (start cut : ℕ) (bytes : List ℕ) → IsPage p
+    → body_bytes q.body ≡ spliced start cut bytes (body_bytes p.body)
     → edited q.stamp (Delta (front_bytes q) start cut bytes) (page_bytes p) ≡ page_bytes q
 
 -- two item lists never have the same items
@@ -44,7 +45,8 @@ ItemsHaveList = (items : List ℕ) → AreItems items → HasList items
 
 -- bytes are read as items exactly where they are the list of these
 abbrev pub ReadingTellsItems : Type 0
-ReadingTellsItems = (bytes is : List ℕ) → ((i : ℕ) → get_or bytes i 0 < 256) → (items_read bytes ≡ Ok is) ↔ (IsItemList bytes × (items_of bytes ≡ is))
+ReadingTellsItems = (bytes is : List ℕ) → ((i : ℕ) → get_or bytes i 0 < 256)
+    → (items_read bytes ≡ Ok is) ↔ (IsItemList bytes × (items_of bytes ≡ is))
 
 -- a record's encoding begins no other's
 abbrev pub EncodingTellsRecord : Type 0

@@ -15,7 +15,8 @@ use Rattle.page_types.specs.declared.page.Postings.TheVariants.{Inline, Root}
 use Rattle.page_types.specs.declared.page.EntryChild.{EntryChild}
 use Rattle.page_types.specs.declared.page.PostChild.{PostChild}
 use Rattle.page_types.specs.declared.page.Body.{Body}
-use Rattle.page_types.specs.declared.page.Body.TheVariants.{Free, Meta, Heap, Overflow, Pending, EntryLeaf, EntryInner, PostLeaf, PostInner, Deleted}
+use Rattle.page_types.specs.declared.page.Body.TheVariants.{Free, Meta, Heap, Overflow, Pending, EntryLeaf, EntryInner}
+use Rattle.page_types.specs.declared.page.Body.TheVariants.{PostLeaf, PostInner, Deleted}
 use Rattle.page_types.specs.declared.page.Gone.{Gone}
 use Rattle.page_types.specs.declared.page.Gone.TheVariants as gone
 

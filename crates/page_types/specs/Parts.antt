@@ -17,7 +17,15 @@ use Rattle.page_types.specs.declared.inners.EntryChildRef.{EntryChildRef}
 
 -- the head with these fields and this vector
 abbrev pub head_with : HeadFields → List ℕ → Head
-head_with f vector = record { serial = f.serial; inserted_by = f.inserted_by; deleted_by = f.deleted_by; overflow = f.overflow; private = f.private; bytes = f.bytes; vector = vector }
+head_with f vector = record {
+  serial = f.serial;
+  inserted_by = f.inserted_by;
+  deleted_by = f.deleted_by;
+  overflow = f.overflow;
+  private = f.private;
+  bytes = f.bytes;
+  vector = vector;
+}
 
 abbrev pub head_shown : HeadRef → Head
 head_shown r = head_with r.fields r.vector.now

@@ -53,14 +53,16 @@ kind_bytes _ = []
 -- the byte 0 and an image, or the byte 1 and a delta
 abbrev pub edit_bytes : Edit → List ℕ
 edit_bytes (Image bytes) = 0 ∷ bytes
-edit_bytes (Delta front start cut bytes) = 1 ∷ (front ++ (u16_bytes start ++ (u16_bytes cut ++ (u16_bytes (length bytes) ++ bytes))))
+edit_bytes (Delta front start cut bytes) =
+    1 ∷ (front ++ (u16_bytes start ++ (u16_bytes cut ++ (u16_bytes (length bytes) ++ bytes))))
 
 unfoldable pub change_bytes : Change → List ℕ
 change_bytes c = u32_bytes c.page ++ edit_bytes c.edit
 
 -- all after the length
 unfoldable pub record_rest : Record → List ℕ
-record_rest r = kind_number r.kind ∷ (u32_bytes r.xid ++ (u64_bytes r.number ++ (kind_bytes r.kind ++ (length r.changes ∷ flat_map change_bytes r.changes))))
+record_rest r = kind_number r.kind ∷ (u32_bytes r.xid ++ (u64_bytes r.number
+    ++ (kind_bytes r.kind ++ (length r.changes ∷ flat_map change_bytes r.changes))))
 
 unfoldable pub record_bytes : Record → List ℕ
 record_bytes r = u32_bytes (length (record_rest r)) ++ record_rest r

@@ -18,7 +18,7 @@ pub fn put(out: &mut [u8], at: usize, bytes: &[u8])
     out[at..end].copy_from_slice(bytes);
 }
 
-// The used length that a page's bytes have.
+/// The used length that a page's bytes have.
 #[tactic(auto, unfolding(crate::specs::Edits::used_in))]
 fn used_length(bytes: &[u8]) -> usize
     requires { length bytes.now ≡ PAGE_BYTES }
@@ -28,7 +28,7 @@ fn used_length(bytes: &[u8]) -> usize
     usize::from(LittleEndian::read_u16(&bytes[16..]))
 }
 
-// The page with a new front, a stamp and a body of three parts.
+/// The page with a new front, a stamp and a body of three parts.
 fn put_page(out: &mut [u8], front: &[u8; 8], number: u64, before: &[u8], new: &[u8], behind: &[u8])
     requires size { length out.old ≡ PAGE_BYTES }
     requires room { length before.now + length new.now + length behind.now ≤ MOST_BODY_BYTES }
@@ -44,7 +44,7 @@ fn put_page(out: &mut [u8], front: &[u8; 8], number: u64, before: &[u8], new: &[
     put(out, FRONT_BYTES + before.len() + new.len(), behind);
 }
 
-// A delta on a page's bytes, where it is in range.
+/// A delta on a page's bytes, where it is in range.
 fn put_delta(
     bytes: &mut [u8],
     number: u64,

@@ -6,7 +6,7 @@ ghost use Rattle.page_types.specs.Inner.Cuts.{EndAt, CanMove, start_at, moved, e
 
 use crate::splice::replace_run;
 
-// Where the list with this number begins.
+/// Where the list with this number begins.
 #[tactic(auto, using(crate::proofs::Cutting::start_before))]
 pub(crate) fn start_of(ends: &[usize], k: usize) -> usize
     requires { k ≤ length ends.now }
@@ -15,7 +15,7 @@ pub(crate) fn start_of(ends: &[usize], k: usize) -> usize
     if k == 0 { 0 } else { ends[k - 1] }
 }
 
-// Moves the ends of lists that began at `from` and now begin at `to`.
+/// Moves the ends of lists that began at `from` and now begin at `to`.
 fn move_ends(ends: &mut [usize], from: usize, to: usize)
     requires { EachIndex ends.old (λ k. (from ≤ slice_index ends.old k)
         × (to + (slice_index ends.old k - from) < 2 ^ 64)) }
@@ -26,7 +26,7 @@ fn move_ends(ends: &mut [usize], from: usize, to: usize)
     }
 }
 
-// The same of the ends from one number up to another.
+/// The same of the ends from one number up to another.
 fn move_some(ends: &mut Vec<usize>, low: usize, high: usize, from: usize, to: usize)
     requires in_order { low ≤ high }
     requires within { high ≤ length ends.old.items }
@@ -37,7 +37,7 @@ fn move_some(ends: &mut Vec<usize>, low: usize, high: usize, from: usize, to: us
     move_ends(&mut ends[low..high], from, to);
 }
 
-// The ends of lists with this size are in place of those from one number up to another. It takes no memory.
+/// The ends of lists with this size are in place of those from one number up to another. It takes no memory.
 pub(crate) fn replace_ends(
     ends: &mut Vec<usize>,
     from: usize,

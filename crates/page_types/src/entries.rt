@@ -1,5 +1,6 @@
 // The entries of a leaf of the entry tree.
-ghost use Rattle.std.specs.Prelude.{◌≡◌, ◌^◌, ◌<◌, ◌≤◌, [], ◌∷◌, ◌++◌, length, IsOk, IfOk, OnOk, OnErr, IfSome, IfNone, Some};
+ghost use Rattle.std.specs.Prelude.{◌≡◌, ◌^◌, ◌<◌, ◌≤◌, [], ◌∷◌, ◌++◌, length, IsOk, IfOk, OnOk, OnErr, IfSome, IfNone};
+ghost use Rattle.std.specs.Prelude.{Some};
 ghost use Rattle.std.specs.List.{slice_get, insert, remove, flat_map};
 ghost use Rattle.page_types.specs.Inner.Joins.{postings_with};
 ghost use Rattle.page_types.specs.Parts.{postings_shown, entry_shown};
@@ -50,7 +51,7 @@ impl Model for Entries {
         × (length e.lists ≡ length e.roots.items) };
 }
 
-// The two parts of what an entry leads to.
+/// The two parts of what an entry leads to.
 fn parts_of<'a>(postings: PostingsRef<'a>) -> (Option<u32>, &'a [u8])
     ensures whole { postings_with result.0 result.1.now ≡ postings_shown postings.entry }
     ensures list { result.1.now ≡ list_in (postings_shown postings.entry) }
@@ -156,7 +157,8 @@ impl Entries {
         }
     }
 
-    /// Other items of an entry; its key stays. Without memory all stay as they are; a list that is not longer, or a root, takes none.
+    /// Other items of an entry; its key stays. Without memory all stay as they are; a list that is not longer, or a
+    /// root, takes none.
     pub fn set_postings(&mut self, k: usize, postings: PostingsRef<'_>) -> Result<(), AllocError>
         requires { k < length self.old }
         ensures ok { OnOk result (self.new

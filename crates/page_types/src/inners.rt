@@ -1,5 +1,6 @@
 // The children of inner pages.
-ghost use Rattle.std.specs.Prelude.{◌≡◌, ◌^◌, ◌<◌, ◌≤◌, [], ◌∷◌, ◌++◌, length, slice_set, IsOk, OnOk, OnErr, IfSome, IfNone, Some};
+ghost use Rattle.std.specs.Prelude.{◌≡◌, ◌^◌, ◌<◌, ◌≤◌, [], ◌∷◌, ◌++◌, length, slice_set, IsOk, OnOk, OnErr, IfSome};
+ghost use Rattle.std.specs.Prelude.{IfNone, Some};
 ghost use Rattle.std.specs.List.{slice_get, insert, remove, flat_map};
 ghost use Rattle.page_types.specs.Encoding.{entry_child_bytes, post_child_bytes};
 

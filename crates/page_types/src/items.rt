@@ -1,5 +1,6 @@
 // Item lists, read from left to right.
-ghost use Rattle.std.specs.Prelude.{◌≡◌, ◌^◌, ◌+◌, ◌<◌, ◌≤◌, ℕ, List, length, IfSome, IfOk, IfErr, MatchResult, Ok, Err};
+ghost use Rattle.std.specs.Prelude.{◌≡◌, ◌^◌, ◌+◌, ◌<◌, ◌≤◌, ℕ, List, length, IfSome, IfOk, IfErr, MatchResult, Ok};
+ghost use Rattle.std.specs.Prelude.{Err};
 ghost use Rattle.std.specs.Option.{option_map};
 ghost use Rattle.page_types.specs.ItemReading.{number_end, number_within, raised, item_at, items_within, last_or};
 

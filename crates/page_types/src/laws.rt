@@ -1,5 +1,6 @@
 // What holds of all pages, item lists and records.
-ghost use Rattle.page_types.specs.Laws.{EncodingTellsPage, EncodingHasParts, DeltaLeadsToPage, ItemsTellList, ItemsHaveList, ReadingTellsItems, EncodingTellsRecord, EncodingTellsRecords};
+ghost use Rattle.page_types.specs.Laws.{EncodingTellsPage, EncodingHasParts, DeltaLeadsToPage, ItemsTellList};
+ghost use Rattle.page_types.specs.Laws.{ItemsHaveList, ReadingTellsItems, EncodingTellsRecord, EncodingTellsRecords};
 
 /// Two pages never share an encoding; where its parts are; what deltas make of it.
 pub fn pages_are_told()

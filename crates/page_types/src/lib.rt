@@ -1,4 +1,5 @@
-//! Pages of a store and records of its log as values, what bytes they stand for, and what a change makes of a page's bytes.
+//! Pages of a store and records of its log as values, what bytes they stand for, and what a change makes of a
+//! page's bytes.
 //!
 //! A page has 8192 bytes: a front of 24 bytes, a body of at most 8168, and zeros. A record is a number, a kind with its
 //! fields, and the changes of the pages that it changes. `specs/` says which bytes are which page and which record;

@@ -1,5 +1,6 @@
 // Byte strings that lie one after the other in one buffer.
-ghost use Rattle.std.specs.Prelude.{◌≡◌, ◌-◌, ◌<◌, ◌≤◌, [], ◌∷◌, ◌++◌, ◌+◌, length, take, drop, slice_range, slice_set, slice_index_or, OnOk, OnErr, IsOk, IfOk, IfSome, IfNone, Some};
+ghost use Rattle.std.specs.Prelude.{◌≡◌, ◌-◌, ◌<◌, ◌≤◌, [], ◌∷◌, ◌++◌, ◌+◌, length, take, drop, slice_range, slice_set};
+ghost use Rattle.std.specs.Prelude.{slice_index_or, OnOk, OnErr, IsOk, IfOk, IfSome, IfNone, Some};
 ghost use Rattle.std.specs.List.{slice_get, splice, insert, remove, sum_by};
 ghost use Rattle.page_types.specs.Inner.Cuts.{cut_at, EndAt};
 
@@ -116,7 +117,7 @@ impl Pieces {
         self.splice(n, n, more)
     }
 
-    // Strings that lie in other bytes are in place of so many from one number on.
+    /// Strings that lie in other bytes are in place of so many from one number on.
     pub(crate) fn replace(
         &mut self,
         from: usize,
@@ -141,7 +142,8 @@ impl Pieces {
         Ok(())
     }
 
-    /// Another string in place of the one with this number. Without memory all stay as they are; one that is not longer takes none.
+    /// Another string in place of the one with this number. Without memory all stay as they are; one that is not
+    /// longer takes none.
     pub fn set(&mut self, k: usize, piece: &[u8]) -> Result<(), AllocError>
         requires { k < length self.old }
         ensures ok { OnOk result (self.new ≡ slice_set self.old k piece.now) }
@@ -168,7 +170,8 @@ impl Pieces {
         self.replace(k, 1, &[], &[]).unwrap();
     }
 
-    /// The strings of another list in place of those from one number up to another. Without memory they stay as they are; as many or fewer that are not longer take none.
+    /// The strings of another list in place of those from one number up to another. Without memory they stay as
+    /// they are; as many or fewer that are not longer take none.
     pub fn splice(&mut self, from: usize, to: usize, with: &Pieces) -> Result<(), AllocError>
         requires in_order { from ≤ to }
         requires within { to ≤ length self.old }

@@ -1,5 +1,6 @@
 // The rows of a pending page.
-ghost use Rattle.std.specs.Prelude.{◌≡◌, ◌+◌, ◌-◌, ◌^◌, ◌<◌, ◌≤◌, [], ◌∷◌, ◌++◌, length, slice_range, slice_set, IsOk, OnOk, OnErr, IfSome, IfNone, Some};
+ghost use Rattle.std.specs.Prelude.{◌≡◌, ◌+◌, ◌-◌, ◌^◌, ◌<◌, ◌≤◌, [], ◌∷◌, ◌++◌, length, slice_range, slice_set, IsOk};
+ghost use Rattle.std.specs.Prelude.{OnOk, OnErr, IfSome, IfNone, Some};
 ghost use Rattle.std.specs.List.{slice_get, splice, insert, remove, sum_by, flat_map};
 ghost use Rattle.page_types.specs.Inner.Cuts.{cut_at, start_at, EndAt, Cuts};
 
@@ -40,7 +41,7 @@ impl Model for Rows {
         × (length r.items.items ≡ length r.ends.items) };
 }
 
-// The keys of other rows in place of those of so many rows from one number on.
+/// The keys of other rows in place of those of so many rows from one number on.
 fn replace_keys(
     ends: &mut Vec<usize>,
     all: &mut Pieces,
@@ -133,7 +134,8 @@ impl Rows {
         Ok(())
     }
 
-    /// Another row at a place. Without memory all stay as they are; as many keys or fewer that are not longer take none.
+    /// Another row at a place. Without memory all stay as they are; as many keys or fewer that are not longer take
+    /// none.
     pub fn set(&mut self, k: usize, item: u32, keys: &Pieces) -> Result<(), AllocError>
         requires { k < length self.old }
         ensures ok { OnOk result (self.new

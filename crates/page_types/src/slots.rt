@@ -57,7 +57,7 @@ impl Model for Slots {
     ghost invariant = { λ s. length s.fields.items ≡ length s.vectors };
 }
 
-// The two parts of a slot.
+/// The two parts of a slot.
 fn parts_of<'a>(slot: Option<HeadRef<'a>>) -> (Option<HeadFields>, &'a [u8])
     ensures whole { slot_with result.0 result.1.now ≡ option_map head_shown slot.entry }
     ensures vector { result.1.now ≡ vector_in (option_map head_shown slot.entry) }

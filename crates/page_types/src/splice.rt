@@ -5,7 +5,7 @@ ghost use Rattle.std.specs.Vec.{vec_capacity};
 
 use std::alloc::AllocError;
 
-// The elements from one place up to another go. It takes no memory.
+/// The elements from one place up to another go. It takes no memory.
 fn take_out<T: Copy>(list: &mut Vec<T>, from: usize, to: usize)
     requires in_order { from ≤ to }
     requires within { to ≤ length list.old.items }
@@ -16,7 +16,7 @@ fn take_out<T: Copy>(list: &mut Vec<T>, from: usize, to: usize)
     list.truncate(left);
 }
 
-// Elements come in at a place.
+/// Elements come in at a place.
 fn put_in<T: Copy>(list: &mut Vec<T>, at: usize, new: &[T]) -> Result<(), AllocError>
     requires { at ≤ length list.old.items }
     ensures ok { OnOk result (list.new.items ≡ splice list.old.items at at new.now) }
@@ -28,7 +28,7 @@ fn put_in<T: Copy>(list: &mut Vec<T>, at: usize, new: &[T]) -> Result<(), AllocE
     Ok(())
 }
 
-// Elements are written over those from a place on.
+/// Elements are written over those from a place on.
 fn put_over<T: Copy>(list: &mut Vec<T>, at: usize, new: &[T])
     requires { at + length new.now ≤ length list.old.items }
     ensures { list.new.items ≡ splice list.old.items at (at + length new.now) new.now }
@@ -37,7 +37,7 @@ fn put_over<T: Copy>(list: &mut Vec<T>, at: usize, new: &[T])
     list[at..end].copy_from_slice(new);
 }
 
-// Other elements in place of those from one place up to another. As many or fewer take no memory.
+/// Other elements in place of those from one place up to another. As many or fewer take no memory.
 pub(crate) fn replace_run<T: Copy>(
     list: &mut Vec<T>,
     from: usize,

@@ -339,7 +339,8 @@ even_half list f b h x y p q =
     IsEven.half (is_half list f b x) (omega (arith, p, ap length y.front_is)) (omega (arith, q, back_size h f b y))
 
 pub even_none : (list f b : List ℕ) → ((g c : List ℕ) → IsDivision list g c
-    → length (item_list g) < length list - length list / 2) → IsLastWithin 8164 list f b → IsEven (list_cutting list) f b
+    → length (item_list g) < length list - length list / 2) → IsLastWithin 8164 list f b
+    → IsEven (list_cutting list) f b
 even_none list f b none x =
     IsEven.longest (λ g c k p q. absurd (omega (arith, none g c k.divides, k.keeps))) (is_most list f b x)
 
@@ -373,7 +374,8 @@ pub cut_most : (list f b : List ℕ) (h : Halves) → IsLastWithin 8164 list f b
 cut_most list f b h x y le = IsCut.most (is_most list f b x) (omega (arith, le, ap length y.front_is))
 
 pub less_than_half : (list f b : List ℕ) (h : Halves) → IsLastWithin 8164 list f b → AreHalves h f b
-    → length h.front.now < length list - length h.front.now → (g c : List ℕ) → IsMost (list_cutting list) g c → KeepsHalf list g → ⊥
+    → length h.front.now < length list - length h.front.now → (g c : List ℕ) → IsMost (list_cutting list) g c
+    → KeepsHalf list g → ⊥
 less_than_half list f b h x y lt g c m k =
     let here = is_most list f b x in
     let same = same_length g c f b (sym m.divides.all ∙ x.divides.all)
@@ -447,7 +449,8 @@ even_divides : (list f b : List ℕ) → IsEven (list_cutting list) f b → IsDi
 even_divides list f b (IsEven.half x p q) = x.divides
 even_divides list f b (IsEven.longest n m) = m.divides
 
-pub none_few : (list : List ℕ) (r : Option Halves) → IfSome r (λ h. (f b : List ℕ) × IsEven (list_cutting list) f b × AreHalves h f b)
+pub none_few : (list : List ℕ) (r : Option Halves)
+    → IfSome r (λ h. (f b : List ℕ) × IsEven (list_cutting list) f b × AreHalves h f b)
     → IfNone r ((f b : List ℕ) → IsDivision list f b → ⊥) → IsNone r ↔ (length (items_of list) < 2)
 none_few list None some none = (λ e. divides_two list none, λ lt. refl)
 none_few list (Some h) some none =

@@ -15,8 +15,10 @@ pub record Begins (bytes : List ℕ) (r : Record) (n : ℕ) : Type 0 where
 
 -- what is read is encoded so
 abbrev pub ReadingIsEncoded : Type 0
-ReadingIsEncoded = (bytes : List ℕ) (r : Record) (n : ℕ) → AreBytes bytes → record_at bytes ≡ Ok (r, n) → Begins bytes r n
+ReadingIsEncoded =
+    (bytes : List ℕ) (r : Record) (n : ℕ) → AreBytes bytes → record_at bytes ≡ Ok (r, n) → Begins bytes r n
 
 -- what is encoded so is read, whatever follows
 abbrev pub EncodingIsRead : Type 0
-EncodingIsRead = (r : Record) (behind : List ℕ) → IsRecord r → record_at (record_bytes r ++ behind) ≡ Ok (r, length (record_bytes r))
+EncodingIsRead =
+    (r : Record) (behind : List ℕ) → IsRecord r → record_at (record_bytes r ++ behind) ≡ Ok (r, length (record_bytes r))

@@ -1,5 +1,6 @@
 -- A record, read from left to right, with the first fault that is met.
-use Rattle.std.specs.Prelude.{ℕ, zero, suc, ◌+◌, ◌-◌, Bool, ◌&&◌, List, [], ◌∷◌, ◌++◌, length, take, drop, Option, Some, None, Result, Ok, Err, nat_lt, ◌==◌, if◌then◌else◌}
+use Rattle.std.specs.Prelude.{ℕ, zero, suc, ◌+◌, ◌-◌, Bool, ◌&&◌, List, [], ◌∷◌, ◌++◌, length, take, drop, Option, Some}
+use Rattle.std.specs.Prelude.{None, Result, Ok, Err, nat_lt, ◌==◌, if◌then◌else◌}
 use Rattle.std.specs.List.{slice_get, list_any}
 use Rattle.byteorder.specs.Endian.{little_number}
 use Rattle.page_types.specs.Numbers.{page_size, page_limit, item_limit}
@@ -15,8 +16,10 @@ use Rattle.record_code.specs.Fields.{Read, byte_at}
 -- the kinds in the order of their numbers, which begin at 1, with fields of 0
 abbrev pub kinds : List Kind
 kinds =
-    kind.Create ∷ kind.Begin ∷ kind.Commit 0 ∷ kind.Abort ∷ kind.Checkpoint 0 ∷ kind.PlaceHead 0 0 ∷ kind.PutOverflow 0 0 ∷ kind.MarkDeleted 0 0
-    ∷ kind.PutPending 0 0 ∷ kind.AddRow 0 0 ∷ kind.LinkPending 0 0 ∷ kind.Shift ∷ kind.AddItems ∷ kind.MakeTree ∷ kind.AddPostings ∷ kind.GrowRoot
+    kind.Create ∷ kind.Begin ∷ kind.Commit 0 ∷ kind.Abort ∷ kind.Checkpoint 0 ∷ kind.PlaceHead 0 0
+    ∷ kind.PutOverflow 0 0 ∷ kind.MarkDeleted 0 0
+    ∷ kind.PutPending 0 0 ∷ kind.AddRow 0 0 ∷ kind.LinkPending 0 0 ∷ kind.Shift ∷ kind.AddItems ∷ kind.MakeTree
+    ∷ kind.AddPostings ∷ kind.GrowRoot
     ∷ kind.Split ∷ kind.RemoveItems ∷ kind.DeletePost ∷ kind.DropPage 0 0 ∷ kind.FreeSlots ∷ []
 
 abbrev pub kind_with_number : ℕ → Option Kind
@@ -76,7 +79,8 @@ stands page changes = list_any (λ c. c.page == page) changes
 unfoldable pub page_at : List Change → List ℕ → Read ℕ
 page_at before bytes = do
   page ← number_at 4 bytes
-  if nat_lt page.0 page_limit then (if stands page.0 before then Err (length bytes) else Ok page) else Err (length bytes)
+  if nat_lt page.0 page_limit then (if stands page.0 before then Err (length bytes) else Ok page)
+      else Err (length bytes)
 
 -- an image, which is refused where its bytes 8 to 15 are not the record's number
 unfoldable pub image_at : ℕ → List ℕ → Read Edit
@@ -143,4 +147,5 @@ record_in size bytes = placed size (4 + length bytes) (whole_at size bytes)
 -- The first record and its length, or the place of the first fault: the first byte of the field that is refused, or
 -- where the bytes end within a field: the end of the record, or of the bytes where they end first.
 unfoldable pub record_at : List ℕ → Result (Record × ℕ) ℕ
-record_at bytes = if nat_lt (length bytes) 4 then Err (length bytes) else record_in (little_number 4 bytes) (take (little_number 4 bytes) (drop 4 bytes))
+record_at bytes = if nat_lt (length bytes) 4 then Err (length bytes)
+    else record_in (little_number 4 bytes) (take (little_number 4 bytes) (drop 4 bytes))

@@ -1,6 +1,8 @@
 // Records, read from left to right.
 ghost use Rattle.std.specs.Prelude.{◌≡◌, ◌≢◌, ℕ, ◌++◌, List, [], length, IfOk, Ok};
-ghost use Rattle.record_code.specs.Reading.{kind_with_number, kind_at, item_at, document_at, fields_at, stands, page_at, image_at, delta_at, edit_at, change_at, changes_at, rest_at, whole_at, record_at};
+ghost use Rattle.record_code.specs.Reading.{kind_with_number, kind_at, item_at, document_at, fields_at, stands};
+ghost use Rattle.record_code.specs.Reading.{page_at, image_at, delta_at, edit_at, change_at, changes_at, rest_at};
+ghost use Rattle.record_code.specs.Reading.{whole_at, record_at};
 ghost use Rattle.page_types.specs.Fields.{Gives};
 ghost use Rattle.record_code.specs.Decoding.{Answers};
 ghost use Rattle.record_code.specs.Laws.{Begins};
@@ -296,7 +298,9 @@ pub fn decode_record(alloc: Global, bytes: &[u8]) -> Result<(Record, usize), Rec
     // What is read is encoded so.
     ensures found { IfOk result (λ x. Begins bytes.now x.0 x.1) }
     // What is encoded so is read, unless memory runs out.
-    ensures only { (r : Record) (behind : List ℕ) → IsRecord r → bytes.now ≡ record_bytes r ++ behind → Answers result (Ok (r, length (record_bytes r))) }
+    ensures only { (r : Record) (behind : List ℕ) → IsRecord r
+        → bytes.now ≡ record_bytes r ++ behind
+        → Answers result (Ok (r, length (record_bytes r))) }
     // Where the first fault is.
     ensures at { Answers result (record_at bytes.now) }
 {

@@ -2,7 +2,8 @@
 ghost use Rattle.std.specs.Prelude.{◌≡◌, ◌+◌, ◌*◌, ◌<◌, ◌≤◌, ◌^◌, ℕ, ◌++◌, ◌∷◌, [], length, OnOk, OnErr};
 ghost use Rattle.std.specs.List.{flat_map, AllByRecursion};
 ghost use Rattle.page_types.specs.Numbers.{u16_bytes, u32_bytes, u64_bytes};
-ghost use Rattle.page_types.specs.Records.{kind_number, document_bytes, kind_bytes, edit_bytes, change_bytes, record_rest, record_bytes, IsEdit, IsChange, IsRecord};
+ghost use Rattle.page_types.specs.Records.{kind_number, document_bytes, kind_bytes, edit_bytes, change_bytes};
+ghost use Rattle.page_types.specs.Records.{record_rest, record_bytes, IsEdit, IsChange, IsRecord};
 ghost use Rattle.record_code.specs.Inner.Growing.{Extends};
 
 use page_types::{Change, Edit, Kind, Record, put};
@@ -111,7 +112,8 @@ fn put_delta(
     bytes: &[u8],
 ) -> Result<(), AllocError>
     requires { length bytes.now < 2 ^ 16 }
-    ensures ok { OnOk result (out.new.items ≡ out.old.items ++ (front.now ++ (u16_bytes start ++ (u16_bytes cut ++ (u16_bytes (length bytes.now) ++ bytes.now))))) }
+    ensures ok { OnOk result (out.new.items ≡ out.old.items ++ (front.now ++ (u16_bytes start
+        ++ (u16_bytes cut ++ (u16_bytes (length bytes.now) ++ bytes.now))))) }
     ensures grows { Extends out.old.items out.new.items }
 {
     out.extend_from_slice(front)?;

@@ -27,7 +27,8 @@ use Rattle.shell_script.specs.declared.sources.Maker.{Maker}
 use Rattle.shell_script.specs.declared.sources.Maker.TheVariants.{To, Plain, Phrase, Web}
 use Rattle.shell_script.specs.Replies.{bad_vector, bad_query, long_lexeme, large_vector, large_query}
 use Rattle.shell_script.specs.Replies.{Refusal, no_statement, no_configuration, no_dictionary, text_refused, store_full}
-use Rattle.shell_script.specs.Replies.{log_full, transactions_spent, down, device, memory, no_document, conflict, bad_page}
+use Rattle.shell_script.specs.Replies.{log_full, transactions_spent, down, device, memory, no_document, conflict}
+use Rattle.shell_script.specs.Replies.{bad_page}
 use Rattle.shell_script.specs.ReplyView.{refusal}
 use Rattle.shell_run.specs.Inner.Refusing.{vector_refusal, query_refusal}
 use Rattle.shell_run.specs.Values.{IsConfig, with_weight, IsSourceOf, SourceFails, IsPartOf, IsJoinedOf, PartFails}

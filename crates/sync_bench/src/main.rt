@@ -16,9 +16,10 @@ use std::time::{Duration, Instant};
 use std::{env, fs};
 use store::{LOG, is_there, log_bytes, remove_store};
 
-/// An insert of eight words, and how many of them a store is measured by. Its one page of documents has room for them.
+/// An insert of eight words.
 const INSERT: &str = "@1 insert vector 'a b c d e f g h'\n";
 
+/// How many of them a store is measured by. Its one page of documents has room for them.
 const INSERTS: u32 = 100;
 
 /// How many such stores there are, one after another.

@@ -1,4 +1,5 @@
--- Kinds of bytes that grammars share. Each byte that means something is ASCII, so a byte from 128 on is a part of a longer
+-- Kinds of bytes that grammars share. Each byte that means something is ASCII, so a byte from 128 on is a part of a
+-- longer
 -- character, and an ordinary byte wherever that is an ordinary character. A character has the code of its byte.
 use Rattle.std.specs.Prelude.{◌≡◌, ◌⊎◌, ℕ, ◌≤◌, List, [], ◌∷◌}
 use Rattle.ts_base.specs.declared.Weight.{Weight}

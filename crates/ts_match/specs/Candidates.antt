@@ -18,7 +18,8 @@ offsets (joined (phrase_joint n) x y) from = offsets x from ++ offsets y (from +
 abbrev pub place_by : Tree → ℕ → ℕ → ℤ
 place_by t offset p = (pos p -ℤ pos offset) +ℤ pos (width t)
 
--- each place at which some operand is where it has a position; and the end of a phrase that begins at 0 at the latest, where none is
+-- each place at which some operand is where it has a position; and the end of a phrase that begins at 0 at the
+-- latest, where none is
 abbrev pub candidates : Vector → Tree → List ℤ
 candidates v t = nowhere ∷ flat_map (λ k. map (place_by t k.1) (places k.0 v)) (offsets t 0)
   where
@@ -30,7 +31,8 @@ abbrev pub HasNoZero : Vector → Type 0
 HasNoZero v = All (λ e. All (λ p. 0 < p.at) e.positions) v
 
 abbrev pub CandidatesSuffice : Type 0
-CandidatesSuffice = (v : Vector) (t : Tree) → HasNoZero v → HoldsSomewhere v t ↔ ((i : ℤ) × Contains (candidates v t) i × IsTrue (at v t i))
+CandidatesSuffice = (v : Vector) (t : Tree) → HasNoZero v
+    → HoldsSomewhere v t ↔ ((i : ℤ) × Contains (candidates v t) i × IsTrue (at v t i))
 
 -- operands that are neither under a `!` nor under a `|`, each with its offset
 abbrev pub needed : Tree → ℕ → List (Operand × ℕ)
@@ -42,4 +44,5 @@ needed (joined (phrase_joint n) x y) from = needed x from ++ needed y (from + (w
 
 -- where a phrase holds, each operand that it needs has a position
 abbrev pub NeededHave : Type 0
-NeededHave = (v : Vector) (t : Tree) (i : ℤ) → IsTrue (at v t i) → (o : Operand) (offset : ℕ) → Contains (needed t 0) (o, offset) → IsTrue (is_place (places o v) ((i -ℤ pos (width t)) +ℤ pos offset))
+NeededHave = (v : Vector) (t : Tree) (i : ℤ) → IsTrue (at v t i) → (o : Operand) (offset : ℕ)
+    → Contains (needed t 0) (o, offset) → IsTrue (is_place (places o v) ((i -ℤ pos (width t)) +ℤ pos offset))

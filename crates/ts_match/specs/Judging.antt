@@ -5,7 +5,8 @@ use Rattle.ts_base.specs.declared.Tri.{Tri}
 use Rattle.ts_base.specs.declared.Tri.TheVariants.{False, Maybe, True}
 use Rattle.ts_base.specs.Vectors.{Vector}
 use Rattle.ts_query.specs.declared.query.Operand.{Operand}
-use Rattle.ts_query.specs.Queries.{Tree, leaf, negated, joined, or_joint, and_joint, phrase_joint, Query, operands_in, operands_of}
+use Rattle.ts_query.specs.Queries.{Tree, leaf, negated, joined, or_joint, and_joint, phrase_joint, Query, operands_in}
+use Rattle.ts_query.specs.Queries.{operands_of}
 use Rattle.gin_opclass.specs.Class.{SoundValues}
 use Rattle.ts_match.specs.Meaning.{names, asks_any, Holds}
 
@@ -71,6 +72,8 @@ pub record IsJudged (q : Query) (v : Vector) (answer : Tri) : Type 0 where
   pub yes : answer ≡ True → Holds q v
   pub never : answer ≡ False → ¬ Holds q v
 
--- for sound values, by whether the vector has the lexeme of each operand, True says that the query holds, and False that it does not
+-- for sound values, by whether the vector has the lexeme of each operand, True says that the query holds, and False
+-- that it does not
 abbrev pub JudgesWell : Type 0
-JudgesWell = (q : Query) (v : Vector) (values : List Tri) → SoundValues (λ o. has_lexeme o v ≡ true) (operands_of q) values → IsJudged q v (judged q values)
+JudgesWell = (q : Query) (v : Vector) (values : List Tri)
+    → SoundValues (λ o. has_lexeme o v ≡ true) (operands_of q) values → IsJudged q v (judged q values)

@@ -1,5 +1,6 @@
 -- What a query means: which vectors it holds of.
-use Rattle.std.specs.Prelude.{◌≡◌, ◌⊎◌, ℕ, ◌+◌, ◌==◌, max, nat_eq, nat_lt, ℤ, pos, negsuc, ◌+ℤ◌, ◌-ℤ◌, Bool, false, not, ◌&&◌, ◌||◌, if◌then◌else◌, IsTrue, List, length, map, filter, None, Some}
+use Rattle.std.specs.Prelude.{◌≡◌, ◌⊎◌, ℕ, ◌+◌, ◌==◌, max, nat_eq, nat_lt, ℤ, pos, negsuc, ◌+ℤ◌, ◌-ℤ◌, Bool, false, not}
+use Rattle.std.specs.Prelude.{◌&&◌, ◌||◌, if◌then◌else◌, IsTrue, List, length, map, filter, None, Some}
 use Rattle.std.specs.List.{list_any, list_all, flat_map, starts_with}
 use Rattle.std.specs.Cmp.Lexicographic.{pointwise}
 use Rattle.ts_base.specs.declared.Weight.{Weight}
@@ -25,13 +26,16 @@ asks_for w D = w.d
 abbrev pub fits : Weights → Weight → Bool
 fits w weight = asks_any w || asks_for w weight
 
--- it names a lexeme of the vector, and one of that lexeme's positions has a weight that it asks for, if it asks for some
+-- it names a lexeme of the vector, and one of that lexeme's positions has a weight that it asks for, if it asks for
+-- some
 abbrev pub is_met : Operand → Vector → Bool
-is_met o v = list_any (λ e. names o e.lexeme && (asks_any o.weights || list_any (λ p. asks_for o.weights p.weight) e.positions)) v
+is_met o v = list_any
+    (λ e. names o e.lexeme && (asks_any o.weights || list_any (λ p. asks_for o.weights p.weight) e.positions)) v
 
 -- the positions of the lexemes that it names, those of a fitting weight
 abbrev pub places : Operand → Vector → List ℕ
-places o v = map (λ p. p.at) (filter (λ p. fits o.weights p.weight) (flat_map (λ e. e.positions) (filter (λ e. names o e.lexeme) v)))
+places o v = map (λ p. p.at)
+    (filter (λ p. fits o.weights p.weight) (flat_map (λ e. e.positions) (filter (λ e. names o e.lexeme) v)))
 
 -- a whole number is one of the places
 abbrev pub is_place : List ℕ → ℤ → Bool
@@ -51,9 +55,11 @@ abbrev pub at : Vector → Tree → ℤ → Bool
 at v (leaf o) i = is_place (places o v) i
 at v (negated x) i = not (at v x i)
 at v (joined or_joint x y) i =
-    at v x ((i -ℤ pos (max (width x) (width y))) +ℤ pos (width x)) || at v y ((i -ℤ pos (max (width x) (width y))) +ℤ pos (width y))
+    at v x ((i -ℤ pos (max (width x) (width y))) +ℤ pos (width x))
+    || at v y ((i -ℤ pos (max (width x) (width y))) +ℤ pos (width y))
 at v (joined and_joint x y) i =
-    at v x ((i -ℤ pos (max (width x) (width y))) +ℤ pos (width x)) && at v y ((i -ℤ pos (max (width x) (width y))) +ℤ pos (width y))
+    at v x ((i -ℤ pos (max (width x) (width y))) +ℤ pos (width x))
+    && at v y ((i -ℤ pos (max (width x) (width y))) +ℤ pos (width y))
 at v (joined (phrase_joint n) x y) i = at v x ((i -ℤ pos n) -ℤ pos (width y)) && at v y i
 
 -- at some whole number, which may be below 0

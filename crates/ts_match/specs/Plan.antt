@@ -1,7 +1,8 @@
 -- A query laid out for matching: its nodes in postfix order, each with the place where it is.
 use Rattle.std.specs.Prelude.{ℕ, ◌+◌, true, false, List, [], ◌∷◌, ◌++◌, length, None, Some}
 use Rattle.ts_query.specs.declared.query.Node.TheVariants.{Leaf, Not}
-use Rattle.ts_query.specs.Queries.{Tree, leaf, negated, joined, Joint, or_joint, and_joint, phrase_joint, Query, operands_in, nodes_in}
+use Rattle.ts_query.specs.Queries.{Tree, leaf, negated, joined, Joint, or_joint, and_joint, phrase_joint, Query}
+use Rattle.ts_query.specs.Queries.{operands_in, nodes_in}
 use Rattle.ts_query.specs.Postfix.{joint_node}
 use Rattle.ts_match.specs.declared.work.Place.{Place}
 use Rattle.ts_match.specs.declared.work.Place.TheVariants.{Outside, Within}
@@ -11,8 +12,10 @@ use Rattle.ts_match.specs.Meaning.{width}
 abbrev pub count_in : Tree → ℕ
 count_in t = length (operands_in t)
 
--- Where the operands of an operator are, given where it is itself. Outside phrases a node has the step that is next where
--- it is true and the one where it is false. Within a phrase it has its offset from the phrase's beginning, and whether the phrase
+-- Where the operands of an operator are, given where it is itself. Outside phrases a node has the step that is next
+-- where
+-- it is true and the one where it is false. Within a phrase it has its offset from the phrase's beginning, and
+-- whether the phrase
 -- needs it: it is neither under a `!` nor under a `|`.
 abbrev pub under_not : Place → Place
 under_not (Outside on_true on_false) = Outside on_false on_true
@@ -41,7 +44,8 @@ abbrev pub steps : ℕ → ℕ → Place → Tree → List Step
 steps k m p (leaf o) = record { node = Leaf k; place = p } ∷ []
 steps k m p (negated x) = steps k m (under_not p) x ++ record { node = Not; place = p } ∷ []
 steps k m p (joined j x y) =
-    steps k m (left_place j (m + nodes_in x) p) x ++ steps (k + count_in x) (m + nodes_in x) (right_place j (width x) p) y
+    steps k m (left_place j (m + nodes_in x) p) x
+    ++ steps (k + count_in x) (m + nodes_in x) (right_place j (width x) p) y
     ++ record { node = joint_node j; place = p } ∷ []
 
 -- after the last step comes the end where the query holds, and after that the one where it does not

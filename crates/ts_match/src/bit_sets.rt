@@ -1,5 +1,6 @@
 // Bit sets of places: a truth for each place below some number, and one for all others.
-ghost use Rattle.std.specs.Prelude.{◌≡◌, ℕ, ◌+◌, ◌-◌, ◌*◌, ◌<◌, ◌≤◌, ◌==◌, ◌&&◌, ◌||◌, ◌↔◌, IfOk, not, false, IsTrue, All, vec_len, vec_capacity};
+ghost use Rattle.std.specs.Prelude.{◌≡◌, ℕ, ◌+◌, ◌-◌, ◌*◌, ◌<◌, ◌≤◌, ◌==◌, ◌&&◌, ◌||◌, ◌↔◌, IfOk, not, false, IsTrue};
+ghost use Rattle.std.specs.Prelude.{All, vec_len, vec_capacity};
 ghost use Rattle.std.specs.Int.{bit_at};
 ghost use Rattle.ts_match.specs.Inner.Plan.{offset_of};
 ghost use Rattle.ts_match.specs.Inner.BitSets.{bit_value, IsWide, words_for as words_of};
@@ -192,7 +193,8 @@ fn spare_bit_sets(alloc: Global, height: usize, count: usize) -> Result<Vec<BitS
     Ok(bit_sets)
 }
 
-/// A bit set for each level of the stack that the phrases need, and in each a place for each position moved by their widths.
+/// A bit set for each level of the stack that the phrases need, and in each a place for each position moved by
+/// their widths.
 pub fn make_bit_sets(alloc: Global, steps: &[Step]) -> Result<BitSets, AllocError>
     ensures { IfOk result (λ bit_sets. HasBitSets steps.now bit_sets.stack.items
         bit_sets.spare.items) }

@@ -42,7 +42,8 @@ impl Judge<TsQuery, MatchWork> for TextJudge {
     ghost sound = { is_sound };
 }
 
-/// The class of text queries: keys by their bytes, judged by `judge`. There is one such value, since neither part has a field.
+/// The class of text queries: keys by their bytes, judged by `judge`. There is one such value, since neither part
+/// has a field.
 pub fn text_class() -> OpClass<TsQuery, MatchWork, Bytewise, TextJudge>
     ensures { JudgeIsSound (meaning asked_of reads_all Holds judged) }
 {

@@ -1,10 +1,12 @@
 // Which entries of an encoded vector an operand names, and where they are.
-ghost use Rattle.std.specs.Prelude.{◌≡◌, ℕ, ◌+◌, ◌<◌, ◌≤◌, ◌==◌, ◌&&◌, true, false, Contains, length, slice_index_or, vec_len};
+ghost use Rattle.std.specs.Prelude.{◌≡◌, ℕ, ◌+◌, ◌<◌, ◌≤◌, ◌==◌, ◌&&◌, true, false, Contains, length, slice_index_or};
+ghost use Rattle.std.specs.Prelude.{vec_len};
 ghost use Rattle.std.specs.List.{flat_map};
 ghost use Rattle.std.specs.declared.cmp.Ordering.TheVariants.{Less, Equal, Greater};
 ghost use Rattle.ts_base.specs.Lexemes.{IsBefore};
 ghost use Rattle.ts_base.specs.Vectors.{Position as PlaceOf, Entry, IsNormal};
-ghost use Rattle.ts_match.specs.Meaning.{asks_for, fits as fits_weight, names as names_lexeme, is_met, is_stripped as stripped_vector};
+ghost use Rattle.ts_match.specs.Meaning.{asks_for, fits as fits_weight, names as names_lexeme, is_met};
+ghost use Rattle.ts_match.specs.Meaning.{is_stripped as stripped_vector};
 ghost use Rattle.ts_match.specs.Inner.Ranges.{NamesRange, stands_at};
 ghost use Rattle.ts_match.specs.Inner.Setting.{CanSet, HasSet};
 

@@ -3,7 +3,8 @@ ghost use Rattle.std.specs.Prelude.{◌≡◌, ◌+◌, ◌<◌, ◌≤◌, if�
 ghost use Rattle.ts_base.specs.declared.Tri.TheVariants.{Maybe};
 ghost use Rattle.ts_query.specs.Queries.{operands_of};
 ghost use Rattle.ts_match.specs.Meaning.{asks_any};
-ghost use Rattle.ts_match.specs.Judging.{least as least_of, greatest as greatest_of, opposite as opposite_of, at_most_maybe as lowered_of, judged};
+ghost use Rattle.ts_match.specs.Judging.{least as least_of, greatest as greatest_of, opposite as opposite_of};
+ghost use Rattle.ts_match.specs.Judging.{at_most_maybe as lowered_of, judged};
 ghost use Rattle.ts_match.specs.Inner.Phrases.{IsStep, HasOperand};
 ghost use Rattle.ts_match.specs.Plan.{plan_of};
 ghost use Rattle.ts_match.specs.Inner.Weighing.{given_at, leaf_answer, negated_answer, weighed};
@@ -149,7 +150,8 @@ fn judge_steps(query: &TsQuery, steps: &[Step], values: &[Tri], stack: &mut Vec<
     take_top(stack, Tri::False)
 }
 
-/// The answer for a query, by a value for each operand in the order of the text and by work that was made for the query.
+/// The answer for a query, by a value for each operand in the order of the text and by work that was made for the
+/// query.
 pub fn judge(query: &TsQuery, work: &mut MatchWork, values: &[Tri]) -> Tri
     requires made { work.old ≡ plan_of query.now }
     requires each { length values.now ≡ length (operands_of query.now) }

@@ -97,7 +97,8 @@ fn needs_all(alloc: Global, query: &TsQuery) -> Result<bool, AllocError>
     Ok(is_possible(answer))
 }
 
-/// A key for each operand of the query in the order of the text, with whether it is a prefix; and whether the whole index is read.
+/// A key for each operand of the query in the order of the text, with whether it is a prefix; and whether the whole
+/// index is read.
 pub fn query_keys(alloc: Global, query: &TsQuery) -> Result<QueryKeys, AllocError>
     ensures keys { IfOk result (λ k. map (λ key. record { key = key.0.items; prefix = key.1 })
         k.keys.items ≡ asked_of query.now) }

@@ -1,5 +1,6 @@
 // Whether a phrase holds of a vector, by a bit set of places for each of its nodes.
-ghost use Rattle.std.specs.Prelude.{◌≡◌, ◌∷◌, [], ℕ, ◌+◌, ◌-◌, ◌*◌, ◌<◌, ◌≤◌, ◌==◌, ◌&&◌, ◌||◌, ◌↔◌, if◌then◌else◌, IsTrue, IfSome, All, AllPairs, Contains, length, reverse, slice_index_or, vec_len};
+ghost use Rattle.std.specs.Prelude.{◌≡◌, ◌∷◌, [], ℕ, ◌+◌, ◌-◌, ◌*◌, ◌<◌, ◌≤◌, ◌==◌, ◌&&◌, ◌||◌, ◌↔◌, if◌then◌else◌};
+ghost use Rattle.std.specs.Prelude.{IsTrue, IfSome, All, AllPairs, Contains, length, reverse, slice_index_or, vec_len};
 ghost use Rattle.std.specs.List.{list_any};
 ghost use Rattle.ts_base.specs.Vectors.{Position as PlaceOf, Entry, IsNormal};
 ghost use Rattle.ts_query.specs.declared.query.Node.TheVariants.{Leaf};
@@ -11,7 +12,8 @@ ghost use Rattle.ts_query.specs.declared.query.Node.TheVariants.{Not as NotNode,
 ghost use Rattle.ts_match.specs.Inner.Setting.{CanSet, HasSet};
 ghost use Rattle.ts_match.specs.Inner.BitSets.{bit_value, truths_at, beginning, IsWide};
 ghost use Rattle.ts_match.specs.Inner.Heights.{height_behind, HasRoom, HaveRoom, AreWide, SameBitSets, HasBitSets};
-ghost use Rattle.ts_match.specs.Inner.Phrases.{IsPhraseOf, IsPrepared, IsLaidOut, SaysWhere, HasOperand, HasRange, HasPlaces, leaf_value, truth_step};
+ghost use Rattle.ts_match.specs.Inner.Phrases.{IsPhraseOf, IsPrepared, IsLaidOut, SaysWhere, HasOperand, HasRange};
+ghost use Rattle.ts_match.specs.Inner.Phrases.{HasPlaces, leaf_value, truth_step};
 
 use crate::bit_sets::{
     BitSet, BitSets, WIDEST, WORD, clear, is_somewhere, join, meet, negate, set,
@@ -332,7 +334,8 @@ fn fill_bit_sets(phrase: &Phrase, reach: usize, count: usize, bit_sets: &mut Bit
     }
 }
 
-/// Whether the phrase holds, by a bit set for each node; None where its widths add up to more than bit sets are made for.
+/// Whether the phrase holds, by a bit set for each node; None where its widths add up to more than bit sets are
+/// made for.
 pub fn holds_by_bit_sets(phrase: &Phrase, bit_sets: &mut BitSets) -> Option<bool>
     requires prepared { IsPrepared phrase.now.vector.now phrase.now.operands.now
         phrase.now.found.now phrase.now.steps.now }

@@ -1,5 +1,6 @@
 // Whether a vector satisfies a query.
-ghost use Rattle.std.specs.Prelude.{◌≡◌, ℕ, ◌+◌, ◌<◌, ◌≤◌, ◌↔◌, false, true, IsTrue, All, Contains, length, slice_index_or, vec_len, vec_capacity};
+ghost use Rattle.std.specs.Prelude.{◌≡◌, ℕ, ◌+◌, ◌<◌, ◌≤◌, ◌↔◌, false, true, IsTrue, All, Contains, length};
+ghost use Rattle.std.specs.Prelude.{slice_index_or, vec_len, vec_capacity};
 ghost use Rattle.ts_base.specs.Vectors.{IsNormal};
 ghost use Rattle.ts_query.specs.declared.query.Node.TheVariants.{Leaf, Phrase as PhraseNode};
 ghost use Rattle.ts_query.specs.Queries.{Tree, operands_of};
@@ -10,7 +11,8 @@ ghost use Rattle.ts_match.specs.declared.work.Step.{Step as StepOf};
 ghost use Rattle.ts_match.specs.Inner.Plan.{next_of};
 ghost use Rattle.ts_match.specs.Inner.Heights.{SameBitSets, HasBitSets};
 ghost use Rattle.ts_match.specs.Inner.Pass.{AreBounds};
-ghost use Rattle.ts_match.specs.Inner.Phrases.{IsPhraseOf, IsStep, HasOperand, HasRange, StandsWithin, StandsOutside, IsUnitNode, operand_at};
+ghost use Rattle.ts_match.specs.Inner.Phrases.{IsPhraseOf, IsStep, HasOperand, HasRange, StandsWithin, StandsOutside};
+ghost use Rattle.ts_match.specs.Inner.Phrases.{IsUnitNode, operand_at};
 
 use crate::bit_sets::BitSets;
 use crate::layout::holds_by_bit_sets;
@@ -189,7 +191,8 @@ fn next_step(place: Place, value: bool) -> usize
     }
 }
 
-/// Whether the query holds, by its plan. An operand or a phrase is looked at only where what comes before it leaves the answer open.
+/// Whether the query holds, by its plan. An operand or a phrase is looked at only where what comes before it leaves
+/// the answer open.
 fn evaluate(
     query: &TsQuery,
     steps: &[Step],

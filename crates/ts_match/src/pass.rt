@@ -1,5 +1,6 @@
 // One walk over the entries of an encoded vector, which finds what each operand names.
-ghost use Rattle.std.specs.Prelude.{◌≡◌, ℕ, ◌-◌, ◌<◌, [], ◌∷◌, List, false, None, IsTrue, IfSome, length, slice_index_or, vec_len};
+ghost use Rattle.std.specs.Prelude.{◌≡◌, ℕ, ◌-◌, ◌<◌, [], ◌∷◌, List, false, None, IsTrue, IfSome, length};
+ghost use Rattle.std.specs.Prelude.{slice_index_or, vec_len};
 ghost use Rattle.ts_base.specs.Vectors.{Entry, Vector, IsNormal};
 ghost use Rattle.ts_query.specs.declared.query.Operand.{Operand as OperandOf};
 ghost use Rattle.ts_match.specs.Inner.Ranges.{NamesRange};
@@ -74,7 +75,8 @@ fn make_keyed(
     })
 }
 
-/// The marks of the operands in the order in which a walk comes to them. One operand alone has none: it is sought by itself.
+/// The marks of the operands in the order in which a walk comes to them. One operand alone has none: it is sought
+/// by itself.
 /// Whatever their order, what a walk finds by them is right; in this order it goes over the entries once.
 pub fn make_marks(alloc: Global, operands: &[Operand]) -> Result<Vec<Mark>, AllocError> {
     let mut all = Vec::new(alloc);

@@ -1,12 +1,14 @@
 // Whether a phrase holds of a vector.
-ghost use Rattle.std.specs.Prelude.{◌≡◌, ℕ, ◌+◌, ◌-◌, ◌^◌, ◌<◌, ◌≤◌, ◌↔◌, IsTrue, IfSome, true, All, Contains, length, reverse, slice_index_or, vec_len, vec_capacity};
+ghost use Rattle.std.specs.Prelude.{◌≡◌, ℕ, ◌+◌, ◌-◌, ◌^◌, ◌<◌, ◌≤◌, ◌↔◌, IsTrue, IfSome, true, All, Contains, length};
+ghost use Rattle.std.specs.Prelude.{reverse, slice_index_or, vec_len, vec_capacity};
 ghost use Rattle.ts_base.specs.Vectors.{Position as Place, Entry, IsNormal};
 ghost use Rattle.ts_query.specs.Queries.{Tree};
 ghost use Rattle.ts_match.specs.Meaning.{at, HoldsSomewhere};
 ghost use Rattle.ts_query.specs.declared.query.Node.TheVariants.{Leaf};
 ghost use Rattle.ts_match.specs.declared.work.Place.TheVariants.{Within};
 ghost use Rattle.ts_match.specs.Inner.Plan.{offset_of, needs};
-ghost use Rattle.ts_match.specs.Inner.Phrases.{IsPhraseOf, IsStep, IsPrepared, IsNeeded, HasRange, HoldsWith, CanTry, IsTried, place_from, leaf_value, truth_step};
+ghost use Rattle.ts_match.specs.Inner.Phrases.{IsPhraseOf, IsStep, IsPrepared, IsNeeded, HasRange, HoldsWith, CanTry};
+ghost use Rattle.ts_match.specs.Inner.Phrases.{IsTried, place_from, leaf_value, truth_step};
 
 use crate::ranges::{EntryRange, FARTHEST};
 use crate::seen::{Kind, Seen};
@@ -257,7 +259,8 @@ fn rarest(phrase: &Phrase) -> Option<Step>
     best
 }
 
-/// Whether the phrase holds. An operand that it needs is wherever it holds, so the positions of the rarest such operand are
+/// Whether the phrase holds. An operand that it needs is wherever it holds, so the positions of the rarest such
+/// operand are
 /// tried, and where there is none those of every operand, and a beginning at which no operand is.
 pub fn phrase_holds(phrase: &Phrase, stack: &mut Vec<bool>) -> bool
     requires ready { IsPrepared phrase.now.vector.now phrase.now.operands.now phrase.now.found.now

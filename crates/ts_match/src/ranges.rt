@@ -7,7 +7,8 @@ ghost use Rattle.std.specs.Prelude.{nat_eq};
 ghost use Rattle.std.specs.declared.cmp.Ordering.TheVariants.{Less};
 ghost use Rattle.ts_base.specs.Lexemes.{IsBefore};
 ghost use Rattle.ts_base.specs.Vectors.{Entry, IsNormal};
-ghost use Rattle.ts_match.specs.Meaning.{asks_any, asks_for, fits as fits_weight, is_met, is_stripped as stripped_vector};
+ghost use Rattle.ts_match.specs.Meaning.{asks_any, asks_for, fits as fits_weight, is_met};
+ghost use Rattle.ts_match.specs.Meaning.{is_stripped as stripped_vector};
 ghost use Rattle.ts_match.specs.Inner.Ranges.{NamesRange, stands_at};
 
 use std::cmp::Ordering;

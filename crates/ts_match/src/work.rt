@@ -1,10 +1,12 @@
 // What is made ready of a query before it is matched.
-ghost use Rattle.std.specs.Prelude.{◌≡◌, ◌+◌, ◌*◌, ◌^◌, ◌<◌, ◌≤◌, ◌∷◌, IfOk, All, length, reverse, vec_len, vec_capacity};
+ghost use Rattle.std.specs.Prelude.{◌≡◌, ◌+◌, ◌*◌, ◌^◌, ◌<◌, ◌≤◌, ◌∷◌, IfOk, All, length, reverse, vec_len};
+ghost use Rattle.std.specs.Prelude.{vec_capacity};
 ghost use Rattle.ts_query.specs.Queries.{or_joint, and_joint, phrase_joint};
 ghost use Rattle.ts_match.specs.Inner.Stacks.{total};
 ghost use Rattle.ts_match.specs.declared.work.Due.TheVariants.{At};
 ghost use Rattle.ts_match.specs.Plan.{plan_of, under_not, right_place};
-ghost use Rattle.ts_match.specs.Inner.Plan.{left_widths_of, left_width, measured, distance, spread_on, left_due, due_place, offset_of};
+ghost use Rattle.ts_match.specs.Inner.Plan.{left_widths_of, left_width, measured, distance, spread_on, left_due};
+ghost use Rattle.ts_match.specs.Inner.Plan.{due_place, offset_of};
 
 use crate::bit_sets::{BitSets, make_bit_sets};
 use crate::pass::{Bounds, Mark, UNKNOWN, make_marks};
@@ -263,7 +265,8 @@ impl Model for MatchWork {
 }
 
 impl MatchWork {
-    /// Stacks that are large enough for the query, a bit set of places for each level of its phrases, and its operands in the order of a walk.
+    /// Stacks that are large enough for the query, a bit set of places for each level of its phrases, and its
+    /// operands in the order of a walk.
     pub fn new(alloc: Global, query: &TsQuery) -> Result<MatchWork, AllocError>
         ensures { IfOk result (λ work. work ≡ plan_of query.now) }
     {

@@ -4,7 +4,8 @@ use Rattle.std.proofs.Common.{refl, ap, ◌∙◌, append_assoc}
 use Rattle.std.specs.Coded.{Coded, code_by, coded_list}
 use Rattle.ts_query.specs.declared.TheConstants.{NODE_LIMIT}
 use Rattle.ts_query.specs.declared.error.QueryError.{QueryError}
-use Rattle.ts_query.specs.declared.error.QueryError.TheVariants.{Syntax, DistanceTooLarge, TooManyNodes, LexemeTooLong, OutOfMemory}
+use Rattle.ts_query.specs.declared.error.QueryError.TheVariants.{Syntax, DistanceTooLarge, TooManyNodes, LexemeTooLong}
+use Rattle.ts_query.specs.declared.error.QueryError.TheVariants.{OutOfMemory}
 use Rattle.ts_query.specs.Queries.{Operand, Joint, Tree, negated, joined, operands_in, nodes_in, HasNear, HasLexeme}
 use Rattle.ts_query.specs.Postfix.{Item, item_code, postfix, run, run-postfix}
 
@@ -54,7 +55,8 @@ items_among (x ∷ ts) = items_among ts ++ postfix x
 abbrev pub trees_from : List Item → List Tree
 trees_from is = run is []
 
-pub run-items_among : (ts : List Tree) (is : List Item) (st : List Tree) → run (items_among ts ++ is) st ≡ run is (ts ++ st)
+pub run-items_among : (ts : List Tree) (is : List Item) (st : List Tree)
+    → run (items_among ts ++ is) st ≡ run is (ts ++ st)
 run-items_among [] is st = refl
 run-items_among (x ∷ ts) is st =
     ap (λ l. run l st) (append_assoc (items_among ts) (postfix x) is)

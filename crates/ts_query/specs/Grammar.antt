@@ -1,6 +1,8 @@
--- The grammar of a query's text: `|`, `&` and phrases from the loosest on, each grouped to the left, then `!`, and brackets.
+-- The grammar of a query's text: `|`, `&` and phrases from the loosest on, each grouped to the left, then `!`, and
+-- brackets.
 use Rattle.std.specs.Prelude.{◌≡◌, ℕ, suc, ◌<◌, List, [], ◌∷◌, Some, None, length}
-use Rattle.ts_query.specs.Queries.{Operand, Joint, or_joint, and_joint, phrase_joint, Tree, leaf, negated, joined, Query}
+use Rattle.ts_query.specs.Queries.{Operand, Joint, or_joint, and_joint, phrase_joint, Tree, leaf, negated, joined}
+use Rattle.ts_query.specs.Queries.{Query}
 use Rattle.ts_query.specs.Tokens.{QueryToken, word, bang, opening, closing, sign, Lex}
 
 -- the level of an operator; that of `!` is 3, and that of an operand or a bracket 4

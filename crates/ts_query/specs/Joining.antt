@@ -2,7 +2,8 @@
 use Rattle.std.specs.Prelude.{◌≤◌, Some, None}
 use Rattle.ts_query.specs.declared.TheConstants.{NODE_LIMIT}
 use Rattle.ts_query.specs.declared.error.QueryError.{QueryError}
-use Rattle.ts_query.specs.declared.error.QueryError.TheVariants.{Syntax, DistanceTooLarge, TooManyNodes, LexemeTooLong, OutOfMemory}
+use Rattle.ts_query.specs.declared.error.QueryError.TheVariants.{Syntax, DistanceTooLarge, TooManyNodes, LexemeTooLong}
+use Rattle.ts_query.specs.declared.error.QueryError.TheVariants.{OutOfMemory}
 use Rattle.ts_query.specs.Queries.{Joint, joined, negated, Query, nodes_of}
 
 -- what joins two queries; beside an empty query the other is given

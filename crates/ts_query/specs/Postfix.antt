@@ -4,7 +4,8 @@ use Rattle.std.proofs.Common.{refl, sym, ap, ◌∙◌, append_assoc, inl, inr}
 use Rattle.std.specs.Coded.{Coded, code_by, coded_ℕ, coded_bool, coded_list, coded×, coded⊎}
 use Rattle.ts_query.specs.declared.query.Node.{Node}
 use Rattle.ts_query.specs.declared.query.Node.TheVariants.{Leaf, Not, And, Or, Phrase}
-use Rattle.ts_query.specs.Queries.{Operand, Joint, or_joint, and_joint, phrase_joint, Tree, leaf, negated, joined, Query, operands_of, IsSound}
+use Rattle.ts_query.specs.Queries.{Operand, Joint, or_joint, and_joint, phrase_joint, Tree, leaf, negated, joined}
+use Rattle.ts_query.specs.Queries.{Query, operands_of, IsSound}
 
 -- an item of a postfix list
 pub data Item : Type 0 where
@@ -42,9 +43,11 @@ query_from is = top (run is [])
 
 pub run-postfix : (t : Tree) (is : List Item) (st : List Tree) → run (postfix t ++ is) st ≡ run is (t ∷ st)
 run-postfix (leaf o) is st = refl
-run-postfix (negated x) is st = ap (λ l. run l st) (append_assoc (postfix x) (not_item ∷ []) is) ∙ run-postfix x (not_item ∷ is) st
+run-postfix (negated x) is st =
+    ap (λ l. run l st) (append_assoc (postfix x) (not_item ∷ []) is) ∙ run-postfix x (not_item ∷ is) st
 run-postfix (joined j x y) is st =
-    ap (λ l. run l st) (append_assoc (postfix x ++ postfix y) (joint_item j ∷ []) is ∙ append_assoc (postfix x) (postfix y) (joint_item j ∷ is))
+    ap (λ l. run l st) (append_assoc (postfix x ++ postfix y) (joint_item j ∷ []) is
+    ∙ append_assoc (postfix x) (postfix y) (joint_item j ∷ is))
     ∙ run-postfix x (postfix y ++ joint_item j ∷ is) st ∙ run-postfix y (joint_item j ∷ is) (x ∷ st)
 
 append_none : (l : List Item) → l ++ [] ≡ l
@@ -58,9 +61,15 @@ query_from-postfix_of (Some t) = ap (λ l. top (run l [])) (sym (append_none (po
 -- how a query is stored where contracts keep it: as its postfix list
 abbrev pub operand_code : Coded Operand
 operand_code =
-    code_by (List ℕ × (Bool × (Bool × (Bool × (Bool × Bool))))) (coded× (coded_list coded_ℕ) (coded× coded_bool (coded× coded_bool (coded× coded_bool (coded× coded_bool coded_bool)))))
+    code_by (List ℕ × (Bool × (Bool × (Bool × (Bool × Bool)))))
+    (coded× (coded_list coded_ℕ)
+    (coded× coded_bool (coded× coded_bool (coded× coded_bool (coded× coded_bool coded_bool)))))
     (λ o. (o.lexeme, (o.weights.a, (o.weights.b, (o.weights.c, (o.weights.d, o.prefix))))))
-    (λ p. record { lexeme = p.0; weights = record { a = p.1.0; b = p.1.1.0; c = p.1.1.1.0; d = p.1.1.1.1.0 }; prefix = p.1.1.1.1.1 })
+    (λ p. record {
+      lexeme = p.0;
+      weights = record { a = p.1.0; b = p.1.1.0; c = p.1.1.1.0; d = p.1.1.1.1.0 };
+      prefix = p.1.1.1.1.1;
+    })
     (λ _. refl)
 
 abbrev pub item_parts : Item → Operand ⊎ List ℕ
@@ -85,7 +94,8 @@ item_of_parts-item_parts (joint_item and_joint) = refl
 item_of_parts-item_parts (joint_item (phrase_joint n)) = refl
 
 abbrev pub item_code : Coded Item
-item_code = code_by (Operand ⊎ List ℕ) (coded⊎ operand_code (coded_list coded_ℕ)) item_parts item_of_parts item_of_parts-item_parts
+item_code = code_by (Operand ⊎ List ℕ)
+    (coded⊎ operand_code (coded_list coded_ℕ)) item_parts item_of_parts item_of_parts-item_parts
 
 abbrev pub query_code : Coded Query
 query_code = code_by (List Item) (coded_list item_code) postfix_of query_from query_from-postfix_of

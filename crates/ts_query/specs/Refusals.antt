@@ -7,7 +7,8 @@ use Rattle.ts_query.specs.Tokens.{QueryToken}
 use Rattle.ts_query.specs.Grammar.{ReadsQuery, IsQueryText}
 use Rattle.ts_query.specs.Limits.{first_far, first_long}
 use Rattle.ts_query.specs.declared.error.QueryError.{QueryError}
-use Rattle.ts_query.specs.declared.error.QueryError.TheVariants.{Syntax, DistanceTooLarge, TooManyNodes, LexemeTooLong, OutOfMemory}
+use Rattle.ts_query.specs.declared.error.QueryError.TheVariants.{Syntax, DistanceTooLarge, TooManyNodes, LexemeTooLong}
+use Rattle.ts_query.specs.declared.error.QueryError.TheVariants.{OutOfMemory}
 
 -- the text is in the grammar and within the limits, and the query is its value
 pub record IsReadAs (text : List ℕ) (query : Query) : Type 0 where

@@ -1,5 +1,7 @@
--- The tokens of a query's text: what each stands for, and the offset where it starts. Texts are lists of bytes; every byte
--- that means something is ASCII, so the bytes of a longer character are ordinary bytes, and `\` escapes the first of them.
+-- The tokens of a query's text: what each stands for, and the offset where it starts. Texts are lists of bytes;
+-- every byte
+-- that means something is ASCII, so the bytes of a longer character are ordinary bytes, and `\` escapes the first
+-- of them.
 use Rattle.std.specs.Prelude.{◌≡◌, ◌≢◌, ◌⊎◌, ℕ, ◌-◌, List, [], ◌∷◌, Bool, true, false, length}
 use Rattle.ts_base.specs.declared.Weight.{Weight}
 use Rattle.ts_base.specs.declared.Weight.TheVariants.{A, B, C, D}
@@ -61,7 +63,8 @@ pub data BehindLexeme : List ℕ → List ℕ → Operand → List ℕ → Type 
   marked : (l u r : List ℕ) (w : Weights) (p : Bool) → Marks no_weights false u w p r
       → BehindLexeme l (58 ∷ u) (operand l w p) r
 
--- After digits of the value n, u goes on to `>` with the value m, and r follows. A number past 16384 stays at 16385, which is
+-- After digits of the value n, u goes on to `>` with the value m, and r follows. A number past 16384 stays at
+-- 16385, which is
 -- too large for an operator.
 pub data DistanceNumber : ℕ → List ℕ → ℕ → List ℕ → Type 0 where
   over : (n : ℕ) (r : List ℕ) → DistanceNumber n (62 ∷ r) n r

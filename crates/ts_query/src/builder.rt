@@ -14,7 +14,8 @@ use std::alloc::Global;
 use std::marker::Model;
 use ts_base::{LONGEST_LEXEME, Lexeme, Weights};
 
-/// A query that is written node by node, each operator after its operands. What was written so far is kept as a list of trees;
+/// A query that is written node by node, each operator after its operands. What was written so far is kept as a
+/// list of trees;
 /// an operator takes the last of them. A refused node leaves it unchanged.
 #[derive(Drop)]
 pub struct QueryBuilder {

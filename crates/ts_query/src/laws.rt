@@ -1,5 +1,6 @@
 // What holds of every query's text.
-ghost use Rattle.ts_query.specs.Laws.{OneValue, PrintsBack, DistanceIsDecimal, QueryFaultHasOnePlace, QueryFaultIsOutside};
+ghost use Rattle.ts_query.specs.Laws.{OneValue, PrintsBack, DistanceIsDecimal, QueryFaultHasOnePlace};
+ghost use Rattle.ts_query.specs.Laws.{QueryFaultIsOutside};
 ghost use Rattle.ts_query.specs.Refusals.{OneAnswer};
 
 /// A text has at most one value.
@@ -17,7 +18,8 @@ pub fn prints_back()
     ensures { PrintsBack }
 {}
 
-/// A distance is `->`, or the number that decimal digits write; from 16385 on all numbers count as one, which is too large.
+/// A distance is `->`, or the number that decimal digits write; from 16385 on all numbers count as one, which is
+/// too large.
 pub fn distance_is_decimal()
     ensures { DistanceIsDecimal }
 {}

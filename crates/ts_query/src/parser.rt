@@ -1,10 +1,12 @@
 // From tokens to the postfix list of a query's tree: a stack of open operators, and what is put out.
-ghost use Rattle.std.specs.Prelude.{◌≡◌, ◌≢◌, ◌<◌, ◌+◌, ◌↔◌, ℕ, List, [], ◌∷◌, ◌++◌, map, IfOk, OnOk, MatchOption, option_map, vec_len, IsTrue, MatchBool};
+ghost use Rattle.std.specs.Prelude.{◌≡◌, ◌≢◌, ◌<◌, ◌+◌, ◌↔◌, ℕ, List, [], ◌∷◌, ◌++◌, map, IfOk, OnOk, MatchOption};
+ghost use Rattle.std.specs.Prelude.{option_map, vec_len, IsTrue, MatchBool};
 ghost use Rattle.ts_query.specs.Queries.{Tree};
 ghost use Rattle.ts_query.specs.Tokens.{word, bang, opening, closing, sign};
 ghost use Rattle.ts_query.specs.Grammar.{level};
 ghost use Rattle.ts_query.specs.Inner.Frames.{Frame, Spot, IsDue, IsHeld};
-ghost use Rattle.ts_query.specs.Inner.Parsing.{link_joint, word_operand, entry_item, Shows, ShowsHeld, Took, TookOrNever, AppliedOne, AppliedAll, QueryEnd};
+ghost use Rattle.ts_query.specs.Inner.Parsing.{link_joint, word_operand, entry_item, Shows, ShowsHeld, Took};
+ghost use Rattle.ts_query.specs.Inner.Parsing.{TookOrNever, AppliedOne, AppliedAll, QueryEnd};
 ghost use Rattle.ts_query.specs.declared.parser.Op.{Op};
 
 use std::alloc::AllocError;

@@ -1,5 +1,6 @@
 // The printed form of a query. Its parts are found from the last to the first, since an operator is after its operands.
-ghost use Rattle.std.specs.Prelude.{◌≡◌, ◌<◌, ◌≤◌, ◌+◌, ◌↔◌, List, [], ◌∷◌, ◌++◌, IfOk, OnOk, IsTrue, length, reverse, Some};
+ghost use Rattle.std.specs.Prelude.{◌≡◌, ◌<◌, ◌≤◌, ◌+◌, ◌↔◌, List, [], ◌∷◌, ◌++◌, IfOk, OnOk, IsTrue, length, reverse};
+ghost use Rattle.std.specs.Prelude.{Some};
 ghost use Rattle.std.specs.String.{string_bytes};
 ghost use Rattle.ts_query.specs.Queries.{Tree, operands_in};
 ghost use Rattle.ts_query.specs.Grammar.{level};

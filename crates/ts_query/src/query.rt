@@ -1,7 +1,8 @@
 // A query in memory.
 ghost use Rattle.std.specs.Prelude.{◌≡◌, ◌<◌, ◌≤◌, List, [], ◌∷◌, ◌++◌, map, OnOk, OnErr, IfOk, IfErr, length};
 ghost use Rattle.std.specs.String.{string_bytes};
-ghost use Rattle.ts_query.specs.Queries.{Query, or_joint, and_joint, phrase_joint, leaf, IsNear, HasLexeme, IsSound, operands_of};
+ghost use Rattle.ts_query.specs.Queries.{Query, or_joint, and_joint, phrase_joint, leaf, IsNear, HasLexeme, IsSound};
+ghost use Rattle.ts_query.specs.Queries.{operands_of};
 ghost use Rattle.ts_query.specs.Tokens.{operand};
 ghost use Rattle.ts_query.specs.Postfix.{Item, operand_item, not_item, joint_item, joint_node, postfix_of, nodes_for};
 ghost use Rattle.ts_query.specs.Inner.Parsing.{link_joint, word_operand, entry_item};
@@ -17,7 +18,8 @@ use std::alloc::{AllocError, Global};
 use std::marker::Model;
 use ts_base::{LONGEST_LEXEME, Lexeme, LexemeError, Weights};
 
-/// A lexeme that a vector is asked for. With weights, one of its positions has one of them; `prefix` asks for a lexeme that begins so.
+/// A lexeme that a vector is asked for. With weights, one of its positions has one of them; `prefix` asks for a
+/// lexeme that begins so.
 #[derive(Clone, Debug, Drop)]
 pub struct Operand {
     /// The lexeme.
@@ -225,7 +227,8 @@ impl TsQuery {
         self.operands.as_slice()
     }
 
-    /// The query that a text stands for. A fault of syntax comes before all other refusals, a distance that is too large
+    /// The query that a text stands for. A fault of syntax comes before all other refusals, a distance that is too
+    /// large
     /// before a lexeme that is too long, and both before too many nodes.
     ///
     /// ```rust

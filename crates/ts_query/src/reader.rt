@@ -1,5 +1,6 @@
 // From the characters of a query's text to tokens, each given to the parser as soon as it ends.
-ghost use Rattle.std.specs.Prelude.{◌≡◌, ◌≢◌, ◌⊎◌, ◌↔◌, ◌≤◌, ℕ, List, [], ◌∷◌, ◌++◌, IfOk, IfErr, OnOk, IsTrue, true, false, if◌then◌else◌, Some, None, encode_utf8};
+ghost use Rattle.std.specs.Prelude.{◌≡◌, ◌≢◌, ◌⊎◌, ◌↔◌, ◌≤◌, ℕ, List, [], ◌∷◌, ◌++◌, IfOk, IfErr, OnOk, IsTrue, true};
+ghost use Rattle.std.specs.Prelude.{false, if◌then◌else◌, Some, None, encode_utf8};
 ghost use Rattle.std.specs.String.{string_bytes};
 ghost use Rattle.ts_base.specs.Fault.{FaultAt, Stands};
 ghost use Rattle.ts_query.specs.Queries.{phrase_joint};
@@ -10,7 +11,8 @@ ghost use Rattle.ts_query.specs.Inner.Frames.{Spot, start, IsDue, IsHeld};
 ghost use Rattle.ts_query.specs.Inner.Parsing.{link_joint};
 ghost use Rattle.ts_query.specs.Limits.{is_far, or_else};
 ghost use Rattle.ts_query.specs.Inner.Lexer.{between};
-ghost use Rattle.ts_query.specs.Inner.Reader.{Reading, ReadsPair, Stand, IsReaderAt, KeepsParsed, Tracks, Gave, MovedOrStuck, EndsOrNot, IsOutcome};
+ghost use Rattle.ts_query.specs.Inner.Reader.{Reading, ReadsPair, Stand, IsReaderAt, KeepsParsed, Tracks, Gave};
+ghost use Rattle.ts_query.specs.Inner.Reader.{MovedOrStuck, EndsOrNot, IsOutcome};
 
 use crate::parser::{Entry, Link, Parser, Place, Word};
 use crate::{GREATEST_DISTANCE, PAST_DISTANCE};

@@ -8,7 +8,8 @@ use Rattle.ts_thesaurus.specs.Lines.{AreRules, IsRefused}
 
 -- of each length one list of samples at most fits the first answers
 abbrev pub OneFits : Type 0
-OneFits = (answers : List WordAnswer) (a b : List SampleWord) → FitsFirst a answers → FitsFirst b answers → length a ≡ length b → a ≡ b
+OneFits = (answers : List WordAnswer) (a b : List SampleWord) → FitsFirst a answers → FitsFirst b answers
+    → length a ≡ length b → a ≡ b
 
 -- Lines have one reading: one list of rules, or one first line that is refused.
 pub record LinesHaveOneReading : Type 0 where

@@ -1,5 +1,6 @@
 -- The lines of a thesaurus. `answer` is what the subdictionary answers to a word.
-use Rattle.std.specs.Prelude.{◌≡◌, ◌≢◌, ◌⊎◌, ℕ, ◌-◌, ◌≤◌, List, [], ◌∷◌, ◌++◌, length, All, false, ◌==◌, if◌then◌else◌, bytes_eq, Option, Some, None}
+use Rattle.std.specs.Prelude.{◌≡◌, ◌≢◌, ◌⊎◌, ℕ, ◌-◌, ◌≤◌, List, [], ◌∷◌, ◌++◌, length, All, false, ◌==◌, if◌then◌else◌}
+use Rattle.std.specs.Prelude.{bytes_eq, Option, Some, None}
 use Rattle.std.specs.List.{slice_get}
 use Rattle.ts_base.specs.declared.TheConstants.{LONGEST_LEXEME}
 use Rattle.ts_base.specs.declared.Found.{Found}
@@ -75,7 +76,8 @@ module _ (answer : List ℕ → WordAnswer) where
   indexed_words [] = Some []
   indexed_words (word ∷ words) = both (indexed_word word) (indexed_words words)
 
-  -- A sample word: `?` is any stop word, and another stands for what the subdictionary answers. None where that has no lexemes.
+  -- A sample word: `?` is any stop word, and another stands for what the subdictionary answers. None where that has
+  -- no lexemes.
   abbrev pub sample_word : List ℕ → Option SampleWord
   sample_word word = if bytes_eq word (63 ∷ []) then Some any_stop else sample_of (answer word)
 

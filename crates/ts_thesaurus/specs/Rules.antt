@@ -40,7 +40,8 @@ pub record Replacement : Type 0 where
   pub tokens : ℕ
   pub words : List Found
 
--- The rule at this place fits the first answers; no rule that fits them is longer, and none after it that fits is as long.
+-- The rule at this place fits the first answers; no rule that fits them is longer, and none after it that fits is
+-- as long.
 pub record IsBest (rules : List Rule) (answers : List WordAnswer) (r : Replacement) : Type 0 where
   pub place : ℕ
   pub rule : Rule

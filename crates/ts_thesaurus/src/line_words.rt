@@ -1,7 +1,8 @@
 // What the words of a line stand for, by the subdictionary.
 ghost use Rattle.std.specs.Prelude.{◌≡◌, ◌++◌, ◌∷◌, [], map, All, IfOk, IfErr, OnOk, option_map, Some};
 ghost use Rattle.ts_base.specs.Dictionary.{answer_value};
-ghost use Rattle.ts_thesaurus.specs.Lines.{lexemes_in as lexemes_in_of, indexed_word as indexed_word_of, indexed_words as indexed_words_of, sample_words as sample_words_of};
+ghost use Rattle.ts_thesaurus.specs.Lines.{lexemes_in as lexemes_in_of, indexed_word as indexed_word_of};
+ghost use Rattle.ts_thesaurus.specs.Lines.{indexed_words as indexed_words_of, sample_words as sample_words_of};
 ghost use Rattle.ts_thesaurus.specs.Inner.Reading.{IsAsked, StandsFor, IsWordFault, AreWordsFault};
 ghost use Rattle.ts_thesaurus.specs.Views.{sample_value};
 

@@ -4,7 +4,9 @@ ghost use Rattle.ts_base.specs.Dictionary.{answer_value};
 ghost use Rattle.ts_thesaurus.specs.Rules.{lexemes_of};
 ghost use Rattle.ts_thesaurus.specs.Views.{sample_value, rule_value};
 ghost use Rattle.ts_thesaurus.specs.Inner.Walks.{behind_words, behind as behind_by, behind_all, best_on};
-ghost use Rattle.ts_thesaurus.specs.Inner.States.{letter_value, IsEmptyState, step_of, steps_of, last_of, LeadsTo, Stands, Enters, EntersWords, EntersSample, EntersSamples, HasRoot, HasTree};
+ghost use Rattle.ts_thesaurus.specs.Inner.States.{letter_value, IsEmptyState, step_of, steps_of, last_of, LeadsTo};
+ghost use Rattle.ts_thesaurus.specs.Inner.States.{Stands, Enters, EntersWords, EntersSample, EntersSamples, HasRoot};
+ghost use Rattle.ts_thesaurus.specs.Inner.States.{HasTree};
 
 use crate::rule::{KeptRule, Sample};
 use std::alloc::{AllocError, Global};

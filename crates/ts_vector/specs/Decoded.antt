@@ -6,7 +6,8 @@ use Rattle.ts_base.specs.Vectors.{Position, Entry, Vector, IsPosition, IsNormal,
 use Rattle.ts_base.specs.Endian.{little_bytes}
 use Rattle.ts_base.specs.Encoding.{position_bytes, IsEncoding}
 use Rattle.ts_vector.specs.declared.error.VectorError.{VectorError}
-use Rattle.ts_vector.specs.declared.error.VectorError.TheVariants.{Syntax, LexemeTooLong, VectorTooLarge, BadBytes, OutOfMemory}
+use Rattle.ts_vector.specs.declared.error.VectorError.TheVariants.{Syntax, LexemeTooLong, VectorTooLarge, BadBytes}
+use Rattle.ts_vector.specs.declared.error.VectorError.TheVariants.{OutOfMemory}
 
 -- what some fields say: the number of entries, the whole entries, and the next entry as far as it goes
 pub data DecodedPart : Type 0 where
@@ -53,7 +54,8 @@ pub record AreRising (ps : List Position) : Type 0 where
   pub valid : All IsPosition ps
   pub rising : AllPairs (λ p q. p.at < q.at) ps
 
--- a vector begins so: each part within its limits, and the content below the limit. A length and a number of positions count at once
+-- a vector begins so: each part within its limits, and the content below the limit. A length and a number of
+-- positions count at once
 abbrev pub IsBeginning : DecodedPart → Type 0
 IsBeginning start = Unit {0}
 IsBeginning (counted n v) = IsNormal v × (content_size v < SIZE_LIMIT)
@@ -68,7 +70,8 @@ pub data ReadsFields (bytes : List ℕ) : DecodedPart → List ℕ → Type 0 wh
   field : (p q : DecodedPart) (f rest : List ℕ) → ReadsFields bytes p (f ++ rest) → Next p f q
       → IsBeginning q → ReadsFields bytes q rest
 
--- after the part: the next field is cut off, or the part is whole and more follows, or with the next field no vector begins so
+-- after the part: the next field is cut off, or the part is whole and more follows, or with the next field no
+-- vector begins so
 abbrev pub IsCut : DecodedPart → List ℕ → Type 0
 IsCut p rest = (w : ℕ) × Width p w × (length rest < w)
 
@@ -79,7 +82,8 @@ abbrev pub IsWrong : DecodedPart → List ℕ → Type 0
 IsWrong p rest = (f : List ℕ) × (more : List ℕ) × (rest ≡ f ++ more) × Width p (length f)
     × ((q : DecodedPart) → Next p f q → ¬ IsBeginning q)
 
--- The bytes are bad at the first byte of the first field that is wrong or surplus, or at their end where they end too early.
+-- The bytes are bad at the first byte of the first field that is wrong or surplus, or at their end where they end
+-- too early.
 pub record IsBadAt (bytes : List ℕ) (n : ℕ) : Type 0 where
   pub part : DecodedPart
   pub rest : List ℕ

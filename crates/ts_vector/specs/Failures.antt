@@ -4,7 +4,8 @@ use Rattle.ts_base.specs.declared.TheConstants.{SIZE_LIMIT}
 use Rattle.ts_base.specs.Fault.{FaultAt, Stands}
 use Rattle.ts_base.specs.Vectors.{Entry, Vector, content_size}
 use Rattle.ts_vector.specs.declared.error.VectorError.{VectorError}
-use Rattle.ts_vector.specs.declared.error.VectorError.TheVariants.{Syntax, LexemeTooLong, VectorTooLarge, BadBytes, OutOfMemory}
+use Rattle.ts_vector.specs.declared.error.VectorError.TheVariants.{Syntax, LexemeTooLong, VectorTooLarge, BadBytes}
+use Rattle.ts_vector.specs.declared.error.VectorError.TheVariants.{OutOfMemory}
 use Rattle.ts_vector.specs.Normal.{IsNormalFormOf}
 use Rattle.ts_vector.specs.Changes.{IsGreatest, shifted}
 use Rattle.ts_vector.specs.Text.{Written, IsVectorText, FirstLong, AllShort, entries}

@@ -1,4 +1,5 @@
--- The normal form of a list of items as they are written: in any order, a lexeme in many items, a position at any number.
+-- The normal form of a list of items as they are written: in any order, a lexeme in many items, a position at any
+-- number.
 use Rattle.std.specs.Prelude.{◌≡◌, ℕ, ◌<◌, ◌≤◌, min, List, take, All, AllPairs, Any, Contains}
 use Rattle.ts_base.specs.declared.TheConstants.{LAST_POSITION, MOST_POSITIONS}
 use Rattle.ts_base.specs.declared.Weight.{Weight}

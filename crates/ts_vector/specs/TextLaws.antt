@@ -34,4 +34,5 @@ abbrev pub PositionHasItsNumber : Type 0
 PositionHasItsNumber =
     (digits rest : List ℕ) (before all : List Position) (r : List ℕ) → All IsDigit digits → BeginsWithout IsDigit rest
     → PositionNumber 0 before (digits ++ rest) all r
-    → (w : Weight) × (more : List Position) × (all ≡ before ++ position (min (digits_value 10 digits) LAST_POSITION) w ∷ more)
+    → (w : Weight) × (more : List Position)
+    × (all ≡ before ++ position (min (digits_value 10 digits) LAST_POSITION) w ∷ more)

@@ -1,5 +1,6 @@
 // A vector's encoding, read where it lies.
-ghost use Rattle.std.specs.Prelude.{◌≡◌, ℕ, ◌<◌, ◌≤◌, ◌↔◌, ◌%◌, ◌++◌, [], List, length, drop, sum_by, IsTrue, IfOk, IfErr};
+ghost use Rattle.std.specs.Prelude.{◌≡◌, ℕ, ◌<◌, ◌≤◌, ◌↔◌, ◌%◌, ◌++◌, [], List, length, drop, sum_by, IsTrue, IfOk};
+ghost use Rattle.std.specs.Prelude.{IfErr};
 ghost use Rattle.std.specs.Iterator.{YieldsFirst, item_count};
 ghost use Rattle.ts_base.specs.Endian.{little_bytes};
 ghost use Rattle.ts_base.specs.Vectors.{Entry, IsPosition, IsEntry, IsNormal, content_size};

@@ -1,6 +1,7 @@
 // What holds of every vector and every text.
 ghost use Rattle.ts_vector.specs.Normal.{NormalFormIsOne};
-ghost use Rattle.ts_vector.specs.TextLaws.{TextHasOneList, TextHasOneValue, FaultHasOnePlace, FaultIsOutside, PositionHasItsNumber};
+ghost use Rattle.ts_vector.specs.TextLaws.{TextHasOneList, TextHasOneValue, FaultHasOnePlace, FaultIsOutside};
+ghost use Rattle.ts_vector.specs.TextLaws.{PositionHasItsNumber};
 ghost use Rattle.ts_vector.specs.Decoded.{BadPlaceIsOne, BadBytesAreNoEncoding};
 ghost use Rattle.ts_vector.specs.Printed.{PrintedTextIsRead};
 ghost use Rattle.ts_vector.specs.AnswerLaws.{TextHasOneAnswer, BuildHasOneAnswer, JoinHasOneAnswer};

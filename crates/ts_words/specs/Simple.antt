@@ -16,4 +16,5 @@ plain lexeme = record { lexeme = lexeme; prefix = false }
 -- A stop word is left out; of the others each stands for itself, or isn't known.
 abbrev pub simple_answer : List (List ℕ) → Bool → List ℕ → WordAnswer
 simple_answer stops accept word =
-    if is_stop stops (lower word) then stop_word else (if accept then word_lexemes (plain (lower word) ∷ []) else unknown_word)
+    if is_stop stops (lower word) then stop_word else
+    (if accept then word_lexemes (plain (lower word) ∷ []) else unknown_word)

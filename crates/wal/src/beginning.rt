@@ -1,5 +1,6 @@
 // How a log begins: it is opened, or created before.
-ghost use Rattle.std.specs.Prelude.{◌≡◌, ◌⊎◌, ◌↔◌, ℕ, ◌+◌, ◌<◌, ◌≤◌, [], length, take, IfOk, OnOk, IfErr, IsErrOf, IsTrue, false};
+ghost use Rattle.std.specs.Prelude.{◌≡◌, ◌⊎◌, ◌↔◌, ℕ, ◌+◌, ◌<◌, ◌≤◌, [], length, take, IfOk, OnOk, IfErr, IsErrOf};
+ghost use Rattle.std.specs.Prelude.{IsTrue, false};
 ghost use Rattle.disk_trait.specs.Runs.{IsSettled, LeavesOnly};
 ghost use Rattle.wal.specs.Batches.{header, IsUnborn};
 ghost use Rattle.wal.specs.Causes.{ReadHasCause, OpenHasCause, NotAStoreWhere};

@@ -1,5 +1,7 @@
 // A log that is open: where its next commit byte is, and what waits for a flush.
-ghost use Rattle.std.specs.Prelude.{◌≡◌, ◌⊎◌, ◌↔◌, ℕ, ◌+◌, ◌-◌, ◌^◌, ◌<◌, ◌≤◌, List, [], ◌∷◌, ◌++◌, length, drop, OnOk, OnErr, IfErr, IsErrOf, IsOk, Some, None, Option, vec_len, vec_capacity, Err, Ok, false};
+ghost use Rattle.std.specs.Prelude.{◌≡◌, ◌⊎◌, ◌↔◌, ℕ, ◌+◌, ◌-◌, ◌^◌, ◌<◌, ◌≤◌, List, [], ◌∷◌, ◌++◌, length, drop, OnOk};
+ghost use Rattle.std.specs.Prelude.{OnErr, IfErr, IsErrOf, IsOk, Some, None, Option, vec_len, vec_capacity, Err, Ok};
+ghost use Rattle.std.specs.Prelude.{false};
 ghost use Rattle.byteorder.specs.Endian.{little_bytes};
 ghost use Rattle.wal.specs.declared.sizes.TheConstants.{LENGTH_BYTES, LOG_LIMIT};
 ghost use Rattle.wal.specs.declared.error.AppendError.TheVariants.{LogFull, OutOfMemory};
@@ -49,7 +51,8 @@ fn put_length(buffer: &mut Vec<u8>)
 }
 
 impl Wal {
-    ghost use Rattle.wal.specs.Waiting.{end_of, limit_of, down_of, waiting, IsReadToEnd, with_waiting, end_with, FlushLeaves, StandsNow};
+    ghost use Rattle.wal.specs.Waiting.{end_of, limit_of, down_of, waiting, IsReadToEnd, with_waiting, end_with};
+    ghost use Rattle.wal.specs.Waiting.{FlushLeaves, StandsNow};
     ghost use Rattle.wal.specs.Causes.{WriteHasCause, GoesDown, LogFullWhere};
     ghost use Rattle.wal.specs.Settled.{Settled};
     ghost use Rattle.wal.specs.Pages.{KeepsPages};

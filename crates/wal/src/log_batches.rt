@@ -1,5 +1,7 @@
 // A log is opened, and its batches are read one after another.
-ghost use Rattle.std.specs.Prelude.{⊤, ◌≡◌, ◌≢◌, ◌⊎◌, ◌↔◌, ℕ, ◌+◌, ◌-◌, ◌^◌, ◌<◌, ◌≤◌, min, List, [], ◌∷◌, ◌++◌, length, take, drop, IfOk, OnOk, OnErr, IfErr, IsErr, IfSome, IfNone, IsTrue, Ok, Err, true, false, get_or};
+ghost use Rattle.std.specs.Prelude.{⊤, ◌≡◌, ◌≢◌, ◌⊎◌, ◌↔◌, ℕ, ◌+◌, ◌-◌, ◌^◌, ◌<◌, ◌≤◌, min, List, [], ◌∷◌, ◌++◌};
+ghost use Rattle.std.specs.Prelude.{length, take, drop, IfOk, OnOk, OnErr, IfErr, IsErr, IfSome, IfNone, IsTrue, Ok};
+ghost use Rattle.std.specs.Prelude.{Err, true, false, get_or};
 ghost use Rattle.disk_trait.specs.Runs.{IsSettled};
 ghost use Rattle.wal.specs.Causes.{ReadHasCause, NotAStoreWhere};
 ghost use Rattle.byteorder.specs.Endian.{little_bytes};

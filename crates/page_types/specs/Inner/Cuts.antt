@@ -27,7 +27,8 @@ CanMove from to es = (last : ℕ) × EndAt from es last × (to + (last - from) <
 
 -- the ends where `new`, of lists with this size, are in place of those from k up to m, and those after have moved
 abbrev pub ends_with : List ℕ → ℕ → ℕ → List ℕ → ℕ → List ℕ
-ends_with ends k m new size = take k ends ++ (map (moved 0 (start_at 0 ends k)) new ++ map (moved (start_at 0 ends m) (start_at 0 ends k + size)) (drop m ends))
+ends_with ends k m new size = take k ends ++ (map (moved 0 (start_at 0 ends k)) new
+    ++ map (moved (start_at 0 ends m) (start_at 0 ends k + size)) (drop m ends))
 
 -- the ends cut these lists
 pub record Cuts {A : Type 0} (ends : List ℕ) (xs : List A) (lists : List (List A)) : Type 0 where

@@ -1,4 +1,5 @@
--- A reader's steps, whatever it reads. S are its states and V the values of texts. R says what may still follow in a state:
+-- A reader's steps, whatever it reads. S are its states and V the values of texts. R says what may still follow in
+-- a state:
 -- in a text of this size these bytes are left, and with them the whole text has this value.
 use Rattle.std.specs.Prelude.{◌≡◌, ℕ, ◌+◌, List, [], ◌∷◌, ◌++◌, length, Bool, true, false, Option, Some, None}
 
@@ -7,7 +8,8 @@ abbrev pub RestAt : (V : Type 0) → (ℕ → List ℕ → V → Type 0) → ℕ
 RestAt V R i u v = R (i + length u) u v
 
 -- after i bytes and these, what may follow in the old state is what may follow in the new one
-pub record Moves (S V : Type 0) (R : S → ℕ → List ℕ → V → Type 0) (i : ℕ) (old : S) (bytes : List ℕ) (new : S) : Type 0 where
+pub record Moves (S V : Type 0) (R : S → ℕ → List ℕ → V → Type 0) (i : ℕ) (old : S) (bytes : List ℕ)
+    (new : S) : Type 0 where
   pub goes_on : (size : ℕ) (u : List ℕ) (v : V) → size ≡ i + length (bytes ++ u)
       → R new size u v → R old size (bytes ++ u) v
   pub came_so : (size : ℕ) (u : List ℕ) (v : V) → size ≡ i + length (bytes ++ u)

@@ -1,4 +1,5 @@
--- What may follow within a lexeme, and the whole value. `Then l r v` says that after the lexeme l the bytes r follow, and that
+-- What may follow within a lexeme, and the whole value. `Then l r v` says that after the lexeme l the bytes r
+-- follow, and that
 -- the whole has the value v.
 use Rattle.std.specs.Prelude.{◌≡◌, ◌≢◌, ◌⊎◌, ℕ, List, [], ◌∷◌, ◌++◌}
 use Rattle.ts_base.specs.Quoted.{Quoted}

@@ -1,5 +1,6 @@
 -- A bit set of places as a function from places to truths.
-use Rattle.std.specs.Prelude.{ℕ, ◌+◌, ◌-◌, ◌*◌, ◌/◌, ◌%◌, ◌≤◌, ◌==◌, nat_lt, Bool, if◌then◌else◌, List, map, slice_index, vec_len}
+use Rattle.std.specs.Prelude.{ℕ, ◌+◌, ◌-◌, ◌*◌, ◌/◌, ◌%◌, ◌≤◌, ◌==◌, nat_lt, Bool, if◌then◌else◌, List, map}
+use Rattle.std.specs.Prelude.{slice_index, vec_len}
 use Rattle.std.specs.Int.{bit_at}
 use Rattle.ts_base.specs.declared.TheConstants.{LAST_POSITION}
 use Rattle.ts_match.specs.declared.ranges.TheConstants.{FARTHEST}
@@ -24,7 +25,8 @@ truths_at count j bit_sets = map (λ bits. bit_value count bits j) bit_sets
 abbrev pub IsWide : ℕ → BitSet → Type 0
 IsWide count bits = count ≤ vec_len bits.words
 
--- Where the beginning of a phrase is counted from, as in `place_from`, at a place of its bit sets: at the place `reach` of a bit set the
+-- Where the beginning of a phrase is counted from, as in `place_from`, at a place of its bit sets: at the place
+-- `reach` of a bit set the
 -- phrase begins at 0.
 abbrev pub beginning : ℕ → ℕ → ℕ
 beginning reach j = (j + FARTHEST) - reach

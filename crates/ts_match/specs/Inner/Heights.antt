@@ -51,7 +51,8 @@ pub record SameBitSets (stack spare stack' spare' : List BitSet) : Type 0 where
   pub count : length stack' + length spare' ≡ length stack + length spare
   pub wide : (count : ℕ) → AreWide count stack spare → AreWide count stack' spare'
 
--- A bit set for each level of the stack that the phrases among the steps need, and in each a place for each position moved by their
+-- A bit set for each level of the stack that the phrases among the steps need, and in each a place for each
+-- position moved by their
 -- widths, where these add up to at most WIDEST.
 pub record HasBitSets (ss : List Step) (stack spare : List BitSet) : Type 0 where
   pub height : highest ss 0 ≤ length stack + length spare

@@ -29,7 +29,8 @@ pub record IsAt (v : Vector) (w : Walk) : Type 0 where
   pub within : w.left ≤ length v
   pub ahead : (l : _) → w.ahead ≡ Some l → (e : Entry) × (drop (length v - w.left) v ≡ e ∷ w.rest) × (l.now ≡ e.lexeme)
   pub at_end : w.ahead ≡ None → w.left ≡ 0
-  pub behind : (l : _) → w.behind ≡ Some l → (w.left < length v) × ((d : Entry) → (slice_index_or v ((length v - w.left) - 1) d).lexeme ≡ l.now)
+  pub behind : (l : _) → w.behind ≡ Some l
+      → (w.left < length v) × ((d : Entry) → (slice_index_or v ((length v - w.left) - 1) d).lexeme ≡ l.now)
   pub fresh : w.behind ≡ None → w.left ≡ length v
 
 -- what is known of where the entries begin and end that the operand names
@@ -39,4 +40,5 @@ pub record IsBounds (v : Vector) (o : Operand) (b : Bounds) : Type 0 where
 
 -- of each operand, by its number
 abbrev pub AreBounds : Vector → List Operand → List Bounds → Type 0
-AreBounds v os bs = (k : ℕ) (o : Operand) (b : Bounds) → k < length os → k < length bs → IsBounds v (slice_index_or os k o) (slice_index_or bs k b)
+AreBounds v os bs = (k : ℕ) (o : Operand) (b : Bounds) → k < length os → k < length bs
+    → IsBounds v (slice_index_or os k o) (slice_index_or bs k b)

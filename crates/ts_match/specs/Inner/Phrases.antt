@@ -1,5 +1,6 @@
 -- A phrase laid out, and what it means that it holds at a place.
-use Rattle.std.specs.Prelude.{◌≡◌, ℕ, ◌+◌, ◌-◌, ◌*◌, ◌<◌, ◌≤◌, ℤ, pos, negsuc, ◌+ℤ◌, ◌-ℤ◌, Bool, true, false, not, ◌&&◌, ◌||◌, IsTrue, List, [], ◌∷◌, length, All, Contains, Some, slice_get, slice_index_or}
+use Rattle.std.specs.Prelude.{◌≡◌, ℕ, ◌+◌, ◌-◌, ◌*◌, ◌<◌, ◌≤◌, ℤ, pos, negsuc, ◌+ℤ◌, ◌-ℤ◌, Bool, true, false, not, ◌&&◌}
+use Rattle.std.specs.Prelude.{◌||◌, IsTrue, List, [], ◌∷◌, length, All, Contains, Some, slice_get, slice_index_or}
 use Rattle.ts_base.specs.Vectors.{Vector, Entry, Position, IsNormal}
 use Rattle.ts_query.specs.declared.query.Node.{Node}
 use Rattle.ts_query.specs.declared.query.Node.TheVariants.{Leaf, Not, And, Or, Phrase}
@@ -65,7 +66,8 @@ pub record IsStep (n : ℕ) (s : Step) : Type 0 where
 
 -- the operand of a leaf names what was found for it
 abbrev pub RangeFor : Vector → List Operand → List EntryRange → Node → Type 0
-RangeFor v os fs (Leaf k) = (o : Operand) (f : EntryRange) → NamesRange v (slice_index_or os k o) (slice_index_or fs k f)
+RangeFor v os fs (Leaf k) =
+    (o : Operand) (f : EntryRange) → NamesRange v (slice_index_or os k o) (slice_index_or fs k f)
 RangeFor v os fs _ = Unit {0}
 
 abbrev pub HasRange : Vector → List Operand → List EntryRange → Step → Type 0
@@ -78,7 +80,8 @@ pub record IsPrepared (v : Vector) (os : List Operand) (fs : List EntryRange) (s
   pub found : All (HasRange v os fs) ss
   pub steps : All (IsStep (length os)) ss
 
--- The place of a phrase whose beginning is counted as `from`: the count starts so far back that no beginning is below 0.
+-- The place of a phrase whose beginning is counted as `from`: the count starts so far back that no beginning is
+-- below 0.
 abbrev pub place_from : Tree → ℕ → ℤ
 place_from t from = (pos from -ℤ pos FARTHEST) +ℤ pos (width t)
 
@@ -139,7 +142,8 @@ truth_step (Phrase n) value st = (top_or false (below st) && top_or false st) �
 
 -- each position that was found for a leaf has a place in so many words, wherever in the phrase the leaf is
 abbrev pub PlacesFor : Vector → List EntryRange → ℕ → ℕ → Node → Type 0
-PlacesFor v fs reach count (Leaf k) = (f : EntryRange) (i : ℕ) (e : Entry) (p : Position) → (slice_index_or fs k f).first ≤ i → i < (slice_index_or fs k f).end
+PlacesFor v fs reach count (Leaf k) = (f : EntryRange) (i : ℕ) (e : Entry) (p : Position)
+    → (slice_index_or fs k f).first ≤ i → i < (slice_index_or fs k f).end
     → Contains (slice_index_or v i e).positions p → p.at + reach < WORD * count
 PlacesFor v fs reach count _ = Unit {0}
 
@@ -153,7 +157,8 @@ pub record IsLaidOut (v : Vector) (os : List Operand) (fs : List EntryRange) (re
   pub found : HasRange v os fs s
   pub places : HasPlaces v fs reach count s
 
--- The bit set of a tree: at each of its places the bit says whether the tree holds there, and the one bit for all others says it of
+-- The bit set of a tree: at each of its places the bit says whether the tree holds there, and the one bit for all
+-- others says it of
 -- each other whole number.
 pub record SaysWhere (v : Vector) (t : Tree) (count : ℕ) (bits : BitSet) : Type 0 where
   pub here : (j : ℕ) → bit_value count bits j ≡ at v t (pos j)

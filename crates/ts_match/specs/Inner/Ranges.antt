@@ -13,7 +13,8 @@ pub record NamesRange (v : Vector) (o : Operand) (found : EntryRange) : Type 0 w
   pub within : found.end ≤ length v
   pub named : filter (λ e. names o e.lexeme) v ≡ slice_range v found.first found.end
 
--- The operand has a position at its offset from the beginning of a phrase. So that all numbers are natural, the beginning is
+-- The operand has a position at its offset from the beginning of a phrase. So that all numbers are natural, the
+-- beginning is
 -- counted from a place farther back than any phrase reaches; `sum` is that count and the offset together.
 abbrev pub stands_at : Operand → Vector → ℕ → Bool
 stands_at o v sum = list_any (λ p. p + FARTHEST == sum) (places o v)

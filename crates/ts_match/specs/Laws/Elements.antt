@@ -1,5 +1,6 @@
 -- Elements of lists.
-use Rattle.std.proofs.Common.{◌≡◌, ℕ, zero, suc, get_or, ◌<◌, Bool, true, false, ◌||◌, List, [], ◌∷◌, length, map, ◌⊎◌, inl, inr, refl, sym, subst, arith}
+use Rattle.std.proofs.Common.{◌≡◌, ℕ, zero, suc, get_or, ◌<◌, Bool, true, false, ◌||◌, List, [], ◌∷◌, length, map, ◌⊎◌}
+use Rattle.std.proofs.Common.{inl, inr, refl, sym, subst, arith}
 use Rattle.std.specs.Prelude.{Contains}
 use Rattle.std.specs.List.{list_any}
 use Rattle.std.proofs.lemmas.List.Elements.{Contains-append_right, Contains-append_cases}
@@ -22,7 +23,8 @@ pub Contains-one : {X : Type 0} (x y : X) → Contains (x ∷ []) y → y ≡ x
 Contains-one x y (k, h, e) = one_at x y k h e
 
 pub Contains-cases : {X : Type 0} (x y : X) (xs : List X) → Contains (x ∷ xs) y → (y ≡ x) ⊎ Contains xs y
-Contains-cases x y xs h = elim (Contains-append_cases (x ∷ []) xs y h) [ inl a ↦ inl (Contains-one x y a) | inr b ↦ inr b ]
+Contains-cases x y xs h =
+    elim (Contains-append_cases (x ∷ []) xs y h) [ inl a ↦ inl (Contains-one x y a) | inr b ↦ inr b ]
 
 pub Contains-map : {X Y : Type 0} (f : X → Y) (xs : List X) (x : X) → Contains xs x → Contains (map f xs) (f x)
 Contains-map f [] x h = absurd (Contains-none x h)
@@ -41,7 +43,8 @@ pub passes_in : {X : Type 0} (test : X → Bool) (xs : List X) → list_any test
 passes_in test [] h = absurd (let x : ⊥ = cc in x)
 passes_in test (x ∷ xs) h = elim (or_cases (test x) (list_any test xs) h) [
   | inl a ↦ record { element = x; there = Contains-here x xs; passes = a }
-  | inr b ↦ let r = passes_in test xs b in record { element = r.element; there = Contains-there x r.element xs r.there; passes = r.passes }
+  | inr b ↦ let r = passes_in test xs b in
+      record { element = r.element; there = Contains-there x r.element xs r.there; passes = r.passes }
 ]
 
 pub or_right : (a b : Bool) → b ≡ true → (a || b) ≡ true
@@ -49,7 +52,8 @@ or_right true b e = refl
 or_right false b e = e
 
 -- an element that passes
-pub passes_at : {X : Type 0} (test : X → Bool) (xs : List X) (k : ℕ) (d : X) → k < length xs → test (get_or xs k d) ≡ true → list_any test xs ≡ true
+pub passes_at : {X : Type 0} (test : X → Bool) (xs : List X) (k : ℕ) (d : X) → k < length xs
+    → test (get_or xs k d) ≡ true → list_any test xs ≡ true
 passes_at test [] k d h e = absurd (omega arith)
 passes_at test (x ∷ xs) zero d h e = rw e refl
 passes_at test (x ∷ xs) (suc k) d h e = or_right (test x) (list_any test xs) (passes_at test xs k d (omega arith) e)
@@ -64,5 +68,6 @@ pub from_map : {X Y : Type 0} (f : X → Y) (xs : List X) (y : Y) → Contains (
 from_map f [] y h = absurd (Contains-none y h)
 from_map f (x ∷ xs) y h = elim (Contains-cases (f x) y (map f xs) h) [
   | inl e ↦ record { element = x; there = Contains-here x xs; is = sym e }
-  | inr k ↦ let r = from_map f xs y k in record { element = r.element; there = Contains-there x r.element xs r.there; is = r.is }
+  | inr k ↦ let r = from_map f xs y k in
+      record { element = r.element; there = Contains-there x r.element xs r.there; is = r.is }
 ]

@@ -1,5 +1,6 @@
 -- The law of the judge.
-use Rattle.std.proofs.Common.{◌≡◌, Bool, true, false, ◌&&◌, ◌||◌, List, [], ◌∷◌, ◌++◌, length, drop, None, Some, ◌⊎◌, inl, inr, refl, sym, ap, ◌∙◌}
+use Rattle.std.proofs.Common.{◌≡◌, Bool, true, false, ◌&&◌, ◌||◌, List, [], ◌∷◌, ◌++◌, length, drop, None, Some, ◌⊎◌}
+use Rattle.std.proofs.Common.{inl, inr, refl, sym, ap, ◌∙◌}
 use Rattle.std.specs.Prelude.{ℤ, pos, negsuc, ◌+ℤ◌, ◌-ℤ◌, IsTrue, max}
 use Rattle.std.specs.List.{list_any}
 use Rattle.std.proofs.lemmas.Bool.{or_cases}
@@ -9,7 +10,9 @@ use Rattle.ts_base.specs.Vectors.{Position, Vector}
 use Rattle.ts_query.specs.declared.query.Operand.{Operand}
 use Rattle.ts_query.specs.Queries.{Tree, leaf, negated, joined, or_joint, and_joint, phrase_joint, operands_in}
 use Rattle.ts_match.specs.Meaning.{names, asks_any, asks_for, is_met, places, is_place, width, at, HoldsOf}
-use Rattle.ts_match.specs.Judging.{least, greatest, opposite, at_most_maybe, given, right_values, judged_in, judged_of, has_lexeme, JudgesWell}
+use Rattle.ts_match.specs.Judging.{least, greatest, opposite, at_most_maybe, given, right_values, judged_in, judged_of}
+use Rattle.ts_match.specs.Judging.{has_lexeme, JudgesWell}
+use Rattle.ts_match.specs.Laws.Elements.{or_right}
 use Rattle.gin_opclass.specs.Class.{SoundValue, SoundValues}
 
 least_false : (s t : Tri) → least s t ≡ False → (s ≡ False) ⊎ (t ≡ False)
@@ -77,10 +80,6 @@ not_met : (o : Operand) (v : Vector) → has_lexeme o v ≡ false → is_met o v
 not_met o [] h = refl
 not_met o (e ∷ es) h = let p = or_parts (names o e.lexeme) (has_lexeme o es) h in rw p.0 (not_met o es p.1)
 
-or_right : (a b : Bool) → b ≡ true → (a || b) ≡ true
-or_right true b e = refl
-or_right false b e = e
-
 or_left : (a b : Bool) → a ≡ true → (a || b) ≡ true
 or_left a b e = rw e refl
 
@@ -88,7 +87,9 @@ met : (o : Operand) (v : Vector) → asks_any o.weights ≡ true → has_lexeme 
 met o [] a h = absurd (let x : ⊥ = cc in x)
 met o (e ∷ es) a h = elim (or_cases (names o e.lexeme) (has_lexeme o es) h) [
   | inl p ↦ rw (a, p) refl
-  | inr q ↦ or_right (names o e.lexeme && (asks_any o.weights || list_any (λ (p : Position). asks_for o.weights p.weight) e.positions)) (is_met o es) (met o es a q)
+  | inr q ↦ or_right
+      (names o e.lexeme && (asks_any o.weights || list_any (λ (p : Position). asks_for o.weights p.weight) e.positions))
+      (is_met o es) (met o es a q)
 ]
 
 false_from : (b : Bool) → (b ≡ true → ⊥) → b ≡ false
@@ -99,11 +100,13 @@ nowhere : (i : ℤ) → is_place [] i ≡ false
 nowhere (pos n) = refl
 nowhere (negsuc n) = refl
 
-given_false : (o : Operand) (t : Tri) (ts : List Tri) (b : Bool) → asks_any o.weights ≡ b → given o (t ∷ ts) ≡ False → t ≡ False
+given_false : (o : Operand) (t : Tri) (ts : List Tri) (b : Bool) → asks_any o.weights ≡ b → given o (t ∷ ts) ≡ False
+    → t ≡ False
 given_false o t ts true a e = (rw a at e)
 given_false o t ts false a e = maybe_false t (rw a at e)
 
-given_true : (o : Operand) (t : Tri) (ts : List Tri) (b : Bool) → asks_any o.weights ≡ b → given o (t ∷ ts) ≡ True → (t ≡ True) × (asks_any o.weights ≡ true)
+given_true : (o : Operand) (t : Tri) (ts : List Tri) (b : Bool) → asks_any o.weights ≡ b → given o (t ∷ ts) ≡ True
+    → (t ≡ True) × (asks_any o.weights ≡ true)
 given_true o t ts true a e = ((rw a at e), a)
 given_true o t ts false a e = absurd (maybe_true t (rw a at e))
 
@@ -129,7 +132,8 @@ module _ (v : Vector) where
   sound_left (o ∷ os) ps [] h = h
   sound_left (o ∷ os) ps (t ∷ ts) h = (h.0, sound_left os ps ts h.1)
 
-  sound_right : (os ps : List Operand) (ts : List Tri) → BeginsSound v (os ++ ps) ts → BeginsSound v ps (drop (length os) ts)
+  sound_right : (os ps : List Operand) (ts : List Tri) → BeginsSound v (os ++ ps) ts
+      → BeginsSound v ps (drop (length os) ts)
   sound_right [] ps ts h = h
   sound_right (o ∷ os) ps [] h = absurd h
   sound_right (o ∷ os) ps (t ∷ ts) h = sound_right os ps ts h.1
@@ -150,7 +154,8 @@ module _ (v : Vector) where
 
   leaf_true : (o : Operand) (ts : List Tri) → BeginsSound v (o ∷ []) ts → given o ts ≡ True → is_met o v ≡ true
   leaf_true o [] s e = absurd s
-  leaf_true o (t ∷ ts) s e = let g = given_true o t ts (asks_any o.weights) refl e in met o v g.1 (says_true o t s.0 g.0)
+  leaf_true o (t ∷ ts) s e =
+      let g = given_true o t ts (asks_any o.weights) refl e in met o v g.1 (says_true o t s.0 g.0)
 
   and_left : (a b : Bool) → a ≡ false → (a && b) ≡ false
   and_left a b e = rw e refl
@@ -162,22 +167,32 @@ module _ (v : Vector) where
   or_both a b e f = rw (e, f) refl
 
   -- within a phrase False says that it holds nowhere
-  in_false : (t : Tree) (ts : List Tri) (i : ℤ) → BeginsSound v (operands_in t) ts → judged_in t ts ≡ False → at v t i ≡ false
-  in_false (leaf o) ts i s e = ap (λ l. is_place l i) (no_places o v (leaf_false o ts s (maybe_false (given o ts) e))) ∙ nowhere i
+  in_false : (t : Tree) (ts : List Tri) (i : ℤ) → BeginsSound v (operands_in t) ts → judged_in t ts ≡ False
+      → at v t i ≡ false
+  in_false (leaf o) ts i s e =
+      ap (λ l. is_place l i) (no_places o v (leaf_false o ts s (maybe_false (given o ts) e))) ∙ nowhere i
   in_false (negated x) ts i s e = absurd (let z : ⊥ = cc in z)
   in_false (joined or_joint x y) ts i s e =
       let p = greatest_false (judged_in x ts) (judged_in y (right_values x ts)) e in
       or_both _ _
-      (in_false x ts ((i -ℤ pos (max (width x) (width y))) +ℤ pos (width x)) (sound_left (operands_in x) (operands_in y) ts s) p.0)
-      (in_false y (right_values x ts) ((i -ℤ pos (max (width x) (width y))) +ℤ pos (width y)) (sound_right (operands_in x) (operands_in y) ts s) p.1)
+      (in_false x ts ((i -ℤ pos (max (width x) (width y))) +ℤ pos (width x))
+      (sound_left (operands_in x) (operands_in y) ts s) p.0)
+      (in_false y (right_values x ts) ((i -ℤ pos (max (width x) (width y))) +ℤ pos (width y))
+      (sound_right (operands_in x) (operands_in y) ts s) p.1)
   in_false (joined and_joint x y) ts i s e = elim (least_false (judged_in x ts) (judged_in y (right_values x ts)) e) [
-    | inl a ↦ and_left _ _ (in_false x ts ((i -ℤ pos (max (width x) (width y))) +ℤ pos (width x)) (sound_left (operands_in x) (operands_in y) ts s) a)
-    | inr b ↦ and_right _ _ (in_false y (right_values x ts) ((i -ℤ pos (max (width x) (width y))) +ℤ pos (width y)) (sound_right (operands_in x) (operands_in y) ts s) b)
+    | inl a ↦ and_left _ _
+        (in_false x ts ((i -ℤ pos (max (width x) (width y))) +ℤ pos (width x))
+        (sound_left (operands_in x) (operands_in y) ts s) a)
+    | inr b ↦ and_right _ _
+        (in_false y (right_values x ts) ((i -ℤ pos (max (width x) (width y))) +ℤ pos (width y))
+        (sound_right (operands_in x) (operands_in y) ts s) b)
   ]
-  in_false (joined (phrase_joint n) x y) ts i s e = elim (least_false (judged_in x ts) (judged_in y (right_values x ts)) e) [
-    | inl a ↦ and_left _ _ (in_false x ts ((i -ℤ pos n) -ℤ pos (width y)) (sound_left (operands_in x) (operands_in y) ts s) a)
-    | inr b ↦ and_right _ _ (in_false y (right_values x ts) i (sound_right (operands_in x) (operands_in y) ts s) b)
-  ]
+  in_false (joined (phrase_joint n) x y) ts i s e =
+      elim (least_false (judged_in x ts) (judged_in y (right_values x ts)) e) [
+        | inl a ↦ and_left _ _
+            (in_false x ts ((i -ℤ pos n) -ℤ pos (width y)) (sound_left (operands_in x) (operands_in y) ts s) a)
+        | inr b ↦ and_right _ _ (in_false y (right_values x ts) i (sound_right (operands_in x) (operands_in y) ts s) b)
+      ]
 
   -- within a phrase True never comes
   in_true : (t : Tree) (ts : List Tri) → judged_in t ts ≡ True → ⊥
@@ -188,7 +203,8 @@ module _ (v : Vector) where
     | inr b ↦ in_true y (right_values x ts) b
   ]
   in_true (joined and_joint x y) ts e = in_true x ts (least_true (judged_in x ts) (judged_in y (right_values x ts)) e).0
-  in_true (joined (phrase_joint n) x y) ts e = in_true x ts (least_true (judged_in x ts) (judged_in y (right_values x ts)) e).0
+  in_true (joined (phrase_joint n) x y) ts e =
+      in_true x ts (least_true (judged_in x ts) (judged_in y (right_values x ts)) e).0
 
   record Says (t : Tree) (answer : Tri) : Type 0 where
     yes : answer ≡ True → HoldsOf t v
@@ -209,18 +225,26 @@ module _ (v : Vector) where
   says (joined or_joint x y) ts s =
       let a = says x ts (sound_left (operands_in x) (operands_in y) ts s) in
       let b = says y (right_values x ts) (sound_right (operands_in x) (operands_in y) ts s) in record {
-        yes = λ e. elim (greatest_true (judged_of x ts) (judged_of y (right_values x ts)) e) [ inl p ↦ inl (a.yes p) | inr p ↦ inr (b.yes p) ];
-        never = λ e h. let p = greatest_false (judged_of x ts) (judged_of y (right_values x ts)) e in elim h [ inl k ↦ a.never p.0 k | inr k ↦ b.never p.1 k ];
+        yes = λ e. elim (greatest_true (judged_of x ts) (judged_of y (right_values x ts)) e) [
+          | inl p ↦ inl (a.yes p)
+          | inr p ↦ inr (b.yes p)
+        ];
+        never = λ e h. let p = greatest_false (judged_of x ts) (judged_of y (right_values x ts)) e in
+            elim h [ inl k ↦ a.never p.0 k | inr k ↦ b.never p.1 k ];
       }
   says (joined and_joint x y) ts s =
       let a = says x ts (sound_left (operands_in x) (operands_in y) ts s) in
       let b = says y (right_values x ts) (sound_right (operands_in x) (operands_in y) ts s) in record {
         yes = λ e. let p = least_true (judged_of x ts) (judged_of y (right_values x ts)) e in (a.yes p.0, b.yes p.1);
-        never = λ e h. elim (least_false (judged_of x ts) (judged_of y (right_values x ts)) e) [ inl p ↦ a.never p h.0 | inr p ↦ b.never p h.1 ];
+        never = λ e h. elim (least_false (judged_of x ts) (judged_of y (right_values x ts)) e) [
+          | inl p ↦ a.never p h.0
+          | inr p ↦ b.never p h.1
+        ];
       }
   says (joined (phrase_joint n) x y) ts s = record {
     yes = λ e. absurd (in_true (joined (phrase_joint n) x y) ts e);
-    never = λ e h. not_true (at v (joined (phrase_joint n) x y) h.1.0) (in_false (joined (phrase_joint n) x y) ts h.1.0 s e) h.1.1;
+    never = λ e h. not_true (at v (joined (phrase_joint n) x y) h.1.0)
+        (in_false (joined (phrase_joint n) x y) ts h.1.0 s e) h.1.1;
   }
 
 pub judges : JudgesWell

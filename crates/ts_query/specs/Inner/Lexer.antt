@@ -2,10 +2,12 @@
 use Rattle.std.specs.Prelude.{◌≡◌, ℕ, ◌+◌, List, [], ◌∷◌, ◌++◌, Bool, length}
 use Rattle.ts_base.specs.declared.Weights.{Weights}
 use Rattle.ts_query.specs.Queries.{Operand, phrase_joint}
-use Rattle.ts_query.specs.Tokens.{QueryToken, word, sign, EndsOperand, Marks, operand, BehindLexeme, DistanceNumber, Distance, Lex}
+use Rattle.ts_query.specs.Tokens.{QueryToken, word, sign, EndsOperand, Marks, operand, BehindLexeme, DistanceNumber}
+use Rattle.ts_query.specs.Tokens.{Distance, Lex}
 use Rattle.ts_base.specs.Inner.Residuals.{QuotedOn, QuoteOn, PlainOn, EscapedOn}
 
--- Within a token it has the offset where that starts. A word has the bytes of its lexeme so far, and after `:` its weights and
+-- Within a token it has the offset where that starts. A word has the bytes of its lexeme so far, and after `:` its
+-- weights and
 -- mark; `<N>` has the number so far.
 pub data Lexer : Type 0 where
   between : Lexer

@@ -4,7 +4,8 @@ use Rattle.std.specs.String.{string_bytes}
 use Rattle.ts_query.specs.Queries.{Operand, Joint, or_joint, and_joint, phrase_joint, Tree, Query}
 use Rattle.ts_query.specs.Tokens.{QueryToken, operand}
 use Rattle.ts_query.specs.Postfix.{Item, operand_item, not_item, joint_item, postfix, postfix_of}
-use Rattle.ts_query.specs.Inner.Frames.{Frame, open_frame, not_frame, joint_frame, need, On, NoTighter, Spot, start, due, held, SpotRest, Sorted, outs_of}
+use Rattle.ts_query.specs.Inner.Frames.{Frame, open_frame, not_frame, joint_frame, need, On, NoTighter, Spot, start}
+use Rattle.ts_query.specs.Inner.Frames.{due, held, SpotRest, Sorted, outs_of}
 use Rattle.ts_query.specs.declared.parser.Link.{Link}
 use Rattle.ts_query.specs.declared.parser.Link.TheVariants.{Or, And, Phrase}
 use Rattle.ts_query.specs.declared.parser.Op.{Op}

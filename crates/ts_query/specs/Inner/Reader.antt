@@ -11,9 +11,11 @@ use Rattle.ts_query.specs.Limits.{first_far, first_long}
 use Rattle.ts_query.specs.Postfix.{postfix_of}
 use Rattle.ts_query.specs.Inner.Frames.{Spot, IsDue, IsHeld, SpotRest}
 use Rattle.ts_query.specs.Inner.Parsing.{entry_item, Shows, Takes}
-use Rattle.ts_query.specs.Inner.Lexer.{Lexer, between, in_quoted, quoted_escaped, behind_quote, in_plain, plain_escaped, in_marks, behind_less, behind_dash, in_digits, LexerRest}
+use Rattle.ts_query.specs.Inner.Lexer.{Lexer, between, in_quoted, quoted_escaped, behind_quote, in_plain, plain_escaped}
+use Rattle.ts_query.specs.Inner.Lexer.{in_marks, behind_less, behind_dash, in_digits, LexerRest}
 use Rattle.ts_query.specs.declared.reader.State.{State}
-use Rattle.ts_query.specs.declared.reader.State.TheVariants.{Between, InQuoted, QuotedEscape, Quote, InPlain, PlainEscape, InMarks, Less, Dash, Digits}
+use Rattle.ts_query.specs.declared.reader.State.TheVariants.{Between, InQuoted, QuotedEscape, Quote, InPlain}
+use Rattle.ts_query.specs.declared.reader.State.TheVariants.{PlainEscape, InMarks, Less, Dash, Digits}
 use Rattle.ts_query.specs.declared.reader.Reader.{Reader}
 use Rattle.ts_query.specs.declared.reader.Outcome.{Outcome}
 
@@ -100,7 +102,8 @@ abbrev pub MovedOrStuck : ℕ → Stand → List ℕ → Bool → Reader → Typ
 MovedOrStuck i old bytes true r = Moved i old bytes r
 MovedOrStuck i old bytes false r = Stuck Stand Reading QueryRest old bytes
 
--- the text may end here: the postfix list is that of its query, and the first tokens past the limits are those of its tokens
+-- the text may end here: the postfix list is that of its query, and the first tokens past the limits are those of
+-- its tokens
 pub record EndsAs (s : Stand) (o : Outcome) : Type 0 where
   pub tokens : List QueryToken
   pub query : Query

@@ -24,7 +24,8 @@ pub record IsBestBefore (rules : List KeptRule) (answers : List WordAnswer) (bef
 
 -- none of the rules before a place fits
 abbrev pub NoneBefore : List KeptRule → List WordAnswer → ℕ → Type 0
-NoneBefore rules answers before = (k : ℕ) (other : KeptRule) → k < before → slice_get rules k ≡ Some other → ¬ Suits answers other
+NoneBefore rules answers before =
+    (k : ℕ) (other : KeptRule) → k < before → slice_get rules k ≡ Some other → ¬ Suits answers other
 
 abbrev pub IsBestOf : List KeptRule → List WordAnswer → ℕ → Option ℕ → ℕ → Type 0
 IsBestOf rules answers before None longest = (longest ≡ 0) × NoneBefore rules answers before

@@ -43,6 +43,7 @@ IsKnown answer words samples true = sample_words answer words ≡ Some (map samp
 IsKnown answer words samples false = HasSample answer unknown_word words
 
 -- the sample words so far: none is a stop word
-pub record AreSampled (answer : List ℕ → WordAnswer) (words : List (List ℕ)) (samples : List Sample) (known : Bool) : Type 0 where
+pub record AreSampled (answer : List ℕ → WordAnswer) (words : List (List ℕ)) (samples : List Sample)
+    (known : Bool) : Type 0 where
   pub no_stop : ¬ HasSample answer stop_word words
   pub so_far : IsKnown answer words samples known

@@ -42,7 +42,8 @@ pub record AddsStep (old new : Steps) (size p : ℕ) (l : Letter) : Type 0 where
 -- some rule begins with these samples, the last of them first
 abbrev pub BeginsSome : List Rule → List SampleWord → Type 0
 BeginsSome rules xs =
-    (k : ℕ) × (rule : Rule) × (more : List SampleWord) × (slice_get rules k ≡ Some rule) × (reverse rule.samples ≡ more ++ xs)
+    (k : ℕ) × (rule : Rule) × (more : List SampleWord) × (slice_get rules k ≡ Some rule)
+    × (reverse rule.samples ≡ more ++ xs)
 
 -- the last rule with exactly these samples, the last of them first
 abbrev pub IsLastWith : List Rule → List SampleWord → Option ℕ → Type 0

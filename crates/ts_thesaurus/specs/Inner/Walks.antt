@@ -46,5 +46,6 @@ IsBestUpTo rules answers n None =
     (k : ℕ) (rule : Rule) → slice_get rules k ≡ Some rule → length rule.samples ≤ n → ¬ FitsFirst rule.samples answers
 IsBestUpTo rules answers n (Some place) =
     (rule : Rule) × (slice_get rules place ≡ Some rule) × FitsFirst rule.samples answers
-    × ((k : ℕ) (other : Rule) → slice_get rules k ≡ Some other → length other.samples ≤ n → FitsFirst other.samples answers
+    × ((k : ℕ) (other : Rule) → slice_get rules k ≡ Some other → length other.samples ≤ n
+    → FitsFirst other.samples answers
     → (length other.samples < length rule.samples) ⊎ ((length other.samples ≡ length rule.samples) × (k ≤ place)))

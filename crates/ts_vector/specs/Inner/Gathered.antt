@@ -1,5 +1,6 @@
 -- Entries by their lexemes, to which others are added.
-use Rattle.std.specs.Prelude.{◌≡◌, ◌≢◌, ℕ, ◌+◌, ◌-◌, ◌*◌, ◌<◌, ◌≤◌, ◌⊎◌, List, [], ◌++◌, length, get_or, All, AllPairs, Contains}
+use Rattle.std.specs.Prelude.{◌≡◌, ◌≢◌, ℕ, ◌+◌, ◌-◌, ◌*◌, ◌<◌, ◌≤◌, ◌⊎◌, List, [], ◌++◌, length, get_or, All, AllPairs}
+use Rattle.std.specs.Prelude.{Contains}
 use Rattle.ts_base.specs.Lexemes.{IsBefore}
 use Rattle.ts_base.specs.declared.TheConstants.{MOST_POSITIONS}
 use Rattle.ts_base.specs.Vectors.{Position, Entry, Vector, content_size}

@@ -3,7 +3,8 @@ use Rattle.std.specs.Prelude.{◌≡◌, ◌≤◌, ◌^◌, ◌-◌, min}
 use Rattle.ts_base.specs.Vectors.{Vector, content_size}
 use Rattle.ts_base.specs.declared.TheConstants.{SIZE_LIMIT}
 use Rattle.ts_vector.specs.declared.error.VectorError.{VectorError}
-use Rattle.ts_vector.specs.declared.error.VectorError.TheVariants.{Syntax, LexemeTooLong, VectorTooLarge, BadBytes, OutOfMemory}
+use Rattle.ts_vector.specs.declared.error.VectorError.TheVariants.{Syntax, LexemeTooLong, VectorTooLarge, BadBytes}
+use Rattle.ts_vector.specs.declared.error.VectorError.TheVariants.{OutOfMemory}
 
 -- a vector in normal form is refused for its size, or where memory runs out
 abbrev pub IsOver : Vector → VectorError → Type 0

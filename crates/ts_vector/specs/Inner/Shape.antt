@@ -5,7 +5,8 @@ use Rattle.ts_base.specs.Inner.Residuals.{QuotedOn, QuoteOn, PlainOn, EscapedOn}
 use Rattle.ts_base.specs.Inner.Machine.{Moves, Stuck, Stepped, Finished}
 use Rattle.ts_vector.specs.Text.{Written, written, EndsItem, PositionNumber, BehindPosition, Items, LexemeTail}
 use Rattle.ts_vector.specs.declared.reader.State.{State}
-use Rattle.ts_vector.specs.declared.reader.State.TheVariants.{Between, InQuoted, QuotedEscape, Quote, InPlain, PlainEscape, Digits, Weighted}
+use Rattle.ts_vector.specs.declared.reader.State.TheVariants.{Between, InQuoted, QuotedEscape, Quote, InPlain}
+use Rattle.ts_vector.specs.declared.reader.State.TheVariants.{PlainEscape, Digits, Weighted}
 use Rattle.ts_vector.specs.declared.reader.Reader.{Reader}
 
 -- within quotes, after a quote there, and within a plain lexeme of the item that starts at s
