@@ -24,6 +24,11 @@ pub mod ChainLengths
 pub mod LongVectors
 pub mod ChangedPages
 pub mod TouchedPages
+pub mod Chains
+pub mod KeptTrees
+pub mod Law
+pub mod WorkedPending
+pub mod WorkedRun
 -- Private is how the laws are proved.
 mod Taken
 mod Leaving
@@ -39,8 +44,6 @@ mod WorkedSteps
 mod WorkedMore
 mod WorkedSplit
 mod WorkedLong
-mod WorkedPending
-mod WorkedRun
 mod WorkedMaintenance
 mod WorkedTrees
 mod WorkedFacts
@@ -62,7 +65,6 @@ mod LivesFollow
 mod PlacedHeads
 mod PlacedNames
 mod HeadChanges
-mod Law
 mod LivePages
 mod HeadSteps
 mod FateSteps
@@ -70,14 +72,18 @@ mod HeadsFollow
 mod StaysIndexed
 mod SteadyPages
 mod SteadyEnds
-mod Chains
 mod ChainFrames
 mod ChainSteps
 mod ChainRows
-mod KeptTrees
 mod KeptHeads
 mod KeptRows
 mod RisingKeys
 mod FollowingRows
 mod LinkedPages
 mod LinkedHeads
+mod ShiftedPages
+mod TakenItems
+mod SharedFronts
+mod UpperBounds
+mod TakenEntries
+mod RootedLeaves

@@ -9,31 +9,26 @@ use Rattle.page_types.specs.declared.record.Change.{Change}
 use Rattle.page_types.specs.declared.record.Record.{Record}
 use Rattle.page_types.specs.declared.record.Kind.{Kind}
 use Rattle.page_types.specs.declared.record.Kind.TheVariants as kind
-use Rattle.core_state.specs.Log.{changed, pages_of}
+use Rattle.core_state.specs.Log.{pages_of}
 use Rattle.core_state.specs.Documents.{Doc, doc_at, name_of}
 use Rattle.core_state.specs.Known.{Known}
-use Rattle.core_state.specs.Changes.{made_with, IsNew}
+use Rattle.core_state.specs.Changes.{made_with}
 use Rattle.core_state.specs.PendingRules.{IsPutPendingHere, IsAddRowHere, IsLinkPendingHere}
-use Rattle.core_state.specs.Inner.HeadChanges.{HasHead, LeavesInSlot}
+use Rattle.core_state.specs.Inner.HeadChanges.{HasHead, FindsHead, LeavesInSlot}
 use Rattle.core_state.specs.Inner.PendingRows.{IsPlacedBy, LeavesRows, AddsRow, LinksList}
 use Rattle.core_state.specs.declared.answers.Fate.TheVariants.{Running}
-use Rattle.core_state.proofs.HeadChanges.{one_head, head_change, head_changed, head_left}
+use Rattle.core_state.proofs.HeadChanges.{one_head, head_change, head_changed, head_left, same_found}
 
 -- a page of rows that is put: what is asked beside the kind
 pub record RowParts (since : ℕ) (k : Known) (r : Record) (n : Name) (item : ℕ) (before after : List Page) : Type 0 where
   pub head : Head
   pub page : ℕ
-  pub old : Page
-  pub was : Page
   pub heap_then : Page
   pub new : Page
-  pub pages : changed r ≡ n.page ∷ page ∷ []
+  pub found : FindsHead k.uses since r n before page head
   pub placed : IsPlacedBy k.fates r.xid head.inserted_by
-  pub is_new : IsNew k.uses since page
-  pub before_is : before ≡ old ∷ was ∷ []
   pub after_is : after ≡ heap_then ∷ new ∷ []
-  pub has : HasHead old n head
-  pub leaves : LeavesInSlot r n.slot old (record head { private = page }) heap_then
+  pub leaves : LeavesInSlot r n.slot found.old (record head { private = page }) heap_then
   pub rows : LeavesRows r item head.private new
 
 rows_of_parts : (since : ℕ) (k : Known) (r : Record) (d : Doc) (before after : List Page)
@@ -44,18 +39,19 @@ rows_of_parts since k r d before after e p = record {
   head = p.head;
   new = p.page;
   rows = p.rows.rows;
-  old = p.old;
-  was = p.was;
+  old = p.found.old;
+  was = p.found.was;
   heap_then = p.heap_then;
   kind_is = e;
-  pages = p.pages;
+  pages = p.found.pages;
   own = record { by = p.placed.by; runs = p.placed.runs };
-  is_new = p.is_new;
+  is_new = p.found.is_new;
   some_row = p.rows.are.some_row;
   items = p.rows.are.items;
   rising = p.rows.are.rising;
-  before_is = p.before_is;
-  head_after = head_change r d p.old p.heap_then p.head (record p.head { private = p.page }) p.has p.leaves;
+  before_is = p.found.before_is;
+  head_after = head_change r d p.found.old p.heap_then p.head (record p.head { private = p.page }) p.found.has
+      p.leaves;
   after_is = p.after_is ∙ ap (λ (x : Page). p.heap_then ∷ x ∷ []) p.rows.after;
 }
 
@@ -78,16 +74,18 @@ row_parts : (since : ℕ) (k : Known) (r : Record) (before after : List Page)
 row_parts since k r before after w = record {
   head = w.head;
   page = w.new;
-  old = w.old;
-  was = w.was;
   heap_then = w.heap_then;
   new = made_with r w.head.private (body.Pending w.rows);
-  pages = w.pages;
+  found = record {
+    old = w.old;
+    was = w.was;
+    pages = w.pages;
+    is_new = w.is_new;
+    before_is = w.before_is;
+    has = head_changed r w.doc w.old w.heap_then w.head (record w.head { private = w.new }) w.head_after;
+  };
   placed = record { by = w.own.by; runs = w.own.runs };
-  is_new = w.is_new;
-  before_is = w.before_is;
   after_is = w.after_is;
-  has = head_changed r w.doc w.old w.heap_then w.head (record w.head { private = w.new }) w.head_after;
   leaves = head_left r w.doc w.old w.heap_then w.head (record w.head { private = w.new }) w.head_after;
   rows = record {
     rows = w.rows;
@@ -111,21 +109,21 @@ pub record RowsLeft (k : Known) (r : Record) (n : Name) (item page : ℕ) (old l
   pub leaves : LeavesInSlot r n.slot old (record h { private = page }) left
 
 pub rows_left : (since : ℕ) (k : Known) (r : Record) (n : Name) (item : ℕ) (before after : List Page) (page : ℕ)
-    (old left new : Page) (h : Head) → (p : RowParts since k r n item before after) → p.page ≡ page → p.old ≡ old
-    → p.heap_then ≡ left → p.new ≡ new → HasHead old n h → RowsLeft k r n item page old left new h
-rows_left since k r n item before after page old left new h p a b c d has =
-    let there : HasHead old n p.head = subst (λ (x : Page). HasHead x n p.head) b p.has in
-    let one : p.head ≡ h = one_head old n p.head h there has in
-    let same : RowsLeft k r n item p.page p.old p.heap_then p.new p.head = record {
+    (left new : Page) (h : Head) → (p : RowParts since k r n item before after)
+    → (f : FindsHead k.uses since r n before page h) → p.heap_then ≡ left → p.new ≡ new
+    → RowsLeft k r n item page f.old left new h
+rows_left since k r n item before after page left new h p f c d =
+    let s = same_found k.uses since r n before p.page page p.head h p.found f in
+    let same : RowsLeft k r n item p.page p.found.old p.heap_then p.new p.head = record {
       placed = p.placed;
       rows = p.rows;
       leaves = p.leaves;
     } in
-    subst (λ (x : Head). RowsLeft k r n item page old left new x) one
-    (subst (λ (x : Page). RowsLeft k r n item page old left x p.head) d
-    (subst (λ (x : Page). RowsLeft k r n item page old x p.new p.head) c
-    (subst (λ (x : Page). RowsLeft k r n item page x p.heap_then p.new p.head) b
-    (subst (λ (x : ℕ). RowsLeft k r n item x p.old p.heap_then p.new p.head) a same))))
+    subst (λ (x : Head). RowsLeft k r n item page f.old left new x) s.head
+    (subst (λ (x : Page). RowsLeft k r n item page f.old left x p.head) d
+    (subst (λ (x : Page). RowsLeft k r n item page f.old x p.new p.head) c
+    (subst (λ (x : Page). RowsLeft k r n item page x p.heap_then p.new p.head) s.old
+    (subst (λ (x : ℕ). RowsLeft k r n item x p.found.old p.heap_then p.new p.head) s.page same))))
 
 -- the first of a list
 pub first_in : (xs : List Page) (x a : Page) (more : List Page) → xs ≡ a ∷ more → x ≡ get_or xs 0 x → a ≡ x

@@ -23,11 +23,11 @@ left_as r new right b to stamp is =
     ap (page_with new.right new.stamp) is ∙ ap (λ (z : ℕ). page_with z new.stamp b) to
     ∙ ap (λ (z : ℕ). page_with right z b) stamp
 
-same_pending : (xs ys : List Row) (b : Body) → b ≡ body.Pending xs → b ≡ body.Pending ys → xs ≡ ys
+pub same_pending : (xs ys : List Row) (b : Body) → b ≡ body.Pending xs → b ≡ body.Pending ys → xs ≡ ys
 same_pending xs ys b e f = let both : body.Pending xs ≡ body.Pending ys = sym e ∙ f in cc
 
 -- what is behind rows that others begin with
-begin_size : (rows front back : List Row) → rows ≡ front ++ back → length rows ≡ length front → rows ≡ front
+pub begin_size : (rows front back : List Row) → rows ≡ front ++ back → length rows ≡ length front → rows ≡ front
 begin_size rows front [] e n = e ∙ append-nil front
 begin_size rows front (w ∷ back) e n =
     absurd (omega (arith, n, ap length e, length-append front (w ∷ back)))
@@ -131,7 +131,7 @@ pub record MetaGrown (r : Record) (first : ℕ) (old new : Page) (count first' c
   pub same : first' ≡ first
   pub more : count < count'
 
-same_meta : (a b c d e f : ℕ) (m : Body) → m ≡ body.Meta a b c → m ≡ body.Meta d e f
+pub same_meta : (a b c d e f : ℕ) (m : Body) → m ≡ body.Meta a b c → m ≡ body.Meta d e f
     → (a ≡ d) × (b ≡ e) × (c ≡ f)
 same_meta a b c d e f m i j = let both : body.Meta a b c ≡ body.Meta d e f = sym i ∙ j in (cc, cc, cc)
 

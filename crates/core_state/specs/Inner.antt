@@ -3,6 +3,10 @@ pub mod Lists
 pub mod Rising
 pub mod Placing
 pub mod PendingRows
+pub mod Shifting
+pub mod Members
+pub mod TreeItems
+pub mod TreePages
 pub mod HeadChanges
 pub mod Lowest
 pub mod Begun

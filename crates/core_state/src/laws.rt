@@ -1,5 +1,6 @@
 // What holds of all logs.
-ghost use Rattle.core_state.specs.Laws.{KeysAreOne, ShownAreOne, OthersStay, MadeIsPage, ValidIsMonotone, LegalWithoutNewest, KeepsWithoutNewest, HistoryIsOne, LegalHasHistory};
+ghost use Rattle.core_state.specs.Laws.{KeysAreOne, ShownAreOne, OthersStay, MadeIsPage, ValidIsMonotone};
+ghost use Rattle.core_state.specs.Laws.{LegalWithoutNewest, KeepsWithoutNewest, HistoryIsOne, LegalHasHistory};
 ghost use Rattle.core_state.specs.States.{StateFollows};
 ghost use Rattle.core_state.specs.Bullets.{BulletsHold};
 ghost use Rattle.core_state.specs.Standing.{DocumentsHold, CommitsHold};

@@ -10,7 +10,7 @@ ghost use Rattle.core_state.specs.Inner.PendingRows.{Follow, AreRowsOf, BeginWit
 ghost use Rattle.core_state.specs.Inner.PendingRows.{LeavesRows, AddsRow, MetaGrows, LeadsOn, LinksList};
 
 use crate::answers::Fate;
-use crate::marking::{head_in, leaves_in_slot, second_page};
+use crate::marking::{head_in, leaves_in_slot, page_and_head};
 use crate::state::State;
 use crate::table::name_of;
 use crate::valid::changes_pages;
@@ -19,7 +19,7 @@ use std::alloc::AllocError;
 use std::cmp::Ordering;
 
 // Whether a key is below another.
-fn is_below(low: &[u8], high: &[u8]) -> bool
+pub(crate) fn is_below(low: &[u8], high: &[u8]) -> bool
     ensures { result ≡ true ↔ KeyLess low.now high.now }
 {
     let Ordering::Less = low.cmp(high) else {
@@ -91,7 +91,7 @@ fn is_same_row(a: RowRef<'_>, b: RowRef<'_>) -> bool
 }
 
 // Whether rows begin with others.
-fn begin_with(rows: &Rows, front: &Rows) -> bool
+pub(crate) fn begin_with(rows: &Rows, front: &Rows) -> bool
     ensures { result ≡ true ↔ BeginWith rows.now front.now }
 {
     for k in 0..front.len() {
@@ -144,27 +144,20 @@ pub fn valid_put_pending(
         return Ok(false);
     };
     let name = name_of(item, serial);
-    let Some(new) = second_page(rec, name.page) else {
+    let Some((new, head)) = page_and_head(state, rec, name, before, since) else {
         return Ok(false);
     };
-    if before.len() != 2 || after.len() != 2 || !state.is_new(new, since) {
-        return Ok(false);
-    }
-    let old = &before[0];
-    let Some(head) = head_in(old, name) else {
-        return Ok(false);
-    };
-    let fields = HeadFields {
-        private: new,
-        ..head.fields
-    };
-    if !is_placed_by(state, rec.xid, head.fields) {
+    if after.len() != 2 || !is_placed_by(state, rec.xid, head.fields) {
         return Ok(false);
     }
     if !leaves_rows(rec, item, head.fields.private, &after[1]) {
         return Ok(false);
     }
-    Ok(leaves_in_slot(rec, name.slot, old, fields, head.vector, &after[0]))
+    let fields = HeadFields {
+        private: new,
+        ..head.fields
+    };
+    Ok(leaves_in_slot(rec, name.slot, &before[0], fields, head.vector, &after[0]))
 }
 
 // Whether a record leaves the page with a row of the item after those that it had.

@@ -7,8 +7,9 @@ ghost use Rattle.core_state.specs.Log.{changed};
 ghost use Rattle.core_state.specs.Changes.{PutsSlot};
 ghost use Rattle.core_state.specs.HeapRules.{IsMarkDeletedHere, IsPutOverflowHere};
 ghost use Rattle.core_state.specs.Judging.{Judges};
-ghost use Rattle.core_state.specs.States.{fate_of};
-ghost use Rattle.core_state.specs.Inner.HeadChanges.{HasHead, LeavesInSlot, LeavesPart, MayBeMarked, MayBePut};
+ghost use Rattle.core_state.specs.States.{fate_of, use_of};
+ghost use Rattle.core_state.specs.Inner.HeadChanges.{HasHead, FindsHead, LeavesInSlot, LeavesPart};
+ghost use Rattle.core_state.specs.Inner.HeadChanges.{MayBeMarked, MayBePut};
 
 use crate::answers::Fate;
 use crate::placing::others_stay;
@@ -156,6 +157,28 @@ pub(crate) fn second_page(rec: &Record, first: u32) -> Option<u32>
     Some(changes[1].page)
 }
 
+// The new page that a record changes after the heap page of this name, and the head that the document
+// with this name has there.
+pub(crate) fn page_and_head<'a>(
+    state: &State,
+    rec: &Record,
+    name: Name,
+    before: &'a [Page],
+    since: u64,
+) -> Option<(u32, HeadRef<'a>)>
+    ensures some { IfSome result
+        (λ f. FindsHead (use_of state.now.value) since rec.now name before.now f.0 (head_shown f.1)) }
+    ensures none { IfNone result
+        ((p : ℕ) (h : Head) → FindsHead (use_of state.now.value) since rec.now name before.now p h → ⊥) }
+{
+    let page = second_page(rec, name.page)?;
+    if before.len() != 2 || !state.is_new(page, since) {
+        return None;
+    }
+    let head = head_in(&before[0], name)?;
+    Some((page, head))
+}
+
 /// Whether PutOverflow may come next: its transaction placed the head and runs, the vector is too
 /// long for its head, and a new page with a part of it becomes the head's first overflow page.
 pub fn valid_put_overflow(
@@ -172,25 +195,18 @@ pub fn valid_put_overflow(
         return Ok(false);
     };
     let name = name_of(item, serial);
-    let Some(new) = second_page(rec, name.page) else {
+    let Some((new, head)) = page_and_head(state, rec, name, before, since) else {
         return Ok(false);
     };
-    if before.len() != 2 || after.len() != 2 || !state.is_new(new, since) {
-        return Ok(false);
-    }
-    let old = &before[0];
-    let Some(head) = head_in(old, name) else {
-        return Ok(false);
-    };
-    let fields = HeadFields {
-        overflow: new,
-        ..head.fields
-    };
-    if !may_be_put(state, rec.xid, head.fields) {
+    if after.len() != 2 || !may_be_put(state, rec.xid, head.fields) {
         return Ok(false);
     }
     if !leaves_part(rec, head.fields.overflow, &after[1]) {
         return Ok(false);
     }
-    Ok(leaves_in_slot(rec, name.slot, old, fields, head.vector, &after[0]))
+    let fields = HeadFields {
+        overflow: new,
+        ..head.fields
+    };
+    Ok(leaves_in_slot(rec, name.slot, &before[0], fields, head.vector, &after[0]))
 }

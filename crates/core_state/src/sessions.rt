@@ -1,5 +1,6 @@
 // What a session may conclude of a log of which it has seen a part, and what it may log.
-ghost use Rattle.core_state.specs.Steps.{CanBegin, CanCommit, CanAbort, CanPlace, CanPutOverflow, CanMark, MayBy, IdleHolds, NotDrawnHolds, OwnHolds, PinHolds, RightHolds};
+ghost use Rattle.core_state.specs.Steps.{CanBegin, CanCommit, CanAbort, CanPlace, CanPutOverflow, CanMark};
+ghost use Rattle.core_state.specs.Steps.{MayBy, IdleHolds, NotDrawnHolds, OwnHolds, PinHolds, RightHolds};
 ghost use Rattle.core_state.specs.PendingSteps.{CanPutPending, CanAddRow, CanLinkPending};
 ghost use Rattle.core_state.specs.PendingSteps.{LinkedIsIndexed, PutIsInFront, OthersKeepRows};
 ghost use Rattle.core_state.specs.Logged.{LegalKeepsNow, FlushKeepsNow, PinIsTaken, LoggedStepsHold, AbortOfAllHolds};

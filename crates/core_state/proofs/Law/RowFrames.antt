@@ -88,10 +88,10 @@ module _ (n L : ℕ) (R : Log) (P Q : Pages) (r : Record) (since : ℕ) (g : Gho
     | inr out ↦ other q out
   ]
 
-  line_same : (q : ℕ) → In q g.line → Q q ≡ P q
+  pub line_same : (q : ℕ) → In q g.line → Q q ≡ P q
   line_same q on = page_same q (line_changed q on)
 
-  is_line : Line Q g.line
+  pub is_line : Line Q g.line
   is_line = chain_kept P Q (first_of (Q 0)) g.line (λ q i. ap (λ (x : Page). x.right) (line_same q i))
       (subst (λ (z : ℕ). IsChain P z g.line) (ap first_of (sym (page_same 0 meta_changed))) v.lined.is_line)
 

@@ -1,5 +1,5 @@
 -- A head on its heap page, and what a record leaves of it.
-use Rattle.std.specs.Prelude.{◌≡◌, ◌≢◌, ◌⊎◌, ℕ, ◌<◌, List, length, Option, Some}
+use Rattle.std.specs.Prelude.{◌≡◌, ◌≢◌, ◌⊎◌, ℕ, ◌<◌, List, [], ◌∷◌, length, Option, Some}
 use Rattle.page_types.specs.Numbers.{most_short, most_body}
 use Rattle.page_types.specs.Views.{slot_at}
 use Rattle.page_types.specs.declared.page.Page.{Page}
@@ -7,9 +7,11 @@ use Rattle.page_types.specs.declared.page.Head.{Head}
 use Rattle.page_types.specs.declared.page.Name.{Name}
 use Rattle.page_types.specs.declared.page.Body.TheVariants as body
 use Rattle.page_types.specs.declared.record.Record.{Record}
-use Rattle.core_state.specs.Changes.{made_with, PutsSlot}
+use Rattle.core_state.specs.Log.{changed}
+use Rattle.core_state.specs.Changes.{made_with, IsNew, PutsSlot}
 use Rattle.core_state.specs.declared.answers.Fate.{Fate}
 use Rattle.core_state.specs.declared.answers.Fate.TheVariants.{Running, Aborted, Committed}
+use Rattle.core_state.specs.declared.answers.PageUse.{PageUse}
 
 -- the document with this name has its slot of this heap page, with this head
 pub record HasHead (page : Page) (n : Name) (h : Head) : Type 0 where
@@ -17,6 +19,16 @@ pub record HasHead (page : Page) (n : Name) (h : Head) : Type 0 where
   pub content : page.body ≡ body.Heap slots
   pub at : slot_at slots n.slot ≡ Some h
   pub serial_is : h.serial ≡ n.serial
+
+-- a record changes the heap page of this name, on which its document has this head, and a new page
+pub record FindsHead (uses : ℕ → PageUse) (since : ℕ) (r : Record) (n : Name) (before : List Page)
+    (page : ℕ) (h : Head) : Type 0 where
+  pub old : Page
+  pub was : Page
+  pub pages : changed r ≡ n.page ∷ page ∷ []
+  pub is_new : IsNew uses since page
+  pub before_is : before ≡ old ∷ was ∷ []
+  pub has : HasHead old n h
 
 -- a record leaves the page with this head in slot k, and all else of it as it was
 pub record LeavesInSlot (r : Record) (k : ℕ) (old : Page) (h : Head) (new : Page) : Type 0 where
