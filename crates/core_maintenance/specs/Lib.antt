@@ -1,0 +1,11 @@
+pub mod Right
+pub mod MovingSteps
+pub mod MovingPages
+pub mod AddedPairs
+pub mod Staying
+pub mod Keeping
+pub mod Leading
+pub mod FreshRows
+pub mod TreeSteps
+pub mod TreePages
+pub use Rattle.core_state.specs.Steps
