@@ -25,6 +25,7 @@ use Rattle.gin_opclass.specs.Class.{Meaning}
 use Rattle.gin_opclass.specs.declared.QueryKeys.{QueryKeys}
 use Rattle.gin_scan.specs.Rows.{lists_of}
 use Rattle.gin_scan.specs.Reading.{IsNoHit, IsUnread}
+use Rattle.gin_scan.specs.Reaching.{IsReached}
 use Rattle.gin_scan.specs.Scanning.{IsWithin, IsNewScan, IsScanning, Scanning, HasRead, IsScanOf}
 use Rattle.gin_scan.specs.declared.hits.Hits.{Hits}
 use Rattle.gin_scan.specs.declared.scan_core.ScanCore.{ScanCore}
@@ -99,6 +100,15 @@ begun device M q f pass s keys snapshot extent count pending main new any lists 
     (new.unread (no_hit count pending any lists) (no_hit count main any' lists'))
     (λ P p shown used. subst (λ (n : ℕ). p < n) (sym new.extent_is)
     (below_extent device f R extent stands legal least P p shown used))
+
+-- it has read nothing yet
+pub begun_reached : {D Q : Type 0} (f : FramesValue D) (M : Meaning Q) (q : Q) (s : ScanCore)
+    (keys : QueryKeys) (snapshot extent count : ℕ) (pending main : Hits)
+    → IsNewScan keys snapshot extent pending main s → pending.any.items ≡ [] → lists_of pending ≡ replicate count []
+    → main.any.items ≡ [] → lists_of main ≡ replicate count [] → IsReached M q f s s.stage
+begun_reached f M q s keys snapshot extent count pending main new any lists any' lists' =
+    subst (IsReached M q f s) (sym new.stage_is)
+    (new.unread (no_hit count pending any lists) (no_hit count main any' lists'))
 
 -- and one that the pass may step, which has this snapshot
 pub begun_pass : {D : Type 0} (f : FramesValue D) (pass : Pass) (s : ScanCore) (keys : QueryKeys)

@@ -6,15 +6,16 @@ use Rattle.std.proofs.lemmas.List.{take-append-drop}
 use Rattle.disk_trait.specs.declared.device.Disk.{Ghosts as Disk}
 use Rattle.page_types.specs.declared.record.Kind.{Kind}
 use Rattle.page_types.specs.declared.record.Kind.TheVariants as kind
+use Rattle.page_types.specs.declared.page.Name.{Name}
 use Rattle.core_state.specs.Log.{Log, In, Shows, cut, commits, commits_with}
-use Rattle.core_state.specs.History.{Document, History, docs}
+use Rattle.core_state.specs.History.{Document, History, IsHistory, docs}
 use Rattle.core_state.specs.Legal.{IsLegal, Pin, Keeps}
 use Rattle.core_state.specs.Steady.{LeavesIndex}
 use Rattle.core_state.specs.Readings.{Read, WasShown, AreReads}
 use Rattle.core_state.proofs.Newest.{cut_less}
 use Rattle.core_state.proofs.PageLists.{in_back}
 use Rattle.gin_opclass.specs.Class.{Meaning}
-use Rattle.core_moments.specs.Walk.{reads_of}
+use Rattle.core_moments.specs.Walk.{Walk, reads_of}
 use Rattle.buffer_frames.specs.Frames.{FramesValue, Stands}
 use Rattle.snap_pins.specs.Taken.{IsPinned}
 use Rattle.buffer_frames.specs.Passes.{IsPassOf, GoesOnBy, before_more, pin_in, in_use}
@@ -23,8 +24,9 @@ use Rattle.buffer_frames.specs.Journals.{owed_abort}
 use Rattle.buffer_frames.specs.declared.pass.Pass.{Pass}
 use Rattle.buffer_frames.proofs.HistoryParts.{legal_before, history_begins, commits_told}
 use Rattle.gin_scan.specs.Reading.{ReadsParts}
-use Rattle.gin_scan.specs.Taking.{IsAmong, IsLongOf}
-use Rattle.gin_scan.specs.Scanning.{HasJudged, HasTaken, HasRead, IsScanOf}
+use Rattle.gin_scan.specs.Taking.{IsAmong, IsLongOf, AreTaken, first_items}
+use Rattle.gin_scan.specs.Held.{AreChains, ArePages}
+use Rattle.gin_scan.specs.Scanning.{HasJudged, HasTaken, HadTaken, HasRead, IsScanOf}
 use Rattle.gin_scan.specs.Laws.{ScansGoOn}
 use Rattle.gin_scan.specs.declared.scan_core.ScanCore.{ScanCore}
 use Rattle.gin_scan.specs.declared.stage.LongVector.{LongVector}
@@ -50,6 +52,24 @@ reads_longer later R from (x ∷ xs) rs = (
   shown_longer later R x rs.1 rs.2,
   reads_longer later R x.length xs rs.3,
 )
+
+chains_longer : (later R : Log) (from : ℕ) (ls : List LongVector) (xs : List (List Read)) → AreChains R from ls xs
+    → AreChains (later ++ R) from ls xs
+chains_longer later R from [] [] cs = tt
+chains_longer later R from [] (y ∷ ys) cs = absurd cs
+chains_longer later R from (m ∷ ms) [] cs = absurd cs
+chains_longer later R from (m ∷ ms) (y ∷ ys) cs =
+    (cs.0, reads_longer later R from y cs.1, chains_longer later R from ms ys cs.2)
+
+pages_longer : (later R : Log) (from : ℕ) (w : Walk) (items : List ℕ) (ls : List LongVector) (n : ℕ)
+    → ArePages R from w items ls n → ArePages (later ++ R) from w items ls n
+pages_longer later R from w items ls n a = record {
+  heap = a.heap;
+  heap_pages = a.heap_pages;
+  parts = a.parts;
+  chains = chains_longer later R from ls a.parts a.chains;
+  most = a.most;
+}
 
 -- ── how many commits there are ──
 
@@ -78,7 +98,7 @@ take_begins n H rest le = grind (arith, Rattle.std.proofs.lemmas.List.take-appen
 -- ── a log that goes on ──
 
 module _ {Q : Type 0} (M : Meaning Q) (q : Q) (later R : Log) (pin : Pin) (keeps : Keeps R pin) where
-  judged_on : (from : ℕ) (s : ScanCore) → HasJudged M q R pin from s → HasJudged M q (later ++ R) pin from s
+  abbrev judged_on : (from : ℕ) (s : ScanCore) → HasJudged M q R pin from s → HasJudged M q (later ++ R) pin from s
   judged_on from s j = record {
     walk = j.walk;
     is_walk = record {
@@ -110,8 +130,10 @@ module _ {Q : Type 0} (M : Meaning Q) (q : Q) (later R : Log) (pin : Pin) (keeps
     size = o.size;
   }
 
-  taken_on : (s : ScanCore) (at from : ℕ) → HasTaken M q R pin s at from → HasTaken M q (later ++ R) pin s at from
-  taken_on s at from t H' h' =
+  all_on : (items : List ℕ) (names : List Name) (long : List LongVector)
+      → ((H : History) → IsHistory R H → AreTaken (M.satisfies q) R pin H items names long)
+      → (H : History) → IsHistory (later ++ R) H → AreTaken (M.satisfies q) (later ++ R) pin H items names long
+  all_on items names long t H' h' =
       let b = history_begins later R H' h' in
       let within : pin.commits ≤ length b.0 = omega (arith, commits_within R pin keeps, commits_told R b.0 b.1) in
       let same : docs (take pin.commits b.0) ≡ docs (take pin.commits H')
@@ -126,6 +148,13 @@ module _ {Q : Type 0} (M : Meaning Q) (q : Q) (later R : Log) (pin : Pin) (keeps
       among : {H H' : History} {items : List ℕ} {d : Document} → docs (take pin.commits H) ≡ docs (take pin.commits H')
           → IsAmong H pin.commits items d → IsAmong H' pin.commits items d
       among {H} {H'} {items} {d} e i = record { there = subst (In d) e i.there; item = i.item }
+
+  taken_on : (s : ScanCore) (at from : ℕ) → HasTaken M q R pin s at from → HasTaken M q (later ++ R) pin s at from
+  taken_on s at from = all_on (first_items at s.kept.items) s.names.items (drop from s.long.items)
+
+  had_on : (items : List ℕ) (long : List LongVector) → HadTaken M q R pin items long
+      → HadTaken M q (later ++ R) pin items long
+  had_on items long had = record { names = had.names; taken = all_on items had.names long had.taken }
 
   parts_on : (s : ScanCore) (l : LongVector) (page left : ℕ) → {from : ℕ} → ReadsParts R from s l page left
       → ReadsParts (later ++ R) from s l page left
@@ -150,19 +179,31 @@ module _ {Q : Type 0} (M : Meaning Q) (q : Q) (later R : Log) (pin : Pin) (keeps
     first = r.first;
     unjudged = r.unjudged;
     left_is = r.left_is;
+    pages_read = r.pages_read;
   }
-  read_on from s (stage.Heads at) r = (judged_on from s r.0, taken_on s at 0 r.1, r.2)
+  read_on from s (stage.Heads at) r = (
+    judged_on from s r.0,
+    taken_on s at 0 r.1,
+    r.2,
+    pages_longer later R from r.0.walk (first_items at s.kept.items) [] s.pages_read r.3,
+    r.4,
+  )
   read_on from s (stage.Parts at page left) r = (
     judged_on from s r.0,
     taken_on s (length s.kept.items) at r.1,
     (λ l e. parts_on s l page left (r.2 l e)),
     r.3,
+    pages_longer later R from r.0.walk (first_items (length s.kept.items) s.kept.items) (take at s.long.items)
+        (s.pages_read - (s.extent - left)) r.4,
+    had_on (first_items (length s.kept.items) s.kept.items) s.long.items r.5,
   )
   read_on from s stage.Done r = (
     judged_on from s r.0,
     taken_on s (length s.kept.items) (length s.long.items) r.1,
     r.2,
     r.3,
+    pages_longer later R from r.0.walk (first_items (length s.kept.items) s.kept.items) s.long.items s.pages_read r.4,
+    had_on (first_items (length s.kept.items) s.kept.items) s.long.items r.5,
   )
 
   pub scan_on : (s : ScanCore) → IsScanOf M q R pin s → IsScanOf M q (later ++ R) pin s

@@ -1,5 +1,6 @@
 -- A heap page is read, or refused.
-use Rattle.std.proofs.Common.{◌≡◌, ℕ, ◌+◌, ◌-◌, ◌*◌, ◌^◌, ◌<◌, ◌≤◌, Bool, List, length, sym, ap, subst, ◌∙◌, inr, arith}
+use Rattle.std.proofs.Common.{◌≡◌, ℕ, suc, ◌+◌, ◌-◌, ◌*◌, ◌^◌, ◌<◌, ◌≤◌, Bool, List, length, refl, sym, ap}
+use Rattle.std.proofs.Common.{subst, ◌∙◌, inr, arith}
 use Rattle.std.proofs.Common.{get_or, slice_get}
 use Rattle.std.specs.Prelude.{Some, slice_range}
 use Rattle.std.proofs.lemmas.Option.{slice_get-get_or}
@@ -17,6 +18,7 @@ use Rattle.buffer_frames.proofs.FirstLogs.{shown_by}
 use Rattle.core_state.proofs.Showing.{shown_one}
 use Rattle.gin_scan.specs.Calls.{ReadsOn}
 use Rattle.gin_scan.specs.Causes.{CannotRead, CannotStep, HasSlots, IsLawfulRefusal}
+use Rattle.gin_scan.specs.Reaching.{IsReached}
 use Rattle.gin_scan.specs.Scanning.{IsScan, HasRead, stages_left, steps_of, steps_left}
 use Rattle.gin_scan.specs.Seen.{AreSeen}
 use Rattle.gin_scan.specs.Inner.Heads.{TakesDocuments}
@@ -28,6 +30,7 @@ use Rattle.gin_scan.proofs.BegunScans.{step_passed}
 use Rattle.gin_scan.proofs.HeadsRead.{heads_read, heap_of_kept}
 use Rattle.gin_scan.proofs.PageTaken.{element_in}
 use Rattle.gin_scan.proofs.PinLaws.{pin_laws}
+use Rattle.gin_scan.proofs.Reached.{heads_reached, reached_still, met_as, long_as}
 use Rattle.gin_scan.proofs.Refused.{never_bad, heap_used}
 use Rattle.gin_scan.proofs.StepsTaken.{stepped_by, own_pin}
 
@@ -60,8 +63,12 @@ module _ {Q D : Type 0} (device : Disk D) (M : Meaning Q) (sound : JudgeIsSound 
 
   -- what was read of it
   pub record HasReadPage (f' : FramesValue D) (new : ScanCore) (end number : ℕ) (c : Page) : Type 0 where
+    pub first : ℕ × Bool
+    pub there : slice_get s.kept.items at ≡ Some first
+    pub first_here : page_of first.0 ≡ number
     pub ordered : at < end
     pub within : end ≤ length s.kept.items
+    pub next : (k : ℕ × Bool) → slice_get s.kept.items end ≡ Some k → page_of k.0 ≡ number → ⊥
     pub here : (k item : ℕ) (sure : Bool) → at ≤ k → k < end → slice_get s.kept.items k ≡ Some (item, sure)
         → page_of item ≡ number
     pub is_page : IsPage c
@@ -86,16 +93,17 @@ module _ {Q D : Type 0} (device : Disk D) (M : Meaning Q) (sound : JudgeIsSound 
       (subst (λ (n : ℕ). 2 * big + (length s.kept.items - end) < n) (sym old)
       (step_passed 2 (length s.kept.items - at) (length s.kept.items - end) big (omega (arith, less, within))))
 
-  pub heads_stepped : (f' f'' : FramesValue D) (pass'' : Pass) (new s' : ScanCore) (end number : ℕ) (c : Page)
-      → HasReadPage f' new end number c → ReadsOn device f pass f'' pass''
-      → s' ≡ record new { stage = stage.Heads end } → HasStepped device M q s f'' pass'' s'
-  heads_stepped f' f'' pass'' new s' end number c r reads same =
+  pub heads_stepped : (f' f'' : FramesValue D) (pass'' : Pass) (new s' : ScanCore) (end number pages : ℕ) (c : Page)
+      → HasReadPage f' new end number c → ReadsOn device f pass f'' pass'' → pages ≤ suc s.pages_read
+      → s' ≡ record new { stage = stage.Heads end; pages_read = pages } → HasStepped device M q f s f'' pass'' s'
+  heads_stepped f' f'' pass'' new s' end number pages c r reads one same =
       let e : s' ≡ record s {
         names = new.names;
         long = new.long;
         heads_read = new.heads_read;
         stage = stage.Heads end;
-      } = same ∙ ap (λ (x : ScanCore). record x { stage = stage.Heads end }) r.rest in
+        pages_read = pages;
+      } = same ∙ ap (λ (x : ScanCore). record x { stage = stage.Heads end; pages_read = pages }) r.rest in
       let was = may.scanning.is_scan in
       stepped_by device M q f f'' pass pass'' s s' may reads
       (subst IsScan (sym e) (record { pending = was.pending; main = was.main; within = r.within }))
@@ -103,8 +111,12 @@ module _ {Q D : Type 0} (device : Disk D) (M : Meaning Q) (sound : JudgeIsSound 
       (fewer s' end r.ordered r.within (ap (λ (z : ScanCore). z.stage) e) (ap (λ (z : ScanCore). z.kept) e))
       (λ R pin known p o. heads_read M sound q device f R pin known
       (λ H h. (pin_laws R pin H known.legal known.keeps h).one_serial) s new at end number c (record {
-        ordered = omega (arith, r.ordered);
+        first = r.first;
+        there = r.there;
+        first_here = r.first_here;
+        ordered = r.ordered;
         within = r.within;
+        next = r.next;
         here = r.here;
         is_page = r.is_page;
         lies = r.lies;
@@ -114,4 +126,13 @@ module _ {Q D : Type 0} (device : Disk D) (M : Meaning Q) (sound : JudgeIsSound 
         takes = r.takes;
         counted = r.counted;
         rest = r.rest;
-      }) (own_pin f pass s pin may.scanning p) s' same is o)
+      }) (own_pin f pass s pin may.scanning p) s' pages same one is o)
+      (λ z.
+      let y = subst (IsReached M q f s) is z in
+      let kept = ap (λ (x : ScanCore). x.kept.items) r.rest in
+      let h = heads_reached M q f s new at end number c (fate_of f'.journal.state) r.seen (omega (arith, r.ordered))
+      r.within r.here r.is_page r.lies r.are_seen r.takes kept y.0 y.1 in
+      let last : ScanCore = record new { stage = stage.Heads end; pages_read = pages } in
+      subst (λ (x : ScanCore). IsReached M q f'' x x.stage) (sym same)
+      (reached_still f f'' reads.lying M q last (stage.Heads end)
+      (met_as M q f new last refl h.0, long_as M q f new last refl refl h.1)))

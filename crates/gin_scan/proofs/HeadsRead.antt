@@ -36,6 +36,7 @@ use Rattle.gin_scan.specs.Scanning.{HasJudged, HasTaken, HasRead, IsScanOf}
 use Rattle.gin_scan.specs.Inner.Heads.{TakesDocuments}
 use Rattle.gin_scan.specs.declared.scan_core.ScanCore.{ScanCore}
 use Rattle.gin_scan.specs.declared.stage.Stage.TheVariants as stage
+use Rattle.gin_scan.proofs.HeldPages.{heap_page, pages_before}
 use Rattle.gin_scan.proofs.ListPages.{from_meta, heap_of_row}
 use Rattle.gin_scan.proofs.ListRead.{lies_as}
 use Rattle.gin_scan.proofs.SeenDocuments.{one_item}
@@ -84,7 +85,7 @@ seen_length fates n c [] (b ∷ bs) a = absurd a
 seen_length fates n c (k ∷ ks) [] a = absurd a
 seen_length fates n c (k ∷ ks) (b ∷ bs) a = omega (arith, seen_length fates n c ks bs a.1)
 
-seen_at : (fates : ℕ → Fate) (n : ℕ) (c : Page) (ks : List (ℕ × Bool)) (bs : List Bool) → AreSeen fates n c ks bs
+pub seen_at : (fates : ℕ → Fate) (n : ℕ) (c : Page) (ks : List (ℕ × Bool)) (bs : List Bool) → AreSeen fates n c ks bs
     → (j : ℕ) (k : ℕ × Bool) (b : Bool) → slice_get ks j ≡ Some k → slice_get bs j ≡ Some b
     → IsTrue b ↔ IsSeen fates n c k.0
 seen_at fates n c [] bs a j k b e f = absurd (let z : ⊥ = cc in z)
@@ -181,8 +182,12 @@ module _ {Q D : Type 0} (M : Meaning Q) (sound : JudgeIsSound M) (q : Q) (device
   -- What is asked of a heap page with this number: the kept items from one number up to another are on it,
   -- what is seen of them, and what is taken.
   pub record ReadsHeads (s new : ScanCore) (at end number : ℕ) (c : Page) : Type 0 where
-    pub ordered : at ≤ end
+    pub first : ℕ × Bool
+    pub there : slice_get s.kept.items at ≡ Some first
+    pub first_here : page_of first.0 ≡ number
+    pub ordered : at < end
     pub within : end ≤ length s.kept.items
+    pub next : (k : ℕ × Bool) → slice_get s.kept.items end ≡ Some k → page_of k.0 ≡ number → ⊥
     pub here : (k item : ℕ) (sure : Bool) → at ≤ k → k < end → slice_get s.kept.items k ≡ Some (item, sure)
         → page_of item ≡ number
     pub is_page : IsPage c
@@ -253,17 +258,21 @@ module _ {Q D : Type 0} (M : Meaning Q) (sound : JudgeIsSound M) (q : Q) (device
         (λ k m y. (j.kept.sure k m).0 y)
         (λ i k b e g. (seen_here i k b e g, on_page i k b e g)) (t H history) r.takes)
 
-    pub heads_read : (s' : ScanCore) → s' ≡ record new { stage = stage.Heads end } → s.stage ≡ stage.Heads at
-        → IsScanOf M q R pin s → IsScanOf M q R pin s'
-    heads_read s' same is o =
+    pub heads_read : (s' : ScanCore) (pages : ℕ) → s' ≡ record new { stage = stage.Heads end; pages_read = pages }
+        → pages ≤ suc s.pages_read → s.stage ≡ stage.Heads at → IsScanOf M q R pin s → IsScanOf M q R pin s'
+    heads_read s' pages same one is o =
         let had = subst (HasRead M q R pin o.from s) is o.read in
         let z : ScanCore = record s {
           names = new.names;
           long = new.long;
           heads_read = new.heads_read;
           stage = stage.Heads end;
+          pages_read = pages;
         } in
-        let e : s' ≡ z = same ∙ ap (λ (x : ScanCore). record x { stage = stage.Heads end }) r.rest in
+        let e : s' ≡ z = same
+        ∙ ap (λ (x : ScanCore). record x { stage = stage.Heads end; pages_read = pages }) r.rest in
+        let below = λ (i : ℕ) (m : In i (first_items at s.kept.items)).
+        subst (λ (n : ℕ). page_of i < n) r.first_here (had.4 i r.first m r.there) in
         subst (λ (x : ScanCore). IsScanOf M q R pin x) (sym e) (record {
           from = o.from;
           since = o.since;
@@ -273,6 +282,10 @@ module _ {Q D : Type 0} (M : Meaning Q) (sound : JudgeIsSound M) (q : Q) (device
             judged_as M q R pin o.from s z refl had.0,
             taken_then o.from had.0 had.1,
             omega (arith, had.2, r.counted),
+            heap_page R o.from had.0.walk s.kept.items at end number s.pages_read pages r.first r.ordered r.there
+                r.first_here below one had.3,
+            pages_before s.kept.items at end number had.0.kept.rising r.here below r.next r.first r.ordered r.there
+                r.first_here,
           );
         })
 

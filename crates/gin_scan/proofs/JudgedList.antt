@@ -1,5 +1,5 @@
 -- A scan that has read the list to its end judges what it met.
-use Rattle.std.proofs.Common.{◌≡◌, ◌≢◌, ◌↔◌, ℕ, ◌<◌, ◌≤◌, Bool, List, [], ◌∷◌, ◌++◌, length}
+use Rattle.std.proofs.Common.{◌≡◌, ◌≢◌, ◌↔◌, ℕ, suc, ◌<◌, ◌≤◌, Bool, false, List, [], ◌∷◌, ◌++◌, length}
 use Rattle.std.proofs.Common.{refl, sym, ap, subst, ◌∙◌, inl, arith, All, AllPairs}
 use Rattle.std.proofs.lemmas.Option.{slice_get_within}
 use Rattle.std.proofs.lemmas.List.{length-map}
@@ -8,12 +8,13 @@ use Rattle.core_state.specs.Log.{Log, In}
 use Rattle.core_state.specs.History.{History}
 use Rattle.core_state.specs.Legal.{IsLegal, Pin}
 use Rattle.core_state.specs.Steady.{LeavesIndex}
-use Rattle.core_state.specs.Readings.{Read}
-use Rattle.gin_opclass.specs.Class.{Meaning, JudgeIsSound}
+use Rattle.core_state.specs.Readings.{Read, AreReads}
+use Rattle.gin_opclass.specs.Class.{Asked, Meaning, JudgeIsSound}
 use Rattle.core_moments.specs.Walk.{Walk}
+use Rattle.core_moments.specs.Judging.{main_read, main_has}
 use Rattle.gin_scan.specs.Rows.{lists_of, first_read, rows_read, AreNoted}
-use Rattle.gin_scan.specs.Sides.{AreInOrder, HaveSame, TellOfWalk, WasRead, MayBeKept, AreKeptOf}
-use Rattle.gin_scan.specs.Reading.{IsNoHit, ReadsList}
+use Rattle.gin_scan.specs.Sides.{AreInOrder, HaveSame, TellOfWalk, WasRead, MayBeKept, AreKeptOf, AreKept}
+use Rattle.gin_scan.specs.Reading.{IsNoHit, ReadsListBy, ReadsList}
 use Rattle.gin_scan.specs.Taking.{AreTaken}
 use Rattle.gin_scan.specs.Scanning.{AsksFor, IsScan, HasRead, HasJudged, HasTaken}
 use Rattle.gin_scan.specs.declared.hits.Hits.{Hits}
@@ -21,6 +22,7 @@ use Rattle.gin_scan.specs.declared.scan_core.ScanCore.{ScanCore}
 use Rattle.gin_scan.specs.declared.stage.LongVector.{LongVector}
 use Rattle.gin_scan.specs.declared.stage.Stage.TheVariants as stage
 use Rattle.gin_scan.proofs.JudgedScan.{in_all, element_at, number_of, may_was_met, are_kept}
+use Rattle.gin_scan.proofs.HeldPages.{walk_pages}
 use Rattle.gin_scan.proofs.ToldHits.{all_get, lists_length, pending_told, main_told}
 use Rattle.gin_scan.proofs.WholeWalk.{WholeWalk, whole}
 
@@ -78,6 +80,37 @@ none_taken P R pin H names waiting e f =
       once = λ i j d lt within. absurd (omega (arith, lt, within));
     }))
 
+module _ {Q : Type 0} (M : Meaning Q) (q : Q) (S : JudgeIsSound M) (s s' : ScanCore) (page left : ℕ)
+    (WereRead : List Read → Type 0) (is : IsScan s) (asks : AsksFor M q s)
+    (r : ReadsListBy WereRead (M.asked q) s page left) (j : JudgesAll M q s s') (w : Walk)
+    (pending_is : w.pending ≡ r.pending) (none_read : (i : ℕ) → main_read w i ≡ false)
+    (none_has : (i : ℕ) (a : Asked) → main_has w i a ≡ false) where
+  count : length s.keys.keys.items ≡ length (M.asked q)
+  count = sym (length-map s.keys.keys.items _) ∙ ap length asks.asked
+
+  told : TellOfWalk (M.asked q) w s'.pending s'.main s.first_item
+  told = record {
+    pending_told = pending_told (M.asked q) w s.pending s'.pending
+        (subst (λ (xs : List Read). AreNoted (M.asked q) (rows_read xs) s.pending) (sym pending_is) r.noted)
+        j.pending_same j.pending_order j.pending_count;
+    main_told = main_told (M.asked q) w s'.main (j.main_count ∙ is.main ∙ count)
+        (no_hit_still s.main s'.main j.main_count j.main_same r.unjudged.main) none_read none_has;
+    first_told = r.first ∙ ap first_read (sym pending_is);
+  }
+
+  all_read : All (WasRead w) j.items
+  all_read = in_all (WasRead w) j.items (λ i m.
+      inl (may_was_met M q w s'.pending s'.main s.first_item told none_read none_has s.keys.all i ((j.just i).0 m)))
+
+  -- what is kept then is what the walk keeps
+  pub kept_all : AreKept M q w s'.kept.items
+  kept_all =
+      let k = j.kept w told all_read in
+      are_kept M q w s'.pending s'.main s.first_item told none_read none_has S s.keys.all (sym asks.all)
+      j.items s'.kept.items j.rising j.just
+      (subst (AreKeptOf M q w j.items)
+      (sym (k.1 ∙ ap (λ (ks : List (ℕ × Bool)). ks ++ k.0) r.unjudged.kept)) k.2)
+
 module _ {Q : Type 0} (M : Meaning Q) (q : Q) (S : JudgeIsSound M) (R : Log) (pin : Pin) (s s' : ScanCore)
     (from left : ℕ)
     (since : pin.length ≤ from) (within : from ≤ length R) (legal : IsLegal R) (some : R ≢ []) (leaves : LeavesIndex R)
@@ -85,37 +118,14 @@ module _ {Q : Type 0} (M : Meaning Q) (q : Q) (S : JudgeIsSound M) (R : Log) (pi
   W : WholeWalk M q R pin from r.meta r.pending
   W = whole M q R pin from since within legal some leaves r.meta r.pending r.meta_page r.reads r.leads
 
-  count : length s.keys.keys.items ≡ length (M.asked q)
-  count = sym (length-map s.keys.keys.items _) ∙ ap length asks.asked
-
-  told : TellOfWalk (M.asked q) W.walk s'.pending s'.main s.first_item
-  told = record {
-    pending_told = pending_told (M.asked q) W.walk s.pending s'.pending
-        (subst (λ (xs : List Read). AreNoted (M.asked q) (rows_read xs) s.pending) (sym W.pending_is) r.noted)
-        j.pending_same j.pending_order j.pending_count;
-    main_told = main_told (M.asked q) W.walk s'.main (j.main_count ∙ is.main ∙ count)
-        (no_hit_still s.main s'.main j.main_count j.main_same r.unjudged.main) W.none_read W.none_has;
-    first_told = r.first ∙ ap first_read (sym W.pending_is);
-  }
-
-  all_read : All (WasRead W.walk) j.items
-  all_read = in_all (WasRead W.walk) j.items (λ i m.
-      inl (may_was_met M q W.walk s'.pending s'.main s.first_item told W.none_read W.none_has s.keys.all i
-      ((j.just i).0 m)))
-
   judged : HasJudged M q R pin from s'
-  judged =
-      let k = j.kept W.walk told all_read in record {
-        walk = W.walk;
-        is_walk = W.is_walk;
-        reads = W.reads;
-        none_read = W.none_read;
-        kept = are_kept M q W.walk s'.pending s'.main s.first_item told W.none_read W.none_has S s.keys.all
-            (sym asks.all)
-            j.items s'.kept.items j.rising j.just
-            (subst (AreKeptOf M q W.walk j.items)
-            (sym (k.1 ∙ ap (λ (ks : List (ℕ × Bool)). ks ++ k.0) r.unjudged.kept)) k.2);
-      }
+  judged = record {
+    walk = W.walk;
+    is_walk = W.is_walk;
+    reads = W.reads;
+    none_read = W.none_read;
+    kept = kept_all M q S s s' 0 left (AreReads R from) is asks r j W.walk W.pending_is W.none_read W.none_has;
+  }
 
   taken : HasTaken M q R pin s' 0 0
   taken H h =
@@ -123,7 +133,16 @@ module _ {Q : Type 0} (M : Meaning Q) (q : Q) (S : JudgeIsSound M) (R : Log) (pi
       (ap (λ (z : ScanCore). z.names.items) j.rest ∙ r.unjudged.names)
       (ap (λ (z : ScanCore). z.long.items) j.rest ∙ r.unjudged.long)
 
+  few : s'.pages_read ≤ suc (length W.walk.pending)
+  few = omega (arith, ap (λ (z : ScanCore). z.pages_read) j.rest, r.pages_read, ap length W.pending_is)
+
   pub judged_all : HasRead M q R pin from s' s'.stage
+  unfolding judged W
   judged_all =
-      subst (HasRead M q R pin from s') (sym (ap (λ (z : ScanCore). z.stage) j.rest))
-      (judged, taken, omega (arith, ap (λ (z : ScanCore). z.heads_read) j.rest, r.unjudged.heads_read))
+      subst (HasRead M q R pin from s') (sym (ap (λ (z : ScanCore). z.stage) j.rest)) (
+        judged,
+        taken,
+        omega (arith, ap (λ (z : ScanCore). z.heads_read) j.rest, r.unjudged.heads_read),
+        walk_pages R from W.walk s'.pages_read few,
+        (λ i k m e. absurd m),
+      )

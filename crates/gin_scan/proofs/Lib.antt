@@ -17,6 +17,7 @@ mod ListRead
 mod JudgedScan
 mod StepsTaken
 mod Counted
+mod HeldPages
 mod PageTaken
 mod LongTaken
 mod ItemLists
@@ -41,6 +42,7 @@ mod ListPages
 mod DocumentsTaken
 mod Refused
 mod HeadsCalls
+pub mod Reached
 mod PartsCalls
 mod BytesTold
 mod NoneDeleted

@@ -19,9 +19,10 @@ use Rattle.buffer_frames.specs.Frames.{FramesValue, Stands, Lies}
 use Rattle.buffer_frames.specs.Homes.{home_at}
 use Rattle.buffer_frames.proofs.HomesLie.{lies_shown}
 use Rattle.gin_scan.specs.Rows.{items_with, lists_of, rows_read, first_of_rows, first_read, AreNoted}
-use Rattle.gin_scan.specs.Reading.{IsUnjudged, IsUnread, ReadsList, has_read}
+use Rattle.gin_scan.specs.Reading.{IsUnjudged, IsUnread, ReadsListBy, has_read}
 use Rattle.gin_scan.specs.declared.scan_core.ScanCore.{ScanCore}
-use Rattle.gin_scan.proofs.Growing.{reads_more, lead_more}
+use Rattle.gin_scan.specs.declared.stage.Stage.{Stage}
+use Rattle.gin_scan.proofs.Growing.{lead_more}
 use Rattle.gin_scan.proofs.Noted.{rows_more}
 
 -- ── a page that lies in memory is one of the log ──
@@ -54,16 +55,17 @@ lists_none (l ∷ ls) (a ∷ as') none e =
     (lists_none ls as' (λ k d lt. none (suc k) d (omega (arith, lt))) (omega (arith, e)))
 
 -- What a scan has that has read the metapage alone. Of the two scans the second is the first with another stage.
-pub meta_read : (R : Log) (from : ℕ) (asked : List Asked) (s s' : ScanCore) (c : Page) → from ≤ length R
-    → WasShown R (now R 0 c) → IsUnread s → length (lists_of s.pending) ≡ length asked
-    → s' ≡ record s { stage = s'.stage } → ReadsList R from asked s' (first_of c) s.extent
-meta_read R from asked s s' c within was unread count same =
-    subst (λ (z : ScanCore). ReadsList R from asked z (first_of c) s.extent) (sym same) (record {
-      meta = now R 0 c;
+pub meta_read : (WereRead : List Read → Type 0) (x : Read) (asked : List Asked) (s s' : ScanCore) → x.page ≡ 0
+    → WereRead (x ∷ []) → IsUnread s → length (lists_of s.pending) ≡ length asked
+    → s'.pages_read ≤ suc s.pages_read → s' ≡ record s { stage = s'.stage; pages_read = s'.pages_read }
+    → ReadsListBy WereRead asked s' (first_of x.content) s.extent
+meta_read WereRead x asked s s' at was unread count one same =
+    subst (λ (z : ScanCore). ReadsListBy WereRead asked z (first_of x.content) s.extent) (sym same) (record {
+      meta = x;
       pending = [];
-      meta_page = refl;
+      meta_page = at;
       leads = refl;
-      reads = (within, omega arith, was, tt);
+      reads = was;
       noted = record {
         any = unread.pending.any;
         by_key = lists_none (lists_of s.pending) asked unread.pending.by_key count;
@@ -78,6 +80,7 @@ meta_read R from asked s s' c within was unread count same =
         heads_read = unread.unjudged.heads_read;
       };
       left_is = omega arith;
+      pages_read = omega (arith, one, unread.pages_read);
     })
 
 -- ── a page of the list ──
@@ -91,25 +94,32 @@ has_more : (xs : List Read) (x : Read) → has_read (xs ++ x ∷ []) ≡ true
 has_more [] x = refl
 has_more (y ∷ ys) x = refl
 
-pub page_read : (R : Log) (from : ℕ) (asked : List Asked) (s s' : ScanCore) (page left : ℕ) (c : Page)
-    → from ≤ length R → WasShown R (now R page c) → page ≢ 0 → left ≢ 0 → ReadsList R from asked s page left
-    → ((rows : List Row) → AreNoted asked rows s.pending → AreNoted asked (rows ++ kept_rows_of c) s'.pending)
-    → s'.first_item ≡ cond s.has_begun s.first_item (first_of_rows (kept_rows_of c))
-    → s' ≡ record s { pending = s'.pending; has_begun = true; first_item = s'.first_item; stage = s'.stage }
-    → ReadsList R from asked s' (rightward c) (left - 1)
-page_read R from asked s s' page left c within was some more r noted first same =
-    let x = now R page c in record {
+pub page_read : (WereRead : List Read → Type 0) (x : Read) (asked : List Asked) (s s' : ScanCore) (page left : ℕ)
+    → x.page ≡ page → page ≢ 0 → left ≢ 0 → (r : ReadsListBy WereRead asked s page left)
+    → WereRead (r.meta ∷ (r.pending ++ x ∷ []))
+    → ((rows : List Row) → AreNoted asked rows s.pending → AreNoted asked (rows ++ kept_rows_of x.content) s'.pending)
+    → s'.first_item ≡ cond s.has_begun s.first_item (first_of_rows (kept_rows_of x.content))
+    → s'.pages_read ≤ suc s.pages_read
+    → s' ≡ record s {
+      pending = s'.pending;
+      has_begun = true;
+      first_item = s'.first_item;
+      stage = s'.stage;
+      pages_read = s'.pages_read;
+    } → ReadsListBy WereRead asked s' (rightward x.content) (left - 1)
+page_read WereRead x asked s s' page left at some more r was noted first one same =
+    record {
       meta = r.meta;
       pending = r.pending ++ x ∷ [];
       meta_page = r.meta_page;
-      leads = lead_more (first_of r.meta.content) r.pending page x r.leads some refl;
-      reads = reads_more R from (r.meta ∷ r.pending) x r.reads within refl was;
+      leads = lead_more (first_of r.meta.content) r.pending page x r.leads some at;
+      reads = was;
       noted = subst (λ (rows : List Row). AreNoted asked rows s'.pending) (sym (rows_more r.pending x))
           (noted (rows_read r.pending) r.noted);
       begun = ap (λ (z : ScanCore). z.has_begun) same ∙ sym (has_more r.pending x);
       first = first
-          ∙ ap (λ (b : Bool). cond b s.first_item (first_of_rows (kept_rows_of c))) r.begun
-          ∙ ap (λ o. cond (has_read r.pending) o (first_of_rows (kept_rows_of c))) r.first
+          ∙ ap (λ (b : Bool). cond b s.first_item (first_of_rows (kept_rows_of x.content))) r.begun
+          ∙ ap (λ o. cond (has_read r.pending) o (first_of_rows (kept_rows_of x.content))) r.first
           ∙ first_more r.pending x;
       unjudged = subst IsUnjudged (sym same) (record {
         main = r.unjudged.main;
@@ -121,8 +131,33 @@ page_read R from asked s s' page left c within was some more r noted first same 
       left_is = subst (λ (n : ℕ). left - 1 + length (r.pending ++ x ∷ []) ≡ n)
           (sym (ap (λ (z : ScanCore). z.extent) same))
           (omega (arith, r.left_is, some_left left more, length-append r.pending (x ∷ [])));
+      pages_read = omega (arith, one, r.pages_read, length-append r.pending (x ∷ []));
     }
   where
     some_left : (n : ℕ) → n ≢ 0 → 1 ≤ n
     some_left zero off = absurd (off refl)
     some_left (suc n) off = omega arith
+
+-- pages go further
+pub list_further : (WereRead : List Read → Type 0) (asked : List Asked) (s : ScanCore) (page more : ℕ) (z : Stage)
+    → ReadsListBy WereRead asked s page 0
+    → ReadsListBy WereRead asked (record s { stage = z; extent = s.extent + more }) page more
+list_further WereRead asked s page more z r = record {
+  meta = r.meta;
+  pending = r.pending;
+  meta_page = r.meta_page;
+  leads = r.leads;
+  reads = r.reads;
+  noted = r.noted;
+  begun = r.begun;
+  first = r.first;
+  unjudged = record {
+    main = r.unjudged.main;
+    kept = r.unjudged.kept;
+    long = r.unjudged.long;
+    names = r.unjudged.names;
+    heads_read = r.unjudged.heads_read;
+  };
+  left_is = omega (arith, r.left_is);
+  pages_read = r.pages_read;
+}

@@ -1,5 +1,6 @@
 -- Steps along the pending list.
-use Rattle.std.proofs.Common.{◌≡◌, ◌≢◌, ℕ, zero, suc, ◌+◌, ◌-◌, ◌*◌, ◌^◌, ◌<◌, ◌≤◌, true, List, [], ◌++◌, length, cond}
+use Rattle.std.proofs.Common.{◌≡◌, ◌≢◌, ℕ, zero, suc, ◌+◌, ◌-◌, ◌*◌, ◌^◌, ◌<◌, ◌≤◌, true, List, []}
+use Rattle.std.proofs.Common.{◌∷◌, ◌++◌, length, cond}
 use Rattle.std.proofs.Common.{refl, sym, ap, subst, ◌∙◌, arith}
 use Rattle.std.proofs.lemmas.List.{length-map}
 use Rattle.disk_trait.specs.declared.device.Disk.{Ghosts as Disk}
@@ -9,7 +10,7 @@ use Rattle.page_types.specs.declared.page.Page.{Page}
 use Rattle.page_types.specs.declared.page.Row.{Row}
 use Rattle.core_state.specs.Log.{Log}
 use Rattle.core_state.specs.Legal.{Pin}
-use Rattle.core_state.specs.Readings.{WasShown}
+use Rattle.core_state.specs.Readings.{WasShown, AreReads}
 use Rattle.gin_opclass.specs.Class.{Asked, Meaning, JudgeIsSound}
 use Rattle.core_moments.specs.Walk.{rightward}
 use Rattle.buffer_frames.specs.Frames.{FramesValue, Lies}
@@ -24,7 +25,8 @@ use Rattle.gin_scan.specs.declared.scan_core.ScanCore.{ScanCore}
 use Rattle.gin_scan.specs.declared.stage.Stage.{Stage}
 use Rattle.gin_scan.specs.declared.stage.Stage.TheVariants as stage
 use Rattle.gin_scan.proofs.ToldHits.{lists_length}
-use Rattle.gin_scan.proofs.ListRead.{now, read_now, meta_read, page_read}
+use Rattle.gin_scan.proofs.Growing.{reads_more}
+use Rattle.gin_scan.proofs.ListRead.{now, read_now, meta_read, page_read, list_further}
 use Rattle.gin_scan.proofs.StepsTaken.{Known}
 use Rattle.gin_scan.proofs.JudgedList.{JudgesAll, judged_all}
 
@@ -42,7 +44,7 @@ was_shown device f R pin known p c is lies =
     let P = shown_by R known.legal.valid in
     read_now device f R known.told known.up known.stands known.legal P.0 P.1 p c is lies
 
-lists_asked : {Q : Type 0} (M : Meaning Q) (q : Q) (s : ScanCore) → IsScan s → AsksFor M q s
+pub lists_asked : {Q : Type 0} (M : Meaning Q) (q : Q) (s : ScanCore) → IsScan s → AsksFor M q s
     → length (lists_of s.pending) ≡ length (M.asked q)
 lists_asked M q s is asks =
     lists_length s.pending ∙ is.pending ∙ sym (length-map s.keys.keys.items asked_by) ∙ ap length asks.asked
@@ -51,9 +53,10 @@ module _ {D Q : Type 0} (device : Disk D) (M : Meaning Q) (q : Q) (f : FramesVal
     (of : IsPassOf f pass) (is : IsScan s) (asks : AsksFor M q s) (R : Log) (pin : Pin) (known : Known device f R pin)
     (o : IsScanOf M q R pin s) where
   -- the metapage was read
-  pub meta_step : (c : Page) → IsPage c → Lies f 0 c → s.stage ≡ stage.Meta
-      → s' ≡ record s { stage = stage.Pending (first_of c) s.extent } → IsScanOf M q R pin s'
-  meta_step c page lies at same =
+  pub meta_step : (c : Page) → IsPage c → Lies f 0 c → s.stage ≡ stage.Meta → s'.pages_read ≤ suc s.pages_read
+      → s' ≡ record s { stage = stage.Pending (first_of c) s.extent; pages_read = s'.pages_read }
+      → IsScanOf M q R pin s'
+  meta_step c page lies at one same =
       let now_at : s'.stage ≡ stage.Pending (first_of c) s.extent = ap (λ (z : ScanCore). z.stage) same in
       record {
         from = o.from;
@@ -62,9 +65,10 @@ module _ {D Q : Type 0} (device : Disk D) (M : Meaning Q) (q : Q) (f : FramesVal
         below = λ P p shown used. subst (λ (n : ℕ). p < n) (sym (ap (λ (z : ScanCore). z.extent) same))
             (o.below P p shown used);
         read = subst (HasRead M q R pin o.from s') (sym now_at)
-            (meta_read R o.from (M.asked q) s s' c o.within (was_shown device f R pin known 0 c page lies)
-            (subst (HasRead M q R pin o.from s) at o.read) (lists_asked M q s is asks)
-            (same ∙ ap (λ (z : Stage). record s { stage = z }) (sym now_at)));
+            (meta_read (AreReads R o.from) (now R 0 c) (M.asked q) s s' refl
+            (o.within, omega arith, was_shown device f R pin known 0 c page lies, tt)
+            (subst (HasRead M q R pin o.from s) at o.read) (lists_asked M q s is asks) one
+            (same ∙ ap (λ (z : Stage). record s { stage = z; pages_read = s'.pages_read }) (sym now_at)));
       }
 
   -- a page of the list was read
@@ -73,13 +77,16 @@ module _ {D Q : Type 0} (device : Disk D) (M : Meaning Q) (q : Q) (f : FramesVal
       → ((rows : List Row) → AreNoted (asked_in s) rows s.pending
       → AreNoted (asked_in s) (rows ++ kept_rows_of c) s'.pending)
       → s'.first_item ≡ cond s.has_begun s.first_item (first_of_rows (kept_rows_of c))
+      → s'.pages_read ≤ suc s.pages_read
       → s' ≡ record s {
         pending = s'.pending;
         has_begun = true;
         first_item = s'.first_item;
         stage = stage.Pending (rightward c) (left - 1);
+        pages_read = s'.pages_read;
       } → IsScanOf M q R pin s'
-  page_step page left c is_page lies at some more noted first same =
+  page_step page left c is_page lies at some more noted first one same =
+      let r : ReadsList R o.from (M.asked q) s page left = subst (HasRead M q R pin o.from s) at o.read in
       let now_at : s'.stage ≡ stage.Pending (rightward c) (left - 1) = ap (λ (z : ScanCore). z.stage) same in
       record {
         from = o.from;
@@ -88,17 +95,18 @@ module _ {D Q : Type 0} (device : Disk D) (M : Meaning Q) (q : Q) (f : FramesVal
         below = λ P p shown used. subst (λ (n : ℕ). p < n) (sym (ap (λ (z : ScanCore). z.extent) same))
             (o.below P p shown used);
         read = subst (HasRead M q R pin o.from s') (sym now_at)
-            (page_read R o.from (M.asked q) s s' page left c o.within
-            (was_shown device f R pin known page c is_page lies) some more
-            (subst (HasRead M q R pin o.from s) at o.read)
+            (page_read (AreReads R o.from) (now R page c) (M.asked q) s s' page left refl some more r
+            (reads_more R o.from (r.meta ∷ r.pending) (now R page c) r.reads o.within refl
+            (was_shown device f R pin known page c is_page lies))
             (subst (λ (asked : List Asked). (rows : List Row) → AreNoted asked rows s.pending
             → AreNoted asked (rows ++ kept_rows_of c) s'.pending) asks.asked noted)
-            first
+            first one
             (same ∙ ap (λ (z : Stage). record s {
               pending = s'.pending;
               has_begun = true;
               first_item = s'.first_item;
               stage = z;
+              pages_read = s'.pages_read;
             }) (sym now_at)));
       }
 
@@ -115,24 +123,8 @@ module _ {D Q : Type 0} (device : Disk D) (M : Meaning Q) (q : Q) (f : FramesVal
         within = o.within;
         below = λ P p shown used. omega (arith, o.below P p shown used, far);
         read = subst (HasRead M q R pin o.from s') (sym now_at)
-            (subst (λ (z : ScanCore). ReadsList R o.from (M.asked q) z page more) (sym same) (record {
-              meta = r.meta;
-              pending = r.pending;
-              meta_page = r.meta_page;
-              leads = r.leads;
-              reads = r.reads;
-              noted = r.noted;
-              begun = r.begun;
-              first = r.first;
-              unjudged = record {
-                main = r.unjudged.main;
-                kept = r.unjudged.kept;
-                long = r.unjudged.long;
-                names = r.unjudged.names;
-                heads_read = r.unjudged.heads_read;
-              };
-              left_is = omega (arith, r.left_is);
-            }));
+            (subst (λ (z : ScanCore). ReadsList R o.from (M.asked q) z page more) (sym same)
+            (list_further (AreReads R o.from) (M.asked q) s page more (stage.Pending page more) r));
       }
 
   -- all that was met was judged

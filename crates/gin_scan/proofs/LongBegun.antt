@@ -1,8 +1,8 @@
 -- The next long vector begins, or the scan ends.
-use Rattle.std.proofs.Common.{◌≡◌, ◌≢◌, ℕ, suc, ◌+◌, ◌-◌, ◌*◌, ◌^◌, ◌<◌, ◌≤◌, List, [], length, Some, refl, sym, ap}
-use Rattle.std.proofs.Common.{subst}
+use Rattle.std.proofs.Common.{◌≡◌, ◌≢◌, ℕ, suc, ◌+◌, ◌-◌, ◌*◌, ◌^◌, ◌<◌, ◌≤◌, List, [], length, take, Some, refl, sym}
+use Rattle.std.proofs.Common.{ap, subst}
 use Rattle.std.proofs.Common.{◌∙◌, arith}
-use Rattle.std.proofs.lemmas.List.{drop_all}
+use Rattle.std.proofs.lemmas.List.{take_all, drop_all}
 use Rattle.std.proofs.lemmas.Nat.{mul-le}
 use Rattle.std.proofs.lemmas.Option.{slice_get_within}
 use Rattle.page_types.specs.declared.page.Body.TheVariants as body
@@ -11,11 +11,13 @@ use Rattle.core_state.specs.Legal.{Pin}
 use Rattle.gin_opclass.specs.Class.{Meaning}
 use Rattle.gin_scan.specs.Reading.{ReadsParts}
 use Rattle.gin_scan.specs.Taking.{AreTaken, first_items}
-use Rattle.gin_scan.specs.Scanning.{IsScan, HasJudged, HasTaken, IsScanOf, steps_left}
+use Rattle.gin_scan.specs.Held.{ArePages}
+use Rattle.gin_scan.specs.Scanning.{IsScan, HasJudged, HasTaken, HadTaken, IsScanOf, steps_left}
 use Rattle.gin_scan.specs.Inner.Parts.{BeginsLong}
 use Rattle.gin_scan.specs.declared.scan_core.ScanCore.{ScanCore}
 use Rattle.gin_scan.specs.declared.stage.LongVector.{LongVector}
 use Rattle.gin_scan.specs.declared.stage.Stage.TheVariants as stage
+use Rattle.gin_scan.proofs.HeldPages.{fewer_pages}
 use Rattle.gin_scan.proofs.NamesPut.{order_taken}
 use Rattle.gin_scan.proofs.StepsTaken.{judged_as}
 
@@ -32,6 +34,9 @@ module _ {Q : Type 0} (M : Meaning Q) (q : Q) (R : Log) (pin : Pin) where
     pub judged : HasJudged M q R pin from s
     pub taken : HasTaken M q R pin s (length s.kept.items) at
     pub heads_read : s.heads_read ≤ length s.kept.items
+    pub pages : ArePages R from judged.walk (first_items (length s.kept.items) s.kept.items) (take at s.long.items)
+        s.pages_read
+    pub had : HadTaken M q R pin (first_items (length s.kept.items) s.kept.items) s.long.items
 
   reads_none : (from : ℕ) (s : ScanCore) (l : LongVector) (page left : ℕ) → l.first ≡ page → s.bytes.items ≡ []
       → left ≡ s.extent → ReadsParts R from s l page left
@@ -57,6 +62,9 @@ module _ {Q : Type 0} (M : Meaning Q) (q : Q) (R : Log) (pin : Pin) where
           (λ m e. reads_none b.from z m l.first s.extent
               (ap (λ (v : LongVector). v.first) (one_some m l (sym e ∙ there))) none refl),
           b.heads_read,
+          fewer_pages R b.from b.judged.walk (first_items (length s.kept.items) s.kept.items) (take at s.long.items)
+              s.pages_read (s.pages_read - (s.extent - s.extent)) (omega arith) b.pages,
+          b.had,
         );
       })
   begun_long s s' at b (BeginsLong.end past order up same) =
@@ -77,6 +85,9 @@ module _ {Q : Type 0} (M : Meaning Q) (q : Q) (R : Log) (pin : Pin) where
               (drop_all at s.long.items past) (b.taken H h)))),
           b.heads_read,
           up,
+          subst (λ (ls : List LongVector). ArePages R b.from b.judged.walk
+              (first_items (length s.kept.items) s.kept.items) ls s.pages_read) (take_all at s.long.items past) b.pages,
+          b.had,
         );
       })
 

@@ -1,5 +1,5 @@
 -- A part of a long vector is read, its document is taken, or the heads are ended.
-use Rattle.std.proofs.Common.{◌≡◌, ◌≢◌, ℕ, zero, suc, ◌+◌, ◌-◌, ◌*◌, ◌^◌, ◌<◌, ◌≤◌, Bool, true, false, ◌++◌, length}
+use Rattle.std.proofs.Common.{◌≡◌, ◌≢◌, ℕ, zero, suc, ◌+◌, ◌-◌, ◌*◌, ◌^◌, ◌<◌, ◌≤◌, Bool, true, false, [], ◌++◌, length}
 use Rattle.std.proofs.Common.{refl, sym, ap, subst}
 use Rattle.std.proofs.Common.{◌∙◌, arith}
 use Rattle.disk_trait.specs.declared.device.Disk.{Ghosts as Disk}
@@ -15,6 +15,9 @@ use Rattle.buffer_frames.specs.declared.frame_error.FrameError.{FrameError}
 use Rattle.buffer_frames.specs.declared.pass.Pass.{Pass}
 use Rattle.gin_scan.specs.Calls.{ReadsOn}
 use Rattle.gin_scan.specs.Causes.{CannotRead, CannotStep, HasPart, IsLawfulRefusal}
+use Rattle.gin_scan.specs.Held.{ArePages}
+use Rattle.gin_scan.specs.Reaching.{IsReached}
+use Rattle.gin_scan.specs.Taking.{AreTaken, first_items}
 use Rattle.gin_scan.specs.Scanning.{IsScan, IsWithin, HasTaken, HasRead, IsScanOf, stages_left, steps_of, steps_left}
 use Rattle.gin_scan.specs.Inner.Parts.{IsReadUp, BeginsLong, AddedIf, AddsIfTold}
 use Rattle.gin_scan.specs.Inner.Steps.{MayStep, HasStepped}
@@ -26,6 +29,7 @@ use Rattle.gin_scan.proofs.LongBegun.{IsBefore, begun_long, long_scan, long_keys
 use Rattle.gin_scan.proofs.LongBegun.{lower_first}
 use Rattle.gin_scan.proofs.PartsTaken.{part_read, matched, next_part}
 use Rattle.gin_scan.proofs.ReadCalls.{still_reads}
+use Rattle.gin_scan.proofs.Reached.{reached_still, met_as, long_as, parts_more, begun_reached}
 use Rattle.gin_scan.proofs.Refused.{never_bad, part_used}
 use Rattle.gin_scan.proofs.StepsTaken.{stepped_by}
 
@@ -53,10 +57,13 @@ module _ {Q D : Type 0} (device : Disk D) (M : Meaning Q) (q : Q) (f : FramesVal
 
     -- a part is read
     pub part_stepped : (f' : FramesValue D) (pass' : Pass) (s' : ScanCore) (c : Page) → page ≢ 0 → left ≢ 0
-        → IsPage c → Lies f page c → s'.bytes.items ≡ s.bytes.items ++ part_of c
-        → s' ≡ record s { bytes = s'.bytes; stage = stage.Parts at (rightward c) (left - 1) }
-        → ReadsOn device f pass f' pass' → HasStepped device M q s f' pass' s'
-    part_stepped f' pass' s' c some more page_is lies bytes same reads =
+        → IsPage c → Lies f page c → s'.bytes.items ≡ s.bytes.items ++ part_of c → s'.pages_read ≤ suc s.pages_read
+        → s' ≡ record s {
+          bytes = s'.bytes;
+          stage = stage.Parts at (rightward c) (left - 1);
+          pages_read = s'.pages_read;
+        } → HasPart c → ReadsOn device f pass f' pass' → HasStepped device M q f s f' pass' s'
+    part_stepped f' pass' s' c some more page_is lies bytes one same has reads =
         let was = may.scanning.is_scan in
         let new : steps_left s' ≡ 1 * 2 ^ 98 + ((length s.long.items - at) * 2 ^ 33 + (left - 1)) =
         ap steps_left same in
@@ -68,12 +75,25 @@ module _ {Q D : Type 0} (device : Disk D) (M : Meaning Q) (q : Q) (f : FramesVal
         (step_passed 1 ((length s.long.items - at) * 2 ^ 33 + left) ((length s.long.items - at) * 2 ^ 33 + (left - 1))
         (2 ^ 98) (omega (arith, stays_below left more)))))
         (λ R pin known p o. part_read M q device f R pin known s s' at page left c is some more page_is lies bytes
-        same o)
+        one within same o)
+        (λ z.
+        let r = subst (IsReached M q f s) is z in
+        let last : ScanCore = record s {
+          bytes = s'.bytes;
+          stage = stage.Parts at (rightward c) (left - 1);
+          pages_read = s'.pages_read;
+        } in
+        subst (λ (x : ScanCore). IsReached M q f' x x.stage) (sym same)
+        (reached_still f f' reads.lying M q last (stage.Parts at (rightward c) (left - 1)) (
+          met_as M q f s last refl r.0,
+          long_as M q f s last refl refl r.1,
+          (λ l e. parts_more f l.first page c (r.2 l e) some page_is lies has),
+        )))
 
     -- all were read, and its document is taken or not
     pub match_stepped : (s1 s' : ScanCore) (next : ℕ) → next ≡ suc at
         → IsReadUp s at page left → AddsIfTold (M.satisfies q) s at s1 → BeginsLong s1 next s'
-        → HasStepped device M q s f pass s'
+        → HasStepped device M q f s f pass s'
     match_stepped s1 s' next after up t begins =
         let added : s1 ≡ record s { names = s1.names } = names_were t.answer t.added in
         let scan1 : IsScan s1 = subst IsScan (sym added) (record {
@@ -92,6 +112,12 @@ module _ {Q D : Type 0} (device : Disk D) (M : Meaning Q) (q : Q) (f : FramesVal
         (subst (λ ls. steps_left s' < 1 * 2 ^ 98 + ((length ls.items - at) * 2 ^ 33 + left)) long low))
         (λ R pin known p o. begun_long M q R pin s1 s' next
         (matched M q device f R pin known s s1 at page left next t up o after is) begins)
+        (λ z.
+        let r = subst (IsReached M q f s) is z in
+        begun_reached M q f s1 s' next
+        (met_as M q f s s1 (ap (λ (x : ScanCore). x.kept.items) added) r.0)
+        (long_as M q f s s1 (ap (λ (x : ScanCore). x.kept.items) added) (ap (λ (x : ScanCore). x.long.items) added)
+        r.1) begins)
       where
         names_were : (b : Bool) → AddedIf s t.waits b s1 → s1 ≡ record s { names = s1.names }
         names_were true x = x.1
@@ -99,7 +125,7 @@ module _ {Q D : Type 0} (device : Disk D) (M : Meaning Q) (q : Q) (f : FramesVal
 
   -- all heads were read
   pub heads_ended : (at : ℕ) (s' : ScanCore) → s.stage ≡ stage.Heads at → length s.kept.items ≤ at
-      → BeginsLong s 0 s' → HasStepped device M q s f pass s'
+      → BeginsLong s 0 s' → HasStepped device M q f s f pass s'
   heads_ended at s' is past begins =
       let old : steps_left s ≡ 2 * 2 ^ 98 + (length s.kept.items - at) =
       ap (λ (z : Stage). stages_left z * 2 ^ 98 + steps_of s z) is in
@@ -108,6 +134,7 @@ module _ {Q D : Type 0} (device : Disk D) (M : Meaning Q) (q : Q) (f : FramesVal
       (subst (λ (n : ℕ). steps_left s' < n) (sym old)
       (lower_first s s' (length s.kept.items - at) begins))
       (λ R pin known p o. begun_long M q R pin s s' 0 (before R pin o) begins)
+      (λ z. let r = subst (IsReached M q f s) is z in begun_reached M q f s s' 0 r.0 r.1 begins)
     where
       before : (R : Log) (pin : Pin) → IsScanOf M q R pin s → IsBefore M q R pin s 0
       before R pin o =
@@ -122,4 +149,11 @@ module _ {Q D : Type 0} (device : Disk D) (M : Meaning Q) (q : Q) (f : FramesVal
             judged = had.0;
             taken = subst (λ (n : ℕ). HasTaken M q R pin s n 0) same had.1;
             heads_read = omega (arith, had.2, same);
+            pages = subst (λ (n : ℕ). ArePages R o.from had.0.walk (first_items n s.kept.items) [] s.pages_read) same
+                had.3;
+            had = record {
+              names = s.names.items;
+              taken = λ H h. subst (λ (n : ℕ). AreTaken (M.satisfies q) R pin H (first_items n s.kept.items)
+                  s.names.items s.long.items) same (had.1 H h);
+            };
           }

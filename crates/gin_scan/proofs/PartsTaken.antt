@@ -1,6 +1,6 @@
 -- A part of a long vector more is read, or its document is taken once all were.
 use Rattle.std.proofs.Common.{◌≡◌, ◌≢◌, ℕ, zero, suc, ◌-◌, ◌<◌, ◌≤◌, Bool, true, false, List, [], ◌∷◌, ◌++◌, length}
-use Rattle.std.proofs.Common.{drop}
+use Rattle.std.proofs.Common.{take, drop}
 use Rattle.std.proofs.Common.{Some, refl, sym, ap, subst, ◌∙◌, inl, arith, slice_get, append-nil, append_assoc}
 use Rattle.std.proofs.Common.{length-append}
 use Rattle.disk_trait.specs.declared.device.Disk.{Ghosts as Disk}
@@ -20,12 +20,14 @@ use Rattle.buffer_frames.proofs.FirstLogs.{shown_by}
 use Rattle.gin_scan.specs.Causes.{HasPart}
 use Rattle.gin_scan.specs.Reading.{ReadsParts, parts_read}
 use Rattle.gin_scan.specs.Taking.{AreTaken, first_items}
+use Rattle.gin_scan.specs.Held.{ArePages}
 use Rattle.gin_scan.specs.Scanning.{HasTaken, HasRead, IsScanOf}
 use Rattle.gin_scan.specs.Inner.Parts.{IsReadUp, AddedIf, AddsIfTold}
 use Rattle.gin_scan.specs.declared.scan_core.ScanCore.{ScanCore}
 use Rattle.gin_scan.specs.declared.stage.LongVector.{LongVector}
 use Rattle.gin_scan.specs.declared.stage.Stage.TheVariants as stage
 use Rattle.gin_scan.proofs.Growing.{reads_more, lead_more}
+use Rattle.gin_scan.proofs.HeldPages.{fewer_pages, chain_pages}
 use Rattle.gin_scan.proofs.ListRead.{now, read_now}
 use Rattle.gin_scan.proofs.LongTaken.{yes_taken, no_taken}
 use Rattle.gin_scan.proofs.LongBegun.{IsBefore}
@@ -54,6 +56,11 @@ from_place {A} (y ∷ ys) zero (suc m) x e at =
 from_place {A} (y ∷ ys) (suc n) zero x e at = absurd (omega (arith, e))
 from_place {A} (y ∷ ys) (suc n) (suc m) x e at = from_place ys n m x (omega (arith, e)) at
 
+element_at : (xs : List LongVector) (k : ℕ) → k < length xs → (x : LongVector) × (slice_get xs k ≡ Some x)
+element_at [] k l = absurd (omega (arith, l))
+element_at (x ∷ xs) zero l = (x, refl)
+element_at (x ∷ xs) (suc k) l = element_at xs k (omega (arith, l))
+
 module _ {Q D : Type 0} (M : Meaning Q) (q : Q) (device : Disk D) (f : FramesValue D) (R : Log) (pin : Pin)
     (known : Known device f R pin) where
   P : (P : Pages) × Shows R P
@@ -76,11 +83,21 @@ module _ {Q D : Type 0} (M : Meaning Q) (q : Q) (device : Disk D) (f : FramesVal
 
   pub part_read : (s s' : ScanCore) (at page left : ℕ) (c : Page) → s.stage ≡ stage.Parts at page left → page ≢ 0
       → left ≢ 0 → IsPage c → Lies f page c → s'.bytes.items ≡ s.bytes.items ++ part_of c
-      → s' ≡ record s { bytes = s'.bytes; stage = stage.Parts at (rightward c) (left - 1) }
-      → IsScanOf M q R pin s → IsScanOf M q R pin s'
-  part_read s s' at page left c is some more page_is lies bytes same o =
+      → s'.pages_read ≤ suc s.pages_read → at < length s.long.items
+      → s' ≡ record s {
+        bytes = s'.bytes;
+        stage = stage.Parts at (rightward c) (left - 1);
+        pages_read = s'.pages_read;
+      } → IsScanOf M q R pin s → IsScanOf M q R pin s'
+  part_read s s' at page left c is some more page_is lies bytes one there same o =
       let had = subst (HasRead M q R pin o.from s) is o.read in
-      let z : ScanCore = record s { bytes = s'.bytes; stage = stage.Parts at (rightward c) (left - 1) } in
+      let z : ScanCore = record s {
+        bytes = s'.bytes;
+        stage = stage.Parts at (rightward c) (left - 1);
+        pages_read = s'.pages_read;
+      } in
+      let l = element_at s.long.items at there in
+      let all = (had.2 l.0 l.1).left_is in
       subst (λ (x : ScanCore). IsScanOf M q R pin x) (sym same) (record {
         from = o.from;
         since = o.since;
@@ -91,6 +108,10 @@ module _ {Q D : Type 0} (M : Meaning Q) (q : Q) (device : Disk D) (f : FramesVal
           had.1,
           (λ l e. part_more o.from s z l page left c o.within some more page_is lies bytes refl (had.2 l e)),
           had.3,
+          fewer_pages R o.from had.0.walk (first_items (length s.kept.items) s.kept.items) (take at s.long.items)
+              (s.pages_read - (s.extent - left)) (s'.pages_read - (s.extent - (left - 1)))
+              (omega (arith, one, all, some_left left more)) had.4,
+          had.5,
         );
       })
 
@@ -139,6 +160,7 @@ module _ {Q D : Type 0} (M : Meaning Q) (q : Q) (device : Disk D) (f : FramesVal
     matched is =
         let had = subst (HasRead M q R pin o.from s) is o.read in
         let same = names_added t.answer t.added in
+        let r = had.2 t.waits t.is_there in
         let then : Then s1 = taken_by t.answer refl had.1 (had.2 t.waits t.is_there) t.added in
         subst (λ (z : ScanCore). IsBefore M q R pin z next) (sym same) (record {
           from = o.from;
@@ -148,14 +170,15 @@ module _ {Q D : Type 0} (M : Meaning Q) (q : Q) (device : Disk D) (f : FramesVal
           judged = judged_as M q R pin o.from s (record s { names = s1.names }) refl had.0;
           taken = then;
           heads_read = had.3;
+          pages = subst (λ (n : ℕ). ArePages R o.from had.0.walk (first_items (length s.kept.items) s.kept.items)
+              (take n s.long.items) s.pages_read) (sym after)
+              (chain_pages R o.from had.0.walk (first_items (length s.kept.items) s.kept.items) s.long.items at
+              (s.pages_read - (s.extent - left)) s.pages_read t.waits r.pages page t.is_there r.leads r.reads
+              (omega (arith, r.left_is)) had.4);
+          had = had.5;
         })
 
   -- ── no bad page ──
-
-  element_at : (xs : List LongVector) (k : ℕ) → k < length xs → (x : LongVector) × (slice_get xs k ≡ Some x)
-  element_at [] k l = absurd (omega (arith, l))
-  element_at (x ∷ xs) zero l = (x, refl)
-  element_at (x ∷ xs) (suc k) l = element_at xs k (omega (arith, l))
 
   -- the page that is next has a part
   pub next_part : (s : ScanCore) (at page left : ℕ) → s.stage ≡ stage.Parts at page left → at < length s.long.items

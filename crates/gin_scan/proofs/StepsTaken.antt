@@ -14,6 +14,7 @@ use Rattle.gin_opclass.specs.declared.QueryKeys.{QueryKeys}
 use Rattle.gin_scan.specs.Rows.{asked_by}
 use Rattle.gin_scan.specs.Calls.{ReadsOn}
 use Rattle.gin_scan.specs.Sides.{AreKept}
+use Rattle.gin_scan.specs.Reaching.{IsReached}
 use Rattle.gin_scan.specs.Scanning.{IsScan, HasJudged, IsScanning, IsScanOf, Scanning, steps_left}
 use Rattle.gin_scan.specs.Inner.Steps.{MayStep, HasStepped}
 use Rattle.gin_scan.specs.declared.scan_core.ScanCore.{ScanCore}
@@ -60,8 +61,9 @@ pub stepped_by : {D Q : Type 0} (device : Disk D) (M : Meaning Q) (q : Q) (f f' 
     → s'.keys ≡ s.keys → s'.snapshot ≡ s.snapshot → steps_left s' < steps_left s
     → ((R : Log) (pin : Pin) → Known device f R pin → pin_in pass.pin ≡ Some pin → IsScanOf M q R pin s
     → IsScanOf M q R pin s')
-    → HasStepped device M q s f' pass' s'
-stepped_by device M q f f' pass pass' s s' may reads is_scan keys snapshot lower step = record {
+    → (IsReached M q f s s.stage → IsReached M q f' s' s'.stage)
+    → HasStepped device M q f s f' pass' s'
+stepped_by device M q f f' pass pass' s s' may reads is_scan keys snapshot lower step reached = record {
   scanning = record {
     is_pass = reads.is_pass;
     held = reads.held;
@@ -77,6 +79,7 @@ stepped_by device M q f f' pass pass' s s' may reads is_scan keys snapshot lower
   walk = step_taken device M q f f' pass pass' s s' may.scanning.is_pass (none_added device f f' reads.adds) reads.pin
       step may.walk;
   lower = lower;
+  reached = reached;
 }
 
 -- the pin is the scan's
@@ -90,7 +93,7 @@ own_pin f pass s pin is e =
     one_some a b h = cc
 
 -- what was judged is so of a scan with the same kept items
-pub judged_as : {Q : Type 0} (M : Meaning Q) (q : Q) (R : Log) (pin : Pin) (from : ℕ) (s s' : ScanCore)
+abbrev pub judged_as : {Q : Type 0} (M : Meaning Q) (q : Q) (R : Log) (pin : Pin) (from : ℕ) (s s' : ScanCore)
     → s'.kept.items ≡ s.kept.items → HasJudged M q R pin from s → HasJudged M q R pin from s'
 judged_as M q R pin from s s' same j = record {
   walk = j.walk;

@@ -3,9 +3,11 @@ pub mod Sides
 pub mod Seen
 pub mod Reading
 pub mod Taking
+pub mod Held
 pub mod Scanning
 pub mod Counting
 pub mod Causes
+pub mod Reaching
 pub mod Finding
 pub mod Calls
 pub mod TextScans

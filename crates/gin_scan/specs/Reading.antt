@@ -1,5 +1,5 @@
 -- What a scan has read: a walk that is open at its end, and parts of a long vector.
-use Rattle.std.specs.Prelude.{◌≡◌, ℕ, ◌+◌, Bool, true, false, List, [], ◌∷◌, None, length}
+use Rattle.std.specs.Prelude.{◌≡◌, ℕ, suc, ◌+◌, ◌≤◌, Bool, true, false, List, [], ◌∷◌, None, length}
 use Rattle.std.specs.List.{All, flat_map}
 use Rattle.page_types.specs.Views.{first_of, part_of}
 use Rattle.core_state.specs.Log.{Log}
@@ -36,26 +36,32 @@ pub record IsUnread (s : ScanCore) : Type 0 where
   pub not_begun : s.has_begun ≡ false
   pub first : s.first_item ≡ None
   pub unjudged : IsUnjudged s
+  pub pages_read : s.pages_read ≡ 0
 
 -- whether a page was read
 abbrev pub has_read : List Read → Bool
 has_read [] = false
 has_read (x ∷ xs) = true
 
--- The metapage and pages of the list were read, up to this page, at lengths of the log from this one
--- on; so many may still be read. What the scan keeps is computed from them.
-pub record ReadsList (R : Log) (from : ℕ) (asked : List Asked) (s : ScanCore) (page left : ℕ)
+-- The metapage and pages of the list were read so, up to this page; so many may still be read. What the scan
+-- keeps is computed from them.
+pub record ReadsListBy (WereRead : List Read → Type 0) (asked : List Asked) (s : ScanCore) (page left : ℕ)
     : Type 0 where
   pub meta : Read
   pub pending : List Read
   pub meta_page : meta.page ≡ 0
   pub leads : LeadOn (first_of meta.content) pending page
-  pub reads : AreReads R from (meta ∷ pending)
+  pub reads : WereRead (meta ∷ pending)
   pub noted : AreNoted asked (rows_read pending) s.pending
   pub begun : s.has_begun ≡ has_read pending
   pub first : s.first_item ≡ first_read pending
   pub unjudged : IsUnjudged s
   pub left_is : left + length pending ≡ s.extent
+  pub pages_read : s.pages_read ≤ suc (length pending)
+
+-- at lengths of the log from this one on
+abbrev pub ReadsList : Log → ℕ → List Asked → ScanCore → ℕ → ℕ → Type 0
+ReadsList R from = ReadsListBy (AreReads R from)
 
 -- the parts on these pages, one after another
 abbrev pub parts_read : List Read → List ℕ

@@ -1,11 +1,13 @@
 -- A scan as it goes on.
-use Rattle.std.specs.Prelude.{◌≡◌, ◌≢◌, ℕ, ◌+◌, ◌-◌, ◌*◌, ◌^◌, ◌<◌, ◌≤◌, ⊤, false, List, length, map, drop, Some}
+use Rattle.std.specs.Prelude.{◌≡◌, ◌≢◌, ℕ, ◌+◌, ◌-◌, ◌*◌, ◌^◌, ◌<◌, ◌≤◌, ⊤, false, Bool, List, []}
+use Rattle.std.specs.Prelude.{length, map, take, drop, Some}
 use Rattle.std.specs.List.{slice_get}
 use Rattle.std.specs.List.Sorted.{IsNonDecreasingBy}
 use Rattle.disk_trait.specs.declared.device.Disk.{Ghosts as Disk}
 use Rattle.page_types.specs.declared.page.Name.{Name}
 use Rattle.page_types.specs.declared.page.Body.TheVariants as body
-use Rattle.core_state.specs.Log.{Log, Pages, Shows, cut}
+use Rattle.core_state.specs.Log.{Log, Pages, In, Shows, cut}
+use Rattle.core_state.specs.Documents.{page_of}
 use Rattle.core_state.specs.History.{History, IsHistory}
 use Rattle.core_state.specs.Legal.{Pin}
 use Rattle.core_state.specs.Steady.{LeavesIndex}
@@ -21,6 +23,7 @@ use Rattle.gin_scan.specs.Rows.{asked_by}
 use Rattle.gin_scan.specs.Sides.{AreKept}
 use Rattle.gin_scan.specs.Reading.{IsNoHit, IsUnread, ReadsList, ReadsParts}
 use Rattle.gin_scan.specs.Taking.{AreTaken, first_items}
+use Rattle.gin_scan.specs.Held.{ArePages}
 use Rattle.gin_scan.specs.declared.scan_core.ScanCore.{ScanCore}
 use Rattle.gin_scan.specs.declared.stage.Stage.{Stage}
 use Rattle.gin_scan.specs.declared.stage.Stage.TheVariants as stage
@@ -117,18 +120,35 @@ module _ {Q : Type 0} (M : Meaning Q) (q : Q) (R : Log) (pin : Pin) where
   ReadsLong from s at page left =
       (l : LongVector) → slice_get s.long.items at ≡ Some l → ReadsParts R from s l page left
 
+  -- all these vectors waited once
+  pub record HadTaken (items : List ℕ) (long : List LongVector) : Type 0 where
+    pub names : List Name
+    pub taken : (H : History) → IsHistory R H → AreTaken (M.satisfies q) R pin H items names long
+
+  -- the first so many kept items are on earlier pages than the others
+  abbrev pub AreBefore : ScanCore → ℕ → Type 0
+  AreBefore s at =
+      (i : ℕ) (k : ℕ × Bool) → In i (first_items at s.kept.items) → slice_get s.kept.items at ≡ Some k
+      → page_of i < page_of k.0
+
   -- what was read, and what is kept of it, by what is read next
   abbrev pub HasRead : ℕ → ScanCore → Stage → Type 0
   HasRead from s stage.Meta = IsUnread s
   HasRead from s (stage.Pending page left) = ReadsList R from (M.asked q) s page left
   HasRead from s (stage.Heads at) =
-      HasJudged from s × HasTaken s at 0 × (s.heads_read ≤ at)
+      (j : HasJudged from s) × HasTaken s at 0 × (s.heads_read ≤ at)
+      × ArePages R from j.walk (first_items at s.kept.items) [] s.pages_read × AreBefore s at
   HasRead from s (stage.Parts at page left) =
-      HasJudged from s × HasTaken s (length s.kept.items) at × ReadsLong from s at page left
+      (j : HasJudged from s) × HasTaken s (length s.kept.items) at × ReadsLong from s at page left
       × (s.heads_read ≤ length s.kept.items)
+      × ArePages R from j.walk (first_items (length s.kept.items) s.kept.items) (take at s.long.items)
+      (s.pages_read - (s.extent - left))
+      × HadTaken (first_items (length s.kept.items) s.kept.items) s.long.items
   HasRead from s stage.Done =
-      HasJudged from s × HasTaken s (length s.kept.items) (length s.long.items)
+      (j : HasJudged from s) × HasTaken s (length s.kept.items) (length s.long.items)
       × (s.heads_read ≤ length s.kept.items) × IsNonDecreasingBy (λ (name : Name). name.serial) s.names.items
+      × ArePages R from j.walk (first_items (length s.kept.items) s.kept.items) s.long.items s.pages_read
+      × HadTaken (first_items (length s.kept.items) s.kept.items) s.long.items
 
   -- What was read was read at rising lengths of the log, from one on that is at least the pin's. Below the
   -- extent are all pages that a record had changed by then.

@@ -1,8 +1,8 @@
 // What a scan has found.
 use page_types::Name;
 
-/// What a scan has found: the names of the snapshot's documents that satisfy the query, by serial; and
-/// how many heads it read, of how many documents that the judge did not leave out.
+/// What a scan has found: the names of the snapshot's documents that satisfy the query, by serial; how
+/// many heads it read, of how many documents that the judge did not leave out; and how many pages.
 #[derive(Debug, Drop)]
 pub struct Found {
     /// The names, by serial.
@@ -11,4 +11,6 @@ pub struct Found {
     pub heads_read: u64,
     /// How many documents the judge did not leave out.
     pub candidates: u64,
+    /// How many pages were read, each as often as it was held.
+    pub pages_read: u64,
 }

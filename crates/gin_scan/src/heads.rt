@@ -1,5 +1,6 @@
 // What a scan reads of heap pages.
-ghost use Rattle.std.specs.Prelude.{◌≡◌, ◌≢◌, ◌↔◌, ◌⊎◌, ℕ, ◌+◌, ◌<◌, ◌≤◌, Bool, List, Option, Some, [], ◌∷◌, length, slice_range, IsTrue, IfErr, OnOk};
+ghost use Rattle.std.specs.Prelude.{◌≡◌, ◌≢◌, ◌↔◌, ◌⊎◌, ℕ, ◌+◌, ◌<◌, ◌≤◌, Bool, List, Option, Some, [], ◌∷◌};
+ghost use Rattle.std.specs.Prelude.{length, slice_range, IsTrue, IfErr, OnOk};
 ghost use Rattle.std.specs.List.{slice_get};
 ghost use Rattle.page_types.specs.Parts.{head_shown};
 ghost use Rattle.core_state.specs.Documents as documents;
@@ -10,7 +11,7 @@ ghost use Rattle.gin_scan.specs.Causes.{HasSlots};
 
 use crate::asks::{SeenHeads, page_of, slot_of};
 use crate::check::Check;
-use crate::scan_core::{ScanCore, hold_page, satisfies};
+use crate::scan_core::{ScanCore, hold_page, one_more, satisfies};
 use crate::stage::{LongVector, Stage};
 use buffer_frames::{FrameError, Frames, Pass};
 use disk_trait::Disk;
@@ -35,6 +36,8 @@ fn end_of_page(kept: &[(u32, bool)], from: usize, page: u32) -> usize
         → slice_get kept.now k ≡ Some (item, sure) → documents.page_of item ≡ page }
     ensures more { (item : ℕ) (sure : Bool) → slice_get kept.now from ≡ Some (item, sure)
         → documents.page_of item ≡ page → from < result }
+    ensures next { (k : ℕ × Bool) → slice_get kept.now result ≡ Some k
+        → documents.page_of k.0 ≡ page → ⊥ }
 {
     let mut end = from;
     while end < kept.len() && page_of(kept[end].0) == page {
@@ -233,8 +236,8 @@ impl ScanCore {
         ensures serves { J.serves work.new query.now }
         ensures took { self.new.took_pin ≡ self.old.took_pin }
         ensures stepped { OnOk result
-            (HasStepped D.Disk (meaning W.asked W.all W.satisfies W.judged) query.now self.old
-            frames.new pass.new self.new) }
+            (HasStepped D.Disk (meaning W.asked W.all W.satisfies W.judged) query.now frames.old
+            self.old frames.new pass.new self.new) }
         ensures counted { OnOk result (CountsOn self.old pass.old.holds self.new pass.new.holds) }
         ensures reads { ReadsOn D.Disk frames.old pass.old frames.new pass.new }
         ensures fault { HoldHasCause D.Disk frames.old.journal frames.new.journal result }
@@ -250,6 +253,7 @@ impl ScanCore {
         );
         frames.release(pass, held);
         read?;
+        self.pages_read = one_more(self.pages_read);
         self.stage = Stage::Heads { at: end };
         Ok(())
     }
@@ -272,8 +276,8 @@ impl ScanCore {
         ensures serves { J.serves work.new query.now }
         ensures took { self.new.took_pin ≡ self.old.took_pin }
         ensures stepped { OnOk result
-            (HasStepped D.Disk (meaning W.asked W.all W.satisfies W.judged) query.now self.old
-            frames.new pass.new self.new) }
+            (HasStepped D.Disk (meaning W.asked W.all W.satisfies W.judged) query.now frames.old
+            self.old frames.new pass.new self.new) }
         ensures counted { OnOk result (CountsOn self.old pass.old.holds self.new pass.new.holds) }
         ensures reads { ReadsOn D.Disk frames.old pass.old frames.new pass.new }
         ensures fault { HoldHasCause D.Disk frames.old.journal frames.new.journal result }

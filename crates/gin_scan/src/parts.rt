@@ -1,5 +1,6 @@
 // What a scan reads of long vectors, and the end of a scan.
-ghost use Rattle.std.specs.Prelude.{◌≡◌, ◌≢◌, ◌↔◌, ◌⊎◌, ℕ, ◌+◌, ◌<◌, ◌≤◌, ◌++◌, length, true, IsTrue, Some, IfOk, IfErr, OnOk};
+ghost use Rattle.std.specs.Prelude.{◌≡◌, ◌≢◌, ◌↔◌, ◌⊎◌, ℕ, ◌+◌, ◌<◌, ◌≤◌, ◌++◌, length, true};
+ghost use Rattle.std.specs.Prelude.{IsTrue, Some, IfOk, IfErr, OnOk};
 ghost use Rattle.std.specs.List.{slice_get};
 ghost use Rattle.std.specs.List.Sorted.{IsPermutation, IsNonDecreasingBy};
 ghost use Rattle.page_types.specs.Views.{part_of};
@@ -10,7 +11,7 @@ ghost use Rattle.gin_opclass.specs.Class.{meaning};
 ghost use Rattle.gin_scan.specs.Causes.{HasPart};
 
 use crate::check::Check;
-use crate::scan_core::{ScanCore, hold_page, satisfies};
+use crate::scan_core::{ScanCore, hold_page, one_more, satisfies};
 use crate::stage::Stage;
 use buffer_frames::{FrameError, Frames, Pass};
 use disk_trait::Disk;
@@ -90,7 +91,7 @@ impl ScanCore {
             × (length self.old.kept.items ≤ at) }
         ensures took { self.new.took_pin ≡ self.old.took_pin }
         ensures stepped { HasStepped D.Disk (meaning W.asked W.all W.satisfies W.judged) query.now
-            self.old frames.now pass.now self.new }
+            frames.now self.old frames.now pass.now self.new }
         ensures counted { CountsOn self.old pass.now.holds self.new pass.now.holds }
     {
         let _ = frames;
@@ -126,8 +127,8 @@ impl ScanCore {
         requires more { IsReadUp self.old at page left → ⊥ }
         ensures took { self.new.took_pin ≡ self.old.took_pin }
         ensures stepped { OnOk result
-            (HasStepped D.Disk (meaning W.asked W.all W.satisfies W.judged) query.now self.old
-            frames.new pass.new self.new) }
+            (HasStepped D.Disk (meaning W.asked W.all W.satisfies W.judged) query.now frames.old
+            self.old frames.new pass.new self.new) }
         ensures counted { OnOk result (CountsOn self.old pass.old.holds self.new pass.new.holds) }
         ensures reads { ReadsOn D.Disk frames.old pass.old frames.new pass.new }
         ensures fault { HoldHasCause D.Disk frames.old.journal frames.new.journal result }
@@ -139,6 +140,7 @@ impl ScanCore {
         let held = hold_page(frames, pass, page)?;
         let right = add_part_of(held.page(), page, &mut self.bytes);
         frames.release(pass, held);
+        self.pages_read = one_more(self.pages_read);
         self.stage = Stage::Parts {
             at,
             page: right?,
@@ -189,8 +191,8 @@ impl ScanCore {
         ensures serves { J.serves work.new query.now }
         ensures took { self.new.took_pin ≡ self.old.took_pin }
         ensures stepped { OnOk result
-            (HasStepped D.Disk (meaning W.asked W.all W.satisfies W.judged) query.now self.old
-            frames.now pass.now self.new) }
+            (HasStepped D.Disk (meaning W.asked W.all W.satisfies W.judged) query.now frames.now
+            self.old frames.now pass.now self.new) }
         ensures counted { OnOk result (CountsOn self.old pass.now.holds self.new pass.now.holds) }
     {
         let _ = frames;
@@ -219,8 +221,8 @@ impl ScanCore {
         ensures serves { J.serves work.new query.now }
         ensures took { self.new.took_pin ≡ self.old.took_pin }
         ensures stepped { OnOk result
-            (HasStepped D.Disk (meaning W.asked W.all W.satisfies W.judged) query.now self.old
-            frames.new pass.new self.new) }
+            (HasStepped D.Disk (meaning W.asked W.all W.satisfies W.judged) query.now frames.old
+            self.old frames.new pass.new self.new) }
         ensures counted { OnOk result (CountsOn self.old pass.old.holds self.new pass.new.holds) }
         ensures reads { ReadsOn D.Disk frames.old pass.old frames.new pass.new }
         ensures fault { HoldHasCause D.Disk frames.old.journal frames.new.journal result }

@@ -9,7 +9,7 @@ ghost use Rattle.gin_scan.specs.Causes.{HasMeta, HasRows};
 
 use crate::asks::Extent;
 use crate::judged::{add_kept, items_of};
-use crate::scan_core::{ScanCore, hold_page};
+use crate::scan_core::{ScanCore, hold_page, one_more};
 use crate::stage::Stage;
 use buffer_frames::{FrameError, Frames, Pass};
 use disk_trait::Disk;
@@ -77,8 +77,8 @@ impl ScanCore {
         requires stage { self.old.stage ≡ stages.Meta }
         ensures took { self.new.took_pin ≡ self.old.took_pin }
         ensures stepped { OnOk result
-            (HasStepped D.Disk (meaning W.asked W.all W.satisfies W.judged) query.now self.old
-            frames.new pass.new self.new) }
+            (HasStepped D.Disk (meaning W.asked W.all W.satisfies W.judged) query.now frames.old
+            self.old frames.new pass.new self.new) }
         ensures counted { OnOk result (CountsOn self.old pass.old.holds self.new pass.new.holds) }
         ensures reads { ReadsOn D.Disk frames.old pass.old frames.new pass.new }
         ensures fault { HoldHasCause D.Disk frames.old.journal frames.new.journal result }
@@ -90,6 +90,7 @@ impl ScanCore {
         let held = hold_page(frames, pass, 0)?;
         let first = first_pending(held.page(), 0);
         frames.release(pass, held);
+        self.pages_read = one_more(self.pages_read);
         self.stage = Stage::Pending {
             page: first?,
             left: self.extent,
@@ -151,8 +152,8 @@ impl ScanCore {
         requires more { left ≢ 0 }
         ensures took { self.new.took_pin ≡ self.old.took_pin }
         ensures stepped { OnOk result
-            (HasStepped D.Disk (meaning W.asked W.all W.satisfies W.judged) query.now self.old
-            frames.new pass.new self.new) }
+            (HasStepped D.Disk (meaning W.asked W.all W.satisfies W.judged) query.now frames.old
+            self.old frames.new pass.new self.new) }
         ensures counted { OnOk result (CountsOn self.old pass.old.holds self.new pass.new.holds) }
         ensures reads { ReadsOn D.Disk frames.old pass.old frames.new pass.new }
         ensures fault { HoldHasCause D.Disk frames.old.journal frames.new.journal result }
@@ -163,6 +164,7 @@ impl ScanCore {
         let held = hold_page(frames, pass, page)?;
         let right = self.note_rows(class, held.page(), page);
         frames.release(pass, held);
+        self.pages_read = one_more(self.pages_read);
         self.stage = Stage::Pending {
             page: right?,
             left: left - 1,
@@ -188,8 +190,8 @@ impl ScanCore {
         ensures serves { J.serves work.new query.now }
         ensures took { self.new.took_pin ≡ self.old.took_pin }
         ensures stepped { OnOk result
-            (HasStepped D.Disk (meaning W.asked W.all W.satisfies W.judged) query.now self.old
-            frames.now pass.now self.new) }
+            (HasStepped D.Disk (meaning W.asked W.all W.satisfies W.judged) query.now frames.now
+            self.old frames.now pass.now self.new) }
         ensures counted { OnOk result (CountsOn self.old pass.now.holds self.new pass.now.holds) }
     {
         let _ = frames;
@@ -247,8 +249,8 @@ impl ScanCore {
         ensures serves { J.serves work.new query.now }
         ensures took { self.new.took_pin ≡ self.old.took_pin }
         ensures stepped { OnOk result
-            (HasStepped D.Disk (meaning W.asked W.all W.satisfies W.judged) query.now self.old
-            frames.new pass.new self.new) }
+            (HasStepped D.Disk (meaning W.asked W.all W.satisfies W.judged) query.now frames.old
+            self.old frames.new pass.new self.new) }
         ensures counted { OnOk result (CountsOn self.old pass.old.holds self.new pass.new.holds) }
         ensures reads { ReadsOn D.Disk frames.old pass.old frames.new pass.new }
         ensures fault { HoldHasCause D.Disk frames.old.journal frames.new.journal result }
@@ -283,8 +285,8 @@ impl ScanCore {
         ensures serves { J.serves work.new query.now }
         ensures took { self.new.took_pin ≡ self.old.took_pin }
         ensures stepped { OnOk result
-            (HasStepped D.Disk (meaning W.asked W.all W.satisfies W.judged) query.now self.old
-            frames.new pass.new self.new) }
+            (HasStepped D.Disk (meaning W.asked W.all W.satisfies W.judged) query.now frames.old
+            self.old frames.new pass.new self.new) }
         ensures counted { OnOk result (CountsOn self.old pass.old.holds self.new pass.new.holds) }
         ensures reads { ReadsOn D.Disk frames.old pass.old frames.new pass.new }
         ensures fault { HoldHasCause D.Disk frames.old.journal frames.new.journal result }

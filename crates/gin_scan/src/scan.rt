@@ -1,5 +1,5 @@
 // A scan for a text query.
-ghost use Rattle.std.specs.Prelude.{◌≡◌, ◌↔◌, ◌<◌, true, false, None, Some, IfOk, IfErr, OnOk, OnErr};
+ghost use Rattle.std.specs.Prelude.{◌≡◌, ◌↔◌, ℕ, ◌+◌, ◌<◌, ◌≤◌, true, false, None, Some, IfOk, IfErr, OnOk, OnErr};
 ghost use Rattle.core_state.specs.Log.{Log};
 ghost use Rattle.core_state.specs.Legal.{Pin};
 ghost use Rattle.core_state.specs.Steady.{LeavesIndex};
@@ -14,6 +14,7 @@ ghost use Rattle.gin_scan.specs.Calls.{AddsNothing, LieStill, KeepsWork, ReadsOn
 ghost use Rattle.gin_scan.specs.Causes.{CannotStep, CannotBegin, IsLawfulRefusal};
 ghost use Rattle.gin_scan.specs.Counting.{IsCounted, CountsOn};
 ghost use Rattle.gin_scan.specs.Finding.{HasFound};
+ghost use Rattle.gin_scan.specs.Reaching.{IsReached};
 ghost use Rattle.gin_scan.specs.Scanning.{IsScanning, Scanning, IsAtEnd, steps_left};
 
 use crate::check::TextCheck;
@@ -50,6 +51,8 @@ impl<'q> Scan<'q> {
         ensures query { IfOk result (λ s. IsFor query.now s) }
         ensures walk { IfOk result (λ s. Scanning D.Disk (meaning asked_of reads_all Holds judged)
             query.now frames.new pass.new s.core) }
+        ensures reached { IfOk result (λ s. IsReached (meaning asked_of reads_all Holds judged)
+            query.now frames.new s.core s.core.stage) }
         ensures pinned { IfOk result (λ s. HasPinned frames.old frames.new pass.new s.core.snapshot) }
         ensures took { IfOk result (λ s. s.core.took_pin ≡ true) }
         ensures adds { AddsNothing D.Disk frames.old frames.new }
@@ -57,7 +60,7 @@ impl<'q> Scan<'q> {
         ensures keeps { KeepsWork pass.old pass.new }
         ensures holds { pass.new.holds ≡ pass.old.holds }
         ensures counted { IfOk result (λ s.
-            IsCounted pass.old.holds s.core pass.new.holds s.core.stage) }
+            IsCounted pass.old.holds s.core pass.new.holds) }
         ensures calm { IsCalm D.Disk frames.old.journal frames.new.journal }
 
         // The refusals: the pass has no snapshot.
@@ -88,6 +91,8 @@ impl<'q> Scan<'q> {
         ensures query { IfOk result (λ s. IsFor query.now s) }
         ensures walk { IfOk result (λ s. Scanning D.Disk (meaning asked_of reads_all Holds judged)
             query.now frames.new pass.new s.core) }
+        ensures reached { IfOk result (λ s. IsReached (meaning asked_of reads_all Holds judged)
+            query.now frames.new s.core s.core.stage) }
         ensures took { IfOk result (λ s. s.core.took_pin ≡ false) }
         ensures pin { pass.new.pin ≡ pass.old.pin }
         ensures pins { frames.new.pins ≡ frames.old.pins }
@@ -96,7 +101,7 @@ impl<'q> Scan<'q> {
         ensures keeps { KeepsWork pass.old pass.new }
         ensures holds { pass.new.holds ≡ pass.old.holds }
         ensures counted { IfOk result (λ s.
-            IsCounted pass.old.holds s.core pass.new.holds s.core.stage) }
+            IsCounted pass.old.holds s.core pass.new.holds) }
         ensures calm { IsCalm D.Disk frames.old.journal frames.new.journal }
         ensures is_pass { IsPassOf frames.new pass.new }
         ensures idle { pass.new.held ≡ 0 }
@@ -129,6 +134,11 @@ impl<'q> Scan<'q> {
             self.new.query.now frames.new pass.new self.new.core) }
         ensures counted { OnOk result (CountsOn self.old.core pass.old.holds self.new.core pass.new.holds) }
         ensures reads { ReadsOn D.Disk frames.old pass.old frames.new pass.new }
+        ensures reached { OnOk result (
+            IsReached (meaning asked_of reads_all Holds judged) self.old.query.now frames.old self.old.core
+            self.old.core.stage
+            → IsReached (meaning asked_of reads_all Holds judged) self.new.query.now frames.new self.new.core
+            self.new.core.stage) }
 
         // It ends: false exactly at the end, and else a bound is lower.
         ensures end { IfOk result (λ more. (more ≡ false) ↔ IsAtEnd self.old.core) }
@@ -161,6 +171,8 @@ impl<'q> Scan<'q> {
         requires walk { Scanning D.Disk (meaning asked_of reads_all Holds judged)
             self.query.now frames.old pass.old self.core }
         ensures ends { EndsReading D.Disk self.entry.core frames.old pass.old frames.new pass.new }
+        ensures counted { (before : ℕ) → IsCounted before self.entry.core pass.old.holds
+            → pass.new.holds ≤ before + result.pages_read }
         ensures found { Behind D.Disk frames.new (λ (R : Log). LeavesIndex R
             → (pin : Pin) → pin_in pass.old.pin ≡ Some pin
             → HasFound (meaning asked_of reads_all Holds judged) self.entry.query.now R pin result) }

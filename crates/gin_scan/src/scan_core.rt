@@ -1,10 +1,11 @@
 // A scan for the queries of any class.
-ghost use Rattle.std.specs.Prelude.{◌≡◌, ◌↔◌, ℕ, suc, ◌<◌, ◌≤◌, [], ◌∷◌, ⊤, true, false, length, map, None, Some, IsTrue, IfOk, IfErr, OnOk, OnErr};
+ghost use Rattle.std.specs.Prelude.{◌≡◌, ◌↔◌, ℕ, suc, ◌+◌, ◌<◌, ◌≤◌, [], ◌∷◌, ⊤, true, false, length, map};
+ghost use Rattle.std.specs.Prelude.{None, Some, IsTrue, IfOk, IfErr, OnOk, OnErr};
 ghost use Rattle.wal.specs.Waiting.{down_of};
 ghost use Rattle.core_state.specs.PageChoice.{IsLeast, AreBelow};
 ghost use Rattle.buffer_frames.specs.LogCauses.{HoldHasCause, IsCalm};
 ghost use Rattle.buffer_frames.specs.Frames.{Lies, KeepsOthers};
-ghost use Rattle.buffer_frames.specs.Passes.{IsPassOf, IsHolding};
+ghost use Rattle.buffer_frames.specs.Passes.{IsPassOf, IsHolding, holds_after};
 ghost use Rattle.buffer_frames.specs.declared.frame_error.FrameError.TheVariants as frames_of;
 ghost use Rattle.gin_opclass.specs.Class.{meaning, JudgeIsSound};
 ghost use Rattle.gin_scan.specs.Calls.{AddsNothing, LieStill, KeepsWork, ReadsOn};
@@ -52,6 +53,8 @@ pub struct ScanCore {
     pub(crate) names: Vec<Name>,
     // how many heads were read
     pub(crate) heads_read: u64,
+    // how many pages were read
+    pub(crate) pages_read: u64,
     // the parts of a long vector that were read
     pub(crate) bytes: Vec<u8>,
 }
@@ -72,6 +75,7 @@ pub(crate) fn hold_page<D: Disk>(
     ensures adds { AddsNothing D.Disk frames.old frames.new }
     ensures keeps { KeepsWork pass.old pass.new }
     ensures holds { pass.new.holds ≤ suc pass.old.holds }
+    ensures one { OnOk result (pass.new.holds ≡ holds_after pass.old.holds) }
     ensures pin { pass.new.pin ≡ pass.old.pin }
     ensures pins { frames.new.pins ≡ frames.old.pins }
     ensures fault { HoldHasCause D.Disk frames.old.journal frames.new.journal result }
@@ -84,6 +88,13 @@ pub(crate) fn hold_page<D: Disk>(
         return Err(FrameError::BadPage { page });
     }
     frames.hold(pass, page)
+}
+
+/// One page more was read. A pass counts the pages that it holds in the same way.
+pub(crate) fn one_more(pages_read: u64) -> u64
+    ensures { result ≡ holds_after pages_read }
+{
+    pages_read.saturating_add(1)
 }
 
 /// Whether these bytes encode a vector that satisfies the query. Bytes that encode none do not.
@@ -114,6 +125,7 @@ impl ScanCore {
     ghost use Rattle.gin_scan.specs.Causes.{CannotStep, CannotBegin, IsLawfulRefusal};
     ghost use Rattle.gin_scan.specs.Counting.{IsCounted, CountsOn};
     ghost use Rattle.gin_scan.specs.Finding.{HasFound};
+    ghost use Rattle.gin_scan.specs.Reaching.{IsReached};
     ghost use Rattle.gin_scan.specs.Calls.{EndsReading};
     ghost use Rattle.gin_scan.specs.Rows.{asked_by, lists_of};
     ghost use Rattle.gin_scan.specs.Scanning.{IsNewScan, IsScanning, AsksFor, Scanning};
@@ -148,6 +160,7 @@ impl ScanCore {
             long: Vec::new(alloc),
             names: Vec::new(alloc),
             heads_read: 0,
+            pages_read: 0,
             bytes: Vec::new(alloc),
         }
     }
@@ -167,13 +180,15 @@ impl ScanCore {
             × (s.keys.all ≡ keys.all)) }
         ensures walk { IfOk result (λ s. (q : Q) → Scanning D.Disk
             (meaning W.asked W.all W.satisfies W.judged) q frames.new pass.new s) }
+        ensures reached { IfOk result (λ s. (q : Q)
+            → IsReached (meaning W.asked W.all W.satisfies W.judged) q frames.new s s.stage) }
         ensures pinned { IfOk result (λ s. HasPinned frames.old frames.new pass.new s.snapshot) }
         ensures took { IfOk result (λ s. s.took_pin ≡ true) }
         ensures adds { AddsNothing D.Disk frames.old frames.new }
         ensures lying { LieStill frames.old frames.new }
         ensures keeps { KeepsWork pass.old pass.new }
         ensures holds { pass.new.holds ≡ pass.old.holds }
-        ensures counted { IfOk result (λ s. IsCounted pass.old.holds s pass.new.holds s.stage) }
+        ensures counted { IfOk result (λ s. IsCounted pass.old.holds s pass.new.holds) }
         ensures calm { IsCalm D.Disk frames.old.journal frames.new.journal }
 
         // The refusals: the pass has no snapshot.
@@ -206,6 +221,8 @@ impl ScanCore {
             × (s.keys.all ≡ keys.all)) }
         ensures walk { IfOk result (λ s. (q : Q) → Scanning D.Disk
             (meaning W.asked W.all W.satisfies W.judged) q frames.new pass.new s) }
+        ensures reached { IfOk result (λ s. (q : Q)
+            → IsReached (meaning W.asked W.all W.satisfies W.judged) q frames.new s s.stage) }
         ensures took { IfOk result (λ s. s.took_pin ≡ false) }
         ensures pin { pass.new.pin ≡ pass.old.pin }
         ensures pins { frames.new.pins ≡ frames.old.pins }
@@ -213,7 +230,7 @@ impl ScanCore {
         ensures lying { LieStill frames.old frames.new }
         ensures keeps { KeepsWork pass.old pass.new }
         ensures holds { pass.new.holds ≡ pass.old.holds }
-        ensures counted { IfOk result (λ s. IsCounted pass.old.holds s pass.new.holds s.stage) }
+        ensures counted { IfOk result (λ s. IsCounted pass.old.holds s pass.new.holds) }
         ensures calm { IsCalm D.Disk frames.old.journal frames.new.journal }
         ensures is_pass { IsPassOf frames.new pass.new }
         ensures idle { pass.new.held ≡ 0 }
@@ -252,8 +269,8 @@ impl ScanCore {
         ensures serves { J.serves work.new query.now }
         ensures took { self.new.took_pin ≡ self.old.took_pin }
         ensures stepped { OnOk result
-            (HasStepped D.Disk (meaning W.asked W.all W.satisfies W.judged) query.now self.old
-            frames.new pass.new self.new) }
+            (HasStepped D.Disk (meaning W.asked W.all W.satisfies W.judged) query.now frames.old
+            self.old frames.new pass.new self.new) }
         ensures counted { OnOk result (CountsOn self.old pass.old.holds self.new pass.new.holds) }
         ensures reads { ReadsOn D.Disk frames.old pass.old frames.new pass.new }
         ensures fault { HoldHasCause D.Disk frames.old.journal frames.new.journal result }
@@ -298,6 +315,9 @@ impl ScanCore {
         ensures took { self.new.took_pin ≡ self.old.took_pin }
         ensures counted { OnOk result (CountsOn self.old pass.old.holds self.new pass.new.holds) }
         ensures reads { ReadsOn D.Disk frames.old pass.old frames.new pass.new }
+        ensures reached { OnOk result (
+            IsReached (meaning W.asked W.all W.satisfies W.judged) query.now frames.old self.old self.old.stage
+            → IsReached (meaning W.asked W.all W.satisfies W.judged) query.now frames.new self.new self.new.stage) }
 
         // It ends: false exactly at the end, and else a bound is lower.
         ensures end { IfOk result (λ more. (more ≡ false) ↔ IsAtEnd self.old) }
@@ -321,6 +341,8 @@ impl ScanCore {
         requires scanning { IsScanning frames.old pass.old self }
         requires end { IsAtEnd self }
         ensures ends { EndsReading D.Disk self frames.old pass.old frames.new pass.new }
+        ensures counted { (before : ℕ) → IsCounted before self pass.old.holds
+            → pass.new.holds ≤ before + result.pages_read }
         ensures found { (q : Q) → JudgeIsSound (meaning W.asked W.all W.satisfies W.judged)
             → AsksFor (meaning W.asked W.all W.satisfies W.judged) q self
             → Scanning D.Disk (meaning W.asked W.all W.satisfies W.judged) q frames.old pass.old self
@@ -333,6 +355,7 @@ impl ScanCore {
             kept,
             names,
             heads_read,
+            pages_read,
             ..
         } = self;
         if took_pin {
@@ -342,6 +365,7 @@ impl ScanCore {
             names,
             heads_read,
             candidates: kept.len() as u64,
+            pages_read,
         }
     }
 

@@ -1,4 +1,4 @@
--- No memory for the keys, or for the work: no call was made yet.
+-- No memory for the keys, or for the work: no call was made yet. Else the scan has begun for any query.
 use Rattle.gin_scan.specs.Calls.{AddsNothing}
 use Rattle.gin_scan.proofs.scan.Scan.begin.Goals as goal
 
@@ -7,3 +7,6 @@ returns-in_err-keys-clause-adds g c = AddsNothing.stays
 
 pub returns-in_err-work-clause-adds : goal.returns-in_err-work-clause-adds
 returns-in_err-work-clause-adds g c = AddsNothing.stays
+
+pub returns-clause-reached : goal.returns-clause-reached
+returns-clause-reached g c = c.in_ok-core.ensures.reached c.args.query.now

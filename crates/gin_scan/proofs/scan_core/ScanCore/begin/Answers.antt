@@ -7,9 +7,10 @@ use Rattle.buffer_frames.specs.Frames.{FramesValue}
 use Rattle.buffer_frames.specs.Journals.{JournalValue}
 use Rattle.buffer_frames.specs.Passes.{pin_in}
 use Rattle.buffer_frames.specs.declared.frame_error.FrameError.TheVariants.{Down}
+use Rattle.gin_opclass.specs.Class.{meaning}
 use Rattle.gin_scan.specs.Calls.{AddsNothing}
 use Rattle.gin_scan.specs.Causes.{CannotBegin}
-use Rattle.gin_scan.proofs.BegunScans.{begun, begun_pass}
+use Rattle.gin_scan.proofs.BegunScans.{begun, begun_pass, begun_reached}
 use Rattle.gin_scan.proofs.PinCalls.{pin_once}
 use Rattle.gin_scan.proofs.ReadCalls.{calm_once, adds_once, adds_then}
 use Rattle.gin_scan.proofs.Refused.{at_exit}
@@ -88,3 +89,15 @@ returns-clause-adds g c =
     (adds_once g.D.Disk c.look.new.self c.pin.new.self
     (pin_once g.D.Disk _ _ c.pin.new.pass c.in_ok-snapshot.snapshot c.in_ok-snapshot.ensures.pinned p.added p.begins
     p.journal))
+
+pub returns-clause-reached : goal.returns-clause-reached
+returns-clause-reached g c = λ q.
+    let all : c.args.keys.keys.len ≡ length c.args.keys.keys.items = omega (arith, c.args.keys.keys.ok) in
+    begun_reached c.pin.new.self
+    (meaning g.W.Meaning.asked g.W.Meaning.all g.W.Meaning.satisfies g.W.Meaning.judged)
+    q c.new-3.result c.args.keys c.in_ok-snapshot.snapshot
+    c.in_ok-extent.extent (length c.args.keys.keys.items) c.in_ok-pending.pending c.in_ok-main.main c.new-3.ensures.new
+    c.in_ok-pending.ensures.any
+    (c.in_ok-pending.ensures.by_key ∙ ap (λ (n : ℕ). replicate {A = List ℕ} n []) (c.len.ensures ∙ all))
+    c.in_ok-main.ensures.any
+    (c.in_ok-main.ensures.by_key ∙ ap (λ (n : ℕ). replicate {A = List ℕ} n []) (c.len-2.ensures ∙ all))

@@ -39,3 +39,4 @@ returns-clause-found g c = λ q sound asks scan.
     ] in
     has_found g.D.Disk _ sound q c.args.frames.now c.if-took_pin.frames c.args.pass.now c.args.self _
     c.requires.scanning.is_pass added c.requires.end scan refl refl (omega (arith, c.len.ensures, c.args.self.kept.ok))
+    refl

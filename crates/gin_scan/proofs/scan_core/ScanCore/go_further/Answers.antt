@@ -3,6 +3,7 @@ use Rattle.std.proofs.Common.{◌≡◌, ◌+◌, ◌-◌, ◌^◌, ◌<◌, ℕ
 use Rattle.std.specs.Prelude.{Err}
 use Rattle.std.proofs.lemmas.Result.{err_from_is_err_and}
 use Rattle.buffer_frames.specs.declared.frame_error.FrameError.TheVariants.{Down}
+use Rattle.gin_opclass.specs.Class.{meaning}
 use Rattle.gin_scan.specs.Calls.{ReadsOn}
 use Rattle.gin_scan.specs.Causes.{CannotStep, CannotRead, HasRows}
 use Rattle.gin_scan.specs.Counting.{IsCounted}
@@ -13,6 +14,7 @@ use Rattle.gin_scan.proofs.ListCalls.{look_reads, may_still}
 use Rattle.gin_scan.proofs.ListCauses.{step_cause}
 use Rattle.gin_scan.proofs.ListSteps.{further_step, further_lower}
 use Rattle.gin_scan.proofs.ReadCalls.{still_reads}
+use Rattle.gin_scan.proofs.Reached.{further_reached, stepped_before}
 use Rattle.gin_scan.proofs.Refused.{at_exit}
 use Rattle.gin_scan.proofs.StepsTaken.{stepped_by}
 use Rattle.gin_scan.proofs.Counted.{further_counted}
@@ -51,9 +53,9 @@ returns-then-extent-self-clause-stepped g c =
     let new : ScanCore = c.raise_extent.new.self in
     let same = c.raise_extent.ensures.raised in
     let sum : n ≡ s.extent + more = omega (arith, c.if-extent-self.true) in
-    stepped_by g.D.Disk _ c.args.query.now f c.look.new.self c.args.pass.now c.look.new.pass s new may
-    (look_reads g.D.Disk f _ c.args.pass.now _ e.pass may.scanning.held e.added e.keeps e.rises e.xid e.runs_on e.begins
-    e.state e.pins e.others e.calm e.holds)
+    let reads = look_reads g.D.Disk f _ c.args.pass.now _ e.pass may.scanning.held e.added e.keeps e.rises e.xid
+    e.runs_on e.begins e.state e.pins e.others e.calm e.holds in
+    stepped_by g.D.Disk _ c.args.query.now f c.look.new.self c.args.pass.now c.look.new.pass s new may reads
     (subst IsScan (sym same) (record { pending = is.pending; main = is.main; within = tt }))
     (ap (λ (z : ScanCore). z.keys) same) (ap (λ (z : ScanCore). z.snapshot) same)
     (further_lower s new c.args.page more c.requires.stage (ap (λ (z : ScanCore). z.stage) same)
@@ -62,6 +64,19 @@ returns-then-extent-self-clause-stepped g c =
     (λ R pin known pinned o. further_step g.D.Disk _ c.args.query.now f c.args.pass.now s new may.scanning.is_pass is
     may.asks R pin known o c.args.page more c.requires.stage
     (same ∙ ap (λ (m : ℕ). record s { stage = stage.Pending c.args.page more; extent = m }) sum))
+    (further_reached
+    (meaning g.W.Meaning.asked g.W.Meaning.all g.W.Meaning.satisfies g.W.Meaning.judged)
+    c.args.query.now f c.look.new.self reads.lying s new c.args.page more c.requires.stage
+    (same ∙ ap (λ (m : ℕ). record s { stage = stage.Pending c.args.page more; extent = m }) sum))
+
+pub returns-clause-stepped : goal.returns-clause-stepped
+returns-clause-stepped g c =
+    let e = c.look.ensures in
+    stepped_before g.D.Disk
+    (meaning g.W.Meaning.asked g.W.Meaning.all g.W.Meaning.satisfies g.W.Meaning.judged)
+    c.args.query.now c.args.frames.now c.look.new.self c.args.self.now c.look.new.pass _
+    (look_reads g.D.Disk c.args.frames.now _ c.args.pass.now _ e.pass c.requires.may.scanning.held e.added e.keeps
+    e.rises e.xid e.runs_on e.begins e.state e.pins e.others e.calm e.holds).lying c.in_ok-judge_all.ensures.stepped
 
 pub returns-then-extent-self-clause-reads : goal.returns-then-extent-self-clause-reads
 returns-then-extent-self-clause-reads g c =
@@ -98,4 +113,4 @@ pub returns-clause-counted : goal.returns-clause-counted
 returns-clause-counted g c = λ before had.
     let s = c.args.self.now in
     c.in_ok-judge_all.ensures.counted before
-    (subst (λ (n : ℕ). IsCounted before s n s.stage) (sym c.look.ensures.holds) had)
+    (subst (λ (n : ℕ). IsCounted before s n) (sym c.look.ensures.holds) had)

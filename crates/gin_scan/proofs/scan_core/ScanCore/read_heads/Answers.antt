@@ -4,12 +4,14 @@ use Rattle.std.proofs.Common.{slice_get}
 use Rattle.std.proofs.lemmas.Result.{err_from_is_err_and}
 use Rattle.page_types.specs.declared.page.Page.{Page}
 use Rattle.buffer_frames.specs.Frames.{Lies}
+use Rattle.buffer_frames.specs.Passes.{holds_after}
 use Rattle.gin_scan.specs.Causes.{CannotStep, HasSlots, IsLawfulRefusal}
 use Rattle.gin_scan.specs.declared.scan_core.ScanCore.{ScanCore}
+use Rattle.gin_scan.specs.declared.stage.Stage.TheVariants as stage
 use Rattle.gin_scan.proofs.HeadsCalls.{got, heads_cause, heads_lawful, heads_stepped}
 use Rattle.gin_scan.proofs.ReadCalls.{held_and_read, held_calm, state_same}
 use Rattle.gin_scan.proofs.Refused.{at_exit, weaker_read, page_cause}
-use Rattle.gin_scan.proofs.Counted.{heads_counted}
+use Rattle.gin_scan.proofs.Counted.{counts_by, one_read, one_page, heads_counted}
 use Rattle.gin_scan.proofs.scan_core.ScanCore.read_heads.Goals as goal
 
 pub returns-in_err-held-clause-cause : goal.returns-in_err-held-clause-cause
@@ -98,7 +100,12 @@ returns-clause-stepped g c =
     let q = c.end_of_page-end.ensures in
     heads_stepped g.D.Disk _ g.met.J.Judge.sound c.args.query.now a c.args.pass.now c.args.self.now c.requires.may
     c.args.at c.requires.stage c.read_page-read.new.frames c.release.new.self c.release.new.pass
-    c.read_page-read.new.self _ c.end_of_page-end.result n c.page-page.result.now (record {
+    c.read_page-read.new.self _ c.end_of_page-end.result n c.one_more-self.result c.page-page.result.now (record {
+      first = c.index.result.now;
+      there = got c.args.self.now.kept.items c.args.at c.index.result.now c.requires.more c.index.ensures;
+      first_here = sym c.page_of-number.ensures;
+      next = λ k at. q.next k
+          (subst (λ (ks : List (ℕ × Bool)). slice_get ks c.end_of_page-end.result ≡ Some k) (sym same) at);
       ordered = q.more c.index.result.now.0 c.index.result.now.1
           (subst (λ (ks : List (ℕ × Bool)). slice_get ks c.args.at ≡ Some c.index.result.now) (sym same)
           (got c.args.self.now.kept.items c.args.at c.index.result.now c.requires.more c.index.ensures))
@@ -120,7 +127,12 @@ returns-clause-stepped g c =
     c.args.pass.now c.hold_page.new.pass c.read_page-read.new.pass c.release.new.pass c.in_ok-held.held
     n k.number h.adds h.keeps h.pin h.pins k.others k.lies r.adds r.lying r.keeps r.same.0 r.pins
     e.pass (e.holding [] (r.holding (c.in_ok-held.held ∷ []) k.holding)) e.added e.rises e.same e.runs_on e.state e.lies
-    e.others e.calm e.begins e.pins (omega (arith, h.holds, r.holds)) e.holds) refl
+    e.others e.calm e.begins e.pins (omega (arith, h.holds, r.holds)) e.holds)
+    (omega (
+      arith,
+      one_page c.read_page-read.new.self.pages_read c.one_more-self.result c.one_more-self.ensures,
+      ap (λ (z : ScanCore). z.pages_read) w.rest,
+    )) refl
 
 pub returns-clause-reads : goal.returns-clause-reads
 returns-clause-reads g c =
@@ -142,6 +154,16 @@ returns-clause-counted g c =
     (subst (λ (ks : List (ℕ × Bool)). slice_get ks c.args.at ≡ Some c.index.result.now)
     (sym c.as_slice.ensures.value) (got kept c.args.at c.index.result.now c.requires.more c.index.ensures))
     (sym c.page_of-number.ensures) in
-    heads_counted c.args.self.now c.read_page-read.new.self c.args.at c.end_of_page-end.result c.args.pass.now.holds
+    let s = c.args.self.now in
+    let n : ScanCore = c.read_page-read.new.self in
+    let new : ScanCore = record n {
+      stage = stage.Heads c.end_of_page-end.result;
+      pages_read = c.one_more-self.result;
+    } in
+    counts_by s new c.args.pass.now.holds c.release.new.pass.holds
+    (one_read s.pages_read c.one_more-self.result c.args.pass.now.holds c.release.new.pass.holds
+    (c.one_more-self.ensures ∙ ap (λ (z : ScanCore). holds_after z.pages_read) c.in_ok-read.ensures.rest)
+    (c.release.ensures.holds ∙ c.read_page-read.ensures.holds ∙ c.in_ok-held.ensures.one))
+    (heads_counted s new c.args.at c.end_of_page-end.result c.args.pass.now.holds
     c.release.new.pass.holds c.requires.stage (ap (λ (z : ScanCore). z.extent) c.in_ok-read.ensures.rest) less
-    (omega (arith, c.hold_page.ensures.holds, c.read_page-read.ensures.holds, c.release.ensures.holds))
+    (omega (arith, c.hold_page.ensures.holds, c.read_page-read.ensures.holds, c.release.ensures.holds)))

@@ -1,17 +1,19 @@
 -- The metapage is read.
-use Rattle.std.proofs.Common.{ℕ, [], refl, sym, ap, subst, inr, arith}
+use Rattle.std.proofs.Common.{ℕ, [], refl, sym, ap, subst, ◌∙◌, inr, arith}
 use Rattle.std.proofs.lemmas.Result.{err_from_is_err_and}
 use Rattle.page_types.specs.declared.page.Page.{Page}
 use Rattle.buffer_frames.specs.Frames.{Lies}
+use Rattle.gin_opclass.specs.Class.{meaning}
 use Rattle.gin_scan.specs.Causes.{CannotStep, HasMeta, IsLawfulRefusal}
 use Rattle.gin_scan.specs.declared.scan_core.ScanCore.{ScanCore}
 use Rattle.gin_scan.specs.declared.stage.Stage.TheVariants as stage
 use Rattle.gin_scan.proofs.ListCauses.{meta_lawful, step_cause}
-use Rattle.gin_scan.proofs.ListSteps.{meta_step, meta_lower}
+use Rattle.gin_scan.proofs.ListSteps.{meta_step, meta_lower, lists_asked}
 use Rattle.gin_scan.proofs.ReadCalls.{held_at}
+use Rattle.gin_scan.proofs.Reached.{meta_reached}
 use Rattle.gin_scan.proofs.Refused.{at_exit, weaker_read, other_page}
 use Rattle.gin_scan.proofs.StepsTaken.{stepped_by}
-use Rattle.gin_scan.proofs.Counted.{meta_counted}
+use Rattle.gin_scan.proofs.Counted.{counts_by, one_read, one_page, meta_counted}
 use Rattle.gin_scan.proofs.scan_core.ScanCore.read_meta.Goals as goal
 
 pub returns-in_err-held-clause-lawful : goal.returns-in_err-held-clause-lawful
@@ -60,19 +62,32 @@ returns-clause-stepped g c =
     let e = c.release.ensures in
     let f = c.args.frames.now in
     let s = c.args.self.now in
-    let new : ScanCore = record s { stage = stage.Pending c.in_ok-first.field-0 s.extent } in
+    let new : ScanCore = record s {
+      stage = stage.Pending c.in_ok-first.field-0 s.extent;
+      pages_read = c.one_more-self.result;
+    } in
     let may = c.requires.may in
     let there = subst (λ (z : Page). Lies f 0 z) (sym c.page.ensures.value) k.lies in
-    stepped_by g.D.Disk _ c.args.query.now f c.release.new.self c.args.pass.now c.release.new.pass s new may
-    (held_at g.D.Disk f c.hold_page.new.frames c.release.new.self c.args.pass.now c.hold_page.new.pass
+    let one = one_page s.pages_read c.one_more-self.result c.one_more-self.ensures in
+    let reads = held_at g.D.Disk f c.hold_page.new.frames c.release.new.self c.args.pass.now c.hold_page.new.pass
     c.release.new.pass c.in_ok-held.held 0 k.number h.adds h.keeps h.pin h.pins k.others k.lies e.pass
     (e.holding [] k.holding) e.added e.rises e.same e.runs_on e.state e.lies e.others e.calm e.begins e.pins h.holds
-    e.holds)
+    e.holds in
+    stepped_by g.D.Disk _ c.args.query.now f c.release.new.self c.args.pass.now c.release.new.pass s new may reads
     (record { pending = may.scanning.is_scan.pending; main = may.scanning.is_scan.main; within = tt }) refl refl
     (meta_lower s new c.in_ok-first.field-0 c.requires.stage refl refl)
     (λ R pin known pinned o. meta_step g.D.Disk _ c.args.query.now f c.args.pass.now s new may.scanning.is_pass
     may.scanning.is_scan may.asks R pin known o c.page.result.now c.page.ensures.is_page there c.requires.stage
-    (ap (λ (n : ℕ). record s { stage = stage.Pending n s.extent }) c.in_ok-first.ensures.first.1))
+    one
+    (ap (λ (n : ℕ). record s { stage = stage.Pending n s.extent; pages_read = c.one_more-self.result })
+    c.in_ok-first.ensures.first.1))
+    (meta_reached
+    (meaning g.W.Meaning.asked g.W.Meaning.all g.W.Meaning.satisfies g.W.Meaning.judged)
+    c.args.query.now f c.release.new.self reads.lying s new c.page.result.now c.in_ok-first.field-0
+    c.page.ensures.is_page there c.in_ok-first.ensures.first.0 c.requires.stage c.in_ok-first.ensures.first.1
+    (lists_asked
+    (meaning g.W.Meaning.asked g.W.Meaning.all g.W.Meaning.satisfies g.W.Meaning.judged)
+    c.args.query.now s may.scanning.is_scan may.asks) one refl refl)
 
 pub returns-clause-reads : goal.returns-clause-reads
 returns-clause-reads g c =
@@ -86,5 +101,13 @@ returns-clause-reads g c =
 
 pub returns-clause-counted : goal.returns-clause-counted
 returns-clause-counted g c =
-    meta_counted c.args.self.now c.args.self.now c.in_ok-first.field-0 c.args.pass.now.holds c.release.new.pass.holds
-    c.requires.stage refl (omega (arith, c.hold_page.ensures.holds, c.release.ensures.holds))
+    let s = c.args.self.now in
+    let new : ScanCore = record s {
+      stage = stage.Pending c.in_ok-first.field-0 s.extent;
+      pages_read = c.one_more-self.result;
+    } in
+    counts_by s new c.args.pass.now.holds c.release.new.pass.holds
+    (one_read s.pages_read c.one_more-self.result c.args.pass.now.holds c.release.new.pass.holds c.one_more-self.ensures
+    (c.release.ensures.holds ∙ c.in_ok-held.ensures.one))
+    (meta_counted s new c.in_ok-first.field-0 c.args.pass.now.holds c.release.new.pass.holds
+    c.requires.stage refl (omega (arith, c.hold_page.ensures.holds, c.release.ensures.holds)))

@@ -4,11 +4,12 @@ use Rattle.std.proofs.lemmas.Result.{err_from_is_err_and}
 use Rattle.page_types.specs.declared.page.Page.{Page}
 use Rattle.buffer_frames.specs.Frames.{Lies}
 use Rattle.gin_scan.specs.Causes.{CannotStep, HasPart, IsLawfulRefusal}
+use Rattle.gin_scan.specs.declared.scan_core.ScanCore.{ScanCore}
 use Rattle.gin_scan.specs.declared.stage.Stage.TheVariants as stage
 use Rattle.gin_scan.proofs.PartsCalls.{parts_cause, parts_lawful, part_stepped}
 use Rattle.gin_scan.proofs.ReadCalls.{held_at, held_calm, calm_then, err_cause}
 use Rattle.gin_scan.proofs.Refused.{at_exit, weaker_read, other_page, other_calm}
-use Rattle.gin_scan.proofs.Counted.{part_counted}
+use Rattle.gin_scan.proofs.Counted.{counts_by, one_read, one_page, part_counted}
 use Rattle.gin_scan.proofs.scan_core.ScanCore.read_part.Goals as goal
 
 pub returns-in_err-held-clause-lawful : goal.returns-in_err-held-clause-lawful
@@ -74,10 +75,12 @@ returns-clause-stepped g c =
     part_stepped g.D.Disk _ c.args.query.now c.args.frames.now c.args.pass.now s c.requires.may c.args.at c.args.page
     c.args.left c.requires.stage c.release.new.self c.release.new.pass _ c.page.result.now
     (λ z. c.requires.more (inl z)) (λ z. c.requires.more (inr (inl z))) c.page.ensures.is_page there w.2
+    (one_page s.pages_read c.one_more-self.result c.one_more-self.ensures)
     (ap (λ (n : ℕ). record s {
       bytes = c.add_part_of-right.new.bytes;
       stage = stage.Parts c.args.at n (c.args.left - 1);
-    }) w.1)
+      pages_read = c.one_more-self.result;
+    }) w.1) w.0
     (held_at g.D.Disk c.args.frames.now c.hold_page.new.frames c.release.new.self c.args.pass.now c.hold_page.new.pass
     c.release.new.pass c.in_ok-held.held c.args.page k.number h.adds h.keeps h.pin h.pins k.others k.lies e.pass
     (e.holding [] k.holding) e.added e.rises e.same e.runs_on e.state e.lies e.others e.calm e.begins e.pins h.holds
@@ -95,6 +98,15 @@ returns-clause-reads g c =
 
 pub returns-clause-counted : goal.returns-clause-counted
 returns-clause-counted g c =
-    part_counted c.args.self.now c.args.self.now c.args.at c.args.page c.in_ok-right.field-0 c.args.left
+    let s = c.args.self.now in
+    let new : ScanCore = record s {
+      bytes = c.add_part_of-right.new.bytes;
+      stage = stage.Parts c.args.at c.in_ok-right.field-0 (c.args.left - 1);
+      pages_read = c.one_more-self.result;
+    } in
+    counts_by s new c.args.pass.now.holds c.release.new.pass.holds
+    (one_read s.pages_read c.one_more-self.result c.args.pass.now.holds c.release.new.pass.holds c.one_more-self.ensures
+    (c.release.ensures.holds ∙ c.in_ok-held.ensures.one))
+    (part_counted s new c.args.at c.args.page c.in_ok-right.field-0 c.args.left
     c.args.pass.now.holds c.release.new.pass.holds c.requires.stage refl refl
-    (λ z. c.requires.more (inr (inl z))) (omega (arith, c.hold_page.ensures.holds, c.release.ensures.holds))
+    (λ z. c.requires.more (inr (inl z))) (omega (arith, c.hold_page.ensures.holds, c.release.ensures.holds)))

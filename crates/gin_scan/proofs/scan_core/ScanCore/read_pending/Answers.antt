@@ -1,17 +1,19 @@
 -- A page of the pending list is read.
-use Rattle.std.proofs.Common.{◌-◌, ℕ, true, [], length, refl, sym, ap, subst, ◌∙◌, arith}
+use Rattle.std.proofs.Common.{◌-◌, ◌≤◌, ℕ, suc, true, [], length, refl, sym, ap, subst, ◌∙◌, arith}
 use Rattle.std.proofs.lemmas.Result.{err_from_is_err_and}
 use Rattle.page_types.specs.declared.page.Page.{Page}
 use Rattle.buffer_frames.specs.Frames.{Lies}
+use Rattle.buffer_frames.specs.Passes.{holds_after}
 use Rattle.gin_scan.specs.Causes.{CannotStep, HasRows, IsLawfulRefusal}
 use Rattle.gin_scan.specs.declared.scan_core.ScanCore.{ScanCore}
 use Rattle.gin_scan.specs.declared.stage.Stage.TheVariants as stage
 use Rattle.gin_scan.proofs.ListCauses.{page_lawful, step_cause}
 use Rattle.gin_scan.proofs.ListSteps.{page_step, page_lower}
 use Rattle.gin_scan.proofs.ReadCalls.{held_at}
+use Rattle.gin_scan.proofs.Reached.{page_reached}
 use Rattle.gin_scan.proofs.Refused.{at_exit, weaker_read, other_page}
 use Rattle.gin_scan.proofs.StepsTaken.{stepped_by}
-use Rattle.gin_scan.proofs.Counted.{list_counted}
+use Rattle.gin_scan.proofs.Counted.{counts_by, one_read, one_page, list_counted}
 use Rattle.gin_scan.proofs.scan_core.ScanCore.read_pending.Goals as goal
 
 pub returns-in_err-held-clause-lawful : goal.returns-in_err-held-clause-lawful
@@ -63,17 +65,29 @@ returns-clause-stepped g c =
     let f = c.args.frames.now in
     let s = c.args.self.now in
     let n : ScanCore = c.note_rows-right.new.self in
-    let new : ScanCore = record n { stage = stage.Pending c.in_ok-right.field-0 (c.args.left - 1) } in
+    let new : ScanCore = record n {
+      stage = stage.Pending c.in_ok-right.field-0 (c.args.left - 1);
+      pages_read = c.one_more-self.result;
+    } in
     let w = c.in_ok-right.ensures in
     let may = c.requires.may in
     let is = may.scanning.is_scan in
     let there = subst (λ (z : Page). Lies f c.args.page z) (sym c.page.ensures.value) k.lies in
     let keys = ap (λ (z : ScanCore). z.keys) w.rest in
-    stepped_by g.D.Disk _ c.args.query.now f c.release.new.self c.args.pass.now c.release.new.pass s new may
-    (held_at g.D.Disk f c.hold_page.new.frames c.release.new.self c.args.pass.now c.hold_page.new.pass
+    let one : c.one_more-self.result ≤ suc s.pages_read = omega (
+      arith,
+      one_page n.pages_read c.one_more-self.result c.one_more-self.ensures,
+      ap (λ (z : ScanCore). z.pages_read) w.rest,
+    ) in
+    let rest = ap (λ (z : ScanCore). record z {
+      stage = stage.Pending c.in_ok-right.field-0 (c.args.left - 1);
+      pages_read = c.one_more-self.result;
+    }) w.rest in
+    let reads = held_at g.D.Disk f c.hold_page.new.frames c.release.new.self c.args.pass.now c.hold_page.new.pass
     c.release.new.pass c.in_ok-held.held c.args.page k.number h.adds h.keeps h.pin h.pins k.others k.lies e.pass
     (e.holding [] k.holding) e.added e.rises e.same e.runs_on e.state e.lies e.others e.calm e.begins e.pins h.holds
-    e.holds)
+    e.holds in
+    stepped_by g.D.Disk _ c.args.query.now f c.release.new.self c.args.pass.now c.release.new.pass s new may reads
     (record {
       pending = w.lists ∙ is.pending ∙ sym (ap (λ (z : ScanCore). length z.keys.keys.items) w.rest);
       main = ap (λ (z : ScanCore). length z.main.by_key.items) w.rest ∙ is.main
@@ -85,13 +99,18 @@ returns-clause-stepped g c =
     (λ R pin known pinned o. page_step g.D.Disk _ c.args.query.now f c.args.pass.now s new may.scanning.is_pass is
     may.asks R pin known o c.args.page c.args.left c.page.result.now c.page.ensures.is_page there c.requires.stage
     c.requires.some c.requires.more w.noted w.first
-    (ap (λ (z : ScanCore). record z { stage = stage.Pending c.in_ok-right.field-0 (c.args.left - 1) }) w.rest
+    one
+    (rest
     ∙ ap (λ (m : ℕ). record s {
       pending = n.pending;
       has_begun = true;
       first_item = n.first_item;
       stage = stage.Pending m (c.args.left - 1);
+      pages_read = c.one_more-self.result;
     }) w.right.1))
+    (page_reached _ c.args.query.now f c.release.new.self reads.lying s new c.page.result.now c.args.page c.args.left
+    c.in_ok-right.field-0 c.page.ensures.is_page there w.right.0 c.requires.stage c.requires.some c.requires.more
+    w.right.1 may.asks w.noted w.first one rest refl)
 
 pub returns-clause-reads : goal.returns-clause-reads
 returns-clause-reads g c =
@@ -105,7 +124,17 @@ returns-clause-reads g c =
 
 pub returns-clause-counted : goal.returns-clause-counted
 returns-clause-counted g c =
-    list_counted c.args.self.now c.note_rows-right.new.self c.args.page c.in_ok-right.field-0 c.args.left
+    let s = c.args.self.now in
+    let n : ScanCore = c.note_rows-right.new.self in
+    let new : ScanCore = record n {
+      stage = stage.Pending c.in_ok-right.field-0 (c.args.left - 1);
+      pages_read = c.one_more-self.result;
+    } in
+    counts_by s new c.args.pass.now.holds c.release.new.pass.holds
+    (one_read s.pages_read c.one_more-self.result c.args.pass.now.holds c.release.new.pass.holds
+    (c.one_more-self.ensures ∙ ap (λ (z : ScanCore). holds_after z.pages_read) c.in_ok-right.ensures.rest)
+    (c.release.ensures.holds ∙ c.in_ok-held.ensures.one))
+    (list_counted s new c.args.page c.in_ok-right.field-0 c.args.left
     c.args.pass.now.holds c.release.new.pass.holds c.requires.stage
     (ap (λ (z : ScanCore). z.extent) c.in_ok-right.ensures.rest) c.requires.more
-    (omega (arith, c.hold_page.ensures.holds, c.release.ensures.holds))
+    (omega (arith, c.hold_page.ensures.holds, c.release.ensures.holds)))

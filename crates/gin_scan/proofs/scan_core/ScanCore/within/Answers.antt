@@ -4,9 +4,10 @@ use Rattle.std.specs.Prelude.{Err}
 use Rattle.std.proofs.lemmas.Result.{err_from_is_err_and}
 use Rattle.buffer_frames.specs.Passes.{pin_in}
 use Rattle.buffer_frames.specs.declared.frame_error.FrameError.TheVariants.{Down}
+use Rattle.gin_opclass.specs.Class.{meaning}
 use Rattle.gin_scan.specs.Calls.{AddsNothing}
 use Rattle.gin_scan.specs.Causes.{CannotBegin}
-use Rattle.gin_scan.proofs.BegunScans.{begun, begun_pass}
+use Rattle.gin_scan.proofs.BegunScans.{begun, begun_pass, begun_reached}
 use Rattle.gin_scan.proofs.ReadCalls.{calm_once, adds_once}
 use Rattle.gin_scan.proofs.Refused.{at_exit}
 use Rattle.gin_scan.proofs.scan_core.ScanCore.within.Goals as goal
@@ -58,3 +59,15 @@ returns-clause-adds g c =
     let e = c.look.ensures in
     adds_once g.D.Disk c.args.frames.now c.look.new.self
     (calm_once g.D.Disk _ _ e.added e.state e.runs_on e.begins e.calm e.pins)
+
+pub returns-clause-reached : goal.returns-clause-reached
+returns-clause-reached g c = λ q.
+    let all : c.args.keys.keys.len ≡ length c.args.keys.keys.items = omega (arith, c.args.keys.keys.ok) in
+    begun_reached c.look.new.self
+    (meaning g.W.Meaning.asked g.W.Meaning.all g.W.Meaning.satisfies g.W.Meaning.judged)
+    q c.new-3.result c.args.keys c.args.commits
+    c.in_ok-extent.extent (length c.args.keys.keys.items) c.in_ok-pending.pending c.in_ok-main.main c.new-3.ensures.new
+    c.in_ok-pending.ensures.any
+    (c.in_ok-pending.ensures.by_key ∙ ap (λ (n : ℕ). replicate {A = List ℕ} n []) (c.len.ensures ∙ all))
+    c.in_ok-main.ensures.any
+    (c.in_ok-main.ensures.by_key ∙ ap (λ (n : ℕ). replicate {A = List ℕ} n []) (c.len-2.ensures ∙ all))

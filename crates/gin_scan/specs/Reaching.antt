@@ -1,0 +1,92 @@
+-- How a scan comes to the pages that it reads, by pages as they lie in memory.
+use Rattle.std.specs.Prelude.{◌≡◌, ◌≢◌, ℕ, ◌<◌, ⊤, Bool, false, List, [], ◌∷◌, Some}
+use Rattle.std.specs.List.{slice_get}
+use Rattle.page_types.specs.Numbers.{most_short}
+use Rattle.page_types.specs.Pages.{IsPage}
+use Rattle.page_types.specs.Views.{first_of}
+use Rattle.page_types.specs.declared.page.Page.{Page}
+use Rattle.page_types.specs.declared.page.Head.{Head}
+use Rattle.core_state.specs.Log.{In}
+use Rattle.core_state.specs.Documents.{page_of, slot_of}
+use Rattle.core_state.specs.Readings.{Read}
+use Rattle.doc_heap.specs.HeapPages.{head_on}
+use Rattle.gin_opclass.specs.Class.{Meaning}
+use Rattle.core_moments.specs.Walk.{Walk}
+use Rattle.core_moments.specs.Judging.{IsKept}
+use Rattle.buffer_frames.specs.Frames.{FramesValue, Lies}
+use Rattle.gin_scan.specs.Causes.{HasMeta, HasRows, HasSlots, HasPart, CannotUse}
+use Rattle.gin_scan.specs.Reading.{LeadOn, IsUnread, ReadsListBy}
+use Rattle.gin_scan.specs.Sides.{AreKept}
+use Rattle.gin_scan.specs.declared.scan_core.ScanCore.{ScanCore}
+use Rattle.gin_scan.specs.declared.stage.Stage.{Stage}
+use Rattle.gin_scan.specs.declared.stage.Stage.TheVariants as stage
+use Rattle.gin_scan.specs.declared.stage.LongVector.{LongVector}
+
+module _ {D : Type 0} (f : FramesValue D) where
+  -- these pages lie there as they were read, and are of this kind
+  abbrev pub AreLying : (Page → Type 0) → List Read → Type 0
+  AreLying Is [] = ⊤
+  AreLying Is (x ∷ xs) = (IsPage x.content × Lies f x.page x.content × Is x.content) × AreLying Is xs
+
+  -- so do the metapage and pages of the list
+  abbrev pub ListLies : List Read → Type 0
+  ListLies [] = ⊤
+  ListLies (x ∷ xs) = (IsPage x.content × Lies f x.page x.content × HasMeta x.content) × AreLying HasRows xs
+
+  -- from the metapage right links lead along these pages of the list to this one, or to 0
+  pub record ListLeads (w : Walk) (p : ℕ) : Type 0 where
+    pub meta_page : w.meta.page ≡ 0
+    pub leads : LeadOn (first_of w.meta.content) w.pending p
+    pub lie : ListLies (w.meta ∷ w.pending)
+    pub alone : w.keys ≡ []
+
+  -- the head of an item, on its heap page, leads to this first page of a long vector
+  pub record HeadLeads (item first : ℕ) : Type 0 where
+    pub content : Page
+    pub is_page : IsPage content
+    pub lies : Lies f (page_of item) content
+    pub head : Head
+    pub at : head_on content (slot_of item) ≡ Some head
+    pub long : most_short < head.bytes
+    pub first_is : head.overflow ≡ first
+
+  -- from a first page right links lead along pages with parts to this one, or to 0
+  pub record PartsLead (first p : ℕ) : Type 0 where
+    pub parts : List Read
+    pub leads : LeadOn first parts p
+    pub lie : AreLying HasPart parts
+
+module _ {D Q : Type 0} (M : Meaning Q) (q : Q) (f : FramesValue D) where
+  -- the kept items are those that the list keeps as it lies there
+  pub record HasMet (s : ScanCore) : Type 0 where
+    pub walk : Walk
+    pub page : ℕ
+    pub list : ListLeads f walk page
+    pub kept : AreKept M q walk s.kept.items
+
+  -- the vectors that wait are those of kept items without a yes, by their heads
+  abbrev pub HasMetLong : ScanCore → Type 0
+  HasMetLong s =
+      (l : LongVector) → In l s.long.items
+      → (item : ℕ) × In (item, false) s.kept.items × HeadLeads f item l.first
+
+  -- how the page is reached that is read next
+  abbrev pub IsReached : ScanCore → Stage → Type 0
+  IsReached s stage.Meta = IsUnread s
+  IsReached s (stage.Pending page left) = ReadsListBy (ListLies f) (M.asked q) s page left
+  IsReached s (stage.Heads at) = HasMet s × HasMetLong s
+  IsReached s (stage.Parts at page left) =
+      HasMet s × HasMetLong s
+      × ((l : LongVector) → slice_get s.long.items at ≡ Some l → PartsLead f l.first page)
+  IsReached s stage.Done = ⊤
+
+  -- A page that a search for the query has to read, and that is none or not what it has to be: the metapage; a
+  -- page that the list leads to; the heap page of an item that the list keeps; a page that the long vector of such
+  -- an item leads to.
+  pub data IsBadOnPath (p : ℕ) : Type 0 where
+    meta : p ≡ 0 → CannotUse f HasMeta p → IsBadOnPath p
+    rows : (w : Walk) → ListLeads f w p → CannotUse f HasRows p → IsBadOnPath p
+    heap : (w : Walk) (last item : ℕ) → ListLeads f w last → IsKept M q w item → page_of item ≡ p
+        → CannotUse f HasSlots p → IsBadOnPath p
+    part : (w : Walk) (last item first : ℕ) → ListLeads f w last → IsKept M q w item → HeadLeads f item first
+        → PartsLead f first p → CannotUse f HasPart p → IsBadOnPath p
