@@ -28,18 +28,21 @@ use Rattle.gin_scan.specs.Calls.{AddsNothing, AddsOnce}
 use Rattle.gin_scan.specs.Causes as causes
 use Rattle.gin_scan.specs.Causes.{CannotUse, CannotStep, HasMeta, HasRows, HasSlots, HasPart}
 use Rattle.gin_scan.specs.Finding as finding
-use Rattle.gin_scan.specs.Scanning.{IsScanning, Scanning}
+use Rattle.gin_scan.specs.Reaching.{IsReached}
+use Rattle.gin_scan.specs.Scanning.{IsWithin, IsScanning, Scanning}
 use Rattle.gin_scan.specs.TextScans.{IsFor}
 use Rattle.gin_scan.specs.declared.scan.Scan.{Scan}
 use Rattle.gin_scan.specs.declared.found.Found.{Found}
 use Rattle.gin_scan.specs.declared.scan_core.ScanCore.{ScanCore}
 use Rattle.gin_scan.specs.declared.stage.Stage.{Stage}
 use Rattle.gin_scan.specs.declared.stage.Stage.TheVariants as stage
+use Rattle.gin_scan.proofs.Reached.{bad_reached}
 use Rattle.engine.specs.Answers.{MeetsNoBadPage}
 use Rattle.engine.specs.Causes.{IsNone, IsBadRead}
 use Rattle.engine.specs.Db.{DbValue, IsUp}
 use Rattle.engine.specs.Finding.{IsFound, docs}
 use Rattle.engine.specs.Going.{Goes, stays, nothing, LogsNothing, MetNoFault, FaultIsTold}
+use Rattle.engine.specs.Coming.{ComesToBadPage}
 use Rattle.engine.specs.Inner.Finds.{ReadsOn, EndsReading, FindsAll, CannotFind, CannotList}
 use Rattle.engine.specs.Inner.Parts.{KeepsWork}
 use Rattle.engine.specs.Inner.Refusals.{frame_refusal}
@@ -179,6 +182,29 @@ module _ {D : Type 0} (device : Disk D) where
   step_cause s core (stage.Parts at page left) w up c = read_bad s HasPart page w up IsBadRead.part c
   step_cause s core stage.Done w up c = absurd c
 
+  -- how a step comes to a bad page
+  comes_at : (q : Query) (s : DbValue D) (core : ScanCore) (w : FrameError) → IsWithin core core.stage
+      → IsReached (meaning asked_of reads_all Holds judged) q s.frames core core.stage
+      → CannotStep s.frames core core.stage w → ComesToBadPage device s q (frame_refusal w)
+  comes_at q s core frames.DiskFault within reached c = tt
+  comes_at q s core (frames.Down f) within reached c = tt
+  comes_at q s core (frames.BadPage p) within reached c =
+      (s, stays, bad_reached (meaning asked_of reads_all Holds judged) q s.frames core core.stage p within reached c)
+  comes_at q s core frames.OutOfMemory within reached c = tt
+
+  -- where a later store comes to one so does an earlier
+  pub comes_later : (q : Query) (a s : DbValue D) (e : DbError) → Goes device a s [] → ComesToBadPage device s q e
+      → ComesToBadPage device a q e
+  comes_later q a s (store.BadPage p) path c = (c.0, goes_on device path c.1, c.2)
+  comes_later q a s store.DiskFault path c = tt
+  comes_later q a s store.OutOfMemory path c = tt
+  comes_later q a s store.NoDocument path c = tt
+  comes_later q a s (store.Conflict x) path c = tt
+  comes_later q a s store.StoreFull path c = tt
+  comes_later q a s store.LogFull path c = tt
+  comes_later q a s store.XidsSpent path c = tt
+  comes_later q a s (store.Down f) path c = tt
+
   -- the refusal of a later store is one of an earlier
   pub find_later : (a s : DbValue D) (e : DbError) → Goes device a s [] → CannotFind device s e
       → CannotFind device a e
@@ -223,6 +249,13 @@ module _ {D : Type 0} (device : Disk D) where
   begin_cause s (frames.Down f) up c = let z : None ≡ Some f = sym up ∙ c in absurd (let n : ⊥ = cc in n)
   begin_cause s (frames.BadPage p) up c = absurd c
   begin_cause s frames.OutOfMemory up c = tt
+
+  pub begin_comes : (q : Query) (s : DbValue D) (w : FrameError) → causes.CannotBegin s.frames w
+      → ComesToBadPage device s q (frame_refusal w)
+  begin_comes q s frames.DiskFault c = tt
+  begin_comes q s (frames.Down f) c = tt
+  begin_comes q s (frames.BadPage p) c = absurd c
+  begin_comes q s frames.OutOfMemory c = tt
 
   pub begin_meets : (s : DbValue D) (w : FrameError) → causes.CannotBegin s.frames w
       → MeetsNoBadPage device s (frame_refusal w)
@@ -273,15 +306,19 @@ module _ {D : Type 0} (device : Disk D) (q : Query) (old : DbValue D) (pass : Pa
     pub scanning : IsScanning s.frames pass' scan.core
     pub query : IsFor q scan
     pub walk : Scanning device (meaning asked_of reads_all Holds judged) q s.frames pass' scan.core
+    pub reached : IsReached (meaning asked_of reads_all Holds judged) q s.frames scan.core scan.core.stage
     pub reads : ReadsOn device old pass s pass'
     pub met : MetNoFault device old s
 
   pub scans_first : (scan : Scan) → IsScanning old.frames pass scan.core → IsFor q scan
-      → Scanning device (meaning asked_of reads_all Holds judged) q old.frames pass scan.core → ScansOn old pass scan
-  scans_first scan scanning query walk = record {
+      → Scanning device (meaning asked_of reads_all Holds judged) q old.frames pass scan.core
+      → IsReached (meaning asked_of reads_all Holds judged) q old.frames scan.core scan.core.stage
+      → ScansOn old pass scan
+  scans_first scan scanning query walk reached = record {
     scanning = scanning;
     query = query;
     walk = walk;
+    reached = reached;
     reads = reads_still device old pass scanning.is_pass scanning.held;
     met = fault_stays device old;
   }
@@ -302,8 +339,10 @@ module _ {D : Type 0} (device : Disk D) (q : Query) (old : DbValue D) (pass : Pa
       → scan'.query.now ≡ scan.query.now → IsScanning t.frames r scan'.core → IsFor scan'.query.now scan'
       → Scanning device (meaning asked_of reads_all Holds judged) scan'.query.now t.frames r scan'.core
       → scans.ReadsOn device s.frames p t.frames r → HoldHasCause device s.frames.journal t.frames.journal answer
+      → (IsReached (meaning asked_of reads_all Holds judged) scan.query.now s.frames scan.core scan.core.stage
+      → IsReached (meaning asked_of reads_all Holds judged) scan'.query.now t.frames scan'.core scan'.core.stage)
       → ScansOn t r scan'
-  scans_more s t p r scan scan' answer x on ok same scanning query walk reads cause =
+  scans_more s t p r scan scan' answer x on ok same scanning query walk reads cause reached =
       let own : scan'.query.now ≡ q = same ∙ on.query.query in
       record {
         scanning = scanning;
@@ -311,6 +350,10 @@ module _ {D : Type 0} (device : Disk D) (q : Query) (old : DbValue D) (pass : Pa
         walk =
             subst (λ (y : Query). Scanning device (meaning asked_of reads_all Holds judged) y t.frames r scan'.core) own
             walk;
+        reached = subst (λ (y : Query). IsReached (meaning asked_of reads_all Holds judged) y t.frames scan'.core
+            scan'.core.stage) own
+            (reached (subst (λ (y : Query). IsReached (meaning asked_of reads_all Holds judged) y s.frames scan.core
+            scan.core.stage) (sym on.query.query) on.reached));
         reads = reads_in_turn device old s t pass p r on.reads (reads_by device s t p r reads);
         met = none_in_turn device on.met
             (hold_no_fault device s t answer (λ is. let z : ⊥ = cc in z) cause);
@@ -334,6 +377,12 @@ module _ {D : Type 0} (device : Disk D) (q : Query) (old : DbValue D) (pass : Pa
   cause_then s p scan at w up on why =
       find_later device old s (frame_refusal w) on.reads.goes
       (step_cause device s scan.core at w (on.met.down ∙ up) why)
+
+  pub comes_then : (s : DbValue D) (p : Pass) (scan : Scan) (w : FrameError) → ScansOn s p scan
+      → CannotStep s.frames scan.core scan.core.stage w → ComesToBadPage device old q (frame_refusal w)
+  comes_then s p scan w on why =
+      comes_later device q old s (frame_refusal w) on.reads.goes
+      (comes_at device q s scan.core w on.scanning.is_scan.within on.reached why)
 
   pub meets_then : (s : DbValue D) (p : Pass) (scan : Scan) (w : FrameError) → ScansOn s p scan
       → causes.IsLawfulRefusal device s.frames w → MeetsNoBadPage device old (frame_refusal w)

@@ -53,7 +53,7 @@ HasLogged device old new Are =
 -- ── refusals of a lawful store ──
 
 module _ {D : Type 0} (device : Disk D) (old : DbValue D) where
-  -- What a refusal tells of the snapshot of a store with the history H: no document is answered where what
+  -- What a refusal says of the snapshot of a store with the history H: no document is answered where what
   -- the work deletes isn't in it, and no page is bad; where the work could begin, it is.
   abbrev pub TellsOf : History → Work → DbError → Type 0
   TellsOf H w NoDocument = All (λ (name : Name). IsInSnapshot H (flushed_of old) name → ⊥) (deleted_by w.deletes)

@@ -7,6 +7,7 @@ pub mod Going
 pub mod Places
 pub mod Causes
 pub mod Answers
+pub mod Coming
 pub mod Opened
 pub mod Inner
 pub use Rattle.disk_trait.specs.Files

@@ -108,7 +108,7 @@ pub record IsRowOf (x : ℕ) (d : Doc) (r : Record) : Type 0 where
   pub kind_is : r.kind ≡ kind.AddRow d.item d.serial
   pub images : HasImages 1 r
 
--- it links the pages of rows that were put, as the pending list or behind its last page
+-- it links the pages of rows that were put, as the pending list or after its last page
 pub record IsLinkOf (x : ℕ) (d : Doc) (r : Record) : Type 0 where
   pub xid : r.xid ≡ x
   pub kind_is : r.kind ≡ kind.LinkPending d.item d.serial

@@ -49,6 +49,7 @@ impl<D: Disk> Db<D> {
     ghost use Rattle.engine.specs.Going.{Goes, FaultIsTold};
     ghost use Rattle.engine.specs.Answers.{IsSession, KeepsSessions, TakesSnapshot, HasStored, HasDeleted, HasFound};
     ghost use Rattle.engine.specs.Answers.{HasListed, OnlyReads, IsLawfulRefusal, MeetsNoBadPage};
+    ghost use Rattle.engine.specs.Coming.{ComesToBadPage};
     ghost use Rattle.engine.specs.Inner.Parts.{IsRunning, HasChanged, KeepsWork, no_changes};
     ghost use Rattle.engine.specs.Inner.Doing.{HasDone, HasStopped, IsNotDone, TellsOfWork, removing, removal};
 
@@ -207,6 +208,7 @@ impl<D: Disk> Db<D> {
         ensures snapshot { TakesSnapshot self.old self.new pass.old pass.new }
         ensures path { Goes D.Disk self.old self.new [] }
         ensures fault { FaultIsTold D.Disk self.old self.new result }
+        ensures way { IfErr result (λ e. ComesToBadPage D.Disk self.old query.now e) }
         ensures lawful { IfErr result (λ e. MeetsNoBadPage D.Disk self.old e) }
     {
         let snapshot = self.frames.pin(pass)?;
@@ -225,6 +227,7 @@ impl<D: Disk> Db<D> {
         ensures snapshot { TakesSnapshot self.old self.new pass.old pass.new }
         ensures goes_on { GoesOn D.Disk self.old self.new }
         ensures fault { FaultIsTold D.Disk self.old self.new result }
+        ensures way { IfErr result (λ e. ComesToBadPage D.Disk self.old query.now e) }
         ensures lawful { IfErr result (λ e. MeetsNoBadPage D.Disk self.old e) }
     {
         let found = self.search_now(pass, query);

@@ -119,7 +119,7 @@ struct Chain {
     pages: u32,
 }
 
-/// Leaves the pending list with these pages behind its last one, or as these alone.
+/// Leaves the pending list with these pages after its last one, or as these alone.
 fn leave_end(step: &mut Step, end: &ListEnd, chain: Chain) -> Result<(), AllocError>
     requires { end.now.pages + chain.pages < 2 ^ 32 }
     ensures { OnOk result (step.new ≡ record step.old {

@@ -6,6 +6,7 @@ ghost use Rattle.ts_match.specs.Judging.{judged};
 ghost use Rattle.ts_match.specs.Class.{asked_of, reads_all};
 ghost use Rattle.gin_scan.specs.Scanning.{IsScanning, Scanning, IsAtEnd};
 ghost use Rattle.gin_scan.specs.TextScans.{IsFor};
+ghost use Rattle.gin_scan.specs.Reaching.{IsReached};
 
 use crate::asks::FirstCommits;
 use crate::commit_names::CommitNames;
@@ -19,6 +20,7 @@ use ts_query::TsQuery;
 
 impl<D: Disk> Db<D> {
     ghost use Rattle.engine.specs.Answers.{MeetsNoBadPage};
+    ghost use Rattle.engine.specs.Coming.{ComesToBadPage};
     ghost use Rattle.engine.specs.Going.{Goes, MetNoFault, FaultIsTold};
     ghost use Rattle.engine.specs.Inner.Parts.{KeepsWork};
     ghost use Rattle.buffer_frames.specs.Passes.{IsPassOf};
@@ -47,6 +49,8 @@ impl<D: Disk> Db<D> {
         requires query { IsFor scan.old.query.now scan.old }
         requires walk { Scanning D.Disk (meaning asked_of reads_all Holds judged) scan.old.query.now
             self.old.frames pass.old scan.old.core }
+        requires reached { IsReached (meaning asked_of reads_all Holds judged) scan.old.query.now
+            self.old.frames scan.old.core scan.old.core.stage }
         ensures same { scan.new.query.now ≡ scan.old.query.now }
         ensures scanning { OnOk result (IsScanning self.new.frames pass.new scan.new.core) }
         ensures query { OnOk result (IsFor scan.new.query.now scan.new) }
@@ -58,6 +62,7 @@ impl<D: Disk> Db<D> {
 
         // The refusals.
         ensures cause { IfErr result (λ e. CannotFind D.Disk self.old e) }
+        ensures way { IfErr result (λ e. ComesToBadPage D.Disk self.old scan.old.query.now e) }
         ensures lawful { IfErr result (λ e. MeetsNoBadPage D.Disk self.old e) }
     {
         let alloc = self.alloc;
@@ -81,6 +86,7 @@ impl<D: Disk> Db<D> {
 
         // The refusals.
         ensures cause { IfErr result (λ e. CannotFind D.Disk self.old e) }
+        ensures way { IfErr result (λ e. ComesToBadPage D.Disk self.old query.now e) }
         ensures lawful { IfErr result (λ e. MeetsNoBadPage D.Disk self.old e) }
     {
         let mut scan = Scan::within(self.alloc, &mut self.frames, pass, query, commits)?;

@@ -99,7 +99,7 @@ pub record IsPartStep (x : ℕ) (name : Name) (heap : Page) (part : List ℕ) (p
     after = sheet name.page new ∷ sheet page (part_page next part) ∷ [];
   }
 
--- this part of the bytes comes before those that are behind, and is as long as it may be unless it is
+-- this part of the bytes comes before those that are left, and is as long as it may be unless it is
 -- the last
 pub record IsNextPart (bytes behind part : List ℕ) : Type 0 where
   pub front : List ℕ

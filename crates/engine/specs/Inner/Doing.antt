@@ -64,7 +64,7 @@ module _ {D : Type 0} (device : Disk D) where
       device.tells → (found H : History) → StandsFor device found old H → IsUp old
       → All (IsInSnapshot H n) (deleted_by w.deletes) → ⊥
 
-  -- what the refusal of work tells of a lawful store
+  -- what the refusal of work says of a lawful store
   abbrev pub TellsOfWork : DbValue D → Transaction → Work → DbError → Type 0
   TellsOfWork old t w NoDocument = IsUnseenBy old t.snapshot w
   TellsOfWork old t w (BadPage p) = IsUnseenBy old t.snapshot w

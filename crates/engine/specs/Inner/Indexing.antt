@@ -107,7 +107,7 @@ pub record IsRowStep (x : ℕ) (name : Name) (last : Sheet) (keys : List Key) (s
 abbrev pub meta_then : Page → ℕ → ℕ → ℕ → Page
 meta_then meta first last pages = record { right = meta.right; stamp = 0; body = body.Meta first last pages }
 
--- the end of the pending list, where so many pages come behind it, from the first to the last
+-- the end of the pending list, where so many pages come after it, from the first to the last
 abbrev pub end_then : Sheet → ℕ → ℕ → Option Sheet → ℕ → ℕ → ℕ → List Sheet
 end_then meta first pages None to last added =
     sheet meta.page (meta_then meta.content to last (pages + added)) ∷ []

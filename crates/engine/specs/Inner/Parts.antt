@@ -202,7 +202,7 @@ module _ {D : Type 0} (device : Disk D) where
   CannotMark old n x name OutOfMemory = ⊤
   CannotMark old n x name e = ⊥
 
-  -- what the refusal of a mark tells of a lawful store
+  -- what the refusal of a mark says of a lawful store
   abbrev pub TellsOfMark : DbValue D → ℕ → Name → DbError → Type 0
   TellsOfMark old n name NoDocument = IsUnseen old n name
   TellsOfMark old n name (BadPage p) = IsUnseen old n name

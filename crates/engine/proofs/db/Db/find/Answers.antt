@@ -10,10 +10,11 @@ use Rattle.ts_match.specs.Judging.{judged}
 use Rattle.ts_match.specs.Class.{asked_of, reads_all}
 use Rattle.engine.specs.Db.{DbValue, fault_of, IsUp}
 use Rattle.engine.specs.Going.{MetNoFault}
+use Rattle.engine.specs.Coming.{ComesToBadPage}
 use Rattle.engine.specs.Inner.Finds.{ReadsOn, EndsReading, FindsAll}
 use Rattle.engine.proofs.Paths.{calm_fault}
 use Rattle.engine.proofs.IndexReads.{store_of, pin_taken, begun_by, ends_now, scan_ends, find_later}
-use Rattle.engine.proofs.IndexReads.{meets_later, finds_by}
+use Rattle.engine.proofs.IndexReads.{meets_later, comes_later, finds_by}
 use Rattle.engine.proofs.db.Db.find.Goals as goal
 
 pub within-requires-clause-taken : goal.within-requires-clause-taken
@@ -101,3 +102,15 @@ returns-in-Err-clause-lawful g c =
     let met : MetNoFault g.D.Disk c.args.self.now m =
     subst (λ (s : DbValue g.row.D.Denot). MetNoFault g.D.Disk s m) c.self.view_is (calm_fault g.D.Disk a m e.calm) in
     meets_later g.D.Disk c.args.self.now m c.in-Err.refusal begun.goes met c.in-Err.ensures.lawful
+
+pub returns-in-Err-clause-way : goal.returns-in-Err-clause-way
+returns-in-Err-clause-way g c =
+    let a : DbValue g.row.D.Denot = store_of c.self.inside.frames in
+    let m : DbValue g.row.D.Denot = store_of c.within.new.frames in
+    let e = c.within.ensures in
+    let begun : ReadsOn g.D.Disk c.args.self.now c.args.pass.now m c.within.new.pass =
+    subst (λ (s : DbValue g.row.D.Denot). ReadsOn g.D.Disk s c.args.pass.now m c.within.new.pass) c.self.view_is
+    (begun_by g.D.Disk a m c.args.pass.now c.within.new.pass e.is_pass e.idle e.adds e.lying e.keeps e.pin) in
+    comes_later g.D.Disk c.args.query.now c.args.self.now m c.in-Err.refusal begun.goes
+    (subst (λ (q : Query). ComesToBadPage g.D.Disk m q c.in-Err.refusal) c.in_ok-scan.ensures.query.query
+    c.in-Err.ensures.way)

@@ -12,11 +12,12 @@ use Rattle.engine.specs.Causes.{IsDown}
 use Rattle.engine.specs.Db.{DbValue, flushed_of, IsUp}
 use Rattle.engine.specs.Finding.{Name}
 use Rattle.engine.specs.Going.{Goes, FaultIsTold}
+use Rattle.engine.specs.Coming.{ComesToBadPage}
 use Rattle.engine.specs.Inner.Refusals.{frame_refusal}
 use Rattle.engine.specs.declared.error.DbError.{DbError}
 use Rattle.engine.proofs.Paths.{one_nothing, pin_step, unpin_step, kept_fault}
 use Rattle.engine.proofs.ReadSteps.{if_err}
-use Rattle.engine.proofs.IndexReads.{meets_later}
+use Rattle.engine.proofs.IndexReads.{meets_later, comes_later}
 use Rattle.engine.proofs.Starting.{up_at_pin}
 use Rattle.engine.proofs.Searching.{rests, session_after, snapshot_after, read_path, read_told, found}
 use Rattle.engine.proofs.db.Db.search_now.Goals as goal
@@ -257,3 +258,22 @@ returns-clause-lawful g c =
     if_err c.find-found.result
     (λ x. meets_later g.D.Disk c.args.self.now m x begins (kept_fault g.D.Disk c.args.self.now m same))
     c.find-found.ensures.lawful
+
+pub returns-in_err-snapshot-clause-way : goal.returns-in_err-snapshot-clause-way
+returns-in_err-snapshot-clause-way g c =
+    let d = c.in_err-snapshot.ensures.error in
+    let q = err_from_is_err_and c.from_residual.result c.from_residual.ensures.1 in
+    subst (λ (r : Result (Vec Name Global) DbError).
+    IfErr r (λ e. ComesToBadPage g.D.Disk c.args.self.now c.args.query.now e))
+    (sym (q.1 ∙ ap Err (q.2 ∙ ap frame_refusal d.1))) tt
+
+pub returns-clause-way : goal.returns-clause-way
+returns-clause-way g c =
+    let a : DbValue g.row.D.Denot = record { frames = c.self.inside.frames } in
+    let m : DbValue g.row.D.Denot = record { frames = c.pin.new.self } in
+    let e = c.pin.ensures in
+    let begins : Goes g.D.Disk c.args.self.now m [] =
+    subst (λ (s : DbValue g.row.D.Denot). Goes g.D.Disk s m []) c.self.view_is
+    (one_nothing g.D.Disk (pin_step g.D.Disk a m e.added e.journal e.begins c.in_ok-snapshot.ensures.pinned)) in
+    if_err c.find-found.result (λ x. comes_later g.D.Disk c.args.query.now c.args.self.now m x begins)
+    c.find-found.ensures.way
