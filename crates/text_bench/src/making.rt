@@ -1,123 +1,123 @@
-// Vectors and queries that are made of texts.
-use crate::figures::{print_speed, print_time};
+// What is made of texts.
+ghost use Rattle.ts_config.specs.Known.{IsWithin};
+
+use crate::configs::{all_configs, simple};
+use crate::texts::{cut, text_of};
 use anyhow::Result;
-use std::alloc::{AllocError, Global};
-use std::rt::Clock;
-use std::time::Instant;
-use ts_config::Configs;
+use bench_base::{Bench, Figure};
+use std::alloc::Global;
+use ts_config::{Config, Configs};
 use ts_make::{to_tsquery, to_tsvector};
-use ts_query::QueryError;
-use ts_vector::VectorError;
+use ts_parser::tokens;
+use ts_thesaurus::Thesaurus;
 use ts_websearch::websearch_to_tsquery;
 
-/// How many documents become vectors.
-const DOCUMENTS: u32 = 400;
+/// Rows: what is made, the configuration, the text, how often, and what is counted.
+const ROWS: &str = "\
+    tokens simple|paragraph 12000|1 tokens
+    placed simple|paragraph 12000|1 lexemes placed by simple
+    placed english|paragraph 12000|1 lexemes placed by english
+    vector simple|paragraph 15|400 lexemes in vectors made by simple
+    vector english|paragraph 15|400 lexemes in vectors made by english
+    query simple|operand 9999+last 1|1 nodes in the query of 10000 operands
+    web english|paragraph 120|40 nodes in queries of web texts
+    query simple|open 1000000+letter 1+close 1000000|1 node in the query of a million brackets
+";
 
-/// How many operands the query has.
-const OPERANDS: u32 = 10_000;
+/// As `ROWS`, of input that is to take much time.
+const LONG_ROWS: &str = "\
+    placed long|letter 100000|1 lexemes placed where a long phrase is looked for
+    thesaurus simple|letter 1000000+rule 1|1 thesaurus of a million sample words
+    thesaurus simple|letters 10000000+rule 1|1 thesaurus of a sample word of 100 MB
+    thesaurus simple|indexed 33333333|1 thesaurus of 100 MB of indexed words
+    thesaurus simple|blanks 10000000+rule 1|1 thesaurus of 100 MB of blanks
+    web simple|quotes 10000000|1 nodes of 100 MB of quotes
+    web simple|hyphens 10000000|1 nodes of 100 MB of hyphens
+    web simple|or 25000000|1 nodes of 100 MB of operators
+    web simple|letter 50000000|1 nodes of 100 MB of one-letter words
+";
 
-/// How often the web text becomes a query.
-const WEB_TEXTS: u32 = 40;
-
-/// So many operands, each after `|` but the first.
-fn make_query(alloc: Global) -> Result<String, AllocError> {
-    let mut text = String::from_str(alloc, "word")?;
-    for k in 1..OPERANDS {
-        write!(text, " | word{k}")?;
+/// How many tokens a text has.
+fn count_tokens(text: &str) -> usize {
+    let mut count = 0usize;
+    for _ in tokens(text) {
+        count = count.saturating_add(1);
     }
-    Ok(text)
+    count
 }
 
-/// How many lexemes the vectors of so many such documents have, by the configuration of this name.
-fn count_lexemes(
-    alloc: Global,
-    configs: &Configs,
-    name: &str,
-    document: &str,
-) -> Result<usize, VectorError> {
+/// How much is made of a text.
+fn made(alloc: Global, configs: &Configs, config: &Config, maker: &str, text: &str) -> Result<usize>
+    requires { IsWithin configs.now config.now }
+{
+    Ok(match maker {
+        "tokens" => count_tokens(text),
+        "thesaurus" => usize::from(Thesaurus::read(alloc, text, &simple(alloc)).is_ok()),
+        "placed" => configs.lexize_all(alloc, config, text)?.len(),
+        "vector" => to_tsvector(alloc, configs, config, text)?.count(),
+        "web" => websearch_to_tsquery(alloc, configs, config, text)?
+            .nodes()
+            .len(),
+        _ => to_tsquery(alloc, configs, config, text)?.nodes().len(),
+    })
+}
+
+/// How much is made of a text, so many times; nothing where it is refused.
+fn made_often(alloc: Global, configs: &Configs, call: &str, text: &str, times: u32) -> usize {
+    let (maker, name) = cut(call);
     let Some(config) = configs.config(name) else {
-        return Ok(0);
+        return 0;
     };
     let mut count = 0usize;
-    for _ in 0..DOCUMENTS {
-        let vector = to_tsvector(alloc, configs, config, document)?;
-        count = count.saturating_add(vector.count());
+    for _ in 0..times {
+        count = count.saturating_add(made(alloc, configs, config, maker, text).unwrap_or(0));
     }
-    Ok(count)
+    count
 }
 
-/// Makes the vector of a document again and again.
-pub fn run_vectors(
-    rt: &(impl Print + Clock + AllocGlobal),
+/// Makes of a text what is called for, so many times, and prints how much that is.
+fn run_call(
+    bench: &Bench<'_>,
     configs: &Configs,
-    name: &str,
-    document: &str,
-    timed: bool,
-) -> Result<()> {
-    let start = Instant::now(rt)?;
-    let count = count_lexemes(rt.alloc(), configs, name, document)?;
-    let seconds = start.elapsed(rt)?.as_secs_f64();
-    println!(rt; "{count} lexemes in vectors made by {name}")?;
-    if timed {
-        let bytes = document.len().saturating_mul(DOCUMENTS as usize);
-        print_speed(rt, bytes, seconds)?;
-    }
-    Ok(())
-}
-
-/// How many nodes the query of such a text has.
-fn count_nodes(alloc: Global, configs: &Configs, text: &str) -> Result<usize, QueryError> {
-    let Some(config) = configs.config("simple") else {
-        return Ok(0);
-    };
-    let query = to_tsquery(alloc, configs, config, text)?;
-    Ok(query.nodes().len())
-}
-
-/// Makes a query of many operands.
-pub fn run_query(
-    rt: &(impl Print + Clock + AllocGlobal),
-    configs: &Configs,
-    timed: bool,
-) -> Result<()> {
-    let text = make_query(rt.alloc())?;
-    let start = Instant::now(rt)?;
-    let count = count_nodes(rt.alloc(), configs, &text)?;
-    let seconds = start.elapsed(rt)?.as_secs_f64();
-    println!(rt; "{count} nodes in the query of {OPERANDS} operands")?;
-    if timed {
-        print_time(rt, seconds)?;
-    }
-    Ok(())
-}
-
-/// How many nodes the web queries of such a text have together.
-fn count_web_nodes(alloc: Global, configs: &Configs, text: &str) -> Result<usize, QueryError> {
-    let Some(config) = configs.config("english") else {
-        return Ok(0);
-    };
-    let mut count = 0usize;
-    for _ in 0..WEB_TEXTS {
-        let query = websearch_to_tsquery(alloc, configs, config, text)?;
-        count = count.saturating_add(query.nodes().len());
-    }
-    Ok(count)
-}
-
-/// Makes the query of a web text again and again.
-pub fn run_web(
-    rt: &(impl Print + Clock + AllocGlobal),
-    configs: &Configs,
+    call: &str,
     text: &str,
-    timed: bool,
+    last: &str,
 ) -> Result<()> {
-    let start = Instant::now(rt)?;
-    let count = count_web_nodes(rt.alloc(), configs, text)?;
-    let seconds = start.elapsed(rt)?.as_secs_f64();
-    println!(rt; "{count} nodes in queries of web texts")?;
-    if timed {
-        let bytes = text.len().saturating_mul(WEB_TEXTS as usize);
-        print_speed(rt, bytes, seconds)?;
+    let (times, what) = cut(last);
+    let times = times.parse::<u32>()?;
+    let start = bench.start()?;
+    let count = made_often(bench.alloc(), configs, call, text, times);
+    let size = text.len().saturating_mul(times as usize);
+    bench.report(start, count, what, Figure::Bytes(size))
+}
+
+/// Makes what a row says, and prints it.
+fn run_row(bench: &Bench<'_>, configs: &Configs, row: &str) -> Result<()> {
+    let (call, rest) = row.split_once('|').unwrap_or((row, ""));
+    let (words, last) = rest.split_once('|').unwrap_or((rest, ""));
+    let text = text_of(bench.alloc(), words)?;
+    run_call(bench, configs, call, &text, last)
+}
+
+/// Makes what each row says.
+fn run_rows(bench: &Bench<'_>, configs: &Configs, rows: &str) -> Result<()> {
+    for row in rows.lines() {
+        run_row(bench, configs, row.trim())?;
     }
     Ok(())
+}
+
+/// Makes what each row says, and where time is asked for each that is to take much time.
+fn run_all_rows(bench: &Bench<'_>, configs: &Configs) -> Result<()> {
+    run_rows(bench, configs, ROWS)?;
+    if bench.is_timed() {
+        run_rows(bench, configs, LONG_ROWS)?;
+    }
+    Ok(())
+}
+
+/// Makes what there is to make.
+pub(crate) fn run_makers(bench: &Bench<'_>) -> Result<()> {
+    let configs = all_configs(bench.alloc())?;
+    run_all_rows(bench, &configs)
 }
