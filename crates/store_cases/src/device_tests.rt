@@ -2,9 +2,9 @@
 ghost use Rattle.std.specs.Prelude.{◌≤◌};
 ghost use Rattle.disk_trait.specs.MemoryDisk.{clock_of};
 
-use crate::rows::{all_hold, bytes_of, long, number, numbers, word};
+use crate::rows::{bytes_of, long, number, numbers, see, word};
 use disk_trait::{Disk, Failed, File, MemoryDisk, MemorySink, MemorySource, Sink, Source};
-use std::alloc::Global;
+use std::alloc::{AllocError, Global};
 use std::test::Fail;
 
 /// Calls of a device with what each gives. `new` begins another device, with the numbers of the calls that fail;
@@ -79,73 +79,86 @@ fn file_of(name: &str) -> File {
     }
 }
 
-/// What a read of a whole short file gives.
-fn content(alloc: Global, disk: &mut MemoryDisk, file: File) -> Result<Vec<u8>, Fail> {
-    let mut bytes = vec![in alloc; 0u8; 16]?;
-    let n = disk.read(file, 0, &mut bytes)?;
-    bytes.truncate(n);
-    Ok(bytes)
+/// What a read of a whole short file gives, and how many bytes these are; none but more where it fails.
+fn content(disk: &mut MemoryDisk, file: File) -> ([u8; 16], usize) {
+    let mut bytes = [0u8; 16];
+    let n = disk.read(file, 0, &mut bytes).unwrap_or(usize::MAX);
+    (bytes, n)
 }
 
-/// A file of an image.
-fn left(
-    alloc: Global,
-    disk: &MemoryDisk,
-    file: File,
-    moment: u64,
-    pick: u64,
-) -> Result<Vec<u8>, Fail>
-    requires { moment ≤ clock_of disk.now }
-{
-    let mut image = disk.image(alloc, moment, pick)?;
-    content(alloc, &mut image, file)
+/// Whether a short file has these bytes.
+fn has(disk: &mut MemoryDisk, file: File, wanted: &[u8]) -> bool {
+    let (bytes, n) = content(disk, file);
+    bytes.get(..n) == Some(wanted)
 }
 
 /// Whether a file of the image of a moment and a pick has these bytes. No image is of a moment to come.
-fn leaves(alloc: Global, disk: &MemoryDisk, file: File, words: &str) -> Result<bool, Fail> {
+fn leaves(alloc: Global, disk: &MemoryDisk, file: File, words: &str) -> Result<bool, AllocError> {
     let (moment, rest) = word(words);
     let (pick, bytes) = word(rest);
     let moment = long(moment);
     if disk.calls() < moment {
         return Ok(false);
     }
-    Ok(left(alloc, disk, file, moment, long(pick))? == bytes_of(alloc, bytes)?)
+    let wanted = bytes_of(alloc, bytes)?;
+    let mut image = disk.image(alloc, moment, long(pick))?;
+    Ok(has(&mut image, file, &wanted))
+}
+
+/// What the log of the image of this moment and a pick has.
+fn drawn(alloc: Global, disk: &MemoryDisk, pick: u64) -> Result<([u8; 16], usize), AllocError> {
+    let mut image = disk.image(alloc, disk.calls(), pick)?;
+    Ok(content(&mut image, File::Log))
 }
 
 /// Whether the picks 3 and 99 draw other bytes, in the ranges that were not synced alone.
-fn draws(alloc: Global, disk: &MemoryDisk) -> Result<bool, Fail> {
-    let drawn = left(alloc, disk, File::Log, disk.calls(), 3)?;
-    let other = left(alloc, disk, File::Log, disk.calls(), 99)?;
-    let kept = [drawn.first(), drawn.get(3), drawn.get(4)] == [Some(&1), Some(&4), Some(&0)];
-    Ok(kept && drawn.len() == 7 && drawn != other)
+fn draws(alloc: Global, disk: &MemoryDisk) -> Result<bool, AllocError> {
+    let (bytes, n) = drawn(alloc, disk, 3)?;
+    let other = drawn(alloc, disk, 99)?;
+    let kept = [bytes[0], bytes[3], bytes[4]] == [1, 4, 0];
+    Ok(kept && n == 7 && (bytes, n) != other)
 }
 
-/// Whether a write of these bytes at a small place is done, and synced where it goes through, as is said after
-/// them.
+/// Whether a write of these bytes at a small place is done, and synced where it goes through.
+fn is_done(disk: &mut MemoryDisk, file: File, at: u32, bytes: &[u8], through: bool) -> bool {
+    if bytes.len() > 1000 {
+        return false;
+    }
+    let at = u64::from(at);
+    if through {
+        disk_trait::write_and_sync(disk, file, at, bytes).is_ok()
+    } else {
+        disk.write_at(file, at, bytes).is_ok()
+    }
+}
+
+/// Whether such a write is done as is said after its bytes.
 fn writes(
     alloc: Global,
     disk: &mut MemoryDisk,
     file: File,
     words: &str,
     through: bool,
-) -> Result<bool, Fail> {
+) -> Result<bool, AllocError> {
     let (at, rest) = word(words);
     let (bytes, done) = word(rest);
-    let at = u64::from(number(at));
     let bytes = bytes_of(alloc, bytes)?;
-    if bytes.len() > 1000 {
-        return Ok(false);
-    }
-    let result = if through {
-        disk_trait::write_and_sync(disk, file, at, &bytes)
-    } else {
-        disk.write_at(file, at, &bytes)
-    };
-    Ok(result.is_ok() == (done == "ok"))
+    Ok(is_done(disk, file, number(at), &bytes, through) == (done == "ok"))
+}
+
+/// Whether a file has the bytes of these words.
+fn reads(
+    alloc: Global,
+    disk: &mut MemoryDisk,
+    file: File,
+    words: &str,
+) -> Result<bool, AllocError> {
+    let wanted = bytes_of(alloc, words)?;
+    Ok(has(disk, file, &wanted))
 }
 
 /// Whether a look at a device gives what its row says.
-fn tells(alloc: Global, disk: &MemoryDisk, verb: &str, words: &str) -> Result<bool, Fail> {
+fn tells(alloc: Global, disk: &MemoryDisk, verb: &str, words: &str) -> Result<bool, AllocError> {
     let (first, rest) = word(words);
     match verb {
         "draws" => draws(alloc, disk),
@@ -155,7 +168,12 @@ fn tells(alloc: Global, disk: &MemoryDisk, verb: &str, words: &str) -> Result<bo
 }
 
 /// Whether a call of a file gives what its row says.
-fn gives_file(alloc: Global, disk: &mut MemoryDisk, verb: &str, words: &str) -> Result<bool, Fail> {
+fn gives_file(
+    alloc: Global,
+    disk: &mut MemoryDisk,
+    verb: &str,
+    words: &str,
+) -> Result<bool, AllocError> {
     let (first, rest) = word(words);
     let file = file_of(first);
     match verb {
@@ -163,12 +181,12 @@ fn gives_file(alloc: Global, disk: &mut MemoryDisk, verb: &str, words: &str) -> 
         "through" => writes(alloc, disk, file, rest, true),
         "sync" => Ok(disk.sync(file).is_ok() == (rest == "ok")),
         "length" => Ok(disk.length(file).ok() == rest.parse().ok()),
-        _ => Ok(content(alloc, disk, file)? == bytes_of(alloc, rest)?),
+        _ => reads(alloc, disk, file, rest),
     }
 }
 
 /// Whether a row holds.
-fn holds(alloc: Global, disk: &mut MemoryDisk, row: &str) -> Result<bool, Fail> {
+fn holds(alloc: Global, disk: &mut MemoryDisk, row: &str) -> Result<bool, AllocError> {
     let (verb, words) = word(row);
     match verb {
         "new" => *disk = MemoryDisk::new(alloc, numbers(alloc, words)?),
@@ -183,7 +201,10 @@ fn holds(alloc: Global, disk: &mut MemoryDisk, row: &str) -> Result<bool, Fail> 
 fn a_device_gives_what_was_written(rt: HostRuntime) -> Result<(), Fail> {
     let alloc = rt.alloc();
     let mut disk = MemoryDisk::new(alloc, Vec::new(alloc));
-    all_hold(&rt, CALLS, |row| holds(alloc, &mut disk, row))
+    for row in CALLS.lines() {
+        see(&rt, holds(alloc, &mut disk, row.trim())?, row);
+    }
+    Ok(())
 }
 
 /// Images of the log that `write_much` leaves: a moment, a pick and a byte, how long the log is, and how many bytes
@@ -212,26 +233,36 @@ fn write_much(disk: &mut MemoryDisk, piece: &[u8; 50]) -> Result<(), Failed> {
 }
 
 /// How many of the bytes are this one.
-fn count_of(bytes: &[u8], byte: u32) -> usize {
-    bytes.iter().filter(|b| u32::from(**b) == byte).count()
+fn count_of(bytes: &[u8], wanted: u8) -> usize {
+    let mut count = 0usize;
+    for byte in bytes {
+        count = count.saturating_add(usize::from(*byte == wanted));
+    }
+    count
+}
+
+/// How many bytes the log of an image has, and how many are this one.
+fn counts(alloc: Global, mut image: MemoryDisk, byte: u8) -> Result<(usize, usize), AllocError> {
+    let mut bytes = vec![in alloc; 0u8; 100_001]?;
+    let n = image.read(File::Log, 0, &mut bytes).unwrap_or(0);
+    bytes.truncate(n);
+    Ok((n, count_of(&bytes, byte)))
 }
 
 /// Whether an image is as its row says.
-fn is_left(alloc: Global, disk: &MemoryDisk, row: &str) -> Result<bool, Fail> {
+fn is_left(alloc: Global, disk: &MemoryDisk, row: &str) -> Result<bool, AllocError> {
     let (moment, rest) = word(row);
     let (pick, rest) = word(rest);
     let (byte, rest) = word(rest);
     let (len, count) = word(rest);
+    let byte = byte.parse().unwrap_or(0);
     let moment = long(moment);
     if disk.calls() < moment {
         return Ok(false);
     }
-    let mut image = disk.image(alloc, moment, long(pick))?;
-    let mut bytes = vec![in alloc; 0u8; 100_001]?;
-    let n = image.read(File::Log, 0, &mut bytes)?;
-    bytes.truncate(n);
+    let image = disk.image(alloc, moment, long(pick))?;
     let wanted = (number(len) as usize, number(count) as usize);
-    Ok((n, count_of(&bytes, number(byte))) == wanted)
+    Ok(counts(alloc, image, byte)? == wanted)
 }
 
 #[test]
@@ -240,7 +271,10 @@ fn images_of_much(rt: HostRuntime) -> Result<(), Fail> {
     let mut disk = MemoryDisk::new(alloc, Vec::new(alloc));
     write_much(&mut disk, &[7; 50])?;
     assert_eq!(rt; (disk.calls(), disk.length(File::Log)), (3999, Ok(100_000)));
-    all_hold(&rt, MUCH, |row| is_left(alloc, &disk, row))
+    for row in MUCH.lines() {
+        see(&rt, is_left(alloc, &disk, row.trim())?, row);
+    }
+    Ok(())
 }
 
 /// How many bytes each read of four gives of 1, 2 and 3, by pieces of two, where the second fails; and what is then
@@ -265,42 +299,61 @@ fn gives(
     source: &mut MemorySource,
     buf: &mut [u8],
     row: &str,
-) -> Result<bool, Fail> {
+) -> Result<bool, AllocError> {
     let (count, bytes) = word(row);
+    let wanted = bytes_of(alloc, bytes)?;
     let read = source.read(buf).ok();
-    Ok(read == count.parse().ok() && bytes_of(alloc, bytes)?.as_slice() == buf)
+    Ok(read == count.parse().ok() && wanted.as_slice() == buf)
 }
 
 /// Whether a write is taken as its row says.
-fn takes(alloc: Global, sink: &mut MemorySink, row: &str) -> Result<bool, Fail> {
+fn takes(alloc: Global, sink: &mut MemorySink, row: &str) -> Result<bool, AllocError> {
     let (bytes, count) = word(row);
-    Ok(sink.write(&bytes_of(alloc, bytes)?).ok() == count.parse().ok())
+    let bytes = bytes_of(alloc, bytes)?;
+    Ok(sink.write(&bytes).ok() == count.parse().ok())
 }
 
 #[test]
-fn a_source_gives_and_a_sink_takes(rt: HostRuntime) -> Result<(), Fail> {
+fn a_source_gives(rt: HostRuntime) -> Result<(), Fail> {
     let alloc = rt.alloc();
-    let mut source = MemorySource::new(vec![in alloc; 1u8, 2, 3]?, vec![in alloc; 2u64]?, 2);
+    let fails = vec![in alloc; 2u64]?;
+    let mut source = MemorySource::new(vec![in alloc; 1u8, 2, 3]?, fails, 2);
     let mut buf = [0u8; 4];
-    all_hold(&rt, READS, |row| gives(alloc, &mut source, &mut buf, row))?;
-    let mut sink = MemorySink::new(alloc, vec![in alloc; 2u64]?);
-    all_hold(&rt, WRITES, |row| takes(alloc, &mut sink, row))?;
-    assert!(rt; sink.bytes() == b"abd".as_slice());
+    for row in READS.lines() {
+        see(&rt, gives(alloc, &mut source, &mut buf, row.trim())?, row);
+    }
     Ok(())
+}
+
+#[test]
+fn a_sink_takes(rt: HostRuntime) -> Result<(), Fail> {
+    let alloc = rt.alloc();
+    let mut sink = MemorySink::new(alloc, vec![in alloc; 2u64]?);
+    for row in WRITES.lines() {
+        see(&rt, takes(alloc, &mut sink, row.trim())?, row);
+    }
+    see(&rt, sink.bytes() == b"abd".as_slice(), "abd");
+    Ok(())
+}
+
+/// So many reads of a source, each written to a sink; how many bytes one more gives.
+fn pass_on(source: &mut MemorySource, sink: &mut MemorySink, times: u32) -> Result<usize, Failed> {
+    let mut buf = [0u8; 1000];
+    for _ in 0..times {
+        let n = source.read(&mut buf)?;
+        sink.write(buf.get(..n).unwrap_or(b""))?;
+    }
+    source.read(&mut buf)
 }
 
 /// 100,000 bytes are given in pieces, and taken in pieces.
 #[test]
 fn much_is_given_and_taken(rt: HostRuntime) -> Result<(), Fail> {
     let alloc = rt.alloc();
-    let mut source = MemorySource::new(vec![in alloc; 7u8; 100_000]?, Vec::new(alloc), 999);
+    let bytes = vec![in alloc; 7u8; 100_000]?;
+    let mut source = MemorySource::new(bytes, Vec::new(alloc), 999);
     let mut sink = MemorySink::new(alloc, Vec::new(alloc));
-    let mut buf = [0u8; 1000];
-    for _ in 0..101 {
-        let n = source.read(&mut buf)?;
-        sink.write(&buf[..n])?;
-    }
-    let last = source.read(&mut buf);
+    let last = pass_on(&mut source, &mut sink, 101);
     let taken = (sink.bytes().len(), count_of(sink.bytes(), 7));
     assert_eq!(rt; (last, taken), (Ok(0), (100_000, 100_000)));
     Ok(())

@@ -22,6 +22,12 @@ const SETTINGS: Settings = Settings {
 
 /// What a look tells: how many records and commits there are, the floor, and the number up to which deleted pages
 /// may be taken again.
+type Look = (u64, u32, u32, u64);
+
+/// What a look tells before a change, the commits of its snapshot, and what is drawn.
+type Under = (Look, u32, [(u64, u64); 2]);
+
+/// Asks for a look.
 struct Told;
 
 impl Ask<(u64, u32, u32, u64)> for Told {
@@ -119,10 +125,7 @@ fn flush<D: Disk>(frames: &mut Frames<D>, pass: &mut Pass) -> Result<(), LogErro
 }
 
 /// What a look tells.
-fn tells<D: Disk>(
-    frames: &mut Frames<D>,
-    pass: &mut Pass,
-) -> Result<(u64, u32, u32, u64), FrameError>
+fn tells<D: Disk>(frames: &mut Frames<D>, pass: &mut Pass) -> Result<Look, FrameError>
     requires pass { IsPassOf frames.old pass.old }
     ensures pass { IsPassOf frames.new pass.new }
     ensures idle { IsHolding D.Disk frames.old pass.old [] → IsHolding D.Disk frames.new pass.new [] }
@@ -158,7 +161,7 @@ fn under_a_snapshot<D: Disk>(
     alloc: Global,
     frames: &mut Frames<D>,
     pass: &mut Pass,
-) -> Result<((u64, u32, u32, u64), u32, [(u64, u64); 2]), Fail>
+) -> Result<Under, Fail>
     requires silent { D.tells → ⊥ }
     requires pass { IsPassOf frames.old pass.old }
     requires idle { IsHolding D.Disk frames.old pass.old [] }
@@ -174,10 +177,7 @@ fn under_a_snapshot<D: Disk>(
 }
 
 /// What a look tells of a flushed change under the snapshot, and after it.
-fn after_a_snapshot<D: Disk>(
-    frames: &mut Frames<D>,
-    pass: &mut Pass,
-) -> Result<[(u64, u32, u32, u64); 2], Fail>
+fn after_a_snapshot<D: Disk>(frames: &mut Frames<D>, pass: &mut Pass) -> Result<[Look; 2], Fail>
     requires pass { IsPassOf frames.old pass.old }
     ensures same { pass.new.room ≡ pass.old.room }
 {
@@ -187,17 +187,43 @@ fn after_a_snapshot<D: Disk>(
     Ok([under, tells(frames, pass)?])
 }
 
-/// What a look tells of a device, and what the next transaction draws.
-fn goes_on<D: Disk + Drop>(
+/// Both, one after the other.
+fn through_a_snapshot<D: Disk>(
     alloc: Global,
-    disk: D,
-) -> Result<((u64, u32, u32, u64), (u64, u64)), Fail>
+    frames: &mut Frames<D>,
+    pass: &mut Pass,
+) -> Result<(Under, [Look; 2]), Fail>
+    requires silent { D.tells → ⊥ }
+    requires pass { IsPassOf frames.old pass.old }
+    requires idle { IsHolding D.Disk frames.old pass.old [] }
+    requires none { (pass.old.pin ≡ None) × (pass.old.xid ≡ None) }
+    ensures same { pass.new.room ≡ pass.old.room }
+{
+    let under = under_a_snapshot(alloc, frames, pass)?;
+    Ok((under, after_a_snapshot(frames, pass)?))
+}
+
+/// What a look tells, and what the next transaction draws.
+fn draws_next<D: Disk>(
+    alloc: Global,
+    frames: &mut Frames<D>,
+    pass: &mut Pass,
+) -> Result<(Look, (u64, u64)), Fail>
+    requires silent { D.tells → ⊥ }
+    requires pass { IsPassOf frames.old pass.old }
+    requires idle { IsHolding D.Disk frames.old pass.old [] }
+    requires none { pass.old.xid ≡ None }
+{
+    let told = tells(frames, pass)?;
+    Ok((told, parts(begin(alloc, frames, pass)?)))
+}
+
+/// The same of a device.
+fn goes_on<D: Disk + Drop>(alloc: Global, disk: D) -> Result<(Look, (u64, u64)), Fail>
     requires silent { D.tells → ⊥ }
 {
     let (mut frames, mut pass) = opened(alloc, disk)?;
-    let told = tells(&mut frames, &mut pass)?;
-    let begun = begin(alloc, &mut frames, &mut pass)?;
-    Ok((told, parts(begun)))
+    draws_next(alloc, &mut frames, &mut pass)
 }
 
 /// The number and the value that are drawn.
@@ -210,8 +236,7 @@ fn a_store_is_opened_again(rt: HostRuntime) -> Result<(), Fail> {
     let alloc = rt.alloc();
     let disk = Silent(MemoryDisk::new(alloc, Vec::new(alloc)));
     let (mut frames, mut pass) = opened(alloc, disk)?;
-    let under = under_a_snapshot(alloc, &mut frames, &mut pass)?;
-    let after = after_a_snapshot(&mut frames, &mut pass)?;
+    let (under, after) = through_a_snapshot(alloc, &mut frames, &mut pass)?;
     let again = goes_on(alloc, frames.close(pass))?;
     assert!(rt; under == ((1, 0, 0, 1), 0, [(2, 1), (3, 1)]));
     assert!(rt; after == [(3, 1, 0, 1), (3, 1, 1, 3)]);
@@ -247,6 +272,16 @@ fn is_held<D: Disk>(
     Ok(is)
 }
 
+/// Whether a leaf, a free page and the first page are held.
+fn are_held<D: Disk>(frames: &mut Frames<D>, pass: &mut Pass) -> Result<[bool; 3], FrameError>
+    requires pass { IsPassOf frames.old pass.old }
+    requires idle { IsHolding D.Disk frames.old pass.old [] }
+{
+    let leaf = is_held(frames, pass, 1, "leaf")?;
+    let free = is_held(frames, pass, 7, "free")?;
+    Ok([leaf, free, is_held_once(frames, pass)?])
+}
+
 /// Whether the first page is held as the first record left it, and not once more.
 fn is_held_once<D: Disk>(frames: &mut Frames<D>, pass: &mut Pass) -> Result<bool, FrameError>
     requires pass { IsPassOf frames.old pass.old }
@@ -262,11 +297,24 @@ fn is_held_once<D: Disk>(frames: &mut Frames<D>, pass: &mut Pass) -> Result<bool
 fn pages_are_held(rt: HostRuntime) -> Result<(), Fail> {
     let alloc = rt.alloc();
     let (mut frames, mut pass) = opened(alloc, MemoryDisk::new(alloc, Vec::new(alloc)))?;
-    let leaf = is_held(&mut frames, &mut pass, 1, "leaf")?;
-    let free = is_held(&mut frames, &mut pass, 7, "free")?;
-    let meta = is_held_once(&mut frames, &mut pass)?;
-    assert!(rt; (leaf, free, meta) == (true, true, true));
+    assert!(rt; are_held(&mut frames, &mut pass)? == [true, true, true]);
     Ok(())
+}
+
+/// What a second session is told after a change of the first, which then takes it back.
+fn shares<D: Disk>(alloc: Global, frames: &mut Frames<D>, pass: &mut Pass) -> Result<Look, Fail>
+    requires silent { D.tells → ⊥ }
+    requires pass { IsPassOf frames.old pass.old }
+    requires idle { IsHolding D.Disk frames.old pass.old [] }
+    requires whole { IsWhole frames.old.journal pass.old }
+    ensures room { OnOk result (pass.new.room ≡ 16) }
+{
+    let mut other = frames.split(pass);
+    change(alloc, frames, pass)?;
+    flush(frames, pass)?;
+    let told = tells(frames, &mut other)?;
+    frames.join(pass, other);
+    Ok(told)
 }
 
 #[test]
@@ -274,11 +322,7 @@ fn sessions_share_a_store(rt: HostRuntime) -> Result<(), Fail> {
     let alloc = rt.alloc();
     let disk = Silent(MemoryDisk::new(alloc, Vec::new(alloc)));
     let (mut frames, mut pass) = opened(alloc, disk)?;
-    let mut other = frames.split(&mut pass);
-    change(alloc, &mut frames, &mut pass)?;
-    flush(&mut frames, &mut pass)?;
-    let told = tells(&mut frames, &mut other)?;
-    frames.join(&mut pass, other);
+    let told = shares(alloc, &mut frames, &mut pass)?;
     let _ = frames.close(pass);
     assert!(rt; told == (3, 1, 1, 3));
     Ok(())

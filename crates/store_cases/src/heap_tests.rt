@@ -4,7 +4,7 @@ ghost use Rattle.page_types.specs.Pages.{IsPage};
 ghost use Rattle.doc_heap.specs.HeapPages.{head_on};
 
 use crate::page_tests::{page_in, told_page};
-use crate::rows::{all_hold, bytes_of, cut, long, number, page_with, short, word};
+use crate::rows::{bytes_of, cut, long, number, page_with, see, short, word};
 use doc_heap::{free, head, mark, place};
 use page_types::{Bytes, Head, Page};
 use std::alloc::{AllocError, Global};
@@ -77,20 +77,35 @@ fn head_of(alloc: Global, words: &str) -> Result<Head, AllocError> {
     })
 }
 
+/// Whether two pages say the same.
+fn say_same(alloc: Global, page: &Page, other: &Page) -> Result<bool, AllocError> {
+    let told = told_page(alloc, page)?;
+    Ok(told == told_page(alloc, other)?)
+}
+
 /// Whether a page has these bytes.
-fn has_bytes(alloc: Global, page: &Page, words: &str) -> Result<bool, Fail> {
-    let wanted = page_in(alloc, &page_with(alloc, words)?)?;
-    Ok(told_page(alloc, page)? == told_page(alloc, &wanted)?)
+fn has_bytes(alloc: Global, page: &Page, words: &str) -> Result<bool, AllocError> {
+    let bytes = page_with(alloc, words)?;
+    match page_in(alloc, &bytes) {
+        Ok(wanted) => say_same(alloc, page, &wanted),
+        Err(_) => Ok(false),
+    }
+}
+
+/// Whether this slot, and this page, are what a row says.
+fn is_there(alloc: Global, page: &Page, slot: u16, tells: &str) -> Result<bool, AllocError> {
+    let (wanted, after) = cut(tells);
+    Ok(slot == short(wanted) && has_bytes(alloc, page, after)?)
 }
 
 /// Whether a head is placed where its row says, and makes this page.
-fn is_placed(alloc: Global, page: &Page, words: &str, tells: &str) -> Result<bool, Fail>
+fn is_placed(alloc: Global, page: &Page, words: &str, tells: &str) -> Result<bool, AllocError>
     requires { IsPage page.now }
 {
-    let (slot, after) = cut(tells);
-    match place(alloc, page, &head_of(alloc, words)?)? {
+    let head = head_of(alloc, words)?;
+    match place(alloc, page, &head)? {
         None => Ok(tells == "none"),
-        Some((placed, k)) => Ok(k == short(slot) && has_bytes(alloc, &placed, after)?),
+        Some((placed, slot)) => is_there(alloc, &placed, slot, tells),
     }
 }
 
@@ -102,7 +117,7 @@ fn has_head(page: &Page, slot: u16) -> bool
 }
 
 /// Whether a slot has the head that its row says.
-fn is_read(alloc: Global, page: &Page, slot: u16, tells: &str) -> Result<bool, Fail> {
+fn is_read(alloc: Global, page: &Page, slot: u16, tells: &str) -> Result<bool, AllocError> {
     let text = format!(in alloc; "{:?}", head(page, slot))?;
     Ok(text.as_str() == tells)
 }
@@ -114,7 +129,7 @@ fn is_changed(
     marks: bool,
     words: &str,
     tells: &str,
-) -> Result<bool, Fail> {
+) -> Result<bool, AllocError> {
     let (slot, xid) = word(words);
     let slot = short(slot);
     if !has_head(&page, slot) {
@@ -128,12 +143,11 @@ fn is_changed(
     has_bytes(alloc, &page, tells)
 }
 
-/// Whether a row holds.
-fn holds(alloc: Global, row: &str) -> Result<bool, Fail> {
-    let (words, rest) = cut(row);
-    let (before, tells) = cut(rest);
+/// Whether a change of a page, or a look at it, gives what its row says.
+fn gives(alloc: Global, page: Page, words: &str, tells: &str) -> Result<bool, AllocError>
+    requires { IsPage page }
+{
     let (verb, words) = word(words);
-    let page = page_in(alloc, &page_with(alloc, before)?)?;
     match verb {
         "place" => is_placed(alloc, &page, words, tells),
         "head" => is_read(alloc, &page, short(words), tells),
@@ -141,8 +155,22 @@ fn holds(alloc: Global, row: &str) -> Result<bool, Fail> {
     }
 }
 
+/// Whether a row holds.
+fn holds(alloc: Global, row: &str) -> Result<bool, AllocError> {
+    let (words, rest) = cut(row);
+    let (before, tells) = cut(rest);
+    let bytes = page_with(alloc, before)?;
+    match page_in(alloc, &bytes) {
+        Ok(page) => gives(alloc, page, words, tells),
+        Err(_) => Ok(false),
+    }
+}
+
 #[test]
 fn heads_are_placed_marked_freed_and_read(rt: HostRuntime) -> Result<(), Fail> {
     let alloc = rt.alloc();
-    all_hold(&rt, HEADS, |row| holds(alloc, row))
+    for row in HEADS.lines() {
+        see(&rt, holds(alloc, row.trim())?, row);
+    }
+    Ok(())
 }

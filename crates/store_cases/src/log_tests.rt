@@ -1,10 +1,10 @@
 // The log by its calls: what waited is one batch, what is no log is refused, and what a fault or a crash leaves.
-ghost use Rattle.std.specs.Prelude.{◌+◌, ◌^◌, ◌≤◌, length, IfOk};
+ghost use Rattle.std.specs.Prelude.{◌≡◌, ◌+◌, ◌^◌, ◌<◌, ◌≤◌, length, true, IfOk};
 ghost use Rattle.disk_trait.specs.Files.{file_limit};
 ghost use Rattle.disk_trait.specs.MemoryDisk.{clock_of};
-ghost use Rattle.wal.specs.Waiting.{IsReadToEnd};
+ghost use Rattle.wal.specs.Waiting.{IsReadToEnd, waiting};
 
-use crate::rows::{all_hold, bytes_of, cut, long, word};
+use crate::rows::{bytes_of, cut, long, see, word};
 use crate::silent::Silent;
 use disk_trait::{Disk, File, MemoryDisk};
 use std::alloc::Global;
@@ -88,7 +88,7 @@ const CALLS: &str = "\
 ";
 
 /// A device whose log holds these bytes.
-fn holding(alloc: Global, bytes: &[u8]) -> Result<Silent, Fail>
+fn holding(alloc: Global, bytes: &[u8]) -> Result<Silent, ReadError>
     requires { length bytes.now ≤ file_limit }
 {
     let mut disk = Silent(MemoryDisk::new(alloc, Vec::new(alloc)));
@@ -97,12 +97,17 @@ fn holding(alloc: Global, bytes: &[u8]) -> Result<Silent, Fail>
     Ok(disk)
 }
 
-/// The log's bytes, of which there are few.
-fn content(alloc: Global, disk: &mut Silent) -> Result<Vec<u8>, Fail> {
-    let mut bytes = vec![in alloc; 0u8; 64]?;
-    let n = disk.read(File::Log, 0, &mut bytes)?;
-    bytes.truncate(n);
-    Ok(bytes)
+/// The log's bytes, of which there are few, and how many they are; none but more where they are not read.
+fn content(disk: &mut Silent) -> ([u8; 64], usize) {
+    let mut bytes = [0u8; 64];
+    let n = disk.read(File::Log, 0, &mut bytes).unwrap_or(usize::MAX);
+    (bytes, n)
+}
+
+/// Whether the log has these bytes.
+fn has(disk: &mut Silent, wanted: &[u8]) -> bool {
+    let (bytes, n) = content(disk);
+    bytes.get(..n) == Some(wanted)
 }
 
 /// A log without a batch, that is created, and ready for entries.
@@ -137,20 +142,25 @@ fn batches(alloc: Global, disk: &mut Silent) -> Result<Vec<u8>, ReadError> {
     Ok(all)
 }
 
+/// Whether a log is created on a device.
+fn is_created(alloc: Global, disk: &mut Silent) -> Result<bool, ReadError> {
+    Wal::create(disk)?;
+    let is_new = has(disk, b"\x01GINSH DRAFT 0003\0");
+    Ok(is_new && batches(alloc, disk)?.is_empty())
+}
+
 /// Whether a log is created over these bytes.
-fn is_created_over(alloc: Global, word: &str) -> Result<bool, Fail> {
+fn is_created_over(alloc: Global, word: &str) -> Result<bool, ReadError> {
     let bytes = bytes_of(alloc, word)?;
     if MOST_WAITING < bytes.len() {
         return Ok(false);
     }
     let mut disk = holding(alloc, &bytes)?;
-    Wal::create(&mut disk)?;
-    let is_new = content(alloc, &mut disk)?.as_slice() == b"\x01GINSH DRAFT 0003\0".as_slice();
-    Ok(is_new && batches(alloc, &mut disk)?.is_empty())
+    is_created(alloc, &mut disk)
 }
 
 /// Whether a log is created over each of the bytes of a row.
-fn are_created_over(alloc: Global, row: &str) -> Result<bool, Fail> {
+fn are_created_over(alloc: Global, row: &str) -> Result<bool, ReadError> {
     for word in row.split(' ') {
         if !is_created_over(alloc, word)? {
             return Ok(false);
@@ -159,18 +169,38 @@ fn are_created_over(alloc: Global, row: &str) -> Result<bool, Fail> {
     Ok(true)
 }
 
+/// Whether the log of a device has batches with these bytes.
+fn are_batches(alloc: Global, disk: &mut Silent, words: &str) -> Result<bool, ReadError> {
+    let wanted = bytes_of(alloc, words)?;
+    Ok(batches(alloc, disk)? == wanted)
+}
+
+/// Whether the log of a device has these batches, or is refused as no store.
+fn has_batches(alloc: Global, disk: &mut Silent, words: &str) -> Result<bool, ReadError> {
+    if words == "refused" {
+        return Ok(batches(alloc, disk).err() == Some(ReadError::NotAStore));
+    }
+    are_batches(alloc, disk, words)
+}
+
 /// Whether bytes are a log with the batches that its row says, or are refused as no store.
-fn is_opened(alloc: Global, row: &str) -> Result<bool, Fail> {
+fn is_opened(alloc: Global, row: &str) -> Result<bool, ReadError> {
     let (words, wanted) = cut(row);
     let log = bytes_of(alloc, words)?;
     if MOST_WAITING < log.len() {
         return Ok(false);
     }
     let mut disk = holding(alloc, &log)?;
-    match batches(alloc, &mut disk) {
-        Ok(got) => Ok(wanted != "refused" && got == bytes_of(alloc, wanted)?),
-        Err(e) => Ok(wanted == "refused" && e == ReadError::NotAStore),
-    }
+    has_batches(alloc, &mut disk, wanted)
+}
+
+/// Flushes a log in which much waits; whether there is little then.
+fn makes_room(wal: &mut Wal, disk: &mut Silent) -> bool
+    requires { IsReadToEnd wal.old }
+    ensures ready { IsReadToEnd wal.new }
+    ensures room { result ≡ true → length (waiting wal.new) < MOST_WAITING }
+{
+    wal.waits() < MOST_WAITING || wal.flush(disk).is_ok()
 }
 
 /// Whether an append is done where it has room, and is refused where it has none. A flush comes first where much
@@ -182,7 +212,7 @@ fn appends(wal: &mut Wal, disk: &mut Silent, entry: &[u8], room: bool) -> bool
     if MOST_WAITING < entry.len() {
         return false;
     }
-    if wal.waits() >= MOST_WAITING && wal.flush(disk).is_err() {
+    if !makes_room(wal, disk) {
         return false;
     }
     match wal.append(entry) {
@@ -192,7 +222,7 @@ fn appends(wal: &mut Wal, disk: &mut Silent, entry: &[u8], room: bool) -> bool
 }
 
 /// Begins another log.
-fn renew(alloc: Global, wal: &mut Wal, disk: &mut Silent, limit: u64) -> Result<(), Fail>
+fn renew(alloc: Global, wal: &mut Wal, disk: &mut Silent, limit: u64) -> Result<(), ReadError>
     requires { IsReadToEnd wal.old }
     ensures { IsReadToEnd wal.new }
 {
@@ -201,24 +231,46 @@ fn renew(alloc: Global, wal: &mut Wal, disk: &mut Silent, limit: u64) -> Result<
     Ok(())
 }
 
+/// Whether an append of the bytes of a word is done, or is refused, as its row says.
+fn puts(alloc: Global, wal: &mut Wal, disk: &mut Silent, words: &str) -> Result<bool, ReadError>
+    requires { IsReadToEnd wal.old }
+    ensures { IsReadToEnd wal.new }
+{
+    let (outcome, entry) = word(words);
+    let bytes = bytes_of(alloc, entry)?;
+    Ok(appends(wal, disk, &bytes, outcome == "ok"))
+}
+
+/// Whether the log has the bytes of these words.
+fn holds(alloc: Global, disk: &mut Silent, words: &str) -> Result<bool, ReadError> {
+    let wanted = bytes_of(alloc, words)?;
+    Ok(has(disk, &wanted))
+}
+
+/// Whether a look at a device gives what its row says.
+fn tells(alloc: Global, disk: &mut Silent, verb: &str, words: &str) -> Result<bool, ReadError> {
+    match verb {
+        "calls" => Ok(disk.0.calls() == long(words)),
+        "length" => Ok(disk.length(File::Log) == Ok(long(words))),
+        "holds" => holds(alloc, disk, words),
+        _ => are_batches(alloc, disk, words),
+    }
+}
+
 /// Whether a call gives what its row says.
-fn gives(alloc: Global, wal: &mut Wal, disk: &mut Silent, row: &str) -> Result<bool, Fail>
+fn gives(alloc: Global, wal: &mut Wal, disk: &mut Silent, row: &str) -> Result<bool, ReadError>
     requires { IsReadToEnd wal.old }
     ensures { IsReadToEnd wal.new }
 {
     let (verb, rest) = word(row);
-    let (outcome, entry) = word(rest);
     match verb {
         "new" => {
             renew(alloc, wal, disk, long(rest))?;
             Ok(true)
         }
-        "append" => Ok(appends(wal, disk, &bytes_of(alloc, entry)?, outcome == "ok")),
+        "append" => puts(alloc, wal, disk, rest),
         "flush" => Ok(wal.flush(disk).is_ok()),
-        "calls" => Ok(disk.0.calls() == long(rest)),
-        "length" => Ok(disk.length(File::Log) == Ok(long(rest))),
-        "holds" => Ok(content(alloc, disk)? == bytes_of(alloc, rest)?),
-        _ => Ok(batches(alloc, disk)? == bytes_of(alloc, rest)?),
+        _ => tells(alloc, disk, verb, rest),
     }
 }
 
@@ -227,8 +279,7 @@ fn follow(rt: &impl Abort, alloc: Global, rows: &str) -> Result<(), Fail> {
     let mut disk = Silent(MemoryDisk::new(alloc, Vec::new(alloc)));
     let mut wal = create_ready(alloc, &mut disk, LOG_LIMIT)?;
     for row in rows.lines() {
-        let row = row.trim();
-        assert!(rt; gives(alloc, &mut wal, &mut disk, row)?, "{row}");
+        see(rt, gives(alloc, &mut wal, &mut disk, row.trim())?, row);
     }
     Ok(())
 }
@@ -236,8 +287,12 @@ fn follow(rt: &impl Abort, alloc: Global, rows: &str) -> Result<(), Fail> {
 #[test]
 fn a_log_keeps_what_was_flushed(rt: HostRuntime) -> Result<(), Fail> {
     let alloc = rt.alloc();
-    all_hold(&rt, CUT_SHORT, |row| are_created_over(alloc, row))?;
-    all_hold(&rt, OPENED, |row| is_opened(alloc, row))?;
+    for row in CUT_SHORT.lines() {
+        see(&rt, are_created_over(alloc, row.trim())?, row);
+    }
+    for row in OPENED.lines() {
+        see(&rt, is_opened(alloc, row.trim())?, row);
+    }
     follow(&rt, alloc, CALLS)
 }
 
@@ -307,20 +362,25 @@ fn a_device_fails_at_each_call(rt: HostRuntime) -> Result<(), Fail> {
     Ok(())
 }
 
+/// The batches that a device opens to.
+fn opened(alloc: Global, disk: &mut Silent) -> Result<Vec<u8>, ReadError> {
+    let (bytes, n) = content(disk);
+    if n < 18 || n == 18 && bytes[0] != 1 {
+        return Ok(Vec::new(alloc));
+    }
+    batches(alloc, disk)
+}
+
 /// The batches that an image opens to.
-fn kept(alloc: Global, disk: &MemoryDisk, moment: u64, pick: u64) -> Result<Vec<u8>, Fail>
+fn kept(alloc: Global, disk: &MemoryDisk, moment: u64, pick: u64) -> Result<Vec<u8>, ReadError>
     requires { moment ≤ clock_of disk.now }
 {
     let mut image = Silent(disk.image(alloc, moment, pick)?);
-    let bytes = content(alloc, &mut image)?;
-    if bytes.len() < 18 || bytes.len() == 18 && bytes.first() != Some(&1) {
-        return Ok(Vec::new(alloc));
-    }
-    Ok(batches(alloc, &mut image)?)
+    opened(alloc, &mut image)
 }
 
 /// Whether an image has what was flushed at its moment: the first flush ends with call 14, the second with call 18.
-fn is_kept(alloc: Global, disk: &MemoryDisk, moment: u64, pick: u64) -> Result<bool, Fail> {
+fn is_kept(alloc: Global, disk: &MemoryDisk, moment: u64, pick: u64) -> Result<bool, ReadError> {
     if disk.calls() < moment {
         return Ok(false);
     }

@@ -1,10 +1,10 @@
 // The snapshots in use, and the oldest of them.
-use crate::rows::{all_hold, cut, long, number, word};
+use crate::rows::{cut, long, number, see, word};
 use snap_pins::Pins;
-use std::test::Fail;
 
-/// Calls of the snapshots in use, with what each gives. `pin` has the numbers of a snapshot, and the place that it gets;
-/// `floor` has two numbers, and the least ones; `over` has two snapshots and their places, and then gives the first up.
+/// Calls of the snapshots in use, with what each gives. `pin` has the numbers of a snapshot, and the place that it
+/// gets; `floor` has two numbers, and the least ones; `over` has two snapshots and their places, and then gives the
+/// first up.
 const CALLS: &str = "\
     floor 5 9 | 5 9
     pin 3 20 | 0
@@ -76,7 +76,9 @@ fn holds(pins: &mut Pins, row: &str) -> bool {
 }
 
 #[test]
-fn pins_are_kept_in_places(rt: HostRuntime) -> Result<(), Fail> {
+fn pins_are_kept_in_places(rt: HostRuntime) {
     let mut pins = Pins::new();
-    all_hold(&rt, CALLS, |row| Ok(holds(&mut pins, row)))
+    for row in CALLS.lines() {
+        see(&rt, holds(&mut pins, row.trim()), row);
+    }
 }

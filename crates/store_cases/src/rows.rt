@@ -5,29 +5,10 @@ use hex::FromHexError;
 use page_types::PAGE_BYTES;
 use std::alloc::{AllocError, Global};
 use std::process::Abort;
-use std::test::Fail;
 
-/// Each row of a text holds.
-pub(crate) fn all_hold<F>(rt: &impl Abort, rows: &str, mut holds: F) -> Result<(), Fail>
-where
-    F: FnMut(&str) -> Result<bool, Fail>,
-    requires { F.IsAlwaysCallable holds }
-{
-    for row in rows.lines() {
-        let row = row.trim();
-        assert!(rt; holds(row)?, "{row}");
-    }
-    Ok(())
-}
-
-/// What a call gives, made once more where it is refused, as by an allocation that fails.
-pub(crate) fn again<T, E: Drop, F: Fn() -> Result<T, E>>(call: F) -> Result<T, E>
-    requires { F.IsAlwaysCallable call }
-{
-    match call() {
-        Ok(value) => Ok(value),
-        Err(_) => call(),
-    }
+/// A row holds.
+pub(crate) fn see(rt: &impl Abort, holds: bool, row: &str) {
+    assert!(rt; holds, "{row}");
 }
 
 /// The first field of a row, and the others.
@@ -91,7 +72,10 @@ fn read_bytes(alloc: Global, words: &str) -> Result<Vec<u8>, AllocError> {
 
 /// The bytes that words stand for, read once more where that is refused.
 pub(crate) fn bytes_of(alloc: Global, words: &str) -> Result<Vec<u8>, AllocError> {
-    again(|| read_bytes(alloc, words))
+    match read_bytes(alloc, words) {
+        Ok(bytes) => Ok(bytes),
+        Err(_) => read_bytes(alloc, words),
+    }
 }
 
 /// The page with these bytes first, which zeros follow.

@@ -1,6 +1,6 @@
 // The state after each record of a log, of records that no store would write, and before the first one; which page
 // is taken then, and which records may come next.
-use crate::rows::{again, all_hold, cut, long, number, word};
+use crate::rows::{cut, long, number, see, word};
 use crate::state_rows::{LOGS, TAKEN, VALID};
 use core_state::{
     State, history_is_one, keys_are_one, newest_may_go, pages_are_shown, state_follows,
@@ -13,6 +13,7 @@ use page_types::{
 };
 use std::alloc::{AllocError, Global};
 use std::fmt::{self, Write};
+use std::process::Abort;
 use std::test::Fail;
 
 /// The kind that words stand for.
@@ -125,7 +126,7 @@ fn told(alloc: Global, state: &State) -> Result<String, fmt::Error> {
 
 /// A record more, for which room is made before where its number is even; whether a refused call left the state as
 /// it was.
-fn takes(alloc: Global, state: &mut State, record: &Record) -> Result<bool, Fail> {
+fn takes(alloc: Global, state: &mut State, record: &Record) -> Result<bool, fmt::Error> {
     let before = told(alloc, state)?;
     let has_no_room = record.number % 2 == 0 && state.make_room(record).is_err();
     if has_no_room || state.step(record).is_err() {
@@ -136,8 +137,19 @@ fn takes(alloc: Global, state: &mut State, record: &Record) -> Result<bool, Fail
     Ok(true)
 }
 
+/// Whether the state says this after a record more.
+fn tells_then(
+    alloc: Global,
+    state: &mut State,
+    record: &Record,
+    tells: &str,
+) -> Result<bool, fmt::Error> {
+    let kept = takes(alloc, state, record)?;
+    Ok(kept && told(alloc, state)?.as_str() == tells)
+}
+
 /// Whether the state says what its row says after a record more.
-fn is_followed(alloc: Global, state: &mut State, row: &str) -> Result<bool, Fail> {
+fn is_followed(alloc: Global, state: &mut State, row: &str) -> Result<bool, fmt::Error> {
     let (words, rest) = cut(row);
     let (pages, rest) = cut(rest);
     let (front, tells) = cut(rest);
@@ -146,8 +158,7 @@ fn is_followed(alloc: Global, state: &mut State, row: &str) -> Result<bool, Fail
         Ok(record) => record,
         Err(_) => record(alloc, state, words, pages, front)?,
     };
-    let kept = takes(alloc, state, &next)?;
-    Ok(kept && told(alloc, state)?.as_str() == tells)
+    tells_then(alloc, state, &next, tells)
 }
 
 /// The fields of a head: the one that is placed first, a new one with serial 2 of transaction 1, or one that
@@ -235,24 +246,45 @@ fn verdicts(alloc: Global, state: &State, m: &Move<'_>) -> Result<[bool; 5], All
     ])
 }
 
-/// Whether a record is found valid by the call that its row says, and by no other.
-fn is_found(alloc: Global, state: &State, row: &str) -> Result<bool, Fail> {
-    let (words, rest) = cut(row);
-    let (pages, rest) = cut(rest);
-    let (before, rest) = cut(rest);
+/// Whether this call finds it valid, and no other.
+fn is_judged(alloc: Global, state: &State, m: &Move<'_>, call: &str) -> Result<bool, AllocError> {
+    let wanted = [
+        call == "Create",
+        call == "Begin",
+        call == "Commit",
+        call == "Abort",
+        call == "PlaceHead",
+    ];
+    Ok(verdicts(alloc, state, m)? == wanted)
+}
+
+/// Whether a record is found valid by the call that words say, with these pages before and after, and since.
+fn is_valid(
+    alloc: Global,
+    state: &State,
+    record: &Record,
+    words: &str,
+) -> Result<bool, AllocError> {
+    let (before, rest) = cut(words);
     let (after, rest) = cut(rest);
     let (since, call) = cut(rest);
-    let record = record(alloc, state, words, pages, 2)?;
     let olds = pages_of(alloc, before, 0)?;
     let news = pages_of(alloc, after, record.number)?;
     let m = Move {
-        record: &record,
+        record,
         before: &olds,
         after: &news,
         since: long(since),
     };
-    let found = verdicts(alloc, state, &m)?;
-    Ok(found == ["Create", "Begin", "Commit", "Abort", "PlaceHead"].map(|name| name == call))
+    is_judged(alloc, state, &m, call)
+}
+
+/// Whether a record is found valid by the call that its row says, and by no other.
+fn is_found(alloc: Global, state: &State, row: &str) -> Result<bool, AllocError> {
+    let (words, rest) = cut(row);
+    let (pages, rest) = cut(rest);
+    let record = record(alloc, state, words, pages, 2)?;
+    is_valid(alloc, state, &record, rest)
 }
 
 /// Whether this page is taken, or none is.
@@ -264,7 +296,7 @@ fn takes_page(state: &State, since: u64, page: &str) -> bool {
 }
 
 /// Whether a look at a state gives what its row says.
-fn tells(alloc: Global, state: &State, verb: &str, words: &str) -> Result<bool, Fail> {
+fn tells(alloc: Global, state: &State, verb: &str, words: &str) -> Result<bool, AllocError> {
     let (first, second) = word(words);
     let n = number(first);
     let text = match verb {
@@ -283,7 +315,7 @@ fn starts(state: &mut State, page: &str) -> bool {
 }
 
 /// Whether a row holds.
-fn holds(alloc: Global, state: &mut State, row: &str) -> Result<bool, Fail> {
+fn holds(alloc: Global, state: &mut State, row: &str) -> Result<bool, fmt::Error> {
     let (verb, words) = word(row);
     match verb {
         "new" => {
@@ -292,19 +324,28 @@ fn holds(alloc: Global, state: &mut State, row: &str) -> Result<bool, Fail> {
             Ok(true)
         }
         "start" => Ok(starts(state, words)),
-        "limits" | "take" | "fate" | "use" => tells(alloc, state, verb, words),
-        "valid" => is_found(alloc, state, words),
+        "limits" | "take" | "fate" | "use" => Ok(tells(alloc, state, verb, words)?),
+        "valid" => Ok(is_found(alloc, state, words)?),
         _ => is_followed(alloc, state, row),
     }
+}
+
+/// Each row holds.
+fn follow(rt: &impl Abort, alloc: Global, state: &mut State, rows: &str) -> Result<(), fmt::Error> {
+    for row in rows.lines() {
+        see(rt, holds(alloc, state, row.trim())?, row);
+    }
+    Ok(())
 }
 
 #[test]
 fn a_state_follows_its_log(rt: HostRuntime) -> Result<(), Fail> {
     let alloc = rt.alloc();
     let mut state = State::new(alloc, 0, 0);
-    all_hold(&rt, LOGS, |row| holds(alloc, &mut state, row))?;
-    all_hold(&rt, TAKEN, |row| holds(alloc, &mut state, row))?;
-    all_hold(&rt, VALID, |row| holds(alloc, &mut state, row))
+    follow(&rt, alloc, &mut state, LOGS)?;
+    follow(&rt, alloc, &mut state, TAKEN)?;
+    follow(&rt, alloc, &mut state, VALID)?;
+    Ok(())
 }
 
 /// The laws are there to be cited.
