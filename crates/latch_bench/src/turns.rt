@@ -11,7 +11,7 @@ use std::sync::Wait;
 pub(crate) const FRAMES: u32 = 64;
 
 /// Logs one record more, as long as they can be counted.
-pub(crate) fn log_one<R: Wait>(rt: &R, desk: &Desk, hand: &mut Hand)
+fn log_one<R: Wait>(rt: &R, desk: &Desk, hand: &mut Hand)
     requires pass { IsPassOf desk.now.table.shared.table_id hand.old }
     requires no_journal { (state hand.old).journal ≡ None }
     ensures pass { IsPassOf desk.now.table.shared.table_id hand.new }
@@ -24,6 +24,16 @@ pub(crate) fn log_one<R: Wait>(rt: &R, desk: &Desk, hand: &mut Hand)
             desk.give_back_journal::<Added>(hand, tally);
         }
         None => desk.give_back_journal::<Looked>(hand, tally),
+    }
+}
+
+/// Logs so many records.
+pub(crate) fn log_often<R: Wait>(rt: &R, desk: &Desk, hand: &mut Hand, times: u32)
+    requires pass { IsPassOf desk.now.table.shared.table_id hand.old }
+    requires no_journal { (state hand.old).journal ≡ None }
+{
+    for _ in 0..times {
+        log_one(rt, desk, hand);
     }
 }
 
