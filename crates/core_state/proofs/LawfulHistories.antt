@@ -35,7 +35,8 @@ use Rattle.core_state.proofs.StateTold.{state_told}
 use Rattle.core_state.proofs.ApartLists.{of_map, in_map, pairs_none, pairs_more, pairs_joined, pairs_weaker, pairs_map}
 use Rattle.core_state.proofs.ApartLists.{pairs_of_map, pairs_sorted}
 use Rattle.core_state.proofs.NamesInOrder.{in_at, in_all, kept_in, of_sorted}
-use Rattle.core_state.proofs.PlacedOnce.{IsMarking, placed_once, marking, marked_cases, marks_alone, marked_once, one_named}
+use Rattle.core_state.proofs.PlacedOnce.{IsMarking, placed_once, marking, marked_cases, marks_alone, marked_once}
+use Rattle.core_state.proofs.PlacedOnce.{one_named}
 use Rattle.core_state.proofs.PlacedOnce.{zero_unused}
 
 -- ── lists ──

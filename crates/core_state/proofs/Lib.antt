@@ -87,3 +87,8 @@ mod SharedFronts
 mod UpperBounds
 mod TakenEntries
 mod RootedLeaves
+mod Halves
+mod ListHalves
+mod SplitPlaces
+mod LongestParts
+mod SplitRecords

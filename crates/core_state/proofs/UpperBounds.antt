@@ -6,7 +6,7 @@ use Rattle.page_types.specs.Keys.{KeyLess}
 use Rattle.core_state.specs.Changes.{KeyAtMost, UpTo}
 use Rattle.core_state.proofs.Trees.Orders.{key_order}
 
-not_both : (a b : Key) → KeyLess b a → KeyAtMost a b → ⊥
+pub not_both : (a b : Key) → KeyLess b a → KeyAtMost a b → ⊥
 not_both a b g (inl l) = key_order.irrefl a (key_order.trans a b a l g)
 not_both a b g (inr e) = key_order.irrefl b (subst (KeyLess b) e g)
 

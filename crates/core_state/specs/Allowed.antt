@@ -1,6 +1,7 @@
 -- What a session knows of the log, the logs that may be the store's as far as it knows, and what it
 -- may log.
-use Rattle.std.specs.Prelude.{◌≡◌, ◌≢◌, ◌⊎◌, ℕ, zero, suc, ◌<◌, List, [], ◌∷◌, ◌++◌, length, map, Option, Some, None, IfSome, ⊤}
+use Rattle.std.specs.Prelude.{◌≡◌, ◌≢◌, ◌⊎◌, ℕ, zero, suc, ◌<◌, List, [], ◌∷◌, ◌++◌, length, map, Option, Some, None}
+use Rattle.std.specs.Prelude.{IfSome, ⊤}
 use Rattle.page_types.specs.Keys.{Rising}
 use Rattle.page_types.specs.Pages.{IsPage}
 use Rattle.page_types.specs.declared.page.Page.{Page}

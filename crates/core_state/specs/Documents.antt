@@ -1,5 +1,6 @@
 -- Documents: their names, heads and chains, the vectors that are there, and who is dead.
-use Rattle.std.specs.Prelude.{◌≡◌, ◌≢◌, ℕ, ◌+◌, ◌*◌, ◌/◌, ◌%◌, ◌<◌, ◌≤◌, ◌==◌, cond, List, [], ◌∷◌, ◌++◌, length, Option, Some}
+use Rattle.std.specs.Prelude.{◌≡◌, ◌≢◌, ℕ, ◌+◌, ◌*◌, ◌/◌, ◌%◌, ◌<◌, ◌≤◌, ◌==◌, cond, List, [], ◌∷◌, ◌++◌, length}
+use Rattle.std.specs.Prelude.{Option, Some}
 use Rattle.ts_base.specs.Vectors.{Vector}
 use Rattle.ts_base.specs.Encoding.{IsEncoding}
 use Rattle.page_types.specs.Numbers.{most_slots, most_short}

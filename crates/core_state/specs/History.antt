@@ -1,5 +1,6 @@
 -- Documents with their vectors, commits, and the history of a log. The oldest commit is first.
-use Rattle.std.specs.Prelude.{◌≡◌, ◌≢◌, ◌⊎◌, ℕ, Bool, not, if◌then◌else◌, nat_lt, ◌==◌, List, [], ◌∷◌, ◌++◌, map, take, Some, ⊤}
+use Rattle.std.specs.Prelude.{◌≡◌, ◌≢◌, ◌⊎◌, ℕ, Bool, not, if◌then◌else◌, nat_lt, ◌==◌, List, [], ◌∷◌, ◌++◌, map}
+use Rattle.std.specs.Prelude.{take, Some, ⊤}
 use Rattle.std.specs.List.{flat_map, filter, All, AllPairs, Contains, list_any, slice_get}
 use Rattle.ts_base.specs.Vectors.{Vector}
 use Rattle.page_types.specs.declared.page.Head.{Head}

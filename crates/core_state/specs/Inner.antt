@@ -7,6 +7,7 @@ pub mod Shifting
 pub mod Members
 pub mod TreeItems
 pub mod TreePages
+pub mod SplitPages
 pub mod HeadChanges
 pub mod Lowest
 pub mod Begun

@@ -9,7 +9,8 @@ use Rattle.page_types.specs.declared.record.Record.{Record}
 use Rattle.page_types.specs.declared.record.Kind.TheVariants as kind
 use Rattle.core_state.specs.Log.{Log, Pages, In, Shows, commits, next_xid, replay}
 use Rattle.core_state.specs.Legal.{IsLegal, ImagesFrom, Pin, Keeps}
-use Rattle.core_state.specs.Allowed.{Sheet, View, IsOthers, AreHeld, IsAllowed, Step, IsDrawn, Leaves, MayLog, Owes, sheet_pages, made_by}
+use Rattle.core_state.specs.Allowed.{Sheet, View, IsOthers, AreHeld, IsAllowed, Step, IsDrawn, Leaves, MayLog, Owes}
+use Rattle.core_state.specs.Allowed.{sheet_pages, made_by}
 
 -- The record is made of the step after this log: it is drawn, it has an encoding, its changes can
 -- be made and give the bytes of the pages that it leaves, and the first change of each page is an

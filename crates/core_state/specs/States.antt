@@ -1,5 +1,7 @@
 -- What the program keeps of a log, and how it follows each record.
-use Rattle.std.specs.Prelude.{◌≡◌, ◌≢◌, ◌↔◌, ◌<◌, ℕ, zero, suc, ◌-◌, ◌^◌, ◌&&◌, ◌==◌, not, nat_lt, cond, if◌then◌else◌, max, min, ◌+◌, List, [], ◌∷◌, ◌++◌, length, get_or, set, map, replicate, Option, Some, None}
+use Rattle.std.specs.Prelude.{◌≡◌, ◌≢◌, ◌↔◌, ◌<◌, ℕ, zero, suc, ◌-◌, ◌^◌, ◌&&◌, ◌==◌, not, nat_lt, cond}
+use Rattle.std.specs.Prelude.{if◌then◌else◌, max, min, ◌+◌, List, [], ◌∷◌, ◌++◌, length, get_or, set, map, replicate}
+use Rattle.std.specs.Prelude.{Option, Some, None}
 use Rattle.std.specs.List.{filter}
 use Rattle.page_types.specs.Numbers.{page_limit}
 use Rattle.page_types.specs.Encoding.{body_bytes}
@@ -12,7 +14,8 @@ use Rattle.page_types.specs.declared.record.Edit.TheVariants.{Image, Delta}
 use Rattle.page_types.specs.declared.record.Record.{Record}
 use Rattle.page_types.specs.declared.record.Kind.{Kind}
 use Rattle.page_types.specs.declared.record.Kind.TheVariants as kind
-use Rattle.core_state.specs.Log.{Log, Pages, In, Shows, changed, xid_bound, commits, next_xid, next_serial, fate, redo_of}
+use Rattle.core_state.specs.Log.{Log, Pages, In, Shows, changed, xid_bound, commits, next_xid, next_serial, fate}
+use Rattle.core_state.specs.Log.{redo_of}
 use Rattle.core_state.specs.Documents.{Doc, page_of, name_of, placed, marked}
 use Rattle.core_state.specs.History.{Document, Commit, History, IsHistory}
 use Rattle.core_state.specs.Known.{Known, use_in}
@@ -28,11 +31,11 @@ use Rattle.core_state.specs.declared.answers.PageUse.TheVariants as usage
 
 -- What is kept: how many pages a store may have, and where its xids end; the number of the last
 -- record; the fates of the xids 1, 2 and so on; the uses of the pages 0, 1 and so on, and the lengths
--- of their bodies; the next serial; the last redo number; the names that each commit deleted, and those that it inserted; the
--- documents that were placed, with the serials 1, 2 and so on, and the commits that deleted them, 0
--- where none did; the running transactions; the page of the last placed head, or that with which the
--- run began; the highest heap page; the heap pages, on which a head was placed, in rising order; and
--- those where this run freed a slot, in rising order.
+-- of their bodies; the next serial; the last redo number; the names that each commit deleted, and
+-- those that it inserted; the documents that were placed, with the serials 1, 2 and so on, and the
+-- commits that deleted them, 0 where none did; the running transactions; the page of the last placed
+-- head, or that with which the run began; the highest heap page; the heap pages, on which a head was
+-- placed, in rising order; and those where this run freed a slot, in rising order.
 pub record StateValue : Type 0 where
   pub pages : ℕ
   pub xid_limit : ℕ

@@ -1,5 +1,6 @@
 // The heap pages on which this run freed a slot, with the lengths of all pages' bodies.
-ghost use Rattle.std.specs.Prelude.{◌≡◌, ◌≢◌, ℕ, List, ◌+◌, ◌<◌, ◌≤◌, ◌^◌, [], ◌∷◌, All, length, get_or, OnOk, IsOk, IfSome};
+ghost use Rattle.std.specs.Prelude.{◌≡◌, ◌≢◌, ℕ, List, ◌+◌, ◌<◌, ◌≤◌, ◌^◌, [], ◌∷◌, All, length, get_or, OnOk, IsOk};
+ghost use Rattle.std.specs.Prelude.{IfSome};
 ghost use Rattle.std.specs.Vec.{vec_capacity};
 ghost use Rattle.std.specs.List.{slice_get};
 ghost use Rattle.page_types.specs.Numbers.{page_limit};
@@ -25,7 +26,7 @@ const TOP_RANK: u64 = 65536;
 
 /// Heap pages, rising, and the lengths of all pages' bodies, under a tree by which pages with room
 /// are found fast.
-#[derive(Debug, Drop)]
+#[derive(Drop)]
 pub(crate) struct FreedPages {
     alloc: Global,
     pages: Vec<u32>,

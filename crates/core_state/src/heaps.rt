@@ -11,7 +11,7 @@ use std::alloc::{AllocError, Global};
 use std::marker::Model;
 
 /// The heap pages, rising. Contracts see them as a list, with the room for more.
-#[derive(Debug, Drop)]
+#[derive(Drop)]
 pub(crate) struct HeapPages {
     pages: Vec<u32>,
 }

@@ -27,7 +27,7 @@ pub struct Placed {
 
 /// The documents that were placed, in the order of their serials, which begin at 1, with the commits
 /// that deleted them; 0 is none.
-#[derive(Debug, Drop)]
+#[derive(Drop)]
 pub(crate) struct Lives {
     placed: Vec<Placed>,
     ends: Vec<u32>,

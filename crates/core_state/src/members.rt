@@ -8,7 +8,7 @@ use page_types::{
 };
 
 /// The members of a page of a tree: a leaf's entries, or an inner page's children.
-#[derive(Clone, Copy, Debug)]
+#[derive(Clone, Copy)]
 pub(crate) enum Members<'a> {
     /// Of a leaf of the entry tree.
     Entries(&'a Entries),

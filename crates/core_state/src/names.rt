@@ -9,7 +9,7 @@ use std::marker::Model;
 
 /// Lists of names in one list, cut at their ends. Contracts see them as a list of lists, with the
 /// room for more.
-#[derive(Debug, Drop)]
+#[derive(Drop)]
 pub struct NameLists {
     names: Vec<Name>,
     ends: Vec<usize>,

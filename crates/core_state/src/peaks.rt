@@ -1,5 +1,6 @@
 // A number for each page, with the greatest of them found fast.
-ghost use Rattle.std.specs.Prelude.{◌≡◌, ◌≢◌, ℕ, ◌+◌, ◌*◌, ◌/◌, ◌^◌, ◌<◌, ◌≤◌, [], length, drop, replicate, get_or, slice_set, IfSome, IfNone, IfOk, OnOk, IsOk};
+ghost use Rattle.std.specs.Prelude.{◌≡◌, ◌≢◌, ℕ, ◌+◌, ◌*◌, ◌/◌, ◌^◌, ◌<◌, ◌≤◌, [], length, drop, replicate, get_or};
+ghost use Rattle.std.specs.Prelude.{slice_set, IfSome, IfNone, IfOk, OnOk, IsOk};
 ghost use Rattle.page_types.specs.Numbers.{page_limit};
 ghost use Rattle.core_state.specs.PageChoice.{IsLeastIfAny};
 ghost use Rattle.core_state.specs.Inner.PeakTrees.{ArePeaksBut, IsPeak, IsPeakTree, IsWidth, IsReached, IsFirstAt};
@@ -9,7 +10,7 @@ use std::marker::Model;
 
 /// A number for each place below a width, 0 at first, under a tree of the greatest ones. Contracts
 /// see them as a list.
-#[derive(Debug, Drop)]
+#[derive(Drop)]
 pub(crate) struct Peaks {
     alloc: Global,
     width: usize,
@@ -28,7 +29,7 @@ impl Model for Peaks {
 }
 
 /// A node of the tree, with so many places below it, of which the first is the node `start`.
-#[derive(Clone, Copy, Debug)]
+#[derive(Clone, Copy)]
 struct Node {
     at: usize,
     span: usize,

@@ -1,5 +1,6 @@
 // The running transactions, found by their xids.
-ghost use Rattle.std.specs.Prelude.{◌≡◌, ◌↔◌, ◌<◌, ◌≤◌, ◌++◌, ◌∷◌, ℕ, suc, true, [], length, OnOk, IsOk, IfSome, IfNone, None, option_copied};
+ghost use Rattle.std.specs.Prelude.{◌≡◌, ◌↔◌, ◌<◌, ◌≤◌, ◌++◌, ◌∷◌, ℕ, suc, true, [], length, OnOk, IsOk, IfSome};
+ghost use Rattle.std.specs.Prelude.{IfNone, None, option_copied};
 ghost use Rattle.std.specs.Vec.{vec_capacity};
 ghost use Rattle.core_state.specs.States.{all_ended, transaction, without, replaced, with_placed, with_marked};
 ghost use Rattle.core_state.specs.Inner.Begun.{running_of, kept, AreBegun, IsRunningAt};
@@ -12,7 +13,7 @@ use std::alloc::{AllocError, Global};
 use std::marker::Model;
 
 /// A transaction that has begun, and whether it runs still.
-#[derive(Debug, Drop)]
+#[derive(Drop)]
 pub(crate) struct Begun {
     pub(crate) transaction: Transaction,
     pub(crate) runs: bool,
@@ -21,7 +22,7 @@ pub(crate) struct Begun {
 /// The running transactions, in the order in which they began, which is that of their xids. One
 /// that has ended keeps its place until the ended ones are more than those that run, so that none
 /// has to move when one ends.
-#[derive(Debug, Drop)]
+#[derive(Drop)]
 pub(crate) struct RunningOnes {
     begun: Vec<Begun>,
     running: usize,

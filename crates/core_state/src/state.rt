@@ -15,7 +15,7 @@ use std::marker::Model;
 
 /// What is kept of a log: the fates of xids, the uses of pages, the names of each commit, and the
 /// numbers that are drawn next.
-#[derive(Debug, Drop)]
+#[derive(Drop)]
 pub struct State {
     pub(crate) records: u64,
     pub(crate) uses: Vec<PageUse>,

@@ -1,7 +1,10 @@
 // The table of transactions, with the numbers and commits of a log.
-ghost use Rattle.std.specs.Prelude.{◌≡◌, ◌≢◌, ◌↔◌, ◌<◌, ◌≤◌, ◌+◌, ◌-◌, ◌^◌, ℕ, suc, true, [], length, All, IfSome, OnOk, IsOk, Some};
+ghost use Rattle.std.specs.Prelude.{◌≡◌, ◌≢◌, ◌↔◌, ◌<◌, ◌≤◌, ◌+◌, ◌-◌, ◌^◌, ℕ, suc, true, [], length, All, IfSome};
+ghost use Rattle.std.specs.Prelude.{OnOk, IsOk, Some};
 ghost use Rattle.std.specs.List.{slice_get};
-ghost use Rattle.core_state.specs.States.{empty_state, begun, committed, aborted, placed_head, marked_head, transaction, ended_all, stepped, with_fate, without, fate_of, life_of, heap_pages, run_started, size_of, sizes_after};
+ghost use Rattle.core_state.specs.States.{empty_state, begun, committed, aborted, placed_head, marked_head};
+ghost use Rattle.core_state.specs.States.{transaction, ended_all, stepped, with_fate, without, fate_of, life_of};
+ghost use Rattle.core_state.specs.States.{heap_pages, run_started, size_of, sizes_after};
 ghost use Rattle.core_state.specs.Documents as documents;
 ghost use Rattle.core_state.specs.Log.{In, pages_of};
 ghost use Rattle.core_state.specs.PageChoice.{IsLeastIfAny, HasRoomAt};
@@ -29,7 +32,7 @@ const MOST_SLOTS: u32 = 2048;
 
 /// The table of transactions: what is kept of a log, but for the number of its last record and the
 /// uses of pages.
-#[derive(Debug, Drop)]
+#[derive(Drop)]
 pub(crate) struct TransactionTable {
     pub(crate) alloc: Global,
     pub(crate) pages: u32,

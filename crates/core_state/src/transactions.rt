@@ -9,7 +9,7 @@ use std::alloc::Global;
 use std::marker::Model;
 
 /// Names. Contracts see them as a list.
-#[derive(Debug, Drop)]
+#[derive(Drop)]
 pub struct Names {
     inner: Vec<Name>,
 }
@@ -56,7 +56,7 @@ impl Names {
 }
 
 /// A running transaction, with the names that it has marked and those that it has placed.
-#[derive(Debug, Drop)]
+#[derive(Drop)]
 pub struct Transaction {
     /// Its number.
     pub xid: u32,

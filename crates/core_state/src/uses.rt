@@ -96,7 +96,6 @@ fn note_rank(ranks: &mut Peaks, page: usize, new: PageUse)
 }
 
 // The use of one page, with its rank.
-#[tactic(auto, using(crate::proofs::PageRanks::ranks_put))]
 fn note_ranked(uses: &mut Vec<PageUse>, ranks: &mut Peaks, page: usize, new: PageUse)
     requires small { page < page_limit }
     requires uses { page < vec_capacity uses.old }

@@ -16,7 +16,8 @@ use Rattle.core_state.specs.Log.{Log, Pages, In}
 use Rattle.core_state.specs.Index.{Line}
 use Rattle.core_state.specs.Inner.ItemChains.{Chains}
 use Rattle.core_state.specs.Inner.Ghosts.{Place, Ghost}
-use Rattle.core_state.specs.Inner.Ghosts.Place.{unused, meta, heap, line, past, shifted, left, entry, post, overflow_of, private_of}
+use Rattle.core_state.specs.Inner.Ghosts.Place.{unused, meta, heap, line, past, shifted, left, entry, post}
+use Rattle.core_state.specs.Inner.Ghosts.Place.{overflow_of, private_of}
 
 -- the page has the kind of this place; what was deleted since L has a stamp above it
 abbrev pub Fits : ℕ → Place → Page → Type 0
