@@ -1,5 +1,5 @@
 -- What the images of a journal's device open to, call by call.
-use Rattle.std.proofs.Common.{◌≡◌, ◌⊎◌, ◌<◌, ◌≤◌, ◌+◌, Bool, true, false, inl, inr, ⊎_elim, ℕ, List, [], ◌∷◌, ◌++◌}
+use Rattle.std.proofs.Common.{◌≡◌, ◌⊎◌, ◌≤◌, ◌+◌, Bool, true, false, inl, inr, ⊎_elim, ℕ, List, [], ◌∷◌, ◌++◌}
 use Rattle.std.proofs.Common.{refl, sym, ap, subst, ◌∙◌, arith, append-nil, append_assoc, length, length-append}
 use Rattle.std.proofs.lemmas.Bool.{cases_lt}
 use Rattle.std.proofs.lemmas.List.{reverse-reverse}
@@ -9,31 +9,28 @@ use Rattle.disk_trait.specs.Runs.{images_now, LeavesOnly}
 use Rattle.disk_trait.specs.declared.device.Disk.{Ghosts as Disk}
 use Rattle.wal.specs.Settled.{Settled}
 use Rattle.wal.specs.Waiting.{waiting, end_of, down_of}
-use Rattle.page_types.specs.Records.{IsRecord}
 use Rattle.page_types.specs.declared.record.Record.{Record}
-use Rattle.core_state.specs.Log.{Log, xid_bound}
+use Rattle.core_state.specs.Log.{Log}
 use Rattle.core_state.specs.History.{History, Begins, IsHistory}
 use Rattle.page_types.specs.declared.record.Kind.{Kind}
 use Rattle.page_types.specs.declared.record.Kind.TheVariants as kind
-use Rattle.core_state.specs.Allowed.{Step}
 use Rattle.core_state.specs.Legal.{IsLegal}
 use Rattle.core_state.specs.States.{StateValue}
 use Rattle.core_state.specs.Stores.{PagesStand}
 use Rattle.core_state.specs.declared.settings.Settings.{Settings}
 use Rattle.core_state.proofs.Histories.{history_one, legal_history}
 use Rattle.core_state.proofs.StateTold.{state_told}
-use Rattle.buffer_frames.specs.Beginnings.{BeginsBy, KeepsBeginnings, KeepsHistory, HasSince, HasFlushed}
+use Rattle.buffer_frames.specs.Beginnings.{BeginsBy, HasSince, HasFlushed}
 use Rattle.buffer_frames.specs.Beginnings.{BeginsOn, BeginsWith, StaysSince}
 use Rattle.buffer_frames.specs.Counted.{AreRecords, IsCounted}
-use Rattle.buffer_frames.specs.Drawing.{kind_by, record_of}
-use Rattle.buffer_frames.specs.Journals.{JournalValue, Stands, CountsEither, CanDraw, MayFollow, after_owed, owed_abort}
-use Rattle.buffer_frames.specs.Journals.{with_owed, logged, next_record, commits_in}
+use Rattle.buffer_frames.specs.Drawing.{kind_by}
+use Rattle.buffer_frames.specs.Journals.{JournalValue, IsJournalOf, CountsEither, owed_abort}
+use Rattle.buffer_frames.specs.Journals.{with_owed, logged, commits_in}
 use Rattle.buffer_frames.specs.NoStore.{CountedAreOne}
 use Rattle.buffer_frames.specs.First.{first_record}
-use Rattle.buffer_frames.specs.Opens.{IsEarlyKind, IsLogOf, OpensTo}
+use Rattle.buffer_frames.specs.Opens.{IsEarlyKind, IsLoggedKind, IsLogOf, OpensTo}
 use Rattle.buffer_frames.specs.Inner.LogFiles.{AreEarly}
 use Rattle.buffer_frames.specs.Opening.{IsOpenedAt, opened_log}
-use Rattle.buffer_frames.specs.Inner.Following.{GoesOn, MayGoOn}
 use Rattle.buffer_frames.specs.declared.page_map.PageMap.{PageMap}
 use Rattle.buffer_frames.proofs.LogFiles.{stands_beside_more}
 use Rattle.buffer_frames.proofs.FirstLogs.{first_is_log, early_more}
@@ -93,7 +90,7 @@ opened_is_log (r ∷ R) H l = l
 
 module _ {D : Type 0} (device : Disk D) (one : CountedAreOne) where
   -- what counts in each image of a log that is up
-  image_counted : (j : JournalValue D) (R : Log) (s : Stands device j R) → device.tells → down_of j.wal ≡ None
+  image_counted : (j : JournalValue D) (R : Log) (s : IsJournalOf device j R) → device.tells → down_of j.wal ≡ None
       → (c : Files) → images_now device j.disk c → IsCounted c.log s.counted
   image_counted j R s t up c left =
       let was : (batches : List (List ℕ)) × Settled device batches (end_of j.wal) j.disk
@@ -112,7 +109,7 @@ module _ {D : Type 0} (device : Disk D) (one : CountedAreOne) where
 
   -- where the device says what it holds, a journal that is up stands for one log
   pub stands_one : ((d : D) → images_now device d (device.seen d)) → (j : JournalValue D) (R S : Log)
-      → Stands device j R → Stands device j S → device.tells → down_of j.wal ≡ None → R ≡ S
+      → IsJournalOf device j R → IsJournalOf device j S → device.tells → down_of j.wal ≡ None → R ≡ S
   stands_one law j R S r s t up =
       let counted : r.counted ≡ s.counted = one (device.seen j.disk).log r.counted s.counted (image_counted j R r t up
       (device.seen j.disk) (law j.disk)) (image_counted j S s t up (device.seen j.disk) (law j.disk)) in
@@ -141,50 +138,49 @@ module _ {D : Type 0} (device : Disk D) (one : CountedAreOne) where
       either.log_is
 
   -- what a crash now leaves has the commits that are flushed
-  pub has_flushed : (j : JournalValue D) → KeepsHistory device j → HasFlushed device j
-  has_flushed j keeps t up found opens m f ge le left =
-      let k = keeps t found opens in
+  pub has_flushed : (j : JournalValue D) → HasFlushed device j
+  has_flushed j t up found R H k m f ge le left =
       let now : m ≡ device.clock j.disk = omega (arith, ge, le) in
-      let b = k.begins.images m f (omega (arith, k.begins.later, ge)) le left in
-      let is : IsCounted f.log k.begins.stands.counted =
-      image_counted j k.log k.begins.stands t up f (subst (λ (x : ℕ). device.image j.disk x f) now left) in
-      let same : b.1.records ≡ k.begins.stands.counted = one f.log b.1.records k.begins.stands.counted b.1.counted is in
-      let log_of : IsLogOf k.begins.stands.counted b.0 = subst (λ (l : Log). IsLogOf l b.0) same b.1.log_of in
-      let commits : commits_in j.state k.begins.stands.counted ≡ length b.0 =
-      (state_told j.state.pages j.state.xid_limit k.begins.stands.counted log_of.legal).commits
-      ∙ commits_told k.begins.stands.counted b.0 log_of.history in
-      (b.0, b.1, omega (arith, k.begins.stands.flushed up, commits))
+      let b = k.images m f (omega (arith, k.later, ge)) le left in
+      let is : IsCounted f.log k.stands.counted =
+      image_counted j R k.stands t up f (subst (λ (x : ℕ). device.image j.disk x f) now left) in
+      let same : b.1.records ≡ k.stands.counted = one f.log b.1.records k.stands.counted b.1.counted is in
+      let log_of : IsLogOf k.stands.counted b.0 = subst (λ (l : Log). IsLogOf l b.0) same b.1.log_of in
+      let commits : commits_in j.state k.stands.counted ≡ length b.0 =
+      (state_told j.state.pages j.state.xid_limit k.stands.counted log_of.legal).commits
+      ∙ commits_told k.stands.counted b.0 log_of.history in
+      (b.0, b.1, omega (arith, k.stands.flushed up, commits))
 
   -- an image of a flush has what the images before it had
-  reached_image : (j : JournalValue D) (found : History) (k : KeepsBeginnings device j found) → device.tells
-      → down_of j.wal ≡ None → (f : Files) → CountsEither device j.disk k.begins.stands.counted k.log f
+  reached_image : (j : JournalValue D) (found H : History) (R : Log) (k : BeginsBy device j found R H) → device.tells
+      → down_of j.wal ≡ None → (f : Files) → CountsEither device j.disk k.stands.counted R f
       → (c commits : ℕ) → c ≤ device.clock j.disk → HasSince device c commits j.disk
       → (kept : History) × OpensTo f kept × (commits ≤ length kept)
-  reached_image j found k t up f either c commits early has =
+  reached_image j found H R k t up f either c commits early has =
       let b = has (device.clock j.disk) either.before early (omega arith) either.was in
-      let d = k.begins.images (device.clock j.disk) either.before k.begins.later (omega arith) either.was in
+      let d = k.images (device.clock j.disk) either.before k.later (omega arith) either.was in
       let same : length b.0 ≡ length d.0 = ap length (same_opens one either.before b.0 d.0 b.1 d.1) in
-      let was : IsCounted either.before.log k.begins.stands.counted =
-      image_counted j k.log k.begins.stands t up either.before either.was in
-      ⊎_elim (λ (is : IsCounted f.log k.begins.stands.counted).
-      (b.0, opens_as one either.before f k.begins.stands.counted b.0 b.1 was is either.pages, b.2))
-      (λ (is : IsCounted f.log k.log). (
-        k.history,
-        opens_more one either.before f k.begins.stands.waits k.begins.stands.counted k.log b.0 k.history
-            k.begins.stands.all b.1 was is either.pages k.begins.log_of,
-        omega (arith, b.2, same, begins_short d.0 k.history d.3),
+      let was : IsCounted either.before.log k.stands.counted =
+      image_counted j R k.stands t up either.before either.was in
+      ⊎_elim (λ (is : IsCounted f.log k.stands.counted).
+      (b.0, opens_as one either.before f k.stands.counted b.0 b.1 was is either.pages, b.2))
+      (λ (is : IsCounted f.log R). (
+        H,
+        opens_more one either.before f k.stands.waits k.stands.counted R b.0 H
+            k.stands.all b.1 was is either.pages k.log_of,
+        omega (arith, b.2, same, begins_short d.0 H d.3),
       ))
       either.log_is
 
   pub stays_since : StaysSince device
-  stays_since j j' found k t up run c commits early has m f ge le left = elim (cases_lt (device.clock j.disk) m) [
-    | inl lt ↦ reached_image j found k t up f (run.each m f (omega arith) le left) c commits early has
+  stays_since j j' found R H k t up run c commits early has m f ge le left = elim (cases_lt (device.clock j.disk) m) [
+    | inl lt ↦ reached_image j found H R k t up f (run.each m f (omega arith) le left) c commits early has
     | inr below ↦ has m f ge below (run.before m f below left)
   ]
 
   -- no call of the device: the history goes on
   begins_still : (j j' : JournalValue D) (found H H' : History) (R R' : Log) → BeginsBy device j found R H
-      → j'.disk ≡ j.disk → j'.opened ≡ j.opened → Stands device j' R' → IsLogOf R' H' → Begins H H'
+      → j'.disk ≡ j.disk → j'.opened ≡ j.opened → IsJournalOf device j' R' → IsLogOf R' H' → Begins H H'
       → BeginsBy device j' found R' H'
   begins_still j j' found H H' R R' k disk opened stands log_of longer =
       record {
@@ -216,7 +212,7 @@ module _ {D : Type 0} (device : Disk D) (one : CountedAreOne) where
   begins_moved : (j j' : JournalValue D) (found H H' : History) (R R' : Log) (k : BeginsBy device j found R H)
       (o : Option ℕ) → device.tells → down_of j.wal ≡ o → ((f : ℕ) → down_of j.wal ≡ Some f → j'.disk ≡ j.disk)
       → (j'.disk ≡ j.disk) ⊎ LeavesOnly device j.disk j'.disk (CountsEither device j.disk k.stands.counted R)
-      → j'.opened ≡ j.opened → Stands device j' R' → IsLogOf R' H' → Begins H H' → BeginsBy device j' found R' H'
+      → j'.opened ≡ j.opened → IsJournalOf device j' R' → IsLogOf R' H' → Begins H H' → BeginsBy device j' found R' H'
   begins_moved j j' found H H' R R' k (Some f) t is rests left opened stands log_of longer =
       begins_still j j' found H H' R R' k (rests f is) opened stands log_of longer
   begins_moved j j' found H H' R R' k None t up rests (inl same) opened stands log_of longer =
@@ -241,30 +237,12 @@ module _ {D : Type 0} (device : Disk D) (one : CountedAreOne) where
   -- so a call that logs nothing goes on
   pub begins_on : (j j' : JournalValue D) → j'.opened ≡ j.opened
       → ((f : ℕ) → down_of j.wal ≡ Some f → j'.disk ≡ j.disk)
-      → (device.tells → (R : Log) (s : Stands device j R)
+      → (device.tells → (R : Log) (s : IsJournalOf device j R)
       → (j'.disk ≡ j.disk) ⊎ LeavesOnly device j.disk j'.disk (CountsEither device j.disk s.counted R))
-      → ((R : Log) → Stands device j R → Stands device j' R) → BeginsOn device j j'
+      → ((R : Log) → IsJournalOf device j R → IsJournalOf device j' R) → BeginsOn device j j'
   begins_on j j' opened rests moments stands t found R H k =
       begins_moved j j' found H H R R k (down_of j.wal) t refl rests (moments t R k.stands) opened
       (stands R k.stands) k.log_of (begins_all H)
-
-  -- a record that is logged
-  keeps_logged : ((d : D) → images_now device d (device.seen d))
-      → (j j' : JournalValue D) (r : Record) (found : History) (k : KeepsBeginnings device j found) → device.tells
-      → down_of j.wal ≡ None → (g : GoesOn device j r)
-      → j'.disk ≡ j.disk → j'.opened ≡ j.opened → ((R : Log) → Stands device j R → Stands device j' (logged j.owes r R))
-      → KeepsBeginnings device j' found
-  keeps_logged law j j' r found k t up g disk opened stands =
-      let logs : g.log ≡ k.log = stands_one law j g.log k.log g.stands k.begins.stands t up in
-      let histories : k.history ≡ g.old = history_one g.log k.history g.old
-      (subst (λ (l : Log). IsHistory l k.history) (sym logs) k.begins.log_of.history) g.log_of.history in
-      record {
-        log = logged j.owes r g.log;
-        history = g.new;
-        begins =
-            begins_still j j' found k.history g.new k.log (logged j.owes r g.log) k.begins disk opened
-            (stands g.log g.stands) g.next (subst (λ (H : History). Begins H g.new) (sym histories) g.longer);
-      }
 
   -- an opening
   pub begins_opened : ((d : D) → images_now device d (device.seen d)) → device.tells → (settings : Settings) (first : D)
@@ -292,48 +270,6 @@ module _ {D : Type 0} (device : Disk D) (one : CountedAreOne) where
         before = λ m c le left. subst (λ (d : D). device.image d m c) (sym opened) left;
       }
 
-  pub keeps_opened : ((d : D) → images_now device d (device.seen d)) → device.tells → (settings : Settings) (first : D)
-      (c0 : ℕ) (j : JournalValue D) (map : PageMap) → IsOpenedAt device settings first c0 j map → j.opened ≡ j.disk
-      → (found : History) → OpensTo (device.seen j.opened) found → KeepsBeginnings device j found
-  keeps_opened law t settings first c0 j map o opened found opens = record {
-    log = opened_log o.counted;
-    history = found;
-    begins = begins_opened law t settings first c0 j map o opened found opens;
-  }
-
-  -- the same of a journal's invariant: with a call that logs nothing
-  on_keeps : (i i' : JournalValue D) → i'.opened ≡ i.opened → BeginsOn device i i' → KeepsHistory device i
-      → KeepsHistory device i'
-  on_keeps i i' opened on keeps t found opens =
-      let k = keeps t found (subst (λ (d : D). OpensTo (device.seen d) found) opened opens) in
-      record { log = k.log; history = k.history; begins = on t found k.log k.history k.begins }
-
-  -- with no call of the device
-  pub still_keeps : (i i' : JournalValue D) → i'.disk ≡ i.disk → i'.opened ≡ i.opened
-      → ((R : Log) → Stands device i R → Stands device i' R) → KeepsHistory device i → KeepsHistory device i'
-  still_keeps i i' disk opened stands =
-      on_keeps i i' opened (begins_on i i' opened (λ f down. disk) (λ t R s. inl disk) stands)
-
-  -- with a flush
-  pub flush_keeps : (i i' : JournalValue D) → i'.opened ≡ i.opened
-      → ((f : ℕ) → down_of i.wal ≡ Some f → i'.disk ≡ i.disk)
-      → (device.tells → (R : Log) (s : Stands device i R)
-      → (i'.disk ≡ i.disk) ⊎ LeavesOnly device i.disk i'.disk (CountsEither device i.disk s.counted R))
-      → ((R : Log) → Stands device i R → Stands device i' R) → KeepsHistory device i → KeepsHistory device i'
-  flush_keeps i i' opened rests moments stands =
-      on_keeps i i' opened (begins_on i i' opened rests moments stands)
-
-  -- and with a record that is logged
-  pub logged_keeps : (device.tells → (d : D) → images_now device d (device.seen d))
-      → (i j i' : JournalValue D) (r : Record) → i ≡ j → down_of j.wal ≡ None → MayGoOn device j r
-      → i'.disk ≡ i.disk → i'.opened ≡ i.opened → ((R : Log) → Stands device i R → Stands device i' (logged i.owes r R))
-      → KeepsHistory device i → KeepsHistory device i'
-  logged_keeps law i j i' r is up follow disk opened stands keeps t found opens =
-      let was : OpensTo (device.seen i.opened) found = subst (λ (d : D). OpensTo (device.seen d) found) opened opens in
-      let up' : down_of i.wal ≡ None = ap (λ (x : JournalValue D). down_of x.wal) is ∙ up in
-      let go : MayGoOn device i r = subst (λ (x : JournalValue D). MayGoOn device x r) (sym is) follow in
-      keeps_logged (law t) i i' r found (keeps t found was) t up' (go t up' found was) disk opened stands
-
   -- what it reads opens to what it opened to on entry
   pub opens_still : ((d : D) → images_now device d (device.seen d)) → device.tells → (settings : Settings) (first : D)
       (c0 : ℕ) (j : JournalValue D) (map : PageMap) → IsOpenedAt device settings first c0 j map
@@ -347,25 +283,13 @@ module _ {D : Type 0} (device : Disk D) (one : CountedAreOne) where
 pub early_drawn : (s : StateValue) (k : Kind) → IsEarlyKind k → IsEarlyKind (kind_by s k)
 early_drawn s (kind.Commit n) e = tt
 early_drawn s (kind.PlaceHead item serial) e = tt
-early_drawn s kind.Create e = tt
-early_drawn s kind.Begin e = tt
-early_drawn s kind.Abort e = tt
-early_drawn s (kind.PutOverflow item serial) e = tt
-early_drawn s (kind.MarkDeleted item serial) e = tt
-early_drawn s (kind.Checkpoint redo) e = absurd e
-early_drawn s (kind.PutPending item serial) e = tt
-early_drawn s (kind.AddRow item serial) e = tt
-early_drawn s (kind.LinkPending item serial) e = tt
-early_drawn s kind.Shift e = absurd e
-early_drawn s kind.AddItems e = absurd e
-early_drawn s kind.MakeTree e = absurd e
-early_drawn s kind.AddPostings e = absurd e
-early_drawn s kind.GrowRoot e = absurd e
-early_drawn s kind.Split e = absurd e
-early_drawn s kind.RemoveItems e = absurd e
-early_drawn s kind.DeletePost e = absurd e
-early_drawn s (kind.DropPage item serial) e = absurd e
-early_drawn s kind.FreeSlots e = absurd e
+early_drawn s _ e = e
+
+-- and as one that is logged
+pub drawn_is_logged : (s : StateValue) (k : Kind) → IsLoggedKind k → IsLoggedKind (kind_by s k)
+drawn_is_logged s (kind.Commit n) e = tt
+drawn_is_logged s (kind.PlaceHead item serial) e = tt
+drawn_is_logged s _ e = e
 
 -- a log with a record more goes on with a history
 early_owed : (owes : Bool) (R : Log) → AreEarly R → AreEarly (with_owed owes R)
@@ -392,43 +316,14 @@ log_goes_on owes r R H l early legal =
       subst (λ (K : History). Begins K h.0) (history_one R b.0 H b.1 l.history) b.2,
     )
 
-module _ {D : Type 0} (device : Disk D) where
-  -- a step that may follow a journal goes on with it after a flush
-  pub may_go_on : (i j mid : JournalValue D) (step : Step) → i ≡ j → down_of j.wal ≡ None → mid.owes ≡ j.owes
-      → mid.state ≡ j.state → mid.opened ≡ j.opened → ((R : Log) → Stands device j R → Stands device mid R)
-      → IsEarlyKind step.kind → KeepsHistory device i → MayFollow device j step → CanDraw mid step
-      → MayGoOn device mid (next_record mid step)
-  may_go_on i j mid step is up owes state opened stands early keeps follow can t up' found opens =
-      let all : KeepsHistory device j = subst (λ (x : JournalValue D). KeepsHistory device x) is keeps in
-      let k = all t found (subst (λ (d : D). OpensTo (device.seen d) found) opened opens) in
-      let same : next_record mid step ≡ next_record j step =
-      ap (λ (b : Bool). record_of (after_owed b mid.state) step) owes
-      ∙ ap (λ (v : StateValue). record_of (after_owed j.owes v) step) state in
-      let r : Record = next_record j step in
-      let f = log_goes_on j.owes r k.log k.history k.begins.log_of
-      (early_drawn (after_owed j.owes j.state) step.kind early)
-      (follow t up (let can' : CanDraw j step = record {
-        encoded = subst IsRecord same can.encoded;
-        below = λ e. subst (λ (x : Record). x.xid < xid_bound) same (can.below e);
-      } in can') k.log k.begins.stands k.begins.log_of.legal) in
-      subst (λ (x : Record). GoesOn device mid x) (sym same) (record {
-        log = k.log;
-        old = k.history;
-        new = f.0;
-        stands = stands k.log k.begins.stands;
-        log_of = k.begins.log_of;
-        next = subst (λ (b : Bool). IsLogOf (logged b r k.log) f.0) (sym owes) f.1;
-        longer = f.2;
-      })
-
 module _ {D : Type 0} (device : Disk D) (one : CountedAreOne) where
   -- a call that logs a record of an early kind, which leaves a legal log legal
   pub begins_with : (j j' : JournalValue D) (r : Record) → j'.opened ≡ j.opened
       → ((f : ℕ) → down_of j.wal ≡ Some f → j'.disk ≡ j.disk)
-      → (device.tells → (R : Log) (s : Stands device j R)
+      → (device.tells → (R : Log) (s : IsJournalOf device j R)
       → (j'.disk ≡ j.disk) ⊎ LeavesOnly device j.disk j'.disk (CountsEither device j.disk s.counted R))
-      → ((R : Log) → Stands device j R → Stands device j' (logged j.owes r R)) → IsEarlyKind r.kind
-      → (device.tells → (R : Log) → Stands device j R → IsLegal R → IsLegal (logged j.owes r R))
+      → ((R : Log) → IsJournalOf device j R → IsJournalOf device j' (logged j.owes r R)) → IsEarlyKind r.kind
+      → (device.tells → (R : Log) → IsJournalOf device j R → IsLegal R → IsLegal (logged j.owes r R))
       → BeginsWith device j j' r
   begins_with j j' r opened rests moments stands early legal t found R H k =
       let h = log_goes_on j.owes r R H k.log_of early (legal t R k.stands k.log_of.legal) in (

@@ -26,7 +26,7 @@ use Rattle.core_state.proofs.RunningOnes.{on_same, length-all_ended}
 use Rattle.buffer_frames.specs.Drawing.{IsSheet, HasEncoding, kind_by, xid_by, value_by, drawn_by, front_of}
 use Rattle.buffer_frames.specs.Drawing.{made_sheets, images_of, record_of}
 use Rattle.buffer_frames.specs.Journals.{owed_abort, after_owed}
-use Rattle.buffer_frames.specs.Opens.{IsEarlyKind}
+use Rattle.buffer_frames.specs.Opens.{IsLoggedKind}
 use Rattle.buffer_frames.specs.declared.step.Drawn.{Drawn}
 
 -- what the numbers of a record need
@@ -148,25 +148,17 @@ images_more : (n : ℕ) (R : Log) (r : Record) → ImagesFrom n R → ((c : Chan
     → ImagesFrom n (r ∷ R)
 images_more n R r images all = (images, λ c i low. inr (all c i))
 
-not_checkpoint : (s : StateValue) (k : Kind) (redo : ℕ) → IsEarlyKind k → kind_by s k ≡ kind.Checkpoint redo → ⊥
-not_checkpoint s kind.Create redo early e = cc
-not_checkpoint s kind.Begin redo early e = cc
-not_checkpoint s (kind.Commit n) redo early e = cc
-not_checkpoint s kind.Abort redo early e = cc
-not_checkpoint s (kind.PlaceHead item serial) redo early e = cc
-not_checkpoint s (kind.PutOverflow item serial) redo early e = cc
-not_checkpoint s (kind.MarkDeleted item serial) redo early e = cc
-not_checkpoint s (kind.PutPending item serial) redo early e = cc
-not_checkpoint s (kind.AddRow item serial) redo early e = cc
-not_checkpoint s (kind.LinkPending item serial) redo early e = cc
-not_checkpoint s _ redo early e = absurd early
+not_checkpoint : (s : StateValue) (k : Kind) (redo : ℕ) → IsLoggedKind k → kind_by s k ≡ kind.Checkpoint redo → ⊥
+not_checkpoint s (kind.Commit n) redo logged e = cc
+not_checkpoint s (kind.PlaceHead item serial) redo logged e = cc
+not_checkpoint s k redo logged e = subst IsLoggedKind e logged
 
 pub drawn_is_made : (R : Log) (s : StateValue) (step : Step) → IsLegal R → StateTells R s → HasEncoding step
     → IsRecord (record_of s step)
-    → (step.kind ≡ kind.Begin → xid_by s step.kind step.xid < xid_bound) → IsEarlyKind step.kind
+    → (step.kind ≡ kind.Begin → xid_by s step.kind step.xid < xid_bound) → IsLoggedKind step.kind
     → IsRecordOf R step (record_of s step)
 unfolding replay
-drawn_is_made R s step legal told encoded is below early =
+drawn_is_made R s step legal told encoded is below logged =
     let r : Record = record_of s step in
     let all = are_images (front_of s step) step.after in
     record {
@@ -182,7 +174,7 @@ drawn_is_made R s step legal told encoded is below early =
       bytes = λ x i. after_images (front_of s step) r.number step.after x (replay R x.page) encoded.once i;
       images = images_more 1 R r legal.images all;
       redo_images = λ x redo i e. elim i [
-        | inl same ↦ absurd (not_checkpoint s step.kind redo early (ap (λ (z : Record). z.kind) (sym same) ∙ e))
+        | inl same ↦ absurd (not_checkpoint s step.kind redo logged (ap (λ (z : Record). z.kind) (sym same) ∙ e))
         | inr j ↦ images_more redo R r (legal.redo_images x redo j e) all
       ];
     }

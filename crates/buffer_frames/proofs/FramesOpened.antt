@@ -20,7 +20,7 @@ use Rattle.snap_pins.specs.declared.Pin.{Pin as PinInUse}
 use Rattle.snap_pins.specs.Taken.{IsPinned}
 use Rattle.buffer_frames.specs.Applied.{applied}
 use Rattle.buffer_frames.specs.First.{first_record, first_sheets}
-use Rattle.buffer_frames.specs.Homes.{home_at, home_of, ShowsBytes, HasPage, HavePages, AreAlike, HasPut, AreRead}
+use Rattle.buffer_frames.specs.Homes.{home_at, home_of, ShowsBytes, HasPage, HavePages, AreAlike, HasPut, LieAsMapped}
 use Rattle.buffer_frames.specs.Homes.{HaveOpened}
 use Rattle.buffer_frames.specs.Inner.Reads.{touches}
 use Rattle.buffer_frames.specs.Journals.{JournalValue, commits_in}
@@ -103,14 +103,14 @@ keeps_none R flushed n legal all = record {
   now = subst (λ (k : ℕ). Keeps R (pin_now k R)) (sym all) (legal_keeps_now R legal);
 }
 
-alike_at : (old mid : List Home) (map : PageMap) → AreAlike old mid → AreRead map old → AreRead map mid
+alike_at : (old mid : List Home) (map : PageMap) → AreAlike old mid → LieAsMapped map old → LieAsMapped map mid
 alike_at old mid map alike lie p = alike.each p ∙ lie p
 
 has_page : (o : Option (List ℕ)) → HasPage (home_of o)
 has_page None = tt
 has_page (Some b) = tt
 
-read_pages : (map : PageMap) (homes : List Home) → AreRead map homes → HavePages homes
+read_pages : (map : PageMap) (homes : List Home) → LieAsMapped map homes → HavePages homes
 read_pages map homes lie p = subst HasPage (sym (lie p)) (has_page (lookup map p))
 
 first_is : (x : Sheet) → In x first_sheets → IsPage x.content
@@ -182,4 +182,5 @@ of_whole {D} j homes pass some e =
       few = omega arith;
       now = (omega arith, omega arith);
       below = λ place p pinned. absurd (none_pinned 16 place p pinned);
+      work = tt;
     })

@@ -1,15 +1,22 @@
 -- A device that is given back after its journal was opened.
-use Rattle.std.proofs.Common.{◌≡◌, ℕ, inl, inr}
+use Rattle.std.proofs.Common.{◌≡◌, ℕ, inl, inr, arith}
 use Rattle.std.specs.Prelude.{Err}
 use Rattle.std.proofs.lemmas.Bool.{cases_lt}
 use Rattle.disk_trait.specs.Runs.{images_now}
 use Rattle.disk_trait.specs.declared.device.Disk.{Ghosts as Disk}
+use Rattle.wal.specs.Batches.{IsUnborn}
+use Rattle.wal.specs.Pages.{KeepsPages}
+use Rattle.wal.specs.Reading.{IsOnlyRead}
+use Rattle.wal.specs.Waiting.{end_of}
 use Rattle.core_state.specs.Log.{Log}
 use Rattle.core_state.specs.History.{History}
 use Rattle.buffer_frames.specs.Causes.{NotAStoreWhere}
-use Rattle.buffer_frames.specs.NoStore.{CountedAreOne}
-use Rattle.buffer_frames.specs.Opening.{IsToldOpened}
+use Rattle.core_state.specs.declared.settings.Settings.{Settings}
+use Rattle.buffer_frames.specs.Journals.{JournalValue}
+use Rattle.buffer_frames.specs.NoStore.{CountedAreOne, IsNoStore}
+use Rattle.buffer_frames.specs.Opening.{IsToldOpened, IsOpenedAt, LeavesRefused}
 use Rattle.buffer_frames.specs.Opens.{OpensTo, StartedFrom, OpensAsBefore}
+use Rattle.buffer_frames.specs.declared.page_map.PageMap.{PageMap}
 use Rattle.buffer_frames.specs.declared.error.OpenFault.{OpenFault}
 use Rattle.buffer_frames.specs.declared.error.OpenFault.TheVariants.{NotAStore, DiskFault, OutOfMemory}
 use Rattle.buffer_frames.proofs.Beginning.{opens_as}
@@ -37,4 +44,26 @@ given_back device one law first c0 disk end R told s = record {
           (device.seen first, law first, s.now.1),
         )
   ];
+}
+
+-- a journal was opened, and there was no memory for its pages
+pub no_memory : {D : Type 0} (device : Disk D) → CountedAreOne
+    → (device.tells → (d : D) → images_now device d (device.seen d)) → (settings : Settings) (first : D) (c0 : ℕ)
+    (j : JournalValue D) (map : PageMap) → IsOpenedAt device settings first c0 j map
+    → (device.tells → KeepsPages device first j.disk)
+    → (device.tells → (IsUnborn (device.seen first).log → ⊥) → IsOnlyRead device first j.disk)
+    → (device.tells → IsNoStore (device.seen first) → ⊥) → LeavesRefused device first (j.disk, OutOfMemory)
+no_memory device one law settings first c0 j map o keeps born store = record {
+  opens = λ t s. given_back device one (law t) first c0 j.disk (end_of j.wal) o.counted (o.told t) s;
+  keeps_pages = keeps;
+  pages = λ t.
+      let told = o.told t in
+      (told.late (device.clock j.disk) (device.seen j.disk) told.began.1 (omega arith) (law t j.disk)).1;
+  born = born;
+  no_store = λ t none. absurd (store t none);
+  not_a_store = λ e. absurd (let z : ⊥ = cc in z);
+  fault = λ e. absurd (let z : ⊥ = cc in z);
+  memory = λ e. o.no_write_failed;
+  later = o.no_fall;
+  time = o.time;
 }

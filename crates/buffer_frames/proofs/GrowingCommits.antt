@@ -16,7 +16,7 @@ use Rattle.core_state.proofs.Steps.Pins.{flush_keeps_now, whole_cut}
 use Rattle.core_state.specs.States.{StateValue, StateTells, state_of, step_of, stepped, committed, aborted}
 use Rattle.core_state.specs.States.{ended_all, placed_head, marked_head, transaction, last_serial, noted}
 use Rattle.core_state.specs.declared.transactions.Transaction.{Transaction}
-use Rattle.buffer_frames.specs.Journals.{JournalValue, Stands}
+use Rattle.buffer_frames.specs.Journals.{JournalValue, IsJournalOf}
 use Rattle.buffer_frames.proofs.LastingStates.{told_alike}
 use Rattle.buffer_frames.specs.LogCauses.{GoesDown}
 use Rattle.buffer_frames.specs.declared.log_error.LogError.{LogError}
@@ -73,7 +73,7 @@ state_more p x [] R = omega arith
 state_more p x (r ∷ waits) R = omega (arith, state_more p x waits R, step_more r (state_of p x (waits ++ R)))
 
 -- commits that are flushed are commits
-pub flushed_within : {D : Type 0} (device : Disk D) (j : JournalValue D) (R : Log) → Stands device j R
+pub flushed_within : {D : Type 0} (device : Disk D) (j : JournalValue D) (R : Log) → IsJournalOf device j R
     → down_of j.wal ≡ None → j.flushed ≤ length j.state.deleted
 flushed_within device j R s up =
     let p : ℕ = j.state.pages in
@@ -83,7 +83,7 @@ flushed_within device j R s up =
     omega (arith, s.flushed up, all, state_more p x s.waits s.counted)
 
 -- the commits that are flushed since
-pub flushed_since : {D : Type 0} (device : Disk D) (R : Log) (j j' : JournalValue D) → Stands device j R
+pub flushed_since : {D : Type 0} (device : Disk D) (R : Log) (j j' : JournalValue D) → IsJournalOf device j R
     → IsLegal R → Keeps R (pin_now j.flushed R) → (j'.flushed ≡ j.flushed) ⊎ (j'.flushed ≡ length j.state.deleted)
     → (j.flushed ≤ j'.flushed) × Keeps R (pin_now j'.flushed R)
 flushed_since device R j j' s legal now (inl e) =
@@ -96,14 +96,14 @@ flushed_since device R j j' s legal now (inr e) =
     (omega (arith, all, le), flush_keeps_now R j.flushed j'.flushed (omega (arith, all, le)) (omega (arith, all)) now)
 
 -- on every device
-pub flushed_more : {D : Type 0} (device : Disk D) (R : Log) (j j' : JournalValue D) → Stands device j R
+pub flushed_more : {D : Type 0} (device : Disk D) (R : Log) (j j' : JournalValue D) → IsJournalOf device j R
     → down_of j.wal ≡ None → (j'.flushed ≡ j.flushed) ⊎ (j'.flushed ≡ length j.state.deleted) → j.flushed ≤ j'.flushed
 flushed_more device R j j' s up (inl e) = omega (arith, e)
 flushed_more device R j j' s up (inr e) = omega (arith, e, flushed_within device j R s up)
 
 -- a flush
 pub flush_grows : {D : Type 0} (device : Disk D) (R : Log) (j j' : JournalValue D) (r : Result (Unit {0}) LogError)
-    → Stands device j R → OnOk r ((waiting j'.wal ≡ []) × (end_of j'.wal ≡ end_with (end_of j.wal) (waiting j.wal))
+    → IsJournalOf device j R → OnOk r ((waiting j'.wal ≡ []) × (end_of j'.wal ≡ end_with (end_of j.wal) (waiting j.wal))
     × (j'.flushed ≡ length j.state.deleted)) → OnErr r (j'.flushed ≡ j.flushed)
     → ((f : ℕ) → (r ≡ Err (Down f)) ↔ (down_of j.wal ≡ Some f))
     → (j.flushed ≤ j'.flushed) × ((j'.flushed ≡ j.flushed) ⊎ (j'.flushed ≡ length j.state.deleted))
@@ -126,7 +126,7 @@ was_up (Err XidsSpent) n o o' goes up = sym goes ∙ up
 was_up (Err OutOfMemory) n o o' goes up = sym goes ∙ up
 
 -- a step that is logged, or refused
-pub log_grows : {D : Type 0} (device : Disk D) (R : Log) (j j' : JournalValue D) → Stands device j R
+pub log_grows : {D : Type 0} (device : Disk D) (R : Log) (j j' : JournalValue D) → IsJournalOf device j R
     → ((f : ℕ) → down_of j.wal ≡ Some f → j' ≡ j) → (j'.flushed ≡ j.flushed) ⊎ (j'.flushed ≡ length j.state.deleted)
     → j.flushed ≤ j'.flushed
 log_grows {D} device R j j' s stays flushed = go (down_of j.wal) refl

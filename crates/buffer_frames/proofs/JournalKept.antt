@@ -17,6 +17,7 @@ pub state_kept : {D : Type 0} (f f' : FramesValue D) → f'.journal ≡ f.journa
 state_kept {D} f f' e = record {
   state = ap (λ (j : JournalValue D). j.state) e;
   owes = ap (λ (j : JournalValue D). j.owes) e;
+  work = ap (λ (j : JournalValue D). j.work) e;
 }
 
 pub others_kept : {D : Type 0} (f f' : FramesValue D) (ps : List ℕ) → f'.homes ≡ f.homes → KeepsOthers f f' ps
@@ -31,7 +32,7 @@ module _ {D : Type 0} (device : Disk D) where
     before = λ told m c early left.
         subst (λ (j : JournalValue D). device.image j.disk m c) e left;
     since = subst (λ (j : JournalValue D). KeepsSince device f.journal j) (sym e)
-        (λ told found opens c commits before has. has);
+        (λ told found R H begins c commits before has. has);
     pages = λ told. kept_same device f.journal.disk f'.journal.disk (ap (λ (j : JournalValue D). j.disk) e);
     up = λ up. sym (ap (λ (j : JournalValue D). down_of j.wal) e) ∙ up;
   }

@@ -44,8 +44,10 @@ pub mod PassesOf
 pub mod MadeSheets
 pub mod Released
 pub mod PinsKept
+pub mod PinCalls
 pub mod StepSheets
 pub mod Padded
 pub mod JournalKept
 pub mod GivenBack
 pub mod Begun
+pub mod Works

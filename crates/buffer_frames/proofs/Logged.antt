@@ -1,7 +1,7 @@
 -- A record that waits after those that did.
 use Rattle.std.proofs.Common.{◌≡◌, ◌⊎◌, inl, inr, suc, ◌<◌, ◌≤◌, ◌+◌, ◌-◌, ◌^◌, ℕ, Bool, true, false, cond, List, []}
 use Rattle.std.proofs.Common.{◌∷◌, ◌++◌, length, refl, sym, ap, subst, ◌∙◌, arith, append_assoc, lit<}
-use Rattle.std.specs.Prelude.{Result, Ok, Err, OnOk, OnErr, IfOk, reverse, flat_map}
+use Rattle.std.specs.Prelude.{Option, Some, None, IfSome, Result, Ok, Err, OnOk, OnErr, IfOk, reverse, flat_map}
 use Rattle.std.specs.List.{AllByRecursion}
 use Rattle.std.proofs.lemmas.List.{reverse-append, append-nil}
 use Rattle.std.proofs.lemmas.Grind.{flat_map-append}
@@ -12,19 +12,21 @@ use Rattle.wal.specs.Waiting.{waiting, end_of, limit_of, end_then, waiting_then,
 use Rattle.wal.specs.declared.sizes.TheConstants.{FRAME_BYTES}
 use Rattle.page_types.specs.Records.{record_bytes, IsRecord}
 use Rattle.page_types.specs.declared.record.Record.{Record}
-use Rattle.core_state.specs.Log.{Log, xid_bound}
+use Rattle.core_state.specs.Log.{Log, In, xid_bound}
 use Rattle.core_state.specs.Allowed.{Step}
 use Rattle.core_state.specs.States.{StateValue, state_of, step_of}
+use Rattle.core_state.specs.Steady.{IsMaintenance}
 use Rattle.core_state.specs.Stores.{AreRecordsOf}
 use Rattle.core_state.proofs.Bounds.{step_marks, state_bounds}
 use Rattle.buffer_frames.specs.Counted.{AreNumbered}
-use Rattle.buffer_frames.specs.Journals.{JournalValue, lasting, Stands, CountsEither, IsSpent, CanDraw, after_owed}
+use Rattle.buffer_frames.specs.Journals.{JournalValue, lasting, IsJournalOf, CountsEither, IsSpent, CanDraw, after_owed}
 use Rattle.buffer_frames.specs.Journals.{next_record, logged, with_owed, owed_abort, logged_bytes, next_number}
-use Rattle.buffer_frames.specs.Journals.{commits_in}
+use Rattle.buffer_frames.specs.Journals.{commits_in, RestsFrom, is_work, work_after}
 use Rattle.buffer_frames.specs.Logging.{IsSameJournal, HasLogged}
 use Rattle.page_types.specs.declared.record.Kind.{Kind}
+use Rattle.page_types.specs.declared.record.Kind.TheVariants as kind
 use Rattle.core_state.proofs.RunningOnes.{below_or_past}
-use Rattle.buffer_frames.specs.Drawing.{xid_by, drawn_by, record_of}
+use Rattle.buffer_frames.specs.Drawing.{kind_by, xid_by, drawn_by, record_of}
 use Rattle.buffer_frames.specs.LogCauses.{LogFullWhere}
 use Rattle.buffer_frames.specs.declared.step.Drawn.{Drawn}
 use Rattle.buffer_frames.proofs.DrawnRecords.{owed_number, draws_alike}
@@ -193,9 +195,70 @@ can_draw j step is spent limit = record {
   ];
 }
 
+-- no record of a log has a number above its length
+pub number_within : (R : Log) → AreNumbered R → (s : Record) → In s R → s.number ≤ length R
+number_within [] numbered s i = absurd i
+number_within (r ∷ R) numbered s (inl e) = omega (arith, ap (λ (x : Record). x.number) e, numbered.1)
+number_within (r ∷ R) numbered s (inr i) = omega (arith, number_within R numbered.0 s i)
+
+-- maintenance is known by its kind
+work_told : (k : Kind) → IsMaintenance k → is_work k ≡ true
+work_told kind.Begin work = absurd (let z : ⊥ = omega (arith, work.0) in z)
+work_told (kind.Commit n) work = absurd (let z : ⊥ = omega (arith, work.0) in z)
+work_told kind.Abort work = absurd (let z : ⊥ = omega (arith, work.0) in z)
+work_told (kind.PlaceHead item serial) work = absurd (let z : ⊥ = omega (arith, work.0) in z)
+work_told (kind.PutOverflow item serial) work = absurd (let z : ⊥ = omega (arith, work.0) in z)
+work_told (kind.MarkDeleted item serial) work = absurd (let z : ⊥ = omega (arith, work.0) in z)
+work_told (kind.PutPending item serial) work = absurd (let z : ⊥ = omega (arith, work.0) in z)
+work_told (kind.AddRow item serial) work = absurd (let z : ⊥ = omega (arith, work.0) in z)
+work_told (kind.LinkPending item serial) work = absurd (let z : ⊥ = omega (arith, work.0) in z)
+work_told _ work = refl
+
+-- the owed Abort is none
+owed_rests : (owes : Bool) (R : Log) (n : ℕ) → RestsFrom n R → RestsFrom n (with_owed owes R)
+owed_rests false R n rests s i lt work = rests s i lt work
+owed_rests true R n rests s (inr i) lt work = rests s i lt work
+owed_rests true R n rests s (inl e) lt work =
+    let abort : IsMaintenance kind.Abort = subst IsMaintenance (ap (λ (x : Record). x.kind) e) work in
+    omega (arith, abort.0)
+
+-- a record more that is maintenance is the last one
+rests_more : (owes : Bool) (r : Record) (R : Log) (n : ℕ) → AreNumbered R → length R ≤ r.number → RestsFrom n R
+    → (b : Bool) → is_work r.kind ≡ b → RestsFrom (cond b r.number n) (logged owes r R)
+rests_more owes r R n numbered past rests true is s (inl e) lt work =
+    omega (arith, lt, ap (λ (x : Record). x.number) e)
+rests_more owes r R n numbered past rests true is s (inr i) lt work =
+    owed_rests owes R r.number (λ x j late. absurd (omega (arith, late, past, number_within R numbered x j))) s i lt
+    work
+rests_more owes r R n numbered past rests false is s (inl e) lt work =
+    let f : true ≡ false = sym (work_told r.kind (subst IsMaintenance (ap (λ (x : Record). x.kind) e) work)) ∙ is in
+    let z : ⊥ = cc in z
+rests_more owes r R n numbered past rests false is s (inr i) lt work = owed_rests owes R n rests s i lt work
+
+-- what is noted is as if no flush had come before
+pub mid_work : {D T : Type 0} (j mid j' : JournalValue D) (step : Step) (r : Result T LogError)
+    → mid.owes ≡ j.owes → mid.state ≡ j.state → mid.work ≡ j.work → OnOk r (HasLogged mid j' (next_record mid step))
+    → OnOk r (j'.work ≡ work_after step.kind (next_number j) j.work)
+mid_work j mid j' step (Err e) owes state work has = tt
+mid_work {D} j mid j' step (Ok x) owes state work has =
+    has.work
+    ∙ ap (λ (o : Option ℕ). work_after (next_record mid step).kind (next_record mid step).number o) work
+    ∙ ap (λ (r : Record). work_after r.kind r.number j.work) (mid_record j mid step owes state)
+    ∙ ap (λ (n : ℕ). work_after (next_record j step).kind n j.work) (owed_number j.owes j.state)
+    ∙ same_kind (after_owed j.owes j.state) step.kind (next_number j) j.work
+  where
+    same_kind : (s : StateValue) (k : Kind) (n : ℕ) (o : Option ℕ)
+        → work_after (kind_by s k) n o ≡ work_after k n o
+    same_kind s (kind.Commit c) n None = refl
+    same_kind s (kind.Commit c) n (Some m) = refl
+    same_kind s (kind.PlaceHead item serial) n None = refl
+    same_kind s (kind.PlaceHead item serial) n (Some m) = refl
+    same_kind s _ n o = refl
+
 module _ {D : Type 0} (device : Disk D) where
-  pub logged_stands : (j j' : JournalValue D) (r : Record) (R : Log) → Stands device j R → HasLogged j j' r → IsRecord r
-      → r.number ≡ next_number j → 1 + j.state.records < 2 ^ 64 → Stands device j' (logged j.owes r R)
+  pub logged_stands : (j j' : JournalValue D) (r : Record) (R : Log) → IsJournalOf device j R → HasLogged j j' r
+      → IsRecord r
+      → r.number ≡ next_number j → 1 + j.state.records < 2 ^ 64 → IsJournalOf device j' (logged j.owes r R)
   logged_stands j j' r R s has is at small = record {
     counted = s.counted;
     waits = (r ∷ more) ++ s.waits;
@@ -224,6 +287,7 @@ module _ {D : Type 0} (device : Disk D) where
               (subst (λ (e : ℕ). Settled device was.0 e j.disk) (sym has.end) was.1),
           was.2,
         );
+    work = rests_then j.work has.work s.work;
   }
     where
       last : j.state.records ≡ length R
@@ -251,6 +315,16 @@ module _ {D : Type 0} (device : Disk D) where
           (owed_alike j.owes (1 + j.state.records) j.state (state_of j.state.pages j.state.xid_limit R) s.state)
           ∙ ap lasting (sym (now j.state.pages j.state.xid_limit))
 
+      -- the owed Abort is no maintenance, and a record that is one is noted
+      rests_here : (n : ℕ) → RestsFrom n R → RestsFrom (cond (is_work r.kind) r.number n) (logged j.owes r R)
+      rests_here n rests = rests_more j.owes r R n s.numbered (omega (arith, at, last)) rests (is_work r.kind) refl
+
+      rests_then : (w : Option ℕ) {w' : Option ℕ} → w' ≡ work_after r.kind r.number w
+          → IfSome w (λ n. RestsFrom n R) → IfSome w' (λ n. RestsFrom n (logged j.owes r R))
+      rests_then None is rests = subst (λ (o : Option ℕ). IfSome o (λ n. RestsFrom n (logged j.owes r R))) (sym is) tt
+      rests_then (Some n) is rests =
+          subst (λ (o : Option ℕ). IfSome o (λ n. RestsFrom n (logged j.owes r R))) (sym is) (rests_here n rests)
+
       bounds : let t : ℕ × ℕ = (j'.state.pages, j'.state.xid_limit) in t ≡ (j.state.pages, j.state.xid_limit)
       bounds =
           let b = state_bounds j.state.pages j.state.xid_limit (logged j.owes r R) in
@@ -262,7 +336,8 @@ module _ {D : Type 0} (device : Disk D) where
       states =
           subst (λ (t : ℕ × ℕ). lasting j'.state ≡ lasting (state_of t.0 t.1 (logged j.owes r R))) (sym bounds) here
 
-  pub same_stands : (j j' : JournalValue D) (R : Log) → Stands device j R → IsSameJournal j j' → Stands device j' R
+  pub same_stands : (j j' : JournalValue D) (R : Log) → IsJournalOf device j R → IsSameJournal j j'
+      → IsJournalOf device j' R
   same_stands j j' R s same = record {
     counted = s.counted;
     waits = s.waits;
@@ -280,24 +355,25 @@ module _ {D : Type 0} (device : Disk D) where
               (subst (λ (e : ℕ). Settled device was.0 e j.disk) (sym same.end) was.1),
           was.2,
         );
+    work = subst (λ (w : Option ℕ). IfSome w (λ n. RestsFrom n R)) (sym same.work) s.work;
   }
 
   -- what a call does, after a flush where much waits
   pub log_stands : {T : Type 0} (j mid j' : JournalValue D) (step : Step) (r : Result T LogError)
       → OnOk r (HasLogged mid j' (next_record mid step)) → OnOk r (CanDraw mid step) → mid.owes ≡ j.owes
       → mid.state ≡ j.state → 1 + j.state.records < 2 ^ 64
-      → ((R : Log) → Stands device j R → Stands device mid R) → (R : Log) → Stands device j R
-      → OnOk r (Stands device j' (logged j.owes (next_record j step) R))
+      → ((R : Log) → IsJournalOf device j R → IsJournalOf device mid R) → (R : Log) → IsJournalOf device j R
+      → OnOk r (IsJournalOf device j' (logged j.owes (next_record j step) R))
   log_stands j mid j' step (Err e) has can owes state small stands R s = tt
   log_stands j mid j' step (Ok x) has can owes state small stands R s =
-      subst (λ (r : Record). Stands device j' (logged j.owes r R)) (mid_record j mid step owes state)
-      (subst (λ (b : Bool). Stands device j' (logged b (next_record mid step) R)) owes
+      subst (λ (r : Record). IsJournalOf device j' (logged j.owes r R)) (mid_record j mid step owes state)
+      (subst (λ (b : Bool). IsJournalOf device j' (logged b (next_record mid step) R)) owes
       (logged_stands mid j' (next_record mid step) R (stands R s) has can.encoded (owed_number mid.owes mid.state)
       (subst (λ (v : StateValue). 1 + v.records < 2 ^ 64) (sym state) small)))
 
   pub log_refused : {T : Type 0} (j mid j' : JournalValue D) (r : Result T LogError) → OnErr r (IsSameJournal mid j')
-      → ((R : Log) → Stands device j R → Stands device mid R) → (R : Log) → Stands device j R
-      → OnErr r (Stands device j' R)
+      → ((R : Log) → IsJournalOf device j R → IsJournalOf device mid R) → (R : Log) → IsJournalOf device j R
+      → OnErr r (IsJournalOf device j' R)
   log_refused j mid j' (Ok x) same stands R s = tt
   log_refused j mid j' (Err e) same stands R s = same_stands mid j' R (stands R s) same
 
@@ -307,7 +383,7 @@ module _ {D : Type 0} (device : Disk D) where
   log_disk mid j' rec (Err e) has same = same.disk
 
   pub log_moments : {T : Type 0} (j mid j' : JournalValue D) (rec : Record) (r : Result T LogError)
-      → OnOk r (HasLogged mid j' rec) → OnErr r (IsSameJournal mid j') → (R : Log) (s : Stands device j R)
+      → OnOk r (HasLogged mid j' rec) → OnErr r (IsSameJournal mid j') → (R : Log) (s : IsJournalOf device j R)
       → (mid.disk ≡ j.disk) ⊎ LeavesOnly device j.disk mid.disk (CountsEither device j.disk s.counted R)
       → (j'.disk ≡ j.disk) ⊎ LeavesOnly device j.disk j'.disk (CountsEither device j.disk s.counted R)
   log_moments j mid j' rec r has same R s left =

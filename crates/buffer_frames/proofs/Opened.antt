@@ -1,6 +1,7 @@
 -- What a crash leaves of an opening, and what a journal stands for after it.
 use Rattle.std.proofs.Common.{◌≡◌, inl, inr, ⊎_elim, ◌≤◌, ℕ, Bool, true, false, List, [], ◌∷◌, length, refl, sym, ap}
 use Rattle.std.proofs.Common.{subst, ◌∙◌, arith}
+use Rattle.std.specs.Prelude.{None}
 use Rattle.std.proofs.lemmas.Bool.{cases_lt}
 use Rattle.std.proofs.lemmas.List.{append-nil}
 use Rattle.disk_trait.specs.Files.{Files}
@@ -21,7 +22,7 @@ use Rattle.core_state.specs.declared.settings.Settings.{Settings}
 use Rattle.core_state.proofs.Bounds.{step_marks, state_bounds}
 use Rattle.buffer_frames.specs.Counted.{IsCounted}
 use Rattle.buffer_frames.specs.First.{first_record}
-use Rattle.buffer_frames.specs.Journals.{lasting, Stands}
+use Rattle.buffer_frames.specs.Journals.{lasting, IsJournalOf}
 use Rattle.buffer_frames.specs.NoStore.{IsStoreOf}
 use Rattle.buffer_frames.specs.Opens.{OpensTo, StartedFrom, OpensAsBefore}
 use Rattle.buffer_frames.specs.Opening.{IsOpenedAt, IsToldOpened}
@@ -128,7 +129,7 @@ module _ {D : Type 0} (device : Disk D) where
   -- what the journal stands for where records were read
   goes_on : (settings : Settings) (first disk : D) (wal : Wal) (v : StateValue) (map : PageMap) (R : Log) (n : ℕ)
       → IsReadAs device settings first disk wal v map R → n ≡ length v.deleted
-      → Stands device (seen_as disk wal v n true disk) R
+      → IsJournalOf device (seen_as disk wal v n true disk None) R
   goes_on settings first disk wal v map R n read count =
       let b = state_bounds settings.pages settings.xid_limit R in
       let pages : v.pages ≡ settings.pages = ap (λ (s : StateValue). s.pages) read.state_is ∙ b.0 in
@@ -145,13 +146,14 @@ module _ {D : Type 0} (device : Disk D) where
         waiting_is = λ up. subst (λ (w : List ℕ). AreRecordsOf w []) (sym read.fresh.none)
             (record { each = tt; encoded = refl });
         settled = λ t up. read.settled t;
+        work = tt;
       }
 
   -- and where there was none
   starts : (settings : Settings) (first disk : D) (wal wal' : Wal) (v v' : StateValue) (map : PageMap) (n : ℕ)
       → IsReadAs device settings first disk wal v map [] → n ≡ length v.deleted
       → waiting wal' ≡ record_bytes first_record → end_of wal' ≡ end_of wal → v' ≡ step_of first_record v
-      → Stands device (seen_as disk wal' v' n false disk) (first_record ∷ [])
+      → IsJournalOf device (seen_as disk wal' v' n false disk None) (first_record ∷ [])
   starts settings first disk wal wal' v v' map n read count waits end state =
       let p : ℕ = settings.pages in
       let x : ℕ = settings.xid_limit in
@@ -171,6 +173,7 @@ module _ {D : Type 0} (device : Disk D) where
             (record { each = (first_encoded, tt); encoded = sym (append-nil (record_bytes first_record)) });
         settled = λ t up. let was = read.settled t in
             (was.0, subst (λ (e : ℕ). Settled device was.0 e disk) (sym end) was.1, was.2);
+        work = tt;
       }
 
   pub opened_at : OpensToOneList → (settings : Settings) (first disk : D) (wal wal' : Wal) (v v' : StateValue)
@@ -179,7 +182,7 @@ module _ {D : Type 0} (device : Disk D) where
       → device.clock first ≤ device.clock disk → device.fault_count first ≤ device.fault_count disk
       → device.write_fault_count disk ≡ device.write_fault_count first
       → AreBelowLast device first disk → n ≡ length v.deleted → HasBegun owes wal wal' v v'
-      → IsOpenedAt device settings first c0 (seen_as disk wal' v' n owes disk) map
+      → IsOpenedAt device settings first c0 (seen_as disk wal' v' n owes disk None) map
   unfolding starts goes_on
   opened_at one settings first disk wal wal' v v' map [] n false law read c0 run time later writes below count begun =
       let now : v' ≡ state_of settings.pages settings.xid_limit (first_record ∷ []) =
@@ -209,8 +212,9 @@ module _ {D : Type 0} (device : Disk D) where
       let b = state_bounds settings.pages settings.xid_limit (r ∷ R) in
       let same : v' ≡ v = begun.2 in
       let wals : wal' ≡ wal = begun.1 in
-      subst (λ (w : Wal). IsOpenedAt device settings first c0 (seen_as disk w v' n true disk) map) (sym wals)
-      (subst (λ (s : StateValue). IsOpenedAt device settings first c0 (seen_as disk wal s n true disk) map) (sym same)
+      subst (λ (w : Wal). IsOpenedAt device settings first c0 (seen_as disk w v' n true disk None) map) (sym wals)
+      (subst (λ (s : StateValue). IsOpenedAt device settings first c0 (seen_as disk wal s n true disk None) map)
+      (sym same)
       (record {
         counted = r ∷ R;
         stands = goes_on settings first disk wal v map (r ∷ R) n read count;
@@ -243,8 +247,8 @@ module _ {D : Type 0} (device : Disk D) where
 
   -- once a run begins
   pub run_at : (settings : Settings) (first disk : D) (wal : Wal) (v : StateValue) (map : PageMap)
-      (c0 n : ℕ) (owes : Bool) → IsOpenedAt device settings first c0 (seen_as disk wal v n owes disk) map
-      → IsOpenedAt device settings first c0 (seen_as disk wal (run_started v) n owes disk) map
+      (c0 n : ℕ) (owes : Bool) → IsOpenedAt device settings first c0 (seen_as disk wal v n owes disk None) map
+      → IsOpenedAt device settings first c0 (seen_as disk wal (run_started v) n owes disk None) map
   run_at settings first disk wal v map c0 n owes o = record {
     counted = o.counted;
     stands = record {
@@ -256,6 +260,7 @@ module _ {D : Type 0} (device : Disk D) where
       flushed = (o.stands).flushed;
       waiting_is = (o.stands).waiting_is;
       settled = (o.stands).settled;
+      work = (o.stands).work;
     };
     none_lost = o.none_lost;
     owes = o.owes;

@@ -9,7 +9,7 @@ use Rattle.core_state.specs.States.{StateValue, step_of, stepped, ended_all, tra
 use Rattle.core_state.specs.Rooms.{InMemory, HasRoom, HasRoomFor, HasRoomForPages, LeavesRoom}
 use Rattle.core_state.specs.declared.transactions.Transaction.{Transaction}
 use Rattle.core_state.proofs.RunningOnes.{on_same, length-all_ended}
-use Rattle.buffer_frames.specs.Opens.{IsEarlyKind}
+use Rattle.buffer_frames.specs.Opens.{IsLoggedKind}
 
 none_runs : (P : Transaction → Type 0) (x : ℕ) (ts : List Transaction) → ts ≡ [] → IfSome (transaction x ts) P
 none_runs P x ts none = subst (λ (l : List Transaction). IfSome (transaction x l) P) (sym none) tt
@@ -22,29 +22,15 @@ pub record HasEnded (h h' : InMemory) : Type 0 where
   pub room_pages : h'.room.pages ≡ h.room.pages
   pub left : h.room.running ≤ h'.room.running
 
-room_rest : (h h' : InMemory) → HasEnded h h' → (k : Kind) (x n : ℕ) → IsEarlyKind k → HasRoomFor k x n h
+room_rest : (h h' : InMemory) → HasEnded h h' → (k : Kind) (x n : ℕ) → IsLoggedKind k → HasRoomFor k x n h
     → HasRoomFor k x n h'
-room_rest h h' e kind.Create x n early room = tt
-room_rest h h' e kind.Begin x n early room = (omega (arith, room, e.fates, e.room_fates), omega (arith, room, e.left))
-room_rest h h' e (kind.Commit c) x n early room = none_runs _ x h'.value.running e.none
-room_rest h h' e kind.Abort x n early room = tt
-room_rest h h' e (kind.PlaceHead item serial) x n early room = none_runs _ x h'.value.running e.none
-room_rest h h' e (kind.PutOverflow item serial) x n early room = tt
-room_rest h h' e (kind.MarkDeleted item serial) x n early room = none_runs _ x h'.value.running e.none
-room_rest h h' e (kind.Checkpoint redo) x n early room = absurd early
-room_rest h h' e (kind.PutPending item serial) x n early room = tt
-room_rest h h' e (kind.AddRow item serial) x n early room = tt
-room_rest h h' e (kind.LinkPending item serial) x n early room = tt
-room_rest h h' e kind.Shift x n early room = absurd early
-room_rest h h' e kind.AddItems x n early room = absurd early
-room_rest h h' e kind.MakeTree x n early room = absurd early
-room_rest h h' e kind.AddPostings x n early room = absurd early
-room_rest h h' e kind.GrowRoot x n early room = absurd early
-room_rest h h' e kind.Split x n early room = absurd early
-room_rest h h' e kind.RemoveItems x n early room = absurd early
-room_rest h h' e kind.DeletePost x n early room = absurd early
-room_rest h h' e (kind.DropPage item serial) x n early room = absurd early
-room_rest h h' e kind.FreeSlots x n early room = absurd early
+room_rest h h' e kind.Begin x n logged room = (omega (arith, room, e.fates, e.room_fates), omega (arith, room, e.left))
+room_rest h h' e (kind.Commit c) x n logged room = none_runs _ x h'.value.running e.none
+room_rest h h' e (kind.PlaceHead item serial) x n logged room = none_runs _ x h'.value.running e.none
+room_rest h h' e (kind.MarkDeleted item serial) x n logged room = none_runs _ x h'.value.running e.none
+room_rest h h' e (kind.Checkpoint redo) x n logged room = absurd logged
+room_rest h h' e kind.FreeSlots x n logged room = absurd logged
+room_rest h h' e _ x n logged room = tt
 
 has_ended : (h h' : InMemory) (r : Record) → r.kind ≡ kind.Abort → r.xid ≡ 0 → h'.value ≡ step_of r h.value
     → h'.room.pages ≡ h.room.pages → LeavesRoom r.kind r.xid h.room h'.room → HasEnded h h'
@@ -64,10 +50,10 @@ has_ended h h' r is zero value pages left =
 
 pub room_still : (h h' : InMemory) (owed r : Record) → owed.kind ≡ kind.Abort → owed.xid ≡ 0
     → h'.value ≡ step_of owed h.value → h'.room.pages ≡ h.room.pages → LeavesRoom owed.kind owed.xid h.room h'.room
-    → IsEarlyKind r.kind → HasRoom h r → HasRoom h' r
-room_still h h' owed r is zero value pages left early room =
+    → IsLoggedKind r.kind → HasRoom h r → HasRoom h' r
+room_still h h' owed r is zero value pages left logged room =
     let e = has_ended h h' owed is zero value pages left in
     record {
       pages = subst (λ (n : ℕ). HasRoomForPages n r) (sym e.room_pages) room.pages;
-      rest = room_rest h h' e r.kind r.xid (length r.changes) early room.rest;
+      rest = room_rest h h' e r.kind r.xid (length r.changes) logged room.rest;
     }

@@ -1,20 +1,57 @@
 -- A pass is one of the frames after each call.
-use Rattle.std.proofs.Common.{◌≡◌, ◌≢◌, ◌⊎◌, ◌<◌, ◌≤◌, ℕ, true, false, List, length, refl, sym, ap, subst, ◌∙◌, inl}
+use Rattle.std.proofs.Common.{◌≡◌, ◌≢◌, ◌⊎◌, ◌<◌, ◌≤◌, ℕ, Bool, true, false, cond, List, length, refl, sym, ap, subst}
+use Rattle.std.proofs.Common.{◌∙◌, inl}
 use Rattle.std.proofs.Common.{inr, arith}
 use Rattle.std.specs.Prelude.{Option, Some, None, IfSome, max, slice_set, slice_get}
 use Rattle.std.proofs.lemmas.List.{get_or-set_other, length-set}
 use Rattle.std.proofs.lemmas.Grind.{get_or-set_at}
 use Rattle.std.proofs.lemmas.Option.{slice_get-get_or, slice_get_within, get_or_from_slice_get}
+use Rattle.page_types.specs.declared.record.Kind.{Kind}
 use Rattle.core_state.proofs.RunningOnes.{same_or_other}
 use Rattle.snap_pins.specs.Taken.{IsPinned, IsFree, IsTaken, IsLeast}
 use Rattle.snap_pins.specs.declared.Pin.{Pin as PinInUse}
-use Rattle.buffer_frames.specs.Journals.{JournalValue}
+use Rattle.buffer_frames.specs.Journals.{JournalValue, is_work, work_after}
 use Rattle.buffer_frames.specs.Frames.{FramesValue}
-use Rattle.buffer_frames.specs.Passes.{in_use, IsPassOf, split_of, joined_with}
+use Rattle.buffer_frames.specs.Passes.{in_use, IsRightOf, IsPassOf, split_of, either_right, joined_with}
 use Rattle.buffer_frames.specs.declared.home.Home.{Home}
 use Rattle.buffer_frames.specs.declared.pass.Pass.{Pass}
 use Rattle.buffer_frames.specs.declared.pass.Pinned.{Pinned}
 use Rattle.buffer_frames.proofs.FramesKept.{framed}
+
+-- the right of maintenance, once the pass has seen more of a longer log
+right_longer : (w o : Option ℕ) (seen records seen' records' : ℕ) → seen ≤ seen' → records ≤ records'
+    → IfSome o (λ at. (at ≤ records) × IsRightOf w (max at seen))
+    → IfSome o (λ at. (at ≤ records') × IsRightOf w (max at seen'))
+right_longer w None seen records seen' records' more longer right = tt
+right_longer None (Some at) seen records seen' records' more longer right = absurd right.1
+right_longer (Some n) (Some at) seen records seen' records' more longer right =
+    (omega (arith, right.0, longer), omega (arith, right.1, more))
+
+-- that of one of two passes
+right_joined : (w o o' : Option ℕ) (seen seen' records : ℕ)
+    → IfSome o (λ at. (at ≤ records) × IsRightOf w (max at seen))
+    → IfSome o' (λ at. (at ≤ records) × IsRightOf w (max at seen'))
+    → IfSome (either_right o o') (λ at. (at ≤ records) × IsRightOf w (max at (max seen seen')))
+right_joined w None o' seen seen' records right other =
+    right_longer w o' seen' records (max seen seen') records (omega arith) (omega arith) other
+right_joined w (Some at) o' seen seen' records right other =
+    right_longer w (Some at) seen records (max seen seen') records (omega arith) (omega arith) right
+
+-- and once it has seen all, after a record
+right_after : (w o : Option ℕ) (seen records : ℕ) (k : Kind) (number n records' : ℕ) → records ≤ records'
+    → {w' : Option ℕ} → w' ≡ work_after k number w → number ≤ n
+    → IfSome o (λ at. (at ≤ records) × IsRightOf w (max at seen)) → n ≡ records' → seen ≤ records
+    → IfSome o (λ at. (at ≤ records') × IsRightOf w' (max at n))
+right_after w None seen records k number n records' longer is within right now most = tt
+right_after None (Some at) seen records k number n records' longer is within right now most = absurd right.1
+right_after (Some m) (Some at) seen records k number n records' longer is within right now most = (
+  omega (arith, right.0, longer),
+  subst (λ (x : Option ℕ). IsRightOf x (max at n)) (sym is) (go (is_work k)),
+)
+  where
+    go : (b : Bool) → cond b number m ≤ max at n
+    go true = omega (arith, within)
+    go false = omega (arith, right.0, right.1, most, longer, now)
 
 -- with other homes, and so many pages held
 pub of_held : {D : Type 0} (j : JournalValue D) (pins : List (Option PinInUse)) (homes homes' : List Home)
@@ -31,6 +68,7 @@ of_held j pins homes homes' pass n few of = record {
   few = few;
   now = of.now;
   below = of.below;
+  work = of.work;
 }
 
 any_xid : (o : Option ℕ) (n : ℕ) → IfSome o (λ x. n ≡ n)
@@ -45,10 +83,11 @@ seen_pin pins (Some s) n m le p = (p.0, omega (arith, le, p.1))
 
 -- a pass that has seen all, with another xid, where no Abort is owed
 pub of_logged : {D : Type 0} (j j' : JournalValue D) (pins : List (Option PinInUse)) (homes homes' : List Home)
-    (pass : Pass) (n : ℕ) (xid : Option ℕ) → n ≡ j'.state.records → j'.owes ≡ false → j.flushed ≤ j'.flushed
-    → j.state.records ≤ j'.state.records → IsPassOf (framed j pins homes) pass
+    (pass : Pass) (n : ℕ) (k : Kind) (number : ℕ) (xid : Option ℕ) → n ≡ j'.state.records → j'.owes ≡ false
+    → j.flushed ≤ j'.flushed → j.state.records ≤ j'.state.records → j'.work ≡ work_after k number j.work → number ≤ n
+    → IsPassOf (framed j pins homes) pass
     → IsPassOf (framed j' pins homes') (record pass { held = 0; seen = n; xid = xid })
-of_logged j j' pins homes homes' pass n xid now none more longer of = record {
+of_logged j j' pins homes homes' pass n k number xid now none more longer work within of = record {
   some = omega (arith, of.some, of.seen, longer, now);
   seen = omega (arith, now);
   all = all xid;
@@ -59,6 +98,8 @@ of_logged j j' pins homes homes' pass n xid now none more longer of = record {
   few = omega arith;
   now = (omega (arith, of.now.0, more), omega (arith, of.now.1, longer));
   below = of.below;
+  work = right_after j.work pass.work pass.seen j.state.records k number n j'.state.records longer work within of.work
+      now of.seen;
 }
   where
     all : (o : Option ℕ) → IfSome o (λ x. n ≡ j'.state.records)
@@ -68,9 +109,9 @@ of_logged j j' pins homes homes' pass n xid now none more longer of = record {
 -- a journal that has flushed more, or the same
 pub of_flushed : {D : Type 0} (j j' : JournalValue D) (pins : List (Option PinInUse)) (homes homes' : List Home)
     (pass : Pass) (n shown : ℕ) → n < 5 → j'.owes ≡ j.owes → j.flushed ≤ j'.flushed
-    → j'.state.records ≡ j.state.records → shown ≤ j'.flushed → IsPassOf (framed j pins homes) pass
+    → j'.state.records ≡ j.state.records → j'.work ≡ j.work → shown ≤ j'.flushed → IsPassOf (framed j pins homes) pass
     → IsPassOf (framed j' pins homes') (record pass { held = n; shown = shown })
-of_flushed j j' pins homes homes' pass n shown few owes more same le of = record {
+of_flushed j j' pins homes homes' pass n shown few owes more same work le of = record {
   some = of.some;
   seen = omega (arith, of.seen, same);
   all = all pass.xid of.all;
@@ -81,6 +122,9 @@ of_flushed j j' pins homes homes' pass n shown few owes more same le of = record
   few = few;
   now = (omega (arith, of.now.0, more), omega (arith, of.now.1, same));
   below = of.below;
+  work = subst (λ (w : Option ℕ). IfSome pass.work (λ at. (at ≤ j'.state.records) × IsRightOf w (max at pass.seen)))
+      (sym work) (right_longer j.work pass.work pass.seen j.state.records pass.seen j'.state.records (omega arith)
+      (omega (arith, same)) of.work);
 }
   where
     all : (o : Option ℕ) → IfSome o (λ x. pass.seen ≡ j.state.records) → IfSome o (λ x. pass.seen ≡ j'.state.records)
@@ -103,6 +147,8 @@ of_seen j pins homes pass floor since low short of = record {
   few = of.few;
   now = (low.at_most, short.at_most);
   below = λ place p is. (low.pinned place p is, short.pinned place p is);
+  work = right_longer j.work pass.work pass.seen j.state.records j.state.records j.state.records of.seen
+      (omega arith) of.work;
 }
 
 -- a floor or a since is never above the greatest
@@ -163,6 +209,8 @@ of_pinned j pins homes pass place free of = record {
         )
     | inr d ↦ of.below k p (set_else pins place k (Some new) (Some p) d is)
   ];
+  work = right_longer j.work pass.work pass.seen j.state.records j.state.records j.state.records of.seen
+      (omega arith) of.work;
 }
   where
     new : PinInUse
@@ -190,6 +238,7 @@ of_unpinned j pins homes pass place taken of = record {
         let z : ⊥ = cc in z)
     | inr d ↦ of.below k p (set_else pins place k None (Some p) d is)
   ];
+  work = of.work;
 }
 
 -- a pass with other room
@@ -206,6 +255,7 @@ of_room j pins homes pass n of = record {
   few = of.few;
   now = of.now;
   below = of.below;
+  work = of.work;
 }
 
 -- a pass that is made of another
@@ -222,6 +272,7 @@ of_split j pins homes pass none of = record {
   few = omega arith;
   now = of.now;
   below = of.below;
+  work = tt;
 }
 
 -- a pass in which another ended
@@ -242,6 +293,7 @@ of_joined j pins homes pass other one of = record {
       let a = of.below place p is in
       let b = one.below place p is in
       (omega (arith, a.0, b.0), omega (arith, a.1, b.1));
+  work = right_joined j.work pass.work other.work pass.seen other.seen j.state.records of.work one.work;
 }
   where
     all : (o : Option ℕ) → IfSome o (λ x. pass.seen ≡ j.state.records)
@@ -249,11 +301,12 @@ of_joined j pins homes pass other one of = record {
     all None a = tt
     all (Some x) a = omega (arith, a, one.seen)
 
--- a pass without an xid is one still when others have logged, held or flushed
+-- a pass without an xid is one still when others have logged, held or flushed, and none of them has
+-- done maintenance since the pass got the right of it, if it has
 pub of_other : {D : Type 0} (f f' : FramesValue D) (pass : Pass) → pass.xid ≡ None → f'.pins ≡ f.pins
     → f.journal.flushed ≤ f'.journal.flushed → f.journal.state.records ≤ f'.journal.state.records
-    → IsPassOf f pass → IsPassOf f' pass
-of_other {D} f f' pass idle pins more longer of = record {
+    → f'.journal.work ≡ f.journal.work → IsPassOf f pass → IsPassOf f' pass
+of_other {D} f f' pass idle pins more longer right of = record {
   some = of.some;
   seen = omega (arith, of.seen, longer);
   all = subst (λ (o : Option ℕ). IfSome o (λ x. pass.seen ≡ f'.journal.state.records)) (sym idle) tt;
@@ -265,4 +318,8 @@ of_other {D} f f' pass idle pins more longer of = record {
   few = of.few;
   now = (omega (arith, of.now.0, more), omega (arith, of.now.1, longer));
   below = λ place p is. of.below place p (subst (λ (ps : List (Option PinInUse)). IsPinned ps place p) pins is);
+  work = subst
+      (λ (w : Option ℕ). IfSome pass.work (λ at. (at ≤ f'.journal.state.records) × IsRightOf w (max at pass.seen)))
+      (sym right) (right_longer f.journal.work pass.work pass.seen f.journal.state.records pass.seen
+      f'.journal.state.records (omega arith) longer of.work);
 }

@@ -81,7 +81,7 @@ module _ {D : Type 0} (device : Disk D) where
 
   -- the same frames over a journal of other records that count
   pub flushed_stands : (j j' : JournalValue D) (pins : List (Option PinInUse)) (homes : List Home)
-      → ((R : Log) → journals.Stands device j R → journals.Stands device j' R)
+      → ((R : Log) → journals.IsJournalOf device j R → journals.IsJournalOf device j' R)
       → (down_of j'.wal ≡ None → down_of j.wal ≡ None)
       → (j'.flushed ≡ j.flushed) ⊎ (j'.flushed ≡ length j.state.deleted)
       → (R : Log) → Stands device (framed j pins homes) R → Stands device (framed j' pins homes) R

@@ -28,7 +28,7 @@ module _ {D : Type 0} (device : Disk D) (one : CountedAreOne)
     (law : device.tells → (d : D) → images_now device d (device.seen d)) where
   -- what was held lies there again, over a journal that stands for the same log
   pub put_stands : (j j' : JournalValue D) (pins : List (Option PinInUse)) (homes homes' : List Home)
-      (xs : List Sheet) → ((R : Log) → journals.Stands device j R → journals.Stands device j' R)
+      (xs : List Sheet) → ((R : Log) → journals.IsJournalOf device j R → journals.IsJournalOf device j' R)
       → (down_of j'.wal ≡ None → down_of j.wal ≡ None)
       → ((R : Log) → device.tells → down_of j'.wal ≡ None → Stands device (framed j pins homes) R → IsLegal R
       → KeepsPins R pins j'.flushed)

@@ -1,7 +1,7 @@
 -- What a journal stands for after a flush.
 use Rattle.std.proofs.Common.{◌≡◌, ◌⊎◌, inl, inr, ⊎_elim, ℕ, ◌<◌, List, [], ◌∷◌, ◌++◌, length, refl, sym, ◌∙◌, ap}
 use Rattle.std.proofs.Common.{subst}
-use Rattle.std.specs.Prelude.{Option, Some, None}
+use Rattle.std.specs.Prelude.{Option, Some, None, IfSome}
 use Rattle.disk_trait.specs.Files.{Files}
 use Rattle.disk_trait.specs.Runs.{images_now, LeavesOnly}
 use Rattle.disk_trait.specs.declared.device.Disk.{Ghosts as Disk}
@@ -15,7 +15,7 @@ use Rattle.core_state.specs.Log.{Log}
 use Rattle.core_state.specs.States.{StateValue, state_of}
 use Rattle.core_state.specs.Stores.{AreRecordsOf}
 use Rattle.buffer_frames.specs.Counted.{AreNumbered, AreRecords}
-use Rattle.buffer_frames.specs.Journals.{JournalValue, lasting, Stands, commits_in, CountsEither}
+use Rattle.buffer_frames.specs.Journals.{JournalValue, lasting, IsJournalOf, commits_in, CountsEither, RestsFrom}
 use Rattle.buffer_frames.proofs.Batching.{records_more, records_with}
 
 -- nothing is both up and down
@@ -27,11 +27,14 @@ state_same : (v v' : StateValue) (R : Log) → v' ≡ v → lasting v ≡ lastin
 state_same v v' R same is =
     subst (λ (x : StateValue). lasting x ≡ lasting (state_of x.pages x.xid_limit R)) (sym same) is
 
+work_same : (w w' : Option ℕ) (R : Log) → w' ≡ w → IfSome w (λ n. RestsFrom n R) → IfSome w' (λ n. RestsFrom n R)
+work_same w w' R same rests = subst (λ (o : Option ℕ). IfSome o (λ n. RestsFrom n R)) (sym same) rests
+
 module _ {D : Type 0} (device : Disk D) where
   -- once the log is down, the state alone counts
-  pub down_stands : (j j' : JournalValue D) (R : Log) (f : ℕ) → Stands device j R → j'.state ≡ j.state
-      → down_of j'.wal ≡ Some f → Stands device j' R
-  down_stands j j' R f s same down = record {
+  pub down_stands : (j j' : JournalValue D) (R : Log) (f : ℕ) → IsJournalOf device j R → j'.state ≡ j.state
+      → j'.work ≡ j.work → down_of j'.wal ≡ Some f → IsJournalOf device j' R
+  down_stands j j' R f s same work down = record {
     counted = s.counted;
     waits = s.waits;
     all = s.all;
@@ -40,15 +43,16 @@ module _ {D : Type 0} (device : Disk D) where
     flushed = λ up. absurd (not_both (down_of j'.wal) f up down);
     waiting_is = λ up. absurd (not_both (down_of j'.wal) f up down);
     settled = λ t up. absurd (not_both (down_of j'.wal) f up down);
+    work = work_same j.work j'.work R work s.work;
   }
 
   -- what waited counts
-  pub flushed_stands : (j j' : JournalValue D) (R : Log) → Stands device j R → j'.state ≡ j.state
-      → j'.flushed ≡ length j.state.deleted → down_of j.wal ≡ None → waiting j'.wal ≡ []
+  pub flushed_stands : (j j' : JournalValue D) (R : Log) → IsJournalOf device j R → j'.state ≡ j.state
+      → j'.work ≡ j.work → j'.flushed ≡ length j.state.deleted → down_of j.wal ≡ None → waiting j'.wal ≡ []
       → (device.tells → (batches : List (List ℕ)) → Settled device batches (end_of j.wal) j.disk
       → StandsNow device (with_waiting batches (waiting j.wal)) (end_of j'.wal) j.disk j'.disk)
-      → Stands device j' R
-  flushed_stands j j' R s same count up none stands = record {
+      → IsJournalOf device j' R
+  flushed_stands j j' R s same work count up none stands = record {
     counted = R;
     waits = [];
     all = refl;
@@ -66,10 +70,11 @@ module _ {D : Type 0} (device : Disk D) where
               (records_with was.0 s.counted s.waits (waiting j.wal) was.2 (s.waiting_is up)
               (subst AreNumbered s.all s.numbered)),
         );
+    work = work_same j.work j'.work R work s.work;
   }
 
   -- an image of a flush has the records that counted, or those that waited too
-  counts_either : (j : JournalValue D) (R : Log) (s : Stands device j R) (batches : List (List ℕ))
+  counts_either : (j : JournalValue D) (R : Log) (s : IsJournalOf device j R) (batches : List (List ℕ))
       → AreRecords batches s.counted → down_of j.wal ≡ None → (c : Files)
       → BeforeOrAfter batches (waiting j.wal) (images_now device j.disk) c → CountsEither device j.disk s.counted R c
   counts_either j R s batches records up c left = record {
@@ -86,7 +91,7 @@ module _ {D : Type 0} (device : Disk D) where
         })) left.log;
   }
 
-  pub flush_moments : (o : Option ℕ) (j : JournalValue D) (R : Log) (s : Stands device j R) (disk' : D)
+  pub flush_moments : (o : Option ℕ) (j : JournalValue D) (R : Log) (s : IsJournalOf device j R) (disk' : D)
       → down_of j.wal ≡ o → device.tells → ((f : ℕ) → down_of j.wal ≡ Some f → disk' ≡ j.disk)
       → ((batches : List (List ℕ)) → Settled device batches (end_of j.wal) j.disk
       → (disk' ≡ j.disk) ⊎ ((0 < length (waiting j.wal)) × FlushLeaves device batches (waiting j.wal) j.disk disk'))
@@ -102,9 +107,10 @@ module _ {D : Type 0} (device : Disk D) where
   flush_moments (Some f) j R s disk' is t down moments = inl (down f is)
 
   -- a flush was refused
-  pub refused_stands : (j j' : JournalValue D) (R : Log) (e : FlushError) (n : ℕ) → Stands device j R
-      → j'.state ≡ j.state → (e ≡ DiskFault) ⊎ ((f : ℕ) × (e ≡ Down f)) → (e ≡ DiskFault → down_of j'.wal ≡ Some n)
-      → ((f : ℕ) → e ≡ Down f → j' ≡ j) → Stands device j' R
-  refused_stands j j' R e n s same (inl fault) down rests = down_stands j j' R n s same (down fault)
-  refused_stands j j' R e n s same (inr (f, is)) down rests =
-      subst (λ (x : JournalValue D). Stands device x R) (sym (rests f is)) s
+  pub refused_stands : (j j' : JournalValue D) (R : Log) (e : FlushError) (n : ℕ) → IsJournalOf device j R
+      → j'.state ≡ j.state → j'.work ≡ j.work → (e ≡ DiskFault) ⊎ ((f : ℕ) × (e ≡ Down f))
+      → (e ≡ DiskFault → down_of j'.wal ≡ Some n)
+      → ((f : ℕ) → e ≡ Down f → j' ≡ j) → IsJournalOf device j' R
+  refused_stands j j' R e n s same work (inl fault) down rests = down_stands j j' R n s same work (down fault)
+  refused_stands j j' R e n s same work (inr (f, is)) down rests =
+      subst (λ (x : JournalValue D). IsJournalOf device x R) (sym (rests f is)) s

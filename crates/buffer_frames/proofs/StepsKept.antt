@@ -22,9 +22,9 @@ use Rattle.core_state.proofs.Showing.{replay_kept, shown_one}
 use Rattle.snap_pins.specs.declared.Pin.{Pin as PinInUse}
 use Rattle.buffer_frames.specs.NoStore.{CountedAreOne}
 use Rattle.buffer_frames.specs.Drawing.{HasEncoding, kind_by, value_by, front_of, made_sheets}
-use Rattle.buffer_frames.specs.Opens.{IsEarlyKind}
+use Rattle.buffer_frames.specs.Opens.{IsLoggedKind}
 use Rattle.buffer_frames.specs.Journals.{JournalValue, lasting, owed_abort, with_owed, after_owed, logged, next_record}
-use Rattle.buffer_frames.specs.Journals.{CanDraw, MayFollow}
+use Rattle.buffer_frames.specs.Journals.{CanDraw, MayFollow, next_number, is_work, work_after}
 use Rattle.buffer_frames.specs.Journals as journals
 use Rattle.buffer_frames.specs.Homes.{home_at, ShowsBytes, HavePages, HasPut}
 use Rattle.buffer_frames.specs.Frames.{FramesValue, HomesShow, Stands, Behind, AreFrames, pin_of}
@@ -86,7 +86,7 @@ pub record IsAsked {D : Type 0} (device : Disk D) (f : FramesValue D) (pass : Pa
   pub of : IsPassOf f pass
   pub holding : IsHolding device f pass held
   pub encoded : HasEncoding step
-  pub early : IsEarlyKind step.kind
+  pub kind : IsLoggedKind step.kind
   pub may : Behind device f (λ R. MayLog (view_of f pass R held) step)
   pub owes : (R : Log) → Stands device f R → Owes (view_of f pass R held) step
 
@@ -94,17 +94,17 @@ module _ {D : Type 0} (device : Disk D) where
   -- so it is inside the frames
   pub asked_of : (k f : FramesValue D) (pass : Pass) (held : List Sheet) (step : Step) → k ≡ f
       → AreFrames device k → IsPassOf f pass → IsHolding device f pass held → HasEncoding step
-      → IsEarlyKind step.kind → Behind device f (λ R. MayLog (view_of f pass R held) step)
+      → IsLoggedKind step.kind → Behind device f (λ R. MayLog (view_of f pass R held) step)
       → ((R : Log) → Stands device f R → Owes (view_of f pass R held) step)
       → IsAsked device k pass held step
-  asked_of k f pass held step is are of holding encoded early may owes =
+  asked_of k f pass held step is are of holding encoded kind may owes =
       let back : f ≡ k = sym is in
       record {
         are = are;
         of = subst (λ (x : FramesValue D). IsPassOf x pass) back of;
         holding = subst (λ (x : FramesValue D). IsHolding device x pass held) back holding;
         encoded = encoded;
-        early = early;
+        kind = kind;
         may = subst (λ (x : FramesValue D). Behind device x (λ R. MayLog (view_of x pass R held) step)) back
             may;
         owes = subst (λ (x : FramesValue D). (R : Log) → Stands device x R → Owes (view_of x pass R held) step)
@@ -116,11 +116,12 @@ pub record HasStepped {D : Type 0} (device : Disk D) (j j' : JournalValue D) (st
     : Type 0 where
   pub up : down_of j.wal ≡ None
   pub can : CanDraw j step
-  pub stands : (R : Log) → journals.Stands device j R
-      → journals.Stands device j' (logged j.owes (next_record j step) R)
+  pub stands : (R : Log) → journals.IsJournalOf device j R
+      → journals.IsJournalOf device j' (logged j.owes (next_record j step) R)
   pub flushed : (j'.flushed ≡ j.flushed) ⊎ (j'.flushed ≡ length j.state.deleted)
   pub state : j'.state ≡ step_of (next_record j step) (after_owed j.owes j.state)
   pub none_owed : j'.owes ≡ false
+  pub work : j'.work ≡ work_after step.kind (next_number j) j.work
 
 -- the record is one more
 pub records_more : {D : Type 0} (j j' : JournalValue D) (step : Step)
@@ -136,6 +137,23 @@ records_more j j' step is =
         → j.state.records ≤ j'.state.records
     go true e = omega (arith, e)
     go false e = omega (arith, e)
+
+-- a record that is no maintenance leaves what is noted of it
+pub work_rests : (k : Kind) (n : ℕ) (o : Option ℕ) → is_work k ≡ false → work_after k n o ≡ o
+work_rests k n None rests = refl
+work_rests k n (Some m) rests = ap (λ (b : Bool). Some (cond b n m)) rests
+
+-- so a pass that has seen all has seen its number
+number_seen : {D : Type 0} (j j' : JournalValue D) (step : Step) (n : ℕ) → n ≡ j'.state.records
+    → j'.state ≡ step_of (next_record j step) (after_owed j.owes j.state) → next_number j ≤ n
+number_seen j j' step n all is =
+    omega (
+      arith,
+      all,
+      ap (λ (v : StateValue). v.records) is
+          ∙ ap (λ (t : ℕ × ℕ × ℕ). t.2) (step_marks (next_record j step) (after_owed j.owes j.state))
+          ∙ owed_number j.owes j.state,
+    )
 
 module _ {D : Type 0} (device : Disk D) (one : CountedAreOne)
     (law : device.tells → (d : D) → images_now device d (device.seen d)) (j : JournalValue D)
@@ -158,7 +176,7 @@ module _ {D : Type 0} (device : Disk D) (one : CountedAreOne)
   stays_at t up can R s legal flushed more now =
       step_stays device old pass held step R flushed s legal asked.of (asked.are).some more now
       ((asked.holding).allowed t up R s legal) (asked.may t up R s legal) (asked.owes R s) asked.encoded
-      asked.early can
+      asked.kind can
 
   -- so it may follow the journal
   pub may_follow : MayFollow device j step
@@ -312,6 +330,6 @@ module _ {D : Type 0} (device : Disk D) (one : CountedAreOne)
     pub stepped_pass : (n : ℕ) (xid : Option ℕ) → n ≡ j'.state.records
         → IsPassOf new (record pass { held = 0; seen = n; xid = xid })
     stepped_pass n xid all =
-        of_logged j j' pins homes homes' pass n xid all stepped.none_owed
+        of_logged j j' pins homes homes' pass n step.kind (next_number j) xid all stepped.none_owed
         (flushed_more device (asked.are).log j j' ((asked.are).stands).journal stepped.up stepped.flushed)
-        (records_more j j' step stepped.state) asked.of
+        (records_more j j' step stepped.state) stepped.work (number_seen j j' step n all stepped.state) asked.of

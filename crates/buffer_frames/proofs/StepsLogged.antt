@@ -12,7 +12,7 @@ use Rattle.core_state.proofs.Steps.Logged.{logged_steps, abort_of_all}
 use Rattle.buffer_frames.specs.Drawing.{HasEncoding}
 use Rattle.buffer_frames.specs.Journals.{JournalValue, lasting, owed_abort, with_owed, after_owed, next_record, CanDraw}
 use Rattle.buffer_frames.specs.Journals as journals
-use Rattle.buffer_frames.specs.Opens.{IsEarlyKind}
+use Rattle.buffer_frames.specs.Opens.{IsLoggedKind}
 use Rattle.buffer_frames.specs.Frames.{FramesValue, Stands}
 use Rattle.buffer_frames.specs.Passes.{xids_of, IsPassOf, view_of}
 use Rattle.buffer_frames.specs.declared.pass.Pass.{Pass}
@@ -46,7 +46,7 @@ owed_stays v true R flushed some legal small now a none begun =
     }
 
 -- the state after it
-pub state_owed : {D : Type 0} (device : Disk D) (j : JournalValue D) (R : Log) → journals.Stands device j R
+pub state_owed : {D : Type 0} (device : Disk D) (j : JournalValue D) (R : Log) → journals.IsJournalOf device j R
     → lasting (after_owed j.owes j.state) ≡ lasting (state_of j.state.pages j.state.xid_limit (with_owed j.owes R))
 state_owed device j R s = go j.owes
   where
@@ -73,9 +73,9 @@ pub step_stays : {D : Type 0} (device : Disk D) (f : FramesValue D) (pass : Pass
     (R : Log) (flushed : ℕ) → Stands device f R → IsLegal R → IsPassOf f pass → 0 < f.journal.state.records
     → f.journal.flushed ≤ flushed → Keeps R (pin_now flushed R) → IsAllowed (view_of f pass R held) R
     → MayLog (view_of f pass R held) step → Owes (view_of f pass R held) step → HasEncoding step
-    → IsEarlyKind step.kind
+    → IsLoggedKind step.kind
     → CanDraw f.journal step → StepStays f pass held step R flushed
-step_stays device f pass held step R flushed s legal of some more now a may owes encoded early can =
+step_stays device f pass held step R flushed s legal of some more now a may owes encoded kind can =
     let v : View = view_of f pass R held in
     let long : f.journal.state.records ≡ length R = log_length device f.journal R s.journal in
     let owed : OwedStays v f.journal.owes R flushed =
@@ -86,7 +86,7 @@ step_stays device f pass held step R flushed s legal of some more now a may owes
     f.journal.state.xid_limit (with_owed f.journal.owes R)) (state_owed device f.journal R s.journal)
     (state_told f.journal.state.pages f.journal.state.xid_limit (with_owed f.journal.owes R) owed.legal) in
     let made = drawn_is_made (with_owed f.journal.owes R)
-    (after_owed f.journal.owes f.journal.state) step owed.legal told encoded can.encoded can.below early in
+    (after_owed f.journal.owes f.journal.state) step owed.legal told encoded can.encoded can.below kind in
     record {
       owed = owed;
       made = made;

@@ -25,12 +25,13 @@ use Rattle.buffer_frames.proofs.Released.{put_stands}
 
 -- what such a call says of the journal
 pub record IsUnlogged {D : Type 0} (device : Disk D) (j j' : JournalValue D) : Type 0 where
-  pub stands : (R : Log) → journals.Stands device j R → journals.Stands device j' R
+  pub stands : (R : Log) → journals.IsJournalOf device j R → journals.IsJournalOf device j' R
   pub was_up : down_of j'.wal ≡ None → down_of j.wal ≡ None
   pub flushed : (j'.flushed ≡ j.flushed) ⊎ (j'.flushed ≡ length j.state.deleted)
   pub more : j.flushed ≤ j'.flushed
   pub state : j'.state ≡ j.state
   pub owes : j'.owes ≡ j.owes
+  pub work : j'.work ≡ j.work
 
 module _ {D : Type 0} (device : Disk D) (one : CountedAreOne)
     (law : device.tells → (d : D) → images_now device d (device.seen d)) (j j' : JournalValue D)
@@ -56,13 +57,13 @@ module _ {D : Type 0} (device : Disk D) (one : CountedAreOne)
       none_added device one law (framed j pins homes) new are stands un.was_up un.owes same_length
 
   pub same_state : KeepsState (framed j pins homes) new
-  same_state = record { state = un.state; owes = un.owes }
+  same_state = record { state = un.state; owes = un.owes; work = un.work }
 
   -- a pass that was shown no more commits than are flushed
   pub unlogged_pass : (pass : Pass) (n shown : ℕ) → n < 5 → shown ≤ j'.flushed
       → IsPassOf (framed j pins homes) pass → IsPassOf new (record pass { held = n; shown = shown })
   unlogged_pass pass n shown few le of =
-      of_flushed j j' pins homes homes' pass n shown few un.owes un.more same_length le of
+      of_flushed j j' pins homes homes' pass n shown few un.owes un.more same_length un.work le of
 
   pub unlogged_sees : (pass : Pass) (n shown : ℕ) → IsPassOf (framed j pins homes) pass
       → SeesOn device new pass (record pass { held = n; shown = shown })

@@ -8,7 +8,7 @@ use Rattle.page_types.specs.declared.record.Record.{Record}
 use Rattle.core_state.specs.Log.{Log}
 use Rattle.core_state.specs.History.{History, Begins}
 use Rattle.buffer_frames.specs.Opens.{IsLogOf, OpensTo}
-use Rattle.buffer_frames.specs.Journals.{JournalValue, Stands, CountsEither, logged}
+use Rattle.buffer_frames.specs.Journals.{JournalValue, IsJournalOf, CountsEither, logged}
 
 -- The journal stands for this log of this history, which goes on from the one that was found at its
 -- opening. What a crash at a moment since then leaves opens to a history between these two: one that
@@ -16,7 +16,7 @@ use Rattle.buffer_frames.specs.Journals.{JournalValue, Stands, CountsEither, log
 -- no more than it did at the opening.
 pub record BeginsBy {D : Type 0} (device : Disk D) (j : JournalValue D) (found : History) (R : Log)
     (H : History) : Type 0 where
-  pub stands : Stands device j R
+  pub stands : IsJournalOf device j R
   pub log_of : IsLogOf R H
   pub goes_on : Begins found H
   pub later : device.clock j.opened ≤ device.clock j.disk
@@ -25,18 +25,10 @@ pub record BeginsBy {D : Type 0} (device : Disk D) (j : JournalValue D) (found :
   pub before : (m : ℕ) (c : Files) → m ≤ device.clock j.opened → device.image j.disk m c
       → device.image j.opened m c
 
--- so it is of some log and its history
-pub record KeepsBeginnings {D : Type 0} (device : Disk D) (j : JournalValue D) (found : History)
-    : Type 0 where
-  pub log : Log
-  pub history : History
-  pub begins : BeginsBy device j found log history
-
--- so it is where the device says what it holds, and the files that were opened open to a history
-abbrev pub KeepsHistory : {D : Type 0} → Disk D → JournalValue D → Type 0
-KeepsHistory device j =
-    device.tells → (found : History) → OpensTo (device.seen j.opened) found
-    → KeepsBeginnings device j found
+-- just after an opening it is so of the history that the files open to
+abbrev pub BeginsOpened : {D : Type 0} → Disk D → JournalValue D → Type 0
+BeginsOpened device j =
+    (found : History) → OpensTo (device.seen j.opened) found → (R : Log) × BeginsBy device j found R found
 
 -- whatever a crash leaves from the clock value c on opens to a history of at least so many commits
 abbrev pub HasSince : {D : Type 0} → Disk D → ℕ → ℕ → D → Type 0
@@ -44,20 +36,20 @@ HasSince device c commits d =
     (m : ℕ) (f : Files) → c ≤ m → m ≤ device.clock d → device.image d m f
     → (kept : History) × OpensTo f kept × (commits ≤ length kept)
 
--- where the device says what it holds, and the files that were opened open to a history, what a crash
--- leaves from a clock value on goes on to have the commits that it had
+-- where the device says what it holds, and the journal stands for a log and its history as above, what
+-- a crash leaves from a clock value on goes on to have the commits that it had
 abbrev pub KeepsSince : {D : Type 0} → Disk D → JournalValue D → JournalValue D → Type 0
 KeepsSince device old new =
-    device.tells → (found : History) → OpensTo (device.seen old.opened) found
+    device.tells → (found : History) (R : Log) (H : History) → BeginsBy device old found R H
     → (c commits : ℕ) → c ≤ device.clock old.disk → HasSince device c commits old.disk
     → HasSince device c commits new.disk
 
--- Where the device says what it holds, nothing has failed, and the files that were opened open to a
--- history, a crash now leaves what has all commits that are flushed.
+-- Where the device says what it holds, nothing has failed, and the journal stands for a log and its
+-- history as above, a crash now leaves what has all commits that are flushed.
 abbrev pub HasFlushed : {D : Type 0} → Disk D → JournalValue D → Type 0
 HasFlushed device j =
-    device.tells → down_of j.wal ≡ None → (found : History) → OpensTo (device.seen j.opened) found
-    → HasSince device (device.clock j.disk) j.flushed j.disk
+    device.tells → down_of j.wal ≡ None → (found : History) (R : Log) (H : History)
+    → BeginsBy device j found R H → HasSince device (device.clock j.disk) j.flushed j.disk
 
 -- Of a call that logs nothing: what was so of a log and its history goes on to be so of them.
 abbrev pub BeginsOn : {D : Type 0} → Disk D → JournalValue D → JournalValue D → Type 0
@@ -76,8 +68,8 @@ BeginsWith device old new r =
 module _ {D : Type 0} (device : Disk D) where
   abbrev pub StaysSince : Type 0
   StaysSince =
-      (j j' : JournalValue D) (found : History) (k : KeepsBeginnings device j found)
+      (j j' : JournalValue D) (found : History) (R : Log) (H : History) (k : BeginsBy device j found R H)
       → device.tells → down_of j.wal ≡ None
-      → LeavesOnly device j.disk j'.disk (CountsEither device j.disk k.begins.stands.counted k.log)
+      → LeavesOnly device j.disk j'.disk (CountsEither device j.disk k.stands.counted R)
       → (c commits : ℕ) → c ≤ device.clock j.disk → HasSince device c commits j.disk
       → HasSince device c commits j'.disk

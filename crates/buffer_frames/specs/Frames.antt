@@ -39,7 +39,7 @@ pub record KeepsPins (R : Log) (pins : List (Option PinInUse)) (flushed : ℕ) :
 -- The journal stands for the log. Where it is a legal one, the device says what it holds, and nothing
 -- has failed, each page that is here is its replay, and it keeps the snapshots in use.
 pub record Stands {D : Type 0} (device : Disk D) (f : FramesValue D) (R : Log) : Type 0 where
-  pub journal : journals.Stands device f.journal R
+  pub journal : journals.IsJournalOf device f.journal R
   pub homes : device.tells → down_of f.journal.wal ≡ None → IsLegal R → HomesShow f.homes R
   pub pins : device.tells → down_of f.journal.wal ≡ None → IsLegal R
       → KeepsPins R f.pins f.journal.flushed
@@ -71,10 +71,11 @@ pub record RunsOn {D : Type 0} (device : Disk D) (old new : FramesValue D) : Typ
   pub pages : device.tells → KeepsPages device old.journal.disk new.journal.disk
   pub up : down_of new.journal.wal ≡ None → down_of old.journal.wal ≡ None
 
--- the state of the records, and whether an Abort is owed, are as they were
+-- the state of the records, whether an Abort is owed, and who has the right of maintenance are as they were
 pub record KeepsState {D : Type 0} (old new : FramesValue D) : Type 0 where
   pub state : new.journal.state ≡ old.journal.state
   pub owes : new.journal.owes ≡ old.journal.owes
+  pub work : new.journal.work ≡ old.journal.work
 
 -- this page lies in memory under this number, and nobody holds it
 abbrev pub Lies : {D : Type 0} → FramesValue D → ℕ → Page → Type 0

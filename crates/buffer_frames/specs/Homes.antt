@@ -91,10 +91,10 @@ abbrev pub HasPutBehind : List Home → List Home → List Sheet → Type 0
 HasPutBehind old new xs = (mid : List Home) × AreAlike old mid × HasPut mid new xs
 
 -- each page lies as the map has it
-abbrev pub AreRead : PageMap → List Home → Type 0
-AreRead map homes = (p : ℕ) → home_at homes p ≡ home_of (lookup map p)
+abbrev pub LieAsMapped : PageMap → List Home → Type 0
+LieAsMapped map homes = (p : ℕ) → home_at homes p ≡ home_of (lookup map p)
 
 -- so they lie just after an opening; where the first record waits, its pages are there
 abbrev pub HaveOpened : PageMap → Bool → List Home → Type 0
-HaveOpened map true homes = AreRead map homes
-HaveOpened map false homes = (mid : List Home) × AreRead map mid × HasPutBehind mid homes first_sheets
+HaveOpened map true homes = LieAsMapped map homes
+HaveOpened map false homes = (mid : List Home) × LieAsMapped map mid × HasPutBehind mid homes first_sheets

@@ -4,5 +4,4 @@ pub mod Reads
 pub mod Known
 pub mod Refusals
 pub mod Making
-pub mod Following
 pub mod LogFiles

@@ -1,5 +1,6 @@
 -- What a journal stands for: its device, its log, its state.
-use Rattle.std.specs.Prelude.{◌≡◌, ◌⊎◌, ℕ, suc, ◌+◌, ◌<◌, ◌≤◌, List, [], ◌∷◌, ◌++◌, length, reverse, Bool, cond, None}
+use Rattle.std.specs.Prelude.{◌≡◌, ◌⊎◌, ℕ, suc, ◌+◌, ◌<◌, ◌≤◌, List, [], ◌∷◌, ◌++◌, length, reverse, Bool, true}
+use Rattle.std.specs.Prelude.{false, cond, Option, Some, None, IfSome}
 use Rattle.disk_trait.specs.Files.{Files}
 use Rattle.disk_trait.specs.Runs.{images_now}
 use Rattle.disk_trait.specs.declared.device.Disk.{Ghosts as Disk}
@@ -10,17 +11,18 @@ use Rattle.page_types.specs.Records.{IsRecord, record_bytes}
 use Rattle.page_types.specs.declared.record.Record.{Record}
 use Rattle.page_types.specs.declared.record.Kind.{Kind}
 use Rattle.page_types.specs.declared.record.Kind.TheVariants as kind
-use Rattle.core_state.specs.Log.{Log, xid_bound}
+use Rattle.core_state.specs.Log.{Log, In, xid_bound}
 use Rattle.core_state.specs.Allowed.{Step}
 use Rattle.core_state.specs.Legal.{IsLegal}
 use Rattle.core_state.specs.States.{StateValue, state_of, step_of}
+use Rattle.core_state.specs.Steady.{IsMaintenance}
 use Rattle.core_state.specs.Stores.{AreRecordsOf}
 use Rattle.buffer_frames.specs.Counted.{AreNumbered, AreRecords, IsCounted}
 use Rattle.buffer_frames.specs.Drawing.{record_of}
 
 -- What contracts see of a journal: the device, the open log, the state of its records, how many
--- commits are flushed, whether the opening's Abort is still owed, and the device just after the
--- opening.
+-- commits are flushed, whether the opening's Abort is still owed, the device just after the opening,
+-- and, where somebody has the right of maintenance, a number above which no record is maintenance.
 pub record JournalValue (D : Type 0) : Type 0 where
   pub disk : D
   pub wal : Wal
@@ -28,6 +30,29 @@ pub record JournalValue (D : Type 0) : Type 0 where
   pub flushed : ℕ
   pub owes : Bool
   pub opened : D
+  pub work : Option ℕ
+
+-- no record of the log with a number above this one is maintenance
+abbrev pub RestsFrom : ℕ → Log → Type 0
+RestsFrom n R = (r : Record) → In r R → n < r.number → IsMaintenance r.kind → ⊥
+
+-- whether a record of this kind is maintenance
+abbrev pub is_work : Kind → Bool
+is_work kind.Begin = false
+is_work (kind.Commit commit) = false
+is_work kind.Abort = false
+is_work (kind.PlaceHead item serial) = false
+is_work (kind.PutOverflow item serial) = false
+is_work (kind.MarkDeleted item serial) = false
+is_work (kind.PutPending item serial) = false
+is_work (kind.AddRow item serial) = false
+is_work (kind.LinkPending item serial) = false
+is_work _ = true
+
+-- the number above which no record is maintenance, after a record of this kind and number
+abbrev pub work_after : Kind → ℕ → Option ℕ → Option ℕ
+work_after k number None = None
+work_after k number (Some n) = Some (cond (is_work k) number n)
 
 -- a state without what belongs to its run alone
 abbrev pub lasting : StateValue → StateValue
@@ -41,7 +66,7 @@ commits_in s R = length (state_of s.pages s.xid_limit R).deleted
 -- The records of R are those that count and those that wait after them. While no write has failed
 -- the log on the device has the counted ones, and the others wait as they are encoded. The state is
 -- that of all, but for what belongs to the run alone.
-pub record Stands {D : Type 0} (device : Disk D) (j : JournalValue D) (R : Log) : Type 0 where
+pub record IsJournalOf {D : Type 0} (device : Disk D) (j : JournalValue D) (R : Log) : Type 0 where
   pub counted : Log
   pub waits : Log
   pub all : R ≡ waits ++ counted
@@ -52,6 +77,7 @@ pub record Stands {D : Type 0} (device : Disk D) (j : JournalValue D) (R : Log) 
   pub settled : device.tells → down_of j.wal ≡ None
       → (batches : List (List ℕ)) × Settled device batches (end_of j.wal) j.disk
       × AreRecords batches counted
+  pub work : IfSome j.work (λ n. RestsFrom n R)
 
 -- the Abort that an opening owes: it ends all that ran
 abbrev pub owed_abort : ℕ → Record
@@ -86,7 +112,7 @@ pub record CanDraw {D : Type 0} (j : JournalValue D) (step : Step) : Type 0 wher
 -- log legal that the journal stands for, if it can be drawn.
 abbrev pub MayFollow : {D : Type 0} → Disk D → JournalValue D → Step → Type 0
 MayFollow device j step =
-    device.tells → down_of j.wal ≡ None → CanDraw j step → (R : Log) → Stands device j R → IsLegal R
+    device.tells → down_of j.wal ≡ None → CanDraw j step → (R : Log) → IsJournalOf device j R → IsLegal R
     → IsLegal (logged j.owes (next_record j step) R)
 
 -- the number that the next record gets

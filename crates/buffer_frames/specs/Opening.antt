@@ -1,21 +1,25 @@
 -- The opening of a journal.
 use Rattle.std.specs.Prelude.{◌≡◌, ℕ, ◌<◌, ◌≤◌, [], ◌∷◌, length, Bool, true, false, None, Result, Ok, Err}
 use Rattle.disk_trait.specs.Files.{Files}
-use Rattle.disk_trait.specs.Device.{last_count}
+use Rattle.disk_trait.specs.Device.{last_count, Rose}
 use Rattle.disk_trait.specs.Runs.{images_now}
 use Rattle.disk_trait.specs.declared.device.Disk.{Ghosts as Disk}
-use Rattle.wal.specs.Batches.{front}
+use Rattle.wal.specs.Batches.{front, IsUnborn}
+use Rattle.wal.specs.Pages.{KeepsPages}
+use Rattle.wal.specs.Reading.{IsOnlyRead}
 use Rattle.wal.specs.Waiting.{end_of, limit_of, down_of}
 use Rattle.core_state.specs.Log.{Log}
 use Rattle.core_state.specs.States.{StateValue}
 use Rattle.core_state.specs.declared.settings.Settings.{Settings}
 use Rattle.buffer_frames.specs.Counted.{IsCounted}
 use Rattle.buffer_frames.specs.First.{first_record}
-use Rattle.buffer_frames.specs.NoStore.{IsStoreOf}
+use Rattle.buffer_frames.specs.NoStore.{IsStoreOf, IsNoStore}
+use Rattle.buffer_frames.specs.Opens.{StartedFrom, OpensAsBefore}
 use Rattle.buffer_frames.specs.Maps.{HasApplied}
-use Rattle.buffer_frames.specs.Journals.{JournalValue, Stands}
+use Rattle.buffer_frames.specs.Journals.{JournalValue, IsJournalOf}
 use Rattle.buffer_frames.specs.declared.page_map.PageMap.{PageMap}
 use Rattle.buffer_frames.specs.declared.error.OpenFault.{OpenFault}
+use Rattle.buffer_frames.specs.declared.error.OpenFault.TheVariants.{NotAStore, DiskFault, OutOfMemory}
 
 -- the log of a journal that was opened where these records count
 abbrev pub opened_log : Log → Log
@@ -44,7 +48,7 @@ pub record IsToldOpened {D : Type 0} (device : Disk D) (first : D) (c0 : ℕ) (d
 pub record IsOpenedAt {D : Type 0} (device : Disk D) (settings : Settings) (first : D) (c0 : ℕ)
     (j : JournalValue D) (map : PageMap) : Type 0 where
   pub counted : Log
-  pub stands : Stands device j (opened_log counted)
+  pub stands : IsJournalOf device j (opened_log counted)
   pub none_lost : stands.counted ≡ counted
   pub owes : j.owes ≡ owes_after counted
   pub up : down_of j.wal ≡ None
@@ -58,6 +62,21 @@ pub record IsOpenedAt {D : Type 0} (device : Disk D) (settings : Settings) (firs
       × (device.write_fault_count j.disk < last_count)
   pub told : device.tells → IsToldOpened device first c0 j.disk (end_of j.wal) counted
   pub applied : device.tells → HasApplied (device.seen first).pages counted map
+
+-- What an opening that is refused leaves of its device, whatever the cause. A crash leaves what opens
+-- to what the files on entry could open to, and the pages are read as before. A log that is born is
+-- only read, and so are files that are no store.
+pub record LeavesRefused {D : Type 0} (device : Disk D) (first : D) (e : D × OpenFault) : Type 0 where
+  pub opens : device.tells → StartedFrom device first → OpensAsBefore device first e.0
+  pub keeps_pages : device.tells → KeepsPages device first e.0
+  pub pages : device.tells → (device.seen e.0).pages ≡ (device.seen first).pages
+  pub born : device.tells → (IsUnborn (device.seen first).log → ⊥) → IsOnlyRead device first e.0
+  pub no_store : device.tells → IsNoStore (device.seen first) → IsOnlyRead device first e.0
+  pub not_a_store : e.1 ≡ NotAStore → IsOnlyRead device first e.0
+  pub fault : e.1 ≡ DiskFault → Rose (device.fault_count first) (device.fault_count e.0)
+  pub memory : e.1 ≡ OutOfMemory → device.write_fault_count e.0 ≡ device.write_fault_count first
+  pub later : device.fault_count first ≤ device.fault_count e.0
+  pub time : device.clock first ≤ device.clock e.0
 
 -- what was answered, without the device
 abbrev pub without_disk : {D T : Type 0} → Result T (D × OpenFault) → Result T OpenFault

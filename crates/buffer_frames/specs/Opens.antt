@@ -25,6 +25,12 @@ IsEarlyKind (kind.AddRow item serial) = ⊤
 IsEarlyKind (kind.LinkPending item serial) = ⊤
 IsEarlyKind _ = ⊥
 
+-- the kinds that a session logs: no checkpoint, and no slot is freed
+abbrev pub IsLoggedKind : Kind → Type 0
+IsLoggedKind (kind.Checkpoint redo) = ⊥
+IsLoggedKind kind.FreeSlots = ⊥
+IsLoggedKind _ = ⊤
+
 -- A legal log with its history. Until cleanup is built it has no record that only a tree or a checkpoint
 -- needs.
 pub record IsLogOf (R : Log) (H : History) : Type 0 where

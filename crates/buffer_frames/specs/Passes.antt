@@ -16,10 +16,10 @@ use Rattle.core_state.specs.Legal.{Pin}
 use Rattle.core_state.specs.Allowed.{Sheet, View, IsAllowed, Step, IsDrawn, Leaves, sheet_pages}
 use Rattle.snap_pins.specs.Taken.{IsPinned, IsFree}
 use Rattle.snap_pins.specs.declared.Pin.{Pin as PinInUse}
-use Rattle.buffer_frames.specs.Beginnings.{BeginsBy}
+use Rattle.buffer_frames.specs.Beginnings.{BeginsBy, BeginsOn}
 use Rattle.buffer_frames.specs.Journals.{JournalValue, with_owed}
 use Rattle.buffer_frames.specs.Homes.{IsAway}
-use Rattle.buffer_frames.specs.Frames.{FramesValue, Stands, Behind}
+use Rattle.buffer_frames.specs.Frames.{FramesValue, Stands, Behind, KeepsOthers}
 use Rattle.buffer_frames.specs.declared.pass.Pass.{Pass}
 use Rattle.buffer_frames.specs.declared.pass.Pinned.{Pinned}
 
@@ -37,10 +37,16 @@ abbrev pub xids_of : Option ℕ → List ℕ
 xids_of None = []
 xids_of (Some x) = x ∷ []
 
+-- somebody has the right, and no record with a number above n is maintenance
+abbrev pub IsRightOf : Option ℕ → ℕ → Type 0
+IsRightOf None n = ⊥
+IsRightOf (Some m) n = m ≤ n
+
 -- The pass has seen some of the log and no more than it, and all of it while it has an xid; it has
 -- none while the Abort of all that ran before is owed; the commits that it was shown are flushed; its
--- snapshot has its place, and else one is free; it holds fewer than five pages; and its floor and
--- since are above no snapshot's numbers, nor those of the log.
+-- snapshot has its place, and else one is free; it holds fewer than five pages; its floor and since
+-- are above no snapshot's numbers, nor those of the log; and if it has the right of maintenance, no
+-- record is maintenance that it has not seen and that came after it got the right.
 pub record IsPassOf {D : Type 0} (f : FramesValue D) (pass : Pass) : Type 0 where
   pub some : 0 < pass.seen
   pub seen : pass.seen ≤ f.journal.state.records
@@ -54,6 +60,8 @@ pub record IsPassOf {D : Type 0} (f : FramesValue D) (pass : Pass) : Type 0 wher
   pub now : (pass.floor ≤ f.journal.flushed) × (pass.since ≤ f.journal.state.records)
   pub below : (place : ℕ) (p : PinInUse) → IsPinned f.pins place p
       → (pass.floor ≤ p.commits) × (pass.since ≤ p.length)
+  pub work : IfSome pass.work
+      (λ at. (at ≤ f.journal.state.records) × IsRightOf f.journal.work (max at pass.seen))
 
 -- what the pass knows, where the frames stand for this log and it holds these pages
 abbrev pub view_of : {D : Type 0} → FramesValue D → Pass → Log → List Sheet → View
@@ -67,7 +75,7 @@ view_of f pass R held = record {
   held = held;
   xids = xids_of pass.xid;
   begun = xids_of pass.xid;
-  work = None;
+  work = pass.work;
 }
 
 -- X holds of the log that the pass has seen and of its pages
@@ -124,11 +132,19 @@ KeepsOn device old new kinds =
     → Stands device old R → (R' : Log) × (H' : History) × GoesOnBy old.journal.owes R R' kinds × Begins H H'
     × Stands device new R' × BeginsBy device new.journal found R' H'
 
--- the pass has the snapshot, as many pages, and the room that it had
+-- the pass has the snapshot, as many pages, the room, the xid and the right that it had, and has held
+-- as many pages
 pub record KeepsPass (old new : Pass) : Type 0 where
   pub pin : new.pin ≡ old.pin
   pub held : new.held ≡ old.held
+  pub holds : new.holds ≡ old.holds
   pub room : new.room ≡ old.room
+  pub xid : new.xid ≡ old.xid
+  pub work : new.work ≡ old.work
+
+-- the right of maintenance is where it was
+abbrev pub KeepsRight : {D : Type 0} → FramesValue D → FramesValue D → Pass → Pass → Type 0
+KeepsRight old new pass pass' = (pass'.work ≡ pass.work) × (new.journal.work ≡ old.journal.work)
 
 -- what it has seen, what it was shown, its floor and its since don't fall
 pub record PassRises (old new : Pass) : Type 0 where
@@ -150,6 +166,34 @@ pub record IsLogged (v : View) (step : Step) (S : Log) (Q : Pages) : Type 0 wher
 -- what the pass had seen has been gone on from by others
 abbrev pub SeesOn : {D : Type 0} → Disk D → FramesValue D → Pass → Pass → Type 0
 SeesOn device f old new = Seen device f new (λ S P. IsAllowed (view_of f old S []) S)
+
+-- Of a call that takes a snapshot into use, or gives it up: journal and pages are as they were, the
+-- pass sees the log go on, and it has the pages, the room, the xid and the right that it had.
+pub record KeepsAllButPin {D : Type 0} (device : Disk D) (old new : FramesValue D) (was now : Pass)
+    : Type 0 where
+  pub sees_on : SeesOn device new was now
+  pub holding : (held : List Sheet) → IsHolding device old was held → IsHolding device new now held
+  pub added : HasAdded device old new []
+  pub same : (now.held ≡ was.held) × (now.room ≡ was.room) × (now.xid ≡ was.xid)
+  pub right : KeepsRight old new was now
+  pub holds : now.holds ≡ was.holds
+  pub rises : PassRises was now
+  pub journal : new.journal ≡ old.journal
+  pub begins : BeginsOn device old.journal new.journal
+  pub others : KeepsOthers old new []
+
+-- nobody has the right of maintenance
+abbrev pub IsRightFree : {D : Type 0} → FramesValue D → Type 0
+IsRightFree f = f.journal.work ≡ None
+
+-- frames of which nothing has changed but who has the right
+abbrev pub with_right : {D : Type 0} → Option ℕ → FramesValue D → FramesValue D
+with_right work f = record f { journal = record f.journal { work = work } }
+
+-- The pass has got the right at the log's length, and nothing else has changed.
+pub record HasClaimed {D : Type 0} (old new : FramesValue D) (was now : Pass) : Type 0 where
+  pub frames : new ≡ with_right (Some old.journal.state.records) old
+  pub pass : now ≡ record was { work = Some old.journal.state.records }
 
 -- how many pages a pass has held, after one more: the count stays at its last number
 abbrev pub holds_after : ℕ → ℕ
@@ -190,11 +234,17 @@ IsWhole j pass = pass ≡ record {
   holds = 0;
   xid = None;
   room = 16;
+  work = None;
 }
 
--- a pass that is made of another, of room 1; it has held no page
+-- a pass that is made of another, of room 1, without the right of maintenance; it has held no page
 abbrev pub split_of : Pass → Pass
-split_of pass = record pass { pin = None; held = 0; holds = 0; xid = None; room = 1 }
+split_of pass = record pass { pin = None; held = 0; holds = 0; xid = None; room = 1; work = None }
+
+-- the right of maintenance of two passes, one of which may have it
+abbrev pub either_right : Option ℕ → Option ℕ → Option ℕ
+either_right None other = other
+either_right (Some at) other = Some at
 
 -- a pass in which another ends; the pages that it has held are its own
 abbrev pub joined_with : Pass → Pass → Pass
@@ -204,4 +254,5 @@ joined_with other pass = record pass {
   floor = max pass.floor other.floor;
   since = max pass.since other.since;
   room = pass.room + other.room;
+  work = either_right pass.work other.work;
 }

@@ -1,20 +1,18 @@
 // The opening of pages in memory.
 ghost use Rattle.std.specs.Prelude.{◌≡◌, ◌≤◌, ℕ, [], replicate, None, OnOk, IfOk, IfErr};
-ghost use Rattle.disk_trait.specs.Device.{Rose};
-ghost use Rattle.wal.specs.Batches.{IsUnborn};
 ghost use Rattle.wal.specs.Pages.{KeepsPages};
-ghost use Rattle.wal.specs.Reading.{IsOnlyRead};
 ghost use Rattle.wal.specs.declared.sizes.TheConstants.{LOG_LIMIT};
 ghost use Rattle.core_state.specs.Log.{xid_bound};
 ghost use Rattle.core_state.specs.History.{History};
 ghost use Rattle.snap_pins.specs.declared.TheConstants.{PLACES};
+ghost use Rattle.buffer_frames.specs.Beginnings.{BeginsOpened};
 ghost use Rattle.buffer_frames.specs.NoStore.{IsNoStore};
-ghost use Rattle.buffer_frames.specs.Opens.{OpensTo, StartedFrom, OpensAsBefore};
-ghost use Rattle.buffer_frames.specs.Opening.{IsOpenedAt, HasStarted};
+ghost use Rattle.buffer_frames.specs.Opens.{OpensTo};
+ghost use Rattle.buffer_frames.specs.Opening.{IsOpenedAt, HasStarted, LeavesRefused};
 ghost use Rattle.buffer_frames.specs.First.{first_sheets};
 ghost use Rattle.buffer_frames.specs.Homes.{HasPutBehind, HaveOpened};
 ghost use Rattle.buffer_frames.specs.Passes.{IsPassOf, IsHolding, IsWhole};
-ghost use Rattle.buffer_frames.specs.declared.error.OpenFault.TheVariants.{NotAStore, DiskFault, OutOfMemory};
+ghost use Rattle.buffer_frames.specs.declared.error.OpenFault.TheVariants.{NotAStore};
 ghost use Rattle.buffer_frames.specs.declared.page_map.PageMap.{PageMap as PageMapValue};
 
 use crate::error::OpenFault;
@@ -71,6 +69,7 @@ fn first_pass<D: Disk>(journal: &Journal<D>) -> Pass
         holds: 0,
         xid: None,
         room: ROOM,
+        work: None,
     }
 }
 
@@ -93,6 +92,7 @@ impl<D: Disk> Frames<D> {
         ensures pins { IfOk result (λ x. (x.0).pins ≡ replicate PLACES None) }
         ensures keeps_pages { D.tells → IfOk result (λ x. KeepsPages D.Disk disk (x.0).journal.disk) }
         ensures since { IfOk result (λ x. (x.0).journal.opened ≡ (x.0).journal.disk) }
+        ensures begins { D.tells → IfOk result (λ x. BeginsOpened D.Disk (x.0).journal) }
         ensures opens_on { D.tells → IfOk result (λ x. (H : History) → OpensTo (D.seen disk) H
             → OpensTo (D.seen (x.0).journal.disk) H) }
 
@@ -100,22 +100,7 @@ impl<D: Disk> Frames<D> {
         ensures no_store { D.tells
             → IfErr result (λ e. e.1 ≡ NotAStore → IsNoStore (D.seen disk)) }
         ensures store { D.tells → IfOk result (λ x. IsNoStore (D.seen disk) → ⊥) }
-        ensures refused { D.tells → StartedFrom D.Disk disk
-            → IfErr result (λ e. OpensAsBefore D.Disk disk e.0) }
-        ensures refused_pages { D.tells → IfErr result (λ e. KeepsPages D.Disk disk e.0) }
-        ensures refused_seen { D.tells
-            → IfErr result (λ e. (D.seen e.0).pages ≡ (D.seen disk).pages) }
-        ensures born_kept { D.tells → (IsUnborn (D.seen disk).log → ⊥)
-            → IfErr result (λ e. IsOnlyRead D.Disk disk e.0) }
-        ensures no_store_kept { D.tells → IsNoStore (D.seen disk)
-            → IfErr result (λ e. IsOnlyRead D.Disk disk e.0) }
-        ensures only_read { IfErr result (λ e. e.1 ≡ NotAStore → IsOnlyRead D.Disk disk e.0) }
-        ensures fault { IfErr result (λ e. e.1 ≡ DiskFault
-            → Rose (D.fault_count disk) (D.fault_count e.0)) }
-        ensures memory { IfErr result (λ e. e.1 ≡ OutOfMemory
-            → D.write_fault_count e.0 ≡ D.write_fault_count disk) }
-        ensures later { IfErr result (λ e. D.fault_count disk ≤ D.fault_count e.0) }
-        ensures time { IfErr result (λ e. D.Disk.clock disk ≤ D.Disk.clock e.0) }
+        ensures refused { IfErr result (LeavesRefused D.Disk disk) }
     {
         counted_are_one();
         let (journal, map) = match open(alloc, disk, settings) {

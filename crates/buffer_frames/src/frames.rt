@@ -1,5 +1,5 @@
 // Pages in memory over the journal of a store.
-ghost use Rattle.std.specs.Prelude.{◌≡◌, ◌≢◌, ◌⊎◌, ◌↔◌, ℕ, ◌<◌, List, [], ◌∷◌, length, Some, None, Err};
+ghost use Rattle.std.specs.Prelude.{◌≡◌, ◌≢◌, ◌⊎◌, ◌↔◌, ℕ, ◌<◌, List, [], ◌∷◌, length, Some, None, Err, false};
 ghost use Rattle.std.specs.Prelude.{OnOk, OnErr, IfOk, IfErr, IsErrOf, IfSome, MatchOption, slice_set};
 ghost use Rattle.wal.specs.Waiting.{waiting, limit_of, down_of, length_with};
 ghost use Rattle.page_types.specs.Records.{kind_number};
@@ -10,15 +10,17 @@ ghost use Rattle.core_state.specs.Legal.{IsLegal};
 ghost use Rattle.core_state.specs.States.{StateTells, step_of};
 ghost use Rattle.snap_pins.specs.Taken.{IsLeast};
 ghost use Rattle.buffer_frames.specs.Drawing.{HasEncoding, drawn_by, made_sheets};
-ghost use Rattle.buffer_frames.specs.Opens.{IsEarlyKind};
-ghost use Rattle.buffer_frames.specs.Journals.{after_owed, logged, logged_bytes, next_record, IsSpent};
+ghost use Rattle.buffer_frames.specs.Opens.{IsEarlyKind, IsLoggedKind};
+ghost use Rattle.buffer_frames.specs.Journals.{after_owed, logged, logged_bytes, next_record, next_number};
+ghost use Rattle.buffer_frames.specs.Journals.{is_work, work_after, IsSpent};
 ghost use Rattle.buffer_frames.specs.LogCauses.{WriteHasCause, GoesDown, LogFullWhere, IsCalm, HoldHasCause};
 ghost use Rattle.buffer_frames.specs.Homes.{IsNoPage, BadPageWhere};
-ghost use Rattle.buffer_frames.specs.Beginnings.{KeepsHistory, HasFlushed, BeginsOn, BeginsWith};
+ghost use Rattle.buffer_frames.specs.Beginnings.{HasFlushed, BeginsOn, BeginsWith};
 ghost use Rattle.buffer_frames.specs.Frames.{Stands, Behind, AreFrames, RunsOn};
 ghost use Rattle.buffer_frames.specs.Frames.{KeepsState, Lies, LieThere, KeepsOthers};
 ghost use Rattle.buffer_frames.specs.Passes.{IsPassOf, IsHolding, HasPinned, view_of, Seen, SeesOn, IsLogged};
-ghost use Rattle.buffer_frames.specs.Passes.{HasAdded, KeepsPass, PassRises, holds_after, xid_after as xid_then};
+ghost use Rattle.buffer_frames.specs.Passes.{HasAdded, KeepsPass, KeepsRight, PassRises, KeepsAllButPin};
+ghost use Rattle.buffer_frames.specs.Passes.{holds_after, xid_after as xid_then};
 ghost use Rattle.buffer_frames.specs.declared.log_error.LogError.TheVariants.{DiskFault, Down, XidsSpent};
 ghost use Rattle.buffer_frames.specs.declared.frame_error.FrameError.TheVariants as frames;
 
@@ -76,6 +78,7 @@ impl<D: Disk> Frames<D> {
         ensures rises { PassRises pass.old pass.new }
         ensures same { (pass.new.pin ≡ pass.old.pin) × (pass.new.room ≡ pass.old.room)
             × (pass.new.xid ≡ pass.old.xid) }
+        ensures right { KeepsRight self.old self.new pass.old pass.new }
         ensures runs_on { RunsOn D.Disk self.old self.new }
         ensures begins { BeginsOn D.Disk self.old.journal self.new.journal }
         ensures state { KeepsState self.old self.new }
@@ -119,6 +122,7 @@ impl<D: Disk> Frames<D> {
         ensures rises { PassRises pass.old pass.new }
         ensures same { (pass.new.pin ≡ pass.old.pin) × (pass.new.room ≡ pass.old.room)
             × (pass.new.xid ≡ pass.old.xid) }
+        ensures right { KeepsRight self.old self.new pass.old pass.new }
         ensures holds { pass.new.holds ≡ pass.old.holds }
         ensures runs_on { RunsOn D.Disk self.old self.new }
         ensures begins { BeginsOn D.Disk self.old.journal self.new.journal }
@@ -153,8 +157,6 @@ impl<D: Disk> Frames<D> {
         ensures added { HasAdded D.Disk self.old self.new [] }
         ensures keeps { KeepsPass pass.old pass.new }
         ensures rises { PassRises pass.old pass.new }
-        ensures xid { pass.new.xid ≡ pass.old.xid }
-        ensures holds { pass.new.holds ≡ pass.old.holds }
         ensures runs_on { RunsOn D.Disk self.old self.new }
         ensures begins { BeginsOn D.Disk self.old.journal self.new.journal }
         ensures state { KeepsState self.old self.new }
@@ -203,17 +205,7 @@ impl<D: Disk> Frames<D> {
         requires none { pass.old.pin ≡ None }
         ensures pass { IsPassOf self.new pass.new }
         ensures pinned { IfOk result (λ n. HasPinned self.old self.new pass.new n) }
-        ensures sees_on { SeesOn D.Disk self.new pass.old pass.new }
-        ensures holding { (held : List SheetValue) → IsHolding D.Disk self.old pass.old held
-            → IsHolding D.Disk self.new pass.new held }
-        ensures added { HasAdded D.Disk self.old self.new [] }
-        ensures same { (pass.new.held ≡ pass.old.held) × (pass.new.room ≡ pass.old.room)
-            × (pass.new.xid ≡ pass.old.xid) }
-        ensures holds { pass.new.holds ≡ pass.old.holds }
-        ensures rises { PassRises pass.old pass.new }
-        ensures journal { self.new.journal ≡ self.old.journal }
-        ensures begins { BeginsOn D.Disk self.old.journal self.new.journal }
-        ensures others { KeepsOthers self.old self.new [] }
+        ensures keeps { KeepsAllButPin D.Disk self.old self.new pass.old pass.new }
 
         // The refusals.
         ensures refused { OnErr result ((self.new ≡ self.old) × (pass.new ≡ pass.old)) }
@@ -245,17 +237,7 @@ impl<D: Disk> Frames<D> {
         ensures none { pass.new.pin ≡ None }
         ensures pins { MatchOption pass.old.pin (self.new.pins ≡ self.old.pins)
             (λ p. self.new.pins ≡ slice_set self.old.pins p.place None) }
-        ensures sees_on { SeesOn D.Disk self.new pass.old pass.new }
-        ensures holding { (held : List SheetValue) → IsHolding D.Disk self.old pass.old held
-            → IsHolding D.Disk self.new pass.new held }
-        ensures added { HasAdded D.Disk self.old self.new [] }
-        ensures same { (pass.new.held ≡ pass.old.held) × (pass.new.room ≡ pass.old.room)
-            × (pass.new.xid ≡ pass.old.xid) }
-        ensures holds { pass.new.holds ≡ pass.old.holds }
-        ensures rises { PassRises pass.old pass.new }
-        ensures journal { self.new.journal ≡ self.old.journal }
-        ensures begins { BeginsOn D.Disk self.old.journal self.new.journal }
-        ensures others { KeepsOthers self.old self.new [] }
+        ensures keeps { KeepsAllButPin D.Disk self.old self.new pass.old pass.new }
     {
         counted_are_one();
         let _ = &self.homes;
@@ -277,7 +259,7 @@ impl<D: Disk> Frames<D> {
         requires pass { IsPassOf self.old pass.old }
         requires holding { IsHolding D.Disk self.old pass.old held.items }
         requires encoded { HasEncoding step }
-        requires early { IsEarlyKind step.kind }
+        requires kind { IsLoggedKind step.kind }
         requires one { step.kind ≡ kinds.Begin → pass.old.xid ≡ None }
         requires may { Behind D.Disk self.old
             (λ R. MayLog (view_of self.old pass.old R held.items) step) }
@@ -296,11 +278,16 @@ impl<D: Disk> Frames<D> {
         ensures none_held { IsHolding D.Disk self.new pass.new [] }
         ensures xid { IfOk result (λ d. pass.new.xid ≡ xid_then step.kind d.value pass.old.xid) }
         ensures same { (pass.new.pin ≡ pass.old.pin) × (pass.new.room ≡ pass.old.room) }
+        ensures work { pass.new.work ≡ pass.old.work }
+        ensures right { OnOk result (self.new.journal.work
+            ≡ work_after step.kind (next_number self.old.journal) self.old.journal.work) }
+        ensures rests { is_work step.kind ≡ false
+            → self.new.journal.work ≡ self.old.journal.work }
         ensures holds { pass.new.holds ≡ pass.old.holds }
         ensures rises { PassRises pass.old pass.new }
         ensures runs_on { RunsOn D.Disk self.old self.new }
-        ensures begins { OnOk result (BeginsWith D.Disk self.old.journal self.new.journal
-            (next_record self.old.journal step)) }
+        ensures begins { OnOk result (IsEarlyKind step.kind → BeginsWith D.Disk self.old.journal
+            self.new.journal (next_record self.old.journal step)) }
         ensures legal { OnOk result (Behind D.Disk self.old (λ R. IsLegal
             (logged self.old.journal.owes (next_record self.old.journal step) R))) }
         ensures state { OnOk result (self.new.journal.state
@@ -320,6 +307,7 @@ impl<D: Disk> Frames<D> {
             (BeginsOn D.Disk self.old.journal self.new.journal) }
         ensures refused_xid { OnErr result (pass.new.xid ≡ pass.old.xid) }
         ensures refused_state { OnErr result (KeepsState self.old self.new) }
+        ensures refused_right { OnErr result (self.new.journal.work ≡ self.old.journal.work) }
         ensures refused_sees_on { OnErr result (SeesOn D.Disk self.new pass.old pass.new) }
         ensures full { LogFullWhere (limit_of self.old.journal.wal)
             (length_with self.old.journal.wal
@@ -334,7 +322,6 @@ impl<D: Disk> Frames<D> {
     {
         counted_are_one();
         pages_are_shown();
-        self.journal.keeps_history();
         let mut step = step;
         let (kind, next) = (step.kind(), self.journal.state().next_xid());
         pass.held = 0;
@@ -362,8 +349,6 @@ impl<D: Disk> Frames<D> {
         ensures sees_on { SeesOn D.Disk self.new pass.old pass.new }
         ensures keeps { KeepsPass pass.old pass.new }
         ensures rises { PassRises pass.old pass.new }
-        ensures xid { pass.new.xid ≡ pass.old.xid }
-        ensures holds { pass.new.holds ≡ pass.old.holds }
         ensures runs_on { RunsOn D.Disk self.old self.new }
         ensures begins { BeginsOn D.Disk self.old.journal self.new.journal }
         ensures state { KeepsState self.old self.new }
@@ -379,17 +364,15 @@ impl<D: Disk> Frames<D> {
         ensures cause { WriteHasCause D.Disk self.old.journal.disk self.new.journal.disk result }
     {
         counted_are_one();
-        self.journal.keeps_history();
         let flushed = self.journal.flush();
         pass.shown = self.journal.flushed();
         flushed
     }
 
-    /// The pages in memory are those of a log. What a crash at a moment since the opening leaves opens
-    /// to a beginning of its history, and what one leaves now has all commits that are flushed.
+    /// The pages in memory are those of a log, and what a crash leaves now has all commits that are
+    /// flushed.
     pub fn keeps_history(&self)
         ensures frames { AreFrames D.Disk self.now }
-        ensures history { KeepsHistory D.Disk self.now.journal }
         ensures flushed { HasFlushed D.Disk self.now.journal }
     {
         self.journal.keeps_history();

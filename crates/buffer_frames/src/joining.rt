@@ -1,14 +1,25 @@
 // Passes that are made of others, and end in them.
 ghost use Rattle.std.specs.Prelude.{◌≡◌, ◌+◌, ◌<◌, ◌≤◌, List, [], max, None};
 ghost use Rattle.core_state.specs.Allowed.{Sheet as SheetValue};
-ghost use Rattle.buffer_frames.specs.Passes.{IsPassOf, IsHolding, split_of, joined_with};
+ghost use Rattle.buffer_frames.specs.Passes.{IsPassOf, IsHolding, split_of, joined_with, either_right as right_of_two};
 
 use crate::frames::Frames;
 use crate::pass::Pass;
 use disk_trait::Disk;
 
+/// The right of maintenance of two passes, one of which may have it.
+fn either_right(work: Option<u64>, other: Option<u64>) -> Option<u64>
+    ensures { result ≡ right_of_two work other }
+{
+    match work {
+        Some(at) => Some(at),
+        None => other,
+    }
+}
+
 impl<D: Disk> Frames<D> {
-    /// A pass for another session, of room 1, which has seen as much and has held no page.
+    /// A pass for another session, of room 1, which has seen as much, has held no page, and has not the
+    /// right of maintenance.
     pub fn split(&self, pass: &mut Pass) -> Pass
         requires pass { IsPassOf self.now pass.old }
         requires room { 1 < pass.old.room }
@@ -33,11 +44,13 @@ impl<D: Disk> Frames<D> {
             holds: 0,
             xid: None,
             room: 1,
+            work: None,
         }
     }
 
-    /// Another pass ends in this one, which has then seen what either has, and has both rooms. The
-    /// pages that the other held are not counted here.
+    /// Another pass ends in this one, which has then seen what either has, and has both rooms, and the
+    /// right of maintenance where one of them had it. The pages that the other held are not counted
+    /// here.
     pub fn join(&self, pass: &mut Pass, other: Pass)
         requires pass { IsPassOf self.now pass.old }
         requires other { IsPassOf self.now other }
@@ -53,5 +66,6 @@ impl<D: Disk> Frames<D> {
         pass.floor = pass.floor.max(other.floor);
         pass.since = pass.since.max(other.since);
         pass.room += other.room;
+        pass.work = either_right(pass.work, other.work);
     }
 }

@@ -11,13 +11,13 @@ ghost use Rattle.page_types.specs.Records.{IsRecord};
 ghost use Rattle.core_state.specs.Log.{Log};
 ghost use Rattle.core_state.specs.States.{step_of};
 ghost use Rattle.buffer_frames.specs.Drawing.{HasEncoding, drawn_by, made_sheets};
-ghost use Rattle.buffer_frames.specs.Opens.{IsEarlyKind};
-ghost use Rattle.buffer_frames.specs.Journals.{Stands, logged, logged_bytes, after_owed, next_number};
-ghost use Rattle.buffer_frames.specs.Journals.{next_record, IsSpent, CanDraw, MayFollow, CountsEither};
-ghost use Rattle.buffer_frames.specs.Beginnings.{KeepsHistory, HasFlushed};
+ghost use Rattle.buffer_frames.specs.Opens.{IsLoggedKind};
+ghost use Rattle.buffer_frames.specs.Journals.{IsJournalOf, logged, logged_bytes, after_owed, next_number};
+ghost use Rattle.buffer_frames.specs.Journals.{next_record, IsSpent, CanDraw, CountsEither, is_work as is_working};
+ghost use Rattle.buffer_frames.specs.Journals.{work_after};
+ghost use Rattle.buffer_frames.specs.Beginnings.{HasFlushed};
 ghost use Rattle.buffer_frames.specs.Logging.{IsSameJournal, HasLogged};
 ghost use Rattle.buffer_frames.specs.LogCauses.{WriteHasCause, GoesDown, LogFullWhere};
-ghost use Rattle.buffer_frames.specs.Inner.Following.{MayGoOn};
 ghost use Rattle.buffer_frames.specs.declared.log_error.LogError.TheVariants.{DiskFault, LogFull, Down};
 ghost use Rattle.buffer_frames.specs.declared.log_error.LogError.TheVariants.{XidsSpent, OutOfMemory};
 
@@ -50,13 +50,14 @@ pub struct Journal<D: Disk> {
     pub(crate) owes: bool,
     // the device just after the opening
     pub(crate) opened: Snapshot<D>,
+    // where somebody has the right of maintenance, no record of it has a number above this one
+    pub(crate) work: Option<u64>,
 }
 
 impl<D: Disk> Model for Journal<D> {
     ghost use Rattle.std.specs.Prelude.{◌+◌, ◌^◌, ◌<◌, ◌≤◌};
     ghost use Rattle.wal.specs.Waiting.{IsReadToEnd};
     ghost use Rattle.buffer_frames.specs.Journals.{JournalValue, HasXidLimit};
-    ghost use Rattle.buffer_frames.specs.Beginnings.{KeepsHistory};
 
     ghost Value = { JournalValue D };
 
@@ -67,18 +68,29 @@ impl<D: Disk> Model for Journal<D> {
       flushed = j.flushed;
       owes = j.owes;
       opened = j.opened.value;
+      work = j.work;
     } };
 
     ghost invariant = { λ j. IsReadToEnd j.wal × (j.state.value.records + 2 ≤ 2 ^ 63)
-        × (0 < j.state.value.records) × HasXidLimit j.state.value
-        × KeepsHistory D.Disk (record {
-          disk = j.disk;
-          wal = j.wal;
-          state = j.state.value;
-          flushed = j.flushed;
-          owes = j.owes;
-          opened = j.opened.value;
-        }) };
+        × (0 < j.state.value.records) × HasXidLimit j.state.value };
+}
+
+/// Whether a record of this kind is maintenance.
+fn is_work(kind: Kind) -> bool
+    ensures { result ≡ is_working kind }
+{
+    match kind {
+        Kind::Begin
+        | Kind::Commit { .. }
+        | Kind::Abort
+        | Kind::PlaceHead { .. }
+        | Kind::PutOverflow { .. }
+        | Kind::MarkDeleted { .. }
+        | Kind::PutPending { .. }
+        | Kind::AddRow { .. }
+        | Kind::LinkPending { .. } => false,
+        _ => true,
+    }
 }
 
 impl<D: Disk> Journal<D> {
@@ -89,10 +101,9 @@ impl<D: Disk> Journal<D> {
     /// The log is full where with them it would pass its limit after a flush.
     pub fn log_step(&mut self, step: &mut Step) -> Result<Drawn, LogError>
         requires encoded { HasEncoding step.old }
-        requires early { IsEarlyKind step.old.kind }
-        requires follow { MayFollow D.Disk self.old step.old }
-        ensures stands { (R : Log) → Stands D.Disk self.old R → OnOk result
-            (Stands D.Disk self.new (logged self.old.owes (next_record self.old step.old) R)) }
+        requires kind { IsLoggedKind step.old.kind }
+        ensures stands { (R : Log) → IsJournalOf D.Disk self.old R → OnOk result
+            (IsJournalOf D.Disk self.new (logged self.old.owes (next_record self.old step.old) R)) }
         ensures drawn { IfOk result
             (λ d. d ≡ drawn_by (after_owed self.old.owes self.old.state) step.old.kind) }
         ensures state { OnOk result (self.new.state
@@ -104,6 +115,8 @@ impl<D: Disk> Journal<D> {
         ensures owes { OnOk result (self.new.owes ≡ false) }
         ensures same { limit_of self.new.wal ≡ limit_of self.old.wal }
         ensures opened { self.new.opened ≡ self.old.opened }
+        ensures work { OnOk result (self.new.work
+            ≡ work_after step.old.kind (next_number self.old) self.old.work) }
 
         // The device: no call of it but for the flush.
         ensures idle { length (waiting self.old.wal) < MOST_WAITING
@@ -112,7 +125,7 @@ impl<D: Disk> Journal<D> {
         ensures now { length (waiting self.old.wal) < MOST_WAITING
             → OnOk result (HasLogged self.old self.new (next_record self.old step.old))
             × OnErr result (IsSameJournal self.old self.new) }
-        ensures any_moment { D.tells → (R : Log) (s : Stands D.Disk self.old R)
+        ensures any_moment { D.tells → (R : Log) (s : IsJournalOf D.Disk self.old R)
             → (self.new.disk ≡ self.old.disk)
             ⊎ LeavesOnly D.Disk self.old.disk self.new.disk
             (CountsEither D.Disk self.old.disk s.counted R) }
@@ -122,10 +135,11 @@ impl<D: Disk> Journal<D> {
             ⊎ (self.new.flushed ≡ length self.old.state.deleted) }
 
         // The refusals: the record isn't there.
-        ensures refused { (R : Log) → Stands D.Disk self.old R
-            → OnErr result (Stands D.Disk self.new R) }
+        ensures refused { (R : Log) → IsJournalOf D.Disk self.old R
+            → OnErr result (IsJournalOf D.Disk self.new R) }
         ensures refused_state { OnErr result ((self.new.state ≡ self.old.state)
             × (self.new.owes ≡ self.old.owes)) }
+        ensures refused_work { OnErr result (self.new.work ≡ self.old.work) }
         ensures full { LogFullWhere (limit_of self.old.wal)
             (length_with self.old.wal (logged_bytes self.old (next_record self.old step.old)))
             result }
@@ -157,7 +171,7 @@ impl<D: Disk> Journal<D> {
     /// Where much waits it counts from now on.
     fn flush_much(&mut self) -> Result<(), LogError>
         requires up { down_of self.old.wal ≡ None }
-        ensures stands { (R : Log) → Stands D.Disk self.old R → Stands D.Disk self.new R }
+        ensures stands { (R : Log) → IsJournalOf D.Disk self.old R → IsJournalOf D.Disk self.new R }
         ensures few { OnOk result (length (waiting self.new.wal) < MOST_WAITING) }
         ensures waits { OnOk result (waiting self.new.wal ≡ waiting_then (waiting self.old.wal)) }
         ensures end { OnOk result
@@ -166,11 +180,12 @@ impl<D: Disk> Journal<D> {
         ensures same { (self.new.state ≡ self.old.state) × (self.new.owes ≡ self.old.owes)
             × (limit_of self.new.wal ≡ limit_of self.old.wal) }
         ensures opened { self.new.opened ≡ self.old.opened }
+        ensures work { self.new.work ≡ self.old.work }
         ensures idle { length (waiting self.old.wal) < MOST_WAITING
             → IsOk result × (self.new ≡ self.old) }
         ensures flushed { (self.new.flushed ≡ self.old.flushed)
             ⊎ (self.new.flushed ≡ length self.old.state.deleted) }
-        ensures any_moment { D.tells → (R : Log) (s : Stands D.Disk self.old R)
+        ensures any_moment { D.tells → (R : Log) (s : IsJournalOf D.Disk self.old R)
             → (self.new.disk ≡ self.old.disk)
             ⊎ LeavesOnly D.Disk self.old.disk self.new.disk
             (CountsEither D.Disk self.old.disk s.counted R) }
@@ -189,12 +204,10 @@ impl<D: Disk> Journal<D> {
     /// The record of the step waits after those that do, of which there are few.
     fn log_now(&mut self, step: &mut Step) -> Result<Drawn, LogError>
         requires encoded { HasEncoding step.old }
-        requires early { IsEarlyKind step.old.kind }
+        requires kind { IsLoggedKind step.old.kind }
         requires few { length (waiting self.old.wal) < MOST_WAITING }
         requires up { down_of self.old.wal ≡ None }
         requires xids { IsSpent self.old.state step.old.kind → ⊥ }
-        requires follow { CanDraw self.old step.old
-            → MayGoOn D.Disk self.old (next_record self.old step.old) }
         ensures ok { OnOk result (HasLogged self.old self.new (next_record self.old step.old)) }
         ensures can_draw { OnOk result (CanDraw self.old step.old) }
         ensures drawn { IfOk result
@@ -223,12 +236,11 @@ impl<D: Disk> Journal<D> {
     fn put(&mut self, rec: &Record) -> Result<(), LogError>
         requires encoded { IsRecord rec.now }
         requires next { rec.now.number ≡ next_number self.old }
-        requires early { IsEarlyKind rec.now.kind }
+        requires kind { IsLoggedKind rec.now.kind }
         requires short { length (logged_bytes self.old rec.now) ≤ MOST_WAITING }
         requires most { self.old.state.records + 1 ≤ MOST_RECORDS }
         requires few { length (waiting self.old.wal) < MOST_WAITING }
         requires up { down_of self.old.wal ≡ None }
-        requires follow { MayGoOn D.Disk self.old rec.now }
         ensures ok { OnOk result (HasLogged self.old self.new rec.now) }
         ensures refused { OnErr result (IsSameJournal self.old self.new) }
         ensures opened { self.new.opened ≡ self.old.opened }
@@ -247,7 +259,19 @@ impl<D: Disk> Journal<D> {
         step_owed(&mut self.state, self.owes, &owed, rec);
         self.owes = false;
         self.state.step_reserved(rec);
+        self.note_work(rec);
         Ok(())
+    }
+
+    /// Where somebody has the right of maintenance, the record is noted if it is maintenance.
+    fn note_work(&mut self, rec: &Record)
+        ensures noted { self.new ≡ record self.old {
+          work = work_after rec.now.kind rec.now.number self.old.work;
+        } }
+    {
+        if is_work(rec.kind) {
+            self.work = self.work.map(|_| rec.number);
+        }
     }
 
     /// What a step draws.
@@ -289,18 +313,19 @@ impl<D: Disk> Journal<D> {
 
     /// What waits counts from now on. It takes no memory.
     pub fn flush(&mut self) -> Result<(), LogError>
-        ensures stands { (R : Log) → Stands D.Disk self.old R → Stands D.Disk self.new R }
+        ensures stands { (R : Log) → IsJournalOf D.Disk self.old R → IsJournalOf D.Disk self.new R }
         ensures done { OnOk result ((waiting self.new.wal ≡ [])
             × (end_of self.new.wal ≡ end_with (end_of self.old.wal) (waiting self.old.wal))
             × (self.new.flushed ≡ length self.old.state.deleted)) }
         ensures same { (self.new.state ≡ self.old.state) × (self.new.owes ≡ self.old.owes)
             × (limit_of self.new.wal ≡ limit_of self.old.wal) }
         ensures opened { self.new.opened ≡ self.old.opened }
+        ensures work { self.new.work ≡ self.old.work }
 
         // The device: no call of it where nothing waits.
         ensures idle { waiting self.old.wal ≡ [] → (self.new.disk ≡ self.old.disk)
             × (IsErrOf result DiskFault → ⊥) }
-        ensures any_moment { D.tells → (R : Log) (s : Stands D.Disk self.old R)
+        ensures any_moment { D.tells → (R : Log) (s : IsJournalOf D.Disk self.old R)
             → (self.new.disk ≡ self.old.disk)
             ⊎ LeavesOnly D.Disk self.old.disk self.new.disk
             (CountsEither D.Disk self.old.disk s.counted R) }
@@ -325,10 +350,8 @@ impl<D: Disk> Journal<D> {
         }
     }
 
-    /// What a crash at a moment since the opening leaves opens to a beginning of the history, and
-    /// what one leaves now has all commits that are flushed.
+    /// What a crash leaves now has all commits that are flushed.
     pub fn keeps_history(&self)
-        ensures history { KeepsHistory D.Disk self.now }
         ensures flushed { HasFlushed D.Disk self.now }
     {
         counted_are_one();
@@ -340,6 +363,20 @@ impl<D: Disk> Journal<D> {
         ensures { result.now.value ≡ self.now.state }
     {
         &self.state
+    }
+
+    /// Whether somebody has the right of maintenance.
+    pub(crate) fn is_worked(&self) -> bool
+        ensures { result ≡ false ↔ self.now.work ≡ None }
+    {
+        self.work.is_some()
+    }
+
+    /// Somebody has the right of maintenance from now on, or nobody.
+    pub(crate) fn set_work(&mut self, work: Option<u64>)
+        ensures { self.new ≡ record self.old { work = work } }
+    {
+        self.work = work;
     }
 
     /// How many commits are flushed.

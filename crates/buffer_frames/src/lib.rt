@@ -21,6 +21,7 @@ mod page_map;
 mod pass;
 mod records;
 mod step;
+mod working;
 
 pub use ask::Ask;
 pub use error::OpenFault;

@@ -15,13 +15,14 @@ ghost use Rattle.core_state.specs.Log.{Log, xid_bound};
 ghost use Rattle.core_state.specs.History.{History};
 ghost use Rattle.core_state.specs.States.{step_of};
 ghost use Rattle.buffer_frames.specs.Causes.{ReadHasCause, NotAStoreWhere};
+ghost use Rattle.buffer_frames.specs.Beginnings.{BeginsOpened};
 ghost use Rattle.buffer_frames.specs.First.{first_record as first};
 ghost use Rattle.buffer_frames.specs.NoStore.{IsNoStore};
-ghost use Rattle.buffer_frames.specs.Opens.{OpensTo, StartedFrom, OpensAsBefore};
-ghost use Rattle.buffer_frames.specs.Opening.{IsOpenedAt, HasStarted, without_disk};
+ghost use Rattle.buffer_frames.specs.Opens.{OpensTo};
+ghost use Rattle.buffer_frames.specs.Opening.{IsOpenedAt, HasStarted, LeavesRefused, without_disk};
 ghost use Rattle.wal.specs.Creating.{IsMade};
 ghost use Rattle.buffer_frames.specs.Inner.Making.{HasRun, RunsFrom, IsReadAs, HasBegun, MakesHasCause, AreBelowLast};
-ghost use Rattle.buffer_frames.specs.declared.error.OpenFault.TheVariants.{NotAStore, DiskFault, OutOfMemory};
+ghost use Rattle.buffer_frames.specs.declared.error.OpenFault.TheVariants.{NotAStore, OutOfMemory};
 
 use crate::error::OpenFault;
 use crate::journal::{Journal, MOST_RECORDS};
@@ -158,6 +159,7 @@ fn open_parts<D: Disk>(alloc: Global, disk: &mut D, settings: &Settings) -> Resu
           flushed = x.flushed;
           owes = x.owes;
           opened = disk.new;
+          work = None;
         }) x.map) }
     ensures started { IfOk result (λ x. HasStarted (x.state).value) }
     ensures ready { IfOk result (λ x. IsReadToEnd x.wal) }
@@ -199,30 +201,15 @@ pub fn open<D: Disk>(
     ensures keeps_pages { D.tells → IfOk result (λ x. KeepsPages D.Disk disk (x.0).disk) }
     ensures since { IfOk result (λ x. (x.0).opened ≡ (x.0).disk) }
     ensures started { IfOk result (λ x. HasStarted (x.0).state) }
+    ensures begins { D.tells → IfOk result (λ x. BeginsOpened D.Disk x.0) }
     ensures opens_on { D.tells → IfOk result (λ x. (H : History) → OpensTo (D.seen disk) H
         → OpensTo (D.seen (x.0).disk) H) }
+    ensures born { D.tells → (IsUnborn (D.seen disk).log → ⊥)
+        → IfOk result (λ x. IsOnlyRead D.Disk disk (x.0).disk) }
 
     // The refusals.
     ensures no_store { D.tells → NotAStoreWhere (IsNoStore (D.seen disk)) (without_disk result) }
-    ensures refused { D.tells → StartedFrom D.Disk disk
-        → IfErr result (λ e. OpensAsBefore D.Disk disk e.0) }
-    ensures refused_pages { D.tells → IfErr result (λ e. KeepsPages D.Disk disk e.0) }
-    ensures refused_seen { D.tells
-        → IfErr result (λ e. (D.seen e.0).pages ≡ (D.seen disk).pages) }
-    // A log that is born is only read, and so are files that are no store, whatever is answered.
-    ensures born { D.tells → (IsUnborn (D.seen disk).log → ⊥)
-        → IfOk result (λ x. IsOnlyRead D.Disk disk (x.0).disk) }
-    ensures born_kept { D.tells → (IsUnborn (D.seen disk).log → ⊥)
-        → IfErr result (λ e. IsOnlyRead D.Disk disk e.0) }
-    ensures no_store_kept { D.tells → IsNoStore (D.seen disk)
-        → IfErr result (λ e. IsOnlyRead D.Disk disk e.0) }
-    ensures only_read { IfErr result (λ e. e.1 ≡ NotAStore → IsOnlyRead D.Disk disk e.0) }
-    ensures fault { IfErr result (λ e. e.1 ≡ DiskFault
-        → Rose (D.fault_count disk) (D.fault_count e.0)) }
-    ensures memory { IfErr result (λ e. e.1 ≡ OutOfMemory
-        → D.write_fault_count e.0 ≡ D.write_fault_count disk) }
-    ensures later { IfErr result (λ e. D.fault_count disk ≤ D.fault_count e.0) }
-    ensures time { IfErr result (λ e. D.Disk.clock disk ≤ D.Disk.clock e.0) }
+    ensures refused { IfErr result (LeavesRefused D.Disk disk) }
 {
     one_list();
     counted_are_one();
@@ -239,6 +226,7 @@ pub fn open<D: Disk>(
                 flushed: parts.flushed,
                 owes: parts.owes,
                 opened,
+                work: None,
             };
             Ok((journal, parts.map))
         }

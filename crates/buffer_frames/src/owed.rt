@@ -5,7 +5,7 @@ ghost use Rattle.page_types.specs.declared.record.Kind.TheVariants as kind;
 ghost use Rattle.core_state.specs.States.{step_of};
 ghost use Rattle.core_state.specs.Rooms.{HasRoom};
 ghost use Rattle.buffer_frames.specs.Journals.{owed_abort as owed_record};
-ghost use Rattle.buffer_frames.specs.Opens.{IsEarlyKind};
+ghost use Rattle.buffer_frames.specs.Opens.{IsLoggedKind};
 
 use core_state::State;
 use page_types::{Changes, Kind, Record};
@@ -48,7 +48,7 @@ pub(crate) fn encoded(
 /// still is.
 pub(crate) fn step_owed(state: &mut State, owes: bool, owed: &Record, rec: &Record)
     requires owed { (owed.now.kind ≡ kind.Abort) × (owed.now.xid ≡ 0) × (owed.now.changes ≡ []) }
-    requires early { IsEarlyKind rec.now.kind }
+    requires kind { IsLoggedKind rec.now.kind }
     requires room { HasRoom state.old rec.now }
     ensures value { state.new.value ≡ cond owes (step_of owed.now state.old.value) state.old.value }
     ensures room { HasRoom state.new rec.now }

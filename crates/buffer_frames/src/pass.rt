@@ -36,6 +36,8 @@ pub struct Pass {
     pub(crate) xid: Option<u32>,
     // how many passes may be made of it
     pub(crate) room: u32,
+    // how many records the log had when it got the right of maintenance, if it has it
+    pub(crate) work: Option<u64>,
 }
 
 impl Pass {
@@ -52,6 +54,13 @@ impl Pass {
         ensures { result ≡ self.now.holds }
     {
         self.holds
+    }
+
+    /// How many records the log had when it got the right of maintenance, if it has it.
+    pub fn work(&self) -> Option<u64>
+        ensures { result ≡ self.now.work }
+    {
+        self.work
     }
 
     /// The transaction that runs, if there is one.

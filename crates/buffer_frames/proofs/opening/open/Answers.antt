@@ -8,8 +8,10 @@ use Rattle.wal.specs.Reading.{IsOnlyRead}
 use Rattle.buffer_frames.specs.NoStore.{IsStoreOf}
 use Rattle.wal.specs.Creating.{IsLogBefore}
 use Rattle.buffer_frames.specs.Inner.Making.{RunsFrom}
-use Rattle.buffer_frames.specs.Beginnings.{KeepsHistory}
-use Rattle.buffer_frames.proofs.Beginning.{keeps_opened, opens_still}
+use Rattle.std.specs.Prelude.{Err, None}
+use Rattle.buffer_frames.specs.Beginnings.{BeginsOpened}
+use Rattle.buffer_frames.specs.Opening.{opened_log}
+use Rattle.buffer_frames.proofs.Beginning.{begins_opened, opens_still}
 use Rattle.buffer_frames.proofs.Flushing.{seen_as}
 use Rattle.buffer_frames.proofs.Opened.{runs_keep, runs_open, runs_seen}
 use Rattle.buffer_frames.proofs.opening.open.Goals as goal
@@ -18,33 +20,26 @@ pub returns-in-Ok-clause-keeps_pages : goal.returns-in-Ok-clause-keeps_pages
 returns-in-Ok-clause-keeps_pages g c t = runs_keep g.D.Disk t
     (λ d. g.met.D.Disk.seen_is_image d t) c.args.disk c.open_parts.new.disk (c.open_parts.ensures.runs t)
 
-pub returns-in-Err-clause-refused : goal.returns-in-Err-clause-refused
-returns-in-Err-clause-refused g c t s = runs_open g.D.Disk t c.one_list.ensures.opens
-    (λ d. g.met.D.Disk.seen_is_image d t) c.args.disk c.open_parts.new.disk (c.open_parts.ensures.runs t) s
-
-pub returns-in-Err-clause-refused_pages : goal.returns-in-Err-clause-refused_pages
-returns-in-Err-clause-refused_pages g c t = runs_keep g.D.Disk t
-    (λ d. g.met.D.Disk.seen_is_image d t) c.args.disk c.open_parts.new.disk (c.open_parts.ensures.runs t)
-
-pub returns-in-Err-clause-refused_seen : goal.returns-in-Err-clause-refused_seen
-returns-in-Err-clause-refused_seen g c t = runs_seen g.D.Disk t
-    (λ d. g.met.D.Disk.seen_is_image d t) c.args.disk c.open_parts.new.disk (c.open_parts.ensures.runs t)
-
 pub invariant_of-journal : goal.invariant_of-journal
 invariant_of-journal g c =
-    let p = c.in-Ok.parts in
-    let at = c.in-Ok.ensures.opened in
-    let disk : g.row.D.Denot = c.open_parts.new.disk in (
+    let at = c.in-Ok.ensures.opened in (
       c.in-Ok.ensures.ready,
       c.in-Ok.ensures.fits,
       c.in-Ok.ensures.some,
       omega (arith, (at.1).xid_limit, c.requires.xids),
-      subst (λ (d : g.row.D.Denot). KeepsHistory g.D.Disk (seen_as disk p.wal p.state.value p.flushed p.owes d))
-          (sym c.of-opened.ensures)
-          (λ t. keeps_opened g.D.Disk c.counted_are_one.ensures
-          (λ d. g.met.D.Disk.seen_is_image d t) t c.args.settings.now c.args.disk at.0
-          (seen_as disk p.wal p.state.value p.flushed p.owes disk) p.map at.1 refl),
     )
+
+pub returns-in-Ok-clause-begins : goal.returns-in-Ok-clause-begins
+returns-in-Ok-clause-begins g c t =
+    let p = c.in-Ok.parts in
+    let at = c.in-Ok.ensures.opened in
+    let disk : g.row.D.Denot = c.open_parts.new.disk in
+    subst (λ (d : g.row.D.Denot). BeginsOpened g.D.Disk (seen_as disk p.wal p.state.value p.flushed p.owes d None))
+    (sym c.of-opened.ensures) (λ found opens. (
+      opened_log (at.1).counted,
+      begins_opened g.D.Disk c.counted_are_one.ensures (λ d. g.met.D.Disk.seen_is_image d t) t c.args.settings.now
+          c.args.disk at.0 (seen_as disk p.wal p.state.value p.flushed p.owes disk None) p.map at.1 refl found opens,
+    ))
 
 pub returns-in-Ok-clause-opens_on : goal.returns-in-Ok-clause-opens_on
 returns-in-Ok-clause-opens_on g c t =
@@ -52,7 +47,7 @@ returns-in-Ok-clause-opens_on g c t =
     let at = c.in-Ok.ensures.opened in
     let disk : g.row.D.Denot = c.open_parts.new.disk in
     opens_still g.D.Disk c.counted_are_one.ensures (λ d. g.met.D.Disk.seen_is_image d t) t c.args.settings.now
-    c.args.disk at.0 (seen_as disk p.wal p.state.value p.flushed p.owes disk) p.map at.1
+    c.args.disk at.0 (seen_as disk p.wal p.state.value p.flushed p.owes disk None) p.map at.1
 
 unborn_is_store : (files : Files) → IsUnborn files.log → IsStoreOf files []
 unborn_is_store files unborn = record {
@@ -89,19 +84,31 @@ module _ {D : Type 0} (device : Disk D) where
         (λ c left. subst (images_now device first) (sym (stays first c born left)) (law first));
   }
 
-pub returns-in-Err-clause-no_store_kept : goal.returns-in-Err-clause-no_store_kept
-returns-in-Err-clause-no_store_kept g c = λ t none.
-    runs_only g.D.Disk t (λ d. g.met.D.Disk.seen_is_image d t) c.args.disk c.open_parts.new.disk
-    (c.open_parts.ensures.runs t)
-    (λ unborn. c.stores_are_known.ensures (g.D.Disk.seen c.args.disk) []
-    (unborn_is_store (g.D.Disk.seen c.args.disk) unborn) none)
-
 pub returns-in-Ok-clause-born : goal.returns-in-Ok-clause-born
 returns-in-Ok-clause-born g c = λ t born.
     runs_only g.D.Disk t (λ d. g.met.D.Disk.seen_is_image d t) c.args.disk c.open_parts.new.disk
     (c.open_parts.ensures.runs t) born
 
-pub returns-in-Err-clause-born_kept : goal.returns-in-Err-clause-born_kept
-returns-in-Err-clause-born_kept g c = λ t born.
-    runs_only g.D.Disk t (λ d. g.met.D.Disk.seen_is_image d t) c.args.disk c.open_parts.new.disk
-    (c.open_parts.ensures.runs t) born
+pub returns-in-Err-clause-refused : goal.returns-in-Err-clause-refused
+returns-in-Err-clause-refused g c =
+    let e = c.open_parts.ensures in
+    let disk : g.row.D.Denot = c.open_parts.new.disk in
+    let is = c.in-Err.is in
+    record {
+      opens =
+          λ t s. runs_open g.D.Disk t c.one_list.ensures.opens (λ d. g.met.D.Disk.seen_is_image d t) c.args.disk disk
+          (e.runs t) s;
+      keeps_pages = λ t. runs_keep g.D.Disk t (λ d. g.met.D.Disk.seen_is_image d t) c.args.disk disk (e.runs t);
+      pages = λ t. runs_seen g.D.Disk t (λ d. g.met.D.Disk.seen_is_image d t) c.args.disk disk (e.runs t);
+      born = λ t born.
+          runs_only g.D.Disk t (λ d. g.met.D.Disk.seen_is_image d t) c.args.disk disk (e.runs t) born;
+      no_store = λ t none.
+          runs_only g.D.Disk t (λ d. g.met.D.Disk.seen_is_image d t) c.args.disk disk (e.runs t)
+          (λ unborn. c.stores_are_known.ensures (g.D.Disk.seen c.args.disk) []
+          (unborn_is_store (g.D.Disk.seen c.args.disk) unborn) none);
+      not_a_store = λ same. e.only_read (is ∙ ap Err same);
+      fault = λ same. e.cause.fault (is ∙ ap Err same);
+      memory = λ same. e.cause.at_memory (is ∙ ap Err same);
+      later = e.cause.later;
+      time = e.cause.time;
+    }

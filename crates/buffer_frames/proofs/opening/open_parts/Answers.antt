@@ -1,4 +1,5 @@
 use Rattle.std.proofs.Common.{sym, subst}
+use Rattle.std.specs.Prelude.{None}
 use Rattle.core_state.specs.States.{StateValue}
 use Rattle.buffer_frames.specs.Opening.{IsOpenedAt}
 use Rattle.buffer_frames.proofs.Flushing.{seen_as}
@@ -12,7 +13,7 @@ returns-clause-opened g c =
     let disk : g.row.D.Denot = c.read_store.new.disk in (
       ran.0,
       subst (λ (v : StateValue). IsOpenedAt g.D.Disk c.args.settings.now c.args.disk.now ran.0
-          (seen_as disk c.begin_log.new.wal v c.commits-flushed.result c.in_ok-owes.owes disk) c.in_ok-wal.map)
+          (seen_as disk c.begin_log.new.wal v c.commits-flushed.result c.in_ok-owes.owes disk None) c.in_ok-wal.map)
           (sym c.start_run.ensures)
           (run_at g.D.Disk c.args.settings.now c.args.disk.now disk c.begin_log.new.wal c.begin_log.new.state.value
           c.in_ok-wal.map ran.0 c.commits-flushed.result c.in_ok-owes.owes

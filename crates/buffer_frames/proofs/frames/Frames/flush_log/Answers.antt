@@ -34,6 +34,7 @@ invariant_of-self g c =
       more = grows.0;
       state = c.flush-flushed.ensures.same.0;
       owes = c.flush-flushed.ensures.same.1;
+      work = c.flush-flushed.ensures.work;
     } in
     let stands =
     stands_flushed g.D.Disk c.counted_are_one.ensures (λ t d. g.met.D.Disk.seen_is_image d t) j j' pins homes un in
@@ -59,6 +60,7 @@ returns-clause-pass g c =
       more = grows.0;
       state = c.flush-flushed.ensures.same.0;
       owes = c.flush-flushed.ensures.same.1;
+      work = c.flush-flushed.ensures.work;
     } in
     let stands =
     stands_flushed g.D.Disk c.counted_are_one.ensures (λ t d. g.met.D.Disk.seen_is_image d t) j j' pins homes un in
@@ -86,6 +88,7 @@ returns-clause-holding g c held h =
       more = grows.0;
       state = c.flush-flushed.ensures.same.0;
       owes = c.flush-flushed.ensures.same.1;
+      work = c.flush-flushed.ensures.work;
     } in
     let stands =
     stands_flushed g.D.Disk c.counted_are_one.ensures (λ t d. g.met.D.Disk.seen_is_image d t) j j' pins homes un in
@@ -116,6 +119,7 @@ returns-clause-added g c =
       more = grows.0;
       state = c.flush-flushed.ensures.same.0;
       owes = c.flush-flushed.ensures.same.1;
+      work = c.flush-flushed.ensures.work;
     } in
     let stands =
     stands_flushed g.D.Disk c.counted_are_one.ensures (λ t d. g.met.D.Disk.seen_is_image d t) j j' pins homes un in
@@ -142,6 +146,7 @@ returns-clause-sees_on g c =
       more = grows.0;
       state = c.flush-flushed.ensures.same.0;
       owes = c.flush-flushed.ensures.same.1;
+      work = c.flush-flushed.ensures.work;
     } in
     let stands =
     stands_flushed g.D.Disk c.counted_are_one.ensures (λ t d. g.met.D.Disk.seen_is_image d t) j j' pins homes un in
@@ -168,6 +173,7 @@ returns-clause-state g c =
       more = grows.0;
       state = c.flush-flushed.ensures.same.0;
       owes = c.flush-flushed.ensures.same.1;
+      work = c.flush-flushed.ensures.work;
     } in
     let stands =
     stands_flushed g.D.Disk c.counted_are_one.ensures (λ t d. g.met.D.Disk.seen_is_image d t) j j' pins homes un in
@@ -194,6 +200,7 @@ returns-clause-rises g c =
       more = grows.0;
       state = c.flush-flushed.ensures.same.0;
       owes = c.flush-flushed.ensures.same.1;
+      work = c.flush-flushed.ensures.work;
     } in
     let stands =
     stands_flushed g.D.Disk c.counted_are_one.ensures (λ t d. g.met.D.Disk.seen_is_image d t) j j' pins homes un in
@@ -224,12 +231,12 @@ returns-clause-runs_on g c =
       more = grows.0;
       state = c.flush-flushed.ensures.same.0;
       owes = c.flush-flushed.ensures.same.1;
+      work = c.flush-flushed.ensures.work;
     } in
     let stands =
     stands_flushed g.D.Disk c.counted_are_one.ensures (λ t d. g.met.D.Disk.seen_is_image d t) j j' pins homes un in
     subst (λ (f : FramesValue g.row.D.Denot). RunsOn g.D.Disk f (framed j' pins homes)) c.self.view_is
     (runs_on g.D.Disk c.counted_are_one.ensures j j' are.log are.stands.journal pins homes homes
-    c.keeps_history.ensures.history
     c.flush-flushed.ensures.stays_down c.flush-flushed.ensures.any_moment c.flush-flushed.ensures.same.2
     c.flush-flushed.ensures.opened grows.0 c.flush-flushed.ensures.pages was)
 

@@ -68,7 +68,8 @@ returns-clause-holding g c held h =
     { held = c.args.pass.now.held + 1; holds = c.saturating_add-pass.result }) (x ∷ held)) (sym c.new.ensures)
     (holds_more g.D.Disk c.counted_are_one.ensures (λ t d. g.met.D.Disk.seen_is_image d t)
     c.self.inside.journal c.self.inside.pins c.self.inside.homes.items c.take_page.new.homes.items c.args.page
-    c.in_ok-content.content c.args.pass.now c.saturating_add-pass.result held c.self.invariant c.in_ok-content.ensures.taken holds)
+    c.in_ok-content.content c.args.pass.now c.saturating_add-pass.result held c.self.invariant
+    c.in_ok-content.ensures.taken holds)
 
 pub returns-clause-sees_on : goal.returns-clause-sees_on
 returns-clause-sees_on g c =

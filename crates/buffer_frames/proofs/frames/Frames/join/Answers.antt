@@ -15,7 +15,9 @@ returns-clause-pass g c =
       floor = c.max-pass-3.result;
       since = c.max-pass-4.result;
       room = c.args.pass.now.room + c.args.other.room;
+      work = c.either_right-pass.result;
     } in
+    let right = c.either_right-pass.ensures in
     let is : new ≡ joined_with c.args.other c.args.pass.now = cc in
     subst (λ (p : Pass). IsPassOf f p) (sym is)
     (of_joined f.journal f.pins f.homes c.args.pass.now c.args.other c.requires.other c.requires.pass)
@@ -29,7 +31,9 @@ returns-clause-holding g c held h =
       floor = c.max-pass-3.result;
       since = c.max-pass-4.result;
       room = c.args.pass.now.room + c.args.other.room;
+      work = c.either_right-pass.result;
     } in
+    let right = c.either_right-pass.ensures in
     let is : new ≡ joined_with c.args.other c.args.pass.now = cc in
     let of = of_joined f.journal f.pins f.homes c.args.pass.now c.args.other c.requires.other c.requires.pass in
     held_on g.D.Disk f c.args.pass.now new held (subst (λ (p : Pass). IsPassOf f p) (sym is) of) refl h

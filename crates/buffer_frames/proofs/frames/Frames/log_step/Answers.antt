@@ -11,7 +11,7 @@ use Rattle.core_state.specs.States.{StateValue}
 use Rattle.buffer_frames.specs.Drawing.{made_sheets}
 use Rattle.buffer_frames.specs.Homes.{HasPut}
 use Rattle.buffer_frames.specs.Beginnings.{BeginsOn, BeginsWith}
-use Rattle.buffer_frames.specs.Journals.{JournalValue, after_owed, logged, next_record}
+use Rattle.buffer_frames.specs.Journals.{JournalValue, after_owed, logged, next_number, next_record}
 use Rattle.buffer_frames.specs.Frames.{FramesValue, Stands, Behind, RunsOn, KeepsState, LieThere, KeepsOthers}
 use Rattle.buffer_frames.specs.Passes.{HasAdded, view_of, xid_after}
 use Rattle.buffer_frames.specs.declared.log_error.LogError.{LogError}
@@ -26,7 +26,7 @@ use Rattle.buffer_frames.proofs.HomesLie.{lies_put, lies_before, others_stay}
 use Rattle.buffer_frames.proofs.RunsKept.{runs_on}
 use Rattle.buffer_frames.proofs.StepSheets.{made_pages, held_there, made_there, made_once}
 use Rattle.buffer_frames.proofs.StepsKept.{HasStepped, asked_of, may_follow, stepped_frames, stepped_pages}
-use Rattle.buffer_frames.proofs.StepsKept.{new_stands, step_added, step_seen, stepped_pass, xid_drawn}
+use Rattle.buffer_frames.proofs.StepsKept.{new_stands, step_added, step_seen, stepped_pass, work_rests, xid_drawn}
 use Rattle.buffer_frames.proofs.Unlogged.{IsUnlogged, stands_refused, unlogged_frames, nothing_logged, same_state}
 use Rattle.buffer_frames.proofs.Unlogged.{unlogged_pass, unlogged_sees}
 use Rattle.buffer_frames.proofs.frames.Frames.log_step.Goals as goal
@@ -41,26 +41,12 @@ put_held-requires-clause-there g c =
     let step = c.args.step in
     let asked =
     asked_of g.D.Disk (framed j pins homes) c.args.self.now pass held step c.self.view_is c.self.invariant
-    c.requires.pass c.requires.holding c.requires.encoded c.requires.early c.requires.may c.requires.owes in
+    c.requires.pass c.requires.holding c.requires.encoded c.requires.kind c.requires.may c.requires.owes in
     held_there homes held (asked.holding).away
 
 pub put_held-requires-clause-once : goal.put_held-requires-clause-once
 put_held-requires-clause-once g c =
     c.requires.holding.once
-
-pub log_step-requires-clause-follow : goal.log_step-requires-clause-follow
-log_step-requires-clause-follow g c =
-    let j = c.self.inside.journal in
-    let pins = c.self.inside.pins in
-    let homes = c.self.inside.homes.items in
-    let pass = c.args.pass.now in
-    let held = c.args.held.items in
-    let step = c.args.step in
-    let asked =
-    asked_of g.D.Disk (framed j pins homes) c.args.self.now pass held step c.self.view_is c.self.invariant
-    c.requires.pass c.requires.holding c.requires.encoded c.requires.early c.requires.may c.requires.owes in
-    may_follow g.D.Disk c.counted_are_one.ensures (λ t d. g.met.D.Disk.seen_is_image d t) j pins homes pass held step
-    asked
 
 pub invariant_of-self : goal.invariant_of-self
 invariant_of-self g c =
@@ -72,7 +58,7 @@ invariant_of-self g c =
     let step = c.args.step in
     let asked =
     asked_of g.D.Disk (framed j pins homes) c.args.self.now pass held step c.self.view_is c.self.invariant
-    c.requires.pass c.requires.holding c.requires.encoded c.requires.early c.requires.may c.requires.owes in
+    c.requires.pass c.requires.holding c.requires.encoded c.requires.kind c.requires.may c.requires.owes in
     let j' = c.log_step.new.self in
     let mid = c.put_held.new.homes.items in
     let was = was_up c.log_step.result (g.D.Disk.fault_count j'.disk) (down_of j.wal) (down_of j'.wal)
@@ -86,6 +72,7 @@ invariant_of-self g c =
       more = more;
       state = c.in_err-drawn.ensures.refused_state.0;
       owes = c.in_err-drawn.ensures.refused_state.1;
+      work = c.in_err-drawn.ensures.refused_work;
     } in
     let stands =
     stands_refused g.D.Disk c.counted_are_one.ensures
@@ -104,7 +91,7 @@ returns-in_err-drawn-clause-pass g c =
     let step = c.args.step in
     let asked =
     asked_of g.D.Disk (framed j pins homes) c.args.self.now pass held step c.self.view_is c.self.invariant
-    c.requires.pass c.requires.holding c.requires.encoded c.requires.early c.requires.may c.requires.owes in
+    c.requires.pass c.requires.holding c.requires.encoded c.requires.kind c.requires.may c.requires.owes in
     let j' = c.log_step.new.self in
     let mid = c.put_held.new.homes.items in
     let was = was_up c.log_step.result (g.D.Disk.fault_count j'.disk) (down_of j.wal) (down_of j'.wal)
@@ -118,6 +105,7 @@ returns-in_err-drawn-clause-pass g c =
       more = more;
       state = c.in_err-drawn.ensures.refused_state.0;
       owes = c.in_err-drawn.ensures.refused_state.1;
+      work = c.in_err-drawn.ensures.refused_work;
     } in
     let stands =
     stands_refused g.D.Disk c.counted_are_one.ensures
@@ -137,7 +125,7 @@ returns-in_err-drawn-clause-none_held g c =
     let step = c.args.step in
     let asked =
     asked_of g.D.Disk (framed j pins homes) c.args.self.now pass held step c.self.view_is c.self.invariant
-    c.requires.pass c.requires.holding c.requires.encoded c.requires.early c.requires.may c.requires.owes in
+    c.requires.pass c.requires.holding c.requires.encoded c.requires.kind c.requires.may c.requires.owes in
     let j' = c.log_step.new.self in
     let mid = c.put_held.new.homes.items in
     let was = was_up c.log_step.result (g.D.Disk.fault_count j'.disk) (down_of j.wal) (down_of j'.wal)
@@ -151,6 +139,7 @@ returns-in_err-drawn-clause-none_held g c =
       more = more;
       state = c.in_err-drawn.ensures.refused_state.0;
       owes = c.in_err-drawn.ensures.refused_state.1;
+      work = c.in_err-drawn.ensures.refused_work;
     } in
     let stands =
     stands_refused g.D.Disk c.counted_are_one.ensures
@@ -172,7 +161,7 @@ returns-in_err-drawn-clause-refused g c =
     let step = c.args.step in
     let asked =
     asked_of g.D.Disk (framed j pins homes) c.args.self.now pass held step c.self.view_is c.self.invariant
-    c.requires.pass c.requires.holding c.requires.encoded c.requires.early c.requires.may c.requires.owes in
+    c.requires.pass c.requires.holding c.requires.encoded c.requires.kind c.requires.may c.requires.owes in
     let j' = c.log_step.new.self in
     let mid = c.put_held.new.homes.items in
     let was = was_up c.log_step.result (g.D.Disk.fault_count j'.disk) (down_of j.wal) (down_of j'.wal)
@@ -186,6 +175,7 @@ returns-in_err-drawn-clause-refused g c =
       more = more;
       state = c.in_err-drawn.ensures.refused_state.0;
       owes = c.in_err-drawn.ensures.refused_state.1;
+      work = c.in_err-drawn.ensures.refused_work;
     } in
     let stands =
     stands_refused g.D.Disk c.counted_are_one.ensures
@@ -206,7 +196,7 @@ returns-in_err-drawn-clause-refused_state g c =
     let step = c.args.step in
     let asked =
     asked_of g.D.Disk (framed j pins homes) c.args.self.now pass held step c.self.view_is c.self.invariant
-    c.requires.pass c.requires.holding c.requires.encoded c.requires.early c.requires.may c.requires.owes in
+    c.requires.pass c.requires.holding c.requires.encoded c.requires.kind c.requires.may c.requires.owes in
     let j' = c.log_step.new.self in
     let mid = c.put_held.new.homes.items in
     let was = was_up c.log_step.result (g.D.Disk.fault_count j'.disk) (down_of j.wal) (down_of j'.wal)
@@ -220,6 +210,7 @@ returns-in_err-drawn-clause-refused_state g c =
       more = more;
       state = c.in_err-drawn.ensures.refused_state.0;
       owes = c.in_err-drawn.ensures.refused_state.1;
+      work = c.in_err-drawn.ensures.refused_work;
     } in
     let stands =
     stands_refused g.D.Disk c.counted_are_one.ensures
@@ -240,7 +231,7 @@ returns-in_err-drawn-clause-refused_sees_on g c =
     let step = c.args.step in
     let asked =
     asked_of g.D.Disk (framed j pins homes) c.args.self.now pass held step c.self.view_is c.self.invariant
-    c.requires.pass c.requires.holding c.requires.encoded c.requires.early c.requires.may c.requires.owes in
+    c.requires.pass c.requires.holding c.requires.encoded c.requires.kind c.requires.may c.requires.owes in
     let j' = c.log_step.new.self in
     let mid = c.put_held.new.homes.items in
     let was = was_up c.log_step.result (g.D.Disk.fault_count j'.disk) (down_of j.wal) (down_of j'.wal)
@@ -254,6 +245,7 @@ returns-in_err-drawn-clause-refused_sees_on g c =
       more = more;
       state = c.in_err-drawn.ensures.refused_state.0;
       owes = c.in_err-drawn.ensures.refused_state.1;
+      work = c.in_err-drawn.ensures.refused_work;
     } in
     let stands =
     stands_refused g.D.Disk c.counted_are_one.ensures
@@ -273,7 +265,7 @@ returns-in_err-drawn-clause-runs_on g c =
     let step = c.args.step in
     let asked =
     asked_of g.D.Disk (framed j pins homes) c.args.self.now pass held step c.self.view_is c.self.invariant
-    c.requires.pass c.requires.holding c.requires.encoded c.requires.early c.requires.may c.requires.owes in
+    c.requires.pass c.requires.holding c.requires.encoded c.requires.kind c.requires.may c.requires.owes in
     let j' = c.log_step.new.self in
     let mid = c.put_held.new.homes.items in
     let was = was_up c.log_step.result (g.D.Disk.fault_count j'.disk) (down_of j.wal) (down_of j'.wal)
@@ -287,6 +279,7 @@ returns-in_err-drawn-clause-runs_on g c =
       more = more;
       state = c.in_err-drawn.ensures.refused_state.0;
       owes = c.in_err-drawn.ensures.refused_state.1;
+      work = c.in_err-drawn.ensures.refused_work;
     } in
     let stands =
     stands_refused g.D.Disk c.counted_are_one.ensures
@@ -294,7 +287,7 @@ returns-in_err-drawn-clause-runs_on g c =
     c.put_held.ensures.put in
     subst (λ (k : FramesValue g.row.D.Denot). RunsOn g.D.Disk k (framed j' pins mid)) c.self.view_is
     (runs_on g.D.Disk c.counted_are_one.ensures j j' (asked.are).log
-    ((asked.are).stands).journal pins homes mid c.keeps_history.ensures.history
+    ((asked.are).stands).journal pins homes mid
     c.log_step.ensures.stays_down c.log_step.ensures.any_moment c.log_step.ensures.same c.log_step.ensures.opened more
     c.log_step.ensures.pages was)
 
@@ -308,7 +301,7 @@ put_sheets-requires-clause-there g c =
     let step = c.args.step in
     let asked =
     asked_of g.D.Disk (framed j pins homes) c.args.self.now pass held step c.self.view_is c.self.invariant
-    c.requires.pass c.requires.holding c.requires.encoded c.requires.early c.requires.may c.requires.owes in
+    c.requires.pass c.requires.holding c.requires.encoded c.requires.kind c.requires.may c.requires.owes in
     let mid = c.put_held.new.homes.items in
     let sheets : c.into_sheets.result.items ≡ made_sheets (next_record j step) step.after =
     c.into_sheets.ensures ∙ ap (λ (s : Step). s.after) c.in_ok-drawn.ensures.made in
@@ -334,7 +327,7 @@ invariant_of-self-2 g c =
     let step = c.args.step in
     let asked =
     asked_of g.D.Disk (framed j pins homes) c.args.self.now pass held step c.self.view_is c.self.invariant
-    c.requires.pass c.requires.holding c.requires.encoded c.requires.early c.requires.may c.requires.owes in
+    c.requires.pass c.requires.holding c.requires.encoded c.requires.kind c.requires.may c.requires.owes in
     let j' = c.log_step.new.self in
     let mid = c.put_held.new.homes.items in
     let homes' = c.put_sheets.new.homes.items in
@@ -345,6 +338,7 @@ invariant_of-self-2 g c =
       flushed = c.log_step.ensures.flushed;
       state = c.in_ok-drawn.ensures.state;
       none_owed = c.in_ok-drawn.ensures.owes;
+      work = c.in_ok-drawn.ensures.work;
     } in
     let sheets : c.into_sheets.result.items ≡ made_sheets (next_record j step) step.after =
     c.into_sheets.ensures ∙ ap (λ (s : Step). s.after) c.in_ok-drawn.ensures.made in
@@ -368,7 +362,7 @@ returns-clause-logged g c =
     let step = c.args.step in
     let asked =
     asked_of g.D.Disk (framed j pins homes) c.args.self.now pass held step c.self.view_is c.self.invariant
-    c.requires.pass c.requires.holding c.requires.encoded c.requires.early c.requires.may c.requires.owes in
+    c.requires.pass c.requires.holding c.requires.encoded c.requires.kind c.requires.may c.requires.owes in
     let j' = c.log_step.new.self in
     let mid = c.put_held.new.homes.items in
     let homes' = c.put_sheets.new.homes.items in
@@ -379,6 +373,7 @@ returns-clause-logged g c =
       flushed = c.log_step.ensures.flushed;
       state = c.in_ok-drawn.ensures.state;
       none_owed = c.in_ok-drawn.ensures.owes;
+      work = c.in_ok-drawn.ensures.work;
     } in
     let sheets : c.into_sheets.result.items ≡ made_sheets (next_record j step) step.after =
     c.into_sheets.ensures ∙ ap (λ (s : Step). s.after) c.in_ok-drawn.ensures.made in
@@ -399,7 +394,7 @@ returns-clause-added g c =
     let step = c.args.step in
     let asked =
     asked_of g.D.Disk (framed j pins homes) c.args.self.now pass held step c.self.view_is c.self.invariant
-    c.requires.pass c.requires.holding c.requires.encoded c.requires.early c.requires.may c.requires.owes in
+    c.requires.pass c.requires.holding c.requires.encoded c.requires.kind c.requires.may c.requires.owes in
     let j' = c.log_step.new.self in
     let mid = c.put_held.new.homes.items in
     let homes' = c.put_sheets.new.homes.items in
@@ -410,6 +405,7 @@ returns-clause-added g c =
       flushed = c.log_step.ensures.flushed;
       state = c.in_ok-drawn.ensures.state;
       none_owed = c.in_ok-drawn.ensures.owes;
+      work = c.in_ok-drawn.ensures.work;
     } in
     let sheets : c.into_sheets.result.items ≡ made_sheets (next_record j step) step.after =
     c.into_sheets.ensures ∙ ap (λ (s : Step). s.after) c.in_ok-drawn.ensures.made in
@@ -430,7 +426,7 @@ returns-clause-runs_on g c =
     let step = c.args.step in
     let asked =
     asked_of g.D.Disk (framed j pins homes) c.args.self.now pass held step c.self.view_is c.self.invariant
-    c.requires.pass c.requires.holding c.requires.encoded c.requires.early c.requires.may c.requires.owes in
+    c.requires.pass c.requires.holding c.requires.encoded c.requires.kind c.requires.may c.requires.owes in
     let j' = c.log_step.new.self in
     let mid = c.put_held.new.homes.items in
     let homes' = c.put_sheets.new.homes.items in
@@ -441,6 +437,7 @@ returns-clause-runs_on g c =
       flushed = c.log_step.ensures.flushed;
       state = c.in_ok-drawn.ensures.state;
       none_owed = c.in_ok-drawn.ensures.owes;
+      work = c.in_ok-drawn.ensures.work;
     } in
     let sheets : c.into_sheets.result.items ≡ made_sheets (next_record j step) step.after =
     c.into_sheets.ensures ∙ ap (λ (s : Step). s.after) c.in_ok-drawn.ensures.made in
@@ -452,7 +449,7 @@ returns-clause-runs_on g c =
     c.log_step.ensures.flushed in
     subst (λ (k : FramesValue g.row.D.Denot). RunsOn g.D.Disk k (framed j' pins homes')) c.self.view_is
     (runs_on g.D.Disk c.counted_are_one.ensures j j' (asked.are).log
-    ((asked.are).stands).journal pins homes homes' c.keeps_history.ensures.history
+    ((asked.are).stands).journal pins homes homes'
     c.log_step.ensures.stays_down c.log_step.ensures.any_moment c.log_step.ensures.same c.log_step.ensures.opened more
     c.log_step.ensures.pages was)
 
@@ -475,7 +472,7 @@ returns-clause-pass g c =
     let step = c.args.step in
     let asked =
     asked_of g.D.Disk (framed j pins homes) c.args.self.now pass held step c.self.view_is c.self.invariant
-    c.requires.pass c.requires.holding c.requires.encoded c.requires.early c.requires.may c.requires.owes in
+    c.requires.pass c.requires.holding c.requires.encoded c.requires.kind c.requires.may c.requires.owes in
     let j' = c.log_step.new.self in
     let mid = c.put_held.new.homes.items in
     let homes' = c.put_sheets.new.homes.items in
@@ -486,6 +483,7 @@ returns-clause-pass g c =
       flushed = c.log_step.ensures.flushed;
       state = c.in_ok-drawn.ensures.state;
       none_owed = c.in_ok-drawn.ensures.owes;
+      work = c.in_ok-drawn.ensures.work;
     } in
     let sheets : c.into_sheets.result.items ≡ made_sheets (next_record j step) step.after =
     c.into_sheets.ensures ∙ ap (λ (s : Step). s.after) c.in_ok-drawn.ensures.made in
@@ -508,7 +506,7 @@ returns-clause-seen g c =
     let step = c.args.step in
     let asked =
     asked_of g.D.Disk (framed j pins homes) c.args.self.now pass held step c.self.view_is c.self.invariant
-    c.requires.pass c.requires.holding c.requires.encoded c.requires.early c.requires.may c.requires.owes in
+    c.requires.pass c.requires.holding c.requires.encoded c.requires.kind c.requires.may c.requires.owes in
     let j' = c.log_step.new.self in
     let mid = c.put_held.new.homes.items in
     let homes' = c.put_sheets.new.homes.items in
@@ -519,6 +517,7 @@ returns-clause-seen g c =
       flushed = c.log_step.ensures.flushed;
       state = c.in_ok-drawn.ensures.state;
       none_owed = c.in_ok-drawn.ensures.owes;
+      work = c.in_ok-drawn.ensures.work;
     } in
     let sheets : c.into_sheets.result.items ≡ made_sheets (next_record j step) step.after =
     c.into_sheets.ensures ∙ ap (λ (s : Step). s.after) c.in_ok-drawn.ensures.made in
@@ -540,7 +539,7 @@ returns-clause-none_held g c =
     let step = c.args.step in
     let asked =
     asked_of g.D.Disk (framed j pins homes) c.args.self.now pass held step c.self.view_is c.self.invariant
-    c.requires.pass c.requires.holding c.requires.encoded c.requires.early c.requires.may c.requires.owes in
+    c.requires.pass c.requires.holding c.requires.encoded c.requires.kind c.requires.may c.requires.owes in
     let j' = c.log_step.new.self in
     let mid = c.put_held.new.homes.items in
     let homes' = c.put_sheets.new.homes.items in
@@ -551,6 +550,7 @@ returns-clause-none_held g c =
       flushed = c.log_step.ensures.flushed;
       state = c.in_ok-drawn.ensures.state;
       none_owed = c.in_ok-drawn.ensures.owes;
+      work = c.in_ok-drawn.ensures.work;
     } in
     let sheets : c.into_sheets.result.items ≡ made_sheets (next_record j step) step.after =
     c.into_sheets.ensures ∙ ap (λ (s : Step). s.after) c.in_ok-drawn.ensures.made in
@@ -635,7 +635,7 @@ returns-clause-others g c =
     let step = c.args.step in
     let asked =
     asked_of g.D.Disk (framed j pins homes) c.args.self.now pass held step c.self.view_is c.self.invariant
-    c.requires.pass c.requires.holding c.requires.encoded c.requires.early c.requires.may c.requires.owes in
+    c.requires.pass c.requires.holding c.requires.encoded c.requires.kind c.requires.may c.requires.owes in
     let j' = c.log_step.new.self in
     let mid = c.put_held.new.homes.items in
     let homes' = c.put_sheets.new.homes.items in
@@ -646,6 +646,7 @@ returns-clause-others g c =
       flushed = c.log_step.ensures.flushed;
       state = c.in_ok-drawn.ensures.state;
       none_owed = c.in_ok-drawn.ensures.owes;
+      work = c.in_ok-drawn.ensures.work;
     } in
     let sheets : c.into_sheets.result.items ≡ made_sheets (next_record j step) step.after =
     c.into_sheets.ensures ∙ ap (λ (s : Step). s.after) c.in_ok-drawn.ensures.made in
@@ -677,14 +678,14 @@ returns-clause-legal g c =
     let step = c.args.step in
     let asked =
     asked_of g.D.Disk (framed j pins homes) c.args.self.now pass held step c.self.view_is c.self.invariant
-    c.requires.pass c.requires.holding c.requires.encoded c.requires.early c.requires.may c.requires.owes in
+    c.requires.pass c.requires.holding c.requires.encoded c.requires.kind c.requires.may c.requires.owes in
     subst (λ (k : FramesValue g.row.D.Denot). Behind g.D.Disk k
     (λ R. IsLegal (logged k.journal.owes (next_record k.journal step) R))) c.self.view_is
     (λ t up R s legal. may_follow g.D.Disk c.counted_are_one.ensures (λ t d. g.met.D.Disk.seen_is_image d t) j pins
     homes pass held step asked t up c.in_ok-drawn.ensures.can_draw R s.journal legal)
 
 pub returns-clause-begins : goal.returns-clause-begins
-returns-clause-begins g c =
+returns-clause-begins g c early =
     let j = c.self.inside.journal in
     let pins = c.self.inside.pins in
     let homes = c.self.inside.homes.items in
@@ -693,7 +694,7 @@ returns-clause-begins g c =
     let step = c.args.step in
     let asked =
     asked_of g.D.Disk (framed j pins homes) c.args.self.now pass held step c.self.view_is c.self.invariant
-    c.requires.pass c.requires.holding c.requires.encoded c.requires.early c.requires.may c.requires.owes in
+    c.requires.pass c.requires.holding c.requires.encoded c.requires.kind c.requires.may c.requires.owes in
     let j' = c.log_step.new.self in
     let log = c.log_step.ensures in
     let up = up_logged (down_of j.wal) c.log_step.result c.in_ok-drawn.drawn log.is_down c.in_ok-drawn.was in
@@ -701,6 +702,16 @@ returns-clause-begins g c =
     c.self.view_is
     (begins_with g.D.Disk c.counted_are_one.ensures j j' (next_record j step) log.opened
     (λ f down. ap (λ (k : JournalValue g.row.D.Denot). k.disk) (log.stays_down f down)) log.any_moment
-    c.in_ok-drawn.ensures.stands (early_drawn (after_owed j.owes j.state) step.kind c.requires.early)
+    c.in_ok-drawn.ensures.stands (early_drawn (after_owed j.owes j.state) step.kind early)
     (λ t R s legal. may_follow g.D.Disk c.counted_are_one.ensures (λ t d. g.met.D.Disk.seen_is_image d t) j pins
     homes pass held step asked t up c.in_ok-drawn.ensures.can_draw R s legal))
+
+pub returns-clause-rests : goal.returns-clause-rests
+returns-clause-rests g c rests =
+    c.in_ok-drawn.ensures.work
+    ∙ work_rests c.args.step.kind (next_number c.self.inside.journal) c.self.inside.journal.work rests
+    ∙ ap (λ (f : FramesValue g.row.D.Denot). f.journal.work) c.self.view_is
+
+pub returns-in_err-drawn-clause-rests : goal.returns-in_err-drawn-clause-rests
+returns-in_err-drawn-clause-rests g c rests =
+    c.in_err-drawn.ensures.refused_work ∙ ap (λ (f : FramesValue g.row.D.Denot). f.journal.work) c.self.view_is

@@ -1,18 +1,17 @@
-use Rattle.std.proofs.Common.{◌≡◌, Bool, List, [], replicate, sym, ap, subst, arith}
+use Rattle.std.proofs.Common.{Bool, List, [], replicate, sym, ap, subst}
 use Rattle.std.specs.Prelude.{Option, None}
 use Rattle.snap_pins.specs.declared.Pin.{Pin as PinInUse}
-use Rattle.wal.specs.Waiting.{end_of}
 use Rattle.buffer_frames.specs.Causes.{NotAStoreWhere}
 use Rattle.buffer_frames.specs.NoStore.{IsNoStore}
-use Rattle.buffer_frames.specs.Opens.{OpensAsBefore}
-use Rattle.buffer_frames.specs.Opening.{without_disk}
+use Rattle.buffer_frames.specs.Opening.{LeavesRefused, without_disk}
 use Rattle.buffer_frames.specs.Homes.{HaveOpened}
 use Rattle.buffer_frames.specs.Frames.{AreFrames}
 use Rattle.buffer_frames.specs.Passes.{IsPassOf, IsHolding}
+use Rattle.buffer_frames.specs.declared.error.OpenFault.TheVariants.{OutOfMemory}
 use Rattle.buffer_frames.specs.declared.pass.Pass.{Pass}
 use Rattle.buffer_frames.proofs.FramesKept.{framed}
 use Rattle.buffer_frames.proofs.FramesOpened.{frames_opened, some_records, of_whole}
-use Rattle.buffer_frames.proofs.GivenBack.{no_store_at, given_back}
+use Rattle.buffer_frames.proofs.GivenBack.{no_store_at, no_memory}
 use Rattle.buffer_frames.proofs.AtHand.{none_held}
 use Rattle.buffer_frames.proofs.frames.Frames.open.Goals as goal
 
@@ -42,17 +41,6 @@ returns-in-Ok-homes_of-clause-pass g c =
     (of_whole j homes c.first_pass-pass.result
     (some_records g.D.Disk c.args.settings.now c.args.disk o.0 j c.in-Ok.opened.1 o.1) c.first_pass-pass.ensures)
 
-pub returns-in-Err-homes_of-clause-refused : goal.returns-in-Err-homes_of-clause-refused
-returns-in-Err-homes_of-clause-refused g c = λ t s.
-    let o = c.in-Ok.ensures.opened in
-    let j = c.in-Ok.opened.0 in
-    subst (OpensAsBefore g.D.Disk c.args.disk) (sym c.close.ensures)
-    (given_back g.D.Disk c.counted_are_one.ensures (λ d. g.met.D.Disk.seen_is_image d t) c.args.disk o.0 j.disk
-    (end_of j.wal) o.1.counted (o.1.told t) s)
-
-pub returns-in-Err-homes_of-clause-no_store_kept : goal.returns-in-Err-homes_of-clause-no_store_kept
-returns-in-Err-homes_of-clause-no_store_kept g c = λ t none. absurd (c.in-Ok.ensures.no_store t none)
-
 pub returns-in-Ok-homes_of-clause-none_held : goal.returns-in-Ok-homes_of-clause-none_held
 returns-in-Ok-homes_of-clause-none_held g c =
     let o = c.in-Ok.ensures.opened in
@@ -65,11 +53,10 @@ returns-in-Ok-homes_of-clause-none_held g c =
     (none_held g.D.Disk (framed j (replicate 16 None) homes) pass of
     (ap (λ (p : Pass). p.held) c.first_pass-pass.ensures))
 
-pub returns-in-Err-homes_of-clause-refused_seen : goal.returns-in-Err-homes_of-clause-refused_seen
-returns-in-Err-homes_of-clause-refused_seen g c = λ t.
-    let o = c.in-Ok.ensures.opened in
+pub returns-in-Err-homes_of-clause-refused : goal.returns-in-Err-homes_of-clause-refused
+returns-in-Err-homes_of-clause-refused g c =
+    let e = c.in-Ok.ensures in
     let j = c.in-Ok.opened.0 in
-    let told = o.1.told t in
-    subst (λ (d : g.row.D.Denot). (g.D.Disk.seen d).pages ≡ (g.D.Disk.seen c.args.disk).pages) (sym c.close.ensures)
-    (told.late (g.D.Disk.clock j.disk) (g.D.Disk.seen j.disk) told.began.1 (omega arith)
-    (g.met.D.Disk.seen_is_image j.disk t)).1
+    subst (λ (d : g.row.D.Denot). LeavesRefused g.D.Disk c.args.disk (d, OutOfMemory)) (sym c.close.ensures)
+    (no_memory g.D.Disk c.counted_are_one.ensures (λ t d. g.met.D.Disk.seen_is_image d t)
+    c.args.settings.now c.args.disk (e.opened).0 j c.in-Ok.opened.1 (e.opened).1 e.keeps_pages e.born e.no_store)

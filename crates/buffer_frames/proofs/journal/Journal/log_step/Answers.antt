@@ -1,13 +1,11 @@
-use Rattle.std.proofs.Common.{◌≡◌, arith, rules, ap, subst}
+use Rattle.std.proofs.Common.{◌≡◌, arith, ap, subst}
 use Rattle.std.specs.Prelude.{OnOk, OnErr}
 use Rattle.buffer_frames.specs.Journals.{JournalValue, next_record}
 use Rattle.page_types.specs.declared.record.Record.{Record}
 use Rattle.buffer_frames.specs.Drawing.{made_sheets}
 use Rattle.buffer_frames.specs.Logging.{HasLogged, IsSameJournal}
-use Rattle.buffer_frames.proofs.Beginning.{may_go_on}
-use Rattle.buffer_frames.proofs.Flushing.{seen_as}
 use Rattle.buffer_frames.proofs.Logged.{log_stands, log_refused, log_moments, mid_record, mid_drawn, mid_state, mid_can}
-use Rattle.buffer_frames.proofs.Logged.{mid_full}
+use Rattle.buffer_frames.proofs.Logged.{mid_full, mid_work}
 use Rattle.buffer_frames.proofs.journal.Journal.log_step.Goals as goal
 
 pub returns-clause-stands : goal.returns-clause-stands
@@ -34,13 +32,10 @@ returns-clause-now g c few =
     (next_record j c.args.step.now)) × OnErr c.log_now.result (IsSameJournal j c.log_now.new.self)) same
     (c.log_now.ensures.ok, c.log_now.ensures.refused)
 
-pub log_now-requires-clause-follow : goal.log_now-requires-clause-follow
-log_now-requires-clause-follow g c =
-    may_go_on g.D.Disk (seen_as c.self.inside.disk c.self.inside.wal c.self.inside.state.value
-    c.self.inside.flushed c.self.inside.owes c.self.inside.opened.value) c.args.self.now c.flush_much.new.self
-    c.args.step.now c.self.view_is (search rules) c.flush_much.ensures.same.1 c.flush_much.ensures.same.0
-    c.flush_much.ensures.opened c.flush_much.ensures.stands
-    c.requires.early c.self.invariant.4 c.requires.follow
+pub returns-clause-work : goal.returns-clause-work
+returns-clause-work g c = mid_work c.args.self.now c.flush_much.new.self c.log_now.new.self c.args.step.now
+    c.log_now.result c.flush_much.ensures.same.1 c.flush_much.ensures.same.0 c.flush_much.ensures.work
+    c.log_now.ensures.ok
 
 pub returns-clause-drawn : goal.returns-clause-drawn
 returns-clause-drawn g c = mid_drawn c.args.self.now c.flush_much.new.self c.args.step.now.kind c.log_now.result
