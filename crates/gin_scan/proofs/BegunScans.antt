@@ -1,7 +1,7 @@
 -- A scan that has begun, and the bound on its steps.
 use Rattle.std.specs.Prelude.{Some}
 use Rattle.std.proofs.Common.{◌≡◌, ◌≢◌, ℕ, zero, suc, ◌+◌, ◌*◌, ◌<◌, ◌≤◌, List, [], length, replicate, refl, sym, ap}
-use Rattle.std.proofs.Common.{subst, ◌∙◌}
+use Rattle.std.proofs.Common.{subst, ◌∙◌, Bool, map}
 use Rattle.std.proofs.Common.{arith, All}
 use Rattle.std.proofs.lemmas.List.{length-map, length-replicate}
 use Rattle.std.proofs.lemmas.Nat.{mul-le}
@@ -17,16 +17,19 @@ use Rattle.core_state.specs.declared.answers.PageUse.TheVariants as usage
 use Rattle.core_state.proofs.Moments.Timeline.{cut_all}
 use Rattle.core_state.proofs.StateTold.{state_told}
 use Rattle.buffer_frames.specs.Frames.{FramesValue, Stands}
+use Rattle.buffer_frames.specs.Journals.{JournalValue}
 use Rattle.buffer_frames.specs.Passes.{IsPassOf, pin_in}
 use Rattle.buffer_frames.specs.declared.pass.Pass.{Pass}
 use Rattle.buffer_frames.proofs.LastingStates.{told_alike}
 use Rattle.gin_scan.proofs.GoingOn.{kept_pin}
 use Rattle.gin_opclass.specs.Class.{Meaning}
 use Rattle.gin_opclass.specs.declared.QueryKeys.{QueryKeys}
-use Rattle.gin_scan.specs.Rows.{lists_of}
+use Rattle.gin_scan.specs.Rows.{asked_by, lists_of}
 use Rattle.gin_scan.specs.Reading.{IsNoHit, IsUnread}
 use Rattle.gin_scan.specs.Reaching.{IsReached}
-use Rattle.gin_scan.specs.Scanning.{IsWithin, IsNewScan, IsScanning, Scanning, HasRead, IsScanOf}
+use Rattle.gin_scan.specs.Scanning.{IsWithin, IsScanning, Scanning, HasRead, IsScanOf, asked_in}
+use Rattle.gin_scan.specs.Counting.{IsBounded, IsCounted}
+use Rattle.gin_scan.specs.Inner.Begun.{IsNewScan, IsBegun}
 use Rattle.gin_scan.specs.declared.hits.Hits.{Hits}
 use Rattle.gin_scan.specs.declared.scan_core.ScanCore.{ScanCore}
 use Rattle.gin_scan.specs.declared.stage.Stage.TheVariants as stage
@@ -87,48 +90,88 @@ pub count_lists : (n : ℕ) (h : Hits) → lists_of h ≡ replicate n [] → len
 count_lists n h e =
     sym (length-map h.by_key.items (λ v. v.items)) ∙ ap length e ∙ length-replicate {A = List ℕ} n []
 
--- a new scan is one of each log of the frames
-pub begun : {D Q : Type 0} (device : Disk D) (M : Meaning Q) (q : Q) (f : FramesValue D) (pass : Pass) (s : ScanCore)
-    (keys : QueryKeys) (snapshot extent count : ℕ) (pending main : Hits)
-    → IsNewScan keys snapshot extent pending main s → pending.any.items ≡ [] → lists_of pending ≡ replicate count []
-    → main.any.items ≡ [] → lists_of main ≡ replicate count [] → IsPassOf f pass
-    → IsLeast (AreBelow f.journal.state) extent → Scanning device M q f pass s
-begun device M q f pass s keys snapshot extent count pending main new any lists any' lists' of least told up R stands
-    legal
-    leaves pin e =
-    begun_scan M q R pin s (kept_pin device f pass R pin of told up stands legal e) new.stage_is
-    (new.unread (no_hit count pending any lists) (no_hit count main any' lists'))
-    (λ P p shown used. subst (λ (n : ℕ). p < n) (sym new.extent_is)
-    (below_extent device f R extent stands legal least P p shown used))
+-- a new scan has begun
+pub is_begun : {D : Type 0} (f : FramesValue D) (s : ScanCore) (keys : QueryKeys) (extent : ℕ) (pending main : Hits)
+    → IsNewScan keys extent pending main s → pending.any.items ≡ []
+    → lists_of pending ≡ replicate (length keys.keys.items) [] → main.any.items ≡ []
+    → lists_of main ≡ replicate (length keys.keys.items) [] → IsLeast (AreBelow f.journal.state) extent
+    → IsBegun f keys s
+is_begun f s keys extent pending main new any lists any' lists' least = record {
+  keys_are = new.keys_are;
+  extent_is = subst (IsLeast (AreBelow f.journal.state)) (sym new.extent_is) least;
+  stage_is = new.stage_is;
+  pending = ap lists_of new.pending_is ∙ lists;
+  main = ap lists_of new.main_is ∙ lists';
+  unread = new.unread (no_hit (length keys.keys.items) pending any lists)
+      (no_hit (length keys.keys.items) main any' lists');
+}
 
--- it has read nothing yet
-pub begun_reached : {D Q : Type 0} (f : FramesValue D) (M : Meaning Q) (q : Q) (s : ScanCore)
-    (keys : QueryKeys) (snapshot extent count : ℕ) (pending main : Hits)
-    → IsNewScan keys snapshot extent pending main s → pending.any.items ≡ [] → lists_of pending ≡ replicate count []
-    → main.any.items ≡ [] → lists_of main ≡ replicate count [] → IsReached M q f s s.stage
-begun_reached f M q s keys snapshot extent count pending main new any lists any' lists' =
-    subst (IsReached M q f s) (sym new.stage_is)
-    (new.unread (no_hit count pending any lists) (no_hit count main any' lists'))
+-- so it has where it has a snapshot
+pub begun_with : {D : Type 0} (f f' : FramesValue D) (keys : QueryKeys) (s : ScanCore) (snapshot : ℕ) (took : Bool)
+    → f'.journal ≡ f.journal → IsBegun f keys s
+    → IsBegun f' keys (record s { snapshot = snapshot; took_pin = took })
+begun_with {D} f f' keys s snapshot took same b = record {
+  keys_are = b.keys_are;
+  extent_is = subst (λ (j : JournalValue D). IsLeast (AreBelow j.state) s.extent) (sym same) b.extent_is;
+  stage_is = b.stage_is;
+  pending = b.pending;
+  main = b.main;
+  unread = record {
+    pending = b.unread.pending;
+    not_begun = b.unread.not_begun;
+    first = b.unread.first;
+    unjudged = record {
+      main = b.unread.unjudged.main;
+      kept = b.unread.unjudged.kept;
+      long = b.unread.unjudged.long;
+      names = b.unread.unjudged.names;
+      heads_read = b.unread.unjudged.heads_read;
+    };
+    pages_read = b.unread.pages_read;
+  };
+}
 
--- and one that the pass may step, which has this snapshot
-pub begun_pass : {D : Type 0} (f : FramesValue D) (pass : Pass) (s : ScanCore) (keys : QueryKeys)
-    (snapshot extent : ℕ) (pending main : Hits) (pin : Pin) → IsNewScan keys snapshot extent pending main s
-    → lists_of pending ≡ replicate (length keys.keys.items) [] → lists_of main ≡ replicate (length keys.keys.items) []
-    → IsPassOf f pass → pass.held ≡ 0 → pin_in pass.pin ≡ Some pin → snapshot ≡ pin.commits → IsScanning f pass s
-begun_pass f pass s keys snapshot extent pending main pin new lists lists' of none pinned all =
-    let n = length keys.keys.items in
-    let same : length s.keys.keys.items ≡ n = ap (λ (k : QueryKeys). length k.keys.items) new.keys_are in record {
-      is_pass = of;
-      held = none;
-      is_scan = record {
-        pending = ap (λ (h : Hits). length h.by_key.items) new.pending_is ∙ count_lists n pending lists ∙ sym same;
-        main = ap (λ (h : Hits). length h.by_key.items) new.main_is ∙ count_lists n main lists' ∙ sym same;
-        within = subst (IsWithin s) (sym new.stage_is) tt;
-      };
-      pin = pin;
-      pinned = pinned;
-      snapshot = new.snapshot_is ∙ all;
-    }
+module _ {D : Type 0} (f : FramesValue D) (keys : QueryKeys) (s : ScanCore) (b : IsBegun f keys s) where
+  -- it is one of each log of the frames
+  pub begun : {Q : Type 0} (device : Disk D) (M : Meaning Q) (q : Q) (pass : Pass) → IsPassOf f pass
+      → Scanning device M q f pass s
+  begun device M q pass of told up R stands legal leaves pin e =
+      begun_scan M q R pin s (kept_pin device f pass R pin of told up stands legal e) b.stage_is b.unread
+      (λ P p shown used. below_extent device f R s.extent stands legal b.extent_is P p shown used)
+
+  -- it has read nothing yet
+  pub begun_reached : {Q : Type 0} (M : Meaning Q) (q : Q) → IsReached M q f s s.stage
+  begun_reached M q = subst (IsReached M q f s) (sym b.stage_is) b.unread
+
+  pub begun_asks : (asked_in s ≡ map asked_by keys.keys.items) × (s.keys.all ≡ keys.all)
+  begun_asks =
+      (ap (λ (k : QueryKeys). map asked_by k.keys.items) b.keys_are, ap (λ (k : QueryKeys). k.all) b.keys_are)
+
+  -- no page was held
+  pub begun_counted : (before holds : ℕ) → holds ≡ before → IsCounted before s holds
+  begun_counted before holds same =
+      (omega (arith, same), subst (IsBounded before s holds) (sym b.stage_is) (no_more before holds same))
+    where
+      no_more : (before holds : ℕ) → holds ≡ before → holds ≤ before
+      no_more before holds same = omega (arith, same)
+
+  -- and the pass may step it, which has this snapshot
+  pub begun_pass : (pass : Pass) (pin : Pin) → IsPassOf f pass → pass.held ≡ 0 → pin_in pass.pin ≡ Some pin
+      → s.snapshot ≡ pin.commits → IsScanning f pass s
+  begun_pass pass pin of none pinned snapshot =
+      let n = length keys.keys.items in
+      let same : length s.keys.keys.items ≡ n = ap (λ (k : QueryKeys). length k.keys.items) b.keys_are in record {
+        is_pass = of;
+        held = none;
+        is_scan = record {
+          pending = count_lists n s.pending b.pending ∙ sym same;
+          main = count_lists n s.main b.main ∙ sym same;
+          within = subst (IsWithin s) (sym b.stage_is) tt;
+        };
+        pin = pin;
+        pinned = pinned;
+        snapshot = snapshot;
+      }
 
 -- ── the bound on steps ──
 

@@ -14,9 +14,8 @@ use Rattle.core_state.specs.Steady.{LeavesIndex}
 use Rattle.core_state.proofs.SnapshotOrder.{apart_rise}
 use Rattle.core_state.proofs.Trees.Members.{in_map}
 use Rattle.gin_opclass.specs.Class.{Meaning, JudgeIsSound}
-use Rattle.buffer_frames.specs.Beginnings.{BeginsOn}
-use Rattle.buffer_frames.specs.Frames.{FramesValue, Stands, Behind, KeepsOthers}
-use Rattle.buffer_frames.specs.Passes.{IsPassOf, HasAdded, PassRises, pin_in}
+use Rattle.buffer_frames.specs.Frames.{FramesValue, Stands, Behind}
+use Rattle.buffer_frames.specs.Passes.{IsPassOf, HasAdded, KeepsAllButPin, pin_in}
 use Rattle.buffer_frames.specs.declared.pass.Pass.{Pass}
 use Rattle.buffer_frames.specs.declared.pass.Pinned.{Pinned}
 use Rattle.gin_scan.specs.Calls.{AddsNothing, GivesUp, EndsReading}
@@ -56,18 +55,15 @@ module _ {D : Type 0} (device : Disk D) (s : ScanCore) where
   pub ends_unpinned : (f f' : FramesValue D) (p p' : Pass) → s.took_pin ≡ true → p.held ≡ 0 → IsPassOf f' p'
       → p'.pin ≡ None
       → MatchOption p.pin (f'.pins ≡ f.pins) (λ (z : Pinned). f'.pins ≡ slice_set f.pins z.place None)
-      → HasAdded device f f' [] → (p'.held ≡ p.held) × (p'.room ≡ p.room) × (p'.xid ≡ p.xid)
-      → p'.holds ≡ p.holds → PassRises p p' → f'.journal ≡ f.journal → BeginsOn device f.journal f'.journal
-      → KeepsOthers f f' []
-      → EndsReading device s f p f' p'
-  ends_unpinned f f' p p' took none of gone pins added same holds rises journal begins others = record {
+      → KeepsAllButPin device f f' p p' → EndsReading device s f p f' p'
+  ends_unpinned f f' p p' took none of gone pins k = record {
     is_pass = of;
-    held = same.0 ∙ none;
-    adds = adds_once device f f' (unpin_once device f f' p.pin pins added begins journal);
-    journal = journal;
-    lying = lie_still f f' others;
-    keeps = keeps_work p p' same.2 same.1 rises;
-    holds = holds;
+    held = k.same.0 ∙ none;
+    adds = adds_once device f f' (unpin_once device f f' p.pin pins k.added k.begins k.journal);
+    journal = k.journal;
+    lying = lie_still f f' k.others;
+    keeps = keeps_work p p' k.same.2 k.same.1 k.rises;
+    holds = k.holds;
     pin = subst (λ (b : Bool). GivesUp b f p f' p') (sym took) (gone, pins);
   }
 

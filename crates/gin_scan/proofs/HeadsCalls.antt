@@ -17,6 +17,7 @@ use Rattle.buffer_frames.specs.declared.pass.Pass.{Pass}
 use Rattle.buffer_frames.proofs.FirstLogs.{shown_by}
 use Rattle.core_state.proofs.Showing.{shown_one}
 use Rattle.gin_scan.specs.Calls.{ReadsOn}
+use Rattle.gin_scan.specs.Counting.{CountsOn}
 use Rattle.gin_scan.specs.Causes.{CannotRead, CannotStep, HasSlots, IsLawfulRefusal}
 use Rattle.gin_scan.specs.Reaching.{IsReached}
 use Rattle.gin_scan.specs.Scanning.{IsScan, HasRead, stages_left, steps_of, steps_left}
@@ -95,8 +96,9 @@ module _ {Q D : Type 0} (device : Disk D) (M : Meaning Q) (sound : JudgeIsSound 
 
   pub heads_stepped : (f' f'' : FramesValue D) (pass'' : Pass) (new s' : ScanCore) (end number pages : ℕ) (c : Page)
       → HasReadPage f' new end number c → ReadsOn device f pass f'' pass'' → pages ≤ suc s.pages_read
-      → s' ≡ record new { stage = stage.Heads end; pages_read = pages } → HasStepped device M q f s f'' pass'' s'
-  heads_stepped f' f'' pass'' new s' end number pages c r reads one same =
+      → s' ≡ record new { stage = stage.Heads end; pages_read = pages } → CountsOn s pass.holds s' pass''.holds
+      → HasStepped device M q f pass s f'' pass'' s'
+  heads_stepped f' f'' pass'' new s' end number pages c r reads one same counted =
       let e : s' ≡ record s {
         names = new.names;
         long = new.long;
@@ -135,4 +137,4 @@ module _ {Q D : Type 0} (device : Disk D) (M : Meaning Q) (sound : JudgeIsSound 
       let last : ScanCore = record new { stage = stage.Heads end; pages_read = pages } in
       subst (λ (x : ScanCore). IsReached M q f'' x x.stage) (sym same)
       (reached_still f f'' reads.lying M q last (stage.Heads end)
-      (met_as M q f new last refl h.0, long_as M q f new last refl refl h.1)))
+      (met_as M q f new last refl h.0, long_as M q f new last refl refl h.1))) counted

@@ -7,11 +7,11 @@ use Rattle.std.proofs.lemmas.List.Kept.{AllPairs-cons}
 use Rattle.core_state.specs.Log.{Log, In}
 use Rattle.core_state.specs.Documents.{page_of}
 use Rattle.core_state.specs.Readings.{Read, AreReads}
-use Rattle.core_state.proofs.PageLists.{in_front, in_back, in_either}
+use Rattle.core_state.proofs.PageLists.{in_either}
 use Rattle.core_moments.specs.Walk.{Walk}
 use Rattle.gin_scan.specs.Reading.{LeadOn}
 use Rattle.gin_scan.specs.Taking.{first_items}
-use Rattle.gin_scan.specs.Held.{AreHeapPages, AreChains, ArePages}
+use Rattle.gin_scan.specs.Held.{AreChains, ArePages}
 use Rattle.gin_scan.specs.declared.stage.LongVector.{LongVector}
 use Rattle.gin_scan.proofs.Growing.{reads_since}
 use Rattle.gin_scan.proofs.JudgedScan.{in_all}

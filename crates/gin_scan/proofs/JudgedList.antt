@@ -1,6 +1,6 @@
 -- A scan that has read the list to its end judges what it met.
-use Rattle.std.proofs.Common.{◌≡◌, ◌≢◌, ◌↔◌, ℕ, suc, ◌<◌, ◌≤◌, Bool, false, List, [], ◌∷◌, ◌++◌, length}
-use Rattle.std.proofs.Common.{refl, sym, ap, subst, ◌∙◌, inl, arith, All, AllPairs}
+use Rattle.std.proofs.Common.{◌≡◌, ◌≢◌, ◌↔◌, ℕ, suc, ◌≤◌, Bool, false, List, [], ◌∷◌, ◌++◌, length}
+use Rattle.std.proofs.Common.{refl, sym, ap, subst, ◌∙◌, inl, arith, All}
 use Rattle.std.proofs.lemmas.Option.{slice_get_within}
 use Rattle.std.proofs.lemmas.List.{length-map}
 use Rattle.page_types.specs.declared.page.Name.{Name}
@@ -13,7 +13,8 @@ use Rattle.gin_opclass.specs.Class.{Asked, Meaning, JudgeIsSound}
 use Rattle.core_moments.specs.Walk.{Walk}
 use Rattle.core_moments.specs.Judging.{main_read, main_has}
 use Rattle.gin_scan.specs.Rows.{lists_of, first_read, rows_read, AreNoted}
-use Rattle.gin_scan.specs.Sides.{AreInOrder, HaveSame, TellOfWalk, WasRead, MayBeKept, AreKeptOf, AreKept}
+use Rattle.gin_scan.specs.Inner.Judged.{AreJudged}
+use Rattle.gin_scan.specs.Sides.{AreInOrder, HaveSame, TellOfWalk, WasRead, AreKeptOf, AreKept}
 use Rattle.gin_scan.specs.Reading.{IsNoHit, ReadsListBy, ReadsList}
 use Rattle.gin_scan.specs.Taking.{AreTaken}
 use Rattle.gin_scan.specs.Scanning.{AsksFor, IsScan, HasRead, HasJudged, HasTaken}
@@ -61,11 +62,7 @@ pub record JudgesAll {Q : Type 0} (M : Meaning Q) (q : Q) (s s' : ScanCore) : Ty
   pub main_order : AreInOrder s'.main
   pub main_same : HaveSame s.main s'.main
   pub main_count : length s'.main.by_key.items ≡ length s.main.by_key.items
-  pub items : List ℕ
-  pub rising : AllPairs (λ (i j : ℕ). i < j) items
-  pub just : (i : ℕ) → In i items ↔ MayBeKept s.keys.all s'.pending s'.main i
-  pub kept : (w : Walk) → TellOfWalk (M.asked q) w s'.pending s'.main s.first_item → All (WasRead w) items
-      → (more : List (ℕ × Bool)) × (s'.kept.items ≡ s.kept.items ++ more) × AreKeptOf M q w items more
+  pub judged : AreJudged M q s.keys.all s'.pending s'.main s.first_item s.kept.items s'.kept.items
   pub rest : s' ≡ record s { pending = s'.pending; main = s'.main; kept = s'.kept; stage = stage.Heads 0 }
 
 -- of no item nothing is taken
@@ -98,17 +95,18 @@ module _ {Q : Type 0} (M : Meaning Q) (q : Q) (S : JudgeIsSound M) (s s' : ScanC
     first_told = r.first ∙ ap first_read (sym pending_is);
   }
 
-  all_read : All (WasRead w) j.items
-  all_read = in_all (WasRead w) j.items (λ i m.
-      inl (may_was_met M q w s'.pending s'.main s.first_item told none_read none_has s.keys.all i ((j.just i).0 m)))
+  all_read : All (WasRead w) j.judged.items
+  all_read = in_all (WasRead w) j.judged.items (λ i m.
+      inl (may_was_met M q w s'.pending s'.main s.first_item told none_read none_has s.keys.all i
+      ((j.judged.just i).0 m)))
 
   -- what is kept then is what the walk keeps
   pub kept_all : AreKept M q w s'.kept.items
   kept_all =
-      let k = j.kept w told all_read in
+      let k = j.judged.kept w told all_read in
       are_kept M q w s'.pending s'.main s.first_item told none_read none_has S s.keys.all (sym asks.all)
-      j.items s'.kept.items j.rising j.just
-      (subst (AreKeptOf M q w j.items)
+      j.judged.items s'.kept.items j.judged.rising j.judged.just
+      (subst (AreKeptOf M q w j.judged.items)
       (sym (k.1 ∙ ap (λ (ks : List (ℕ × Bool)). ks ++ k.0) r.unjudged.kept)) k.2)
 
 module _ {Q : Type 0} (M : Meaning Q) (q : Q) (S : JudgeIsSound M) (R : Log) (pin : Pin) (s s' : ScanCore)

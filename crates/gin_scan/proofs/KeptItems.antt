@@ -1,10 +1,14 @@
 -- What is kept of one item more.
 use Rattle.std.proofs.Common.{◌≡◌, ℕ, ◌+◌, ◌<◌, Bool, true, false, List, [], ◌∷◌, ◌++◌, length, take, get_or}
-use Rattle.std.proofs.Common.{refl, sym, ap, subst, inl, inr}
+use Rattle.std.proofs.Common.{refl, sym, ap, subst, inl, inr, All, AllPairs}
+use Rattle.std.specs.Prelude.{◌↔◌, Option, Result, Ok, Err, OnOk}
 use Rattle.std.proofs.lemmas.List.{take_more}
 use Rattle.gin_opclass.specs.Class.{Meaning}
 use Rattle.core_moments.specs.Walk.{Walk}
-use Rattle.gin_scan.specs.Sides.{IsVerdict, AreKeptOf}
+use Rattle.core_state.specs.Log.{In}
+use Rattle.gin_scan.specs.Inner.Judged.{AreJudged}
+use Rattle.gin_scan.specs.Sides.{IsVerdict, TellOfWalk, WasRead, MayBeKept, AreKeptOf}
+use Rattle.gin_scan.specs.declared.hits.Hits.{Hits}
 use Rattle.gin_scan.specs.declared.judged.Verdict.{Verdict}
 
 module _ {Q : Type 0} (M : Meaning Q) (q : Q) (w : Walk) (i : ℕ) (v : Verdict) (is : IsVerdict M q w i v) where
@@ -48,3 +52,20 @@ module _ {Q : Type 0} (M : Meaning Q) (q : Q) (w : Walk) (v : Verdict) (items : 
   next_left e of' =
       subst (λ (xs : List ℕ). AreKeptOf M q w xs more) (sym (take_more items k 0 lt))
       (left_out M q w (get_or items k 0) v is (take k items) more e of')
+
+-- what is kept of the items that were met
+pub judged_by : {Q T E : Type 0} (M : Meaning Q) (q : Q) (all : Bool) (pending main : Hits) (first : Option ℕ)
+    (old new : List (ℕ × Bool)) (items given : List ℕ) (r : Result T E) → given ≡ items
+    → AllPairs (λ (i j : ℕ). i < j) items → ((i : ℕ) → In i items ↔ MayBeKept all pending main i)
+    → OnOk r ((w : Walk) → TellOfWalk (M.asked q) w pending main first → All (WasRead w) given
+    → (more : List (ℕ × Bool)) × (new ≡ old ++ more) × AreKeptOf M q w given more)
+    → OnOk r (AreJudged M q all pending main first old new)
+judged_by M q all pending main first old new items given (Ok x) same rising just kept = record {
+  items = items;
+  rising = rising;
+  just = just;
+  kept = λ w told.
+      subst (λ (is : List ℕ). All (WasRead w) is → (more : List (ℕ × Bool)) × (new ≡ old ++ more)
+      × AreKeptOf M q w is more) same (kept w told);
+}
+judged_by M q all pending main first old new items given (Err e) same rising just kept = tt

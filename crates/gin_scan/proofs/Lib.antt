@@ -49,4 +49,5 @@ mod NoneDeleted
 mod Furthest
 mod ListCauses
 mod ListCalls
+mod StepsOf
 mod HeadsSeen

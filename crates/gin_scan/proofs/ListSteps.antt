@@ -44,10 +44,15 @@ was_shown device f R pin known p c is lies =
     let P = shown_by R known.legal.valid in
     read_now device f R known.told known.up known.stands known.legal P.0 P.1 p c is lies
 
+-- a key is asked for each operand of the query
+pub keys_asked : {Q : Type 0} (M : Meaning Q) (q : Q) (s : ScanCore) → AsksFor M q s
+    → length s.keys.keys.items ≡ length (M.asked q)
+keys_asked M q s asks = sym (length-map s.keys.keys.items asked_by) ∙ ap length asks.asked
+
 pub lists_asked : {Q : Type 0} (M : Meaning Q) (q : Q) (s : ScanCore) → IsScan s → AsksFor M q s
     → length (lists_of s.pending) ≡ length (M.asked q)
 lists_asked M q s is asks =
-    lists_length s.pending ∙ is.pending ∙ sym (length-map s.keys.keys.items asked_by) ∙ ap length asks.asked
+    lists_length s.pending ∙ is.pending ∙ keys_asked M q s asks
 
 module _ {D Q : Type 0} (device : Disk D) (M : Meaning Q) (q : Q) (f : FramesValue D) (pass : Pass) (s s' : ScanCore)
     (of : IsPassOf f pass) (is : IsScan s) (asks : AsksFor M q s) (R : Log) (pin : Pin) (known : Known device f R pin)

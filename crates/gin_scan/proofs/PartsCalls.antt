@@ -14,7 +14,8 @@ use Rattle.buffer_frames.specs.Frames.{FramesValue, Lies}
 use Rattle.buffer_frames.specs.declared.frame_error.FrameError.{FrameError}
 use Rattle.buffer_frames.specs.declared.pass.Pass.{Pass}
 use Rattle.gin_scan.specs.Calls.{ReadsOn}
-use Rattle.gin_scan.specs.Causes.{CannotRead, CannotStep, HasPart, IsLawfulRefusal}
+use Rattle.gin_scan.specs.Counting.{CountsOn}
+use Rattle.gin_scan.specs.Causes.{CannotRead, HasPart, IsLawfulRefusal}
 use Rattle.gin_scan.specs.Held.{ArePages}
 use Rattle.gin_scan.specs.Reaching.{IsReached}
 use Rattle.gin_scan.specs.Taking.{AreTaken, first_items}
@@ -25,6 +26,7 @@ use Rattle.gin_scan.specs.declared.scan_core.ScanCore.{ScanCore}
 use Rattle.gin_scan.specs.declared.stage.Stage.{Stage}
 use Rattle.gin_scan.specs.declared.stage.Stage.TheVariants as stage
 use Rattle.gin_scan.proofs.BegunScans.{step_passed}
+use Rattle.gin_scan.proofs.Counted.{match_counted, ended_counted}
 use Rattle.gin_scan.proofs.LongBegun.{IsBefore, begun_long, long_scan, long_keys, long_snapshot, lower_next}
 use Rattle.gin_scan.proofs.LongBegun.{lower_first}
 use Rattle.gin_scan.proofs.PartsTaken.{part_read, matched, next_part}
@@ -32,10 +34,6 @@ use Rattle.gin_scan.proofs.ReadCalls.{still_reads}
 use Rattle.gin_scan.proofs.Reached.{reached_still, met_as, long_as, parts_more, begun_reached}
 use Rattle.gin_scan.proofs.Refused.{never_bad, part_used}
 use Rattle.gin_scan.proofs.StepsTaken.{stepped_by}
-
-pub parts_cause : {D : Type 0} (f : FramesValue D) (s : ScanCore) (at page left : ℕ) (e : FrameError)
-    → s.stage ≡ stage.Parts at page left → CannotRead f HasPart page e → CannotStep f s s.stage e
-parts_cause f s at page left e is cannot = subst (λ (z : Stage). CannotStep f s z e) (sym is) cannot
 
 stays_below : (left : ℕ) → left ≢ 0 → left - 1 < left
 stays_below zero off = absurd (off refl)
@@ -62,8 +60,9 @@ module _ {Q D : Type 0} (device : Disk D) (M : Meaning Q) (q : Q) (f : FramesVal
           bytes = s'.bytes;
           stage = stage.Parts at (rightward c) (left - 1);
           pages_read = s'.pages_read;
-        } → HasPart c → ReadsOn device f pass f' pass' → HasStepped device M q f s f' pass' s'
-    part_stepped f' pass' s' c some more page_is lies bytes one same has reads =
+        } → HasPart c → ReadsOn device f pass f' pass' → CountsOn s pass.holds s' pass'.holds
+        → HasStepped device M q f pass s f' pass' s'
+    part_stepped f' pass' s' c some more page_is lies bytes one same has reads counted =
         let was = may.scanning.is_scan in
         let new : steps_left s' ≡ 1 * 2 ^ 98 + ((length s.long.items - at) * 2 ^ 33 + (left - 1)) =
         ap steps_left same in
@@ -88,12 +87,12 @@ module _ {Q D : Type 0} (device : Disk D) (M : Meaning Q) (q : Q) (f : FramesVal
           met_as M q f s last refl r.0,
           long_as M q f s last refl refl r.1,
           (λ l e. parts_more f l.first page c (r.2 l e) some page_is lies has),
-        )))
+        ))) counted
 
     -- all were read, and its document is taken or not
     pub match_stepped : (s1 s' : ScanCore) (next : ℕ) → next ≡ suc at
         → IsReadUp s at page left → AddsIfTold (M.satisfies q) s at s1 → BeginsLong s1 next s'
-        → HasStepped device M q f s f pass s'
+        → HasStepped device M q f pass s f pass s'
     match_stepped s1 s' next after up t begins =
         let added : s1 ≡ record s { names = s1.names } = names_were t.answer t.added in
         let scan1 : IsScan s1 = subst IsScan (sym added) (record {
@@ -118,6 +117,7 @@ module _ {Q D : Type 0} (device : Disk D) (M : Meaning Q) (q : Q) (f : FramesVal
         (met_as M q f s s1 (ap (λ (x : ScanCore). x.kept.items) added) r.0)
         (long_as M q f s s1 (ap (λ (x : ScanCore). x.kept.items) added) (ap (λ (x : ScanCore). x.long.items) added)
         r.1) begins)
+        (match_counted (M.satisfies q) s s1 s' at next page left pass.holds is after within t begins)
       where
         names_were : (b : Bool) → AddedIf s t.waits b s1 → s1 ≡ record s { names = s1.names }
         names_were true x = x.1
@@ -125,7 +125,7 @@ module _ {Q D : Type 0} (device : Disk D) (M : Meaning Q) (q : Q) (f : FramesVal
 
   -- all heads were read
   pub heads_ended : (at : ℕ) (s' : ScanCore) → s.stage ≡ stage.Heads at → length s.kept.items ≤ at
-      → BeginsLong s 0 s' → HasStepped device M q f s f pass s'
+      → BeginsLong s 0 s' → HasStepped device M q f pass s f pass s'
   heads_ended at s' is past begins =
       let old : steps_left s ≡ 2 * 2 ^ 98 + (length s.kept.items - at) =
       ap (λ (z : Stage). stages_left z * 2 ^ 98 + steps_of s z) is in
@@ -135,6 +135,7 @@ module _ {Q D : Type 0} (device : Disk D) (M : Meaning Q) (q : Q) (f : FramesVal
       (lower_first s s' (length s.kept.items - at) begins))
       (λ R pin known p o. begun_long M q R pin s s' 0 (before R pin o) begins)
       (λ z. let r = subst (IsReached M q f s) is z in begun_reached M q f s s' 0 r.0 r.1 begins)
+      (ended_counted s s' at pass.holds is (subst (IsWithin s) is may.scanning.is_scan.within) begins)
     where
       before : (R : Log) (pin : Pin) → IsScanOf M q R pin s → IsBefore M q R pin s 0
       before R pin o =

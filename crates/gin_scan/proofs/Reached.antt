@@ -1,5 +1,5 @@
 -- How the pages are reached that a scan reads.
-use Rattle.std.proofs.Common.{◌≡◌, ◌≢◌, ◌⊎◌, ◌↔◌, ℕ, zero, suc, ◌+◌, ◌-◌, ◌<◌, ◌≤◌, Bool, true, false, IsTrue, List, []}
+use Rattle.std.proofs.Common.{◌≡◌, ◌≢◌, ℕ, suc, ◌+◌, ◌-◌, ◌<◌, ◌≤◌, Bool, true, false, IsTrue, List, []}
 use Rattle.std.proofs.Common.{cond}
 use Rattle.std.proofs.Common.{◌∷◌, ◌++◌, length, Some, refl, sym, ap, subst, ◌∙◌, inl, inr, arith, slice_get}
 use Rattle.std.specs.Prelude.{slice_range}
@@ -23,11 +23,12 @@ use Rattle.gin_opclass.specs.Class.{Asked, Meaning, JudgeIsSound}
 use Rattle.core_moments.specs.Walk.{Walk, rightward}
 use Rattle.core_moments.specs.Judging.{IsKept}
 use Rattle.buffer_frames.specs.Frames.{FramesValue, Lies}
-use Rattle.buffer_frames.specs.declared.frame_error.FrameError.TheVariants.{BadPage}
+use Rattle.buffer_frames.specs.declared.frame_error.FrameError.TheVariants.{BadPage, OutOfMemory}
 use Rattle.buffer_frames.specs.declared.pass.Pass.{Pass}
 use Rattle.gin_scan.specs.Calls.{LieStill}
-use Rattle.gin_scan.specs.Causes.{HasMeta, HasRows, HasPart, HasSlots, CannotUse, CannotRead, CannotStep}
-use Rattle.gin_scan.specs.Reading.{LeadOn, IsUnread, ReadsListBy}
+use Rattle.gin_scan.specs.Counting.{IsCounted}
+use Rattle.gin_scan.specs.Causes.{HasMeta, HasRows, HasPart, HasSlots, CannotUse, CannotStep}
+use Rattle.gin_scan.specs.Reading.{ReadsListBy}
 use Rattle.gin_scan.specs.Reaching.{AreLying, ListLies, ListLeads, HeadLeads, PartsLead, HasMet, HasMetLong}
 use Rattle.gin_scan.specs.Reaching.{IsReached, IsBadOnPath}
 use Rattle.gin_scan.specs.Rows.{lists_of, first_of_rows, AreNoted}
@@ -323,14 +324,18 @@ module _ {D Q : Type 0} (M : Meaning Q) (q : Q) (f : FramesValue D) where
 
   -- ── a bad page ──
 
+  -- a chain has ended at 0, where no page is met
+  above : (page p : ℕ) → p ≡ page → (page ≡ 0 → BadPage p ≡ OutOfMemory) → p ≢ 0
+  above page p same end none = let e = end (sym same ∙ none) in let n : ⊥ = cc in n
+
   pub bad_reached : (s : ScanCore) (z : Stage) (p : ℕ) → IsWithin s z → IsReached M q f s z
       → CannotStep f s z (BadPage p) → IsBadOnPath M q f p
   bad_reached s stage.Meta p is r c = IsBadOnPath.meta c.0 (subst (CannotUse f HasMeta) (sym c.0) c.1)
   bad_reached s (stage.Pending page left) p is r c =
       IsBadOnPath.rows (record { meta = r.meta; pending = r.pending; keys = [] })
-      (subst (ListLeads f (record { meta = r.meta; pending = r.pending; keys = [] })) (sym c.0)
+      (subst (ListLeads f (record { meta = r.meta; pending = r.pending; keys = [] })) (sym c.0.0)
       (record { meta_page = r.meta_page; leads = r.leads; lie = r.reads; alone = refl }))
-      (subst (CannotUse f HasRows) (sym c.0) c.1)
+      (above page p c.0.0 c.1) (subst (CannotUse f HasRows) (sym c.0.0) c.0.1)
   bad_reached s (stage.Heads at) p is r (inl e) = absurd (let n : ⊥ = cc in n)
   bad_reached s (stage.Heads at) p is r (inr c) =
       let met = r.0 in
@@ -345,17 +350,19 @@ module _ {D Q : Type 0} (M : Meaning Q) (q : Q) (f : FramesValue D) where
       let h = r.1 l.0 (element_in l.0 s.long.items at l.1) in
       IsBadOnPath.part met.walk met.page h.0 l.0.first met.list
       ((met.kept.just h.0).0 (in_map (λ (k : ℕ × Bool). k.0) (h.0, false) s.kept.items h.1)) h.2
-      (subst (PartsLead f l.0.first) (sym c.0) (r.2 l.0 l.1)) (subst (CannotUse f HasPart) (sym c.0) c.1)
+      (subst (PartsLead f l.0.first) (sym c.0.0) (r.2 l.0 l.1)) (above page p c.0.0 c.1)
+      (subst (CannotUse f HasPart) (sym c.0.0) c.0.1)
   bad_reached s stage.Done p is r c = absurd c
 
--- a step that was taken after others looked
+-- a step that was taken after a look
 pub stepped_before : {D Q : Type 0} (device : Disk D) (M : Meaning Q) (q : Q) (f f' : FramesValue D) (s : ScanCore)
-    (pass' : Pass) (s' : ScanCore) → LieStill f f' → HasStepped device M q f' s f' pass' s'
-    → HasStepped device M q f s f' pass' s'
-stepped_before device M q f f' s pass' s' still h = record {
+    (pass pass' : Pass) (s' : ScanCore) → LieStill f f' → pass'.holds ≡ pass.holds
+    → HasStepped device M q f' pass' s f' pass' s' → HasStepped device M q f pass s f' pass' s'
+stepped_before device M q f f' s pass pass' s' still holds h = record {
   scanning = h.scanning;
   asks = h.asks;
   walk = h.walk;
   lower = h.lower;
   reached = λ r. h.reached (reached_still f f' still M q s s.stage r);
+  counted = λ before had. h.counted before (subst (λ (n : ℕ). IsCounted before s n) (sym holds) had);
 }

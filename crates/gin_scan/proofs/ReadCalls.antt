@@ -23,6 +23,7 @@ use Rattle.buffer_frames.specs.declared.pass.Pass.{Pass}
 use Rattle.buffer_frames.proofs.Added.{added_in_turn, on_by_none}
 use Rattle.gin_scan.specs.Calls.{PinsRise, AddsOnce, AddsNothing, KeepsWork, LieStill, ReadsOn}
 use Rattle.gin_scan.specs.Causes.{CannotUse, CannotRead}
+use Rattle.gin_scan.specs.Inner.Looks.{LooksOn}
 
 only : (p q : ℕ) → p ≢ q → In p (q ∷ []) → ⊥
 only p q off (inl e) = off e
@@ -261,17 +262,18 @@ module _ {D : Type 0} (device : Disk D) where
   -- something is read of it in between
   pub held_and_read : (a b m c : FramesValue D) (p q n r : Pass) (x : Sheet) (page : ℕ) → x.page ≡ page
       → AddsNothing device a b → KeepsWork p q → q.pin ≡ p.pin → b.pins ≡ a.pins → KeepsOthers a b (page ∷ [])
-      → Lies a page x.content → AddsNothing device b m → LieStill b m → KeepsWork q n
-      → n.pin ≡ q.pin → m.pins ≡ b.pins → IsPassOf c r → IsHolding device c r [] → HasAdded device m c []
+      → Lies a page x.content → LooksOn device b q m n → IsPassOf c r → IsHolding device c r [] → HasAdded device m c []
       → PassRises n r → (r.pin ≡ n.pin) × (r.room ≡ n.room) × (r.xid ≡ n.xid) → RunsOn device m c
       → KeepsState m c → Lies c x.page x.content → KeepsOthers m c (x.page ∷ [])
       → IsCalm device m.journal c.journal → BeginsOn device m.journal c.journal → c.pins ≡ m.pins
-      → n.holds ≤ suc p.holds → r.holds ≡ n.holds → ReadsOn device a p c r
-  held_and_read a b m c p q n r x page named adds works pin pins taken was adds' lying works' pin' pins' =
-      held_back_by a m c p n r x (adds_then adds adds') (works_then p q n works works') (pin' ∙ pin) (pins' ∙ pins)
-      (λ k d off lies. lying k d (subst (λ (h : Home). LiesAs h d)
+      → q.holds ≤ suc p.holds → r.holds ≡ n.holds → ReadsOn device a p c r
+  held_and_read a b m c p q n r x page named adds works pin pins taken was l of holding added rises same runs state lies
+      others calm begins pins' holds =
+      held_back_by a m c p n r x (adds_then adds l.adds) (works_then p q n works l.keeps) (l.pin ∙ pin) (l.pins ∙ pins)
+      (λ k d off lies. l.lying k d (subst (λ (h : Home). LiesAs h d)
       (sym (subst (λ (z : ℕ). KeepsOthers a b (z ∷ [])) (sym named) taken k (only k x.page off))) lies))
-      (subst (λ (k : ℕ). Lies a k x.content) (sym named) was)
+      (subst (λ (k : ℕ). Lies a k x.content) (sym named) was) of holding added rises same runs state lies others calm
+      begins pins' (omega (arith, l.holds, holds))
 
   -- a hold that isn't refused meets no fault
   pub held_calm : {T : Type 0} (i j : JournalValue D) (r : Result T FrameError) (x : T) → r ≡ Ok x

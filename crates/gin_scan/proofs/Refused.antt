@@ -1,6 +1,6 @@
 -- Why a step of a scan is refused.
 use Rattle.std.proofs.Common.{◌≡◌, ◌≢◌, ◌⊎◌, ℕ, refl, sym, subst, ◌∙◌, inl, inr}
-use Rattle.std.specs.Prelude.{Result, Err, Some, IfErr, ⊤}
+use Rattle.std.specs.Prelude.{Result, Ok, Err, Some, IfErr, OnErr, ⊤}
 use Rattle.disk_trait.specs.declared.device.Disk.{Ghosts as Disk}
 use Rattle.wal.specs.Waiting.{down_of}
 use Rattle.page_types.specs.Pages.{IsPage}
@@ -106,3 +106,10 @@ pub other_calm : (Is : Page → Type 0) (p : ℕ) (c : Page) (e : FrameError)
     → (e ≡ OutOfMemory) ⊎ ((e ≡ BadPage p) × (Is c → ⊥)) → e ≢ DiskFault
 other_calm Is p c e (inl none) z = let y : OutOfMemory ≡ DiskFault = sym none ∙ z in let x : ⊥ = cc in x
 other_calm Is p c e (inr bad) z = let y : BadPage p ≡ DiskFault = sym bad.0 ∙ z in let x : ⊥ = cc in x
+
+pub down_calm : (e : FrameError) (f : ℕ) → e ≡ Down f → e ≢ DiskFault
+down_calm e f down z = let y : Down f ≡ DiskFault = sym down ∙ z in let x : ⊥ = cc in x
+
+pub err_or_not : {T E : Type 0} (P : Type 0) (r : Result T E) → P → OnErr r P
+err_or_not P (Ok x) p = tt
+err_or_not P (Err e) p = p

@@ -13,6 +13,7 @@ use Rattle.buffer_frames.proofs.Added.{none_by_kinds}
 use Rattle.gin_opclass.specs.declared.QueryKeys.{QueryKeys}
 use Rattle.gin_scan.specs.Rows.{asked_by}
 use Rattle.gin_scan.specs.Calls.{ReadsOn}
+use Rattle.gin_scan.specs.Counting.{CountsOn}
 use Rattle.gin_scan.specs.Sides.{AreKept}
 use Rattle.gin_scan.specs.Reaching.{IsReached}
 use Rattle.gin_scan.specs.Scanning.{IsScan, HasJudged, IsScanning, IsScanOf, Scanning, steps_left}
@@ -62,8 +63,9 @@ pub stepped_by : {D Q : Type 0} (device : Disk D) (M : Meaning Q) (q : Q) (f f' 
     → ((R : Log) (pin : Pin) → Known device f R pin → pin_in pass.pin ≡ Some pin → IsScanOf M q R pin s
     → IsScanOf M q R pin s')
     → (IsReached M q f s s.stage → IsReached M q f' s' s'.stage)
-    → HasStepped device M q f s f' pass' s'
-stepped_by device M q f f' pass pass' s s' may reads is_scan keys snapshot lower step reached = record {
+    → CountsOn s pass.holds s' pass'.holds
+    → HasStepped device M q f pass s f' pass' s'
+stepped_by device M q f f' pass pass' s s' may reads is_scan keys snapshot lower step reached counted = record {
   scanning = record {
     is_pass = reads.is_pass;
     held = reads.held;
@@ -80,6 +82,7 @@ stepped_by device M q f f' pass pass' s s' may reads is_scan keys snapshot lower
       step may.walk;
   lower = lower;
   reached = reached;
+  counted = counted;
 }
 
 -- the pin is the scan's

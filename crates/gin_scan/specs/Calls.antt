@@ -6,6 +6,7 @@ use Rattle.snap_pins.specs.Taken.{IsPinned}
 use Rattle.snap_pins.specs.declared.Pin.{Pin}
 use Rattle.buffer_frames.specs.Beginnings.{BeginsOn}
 use Rattle.buffer_frames.specs.Frames.{FramesValue, RunsOn, KeepsState, Lies}
+use Rattle.buffer_frames.specs.LogCauses.{IsCalm}
 use Rattle.buffer_frames.specs.Passes.{IsPassOf, HasAdded, PassRises}
 use Rattle.buffer_frames.specs.declared.pass.Pass.{Pass}
 use Rattle.gin_scan.specs.declared.scan_core.ScanCore.{ScanCore}
@@ -57,6 +58,17 @@ pub record ReadsOn {D : Type 0} (device : Disk D) (old : FramesValue D) (pass : 
   pub one_page : pass'.holds ≤ suc pass.holds
   pub pin : pass'.pin ≡ pass.pin
   pub pins : new.pins ≡ old.pins
+
+-- The beginning of a scan, or its refusal: nothing is logged or read, and no write fails.
+pub record BeginsReading {D : Type 0} (device : Disk D) (old : FramesValue D) (pass : Pass) (new : FramesValue D)
+    (pass' : Pass) : Type 0 where
+  pub is_pass : IsPassOf new pass'
+  pub held : pass'.held ≡ 0
+  pub adds : AddsNothing device old new
+  pub lying : LieStill old new
+  pub keeps : KeepsWork pass pass'
+  pub holds : pass'.holds ≡ pass.holds
+  pub calm : IsCalm device old.journal new.journal
 
 -- the pass gives up its snapshot, or keeps it
 abbrev pub GivesUp : {D : Type 0} → Bool → FramesValue D → Pass → FramesValue D → Pass → Type 0

@@ -47,6 +47,11 @@ CannotRead f Is p (Down fault) = down_of f.journal.wal ≡ Some fault
 CannotRead f Is p (BadPage bad) = (bad ≡ p) × CannotUse f Is p
 CannotRead f Is p OutOfMemory = ⊤
 
+-- Why a page isn't read to which a chain leads. At 0 the chain has ended: no page is read, and only memory can
+-- run out.
+abbrev pub CannotFollow : {D : Type 0} → FramesValue D → (Page → Type 0) → ℕ → FrameError → Type 0
+CannotFollow f Is p e = CannotRead f Is p e × (p ≡ 0 → e ≡ OutOfMemory)
+
 -- why a scan doesn't begin
 abbrev pub CannotBegin : {D : Type 0} → FramesValue D → FrameError → Type 0
 CannotBegin f DiskFault = ⊥
@@ -57,11 +62,11 @@ CannotBegin f OutOfMemory = ⊤
 -- why the step is refused whose stage this is
 abbrev pub CannotStep : {D : Type 0} → FramesValue D → ScanCore → Stage → FrameError → Type 0
 CannotStep f s stage.Meta e = CannotRead f HasMeta 0 e
-CannotStep f s (stage.Pending page left) e = CannotRead f HasRows page e
+CannotStep f s (stage.Pending page left) e = CannotFollow f HasRows page e
 CannotStep f s (stage.Heads at) e =
     (e ≡ OutOfMemory) ⊎ ((item : ℕ) × (sure : Bool) × (slice_get s.kept.items at ≡ Some (item, sure))
     × CannotRead f HasSlots (page_of item) e)
-CannotStep f s (stage.Parts at page left) e = CannotRead f HasPart page e
+CannotStep f s (stage.Parts at page left) e = CannotFollow f HasPart page e
 CannotStep f s stage.Done e = ⊥
 
 -- a bad page is met in no legal log of the frames

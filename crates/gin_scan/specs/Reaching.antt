@@ -1,5 +1,5 @@
 -- How a scan comes to the pages that it reads, by pages as they lie in memory.
-use Rattle.std.specs.Prelude.{◌≡◌, ◌≢◌, ℕ, ◌<◌, ⊤, Bool, false, List, [], ◌∷◌, Some}
+use Rattle.std.specs.Prelude.{◌≡◌, ◌≢◌, ℕ, ◌<◌, ⊤, false, List, [], ◌∷◌, Some}
 use Rattle.std.specs.List.{slice_get}
 use Rattle.page_types.specs.Numbers.{most_short}
 use Rattle.page_types.specs.Pages.{IsPage}
@@ -81,12 +81,12 @@ module _ {D Q : Type 0} (M : Meaning Q) (q : Q) (f : FramesValue D) where
   IsReached s stage.Done = ⊤
 
   -- A page that a search for the query has to read, and that is none or not what it has to be: the metapage; a
-  -- page that the list leads to; the heap page of an item that the list keeps; a page that the long vector of such
-  -- an item leads to.
+  -- page above 0 that the list leads to; the heap page of an item that the list keeps; a page above 0 that the long
+  -- vector of such an item leads to.
   pub data IsBadOnPath (p : ℕ) : Type 0 where
     meta : p ≡ 0 → CannotUse f HasMeta p → IsBadOnPath p
-    rows : (w : Walk) → ListLeads f w p → CannotUse f HasRows p → IsBadOnPath p
+    rows : (w : Walk) → ListLeads f w p → p ≢ 0 → CannotUse f HasRows p → IsBadOnPath p
     heap : (w : Walk) (last item : ℕ) → ListLeads f w last → IsKept M q w item → page_of item ≡ p
         → CannotUse f HasSlots p → IsBadOnPath p
     part : (w : Walk) (last item first : ℕ) → ListLeads f w last → IsKept M q w item → HeadLeads f item first
-        → PartsLead f first p → CannotUse f HasPart p → IsBadOnPath p
+        → PartsLead f first p → p ≢ 0 → CannotUse f HasPart p → IsBadOnPath p

@@ -21,15 +21,13 @@ use Rattle.buffer_frames.specs.Passes.{IsPassOf, pin_in}
 use Rattle.buffer_frames.specs.declared.pass.Pass.{Pass}
 use Rattle.gin_scan.specs.Rows.{asked_by}
 use Rattle.gin_scan.specs.Sides.{AreKept}
-use Rattle.gin_scan.specs.Reading.{IsNoHit, IsUnread, ReadsList, ReadsParts}
+use Rattle.gin_scan.specs.Reading.{IsUnread, ReadsList, ReadsParts}
 use Rattle.gin_scan.specs.Taking.{AreTaken, first_items}
 use Rattle.gin_scan.specs.Held.{ArePages}
 use Rattle.gin_scan.specs.declared.scan_core.ScanCore.{ScanCore}
 use Rattle.gin_scan.specs.declared.stage.Stage.{Stage}
 use Rattle.gin_scan.specs.declared.stage.Stage.TheVariants as stage
 use Rattle.gin_scan.specs.declared.stage.LongVector.{LongVector}
-use Rattle.gin_scan.specs.declared.hits.Hits.{Hits}
-use Rattle.gin_opclass.specs.declared.QueryKeys.{QueryKeys}
 
 -- ── of every device ──
 
@@ -49,16 +47,6 @@ pub record IsScan (s : ScanCore) : Type 0 where
   pub pending : length s.pending.by_key.items ≡ length s.keys.keys.items
   pub main : length s.main.by_key.items ≡ length s.keys.keys.items
   pub within : IsWithin s s.stage
-
--- a scan that has read nothing, for these keys, in the snapshot of so many commits
-pub record IsNewScan (keys : QueryKeys) (snapshot extent : ℕ) (pending main : Hits) (s : ScanCore) : Type 0 where
-  pub keys_are : s.keys ≡ keys
-  pub snapshot_is : s.snapshot ≡ snapshot
-  pub extent_is : s.extent ≡ extent
-  pub stage_is : s.stage ≡ stage.Meta
-  pub pending_is : s.pending ≡ pending
-  pub main_is : s.main ≡ main
-  pub unread : IsNoHit pending → IsNoHit main → IsUnread s
 
 -- the keys are those of the query
 pub record AsksFor {Q : Type 0} (M : Meaning Q) (q : Q) (s : ScanCore) : Type 0 where

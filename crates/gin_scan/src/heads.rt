@@ -11,7 +11,7 @@ ghost use Rattle.gin_scan.specs.Causes.{HasSlots};
 
 use crate::asks::{SeenHeads, page_of, slot_of};
 use crate::check::Check;
-use crate::scan_core::{ScanCore, hold_page, one_more, satisfies};
+use crate::scan_core::{ScanCore, hold_page, look_on, one_more, satisfies};
 use crate::stage::{LongVector, Stage};
 use buffer_frames::{FrameError, Frames, Pass};
 use disk_trait::Disk;
@@ -47,15 +47,11 @@ fn end_of_page(kept: &[(u32, bool)], from: usize, page: u32) -> usize
 }
 
 impl ScanCore {
-    ghost use Rattle.buffer_frames.specs.Passes.{IsPassOf, IsHolding};
-    ghost use Rattle.buffer_frames.specs.LogCauses.{HoldHasCause, IsCalm};
-    ghost use Rattle.core_state.specs.Allowed.{Sheet};
+    ghost use Rattle.buffer_frames.specs.Passes.{IsPassOf};
     ghost use Rattle.core_state.specs.States.{fate_of};
-    ghost use Rattle.gin_scan.specs.Causes.{CannotStep, IsLawfulRefusal};
-    ghost use Rattle.gin_scan.specs.Calls.{ReadsOn, AddsNothing, LieStill, KeepsWork};
     ghost use Rattle.gin_scan.specs.Seen.{AreSeen};
-    ghost use Rattle.gin_scan.specs.Counting.{CountsOn};
-    ghost use Rattle.gin_scan.specs.Inner.Steps.{MayStep, HasStepped};
+    ghost use Rattle.gin_scan.specs.Inner.Looks.{LooksOn};
+    ghost use Rattle.gin_scan.specs.Inner.Steps.{MayStep, IsStepOf};
     ghost use Rattle.gin_scan.specs.Inner.Heads.{TakesDocument, TakesIfSeen, TakesDocuments, KeepsRest};
     ghost use Rattle.gin_scan.specs.declared.stage.Stage.TheVariants as stages;
 
@@ -174,16 +170,7 @@ impl ScanCore {
         requires within { end ≤ length self.old.kept.items }
         ensures serves { J.serves work.new query.now }
         ensures took { self.new.took_pin ≡ self.old.took_pin }
-        ensures pass { IsPassOf frames.new pass.new }
-        ensures holding { (held : List Sheet) → IsHolding D.Disk frames.old pass.old held
-            → IsHolding D.Disk frames.new pass.new held }
-        ensures adds { AddsNothing D.Disk frames.old frames.new }
-        ensures lying { LieStill frames.old frames.new }
-        ensures keeps { KeepsWork pass.old pass.new }
-        ensures same { (pass.new.pin ≡ pass.old.pin) × (pass.new.held ≡ pass.old.held) }
-        ensures holds { pass.new.holds ≡ pass.old.holds }
-        ensures pins { frames.new.pins ≡ frames.old.pins }
-        ensures calm { IsCalm D.Disk frames.old.journal frames.new.journal }
+        ensures looks { LooksOn D.Disk frames.old pass.old frames.new pass.new }
         ensures heap { OnOk result (HasSlots page.now) }
         ensures taken { OnOk result ((seen : List Bool)
             × AreSeen (fate_of frames.new.journal.state) self.old.snapshot page.now
@@ -210,7 +197,7 @@ impl ScanCore {
             items,
             commits: self.snapshot,
         };
-        let answer = frames.look(pass, &ask)?;
+        let answer = look_on(frames, pass, &ask)?;
         let seen = answer?;
         self.heads_read = self.heads_read.saturating_add((end - from) as u64);
         self.take_documents(query, work, check, page, from, seen.as_slice())?;
@@ -220,13 +207,13 @@ impl ScanCore {
     /// Reads the heap page of a kept item, for all kept items that are on it.
     pub(crate) fn read_heads<D: Disk, Q, W: Meaning<Q>, J: Judge<Q, W>, M: Check<Q, W, J>>(
         &mut self,
+        at: usize,
         alloc: Global,
         frames: &mut Frames<D>,
         pass: &mut Pass,
         query: &Q,
         work: &mut W,
         check: &M,
-        at: usize,
     ) -> Result<(), FrameError>
         requires may { MayStep D.Disk (meaning W.asked W.all W.satisfies W.judged) query.now
             frames.old pass.old self.old }
@@ -234,15 +221,8 @@ impl ScanCore {
         requires more { at < length self.old.kept.items }
         requires serves { J.serves work.old query.now }
         ensures serves { J.serves work.new query.now }
-        ensures took { self.new.took_pin ≡ self.old.took_pin }
-        ensures stepped { OnOk result
-            (HasStepped D.Disk (meaning W.asked W.all W.satisfies W.judged) query.now frames.old
-            self.old frames.new pass.new self.new) }
-        ensures counted { OnOk result (CountsOn self.old pass.old.holds self.new pass.new.holds) }
-        ensures reads { ReadsOn D.Disk frames.old pass.old frames.new pass.new }
-        ensures fault { HoldHasCause D.Disk frames.old.journal frames.new.journal result }
-        ensures cause { IfErr result (CannotStep frames.old self.old self.old.stage) }
-        ensures lawful { IfErr result (IsLawfulRefusal D.Disk frames.old) }
+        ensures is_step { IsStepOf D.Disk (meaning W.asked W.all W.satisfies W.judged) query.now
+            frames.old pass.old self.old frames.new pass.new self.new result }
     {
         let number = page_of(self.kept[at].0);
         let end = end_of_page(self.kept.as_slice(), at, number);
@@ -274,18 +254,11 @@ impl ScanCore {
         requires stage { self.old.stage ≡ stages.Heads at }
         requires serves { J.serves work.old query.now }
         ensures serves { J.serves work.new query.now }
-        ensures took { self.new.took_pin ≡ self.old.took_pin }
-        ensures stepped { OnOk result
-            (HasStepped D.Disk (meaning W.asked W.all W.satisfies W.judged) query.now frames.old
-            self.old frames.new pass.new self.new) }
-        ensures counted { OnOk result (CountsOn self.old pass.old.holds self.new pass.new.holds) }
-        ensures reads { ReadsOn D.Disk frames.old pass.old frames.new pass.new }
-        ensures fault { HoldHasCause D.Disk frames.old.journal frames.new.journal result }
-        ensures cause { IfErr result (CannotStep frames.old self.old self.old.stage) }
-        ensures lawful { IfErr result (IsLawfulRefusal D.Disk frames.old) }
+        ensures is_step { IsStepOf D.Disk (meaning W.asked W.all W.satisfies W.judged) query.now
+            frames.old pass.old self.old frames.new pass.new self.new result }
     {
         if at < self.kept.len() {
-            return self.read_heads(alloc, frames, pass, query, work, check, at);
+            return self.read_heads(at, alloc, frames, pass, query, work, check);
         }
         self.end_heads(frames, pass, query, work);
         Ok(())

@@ -36,7 +36,7 @@ impl Hits {
         ensures any { IfOk result (λ h. h.any.items ≡ []) }
         ensures by_key { IfOk result (λ h. lists_of h ≡ replicate count []) }
     {
-        let mut by_key = Vec::with_capacity(alloc, count)?;
+        let mut by_key = Vec::new(alloc);
         for _ in 0..count {
             by_key.push(Vec::new(alloc))?;
         }
@@ -62,7 +62,8 @@ impl Hits {
     {
         self.any.push(row.item)?;
         for k in 0..asked.len() {
-            if has_fitting(row.keys, class, asked[k].0.as_slice(), asked[k].1) {
+            let key = &asked[k];
+            if has_fitting(row.keys, class, key.0.as_slice(), key.1) {
                 self.by_key[k].push(row.item)?;
             }
         }

@@ -1,13 +1,15 @@
 // How items are judged by the keys that were read of them.
-ghost use Rattle.std.specs.Prelude.{◌≡◌, ◌↔◌, ◌⊎◌, ℕ, ◌<◌, ◌||◌, ◌++◌, List, Bool, length, map, IfOk, OnOk};
+ghost use Rattle.std.specs.Prelude.{◌≡◌, ◌↔◌, ◌⊎◌, ℕ, ◌<◌, ◌≤◌, ◌||◌, ◌++◌, List, Bool, IsTrue, cond, length, map};
+ghost use Rattle.std.specs.Prelude.{IfOk, OnOk};
 ghost use Rattle.std.specs.List.{All, AllPairs};
-ghost use Rattle.ts_base.specs.declared.Tri.TheVariants.{False, Maybe};
+ghost use Rattle.ts_base.specs.declared.Tri.TheVariants.{True, False, Maybe};
 ghost use Rattle.core_state.specs.Log.{In};
 ghost use Rattle.gin_opclass.specs.Class.{Asked, meaning, JudgeIsSound};
 ghost use Rattle.core_moments.specs.Walk.{Walk};
 ghost use Rattle.core_moments.specs.Judging.{values as values_of};
 ghost use Rattle.gin_scan.specs.Sides.{Side, AreInOrder, TellOf, TellOfWalk, IsVerdictBy, IsVerdict};
 ghost use Rattle.gin_scan.specs.Sides.{WasRead, MayBeKept, AreKeptOf};
+ghost use Rattle.gin_scan.specs.Inner.Judged.{AreJudged};
 
 use crate::hits::{Hits, has};
 use gin_opclass::{CompareKeys, Judge, Meaning, OpClass};
@@ -16,7 +18,7 @@ use ts_base::Tri;
 
 /// What is known of an item without its vector: whether it is kept, and whether it satisfies the query
 /// for sure.
-#[derive(Clone, Copy, Debug, PartialEq, Eq)]
+#[derive(Clone, Copy, Debug)]
 pub(crate) struct Verdict {
     pub(crate) kept: bool,
     pub(crate) yes: bool,
@@ -33,6 +35,14 @@ fn either(a: Verdict, b: Verdict) -> Verdict
     }
 }
 
+/// True where the list, which is in order, has the item, else this value.
+fn value_of(items: &[u32], item: u32, absent: Tri) -> Tri
+    requires { AllPairs (λ i j. i ≤ j) items.now }
+    ensures { (b : Bool) × (IsTrue b ↔ In item items.now) × (result ≡ cond b True absent) }
+{
+    if has(items, item) { Tri::True } else { absent }
+}
+
 /// A value for each key that is asked: True where the item has one that fits, else this one.
 fn put_values(values: &mut Vec<Tri>, hits: &Hits, item: u32, absent: Tri)
     requires lists { length hits.now.by_key.items ≡ length values.old.items }
@@ -42,11 +52,7 @@ fn put_values(values: &mut Vec<Tri>, hits: &Hits, item: u32, absent: Tri)
         → values.new.items ≡ values_of (side.has item) absent asked }
 {
     for k in 0..values.len() {
-        values[k] = if has(&hits.by_key[k], item) {
-            Tri::True
-        } else {
-            absent
-        };
+        values[k] = value_of(&hits.by_key[k], item, absent);
     }
 }
 
@@ -128,12 +134,7 @@ fn add_all(items: &mut Vec<u32>, lists: &[Vec<u32>]) -> Result<(), AllocError>
 
 /// The items that may be kept, rising. Where the whole index isn't read these are those with a key that
 /// fits one that is asked, since the judge answers False where there is none.
-pub(crate) fn items_of(
-    alloc: Global,
-    pending: &Hits,
-    main: &Hits,
-    all: bool,
-) -> Result<Vec<u32>, AllocError>
+fn items_of(alloc: Global, pending: &Hits, main: &Hits, all: bool) -> Result<Vec<u32>, AllocError>
     ensures rising { IfOk result (λ v. AllPairs (λ i j. i < j) v.items) }
     ensures just { IfOk result (λ v. (i : ℕ)
         → In i v.items ↔ MayBeKept all pending.now main.now i) }
@@ -152,7 +153,7 @@ pub(crate) fn items_of(
 }
 
 /// Adds those of the items that are kept, each with whether it satisfies the query for sure.
-pub(crate) fn add_kept<Q, W: Meaning<Q>, C: CompareKeys, J: Judge<Q, W>>(
+fn add_kept<Q, W: Meaning<Q>, C: CompareKeys, J: Judge<Q, W>>(
     class: &OpClass<Q, W, C, J>,
     query: &Q,
     work: &mut W,
@@ -182,4 +183,40 @@ pub(crate) fn add_kept<Q, W: Meaning<Q>, C: CompareKeys, J: Judge<Q, W>>(
         }
     }
     Ok(())
+}
+
+/// Adds those of the items that were met which are kept, rising, each with whether it satisfies the query
+/// for sure.
+pub(crate) fn judge_met<Q, W: Meaning<Q>, C: CompareKeys, J: Judge<Q, W>>(
+    alloc: Global,
+    class: &OpClass<Q, W, C, J>,
+    query: &Q,
+    work: &mut W,
+    pending: &Hits,
+    main: &Hits,
+    first_item: Option<u32>,
+    all: bool,
+    kept: &mut Vec<(u32, bool)>,
+) -> Result<(), AllocError>
+    requires serves { J.serves work.old query.now }
+    requires pending { (length pending.now.by_key.items ≡ length (W.asked query.now))
+        × AreInOrder pending.now }
+    requires main { (length main.now.by_key.items ≡ length (W.asked query.now)) × AreInOrder main.now }
+    ensures serves { J.serves work.new query.now }
+    ensures judged { OnOk result (AreJudged (meaning W.asked W.all W.satisfies W.judged) query.now all
+        pending.now main.now first_item kept.old.items kept.new.items) }
+{
+    let mut values = vec![in alloc; Tri::False; pending.by_key.len()]?;
+    let items = items_of(alloc, pending, main, all)?;
+    add_kept(
+        class,
+        query,
+        work,
+        &mut values,
+        pending,
+        main,
+        first_item,
+        items.as_slice(),
+        kept,
+    )
 }

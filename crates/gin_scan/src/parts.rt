@@ -43,12 +43,8 @@ fn put_by_serial(names: &mut Vec<Name>)
 }
 
 impl ScanCore {
-    ghost use Rattle.buffer_frames.specs.LogCauses.{HoldHasCause};
     ghost use Rattle.gin_scan.specs.Scanning.{IsScan};
-    ghost use Rattle.gin_scan.specs.Causes.{CannotStep, IsLawfulRefusal};
-    ghost use Rattle.gin_scan.specs.Calls.{ReadsOn};
-    ghost use Rattle.gin_scan.specs.Counting.{CountsOn};
-    ghost use Rattle.gin_scan.specs.Inner.Steps.{MayStep, HasStepped};
+    ghost use Rattle.gin_scan.specs.Inner.Steps.{MayStep, HasStepped, IsStepOf};
     ghost use Rattle.gin_scan.specs.Inner.Parts.{IsReadUp, BeginsLong, AddsIfTold};
     ghost use Rattle.gin_scan.specs.declared.stage.Stage.TheVariants as stages;
 
@@ -91,8 +87,7 @@ impl ScanCore {
             × (length self.old.kept.items ≤ at) }
         ensures took { self.new.took_pin ≡ self.old.took_pin }
         ensures stepped { HasStepped D.Disk (meaning W.asked W.all W.satisfies W.judged) query.now
-            frames.now self.old frames.now pass.now self.new }
-        ensures counted { CountsOn self.old pass.now.holds self.new pass.now.holds }
+            frames.now pass.now self.old frames.now pass.now self.new }
     {
         let _ = frames;
         let _ = pass;
@@ -113,27 +108,20 @@ impl ScanCore {
     /// Reads a part of the vector that waits under this number.
     fn read_part<D: Disk, Q, W: Meaning<Q>>(
         &mut self,
+        at: usize,
+        page: u32,
+        left: u32,
         frames: &mut Frames<D>,
         pass: &mut Pass,
         query: &Q,
         work: &W,
-        at: usize,
-        page: u32,
-        left: u32,
     ) -> Result<(), FrameError>
         requires may { MayStep D.Disk (meaning W.asked W.all W.satisfies W.judged) query.now
             frames.old pass.old self.old }
         requires stage { self.old.stage ≡ stages.Parts at page left }
         requires more { IsReadUp self.old at page left → ⊥ }
-        ensures took { self.new.took_pin ≡ self.old.took_pin }
-        ensures stepped { OnOk result
-            (HasStepped D.Disk (meaning W.asked W.all W.satisfies W.judged) query.now frames.old
-            self.old frames.new pass.new self.new) }
-        ensures counted { OnOk result (CountsOn self.old pass.old.holds self.new pass.new.holds) }
-        ensures reads { ReadsOn D.Disk frames.old pass.old frames.new pass.new }
-        ensures fault { HoldHasCause D.Disk frames.old.journal frames.new.journal result }
-        ensures cause { IfErr result (CannotStep frames.old self.old self.old.stage) }
-        ensures lawful { IfErr result (IsLawfulRefusal D.Disk frames.old) }
+        ensures is_step { IsStepOf D.Disk (meaning W.asked W.all W.satisfies W.judged) query.now
+            frames.old pass.old self.old frames.new pass.new self.new result }
     {
         let _ = query;
         let _ = work;
@@ -165,11 +153,13 @@ impl ScanCore {
         ensures taken { OnOk result (AddsIfTold (W.satisfies query.now) self.old at self.new) }
     {
         let long = self.long[at];
-        if self.bytes.len() == long.size as usize
-            && satisfies(check, query, work, self.bytes.as_slice())
-        {
-            self.names.push(long.name)?;
+        if self.bytes.len() != long.size as usize {
+            return Ok(());
         }
+        if !satisfies(check, query, work, self.bytes.as_slice()) {
+            return Ok(());
+        }
+        self.names.push(long.name)?;
         Ok(())
     }
 
@@ -185,15 +175,14 @@ impl ScanCore {
     ) -> Result<(), AllocError>
         requires may { MayStep D.Disk (meaning W.asked W.all W.satisfies W.judged) query.now
             frames.now pass.now self.old }
+        requires serves { J.serves work.old query.now }
         requires stage { (page left : ℕ) × (self.old.stage ≡ stages.Parts at page left)
             × IsReadUp self.old at page left }
-        requires serves { J.serves work.old query.now }
         ensures serves { J.serves work.new query.now }
         ensures took { self.new.took_pin ≡ self.old.took_pin }
         ensures stepped { OnOk result
             (HasStepped D.Disk (meaning W.asked W.all W.satisfies W.judged) query.now frames.now
-            self.old frames.now pass.now self.new) }
-        ensures counted { OnOk result (CountsOn self.old pass.now.holds self.new pass.now.holds) }
+            pass.now self.old frames.now pass.now self.new) }
     {
         let _ = frames;
         let _ = pass;
@@ -219,20 +208,13 @@ impl ScanCore {
         requires stage { self.old.stage ≡ stages.Parts at page left }
         requires serves { J.serves work.old query.now }
         ensures serves { J.serves work.new query.now }
-        ensures took { self.new.took_pin ≡ self.old.took_pin }
-        ensures stepped { OnOk result
-            (HasStepped D.Disk (meaning W.asked W.all W.satisfies W.judged) query.now frames.old
-            self.old frames.new pass.new self.new) }
-        ensures counted { OnOk result (CountsOn self.old pass.old.holds self.new pass.new.holds) }
-        ensures reads { ReadsOn D.Disk frames.old pass.old frames.new pass.new }
-        ensures fault { HoldHasCause D.Disk frames.old.journal frames.new.journal result }
-        ensures cause { IfErr result (CannotStep frames.old self.old self.old.stage) }
-        ensures lawful { IfErr result (IsLawfulRefusal D.Disk frames.old) }
+        ensures is_step { IsStepOf D.Disk (meaning W.asked W.all W.satisfies W.judged) query.now
+            frames.old pass.old self.old frames.new pass.new self.new result }
     {
         if self.is_read(at, page, left) {
             self.match_long(frames, pass, query, work, check, at)?;
             return Ok(());
         }
-        self.read_part(frames, pass, query, work, at, page, left)
+        self.read_part(at, page, left, frames, pass, query, work)
     }
 }

@@ -8,15 +8,14 @@ ghost use Rattle.gin_scan.specs.Rows.{first_of_rows};
 ghost use Rattle.gin_scan.specs.Causes.{HasMeta, HasRows};
 
 use crate::asks::Extent;
-use crate::judged::{add_kept, items_of};
-use crate::scan_core::{ScanCore, hold_page, one_more};
+use crate::judged::judge_met;
+use crate::scan_core::{ScanCore, hold_page, look_on, one_more};
 use crate::stage::Stage;
 use buffer_frames::{FrameError, Frames, Pass};
 use disk_trait::Disk;
 use gin_opclass::{CompareKeys, Judge, Meaning, OpClass};
 use page_types::{Body, Gone, Page, Rows};
 use std::alloc::{AllocError, Global};
-use ts_base::Tri;
 
 /// The first page of the pending list, where the page of this number is a metapage.
 fn first_pending(page: &Page, number: u32) -> Result<u32, FrameError>
@@ -54,13 +53,9 @@ fn first_item(rows: &Rows) -> Option<u32>
 impl ScanCore {
     ghost use Rattle.std.specs.Prelude.{◌≢◌, ◌-◌, ◌^◌, ◌<◌, [], ◌∷◌, ◌++◌, length, true, false, cond};
     ghost use Rattle.page_types.specs.Pages.{IsPage};
-    ghost use Rattle.buffer_frames.specs.LogCauses.{HoldHasCause};
     ghost use Rattle.gin_scan.specs.Rows.{AreNoted};
     ghost use Rattle.gin_scan.specs.Scanning.{IsScan, AsksFor, asked_in};
-    ghost use Rattle.gin_scan.specs.Causes.{CannotStep, IsLawfulRefusal};
-    ghost use Rattle.gin_scan.specs.Calls.{ReadsOn};
-    ghost use Rattle.gin_scan.specs.Counting.{CountsOn};
-    ghost use Rattle.gin_scan.specs.Inner.Steps.{MayStep, HasStepped, IsFurthest};
+    ghost use Rattle.gin_scan.specs.Inner.Steps.{MayStep, HasStepped, IsStepOf, IsFurthest};
     ghost use Rattle.gin_scan.specs.declared.stage.Stage.TheVariants as stages;
     ghost use Rattle.core_moments.specs.Walk.{rightward};
 
@@ -75,15 +70,8 @@ impl ScanCore {
         requires may { MayStep D.Disk (meaning W.asked W.all W.satisfies W.judged) query.now
             frames.old pass.old self.old }
         requires stage { self.old.stage ≡ stages.Meta }
-        ensures took { self.new.took_pin ≡ self.old.took_pin }
-        ensures stepped { OnOk result
-            (HasStepped D.Disk (meaning W.asked W.all W.satisfies W.judged) query.now frames.old
-            self.old frames.new pass.new self.new) }
-        ensures counted { OnOk result (CountsOn self.old pass.old.holds self.new pass.new.holds) }
-        ensures reads { ReadsOn D.Disk frames.old pass.old frames.new pass.new }
-        ensures fault { HoldHasCause D.Disk frames.old.journal frames.new.journal result }
-        ensures cause { IfErr result (CannotStep frames.old self.old self.old.stage) }
-        ensures lawful { IfErr result (IsLawfulRefusal D.Disk frames.old) }
+        ensures is_step { IsStepOf D.Disk (meaning W.asked W.all W.satisfies W.judged) query.now
+            frames.old pass.old self.old frames.new pass.new self.new result }
     {
         let _ = query;
         let _ = work;
@@ -96,6 +84,19 @@ impl ScanCore {
             left: self.extent,
         };
         Ok(())
+    }
+
+    /// The list is begun from now on: the item of the first of these rows is its first, if none was met.
+    fn begin_list(&mut self, rows: &Rows)
+        ensures { self.new ≡ record self.old {
+          has_begun = true;
+          first_item = cond self.old.has_begun self.old.first_item (first_of_rows rows.now);
+        } }
+    {
+        if !self.has_begun {
+            self.has_begun = true;
+            self.first_item = first_item(rows);
+        }
     }
 
     /// Notes the items of the rows on a page of the list, which has this number: the page that it leads to.
@@ -126,10 +127,7 @@ impl ScanCore {
         let Some(rows) = kept_rows(page) else {
             return Err(FrameError::BadPage { page: number });
         };
-        if !self.has_begun {
-            self.has_begun = true;
-            self.first_item = first_item(rows);
-        }
+        self.begin_list(rows);
         self.pending
             .add_rows(class, self.keys.keys.as_slice(), rows)?;
         Ok(page.right)
@@ -150,15 +148,8 @@ impl ScanCore {
         requires stage { self.old.stage ≡ stages.Pending page left }
         requires some { page ≢ 0 }
         requires more { left ≢ 0 }
-        ensures took { self.new.took_pin ≡ self.old.took_pin }
-        ensures stepped { OnOk result
-            (HasStepped D.Disk (meaning W.asked W.all W.satisfies W.judged) query.now frames.old
-            self.old frames.new pass.new self.new) }
-        ensures counted { OnOk result (CountsOn self.old pass.old.holds self.new pass.new.holds) }
-        ensures reads { ReadsOn D.Disk frames.old pass.old frames.new pass.new }
-        ensures fault { HoldHasCause D.Disk frames.old.journal frames.new.journal result }
-        ensures cause { IfErr result (CannotStep frames.old self.old self.old.stage) }
-        ensures lawful { IfErr result (IsLawfulRefusal D.Disk frames.old) }
+        ensures is_step { IsStepOf D.Disk (meaning W.asked W.all W.satisfies W.judged) query.now
+            frames.old pass.old self.old frames.new pass.new self.new result }
     {
         let _ = query;
         let held = hold_page(frames, pass, page)?;
@@ -191,24 +182,21 @@ impl ScanCore {
         ensures took { self.new.took_pin ≡ self.old.took_pin }
         ensures stepped { OnOk result
             (HasStepped D.Disk (meaning W.asked W.all W.satisfies W.judged) query.now frames.now
-            self.old frames.now pass.now self.new) }
-        ensures counted { OnOk result (CountsOn self.old pass.now.holds self.new pass.now.holds) }
+            pass.now self.old frames.now pass.now self.new) }
     {
         let _ = frames;
         let _ = pass;
         self.pending.put_in_order();
         self.main.put_in_order();
-        let mut values = vec![in alloc; Tri::False; self.keys.keys.len()]?;
-        let items = items_of(alloc, &self.pending, &self.main, self.keys.all)?;
-        add_kept(
+        judge_met(
+            alloc,
             class,
             query,
             work,
-            &mut values,
             &self.pending,
             &self.main,
             self.first_item,
-            items.as_slice(),
+            self.keys.all,
             &mut self.kept,
         )?;
         self.stage = Stage::Heads { at: 0 };
@@ -234,30 +222,24 @@ impl ScanCore {
     /// items that were read.
     fn go_further<D: Disk, Q, W: Meaning<Q>, C: CompareKeys, J: Judge<Q, W>>(
         &mut self,
+        page: u32,
         alloc: Global,
         frames: &mut Frames<D>,
         pass: &mut Pass,
         class: &OpClass<Q, W, C, J>,
         query: &Q,
         work: &mut W,
-        page: u32,
     ) -> Result<(), FrameError>
         requires may { MayStep D.Disk (meaning W.asked W.all W.satisfies W.judged) query.now
             frames.old pass.old self.old }
         requires stage { self.old.stage ≡ stages.Pending page 0 }
+        requires some { page ≢ 0 }
         requires serves { J.serves work.old query.now }
         ensures serves { J.serves work.new query.now }
-        ensures took { self.new.took_pin ≡ self.old.took_pin }
-        ensures stepped { OnOk result
-            (HasStepped D.Disk (meaning W.asked W.all W.satisfies W.judged) query.now frames.old
-            self.old frames.new pass.new self.new) }
-        ensures counted { OnOk result (CountsOn self.old pass.old.holds self.new pass.new.holds) }
-        ensures reads { ReadsOn D.Disk frames.old pass.old frames.new pass.new }
-        ensures fault { HoldHasCause D.Disk frames.old.journal frames.new.journal result }
-        ensures cause { IfErr result (CannotStep frames.old self.old self.old.stage) }
-        ensures lawful { IfErr result (IsLawfulRefusal D.Disk frames.old) }
+        ensures is_step { IsStepOf D.Disk (meaning W.asked W.all W.satisfies W.judged) query.now
+            frames.old pass.old self.old frames.new pass.new self.new result }
     {
-        let extent = frames.look(pass, &Extent)?;
+        let extent = look_on(frames, pass, &Extent)?;
         if extent > self.extent {
             self.raise_extent(page, extent);
             return Ok(());
@@ -283,22 +265,15 @@ impl ScanCore {
         requires stage { self.old.stage ≡ stages.Pending page left }
         requires serves { J.serves work.old query.now }
         ensures serves { J.serves work.new query.now }
-        ensures took { self.new.took_pin ≡ self.old.took_pin }
-        ensures stepped { OnOk result
-            (HasStepped D.Disk (meaning W.asked W.all W.satisfies W.judged) query.now frames.old
-            self.old frames.new pass.new self.new) }
-        ensures counted { OnOk result (CountsOn self.old pass.old.holds self.new pass.new.holds) }
-        ensures reads { ReadsOn D.Disk frames.old pass.old frames.new pass.new }
-        ensures fault { HoldHasCause D.Disk frames.old.journal frames.new.journal result }
-        ensures cause { IfErr result (CannotStep frames.old self.old self.old.stage) }
-        ensures lawful { IfErr result (IsLawfulRefusal D.Disk frames.old) }
+        ensures is_step { IsStepOf D.Disk (meaning W.asked W.all W.satisfies W.judged) query.now
+            frames.old pass.old self.old frames.new pass.new self.new result }
     {
         if page == 0 {
             self.judge_all(alloc, frames, pass, class, query, work)?;
             return Ok(());
         }
         if left == 0 {
-            return self.go_further(alloc, frames, pass, class, query, work, page);
+            return self.go_further(page, alloc, frames, pass, class, query, work);
         }
         self.read_pending(frames, pass, class, query, page, left)
     }

@@ -4,13 +4,13 @@ ghost use Rattle.core_state.specs.Log.{Log};
 ghost use Rattle.core_state.specs.Legal.{Pin};
 ghost use Rattle.core_state.specs.Steady.{LeavesIndex};
 ghost use Rattle.buffer_frames.specs.Frames.{Behind};
-ghost use Rattle.buffer_frames.specs.LogCauses.{HoldHasCause, IsCalm};
+ghost use Rattle.buffer_frames.specs.LogCauses.{HoldHasCause};
 ghost use Rattle.buffer_frames.specs.Passes.{IsPassOf, HasPinned, pin_in};
 ghost use Rattle.gin_opclass.specs.Class.{meaning};
 ghost use Rattle.ts_match.specs.Meaning.{Holds};
 ghost use Rattle.ts_match.specs.Judging.{judged};
 ghost use Rattle.ts_match.specs.Class.{asked_of, reads_all};
-ghost use Rattle.gin_scan.specs.Calls.{AddsNothing, LieStill, KeepsWork, ReadsOn, EndsReading};
+ghost use Rattle.gin_scan.specs.Calls.{BeginsReading, ReadsOn, EndsReading};
 ghost use Rattle.gin_scan.specs.Causes.{CannotStep, CannotBegin, IsLawfulRefusal};
 ghost use Rattle.gin_scan.specs.Counting.{IsCounted, CountsOn};
 ghost use Rattle.gin_scan.specs.Finding.{HasFound};
@@ -55,17 +55,11 @@ impl<'q> Scan<'q> {
             query.now frames.new s.core s.core.stage) }
         ensures pinned { IfOk result (λ s. HasPinned frames.old frames.new pass.new s.core.snapshot) }
         ensures took { IfOk result (λ s. s.core.took_pin ≡ true) }
-        ensures adds { AddsNothing D.Disk frames.old frames.new }
-        ensures lying { LieStill frames.old frames.new }
-        ensures keeps { KeepsWork pass.old pass.new }
-        ensures holds { pass.new.holds ≡ pass.old.holds }
         ensures counted { IfOk result (λ s.
             IsCounted pass.old.holds s.core pass.new.holds) }
-        ensures calm { IsCalm D.Disk frames.old.journal frames.new.journal }
+        ensures reads { BeginsReading D.Disk frames.old pass.old frames.new pass.new }
 
         // The refusals: the pass has no snapshot.
-        ensures is_pass { IsPassOf frames.new pass.new }
-        ensures idle { pass.new.held ≡ 0 }
         ensures unpinned { OnErr result (pass.new.pin ≡ None) }
         ensures cause { IfErr result (CannotBegin frames.old) }
     {
@@ -96,15 +90,9 @@ impl<'q> Scan<'q> {
         ensures took { IfOk result (λ s. s.core.took_pin ≡ false) }
         ensures pin { pass.new.pin ≡ pass.old.pin }
         ensures pins { frames.new.pins ≡ frames.old.pins }
-        ensures adds { AddsNothing D.Disk frames.old frames.new }
-        ensures lying { LieStill frames.old frames.new }
-        ensures keeps { KeepsWork pass.old pass.new }
-        ensures holds { pass.new.holds ≡ pass.old.holds }
         ensures counted { IfOk result (λ s.
             IsCounted pass.old.holds s.core pass.new.holds) }
-        ensures calm { IsCalm D.Disk frames.old.journal frames.new.journal }
-        ensures is_pass { IsPassOf frames.new pass.new }
-        ensures idle { pass.new.held ≡ 0 }
+        ensures reads { BeginsReading D.Disk frames.old pass.old frames.new pass.new }
 
         // The refusals.
         ensures cause { IfErr result (CannotBegin frames.old) }

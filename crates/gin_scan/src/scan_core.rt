@@ -3,26 +3,28 @@ ghost use Rattle.std.specs.Prelude.{◌≡◌, ◌↔◌, ℕ, suc, ◌+◌, ◌
 ghost use Rattle.std.specs.Prelude.{None, Some, IsTrue, IfOk, IfErr, OnOk, OnErr};
 ghost use Rattle.wal.specs.Waiting.{down_of};
 ghost use Rattle.core_state.specs.PageChoice.{IsLeast, AreBelow};
-ghost use Rattle.buffer_frames.specs.LogCauses.{HoldHasCause, IsCalm};
+ghost use Rattle.buffer_frames.specs.LogCauses.{HoldHasCause};
 ghost use Rattle.buffer_frames.specs.Frames.{Lies, KeepsOthers};
 ghost use Rattle.buffer_frames.specs.Passes.{IsPassOf, IsHolding, holds_after};
-ghost use Rattle.buffer_frames.specs.declared.frame_error.FrameError.TheVariants as frames_of;
+ghost use Rattle.buffer_frames.specs.declared.frame_error.FrameError.TheVariants.{Down};
 ghost use Rattle.gin_opclass.specs.Class.{meaning, JudgeIsSound};
 ghost use Rattle.gin_scan.specs.Calls.{AddsNothing, LieStill, KeepsWork, ReadsOn};
 ghost use Rattle.gin_scan.specs.Causes.{CannotRead};
 ghost use Rattle.gin_scan.specs.Inner.Heads.{TellsOf};
+ghost use Rattle.gin_scan.specs.Inner.Looks.{LooksOn};
 
 use crate::asks::Extent;
 use crate::check::Check;
 use crate::found::Found;
 use crate::hits::Hits;
 use crate::stage::{LongVector, Stage};
-use buffer_frames::{FrameError, Frames, Held, Pass};
+use buffer_frames::{Ask, FrameError, Frames, Held, Pass};
 use disk_trait::Disk;
 use gin_opclass::{CompareKeys, Judge, Meaning, OpClass, QueryKeys};
 use page_types::{Name, PAGE_LIMIT};
 use std::alloc::Global;
-use ts_vector::VectorBytes;
+use ts_base::encoding_tells_vector;
+use ts_vector::{VectorBytes, bad_bytes_are_no_encoding};
 
 /// A scan for the keys of a query.
 #[derive(Debug, Drop)]
@@ -90,6 +92,21 @@ pub(crate) fn hold_page<D: Disk>(
     frames.hold(pass, page)
 }
 
+/// Asks of the log. It reads no page.
+pub(crate) fn look_on<D: Disk, T, A: Ask<T>>(
+    frames: &mut Frames<D>,
+    pass: &mut Pass,
+    ask: &A,
+) -> Result<T, FrameError>
+    requires pass { IsPassOf frames.old pass.old }
+    ensures looks { LooksOn D.Disk frames.old pass.old frames.new pass.new }
+    ensures answers { IfOk result (λ t. A.answers ask.now frames.new.journal.state pass.new.floor
+        pass.new.since t) }
+    ensures error { IfErr result (λ e. (f : ℕ) × (e ≡ Down f) × (down_of frames.old.journal.wal ≡ Some f)) }
+{
+    frames.look(pass, ask)
+}
+
 /// One page more was read. A pass counts the pages that it holds in the same way.
 pub(crate) fn one_more(pages_read: u64) -> u64
     ensures { result ≡ holds_after pages_read }
@@ -108,6 +125,8 @@ pub(crate) fn satisfies<Q, W: Meaning<Q>, J: Judge<Q, W>, M: Check<Q, W, J>>(
     ensures serves { J.serves work.new query.now }
     ensures tells { TellsOf (W.satisfies query.now) bytes.now result }
 {
+    encoding_tells_vector();
+    bad_bytes_are_no_encoding();
     match VectorBytes::new(bytes) {
         Ok(vector) => check.check(query, work, &vector),
         Err(_) => false,
@@ -126,31 +145,24 @@ impl ScanCore {
     ghost use Rattle.gin_scan.specs.Counting.{IsCounted, CountsOn};
     ghost use Rattle.gin_scan.specs.Finding.{HasFound};
     ghost use Rattle.gin_scan.specs.Reaching.{IsReached};
-    ghost use Rattle.gin_scan.specs.Calls.{EndsReading};
+    ghost use Rattle.gin_scan.specs.Calls.{BeginsReading, EndsReading};
     ghost use Rattle.gin_scan.specs.Rows.{asked_by, lists_of};
-    ghost use Rattle.gin_scan.specs.Scanning.{IsNewScan, IsScanning, AsksFor, Scanning};
+    ghost use Rattle.gin_scan.specs.Scanning.{IsScanning, AsksFor, Scanning};
     ghost use Rattle.gin_scan.specs.Scanning.{IsAtEnd, steps_left, asked_in};
-    ghost use Rattle.gin_scan.specs.Inner.Steps.{MayStep, HasStepped};
+    ghost use Rattle.gin_scan.specs.Inner.Begun.{IsNewScan, IsBegun};
+    ghost use Rattle.gin_scan.specs.Inner.Steps.{MayStep, IsStepOf};
     ghost use Rattle.gin_scan.specs.declared.stage.Stage.TheVariants as stages;
 
-    /// A scan that has read nothing, for the keys of a query, in the snapshot of so many commits.
-    fn new(
-        alloc: Global,
-        keys: QueryKeys,
-        snapshot: u32,
-        extent: u32,
-        took_pin: bool,
-        pending: Hits,
-        main: Hits,
-    ) -> ScanCore
-        ensures new { IsNewScan keys snapshot extent pending main result }
-        ensures took { result.took_pin ≡ took_pin }
+    /// A scan that has read nothing, for the keys of a query, of pages that go so far. It has no snapshot.
+    fn new(alloc: Global, keys: QueryKeys, extent: u32, pending: Hits, main: Hits) -> ScanCore
+        ensures new { IsNewScan keys extent pending main result }
+        ensures took { result.took_pin ≡ false }
     {
         ScanCore {
             keys,
-            snapshot,
+            snapshot: 0,
             extent,
-            took_pin,
+            took_pin: false,
             stage: Stage::Meta,
             pending,
             main,
@@ -165,6 +177,26 @@ impl ScanCore {
         }
     }
 
+    /// A scan that has read nothing, for the keys of a query, of the pages that there are. It has no
+    /// snapshot.
+    fn unread<D: Disk>(
+        alloc: Global,
+        frames: &mut Frames<D>,
+        pass: &mut Pass,
+        keys: QueryKeys,
+    ) -> Result<ScanCore, FrameError>
+        requires pass { IsPassOf frames.old pass.old }
+        ensures begun { IfOk result (IsBegun frames.new keys) }
+        ensures took { IfOk result (λ s. s.took_pin ≡ false) }
+        ensures looks { LooksOn D.Disk frames.old pass.old frames.new pass.new }
+        ensures cause { IfErr result (CannotBegin frames.old) }
+    {
+        let pending = Hits::new(alloc, keys.keys.len())?;
+        let main = Hits::new(alloc, keys.keys.len())?;
+        let extent = look_on(frames, pass, &Extent)?;
+        Ok(ScanCore::new(alloc, keys, extent, pending, main))
+    }
+
     /// Takes a snapshot into use, and begins a scan for the keys of a query in it.
     pub fn begin<D: Disk, Q, W: Meaning<Q>>(
         alloc: Global,
@@ -173,8 +205,8 @@ impl ScanCore {
         keys: QueryKeys,
     ) -> Result<ScanCore, FrameError>
         requires pass { IsPassOf frames.old pass.old }
-        requires none { pass.old.pin ≡ None }
         requires held { pass.old.held ≡ 0 }
+        requires none { pass.old.pin ≡ None }
         ensures scanning { IfOk result (IsScanning frames.new pass.new) }
         ensures asks { IfOk result (λ s. (asked_in s ≡ map asked_by keys.keys.items)
             × (s.keys.all ≡ keys.all)) }
@@ -184,24 +216,18 @@ impl ScanCore {
             → IsReached (meaning W.asked W.all W.satisfies W.judged) q frames.new s s.stage) }
         ensures pinned { IfOk result (λ s. HasPinned frames.old frames.new pass.new s.snapshot) }
         ensures took { IfOk result (λ s. s.took_pin ≡ true) }
-        ensures adds { AddsNothing D.Disk frames.old frames.new }
-        ensures lying { LieStill frames.old frames.new }
-        ensures keeps { KeepsWork pass.old pass.new }
-        ensures holds { pass.new.holds ≡ pass.old.holds }
         ensures counted { IfOk result (λ s. IsCounted pass.old.holds s pass.new.holds) }
-        ensures calm { IsCalm D.Disk frames.old.journal frames.new.journal }
+        ensures reads { BeginsReading D.Disk frames.old pass.old frames.new pass.new }
 
         // The refusals: the pass has no snapshot.
-        ensures is_pass { IsPassOf frames.new pass.new }
-        ensures idle { pass.new.held ≡ 0 }
         ensures unpinned { OnErr result (pass.new.pin ≡ None) }
         ensures cause { IfErr result (CannotBegin frames.old) }
     {
-        let pending = Hits::new(alloc, keys.keys.len())?;
-        let main = Hits::new(alloc, keys.keys.len())?;
-        let extent = frames.look(pass, &Extent)?;
+        let mut scan = ScanCore::unread(alloc, frames, pass, keys)?;
         let snapshot = frames.pin(pass)?;
-        Ok(ScanCore::new(alloc, keys, snapshot, extent, true, pending, main))
+        scan.snapshot = snapshot;
+        scan.took_pin = true;
+        Ok(scan)
     }
 
     /// Begins a scan for the keys of a query in the snapshot that the pass has in use, of so many
@@ -214,8 +240,8 @@ impl ScanCore {
         commits: u32,
     ) -> Result<ScanCore, FrameError>
         requires pass { IsPassOf frames.old pass.old }
-        requires taken { (pin : Pin) × (pin_in pass.old.pin ≡ Some pin) × (commits ≡ pin.commits) }
         requires held { pass.old.held ≡ 0 }
+        requires taken { (pin : Pin) × (pin_in pass.old.pin ≡ Some pin) × (commits ≡ pin.commits) }
         ensures scanning { IfOk result (IsScanning frames.new pass.new) }
         ensures asks { IfOk result (λ s. (asked_in s ≡ map asked_by keys.keys.items)
             × (s.keys.all ≡ keys.all)) }
@@ -226,22 +252,15 @@ impl ScanCore {
         ensures took { IfOk result (λ s. s.took_pin ≡ false) }
         ensures pin { pass.new.pin ≡ pass.old.pin }
         ensures pins { frames.new.pins ≡ frames.old.pins }
-        ensures adds { AddsNothing D.Disk frames.old frames.new }
-        ensures lying { LieStill frames.old frames.new }
-        ensures keeps { KeepsWork pass.old pass.new }
-        ensures holds { pass.new.holds ≡ pass.old.holds }
         ensures counted { IfOk result (λ s. IsCounted pass.old.holds s pass.new.holds) }
-        ensures calm { IsCalm D.Disk frames.old.journal frames.new.journal }
-        ensures is_pass { IsPassOf frames.new pass.new }
-        ensures idle { pass.new.held ≡ 0 }
+        ensures reads { BeginsReading D.Disk frames.old pass.old frames.new pass.new }
 
         // The refusals.
         ensures cause { IfErr result (CannotBegin frames.old) }
     {
-        let pending = Hits::new(alloc, keys.keys.len())?;
-        let main = Hits::new(alloc, keys.keys.len())?;
-        let extent = frames.look(pass, &Extent)?;
-        Ok(ScanCore::new(alloc, keys, commits, extent, false, pending, main))
+        let mut scan = ScanCore::unread(alloc, frames, pass, keys)?;
+        scan.snapshot = commits;
+        Ok(scan)
     }
 
     /// Whether no further step reads anything.
@@ -257,25 +276,18 @@ impl ScanCore {
         alloc: Global,
         frames: &mut Frames<D>,
         pass: &mut Pass,
+        check: &M,
         class: &OpClass<Q, W, C, J>,
         query: &Q,
         work: &mut W,
-        check: &M,
     ) -> Result<(), FrameError>
         requires may { MayStep D.Disk (meaning W.asked W.all W.satisfies W.judged) query.now
             frames.old pass.old self.old }
         requires more { IsAtEnd self.old → ⊥ }
         requires serves { J.serves work.old query.now }
         ensures serves { J.serves work.new query.now }
-        ensures took { self.new.took_pin ≡ self.old.took_pin }
-        ensures stepped { OnOk result
-            (HasStepped D.Disk (meaning W.asked W.all W.satisfies W.judged) query.now frames.old
-            self.old frames.new pass.new self.new) }
-        ensures counted { OnOk result (CountsOn self.old pass.old.holds self.new pass.new.holds) }
-        ensures reads { ReadsOn D.Disk frames.old pass.old frames.new pass.new }
-        ensures fault { HoldHasCause D.Disk frames.old.journal frames.new.journal result }
-        ensures cause { IfErr result (CannotStep frames.old self.old self.old.stage) }
-        ensures lawful { IfErr result (IsLawfulRefusal D.Disk frames.old) }
+        ensures is_step { IsStepOf D.Disk (meaning W.asked W.all W.satisfies W.judged) query.now
+            frames.old pass.old self.old frames.new pass.new self.new result }
     {
         match self.stage {
             Stage::Meta => self.read_meta(frames, pass, query, work),
@@ -332,8 +344,19 @@ impl ScanCore {
         if self.is_done() {
             return Ok(false);
         }
-        self.go_on(alloc, frames, pass, class, query, work, check)?;
+        self.go_on(alloc, frames, pass, check, class, query, work)?;
         Ok(true)
+    }
+
+    /// Gives up the snapshot of the pass, if the scan took it.
+    fn give_up<D: Disk>(&self, frames: &mut Frames<D>, pass: &mut Pass)
+        requires pass { IsPassOf frames.old pass.old }
+        requires held { pass.old.held ≡ 0 }
+        ensures ends { EndsReading D.Disk self.now frames.old pass.old frames.new pass.new }
+    {
+        if self.took_pin {
+            frames.unpin(pass);
+        }
     }
 
     /// What was found. The snapshot is given up. It takes no memory.
@@ -350,17 +373,14 @@ impl ScanCore {
             → pin_in pass.old.pin ≡ Some pin
             → HasFound (meaning W.asked W.all W.satisfies W.judged) q R pin result) }
     {
+        self.give_up(frames, pass);
         let ScanCore {
-            took_pin,
             kept,
             names,
             heads_read,
             pages_read,
             ..
         } = self;
-        if took_pin {
-            frames.unpin(pass);
-        }
         Found {
             names,
             heads_read,
@@ -375,9 +395,7 @@ impl ScanCore {
         requires held { pass.old.held ≡ 0 }
         ensures ends { EndsReading D.Disk self frames.old pass.old frames.new pass.new }
     {
-        if self.took_pin {
-            frames.unpin(pass);
-        }
+        self.give_up(frames, pass);
         drop(self);
     }
 }

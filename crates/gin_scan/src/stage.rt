@@ -2,7 +2,7 @@
 use page_types::Name;
 
 /// What a scan reads next.
-#[derive(Clone, Copy, Debug, PartialEq, Eq)]
+#[derive(Clone, Copy, Debug)]
 pub(crate) enum Stage {
     /// The metapage.
     Meta,
@@ -19,7 +19,7 @@ pub(crate) enum Stage {
 }
 
 /// A document of the snapshot whose vector is on overflow pages, and is still to be matched.
-#[derive(Clone, Copy, Debug, PartialEq, Eq)]
+#[derive(Clone, Copy, Debug)]
 pub(crate) struct LongVector {
     /// The document's name.
     pub(crate) name: Name,

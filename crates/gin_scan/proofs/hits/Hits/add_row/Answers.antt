@@ -1,12 +1,8 @@
-use Rattle.std.specs.Prelude.{Vec}
-use Rattle.std.specs.declared.alloc.Global.{Global}
-use Rattle.std.proofs.Common.{◌≡◌, ◌∙◌, ℕ, Bool, List, length, map, take, sym, ap, arith}
+use Rattle.std.proofs.Common.{◌≡◌, ◌∙◌, List, length, map, take, ap, arith}
 use Rattle.std.proofs.lemmas.List.{length-map, length-set, take_all}
 use Rattle.page_types.specs.Parts.{row_shown}
 use Rattle.gin_opclass.specs.Class.{Asked}
-use Rattle.std.specs.List.{list_any}
-use Rattle.core_moments.specs.Judging.{fits_asked}
-use Rattle.gin_scan.specs.Rows.{asked_for, asked_by, lists_of}
+use Rattle.gin_scan.specs.Rows.{asked_by, lists_of}
 use Rattle.gin_scan.specs.declared.hits.Hits.{Hits}
 use Rattle.gin_scan.proofs.AddedRows.{added, step_fitting, step_other, fits_told, noted_row}
 use Rattle.gin_scan.proofs.hits.Hits.add_row.Goals as goal
@@ -22,10 +18,8 @@ loop-k-preserved g c =
     let was = c.loop-k.invariant in
     let a = c.index-asked-k.result in
     let told = fits_told asked row old now k a c.loop-k-test.true c.index-asked-k.is was.lists was.by_key
-    c.has_fitting.result c.index-asked-k-in-loop-k.result c.as_slice.result.now c.index-asked-k-in-loop-k.is
-    (c.as_slice.ensures.value ∙ ap (λ (z : Vec ℕ Global × Bool). z.0.items) (sym c.index-asked-k.is))
-    (c.has_fitting.ensures ∙ ap (λ (z : Vec ℕ Global × Bool).
-    list_any (fits_asked (asked_for c.as_slice.result.now z.1)) row.keys) (sym c.index-asked-k-in-loop-k.is)) in
+    c.has_fitting.result c.index-asked-k.result c.as_slice.result.now c.index-asked-k.is
+    c.as_slice.ensures.value c.has_fitting.ensures in
     elim c.if-has_fitting.branch [
       | then-has_fitting+in_ok-push-2 w ↦
           let v = w.index_mut.result.now in

@@ -1,7 +1,12 @@
-use Rattle.gin_scan.proofs.ReadCalls.{still_reads}
+-- Where all heads were read.
+use Rattle.gin_scan.proofs.ReadCalls.{still_reads, still_calm}
+use Rattle.gin_scan.proofs.StepsOf.{goes}
 use Rattle.gin_scan.proofs.scan_core.ScanCore.go_on_heads.Goals as goal
 
-pub returns-clause-reads : goal.returns-clause-reads
-returns-clause-reads g c =
-    still_reads g.D.Disk c.args.frames.now c.args.pass.now c.requires.may.scanning.is_pass
-    c.requires.may.scanning.held
+pub returns-clause-is_step : goal.returns-clause-is_step
+returns-clause-is_step g c =
+    let is = c.requires.may.scanning in
+    let f = c.args.frames.now in
+    goes g.D.Disk _ c.args.query.now f c.args.pass.now c.args.self.now f c.args.pass.now c.end_heads.new.self _
+    c.end_heads.ensures.took c.end_heads.ensures.stepped
+    (still_reads g.D.Disk f c.args.pass.now is.is_pass is.held) (still_calm g.D.Disk f.journal)

@@ -1,11 +1,28 @@
 -- Where no page is read.
-use Rattle.gin_scan.proofs.ReadCalls.{still_reads}
+use Rattle.std.proofs.Common.{refl}
+use Rattle.std.proofs.lemmas.Result.{err_from_is_err_and}
+use Rattle.buffer_frames.specs.declared.frame_error.FrameError.TheVariants.{OutOfMemory}
+use Rattle.gin_scan.specs.declared.stage.Stage.TheVariants as stage
+use Rattle.gin_scan.proofs.ListCauses.{step_cause}
+use Rattle.gin_scan.proofs.ReadCalls.{still_reads, still_calm}
+use Rattle.gin_scan.proofs.StepsOf.{goes, lacks}
 use Rattle.gin_scan.proofs.scan_core.ScanCore.go_on_list.Goals as goal
 
-pub returns-in_err-judge_all-clause-reads : goal.returns-in_err-judge_all-clause-reads
-returns-in_err-judge_all-clause-reads g c =
-    let is = c.requires.may.scanning in still_reads g.D.Disk c.args.frames.now c.args.pass.now is.is_pass is.held
+pub returns-in_err-judge_all-clause-is_step : goal.returns-in_err-judge_all-clause-is_step
+returns-in_err-judge_all-clause-is_step g c =
+    let p = err_from_is_err_and c.from_residual.result c.from_residual.ensures.1 in
+    let is = c.requires.may.scanning in
+    let f = c.args.frames.now in
+    let s = c.args.self.now in
+    lacks g.D.Disk _ c.args.query.now f c.args.pass.now s f c.args.pass.now c.judge_all.new.self
+    c.from_residual.result p.0 p.1 p.2 c.judge_all.ensures.took
+    (still_reads g.D.Disk f c.args.pass.now is.is_pass is.held) (still_calm g.D.Disk f.journal)
+    (step_cause f s (stage.Pending c.args.page c.args.left) OutOfMemory c.requires.stage (tt, λ z. refl))
 
-pub returns-then-page-eq0-clause-reads : goal.returns-then-page-eq0-clause-reads
-returns-then-page-eq0-clause-reads g c =
-    let is = c.requires.may.scanning in still_reads g.D.Disk c.args.frames.now c.args.pass.now is.is_pass is.held
+pub returns-then-page-eq0-clause-is_step : goal.returns-then-page-eq0-clause-is_step
+returns-then-page-eq0-clause-is_step g c =
+    let is = c.requires.may.scanning in
+    let f = c.args.frames.now in
+    goes g.D.Disk _ c.args.query.now f c.args.pass.now c.args.self.now f c.args.pass.now c.judge_all.new.self _
+    c.judge_all.ensures.took c.in_ok-judge_all.ensures.stepped
+    (still_reads g.D.Disk f c.args.pass.now is.is_pass is.held) (still_calm g.D.Disk f.journal)

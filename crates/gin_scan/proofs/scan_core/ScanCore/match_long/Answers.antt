@@ -1,8 +1,6 @@
 -- A long vector of which all parts were read is matched.
-use Rattle.std.proofs.Common.{◌<◌, length, subst, arith}
-use Rattle.gin_scan.specs.Scanning.{IsWithin}
+use Rattle.std.proofs.Common.{arith}
 use Rattle.gin_scan.proofs.PartsCalls.{match_stepped}
-use Rattle.gin_scan.proofs.Counted.{match_counted}
 use Rattle.gin_scan.proofs.scan_core.ScanCore.match_long.Goals as goal
 
 pub returns-clause-stepped : goal.returns-clause-stepped
@@ -10,11 +8,3 @@ returns-clause-stepped g c =
     match_stepped g.D.Disk _ c.args.query.now c.args.frames.now c.args.pass.now c.args.self.now c.requires.may c.args.at
     c.requires.stage.0 c.requires.stage.1 c.requires.stage.2 c.take_long.new.self c.begin_long.new.self _
     (omega arith) c.requires.stage.3 c.in_ok-take_long.ensures.taken c.begin_long.ensures
-
-pub returns-clause-counted : goal.returns-clause-counted
-returns-clause-counted g c =
-    let s = c.args.self.now in
-    let at = c.requires.stage in
-    let within : c.args.at < length s.long.items = subst (IsWithin s) at.2 c.requires.may.scanning.is_scan.within in
-    match_counted _ s c.take_long.new.self c.begin_long.new.self c.args.at _ at.0 at.1
-    c.args.pass.now.holds at.2 (omega arith) within c.in_ok-take_long.ensures.taken c.begin_long.ensures

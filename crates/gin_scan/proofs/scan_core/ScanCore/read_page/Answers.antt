@@ -1,37 +1,24 @@
 -- The heads of kept items are read.
-use Rattle.std.proofs.Common.{◌≡◌, ◌≤◌, ◌-◌, ℕ, Bool, List, length, sym, ap, subst, ◌∙◌, inr, arith}
-use Rattle.std.specs.Prelude.{Err, slice_range}
+use Rattle.std.proofs.Common.{◌≡◌, ◌≤◌, ◌-◌, ℕ, Bool, List, length, sym, ap, subst, inr, arith}
+use Rattle.std.specs.Prelude.{slice_range}
 use Rattle.std.proofs.lemmas.Result.{err_from_is_err_and}
 use Rattle.core_state.specs.States.{fate_of}
-use Rattle.buffer_frames.specs.declared.frame_error.FrameError.TheVariants.{Down}
-use Rattle.gin_scan.specs.Calls.{AddsNothing}
 use Rattle.gin_scan.specs.Causes.{HasSlots}
 use Rattle.gin_scan.proofs.HeadsRead.{seen_length, range_length}
+use Rattle.gin_scan.proofs.ListCalls.{still_looks}
 use Rattle.gin_scan.proofs.Refused.{RefusesPage, at_exit}
-use Rattle.gin_scan.proofs.ReadCalls.{calm_once, adds_once}
 use Rattle.gin_scan.proofs.scan_core.ScanCore.read_page.Goals as goal
 
-pub returns-then-not-is_heap-clause-adds : goal.returns-then-not-is_heap-clause-adds
-returns-then-not-is_heap-clause-adds g c = AddsNothing.stays
-
-pub returns-in_err-answer-clause-adds : goal.returns-in_err-answer-clause-adds
-returns-in_err-answer-clause-adds g c =
-    let e = c.look.ensures in
-    adds_once g.D.Disk _ _ (calm_once g.D.Disk _ _ e.added e.state e.runs_on e.begins e.calm e.pins)
+pub returns-then-not-is_heap-clause-looks : goal.returns-then-not-is_heap-clause-looks
+returns-then-not-is_heap-clause-looks g c = still_looks g.D.Disk c.args.frames.now c.args.pass.now c.requires.pass
 
 pub returns-in_err-answer-clause-error : goal.returns-in_err-answer-clause-error
 returns-in_err-answer-clause-error g c =
     let p = err_from_is_err_and c.from_residual.result c.from_residual.ensures.1 in
     let d = c.in_err-answer.ensures.error in
-    let is : c.look.result ≡ Err (Down d.0) = c.in_err-answer.was ∙ ap Err d.1 in
     at_exit (RefusesPage c.args.frames.now HasSlots c.args.number c.args.page.now) c.from_residual.result p.0
     c.in_err-answer.field-0.0 p.1 p.2
-    (inr (inr (d.0, d.1, (c.look.ensures.is_down d.0).0 is)))
-
-pub returns-in_err-seen-clause-adds : goal.returns-in_err-seen-clause-adds
-returns-in_err-seen-clause-adds g c =
-    let e = c.look.ensures in
-    adds_once g.D.Disk _ _ (calm_once g.D.Disk _ _ e.added e.state e.runs_on e.begins e.calm e.pins)
+    (inr (inr d))
 
 pub take_documents-requires-clause-within : goal.take_documents-requires-clause-within
 take_documents-requires-clause-within g c =
@@ -39,20 +26,10 @@ take_documents-requires-clause-within g c =
     let ks = c.as_slice.result.now in
     let same : ks ≡ c.args.self.now.kept.items = c.as_slice.ensures.value in
     let count : length c.in_ok-seen.seen.items ≡ length (slice_range ks c.args.from c.args.end) =
-    seen_length (fate_of c.look.new.self.journal.state) c.args.self.now.snapshot c.args.page.now
+    seen_length (fate_of c.look_on.new.frames.journal.state) c.args.self.now.snapshot c.args.page.now
     (slice_range ks c.args.from c.args.end) c.in_ok-seen.seen.items m in
     let part : length (slice_range ks c.args.from c.args.end) ≡ c.args.end - c.args.from =
     range_length ks c.args.from c.args.end
     (subst (λ (zs : List (ℕ × Bool)). c.args.end ≤ length zs) (sym same) c.requires.within) in
     let all : length c.as_slice-2.result.now ≡ length c.in_ok-seen.seen.items = ap length c.as_slice-2.ensures.value in
     omega (arith, count, part, c.requires.ordered, c.requires.within, all)
-
-pub returns-in_err-take_documents-clause-adds : goal.returns-in_err-take_documents-clause-adds
-returns-in_err-take_documents-clause-adds g c =
-    let e = c.look.ensures in
-    adds_once g.D.Disk _ _ (calm_once g.D.Disk _ _ e.added e.state e.runs_on e.begins e.calm e.pins)
-
-pub returns-clause-adds : goal.returns-clause-adds
-returns-clause-adds g c =
-    let e = c.look.ensures in
-    adds_once g.D.Disk _ _ (calm_once g.D.Disk _ _ e.added e.state e.runs_on e.begins e.calm e.pins)

@@ -1,73 +1,52 @@
 -- A scan begins in a snapshot that is in use, or is refused.
-use Rattle.std.proofs.Common.{◌≡◌, ℕ, List, [], length, replicate, sym, ap, subst, ◌∙◌, arith}
-use Rattle.std.specs.Prelude.{Err}
-use Rattle.std.proofs.lemmas.Result.{err_from_is_err_and}
+use Rattle.std.proofs.Common.{refl, ap, ◌∙◌}
 use Rattle.buffer_frames.specs.Passes.{pin_in}
-use Rattle.buffer_frames.specs.declared.frame_error.FrameError.TheVariants.{Down}
 use Rattle.gin_opclass.specs.Class.{meaning}
-use Rattle.gin_scan.specs.Calls.{AddsNothing}
-use Rattle.gin_scan.specs.Causes.{CannotBegin}
-use Rattle.gin_scan.proofs.BegunScans.{begun, begun_pass, begun_reached}
-use Rattle.gin_scan.proofs.ReadCalls.{calm_once, adds_once}
-use Rattle.gin_scan.proofs.Refused.{at_exit}
+use Rattle.gin_scan.proofs.BegunScans.{begun, begun_with, begun_pass, begun_reached, begun_asks, begun_counted}
+use Rattle.gin_scan.proofs.ListCalls.{look_begins}
 use Rattle.gin_scan.proofs.scan_core.ScanCore.within.Goals as goal
 
-pub returns-in_err-pending-clause-adds : goal.returns-in_err-pending-clause-adds
-returns-in_err-pending-clause-adds g c = AddsNothing.stays
-
-pub returns-in_err-main-clause-adds : goal.returns-in_err-main-clause-adds
-returns-in_err-main-clause-adds g c = AddsNothing.stays
-
-pub returns-in_err-extent-clause-adds : goal.returns-in_err-extent-clause-adds
-returns-in_err-extent-clause-adds g c =
-    let e = c.look.ensures in
-    adds_once g.D.Disk _ _ (calm_once g.D.Disk _ _ e.added e.state e.runs_on e.begins e.calm e.pins)
-
-pub returns-in_err-extent-clause-cause : goal.returns-in_err-extent-clause-cause
-returns-in_err-extent-clause-cause g c =
-    let r = c.from_residual-in_err-extent in
-    let p = err_from_is_err_and r.result r.ensures.1 in
-    let d = c.in_err-extent.ensures.error in
-    let is : c.look.result ≡ Err (Down d.0) = c.in_err-extent.was ∙ ap Err d.1 in
-    at_exit (CannotBegin c.args.frames.now) r.result p.0 c.in_err-extent.field-0.0 p.1 p.2
-    (subst (CannotBegin c.args.frames.now) (sym d.1) ((c.look.ensures.is_down d.0).0 is))
+pub returns-in_err-scan-clause-reads : goal.returns-in_err-scan-clause-reads
+returns-in_err-scan-clause-reads g c =
+    look_begins g.D.Disk c.args.frames.now c.unread.new.frames c.args.pass.now c.unread.new.pass c.requires.held
+    c.unread.ensures.looks
 
 pub returns-clause-scanning : goal.returns-clause-scanning
 returns-clause-scanning g c =
-    let all : c.args.keys.keys.len ≡ length c.args.keys.keys.items = omega (arith, c.args.keys.keys.ok) in
-    begun_pass c.look.new.self c.look.new.pass c.new-3.result c.args.keys c.args.commits c.in_ok-extent.extent
-    c.in_ok-pending.pending c.in_ok-main.main c.requires.taken.0 c.new-3.ensures.new
-    (c.in_ok-pending.ensures.by_key ∙ ap (λ (n : ℕ). replicate {A = List ℕ} n []) (c.len.ensures ∙ all))
-    (c.in_ok-main.ensures.by_key ∙ ap (λ (n : ℕ). replicate {A = List ℕ} n []) (c.len-2.ensures ∙ all))
-    c.look.ensures.pass
-    (c.look.ensures.keeps.held ∙ c.requires.held)
-    (ap pin_in c.look.ensures.keeps.pin ∙ c.requires.taken.1) c.requires.taken.2
+    let l = c.unread.ensures.looks in
+    let s = c.in_ok-scan.scan in
+    let b = begun_with c.unread.new.frames c.unread.new.frames c.args.keys s c.args.commits s.took_pin refl
+    c.in_ok-scan.ensures.begun in
+    begun_pass c.unread.new.frames c.args.keys _ b c.unread.new.pass c.requires.taken.0 l.is_pass
+    (l.held ∙ c.requires.held) (ap pin_in l.pin ∙ c.requires.taken.1) c.requires.taken.2
+
+pub returns-clause-asks : goal.returns-clause-asks
+returns-clause-asks g c = begun_asks c.unread.new.frames c.args.keys c.in_ok-scan.scan c.in_ok-scan.ensures.begun
 
 pub returns-clause-walk : goal.returns-clause-walk
 returns-clause-walk g c = λ q.
-    let all : c.args.keys.keys.len ≡ length c.args.keys.keys.items = omega (arith, c.args.keys.keys.ok) in
-    begun g.D.Disk _ q c.look.new.self c.look.new.pass c.new-3.result c.args.keys c.args.commits
-    c.in_ok-extent.extent (length c.args.keys.keys.items) c.in_ok-pending.pending c.in_ok-main.main c.new-3.ensures.new
-    c.in_ok-pending.ensures.any
-    (c.in_ok-pending.ensures.by_key ∙ ap (λ (n : ℕ). replicate {A = List ℕ} n []) (c.len.ensures ∙ all))
-    c.in_ok-main.ensures.any
-    (c.in_ok-main.ensures.by_key ∙ ap (λ (n : ℕ). replicate {A = List ℕ} n []) (c.len-2.ensures ∙ all))
-    c.look.ensures.pass c.in_ok-extent.ensures.answers
-
-pub returns-clause-adds : goal.returns-clause-adds
-returns-clause-adds g c =
-    let e = c.look.ensures in
-    adds_once g.D.Disk c.args.frames.now c.look.new.self
-    (calm_once g.D.Disk _ _ e.added e.state e.runs_on e.begins e.calm e.pins)
+    let s = c.in_ok-scan.scan in
+    let b = begun_with c.unread.new.frames c.unread.new.frames c.args.keys s c.args.commits s.took_pin refl
+    c.in_ok-scan.ensures.begun in
+    begun c.unread.new.frames c.args.keys _ b g.D.Disk _ q c.unread.new.pass c.unread.ensures.looks.is_pass
 
 pub returns-clause-reached : goal.returns-clause-reached
 returns-clause-reached g c = λ q.
-    let all : c.args.keys.keys.len ≡ length c.args.keys.keys.items = omega (arith, c.args.keys.keys.ok) in
-    begun_reached c.look.new.self
-    (meaning g.W.Meaning.asked g.W.Meaning.all g.W.Meaning.satisfies g.W.Meaning.judged)
-    q c.new-3.result c.args.keys c.args.commits
-    c.in_ok-extent.extent (length c.args.keys.keys.items) c.in_ok-pending.pending c.in_ok-main.main c.new-3.ensures.new
-    c.in_ok-pending.ensures.any
-    (c.in_ok-pending.ensures.by_key ∙ ap (λ (n : ℕ). replicate {A = List ℕ} n []) (c.len.ensures ∙ all))
-    c.in_ok-main.ensures.any
-    (c.in_ok-main.ensures.by_key ∙ ap (λ (n : ℕ). replicate {A = List ℕ} n []) (c.len-2.ensures ∙ all))
+    let s = c.in_ok-scan.scan in
+    let b = begun_with c.unread.new.frames c.unread.new.frames c.args.keys s c.args.commits s.took_pin refl
+    c.in_ok-scan.ensures.begun in
+    begun_reached c.unread.new.frames c.args.keys _ b
+    (meaning g.W.Meaning.asked g.W.Meaning.all g.W.Meaning.satisfies g.W.Meaning.judged) q
+
+pub returns-clause-counted : goal.returns-clause-counted
+returns-clause-counted g c =
+    let s = c.in_ok-scan.scan in
+    let b = begun_with c.unread.new.frames c.unread.new.frames c.args.keys s c.args.commits s.took_pin refl
+    c.in_ok-scan.ensures.begun in
+    begun_counted c.unread.new.frames c.args.keys _ b c.args.pass.now.holds c.unread.new.pass.holds
+    c.unread.ensures.looks.holds
+
+pub returns-clause-reads : goal.returns-clause-reads
+returns-clause-reads g c =
+    look_begins g.D.Disk c.args.frames.now c.unread.new.frames c.args.pass.now c.unread.new.pass c.requires.held
+    c.unread.ensures.looks
