@@ -18,7 +18,7 @@ use Rattle.core_state.specs.Steps.{RunsOwn}
 use Rattle.core_state.specs.declared.answers.Fate.TheVariants.{Running}
 use Rattle.core_state.proofs.Showing.{shown_one}
 use Rattle.core_state.proofs.Steps.Seen.{own_holds, seen_shown}
-use Rattle.buffer_frames.specs.Frames.{Stands}
+use Rattle.buffer_frames.specs.Frames.{FramesValue, Stands, KeepsState}
 use Rattle.buffer_frames.specs.Passes.{IsPassOf, IsHolding, HasAdded, PassRises, Seen, SeesOn, view_of, xids_of}
 use Rattle.buffer_frames.specs.declared.pass.Pass.{Pass}
 use Rattle.buffer_frames.proofs.AtHand.{log_length, none_held}
@@ -27,6 +27,14 @@ use Rattle.engine.specs.Db.{DbValue}
 use Rattle.engine.specs.Inner.Parts.{KeepsWork, IsPlacedSoFar, IsRowedSoFar, AreIndexed, CarriesOwn}
 
 -- ── a running transaction's documents in a later log ──
+
+-- calls one after another that leave the state of the records
+pub state_in_turn : {D : Type 0} (f g h : FramesValue D) → KeepsState f g → KeepsState g h → KeepsState f h
+state_in_turn f g h x y = record {
+  state = y.state ∙ x.state;
+  owes = y.owes ∙ x.owes;
+  work = y.work ∙ x.work;
+}
 
 -- a log cut twice
 pub cut_cut : (n m : ℕ) (R : Log) → n ≤ m → m ≤ length R → cut n (cut m R) ≡ cut n R

@@ -46,7 +46,7 @@ use Rattle.engine.specs.Inner.Choosing.{LiesAsBefore, IsPassedOver, WorksOn, Hol
 use Rattle.engine.specs.Inner.Choosing.{CannotTake, CannotChoose}
 use Rattle.engine.specs.declared.error.DbError.{DbError}
 use Rattle.engine.specs.declared.error.DbError.TheVariants as store
-use Rattle.engine.proofs.Carrying.{carries, carries_still, carries_on, keeps_still, keeps_on}
+use Rattle.engine.proofs.Carrying.{state_in_turn, carries, carries_still, carries_on, keeps_still, keeps_on}
 use Rattle.engine.proofs.Paths.{one_nothing, goes_still, later_on, calm_step, none_in_turn, fault_in_turn}
 
 -- ── what lies in memory ──
@@ -169,7 +169,7 @@ module _ {D : Type 0} (device : Disk D) where
     is_pass = of;
     carries = carries_still device s p;
     goes = stays;
-    state = record { state = refl; owes = refl };
+    state = record { state = refl; owes = refl; work = refl };
     pins = refl;
     lying = λ q c lies. lies;
     keeps = keeps_still p;
@@ -182,7 +182,7 @@ module _ {D : Type 0} (device : Disk D) where
     is_pass = y.is_pass;
     carries = carries_on device a b c p q r x.keeps.xid x.carries y.carries;
     goes = goes_still device x.goes y.goes;
-    state = record { state = y.state.state ∙ x.state.state; owes = y.state.owes ∙ x.state.owes };
+    state = state_in_turn a.frames b.frames c.frames x.state y.state;
     pins = y.pins ∙ x.pins;
     lying = λ n d lies. x.lying n d (y.lying n d lies);
     keeps = keeps_on p q r x.keeps y.keeps;
@@ -255,7 +255,7 @@ module _ {D : Type 0} (device : Disk D) where
     is_pass = of;
     carries = carries_on device a b c p q r w.keeps.xid w.carries (carries device b c q r added sees rises of);
     goes = goes_still device w.goes (one_nothing device (calm_step device b c added state runs begins calm pins));
-    state = record { state = state.state ∙ w.state.state; owes = state.owes ∙ w.state.owes };
+    state = state_in_turn a.frames b.frames c.frames w.state state;
     pins = pins ∙ w.pins;
     lying = back_lying a b c x w.lying was is others;
     keeps = keeps_on p q r w.keeps

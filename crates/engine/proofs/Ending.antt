@@ -34,6 +34,7 @@ given_up f pass of = record {
   few = of.few;
   now = of.now;
   below = of.below;
+  work = of.work;
 }
 
 module _ {D : Type 0} (device : Disk D) where

@@ -105,29 +105,48 @@ module _ {D : Type 0} (device : Disk D) where
     opened = refl;
     flushed = omega arith;
     before = λ t m c le i. i;
-    since = λ t found opens c commits le had. had;
+    since = λ t found R H begins c commits le had. had;
     pages = λ t. kept_still device (disk_of s);
     up = λ up. up;
   }
 
-  runs_in_turn : (a b c : DbValue D) → TimeGoesOn device a b → RunsOn device a.frames b.frames
+  -- the journal stands for some log and its history, if it did
+  abbrev ThenBegins : DbValue D → DbValue D → Type 0
+  ThenBegins a b =
+      device.tells → (found : History) (R : Log) (H : History) → BeginsBy device a.frames.journal found R H
+      → (R' : Log) × (H' : History) × BeginsBy device b.frames.journal found R' H'
+
+  runs_in_turn : (a b c : DbValue D) → TimeGoesOn device a b → ThenBegins a b → RunsOn device a.frames b.frames
       → RunsOn device b.frames c.frames → RunsOn device a.frames c.frames
-  runs_in_turn a b c time p q = record {
+  runs_in_turn a b c time begins p q = record {
     limit = q.limit ∙ p.limit;
     opened = q.opened ∙ p.opened;
     flushed = omega (arith, p.flushed, q.flushed);
     before = λ t m f le i. p.before t m f le (q.before t m f (omega (arith, le, time.time)) i);
-    since = λ t found opens at commits le had.
-        q.since t found (subst (λ (d : D). OpensTo (device.seen d) found) (sym p.opened) opens) at commits
-        (omega (arith, le, time.time)) (p.since t found opens at commits le had);
+    since = λ t found R H k at commits le had.
+        let then = begins t found R H k in
+        q.since t found then.0 then.1 then.2 at commits (omega (arith, le, time.time))
+        (p.since t found R H k at commits le had);
     pages = λ t. kept_then device (disk_of a) (disk_of b) (disk_of c) (p.pages t) (q.pages t);
     up = λ up. p.up (q.up up);
   }
 
+  -- the journal stands for some log and its history, as at first, after a path
+  begins_of : {old new : DbValue D} {rs : List Record} → Goes device old new rs → ThenBegins old new
+  begins_of stays t found R H k = (R, H, k)
+  begins_of (nothing p s) t found R H k =
+      let b = begins_of p t found R H k in
+      (b.0, b.1, s.begins t found b.0 b.1 b.2)
+  begins_of (one {mid} {new} {rs} {r} p s) t found R H k =
+      let b = begins_of p t found R H k in
+      let more = s.begins t found b.0 b.1 b.2 in
+      (logged mid.frames.journal.owes r b.0, more.0, more.2)
+
   pub runs_of : {old new : DbValue D} {rs : List Record} → Goes device old new rs → RunsOn device old.frames new.frames
   runs_of {old} stays = runs_stay old
-  runs_of {old} (nothing {mid} {new} p s) = runs_in_turn old mid new (time_of device p) (runs_of p) s.runs_on
-  runs_of {old} (one {mid} {new} p s) = runs_in_turn old mid new (time_of device p) (runs_of p) s.runs_on
+  runs_of {old} (nothing {mid} {new} p s) =
+      runs_in_turn old mid new (time_of device p) (begins_of p) (runs_of p) s.runs_on
+  runs_of {old} (one {mid} {new} p s) = runs_in_turn old mid new (time_of device p) (begins_of p) (runs_of p) s.runs_on
 
   -- ── the history ──
 
@@ -225,7 +244,7 @@ module _ {D : Type 0} (device : Disk D) where
         writes = time.writes;
         flushed = runs.flushed;
         before = λ t m c lt i. runs.before t m c (omega (arith, lt)) i;
-        since = λ t found H f clock commits le had. runs.since t found f.entry clock commits le had;
+        since = λ t found H f clock commits le had. runs.since t found f.log H f.begins clock commits le had;
         pages = runs.pages;
-        kept = λ t found H f up. flushed t up found f.entry;
+        kept = λ t found H f up. flushed t up found f.log H f.begins;
       }

@@ -175,11 +175,11 @@ module _ {D : Type 0} (device : Disk D) where
   pub step_cause : (s : DbValue D) (core : ScanCore) (at : Stage) (w : FrameError) → IsUp s
       → CannotStep s.frames core at w → CannotFind device s (frame_refusal w)
   step_cause s core stage.Meta w up c = read_bad s HasMeta 0 w up (IsBadRead.meta refl) c
-  step_cause s core (stage.Pending page left) w up c = read_bad s HasRows page w up IsBadRead.rows c
+  step_cause s core (stage.Pending page left) w up c = read_bad s HasRows page w up IsBadRead.rows c.0
   step_cause s core (stage.Heads at) w up (inl e) =
       subst (λ (x : FrameError). CannotFind device s (frame_refusal x)) (sym e) tt
   step_cause s core (stage.Heads at) w up (inr c) = read_bad s HasSlots (page_of c.0) w up IsBadRead.heap c.3
-  step_cause s core (stage.Parts at page left) w up c = read_bad s HasPart page w up IsBadRead.part c
+  step_cause s core (stage.Parts at page left) w up c = read_bad s HasPart page w up IsBadRead.part c.0
   step_cause s core stage.Done w up c = absurd c
 
   -- how a step comes to a bad page

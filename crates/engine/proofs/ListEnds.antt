@@ -41,7 +41,7 @@ use Rattle.engine.specs.declared.error.DbError.{DbError}
 use Rattle.engine.specs.declared.error.DbError.TheVariants.{NoDocument, Conflict, StoreFull, LogFull, XidsSpent, Down}
 use Rattle.engine.specs.declared.error.DbError.TheVariants.{DiskFault, BadPage, OutOfMemory}
 use Rattle.engine.specs.declared.transaction.Transaction.{Transaction}
-use Rattle.engine.proofs.Carrying.{carries, carries_on, keeps_on}
+use Rattle.engine.proofs.Carrying.{state_in_turn, carries, carries_on, keeps_on}
 use Rattle.core_state.proofs.ChainLengths.{few_below, chain_once}
 use Rattle.engine.proofs.Choosing.{lies_one, none_at}
 use Rattle.engine.proofs.Lawful.{lies_is, not_none, small}
@@ -124,7 +124,7 @@ module _ {D : Type 0} (device : Disk D) where
     goes = goes_still device f.goes g.goes;
     met = none_in_turn device f.met g.met;
     rests = λ n e. g.rests n ((f.met).down ∙ e) ∙ f.rests n e;
-    state = record { state = (g.state).state ∙ (f.state).state; owes = (g.state).owes ∙ (f.state).owes };
+    state = state_in_turn a.frames b.frames c.frames f.state g.state;
     pins = g.pins ∙ f.pins;
     lying = λ n d there. ⊎_elim
         (λ (was : Lies b n d). ⊎_elim
@@ -154,7 +154,7 @@ module _ {D : Type 0} (device : Disk D) where
     is_pass = f.is_pass;
     carries = carries_on device a b c p q r (w.keeps).xid w.carries f.carries;
     goes = goes_still device w.goes f.goes;
-    state = record { state = (f.state).state ∙ (w.state).state; owes = (f.state).owes ∙ (w.state).owes };
+    state = state_in_turn a.frames b.frames c.frames w.state f.state;
     pins = f.pins ∙ w.pins;
     lying = λ n d there. ⊎_elim (λ (was : Lies b n d). w.lying n d was) (λ (i : In (sheet n d) xs). lay n d i)
         (f.lying n d there);

@@ -1,5 +1,5 @@
 -- A step on documents is logged, or refused.
-use Rattle.std.proofs.Common.{◌≡◌, ℕ, refl, subst}
+use Rattle.std.proofs.Common.{◌≡◌, ℕ, false, refl, subst}
 use Rattle.std.specs.Prelude.{◌↔◌, Option, Some, None, Result, Err}
 use Rattle.disk_trait.specs.declared.device.Disk.{Ghosts as Disk}
 use Rattle.wal.specs.Waiting.{limit_of, down_of, length_with}
@@ -7,7 +7,7 @@ use Rattle.page_types.specs.declared.record.Record.{Record}
 use Rattle.page_types.specs.declared.record.Kind.{Kind}
 use Rattle.page_types.specs.declared.record.Kind.TheVariants as kind
 use Rattle.buffer_frames.specs.Opens.{IsEarlyKind}
-use Rattle.buffer_frames.specs.Journals.{logged_bytes, IsSpent}
+use Rattle.buffer_frames.specs.Journals.{logged_bytes, is_work, IsSpent}
 use Rattle.buffer_frames.specs.LogCauses.{LogFullWhere}
 use Rattle.buffer_frames.specs.Passes.{xid_after}
 use Rattle.buffer_frames.specs.declared.log_error.LogError.{LogError}
@@ -27,6 +27,16 @@ early_of (kind.PutPending item serial) doc = tt
 early_of (kind.AddRow item serial) doc = tt
 early_of (kind.LinkPending item serial) doc = tt
 early_of _ doc = absurd doc
+
+-- it is no maintenance
+pub rests_of : (k : Kind) → ChangesDocument k → is_work k ≡ false
+rests_of (kind.PlaceHead item serial) doc = refl
+rests_of (kind.PutOverflow item serial) doc = refl
+rests_of (kind.MarkDeleted item serial) doc = refl
+rests_of (kind.PutPending item serial) doc = refl
+rests_of (kind.AddRow item serial) doc = refl
+rests_of (kind.LinkPending item serial) doc = refl
+rests_of _ doc = absurd doc
 
 pub no_begin : (k : Kind) → ChangesDocument k → k ≡ kind.Begin → ⊥
 no_begin k doc is = subst ChangesDocument is doc

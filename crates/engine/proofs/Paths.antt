@@ -93,10 +93,14 @@ module _ {D : Type 0} (device : Disk D) where
   path_state {a} {b} p = go p refl
     where
       go : {b : DbValue D} {rs : List Record} → Goes device a b rs → rs ≡ [] → KeepsState a.frames b.frames
-      go stays none = record { state = refl; owes = refl }
+      go stays none = record { state = refl; owes = refl; work = refl }
       go (nothing p s) none =
           let k = go p none in
-          record { state = (s.state).state ∙ k.state; owes = (s.state).owes ∙ k.owes }
+          record {
+            state = (s.state).state ∙ k.state;
+            owes = (s.state).owes ∙ k.owes;
+            work = (s.state).work ∙ k.work;
+          }
       go (one {rs = rs} {r = r} p s) none =
           absurd (omega (arith, length-append rs (r ∷ []), ap length none))
 
@@ -195,14 +199,16 @@ module _ {D : Type 0} (device : Disk D) where
       → RunsOn device a.frames b.frames
       → BeginsWith device a.frames.journal b.frames.journal (next_record a.frames.journal step)
       → WriteHasCause device (disk_of a) (disk_of b) r → b.frames.pins ≡ a.frames.pins
+      → b.frames.journal.work ≡ a.frames.journal.work
       → LogsOne device a b (next_record a.frames.journal step)
-  logged_step a b r x step ok added stands legal state full down runs begins cause pins = record {
+  logged_step a b r x step ok added stands legal state full down runs begins cause pins work = record {
     up = up_at_ok (fault_of a) r x down ok;
     added = subst (λ (n : ℕ). HasAdded device a.frames b.frames (n ∷ []))
         (sym (number_drawn (after_owed a.frames.journal.owes a.frames.journal.state) step.kind)) added;
     stands = stands;
     legal = legal;
     state = state;
+    work = work;
     room = subst (LogFullWhere (limit_of a.frames.journal.wal)
         (length_with a.frames.journal.wal (logged_bytes a.frames.journal (next_record a.frames.journal step))))
         ok full;

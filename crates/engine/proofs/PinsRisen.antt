@@ -1,6 +1,6 @@
 -- Snapshots in use over calls, and the sessions beside the one whose call it is.
-use Rattle.std.proofs.Common.{◌≡◌, ◌<◌, ◌≤◌, ℕ, List, length, get_or, sym, ap, subst, ◌∙◌, inl, inr, arith}
-use Rattle.std.specs.Prelude.{Option, Some, None, IfSome, MatchOption, slice_set, slice_get}
+use Rattle.std.proofs.Common.{◌≡◌, ◌<◌, ◌≤◌, ℕ, List, length, get_or, refl, sym, ap, subst, ◌∙◌, inl, inr, arith}
+use Rattle.std.specs.Prelude.{Option, Some, None, IfSome, MatchOption, slice_set, slice_get, max}
 use Rattle.std.proofs.lemmas.List.{length-set}
 use Rattle.std.proofs.lemmas.Option.{slice_get_within, slice_get-get_or}
 use Rattle.disk_trait.specs.declared.device.Disk.{Ghosts as Disk}
@@ -9,7 +9,7 @@ use Rattle.core_state.proofs.RunningOnes.{same_or_other}
 use Rattle.snap_pins.specs.Taken.{IsPinned}
 use Rattle.snap_pins.specs.declared.Pin.{Pin}
 use Rattle.buffer_frames.specs.Journals.{JournalValue}
-use Rattle.buffer_frames.specs.Passes.{HasPinned, in_use}
+use Rattle.buffer_frames.specs.Passes.{HasPinned, IsRightOf, in_use}
 use Rattle.buffer_frames.specs.declared.pass.Pass.{Pass}
 use Rattle.buffer_frames.specs.declared.pass.Pinned.{Pinned}
 use Rattle.buffer_frames.proofs.PassesOf.{set_at, set_else, some_one}
@@ -87,27 +87,39 @@ record Rises {D : Type 0} (a b : DbValue D) : Type 0 where
   pub flushed : flushed_of a ≤ flushed_of b
   pub records : (state_of a).records ≤ (state_of b).records
   pub pins : PinsRise a b
+  pub work : b.frames.journal.work ≡ a.frames.journal.work
 
 rises_in_turn : {D : Type 0} {a b c : DbValue D} → Rises a b → Rises b c → Rises a c
 rises_in_turn {D} {a} {b} {c} x y = record {
   flushed = omega (arith, x.flushed, y.flushed);
   records = omega (arith, x.records, y.records);
   pins = rise_in_turn a b c x.flushed x.records x.pins y.pins;
+  work = y.work ∙ x.work;
 }
 
 module _ {D : Type 0} (device : Disk D) where
   rises : {a b : DbValue D} {rs : List Record} → Goes device a b rs → Rises a b
-  rises stays = record { flushed = omega arith; records = omega arith; pins = λ place p is. inl is }
+  rises stays = record { flushed = omega arith; records = omega arith; pins = λ place p is. inl is; work = refl }
   rises (nothing p s) = rises_in_turn (rises p) (record {
     flushed = s.runs_on.flushed;
     records = s.added.longer;
     pins = s.pins;
+    work = s.state.work;
   })
   rises (one p s) = rises_in_turn (rises p) (record {
     flushed = s.runs_on.flushed;
     records = s.added.longer;
     pins = s.pins;
+    work = s.work;
   })
+
+  -- it has the right of maintenance still, where it has it
+  right_on : (n : ℕ) {a b : DbValue D} → Rises a b → (w : Option ℕ)
+      → IfSome w (λ at. (at ≤ (state_of a).records) × IsRightOf a.frames.journal.work (max at n))
+      → IfSome w (λ at. (at ≤ (state_of b).records) × IsRightOf b.frames.journal.work (max at n))
+  right_on n r None had = tt
+  right_on n r (Some at) had =
+      (omega (arith, had.0, r.records), subst (λ (o : Option ℕ). IsRightOf o (max at n)) (sym r.work) had.1)
 
   -- Another session stays one, where the call's own is one at its end.
   pub others_stay : {a b : DbValue D} {rs : List Record} → Goes device a b rs → (own : Pass) → IsSession b own
@@ -131,6 +143,7 @@ module _ {D : Type 0} (device : Disk D) where
             | inl old ↦ of.below place q old
             | inr new ↦ (omega (arith, of.now.0, new.0), omega (arith, of.now.1, new.1))
           ];
+          work = right_on p.seen r p.work of.work;
         };
         idle = session.idle;
       }

@@ -1,5 +1,5 @@
 -- A pass that holds no page may log a record that leaves none: it begins a transaction, or ends its own.
-use Rattle.std.proofs.Common.{◌≡◌, ◌≢◌, ◌⊎◌, inl, inr, ◌<◌, ◌≤◌, ◌-◌, ℕ, suc, [], length, refl, sym, ap}
+use Rattle.std.proofs.Common.{◌≡◌, ◌≢◌, ◌⊎◌, false, inl, inr, ◌<◌, ◌≤◌, ◌-◌, ℕ, suc, [], length, refl, sym, ap}
 use Rattle.std.proofs.Common.{subst, ◌∙◌, arith}
 use Rattle.std.proofs.Common.{length-drop}
 use Rattle.std.specs.Prelude.{◌↔◌, Option, Some, None, Result, Err}
@@ -19,7 +19,7 @@ use Rattle.buffer_frames.specs.Frames.{Stands, Behind}
 use Rattle.buffer_frames.specs.Passes.{IsPassOf, view_of, xids_of}
 use Rattle.buffer_frames.specs.declared.pass.Pass.{Pass}
 use Rattle.buffer_frames.proofs.AtHand.{log_length}
-use Rattle.buffer_frames.specs.Journals.{IsSpent, logged_bytes, next_record}
+use Rattle.buffer_frames.specs.Journals.{IsSpent, is_work, logged_bytes, next_record}
 use Rattle.buffer_frames.specs.LogCauses.{LogFullWhere}
 use Rattle.buffer_frames.specs.declared.log_error.LogError.{LogError}
 use Rattle.buffer_frames.specs.declared.log_error.LogError.TheVariants as logs
@@ -54,6 +54,12 @@ module _ {D : Type 0} (device : Disk D) (s : DbValue D) (pass : Pass) (x : ℕ) 
   plain_early kind.Abort may = tt
   plain_early _ may = absurd may
 
+  pub plain_rests : (k : Kind) → MayBePlain device s pass k x → is_work k ≡ false
+  plain_rests kind.Begin may = refl
+  plain_rests (kind.Commit n) may = refl
+  plain_rests kind.Abort may = refl
+  plain_rests _ may = absurd may
+
   -- it begins one where it has none
   pub plain_one : (k : Kind) → MayBePlain device s pass k x → k ≡ kind.Begin → pass.xid ≡ None
   plain_one kind.Begin may is = may.0
@@ -84,16 +90,15 @@ module _ {D : Type 0} (device : Disk D) (s : DbValue D) (pass : Pass) (x : ℕ) 
     once = tt;
     fits = λ y i. absurd i;
     xid = plain_xid k may;
-    work = no_work k may;
+    work = λ is. absurd (no_work k may is);
     not_all = plain_not_all k may;
   }
     where
-      no_work : (k : Kind) → MayBePlain device s pass k x → IsMaintenance k
-          → (at : ℕ) × (let w : Option ℕ = None in w ≡ Some at)
-      no_work kind.Begin may is = absurd (omega (arith, is.0))
-      no_work (kind.Commit n) may is = absurd (omega (arith, is.0))
-      no_work kind.Abort may is = absurd (omega (arith, is.0))
-      no_work _ may is = absurd may
+      no_work : (k : Kind) → MayBePlain device s pass k x → IsMaintenance k → ⊥
+      no_work kind.Begin may is = omega (arith, is.0)
+      no_work (kind.Commit n) may is = omega (arith, is.0)
+      no_work kind.Abort may is = omega (arith, is.0)
+      no_work _ may is = may
 
   -- what it sees of its own transaction
   own_runs : (R : Log) → pass.xid ≡ Some x → fate (cut pass.seen R) x ≡ Running

@@ -103,7 +103,7 @@ spent_still a b keeps many =
 
 pub spent_first : {D : Type 0} (a b : DbValue D) → KeepsState a.frames b.frames → AreXidsSpent b → AreXidsSpent a
 spent_first a b keeps many =
-    spent_still b a (record { state = sym keeps.state; owes = sym keeps.owes }) many
+    spent_still b a (record { state = sym keeps.state; owes = sym keeps.owes; work = sym keeps.work }) many
 
 module _ {D : Type 0} (device : Disk D) (a m : DbValue D) (path : Goes device a m []) where
   -- its Begin is refused

@@ -51,6 +51,7 @@ module _ {D : Type 0} (device : Disk D) where
     pub legal : Behind device old.frames
         (λ (R : Log). IsLegal (logged old.frames.journal.owes r R))
     pub state : state_of new ≡ step_of r (state_then old)
+    pub work : new.frames.journal.work ≡ old.frames.journal.work
     pub room : length_with old.frames.journal.wal (logged_bytes old.frames.journal r)
         ≤ limit_of old.frames.journal.wal
     pub runs_on : RunsOn device old.frames new.frames

@@ -93,7 +93,7 @@ impl<D: Disk> Db<D> {
     ghost use Rattle.engine.specs.Causes.{IsNoPageAt, IsNone, IsHeap, IsNew};
     ghost use Rattle.engine.specs.Going.{Goes, FaultIsTold};
     ghost use Rattle.engine.specs.Inner.Parts.{CarriesOwn, KeepsWork, CannotHold};
-    ghost use Rattle.engine.specs.Inner.Choosing.{IsChosen, LiesAsBefore, WorksOn, HoldsNoMore, GivesBack, HoldsNew};
+    ghost use Rattle.engine.specs.Inner.Choosing.{IsChosen, WorksOn, HoldsNoMore, GivesBack, HoldsNew};
     ghost use Rattle.engine.specs.Inner.Choosing.{HoldsPlaced};
     ghost use Rattle.engine.specs.Inner.Choosing.{CannotTake, CannotChoose};
 
@@ -216,7 +216,7 @@ impl<D: Disk> Db<D> {
         requires few { pass.old.held < 4 }
         requires holding { (held : List SheetValue)
             × IsHolding D.Disk self.old.frames pass.old held }
-        ensures pass { IsPassOf self.new.frames pass.new }
+        ensures on { WorksOn D.Disk self.old pass.old self.new pass.new }
         ensures holding { (held : List SheetValue) → IsHolding D.Disk self.old.frames pass.old held
             → IfOk result (λ h. IsHolding D.Disk self.new.frames pass.new (h ∷ held)) }
         ensures lies { IfOk result (λ h. Lies self.old h.page h.content) }
@@ -224,13 +224,6 @@ impl<D: Disk> Db<D> {
         ensures unused { IfOk result (λ h. IsNew self.new pass.new.since h.content) }
         ensures is_new { IfOk result (λ h. Seen D.Disk self.new.frames pass.new
             (λ S P. IsNewSheet P pass.new.since h.page h.content)) }
-        ensures carries { CarriesOwn D.Disk self.old pass.old self.new pass.new }
-        ensures lying { LiesAsBefore self.old self.new }
-        ensures goes { Goes D.Disk self.old self.new [] }
-        ensures state { KeepsState self.old.frames self.new.frames }
-        ensures pins { self.new.frames.pins ≡ self.old.frames.pins }
-        ensures keeps { KeepsWork pass.old pass.new }
-        ensures rises { PassRises pass.old pass.new }
         ensures fault { FaultIsTold D.Disk self.old self.new result }
 
         // The refusals: no page more is held.

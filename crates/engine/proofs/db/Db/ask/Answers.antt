@@ -14,7 +14,7 @@ returns-clause-reads g c =
     let b : DbValue g.row.D.Denot = record { frames = c.look.new.self } in
     let e = c.look.ensures in
     subst (λ (s : DbValue g.row.D.Denot). ReadsOn g.D.Disk s c.args.pass.now b c.look.new.pass) c.self.view_is
-    (looked_on g.D.Disk a b c.args.pass.now c.look.new.pass c.requires.none e.pass e.added e.keeps e.rises e.xid
+    (looked_on g.D.Disk a b c.args.pass.now c.look.new.pass c.requires.none e.pass e.added e.keeps e.rises e.keeps.xid
     e.runs_on
     e.state e.others e.calm e.begins e.pins)
 

@@ -81,7 +81,7 @@ pub returns-in-Ok-clause-begun : goal.returns-in-Ok-clause-begun
 returns-in-Ok-clause-begun g c =
     let a : DbValue g.row.D.Denot = record { frames = c.self.inside.frames } in
     let m : DbValue g.row.D.Denot = record { frames = c.pin.new.self } in
-    let e = c.pin.ensures in
+    let e = c.pin.ensures.keeps in
     let path : Goes g.D.Disk c.args.self.now m [] =
     subst (λ (s : DbValue g.row.D.Denot). Goes g.D.Disk s m []) c.self.view_is
     (one_nothing g.D.Disk (pin_step g.D.Disk a m e.added e.journal e.begins c.in_ok-snapshot.ensures.pinned)) in
@@ -92,7 +92,7 @@ pub returns-in-Ok-clause-may : goal.returns-in-Ok-clause-may
 returns-in-Ok-clause-may g c =
     let m : DbValue g.row.D.Denot = record { frames = c.pin.new.self } in
     let same : m.frames.journal ≡ c.args.self.now.frames.journal =
-    c.pin.ensures.journal ∙ ap (λ (s : DbValue g.row.D.Denot). s.frames.journal) c.self.view_is in
+    c.pin.ensures.keeps.journal ∙ ap (λ (s : DbValue g.row.D.Denot). s.frames.journal) c.self.view_is in
     let n = c.in_ok-snapshot.snapshot in
     let taken : n ≡ flushed_of c.args.self.now =
     (c.in_ok-snapshot.ensures.pinned).commits ∙ ap (λ (j : JournalValue g.row.D.Denot). j.flushed) same in
@@ -111,17 +111,18 @@ returns-in-Err-clause-refused g c =
     let m : DbValue g.row.D.Denot = record { frames = c.pin.new.self } in
     let s : DbValue g.row.D.Denot = record { frames = c.self-2.inside.frames } in
     let b : DbValue g.row.D.Denot = record { frames = c.unpin.new.self } in
-    let e = c.pin.ensures in
+    let e = c.pin.ensures.keeps in
     let u = c.unpin.ensures in
     let path : Goes g.D.Disk c.args.self.now m [] =
     subst (λ (x : DbValue g.row.D.Denot). Goes g.D.Disk x m []) c.self.view_is
     (one_nothing g.D.Disk (pin_step g.D.Disk a m e.added e.journal e.begins c.in_ok-snapshot.ensures.pinned)) in
     let last : Goes g.D.Disk c.start.new.self b [] =
     subst (λ (x : DbValue g.row.D.Denot). Goes g.D.Disk x b []) c.self-2.view_is
-    (one_nothing g.D.Disk (unpin_step g.D.Disk s b c.start.new.pass.pin u.added u.journal u.begins u.pins)) in (
+    (one_nothing g.D.Disk
+    (unpin_step g.D.Disk s b c.start.new.pass.pin u.keeps.added u.keeps.journal u.keeps.begins u.pins)) in (
       record {
         is_pass = u.pass;
-        idle = (u.none, u.same.0 ∙ c.start.ensures.held, u.same.2 ∙ c.in-Err.ensures.same_xid);
+        idle = (u.none, u.keeps.same.0 ∙ c.start.ensures.held, u.keeps.same.2 ∙ c.in-Err.ensures.same_xid);
       },
       goes_on g.D.Disk path (goes_on g.D.Disk c.in-Err.ensures.refused last),
     )
@@ -131,12 +132,12 @@ returns-in-Err-clause-cause g c =
     let a : DbValue g.row.D.Denot = record { frames = c.self.inside.frames } in
     let m : DbValue g.row.D.Denot = record { frames = c.pin.new.self } in
     let b : DbValue g.row.D.Denot = record { frames = c.unpin.new.self } in
-    let e = c.pin.ensures in
+    let e = c.pin.ensures.keeps in
     let path : Goes g.D.Disk c.args.self.now m [] =
     subst (λ (x : DbValue g.row.D.Denot). Goes g.D.Disk x m []) c.self.view_is
     (one_nothing g.D.Disk (pin_step g.D.Disk a m e.added e.journal e.begins c.in_ok-snapshot.ensures.pinned)) in
     let same : m.frames.journal ≡ c.args.self.now.frames.journal =
-    c.pin.ensures.journal ∙ ap (λ (s : DbValue g.row.D.Denot). s.frames.journal) c.self.view_is in
+    c.pin.ensures.keeps.journal ∙ ap (λ (s : DbValue g.row.D.Denot). s.frames.journal) c.self.view_is in
     let n = c.in_ok-snapshot.snapshot in
     let taken : n ≡ flushed_of c.args.self.now =
     (c.in_ok-snapshot.ensures.pinned).commits ∙ ap (λ (j : JournalValue g.row.D.Denot). j.flushed) same in

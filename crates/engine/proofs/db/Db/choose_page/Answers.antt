@@ -42,7 +42,7 @@ asked g c =
     c.loop-number.invariant.works
     (subst (λ (s : DbValue g.row.D.Denot). WorksOn g.D.Disk s c.loop-number.pass b q) c.self.view_is
     (looked g.D.Disk (record { frames = c.self.inside.frames }) b c.loop-number.pass q l.pass l.sees_on l.added l.keeps
-    l.rises l.xid l.runs_on l.state l.pins l.others l.calm l.begins))
+    l.rises l.keeps.xid l.runs_on l.state l.pins l.others l.calm l.begins))
 
 met : (g : Over) (c : After-look g) → MetNoFault g.D.Disk c.args.self.now (record { frames = c.look.new.self })
 met g c =

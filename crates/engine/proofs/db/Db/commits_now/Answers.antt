@@ -98,7 +98,7 @@ pub list-listed-requires-clause-up : goal.list-listed-requires-clause-up
 list-listed-requires-clause-up g c =
     let a : DbValue g.row.D.Denot = record { frames = c.self.inside.frames } in
     let m : DbValue g.row.D.Denot = record { frames = c.pin.new.self } in
-    let e = c.pin.ensures in
+    let e = c.pin.ensures.keeps in
     let begins : Goes g.D.Disk c.args.self.now m [] =
     subst (λ (s : DbValue g.row.D.Denot). Goes g.D.Disk s m []) c.self.view_is
     (one_nothing g.D.Disk (pin_step g.D.Disk a m e.added e.journal e.begins c.in_ok-snapshot.ensures.pinned)) in
@@ -115,7 +115,7 @@ pub returns-clause-session : goal.returns-clause-session
 returns-clause-session g c =
     let a : DbValue g.row.D.Denot = record { frames = c.self.inside.frames } in
     let m : DbValue g.row.D.Denot = record { frames = c.pin.new.self } in
-    let e = c.pin.ensures in
+    let e = c.pin.ensures.keeps in
     let begins : Goes g.D.Disk c.args.self.now m [] =
     subst (λ (s : DbValue g.row.D.Denot). Goes g.D.Disk s m []) c.self.view_is
     (one_nothing g.D.Disk (pin_step g.D.Disk a m e.added e.journal e.begins c.in_ok-snapshot.ensures.pinned)) in
@@ -128,18 +128,20 @@ returns-clause-session g c =
     let u = c.unpin.ensures in
     let ends : Goes g.D.Disk c.list-listed.new.self b [] =
     subst (λ (s : DbValue g.row.D.Denot). Goes g.D.Disk s b []) c.self-2.view_is
-    (one_nothing g.D.Disk (unpin_step g.D.Disk s b c.list-listed.new.pass.pin u.added u.journal u.begins u.pins)) in
+    (one_nothing g.D.Disk
+    (unpin_step g.D.Disk s b c.list-listed.new.pass.pin u.keeps.added u.keeps.journal u.keeps.begins u.pins)) in
     let kept : b.frames.journal ≡ c.list-listed.new.self.frames.journal =
-    u.journal ∙ ap (λ (s : DbValue g.row.D.Denot). s.frames.journal) c.self-2.view_is in
+    u.keeps.journal ∙ ap (λ (s : DbValue g.row.D.Denot). s.frames.journal) c.self-2.view_is in
     session_after c.args.self.now b c.args.pass.now c.pin.new.pass c.list-listed.new.pass c.unpin.new.pass
-    c.requires.session e.same.2 c.list-listed.ensures.keeps.xid c.list-listed.ensures.reading.held u.same.0 u.same.2
+    c.requires.session e.same.2 c.list-listed.ensures.keeps.xid c.list-listed.ensures.reading.held u.keeps.same.0
+    u.keeps.same.2
     u.none u.pass
 
 pub returns-clause-listed : goal.returns-clause-listed
 returns-clause-listed g c =
     let a : DbValue g.row.D.Denot = record { frames = c.self.inside.frames } in
     let m : DbValue g.row.D.Denot = record { frames = c.pin.new.self } in
-    let e = c.pin.ensures in
+    let e = c.pin.ensures.keeps in
     let begins : Goes g.D.Disk c.args.self.now m [] =
     subst (λ (s : DbValue g.row.D.Denot). Goes g.D.Disk s m []) c.self.view_is
     (one_nothing g.D.Disk (pin_step g.D.Disk a m e.added e.journal e.begins c.in_ok-snapshot.ensures.pinned)) in
@@ -155,9 +157,10 @@ returns-clause-listed g c =
     let u = c.unpin.ensures in
     let ends : Goes g.D.Disk c.list-listed.new.self b [] =
     subst (λ (s : DbValue g.row.D.Denot). Goes g.D.Disk s b []) c.self-2.view_is
-    (one_nothing g.D.Disk (unpin_step g.D.Disk s b c.list-listed.new.pass.pin u.added u.journal u.begins u.pins)) in
+    (one_nothing g.D.Disk
+    (unpin_step g.D.Disk s b c.list-listed.new.pass.pin u.keeps.added u.keeps.journal u.keeps.begins u.pins)) in
     let kept : b.frames.journal ≡ c.list-listed.new.self.frames.journal =
-    u.journal ∙ ap (λ (s : DbValue g.row.D.Denot). s.frames.journal) c.self-2.view_is in
+    u.keeps.journal ∙ ap (λ (s : DbValue g.row.D.Denot). s.frames.journal) c.self-2.view_is in
     let all : n ≡ flushed_of c.args.self.now =
     pinned.commits ∙ ap (λ (j : JournalValue g.row.D.Denot). j.flushed) same in
     listed g.D.Disk c.args.self.now m c.list-listed.new.self b begins c.list-listed.ensures.goes ends same kept n up all
@@ -169,7 +172,7 @@ pub returns-clause-snapshot : goal.returns-clause-snapshot
 returns-clause-snapshot g c =
     let a : DbValue g.row.D.Denot = record { frames = c.self.inside.frames } in
     let m : DbValue g.row.D.Denot = record { frames = c.pin.new.self } in
-    let e = c.pin.ensures in
+    let e = c.pin.ensures.keeps in
     let begins : Goes g.D.Disk c.args.self.now m [] =
     subst (λ (s : DbValue g.row.D.Denot). Goes g.D.Disk s m []) c.self.view_is
     (one_nothing g.D.Disk (pin_step g.D.Disk a m e.added e.journal e.begins c.in_ok-snapshot.ensures.pinned)) in
@@ -182,19 +185,20 @@ returns-clause-snapshot g c =
     let u = c.unpin.ensures in
     let ends : Goes g.D.Disk c.list-listed.new.self b [] =
     subst (λ (s : DbValue g.row.D.Denot). Goes g.D.Disk s b []) c.self-2.view_is
-    (one_nothing g.D.Disk (unpin_step g.D.Disk s b c.list-listed.new.pass.pin u.added u.journal u.begins u.pins)) in
+    (one_nothing g.D.Disk
+    (unpin_step g.D.Disk s b c.list-listed.new.pass.pin u.keeps.added u.keeps.journal u.keeps.begins u.pins)) in
     let kept : b.frames.journal ≡ c.list-listed.new.self.frames.journal =
-    u.journal ∙ ap (λ (s : DbValue g.row.D.Denot). s.frames.journal) c.self-2.view_is in
+    u.keeps.journal ∙ ap (λ (s : DbValue g.row.D.Denot). s.frames.journal) c.self-2.view_is in
     snapshot_after c.args.self.now m b c.self.inside.frames c.args.pass.now c.pin.new.pass c.list-listed.new.pass
     c.unpin.new.pass n c.requires.session same pinned e.rises e.same.1 c.list-listed.ensures.keeps.room
-    c.list-listed.ensures.keeps.shown u.rises u.same.1
+    c.list-listed.ensures.keeps.shown u.keeps.rises u.keeps.same.1
     u.pass
 
 pub returns-clause-path : goal.returns-clause-path
 returns-clause-path g c =
     let a : DbValue g.row.D.Denot = record { frames = c.self.inside.frames } in
     let m : DbValue g.row.D.Denot = record { frames = c.pin.new.self } in
-    let e = c.pin.ensures in
+    let e = c.pin.ensures.keeps in
     let begins : Goes g.D.Disk c.args.self.now m [] =
     subst (λ (s : DbValue g.row.D.Denot). Goes g.D.Disk s m []) c.self.view_is
     (one_nothing g.D.Disk (pin_step g.D.Disk a m e.added e.journal e.begins c.in_ok-snapshot.ensures.pinned)) in
@@ -207,16 +211,17 @@ returns-clause-path g c =
     let u = c.unpin.ensures in
     let ends : Goes g.D.Disk c.list-listed.new.self b [] =
     subst (λ (s : DbValue g.row.D.Denot). Goes g.D.Disk s b []) c.self-2.view_is
-    (one_nothing g.D.Disk (unpin_step g.D.Disk s b c.list-listed.new.pass.pin u.added u.journal u.begins u.pins)) in
+    (one_nothing g.D.Disk
+    (unpin_step g.D.Disk s b c.list-listed.new.pass.pin u.keeps.added u.keeps.journal u.keeps.begins u.pins)) in
     let kept : b.frames.journal ≡ c.list-listed.new.self.frames.journal =
-    u.journal ∙ ap (λ (s : DbValue g.row.D.Denot). s.frames.journal) c.self-2.view_is in
+    u.keeps.journal ∙ ap (λ (s : DbValue g.row.D.Denot). s.frames.journal) c.self-2.view_is in
     read_path g.D.Disk c.args.self.now m c.list-listed.new.self b begins c.list-listed.ensures.goes ends
 
 pub returns-clause-fault : goal.returns-clause-fault
 returns-clause-fault g c =
     let a : DbValue g.row.D.Denot = record { frames = c.self.inside.frames } in
     let m : DbValue g.row.D.Denot = record { frames = c.pin.new.self } in
-    let e = c.pin.ensures in
+    let e = c.pin.ensures.keeps in
     let begins : Goes g.D.Disk c.args.self.now m [] =
     subst (λ (s : DbValue g.row.D.Denot). Goes g.D.Disk s m []) c.self.view_is
     (one_nothing g.D.Disk (pin_step g.D.Disk a m e.added e.journal e.begins c.in_ok-snapshot.ensures.pinned)) in
@@ -229,9 +234,10 @@ returns-clause-fault g c =
     let u = c.unpin.ensures in
     let ends : Goes g.D.Disk c.list-listed.new.self b [] =
     subst (λ (s : DbValue g.row.D.Denot). Goes g.D.Disk s b []) c.self-2.view_is
-    (one_nothing g.D.Disk (unpin_step g.D.Disk s b c.list-listed.new.pass.pin u.added u.journal u.begins u.pins)) in
+    (one_nothing g.D.Disk
+    (unpin_step g.D.Disk s b c.list-listed.new.pass.pin u.keeps.added u.keeps.journal u.keeps.begins u.pins)) in
     let kept : b.frames.journal ≡ c.list-listed.new.self.frames.journal =
-    u.journal ∙ ap (λ (s : DbValue g.row.D.Denot). s.frames.journal) c.self-2.view_is in
+    u.keeps.journal ∙ ap (λ (s : DbValue g.row.D.Denot). s.frames.journal) c.self-2.view_is in
     read_told g.D.Disk c.args.self.now m c.list-listed.new.self b begins c.list-listed.ensures.goes ends same kept
     c.list-listed.result c.list-listed.ensures.fault
 

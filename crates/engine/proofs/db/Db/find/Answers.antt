@@ -28,7 +28,8 @@ returns-in_err-scan-clause-reads g c =
     let e = c.within.ensures in
     subst (λ (s : DbValue g.row.D.Denot). EndsReading g.D.Disk s c.args.pass.now m c.within.new.pass) c.self.view_is
     (ends_now g.D.Disk a m c.args.pass.now c.within.new.pass
-    (begun_by g.D.Disk a m c.args.pass.now c.within.new.pass e.is_pass e.idle e.adds e.lying e.keeps e.pin))
+    (begun_by g.D.Disk a m c.args.pass.now c.within.new.pass e.reads.is_pass e.reads.held e.reads.adds e.reads.lying
+    e.reads.keeps e.pin))
 
 pub returns-in-Ok-clause-reads : goal.returns-in-Ok-clause-reads
 returns-in-Ok-clause-reads g c =
@@ -37,7 +38,8 @@ returns-in-Ok-clause-reads g c =
     let e = c.within.ensures in
     let begun : ReadsOn g.D.Disk c.args.self.now c.args.pass.now m c.within.new.pass =
     subst (λ (s : DbValue g.row.D.Denot). ReadsOn g.D.Disk s c.args.pass.now m c.within.new.pass) c.self.view_is
-    (begun_by g.D.Disk a m c.args.pass.now c.within.new.pass e.is_pass e.idle e.adds e.lying e.keeps e.pin) in
+    (begun_by g.D.Disk a m c.args.pass.now c.within.new.pass e.reads.is_pass e.reads.held e.reads.adds e.reads.lying
+    e.reads.keeps e.pin) in
     scan_ends g.D.Disk c.read_index.new.scan.core c.args.self.now m c.read_index.new.self
     (store_of c.self-2.inside.frames) (store_of c.finish.new.frames) c.args.pass.now c.within.new.pass
     c.read_index.new.pass c.finish.new.pass begun c.read_index.ensures.reads c.self-2.view_is c.finish.ensures.ends
@@ -50,11 +52,12 @@ returns-in-Ok-clause-found g c =
     let e = c.within.ensures in
     let begun : ReadsOn g.D.Disk c.args.self.now c.args.pass.now m c.within.new.pass =
     subst (λ (s : DbValue g.row.D.Denot). ReadsOn g.D.Disk s c.args.pass.now m c.within.new.pass) c.self.view_is
-    (begun_by g.D.Disk a m c.args.pass.now c.within.new.pass e.is_pass e.idle e.adds e.lying e.keeps e.pin) in
+    (begun_by g.D.Disk a m c.args.pass.now c.within.new.pass e.reads.is_pass e.reads.held e.reads.adds e.reads.lying
+    e.reads.keeps e.pin) in
     let reads = scan_ends g.D.Disk c.read_index.new.scan.core c.args.self.now m c.read_index.new.self
     (store_of c.self-2.inside.frames) b c.args.pass.now c.within.new.pass
     c.read_index.new.pass c.finish.new.pass begun c.read_index.ensures.reads c.self-2.view_is c.finish.ensures.ends in
-    let up_m : IsUp m = e.calm.down ∙ ap fault_of c.self.view_is ∙ c.requires.up in
+    let up_m : IsUp m = e.reads.calm.down ∙ ap fault_of c.self.view_is ∙ c.requires.up in
     let met : MetNoFault g.D.Disk m c.read_index.new.self = c.in-Ok.ensures.fault in
     let up_b : IsUp b =
     ap (λ (j : JournalValue g.row.D.Denot). down_of j.wal) c.finish.ensures.ends.journal
@@ -75,7 +78,8 @@ returns-in-Err-clause-reads g c =
     let e = c.within.ensures in
     let begun : ReadsOn g.D.Disk c.args.self.now c.args.pass.now m c.within.new.pass =
     subst (λ (s : DbValue g.row.D.Denot). ReadsOn g.D.Disk s c.args.pass.now m c.within.new.pass) c.self.view_is
-    (begun_by g.D.Disk a m c.args.pass.now c.within.new.pass e.is_pass e.idle e.adds e.lying e.keeps e.pin) in
+    (begun_by g.D.Disk a m c.args.pass.now c.within.new.pass e.reads.is_pass e.reads.held e.reads.adds e.reads.lying
+    e.reads.keeps e.pin) in
     scan_ends g.D.Disk c.read_index.new.scan.core c.args.self.now m c.read_index.new.self
     (store_of c.self-2.inside.frames) (store_of c.drop_scan.new.frames) c.args.pass.now c.within.new.pass
     c.read_index.new.pass c.drop_scan.new.pass begun c.read_index.ensures.reads c.self-2.view_is
@@ -88,7 +92,8 @@ returns-in-Err-clause-cause g c =
     let e = c.within.ensures in
     let begun : ReadsOn g.D.Disk c.args.self.now c.args.pass.now m c.within.new.pass =
     subst (λ (s : DbValue g.row.D.Denot). ReadsOn g.D.Disk s c.args.pass.now m c.within.new.pass) c.self.view_is
-    (begun_by g.D.Disk a m c.args.pass.now c.within.new.pass e.is_pass e.idle e.adds e.lying e.keeps e.pin) in
+    (begun_by g.D.Disk a m c.args.pass.now c.within.new.pass e.reads.is_pass e.reads.held e.reads.adds e.reads.lying
+    e.reads.keeps e.pin) in
     find_later g.D.Disk c.args.self.now m c.in-Err.refusal begun.goes c.in-Err.ensures.cause
 
 pub returns-in-Err-clause-lawful : goal.returns-in-Err-clause-lawful
@@ -98,9 +103,11 @@ returns-in-Err-clause-lawful g c =
     let e = c.within.ensures in
     let begun : ReadsOn g.D.Disk c.args.self.now c.args.pass.now m c.within.new.pass =
     subst (λ (s : DbValue g.row.D.Denot). ReadsOn g.D.Disk s c.args.pass.now m c.within.new.pass) c.self.view_is
-    (begun_by g.D.Disk a m c.args.pass.now c.within.new.pass e.is_pass e.idle e.adds e.lying e.keeps e.pin) in
+    (begun_by g.D.Disk a m c.args.pass.now c.within.new.pass e.reads.is_pass e.reads.held e.reads.adds e.reads.lying
+    e.reads.keeps e.pin) in
     let met : MetNoFault g.D.Disk c.args.self.now m =
-    subst (λ (s : DbValue g.row.D.Denot). MetNoFault g.D.Disk s m) c.self.view_is (calm_fault g.D.Disk a m e.calm) in
+    subst (λ (s : DbValue g.row.D.Denot). MetNoFault g.D.Disk s m) c.self.view_is
+    (calm_fault g.D.Disk a m e.reads.calm) in
     meets_later g.D.Disk c.args.self.now m c.in-Err.refusal begun.goes met c.in-Err.ensures.lawful
 
 pub returns-in-Err-clause-way : goal.returns-in-Err-clause-way
@@ -110,7 +117,8 @@ returns-in-Err-clause-way g c =
     let e = c.within.ensures in
     let begun : ReadsOn g.D.Disk c.args.self.now c.args.pass.now m c.within.new.pass =
     subst (λ (s : DbValue g.row.D.Denot). ReadsOn g.D.Disk s c.args.pass.now m c.within.new.pass) c.self.view_is
-    (begun_by g.D.Disk a m c.args.pass.now c.within.new.pass e.is_pass e.idle e.adds e.lying e.keeps e.pin) in
+    (begun_by g.D.Disk a m c.args.pass.now c.within.new.pass e.reads.is_pass e.reads.held e.reads.adds e.reads.lying
+    e.reads.keeps e.pin) in
     comes_later g.D.Disk c.args.query.now c.args.self.now m c.in-Err.refusal begun.goes
     (subst (λ (q : Query). ComesToBadPage g.D.Disk m q c.in-Err.refusal) c.in_ok-scan.ensures.query.query
     c.in-Err.ensures.way)

@@ -20,7 +20,7 @@ pub returns-clause-session : goal.returns-clause-session
 returns-clause-session g c =
     let u = c.unpin.ensures in
     let e = c.abort-answer.ensures in
-    record { is_pass = u.pass; idle = (u.none, u.same.0 ∙ e.held, u.same.2 ∙ e.xid) }
+    record { is_pass = u.pass; idle = (u.none, u.keeps.same.0 ∙ e.held, u.keeps.same.2 ∙ e.xid) }
 
 pub returns-clause-gone : goal.returns-clause-gone
 returns-clause-gone g c =
@@ -29,17 +29,18 @@ returns-clause-gone g c =
     let u = c.unpin.ensures in
     let last : Goes g.D.Disk c.abort-answer.new.self b [] =
     subst (λ (x : DbValue g.row.D.Denot). Goes g.D.Disk x b []) c.self.view_is
-    (one_nothing g.D.Disk (unpin_step g.D.Disk s b c.abort-answer.new.pass.pin u.added u.journal u.begins u.pins)) in
+    (one_nothing g.D.Disk
+    (unpin_step g.D.Disk s b c.abort-answer.new.pass.pin u.keeps.added u.keeps.journal u.keeps.begins u.pins)) in
     gives_still g.D.Disk c.abort-answer.ensures.gone last
 
 pub returns-clause-keeps : goal.returns-clause-keeps
 returns-clause-keeps g c =
     let u = c.unpin.ensures in
     let e = c.abort-answer.ensures in
-    record { room = u.same.1 ∙ (e.keeps).room; shown = omega (arith, (e.keeps).shown, (u.rises).shown) }
+    record { room = u.keeps.same.1 ∙ (e.keeps).room; shown = omega (arith, (e.keeps).shown, (u.keeps.rises).shown) }
 
 pub returns-clause-fault : goal.returns-clause-fault
 returns-clause-fault g c =
     tells_still g.D.Disk {m = c.abort-answer.new.self} c.args.refusal c.abort-answer.result
     c.abort-answer.ensures.fault
-    (c.unpin.ensures.journal ∙ ap (λ (s : DbValue g.row.D.Denot). s.frames.journal) c.self.view_is)
+    (c.unpin.ensures.keeps.journal ∙ ap (λ (s : DbValue g.row.D.Denot). s.frames.journal) c.self.view_is)

@@ -57,19 +57,12 @@ returns-in-Ok g c =
     let new = new_in_turn g.D.Disk c.args.self.now c.loop.self c.take_page.new.self c.args.pass.now c.loop.pass
     c.take_page.new.pass c.in-Ok.held was.works was.no_more here in
     record {
-      pass = works.is_pass;
+      on = works;
       holding = new.holding;
       lies = new.lies;
       taken = new.taken;
       unused = new.unused;
       is_new = new.is_new;
-      carries = works.carries;
-      lying = works.lying;
-      goes = works.goes;
-      state = works.state;
-      pins = works.pins;
-      rises = works.rises;
-      keeps = works.keeps;
       fault = none_in_turn g.D.Disk was.met e.fault;
       still = tt;
       held = tt;
@@ -80,34 +73,22 @@ pub returns : goal.returns
 returns g c =
     let was = c.loop.invariant in
     record {
-      pass = was.works.is_pass;
+      on = was.works;
       holding = λ held h. tt;
       lies = tt;
       taken = tt;
       unused = tt;
       is_new = tt;
-      carries = was.works.carries;
-      lying = was.works.lying;
-      goes = was.works.goes;
-      state = was.works.state;
-      pins = was.works.pins;
-      rises = was.works.rises;
-      keeps = was.works.keeps;
       fault = was.met;
       still = was.no_more.holding;
       held = was.no_more.held;
       cause = elim was.last [ inl none ↦ absurd (omega arith) | inr used ↦ used ];
     }
 
-pub returns-in_err-held-clause-carries : goal.returns-in_err-held-clause-carries
-returns-in_err-held-clause-carries g c =
-    (works_in_turn g.D.Disk c.args.self.now c.loop.self c.take_page.new.self c.args.pass.now c.loop.pass
-    c.take_page.new.pass c.loop.invariant.works c.take_page.ensures.on).carries
-
-pub returns-in_err-held-clause-goes : goal.returns-in_err-held-clause-goes
-returns-in_err-held-clause-goes g c =
-    (works_in_turn g.D.Disk c.args.self.now c.loop.self c.take_page.new.self c.args.pass.now c.loop.pass
-    c.take_page.new.pass c.loop.invariant.works c.take_page.ensures.on).goes
+pub returns-in_err-held-clause-on : goal.returns-in_err-held-clause-on
+returns-in_err-held-clause-on g c =
+    works_in_turn g.D.Disk c.args.self.now c.loop.self c.take_page.new.self c.args.pass.now c.loop.pass
+    c.take_page.new.pass c.loop.invariant.works c.take_page.ensures.on
 
 pub returns-in_err-held-clause-fault : goal.returns-in_err-held-clause-fault
 returns-in_err-held-clause-fault g c =

@@ -14,7 +14,7 @@ use Rattle.engine.specs.Inner.Changing.{LogsStep, CannotLog}
 use Rattle.engine.specs.Inner.Parts.{CarriesOwn}
 use Rattle.engine.specs.declared.error.DbError.{DbError}
 use Rattle.engine.proofs.Carrying.{carries}
-use Rattle.engine.proofs.Logging.{log_cause}
+use Rattle.engine.proofs.Logging.{early_of, rests_of, log_cause}
 use Rattle.engine.proofs.Paths.{one_nothing, calm_step, write_step, logged_step, write_told}
 use Rattle.engine.proofs.db.Db.log_one.Goals as goal
 
@@ -113,7 +113,9 @@ returns-clause-logged g c =
     (record {
       one =
           logged_step g.D.Disk a b c.log_step.result _ c.args.step c.in_ok-log_step.was f.added f.logged f.legal f.state
-          e.full e.is_down e.runs_on f.begins e.cause e.pins;
+          e.full e.is_down e.runs_on
+          (f.begins (early_of c.args.step.kind c.requires.document)) e.cause e.pins
+          (e.rests (rests_of c.args.step.kind c.requires.document));
       seen = subst (λ (l : List Sheet). Seen g.D.Disk b.frames c.log_step.new.pass
           (λ (S : Log) (P : Pages). IsLogged (view_of b.frames c.args.pass.now S l) c.args.step S P)) items f.seen;
       rises = (e.rises).seen;

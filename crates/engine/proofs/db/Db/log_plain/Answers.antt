@@ -1,11 +1,12 @@
 -- A record that leaves no page is logged, or refused.
-use Rattle.std.proofs.Common.{◌≡◌, ℕ, List, [], sym, ap, subst, ◌∙◌}
+use Rattle.std.proofs.Common.{◌≡◌, ℕ, List, [], false, sym, ap, subst, ◌∙◌}
 use Rattle.std.specs.Prelude.{Result, Ok, Err, IfErr}
 use Rattle.std.proofs.lemmas.Result.{err_from_is_err_and}
 use Rattle.core_state.specs.Allowed.{Sheet, Step, MayLog, Owes}
 use Rattle.core_state.specs.Log.{Log}
 use Rattle.buffer_frames.specs.Frames.{Stands, Behind}
-use Rattle.buffer_frames.specs.Journals.{next_record}
+use Rattle.buffer_frames.specs.Opens.{IsEarlyKind}
+use Rattle.buffer_frames.specs.Journals.{is_work, next_record}
 use Rattle.buffer_frames.specs.Passes.{IsPassOf, IsHolding, Seen, IsLogged, view_of}
 use Rattle.buffer_frames.specs.declared.log_error.LogError.TheVariants as logs
 use Rattle.buffer_frames.proofs.AtHand.{none_held}
@@ -19,7 +20,7 @@ use Rattle.engine.specs.Inner.Refusals.{log_refusal}
 use Rattle.engine.specs.declared.error.DbError.{DbError}
 use Rattle.engine.proofs.Carrying.{carries}
 use Rattle.engine.proofs.Paths.{write_step, write_told, logged_step}
-use Rattle.engine.proofs.Plain.{plain_may, plain_owes, refused_why, spent_when}
+use Rattle.engine.proofs.Plain.{plain_early, plain_rests, plain_may, plain_owes, refused_why, spent_when}
 use Rattle.engine.proofs.db.Db.log_plain.Goals as goal
 
 pub log_step-requires-clause-holding : goal.log_step-requires-clause-holding
@@ -128,7 +129,11 @@ returns-clause-logged g c =
     c.self.view_is
     (subst (λ (t : Step). LogsOne g.D.Disk a b (next_record a.frames.journal t)) c.new-step.ensures
     (logged_step g.D.Disk a b c.log_step.result c.in_ok-drawn.drawn c.new-step.result c.in_ok-drawn.was e.added
-    e.logged e.legal e.state all.full all.is_down all.runs_on e.begins all.cause all.pins))
+    e.logged e.legal e.state all.full all.is_down all.runs_on
+    (e.begins (subst (λ (t : Step). IsEarlyKind t.kind) (sym c.new-step.ensures)
+    (plain_early g.D.Disk c.args.self.now c.args.pass.now c.args.xid c.args.kind c.requires.may))) all.cause all.pins
+    (all.rests (subst (λ (t : Step). is_work t.kind ≡ false) (sym c.new-step.ensures)
+    (plain_rests g.D.Disk c.args.self.now c.args.pass.now c.args.xid c.args.kind c.requires.may)))))
 
 pub returns-clause-seen : goal.returns-clause-seen
 returns-clause-seen g c =

@@ -32,4 +32,5 @@ returns-in-Ok-clause-session g c =
 
 pub returns-in-Err-clause-pages : goal.returns-in-Err-clause-pages
 returns-in-Err-clause-pages g c = λ t.
-    same_pages g.D.Disk c.args.store c.in-Err.store (c.in-Err.ensures.refused_pages t) (c.in-Err.ensures.refused_seen t)
+    same_pages g.D.Disk c.args.store c.in-Err.store (c.in-Err.ensures.refused.keeps_pages t)
+    (c.in-Err.ensures.refused.pages t)

@@ -44,19 +44,9 @@ returns-in-Err-clause-on g c =
     let a : DbValue g.row.D.Denot = c.args.self.now in
     let b : DbValue g.row.D.Denot = record { frames = c.self.inside.frames } in
     let d : DbValue g.row.D.Denot = record { frames = c.release.new.self } in
-    let works : WorksOn g.D.Disk a c.args.pass.now c.hold_new_page.new.self c.hold_new_page.new.pass = record {
-      is_pass = e.pass;
-      carries = e.carries;
-      goes = e.goes;
-      state = e.state;
-      pins = e.pins;
-      lying = e.lying;
-      keeps = e.keeps;
-      rises = e.rises;
-    } in
     released g.D.Disk a b d c.args.pass.now c.hold_new_page.new.pass c.release.new.pass c.in_ok-held.held
     (subst (λ (s : DbValue g.row.D.Denot). WorksOn g.D.Disk a c.args.pass.now s c.hold_new_page.new.pass)
-    (sym c.self.view_is) works) e.lies
+    (sym c.self.view_is) e.on) e.lies
     r.pass r.sees_on r.added r.rises r.same r.runs_on r.state r.pins r.lies r.others r.calm r.begins
 
 pub returns-in-Err-clause-still : goal.returns-in-Err-clause-still

@@ -85,8 +85,8 @@ returns-in-Err-clause-running g c =
     running_back g.D.Disk c.args.self.now c.hold_new_page.new.self i e c.args.pass.now c.hold_new_page.new.pass
     c.release.new.pass c.args.work c.in_ok-heap.heap c.self.view_is run
     (carries_on g.D.Disk c.args.self.now c.hold_page.new.self c.hold_new_page.new.self c.args.pass.now
-    c.hold_page.new.pass c.hold_new_page.new.pass (h.keeps).xid h.carries n.carries)
-    (keeps_on c.args.pass.now c.hold_page.new.pass c.hold_new_page.new.pass h.keeps n.keeps)
+    c.hold_page.new.pass c.hold_new_page.new.pass (h.keeps).xid h.carries n.on.carries)
+    (keeps_on c.args.pass.now c.hold_page.new.pass c.hold_new_page.new.pass h.keeps n.on.keeps)
     (c.in-Err.ensures.still (c.in_ok-heap.heap ∷ []) held) f.pass f.holding f.sees_on f.added f.rises f.same
 
 pub returns-in-Err-clause-fault : goal.returns-in-Err-clause-fault
@@ -110,14 +110,14 @@ returns-in-Err-clause-refused g c =
     let i : DbValue g.row.D.Denot = record { frames = c.self.inside.frames } in
     let e : DbValue g.row.D.Denot = record { frames = c.release.new.self } in
     let f = c.release.ensures in
-    goes_still g.D.Disk (goes_still g.D.Disk c.hold_page.ensures.goes c.hold_new_page.ensures.goes)
+    goes_still g.D.Disk (goes_still g.D.Disk c.hold_page.ensures.goes c.hold_new_page.ensures.on.goes)
     (subst (λ (s : DbValue g.row.D.Denot). Goes g.D.Disk s e []) c.self.view_is
     (one_nothing g.D.Disk (calm_step g.D.Disk i e f.added f.state f.runs_on f.begins f.calm f.pins)))
 
 pub returns-in-Err-clause-cause : goal.returns-in-Err-clause-cause
 returns-in-Err-clause-cause g c =
     put_taken g.D.Disk c.args.self.now c.args.work.xid c.args.name c.hold_page.new.self c.hold_page.ensures.goes
-    (c.in_ok-heap.ensures.fault).down c.hold_new_page.new.self c.in-Err.error c.hold_new_page.ensures.goes
+    (c.in_ok-heap.ensures.fault).down c.hold_new_page.new.self c.in-Err.error c.hold_new_page.ensures.on.goes
     c.in-Err.ensures.cause
 
 pub returns-in-Err-clause-lawful : goal.returns-in-Err-clause-lawful
@@ -139,10 +139,10 @@ log_two-requires g c =
     let first : c.hold_page.new.pass.xid ≡ Some x = (h.keeps).xid ∙ run.xid in
     let serial : c.args.name.serial < 2 ^ 64 = omega arith in
     part_may_log g.D.Disk c.hold_new_page.new.self c.hold_new_page.new.pass c.in_ok-heap.heap c.in-Ok.new x c.args.name
-    next.0 next.1 c.args.part.now next.2 c.in-Ok-part_step.step ((n.keeps).xid ∙ first)
+    next.0 next.1 c.args.part.now next.2 c.in-Ok-part_step.step ((n.on.keeps).xid ∙ first)
     (c.in-Ok.ensures.holding (c.in_ok-heap.heap ∷ []) held) next.3 c.in_ok-heap.ensures.number
-    c.in-Ok-part_step.ensures.step n.pass
-    ((n.carries).placed x _ next.0 next.1 next.2 first ((h.carries).placed x _ next.0 next.1 next.2 run.xid next.4))
+    c.in-Ok-part_step.ensures.step n.on.is_pass
+    ((n.on.carries).placed x _ next.0 next.1 next.2 first ((h.carries).placed x _ next.0 next.1 next.2 run.xid next.4))
     c.in-Ok.ensures.is_new serial
 
 pub returns-in_err-log_two-in-Ok-part_step-clause-running : goal.returns-in_err-log_two-in-Ok-part_step-clause-running
@@ -150,21 +150,21 @@ returns-in_err-log_two-in-Ok-part_step-clause-running g c =
     let h = c.hold_page.ensures in
     let n = c.hold_new_page.ensures in
     let l = c.log_two.ensures in
-    let keeps = keeps_on c.args.pass.now c.hold_page.new.pass c.hold_new_page.new.pass h.keeps n.keeps in
+    let keeps = keeps_on c.args.pass.now c.hold_page.new.pass c.hold_new_page.new.pass h.keeps n.on.keeps in
     running_still g.D.Disk c.args.self.now c.log_two.new.self c.args.pass.now c.log_two.new.pass c.args.work
     c.requires.running l.pass l.none_held
     (keeps_on c.args.pass.now c.hold_new_page.new.pass c.log_two.new.pass keeps l.keeps)
     (carries_on g.D.Disk c.args.self.now c.hold_new_page.new.self c.log_two.new.self c.args.pass.now
     c.hold_new_page.new.pass c.log_two.new.pass keeps.xid
     (carries_on g.D.Disk c.args.self.now c.hold_page.new.self c.hold_new_page.new.self c.args.pass.now
-    c.hold_page.new.pass c.hold_new_page.new.pass (h.keeps).xid h.carries n.carries)
+    c.hold_page.new.pass c.hold_new_page.new.pass (h.keeps).xid h.carries n.on.carries)
     c.in_err-log_two-in-Ok-part_step.ensures.carries)
 
 pub returns-in_err-log_two-in-Ok-part_step-clause-fault : goal.returns-in_err-log_two-in-Ok-part_step-clause-fault
 returns-in_err-log_two-in-Ok-part_step-clause-fault g c =
     let p = err_from_is_err_and c.from_residual-in_err-log_two-in-Ok-part_step.result
     c.from_residual-in_err-log_two-in-Ok-part_step.ensures.1 in
-    let goes = goes_still g.D.Disk c.hold_page.ensures.goes c.hold_new_page.ensures.goes in
+    let goes = goes_still g.D.Disk c.hold_page.ensures.goes c.hold_new_page.ensures.on.goes in
     let none = none_in_turn g.D.Disk c.in_ok-heap.ensures.fault c.in-Ok.ensures.fault in
     told_in_turn g.D.Disk c.args.self.now c.hold_new_page.new.self c.log_two.new.self
     c.from_residual-in_err-log_two-in-Ok-part_step.result (time_of g.D.Disk goes) none
@@ -176,7 +176,7 @@ pub returns-in_err-log_two-in-Ok-part_step-clause-refused : goal.returns-in_err-
 returns-in_err-log_two-in-Ok-part_step-clause-refused g c =
     let p = err_from_is_err_and c.from_residual-in_err-log_two-in-Ok-part_step.result
     c.from_residual-in_err-log_two-in-Ok-part_step.ensures.1 in
-    let goes = goes_still g.D.Disk c.hold_page.ensures.goes c.hold_new_page.ensures.goes in
+    let goes = goes_still g.D.Disk c.hold_page.ensures.goes c.hold_new_page.ensures.on.goes in
     subst (λ (r : Result (Unit {0}) DbError). OnErr r (Goes g.D.Disk c.args.self.now c.log_two.new.self [])) (sym p.1)
     (goes_still g.D.Disk goes c.in_err-log_two-in-Ok-part_step.ensures.refused)
 
@@ -190,7 +190,7 @@ returns-in_err-log_two-in-Ok-part_step-clause-cause g c =
     subst (λ (r : Result (Unit {0}) DbError). IfErr r Why) (sym p.1)
     (subst Why (sym p.2)
     (put_logged g.D.Disk c.args.self.now c.args.work.xid c.args.name m
-    (goes_still g.D.Disk c.hold_page.ensures.goes c.hold_new_page.ensures.goes)
+    (goes_still g.D.Disk c.hold_page.ensures.goes c.hold_new_page.ensures.on.goes)
     (none_in_turn g.D.Disk c.in_ok-heap.ensures.fault c.in-Ok.ensures.fault).down
     (next_record m.frames.journal step) _
     (part_record (after_owed m.frames.journal.owes m.frames.journal.state) c.args.work.xid c.args.name
@@ -216,18 +216,19 @@ returns-in_ok-log_two-in-Ok-part_step-clause-running g c =
     let l = c.log_two.ensures in
     let x = c.args.work.xid in
     let first : c.hold_page.new.pass.xid ≡ Some x = (h.keeps).xid ∙ run.xid in
-    let keeps = keeps_on c.args.pass.now c.hold_page.new.pass c.hold_new_page.new.pass h.keeps n.keeps in
-    let runs = (n.carries).runs x first ((h.carries).runs x run.xid run.runs) in
+    let keeps = keeps_on c.args.pass.now c.hold_page.new.pass c.hold_new_page.new.pass h.keeps n.on.keeps in
+    let runs = (n.on.carries).runs x first ((h.carries).runs x run.xid run.runs) in
     running_on g.D.Disk c.args.self.now c.log_two.new.self c.args.pass.now c.log_two.new.pass c.args.work
     run l.pass l.none_held (keeps_on c.args.pass.now c.hold_new_page.new.pass c.log_two.new.pass keeps l.keeps)
     (runs_after g.D.Disk c.hold_new_page.new.self c.log_two.new.self c.hold_new_page.new.pass c.log_two.new.pass
-    (c.in-Ok.new ∷ c.in_ok-heap.heap ∷ []) c.in-Ok-part_step.step c.in_ok-log_two-in-Ok-part_step.ensures.logged n.pass
-    l.pass x ((n.keeps).xid ∙ first)
+    (c.in-Ok.new ∷ c.in_ok-heap.heap ∷ []) c.in-Ok-part_step.step c.in_ok-log_two-in-Ok-part_step.ensures.logged
+    n.on.is_pass
+    l.pass x ((n.on.keeps).xid ∙ first)
     (subst (λ (q : Step). ChangesDocument q.kind) (sym (c.in-Ok-part_step.ensures.step).step_is) tt) runs)
 
 pub returns-in_ok-log_two-in-Ok-part_step-clause-goes : goal.returns-in_ok-log_two-in-Ok-part_step-clause-goes
 returns-in_ok-log_two-in-Ok-part_step-clause-goes g c =
-    let goes = goes_still g.D.Disk c.hold_page.ensures.goes c.hold_new_page.ensures.goes in
+    let goes = goes_still g.D.Disk c.hold_page.ensures.goes c.hold_new_page.ensures.on.goes in
     let m = c.hold_new_page.new.self in (
       next_record m.frames.journal c.in-Ok-part_step.step,
       part_record (after_owed m.frames.journal.owes m.frames.journal.state) c.args.work.xid c.args.name
@@ -245,9 +246,9 @@ returns-in_ok-log_two-in-Ok-part_step-clause-put g c = λ bytes behind names nex
     let first : c.hold_page.new.pass.xid ≡ Some x = (h.keeps).xid ∙ run.xid in
     part_then g.D.Disk c.hold_new_page.new.self c.log_two.new.self c.hold_new_page.new.pass c.log_two.new.pass
     c.in_ok-heap.heap c.in-Ok.new x c.args.name c.args.part.now c.in-Ok-part_step.step c.in_ok-heap.ensures.number
-    c.in-Ok-part_step.ensures.step c.in_ok-log_two-in-Ok-part_step.ensures.logged n.pass c.log_two.ensures.pass
-    bytes behind names ((n.keeps).xid ∙ first) next c.in-Ok.ensures.is_new
-    ((n.carries).placed x _ bytes behind names first ((h.carries).placed x _ bytes behind names run.xid had))
+    c.in-Ok-part_step.ensures.step c.in_ok-log_two-in-Ok-part_step.ensures.logged n.on.is_pass c.log_two.ensures.pass
+    bytes behind names ((n.on.keeps).xid ∙ first) next c.in-Ok.ensures.is_new
+    ((n.on.carries).placed x _ bytes behind names first ((h.carries).placed x _ bytes behind names run.xid had))
 
 -- ── the step isn't made ──
 
@@ -285,13 +286,13 @@ returns-in-Err-part_step-clause-running g c =
     let n = c.hold_new_page.ensures in
     let f = c.release-in-Err-part_step.ensures in
     let l = c.release-in-Err-part_step-2.ensures in
-    let keeps = keeps_on c.args.pass.now c.hold_page.new.pass c.hold_new_page.new.pass h.keeps n.keeps in
+    let keeps = keeps_on c.args.pass.now c.hold_page.new.pass c.hold_new_page.new.pass h.keeps n.on.keeps in
     running_back g.D.Disk c.args.self.now b b e c.args.pass.now c.release-in-Err-part_step.new.pass
     c.release-in-Err-part_step-2.new.pass c.args.work c.in_ok-heap.heap refl run
     (carries_on g.D.Disk c.args.self.now m b c.args.pass.now c.hold_new_page.new.pass
     c.release-in-Err-part_step.new.pass keeps.xid
     (carries_on g.D.Disk c.args.self.now c.hold_page.new.self m c.args.pass.now c.hold_page.new.pass
-    c.hold_new_page.new.pass (h.keeps).xid h.carries n.carries)
+    c.hold_new_page.new.pass (h.keeps).xid h.carries n.on.carries)
     (subst (λ (s : DbValue g.row.D.Denot). CarriesOwn g.D.Disk s c.hold_new_page.new.pass b
     c.release-in-Err-part_step.new.pass) c.self.view_is
     (carries g.D.Disk i b c.hold_new_page.new.pass c.release-in-Err-part_step.new.pass f.added f.sees_on f.rises
@@ -310,7 +311,7 @@ returns-in-Err-part_step-clause-refused g c =
     let e : DbValue g.row.D.Denot = record { frames = c.release-in-Err-part_step-2.new.self } in
     let f = c.release-in-Err-part_step.ensures in
     let l = c.release-in-Err-part_step-2.ensures in
-    goes_still g.D.Disk (goes_still g.D.Disk c.hold_page.ensures.goes c.hold_new_page.ensures.goes)
+    goes_still g.D.Disk (goes_still g.D.Disk c.hold_page.ensures.goes c.hold_new_page.ensures.on.goes)
     (subst (λ (s : DbValue g.row.D.Denot). Goes g.D.Disk s e []) c.self.view_is
     (nothing
     (one_nothing g.D.Disk (calm_step g.D.Disk i b f.added f.state f.runs_on f.begins f.calm f.pins))

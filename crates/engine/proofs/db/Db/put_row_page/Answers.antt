@@ -78,8 +78,8 @@ returns-in-Err-clause-running g c =
     runs_back g.D.Disk c.args.self.now c.hold_new_page.new.self c.give_back.new.self c.args.pass.now
     c.hold_new_page.new.pass c.give_back.new.pass c.args.work (c.in_ok-heap.heap ∷ []) run
     (carries_on g.D.Disk c.args.self.now c.hold_page.new.self c.hold_new_page.new.self c.args.pass.now
-    c.hold_page.new.pass c.hold_new_page.new.pass (h.keeps).xid h.carries n.carries)
-    (keeps_on c.args.pass.now c.hold_page.new.pass c.hold_new_page.new.pass h.keeps n.keeps)
+    c.hold_page.new.pass c.hold_new_page.new.pass (h.keeps).xid h.carries n.on.carries)
+    (keeps_on c.args.pass.now c.hold_page.new.pass c.hold_new_page.new.pass h.keeps n.on.keeps)
     c.give_back.ensures (c.in-Err.ensures.still (c.in_ok-heap.heap ∷ []) held)
 
 pub returns-in-Err-clause-fault : goal.returns-in-Err-clause-fault
@@ -97,13 +97,13 @@ returns-in-Err-clause-fault g c =
 
 pub returns-in-Err-clause-refused : goal.returns-in-Err-clause-refused
 returns-in-Err-clause-refused g c =
-    goes_still g.D.Disk (goes_still g.D.Disk c.hold_page.ensures.goes c.hold_new_page.ensures.goes)
+    goes_still g.D.Disk (goes_still g.D.Disk c.hold_page.ensures.goes c.hold_new_page.ensures.on.goes)
     c.give_back.ensures.goes
 
 pub returns-in-Err-clause-cause : goal.returns-in-Err-clause-cause
 returns-in-Err-clause-cause g c =
     row_taken g.D.Disk c.args.self.now c.args.work.xid c.args.name c.hold_page.new.self c.hold_page.ensures.goes
-    (c.in_ok-heap.ensures.fault).down c.hold_new_page.new.self c.in-Err.error c.hold_new_page.ensures.goes
+    (c.in_ok-heap.ensures.fault).down c.hold_new_page.new.self c.in-Err.error c.hold_new_page.ensures.on.goes
     c.in-Err.ensures.cause
 
 pub returns-in-Err-clause-lawful : goal.returns-in-Err-clause-lawful
@@ -125,10 +125,10 @@ log_two-requires g c =
     let first : c.hold_page.new.pass.xid ≡ Some x = (h.keeps).xid ∙ run.xid in
     let serial : c.args.name.serial < 2 ^ 64 = omega arith in
     row_page_may_log g.D.Disk c.hold_new_page.new.self c.hold_new_page.new.pass c.in_ok-heap.heap c.in-Ok.new x
-    c.args.name next.0 c.args.rows next.1 next.2 next.3 c.in-Ok-rows_step.step ((n.keeps).xid ∙ first)
+    c.args.name next.0 c.args.rows next.1 next.2 next.3 c.in-Ok-rows_step.step ((n.on.keeps).xid ∙ first)
     (c.in-Ok.ensures.holding (c.in_ok-heap.heap ∷ []) held) next.4 c.in_ok-heap.ensures.number
-    c.in-Ok-rows_step.ensures.step n.pass
-    ((n.carries).rows x _ next.0 next.1 next.2 next.3 first
+    c.in-Ok-rows_step.ensures.step n.on.is_pass
+    ((n.on.carries).rows x _ next.0 next.1 next.2 next.3 first
     ((h.carries).rows x _ next.0 next.1 next.2 next.3 run.xid next.5))
     c.in-Ok.ensures.is_new serial
 
@@ -137,21 +137,21 @@ returns-in_err-log_two-in-Ok-rows_step-clause-running g c =
     let h = c.hold_page.ensures in
     let n = c.hold_new_page.ensures in
     let l = c.log_two.ensures in
-    let keeps = keeps_on c.args.pass.now c.hold_page.new.pass c.hold_new_page.new.pass h.keeps n.keeps in
+    let keeps = keeps_on c.args.pass.now c.hold_page.new.pass c.hold_new_page.new.pass h.keeps n.on.keeps in
     running_still g.D.Disk c.args.self.now c.log_two.new.self c.args.pass.now c.log_two.new.pass c.args.work
     c.requires.running l.pass l.none_held
     (keeps_on c.args.pass.now c.hold_new_page.new.pass c.log_two.new.pass keeps l.keeps)
     (carries_on g.D.Disk c.args.self.now c.hold_new_page.new.self c.log_two.new.self c.args.pass.now
     c.hold_new_page.new.pass c.log_two.new.pass keeps.xid
     (carries_on g.D.Disk c.args.self.now c.hold_page.new.self c.hold_new_page.new.self c.args.pass.now
-    c.hold_page.new.pass c.hold_new_page.new.pass (h.keeps).xid h.carries n.carries)
+    c.hold_page.new.pass c.hold_new_page.new.pass (h.keeps).xid h.carries n.on.carries)
     c.in_err-log_two-in-Ok-rows_step.ensures.carries)
 
 pub returns-in_err-log_two-in-Ok-rows_step-clause-fault : goal.returns-in_err-log_two-in-Ok-rows_step-clause-fault
 returns-in_err-log_two-in-Ok-rows_step-clause-fault g c =
     let p = err_from_is_err_and c.from_residual-in_err-log_two-in-Ok-rows_step.result
     c.from_residual-in_err-log_two-in-Ok-rows_step.ensures.1 in
-    let goes = goes_still g.D.Disk c.hold_page.ensures.goes c.hold_new_page.ensures.goes in
+    let goes = goes_still g.D.Disk c.hold_page.ensures.goes c.hold_new_page.ensures.on.goes in
     let none = none_in_turn g.D.Disk c.in_ok-heap.ensures.fault c.in-Ok.ensures.fault in
     told_in_turn g.D.Disk c.args.self.now c.hold_new_page.new.self c.log_two.new.self
     c.from_residual-in_err-log_two-in-Ok-rows_step.result (time_of g.D.Disk goes) none
@@ -163,7 +163,7 @@ pub returns-in_err-log_two-in-Ok-rows_step-clause-refused : goal.returns-in_err-
 returns-in_err-log_two-in-Ok-rows_step-clause-refused g c =
     let p = err_from_is_err_and c.from_residual-in_err-log_two-in-Ok-rows_step.result
     c.from_residual-in_err-log_two-in-Ok-rows_step.ensures.1 in
-    let goes = goes_still g.D.Disk c.hold_page.ensures.goes c.hold_new_page.ensures.goes in
+    let goes = goes_still g.D.Disk c.hold_page.ensures.goes c.hold_new_page.ensures.on.goes in
     subst (λ (r : Result ℕ DbError). OnErr r (Goes g.D.Disk c.args.self.now c.log_two.new.self [])) (sym p.1)
     (goes_still g.D.Disk goes c.in_err-log_two-in-Ok-rows_step.ensures.refused)
 
@@ -177,7 +177,7 @@ returns-in_err-log_two-in-Ok-rows_step-clause-cause g c =
     subst (λ (r : Result ℕ DbError). IfErr r Why) (sym p.1)
     (subst Why (sym p.2)
     (row_logged g.D.Disk c.args.self.now c.args.work.xid c.args.name m
-    (goes_still g.D.Disk c.hold_page.ensures.goes c.hold_new_page.ensures.goes)
+    (goes_still g.D.Disk c.hold_page.ensures.goes c.hold_new_page.ensures.on.goes)
     (none_in_turn g.D.Disk c.in_ok-heap.ensures.fault c.in-Ok.ensures.fault).down
     (next_record m.frames.journal step) _
     (row_page_record (after_owed m.frames.journal.owes m.frames.journal.state) c.args.work.xid c.args.name
@@ -203,18 +203,19 @@ returns-in_ok-log_two-in-Ok-rows_step-clause-running g c =
     let l = c.log_two.ensures in
     let x = c.args.work.xid in
     let first : c.hold_page.new.pass.xid ≡ Some x = (h.keeps).xid ∙ run.xid in
-    let keeps = keeps_on c.args.pass.now c.hold_page.new.pass c.hold_new_page.new.pass h.keeps n.keeps in
-    let runs = (n.carries).runs x first ((h.carries).runs x run.xid run.runs) in
+    let keeps = keeps_on c.args.pass.now c.hold_page.new.pass c.hold_new_page.new.pass h.keeps n.on.keeps in
+    let runs = (n.on.carries).runs x first ((h.carries).runs x run.xid run.runs) in
     running_on g.D.Disk c.args.self.now c.log_two.new.self c.args.pass.now c.log_two.new.pass c.args.work
     run l.pass l.none_held (keeps_on c.args.pass.now c.hold_new_page.new.pass c.log_two.new.pass keeps l.keeps)
     (runs_after g.D.Disk c.hold_new_page.new.self c.log_two.new.self c.hold_new_page.new.pass c.log_two.new.pass
-    (c.in-Ok.new ∷ c.in_ok-heap.heap ∷ []) c.in-Ok-rows_step.step c.in_ok-log_two-in-Ok-rows_step.ensures.logged n.pass
-    l.pass x ((n.keeps).xid ∙ first)
+    (c.in-Ok.new ∷ c.in_ok-heap.heap ∷ []) c.in-Ok-rows_step.step c.in_ok-log_two-in-Ok-rows_step.ensures.logged
+    n.on.is_pass
+    l.pass x ((n.on.keeps).xid ∙ first)
     (subst (λ (q : Step). ChangesDocument q.kind) (sym (c.in-Ok-rows_step.ensures.step).step_is) tt) runs)
 
 pub returns-in_ok-log_two-in-Ok-rows_step-clause-goes : goal.returns-in_ok-log_two-in-Ok-rows_step-clause-goes
 returns-in_ok-log_two-in-Ok-rows_step-clause-goes g c =
-    let goes = goes_still g.D.Disk c.hold_page.ensures.goes c.hold_new_page.ensures.goes in
+    let goes = goes_still g.D.Disk c.hold_page.ensures.goes c.hold_new_page.ensures.on.goes in
     let m = c.hold_new_page.new.self in (
       next_record m.frames.journal c.in-Ok-rows_step.step,
       row_page_record (after_owed m.frames.journal.owes m.frames.journal.state) c.args.work.xid c.args.name
@@ -234,9 +235,9 @@ returns-in_ok-log_two-in-Ok-rows_step-clause-put g c = λ v back last names next
     (c.args.rows ∷ back) (last_then last k) names) (sym c.number-number.ensures.value)
     (row_page_then g.D.Disk c.hold_new_page.new.self c.log_two.new.self c.hold_new_page.new.pass c.log_two.new.pass
     c.in_ok-heap.heap c.in-Ok.new x c.args.name c.args.rows c.in-Ok-rows_step.step c.in_ok-heap.ensures.number
-    c.in-Ok-rows_step.ensures.step c.in_ok-log_two-in-Ok-rows_step.ensures.logged n.pass c.log_two.ensures.pass
-    v back last names ((n.keeps).xid ∙ first) next
-    ((n.carries).rows x _ v back last names first ((h.carries).rows x _ v back last names run.xid had)))
+    c.in-Ok-rows_step.ensures.step c.in_ok-log_two-in-Ok-rows_step.ensures.logged n.on.is_pass c.log_two.ensures.pass
+    v back last names ((n.on.keeps).xid ∙ first) next
+    ((n.on.carries).rows x _ v back last names first ((h.carries).rows x _ v back last names run.xid had)))
 
 -- ── the step isn't made ──
 
@@ -269,8 +270,8 @@ returns-in-Err-rows_step-clause-running g c =
     c.hold_new_page.new.pass c.give_back-in-Err-rows_step-2.new.pass c.args.work (c.in-Ok.new ∷ c.in_ok-heap.heap ∷ [])
     run
     (carries_on g.D.Disk c.args.self.now c.hold_page.new.self m c.args.pass.now c.hold_page.new.pass
-    c.hold_new_page.new.pass (h.keeps).xid h.carries n.carries)
-    (keeps_on c.args.pass.now c.hold_page.new.pass c.hold_new_page.new.pass h.keeps n.keeps)
+    c.hold_new_page.new.pass (h.keeps).xid h.carries n.on.carries)
+    (keeps_on c.args.pass.now c.hold_page.new.pass c.hold_new_page.new.pass h.keeps n.on.keeps)
     (both_back g.D.Disk m c.give_back-in-Err-rows_step.new.self c.give_back-in-Err-rows_step-2.new.self
     c.hold_new_page.new.pass c.give_back-in-Err-rows_step.new.pass c.give_back-in-Err-rows_step-2.new.pass
     c.in-Ok.new c.in_ok-heap.heap c.give_back-in-Err-rows_step.ensures c.give_back-in-Err-rows_step-2.ensures) held
@@ -278,7 +279,7 @@ returns-in-Err-rows_step-clause-running g c =
 pub returns-in-Err-rows_step-clause-refused : goal.returns-in-Err-rows_step-clause-refused
 returns-in-Err-rows_step-clause-refused g c =
     goes_still g.D.Disk
-    (goes_still g.D.Disk (goes_still g.D.Disk c.hold_page.ensures.goes c.hold_new_page.ensures.goes)
+    (goes_still g.D.Disk (goes_still g.D.Disk c.hold_page.ensures.goes c.hold_new_page.ensures.on.goes)
     c.give_back-in-Err-rows_step.ensures.goes) c.give_back-in-Err-rows_step-2.ensures.goes
 
 pub returns-in-Err-rows_step-clause-cause : goal.returns-in-Err-rows_step-clause-cause

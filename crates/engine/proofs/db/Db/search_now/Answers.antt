@@ -100,7 +100,7 @@ pub find-found-requires-clause-up : goal.find-found-requires-clause-up
 find-found-requires-clause-up g c =
     let a : DbValue g.row.D.Denot = record { frames = c.self.inside.frames } in
     let m : DbValue g.row.D.Denot = record { frames = c.pin.new.self } in
-    let e = c.pin.ensures in
+    let e = c.pin.ensures.keeps in
     let begins : Goes g.D.Disk c.args.self.now m [] =
     subst (λ (s : DbValue g.row.D.Denot). Goes g.D.Disk s m []) c.self.view_is
     (one_nothing g.D.Disk (pin_step g.D.Disk a m e.added e.journal e.begins c.in_ok-snapshot.ensures.pinned)) in
@@ -117,7 +117,7 @@ pub returns-clause-session : goal.returns-clause-session
 returns-clause-session g c =
     let a : DbValue g.row.D.Denot = record { frames = c.self.inside.frames } in
     let m : DbValue g.row.D.Denot = record { frames = c.pin.new.self } in
-    let e = c.pin.ensures in
+    let e = c.pin.ensures.keeps in
     let begins : Goes g.D.Disk c.args.self.now m [] =
     subst (λ (s : DbValue g.row.D.Denot). Goes g.D.Disk s m []) c.self.view_is
     (one_nothing g.D.Disk (pin_step g.D.Disk a m e.added e.journal e.begins c.in_ok-snapshot.ensures.pinned)) in
@@ -130,18 +130,20 @@ returns-clause-session g c =
     let u = c.unpin.ensures in
     let ends : Goes g.D.Disk c.find-found.new.self b [] =
     subst (λ (s : DbValue g.row.D.Denot). Goes g.D.Disk s b []) c.self-2.view_is
-    (one_nothing g.D.Disk (unpin_step g.D.Disk s b c.find-found.new.pass.pin u.added u.journal u.begins u.pins)) in
+    (one_nothing g.D.Disk
+    (unpin_step g.D.Disk s b c.find-found.new.pass.pin u.keeps.added u.keeps.journal u.keeps.begins u.pins)) in
     let kept : b.frames.journal ≡ c.find-found.new.self.frames.journal =
-    u.journal ∙ ap (λ (s : DbValue g.row.D.Denot). s.frames.journal) c.self-2.view_is in
+    u.keeps.journal ∙ ap (λ (s : DbValue g.row.D.Denot). s.frames.journal) c.self-2.view_is in
     session_after c.args.self.now b c.args.pass.now c.pin.new.pass c.find-found.new.pass c.unpin.new.pass
-    c.requires.session e.same.2 c.find-found.ensures.reads.xid c.find-found.ensures.reads.held u.same.0 u.same.2 u.none
+    c.requires.session e.same.2 c.find-found.ensures.reads.xid c.find-found.ensures.reads.held u.keeps.same.0
+    u.keeps.same.2 u.none
     u.pass
 
 pub returns-clause-found : goal.returns-clause-found
 returns-clause-found g c =
     let a : DbValue g.row.D.Denot = record { frames = c.self.inside.frames } in
     let m : DbValue g.row.D.Denot = record { frames = c.pin.new.self } in
-    let e = c.pin.ensures in
+    let e = c.pin.ensures.keeps in
     let begins : Goes g.D.Disk c.args.self.now m [] =
     subst (λ (s : DbValue g.row.D.Denot). Goes g.D.Disk s m []) c.self.view_is
     (one_nothing g.D.Disk (pin_step g.D.Disk a m e.added e.journal e.begins c.in_ok-snapshot.ensures.pinned)) in
@@ -157,9 +159,10 @@ returns-clause-found g c =
     let u = c.unpin.ensures in
     let ends : Goes g.D.Disk c.find-found.new.self b [] =
     subst (λ (s : DbValue g.row.D.Denot). Goes g.D.Disk s b []) c.self-2.view_is
-    (one_nothing g.D.Disk (unpin_step g.D.Disk s b c.find-found.new.pass.pin u.added u.journal u.begins u.pins)) in
+    (one_nothing g.D.Disk
+    (unpin_step g.D.Disk s b c.find-found.new.pass.pin u.keeps.added u.keeps.journal u.keeps.begins u.pins)) in
     let kept : b.frames.journal ≡ c.find-found.new.self.frames.journal =
-    u.journal ∙ ap (λ (s : DbValue g.row.D.Denot). s.frames.journal) c.self-2.view_is in
+    u.keeps.journal ∙ ap (λ (s : DbValue g.row.D.Denot). s.frames.journal) c.self-2.view_is in
     let all : n ≡ flushed_of c.args.self.now =
     pinned.commits ∙ ap (λ (j : JournalValue g.row.D.Denot). j.flushed) same in
     found g.D.Disk c.args.self.now m c.find-found.new.self b begins c.find-found.ensures.reads.goes ends same kept n up
@@ -172,7 +175,7 @@ pub returns-clause-snapshot : goal.returns-clause-snapshot
 returns-clause-snapshot g c =
     let a : DbValue g.row.D.Denot = record { frames = c.self.inside.frames } in
     let m : DbValue g.row.D.Denot = record { frames = c.pin.new.self } in
-    let e = c.pin.ensures in
+    let e = c.pin.ensures.keeps in
     let begins : Goes g.D.Disk c.args.self.now m [] =
     subst (λ (s : DbValue g.row.D.Denot). Goes g.D.Disk s m []) c.self.view_is
     (one_nothing g.D.Disk (pin_step g.D.Disk a m e.added e.journal e.begins c.in_ok-snapshot.ensures.pinned)) in
@@ -185,19 +188,20 @@ returns-clause-snapshot g c =
     let u = c.unpin.ensures in
     let ends : Goes g.D.Disk c.find-found.new.self b [] =
     subst (λ (s : DbValue g.row.D.Denot). Goes g.D.Disk s b []) c.self-2.view_is
-    (one_nothing g.D.Disk (unpin_step g.D.Disk s b c.find-found.new.pass.pin u.added u.journal u.begins u.pins)) in
+    (one_nothing g.D.Disk
+    (unpin_step g.D.Disk s b c.find-found.new.pass.pin u.keeps.added u.keeps.journal u.keeps.begins u.pins)) in
     let kept : b.frames.journal ≡ c.find-found.new.self.frames.journal =
-    u.journal ∙ ap (λ (s : DbValue g.row.D.Denot). s.frames.journal) c.self-2.view_is in
+    u.keeps.journal ∙ ap (λ (s : DbValue g.row.D.Denot). s.frames.journal) c.self-2.view_is in
     snapshot_after c.args.self.now m b c.self.inside.frames c.args.pass.now c.pin.new.pass c.find-found.new.pass
     c.unpin.new.pass n c.requires.session same pinned e.rises e.same.1 c.find-found.ensures.reads.room
-    c.find-found.ensures.reads.shown u.rises u.same.1
+    c.find-found.ensures.reads.shown u.keeps.rises u.keeps.same.1
     u.pass
 
 pub returns-clause-path : goal.returns-clause-path
 returns-clause-path g c =
     let a : DbValue g.row.D.Denot = record { frames = c.self.inside.frames } in
     let m : DbValue g.row.D.Denot = record { frames = c.pin.new.self } in
-    let e = c.pin.ensures in
+    let e = c.pin.ensures.keeps in
     let begins : Goes g.D.Disk c.args.self.now m [] =
     subst (λ (s : DbValue g.row.D.Denot). Goes g.D.Disk s m []) c.self.view_is
     (one_nothing g.D.Disk (pin_step g.D.Disk a m e.added e.journal e.begins c.in_ok-snapshot.ensures.pinned)) in
@@ -210,16 +214,17 @@ returns-clause-path g c =
     let u = c.unpin.ensures in
     let ends : Goes g.D.Disk c.find-found.new.self b [] =
     subst (λ (s : DbValue g.row.D.Denot). Goes g.D.Disk s b []) c.self-2.view_is
-    (one_nothing g.D.Disk (unpin_step g.D.Disk s b c.find-found.new.pass.pin u.added u.journal u.begins u.pins)) in
+    (one_nothing g.D.Disk
+    (unpin_step g.D.Disk s b c.find-found.new.pass.pin u.keeps.added u.keeps.journal u.keeps.begins u.pins)) in
     let kept : b.frames.journal ≡ c.find-found.new.self.frames.journal =
-    u.journal ∙ ap (λ (s : DbValue g.row.D.Denot). s.frames.journal) c.self-2.view_is in
+    u.keeps.journal ∙ ap (λ (s : DbValue g.row.D.Denot). s.frames.journal) c.self-2.view_is in
     read_path g.D.Disk c.args.self.now m c.find-found.new.self b begins c.find-found.ensures.reads.goes ends
 
 pub returns-clause-fault : goal.returns-clause-fault
 returns-clause-fault g c =
     let a : DbValue g.row.D.Denot = record { frames = c.self.inside.frames } in
     let m : DbValue g.row.D.Denot = record { frames = c.pin.new.self } in
-    let e = c.pin.ensures in
+    let e = c.pin.ensures.keeps in
     let begins : Goes g.D.Disk c.args.self.now m [] =
     subst (λ (s : DbValue g.row.D.Denot). Goes g.D.Disk s m []) c.self.view_is
     (one_nothing g.D.Disk (pin_step g.D.Disk a m e.added e.journal e.begins c.in_ok-snapshot.ensures.pinned)) in
@@ -232,9 +237,10 @@ returns-clause-fault g c =
     let u = c.unpin.ensures in
     let ends : Goes g.D.Disk c.find-found.new.self b [] =
     subst (λ (s : DbValue g.row.D.Denot). Goes g.D.Disk s b []) c.self-2.view_is
-    (one_nothing g.D.Disk (unpin_step g.D.Disk s b c.find-found.new.pass.pin u.added u.journal u.begins u.pins)) in
+    (one_nothing g.D.Disk
+    (unpin_step g.D.Disk s b c.find-found.new.pass.pin u.keeps.added u.keeps.journal u.keeps.begins u.pins)) in
     let kept : b.frames.journal ≡ c.find-found.new.self.frames.journal =
-    u.journal ∙ ap (λ (s : DbValue g.row.D.Denot). s.frames.journal) c.self-2.view_is in
+    u.keeps.journal ∙ ap (λ (s : DbValue g.row.D.Denot). s.frames.journal) c.self-2.view_is in
     read_told g.D.Disk c.args.self.now m c.find-found.new.self b begins c.find-found.ensures.reads.goes ends same kept
     c.find-found.result c.find-found.ensures.fault
 
@@ -249,7 +255,7 @@ pub returns-clause-lawful : goal.returns-clause-lawful
 returns-clause-lawful g c =
     let a : DbValue g.row.D.Denot = record { frames = c.self.inside.frames } in
     let m : DbValue g.row.D.Denot = record { frames = c.pin.new.self } in
-    let e = c.pin.ensures in
+    let e = c.pin.ensures.keeps in
     let begins : Goes g.D.Disk c.args.self.now m [] =
     subst (λ (s : DbValue g.row.D.Denot). Goes g.D.Disk s m []) c.self.view_is
     (one_nothing g.D.Disk (pin_step g.D.Disk a m e.added e.journal e.begins c.in_ok-snapshot.ensures.pinned)) in
@@ -271,7 +277,7 @@ pub returns-clause-way : goal.returns-clause-way
 returns-clause-way g c =
     let a : DbValue g.row.D.Denot = record { frames = c.self.inside.frames } in
     let m : DbValue g.row.D.Denot = record { frames = c.pin.new.self } in
-    let e = c.pin.ensures in
+    let e = c.pin.ensures.keeps in
     let begins : Goes g.D.Disk c.args.self.now m [] =
     subst (λ (s : DbValue g.row.D.Denot). Goes g.D.Disk s m []) c.self.view_is
     (one_nothing g.D.Disk (pin_step g.D.Disk a m e.added e.journal e.begins c.in_ok-snapshot.ensures.pinned)) in

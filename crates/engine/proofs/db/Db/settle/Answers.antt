@@ -31,7 +31,11 @@ returns-in_err-flushed-clause-session g c =
     let u = c.unpin.ensures in
     record {
       is_pass = u.pass;
-      idle = (u.none, u.same.0 ∙ (e.keeps).held ∙ c.requires.idle.0, u.same.2 ∙ e.xid ∙ c.requires.idle.1);
+      idle = (
+        u.none,
+        u.keeps.same.0 ∙ (e.keeps).held ∙ c.requires.idle.0,
+        u.keeps.same.2 ∙ e.keeps.xid ∙ c.requires.idle.1,
+      );
     }
 
 pub returns-in_err-flushed-clause-flushed : goal.returns-in_err-flushed-clause-flushed
@@ -49,13 +53,13 @@ returns-in_err-flushed-clause-goes g c =
     subst (λ (s : DbValue g.row.D.Denot). Goes g.D.Disk s b []) c.self.view_is
     (Goes.nothing (one_nothing g.D.Disk
     (write_step g.D.Disk a f c.flush_log-flushed.result e.added e.state e.runs_on e.begins e.cause e.pins))
-    (unpin_step g.D.Disk f b c.flush_log-flushed.new.pass.pin u.added u.journal u.begins u.pins))
+    (unpin_step g.D.Disk f b c.flush_log-flushed.new.pass.pin u.keeps.added u.keeps.journal u.keeps.begins u.pins))
 
 pub returns-in_err-flushed-clause-keeps : goal.returns-in_err-flushed-clause-keeps
 returns-in_err-flushed-clause-keeps g c =
     let e = c.flush_log-flushed.ensures in
     let u = c.unpin.ensures in
-    record { room = u.same.1 ∙ (e.keeps).room; shown = omega (arith, (e.rises).shown, (u.rises).shown) }
+    record { room = u.keeps.same.1 ∙ (e.keeps).room; shown = omega (arith, (e.rises).shown, (u.keeps.rises).shown) }
 
 pub returns-in_err-flushed-clause-fault : goal.returns-in_err-flushed-clause-fault
 returns-in_err-flushed-clause-fault g c =
@@ -70,7 +74,7 @@ returns-in_err-flushed-clause-fault g c =
     (subst (λ (r : Result (Unit {0}) DbError). FaultIsTold g.D.Disk a b r) (sym (p.1 ∙ ap Err p.2))
     (told_still g.D.Disk a f b answer
     (write_told g.D.Disk (Unit {0}) a f c.flush_log-flushed.result w c.in_err-flushed.was e.is_down e.cause
-    e.goes_down) c.unpin.ensures.journal))
+    e.goes_down) c.unpin.ensures.keeps.journal))
 
 pub returns-in_err-flushed-clause-cause : goal.returns-in_err-flushed-clause-cause
 returns-in_err-flushed-clause-cause g c =
@@ -90,7 +94,11 @@ returns-clause-session g c =
     let u = c.unpin.ensures in
     record {
       is_pass = u.pass;
-      idle = (u.none, u.same.0 ∙ (e.keeps).held ∙ c.requires.idle.0, u.same.2 ∙ e.xid ∙ c.requires.idle.1);
+      idle = (
+        u.none,
+        u.keeps.same.0 ∙ (e.keeps).held ∙ c.requires.idle.0,
+        u.keeps.same.2 ∙ e.keeps.xid ∙ c.requires.idle.1,
+      );
     }
 
 pub returns-clause-flushed : goal.returns-clause-flushed
@@ -102,12 +110,13 @@ returns-clause-flushed g c =
     let u = c.unpin.ensures in
     let r = c.flush_log-flushed.result in
     let done = c.in_ok-flushed.ensures.done in
-    flushed_all g.D.Disk a f b (write_step g.D.Disk a f r e.added e.state e.runs_on e.begins e.cause e.pins) u.journal
+    flushed_all g.D.Disk a f b (write_step g.D.Disk a f r e.added e.state e.runs_on e.begins e.cause e.pins)
+    u.keeps.journal
     c.flush_log-flushed.new.pass c.unpin.new.pass (subst IsUp (sym c.self.view_is) c.requires.up)
     (write_no_fault g.D.Disk a f r (λ is.
     let was : r ≡ Ok c.in_ok-flushed.field-0 = c.in_ok-flushed.was in
     let at : r ≡ Err logs.DiskFault = is in
-    let z : ⊥ = cc in z) e.cause e.goes_down) done.0 done.1 e.shown (u.rises).shown (u.pass).shown
+    let z : ⊥ = cc in z) e.cause e.goes_down) done.0 done.1 e.shown (u.keeps.rises).shown (u.pass).shown
 
 pub returns-clause-goes : goal.returns-clause-goes
 returns-clause-goes g c =
@@ -119,13 +128,13 @@ returns-clause-goes g c =
     subst (λ (s : DbValue g.row.D.Denot). Goes g.D.Disk s b []) c.self.view_is
     (Goes.nothing (one_nothing g.D.Disk
     (write_step g.D.Disk a f c.flush_log-flushed.result e.added e.state e.runs_on e.begins e.cause e.pins))
-    (unpin_step g.D.Disk f b c.flush_log-flushed.new.pass.pin u.added u.journal u.begins u.pins))
+    (unpin_step g.D.Disk f b c.flush_log-flushed.new.pass.pin u.keeps.added u.keeps.journal u.keeps.begins u.pins))
 
 pub returns-clause-keeps : goal.returns-clause-keeps
 returns-clause-keeps g c =
     let e = c.flush_log-flushed.ensures in
     let u = c.unpin.ensures in
-    record { room = u.same.1 ∙ (e.keeps).room; shown = omega (arith, (e.rises).shown, (u.rises).shown) }
+    record { room = u.keeps.same.1 ∙ (e.keeps).room; shown = omega (arith, (e.rises).shown, (u.keeps.rises).shown) }
 
 pub returns-clause-fault : goal.returns-clause-fault
 returns-clause-fault g c =
@@ -138,4 +147,4 @@ returns-clause-fault g c =
     (none_still g.D.Disk {b = f} (write_no_fault g.D.Disk a f r (λ is.
     let was : r ≡ Ok c.in_ok-flushed.field-0 = c.in_ok-flushed.was in
     let at : r ≡ Err logs.DiskFault = is in
-    let z : ⊥ = cc in z) e.cause e.goes_down) c.unpin.ensures.journal)
+    let z : ⊥ = cc in z) e.cause e.goes_down) c.unpin.ensures.keeps.journal)

@@ -27,7 +27,7 @@ returns-in_err-page-clause-on g c =
     let b : DbValue g.row.D.Denot = record { frames = c.look.new.self } in
     let e = c.look.ensures in
     subst (λ (s : DbValue g.row.D.Denot). WorksOn g.D.Disk s c.args.pass.now b c.look.new.pass) c.self.view_is
-    (looked g.D.Disk a b c.args.pass.now c.look.new.pass e.pass e.sees_on e.added e.keeps e.rises e.xid e.runs_on
+    (looked g.D.Disk a b c.args.pass.now c.look.new.pass e.pass e.sees_on e.added e.keeps e.rises e.keeps.xid e.runs_on
     e.state e.pins e.others e.calm e.begins)
 
 pub returns-in_err-page-clause-cause : goal.returns-in_err-page-clause-cause
@@ -46,7 +46,7 @@ returns-in_default-clause-on g c =
     let b : DbValue g.row.D.Denot = record { frames = c.look.new.self } in
     let e = c.look.ensures in
     subst (λ (s : DbValue g.row.D.Denot). WorksOn g.D.Disk s c.args.pass.now b c.look.new.pass) c.self.view_is
-    (looked g.D.Disk a b c.args.pass.now c.look.new.pass e.pass e.sees_on e.added e.keeps e.rises e.xid e.runs_on
+    (looked g.D.Disk a b c.args.pass.now c.look.new.pass e.pass e.sees_on e.added e.keeps e.rises e.keeps.xid e.runs_on
     e.state e.pins e.others e.calm e.begins)
 
 pub returns-in_err-held-clause-on : goal.returns-in_err-held-clause-on
@@ -58,7 +58,7 @@ returns-in_err-held-clause-on g c =
     let h = c.in_err-held.ensures in
     subst (λ (s : DbValue g.row.D.Denot). WorksOn g.D.Disk s c.args.pass.now d c.hold_page.new.pass) c.self.view_is
     (works_in_turn g.D.Disk a b d c.args.pass.now c.look.new.pass c.hold_page.new.pass
-    (looked g.D.Disk a b c.args.pass.now c.look.new.pass e.pass e.sees_on e.added e.keeps e.rises e.xid e.runs_on
+    (looked g.D.Disk a b c.args.pass.now c.look.new.pass e.pass e.sees_on e.added e.keeps e.rises e.keeps.xid e.runs_on
     e.state e.pins e.others e.calm e.begins)
     (refused_works g.D.Disk b d c.look.new.pass c.hold_page.new.pass h.pass h.carries h.goes h.state h.pins h.keeps
     h.rises h.unmoved))
@@ -71,7 +71,9 @@ returns-in_err-held-clause-cause g c =
     let b : DbValue g.row.D.Denot = record { frames = c.look.new.self } in
     let l = c.look.ensures in
     let asked = subst (λ (s : DbValue g.row.D.Denot). WorksOn g.D.Disk s p b q) c.self.view_is
-    (looked g.D.Disk (record { frames = c.self.inside.frames }) b p q l.pass l.sees_on l.added l.keeps l.rises l.xid
+    (looked g.D.Disk (record {
+      frames = c.self.inside.frames;
+    }) b p q l.pass l.sees_on l.added l.keeps l.rises l.keeps.xid
     l.runs_on l.state l.pins l.others l.calm l.begins) in
     let e = c.in_ok-page.ensures in
     let answer = subst (λ (o : Option (ℕ × ℕ)). new_page_answer (record {}) (state_of b) q.floor q.since o) c.in-Some.is
@@ -99,7 +101,7 @@ returns-then-is_new-clause-on g c =
     (sym c.self.view_is) some.1 in
     subst (λ (s : DbValue g.row.D.Denot). WorksOn g.D.Disk s c.args.pass.now d c.hold_page.new.pass) c.self.view_is
     (works_in_turn g.D.Disk a b d c.args.pass.now c.look.new.pass c.hold_page.new.pass
-    (looked g.D.Disk a b c.args.pass.now c.look.new.pass e.pass e.sees_on e.added e.keeps e.rises e.xid e.runs_on
+    (looked g.D.Disk a b c.args.pass.now c.look.new.pass e.pass e.sees_on e.added e.keeps e.rises e.keeps.xid e.runs_on
     e.state e.pins e.others e.calm e.begins)
     (held_works g.D.Disk b d c.look.new.pass c.hold_page.new.pass c.in-Some.page c.in_ok-held.held some.0 h.pass
     h.carries h.goes h.state h.pins h.keeps h.rises h.others h.number (h.holding some.0 (e.holding some.0 before))))
@@ -112,7 +114,9 @@ returns-then-is_new-clause-new g c =
     let b : DbValue g.row.D.Denot = record { frames = c.look.new.self } in
     let l = c.look.ensures in
     let asked = subst (λ (s : DbValue g.row.D.Denot). WorksOn g.D.Disk s p b q) c.self.view_is
-    (looked g.D.Disk (record { frames = c.self.inside.frames }) b p q l.pass l.sees_on l.added l.keeps l.rises l.xid
+    (looked g.D.Disk (record {
+      frames = c.self.inside.frames;
+    }) b p q l.pass l.sees_on l.added l.keeps l.rises l.keeps.xid
     l.runs_on l.state l.pins l.others l.calm l.begins) in
     let e = c.in_ok-page.ensures in
     let answer = subst (λ (o : Option (ℕ × ℕ)). new_page_answer (record {}) (state_of b) q.floor q.since o) c.in-Some.is
@@ -139,7 +143,9 @@ returns-clause-on g c =
     let b : DbValue g.row.D.Denot = record { frames = c.look.new.self } in
     let l = c.look.ensures in
     let asked = subst (λ (s : DbValue g.row.D.Denot). WorksOn g.D.Disk s p b q) c.self.view_is
-    (looked g.D.Disk (record { frames = c.self.inside.frames }) b p q l.pass l.sees_on l.added l.keeps l.rises l.xid
+    (looked g.D.Disk (record {
+      frames = c.self.inside.frames;
+    }) b p q l.pass l.sees_on l.added l.keeps l.rises l.keeps.xid
     l.runs_on l.state l.pins l.others l.calm l.begins) in
     let h = c.in_ok-held.ensures in
     let d : DbValue g.row.D.Denot = c.hold_page.new.self in
@@ -168,7 +174,9 @@ returns-clause-used g c =
     let b : DbValue g.row.D.Denot = record { frames = c.look.new.self } in
     let l = c.look.ensures in
     let asked = subst (λ (s : DbValue g.row.D.Denot). WorksOn g.D.Disk s p b q) c.self.view_is
-    (looked g.D.Disk (record { frames = c.self.inside.frames }) b p q l.pass l.sees_on l.added l.keeps l.rises l.xid
+    (looked g.D.Disk (record {
+      frames = c.self.inside.frames;
+    }) b p q l.pass l.sees_on l.added l.keeps l.rises l.keeps.xid
     l.runs_on l.state l.pins l.others l.calm l.begins) in
     let e = c.in_ok-page.ensures in
     let answer = subst (λ (o : Option (ℕ × ℕ)). new_page_answer (record {}) (state_of b) q.floor q.since o) c.in-Some.is
