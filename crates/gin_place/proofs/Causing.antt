@@ -1,0 +1,154 @@
+-- Why calls are refused.
+use Rattle.std.proofs.Common.{◌≡◌, ◌↔◌, ◌≤◌, ℕ, List, [], ◌++◌, length, refl, sym, ap, subst, ◌∙◌, inl, inr, arith}
+use Rattle.std.proofs.Common.{Result, Err}
+use Rattle.std.specs.Prelude.{Option, Some, None, IfErr, ⊤}
+use Rattle.disk_trait.specs.declared.device.Disk.{Ghosts as Disk}
+use Rattle.wal.specs.Waiting.{limit_of, length_with, down_of}
+use Rattle.page_types.specs.Records.{kind_number}
+use Rattle.page_types.specs.declared.page.Page.{Page}
+use Rattle.core_state.specs.Allowed.{Sheet, Step}
+use Rattle.buffer_frames.specs.Homes.{IsNoPage, BadPageWhere}
+use Rattle.buffer_frames.specs.Journals.{logged_bytes, next_record}
+use Rattle.buffer_frames.specs.LogCauses.{HoldHasCause, WriteHasCause, LogFullWhere}
+use Rattle.buffer_frames.specs.Frames.{FramesValue}
+use Rattle.buffer_frames.specs.Passes.{IsPassOf}
+use Rattle.buffer_frames.specs.declared.pass.Pass.{Pass}
+use Rattle.buffer_frames.specs.declared.frame_error.FrameError.{FrameError}
+use Rattle.buffer_frames.specs.declared.frame_error.FrameError.TheVariants as frames
+use Rattle.buffer_frames.specs.declared.log_error.LogError.{LogError}
+use Rattle.buffer_frames.specs.declared.log_error.LogError.TheVariants as logs
+use Rattle.gin_place.specs.Going.{IsPlacingKind, WorksOn}
+use Rattle.gin_place.specs.Causes.{Meets, CannotUse, HasFault, IsWhy, CannotHold, CannotLog}
+use Rattle.gin_place.specs.Inner.Refusals.{frame_refusal, log_refusal}
+use Rattle.gin_place.specs.declared.error.PlaceError.{PlaceError}
+use Rattle.gin_place.specs.declared.error.PlaceError.TheVariants.{StoreFull, LogFull, DiskFault, Down, BadPage}
+use Rattle.gin_place.specs.declared.error.PlaceError.TheVariants.{OutOfMemory}
+use Rattle.gin_place.proofs.Carrying.{reads_still, same_added, works_in_turn}
+
+-- what holds of the error that is returned
+pub at_exit : {T E : Type 0} (P : E → Type 0) (r : Result T E) (y e : E) → r ≡ Err y → y ≡ e → P e → IfErr r P
+at_exit P r y e is same p =
+    subst (λ (x : Result _ _). IfErr x P) (sym (is ∙ ap Err same)) p
+
+up : (a b c : ℕ) → a ≤ b → b ≤ c → a ≤ c
+up a b c x y = omega (arith, x, y)
+
+-- a page that can't be used, whatever it is to be
+pub weaker : {D : Type 0} (f : FramesValue D) (Is : Page → Type 0) (p : ℕ) → CannotUse f (λ (c : Page). ⊤) p
+    → CannotUse f Is p
+weaker f Is p (CannotUse.past high) = CannotUse.past high
+weaker f Is p (CannotUse.bytes none) = CannotUse.bytes none
+weaker f Is p (CannotUse.other c is lies off) = absurd (off tt)
+
+module _ {D : Type 0} (device : Disk D) where
+  pub meets_now : (f : FramesValue D) (p : Pass) (X : FramesValue D → Pass → Type 0) → IsPassOf f p → X f p
+      → Meets device f p X
+  meets_now f p X of x = (f, p, [], (reads_still device f p of (same_added device f)).works, x)
+
+  pub meets_after : (f g : FramesValue D) (p q : Pass) (ks : List ℕ) (X : FramesValue D → Pass → Type 0)
+      → WorksOn device f p g q ks → Meets device g q X → Meets device f p X
+  meets_after f g p q ks X w m =
+      (m.0, m.1, ks ++ m.2, works_in_turn device f g m.0 p q m.1 ks m.2 w m.3, m.4)
+
+  pub meets_as : (f : FramesValue D) (p : Pass) (X Y : FramesValue D → Pass → Type 0)
+      → ((g : FramesValue D) (q : Pass) → X g q → Y g q) → Meets device f p X → Meets device f p Y
+  meets_as f p X Y to m = (m.0, m.1, m.2, m.3, to m.0 m.1 m.4)
+
+  -- the count of faults never falls
+  abbrev pub Later : FramesValue D → FramesValue D → Type 0
+  Later l m = device.fault_count l.journal.disk ≤ device.fault_count m.journal.disk
+
+  pub fault_later : (f l m : FramesValue D) → Later l m → HasFault device f l → HasFault device f m
+  fault_later f l m le rose = up _ (device.fault_count l.journal.disk) (device.fault_count m.journal.disk) rose le
+
+  pub hold_later : (page : ℕ) (l m : FramesValue D) (e : PlaceError) → Later l m → (f : FramesValue D) (p : Pass)
+      → CannotHold device page l e f p → CannotHold device page m e f p
+  hold_later page l m StoreFull le f p c = c
+  hold_later page l m LogFull le f p c = c
+  hold_later page l m DiskFault le f p c = fault_later f l m le c
+  hold_later page l m (Down n) le f p c = c
+  hold_later page l m (BadPage q) le f p c = c
+  hold_later page l m OutOfMemory le f p c = c
+
+  module _ (Bad : FramesValue D → Pass → ℕ → Type 0) (Long : FramesValue D → Type 0) where
+    pub why_later : (l m : FramesValue D) (e : PlaceError) → Later l m → (f : FramesValue D) (p : Pass)
+        → IsWhy device Bad Long l e f p → IsWhy device Bad Long m e f p
+    why_later l m StoreFull le f p c = c
+    why_later l m LogFull le f p c = c
+    why_later l m DiskFault le f p c = fault_later f l m le c
+    why_later l m (Down n) le f p c = c
+    why_later l m (BadPage q) le f p c = c
+    why_later l m OutOfMemory le f p c = c
+
+    -- a page that is not held, and a step that is not logged
+    pub hold_why : (page : ℕ) (l : FramesValue D) (e : PlaceError) (f : FramesValue D) (p : Pass)
+        → (CannotUse f (λ (c : Page). ⊤) page → Bad f p page) → CannotHold device page l e f p
+        → IsWhy device Bad Long l e f p
+    hold_why page l StoreFull f p bad c = absurd c
+    hold_why page l LogFull f p bad c = absurd c
+    hold_why page l DiskFault f p bad c = c
+    hold_why page l (Down n) f p bad c = c
+    hold_why page l (BadPage q) f p bad c =
+        subst (Bad f p) (sym c.0) (bad (subst (CannotUse f (λ (x : Page). ⊤)) c.0 c.1))
+    hold_why page l OutOfMemory f p bad c = tt
+
+    pub log_why : (l : FramesValue D) (e : PlaceError) (f : FramesValue D) (p : Pass) → CannotLog device l e f p
+        → IsWhy device Bad Long l e f p
+    log_why l StoreFull f p c = absurd c
+    log_why l LogFull f p c = c
+    log_why l DiskFault f p c = c
+    log_why l (Down n) f p c = c
+    log_why l (BadPage q) f p c = absurd c
+    log_why l OutOfMemory f p c = tt
+
+    pub why_as : (Bad' : FramesValue D → Pass → ℕ → Type 0) (Long' : FramesValue D → Type 0) (l : FramesValue D)
+        (e : PlaceError) (f : FramesValue D) (p : Pass) → ((q : ℕ) → Bad f p q → Bad' f p q) → (Long f → Long' f)
+        → IsWhy device Bad Long l e f p → IsWhy device Bad' Long' l e f p
+    why_as Bad' Long' l StoreFull f p to long (inl c) = inl c
+    why_as Bad' Long' l StoreFull f p to long (inr c) = inr (long c)
+    why_as Bad' Long' l LogFull f p to long c = c
+    why_as Bad' Long' l DiskFault f p to long c = c
+    why_as Bad' Long' l (Down n) f p to long c = c
+    why_as Bad' Long' l (BadPage q) f p to long c = to q c
+    why_as Bad' Long' l OutOfMemory f p to long c = c
+
+  -- ── what the calls below refuse ──
+
+  pub hold_cause : (f g : FramesValue D) (p : Pass) (page : ℕ) (r : Result Sheet FrameError) (w : FrameError)
+      → r ≡ Err w → ((n : ℕ) → (r ≡ Err (frames.Down n)) ↔ (down_of f.journal.wal ≡ Some n))
+      → (down_of f.journal.wal ≡ None → BadPageWhere (IsNoPage f.homes page) page r)
+      → HoldHasCause device f.journal g.journal r → CannotHold device page g (frame_refusal w) f p
+  hold_cause f g p page r frames.DiskFault is down bad cause = cause.fault is
+  hold_cause f g p page r (frames.Down n) is down bad cause = (down n).0 is
+  hold_cause f g p page r frames.OutOfMemory is down bad cause = tt
+  hold_cause f g p page r (frames.BadPage q) is down bad cause =
+      let b : BadPageWhere {T = Sheet} (IsNoPage f.homes page) page (Err (frames.BadPage q)) =
+      subst (BadPageWhere (IsNoPage f.homes page) page) is (bad (go (down_of f.journal.wal) refl)) in
+      (b.0, CannotUse.bytes (subst (IsNoPage f.homes) (sym b.0) b.1))
+    where
+      go : (o : Option ℕ) → down_of f.journal.wal ≡ o → down_of f.journal.wal ≡ None
+      go None e = e
+      go (Some n) e =
+          let two : Err (frames.BadPage q) ≡ Err (frames.Down n) = sym is ∙ (down n).1 e in
+          let z : ⊥ = cc in absurd z
+
+  -- a question is refused only where the journal is down
+  pub look_down : {T : Type 0} (f : FramesValue D) (r : Result T FrameError) (w : FrameError) → r ≡ Err w
+      → ((n : ℕ) → (r ≡ Err (frames.Down n)) ↔ (down_of f.journal.wal ≡ Some n))
+      → (n : ℕ) × (w ≡ frames.Down n) → (n : ℕ) × (frame_refusal w ≡ Down n) × (down_of f.journal.wal ≡ Some n)
+  look_down f r w is down n = (n.0, ap frame_refusal n.1, (down n.0).0 (is ∙ ap Err n.1))
+
+  pub log_cause : (f g : FramesValue D) (p : Pass) (step : Step) {T : Type 0} (r : Result T LogError) (w : LogError)
+      → IsPlacingKind (kind_number step.kind) → length step.after ≤ 3 → r ≡ Err w
+      → LogFullWhere (limit_of f.journal.wal)
+      (length_with f.journal.wal (logged_bytes f.journal (next_record f.journal step))) r
+      → ((n : ℕ) → (r ≡ Err (logs.Down n)) ↔ (down_of f.journal.wal ≡ Some n))
+      → WriteHasCause device f.journal.disk g.journal.disk r → CannotLog device g (log_refusal w) f p
+  log_cause f g p step r logs.DiskFault placing few is full down cause = cause.fault is
+  log_cause f g p step {T} r logs.LogFull placing few is full down cause =
+      let over = subst (LogFullWhere {T = T} (limit_of f.journal.wal)
+      (length_with f.journal.wal (logged_bytes f.journal (next_record f.journal step)))) is full in
+      record { step = step; placing = placing; pages = few; over = over }
+  log_cause f g p step r (logs.Down n) placing few is full down cause = (down n).0 is
+  log_cause f g p step r logs.XidsSpent placing few is full down cause = tt
+  log_cause f g p step r logs.OutOfMemory placing few is full down cause = tt

@@ -1,0 +1,16 @@
+mod Lists
+mod ReadPages
+mod Carrying
+mod Owing
+mod GrowSteps
+mod Dividing
+mod Adding
+mod Logs
+mod Stepped
+mod Passing
+mod UpperKeys
+mod Exits
+mod Parts
+mod Causing
+mod SplitCauses
+mod Lawful

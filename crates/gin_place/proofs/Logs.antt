@@ -1,0 +1,134 @@
+-- What a pass goes by is so still once a step of placing is logged.
+use Rattle.std.proofs.Common.{◌≡◌, ◌≤◌, ℕ, List, [], ◌∷◌, ◌++◌, length, refl, sym, ap, subst, ◌∙◌, inl}
+use Rattle.std.proofs.Common.{inr, arith, length-append}
+use Rattle.std.specs.Prelude.{Option}
+use Rattle.disk_trait.specs.declared.device.Disk.{Ghosts as Disk}
+use Rattle.page_types.specs.Records.{kind_number}
+use Rattle.page_types.specs.declared.record.Kind.{Kind}
+use Rattle.page_types.specs.declared.record.Kind.TheVariants as kind
+use Rattle.page_types.specs.declared.record.Record.{Record}
+use Rattle.core_state.specs.Log.{Log, Pages, In, Shows, cut}
+use Rattle.core_state.specs.Index.{Pending, Main}
+use Rattle.core_state.specs.Legal.{IsLegal}
+use Rattle.core_state.specs.Allowed.{Sheet, Step, drawn_kind}
+use Rattle.core_state.proofs.Newest.{cut_less}
+use Rattle.core_state.proofs.Steps.Seen.{seen_shown}
+use Rattle.core_maintenance.specs.Right as maintenance
+use Rattle.core_maintenance.specs.Staying.{FoundStays, RightKeepsFound}
+use Rattle.core_maintenance.specs.Keeping.{IsPlacing, PairsStay, PairsHold}
+use Rattle.buffer_frames.specs.Frames.{FramesValue}
+use Rattle.buffer_frames.specs.Passes.{IsPassOf, HasAdded, PassRises, Seen, IsLogged, view_of, xid_after}
+use Rattle.buffer_frames.specs.declared.pass.Pass.{Pass}
+use Rattle.buffer_frames.proofs.AtHand.{cut_length, cut_whole, log_length}
+use Rattle.buffer_frames.proofs.Beginning.{owed_begins}
+use Rattle.buffer_frames.proofs.HistoryParts.{legal_before}
+use Rattle.gin_place.specs.Going.{IsPlacingKind}
+use Rattle.gin_place.specs.Inner.Logging.{MayLogStep, LogsStep}
+use Rattle.gin_place.proofs.Carrying.{view_right}
+
+-- a log that is longer begins the same
+cut_front : (n : ℕ) (xs R : Log) → n ≤ length R → cut n (xs ++ R) ≡ cut n R
+cut_front n [] R le = refl
+cut_front n (x ∷ xs) R le = cut_less n x (xs ++ R) (omega (arith, le, length-append xs R)) ∙ cut_front n xs R le
+
+within : (n : ℕ) → IsPlacingKind n → (13 ≤ n) × (n ≤ 17)
+within n (inl e) = (omega (arith, e), omega (arith, e))
+within n (inr (inl e)) = (omega (arith, e), omega (arith, e))
+within n (inr (inr e)) = (omega (arith, e), omega (arith, e))
+
+-- a record of such a step is of its kind
+kind_placing : (R : Log) (k : Kind) → IsPlacingKind (kind_number k) → IsPlacing (drawn_kind R k)
+kind_placing R (kind.Commit n) p = absurd (let z : ⊥ = omega (arith, (within 3 p).0) in z)
+kind_placing R (kind.PlaceHead i s) p = absurd (let z : ⊥ = omega (arith, (within 6 p).0) in z)
+kind_placing R k p = within (kind_number k) p
+
+newest_kind : {r : Record} {k : Kind} (n : Record) → In n (r ∷ []) → r.kind ≡ k → n.kind ≡ k
+newest_kind n (inl e) is = ap (λ (x : Record). x.kind) e ∙ is
+newest_kind n (inr i) is = absurd i
+
+module _ {D : Type 0} (device : Disk D) (law : RightKeepsFound) (pairs : PairsHold) (f g : FramesValue D) (p q : Pass)
+    (held : List Sheet) (step : Step) (may : MayLogStep device f p held step)
+    (added : HasAdded device f g (kind_number step.kind ∷ []))
+    (seen : Seen device g q (λ S P. IsLogged (view_of g p S held) step S P))
+    (all : q.seen ≡ g.journal.state.records) (rises : PassRises p q) (of : IsPassOf g q) where
+  kept_then : (X : Pages → Type 0) → ((P Q : Pages) → FoundStays P Q → X P → X Q)
+      → ((P Q : Pages) → PairsStay P Q → X P → X Q) → Seen device f p (λ S P. X P) → Seen device g q (λ S P. X P)
+  kept_then X stay keep had t up R stands legal Q shown =
+      let S : Log = cut q.seen R in
+      let l = seen t up R stands legal Q shown in
+      let back = added.back t up R stands in
+      let before : Log = back.0 in
+      let more = owed_begins f.journal.owes before in
+      let long : f.journal.state.records ≡ length before = log_length device f.journal before back.1.journal in
+      let within : p.seen ≤ length before = omega (arith, (may.is_pass).seen, long) in
+      let parts : R ≡ back.2.added ++ (more.0 ++ before) =
+      back.2.log_is ∙ ap (λ (l : Log). back.2.added ++ l) more.1 in
+      let whole : S ≡ R = cut_whole q.seen R (all ∙ log_length device g.journal R stands.journal) in
+      let cuts : cut p.seen S ≡ cut p.seen before =
+      ap (cut p.seen) (whole ∙ parts)
+      ∙ cut_front p.seen back.2.added (more.0 ++ before) (omega (arith, within, length-append more.0 before))
+      ∙ cut_front p.seen more.0 before within in
+      let was : IsLegal before =
+      legal_before more.0 before (legal_before back.2.added (more.0 ++ before) (subst IsLegal parts legal)) in
+      let v = view_of g p S held in
+      let some : 1 ≤ p.seen = omega (arith, (may.is_pass).some) in
+      let far : p.seen ≤ length S =
+      omega (
+        arith,
+        within,
+        ap length (whole ∙ parts),
+        length-append back.2.added (more.0 ++ before),
+        length-append more.0 before,
+      ) in
+      let P = seen_shown v l.log l.allowed in
+      let x : X P.0 = had t (added.was_up up) before back.1 was P.0 (subst (λ (T : Log). Shows T P.0) cuts P.1) in
+      let r : maintenance.HasRight v = view_right g p S held may.right some far in
+      let y : X (l.allowed).pages =
+      stay P.0 (l.allowed).pages (law v l.log l.allowed P.0 r P.1) x in
+      let kept : PairsStay (l.allowed).pages Q =
+      pairs l.log (l.newest ∷ []) S (l.allowed).pages Q l.log_is
+      (λ none. omega (
+        arith,
+        some,
+        cut_length p.seen S far,
+        ap length none,
+        ap length (l.allowed).goes_on,
+        length-append (l.allowed).later (cut p.seen S),
+      ))
+      (subst IsLegal (sym whole) legal) (l.allowed).shown shown
+      (λ n i. inr (subst IsPlacing (sym (newest_kind n i (l.drawn).kind)) (kind_placing l.log step.kind may.placing)))
+      in
+      keep (l.allowed).pages Q kept y
+
+  pub logs_by : q.pin ≡ p.pin → q.room ≡ p.room → q.xid ≡ p.xid → q.work ≡ p.work → g.pins ≡ f.pins
+      → LogsStep device f p held step g q
+  logs_by pin room xid work pins = record {
+    works = record {
+      is_pass = of;
+      added = added;
+      placing = (may.placing, tt);
+      pairs = record {
+        pending = λ k i. kept_then (λ P. Pending P k i) (λ P Q s. s.pending k i) (λ P Q s. s.pending k i);
+        placed = λ k i. kept_then (λ P. Main P k i) (λ P Q s. s.main k i) (λ P Q s. s.main k i);
+      };
+      rises = rises;
+      pin = pin;
+      room = room;
+      xid = xid;
+      work = work;
+      pins = pins;
+    };
+    seen = seen;
+  }
+
+-- such a step draws no xid
+pub no_begin : (k : Kind) → IsPlacingKind (kind_number k) → k ≡ kind.Begin → ⊥
+no_begin k placing is =
+    let z : ⊥ = omega (arith, (within 2 (subst (λ (j : Kind). IsPlacingKind (kind_number j)) is placing)).0) in z
+
+pub xid_same : (k : Kind) → IsPlacingKind (kind_number k) → (value : ℕ) (xid : Option ℕ) {then : Option ℕ}
+    → then ≡ xid_after k value xid → then ≡ xid
+xid_same kind.Begin placing value xid is = absurd (let z : ⊥ = omega (arith, (within 2 placing).0) in z)
+xid_same (kind.Commit n) placing value xid is = absurd (let z : ⊥ = omega (arith, (within 3 placing).0) in z)
+xid_same kind.Abort placing value xid is = absurd (let z : ⊥ = omega (arith, (within 4 placing).0) in z)
+xid_same _ placing value xid is = is

@@ -1,0 +1,52 @@
+-- Why a page is not split, of the store as it was.
+use Rattle.std.proofs.Common.{◌≡◌, ⊎_elim, ℕ, [], ◌∷◌, refl, sym, subst, inl, inr}
+use Rattle.disk_trait.specs.declared.device.Disk.{Ghosts as Disk}
+use Rattle.page_types.specs.declared.page.Page.{Page}
+use Rattle.core_state.specs.Allowed.{Sheet}
+use Rattle.core_state.proofs.RunningOnes.{same_or_other}
+use Rattle.entry_tree.specs.Reading.{upper_in}
+use Rattle.buffer_frames.specs.Homes.{home_at, IsAway, LiesAs}
+use Rattle.buffer_frames.specs.Frames.{FramesValue, Lies, KeepsOthers}
+use Rattle.buffer_frames.specs.Passes.{IsPassOf}
+use Rattle.buffer_frames.specs.declared.home.Home.{Home}
+use Rattle.buffer_frames.specs.declared.pass.Pass.{Pass}
+use Rattle.gin_place.specs.Adopting.{CanTake}
+use Rattle.gin_place.specs.Causes.{Meets, CannotUse, IsBadRoom, IsWhy}
+use Rattle.gin_place.specs.Inner.Dividing.{WhyNoSplit}
+use Rattle.gin_place.specs.declared.error.PlaceError.{PlaceError}
+use Rattle.gin_place.specs.declared.error.PlaceError.TheVariants.{BadPage, OutOfMemory}
+use Rattle.gin_place.proofs.Causing.{meets_now}
+
+-- what lies there while another page is held lay there before
+pub lies_before : {D : Type 0} (f g : FramesValue D) (other page : ℕ) (c : Page) → KeepsOthers f g (other ∷ [])
+    → IsAway g.homes other → Lies g page c → Lies f page c
+lies_before f g other page c keeps away lies = elim (same_or_other page other) [
+  | inl same ↦ absurd
+      (subst (λ (h : Home). LiesAs h c) away (subst (λ (p : ℕ). LiesAs (home_at g.homes p) c) same lies))
+  | inr off ↦ subst (λ (h : Home). LiesAs h c) (keeps page (λ i. ⊎_elim off (λ n. n) i)) lies
+]
+
+module _ {D : Type 0} (device : Disk D) (f : FramesValue D) (p : Pass) (l : FramesValue D) (parent page : ℕ)
+    (old above : Sheet) (of : IsPassOf f p) (numbers : (old.page ≡ page) × (above.page ≡ parent))
+    (lies : Lies f page old.content × Lies f parent above.content) where
+  So : PlaceError → Type 0
+  So e = Meets device f p (IsWhy device (IsBadRoom parent page) (λ g. ⊥) l e)
+
+  now : (e : PlaceError) → IsWhy device (IsBadRoom parent page) (λ g. ⊥) l e f p → So e
+  unfolding So
+  now e why = meets_now device f p (IsWhy device (IsBadRoom parent page) (λ g. ⊥) l e) of why
+
+  pub split_why : (e : PlaceError) → WhyNoSplit old above e
+      → Meets device f p (IsWhy device (IsBadRoom parent page) (λ g. ⊥) l e)
+  unfolding So
+  split_why e (inl none) = subst So (sym none) (now OutOfMemory tt)
+  split_why e (inr (inl bad)) =
+      subst So (sym bad.0)
+      (now (BadPage old.page) (IsBadRoom.split numbers.0 (CannotUse.other old.content bad.1
+      (subst (λ (n : ℕ). Lies f n old.content) (sym numbers.0) lies.0) bad.2)))
+  split_why e (inr (inr bad)) =
+      let off = subst (λ (n : ℕ). CanTake n (upper_in bad.3.body) above.content → ⊥) numbers.0 bad.6 in
+      subst So (sym bad.0)
+      (now (BadPage above.page) (IsBadRoom.adopts (upper_in bad.3.body) numbers.1
+      (old.content, lies.0, bad.2, bad.5.keep, bad.3, bad.4, bad.5.parts, refl)
+      (CannotUse.other above.content bad.1 (subst (λ (n : ℕ). Lies f n above.content) (sym numbers.1) lies.1) off)))

@@ -1,0 +1,193 @@
+use Rattle.std.proofs.Common.{[], ◌∷◌, refl, sym, subst, arith, rules}
+use Rattle.std.proofs.lemmas.Result.{err_from_is_err_and}
+use Rattle.page_types.specs.Records.{kind_number}
+use Rattle.page_types.specs.declared.record.Kind.{Kind}
+use Rattle.buffer_frames.specs.Frames.{Lies}
+use Rattle.buffer_frames.proofs.AtHand.{none_held}
+use Rattle.gin_place.specs.Going.{WorksOn}
+use Rattle.gin_place.specs.Causes.{Meets, CannotUse, CanGrow, IsBadNew, IsBadRoom, IsWhy, CannotLog}
+use Rattle.gin_place.specs.Inner.Holding.{ReadsOn}
+use Rattle.gin_place.specs.Inner.Logging.{LogsStep}
+use Rattle.gin_place.specs.declared.error.PlaceError.TheVariants.{BadPage}
+use Rattle.gin_place.proofs.Carrying.{reads_in_turn, works_in_turn, right_on}
+use Rattle.gin_place.proofs.Causing.{at_exit, weaker, meets_now, meets_after, meets_as, hold_why, log_why, why_as}
+use Rattle.gin_place.proofs.Causing.{why_later}
+use Rattle.gin_place.proofs.Exits.{on_ok, on_err, if_err}
+use Rattle.gin_place.proofs.GrowSteps.{grow_may_log}
+use Rattle.gin_place.proofs.growing.grow_root.Goals as goal
+
+pub returns-in_err-root-clause-cause : goal.returns-in_err-root-clause-cause
+returns-in_err-root-clause-cause g c =
+    λ parent page.
+    let p = err_from_is_err_and c.from_residual.result c.from_residual.ensures.1 in
+    let w = c.in_err-root.field-0.0 in
+    at_exit (λ x. Meets g.D.Disk c.args.frames.now c.args.pass.now
+    (IsWhy g.D.Disk (IsBadRoom parent page) (λ f. ⊥) c.hold_page.new.frames x))
+    c.from_residual.result p.0 w p.1 p.2
+    (meets_now g.D.Disk c.args.frames.now c.args.pass.now
+    (IsWhy g.D.Disk (IsBadRoom parent page) (λ f. ⊥) c.hold_page.new.frames w) c.requires.pass
+    (hold_why g.D.Disk (IsBadRoom parent page) (λ f. ⊥) 1 c.hold_page.new.frames w c.args.frames.now c.args.pass.now
+    (λ bad. IsBadRoom.root refl (weaker c.args.frames.now CanGrow 1 bad)) c.in_err-root.ensures.cause))
+
+pub release-requires-clause-holding : goal.release-requires-clause-holding
+release-requires-clause-holding g c =
+    let h1 = c.in_ok-root.ensures.holding []
+    (none_held g.D.Disk c.args.frames.now c.args.pass.now c.requires.pass c.requires.none) in
+    ([], h1)
+
+pub returns-then-not-can_grow-clause-none_held : goal.returns-then-not-can_grow-clause-none_held
+returns-then-not-can_grow-clause-none_held g c =
+    let h1 = c.in_ok-root.ensures.holding []
+    (none_held g.D.Disk c.args.frames.now c.args.pass.now c.requires.pass c.requires.none) in
+    sym (c.release.ensures.holding [] h1).all
+
+pub returns-then-not-can_grow-clause-refused : goal.returns-then-not-can_grow-clause-refused
+returns-then-not-can_grow-clause-refused g c =
+    reads_in_turn g.D.Disk c.args.frames.now c.hold_page.new.frames c.release.new.frames c.args.pass.now
+    c.hold_page.new.pass c.release.new.pass c.hold_page.ensures.reads c.release.ensures.reads
+
+pub returns-then-not-can_grow-clause-cause : goal.returns-then-not-can_grow-clause-cause
+returns-then-not-can_grow-clause-cause g c =
+    λ parent page.
+    let off : CanGrow c.page.result.now → ⊥ = λ can. let z : ⊥ = search (rules, c.can_grow.ensures.1 can) in z in
+    let lies = subst (Lies c.args.frames.now 1) (sym c.page.ensures.value) c.in_ok-root.ensures.lies in
+    meets_now g.D.Disk c.args.frames.now c.args.pass.now
+    (IsWhy g.D.Disk (IsBadRoom parent page) (λ f. ⊥) c.release.new.frames (BadPage 1)) c.requires.pass
+    (IsBadRoom.root refl (CannotUse.other c.page.result.now c.page.ensures.is_page lies off))
+
+pub hold_new-requires-clause-few : goal.hold_new-requires-clause-few
+hold_new-requires-clause-few g c =
+    let h1 = c.in_ok-root.ensures.holding []
+    (none_held g.D.Disk c.args.frames.now c.args.pass.now c.requires.pass c.requires.none) in
+    omega (arith, h1.all)
+
+pub hold_new-requires-clause-holding : goal.hold_new-requires-clause-holding
+hold_new-requires-clause-holding g c =
+    let h1 = c.in_ok-root.ensures.holding []
+    (none_held g.D.Disk c.args.frames.now c.args.pass.now c.requires.pass c.requires.none) in
+    (c.in_ok-root.root ∷ [], h1)
+
+pub release-requires-in-Err-clause-holding : goal.release-requires-in-Err-clause-holding
+release-requires-in-Err-clause-holding g c =
+    let h1 = c.in_ok-root.ensures.holding []
+    (none_held g.D.Disk c.args.frames.now c.args.pass.now c.requires.pass c.requires.none) in
+    let h2 = c.in-Err.ensures.still.holding (c.in_ok-root.root ∷ []) h1 in
+    ([], h2)
+
+pub returns-in-Err-clause-none_held : goal.returns-in-Err-clause-none_held
+returns-in-Err-clause-none_held g c =
+    let h1 = c.in_ok-root.ensures.holding []
+    (none_held g.D.Disk c.args.frames.now c.args.pass.now c.requires.pass c.requires.none) in
+    let h2 = c.in-Err.ensures.still.holding (c.in_ok-root.root ∷ []) h1 in
+    sym (c.release-in-Err.ensures.holding [] h2).all
+
+pub returns-in-Err-clause-refused : goal.returns-in-Err-clause-refused
+returns-in-Err-clause-refused g c =
+    let r2 = reads_in_turn g.D.Disk c.args.frames.now c.hold_page.new.frames c.hold_new.new.frames c.args.pass.now
+    c.hold_page.new.pass c.hold_new.new.pass c.hold_page.ensures.reads c.hold_new.ensures.reads in
+    reads_in_turn g.D.Disk c.args.frames.now c.hold_new.new.frames c.release-in-Err.new.frames c.args.pass.now
+    c.hold_new.new.pass c.release-in-Err.new.pass r2 c.release-in-Err.ensures.reads
+
+pub returns-in-Err-clause-cause : goal.returns-in-Err-clause-cause
+returns-in-Err-clause-cause g c =
+    λ parent page.
+    let w = c.in-Err.error in
+    meets_after g.D.Disk c.args.frames.now c.hold_page.new.frames c.args.pass.now c.hold_page.new.pass []
+    (IsWhy g.D.Disk (IsBadRoom parent page) (λ f. ⊥) c.release-in-Err.new.frames w) c.hold_page.ensures.reads.works
+    (meets_as g.D.Disk c.hold_page.new.frames c.hold_page.new.pass
+    (IsWhy g.D.Disk IsBadNew (λ f. ⊥) c.hold_new.new.frames w)
+    (IsWhy g.D.Disk (IsBadRoom parent page) (λ f. ⊥) c.release-in-Err.new.frames w)
+    (λ f q why. why_as g.D.Disk IsBadNew (λ x. ⊥) (IsBadRoom parent page) (λ x. ⊥) c.release-in-Err.new.frames w f q
+    (λ n bad. IsBadRoom.new bad) (λ x. x)
+    (why_later g.D.Disk IsBadNew (λ x. ⊥) c.hold_new.new.frames c.release-in-Err.new.frames w
+    c.release-in-Err.ensures.faults f q why)) c.in-Err.ensures.cause)
+
+pub log_two-requires : goal.log_two-requires
+log_two-requires g c =
+    let r2 = reads_in_turn g.D.Disk c.args.frames.now c.hold_page.new.frames c.hold_new.new.frames c.args.pass.now
+    c.hold_page.new.pass c.hold_new.new.pass c.hold_page.ensures.reads c.hold_new.ensures.reads in
+    let h1 = c.in_ok-root.ensures.holding []
+    (none_held g.D.Disk c.args.frames.now c.args.pass.now c.requires.pass c.requires.none) in
+    let h2 = c.in-Ok.ensures.holding (c.in_ok-root.root ∷ []) h1 in
+    let can : CanGrow c.in_ok-root.root.content =
+    subst CanGrow c.page.ensures.value (c.can_grow.ensures.0 (search rules)) in
+    grow_may_log g.D.Disk c.hold_new.new.frames c.hold_new.new.pass c.in_ok-root.root c.in-Ok.new
+    c.in-Ok-grow_step.step c.in-Ok-grow_step.ensures.step h2 can.0 can.1 c.in_ok-root.ensures.number
+    c.in-Ok-grow_step.ensures.low r2.works.is_pass
+    (right_on g.D.Disk c.args.frames.now c.hold_new.new.frames c.args.pass.now c.hold_new.new.pass [] c.requires.right
+    r2.works) c.tree_steps_hold.ensures.grow_root c.tree_pages_serve.ensures.grown c.pages_may_be_logged.ensures.grown
+    c.in-Ok.ensures.new
+
+pub returns-in-Ok-grow_step-clause-grown : goal.returns-in-Ok-grow_step-clause-grown
+returns-in-Ok-grow_step-clause-grown g c =
+    let r2 = reads_in_turn g.D.Disk c.args.frames.now c.hold_page.new.frames c.hold_new.new.frames c.args.pass.now
+    c.hold_page.new.pass c.hold_new.new.pass c.hold_page.ensures.reads c.hold_new.ensures.reads in
+    let s = c.in-Ok-grow_step.step in
+    on_ok c.log_two.result (LogsStep g.D.Disk c.hold_new.new.frames c.hold_new.new.pass
+    (c.in-Ok.new ∷ c.in_ok-root.root ∷ []) s c.log_two.new.frames c.log_two.new.pass)
+    (WorksOn g.D.Disk c.args.frames.now c.args.pass.now c.log_two.new.frames c.log_two.new.pass (16 ∷ []))
+    (λ l. subst (λ (k : Kind). WorksOn g.D.Disk c.args.frames.now c.args.pass.now c.log_two.new.frames
+    c.log_two.new.pass (kind_number k ∷ [])) c.in-Ok-grow_step.ensures.step.kind_is
+    (works_in_turn g.D.Disk c.args.frames.now c.hold_new.new.frames c.log_two.new.frames c.args.pass.now
+    c.hold_new.new.pass c.log_two.new.pass [] (kind_number s.kind ∷ []) r2.works l.works)) c.log_two.ensures.logged
+
+pub returns-in-Ok-grow_step-clause-refused : goal.returns-in-Ok-grow_step-clause-refused
+returns-in-Ok-grow_step-clause-refused g c =
+    let r2 = reads_in_turn g.D.Disk c.args.frames.now c.hold_page.new.frames c.hold_new.new.frames c.args.pass.now
+    c.hold_page.new.pass c.hold_new.new.pass c.hold_page.ensures.reads c.hold_new.ensures.reads in
+    on_err c.log_two.result
+    (ReadsOn g.D.Disk c.hold_new.new.frames c.hold_new.new.pass c.log_two.new.frames c.log_two.new.pass)
+    (ReadsOn g.D.Disk c.args.frames.now c.args.pass.now c.log_two.new.frames c.log_two.new.pass)
+    (λ r. reads_in_turn g.D.Disk c.args.frames.now c.hold_new.new.frames c.log_two.new.frames c.args.pass.now
+    c.hold_new.new.pass c.log_two.new.pass r2 r) c.log_two.ensures.refused
+
+pub returns-in-Ok-grow_step-clause-cause : goal.returns-in-Ok-grow_step-clause-cause
+returns-in-Ok-grow_step-clause-cause g c =
+    let r2 = reads_in_turn g.D.Disk c.args.frames.now c.hold_page.new.frames c.hold_new.new.frames c.args.pass.now
+    c.hold_page.new.pass c.hold_new.new.pass c.hold_page.ensures.reads c.hold_new.ensures.reads in
+    λ parent page.
+    if_err c.log_two.result
+    (λ e. CannotLog g.D.Disk c.log_two.new.frames e c.hold_new.new.frames c.hold_new.new.pass)
+    (λ e. Meets g.D.Disk c.args.frames.now c.args.pass.now
+    (IsWhy g.D.Disk (IsBadRoom parent page) (λ f. ⊥) c.log_two.new.frames e))
+    (λ e why. (
+      c.hold_new.new.frames,
+      c.hold_new.new.pass,
+      [],
+      r2.works,
+      log_why g.D.Disk (IsBadRoom parent page) (λ f. ⊥) c.log_two.new.frames e c.hold_new.new.frames
+          c.hold_new.new.pass why,
+    )) c.log_two.ensures.cause
+
+pub release-requires-in-Err-grow_step-clause-holding : goal.release-requires-in-Err-grow_step-clause-holding
+release-requires-in-Err-grow_step-clause-holding g c =
+    let h1 = c.in_ok-root.ensures.holding []
+    (none_held g.D.Disk c.args.frames.now c.args.pass.now c.requires.pass c.requires.none) in
+    let h2 = c.in-Ok.ensures.holding (c.in_ok-root.root ∷ []) h1 in
+    (c.in_ok-root.root ∷ [], h2)
+
+pub release-requires-in-Err-grow_step-2-clause-holding : goal.release-requires-in-Err-grow_step-2-clause-holding
+release-requires-in-Err-grow_step-2-clause-holding g c =
+    let h1 = c.in_ok-root.ensures.holding []
+    (none_held g.D.Disk c.args.frames.now c.args.pass.now c.requires.pass c.requires.none) in
+    let h2 = c.in-Ok.ensures.holding (c.in_ok-root.root ∷ []) h1 in
+    ([], c.release-in-Err-grow_step.ensures.holding (c.in_ok-root.root ∷ []) h2)
+
+pub returns-in-Err-grow_step-clause-none_held : goal.returns-in-Err-grow_step-clause-none_held
+returns-in-Err-grow_step-clause-none_held g c =
+    let h1 = c.in_ok-root.ensures.holding []
+    (none_held g.D.Disk c.args.frames.now c.args.pass.now c.requires.pass c.requires.none) in
+    let h2 = c.in-Ok.ensures.holding (c.in_ok-root.root ∷ []) h1 in
+    sym (c.release-in-Err-grow_step-2.ensures.holding []
+    (c.release-in-Err-grow_step.ensures.holding (c.in_ok-root.root ∷ []) h2)).all
+
+pub returns-in-Err-grow_step-clause-refused : goal.returns-in-Err-grow_step-clause-refused
+returns-in-Err-grow_step-clause-refused g c =
+    let r2 = reads_in_turn g.D.Disk c.args.frames.now c.hold_page.new.frames c.hold_new.new.frames c.args.pass.now
+    c.hold_page.new.pass c.hold_new.new.pass c.hold_page.ensures.reads c.hold_new.ensures.reads in
+    let r3 = reads_in_turn g.D.Disk c.args.frames.now c.hold_new.new.frames c.release-in-Err-grow_step.new.frames
+    c.args.pass.now c.hold_new.new.pass c.release-in-Err-grow_step.new.pass r2
+    c.release-in-Err-grow_step.ensures.reads in
+    reads_in_turn g.D.Disk c.args.frames.now c.release-in-Err-grow_step.new.frames
+    c.release-in-Err-grow_step-2.new.frames c.args.pass.now c.release-in-Err-grow_step.new.pass
+    c.release-in-Err-grow_step-2.new.pass r3 c.release-in-Err-grow_step-2.ensures.reads

@@ -1,0 +1,99 @@
+use Rattle.std.proofs.Common.{◌≡◌, [], ◌∷◌, sym, subst, ◌∙◌}
+use Rattle.std.proofs.lemmas.Result.{err_from_is_err_and}
+use Rattle.buffer_frames.proofs.AtHand.{none_held}
+use Rattle.gin_place.specs.Causes.{Meets, CannotHold}
+use Rattle.gin_place.specs.declared.error.PlaceError.{PlaceError}
+use Rattle.gin_place.specs.declared.error.PlaceError.TheVariants.{Down, BadPage}
+use Rattle.buffer_frames.proofs.Exits.{one_error}
+use Rattle.gin_place.proofs.Carrying.{reads_by, reads_in_turn, right_on, held_seen}
+use Rattle.gin_place.proofs.Causing.{at_exit, meets_now, look_down}
+use Rattle.gin_place.proofs.holding.hold_seen.Goals as goal
+
+pub returns-in-Ok-clause-reads : goal.returns-in-Ok-clause-reads
+returns-in-Ok-clause-reads g c =
+    let e = c.look.ensures in
+    let h = c.hold_page.ensures in
+    let reads = reads_in_turn g.D.Disk c.args.frames.now c.hold_page.new.frames c.look.new.self c.args.pass.now
+    c.hold_page.new.pass c.look.new.pass h.reads
+    (reads_by g.D.Disk c.found_stays.ensures.right c.hold_page.new.frames c.look.new.self c.hold_page.new.pass
+    c.look.new.pass h.reads.works.is_pass
+    (right_on g.D.Disk c.args.frames.now c.hold_page.new.frames c.args.pass.now c.hold_page.new.pass [] c.requires.right
+    h.reads.works) e.added e.sees_on e.rises e.pass e.keeps.pin e.keeps.room e.keeps.xid e.keeps.work e.pins) in
+    reads
+
+pub returns-in-Ok-clause-holding : goal.returns-in-Ok-clause-holding
+returns-in-Ok-clause-holding g c =
+    let first = c.in_ok-held.ensures.holding []
+    (none_held g.D.Disk c.args.frames.now c.args.pass.now c.requires.pass c.requires.none) in
+    let second = c.look.ensures.holding (c.in_ok-held.held ∷ []) first in
+    second
+
+pub returns-in-Ok-clause-seen : goal.returns-in-Ok-clause-seen
+returns-in-Ok-clause-seen g c =
+    let first = c.in_ok-held.ensures.holding []
+    (none_held g.D.Disk c.args.frames.now c.args.pass.now c.requires.pass c.requires.none) in
+    let second = c.look.ensures.holding (c.in_ok-held.held ∷ []) first in
+    held_seen g.D.Disk c.look.new.self c.look.new.pass c.in_ok-held.held [] second c.in-Ok.ensures.all
+
+pub release-requires-clause-holding : goal.release-requires-clause-holding
+release-requires-clause-holding g c =
+    let first = c.in_ok-held.ensures.holding []
+    (none_held g.D.Disk c.args.frames.now c.args.pass.now c.requires.pass c.requires.none) in
+    let second = c.look.ensures.holding (c.in_ok-held.held ∷ []) first in
+    ([], second)
+
+pub returns-in-Err-clause-reads : goal.returns-in-Err-clause-reads
+returns-in-Err-clause-reads g c =
+    let e = c.look.ensures in
+    let h = c.hold_page.ensures in
+    let reads = reads_in_turn g.D.Disk c.args.frames.now c.hold_page.new.frames c.look.new.self c.args.pass.now
+    c.hold_page.new.pass c.look.new.pass h.reads
+    (reads_by g.D.Disk c.found_stays.ensures.right c.hold_page.new.frames c.look.new.self c.hold_page.new.pass
+    c.look.new.pass h.reads.works.is_pass
+    (right_on g.D.Disk c.args.frames.now c.hold_page.new.frames c.args.pass.now c.hold_page.new.pass [] c.requires.right
+    h.reads.works) e.added e.sees_on e.rises e.pass e.keeps.pin e.keeps.room e.keeps.xid e.keeps.work e.pins) in
+    reads_in_turn g.D.Disk c.args.frames.now c.look.new.self c.release.new.frames c.args.pass.now c.look.new.pass
+    c.release.new.pass reads c.release.ensures.reads
+
+pub returns-in-Err-clause-still : goal.returns-in-Err-clause-still
+returns-in-Err-clause-still g c =
+    let first = c.in_ok-held.ensures.holding []
+    (none_held g.D.Disk c.args.frames.now c.args.pass.now c.requires.pass c.requires.none) in
+    let second = c.look.ensures.holding (c.in_ok-held.held ∷ []) first in
+    sym (c.release.ensures.holding [] second).all
+
+pub returns-in_err-held-clause-cause : goal.returns-in_err-held-clause-cause
+returns-in_err-held-clause-cause g c =
+    let p = err_from_is_err_and c.from_residual.result c.from_residual.ensures.1 in
+    let w = c.in_err-held.field-0.0 in
+    at_exit (λ x. Meets g.D.Disk c.args.frames.now c.args.pass.now
+    (CannotHold g.D.Disk c.args.page c.hold_page.new.frames x)) c.from_residual.result p.0 w p.1 p.2
+    (meets_now g.D.Disk c.args.frames.now c.args.pass.now (CannotHold g.D.Disk c.args.page c.hold_page.new.frames w)
+    c.requires.pass c.in_err-held.ensures.cause)
+
+pub returns-in-Err-clause-cause : goal.returns-in-Err-clause-cause
+returns-in-Err-clause-cause g c =
+    let d = look_down g.D.Disk c.hold_page.new.frames c.look.result c.in-Err.error c.in-Err.is c.look.ensures.is_down
+    c.in-Err.ensures.error in (
+      c.hold_page.new.frames,
+      c.hold_page.new.pass,
+      [],
+      c.hold_page.ensures.reads.works,
+      subst (λ (x : PlaceError). CannotHold g.D.Disk c.args.page c.release.new.frames x c.hold_page.new.frames
+          c.hold_page.new.pass) (sym (c.from.ensures ∙ d.1)) d.2,
+    )
+
+pub returns-in_err-held-clause-bad : goal.returns-in_err-held-clause-bad
+returns-in_err-held-clause-bad g c = λ n is.
+    let p = err_from_is_err_and c.from_residual.result c.from_residual.ensures.1 in
+    let same = one_error c.from_residual.result p.0 (BadPage n) p.1 is in
+    subst
+    (λ (x : PlaceError). CannotHold g.D.Disk c.args.page c.hold_page.new.frames x c.args.frames.now c.args.pass.now)
+    (sym p.2 ∙ same) c.in_err-held.ensures.cause
+
+pub returns-in-Err-clause-bad : goal.returns-in-Err-clause-bad
+returns-in-Err-clause-bad g c = λ n is.
+    let d = look_down g.D.Disk c.hold_page.new.frames c.look.result c.in-Err.error c.in-Err.is c.look.ensures.is_down
+    c.in-Err.ensures.error in
+    let two : Down d.0 ≡ BadPage n = let e = sym (c.from.ensures ∙ d.1) in let both = is in cc in
+    let z : ⊥ = cc in absurd z

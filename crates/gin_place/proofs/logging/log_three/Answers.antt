@@ -1,0 +1,29 @@
+use Rattle.std.proofs.Common.{◌≡◌, List, [], ◌∷◌, ◌++◌, sym, ap, subst, ◌∙◌}
+use Rattle.std.specs.Prelude.{OnOk}
+use Rattle.core_state.specs.Allowed.{Sheet}
+use Rattle.gin_place.specs.Inner.Logging.{MayLogStep, LogsStep}
+use Rattle.gin_place.proofs.logging.log_three.Goals as goal
+
+pub log_pages-requires : goal.log_pages-requires
+log_pages-requires g c =
+    let t = c.args.three in
+    let items : c.push_reserved-3.new.self.items ≡ t.new ∷ t.page ∷ t.parent ∷ [] =
+    c.push_reserved-3.ensures.items
+    ∙ ap (λ (l : List Sheet). l ++ t.parent ∷ []) (c.push_reserved-2.ensures.items
+    ∙ ap (λ (l : List Sheet). l ++ t.page ∷ []) (c.push_reserved.ensures.items
+    ∙ ap (λ (l : List Sheet). l ++ t.new ∷ []) (c.reserve.ensures.items ∙ c.new-pages.ensures.items))) in
+    subst (λ (l : List Sheet). MayLogStep g.D.Disk c.args.frames.now c.args.pass.now l c.args.step)
+    (sym items) c.requires
+
+pub returns-clause-logged : goal.returns-clause-logged
+returns-clause-logged g c =
+    let t = c.args.three in
+    let items : c.push_reserved-3.new.self.items ≡ t.new ∷ t.page ∷ t.parent ∷ [] =
+    c.push_reserved-3.ensures.items
+    ∙ ap (λ (l : List Sheet). l ++ t.parent ∷ []) (c.push_reserved-2.ensures.items
+    ∙ ap (λ (l : List Sheet). l ++ t.page ∷ []) (c.push_reserved.ensures.items
+    ∙ ap (λ (l : List Sheet). l ++ t.new ∷ []) (c.reserve.ensures.items ∙ c.new-pages.ensures.items))) in
+    subst (λ (l : List Sheet). OnOk c.log_pages.result
+    (LogsStep g.D.Disk c.args.frames.now c.args.pass.now l c.args.step c.log_pages.new.frames c.log_pages.new.pass))
+    items
+    c.log_pages.ensures.logged

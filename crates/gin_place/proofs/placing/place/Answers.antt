@@ -1,0 +1,103 @@
+use Rattle.std.proofs.Common.{refl, [], ◌++◌, sym, subst, rules}
+use Rattle.std.proofs.lemmas.Result.{err_from_is_err_and}
+use Rattle.gin_place.specs.Placing.{IsAt, IsPlacing}
+use Rattle.gin_place.specs.Causes.{Meets, HasLong, IsBad, IsBadIn, IsWhy}
+use Rattle.gin_place.proofs.Carrying.{reads_still, same_added, works_in_turn, right_on}
+use Rattle.gin_place.proofs.Causing.{at_exit, meets_after, meets_as, why_as}
+use Rattle.gin_place.proofs.Stepped.{root_way}
+use Rattle.gin_place.proofs.placing.place.Goals as goal
+
+pub loop-init : goal.loop-init
+loop-init g c =
+    record {
+      works = (
+        [],
+        (reads_still g.D.Disk c.args.frames.now c.args.pass.now c.requires.pass
+            (same_added g.D.Disk c.args.frames.now)).works,
+      );
+      none_held = c.requires.none;
+      placing = subst (IsPlacing g.D.Disk c.args.frames.now c.args.pass.now c.args.key.now c.args.items.now)
+          (sym c.begin-placing.ensures)
+          (root_way g.D.Disk c.args.frames.now c.args.pass.now c.args.key.now, refl);
+    }
+
+pub step-requires : goal.step-requires
+step-requires g c =
+    let was = c.loop.invariant in
+    record {
+      pass = was.works.1.is_pass;
+      right = right_on g.D.Disk c.args.frames.now c.loop.frames c.args.pass.now c.loop.pass was.works.0 c.requires.right
+          was.works.1;
+      none = was.none_held;
+      key = c.requires.key;
+      items = c.requires.items;
+      rows = λ i on. was.works.1.pairs.pending c.args.key.now i (c.requires.rows i on);
+      placing = was.placing;
+    }
+
+pub loop-preserved : goal.loop-preserved
+loop-preserved g c =
+    let was = c.loop.invariant in
+    let e = c.in_ok-more.ensures in
+    let all = works_in_turn g.D.Disk c.args.frames.now c.loop.frames c.step.new.frames c.args.pass.now c.loop.pass
+    c.step.new.pass was.works.0 e.works.0 was.works.1 e.works.2 in
+    record { works = (was.works.0 ++ e.works.0, all); none_held = e.none_held; placing = e.placing }
+
+pub returns-then-not-more-clause-placed : goal.returns-then-not-more-clause-placed
+returns-then-not-more-clause-placed g c =
+    let e = c.in_ok-more.ensures in
+    subst (IsAt g.D.Disk c.step.new.frames c.step.new.pass c.args.key.now c.args.items.now)
+    (e.done.0 (search rules)) e.placing.0
+
+pub returns-then-not-more-clause-none_held : goal.returns-then-not-more-clause-none_held
+returns-then-not-more-clause-none_held g c =
+    c.in_ok-more.ensures.none_held
+
+pub returns-then-not-more-clause-works : goal.returns-then-not-more-clause-works
+returns-then-not-more-clause-works g c =
+    let was = c.loop.invariant in
+    let e = c.in_ok-more.ensures in
+    let all = works_in_turn g.D.Disk c.args.frames.now c.loop.frames c.step.new.frames c.args.pass.now c.loop.pass
+    c.step.new.pass was.works.0 e.works.0 was.works.1 e.works.2 in
+    (was.works.0 ++ e.works.0, all)
+
+pub returns-in_err-more-clause-none_held : goal.returns-in_err-more-clause-none_held
+returns-in_err-more-clause-none_held g c =
+    c.in_err-more.ensures.none_held
+
+pub returns-in_err-more-clause-works : goal.returns-in_err-more-clause-works
+returns-in_err-more-clause-works g c =
+    let was = c.loop.invariant in
+    let e = c.in_err-more.ensures in
+    let all = works_in_turn g.D.Disk c.args.frames.now c.loop.frames c.step.new.frames c.args.pass.now c.loop.pass
+    c.step.new.pass was.works.0 e.works.0 was.works.1 e.works.2 in
+    (was.works.0 ++ e.works.0, all)
+
+pub returns-in_err-more-clause-cause : goal.returns-in_err-more-clause-cause
+returns-in_err-more-clause-cause g c =
+    let was = c.loop.invariant in
+    let p = err_from_is_err_and c.from_residual.result c.from_residual.ensures.1 in
+    let w = c.in_err-more.field-0.0 in
+    at_exit (λ x. Meets g.D.Disk c.args.frames.now c.args.pass.now (IsWhy g.D.Disk (IsBadIn g.D.Disk c.args.key.now)
+    (HasLong c.args.key.now c.args.items.now) c.step.new.frames x)) c.from_residual.result p.0 w p.1 p.2
+    (meets_after g.D.Disk c.args.frames.now c.loop.frames c.args.pass.now c.loop.pass was.works.0 (IsWhy g.D.Disk
+    (IsBadIn g.D.Disk c.args.key.now) (HasLong c.args.key.now c.args.items.now) c.step.new.frames w) was.works.1
+    (meets_as g.D.Disk c.loop.frames c.loop.pass (IsWhy g.D.Disk (IsBad g.D.Disk c.args.key.now c.loop.placing)
+    (HasLong c.args.key.now c.args.items.now) c.step.new.frames w)
+    (IsWhy g.D.Disk (IsBadIn g.D.Disk c.args.key.now) (HasLong c.args.key.now c.args.items.now) c.step.new.frames w)
+    (λ f q why. why_as g.D.Disk (IsBad g.D.Disk c.args.key.now c.loop.placing) (HasLong c.args.key.now c.args.items.now)
+    (IsBadIn g.D.Disk c.args.key.now) (HasLong c.args.key.now c.args.items.now) c.step.new.frames w f q
+    (λ n bad. (c.loop.placing, bad)) (λ x. x) why) c.in_err-more.ensures.cause))
+
+pub returns-clause-none_held : goal.returns-clause-none_held
+returns-clause-none_held g c =
+    c.loop.invariant.none_held
+
+pub returns-clause-works : goal.returns-clause-works
+returns-clause-works g c =
+    c.loop.invariant.works
+
+pub returns-clause-cause : goal.returns-clause-cause
+returns-clause-cause g c =
+    let was = c.loop.invariant in
+    (c.loop.frames, c.loop.pass, was.works.0, was.works.1, tt)

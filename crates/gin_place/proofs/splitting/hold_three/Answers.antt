@@ -1,0 +1,157 @@
+use Rattle.std.proofs.Common.{subst, [], ◌∷◌, refl, sym, arith}
+use Rattle.std.proofs.lemmas.Result.{err_from_is_err_and}
+use Rattle.buffer_frames.specs.Homes.{IsAway}
+use Rattle.buffer_frames.proofs.AtHand.{none_held}
+use Rattle.gin_place.specs.Causes.{Meets, CanDivide, IsBadNew, IsBadRoom, IsWhy}
+use Rattle.gin_place.proofs.Carrying.{reads_in_turn}
+use Rattle.gin_place.proofs.Causing.{at_exit, weaker, meets_now, meets_after, meets_as, hold_why, hold_later, Later}
+use Rattle.gin_place.proofs.Causing.{why_as, why_later}
+use Rattle.gin_place.proofs.SplitCauses.{lies_before}
+use Rattle.gin_place.proofs.splitting.hold_three.Goals as goal
+
+pub returns-in_err-parent-clause-cause : goal.returns-in_err-parent-clause-cause
+returns-in_err-parent-clause-cause g c =
+    let p = err_from_is_err_and c.from_residual.result c.from_residual.ensures.1 in
+    let w = c.in_err-parent.field-0.0 in
+    at_exit (λ x. Meets g.D.Disk c.args.frames.now c.args.pass.now
+    (IsWhy g.D.Disk (IsBadRoom c.args.parent c.args.page) (λ f. ⊥) c.hold_page.new.frames x))
+    c.from_residual.result p.0 w p.1 p.2
+    (meets_now g.D.Disk c.args.frames.now c.args.pass.now
+    (IsWhy g.D.Disk (IsBadRoom c.args.parent c.args.page) (λ f. ⊥) c.hold_page.new.frames w) c.requires.pass
+    (hold_why g.D.Disk (IsBadRoom c.args.parent c.args.page) (λ f. ⊥) c.args.parent c.hold_page.new.frames w
+    c.args.frames.now c.args.pass.now (λ bad. IsBadRoom.above refl bad) c.in_err-parent.ensures.cause))
+
+pub hold_page-requires-2-clause-few : goal.hold_page-requires-2-clause-few
+hold_page-requires-2-clause-few g c =
+    let h1 = c.in_ok-parent.ensures.holding []
+    (none_held g.D.Disk c.args.frames.now c.args.pass.now c.requires.pass c.requires.none) in
+    omega (arith, h1.all)
+
+pub release-requires-clause-holding : goal.release-requires-clause-holding
+release-requires-clause-holding g c =
+    let h1 = c.in_ok-parent.ensures.holding []
+    (none_held g.D.Disk c.args.frames.now c.args.pass.now c.requires.pass c.requires.none) in
+    let h2 = c.in-Err.ensures.still.holding (c.in_ok-parent.parent ∷ []) h1 in
+    ([], h2)
+
+pub returns-in-Err-clause-reads : goal.returns-in-Err-clause-reads
+returns-in-Err-clause-reads g c =
+    let r2 = reads_in_turn g.D.Disk c.args.frames.now c.hold_page.new.frames c.hold_page-2.new.frames c.args.pass.now
+    c.hold_page.new.pass c.hold_page-2.new.pass c.hold_page.ensures.reads c.hold_page-2.ensures.reads in
+    reads_in_turn g.D.Disk c.args.frames.now c.hold_page-2.new.frames c.release.new.frames c.args.pass.now
+    c.hold_page-2.new.pass c.release.new.pass r2 c.release.ensures.reads
+
+pub returns-in-Err-clause-still : goal.returns-in-Err-clause-still
+returns-in-Err-clause-still g c =
+    let h1 = c.in_ok-parent.ensures.holding []
+    (none_held g.D.Disk c.args.frames.now c.args.pass.now c.requires.pass c.requires.none) in
+    let h2 = c.in-Err.ensures.still.holding (c.in_ok-parent.parent ∷ []) h1 in
+    sym (c.release.ensures.holding [] h2).all
+
+pub returns-in-Err-clause-cause : goal.returns-in-Err-clause-cause
+returns-in-Err-clause-cause g c =
+    let w = c.in-Err.error in (
+      c.hold_page.new.frames,
+      c.hold_page.new.pass,
+      [],
+      c.hold_page.ensures.reads.works,
+      hold_why g.D.Disk (IsBadRoom c.args.parent c.args.page) (λ f. ⊥) c.args.page c.release.new.frames w
+          c.hold_page.new.frames c.hold_page.new.pass
+          (λ bad. IsBadRoom.split refl (weaker c.hold_page.new.frames CanDivide c.args.page bad))
+          (hold_later g.D.Disk c.args.page c.hold_page-2.new.frames c.release.new.frames w c.release.ensures.faults
+          c.hold_page.new.frames c.hold_page.new.pass c.in-Err.ensures.cause),
+    )
+
+pub hold_new-requires-clause-few : goal.hold_new-requires-clause-few
+hold_new-requires-clause-few g c =
+    let h1 = c.in_ok-parent.ensures.holding []
+    (none_held g.D.Disk c.args.frames.now c.args.pass.now c.requires.pass c.requires.none) in
+    let h2 = c.in-Ok.ensures.holding (c.in_ok-parent.parent ∷ []) h1 in
+    omega (arith, h2.all)
+
+pub hold_new-requires-clause-holding : goal.hold_new-requires-clause-holding
+hold_new-requires-clause-holding g c =
+    let h1 = c.in_ok-parent.ensures.holding []
+    (none_held g.D.Disk c.args.frames.now c.args.pass.now c.requires.pass c.requires.none) in
+    let h2 = c.in-Ok.ensures.holding (c.in_ok-parent.parent ∷ []) h1 in
+    (c.in-Ok.page ∷ c.in_ok-parent.parent ∷ [], h2)
+
+pub release-requires-in-Err-hold_new-clause-holding : goal.release-requires-in-Err-hold_new-clause-holding
+release-requires-in-Err-hold_new-clause-holding g c =
+    let h1 = c.in_ok-parent.ensures.holding []
+    (none_held g.D.Disk c.args.frames.now c.args.pass.now c.requires.pass c.requires.none) in
+    let h2 = c.in-Ok.ensures.holding (c.in_ok-parent.parent ∷ []) h1 in
+    let h3 = c.in-Err-hold_new.ensures.still.holding (c.in-Ok.page ∷ c.in_ok-parent.parent ∷ []) h2 in
+    (c.in_ok-parent.parent ∷ [], h3)
+
+pub release-requires-in-Err-hold_new-2-clause-holding : goal.release-requires-in-Err-hold_new-2-clause-holding
+release-requires-in-Err-hold_new-2-clause-holding g c =
+    let h1 = c.in_ok-parent.ensures.holding []
+    (none_held g.D.Disk c.args.frames.now c.args.pass.now c.requires.pass c.requires.none) in
+    let h2 = c.in-Ok.ensures.holding (c.in_ok-parent.parent ∷ []) h1 in
+    let h3 = c.in-Err-hold_new.ensures.still.holding (c.in-Ok.page ∷ c.in_ok-parent.parent ∷ []) h2 in
+    ([], c.release-in-Err-hold_new.ensures.holding (c.in_ok-parent.parent ∷ []) h3)
+
+pub returns-in-Ok-hold_new-clause-reads : goal.returns-in-Ok-hold_new-clause-reads
+returns-in-Ok-hold_new-clause-reads g c =
+    let r2 = reads_in_turn g.D.Disk c.args.frames.now c.hold_page.new.frames c.hold_page-2.new.frames c.args.pass.now
+    c.hold_page.new.pass c.hold_page-2.new.pass c.hold_page.ensures.reads c.hold_page-2.ensures.reads in
+    let r3 = reads_in_turn g.D.Disk c.args.frames.now c.hold_page-2.new.frames c.hold_new.new.frames c.args.pass.now
+    c.hold_page-2.new.pass c.hold_new.new.pass r2 c.hold_new.ensures.reads in
+    r3
+
+pub returns-in-Ok-hold_new-clause-holding : goal.returns-in-Ok-hold_new-clause-holding
+returns-in-Ok-hold_new-clause-holding g c =
+    let h1 = c.in_ok-parent.ensures.holding []
+    (none_held g.D.Disk c.args.frames.now c.args.pass.now c.requires.pass c.requires.none) in
+    let h2 = c.in-Ok.ensures.holding (c.in_ok-parent.parent ∷ []) h1 in
+    let h3 = c.in-Ok-hold_new.ensures.holding (c.in-Ok.page ∷ c.in_ok-parent.parent ∷ []) h2 in
+    h3
+
+pub returns-in-Ok-hold_new-clause-lies : goal.returns-in-Ok-hold_new-clause-lies
+returns-in-Ok-hold_new-clause-lies g c =
+    let h1 = c.in_ok-parent.ensures.holding []
+    (none_held g.D.Disk c.args.frames.now c.args.pass.now c.requires.pass c.requires.none) in
+    let away = subst (IsAway c.hold_page.new.frames.homes) c.in_ok-parent.ensures.number h1.away.0.0 in (
+      lies_before c.args.frames.now c.hold_page.new.frames c.args.parent c.args.page c.in-Ok.page.content
+          c.in_ok-parent.ensures.others away c.in-Ok.ensures.lies,
+      c.in_ok-parent.ensures.lies,
+    )
+
+pub returns-in-Err-hold_new-clause-reads : goal.returns-in-Err-hold_new-clause-reads
+returns-in-Err-hold_new-clause-reads g c =
+    let r2 = reads_in_turn g.D.Disk c.args.frames.now c.hold_page.new.frames c.hold_page-2.new.frames c.args.pass.now
+    c.hold_page.new.pass c.hold_page-2.new.pass c.hold_page.ensures.reads c.hold_page-2.ensures.reads in
+    let r3 = reads_in_turn g.D.Disk c.args.frames.now c.hold_page-2.new.frames c.hold_new.new.frames c.args.pass.now
+    c.hold_page-2.new.pass c.hold_new.new.pass r2 c.hold_new.ensures.reads in
+    let r4 = reads_in_turn g.D.Disk c.args.frames.now c.hold_new.new.frames c.release-in-Err-hold_new.new.frames
+    c.args.pass.now c.hold_new.new.pass c.release-in-Err-hold_new.new.pass r3 c.release-in-Err-hold_new.ensures.reads in
+    reads_in_turn g.D.Disk c.args.frames.now c.release-in-Err-hold_new.new.frames c.release-in-Err-hold_new-2.new.frames
+    c.args.pass.now c.release-in-Err-hold_new.new.pass c.release-in-Err-hold_new-2.new.pass r4
+    c.release-in-Err-hold_new-2.ensures.reads
+
+pub returns-in-Err-hold_new-clause-still : goal.returns-in-Err-hold_new-clause-still
+returns-in-Err-hold_new-clause-still g c =
+    let h1 = c.in_ok-parent.ensures.holding []
+    (none_held g.D.Disk c.args.frames.now c.args.pass.now c.requires.pass c.requires.none) in
+    let h2 = c.in-Ok.ensures.holding (c.in_ok-parent.parent ∷ []) h1 in
+    let h3 = c.in-Err-hold_new.ensures.still.holding (c.in-Ok.page ∷ c.in_ok-parent.parent ∷ []) h2 in
+    sym (c.release-in-Err-hold_new-2.ensures.holding []
+    (c.release-in-Err-hold_new.ensures.holding (c.in_ok-parent.parent ∷ []) h3)).all
+
+pub returns-in-Err-hold_new-clause-cause : goal.returns-in-Err-hold_new-clause-cause
+returns-in-Err-hold_new-clause-cause g c =
+    let r2 = reads_in_turn g.D.Disk c.args.frames.now c.hold_page.new.frames c.hold_page-2.new.frames c.args.pass.now
+    c.hold_page.new.pass c.hold_page-2.new.pass c.hold_page.ensures.reads c.hold_page-2.ensures.reads in
+    let w = c.in-Err-hold_new.error in
+    let last = c.release-in-Err-hold_new-2.new.frames in
+    let later : Later g.D.Disk c.hold_new.new.frames last =
+    omega (arith, c.release-in-Err-hold_new.ensures.faults, c.release-in-Err-hold_new-2.ensures.faults) in
+    meets_after g.D.Disk c.args.frames.now c.hold_page-2.new.frames c.args.pass.now c.hold_page-2.new.pass []
+    (IsWhy g.D.Disk (IsBadRoom c.args.parent c.args.page) (λ f. ⊥) last w) r2.works
+    (meets_as g.D.Disk c.hold_page-2.new.frames c.hold_page-2.new.pass
+    (IsWhy g.D.Disk IsBadNew (λ f. ⊥) c.hold_new.new.frames w)
+    (IsWhy g.D.Disk (IsBadRoom c.args.parent c.args.page) (λ f. ⊥) last w)
+    (λ f q why. why_as g.D.Disk IsBadNew (λ x. ⊥) (IsBadRoom c.args.parent c.args.page) (λ x. ⊥) last w f q
+    (λ n bad. IsBadRoom.new bad) (λ x. x)
+    (why_later g.D.Disk IsBadNew (λ x. ⊥) c.hold_new.new.frames last w later f q why)) c.in-Err-hold_new.ensures.cause)

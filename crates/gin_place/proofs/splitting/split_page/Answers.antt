@@ -1,0 +1,71 @@
+use Rattle.std.proofs.Common.{[], ◌∷◌, subst}
+use Rattle.page_types.specs.Records.{kind_number}
+use Rattle.page_types.specs.declared.record.Kind.{Kind}
+use Rattle.gin_place.specs.Going.{WorksOn}
+use Rattle.gin_place.specs.Causes.{Meets, IsBadRoom, IsWhy, CannotLog}
+use Rattle.gin_place.specs.Inner.Holding.{ReadsOn}
+use Rattle.gin_place.specs.Inner.Logging.{LogsStep}
+use Rattle.gin_place.proofs.Carrying.{reads_in_turn, works_in_turn, right_on}
+use Rattle.gin_place.proofs.Causing.{log_why}
+use Rattle.gin_place.proofs.Exits.{on_ok, on_err, if_err}
+use Rattle.gin_place.proofs.Dividing.{split_may_log}
+use Rattle.gin_place.proofs.SplitCauses.{split_why}
+use Rattle.gin_place.proofs.splitting.split_page.Goals as goal
+
+pub log_three-requires : goal.log_three-requires
+log_three-requires g c =
+    let t = c.in_ok-three.three in
+    let low = c.in-Ok.ensures.low in
+    split_may_log g.D.Disk c.hold_three.new.frames c.hold_three.new.pass t.page t.new t.parent c.in-Ok.step
+    c.in-Ok.ensures.step c.in_ok-three.ensures.holding c.in-Ok.ensures.page low c.hold_three.ensures.reads.works.is_pass
+    (right_on g.D.Disk c.args.frames.now c.hold_three.new.frames c.args.pass.now c.hold_three.new.pass []
+    c.requires.right c.hold_three.ensures.reads.works) c.tree_steps_hold.ensures.split
+    c.tree_pages_serve.ensures.split c.pages_may_be_logged.ensures.split c.in_ok-three.ensures.new
+
+pub returns-in-Ok-clause-divided : goal.returns-in-Ok-clause-divided
+returns-in-Ok-clause-divided g c =
+    let t = c.in_ok-three.three in
+    let s = c.in-Ok.step in
+    on_ok c.log_three.result (LogsStep g.D.Disk c.hold_three.new.frames c.hold_three.new.pass
+    (t.new ∷ t.page ∷ t.parent ∷ []) s c.log_three.new.frames c.log_three.new.pass)
+    (WorksOn g.D.Disk c.args.frames.now c.args.pass.now c.log_three.new.frames c.log_three.new.pass (17 ∷ []))
+    (λ l. subst (λ (k : Kind). WorksOn g.D.Disk c.args.frames.now c.args.pass.now c.log_three.new.frames
+    c.log_three.new.pass (kind_number k ∷ [])) c.in-Ok.ensures.step.kind_is
+    (works_in_turn g.D.Disk c.args.frames.now c.hold_three.new.frames c.log_three.new.frames c.args.pass.now
+    c.hold_three.new.pass c.log_three.new.pass [] (kind_number s.kind ∷ []) c.hold_three.ensures.reads.works l.works))
+    c.log_three.ensures.logged
+
+pub returns-in-Ok-clause-refused : goal.returns-in-Ok-clause-refused
+returns-in-Ok-clause-refused g c =
+    on_err c.log_three.result
+    (ReadsOn g.D.Disk c.hold_three.new.frames c.hold_three.new.pass c.log_three.new.frames c.log_three.new.pass)
+    (ReadsOn g.D.Disk c.args.frames.now c.args.pass.now c.log_three.new.frames c.log_three.new.pass)
+    (λ r. reads_in_turn g.D.Disk c.args.frames.now c.hold_three.new.frames c.log_three.new.frames c.args.pass.now
+    c.hold_three.new.pass c.log_three.new.pass c.hold_three.ensures.reads r) c.log_three.ensures.refused
+
+pub returns-in-Ok-clause-cause : goal.returns-in-Ok-clause-cause
+returns-in-Ok-clause-cause g c =
+    if_err c.log_three.result
+    (λ e. CannotLog g.D.Disk c.log_three.new.frames e c.hold_three.new.frames c.hold_three.new.pass)
+    (λ e. Meets g.D.Disk c.args.frames.now c.args.pass.now
+    (IsWhy g.D.Disk (IsBadRoom c.args.parent c.args.page) (λ f. ⊥) c.log_three.new.frames e))
+    (λ e why. (
+      c.hold_three.new.frames,
+      c.hold_three.new.pass,
+      [],
+      c.hold_three.ensures.reads.works,
+      log_why g.D.Disk (IsBadRoom c.args.parent c.args.page) (λ f. ⊥) c.log_three.new.frames e c.hold_three.new.frames
+          c.hold_three.new.pass why,
+    )) c.log_three.ensures.cause
+
+pub returns-in-Err-clause-refused : goal.returns-in-Err-clause-refused
+returns-in-Err-clause-refused g c =
+    reads_in_turn g.D.Disk c.args.frames.now c.hold_three.new.frames c.give_back.new.frames c.args.pass.now
+    c.hold_three.new.pass c.give_back.new.pass c.hold_three.ensures.reads c.give_back.ensures.reads
+
+pub returns-in-Err-clause-cause : goal.returns-in-Err-clause-cause
+returns-in-Err-clause-cause g c =
+    let t = c.in_ok-three.three in
+    split_why g.D.Disk c.args.frames.now c.args.pass.now c.give_back.new.frames c.args.parent c.args.page t.page
+    t.parent
+    c.requires.pass c.in_ok-three.ensures.numbers c.in_ok-three.ensures.lies c.in-Err.error c.in-Err.ensures.cause

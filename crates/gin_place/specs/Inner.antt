@@ -1,0 +1,9 @@
+-- Words that only private functions and proofs use.
+pub mod Refusals
+pub mod Asked
+pub mod Holding
+pub mod Reading
+pub mod Making
+pub mod Logging
+pub mod Dividing
+pub mod Stepping
