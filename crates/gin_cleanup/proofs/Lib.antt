@@ -1,0 +1,9 @@
+mod RowLists
+mod Growing
+mod Reading
+mod Shifting
+mod NextPages
+mod StillRows
+mod Putting
+mod GatheringRows
+mod FirstKeys

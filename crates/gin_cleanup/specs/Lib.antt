@@ -1,0 +1,5 @@
+pub mod Gathering
+pub mod Batches
+pub mod NextPage
+pub mod Still
+pub mod Gathered
