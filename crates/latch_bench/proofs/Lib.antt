@@ -1,4 +1,5 @@
 mod Adding
 mod Claiming
+mod Hiring
 mod Leaves
 mod Lending

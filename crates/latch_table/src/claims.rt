@@ -36,7 +36,8 @@ pub(crate) fn take<F: Framed, J: Journaled, A: Attempt>(
         (found_by A.notes frame found seat.old.me.0) seat.new.me.0
         × (seat.new.me.1 ≡ (frame, Away) ∷ seat.old.me.1)) }
 {
-    if latches.compare_exchange::<Claim<A>>(seat, frame, 0, page as u64 + 1) != 0 {
+    let is_free = latches.compare_exchange::<Claim<A>>(seat, frame, 0, page as u64 + 1) == 0;
+    if !is_free {
         return None;
     }
     let slot = latches.exchange(seat, frame, Slot::Away);

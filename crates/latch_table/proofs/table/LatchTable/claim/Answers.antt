@@ -17,3 +17,6 @@ returns-clause-pass g c =
     claimed_by g.F.Framed g.J.Journaled _ c.args.pass.now _ _ _ _
     (state c.args.pass.now) c.requires.pass c.requires.may.frame_is c.requires.may.no_journal
     refl refl refl refl refl c.take_waiting-value.ensures.same.0 took.0 took.1 c.with-pass.ensures
+
+pub returns-clause-claimed : goal.returns-clause-claimed
+returns-clause-claimed g c = let took = c.take_waiting-value.ensures.claimed in took.0
