@@ -1,5 +1,6 @@
 -- The texts of documents' names.
-use Rattle.std.proofs.Common.{◌≡◌, ◌≢◌, ℕ, ◌^◌, ◌<◌, ◌≤◌, List, [], ◌∷◌, ◌++◌, get_or, arith, refl, sym, ◌∙◌, ap, subst}
+use Rattle.std.proofs.Common.{◌≡◌, ◌≢◌, ℕ, ◌+◌, ◌^◌, ◌<◌, ◌≤◌, List, [], ◌∷◌, ◌++◌}
+use Rattle.std.proofs.Common.{get_or, arith, refl, sym, ◌∙◌, ap, subst}
 use Rattle.std.specs.Prelude.{Result, Ok, Err}
 use Rattle.std.specs.Str.Parse.{AllDigits, IsNumeral, digits_value, ParsesUnsigned}
 use Rattle.std.specs.Result.{OkIff}
@@ -156,6 +157,21 @@ no_decimal k e bs r h plus is n d =
     let o = subst (λ x. OkIff x (IsNumeral 10 bs × (digits_value 10 bs < 2 ^ k)) (digits_value 10 bs)) is
     (unsigned k bs r h plus) in
     o (d.numeral, subst (λ m. m < 2 ^ k) (sym d.value) d.below)
+
+-- a number at most this one
+pub decimal_within : (most n : ℕ) (bs : List ℕ) → IsDecimal bs n (2 ^ 64) → n ≤ most → IsDecimal bs n (most + 1)
+decimal_within most n bs d within =
+    record { numeral = d.numeral; value = d.value; below = omega (arith, within) }
+
+pub past_most : (most n : ℕ) (bs : List ℕ) → IsDecimal bs n (2 ^ 64) → most < n → (m : ℕ) → IsDecimal bs m (most + 1)
+    → ⊥
+past_most most n bs d past m e =
+    let same : n ≡ m = sym d.value ∙ e.value in omega (arith, past, same, e.below)
+
+pub no_decimal_within : {E : Type 0} (most : ℕ) (e : E) (bs : List ℕ) (r : Result ℕ E) → most < 2 ^ 64
+    → ParsesUnsigned 64 10 bs r → get_or bs 0 0 ≢ 43 → r ≡ Err e → (n : ℕ) → IsDecimal bs n (most + 1) → ⊥
+no_decimal_within most e bs r fits h plus is n d = no_decimal 64 e bs r h plus is n
+    (record { numeral = d.numeral; value = d.value; below = omega (arith, fits, d.below) })
 
 -- a numeral begins with a digit
 pub begins_numeral : (bs : List ℕ) → IsNumeral 10 bs → (48 ≤ get_or bs 0 0) × (get_or bs 0 0 ≤ 57)

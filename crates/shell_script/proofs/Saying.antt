@@ -1,5 +1,6 @@
 -- What is said after a line's first word.
 use Rattle.std.proofs.Common.{◌≡◌, ℕ, zero, suc, arith, List, [], ◌∷◌, codes, refl, sym, ◌∙◌, ap, subst}
+use Rattle.std.specs.Prelude.{Result, Ok, Err, Option, Some, None, IfOk, IfNone}
 use Rattle.std.specs.Str.{IsUtf8}
 use Rattle.shell_script.specs.Tokens.{ScriptToken, word, quote, IsSpelled}
 use Rattle.shell_script.specs.Grammar.{QuerySource, Expr, Statement, insert, update, delete, search, show, ask, parse}
@@ -59,6 +60,17 @@ no_session_body first rest f u v g (parse x) k = absurd k.0
 no_session_body first rest f u v g list_commits k = absurd k.0
 no_session_body first rest f u v g (define head body) k = absurd k.0
 no_session_body first rest f u v g invalid k = absurd k.0
+
+-- where the word is there, and no update after it
+pub no_update : {A E : Type 0} (first rest : List ℕ) (r : Result (Option A) E) → first ≡ codes "update"
+    → IfOk r (λ found. IfNone found ((d : Doc) (e : Expr) → IsDoc d → IsExpr e
+    → IsSpelled rest (word d.text ∷ expr_tokens e) → ⊥))
+    → IfOk r (λ found. IfNone found ((s : Statement) → IsStatementBody IsOfSession first rest s → ⊥))
+no_update first rest (Ok None) is none = no_session_body first rest (λ e x n k. insert_or_update (sym e ∙ is))
+    (λ e d x h n k. none d x h n k)
+    (λ e d h k. update_or_delete (sym is ∙ e)) (λ e q n k. update_or_search (sym is ∙ e))
+no_update first rest (Ok (Some found)) is none = tt
+no_update first rest (Err e) is none = tt
 
 docs_same : (d c : Doc) (ts us : List ScriptToken) → IsDoc d → IsDoc c → word d.text ∷ ts ≡ word c.text ∷ us
     → (d ≡ c) × (ts ≡ us)

@@ -13,7 +13,7 @@ pub const MOST_PAGES: u32 = 1_048_576;
 pub const USUAL_PAGES: u32 = 65_536;
 
 /// What the words of a call set.
-#[derive(Clone, Copy, Debug, PartialEq, Eq)]
+#[derive(Clone, Copy)]
 pub struct Options {
     /// How many pages the store may have.
     pub pages: u32,
@@ -56,10 +56,10 @@ pub fn options_of(words: &[String]) -> Option<Options>
 {
     match words {
         [first] if first.as_str() == "run" => Some(Options { pages: USUAL_PAGES }),
-        [first, rest @ ..] if first.as_str() == "run" => {
-            let pages = pages_of(rest)?;
-            Some(Options { pages })
-        }
+        [first, rest @ ..] if first.as_str() == "run" => match pages_of(rest) {
+            Some(pages) => Some(Options { pages }),
+            None => None,
+        },
         _ => None,
     }
 }

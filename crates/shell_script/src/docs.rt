@@ -1,5 +1,6 @@
 // The name of a document, as a line has it.
-ghost use Rattle.std.specs.Prelude.{◌≡◌, ◌≢◌, ◌^◌, ◌<◌, true, false, get_or, ℕ, List, [], ◌∷◌, ◌++◌, IfSome, IfNone};
+ghost use Rattle.std.specs.Prelude.{◌≡◌, ◌≢◌, ◌+◌, ◌^◌, ◌<◌, true, false, get_or, ℕ};
+ghost use Rattle.std.specs.Prelude.{List, [], ◌∷◌, ◌++◌, IfSome, IfNone};
 ghost use Rattle.std.specs.List.{All};
 ghost use Rattle.std.specs.Str.Parse.{IsNumeral};
 ghost use Rattle.shell_script.specs.Docs.{Doc as Named, IsDecimal, IsDoc};
@@ -45,46 +46,21 @@ fn begins_digit(text: &str) -> bool
     }
 }
 
-/// The page that decimal digits say.
-fn page_number(digits: &str) -> Option<u32>
-    ensures some { IfSome result (λ n. IsDecimal digits.now n (2 ^ 32)) }
-    ensures none { IfNone result ((n : ℕ) → IsDecimal digits.now n (2 ^ 32) → ⊥) }
+/// The number that decimal digits say, if it is at most this one.
+fn number_of(digits: &str, most: u64) -> Option<u64>
+    ensures some { IfSome result (λ n. IsDecimal digits.now n (most + 1)) }
+    ensures none { IfNone result ((n : ℕ) → IsDecimal digits.now n (most + 1) → ⊥) }
 {
     if !begins_digit(digits) {
         return None;
     }
-    match digits.parse::<u32>() {
-        Ok(number) => Some(number),
-        Err(_) => None,
-    }
-}
-
-/// The slot that decimal digits say.
-fn slot_number(digits: &str) -> Option<u16>
-    ensures some { IfSome result (λ n. IsDecimal digits.now n (2 ^ 16)) }
-    ensures none { IfNone result ((n : ℕ) → IsDecimal digits.now n (2 ^ 16) → ⊥) }
-{
-    if !begins_digit(digits) {
+    let Ok(number) = digits.parse::<u64>() else {
+        return None;
+    };
+    if number > most {
         return None;
     }
-    match digits.parse::<u16>() {
-        Ok(number) => Some(number),
-        Err(_) => None,
-    }
-}
-
-/// The serial that decimal digits say.
-fn serial_number(digits: &str) -> Option<u64>
-    ensures some { IfSome result (λ n. IsDecimal digits.now n (2 ^ 64)) }
-    ensures none { IfNone result ((n : ℕ) → IsDecimal digits.now n (2 ^ 64) → ⊥) }
-{
-    if !begins_digit(digits) {
-        return None;
-    }
-    match digits.parse::<u64>() {
-        Ok(number) => Some(number),
-        Err(_) => None,
-    }
+    Some(number)
 }
 
 /// The document that a word names.
@@ -98,16 +74,20 @@ fn doc_in(text: &str) -> Option<Doc<'_>>
     let Some((second, third)) = cut_at(rest, b'#') else {
         return None;
     };
-    let Some(page) = page_number(first) else {
+    let Some(page) = number_of(first, u32::MAX as u64) else {
         return None;
     };
-    let Some(slot) = slot_number(second) else {
+    let Some(slot) = number_of(second, u16::MAX as u64) else {
         return None;
     };
-    let Some(serial) = serial_number(third) else {
+    let Some(serial) = number_of(third, u64::MAX) else {
         return None;
     };
-    let name = Name { page, slot, serial };
+    let name = Name {
+        page: page as u32,
+        slot: slot as u16,
+        serial,
+    };
     Some(Doc { text, name })
 }
 

@@ -8,7 +8,7 @@ use crate::line::{cut_at, without_return};
 use std::marker::Model;
 
 /// A line of a script, with its number.
-#[derive(Clone, Copy, Debug)]
+#[derive(Clone, Copy)]
 pub struct Line<'a> {
     /// Its number, from 1.
     pub number: u64,

@@ -16,7 +16,7 @@ use std::str;
 pub const LONGEST_NAME: usize = 64;
 
 /// The kind of a dictionary. A name in it lies in the line.
-#[derive(Clone, Copy, Debug, PartialEq, Eq)]
+#[derive(Clone, Copy, Debug)]
 pub enum Kind<'a> {
     /// Words in lower case.
     Simple {
@@ -92,7 +92,9 @@ pub(crate) fn front_name(text: &str) -> Option<(&str, &str)>
     ensures none { IfNone result ((n : List ℕ) (ts : List ScriptToken) → IsName n
         → IsSpelled text.now (word n ∷ ts) → ⊥) }
 {
-    let (found, rest) = front_word(text)?;
+    let Some((found, rest)) = front_word(text) else {
+        return None;
+    };
     if is_name(found) {
         Some((found, rest))
     } else {
@@ -105,7 +107,9 @@ fn name_alone(text: &str) -> Option<&str>
     ensures some { IfSome result (λ n. IsName n.now × IsSpelled text.now (word n.now ∷ [])) }
     ensures none { IfNone result ((n : List ℕ) → IsName n → IsSpelled text.now (word n ∷ []) → ⊥) }
 {
-    let (name, rest) = front_name(text)?;
+    let Some((name, rest)) = front_name(text) else {
+        return None;
+    };
     if !is_all_blank(rest) {
         return None;
     }
@@ -120,7 +124,9 @@ fn mark_of(text: &str, mark: &str) -> Option<bool>
     if is_all_blank(text) {
         return Some(false);
     }
-    let rest = behind_word(text, mark)?;
+    let Some(rest) = behind_word(text, mark) else {
+        return None;
+    };
     if !is_all_blank(rest) {
         return None;
     }
@@ -134,23 +140,25 @@ fn kind_of(text: &str) -> Option<Kind<'_>>
     ensures none { IfNone result ((k : KindOf) → IsNamedKind k → IsSpelled text.now (kind_tokens k)
         → ⊥) }
 {
-    let (first, rest) = front_word(text)?;
-    if first == "simple" {
-        let pass = mark_of(rest, "pass")?;
-        return Some(Kind::Simple { accept: !pass });
+    let Some((first, rest)) = front_word(text) else {
+        return None;
+    };
+    match first {
+        "simple" => match mark_of(rest, "pass") {
+            Some(pass) => Some(Kind::Simple { accept: !pass }),
+            None => None,
+        },
+        "synonym" => match mark_of(rest, "casesensitive") {
+            Some(case_sensitive) => Some(Kind::Synonym { case_sensitive }),
+            None => None,
+        },
+        "thesaurus" => match name_alone(rest) {
+            Some(sub) => Some(Kind::Thesaurus { sub }),
+            None => None,
+        },
+        "porter" if is_all_blank(rest) => Some(Kind::Porter),
+        _ => None,
     }
-    if first == "synonym" {
-        let case_sensitive = mark_of(rest, "casesensitive")?;
-        return Some(Kind::Synonym { case_sensitive });
-    }
-    if first == "thesaurus" {
-        let sub = name_alone(rest)?;
-        return Some(Kind::Thesaurus { sub });
-    }
-    if first == "porter" && is_all_blank(rest) {
-        return Some(Kind::Porter);
-    }
-    None
 }
 
 /// The name and the kind that the text is.
@@ -160,9 +168,13 @@ fn name_and_kind(text: &str) -> Option<(&str, Kind<'_>)>
     ensures none { IfNone result ((n : List ℕ) (k : KindOf) → IsName n → IsNamedKind k
         → IsSpelled text.now (word n ∷ kind_tokens k) → ⊥) }
 {
-    let (name, rest) = front_name(text)?;
-    let kind = kind_of(rest)?;
-    Some((name, kind))
+    let Some((name, rest)) = front_name(text) else {
+        return None;
+    };
+    match kind_of(rest) {
+        Some(kind) => Some((name, kind)),
+        None => None,
+    }
 }
 
 /// What the first line of a definition says, or None where it is outside the grammar.
@@ -173,13 +185,19 @@ pub fn read_opening_line(line: &[u8]) -> Option<OpeningLine<'_>>
     let Ok(text) = str::from_utf8(line) else {
         return None;
     };
-    let (first, rest) = front_word(text)?;
+    let Some((first, rest)) = front_word(text) else {
+        return None;
+    };
     if first == "dictionary" {
-        let (name, kind) = name_and_kind(rest)?;
+        let Some((name, kind)) = name_and_kind(rest) else {
+            return None;
+        };
         return Some(OpeningLine::Dictionary { name, kind });
     }
     if first == "configuration" {
-        let name = name_alone(rest)?;
+        let Some(name) = name_alone(rest) else {
+            return None;
+        };
         return Some(OpeningLine::Configuration { name });
     }
     None

@@ -5,7 +5,7 @@ use page_types::Name;
 use std::alloc::AllocError;
 
 /// What is at fault in a statement's text: the offset of the fault, or the size of the vector.
-#[derive(Debug, Drop)]
+#[derive(Drop)]
 pub enum TextFault {
     /// No vector's text, with the offset of the fault.
     BadVector(usize),
@@ -20,7 +20,7 @@ pub enum TextFault {
 }
 
 /// Why a statement was refused.
-#[derive(Debug, Drop)]
+#[derive(Drop)]
 pub enum Refusal {
     /// The line with this number is no statement.
     NoStatement(u64),
@@ -62,7 +62,7 @@ impl From<AllocError> for Refusal {
 }
 
 /// The names that a commit deleted, and those that it inserted.
-#[derive(Debug, Drop)]
+#[derive(Drop)]
 pub struct CommitLine {
     /// The names that it deleted.
     pub deleted: Vec<Name>,
@@ -71,7 +71,7 @@ pub struct CommitLine {
 }
 
 /// What a statement is answered; a vector or a query by its text, tokens by the text that has them.
-#[derive(Debug, Drop)]
+#[derive(Drop)]
 pub enum Reply {
     /// The document was stored under this name.
     Stored(Name),

@@ -16,7 +16,7 @@ use std::marker::Model;
 use ts_base::first_word;
 
 /// What a line is where it is, if it is not skipped.
-#[derive(Clone, Copy, Debug, PartialEq, Eq)]
+#[derive(Clone, Copy)]
 pub(crate) enum Role {
     /// It is a step by itself.
     Alone,

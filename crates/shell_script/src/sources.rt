@@ -53,7 +53,7 @@ pub struct Expr<'a> {
 }
 
 /// How a query is made of a text.
-#[derive(Clone, Copy, Debug, PartialEq, Eq)]
+#[derive(Clone, Copy, Debug)]
 pub enum Maker {
     /// The text is a query, whose operands are made.
     To,

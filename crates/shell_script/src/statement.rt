@@ -63,6 +63,9 @@ impl ScriptLine<'_> {
     }
 }
 
+/// A statement, where what is read is one.
+type Read<'a> = Result<Option<Statement<'a>>, AllocError>;
+
 /// The session that a label names.
 fn session_number(text: &[u8]) -> Option<u8>
     ensures some { IfSome result (λ s. IsSession s × (text.now ≡ label s)) }
@@ -82,7 +85,7 @@ fn is_word(found: &[u8], word: &str) -> bool
 }
 
 /// The update that is said after its word.
-fn update_of<'a>(alloc: Global, rest: &'a str) -> Result<Option<Statement<'a>>, AllocError>
+fn update_of<'a>(alloc: Global, rest: &'a str) -> Read<'a>
     ensures some { IfOk result (λ found. IfSome found
         (λ s. IsStatementBody IsOfSession (codes "update") rest.now (statement s))) }
     ensures none { IfOk result (λ found. IfNone found ((d : Named) (e : Joined) → IsDoc d
@@ -115,33 +118,23 @@ fn delete_of(rest: &str) -> Option<Statement<'_>>
 }
 
 /// The statement after a session's label, by its first word and what is after it.
-fn session_statement<'a>(
-    alloc: Global,
-    first: &[u8],
-    rest: &'a str,
-) -> Result<Option<Statement<'a>>, AllocError>
+fn session_statement<'a>(alloc: Global, first: &[u8], rest: &'a str) -> Read<'a>
     ensures some { IfOk result (λ found. IfSome found
         (λ s. IsStatementBody IsOfSession first.now rest.now (statement s))) }
     ensures none { IfOk result (λ found. IfNone found ((s : Said)
         → IsStatementBody IsOfSession first.now rest.now s → ⊥)) }
 {
+    if is_word(first, "update") {
+        return update_of(alloc, rest);
+    }
     if is_word(first, "insert") {
         let Some(expr) = expr_of(alloc, rest)? else {
             return Ok(None);
         };
         return Ok(Some(Statement::Insert(expr)));
     }
-    if is_word(first, "update") {
-        let Some(update) = update_of(alloc, rest)? else {
-            return Ok(None);
-        };
-        return Ok(Some(update));
-    }
     if is_word(first, "delete") {
-        let Some(deletion) = delete_of(rest) else {
-            return Ok(None);
-        };
-        return Ok(Some(deletion));
+        return Ok(delete_of(rest));
     }
     if is_word(first, "search") {
         let Some(query) = query_of(alloc, rest)? else {
@@ -153,11 +146,7 @@ fn session_statement<'a>(
 }
 
 /// A statement without a session, by its first word and what is after it.
-fn plain_statement<'a>(
-    alloc: Global,
-    first: &[u8],
-    rest: &'a str,
-) -> Result<Option<Statement<'a>>, AllocError>
+fn plain_statement<'a>(alloc: Global, first: &[u8], rest: &'a str) -> Read<'a>
     ensures some { IfOk result (λ found. IfSome found
         (λ s. IsStatementBody IsPlain first.now rest.now (statement s))) }
     ensures none { IfOk result (λ found. IfNone found ((s : Said)

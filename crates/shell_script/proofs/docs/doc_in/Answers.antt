@@ -9,13 +9,13 @@ returns-in_default-cut_at-clause-none c = λ d h is.
     rest_not_cut c.args.text.now c.in-Some.first.now c.in-Some.rest.now d h is c.in-Some.ensures.some.0
     c.in-Some.ensures.some.1 c.in_default-cut_at.ensures.none
 
-pub returns-in_default-page_number-clause-none : goal.returns-in_default-page_number-clause-none
-returns-in_default-page_number-clause-none c = λ d h is.
+pub returns-in_default-number_of-clause-none : goal.returns-in_default-number_of-clause-none
+returns-in_default-number_of-clause-none c = λ d h is.
     bad_page c.args.text.now c.in-Some.first.now c.in-Some.rest.now d h is c.in-Some.ensures.some.0
-    c.in-Some.ensures.some.1 c.in_default-page_number.ensures.none
+    c.in-Some.ensures.some.1 c.in_default-number_of.ensures.none
 
-pub returns-in_default-slot_number-clause-none : goal.returns-in_default-slot_number-clause-none
-returns-in_default-slot_number-clause-none c = λ d h is.
+pub returns-in_default-number_of-2-clause-none : goal.returns-in_default-number_of-2-clause-none
+returns-in_default-number_of-2-clause-none c = λ d h is.
     let p : AreParts c.args.text.now c.in-Some.first.now c.in-Some-cut_at.second.now c.in-Some-cut_at.third.now =
     record {
       rest = c.in-Some.rest.now;
@@ -25,10 +25,10 @@ returns-in_default-slot_number-clause-none c = λ d h is.
       second_free = c.in-Some-cut_at.ensures.some.1;
     } in
     bad_slot c.args.text.now c.in-Some.first.now c.in-Some-cut_at.second.now c.in-Some-cut_at.third.now d h is p
-    c.in_default-slot_number.ensures.none
+    c.in_default-number_of-2.ensures.none
 
-pub returns-in_default-serial_number-clause-none : goal.returns-in_default-serial_number-clause-none
-returns-in_default-serial_number-clause-none c = λ d h is.
+pub returns-in_default-number_of-3-clause-none : goal.returns-in_default-number_of-3-clause-none
+returns-in_default-number_of-3-clause-none c = λ d h is.
     let p : AreParts c.args.text.now c.in-Some.first.now c.in-Some-cut_at.second.now c.in-Some-cut_at.third.now =
     record {
       rest = c.in-Some.rest.now;
@@ -38,4 +38,4 @@ returns-in_default-serial_number-clause-none c = λ d h is.
       second_free = c.in-Some-cut_at.ensures.some.1;
     } in
     bad_serial c.args.text.now c.in-Some.first.now c.in-Some-cut_at.second.now c.in-Some-cut_at.third.now d h is p
-    c.in_default-serial_number.ensures.none
+    c.in_default-number_of-3.ensures.none
