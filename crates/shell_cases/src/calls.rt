@@ -5,11 +5,11 @@ ghost use Rattle.wal.specs.declared.sizes.TheConstants.{LOG_LIMIT};
 ghost use Rattle.page_types.specs.Numbers.{page_limit};
 ghost use Rattle.core_state.specs.Log.{xid_bound};
 
+use crate::runs::empty;
 use crate::tally::Tally;
-use anyhow::{Result, bail};
 use disk_trait::{Disk, File, MemoryDisk};
 use engine::{Db, DbError, Name, Pass, Settings, WIDEST};
-use std::alloc::{AllocError, Global};
+use std::alloc::Global;
 use ts_query::TsQuery;
 use ts_vector::TsVector;
 
@@ -19,34 +19,19 @@ const SPENT: Settings = Settings {
     ..WIDEST
 };
 
-/// Logs that have room for one document. To a second insert the first of them refuses the head, the next its row, one
-/// byte being short, and the last its Commit, one byte being short.
-const SHORT: Settings = Settings {
-    log_limit: 65_536,
-    ..WIDEST
-};
+/// Limits of logs that have room for one document. To a second insert the first of them refuses the head, the next its
+/// row, one byte being short, and the last its Commit, one byte being short.
+const SHORT: u64 = 65_536;
 
-const ROWLESS: Settings = Settings {
-    log_limit: 74_026,
-    ..WIDEST
-};
+const ROWLESS: u64 = 74_026;
 
-const UNENDED: Settings = Settings {
-    log_limit: 74_048,
-    ..WIDEST
-};
+const UNENDED: u64 = 74_048;
 
-/// One that has just room for two.
-const JUST: Settings = Settings {
-    log_limit: 74_049,
-    ..WIDEST
-};
+/// That of a log that has just room for two.
+const JUST: u64 = 74_049;
 
-/// One in which, behind two documents, a deletion's mark finds room, and then neither its Commit nor its Abort.
-const BARELY: Settings = Settings {
-    log_limit: 82_310,
-    ..WIDEST
-};
+/// That of one in which, after two documents, a deletion's mark finds room, and then neither its Commit nor its Abort.
+const BARELY: u64 = 82_310;
 
 /// Calls of each with what they are answered: names, or why not.
 const SPENT_ROWS: &str = "\
@@ -120,15 +105,34 @@ fn name_of(word: &str) -> Name {
 }
 
 /// One name alone.
-fn only(alloc: Global, stored: Result<Name, DbError>) -> Result<Answer, AllocError> {
-    match stored {
-        Ok(name) => Ok(Ok(vec![in alloc; name]?)),
-        Err(refusal) => Ok(Err(refusal)),
+fn alone(alloc: Global, stored: Result<Name, DbError>) -> Answer {
+    let name = stored?;
+    match vec![in alloc; name] {
+        Ok(names) => Ok(names),
+        Err(_) => Err(DbError::OutOfMemory),
     }
 }
 
-/// What the store answers a call.
-fn answer(alloc: Global, store: &mut Db<MemoryDisk>, pass: &mut Pass, call: &str) -> Result<Answer>
+/// What the store answers an insert of this vector, or an update of the document with a name.
+fn put(
+    store: &mut Db<MemoryDisk>,
+    pass: &mut Pass,
+    old: Option<Name>,
+    vector: &TsVector,
+) -> Result<Name, DbError>
+    requires session { IsSession store.old pass.old }
+    ensures session { IsSession store.new pass.new }
+    ensures room { pass.new.room ≡ pass.old.room }
+    ensures others { KeepsSessions store.old store.new }
+{
+    match old {
+        Some(name) => store.update(pass, name, vector),
+        None => store.insert(pass, vector),
+    }
+}
+
+/// What the store answers a call. A text that is no query or vector is answered as if there were no memory.
+fn answer(alloc: Global, store: &mut Db<MemoryDisk>, pass: &mut Pass, call: &str) -> Answer
     requires session { IsSession store.old pass.old }
     ensures session { IsSession store.new pass.new }
     ensures room { pass.new.room ≡ pass.old.room }
@@ -136,55 +140,70 @@ fn answer(alloc: Global, store: &mut Db<MemoryDisk>, pass: &mut Pass, call: &str
 {
     let (verb, words) = call.split_once(' ').unwrap_or((call, ""));
     if verb == "search" {
-        let query = TsQuery::parse(alloc, words)?;
-        return Ok(store.search(pass, &query));
+        return match TsQuery::parse(alloc, words) {
+            Ok(query) => store.search(pass, &query),
+            Err(_) => Err(DbError::OutOfMemory),
+        };
     }
-    if verb == "insert" {
-        let vector = TsVector::parse(alloc, words)?;
-        return Ok(only(alloc, store.insert(pass, &vector))?);
-    }
-    let (name, words) = words.split_once(' ').unwrap_or((words, ""));
-    let name = name_of(name);
+    let (first, rest) = words.split_once(' ').unwrap_or((words, ""));
     if verb == "delete" {
-        return Ok(match store.delete(pass, name) {
-            Ok(()) => Ok(Vec::new(alloc)),
-            Err(refusal) => Err(refusal),
-        });
+        store.delete(pass, name_of(first))?;
+        return Ok(Vec::new(alloc));
     }
-    let vector = TsVector::parse(alloc, words)?;
-    Ok(only(alloc, store.update(pass, name, &vector))?)
-}
-
-/// The text of an answer: names with a blank between two, or a refusal's words.
-fn text_of(alloc: Global, answer: &Answer) -> Result<String, AllocError> {
-    let names = match answer {
-        Ok(names) => names,
-        Err(refusal) => return format!(in alloc; "{refusal}"),
+    let (old, text) = if verb == "update" {
+        (Some(name_of(first)), rest)
+    } else {
+        (None, words)
     };
-    let mut text = String::new(alloc);
-    for name in names {
-        write!(text, " {}/{}#{}", name.page, name.slot, name.serial)?;
+    match TsVector::parse(alloc, text) {
+        Ok(vector) => alone(alloc, put(store, pass, old, &vector)),
+        Err(_) => Err(DbError::OutOfMemory),
     }
-    Ok(text)
 }
 
-/// What it answers a call of the second session, which begins with `other`, or of the first.
-fn answer_either(
+/// Whether these words are the names.
+fn are_named(names: &[Name], wanted: &str) -> bool {
+    let mut words = wanted.split_whitespace();
+    for name in names {
+        match words.next() {
+            Some(word) if name_of(word) == *name => {}
+            _ => return false,
+        }
+    }
+    words.next().is_none()
+}
+
+/// Whether a refusal has these words.
+fn says(alloc: Global, refusal: &DbError, wanted: &str) -> bool {
+    match format!(in alloc; "{refusal}") {
+        Ok(words) => words.as_str() == wanted,
+        Err(_) => false,
+    }
+}
+
+/// Whether a call of the second session, which begins with `other`, or of the first is answered by these names, or
+/// refused with these words.
+fn answers(
     alloc: Global,
     store: &mut Db<MemoryDisk>,
     pass: &mut Pass,
     other: &mut Pass,
-    call: &str,
-) -> Result<Answer>
+    row: &str,
+) -> bool
     requires session { IsSession store.old pass.old }
     requires other { IsSession store.old other.old }
     ensures session { IsSession store.new pass.new }
     ensures other { IsSession store.new other.new }
     ensures rooms { (pass.new.room ≡ pass.old.room) × (other.new.room ≡ other.old.room) }
 {
-    match call.strip_prefix("other ") {
-        Some(call) => answer(alloc, store, other, call),
-        None => answer(alloc, store, pass, call),
+    let (call, wanted) = row.split_once('|').unwrap_or((row, ""));
+    let answered = match call.strip_prefix("other ") {
+        Some(call) => answer(alloc, store, other, call.trim()),
+        None => answer(alloc, store, pass, call.trim()),
+    };
+    match answered {
+        Ok(names) => are_named(&names, wanted),
+        Err(refusal) => says(alloc, &refusal, wanted.trim()),
     }
 }
 
@@ -196,21 +215,17 @@ fn follow(
     other: &mut Pass,
     rows: &str,
     tally: &mut Tally,
-) -> Result<()>
+)
     requires session { IsSession store.old pass.old }
     requires other { IsSession store.old other.old }
     ensures session { IsSession store.new pass.new }
     ensures other { IsSession store.new other.new }
     ensures rooms { (pass.new.room ≡ pass.old.room) × (other.new.room ≡ other.old.room) }
 {
-    let alloc = rt.alloc();
     for row in rows.lines() {
-        let (call, wanted) = row.split_once('|').unwrap_or((row, ""));
-        let answered = answer_either(alloc, store, pass, other, call.trim())?;
-        let text = text_of(alloc, &answered)?;
-        tally.see(rt, text.trim() == wanted.trim(), row, 0)?;
+        let holds = answers(rt.alloc(), store, pass, other, row);
+        tally.see(rt, holds, row, 0);
     }
-    Ok(())
 }
 
 /// Two sessions of a store with these limits over a device: each call of the rows is answered as its row says, what
@@ -222,58 +237,56 @@ fn see_rows(
     settings: Settings,
     rows: &str,
     tally: &mut Tally,
-) -> Result<MemoryDisk>
+) -> MemoryDisk
     requires log { settings.log_limit ≤ LOG_LIMIT }
     requires xids { settings.xid_limit ≤ xid_bound }
     requires pages { settings.pages ≤ page_limit }
 {
-    let alloc = rt.alloc();
-    let (mut store, mut pass) = match Db::open(alloc, disk, settings) {
+    let (mut store, mut pass) = match Db::open(rt.alloc(), disk, settings) {
         Ok(opened) => opened,
-        Err(_) => bail!("a store is not opened"),
+        Err(unopened) => {
+            tally.see(rt, false, "a store that is opened", 0);
+            return unopened.store;
+        }
     };
     let mut other = store.split(&mut pass);
-    follow(rt, &mut store, &mut pass, &mut other, rows, tally)?;
+    follow(rt, &mut store, &mut pass, &mut other, rows, tally);
     store.join(&mut pass, other);
     let mut disk = store.close(pass);
-    let within = disk
-        .length(File::Log)
-        .is_ok_and(|len| len <= settings.log_limit);
-    tally.see(rt, within, "a log within its limit", settings.log_limit)?;
-    Ok(disk)
+    let within = match disk.length(File::Log) {
+        Ok(len) => len <= settings.log_limit,
+        Err(_) => false,
+    };
+    tally.see(rt, within, "a log within its limit", settings.log_limit);
+    disk
 }
 
-/// A new store with narrow limits, which is opened again with wide ones.
+/// A new store whose log has this limit, which is opened again with the widest limits.
 fn see_narrow(
     rt: &(impl Print + AllocGlobal),
-    settings: Settings,
+    log_limit: u64,
     rows: &str,
     wide: &str,
     tally: &mut Tally,
-) -> Result<()>
-    requires log { settings.log_limit ≤ LOG_LIMIT }
-    requires xids { settings.xid_limit ≤ xid_bound }
-    requires pages { settings.pages ≤ page_limit }
+)
+    requires log { log_limit ≤ LOG_LIMIT }
 {
-    let alloc = rt.alloc();
-    let disk = MemoryDisk::new(alloc, Vec::new(alloc));
-    let disk = see_rows(rt, disk, settings, rows, tally)?;
-    see_rows(rt, disk, WIDEST, wide, tally)?;
-    Ok(())
+    let narrow = Settings {
+        log_limit,
+        ..WIDEST
+    };
+    let disk = see_rows(rt, empty(rt.alloc()), narrow, rows, tally);
+    see_rows(rt, disk, WIDEST, wide, tally);
 }
 
 /// Stores with narrow limits, each opened again with wide ones but where no xid is left, and one that two sessions
 /// share.
-pub fn see_calls(rt: &(impl Print + AllocGlobal), tally: &mut Tally) -> Result<()> {
-    let alloc = rt.alloc();
-    let none = Vec::new(alloc);
-    see_rows(rt, MemoryDisk::new(alloc, none), SPENT, SPENT_ROWS, tally)?;
-    see_narrow(rt, SHORT, SHORT_ROWS, ONE_ROWS, tally)?;
-    see_narrow(rt, ROWLESS, SHORT_ROWS, ONE_ROWS, tally)?;
-    see_narrow(rt, UNENDED, SHORT_ROWS, ONE_ROWS, tally)?;
-    see_narrow(rt, JUST, JUST_ROWS, WIDE_ROWS, tally)?;
-    see_narrow(rt, BARELY, BARELY_ROWS, WIDE_ROWS, tally)?;
-    let none = Vec::new(alloc);
-    see_rows(rt, MemoryDisk::new(alloc, none), WIDEST, SHARED_ROWS, tally)?;
-    Ok(())
+pub fn see_calls(rt: &(impl Print + AllocGlobal), tally: &mut Tally) {
+    see_rows(rt, empty(rt.alloc()), SPENT, SPENT_ROWS, tally);
+    see_narrow(rt, SHORT, SHORT_ROWS, ONE_ROWS, tally);
+    see_narrow(rt, ROWLESS, SHORT_ROWS, ONE_ROWS, tally);
+    see_narrow(rt, UNENDED, SHORT_ROWS, ONE_ROWS, tally);
+    see_narrow(rt, JUST, JUST_ROWS, WIDE_ROWS, tally);
+    see_narrow(rt, BARELY, BARELY_ROWS, WIDE_ROWS, tally);
+    see_rows(rt, empty(rt.alloc()), WIDEST, SHARED_ROWS, tally);
 }

@@ -1,45 +1,19 @@
 // A case, its files and its runs.
+use crate::compare::{Wanted, report};
+use crate::edits::open_edits;
+use crate::runs::{PIECE, Script, Shell, empty, holding, log_of, only};
 use crate::short::expanded;
-use anyhow::{Context, Result, bail, ensure};
-use disk_trait::{Disk, File, MemoryDisk, MemorySink, MemorySource, Sink, Source};
-use shell_run::{NoGate, Outcome, run_shell};
+use crate::tally::Tally;
+use anyhow::{Context, Result, ensure};
+use disk_trait::{MemoryDisk, MemorySink};
+use shell_run::{NoGate, run_shell};
 use std::alloc::{AllocError, Global};
-use std::path::Path;
+use std::io::ErrorKind;
+use std::path::{Path, PathBuf};
 use std::rt::Files;
 use std::sync::Wait;
 use std::thread::Threads;
-use std::{fs, str};
-
-/// What a run must print, its status, and the log's bytes that it must leave, where they are known.
-#[derive(Drop)]
-pub struct Wanted {
-    pub text: Vec<u8>,
-    pub status: u64,
-    pub left: Option<Vec<u8>>,
-}
-
-/// A run.
-#[derive(Drop)]
-pub struct Turn {
-    pub words: Vec<String>,
-    pub script: MemorySource,
-    pub out: MemorySink,
-    pub wanted: Wanted,
-}
-
-/// The store before the first run, runs one after another over it, and edits of the log that the last one leaves.
-#[derive(Drop)]
-pub struct Case {
-    pub store: MemoryDisk,
-    pub turns: Vec<Turn>,
-    pub edits: Option<Vec<u8>>,
-}
-
-/// How many bytes of a script a read gives.
-pub const PIECE: usize = 4096;
-
-/// The most bytes of a log that a case begins with.
-const MOST_BYTES: usize = 1 << 30;
+use std::{fs, mem, str};
 
 /// What the names of the files of each run end with.
 const SUFFIXES: [&str; 4] = ["", "-2", "-3", "-4"];
@@ -47,174 +21,202 @@ const SUFFIXES: [&str; 4] = ["", "-2", "-3", "-4"];
 /// The files of a run in a folder: `script` and others of the first, `script-2` and others of the second.
 #[derive(Clone, Copy)]
 struct RunFiles<'a> {
+    /// The folder of the case.
     folder: Path<'a>,
+    /// What the names of the files end with.
     suffix: &'a str,
     /// Whether the texts are written short.
     short: bool,
 }
 
-impl<'a> RunFiles<'a> {
+impl RunFiles<'_> {
+    /// Where a file is.
+    fn path(&self, alloc: Global, name: &str) -> Result<PathBuf, AllocError> {
+        let mut file = String::from_str(alloc, name)?;
+        file.push_str(self.suffix)?;
+        self.folder.join(alloc, file.as_str())
+    }
+
     /// The bytes of a file, if it is there.
     fn known(&self, rt: &(impl Files + AllocGlobal), name: &str) -> Result<Option<Vec<u8>>> {
-        let mut file = String::from_str(rt.alloc(), name)?;
-        file.push_str(self.suffix)?;
-        let path = self.folder.join(rt.alloc(), file.as_str())?;
-        if !fs::exists(rt, &path)? {
-            return Ok(None);
+        let path = self.path(rt.alloc(), name)?;
+        match fs::read(rt, path.as_path()) {
+            Ok(bytes) => Ok(Some(bytes)),
+            Err(error) if error.kind() == ErrorKind::NotFound => Ok(None),
+            Err(error) => Err(error.into()),
         }
-        Ok(Some(fs::read(rt, &path)?))
     }
 
-    /// The numbers in a file, none where it is missing.
-    fn numbers(&self, rt: &(impl Files + AllocGlobal), name: &str) -> Result<Vec<u64>> {
-        let mut numbers = Vec::new(rt.alloc());
-        let Some(bytes) = self.known(rt, name)? else {
-            return Ok(numbers);
-        };
-        for word in str::from_utf8(&bytes)?.split_whitespace() {
-            numbers.push(word.parse()?)?;
+    /// The number in a file, if it is there.
+    fn number(&self, rt: &(impl Files + AllocGlobal), name: &str) -> Result<Option<u64>> {
+        match self.known(rt, name)? {
+            Some(bytes) => Ok(Some(str::from_utf8(&bytes)?.trim().parse()?)),
+            None => Ok(None),
         }
-        Ok(numbers)
-    }
-
-    /// The words of the run, `run` where it has none of its own.
-    fn words(&self, rt: &(impl Files + AllocGlobal)) -> Result<Vec<String>> {
-        let alloc = rt.alloc();
-        let bytes = self.known(rt, "words")?;
-        let text = match &bytes {
-            Some(bytes) => str::from_utf8(bytes)?,
-            None => "run",
-        };
-        let words = text.split_whitespace();
-        Ok(
-            words
-                .map(|word| String::from_str(alloc, word))
-                .try_collect(alloc)?,
-        )
     }
 
     /// A text, if it is there.
     fn text(&self, rt: &(impl Files + AllocGlobal), name: &str) -> Result<Option<Vec<u8>>> {
-        let bytes = self.known(rt, name)?;
-        match &bytes {
-            Some(short) if self.short => {
-                let long = expanded(rt.alloc(), str::from_utf8(short)?)?;
-                Ok(Some(long.into_bytes()))
+        match self.known(rt, name)? {
+            Some(bytes) if self.short => {
+                let text = expanded(rt.alloc(), str::from_utf8(&bytes)?)?;
+                Ok(Some(text.into_bytes()))
             }
-            _ => Ok(bytes),
+            known => Ok(known),
         }
+    }
+
+    /// The words of the run, if it has some of its own.
+    fn words(&self, rt: &(impl Files + AllocGlobal)) -> Result<Option<Vec<String>>> {
+        let Some(bytes) = self.known(rt, "words")? else {
+            return Ok(None);
+        };
+        let mut words = Vec::new(rt.alloc());
+        for word in str::from_utf8(&bytes)?.split_whitespace() {
+            words.push(String::from_str(rt.alloc(), word)?)?;
+        }
+        Ok(Some(words))
+    }
+
+    /// What the run is given, if it has a script.
+    fn inputs(&self, rt: &(impl Files + AllocGlobal)) -> Result<Option<Inputs>> {
+        let Some(script) = self.text(rt, "script")? else {
+            return Ok(None);
+        };
+        let piece = self.number(rt, "piece")?.unwrap_or(PIECE as u64);
+        Ok(Some(Inputs {
+            script,
+            piece: usize::try_from(piece)?.max(1),
+            read: self.number(rt, "reads")?.unwrap_or(0),
+            write: self.number(rt, "writes")?.unwrap_or(0),
+            words: self.words(rt)?,
+        }))
     }
 
     /// What the run is to print, how it is to end, and what it is to leave.
     fn wanted(&self, rt: &(impl Files + AllocGlobal)) -> Result<Wanted> {
-        let text = self.text(rt, "expected")?.context("a run prints a text")?;
-        let numbers = self.numbers(rt, "status")?;
-        let status = *numbers.first().context("a run ends with a status")?;
-        let left = self.known(rt, "left")?;
-        Ok(Wanted { text, status, left })
-    }
-
-    /// The run, if it has a script. `reads` and `writes` name the reads of the script and the writes of the replies
-    /// that fail, `piece` how many bytes a read gives at most.
-    fn turn(&self, rt: &(impl Files + AllocGlobal)) -> Result<Option<Turn>> {
-        let Some(script) = self.text(rt, "script")? else {
-            return Ok(None);
-        };
-        let piece = self.numbers(rt, "piece")?.first().copied();
-        let piece = usize::try_from(piece.unwrap_or(PIECE as u64))?.max(1);
-        let reads = self.numbers(rt, "reads")?;
-        let writes = self.numbers(rt, "writes")?;
-        Ok(Some(Turn {
-            words: self.words(rt)?,
-            script: MemorySource::new(script, reads, piece),
-            out: MemorySink::new(rt.alloc(), writes),
-            wanted: self.wanted(rt)?,
-        }))
-    }
-}
-
-impl Case {
-    /// From a folder: the files of its runs, and those that may be missing: `log`, `edits`, and `fails`, the calls of
-    /// the device that fail.
-    pub fn read(rt: &(impl Files + AllocGlobal), folder: Path<'_>) -> Result<Case> {
-        let alloc = rt.alloc();
-        let mut files = RunFiles {
-            folder,
-            suffix: "",
-            short: false,
-        };
-        files.short = files.known(rt, "short")?.is_some();
-        let log = files.known(rt, "log")?.unwrap_or(Vec::new(alloc));
-        let store = holding(alloc, &log, files.numbers(rt, "fails")?)?;
-        let edits = files.known(rt, "edits")?;
-        let mut turns = Vec::new(alloc);
-        for suffix in SUFFIXES {
-            files.suffix = suffix;
-            match files.turn(rt)? {
-                Some(turn) => turns.push(turn)?,
-                None => break,
-            }
-        }
-        ensure!(!turns.is_empty(), "a case has a script");
-        Ok(Case {
-            store,
-            turns,
-            edits,
+        let status = self.number(rt, "status")?;
+        let text = self.text(rt, "expected")?;
+        Ok(Wanted {
+            status: status.context("a run ends with a status")?,
+            text: text.context("a run prints a text")?,
+            left: self.known(rt, "left")?,
         })
     }
 }
 
-/// A device whose log has these bytes, and of which these calls fail.
-pub fn holding(alloc: Global, log: &[u8], fails: Vec<u64>) -> Result<MemoryDisk> {
-    let mut disk = MemoryDisk::new(alloc, fails);
-    ensure!(log.len() <= MOST_BYTES, "a log is too long");
-    if !log.is_empty() {
-        ensure!(disk.write_at(File::Log, 0, log).is_ok(), "out of memory");
+/// What a run is given.
+#[derive(Drop)]
+struct Inputs {
+    /// Its script.
+    script: Vec<u8>,
+    /// How many bytes of it a read gives at most.
+    piece: usize,
+    /// The read that fails; 0 where none does.
+    read: u64,
+    /// The write of the replies that fails; 0 where none does.
+    write: u64,
+    /// The command's words, if it has others than `run`.
+    words: Option<Vec<String>>,
+}
+
+impl Inputs {
+    /// A run over a store, which is then as the run leaves it: its status, and what has its replies.
+    fn run<R>(&self, shell: &Shell<'_, R>, store: &mut MemoryDisk) -> (u8, MemorySink)
+    where
+        R: Threads + Wait + Sync + AllocGlobal,
+    {
+        let alloc = shell.alloc();
+        let words = match &self.words {
+            Some(words) => words.as_slice(),
+            None => shell.words,
+        };
+        let script = Script::new(&self.script, self.piece, self.read);
+        let out = MemorySink::new(alloc, only(alloc, self.write));
+        let before = mem::replace(store, empty(alloc));
+        let ended = run_shell(shell.rt, alloc, words, script, out, before, &NoGate);
+        *store = ended.store;
+        (ended.status, ended.out)
     }
-    Ok(disk)
 }
 
-/// The bytes of the log.
-pub fn log_of(alloc: Global, disk: &mut MemoryDisk) -> Result<Vec<u8>> {
-    let Ok(len) = disk.length(File::Log) else {
-        bail!("a length fails");
-    };
-    let mut bytes = vec![in alloc; 0u8; len as usize]?;
-    let Ok(n) = disk.read(File::Log, 0, &mut bytes) else {
-        bail!("a read fails");
-    };
-    bytes.truncate(n);
-    Ok(bytes)
-}
-
-/// A run with the word `run`.
-pub fn run_of<R, S, K, D>(
-    rt: &R,
-    script: S,
-    out: K,
-    store: D,
-) -> Result<Outcome<S, K, D>, AllocError>
+/// Whether there is a run with these files, which is run over the store that those before it left.
+fn has_run<R>(
+    shell: &Shell<'_, R>,
+    name: &str,
+    files: &RunFiles<'_>,
+    store: &mut MemoryDisk,
+    tally: &mut Tally,
+) -> Result<bool>
 where
-    R: Threads + Wait + Sync + AllocGlobal,
-    S: Source + Drop,
-    K: Sink + Drop,
-    D: Disk + Send + Drop,
+    R: Threads + Wait + Sync + Print + AllocGlobal + Files,
 {
-    let alloc = rt.alloc();
-    let words = vec![in alloc; String::from_str(alloc, "run")?]?;
-    Ok(run_shell(rt, alloc, &words, script, out, store, &NoGate))
+    let Some(inputs) = files.inputs(shell.rt)? else {
+        return Ok(false);
+    };
+    let wanted = files.wanted(shell.rt)?;
+    let (status, out) = inputs.run(shell, store);
+    let left = log_of(shell.alloc(), store).context("the log is read")?;
+    let agrees = report(shell.rt, name, &wanted, status, out.bytes(), &left)?;
+    tally.runs = tally.runs.saturating_add(1);
+    tally.note(agrees);
+    Ok(true)
 }
 
-/// A run over a store whose source and sink are in memory.
-pub type Ended<D> = Outcome<MemorySource, MemorySink, D>;
-
-/// A run of a script over a store.
-pub fn run_on<R, D>(rt: &R, script: &[u8], store: D) -> Result<Ended<D>, AllocError>
+/// Opens the edits of the log that a case leaves, where it has some.
+fn run_edits<R>(
+    shell: &Shell<'_, R>,
+    name: &str,
+    files: &RunFiles<'_>,
+    store: &mut MemoryDisk,
+    tally: &mut Tally,
+) -> Result<()>
 where
-    R: Threads + Wait + Sync + AllocGlobal,
-    D: Disk + Send + Drop,
+    R: Threads + Wait + Sync + Print + AllocGlobal + Files,
 {
-    let alloc = rt.alloc();
-    let script = MemorySource::new(script.to_vec(alloc)?, Vec::new(alloc), PIECE);
-    run_of(rt, script, MemorySink::new(alloc, Vec::new(alloc)), store)
+    let Some(edits) = files.known(shell.rt, "edits")? else {
+        return Ok(());
+    };
+    let log = log_of(shell.alloc(), store).context("the log is read")?;
+    open_edits(shell, name, &log, str::from_utf8(&edits)?, tally)
+}
+
+/// The store before the first run: its log, and `fails`, the call of the device that fails.
+fn store_of(rt: &(impl Files + AllocGlobal), files: &RunFiles<'_>) -> Result<MemoryDisk> {
+    let fails = files.number(rt, "fails")?.unwrap_or(0);
+    let log = files.known(rt, "log")?;
+    let bytes: &[u8] = match &log {
+        Some(log) => log.as_slice(),
+        None => b"",
+    };
+    Ok(holding(rt.alloc(), bytes, only(rt.alloc(), fails)))
+}
+
+/// Runs a case: its runs, one after another over one store, and the edits of the log that they leave.
+pub fn run_case<R>(
+    shell: &Shell<'_, R>,
+    name: &str,
+    folder: Path<'_>,
+    tally: &mut Tally,
+) -> Result<()>
+where
+    R: Threads + Wait + Sync + Print + AllocGlobal + Files,
+{
+    let mut files = RunFiles {
+        folder,
+        suffix: "",
+        short: false,
+    };
+    files.short = files.known(shell.rt, "short")?.is_some();
+    let first = files;
+    let mut store = store_of(shell.rt, &first)?;
+    let before = tally.runs;
+    for suffix in SUFFIXES {
+        files.suffix = suffix;
+        if !has_run(shell, name, &files, &mut store, tally)? {
+            break;
+        }
+    }
+    ensure!(tally.runs > before, "a case has a script");
+    run_edits(shell, name, &first, &mut store, tally)
 }

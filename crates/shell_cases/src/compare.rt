@@ -1,43 +1,71 @@
 // How what was wanted and what came differ.
 ghost use Rattle.std.specs.Prelude.{◌≡◌, ◌↔◌, IsNone, IsTrue, IfOk, IfSome};
 
-use crate::case::Wanted;
-use std::io;
+use std::{io, str};
 
-// The number of the first line that differs, from 0.
+/// What a run must print, its status, and the log's bytes that it must leave, where they are known.
+#[derive(Drop)]
+pub struct Wanted {
+    /// What is printed.
+    pub text: Vec<u8>,
+    /// The status.
+    pub status: u64,
+    /// The log that is left.
+    pub left: Option<Vec<u8>>,
+}
+
+/// How many bytes are the same before the first that differs.
+pub fn same_front(first: &[u8], second: &[u8]) -> usize {
+    let mut count = 0usize;
+    for (a, b) in first.iter().zip(second) {
+        if a != b {
+            break;
+        }
+        count = count.saturating_add(1);
+    }
+    count
+}
+
+/// How often a byte is there.
+pub fn count_of(bytes: &[u8], sought: u8) -> usize {
+    let mut count = 0usize;
+    for byte in bytes {
+        count = count.saturating_add(usize::from(*byte == sought));
+    }
+    count
+}
+
+/// The number of the first line that differs, from 0.
 fn first_difference(wanted: &[u8], written: &[u8]) -> Option<usize>
     ensures { IsNone result ↔ (wanted.now ≡ written.now) }
 {
     if wanted == written {
         return None;
     }
-    let same = wanted.iter().zip(written).take_while(|(a, b)| a == b);
-    Some(same.filter(|(a, _)| **a == b'\n').count())
+    let same = wanted.get(..same_front(wanted, written)).unwrap_or(b"");
+    Some(count_of(same, b'\n'))
 }
 
-// The line with this number, from 0, and its end.
-fn line_at(bytes: &[u8], number: usize) -> &[u8] {
-    let mut lines = bytes.split_inclusive(|b| *b == b'\n');
-    lines.nth(number).unwrap_or(b"")
+/// The line with this number, from 0, of a text.
+fn line_at(bytes: &[u8], number: usize) -> &str {
+    let text = str::from_utf8(bytes).unwrap_or("");
+    text.split('\n').nth(number).unwrap_or("")
 }
 
-// Whether the printed text is as it was wanted. It prints the first line that is not.
+/// Whether the printed text is as it was wanted. It prints the first line that is not.
 fn same_text(rt: &impl Print, name: &str, wanted: &[u8], written: &[u8]) -> io::Result<bool>
     ensures { IfOk result (λ agrees. IsTrue agrees ↔ (wanted.now ≡ written.now)) }
 {
     let difference = first_difference(wanted, written);
     if let Some(number) = difference {
-        let was = line_at(wanted, number).escape_ascii();
-        let is = line_at(written, number).escape_ascii();
-        println!(rt;
-            "{name}: line {}: wanted \"{was}\", written \"{is}\"",
-            number.saturating_add(1)
-        )?;
+        let (was, is) = (line_at(wanted, number), line_at(written, number));
+        let line = number.saturating_add(1);
+        println!(rt; "{name}: line {line}: wanted {was:?}, written {is:?}")?;
     }
     Ok(difference.is_none())
 }
 
-// Whether the log's bytes are as they were wanted, where that is known. It prints the place of the first that is not.
+/// Whether the log's bytes are as they were wanted, where that is known. It prints the place of the first that is not.
 fn same_log(rt: &impl Print, name: &str, wanted: &Option<Vec<u8>>, left: &[u8]) -> io::Result<bool>
     ensures { IfOk result (λ agrees. IsTrue agrees ↔ IfSome wanted.now (λ w. w.items ≡ left.now)) }
 {
@@ -47,7 +75,7 @@ fn same_log(rt: &impl Print, name: &str, wanted: &Option<Vec<u8>>, left: &[u8]) 
     if wanted.as_slice() == left {
         return Ok(true);
     }
-    let place = wanted.iter().zip(left).take_while(|(a, b)| a == b).count();
+    let place = same_front(wanted, left);
     let (was, is) = (wanted.len(), left.len());
     println!(rt; "{name}: log: wanted {was} bytes, left {is}, which differ at {place}")?;
     Ok(false)

@@ -1,12 +1,10 @@
 // Runs in which a read of the script, a write of a reply or a call of the device fails, each in turn.
 ghost use Rattle.std.specs.Prelude.{None};
 
-use crate::case::{Ended, PIECE, run_of, run_on};
+use crate::compare::{count_of, same_front};
+use crate::runs::{Ended, PIECE, Script, Shell, empty, only};
 use crate::tally::Tally;
-use anyhow::Result;
-use disk_trait::{Failed, MemoryDisk, MemorySink, MemorySource, Sink};
-use shell_run::Outcome;
-use std::alloc::AllocError;
+use disk_trait::{Failed, MemoryDisk, MemorySink, Sink};
 use std::sync::Wait;
 use std::thread::Threads;
 
@@ -38,27 +36,27 @@ parse 'a-b 1.5'
 const AFTER: &[u8] = b"@1 search '!z'\n";
 
 /// A run of `SCRIPT` over an empty device, of which these calls fail.
-pub fn run_script<R>(rt: &R, fails: Vec<u64>) -> Result<Ended<MemoryDisk>, AllocError>
+pub fn run_script<R>(shell: &Shell<'_, R>, fails: Vec<u64>) -> Ended<'static, MemoryDisk>
 where
     R: Threads + Wait + Sync + AllocGlobal,
 {
-    run_on(rt, SCRIPT, MemoryDisk::new(rt.alloc(), fails))
+    shell.run_on(SCRIPT, MemoryDisk::new(shell.alloc(), fails))
 }
 
 /// A run of `SCRIPT` that is read in pieces, of which this one fails.
-fn run_read<R>(rt: &R, fails: u64) -> Result<Ended<MemoryDisk>, AllocError>
+fn run_read<R>(shell: &Shell<'_, R>, failing: u64) -> Ended<'static, MemoryDisk>
 where
     R: Threads + Wait + Sync + AllocGlobal,
 {
-    let alloc = rt.alloc();
-    let script = MemorySource::new(SCRIPT.to_vec(alloc)?, vec![in alloc; fails]?, SHORT);
+    let alloc = shell.alloc();
     let out = MemorySink::new(alloc, Vec::new(alloc));
-    run_of(rt, script, out, MemoryDisk::new(alloc, Vec::new(alloc)))
+    shell.run(Script::new(SCRIPT, SHORT, failing), out, empty(alloc))
 }
 
 /// A sink that takes pieces.
 #[derive(Drop)]
 struct Pieces {
+    /// What takes them.
     sink: MemorySink,
 }
 
@@ -69,123 +67,126 @@ impl Sink for Pieces {
 
     ghost fault_count = { λ s. (sink_schedule s.sink).faults };
 
+    /// Takes the beginning.
     fn write(&mut self, bytes: &[u8]) -> Result<usize, Failed> {
         self.sink.write(&bytes[..bytes.len().min(SHORT)])
     }
 }
 
-/// A run of `SCRIPT` whose replies are written in pieces, of which this one fails.
-fn run_written<R>(
-    rt: &R,
-    fails: u64,
-) -> Result<Outcome<MemorySource, Pieces, MemoryDisk>, AllocError>
-where
-    R: Threads + Wait + Sync + AllocGlobal,
-{
-    let alloc = rt.alloc();
-    let script = MemorySource::new(SCRIPT.to_vec(alloc)?, Vec::new(alloc), PIECE);
-    let sink = MemorySink::new(alloc, vec![in alloc; fails]?);
-    run_of(
-        rt,
-        script,
-        Pieces { sink },
-        MemoryDisk::new(alloc, Vec::new(alloc)),
-    )
-}
-
-/// How many lines a text has.
-fn lines_in(text: &[u8]) -> usize {
-    text.iter().filter(|byte| **byte == b'\n').count()
-}
-
 /// Whether a run in which a call of the device failed has printed nothing, or as many lines as a run in which none did
 /// and the same up to a change that is answered so.
 fn is_cut_short(text: &[u8], good: &[u8]) -> bool {
-    let same = text.iter().zip(good).take_while(|(a, b)| a == b).count();
-    let differs = text.get(same..).unwrap_or(b"");
-    let cut = lines_in(text) == lines_in(good) && differs.starts_with(b"error 15 device\n");
-    text.is_empty() || cut
+    let differs = text.get(same_front(text, good)..).unwrap_or(b"");
+    let lines = count_of(text, b'\n') == count_of(good, b'\n');
+    text.is_empty() || lines && differs.starts_with(b"error 15 device\n")
 }
 
 /// Whether a store opens, and goes on.
-fn opens<R>(rt: &R, store: MemoryDisk) -> Result<bool, AllocError>
+fn opens<R>(shell: &Shell<'_, R>, store: MemoryDisk) -> bool
 where
     R: Threads + Wait + Sync + AllocGlobal,
 {
-    Ok(run_on(rt, AFTER, store)?.status == 0)
+    shell.run_on(AFTER, store).status == 0
 }
 
-/// Each call of the device of a run fails in turn: its status is 3, it has printed nothing or a line for each reply,
-/// and what it leaves is opened.
-pub fn see_failing_calls<R>(rt: &R, tally: &mut Tally) -> Result<()>
+/// Whether the run of which this call of the device fails has status 3 and has printed nothing or a line for each
+/// reply, and what it leaves is opened.
+fn fails_at<R>(shell: &Shell<'_, R>, call: u64, good: &[u8]) -> bool
+where
+    R: Threads + Wait + Sync + AllocGlobal,
+{
+    let ended = run_script(shell, only(shell.alloc(), call));
+    let cut = ended.status == 3 && is_cut_short(ended.out.bytes(), good);
+    cut & opens(shell, ended.store)
+}
+
+/// Each call of the device of a run fails in turn.
+pub fn see_failing_calls<R>(shell: &Shell<'_, R>, tally: &mut Tally)
 where
     R: Threads + Wait + Sync + Print + AllocGlobal,
 {
-    let alloc = rt.alloc();
-    let good = run_script(rt, Vec::new(alloc))?;
-    tally.see(rt, good.status == 0, "the script", 0)?;
+    let good = run_script(shell, Vec::new(shell.alloc()));
+    tally.see(shell.rt, good.status == 0, "the script", 0);
     for call in 1..=good.store.calls() {
-        let ended = run_script(rt, vec![in alloc; call]?)?;
-        let cut = ended.status == 3 && is_cut_short(ended.out.bytes(), good.out.bytes());
-        let holds = opens(rt, ended.store)? && cut;
-        tally.see(rt, holds, "the script whose device fails at call", call)?;
+        let holds = fails_at(shell, call, good.out.bytes());
+        tally.see(
+            shell.rt,
+            holds,
+            "the script whose device fails at call",
+            call,
+        );
     }
-    Ok(())
+}
+
+/// Whether nothing is run of a script of which this read fails.
+fn is_unread<R>(shell: &Shell<'_, R>, read: u64) -> bool
+where
+    R: Threads + Wait + Sync + AllocGlobal,
+{
+    let ended = run_read(shell, read);
+    ended.status == 6 && ended.out.bytes().is_empty() && ended.store.calls() == 0
+}
+
+/// Whether all of a script is run that has fewer reads than this one, which fails.
+fn is_read<R>(shell: &Shell<'_, R>, read: u64) -> bool
+where
+    R: Threads + Wait + Sync + AllocGlobal,
+{
+    let good = run_script(shell, Vec::new(shell.alloc()));
+    let ended = run_read(shell, read);
+    ended.status == 0 && ended.out.bytes() == good.out.bytes()
 }
 
 /// Each read of a script fails in turn, the one that finds its end too: nothing is run then.
-pub fn see_failing_reads<R>(rt: &R, tally: &mut Tally) -> Result<()>
+pub fn see_failing_reads<R>(shell: &Shell<'_, R>, tally: &mut Tally)
 where
     R: Threads + Wait + Sync + Print + AllocGlobal,
 {
     let reads = SCRIPT.len().div_ceil(SHORT).saturating_add(1) as u64;
     for read in 1..=reads {
-        let ended = run_read(rt, read)?;
-        let nothing = ended.out.bytes().is_empty() && ended.store.calls() == 0;
-        let holds = ended.status == 6 && nothing;
-        tally.see(rt, holds, "the script that fails at read", read)?;
+        let holds = is_unread(shell, read);
+        tally.see(shell.rt, holds, "the script that fails at read", read);
     }
-    let good = run_script(rt, Vec::new(rt.alloc()))?;
-    let ended = run_read(rt, reads.saturating_add(1))?;
-    let holds = ended.status == 0 && ended.out.bytes() == good.out.bytes();
-    tally.see(rt, holds, "the script that fails at no read", reads)?;
-    Ok(())
+    let holds = is_read(shell, reads.saturating_add(1));
+    tally.see(shell.rt, holds, "the script that fails at no read", reads);
 }
 
-/// Whether a run whose write failed stopped there with a beginning of its replies, and what it left is opened.
-fn begins<R>(
-    rt: &R,
-    ended: Outcome<MemorySource, Pieces, MemoryDisk>,
-    text: &[u8],
-) -> Result<bool, AllocError>
+/// Whether this write of a run's replies fails, which are written in pieces; and whether the run then stops with a
+/// beginning of its replies, and what it leaves is opened, or else has written all of them.
+fn written<R>(shell: &Shell<'_, R>, write: u64, text: &[u8]) -> (bool, bool)
 where
     R: Threads + Wait + Sync + AllocGlobal,
 {
+    let alloc = shell.alloc();
+    let sink = MemorySink::new(alloc, only(alloc, write));
+    let ended = shell.run(Script::new(SCRIPT, PIECE, 0), Pieces { sink }, empty(alloc));
     let taken = ended.out.sink.bytes();
+    if ended.status == 0 {
+        return (false, taken == text);
+    }
     let begins = taken.len() < text.len() && text.starts_with(taken);
-    Ok(ended.status == 7 && begins && opens(rt, ended.store)?)
+    (
+        true,
+        ended.status == 7 && begins & opens(shell, ended.store),
+    )
 }
 
 /// Each write of the replies fails in turn.
-pub fn see_failing_writes<R>(rt: &R, tally: &mut Tally) -> Result<()>
+pub fn see_failing_writes<R>(shell: &Shell<'_, R>, tally: &mut Tally)
 where
     R: Threads + Wait + Sync + Print + AllocGlobal,
 {
-    let good = run_script(rt, Vec::new(rt.alloc()))?;
+    let good = run_script(shell, Vec::new(shell.alloc()));
     let text = good.out.bytes();
     let mut writes = 0;
     for write in 1..=text.len() as u64 {
-        let ended = run_written(rt, write)?;
-        if ended.status == 0 {
-            let whole = ended.out.sink.bytes() == text;
-            tally.see(rt, whole, "replies of which no write fails", write)?;
+        let (failed, holds) = written(shell, write, text);
+        tally.see(shell.rt, holds, "replies that fail at write", write);
+        if !failed {
             break;
         }
-        let holds = begins(rt, ended, text)?;
-        tally.see(rt, holds, "replies that fail at write", write)?;
         writes = write;
     }
     let each = writes >= text.len().div_ceil(SHORT) as u64;
-    tally.see(rt, each, "replies whose writes were", writes)?;
-    Ok(())
+    tally.see(shell.rt, each, "replies whose writes were", writes);
 }

@@ -1,9 +1,8 @@
 // That a hook is called before each statement of a session, with the session and the statement's number.
-use crate::case::PIECE;
+use crate::runs::{PIECE, Script, Shell, empty};
 use crate::tally::Tally;
-use anyhow::Result;
 use bench_base::{Watch, WatchedDisk};
-use disk_trait::{MemoryDisk, MemorySink, MemorySource};
+use disk_trait::MemorySink;
 use shell_run::{Gate, run_shell};
 use std::sync::Wait;
 use std::sync::atomic::{AtomicU64, Ordering};
@@ -78,25 +77,31 @@ end
 @1 insert vector 'c:1'
 ";
 
-/// Each statement calls the hook before it writes.
-pub fn see_a_gate<R>(rt: &R, tally: &mut Tally) -> Result<()>
+/// What has happened in a run of these statements, and whether its status is 1.
+fn passed<R>(shell: &Shell<'_, R>) -> (u64, bool)
 where
-    R: Threads + Wait + Sync + Print + AllocGlobal,
+    R: Threads + Wait + Sync + AllocGlobal,
 {
-    let alloc = rt.alloc();
+    let alloc = shell.alloc();
     let events = Events {
         number: AtomicU64::new(0),
     };
     let store = WatchedDisk {
-        disk: MemoryDisk::new(alloc, Vec::new(alloc)),
+        disk: empty(alloc),
         watch: Writes { events: &events },
     };
-    let script = MemorySource::new(SCRIPT.to_vec(alloc)?, Vec::new(alloc), PIECE);
+    let script = Script::new(SCRIPT, PIECE, 0);
     let out = MemorySink::new(alloc, Vec::new(alloc));
-    let words = vec![in alloc; String::from_str(alloc, "run")?]?;
-    let ended = run_shell(rt, alloc, &words, script, out, store, &events);
-    let number = events.number.load(Ordering::SeqCst);
-    let holds = ended.status == 1 && number == 11_00_21_31_00_12_00;
-    tally.see(rt, holds, "what passed the gate", number)?;
-    Ok(())
+    let ended = run_shell(shell.rt, alloc, shell.words, script, out, store, &events);
+    (events.number.load(Ordering::SeqCst), ended.status == 1)
+}
+
+/// Each statement calls the hook before it writes.
+pub fn see_a_gate<R>(shell: &Shell<'_, R>, tally: &mut Tally)
+where
+    R: Threads + Wait + Sync + Print + AllocGlobal,
+{
+    let (number, refused) = passed(shell);
+    let holds = refused && number == 11_00_21_31_00_12_00;
+    tally.see(shell.rt, holds, "what passed the gate", number);
 }

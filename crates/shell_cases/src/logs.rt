@@ -1,8 +1,8 @@
 // Runs over logs that are cut, or have another byte.
-use crate::case::{holding, log_of, run_on};
 use crate::faults::run_script;
+use crate::runs::{Shell, has_log, holding, log_of};
 use crate::tally::Tally;
-use anyhow::Result;
+use std::mem;
 use std::sync::Wait;
 use std::thread::Threads;
 
@@ -19,45 +19,43 @@ const WHOLE: &[u8] = b"@1 found 2/2#3 2/3#4\n@1 ok 2/4#5\n";
 const REPLACED: usize = 200;
 
 /// Whether a run over a log prints this, or finds no store where nothing is to be printed and leaves the log as it was.
-fn ends_so<R>(rt: &R, log: &[u8], text: &[u8]) -> Result<bool>
+fn ends_so<R>(shell: &Shell<'_, R>, log: &[u8], text: &[u8]) -> bool
 where
     R: Threads + Wait + Sync + AllocGlobal,
 {
-    let alloc = rt.alloc();
-    let mut ended = run_on(rt, OPENING, holding(alloc, log, Vec::new(alloc))?)?;
-    let stays = log_of(alloc, &mut ended.store)?.as_slice() == log;
-    let status = if text.is_empty() {
-        stays && ended.status == 4
-    } else {
-        ended.status == 0
-    };
-    Ok(status && ended.out.bytes() == text)
+    let alloc = shell.alloc();
+    let mut ended = shell.run_on(OPENING, holding(alloc, log, Vec::new(alloc)));
+    let printed = ended.out.bytes() == text;
+    let status = if text.is_empty() { 4 } else { 0 };
+    let stays = !text.is_empty() || has_log(alloc, &mut ended.store, log);
+    printed & stays & (ended.status == status)
 }
 
-/// The log that the script leaves.
-fn script_log<R>(rt: &R) -> Result<Vec<u8>>
+/// The log that the script leaves. It is empty where it can't be read.
+fn script_log<R>(shell: &Shell<'_, R>) -> Vec<u8>
 where
     R: Threads + Wait + Sync + AllocGlobal,
 {
-    let mut ended = run_script(rt, Vec::new(rt.alloc()))?;
-    log_of(rt.alloc(), &mut ended.store)
+    let alloc = shell.alloc();
+    let mut ended = run_script(shell, Vec::new(alloc));
+    log_of(alloc, &mut ended.store).unwrap_or(Vec::new(alloc))
 }
 
 /// A log is cut: what a creation may have left is created, any other is no store.
-pub fn see_cut_logs<R>(rt: &R, tally: &mut Tally) -> Result<()>
+pub fn see_cut_logs<R>(shell: &Shell<'_, R>, tally: &mut Tally)
 where
     R: Threads + Wait + Sync + Print + AllocGlobal,
 {
-    let log = script_log(rt)?;
-    let some = (0..log.len()).filter(|len| *len <= 200 || len % 401 == 0);
-    for len in some {
-        let text = if len <= 17 { NEW } else { b"" };
-        let holds = ends_so(rt, log.get(..len).unwrap_or(b""), text)?;
-        tally.see(rt, holds, "a log that is cut to bytes", len as u64)?;
+    let log = script_log(shell);
+    for len in 0..log.len() {
+        if len <= 200 || len % 401 == 0 {
+            let text = if len <= 17 { NEW } else { b"" };
+            let holds = ends_so(shell, log.get(..len).unwrap_or(b""), text);
+            tally.see(shell.rt, holds, "a log that is cut to bytes", len as u64);
+        }
     }
-    let holds = ends_so(rt, &log, WHOLE)?;
-    tally.see(rt, holds, "a log of bytes", log.len() as u64)?;
-    Ok(())
+    let holds = ends_so(shell, &log, WHOLE);
+    tally.see(shell.rt, holds, "a log of bytes", log.len() as u64);
 }
 
 /// What a run prints over a log of which the byte at this place is 99: nothing, as of no store, where the store's
@@ -77,25 +75,26 @@ fn printed_over(place: usize) -> &'static [u8] {
     }
 }
 
+/// Puts a byte at a place, and gives the one that was there.
+fn put(log: &mut [u8], place: usize, byte: u8) -> u8 {
+    match log.get_mut(place) {
+        Some(old) => mem::replace(old, byte),
+        None => byte,
+    }
+}
+
 /// A byte of a log is 99.
-pub fn see_other_bytes<R>(rt: &R, tally: &mut Tally) -> Result<()>
+pub fn see_other_bytes<R>(shell: &Shell<'_, R>, tally: &mut Tally)
 where
     R: Threads + Wait + Sync + Print + AllocGlobal,
 {
-    let log = script_log(rt)?;
-    tally.see(
-        rt,
-        log.len() > REPLACED,
-        "a log is longer than",
-        REPLACED as u64,
-    )?;
+    let mut log = script_log(shell);
+    let long = log.len() > REPLACED;
+    tally.see(shell.rt, long, "a log is longer than", REPLACED as u64);
     for place in 0..REPLACED {
-        let mut bytes = log.clone()?;
-        if let Some(byte) = bytes.get_mut(place) {
-            *byte = 99;
-        }
-        let holds = ends_so(rt, &bytes, printed_over(place))?;
-        tally.see(rt, holds, "a log with another byte at", place as u64)?;
+        let old = put(&mut log, place, 99);
+        let holds = ends_so(shell, &log, printed_over(place));
+        put(&mut log, place, old);
+        tally.see(shell.rt, holds, "a log with another byte at", place as u64);
     }
-    Ok(())
 }

@@ -2,14 +2,19 @@
 use anyhow::Result;
 use std::alloc::{AllocError, Global};
 
+/// Pushes a letter of an item with its number.
+fn push_letter(long: &mut String, letter: char, number: u32) -> Result<(), AllocError> {
+    match letter {
+        '@' => write!(long, "{:x>2041}{number:05}", ""),
+        '#' => write!(long, "{number}"),
+        _ => long.push(letter),
+    }
+}
+
 /// Pushes an item with its number.
 fn push_item(long: &mut String, item: &str, number: u32) -> Result<(), AllocError> {
     for letter in item.chars() {
-        match letter {
-            '@' => write!(long, "{:x>2041}{number:05}", "")?,
-            '#' => write!(long, "{number}")?,
-            _ => long.push(letter)?,
-        }
+        push_letter(long, letter, number)?;
     }
     Ok(())
 }

@@ -1,13 +1,9 @@
 // What runs of inserts, updates and deletes leave on a device, where a crash or a failing call cuts them short.
-ghost use Rattle.std.specs.Prelude.{◌≤◌};
-ghost use Rattle.disk_trait.specs.MemoryDisk.{clock_of};
-
-use crate::case::{Ended, run_on};
+use crate::runs::{Ended, Shell, image_at, only};
 use crate::short::expanded;
 use crate::tally::Tally;
 use anyhow::Result;
 use disk_trait::MemoryDisk;
-use std::alloc::Global;
 use std::sync::Wait;
 use std::thread::Threads;
 
@@ -51,145 +47,170 @@ const REPLIES: &str = "@1 found
 @1 ok 2/5#6
 ";
 
-/// So many of the statements, those after the first `done`.
-fn script_after(alloc: Global, done: usize, count: usize) -> Result<String> {
-    let mut script = String::new(alloc);
-    for line in STATEMENTS.split_inclusive('\n').skip(done).take(count) {
-        let line = expanded(alloc, line)?;
-        script.push_str(&line)?;
+/// What is after so many lines of a text.
+fn after_lines(text: &str, count: usize) -> &str {
+    let mut rest = text;
+    for _ in 0..count {
+        rest = match rest.split_once('\n') {
+            Some((_, rest)) => rest,
+            None => "",
+        };
     }
-    Ok(script)
+    rest
 }
 
-/// A run of so many of the statements over a device of which these calls fail, those after the first `done`; these are
-/// in a run before it, where there are any.
-fn run_after<R>(rt: &R, fails: Vec<u64>, done: usize, count: usize) -> Result<Ended<MemoryDisk>>
+/// So many lines of a text, those after the first `done`.
+fn lines_after(text: &str, done: usize, count: usize) -> &[u8] {
+    let lines = after_lines(text, done);
+    let len = lines.len().saturating_sub(after_lines(lines, count).len());
+    lines.as_bytes().get(..len).unwrap_or(b"")
+}
+
+/// A run of the lines of a text after the first `done`, so many, over a device of which these calls fail; those before
+/// them are in a run of their own, where there are any.
+fn run_after<'a, R>(
+    shell: &Shell<'_, R>,
+    text: &'a str,
+    fails: Vec<u64>,
+    done: usize,
+    count: usize,
+) -> Ended<'a, MemoryDisk>
 where
     R: Threads + Wait + Sync + AllocGlobal,
 {
-    let alloc = rt.alloc();
-    let mut store = MemoryDisk::new(alloc, fails);
+    let mut store = MemoryDisk::new(shell.alloc(), fails);
     if done > 0 {
-        let script = script_after(alloc, 0, done)?;
-        store = run_on(rt, script.as_bytes(), store)?.store;
+        store = shell.run_on(lines_after(text, 0, done), store).store;
     }
-    let script = script_after(alloc, done, count)?;
-    Ok(run_on(rt, script.as_bytes(), store)?)
+    shell.run_on(lines_after(text, done, count), store)
 }
 
-/// What such runs leave on a device of which no call fails.
-fn left_after<R>(rt: &R, done: usize, count: usize) -> Result<MemoryDisk>
+/// How many calls such runs make of a device of which none fails.
+fn calls_after<R>(shell: &Shell<'_, R>, text: &str, done: usize, count: usize) -> u64
 where
     R: Threads + Wait + Sync + AllocGlobal,
 {
-    Ok(run_after(rt, Vec::new(rt.alloc()), done, count)?.store)
+    let fails = Vec::new(shell.alloc());
+    run_after(shell, text, fails, done, count).store.calls()
+}
+
+/// Whether this is printed after so many statements, or after so many more.
+fn is_printed(text: &[u8], least: usize, more: usize) -> bool {
+    let mut found = false;
+    for replies in REPLIES.split(';').skip(least).take(more.saturating_add(1)) {
+        found = found || replies.as_bytes() == text;
+    }
+    found
 }
 
 /// Whether a store opens and goes on, as after so many statements, or after so many more.
-fn goes_on<R>(rt: &R, store: MemoryDisk, least: usize, more: usize) -> Result<bool>
+fn goes_on<R>(shell: &Shell<'_, R>, store: MemoryDisk, least: usize, more: usize) -> bool
 where
     R: Threads + Wait + Sync + AllocGlobal,
 {
-    let run = run_on(rt, GO_ON, store)?;
-    let text = run.out.bytes();
-    let met = REPLIES
-        .split(';')
-        .skip(least)
-        .take(more.saturating_add(1))
-        .any(|replies| replies.as_bytes() == text);
-    Ok(run.status == 0 && met)
+    let run = shell.run_on(GO_ON, store);
+    run.status == 0 && is_printed(run.out.bytes(), least, more)
 }
 
-/// A stop at a moment leaves what a beginning of the statements leaves, which has each that was answered by then, and
-/// no other but the one that was under way; and a run goes on from there.
-fn see_stop<R>(
-    rt: &R,
+/// Whether a stop at a moment leaves what a beginning of the statements leaves, which has each that was answered by
+/// then, and no other but the one that was under way, and a run goes on from there.
+fn stops_so<R>(
+    shell: &Shell<'_, R>,
     disk: &MemoryDisk,
     moment: u64,
+    pick: u64,
     answered: usize,
-    tally: &mut Tally,
-) -> Result<()>
+) -> bool
 where
-    R: Threads + Wait + Sync + Print + AllocGlobal,
-    requires { moment ≤ clock_of disk.now }
+    R: Threads + Wait + Sync + AllocGlobal,
 {
-    for pick in 0..16 {
-        let image = disk.image(rt.alloc(), moment, pick)?;
-        let holds = goes_on(rt, image, answered, 1)?;
-        tally.see(rt, holds, "a stop at moment", moment)?;
+    match image_at(shell.alloc(), disk, moment, pick) {
+        Some(image) => goes_on(shell, image, answered, 1),
+        None => false,
     }
-    Ok(())
 }
 
 /// The moments at which each statement was answered.
-fn ends<R>(rt: &R) -> Result<Vec<u64>>
+fn ends<R>(shell: &Shell<'_, R>, text: &str) -> Vec<u64>
 where
     R: Threads + Wait + Sync + AllocGlobal,
 {
-    let mut ends = Vec::new(rt.alloc());
+    let mut ends = Vec::new(shell.alloc());
     for done in 1..=FIRST {
-        ends.push(left_after(rt, 0, done)?.calls())?;
+        let _ = ends.push(calls_after(shell, text, 0, done));
     }
     for done in 1..=SECOND {
-        ends.push(left_after(rt, FIRST, done)?.calls())?;
+        let _ = ends.push(calls_after(shell, text, FIRST, done));
     }
-    Ok(ends)
+    ends
+}
+
+/// How many of the statements were answered by this moment.
+fn answered_by(ends: &[u64], moment: u64) -> usize {
+    let mut count = 0usize;
+    for end in ends {
+        count = count.saturating_add(usize::from(*end <= moment));
+    }
+    count
 }
 
 /// A stop at each moment of a run of inserts, an update and a delete, and of a second one.
-pub fn see_stops<R>(rt: &R, tally: &mut Tally) -> Result<()>
+fn see_each_stop<R>(shell: &Shell<'_, R>, text: &str, tally: &mut Tally)
 where
     R: Threads + Wait + Sync + Print + AllocGlobal,
 {
-    let ends = ends(rt)?;
-    let disk = left_after(rt, FIRST, SECOND)?;
-    for moment in 0..=disk.calls() {
-        let answered = ends.iter().filter(|end| **end <= moment).count();
-        see_stop(rt, &disk, moment, answered, tally)?;
+    let ends = ends(shell, text);
+    let ended = run_after(shell, text, Vec::new(shell.alloc()), FIRST, SECOND);
+    for moment in 0..=ended.store.calls() {
+        let answered = answered_by(&ends, moment);
+        for pick in 0..16 {
+            let holds = stops_so(shell, &ended.store, moment, pick, answered);
+            tally.see(shell.rt, holds, "a stop at moment", moment);
+        }
     }
-    Ok(())
 }
 
 /// Whether a run of the statement after the first `done`, in which this call of the device fails, ends with status 3,
 /// has printed nothing where the call is of the opening, else that the device failed, and the next run opens what is
 /// left and goes on.
-fn fails_at<R>(rt: &R, call: u64, done: usize, opening: bool) -> Result<bool>
+fn fails_at<R>(shell: &Shell<'_, R>, text: &str, call: u64, done: usize, opening: bool) -> bool
 where
     R: Threads + Wait + Sync + AllocGlobal,
 {
-    let run = run_after(rt, vec![in rt.alloc(); call]?, done, 1)?;
+    let run = run_after(shell, text, only(shell.alloc(), call), done, 1);
     let reply: &[u8] = if opening { b"" } else { FAILED_REPLY };
-    let so = (run.status == 3) & (run.out.bytes() == reply);
-    let goes = goes_on(rt, run.store, done, usize::from(!opening))?;
-    Ok(so & goes)
+    let so = run.status == 3 && run.out.bytes() == reply;
+    so & goes_on(shell, run.store, done, usize::from(!opening))
 }
 
 /// Each call of the device fails in turn, in a run of the statement after the first `done`.
-fn see_failing_run<R>(rt: &R, done: usize, tally: &mut Tally) -> Result<()>
+fn see_failing_run<R>(shell: &Shell<'_, R>, text: &str, done: usize, tally: &mut Tally)
 where
     R: Threads + Wait + Sync + Print + AllocGlobal,
 {
     let before = if done > 0 {
-        left_after(rt, 0, done)?.calls()
+        calls_after(shell, text, 0, done)
     } else {
         0
     };
-    let opened = left_after(rt, done, 0)?.calls();
-    let all = left_after(rt, done, 1)?.calls();
+    let opened = calls_after(shell, text, done, 0);
+    let all = calls_after(shell, text, done, 1);
     for call in before.saturating_add(1)..=all {
-        let holds = fails_at(rt, call, done, call <= opened)?;
-        tally.see(rt, holds, "a statement whose run fails at call", call)?;
+        let holds = fails_at(shell, text, call, done, call <= opened);
+        tally.see(shell.rt, holds, "a statement whose run fails at call", call);
     }
-    Ok(())
 }
 
-/// Each call of the device fails in turn, in the run of an insert, of a second one, of an update and of a delete.
-pub fn see_failing_calls<R>(rt: &R, tally: &mut Tally) -> Result<()>
+/// A stop at each moment of two runs; and each call of the device fails in turn, in the run of an insert, of a second
+/// one, of an update and of a delete.
+pub fn see_stops<R>(shell: &Shell<'_, R>, tally: &mut Tally) -> Result<()>
 where
     R: Threads + Wait + Sync + Print + AllocGlobal,
 {
+    let text = expanded(shell.alloc(), STATEMENTS)?;
+    see_each_stop(shell, &text, tally);
     for done in 0..FIRST {
-        see_failing_run(rt, done, tally)?;
+        see_failing_run(shell, &text, done, tally);
     }
     Ok(())
 }

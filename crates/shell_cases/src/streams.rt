@@ -1,11 +1,10 @@
 // A script that is too long, and a source and a sink whose reader and writer fail once in mid-stream.
 ghost use Rattle.std.specs.Prelude.{None};
 
-use crate::case::run_of;
+use crate::runs::{Shell, empty};
 use crate::tally::Tally;
-use anyhow::Result;
 use disk_file::{StdSink, StdSource};
-use disk_trait::{Failed, MemoryDisk, MemorySink, Sink, Source};
+use disk_trait::{Failed, MemorySink, Sink, Source};
 use std::io::{self, ErrorKind, Read, Write};
 use std::sync::Wait;
 use std::thread::Threads;
@@ -36,22 +35,20 @@ impl Source for Zeros {
 }
 
 /// A script of more than a gibibyte is refused, though it begins with a statement.
-pub fn see_a_long_script<R>(rt: &R, tally: &mut Tally) -> Result<()>
+pub fn see_a_long_script<R>(shell: &Shell<'_, R>, tally: &mut Tally)
 where
     R: Threads + Wait + Sync + Print + AllocGlobal,
 {
-    let alloc = rt.alloc();
-    let statement = b"@1 insert vector 'a:1'\n";
     let script = Zeros {
-        statement,
+        statement: b"@1 insert vector 'a:1'\n",
         zeros: (1 << 30) + 1 - 23,
     };
+    let alloc = shell.alloc();
     let out = MemorySink::new(alloc, Vec::new(alloc));
-    let ended = run_of(rt, script, out, MemoryDisk::new(alloc, Vec::new(alloc)))?;
+    let ended = shell.run(script, out, empty(alloc));
     let read = ended.script.statement.is_empty() && ended.script.zeros == 0;
     let holds = ended.status == 8 && read && ended.out.bytes().is_empty();
-    tally.see(rt, holds, "a script of more than a gibibyte", 0)?;
-    Ok(())
+    tally.see(shell.rt, holds, "a script of more than a gibibyte", 0);
 }
 
 /// It gives a byte or takes one at a time, and its second call fails.
@@ -128,8 +125,7 @@ fn a_sink_goes_on() -> bool {
 }
 
 /// Both.
-pub fn see_streams(rt: &impl Print, tally: &mut Tally) -> Result<()> {
-    tally.see(rt, a_source_goes_on(), "a source goes on after a fault", 0)?;
-    tally.see(rt, a_sink_goes_on(), "a sink goes on after a fault", 0)?;
-    Ok(())
+pub fn see_streams(rt: &impl Print, tally: &mut Tally) {
+    tally.see(rt, a_source_goes_on(), "a source goes on after a fault", 0);
+    tally.see(rt, a_sink_goes_on(), "a sink goes on after a fault", 0);
 }

@@ -1,5 +1,4 @@
 // How much was run, and how much of it differs from what is wanted.
-use std::io;
 
 /// The counts that the program prints.
 #[derive(Default, Drop)]
@@ -23,12 +22,11 @@ impl Tally {
     }
 
     /// Counts a check. It prints which one, where it does not hold.
-    pub fn see(&mut self, rt: &impl Print, holds: bool, what: &str, number: u64) -> io::Result<()> {
+    pub fn see(&mut self, rt: &impl Print, holds: bool, what: &str, number: u64) {
         self.checks = self.checks.saturating_add(1);
         self.note(holds);
         if !holds {
-            println!(rt; "{what} {number}")?;
+            let _ = println!(rt; "{what} {number}");
         }
-        Ok(())
     }
 }
