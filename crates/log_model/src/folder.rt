@@ -1,12 +1,13 @@
 // A folder with a log, what is wanted of it, its walks and its edits.
 use crate::history::{history_lines, record_line};
 use crate::judge::{Beginning, Judged, Verdict, judge, records_of};
+use crate::lines::{say, say_counts};
 use crate::same::same_in_front;
 use crate::walks::test_walks;
 use anyhow::{Context, Result};
 use bench_base::EditLine;
 use page_types::Record;
-use std::alloc::{AllocError, Global};
+use std::alloc::Global;
 use std::fs;
 use std::path::Path;
 use std::rt::Files;
@@ -14,8 +15,8 @@ use std::rt::Files;
 /// The records of a longer log are counted, and not printed.
 const MOST_PRINTED: usize = 1000;
 
-/// What is asked of a log, and what is said.
-#[derive(Clone, Copy, Debug)]
+/// What is asked of a log, and what is told.
+#[derive(Clone, Copy)]
 pub(crate) struct Asks {
     /// Whether a commit asks for indexed documents.
     pub(crate) index: bool,
@@ -32,14 +33,6 @@ fn is_valid(verdict: Verdict, number: u64) -> bool {
     }
 }
 
-/// The rule that is broken, with a colon and a space before it; none where none is.
-fn rule_line(alloc: Global, verdict: Verdict) -> Result<String, AllocError> {
-    match verdict {
-        Verdict::NotValid { rule, .. } => format!(in alloc; ", broken: {rule}"),
-        _ => Ok(String::new(alloc)),
-    }
-}
-
 /// Prints each line of which the other text has another; it says how many these are.
 fn compare(rt: &impl Print, what: &str, wanted: &str, lines: &[String]) -> Result<usize> {
     let mut differ = 0usize;
@@ -47,12 +40,12 @@ fn compare(rt: &impl Print, what: &str, wanted: &str, lines: &[String]) -> Resul
     for line in lines {
         let other = wanted.next().unwrap_or("nothing");
         if line.as_str() != other {
-            println!(rt; "{what}: wanted \"{other}\"")?;
+            say(rt, &[what, ": wanted \"", other, "\""])?;
             differ = differ.saturating_add(1);
         }
     }
     if let Some(other) = wanted.next() {
-        println!(rt; "{what}: wanted also \"{other}\"")?;
+        say(rt, &[what, ": wanted also \"", other, "\""])?;
         differ = differ.saturating_add(1);
     }
     Ok(differ)
@@ -60,12 +53,48 @@ fn compare(rt: &impl Print, what: &str, wanted: &str, lines: &[String]) -> Resul
 
 /// How many of the records are valid.
 fn count_valid(judged: &Judged) -> usize {
-    let verdict = judged.verdict;
-    judged
-        .records
-        .iter()
-        .filter(|record| is_valid(verdict, record.number))
-        .count()
+    let mut count = 0usize;
+    for record in &judged.records {
+        if is_valid(judged.verdict, record.number) {
+            count = count.saturating_add(1);
+        }
+    }
+    count
+}
+
+/// Prints a record's line, and whether it is valid.
+fn print_line(rt: &impl Print, line: &str, valid: bool) -> Result<()> {
+    let said = if valid { "valid" } else { "not valid" };
+    say(rt, &[line, ": ", said])
+}
+
+/// Prints a record with its verdict; its line without that.
+fn print_record(
+    rt: &(impl Print + AllocGlobal),
+    record: &Record,
+    verdict: Verdict,
+) -> Result<String> {
+    let line = record_line(rt.alloc(), record)?;
+    print_line(rt, line.as_str(), is_valid(verdict, record.number))?;
+    Ok(line)
+}
+
+/// The text of a file of the folder.
+fn text_in<R: Files + AllocGlobal>(rt: &R, folder: Path<'_>, name: &str) -> Result<String> {
+    Ok(fs::read_to_string(rt, &folder.join(rt.alloc(), name)?)?)
+}
+
+/// Prints records with their verdicts; their lines without these.
+fn print_each(
+    rt: &(impl Print + AllocGlobal),
+    records: &[Record],
+    verdict: Verdict,
+) -> Result<Vec<String>> {
+    let mut lines = Vec::new(rt.alloc());
+    for record in records {
+        lines.push(print_record(rt, record, verdict)?)?;
+    }
+    Ok(lines)
 }
 
 /// Prints the records with their verdicts, or of a long log how many there are; it says how many lines differ.
@@ -74,25 +103,13 @@ fn print_records<R: Files + Print + AllocGlobal>(
     folder: Path<'_>,
     judged: &Judged,
 ) -> Result<usize> {
-    let alloc = rt.alloc();
     let count = judged.records.len();
     if count > MOST_PRINTED {
-        let valid = count_valid(judged);
-        println!(rt; "{count} records, {valid} of them valid")?;
+        say_counts(rt, count, "records", count_valid(judged), "of them valid")?;
         return Ok(0);
     }
-    let mut lines = Vec::new(alloc);
-    for record in &judged.records {
-        let line = record_line(alloc, record)?;
-        let valid = if is_valid(judged.verdict, record.number) {
-            "valid"
-        } else {
-            "not valid"
-        };
-        println!(rt; "{line}: {valid}")?;
-        lines.push(line)?;
-    }
-    let wanted = fs::read_to_string(rt, &folder.join(alloc, "records")?)?;
+    let lines = print_each(rt, &judged.records, judged.verdict)?;
+    let wanted = text_in(rt, folder, "records")?;
     compare(rt, "records", wanted.as_str(), &lines)
 }
 
@@ -102,12 +119,11 @@ fn print_history<R: Files + Print + AllocGlobal>(
     folder: Path<'_>,
     judged: &Judged,
 ) -> Result<usize> {
-    let alloc = rt.alloc();
-    let lines = history_lines(alloc, &judged.ledger)?;
+    let lines = history_lines(rt.alloc(), &judged.ledger)?;
     for line in &lines {
-        println!(rt; "{line}")?;
+        say(rt, &[line.as_str()])?;
     }
-    let wanted = fs::read_to_string(rt, &folder.join(alloc, "commits")?)?;
+    let wanted = text_in(rt, folder, "commits")?;
     compare(rt, "commits", wanted.as_str(), &lines)
 }
 
@@ -123,6 +139,36 @@ fn untouched(alloc: Global, edits: &str, log: &[u8], records: &[Record]) -> Resu
     Ok(count)
 }
 
+/// The verdict of a log with an edit.
+fn edited_verdict(
+    alloc: Global,
+    edit: EditLine<'_>,
+    log: &[u8],
+    beginning: &Beginning,
+    index: bool,
+) -> Result<Verdict> {
+    let bytes = edit.apply(alloc, log)?;
+    Ok(judge(alloc, &bytes, beginning, index)?.verdict)
+}
+
+/// Prints what an edit does, the wanted verdict, and this one with its rule.
+fn print_edit(rt: &impl Print, edit: EditLine<'_>, found: &str, rule: (&str, &str)) -> Result<()> {
+    let (broken, rule) = rule;
+    say(
+        rt,
+        &[
+            "edit, ",
+            edit.what,
+            ": wanted ",
+            edit.wanted,
+            ", found ",
+            found,
+            broken,
+            rule,
+        ],
+    )
+}
+
 /// Whether the edit has the wanted verdict. It prints a line where it has another, or where each is wanted.
 fn test_edit(
     rt: &(impl Print + AllocGlobal),
@@ -131,23 +177,53 @@ fn test_edit(
     beginning: &Beginning,
     asks: Asks,
 ) -> Result<bool> {
-    let alloc = rt.alloc();
     let edit = EditLine::new(line)?;
-    let bytes = edit.apply(alloc, log)?;
-    let verdict = judge(alloc, &bytes, beginning, asks.index)?.verdict;
-    let found = format!(in alloc; "{verdict}")?;
+    let verdict = edited_verdict(rt.alloc(), edit, log, beginning, asks.index)?;
+    let found = verdict.text(rt.alloc())?;
     let agrees = found.as_str() == edit.wanted;
     if asks.why || !agrees {
-        let rule = rule_line(alloc, verdict)?;
-        let what = edit.what;
-        let wanted = edit.wanted;
-        println!(rt; "edit, {what}: wanted {wanted}, found {found}{rule}")?;
+        print_edit(rt, edit, found.as_str(), verdict.rule())?;
     }
     Ok(agrees)
 }
 
-/// Tests all edits of a log; it says how many lines differ. Where the log is legal, what they leave of it isn't judged
-/// again for each.
+/// The records with which the log and each edit of it begin, where the log is legal; they are judged once more, and not
+/// again for each edit.
+fn beginning_of(
+    alloc: Global,
+    log: &[u8],
+    judged: &Judged,
+    edits: &str,
+    index: bool,
+) -> Result<Beginning> {
+    if !matches!(judged.verdict, Verdict::Legal) {
+        return Ok(Beginning::new(alloc));
+    }
+    let count = untouched(alloc, edits, log, &judged.records)?;
+    Beginning::of(alloc, log, count, index)?.context("a legal log begins with one")
+}
+
+/// Tests each of these edits of a log; it says how many there are, and how many differ.
+fn test_each(
+    rt: &(impl Print + AllocGlobal),
+    edits: &str,
+    log: &[u8],
+    beginning: &Beginning,
+    asks: Asks,
+) -> Result<(usize, usize)> {
+    let mut count = 0usize;
+    let mut differ = 0usize;
+    for line in edits.lines() {
+        count = count.saturating_add(1);
+        let tested = test_edit(rt, line, log, beginning, asks);
+        if !tested.context(format_args!("edit {count}"))? {
+            differ = differ.saturating_add(1);
+        }
+    }
+    Ok((count, differ))
+}
+
+/// Tests all edits of a log; it says how many lines differ.
 fn test_edits<R: Files + Print + AllocGlobal>(
     rt: &R,
     folder: Path<'_>,
@@ -155,25 +231,40 @@ fn test_edits<R: Files + Print + AllocGlobal>(
     judged: &Judged,
     asks: Asks,
 ) -> Result<usize> {
-    let alloc = rt.alloc();
-    let edits = fs::read_to_string(rt, &folder.join(alloc, "edits")?)?;
-    let beginning = if matches!(judged.verdict, Verdict::Legal) {
-        let count = untouched(alloc, edits.as_str(), log, &judged.records)?;
-        Beginning::of(alloc, log, count, asks.index)?
-    } else {
-        Beginning::new(alloc)
-    };
-    let mut count = 0usize;
-    let mut differ = 0usize;
-    for line in edits.as_str().lines() {
-        count = count.saturating_add(1);
-        let tested = test_edit(rt, line, log, &beginning, asks);
-        if !tested.context(format_args!("edit {count}"))? {
-            differ = differ.saturating_add(1);
-        }
-    }
-    println!(rt; "{count} edits, {differ} differ")?;
+    let edits = text_in(rt, folder, "edits")?;
+    let beginning = beginning_of(rt.alloc(), log, judged, edits.as_str(), asks.index)?;
+    let (count, differ) = test_each(rt, edits.as_str(), log, &beginning, asks)?;
+    say_counts(rt, count, "edits", differ, "differ")?;
     Ok(differ)
+}
+
+/// Prints what a log is: its records, the verdict and the history; it says how many lines differ.
+fn print_judged<R: Files + Print + AllocGlobal>(
+    rt: &R,
+    folder: Path<'_>,
+    judged: &Judged,
+) -> Result<usize> {
+    let records = print_records(rt, folder, judged)?;
+    let (broken, rule) = judged.verdict.rule();
+    let verdict = judged.verdict.text(rt.alloc())?;
+    say(rt, &[verdict.as_str(), broken, rule])?;
+    let history = print_history(rt, folder, judged)?;
+    Ok(records.saturating_add(history))
+}
+
+/// Tests a log of a folder; it says how many lines differ.
+fn test_log<R: Files + Print + AllocGlobal>(
+    rt: &R,
+    folder: Path<'_>,
+    log: &[u8],
+    asks: Asks,
+) -> Result<usize> {
+    let alloc = rt.alloc();
+    let judged = judge(alloc, log, &Beginning::new(alloc), asks.index)?;
+    let printed = print_judged(rt, folder, &judged)?;
+    let walks = test_walks(rt, folder, &judged.records)?;
+    let edits = test_edits(rt, folder, log, &judged, asks)?;
+    Ok(printed.saturating_add(walks).saturating_add(edits))
 }
 
 /// Tests the log of a folder, its walks and its edits; it says how many lines differ.
@@ -183,21 +274,7 @@ pub(crate) fn test_folder<R: Files + Print + AllocGlobal>(
     folder: Path<'_>,
     asks: Asks,
 ) -> Result<usize> {
-    let alloc = rt.alloc();
-    println!(rt; "{name}")?;
-    let log = fs::read(rt, &folder.join(alloc, "ginsh.log")?)?;
-    let judged = judge(alloc, &log, &Beginning::new(alloc), asks.index)?;
-    let records = print_records(rt, folder, &judged)?;
-    let verdict = judged.verdict;
-    let rule = rule_line(alloc, verdict)?;
-    println!(rt; "{verdict}{rule}")?;
-    let history = print_history(rt, folder, &judged)?;
-    let walks = test_walks(rt, folder, &judged.records)?;
-    let edits = test_edits(rt, folder, &log, &judged, asks)?;
-    Ok(
-        records
-            .saturating_add(history)
-            .saturating_add(walks)
-            .saturating_add(edits),
-    )
+    say(rt, &[name])?;
+    let log = fs::read(rt, &folder.join(rt.alloc(), "ginsh.log")?)?;
+    test_log(rt, folder, &log, asks)
 }

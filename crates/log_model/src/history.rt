@@ -1,4 +1,5 @@
 // Records and commits as lines.
+use crate::lines::{push_doc, push_number};
 use log_walks::{Doc, Fate, Ledger, Transaction};
 use page_types::{Change, Edit, Kind, Record};
 use std::alloc::{AllocError, Global};
@@ -44,47 +45,68 @@ fn doc_in(kind: Kind) -> Option<Doc> {
     }
 }
 
-/// The fields of a record, each with a space before it.
-fn fields_line(alloc: Global, kind: Kind) -> Result<String, AllocError> {
-    match kind {
-        Kind::Commit { commit } => format!(in alloc; " commit {commit}"),
-        Kind::Checkpoint { redo } => format!(in alloc; " redo {redo}"),
-        _ => match doc_in(kind) {
-            Some(doc) => format!(in alloc; " doc {doc}"),
-            None => Ok(String::new(alloc)),
-        },
+/// Puts the fields of a record after a line, each with a space before it.
+fn push_fields(line: &mut String, kind: Kind) -> Result<(), AllocError> {
+    match (kind, doc_in(kind)) {
+        (Kind::Commit { commit }, _) => push_number(line, " commit ", u64::from(commit)),
+        (Kind::Checkpoint { redo }, _) => push_number(line, " redo ", redo),
+        (_, Some(doc)) => push_doc(line, " doc ", doc),
+        _ => Ok(()),
     }
 }
 
-/// A changed page: `i` is an image, `d` a delta.
-fn change_line(alloc: Global, change: &Change) -> Result<String, AllocError> {
-    let page = change.page;
+/// The letter of a change: `i` of an image, `d` of a delta.
+fn letter_of(change: &Change) -> &'static str {
     match &change.edit {
-        Edit::Image(_) => format!(in alloc; "{page}i"),
-        Edit::Delta { .. } => format!(in alloc; "{page}d"),
+        Edit::Image(_) => "i",
+        Edit::Delta { .. } => "d",
     }
+}
+
+/// Puts the changed pages after a line.
+fn push_pages(line: &mut String, changes: &[Change]) -> Result<(), AllocError> {
+    let mut before = " pages ";
+    for change in changes {
+        push_number(line, before, u64::from(change.page))?;
+        line.push_str(letter_of(change))?;
+        before = ",";
+    }
+    Ok(())
+}
+
+/// Puts a record into an empty line.
+fn push_record(line: &mut String, record: &Record) -> Result<(), AllocError> {
+    push_number(line, "", record.number)?;
+    line.push(' ')?;
+    line.push_str(name_of(record.kind))?;
+    push_number(line, " xid ", u64::from(record.xid))?;
+    push_fields(line, record.kind)?;
+    push_pages(line, record.changes.as_slice())
 }
 
 /// A record: its number, kind, xid, fields and changed pages.
 pub(crate) fn record_line(alloc: Global, record: &Record) -> Result<String, AllocError> {
-    let number = record.number;
-    let name = name_of(record.kind);
-    let xid = record.xid;
-    let fields = fields_line(alloc, record.kind)?;
-    let mut line = format!(in alloc; "{number} {name} xid {xid}{fields}")?;
-    let mut before = " pages ";
-    for change in record.changes.as_slice() {
-        line.push_str(before)?;
-        line.push_str(change_line(alloc, change)?.as_str())?;
-        before = ",";
-    }
+    let mut line = String::new(alloc);
+    push_record(&mut line, record)?;
     Ok(line)
 }
 
 /// The transaction of a commit.
 fn transaction_of(ledger: &Ledger, commit: u32) -> Option<&Transaction> {
-    let mut all = ledger.transactions.iter();
-    all.find(|transaction| transaction.fate == Fate::Committed(commit))
+    for transaction in &ledger.transactions {
+        if transaction.fate == Fate::Committed(commit) {
+            return Some(transaction);
+        }
+    }
+    None
+}
+
+/// Puts documents after a line, each with this before it.
+fn push_docs(line: &mut String, piece: &str, docs: &[Doc]) -> Result<(), AllocError> {
+    for doc in docs {
+        push_doc(line, piece, *doc)?;
+    }
+    Ok(())
 }
 
 /// A commit: the names that it deletes, and those that it inserts.
@@ -93,13 +115,17 @@ fn commit_line(
     commit: u32,
     transaction: &Transaction,
 ) -> Result<String, AllocError> {
-    let mut line = format!(in alloc; "commit {commit}")?;
-    for doc in &transaction.marked {
-        line.push_str(format!(in alloc; " -{doc}")?.as_str())?;
-    }
-    for doc in &transaction.placed {
-        line.push_str(format!(in alloc; " +{doc}")?.as_str())?;
-    }
+    let mut line = String::new(alloc);
+    push_number(&mut line, "commit ", u64::from(commit))?;
+    push_docs(&mut line, " -", &transaction.marked)?;
+    push_docs(&mut line, " +", &transaction.placed)?;
+    Ok(line)
+}
+
+/// How many commits there are.
+fn commits_line(alloc: Global, commits: u32) -> Result<String, AllocError> {
+    let mut line = String::new(alloc);
+    push_number(&mut line, "commits ", u64::from(commits))?;
     Ok(line)
 }
 
@@ -112,7 +138,6 @@ pub(crate) fn history_lines(alloc: Global, ledger: &Ledger) -> Result<Vec<String
             lines.push(commit_line(alloc, commit, transaction)?)?;
         }
     }
-    let commits = ledger.commits;
-    lines.push(format!(in alloc; "commits {commits}")?)?;
+    lines.push(commits_line(alloc, ledger.commits)?)?;
     Ok(lines)
 }

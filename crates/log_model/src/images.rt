@@ -2,7 +2,6 @@
 use log_walks::{Fault, Store, must};
 use page_types::{Change, Edit, Kind, Record};
 use std::alloc::{AllocError, Global};
-use std::collections::BTreeSet;
 
 /// The rule.
 const RULE: &str = "the first change of a page is an image";
@@ -12,14 +11,26 @@ fn is_image(change: &Change) -> bool {
     matches!(&change.edit, Edit::Image(_))
 }
 
-/// Whether the first change of each page from this record number on is an image.
-fn images_from(alloc: Global, records: &[Record], from: u64) -> Result<bool, AllocError> {
-    let mut seen = BTreeSet::new(alloc);
-    for record in records.iter().filter(|record| record.number >= from) {
-        for change in record.changes.as_slice() {
-            if seen.insert(change.page)? && !is_image(change) {
+/// Whether the first change of each page that was not seen yet is an image; they are seen then.
+fn begin_with_images(changes: &[Change], seen: &mut Vec<u32>) -> Result<bool, AllocError> {
+    for change in changes {
+        if !seen.contains(&change.page) {
+            if !is_image(change) {
                 return Ok(false);
             }
+            seen.push(change.page)?;
+        }
+    }
+    Ok(true)
+}
+
+/// Whether the first change of each page in the records between two numbers is an image.
+fn have_images(alloc: Global, records: &[Record], from: u64, to: u64) -> Result<bool, AllocError> {
+    let mut seen = Vec::new(alloc);
+    for record in records {
+        let within = from <= record.number && record.number <= to;
+        if within && !begin_with_images(record.changes.as_slice(), &mut seen)? {
+            return Ok(false);
         }
     }
     Ok(true)
@@ -27,25 +38,40 @@ fn images_from(alloc: Global, records: &[Record], from: u64) -> Result<bool, All
 
 /// Whether the page was changed from this record number on: its stamp is the number of its last change.
 fn was_changed(store: &Store, page: u32, from: u64) -> bool {
-    store.page(page).is_some_and(|page| page.stamp >= from)
+    match store.page(page) {
+        Some(page) => page.stamp >= from,
+        None => false,
+    }
 }
 
-/// The rule holds of the records, where it holds without the last: these pages are those after the others, and this is
-/// the last redo number of the others, which rise.
+/// Whether each change is an image, or of a page that was changed from this record number on.
+fn may_be_deltas(store: &Store, changes: &[Change], from: u64) -> bool {
+    for change in changes {
+        if !is_image(change) && !was_changed(store, change.page, from) {
+            return false;
+        }
+    }
+    true
+}
+
+/// Whether the rule holds from the redo number on up to the record, where that is a checkpoint.
+fn redo_has_images(alloc: Global, records: &[Record], record: &Record) -> Result<bool, AllocError> {
+    match record.kind {
+        Kind::Checkpoint { redo } => have_images(alloc, records, redo, record.number),
+        _ => Ok(true),
+    }
+}
+
+/// The rule holds of the records up to this one, where it holds of those before it: these pages are those after them,
+/// and this is the last of their redo numbers, which rise.
 pub(crate) fn must_have_images(
     alloc: Global,
     store: &Store,
     redo: u64,
     records: &[Record],
+    record: &Record,
 ) -> Result<(), Fault> {
-    let Some(record) = records.last() else {
-        return Ok(());
-    };
-    if let Kind::Checkpoint { redo: from } = record.kind {
-        must(images_from(alloc, records, from)?, RULE)?;
-    }
-    let changes = record.changes.as_slice();
-    let holds = changes.iter().all(|change| is_image(change)
-        || was_changed(store, change.page, redo));
-    must(holds, RULE)
+    let redone = redo_has_images(alloc, records, record)?;
+    let holds = may_be_deltas(store, record.changes.as_slice(), redo);
+    must(redone && holds, RULE)
 }

@@ -1,14 +1,14 @@
 // Whether a log is legal.
+use crate::lines::push_number;
 use crate::prefix::{Prefix, deltas_apply};
 use crate::same::same_in_front;
 use crate::told::CORE_DIFFERS;
-use log_walks::{Fault, Ledger, LogError, Store, read_log};
+use log_walks::{Fault, Ledger, LogError, read_log};
 use page_types::Record;
 use std::alloc::{AllocError, Global};
-use std::fmt;
 
 /// What a log is.
-#[derive(Clone, Copy, Debug)]
+#[derive(Clone, Copy)]
 pub(crate) enum Verdict {
     /// Each record may follow those before it.
     Legal,
@@ -18,15 +18,40 @@ pub(crate) enum Verdict {
     NotValid { number: u64, rule: &'static str },
 }
 
-impl fmt::Display for Verdict {
-    fn fmt<W: fmt::Write>(&self, f: &mut fmt::Formatter<W>) -> fmt::Result {
+/// What is wrong with a record that breaks this rule.
+fn wrong_by(rule: &str) -> &'static str {
+    if rule == CORE_DIFFERS {
+        " is another to the core"
+    } else {
+        " is not valid"
+    }
+}
+
+impl Verdict {
+    /// Puts the verdict after a line.
+    fn push(self, line: &mut String) -> Result<(), AllocError> {
         match self {
-            Verdict::Legal => write!(f, "legal"),
-            Verdict::NotAStore => write!(f, "not a store"),
-            Verdict::NotValid { number, rule } if *rule == CORE_DIFFERS => {
-                write!(f, "record {number} is another to the core")
+            Verdict::Legal => line.push_str("legal"),
+            Verdict::NotAStore => line.push_str("not a store"),
+            Verdict::NotValid { number, rule } => {
+                push_number(line, "record ", number)?;
+                line.push_str(wrong_by(rule))
             }
-            Verdict::NotValid { number, .. } => write!(f, "record {number} is not valid"),
+        }
+    }
+
+    /// The verdict's text.
+    pub(crate) fn text(self, alloc: Global) -> Result<String, AllocError> {
+        let mut line = String::new(alloc);
+        self.push(&mut line)?;
+        Ok(line)
+    }
+
+    /// What is printed after it: the rule that is broken, where one is.
+    pub(crate) fn rule(self) -> (&'static str, &'static str) {
+        match self {
+            Verdict::NotValid { rule, .. } => (", broken: ", rule),
+            _ => ("", ""),
         }
     }
 }
@@ -38,8 +63,6 @@ pub(crate) struct Judged {
     pub(crate) records: Vec<Record>,
     /// The transactions after the valid ones.
     pub(crate) ledger: Ledger,
-    /// The pages after the valid ones.
-    pub(crate) pages: Store,
     /// The verdict.
     pub(crate) verdict: Verdict,
 }
@@ -49,8 +72,6 @@ pub(crate) struct Judged {
 pub(crate) struct Beginning {
     /// The records.
     records: Vec<Record>,
-    /// The pages that they leave.
-    pages: Store,
 }
 
 impl Beginning {
@@ -58,23 +79,29 @@ impl Beginning {
     pub(crate) fn new(alloc: Global) -> Beginning {
         Beginning {
             records: Vec::new(alloc),
-            pages: Store::new(alloc),
         }
     }
 
-    /// So many first records of a legal log.
+    /// So many first records of a log; none where they are no legal log.
     pub(crate) fn of(
         alloc: Global,
         log: &[u8],
         count: usize,
         asks_index: bool,
-    ) -> Result<Beginning, AllocError> {
-        let mut records = records_of(alloc, log)?.unwrap_or(Vec::new(alloc));
+    ) -> Result<Option<Beginning>, AllocError> {
+        let Some(mut records) = records_of(alloc, log)? else {
+            return Ok(None);
+        };
         records.truncate(count);
         let judged = judge_records(alloc, records, &Beginning::new(alloc), asks_index)?;
-        Ok(Beginning {
-            records: judged.records,
-            pages: judged.pages,
+        let Judged {
+            records,
+            verdict,
+            ..
+        } = judged;
+        Ok(match verdict {
+            Verdict::Legal => Some(Beginning { records }),
+            _ => None,
         })
     }
 }
@@ -88,43 +115,62 @@ pub(crate) fn records_of(alloc: Global, log: &[u8]) -> Result<Option<Vec<Record>
     }
 }
 
-/// The first record that is not valid after those before it, and the rule that it breaks. So many first ones are valid
-/// and left this after.
+/// What a log is whose records are valid before this one, which came after them so.
+fn verdict_of(record: &Record, came: Result<(), Fault>) -> Result<Verdict, AllocError> {
+    match came {
+        Ok(()) => Ok(Verdict::Legal),
+        Err(Fault::OutOfMemory) => Err(AllocError),
+        Err(Fault::Broken(rule)) => Ok(Verdict::NotValid {
+            number: record.number,
+            rule,
+        }),
+    }
+}
+
+/// The first record that is not valid after those before it, and the rule that it breaks. The log of the first ones,
+/// which are valid, is known.
 fn first_invalid(
     alloc: Global,
     records: &[Record],
     prefix: &mut Prefix,
-    count: usize,
     asks_index: bool,
 ) -> Result<Verdict, AllocError> {
-    for (before, record) in records.iter().enumerate().skip(count) {
-        let upto = records.get(..=before).unwrap_or(records);
-        match prefix.follow(alloc, upto, asks_index) {
-            Ok(()) => {}
-            Err(Fault::OutOfMemory) => return Err(AllocError),
-            Err(Fault::Broken(rule)) => {
-                let number = record.number;
-                return Ok(Verdict::NotValid { number, rule });
+    for record in records {
+        if record.number > prefix.ledger.records {
+            let came = prefix.follow(alloc, records, record, asks_index);
+            let verdict = verdict_of(record, came)?;
+            if !matches!(verdict, Verdict::Legal) {
+                return Ok(verdict);
             }
         }
     }
     Ok(Verdict::Legal)
 }
 
-/// The log with these records as far as they are known to be valid, and how many those are.
-fn known(
-    alloc: Global,
-    records: &[Record],
-    beginning: &Beginning,
-) -> Result<(Prefix, usize), AllocError> {
+/// The log with these records as far as they are known to be valid.
+fn known(alloc: Global, records: &[Record], beginning: &Beginning) -> Result<Prefix, AllocError> {
     let count = beginning.records.len();
     if same_in_front(records, &beginning.records) < count {
-        return Ok((Prefix::new(alloc), 0));
+        return Ok(Prefix::new(alloc));
     }
-    match Prefix::again(alloc, &beginning.records, &beginning.pages) {
-        Ok(prefix) => Ok((prefix, count)),
+    match Prefix::again(alloc, &beginning.records) {
+        Ok(prefix) => Ok(prefix),
         Err(Fault::OutOfMemory) => Err(AllocError),
-        Err(Fault::Broken(_)) => Ok((Prefix::new(alloc), 0)),
+        Err(Fault::Broken(_)) => Ok(Prefix::new(alloc)),
+    }
+}
+
+/// What the log with these records is, which begins so.
+fn judge_rest(
+    alloc: Global,
+    records: &[Record],
+    prefix: &mut Prefix,
+    asks_index: bool,
+) -> Result<Verdict, AllocError> {
+    if deltas_apply(alloc, records)? {
+        first_invalid(alloc, records, prefix, asks_index)
+    } else {
+        Ok(Verdict::NotAStore)
     }
 }
 
@@ -135,21 +181,11 @@ fn judge_records(
     beginning: &Beginning,
     asks_index: bool,
 ) -> Result<Judged, AllocError> {
-    let (mut prefix, count) = known(alloc, &records, beginning)?;
-    let verdict = if deltas_apply(alloc, &records)? {
-        first_invalid(alloc, &records, &mut prefix, count, asks_index)?
-    } else {
-        Verdict::NotAStore
-    };
-    let Prefix {
-        store: pages,
-        ledger,
-        ..
-    } = prefix;
+    let mut prefix = known(alloc, &records, beginning)?;
+    let verdict = judge_rest(alloc, &records, &mut prefix, asks_index)?;
     Ok(Judged {
         records,
-        ledger,
-        pages,
+        ledger: prefix.ledger,
         verdict,
     })
 }
@@ -166,7 +202,6 @@ pub(crate) fn judge(
         None => Ok(Judged {
             records: Vec::new(alloc),
             ledger: Ledger::new(alloc),
-            pages: Store::new(alloc),
             verdict: Verdict::NotAStore,
         }),
     }

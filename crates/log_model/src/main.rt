@@ -37,6 +37,7 @@ mod folder;
 mod history;
 mod images;
 mod judge;
+mod lines;
 mod prefix;
 mod same;
 mod told;
@@ -50,9 +51,6 @@ use std::path::Path;
 use std::process::ExitCode;
 use std::rt::{Env, Files};
 
-/// The folders of logs, and whether a commit asks for indexed documents in their logs.
-const GROUPS: [(&str, bool); 2] = [("logs", false), ("index-logs", true)];
-
 /// The folder of the logs' folders, the first word, or the one that this runs in; and whether the second word is `why`.
 fn words(rt: &(impl Env + AllocGlobal)) -> Result<(String, bool)> {
     let mut words = env::args(rt)?.skip(1);
@@ -60,23 +58,38 @@ fn words(rt: &(impl Env + AllocGlobal)) -> Result<(String, bool)> {
         Some(folder) => folder,
         None => String::from_str(rt.alloc(), ".")?,
     };
-    let why = words.any(|word| word.as_str() == "why");
+    let why = match words.next() {
+        Some(word) => word.as_str() == "why",
+        None => false,
+    };
     Ok((folder, why))
+}
+
+/// The logs of a group; it says how many lines differ.
+fn test_group<R: Files + Print + AllocGlobal + Clone + Drop>(
+    rt: &R,
+    folder: &str,
+    group: &str,
+    asks: Asks,
+) -> Result<usize> {
+    let alloc = rt.alloc();
+    let group = Path::new(folder).join(alloc, group)?;
+    let mut differ = 0usize;
+    for name in &names_in(rt, group.as_path())? {
+        let folder = group.join(alloc, name.as_str())?;
+        let lines = test_folder(rt, name.as_str(), folder.as_path(), asks)?;
+        differ = differ.saturating_add(lines);
+    }
+    Ok(differ)
 }
 
 /// All logs; it says how many lines differ.
 fn run<R: Files + Print + Env + AllocGlobal + Clone + Drop>(rt: &R) -> Result<usize> {
-    let alloc = rt.alloc();
     let (folder, why) = words(rt)?;
-    let mut differ = 0usize;
-    for (group, index) in GROUPS {
-        let group = Path::new(&folder).join(alloc, group)?;
-        for name in &names_in(rt, group.as_path())? {
-            let folder = group.join(alloc, name.as_str())?;
-            let lines = test_folder(rt, name.as_str(), folder.as_path(), Asks { index, why })?;
-            differ = differ.saturating_add(lines);
-        }
-    }
+    let folder = folder.as_str();
+    let logs = test_group(rt, folder, "logs", Asks { index: false, why })?;
+    let indexed = test_group(rt, folder, "index-logs", Asks { index: true, why })?;
+    let differ = logs.saturating_add(indexed);
     println!(rt; "{differ} lines differ")?;
     Ok(differ)
 }

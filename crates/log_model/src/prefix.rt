@@ -3,10 +3,9 @@ use crate::choices::must_choose;
 use crate::images::must_have_images;
 use crate::told::{empty_state, must_find, must_tell};
 use core_state::State;
-use log_rows::{Step, here, row};
-use log_scans::{bytes_behind, changed_pages};
-use log_walks::{Doc, Fault, Ledger, PlainPage, Store, must};
-use page_types::{Kind, PageBytes, Record};
+use log_rows::{Step, Terms, row};
+use log_walks::{Doc, Fault, Ledger, LeftBytes, LeftPage, Store, must};
+use page_types::{Change, Kind, Record};
 use std::alloc::{AllocError, Global};
 
 /// A log as far as it is valid.
@@ -24,6 +23,22 @@ pub(crate) struct Prefix {
     freed: Vec<u32>,
 }
 
+/// A page comes to rising ones, unless it is among them.
+fn insert_page(pages: &mut Vec<u32>, page: u32) -> Result<(), AllocError> {
+    match pages.binary_search(&page) {
+        Ok(_) => Ok(()),
+        Err(place) => Ok(pages.insert(place, page)?),
+    }
+}
+
+/// The changed pages come to rising ones.
+fn insert_changed(pages: &mut Vec<u32>, changes: &[Change]) -> Result<(), AllocError> {
+    for change in changes {
+        insert_page(pages, change.page)?;
+    }
+    Ok(())
+}
+
 impl Prefix {
     /// The empty log.
     pub(crate) fn new(alloc: Global) -> Prefix {
@@ -37,22 +52,17 @@ impl Prefix {
     }
 
     /// A record places a head, or frees slots.
-    fn note_heap(&mut self, record: &Record) -> Result<(), Fault> {
-        if let Kind::PlaceHead { item, serial } = record.kind {
-            self.current = Some(Doc { item, serial }.page());
-        }
-        if matches!(record.kind, Kind::FreeSlots) {
-            for change in record.changes.as_slice() {
-                if let Err(place) = self.freed.binary_search(&change.page) {
-                    self.freed.insert(place, change.page)?;
-                }
-            }
+    fn note_heap(&mut self, record: &Record) -> Result<(), AllocError> {
+        match record.kind {
+            Kind::PlaceHead { item, serial } => self.current = Some(Doc { item, serial }.page()),
+            Kind::FreeSlots => insert_changed(&mut self.freed, record.changes.as_slice())?,
+            _ => {}
         }
         Ok(())
     }
 
     /// The pages that a head is tried on, in order.
-    fn tried(&self, alloc: Global) -> Result<Vec<u32>, Fault> {
+    fn tried(&self, alloc: Global) -> Result<Vec<u32>, AllocError> {
         let mut pages = Vec::new(alloc);
         if let Some(page) = self.current {
             pages.push(page)?;
@@ -61,91 +71,94 @@ impl Prefix {
         Ok(pages)
     }
 
-    /// The record's changes of bytes.
-    pub(crate) fn change_bytes(&mut self, alloc: Global, record: &Record) -> Result<(), Fault> {
-        for (page, bytes) in bytes_behind(alloc, &self.store, record)? {
-            self.store.put_bytes(page, bytes)?;
-        }
-        Ok(())
+    /// The state and the ledger after a valid record.
+    fn note(&mut self, alloc: Global, record: &Record) -> Result<(), AllocError> {
+        self.ledger.note(alloc, record)?;
+        self.state.step(record)?;
+        self.note_heap(record)
     }
 
-    /// The log with these records, which are valid and leave these pages.
-    pub(crate) fn again(alloc: Global, records: &[Record], pages: &Store) -> Result<Prefix, Fault> {
+    /// The log with these records, which are valid.
+    pub(crate) fn again(alloc: Global, records: &[Record]) -> Result<Prefix, Fault> {
         let mut prefix = Prefix::new(alloc);
         for record in records {
-            prefix.change_bytes(alloc, record)?;
-            prefix.ledger.note(alloc, record)?;
-            prefix.state.step(record)?;
-            prefix.note_heap(record)?;
+            change_bytes(alloc, &mut prefix.store, record)?;
+            prefix.note(alloc, record)?;
         }
-        for (page, left) in pages.pages() {
-            prefix.store.put(*page, left.clone()?)?;
-        }
+        prefix.store.show_all(alloc)?;
         Ok(prefix)
     }
 
-    /// The pages that a record with these bytes of changed pages leaves, where it may follow.
+    /// The log has begun, or the record makes the store.
+    fn must_begin(&self, record: &Record) -> Result<(), Fault> {
+        let begins = matches!(record.kind, Kind::Create);
+        must(
+            begins || self.ledger.records > 0,
+            "a log begins with Create",
+        )
+    }
+
+    /// The pages that a record leaves, where it may follow.
     fn pages_behind(
         &self,
         alloc: Global,
         record: &Record,
-        bytes: &[(u32, PageBytes)],
+        bytes: &[LeftBytes],
         asks_index: bool,
-    ) -> Result<Vec<(u32, PlainPage)>, Fault> {
-        let step = Step {
-            alloc,
-            store: &self.store,
-            ledger: &self.ledger,
-            record,
-            changed: changed_pages(alloc, &self.store, record.number, bytes)?,
+    ) -> Result<Vec<LeftPage>, Fault> {
+        let terms = Terms {
             floor: self.ledger.commits,
             since: record.number,
             asks_index,
         };
-        must_find(alloc, &self.state, &self.store, record, bytes, here(&step))?;
+        let step = Step::new(alloc, &self.store, &self.ledger, record, bytes, terms)?;
+        must_find(&self.state, &step, bytes)?;
         row(&step)?;
-        let mut left = Vec::new(alloc);
-        for change in step.changed {
-            left.push((change.page, change.left))?;
-        }
-        Ok(left)
+        Ok(step.into_left()?)
     }
 
-    /// The last of these records comes after the others, of which this is the log, where it is valid.
+    /// A valid record comes, which leaves these pages; the core's state says what the ledger says.
+    fn put(&mut self, alloc: Global, record: &Record, left: Vec<LeftPage>) -> Result<(), Fault> {
+        self.note(alloc, record)?;
+        must_tell(&self.state, &self.ledger, record, &left)?;
+        Ok(self.store.put_pages(left)?)
+    }
+
+    /// The core's state after a valid record, which came, says what the walks find.
+    fn must_choose(&self, alloc: Global, record: &Record) -> Result<(), Fault> {
+        let tried = self.tried(alloc)?;
+        must_choose(&self.state, &self.ledger, &self.store, &tried, record)
+    }
+
+    /// One of these records comes after those before it, of which this is the log, where it is valid.
     pub(crate) fn follow(
         &mut self,
         alloc: Global,
         records: &[Record],
+        record: &Record,
         asks_index: bool,
     ) -> Result<(), Fault> {
-        let Some(record) = records.last() else {
-            return Ok(());
-        };
-        let started = matches!(record.kind, Kind::Create) || self.ledger.records > 0;
-        must(started, "a log begins with Create")?;
-        let bytes = bytes_behind(alloc, &self.store, record)?;
-        let pages = self.pages_behind(alloc, record, &bytes, asks_index)?;
-        must_have_images(alloc, &self.store, self.ledger.redo, records)?;
-        self.ledger.note(alloc, record)?;
-        self.state.step(record)?;
-        must_tell(&self.state, &self.ledger, record, &pages)?;
-        for (page, left) in pages {
-            self.store.put(page, left)?;
-        }
-        for (page, bytes) in bytes {
-            self.store.put_bytes(page, bytes)?;
-        }
-        self.note_heap(record)?;
-        let tried = self.tried(alloc)?;
-        must_choose(&self.state, &self.ledger, &self.store, &tried, record)
+        self.must_begin(record)?;
+        let bytes = self.store.bytes_behind(alloc, record)?;
+        let left = self.pages_behind(alloc, record, &bytes, asks_index)?;
+        must_have_images(alloc, &self.store, self.ledger.redo, records, record)?;
+        self.put(alloc, record, left)?;
+        self.store.put_bytes(bytes)?;
+        self.must_choose(alloc, record)
     }
+}
+
+/// The bytes of the pages that the record changes are those after it from now on.
+fn change_bytes(alloc: Global, store: &mut Store, record: &Record) -> Result<(), Fault> {
+    let bytes = store.bytes_behind(alloc, record)?;
+    Ok(store.put_bytes(bytes)?)
 }
 
 /// Whether each delta of the records applies to its page.
 pub(crate) fn deltas_apply(alloc: Global, records: &[Record]) -> Result<bool, AllocError> {
-    let mut prefix = Prefix::new(alloc);
+    let mut store = Store::new(alloc);
     for record in records {
-        match prefix.change_bytes(alloc, record) {
+        match change_bytes(alloc, &mut store, record) {
             Ok(()) => {}
             Err(Fault::OutOfMemory) => return Err(AllocError),
             Err(Fault::Broken(_)) => return Ok(false),

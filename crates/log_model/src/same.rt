@@ -27,19 +27,30 @@ fn is_same_change(one: &Change, other: &Change) -> bool {
     same && one.page == other.page
 }
 
+/// Whether two lists of changes are the same.
+fn are_same_changes(ones: &[Change], others: &[Change]) -> bool {
+    for (one, other) in ones.iter().zip(others) {
+        if !is_same_change(one, other) {
+            return false;
+        }
+    }
+    ones.len() == others.len()
+}
+
 /// Whether two records are the same.
 fn is_same(one: &Record, other: &Record) -> bool {
     let named = one.number == other.number && one.xid == other.xid && one.kind == other.kind;
-    let changes = one.changes.as_slice();
-    let others = other.changes.as_slice();
-    let mut pairs = changes.iter().zip(others);
-    named && changes.len() == others.len() && pairs.all(|(one, other)| is_same_change(one, other))
+    named && are_same_changes(one.changes.as_slice(), other.changes.as_slice())
 }
 
 /// How many first records are the same.
-pub(crate) fn same_in_front(one: &[Record], other: &[Record]) -> usize {
-    one.iter()
-        .zip(other)
-        .take_while(|(one, other)| is_same(one, other))
-        .count()
+pub(crate) fn same_in_front(ones: &[Record], others: &[Record]) -> usize {
+    let mut count = 0usize;
+    for (one, other) in ones.iter().zip(others) {
+        if !is_same(one, other) {
+            break;
+        }
+        count = count.saturating_add(1);
+    }
+    count
 }

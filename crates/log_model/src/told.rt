@@ -1,12 +1,14 @@
 // What the core says of a log: its tests of the kinds of records that it has, and its state.
 use core_state::{
-    Fate, PageUse, State, XID_BOUND, valid_abort, valid_begin, valid_commit, valid_create,
-    valid_mark_deleted, valid_place_head, valid_put_overflow,
+    Fate, PageUse, State, XID_BOUND, valid_abort, valid_add_row, valid_begin, valid_commit,
+    valid_create, valid_link_pending, valid_mark_deleted, valid_place_head, valid_put_overflow,
+    valid_put_pending,
 };
-use log_walks::{Doc, Fault, Ledger, PlainPage, Store, must};
+use log_rows::{Step, here};
+use log_walks::{Doc, Fault, Ledger, LeftBytes, LeftPage, Rules, Store, Transaction, must};
 use page_code::{PageError, decode_page};
-use page_types::{Kind, Name, PAGE_BYTES, Page, PageBytes, Record};
-use std::alloc::Global;
+use page_types::{Kind, Name, Page, Record, zero_page};
+use std::alloc::{AllocError, Global};
 
 /// The rule that is broken where the core and the walks say otherwise of a record.
 pub(crate) const CORE_DIFFERS: &str = "the core and the walks agree";
@@ -19,117 +21,173 @@ pub(crate) fn empty_state(alloc: Global) -> State {
     State::new(alloc, PAGES, XID_BOUND)
 }
 
-/// The page that the bytes encode; without bytes that of zeros.
-fn page_of(alloc: Global, bytes: Option<&PageBytes>) -> Result<Page, Fault> {
-    let zeros = [0u8; PAGE_BYTES];
-    let bytes = match bytes {
-        Some(bytes) => bytes.as_slice(),
-        None => &zeros,
-    };
+/// The page that the bytes encode.
+fn page_of(alloc: Global, bytes: &[u8]) -> Result<Page, Fault> {
     match decode_page(alloc, bytes) {
         Ok(page) => Ok(page),
         Err(PageError::OutOfMemory) => Err(Fault::OutOfMemory),
         Err(PageError::BadPage { .. }) => Err(Fault::Broken(
-            "the bytes of a page are its spelling",
+            "the bytes of a page are its encoding",
         )),
     }
 }
 
-/// Whether the core finds that a record may come next, as far as its pages before and after it
-/// say; none of a kind without a test.
-fn test(
+/// A page of the store; one that no record has changed is of zeros.
+fn page_before(alloc: Global, store: &Store, page: u32) -> Result<Page, Fault> {
+    match store.bytes(page) {
+        Some(bytes) => page_of(alloc, bytes.as_slice()),
+        None => page_of(alloc, &zero_page(alloc)?),
+    }
+}
+
+/// The pages that a record changes, as it finds and as it leaves them.
+#[derive(Drop)]
+struct Pages {
+    /// Before it.
+    before: Vec<Page>,
+    /// After it.
+    behind: Vec<Page>,
+}
+
+impl Pages {
+    /// One page more.
+    fn push(&mut self, alloc: Global, store: &Store, left: &LeftBytes) -> Result<(), Fault> {
+        let before = page_before(alloc, store, left.page)?;
+        self.before.push(before)?;
+        let behind = page_of(alloc, left.bytes.as_slice())?;
+        Ok(self.behind.push(behind)?)
+    }
+}
+
+/// The pages that a record changes, which have these bytes after it.
+fn pages_of(alloc: Global, store: &Store, bytes: &[LeftBytes]) -> Result<Pages, Fault> {
+    let mut pages = Pages {
+        before: Vec::new(alloc),
+        behind: Vec::new(alloc),
+    };
+    for left in bytes {
+        pages.push(alloc, store, left)?;
+    }
+    Ok(pages)
+}
+
+/// Whether the core finds that a record of a transaction's end or beginning may come next; none of another kind.
+fn test_transaction(
+    state: &State,
+    record: &Record,
+    pages: &Pages,
+) -> Result<Option<bool>, AllocError> {
+    let floor = state.commits();
+    let since = record.number;
+    let before = pages.before.as_slice();
+    let behind = pages.behind.as_slice();
+    let found = match record.kind {
+        Kind::Create => valid_create(state, record, before, behind, floor, since),
+        Kind::Begin => valid_begin(state, record, before, behind, floor, since),
+        Kind::Commit { .. } => valid_commit(state, record, before, behind, floor, since),
+        Kind::Abort => valid_abort(state, record, before, behind, floor, since),
+        _ => return Ok(None),
+    };
+    Ok(Some(found?))
+}
+
+/// The same of a record that places or marks a head, or puts a part of a vector.
+fn test_head(
     alloc: Global,
     state: &State,
     record: &Record,
-    before: &[Page],
-    behind: &[Page],
-) -> Result<Option<bool>, Fault> {
+    pages: &Pages,
+) -> Result<Option<bool>, AllocError> {
     let floor = state.commits();
     let since = record.number;
+    let before = pages.before.as_slice();
+    let behind = pages.behind.as_slice();
     let found = match record.kind {
-        Kind::Create => valid_create(state, record, before, behind, floor, since)?,
-        Kind::Begin => valid_begin(state, record, before, behind, floor, since)?,
-        Kind::Commit { .. } => valid_commit(state, record, before, behind, floor, since)?,
-        Kind::Abort => valid_abort(state, record, before, behind, floor, since)?,
         Kind::PlaceHead { .. } => {
-            valid_place_head(alloc, state, record, before, behind, floor, since)?
+            valid_place_head(alloc, state, record, before, behind, floor, since)
         }
         Kind::PutOverflow { .. } => {
-            valid_put_overflow(state, record, before, behind, floor, since)?
+            valid_put_overflow(state, record, before, behind, floor, since)
         }
         Kind::MarkDeleted { .. } => {
-            valid_mark_deleted(state, record, before, behind, floor, since)?
+            valid_mark_deleted(state, record, before, behind, floor, since)
         }
         _ => return Ok(None),
     };
-    Ok(Some(found))
+    Ok(Some(found?))
 }
 
-/// The same of a record after these pages, with these bytes of those that it changes.
-fn core_finds(
-    alloc: Global,
-    state: &State,
-    store: &Store,
-    record: &Record,
-    changed: &[(u32, PageBytes)],
-) -> Result<Option<bool>, Fault> {
-    let mut before = Vec::new(alloc);
-    let mut behind = Vec::new(alloc);
-    for (page, bytes) in changed {
-        before.push(page_of(alloc, store.bytes(*page))?)?;
-        behind.push(page_of(alloc, Some(bytes))?)?;
-    }
-    test(alloc, state, record, &before, &behind)
+/// The same of a record of a document's rows.
+fn test_rows(state: &State, record: &Record, pages: &Pages) -> Result<Option<bool>, AllocError> {
+    let floor = state.commits();
+    let since = record.number;
+    let before = pages.before.as_slice();
+    let behind = pages.behind.as_slice();
+    let found = match record.kind {
+        Kind::PutPending { .. } => valid_put_pending(state, record, before, behind, floor, since),
+        Kind::AddRow { .. } => valid_add_row(state, record, before, behind, floor, since),
+        Kind::LinkPending { .. } => {
+            valid_link_pending(state, record, before, behind, floor, since)
+        }
+        _ => return Ok(None),
+    };
+    Ok(Some(found?))
 }
 
-/// The core finds of a record what the rules of its kind on the pages before and after it say:
-/// `holds` is the answer of the walks, none of a kind of which the core has no test.
-pub(crate) fn must_find(
-    alloc: Global,
-    state: &State,
-    store: &Store,
-    record: &Record,
-    changed: &[(u32, PageBytes)],
-    holds: Option<Result<(), Fault>>,
-) -> Result<(), Fault> {
-    let holds = match holds {
+/// Whether the core finds that a record may come next, as far as its pages before and after it
+/// say; none of a kind without a test.
+fn core_finds(state: &State, step: &Step<'_>, bytes: &[LeftBytes]) -> Result<Option<bool>, Fault> {
+    let pages = pages_of(step.alloc, step.store, bytes)?;
+    let found = match step.record.kind {
+        Kind::PlaceHead { .. } | Kind::PutOverflow { .. } | Kind::MarkDeleted { .. } => {
+            test_head(step.alloc, state, step.record, &pages)
+        }
+        Kind::PutPending { .. } | Kind::AddRow { .. } | Kind::LinkPending { .. } => {
+            test_rows(state, step.record, &pages)
+        }
+        _ => test_transaction(state, step.record, &pages),
+    };
+    Ok(found?)
+}
+
+/// The core finds of a record what the rules of its kind on the pages before and after it say; of a
+/// kind of which the core has no test there is nothing to find.
+pub(crate) fn must_find(state: &State, step: &Step<'_>, bytes: &[LeftBytes]) -> Result<(), Fault> {
+    let holds = match here(step) {
         None => return Ok(()),
         Some(Err(Fault::OutOfMemory)) => return Err(Fault::OutOfMemory),
         Some(holds) => holds.is_ok(),
     };
-    let found = core_finds(alloc, state, store, record, changed)?;
-    must(found == Some(holds), CORE_DIFFERS)
+    must(core_finds(state, step, bytes)? == Some(holds), CORE_DIFFERS)
 }
 
 /// Whether the two fates are one.
 fn same_fate(state: Fate, ledger: log_walks::Fate) -> bool {
-    match (state, ledger) {
-        (Fate::Unused, log_walks::Fate::Unused)
-        | (Fate::Running, log_walks::Fate::Running)
-        | (Fate::Aborted, log_walks::Fate::Aborted) => true,
-        (Fate::Committed(commit), log_walks::Fate::Committed(number)) => commit == number,
-        _ => false,
+    match state {
+        Fate::Unused => ledger == log_walks::Fate::Unused,
+        Fate::Running => ledger == log_walks::Fate::Running,
+        Fate::Aborted => ledger == log_walks::Fate::Aborted,
+        Fate::Committed(commit) => ledger == log_walks::Fate::Committed(commit),
     }
+}
+
+/// Whether the name is that of the document.
+fn is_name(name: &Name, doc: &Doc) -> bool {
+    name.page == doc.page() && name.slot as usize == doc.slot() && name.serial == doc.serial
 }
 
 /// Whether the names are those of the documents.
 fn are_names(names: &[Name], docs: &[Doc]) -> bool {
+    for (name, doc) in names.iter().zip(docs) {
+        if !is_name(name, doc) {
+            return false;
+        }
+    }
     names.len() == docs.len()
-        && names.iter().zip(docs).all(|(name, doc)| {
-            name.page == doc.page()
-                && usize::from(name.slot) == doc.slot()
-                && name.serial == doc.serial
-        })
 }
 
-/// Whether the state has the names of the commit that this record is, if it is one.
-fn same_names(state: &State, ledger: &Ledger, record: &Record) -> bool {
-    let Kind::Commit { commit } = record.kind else {
-        return true;
-    };
-    let Some(transaction) = ledger.transaction(record.xid) else {
-        return false;
-    };
+/// Whether the state has the names of a commit.
+fn has_names(state: &State, commit: u32, transaction: &Transaction) -> bool {
     if commit == 0 || commit > state.commits() {
         return false;
     }
@@ -137,29 +195,59 @@ fn same_names(state: &State, ledger: &Ledger, record: &Record) -> bool {
         && are_names(state.inserted(commit), &transaction.placed)
 }
 
+/// Whether the state has the names of the commit that this record is, if it is one.
+fn same_names(state: &State, ledger: &Ledger, record: &Record) -> bool {
+    let Kind::Commit { commit } = record.kind else {
+        return true;
+    };
+    match ledger.transaction(record.xid) {
+        Some(transaction) => has_names(state, commit, transaction),
+        None => false,
+    }
+}
+
 /// Whether the state has the use of a page that a record has left.
-fn same_use(state: &State, page: u32, left: &PlainPage) -> bool {
-    let used = if left.deleted {
-        PageUse::Deleted(left.stamp)
+fn same_use(state: &State, left: &LeftPage) -> bool {
+    let used = if left.shown.deleted {
+        PageUse::Deleted(left.shown.stamp)
     } else {
         PageUse::Used
     };
-    state.use_of(page) == used
+    state.use_of(left.page) == used
 }
 
-/// Whether the state has the fates and the numbers that come next.
-fn same_numbers(state: &State, ledger: &Ledger, record: &Record) -> bool {
-    let runs = ledger
-        .transactions
-        .iter()
-        .any(|transaction| transaction.fate == log_walks::Fate::Running);
+/// The same of each of these pages.
+fn same_uses(state: &State, left: &[LeftPage]) -> bool {
+    for page in left {
+        if !same_use(state, page) {
+            return false;
+        }
+    }
+    true
+}
+
+/// Whether a transaction runs.
+fn has_running(ledger: &Ledger) -> bool {
+    for transaction in &ledger.transactions {
+        if transaction.fate == log_walks::Fate::Running {
+            return true;
+        }
+    }
+    false
+}
+
+/// Whether the state has the numbers that come next.
+fn same_numbers(state: &State, ledger: &Ledger) -> bool {
     state.length() == ledger.records
         && state.commits() == ledger.commits
         && state.next_xid() as usize == ledger.next_xid()
         && state.next_serial() == ledger.next_serial
         && state.redo() == ledger.redo
-        && state.has_running() == runs
-        && same_fate(state.fate(record.xid), ledger.fate(record.xid))
+}
+
+/// Whether the state has the fates.
+fn same_fates(state: &State, ledger: &Ledger, xid: u32) -> bool {
+    state.has_running() == has_running(ledger) && same_fate(state.fate(xid), ledger.fate(xid))
 }
 
 /// The state after a valid record, which changes these pages, says what the ledger says.
@@ -167,9 +255,12 @@ pub(crate) fn must_tell(
     state: &State,
     ledger: &Ledger,
     record: &Record,
-    left: &[(u32, PlainPage)],
+    left: &[LeftPage],
 ) -> Result<(), Fault> {
-    let uses = left.iter().all(|(page, left)| same_use(state, *page, left));
-    let tells = uses && same_numbers(state, ledger, record) && same_names(state, ledger, record);
-    must(tells, CORE_DIFFERS)
+    Rules::new()
+        .and(same_uses(state, left), CORE_DIFFERS)
+        .and(same_numbers(state, ledger), CORE_DIFFERS)
+        .and(same_fates(state, ledger, record.xid), CORE_DIFFERS)
+        .and(same_names(state, ledger, record), CORE_DIFFERS)
+        .end()
 }

@@ -1,8 +1,9 @@
 // The walks of a folder: what each reads for which query, and what it has to find.
-use anyhow::{Context, Result, bail};
+use crate::lines::{push_doc, push_number, say};
+use anyhow::{Context, Result};
 use log_scans::{
-    Moment, NoWalk, Pin, Query, Reading, WalkResult, all_sought, found_in, query_in, read_moments,
-    scan_pages, told_wrong,
+    Moment, NoWalk, Pin, Query, Reading, Snapshot, WalkResult, all_sought, found_in, query_in,
+    read_moments, scan_pages, told_wrong,
 };
 use log_walks::{Doc, Fault};
 use page_types::Record;
@@ -78,40 +79,63 @@ fn pin(line: &str) -> Result<Pin> {
     })
 }
 
-/// An item as its page and slot.
-fn slot_of(item: u32) -> (u32, usize) {
-    let place = Doc { item, serial: 0 };
-    (place.page(), place.slot())
+/// Items of neighbouring slots.
+#[derive(Clone, Copy)]
+struct Run {
+    /// The first.
+    first: Doc,
+    /// The last.
+    last: Doc,
 }
 
-/// Items from one to another, between which all are.
-fn push_run(alloc: Global, line: &mut String, from: u32, to: u32) -> Result<(), AllocError> {
-    let (page, first) = slot_of(from);
-    let (_, last) = slot_of(to);
-    let run = if from == to {
-        format!(in alloc; " {page}/{first}")?
+/// The run of an item alone.
+fn run_of(item: u32) -> Run {
+    let first = Doc { item, serial: 0 };
+    Run { first, last: first }
+}
+
+/// The run comes after a line: a page, and its first and last slot.
+fn push_run(line: &mut String, run: Run) -> Result<(), AllocError> {
+    push_number(line, " ", u64::from(run.first.page()))?;
+    push_number(line, "/", run.first.slot() as u64)?;
+    if run.first == run.last {
+        Ok(())
     } else {
-        format!(in alloc; " {page}/{first}-{last}")?
-    };
-    line.push_str(run.as_str())
+        push_number(line, "-", run.last.slot() as u64)
+    }
 }
 
-/// The items after a name: those of neighbouring slots as their first and last.
-fn items_line(alloc: Global, name: &str, items: &[u32]) -> Result<String, AllocError> {
-    let mut line = String::from_str(alloc, name)?;
-    if items.is_empty() {
-        line.push_str(" none")?;
+/// An item comes after a run, which goes on, or comes after the line where another begins.
+fn go_on(line: &mut String, run: Run, item: u32) -> Result<Run, AllocError> {
+    let next = run_of(item);
+    if run.last.item.checked_add(1) == Some(item) {
+        return Ok(Run {
+            first: run.first,
+            last: next.last,
+        });
     }
-    let mut from = 0usize;
-    for (place, item) in items.iter().enumerate() {
-        let next = items.get(place.saturating_add(1)).copied();
-        if next != item.checked_add(1) {
-            if let Some(first) = items.get(from) {
-                push_run(alloc, &mut line, *first, *item)?;
-            }
-            from = place.saturating_add(1);
-        }
+    push_run(line, run)?;
+    Ok(next)
+}
+
+/// The runs of rising items come after a line, after their name.
+fn push_items(line: &mut String, name: &str, items: &[u32]) -> Result<(), AllocError> {
+    line.push_str(name)?;
+    let Some((first, others)) = items.split_first() else {
+        return line.push_str(" none");
+    };
+    let mut run = run_of(*first);
+    for item in others {
+        run = go_on(line, run, *item)?;
     }
+    push_run(line, run)
+}
+
+/// The items that were kept and those with a yes: of neighbouring slots their first and last.
+fn found_line(alloc: Global, found: &WalkResult) -> Result<String, AllocError> {
+    let mut line = String::new(alloc);
+    push_items(&mut line, "kept", &found.kept)?;
+    push_items(&mut line, ", yes", &found.yes)?;
     Ok(line)
 }
 
@@ -124,66 +148,140 @@ struct Walked {
     wrong: Vec<Doc>,
 }
 
+impl Walked {
+    /// This was found, and no document is judged wrongly.
+    fn new(alloc: Global, line: String) -> Walked {
+        Walked {
+            line,
+            wrong: Vec::new(alloc),
+        }
+    }
+}
+
 /// There is no walk, and why.
 fn none_at(alloc: Global, refused: NoWalk) -> Result<Walked, AllocError> {
-    match refused {
-        NoWalk::OutOfMemory => Err(AllocError),
-        NoWalk::At(number) => Ok(Walked {
-            line: format!(in alloc; "no walk at read {number}")?,
-            wrong: Vec::new(alloc),
-        }),
-    }
+    let NoWalk::At(number) = refused else {
+        return Err(AllocError);
+    };
+    let mut line = String::new(alloc);
+    push_number(&mut line, "no walk at read ", number as u64)?;
+    Ok(Walked::new(alloc, line))
+}
+
+/// There is no walk, since the moments or the pin can't be.
+fn none_by(alloc: Global, rule: &str) -> Result<Walked, AllocError> {
+    let mut line = String::from_str(alloc, "no walk, broken: ")?;
+    line.push_str(rule)?;
+    Ok(Walked::new(alloc, line))
+}
+
+/// What was found, and of which documents wrongly.
+fn told(
+    alloc: Global,
+    query: &Query,
+    docs: &[Snapshot],
+    found: &WalkResult,
+) -> Result<Walked, AllocError> {
+    let wrong = told_wrong(alloc, query, docs, found)?;
+    let line = found_line(alloc, found)?;
+    Ok(Walked { line, wrong })
 }
 
 /// What a walk that has read this finds for its query.
 fn outcome(alloc: Global, query: &Query, reading: &Reading) -> Result<Walked, AllocError> {
     let sought = all_sought(alloc, query)?;
-    let found: WalkResult = match scan_pages(alloc, &reading.reads, &sought) {
-        Err(refused) => return none_at(alloc, refused),
-        Ok(scan) => found_in(alloc, query, &scan)?,
-    };
-    let kept = items_line(alloc, "kept", &found.kept)?;
-    let yes = items_line(alloc, "yes", &found.yes)?;
-    Ok(Walked {
-        line: format!(in alloc; "{kept}, {yes}")?,
-        wrong: told_wrong(alloc, query, &reading.docs, &found)?,
-    })
+    match scan_pages(alloc, &reading.reads, &sought) {
+        Err(refused) => none_at(alloc, refused),
+        Ok(scan) => told(alloc, query, &reading.docs, &found_in(alloc, query, &scan)?),
+    }
+}
+
+/// What a walk with this query finds where this was read.
+fn found_by(
+    alloc: Global,
+    query: &Query,
+    read: Result<Reading, Fault>,
+) -> Result<Walked, AllocError> {
+    match read {
+        Ok(reading) => outcome(alloc, query, &reading),
+        Err(Fault::OutOfMemory) => Err(AllocError),
+        Err(Fault::Broken(rule)) => none_by(alloc, rule),
+    }
 }
 
 /// What a walk finds in a log with these records.
 fn walk(alloc: Global, records: &[Record], lines: &WalkLines<'_>) -> Result<Walked> {
-    let query = query_in(alloc, lines.query)?.context("the query is one")?;
+    let pin = pin(lines.pin)?;
     let moments = moments(alloc, lines.reads)?;
-    match read_moments(alloc, records, pin(lines.pin)?, &moments) {
-        Ok(reading) => Ok(outcome(alloc, &query, &reading)?),
-        Err(Fault::OutOfMemory) => bail!("memory ran out"),
-        Err(Fault::Broken(rule)) => Ok(Walked {
-            line: format!(in alloc; "no walk, broken: {rule}")?,
-            wrong: Vec::new(alloc),
-        }),
+    let read = read_moments(alloc, records, pin, &moments);
+    let query = query_in(alloc, lines.query)?.context("the query is one")?;
+    Ok(found_by(alloc, &query, read)?)
+}
+
+/// Prints of which documents a walk says wrongly.
+fn print_wrong(rt: &(impl Print + AllocGlobal), what: &str, wrong: &[Doc]) -> Result<()> {
+    for doc in wrong {
+        let mut name = String::new(rt.alloc());
+        push_doc(&mut name, "it says wrongly of ", *doc)?;
+        say(rt, &["walk, ", what, ": ", name.as_str()])?;
     }
+    Ok(())
 }
 
 /// Prints what a walk finds; it says how many lines differ.
+fn print_walk(
+    rt: &(impl Print + AllocGlobal),
+    walked: &Walked,
+    what: &str,
+    wanted: &str,
+) -> Result<usize> {
+    let line = walked.line.as_str();
+    say(rt, &["walk, ", what, ": ", line])?;
+    print_wrong(rt, what, &walked.wrong)?;
+    if line == wanted {
+        return Ok(walked.wrong.len());
+    }
+    say(rt, &["walk, ", what, ": wanted \"", wanted, "\""])?;
+    Ok(walked.wrong.len().saturating_add(1))
+}
+
+/// Tests a walk; it says how many lines differ.
 fn test_walk(
     rt: &(impl Print + AllocGlobal),
     records: &[Record],
     lines: &WalkLines<'_>,
 ) -> Result<usize> {
-    let what = lines.what;
-    let wanted = lines.wanted;
-    let Walked { line, wrong } = walk(rt.alloc(), records, lines)?;
-    println!(rt; "walk, {what}: {line}")?;
+    let walked = walk(rt.alloc(), records, lines)?;
+    print_walk(rt, &walked, lines.what, lines.wanted)
+}
+
+/// Tests the walks of a text; it says how many lines differ.
+fn test_text(rt: &(impl Print + AllocGlobal), records: &[Record], text: &str) -> Result<usize> {
+    let mut lines = text.lines();
+    let mut count = 0usize;
     let mut differ = 0usize;
-    if line.as_str() != wanted {
-        println!(rt; "walk, {what}: wanted \"{wanted}\"")?;
-        differ = differ.saturating_add(1);
-    }
-    for doc in &wrong {
-        println!(rt; "walk, {what}: it tells wrongly of {doc}")?;
-        differ = differ.saturating_add(1);
+    for _ in 0..text.len() {
+        let Some(first) = lines.next() else {
+            break;
+        };
+        if !first.is_empty() {
+            count = count.saturating_add(1);
+            let tested = test_next(rt, records, first, &mut lines);
+            differ = differ.saturating_add(tested.context(format_args!("walk {count}"))?);
+        }
     }
     Ok(differ)
+}
+
+/// Tests the walk whose first line this is; it says how many lines differ.
+fn test_next<'a>(
+    rt: &(impl Print + AllocGlobal),
+    records: &[Record],
+    first: &'a str,
+    lines: &mut Lines<'a>,
+) -> Result<usize> {
+    let read = walk_lines(first, lines)?;
+    test_walk(rt, records, &read)
 }
 
 /// Tests all walks of a folder, which may have none; it says how many lines differ.
@@ -197,19 +295,5 @@ pub(crate) fn test_walks<R: Files + Print + AllocGlobal>(
         return Ok(0);
     }
     let text = fs::read_to_string(rt, &path)?;
-    let mut lines = text.as_str().lines();
-    let mut count = 0usize;
-    let mut differ = 0usize;
-    for _ in 0..text.len() {
-        let Some(first) = lines.next() else {
-            break;
-        };
-        if !first.is_empty() {
-            count = count.saturating_add(1);
-            let read = walk_lines(first, &mut lines).context(format_args!("walk {count}"))?;
-            let tested = test_walk(rt, records, &read).context(format_args!("walk {count}"))?;
-            differ = differ.saturating_add(tested);
-        }
-    }
-    Ok(differ)
+    test_text(rt, records, text.as_str())
 }

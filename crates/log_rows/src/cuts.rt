@@ -1,5 +1,5 @@
 // Where the content of a tree page is cut in two.
-use crate::sizes::{HIGH_ITEM, POST_CHILD, children, entries, high_field, item_list};
+use crate::sizes::{HIGH_ITEM, children, entries, high_field, item_list, post_children};
 use log_walks::{PlainBody, PlainChild, PlainEntry};
 use page_types::{MOST_BODY_BYTES, PostChild};
 
@@ -15,7 +15,8 @@ struct Cut {
 }
 
 /// Of a leaf of the tree of keys, whose first part gets its last key as high key.
-fn entry_cut(high: &[u8], front: &[PlainEntry], back: &[PlainEntry]) -> Option<Cut> {
+fn entry_cut(high: &[u8], all: &[PlainEntry], place: usize) -> Option<Cut> {
+    let (front, back) = all.split_at_checked(place)?;
     let last = front.last()?;
     let listed = entries(front);
     Some(Cut {
@@ -26,54 +27,45 @@ fn entry_cut(high: &[u8], front: &[PlainEntry], back: &[PlainEntry]) -> Option<C
 }
 
 /// Of an inner page of the tree of keys.
-fn child_cut(front: &[PlainChild], back: &[PlainChild]) -> Cut {
+fn child_cut(all: &[PlainChild], place: usize) -> Option<Cut> {
+    let (front, back) = all.split_at_checked(place)?;
     let listed = children(front);
-    Cut {
+    Some(Cut {
         listed,
         front: listed,
         back: children(back),
-    }
+    })
 }
 
 /// Of a leaf of a posting tree.
-fn item_cut(front: &[u32], back: &[u32]) -> Cut {
+fn item_cut(all: &[u32], place: usize) -> Option<Cut> {
+    let (front, back) = all.split_at_checked(place)?;
     let listed = item_list(front);
-    Cut {
+    Some(Cut {
         listed,
         front: listed.saturating_add(HIGH_ITEM),
         back: item_list(back).saturating_add(HIGH_ITEM),
-    }
+    })
 }
 
 /// Of an inner page of a posting tree.
-fn post_child_cut(front: &[PostChild], back: &[PostChild]) -> Cut {
-    let listed = front.len().saturating_mul(POST_CHILD);
-    Cut {
+fn post_child_cut(all: &[PostChild], place: usize) -> Option<Cut> {
+    let rest = all.len().checked_sub(place)?;
+    let listed = post_children(place);
+    Some(Cut {
         listed,
         front: listed,
-        back: back.len().saturating_mul(POST_CHILD),
-    }
+        back: post_children(rest),
+    })
 }
 
 /// The page's content, cut after its first `place` members; none where there are fewer.
 fn cut_at(body: &PlainBody, place: usize) -> Option<Cut> {
     match body {
-        PlainBody::EntryLeaf { high, entries: all } => {
-            let (front, back) = all.split_at_checked(place)?;
-            entry_cut(high, front, back)
-        }
-        PlainBody::EntryInner(all) => {
-            let (front, back) = all.split_at_checked(place)?;
-            Some(child_cut(front, back))
-        }
-        PlainBody::PostLeaf { items, .. } => {
-            let (front, back) = items.split_at_checked(place)?;
-            Some(item_cut(front, back))
-        }
-        PlainBody::PostInner(all) => {
-            let (front, back) = all.split_at_checked(place)?;
-            Some(post_child_cut(front, back))
-        }
+        PlainBody::EntryLeaf { high, entries: all } => entry_cut(high, all, place),
+        PlainBody::EntryInner(all) => child_cut(all, place),
+        PlainBody::PostLeaf { items, .. } => item_cut(items, place),
+        PlainBody::PostInner(all) => post_child_cut(all, place),
         _ => None,
     }
 }
@@ -89,26 +81,59 @@ fn members(body: &PlainBody) -> usize {
     }
 }
 
-/// Whether the first part has at least half of the bytes.
-fn keeps_half(cut: &Cut, whole: usize) -> bool {
-    cut.listed.saturating_mul(2) >= whole
+impl Cut {
+    /// Whether the first part has at least half of the bytes.
+    fn keeps_half(self, whole: usize) -> bool {
+        self.listed.saturating_mul(2) >= whole
+    }
+
+    /// Whether the first part fits.
+    fn fits(self) -> bool {
+        self.front <= MOST_BODY_BYTES
+    }
+
+    /// Whether the page may be cut here alone: the first part has half of the bytes, and both fit.
+    fn is_better(self, whole: usize) -> bool {
+        self.keeps_half(whole) && self.fits() && self.back <= MOST_BODY_BYTES
+    }
+}
+
+/// Whether the page is cut better after its first `other` members than after its first `place`, which haven't half of
+/// the bytes.
+fn is_better_at(body: &PlainBody, other: usize, place: usize, whole: usize) -> bool {
+    match cut_at(body, other) {
+        Some(cut) => cut.is_better(whole) || cut.fits() && other > place,
+        None => false,
+    }
+}
+
+/// Whether the page's first `place` members have at least half of the bytes.
+fn keeps_half_at(body: &PlainBody, place: usize, whole: usize) -> bool {
+    match cut_at(body, place) {
+        Some(cut) => cut.keeps_half(whole),
+        None => false,
+    }
+}
+
+/// How many bytes all members have.
+fn all_listed(body: &PlainBody, count: usize) -> usize {
+    match cut_at(body, count) {
+        Some(cut) => cut.listed,
+        None => 0,
+    }
 }
 
 /// Whether the page may be cut after its first `place` members: they have at least half of the bytes, where two such
 /// parts fit, else they are the longest first part that fits.
 pub(crate) fn may_cut_at(body: &PlainBody, place: usize) -> bool {
     let count = members(body);
-    let whole = cut_at(body, count).map_or(0, |cut| cut.listed);
-    if cut_at(body, place).is_some_and(|cut| keeps_half(&cut, whole)) {
+    let whole = all_listed(body, count);
+    if keeps_half_at(body, place, whole) {
         return true;
     }
     for other in 1..count {
-        if let Some(cut) = cut_at(body, other) {
-            let fits = cut.front <= MOST_BODY_BYTES;
-            let both_fit = fits && cut.back <= MOST_BODY_BYTES;
-            if both_fit && keeps_half(&cut, whole) || fits && other > place {
-                return false;
-            }
+        if is_better_at(body, other, place, whole) {
+            return false;
         }
     }
     true

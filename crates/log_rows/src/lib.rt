@@ -6,13 +6,16 @@
 mod cuts;
 mod heap_rows;
 mod item_rows;
+mod lists;
+mod parts;
 mod pending_rows;
 mod rows;
 mod shape_rows;
 mod sizes;
+mod slots;
 mod step;
 mod transaction_rows;
 mod vacuum_rows;
 
 pub use rows::{here, row};
-pub use step::{Changed, Step};
+pub use step::{Changed, Step, Terms};

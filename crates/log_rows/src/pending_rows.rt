@@ -1,207 +1,338 @@
 // The rows of the kinds 9 to 12: rows of documents are put and linked, and leave the pending list.
-use crate::step::{Changed, Step};
+use crate::step::{Changed, LEFT, RIGHT, Step};
 use log_walks::{
-    Doc, Fault, META, PlainBody, PlainRow, all_in_main, chain, document_at, in_rows, line, must,
-    need, rows_of, rows_on, whole_keys,
+    Doc, Fault, Line, META, PlainBody, PlainRow, Rules, Store, all_in_main, first_pending,
+    has_rows_from, head_at, line_from, must, need, rows_in,
 };
 use page_types::HeadFields;
-use std::alloc::{AllocError, Global};
 
-/// The keys of these rows, in order.
-fn keys_on<'a>(alloc: Global, rows: &[&'a PlainRow]) -> Result<Vec<&'a [u8]>, AllocError> {
-    let mut all = Vec::new(alloc);
+/// The last of these keys, where each is above the one before it and the first above another; else none.
+fn rise_in<'a>(above: &'a [u8], keys: &'a [Vec<u8>]) -> Option<&'a [u8]> {
+    let mut last = above;
+    for key in keys {
+        if key.as_slice() <= last {
+            return None;
+        }
+        last = key.as_slice();
+    }
+    Some(last)
+}
+
+/// The last key of these rows, where the keys of all rise.
+fn rise_on<'a>(above: &'a [u8], rows: &'a [PlainRow]) -> Option<&'a [u8]> {
+    let mut last = above;
     for row in rows {
-        for key in &row.keys {
-            all.push(key.as_slice())?;
+        last = rise_in(last, &row.keys)?;
+    }
+    Some(last)
+}
+
+/// Whether the keys of these rows and of those on the pages from another on rise.
+fn rise_along(store: &Store, rows: &[PlainRow], behind: u32) -> bool {
+    let mut page = behind;
+    let mut last = rise_on(&[], rows);
+    for _ in 0..store.most_in_line() {
+        let Some(above) = last else {
+            return false;
+        };
+        if page == 0 {
+            return true;
+        }
+        last = rise_on(above, rows_in(store.live(page)));
+        page = store.right(page);
+    }
+    false
+}
+
+/// Whether there is a row, and each has the item.
+fn have_item(rows: &[PlainRow], item: u32) -> bool {
+    for row in rows {
+        if row.item != item {
+            return false;
         }
     }
-    Ok(all)
+    !rows.is_empty()
 }
 
-/// Whether each key is above the one before it.
-fn rise(keys: &[&[u8]]) -> bool {
-    keys.iter()
-        .zip(keys.iter().skip(1))
-        .all(|(key, next)| *key < *next)
+/// Whether each of these keys is among others.
+fn are_keys(keys: &[Vec<u8>], others: &[Vec<u8>]) -> bool {
+    for key in keys {
+        if !others.contains(key) {
+            return false;
+        }
+    }
+    true
 }
 
-/// The pages of the pending list.
-fn pending_pages(step: &Step<'_>) -> Result<Vec<u32>, Fault> {
-    need(line(step.alloc, step.store)?, "the pending list ends")
-}
-
-/// The pages of the document's private chain.
-fn private_chain(step: &Step<'_>, first: u32) -> Result<Vec<u32>, Fault> {
-    let pages = chain(step.alloc, step.store, first)?;
-    need(pages, "the private chain ends")
-}
-
-/// The rows of a page and of the private pages after it, in order.
-fn rows_in_front<'a>(
-    step: &'a Step<'_>,
-    rows: &'a [PlainRow],
-    behind: u32,
-) -> Result<Vec<&'a PlainRow>, Fault> {
-    let mut all = Vec::new(step.alloc);
+/// Whether each row has keys that are among others.
+fn have_keys_of(rows: &[PlainRow], keys: &[Vec<u8>]) -> bool {
     for row in rows {
-        all.push(row)?;
+        if !are_keys(&row.keys, keys) {
+            return false;
+        }
     }
-    let pages = private_chain(step, behind)?;
-    for row in rows_on(step.alloc, step.store, &pages)? {
-        all.push(row)?;
-    }
-    Ok(all)
+    true
 }
 
-/// 9 PutPending: an own document, whole, with no linked row; the new page has a row or more, with its item and keys of
-/// it alone; these and the keys of its private chain after them rise; the page leads to the head's first private page
-/// and becomes the first.
-pub(crate) fn put_pending(step: &Step<'_>, doc: Doc) -> Result<(), Fault> {
+/// 9 PutPending, without the document and its chain: an own document; the new page has a row or more, with its item and
+/// rising keys; it leads to the head's first private page and becomes the first.
+pub(crate) fn put_pending_here(step: &Step<'_>, doc: Doc) -> Result<(), Fault> {
     let (heap, new) = step.two()?;
-    let head = step.own_head(doc)?;
-    let keys = step.keys_to_link(doc, head)?;
-    let fields = head.fields;
-    step.must_be_new(new)?;
-    let rows = need(rows_of(&new.left), "the new page is a pending page")?;
-    must(!rows.is_empty(), "the new page has a row")?;
-    must(
-        rows.iter().all(|row| row.item == doc.item),
-        "its rows have the item",
-    )?;
-    let own = rows
-        .iter()
-        .all(|row| row.keys.iter().all(|key| keys.contains(key)));
-    must(own, "its keys are keys of the document")?;
-    let all = rows_in_front(step, rows, fields.private)?;
-    let all_keys = keys_on(step.alloc, &all)?;
-    must(rise(&all_keys), "the keys of the private chain rise")?;
-    new.must_lead_to(fields.private)?;
+    let fields = step.own_head(doc)?.fields;
+    let rows = rows_in(new.left.live());
+    let rise = rise_on(&[], rows).is_some();
     let private = new.page;
-    step.head_becomes(heap, doc, HeadFields { private, ..fields })
+    step.is_new(new)
+        .and(
+            have_item(rows, doc.item),
+            "its rows, at least one, have the item",
+        )
+        .and(rise, "the keys of the page rise")
+        .and(new.leads_to(fields.private), RIGHT)
+        .then(heap.gives_head(doc, HeadFields { private, ..fields }))
+        .end()
 }
 
-/// 10 AddRow: an own document, whole, with no linked row; a row with its item and exactly its keys comes after the
-/// rows of the last pending page.
-pub(crate) fn add_row(step: &Step<'_>, doc: Doc) -> Result<(), Fault> {
-    let last = step.one()?;
-    let head = step.own_head(doc)?;
-    let keys = step.keys_to_link(doc, head)?;
-    let pages = pending_pages(step)?;
+/// The document is whole and has no linked row; the rows have keys of it alone.
+fn must_have_own_keys(step: &Step<'_>, doc: Doc, rows: &[PlainRow]) -> Result<(), Fault> {
+    let keys = step.keys_to_link(doc)?;
     must(
-        pages.last() == Some(&last.page),
-        "it changes the last pending page",
-    )?;
-    let rows = match last.was_live() {
-        Some(PlainBody::Pending(rows)) => rows,
-        _ => return Err(Fault::Broken("it changes a pending page")),
-    };
-    let mut rows = rows.clone()?;
-    rows.push(PlainRow {
-        item: doc.item,
-        keys,
-    })?;
-    last.keeps_right()?;
-    last.must_hold(&PlainBody::Pending(rows))
-}
-
-/// The metapage with a chain of so many pages after the list's last page: from page `to` to page `end`.
-fn meta_with(meta: &Changed<'_>, to: u32, end: u32, added: usize) -> Option<PlainBody> {
-    let added = u32::try_from(added).ok()?;
-    match meta.was_live()? {
-        PlainBody::Meta {
-            first: 0,
-            last: 0,
-            pages,
-        } => Some(PlainBody::Meta {
-            first: to,
-            last: end,
-            pages: pages.checked_add(added)?,
-        }),
-        PlainBody::Meta { first, pages, .. } if *first != 0 => Some(PlainBody::Meta {
-            first: *first,
-            last: end,
-            pages: pages.checked_add(added)?,
-        }),
-        _ => None,
-    }
-}
-
-/// The pages after the heap page, by which a chain is linked: the metapage, and the last pending page where there is
-/// one, whose right link becomes the chain's first page.
-fn must_link(step: &Step<'_>, to: u32, end: u32, added: usize) -> Result<(), Fault> {
-    let pages = pending_pages(step)?;
-    let (meta, last) = match step.changed.as_slice() {
-        [_, meta] => (meta, None),
-        [_, meta, last] => (meta, Some(last)),
-        _ => return Err(Fault::Broken("it changes two pages or three")),
-    };
-    must(meta.page == META, "it changes the metapage")?;
-    let body = need(meta_with(meta, to, end, added), "page 0 is the metapage")?;
-    meta.keeps_right()?;
-    meta.must_hold(&body)?;
-    let changed_last = last.map(|last| last.page);
-    must(
-        pages.last().copied() == changed_last,
-        "it changes the last pending page",
-    )?;
-    match last {
-        None => Ok(()),
-        Some(last) => {
-            let was = need(last.was_live(), "the last pending page is in use")?;
-            last.must_lead_to(to)?;
-            last.must_hold(was)
-        }
-    }
-}
-
-/// Whether the rows have all these keys with the item.
-fn have_all(rows: &[&PlainRow], keys: &[Vec<u8>], item: u32) -> bool {
-    keys.iter().all(|key| in_rows(rows, key, item))
-}
-
-/// 11 LinkPending: an own document, whole, with no linked row; the rows of its private chain have all its keys; the
-/// chain comes after the last page, and the head has none then.
-pub(crate) fn link_pending(step: &Step<'_>, doc: Doc) -> Result<(), Fault> {
-    let heap = step.first()?;
-    let head = step.own_head(doc)?;
-    let keys = step.keys_to_link(doc, head)?;
-    let fields = head.fields;
-    let pages = private_chain(step, fields.private)?;
-    let rows = rows_on(step.alloc, step.store, &pages)?;
-    must(
-        have_all(&rows, &keys, doc.item),
-        "the rows of the private chain have all keys",
-    )?;
-    let end = need(pages.last().copied(), "the head has a private chain")?;
-    must_link(step, fields.private, end, pages.len())?;
-    step.head_becomes(
-        heap,
-        doc,
-        HeadFields {
-            private: 0,
-            ..fields
-        },
+        have_keys_of(rows, &keys),
+        "its keys are keys of the document",
     )
 }
 
-/// The metapage without its first page, which leads to this one.
-fn meta_without(meta: &Changed<'_>, right: u32) -> Option<PlainBody> {
-    match meta.was_live()? {
-        PlainBody::Meta { last, pages, .. } => Some(PlainBody::Meta {
-            first: right,
-            last: if right == 0 { 0 } else { *last },
-            pages: pages.checked_sub(1)?,
+/// 9 PutPending: besides, the document is whole, with no linked row; the rows have keys of it alone, and these and the
+/// keys of its private chain after them rise.
+pub(crate) fn put_pending(step: &Step<'_>, doc: Doc) -> Result<(), Fault> {
+    put_pending_here(step, doc)?;
+    let (_, new) = step.two()?;
+    let rows = rows_in(new.left.live());
+    let rise = rise_along(step.store, rows, new.left.right);
+    must(rise, "the keys of the private chain rise")?;
+    must_have_own_keys(step, doc, rows)
+}
+
+/// The pages of the pending list.
+fn pending_list(step: &Step<'_>) -> Result<Line, Fault> {
+    let list = line_from(step.store, first_pending(step.store));
+    need(list, "the pending list ends")
+}
+
+/// Whether this is what is on a pending page.
+fn is_pending(body: Option<&PlainBody>) -> bool {
+    matches!(body, Some(PlainBody::Pending(_)))
+}
+
+/// The row with this item that comes after others.
+fn added_row<'a>(was: &[PlainRow], left: &'a [PlainRow], item: u32) -> Option<&'a PlainRow> {
+    match left {
+        [others @ .., row] if row.item == item && others == was => Some(row),
+        _ => None,
+    }
+}
+
+/// The row with this item that comes to a pending page, which keeps its right link.
+fn row_added_to<'a>(page: &'a Changed<'_>, item: u32) -> Result<&'a PlainRow, Fault> {
+    let stays = page.keeps_right() && is_pending(page.was_live());
+    must(stays, "it changes a pending page")?;
+    let row = added_row(rows_in(page.was_live()), rows_in(page.left.live()), item);
+    need(row, "a row with the item comes after those of the page")
+}
+
+/// 10 AddRow, without the document and the list: the xid runs; a row with the item comes after those of a pending page.
+pub(crate) fn add_row_here(step: &Step<'_>, doc: Doc) -> Result<(), Fault> {
+    row_added_to(step.one()?, doc.item)?;
+    step.runs().end()
+}
+
+/// The document is whole and has no linked row; the row has exactly its keys.
+fn must_have_all_keys(step: &Step<'_>, doc: Doc, row: &PlainRow) -> Result<(), Fault> {
+    let keys = step.keys_to_link(doc)?;
+    must(row.keys == keys, "the row has exactly the document's keys")
+}
+
+/// 10 AddRow: besides, an own document, whole, with no linked row, of which the row has exactly the keys; the page is
+/// the last pending page.
+pub(crate) fn add_row(step: &Step<'_>, doc: Doc) -> Result<(), Fault> {
+    let page = step.one()?;
+    let row = row_added_to(page, doc.item)?;
+    let list = pending_list(step)?;
+    must(
+        list.last == Some(page.page),
+        "it changes the last pending page",
+    )?;
+    must_have_all_keys(step, doc, row)
+}
+
+/// What is on a metapage.
+#[derive(Clone, Copy, PartialEq)]
+struct Meta {
+    /// The first pending page, or 0.
+    first: u32,
+    /// The last one, or 0.
+    last: u32,
+    /// How many there are.
+    pages: u32,
+}
+
+/// The metapage that this is.
+fn meta_in(body: Option<&PlainBody>) -> Option<Meta> {
+    match body {
+        Some(PlainBody::Meta { first, last, pages }) => Some(Meta {
+            first: *first,
+            last: *last,
+            pages: *pages,
         }),
         _ => None,
+    }
+}
+
+/// How the metapage changes.
+#[derive(Clone, Copy)]
+struct Listing {
+    /// As it was.
+    was: Meta,
+    /// As the record leaves it.
+    left: Meta,
+}
+
+/// How the metapage changes, which keeps its right link.
+fn listing_of(meta: &Changed<'_>) -> Option<Listing> {
+    let was = meta_in(meta.was_live())?;
+    let left = meta_in(meta.left.live())?;
+    if meta.page == META && meta.keeps_right() {
+        Some(Listing { was, left })
+    } else {
+        None
+    }
+}
+
+/// The metapage as a record that links a chain changes it, and the page that was the list's last, if that is changed.
+fn linked_pages<'a>(step: &'a Step<'_>) -> Option<(Listing, Option<&'a Changed<'a>>)> {
+    match step.changed.as_slice() {
+        [_, meta] => Some((listing_of(meta)?, None)),
+        [_, meta, last] => Some((listing_of(meta)?, Some(last))),
+        _ => None,
+    }
+}
+
+/// The chain from page `to` on becomes the list, which had no page.
+fn begins_list(meta: Listing, to: u32) -> Rules {
+    let empty = meta.was.first == 0 && meta.was.last == 0;
+    Rules::new()
+        .and(empty, "the list has no page")
+        .and(meta.left.first == to, "the chain is the list")
+}
+
+/// The chain from page `to` on comes after the page that the metapage named last.
+fn extends_list(meta: Listing, last: &Changed<'_>, to: u32) -> Rules {
+    let stays = meta.was.first != 0 && meta.left.first == meta.was.first;
+    Rules::new()
+        .and(stays, "the list has the same first page")
+        .and(
+            last.page == meta.was.last,
+            "it changes the page that is last",
+        )
+        .and(
+            is_pending(last.was_live()),
+            "the last page is a pending page",
+        )
+        .and(last.leads_to(to), RIGHT)
+        .and(last.keeps_body(), LEFT)
+}
+
+/// A chain that begins with page `to` is linked: after the pending page that the metapage names last, or as the list
+/// where it names none. The metapage counts more pages then.
+fn links(step: &Step<'_>, to: u32) -> Rules {
+    let Some((meta, last)) = linked_pages(step) else {
+        return Rules::new().and(false, "it changes the metapage and a page at most");
+    };
+    let rules = match last {
+        None => begins_list(meta, to),
+        Some(last) => extends_list(meta, last, to),
+    };
+    rules.and(
+        meta.left.pages > meta.was.pages,
+        "the metapage counts more pages",
+    )
+}
+
+/// 11 LinkPending, without the document and both lists: an own document with a private chain, which comes after the
+/// last page; the head has none then.
+pub(crate) fn link_pending_here(step: &Step<'_>, doc: Doc) -> Result<(), Fault> {
+    let heap = step.first()?;
+    let fields = step.own_head(doc)?.fields;
+    let private = 0;
+    links(step, fields.private)
+        .and(fields.private != 0, "the head has a private chain")
+        .then(heap.gives_head(doc, HeadFields { private, ..fields }))
+        .end()
+}
+
+/// Whether the metapage names the last page of a chain, and counts its pages.
+fn counts(meta: Listing, chain: Line) -> bool {
+    let counted = meta.was.pages.checked_add(chain.count) == Some(meta.left.pages);
+    counted && chain.last == Some(meta.left.last)
+}
+
+/// The chain is counted, and comes after the list's last page.
+fn must_link(step: &Step<'_>, chain: Line) -> Result<(), Fault> {
+    let list = pending_list(step)?;
+    let Some((meta, last)) = linked_pages(step) else {
+        return Err(Fault::Broken("it changes the metapage and a page at most"));
+    };
+    let last = match last {
+        Some(last) => Some(last.page),
+        None => None,
+    };
+    Rules::new()
+        .and(
+            counts(meta, chain),
+            "the metapage counts the chain's pages and names its last",
+        )
+        .and(list.last == last, "it changes the last pending page")
+        .end()
+}
+
+/// The document is whole and has no linked row; the rows from this page on have all its keys.
+fn must_have_rows(step: &Step<'_>, doc: Doc, first: u32) -> Result<(), Fault> {
+    let keys = step.keys_to_link(doc)?;
+    let have_all = has_rows_from(step.store, first, &keys, doc.item);
+    must(have_all, "the rows of the private chain have all keys")
+}
+
+/// 11 LinkPending: besides, the document is whole, with no linked row; the rows of its private chain have all its keys;
+/// the metapage names and counts its pages, and it comes after the list's last page.
+pub(crate) fn link_pending(step: &Step<'_>, doc: Doc) -> Result<(), Fault> {
+    link_pending_here(step, doc)?;
+    let private = step.own_head(doc)?.fields.private;
+    let chain = need(line_from(step.store, private), "the private chain ends")?;
+    must_have_rows(step, doc, private)?;
+    must_link(step, chain)
+}
+
+/// The metapage without its first page, which leads to this one.
+fn meta_without(meta: Meta, right: u32) -> Option<Meta> {
+    Some(Meta {
+        first: right,
+        last: if right == 0 { 0 } else { meta.last },
+        pages: meta.pages.checked_sub(1)?,
+    })
+}
+
+/// The first page leaves the metapage's list, and leads to this one.
+fn meta_shifts(page: &Changed<'_>, right: u32) -> bool {
+    match listing_of(page) {
+        Some(meta) => meta_without(meta.was, right) == Some(meta.left),
+        None => false,
     }
 }
 
 /// The document of a row has all its keys in the main part.
 fn must_be_moved(step: &Step<'_>, item: u32) -> Result<(), Fault> {
-    let found = document_at(step.store, item);
-    let (_, head) = need(found, "a row's document has its slot")?;
-    let keys = whole_keys(step.alloc, step.store, head)?;
-    let keys = need(keys, "a row's document is whole")?;
+    let head = need(head_at(step.store, item), "a row's document has its slot")?;
+    let keys = step.keys_of(head)?;
     let moved = all_in_main(step.alloc, step.store, &keys, item)?;
     must(moved, "all keys of a row's document are in the main part")
 }
@@ -210,24 +341,18 @@ fn must_be_moved(step: &Step<'_>, item: u32) -> Result<(), Fault> {
 /// Deleted.
 pub(crate) fn shift(step: &Step<'_>) -> Result<(), Fault> {
     let (meta, page) = step.two()?;
-    must(meta.page == META, "it changes the metapage")?;
-    let pages = pending_pages(step)?;
-    must(
-        pages.first() == Some(&page.page),
-        "it changes the first pending page",
-    )?;
-    let rows = match page.was_live() {
-        Some(PlainBody::Pending(rows)) => rows,
-        _ => return Err(Fault::Broken("it changes a pending page")),
-    };
-    for row in rows {
+    pending_list(step)?;
+    let is_first = first_pending(step.store) == page.page;
+    page.is_deleted()
+        .and(is_first, "it changes the first pending page")
+        .and(is_pending(page.was_live()), "it changes a pending page")
+        .and(
+            meta_shifts(meta, page.left.right),
+            "the page leaves the list",
+        )
+        .end()?;
+    for row in rows_in(page.was_live()) {
         must_be_moved(step, row.item)?;
     }
-    page.must_be_deleted()?;
-    let body = need(
-        meta_without(meta, page.left.right),
-        "the list has a page to lose",
-    )?;
-    meta.keeps_right()?;
-    meta.must_hold(&body)
+    Ok(())
 }

@@ -3,13 +3,45 @@ use crate::heap_rows::{
     mark_deleted, place_head, place_head_here, put_overflow, put_overflow_here,
 };
 use crate::item_rows::{add_items, add_postings, make_tree};
-use crate::pending_rows::{add_row, link_pending, put_pending, shift};
+use crate::pending_rows::{
+    add_row, add_row_here, link_pending, link_pending_here, put_pending, put_pending_here, shift,
+};
 use crate::shape_rows::{delete_post, grow_root, split};
 use crate::step::Step;
 use crate::transaction_rows::{abort, begin, checkpoint, commit, commit_here, create};
 use crate::vacuum_rows::{drop_page, free_slots, remove_items};
 use log_walks::{Doc, Fault};
 use page_types::Kind;
+
+/// The row of a record that names a document.
+fn document_row(step: &Step<'_>) -> Result<(), Fault> {
+    match step.record.kind {
+        Kind::PlaceHead { item, serial } => place_head(step, Doc { item, serial }),
+        Kind::PutOverflow { item, serial } => put_overflow(step, Doc { item, serial }),
+        Kind::MarkDeleted { item, serial } => mark_deleted(step, Doc { item, serial }),
+        Kind::PutPending { item, serial } => put_pending(step, Doc { item, serial }),
+        Kind::AddRow { item, serial } => add_row(step, Doc { item, serial }),
+        Kind::LinkPending { item, serial } => link_pending(step, Doc { item, serial }),
+        Kind::DropPage { item, serial } => drop_page(step, Doc { item, serial }),
+        _ => tree_row(step),
+    }
+}
+
+/// The row of a record that changes the index, or frees slots.
+fn tree_row(step: &Step<'_>) -> Result<(), Fault> {
+    match step.record.kind {
+        Kind::Shift => shift(step),
+        Kind::AddItems => add_items(step),
+        Kind::MakeTree => make_tree(step),
+        Kind::AddPostings => add_postings(step),
+        Kind::GrowRoot => grow_root(step),
+        Kind::Split => split(step),
+        Kind::RemoveItems => remove_items(step),
+        Kind::DeletePost => delete_post(step),
+        Kind::FreeSlots => free_slots(step),
+        _ => Err(Fault::Broken("the record has a row")),
+    }
+}
 
 /// Whether the record may follow the log: the first rule of its kind's row that is broken, where one is.
 pub fn row(step: &Step<'_>) -> Result<(), Fault> {
@@ -19,36 +51,21 @@ pub fn row(step: &Step<'_>) -> Result<(), Fault> {
         Kind::Commit { commit: number } => commit(step, number),
         Kind::Abort => abort(step),
         Kind::Checkpoint { redo } => checkpoint(step, redo),
-        Kind::PlaceHead { item, serial } => place_head(step, Doc { item, serial }),
-        Kind::PutOverflow { item, serial } => put_overflow(step, Doc { item, serial }),
-        Kind::MarkDeleted { item, serial } => mark_deleted(step, Doc { item, serial }),
-        Kind::PutPending { item, serial } => put_pending(step, Doc { item, serial }),
-        Kind::AddRow { item, serial } => add_row(step, Doc { item, serial }),
-        Kind::LinkPending { item, serial } => link_pending(step, Doc { item, serial }),
-        Kind::Shift => shift(step),
-        Kind::AddItems => add_items(step),
-        Kind::MakeTree => make_tree(step),
-        Kind::AddPostings => add_postings(step),
-        Kind::GrowRoot => grow_root(step),
-        Kind::Split => split(step),
-        Kind::RemoveItems => remove_items(step),
-        Kind::DeletePost => delete_post(step),
-        Kind::DropPage { item, serial } => drop_page(step, Doc { item, serial }),
-        Kind::FreeSlots => free_slots(step),
+        _ => document_row(step),
     }
 }
 
-/// The same of the rules that speak of the record, of its pages before and after, of transactions and of the numbers that
-/// come next alone, for the kinds 1 to 4 and 6 to 8; none of another kind.
+/// The same of the rules that speak of the record, of its pages before and after, of transactions and of the numbers
+/// that come next alone, for the kinds 1 to 4 and 6 to 11; none of another kind.
 pub fn here(step: &Step<'_>) -> Option<Result<(), Fault>> {
     match step.record.kind {
-        Kind::Create => Some(create(step)),
-        Kind::Begin => Some(begin(step)),
         Kind::Commit { commit: number } => Some(commit_here(step, number)),
-        Kind::Abort => Some(abort(step)),
         Kind::PlaceHead { item, serial } => Some(place_head_here(step, Doc { item, serial })),
         Kind::PutOverflow { item, serial } => Some(put_overflow_here(step, Doc { item, serial })),
-        Kind::MarkDeleted { item, serial } => Some(mark_deleted(step, Doc { item, serial })),
+        Kind::PutPending { item, serial } => Some(put_pending_here(step, Doc { item, serial })),
+        Kind::AddRow { item, serial } => Some(add_row_here(step, Doc { item, serial })),
+        Kind::LinkPending { item, serial } => Some(link_pending_here(step, Doc { item, serial })),
+        Kind::Create | Kind::Begin | Kind::Abort | Kind::MarkDeleted { .. } => Some(row(step)),
         _ => None,
     }
 }

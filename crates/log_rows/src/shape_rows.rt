@@ -1,223 +1,249 @@
 // The rows of the kinds 16, 17 and 19: trees grow, pages are split, empty leaves are deleted.
 use crate::cuts::may_cut_at;
+use crate::parts::{Divider, Place, split_place};
 use crate::sizes::{HALF_BODY, tree_body};
-use crate::step::{Changed, Step};
+use crate::step::{Changed, LEFT, RIGHT, Step};
 use log_walks::{
-    Fault, PlainBody, PlainChild, PlainEntry, PlainPage, ROOT, entries, must, need, root_of,
+    Fault, PlainBody, PlainChild, PlainEntry, PlainPage, ROOT, Rules, Store, entries_in, need,
+    post_leaf_in, root_of,
 };
 use page_types::{NO_BOUND, PostChild};
-use std::alloc::{AllocError, Global};
 
-/// The page is a root: that of the tree of keys, or one that an entry names.
-fn is_root(step: &Step<'_>, page: u32) -> Result<bool, AllocError> {
-    if page == ROOT {
-        return Ok(true);
+/// Whether one of the entries names the root.
+fn one_names(entries: &[PlainEntry], root: u32) -> bool {
+    for entry in entries {
+        if root_of(entry) == Some(root) {
+            return true;
+        }
     }
-    let all = entries(step.alloc, step.store)?;
-    Ok(all.iter().any(|entry| root_of(entry) == Some(page)))
+    false
 }
 
-/// The inner page of the tree of this page, with one child, without bound.
-fn with_one_child(alloc: Global, body: &PlainBody, page: u32) -> Result<PlainBody, Fault> {
-    match body {
-        PlainBody::EntryLeaf { .. } | PlainBody::EntryInner(_) => {
-            let bound = Vec::new(alloc);
-            let mut children = Vec::new(alloc);
-            children.push(PlainChild { page, bound })?;
-            Ok(PlainBody::EntryInner(children))
+/// Whether the page is a root: that of the tree of keys, or one that an entry names.
+fn is_root(store: &Store, page: u32) -> bool {
+    for leaf in store.pages() {
+        if one_names(entries_in(leaf.shown.live()), page) {
+            return true;
         }
-        PlainBody::PostLeaf { .. } | PlainBody::PostInner(_) => {
-            let bound = NO_BOUND;
-            let mut children = Vec::new(alloc);
-            children.push(PostChild { page, bound })?;
-            Ok(PlainBody::PostInner(children))
-        }
-        _ => Err(Fault::Broken("it changes a tree's page")),
+    }
+    page == ROOT
+}
+
+/// Whether this page of the tree of keys is the only child, without bound.
+fn is_only_key_child(children: &[PlainChild], page: u32) -> bool {
+    match children {
+        [child] => child.page == page && child.bound.is_empty(),
+        _ => false,
+    }
+}
+
+/// Whether this page of a posting tree is the only child, without bound.
+fn is_only_item_child(children: &[PostChild], page: u32) -> bool {
+    match children {
+        [child] => child.page == page && child.bound == NO_BOUND,
+        _ => false,
+    }
+}
+
+/// Whether this is on a page of the tree of keys.
+fn is_of_keys(body: &PlainBody) -> bool {
+    matches!(body, PlainBody::EntryLeaf { .. } | PlainBody::EntryInner(_))
+}
+
+/// Whether the root has become an inner page of the tree with this content, whose one child is the page.
+fn has_one_child(root: &Changed<'_>, body: &PlainBody, page: u32) -> bool {
+    match root.left.live() {
+        Some(PlainBody::EntryInner(all)) => is_of_keys(body) && is_only_key_child(all, page),
+        Some(PlainBody::PostInner(all)) => !is_of_keys(body) && is_only_item_child(all, page),
+        _ => false,
     }
 }
 
 /// What was on a tree page whose body has more than 4084 bytes.
-fn large_body<'a>(page: &'a Changed<'_>) -> Result<&'a PlainBody, Fault> {
-    let body = need(page.was_live(), "it changes a tree's page")?;
-    let size = need(tree_body(body), "it changes a tree's page")?;
-    must(size > HALF_BODY, "the body has more than 4084 bytes")?;
-    Ok(body)
+fn large_body<'a>(page: &'a Changed<'_>) -> Option<&'a PlainBody> {
+    let body = page.was_live()?;
+    if tree_body(body)? > HALF_BODY {
+        Some(body)
+    } else {
+        None
+    }
 }
 
 /// 16 GrowRoot: the root's body has more than 4084 bytes; it moves to the new page, which becomes the root's one child,
 /// without bound.
 pub(crate) fn grow_root(step: &Step<'_>) -> Result<(), Fault> {
     let (root, new) = step.two()?;
-    must(is_root(step, root.page)?, "it changes a root")?;
-    let body = large_body(root)?;
-    step.must_be_new(new)?;
-    let inner = with_one_child(step.alloc, body, new.page)?;
-    root.keeps_right()?;
-    root.must_hold(&inner)?;
-    new.must_lead_to(0)?;
-    new.must_hold(body)
+    let body = need(
+        large_body(root),
+        "the body of a tree's page has more than 4084 bytes",
+    )?;
+    step.is_new(new)
+        .and(is_root(step.store, root.page), "it changes a root")
+        .and(root.keeps_right(), RIGHT)
+        .and(has_one_child(root, body, new.page), LEFT)
+        .then(new.becomes(0, body))
+        .end()
 }
 
-/// What divides the two parts of a split page: what the first part's bound becomes.
+/// A page that was split.
 #[derive(Clone, Copy)]
-enum Divider<'a> {
-    /// A key, in the tree of keys.
-    Key(&'a [u8]),
-    /// An item, in a posting tree.
-    Item(u32),
+struct Halves<'a> {
+    /// The page.
+    page: u32,
+    /// The new page.
+    new: u32,
+    /// What divides them.
+    divider: Divider<'a>,
 }
 
-/// Whether two lists, neither of them empty, are the parts of a third.
-fn are_parts<T: PartialEq>(whole: &[T], front: &[T], back: &[T]) -> bool {
-    let placed = whole.split_at_checked(front.len());
-    let same = placed.is_some_and(|(first, second)| first == front && second == back);
-    same && !front.is_empty() && !back.is_empty()
-}
-
-/// The parts of a leaf of the tree of keys: the high key of the first is at least its last key and below the second's
-/// first; the second keeps the high key.
-fn entry_parts<'a>(
-    whole: (&[u8], &[PlainEntry]),
-    front: (&'a [u8], &[PlainEntry]),
-    back: (&[u8], &[PlainEntry]),
-) -> Option<(Divider<'a>, usize)> {
-    let mid = front.0;
-    let last = front.1.last()?;
-    let next = back.1.first()?;
-    let divides = last.key.as_slice() <= mid && mid < next.key.as_slice();
-    let parts = are_parts(whole.1, front.1, back.1) && back.0 == whole.0;
-    if divides && parts {
-        Some((Divider::Key(mid), front.1.len()))
-    } else {
-        None
-    }
-}
-
-/// The parts of a leaf of a posting tree, likewise.
-fn item_parts(
-    whole: (u32, &[u32]),
-    front: (u32, &[u32]),
-    back: (u32, &[u32]),
-) -> Option<(Divider<'static>, usize)> {
-    let mid = front.0;
-    let divides = *front.1.last()? <= mid && mid < *back.1.first()?;
-    let parts = are_parts(whole.1, front.1, back.1) && back.0 == whole.0;
-    if divides && parts {
-        Some((Divider::Item(mid), front.1.len()))
-    } else {
-        None
-    }
-}
-
-/// What divides the two parts that a page's content was split into, and how many members the first has.
-fn divided<'a>(
-    whole: &PlainBody,
-    front: &'a PlainBody,
-    back: &PlainBody,
-) -> Option<(Divider<'a>, usize)> {
-    match (whole, front, back) {
-        (
-            PlainBody::EntryLeaf { high, entries },
-            PlainBody::EntryLeaf {
-                high: mid,
-                entries: first,
-            },
-            PlainBody::EntryLeaf {
-                high: end,
-                entries: second,
-            },
-        ) => entry_parts((high, entries), (mid, first), (end, second)),
-        (PlainBody::EntryInner(all), PlainBody::EntryInner(first), PlainBody::EntryInner(second))
-            if are_parts(all, first, second) => {
-            Some((Divider::Key(&first.last()?.bound), first.len()))
+/// How many of the children are this page.
+fn times_in_keys(children: &[PlainChild], page: u32) -> usize {
+    let mut times = 0usize;
+    for child in children {
+        if child.page == page {
+            times = times.saturating_add(1);
         }
-        (
-            PlainBody::PostLeaf { high, items },
-            PlainBody::PostLeaf {
-                high: mid,
-                items: first,
-            },
-            PlainBody::PostLeaf {
-                high: end,
-                items: second,
-            },
-        ) => item_parts((*high, items), (*mid, first), (*end, second)),
-        (PlainBody::PostInner(all), PlainBody::PostInner(first), PlainBody::PostInner(second))
-            if are_parts(all, first, second) => {
-            Some((Divider::Item(first.last()?.bound), first.len()))
+    }
+    times
+}
+
+/// The same of a posting tree.
+fn times_in_items(children: &[PostChild], page: u32) -> usize {
+    let mut times = 0usize;
+    for child in children {
+        if child.page == page {
+            times = times.saturating_add(1);
         }
+    }
+    times
+}
+
+/// Whether the old child, which was split, became the page with this bound and the new one with its own.
+fn is_key_split(old: &PlainChild, news: (&PlainChild, &PlainChild), halves: Halves<'_>) -> bool {
+    let (page, new) = news;
+    let placed = page.page == halves.page && new.page == halves.new;
+    let bounded = match halves.divider {
+        Divider::Key(mid) => page.bound.as_slice() == mid,
+        Divider::Item(_) => false,
+    };
+    placed && bounded && new.bound == old.bound
+}
+
+/// The children after what became of the old one; none where that is something else.
+fn behind_key_child<'a>(
+    old: &PlainChild,
+    left: &'a [PlainChild],
+    halves: Halves<'_>,
+) -> Option<&'a [PlainChild]> {
+    match left {
+        [page, new, rest @ ..] if old.page == halves.page => {
+            if is_key_split(old, (page, new), halves) {
+                Some(rest)
+            } else {
+                None
+            }
+        }
+        [same, rest @ ..] if old.page != halves.page && same == old => Some(rest),
         _ => None,
     }
 }
 
-/// The parent's children: the new page comes after the page and takes its bound.
-fn key_children(
-    alloc: Global,
-    old: &[PlainChild],
-    (page, new): (u32, u32),
-    mid: &[u8],
-) -> Result<Vec<PlainChild>, AllocError> {
-    let mut all = Vec::new(alloc);
-    for child in old {
-        if child.page == page {
-            let bound = Vec::from_slice(alloc, mid)?;
-            all.push(PlainChild { page, bound })?;
-            let bound = child.bound.clone()?;
-            all.push(PlainChild { page: new, bound })?;
-        } else {
-            all.push(child.clone()?)?;
-        }
+/// The children after what became of the old ones, of which the page was one.
+fn behind_key_children<'a>(
+    was: &[PlainChild],
+    left: &'a [PlainChild],
+    halves: Halves<'_>,
+) -> Option<&'a [PlainChild]> {
+    let mut rest = left;
+    for old in was {
+        rest = behind_key_child(old, rest, halves)?;
     }
-    Ok(all)
+    Some(rest)
 }
 
-/// The same of a posting tree.
-fn item_children(
-    alloc: Global,
-    old: &[PostChild],
-    (page, new): (u32, u32),
-    mid: u32,
-) -> Result<Vec<PostChild>, AllocError> {
-    let mut all = Vec::new(alloc);
-    for child in old {
-        if child.page == page {
-            all.push(PostChild { page, bound: mid })?;
-            all.push(PostChild {
-                page: new,
-                bound: child.bound,
-            })?;
-        } else {
-            all.push(*child)?;
-        }
-    }
-    Ok(all)
+/// Whether the page is one child, and the new one comes after it and takes its bound.
+fn key_children_split(was: &[PlainChild], left: &[PlainChild], halves: Halves<'_>) -> bool {
+    let split = matches!(behind_key_children(was, left, halves), Some([]));
+    split && times_in_keys(was, halves.page) == 1
 }
 
-/// The parent's content with the new page.
-fn parent_with(
-    alloc: Global,
-    parent: &PlainBody,
-    pages: (u32, u32),
-    divider: Divider<'_>,
-) -> Result<PlainBody, Fault> {
-    match (parent, divider) {
-        (PlainBody::EntryInner(old), Divider::Key(mid)) => {
-            Ok(PlainBody::EntryInner(key_children(alloc, old, pages, mid)?))
+/// Whether the old child of a posting tree, which was split, became the page with this bound and the new one with its
+/// own.
+fn is_item_split(old: &PostChild, news: (&PostChild, &PostChild), halves: Halves<'_>) -> bool {
+    let (page, new) = news;
+    let placed = page.page == halves.page && new.page == halves.new;
+    let bounded = match halves.divider {
+        Divider::Key(_) => false,
+        Divider::Item(mid) => page.bound == mid,
+    };
+    placed && bounded && new.bound == old.bound
+}
+
+/// The children after what became of the old one; none where that is something else.
+fn behind_item_child<'a>(
+    old: &PostChild,
+    left: &'a [PostChild],
+    halves: Halves<'_>,
+) -> Option<&'a [PostChild]> {
+    match left {
+        [page, new, rest @ ..] if old.page == halves.page => {
+            if is_item_split(old, (page, new), halves) {
+                Some(rest)
+            } else {
+                None
+            }
         }
-        (PlainBody::PostInner(old), Divider::Item(mid)) => {
-            Ok(PlainBody::PostInner(item_children(alloc, old, pages, mid)?))
-        }
-        _ => Err(Fault::Broken("the parent is an inner page of the same tree")),
+        [same, rest @ ..] if old.page != halves.page && same == old => Some(rest),
+        _ => None,
     }
 }
 
-/// How many children of an inner page are this page.
-fn times_below(parent: &PlainBody, page: u32) -> usize {
-    match parent {
-        PlainBody::EntryInner(all) => all.iter().filter(|child| child.page == page).count(),
-        PlainBody::PostInner(all) => all.iter().filter(|child| child.page == page).count(),
-        _ => 0,
+/// The children after what became of the old ones, of which the page was one.
+fn behind_item_children<'a>(
+    was: &[PostChild],
+    left: &'a [PostChild],
+    halves: Halves<'_>,
+) -> Option<&'a [PostChild]> {
+    let mut rest = left;
+    for old in was {
+        rest = behind_item_child(old, rest, halves)?;
     }
+    Some(rest)
+}
+
+/// Whether the page is one child, and the new one comes after it and takes its bound.
+fn item_children_split(was: &[PostChild], left: &[PostChild], halves: Halves<'_>) -> bool {
+    let split = matches!(behind_item_children(was, left, halves), Some([]));
+    split && times_in_items(was, halves.page) == 1
+}
+
+/// Whether the new page comes into the parent, an inner page of the same tree.
+fn parent_splits(was: &PlainBody, left: &PlainBody, halves: Halves<'_>) -> bool {
+    match (was, left) {
+        (PlainBody::EntryInner(was), PlainBody::EntryInner(left)) => {
+            key_children_split(was, left, halves)
+        }
+        (PlainBody::PostInner(was), PlainBody::PostInner(left)) => {
+            item_children_split(was, left, halves)
+        }
+        _ => false,
+    }
+}
+
+/// The parent keeps its right link, and gets the new page.
+fn parent_gets(parent: &Changed<'_>, halves: Halves<'_>) -> Rules {
+    let gets = match (parent.was_live(), parent.left.live()) {
+        (Some(was), Some(left)) => parent_splits(was, left, halves),
+        _ => false,
+    };
+    Rules::new()
+        .and(parent.keeps_right(), RIGHT)
+        .and(gets, "the parent gets the new page after the page")
+}
+
+/// Where the page's content was split into what is on the page and on the new one.
+fn place_of<'a>(body: &PlainBody, page: &'a Changed<'_>, new: &Changed<'_>) -> Option<Place<'a>> {
+    split_place(body, page.left.live()?, new.left.live()?)
 }
 
 /// 17 Split: the page's body has more than 4084 bytes; it keeps a first part with at least half of the bytes where both
@@ -225,79 +251,111 @@ fn times_below(parent: &PlainBody, page: u32) -> usize {
 /// the bound and the place after the page in its parent.
 pub(crate) fn split(step: &Step<'_>) -> Result<(), Fault> {
     let (page, new, parent) = step.three()?;
-    let body = large_body(page)?;
-    step.must_be_new(new)?;
-    let front = need(page.left.live(), "the page stays in use")?;
-    let back = need(new.left.live(), "the new page is in use")?;
-    let (divider, place) = need(divided(body, front, back), "the two pages hold the content")?;
-    must(
-        may_cut_at(body, place),
-        "the first part has the right length",
+    let body = need(
+        large_body(page),
+        "the body of a tree's page has more than 4084 bytes",
     )?;
-    page.must_lead_to(new.page)?;
-    new.must_lead_to(page.was.map_or(0, |was| was.right))?;
-    let old = need(parent.was_live(), "it changes the page's parent")?;
-    must(
-        times_below(old, page.page) == 1,
-        "it changes the page's parent",
-    )?;
-    let children = parent_with(step.alloc, old, (page.page, new.page), divider)?;
-    parent.keeps_right()?;
-    parent.must_hold(&children)
-}
-
-/// The children of an inner posting page without this one, which is not the last.
-fn without(alloc: Global, old: &[PostChild], page: u32) -> Result<Vec<PostChild>, Fault> {
-    let found = old.iter().position(|child| child.page == page);
-    let place = need(found, "the leaf is a child of the parent")?;
-    let last = place.saturating_add(1) >= old.len();
-    must(!last, "the leaf is not its parent's last child")?;
-    let others = old.iter().filter(|child| child.page != page);
-    Ok(others.copied().collect(alloc)?)
-}
-
-/// The left leaf of a page, whose right link becomes another, where it is changed; where it isn't, there is none.
-fn must_unlink(
-    step: &Step<'_>,
-    left: Option<&Changed<'_>>,
-    page: u32,
-    right: u32,
-) -> Result<(), Fault> {
-    let is_left = |other: &PlainPage| {
-        other.right == page && matches!(other.live(), Some(PlainBody::PostLeaf { .. }))
+    let place = need(place_of(body, page, new), "the two pages hold the content")?;
+    let halves = Halves {
+        page: page.page,
+        new: new.page,
+        divider: place.divider,
     };
-    match left {
-        None => {
-            let none = !step.store.pages().values().any(is_left);
-            must(none, "the left leaf is changed")
+    let links = page.leads_to(new.page) && new.leads_to(page.right_before());
+    step.is_new(new)
+        .and(
+            may_cut_at(body, place.count),
+            "the first part has the right length",
+        )
+        .and(links, RIGHT)
+        .then(parent_gets(parent, halves))
+        .end()
+}
+
+/// Whether the page is a child, and not the last one.
+fn is_before_last(children: &[PostChild], page: u32) -> bool {
+    match children {
+        [others @ .., _] => times_in_items(others, page) > 0,
+        [] => false,
+    }
+}
+
+/// Whether these are the old children but the page.
+fn others_stay(olds: &[PostChild], news: &[PostChild], page: u32) -> bool {
+    let mut rest = news;
+    for old in olds {
+        match rest {
+            _ if old.page == page => {}
+            [new, others @ ..] if new == old => rest = others,
+            _ => return false,
         }
-        Some(left) => {
-            let was = need(left.was, "the left leaf is in use")?;
-            must(is_left(was), "it changes the left leaf")?;
-            left.must_lead_to(right)?;
-            left.must_hold(&was.body)
+    }
+    rest.is_empty()
+}
+
+/// The parent keeps its right link, and loses the leaf, which isn't its last child.
+fn parent_loses(parent: &Changed<'_>, page: u32) -> Rules {
+    let loses = match (parent.was_live(), parent.left.live()) {
+        (Some(PlainBody::PostInner(was)), Some(PlainBody::PostInner(left))) => {
+            is_before_last(was, page) && others_stay(was, left, page)
         }
+        _ => false,
+    };
+    Rules::new()
+        .and(parent.keeps_right(), RIGHT)
+        .and(loses, "the parent loses the leaf, not its last child")
+}
+
+/// Whether this is the left leaf of a page of a posting tree.
+fn is_left(other: &PlainPage, page: u32) -> bool {
+    other.right == page && post_leaf_in(other.live()).is_some()
+}
+
+/// Whether a page of a posting tree has a left leaf.
+fn has_left(store: &Store, page: u32) -> bool {
+    for other in store.pages() {
+        if is_left(&other.shown, page) {
+            return true;
+        }
+    }
+    false
+}
+
+/// Whether the changed page was the left leaf.
+fn was_left(left: &Changed<'_>, page: u32) -> bool {
+    match left.was {
+        Some(was) => is_left(was, page),
+        None => false,
+    }
+}
+
+/// The left leaf, whose right link becomes the leaf's.
+fn left_links(left: &Changed<'_>, leaf: &Changed<'_>) -> Rules {
+    Rules::new()
+        .and(was_left(left, leaf.page), "it changes the left leaf")
+        .and(left.leads_to(leaf.left.right), RIGHT)
+        .and(left.keeps_body(), LEFT)
+}
+
+/// The pages after the leaf: the left leaf, where there is one, and the parent.
+fn beside_leaves(step: &Step<'_>, leaf: &Changed<'_>) -> Rules {
+    match step.changed.as_slice() {
+        [_, parent] => parent_loses(parent, leaf.page).and(
+            !has_left(step.store, leaf.page),
+            "the left leaf is changed",
+        ),
+        [_, left, parent] => parent_loses(parent, leaf.page).then(left_links(left, leaf)),
+        _ => Rules::new().and(false, "it changes two pages or three"),
     }
 }
 
 /// 19 DeletePost: the leaf is empty and not its parent's last child; the left leaf's right link becomes the leaf's, the
 /// parent loses the leaf with its bound, and the leaf becomes Deleted.
 pub(crate) fn delete_post(step: &Step<'_>) -> Result<(), Fault> {
-    let (leaf, left, parent) = match step.changed.as_slice() {
-        [leaf, parent] => (leaf, None, parent),
-        [leaf, left, parent] => (leaf, Some(left), parent),
-        _ => return Err(Fault::Broken("it changes two pages or three")),
-    };
-    match leaf.was_live() {
-        Some(PlainBody::PostLeaf { items, .. }) => must(items.is_empty(), "the leaf is empty")?,
-        _ => return Err(Fault::Broken("it changes a posting leaf")),
-    }
-    leaf.must_be_deleted()?;
-    must_unlink(step, left, leaf.page, leaf.left.right)?;
-    let children = match parent.was_live() {
-        Some(PlainBody::PostInner(children)) => without(step.alloc, children, leaf.page)?,
-        _ => return Err(Fault::Broken("it changes the leaf's parent")),
-    };
-    parent.keeps_right()?;
-    parent.must_hold(&PlainBody::PostInner(children))
+    let leaf = step.first()?;
+    let was = need(post_leaf_in(leaf.was_live()), "it changes a posting leaf")?;
+    leaf.is_deleted()
+        .and(was.items.is_empty(), "the leaf is empty")
+        .then(beside_leaves(step, leaf))
+        .end()
 }

@@ -36,33 +36,41 @@ pub(crate) fn item_list(items: &[u32]) -> usize {
     size
 }
 
-/// An entry: its key field, its form, and a list with its length or a root.
-fn entry(entry: &PlainEntry) -> usize {
-    let postings = match &entry.postings {
+/// An entry's list with its length, or its root.
+fn postings(postings: &PlainPostings) -> usize {
+    match postings {
         PlainPostings::Inline(items) => item_list(items).saturating_add(2),
         PlainPostings::Root(_) => 4,
-    };
-    key_field(&entry.key)
-        .saturating_add(1)
-        .saturating_add(postings)
+    }
 }
 
-/// Entries.
+/// Entries: each a key field, a form, and a list or a root.
 pub(crate) fn entries(all: &[PlainEntry]) -> usize {
-    all.iter()
-        .fold(0usize, |size, one| size.saturating_add(entry(one)))
+    let mut size = 0usize;
+    for entry in all {
+        size = size
+            .saturating_add(key_field(&entry.key))
+            .saturating_add(1)
+            .saturating_add(postings(&entry.postings));
+    }
+    size
 }
 
 /// Children of the tree of keys: each a page and a bound.
 pub(crate) fn children(all: &[PlainChild]) -> usize {
-    all.iter().fold(0usize, |size, child| {
-        size.saturating_add(4)
-            .saturating_add(key_field(&child.bound))
-    })
+    let mut size = 0usize;
+    for child in all {
+        size = size
+            .saturating_add(4)
+            .saturating_add(key_field(&child.bound));
+    }
+    size
 }
 
-/// A child of a posting tree: a page and a bound.
-pub(crate) const POST_CHILD: usize = 8;
+/// So many children of a posting tree: each a page and a bound.
+pub(crate) fn post_children(count: usize) -> usize {
+    count.saturating_mul(8)
+}
 
 /// The high item of a posting leaf.
 pub(crate) const HIGH_ITEM: usize = 4;
@@ -75,7 +83,7 @@ pub(crate) fn tree_body(body: &PlainBody) -> Option<usize> {
         }
         PlainBody::EntryInner(all) => Some(children(all)),
         PlainBody::PostLeaf { items, .. } => Some(item_list(items).saturating_add(HIGH_ITEM)),
-        PlainBody::PostInner(all) => Some(all.len().saturating_mul(POST_CHILD)),
+        PlainBody::PostInner(all) => Some(post_children(all.len())),
         _ => None,
     }
 }

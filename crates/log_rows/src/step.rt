@@ -1,10 +1,17 @@
 // A record beside the log before it, and what several rows ask of it.
+use crate::slots::head_becomes;
 use log_walks::{
-    Doc, Fate, Fault, Ledger, PlainBody, PlainHead, PlainPage, Store, has_row, head_of, must, need,
-    slots_of, whole_keys,
+    Doc, Fate, Fault, Ledger, LeftBytes, LeftPage, PlainBody, PlainHead, PlainPage, Rules, Store,
+    has_row, head_of, left_page, must, need, slots_in, whole_keys,
 };
 use page_types::{HeadFields, Record};
-use std::alloc::Global;
+use std::alloc::{AllocError, Global};
+
+/// The rule of a right link.
+pub(crate) const RIGHT: &str = "a right link is as the row says";
+
+/// The rule of what is on a page.
+pub(crate) const LEFT: &str = "a page is left as the row says";
 
 /// A page that a record changes.
 #[derive(Drop)]
@@ -15,6 +22,17 @@ pub struct Changed<'a> {
     pub was: Option<&'a PlainPage>,
     /// As the record leaves it.
     pub left: PlainPage,
+}
+
+/// By what a record is judged beside the log before it.
+#[derive(Clone, Copy)]
+pub struct Terms {
+    /// A document is dead by so many first commits.
+    pub floor: u32,
+    /// A page that was deleted by a record of this number at most may be taken again.
+    pub since: u64,
+    /// Whether a commit asks for indexed documents.
+    pub asks_index: bool,
 }
 
 /// A record that comes after a log.
@@ -30,18 +48,66 @@ pub struct Step<'a> {
     pub record: &'a Record,
     /// The pages that it changes, in its order.
     pub changed: Vec<Changed<'a>>,
-    /// A document is dead by so many first commits.
-    pub floor: u32,
-    /// A page that was deleted by a record of this number at most may be taken again.
-    pub since: u64,
-    /// Whether a commit asks for indexed documents.
-    pub asks_index: bool,
+    /// By what it is judged.
+    pub terms: Terms,
+}
+
+/// The pages that the record with this number changes, whose bytes are these after it.
+fn changed_pages<'a>(
+    alloc: Global,
+    store: &'a Store,
+    number: u64,
+    bytes: &[LeftBytes],
+) -> Result<Vec<Changed<'a>>, Fault> {
+    let mut all = Vec::new(alloc);
+    for bytes in bytes {
+        let LeftPage { page, shown } = left_page(alloc, number, bytes)?;
+        all.push(Changed {
+            page,
+            was: store.page(page),
+            left: shown,
+        })?;
+    }
+    Ok(all)
+}
+
+impl<'a> Step<'a> {
+    /// The record after this log; its changed pages have these bytes then.
+    pub fn new(
+        alloc: Global,
+        store: &'a Store,
+        ledger: &'a Ledger,
+        record: &'a Record,
+        bytes: &[LeftBytes],
+        terms: Terms,
+    ) -> Result<Step<'a>, Fault> {
+        Ok(Step {
+            alloc,
+            store,
+            ledger,
+            record,
+            changed: changed_pages(alloc, store, record.number, bytes)?,
+            terms,
+        })
+    }
+
+    /// The pages that it leaves.
+    pub fn into_left(self) -> Result<Vec<LeftPage>, AllocError> {
+        let mut all = Vec::new(self.alloc);
+        for change in self.changed {
+            all.push(LeftPage {
+                page: change.page,
+                shown: change.left,
+            })?;
+        }
+        Ok(all)
+    }
 }
 
 impl Step<'_> {
     /// The record changes no page.
-    pub(crate) fn changes_none(&self) -> Result<(), Fault> {
-        must(self.changed.is_empty(), "it changes no page")
+    pub(crate) fn changes_none(&self) -> Rules {
+        Rules::new().and(self.changed.is_empty(), "it changes no page")
     }
 
     /// The one page that it changes.
@@ -77,58 +143,46 @@ impl Step<'_> {
     }
 
     /// Its transaction runs.
-    pub(crate) fn must_run(&self) -> Result<(), Fault> {
+    pub(crate) fn runs(&self) -> Rules {
         let fate = self.ledger.fate(self.record.xid);
-        must(fate == Fate::Running, "the xid runs")
+        Rules::new().and(fate == Fate::Running, "the xid runs")
     }
 
     /// The head of the document, which the record's transaction placed, and this runs.
     pub(crate) fn own_head(&self, doc: Doc) -> Result<&PlainHead, Fault> {
         let head = need(head_of(self.store, doc), "the document has its slot")?;
         let by = head.fields.inserted_by;
-        must(by == self.record.xid, "the xid placed the head")?;
-        self.must_run()?;
+        let rules = self
+            .runs()
+            .and(by == self.record.xid, "the xid placed the head");
+        rules.end()?;
         Ok(head)
     }
 
-    /// The keys of the document with this head, which is whole and has no linked row.
-    pub(crate) fn keys_to_link(&self, doc: Doc, head: &PlainHead) -> Result<Vec<Vec<u8>>, Fault> {
+    /// The keys of the document with this head, which is whole.
+    pub(crate) fn keys_of(&self, head: &PlainHead) -> Result<Vec<Vec<u8>>, Fault> {
         let keys = whole_keys(self.alloc, self.store, head)?;
-        let keys = need(keys, "the document is whole")?;
-        let linked = has_row(self.alloc, self.store, doc.item)?;
-        must(!linked, "no row of it is linked")?;
-        Ok(keys)
+        need(keys, "the document is whole")
+    }
+
+    /// The keys of the own document, which is whole and has no linked row.
+    pub(crate) fn keys_to_link(&self, doc: Doc) -> Result<Vec<Vec<u8>>, Fault> {
+        must(!has_row(self.store, doc.item), "no row of it is linked")?;
+        self.keys_of(self.own_head(doc)?)
     }
 
     /// The page is new: the lowest one that no record has changed, or one that was deleted early enough.
-    pub(crate) fn must_be_new(&self, new: &Changed<'_>) -> Result<(), Fault> {
+    pub(crate) fn is_new(&self, new: &Changed<'_>) -> Rules {
         match new.was {
-            None => {
-                let lowest = (0..new.page).all(|lower| self.store.page(lower).is_some());
-                must(lowest, "the new page is the lowest unused one")
-            }
-            Some(was) => must(
-                was.deleted && was.stamp <= self.since,
+            None => Rules::new().and(
+                new.page == self.store.lowest_unused(),
+                "the new page is the lowest unused one",
+            ),
+            Some(was) => Rules::new().and(
+                was.deleted && was.stamp <= self.terms.since,
                 "the new page was deleted early enough",
             ),
         }
-    }
-
-    /// The page is the document's heap page, and nothing of it changes but the head, which gets these fields.
-    pub(crate) fn head_becomes(
-        &self,
-        heap: &Changed<'_>,
-        doc: Doc,
-        fields: HeadFields,
-    ) -> Result<(), Fault> {
-        must(heap.page == doc.page(), "it changes the item's heap page")?;
-        let was = need(slots_of(self.store, heap.page), "that is a heap page")?;
-        let mut slots = was.clone()?;
-        if let Some(Some(head)) = slots.get_mut(doc.slot()) {
-            head.fields = fields;
-        }
-        heap.keeps_right()?;
-        heap.must_hold(&PlainBody::Heap(slots))
     }
 }
 
@@ -138,28 +192,63 @@ impl Changed<'_> {
         self.was?.live()
     }
 
-    /// This is what is on the page, which is not deleted.
-    pub(crate) fn must_hold(&self, body: &PlainBody) -> Result<(), Fault> {
-        let holds = !self.left.deleted && self.left.body == *body;
-        must(holds, "a page is left as the row says")
+    /// Whether this is what is on the page, which is not deleted.
+    pub(crate) fn holds(&self, body: &PlainBody) -> bool {
+        !self.left.deleted && self.left.body == *body
     }
 
-    /// The page's right link is this one.
-    pub(crate) fn must_lead_to(&self, right: u32) -> Result<(), Fault> {
-        must(self.left.right == right, "a right link is as the row says")
+    /// Whether the page stays in use, and what is on it.
+    pub(crate) fn keeps_body(&self) -> bool {
+        match self.was_live() {
+            Some(was) => self.holds(was),
+            None => false,
+        }
     }
 
-    /// The page keeps its right link.
-    pub(crate) fn keeps_right(&self) -> Result<(), Fault> {
-        self.must_lead_to(self.was.map_or(0, |was| was.right))
+    /// Whether the page's right link is this one.
+    pub(crate) fn leads_to(&self, right: u32) -> bool {
+        self.left.right == right
+    }
+
+    /// The right link that the page had, or 0.
+    pub(crate) fn right_before(&self) -> u32 {
+        match self.was {
+            Some(was) => was.right,
+            None => 0,
+        }
+    }
+
+    /// Whether the page keeps its right link.
+    pub(crate) fn keeps_right(&self) -> bool {
+        self.leads_to(self.right_before())
+    }
+
+    /// The page gets this right link, and this is on it.
+    pub(crate) fn becomes(&self, right: u32, body: &PlainBody) -> Rules {
+        Rules::new()
+            .and(self.leads_to(right), RIGHT)
+            .and(self.holds(body), LEFT)
     }
 
     /// The page becomes Deleted, and keeps its body and its right link.
-    pub(crate) fn must_be_deleted(&self) -> Result<(), Fault> {
-        let was = need(self.was, "a page in use is deleted")?;
-        must(!was.deleted, "a page in use is deleted")?;
-        must(self.left.deleted, "the page becomes Deleted")?;
-        must(self.left.body == was.body, "a deleted page keeps its body")?;
-        self.keeps_right()
+    pub(crate) fn is_deleted(&self) -> Rules {
+        match self.was {
+            None => Rules::new().and(false, "a page in use is deleted"),
+            Some(was) => Rules::new()
+                .and(!was.deleted, "a page in use is deleted")
+                .and(self.left.deleted, "the page becomes Deleted")
+                .and(self.left.body == was.body, "a deleted page keeps its body")
+                .and(self.leads_to(was.right), RIGHT),
+        }
+    }
+
+    /// The page is the document's heap page, and nothing of it changes but the head, which gets these fields.
+    pub(crate) fn gives_head(&self, doc: Doc, fields: HeadFields) -> Rules {
+        let was = slots_in(self.was_live());
+        let left = slots_in(self.left.live());
+        Rules::new()
+            .and(self.page == doc.page(), "it changes the item's heap page")
+            .and(self.keeps_right(), RIGHT)
+            .and(head_becomes(was, left, doc.slot(), fields), LEFT)
     }
 }

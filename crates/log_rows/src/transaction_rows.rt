@@ -1,6 +1,6 @@
 // The rows of the kinds 1 to 5: the store is made, transactions begin and end, checkpoints.
 use crate::step::Step;
-use log_walks::{Doc, Fault, META, PlainBody, ROOT, head_of, is_indexed, must, need, whole_keys};
+use log_walks::{Doc, Fault, META, PlainBody, ROOT, head_of, is_indexed, must, need};
 
 /// Xids are below this.
 const XID_BOUND: u32 = 16_777_216;
@@ -8,53 +8,51 @@ const XID_BOUND: u32 = 16_777_216;
 /// 1 Create: the log is empty; an empty Meta and an empty EntryLeaf.
 pub(crate) fn create(step: &Step<'_>) -> Result<(), Fault> {
     let (meta, root) = step.two()?;
-    must(step.ledger.records == 0, "the log is empty")?;
-    must(
-        meta.page == META && root.page == ROOT,
-        "it changes the pages 0 and 1",
-    )?;
-    meta.must_lead_to(0)?;
-    meta.must_hold(&PlainBody::Meta {
+    let empty = PlainBody::Meta {
         first: 0,
         last: 0,
         pages: 0,
-    })?;
-    root.must_lead_to(0)?;
-    root.must_hold(&PlainBody::EntryLeaf {
+    };
+    let leaf = PlainBody::EntryLeaf {
         high: Vec::new(step.alloc),
         entries: Vec::new(step.alloc),
-    })
+    };
+    meta.becomes(0, &empty)
+        .then(root.becomes(0, &leaf))
+        .and(step.ledger.records == 0, "the log is empty")
+        .and(meta.page == META, "it changes the page 0")
+        .and(root.page == ROOT, "it changes the page 1")
+        .end()
 }
 
 /// 2 Begin: the xid is the next one and below 2^24.
 pub(crate) fn begin(step: &Step<'_>) -> Result<(), Fault> {
-    step.changes_none()?;
     let xid = step.record.xid;
-    must(
-        xid as usize == step.ledger.next_xid(),
-        "the xid is the next",
-    )?;
-    must(xid < XID_BOUND, "the xid is below 2^24")
+    step.changes_none()
+        .and(
+            xid as usize == step.ledger.next_xid(),
+            "the xid is the next",
+        )
+        .and(xid < XID_BOUND, "the xid is below 2^24")
+        .end()
 }
 
 /// A document that a committing transaction placed is whole, and indexed where that is asked.
 fn may_commit(step: &Step<'_>, doc: Doc) -> Result<(), Fault> {
     let head = need(head_of(step.store, doc), "a placed document has its slot")?;
-    let keys = whole_keys(step.alloc, step.store, head)?;
-    let keys = need(keys, "each placed document is whole")?;
-    if step.asks_index {
-        let indexed = is_indexed(step.alloc, step.store, &keys, doc.item)?;
-        must(indexed, "each placed document is indexed")?;
-    }
-    Ok(())
+    let keys = step.keys_of(head)?;
+    let asked = step.terms.asks_index;
+    let indexed = !asked || is_indexed(step.alloc, step.store, &keys, doc.item)?;
+    must(indexed, "each placed document is indexed")
 }
 
 /// 3 Commit, without its documents: the xid runs, the commit number is the next.
 pub(crate) fn commit_here(step: &Step<'_>, commit: u32) -> Result<(), Fault> {
-    step.changes_none()?;
-    step.must_run()?;
     let next = step.ledger.commits.checked_add(1);
-    must(next == Some(commit), "the commit number is the next")
+    step.changes_none()
+        .then(step.runs())
+        .and(next == Some(commit), "the commit number is the next")
+        .end()
 }
 
 /// 3 Commit: besides, each document that the xid placed is whole, and indexed where that is asked.
@@ -70,22 +68,20 @@ pub(crate) fn commit(step: &Step<'_>, commit: u32) -> Result<(), Fault> {
 
 /// 4 Abort: the xid runs; or it is 0, which ends every running transaction.
 pub(crate) fn abort(step: &Step<'_>) -> Result<(), Fault> {
-    step.changes_none()?;
+    let none = step.changes_none();
     if step.record.xid == 0 {
-        return Ok(());
+        none.end()
+    } else {
+        none.then(step.runs()).end()
     }
-    step.must_run()
 }
 
 /// 5 Checkpoint: the redo number is at least the last one, or 1 where there is none, and at most the record's own.
 pub(crate) fn checkpoint(step: &Step<'_>, redo: u64) -> Result<(), Fault> {
-    step.changes_none()?;
-    must(
-        redo >= step.ledger.redo,
-        "the redo number is at least the last one",
-    )?;
-    must(
-        redo <= step.record.number,
-        "the redo number is at most the record's own",
-    )
+    let rises = redo >= step.ledger.redo;
+    let within = redo <= step.record.number;
+    step.changes_none()
+        .and(rises, "the redo number is at least the last one")
+        .and(within, "the redo number is at most the record's own")
+        .end()
 }

@@ -31,7 +31,6 @@
 #![tactic(auto)]
 
 mod found;
-mod pages;
 mod query;
 mod replay;
 mod scan;
@@ -39,7 +38,6 @@ mod sought;
 mod words;
 
 pub use found::{WalkResult, found_in, told_wrong};
-pub use pages::{bytes_behind, changed_pages};
 pub use query::{Asked, Query, Tri};
 pub use replay::{Moment, Pin, Read, Reading, Snapshot, read_moments};
 pub use scan::{NoWalk, Posting, Scan, scan_pages};

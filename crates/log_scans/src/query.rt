@@ -2,7 +2,7 @@
 use std::alloc::{AllocError, Global};
 
 /// What is known of a key, or of a whole query.
-#[derive(Clone, Copy, Debug, PartialEq, Eq)]
+#[derive(Clone, Copy, PartialEq)]
 pub enum Tri {
     /// It isn't there; the query doesn't hold.
     False,
@@ -42,7 +42,7 @@ impl Tri {
 }
 
 /// What a query asks for.
-#[derive(Clone, Debug, PartialEq, Eq, Drop)]
+#[derive(Drop)]
 pub struct Asked {
     /// The key.
     pub key: Vec<u8>,
@@ -59,10 +59,25 @@ impl Asked {
             key == self.key.as_slice()
         }
     }
+
+    /// Whether it comes before another in key order, a key itself before those that begin with it.
+    pub(crate) fn is_before(&self, other: &Asked) -> bool {
+        self.key < other.key || self.key == other.key && !self.prefix && other.prefix
+    }
+
+    /// True where one of these keys serves, else this.
+    fn value(&self, keys: &[&[u8]], absent: Tri) -> Tri {
+        for key in keys {
+            if self.fits(key) {
+                return Tri::True;
+            }
+        }
+        absent
+    }
 }
 
 /// A step by which a query is judged, over a pile of what was found.
-#[derive(Clone, Copy, Debug)]
+#[derive(Clone, Copy)]
 pub(crate) enum Move {
     /// The value of the operand with this number comes on the pile.
     Operand(usize),
@@ -75,7 +90,7 @@ pub(crate) enum Move {
 }
 
 /// A query.
-#[derive(Debug, Drop)]
+#[derive(Drop)]
 pub struct Query {
     /// What it asks for, an operand each, in the order of the text.
     pub(crate) asked: Vec<Asked>,
@@ -83,23 +98,32 @@ pub struct Query {
     pub(crate) moves: Vec<Move>,
 }
 
-/// One move; it says whether so many values were there.
-fn make_move(pile: &mut Vec<Tri>, step: Move, values: &[Tri]) -> Result<bool, AllocError> {
-    let value = match step {
+/// The topmost value, turned.
+fn turned(pile: &mut Vec<Tri>) -> Option<Tri> {
+    Some(pile.pop()?.not())
+}
+
+/// The least of the two topmost values.
+fn least(pile: &mut Vec<Tri>) -> Option<Tri> {
+    let right = pile.pop()?;
+    let left = pile.pop()?;
+    Some(left.and(right))
+}
+
+/// The greatest of the two topmost values.
+fn greatest(pile: &mut Vec<Tri>) -> Option<Tri> {
+    let right = pile.pop()?;
+    let left = pile.pop()?;
+    Some(left.or(right))
+}
+
+/// The value of one move; none where not so many are there.
+fn made(pile: &mut Vec<Tri>, step: Move, values: &[Tri]) -> Option<Tri> {
+    match step {
         Move::Operand(place) => values.get(place).copied(),
-        Move::Not => pile.pop().map(|value| value.not()),
-        Move::And | Move::Or => match (pile.pop(), pile.pop()) {
-            (Some(right), Some(left)) if matches!(step, Move::And) => Some(left.and(right)),
-            (Some(right), Some(left)) => Some(left.or(right)),
-            _ => None,
-        },
-    };
-    match value {
-        None => Ok(false),
-        Some(value) => {
-            pile.push(value)?;
-            Ok(true)
-        }
+        Move::Not => turned(pile),
+        Move::And => least(pile),
+        Move::Or => greatest(pile),
     }
 }
 
@@ -117,8 +141,9 @@ impl Query {
     ) -> Result<Option<Tri>, AllocError> {
         let mut pile = Vec::new(alloc);
         for step in &self.moves {
-            if !make_move(&mut pile, *step, values)? {
-                return Ok(None);
+            match made(&mut pile, *step, values) {
+                Some(value) => pile.push(value)?,
+                None => return Ok(None),
             }
         }
         match pile.as_slice() {
@@ -127,34 +152,42 @@ impl Query {
         }
     }
 
-    /// What it is where an operand is True of which this holds, and each other is this.
-    pub fn judge<F: Fn(&Asked) -> bool>(
+    /// The operands, of which one is True where one of these keys serves, and each other is this.
+    pub(crate) fn values(
         &self,
         alloc: Global,
-        has: F,
+        keys: &[&[u8]],
         absent: Tri,
-    ) -> Result<Tri, AllocError>
-        requires { F.IsAlwaysCallable has }
-    {
+    ) -> Result<Vec<Tri>, AllocError> {
         let mut values = Vec::new(alloc);
         for asked in &self.asked {
-            values.push(if has(asked) { Tri::True } else { absent })?;
+            values.push(asked.value(keys, absent))?;
         }
-        Ok(self.try_judge(alloc, &values)?.unwrap_or(Tri::False))
+        Ok(values)
+    }
+
+    /// What it is where an operand is True for which one of these keys serves, and each other is this.
+    pub fn judge(&self, alloc: Global, keys: &[&[u8]], absent: Tri) -> Result<Tri, AllocError> {
+        let values = self.values(alloc, keys, absent)?;
+        match self.try_judge(alloc, &values)? {
+            Some(value) => Ok(value),
+            None => Ok(Tri::False),
+        }
     }
 
     /// Whether a document without any of its keys may satisfy it, so that the whole index is read.
     pub fn needs_all(&self, alloc: Global) -> Result<bool, AllocError> {
-        Ok(self.judge(alloc, |_| false, Tri::False)? != Tri::False)
+        let value = self.judge(alloc, &[], Tri::False)?;
+        Ok(value != Tri::False)
     }
 
     /// Whether it holds of a document with these keys.
     pub fn holds(&self, alloc: Global, keys: &[Vec<u8>]) -> Result<bool, AllocError> {
-        let value = self.judge(
-            alloc,
-            |asked| keys.iter().any(|key| asked.fits(key)),
-            Tri::False,
-        )?;
+        let mut all = Vec::new(alloc);
+        for key in keys {
+            all.push(key.as_slice())?;
+        }
+        let value = self.judge(alloc, &all, Tri::False)?;
         Ok(value == Tri::True)
     }
 }

@@ -1,12 +1,13 @@
 // Pages as they were read at moments of a log.
-use crate::pages::{bytes_behind, changed_pages};
-use log_rows::{Step, row};
-use log_walks::{Doc, Fault, Ledger, PlainPage, Store, head_of, must, whole_keys};
-use page_types::{Kind, PageBytes, Record};
+use log_rows::{Step, Terms, row};
+use log_walks::{
+    Doc, Fault, Ledger, LeftBytes, LeftPage, PlainPage, Store, head_of, must, page_in, whole_keys,
+};
+use page_types::{Kind, Record};
 use std::alloc::{AllocError, Global};
 
 /// A snapshot, and when it was taken.
-#[derive(Clone, Copy, Debug)]
+#[derive(Clone, Copy)]
 pub struct Pin {
     /// It has so many first commits.
     pub commits: u32,
@@ -15,7 +16,7 @@ pub struct Pin {
 }
 
 /// When a page was read.
-#[derive(Clone, Copy, Debug)]
+#[derive(Clone, Copy)]
 pub struct Moment {
     /// The log had so many records.
     pub length: u64,
@@ -24,7 +25,7 @@ pub struct Moment {
 }
 
 /// A page as it was read.
-#[derive(Debug, Drop)]
+#[derive(Drop)]
 pub struct Read {
     /// Its number.
     pub page: u32,
@@ -33,7 +34,7 @@ pub struct Read {
 }
 
 /// A document that the snapshot has, and its keys.
-#[derive(Debug, Drop)]
+#[derive(Drop)]
 pub struct Snapshot {
     /// The document.
     pub doc: Doc,
@@ -42,7 +43,7 @@ pub struct Snapshot {
 }
 
 /// The pages that were read from a pin, and the documents of its snapshot.
-#[derive(Debug, Drop)]
+#[derive(Drop)]
 pub struct Reading {
     /// The pages, in the order of reading.
     pub reads: Vec<Read>,
@@ -77,70 +78,79 @@ impl Replay {
 
     /// The pages that a record leaves, where it may follow with the pin's commits as floor, and past the pin without a
     /// page that was deleted since.
-    fn pages_behind(
-        &self,
-        record: &Record,
-        bytes: &[(u32, PageBytes)],
-    ) -> Result<Vec<(u32, PlainPage)>, Fault> {
-        let step = Step {
-            alloc: self.alloc,
-            store: &self.store,
-            ledger: &self.ledger,
-            record,
-            changed: changed_pages(self.alloc, &self.store, record.number, bytes)?,
+    fn pages_behind(&self, record: &Record, bytes: &[LeftBytes]) -> Result<Vec<LeftPage>, Fault> {
+        let terms = Terms {
             floor: self.pin.commits,
             since: self.since(record.number),
             asks_index: true,
         };
+        let step = Step::new(self.alloc, &self.store, &self.ledger, record, bytes, terms)?;
         row(&step)?;
-        let mut left = Vec::new(self.alloc);
-        for change in step.changed {
-            left.push((change.page, change.left))?;
+        Ok(step.into_left()?)
+    }
+
+    /// The keys of a document that is whole.
+    fn keys_of(&self, doc: Doc) -> Result<Option<Vec<Vec<u8>>>, AllocError> {
+        match head_of(&self.store, doc) {
+            Some(head) => whole_keys(self.alloc, &self.store, head),
+            None => Ok(None),
         }
-        Ok(left)
     }
 
     /// A document comes to the snapshot.
     fn insert(&mut self, doc: Doc) -> Result<(), AllocError> {
-        if let Some(head) = head_of(&self.store, doc) {
-            if let Some(keys) = whole_keys(self.alloc, &self.store, head)? {
-                self.docs.push(Snapshot { doc, keys })?;
-            }
+        if let Some(keys) = self.keys_of(doc)? {
+            self.docs.push(Snapshot { doc, keys })?;
         }
         Ok(())
     }
 
-    /// A transaction commits: what it deleted leaves the snapshot, what it inserted comes to it.
-    fn commit(&mut self, xid: u32) -> Result<(), AllocError> {
-        let mut placed = Vec::new(self.alloc);
+    /// The documents that a transaction placed.
+    fn placed_by(&self, xid: u32) -> Result<Vec<Doc>, AllocError> {
+        match self.ledger.transaction(xid) {
+            Some(transaction) => Vec::from_slice(self.alloc, &transaction.placed),
+            None => Ok(Vec::new(self.alloc)),
+        }
+    }
+
+    /// The documents that a transaction marked leave the snapshot.
+    fn remove_marked(&mut self, xid: u32) {
         if let Some(transaction) = self.ledger.transaction(xid) {
             let marked = &transaction.marked;
             self.docs.retain(|known| !marked.contains(&known.doc));
-            placed.extend_from_slice(&transaction.placed)?;
         }
-        for doc in &placed {
+    }
+
+    /// A transaction commits: what it deleted leaves the snapshot, what it inserted comes to it.
+    fn commit(&mut self, xid: u32) -> Result<(), AllocError> {
+        self.remove_marked(xid);
+        for doc in &self.placed_by(xid)? {
             self.insert(*doc)?;
         }
         Ok(())
     }
 
+    /// The snapshot with what a record commits.
+    fn note_commit(&mut self, record: &Record) -> Result<(), AllocError> {
+        match record.kind {
+            Kind::Commit { commit } if commit <= self.pin.commits => self.commit(record.xid),
+            _ => Ok(()),
+        }
+    }
+
+    /// The next record comes, which leaves these pages.
+    fn put(&mut self, record: &Record, pages: Vec<LeftPage>) -> Result<(), AllocError> {
+        self.note_commit(record)?;
+        self.ledger.note(self.alloc, record)?;
+        self.store.put_pages(pages)
+    }
+
     /// The next record comes.
     fn follow(&mut self, record: &Record) -> Result<(), Fault> {
-        let bytes = bytes_behind(self.alloc, &self.store, record)?;
+        let bytes = self.store.bytes_behind(self.alloc, record)?;
         let pages = self.pages_behind(record, &bytes)?;
-        if let Kind::Commit { commit } = record.kind {
-            if commit <= self.pin.commits {
-                self.commit(record.xid)?;
-            }
-        }
-        self.ledger.note(self.alloc, record)?;
-        for (page, left) in pages {
-            self.store.put(page, left)?;
-        }
-        for (page, bytes) in bytes {
-            self.store.put_bytes(page, bytes)?;
-        }
-        Ok(())
+        self.put(record, pages)?;
+        Ok(self.store.put_bytes(bytes)?)
     }
 
     /// The next record comes, which keeps the pin.
@@ -162,13 +172,39 @@ impl Replay {
         Ok(())
     }
 
-    /// A page as it is now.
-    fn read(&self, page: u32) -> Result<Read, AllocError> {
-        let left = match self.store.page(page) {
-            Some(left) => Some(left.clone()?),
-            None => None,
-        };
-        Ok(Read { page, left })
+    /// What a page shows now.
+    fn shown(&self, page: u32) -> Result<Option<PlainPage>, Fault> {
+        match self.store.bytes(page) {
+            Some(bytes) => Ok(Some(page_in(self.alloc, bytes)?)),
+            None => Ok(None),
+        }
+    }
+
+    /// A page as it is at a moment, which isn't past.
+    fn read(&mut self, records: &[Record], moment: Moment) -> Result<Read, Fault> {
+        let later = moment.length >= self.ledger.records;
+        must(later, "the moments don't go back")?;
+        self.go_to(records, moment.length)?;
+        Ok(Read {
+            page: moment.page,
+            left: self.shown(moment.page)?,
+        })
+    }
+
+    /// The pages as they are at these moments.
+    fn read_all(&mut self, records: &[Record], moments: &[Moment]) -> Result<Vec<Read>, Fault> {
+        let mut reads = Vec::new(self.alloc);
+        for moment in moments {
+            reads.push(self.read(records, *moment)?)?;
+        }
+        Ok(reads)
+    }
+
+    /// The log gets the pin's length, within which its commits are.
+    fn go_to_pin(&mut self, records: &[Record]) -> Result<(), Fault> {
+        self.go_to(records, self.pin.length)?;
+        let within = self.pin.commits <= self.ledger.commits;
+        must(within, "the pin's commits stand within its length")
     }
 }
 
@@ -187,22 +223,8 @@ pub fn read_moments(
         ledger: Ledger::new(alloc),
         docs: Vec::new(alloc),
     };
-    replay.go_to(records, pin.length)?;
-    must(
-        pin.commits <= replay.ledger.commits,
-        "the pin's commits stand within its length",
-    )?;
-    let mut reads = Vec::new(alloc);
-    for moment in moments {
-        must(
-            moment.length >= replay.ledger.records,
-            "the moments don't go back",
-        )?;
-        replay.go_to(records, moment.length)?;
-        reads.push(replay.read(moment.page)?)?;
-    }
-    Ok(Reading {
-        reads,
-        docs: replay.docs,
-    })
+    replay.go_to_pin(records)?;
+    let reads = replay.read_all(records, moments)?;
+    let docs = replay.docs;
+    Ok(Reading { reads, docs })
 }

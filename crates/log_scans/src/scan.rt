@@ -2,12 +2,13 @@
 use crate::replay::Read;
 use crate::sought::Sought;
 use log_walks::{
-    META, PlainBody, PlainChild, PlainEntry, PlainPage, PlainPostings, PlainRow, ROOT,
+    META, PlainBody, PlainChild, PlainEntry, PlainPostings, PlainRow, ROOT, entries_in, rows_in,
 };
+use page_types::PostChild;
 use std::alloc::{AllocError, AllocFailed, Global};
 
 /// Why there is no walk.
-#[derive(Clone, Copy, Debug)]
+#[derive(Clone, Copy)]
 pub enum NoWalk {
     /// Memory ran out.
     OutOfMemory,
@@ -28,7 +29,7 @@ impl<T: Drop> From<AllocFailed<T>> for NoWalk {
 }
 
 /// The items that were read under a key.
-#[derive(Debug, Drop)]
+#[derive(Drop)]
 pub struct Posting<'a> {
     /// The key.
     pub key: &'a [u8],
@@ -37,7 +38,7 @@ pub struct Posting<'a> {
 }
 
 /// What a walk has read.
-#[derive(Debug, Drop)]
+#[derive(Drop)]
 pub struct Scan<'a> {
     /// The rows on the pending pages, in order.
     pub rows: Vec<&'a PlainRow>,
@@ -65,7 +66,10 @@ fn live(read: &Read) -> Option<&PlainBody> {
 
 /// The page's right link.
 fn right(read: &Read) -> u32 {
-    read.left.as_ref().map_or(0, |page| page.right)
+    match &read.left {
+        Some(page) => page.right,
+        None => 0,
+    }
 }
 
 /// The metapage's first pending page, or 0.
@@ -78,15 +82,16 @@ fn first_pending(read: &Read) -> u32 {
 
 /// The rows of a pending page, which keeps them when it is deleted.
 fn rows(read: &Read) -> &[PlainRow] {
-    match read.left.as_ref() {
-        Some(
-            PlainPage {
-                body: PlainBody::Pending(rows),
-                ..
-            },
-        ) => rows,
-        _ => &[],
+    match &read.left {
+        Some(page) => rows_in(Some(&page.body)),
+        None => &[],
     }
+}
+
+/// The item of the first row on the first of these pages.
+fn first_item(pages: &[&Read]) -> Option<u32> {
+    let read = pages.first()?;
+    Some(rows(read).first()?.item)
 }
 
 /// Whether a key may be where this is the bound; no bytes: there is none.
@@ -96,8 +101,12 @@ fn is_within(key: &[u8], bound: &[u8]) -> bool {
 
 /// The child for a key, or the right link where the key is past all bounds.
 fn child_for(key: &[u8], children: &[PlainChild], right: u32) -> u32 {
-    let child = children.iter().find(|child| is_within(key, &child.bound));
-    child.map_or(right, |child| child.page)
+    for child in children {
+        if is_within(key, &child.bound) {
+            return child.page;
+        }
+    }
+    right
 }
 
 /// The page that comes next on the way to a key's leaf; 0 at that leaf.
@@ -109,37 +118,55 @@ fn toward(key: &[u8], read: &Read) -> u32 {
     }
 }
 
+/// The first of the children, or 0.
+fn first_child(children: &[PostChild]) -> u32 {
+    match children.first() {
+        Some(child) => child.page,
+        None => 0,
+    }
+}
+
 /// The page that comes next in a posting tree: the first child, or the right link of a leaf, also of a deleted page.
 fn along(read: &Read) -> u32 {
     match live(read) {
-        Some(PlainBody::PostInner(children)) => children.first().map_or(0, |child| child.page),
-        Some(PlainBody::PostLeaf { .. }) => right(read),
+        Some(PlainBody::PostInner(children)) => first_child(children),
+        Some(PlainBody::PostLeaf { .. }) | None => right(read),
         Some(_) => 0,
-        None => right(read),
     }
 }
 
 /// The leaf where more keys may be found, or 0.
-fn beyond(sought: &Sought, read: &Read) -> u32 {
+fn beyond(sought: Sought<'_>, read: &Read) -> u32 {
     match live(read) {
         Some(PlainBody::EntryLeaf { high, .. }) if sought.goes_beyond(high) => right(read),
         _ => 0,
     }
 }
 
-/// The entries of a leaf.
-fn entries(read: &Read) -> &[PlainEntry] {
-    match live(read) {
-        Some(PlainBody::EntryLeaf { entries, .. }) => entries,
-        _ => &[],
-    }
-}
-
-/// The items of a posting leaf.
+/// The items of a posting leaf; of another page none.
 fn items(read: &Read) -> &[u32] {
     match live(read) {
         Some(PlainBody::PostLeaf { items, .. }) => items,
         _ => &[],
+    }
+}
+
+/// Where pages lead.
+#[derive(Clone, Copy)]
+enum Way {
+    /// By their right links.
+    Right,
+    /// In a posting tree.
+    Along,
+}
+
+impl Way {
+    /// The page that comes next, or 0.
+    fn next(self, read: &Read) -> u32 {
+        match self {
+            Way::Right => right(read),
+            Way::Along => along(read),
+        }
     }
 }
 
@@ -166,9 +193,7 @@ impl<'a> Steps<'a> {
     }
 
     /// The pages from this one on, each of which leads to the next, up to 0.
-    fn follow<F: Fn(&Read) -> u32>(&mut self, first: u32, next: F) -> Result<Vec<&'a Read>, NoWalk>
-        requires { F.IsAlwaysCallable next }
-    {
+    fn follow(&mut self, first: u32, way: Way) -> Result<Vec<&'a Read>, NoWalk> {
         let mut all = Vec::new(self.alloc);
         let mut page = first;
         // Each turn takes a read, or there is none.
@@ -178,33 +203,36 @@ impl<'a> Steps<'a> {
             }
             let read = self.take(page)?;
             all.push(read)?;
-            page = next(read);
+            page = way.next(read);
+        }
+        Ok(all)
+    }
+
+    /// The items of a posting tree, whose pages are read then.
+    fn tree_items(&mut self, root: u32) -> Result<Vec<u32>, NoWalk> {
+        let mut all = Vec::new(self.alloc);
+        for read in &self.follow(root, Way::Along)? {
+            all.extend_from_slice(items(read))?;
         }
         Ok(all)
     }
 
     /// The items of an entry: in it, or on the pages of its posting tree, which are read then.
     fn items_of(&mut self, entry: &PlainEntry) -> Result<Vec<u32>, NoWalk> {
-        let mut all = Vec::new(self.alloc);
         match &entry.postings {
-            PlainPostings::Inline(items) => all.extend_from_slice(items)?,
-            PlainPostings::Root(root) => {
-                for read in &self.follow(*root, along)? {
-                    all.extend_from_slice(items(read))?;
-                }
-            }
+            PlainPostings::Inline(items) => Ok(Vec::from_slice(self.alloc, items)?),
+            PlainPostings::Root(root) => self.tree_items(*root),
         }
-        Ok(all)
     }
 
     /// The entries of a leaf that are sought.
     fn leaf(
         &mut self,
-        sought: &Sought,
+        sought: Sought<'_>,
         leaf: &'a Read,
         postings: &mut Vec<Posting<'a>>,
     ) -> Result<(), NoWalk> {
-        for entry in entries(leaf) {
+        for entry in entries_in(live(leaf)) {
             if sought.fits(&entry.key) {
                 let items = self.items_of(entry)?;
                 let key = entry.key.as_slice();
@@ -215,7 +243,7 @@ impl<'a> Steps<'a> {
     }
 
     /// From the root of the tree of keys to the leaf where the sought ones begin.
-    fn down(&mut self, sought: &Sought) -> Result<&'a Read, NoWalk> {
+    fn down(&mut self, sought: Sought<'_>) -> Result<&'a Read, NoWalk> {
         let mut page = ROOT;
         for _ in 0..self.reads.len() {
             let read = self.take(page)?;
@@ -228,7 +256,11 @@ impl<'a> Steps<'a> {
     }
 
     /// All leaves for what is sought.
-    fn leaves(&mut self, sought: &Sought, postings: &mut Vec<Posting<'a>>) -> Result<(), NoWalk> {
+    fn leaves(
+        &mut self,
+        sought: Sought<'_>,
+        postings: &mut Vec<Posting<'a>>,
+    ) -> Result<(), NoWalk> {
         let mut leaf = self.down(sought)?;
         // Each turn has a leaf that was read.
         for _ in 0..self.reads.len() {
@@ -243,37 +275,52 @@ impl<'a> Steps<'a> {
     }
 }
 
+/// The rows on these pages, in order.
+fn all_rows<'a>(alloc: Global, pages: &[&'a Read]) -> Result<Vec<&'a PlainRow>, AllocError> {
+    let mut all = Vec::new(alloc);
+    for read in pages {
+        for row in rows(read) {
+            all.push(row)?;
+        }
+    }
+    Ok(all)
+}
+
+impl<'a> Steps<'a> {
+    /// The pending pages, after the metapage.
+    fn pending(&mut self) -> Result<Vec<&'a Read>, NoWalk> {
+        let meta = self.take(META)?;
+        self.follow(first_pending(meta), Way::Right)
+    }
+
+    /// What was read under the keys that are sought, one after another, and nothing else after them.
+    fn all_leaves(&mut self, all: &[Sought<'_>]) -> Result<Vec<Posting<'a>>, NoWalk> {
+        let mut postings = Vec::new(self.alloc);
+        for sought in all {
+            self.leaves(*sought, &mut postings)?;
+        }
+        self.end()?;
+        Ok(postings)
+    }
+}
+
 /// What was read, where that is a walk: the metapage, the pending pages, and then the leaves for all that is sought,
 /// one after another, with their posting trees.
 pub fn scan_pages<'a>(
     alloc: Global,
     reads: &'a [Read],
-    all: &[Sought],
+    all: &[Sought<'_>],
 ) -> Result<Scan<'a>, NoWalk> {
     let mut steps = Steps {
         alloc,
         reads,
         taken: 0,
     };
-    let meta = steps.take(META)?;
-    let pending = steps.follow(first_pending(meta), right)?;
-    let mut found = Vec::new(alloc);
-    for read in &pending {
-        for row in rows(read) {
-            found.push(row)?;
-        }
-    }
-    let first = pending
-        .first()
-        .and_then(|read| rows(read).first().map(|row| row.item));
-    let mut postings = Vec::new(alloc);
-    for sought in all {
-        steps.leaves(sought, &mut postings)?;
-    }
-    steps.end()?;
+    let pending = steps.pending()?;
+    let postings = steps.all_leaves(all)?;
     Ok(Scan {
-        rows: found,
-        first,
+        rows: all_rows(alloc, &pending)?,
+        first: first_item(&pending),
         postings,
     })
 }

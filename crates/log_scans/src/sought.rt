@@ -3,17 +3,17 @@ use crate::query::{Asked, Query};
 use std::alloc::{AllocError, Global};
 
 /// What a walk looks for in the trees, one after another.
-#[derive(Clone, Debug, PartialEq, Eq, Drop)]
-pub enum Sought {
+#[derive(Clone, Copy)]
+pub enum Sought<'a> {
     /// The whole index.
     Whole,
     /// What a query asks for.
-    Key(Asked),
+    Key(&'a Asked),
 }
 
-impl Sought {
+impl<'a> Sought<'a> {
     /// The key at whose leaf it begins.
-    pub fn first(&self) -> &[u8] {
+    pub fn first(self) -> &'a [u8] {
         match self {
             Sought::Whole => &[],
             Sought::Key(asked) => asked.key.as_slice(),
@@ -21,7 +21,7 @@ impl Sought {
     }
 
     /// Whether it looks for a key.
-    pub fn fits(&self, key: &[u8]) -> bool {
+    pub fn fits(self, key: &[u8]) -> bool {
         match self {
             Sought::Whole => true,
             Sought::Key(asked) => asked.fits(key),
@@ -29,7 +29,7 @@ impl Sought {
     }
 
     /// Whether it may go on after a leaf with this high key.
-    pub fn goes_beyond(&self, high: &[u8]) -> bool {
+    pub fn goes_beyond(self, high: &[u8]) -> bool {
         match self {
             Sought::Whole => true,
             Sought::Key(asked) => asked.prefix && (high.is_empty() || asked.fits(high)),
@@ -37,40 +37,54 @@ impl Sought {
     }
 }
 
-/// Each different one once.
-fn once(alloc: Global, all: &[Asked]) -> Result<Vec<Asked>, AllocError> {
-    let mut some: Vec<Asked> = Vec::new(alloc);
-    for asked in all {
-        if !some.contains(asked) {
-            some.push(asked.clone()?)?;
+/// Whether one comes after another, if there is one.
+fn is_behind(one: &Asked, other: Option<&Asked>) -> bool {
+    match other {
+        Some(other) => other.is_before(one),
+        None => true,
+    }
+}
+
+/// Whether one comes before another, if there is one.
+fn is_in_front(one: &Asked, other: Option<&Asked>) -> bool {
+    match other {
+        Some(other) => one.is_before(other),
+        None => true,
+    }
+}
+
+/// The first after the last one.
+fn next<'a>(all: &'a [Asked], last: Option<&Asked>) -> Option<&'a Asked> {
+    let mut first = None;
+    for one in all {
+        if is_behind(one, last) && is_in_front(one, first) {
+            first = Some(one);
         }
     }
-    Ok(some)
+    first
+}
+
+/// Each key that a query asks for once, in key order, and of one key itself before those that begin with it.
+fn sought_keys(alloc: Global, asked: &[Asked]) -> Result<Vec<Sought<'_>>, AllocError> {
+    let mut all = Vec::new(alloc);
+    let mut last = None;
+    for _ in 0..asked.len() {
+        let Some(first) = next(asked, last) else {
+            break;
+        };
+        all.push(Sought::Key(first))?;
+        last = Some(first);
+    }
+    Ok(all)
 }
 
 /// What a walk for a query looks for: the whole index where the query needs that, else each key that it asks for once,
 /// in key order, and of one key itself before those that begin with it.
-pub fn all_sought(alloc: Global, query: &Query) -> Result<Vec<Sought>, AllocError> {
-    let mut all = Vec::new(alloc);
+pub fn all_sought(alloc: Global, query: &Query) -> Result<Vec<Sought<'_>>, AllocError> {
     if query.needs_all(alloc)? {
+        let mut all = Vec::new(alloc);
         all.push(Sought::Whole)?;
         return Ok(all);
     }
-    let mut rest = once(alloc, query.asked())?;
-    // One is taken at a time: the first.
-    for _ in 0..rest.len() {
-        let mut first = 0usize;
-        for (place, asked) in rest.iter().enumerate() {
-            let before = rest.get(first).is_some_and(|least| {
-                asked.key < least.key || asked.key == least.key && !asked.prefix
-            });
-            if before {
-                first = place;
-            }
-        }
-        if first < rest.len() {
-            all.push(Sought::Key(rest.remove(first)))?;
-        }
-    }
-    Ok(all)
+    sought_keys(alloc, query.asked())
 }

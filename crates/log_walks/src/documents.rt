@@ -1,5 +1,5 @@
 // Documents: their heads, their chains and their keys.
-use crate::plain::{PlainBody, PlainHead};
+use crate::plain::{PlainBody, PlainHead, slots_in};
 use crate::store::Store;
 use crate::vector::keys_of;
 use page_types::MOST_SHORT_BYTES;
@@ -10,7 +10,7 @@ use std::fmt;
 const ITEMS_OF_A_PAGE: u32 = 2048;
 
 /// A document as a record names it.
-#[derive(Clone, Copy, Debug, PartialEq, Eq)]
+#[derive(Clone, Copy, PartialEq)]
 pub struct Doc {
     /// The item of its slot.
     pub item: u32,
@@ -45,57 +45,56 @@ pub fn item_at(page: u32, slot: usize) -> u32 {
     page.saturating_mul(ITEMS_OF_A_PAGE).saturating_add(slot)
 }
 
-/// The slots of a live heap page.
-pub fn slots_of(store: &Store, page: u32) -> Option<&Vec<Option<PlainHead>>> {
-    match store.page(page)?.live()? {
-        PlainBody::Heap(slots) => Some(slots),
-        _ => None,
-    }
-}
-
-/// The document whose head is in the item's slot, and the head.
-pub fn document_at(store: &Store, item: u32) -> Option<(Doc, &PlainHead)> {
+/// The head in the item's slot.
+pub fn head_at(store: &Store, item: u32) -> Option<&PlainHead> {
     let place = Doc { item, serial: 0 };
-    let head = slots_of(store, place.page())?.get(place.slot())?.as_ref()?;
-    let serial = head.fields.serial;
-    Some((Doc { item, serial }, head))
+    slots_in(store.live(place.page()))
+        .get(place.slot())?
+        .as_ref()
 }
 
 /// The document's head.
 pub fn head_of(store: &Store, doc: Doc) -> Option<&PlainHead> {
-    let (found, head) = document_at(store, doc.item)?;
-    if found == doc { Some(head) } else { None }
+    let head = head_at(store, doc.item)?;
+    if head.fields.serial == doc.serial {
+        Some(head)
+    } else {
+        None
+    }
 }
 
-/// The pages from the first along right links; none where these go in a circle.
-pub fn chain(alloc: Global, store: &Store, first: u32) -> Result<Option<Vec<u32>>, AllocError> {
-    let mut pages = Vec::new(alloc);
-    let mut page = first;
-    // The last page may be an unused one.
-    for _ in 0..store.count().saturating_add(2) {
-        if page == 0 {
-            return Ok(Some(pages));
-        }
-        pages.push(page)?;
-        page = store.page(page).map_or(0, |page| page.right);
+/// The part of a vector on a live overflow page; of another page no bytes.
+fn part_on(store: &Store, page: u32) -> &[u8] {
+    match store.live(page) {
+        Some(PlainBody::Overflow(part)) => part,
+        _ => &[],
     }
-    Ok(None)
 }
 
 /// The bytes that are on the overflow pages from the first on; none where these go in a circle.
 fn overflow_bytes(alloc: Global, store: &Store, first: u32) -> Result<Option<Vec<u8>>, AllocError> {
     let mut bytes = Vec::new(alloc);
-    match chain(alloc, store, first)? {
-        None => Ok(None),
-        Some(pages) => {
-            for page in &pages {
-                let live = store.page(*page).and_then(|page| page.live());
-                if let Some(PlainBody::Overflow(part)) = live {
-                    bytes.extend_from_slice(part)?;
-                }
-            }
-            Ok(Some(bytes))
+    let mut page = first;
+    for _ in 0..store.most_in_line() {
+        if page == 0 {
+            return Ok(Some(bytes));
         }
+        bytes.extend_from_slice(part_on(store, page))?;
+        page = store.right(page);
+    }
+    Ok(None)
+}
+
+/// The keys of a vector that has these bytes, and as many as its head says; else none.
+fn keys_in_size(
+    alloc: Global,
+    bytes: &[u8],
+    size: u32,
+) -> Result<Option<Vec<Vec<u8>>>, AllocError> {
+    if bytes.len() == size as usize {
+        keys_of(alloc, bytes)
+    } else {
+        Ok(None)
     }
 }
 
@@ -105,16 +104,12 @@ pub fn whole_keys(
     store: &Store,
     head: &PlainHead,
 ) -> Result<Option<Vec<Vec<u8>>>, AllocError> {
-    let size = head.fields.bytes as usize;
-    if head.fields.bytes <= MOST_SHORT_BYTES {
-        return if head.vector.len() == size {
-            keys_of(alloc, &head.vector)
-        } else {
-            Ok(None)
-        };
+    let size = head.fields.bytes;
+    if size <= MOST_SHORT_BYTES {
+        return keys_in_size(alloc, &head.vector, size);
     }
     match overflow_bytes(alloc, store, head.fields.overflow)? {
-        Some(bytes) if bytes.len() == size => keys_of(alloc, &bytes),
-        _ => Ok(None),
+        Some(bytes) => keys_in_size(alloc, &bytes, size),
+        None => Ok(None),
     }
 }

@@ -4,7 +4,7 @@ use page_types::{Kind, Record};
 use std::alloc::{AllocError, Global};
 
 /// What became of a transaction.
-#[derive(Clone, Copy, Debug, PartialEq, Eq)]
+#[derive(Clone, Copy, PartialEq)]
 pub enum Fate {
     /// Its xid was not drawn.
     Unused,
@@ -17,7 +17,7 @@ pub enum Fate {
 }
 
 /// A transaction that has begun.
-#[derive(Debug, Drop)]
+#[derive(Drop)]
 pub struct Transaction {
     /// What became of it.
     pub fate: Fate,
@@ -27,8 +27,29 @@ pub struct Transaction {
     pub marked: Vec<Doc>,
 }
 
+impl Transaction {
+    /// It placed the document.
+    fn place(&mut self, doc: Doc) -> Result<(), AllocError> {
+        Ok(self.placed.push(doc)?)
+    }
+
+    /// It marked the document deleted.
+    fn mark(&mut self, doc: Doc) -> Result<(), AllocError> {
+        Ok(self.marked.push(doc)?)
+    }
+
+    /// Whether its end makes the document dead, where the first `floor` commits count.
+    fn ends_life(&self, doc: Doc, floor: u32) -> bool {
+        match self.fate {
+            Fate::Aborted => self.placed.contains(&doc),
+            Fate::Committed(commit) => commit <= floor && self.marked.contains(&doc),
+            _ => false,
+        }
+    }
+}
+
 /// The transactions of a log, and the numbers that come next.
-#[derive(Debug, Drop)]
+#[derive(Drop)]
 pub struct Ledger {
     /// The transactions: that with xid 1 first.
     pub transactions: Vec<Transaction>,
@@ -81,21 +102,23 @@ impl Ledger {
     /// Whether the document is dead: the transaction that placed it was aborted, or one that marked it is among the
     /// first `floor` commits.
     pub fn is_dead(&self, doc: Doc, floor: u32) -> bool {
-        self.transactions
-            .iter()
-            .any(|transaction| match transaction.fate {
-                Fate::Aborted => transaction.placed.contains(&doc),
-                Fate::Committed(commit) => commit <= floor && transaction.marked.contains(&doc),
-                _ => false,
-            })
+        for transaction in &self.transactions {
+            if transaction.ends_life(doc, floor) {
+                return true;
+            }
+        }
+        false
+    }
+
+    /// The transaction with this xid.
+    fn transaction_mut(&mut self, xid: u32) -> Option<&mut Transaction> {
+        self.transactions.get_mut(place_of(xid)?)
     }
 
     /// The transaction with this xid ends so.
     fn end(&mut self, xid: u32, fate: Fate) {
-        if let Some(place) = place_of(xid) {
-            if let Some(transaction) = self.transactions.get_mut(place) {
-                transaction.fate = fate;
-            }
+        if let Some(transaction) = self.transaction_mut(xid) {
+            transaction.fate = fate;
         }
     }
 
@@ -121,20 +144,45 @@ impl Ledger {
     /// The transaction placed the document.
     fn place(&mut self, xid: u32, doc: Doc) -> Result<(), AllocError> {
         self.next_serial = self.next_serial.saturating_add(1);
-        if let Some(place) = place_of(xid) {
-            if let Some(transaction) = self.transactions.get_mut(place) {
-                transaction.placed.push(doc)?;
-            }
+        match self.transaction_mut(xid) {
+            Some(transaction) => transaction.place(doc),
+            None => Ok(()),
         }
-        Ok(())
     }
 
     /// The transaction marked the document deleted.
     fn mark(&mut self, xid: u32, doc: Doc) -> Result<(), AllocError> {
-        if let Some(place) = place_of(xid) {
-            if let Some(transaction) = self.transactions.get_mut(place) {
-                transaction.marked.push(doc)?;
-            }
+        match self.transaction_mut(xid) {
+            Some(transaction) => transaction.mark(doc),
+            None => Ok(()),
+        }
+    }
+
+    /// The transaction commits.
+    fn commit(&mut self, xid: u32, commit: u32) {
+        self.commits = self.commits.saturating_add(1);
+        self.end(xid, Fate::Committed(commit));
+    }
+
+    /// The transaction is aborted; with the xid 0 each that runs.
+    fn abort(&mut self, xid: u32) {
+        if xid == 0 {
+            self.abort_all();
+        } else {
+            self.end(xid, Fate::Aborted);
+        }
+    }
+
+    /// What a valid record says of its transaction.
+    fn note_kind(&mut self, alloc: Global, xid: u32, kind: Kind) -> Result<(), AllocError> {
+        match kind {
+            Kind::Begin => return self.begin(alloc),
+            Kind::Commit { commit } => self.commit(xid, commit),
+            Kind::Abort => self.abort(xid),
+            Kind::Checkpoint { redo } => self.redo = redo,
+            Kind::PlaceHead { item, serial } => return self.place(xid, Doc { item, serial }),
+            Kind::MarkDeleted { item, serial } => return self.mark(xid, Doc { item, serial }),
+            _ => {}
         }
         Ok(())
     }
@@ -142,19 +190,6 @@ impl Ledger {
     /// The ledger with a valid record more.
     pub fn note(&mut self, alloc: Global, record: &Record) -> Result<(), AllocError> {
         self.records = self.records.saturating_add(1);
-        match record.kind {
-            Kind::Begin => self.begin(alloc)?,
-            Kind::Commit { commit } => {
-                self.commits = self.commits.saturating_add(1);
-                self.end(record.xid, Fate::Committed(commit));
-            }
-            Kind::Abort if record.xid == 0 => self.abort_all(),
-            Kind::Abort => self.end(record.xid, Fate::Aborted),
-            Kind::Checkpoint { redo } => self.redo = redo,
-            Kind::PlaceHead { item, serial } => self.place(record.xid, Doc { item, serial })?,
-            Kind::MarkDeleted { item, serial } => self.mark(record.xid, Doc { item, serial })?,
-            _ => {}
-        }
-        Ok(())
+        self.note_kind(alloc, record.xid, record.kind)
     }
 }

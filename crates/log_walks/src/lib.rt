@@ -17,13 +17,16 @@ mod showing;
 mod store;
 mod vector;
 
-pub use documents::{Doc, chain, document_at, head_of, item_at, slots_of, whole_keys};
-pub use fault::{Fault, must, need};
+pub use documents::{Doc, head_at, head_of, item_at, whole_keys};
+pub use fault::{Fault, Rules, must, need};
 pub use index::{
-    META, ROOT, all_in_main, entries, has_no_pair, has_row, in_rows, is_indexed, line, linked_rows,
-    page_for_item, page_for_key, posting_items, root_of, rows_of, rows_on,
+    Line, META, ROOT, all_in_main, are_pending, first_pending, has_no_pair, has_row, has_rows_from,
+    is_indexed, line_from, page_for_item, page_for_key, root_of,
 };
 pub use ledger::{Fate, Ledger, Transaction};
 pub use log::{LogError, read_log};
-pub use plain::{PlainBody, PlainChild, PlainEntry, PlainHead, PlainPage, PlainPostings, PlainRow};
-pub use store::{Store, page_in};
+pub use plain::{
+    KeyLeaf, PlainBody, PlainChild, PlainEntry, PlainHead, PlainPage, PlainPostings, PlainRow,
+    PostLeaf, entries_in, key_leaf_in, post_leaf_in, rows_in, slots_in,
+};
+pub use store::{LeftBytes, LeftPage, Store, left_page, page_in};

@@ -13,7 +13,7 @@ const MOST_UNCREATED: usize = 17;
 const OPEN: u8 = 1;
 
 /// Why no records were read.
-#[derive(Clone, Copy, Debug)]
+#[derive(Clone, Copy)]
 pub enum LogError {
     /// Memory ran out.
     OutOfMemory,
@@ -45,14 +45,11 @@ struct Batch<'a> {
 /// What is after the header, from the commit byte of the first batch on; none of a log that is to be created.
 fn batches_of(bytes: &[u8]) -> Result<Option<&[u8]>, LogError> {
     let is_open = bytes.first() == Some(&OPEN);
-    if bytes.len() <= MOST_UNCREATED || bytes.len() == MOST_UNCREATED + 1 && !is_open {
-        return Ok(None);
-    }
-    let (header, behind) = bytes.split_at(MOST_UNCREATED);
-    if is_open && header.ends_with(HEADER) {
-        Ok(Some(behind))
-    } else {
-        Err(LogError::NotAStore)
+    match bytes.split_at_checked(MOST_UNCREATED) {
+        None | Some((_, [])) => Ok(None),
+        Some((_, [_])) if !is_open => Ok(None),
+        Some((header, behind)) if is_open && header.ends_with(HEADER) => Ok(Some(behind)),
+        Some(_) => Err(LogError::NotAStore),
     }
 }
 

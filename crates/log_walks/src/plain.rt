@@ -2,7 +2,7 @@
 use page_types::{HeadFields, PostChild};
 
 /// A head, and the vector's bytes that are in it.
-#[derive(Clone, Debug, PartialEq, Eq, Drop)]
+#[derive(PartialEq, Drop)]
 pub struct PlainHead {
     /// All but the vector.
     pub fields: HeadFields,
@@ -11,7 +11,7 @@ pub struct PlainHead {
 }
 
 /// A row of the pending list.
-#[derive(Clone, Debug, PartialEq, Eq, Drop)]
+#[derive(PartialEq, Drop)]
 pub struct PlainRow {
     /// The document's item.
     pub item: u32,
@@ -20,7 +20,7 @@ pub struct PlainRow {
 }
 
 /// Where an entry's items are.
-#[derive(Clone, Debug, PartialEq, Eq, Drop)]
+#[derive(PartialEq, Drop)]
 pub enum PlainPostings {
     /// In the entry.
     Inline(Vec<u32>),
@@ -29,7 +29,7 @@ pub enum PlainPostings {
 }
 
 /// An entry of a leaf of the entry tree.
-#[derive(Clone, Debug, PartialEq, Eq, Drop)]
+#[derive(PartialEq, Drop)]
 pub struct PlainEntry {
     /// The key.
     pub key: Vec<u8>,
@@ -38,7 +38,7 @@ pub struct PlainEntry {
 }
 
 /// A child of an inner page of the entry tree.
-#[derive(Clone, Debug, PartialEq, Eq, Drop)]
+#[derive(PartialEq, Drop)]
 pub struct PlainChild {
     /// The child's page.
     pub page: u32,
@@ -47,7 +47,7 @@ pub struct PlainChild {
 }
 
 /// What is on a page that some record has changed.
-#[derive(Clone, Debug, PartialEq, Eq, Drop)]
+#[derive(PartialEq, Drop)]
 pub enum PlainBody {
     /// The pending list: its first and its last page (0: none), and how many it has.
     Meta {
@@ -78,7 +78,7 @@ pub enum PlainBody {
 }
 
 /// A page that some record has changed.
-#[derive(Clone, Debug, PartialEq, Eq, Drop)]
+#[derive(Drop)]
 pub struct PlainPage {
     /// The right link, or 0.
     pub right: u32,
@@ -94,5 +94,63 @@ impl PlainPage {
     /// What is on it, unless it was deleted.
     pub fn live(&self) -> Option<&PlainBody> {
         if self.deleted { None } else { Some(&self.body) }
+    }
+}
+
+/// A leaf of the tree of keys.
+#[derive(Clone, Copy)]
+pub struct KeyLeaf<'a> {
+    /// Its high key, no bytes without right link.
+    pub high: &'a [u8],
+    /// Its entries.
+    pub entries: &'a [PlainEntry],
+}
+
+/// A leaf of a posting tree.
+#[derive(Clone, Copy)]
+pub struct PostLeaf<'a> {
+    /// Its high item, 0 without right link.
+    pub high: u32,
+    /// Its items.
+    pub items: &'a [u32],
+}
+
+/// The leaf of the tree of keys that this is.
+pub fn key_leaf_in(body: Option<&PlainBody>) -> Option<KeyLeaf<'_>> {
+    match body {
+        Some(PlainBody::EntryLeaf { high, entries }) => Some(KeyLeaf { high, entries }),
+        _ => None,
+    }
+}
+
+/// The leaf of a posting tree that this is.
+pub fn post_leaf_in(body: Option<&PlainBody>) -> Option<PostLeaf<'_>> {
+    match body {
+        Some(PlainBody::PostLeaf { high, items }) => Some(PostLeaf { high: *high, items }),
+        _ => None,
+    }
+}
+
+/// The entries of a leaf of the tree of keys; of another page none.
+pub fn entries_in(body: Option<&PlainBody>) -> &[PlainEntry] {
+    match body {
+        Some(PlainBody::EntryLeaf { entries, .. }) => entries,
+        _ => &[],
+    }
+}
+
+/// The slots of a heap page; of another page none.
+pub fn slots_in(body: Option<&PlainBody>) -> &[Option<PlainHead>] {
+    match body {
+        Some(PlainBody::Heap(slots)) => slots,
+        _ => &[],
+    }
+}
+
+/// The rows of a pending page; of another page none.
+pub fn rows_in(body: Option<&PlainBody>) -> &[PlainRow] {
+    match body {
+        Some(PlainBody::Pending(rows)) => rows,
+        _ => &[],
     }
 }

@@ -1,35 +1,41 @@
 // Decoded pages as plain ones.
+use crate::fault::Fault;
 use crate::plain::{
     PlainBody, PlainChild, PlainEntry, PlainHead, PlainPage, PlainPostings, PlainRow,
 };
 use page_types::{
-    Body, Entries, EntryChildren, Gone, HeadRef, Page, PiecesRef, PostChild, PostChildren,
-    PostingsRef, Rows, Slots,
+    Body, Bytes, Entries, EntryChildRef, EntryChildren, EntryRef, Gone, HeadRef, Page, PiecesRef,
+    PostChildren, PostingsRef, RowRef, Rows, Slots,
 };
-use std::alloc::{AllocError, Global};
+use std::alloc::Global;
 
-/// A head.
-fn plain_head(alloc: Global, head: &HeadRef<'_>) -> Result<PlainHead, AllocError> {
-    Ok(PlainHead {
-        fields: head.fields,
-        vector: Vec::from_slice(alloc, head.vector)?,
-    })
+/// The head of a slot, unless that is free.
+fn plain_slot(alloc: Global, slot: Option<HeadRef<'_>>) -> Result<Option<PlainHead>, Fault> {
+    match slot {
+        None => Ok(None),
+        Some(head) => Ok(Some(PlainHead {
+            fields: head.fields,
+            vector: Vec::from_slice(alloc, head.vector)?,
+        })),
+    }
 }
 
-/// The slots of a heap page.
-fn plain_slots(alloc: Global, slots: &Slots) -> Result<Vec<Option<PlainHead>>, AllocError> {
+/// A heap page.
+fn plain_heap(alloc: Global, slots: &Slots) -> Result<PlainBody, Fault> {
     let mut all = Vec::new(alloc);
     for k in 0..slots.len() {
-        match slots.get(k) {
-            None => all.push(None)?,
-            Some(head) => all.push(Some(plain_head(alloc, &head)?))?,
-        }
+        all.push(plain_slot(alloc, slots.get(k))?)?;
     }
-    Ok(all)
+    Ok(PlainBody::Heap(all))
+}
+
+/// An overflow page.
+fn plain_overflow(alloc: Global, part: &Bytes) -> Result<PlainBody, Fault> {
+    Ok(PlainBody::Overflow(Vec::from_slice(alloc, part.as_slice())?))
 }
 
 /// The keys of a row.
-fn plain_keys(alloc: Global, keys: PiecesRef<'_>) -> Result<Vec<Vec<u8>>, AllocError> {
+fn plain_keys(alloc: Global, keys: PiecesRef<'_>) -> Result<Vec<Vec<u8>>, Fault> {
     let mut all = Vec::new(alloc);
     for k in 0..keys.len() {
         all.push(Vec::from_slice(alloc, keys.at(k))?)?;
@@ -37,28 +43,33 @@ fn plain_keys(alloc: Global, keys: PiecesRef<'_>) -> Result<Vec<Vec<u8>>, AllocE
     Ok(all)
 }
 
-/// The rows of a pending page.
-fn plain_rows(alloc: Global, rows: &Rows) -> Result<Vec<PlainRow>, AllocError> {
+/// A row of a pending page.
+fn plain_row(alloc: Global, row: RowRef<'_>) -> Result<PlainRow, Fault> {
+    Ok(PlainRow {
+        item: row.item,
+        keys: plain_keys(alloc, row.keys)?,
+    })
+}
+
+/// A pending page.
+fn plain_pending(alloc: Global, rows: &Rows) -> Result<PlainBody, Fault> {
     let mut all = Vec::new(alloc);
     for k in 0..rows.len() {
         if let Some(row) = rows.get(k) {
-            let keys = plain_keys(alloc, row.keys)?;
-            all.push(PlainRow {
-                item: row.item,
-                keys,
-            })?;
+            all.push(plain_row(alloc, row)?)?;
         }
     }
-    Ok(all)
+    Ok(PlainBody::Pending(all))
 }
 
 /// The items of a list: each byte below 128 ends a difference, whose low seven bits come first.
-fn plain_items(alloc: Global, list: &[u8]) -> Result<Vec<u32>, AllocError> {
+fn plain_items(alloc: Global, list: &[u8]) -> Result<Vec<u32>, Fault> {
     let mut items = Vec::new(alloc);
     let mut item = 0u32;
     let mut scale = 1u32;
     for byte in list {
-        item = item.saturating_add(u32::from(*byte % 128).saturating_mul(scale));
+        let digit = (*byte % 128) as u32;
+        item = item.saturating_add(digit.saturating_mul(scale));
         scale = scale.saturating_mul(128);
         if *byte < 128 {
             items.push(item)?;
@@ -68,99 +79,118 @@ fn plain_items(alloc: Global, list: &[u8]) -> Result<Vec<u32>, AllocError> {
     Ok(items)
 }
 
+/// Where an entry's items are.
+fn plain_postings(alloc: Global, postings: PostingsRef<'_>) -> Result<PlainPostings, Fault> {
+    match postings {
+        PostingsRef::Inline(list) => Ok(PlainPostings::Inline(plain_items(alloc, list)?)),
+        PostingsRef::Root(root) => Ok(PlainPostings::Root(root)),
+    }
+}
+
+/// An entry of a leaf of the tree of keys.
+fn plain_entry(alloc: Global, entry: EntryRef<'_>) -> Result<PlainEntry, Fault> {
+    let postings = plain_postings(alloc, entry.postings)?;
+    let key = Vec::from_slice(alloc, entry.key)?;
+    Ok(PlainEntry { key, postings })
+}
+
 /// The entries of a leaf.
-fn plain_entries(alloc: Global, entries: &Entries) -> Result<Vec<PlainEntry>, AllocError> {
+fn plain_entries(alloc: Global, entries: &Entries) -> Result<Vec<PlainEntry>, Fault> {
     let mut all = Vec::new(alloc);
     for k in 0..entries.len() {
         if let Some(entry) = entries.get(k) {
-            let key = Vec::from_slice(alloc, entry.key)?;
-            let postings = match entry.postings {
-                PostingsRef::Inline(list) => PlainPostings::Inline(plain_items(alloc, list)?),
-                PostingsRef::Root(root) => PlainPostings::Root(root),
-            };
-            all.push(PlainEntry { key, postings })?;
+            all.push(plain_entry(alloc, entry)?)?;
         }
     }
     Ok(all)
 }
 
-/// The children of an inner page of the entry tree.
-fn plain_children(alloc: Global, children: &EntryChildren) -> Result<Vec<PlainChild>, AllocError> {
+/// A leaf of the tree of keys.
+fn plain_leaf(alloc: Global, high: &Bytes, entries: &Entries) -> Result<PlainBody, Fault> {
+    let entries = plain_entries(alloc, entries)?;
+    let high = Vec::from_slice(alloc, high.as_slice())?;
+    Ok(PlainBody::EntryLeaf { high, entries })
+}
+
+/// A child of an inner page of the tree of keys.
+fn plain_child(alloc: Global, child: EntryChildRef<'_>) -> Result<PlainChild, Fault> {
+    Ok(PlainChild {
+        page: child.page,
+        bound: Vec::from_slice(alloc, child.bound)?,
+    })
+}
+
+/// An inner page of the tree of keys.
+fn plain_inner(alloc: Global, children: &EntryChildren) -> Result<PlainBody, Fault> {
     let mut all = Vec::new(alloc);
     for k in 0..children.len() {
         if let Some(child) = children.get(k) {
-            let bound = Vec::from_slice(alloc, child.bound)?;
-            all.push(PlainChild {
-                page: child.page,
-                bound,
-            })?;
+            all.push(plain_child(alloc, child)?)?;
         }
     }
-    Ok(all)
+    Ok(PlainBody::EntryInner(all))
 }
 
-/// The children of an inner page of a posting tree.
-fn plain_post_children(
-    alloc: Global,
-    children: &PostChildren,
-) -> Result<Vec<PostChild>, AllocError> {
+/// A leaf of a posting tree.
+fn plain_post_leaf(alloc: Global, high: u32, items: &Bytes) -> Result<PlainBody, Fault> {
+    let items = plain_items(alloc, items.as_slice())?;
+    Ok(PlainBody::PostLeaf { high, items })
+}
+
+/// An inner page of a posting tree.
+fn plain_post_inner(alloc: Global, children: &PostChildren) -> Result<PlainBody, Fault> {
     let mut all = Vec::new(alloc);
     for k in 0..children.len() {
         if let Some(child) = children.get(k) {
             all.push(*child)?;
         }
     }
-    Ok(all)
+    Ok(PlainBody::PostInner(all))
 }
 
 /// What a deleted page keeps.
-fn plain_gone(alloc: Global, gone: &Gone) -> Result<PlainBody, AllocError> {
-    Ok(match gone {
-        Gone::Overflow(part) => PlainBody::Overflow(Vec::from_slice(alloc, part.as_slice())?),
-        Gone::Pending(rows) => PlainBody::Pending(plain_rows(alloc, rows)?),
-        Gone::PostLeaf { high, items } => PlainBody::PostLeaf {
-            high: *high,
-            items: plain_items(alloc, items.as_slice())?,
-        },
-    })
+fn plain_gone(alloc: Global, gone: &Gone) -> Result<PlainBody, Fault> {
+    match gone {
+        Gone::Overflow(part) => plain_overflow(alloc, part),
+        Gone::Pending(rows) => plain_pending(alloc, rows),
+        Gone::PostLeaf { high, items } => plain_post_leaf(alloc, *high, items),
+    }
 }
 
-/// What is on a page; none where that is nothing.
-fn plain_body(alloc: Global, body: &Body) -> Result<Option<PlainBody>, AllocError> {
-    Ok(Some(match body {
-        Body::Free => return Ok(None),
-        Body::Meta { first, last, pages } => PlainBody::Meta {
+/// What is on a page of either tree.
+fn plain_tree(alloc: Global, body: &Body) -> Result<PlainBody, Fault> {
+    match body {
+        Body::EntryLeaf { high, entries } => plain_leaf(alloc, high, entries),
+        Body::EntryInner(children) => plain_inner(alloc, children),
+        Body::PostLeaf { high, items } => plain_post_leaf(alloc, *high, items),
+        Body::PostInner(children) => plain_post_inner(alloc, children),
+        _ => Err(Fault::Broken("a changed page isn't free")),
+    }
+}
+
+/// What is on a page, or was there when it was deleted; there is something.
+fn plain_body(alloc: Global, body: &Body) -> Result<PlainBody, Fault> {
+    match body {
+        Body::Meta { first, last, pages } => Ok(PlainBody::Meta {
             first: *first,
             last: *last,
             pages: *pages,
-        },
-        Body::Heap(slots) => PlainBody::Heap(plain_slots(alloc, slots)?),
-        Body::Overflow(part) => PlainBody::Overflow(Vec::from_slice(alloc, part.as_slice())?),
-        Body::Pending(rows) => PlainBody::Pending(plain_rows(alloc, rows)?),
-        Body::EntryLeaf { high, entries } => PlainBody::EntryLeaf {
-            high: Vec::from_slice(alloc, high.as_slice())?,
-            entries: plain_entries(alloc, entries)?,
-        },
-        Body::EntryInner(children) => PlainBody::EntryInner(plain_children(alloc, children)?),
-        Body::PostLeaf { high, items } => PlainBody::PostLeaf {
-            high: *high,
-            items: plain_items(alloc, items.as_slice())?,
-        },
-        Body::PostInner(children) => PlainBody::PostInner(plain_post_children(alloc, children)?),
-        Body::Deleted(gone) => plain_gone(alloc, gone)?,
-    }))
+        }),
+        Body::Heap(slots) => plain_heap(alloc, slots),
+        Body::Overflow(part) => plain_overflow(alloc, part),
+        Body::Pending(rows) => plain_pending(alloc, rows),
+        Body::Deleted(gone) => plain_gone(alloc, gone),
+        _ => plain_tree(alloc, body),
+    }
 }
 
-/// The page; none where nothing is on it.
-pub fn plain_page(alloc: Global, page: &Page) -> Result<Option<PlainPage>, AllocError> {
-    let deleted = matches!(&page.body, Body::Deleted(_));
-    match plain_body(alloc, &page.body)? {
-        None => Ok(None),
-        Some(body) => Ok(Some(PlainPage {
-            right: page.right,
-            stamp: page.stamp,
-            deleted,
-            body,
-        })),
-    }
+/// The page, on which something is.
+pub fn plain_page(alloc: Global, page: &Page) -> Result<PlainPage, Fault> {
+    let body = plain_body(alloc, &page.body)?;
+    Ok(PlainPage {
+        right: page.right,
+        stamp: page.stamp,
+        deleted: matches!(&page.body, Body::Deleted(_)),
+        body,
+    })
 }

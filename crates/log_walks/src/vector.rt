@@ -17,7 +17,7 @@ const PLACEHOLDER: &[u8] = b"\x01";
 /// A number in two bytes, and what is after it.
 fn number_in(bytes: &[u8]) -> Option<(usize, &[u8])> {
     match bytes {
-        [low, high, rest @ ..] => Some((usize::from(u16::from_le_bytes([*low, *high])), rest)),
+        [low, high, rest @ ..] => Some((u16::from_le_bytes([*low, *high]) as usize, rest)),
         _ => None,
     }
 }
@@ -55,23 +55,43 @@ fn are_positions(bytes: &[u8]) -> bool {
     rest.is_empty()
 }
 
-/// A lexeme of a vector.
+/// A field of a vector.
+#[derive(Clone, Copy)]
+struct Field<'a> {
+    /// Its bytes.
+    bytes: &'a [u8],
+    /// What is after it.
+    behind: &'a [u8],
+}
+
+/// The field whose size is before it in two bytes, in units of so many bytes.
+fn field_in(bytes: &[u8], unit: usize) -> Option<Field<'_>> {
+    let (count, rest) = number_in(bytes)?;
+    let (bytes, behind) = rest.split_at_checked(count.saturating_mul(unit))?;
+    Some(Field { bytes, behind })
+}
+
+/// A lexeme of a vector with its positions, two bytes each.
 #[derive(Clone, Copy)]
 struct Lexeme<'a> {
     /// The text.
     text: &'a [u8],
-    /// Two bytes for each position.
-    positions: &'a [u8],
+    /// How many bytes it and its positions have.
+    size: usize,
+    /// What is after them.
+    behind: &'a [u8],
 }
 
-/// A lexeme with its positions, and what is after it.
-fn lexeme_in(bytes: &[u8]) -> Option<(Lexeme<'_>, &[u8])> {
-    let (size, rest) = number_in(bytes)?;
-    let (text, rest) = rest.split_at_checked(size)?;
-    let (count, rest) = number_in(rest)?;
-    let (positions, rest) = rest.split_at_checked(count.saturating_mul(2))?;
-    if is_lexeme(text) && are_positions(positions) {
-        Some((Lexeme { text, positions }, rest))
+/// A lexeme above the last one.
+fn lexeme_in<'a>(last: &[u8], bytes: &'a [u8]) -> Option<Lexeme<'a>> {
+    let text = field_in(bytes, 1)?;
+    let positions = field_in(text.behind, 2)?;
+    if text.bytes > last && is_lexeme(text.bytes) && are_positions(positions.bytes) {
+        Some(Lexeme {
+            text: text.bytes,
+            size: text.bytes.len().saturating_add(positions.bytes.len()),
+            behind: positions.behind,
+        })
     } else {
         None
     }
@@ -91,33 +111,30 @@ fn keys_in(alloc: Global, count: u32, bytes: &[u8]) -> Result<Option<Vec<Vec<u8>
     let mut last: &[u8] = &[];
     let mut size = 0usize;
     for _ in 0..count {
-        match lexeme_in(rest) {
-            None => return Ok(None),
-            Some((lexeme, behind)) => {
-                if lexeme.text <= last {
-                    return Ok(None);
-                }
-                size = size.saturating_add(lexeme.text.len());
-                size = size.saturating_add(lexeme.positions.len());
-                keys.push(key_of(alloc, lexeme.text)?)?;
-                last = lexeme.text;
-                rest = behind;
-            }
-        }
+        let Some(lexeme) = lexeme_in(last, rest) else {
+            return Ok(None);
+        };
+        keys.push(key_of(alloc, lexeme.text)?)?;
+        size = size.saturating_add(lexeme.size);
+        last = lexeme.text;
+        rest = lexeme.behind;
     }
     let whole = rest.is_empty() && size < SIZE_LIMIT;
     Ok(if whole { Some(keys) } else { None })
+}
+
+/// The key of a document without lexemes, alone.
+fn placeholder(alloc: Global) -> Result<Option<Vec<Vec<u8>>>, AllocError> {
+    let mut keys = Vec::new(alloc);
+    keys.push(Vec::from_slice(alloc, PLACEHOLDER)?)?;
+    Ok(Some(keys))
 }
 
 /// The keys of the vector that these bytes encode, in key order; none where they encode no vector.
 pub fn keys_of(alloc: Global, bytes: &[u8]) -> Result<Option<Vec<Vec<u8>>>, AllocError> {
     match count_in(bytes) {
         None => Ok(None),
-        Some((0, [])) => {
-            let mut keys = Vec::new(alloc);
-            keys.push(Vec::from_slice(alloc, PLACEHOLDER)?)?;
-            Ok(Some(keys))
-        }
+        Some((0, [])) => placeholder(alloc),
         Some((count, rest)) => keys_in(alloc, count, rest),
     }
 }

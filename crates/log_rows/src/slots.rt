@@ -1,0 +1,60 @@
+// The slots of a heap page before a record and after it.
+use log_walks::PlainHead;
+use page_types::HeadFields;
+
+/// The slots on both sides of one.
+#[derive(Clone, Copy)]
+struct Beside<'a> {
+    /// Those before it.
+    front: &'a [Option<PlainHead>],
+    /// Those after it.
+    back: &'a [Option<PlainHead>],
+}
+
+/// The slots on both sides of one; none where there are fewer before it.
+fn sides_of(slots: &[Option<PlainHead>], slot: usize) -> Option<Beside<'_>> {
+    match slots.split_at_checked(slot)? {
+        (front, [_, back @ ..]) => Some(Beside { front, back }),
+        (front, back) => Some(Beside { front, back }),
+    }
+}
+
+/// Whether two lists of slots agree on both sides of one.
+fn agree_beside(was: &[Option<PlainHead>], left: &[Option<PlainHead>], slot: usize) -> bool {
+    match (sides_of(was, slot), sides_of(left, slot)) {
+        (Some(was), Some(left)) => was.front == left.front && was.back == left.back,
+        _ => false,
+    }
+}
+
+/// The head in a slot.
+pub(crate) fn head_in(slots: &[Option<PlainHead>], slot: usize) -> Option<&PlainHead> {
+    slots.get(slot)?.as_ref()
+}
+
+/// Whether the slot was free or the next, and nothing but it changes.
+pub(crate) fn head_comes(
+    was: &[Option<PlainHead>],
+    left: &[Option<PlainHead>],
+    slot: usize,
+) -> bool {
+    head_in(was, slot).is_none() && agree_beside(was, left, slot)
+}
+
+/// Whether two heads have the same vector, and the second these fields.
+fn has_fields(was: Option<&PlainHead>, left: Option<&PlainHead>, fields: HeadFields) -> bool {
+    match (was, left) {
+        (Some(was), Some(left)) => left.fields == fields && left.vector == was.vector,
+        _ => false,
+    }
+}
+
+/// Whether the slot's head gets these fields, and nothing else changes.
+pub(crate) fn head_becomes(
+    was: &[Option<PlainHead>],
+    left: &[Option<PlainHead>],
+    slot: usize,
+    fields: HeadFields,
+) -> bool {
+    has_fields(head_in(was, slot), head_in(left, slot), fields) && agree_beside(was, left, slot)
+}
