@@ -24,27 +24,36 @@ const MANY: &str = "\
 8 search 0 10 searches among 20000";
 
 /// So many statements of a session.
-#[derive(Clone, Copy, Debug)]
+#[derive(Clone, Copy)]
 pub(crate) struct Series<'a> {
     /// The session's number.
     pub(crate) session: u32,
     /// The verb.
     verb: &'a str,
-    /// The numbers of the first and the last one.
+    /// The number of the first one.
     first: u32,
+    /// The number after that of the last one.
     end: u32,
     /// What they are called.
     pub(crate) name: &'a str,
+}
+
+/// The number that a word says.
+fn number_in(word: Option<&str>) -> u32 {
+    match word {
+        Some(word) => word.parse().unwrap_or(0),
+        None => 0,
+    }
 }
 
 impl<'a> Series<'a> {
     /// The series that a line says.
     fn read(line: &'a str) -> Series<'a> {
         let mut words = line.splitn(5, ' ');
-        let session = words.next().unwrap_or("").parse().unwrap_or(0);
+        let session = number_in(words.next());
         let verb = words.next().unwrap_or("");
-        let first = words.next().unwrap_or("").parse().unwrap_or(0);
-        let end = words.next().unwrap_or("").parse().unwrap_or(0);
+        let first = number_in(words.next());
+        let end = number_in(words.next());
         let name = words.next().unwrap_or("");
         Series {
             session,
@@ -63,8 +72,17 @@ impl<'a> Series<'a> {
 
 /// The series of the script.
 pub(crate) fn all_series(alloc: Global, timed: bool) -> Result<Vec<Series<'static>>, AllocError> {
+    let mut all = Vec::new(alloc);
     let text = if timed { MANY } else { FEW };
-    text.lines().map(Series::read).collect(alloc)
+    for line in text.lines() {
+        all.push(Series::read(line))?;
+    }
+    Ok(all)
+}
+
+/// Pushes a piece and a number.
+fn push_number(script: &mut String, piece: &str, number: u32) -> Result<(), AllocError> {
+    write!(script, "{piece}{number}")
 }
 
 /// Pushes eight words, as numbers drawn one after another say.
@@ -72,27 +90,33 @@ fn push_words(script: &mut String, drawn: &mut u32) -> Result<(), AllocError> {
     script.push_str(" simple '")?;
     for _ in 0..8 {
         *drawn = drawn.wrapping_mul(1_664_525).wrapping_add(1_013_904_223);
-        write!(script, " w{}", *drawn >> 22)?;
+        push_number(script, " w", *drawn >> 22)?;
     }
     script.push_str("'\n")
 }
 
-/// Pushes the statement of this number.
-fn push_statement(
+/// Pushes the name of the document with this number.
+fn push_name(script: &mut String, number: u32) -> Result<(), AllocError> {
+    push_number(script, " 2/", number)?;
+    push_number(script, "#", number.saturating_add(1))
+}
+
+/// Pushes the words of a statement after its verb.
+fn push_rest(
     script: &mut String,
-    one: &Series<'_>,
+    verb: &str,
     number: u32,
     drawn: &mut u32,
 ) -> Result<(), AllocError> {
-    write!(script, "@{} {}", one.session, one.verb)?;
-    match one.verb {
+    match verb {
         "search" => script.push_str(" 'w241'\n"),
         "insert" => push_words(script, drawn),
+        "update" => {
+            push_name(script, number)?;
+            push_words(script, drawn)
+        }
         _ => {
-            write!(script, " 2/{number}#{}", number.saturating_add(1))?;
-            if one.verb == "update" {
-                return push_words(script, drawn);
-            }
+            push_name(script, number)?;
             script.push('\n')
         }
     }
@@ -101,7 +125,10 @@ fn push_statement(
 /// Pushes the statements of a series.
 fn push_series(script: &mut String, one: &Series<'_>, drawn: &mut u32) -> Result<(), AllocError> {
     for number in one.first..one.end {
-        push_statement(script, one, number, drawn)?;
+        push_number(script, "@", one.session)?;
+        script.push(' ')?;
+        script.push_str(one.verb)?;
+        push_rest(script, one.verb, number, drawn)?;
     }
     Ok(())
 }

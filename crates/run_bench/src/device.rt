@@ -1,49 +1,53 @@
 // A device in memory, and the time that each session's statements take beside its calls.
-use bench_base::{Watch, WatchedDisk};
+use bench_base::{Bench, Watch, WatchedDisk};
 use shell_run::Gate;
-use std::alloc::{AllocError, Global};
-use std::rt::Clock;
+use std::alloc::AllocError;
 use std::sync::atomic::{AtomicU64, Ordering};
 use std::time::Instant;
 
 /// A device in memory whose calls are timed.
-pub(crate) type TimedDisk<'a, R> = WatchedDisk<Stopwatch<'a, R>>;
+pub(crate) type TimedDisk<'a> = WatchedDisk<Stopwatch<'a>>;
 
 /// How many sessions there are, and one for what is before the first statement.
 const SESSIONS: u32 = 9;
 
 /// The time of a run, in nanoseconds.
 #[derive(Drop)]
-pub(crate) struct Times<'a, R: Clock> {
+pub(crate) struct Times<'a> {
     /// The clock.
-    clock: &'a R,
+    clock: &'a HostRuntime,
     /// When the run began, where time is asked for.
     start: Option<Instant>,
     /// What the calls of the device have taken.
     device: AtomicU64,
-    /// The session whose statement runs, and the own time at which it began.
+    /// The session whose statement runs.
     session: AtomicU64,
+    /// The own time at which it began.
     began: AtomicU64,
     /// The own time of the statements of each session.
     spent: Vec<AtomicU64>,
 }
 
-impl<'a, R: Clock> Times<'a, R> {
+/// The number more.
+fn add(sum: &AtomicU64, more: u64) {
+    let so_far = sum.load(Ordering::SeqCst);
+    sum.store(so_far.saturating_add(more), Ordering::SeqCst);
+}
+
+impl<'a> Times<'a> {
     /// A run begins.
-    pub(crate) fn begin(
-        alloc: Global,
-        clock: &'a R,
-        timed: bool,
-    ) -> Result<Times<'a, R>, AllocError> {
-        let spent = (0..SESSIONS).map(|_| AtomicU64::new(0)).collect(alloc)?;
-        let start = if timed {
-            Instant::now(clock).ok()
-        } else {
-            None
-        };
+    pub(crate) fn begin(bench: &Bench<'a>) -> Result<Times<'a>, AllocError> {
+        let mut spent = Vec::new(bench.alloc());
+        for _ in 0..SESSIONS {
+            spent.push(AtomicU64::new(0))?;
+        }
         Ok(Times {
-            clock,
-            start,
+            clock: bench.runtime(),
+            start: if bench.is_timed() {
+                bench.start().ok()
+            } else {
+                None
+            },
             device: AtomicU64::new(0),
             session: AtomicU64::new(0),
             began: AtomicU64::new(0),
@@ -64,13 +68,12 @@ impl<'a, R: Clock> Times<'a, R> {
 
     /// A statement of a session begins, and that before it has ended.
     pub(crate) fn turn(&self, session: u32) {
-        let device = self.device.load(Ordering::SeqCst);
-        let own = self.now().saturating_sub(device);
+        let own = self
+            .now()
+            .saturating_sub(self.device.load(Ordering::SeqCst));
         let before = self.session.load(Ordering::SeqCst) as usize;
         if let Some(spent) = self.spent.get(before) {
-            let more = own.saturating_sub(self.began.load(Ordering::SeqCst));
-            let so_far = spent.load(Ordering::SeqCst);
-            spent.store(so_far.saturating_add(more), Ordering::SeqCst);
+            add(spent, own.saturating_sub(self.began.load(Ordering::SeqCst)));
         }
         self.session.store(u64::from(session), Ordering::SeqCst);
         self.began.store(own, Ordering::SeqCst);
@@ -85,7 +88,7 @@ impl<'a, R: Clock> Times<'a, R> {
     }
 }
 
-impl<'a, R: Clock> Gate for Times<'a, R> {
+impl<'a> Gate for Times<'a> {
     /// A statement begins.
     fn pass(&self, session: u32, _statement: u32) {
         self.turn(session);
@@ -97,21 +100,21 @@ impl<'a, R: Clock> Gate for Times<'a, R> {
 
 /// The time that calls take.
 #[derive(Drop)]
-pub(crate) struct Stopwatch<'a, R: Clock> {
+pub(crate) struct Stopwatch<'a> {
     /// The run's times.
-    times: &'a Times<'a, R>,
+    times: &'a Times<'a>,
     /// When the call began.
     start: u64,
 }
 
-impl<'a, R: Clock> Stopwatch<'a, R> {
+impl<'a> Stopwatch<'a> {
     /// No call was made.
-    pub(crate) fn new(times: &'a Times<'a, R>) -> Stopwatch<'a, R> {
+    pub(crate) fn new(times: &'a Times<'a>) -> Stopwatch<'a> {
         Stopwatch { times, start: 0 }
     }
 }
 
-impl<'a, R: Clock> Watch for Stopwatch<'a, R> {
+impl<'a> Watch for Stopwatch<'a> {
     /// Reads the clock.
     fn begin(&mut self, _writes: bool) {
         self.start = self.times.now();
@@ -120,9 +123,6 @@ impl<'a, R: Clock> Watch for Stopwatch<'a, R> {
     /// Adds the time since the call began.
     fn end(&mut self) {
         let taken = self.times.now().saturating_sub(self.start);
-        let so_far = self.times.device.load(Ordering::SeqCst);
-        self.times
-            .device
-            .store(so_far.saturating_add(taken), Ordering::SeqCst);
+        add(&self.times.device, taken);
     }
 }

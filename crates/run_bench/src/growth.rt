@@ -1,0 +1,90 @@
+// What statements cost over a store that grows, and an opening of the log that they leave.
+use crate::device::{Stopwatch, Times};
+use crate::shell::{empty, run_script};
+use crate::statements::{Series, all_series, script_of};
+use anyhow::{Result, bail, ensure};
+use bench_base::{Bench, Figure, WatchedDisk};
+use disk_trait::{Disk, File, MemoryDisk};
+use shell_run::NoGate;
+use std::sync::Wait;
+use std::thread::Threads;
+use std::time::Duration;
+
+/// A run of a script over an empty device: what it leaves.
+fn run_timed<R: Threads + Wait + Sync>(
+    rt: &R,
+    bench: &Bench<'_>,
+    times: &Times<'_>,
+    script: Vec<u8>,
+) -> Result<MemoryDisk> {
+    let alloc = bench.alloc();
+    let disk = WatchedDisk {
+        disk: empty(alloc),
+        watch: Stopwatch::new(times),
+    };
+    let ended = run_script(rt, alloc, script, disk, times)?;
+    times.turn(0);
+    ensure!(ended.status == 0, "a run fails");
+    let WatchedDisk { disk, .. } = ended.store;
+    Ok(disk)
+}
+
+/// Opens a store without a statement: how many calls its device has had.
+fn open<R: Threads + Wait + Sync>(rt: &R, bench: &Bench<'_>, disk: MemoryDisk) -> Result<u64> {
+    let alloc = bench.alloc();
+    let ended = run_script(rt, alloc, Vec::new(alloc), disk, &NoGate)?;
+    ensure!(ended.status == 0, "an opening fails");
+    Ok(ended.store.calls())
+}
+
+/// Prints how long a statement of each series took, beside its calls of the device.
+fn print_times(bench: &Bench<'_>, series: &[Series<'_>], times: &Times<'_>) -> Result<()> {
+    for one in series {
+        let seconds = Duration::from_nanos(times.of(one.session)).as_secs_f64();
+        let count = one.count();
+        bench.tell(u64::from(count), one.name, seconds, Figure::Each(count))?;
+    }
+    Ok(())
+}
+
+/// Opens the log that statements left, which has so many bytes.
+fn open_again<R: Threads + Wait + Sync>(
+    rt: &R,
+    bench: &Bench<'_>,
+    disk: MemoryDisk,
+    bytes: u64,
+) -> Result<()> {
+    let start = bench.start()?;
+    open(rt, bench, disk)?;
+    let seconds = bench.since(start)?;
+    if bench.is_timed() {
+        bench.tell(bytes, "bytes of its log, opened", seconds, Figure::Whole)?;
+    }
+    Ok(())
+}
+
+/// Prints how many calls a device has had since it had so many, and the bytes of its log, which are answered.
+fn print_growth(bench: &Bench<'_>, disk: &mut MemoryDisk, none: u64) -> Result<u64> {
+    let calls = disk.calls().saturating_sub(none);
+    let Ok(bytes) = disk.length(File::Log) else {
+        bail!("a length fails");
+    };
+    let out = bench.runtime();
+    println!(out; "a store that grows: {calls} calls of the device, a log of {bytes} bytes")?;
+    Ok(bytes)
+}
+
+/// Runs the statements, and prints how many calls of the device they make and the bytes of their log; where time is
+/// asked for, also how long each took, and the opening of the log.
+pub(crate) fn grow<R: Threads + Wait + Sync>(rt: &R, bench: &Bench<'_>) -> Result<()> {
+    let alloc = bench.alloc();
+    let none = open(rt, bench, empty(alloc))?;
+    let series = all_series(alloc, bench.is_timed())?;
+    let times = Times::begin(bench)?;
+    let mut disk = run_timed(rt, bench, &times, script_of(alloc, &series)?)?;
+    let bytes = print_growth(bench, &mut disk, none)?;
+    if bench.is_timed() {
+        print_times(bench, &series, &times)?;
+    }
+    open_again(rt, bench, disk, bytes)
+}
