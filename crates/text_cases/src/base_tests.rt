@@ -1,6 +1,6 @@
 // Lexemes, positions and words.
 use crate::kinds::{Kind, try_rows};
-use crate::rows::{cut, said};
+use crate::rows::cut;
 use std::alloc::{AllocError, Global};
 use std::test::Fail;
 use ts_base::{
@@ -17,76 +17,80 @@ const ORDER: &str = concat!(
 /// Lines, and the first word of each with what is after it.
 const FRONTS: &str = " \tthe cat=the, cat;'x'\t='x',\t;\u{a0}é=\u{a0}é,; \t =none;=none";
 
-/// How two lexemes are to each other; a copy is as good as the first.
-fn order(left: &Lexeme, right: &Lexeme) -> Result<&'static str, AllocError> {
-    let copy = left.clone()?;
-    if copy == *right {
-        return Ok("equal");
-    }
-    Ok(if copy < *right { "less" } else { "greater" })
-}
+/// Texts, and each without the blanks at its front, in lower case, and in quotes.
+const WRITTEN: &str = concat!(
+    " \t a =a | \t a |' \t a ';AZ[@`{É9=AZ[@`{É9|az[@`{É9|'AZ[@`{É9';",
+    "it's a \\ é=it's a \\ é|it's a \\ é|'it''s a \\\\ é'",
+);
 
-/// A lexeme, and how it is to another.
-fn ordered(alloc: Global, left: &Lexeme, right: &Lexeme) -> Result<String, Fail> {
-    let order = order(left, right)?;
+/// Puts a lexeme, and how it is to another. A copy is as good as the first.
+fn push_order(out: &mut String, left: &Lexeme, right: &Lexeme) -> Result<(), AllocError> {
+    let copy = left.clone()?;
+    let order = if copy == *right {
+        "equal"
+    } else if copy < *right {
+        "less"
+    } else {
+        "greater"
+    };
     let left = left.as_str();
-    Ok(format!(in alloc; "{left}, {order}")?)
+    write!(out, "{left}, {order}")
 }
 
 /// How the lexemes of two texts are to each other.
-pub fn compared(alloc: Global, asked: &str) -> Result<String, Fail> {
+pub fn compared(alloc: Global, out: &mut String, asked: &str) -> Result<(), Fail> {
     let (left, right) = cut(asked);
     let right = Lexeme::new(alloc, right)?;
     match Lexeme::new(alloc, left) {
-        Ok(left) => ordered(alloc, &left, &right),
-        Err(error) => Ok(format!(in alloc; "{error}")?),
+        Ok(left) => push_order(out, &left, &right)?,
+        Err(error) => write!(out, "{error}")?,
     }
+    Ok(())
 }
 
 /// The first word of a line, and what is after it.
-pub fn front(alloc: Global, line: &str) -> Result<String, Fail> {
+pub fn front(out: &mut String, line: &str) -> Result<(), Fail> {
     match front_word(line) {
-        Some((word, rest)) => Ok(format!(in alloc; "{word},{rest}")?),
-        None => said(alloc, "none"),
+        Some((word, rest)) => write!(out, "{word},{rest}")?,
+        None => out.push_str("none")?,
     }
+    Ok(())
 }
 
-/// A text in quotes after another.
-fn quoted(alloc: Global, front: &str, text: &str) -> Result<String, AllocError> {
-    let mut out = String::from_str(alloc, front)?;
-    push_quoted(&mut out, text)?;
-    Ok(out)
+/// A text without blanks at its front, in lower case, and in quotes.
+pub fn written(alloc: Global, out: &mut String, text: &str) -> Result<(), Fail> {
+    out.push_str(without_blanks(text))?;
+    out.push_str("|")?;
+    out.push_str(lower_case(alloc, text)?.as_str())?;
+    out.push_str("|")?;
+    push_quoted(out, text)?;
+    Ok(())
 }
 
-/// Lexemes are made, copied and compared, and lines cut.
+/// Lexemes are made, copied and compared, lines cut, and texts written.
 #[test]
 fn bases(rt: HostRuntime) -> Result<(), Fail> {
     let alloc = rt.alloc();
     try_rows(&rt, alloc, Kind::Order, ORDER, 7)?;
     try_rows(&rt, alloc, Kind::Front, FRONTS, 5)?;
-    assert_eq!(rt; without_blanks(" \t a "), "a ");
-    assert_eq!(rt; lower_case(alloc, "AZ[@`{É9")?.as_str(), "az[@`{É9");
-    assert_eq!(rt;
-        quoted(alloc, "> ", "it's a \\ é")?.as_str(),
-        "> 'it''s a \\\\ é'"
-    );
-    Ok(())
+    try_rows(&rt, alloc, Kind::Written, WRITTEN, 3)
 }
 
-/// Whether a position has its number and weight.
-fn is_position() -> bool {
+/// Whether a position has its number and weight, and weights, and what is known of a fact, have their order.
+fn are_ordered() -> bool {
     let last = Position::new(16383, Weight::A);
-    last.at() == 16383 && last.weight() == Weight::A && last != Position::new(16383, Weight::D)
-}
-
-/// Whether weights, and what is known of a fact, have their order.
-fn is_rising() -> bool {
+    let other = Position::new(16383, Weight::D);
     let weights = Weight::D < Weight::C && Weight::C < Weight::B && Weight::B < Weight::A;
-    weights && Tri::False < Tri::Maybe && Tri::Maybe < Tri::True
+    weights
+        && Tri::False < Tri::Maybe
+        && Tri::Maybe < Tri::True
+        && last.at() == 16383
+        && last.weight() == Weight::A
+        && last != other
 }
 
 /// Whether no weight is asked for from the start, and letters name weights.
-fn is_named() -> bool {
+fn are_named() -> bool {
     let none = Weights::default();
     let named = weight_of('b') == Some(Weight::B) && weight_of('e').is_none();
     named && !(none.a || none.b || none.c || none.d)
@@ -95,9 +99,6 @@ fn is_named() -> bool {
 /// Positions, weights, what is known of a fact, and kinds of bytes.
 #[test]
 fn positions(rt: HostRuntime) {
-    assert!(rt; is_position());
-    assert!(rt; is_rising());
-    assert!(rt; is_named());
-    assert!(rt; is_white('\x0b') && !is_white('\u{a0}'));
-    assert!(rt; is_blank(b'\t') && !is_blank(b'\n'));
+    assert!(rt; are_ordered() && are_named());
+    assert!(rt; is_white('\x0b') && !is_white('\u{a0}') && is_blank(b'\t') && !is_blank(b'\n'));
 }

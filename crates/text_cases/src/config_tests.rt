@@ -2,7 +2,7 @@
 ghost use Rattle.ts_config.specs.Known.{IsWithin};
 
 use crate::kinds::{Kind, try_rows};
-use crate::rows::{push_word, said};
+use crate::rows::push_word;
 use crate::{query_tests, vector_tests};
 use porter_stem::Porter;
 use std::alloc::{AllocError, Global};
@@ -19,8 +19,11 @@ use ts_words::{Simple, StopList};
 /// `simple` with these stop words, `O name words` one of stems, `S name lines` a case sensitive one of synonyms, and
 /// `T name sub lines` a thesaurus, where `|` is between two lines; `C name` a configuration; `M name type
 /// dictionaries` maps a type of it, and `P name type dictionary` puts one in that was built apart; `? name text`
-/// places the lexemes of a text, and shows each with its position, and with `*` where it has the mark.
+/// places the lexemes of a text, and shows each with its position, and with `*` where it has the mark; `@ name` shows
+/// the place of a dictionary, and whether it is there; `L` the list that a type is given, and that of another.
 const ROWS: &str = concat!(
+    // Dictionaries are found by name and keep their places, and a type's list is replaced.
+    "@ simple=Some(0) true;@ none=None false;L=[3, 1] [];",
     // The configuration that is there from the start.
     "? simple A fat Cat sat-on 1.5=a:1 fat:2 cat:3 sat-on:4 sat:5 on:6 1.5:7;? simple   , ...=;",
     "? simple Été THE=Été:1 the:2;? simple a «b^2046» c=a:1 «b^2046»:2 c:3;? simple a «b^2047» c=a:1 c:2;",
@@ -88,26 +91,15 @@ fn cut(words: &str) -> (&str, &str) {
     words.split_once(' ').unwrap_or((words, ""))
 }
 
-/// The dictionary `simple` with these stop words.
-fn simple(alloc: Global, stops: &str, accept: bool) -> Result<AnyDictionary, AllocError> {
+/// The list of these stop words.
+fn stops(alloc: Global, words: &str) -> Result<StopList, AllocError> {
     let mut list = StopList::new(alloc);
-    for word in stops.split(' ') {
+    for word in words.split(' ') {
         if list.add_line(alloc, word).is_err() {
             return Err(AllocError);
         }
     }
-    Ok(AnyDictionary::Simple(Simple::new(list, accept)))
-}
-
-/// The dictionary of stems with these stop words.
-fn porter(alloc: Global, stops: &str) -> Result<AnyDictionary, AllocError> {
-    let mut list = StopList::new(alloc);
-    for word in stops.split(' ') {
-        if list.add_line(alloc, word).is_err() {
-            return Err(AllocError);
-        }
-    }
-    Ok(AnyDictionary::Porter(Porter::new(list)))
+    Ok(list)
 }
 
 /// The case sensitive dictionary of these synonyms.
@@ -162,12 +154,12 @@ fn define(
     name: &str,
     rest: &str,
 ) -> Result<(), ConfigError> {
-    let (front, behind) = cut(rest);
+    let (front, after) = cut(rest);
     let dictionary = match kind {
-        "O" => porter(alloc, rest)?,
+        "O" => AnyDictionary::Porter(Porter::new(stops(alloc, rest)?)),
         "S" => synonym(alloc, rest)?,
-        "T" => thesaurus(alloc, configs, front, behind)?,
-        _ => simple(alloc, behind, front == "1")?,
+        "T" => thesaurus(alloc, configs, front, after)?,
+        _ => AnyDictionary::Simple(Simple::new(stops(alloc, after)?, front == "1")),
     };
     configs.add_dictionary(alloc, name, dictionary)
 }
@@ -213,77 +205,85 @@ fn push_placed(out: &mut String, placed: &Placed) -> Result<(), AllocError> {
 }
 
 /// The placed lexemes of a text, shown.
-fn shown(alloc: Global, configs: &Configs, row: &str) -> Result<String, Fail> {
+fn shown(alloc: Global, out: &mut String, configs: &Configs, row: &str) -> Result<(), Fail> {
     let (name, text) = cut(row);
     let Some(config) = configs.config(name) else {
-        return said(alloc, "none");
+        out.push_str("none")?;
+        return Ok(());
     };
-    let mut out = String::new(alloc);
-    let list = configs.lexize_all(alloc, config, text)?;
-    for placed in &list {
-        push_placed(&mut out, placed)?;
+    for placed in &configs.lexize_all(alloc, config, text)? {
+        push_placed(out, placed)?;
     }
-    Ok(out)
-}
-
-/// What comes of a definition.
-fn defined(alloc: Global, configs: &mut Configs, row: &str) -> Result<String, Fail> {
-    match step(alloc, configs, row) {
-        Ok(()) => said(alloc, "ok"),
-        Err(error) => Ok(format!(in alloc; "{error}")?),
-    }
+    Ok(())
 }
 
 /// What is made of a text.
 fn made(
     alloc: Global,
+    out: &mut String,
     configs: &Configs,
     config: &Config,
     call: &str,
     text: &str,
-) -> Result<String, Fail>
+) -> Result<(), Fail>
     requires { IsWithin configs.now config.now }
 {
     let query = match call {
-        "vector" => return vector_tests::printed(alloc, to_tsvector(alloc, configs, config, text)),
+        "vector" => {
+            let vector = to_tsvector(alloc, configs, config, text);
+            return vector_tests::printed(alloc, out, vector);
+        }
         "to" => to_tsquery(alloc, configs, config, text),
         "plain" => plainto_tsquery(alloc, configs, config, text),
         "phrase" => phraseto_tsquery(alloc, configs, config, text),
         _ => websearch_to_tsquery(alloc, configs, config, text),
     };
-    query_tests::printed(alloc, query)
+    query_tests::printed(alloc, out, query)
+}
+
+/// Puts the place of a dictionary, and whether it is there.
+fn push_place(out: &mut String, configs: &Configs, name: &str) -> Result<(), AllocError> {
+    let place = configs.place(name);
+    let is_there = configs.dictionary(name).is_some();
+    write!(out, "{place:?} {is_there}")
+}
+
+/// Puts the list that a type is given, and that of another.
+fn push_lists(alloc: Global, out: &mut String) -> Result<(), AllocError> {
+    let mut config = Config::empty(alloc)?;
+    config.set(TokenType::Uint, vec![in alloc; 3, 1]?);
+    let given = config.list(TokenType::Uint);
+    let other = config.list(TokenType::Blank);
+    write!(out, "{given:?} {other:?}")
 }
 
 /// What comes of a step.
-pub fn outcome(alloc: Global, configs: &mut Configs, row: &str) -> Result<String, Fail> {
+pub fn outcome(
+    alloc: Global,
+    out: &mut String,
+    configs: &mut Configs,
+    row: &str,
+) -> Result<(), Fail> {
     let (kind, rest) = cut(row);
     match kind {
-        "?" => shown(alloc, configs, rest),
+        "?" => return shown(alloc, out, configs, rest),
+        "@" => push_place(out, configs, rest)?,
+        "L" => push_lists(alloc, out)?,
         "to" | "plain" | "phrase" | "web" | "vector" => match configs.config("c") {
-            Some(config) => made(alloc, configs, config, kind, rest),
-            None => said(alloc, "none"),
+            Some(config) => return made(alloc, out, configs, config, kind, rest),
+            None => out.push_str("none")?,
         },
-        _ => defined(alloc, configs, row),
+        _ => match step(alloc, configs, row) {
+            Ok(()) => out.push_str("ok")?,
+            Err(error) => write!(out, "{error}")?,
+        },
     }
+    Ok(())
 }
 
 /// Each step gives its outcome.
 #[test]
 fn steps(rt: HostRuntime) -> Result<(), Fail> {
-    try_rows(&rt, rt.alloc(), Kind::Step, ROWS, 61)?;
+    try_rows(&rt, rt.alloc(), Kind::Step, ROWS, 64)?;
     try_rows(&rt, rt.alloc(), Kind::Step, MAKERS, 56)
-}
-
-/// Dictionaries are found by name and keep their places, and a type's list is replaced.
-#[test]
-fn places(rt: HostRuntime) -> Result<(), Fail> {
-    let alloc = rt.alloc();
-    let configs = Configs::new(alloc)?;
-    assert!(rt; configs.dictionary("simple").is_some() && configs.dictionary("none").is_none());
-    assert_eq!(rt; configs.place("simple"), Some(0));
-    let mut config = Config::empty(alloc)?;
-    config.set(TokenType::Uint, vec![in alloc; 3, 1]?);
-    assert_eq!(rt; config.list(TokenType::Uint), [3, 1].as_slice());
-    assert!(rt; config.list(TokenType::Blank).is_empty());
-    Ok(())
 }

@@ -16,14 +16,14 @@ pub enum Kind {
     Order,
     /// The first word of a line.
     Front,
+    /// A text without blanks, in lower case and in quotes.
+    Written,
     /// What comes of a definition, or of a text by those before it.
     Step,
-    /// Whether a vector satisfies a query.
-    Meaning,
+    /// Whether vectors satisfy a query.
+    Verdicts,
     /// The answer for a query by values.
     Judgement,
-    /// Whether matching agrees with the table.
-    Agreement,
     /// The keys of a vector.
     VectorKeys,
     /// The keys of a query.
@@ -44,8 +44,6 @@ pub enum Kind {
     Mapping,
     /// What a line by itself says.
     Statement,
-    /// That a line says nothing.
-    Nothing,
     /// The best rule of a thesaurus.
     Best,
     /// Whether phrases go on.
@@ -54,12 +52,12 @@ pub enum Kind {
     Told,
     /// The printed form of a vector.
     Vector,
+    /// The printed form of a vector that is joined in one value.
+    Joined,
     /// How many lexemes a large vector has.
     Large,
-    /// A vector without positions.
-    Stripped,
-    /// A vector with one weight.
-    Weighted,
+    /// A vector without positions, and with one weight.
+    Changed,
     /// What is read of bytes.
     Bytes,
     /// The encoding of a vector.
@@ -82,64 +80,87 @@ pub enum Kind {
     SynonymLines,
 }
 
-/// The answer to a row about dictionaries.
-fn word_answer(alloc: Global, kind: Kind, asked: &str) -> Result<String, Fail> {
+/// Puts the answer to a row about dictionaries.
+fn answer_word(alloc: Global, out: &mut String, kind: Kind, asked: &str) -> Result<(), Fail> {
     match kind {
-        Kind::Best => thesaurus_tests::best(alloc, asked),
-        Kind::GoingOn => thesaurus_tests::going_on(alloc, asked),
-        Kind::Told => thesaurus_tests::single(alloc, asked),
-        Kind::Stem => word_tests::stemmed(alloc, asked),
-        Kind::Porter => word_tests::porter(alloc, asked),
-        Kind::Stops => word_tests::stopped(alloc, asked),
-        Kind::Accepted => word_tests::accepted(alloc, asked),
-        Kind::Passed => word_tests::passed(alloc, asked),
-        Kind::SynonymLines => word_tests::synonym_lines(alloc, asked),
-        _ => word_tests::replaced(alloc, asked),
+        Kind::Best => thesaurus_tests::best(alloc, out, asked),
+        Kind::GoingOn => thesaurus_tests::going_on(alloc, out, asked),
+        Kind::Told => thesaurus_tests::single(alloc, out, asked),
+        Kind::Stem => word_tests::stemmed(alloc, out, asked),
+        Kind::Porter => word_tests::porter(alloc, out, asked),
+        Kind::Stops => word_tests::stopped(alloc, out, asked),
+        Kind::Accepted => word_tests::accepted(alloc, out, asked),
+        Kind::Passed => word_tests::passed(alloc, out, asked),
+        Kind::SynonymLines => word_tests::synonym_lines(alloc, out, asked),
+        _ => word_tests::replaced(alloc, out, asked),
     }
 }
 
-/// The answer to a row about vectors.
-fn vector_answer(alloc: Global, kind: Kind, asked: &str) -> Result<String, Fail> {
+/// Puts the answer to a row about vectors.
+fn answer_vector(alloc: Global, out: &mut String, kind: Kind, asked: &str) -> Result<(), Fail> {
     match kind {
-        Kind::Vector => vector_tests::outcome(alloc, asked),
-        Kind::Large => vector_tests::large(alloc, asked),
-        Kind::Stripped => vector_tests::stripped(alloc, asked),
-        Kind::Weighted => vector_tests::weighted(alloc, asked),
-        Kind::Bytes => vector_tests::read(alloc, asked),
-        Kind::Encoded => vector_tests::encoded(alloc, asked),
-        Kind::Joins => vector_tests::joins(alloc, asked),
-        _ => word_answer(alloc, kind, asked),
+        Kind::Vector => vector_tests::printed(alloc, out, vector_tests::vector(alloc, asked)),
+        Kind::Joined => vector_tests::printed(alloc, out, vector_tests::joined(alloc, asked)),
+        Kind::Large => vector_tests::large(alloc, out, asked),
+        Kind::Changed => vector_tests::changed(alloc, out, asked),
+        Kind::Bytes => vector_tests::read(alloc, out, asked),
+        Kind::Encoded => vector_tests::encoded(alloc, out, asked),
+        _ => vector_tests::joins(alloc, out, asked),
     }
 }
 
-/// The answer to a row about queries.
-fn query_answer(alloc: Global, kind: Kind, asked: &str) -> Result<String, Fail> {
+/// Puts the answer to a row about queries.
+fn answer_query(alloc: Global, out: &mut String, kind: Kind, asked: &str) -> Result<(), Fail> {
     match kind {
-        Kind::Query => query_tests::outcome(alloc, asked),
-        Kind::Nodes => query_tests::nodes(alloc, asked),
-        Kind::Meaning => match_tests::meaning(alloc, asked),
-        Kind::Judgement => match_tests::judgement(alloc, asked),
-        Kind::Agreement => match_tests::disagreed(alloc, asked),
-        Kind::VectorKeys => match_tests::keys_of_vector(alloc, asked),
-        Kind::QueryKeys => match_tests::keys_of_query(alloc, asked),
-        _ => vector_answer(alloc, kind, asked),
+        Kind::Query => query_tests::printed(alloc, out, query_tests::query_of(alloc, asked)),
+        Kind::Nodes => query_tests::nodes(alloc, out, asked),
+        Kind::Verdicts => match_tests::verdicts(alloc, out, asked),
+        Kind::Judgement => match_tests::judgement(alloc, out, asked),
+        Kind::VectorKeys => match_tests::keys_of_vector(alloc, out, asked),
+        _ => match_tests::keys_of_query(alloc, out, asked),
     }
 }
 
-/// The answer to a row.
-fn answer(alloc: Global, configs: &mut Configs, kind: Kind, asked: &str) -> Result<String, Fail> {
+/// Puts the answer to a row about words, tokens and scripts.
+fn answer_text(alloc: Global, out: &mut String, kind: Kind, asked: &str) -> Result<(), Fail> {
     match kind {
-        Kind::Order => base_tests::compared(alloc, asked),
-        Kind::Front => base_tests::front(alloc, asked),
-        Kind::Step => config_tests::outcome(alloc, configs, asked),
-        Kind::Tokens => parser_tests::tokens(alloc, asked),
-        Kind::TokenKind => parser_tests::kind(alloc, asked),
-        Kind::Script => script_tests::script(alloc, asked),
-        Kind::OpeningLine => script_tests::opening_line(alloc, asked),
-        Kind::Mapping => script_tests::mapping(alloc, asked),
-        Kind::Statement => script_tests::statement(alloc, asked),
-        Kind::Nothing => script_tests::nothing(alloc, asked),
-        _ => query_answer(alloc, kind, asked),
+        Kind::Order => base_tests::compared(alloc, out, asked),
+        Kind::Front => base_tests::front(out, asked),
+        Kind::Written => base_tests::written(alloc, out, asked),
+        Kind::Tokens => parser_tests::tokens(alloc, out, asked),
+        Kind::TokenKind => parser_tests::kind(out, asked),
+        Kind::Script => script_tests::script(out, asked),
+        Kind::OpeningLine => script_tests::opening_line(alloc, out, asked),
+        Kind::Mapping => script_tests::mapping(alloc, out, asked),
+        _ => script_tests::statement(alloc, out, asked),
+    }
+}
+
+/// Puts the answer to a row.
+fn answer(
+    alloc: Global,
+    out: &mut String,
+    configs: &mut Configs,
+    kind: Kind,
+    asked: &str,
+) -> Result<(), Fail> {
+    match kind {
+        Kind::Step => config_tests::outcome(alloc, out, configs, asked),
+        Kind::Query | Kind::Nodes | Kind::Verdicts | Kind::Judgement => {
+            answer_query(alloc, out, kind, asked)
+        }
+        Kind::VectorKeys | Kind::QueryKeys => answer_query(alloc, out, kind, asked),
+        Kind::Vector | Kind::Joined | Kind::Large | Kind::Changed => {
+            answer_vector(alloc, out, kind, asked)
+        }
+        Kind::Bytes | Kind::Encoded | Kind::Joins => answer_vector(alloc, out, kind, asked),
+        Kind::Best | Kind::GoingOn | Kind::Told | Kind::Stem | Kind::Porter | Kind::Stops => {
+            answer_word(alloc, out, kind, asked)
+        }
+        Kind::Accepted | Kind::Passed | Kind::Synonym | Kind::SynonymLines => {
+            answer_word(alloc, out, kind, asked)
+        }
+        _ => answer_text(alloc, out, kind, asked),
     }
 }
 
@@ -153,7 +174,8 @@ fn try_row<R: Abort>(
 ) -> Result<(), Fail> {
     let row = expanded(alloc, row)?;
     let (asked, want) = row.as_str().split_once('=').unwrap_or((row.as_str(), ""));
-    let given = answer(alloc, configs, kind, asked)?;
+    let mut given = String::new(alloc);
+    answer(alloc, &mut given, configs, kind, asked)?;
     assert_eq!(rt; given.as_str(), want, "{asked}");
     Ok(())
 }

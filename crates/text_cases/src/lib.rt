@@ -1,5 +1,5 @@
-//! Cases of texts and their meaning: rows that say what comes of them, and a second matcher that tries each place of a
-//! wide range.
+//! Cases of texts and their meaning: rows that say what comes of them. One reader runs the rows of each kind, and puts
+//! what comes of a row after an empty text, which is compared with the row's.
 //!
 //! Tests are in a crate of their own, since a crate with tests is proved twice.
 #![tactic(auto)]
@@ -22,8 +22,6 @@ mod query_tests;
 mod rows;
 #[cfg(test)]
 mod script_tests;
-#[cfg(test)]
-mod slow;
 #[cfg(test)]
 mod thesaurus_tests;
 #[cfg(test)]

@@ -1,6 +1,5 @@
 // Texts and their tokens.
 use crate::kinds::{Kind, try_rows};
-use crate::rows::said;
 use std::alloc::{AllocError, Global};
 use std::test::Fail;
 use ts_parser::{Token, TokenType, token_list};
@@ -36,34 +35,37 @@ const KINDS: &str = "\
     int=21 Int;uint=22 Uint;=none;Word=none;words=none";
 
 /// Puts a token after others.
-fn push_token(text: &mut String, token: &Token) -> Result<(), AllocError> {
-    let between = if text.is_empty() { "" } else { ", " };
+fn push_token(out: &mut String, token: &Token) -> Result<(), AllocError> {
+    let between = if out.is_empty() { "" } else { ", " };
     let kind = token.kind.number();
     let start = token.start;
     let length = token.length;
-    write!(text, "{between}{kind} {start} {length}")
+    write!(out, "{between}{kind} {start} {length}")
 }
 
 /// The tokens of a text.
-pub fn tokens(alloc: Global, asked: &str) -> Result<String, Fail> {
-    let mut text = String::new(alloc);
+pub fn tokens(alloc: Global, out: &mut String, asked: &str) -> Result<(), Fail> {
     for token in &token_list(alloc, asked)? {
-        push_token(&mut text, token)?;
+        push_token(out, token)?;
     }
-    Ok(text)
+    Ok(())
 }
 
 /// The type of a name.
-pub fn kind(alloc: Global, name: &str) -> Result<String, Fail> {
+pub fn kind(out: &mut String, name: &str) -> Result<(), Fail> {
     let Some(kind) = TokenType::from_name(name) else {
-        return said(alloc, "none");
+        out.push_str("none")?;
+        return Ok(());
     };
-    if kind.name() != name {
-        return said(alloc, "another name");
-    }
     let number = kind.number();
     let parts = if kind.has_parts() { " of parts" } else { "" };
-    Ok(format!(in alloc; "{number} {kind:?}{parts}")?)
+    let again = if kind.name() == name {
+        ""
+    } else {
+        " of another name"
+    };
+    write!(out, "{number} {kind:?}{parts}{again}")?;
+    Ok(())
 }
 
 /// Each text has its tokens, and each type its name.

@@ -107,7 +107,7 @@ fn written(alloc: Global) -> Result<TsQuery, QueryError> {
 }
 
 /// The query of a row's text.
-fn query_of(alloc: Global, text: &str) -> Result<TsQuery, QueryError> {
+pub fn query_of(alloc: Global, text: &str) -> Result<TsQuery, QueryError> {
     if text == "%" {
         return written(alloc);
     }
@@ -118,24 +118,25 @@ fn query_of(alloc: Global, text: &str) -> Result<TsQuery, QueryError> {
 }
 
 /// The printed form of a query, or why there is none.
-pub fn printed(alloc: Global, query: Result<TsQuery, QueryError>) -> Result<String, Fail> {
+pub fn printed(
+    alloc: Global,
+    out: &mut String,
+    query: Result<TsQuery, QueryError>,
+) -> Result<(), Fail> {
     match query {
-        Ok(query) => Ok(query.to_text(alloc)?),
-        Err(error) => Ok(format!(in alloc; "{error}")?),
+        Ok(query) => out.push_str(query.to_text(alloc)?.as_str())?,
+        Err(error) => write!(out, "{error}")?,
     }
-}
-
-/// The printed form of a row's query, or why its text is refused.
-pub fn outcome(alloc: Global, text: &str) -> Result<String, Fail> {
-    printed(alloc, query_of(alloc, text))
+    Ok(())
 }
 
 /// The nodes of a row's query, and how many operands it has.
-pub fn nodes(alloc: Global, text: &str) -> Result<String, Fail> {
+pub fn nodes(alloc: Global, out: &mut String, text: &str) -> Result<(), Fail> {
     let query = query_of(alloc, text)?;
     let nodes = query.nodes();
     let count = query.operands().len();
-    Ok(format!(in alloc; "{nodes:?} {count}")?)
+    write!(out, "{nodes:?} {count}")?;
+    Ok(())
 }
 
 /// The nodes of a query are in postfix order.

@@ -1,6 +1,5 @@
 // Rows of text: what is asked, `=`, and what comes of it.
 use std::alloc::{AllocError, Global};
-use std::test::Fail;
 
 /// Puts a piece after a text, so many times.
 fn push_times(text: &mut String, piece: &str, times: u32) -> Result<(), AllocError> {
@@ -30,11 +29,6 @@ pub fn expanded(alloc: Global, row: &str) -> Result<String, AllocError> {
 /// What is before and after the first `@`.
 pub fn cut(asked: &str) -> (&str, &str) {
     asked.split_once('@').unwrap_or((asked, ""))
-}
-
-/// A text as an answer.
-pub fn said(alloc: Global, text: &str) -> Result<String, Fail> {
-    Ok(String::from_str(alloc, text)?)
 }
 
 /// Puts a word after others.

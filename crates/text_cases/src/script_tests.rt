@@ -1,8 +1,8 @@
 // What a script says.
 use crate::kinds::{Kind, try_rows};
-use crate::rows::{push_number, push_word, said};
+use crate::rows::{push_number, push_word};
 use shell_script::{
-    Lines, Mapping, Step, Types, read_line, read_mapping, read_opening_line, steps,
+    Lines, Mapping, Statement, Step, Types, read_line, read_mapping, read_opening_line, steps,
 };
 use std::alloc::{AllocError, Global};
 use std::test::Fail;
@@ -157,19 +157,19 @@ fn push_step(text: &mut String, step: Step<'_>) -> Result<(), AllocError> {
 }
 
 /// The steps of a script.
-pub fn script(alloc: Global, asked: &str) -> Result<String, Fail> {
-    let mut text = String::new(alloc);
+pub fn script(out: &mut String, asked: &str) -> Result<(), Fail> {
     for step in steps(asked.as_bytes()) {
-        push_step(&mut text, step)?;
+        push_step(out, step)?;
     }
-    Ok(text)
+    Ok(())
 }
 
 /// What a first line says.
-pub fn opening_line(alloc: Global, line: &str) -> Result<String, Fail> {
+pub fn opening_line(alloc: Global, out: &mut String, line: &str) -> Result<(), Fail> {
     let line = bytes_of(alloc, line)?;
     let head = read_opening_line(line.as_slice());
-    Ok(format!(in alloc; "{head:?}")?)
+    write!(out, "{head:?}")?;
+    Ok(())
 }
 
 /// Puts the numbers of types after a text.
@@ -181,38 +181,28 @@ fn push_types(text: &mut String, types: Types<'_>) -> Result<(), AllocError> {
 }
 
 /// What a line of a configuration says.
-pub fn mapping(alloc: Global, line: &str) -> Result<String, Fail> {
+pub fn mapping(alloc: Global, out: &mut String, line: &str) -> Result<(), Fail> {
     let line = bytes_of(alloc, line)?;
     let Some(Mapping { types, names }) = read_mapping(line.as_slice()) else {
-        return said(alloc, "none");
+        out.push_str("none")?;
+        return Ok(());
     };
-    let mut text = String::new(alloc);
-    push_types(&mut text, types)?;
+    push_types(out, types)?;
     for name in names {
-        push_word(&mut text, name)?;
+        push_word(out, name)?;
     }
-    Ok(text)
+    Ok(())
 }
 
-/// What the bytes of a line by itself say.
-fn statement_of(alloc: Global, line: &[u8]) -> Result<String, Fail> {
-    let said = read_line(alloc, line)?;
-    Ok(format!(in alloc; "{said:?}")?)
-}
-
-/// What a line by itself says.
-pub fn statement(alloc: Global, line: &str) -> Result<String, Fail> {
+/// What a line by itself says; nothing is put for a line that says nothing.
+pub fn statement(alloc: Global, out: &mut String, line: &str) -> Result<(), Fail> {
     let line = bytes_of(alloc, line)?;
-    statement_of(alloc, line.as_slice())
-}
-
-/// Nothing where a line by itself says nothing, else what it says.
-pub fn nothing(alloc: Global, line: &str) -> Result<String, Fail> {
-    let read = statement(alloc, line)?;
-    if read.as_str() == "ScriptLine { session: 0, statement: Invalid }" {
-        return said(alloc, "");
+    let said = read_line(alloc, line.as_slice())?;
+    if said.session == 0 && matches!(said.statement, Statement::Invalid) {
+        return Ok(());
     }
-    Ok(read)
+    write!(out, "{said:?}")?;
+    Ok(())
 }
 
 /// Each row says what it says.
@@ -223,5 +213,5 @@ fn scripts(rt: HostRuntime) -> Result<(), Fail> {
     try_rows(&rt, alloc, Kind::OpeningLine, OPENING_LINES, 32)?;
     try_rows(&rt, alloc, Kind::Mapping, MAPPINGS, 15)?;
     try_rows(&rt, alloc, Kind::Statement, ASKING, 18)?;
-    try_rows(&rt, alloc, Kind::Nothing, NO_STATEMENTS, 64)
+    try_rows(&rt, alloc, Kind::Statement, NO_STATEMENTS, 64)
 }

@@ -1,6 +1,6 @@
 // What thesauri replace, and which lines are refused.
 use crate::kinds::{Kind, try_rows};
-use crate::rows::{cut, push_word, said};
+use crate::rows::{cut, push_number, push_word};
 use std::alloc::{AllocError, Global};
 use std::test::Fail;
 use ts_base::{Answer, Dictionary, Found, LONGEST_LEXEME, Lexeme, LinesError};
@@ -35,6 +35,19 @@ impl Dictionary for Sub {
     }
 }
 
+/// Answers, one for each word: `?` is a stop word, `!` is unknown, and others have no mark.
+fn answers_of(alloc: Global, text: &str) -> Result<Vec<Answer>, Fail> {
+    let mut answers = Vec::new(alloc);
+    for word in text.split_whitespace() {
+        answers.push(match word {
+            "?" => Answer::Stop,
+            "!" => Answer::Unknown,
+            _ => lexeme_answer(alloc, word)?,
+        })?;
+    }
+    Ok(answers)
+}
+
 /// An answer of one lexeme without a mark.
 fn lexeme_answer(alloc: Global, word: &str) -> Result<Answer, Fail> {
     let lexeme = Lexeme::new(alloc, word)?;
@@ -46,20 +59,6 @@ fn lexeme_answer(alloc: Global, word: &str) -> Result<Answer, Fail> {
     Ok(Answer::Lexemes(found))
 }
 
-/// Answers, one for each word: `?` is a stop word, `!` is unknown, and others have no mark.
-fn answers_of(alloc: Global, text: &str) -> Result<Vec<Answer>, Fail> {
-    let mut answers = Vec::new(alloc);
-    for word in text.split_whitespace() {
-        let answer = match word {
-            "?" => Answer::Stop,
-            "!" => Answer::Unknown,
-            _ => lexeme_answer(alloc, word)?,
-        };
-        answers.push(answer)?;
-    }
-    Ok(answers)
-}
-
 /// Puts words after others, each with a star after it where it has a mark.
 fn push_found(text: &mut String, words: &[Found]) -> Result<(), AllocError> {
     for word in words {
@@ -69,19 +68,20 @@ fn push_found(text: &mut String, words: &[Found]) -> Result<(), AllocError> {
     Ok(())
 }
 
-/// What a dictionary knows of a word.
-pub fn told<D: Dictionary>(alloc: Global, dictionary: &D, word: &str) -> Result<String, Fail> {
+/// Puts what a dictionary knows of a word.
+pub fn push_told<D: Dictionary>(
+    alloc: Global,
+    out: &mut String,
+    dictionary: &D,
+    word: &str,
+) -> Result<(), AllocError> {
     if word.is_empty() || word.len() > LONGEST_LEXEME {
-        return said(alloc, "no word");
+        return push_word(out, "no word");
     }
     match dictionary.lexize(alloc, word)? {
-        Answer::Unknown => said(alloc, "unknown"),
-        Answer::Stop => said(alloc, "stop"),
-        Answer::Lexemes(found) => {
-            let mut text = String::new(alloc);
-            push_found(&mut text, &found)?;
-            Ok(text)
-        }
+        Answer::Unknown => push_word(out, "unknown"),
+        Answer::Stop => push_word(out, "stop"),
+        Answer::Lexemes(found) => push_found(out, &found),
     }
 }
 
@@ -112,25 +112,29 @@ fn read(alloc: Global, lines: &str) -> Result<Thesaurus, LinesError> {
     Thesaurus::read(alloc, if lines.is_empty() { LINES } else { lines }, &Sub)
 }
 
-/// The best rule of a thesaurus.
-fn best_of(alloc: Global, thesaurus: &Thesaurus, text: &str) -> Result<String, Fail> {
-    let answers = answers_of(alloc, text)?;
-    let Some(replaced) = thesaurus.best(&answers) else {
-        return said(alloc, "none");
-    };
-    let tokens = replaced.tokens;
-    let mut text = format!(in alloc; "{tokens}")?;
-    push_found(&mut text, replaced.words)?;
-    Ok(text)
+/// Puts the best rule of a thesaurus.
+fn push_best(
+    out: &mut String,
+    thesaurus: &Thesaurus,
+    answers: &[Answer],
+) -> Result<(), AllocError> {
+    match thesaurus.best(answers) {
+        Some(replaced) => {
+            push_number(out, replaced.tokens)?;
+            push_found(out, replaced.words)
+        }
+        None => out.push_str("none"),
+    }
 }
 
 /// The best rule of a row's lines.
-pub fn best(alloc: Global, asked: &str) -> Result<String, Fail> {
+pub fn best(alloc: Global, out: &mut String, asked: &str) -> Result<(), Fail> {
     let (lines, text) = cut(asked);
     match read(alloc, lines) {
-        Ok(thesaurus) => best_of(alloc, &thesaurus, text),
-        Err(error) => Ok(format!(in alloc; "{error}")?),
+        Ok(thesaurus) => push_best(out, &thesaurus, &answers_of(alloc, text)?)?,
+        Err(error) => write!(out, "{error}")?,
     }
+    Ok(())
 }
 
 /// Whether a walk along answers goes on.
@@ -147,27 +151,29 @@ fn walks_on(
 }
 
 /// Whether phrases go on, by the answers and by a walk along them.
-pub fn going_on(alloc: Global, asked: &str) -> Result<String, Fail> {
+pub fn going_on(alloc: Global, out: &mut String, asked: &str) -> Result<(), Fail> {
     let (lines, text) = cut(asked);
     let thesaurus = read(alloc, lines)?;
     let answers = answers_of(alloc, text)?;
     let goes_on = thesaurus.continues(&answers);
-    if walks_on(alloc, &thesaurus, answers)? != goes_on {
-        return said(alloc, "the walk differs");
-    }
-    said(alloc, if goes_on { "yes" } else { "no" })
+    let same = walks_on(alloc, &thesaurus, answers)? == goes_on;
+    out.push_str(if goes_on { "yes" } else { "no" })?;
+    out.push_str(if same { "" } else { ", and the walk differs" })?;
+    Ok(())
 }
 
 /// Dictionaries with words, and what each knows of its word.
 const SINGLES: &str = "thesaurus@new=unknown;sub@the=stop;sub@no=unknown;sub@cat=cat*";
 
 /// What a dictionary knows of a word through its trait.
-pub fn single(alloc: Global, asked: &str) -> Result<String, Fail> {
+pub fn single(alloc: Global, out: &mut String, asked: &str) -> Result<(), Fail> {
     let (dictionary, word) = cut(asked);
     if dictionary == "sub" {
-        return told(alloc, &Sub, word);
+        push_told(alloc, out, &Sub, word)?;
+    } else {
+        push_told(alloc, out, &Thesaurus::new(alloc), word)?;
     }
-    told(alloc, &Thesaurus::new(alloc), word)
+    Ok(())
 }
 
 /// Thesauri replace phrases; dictionaries answer through their trait.

@@ -1,10 +1,10 @@
 // Vectors: what is printed of texts, which are refused, and how they are encoded.
 use crate::kinds::{Kind, try_rows};
-use crate::rows::{expanded, push_number, push_word, said};
+use crate::rows::{expanded, push_number};
 use std::alloc::{AllocError, Global};
 use std::test::Fail;
 use ts_base::{Lexeme, Position, Weight};
-use ts_vector::{Joined, Positions, TsVector, VectorBuilder, VectorBytes, VectorError};
+use ts_vector::{EntryBytes, Joined, TsVector, VectorBuilder, VectorBytes, VectorError};
 
 /// Texts and what they give; `+` joins vectors.
 const ROWS: &str = concat!(
@@ -34,10 +34,12 @@ const ROWS: &str = concat!(
     "a:1+b:x+c:=syntax error at 2",
 );
 
-/// Texts after 512 long words, and how many lexemes they have: the content has to stay below the limit.
+/// Texts after 512 long words, and how many lexemes they have, joined to vectors and in one value that grows: the
+/// content has to stay below the limit.
 const LARGE: &str = concat!(
-    " a:1,1A «b^1020»=514; a:1,1A «b^1020»+a=514;",
-    " a:1,1A «b^1020»+c=vector of 1048576 bytes; a:1,1A «b^1021»=vector of 1048576 bytes",
+    " a:1,1A «b^1020»=514 514; a:1,1A «b^1020»+a=514 514;",
+    " a:1,1A «b^1020»+c= vector of 1048576 bytes vector of 1048576 bytes;",
+    " a:1,1A «b^1021»= vector of 1048576 bytes vector of 1048576 bytes",
 );
 
 /// Bytes, and what is read of them where they lie.
@@ -57,16 +59,24 @@ const BYTES: &str = concat!(
     // No position, and positions out of order.
     "1 0 0 0 1 0 97 1 0 0 192=bad bytes at 9;1 0 0 0 1 0 97 2 0 2 0 1 0=bad bytes at 11;",
     "1 0 0 0 1 0 97 2 0 2 0 2 192=bad bytes at 11;",
-    // An encoding: how many entries, and of each the number of positions, the first and the last.
-    "2 0 0 0 1 0 97 2 0 1 192 3 0 1 0 98 0 0=2 a 2 1A 3D b 0",
+    // An encoding: how many entries, and of each the number of positions, the first and the last after it.
+    "2 0 0 0 1 0 97 2 0 1 192 3 0 1 0 98 0 0=2 a 2 Some(Position { at: 1, weight: A }) \
+    Some(Position { at: 3, weight: D }) b 0 None None",
 );
 
-/// Vectors, and their encoding after a byte that was there before.
-const ENCODED: &str = "'a':1A 'b'=7 2 0 0 0 1 0 97 1 0 1 192 1 0 98 0 0";
+/// Vectors, and their encoding after a byte that was there before, with what is read of it.
+const ENCODED: &str =
+    "'a':1A 'b'=[7, 2, 0, 0, 0, 1, 0, 97, 1, 0, 1, 192, 1, 0, 98, 0, 0] 'a':1A 'b'";
 
 /// Of many positions the 256 least are kept at each join, and what follows is after these; `%` is a vector that is
 /// built of 257 positions.
-const JOINS: &str = "a:1«+a:1^299»+b:1=2 a 256 1D 256D b 1 257D;%=1 a 256 1D 256D";
+const JOINS: &str = "\
+    a:1«+a:1^299»+b:1=2 a 256 Some(Position { at: 1, weight: D }) Some(Position { at: 256, weight: D }) \
+    b 1 Some(Position { at: 257, weight: D }) None;\
+    %=1 a 256 Some(Position { at: 1, weight: D }) Some(Position { at: 256, weight: D })";
+
+/// Vectors, and each without positions and with the weight C.
+const CHANGED: &str = "a:1,2A b='a' 'b', 'a':1C,2C 'b'";
 
 /// Adds the vector of a text to one before it.
 fn with_part(alloc: Global, value: &TsVector, part: &str) -> Result<TsVector, VectorError> {
@@ -75,7 +85,7 @@ fn with_part(alloc: Global, value: &TsVector, part: &str) -> Result<TsVector, Ve
 }
 
 /// The vector of a text; `+` joins one more vector to all before it.
-fn vector(alloc: Global, text: &str) -> Result<TsVector, VectorError> {
+pub fn vector(alloc: Global, text: &str) -> Result<TsVector, VectorError> {
     let mut parts = text.split('+');
     let mut value = TsVector::parse(alloc, parts.next().unwrap_or(""))?;
     for part in parts {
@@ -100,7 +110,7 @@ fn grown(alloc: Global, value: Joined, part: &str) -> Result<Joined, VectorError
 }
 
 /// The vector of a text, joined in one value that grows.
-fn joined(alloc: Global, text: &str) -> Result<TsVector, VectorError> {
+pub fn joined(alloc: Global, text: &str) -> Result<TsVector, VectorError> {
     let mut parts = text.split('+');
     let mut value = begun(alloc, parts.next().unwrap_or(""))?;
     for part in parts {
@@ -113,99 +123,63 @@ fn joined(alloc: Global, text: &str) -> Result<TsVector, VectorError> {
 }
 
 /// The printed form of a vector, or why it is refused.
-pub fn printed(alloc: Global, vector: Result<TsVector, VectorError>) -> Result<String, Fail> {
+pub fn printed(
+    alloc: Global,
+    out: &mut String,
+    vector: Result<TsVector, VectorError>,
+) -> Result<(), Fail> {
     match vector {
-        Ok(vector) => Ok(vector.to_text(alloc)?),
-        Err(error) => Ok(format!(in alloc; "{error}")?),
+        Ok(vector) => out.push_str(vector.to_text(alloc)?.as_str())?,
+        Err(error) => write!(out, "{error}")?,
     }
+    Ok(())
 }
 
-/// How many lexemes a vector has, or why it is refused.
-fn counted(alloc: Global, vector: Result<TsVector, VectorError>) -> Result<String, Fail> {
-    let mut text = String::new(alloc);
+/// Puts how many lexemes a vector has, or why it is refused.
+fn push_count(out: &mut String, vector: Result<TsVector, VectorError>) -> Result<(), AllocError> {
     match vector {
-        Ok(vector) => push_number(&mut text, vector.count())?,
-        Err(error) => write!(text, "{error}")?,
+        Ok(vector) => push_number(out, vector.count()),
+        Err(error) => write!(out, " {error}"),
     }
-    Ok(text)
-}
-
-/// One answer that was given twice.
-fn one_of(alloc: Global, first: String, second: &str) -> Result<String, Fail> {
-    if first.as_str() != second {
-        return said(alloc, "two answers");
-    }
-    Ok(first)
-}
-
-/// The printed form of a row's vector, or why its text is refused.
-pub fn outcome(alloc: Global, text: &str) -> Result<String, Fail> {
-    let given = printed(alloc, joined(alloc, text))?;
-    one_of(alloc, printed(alloc, vector(alloc, text))?, given.as_str())
 }
 
 /// Texts after 512 long words.
-fn long_text(alloc: Global, behind: &str) -> Result<String, AllocError> {
+fn long_text(alloc: Global, after: &str) -> Result<String, AllocError> {
     let word = expanded(alloc, "«a^2042»")?;
     let mut text = String::new(alloc);
     for k in 1000..1512 {
         push_number(&mut text, k)?;
         text.push_str(word.as_str())?;
     }
-    text.push_str(behind)?;
+    text.push_str(after)?;
     Ok(text)
 }
 
 /// How many lexemes the vector of a text has that is after 512 words of 2046 bytes.
-pub fn large(alloc: Global, behind: &str) -> Result<String, Fail> {
-    let text = long_text(alloc, behind)?;
-    let given = counted(alloc, joined(alloc, text.as_str()))?;
-    one_of(
-        alloc,
-        counted(alloc, vector(alloc, text.as_str()))?,
-        given.as_str(),
-    )
-}
-
-/// Puts how many positions there are after others, the first of them and the last.
-fn push_positions(text: &mut String, positions: Positions<'_>) -> Result<(), AllocError> {
-    push_number(text, positions.len())?;
-    if positions.is_empty() {
-        return Ok(());
-    }
-    let mut rest = positions;
-    if let Some(first) = rest.next() {
-        push_position(text, first)?;
-    }
-    if let Some(last) = rest.last() {
-        push_position(text, last)?;
-    }
+pub fn large(alloc: Global, out: &mut String, after: &str) -> Result<(), Fail> {
+    let text = long_text(alloc, after)?;
+    push_count(out, vector(alloc, text.as_str()))?;
+    push_count(out, joined(alloc, text.as_str()))?;
     Ok(())
 }
 
-/// Puts a position after others.
-fn push_position(text: &mut String, position: Position) -> Result<(), AllocError> {
-    let at = position.at();
-    let weight = position.weight();
-    write!(text, " {at}{weight:?}")
+/// Puts a lexeme, how many positions it has, the first of them and the last of the others.
+fn push_entry(out: &mut String, entry: &EntryBytes) -> Result<(), AllocError> {
+    let lexeme = entry.lexeme();
+    let mut positions = entry.positions();
+    let count = positions.len();
+    let first = positions.next();
+    let last = positions.last();
+    write!(out, " {lexeme} {count} {first:?} {last:?}")
 }
 
-/// The entries of an encoding.
-fn entries(alloc: Global, bytes: &VectorBytes) -> Result<String, Fail> {
-    let mut text = String::new(alloc);
-    push_number(&mut text, bytes.count())?;
+/// Puts the entries of an encoding.
+fn push_entries(out: &mut String, bytes: &VectorBytes) -> Result<(), AllocError> {
+    push_number(out, bytes.count())?;
     for entry in bytes.entries() {
-        push_word(&mut text, entry.lexeme())?;
-        push_positions(&mut text, entry.positions())?;
+        push_entry(out, &entry)?;
     }
-    Ok(text)
-}
-
-/// The entries of a vector, by its encoding.
-fn entries_of(alloc: Global, vector: &TsVector) -> Result<String, Fail> {
-    let mut bytes = Vec::new(alloc);
-    vector.encode(&mut bytes)?;
-    entries(alloc, &VectorBytes::new(bytes.as_slice())?)
+    Ok(())
 }
 
 /// The bytes that numbers stand for.
@@ -218,38 +192,25 @@ fn bytes_of(alloc: Global, numbers: &str) -> Result<Vec<u8>, Fail> {
 }
 
 /// What is read of bytes.
-pub fn read(alloc: Global, numbers: &str) -> Result<String, Fail> {
+pub fn read(alloc: Global, out: &mut String, numbers: &str) -> Result<(), Fail> {
     let bytes = bytes_of(alloc, numbers)?;
     match VectorBytes::new(bytes.as_slice()) {
-        Ok(bytes) => entries(alloc, &bytes),
-        Err(error) => Ok(format!(in alloc; "{error}")?),
+        Ok(bytes) => push_entries(out, &bytes)?,
+        Err(error) => write!(out, "{error}")?,
     }
+    Ok(())
 }
 
-/// The numbers of bytes.
-fn numbers_of(alloc: Global, bytes: &[u8]) -> Result<String, Fail> {
-    let mut text = String::new(alloc);
-    for byte in bytes {
-        push_number(&mut text, usize::from(*byte))?;
-    }
-    Ok(text)
-}
-
-/// The encoding of a text's vector after the byte 7.
-fn encoding(alloc: Global, text: &str) -> Result<Vec<u8>, Fail> {
+/// The encoding of a text's vector after the byte 7, and the vector that is read of it.
+pub fn encoded(alloc: Global, out: &mut String, text: &str) -> Result<(), Fail> {
     let mut bytes = vec![in alloc; 7u8]?;
     TsVector::parse(alloc, text)?.encode(&mut bytes)?;
-    Ok(bytes)
-}
-
-/// The encoding of a vector after the byte 7, where it is read back.
-pub fn encoded(alloc: Global, text: &str) -> Result<String, Fail> {
-    let bytes = encoding(alloc, text)?;
-    let back = TsVector::decode(alloc, bytes.get(1..).unwrap_or(&[]))?.to_text(alloc)?;
-    if back.as_str() != text {
-        return said(alloc, "another vector");
-    }
-    numbers_of(alloc, bytes.as_slice())
+    write!(out, "{bytes:?} ")?;
+    printed(
+        alloc,
+        out,
+        TsVector::decode(alloc, bytes.get(1..).unwrap_or(&[])),
+    )
 }
 
 /// A vector that is built of 257 positions.
@@ -262,34 +223,40 @@ fn built(alloc: Global) -> Result<TsVector, Fail> {
     Ok(builder.finish(alloc)?)
 }
 
-/// The entries of joined vectors, or of one that is built.
-pub fn joins(alloc: Global, text: &str) -> Result<String, Fail> {
-    if text == "%" {
-        return entries_of(alloc, &built(alloc)?);
-    }
-    entries_of(alloc, &joined(alloc, text)?)
+/// The entries of joined vectors, or of one that is built, by their encoding.
+pub fn joins(alloc: Global, out: &mut String, text: &str) -> Result<(), Fail> {
+    let vector = if text == "%" {
+        built(alloc)?
+    } else {
+        joined(alloc, text)?
+    };
+    let mut bytes = Vec::new(alloc);
+    vector.encode(&mut bytes)?;
+    push_entries(out, &VectorBytes::new(bytes.as_slice())?)?;
+    Ok(())
 }
 
-/// A vector without positions.
-pub fn stripped(alloc: Global, text: &str) -> Result<String, Fail> {
+/// Puts a vector without positions, and with one weight.
+fn push_changed(alloc: Global, out: &mut String, vector: &TsVector) -> Result<(), Fail> {
+    printed(alloc, out, Ok(vector.strip(alloc)?))?;
+    out.push_str(", ")?;
+    printed(alloc, out, Ok(vector.set_weight(alloc, Weight::C)?))
+}
+
+/// The vector of a text without positions, and with one weight.
+pub fn changed(alloc: Global, out: &mut String, text: &str) -> Result<(), Fail> {
     let vector = TsVector::parse(alloc, text)?;
-    Ok(vector.strip(alloc)?.to_text(alloc)?)
+    push_changed(alloc, out, &vector)
 }
 
-/// A vector with one weight.
-pub fn weighted(alloc: Global, text: &str) -> Result<String, Fail> {
-    let vector = TsVector::parse(alloc, text)?;
-    Ok(vector.set_weight(alloc, Weight::C)?.to_text(alloc)?)
-}
-
-/// Each row gives its outcome.
+/// Each row gives its outcome, by vectors that are joined and by one value that grows.
 #[test]
 fn vectors(rt: HostRuntime) -> Result<(), Fail> {
     let alloc = rt.alloc();
     try_rows(&rt, alloc, Kind::Vector, ROWS, 44)?;
+    try_rows(&rt, alloc, Kind::Joined, ROWS, 44)?;
     try_rows(&rt, alloc, Kind::Large, LARGE, 4)?;
-    try_rows(&rt, alloc, Kind::Stripped, "a:1,2A b='a' 'b'", 1)?;
-    try_rows(&rt, alloc, Kind::Weighted, "a:1,2A b='a':1C,2C 'b'", 1)
+    try_rows(&rt, alloc, Kind::Changed, CHANGED, 1)
 }
 
 /// Vectors are encoded, and read where they lie.

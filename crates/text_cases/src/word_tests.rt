@@ -1,11 +1,10 @@
 // Stems, stop words and synonyms.
 use crate::kinds::{Kind, try_rows};
-use crate::rows::{cut, push_word, said};
-use crate::thesaurus_tests::told;
+use crate::rows::{cut, push_word};
+use crate::thesaurus_tests::push_told;
 use porter_stem::{Porter, stem};
 use std::alloc::{AllocError, Global};
 use std::test::Fail;
-use ts_base::{Dictionary, LineError};
 use ts_synonym::Synonym;
 use ts_words::{Simple, StopList};
 
@@ -71,12 +70,12 @@ const ACCEPTED: &str = "the=stop;OF=stop;Fat=fat;thé=thé;th=th";
 /// Lines that a stop list is given one by one, with `|` between two, and a word; which lines it refuses, and the answer
 /// of `simple` where it doesn't accept: a refused line changes nothing.
 const PASSED: &str = concat!(
-    " The rest| \t|«a^2047» b|of@the=taken taken refused taken, stop;",
-    " The rest| \t|«a^2047» b|of@OF=taken taken refused taken, stop;",
-    " The rest| \t|«a^2047» b|of@Fat=taken taken refused taken, unknown;",
-    " The rest| \t|«a^2047» b|of@thé=taken taken refused taken, unknown;",
-    " The rest| \t|«a^2047» b|of@th=taken taken refused taken, unknown;",
-    " The rest| \t|«a^2047» b|of@rest=taken taken refused taken, unknown",
+    " The rest| \t|«a^2047» b|of@the=taken taken refused taken stop;",
+    " The rest| \t|«a^2047» b|of@OF=taken taken refused taken stop;",
+    " The rest| \t|«a^2047» b|of@Fat=taken taken refused taken unknown;",
+    " The rest| \t|«a^2047» b|of@thé=taken taken refused taken unknown;",
+    " The rest| \t|«a^2047» b|of@th=taken taken refused taken unknown;",
+    " The rest| \t|«a^2047» b|of@rest=taken taken refused taken unknown",
 );
 
 /// Whether lines are case sensitive, the lines, a word, and what stands for it, or which line is the first bad one.
@@ -96,123 +95,96 @@ const SYNONYMS: &str = concat!(
 
 /// The same of case sensitive synonyms.
 const SYNONYM_LINES: &str =
-    "a b|c *|c@a=taken refused taken, b;a b|c *|c@c=taken refused taken, unknown";
+    "a b|c *|c@a=taken refused taken b;a b|c *|c@c=taken refused taken unknown";
 
 /// The stem of a word.
-pub fn stemmed(alloc: Global, word: &str) -> Result<String, Fail> {
+pub fn stemmed(alloc: Global, out: &mut String, word: &str) -> Result<(), Fail> {
     let mut bytes = word.as_bytes().to_vec(alloc)?;
     stem(&mut bytes);
-    match String::from_utf8(bytes) {
-        Ok(text) => Ok(text),
-        Err(_) => said(alloc, "no text"),
+    match str::from_utf8(&bytes) {
+        Ok(text) => out.push_str(text)?,
+        Err(_) => out.push_str("no text")?,
     }
+    Ok(())
 }
 
-/// Which words a stop list has.
-fn found(alloc: Global, stops: &StopList, words: &str) -> Result<String, Fail> {
-    let mut marks = String::new(alloc);
+/// Puts for each of the words whether a stop list has it.
+fn push_found(out: &mut String, stops: &StopList, words: &str) -> Result<(), AllocError> {
     for word in words.split(' ') {
-        push_word(&mut marks, if stops.contains(word) { "1" } else { "0" })?;
+        push_word(out, if stops.contains(word) { "1" } else { "0" })?;
     }
-    Ok(marks)
+    Ok(())
 }
 
 /// Which words the stop list of a text has.
-pub fn stopped(alloc: Global, asked: &str) -> Result<String, Fail> {
+pub fn stopped(alloc: Global, out: &mut String, asked: &str) -> Result<(), Fail> {
     let (text, words) = cut(asked);
     match StopList::read(alloc, text) {
-        Ok(stops) => found(alloc, &stops, words),
-        Err(error) => Ok(format!(in alloc; "{error}")?),
+        Ok(stops) => push_found(out, &stops, words)?,
+        Err(error) => write!(out, "{error}")?,
     }
+    Ok(())
 }
 
 /// What the synonyms of a text have for a word.
-pub fn replaced(alloc: Global, asked: &str) -> Result<String, Fail> {
+pub fn replaced(alloc: Global, out: &mut String, asked: &str) -> Result<(), Fail> {
     let (sensitive, rest) = cut(asked);
     let (text, word) = cut(rest);
     match Synonym::read(alloc, text, sensitive == "yes") {
-        Ok(synonym) => told(alloc, &synonym, word),
-        Err(error) => Ok(format!(in alloc; "{error}")?),
+        Ok(synonym) => push_told(alloc, out, &synonym, word)?,
+        Err(error) => write!(out, "{error}")?,
     }
+    Ok(())
 }
 
 /// The answer of stems with two stop words.
-pub fn porter(alloc: Global, word: &str) -> Result<String, Fail> {
-    told(
-        alloc,
-        &Porter::new(StopList::read(alloc, "The\na\n")?),
-        word,
-    )
+pub fn porter(alloc: Global, out: &mut String, word: &str) -> Result<(), Fail> {
+    let stops = StopList::read(alloc, "The\na\n")?;
+    push_told(alloc, out, &Porter::new(stops), word)?;
+    Ok(())
 }
 
 /// The answer of `simple` with two stop words, where it accepts.
-pub fn accepted(alloc: Global, word: &str) -> Result<String, Fail> {
-    told(
-        alloc,
-        &Simple::new(StopList::read(alloc, "the\nof")?, true),
-        word,
-    )
+pub fn accepted(alloc: Global, out: &mut String, word: &str) -> Result<(), Fail> {
+    let stops = StopList::read(alloc, "the\nof")?;
+    push_told(alloc, out, &Simple::new(stops, true), word)?;
+    Ok(())
 }
 
-/// Whether a line is taken.
-fn is_taken(answer: Result<(), LineError>) -> Result<bool, AllocError> {
-    match answer {
-        Ok(()) => Ok(true),
-        Err(LineError::Memory) => Err(AllocError),
-        Err(_) => Ok(false),
-    }
-}
-
-/// Puts after others whether a line is taken.
-fn push_taken(text: &mut String, is_good: bool) -> Result<(), AllocError> {
-    push_word(text, if is_good { "taken" } else { "refused" })
-}
-
-/// Gives a stop list lines, and says which of them it takes.
-fn give_stops(alloc: Global, stops: &mut StopList, lines: &str) -> Result<String, AllocError> {
-    let mut text = String::new(alloc);
+/// The stop list of lines, with which of them it takes.
+fn stops_of(alloc: Global, out: &mut String, lines: &str) -> Result<StopList, AllocError> {
+    let mut stops = StopList::new(alloc);
     for line in lines.split('|') {
-        push_taken(&mut text, is_taken(stops.add_line(alloc, line))?)?;
+        let is_taken = stops.add_line(alloc, line).is_ok();
+        push_word(out, if is_taken { "taken" } else { "refused" })?;
     }
-    Ok(text)
-}
-
-/// Gives synonyms lines, and says which of them they take.
-fn give_synonyms(alloc: Global, synonym: &mut Synonym, lines: &str) -> Result<String, AllocError> {
-    let mut text = String::new(alloc);
-    for line in lines.split('|') {
-        push_taken(&mut text, is_taken(synonym.add_line(alloc, line))?)?;
-    }
-    Ok(text)
-}
-
-/// Which lines are taken, and what a dictionary knows of a word.
-fn both<D: Dictionary>(
-    alloc: Global,
-    taken: String,
-    dictionary: &D,
-    word: &str,
-) -> Result<String, Fail> {
-    let mut text = taken;
-    text.push_str(",")?;
-    push_word(&mut text, told(alloc, dictionary, word)?.as_str())?;
-    Ok(text)
+    Ok(stops)
 }
 
 /// Which lines a stop list takes, and the answer of `simple` where it doesn't accept.
-pub fn passed(alloc: Global, asked: &str) -> Result<String, Fail> {
+pub fn passed(alloc: Global, out: &mut String, asked: &str) -> Result<(), Fail> {
     let (lines, word) = cut(asked);
-    let mut stops = StopList::new(alloc);
-    let taken = give_stops(alloc, &mut stops, lines)?;
-    both(alloc, taken, &Simple::new(stops, false), word)
+    let stops = stops_of(alloc, out, lines)?;
+    push_told(alloc, out, &Simple::new(stops, false), word)?;
+    Ok(())
+}
+
+/// The case sensitive synonyms of lines, with which of them they take.
+fn synonym_of(alloc: Global, out: &mut String, lines: &str) -> Result<Synonym, AllocError> {
+    let mut synonym = Synonym::new(alloc, true);
+    for line in lines.split('|') {
+        let is_taken = synonym.add_line(alloc, line).is_ok();
+        push_word(out, if is_taken { "taken" } else { "refused" })?;
+    }
+    Ok(synonym)
 }
 
 /// Which lines case sensitive synonyms take, and what they have for a word.
-pub fn synonym_lines(alloc: Global, asked: &str) -> Result<String, Fail> {
+pub fn synonym_lines(alloc: Global, out: &mut String, asked: &str) -> Result<(), Fail> {
     let (lines, word) = cut(asked);
-    let mut synonym = Synonym::new(alloc, true);
-    let taken = give_synonyms(alloc, &mut synonym, lines)?;
-    both(alloc, taken, &synonym, word)
+    let synonym = synonym_of(alloc, out, lines)?;
+    push_told(alloc, out, &synonym, word)?;
+    Ok(())
 }
 
 /// Words have their stems.
