@@ -1,7 +1,8 @@
-use Rattle.std.proofs.Common.{List, [], refl, sym, subst, inl, arith}
+use Rattle.std.proofs.Common.{List, [], refl, sym, ap, subst, inl, arith}
 use Rattle.page_types.specs.declared.record.Kind.TheVariants as kind
 use Rattle.core_state.specs.Allowed.{Sheet, Step, Owes}
 use Rattle.buffer_frames.specs.Drawing.{HasEncoding}
+use Rattle.buffer_frames.specs.Journals.{is_work}
 use Rattle.buffer_frames.specs.Passes.{view_of}
 use Rattle.buffer_frames.proofs.PassesOf.{of_other}
 use Rattle.store_cases.proofs.PlainSteps.{plain_encoding, plain_owes, longer_then}
@@ -25,4 +26,5 @@ returns-clause-others g c p idle of =
     let f' = c.log_step.new.self in
     let said = c.log_step.ensures in
     of_other f f' p idle said.pins said.runs_on.flushed
-    (longer_then g.D.Disk c.log_step.result f f' _ said.added said.refused) of
+    (longer_then g.D.Disk c.log_step.result f f' _ said.added said.refused)
+    (said.rests (ap (λ (t : Step). is_work t.kind) c.new-step.ensures)) of
