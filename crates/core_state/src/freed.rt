@@ -53,7 +53,7 @@ impl Model for FreedPages {
         × AreRooms f.pages.items f.sizes.items f.rooms };
 }
 
-// One page more among rising ones.
+/// One page more among rising ones.
 pub(crate) fn note_page(freed: &mut Vec<u32>, page: u32)
     requires rising { AreRising freed.old.items }
     requires room { length freed.old.items < vec_capacity freed.old }
@@ -70,14 +70,14 @@ pub(crate) fn note_page(freed: &mut Vec<u32>, page: u32)
     }
 }
 
-// The rank of a page whose body has this length.
+/// The rank of a page whose body has this length.
 fn rank_of(size: u16) -> u64
     ensures { result ≡ room_rank size }
 {
     TOP_RANK - u64::from(size)
 }
 
-// Another rank of one page.
+/// Another rank of one page.
 fn set_rank(rooms: &mut Peaks, page: usize, size: u16)
     requires { page < length rooms.old }
     ensures here { get_or rooms.new page 0 ≡ room_rank size }
@@ -87,7 +87,7 @@ fn set_rank(rooms: &mut Peaks, page: usize, size: u16)
     rooms.set(page, rank_of(size));
 }
 
-// Another rank of one page, where it has one.
+/// Another rank of one page, where it has one.
 fn note_rank(rooms: &mut Peaks, page: usize, size: u16)
     ensures ranked { 0 < get_or rooms.old page 0 → get_or rooms.new page 0 ≡ room_rank size }
     ensures none { get_or rooms.old page 0 ≡ 0 → get_or rooms.new page 0 ≡ 0 }
@@ -99,7 +99,7 @@ fn note_rank(rooms: &mut Peaks, page: usize, size: u16)
     }
 }
 
-// Another length of one page's body, with its rank.
+/// Another length of one page's body, with its rank.
 #[tactic(auto, using(crate::proofs::PageRooms::rooms_sized))]
 fn note_size(sizes: &mut Vec<u16>, rooms: &mut Peaks, page: usize, size: u16)
     requires small { page < page_limit }
@@ -114,7 +114,7 @@ fn note_size(sizes: &mut Vec<u16>, rooms: &mut Peaks, page: usize, size: u16)
     note_rank(rooms, page, size);
 }
 
-// The lengths after one change, with the ranks.
+/// The lengths after one change, with the ranks.
 fn note_change(sizes: &mut Vec<u16>, rooms: &mut Peaks, change: &Change)
     requires { change.now.page < page_limit → change.now.page < vec_capacity sizes.old }
     ensures items { sizes.new.items ≡ sizes_after (change.now ∷ []) sizes.old.items }
@@ -129,7 +129,7 @@ fn note_change(sizes: &mut Vec<u16>, rooms: &mut Peaks, change: &Change)
     }
 }
 
-// The lengths after changes, with the ranks, for which there is room.
+/// The lengths after changes, with the ranks, for which there is room.
 fn note_changes(sizes: &mut Vec<u16>, rooms: &mut Peaks, changes: &[Change])
     requires { All (λ c. c.page < page_limit → c.page < vec_capacity sizes.old) changes.now }
     ensures items { sizes.new.items ≡ sizes_after changes.now sizes.old.items }
@@ -143,7 +143,7 @@ fn note_changes(sizes: &mut Vec<u16>, rooms: &mut Peaks, changes: &[Change])
     }
 }
 
-// One page more, with its rank.
+/// One page more, with its rank.
 fn note_freed(pages: &mut Vec<u32>, sizes: &[u16], rooms: &mut Peaks, page: u32)
     requires rising { AreRising pages.old.items }
     requires room_before { length pages.old.items < vec_capacity pages.old }
@@ -160,7 +160,7 @@ fn note_freed(pages: &mut Vec<u32>, sizes: &[u16], rooms: &mut Peaks, page: u32)
     set_rank(rooms, page as usize, size_at(sizes, page));
 }
 
-// The page of one change more, unless it is no page.
+/// The page of one change more, unless it is no page.
 fn free_change(pages: &mut Vec<u32>, sizes: &[u16], rooms: &mut Peaks, page: u32)
     requires rising { AreRising pages.old.items }
     requires room_before { length pages.old.items < vec_capacity pages.old }
@@ -178,7 +178,7 @@ fn free_change(pages: &mut Vec<u32>, sizes: &[u16], rooms: &mut Peaks, page: u32
     }
 }
 
-// The pages of changes more.
+/// The pages of changes more.
 fn free_changes(pages: &mut Vec<u32>, sizes: &[u16], rooms: &mut Peaks, changes: &[Change])
     requires rising { AreRising pages.old.items }
     requires room_before { length pages.old.items + length changes.now ≤ vec_capacity pages.old }
@@ -195,7 +195,7 @@ fn free_changes(pages: &mut Vec<u32>, sizes: &[u16], rooms: &mut Peaks, changes:
     }
 }
 
-// The place of a page that is there.
+/// The place of a page that is there.
 fn place_of(pages: &[u32], page: u32) -> usize
     requires rising { AreRising pages.now }
     requires there { In page pages.now }
@@ -208,7 +208,7 @@ fn place_of(pages: &[u32], page: u32) -> usize
     }
 }
 
-// The first place from one on whose page has room for so many bytes.
+/// The first place from one on whose page has room for so many bytes.
 fn first_with_room(
     pages: &[u32],
     sizes: &[u16],
@@ -227,7 +227,7 @@ fn first_with_room(
 }
 
 impl FreedPages {
-    // No pages.
+    /// No pages.
     pub(crate) fn new(alloc: Global) -> FreedPages
         ensures pages { result.pages ≡ [] }
         ensures sizes { result.sizes ≡ [] }
@@ -240,7 +240,7 @@ impl FreedPages {
         }
     }
 
-    // Makes room for so many pages more.
+    /// Makes room for so many pages more.
     pub(crate) fn reserve(&mut self, more: usize) -> Result<(), AllocError>
         ensures pages { self.new.pages ≡ self.old.pages }
         ensures sizes { self.new.sizes ≡ self.old.sizes }
@@ -251,7 +251,7 @@ impl FreedPages {
         self.pages.reserve(more)
     }
 
-    // Makes room for the lengths of the bodies of the first pages.
+    /// Makes room for the lengths of the bodies of the first pages.
     pub(crate) fn reserve_sizes(&mut self, end: usize) -> Result<(), AllocError>
         requires { end ≤ page_limit }
         ensures pages { self.new.pages ≡ self.old.pages }
@@ -266,7 +266,7 @@ impl FreedPages {
         self.rooms.reserve(end)
     }
 
-    // The lengths of bodies after these changes.
+    /// The lengths of bodies after these changes.
     pub(crate) fn note(&mut self, changes: &[Change])
         requires { All (λ c. c.page < page_limit → c.page < self.old.ends) changes.now }
         ensures pages { self.new.pages ≡ self.old.pages }
@@ -277,7 +277,7 @@ impl FreedPages {
         note_changes(&mut self.sizes, &mut self.rooms, changes);
     }
 
-    // The pages of these changes more.
+    /// The pages of these changes more.
     pub(crate) fn free(&mut self, changes: &[Change])
         requires room { length self.old.pages + length changes.now ≤ self.old.most }
         requires places { All (λ c. c.page < page_limit → c.page < self.old.ends) changes.now }
@@ -288,7 +288,7 @@ impl FreedPages {
         free_changes(&mut self.pages, &self.sizes, &mut self.rooms, changes);
     }
 
-    // No pages any more.
+    /// No pages any more.
     pub(crate) fn clear(&mut self)
         ensures pages { self.new.pages ≡ [] }
         ensures sizes { self.new.sizes ≡ self.old.sizes }
@@ -297,21 +297,21 @@ impl FreedPages {
         self.rooms = Peaks::new(self.alloc);
     }
 
-    // The page at a place.
+    /// The page at a place.
     pub(crate) fn at(&self, place: usize) -> Option<u32>
         ensures { result ≡ slice_get self.now.pages place }
     {
         self.pages.get(place).copied()
     }
 
-    // The length of a page's body.
+    /// The length of a page's body.
     pub(crate) fn size_of(&self, page: u32) -> u16
         ensures { result ≡ get_or self.now.sizes page 0 }
     {
         size_at(&self.sizes, page)
     }
 
-    // The first place from one on whose page has room for so many bytes.
+    /// The first place from one on whose page has room for so many bytes.
     pub(crate) fn with_room(&self, from: usize, bytes: u32) -> Option<usize>
         ensures least { IsLeastIfAny (λ p. (from ≤ p) × HasRoomIn self.now.pages self.now.sizes bytes p) result }
         ensures small { IfSome result (λ p. p < 2 ^ 21) }

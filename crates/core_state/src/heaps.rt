@@ -31,14 +31,14 @@ impl Model for HeapPages {
     ghost invariant = { λ h. AreRising h.pages.items };
 }
 
-// The page at a place.
+/// The page at a place.
 pub(crate) fn page_at(pages: &[u32], place: usize) -> Option<u32>
     ensures { result ≡ slice_get pages.now place }
 {
     pages.get(place).copied()
 }
 
-// The first of rising pages that isn't below this one.
+/// The first of rising pages that isn't below this one.
 fn first_from(pages: &[u32], page: u32) -> Option<u32>
     requires { AreRising pages.now }
     ensures { IsLeastIfAny (λ p. (page ≤ p) × In p pages.now) result }
@@ -50,7 +50,7 @@ fn first_from(pages: &[u32], page: u32) -> Option<u32>
 }
 
 impl HeapPages {
-    // No pages.
+    /// No pages.
     pub(crate) fn new(alloc: Global) -> HeapPages
         ensures { result.pages ≡ [] }
     {
@@ -59,7 +59,7 @@ impl HeapPages {
         }
     }
 
-    // Makes room for one more.
+    /// Makes room for one more.
     pub(crate) fn reserve(&mut self) -> Result<(), AllocError>
         ensures pages { self.new.pages ≡ self.old.pages }
         ensures room { OnOk result (0 < self.new.left) }
@@ -68,7 +68,7 @@ impl HeapPages {
         self.pages.reserve(1)
     }
 
-    // One more, if it isn't there, for which there is room.
+    /// One more, if it isn't there, for which there is room.
     pub(crate) fn note(&mut self, page: u32)
         requires { 0 < self.old.left }
         ensures { self.new.pages ≡ with_page page self.old.pages }
@@ -76,7 +76,7 @@ impl HeapPages {
         note_page(&mut self.pages, page);
     }
 
-    // The first that isn't below this page.
+    /// The first that isn't below this page.
     pub(crate) fn from(&self, page: u32) -> Option<u32>
         ensures { IsLeastIfAny (λ p. (page ≤ p) × In p self.now.pages) result }
     {

@@ -18,7 +18,7 @@ use page_types::{Body, HeadFields, Kind, Page, PiecesRef, Record, RowRef, Rows};
 use std::alloc::AllocError;
 use std::cmp::Ordering;
 
-// Whether a key is below another.
+/// Whether a key is below another.
 pub(crate) fn is_below(low: &[u8], high: &[u8]) -> bool
     ensures { result ≡ true ↔ KeyLess low.now high.now }
 {
@@ -28,7 +28,7 @@ pub(crate) fn is_below(low: &[u8], high: &[u8]) -> bool
     true
 }
 
-// Whether keys rise.
+/// Whether keys rise.
 fn keys_rise(keys: PiecesRef<'_>) -> bool
     ensures { result ≡ true ↔ Rising KeyLess (pieces_shown keys.entry) }
 {
@@ -40,7 +40,7 @@ fn keys_rise(keys: PiecesRef<'_>) -> bool
     true
 }
 
-// Whether the first of these keys, if there is one, is above the last of those before.
+/// Whether the first of these keys, if there is one, is above the last of those before.
 fn keys_follow(before: PiecesRef<'_>, keys: PiecesRef<'_>) -> bool
     ensures { result ≡ true ↔ Follow (pieces_shown before.entry) (pieces_shown keys.entry) }
 {
@@ -50,7 +50,7 @@ fn keys_follow(before: PiecesRef<'_>, keys: PiecesRef<'_>) -> bool
     is_below(before.at(before.len() - 1), keys.at(0))
 }
 
-// Whether there is a row, each is of the item, and their keys rise from row to row.
+/// Whether there is a row, each is of the item, and their keys rise from row to row.
 fn are_rows_of(rows: &Rows, item: u32) -> bool
     ensures { result ≡ true ↔ AreRowsOf item rows.now }
 {
@@ -75,7 +75,7 @@ fn are_rows_of(rows: &Rows, item: u32) -> bool
     true
 }
 
-// Whether two rows have the same item and the same keys.
+/// Whether two rows have the same item and the same keys.
 fn is_same_row(a: RowRef<'_>, b: RowRef<'_>) -> bool
     ensures { result ≡ true ↔ (row_shown a.entry ≡ row_shown b.entry) }
 {
@@ -90,7 +90,7 @@ fn is_same_row(a: RowRef<'_>, b: RowRef<'_>) -> bool
     true
 }
 
-// Whether rows begin with others.
+/// Whether rows begin with others.
 pub(crate) fn begin_with(rows: &Rows, front: &Rows) -> bool
     ensures { result ≡ true ↔ BeginWith rows.now front.now }
 {
@@ -108,14 +108,14 @@ pub(crate) fn begin_with(rows: &Rows, front: &Rows) -> bool
     true
 }
 
-// Whether this transaction placed the head, and runs.
+/// Whether this transaction placed the head, and runs.
 fn is_placed_by(state: &State, xid: u32, fields: HeadFields) -> bool
     ensures { result ≡ true ↔ IsPlacedBy (fate_of state.now.value) xid fields.inserted_by }
 {
     fields.inserted_by == xid && state.fate(xid) == Fate::Running
 }
 
-// Whether a record leaves rows of the item on this page, in front of the page `first`.
+/// Whether a record leaves rows of the item on this page, in front of the page `first`.
 fn leaves_rows(rec: &Record, item: u32, first: u32, new: &Page) -> bool
     ensures { result ≡ true ↔ LeavesRows rec.now item first new.now }
 {
@@ -160,7 +160,7 @@ pub fn valid_put_pending(
     Ok(leaves_in_slot(rec, name.slot, &before[0], fields, head.vector, &after[0]))
 }
 
-// Whether a record leaves the page with a row of the item after those that it had.
+/// Whether a record leaves the page with a row of the item after those that it had.
 fn adds_row(rec: &Record, item: u32, old: &Page, new: &Page) -> bool
     ensures { result ≡ true ↔ AddsRow rec.now item old.now new.now }
 {
@@ -206,7 +206,7 @@ pub fn valid_add_row(
     Ok(adds_row(rec, item, &before[0], &after[0]))
 }
 
-// Whether a record leaves the metapage with this first page and a greater number of pages.
+/// Whether a record leaves the metapage with this first page and a greater number of pages.
 fn meta_grows(rec: &Record, first: u32, old: &Page, new: &Page) -> bool
     ensures { result ≡ true ↔ MetaGrows rec.now first old.now new.now }
 {
@@ -230,7 +230,7 @@ fn meta_grows(rec: &Record, first: u32, old: &Page, new: &Page) -> bool
     true
 }
 
-// Whether a record leaves a pending page with its rows, in front of the page `to`.
+/// Whether a record leaves a pending page with its rows, in front of the page `to`.
 fn leads_on(rec: &Record, to: u32, old: &Page, new: &Page) -> bool
     ensures { result ≡ true ↔ LeadsOn rec.now to old.now new.now }
 {
@@ -246,8 +246,8 @@ fn leads_on(rec: &Record, to: u32, old: &Page, new: &Page) -> bool
     begin_with(new_rows, rows)
 }
 
-// Whether a record leaves pages, of which the first is `to`, as the pending list: the metapage, which
-// names no page, changes after this heap page.
+/// Whether a record leaves pages, of which the first is `to`, as the pending list: the metapage, which
+/// names no page, changes after this heap page.
 fn begins_list(rec: &Record, heap: u32, to: u32, before: &[Page], after: &[Page]) -> bool
     requires before { length before.now ≡ 2 }
     requires after { length after.now ≡ 2 }
@@ -263,8 +263,8 @@ fn begins_list(rec: &Record, heap: u32, to: u32, before: &[Page], after: &[Page]
     meta_grows(rec, to, meta, &after[1])
 }
 
-// Whether a record leaves pages, of which the first is `to`, behind the pending list: the metapage and
-// the last page that it names change after this heap page.
+/// Whether a record leaves pages, of which the first is `to`, behind the pending list: the metapage and
+/// the last page that it names change after this heap page.
 fn extends_list(rec: &Record, heap: u32, to: u32, before: &[Page], after: &[Page]) -> bool
     requires before { length before.now ≡ 3 }
     requires after { length after.now ≡ 3 }
@@ -283,8 +283,8 @@ fn extends_list(rec: &Record, heap: u32, to: u32, before: &[Page], after: &[Page
     leads_on(rec, to, &before[2], &after[2])
 }
 
-// Whether a record leaves pages, of which the first is `to`, behind the pending list, and changes this
-// heap page before those of the list.
+/// Whether a record leaves pages, of which the first is `to`, behind the pending list, and changes this
+/// heap page before those of the list.
 fn links_list(rec: &Record, heap: u32, to: u32, before: &[Page], after: &[Page]) -> bool
     ensures { result ≡ true ↔ LinksList rec.now heap to before.now after.now }
 {

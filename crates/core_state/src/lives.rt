@@ -48,7 +48,7 @@ impl Model for Lives {
     } };
 }
 
-// The xid that placed the document of this name, where these were placed.
+/// The xid that placed the document of this name, where these were placed.
 fn placer_of(placed: &[Placed], name: &Name) -> Option<u32>
     ensures { result ≡ placer placed.now name.now }
 {
@@ -64,7 +64,7 @@ fn placer_of(placed: &[Placed], name: &Name) -> Option<u32>
     }
 }
 
-// The commit that deleted a document, where this one does so too.
+/// The commit that deleted a document, where this one does so too.
 fn note_end(ends: &mut [u32], k: usize, commit: u32)
     ensures { ends.new ≡ slice_set ends.old k (first_end commit (get_or ends.old k 0)) }
 {
@@ -73,7 +73,7 @@ fn note_end(ends: &mut [u32], k: usize, commit: u32)
     }
 }
 
-// The commits that deleted these documents, where this one deletes those of these names.
+/// The commits that deleted these documents, where this one deletes those of these names.
 fn note_ends(ends: &mut [u32], placed: &[Placed], names: &[Name], commit: u32)
     ensures { ends.new ≡ with_ends commit placed.now names.now ends.old }
 {
@@ -85,7 +85,7 @@ fn note_ends(ends: &mut [u32], placed: &[Placed], names: &[Name], commit: u32)
 }
 
 impl Lives {
-    // No documents.
+    /// No documents.
     pub(crate) fn new(alloc: Global) -> Lives
         ensures placed { result.placed ≡ [] }
         ensures ends { result.ends ≡ [] }
@@ -96,7 +96,7 @@ impl Lives {
         }
     }
 
-    // Makes room for one more.
+    /// Makes room for one more.
     pub(crate) fn reserve(&mut self) -> Result<(), AllocError>
         ensures placed { self.new.placed ≡ self.old.placed }
         ensures ends { self.new.ends ≡ self.old.ends }
@@ -107,7 +107,7 @@ impl Lives {
         self.ends.reserve(1)
     }
 
-    // One more, for which there is room.
+    /// One more, for which there is room.
     pub(crate) fn push(&mut self, item: u32, xid: u32)
         requires { 0 < self.old.left }
         ensures placed { self.new.placed
@@ -118,7 +118,7 @@ impl Lives {
         self.ends.push_reserved(0);
     }
 
-    // A commit deletes the documents of these names.
+    /// A commit deletes the documents of these names.
     pub(crate) fn end(&mut self, names: &[Name], commit: u32)
         ensures placed { self.new.placed ≡ self.old.placed }
         ensures ends { self.new.ends
@@ -128,14 +128,14 @@ impl Lives {
         note_ends(&mut self.ends, &self.placed, names, commit);
     }
 
-    // The xid that placed the document of this name.
+    /// The xid that placed the document of this name.
     pub(crate) fn placer(&self, name: &Name) -> Option<u32>
         ensures { result ≡ placer self.now.placed name.now }
     {
         placer_of(&self.placed, name)
     }
 
-    // The life of the document with this serial, which this commit inserted.
+    /// The life of the document with this serial, which this commit inserted.
     pub(crate) fn life(&self, inserted: u32, serial: u64) -> Life
         ensures { result ≡ record {
           inserted = inserted;

@@ -21,7 +21,7 @@ use page_types::{
 };
 use std::alloc::AllocError;
 
-// The head of the document with this name, if it has its slot of this heap page.
+/// The head of the document with this name, if it has its slot of this heap page.
 pub(crate) fn head_in(page: &Page, name: Name) -> Option<HeadRef<'_>>
     ensures some { IfSome result (λ h. HasHead page.now name (head_shown h)) }
     ensures none { IfNone result ((h : Head) → HasHead page.now name h → ⊥) }
@@ -35,7 +35,7 @@ pub(crate) fn head_in(page: &Page, name: Name) -> Option<HeadRef<'_>>
     }
 }
 
-// Whether a slot becomes a head with these fields and this vector, and the others stay.
+/// Whether a slot becomes a head with these fields and this vector, and the others stay.
 fn puts_head(slots: &Slots, slot: u16, fields: HeadFields, vector: &[u8], new: &Slots) -> bool
     ensures { result ≡ true
         ↔ PutsSlot slots.now slot (Some (head_with fields vector.now)) new.now }
@@ -50,7 +50,7 @@ fn puts_head(slots: &Slots, slot: u16, fields: HeadFields, vector: &[u8], new: &
     new.len() == slots.len().max(k + 1) && others_stay(slots, k, new)
 }
 
-// Whether a record leaves the page with such a head in the slot, and all else as it was.
+/// Whether a record leaves the page with such a head in the slot, and all else as it was.
 pub(crate) fn leaves_in_slot(
     rec: &Record,
     slot: u16,
@@ -74,7 +74,7 @@ pub(crate) fn leaves_in_slot(
     puts_head(slots, slot, fields, vector, new_slots)
 }
 
-// Whether a head is of a document that a commit inserted, and that none who wasn't aborted marked.
+/// Whether a head is of a document that a commit inserted, and that none who wasn't aborted marked.
 fn may_be_marked(state: &State, fields: HeadFields) -> bool
     ensures { result ≡ true
         ↔ MayBeMarked (fate_of state.now.value) fields.inserted_by fields.deleted_by }
@@ -85,7 +85,7 @@ fn may_be_marked(state: &State, fields: HeadFields) -> bool
     fields.deleted_by == 0 || state.fate(fields.deleted_by) == Fate::Aborted
 }
 
-// Whether a record leaves a part of a vector on this page, in front of the page `first`.
+/// Whether a record leaves a part of a vector on this page, in front of the page `first`.
 fn leaves_part(rec: &Record, first: u32, new: &Page) -> bool
     ensures { result ≡ true ↔ LeavesPart rec.now first new.now }
 {
@@ -134,7 +134,7 @@ pub fn valid_mark_deleted(
     Ok(leaves_in_slot(rec, name.slot, old, fields, head.vector, &after[0]))
 }
 
-// Whether this transaction placed a head whose vector is too long for it, and runs.
+/// Whether this transaction placed a head whose vector is too long for it, and runs.
 fn may_be_put(state: &State, xid: u32, fields: HeadFields) -> bool
     ensures { result ≡ true
         ↔ MayBePut (fate_of state.now.value) xid fields.inserted_by fields.bytes }
@@ -145,7 +145,7 @@ fn may_be_put(state: &State, xid: u32, fields: HeadFields) -> bool
     state.fate(xid) == Fate::Running
 }
 
-// The second of two pages that a record changes, of which this is the first.
+/// The second of two pages that a record changes, of which this is the first.
 pub(crate) fn second_page(rec: &Record, first: u32) -> Option<u32>
     ensures some { IfSome result (λ p. changed rec.now ≡ first ∷ p ∷ []) }
     ensures none { IfNone result ((p : ℕ) → changed rec.now ≢ first ∷ p ∷ []) }
@@ -157,8 +157,8 @@ pub(crate) fn second_page(rec: &Record, first: u32) -> Option<u32>
     Some(changes[1].page)
 }
 
-// The new page that a record changes after the heap page of this name, and the head that the document
-// with this name has there.
+/// The new page that a record changes after the heap page of this name, and the head that the document
+/// with this name has there.
 pub(crate) fn page_and_head<'a>(
     state: &State,
     rec: &Record,

@@ -18,7 +18,7 @@ pub(crate) enum Members<'a> {
     Posts(&'a PostChildren),
 }
 
-// How many members there are.
+/// How many members there are.
 pub(crate) fn count(members: Members<'_>) -> usize
     ensures { result ≡ length (members_of members.entry) }
 {
@@ -29,7 +29,7 @@ pub(crate) fn count(members: Members<'_>) -> usize
     }
 }
 
-// Whether two entries are the same.
+/// Whether two entries are the same.
 fn is_same_entry(a: EntryRef<'_>, b: EntryRef<'_>) -> bool
     ensures { result ≡ true ↔ (entry_shown a.entry ≡ entry_shown b.entry) }
 {
@@ -43,7 +43,7 @@ fn is_same_entry(a: EntryRef<'_>, b: EntryRef<'_>) -> bool
     }
 }
 
-// Whether entries have the same one at these places.
+/// Whether entries have the same one at these places.
 fn is_entry_at(a: &Entries, i: usize, b: &Entries, j: usize) -> bool
     ensures { result ≡ true ↔ IsSameAt a.now i b.now j }
 {
@@ -53,7 +53,7 @@ fn is_entry_at(a: &Entries, i: usize, b: &Entries, j: usize) -> bool
     is_same_entry(x, y)
 }
 
-// Whether children have the same one at these places.
+/// Whether children have the same one at these places.
 fn is_child_at(a: &EntryChildren, i: usize, b: &EntryChildren, j: usize) -> bool
     ensures { result ≡ true ↔ IsSameAt a.now i b.now j }
 {
@@ -63,7 +63,7 @@ fn is_child_at(a: &EntryChildren, i: usize, b: &EntryChildren, j: usize) -> bool
     x.page == y.page && x.bound == y.bound
 }
 
-// Whether children of a posting tree have the same one at these places.
+/// Whether children of a posting tree have the same one at these places.
 fn is_post_at(a: &PostChildren, i: usize, b: &PostChildren, j: usize) -> bool
     ensures { result ≡ true ↔ IsSameAt a.now i b.now j }
 {
@@ -73,7 +73,7 @@ fn is_post_at(a: &PostChildren, i: usize, b: &PostChildren, j: usize) -> bool
     x.page == y.page && x.bound == y.bound
 }
 
-// Whether members are there at these places, and are the same.
+/// Whether members are there at these places, and are the same.
 fn is_same_at(a: Members<'_>, i: usize, b: Members<'_>, j: usize) -> bool
     ensures { result ≡ true ↔ IsSameAt (members_of a.entry) i (members_of b.entry) j }
 {
@@ -85,7 +85,7 @@ fn is_same_at(a: Members<'_>, i: usize, b: Members<'_>, j: usize) -> bool
     }
 }
 
-// How many members are shared, from the first on.
+/// How many members are shared, from the first on.
 pub(crate) fn shared(a: Members<'_>, b: Members<'_>) -> usize
     ensures { Shared (members_of a.entry) (members_of b.entry) result }
 {
@@ -98,7 +98,7 @@ pub(crate) fn shared(a: Members<'_>, b: Members<'_>) -> usize
     end
 }
 
-// Whether the members from these places on are the same.
+/// Whether the members from these places on are the same.
 pub(crate) fn go_on(a: Members<'_>, i: usize, b: Members<'_>, j: usize) -> bool
     requires a { i ≤ length (members_of a) }
     requires b { j ≤ length (members_of b) }

@@ -32,7 +32,7 @@ impl Model for NameLists {
     ghost invariant = { λ p. EndAt 0 p.ends.items (length p.names.items) };
 }
 
-// Where the list with this number begins.
+/// Where the list with this number begins.
 #[tactic(auto, using(page_types::proofs::Cutting::start_before))]
 fn start_of(ends: &[usize], k: usize) -> usize
     requires { k ≤ length ends.now }

@@ -36,7 +36,7 @@ struct Node {
     start: usize,
 }
 
-// The greatest ones over a place that has changed.
+/// The greatest ones over a place that has changed.
 fn settle(tree: &mut [u64], width: usize, leaf: usize)
     requires size { length tree.old ≡ 2 * width }
     requires leaf { leaf < 2 * width }
@@ -51,7 +51,7 @@ fn settle(tree: &mut [u64], width: usize, leaf: usize)
     }
 }
 
-// The first node on the way from this place on that isn't below the bound.
+/// The first node on the way from this place on that isn't below the bound.
 fn climb(tree: &[u64], width: usize, from: usize, bound: u64) -> Option<Node>
     requires width { IsWidth width }
     requires tree { IsPeakTree width tree.now }
@@ -78,7 +78,7 @@ fn climb(tree: &[u64], width: usize, from: usize, bound: u64) -> Option<Node>
     Some(Node { at, span, start })
 }
 
-// The first place below this node that isn't below the bound.
+/// The first place below this node that isn't below the bound.
 fn descend(tree: &[u64], width: usize, from: usize, bound: u64, node: Node) -> usize
     requires width { IsWidth width }
     requires tree { IsPeakTree width tree.now }
@@ -102,7 +102,7 @@ fn descend(tree: &[u64], width: usize, from: usize, bound: u64, node: Node) -> u
     start
 }
 
-// The least width of at least n places that this one grows to.
+/// The least width of at least n places that this one grows to.
 fn grown(width: usize, n: usize) -> usize
     requires width { IsWidth width }
     requires few { n ≤ page_limit }
@@ -117,7 +117,7 @@ fn grown(width: usize, n: usize) -> usize
     grown
 }
 
-// A tree of so many places, all 0.
+/// A tree of so many places, all 0.
 fn flat(alloc: Global, width: usize) -> Result<Peaks, AllocError>
     requires { IsWidth width }
     ensures { IfOk result (λ p. p ≡ replicate width 0) }
@@ -130,7 +130,7 @@ fn flat(alloc: Global, width: usize) -> Result<Peaks, AllocError>
     Ok(Peaks { alloc, width, tree })
 }
 
-// The same numbers at the first of so many places, and 0 at the others.
+/// The same numbers at the first of so many places, and 0 at the others.
 fn widened(alloc: Global, old: &Peaks, width: usize) -> Result<Peaks, AllocError>
     requires width { IsWidth width }
     requires wide { length old.now ≤ width }
@@ -148,7 +148,7 @@ fn widened(alloc: Global, old: &Peaks, width: usize) -> Result<Peaks, AllocError
 }
 
 impl Peaks {
-    // No places.
+    /// No places.
     pub(crate) fn new(alloc: Global) -> Peaks
         ensures { result ≡ [] }
     {
@@ -159,14 +159,14 @@ impl Peaks {
         }
     }
 
-    // How many places there are.
+    /// How many places there are.
     pub(crate) fn len(&self) -> usize
         ensures { result ≡ length self.now }
     {
         self.width
     }
 
-    // The number at a place, 0 where there is no such place.
+    /// The number at a place, 0 where there is no such place.
     pub(crate) fn at(&self, place: usize) -> u64
         ensures { result ≡ get_or self.now place 0 }
     {
@@ -177,7 +177,7 @@ impl Peaks {
         }
     }
 
-    // Another number at a place.
+    /// Another number at a place.
     pub(crate) fn set(&mut self, place: usize, number: u64)
         requires { place < length self.old }
         ensures { self.new ≡ slice_set self.old place number }
@@ -187,7 +187,7 @@ impl Peaks {
         settle(&mut self.tree, self.width, leaf);
     }
 
-    // The first place from `from` on whose number isn't below the bound.
+    /// The first place from `from` on whose number isn't below the bound.
     pub(crate) fn first_from(&self, from: usize, bound: u64) -> Option<usize>
         requires { 0 < bound }
         ensures least { IsLeastIfAny (λ p. (from ≤ p) × (bound ≤ get_or self.now p 0)) result }
@@ -200,7 +200,7 @@ impl Peaks {
         Some(descend(&self.tree, self.width, from, bound, node) - self.width)
     }
 
-    // Makes room for so many places. Those that there are keep their numbers, the others are 0.
+    /// Makes room for so many places. Those that there are keep their numbers, the others are 0.
     pub(crate) fn reserve(&mut self, n: usize) -> Result<(), AllocError>
         requires { n ≤ page_limit }
         ensures same { (p : ℕ) → get_or self.new p 0 ≡ get_or self.old p 0 }

@@ -16,7 +16,7 @@ use crate::valid::changes_pages;
 use page_types::{Body, HeadRef, Kind, Name, Page, Record, Slots};
 use std::alloc::{AllocError, Global};
 
-// Whether two slots have the same head, or both are free.
+/// Whether two slots have the same head, or both are free.
 fn is_same(a: Option<HeadRef<'_>>, b: Option<HeadRef<'_>>) -> bool
     ensures { result ≡ true ↔ (option_map head_shown a.entry ≡ option_map head_shown b.entry) }
 {
@@ -27,7 +27,7 @@ fn is_same(a: Option<HeadRef<'_>>, b: Option<HeadRef<'_>>) -> bool
     }
 }
 
-// Whether all slots but this one stay.
+/// Whether all slots but this one stay.
 pub(crate) fn others_stay(slots: &Slots, k: usize, new: &Slots) -> bool
     ensures { result ≡ true ↔ ((j : ℕ) → j ≢ k → slot_at new.now j ≡ slot_at slots.now j) }
 {
@@ -40,7 +40,7 @@ pub(crate) fn others_stay(slots: &Slots, k: usize, new: &Slots) -> bool
     true
 }
 
-// Whether a head is a new one with this serial, of this transaction.
+/// Whether a head is a new one with this serial, of this transaction.
 fn is_new_head(head: HeadRef<'_>, serial: u64, xid: u32) -> bool
     ensures { result ≡ true ↔ IsNewHead (head_shown head.entry) serial xid }
 {
@@ -52,8 +52,8 @@ fn is_new_head(head: HeadRef<'_>, serial: u64, xid: u32) -> bool
         && fields.private == 0
 }
 
-// Whether a slot, which was free or is the next, gets a new head with this serial, of this
-// transaction, and the others stay.
+/// Whether a slot, which was free or is the next, gets a new head with this serial, of this
+/// transaction, and the others stay.
 fn places_head(slots: &Slots, slot: u16, new: &Slots, serial: u64, xid: u32) -> bool
     ensures { result ≡ true ↔ PlacesHead slots.now slot new.now serial xid }
 {
@@ -67,8 +67,8 @@ fn places_head(slots: &Slots, slot: u16, new: &Slots, serial: u64, xid: u32) -> 
     is_new_head(head, serial, xid) && others_stay(slots, k, new)
 }
 
-// Whether a record leaves the page of this name, which is an old heap page or a new page, with a
-// new head in its slot.
+/// Whether a record leaves the page of this name, which is an old heap page or a new page, with a
+/// new head in its slot.
 fn leaves_head(
     alloc: Global,
     state: &State,

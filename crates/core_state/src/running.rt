@@ -46,7 +46,7 @@ impl Model for RunningOnes {
         × (length r.begun.items ≤ 2 * r.running) };
 }
 
-// The place of the transaction with this xid, if it runs.
+/// The place of the transaction with this xid, if it runs.
 fn place_of(begun: &[Begun], xid: u32) -> Option<usize>
     requires { AreBegun 0 begun.now }
     ensures some { IfSome result (IsRunningAt begun.now xid) }
@@ -58,7 +58,7 @@ fn place_of(begun: &[Begun], xid: u32) -> Option<usize>
     }
 }
 
-// A transaction without names.
+/// A transaction without names.
 fn bare(alloc: Global, xid: u32, runs: bool) -> Begun
     ensures { result ≡ record {
       transaction = record { xid = xid; deleted = []; inserted = [] };
@@ -75,7 +75,7 @@ fn bare(alloc: Global, xid: u32, runs: bool) -> Begun
     }
 }
 
-// The ended ones go.
+/// The ended ones go.
 fn drop_ended(begun: &mut Vec<Begun>)
     ensures { begun.new.items ≡ kept begun.old.items }
 {
@@ -83,7 +83,7 @@ fn drop_ended(begun: &mut Vec<Begun>)
 }
 
 impl RunningOnes {
-    // No transaction runs.
+    /// No transaction runs.
     pub(crate) fn new(alloc: Global) -> RunningOnes
         ensures list { result.list ≡ [] }
         ensures end { result.end ≡ 0 }
@@ -94,14 +94,14 @@ impl RunningOnes {
         }
     }
 
-    // Whether none runs.
+    /// Whether none runs.
     pub(crate) fn is_empty(&self) -> bool
         ensures { result ≡ true ↔ (self.now.list ≡ []) }
     {
         self.running == 0
     }
 
-    // Makes room for one more.
+    /// Makes room for one more.
     pub(crate) fn reserve(&mut self) -> Result<(), AllocError>
         ensures list { self.new.list ≡ self.old.list }
         ensures end { self.new.end ≡ self.old.end }
@@ -112,7 +112,7 @@ impl RunningOnes {
         self.begun.reserve(1)
     }
 
-    // One more begins, after all that have begun, and there is room for it.
+    /// One more begins, after all that have begun, and there is room for it.
     pub(crate) fn begin(&mut self, alloc: Global, xid: u32)
         requires room { 0 < self.old.left }
         requires next { self.old.end ≤ xid }
@@ -124,7 +124,7 @@ impl RunningOnes {
         self.running += 1;
     }
 
-    // The running transaction with this xid.
+    /// The running transaction with this xid.
     pub(crate) fn find(&self, xid: u32) -> Option<&Transaction>
         ensures { option_copied result ≡ transaction xid self.now.list }
     {
@@ -132,7 +132,7 @@ impl RunningOnes {
         Some(&self.begun[i].transaction)
     }
 
-    // One name more that the running transaction with this xid has placed.
+    /// One name more that the running transaction with this xid has placed.
     pub(crate) fn note_placed(&mut self, xid: u32, name: Name, spare: &mut Vec<Name>)
         requires { IfSome (transaction xid self.old.list)
             (λ (t : Entry). length t.inserted < vec_capacity spare.old) }
@@ -146,7 +146,7 @@ impl RunningOnes {
         }
     }
 
-    // One name more that the running transaction with this xid has marked.
+    /// One name more that the running transaction with this xid has marked.
     pub(crate) fn note_marked(&mut self, xid: u32, name: Name, spare: &mut Vec<Name>)
         requires { IfSome (transaction xid self.old.list)
             (λ (t : Entry). length t.deleted < vec_capacity spare.old) }
@@ -160,7 +160,7 @@ impl RunningOnes {
         }
     }
 
-    // The transaction with this xid runs no more.
+    /// The transaction with this xid runs no more.
     pub(crate) fn leave(&mut self, alloc: Global, xid: u32)
         ensures list { self.new.list ≡ without xid self.old.list }
         ensures end { self.new.end ≤ self.old.end }
@@ -175,7 +175,7 @@ impl RunningOnes {
         }
     }
 
-    // Every one of them ends: its fate is Aborted.
+    /// Every one of them ends: its fate is Aborted.
     pub(crate) fn end_all(&mut self, fates: &mut [Fate])
         ensures fates { fates.new ≡ all_ended self.old.list fates.old }
         ensures list { self.new.list ≡ [] }
@@ -188,7 +188,7 @@ impl RunningOnes {
     }
 }
 
-// The fates after those of these transactions that run are ended.
+/// The fates after those of these transactions that run are ended.
 fn abort_running(fates: &mut [Fate], begun: &[Begun])
     ensures { fates.new ≡ all_ended (running_of begun.now) fates.old }
 {

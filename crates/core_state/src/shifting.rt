@@ -10,8 +10,8 @@ use crate::state::State;
 use page_types::{Body, Gone, Kind, Page, Record};
 use std::alloc::AllocError;
 
-// Whether a record leaves the metapage, which names this page first, with this right link of it in its
-// place, and with one page less.
+/// Whether a record leaves the metapage, which names this page first, with this right link of it in its
+/// place, and with one page less.
 fn drops_first(rec: &Record, page: u32, right: u32, old: &Page, new: &Page) -> bool
     ensures { result ≡ true ↔ DropsFirst rec.now page right old.now new.now }
 {
@@ -35,7 +35,7 @@ fn drops_first(rec: &Record, page: u32, right: u32, old: &Page, new: &Page) -> b
     if right == 0 { end == 0 } else { end == last }
 }
 
-// Whether a record leaves a pending page deleted, with its rows.
+/// Whether a record leaves a pending page deleted, with its rows.
 fn keeps_rows(rec: &Record, old: &Page, new: &Page) -> bool
     ensures { result ≡ true ↔ KeepsRows rec.now old.now new.now }
 {

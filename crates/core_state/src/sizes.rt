@@ -8,7 +8,7 @@ ghost use Rattle.core_state.specs.States.{edited_size, put_at};
 use byteorder::{ByteOrder, LittleEndian};
 use page_types::{Edit, PAGE_BYTES};
 
-// The used length that a page's bytes have.
+/// The used length that a page's bytes have.
 #[tactic(auto, unfolding(page_types::specs::Edits::used_in))]
 fn used_length(bytes: &[u8]) -> u16
     requires { length bytes.now ≡ PAGE_BYTES }
@@ -17,7 +17,7 @@ fn used_length(bytes: &[u8]) -> u16
     LittleEndian::read_u16(&bytes[16..])
 }
 
-// The length of a body of which so many bytes go and so many come.
+/// The length of a body of which so many bytes go and so many come.
 fn delta_size(old: u16, cut: u16, more: usize) -> u16
     ensures { result ≡ min 65535 (old - cut + more) }
 {
@@ -25,7 +25,7 @@ fn delta_size(old: u16, cut: u16, more: usize) -> u16
     kept.saturating_add(more).min(65535) as u16
 }
 
-// The length of the body that an edit leaves.
+/// The length of the body that an edit leaves.
 pub(crate) fn size_after(edit: &Edit, old: u16) -> u16
     ensures { result ≡ edited_size edit.now old }
 {
@@ -35,7 +35,7 @@ pub(crate) fn size_after(edit: &Edit, old: u16) -> u16
     }
 }
 
-// The length of one page's body.
+/// The length of one page's body.
 pub(crate) fn size_at(sizes: &[u16], page: u32) -> u16
     ensures { result ≡ get_or sizes.now page 0 }
 {
@@ -45,7 +45,7 @@ pub(crate) fn size_at(sizes: &[u16], page: u32) -> u16
     }
 }
 
-// Another length of one page's body.
+/// Another length of one page's body.
 pub(crate) fn put_size(sizes: &mut Vec<u16>, page: usize, size: u16)
     requires small { page < page_limit }
     requires room_before { page < vec_capacity sizes.old }

@@ -27,7 +27,7 @@ use page_types::{
 };
 use std::alloc::AllocError;
 
-// Whether members are those of a first part and then those of a second.
+/// Whether members are those of a first part and then those of a second.
 fn is_joined(whole: Members<'_>, front: Members<'_>, back: Members<'_>) -> bool
     ensures { result ≡ true
         ↔ (members_of whole.entry ≡ members_of front.entry ++ members_of back.entry) }
@@ -40,7 +40,7 @@ fn is_joined(whole: Members<'_>, front: Members<'_>, back: Members<'_>) -> bool
     go_on(whole, k, back, 0)
 }
 
-// Whether there are entries on both sides, those of the first up to this key, and the others above it.
+/// Whether there are entries on both sides, those of the first up to this key, and the others above it.
 fn divides(mid: &[u8], front: &Entries, back: &Entries) -> bool
     requires front { AreEntries front.now }
     requires back { AreEntries back.now }
@@ -61,7 +61,7 @@ fn divides(mid: &[u8], front: &Entries, back: &Entries) -> bool
     is_below(mid, first.key)
 }
 
-// The key at which these entries of a leaf are divided into two leaves.
+/// The key at which these entries of a leaf are divided into two leaves.
 fn leaf_mid<'a>(high: &[u8], entries: &Entries, left: &'a Page, right: &Page) -> Option<&'a [u8]>
     requires left { IsPage left.now }
     requires right { IsPage right.now }
@@ -97,7 +97,7 @@ fn leaf_mid<'a>(high: &[u8], entries: &Entries, left: &'a Page, right: &Page) ->
     Some(mid.as_slice())
 }
 
-// The key at which these children of an inner page of the entry tree are divided into two pages.
+/// The key at which these children of an inner page of the entry tree are divided into two pages.
 fn inner_mid<'a>(children: &EntryChildren, left: &'a Page, right: &Page) -> Option<&'a [u8]>
     ensures some { IfSome result (λ mid. EntryHalves mid.now (body.EntryInner children.now)
         left.now.body right.now.body) }
@@ -124,7 +124,7 @@ fn inner_mid<'a>(children: &EntryChildren, left: &'a Page, right: &Page) -> Opti
     Some(last.bound)
 }
 
-// The key at which a page of the entry tree is divided into two.
+/// The key at which a page of the entry tree is divided into two.
 fn entry_mid<'a>(old: &Page, left: &'a Page, right: &Page) -> Option<&'a [u8]>
     requires left { IsPage left.now }
     requires right { IsPage right.now }
@@ -140,8 +140,8 @@ fn entry_mid<'a>(old: &Page, left: &'a Page, right: &Page) -> Option<&'a [u8]>
     }
 }
 
-// Whether there are items on both sides, those of a list, and those of the first are up to this item
-// and the others above it.
+/// Whether there are items on both sides, those of a list, and those of the first are up to this item
+/// and the others above it.
 fn divides_list(mid: u32, items: &[u8], front: &[u8], back: &[u8]) -> bool
     requires items { IsItemList items.now }
     requires front { IsItemList front.now }
@@ -167,7 +167,7 @@ fn divides_list(mid: u32, items: &[u8], front: &[u8], back: &[u8]) -> bool
     mid < first
 }
 
-// The item at which this list of a posting leaf is divided into two leaves.
+/// The item at which this list of a posting leaf is divided into two leaves.
 fn post_leaf_mid(high: u32, items: &[u8], left: &Page, right: &Page) -> Option<u32>
     requires items { IsItemList items.now }
     requires left { IsPage left.now }
@@ -197,7 +197,7 @@ fn post_leaf_mid(high: u32, items: &[u8], left: &Page, right: &Page) -> Option<u
     Some(*mid)
 }
 
-// The item at which these children of an inner posting page are divided into two pages.
+/// The item at which these children of an inner posting page are divided into two pages.
 fn post_inner_mid(children: &PostChildren, left: &Page, right: &Page) -> Option<u32>
     ensures some { IfSome result
         (λ mid. PostHalves mid (body.PostInner children.now) left.now.body right.now.body) }
@@ -224,7 +224,7 @@ fn post_inner_mid(children: &PostChildren, left: &Page, right: &Page) -> Option<
     Some(last.bound)
 }
 
-// The item at which a page of a posting tree is divided into two.
+/// The item at which a page of a posting tree is divided into two.
 fn post_mid(old: &Page, left: &Page, right: &Page) -> Option<u32>
     requires old { IsPage old.now }
     requires left { IsPage left.now }
@@ -240,7 +240,7 @@ fn post_mid(old: &Page, left: &Page, right: &Page) -> Option<u32>
     }
 }
 
-// Whether a child with this page and this bound is at this place.
+/// Whether a child with this page and this bound is at this place.
 fn is_child(children: &EntryChildren, k: usize, page: u32, bound: &[u8]) -> bool
     ensures { result ≡ true
         ↔ (slice_get children.now k ≡ Some (record { page = page; bound = bound.now })) }
@@ -251,7 +251,7 @@ fn is_child(children: &EntryChildren, k: usize, page: u32, bound: &[u8]) -> bool
     child.page == page && child.bound == bound
 }
 
-// The same of a posting tree.
+/// The same of a posting tree.
 fn is_post(children: &PostChildren, k: usize, page: u32, bound: u32) -> bool
     ensures { result ≡ true
         ↔ (slice_get children.now k ≡ Some (record { page = page; bound = bound })) }
@@ -262,7 +262,7 @@ fn is_post(children: &PostChildren, k: usize, page: u32, bound: u32) -> bool
     child.page == page && child.bound == bound
 }
 
-// Whether the parent has the new page after the page, with its bound, and the page the bound `mid`.
+/// Whether the parent has the new page after the page, with its bound, and the page the bound `mid`.
 fn adopts_child(page: u32, new: u32, mid: &[u8], old: &Page, then: &Page) -> bool
     requires { IsPage then.now }
     ensures { result ≡ true ↔ EntryParent page new mid.now old.now.body then.now.body }
@@ -289,7 +289,7 @@ fn adopts_child(page: u32, new: u32, mid: &[u8], old: &Page, then: &Page) -> boo
     go_on(Members::Children(was), k + 1, Members::Children(now), k + 2)
 }
 
-// The same of a posting tree.
+/// The same of a posting tree.
 fn adopts_post(page: u32, new: u32, mid: u32, old: &Page, then: &Page) -> bool
     requires { IsPage then.now }
     ensures { result ≡ true ↔ PostParent page new mid old.now.body then.now.body }
@@ -316,7 +316,7 @@ fn adopts_post(page: u32, new: u32, mid: u32, old: &Page, then: &Page) -> bool
     go_on(Members::Posts(was), k + 1, Members::Posts(now), k + 2)
 }
 
-// How many bytes the high key of a leaf has, with its length; 0 where there is none.
+/// How many bytes the high key of a leaf has, with its length; 0 where there is none.
 fn high_size(high: &[u8]) -> usize
     requires { length (high_key_bytes high.now) ≤ most_body }
     ensures { result ≡ length (high_key_bytes high.now) }
@@ -327,7 +327,7 @@ fn high_size(high: &[u8]) -> usize
     2 + high.len()
 }
 
-// How many bytes the entries, children or items of a page of a tree have.
+/// How many bytes the entries, children or items of a page of a tree have.
 fn listed_size(page: &Page) -> usize
     requires { IsPage page.now }
     ensures { result ≡ length (listed_bytes page.now.body) }
@@ -341,7 +341,7 @@ fn listed_size(page: &Page) -> usize
     }
 }
 
-// How many bytes an entry has.
+/// How many bytes an entry has.
 fn entry_size(entry: EntryRef<'_>) -> usize
     requires { length (entry_bytes (entry_shown entry)) ≤ most_body }
     ensures { result ≡ length (entry_bytes (entry_shown entry.entry)) }
@@ -352,7 +352,7 @@ fn entry_size(entry: EntryRef<'_>) -> usize
     }
 }
 
-// Whether no longer first part of a leaf fits, after so many bytes of entries, with these after them.
+/// Whether no longer first part of a leaf fits, after so many bytes of entries, with these after them.
 fn none_longer(front: usize, back: &Entries) -> bool
     requires { front + length (flat_map entry_bytes back.now) ≤ most_body }
     ensures { result ≡ true ↔ NoLonger front back.now }
@@ -370,7 +370,7 @@ fn none_longer(front: usize, back: &Entries) -> bool
     true
 }
 
-// Whether a list has one item.
+/// Whether a list has one item.
 fn has_one(items: &[u8]) -> bool
     requires { IsItemList items.now }
     ensures { result ≡ true ↔ (length (items_of items.now) ≡ 1) }
@@ -381,7 +381,7 @@ fn has_one(items: &[u8]) -> bool
     rest.is_empty()
 }
 
-// Whether the first part of a page, with so many bytes of what it lists, is the longest that fits.
+/// Whether the first part of a page, with so many bytes of what it lists, is the longest that fits.
 fn is_longest(front: usize, old: &Page, left: &Page, right: &Page) -> bool
     requires old { IsPage old.now }
     requires left { IsPage left.now }
@@ -399,7 +399,7 @@ fn is_longest(front: usize, old: &Page, left: &Page, right: &Page) -> bool
     }
 }
 
-// Whether a page is divided at half of its bytes, or after the longest first part that fits.
+/// Whether a page is divided at half of its bytes, or after the longest first part that fits.
 fn is_split_place(old: &Page, left: &Page, right: &Page) -> bool
     requires old { IsPage old.now }
     requires left { IsPage left.now }
@@ -414,7 +414,7 @@ fn is_split_place(old: &Page, left: &Page, right: &Page) -> bool
     is_longest(front, old, left, right)
 }
 
-// Whether a page is divided into these two, and its parent has the new one after it.
+/// Whether a page is divided into these two, and its parent has the new one after it.
 fn is_divided(page: u32, new: u32, before: &[Page], after: &[Page]) -> bool
     requires before { length before.now ≡ 3 }
     requires after { length after.now ≡ 3 }
@@ -431,15 +431,15 @@ fn is_divided(page: u32, new: u32, before: &[Page], after: &[Page]) -> bool
     false
 }
 
-// Whether a record leaves a page with this right link.
+/// Whether a record leaves a page with this right link.
 fn is_left(rec: &Record, right: u32, page: &Page) -> bool
     ensures { result ≡ true ↔ (page.now ≡ made_with rec.now right page.now.body) }
 {
     page.right == right && page.stamp == rec.number
 }
 
-// Whether a record leaves a page with a large body divided, with its second part on the new page, and
-// the new page with its parent.
+/// Whether a record leaves a page with a large body divided, with its second part on the new page, and
+/// the new page with its parent.
 fn leaves_split(rec: &Record, page: u32, new: u32, before: &[Page], after: &[Page]) -> bool
     requires before { length before.now ≡ 3 }
     requires after { length after.now ≡ 3 }

@@ -153,8 +153,8 @@ impl State {
         }
     }
 
-    // Whether a page is a new one: the lowest unused, or deleted by a record of number `since` at
-    // most.
+    /// Whether a page is a new one: the lowest unused, or deleted by a record of number `since` at
+    /// most.
     pub(crate) fn is_new(&self, page: u32, since: u64) -> bool
         ensures { result ≡ true ↔ IsNew (use_of self.now.value) since page }
     {

@@ -99,7 +99,7 @@ impl Model for TransactionTable {
         × (b.running.end ≤ suc (length b.fates.items)) };
 }
 
-// The name of the document with this item and serial.
+/// The name of the document with this item and serial.
 pub(crate) fn name_of(item: u32, serial: u64) -> Name
     ensures { result ≡ documents.name_of (record { item = item; serial = serial }) }
 {
@@ -111,7 +111,7 @@ pub(crate) fn name_of(item: u32, serial: u64) -> Name
 }
 
 impl TransactionTable {
-    // That of an empty log.
+    /// That of an empty log.
     pub(crate) fn new(alloc: Global, pages: u32, xid_limit: u32) -> TransactionTable
         ensures { result.value ≡ empty_state pages xid_limit }
     {
@@ -134,7 +134,7 @@ impl TransactionTable {
         }
     }
 
-    // Makes room for the names of transaction xid, if it runs, among those of commits.
+    /// Makes room for the names of transaction xid, if it runs, among those of commits.
     fn reserve_commit(&mut self, xid: u32) -> Result<(), AllocError>
         ensures same { self.new.value ≡ self.old.value }
         ensures pages { self.new.room.pages ≡ self.old.room.pages }
@@ -150,7 +150,7 @@ impl TransactionTable {
         self.inserted.reserve(t.inserted.as_slice().len())
     }
 
-    // Makes room for one name more that transaction xid places, if it runs.
+    /// Makes room for one name more that transaction xid places, if it runs.
     fn reserve_placed(&mut self, xid: u32) -> Result<(), AllocError>
         ensures same { self.new.value ≡ self.old.value }
         ensures pages { self.new.room.pages ≡ self.old.room.pages }
@@ -169,7 +169,7 @@ impl TransactionTable {
         self.heaps.reserve()
     }
 
-    // Makes room for one name more that transaction xid marks, if it runs.
+    /// Makes room for one name more that transaction xid marks, if it runs.
     fn reserve_marked(&mut self, xid: u32) -> Result<(), AllocError>
         ensures same { self.new.value ≡ self.old.value }
         ensures pages { self.new.room.pages ≡ self.old.room.pages }
@@ -186,7 +186,7 @@ impl TransactionTable {
         self.spare.reserve(names + 1)
     }
 
-    // Makes room for what a record of this kind and xid, with so many changes, adds.
+    /// Makes room for what a record of this kind and xid, with so many changes, adds.
     pub(crate) fn make_room(
         &mut self,
         kind: &Kind,
@@ -211,7 +211,7 @@ impl TransactionTable {
         }
     }
 
-    // Makes room for a transaction that begins next, places one document and commits.
+    /// Makes room for a transaction that begins next, places one document and commits.
     pub(crate) fn make_room_to_insert(&mut self) -> Result<(), AllocError>
         ensures same { self.new.value ≡ self.old.value }
         ensures pages { self.new.room.pages ≡ self.old.room.pages }
@@ -227,7 +227,7 @@ impl TransactionTable {
         self.inserted.reserve(1)
     }
 
-    // Makes room for what the changes of pages below `end` add.
+    /// Makes room for what the changes of pages below `end` add.
     pub(crate) fn make_room_for_pages(&mut self, end: usize) -> Result<(), AllocError>
         requires { end ≤ page_limit }
         ensures same { self.new.value ≡ self.old.value }
@@ -239,7 +239,7 @@ impl TransactionTable {
         self.freed.reserve_sizes(end)
     }
 
-    // The lengths of bodies after these changes.
+    /// The lengths of bodies after these changes.
     pub(crate) fn note_sizes(&mut self, changes: &[Change])
         requires { All (λ c. c.page < page_limit → c.page < self.old.room.pages) changes.now }
         ensures value { self.new.value ≡ record self.old.value {
@@ -250,8 +250,8 @@ impl TransactionTable {
         self.freed.note(changes);
     }
 
-    // What a record of this kind and xid, with these changes, makes of the table, which has room for
-    // it.
+    /// What a record of this kind and xid, with these changes, makes of the table, which has room for
+    /// it.
     pub(crate) fn turn(&mut self, kind: &Kind, xid: u32, changes: &[Change])
         requires rest { HasRoomFor kind.now xid (length changes.now) self.old }
         requires places { All (λ c. c.page < page_limit → c.page < self.old.room.pages) changes.now }
@@ -273,7 +273,7 @@ impl TransactionTable {
         }
     }
 
-    // The next xid begins.
+    /// The next xid begins.
     fn begin(&mut self, xid: u32)
         requires fates { length self.old.value.fates < self.old.room.fates }
         requires running { 0 < self.old.room.running }
@@ -288,7 +288,7 @@ impl TransactionTable {
         self.running.begin(self.alloc, xid);
     }
 
-    // Transaction xid commits with this number, if it runs and the number is the next.
+    /// Transaction xid commits with this number, if it runs and the number is the next.
     fn commit(&mut self, number: u32, xid: u32)
         requires { IfSome (transaction xid self.old.value.running) (FitsCommit self.old.room) }
         ensures value { self.new.value
@@ -307,7 +307,7 @@ impl TransactionTable {
         self.end(xid, Fate::Committed(number));
     }
 
-    // Transaction xid gets its fate, and runs no more.
+    /// Transaction xid gets its fate, and runs no more.
     fn end(&mut self, xid: u32, fate: Fate)
         ensures value { self.new.value ≡ record self.old.value {
           fates = with_fate xid fate self.old.value.fates;
@@ -319,7 +319,7 @@ impl TransactionTable {
         self.running.leave(self.alloc, xid);
     }
 
-    // Transaction xid places a head, if it runs and the serial is the next.
+    /// Transaction xid places a head, if it runs and the serial is the next.
     fn place(&mut self, xid: u32, item: u32, serial: u64)
         requires { IfSome (transaction xid self.old.value.running) (FitsPlaced self.old.room) }
         ensures value { self.new.value ≡ placed_head (transaction xid self.old.value.running)
@@ -346,7 +346,7 @@ impl TransactionTable {
         });
     }
 
-    // Transaction xid marks a document, if it runs.
+    /// Transaction xid marks a document, if it runs.
     fn mark(&mut self, xid: u32, item: u32, serial: u64)
         requires { IfSome (transaction xid self.old.value.running) (FitsMarked self.old.room) }
         ensures value { self.new.value ≡ marked_head (transaction xid self.old.value.running)
@@ -359,7 +359,7 @@ impl TransactionTable {
         }
     }
 
-    // Every running transaction is aborted.
+    /// Every running transaction is aborted.
     pub(crate) fn end_running(&mut self)
         ensures value { self.new.value ≡ ended_all self.old.value }
         ensures pages { self.new.room.pages ≡ self.old.room.pages }
@@ -368,21 +368,21 @@ impl TransactionTable {
         self.running.end_all(&mut self.fates);
     }
 
-    // The fate of an xid.
+    /// The fate of an xid.
     pub(crate) fn fate(&self, xid: u32) -> Fate
         ensures { result ≡ fate_of self.now.value xid }
     {
         fate_in(&self.fates, xid)
     }
 
-    // How many commits there are.
+    /// How many commits there are.
     pub(crate) fn commits(&self) -> u32
         ensures { result ≡ length self.now.value.deleted }
     {
         self.deleted.len() as u32
     }
 
-    // The names that a commit deleted.
+    /// The names that a commit deleted.
     pub(crate) fn deleted_by(&self, commit: u32) -> &[Name]
         requires first { 1 ≤ commit }
         requires last { commit ≤ length self.now.value.deleted }
@@ -391,7 +391,7 @@ impl TransactionTable {
         self.deleted.at(commit as usize - 1)
     }
 
-    // The names that a commit inserted.
+    /// The names that a commit inserted.
     pub(crate) fn inserted_by(&self, commit: u32) -> &[Name]
         requires first { 1 ≤ commit }
         requires last { commit ≤ length self.now.value.deleted }
@@ -400,49 +400,49 @@ impl TransactionTable {
         self.inserted.at(commit as usize - 1)
     }
 
-    // The xid that the next transaction gets.
+    /// The xid that the next transaction gets.
     pub(crate) fn next_xid(&self) -> u32
         ensures { result ≡ suc (length self.now.value.fates) }
     {
         self.fates.len() as u32 + 1
     }
 
-    // The serial that the next document gets.
+    /// The serial that the next document gets.
     pub(crate) fn next_serial(&self) -> u64
         ensures { result ≡ self.now.value.next_serial }
     {
         self.next_serial
     }
 
-    // The last redo number.
+    /// The last redo number.
     pub(crate) fn redo(&self) -> u64
         ensures { result ≡ self.now.value.redo }
     {
         self.redo
     }
 
-    // How many pages the store may have.
+    /// How many pages the store may have.
     pub(crate) fn pages(&self) -> u32
         ensures { result ≡ self.now.value.pages }
     {
         self.pages
     }
 
-    // Where xids end.
+    /// Where xids end.
     pub(crate) fn xid_limit(&self) -> u32
         ensures { result ≡ self.now.value.xid_limit }
     {
         self.xid_limit
     }
 
-    // Whether a transaction runs.
+    /// Whether a transaction runs.
     pub(crate) fn has_running(&self) -> bool
         ensures { result ≡ true ↔ (self.now.value.running ≢ []) }
     {
         !self.running.is_empty()
     }
 
-    // The old heap page with this number that a head is tried on.
+    /// The old heap page with this number that a head is tried on.
     pub(crate) fn heap_page(&self, k: usize) -> Option<u32>
         ensures { result ≡ slice_get (heap_pages self.now.value) k }
     {
@@ -453,15 +453,15 @@ impl TransactionTable {
         }
     }
 
-    // Whether so many bytes more fit on a page.
+    /// Whether so many bytes more fit on a page.
     fn has_room(&self, page: u32, bytes: u32) -> bool
         ensures { result ≡ true ↔ (size_of self.now.value page + bytes ≤ suc most_body) }
     {
         u64::from(self.freed.size_of(page)) + u64::from(bytes) <= ROOM
     }
 
-    // The first of the pages where this run freed a slot, from number k of them on, with room for so
-    // many bytes.
+    /// The first of the pages where this run freed a slot, from number k of them on, with room for so
+    /// many bytes.
     fn freed_with_room(&self, k: u32, bytes: u32) -> Option<u32>
         ensures least { let s = self.now.value in
             IsLeastIfAny (λ p. (k ≤ p) × HasRoomIn s.freed s.sizes bytes p) result }
@@ -471,8 +471,8 @@ impl TransactionTable {
         Some(place as u32)
     }
 
-    // The first old heap page from number k on with room for so many bytes, where this page comes
-    // first.
+    /// The first old heap page from number k on with room for so many bytes, where this page comes
+    /// first.
     fn room_behind(&self, page: u32, k: u32, bytes: u32) -> Option<u32>
         requires { self.now.value.current ≡ Some page }
         ensures { IsLeastIfAny (λ p. (k ≤ p) × HasRoomAt self.now.value bytes p) result }
@@ -484,8 +484,8 @@ impl TransactionTable {
         Some(place + 1)
     }
 
-    // The first of the old heap pages that a head is tried on, from number k on, with room for so
-    // many bytes.
+    /// The first of the old heap pages that a head is tried on, from number k on, with room for so
+    /// many bytes.
     pub(crate) fn room_from(&self, k: u32, bytes: u32) -> Option<u32>
         ensures { IsLeastIfAny (λ p. (k ≤ p) × HasRoomAt self.now.value bytes p) result }
     {
@@ -495,7 +495,7 @@ impl TransactionTable {
         }
     }
 
-    // A run begins.
+    /// A run begins.
     pub(crate) fn start_run(&mut self)
         ensures { self.new.value ≡ run_started self.old.value }
     {
@@ -503,14 +503,14 @@ impl TransactionTable {
         self.freed.clear();
     }
 
-    // The lowest heap page that isn't below this page.
+    /// The lowest heap page that isn't below this page.
     pub(crate) fn heap_from(&self, page: u32) -> Option<u32>
         ensures { IsLeastIfAny (λ p. (page ≤ p) × In p self.now.value.heaps) result }
     {
         self.heaps.from(page)
     }
 
-    // By which commits the document of this name was inserted and deleted.
+    /// By which commits the document of this name was inserted and deleted.
     pub(crate) fn document(&self, name: &Name) -> Option<Life>
         ensures { result ≡ life_of self.now.value name.now }
     {
@@ -521,7 +521,7 @@ impl TransactionTable {
         }
     }
 
-    // Transaction xid is aborted, if it runs.
+    /// Transaction xid is aborted, if it runs.
     pub(crate) fn abort(&mut self, xid: u32)
         ensures value { self.new.value
             ≡ aborted xid (transaction xid self.old.value.running) self.old.value }

@@ -40,8 +40,8 @@ impl Names {
         self.inner.as_slice()
     }
 
-    // One name more, after the others. Without room for it they move to the spare list, which has
-    // room.
+    /// One name more, after the others. Without room for it they move to the spare list, which has
+    /// room.
     pub(crate) fn add(&mut self, name: Name, spare: &mut Vec<Name>)
         requires { length self.old < vec_capacity spare.old }
         ensures { self.new ≡ self.old ++ name ∷ [] }
@@ -66,7 +66,7 @@ pub struct Transaction {
     pub inserted: Names,
 }
 
-// The fate of an xid.
+/// The fate of an xid.
 pub(crate) fn fate_in(fates: &[Fate], xid: u32) -> Fate
     ensures { result ≡ fate_at fates.now xid }
 {
@@ -79,7 +79,7 @@ pub(crate) fn fate_in(fates: &[Fate], xid: u32) -> Fate
     }
 }
 
-// The fates with that of an xid, where it has begun.
+/// The fates with that of an xid, where it has begun.
 pub(crate) fn set_fate(fates: &mut [Fate], xid: u32, fate: Fate)
     ensures { fates.new ≡ with_fate xid fate fates.old }
 {

@@ -18,7 +18,7 @@ use crate::state::State;
 use page_types::{Body, Entries, ITEM_LIMIT, Kind, Page, PostingsRef, Record, next_item};
 use std::alloc::AllocError;
 
-// The next item of a list after the item `last`, and the bytes after it; the limit of items where there is none.
+/// The next item of a list after the item `last`, and the bytes after it; the limit of items where there is none.
 fn first_item(last: u32, list: &[u8]) -> (u32, &[u8])
     ensures { IsFirstItem last list.now result.0 result.1.now }
 {
@@ -28,14 +28,14 @@ fn first_item(last: u32, list: &[u8]) -> (u32, &[u8])
     }
 }
 
-// Whether an item may be where this is the high item.
+/// Whether an item may be where this is the high item.
 fn is_item_up_to(item: u32, high: u32) -> bool
     ensures { result ≡ true ↔ ItemUpTo item high }
 {
     high == 0 || item <= high
 }
 
-// Whether a list has the items of another, and more, each of those up to this high item (0: none).
+/// Whether a list has the items of another, and more, each of those up to this high item (0: none).
 fn takes(old: &[u8], new: &[u8], high: u32) -> bool
     requires old { IsItemList old.now }
     requires new { IsItemList new.now }
@@ -66,8 +66,8 @@ fn takes(old: &[u8], new: &[u8], high: u32) -> bool
     more && was.is_empty()
 }
 
-// The item list of the entry with this key at this place, and the place after it; of a key that comes
-// new no bytes, and the place.
+/// The item list of the entry with this key at this place, and the place after it; of a key that comes
+/// new no bytes, and the place.
 fn list_before<'a>(old: &'a Entries, k: usize, key: &[u8], comes: bool) -> Option<(&'a [u8], usize)>
     ensures some { IfSome result (λ f. HadList old.now k key.now comes f.0.now f.1) }
     ensures none { IfNone result ((list : List ℕ) (next : ℕ) → HadList old.now k key.now comes list next → ⊥) }
@@ -88,14 +88,14 @@ fn list_before<'a>(old: &'a Entries, k: usize, key: &[u8], comes: bool) -> Optio
     Some((list, k + 1))
 }
 
-// Whether a key may be where this is the bound.
+/// Whether a key may be where this is the bound.
 pub(crate) fn is_up_to(key: &[u8], bound: &[u8]) -> bool
     ensures { result ≡ true ↔ UpTo key.now bound.now }
 {
     bound.is_empty() || !is_below(bound, key)
 }
 
-// Whether an entry with a key up to this high key takes items, or comes with some, and the others stay.
+/// Whether an entry with a key up to this high key takes items, or comes with some, and the others stay.
 fn takes_entry(high: &[u8], old: &Entries, new: &Entries) -> bool
     requires old { AreEntries old.now }
     requires new { AreEntries new.now }
@@ -118,8 +118,8 @@ fn takes_entry(high: &[u8], old: &Entries, new: &Entries) -> bool
     go_on(Members::Entries(old), next, Members::Entries(new), k + 1)
 }
 
-// The high key of a leaf of the entry tree, its entries and those that a record leaves there, all else
-// being as it was.
+/// The high key of a leaf of the entry tree, its entries and those that a record leaves there, all else
+/// being as it was.
 pub(crate) fn leaf_left<'a>(
     rec: &Record,
     old: &'a Page,
@@ -145,7 +145,7 @@ pub(crate) fn leaf_left<'a>(
     Some((high.as_slice(), entries, new_entries))
 }
 
-// Whether a record leaves a leaf of the entry tree with items added under a key.
+/// Whether a record leaves a leaf of the entry tree with items added under a key.
 fn leaves_entries(rec: &Record, old: &Page, new: &Page) -> bool
     requires old { IsPage old.now }
     requires new { IsPage new.now }
@@ -180,7 +180,7 @@ pub fn valid_add_items(
     Ok(leaves_entries(rec, &before[0], &after[0]))
 }
 
-// Whether a record leaves a leaf of a posting tree with items added up to its high item.
+/// Whether a record leaves a leaf of a posting tree with items added up to its high item.
 fn leaves_postings(rec: &Record, old: &Page, new: &Page) -> bool
     requires old { IsPage old.now }
     requires new { IsPage new.now }

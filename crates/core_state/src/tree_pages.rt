@@ -21,7 +21,7 @@ use std::alloc::AllocError;
 /// A page grows or is split only where its body has more bytes than this.
 pub(crate) const HALF_BODY: usize = 4084;
 
-// The second of two pages that a record changes, where it is a new one.
+/// The second of two pages that a record changes, where it is a new one.
 fn second_new(state: &State, rec: &Record, since: u64) -> Option<u32>
     ensures some { IfSome result (λ p. SecondIsNew (use_of state.now.value) since rec.now p) }
     ensures none { IfNone result
@@ -38,7 +38,7 @@ fn second_new(state: &State, rec: &Record, since: u64) -> Option<u32>
     Some(page)
 }
 
-// Whether an entry with this item list becomes one with this root, and the others stay.
+/// Whether an entry with this item list becomes one with this root, and the others stay.
 fn becomes_root(list: &[u8], root: u32, old: &Entries, new: &Entries) -> bool
     ensures { result ≡ true ↔ BecomesRoot list.now root old.now new.now }
 {
@@ -61,8 +61,8 @@ fn becomes_root(list: &[u8], root: u32, old: &Entries, new: &Entries) -> bool
     go_on(Members::Entries(old), k + 1, Members::Entries(new), k + 1)
 }
 
-// Whether a record leaves a leaf of the entry tree with a root in place of an entry's item list, and
-// that list on the leaf of a posting tree.
+/// Whether a record leaves a leaf of the entry tree with a root in place of an entry's item list, and
+/// that list on the leaf of a posting tree.
 fn makes_root(rec: &Record, root: u32, old: &Page, new: &Page, leaf: &Page) -> bool
     ensures { result ≡ true ↔ MakesRoot rec.now root old.now new.now leaf.now }
 {
@@ -102,7 +102,7 @@ pub fn valid_make_tree(
     Ok(makes_root(rec, root, &before[0], &after[0], &after[1]))
 }
 
-// Whether this page alone is the child, without bound.
+/// Whether this page alone is the child, without bound.
 fn is_lone_child(children: &EntryChildren, page: u32) -> bool
     ensures { result ≡ true ↔ (children.now ≡ record { page = page; bound = [] } ∷ []) }
 {
@@ -115,7 +115,7 @@ fn is_lone_child(children: &EntryChildren, page: u32) -> bool
     child.bound.is_empty()
 }
 
-// The same of a posting tree.
+/// The same of a posting tree.
 fn is_lone_post(children: &PostChildren, page: u32) -> bool
     ensures { result ≡ true ↔ (children.now ≡ record { page = page; bound = no_bound } ∷ []) }
 {
@@ -128,7 +128,7 @@ fn is_lone_post(children: &PostChildren, page: u32) -> bool
     child.bound == NO_BOUND
 }
 
-// Whether this page alone becomes the child of a root with this content.
+/// Whether this page alone becomes the child of a root with this content.
 fn is_one_child(page: u32, root: &Body, inner: &Body) -> bool
     ensures { result ≡ true ↔ OneChild page root.now inner.now }
 {
@@ -141,7 +141,7 @@ fn is_one_child(page: u32, root: &Body, inner: &Body) -> bool
     }
 }
 
-// Whether two pages of a tree have the same content.
+/// Whether two pages of a tree have the same content.
 fn is_same_tree(a: &Body, b: &Body) -> bool
     ensures { result ≡ true ↔ SameTree a.now b.now }
 {
@@ -173,8 +173,8 @@ fn is_same_tree(a: &Body, b: &Body) -> bool
     }
 }
 
-// Whether a record leaves a root with a large body as an inner page over this one, and its content on
-// that page.
+/// Whether a record leaves a root with a large body as an inner page over this one, and its content on
+/// that page.
 fn grows_root(rec: &Record, page: u32, old: &Page, root: &Page, moved: &Page) -> bool
     requires { IsPage old.now }
     ensures { result ≡ true ↔ GrowsRoot rec.now page old.now root.now moved.now }

@@ -15,7 +15,7 @@ use page_types::{Change, Edit, PAGE_LIMIT};
 /// The kind of a page that is deleted.
 const DELETED: u8 = 9;
 
-// The use of the page that an edit leaves.
+/// The use of the page that an edit leaves.
 pub(crate) fn use_of_edit(number: u64, edit: &Edit) -> PageUse
     ensures { result ≡ edited_use number edit.now }
 {
@@ -30,7 +30,7 @@ pub(crate) fn use_of_edit(number: u64, edit: &Edit) -> PageUse
     }
 }
 
-// The least number above the page of a change; 0 where that is no page.
+/// The least number above the page of a change; 0 where that is no page.
 fn page_end(change: &Change) -> usize
     ensures page { change.now.page < page_limit → change.now.page < result }
     ensures least { (most : ℕ) → (change.now.page < page_limit → change.now.page < most)
@@ -43,7 +43,7 @@ fn page_end(change: &Change) -> usize
     }
 }
 
-// The least number above the pages of these changes, but for those that are no pages.
+/// The least number above the pages of these changes, but for those that are no pages.
 #[tactic(auto, using(crate::proofs::UseSteps::end_more))]
 pub(crate) fn pages_end(changes: &[Change]) -> usize
     ensures above { All (λ c. c.page < page_limit → c.page < result) changes.now }
@@ -57,7 +57,7 @@ pub(crate) fn pages_end(changes: &[Change]) -> usize
     end
 }
 
-// The use of one page.
+/// The use of one page.
 pub(crate) fn note_use(uses: &mut Vec<PageUse>, page: usize, new: PageUse)
     requires small { page < page_limit }
     requires room_before { page < vec_capacity uses.old }
@@ -72,7 +72,7 @@ pub(crate) fn note_use(uses: &mut Vec<PageUse>, page: usize, new: PageUse)
     uses[page] = new;
 }
 
-// The greater, the older the stamp of a deleted page is; 0 of every other page.
+/// The greater, the older the stamp of a deleted page is; 0 of every other page.
 fn rank_of(new: PageUse) -> u64
     ensures { result ≡ rank new }
 {
@@ -82,7 +82,7 @@ fn rank_of(new: PageUse) -> u64
     }
 }
 
-// Another rank of one page.
+/// Another rank of one page.
 fn note_rank(ranks: &mut Peaks, page: usize, new: PageUse)
     requires { page < length ranks.old }
     ensures here { get_or ranks.new page 0 ≡ rank new }
@@ -95,7 +95,7 @@ fn note_rank(ranks: &mut Peaks, page: usize, new: PageUse)
     }
 }
 
-// The use of one page, with its rank.
+/// The use of one page, with its rank.
 fn note_ranked(uses: &mut Vec<PageUse>, ranks: &mut Peaks, page: usize, new: PageUse)
     requires small { page < page_limit }
     requires uses { page < vec_capacity uses.old }
@@ -110,7 +110,7 @@ fn note_ranked(uses: &mut Vec<PageUse>, ranks: &mut Peaks, page: usize, new: Pag
     note_rank(ranks, page, new);
 }
 
-// The uses after one change, with their ranks.
+/// The uses after one change, with their ranks.
 fn note_change(uses: &mut Vec<PageUse>, ranks: &mut Peaks, number: u64, change: &Change)
     requires uses { change.now.page < page_limit → change.now.page < vec_capacity uses.old }
     requires ranks { change.now.page < page_limit → change.now.page < length ranks.old }
@@ -126,7 +126,7 @@ fn note_change(uses: &mut Vec<PageUse>, ranks: &mut Peaks, number: u64, change: 
     }
 }
 
-// The uses after changes, with their ranks, for which there is room.
+/// The uses after changes, with their ranks, for which there is room.
 pub(crate) fn note_uses(uses: &mut Vec<PageUse>, ranks: &mut Peaks, number: u64, changes: &[Change])
     requires uses { All (λ c. c.page < page_limit → c.page < vec_capacity uses.old) changes.now }
     requires ranks { All (λ c. c.page < page_limit → c.page < length ranks.old) changes.now }
@@ -141,7 +141,7 @@ pub(crate) fn note_uses(uses: &mut Vec<PageUse>, ranks: &mut Peaks, number: u64,
     }
 }
 
-// The lowest unused page, where each page below `from` is or was in use.
+/// The lowest unused page, where each page below `from` is or was in use.
 pub(crate) fn lowest_from(uses: &[PageUse], from: usize) -> usize
     requires { AreUsedBelow uses.now from }
     ensures { IsLowest uses.now result }
@@ -154,7 +154,7 @@ pub(crate) fn lowest_from(uses: &[PageUse], from: usize) -> usize
     uses.len()
 }
 
-// The first page that was deleted by a record of number `since` at most, by a walk over all.
+/// The first page that was deleted by a record of number `since` at most, by a walk over all.
 pub(crate) fn first_reusable(uses: &[PageUse], since: u64) -> Option<u32>
     requires { length uses.now ≤ page_limit }
     ensures { IsLeastIfAny (IsReusable (λ p. get_or uses.now p Unused) since) result }

@@ -13,7 +13,7 @@ use crate::table::XID_BOUND;
 use page_types::{Body, Kind, Page, Record};
 use std::alloc::AllocError;
 
-// Whether a record changes these pages, in this order.
+/// Whether a record changes these pages, in this order.
 pub(crate) fn changes_pages(rec: &Record, pages: &[u32]) -> bool
     ensures { result ≡ true ↔ (changed rec.now ≡ pages.now) }
 {
@@ -29,7 +29,7 @@ pub(crate) fn changes_pages(rec: &Record, pages: &[u32]) -> bool
     true
 }
 
-// Whether a record leaves this page as an empty metapage.
+/// Whether a record leaves this page as an empty metapage.
 fn is_first_meta(rec: &Record, page: &Page) -> bool
     ensures { result ≡ true ↔ (page.now ≡ made_with rec.now 0 (body.Meta 0 0 0)) }
 {
@@ -41,7 +41,7 @@ fn is_first_meta(rec: &Record, page: &Page) -> bool
     }
 }
 
-// Whether a record leaves this page as an empty leaf of the entry tree, without right link.
+/// Whether a record leaves this page as an empty leaf of the entry tree, without right link.
 fn is_first_leaf(rec: &Record, page: &Page) -> bool
     ensures { result ≡ true ↔ (page.now ≡ made_with rec.now 0 (body.EntryLeaf [] [])) }
 {
