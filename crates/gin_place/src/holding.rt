@@ -128,7 +128,8 @@ fn take_page<D: Disk>(frames: &mut Frames<D>, pass: &mut Pass) -> Result<Option<
 }
 
 /// A new page, which is held, last of all: the lowest that was deleted and may be taken again, else the
-/// lowest unused one. Where it is taken no more once it is held, another is chosen.
+/// lowest unused one. Where it is taken no more once it is held, another is chosen; where that goes on
+/// for as many tries as pages have numbers, the answer is OutOfMemory.
 pub fn hold_new<D: Disk>(frames: &mut Frames<D>, pass: &mut Pass) -> Result<Held, PlaceError>
     requires pass { IsPassOf frames.old pass.old }
     requires right { HasRight pass.old }
