@@ -9,3 +9,12 @@ pub mod Once
 pub mod OpenLists
 pub mod LongReads
 pub mod Ends
+pub mod TreeMoments
+pub mod ReadLists
+pub mod OpenWays
+pub mod HeapPages
+pub mod OpenRows
+pub mod KeptHeaps
+pub mod PostMoments
+pub mod OpenTrees
+pub mod NamedTrees

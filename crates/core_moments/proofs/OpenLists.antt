@@ -21,7 +21,7 @@ use Rattle.core_state.proofs.Trees.Behind.{Once}
 use Rattle.core_state.proofs.Trees.PendWalk as pend
 use Rattle.core_state.proofs.Trees.Walk.{Rising}
 use Rattle.core_moments.specs.Law.{ReadOnce}
-use Rattle.core_moments.specs.OpenWalk.{LeadOn}
+use Rattle.core_moments.specs.OpenWalk.{LeadOn, last_length}
 use Rattle.core_moments.specs.Walk.{Follows, rightward}
 use Rattle.core_moments.proofs.Moments.{reads_at}
 use Rattle.core_moments.proofs.Once.{once_pages, chain_once, rise}
@@ -83,7 +83,7 @@ reads_fewer n xs some once each =
 
 -- ── pages as they were read ──
 
-was_shown : (R : Log) (from : ℕ) (xs : List Read) → AreReads R from xs → (x : Read) → In x xs → WasShown R x
+pub was_shown : (R : Log) (from : ℕ) (xs : List Read) → AreReads R from xs → (x : Read) → In x xs → WasShown R x
 was_shown R from [] r x i = absurd i
 was_shown R from (y ∷ ys) r x (inl e) = subst (WasShown R) (sym e) r.2
 was_shown R from (y ∷ ys) r x (inr i) = was_shown R y.length ys r.3 x i
@@ -108,23 +108,18 @@ walk_pages R from p (y ∷ ys) q low r d x (inl e) =
 walk_pages R from p (y ∷ ys) q low r d x (inr i) =
     walk_pages R y.length (rightward y.content) ys q (read_page R y r.2).right r.3 d.2 x i
 
--- when the last page was read
-abbrev pub last_length : ℕ → List Read → ℕ
-last_length t [] = t
-last_length t (x ∷ xs) = last_length x.length xs
-
-last_same : (t : ℕ) (xs : List Read) → pend.last_time t (map tr xs) ≡ last_length t xs
+pub last_same : (t : ℕ) (xs : List Read) → pend.last_time t (map tr xs) ≡ last_length t xs
 last_same t [] = refl
 last_same t (x ∷ xs) = last_same x.length xs
 
 -- a page that was read after others
-read_behind : (R : Log) (from : ℕ) (front : List Read) (x : Read) (back : List Read)
+pub read_behind : (R : Log) (from : ℕ) (front : List Read) (x : Read) (back : List Read)
     → AreReads R from (front ++ x ∷ back)
     → (last_length from front ≤ x.length) × (x.length ≤ length R) × WasShown R x
 read_behind R from [] x back r = (r.0, r.1, r.2)
 read_behind R from (y ∷ ys) x back r = read_behind R y.length ys x back r.3
 
-lead_front : (next : Page → ℕ) (p : ℕ) (front : List Read) (x : Read) (back : List Read) (q : ℕ)
+pub lead_front : (next : Page → ℕ) (p : ℕ) (front : List Read) (x : Read) (back : List Read) (q : ℕ)
     → LeadOn next p (front ++ x ∷ back) q → LeadOn next p front x.page × (x.page ≢ 0)
 lead_front next p [] x back q d = (sym d.1, λ e. d.0 (sym d.1 ∙ e))
 lead_front next p (y ∷ ys) x back q d =
@@ -140,10 +135,21 @@ on_pages x [] i = i
 on_pages x (y ∷ ys) (inl e) = inl (ap (λ (z : Read). z.page) e)
 on_pages x (y ∷ ys) (inr i) = inr (on_pages x ys i)
 
-not_free : (p : Page) → IsListPage p → p.body ≢ body.Free
+pub not_free : (p : Page) → IsListPage p → p.body ≢ body.Free
 not_free p (rows, inl e) f = let z : body.Pending rows ≡ body.Free = sym e ∙ f in (let y : ⊥ = cc in y)
 not_free p (rows, inr e) f =
     let z : body.Deleted (gone.Pending rows) ≡ body.Free = sym e ∙ f in (let y : ⊥ = cc in y)
+
+-- as the pages of the moments show them
+pub as_moments : (P : ℕ → Pages) (end s p : ℕ) (xs : List Read) (q : ℕ) → Reads P s end xs → LeadOn rightward p xs q
+    → pend.Leads (λ t z. (P t z).right) p (map tr xs) q
+as_moments P end s p [] q r d = d
+as_moments P end s p (x ∷ xs) q r d = (
+  d.0,
+  d.1,
+  subst (λ (z : ℕ). pend.Leads (λ t c. (P t c).right) z (map tr xs) q) (ap (λ (c : Page). c.right) (sym r.1))
+      (as_moments P end x.length (rightward x.content) xs q r.2 d.2),
+)
 
 -- ── along the pending list from a pin ──
 
@@ -169,23 +175,13 @@ module _ (R : Log) (pin : Pin) (meta : Read) (pending : List Read) (q : ℕ) (le
   meta_is : P meta.length 0 ≡ meta.content
   meta_is = subst (λ (p : ℕ). P meta.length p ≡ meta.content) meta_page all_reads.1
 
-  as_moments : (s p : ℕ) (xs : List Read) → Reads P s (length R) xs → LeadOn rightward p xs q
-      → pend.Leads (λ t z. (P t z).right) p (map tr xs) q
-  as_moments s p [] r d = d
-  as_moments s p (x ∷ xs) r d = (
-    d.0,
-    d.1,
-    subst (λ (z : ℕ). pend.Leads (λ t c. (P t c).right) z (map tr xs) q) (ap (λ (c : Page). c.right) (sym r.1))
-        (as_moments x.length (rightward x.content) xs r.2 d.2),
-  )
-
   rises : Rising meta.length (length R) (map tr pending)
   rises = rise P (length R) meta.length pending all_reads.2
 
   line : OpenLine R L.pages meta.length (map tr pending) q
   line = L.line meta.length (map tr pending) q since within rises
       (subst (λ (p : ℕ). pend.Leads (λ t z. (P t z).right) p (map tr pending) q) (ap first_of (sym meta_is))
-      (as_moments meta.length (first_of meta.content) pending all_reads.2 leads))
+      (as_moments P (length R) meta.length (first_of meta.content) pending q all_reads.2 leads))
 
   all_once : Once (pend.pages (map tr pending) ++ line.more)
   all_once = chain_once (λ z. (P (pend.last_time meta.length (map tr pending)) z).right) (first_of (P meta.length 0))

@@ -7,4 +7,6 @@
 
 mod laws;
 
-pub use laws::{moments_hold, walks_end};
+pub use laws::{
+    kept_items_lie, lists_stay_open, moments_hold, trees_stay_open, walks_end, ways_stay_open,
+};
