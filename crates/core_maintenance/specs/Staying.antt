@@ -11,7 +11,7 @@ use Rattle.core_maintenance.specs.Right.{HasRight}
 use Rattle.core_maintenance.specs.MovingSteps.{IsAllMain}
 use Rattle.core_maintenance.specs.Leading.{IsHigh, IsHighPost}
 
--- What was found of the index is so still: the ways down and the heights of the pages on them, the
+-- What was found of the index is so still: the ways down, the pages on them and their heights, the
 -- posting trees that entries name, linked rows, pairs of the main part, and documents with all their
 -- keys in it.
 pub record FoundStays (P Q : Pages) : Type 0 where
@@ -25,6 +25,7 @@ pub record FoundStays (P Q : Pages) : Type 0 where
   pub high : (k : Key) (p h : ℕ) → Toward P k 1 p → IsHigh P h p → IsHigh Q h p
   pub high_post : (root i p h : ℕ) → IsRoot P root → TowardItem P i root p → IsHighPost P h p
       → IsHighPost Q h p
+  pub same : (k : Key) (p : ℕ) → Toward P k 1 p → Q p ≡ P p
 
 -- it is so over later records of none of the kinds 12 to 21
 abbrev pub FoundHolds : Type 0
