@@ -11,7 +11,7 @@ use Rattle.core_state.specs.Legal.{IsLegal}
 use Rattle.core_state.specs.Stores.{PagesStand}
 use Rattle.buffer_frames.specs.Counted.{IsCounted}
 
--- the kinds of record of a store whose pending list is never moved into trees
+-- the kinds of record of a store whose keys keep lists: it has no posting tree, no vacuum and no checkpoint
 abbrev pub IsEarlyKind : Kind → Type 0
 IsEarlyKind kind.Create = ⊤
 IsEarlyKind kind.Begin = ⊤
@@ -23,6 +23,10 @@ IsEarlyKind (kind.MarkDeleted item serial) = ⊤
 IsEarlyKind (kind.PutPending item serial) = ⊤
 IsEarlyKind (kind.AddRow item serial) = ⊤
 IsEarlyKind (kind.LinkPending item serial) = ⊤
+IsEarlyKind kind.Shift = ⊤
+IsEarlyKind kind.AddItems = ⊤
+IsEarlyKind kind.GrowRoot = ⊤
+IsEarlyKind kind.Split = ⊤
 IsEarlyKind _ = ⊥
 
 -- the kinds that a session logs: no checkpoint, and no slot is freed
@@ -31,8 +35,7 @@ IsLoggedKind (kind.Checkpoint redo) = ⊥
 IsLoggedKind kind.FreeSlots = ⊥
 IsLoggedKind _ = ⊤
 
--- A legal log with its history. Until cleanup is built it has no record that only a tree or a checkpoint
--- needs.
+-- A legal log with its history. It has no record that only a posting tree, vacuum or a checkpoint needs.
 pub record IsLogOf (R : Log) (H : History) : Type 0 where
   pub legal : IsLegal R
   pub history : IsHistory R H

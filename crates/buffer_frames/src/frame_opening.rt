@@ -11,7 +11,7 @@ ghost use Rattle.buffer_frames.specs.Opens.{OpensTo};
 ghost use Rattle.buffer_frames.specs.Opening.{IsOpenedAt, HasStarted, LeavesRefused};
 ghost use Rattle.buffer_frames.specs.First.{first_sheets};
 ghost use Rattle.buffer_frames.specs.Homes.{HasPutBehind, HaveOpened};
-ghost use Rattle.buffer_frames.specs.Passes.{IsPassOf, IsHolding, IsWhole};
+ghost use Rattle.buffer_frames.specs.Passes.{IsPassOf, IsHolding, IsRightFree, IsWhole};
 ghost use Rattle.buffer_frames.specs.declared.error.OpenFault.TheVariants.{NotAStore};
 ghost use Rattle.buffer_frames.specs.declared.page_map.PageMap.{PageMap as PageMapValue};
 
@@ -90,6 +90,7 @@ impl<D: Disk> Frames<D> {
         ensures whole { IfOk result (λ x. IsWhole (x.0).journal x.1) }
         ensures none_held { IfOk result (λ x. IsHolding D.Disk x.0 x.1 []) }
         ensures pins { IfOk result (λ x. (x.0).pins ≡ replicate PLACES None) }
+        ensures free { IfOk result (λ x. IsRightFree x.0) }
         ensures keeps_pages { D.tells → IfOk result (λ x. KeepsPages D.Disk disk (x.0).journal.disk) }
         ensures since { IfOk result (λ x. (x.0).journal.opened ≡ (x.0).journal.disk) }
         ensures begins { D.tells → IfOk result (λ x. BeginsOpened D.Disk (x.0).journal) }

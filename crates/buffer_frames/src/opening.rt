@@ -200,6 +200,7 @@ pub fn open<D: Disk>(
         (λ x. (c0 : ℕ) × IsOpenedAt D.Disk settings.now disk c0 x.0 x.1) }
     ensures keeps_pages { D.tells → IfOk result (λ x. KeepsPages D.Disk disk (x.0).disk) }
     ensures since { IfOk result (λ x. (x.0).opened ≡ (x.0).disk) }
+    ensures free { IfOk result (λ x. (x.0).work ≡ None) }
     ensures started { IfOk result (λ x. HasStarted (x.0).state) }
     ensures begins { D.tells → IfOk result (λ x. BeginsOpened D.Disk x.0) }
     ensures opens_on { D.tells → IfOk result (λ x. (H : History) → OpensTo (D.seen disk) H
