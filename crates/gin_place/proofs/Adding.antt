@@ -50,7 +50,7 @@ pub record AddsTo (c : Page) (key items : List ℕ) (p : Page) : Type 0 where
 
 pub adds_to : (c : Page) (key items : List ℕ) (p : Page) → IsReading c key items (reading.Added p)
     → AddsTo c key items p
-adds_to c key items p (IsReading.more q leaf added within fresh is_page) = record {
+adds_to c key items p (IsReading.more q leaf added within fresh is_page no_tree) = record {
   leaf = leaf;
   added = added;
   within = within;

@@ -4,6 +4,7 @@ use Rattle.std.proofs.Common.{◌∙◌, arith, length-drop, drop-drop}
 use Rattle.std.specs.List.{AllByRecursion}
 use Rattle.disk_trait.specs.declared.device.Disk.{Ghosts as Disk}
 use Rattle.ts_base.specs.Keys.{Key}
+use Rattle.page_types.specs.declared.page.Page.{Page}
 use Rattle.core_state.specs.Log.{Log, Pages, Shows, cut}
 use Rattle.core_state.specs.Allowed.{Sheet}
 use Rattle.core_state.specs.Index.{Pending, Main}
@@ -16,15 +17,21 @@ use Rattle.core_state.proofs.Steps.Seen.{seen_shown}
 use Rattle.core_maintenance.specs.Leading.{IsHigh}
 use Rattle.core_maintenance.specs.Right as maintenance
 use Rattle.core_maintenance.specs.Staying.{FoundStays, RightKeepsFound}
+use Rattle.entry_tree.specs.Finding.{IsFound}
+use Rattle.entry_tree.specs.Reading.{HasRoomForChild}
+use Rattle.entry_tree.specs.declared.finding.Found.TheVariants as found
 use Rattle.buffer_frames.specs.Frames.{FramesValue, Stands}
 use Rattle.buffer_frames.specs.Passes.{IsPassOf, IsHolding, HasAdded, PassRises, Seen, SeesOn, view_of}
 use Rattle.buffer_frames.specs.declared.pass.Pass.{Pass}
 use Rattle.buffer_frames.proofs.Added.{added_in_turn, on_by_none}
 use Rattle.buffer_frames.proofs.AtHand.{cut_length, cut_whole, log_length}
 use Rattle.buffer_frames.proofs.Begun.{same_by_none}
-use Rattle.gin_place.specs.Placing.{HasRight, IsLeft}
+use Rattle.gin_place.specs.Running.{StoreGoesOn}
+use Rattle.gin_place.specs.Placing.{HasRight, IsLeft, IsRoomAbove}
 use Rattle.gin_place.specs.Going.{IsPlacingKind, KeepsPairs, KeepsWays, WorksOn}
-use Rattle.gin_place.specs.Inner.Holding.{ReadsOn, HoldsNoMore, IsNewHeld}
+use Rattle.gin_place.specs.Overfull.{IsOverlong, IsOverfull}
+use Rattle.gin_place.proofs.Running.{goes_still, goes_in_turn}
+use Rattle.gin_place.specs.Holding.{ReadsOn, HoldsNoMore, IsNewHeld}
 
 -- a log cut twice
 pub cut_cut : (n m : ℕ) (R : Log) → n ≤ m → m ≤ length R → cut n (cut m R) ≡ cut n R
@@ -89,9 +96,24 @@ module _ {D : Type 0} (device : Disk D) (law : RightKeepsFound) (f g : FramesVal
       found_then (λ P. Toward P k 1 page × (h : ℕ) × IsHigh P h page × (h < n))
       (λ P Q s x. (s.toward k page x.0, x.1, s.high k page x.1 x.0 x.2, x.3))
 
+  keeps_over : (k : Key) (items : List ℕ) → IsOverfull device f p k items → IsOverfull device g q k items
+  keeps_over k items =
+      found_then (λ P. (n : ℕ) × Toward P k 1 n × IsOverlong k items (P n))
+      (λ P Q s x. (x.0, s.toward k x.0 x.1, subst (IsOverlong k items) (sym (s.same k x.0 x.1)) x.2))
+
+  keeps_above : (k : Key) (parent page : ℕ) → IsRoomAbove device f p k parent page → IsRoomAbove device g q k parent page
+  keeps_above k parent page =
+      found_then
+      (λ P. Toward P k 1 parent × IsFound (P parent) k (found.Down page) × HasRoomForChild (P parent))
+      (λ P Q s x. (
+        s.toward k parent x.0,
+        subst (λ (c : Page). IsFound c k (found.Down page)) (sym (s.same k parent x.0)) x.1,
+        subst HasRoomForChild (sym (s.same k parent x.0)) x.2,
+      ))
+
   pub reads_by : q.pin ≡ p.pin → q.room ≡ p.room → q.xid ≡ p.xid → q.work ≡ p.work → g.pins ≡ f.pins
-      → ReadsOn device f p g q
-  reads_by pin room xid work pins = record {
+      → StoreGoesOn device f g [] → ReadsOn device f p g q
+  reads_by pin room xid work pins goes = record {
     works = record {
       is_pass = of;
       added = added;
@@ -103,9 +125,12 @@ module _ {D : Type 0} (device : Disk D) (law : RightKeepsFound) (f g : FramesVal
       xid = xid;
       work = work;
       pins = pins;
+      goes = goes;
     };
     ways = keeps_ways;
     left = keeps_left;
+    over = keeps_over;
+    above = keeps_above;
   }
 
 module _ {D : Type 0} (device : Disk D) where
@@ -142,6 +167,7 @@ module _ {D : Type 0} (device : Disk D) where
     xid = y.xid ∙ x.xid;
     work = y.work ∙ x.work;
     pins = y.pins ∙ x.pins;
+    goes = goes_in_turn device f g h xs ys x.added x.goes y.goes;
   }
     where
       both : (zs : List ℕ) → AllByRecursion IsPlacingKind zs → AllByRecursion IsPlacingKind (zs ++ ys)
@@ -154,6 +180,8 @@ module _ {D : Type 0} (device : Disk D) where
     works = works_in_turn f g h p q r [] [] x.works y.works;
     ways = λ k n had. y.ways k n (x.ways k n had);
     left = λ k page n had. y.left k page n (x.left k page n had);
+    over = λ k items had. y.over k items (x.over k items had);
+    above = λ k parent page had. y.above k parent page (x.above k parent page had);
   }
 
   -- nothing is done
@@ -170,9 +198,12 @@ module _ {D : Type 0} (device : Disk D) where
       xid = refl;
       work = refl;
       pins = refl;
+      goes = goes_still device f added;
     };
     ways = λ k n had. had;
     left = λ k page n had. had;
+    over = λ k items had. had;
+    above = λ k parent page had. had;
   }
 
   pub no_more_in_turn : (f g h : FramesValue D) (p q r : Pass) → HoldsNoMore device f p g q

@@ -6,24 +6,32 @@ use Rattle.disk_trait.specs.declared.device.Disk.{Ghosts as Disk}
 use Rattle.wal.specs.Waiting.{limit_of, length_with, down_of}
 use Rattle.page_types.specs.Records.{kind_number}
 use Rattle.page_types.specs.declared.page.Page.{Page}
+use Rattle.core_state.specs.Log.{Log}
+use Rattle.core_state.specs.Legal.{IsLegal}
 use Rattle.core_state.specs.Allowed.{Sheet, Step}
+use Rattle.core_state.specs.States.{StateValue}
+use Rattle.page_space.specs.Taking.{IsTaken, HasNoPage}
 use Rattle.buffer_frames.specs.Homes.{IsNoPage, BadPageWhere}
 use Rattle.buffer_frames.specs.Journals.{logged_bytes, next_record}
 use Rattle.buffer_frames.specs.LogCauses.{HoldHasCause, WriteHasCause, LogFullWhere}
-use Rattle.buffer_frames.specs.Frames.{FramesValue}
+use Rattle.buffer_frames.specs.Frames.{FramesValue, Behind}
 use Rattle.buffer_frames.specs.Passes.{IsPassOf}
 use Rattle.buffer_frames.specs.declared.pass.Pass.{Pass}
+use Rattle.buffer_frames.proofs.Begun.{same_by_none}
 use Rattle.buffer_frames.specs.declared.frame_error.FrameError.{FrameError}
 use Rattle.buffer_frames.specs.declared.frame_error.FrameError.TheVariants as frames
 use Rattle.buffer_frames.specs.declared.log_error.LogError.{LogError}
 use Rattle.buffer_frames.specs.declared.log_error.LogError.TheVariants as logs
 use Rattle.gin_place.specs.Going.{IsPlacingKind, WorksOn}
-use Rattle.gin_place.specs.Causes.{Meets, CannotUse, HasFault, IsWhy, CannotHold, CannotLog}
+use Rattle.gin_place.specs.Causes.{Meets, Finds, CannotUse, HasNumbers, HadPage, NoBadPage, HasFault, IsWhy}
+use Rattle.gin_place.specs.Causes.{CannotHold, CannotLog}
 use Rattle.gin_place.specs.Inner.Refusals.{frame_refusal, log_refusal}
 use Rattle.gin_place.specs.declared.error.PlaceError.{PlaceError}
 use Rattle.gin_place.specs.declared.error.PlaceError.TheVariants.{StoreFull, LogFull, DiskFault, Down, BadPage}
 use Rattle.gin_place.specs.declared.error.PlaceError.TheVariants.{OutOfMemory}
+use Rattle.gin_place.specs.Faults.{MetNoFault}
 use Rattle.gin_place.proofs.Carrying.{reads_still, same_added, works_in_turn}
+use Rattle.gin_place.proofs.Faults.{fine_still, fine_then}
 
 -- what holds of the error that is returned
 pub at_exit : {T E : Type 0} (P : E → Type 0) (r : Result T E) (y e : E) → r ≡ Err y → y ≡ e → P e → IfErr r P
@@ -40,7 +48,17 @@ weaker f Is p (CannotUse.past high) = CannotUse.past high
 weaker f Is p (CannotUse.bytes none) = CannotUse.bytes none
 weaker f Is p (CannotUse.other c is lies off) = absurd (off tt)
 
+-- a page that is taken is there
+pub taken_some : (s : StateValue) (since p : ℕ) → IsTaken s since p → HasNoPage s since → ⊥
+taken_some s since p (IsTaken.deleted least) none = none.no_deleted p least.holds
+taken_some s since p (IsTaken.unused no_deleted least) none = none.no_unused p least.holds
+
 module _ {D : Type 0} (device : Disk D) where
+  -- after calls that log nothing a page is taken
+  pub had_page : (f g : FramesValue D) (p q : Pass) (n : ℕ) → WorksOn device f p g q []
+      → IsTaken g.journal.state q.since n → HadPage device f p
+  had_page f g p q n works taken = (g, q, [], works, taken_some g.journal.state q.since n taken)
+
   pub meets_now : (f : FramesValue D) (p : Pass) (X : FramesValue D → Pass → Type 0) → IsPassOf f p → X f p
       → Meets device f p X
   meets_now f p X of x = (f, p, [], (reads_still device f p of (same_added device f)).works, x)
@@ -53,6 +71,62 @@ module _ {D : Type 0} (device : Disk D) where
   pub meets_as : (f : FramesValue D) (p : Pass) (X Y : FramesValue D → Pass → Type 0)
       → ((g : FramesValue D) (q : Pass) → X g q → Y g q) → Meets device f p X → Meets device f p Y
   meets_as f p X Y to m = (m.0, m.1, m.2, m.3, to m.0 m.1 m.4)
+
+  -- likewise of calls that log nothing
+  pub finds_now : (f : FramesValue D) (p : Pass) (X : FramesValue D → Pass → Type 0) → IsPassOf f p → X f p
+      → Finds device f p X
+  finds_now f p X of x = (f, p, (reads_still device f p of (same_added device f)).works, fine_still device f, x)
+
+  pub finds_after : (f g : FramesValue D) (p q : Pass) (X : FramesValue D → Pass → Type 0) → WorksOn device f p g q []
+      → MetNoFault device f g → Finds device g q X → Finds device f p X
+  finds_after f g p q X w fine m =
+      (m.0, m.1, works_in_turn device f g m.0 p q m.1 [] [] w m.2, fine_then device f g m.0 fine m.3, m.4)
+
+  pub finds_as : (f : FramesValue D) (p : Pass) (X Y : FramesValue D → Pass → Type 0)
+      → ((g : FramesValue D) (q : Pass) → X g q → Y g q) → Finds device f p X → Finds device f p Y
+  finds_as f p X Y to m = (m.0, m.1, m.2, m.3, to m.0 m.1 m.4)
+
+  pub meets_found : (f : FramesValue D) (p : Pass) (X : FramesValue D → Pass → Type 0) → Finds device f p X
+      → Meets device f p X
+  meets_found f p X m = (m.0, m.1, [], m.2, m.4)
+
+  -- what is so in no legal log there is so in none before
+  pub none_before : (f g : FramesValue D) (p q : Pass) → WorksOn device f p g q [] → MetNoFault device f g
+      → (HasNumbers g → Behind device g (λ (R : Log). ⊥)) → HasNumbers f → Behind device f (λ (R : Log). ⊥)
+  none_before f g p q w fine none few told up R stands legal =
+      let on = w.added.on R stands in
+      let same : on.0 ≡ R = same_by_none f.journal.owes R on.0 on.2 in
+      let pages : g.journal.state.pages ≡ f.journal.state.pages = w.goes.state.pages in
+      none (omega (arith, few, pages)) told (fine.down ∙ up) on.0 on.1 (subst IsLegal (sym same) legal)
+
+  pub lawful_before : (f g : FramesValue D) (p q : Pass) → WorksOn device f p g q [] → MetNoFault device f g
+      → (e : PlaceError) → NoBadPage device g e → NoBadPage device f e
+  lawful_before f g p q w fine StoreFull none = tt
+  lawful_before f g p q w fine LogFull none = tt
+  lawful_before f g p q w fine DiskFault none = tt
+  lawful_before f g p q w fine (Down n) none = tt
+  lawful_before f g p q w fine OutOfMemory none = tt
+  lawful_before f g p q w fine (BadPage n) none = none_before f g p q w fine none
+
+  -- a record that is not logged
+  pub log_lawful : (f l g : FramesValue D) (p : Pass) (e : PlaceError) → CannotLog device l e g p → NoBadPage device f e
+  log_lawful f l g p StoreFull c = tt
+  log_lawful f l g p LogFull c = tt
+  log_lawful f l g p DiskFault c = tt
+  log_lawful f l g p (Down n) c = tt
+  log_lawful f l g p OutOfMemory c = tt
+  log_lawful f l g p (BadPage n) c = absurd c
+
+  -- and a bad page that is met then
+  pub found_lawful : (Bad : FramesValue D → Pass → ℕ → Type 0) (Long : FramesValue D → Type 0) (f l : FramesValue D)
+      (p : Pass) (e : PlaceError) → (m : Finds device f p (IsWhy device Bad Long l e))
+      → ((n : ℕ) → Bad m.0 m.1 n → HasNumbers m.0 → Behind device m.0 (λ (R : Log). ⊥)) → NoBadPage device f e
+  found_lawful Bad Long f l p StoreFull m never = tt
+  found_lawful Bad Long f l p LogFull m never = tt
+  found_lawful Bad Long f l p DiskFault m never = tt
+  found_lawful Bad Long f l p (Down n) m never = tt
+  found_lawful Bad Long f l p OutOfMemory m never = tt
+  found_lawful Bad Long f l p (BadPage n) m never = none_before f m.0 p m.1 m.2 m.3 (never n m.4)
 
   -- the count of faults never falls
   abbrev pub Later : FramesValue D → FramesValue D → Type 0

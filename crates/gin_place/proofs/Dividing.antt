@@ -28,7 +28,7 @@ use Rattle.buffer_frames.specs.Passes.{IsPassOf, IsHolding, view_of}
 use Rattle.buffer_frames.specs.declared.pass.Pass.{Pass}
 use Rattle.gin_place.specs.Going.{IsPlacingKind}
 use Rattle.gin_place.specs.Placing.{HasRight}
-use Rattle.gin_place.specs.Inner.Holding.{IsNewHeld}
+use Rattle.gin_place.specs.Holding.{IsNewHeld}
 use Rattle.gin_place.specs.Inner.Logging.{MayLogStep, IsSplitStep}
 use Rattle.gin_place.specs.Inner.Dividing.{AreSplit}
 use Rattle.gin_place.proofs.Owing.{owes_of}

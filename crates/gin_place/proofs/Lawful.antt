@@ -56,7 +56,7 @@ in_small n (c ∷ cs) p all (inl e) = subst (λ (k : ℕ). k < page_limit) (sym 
 in_small n (c ∷ cs) p all (inr i) = in_small n cs p all.1 i
 
 -- past them all is free
-past_free : (R : Log) → RecordsAreValid R → (P : Pages) → Shows R P → (p : ℕ) → page_limit ≤ p → P p ≡ free_page
+pub past_free : (R : Log) → RecordsAreValid R → (P : Pages) → Shows R P → (p : ℕ) → page_limit ≤ p → P p ≡ free_page
 past_free [] v P shown p high = ap (λ (Q : Pages). Q p) (shown_one [] P none_yet shown shown_none)
 past_free (r ∷ R) v P shown p high =
     others_stay R r v.1.before P v.1.shown shown p
@@ -68,20 +68,20 @@ past_free (r ∷ R) v P shown p high =
 module _ {D : Type 0} (device : Disk D) (f : FramesValue D) (R : Log) (told : device.tells)
     (up : down_of f.journal.wal ≡ None) (stands : Stands device f R) (legal : IsLegal R) (P : Pages)
     (shown : Shows R P) where
-  lies_as : (p : ℕ) (c : Page) → IsPage c → Lies f p c → c ≡ P p
+  pub lies_as : (p : ℕ) (c : Page) → IsPage c → Lies f p c → c ≡ P p
   lies_as p c is lies =
       page_told c (P p) is (shown p).0
       (sym (lies_shown (home_at f.homes p) c (replay R p) lies (stands.homes told up legal p)) ∙ sym (shown p).1)
 
   -- bytes that lie there are a page's
-  no_bytes : (h : Home) (p : ℕ) → ShowsBytes h (replay R p) → IsNoPageHere h → ⊥
+  pub no_bytes : (h : Home) (p : ℕ) → ShowsBytes h (replay R p) → IsNoPageHere h → ⊥
   no_bytes Free p shows none = none
   no_bytes (Bytes b) p shows none = none (P p) (shown p).0 (sym shows ∙ sym (shown p).1)
   no_bytes (Content c) p shows none = none
   no_bytes Away p shows none = none
 
   -- where the log's page is so, there is no reason not to use it
-  usable : (Is : Page → Type 0) (p : ℕ) → Is (P p) → (P p).body ≢ body.Free → CannotUse f Is p → ⊥
+  pub usable : (Is : Page → Type 0) (p : ℕ) → Is (P p) → (P p).body ≢ body.Free → CannotUse f Is p → ⊥
   usable Is p is used (CannotUse.past high) =
       used (ap (λ (c : Page). c.body) (past_free R legal.valid P shown p high))
   usable Is p is used (CannotUse.bytes none) =
@@ -91,7 +91,7 @@ module _ {D : Type 0} (device : Disk D) (f : FramesValue D) (R : Log) (told : de
 
 -- ── the pages of a way ──
 
-same_children : (a b : List EntryChild) → body.EntryInner a ≡ body.EntryInner b → a ≡ b
+pub same_children : (a b : List EntryChild) → body.EntryInner a ≡ body.EntryInner b → a ≡ b
 same_children a b e = cc
 
 -- what is below a page that is high
@@ -113,7 +113,7 @@ high_entries : (P : Pages) (h p : ℕ) → IsHigh P h p → IsEntryBody (P p).bo
 high_entries P _ p (IsHigh.leaf high es is) = subst IsEntryBody (sym is) (IsEntryBody.leaf high es)
 high_entries P _ p (IsHigh.inner cs is each) = subst IsEntryBody (sym is) (IsEntryBody.inner cs)
 
-not_both : (k b : Key) → UpTo k b → IsBelow b k → ⊥
+pub not_both : (k b : Key) → UpTo k b → IsBelow b k → ⊥
 not_both k b (inl none) below = below.0 none
 not_both k b (inr (inl less)) below = less_same k k (nat_list_cmp_total.trans k b k less below.1) refl
 not_both k b (inr (inr same)) below = less_same b k below.1 (sym same)

@@ -1,16 +1,24 @@
 mod Lists
 mod ReadPages
-mod Carrying
-mod Owing
+pub mod Running
+pub mod Faults
+pub mod Carrying
+pub mod Owing
 mod GrowSteps
 mod Dividing
 mod Adding
-mod Logs
-mod Stepped
+pub mod Logs
+pub mod Stepped
 mod Passing
 mod UpperKeys
-mod Exits
+mod OneLeaf
+mod Overfull
+mod Resting
+pub mod Exits
 mod Parts
-mod Causing
+pub mod Causing
 mod SplitCauses
-mod Lawful
+pub mod Lawful
+mod FullPages
+mod LawfulTrees
+mod LawfulRoom

@@ -1,5 +1,5 @@
 -- What a pass goes by is so still once a step of placing is logged.
-use Rattle.std.proofs.Common.{◌≡◌, ◌≤◌, ℕ, List, [], ◌∷◌, ◌++◌, length, refl, sym, ap, subst, ◌∙◌, inl}
+use Rattle.std.proofs.Common.{◌≡◌, ◌⊎◌, ◌≤◌, ℕ, List, [], ◌∷◌, ◌++◌, length, refl, sym, ap, subst, ◌∙◌, inl}
 use Rattle.std.proofs.Common.{inr, arith, length-append}
 use Rattle.std.specs.Prelude.{Option}
 use Rattle.disk_trait.specs.declared.device.Disk.{Ghosts as Disk}
@@ -16,25 +16,59 @@ use Rattle.core_state.proofs.Steps.Seen.{seen_shown}
 use Rattle.core_maintenance.specs.Right as maintenance
 use Rattle.core_maintenance.specs.Staying.{FoundStays, RightKeepsFound}
 use Rattle.core_maintenance.specs.Keeping.{IsPlacing, PairsStay, PairsHold}
+use Rattle.buffer_frames.specs.Opens.{IsEarlyKind}
 use Rattle.buffer_frames.specs.Frames.{FramesValue}
 use Rattle.buffer_frames.specs.Passes.{IsPassOf, HasAdded, PassRises, Seen, IsLogged, view_of, xid_after}
 use Rattle.buffer_frames.specs.declared.pass.Pass.{Pass}
 use Rattle.buffer_frames.proofs.AtHand.{cut_length, cut_whole, log_length}
 use Rattle.buffer_frames.proofs.Beginning.{owed_begins}
 use Rattle.buffer_frames.proofs.HistoryParts.{legal_before}
+use Rattle.gin_place.specs.Running.{StoreGoesOn}
 use Rattle.gin_place.specs.Going.{IsPlacingKind}
 use Rattle.gin_place.specs.Inner.Logging.{MayLogStep, LogsStep}
 use Rattle.gin_place.proofs.Carrying.{view_right}
 
 -- a log that is longer begins the same
-cut_front : (n : ℕ) (xs R : Log) → n ≤ length R → cut n (xs ++ R) ≡ cut n R
+pub cut_front : (n : ℕ) (xs R : Log) → n ≤ length R → cut n (xs ++ R) ≡ cut n R
 cut_front n [] R le = refl
 cut_front n (x ∷ xs) R le = cut_less n x (xs ++ R) (omega (arith, le, length-append xs R)) ∙ cut_front n xs R le
 
-within : (n : ℕ) → IsPlacingKind n → (13 ≤ n) × (n ≤ 17)
+pub within : (n : ℕ) → IsPlacingKind n → (13 ≤ n) × (n ≤ 17)
 within n (inl e) = (omega (arith, e), omega (arith, e))
 within n (inr (inl e)) = (omega (arith, e), omega (arith, e))
 within n (inr (inr e)) = (omega (arith, e), omega (arith, e))
+
+no_posting : (n : ℕ) → IsPlacingKind n → (n ≡ 14) ⊎ (n ≡ 15) → ⊥
+no_posting n (inl e) (inl f) = omega (arith, e, f)
+no_posting n (inl e) (inr f) = omega (arith, e, f)
+no_posting n (inr (inl e)) (inl f) = omega (arith, e, f)
+no_posting n (inr (inl e)) (inr f) = omega (arith, e, f)
+no_posting n (inr (inr e)) (inl f) = omega (arith, e, f)
+no_posting n (inr (inr e)) (inr f) = omega (arith, e, f)
+
+-- a store opens with such a step
+pub early_placing : (k : Kind) → IsPlacingKind (kind_number k) → IsEarlyKind k
+early_placing kind.Create p = tt
+early_placing kind.Begin p = tt
+early_placing (kind.Commit n) p = tt
+early_placing kind.Abort p = tt
+early_placing (kind.Checkpoint redo) p = absurd (let z : ⊥ = omega (arith, (within 5 p).0) in z)
+early_placing (kind.PlaceHead i s) p = tt
+early_placing (kind.PutOverflow i s) p = tt
+early_placing (kind.MarkDeleted i s) p = tt
+early_placing (kind.PutPending i s) p = tt
+early_placing (kind.AddRow i s) p = tt
+early_placing (kind.LinkPending i s) p = tt
+early_placing kind.Shift p = tt
+early_placing kind.AddItems p = tt
+early_placing kind.MakeTree p = absurd (no_posting 14 p (inl refl))
+early_placing kind.AddPostings p = absurd (no_posting 15 p (inr refl))
+early_placing kind.GrowRoot p = tt
+early_placing kind.Split p = tt
+early_placing kind.RemoveItems p = absurd (let z : ⊥ = omega (arith, (within 18 p).1) in z)
+early_placing kind.DeletePost p = absurd (let z : ⊥ = omega (arith, (within 19 p).1) in z)
+early_placing (kind.DropPage i s) p = absurd (let z : ⊥ = omega (arith, (within 20 p).1) in z)
+early_placing kind.FreeSlots p = absurd (let z : ⊥ = omega (arith, (within 21 p).1) in z)
 
 -- a record of such a step is of its kind
 kind_placing : (R : Log) (k : Kind) → IsPlacingKind (kind_number k) → IsPlacing (drawn_kind R k)
@@ -101,8 +135,8 @@ module _ {D : Type 0} (device : Disk D) (law : RightKeepsFound) (pairs : PairsHo
       keep (l.allowed).pages Q kept y
 
   pub logs_by : q.pin ≡ p.pin → q.room ≡ p.room → q.xid ≡ p.xid → q.work ≡ p.work → g.pins ≡ f.pins
-      → LogsStep device f p held step g q
-  logs_by pin room xid work pins = record {
+      → StoreGoesOn device f g (kind_number step.kind ∷ []) → LogsStep device f p held step g q
+  logs_by pin room xid work pins goes = record {
     works = record {
       is_pass = of;
       added = added;
@@ -117,6 +151,7 @@ module _ {D : Type 0} (device : Disk D) (law : RightKeepsFound) (pairs : PairsHo
       xid = xid;
       work = work;
       pins = pins;
+      goes = goes;
     };
     seen = seen;
   }

@@ -34,7 +34,7 @@ even_divides : {A : Type 0} (c : Cutting A) (front back : A) → IsEven c front 
 even_divides c front back (IsEven.half h f b) = h.divides
 even_divides c front back (IsEven.longest none m) = m.divides
 
-cut_divides : {A : Type 0} (c : Cutting A) (front back : A) (keep : Keep) → IsCut c front back keep
+pub cut_divides : {A : Type 0} (c : Cutting A) (front back : A) (keep : Keep) → IsCut c front back keep
     → c.Divides front back
 cut_divides c front back _ (IsCut.half even) = even_divides c front back even
 cut_divides c front back _ (IsCut.most m k) = m.divides

@@ -10,6 +10,7 @@ use Rattle.page_types.specs.Pages.{IsPage, IsBody, IsEntry, ArePostings, AreEntr
 use Rattle.page_types.specs.Views.{entries_in}
 use Rattle.page_types.specs.declared.page.Page.{Page}
 use Rattle.page_types.specs.declared.page.Entry.{Entry}
+use Rattle.page_types.specs.declared.page.EntryChild.{EntryChild}
 use Rattle.page_types.specs.declared.page.Postings.{Postings}
 use Rattle.page_types.specs.declared.page.Postings.TheVariants.{Inline, Root}
 use Rattle.page_types.specs.declared.page.Body.{Body}
@@ -22,7 +23,10 @@ use Rattle.entry_tree.specs.Finding.{IsEntryBody, IsFound, IsFoundIn}
 use Rattle.entry_tree.specs.Logging.{IsNewUnder}
 use Rattle.entry_tree.specs.Reading.{upper_in}
 use Rattle.entry_tree.specs.declared.finding.Found.TheVariants as found
-use Rattle.gin_place.specs.Inner.Reading.{HasItem}
+use Rattle.gin_place.specs.Inner.Reading.{HasItem, IsReading, IsRoomy, IsFullLeaf}
+use Rattle.gin_place.specs.declared.reading.Next.TheVariants as next
+use Rattle.gin_place.specs.declared.reading.Reading.{Reading}
+use Rattle.gin_place.specs.declared.reading.Reading.TheVariants as reading
 use Rattle.gin_place.proofs.Lists.{in_list, contained}
 
 pub less_same : (a b : List ℕ) → KeyLess a b → a ≡ b → ⊥
@@ -33,7 +37,7 @@ less_same a b less same =
     clash : Less ≡ Equal → ⊥
     clash e = cc
 
-all_in : {A : Type 0} (P : A → Type 0) (xs : List A) (x : A) → AllByRecursion P xs → In x xs → P x
+pub all_in : {A : Type 0} (P : A → Type 0) (xs : List A) (x : A) → AllByRecursion P xs → In x xs → P x
 all_in P [] x all i = absurd i
 all_in P (y ∷ xs) x all (inl e) = subst P (sym e) all.0
 all_in P (y ∷ xs) x all (inr i) = all_in P xs x all.1 i
@@ -43,7 +47,8 @@ in_middle [] back e = inl refl
 in_middle (x ∷ front) back e = inr (in_middle front back e)
 
 -- an entry by its key and its postings
-entry_of : (k : List ℕ) (p : Postings) (e : Entry) → e.key ≡ k → e.postings ≡ p → e ≡ record { key = k; postings = p }
+pub entry_of : (k : List ℕ) (p : Postings) (e : Entry) → e.key ≡ k → e.postings ≡ p
+    → e ≡ record { key = k; postings = p }
 entry_of k p e a b =
     subst (λ (x : List ℕ). e ≡ record { key = x; postings = p }) a
     (subst (λ (y : Postings). e ≡ record { key = e.key; postings = y }) b refl)
@@ -107,7 +112,7 @@ is_absent c key place (IsFoundIn.absent p high front back content at below above
   within = within;
 }
 
-are_entries : (c : Page) (high : List ℕ) (entries : List Entry) → IsPage c → c.body ≡ body.EntryLeaf high entries
+pub are_entries : (c : Page) (high : List ℕ) (entries : List Entry) → IsPage c → c.body ≡ body.EntryLeaf high entries
     → AreEntries entries
 are_entries c high entries is content =
     let b : IsBody c.right c.stamp (body.EntryLeaf high entries) = subst (IsBody c.right c.stamp) content is.body in
@@ -233,3 +238,34 @@ entry_leaf b high entries is = subst IsEntryBody (sym is) (IsEntryBody.leaf high
 pub none_in : (i : ℕ) (items : List ℕ) → length items ≡ 0 → In i items → ⊥
 none_in i [] e on = on
 none_in i (x ∷ items) e on = omega (arith, e)
+
+-- ── a leaf leads to no child ──
+
+pub no_leaf : (b : Body) (high : List ℕ) (es : List Entry) (cs : List EntryChild) → b ≡ body.EntryLeaf high es
+    → b ≡ body.EntryInner cs → ⊥
+no_leaf b high es cs is_leaf inner =
+    let two : body.EntryLeaf high es ≡ body.EntryInner cs = sym is_leaf ∙ inner in
+    let z : ⊥ = cc in z
+
+pub leaf_is : (b : Body) → IsEntryLeaf b → (high : List ℕ) × (es : List Entry) × (b ≡ body.EntryLeaf high es)
+leaf_is _ (IsEntryLeaf.leaf high es) = (high, es, refl)
+
+pub no_down : (c : Page) (k : List ℕ) (child : ℕ) → IsEntryLeaf c.body → IsFound c k (found.Down child) → ⊥
+no_down c k child is_leaf (IsFoundIn.down front back x content below within) =
+    let here = leaf_is c.body is_leaf in
+    no_leaf c.body here.0 here.1 (front ++ x ∷ back) here.2 content
+
+pub leaf_roomy : (c : Page) (k items : List ℕ) → IsEntryLeaf c.body → (r : Reading) → IsReading c k items r
+    → IsRoomy c r
+leaf_roomy c k items is_leaf (reading.On (next.Down child)) (IsReading.down ch entry is) =
+    absurd (no_down c k child is_leaf is)
+leaf_roomy c k items is_leaf (reading.On next.Stand) read = tt
+leaf_roomy c k items is_leaf (reading.On next.TooLong) read = tt
+leaf_roomy c k items is_leaf (reading.On next.Bad) read = tt
+leaf_roomy c k items is_leaf (reading.Added p) read = tt
+leaf_roomy c k items is_leaf reading.Full read = tt
+
+pub full_leaf : (c : Page) → IsEntryLeaf c.body → (r : Reading) → IsFullLeaf c r
+full_leaf c is_leaf (reading.On n) = tt
+full_leaf c is_leaf (reading.Added p) = tt
+full_leaf c is_leaf reading.Full = is_leaf

@@ -1,5 +1,5 @@
 -- Why a page is not split, of the store as it was.
-use Rattle.std.proofs.Common.{◌≡◌, ⊎_elim, ℕ, [], ◌∷◌, refl, sym, subst, inl, inr}
+use Rattle.std.proofs.Common.{◌≡◌, ◌≢◌, ⊎_elim, ℕ, [], ◌∷◌, refl, sym, subst, inl, inr}
 use Rattle.disk_trait.specs.declared.device.Disk.{Ghosts as Disk}
 use Rattle.page_types.specs.declared.page.Page.{Page}
 use Rattle.core_state.specs.Allowed.{Sheet}
@@ -11,11 +11,12 @@ use Rattle.buffer_frames.specs.Passes.{IsPassOf}
 use Rattle.buffer_frames.specs.declared.home.Home.{Home}
 use Rattle.buffer_frames.specs.declared.pass.Pass.{Pass}
 use Rattle.gin_place.specs.Adopting.{CanTake}
-use Rattle.gin_place.specs.Causes.{Meets, CannotUse, IsBadRoom, IsWhy}
+use Rattle.gin_place.specs.Causes.{Finds, CannotUse, IsBadRoom, IsWhy}
+use Rattle.gin_place.specs.Faults.{MetNoFault, FaultBy}
 use Rattle.gin_place.specs.Inner.Dividing.{WhyNoSplit}
 use Rattle.gin_place.specs.declared.error.PlaceError.{PlaceError}
 use Rattle.gin_place.specs.declared.error.PlaceError.TheVariants.{BadPage, OutOfMemory}
-use Rattle.gin_place.proofs.Causing.{meets_now}
+use Rattle.gin_place.proofs.Causing.{finds_now}
 
 -- what lies there while another page is held lay there before
 pub lies_before : {D : Type 0} (f g : FramesValue D) (other page : ℕ) (c : Page) → KeepsOthers f g (other ∷ [])
@@ -30,23 +31,30 @@ module _ {D : Type 0} (device : Disk D) (f : FramesValue D) (p : Pass) (l : Fram
     (old above : Sheet) (of : IsPassOf f p) (numbers : (old.page ≡ page) × (above.page ≡ parent))
     (lies : Lies f page old.content × Lies f parent above.content) where
   So : PlaceError → Type 0
-  So e = Meets device f p (IsWhy device (IsBadRoom parent page) (λ g. ⊥) l e)
+  So e = Finds device f p (IsWhy device (IsBadRoom parent page) (λ g. ⊥) l e)
 
   now : (e : PlaceError) → IsWhy device (IsBadRoom parent page) (λ g. ⊥) l e f p → So e
   unfolding So
-  now e why = meets_now device f p (IsWhy device (IsBadRoom parent page) (λ g. ⊥) l e) of why
+  now e why = finds_now device f p (IsWhy device (IsBadRoom parent page) (λ g. ⊥) l e) of why
 
-  pub split_why : (e : PlaceError) → WhyNoSplit old above e
-      → Meets device f p (IsWhy device (IsBadRoom parent page) (λ g. ⊥) l e)
+  pub split_why : page ≢ 1 → (e : PlaceError) → WhyNoSplit old above e
+      → Finds device f p (IsWhy device (IsBadRoom parent page) (λ g. ⊥) l e)
   unfolding So
-  split_why e (inl none) = subst So (sym none) (now OutOfMemory tt)
-  split_why e (inr (inl bad)) =
+  split_why other e (inl none) = subst So (sym none) (now OutOfMemory tt)
+  split_why other e (inr (inl bad)) =
       subst So (sym bad.0)
-      (now (BadPage old.page) (IsBadRoom.split numbers.0 (CannotUse.other old.content bad.1
+      (now (BadPage old.page) (IsBadRoom.split other numbers.0 (CannotUse.other old.content bad.1
       (subst (λ (n : ℕ). Lies f n old.content) (sym numbers.0) lies.0) bad.2)))
-  split_why e (inr (inr bad)) =
-      let off = subst (λ (n : ℕ). CanTake n (upper_in bad.3.body) above.content → ⊥) numbers.0 bad.6 in
+  split_why other e (inr (inr bad)) =
+      let off = subst (λ (n : ℕ). CanTake n (upper_in bad.4.body) above.content → ⊥) numbers.0 bad.7 in
       subst So (sym bad.0)
-      (now (BadPage above.page) (IsBadRoom.adopts (upper_in bad.3.body) numbers.1
-      (old.content, lies.0, bad.2, bad.5.keep, bad.3, bad.4, bad.5.parts, refl)
-      (CannotUse.other above.content bad.1 (subst (λ (n : ℕ). Lies f n above.content) (sym numbers.1) lies.1) off)))
+      (now (BadPage above.page) (IsBadRoom.adopts other (upper_in bad.4.body) numbers.1
+      (old.content, bad.1, lies.0, bad.3, bad.6.keep, bad.4, bad.5, bad.6.parts, refl)
+      (CannotUse.other above.content bad.2 (subst (λ (n : ℕ). Lies f n above.content) (sym numbers.1) lies.1) off)))
+
+-- and no fault is met then
+pub split_fault : {D : Type 0} (device : Disk D) (f g : FramesValue D) (old above : Sheet) (e : PlaceError)
+    → MetNoFault device f g → WhyNoSplit old above e → FaultBy device f g e
+split_fault device f g old above e fine (inl none) = subst (FaultBy device f g) (sym none) fine
+split_fault device f g old above e fine (inr (inl bad)) = subst (FaultBy device f g) (sym bad.0) fine
+split_fault device f g old above e fine (inr (inr bad)) = subst (FaultBy device f g) (sym bad.0) fine

@@ -1,5 +1,5 @@
 -- Why items are not put under a key.
-use Rattle.std.specs.Prelude.{◌≡◌, ◌⊎◌, ℕ, ◌<◌, ◌≤◌, List, length, ⊤, Some, None}
+use Rattle.std.specs.Prelude.{◌≡◌, ◌≢◌, ◌⊎◌, ℕ, ◌<◌, ◌≤◌, List, [], length, ⊤, Some, None}
 use Rattle.disk_trait.specs.Device.{Rose}
 use Rattle.disk_trait.specs.declared.device.Disk.{Ghosts as Disk}
 use Rattle.wal.specs.Waiting.{limit_of, length_with, down_of}
@@ -27,6 +27,7 @@ use Rattle.buffer_frames.specs.Frames.{FramesValue, Lies, Behind}
 use Rattle.buffer_frames.specs.declared.pass.Pass.{Pass}
 use Rattle.gin_place.specs.Going.{IsPlacingKind, WorksOn}
 use Rattle.gin_place.specs.Adopting.{CanTake}
+use Rattle.gin_place.specs.Faults.{MetNoFault}
 use Rattle.gin_place.specs.declared.error.PlaceError.{PlaceError}
 use Rattle.gin_place.specs.declared.error.PlaceError.TheVariants.{StoreFull, LogFull, DiskFault, Down, BadPage}
 use Rattle.gin_place.specs.declared.error.PlaceError.TheVariants.{OutOfMemory}
@@ -37,6 +38,11 @@ use Rattle.gin_place.specs.declared.placing.Stage.TheVariants as stage
 abbrev pub Meets : {D : Type 0} → Disk D → FramesValue D → Pass → (FramesValue D → Pass → Type 0) → Type 0
 Meets device f pass X =
     (g : FramesValue _) × (q : Pass) × (kinds : List ℕ) × WorksOn device f pass g q kinds × X g q
+
+-- calls that logged nothing and met no fault came to frames and a pass of which this holds
+abbrev pub Finds : {D : Type 0} → Disk D → FramesValue D → Pass → (FramesValue D → Pass → Type 0) → Type 0
+Finds device f pass X =
+    (g : FramesValue _) × (q : Pass) × WorksOn device f pass g q [] × MetNoFault device f g × X g q
 
 -- No page has this number, or the bytes that lie under it are none; or the page that lies there is not so.
 pub data CannotUse {D : Type 0} (f : FramesValue D) (Is : Page → Type 0) (p : ℕ) : Type 0 where
@@ -80,25 +86,29 @@ pub record IsBadNew {D : Type 0} (f : FramesValue D) (pass : Pass) (p : ℕ) : T
 -- the key is the greatest one of the first part of the page that lies there, in two parts
 abbrev pub IsMiddle : {D : Type 0} → FramesValue D → ℕ → List ℕ → Type 0
 IsMiddle f page mid =
-    (c : Page) × Lies f page c × (new : ℕ) × (keep : Keep) × (left : Page) × (right : Page)
+    (c : Page) × IsPage c × Lies f page c × (new : ℕ) × (keep : Keep) × (left : Page) × (right : Page)
     × AreParts c new keep left right × (mid ≡ upper_in left.body)
 
--- A bad page: no root that may grow, where the root is to grow; the page that is to be split, or its
+-- A bad page: no root that may grow, where the root is to grow; another page that is to be split, or its
 -- parent, which does not take the new page; or the new page.
 pub data IsBadRoom {D : Type 0} (parent page : ℕ) (f : FramesValue D) (pass : Pass) (p : ℕ) : Type 0 where
-  root : p ≡ 1 → CannotUse f CanGrow p → IsBadRoom parent page f pass p
-  split : p ≡ page → CannotUse f CanDivide p → IsBadRoom parent page f pass p
-  above : p ≡ parent → CannotUse f (λ (c : Page). ⊤) p → IsBadRoom parent page f pass p
-  adopts : (mid : List ℕ) → p ≡ parent → IsMiddle f page mid → CannotUse f (CanTake page mid) p
+  root : page ≡ 1 → p ≡ 1 → CannotUse f CanGrow p → IsBadRoom parent page f pass p
+  split : page ≢ 1 → p ≡ page → CannotUse f CanDivide p → IsBadRoom parent page f pass p
+  above : page ≢ 1 → p ≡ parent → CannotUse f (λ (c : Page). ⊤) p → IsBadRoom parent page f pass p
+  adopts : page ≢ 1 → (mid : List ℕ) → p ≡ parent → IsMiddle f page mid → CannotUse f (CanTake page mid) p
       → IsBadRoom parent page f pass p
   new : IsBadNew f pass p → IsBadRoom parent page f pass p
+
+-- each page that the store may have has a number
+abbrev pub HasNumbers : {D : Type 0} → FramesValue D → Type 0
+HasNumbers f = f.journal.state.pages ≤ page_limit
 
 -- the way has read as many pages as pages may have numbers
 abbrev pub IsSpent : {D : Type 0} → Placing → FramesValue D → Type 0
 IsSpent s f = (s.left ≡ Some 0) ⊎ ((s.left ≡ None) × IsLeast (AreBelow f.journal.state) 0)
 
--- A bad page of a step: the one that it reads has no place for the key, or the way has read as many pages
--- as it may, which are so in no legal log; or one of those by which room is made.
+-- A bad page of a step: the one that it reads has no place for the key, the way has read as many pages as
+-- it may, or it is one of those by which room is made; which are so in no legal log.
 pub data IsBad {D : Type 0} (device : Disk D) (key : List ℕ) (s : Placing) (f : FramesValue D) (pass : Pass) (p : ℕ)
     : Type 0 where
   read : (parent : ℕ) → s.stage ≡ stage.Entries parent p → CannotUse f (HasPlace key) p
@@ -107,11 +117,21 @@ pub data IsBad {D : Type 0} (device : Disk D) (key : List ℕ) (s : Placing) (f 
   far : (parent : ℕ) → s.stage ≡ stage.Entries parent p → IsSpent s f → Behind device f (λ (R : Log). ⊥)
       → IsBad device key s f pass p
   room : (parent page : ℕ) → s.stage ≡ stage.Entries parent page → IsBadRoom parent page f pass p
+      → (HasNumbers f → Behind device f (λ (R : Log). ⊥))
       → IsBad device key s f pass p
+
+-- a bad page is met only where the log at hand is not lawful
+abbrev pub NoBadPage : {D : Type 0} → Disk D → FramesValue D → PlaceError → Type 0
+NoBadPage device f (BadPage p) = HasNumbers f → Behind device f (λ (R : Log). ⊥)
+NoBadPage device f e = ⊤
 
 -- one of some step
 abbrev pub IsBadIn : {D : Type 0} → Disk D → List ℕ → FramesValue D → Pass → ℕ → Type 0
 IsBadIn device key f pass p = (s : Placing) × IsBad device key s f pass p
+
+-- a page that is new was left when the call took one
+abbrev pub HadPage : {D : Type 0} → Disk D → FramesValue D → Pass → Type 0
+HadPage device f pass = Meets device f pass (λ g q. HasNoPage g.journal.state q.since → ⊥)
 
 module _ {D : Type 0} (device : Disk D) where
   -- the device's count of faults has risen

@@ -6,6 +6,7 @@ use Rattle.ts_base.specs.Keys.{Key}
 use Rattle.buffer_frames.specs.Frames.{FramesValue}
 use Rattle.buffer_frames.specs.Passes.{IsPassOf, HasAdded, PassRises}
 use Rattle.buffer_frames.specs.declared.pass.Pass.{Pass}
+use Rattle.gin_place.specs.Running.{StoreGoesOn}
 use Rattle.gin_place.specs.Placing.{IsPending, IsPlaced, IsOnWay}
 
 -- the kinds of the records by which items come into the entry tree: AddItems, GrowRoot, Split
@@ -35,3 +36,4 @@ module _ {D : Type 0} (device : Disk D) (f : FramesValue D) (pass : Pass) (f' : 
     pub xid : pass'.xid ≡ pass.xid
     pub work : pass'.work ≡ pass.work
     pub pins : f'.pins ≡ f.pins
+    pub goes : StoreGoesOn device f f' kinds

@@ -1,7 +1,6 @@
 -- Words that only private functions and proofs use.
 pub mod Refusals
 pub mod Asked
-pub mod Holding
 pub mod Reading
 pub mod Making
 pub mod Logging

@@ -1,7 +1,11 @@
 pub mod Placing
+pub mod Running
+pub mod Faults
 pub mod Going
+pub mod Holding
 pub mod Adopting
 pub mod Causes
+pub mod Overfull
 pub mod Stepping
 pub mod Inner
 pub use Rattle.core_state.specs.Index

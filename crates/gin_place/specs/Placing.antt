@@ -1,17 +1,27 @@
 -- How far items have come under their key, as a pass has seen it.
-use Rattle.std.specs.Prelude.{◌≡◌, ℕ, ◌<◌, ◌≤◌, ⊤, List, Option, Some, None}
+use Rattle.std.specs.Prelude.{◌≡◌, ◌≢◌, ℕ, ◌<◌, ◌≤◌, ⊤, List, Option, Some, None, Bool, true, false}
 use Rattle.disk_trait.specs.declared.device.Disk.{Ghosts as Disk}
 use Rattle.ts_base.specs.Keys.{Key}
 use Rattle.core_state.specs.Log.{In}
 use Rattle.core_state.specs.Index.{Pending, Main}
 use Rattle.core_state.specs.TreeRules.{Toward}
 use Rattle.core_maintenance.specs.Leading.{IsHigh}
+use Rattle.entry_tree.specs.Finding.{IsFound}
+use Rattle.entry_tree.specs.Reading.{HasRoomForChild}
+use Rattle.entry_tree.specs.declared.finding.Found.TheVariants as found
 use Rattle.buffer_frames.specs.Frames.{FramesValue}
 use Rattle.buffer_frames.specs.Passes.{Seen}
 use Rattle.buffer_frames.specs.declared.pass.Pass.{Pass}
 use Rattle.gin_place.specs.declared.placing.Placing.{Placing}
 use Rattle.gin_place.specs.declared.placing.Stage.{Stage}
 use Rattle.gin_place.specs.declared.placing.Stage.TheVariants as stage
+
+-- the beginning of a way, on which no room is made, and of one on which it is
+abbrev pub at_root : Placing
+at_root = record { stage = stage.Entries 0 1; left = None; making_room = false }
+
+abbrev pub at_root_again : Placing
+at_root_again = record { stage = stage.Entries 0 1; left = None; making_room = true }
 
 -- the pass has the right of maintenance, and has seen what was logged before it got it
 pub record HasRight (pass : Pass) : Type 0 where
@@ -55,5 +65,16 @@ module _ {D : Type 0} (device : Disk D) (f : FramesValue D) (pass : Pass) where
   AreLeft k (stage.Entries parent page) (Some n) = IsLeft k page n
   AreLeft k stage.Done left = ⊤
 
+  -- the way for the key leads to this page and on to this child of it, and the page has room for a child more
+  abbrev pub IsRoomAbove : Key → ℕ → ℕ → Type 0
+  IsRoomAbove k parent page =
+      Seen device f pass (λ S P. Toward P k 1 parent × IsFound (P parent) k (found.Down page)
+      × HasRoomForChild (P parent))
+
+  -- where room is made, the page that is read next is the root, or its parent is such a page
+  abbrev pub HasRoomAbove : Key → Bool → Stage → Type 0
+  HasRoomAbove k making (stage.Entries parent page) = making ≡ true → page ≢ 1 → IsRoomAbove k parent page
+  HasRoomAbove k making stage.Done = ⊤
+
   abbrev pub IsPlacing : Key → List ℕ → Placing → Type 0
-  IsPlacing k items p = IsAt k items p.stage × AreLeft k p.stage p.left
+  IsPlacing k items p = IsAt k items p.stage × AreLeft k p.stage p.left × HasRoomAbove k p.making_room p.stage

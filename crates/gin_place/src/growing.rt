@@ -7,8 +7,9 @@ ghost use Rattle.buffer_frames.specs.Passes.{IsPassOf};
 ghost use Rattle.entry_tree.specs.Finding.{IsEntryBody};
 ghost use Rattle.gin_place.specs.Placing.{HasRight};
 ghost use Rattle.gin_place.specs.Going.{WorksOn};
-ghost use Rattle.gin_place.specs.Causes.{CanGrow};
-ghost use Rattle.gin_place.specs.Inner.Holding.{ReadsOn};
+ghost use Rattle.gin_place.specs.Causes.{CanGrow, HadPage};
+ghost use Rattle.gin_place.specs.Faults.{MetNoFault, FaultBy};
+ghost use Rattle.gin_place.specs.Holding.{ReadsOn};
 ghost use Rattle.gin_place.specs.Inner.Making.{WhyNoRoom};
 ghost use Rattle.gin_place.specs.Inner.Logging.{IsGrowStep};
 
@@ -69,9 +70,12 @@ pub(crate) fn grow_root<D: Disk>(
     ensures none_held { pass.new.held ≡ 0 }
     ensures grown { OnOk result
         (WorksOn D.Disk frames.old pass.old frames.new pass.new (16 ∷ [])) }
+    ensures took { OnOk result (HadPage D.Disk frames.old pass.old) }
     ensures refused { OnErr result (ReadsOn D.Disk frames.old pass.old frames.new pass.new) }
-    ensures cause { (parent page : ℕ)
-        → IfErr result (WhyNoRoom D.Disk frames.old pass.old parent page frames.new) }
+    ensures cause { (parent : ℕ)
+        → IfErr result (WhyNoRoom D.Disk frames.old pass.old parent 1 frames.new) }
+    ensures fine { OnOk result (MetNoFault D.Disk frames.old frames.new) }
+    ensures fault { IfErr result (λ e. FaultBy D.Disk frames.old frames.new e) }
 {
     pages_may_be_logged();
     tree_pages_serve();

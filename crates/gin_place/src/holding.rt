@@ -1,15 +1,17 @@
 // Pages that are held: those on the way, and new ones.
 ghost use Rattle.std.specs.Prelude.{◌≡◌, ◌≢◌, ℕ, ◌<◌, List, [], ◌∷◌, IfOk, IfErr, OnOk};
 ghost use Rattle.std.specs.Prelude.{OnErr, IfSome, IfNone, IsErrOf, ⊤};
+ghost use Rattle.wal.specs.Waiting.{down_of};
 ghost use Rattle.core_state.specs.Allowed.{Sheet as SheetValue};
 ghost use Rattle.core_state.specs.PageChoice.{IsLeast, AreBelow};
 ghost use Rattle.core_state.specs.States.{StateTells};
 ghost use Rattle.buffer_frames.specs.Frames.{Lies, KeepsOthers};
 ghost use Rattle.buffer_frames.specs.Passes.{IsPassOf, IsHolding, Seen};
-ghost use Rattle.page_space.specs.Taking.{HasNoPage};
+ghost use Rattle.page_space.specs.Taking.{IsTaken, HasNoPage};
 ghost use Rattle.gin_place.specs.Placing.{HasRight};
-ghost use Rattle.gin_place.specs.Causes.{Meets, CannotUse, IsBadNew, IsWhy, CannotHold};
-ghost use Rattle.gin_place.specs.Inner.Holding.{ReadsOn, HoldsNoMore, HoldsMore, IsNewHeld};
+ghost use Rattle.gin_place.specs.Causes.{Finds, CannotUse, IsBadNew, IsWhy, CannotHold};
+ghost use Rattle.gin_place.specs.Faults.{MetNoFault, FaultBy};
+ghost use Rattle.gin_place.specs.Holding.{ReadsOn, HoldsNoMore, HoldsMore, IsNewHeld};
 ghost use Rattle.gin_place.specs.declared.error.PlaceError.TheVariants.{StoreFull, BadPage};
 
 use crate::asks::{Extent, NewPage};
@@ -35,10 +37,13 @@ pub fn hold_page<D: Disk>(
     ensures holding { IfOk result (λ h. HoldsMore D.Disk frames.old pass.old frames.new pass.new h) }
     ensures lies { IfOk result (λ h. Lies frames.old page h.content) }
     ensures others { OnOk result (KeepsOthers frames.old frames.new (page ∷ [])) }
+    ensures down { OnOk result (down_of frames.new.journal.wal ≡ down_of frames.old.journal.wal) }
 
     // The refusals: no page more is held.
     ensures still { OnErr result (HoldsNoMore D.Disk frames.old pass.old frames.new pass.new) }
     ensures cause { IfErr result (λ e. CannotHold D.Disk page frames.new e frames.old pass.old) }
+    ensures fine { OnOk result (MetNoFault D.Disk frames.old frames.new) }
+    ensures fault { IfErr result (λ e. FaultBy D.Disk frames.old frames.new e) }
 {
     found_stays();
     if page >= PAGE_LIMIT {
@@ -48,7 +53,7 @@ pub fn hold_page<D: Disk>(
 }
 
 /// Holds a page of the way, alone; the pass has then seen all of the log. With it comes how far pages go.
-pub(crate) fn hold_seen<D: Disk>(
+pub fn hold_seen<D: Disk>(
     frames: &mut Frames<D>,
     pass: &mut Pass,
     page: u32,
@@ -65,11 +70,14 @@ pub(crate) fn hold_seen<D: Disk>(
     ensures told { OnOk result (Seen D.Disk frames.new pass.new
         (λ S P. StateTells S frames.new.journal.state)) }
     ensures lies { IfOk result (λ r. Lies frames.old page r.0.content) }
+    ensures down { OnOk result (down_of frames.new.journal.wal ≡ down_of frames.old.journal.wal) }
 
     // The refusals: no page is held.
     ensures still { OnErr result (pass.new.held ≡ 0) }
-    ensures cause { IfErr result (λ e. Meets D.Disk frames.old pass.old
+    ensures cause { IfErr result (λ e. Finds D.Disk frames.old pass.old
         (CannotHold D.Disk page frames.new e)) }
+    ensures fine { OnOk result (MetNoFault D.Disk frames.old frames.new) }
+    ensures fault { IfErr result (λ e. FaultBy D.Disk frames.old frames.new e) }
     ensures bad { (n : ℕ) → IsErrOf result (BadPage n)
         → (n ≡ page) × CannotUse frames.old (λ c. ⊤) n }
 {
@@ -95,6 +103,8 @@ fn take_page<D: Disk>(frames: &mut Frames<D>, pass: &mut Pass) -> Result<Option<
     ensures new { IfOk result (λ o. IfSome o
         (λ h. HoldsMore D.Disk frames.old pass.old frames.new pass.new h
         × IsNewHeld D.Disk frames.new pass.new h × (h.page ≢ 0))) }
+    ensures taken { IfOk result (λ o. IfSome o
+        (λ h. IsTaken frames.new.journal.state pass.new.since h.page)) }
     ensures old { IfOk result (λ o. IfNone o
         (HoldsNoMore D.Disk frames.old pass.old frames.new pass.new)) }
 
@@ -102,8 +112,10 @@ fn take_page<D: Disk>(frames: &mut Frames<D>, pass: &mut Pass) -> Result<Option<
     ensures still { OnErr result (HoldsNoMore D.Disk frames.old pass.old frames.new pass.new) }
     ensures full { IsErrOf result StoreFull
         → HasNoPage frames.new.journal.state pass.new.since }
-    ensures cause { IfErr result (λ e. Meets D.Disk frames.old pass.old
+    ensures cause { IfErr result (λ e. Finds D.Disk frames.old pass.old
         (IsWhy D.Disk IsBadNew (λ g. ⊥) frames.new e)) }
+    ensures fine { OnOk result (MetNoFault D.Disk frames.old frames.new) }
+    ensures fault { IfErr result (λ e. FaultBy D.Disk frames.old frames.new e) }
 {
     found_stays();
     taken_is_new();
@@ -139,13 +151,16 @@ pub fn hold_new<D: Disk>(frames: &mut Frames<D>, pass: &mut Pass) -> Result<Held
     ensures holding { IfOk result (λ h. HoldsMore D.Disk frames.old pass.old frames.new pass.new h) }
     ensures new { IfOk result (λ h. IsNewHeld D.Disk frames.new pass.new h) }
     ensures number { IfOk result (λ h. h.page ≢ 0) }
+    ensures taken { IfOk result (λ h. IsTaken frames.new.journal.state pass.new.since h.page) }
 
     // The refusals: no page more is held.
     ensures still { OnErr result (HoldsNoMore D.Disk frames.old pass.old frames.new pass.new) }
     ensures full { IsErrOf result StoreFull
         → HasNoPage frames.new.journal.state pass.new.since }
-    ensures cause { IfErr result (λ e. Meets D.Disk frames.old pass.old
+    ensures cause { IfErr result (λ e. Finds D.Disk frames.old pass.old
         (IsWhy D.Disk IsBadNew (λ g. ⊥) frames.new e)) }
+    ensures fine { OnOk result (MetNoFault D.Disk frames.old frames.new) }
+    ensures fault { IfErr result (λ e. FaultBy D.Disk frames.old frames.new e) }
 {
     for _ in 0..PAGE_LIMIT {
         if let Some(held) = take_page(frames, pass)? {

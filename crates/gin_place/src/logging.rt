@@ -1,12 +1,15 @@
 // Records on pages that are held.
-ghost use Rattle.std.specs.Prelude.{◌≡◌, ◌<◌, ◌≤◌, List, [], ◌∷◌, IfOk, IfErr, OnOk, OnErr};
+ghost use Rattle.std.specs.Prelude.{◌≡◌, ℕ, ◌<◌, ◌≤◌, Some, List, [], ◌∷◌, IfOk, IfErr, OnOk, OnErr};
 ghost use Rattle.page_types.specs.Numbers.{page_limit};
 ghost use Rattle.core_state.specs.Allowed.{Sheet as SheetValue};
 ghost use Rattle.core_state.specs.Steps.{sheet};
+ghost use Rattle.wal.specs.Waiting.{down_of};
+ghost use Rattle.buffer_frames.specs.LogCauses.{IsCalm};
 ghost use Rattle.buffer_frames.specs.Passes.{IsPassOf, IsHolding};
 ghost use Rattle.gin_place.specs.Placing.{HasRight};
 ghost use Rattle.gin_place.specs.Causes.{CannotLog};
-ghost use Rattle.gin_place.specs.Inner.Holding.{ReadsOn};
+ghost use Rattle.gin_place.specs.Faults.{MetNoFault, FaultBy};
+ghost use Rattle.gin_place.specs.Holding.{ReadsOn};
 ghost use Rattle.gin_place.specs.Inner.Logging.{MayLogStep, LogsStep};
 
 use crate::error::PlaceError;
@@ -27,6 +30,9 @@ pub fn release<D: Disk>(frames: &mut Frames<D>, pass: &mut Pass, held: Held)
         → IsHolding D.Disk frames.old pass.old (held ∷ others)
         → IsHolding D.Disk frames.new pass.new others }
     ensures faults { D.fault_count frames.old.journal.disk ≤ D.fault_count frames.new.journal.disk }
+    ensures down { down_of frames.new.journal.wal ≡ down_of frames.old.journal.wal }
+    ensures calm { IsCalm D.Disk frames.old.journal frames.new.journal }
+    ensures at_rest { (n : ℕ) → down_of frames.old.journal.wal ≡ Some n → frames.new.journal ≡ frames.old.journal }
 {
     found_stays();
     frames.release(pass, held);
@@ -45,6 +51,8 @@ fn log_pages<D: Disk>(
         (LogsStep D.Disk frames.old pass.old pages.items step frames.new pass.new) }
     ensures refused { OnErr result (ReadsOn D.Disk frames.old pass.old frames.new pass.new) }
     ensures cause { IfErr result (λ e. CannotLog D.Disk frames.new e frames.old pass.old) }
+    ensures fine { OnOk result (MetNoFault D.Disk frames.old frames.new) }
+    ensures fault { IfErr result (λ e. FaultBy D.Disk frames.old frames.new e) }
 {
     found_stays();
     placing_keeps();
@@ -118,6 +126,8 @@ pub(crate) fn log_one<D: Disk>(
         (LogsStep D.Disk frames.old pass.old (page ∷ []) step frames.new pass.new) }
     ensures refused { OnErr result (ReadsOn D.Disk frames.old pass.old frames.new pass.new) }
     ensures cause { IfErr result (λ e. CannotLog D.Disk frames.new e frames.old pass.old) }
+    ensures fine { OnOk result (MetNoFault D.Disk frames.old frames.new) }
+    ensures fault { IfErr result (λ e. FaultBy D.Disk frames.old frames.new e) }
 {
     let mut pages = Vec::new(alloc);
     if pages.reserve(1).is_err() {
@@ -143,6 +153,8 @@ pub fn log_two<D: Disk>(
         (LogsStep D.Disk frames.old pass.old (second ∷ first ∷ []) step frames.new pass.new) }
     ensures refused { OnErr result (ReadsOn D.Disk frames.old pass.old frames.new pass.new) }
     ensures cause { IfErr result (λ e. CannotLog D.Disk frames.new e frames.old pass.old) }
+    ensures fine { OnOk result (MetNoFault D.Disk frames.old frames.new) }
+    ensures fault { IfErr result (λ e. FaultBy D.Disk frames.old frames.new e) }
 {
     let mut pages = Vec::new(alloc);
     if pages.reserve(2).is_err() {
@@ -172,6 +184,8 @@ pub(crate) fn give_back<D: Disk>(frames: &mut Frames<D>, pass: &mut Pass, three:
     ensures reads { ReadsOn D.Disk frames.old pass.old frames.new pass.new }
     ensures none_held { pass.new.held ≡ 0 }
     ensures faults { D.fault_count frames.old.journal.disk ≤ D.fault_count frames.new.journal.disk }
+    ensures calm { IsCalm D.Disk frames.old.journal frames.new.journal }
+    ensures at_rest { (n : ℕ) → down_of frames.old.journal.wal ≡ Some n → frames.new.journal ≡ frames.old.journal }
 {
     let Three { new, page, parent } = three;
     release(frames, pass, new);
@@ -194,6 +208,8 @@ pub(crate) fn log_three<D: Disk>(
         (three.new ∷ three.page ∷ three.parent ∷ []) step frames.new pass.new) }
     ensures refused { OnErr result (ReadsOn D.Disk frames.old pass.old frames.new pass.new) }
     ensures cause { IfErr result (λ e. CannotLog D.Disk frames.new e frames.old pass.old) }
+    ensures fine { OnOk result (MetNoFault D.Disk frames.old frames.new) }
+    ensures fault { IfErr result (λ e. FaultBy D.Disk frames.old frames.new e) }
 {
     let mut pages = Vec::new(alloc);
     if pages.reserve(3).is_err() {

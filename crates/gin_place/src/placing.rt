@@ -6,15 +6,18 @@ ghost use Rattle.page_types.specs.Items.{AreItems};
 ghost use Rattle.page_types.specs.Keys.{IsKey};
 ghost use Rattle.page_types.specs.Pages.{IsPage};
 ghost use Rattle.page_types.specs.declared.page.Page.{Page as PageValue};
+ghost use Rattle.buffer_frames.specs.Frames.{Behind};
 ghost use Rattle.buffer_frames.specs.Passes.{IsPassOf, IsHolding, Seen};
-ghost use Rattle.gin_place.specs.Placing.{HasRight, ArePending, ArePlaced, IsOnWay, IsPlacing};
+ghost use Rattle.gin_place.specs.Placing.{HasRight, ArePending, ArePlaced, IsOnWay, IsPlacing, at_root, at_root_again};
 ghost use Rattle.gin_place.specs.Going.{WorksOn};
-ghost use Rattle.gin_place.specs.Causes.{Meets, HasLong, IsBadIn, IsWhy, CannotLog};
-ghost use Rattle.gin_place.specs.Inner.Holding.{ReadsOn};
+ghost use Rattle.gin_place.specs.Causes.{Meets, HasLong, IsBadIn, HadPage, IsWhy, CannotLog};
+ghost use Rattle.gin_place.specs.Faults.{MetNoFault, FaultBy};
+ghost use Rattle.gin_place.specs.Overfull.{IsOverfull};
+ghost use Rattle.gin_place.specs.Holding.{ReadsOn};
 ghost use Rattle.gin_place.specs.Inner.Making.{WhyNoRoom};
 ghost use Rattle.gin_place.specs.Inner.Reading.{IsReading};
 ghost use Rattle.gin_place.specs.Stepping.{HasStepped};
-ghost use Rattle.gin_place.specs.Inner.Stepping.{at_root, GoesOn};
+ghost use Rattle.gin_place.specs.Inner.Stepping.{GoesOn};
 ghost use Rattle.gin_place.specs.declared.placing.Stage.TheVariants as stages;
 ghost use Rattle.gin_place.specs.declared.reading.Reading.TheVariants as readings;
 
@@ -26,6 +29,7 @@ use crate::reading::{Next, Reading, read};
 use crate::splitting::split_page;
 use buffer_frames::{Frames, Held, Pass};
 use core_maintenance::{found_stays, moving_pages_serve, moving_steps_hold, ways_lead};
+use core_state::bullets_hold;
 use disk_trait::Disk;
 use entry_tree::{found_leads_down, pages_may_be_logged};
 use gin_opclass::{CompareKeys, Judge, Meaning, OpClass};
@@ -48,6 +52,8 @@ pub struct Placing {
     pub(crate) stage: Stage,
     // how many pages more this way may read; none before its first
     pub(crate) left: Option<u32>,
+    // whether room is made where this way meets none; the first way makes none
+    pub(crate) making_room: bool,
 }
 
 /// The items come to the page that is held, which is given back.
@@ -72,6 +78,8 @@ fn log_items<D: Disk>(
         (WorksOn D.Disk frames.old pass.old frames.new pass.new (13 ∷ [])) }
     ensures refused { OnErr result (ReadsOn D.Disk frames.old pass.old frames.new pass.new) }
     ensures cause { IfErr result (λ e. CannotLog D.Disk frames.new e frames.old pass.old) }
+    ensures fine { OnOk result (MetNoFault D.Disk frames.old frames.new) }
+    ensures fault { IfErr result (λ e. FaultBy D.Disk frames.old frames.new e) }
 {
     pages_may_be_logged();
     moving_pages_serve();
@@ -96,6 +104,21 @@ impl Placing {
                 page: ROOT,
             },
             left: None,
+            making_room: false,
+        }
+    }
+
+    /// The way begins again, and room is made on it.
+    fn again() -> Placing
+        ensures { result ≡ at_root_again }
+    {
+        Placing {
+            stage: Stage::Entries {
+                parent: 0,
+                page: ROOT,
+            },
+            left: None,
+            making_room: true,
         }
     }
 
@@ -123,6 +146,7 @@ impl Placing {
         found_leads_down();
         found_stays();
         ways_lead();
+        bullets_hold();
         let Stage::Entries { parent, page } = self.stage else {
             return Ok(false);
         };
@@ -132,7 +156,7 @@ impl Placing {
             release(frames, pass, held);
             return Err(PlaceError::BadPage { page });
         }
-        match read(alloc, held.page(), class, key, items) {
+        match read(alloc, held.page(), class, key, items, self.making_room) {
             Ok(Reading::Added(new)) => {
                 log_items(alloc, frames, pass, held, new, key, items)?;
                 self.stage = Stage::Done;
@@ -140,8 +164,12 @@ impl Placing {
             }
             Ok(Reading::Full) => {
                 release(frames, pass, held);
+                if !self.making_room {
+                    *self = Placing::again();
+                    return Ok(true);
+                }
                 make_room(alloc, frames, pass, class, key, parent, page)?;
-                *self = Placing::begin();
+                *self = Placing::again();
                 Ok(true)
             }
             Ok(Reading::On(next)) => {
@@ -195,8 +223,11 @@ fn make_room<D: Disk, Q, W: Meaning<Q>, C: CompareKeys, J: Judge<Q, W>>(
     ensures none_held { pass.new.held ≡ 0 }
     ensures works { OnOk result ((kind : ℕ)
         × WorksOn D.Disk frames.old pass.old frames.new pass.new (kind ∷ [])) }
+    ensures took { OnOk result (HadPage D.Disk frames.old pass.old) }
     ensures refused { OnErr result (ReadsOn D.Disk frames.old pass.old frames.new pass.new) }
     ensures cause { IfErr result (WhyNoRoom D.Disk frames.old pass.old parent page frames.new) }
+    ensures fine { OnOk result (MetNoFault D.Disk frames.old frames.new) }
+    ensures fault { IfErr result (λ e. FaultBy D.Disk frames.old frames.new e) }
 {
     if page == ROOT {
         return grow_root(alloc, frames, pass);
@@ -223,10 +254,17 @@ pub fn place<D: Disk, Q, W: Meaning<Q>, C: CompareKeys, J: Judge<Q, W>>(
     ensures none_held { pass.new.held ≡ 0 }
     ensures works { (kinds : List ℕ)
         × WorksOn D.Disk frames.old pass.old frames.new pass.new kinds }
+    ensures standing { ArePlaced D.Disk frames.old pass.old key.now items.now
+        → Behind D.Disk frames.old (λ R. WorksOn D.Disk frames.old pass.old frames.new pass.new []) }
+    ensures full { IsOverfull D.Disk frames.old pass.old key.now items.now
+        → Behind D.Disk frames.old (λ R. OnOk result ⊥
+        × WorksOn D.Disk frames.old pass.old frames.new pass.new []) }
 
     // The refusals: what was logged stays.
     ensures cause { IfErr result (λ e. Meets D.Disk frames.old pass.old
         (IsWhy D.Disk (IsBadIn D.Disk key.now) (HasLong key.now items.now) frames.new e)) }
+    ensures fine { OnOk result (MetNoFault D.Disk frames.old frames.new) }
+    ensures fault { IfErr result (λ e. FaultBy D.Disk frames.old frames.new e) }
 {
     let mut placing = Placing::begin();
     for _ in 0..u64::MAX {

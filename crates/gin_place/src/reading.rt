@@ -1,15 +1,14 @@
 // What a page says of items that are to come under a key.
-ghost use Rattle.std.specs.Prelude.{◌≡◌, ◌↔◌, ℕ, ◌≤◌, length, Some, None, IfOk, IfSome, IfNone, IsTrue};
-ghost use Rattle.std.specs.List.{slice_get, Contains};
+ghost use Rattle.std.specs.Prelude.{◌≡◌, ◌↔◌, ℕ, ◌≤◌, length, Some, None, IfOk, IfSome, IfNone, IsTrue, false};
+ghost use Rattle.std.specs.List.{slice_get};
 ghost use Rattle.page_types.specs.Parts.{entry_shown};
 ghost use Rattle.page_types.specs.Views.{entries_in};
 ghost use Rattle.core_state.specs.Changes.{UpTo};
 ghost use Rattle.entry_tree.specs.Adding.{IsEntryLeaf, HasNoTree};
 ghost use Rattle.entry_tree.specs.Finding.{IsEntryBody, IsFound};
-ghost use Rattle.entry_tree.specs.Logging.{IsNewUnder};
 ghost use Rattle.entry_tree.specs.Reading.{upper_in};
 ghost use Rattle.entry_tree.specs.declared.finding.Found.TheVariants as found;
-ghost use Rattle.gin_place.specs.Inner.Reading.{IsAsked, IsReading};
+ghost use Rattle.gin_place.specs.Inner.Reading.{IsAsked, HasFresh, IsReading, IsRoomy, IsFullLeaf};
 
 use entry_tree::{Added, Found, add, find, has_room};
 use gin_opclass::{CompareKeys, Judge, Meaning, OpClass};
@@ -65,7 +64,7 @@ fn with_items<Q, W: Meaning<Q>, C: CompareKeys, J: Judge<Q, W>>(
     requires asked { IsAsked page.now key.now items.now }
     requires no_tree { HasNoTree page.now.body key.now }
     requires within { UpTo key.now (upper_in page.now.body) }
-    requires fresh { (i : ℕ) × Contains items.now i × IsNewUnder page.now.body key.now i }
+    requires fresh { HasFresh page.now.body key.now items.now }
     ensures { IfOk result (λ r. IsReading page.now key.now items.now r) }
 {
     match add(alloc, page, class, key, items)? {
@@ -120,16 +119,20 @@ fn read_none<Q, W: Meaning<Q>, C: CompareKeys, J: Judge<Q, W>>(
     with_items(alloc, page, class, key, items)
 }
 
-/// What a page says of items that are to come under a key.
+/// What a page says of items that are to come under a key. An inner page without room for a child more
+/// is full on a way on which room is made.
 pub(crate) fn read<Q, W: Meaning<Q>, C: CompareKeys, J: Judge<Q, W>>(
     alloc: Global,
     page: &Page,
     class: &OpClass<Q, W, C, J>,
     key: &[u8],
     items: &[u32],
+    making_room: bool,
 ) -> Result<Reading, AllocError>
     requires asked { IsAsked page.now key.now items.now }
-    ensures { IfOk result (λ r. IsReading page.now key.now items.now r) }
+    ensures reading { IfOk result (λ r. IsReading page.now key.now items.now r) }
+    ensures room { IfOk result (λ r. IsTrue making_room → IsRoomy page.now r) }
+    ensures leaf { IfOk result (λ r. making_room ≡ false → IsFullLeaf page.now r) }
 {
     if !is_entry_page(page) {
         return Ok(Reading::On(Next::Bad));
@@ -138,10 +141,10 @@ pub(crate) fn read<Q, W: Meaning<Q>, C: CompareKeys, J: Judge<Q, W>>(
         Found::Here { place } => read_entry(alloc, page, place, class, key, items),
         Found::Absent { .. } => read_none(alloc, page, class, key, items),
         Found::Down { child } => {
-            if has_room(page) {
-                return Ok(Reading::On(Next::Down(child)));
+            if making_room && !has_room(page) {
+                return Ok(Reading::Full);
             }
-            Ok(Reading::Full)
+            Ok(Reading::On(Next::Down(child)))
         }
         Found::Right { .. } => Ok(Reading::On(Next::Bad)),
     }

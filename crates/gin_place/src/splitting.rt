@@ -14,8 +14,9 @@ ghost use Rattle.entry_tree.specs.Finding.{IsEntryBody, IsBelow};
 ghost use Rattle.gin_place.specs.Placing.{HasRight};
 ghost use Rattle.gin_place.specs.Going.{WorksOn};
 ghost use Rattle.gin_place.specs.Adopting.{Divides, CanTake};
-ghost use Rattle.gin_place.specs.Causes.{CanDivide};
-ghost use Rattle.gin_place.specs.Inner.Holding.{ReadsOn, IsNewHeld};
+ghost use Rattle.gin_place.specs.Causes.{CanDivide, HadPage};
+ghost use Rattle.gin_place.specs.Faults.{MetNoFault, FaultBy};
+ghost use Rattle.gin_place.specs.Holding.{ReadsOn, IsNewHeld};
 ghost use Rattle.gin_place.specs.Inner.Making.{WhyNoRoom};
 ghost use Rattle.gin_place.specs.Inner.Logging.{IsSplitStep};
 ghost use Rattle.gin_place.specs.Inner.Dividing.{AreSplit, Passed, Bars, WhyNoSplit};
@@ -241,12 +242,16 @@ fn hold_three<D: Disk>(
     ensures new { IfOk result (λ t. IsNewHeld D.Disk frames.new pass.new t.new) }
     ensures number { IfOk result (λ t. t.new.page ≢ 0) }
     ensures numbers { IfOk result (λ t. (t.page.page ≡ page) × (t.parent.page ≡ parent)) }
+    ensures took { OnOk result (HadPage D.Disk frames.old pass.old) }
     ensures lies { IfOk result (λ t. Lies frames.old page t.page.content
         × Lies frames.old parent t.parent.content) }
 
     // The refusals: no page is held.
     ensures still { OnErr result (pass.new.held ≡ 0) }
-    ensures cause { IfErr result (WhyNoRoom D.Disk frames.old pass.old parent page frames.new) }
+    ensures cause { page ≢ 1
+        → IfErr result (WhyNoRoom D.Disk frames.old pass.old parent page frames.new) }
+    ensures fine { OnOk result (MetNoFault D.Disk frames.old frames.new) }
+    ensures fault { IfErr result (λ e. FaultBy D.Disk frames.old frames.new e) }
 {
     let parent = hold_page(frames, pass, parent)?;
     let page = match hold_page(frames, pass, page) {
@@ -281,8 +286,12 @@ pub(crate) fn split_page<D: Disk, Q, W: Meaning<Q>, C: CompareKeys, J: Judge<Q, 
     requires none { pass.old.held ≡ 0 }
     ensures none_held { pass.new.held ≡ 0 }
     ensures divided { OnOk result (WorksOn D.Disk frames.old pass.old frames.new pass.new (17 ∷ [])) }
+    ensures took { OnOk result (HadPage D.Disk frames.old pass.old) }
     ensures refused { OnErr result (ReadsOn D.Disk frames.old pass.old frames.new pass.new) }
-    ensures cause { IfErr result (WhyNoRoom D.Disk frames.old pass.old parent page frames.new) }
+    ensures cause { page ≢ 1
+        → IfErr result (WhyNoRoom D.Disk frames.old pass.old parent page frames.new) }
+    ensures fine { OnOk result (MetNoFault D.Disk frames.old frames.new) }
+    ensures fault { IfErr result (λ e. FaultBy D.Disk frames.old frames.new e) }
 {
     pages_may_be_logged();
     tree_pages_serve();

@@ -32,8 +32,8 @@ pub record AreSplit (c : Page) (new : ℕ) (left right : Page) : Type 0 where
 abbrev pub WhyNoSplit : Sheet → Sheet → PlaceError → Type 0
 WhyNoSplit old above e =
     (e ≡ OutOfMemory) ⊎ (((e ≡ BadPage old.page) × IsPage old.content × (CanDivide old.content → ⊥))
-    ⊎ ((e ≡ BadPage above.page) × IsPage above.content × (new : ℕ) × (left : Page) × (right : Page)
-    × AreSplit old.content new left right × (CanTake old.page (upper_in left.body) above.content → ⊥)))
+    ⊎ ((e ≡ BadPage above.page) × IsPage old.content × IsPage above.content × (new : ℕ) × (left : Page)
+    × (right : Page) × AreSplit old.content new left right × (CanTake old.page (upper_in left.body) above.content → ⊥)))
 
 -- what children say that come before others: none has the page, and their bounds are below the key; or
 -- one has it, and the key divides what is below it

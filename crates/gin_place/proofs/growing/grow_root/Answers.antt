@@ -5,29 +5,32 @@ use Rattle.page_types.specs.declared.record.Kind.{Kind}
 use Rattle.buffer_frames.specs.Frames.{Lies}
 use Rattle.buffer_frames.proofs.AtHand.{none_held}
 use Rattle.gin_place.specs.Going.{WorksOn}
-use Rattle.gin_place.specs.Causes.{Meets, CannotUse, CanGrow, IsBadNew, IsBadRoom, IsWhy, CannotLog}
-use Rattle.gin_place.specs.Inner.Holding.{ReadsOn}
+use Rattle.gin_place.specs.Causes.{Finds, CannotUse, CanGrow, IsBadNew, IsBadRoom, HadPage, IsWhy, CannotLog}
+use Rattle.gin_place.specs.Holding.{ReadsOn}
 use Rattle.gin_place.specs.Inner.Logging.{LogsStep}
 use Rattle.gin_place.specs.declared.error.PlaceError.TheVariants.{BadPage}
 use Rattle.gin_place.proofs.Carrying.{reads_in_turn, works_in_turn, right_on}
-use Rattle.gin_place.proofs.Causing.{at_exit, weaker, meets_now, meets_after, meets_as, hold_why, log_why, why_as}
+use Rattle.gin_place.proofs.Causing.{at_exit, weaker, had_page, finds_now, finds_after, finds_as, hold_why, log_why}
+use Rattle.gin_place.proofs.Causing.{why_as}
 use Rattle.gin_place.proofs.Causing.{why_later}
 use Rattle.gin_place.proofs.Exits.{on_ok, on_err, if_err}
 use Rattle.gin_place.proofs.GrowSteps.{grow_may_log}
+use Rattle.gin_place.specs.Faults.{MetNoFault, FaultBy}
+use Rattle.gin_place.proofs.Faults.{calm_then, calm_fine, fine_then, told_then, told_back}
 use Rattle.gin_place.proofs.growing.grow_root.Goals as goal
 
 pub returns-in_err-root-clause-cause : goal.returns-in_err-root-clause-cause
 returns-in_err-root-clause-cause g c =
-    λ parent page.
+    λ parent.
     let p = err_from_is_err_and c.from_residual.result c.from_residual.ensures.1 in
     let w = c.in_err-root.field-0.0 in
-    at_exit (λ x. Meets g.D.Disk c.args.frames.now c.args.pass.now
-    (IsWhy g.D.Disk (IsBadRoom parent page) (λ f. ⊥) c.hold_page.new.frames x))
+    at_exit (λ x. Finds g.D.Disk c.args.frames.now c.args.pass.now
+    (IsWhy g.D.Disk (IsBadRoom parent 1) (λ f. ⊥) c.hold_page.new.frames x))
     c.from_residual.result p.0 w p.1 p.2
-    (meets_now g.D.Disk c.args.frames.now c.args.pass.now
-    (IsWhy g.D.Disk (IsBadRoom parent page) (λ f. ⊥) c.hold_page.new.frames w) c.requires.pass
-    (hold_why g.D.Disk (IsBadRoom parent page) (λ f. ⊥) 1 c.hold_page.new.frames w c.args.frames.now c.args.pass.now
-    (λ bad. IsBadRoom.root refl (weaker c.args.frames.now CanGrow 1 bad)) c.in_err-root.ensures.cause))
+    (finds_now g.D.Disk c.args.frames.now c.args.pass.now
+    (IsWhy g.D.Disk (IsBadRoom parent 1) (λ f. ⊥) c.hold_page.new.frames w) c.requires.pass
+    (hold_why g.D.Disk (IsBadRoom parent 1) (λ f. ⊥) 1 c.hold_page.new.frames w c.args.frames.now c.args.pass.now
+    (λ bad. IsBadRoom.root refl refl (weaker c.args.frames.now CanGrow 1 bad)) c.in_err-root.ensures.cause))
 
 pub release-requires-clause-holding : goal.release-requires-clause-holding
 release-requires-clause-holding g c =
@@ -48,12 +51,12 @@ returns-then-not-can_grow-clause-refused g c =
 
 pub returns-then-not-can_grow-clause-cause : goal.returns-then-not-can_grow-clause-cause
 returns-then-not-can_grow-clause-cause g c =
-    λ parent page.
+    λ parent.
     let off : CanGrow c.page.result.now → ⊥ = λ can. let z : ⊥ = search (rules, c.can_grow.ensures.1 can) in z in
     let lies = subst (Lies c.args.frames.now 1) (sym c.page.ensures.value) c.in_ok-root.ensures.lies in
-    meets_now g.D.Disk c.args.frames.now c.args.pass.now
-    (IsWhy g.D.Disk (IsBadRoom parent page) (λ f. ⊥) c.release.new.frames (BadPage 1)) c.requires.pass
-    (IsBadRoom.root refl (CannotUse.other c.page.result.now c.page.ensures.is_page lies off))
+    finds_now g.D.Disk c.args.frames.now c.args.pass.now
+    (IsWhy g.D.Disk (IsBadRoom parent 1) (λ f. ⊥) c.release.new.frames (BadPage 1)) c.requires.pass
+    (IsBadRoom.root refl refl (CannotUse.other c.page.result.now c.page.ensures.is_page lies off))
 
 pub hold_new-requires-clause-few : goal.hold_new-requires-clause-few
 hold_new-requires-clause-few g c =
@@ -90,14 +93,15 @@ returns-in-Err-clause-refused g c =
 
 pub returns-in-Err-clause-cause : goal.returns-in-Err-clause-cause
 returns-in-Err-clause-cause g c =
-    λ parent page.
+    λ parent.
     let w = c.in-Err.error in
-    meets_after g.D.Disk c.args.frames.now c.hold_page.new.frames c.args.pass.now c.hold_page.new.pass []
-    (IsWhy g.D.Disk (IsBadRoom parent page) (λ f. ⊥) c.release-in-Err.new.frames w) c.hold_page.ensures.reads.works
-    (meets_as g.D.Disk c.hold_page.new.frames c.hold_page.new.pass
+    finds_after g.D.Disk c.args.frames.now c.hold_page.new.frames c.args.pass.now c.hold_page.new.pass
+    (IsWhy g.D.Disk (IsBadRoom parent 1) (λ f. ⊥) c.release-in-Err.new.frames w) c.hold_page.ensures.reads.works
+    c.in_ok-root.ensures.fine
+    (finds_as g.D.Disk c.hold_page.new.frames c.hold_page.new.pass
     (IsWhy g.D.Disk IsBadNew (λ f. ⊥) c.hold_new.new.frames w)
-    (IsWhy g.D.Disk (IsBadRoom parent page) (λ f. ⊥) c.release-in-Err.new.frames w)
-    (λ f q why. why_as g.D.Disk IsBadNew (λ x. ⊥) (IsBadRoom parent page) (λ x. ⊥) c.release-in-Err.new.frames w f q
+    (IsWhy g.D.Disk (IsBadRoom parent 1) (λ f. ⊥) c.release-in-Err.new.frames w)
+    (λ f q why. why_as g.D.Disk IsBadNew (λ x. ⊥) (IsBadRoom parent 1) (λ x. ⊥) c.release-in-Err.new.frames w f q
     (λ n bad. IsBadRoom.new bad) (λ x. x)
     (why_later g.D.Disk IsBadNew (λ x. ⊥) c.hold_new.new.frames c.release-in-Err.new.frames w
     c.release-in-Err.ensures.faults f q why)) c.in-Err.ensures.cause)
@@ -145,17 +149,18 @@ pub returns-in-Ok-grow_step-clause-cause : goal.returns-in-Ok-grow_step-clause-c
 returns-in-Ok-grow_step-clause-cause g c =
     let r2 = reads_in_turn g.D.Disk c.args.frames.now c.hold_page.new.frames c.hold_new.new.frames c.args.pass.now
     c.hold_page.new.pass c.hold_new.new.pass c.hold_page.ensures.reads c.hold_new.ensures.reads in
-    λ parent page.
+    λ parent.
     if_err c.log_two.result
     (λ e. CannotLog g.D.Disk c.log_two.new.frames e c.hold_new.new.frames c.hold_new.new.pass)
-    (λ e. Meets g.D.Disk c.args.frames.now c.args.pass.now
-    (IsWhy g.D.Disk (IsBadRoom parent page) (λ f. ⊥) c.log_two.new.frames e))
+    (λ e. Finds g.D.Disk c.args.frames.now c.args.pass.now
+    (IsWhy g.D.Disk (IsBadRoom parent 1) (λ f. ⊥) c.log_two.new.frames e))
     (λ e why. (
       c.hold_new.new.frames,
       c.hold_new.new.pass,
-      [],
       r2.works,
-      log_why g.D.Disk (IsBadRoom parent page) (λ f. ⊥) c.log_two.new.frames e c.hold_new.new.frames
+      fine_then g.D.Disk c.args.frames.now c.hold_page.new.frames c.hold_new.new.frames c.in_ok-root.ensures.fine
+          c.in-Ok.ensures.fine,
+      log_why g.D.Disk (IsBadRoom parent 1) (λ f. ⊥) c.log_two.new.frames e c.hold_new.new.frames
           c.hold_new.new.pass why,
     )) c.log_two.ensures.cause
 
@@ -191,3 +196,50 @@ returns-in-Err-grow_step-clause-refused g c =
     reads_in_turn g.D.Disk c.args.frames.now c.release-in-Err-grow_step.new.frames
     c.release-in-Err-grow_step-2.new.frames c.args.pass.now c.release-in-Err-grow_step.new.pass
     c.release-in-Err-grow_step-2.new.pass r3 c.release-in-Err-grow_step-2.ensures.reads
+
+pub returns-in-Ok-grow_step-clause-took : goal.returns-in-Ok-grow_step-clause-took
+returns-in-Ok-grow_step-clause-took g c =
+    let r2 = reads_in_turn g.D.Disk c.args.frames.now c.hold_page.new.frames c.hold_new.new.frames c.args.pass.now
+    c.hold_page.new.pass c.hold_new.new.pass c.hold_page.ensures.reads c.hold_new.ensures.reads in
+    on_ok c.log_two.result (LogsStep g.D.Disk c.hold_new.new.frames c.hold_new.new.pass
+    (c.in-Ok.new ∷ c.in_ok-root.root ∷ []) c.in-Ok-grow_step.step c.log_two.new.frames c.log_two.new.pass)
+    (HadPage g.D.Disk c.args.frames.now c.args.pass.now)
+    (λ l. had_page g.D.Disk c.args.frames.now c.hold_new.new.frames c.args.pass.now c.hold_new.new.pass c.in-Ok.new.page
+    r2.works c.in-Ok.ensures.taken) c.log_two.ensures.logged
+
+pub returns-then-not-can_grow-clause-fault : goal.returns-then-not-can_grow-clause-fault
+returns-then-not-can_grow-clause-fault g c =
+    fine_then g.D.Disk c.args.frames.now c.hold_page.new.frames c.release.new.frames c.in_ok-root.ensures.fine
+    (calm_fine g.D.Disk c.hold_page.new.frames c.release.new.frames c.release.ensures.calm)
+
+pub returns-in-Err-clause-fault : goal.returns-in-Err-clause-fault
+returns-in-Err-clause-fault g c =
+    told_back g.D.Disk c.args.frames.now c.hold_new.new.frames c.release-in-Err.new.frames c.in-Err.error
+    (told_then g.D.Disk c.args.frames.now c.hold_page.new.frames c.hold_new.new.frames c.in-Err.error
+    c.in_ok-root.ensures.fine c.in-Err.ensures.fault) c.release-in-Err.ensures.calm c.release-in-Err.ensures.at_rest
+
+pub returns-in-Ok-grow_step-clause-fine : goal.returns-in-Ok-grow_step-clause-fine
+returns-in-Ok-grow_step-clause-fine g c =
+    let two = fine_then g.D.Disk c.args.frames.now c.hold_page.new.frames c.hold_new.new.frames
+    c.in_ok-root.ensures.fine c.in-Ok.ensures.fine in
+    on_ok c.log_two.result (MetNoFault g.D.Disk c.hold_new.new.frames c.log_two.new.frames)
+    (MetNoFault g.D.Disk c.args.frames.now c.log_two.new.frames)
+    (fine_then g.D.Disk c.args.frames.now c.hold_new.new.frames c.log_two.new.frames two) c.log_two.ensures.fine
+
+pub returns-in-Ok-grow_step-clause-fault : goal.returns-in-Ok-grow_step-clause-fault
+returns-in-Ok-grow_step-clause-fault g c =
+    let two = fine_then g.D.Disk c.args.frames.now c.hold_page.new.frames c.hold_new.new.frames
+    c.in_ok-root.ensures.fine c.in-Ok.ensures.fine in
+    if_err c.log_two.result (λ e. FaultBy g.D.Disk c.hold_new.new.frames c.log_two.new.frames e)
+    (λ e. FaultBy g.D.Disk c.args.frames.now c.log_two.new.frames e)
+    (λ e told. told_then g.D.Disk c.args.frames.now c.hold_new.new.frames c.log_two.new.frames e two told)
+    c.log_two.ensures.fault
+
+pub returns-in-Err-grow_step-clause-fault : goal.returns-in-Err-grow_step-clause-fault
+returns-in-Err-grow_step-clause-fault g c =
+    let last = c.release-in-Err-grow_step-2.new.frames in
+    fine_then g.D.Disk c.args.frames.now c.hold_page.new.frames last c.in_ok-root.ensures.fine
+    (fine_then g.D.Disk c.hold_page.new.frames c.hold_new.new.frames last c.in-Ok.ensures.fine
+    (calm_fine g.D.Disk c.hold_new.new.frames last
+    (calm_then g.D.Disk c.hold_new.new.frames c.release-in-Err-grow_step.new.frames last
+    c.release-in-Err-grow_step.ensures.calm c.release-in-Err-grow_step-2.ensures.calm)))

@@ -3,11 +3,14 @@ use Rattle.std.specs.Prelude.{Option, Err, IfSome, IfNone}
 use Rattle.std.proofs.lemmas.Result.{err_from_is_err_and}
 use Rattle.core_state.specs.Allowed.{Sheet}
 use Rattle.buffer_frames.proofs.Exits.{on_refusal, one_error}
-use Rattle.gin_place.specs.Causes.{Meets, IsBadNew, IsWhy}
+use Rattle.page_space.specs.Taking.{IsTaken}
+use Rattle.gin_place.specs.Causes.{Finds, IsBadNew, IsWhy}
 use Rattle.gin_place.specs.declared.error.PlaceError.TheVariants.{StoreFull}
-use Rattle.gin_place.specs.Inner.Holding.{HoldsNoMore, HoldsMore, IsNewHeld}
+use Rattle.gin_place.specs.Holding.{HoldsNoMore, HoldsMore, IsNewHeld}
 use Rattle.gin_place.proofs.Carrying.{reads_still, reads_in_turn, same_added, no_more, no_more_in_turn, right_on}
-use Rattle.gin_place.proofs.Causing.{at_exit, meets_after}
+use Rattle.gin_place.proofs.Causing.{at_exit, finds_after}
+use Rattle.gin_place.specs.Faults.{FaultBy}
+use Rattle.gin_place.proofs.Faults.{fine_still, fine_then, told_then}
 use Rattle.gin_place.proofs.holding.hold_new.Goals as goal
 
 pub loop-init : goal.loop-init
@@ -15,6 +18,7 @@ loop-init g c = record {
   reads =
       reads_still g.D.Disk c.args.frames.now c.args.pass.now c.requires.pass (same_added g.D.Disk c.args.frames.now);
   no_more = no_more g.D.Disk c.args.frames.now c.args.frames.now c.args.pass.now c.args.pass.now (λ held h. h) refl;
+  fine = fine_still g.D.Disk c.args.frames.now;
 }
 
 pub take_page-requires-clause-pass : goal.take_page-requires-clause-pass
@@ -43,6 +47,8 @@ loop-preserved g c =
           c.take_page.new.pass was.reads c.take_page.ensures.reads;
       no_more = no_more_in_turn g.D.Disk c.args.frames.now c.loop.frames c.take_page.new.frames c.args.pass.now
           c.loop.pass c.take_page.new.pass was.no_more old;
+      fine = fine_then g.D.Disk c.args.frames.now c.loop.frames c.take_page.new.frames was.fine
+          c.in_ok-held.ensures.fine;
     }
 
 pub returns-in-Some-clause-reads : goal.returns-in-Some-clause-reads
@@ -79,11 +85,34 @@ pub returns-in_err-held-clause-cause : goal.returns-in_err-held-clause-cause
 returns-in_err-held-clause-cause g c =
     let p = err_from_is_err_and c.from_residual.result c.from_residual.ensures.1 in
     let w = c.in_err-held.field-0.0 in
-    at_exit (λ x. Meets g.D.Disk c.args.frames.now c.args.pass.now
+    at_exit (λ x. Finds g.D.Disk c.args.frames.now c.args.pass.now
     (IsWhy g.D.Disk IsBadNew (λ f. ⊥) c.take_page.new.frames x)) c.from_residual.result p.0 w p.1 p.2
-    (meets_after g.D.Disk c.args.frames.now c.loop.frames c.args.pass.now c.loop.pass []
-    (IsWhy g.D.Disk IsBadNew (λ f. ⊥) c.take_page.new.frames w) c.loop.invariant.reads.works
+    (finds_after g.D.Disk c.args.frames.now c.loop.frames c.args.pass.now c.loop.pass
+    (IsWhy g.D.Disk IsBadNew (λ f. ⊥) c.take_page.new.frames w) c.loop.invariant.reads.works c.loop.invariant.fine
     c.in_err-held.ensures.cause)
 
 pub returns-clause-cause : goal.returns-clause-cause
-returns-clause-cause g c = (c.loop.frames, c.loop.pass, [], c.loop.invariant.reads.works, tt)
+returns-clause-cause g c =
+    (c.loop.frames, c.loop.pass, c.loop.invariant.reads.works, c.loop.invariant.fine, tt)
+
+pub returns-in-Some-clause-taken : goal.returns-in-Some-clause-taken
+returns-in-Some-clause-taken g c =
+    subst (λ (o : Option Sheet). IfSome o (λ h.
+    IsTaken c.take_page.new.frames.journal.state c.take_page.new.pass.since h.page)) c.in-Some.is
+    c.in_ok-held.ensures.taken
+
+pub returns-in-Some-clause-fine : goal.returns-in-Some-clause-fine
+returns-in-Some-clause-fine g c =
+    fine_then g.D.Disk c.args.frames.now c.loop.frames c.take_page.new.frames c.loop.invariant.fine
+    c.in_ok-held.ensures.fine
+
+pub returns-in_err-held-clause-fault : goal.returns-in_err-held-clause-fault
+returns-in_err-held-clause-fault g c =
+    let p = err_from_is_err_and c.from_residual.result c.from_residual.ensures.1 in
+    at_exit (λ x. FaultBy g.D.Disk c.args.frames.now c.take_page.new.frames x) c.from_residual.result p.0
+    c.in_err-held.field-0.0 p.1 p.2
+    (told_then g.D.Disk c.args.frames.now c.loop.frames c.take_page.new.frames c.in_err-held.field-0.0
+    c.loop.invariant.fine c.in_err-held.ensures.fault)
+
+pub returns-clause-fault : goal.returns-clause-fault
+returns-clause-fault g c = c.loop.invariant.fine

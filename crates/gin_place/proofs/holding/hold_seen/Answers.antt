@@ -1,12 +1,15 @@
 use Rattle.std.proofs.Common.{◌≡◌, [], ◌∷◌, sym, subst, ◌∙◌}
 use Rattle.std.proofs.lemmas.Result.{err_from_is_err_and}
 use Rattle.buffer_frames.proofs.AtHand.{none_held}
-use Rattle.gin_place.specs.Causes.{Meets, CannotHold}
+use Rattle.gin_place.specs.Causes.{Finds, CannotHold}
 use Rattle.gin_place.specs.declared.error.PlaceError.{PlaceError}
 use Rattle.gin_place.specs.declared.error.PlaceError.TheVariants.{Down, BadPage}
 use Rattle.buffer_frames.proofs.Exits.{one_error}
+use Rattle.gin_place.proofs.Running.{calm_goes}
+use Rattle.gin_place.specs.Faults.{FaultBy}
+use Rattle.gin_place.proofs.Faults.{calm_then, calm_fine, fine_then, down_told}
 use Rattle.gin_place.proofs.Carrying.{reads_by, reads_in_turn, right_on, held_seen}
-use Rattle.gin_place.proofs.Causing.{at_exit, meets_now, look_down}
+use Rattle.gin_place.proofs.Causing.{at_exit, finds_now, look_down}
 use Rattle.gin_place.proofs.holding.hold_seen.Goals as goal
 
 pub returns-in-Ok-clause-reads : goal.returns-in-Ok-clause-reads
@@ -18,7 +21,8 @@ returns-in-Ok-clause-reads g c =
     (reads_by g.D.Disk c.found_stays.ensures.right c.hold_page.new.frames c.look.new.self c.hold_page.new.pass
     c.look.new.pass h.reads.works.is_pass
     (right_on g.D.Disk c.args.frames.now c.hold_page.new.frames c.args.pass.now c.hold_page.new.pass [] c.requires.right
-    h.reads.works) e.added e.sees_on e.rises e.pass e.keeps.pin e.keeps.room e.keeps.xid e.keeps.work e.pins) in
+    h.reads.works) e.added e.sees_on e.rises e.pass e.keeps.pin e.keeps.room e.keeps.xid e.keeps.work e.pins
+    (calm_goes g.D.Disk e.calm e.state e.added e.runs_on e.begins)) in
     reads
 
 pub returns-in-Ok-clause-holding : goal.returns-in-Ok-clause-holding
@@ -51,7 +55,8 @@ returns-in-Err-clause-reads g c =
     (reads_by g.D.Disk c.found_stays.ensures.right c.hold_page.new.frames c.look.new.self c.hold_page.new.pass
     c.look.new.pass h.reads.works.is_pass
     (right_on g.D.Disk c.args.frames.now c.hold_page.new.frames c.args.pass.now c.hold_page.new.pass [] c.requires.right
-    h.reads.works) e.added e.sees_on e.rises e.pass e.keeps.pin e.keeps.room e.keeps.xid e.keeps.work e.pins) in
+    h.reads.works) e.added e.sees_on e.rises e.pass e.keeps.pin e.keeps.room e.keeps.xid e.keeps.work e.pins
+    (calm_goes g.D.Disk e.calm e.state e.added e.runs_on e.begins)) in
     reads_in_turn g.D.Disk c.args.frames.now c.look.new.self c.release.new.frames c.args.pass.now c.look.new.pass
     c.release.new.pass reads c.release.ensures.reads
 
@@ -66,9 +71,9 @@ pub returns-in_err-held-clause-cause : goal.returns-in_err-held-clause-cause
 returns-in_err-held-clause-cause g c =
     let p = err_from_is_err_and c.from_residual.result c.from_residual.ensures.1 in
     let w = c.in_err-held.field-0.0 in
-    at_exit (λ x. Meets g.D.Disk c.args.frames.now c.args.pass.now
+    at_exit (λ x. Finds g.D.Disk c.args.frames.now c.args.pass.now
     (CannotHold g.D.Disk c.args.page c.hold_page.new.frames x)) c.from_residual.result p.0 w p.1 p.2
-    (meets_now g.D.Disk c.args.frames.now c.args.pass.now (CannotHold g.D.Disk c.args.page c.hold_page.new.frames w)
+    (finds_now g.D.Disk c.args.frames.now c.args.pass.now (CannotHold g.D.Disk c.args.page c.hold_page.new.frames w)
     c.requires.pass c.in_err-held.ensures.cause)
 
 pub returns-in-Err-clause-cause : goal.returns-in-Err-clause-cause
@@ -77,8 +82,8 @@ returns-in-Err-clause-cause g c =
     c.in-Err.ensures.error in (
       c.hold_page.new.frames,
       c.hold_page.new.pass,
-      [],
       c.hold_page.ensures.reads.works,
+      c.in_ok-held.ensures.fine,
       subst (λ (x : PlaceError). CannotHold g.D.Disk c.args.page c.release.new.frames x c.hold_page.new.frames
           c.hold_page.new.pass) (sym (c.from.ensures ∙ d.1)) d.2,
     )
@@ -97,3 +102,23 @@ returns-in-Err-clause-bad g c = λ n is.
     c.in-Err.ensures.error in
     let two : Down d.0 ≡ BadPage n = let e = sym (c.from.ensures ∙ d.1) in let both = is in cc in
     let z : ⊥ = cc in absurd z
+
+pub returns-in_err-held-clause-fault : goal.returns-in_err-held-clause-fault
+returns-in_err-held-clause-fault g c =
+    let p = err_from_is_err_and c.from_residual.result c.from_residual.ensures.1 in
+    at_exit (λ x. FaultBy g.D.Disk c.args.frames.now c.hold_page.new.frames x) c.from_residual.result p.0
+    c.in_err-held.field-0.0 p.1 p.2 c.in_err-held.ensures.fault
+
+pub returns-in-Ok-clause-fine : goal.returns-in-Ok-clause-fine
+returns-in-Ok-clause-fine g c =
+    fine_then g.D.Disk c.args.frames.now c.hold_page.new.frames c.look.new.self c.in_ok-held.ensures.fine
+    (calm_fine g.D.Disk c.hold_page.new.frames c.look.new.self c.look.ensures.calm)
+
+pub returns-in-Err-clause-fault : goal.returns-in-Err-clause-fault
+returns-in-Err-clause-fault g c =
+    let d = look_down g.D.Disk c.hold_page.new.frames c.look.result c.in-Err.error c.in-Err.is c.look.ensures.is_down
+    c.in-Err.ensures.error in
+    down_told g.D.Disk c.args.frames.now c.hold_page.new.frames c.release.new.frames c.from.result d.0
+    (c.from.ensures ∙ d.1) c.in_ok-held.ensures.fine
+    (calm_then g.D.Disk c.hold_page.new.frames c.look.new.self c.release.new.frames c.look.ensures.calm
+    c.release.ensures.calm) d.2

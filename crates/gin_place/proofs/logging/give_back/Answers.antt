@@ -1,5 +1,6 @@
 use Rattle.std.proofs.Common.{[], ◌∷◌, sym, arith}
 use Rattle.gin_place.proofs.Carrying.{reads_in_turn, right_on}
+use Rattle.gin_place.proofs.Faults.{rests_then, calm_then}
 use Rattle.gin_place.proofs.logging.give_back.Goals as goal
 
 pub release-requires-clause-holding : goal.release-requires-clause-holding
@@ -45,3 +46,16 @@ returns-clause-none_held g c =
 pub returns-clause-faults : goal.returns-clause-faults
 returns-clause-faults g c =
     omega (arith, c.release.ensures.faults, c.release-2.ensures.faults, c.release-3.ensures.faults)
+
+pub returns-clause-calm : goal.returns-clause-calm
+returns-clause-calm g c =
+    calm_then g.D.Disk c.args.frames.now c.release.new.frames c.release-3.new.frames c.release.ensures.calm
+    (calm_then g.D.Disk c.release.new.frames c.release-2.new.frames c.release-3.new.frames c.release-2.ensures.calm
+    c.release-3.ensures.calm)
+
+pub returns-clause-at_rest : goal.returns-clause-at_rest
+returns-clause-at_rest g c =
+    rests_then g.D.Disk c.args.frames.now c.release.new.frames c.release-3.new.frames c.release.ensures.calm
+    c.release.ensures.at_rest
+    (rests_then g.D.Disk c.release.new.frames c.release-2.new.frames c.release-3.new.frames c.release-2.ensures.calm
+    c.release-2.ensures.at_rest c.release-3.ensures.at_rest)

@@ -2,6 +2,7 @@ use Rattle.std.proofs.Common.{◌≡◌, List, [], ◌∷◌, ◌++◌, sym, ap,
 use Rattle.std.specs.Prelude.{OnOk}
 use Rattle.core_state.specs.Allowed.{Sheet}
 use Rattle.gin_place.specs.Inner.Logging.{MayLogStep, LogsStep}
+use Rattle.gin_place.proofs.Faults.{calm_fine}
 use Rattle.gin_place.proofs.logging.log_one.Goals as goal
 
 pub returns-then-is_err-clause-none_held : goal.returns-then-is_err-clause-none_held
@@ -24,3 +25,7 @@ returns-clause-logged g c =
     (LogsStep g.D.Disk c.args.frames.now c.args.pass.now l c.args.step c.log_pages.new.frames c.log_pages.new.pass))
     items
     c.log_pages.ensures.logged
+
+pub returns-then-is_err-clause-fault : goal.returns-then-is_err-clause-fault
+returns-then-is_err-clause-fault g c =
+    calm_fine g.D.Disk c.args.frames.now c.release.new.frames c.release.ensures.calm

@@ -2,6 +2,7 @@ use Rattle.std.proofs.Common.{◌≡◌, List, [], ◌∷◌, ◌++◌, sym, ap,
 use Rattle.std.specs.Prelude.{OnOk}
 use Rattle.core_state.specs.Allowed.{Sheet}
 use Rattle.gin_place.specs.Inner.Logging.{MayLogStep, LogsStep}
+use Rattle.gin_place.proofs.Faults.{calm_fine}
 use Rattle.gin_place.proofs.logging.log_three.Goals as goal
 
 pub log_pages-requires : goal.log_pages-requires
@@ -27,3 +28,7 @@ returns-clause-logged g c =
     (LogsStep g.D.Disk c.args.frames.now c.args.pass.now l c.args.step c.log_pages.new.frames c.log_pages.new.pass))
     items
     c.log_pages.ensures.logged
+
+pub returns-then-is_err-clause-fault : goal.returns-then-is_err-clause-fault
+returns-then-is_err-clause-fault g c =
+    calm_fine g.D.Disk c.args.frames.now c.give_back.new.frames c.give_back.ensures.calm

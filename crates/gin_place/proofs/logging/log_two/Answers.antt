@@ -3,6 +3,7 @@ use Rattle.std.specs.Prelude.{OnOk}
 use Rattle.core_state.specs.Allowed.{Sheet}
 use Rattle.gin_place.specs.Inner.Logging.{MayLogStep, LogsStep}
 use Rattle.gin_place.proofs.Carrying.{reads_in_turn, right_on}
+use Rattle.gin_place.proofs.Faults.{calm_then, calm_fine}
 use Rattle.gin_place.proofs.logging.log_two.Goals as goal
 
 pub release-requires-clause-holding : goal.release-requires-clause-holding
@@ -46,3 +47,9 @@ returns-clause-logged g c =
     (LogsStep g.D.Disk c.args.frames.now c.args.pass.now l c.args.step c.log_pages.new.frames c.log_pages.new.pass))
     items
     c.log_pages.ensures.logged
+
+pub returns-then-is_err-clause-fault : goal.returns-then-is_err-clause-fault
+returns-then-is_err-clause-fault g c =
+    calm_fine g.D.Disk c.args.frames.now c.release-then-is_err.new.frames
+    (calm_then g.D.Disk c.args.frames.now c.release.new.frames c.release-then-is_err.new.frames c.release.ensures.calm
+    c.release-then-is_err.ensures.calm)

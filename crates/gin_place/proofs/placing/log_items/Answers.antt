@@ -6,6 +6,7 @@ use Rattle.gin_place.specs.Going.{WorksOn}
 use Rattle.gin_place.specs.Inner.Logging.{MayLogStep, LogsStep}
 use Rattle.gin_place.proofs.Adding.{items_step, adds_to, items_may_log, items_placed}
 use Rattle.gin_place.proofs.Exits.{on_ok}
+use Rattle.gin_place.proofs.Faults.{calm_fine}
 use Rattle.gin_place.proofs.placing.log_items.Goals as goal
 
 pub log_one-requires : goal.log_one-requires
@@ -46,3 +47,6 @@ release-requires-clause-holding g c = ([], c.requires.holding)
 
 pub returns-in-Err-clause-none_held : goal.returns-in-Err-clause-none_held
 returns-in-Err-clause-none_held g c = sym (c.release.ensures.holding [] c.requires.holding).all
+
+pub returns-in-Err-clause-fault : goal.returns-in-Err-clause-fault
+returns-in-Err-clause-fault g c = calm_fine g.D.Disk c.args.frames.now c.release.new.frames c.release.ensures.calm

@@ -1,4 +1,12 @@
+use Rattle.std.proofs.Common.{ℕ, sym, subst}
+use Rattle.std.specs.Prelude.{IfErr}
+use Rattle.gin_place.specs.Inner.Making.{WhyNoRoom}
 use Rattle.gin_place.proofs.placing.make_room.Goals as goal
 
 pub returns-then-page-eq-ROOT-clause-cause : goal.returns-then-page-eq-ROOT-clause-cause
-returns-then-page-eq-ROOT-clause-cause g c = c.grow_root.ensures.cause c.args.parent c.args.page
+returns-then-page-eq-ROOT-clause-cause g c =
+    subst (λ (n : ℕ). IfErr c.grow_root.result (WhyNoRoom g.D.Disk c.args.frames.now c.args.pass.now c.args.parent n
+    c.grow_root.new.frames)) (sym c.if-page-eq-ROOT.true) (c.grow_root.ensures.cause c.args.parent)
+
+pub returns-clause-cause : goal.returns-clause-cause
+returns-clause-cause g c = c.split_page.ensures.cause c.if-page-eq-ROOT.false

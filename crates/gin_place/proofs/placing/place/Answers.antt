@@ -1,10 +1,18 @@
-use Rattle.std.proofs.Common.{refl, [], ◌++◌, sym, subst, rules}
+use Rattle.std.proofs.Common.{refl, [], ◌++◌, ◌∙◌, Result, sym, ap, subst, rules}
+use Rattle.std.specs.Prelude.{Bool, Ok, OnOk}
 use Rattle.std.proofs.lemmas.Result.{err_from_is_err_and}
 use Rattle.gin_place.specs.Placing.{IsAt, IsPlacing}
 use Rattle.gin_place.specs.Causes.{Meets, HasLong, IsBad, IsBadIn, IsWhy}
+use Rattle.gin_place.specs.Stepping.{HasStepped}
 use Rattle.gin_place.proofs.Carrying.{reads_still, same_added, works_in_turn, right_on}
-use Rattle.gin_place.proofs.Causing.{at_exit, meets_after, meets_as, why_as}
-use Rattle.gin_place.proofs.Stepped.{root_way}
+use Rattle.gin_place.proofs.Causing.{at_exit, meets_after, meets_as, meets_found, why_as}
+use Rattle.gin_place.specs.declared.error.PlaceError.{PlaceError}
+use Rattle.gin_place.specs.declared.placing.Placing.{Placing}
+use Rattle.gin_place.proofs.Resting.{rests_first, rests_on, nothing_logged, full_first, full_on}
+use Rattle.gin_place.proofs.Resting.{never_ended, full_logs_nothing}
+use Rattle.gin_place.proofs.Stepped.{root_way, not_done}
+use Rattle.gin_place.specs.Faults.{FaultBy}
+use Rattle.gin_place.proofs.Faults.{fine_still, fine_then, told_then}
 use Rattle.gin_place.proofs.placing.place.Goals as goal
 
 pub loop-init : goal.loop-init
@@ -16,9 +24,15 @@ loop-init g c =
             (same_added g.D.Disk c.args.frames.now)).works,
       );
       none_held = c.requires.none;
+      fine = fine_still g.D.Disk c.args.frames.now;
       placing = subst (IsPlacing g.D.Disk c.args.frames.now c.args.pass.now c.args.key.now c.args.items.now)
           (sym c.begin-placing.ensures)
-          (root_way g.D.Disk c.args.frames.now c.args.pass.now c.args.key.now, refl);
+          (root_way g.D.Disk c.args.frames.now c.args.pass.now c.args.key.now, refl, λ making other. absurd (other refl));
+      standing = rests_first g.D.Disk c.args.frames.now c.args.pass.now c.args.key.now c.args.items.now c.requires.pass
+          c.begin-placing.result (ap (λ (s : Placing). s.making_room) c.begin-placing.ensures);
+      full = full_first g.D.Disk c.args.frames.now c.args.pass.now c.args.key.now c.args.items.now c.requires.pass
+          c.begin-placing.result (ap (λ (s : Placing). s.making_room) c.begin-placing.ensures)
+          (λ e. not_done 0 1 (sym (ap (λ (s : Placing). s.stage) c.begin-placing.ensures) ∙ e));
     }
 
 pub step-requires : goal.step-requires
@@ -41,7 +55,20 @@ loop-preserved g c =
     let e = c.in_ok-more.ensures in
     let all = works_in_turn g.D.Disk c.args.frames.now c.loop.frames c.step.new.frames c.args.pass.now c.loop.pass
     c.step.new.pass was.works.0 e.works.0 was.works.1 e.works.2 in
-    record { works = (was.works.0 ++ e.works.0, all); none_held = e.none_held; placing = e.placing }
+    record {
+      works = (was.works.0 ++ e.works.0, all);
+      none_held = e.none_held;
+      fine = fine_then g.D.Disk c.args.frames.now c.loop.frames c.step.new.frames was.fine e.fine;
+      placing = e.placing;
+      standing = rests_on g.D.Disk c.args.frames.now c.args.pass.now c.args.key.now c.args.items.now c.loop.frames
+          c.step.new.frames c.loop.pass c.step.new.pass c.loop.placing c.step.new.self was.standing
+          c.in_ok-more.more e;
+      full = full_on g.D.Disk c.args.frames.now c.args.pass.now c.args.key.now c.args.items.now c.loop.frames
+          c.step.new.frames c.loop.pass c.step.new.pass c.loop.placing c.step.new.self was.full
+          (subst (λ (b : Bool). HasStepped g.D.Disk c.loop.frames c.loop.pass c.step.new.frames c.step.new.pass
+          c.args.key.now c.args.items.now c.loop.placing c.step.new.self (Ok b))
+          (search (rules, c.if-not-more.false)) e);
+    }
 
 pub returns-then-not-more-clause-placed : goal.returns-then-not-more-clause-placed
 returns-then-not-more-clause-placed g c =
@@ -87,7 +114,9 @@ returns-in_err-more-clause-cause g c =
     (IsWhy g.D.Disk (IsBadIn g.D.Disk c.args.key.now) (HasLong c.args.key.now c.args.items.now) c.step.new.frames w)
     (λ f q why. why_as g.D.Disk (IsBad g.D.Disk c.args.key.now c.loop.placing) (HasLong c.args.key.now c.args.items.now)
     (IsBadIn g.D.Disk c.args.key.now) (HasLong c.args.key.now c.args.items.now) c.step.new.frames w f q
-    (λ n bad. (c.loop.placing, bad)) (λ x. x) why) c.in_err-more.ensures.cause))
+    (λ n bad. (c.loop.placing, bad)) (λ x. x) why)
+    (meets_found g.D.Disk c.loop.frames c.loop.pass (IsWhy g.D.Disk (IsBad g.D.Disk c.args.key.now c.loop.placing)
+    (HasLong c.args.key.now c.args.items.now) c.step.new.frames w) c.in_err-more.ensures.cause)))
 
 pub returns-clause-none_held : goal.returns-clause-none_held
 returns-clause-none_held g c =
@@ -101,3 +130,56 @@ pub returns-clause-cause : goal.returns-clause-cause
 returns-clause-cause g c =
     let was = c.loop.invariant in
     (c.loop.frames, c.loop.pass, was.works.0, was.works.1, tt)
+
+pub returns-then-not-more-clause-standing : goal.returns-then-not-more-clause-standing
+returns-then-not-more-clause-standing g c =
+    nothing_logged g.D.Disk c.args.frames.now c.args.pass.now c.args.key.now c.args.items.now c.loop.frames
+    c.step.new.frames c.loop.pass c.step.new.pass c.loop.placing c.step.new.self c.loop.invariant.standing
+    c.step.result c.step.ensures
+
+pub returns-in_err-more-clause-standing : goal.returns-in_err-more-clause-standing
+returns-in_err-more-clause-standing g c =
+    nothing_logged g.D.Disk c.args.frames.now c.args.pass.now c.args.key.now c.args.items.now c.loop.frames
+    c.step.new.frames c.loop.pass c.step.new.pass c.loop.placing c.step.new.self c.loop.invariant.standing
+    c.step.result c.step.ensures
+
+pub returns-clause-standing : goal.returns-clause-standing
+returns-clause-standing g c = λ placed t up R stands legal.
+    (c.loop.invariant.standing placed t up R stands legal).works
+
+pub returns-then-not-more-clause-full : goal.returns-then-not-more-clause-full
+returns-then-not-more-clause-full g c = λ over t up R stands legal.
+    absurd (never_ended g.D.Disk c.args.frames.now c.args.pass.now c.args.key.now c.args.items.now c.loop.frames
+    c.step.new.frames c.loop.pass c.step.new.pass c.loop.placing c.step.new.self c.loop.invariant.full
+    (subst (λ (b : Bool). HasStepped g.D.Disk c.loop.frames c.loop.pass c.step.new.frames c.step.new.pass
+    c.args.key.now c.args.items.now c.loop.placing c.step.new.self (Ok b)) (search (rules, c.if-not-more.true))
+    c.in_ok-more.ensures) over t up R stands legal)
+
+pub returns-in_err-more-clause-full : goal.returns-in_err-more-clause-full
+returns-in_err-more-clause-full g c = λ over t up R stands legal.
+    let p = err_from_is_err_and c.from_residual.result c.from_residual.ensures.1 in (
+      subst (λ (r : Result _ PlaceError). OnOk r ⊥) (sym p.1) tt,
+      full_logs_nothing g.D.Disk c.args.frames.now c.args.pass.now c.args.key.now c.args.items.now c.loop.frames
+          c.step.new.frames c.loop.pass c.step.new.pass c.loop.placing c.step.new.self c.loop.invariant.full
+          c.step.result c.step.ensures over t up R stands legal,
+    )
+
+pub returns-clause-full : goal.returns-clause-full
+returns-clause-full g c = λ over t up R stands legal.
+    (tt, (c.loop.invariant.full over t up R stands legal).rest.works)
+
+pub returns-then-not-more-clause-fine : goal.returns-then-not-more-clause-fine
+returns-then-not-more-clause-fine g c =
+    fine_then g.D.Disk c.args.frames.now c.loop.frames c.step.new.frames c.loop.invariant.fine
+    c.in_ok-more.ensures.fine
+
+pub returns-in_err-more-clause-fault : goal.returns-in_err-more-clause-fault
+returns-in_err-more-clause-fault g c =
+    let p = err_from_is_err_and c.from_residual.result c.from_residual.ensures.1 in
+    at_exit (λ x. FaultBy g.D.Disk c.args.frames.now c.step.new.frames x) c.from_residual.result p.0
+    c.in_err-more.field-0.0 p.1 p.2
+    (told_then g.D.Disk c.args.frames.now c.loop.frames c.step.new.frames c.in_err-more.field-0.0
+    c.loop.invariant.fine c.in_err-more.ensures.fault)
+
+pub returns-clause-fault : goal.returns-clause-fault
+returns-clause-fault g c = c.loop.invariant.fine

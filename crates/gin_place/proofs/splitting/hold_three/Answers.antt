@@ -2,24 +2,25 @@ use Rattle.std.proofs.Common.{subst, [], ◌∷◌, refl, sym, arith}
 use Rattle.std.proofs.lemmas.Result.{err_from_is_err_and}
 use Rattle.buffer_frames.specs.Homes.{IsAway}
 use Rattle.buffer_frames.proofs.AtHand.{none_held}
-use Rattle.gin_place.specs.Causes.{Meets, CanDivide, IsBadNew, IsBadRoom, IsWhy}
+use Rattle.gin_place.specs.Causes.{Finds, CanDivide, IsBadNew, IsBadRoom, IsWhy}
 use Rattle.gin_place.proofs.Carrying.{reads_in_turn}
-use Rattle.gin_place.proofs.Causing.{at_exit, weaker, meets_now, meets_after, meets_as, hold_why, hold_later, Later}
-use Rattle.gin_place.proofs.Causing.{why_as, why_later}
+use Rattle.gin_place.proofs.Causing.{at_exit, weaker, had_page, finds_now, finds_after, finds_as, hold_why, hold_later}
+use Rattle.gin_place.proofs.Causing.{Later, why_as, why_later}
 use Rattle.gin_place.proofs.SplitCauses.{lies_before}
+use Rattle.gin_place.proofs.Faults.{fine_then, told_then, told_back}
 use Rattle.gin_place.proofs.splitting.hold_three.Goals as goal
 
 pub returns-in_err-parent-clause-cause : goal.returns-in_err-parent-clause-cause
-returns-in_err-parent-clause-cause g c =
+returns-in_err-parent-clause-cause g c = λ other.
     let p = err_from_is_err_and c.from_residual.result c.from_residual.ensures.1 in
     let w = c.in_err-parent.field-0.0 in
-    at_exit (λ x. Meets g.D.Disk c.args.frames.now c.args.pass.now
+    at_exit (λ x. Finds g.D.Disk c.args.frames.now c.args.pass.now
     (IsWhy g.D.Disk (IsBadRoom c.args.parent c.args.page) (λ f. ⊥) c.hold_page.new.frames x))
     c.from_residual.result p.0 w p.1 p.2
-    (meets_now g.D.Disk c.args.frames.now c.args.pass.now
+    (finds_now g.D.Disk c.args.frames.now c.args.pass.now
     (IsWhy g.D.Disk (IsBadRoom c.args.parent c.args.page) (λ f. ⊥) c.hold_page.new.frames w) c.requires.pass
     (hold_why g.D.Disk (IsBadRoom c.args.parent c.args.page) (λ f. ⊥) c.args.parent c.hold_page.new.frames w
-    c.args.frames.now c.args.pass.now (λ bad. IsBadRoom.above refl bad) c.in_err-parent.ensures.cause))
+    c.args.frames.now c.args.pass.now (λ bad. IsBadRoom.above other refl bad) c.in_err-parent.ensures.cause))
 
 pub hold_page-requires-2-clause-few : goal.hold_page-requires-2-clause-few
 hold_page-requires-2-clause-few g c =
@@ -49,15 +50,15 @@ returns-in-Err-clause-still g c =
     sym (c.release.ensures.holding [] h2).all
 
 pub returns-in-Err-clause-cause : goal.returns-in-Err-clause-cause
-returns-in-Err-clause-cause g c =
+returns-in-Err-clause-cause g c = λ other.
     let w = c.in-Err.error in (
       c.hold_page.new.frames,
       c.hold_page.new.pass,
-      [],
       c.hold_page.ensures.reads.works,
+      c.in_ok-parent.ensures.fine,
       hold_why g.D.Disk (IsBadRoom c.args.parent c.args.page) (λ f. ⊥) c.args.page c.release.new.frames w
           c.hold_page.new.frames c.hold_page.new.pass
-          (λ bad. IsBadRoom.split refl (weaker c.hold_page.new.frames CanDivide c.args.page bad))
+          (λ bad. IsBadRoom.split other refl (weaker c.hold_page.new.frames CanDivide c.args.page bad))
           (hold_later g.D.Disk c.args.page c.hold_page-2.new.frames c.release.new.frames w c.release.ensures.faults
           c.hold_page.new.frames c.hold_page.new.pass c.in-Err.ensures.cause),
     )
@@ -140,18 +141,53 @@ returns-in-Err-hold_new-clause-still g c =
     (c.release-in-Err-hold_new.ensures.holding (c.in_ok-parent.parent ∷ []) h3)).all
 
 pub returns-in-Err-hold_new-clause-cause : goal.returns-in-Err-hold_new-clause-cause
-returns-in-Err-hold_new-clause-cause g c =
+returns-in-Err-hold_new-clause-cause g c = λ other.
     let r2 = reads_in_turn g.D.Disk c.args.frames.now c.hold_page.new.frames c.hold_page-2.new.frames c.args.pass.now
     c.hold_page.new.pass c.hold_page-2.new.pass c.hold_page.ensures.reads c.hold_page-2.ensures.reads in
     let w = c.in-Err-hold_new.error in
     let last = c.release-in-Err-hold_new-2.new.frames in
     let later : Later g.D.Disk c.hold_new.new.frames last =
     omega (arith, c.release-in-Err-hold_new.ensures.faults, c.release-in-Err-hold_new-2.ensures.faults) in
-    meets_after g.D.Disk c.args.frames.now c.hold_page-2.new.frames c.args.pass.now c.hold_page-2.new.pass []
+    finds_after g.D.Disk c.args.frames.now c.hold_page-2.new.frames c.args.pass.now c.hold_page-2.new.pass
     (IsWhy g.D.Disk (IsBadRoom c.args.parent c.args.page) (λ f. ⊥) last w) r2.works
-    (meets_as g.D.Disk c.hold_page-2.new.frames c.hold_page-2.new.pass
+    (fine_then g.D.Disk c.args.frames.now c.hold_page.new.frames c.hold_page-2.new.frames c.in_ok-parent.ensures.fine
+    c.in-Ok.ensures.fine)
+    (finds_as g.D.Disk c.hold_page-2.new.frames c.hold_page-2.new.pass
     (IsWhy g.D.Disk IsBadNew (λ f. ⊥) c.hold_new.new.frames w)
     (IsWhy g.D.Disk (IsBadRoom c.args.parent c.args.page) (λ f. ⊥) last w)
     (λ f q why. why_as g.D.Disk IsBadNew (λ x. ⊥) (IsBadRoom c.args.parent c.args.page) (λ x. ⊥) last w f q
     (λ n bad. IsBadRoom.new bad) (λ x. x)
     (why_later g.D.Disk IsBadNew (λ x. ⊥) c.hold_new.new.frames last w later f q why)) c.in-Err-hold_new.ensures.cause)
+
+pub returns-in-Ok-hold_new-clause-took : goal.returns-in-Ok-hold_new-clause-took
+returns-in-Ok-hold_new-clause-took g c =
+    let r2 = reads_in_turn g.D.Disk c.args.frames.now c.hold_page.new.frames c.hold_page-2.new.frames c.args.pass.now
+    c.hold_page.new.pass c.hold_page-2.new.pass c.hold_page.ensures.reads c.hold_page-2.ensures.reads in
+    let r3 = reads_in_turn g.D.Disk c.args.frames.now c.hold_page-2.new.frames c.hold_new.new.frames c.args.pass.now
+    c.hold_page-2.new.pass c.hold_new.new.pass r2 c.hold_new.ensures.reads in
+    had_page g.D.Disk c.args.frames.now c.hold_new.new.frames c.args.pass.now c.hold_new.new.pass
+    c.in-Ok-hold_new.new.page r3.works c.in-Ok-hold_new.ensures.taken
+
+pub returns-in-Err-clause-fault : goal.returns-in-Err-clause-fault
+returns-in-Err-clause-fault g c =
+    told_back g.D.Disk c.args.frames.now c.hold_page-2.new.frames c.release.new.frames c.in-Err.error
+    (told_then g.D.Disk c.args.frames.now c.hold_page.new.frames c.hold_page-2.new.frames c.in-Err.error
+    c.in_ok-parent.ensures.fine c.in-Err.ensures.fault) c.release.ensures.calm c.release.ensures.at_rest
+
+pub returns-in-Ok-hold_new-clause-fine : goal.returns-in-Ok-hold_new-clause-fine
+returns-in-Ok-hold_new-clause-fine g c =
+    fine_then g.D.Disk c.args.frames.now c.hold_page.new.frames c.hold_new.new.frames c.in_ok-parent.ensures.fine
+    (fine_then g.D.Disk c.hold_page.new.frames c.hold_page-2.new.frames c.hold_new.new.frames c.in-Ok.ensures.fine
+    c.in-Ok-hold_new.ensures.fine)
+
+pub returns-in-Err-hold_new-clause-fault : goal.returns-in-Err-hold_new-clause-fault
+returns-in-Err-hold_new-clause-fault g c =
+    let w = c.in-Err-hold_new.error in
+    let mid = c.release-in-Err-hold_new.new.frames in
+    let told = told_then g.D.Disk c.args.frames.now c.hold_page-2.new.frames c.hold_new.new.frames w
+    (fine_then g.D.Disk c.args.frames.now c.hold_page.new.frames c.hold_page-2.new.frames c.in_ok-parent.ensures.fine
+    c.in-Ok.ensures.fine) c.in-Err-hold_new.ensures.fault in
+    told_back g.D.Disk c.args.frames.now mid c.release-in-Err-hold_new-2.new.frames w
+    (told_back g.D.Disk c.args.frames.now c.hold_new.new.frames mid w told c.release-in-Err-hold_new.ensures.calm
+    c.release-in-Err-hold_new.ensures.at_rest) c.release-in-Err-hold_new-2.ensures.calm
+    c.release-in-Err-hold_new-2.ensures.at_rest

@@ -2,14 +2,16 @@ use Rattle.std.proofs.Common.{[], ◌∷◌, subst}
 use Rattle.page_types.specs.Records.{kind_number}
 use Rattle.page_types.specs.declared.record.Kind.{Kind}
 use Rattle.gin_place.specs.Going.{WorksOn}
-use Rattle.gin_place.specs.Causes.{Meets, IsBadRoom, IsWhy, CannotLog}
-use Rattle.gin_place.specs.Inner.Holding.{ReadsOn}
+use Rattle.gin_place.specs.Causes.{Finds, IsBadRoom, HadPage, IsWhy, CannotLog}
+use Rattle.gin_place.specs.Holding.{ReadsOn}
 use Rattle.gin_place.specs.Inner.Logging.{LogsStep}
 use Rattle.gin_place.proofs.Carrying.{reads_in_turn, works_in_turn, right_on}
 use Rattle.gin_place.proofs.Causing.{log_why}
 use Rattle.gin_place.proofs.Exits.{on_ok, on_err, if_err}
 use Rattle.gin_place.proofs.Dividing.{split_may_log}
-use Rattle.gin_place.proofs.SplitCauses.{split_why}
+use Rattle.gin_place.proofs.SplitCauses.{split_why, split_fault}
+use Rattle.gin_place.specs.Faults.{MetNoFault, FaultBy}
+use Rattle.gin_place.proofs.Faults.{calm_fine, fine_then, told_then}
 use Rattle.gin_place.proofs.splitting.split_page.Goals as goal
 
 pub log_three-requires : goal.log_three-requires
@@ -44,16 +46,16 @@ returns-in-Ok-clause-refused g c =
     c.hold_three.new.pass c.log_three.new.pass c.hold_three.ensures.reads r) c.log_three.ensures.refused
 
 pub returns-in-Ok-clause-cause : goal.returns-in-Ok-clause-cause
-returns-in-Ok-clause-cause g c =
+returns-in-Ok-clause-cause g c = λ other.
     if_err c.log_three.result
     (λ e. CannotLog g.D.Disk c.log_three.new.frames e c.hold_three.new.frames c.hold_three.new.pass)
-    (λ e. Meets g.D.Disk c.args.frames.now c.args.pass.now
+    (λ e. Finds g.D.Disk c.args.frames.now c.args.pass.now
     (IsWhy g.D.Disk (IsBadRoom c.args.parent c.args.page) (λ f. ⊥) c.log_three.new.frames e))
     (λ e why. (
       c.hold_three.new.frames,
       c.hold_three.new.pass,
-      [],
       c.hold_three.ensures.reads.works,
+      c.in_ok-three.ensures.fine,
       log_why g.D.Disk (IsBadRoom c.args.parent c.args.page) (λ f. ⊥) c.log_three.new.frames e c.hold_three.new.frames
           c.hold_three.new.pass why,
     )) c.log_three.ensures.cause
@@ -64,8 +66,38 @@ returns-in-Err-clause-refused g c =
     c.hold_three.new.pass c.give_back.new.pass c.hold_three.ensures.reads c.give_back.ensures.reads
 
 pub returns-in-Err-clause-cause : goal.returns-in-Err-clause-cause
-returns-in-Err-clause-cause g c =
+returns-in-Err-clause-cause g c = λ other.
     let t = c.in_ok-three.three in
     split_why g.D.Disk c.args.frames.now c.args.pass.now c.give_back.new.frames c.args.parent c.args.page t.page
     t.parent
-    c.requires.pass c.in_ok-three.ensures.numbers c.in_ok-three.ensures.lies c.in-Err.error c.in-Err.ensures.cause
+    c.requires.pass c.in_ok-three.ensures.numbers c.in_ok-three.ensures.lies other c.in-Err.error
+    c.in-Err.ensures.cause
+
+pub returns-in-Ok-clause-took : goal.returns-in-Ok-clause-took
+returns-in-Ok-clause-took g c =
+    let t = c.in_ok-three.three in
+    on_ok c.log_three.result (LogsStep g.D.Disk c.hold_three.new.frames c.hold_three.new.pass
+    (t.new ∷ t.page ∷ t.parent ∷ []) c.in-Ok.step c.log_three.new.frames c.log_three.new.pass)
+    (HadPage g.D.Disk c.args.frames.now c.args.pass.now) (λ l. c.in_ok-three.ensures.took) c.log_three.ensures.logged
+
+pub returns-in-Ok-clause-fine : goal.returns-in-Ok-clause-fine
+returns-in-Ok-clause-fine g c =
+    on_ok c.log_three.result (MetNoFault g.D.Disk c.hold_three.new.frames c.log_three.new.frames)
+    (MetNoFault g.D.Disk c.args.frames.now c.log_three.new.frames)
+    (fine_then g.D.Disk c.args.frames.now c.hold_three.new.frames c.log_three.new.frames c.in_ok-three.ensures.fine)
+    c.log_three.ensures.fine
+
+pub returns-in-Ok-clause-fault : goal.returns-in-Ok-clause-fault
+returns-in-Ok-clause-fault g c =
+    if_err c.log_three.result (λ e. FaultBy g.D.Disk c.hold_three.new.frames c.log_three.new.frames e)
+    (λ e. FaultBy g.D.Disk c.args.frames.now c.log_three.new.frames e)
+    (λ e told. told_then g.D.Disk c.args.frames.now c.hold_three.new.frames c.log_three.new.frames e
+    c.in_ok-three.ensures.fine told) c.log_three.ensures.fault
+
+pub returns-in-Err-clause-fault : goal.returns-in-Err-clause-fault
+returns-in-Err-clause-fault g c =
+    let t = c.in_ok-three.three in
+    split_fault g.D.Disk c.args.frames.now c.give_back.new.frames t.page t.parent c.in-Err.error
+    (fine_then g.D.Disk c.args.frames.now c.hold_three.new.frames c.give_back.new.frames c.in_ok-three.ensures.fine
+    (calm_fine g.D.Disk c.hold_three.new.frames c.give_back.new.frames c.give_back.ensures.calm))
+    c.in-Err.ensures.cause

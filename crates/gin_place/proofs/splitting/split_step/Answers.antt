@@ -50,6 +50,7 @@ returns-in_default-2-clause-cause g c =
     let off2 = subst (λ (m : List ℕ). CanTake t.page.page m c.page-2.result.now → ⊥) c.upper.ensures off1 in
     inr (inr (
       ap BadPage c.number-above.ensures.value,
+      subst IsPage c.page.ensures.value c.page.ensures.is_page,
       subst IsPage c.page-2.ensures.value c.page-2.ensures.is_page,
       c.number-new_number.result,
       c.in-Some.left,

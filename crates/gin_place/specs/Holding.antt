@@ -8,7 +8,8 @@ use Rattle.buffer_frames.specs.Frames.{FramesValue}
 use Rattle.buffer_frames.specs.Passes.{IsHolding, Seen}
 use Rattle.buffer_frames.specs.declared.pass.Pass.{Pass}
 use Rattle.gin_place.specs.Going.{KeepsWays, WorksOn}
-use Rattle.gin_place.specs.Placing.{IsLeft}
+use Rattle.gin_place.specs.Overfull.{IsOverfull}
+use Rattle.gin_place.specs.Placing.{IsLeft, IsRoomAbove}
 
 module _ {D : Type 0} (device : Disk D) (f : FramesValue D) (pass : Pass) (f' : FramesValue D) (pass' : Pass) where
   -- nothing is logged, and all that was found is so still
@@ -16,6 +17,9 @@ module _ {D : Type 0} (device : Disk D) (f : FramesValue D) (pass : Pass) (f' : 
     pub works : WorksOn device f pass f' pass' []
     pub ways : KeepsWays device f pass f' pass'
     pub left : (k : Key) (page n : ℕ) → IsLeft device f pass k page n → IsLeft device f' pass' k page n
+    pub over : (k : Key) (items : List ℕ) → IsOverfull device f pass k items → IsOverfull device f' pass' k items
+    pub above : (k : Key) (parent page : ℕ) → IsRoomAbove device f pass k parent page
+        → IsRoomAbove device f' pass' k parent page
 
   -- the same pages are held
   pub record HoldsNoMore : Type 0 where
