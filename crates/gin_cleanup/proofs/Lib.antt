@@ -1,3 +1,4 @@
+mod Tests
 mod RowLists
 mod Growing
 mod Reading
@@ -7,3 +8,24 @@ mod StillRows
 mod Putting
 mod GatheringRows
 mod FirstKeys
+mod LeftGoes
+pub mod Cleaned
+mod Shifted
+mod ShiftSteps
+mod Turning
+mod KeyPlaces
+mod ShiftCauses
+mod FirstHeld
+mod Shifts
+pub mod ListKept
+mod StillLeft
+mod Cleanings
+mod Causes
+mod Noting
+mod PutRows
+mod NextKeys
+mod BadRows
+mod Ending
+mod Noted
+mod Saying
+mod Nearer

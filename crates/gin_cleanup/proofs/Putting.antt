@@ -1,6 +1,6 @@
 -- An item that is put under a key, in a map of keys.
-use Rattle.std.proofs.Common.{◌≡◌, ◌⊎◌, ℕ, Bool, true, false, cond, List, [], ◌∷◌, ◌++◌, Some, None, refl, sym, ap}
-use Rattle.std.proofs.Common.{subst, ◌∙◌, inl, inr}
+use Rattle.std.proofs.Common.{◌≡◌, ◌≢◌, ◌⊎◌, ℕ, Bool, true, false, cond, List, [], ◌∷◌, ◌++◌, Some, None, refl, sym}
+use Rattle.std.proofs.Common.{ap, subst, ◌∙◌, inl, inr}
 use Rattle.std.specs.Prelude.{Vec}
 use Rattle.std.specs.Map.{lookup, set_value}
 use Rattle.std.specs.BTreeMap.{insert_entry}
@@ -11,7 +11,7 @@ use Rattle.std.specs.declared.cmp.Ordering.TheVariants.{Less, Equal, Greater}
 use Rattle.ts_base.specs.Keys.{Key}
 use Rattle.core_state.specs.Log.{In}
 use Rattle.core_state.proofs.PageLists.{in_front, in_back, in_either}
-use Rattle.gin_cleanup.specs.Gathered.{Has, shown}
+use Rattle.gin_cleanup.specs.Gathered.{Has, HaveItems, shown}
 
 abbrev Bytes : Type 0
 Bytes = Vec ℕ Global
@@ -143,3 +143,39 @@ module _ (cmp : Bytes → Bytes → Ordering) (key : Bytes) (new : Numbers) (k :
         | inr w ↦ let r = again l (inl (a.0, w, a.2, a.3)) in (r.0, inr r.1, r.2, r.3)
       ]
       by Greater again l (inr b) = let r = again l (inr b) in (r.0, inr r.1, r.2, r.3)
+
+-- no key is without an item
+pub none_empty : (test : Bytes → Bool) (old : Numbers) (es : List (Bytes × Numbers)) → lookup test es ≡ Some old
+    → HaveItems (shown es) → old.items ≢ []
+none_empty test old [] l all = absurd (cc (l))
+none_empty test old (e ∷ es) l all = by (test e.0) (λ g. none_empty test old es g all.1) l
+  where
+    by : (b : Bool) → (lookup test es ≡ Some old → old.items ≢ []) → cond b (Some e.1) (lookup test es) ≡ Some old
+        → old.items ≢ []
+    by true again l = let first : e.1 ≡ old = cc (l) in subst (λ (v : Numbers). v.items ≢ []) first all.0
+    by false again l = again l
+
+pub set_some : (test : Bytes → Bool) (new : Numbers) → new.items ≢ [] → (es : List (Bytes × Numbers))
+    → HaveItems (shown es) → HaveItems (shown (set_value test es new))
+set_some test new some [] all = tt
+set_some test new some (e ∷ es) all = by (test e.0) (set_some test new some es all.1)
+  where
+    by : (b : Bool) → HaveItems (shown (set_value test es new))
+        → HaveItems (shown (cond b ((e.0, new) ∷ es) (e ∷ set_value test es new)))
+    by true then = (some, all.1)
+    by false then = (all.0, then)
+
+pub insert_some : (cmp : Bytes → Bytes → Ordering) (key : Bytes) (new : Numbers) → new.items ≢ []
+    → (es : List (Bytes × Numbers)) → HaveItems (shown es) → HaveItems (shown (insert_entry cmp es key new))
+insert_some cmp key new some [] all = (some, tt)
+insert_some cmp key new some (e ∷ es) all = by (cmp key e.0) (insert_some cmp key new some es all.1)
+  where
+    by : (r : Ordering) → HaveItems (shown (insert_entry cmp es key new))
+        → HaveItems (shown (match_ordering r ((key, new) ∷ e ∷ es) ((e.0, new) ∷ es) (e ∷ insert_entry cmp es key new)))
+    by Less then = (some, all)
+    by Equal then = (some, all.1)
+    by Greater then = (all.0, then)
+
+pub more_some : (xs : List ℕ) (y : ℕ) → xs ++ y ∷ [] ≢ []
+more_some [] y e = absurd (cc)
+more_some (x ∷ xs) y e = absurd (cc)

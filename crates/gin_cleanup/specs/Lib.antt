@@ -3,3 +3,7 @@ pub mod Batches
 pub mod NextPage
 pub mod Still
 pub mod Gathered
+pub mod Cleaning
+pub mod Measure
+pub mod Going
+pub mod Inner

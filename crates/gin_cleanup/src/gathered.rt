@@ -1,5 +1,5 @@
 // The keys of rows that were read, each with its items.
-ghost use Rattle.std.specs.Prelude.{◌≡◌, ◌↔◌, ◌⊎◌, ℕ, [], OnOk, OnErr, IfSome, IfNone};
+ghost use Rattle.std.specs.Prelude.{◌≡◌, ◌↔◌, ◌⊎◌, ◌^◌, ◌<◌, ℕ, [], length, OnOk, OnErr, IfSome, IfNone};
 ghost use Rattle.std.specs.List.Sorted.{IsStrictlyIncreasing};
 ghost use Rattle.ts_base.specs.Keys.{Key};
 ghost use Rattle.page_types.specs.Parts.{row_shown};
@@ -12,18 +12,20 @@ use std::alloc::{AllocError, Global};
 use std::collections::BTreeMap;
 use std::marker::Model;
 
-/// Keys, each with items. Contracts see them as the list of these.
+/// Keys, each with one item or more. Contracts see them as the list of these.
 #[derive(Drop)]
 pub struct Gathered {
     keys: BTreeMap<Vec<u8>, Vec<u32>>,
 }
 
 impl Model for Gathered {
-    ghost use Rattle.gin_cleanup.specs.Gathered.{KeyItems, shown};
+    ghost use Rattle.gin_cleanup.specs.Gathered.{KeyItems, shown, HaveItems};
 
     ghost Value = { KeyItems };
 
     ghost view = { λ g. shown g.keys.entries };
+
+    ghost invariant = { λ g. HaveItems (shown g.keys.entries) };
 }
 
 impl Gathered {
@@ -84,7 +86,10 @@ impl Gathered {
     pub fn take_first(&mut self) -> Option<(Vec<u8>, Vec<u32>)>
         ensures some { IfSome result (λ p. GivesFirst self.old p.0.items p.1.items self.new) }
         ensures none { IfNone result ((self.old ≡ []) × (self.new ≡ [])) }
+        ensures few { length self.new < 2 ^ 63 }
     {
+        // Read for the clause `few`: a map counts fewer.
+        let _count = self.keys.len();
         let (key, items) = self.keys.pop_first()?;
         Some((key, in_order(items)))
     }

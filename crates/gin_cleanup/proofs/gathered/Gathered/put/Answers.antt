@@ -1,4 +1,4 @@
-use Rattle.std.proofs.Common.{◌≡◌, ◌⊎◌, ◌++◌, ◌∷◌, [], ℕ, true, List, None, Some, nat_cmp, sym}
+use Rattle.std.proofs.Common.{◌≡◌, ◌≢◌, ◌⊎◌, ◌++◌, ◌∷◌, [], ℕ, true, List, None, Some, nat_cmp, sym}
 use Rattle.std.proofs.Common.{ap, subst, ◌∙◌, inl, inr}
 use Rattle.std.proofs.lemmas.List.{append-nil}
 use Rattle.std.proofs.lemmas.Map.Text.{is_eq-slice_cmp}
@@ -10,8 +10,9 @@ use Rattle.std.specs.Ordering.{is_eq}
 use Rattle.std.specs.declared.alloc.Global.{Global}
 use Rattle.ts_base.specs.Keys.{Key}
 use Rattle.core_state.specs.Log.{In}
-use Rattle.gin_cleanup.specs.Gathered.{Has, KeyItems, shown}
+use Rattle.gin_cleanup.specs.Gathered.{Has, HaveItems, KeyItems, shown}
 use Rattle.gin_cleanup.proofs.Putting.{set_told, set_back, come_told, come_back}
+use Rattle.gin_cleanup.proofs.Putting.{none_empty, set_some, insert_some, more_some}
 use Rattle.gin_cleanup.proofs.gathered.Gathered.put.Goals as goal
 
 -- the key that a query finds
@@ -99,3 +100,39 @@ returns-clause-ok c =
         | inr b ↦ inr (b.0 ∙ sym copy_is, subst (In i) (sym new_is) (inl b.1))
       ])),
     )
+
+pub invariant_of-self : goal.invariant_of-self
+invariant_of-self c =
+    let key = c.args.key.now in
+    let test = λ (v : Vec ℕ Global). is_eq (slice_cmp nat_cmp key v.items) in
+    let new = c.push.new.self in
+    let es = c.self.inside.keys.entries in
+    let same : new.items ≡ c.in-Some.items.now.items = c.in_err-push.ensures.items in
+    let some : new.items ≢ [] = subst (λ (xs : List ℕ). xs ≢ []) (sym same)
+    (none_empty test c.in-Some.items.now es (sym c.in-Some.ensures.value) c.self.invariant) in
+    subst (λ x. HaveItems (shown x)) (sym (c.get_mut.follows.holds new).0) (set_some test new some es c.self.invariant)
+
+pub invariant_of-self-in-Some : goal.invariant_of-self-in-Some
+invariant_of-self-in-Some c =
+    let key = c.args.key.now in
+    let test = λ (v : Vec ℕ Global). is_eq (slice_cmp nat_cmp key v.items) in
+    let new = c.push.new.self in
+    let es = c.self.inside.keys.entries in
+    let more : new.items ≡ c.in-Some.items.now.items ++ c.args.item ∷ [] = c.in_ok-push.ensures.items in
+    let some : new.items ≢ [] = subst (λ (xs : List ℕ). xs ≢ []) (sym more)
+    (more_some c.in-Some.items.now.items c.args.item) in
+    subst (λ x. HaveItems (shown x)) (sym (c.get_mut.follows.holds new).0) (set_some test new some es c.self.invariant)
+
+pub invariant_of-self-2 : goal.invariant_of-self-2
+invariant_of-self-2 c =
+    let cmp = λ (x y : Vec ℕ Global). slice_cmp nat_cmp x.items y.items in
+    let copy = c.extend_from_slice.new.self in
+    let new = c.push-2.new.self in
+    let es = c.self.inside.keys.entries in
+    let more : new.items ≡ c.new-items.result.items ++ c.args.item ∷ [] = c.in_ok-push-2.ensures.items in
+    let some : new.items ≢ [] = subst (λ (xs : List ℕ). xs ≢ []) (sym more)
+    (more_some c.new-items.result.items c.args.item) in
+    let same = ap (λ m. m.entries) c.get_mut.follows.holds-at-none in
+    let entries : c.insert.new.self.entries ≡ insert_entry cmp es copy new =
+    c.in_ok-insert.ensures.entries ∙ ap (λ x. insert_entry cmp x copy new) same in
+    subst (λ x. HaveItems (shown x)) (sym entries) (insert_some cmp copy new some es c.self.invariant)

@@ -1,0 +1,124 @@
+-- Where a cleanup is after a step of the key that is placed.
+use Rattle.std.proofs.Common.{◌≡◌, ℕ, List, [], refl, sym, subst, arith}
+use Rattle.std.specs.Prelude.{Vec, Bool, Result}
+use Rattle.std.specs.declared.alloc.Global.{Global}
+use Rattle.disk_trait.specs.declared.device.Disk.{Ghosts as Disk}
+use Rattle.core_state.specs.Log.{In}
+use Rattle.core_state.specs.Allowed.{Sheet}
+use Rattle.core_state.proofs.PageLists.{in_back}
+use Rattle.core_maintenance.specs.Keeping.{PairsHold, LineHolds}
+use Rattle.core_maintenance.specs.FreshRows.{FreshHolds}
+use Rattle.buffer_frames.specs.Frames.{FramesValue}
+use Rattle.buffer_frames.specs.Passes.{IsPassOf, IsHolding}
+use Rattle.buffer_frames.specs.declared.pass.Pass.{Pass}
+use Rattle.buffer_frames.proofs.AtHand.{none_held}
+use Rattle.gin_place.specs.Causes.{Finds, HasLong, IsBad, IsWhy}
+use Rattle.gin_place.specs.Going.{WorksOn}
+use Rattle.gin_place.specs.Placing.{HasRight, ArePending, ArePlaced, IsPlacing, IsAt as IsKeyIn}
+use Rattle.gin_place.specs.Stepping.{HasStepped}
+use Rattle.gin_place.specs.declared.error.PlaceError.{PlaceError}
+use Rattle.gin_place.specs.declared.placing.Placing.{Placing}
+use Rattle.gin_place.specs.declared.placing.Stage.TheVariants as way
+use Rattle.gin_place.proofs.Causing.{finds_as, why_as}
+use Rattle.gin_cleanup.specs.Cleaning.{waits_under, waits_in, waits_of, IsAt, AreGone, IsKeyAt, AreLeft, IsCleaning}
+use Rattle.gin_cleanup.specs.Gathering.{Wait, wait}
+use Rattle.gin_cleanup.specs.Going.{IsBadList, HasLongAt, IsCause}
+use Rattle.gin_cleanup.specs.Inner.Between.{HasNext}
+use Rattle.gin_cleanup.specs.declared.cleanup.Cleanup.{Cleanup}
+use Rattle.gin_cleanup.specs.declared.cleanup.Stage.{Stage}
+use Rattle.gin_cleanup.specs.declared.cleanup.Stage.TheVariants as stage
+use Rattle.gin_cleanup.proofs.Causes.{why_cause}
+use Rattle.gin_cleanup.proofs.Cleanings.{not_empty}
+use Rattle.gin_cleanup.proofs.Growing.{batch_grows}
+use Rattle.gin_cleanup.proofs.ListKept.{carried, carried_by}
+use Rattle.gin_cleanup.proofs.NextKeys.{key_placed, next_cleaning}
+use Rattle.gin_cleanup.proofs.Noting.{has_under}
+use Rattle.gin_cleanup.proofs.StillLeft.{left_grows}
+
+module _ {D : Type 0} (device : Disk D) (line : LineHolds) (fresh : FreshHolds) (pairs : PairsHold)
+    (f g : FramesValue D) (p q : Pass) (ks : List ℕ) (held : List Sheet) (hold : IsHolding device f p held)
+    (of : IsPassOf f p) (right : HasRight p) (works : WorksOn device f p g q ks) (from : ℕ) (c : Cleanup)
+    (key items : Vec ℕ Global) (old new : Placing) (at : c.stage ≡ stage.Placing key items old) where
+  -- the same pairs wait, and the key has gone on
+  pub placed_on : IsPlacing device g q key.items items.items new → IsCleaning device f p from c
+      → IsCleaning device g q from (record c { stage = stage.Placing key items new })
+  placed_on placing x =
+      let W : List Wait = waits_of c.gathered (stage.Placing key items old) in
+      let k = subst (IsKeyAt device f p) at x.placing in
+      let same : (w : Wait) → In w W → In w (waits_of c.gathered c.stage) =
+      λ w. subst (λ (s : Stage). In w (waits_of c.gathered s)) (sym at) in
+      record {
+        began = omega (arith, x.began, (works.rises).seen);
+        at = carried device f g p q ks held hold of right works line fresh pairs
+            (λ P. IsAt P c (stage.Placing key items old))
+            (λ P Q grows new kept b. batch_grows.batch P Q c.left c.counts.items W b grows new kept)
+            (λ t up R stands legal P shown.
+            subst (λ (s : Stage). IsAt P c s) at (x.at t up R stands legal P shown));
+        gone = subst (AreGone c) at x.gone;
+        linked = λ w i. works.pairs.pending w.key w.item (x.linked w (same w i));
+        pairs = λ w i. x.pairs w (same w i);
+        placing = (k.0, k.1, placing);
+        left = carried_by device f g p q ks held hold of right works line fresh pairs
+            (λ S P. AreLeft from S P c.left) (λ S P. AreLeft from S P c.left)
+            (λ C later S P Q is size legal shown_P shown_Q adds grows new kept y.
+            left_grows pairs from C later S P Q is (not_empty p.seen C (omega (arith, of.some)) size) legal shown_P adds
+            (omega (arith, x.began, size)) c.left grows y) x.left;
+      }
+
+-- the items under it have linked rows
+pub rows_pending : {D : Type 0} (device : Disk D) (f : FramesValue D) (p : Pass) (from : ℕ) (c : Cleanup)
+    (key items : Vec ℕ Global) (old : Placing) → c.stage ≡ stage.Placing key items old → IsCleaning device f p from c
+    → ArePending device f p key.items items.items
+rows_pending device f p from c key items old at x i on =
+    x.linked (wait key.items i) (subst (λ (s : Stage). In (wait key.items i) (waits_of c.gathered s)) (sym at)
+    (in_back (wait key.items i) (waits_in c.gathered) (waits_under key.items items.items)
+    (has_under key.items items.items i on)))
+
+-- a refusal of placing is one of the cleanup
+pub place_cause : {D : Type 0} (device : Disk D) (f : FramesValue D) (p : Pass) (key items : Vec ℕ Global)
+    (old : Placing)
+    (s : Stage) → s ≡ stage.Placing key items old → (l : FramesValue D) (e : PlaceError)
+    → Finds device f p (IsWhy device (IsBad device key.items old) (HasLong key.items items.items) l e)
+    → Finds device f p (IsCause device s l e)
+place_cause device f p key items old s is l e =
+    finds_as device f p (IsWhy device (IsBad device key.items old) (HasLong key.items items.items) l e)
+    (IsCause device s l e)
+    (λ g q why. subst (λ (x : Stage). IsCause device x l e g q) (sym is)
+    (why_cause device (stage.Placing key items old) l e g q
+    (why_as device (IsBad device key.items old) (HasLong key.items items.items) (IsBadList device)
+    (HasLongAt (stage.Placing key items old)) l e g q (λ n bad. IsBadList.place key.items (old, bad)) (λ x. x) why)))
+
+-- what a step of placing says, by the key and the items as it was given them
+module _ {D : Type 0} (device : Disk D) (line : LineHolds) (fresh : FreshHolds) (pairs : PairsHold)
+    (f g : FramesValue D) (p q : Pass) (of : IsPassOf f p) (right : HasRight p) (none : p.held ≡ 0) (c : Cleanup)
+    (key items : Vec ℕ Global) (old new : Placing) (at : c.stage ≡ stage.Placing key items old) (k is : List ℕ)
+    (k_is : k ≡ key.items) (is_is : is ≡ items.items) (r : Result Bool PlaceError)
+    (s : HasStepped device f p g q k is old new r) where
+  pub step_on : (from : ℕ) → IsCleaning device f p from c
+      → IsCleaning device g q from (record c { stage = stage.Placing key items new })
+  step_on from =
+      let w = s.works in
+      placed_on device line fresh pairs f g p q w.0 [] (none_held device f p of none) of right w.2 from c key items old
+      new at
+      (subst (λ (x : List ℕ). IsPlacing device g q x items.items new) k_is
+      (subst (λ (x : List ℕ). IsPlacing device g q k x new) is_is s.placing))
+
+  -- after the last one the next key is at work, or none
+  pub next_on : new.stage ≡ way.Done → (then : Cleanup)
+      → HasNext (record c { stage = stage.Placing key items new }) then → (from : ℕ) → IsCleaning device f p from c
+      → IsCleaning device g q from then
+  next_on done then next from was =
+      let placed : ArePlaced device g q k is = subst (IsKeyIn device g q k is) done (s.placing).0 in
+      next_cleaning device g q from (record c { stage = stage.Placing key items new }) then
+      (key_placed device g q from (record c { stage = stage.Placing key items new }) key items new refl
+      (step_on from was)
+      (subst (λ (x : List ℕ). ArePlaced device g q x items.items) k_is
+      (subst (λ (x : List ℕ). ArePlaced device g q k x) is_is placed))) next
+
+  pub step_cause : (l : FramesValue D) (e : PlaceError)
+      → Finds device f p (IsWhy device (IsBad device k old) (HasLong k is) l e)
+      → Finds device f p (IsCause device c.stage l e)
+  step_cause l e m =
+      place_cause device f p key items old c.stage at l e
+      (subst (λ (x : List ℕ). Finds device f p (IsWhy device (IsBad device x old) (HasLong x items.items) l e)) k_is
+      (subst (λ (x : List ℕ). Finds device f p (IsWhy device (IsBad device k old) (HasLong k x) l e)) is_is m))

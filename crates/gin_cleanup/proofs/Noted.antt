@@ -1,0 +1,126 @@
+-- Where a cleanup is once a page was read, or was not.
+use Rattle.std.proofs.Common.{◌≡◌, ◌≤◌, ◌∷◌, ℕ, List, [], length, refl, sym, ap, subst, ◌∙◌, arith}
+use Rattle.std.specs.Prelude.{◌<◌, ◌↔◌, Vec, Bool, true, false, Result, Ok, ⊤}
+use Rattle.std.specs.List.{AllByRecursion}
+use Rattle.std.specs.declared.alloc.AllocError.{AllocError}
+use Rattle.std.specs.declared.alloc.Global.{Global}
+use Rattle.disk_trait.specs.declared.device.Disk.{Ghosts as Disk}
+use Rattle.page_types.specs.Pages.{IsPage, IsRow, IsBody}
+use Rattle.page_types.specs.Views.{rows_in, rows_of}
+use Rattle.page_types.specs.declared.page.Page.{Page}
+use Rattle.page_types.specs.declared.page.Row.{Row}
+use Rattle.page_types.specs.declared.page.Body.TheVariants as body
+use Rattle.core_state.specs.Log.{In}
+use Rattle.core_state.specs.Allowed.{Sheet}
+use Rattle.core_state.specs.PagesTold.{PagesHold}
+use Rattle.core_state.proofs.Trees.Members.{in_middle}
+use Rattle.core_maintenance.specs.Keeping.{PairsHold, LineHolds}
+use Rattle.core_maintenance.specs.FreshRows.{FreshHolds}
+use Rattle.buffer_frames.specs.Frames.{FramesValue}
+use Rattle.buffer_frames.specs.Passes.{IsPassOf, IsHolding, Seen}
+use Rattle.buffer_frames.specs.declared.pass.Pass.{Pass}
+use Rattle.buffer_frames.proofs.AtHand.{none_held}
+use Rattle.gin_place.specs.Placing.{HasRight}
+use Rattle.gin_place.specs.Holding.{ReadsOn}
+use Rattle.gin_place.specs.Causes.{Finds, CannotUse, CannotHold}
+use Rattle.gin_place.specs.declared.error.PlaceError.{PlaceError}
+use Rattle.gin_place.specs.declared.error.PlaceError.TheVariants.{StoreFull, LogFull, DiskFault, Down, BadPage}
+use Rattle.gin_place.specs.declared.error.PlaceError.TheVariants.{OutOfMemory}
+use Rattle.gin_place.proofs.Carrying.{right_on}
+use Rattle.gin_place.proofs.Causing.{finds_now, weaker}
+use Rattle.gin_cleanup.specs.Cleaning.{waits_of, IsReadingAt, IsAt, IsCleaning}
+use Rattle.gin_cleanup.specs.Going.{IsRowPage, IsBadList, IsCause}
+use Rattle.gin_cleanup.specs.Inner.Noting.{GoesOnWith, HasNoted}
+use Rattle.gin_cleanup.specs.declared.cleanup.Cleanup.{Cleanup}
+use Rattle.gin_cleanup.specs.declared.cleanup.Stage.{Stage}
+use Rattle.gin_cleanup.specs.declared.cleanup.Stage.TheVariants as stage
+use Rattle.gin_cleanup.proofs.BadRows.{IsOnList}
+use Rattle.gin_cleanup.proofs.Cleanings.{cleaning_still}
+use Rattle.gin_cleanup.proofs.Ending.{before_between}
+use Rattle.gin_cleanup.proofs.NextKeys.{next_cleaning}
+use Rattle.gin_cleanup.proofs.NextPages.{next_is_there}
+use Rattle.gin_cleanup.proofs.Noting.{taken, kept}
+use Rattle.gin_cleanup.proofs.Tests.{not_both}
+
+same_items : (p q : ℕ) (b d : Vec ℕ Global) → stage.Reading p b ≡ stage.Reading q d → b ≡ d
+same_items p q b d e = cc
+
+-- not all pages that are left were read
+pub few_read : (n left : ℕ) (r : Bool) → (r ≡ true) ↔ (left ≤ n) → r ≡ false → n < left
+few_read n left r all off =
+    let none : left ≤ n → ⊥ = λ le. not_both r (all.1 le) off in
+    omega (arith, none)
+
+each_row : (c : Page) (rows : List Row) → IsPage c → c.body ≡ body.Pending rows → AllByRecursion IsRow rows
+each_row c rows page is = subst (IsBody c.right c.stamp) is page.body
+
+module _ {D : Type 0} (device : Disk D) (f : FramesValue D) (p : Pass) (from : ℕ) (old : Cleanup) (page : ℕ)
+    (b : Vec ℕ Global) (at : old.stage ≡ stage.Reading page b) (few : length old.counts.items < old.left)
+    (was : IsCleaning device f p from old) where
+  -- the page that is read next is on the list
+  pub on_list : Seen device f p (λ S P. IsOnList P page)
+  on_list t up R stands legal P shown =
+      let ws = waits_of old.gathered (stage.Reading page b) in
+      let x : IsReadingAt P old.left old.counts.items ws b.items page =
+      subst (λ (s : Stage). IsAt P old s) at (was.at t up R stands legal P shown) in
+      let there = next_is_there P old.left old.counts.items x.0.line b.items page x.1 few in
+      (x.0.line, x.0.is_line, subst (In page) (sym there.2) (in_middle there.0 page there.1))
+
+  -- once it was read, or could not be noted
+  pub noted : PagesHold → (content : Page) → IsPage content → Seen device f p (λ S P. P page ≡ content)
+      → (new : Cleanup) (r : Result Bool AllocError) → HasNoted content old new r → IsCleaning device f p from new
+  noted told content is_page seen new r (HasNoted.bad off same is) = subst (IsCleaning device f p from) (sym same) was
+  noted told content is_page seen new r (HasNoted.ends rows is e next ok) =
+      let items : e.before ≡ b = same_items e.page page e.before b (sym e.stage_is ∙ at) in
+      next_cleaning device f p from old new
+      (before_between device f p from old page b at was told few e.some rows
+      (λ t up R stands legal P shown. ap rows_of (seen t up R stands legal P shown) ∙ ap rows_in is)
+      (λ goes. e.other (subst (λ (v : Vec ℕ Global). GoesOnWith rows v.items) (sym items) goes))) next
+  noted told content is_page seen new r (HasNoted.taken rows is above t ok) =
+      taken device f p from old page b at rows content is (each_row content rows is_page is) above few seen was new t
+  noted told content is_page seen new r (HasNoted.kept rows is above k e err) =
+      kept device f p from old page b at rows content is (each_row content rows is_page is) above few seen was new k
+
+-- only a page that is none of rows of documents is said to be bad
+pub noted_bad : (content : Page) (old new : Cleanup) (r : Result Bool AllocError) → HasNoted content old new r
+    → r ≡ Ok false → IsRowPage content → ⊥
+noted_bad content old new r (HasNoted.bad off same is) e = off
+noted_bad content old new r (HasNoted.ends rows is b next ok) e = absurd (cc)
+noted_bad content old new r (HasNoted.taken rows is above t ok) e = absurd (cc)
+noted_bad content old new r (HasNoted.kept rows is above k w err) e = absurd (cc)
+
+-- why the page is not held
+pub read_cause : {D : Type 0} (device : Disk D) (s : Stage) (f l : FramesValue D) (p : Pass) (page : ℕ) → IsPassOf f p
+    → (CannotUse f IsRowPage page → IsBadList device f p page) → (e : PlaceError)
+    → Finds device f p (CannotHold device page l e)
+    → ((n : ℕ) → e ≡ BadPage n → (n ≡ page) × CannotUse f (λ (c : Page). ⊤) n) → Finds device f p (IsCause device s l e)
+read_cause device s f l p page of bad StoreFull m b = absurd m.4
+read_cause device s f l p page of bad LogFull m b = absurd m.4
+read_cause device s f l p page of bad DiskFault m b = m
+read_cause device s f l p page of bad (Down n) m b = m
+read_cause device s f l p page of bad (BadPage n) m b =
+    let c = b n refl in
+    finds_now device f p (IsCause device s l (BadPage n)) of
+    (subst (IsBadList device f p) (sym c.0)
+    (bad (weaker f IsRowPage page (subst (CannotUse f (λ (x : Page). ⊤)) c.0 c.1))))
+read_cause device s f l p page of bad OutOfMemory m b = (m.0, m.1, m.2, m.3, tt)
+
+-- a page is held and seen, its rows are noted, and it is given back
+module _ {D : Type 0} (device : Disk D) (line : LineHolds) (fresh : FreshHolds) (pairs : PairsHold) (told : PagesHold)
+    (f g h : FramesValue D) (p q r : Pass) (x : Sheet) (of : IsPassOf f p) (right : HasRight p) (none : p.held ≡ 0)
+    (to : ReadsOn device f p g q) (hold : IsHolding device g q (x ∷ [])) (back : ReadsOn device g q h r) (page : ℕ)
+    (number : x.page ≡ page) (seen : Seen device g q (λ S P. P x.page ≡ x.content)) (content : Page)
+    (same : content ≡ x.content) (is_page : IsPage content) where
+  now_seen : Seen device g q (λ S P. P page ≡ content)
+  now_seen t up R stands legal P shown =
+      subst (λ (n : ℕ). P n ≡ content) number (seen t up R stands legal P shown ∙ sym same)
+
+  pub read_noted : (from : ℕ) (old new : Cleanup) (b : Vec ℕ Global) → old.stage ≡ stage.Reading page b
+      → length old.counts.items < old.left → (result : Result Bool AllocError) → HasNoted content old new result
+      → IsCleaning device f p from old → IsCleaning device h r from new
+  read_noted from old new b at few result how was =
+      let then = cleaning_still device line fresh pairs f g p q [] (none_held device f p of none) of right to from old
+      was in
+      let now = noted device g q from old page b at few then told content is_page now_seen new result how in
+      cleaning_still device line fresh pairs g h q r (x ∷ []) hold to.works.is_pass
+      (right_on device f g p q [] right to.works) back from new now

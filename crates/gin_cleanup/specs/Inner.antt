@@ -1,0 +1,4 @@
+-- Words that only private functions and proofs use.
+pub mod Shifting
+pub mod Between
+pub mod Noting
