@@ -1,5 +1,6 @@
 -- A scan that has begun, and the bound on its steps.
-use Rattle.std.specs.Prelude.{Some}
+use Rattle.std.specs.Prelude.{Some, Vec}
+use Rattle.std.specs.declared.alloc.Global.{Global}
 use Rattle.std.proofs.Common.{◌≡◌, ◌≢◌, ℕ, zero, suc, ◌+◌, ◌*◌, ◌<◌, ◌≤◌, List, [], length, replicate, refl, sym, ap}
 use Rattle.std.proofs.Common.{subst, ◌∙◌, Bool, map}
 use Rattle.std.proofs.Common.{arith, All}
@@ -25,6 +26,7 @@ use Rattle.gin_scan.proofs.GoingOn.{kept_pin}
 use Rattle.gin_opclass.specs.Class.{Meaning}
 use Rattle.gin_opclass.specs.declared.QueryKeys.{QueryKeys}
 use Rattle.gin_scan.specs.Rows.{asked_by, lists_of}
+use Rattle.gin_scan.specs.Ways.{AreOrdered, asked_at}
 use Rattle.gin_scan.specs.Reading.{IsNoHit, IsUnread}
 use Rattle.gin_scan.specs.Reaching.{IsReached}
 use Rattle.gin_scan.specs.Scanning.{IsWithin, IsScanning, Scanning, HasRead, IsScanOf, asked_in}
@@ -91,13 +93,16 @@ count_lists n h e =
     sym (length-map h.by_key.items (λ v. v.items)) ∙ ap length e ∙ length-replicate {A = List ℕ} n []
 
 -- a new scan has begun
-pub is_begun : {D : Type 0} (f : FramesValue D) (s : ScanCore) (keys : QueryKeys) (extent : ℕ) (pending main : Hits)
-    → IsNewScan keys extent pending main s → pending.any.items ≡ []
+pub is_begun : {D : Type 0} (f : FramesValue D) (s : ScanCore) (keys : QueryKeys) (order : Vec ℕ Global) (extent : ℕ)
+    (pending main : Hits) → IsNewScan keys order extent pending main s
+    → AreOrdered (map asked_by keys.keys.items) (map (asked_at keys.keys.items) order.items) → pending.any.items ≡ []
     → lists_of pending ≡ replicate (length keys.keys.items) [] → main.any.items ≡ []
     → lists_of main ≡ replicate (length keys.keys.items) [] → IsLeast (AreBelow f.journal.state) extent
     → IsBegun f keys s
-is_begun f s keys extent pending main new any lists any' lists' least = record {
+is_begun f s keys order extent pending main new ordered any lists any' lists' least = record {
   keys_are = new.keys_are;
+  ordered = subst (λ (o : Vec ℕ Global). AreOrdered (map asked_by keys.keys.items)
+      (map (asked_at keys.keys.items) o.items)) (sym new.order_is) ordered;
   extent_is = subst (IsLeast (AreBelow f.journal.state)) (sym new.extent_is) least;
   stage_is = new.stage_is;
   pending = ap lists_of new.pending_is ∙ lists;
@@ -112,16 +117,17 @@ pub begun_with : {D : Type 0} (f f' : FramesValue D) (keys : QueryKeys) (s : Sca
     → IsBegun f' keys (record s { snapshot = snapshot; took_pin = took })
 begun_with {D} f f' keys s snapshot took same b = record {
   keys_are = b.keys_are;
+  ordered = b.ordered;
   extent_is = subst (λ (j : JournalValue D). IsLeast (AreBelow j.state) s.extent) (sym same) b.extent_is;
   stage_is = b.stage_is;
   pending = b.pending;
   main = b.main;
   unread = record {
     pending = b.unread.pending;
+    main = b.unread.main;
     not_begun = b.unread.not_begun;
     first = b.unread.first;
     unjudged = record {
-      main = b.unread.unjudged.main;
       kept = b.unread.unjudged.kept;
       long = b.unread.unjudged.long;
       names = b.unread.unjudged.names;
@@ -135,7 +141,7 @@ module _ {D : Type 0} (f : FramesValue D) (keys : QueryKeys) (s : ScanCore) (b :
   -- it is one of each log of the frames
   pub begun : {Q : Type 0} (device : Disk D) (M : Meaning Q) (q : Q) (pass : Pass) → IsPassOf f pass
       → Scanning device M q f pass s
-  begun device M q pass of told up R stands legal leaves pin e =
+  begun device M q pass of told up R stands legal pin e =
       begun_scan M q R pin s (kept_pin device f pass R pin of told up stands legal e) b.stage_is b.unread
       (λ P p shown used. below_extent device f R s.extent stands legal b.extent_is P p shown used)
 
@@ -164,6 +170,8 @@ module _ {D : Type 0} (f : FramesValue D) (keys : QueryKeys) (s : ScanCore) (b :
         is_pass = of;
         held = none;
         is_scan = record {
+          ordered = subst (λ (k : QueryKeys). AreOrdered (map asked_by k.keys.items)
+              (map (asked_at k.keys.items) s.order.items)) (sym b.keys_are) b.ordered;
           pending = count_lists n s.pending b.pending ∙ sym same;
           main = count_lists n s.main b.main ∙ sym same;
           within = subst (IsWithin s) (sym b.stage_is) tt;

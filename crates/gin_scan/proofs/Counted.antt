@@ -3,7 +3,7 @@ use Rattle.std.proofs.Common.{◌≡◌, ℕ, suc, ◌+◌, ◌-◌, ◌*◌, �
 use Rattle.std.proofs.Common.{arith}
 use Rattle.ts_base.specs.Vectors.{Vector}
 use Rattle.buffer_frames.specs.Passes.{holds_after}
-use Rattle.gin_scan.specs.Counting.{IsBounded, CountsOn}
+use Rattle.gin_scan.specs.Counting.{IsBounded, CountsOn, most_on_ways}
 use Rattle.gin_scan.specs.Inner.Parts.{BeginsLong, AddedIf, AddsIfTold}
 use Rattle.gin_scan.specs.declared.scan_core.ScanCore.{ScanCore}
 use Rattle.gin_scan.specs.declared.stage.LongVector.{LongVector}
@@ -55,36 +55,35 @@ further_counted s new page extent holds holds' at more same one =
     let are : holds' + (extent - s.extent) ≤ before + suc extent = omega (arith, were, one, more) in
     subst (λ (z : ScanCore). IsBounded before z holds' z.stage) (sym same) are)
 
--- all items were judged
-pub judged_counted : (s new : ScanCore) (page left holds : ℕ) → s.stage ≡ stage.Pending page left
-    → new.extent ≡ s.extent → (before : ℕ) → IsBounded before s holds s.stage
-    → IsBounded before new holds (stage.Heads 0)
-judged_counted s new page left holds at extent before had =
-    let were : holds + left ≤ before + suc s.extent = subst (IsBounded before s holds) at had in
-    let are : holds ≤ before + suc new.extent + 0 = omega (arith, were, extent) in
-    are
-
 -- a page of heads was read
 pub heads_counted : (s new : ScanCore) (at end holds holds' : ℕ) → s.stage ≡ stage.Heads at
-    → new.extent ≡ s.extent → at < end → holds' ≤ suc holds → (before : ℕ)
+    → new.extent ≡ s.extent → most_on_ways new ≡ most_on_ways s → at < end → holds' ≤ suc holds → (before : ℕ)
     → IsBounded before s holds s.stage → IsBounded before new holds' (stage.Heads end)
-heads_counted s new at end holds holds' is extent less one before had =
-    let were : holds ≤ before + suc s.extent + at = subst (IsBounded before s holds) is had in
-    let are : holds' ≤ before + suc new.extent + end = omega (arith, were, one, extent, less) in
+heads_counted s new at end holds holds' is extent ways less one before had =
+    let were : holds ≤ before + suc s.extent + most_on_ways s + at = subst (IsBounded before s holds) is had in
+    let are : holds' ≤ before + suc new.extent + most_on_ways new + end = omega (
+      arith,
+      were,
+      one,
+      extent,
+      ways,
+      less,
+    ) in
     are
 
 -- a vector is next, or none is left
 pub long_counted : (s new : ScanCore) (at holds before : ℕ) → BeginsLong s at new → at ≤ length s.long.items
-    → holds ≤ before + suc s.extent + length s.kept.items + at * s.extent → IsBounded before new holds new.stage
+    → holds ≤ before + suc s.extent + most_on_ways s + length s.kept.items + at * s.extent
+    → IsBounded before new holds new.stage
 long_counted s new at holds before begins within were = elim begins [
   | BeginsLong.next l there below empty same ↦
-      let are : holds + s.extent ≤ before + suc s.extent + length s.kept.items + suc at * s.extent =
+      let are : holds + s.extent ≤ before + suc s.extent + most_on_ways s + length s.kept.items + suc at * s.extent =
       omega (arith, were) in
       subst (λ (z : ScanCore). IsBounded before z holds z.stage) (sym same) are
   | BeginsLong.end all moved ordered same ↦
       let one : at ≡ length s.long.items = omega (arith, all, within) in
-      let are : holds ≤ before + suc s.extent + length s.kept.items + length s.long.items * s.extent =
-      subst (λ (n : ℕ). holds ≤ before + suc s.extent + length s.kept.items + n * s.extent) one were in
+      let are : holds ≤ before + suc s.extent + most_on_ways s + length s.kept.items + length s.long.items * s.extent =
+      subst (λ (n : ℕ). holds ≤ before + suc s.extent + most_on_ways s + length s.kept.items + n * s.extent) one were in
       subst (λ (z : ScanCore). IsBounded before z holds z.stage) (sym same) are
 ]
 
@@ -97,23 +96,26 @@ pub ended_counted : (s new : ScanCore) (at holds : ℕ) → s.stage ≡ stage.He
     → BeginsLong s 0 new → CountsOn s holds new holds
 ended_counted s new at holds is within begins =
     counts_by s new holds holds (λ before had. omega (arith, had, begun_pages s new 0 begins)) (λ before had.
-    let were : holds ≤ before + suc s.extent + at = subst (IsBounded before s holds) is had in
-    let are : holds ≤ before + suc s.extent + length s.kept.items + 0 * s.extent = omega (arith, were, within) in
+    let were : holds ≤ before + suc s.extent + most_on_ways s + at = subst (IsBounded before s holds) is had in
+    let are : holds ≤ before + suc s.extent + most_on_ways s + length s.kept.items + 0 * s.extent =
+    omega (arith, were, within) in
     long_counted s new 0 holds before begins (omega arith) are)
 
 -- a part of a vector was read
 pub part_counted : (s new : ScanCore) (at page next left holds holds' : ℕ)
-    → s.stage ≡ stage.Parts at page left → new.extent ≡ s.extent → new.kept ≡ s.kept → (left ≡ 0 → ⊥)
+    → s.stage ≡ stage.Parts at page left → new.extent ≡ s.extent → most_on_ways new ≡ most_on_ways s
+    → new.kept ≡ s.kept → (left ≡ 0 → ⊥)
     → holds' ≤ suc holds → (before : ℕ) → IsBounded before s holds s.stage
     → IsBounded before new holds' (stage.Parts at next (left - 1))
-part_counted s new at page next left holds holds' is extent kept some one before had =
-    let were : holds + left ≤ before + suc s.extent + length s.kept.items + suc at * s.extent =
+part_counted s new at page next left holds holds' is extent ways kept some one before had =
+    let were : holds + left ≤ before + suc s.extent + most_on_ways s + length s.kept.items + suc at * s.extent =
     subst (IsBounded before s holds) is had in
-    let are : holds' + (left - 1) ≤ before + suc s.extent + length s.kept.items + suc at * s.extent =
-    omega (arith, were, one, some) in
-    let kept_is : holds' + (left - 1) ≤ before + suc s.extent + length new.kept.items + suc at * s.extent =
-    subst (λ ks. holds' + (left - 1) ≤ before + suc s.extent + length ks.items + suc at * s.extent) (sym kept) are in
-    subst (λ (n : ℕ). holds' + (left - 1) ≤ before + suc n + length new.kept.items + suc at * n) (sym extent) kept_is
+    let count : length new.kept.items ≡ length s.kept.items = ap (λ ks. length ks.items) kept in
+    let chains : suc at * new.extent ≡ suc at * s.extent = ap (λ (n : ℕ). suc at * n) extent in
+    let are : holds' + (left - 1)
+    ≤ before + suc new.extent + most_on_ways new + length new.kept.items + suc at * new.extent =
+    omega (arith, were, one, some, extent, ways, count, chains) in
+    are
 
 -- a vector was matched
 same_names : (s mid : ScanCore) (l : LongVector) (b : Bool) → AddedIf s l b mid
@@ -127,13 +129,15 @@ pub match_counted : (P : Vector → Type 0) (s mid new : ScanCore) (at next page
 match_counted P s mid new at next page left holds is after within adds begins =
     let old = ap (λ (z : ScanCore). z.pages_read) (same_names s mid adds.waits adds.answer adds.added) in
     counts_by s new holds holds (λ before had. omega (arith, had, old, begun_pages mid new next begins)) (λ before had.
-    let were : holds + left ≤ before + suc s.extent + length s.kept.items + suc at * s.extent =
+    let were : holds + left ≤ before + suc s.extent + most_on_ways s + length s.kept.items + suc at * s.extent =
     subst (IsBounded before s holds) is had in
-    let are : holds ≤ before + suc s.extent + length s.kept.items + suc at * s.extent = omega (arith, were) in
+    let are : holds ≤ before + suc s.extent + most_on_ways s + length s.kept.items + suc at * s.extent = omega
+    (arith, were) in
     let same = same_names s mid adds.waits adds.answer adds.added in
     let r : (suc at ≤ length mid.long.items)
-    × (holds ≤ before + suc mid.extent + length mid.kept.items + suc at * mid.extent) =
+    × (holds ≤ before + suc mid.extent + most_on_ways mid + length mid.kept.items + suc at * mid.extent) =
     subst (λ (z : ScanCore). (suc at ≤ length z.long.items)
-    × (holds ≤ before + suc z.extent + length z.kept.items + suc at * z.extent)) (sym same) (within, are) in
+    × (holds ≤ before + suc z.extent + most_on_ways z + length z.kept.items + suc at * z.extent)) (sym same)
+    (within, are) in
     let start = subst (λ (n : ℕ). BeginsLong mid n new) after begins in
     long_counted mid new (suc at) holds before start r.0 r.1)

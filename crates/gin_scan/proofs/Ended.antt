@@ -10,7 +10,6 @@ use Rattle.page_types.specs.declared.page.Name.{Name}
 use Rattle.core_state.specs.Log.{Log}
 use Rattle.core_state.specs.History.{History, docs}
 use Rattle.core_state.specs.Legal.{Pin}
-use Rattle.core_state.specs.Steady.{LeavesIndex}
 use Rattle.core_state.proofs.SnapshotOrder.{apart_rise}
 use Rattle.core_state.proofs.Trees.Members.{in_map}
 use Rattle.gin_opclass.specs.Class.{Meaning, JudgeIsSound}
@@ -88,16 +87,16 @@ pub has_found : {D Q : Type 0} (device : Disk D) (M : Meaning Q) (sound : JudgeI
     (f f' : FramesValue D) (pass : Pass) (s : ScanCore) (found : Found) → IsPassOf f pass
     → HasAdded device f f' [] → IsAtEnd s → Scanning device M q f pass s → found.names ≡ s.names
     → found.heads_read ≡ s.heads_read → found.candidates ≡ length s.kept.items → found.pages_read ≡ s.pages_read
-    → Behind device f' (λ (R : Log). LeavesIndex R → (pin : Pin) → pin_in pass.pin ≡ Some pin
+    → Behind device f' (λ (R : Log). (pin : Pin) → pin_in pass.pin ≡ Some pin
     → HasFound M q R pin found)
 has_found device M sound q f f' pass s found of added end scan names heads count pages told up R' stands legal
-    leaves pin e =
+    pin e =
     let up_old = added.was_up up in
     let b = added.back told up R' stands in
     let one : R' ≡ b.0 = same_log f.journal.owes b.0 R' b.2 in
     let old : Stands device f R' = subst (Stands device f) (sym one) b.1 in
     let keeps = kept_pin device f pass R' pin of told up_old old legal e in
-    let o : IsScanOf M q R' pin s = scan told up_old R' old legal leaves pin e in
+    let o : IsScanOf M q R' pin s = scan told up_old R' old legal pin e in
     let had = subst (HasRead M q R' pin o.from s) end o.read in
     let all : first_items (length s.kept.items) s.kept.items ≡ map (λ (k : ℕ × Bool). k.0) s.kept.items =
     ap (map (λ (k : ℕ × Bool). k.0)) (take_all (length s.kept.items) s.kept.items (omega arith)) in record {

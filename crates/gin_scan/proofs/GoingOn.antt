@@ -10,12 +10,10 @@ use Rattle.page_types.specs.declared.page.Name.{Name}
 use Rattle.core_state.specs.Log.{Log, In, Shows, cut, commits, commits_with}
 use Rattle.core_state.specs.History.{Document, History, IsHistory, docs}
 use Rattle.core_state.specs.Legal.{IsLegal, Pin, Keeps}
-use Rattle.core_state.specs.Steady.{LeavesIndex}
 use Rattle.core_state.specs.Readings.{Read, WasShown, AreReads}
 use Rattle.core_state.proofs.Newest.{cut_less}
-use Rattle.core_state.proofs.PageLists.{in_back}
 use Rattle.gin_opclass.specs.Class.{Meaning}
-use Rattle.core_moments.specs.Walk.{Walk, reads_of}
+use Rattle.core_moments.specs.Walk.{Walk, KeyWalk, IsKeyWalk, Sought, reads_of}
 use Rattle.buffer_frames.specs.Frames.{FramesValue, Stands}
 use Rattle.snap_pins.specs.Taken.{IsPinned}
 use Rattle.buffer_frames.specs.Passes.{IsPassOf, GoesOnBy, before_more, pin_in, in_use}
@@ -23,10 +21,12 @@ use Rattle.buffer_frames.specs.declared.pass.Pinned.{Pinned}
 use Rattle.buffer_frames.specs.Journals.{owed_abort}
 use Rattle.buffer_frames.specs.declared.pass.Pass.{Pass}
 use Rattle.buffer_frames.proofs.HistoryParts.{legal_before, history_begins, commits_told}
-use Rattle.gin_scan.specs.Reading.{ReadsParts}
+use Rattle.core_moments.specs.OpenWalk.{ReadsTree}
+use Rattle.gin_scan.specs.Reading.{ReadsParts, ReadsKeysBy, WereReadOn}
+use Rattle.gin_scan.specs.Ways.{IsGoingDown, IsGoingAlong, IsGoingInTrees}
 use Rattle.gin_scan.specs.Taking.{IsAmong, IsLongOf, AreTaken, first_items}
 use Rattle.gin_scan.specs.Held.{AreChains, ArePages}
-use Rattle.gin_scan.specs.Scanning.{HasJudged, HasTaken, HadTaken, HasRead, IsScanOf}
+use Rattle.gin_scan.specs.Scanning.{HasJudged, HasTaken, HadTaken, HasRead, IsScanOf, sought_in, trees_from}
 use Rattle.gin_scan.specs.Laws.{ScansGoOn}
 use Rattle.gin_scan.specs.declared.scan_core.ScanCore.{ScanCore}
 use Rattle.gin_scan.specs.declared.stage.LongVector.{LongVector}
@@ -108,7 +108,6 @@ module _ {Q : Type 0} (M : Meaning Q) (q : Q) (later R : Log) (pin : Pin) (keeps
       reads = reads_longer later R pin.length (reads_of j.walk) j.is_walk.reads;
     };
     reads = reads_longer later R from (reads_of j.walk) j.reads;
-    none_read = j.none_read;
     kept = j.kept;
   }
 
@@ -166,6 +165,27 @@ module _ {Q : Type 0} (M : Meaning Q) (q : Q) (later R : Log) (pin : Pin) (keeps
     left_is = p.left_is;
   }
 
+  keys_on : (from : ℕ) (s : ScanCore) (key left : ℕ) (Open : Sought → List KeyWalk → Type 0)
+      → ReadsKeysBy (WereReadOn R from) IsKeyWalk (M.asked q) (sought_in s) s key left Open
+      → ReadsKeysBy (WereReadOn (later ++ R) from) IsKeyWalk (M.asked q) (sought_in s) s key left Open
+  keys_on from s key left Open r = record {
+    walk = r.walk;
+    so_far = record {
+      meta_page = r.so_far.meta_page;
+      reads = record {
+        reads = reads_longer later R from (reads_of r.walk) r.so_far.reads.reads;
+        list = r.so_far.reads.list;
+      };
+      noted = r.so_far.noted;
+      first = r.so_far.first;
+      noted_tree = r.so_far.noted_tree;
+      unjudged = r.so_far.unjudged;
+      pages_read = r.so_far.pages_read;
+    };
+    keys = r.keys;
+    left_is = r.left_is;
+  }
+
   read_on : (from : ℕ) (s : ScanCore) (z : Stage) → HasRead M q R pin from s z → HasRead M q (later ++ R) pin from s z
   read_on from s stage.Meta r = r
   read_on from s (stage.Pending page left) r = record {
@@ -177,10 +197,17 @@ module _ {Q : Type 0} (M : Meaning Q) (q : Q) (later R : Log) (pin : Pin) (keeps
     noted = r.noted;
     begun = r.begun;
     first = r.first;
+    main = r.main;
     unjudged = r.unjudged;
     left_is = r.left_is;
     pages_read = r.pages_read;
   }
+  read_on from s (stage.Down key page left) r = keys_on from s key left (IsGoingDown page) r
+  read_on from s (stage.Leaf key page left) r = keys_on from s key left (IsGoingAlong ReadsTree page) r
+  read_on from s (stage.Posting key at page left next read) r = (
+    r.0,
+    keys_on from s key (s.extent - read) (IsGoingInTrees ReadsTree page left s.extent (trees_from at s) next) r.1,
+  )
   read_on from s (stage.Heads at) r = (
     judged_on from s r.0,
     taken_on s at 0 r.1,
@@ -217,9 +244,6 @@ module _ {Q : Type 0} (M : Meaning Q) (q : Q) (later R : Log) (pin : Pin) (keeps
 
 -- ── by frames ──
 
-pub leaves_before : (later R : Log) → LeavesIndex (later ++ R) → LeavesIndex R
-leaves_before later R all r i = all r (in_back r later R i)
-
 goes_by : (owes : Bool) (kinds : List ℕ) (R : Log) → (later : Log) × (before_more owes kinds R ≡ later ++ R)
 goes_by owes [] R = ([], refl)
 goes_by false (k ∷ kinds) R = ([], refl)
@@ -245,7 +269,7 @@ kept_pin device f pass R pin is told up stands legal e = by pass.pin e is.pin
         subst (Keeps R) same ((stands.pins told up legal).each p.place (in_use p) h.0)
 
 pub go_on : {D Q : Type 0} (device : Disk D) (M : Meaning Q) → ScansGoOn device M
-go_on device M q s old new pass pass' kinds added of of' same scan told up R' stands' legal' leaves' pin e =
+go_on device M q s old new pass pass' kinds added of of' same scan told up R' stands' legal' pin e =
     let up_old = added.was_up up in
     let b = added.back told up R' stands' in
     let g = goes_later _ b.0 R' kinds b.2 in
@@ -254,4 +278,4 @@ go_on device M q s old new pass pass' kinds added of of' same scan told up R' st
     let pinned = ap pin_in (sym same) ∙ e in
     let keeps = kept_pin device old pass R pin of told up_old b.1 legal pinned in
     subst (λ (S : Log). IsScanOf M q S pin s) (sym g.1) (scan_on M q g.0 R pin keeps s
-    (scan told up_old R b.1 legal (leaves_before g.0 R (subst LeavesIndex g.1 leaves')) pin pinned))
+    (scan told up_old R b.1 legal pin pinned))

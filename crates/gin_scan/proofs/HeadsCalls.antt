@@ -20,7 +20,7 @@ use Rattle.gin_scan.specs.Calls.{ReadsOn}
 use Rattle.gin_scan.specs.Counting.{CountsOn}
 use Rattle.gin_scan.specs.Causes.{CannotRead, CannotStep, HasSlots, IsLawfulRefusal}
 use Rattle.gin_scan.specs.Reaching.{IsReached}
-use Rattle.gin_scan.specs.Scanning.{IsScan, HasRead, stages_left, steps_of, steps_left}
+use Rattle.gin_scan.specs.Scanning.{IsScan, HasRead, sought_in, stages_left, steps_of, steps_left}
 use Rattle.gin_scan.specs.Seen.{AreSeen}
 use Rattle.gin_scan.specs.Inner.Heads.{TakesDocuments}
 use Rattle.gin_scan.specs.Inner.Steps.{MayStep, HasStepped}
@@ -59,7 +59,7 @@ module _ {Q D : Type 0} (device : Disk D) (M : Meaning Q) (sound : JudgeIsSound 
       subst (λ (n : ℕ). HasSlots (P n)) (sym same)
       (subst (λ (X : Pages). HasSlots (X (page_of k.0))) (shown_one R own.0 P own.1 shown)
       (heap_of_kept M sound q device f R pin known
-      (λ H h. (pin_laws R pin H known.legal known.keeps h).one_serial) s o.from o.since had.0 k
+      (λ H h. (pin_laws R pin H known.legal known.keeps h).one_serial) s o.from had.0 k
       (element_in k s.kept.items at there)))) cannot
 
   -- what was read of it
@@ -84,7 +84,7 @@ module _ {Q D : Type 0} (device : Disk D) (M : Meaning Q) (sound : JudgeIsSound 
   fewer : (s' : ScanCore) (end : ℕ) → at < end → end ≤ length s.kept.items → s'.stage ≡ stage.Heads end
       → s'.kept ≡ s.kept → steps_left s' < steps_left s
   fewer s' end less within then kept =
-      let big = 2 ^ 98 in
+      let big = 2 ^ 200 in
       let new : steps_left s' ≡ 2 * big + (length s.kept.items - end) =
       ap (λ (z : Stage). stages_left z * big + steps_of s' z) then
       ∙ ap (λ ks. 2 * big + (length ks.items - end)) kept in
@@ -108,7 +108,8 @@ module _ {Q D : Type 0} (device : Disk D) (M : Meaning Q) (sound : JudgeIsSound 
       } = same ∙ ap (λ (x : ScanCore). record x { stage = stage.Heads end; pages_read = pages }) r.rest in
       let was = may.scanning.is_scan in
       stepped_by device M q f f'' pass pass'' s s' may reads
-      (subst IsScan (sym e) (record { pending = was.pending; main = was.main; within = r.within }))
+      (subst IsScan (sym e)
+      (record { ordered = was.ordered; pending = was.pending; main = was.main; within = r.within }))
       (ap (λ (z : ScanCore). z.keys) e) (ap (λ (z : ScanCore). z.snapshot) e)
       (fewer s' end r.ordered r.within (ap (λ (z : ScanCore). z.stage) e) (ap (λ (z : ScanCore). z.kept) e))
       (λ R pin known p o. heads_read M sound q device f R pin known
@@ -133,8 +134,8 @@ module _ {Q D : Type 0} (device : Disk D) (M : Meaning Q) (sound : JudgeIsSound 
       let y = subst (IsReached M q f s) is z in
       let kept = ap (λ (x : ScanCore). x.kept.items) r.rest in
       let h = heads_reached M q f s new at end number c (fate_of f'.journal.state) r.seen (omega (arith, r.ordered))
-      r.within r.here r.is_page r.lies r.are_seen r.takes kept y.0 y.1 in
+      r.within r.here r.is_page r.lies r.are_seen r.takes kept (ap sought_in r.rest) y.0 y.1 in
       let last : ScanCore = record new { stage = stage.Heads end; pages_read = pages } in
       subst (λ (x : ScanCore). IsReached M q f'' x x.stage) (sym same)
       (reached_still f f'' reads.lying M q last (stage.Heads end)
-      (met_as M q f new last refl h.0, long_as M q f new last refl refl h.1))) counted
+      (met_as M q f new last refl refl h.0, long_as M q f new last refl refl h.1))) counted

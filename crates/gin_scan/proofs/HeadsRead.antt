@@ -1,35 +1,26 @@
 -- What a scan has taken once it has read a heap page.
-use Rattle.std.proofs.Common.{◌≡◌, ◌↔◌, ℕ, zero, suc, ◌+◌, ◌-◌, ◌<◌, ◌≤◌, Bool, true, false, IsTrue, not, ◌&&◌, ◌||◌}
-use Rattle.std.proofs.Common.{nat_eq, List, [], ◌∷◌, ◌++◌, length, take, drop}
+use Rattle.std.proofs.Common.{◌≡◌, ◌↔◌, ℕ, zero, suc, ◌+◌, ◌-◌, ◌<◌, ◌≤◌, Bool, IsTrue}
+use Rattle.std.proofs.Common.{List, [], ◌∷◌, length, take, drop}
 use Rattle.std.proofs.Common.{Some, get_or, refl, sym, ap, subst, ◌∙◌, inl, inr, arith, slice_get, AllPairs}
 use Rattle.std.specs.Prelude.{slice_range}
-use Rattle.std.specs.List.{list_any}
 use Rattle.std.proofs.lemmas.Option.{get_or_from_slice_get, slice_get_within}
 use Rattle.disk_trait.specs.declared.device.Disk.{Ghosts as Disk}
 use Rattle.page_types.specs.Pages.{IsPage}
 use Rattle.page_types.specs.declared.page.Page.{Page}
-use Rattle.page_types.specs.declared.page.Row.{Row}
-use Rattle.page_types.specs.Views.{kept_rows_of, first_of}
 use Rattle.core_state.specs.Log.{Log, Pages, In, Shows, fate}
 use Rattle.core_state.specs.Documents.{page_of}
 use Rattle.core_state.specs.History.{Document, History, IsHistory, docs}
 use Rattle.core_state.specs.Legal.{Pin}
-use Rattle.core_state.specs.Readings.{Read, AreReads}
 use Rattle.core_state.specs.States.{StateTells, state_of, fate_of}
 use Rattle.core_state.specs.declared.answers.Fate.{Fate}
 use Rattle.core_state.proofs.StateTold.{state_told}
 use Rattle.core_state.proofs.Trees.Members.{in_map}
 use Rattle.gin_opclass.specs.Class.{Meaning, JudgeIsSound}
-use Rattle.core_moments.specs.Walk.{Walk, Follows, rightward, key_reads}
-use Rattle.core_moments.specs.Judging.{met, main_read, is_exception, IsKept}
 use Rattle.core_moments.proofs.Moments.{law_holds}
-use Rattle.core_moments.proofs.Walks.{any_in}
-use Rattle.core_moments.proofs.Words.{and_true, same_number}
 use Rattle.buffer_frames.specs.Frames.{FramesValue, Lies}
 use Rattle.buffer_frames.proofs.FirstLogs.{shown_by}
 use Rattle.buffer_frames.proofs.LastingStates.{told_alike}
 use Rattle.gin_scan.specs.Causes.{HasSlots}
-use Rattle.gin_scan.specs.Reading.{LeadOn}
 use Rattle.gin_scan.specs.Seen.{IsSeen, AreSeen}
 use Rattle.gin_scan.specs.Taking.{AreTaken, first_items}
 use Rattle.gin_scan.specs.Scanning.{HasJudged, HasTaken, HasRead, IsScanOf}
@@ -37,12 +28,11 @@ use Rattle.gin_scan.specs.Inner.Heads.{TakesDocuments}
 use Rattle.gin_scan.specs.declared.scan_core.ScanCore.{ScanCore}
 use Rattle.gin_scan.specs.declared.stage.Stage.TheVariants as stage
 use Rattle.gin_scan.proofs.HeldPages.{heap_page, pages_before}
-use Rattle.gin_scan.proofs.ListPages.{from_meta, heap_of_row}
+use Rattle.core_moments.proofs.KeptHeaps.{kept_lie}
 use Rattle.gin_scan.proofs.ListRead.{lies_as}
 use Rattle.gin_scan.proofs.SeenDocuments.{one_item}
 use Rattle.gin_scan.proofs.StepsTaken.{Known, judged_as}
 use Rattle.gin_scan.proofs.PageTaken.{take_page}
-use Rattle.gin_scan.proofs.Verdicts.{exception_met}
 
 -- ── a part of a list ──
 
@@ -132,34 +122,6 @@ fresh_kept kept rising k n at m =
     let one : f.1.0 < k.0 = subst (λ (b : ℕ × Bool). f.1.0 < b.0) second
     (subst (λ (a : ℕ × Bool). a.0 < (get_or kept n k).0) first less) in
     omega (arith, one, f.4)
-
--- ── a kept item was met ──
-
-no_bool : (b : Bool) → b ≡ true → b ≡ false → ⊥
-no_bool true e f = cc
-no_bool false e f = cc
-
-kept_met : {Q : Type 0} (M : Meaning Q) (q : Q) (w : Walk) (i : ℕ) → main_read w i ≡ false → IsKept M q w i
-    → met w i ≡ true
-kept_met M q w i none (IsKept.by_pending m y) = m
-kept_met M q w i none (IsKept.by_main m y) = by (is_exception w i) refl m
-  where
-    by : (b : Bool) → is_exception w i ≡ b → (b || (not (met w i) && main_read w i)) ≡ true → met w i ≡ true
-    by true e m = exception_met i w.pending e
-    by false e m = absurd (no_bool (main_read w i) (and_true (not (met w i)) (main_read w i) m).1 none)
-
--- the reads before others
-front_reads : (R : Log) (from : ℕ) (m : Read) (xs ys : List Read) → AreReads R from (m ∷ (xs ++ ys))
-    → AreReads R from (m ∷ xs)
-front_reads R from m xs ys rs = (rs.0, rs.1, rs.2, front R m.length xs ys rs.3)
-  where
-    front : (R : Log) (from : ℕ) (xs ys : List Read) → AreReads R from (xs ++ ys) → AreReads R from xs
-    front R from [] ys rs = tt
-    front R from (x ∷ xs) ys rs = (rs.0, rs.1, rs.2, front R x.length xs ys rs.3)
-
-lead_of : (p : ℕ) (xs : List Read) → Follows rightward p xs → LeadOn p xs 0
-lead_of p [] f = f
-lead_of p (x ∷ xs) f = (f.0, f.1, lead_of (rightward x.content) xs f.2)
 
 -- ── a heap page ──
 
@@ -292,18 +254,8 @@ module _ {Q D : Type 0} (M : Meaning Q) (sound : JudgeIsSound M) (q : Q) (device
   -- ── no bad page ──
 
   -- the page of a kept item is a heap page
-  pub heap_of_kept : (s : ScanCore) (from : ℕ) → pin.length ≤ from → HasJudged M q R pin from s → (k : ℕ × Bool)
+  pub heap_of_kept : (s : ScanCore) (from : ℕ) → HasJudged M q R pin from s → (k : ℕ × Bool)
       → In k s.kept.items → HasSlots (P (page_of k.0))
-  heap_of_kept s from since j k i =
-      let w = j.walk in
-      let kept : IsKept M q w k.0 = (j.kept.just k.0).0 (in_map (λ (x : ℕ × Bool). x.0) k s.kept.items i) in
-      let m : met w k.0 ≡ true = kept_met M q w k.0 (j.none_read k.0) kept in
-      let x = any_in (λ (x : Read). list_any (λ (row : Row). nat_eq row.item k.0) (kept_rows_of x.content)) w.pending m
-      in
-      let r = any_in (λ (row : Row). nat_eq row.item k.0) (kept_rows_of x.0.content) x.2 in
-      let walk = j.is_walk.is_walk in
-      let all = from_meta R pin known.legal known.keeps known.leaves from w.meta w.pending 0 since walk.meta_page
-      (front_reads R from w.meta w.pending (key_reads w.keys) j.reads)
-      (lead_of (first_of w.meta.content) w.pending walk.pending_ok) in
-      subst (λ (n : ℕ). HasSlots (P (page_of n))) (same_number r.0.item k.0 r.2)
-      (heap_of_row R pin known.legal known.keeps known.leaves x.0 (all.each x.0 x.1) r.0 r.1 P shown)
+  heap_of_kept s from j k i =
+      kept_lie M R pin q j.is_walk.sought j.walk k.0 P known.legal known.keeps j.is_walk.is_walk j.is_walk.reads
+      ((j.kept.just k.0).0 (in_map (λ (x : ℕ × Bool). x.0) k s.kept.items i)) shown

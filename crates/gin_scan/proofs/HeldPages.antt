@@ -8,7 +8,7 @@ use Rattle.core_state.specs.Log.{Log, In}
 use Rattle.core_state.specs.Documents.{page_of}
 use Rattle.core_state.specs.Readings.{Read, AreReads}
 use Rattle.core_state.proofs.PageLists.{in_either}
-use Rattle.core_moments.specs.Walk.{Walk}
+use Rattle.core_moments.specs.Walk.{Walk, reads_of}
 use Rattle.gin_scan.specs.Reading.{LeadOn}
 use Rattle.gin_scan.specs.Taking.{first_items}
 use Rattle.gin_scan.specs.Held.{AreChains, ArePages}
@@ -129,7 +129,7 @@ reads_and (y ∷ ys) x =
 
 module _ (R : Log) (from : ℕ) (w : Walk) where
   -- the pages of the walk alone
-  pub walk_pages : (n : ℕ) → n ≤ suc (length w.pending) → ArePages R from w [] [] n
+  pub walk_pages : (n : ℕ) → n ≤ length (reads_of w) → ArePages R from w [] [] n
   walk_pages n few = record {
     heap = [];
     heap_pages = record {

@@ -32,7 +32,7 @@ in_order xs pairs i j le lt = elim (before_or_same i j le) [
   | inr same ↦ subst (λ (k : ℕ). get_or xs i 0 ≤ get_or xs k 0) same (omega arith)
 ]
 
-at_place : (x : ℕ) (xs : List ℕ) → In x xs → (k : ℕ) × (k < length xs) × (get_or xs k 0 ≡ x)
+pub at_place : (x : ℕ) (xs : List ℕ) → In x xs → (k : ℕ) × (k < length xs) × (get_or xs k 0 ≡ x)
 at_place x [] i = absurd i
 at_place x (y ∷ ys) (inl e) = (zero, omega arith, sym e)
 at_place x (y ∷ ys) (inr i) = let f = at_place x ys i in (suc f.0, omega (arith, f.1), f.2)

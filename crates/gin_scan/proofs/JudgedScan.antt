@@ -7,6 +7,7 @@ use Rattle.std.proofs.lemmas.List.{length-map}
 use Rattle.std.specs.List.{list_any}
 use Rattle.std.proofs.lemmas.List.Kept.{AllPairs-cons}
 use Rattle.std.proofs.lemmas.Option.{slice_get_within}
+use Rattle.core_state.specs.Readings.{Read}
 use Rattle.core_state.specs.Log.{In}
 use Rattle.gin_opclass.specs.Class.{Asked, Meaning, JudgeIsSound}
 use Rattle.core_moments.specs.Walk.{Walk}
@@ -14,25 +15,24 @@ use Rattle.core_moments.specs.Judging.{met, pending_has, main_read, main_has, is
 use Rattle.core_moments.proofs.Words.{and_true}
 use Rattle.core_moments.proofs.Walks.{any_true, any_in}
 use Rattle.gin_scan.specs.Rows.{lists_of}
-use Rattle.gin_scan.specs.Sides.{Side, pending_side, main_side, TellOf, TellOfWalk, InLists, MayBeKept, AreKeptOf}
+use Rattle.gin_scan.specs.Entries.{listed as items_of, entries_with, entries_read, HaveTrees}
+use Rattle.gin_scan.specs.Sides.{Side, pending_side, main_side, TellOf, TellOfWalk, InLists, MayBeKept, WasRead}
+use Rattle.gin_scan.specs.Sides.{AreKeptOf}
 use Rattle.gin_scan.specs.Sides.{AreKept}
 use Rattle.gin_scan.specs.declared.hits.Hits.{Hits}
+use Rattle.gin_scan.proofs.NotedEntries.{read_noted, main_noted, joined_in, in_joined, passed}
 use Rattle.gin_scan.proofs.Verdicts.{exception_met, some_has, kept_from, kept_to, kept_sure}
 
 or_either : (a b : Bool) → (a || b) ≡ true → (a ≡ true) ⊎ (b ≡ true)
 or_either true b e = inl refl
 or_either false b e = inr e
 
-no_bool : (b : Bool) → b ≡ true → b ≡ false → ⊥
-no_bool true e f = cc
-no_bool false e f = cc
-
 pub in_all : {A : Type 0} (P : A → Type 0) (xs : List A) → ((x : A) → In x xs → P x) → All P xs
 in_all P [] f i d l = absurd (omega (arith, l))
 in_all P (x ∷ xs) f zero d l = f x (inl refl)
 in_all P (x ∷ xs) f (suc i) d l = in_all P xs (λ y m. f y (inr m)) i d (omega (arith, l))
 
-all_at : {A : Type 0} (P : A → Type 0) (xs : List A) → All P xs → (x : A) → In x xs → P x
+pub all_at : {A : Type 0} (P : A → Type 0) (xs : List A) → All P xs → (x : A) → In x xs → P x
 all_at P [] h x i = absurd i
 all_at P (y ∷ ys) h x (inl e) = subst P (sym e) (h zero y (omega arith))
 all_at P (y ∷ ys) h x (inr i) = all_at P ys (λ k d l. h (suc k) d (omega (arith, l))) x i
@@ -65,9 +65,18 @@ has_is_met w i a e =
     w.pending x.1 (any_true (λ row. nat_eq row.item i) r.0 (Rattle.page_types.specs.Views.kept_rows_of x.0.content)
     r.1 (and_true (nat_eq r.0.item i) (list_any (fits_asked a) r.0.keys) r.2).0)
 
+-- an item that has a key in the main part was read there
+has_is_read : (Is : ℕ → List Read → Type 0) (w : Walk) (i : ℕ) → HaveTrees Is w.keys → (a : Asked)
+    → main_has w i a ≡ true → main_read w i ≡ true
+has_is_read Is w i trees a e =
+    let es = entries_read w.keys in
+    let f = joined_in items_of i (entries_with (fits_asked a) es) ((main_noted Is w i trees a).1 e) in
+    (read_noted Is w i trees).0
+    (in_joined items_of i f.0 es (passed (fits_asked a) f.0 es f.1).0 f.2)
+
 module _ {Q : Type 0} (M : Meaning Q) (q : Q) (w : Walk) (pending main : Hits) (first : Option ℕ)
-    (told : TellOfWalk (M.asked q) w pending main first) (none_read : (i : ℕ) → main_read w i ≡ false)
-    (none_has : (i : ℕ) (a : Asked) → main_has w i a ≡ false) where
+    (told : TellOfWalk (M.asked q) w pending main first)
+    (Is : ℕ → List Read → Type 0) (trees : HaveTrees Is w.keys) where
   lists_count : (h : Hits) → length (lists_of h) ≡ length h.by_key.items
   lists_count h = length-map h.by_key.items _
 
@@ -89,31 +98,29 @@ module _ {Q : Type 0} (M : Meaning Q) (q : Q) (w : Walk) (pending main : Hits) (
       (omega (arith, slice_get_within (M.asked q) k.0 a k.1, lists_count h, t.count)) in
       (l.0, element_in l.0 (lists_of h) k.0 l.1, ((t.by_key k.0 a l.0 k.1 l.1).just i).1 e)
 
-  -- each item that may be kept was met
-  pub may_was_met : (all : Bool) (i : ℕ) → MayBeKept all pending main i → met w i ≡ true
-  may_was_met true i (inl m) = (told.pending_told.any.just i).0 m
-  may_was_met true i (inr m) = absurd (no_bool (main_read w i) ((told.main_told.any.just i).0 m) (none_read i))
-  may_was_met false i (inl m) =
-      let f = key_of (pending_side w) pending told.pending_told i m in has_is_met w i f.0 f.1
-  may_was_met false i (inr m) =
-      let f = key_of (main_side w) main told.main_told i m in absurd (no_bool (main_has w i f.0) f.1 (none_has i f.0))
-
-  kept_was_met : (i : ℕ) → IsKept M q w i → met w i ≡ true
-  kept_was_met i (IsKept.by_pending m j) = m
-  kept_was_met i (IsKept.by_main m j) = elim (or_either (is_exception w i) (not (met w i) && main_read w i) m) [
-    | inl e ↦ exception_met i w.pending e
-    | inr e ↦ absurd (no_bool (main_read w i) (and_true (not (met w i)) (main_read w i) e).1 (none_read i))
-  ]
+  -- each item that may be kept was read
+  pub may_was_read : (all : Bool) (i : ℕ) → MayBeKept all pending main i → WasRead w i
+  may_was_read true i (inl m) = inl ((told.pending_told.any.just i).0 m)
+  may_was_read true i (inr m) = inr ((told.main_told.any.just i).0 m)
+  may_was_read false i (inl m) =
+      let f = key_of (pending_side w) pending told.pending_told i m in inl (has_is_met w i f.0 f.1)
+  may_was_read false i (inr m) =
+      let f = key_of (main_side w) main told.main_told i m in inr (has_is_read Is w i trees f.0 f.1)
 
   -- each that is kept may be
   pub kept_may : JudgeIsSound M → (all : Bool) → M.all q ≡ all → (i : ℕ) → IsKept M q w i → MayBeKept all pending main i
-  kept_may S true e i k = inl ((told.pending_told.any.just i).1 (kept_was_met i k))
+  kept_may S true e i (IsKept.by_pending m j) = inl ((told.pending_told.any.just i).1 m)
+  kept_may S true e i (IsKept.by_main m j) =
+      elim (or_either (is_exception w i) (not (met w i) && main_read w i) m) [
+        | inl f ↦ inl ((told.pending_told.any.just i).1 (exception_met i w.pending f))
+        | inr f ↦ inr ((told.main_told.any.just i).1 (and_true (not (met w i)) (main_read w i) f).1)
+      ]
   kept_may S false e i (IsKept.by_pending m j) =
       let f = some_has M S q (pending_has w i) e j in
       inl (list_of (pending_side w) pending told.pending_told i f.0 f.1 f.2)
   kept_may S false e i (IsKept.by_main m j) =
       let f = some_has M S q (main_has w i) e j in
-      absurd (no_bool (main_has w i f.0) f.2 (none_has i f.0))
+      inr (list_of (main_side w) main told.main_told i f.0 f.1 f.2)
 
   kept_rise : (is : List ℕ) (kept : List (ℕ × Bool)) → AllPairs (λ (i j : ℕ). i < j) is → AreKeptOf M q w is kept
       → AllPairs (λ (a b : ℕ × Bool). a.0 < b.0) kept

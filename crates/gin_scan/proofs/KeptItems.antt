@@ -16,7 +16,7 @@ module _ {Q : Type 0} (M : Meaning Q) (q : Q) (w : Walk) (i : ℕ) (v : Verdict)
   pub kept_too : (items : List ℕ) (more : List (ℕ × Bool)) → v.kept ≡ true → AreKeptOf M q w items more
       → AreKeptOf M q w (items ++ i ∷ []) (more ++ (i, v.yes) ∷ [])
   kept_too [] more e none =
-      inl (is.kept.0 e, (v.yes, [], ap (λ (ks : List (ℕ × Bool)). ks ++ (i, v.yes) ∷ []) none, is.yes, refl))
+      inl (is.kept.0 e, (v.yes, [], ap (λ (ks : List (ℕ × Bool)). ks ++ (i, v.yes) ∷ []) none, is.yes e, refl))
   kept_too (j ∷ items) more e (inl f) =
       inl (
         f.0,

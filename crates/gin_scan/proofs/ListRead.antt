@@ -19,7 +19,7 @@ use Rattle.buffer_frames.specs.Frames.{FramesValue, Stands, Lies}
 use Rattle.buffer_frames.specs.Homes.{home_at}
 use Rattle.buffer_frames.proofs.HomesLie.{lies_shown}
 use Rattle.gin_scan.specs.Rows.{items_with, lists_of, rows_read, first_of_rows, first_read, AreNoted}
-use Rattle.gin_scan.specs.Reading.{IsUnjudged, IsUnread, ReadsListBy, has_read}
+use Rattle.gin_scan.specs.Reading.{IsNoHit, IsUnjudged, IsUnread, ReadsListBy, has_read}
 use Rattle.gin_scan.specs.declared.scan_core.ScanCore.{ScanCore}
 use Rattle.gin_scan.specs.declared.stage.Stage.{Stage}
 use Rattle.gin_scan.proofs.Growing.{lead_more}
@@ -44,7 +44,8 @@ module _ {D : Type 0} (device : Disk D) (f : FramesValue D) (R : Log) (told : de
 
 -- ── the metapage ──
 
-lists_none : (ls : List (List ℕ)) (asked : List Asked) → All (λ (is : List ℕ). is ≡ []) ls → length ls ≡ length asked
+pub lists_none : (ls : List (List ℕ)) (asked : List Asked) → All (λ (is : List ℕ). is ≡ []) ls
+    → length ls ≡ length asked
     → ls ≡ map (λ (a : Asked). items_with a []) asked
 lists_none [] [] none e = refl
 lists_none [] (a ∷ as') none e = absurd (let z : ⊥ = cc in z)
@@ -72,8 +73,8 @@ meta_read WereRead x asked s s' at was unread count one same =
       };
       begun = unread.not_begun;
       first = unread.first;
+      main = unread.main;
       unjudged = record {
-        main = unread.unjudged.main;
         kept = unread.unjudged.kept;
         long = unread.unjudged.long;
         names = unread.unjudged.names;
@@ -121,8 +122,8 @@ page_read WereRead x asked s s' page left at some more r was noted first one sam
           ∙ ap (λ (b : Bool). cond b s.first_item (first_of_rows (kept_rows_of x.content))) r.begun
           ∙ ap (λ o. cond (has_read r.pending) o (first_of_rows (kept_rows_of x.content))) r.first
           ∙ first_more r.pending x;
+      main = subst (λ (z : ScanCore). IsNoHit z.main) (sym same) r.main;
       unjudged = subst IsUnjudged (sym same) (record {
-        main = r.unjudged.main;
         kept = r.unjudged.kept;
         long = r.unjudged.long;
         names = r.unjudged.names;
@@ -151,8 +152,8 @@ list_further WereRead asked s page more z r = record {
   noted = r.noted;
   begun = r.begun;
   first = r.first;
+  main = r.main;
   unjudged = record {
-    main = r.unjudged.main;
     kept = r.unjudged.kept;
     long = r.unjudged.long;
     names = r.unjudged.names;

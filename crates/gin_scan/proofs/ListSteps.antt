@@ -1,5 +1,5 @@
 -- Steps along the pending list.
-use Rattle.std.proofs.Common.{◌≡◌, ◌≢◌, ℕ, zero, suc, ◌+◌, ◌-◌, ◌*◌, ◌^◌, ◌<◌, ◌≤◌, true, List, []}
+use Rattle.std.proofs.Common.{◌≡◌, ◌≢◌, ℕ, zero, suc, ◌+◌, ◌-◌, ◌*◌, ◌^◌, ◌<◌, ◌≤◌, Bool, true, false, List, []}
 use Rattle.std.proofs.Common.{◌∷◌, ◌++◌, length, cond}
 use Rattle.std.proofs.Common.{refl, sym, ap, subst, ◌∙◌, arith}
 use Rattle.std.proofs.lemmas.List.{length-map}
@@ -11,8 +11,8 @@ use Rattle.page_types.specs.declared.page.Row.{Row}
 use Rattle.core_state.specs.Log.{Log}
 use Rattle.core_state.specs.Legal.{Pin}
 use Rattle.core_state.specs.Readings.{WasShown, AreReads}
-use Rattle.gin_opclass.specs.Class.{Asked, Meaning, JudgeIsSound}
-use Rattle.core_moments.specs.Walk.{rightward}
+use Rattle.gin_opclass.specs.Class.{Asked, Meaning}
+use Rattle.core_moments.specs.Walk.{rightward, sought_of}
 use Rattle.buffer_frames.specs.Frames.{FramesValue, Lies}
 use Rattle.buffer_frames.specs.Passes.{IsPassOf}
 use Rattle.buffer_frames.specs.declared.pass.Pass.{Pass}
@@ -20,7 +20,9 @@ use Rattle.buffer_frames.proofs.AtHand.{log_length}
 use Rattle.buffer_frames.proofs.FirstLogs.{shown_by}
 use Rattle.gin_scan.specs.Rows.{asked_by, lists_of, first_of_rows, AreNoted}
 use Rattle.gin_scan.specs.Reading.{ReadsList}
-use Rattle.gin_scan.specs.Scanning.{AsksFor, IsScan, HasRead, IsScanOf, asked_in, stages_left, steps_of, steps_left}
+use Rattle.gin_scan.specs.Scanning.{AsksFor, IsScan, HasRead, IsScanOf, asked_in, order_in, sought_in, stages_left}
+use Rattle.gin_scan.specs.Scanning.{steps_of, steps_left}
+use Rattle.gin_scan.specs.Ways.{asked_at, sought_by}
 use Rattle.gin_scan.specs.declared.scan_core.ScanCore.{ScanCore}
 use Rattle.gin_scan.specs.declared.stage.Stage.{Stage}
 use Rattle.gin_scan.specs.declared.stage.Stage.TheVariants as stage
@@ -28,7 +30,6 @@ use Rattle.gin_scan.proofs.ToldHits.{lists_length}
 use Rattle.gin_scan.proofs.Growing.{reads_more}
 use Rattle.gin_scan.proofs.ListRead.{now, read_now, meta_read, page_read, list_further}
 use Rattle.gin_scan.proofs.StepsTaken.{Known}
-use Rattle.gin_scan.proofs.JudgedList.{JudgesAll, judged_all}
 
 -- the log of frames over which there is a pass isn't empty
 pub log_some : {D : Type 0} (device : Disk D) (f : FramesValue D) (pass : Pass) (R : Log) (pin : Pin) → IsPassOf f pass
@@ -38,7 +39,7 @@ log_some device f pass R pin of known e =
     omega (arith, of.some, of.seen, long, ap length e)
 
 -- what lies in memory was shown
-was_shown : {D : Type 0} (device : Disk D) (f : FramesValue D) (R : Log) (pin : Pin)
+pub was_shown : {D : Type 0} (device : Disk D) (f : FramesValue D) (R : Log) (pin : Pin)
     → Known device f R pin → (p : ℕ) (c : Page) → IsPage c → Lies f p c → WasShown R (now R p c)
 was_shown device f R pin known p c is lies =
     let P = shown_by R known.legal.valid in
@@ -132,23 +133,10 @@ module _ {D Q : Type 0} (device : Disk D) (M : Meaning Q) (q : Q) (f : FramesVal
             (list_further (AreReads R o.from) (M.asked q) s page more (stage.Pending page more) r));
       }
 
-  -- all that was met was judged
-  pub judge_step : JudgeIsSound M → (left : ℕ) → s.stage ≡ stage.Pending 0 left → JudgesAll M q s s'
-      → IsScanOf M q R pin s'
-  judge_step S left at j = record {
-    from = o.from;
-    since = o.since;
-    within = o.within;
-    below = λ P p shown used. subst (λ (n : ℕ). p < n) (sym (ap (λ (z : ScanCore). z.extent) j.rest))
-        (o.below P p shown used);
-    read = judged_all M q S R pin s s' o.from left o.since o.within known.legal (log_some device f pass R pin of known)
-        known.leaves is asks (subst (HasRead M q R pin o.from s) at o.read) j;
-  }
-
 -- ── the bound on steps ──
 
-steps_at : (s : ScanCore) (z : Stage) → s.stage ≡ z → steps_left s ≡ stages_left z * 2 ^ 98 + steps_of s z
-steps_at s z e = ap (λ (y : Stage). stages_left y * 2 ^ 98 + steps_of s y) e
+pub steps_at : (s : ScanCore) (z : Stage) → s.stage ≡ z → steps_left s ≡ stages_left z * 2 ^ 200 + steps_of s z
+steps_at s z e = ap (λ (y : Stage). stages_left y * 2 ^ 200 + steps_of s y) e
 
 pub meta_lower : (s s' : ScanCore) (page : ℕ) → s.stage ≡ stage.Meta → s'.stage ≡ stage.Pending page s.extent
     → s'.extent ≡ s.extent → steps_left s' < steps_left s
@@ -176,7 +164,15 @@ pub further_lower : (s s' : ScanCore) (page more : ℕ) → s.stage ≡ stage.Pe
 further_lower s s' page more at to far some within =
     omega (arith, steps_at s (stage.Pending page 0) at, steps_at s' (stage.Pending page more) to, far, some, within)
 
-pub judged_lower : (s s' : ScanCore) (page left : ℕ) → s.stage ≡ stage.Pending page left → s'.stage ≡ stage.Heads 0
-    → length s'.kept.items < 2 ^ 64 → steps_left s' < steps_left s
-judged_lower s s' page left at to short =
-    omega (arith, steps_at s (stage.Pending page left) at, steps_at s' (stage.Heads 0) to, short)
+-- the walks through the tree are no more than the keys that are asked, of which a Vec has no more than it may
+pub few_sought : (s : ScanCore) → length s.order.items < 2 ^ 63 → length (sought_in s) < 2 ^ 63
+few_sought s few = by s.keys.all
+  where
+    by : (all : Bool) → length (sought_by all (order_in s)) < 2 ^ 63
+    by true = omega arith
+    by false = omega (
+      arith,
+      few,
+      length-map (order_in s) sought_of,
+      length-map s.order.items (asked_at s.keys.keys.items),
+    )

@@ -95,12 +95,13 @@ module _ {Q : Type 0} (M : Meaning Q) (q : Q) (R : Log) (pin : Pin) where
 pub long_scan : (s s' : ScanCore) (at : ℕ) → IsScan s → BeginsLong s at s' → IsScan s'
 long_scan s s' at is (BeginsLong.next l there small none same) =
     subst IsScan (sym same) (record {
+      ordered = is.ordered;
       pending = is.pending;
       main = is.main;
       within = slice_get_within s.long.items at l there;
     })
 long_scan s s' at is (BeginsLong.end past order up same) =
-    subst IsScan (sym same) (record { pending = is.pending; main = is.main; within = tt })
+    subst IsScan (sym same) (record { ordered = is.ordered; pending = is.pending; main = is.main; within = tt })
 
 -- for the same keys and snapshot
 pub long_keys : (s s' : ScanCore) (at : ℕ) → BeginsLong s at s' → s'.keys ≡ s.keys
@@ -121,8 +122,8 @@ later n a b left extent big great less within small =
     (omega arith) in
     omega (arith, more, small)
 
--- and those of all vectors than 2 ^ 98
-small_all : (n extent : ℕ) → n < 2 ^ 64 → extent < 2 ^ 32 → n * 2 ^ 33 + extent < 2 ^ 98
+-- and those of all vectors than 2 ^ 200
+small_all : (n extent : ℕ) → n < 2 ^ 64 → extent < 2 ^ 32 → n * 2 ^ 33 + extent < 2 ^ 200
 small_all n extent few small =
     let most : n * 2 ^ 33 ≤ 2 ^ 64 * 2 ^ 33 = mul-le n (2 ^ 33) (2 ^ 64) (2 ^ 33) (omega (arith, few)) (omega arith) in
     omega (arith, most, small)
@@ -131,25 +132,25 @@ end_left : (s s' : ScanCore) (at : ℕ) → s' ≡ record s { names = s'.names; 
 end_left s s' at same = ap steps_left same
 
 next_left : (s s' : ScanCore) (at page : ℕ) → s' ≡ record s { bytes = s'.bytes; stage = stage.Parts at page s.extent }
-    → steps_left s' ≡ 1 * 2 ^ 98 + ((length s.long.items - at) * 2 ^ 33 + s.extent)
+    → steps_left s' ≡ 1 * 2 ^ 200 + ((length s.long.items - at) * 2 ^ 33 + s.extent)
 next_left s s' at page same = ap steps_left same
 
 -- the next vector has a lower bound
 pub lower_next : (s s' : ScanCore) (at next left page : ℕ) → at < next → BeginsLong s next s'
-    → steps_left s' < 1 * 2 ^ 98 + ((length s.long.items - at) * 2 ^ 33 + left)
+    → steps_left s' < 1 * 2 ^ 200 + ((length s.long.items - at) * 2 ^ 33 + left)
 lower_next s s' at next left page less (BeginsLong.next l there small none same) =
-    subst (λ (n : ℕ). n < 1 * 2 ^ 98 + ((length s.long.items - at) * 2 ^ 33 + left))
+    subst (λ (n : ℕ). n < 1 * 2 ^ 200 + ((length s.long.items - at) * 2 ^ 33 + left))
     (sym (next_left s s' next l.first same))
-    (later (length s.long.items) at next left s.extent (2 ^ 33) (2 ^ 98) less
+    (later (length s.long.items) at next left s.extent (2 ^ 33) (2 ^ 200) less
     (let z = slice_get_within s.long.items next l there in omega (arith, z)) (omega (arith, small)))
 lower_next s s' at next left page less (BeginsLong.end past order up same) =
-    subst (λ (n : ℕ). n < 1 * 2 ^ 98 + ((length s.long.items - at) * 2 ^ 33 + left))
+    subst (λ (n : ℕ). n < 1 * 2 ^ 200 + ((length s.long.items - at) * 2 ^ 33 + left))
     (sym (end_left s s' next same)) (omega arith)
 
 -- so has the first
-pub lower_first : (s s' : ScanCore) (kept : ℕ) → BeginsLong s 0 s' → steps_left s' < 2 * 2 ^ 98 + kept
+pub lower_first : (s s' : ScanCore) (kept : ℕ) → BeginsLong s 0 s' → steps_left s' < 2 * 2 ^ 200 + kept
 lower_first s s' kept (BeginsLong.next l there small none same) =
-    subst (λ (n : ℕ). n < 2 * 2 ^ 98 + kept) (sym (next_left s s' 0 l.first same))
+    subst (λ (n : ℕ). n < 2 * 2 ^ 200 + kept) (sym (next_left s s' 0 l.first same))
     (omega (arith, small_all (length s.long.items) s.extent (omega (arith, s.long.ok, s.long.small)) small))
 lower_first s s' kept (BeginsLong.end past order up same) =
-    subst (λ (n : ℕ). n < 2 * 2 ^ 98 + kept) (sym (end_left s s' 0 same)) (omega arith)
+    subst (λ (n : ℕ). n < 2 * 2 ^ 200 + kept) (sym (end_left s s' 0 same)) (omega arith)

@@ -20,6 +20,7 @@ use Rattle.gin_scan.specs.Held.{ArePages}
 use Rattle.gin_scan.specs.Reaching.{IsReached}
 use Rattle.gin_scan.specs.Taking.{AreTaken, first_items}
 use Rattle.gin_scan.specs.Scanning.{IsScan, IsWithin, HasTaken, HasRead, IsScanOf, stages_left, steps_of, steps_left}
+use Rattle.gin_scan.specs.Scanning.{sought_in}
 use Rattle.gin_scan.specs.Inner.Parts.{IsReadUp, BeginsLong, AddedIf, AddsIfTold}
 use Rattle.gin_scan.specs.Inner.Steps.{MayStep, HasStepped}
 use Rattle.gin_scan.specs.declared.scan_core.ScanCore.{ScanCore}
@@ -50,8 +51,8 @@ module _ {Q D : Type 0} (device : Disk D) (M : Meaning Q) (q : Q) (f : FramesVal
         never_bad device M q f pass s HasPart page e may.scanning may.walk part_used
         (λ R pin P known shown o. next_part M q device f R pin known s at page left is within some o P shown) cannot
 
-    old_left : steps_left s ≡ 1 * 2 ^ 98 + ((length s.long.items - at) * 2 ^ 33 + left)
-    old_left = ap (λ (z : Stage). stages_left z * 2 ^ 98 + steps_of s z) is
+    old_left : steps_left s ≡ 1 * 2 ^ 200 + ((length s.long.items - at) * 2 ^ 33 + left)
+    old_left = ap (λ (z : Stage). stages_left z * 2 ^ 200 + steps_of s z) is
 
     -- a part is read
     pub part_stepped : (f' : FramesValue D) (pass' : Pass) (s' : ScanCore) (c : Page) → page ≢ 0 → left ≢ 0
@@ -64,15 +65,16 @@ module _ {Q D : Type 0} (device : Disk D) (M : Meaning Q) (q : Q) (f : FramesVal
         → HasStepped device M q f pass s f' pass' s'
     part_stepped f' pass' s' c some more page_is lies bytes one same has reads counted =
         let was = may.scanning.is_scan in
-        let new : steps_left s' ≡ 1 * 2 ^ 98 + ((length s.long.items - at) * 2 ^ 33 + (left - 1)) =
+        let new : steps_left s' ≡ 1 * 2 ^ 200 + ((length s.long.items - at) * 2 ^ 33 + (left - 1)) =
         ap steps_left same in
         stepped_by device M q f f' pass pass' s s' may reads
-        (subst IsScan (sym same) (record { pending = was.pending; main = was.main; within = within }))
+        (subst IsScan (sym same)
+        (record { ordered = was.ordered; pending = was.pending; main = was.main; within = within }))
         (ap (λ (z : ScanCore). z.keys) same) (ap (λ (z : ScanCore). z.snapshot) same)
         (subst (λ (n : ℕ). n < steps_left s) (sym new)
-        (subst (λ (n : ℕ). 1 * 2 ^ 98 + ((length s.long.items - at) * 2 ^ 33 + (left - 1)) < n) (sym old_left)
+        (subst (λ (n : ℕ). 1 * 2 ^ 200 + ((length s.long.items - at) * 2 ^ 33 + (left - 1)) < n) (sym old_left)
         (step_passed 1 ((length s.long.items - at) * 2 ^ 33 + left) ((length s.long.items - at) * 2 ^ 33 + (left - 1))
-        (2 ^ 98) (omega (arith, stays_below left more)))))
+        (2 ^ 200) (omega (arith, stays_below left more)))))
         (λ R pin known p o. part_read M q device f R pin known s s' at page left c is some more page_is lies bytes
         one within same o)
         (λ z.
@@ -84,7 +86,7 @@ module _ {Q D : Type 0} (device : Disk D) (M : Meaning Q) (q : Q) (f : FramesVal
         } in
         subst (λ (x : ScanCore). IsReached M q f' x x.stage) (sym same)
         (reached_still f f' reads.lying M q last (stage.Parts at (rightward c) (left - 1)) (
-          met_as M q f s last refl r.0,
+          met_as M q f s last refl refl r.0,
           long_as M q f s last refl refl r.1,
           (λ l e. parts_more f l.first page c (r.2 l e) some page_is lies has),
         ))) counted
@@ -96,25 +98,26 @@ module _ {Q D : Type 0} (device : Disk D) (M : Meaning Q) (q : Q) (f : FramesVal
     match_stepped s1 s' next after up t begins =
         let added : s1 ≡ record s { names = s1.names } = names_were t.answer t.added in
         let scan1 : IsScan s1 = subst IsScan (sym added) (record {
+          ordered = may.scanning.is_scan.ordered;
           pending = may.scanning.is_scan.pending;
           main = may.scanning.is_scan.main;
           within = may.scanning.is_scan.within;
         }) in
         let long : s1.long ≡ s.long = ap (λ (z : ScanCore). z.long) added in
-        let low : steps_left s' < 1 * 2 ^ 98 + ((length s1.long.items - at) * 2 ^ 33 + left) =
+        let low : steps_left s' < 1 * 2 ^ 200 + ((length s1.long.items - at) * 2 ^ 33 + left) =
         lower_next s1 s' at next left page (omega (arith, after)) begins in
         stepped_by device M q f f pass pass s s' may (still_reads device f pass may.scanning.is_pass may.scanning.held)
         (long_scan s1 s' next scan1 begins)
         (long_keys s1 s' next begins ∙ ap (λ (z : ScanCore). z.keys) added)
         (long_snapshot s1 s' next begins ∙ ap (λ (z : ScanCore). z.snapshot) added)
         (subst (λ (n : ℕ). steps_left s' < n) (sym old_left)
-        (subst (λ ls. steps_left s' < 1 * 2 ^ 98 + ((length ls.items - at) * 2 ^ 33 + left)) long low))
+        (subst (λ ls. steps_left s' < 1 * 2 ^ 200 + ((length ls.items - at) * 2 ^ 33 + left)) long low))
         (λ R pin known p o. begun_long M q R pin s1 s' next
         (matched M q device f R pin known s s1 at page left next t up o after is) begins)
         (λ z.
         let r = subst (IsReached M q f s) is z in
         begun_reached M q f s1 s' next
-        (met_as M q f s s1 (ap (λ (x : ScanCore). x.kept.items) added) r.0)
+        (met_as M q f s s1 (ap (λ (x : ScanCore). x.kept.items) added) (ap sought_in added) r.0)
         (long_as M q f s s1 (ap (λ (x : ScanCore). x.kept.items) added) (ap (λ (x : ScanCore). x.long.items) added)
         r.1) begins)
         (match_counted (M.satisfies q) s s1 s' at next page left pass.holds is after within t begins)
@@ -127,8 +130,8 @@ module _ {Q D : Type 0} (device : Disk D) (M : Meaning Q) (q : Q) (f : FramesVal
   pub heads_ended : (at : ℕ) (s' : ScanCore) → s.stage ≡ stage.Heads at → length s.kept.items ≤ at
       → BeginsLong s 0 s' → HasStepped device M q f pass s f pass s'
   heads_ended at s' is past begins =
-      let old : steps_left s ≡ 2 * 2 ^ 98 + (length s.kept.items - at) =
-      ap (λ (z : Stage). stages_left z * 2 ^ 98 + steps_of s z) is in
+      let old : steps_left s ≡ 2 * 2 ^ 200 + (length s.kept.items - at) =
+      ap (λ (z : Stage). stages_left z * 2 ^ 200 + steps_of s z) is in
       stepped_by device M q f f pass pass s s' may (still_reads device f pass may.scanning.is_pass may.scanning.held)
       (long_scan s s' 0 may.scanning.is_scan begins) (long_keys s s' 0 begins) (long_snapshot s s' 0 begins)
       (subst (λ (n : ℕ). steps_left s' < n) (sym old)

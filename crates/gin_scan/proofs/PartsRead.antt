@@ -1,5 +1,6 @@
 -- Parts of a long vector that were read are those of its document's chain.
-use Rattle.std.proofs.Common.{◌≡◌, ◌≢◌, ◌↔◌, ℕ, suc, ◌-◌, ◌<◌, ◌≤◌, IsTrue, List, [], ◌∷◌, length, take}
+use Rattle.std.proofs.Common.{◌≡◌, ◌≢◌, ◌↔◌, ℕ, zero, suc, ◌-◌, ◌<◌, ◌≤◌, IsTrue, List, [], ◌∷◌}
+use Rattle.std.proofs.Common.{length, take, drop}
 use Rattle.std.proofs.Common.{Some, refl, sym, ap, subst, ◌∙◌, inl, inr, arith, slice_get, length-append}
 use Rattle.ts_base.specs.Vectors.{Vector}
 use Rattle.ts_base.specs.Encoding.{IsEncoding}
@@ -11,6 +12,7 @@ use Rattle.core_state.specs.History.{Document, History, IsHistory, docs}
 use Rattle.core_state.specs.Legal.{IsLegal, Pin, Keeps}
 use Rattle.core_state.specs.Readings.{Read}
 use Rattle.core_state.proofs.ChainLengths.{few_below, chain_once}
+use Rattle.core_state.proofs.Newest.{legal_less}
 use Rattle.core_moments.proofs.LongReads.{ReadsLong, long_read, long_within, long_all, next_on, part_there}
 use Rattle.core_moments.proofs.OpenLists.{pages_in}
 use Rattle.buffer_frames.proofs.FirstLogs.{shown_by}
@@ -19,7 +21,11 @@ use Rattle.gin_scan.specs.Taking.{IsLongOf}
 use Rattle.gin_scan.specs.Inner.Parts.{IsReadUp, AddsIfTold}
 use Rattle.gin_scan.specs.declared.scan_core.ScanCore.{ScanCore}
 use Rattle.gin_scan.specs.declared.stage.LongVector.{LongVector}
-use Rattle.gin_scan.proofs.ListPages.{drop_legal}
+
+drop_legal : (n : ℕ) (R : Log) → IsLegal R → IsLegal (drop n R)
+drop_legal zero R l = l
+drop_legal (suc n) [] l = l
+drop_legal (suc n) (r ∷ R) l = drop_legal n R (legal_less r R l)
 
 overflow_used : (b : Body) (bytes : List ℕ) → b ≡ body.Overflow bytes → b ≢ body.Free
 overflow_used b bytes is free = let z : ⊥ = cc in z

@@ -1,7 +1,7 @@
 -- How the pages are reached that a scan reads.
 use Rattle.std.proofs.Common.{◌≡◌, ◌≢◌, ℕ, suc, ◌+◌, ◌-◌, ◌<◌, ◌≤◌, Bool, true, false, IsTrue, List, []}
 use Rattle.std.proofs.Common.{cond}
-use Rattle.std.proofs.Common.{◌∷◌, ◌++◌, length, Some, refl, sym, ap, subst, ◌∙◌, inl, inr, arith, slice_get}
+use Rattle.std.proofs.Common.{◌∷◌, ◌++◌, length, map, Some, refl, sym, ap, subst, ◌∙◌, inl, inr, arith, slice_get}
 use Rattle.std.specs.Prelude.{slice_range}
 use Rattle.std.proofs.lemmas.Option.{slice_get_within}
 use Rattle.disk_trait.specs.declared.device.Disk.{Ghosts as Disk}
@@ -16,23 +16,28 @@ use Rattle.core_state.specs.Log.{In}
 use Rattle.core_state.specs.Documents.{page_of, slot_of}
 use Rattle.core_state.specs.Readings.{Read}
 use Rattle.core_state.specs.declared.answers.Fate.{Fate}
-use Rattle.core_state.proofs.PageLists.{in_either}
+use Rattle.core_state.proofs.PageLists.{in_back, in_either}
 use Rattle.core_state.proofs.Trees.Members.{in_map}
 use Rattle.doc_heap.specs.HeapPages.{head_on}
-use Rattle.gin_opclass.specs.Class.{Asked, Meaning, JudgeIsSound}
-use Rattle.core_moments.specs.Walk.{Walk, rightward}
+use Rattle.gin_opclass.specs.Class.{Asked, Meaning}
+use Rattle.core_moments.specs.Walk.{Walk, KeyWalk, LeafRead, Sought, rightward}
+use Rattle.core_moments.specs.Law.{AreSought}
 use Rattle.core_moments.specs.Judging.{IsKept}
 use Rattle.buffer_frames.specs.Frames.{FramesValue, Lies}
 use Rattle.buffer_frames.specs.declared.frame_error.FrameError.TheVariants.{BadPage, OutOfMemory}
 use Rattle.buffer_frames.specs.declared.pass.Pass.{Pass}
 use Rattle.gin_scan.specs.Calls.{LieStill}
 use Rattle.gin_scan.specs.Counting.{IsCounted}
-use Rattle.gin_scan.specs.Causes.{HasMeta, HasRows, HasPart, HasSlots, CannotUse, CannotStep}
-use Rattle.gin_scan.specs.Reading.{ReadsListBy}
-use Rattle.gin_scan.specs.Reaching.{AreLying, ListLies, ListLeads, HeadLeads, PartsLead, HasMet, HasMetLong}
-use Rattle.gin_scan.specs.Reaching.{IsReached, IsBadOnPath}
+use Rattle.gin_scan.specs.Causes.{HasMeta, HasRows, HasWay, HasPart, HasSlots, CannotUse, CannotStep}
+use Rattle.gin_scan.specs.Reading.{ReadsListBy, ReadsKeysBy}
+use Rattle.gin_scan.specs.Reaching.{posting_reads, AreLying, ListLies, ListLeads, WayLies}
+use Rattle.gin_scan.specs.Reaching.{WalkLies, WalkLeads, LeadsSomewhere}
+use Rattle.gin_scan.specs.Reaching.{HeadLeads, PartsLead, HasMet, HasMetLong, IsOnTree, IsReached, IsBadOnPath}
 use Rattle.gin_scan.specs.Rows.{lists_of, first_of_rows, AreNoted}
-use Rattle.gin_scan.specs.Scanning.{AsksFor, IsScan, IsWithin, asked_in}
+use Rattle.gin_scan.specs.Ways.{AreOrdered, IsGoingDown, IsGoingAlong, IsGoingInTrees}
+use Rattle.core_moments.specs.OpenLaws.{IsLeaf, IsPostingPage}
+use Rattle.core_moments.specs.OpenWalk.{ReadsInTree, IsOnWay, IsAmongLeaves, IsInTrees}
+use Rattle.gin_scan.specs.Scanning.{AsksFor, IsScan, IsWithin, asked_in, order_in, sought_in, trees_from}
 use Rattle.gin_scan.specs.Seen.{AreSeen}
 use Rattle.gin_scan.specs.Sides.{AreKept}
 use Rattle.gin_scan.specs.Inner.Heads.{Takes, TakesIfSeen, TakesDocuments, long_at}
@@ -44,9 +49,10 @@ use Rattle.gin_scan.specs.declared.stage.Stage.TheVariants as stage
 use Rattle.gin_scan.specs.declared.stage.LongVector.{LongVector}
 use Rattle.gin_scan.proofs.Growing.{lead_more}
 use Rattle.gin_scan.proofs.HeadsRead.{seen_at, seen_length, range_length, get_range}
-use Rattle.gin_scan.proofs.JudgedList.{JudgesAll, kept_all}
+use Rattle.gin_scan.proofs.EndedWalks.{order_sought}
 use Rattle.gin_scan.proofs.ListRead.{meta_read, page_read, list_further}
 use Rattle.gin_scan.proofs.JudgedScan.{element_in, element_at}
+use Rattle.gin_scan.proofs.WaysRead.{one_down, one_along, one_in_trees}
 
 -- ── pages that lie still ──
 
@@ -64,7 +70,27 @@ module _ {D : Type 0} (f f' : FramesValue D) (still : LieStill f f') where
     meta_page = l.meta_page;
     leads = l.leads;
     lie = list_still (w.meta ∷ w.pending) l.lie;
-    alone = l.alone;
+  }
+
+  way_still : (k : KeyWalk) → WayLies f k → WayLies f' k
+  way_still k l = record {
+    down = lying_still (HasWay k.sought) k.down l.down;
+    leaves = lying_still IsLeaf (map (λ (x : LeafRead). x.leaf) k.leaves) l.leaves;
+    postings = lying_still IsPostingPage (posting_reads k) l.postings;
+  }
+
+  walk_still : (sought : List Sought) (w : Walk) (p : ℕ) → WalkLeads f sought w p → WalkLeads f' sought w p
+  walk_still sought w p l = record {
+    list = leads_still w p l.list;
+    ways = λ k i. way_still k (l.ways k i);
+    each = l.each;
+  }
+
+  lies_still : (w : Walk) → WalkLies f w → WalkLies f' w
+  lies_still w l = record {
+    list = list_still (w.meta ∷ w.pending) l.list;
+    leads = l.leads;
+    ways = λ k i. way_still k (l.ways k i);
   }
 
   head_still : (item first : ℕ) → HeadLeads f item first → HeadLeads f' item first
@@ -93,9 +119,29 @@ module _ {D : Type 0} (f f' : FramesValue D) (still : LieStill f f') where
     noted = r.noted;
     begun = r.begun;
     first = r.first;
+    main = r.main;
     unjudged = r.unjudged;
     left_is = r.left_is;
     pages_read = r.pages_read;
+  }
+
+  -- and of the tree
+  pub tree_still : (asked : List Asked) (sought : List Sought) (s : ScanCore) (key left : ℕ)
+      (Open : Sought → List KeyWalk → Type 0) → ReadsKeysBy (WalkLies f) LeadsSomewhere asked sought s key left Open
+      → ReadsKeysBy (WalkLies f') LeadsSomewhere asked sought s key left Open
+  tree_still asked sought s key left Open r = record {
+    walk = r.walk;
+    so_far = record {
+      meta_page = r.so_far.meta_page;
+      reads = lies_still r.walk r.so_far.reads;
+      noted = r.so_far.noted;
+      first = r.so_far.first;
+      noted_tree = r.so_far.noted_tree;
+      unjudged = r.so_far.unjudged;
+      pages_read = r.so_far.pages_read;
+    };
+    keys = r.keys;
+    left_is = r.left_is;
   }
 
   module _ {Q : Type 0} (M : Meaning Q) (q : Q) where
@@ -103,7 +149,7 @@ module _ {D : Type 0} (f f' : FramesValue D) (still : LieStill f f') where
     met_still s m = record {
       walk = m.walk;
       page = m.page;
-      list = leads_still m.walk m.page m.list;
+      leads = walk_still (sought_in s) m.walk m.page m.leads;
       kept = m.kept;
     }
 
@@ -113,6 +159,15 @@ module _ {D : Type 0} (f f' : FramesValue D) (still : LieStill f f') where
     pub reached_still : (s : ScanCore) (z : Stage) → IsReached M q f s z → IsReached M q f' s z
     reached_still s stage.Meta r = r
     reached_still s (stage.Pending page left) r = read_still (M.asked q) s page left r
+    reached_still s (stage.Down key page left) r =
+        tree_still (M.asked q) (sought_in s) s key left (IsGoingDown page) r
+    reached_still s (stage.Leaf key page left) r =
+        tree_still (M.asked q) (sought_in s) s key left (IsGoingAlong ReadsInTree page) r
+    reached_still s (stage.Posting key at page left next read) r = (
+      r.0,
+      tree_still (M.asked q) (sought_in s) s key (s.extent - read)
+          (IsGoingInTrees ReadsInTree page left s.extent (trees_from at s) next) r.1,
+    )
     reached_still s (stage.Heads at) r = (met_still s r.0, long_still s r.1)
     reached_still s (stage.Parts at page left) r =
         (met_still s r.0, long_still s r.1, λ l e. parts_still l.first page (r.2 l e))
@@ -184,22 +239,6 @@ module _ {D Q : Type 0} (M : Meaning Q) (q : Q) (f f' : FramesValue D) (still : 
       (record s { stage = stage.Pending page more; extent = s.extent + more }) page more
       (list_further (ListLies f) (M.asked q) s page more (stage.Pending page more) r))
 
--- ── judged ──
-
-pub judged_reached : {D Q : Type 0} (M : Meaning Q) (S : JudgeIsSound M) (q : Q) (f : FramesValue D) (s s' : ScanCore)
-    (page left : ℕ) → IsScan s → AsksFor M q s → ReadsListBy (ListLies f) (M.asked q) s page left
-    → JudgesAll M q s s' → IsReached M q f s' (stage.Heads 0)
-judged_reached M S q f s s' page left is asks r j =
-    let w : Walk = record { meta = r.meta; pending = r.pending; keys = [] } in (
-      record {
-        walk = w;
-        page = page;
-        list = record { meta_page = r.meta_page; leads = r.leads; lie = r.reads; alone = refl };
-        kept = kept_all M q S s s' page left (ListLies f) is asks r j w refl (λ i. refl) (λ i a. refl);
-      },
-      (λ l i. absurd (subst (In l) (ap (λ (z : ScanCore). z.long.items) j.rest ∙ r.unjudged.long) i)),
-    )
-
 -- ── heads ──
 
 module _ (P : Vector → Type 0) (Good : LongVector → Type 0) where
@@ -252,11 +291,12 @@ module _ (P : Vector → Type 0) (Good : LongVector → Type 0) where
         (λ j m d e g. told (suc j) m d (subst (λ (n : ℕ). slice_get kept n ≡ Some m) (omega arith) e) g) one.0 takes.2.2
 
 module _ {D Q : Type 0} (M : Meaning Q) (q : Q) (f : FramesValue D) where
-  pub met_as : (s s' : ScanCore) → s'.kept.items ≡ s.kept.items → HasMet M q f s → HasMet M q f s'
-  met_as s s' same m = record {
+  pub met_as : (s s' : ScanCore) → s'.kept.items ≡ s.kept.items → sought_in s' ≡ sought_in s → HasMet M q f s
+      → HasMet M q f s'
+  met_as s s' same sought m = record {
     walk = m.walk;
     page = m.page;
-    list = m.list;
+    leads = subst (λ (ss : List Sought). WalkLeads f ss m.walk m.page) (sym sought) m.leads;
     kept = subst (AreKept M q m.walk) (sym same) m.kept;
   }
 
@@ -273,9 +313,9 @@ module _ {D Q : Type 0} (M : Meaning Q) (q : Q) (f : FramesValue D) where
       → IsPage c → Lies f number c
       → AreSeen fates s.snapshot c (slice_range s.kept.items at end) seen
       → TakesDocuments (M.satisfies q) c at seen (record s { heads_read = new.heads_read }) new
-      → new.kept.items ≡ s.kept.items → HasMet M q f s → HasMetLong M q f s
+      → new.kept.items ≡ s.kept.items → sought_in new ≡ sought_in s → HasMet M q f s → HasMetLong M q f s
       → HasMet M q f new × HasMetLong M q f new
-  heads_reached s new at end number c fates seen ordered within here is lies are takes kept met long =
+  heads_reached s new at end number c fates seen ordered within here is lies are takes kept sought met long =
       let count : length seen ≡ end - at = seen_length fates s.snapshot c (slice_range s.kept.items at end) seen are
       ∙ range_length s.kept.items at end within in
       let each = long_met (M.satisfies q)
@@ -299,7 +339,7 @@ module _ {D Q : Type 0} (M : Meaning Q) (q : Q) (f : FramesValue D) where
           },
         )),
       )) long takes in
-      (met_as s new kept met, λ l i. let h = each l i in (h.0, subst (In (h.0, false)) (sym kept) h.1, h.2))
+      (met_as s new kept sought met, λ l i. let h = each l i in (h.0, subst (In (h.0, false)) (sym kept) h.1, h.2))
 
   -- the next vector begins, or the scan ends
   pub begun_reached : (s s' : ScanCore) (at : ℕ) → HasMet M q f s → HasMetLong M q f s → BeginsLong s at s'
@@ -307,7 +347,7 @@ module _ {D Q : Type 0} (M : Meaning Q) (q : Q) (f : FramesValue D) where
   begun_reached s s' at met long (BeginsLong.next l there small none same) =
       let z : ScanCore = record s { bytes = s'.bytes; stage = stage.Parts at l.first s.extent } in
       subst (λ (x : ScanCore). IsReached M q f x x.stage) (sym same) (
-        met_as s z refl met,
+        met_as s z refl refl met,
         long_as s z refl refl long,
         (λ m e. record {
           parts = [];
@@ -328,31 +368,72 @@ module _ {D Q : Type 0} (M : Meaning Q) (q : Q) (f : FramesValue D) where
   above : (page p : ℕ) → p ≡ page → (page ≡ 0 → BadPage p ≡ OutOfMemory) → p ≢ 0
   above page p same end none = let e = end (sym same ∙ none) in let n : ⊥ = cc in n
 
-  pub bad_reached : (s : ScanCore) (z : Stage) (p : ℕ) → IsWithin s z → IsReached M q f s z
+  -- what a scan of the query looks for
+  sought_for : (s : ScanCore) → IsScan s → AsksFor M q s → AreSought M q (sought_in s)
+  sought_for s is asks =
+      order_sought M q (order_in s)
+      (subst (λ (asked : List Asked). AreOrdered asked (order_in s)) asks.asked is.ordered) s.keys.all asks.all
+
+  -- the walk that is open is one of those that were read
+  last_lies : (s : ScanCore) (key left : ℕ) (Open : Sought → List KeyWalk → Type 0)
+      (r : IsOnTree M q f s key left Open) (k : KeyWalk) → r.keys.last ≡ k ∷ [] → WayLies f k
+  last_lies s key left Open r k last =
+      r.so_far.reads.ways k
+      (subst (In k) (sym (r.keys.walks ∙ ap (λ (ks : List KeyWalk). r.keys.over ++ ks) last))
+      (in_back k r.keys.over (k ∷ []) (inl refl)))
+
+  pub bad_reached : (s : ScanCore) (z : Stage) (p : ℕ) → IsScan s → AsksFor M q s → IsWithin s z → IsReached M q f s z
       → CannotStep f s z (BadPage p) → IsBadOnPath M q f p
-  bad_reached s stage.Meta p is r c = IsBadOnPath.meta c.0 (subst (CannotUse f HasMeta) (sym c.0) c.1)
-  bad_reached s (stage.Pending page left) p is r c =
+  bad_reached s stage.Meta p scan asks is r c = IsBadOnPath.meta c.0 (subst (CannotUse f HasMeta) (sym c.0) c.1)
+  bad_reached s (stage.Pending page left) p scan asks is r c =
       IsBadOnPath.rows (record { meta = r.meta; pending = r.pending; keys = [] })
       (subst (ListLeads f (record { meta = r.meta; pending = r.pending; keys = [] })) (sym c.0.0)
-      (record { meta_page = r.meta_page; leads = r.leads; lie = r.reads; alone = refl }))
+      (record { meta_page = r.meta_page; leads = r.leads; lie = r.reads }))
       (above page p c.0.0 c.1) (subst (CannotUse f HasRows) (sym c.0.0) c.0.1)
-  bad_reached s (stage.Heads at) p is r (inl e) = absurd (let n : ⊥ = cc in n)
-  bad_reached s (stage.Heads at) p is r (inr c) =
+  bad_reached s (stage.Down key page left) p scan asks is r (inl e) = absurd (let n : ⊥ = cc in n)
+  bad_reached s (stage.Down key page left) p scan asks is r (inr c) =
+      let k = one_down page c.0 r.keys.last (r.keys.begun c.0 c.1) in
+      IsBadOnPath.way (sought_in s) k.0 (sought_for s scan asks)
+      (subst (λ (u : Sought). In u (sought_in s)) (sym k.2) (element_in c.0 (sought_in s) key c.1))
+      (last_lies s key left (IsGoingDown page) r k.0 k.1) (subst (IsOnWay k.0) (sym c.2.0) k.3)
+      (subst (λ (u : Sought). CannotUse f (HasWay u) p) (sym k.2) (subst (CannotUse f (HasWay c.0)) (sym c.2.0) c.2.1))
+  bad_reached s (stage.Leaf key page left) p scan asks is r (inl e) = absurd (let n : ⊥ = cc in n)
+  bad_reached s (stage.Leaf key page left) p scan asks is r (inr c) =
+      let w = element_at (sought_in s) key is in
+      let k = one_along ReadsInTree page w.0 r.keys.last (r.keys.begun w.0 w.1) in
+      IsBadOnPath.leaf (sought_in s) k.0 (sought_for s scan asks)
+      (subst (λ (u : Sought). In u (sought_in s)) (sym k.2) (element_in w.0 (sought_in s) key w.1))
+      (last_lies s key left (IsGoingAlong ReadsInTree page) r k.0 k.1)
+      (subst (IsAmongLeaves ReadsInTree k.0) (sym c.1.0) k.3) (λ e. c.0 (sym c.1.0 ∙ e))
+      (subst (CannotUse f IsLeaf) (sym c.1.0) c.1.1)
+  bad_reached s (stage.Posting key at page left next read) p scan asks is r (inl e) = absurd (let n : ⊥ = cc in n)
+  bad_reached s (stage.Posting key at page left next read) p scan asks is r (inr c) =
+      let w = element_at (sought_in s) key is.0 in
+      let trees = trees_from at s in
+      let k = one_in_trees ReadsInTree page left s.extent trees next w.0 r.1.keys.last (r.1.keys.begun w.0 w.1) in
+      IsBadOnPath.posting (sought_in s) k.0 k.3 next (sought_for s scan asks)
+      (subst (λ (u : Sought). In u (sought_in s)) (sym k.2) (element_in w.0 (sought_in s) key w.1))
+      (last_lies s key (s.extent - read) (IsGoingInTrees ReadsInTree page left s.extent trees next) r.1 k.0 k.1)
+      (subst (λ (n : ℕ). IsInTrees ReadsInTree k.0 n k.3 next) (sym c.1.0) k.4) (λ e. c.0 (sym c.1.0 ∙ e))
+      (subst (CannotUse f IsPostingPage) (sym c.1.0) c.1.1)
+  bad_reached s (stage.Heads at) p scan asks is r (inl e) = absurd (let n : ⊥ = cc in n)
+  bad_reached s (stage.Heads at) p scan asks is r (inr c) =
       let met = r.0 in
-      IsBadOnPath.heap met.walk met.page c.0 met.list (kept_of met c.0 c.1 (element_in (c.0, c.1) s.kept.items at c.2))
+      IsBadOnPath.heap (sought_in s) met.walk met.page c.0 (sought_for s scan asks) met.leads
+      (kept_of met c.0 c.1 (element_in (c.0, c.1) s.kept.items at c.2))
       (sym c.3.0) (subst (CannotUse f HasSlots) (sym c.3.0) c.3.1)
     where
       kept_of : (m : HasMet M q f s) (i : ℕ) (b : Bool) → In (i, b) s.kept.items → IsKept M q m.walk i
       kept_of m i b there = (m.kept.just i).0 (in_map (λ (k : ℕ × Bool). k.0) (i, b) s.kept.items there)
-  bad_reached s (stage.Parts at page left) p is r c =
+  bad_reached s (stage.Parts at page left) p scan asks is r c =
       let met = r.0 in
       let l = element_at s.long.items at is in
       let h = r.1 l.0 (element_in l.0 s.long.items at l.1) in
-      IsBadOnPath.part met.walk met.page h.0 l.0.first met.list
+      IsBadOnPath.part (sought_in s) met.walk met.page h.0 l.0.first (sought_for s scan asks) met.leads
       ((met.kept.just h.0).0 (in_map (λ (k : ℕ × Bool). k.0) (h.0, false) s.kept.items h.1)) h.2
       (subst (PartsLead f l.0.first) (sym c.0.0) (r.2 l.0 l.1)) (above page p c.0.0 c.1)
       (subst (CannotUse f HasPart) (sym c.0.0) c.0.1)
-  bad_reached s stage.Done p is r c = absurd c
+  bad_reached s stage.Done p scan asks is r c = absurd c
 
 -- a step that was taken after a look
 pub stepped_before : {D Q : Type 0} (device : Disk D) (M : Meaning Q) (q : Q) (f f' : FramesValue D) (s : ScanCore)

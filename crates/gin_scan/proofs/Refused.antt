@@ -51,18 +51,17 @@ pub never_bad : {D Q : Type 0} (device : Disk D) (M : Meaning Q) (q : Q) (f : Fr
     → ((b : Body) → (c : Page) → c.body ≡ b → Is c → b ≢ body.Free)
     → ((R : Log) (pin : Pin) (P : Pages) → Known device f R pin → Shows R P → IsScanOf M q R pin s → Is (P p))
     → CannotRead f Is p e → IsLawfulRefusal device f e
-never_bad device M q f pass s Is p (BadPage bad) scanning scan used so cannot = λ told up R stands legal leaves.
+never_bad device M q f pass s Is p (BadPage bad) scanning scan used so cannot = λ told up R stands legal.
     let keeps = kept_pin device f pass R scanning.pin scanning.is_pass told up stands legal scanning.pinned in
     let known : Known device f R scanning.pin = record {
       told = told;
       up = up;
       stands = stands;
       legal = legal;
-      leaves = leaves;
       keeps = keeps;
     } in
     let P = shown_by R legal.valid in
-    let o = scan told up R stands legal leaves scanning.pin scanning.pinned in
+    let o = scan told up R stands legal scanning.pin scanning.pinned in
     let is : Is (P.0 p) = so R scanning.pin P.0 known P.1 o in
     usable device f R told up stands legal P.0 P.1 Is p is (used (P.0 p).body (P.0 p) refl is) cannot.1
 never_bad device M q f pass s Is p DiskFault scanning scan used so cannot = tt

@@ -92,15 +92,15 @@ in_place [] j lt = absurd (omega (arith, lt))
 in_place (x ∷ xs) zero lt = inl refl
 in_place (x ∷ xs) (suc j) lt = inr (in_place xs j (omega (arith, lt)))
 
-not_greater : (a b : List ℕ) → (KeyLess b a → ⊥) → slice_cmp nat_cmp a b ≢ Greater
+pub not_greater : (a b : List ℕ) → (KeyLess b a → ⊥) → slice_cmp nat_cmp a b ≢ Greater
 not_greater a b off g = off (nat_list_cmp_total.antisymm b a ∙ ap ordering_reverse g)
 
-begins_fits : (key k : List ℕ) (prefix : Bool) → fits_asked (asked_for key prefix) k ≡ true → begins key k ≡ true
+pub begins_fits : (key k : List ℕ) (prefix : Bool) → fits_asked (asked_for key prefix) k ≡ true → begins key k ≡ true
 begins_fits key k true e = e
 begins_fits key k false e = (and_true (begins key k) (begins k key) e).0
 
 module _ (key : List ℕ) (all : List (List ℕ)) (p : ℕ) (rises : Rising KeyLess all) (w : IsBetween key all p p) where
-  not_before : (j : ℕ) → j < p → begins key (get_or all j []) ≡ true → ⊥
+  pub not_before : (j : ℕ) → j < p → begins key (get_or all j []) ≡ true → ⊥
   not_before j lt b =
       let less = w.below j lt in
       elim (begins_at_most key (get_or all j []) b) [

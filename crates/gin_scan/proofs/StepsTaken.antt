@@ -1,10 +1,11 @@
 -- A step of a scan, of each log that the frames stand for.
-use Rattle.std.proofs.Common.{◌≡◌, ◌<◌, ℕ, Bool, map, [], ◌++◌, Some, None, sym, ap, subst, ◌∙◌}
+use Rattle.std.proofs.Common.{◌≡◌, ◌<◌, ℕ, Bool, map, [], ◌++◌, length, Some, None, sym, ap, ap₂, subst, subst₂, ◌∙◌}
+use Rattle.std.specs.Prelude.{Vec}
+use Rattle.std.specs.declared.alloc.Global.{Global}
 use Rattle.disk_trait.specs.declared.device.Disk.{Ghosts as Disk}
 use Rattle.wal.specs.Waiting.{down_of}
 use Rattle.core_state.specs.Log.{Log}
 use Rattle.core_state.specs.Legal.{IsLegal, Pin, Keeps}
-use Rattle.core_state.specs.Steady.{LeavesIndex}
 use Rattle.gin_opclass.specs.Class.{Meaning}
 use Rattle.buffer_frames.specs.Frames.{FramesValue, Stands}
 use Rattle.buffer_frames.specs.Passes.{IsPassOf, HasAdded, GoesOnBy, pin_in}
@@ -16,7 +17,8 @@ use Rattle.gin_scan.specs.Calls.{ReadsOn}
 use Rattle.gin_scan.specs.Counting.{CountsOn}
 use Rattle.gin_scan.specs.Sides.{AreKept}
 use Rattle.gin_scan.specs.Reaching.{IsReached}
-use Rattle.gin_scan.specs.Scanning.{IsScan, HasJudged, IsScanning, IsScanOf, Scanning, steps_left}
+use Rattle.gin_scan.specs.Ways.{AreOrdered, asked_at, sought_by}
+use Rattle.gin_scan.specs.Scanning.{IsScan, IsWithin, HasJudged, IsScanning, IsScanOf, Scanning, steps_left, sought_in}
 use Rattle.gin_scan.specs.Inner.Steps.{MayStep, HasStepped}
 use Rattle.gin_scan.specs.declared.scan_core.ScanCore.{ScanCore}
 use Rattle.gin_scan.proofs.GoingOn.{kept_pin}
@@ -32,7 +34,6 @@ pub record Known {D : Type 0} (device : Disk D) (f : FramesValue D) (R : Log) (p
   pub up : down_of f.journal.wal ≡ None
   pub stands : Stands device f R
   pub legal : IsLegal R
-  pub leaves : LeavesIndex R
   pub keeps : Keeps R pin
 
 -- a step that is right of each log that the frames stood for is right of those that they stand for
@@ -41,7 +42,7 @@ pub step_taken : {D Q : Type 0} (device : Disk D) (M : Meaning Q) (q : Q) (f f' 
     → ((R : Log) (pin : Pin) → Known device f R pin → pin_in pass.pin ≡ Some pin → IsScanOf M q R pin s
     → IsScanOf M q R pin s')
     → Scanning device M q f pass s → Scanning device M q f' pass' s'
-step_taken device M q f f' pass pass' s s' of added same step scan told up R' stands legal leaves pin e =
+step_taken device M q f f' pass pass' s s' of added same step scan told up R' stands legal pin e =
     let up_old = added.was_up up in
     let b = added.back told up R' stands in
     let one : R' ≡ b.0 = same_log f.journal.owes b.0 R' b.2 in
@@ -52,9 +53,8 @@ step_taken device M q f f' pass pass' s s' of added same step scan told up R' st
       up = up_old;
       stands = old;
       legal = legal;
-      leaves = leaves;
       keeps = kept_pin device f pass R' pin of told up_old old legal pinned;
-    }) pinned (scan told up_old R' old legal leaves pin pinned)
+    }) pinned (scan told up_old R' old legal pin pinned)
 
 -- a step of a scan that read, and is right of each such log
 pub stepped_by : {D Q : Type 0} (device : Disk D) (M : Meaning Q) (q : Q) (f f' : FramesValue D) (pass pass' : Pass)
@@ -85,6 +85,23 @@ stepped_by device M q f f' pass pass' s s' may reads is_scan keys snapshot lower
   counted = counted;
 }
 
+-- for the same keys, with as many lists
+pub scan_as : (s s' : ScanCore) → IsScan s → s'.keys ≡ s.keys → s'.order ≡ s.order
+    → length s'.pending.by_key.items ≡ length s.pending.by_key.items
+    → length s'.main.by_key.items ≡ length s.main.by_key.items → IsWithin s' s'.stage → IsScan s'
+scan_as s s' is keys order pending main within = record {
+  ordered = subst₂ (λ (k : QueryKeys) (o : Vec ℕ Global). AreOrdered (map asked_by k.keys.items)
+      (map (asked_at k.keys.items) o.items)) (sym keys) (sym order) is.ordered;
+  pending = pending ∙ is.pending ∙ sym (ap (λ (k : QueryKeys). length k.keys.items) keys);
+  main = main ∙ is.main ∙ sym (ap (λ (k : QueryKeys). length k.keys.items) keys);
+  within = within;
+}
+
+-- what its walks look for
+pub sought_as : (s s' : ScanCore) → s'.keys ≡ s.keys → s'.order ≡ s.order → sought_in s' ≡ sought_in s
+sought_as s s' keys order =
+    ap₂ (λ (k : QueryKeys) (o : Vec ℕ Global). sought_by k.all (map (asked_at k.keys.items) o.items)) keys order
+
 -- the pin is the scan's
 pub own_pin : {D : Type 0} (f : FramesValue D) (pass : Pass) (s : ScanCore) (pin : Pin) → IsScanning f pass s
     → pin_in pass.pin ≡ Some pin → s.snapshot ≡ pin.commits
@@ -102,6 +119,5 @@ judged_as M q R pin from s s' same j = record {
   walk = j.walk;
   is_walk = j.is_walk;
   reads = j.reads;
-  none_read = j.none_read;
   kept = subst (AreKept M q j.walk) (sym same) j.kept;
 }

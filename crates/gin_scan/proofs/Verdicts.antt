@@ -18,7 +18,7 @@ use Rattle.core_moments.specs.Judging.{starts_row, IsKept, HasYes}
 use Rattle.core_moments.proofs.Judging.{or_left, or_right, any_or_none}
 use Rattle.core_moments.proofs.Words.{and_true, same_number, number_itself}
 use Rattle.gin_scan.specs.Rows.{first_read, first_of_rows}
-use Rattle.gin_scan.specs.Sides.{pending_side, main_side, IsVerdictBy, IsVerdict, AreKeptOf}
+use Rattle.gin_scan.specs.Sides.{pending_side, main_side, IsVerdictBy, IsVerdictAlone, IsVerdict, AreKeptOf}
 use Rattle.gin_scan.specs.declared.judged.Verdict.{Verdict}
 
 or_either : (a b : Bool) → (a || b) ≡ true → (a ≡ true) ⊎ (b ≡ true)
@@ -101,7 +101,7 @@ module _ {Q : Type 0} (M : Meaning Q) (q : Q) (w : Walk) (i : ℕ) where
       ]),
       (λ k. vk ∙ kept_back k),
     );
-    yes = (
+    yes = λ kept. (
       (λ y. elim (or_either a.yes b.yes (sym vy ∙ y)) [
         | inl f ↦ HasYes.by_pending is_met
             (subst (λ (t : Tri). M.judged q (values (pending_has w i) t (M.asked q)) ≡ True)
@@ -126,13 +126,13 @@ module _ {Q : Type 0} (M : Meaning Q) (q : Q) (w : Walk) (i : ℕ) where
       yes_back (HasYes.by_main m j) = or_right a.yes b.yes (B.yes.1 j)
 
   pub verdict_of_met : (v : Verdict) → is_exception w i ≡ false → met w i ≡ true
-      → IsVerdictBy M q (pending_side w) i False v → IsVerdict M q w i v
+      → IsVerdictAlone M q (pending_side w) i False v → IsVerdict M q w i v
   verdict_of_met v e m A = record {
     kept = ((λ k. IsKept.by_pending m (A.kept.0 k)), kept_back);
-    yes = (
+    yes = λ kept. (
       (λ y. HasYes.by_pending m (subst (λ (t : Tri). M.judged q (values (pending_has w i) t (M.asked q)) ≡ True)
-          (sym (absent_at false e)) (A.yes.0 y))),
-      yes_back,
+          (sym (absent_at false e)) ((A.yes kept).0 y))),
+      yes_back kept,
     );
   }
     where
@@ -140,26 +140,26 @@ module _ {Q : Type 0} (M : Meaning Q) (q : Q) (w : Walk) (i : ℕ) where
       kept_back (IsKept.by_pending n j) = A.kept.1 j
       kept_back (IsKept.by_main n j) = absurd (no_main e m n)
 
-      yes_back : HasYes M q w i → IsTrue v.yes
-      yes_back (HasYes.by_pending n j) =
-          A.yes.1 (subst (λ (t : Tri). M.judged q (values (pending_has w i) t (M.asked q)) ≡ True)
+      yes_back : IsTrue v.kept → HasYes M q w i → IsTrue v.yes
+      yes_back kept (HasYes.by_pending n j) =
+          (A.yes kept).1 (subst (λ (t : Tri). M.judged q (values (pending_has w i) t (M.asked q)) ≡ True)
           (absent_at false e) j)
-      yes_back (HasYes.by_main n j) = absurd (no_main e m n)
+      yes_back kept (HasYes.by_main n j) = absurd (no_main e m n)
 
   pub verdict_of_unmet : (v : Verdict) → met w i ≡ false → main_read w i ≡ true
-      → IsVerdictBy M q (main_side w) i Maybe v → IsVerdict M q w i v
+      → IsVerdictAlone M q (main_side w) i Maybe v → IsVerdict M q w i v
   verdict_of_unmet v e m A = record {
     kept = ((λ k. IsKept.by_main (main_of_unmet e m) (A.kept.0 k)), kept_back);
-    yes = ((λ y. HasYes.by_main (main_of_unmet e m) (A.yes.0 y)), yes_back);
+    yes = λ kept. ((λ y. HasYes.by_main (main_of_unmet e m) ((A.yes kept).0 y)), yes_back kept);
   }
     where
       kept_back : IsKept M q w i → IsTrue v.kept
       kept_back (IsKept.by_pending n j) = absurd (not_both (met w i) n e)
       kept_back (IsKept.by_main n j) = A.kept.1 j
 
-      yes_back : HasYes M q w i → IsTrue v.yes
-      yes_back (HasYes.by_pending n j) = absurd (not_both (met w i) n e)
-      yes_back (HasYes.by_main n j) = A.yes.1 j
+      yes_back : IsTrue v.kept → HasYes M q w i → IsTrue v.yes
+      yes_back kept (HasYes.by_pending n j) = absurd (not_both (met w i) n e)
+      yes_back kept (HasYes.by_main n j) = (A.yes kept).1 j
 
 -- ── an item without a key that fits ──
 

@@ -21,8 +21,8 @@ IsFound P (d ∷ ds) names =
     ⊎ (¬ P d.vector × IsFound P ds names)
 
 module _ {Q : Type 0} (M : Meaning Q) (q : Q) where
-  -- The names are those of the documents of the pin's snapshot that satisfy the query, by serial. There
-  -- is a walk for the query from the pin of which so many items are kept as there were candidates; no
+  -- The names are those of the documents of the pin's snapshot that satisfy the query, by serial. There is a walk for
+  -- the query from the pin, through the list and the tree, of which so many items are kept as there were candidates; no
   -- other head was read. The pages that were read are those of this walk, one for each heap page of a kept
   -- item, and parts of long vectors of such items' documents.
   pub record HasFound (R : Log) (pin : Pin) (found : Found) : Type 0 where

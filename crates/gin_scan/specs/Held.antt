@@ -1,12 +1,12 @@
 -- Which pages a search reads: those of its walk, and what it reads of the documents that are kept.
-use Rattle.std.specs.Prelude.{◌≡◌, ◌≢◌, ℕ, suc, ◌+◌, ◌<◌, ◌≤◌, ⊤, List, [], ◌∷◌, length}
+use Rattle.std.specs.Prelude.{◌≡◌, ◌≢◌, ℕ, ◌+◌, ◌<◌, ◌≤◌, ⊤, List, [], ◌∷◌, length}
 use Rattle.std.specs.List.{AllPairs, flat_map}
 use Rattle.core_state.specs.Log.{Log, In}
 use Rattle.core_state.specs.Documents.{page_of}
 use Rattle.core_state.specs.History.{Document, History}
 use Rattle.core_state.specs.Legal.{Pin}
 use Rattle.core_state.specs.Readings.{Read, AreReads}
-use Rattle.core_moments.specs.Walk.{Walk}
+use Rattle.core_moments.specs.Walk.{Walk, reads_of}
 use Rattle.gin_scan.specs.Reading.{LeadOn}
 use Rattle.gin_scan.specs.Taking.{IsAmong, IsLongOf}
 use Rattle.gin_scan.specs.declared.stage.LongVector.{LongVector}
@@ -28,11 +28,11 @@ AreChains R from [] (x ∷ xs) = ⊥
 AreChains R from (l ∷ ls) [] = ⊥
 AreChains R from (l ∷ ls) (x ∷ xs) = ((next : ℕ) × LeadOn l.first x next) × AreReads R from x × AreChains R from ls xs
 
--- So many pages are at most these: the metapage and the pages of the list that a walk read, different heap pages
--- of these items, and the pages that were read of these vectors, at lengths of the log from this one on.
+-- So many pages are at most these: those that a walk read, of the list and of the tree, different heap pages of these
+-- items, and the pages that were read of these vectors, at lengths of the log from this one on.
 pub record ArePages (R : Log) (from : ℕ) (w : Walk) (items : List ℕ) (long : List LongVector) (n : ℕ) : Type 0 where
   pub heap : List ℕ
   pub heap_pages : AreHeapPages items heap
   pub parts : List (List Read)
   pub chains : AreChains R from long parts
-  pub most : n ≤ suc (length w.pending) + length heap + length (flat_map (λ (xs : List Read). xs) parts)
+  pub most : n ≤ length (reads_of w) + length heap + length (flat_map (λ (xs : List Read). xs) parts)

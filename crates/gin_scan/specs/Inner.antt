@@ -5,3 +5,7 @@ pub mod Steps
 pub mod Looks
 pub mod Heads
 pub mod Parts
+pub mod Ways
+pub mod Keys
+pub mod Near
+pub mod Marks

@@ -73,10 +73,15 @@ module _ {Q : Type 0} (M : Meaning Q) (q : Q) where
     pub kept : IsTrue v.kept ↔ (M.judged q (values (side.has i) False (M.asked q)) ≢ False)
     pub yes : IsTrue v.yes ↔ (M.judged q (values (side.has i) absent (M.asked q)) ≡ True)
 
+  -- the verdict by one side alone: of what is left out it doesn't say whether there is a yes
+  pub record IsVerdictAlone (side : Side) (i : ℕ) (absent : Tri) (v : Verdict) : Type 0 where
+    pub kept : IsTrue v.kept ↔ (M.judged q (values (side.has i) False (M.asked q)) ≢ False)
+    pub yes : IsTrue v.kept → IsTrue v.yes ↔ (M.judged q (values (side.has i) absent (M.asked q)) ≡ True)
+
   -- the verdict on an item that was read in a walk
   pub record IsVerdict (w : Walk) (i : ℕ) (v : Verdict) : Type 0 where
     pub kept : IsTrue v.kept ↔ IsKept M q w i
-    pub yes : IsTrue v.yes ↔ HasYes M q w i
+    pub yes : IsTrue v.kept → IsTrue v.yes ↔ HasYes M q w i
 
   -- of these items, which were read in a walk, those that are kept, in their order, each with whether it
   -- satisfies the query for sure

@@ -33,7 +33,7 @@ fn below<Q, W: Meaning<Q>, C: CompareKeys, J: Judge<Q, W>>(
 }
 
 /// Whether a key is this one, or begins with it where it is a prefix.
-fn fits(key: &[u8], asked: &[u8], prefix: bool) -> bool
+pub(crate) fn fits(key: &[u8], asked: &[u8], prefix: bool) -> bool
     ensures { result ≡ fits_asked (asked_for asked.now prefix) key.now }
 {
     if prefix {

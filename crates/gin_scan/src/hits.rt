@@ -1,14 +1,19 @@
 // The items that were read on one side of the index.
-ghost use Rattle.std.specs.Prelude.{◌≡◌, ◌≤◌, ◌↔◌, [], ◌∷◌, ◌++◌, List, IsTrue, length, map, replicate, IfOk, OnOk};
+ghost use Rattle.std.specs.Prelude.{◌≡◌, ◌≤◌, ◌↔◌, [], ◌∷◌, ◌++◌, List, IsTrue, length, map, replicate, IfOk};
+ghost use Rattle.std.specs.Prelude.{OnOk};
 ghost use Rattle.std.specs.List.{All, AllPairs};
+ghost use Rattle.page_types.specs.Items.{items_of, IsItemList};
 ghost use Rattle.page_types.specs.Parts.{row_shown};
 ghost use Rattle.page_types.specs.Pages.{IsRow};
+ghost use Rattle.page_types.specs.declared.page.Entry.{Entry};
 ghost use Rattle.page_types.specs.declared.page.Row.{Row};
 ghost use Rattle.core_state.specs.Log.{In};
 
-use crate::fitting::has_fitting;
+use crate::fitting::{fits, has_fitting};
+use crate::marks::{merge_runs, put_in_order};
 use gin_opclass::{CompareKeys, Judge, Meaning, OpClass};
 use page_types::{RowRef, Rows};
+use posting_code::Items;
 use std::alloc::{AllocError, Global};
 
 /// The items that were read on one side of the index: all of them, and for each key that is asked those
@@ -27,8 +32,24 @@ pub(crate) fn has(items: &[u32], item: u32) -> bool
     items.binary_search(&item).is_ok()
 }
 
+/// Adds the items of a list.
+fn add_list(items: &mut Vec<u32>, bytes: &[u8]) -> Result<(), AllocError>
+    requires { IsItemList bytes.now }
+    ensures { OnOk result (items.new.items ≡ items.old.items ++ items_of bytes.now) }
+{
+    let Ok(list) = Items::new(bytes) else {
+        return Ok(());
+    };
+    for item in list {
+        items.push(item)?;
+    }
+    Ok(())
+}
+
 impl Hits {
     ghost use Rattle.gin_scan.specs.Rows.{asked_by, lists_of, AreNoted};
+    ghost use Rattle.entry_tree.specs.Adding.{list_entry};
+    ghost use Rattle.gin_scan.specs.Entries.{AreNotedUnder};
     ghost use Rattle.gin_scan.specs.Sides.{AreInOrder, HaveSame};
 
     /// No item, for so many keys.
@@ -92,15 +113,40 @@ impl Hits {
         Ok(())
     }
 
+    /// Notes the items of an entry that has them as this list: among all items, and for each asked key that its key
+    /// fits.
+    pub(crate) fn add_entry(
+        &mut self,
+        asked: &[(Vec<u8>, bool)],
+        key: &[u8],
+        list: &[u8],
+    ) -> Result<(), AllocError>
+        requires lists { length self.old.by_key.items ≡ length asked.now }
+        requires list { IsItemList list.now }
+        ensures lists { length self.new.by_key.items ≡ length asked.now }
+        ensures noted { OnOk result ((es : List Entry) → AreNotedUnder (map asked_by asked.now) es self.old
+            → AreNotedUnder (map asked_by asked.now) (es ++ list_entry key.now list.now ∷ []) self.new) }
+    {
+        let from = self.any.len();
+        add_list(&mut self.any, list)?;
+        for k in 0..asked.len() {
+            let one = &asked[k];
+            if fits(key, one.0.as_slice(), one.1) {
+                self.by_key[k].extend_from_slice(&self.any.as_slice()[from..])?;
+            }
+        }
+        Ok(())
+    }
+
     /// Each list is in order from now on.
-    pub(crate) fn put_in_order(&mut self)
+    pub(crate) fn put_in_order(&mut self, alloc: Global)
         ensures in_order { AreInOrder self.new }
         ensures same { HaveSame self.old self.new }
         ensures lists { length self.new.by_key.items ≡ length self.old.by_key.items }
     {
-        self.any.sort_unstable();
+        put_in_order(alloc, &mut self.any);
         for items in self.by_key.iter_mut() {
-            items.sort_unstable();
+            merge_runs(items);
         }
     }
 }

@@ -7,11 +7,12 @@ ghost use Rattle.core_state.specs.Log.{In};
 ghost use Rattle.gin_opclass.specs.Class.{Asked, meaning, JudgeIsSound};
 ghost use Rattle.core_moments.specs.Walk.{Walk};
 ghost use Rattle.core_moments.specs.Judging.{values as values_of};
-ghost use Rattle.gin_scan.specs.Sides.{Side, AreInOrder, TellOf, TellOfWalk, IsVerdictBy, IsVerdict};
+ghost use Rattle.gin_scan.specs.Sides.{Side, AreInOrder, TellOf, TellOfWalk, IsVerdictBy, IsVerdictAlone, IsVerdict};
 ghost use Rattle.gin_scan.specs.Sides.{WasRead, MayBeKept, AreKeptOf};
 ghost use Rattle.gin_scan.specs.Inner.Judged.{AreJudged};
 
 use crate::hits::{Hits, has};
+use crate::near::{has_near, near_at, remember};
 use gin_opclass::{CompareKeys, Judge, Meaning, OpClass};
 use std::alloc::{AllocError, Global};
 use ts_base::Tri;
@@ -22,6 +23,31 @@ use ts_base::Tri;
 pub(crate) struct Verdict {
     pub(crate) kept: bool,
     pub(crate) yes: bool,
+}
+
+/// What items are judged with, one after another: a value for each key that is asked, and near which number of its
+/// list the next item is sought, on either side. These numbers are right or not, and nothing rests on them.
+#[derive(Drop)]
+struct Judging {
+    values: Vec<Tri>,
+    pending: Vec<usize>,
+    main: Vec<usize>,
+}
+
+impl Judging {
+    /// For so many keys, of which no item was judged.
+    fn new(alloc: Global, count: usize) -> Result<Judging, AllocError>
+        ensures { IfOk result (λ j. length j.values.items ≡ count) }
+    {
+        let values = vec![in alloc; Tri::False; count]?;
+        let pending = vec![in alloc; 0; count]?;
+        let main = vec![in alloc; 0; count]?;
+        Ok(Judging {
+            values,
+            pending,
+            main,
+        })
+    }
 }
 
 /// The verdict of two, of which each keeps an item and says a yes.
@@ -35,16 +61,21 @@ fn either(a: Verdict, b: Verdict) -> Verdict
     }
 }
 
-/// True where the list, which is in order, has the item, else this value.
-fn value_of(items: &[u32], item: u32, absent: Tri) -> Tri
+/// True where the list, which is in order, has the item, else this value; and near which number the next is sought.
+fn value_of(items: &[u32], near: usize, item: u32, absent: Tri) -> (Tri, usize)
     requires { AllPairs (λ i j. i ≤ j) items.now }
-    ensures { (b : Bool) × (IsTrue b ↔ In item items.now) × (result ≡ cond b True absent) }
+    ensures { (b : Bool) × (IsTrue b ↔ In item items.now) × (result.0 ≡ cond b True absent) }
 {
-    if has(items, item) { Tri::True } else { absent }
+    let (is_there, at) = has_near(items, near, item);
+    if is_there {
+        (Tri::True, at)
+    } else {
+        (absent, at)
+    }
 }
 
 /// A value for each key that is asked: True where the item has one that fits, else this one.
-fn put_values(values: &mut Vec<Tri>, hits: &Hits, item: u32, absent: Tri)
+fn put_values(values: &mut Vec<Tri>, hits: &Hits, near: &mut Vec<usize>, item: u32, absent: Tri)
     requires lists { length hits.now.by_key.items ≡ length values.old.items }
     requires in_order { AreInOrder hits.now }
     ensures count { length values.new.items ≡ length values.old.items }
@@ -52,8 +83,34 @@ fn put_values(values: &mut Vec<Tri>, hits: &Hits, item: u32, absent: Tri)
         → values.new.items ≡ values_of (side.has item) absent asked }
 {
     for k in 0..values.len() {
-        values[k] = value_of(&hits.by_key[k], item, absent);
+        let (value, at) = value_of(&hits.by_key[k], near_at(near, k), item, absent);
+        values[k] = value;
+        remember(near, k, at);
     }
+}
+
+/// The judge's answer by one side, where an absent key counts as this.
+fn answer_by<Q, W: Meaning<Q>, C: CompareKeys, J: Judge<Q, W>>(
+    class: &OpClass<Q, W, C, J>,
+    query: &Q,
+    work: &mut W,
+    values: &mut Vec<Tri>,
+    hits: &Hits,
+    near: &mut Vec<usize>,
+    item: u32,
+    absent: Tri,
+) -> Tri
+    requires serves { J.serves work.old query.now }
+    requires each { length values.old.items ≡ length (W.asked query.now) }
+    requires lists { length hits.now.by_key.items ≡ length values.old.items }
+    requires in_order { AreInOrder hits.now }
+    ensures serves { J.serves work.new query.now }
+    ensures count { length values.new.items ≡ length values.old.items }
+    ensures answer { (side : Side) → TellOf (W.asked query.now) side hits.now
+        → result ≡ W.judged query.now (values_of (side.has item) absent (W.asked query.now)) }
+{
+    put_values(values, hits, near, item, absent);
+    class.judge(query, work, values.as_slice())
 }
 
 /// The verdict of one side, where an absent key counts as this for a yes.
@@ -63,6 +120,7 @@ fn judge_by<Q, W: Meaning<Q>, C: CompareKeys, J: Judge<Q, W>>(
     work: &mut W,
     values: &mut Vec<Tri>,
     hits: &Hits,
+    near: &mut Vec<usize>,
     item: u32,
     absent: Tri,
 ) -> Verdict
@@ -76,13 +134,47 @@ fn judge_by<Q, W: Meaning<Q>, C: CompareKeys, J: Judge<Q, W>>(
         → IsVerdictBy (meaning W.asked W.all W.satisfies W.judged) query.now side item absent
         result }
 {
-    put_values(values, hits, item, Tri::False);
-    let answer = class.judge(query, work, values.as_slice());
-    put_values(values, hits, item, absent);
-    let sure = class.judge(query, work, values.as_slice());
+    let answer = answer_by(class, query, work, values, hits, near, item, Tri::False);
+    let sure = answer_by(class, query, work, values, hits, near, item, absent);
     Verdict {
         kept: answer != Tri::False,
         yes: sure == Tri::True,
+    }
+}
+
+/// The verdict on an item that this side alone judges: of one that is left out it doesn't matter whether it satisfies
+/// the query for sure.
+fn judge_alone<Q, W: Meaning<Q>, C: CompareKeys, J: Judge<Q, W>>(
+    class: &OpClass<Q, W, C, J>,
+    query: &Q,
+    work: &mut W,
+    values: &mut Vec<Tri>,
+    hits: &Hits,
+    near: &mut Vec<usize>,
+    item: u32,
+    absent: Tri,
+) -> Verdict
+    requires serves { J.serves work.old query.now }
+    requires each { length values.old.items ≡ length (W.asked query.now) }
+    requires lists { length hits.now.by_key.items ≡ length values.old.items }
+    requires in_order { AreInOrder hits.now }
+    ensures serves { J.serves work.new query.now }
+    ensures count { length values.new.items ≡ length values.old.items }
+    ensures verdict { (side : Side) → TellOf (W.asked query.now) side hits.now
+        → IsVerdictAlone (meaning W.asked W.all W.satisfies W.judged) query.now side item absent
+        result }
+{
+    let possible = answer_by(class, query, work, values, hits, near, item, Tri::False);
+    if possible == Tri::False {
+        return Verdict {
+            kept: false,
+            yes: false,
+        };
+    }
+    let known = answer_by(class, query, work, values, hits, near, item, absent);
+    Verdict {
+        kept: true,
+        yes: known == Tri::True,
     }
 }
 
@@ -92,32 +184,74 @@ fn judge_item<Q, W: Meaning<Q>, C: CompareKeys, J: Judge<Q, W>>(
     class: &OpClass<Q, W, C, J>,
     query: &Q,
     work: &mut W,
-    values: &mut Vec<Tri>,
+    judging: &mut Judging,
     pending: &Hits,
     main: &Hits,
     first_item: Option<u32>,
     item: u32,
 ) -> Verdict
     requires serves { J.serves work.old query.now }
-    requires each { length values.old.items ≡ length (W.asked query.now) }
-    requires pending { (length pending.now.by_key.items ≡ length values.old.items)
+    requires each { length judging.old.values.items ≡ length (W.asked query.now) }
+    requires pending { (length pending.now.by_key.items ≡ length judging.old.values.items)
         × AreInOrder pending.now }
-    requires main { (length main.now.by_key.items ≡ length values.old.items) × AreInOrder main.now }
+    requires main { (length main.now.by_key.items ≡ length judging.old.values.items)
+        × AreInOrder main.now }
     ensures serves { J.serves work.new query.now }
-    ensures count { length values.new.items ≡ length values.old.items }
+    ensures count { length judging.new.values.items ≡ length judging.old.values.items }
     ensures verdict { (w : Walk)
         → TellOfWalk (W.asked query.now) w pending.now main.now first_item → WasRead w item
         → IsVerdict (meaning W.asked W.all W.satisfies W.judged) query.now w item result }
 {
+    let Judging {
+        values,
+        pending: near_pending,
+        main: near_main,
+    } = judging;
     if first_item == Some(item) {
-        let listed = judge_by(class, query, work, values, pending, item, Tri::Maybe);
-        let moved = judge_by(class, query, work, values, main, item, Tri::Maybe);
+        let listed = judge_by(
+            class,
+            query,
+            work,
+            values,
+            pending,
+            near_pending,
+            item,
+            Tri::Maybe,
+        );
+        let moved = judge_by(
+            class,
+            query,
+            work,
+            values,
+            main,
+            near_main,
+            item,
+            Tri::Maybe,
+        );
         return either(listed, moved);
     }
     if has(pending.any.as_slice(), item) {
-        return judge_by(class, query, work, values, pending, item, Tri::False);
+        return judge_alone(
+            class,
+            query,
+            work,
+            values,
+            pending,
+            near_pending,
+            item,
+            Tri::False,
+        );
     }
-    judge_by(class, query, work, values, main, item, Tri::Maybe)
+    judge_alone(
+        class,
+        query,
+        work,
+        values,
+        main,
+        near_main,
+        item,
+        Tri::Maybe,
+    )
 }
 
 /// Adds the items of each of these lists.
@@ -147,7 +281,7 @@ fn items_of(alloc: Global, pending: &Hits, main: &Hits, all: bool) -> Result<Vec
         add_all(&mut items, pending.by_key.as_slice())?;
         add_all(&mut items, main.by_key.as_slice())?;
     }
-    items.sort_unstable();
+    items.sort()?;
     items.dedup();
     Ok(items)
 }
@@ -157,7 +291,7 @@ fn add_kept<Q, W: Meaning<Q>, C: CompareKeys, J: Judge<Q, W>>(
     class: &OpClass<Q, W, C, J>,
     query: &Q,
     work: &mut W,
-    values: &mut Vec<Tri>,
+    judging: &mut Judging,
     pending: &Hits,
     main: &Hits,
     first_item: Option<u32>,
@@ -165,10 +299,11 @@ fn add_kept<Q, W: Meaning<Q>, C: CompareKeys, J: Judge<Q, W>>(
     kept: &mut Vec<(u32, bool)>,
 ) -> Result<(), AllocError>
     requires serves { J.serves work.old query.now }
-    requires each { length values.old.items ≡ length (W.asked query.now) }
-    requires pending { (length pending.now.by_key.items ≡ length values.old.items)
+    requires each { length judging.old.values.items ≡ length (W.asked query.now) }
+    requires pending { (length pending.now.by_key.items ≡ length judging.old.values.items)
         × AreInOrder pending.now }
-    requires main { (length main.now.by_key.items ≡ length values.old.items) × AreInOrder main.now }
+    requires main { (length main.now.by_key.items ≡ length judging.old.values.items)
+        × AreInOrder main.now }
     ensures serves { J.serves work.new query.now }
     ensures kept { OnOk result ((w : Walk)
         → TellOfWalk (W.asked query.now) w pending.now main.now first_item
@@ -177,7 +312,9 @@ fn add_kept<Q, W: Meaning<Q>, C: CompareKeys, J: Judge<Q, W>>(
         × AreKeptOf (meaning W.asked W.all W.satisfies W.judged) query.now w items.now more) }
 {
     for item in items {
-        let verdict = judge_item(class, query, work, values, pending, main, first_item, *item);
+        let verdict = judge_item(
+            class, query, work, judging, pending, main, first_item, *item,
+        );
         if verdict.kept {
             kept.push((*item, verdict.yes))?;
         }
@@ -206,13 +343,13 @@ pub(crate) fn judge_met<Q, W: Meaning<Q>, C: CompareKeys, J: Judge<Q, W>>(
     ensures judged { OnOk result (AreJudged (meaning W.asked W.all W.satisfies W.judged) query.now all
         pending.now main.now first_item kept.old.items kept.new.items) }
 {
-    let mut values = vec![in alloc; Tri::False; pending.by_key.len()]?;
+    let mut judging = Judging::new(alloc, pending.by_key.len())?;
     let items = items_of(alloc, pending, main, all)?;
     add_kept(
         class,
         query,
         work,
-        &mut values,
+        &mut judging,
         pending,
         main,
         first_item,

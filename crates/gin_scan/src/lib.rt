@@ -1,6 +1,6 @@
-//! A search by the index: it reads the pending list, judges each document by the keys that it met, reads
-//! the heads of those alone that the judge does not leave out, and the vectors of those that it can't
-//! decide.
+//! A search by the index: it reads the pending list and then the tree of keys, judges each document by the
+//! keys that it met, reads the heads of those alone that the judge does not leave out, and the vectors of
+//! those that it can't decide.
 //!
 //! A scan is a machine of small steps. Each holds one page at most and none stays held, so others may log
 //! between two of them.
@@ -8,14 +8,21 @@
 
 mod asks;
 mod check;
+mod entries;
 mod fitting;
 mod found;
 mod heads;
 mod hits;
 mod judged;
+mod keys;
 mod laws;
+mod leaves;
+mod marks;
+mod near;
+mod order;
 mod parts;
 mod pending;
+mod postings;
 mod scan;
 mod scan_core;
 mod stage;

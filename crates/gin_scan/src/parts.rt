@@ -49,7 +49,7 @@ impl ScanCore {
     ghost use Rattle.gin_scan.specs.declared.stage.Stage.TheVariants as stages;
 
     /// How many pages a chain has at most.
-    fn most_pages(&self) -> u32
+    pub(crate) fn most_pages(&self) -> u32
         ensures { result ≡ self.now.extent }
     {
         self.extent

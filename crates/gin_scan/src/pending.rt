@@ -8,14 +8,12 @@ ghost use Rattle.gin_scan.specs.Rows.{first_of_rows};
 ghost use Rattle.gin_scan.specs.Causes.{HasMeta, HasRows};
 
 use crate::asks::Extent;
-use crate::judged::judge_met;
 use crate::scan_core::{ScanCore, hold_page, look_on, one_more};
 use crate::stage::Stage;
 use buffer_frames::{FrameError, Frames, Pass};
 use disk_trait::Disk;
 use gin_opclass::{CompareKeys, Judge, Meaning, OpClass};
 use page_types::{Body, Gone, Page, Rows};
-use std::alloc::{AllocError, Global};
 
 /// The first page of the pending list, where the page of this number is a metapage.
 fn first_pending(page: &Page, number: u32) -> Result<u32, FrameError>
@@ -55,7 +53,7 @@ impl ScanCore {
     ghost use Rattle.page_types.specs.Pages.{IsPage};
     ghost use Rattle.gin_scan.specs.Rows.{AreNoted};
     ghost use Rattle.gin_scan.specs.Scanning.{IsScan, AsksFor, asked_in};
-    ghost use Rattle.gin_scan.specs.Inner.Steps.{MayStep, HasStepped, IsStepOf, IsFurthest};
+    ghost use Rattle.gin_scan.specs.Inner.Steps.{MayStep, IsStepOf};
     ghost use Rattle.gin_scan.specs.declared.stage.Stage.TheVariants as stages;
     ghost use Rattle.core_moments.specs.Walk.{rightward};
 
@@ -163,45 +161,6 @@ impl ScanCore {
         Ok(())
     }
 
-    /// Judges all items that were read. It reads no page.
-    fn judge_all<D: Disk, Q, W: Meaning<Q>, C: CompareKeys, J: Judge<Q, W>>(
-        &mut self,
-        alloc: Global,
-        frames: &Frames<D>,
-        pass: &Pass,
-        class: &OpClass<Q, W, C, J>,
-        query: &Q,
-        work: &mut W,
-    ) -> Result<(), AllocError>
-        requires may { MayStep D.Disk (meaning W.asked W.all W.satisfies W.judged) query.now
-            frames.now pass.now self.old }
-        requires stage { (page left : ℕ) × (self.old.stage ≡ stages.Pending page left)
-            × ((page ≡ 0) ⊎ IsFurthest frames.now self.old left) }
-        requires serves { J.serves work.old query.now }
-        ensures serves { J.serves work.new query.now }
-        ensures took { self.new.took_pin ≡ self.old.took_pin }
-        ensures stepped { OnOk result
-            (HasStepped D.Disk (meaning W.asked W.all W.satisfies W.judged) query.now frames.now
-            pass.now self.old frames.now pass.now self.new) }
-    {
-        let _ = frames;
-        let _ = pass;
-        self.pending.put_in_order();
-        self.main.put_in_order();
-        judge_met(
-            alloc,
-            class,
-            query,
-            work,
-            &self.pending,
-            &self.main,
-            self.first_item,
-            self.keys.all,
-            &mut self.kept,
-        )?;
-        self.stage = Stage::Heads { at: 0 };
-        Ok(())
-    }
     /// Pages go as far as this now, further than when that was last asked, and this page of the list is next.
     fn raise_extent(&mut self, page: u32, extent: u32)
         requires further { self.old.extent < extent }
@@ -218,40 +177,37 @@ impl ScanCore {
         self.extent = extent;
     }
 
-    /// Goes on along the list if pages go further now than when that was last asked, and else judges all
-    /// items that were read.
-    fn go_further<D: Disk, Q, W: Meaning<Q>, C: CompareKeys, J: Judge<Q, W>>(
+    /// Goes on along the list if pages go further now than when that was last asked, and else goes on to the
+    /// tree.
+    fn go_further<D: Disk, Q, W: Meaning<Q>>(
         &mut self,
         page: u32,
-        alloc: Global,
         frames: &mut Frames<D>,
         pass: &mut Pass,
-        class: &OpClass<Q, W, C, J>,
         query: &Q,
-        work: &mut W,
+        work: &W,
     ) -> Result<(), FrameError>
         requires may { MayStep D.Disk (meaning W.asked W.all W.satisfies W.judged) query.now
             frames.old pass.old self.old }
         requires stage { self.old.stage ≡ stages.Pending page 0 }
         requires some { page ≢ 0 }
-        requires serves { J.serves work.old query.now }
-        ensures serves { J.serves work.new query.now }
         ensures is_step { IsStepOf D.Disk (meaning W.asked W.all W.satisfies W.judged) query.now
             frames.old pass.old self.old frames.new pass.new self.new result }
     {
+        let _ = query;
+        let _ = work;
         let extent = look_on(frames, pass, &Extent)?;
         if extent > self.extent {
             self.raise_extent(page, extent);
             return Ok(());
         }
-        self.judge_all(alloc, frames, pass, class, query, work)?;
+        self.begin_walk(0);
         Ok(())
     }
 
-    /// Reads the next page of the list, or judges all items that were read where there is none.
+    /// Reads the next page of the list, or goes on to the tree where there is none.
     pub(crate) fn go_on_list<D: Disk, Q, W: Meaning<Q>, C: CompareKeys, J: Judge<Q, W>>(
         &mut self,
-        alloc: Global,
         frames: &mut Frames<D>,
         pass: &mut Pass,
         class: &OpClass<Q, W, C, J>,
@@ -269,11 +225,11 @@ impl ScanCore {
             frames.old pass.old self.old frames.new pass.new self.new result }
     {
         if page == 0 {
-            self.judge_all(alloc, frames, pass, class, query, work)?;
+            self.begin_walk(0);
             return Ok(());
         }
         if left == 0 {
-            return self.go_further(page, alloc, frames, pass, class, query, work);
+            return self.go_further(page, frames, pass, query, work);
         }
         self.read_pending(frames, pass, class, query, page, left)
     }

@@ -2,7 +2,6 @@
 ghost use Rattle.std.specs.Prelude.{◌≡◌, ◌↔◌, ℕ, ◌+◌, ◌<◌, ◌≤◌, true, false, None, Some, IfOk, IfErr, OnOk, OnErr};
 ghost use Rattle.core_state.specs.Log.{Log};
 ghost use Rattle.core_state.specs.Legal.{Pin};
-ghost use Rattle.core_state.specs.Steady.{LeavesIndex};
 ghost use Rattle.buffer_frames.specs.Frames.{Behind};
 ghost use Rattle.buffer_frames.specs.LogCauses.{HoldHasCause};
 ghost use Rattle.buffer_frames.specs.Passes.{IsPassOf, HasPinned, pin_in};
@@ -161,8 +160,7 @@ impl<'q> Scan<'q> {
         ensures ends { EndsReading D.Disk self.entry.core frames.old pass.old frames.new pass.new }
         ensures counted { (before : ℕ) → IsCounted before self.entry.core pass.old.holds
             → pass.new.holds ≤ before + result.pages_read }
-        ensures found { Behind D.Disk frames.new (λ (R : Log). LeavesIndex R
-            → (pin : Pin) → pin_in pass.old.pin ≡ Some pin
+        ensures found { Behind D.Disk frames.new (λ (R : Log). (pin : Pin) → pin_in pass.old.pin ≡ Some pin
             → HasFound (meaning asked_of reads_all Holds judged) self.entry.query.now R pin result) }
     {
         let _class = text_class();

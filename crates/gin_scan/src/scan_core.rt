@@ -17,7 +17,8 @@ use crate::asks::Extent;
 use crate::check::Check;
 use crate::found::Found;
 use crate::hits::Hits;
-use crate::stage::{LongVector, Stage};
+use crate::order::in_order;
+use crate::stage::{LongVector, Stage, TreeRoot};
 use buffer_frames::{Ask, FrameError, Frames, Held, Pass};
 use disk_trait::Disk;
 use gin_opclass::{CompareKeys, Judge, Meaning, OpClass, QueryKeys};
@@ -31,6 +32,8 @@ use ts_vector::{VectorBytes, bad_bytes_are_no_encoding};
 pub struct ScanCore {
     // the keys of the query
     pub(crate) keys: QueryKeys,
+    // the numbers of the keys in their order, each key once
+    pub(crate) order: Vec<usize>,
     // how many commits its snapshot has
     pub(crate) snapshot: u32,
     // how far pages went when that was last asked: a chain has no more pages
@@ -43,6 +46,8 @@ pub struct ScanCore {
     pub(crate) pending: Hits,
     // and in the main part
     pub(crate) main: Hits,
+    // the posting trees that the leaves which were read named
+    pub(crate) roots: Vec<TreeRoot>,
     // whether a page of the list was read
     pub(crate) has_begun: bool,
     // the item of the first row on the first page of the list
@@ -138,7 +143,6 @@ impl ScanCore {
     ghost use Rattle.gin_opclass.specs.Class.{Asked};
     ghost use Rattle.core_state.specs.Legal.{Pin};
     ghost use Rattle.core_state.specs.Log.{Log};
-    ghost use Rattle.core_state.specs.Steady.{LeavesIndex};
     ghost use Rattle.buffer_frames.specs.Frames.{Behind};
     ghost use Rattle.buffer_frames.specs.Passes.{HasPinned, pin_in};
     ghost use Rattle.gin_scan.specs.Causes.{CannotStep, CannotBegin, IsLawfulRefusal};
@@ -154,18 +158,27 @@ impl ScanCore {
     ghost use Rattle.gin_scan.specs.declared.stage.Stage.TheVariants as stages;
 
     /// A scan that has read nothing, for the keys of a query, of pages that go so far. It has no snapshot.
-    fn new(alloc: Global, keys: QueryKeys, extent: u32, pending: Hits, main: Hits) -> ScanCore
-        ensures new { IsNewScan keys extent pending main result }
+    fn new(
+        alloc: Global,
+        keys: QueryKeys,
+        order: Vec<usize>,
+        extent: u32,
+        pending: Hits,
+        main: Hits,
+    ) -> ScanCore
+        ensures new { IsNewScan keys order extent pending main result }
         ensures took { result.took_pin ≡ false }
     {
         ScanCore {
             keys,
+            order,
             snapshot: 0,
             extent,
             took_pin: false,
             stage: Stage::Meta,
             pending,
             main,
+            roots: Vec::new(alloc),
             has_begun: false,
             first_item: None,
             kept: Vec::new(alloc),
@@ -191,10 +204,11 @@ impl ScanCore {
         ensures looks { LooksOn D.Disk frames.old pass.old frames.new pass.new }
         ensures cause { IfErr result (CannotBegin frames.old) }
     {
+        let order = in_order(alloc, keys.keys.as_slice())?;
         let pending = Hits::new(alloc, keys.keys.len())?;
         let main = Hits::new(alloc, keys.keys.len())?;
         let extent = look_on(frames, pass, &Extent)?;
-        Ok(ScanCore::new(alloc, keys, extent, pending, main))
+        Ok(ScanCore::new(alloc, keys, order, extent, pending, main))
     }
 
     /// Takes a snapshot into use, and begins a scan for the keys of a query in it.
@@ -292,8 +306,22 @@ impl ScanCore {
         match self.stage {
             Stage::Meta => self.read_meta(frames, pass, query, work),
             Stage::Pending { page, left } => {
-                self.go_on_list(alloc, frames, pass, class, query, work, page, left)
+                self.go_on_list(frames, pass, class, query, work, page, left)
             }
+            Stage::Down { key, page, left } => {
+                self.go_on_way(alloc, frames, pass, class, query, work, key, page, left)
+            }
+            Stage::Leaf { key, page, left } => {
+                self.go_on_leaves(alloc, frames, pass, class, query, work, key, page, left)
+            }
+            Stage::Posting {
+                key,
+                at,
+                page,
+                left,
+                then,
+                read,
+            } => { self.go_on_trees(frames, pass, query, work, key, at, page, left, then, read) }
             Stage::Heads { at } => { self.go_on_heads(alloc, frames, pass, query, work, check, at) }
             Stage::Parts { at, page, left } => {
                 self.go_on_long(frames, pass, query, work, check, at, page, left)
@@ -369,7 +397,7 @@ impl ScanCore {
         ensures found { (q : Q) → JudgeIsSound (meaning W.asked W.all W.satisfies W.judged)
             → AsksFor (meaning W.asked W.all W.satisfies W.judged) q self
             → Scanning D.Disk (meaning W.asked W.all W.satisfies W.judged) q frames.old pass.old self
-            → Behind D.Disk frames.new (λ (R : Log). LeavesIndex R → (pin : Pin)
+            → Behind D.Disk frames.new (λ (R : Log). (pin : Pin)
             → pin_in pass.old.pin ≡ Some pin
             → HasFound (meaning W.asked W.all W.satisfies W.judged) q R pin result) }
     {

@@ -1,6 +1,11 @@
 -- How far a search has come among keys that rise.
-use Rattle.std.specs.Prelude.{ℕ, ◌<◌, ◌≤◌, List, [], length, get_or}
+use Rattle.std.specs.Prelude.{ℕ, ◌<◌, ◌≤◌, List, [], length, get_or, map}
 use Rattle.page_types.specs.Keys.{KeyLess}
+use Rattle.page_types.specs.declared.page.Entry.{Entry}
+
+-- the keys of entries
+abbrev pub keys_of : List Entry → List (List ℕ)
+keys_of entries = map (λ (e : Entry). e.key) entries
 
 -- those before one number are below the key, those from another number on are not
 pub record IsBetween (key : List ℕ) (all : List (List ℕ)) (low high : ℕ) : Type 0 where

@@ -7,7 +7,7 @@ use Rattle.gin_scan.proofs.judged.add_kept.Given as goal
 abbrev pub invariant-loop-item : goal.invariant-loop-item
 invariant-loop-item g l = record {
   serves : g.J.Judge.serves l.work l.query;
-  count : length l.values.items ≡ length (g.W.Meaning.asked l.query);
+  count : length l.judging.values.items ≡ length (g.W.Meaning.asked l.query);
   kept : (w : Walk) → TellOfWalk (g.W.Meaning.asked l.query) w l.pending l.main l.first_item
       → All (WasRead w) l.items → (more : List (ℕ × Bool))
       × (l.kept.items ≡ l.fn.kept.items ++ more)

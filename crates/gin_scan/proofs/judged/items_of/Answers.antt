@@ -10,15 +10,15 @@ use Rattle.gin_scan.proofs.judged.items_of.Goals.{else-all+in_ok-add_all+in_ok-a
 
 pub returns-clause-rising : goal.returns-clause-rising
 returns-clause-rising c =
-    rising_once c.sort_unstable.new.self.items c.dedup.new.self.items c.dedup.ensures.filtered
-    c.sort_unstable.ensures.sorted
+    rising_once c.sort.new.self.items c.dedup.new.self.items c.dedup.ensures.filtered
+    c.in_ok-sort.ensures.sorted
 
 pub returns-clause-just : goal.returns-clause-just
 returns-clause-just c =
     let p = c.args.pending.now in
     let m = c.args.main.now in
-    λ i. then_too (same_once c.sort_unstable.new.self.items c.dedup.new.self.items c.dedup.ensures.filtered i)
-    (then_too (permuted c.if-all.items.items c.sort_unstable.new.self.items c.sort_unstable.ensures.permutation i)
+    λ i. then_too (same_once c.sort.new.self.items c.dedup.new.self.items c.dedup.ensures.filtered i)
+    (then_too (permuted c.if-all.items.items c.sort.new.self.items c.sort.ensures.permutation i)
     (elim c.if-all.branch [
       | then-all+in_ok-extend_from_slice+in_ok-extend_from_slice-2 w ↦
           let first : w.extend_from_slice.new.self.items ≡ p.any.items =

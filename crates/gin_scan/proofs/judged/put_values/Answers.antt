@@ -6,8 +6,8 @@ use Rattle.gin_scan.proofs.ToldHits.{all_get}
 use Rattle.gin_scan.proofs.ToldValues.{list_here, value_step}
 use Rattle.gin_scan.proofs.judged.put_values.Goals as goal
 
-pub value_of-requires : goal.value_of-requires
-value_of-requires c =
+pub value_of-value-requires : goal.value_of-value-requires
+value_of-value-requires c =
     let h = c.args.hits.now in
     let v = c.index.result.now in
     let k = c.loop-k.k in
@@ -28,8 +28,8 @@ loop-k-preserved c =
     = omega (arith, c.loop-k-test.true, c.len-k-end.ensures, was.count, c.args.values.now.ok.0) in
     let lt : k < length h.by_key.items = omega (arith, short, was.count, c.requires.lists) in
     let at = list_here h k v lt c.index.ensures in
-    let e = c.value_of.ensures in record {
+    let e = c.value_of-value.ensures in record {
       count = length-set ts k _ ∙ was.count;
-      are = value_step h c.args.item c.args.absent ts k v.items e.0 c.value_of.result e.2 short was.are at
+      are = value_step h c.args.item c.args.absent ts k v.items e.0 c.value_of-value.result.0 e.2 short was.are at
           (subst (λ (is : List ℕ). IsTrue e.0 ↔ In c.args.item is) c.deref.ensures.value e.1);
     }

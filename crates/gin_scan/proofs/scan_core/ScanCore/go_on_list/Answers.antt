@@ -1,28 +1,26 @@
--- Where no page is read.
-use Rattle.std.proofs.Common.{refl}
-use Rattle.std.proofs.lemmas.Result.{err_from_is_err_and}
-use Rattle.buffer_frames.specs.declared.frame_error.FrameError.TheVariants.{OutOfMemory}
-use Rattle.gin_scan.specs.declared.stage.Stage.TheVariants as stage
-use Rattle.gin_scan.proofs.ListCauses.{step_cause}
+-- Where the list was read to its end.
+use Rattle.std.proofs.Common.{refl, ap, inl, arith}
+use Rattle.gin_opclass.specs.Class.{meaning}
+use Rattle.gin_scan.specs.declared.scan_core.ScanCore.{ScanCore}
+use Rattle.gin_scan.proofs.ListSteps.{few_sought}
 use Rattle.gin_scan.proofs.ReadCalls.{still_reads, still_calm}
-use Rattle.gin_scan.proofs.StepsOf.{goes, lacks}
+use Rattle.gin_scan.proofs.StepsOf.{goes}
+use Rattle.gin_scan.proofs.TreeCalls.{tree_begins}
 use Rattle.gin_scan.proofs.scan_core.ScanCore.go_on_list.Goals as goal
-
-pub returns-in_err-judge_all-clause-is_step : goal.returns-in_err-judge_all-clause-is_step
-returns-in_err-judge_all-clause-is_step g c =
-    let p = err_from_is_err_and c.from_residual.result c.from_residual.ensures.1 in
-    let is = c.requires.may.scanning in
-    let f = c.args.frames.now in
-    let s = c.args.self.now in
-    lacks g.D.Disk _ c.args.query.now f c.args.pass.now s f c.args.pass.now c.judge_all.new.self
-    c.from_residual.result p.0 p.1 p.2 c.judge_all.ensures.took
-    (still_reads g.D.Disk f c.args.pass.now is.is_pass is.held) (still_calm g.D.Disk f.journal)
-    (step_cause f s (stage.Pending c.args.page c.args.left) OutOfMemory c.requires.stage (tt, λ z. refl))
 
 pub returns-then-page-eq0-clause-is_step : goal.returns-then-page-eq0-clause-is_step
 returns-then-page-eq0-clause-is_step g c =
-    let is = c.requires.may.scanning in
+    let may = c.requires.may in
+    let is = may.scanning in
     let f = c.args.frames.now in
-    goes g.D.Disk _ c.args.query.now f c.args.pass.now c.args.self.now f c.args.pass.now c.judge_all.new.self _
-    c.judge_all.ensures.took c.in_ok-judge_all.ensures.stepped
-    (still_reads g.D.Disk f c.args.pass.now is.is_pass is.held) (still_calm g.D.Disk f.journal)
+    let pass = c.args.pass.now in
+    let s = c.args.self.now in
+    let new : ScanCore = c.begin_walk.new.self in
+    let M = meaning g.W.Meaning.asked g.W.Meaning.all g.W.Meaning.satisfies g.W.Meaning.judged in
+    let reads = still_reads g.D.Disk f pass is.is_pass is.held in
+    goes g.D.Disk M c.args.query.now f pass s f pass new _
+    (ap (λ (z : ScanCore). z.took_pin) c.begin_walk.ensures.begun)
+    (tree_begins g.D.Disk M c.args.query.now f f pass pass s new may reads refl
+    (λ p x lies. lies) c.args.page c.args.left
+    c.requires.stage (inl (omega (arith, c.if-page-eq0.true))) c.begin_walk.ensures.begun c.begin_walk.ensures.within
+    (few_sought s (omega (arith, c.args.self.now.order.ok)))) reads (still_calm g.D.Disk f.journal)

@@ -7,6 +7,7 @@ use Rattle.page_types.specs.declared.page.Page.{Page}
 use Rattle.buffer_frames.specs.Frames.{Lies}
 use Rattle.buffer_frames.specs.Passes.{holds_after}
 use Rattle.gin_scan.specs.Causes.{HasSlots}
+use Rattle.gin_scan.specs.Counting.{most_on_ways}
 use Rattle.gin_scan.specs.declared.scan_core.ScanCore.{ScanCore}
 use Rattle.gin_scan.specs.declared.stage.Stage.TheVariants as stage
 use Rattle.gin_scan.proofs.HeadsCalls.{got, heads_cause, heads_lawful, heads_stepped}
@@ -106,7 +107,7 @@ returns-clause-is_step g c =
     (c.one_more-self.ensures ∙ ap (λ (z : ScanCore). holds_after z.pages_read) w.rest)
     (e.holds ∙ l.holds ∙ k.one))
     (heads_counted s new c.args.at c.end_of_page-end.result c.args.pass.now.holds
-    c.release.new.pass.holds c.requires.stage (ap (λ (z : ScanCore). z.extent) w.rest) less
+    c.release.new.pass.holds c.requires.stage (ap (λ (z : ScanCore). z.extent) w.rest) (ap most_on_ways w.rest) less
     (omega (arith, h.holds, l.holds, e.holds))) in
     goes g.D.Disk _ c.args.query.now a c.args.pass.now s c.release.new.self c.release.new.pass new _
     c.read_page-read.ensures.took

@@ -86,7 +86,12 @@ returns g c =
       is_step = goes g.D.Disk _ c.args.query.now f c.args.pass.now s c.release.new.self c.release.new.pass new _ refl
           (stepped_by g.D.Disk _ c.args.query.now f c.release.new.self c.args.pass.now c.release.new.pass s new may
           reads
-          (record { pending = may.scanning.is_scan.pending; main = may.scanning.is_scan.main; within = tt }) refl refl
+          (record {
+            ordered = may.scanning.is_scan.ordered;
+            pending = may.scanning.is_scan.pending;
+            main = may.scanning.is_scan.main;
+            within = tt;
+          }) refl refl
           (meta_lower s new c.in_ok-first.field-0 c.requires.stage refl refl)
           (λ R pin known pinned o. meta_step g.D.Disk _ c.args.query.now f c.args.pass.now s new may.scanning.is_pass
           may.scanning.is_scan may.asks R pin known o c.page.result.now c.page.ensures.is_page there c.requires.stage

@@ -86,7 +86,7 @@ returns g c =
     (one_read s.pages_read c.one_more-self.result c.args.pass.now.holds c.release.new.pass.holds c.one_more-self.ensures
     (e.holds ∙ k.one))
     (part_counted s new c.args.at c.args.page c.in_ok-right.field-0 c.args.left
-    c.args.pass.now.holds c.release.new.pass.holds c.requires.stage refl refl
+    c.args.pass.now.holds c.release.new.pass.holds c.requires.stage refl refl refl
     (λ z. c.requires.more (inr (inl z))) (omega (arith, h.holds, e.holds))) in record {
       is_step = goes g.D.Disk _ c.args.query.now f c.args.pass.now s c.release.new.self c.release.new.pass new _ refl
           (part_stepped g.D.Disk _ c.args.query.now f c.args.pass.now s may c.args.at c.args.page

@@ -13,7 +13,7 @@ use Rattle.gin_scan.proofs.ReadCalls.{held_at, held_calm, calm_then}
 use Rattle.gin_scan.proofs.Reached.{page_reached}
 use Rattle.gin_scan.proofs.Refused.{weaker_read, other_page, other_calm}
 use Rattle.gin_scan.proofs.StepsOf.{goes, refused, fails}
-use Rattle.gin_scan.proofs.StepsTaken.{stepped_by}
+use Rattle.gin_scan.proofs.StepsTaken.{scan_as, stepped_by}
 use Rattle.gin_scan.proofs.Counted.{counts_by, one_read, one_page, list_counted}
 use Rattle.gin_scan.proofs.scan_core.ScanCore.read_pending.Goals as goal
 
@@ -104,12 +104,9 @@ returns g c =
           c.note_rows-right.ensures.took
           (stepped_by g.D.Disk _ c.args.query.now f c.release.new.self c.args.pass.now c.release.new.pass s new may
           reads
-          (record {
-            pending = w.lists ∙ is.pending ∙ sym (ap (λ (z : ScanCore). length z.keys.keys.items) w.rest);
-            main = ap (λ (z : ScanCore). length z.main.by_key.items) w.rest ∙ is.main
-                ∙ sym (ap (λ (z : ScanCore). length z.keys.keys.items) w.rest);
-            within = tt;
-          }) (ap (λ (z : ScanCore). z.keys) w.rest) (ap (λ (z : ScanCore). z.snapshot) w.rest)
+          (scan_as s new is (ap (λ (z : ScanCore). z.keys) w.rest) (ap (λ (z : ScanCore). z.order) w.rest) w.lists
+          (ap (λ (z : ScanCore). length z.main.by_key.items) w.rest) tt) (ap (λ (z : ScanCore). z.keys) w.rest)
+          (ap (λ (z : ScanCore). z.snapshot) w.rest)
           (page_lower s new c.args.page c.in_ok-right.field-0 c.args.left c.requires.stage refl c.requires.more
           (ap (λ (z : ScanCore). z.extent) w.rest))
           (λ R pin known pinned o. page_step g.D.Disk _ c.args.query.now f c.args.pass.now s new may.scanning.is_pass is
