@@ -195,15 +195,16 @@ module _ {D : Type 0} (device : Disk D) where
   }
 
   -- the state of the log is asked
-  pub looked : (a b : DbValue D) (p q : Pass) → IsPassOf b.frames q → SeesOn device b.frames p q
+  pub looked : (a b : DbValue D) (same_pending : b.pending ≡ a.pending) (p q : Pass) → IsPassOf b.frames q
+      → SeesOn device b.frames p q
       → HasAdded device a.frames b.frames [] → KeepsPass p q → PassRises p q → q.xid ≡ p.xid
       → RunsOn device a.frames b.frames → KeepsState a.frames b.frames → b.frames.pins ≡ a.frames.pins
       → KeepsOthers a.frames b.frames [] → IsCalm device a.frames.journal b.frames.journal
       → BeginsOn device a.frames.journal b.frames.journal → WorksOn device a p b q
-  looked a b p q of sees added keeps rises xid runs state pins others calm begins = record {
+  looked a b same_pending p q of sees added keeps rises xid runs state pins others calm begins = record {
     is_pass = of;
     carries = carries device a b p q added sees rises of;
-    goes = one_nothing device (calm_step device a b added state runs begins calm pins);
+    goes = one_nothing device (calm_step device a b same_pending added state runs begins calm pins);
     state = state;
     pins = pins;
     lying = unmoved a b others;
@@ -244,17 +245,19 @@ module _ {D : Type 0} (device : Disk D) where
   }
 
   -- a page that is held is given back
-  pub released : (a b c : DbValue D) (p q r : Pass) (x : Sheet) → WorksOn device a p b q
+  pub released : (a b c : DbValue D) (same_pending : c.pending ≡ b.pending) (p q r : Pass) (x : Sheet)
+      → WorksOn device a p b q
       → Lies a x.page x.content → IsPassOf c.frames r → SeesOn device c.frames q r
       → HasAdded device b.frames c.frames [] → PassRises q r
       → (r.pin ≡ q.pin) × (r.room ≡ q.room) × (r.xid ≡ q.xid) → RunsOn device b.frames c.frames
       → KeepsState b.frames c.frames → c.frames.pins ≡ b.frames.pins → Lies c x.page x.content
       → KeepsOthers b.frames c.frames (x.page ∷ []) → IsCalm device b.frames.journal c.frames.journal
       → BeginsOn device b.frames.journal c.frames.journal → WorksOn device a p c r
-  released a b c p q r x w was of sees added rises same runs state pins is others calm begins = record {
+  released a b c same_pending p q r x w was of sees added rises same runs state pins is others calm begins = record {
     is_pass = of;
     carries = carries_on device a b c p q r w.keeps.xid w.carries (carries device b c q r added sees rises of);
-    goes = goes_still device w.goes (one_nothing device (calm_step device b c added state runs begins calm pins));
+    goes = goes_still device w.goes
+        (one_nothing device (calm_step device b c same_pending added state runs begins calm pins));
     state = state_in_turn a.frames b.frames c.frames w.state state;
     pins = pins ∙ w.pins;
     lying = back_lying a b c x w.lying was is others;

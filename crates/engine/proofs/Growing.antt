@@ -29,7 +29,7 @@ use Rattle.engine.specs.Going.{Goes, stays, nothing, one, LogsOne, TimeGoesOn}
 use Rattle.engine.specs.Inner.Parts.{HasChanged}
 use Rattle.engine.proofs.HeapPagesKept.{NotFreeing, AreNotFreeing, heaps_on, pages_on}
 use Rattle.engine.proofs.Logs.{log_then, NotCommit, AreNoCommits, StandsBy, owes_of, still}
-use Rattle.engine.proofs.Paths.{time_of}
+use Rattle.engine.proofs.Paths.{time_of, pending_of}
 
 -- lists that end alike
 pub last_one : {A : Type 0} (xs ys : List A) (x y : A) → xs ++ x ∷ [] ≡ ys ++ y ∷ [] → (xs ≡ ys) × (x ≡ y)
@@ -111,12 +111,12 @@ module _ {D : Type 0} (device : Disk D) where
   }
 
   -- the journal stands for some log and its history, if it did
-  abbrev ThenBegins : DbValue D → DbValue D → Type 0
+  abbrev pub ThenBegins : DbValue D → DbValue D → Type 0
   ThenBegins a b =
       device.tells → (found : History) (R : Log) (H : History) → BeginsBy device a.frames.journal found R H
       → (R' : Log) × (H' : History) × BeginsBy device b.frames.journal found R' H'
 
-  runs_in_turn : (a b c : DbValue D) → TimeGoesOn device a b → ThenBegins a b → RunsOn device a.frames b.frames
+  pub runs_in_turn : (a b c : DbValue D) → TimeGoesOn device a b → ThenBegins a b → RunsOn device a.frames b.frames
       → RunsOn device b.frames c.frames → RunsOn device a.frames c.frames
   runs_in_turn a b c time begins p q = record {
     limit = q.limit ∙ p.limit;
@@ -132,7 +132,7 @@ module _ {D : Type 0} (device : Disk D) where
   }
 
   -- the journal stands for some log and its history, as at first, after a path
-  begins_of : {old new : DbValue D} {rs : List Record} → Goes device old new rs → ThenBegins old new
+  pub begins_of : {old new : DbValue D} {rs : List Record} → Goes device old new rs → ThenBegins old new
   begins_of stays t found R H k = (R, H, k)
   begins_of (nothing p s) t found R H k =
       let b = begins_of p t found R H k in
@@ -239,6 +239,7 @@ module _ {D : Type 0} (device : Disk D) where
       let time = time_of device p in
       record {
         opened = runs.opened;
+        pending = pending_of device p;
         time = time.time;
         faults = time.faults;
         writes = time.writes;

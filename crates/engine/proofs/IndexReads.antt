@@ -3,16 +3,11 @@ use Rattle.std.proofs.Common.{◌≡◌, ◌≢◌, ℕ, [], inl, inr, refl, sym
 use Rattle.std.specs.Prelude.{Option, Some, None, IfSome, Result, Ok, Err}
 use Rattle.disk_trait.specs.declared.device.Disk.{Ghosts as Disk}
 use Rattle.page_types.specs.declared.page.Page.{Page}
-use Rattle.page_types.specs.declared.record.Record.{Record}
-use Rattle.page_types.specs.declared.record.Kind.{Kind}
-use Rattle.page_types.specs.declared.record.Kind.TheVariants as kind
-use Rattle.core_state.specs.Log.{Log, In}
+use Rattle.core_state.specs.Log.{Log}
 use Rattle.core_state.specs.Documents.{page_of}
 use Rattle.core_state.specs.Legal.{Pin}
-use Rattle.core_state.specs.Steady.{LeavesIndex, IsIndexWork}
 use Rattle.buffer_frames.specs.Frames.{FramesValue, Behind}
 use Rattle.buffer_frames.specs.LogCauses.{IsCalm, HoldHasCause}
-use Rattle.buffer_frames.specs.Opens.{IsEarlyKind}
 use Rattle.buffer_frames.specs.Passes.{IsPassOf, pin_in}
 use Rattle.buffer_frames.specs.declared.pass.Pass.{Pass}
 use Rattle.buffer_frames.specs.declared.pass.Pinned.{Pinned}
@@ -23,13 +18,14 @@ use Rattle.ts_match.specs.Meaning.{Holds}
 use Rattle.ts_match.specs.Judging.{judged}
 use Rattle.ts_match.specs.Class.{asked_of, reads_all}
 use Rattle.gin_opclass.specs.Class.{Meaning, meaning}
+use Rattle.core_moments.specs.OpenLaws.{IsLeaf, IsPostingPage}
 use Rattle.gin_scan.specs.Calls as scans
 use Rattle.gin_scan.specs.Calls.{AddsNothing, AddsOnce}
 use Rattle.gin_scan.specs.Causes as causes
-use Rattle.gin_scan.specs.Causes.{CannotUse, CannotStep, HasMeta, HasRows, HasSlots, HasPart}
+use Rattle.gin_scan.specs.Causes.{CannotUse, CannotStep, HasMeta, HasRows, HasWay, HasSlots, HasPart}
 use Rattle.gin_scan.specs.Finding as finding
 use Rattle.gin_scan.specs.Reaching.{IsReached}
-use Rattle.gin_scan.specs.Scanning.{IsWithin, IsScanning, Scanning}
+use Rattle.gin_scan.specs.Scanning.{AsksFor, IsScan, IsScanning, Scanning}
 use Rattle.gin_scan.specs.TextScans.{IsFor}
 use Rattle.gin_scan.specs.declared.scan.Scan.{Scan}
 use Rattle.gin_scan.specs.declared.found.Found.{Found}
@@ -54,25 +50,6 @@ use Rattle.engine.proofs.Paths.{goes_on, calm_fault, fault_stays, none_in_turn, 
 use Rattle.engine.proofs.Paths.{hold_no_fault, hold_told}
 use Rattle.engine.proofs.ReadSteps.{reads_still, reads_in_turn}
 
--- ── logs of early kinds ──
-
-early_kind : (k : Kind) → IsEarlyKind k → IsIndexWork k → ⊥
-early_kind kind.Create early work = omega (arith, work.0)
-early_kind kind.Begin early work = omega (arith, work.0)
-early_kind (kind.Commit n) early work = omega (arith, work.0)
-early_kind kind.Abort early work = omega (arith, work.0)
-early_kind (kind.PlaceHead i s) early work = omega (arith, work.0)
-early_kind (kind.PutOverflow i s) early work = omega (arith, work.0)
-early_kind (kind.MarkDeleted i s) early work = omega (arith, work.0)
-early_kind (kind.PutPending i s) early work = omega (arith, work.0)
-early_kind (kind.AddRow i s) early work = omega (arith, work.0)
-early_kind (kind.LinkPending i s) early work = omega (arith, work.0)
-early_kind _ early work = absurd early
-
--- a log of early kinds moves no rows to the trees
-pub leaves_index : (R : Log) → ((r : Record) → In r R → IsEarlyKind r.kind) → LeavesIndex R
-leaves_index R early r i work = early_kind r.kind (early r i) work
-
 -- a snapshot in use
 pub pin_taken : (o : Option Pinned) (n : ℕ) → o ≢ None → IfSome o (λ p. p.commits ≡ n)
     → (pin : Pin) × (pin_in o ≡ Some pin) × (n ≡ pin.commits)
@@ -81,46 +58,53 @@ pin_taken (Some p) n some at = (record { commits = p.commits; length = p.length 
 
 -- ── calls that log nothing ──
 
--- the store of these frames
-abbrev pub store_of : {D : Type 0} → FramesValue D → DbValue D
-store_of f = record { frames = f }
+-- the store of these frames, with this setting
+abbrev pub store_of : {D : Type 0} → ℕ → FramesValue D → DbValue D
+store_of n f = record { frames = f; pending = n }
 
 module _ {D : Type 0} (device : Disk D) where
-  nothing_by : (f g : FramesValue D) → AddsOnce device f g → LogsNothing device (store_of f) (store_of g)
-  nothing_by f g o = record {
+  nothing_by : (n : ℕ) (f g : FramesValue D) → AddsOnce device f g
+      → LogsNothing device (store_of n f) (store_of n g)
+  nothing_by n f g o = record {
     added = o.added;
     state = o.state;
     runs_on = o.runs_on;
     begins = o.begins;
     goes_on = record { time = o.time; faults = o.faults; writes = o.writes };
     pins = o.pins;
+    pending = refl;
   }
 
-  pub goes_by : (f g : FramesValue D) → AddsNothing device f g → Goes device (store_of f) (store_of g) []
-  goes_by f g AddsNothing.stays = stays
-  goes_by f g (AddsNothing.then {mid} p o) = nothing (goes_by f mid p) (nothing_by mid g o)
+  goes_at : (n : ℕ) (f g : FramesValue D) → AddsNothing device f g → Goes device (store_of n f) (store_of n g) []
+  goes_at n f g AddsNothing.stays = stays
+  goes_at n f g (AddsNothing.then {mid} p o) = nothing (goes_at n f mid p) (nothing_by n mid g o)
+
+  pub goes_by : (a b : DbValue D) → b.pending ≡ a.pending → AddsNothing device a.frames b.frames → Goes device a b []
+  goes_by a b keeps adds =
+      subst (λ (n : ℕ). Goes device a (store_of n b.frames) []) (sym keeps) (goes_at a.pending a.frames b.frames adds)
 
   works_on : (p q : Pass) → scans.KeepsWork p q → q.pin ≡ p.pin → KeepsWork p q
   works_on p q k pin = record { pin = pin; room = k.room; xid = k.xid; shown = k.rises.shown }
 
-  pub reads_by : (a b : DbValue D) (p q : Pass) → scans.ReadsOn device a.frames p b.frames q → ReadsOn device a p b q
-  reads_by a b p q r = record {
+  pub reads_by : (a b : DbValue D) → b.pending ≡ a.pending → (p q : Pass) → scans.ReadsOn device a.frames p b.frames q
+      → ReadsOn device a p b q
+  reads_by a b keeps p q r = record {
     is_pass = r.is_pass;
     held = r.held;
     lying = r.lying;
-    goes = goes_by a.frames b.frames r.adds;
+    goes = goes_by a b keeps r.adds;
     keeps = works_on p q r.keeps r.pin;
   }
 
   -- a scan begins in a snapshot that is in use
-  pub begun_by : (a b : DbValue D) (p q : Pass) → IsPassOf b.frames q → q.held ≡ 0
+  pub begun_by : (a b : DbValue D) → b.pending ≡ a.pending → (p q : Pass) → IsPassOf b.frames q → q.held ≡ 0
       → AddsNothing device a.frames b.frames → scans.LieStill a.frames b.frames → scans.KeepsWork p q
       → q.pin ≡ p.pin → ReadsOn device a p b q
-  begun_by a b p q of none adds lying keeps pin = record {
+  begun_by a b same p q of none adds lying keeps pin = record {
     is_pass = of;
     held = none;
     lying = lying;
-    goes = goes_by a.frames b.frames adds;
+    goes = goes_by a b same adds;
     keeps = works_on p q keeps pin;
   }
 
@@ -136,23 +120,24 @@ module _ {D : Type 0} (device : Disk D) where
   }
 
   -- and so does the scan
-  pub ends_by : (s : ScanCore) (a b c : DbValue D) (p q r : Pass) → ReadsOn device a p b q
+  pub ends_by : (s : ScanCore) (a b c : DbValue D) → c.pending ≡ b.pending → (p q r : Pass) → ReadsOn device a p b q
       → scans.EndsReading device s b.frames q c.frames r → EndsReading device a p c r
-  ends_by s a b c p q r reads ends = record {
+  ends_by s a b c keeps p q r reads ends = record {
     is_pass = ends.is_pass;
     held = ends.held;
-    goes = goes_on device reads.goes (goes_by b.frames c.frames ends.adds);
+    goes = goes_on device reads.goes (goes_by b c keeps ends.adds);
     room = ends.keeps.room ∙ reads.keeps.room;
     xid = ends.keeps.xid ∙ reads.keeps.xid;
     shown = omega (arith, reads.keeps.shown, ends.keeps.rises.shown);
   }
 
   -- a scan that begins, is stepped and ends
-  pub scan_ends : (s : ScanCore) (a m b b' c : DbValue D) (p q r u : Pass) → ReadsOn device a p m q
+  pub scan_ends : (s : ScanCore) (a m b b' c : DbValue D) → c.pending ≡ b'.pending → (p q r u : Pass)
+      → ReadsOn device a p m q
       → ReadsOn device m q b r → b' ≡ b → scans.EndsReading device s b'.frames r c.frames u
       → EndsReading device a p c u
-  scan_ends s a m b b' c p q r u begun stepped same ends =
-      ends_by s a b' c p r u
+  scan_ends s a m b b' c keeps p q r u begun stepped same ends =
+      ends_by s a b' c keeps p r u
       (subst (λ (z : DbValue D). ReadsOn device a p z r) (sym same) (reads_in_turn device a m b p q r begun stepped))
       ends
 
@@ -176,6 +161,18 @@ module _ {D : Type 0} (device : Disk D) where
       → CannotStep s.frames core at w → CannotFind device s (frame_refusal w)
   step_cause s core stage.Meta w up c = read_bad s HasMeta 0 w up (IsBadRead.meta refl) c
   step_cause s core (stage.Pending page left) w up c = read_bad s HasRows page w up IsBadRead.rows c.0
+  step_cause s core (stage.Down key page left) w up (inl e) =
+      subst (λ (x : FrameError). CannotFind device s (frame_refusal x)) (sym e) tt
+  step_cause s core (stage.Down key page left) w up (inr c) =
+      read_bad s (HasWay c.0) page w up (IsBadRead.way c.0) c.2
+  step_cause s core (stage.Leaf key page left) w up (inl e) =
+      subst (λ (x : FrameError). CannotFind device s (frame_refusal x)) (sym e) tt
+  step_cause s core (stage.Leaf key page left) w up (inr c) =
+      read_bad s IsLeaf page w up IsBadRead.leaf c.1
+  step_cause s core (stage.Posting key at page left next read) w up (inl e) =
+      subst (λ (x : FrameError). CannotFind device s (frame_refusal x)) (sym e) tt
+  step_cause s core (stage.Posting key at page left next read) w up (inr c) =
+      read_bad s IsPostingPage page w up IsBadRead.posting c.1
   step_cause s core (stage.Heads at) w up (inl e) =
       subst (λ (x : FrameError). CannotFind device s (frame_refusal x)) (sym e) tt
   step_cause s core (stage.Heads at) w up (inr c) = read_bad s HasSlots (page_of c.0) w up IsBadRead.heap c.3
@@ -183,14 +180,18 @@ module _ {D : Type 0} (device : Disk D) where
   step_cause s core stage.Done w up c = absurd c
 
   -- how a step comes to a bad page
-  comes_at : (q : Query) (s : DbValue D) (core : ScanCore) (w : FrameError) → IsWithin core core.stage
+  comes_at : (q : Query) (s : DbValue D) (core : ScanCore) (w : FrameError) → IsScan core
+      → AsksFor (meaning asked_of reads_all Holds judged) q core
       → IsReached (meaning asked_of reads_all Holds judged) q s.frames core core.stage
       → CannotStep s.frames core core.stage w → ComesToBadPage device s q (frame_refusal w)
-  comes_at q s core frames.DiskFault within reached c = tt
-  comes_at q s core (frames.Down f) within reached c = tt
-  comes_at q s core (frames.BadPage p) within reached c =
-      (s, stays, bad_reached (meaning asked_of reads_all Holds judged) q s.frames core core.stage p within reached c)
-  comes_at q s core frames.OutOfMemory within reached c = tt
+  comes_at q s core frames.DiskFault scan asks reached c = tt
+  comes_at q s core (frames.Down f) scan asks reached c = tt
+  comes_at q s core (frames.BadPage p) scan asks reached c = (
+    s,
+    stays,
+    bad_reached (meaning asked_of reads_all Holds judged) q s.frames core core.stage p scan asks scan.within reached c,
+  )
+  comes_at q s core frames.OutOfMemory scan asks reached c = tt
 
   -- where a later store comes to one so does an earlier
   pub comes_later : (q : Query) (a s : DbValue D) (e : DbError) → Goes device a s [] → ComesToBadPage device s q e
@@ -226,7 +227,6 @@ module _ {D : Type 0} (device : Disk D) where
   step_meets a s frames.OutOfMemory path met c = tt
   step_meets a s (frames.BadPage p) path met c = λ tells found H f up.
       c tells (met.down ∙ up) f.log (stands_then device path f.log f.stands) f.begins.log_of.legal
-      (leaves_index f.log f.begins.log_of.early)
 
   -- where a lawful store would meet a bad page so it would before
   pub meets_later : (a s : DbValue D) (e : DbError) → Goes device a s [] → MetNoFault device a s
@@ -289,12 +289,12 @@ module _ {D : Type 0} (device : Disk D) where
   -- the names are those of the history of each lawful store
   pub finds_by : {Q : Type 0} (M : Meaning Q) (q : Q) (a s : DbValue D) (n : ℕ) (o : Option Pinned) (pin : Pin)
       (r : Found) → Goes device a s [] → IsUp s → pin_in o ≡ Some pin → n ≡ pin.commits
-      → Behind device s.frames (λ (R : Log). LeavesIndex R → (p : Pin) → pin_in o ≡ Some p
+      → Behind device s.frames (λ (R : Log). (p : Pin) → pin_in o ≡ Some p
       → finding.HasFound M q R p r)
       → FindsAll device a n (M.satisfies q) r.names.items
   finds_by M q a s n o pin r path up is all behind tells found H f =
       let h = behind tells up f.log (stands_then device path f.log f.stands) f.begins.log_of.legal
-      (leaves_index f.log f.begins.log_of.early) pin is in
+      pin is in
       subst (λ (k : ℕ). IsFound (M.satisfies q) (docs (take k H)) r.names.items) (sym all)
       (h.names H f.begins.log_of.history)
 
@@ -334,7 +334,7 @@ module _ {D : Type 0} (device : Disk D) (q : Query) (old : DbValue D) (pass : Pa
       (sym on.query.query) on.walk
 
   -- one step more
-  pub scans_more : {T : Type 0} (s t : DbValue D) (p r : Pass) (scan scan' : Scan)
+  pub scans_more : {T : Type 0} (s t : DbValue D) → t.pending ≡ s.pending → (p r : Pass) (scan scan' : Scan)
       (answer : Result T FrameError) (x : T) → ScansOn s p scan → answer ≡ Ok x
       → scan'.query.now ≡ scan.query.now → IsScanning t.frames r scan'.core → IsFor scan'.query.now scan'
       → Scanning device (meaning asked_of reads_all Holds judged) scan'.query.now t.frames r scan'.core
@@ -342,7 +342,7 @@ module _ {D : Type 0} (device : Disk D) (q : Query) (old : DbValue D) (pass : Pa
       → (IsReached (meaning asked_of reads_all Holds judged) scan.query.now s.frames scan.core scan.core.stage
       → IsReached (meaning asked_of reads_all Holds judged) scan'.query.now t.frames scan'.core scan'.core.stage)
       → ScansOn t r scan'
-  scans_more s t p r scan scan' answer x on ok same scanning query walk reads cause reached =
+  scans_more s t keeps p r scan scan' answer x on ok same scanning query walk reads cause reached =
       let own : scan'.query.now ≡ q = same ∙ on.query.query in
       record {
         scanning = scanning;
@@ -354,15 +354,16 @@ module _ {D : Type 0} (device : Disk D) (q : Query) (old : DbValue D) (pass : Pa
             scan'.core.stage) own
             (reached (subst (λ (y : Query). IsReached (meaning asked_of reads_all Holds judged) y s.frames scan.core
             scan.core.stage) (sym on.query.query) on.reached));
-        reads = reads_in_turn device old s t pass p r on.reads (reads_by device s t p r reads);
+        reads = reads_in_turn device old s t pass p r on.reads (reads_by device s t keeps p r reads);
         met = none_in_turn device on.met
             (hold_no_fault device s t answer (λ is. let z : ⊥ = cc in z) cause);
       }
 
   -- what was read before a step that was refused
-  pub read_then : (s t : DbValue D) (p r : Pass) (scan : Scan) → ScansOn s p scan
+  pub read_then : (s t : DbValue D) → t.pending ≡ s.pending → (p r : Pass) (scan : Scan) → ScansOn s p scan
       → scans.ReadsOn device s.frames p t.frames r → ReadsOn device old pass t r
-  read_then s t p r scan on reads = reads_in_turn device old s t pass p r on.reads (reads_by device s t p r reads)
+  read_then s t keeps p r scan on reads =
+      reads_in_turn device old s t pass p r on.reads (reads_by device s t keeps p r reads)
 
   pub told_then : {T : Type 0} (U : Type 0) (s t : DbValue D) (p : Pass) (scan : Scan) (answer : Result T FrameError)
       (w : FrameError) → ScansOn s p scan → answer ≡ Err w
@@ -382,7 +383,7 @@ module _ {D : Type 0} (device : Disk D) (q : Query) (old : DbValue D) (pass : Pa
       → CannotStep s.frames scan.core scan.core.stage w → ComesToBadPage device old q (frame_refusal w)
   comes_then s p scan w on why =
       comes_later device q old s (frame_refusal w) on.reads.goes
-      (comes_at device q s scan.core w on.scanning.is_scan.within on.reached why)
+      (comes_at device q s scan.core w on.scanning.is_scan on.query.asks on.reached why)
 
   pub meets_then : (s : DbValue D) (p : Pass) (scan : Scan) (w : FrameError) → ScansOn s p scan
       → causes.IsLawfulRefusal device s.frames w → MeetsNoBadPage device old (frame_refusal w)

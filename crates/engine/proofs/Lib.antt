@@ -47,3 +47,7 @@ pub mod ListEnds
 pub mod DocumentKeys
 pub mod Indexes
 pub mod RowPuts
+mod PendingMoved
+pub mod Cleanups
+mod Sweeping
+mod Tidying

@@ -86,7 +86,8 @@ in_back (y ∷ xs) ys x i = inr (in_back xs ys x i)
 module _ {D : Type 0} (device : Disk D) where
   -- ── pages that are given back ──
 
-  pub given_back : (a b : DbValue D) (p q : Pass) (x : Sheet) → IsPassOf b.frames q → SeesOn device b.frames p q
+  pub given_back : (a b : DbValue D) (keeps : b.pending ≡ a.pending) (p q : Pass) (x : Sheet) → IsPassOf b.frames q
+      → SeesOn device b.frames p q
       → HasAdded device a.frames b.frames [] → PassRises p q
       → (q.pin ≡ p.pin) × (q.room ≡ p.room) × (q.xid ≡ p.xid) → RunsOn device a.frames b.frames
       → KeepsState a.frames b.frames → b.frames.pins ≡ a.frames.pins → Lies b x.page x.content
@@ -95,10 +96,10 @@ module _ {D : Type 0} (device : Disk D) where
       → ((f : ℕ) → fault_of a ≡ Some f → b.frames.journal ≡ a.frames.journal)
       → ((held : List Sheet) → IsHolding device a.frames p (x ∷ held) → IsHolding device b.frames q held)
       → GivesBack device a p b q (x ∷ [])
-  given_back a b p q x of sees added rises same runs state pins lies others calm begins rests holding = record {
+  given_back a b keeps p q x of sees added rises same runs state pins lies others calm begins rests holding = record {
     is_pass = of;
     carries = carries device a b p q added sees rises of;
-    goes = one_nothing device (calm_step device a b added state runs begins calm pins);
+    goes = one_nothing device (calm_step device a b keeps added state runs begins calm pins);
     met = calm_fault device a b calm;
     rests = rests;
     state = state;

@@ -31,6 +31,7 @@ module _ {D : Type 0} (device : Disk D) (one : CountedAreOne)
     (whole : IsWhole s.frames.journal pass) (since : opened_of s ≡ disk_of s)
     (on : device.tells → (H : History) → OpensTo (device.seen first) H → OpensTo (device.seen (disk_of s)) H)
     (are : AreFrames device s.frames) (started : HasStarted s.frames.journal.state) (few : settings.pages ≤ page_limit)
+    (pending : s.pending ≡ settings.pending)
   where
     fixed : device.tells → IsFixedSince device first c0 (disk_of s)
     fixed t =
@@ -98,7 +99,7 @@ module _ {D : Type 0} (device : Disk D) (one : CountedAreOne)
     pub opened_at : OpenedAt device settings first c0 s pass
     opened_at = record {
       up = o.up;
-      limits = record { log = o.limit; xids = o.xid_limit; pages = o.pages };
+      limits = record { log = o.limit; xids = o.xid_limit; pages = o.pages; pending = pending };
       opened = since;
       shown = ap (λ (p : Pass). p.shown) whole;
       time = o.time;

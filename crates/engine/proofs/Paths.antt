@@ -68,6 +68,12 @@ module _ {D : Type 0} (device : Disk D) where
   time_of (nothing p s) = time_in_turn (time_of p) s.goes_on
   time_of (one p s) = time_in_turn (time_of p) s.goes_on
 
+  -- a setting stays
+  pub pending_of : {a b : DbValue D} {rs : List Record} → Goes device a b rs → b.pending ≡ a.pending
+  pending_of stays = refl
+  pending_of (nothing p s) = s.pending ∙ pending_of p
+  pending_of (one p s) = s.pending ∙ pending_of p
+
   -- ── paths ──
 
   pub one_nothing : {a b : DbValue D} → LogsNothing device a b → Goes device a b []
@@ -112,22 +118,25 @@ module _ {D : Type 0} (device : Disk D) where
   -- ── the steps of calls ──
 
   -- a page is given back, or the state of the log is asked
-  pub calm_step : (a b : DbValue D) → HasAdded device a.frames b.frames [] → KeepsState a.frames b.frames
+  pub calm_step : (a b : DbValue D) (keeps : b.pending ≡ a.pending) → HasAdded device a.frames b.frames []
+      → KeepsState a.frames b.frames
       → RunsOn device a.frames b.frames → BeginsOn device a.frames.journal b.frames.journal
       → IsCalm device a.frames.journal b.frames.journal → b.frames.pins ≡ a.frames.pins → LogsNothing device a b
-  calm_step a b added state runs begins calm pins = record {
+  calm_step a b keeps added state runs begins calm pins = record {
     added = added;
     state = state;
     runs_on = runs;
     begins = begins;
     goes_on = record { time = calm.time; faults = calm.later; writes = omega (arith, calm.no_write) };
     pins = pins_same a b pins;
+    pending = keeps;
   }
 
   -- the journal stays as it is
-  kept_step : (a b : DbValue D) → HasAdded device a.frames b.frames [] → b.frames.journal ≡ a.frames.journal
+  kept_step : (a b : DbValue D) (keeps : b.pending ≡ a.pending) → HasAdded device a.frames b.frames []
+      → b.frames.journal ≡ a.frames.journal
       → BeginsOn device a.frames.journal b.frames.journal → PinsRise a b → LogsNothing device a b
-  kept_step a b added same begins pins =
+  kept_step a b keeps added same begins pins =
       let calm = calm_kept device a.frames.journal b.frames.journal same in
       record {
         added = added;
@@ -136,29 +145,33 @@ module _ {D : Type 0} (device : Disk D) where
         begins = begins;
         goes_on = record { time = calm.time; faults = calm.later; writes = omega (arith, calm.no_write) };
         pins = pins;
+        pending = keeps;
       }
 
   -- a snapshot is taken into use
-  pub pin_step : {pass : Pass} {n : ℕ} (a b : DbValue D) → HasAdded device a.frames b.frames []
+  pub pin_step : {pass : Pass} {n : ℕ} (a b : DbValue D) (keeps : b.pending ≡ a.pending)
+      → HasAdded device a.frames b.frames []
       → b.frames.journal ≡ a.frames.journal → BeginsOn device a.frames.journal b.frames.journal
       → HasPinned a.frames b.frames pass n → LogsNothing device a b
-  pin_step a b added same begins pinned = kept_step a b added same begins (pins_taken a b pinned same)
+  pin_step a b keeps added same begins pinned = kept_step a b keeps added same begins (pins_taken a b pinned same)
 
   -- one is given up, if there is any
-  pub unpin_step : (a b : DbValue D) (pin : Option Pinned) → HasAdded device a.frames b.frames []
+  pub unpin_step : (a b : DbValue D) (keeps : b.pending ≡ a.pending) (pin : Option Pinned)
+      → HasAdded device a.frames b.frames []
       → b.frames.journal ≡ a.frames.journal → BeginsOn device a.frames.journal b.frames.journal
       → MatchOption pin (b.frames.pins ≡ a.frames.pins)
       (λ (p : Pinned). b.frames.pins ≡ slice_set a.frames.pins p.place None)
       → LogsNothing device a b
-  unpin_step a b pin added same begins pins = kept_step a b added same begins (pins_given_up a b pin pins)
+  unpin_step a b keeps pin added same begins pins = kept_step a b keeps added same begins (pins_given_up a b pin pins)
 
   -- a page is held
-  pub hold_step : {T : Type 0} (a b : DbValue D) (r : Result T FrameError) → HasAdded device a.frames b.frames []
+  pub hold_step : {T : Type 0} (a b : DbValue D) (keeps : b.pending ≡ a.pending) (r : Result T FrameError)
+      → HasAdded device a.frames b.frames []
       → KeepsState a.frames b.frames → RunsOn device a.frames b.frames
       → BeginsOn device a.frames.journal b.frames.journal
       → HoldHasCause device a.frames.journal b.frames.journal r → b.frames.pins ≡ a.frames.pins
       → LogsNothing device a b
-  hold_step a b r added state runs begins cause pins = record {
+  hold_step a b keeps r added state runs begins cause pins = record {
     added = added;
     state = state;
     runs_on = runs;
@@ -168,24 +181,28 @@ module _ {D : Type 0} (device : Disk D) where
         (λ c. record { time = (c.1).time; faults = ((c.1).later).0; writes = ((c.1).later).1 })
         cause.either;
     pins = pins_same a b pins;
+    pending = keeps;
   }
 
   -- the log is flushed, or a record is refused
-  pub write_step : {T : Type 0} (a b : DbValue D) (r : Result T LogError) → HasAdded device a.frames b.frames []
+  pub write_step : {T : Type 0} (a b : DbValue D) (keeps : b.pending ≡ a.pending) (r : Result T LogError)
+      → HasAdded device a.frames b.frames []
       → KeepsState a.frames b.frames → RunsOn device a.frames b.frames
       → BeginsOn device a.frames.journal b.frames.journal → WriteHasCause device (disk_of a) (disk_of b) r
       → b.frames.pins ≡ a.frames.pins → LogsNothing device a b
-  write_step a b r added state runs begins cause pins = record {
+  write_step a b keeps r added state runs begins cause pins = record {
     added = added;
     state = state;
     runs_on = runs;
     begins = begins;
     goes_on = record { time = cause.time; faults = (cause.later).0; writes = (cause.later).1 };
     pins = pins_same a b pins;
+    pending = keeps;
   }
 
   -- a record is logged
-  pub logged_step : {T : Type 0} (a b : DbValue D) (r : Result T LogError) (x : T) (step : Step) → r ≡ Ok x
+  pub logged_step : {T : Type 0} (a b : DbValue D) (keeps : b.pending ≡ a.pending) (r : Result T LogError) (x : T)
+      (step : Step) → r ≡ Ok x
       → HasAdded device a.frames b.frames (kind_number step.kind ∷ [])
       → ((R : Log) → Stands device a.frames R
       → Stands device b.frames (logged a.frames.journal.owes (next_record a.frames.journal step) R))
@@ -201,7 +218,7 @@ module _ {D : Type 0} (device : Disk D) where
       → WriteHasCause device (disk_of a) (disk_of b) r → b.frames.pins ≡ a.frames.pins
       → b.frames.journal.work ≡ a.frames.journal.work
       → LogsOne device a b (next_record a.frames.journal step)
-  logged_step a b r x step ok added stands legal state full down runs begins cause pins work = record {
+  logged_step a b keeps r x step ok added stands legal state full down runs begins cause pins work = record {
     up = up_at_ok (fault_of a) r x down ok;
     added = subst (λ (n : ℕ). HasAdded device a.frames b.frames (n ∷ []))
         (sym (number_drawn (after_owed a.frames.journal.owes a.frames.journal.state) step.kind)) added;
@@ -216,6 +233,7 @@ module _ {D : Type 0} (device : Disk D) where
     begins = begins;
     goes_on = record { time = cause.time; faults = (cause.later).0; writes = (cause.later).1 };
     pins = pins_same a b pins;
+    pending = keeps;
   }
 
   -- ── faults ──

@@ -13,7 +13,7 @@ use Rattle.buffer_frames.specs.Passes.{HasPinned, IsRightOf, in_use}
 use Rattle.buffer_frames.specs.declared.pass.Pass.{Pass}
 use Rattle.buffer_frames.specs.declared.pass.Pinned.{Pinned}
 use Rattle.buffer_frames.proofs.PassesOf.{set_at, set_else, some_one}
-use Rattle.engine.specs.Answers.{IsSession}
+use Rattle.engine.specs.Answers.{IsResting, IsSession}
 use Rattle.engine.specs.Db.{DbValue, state_of, flushed_of}
 use Rattle.engine.specs.Going.{PinsRise, Goes, stays, nothing, one}
 
@@ -75,7 +75,7 @@ module _ {D : Type 0} (a b : DbValue D) where
           (let z : ⊥ = cc in z)
 
 -- the same of calls one after another
-rise_in_turn : {D : Type 0} (a b c : DbValue D) → flushed_of a ≤ flushed_of b
+pub rise_in_turn : {D : Type 0} (a b c : DbValue D) → flushed_of a ≤ flushed_of b
     → (state_of a).records ≤ (state_of b).records → PinsRise a b → PinsRise b c → PinsRise a c
 rise_in_turn a b c flushed records first second place p is = elim (second place p is) [
   | inl old ↦ first place p old
@@ -83,13 +83,13 @@ rise_in_turn a b c flushed records first second place p is = elim (second place 
 ]
 
 -- what the snapshots of other sessions ask of a store that goes on
-record Rises {D : Type 0} (a b : DbValue D) : Type 0 where
+pub record Rises {D : Type 0} (a b : DbValue D) : Type 0 where
   pub flushed : flushed_of a ≤ flushed_of b
   pub records : (state_of a).records ≤ (state_of b).records
   pub pins : PinsRise a b
   pub work : b.frames.journal.work ≡ a.frames.journal.work
 
-rises_in_turn : {D : Type 0} {a b c : DbValue D} → Rises a b → Rises b c → Rises a c
+pub rises_in_turn : {D : Type 0} {a b c : DbValue D} → Rises a b → Rises b c → Rises a c
 rises_in_turn {D} {a} {b} {c} x y = record {
   flushed = omega (arith, x.flushed, y.flushed);
   records = omega (arith, x.records, y.records);
@@ -98,7 +98,7 @@ rises_in_turn {D} {a} {b} {c} x y = record {
 }
 
 module _ {D : Type 0} (device : Disk D) where
-  rises : {a b : DbValue D} {rs : List Record} → Goes device a b rs → Rises a b
+  pub rises : {a b : DbValue D} {rs : List Record} → Goes device a b rs → Rises a b
   rises stays = record { flushed = omega arith; records = omega arith; pins = λ place p is. inl is; work = refl }
   rises (nothing p s) = rises_in_turn (rises p) (record {
     flushed = s.runs_on.flushed;
@@ -113,19 +113,18 @@ module _ {D : Type 0} (device : Disk D) where
     work = s.work;
   })
 
-  -- it has the right of maintenance still, where it has it
-  right_on : (n : ℕ) {a b : DbValue D} → Rises a b → (w : Option ℕ)
-      → IfSome w (λ at. (at ≤ (state_of a).records) × IsRightOf a.frames.journal.work (max at n))
-      → IfSome w (λ at. (at ≤ (state_of b).records) × IsRightOf b.frames.journal.work (max at n))
-  right_on n r None had = tt
-  right_on n r (Some at) had =
-      (omega (arith, had.0, r.records), subst (λ (o : Option ℕ). IsRightOf o (max at n)) (sym r.work) had.1)
+-- it has the right of maintenance still, where it has it
+right_on : {D : Type 0} (n : ℕ) {a b : DbValue D} → Rises a b → (w : Option ℕ)
+    → IfSome w (λ at. (at ≤ (state_of a).records) × IsRightOf a.frames.journal.work (max at n))
+    → IfSome w (λ at. (at ≤ (state_of b).records) × IsRightOf b.frames.journal.work (max at n))
+right_on n r None had = tt
+right_on n r (Some at) had =
+    (omega (arith, had.0, r.records), subst (λ (o : Option ℕ). IsRightOf o (max at n)) (sym r.work) had.1)
 
-  -- Another session stays one, where the call's own is one at its end.
-  pub others_stay : {a b : DbValue D} {rs : List Record} → Goes device a b rs → (own : Pass) → IsSession b own
-      → (p : Pass) → IsSession a p → IsSession b p
-  others_stay {a} {b} path own is p session =
-      let r : Rises a b = rises path in
+-- Another session stays one, where the call's own is one at its end.
+module _ {D : Type 0} {a b : DbValue D} (r : Rises a b) (own : Pass) (is : IsResting b own) (p : Pass) where
+  rests_by : IsResting a p → IsResting b p
+  rests_by session =
       let of = session.is_pass in
       record {
         is_pass = record {
@@ -147,3 +146,16 @@ module _ {D : Type 0} (device : Disk D) where
         };
         idle = session.idle;
       }
+
+  pub others_by : IsSession a p → IsSession b p
+  others_by session = record { rests = rests_by session.rests; free = r.work ∙ session.free }
+
+module _ {D : Type 0} (device : Disk D) where
+  pub others_stay : {a b : DbValue D} {rs : List Record} → Goes device a b rs → (own : Pass) → IsResting b own
+      → (p : Pass) → IsSession a p → IsSession b p
+  others_stay path own is p session = others_by (rises device path) own is p session
+
+  -- the call's own session is one at its end
+  pub own_stays : {a b : DbValue D} {rs : List Record} → Goes device a b rs → (p q : Pass) → IsSession a p
+      → IsResting b q → IsSession b q
+  own_stays path p q session rests = record { rests = rests; free = (rises device path).work ∙ session.free }

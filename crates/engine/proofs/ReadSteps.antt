@@ -45,16 +45,17 @@ module _ {D : Type 0} (device : Disk D) where
   }
 
   -- the state of the log is asked
-  pub looked_on : (a b : DbValue D) (p q : Pass) → p.held ≡ 0 → IsPassOf b.frames q
+  pub looked_on : (a b : DbValue D) (same_pending : b.pending ≡ a.pending) (p q : Pass) → p.held ≡ 0
+      → IsPassOf b.frames q
       → HasAdded device a.frames b.frames [] → KeepsPass p q → PassRises p q → q.xid ≡ p.xid
       → RunsOn device a.frames b.frames → KeepsState a.frames b.frames → KeepsOthers a.frames b.frames []
       → IsCalm device a.frames.journal b.frames.journal → BeginsOn device a.frames.journal b.frames.journal
       → b.frames.pins ≡ a.frames.pins → ReadsOn device a p b q
-  looked_on a b p q none of added keeps rises xid runs state others calm begins pins = record {
+  looked_on a b same_pending p q none of added keeps rises xid runs state others calm begins pins = record {
     is_pass = of;
     held = keeps.held ∙ none;
     lying = λ n d lies. subst (λ (h : Home). LiesAs h d) (sym (others n (λ i. i))) lies;
-    goes = one_nothing device (calm_step device a b added state runs begins calm pins);
+    goes = one_nothing device (calm_step device a b same_pending added state runs begins calm pins);
     keeps = record { pin = keeps.pin; room = keeps.room; xid = xid; shown = rises.shown };
   }
 

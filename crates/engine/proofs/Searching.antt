@@ -12,7 +12,7 @@ use Rattle.buffer_frames.specs.declared.pass.Pinned.{Pinned}
 use Rattle.engine.specs.Finding.{Name, docs, IsFound, AreCommitNames}
 use Rattle.engine.specs.Going.{Goes, stays, MetNoFault, FaultIsTold}
 use Rattle.engine.specs.Causes.{IsDown}
-use Rattle.engine.specs.Answers.{IsSession, TakesSnapshot, OnlyReads, HasFound, HasListed}
+use Rattle.engine.specs.Answers.{IsResting, TakesSnapshot, OnlyReads, HasFound, HasListed}
 use Rattle.engine.specs.Db.{DbValue, flushed_of, IsUp}
 use Rattle.engine.specs.Inner.Finds.{IsReading, FindsAll, ListsAll, CannotFind, CannotList}
 use Rattle.engine.specs.declared.commit_names.CommitNames.{CommitNames}
@@ -25,16 +25,16 @@ use Rattle.engine.proofs.Starting.{down_takes}
 use Rattle.engine.proofs.Growing.{stays_for, grows_by_none}
 
 -- a session that has taken a snapshot into use, read, and given it up
-pub session_after : {D : Type 0} (old new : DbValue D) (p q r u : Pass) → IsSession old p → (q.xid ≡ p.xid)
+pub session_after : {D : Type 0} (old new : DbValue D) (p q r u : Pass) → IsResting old p → (q.xid ≡ p.xid)
     → r.xid ≡ q.xid → r.held ≡ 0 → u.held ≡ r.held → u.xid ≡ r.xid → u.pin ≡ None → IsPassOf new.frames u
-    → IsSession new u
+    → IsResting new u
 session_after old new p q r u session xid keeps none held same pin of = record {
   is_pass = of;
   idle = (pin, held ∙ none, same ∙ keeps ∙ xid ∙ session.idle.2);
 }
 
 pub snapshot_after : {D : Type 0} (old m new : DbValue D) (f : FramesValue D) (p q r u : Pass) (n : ℕ)
-    → IsSession old p → m.frames.journal ≡ old.frames.journal → HasPinned f m.frames q n → PassRises p q
+    → IsResting old p → m.frames.journal ≡ old.frames.journal → HasPinned f m.frames q n → PassRises p q
     → q.room ≡ p.room → r.room ≡ q.room → q.shown ≤ r.shown → PassRises r u → u.room ≡ r.room → IsPassOf new.frames u
     → TakesSnapshot old new p u
 snapshot_after {D} old m new f p q r u n session same pinned rises room kept shown last room' of =
@@ -68,13 +68,13 @@ is_reading f m q n of pinned none = record {
 
 -- nothing is done by a store that is down
 pub record Rests {D : Type 0} (device : Disk D) (old : DbValue D) (p : Pass) (new : DbValue D) (q : Pass) : Type 0 where
-  pub session : IsSession new q
+  pub session : IsResting new q
   pub snapshot : TakesSnapshot old new p q
   pub path : Goes device old new []
   pub none : MetNoFault device old new
   pub same : new ≡ old
 
-pub rests : {D : Type 0} (device : Disk D) (old new : DbValue D) (p q : Pass) (f : ℕ) → IsSession old p → IsDown old f
+pub rests : {D : Type 0} (device : Disk D) (old new : DbValue D) (p q : Pass) (f : ℕ) → IsResting old p → IsDown old f
     → new ≡ old → q ≡ p → Rests device old p new q
 rests {D} device old new p q f session down same still =
     subst (λ (s : DbValue D). Rests device old p s q) (sym same)

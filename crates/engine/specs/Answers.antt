@@ -9,7 +9,7 @@ use Rattle.page_types.specs.declared.record.Record.{Record}
 use Rattle.std.specs.List.{All}
 use Rattle.buffer_frames.specs.Frames.{Stands}
 use Rattle.buffer_frames.specs.Journals.{owed_abort}
-use Rattle.buffer_frames.specs.Passes.{IsPassOf}
+use Rattle.buffer_frames.specs.Passes.{IsPassOf, IsRightFree}
 pub use Rattle.buffer_frames.specs.declared.pass.Pass.{Pass}
 use Rattle.engine.specs.Finding.{Name, History, docs, IsFound, IsInSnapshot, AreCommitNames}
 use Rattle.engine.specs.Db.{DbValue, disk_of, fault_of, state_of, IsUp, IsFlushed, flushed_of}
@@ -25,10 +25,15 @@ use Rattle.engine.specs.declared.error.DbError.TheVariants.{DiskFault, BadPage, 
 
 -- ── what every call keeps ──
 
--- a session between two calls: it holds no page, no snapshot and no transaction
-pub record IsSession {D : Type 0} (s : DbValue D) (pass : Pass) : Type 0 where
+-- a pass between two calls: it holds no page, no snapshot and no transaction
+pub record IsResting {D : Type 0} (s : DbValue D) (pass : Pass) : Type 0 where
   pub is_pass : IsPassOf s.frames pass
   pub idle : (pass.pin ≡ None) × (pass.held ≡ 0) × (pass.xid ≡ None)
+
+-- a session between two calls, when nobody has the right of maintenance
+pub record IsSession {D : Type 0} (s : DbValue D) (pass : Pass) : Type 0 where
+  pub rests : IsResting s pass
+  pub free : IsRightFree s.frames
 
 -- another session stays one
 abbrev pub KeepsSessions : {D : Type 0} → DbValue D → DbValue D → Type 0

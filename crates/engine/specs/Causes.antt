@@ -24,7 +24,9 @@ use Rattle.buffer_frames.specs.Homes.{IsNoPage}
 use Rattle.buffer_frames.specs.Journals.{logged_bytes}
 use Rattle.ts_base.specs.Vectors.{Vector}
 use Rattle.ts_base.specs.Encoding.{vector_bytes}
-use Rattle.gin_scan.specs.Causes.{HasMeta, HasRows}
+use Rattle.core_moments.specs.Walk.{Sought}
+use Rattle.core_moments.specs.OpenLaws.{IsLeaf, IsPostingPage}
+use Rattle.gin_scan.specs.Causes.{HasMeta, HasRows, HasWay}
 use Rattle.engine.specs.Finding.{Name}
 use Rattle.engine.specs.Places.{Lies, IsSince, head_for, NoHeapPageHasRoom}
 use Rattle.engine.specs.Work.{Work, IsBegunWork, IsNext}
@@ -181,10 +183,14 @@ module _ {D : Type 0} (s : DbValue D) where
     own : (slot : ℕ) → WasPlaced rs p slot → IsNone (HasHeadIn slot) p → IsBadPage Reads rs p
 
   -- A page that a search reads is none, or not what it has to be: the metapage, a page with rows of the
-  -- pending list, the heap page of a document, or a page with a part of a long vector.
+  -- pending list, one that leads on towards a key of the entry tree or is its leaf, a leaf after it, a page of a
+  -- posting tree, the heap page of a document, or a page with a part of a long vector.
   pub data IsBadRead (p : ℕ) : Type 0 where
     meta : p ≡ 0 → IsNone HasMeta p → IsBadRead p
     rows : IsNone HasRows p → IsBadRead p
+    way : (w : Sought) → IsNone (HasWay w) p → IsBadRead p
+    leaf : IsNone IsLeaf p → IsBadRead p
+    posting : IsNone IsPostingPage p → IsBadRead p
     heap : IsNone IsHeap p → IsBadRead p
     part : IsNone IsPart p → IsBadRead p
 

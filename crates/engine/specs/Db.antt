@@ -5,9 +5,11 @@ use Rattle.core_state.specs.States.{StateValue}
 use Rattle.buffer_frames.specs.Frames.{FramesValue}
 use Rattle.buffer_frames.specs.Journals.{after_owed}
 
--- the journal, the snapshots in use, and where each page is
+-- the journal, the snapshots in use, and where each page is; and how many pages the pending list may have
+-- before it is cleaned up by itself
 pub record DbValue (D : Type 0) : Type 0 where
   pub frames : FramesValue D
+  pub pending : ℕ
 
 -- the device
 abbrev pub disk_of : {D : Type 0} → DbValue D → D

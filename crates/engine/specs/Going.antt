@@ -41,6 +41,7 @@ module _ {D : Type 0} (device : Disk D) where
     pub begins : BeginsOn device old.frames.journal new.frames.journal
     pub goes_on : TimeGoesOn old new
     pub pins : PinsRise old new
+    pub pending : new.pending ≡ old.pending
 
   -- This record is logged, after the owed Abort, where one is owed. The log has room for it.
   pub record LogsOne (old new : DbValue D) (r : Record) : Type 0 where
@@ -58,6 +59,7 @@ module _ {D : Type 0} (device : Disk D) where
     pub begins : BeginsWith device old.frames.journal new.frames.journal r
     pub goes_on : TimeGoesOn old new
     pub pins : PinsRise old new
+    pub pending : new.pending ≡ old.pending
 
   -- The store goes from one to another by such steps, which log these records, the oldest first.
   pub data Goes (old : DbValue D) : DbValue D → List Record → Type 0 where

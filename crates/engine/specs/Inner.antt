@@ -7,3 +7,4 @@ pub mod Parts
 pub mod Plain
 pub mod Refusals
 pub mod Doing
+pub mod Cleaned

@@ -23,3 +23,4 @@ pub use Rattle.buffer_frames.specs.Passes
 pub use Rattle.ts_base.specs.Vectors
 pub use Rattle.ts_query.specs.Queries
 pub use Rattle.ts_match.specs.Meaning
+pub mod Cleaning

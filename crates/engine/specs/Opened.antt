@@ -17,6 +17,7 @@ pub record HasLimitsOf {D : Type 0} (settings : Settings) (s : DbValue D) : Type
   pub log : limit_of s.frames.journal.wal ≡ settings.log_limit
   pub xids : (state_of s).xid_limit ≡ settings.xid_limit
   pub pages : (state_of s).pages ≡ settings.pages
+  pub pending : s.pending ≡ settings.pending
 
 module _ {D : Type 0} (device : Disk D) where
   -- From c0 on a crash leaves the page file as it was read on entry; before c0 it leaves what it could

@@ -44,6 +44,7 @@ module _ {D : Type 0} (device : Disk D) where
   -- the store is up it leaves all that are flushed.
   pub record GoesOn (old new : DbValue D) : Type 0 where
     pub opened : opened_of new ≡ opened_of old
+    pub pending : new.pending ≡ old.pending
     pub time : device.clock (disk_of old) ≤ device.clock (disk_of new)
     pub faults : device.fault_count (disk_of old) ≤ device.fault_count (disk_of new)
     pub writes : device.write_fault_count (disk_of old) ≤ device.write_fault_count (disk_of new)

@@ -20,6 +20,8 @@ use ts_vector::TsVector;
 pub struct Db<D: Disk> {
     pub(crate) alloc: Global,
     pub(crate) frames: Frames<D>,
+    /// How many pages the pending list may have before it is cleaned up by itself.
+    pub(crate) pending: u32,
 }
 
 impl<D: Disk> Model for Db<D> {
@@ -27,7 +29,7 @@ impl<D: Disk> Model for Db<D> {
 
     ghost Value = { DbValue D };
 
-    ghost view = { λ s. record { frames = s.frames } };
+    ghost view = { λ s. record { frames = s.frames; pending = s.pending } };
 }
 
 /// The bytes of a vector.
@@ -47,8 +49,10 @@ impl<D: Disk> Db<D> {
     ghost use Rattle.engine.specs.Standing.{GoesOn};
     ghost use Rattle.engine.specs.Work.{commit_of, storing, inserting, updating, deleting};
     ghost use Rattle.engine.specs.Going.{Goes, FaultIsTold};
-    ghost use Rattle.engine.specs.Answers.{IsSession, KeepsSessions, TakesSnapshot, HasStored, HasDeleted, HasFound};
-    ghost use Rattle.engine.specs.Answers.{HasListed, OnlyReads, IsLawfulRefusal, MeetsNoBadPage};
+    ghost use Rattle.engine.specs.Answers.{IsResting, IsSession, KeepsSessions, TakesSnapshot};
+    ghost use Rattle.engine.specs.Answers.{HasStored, HasDeleted, HasFound, HasListed, OnlyReads};
+    ghost use Rattle.engine.specs.Answers.{IsLawfulRefusal, MeetsNoBadPage};
+    ghost use Rattle.engine.specs.Cleaning.{StoresThenTidies};
     ghost use Rattle.engine.specs.Coming.{ComesToBadPage};
     ghost use Rattle.engine.specs.Inner.Parts.{IsRunning, HasChanged, KeepsWork, no_changes};
     ghost use Rattle.engine.specs.Inner.Doing.{HasDone, HasStopped, IsNotDone, TellsOfWork, removing, removal};
@@ -110,14 +114,14 @@ impl<D: Disk> Db<D> {
     }
 
     /// A document of this vector, in place of that of a name, where one is given: its name.
-    fn store(
+    pub(crate) fn store(
         &mut self,
         pass: &mut Pass,
         deletes: Option<Name>,
         vector: &TsVector,
     ) -> Result<Name, DbError>
-        requires session { IsSession self.old pass.old }
-        ensures session { IsSession self.new pass.new }
+        requires session { IsResting self.old pass.old }
+        ensures session { IsResting self.new pass.new }
         ensures answered { HasStored D.Disk self.old self.new pass.new
             (storing deletes vector.now) result }
         ensures snapshot { TakesSnapshot self.old self.new pass.old pass.new }
@@ -132,8 +136,8 @@ impl<D: Disk> Db<D> {
 
     /// The document of a name is deleted.
     fn take_away(&mut self, pass: &mut Pass, name: Name) -> Result<(), DbError>
-        requires session { IsSession self.old pass.old }
-        ensures session { IsSession self.new pass.new }
+        requires session { IsResting self.old pass.old }
+        ensures session { IsResting self.new pass.new }
         ensures answered { HasDeleted D.Disk self.old self.new pass.new (deleting name) result }
         ensures snapshot { TakesSnapshot self.old self.new pass.old pass.new }
         ensures path { (rs : List Record) × Goes D.Disk self.old self.new rs }
@@ -145,24 +149,23 @@ impl<D: Disk> Db<D> {
         self.finish(pass, work, removed)
     }
 
-    /// A document of this vector, committed and flushed: its name.
+    /// A document of this vector, committed and flushed: its name. The pending list is cleaned up then, where it
+    /// has more pages than the store's setting; the answer is that of the commit.
     pub fn insert(&mut self, pass: &mut Pass, vector: &TsVector) -> Result<Name, DbError>
         requires session { IsSession self.old pass.old }
         ensures session { IsSession self.new pass.new }
         ensures others { KeepsSessions self.old self.new }
-        ensures answered { HasStored D.Disk self.old self.new pass.new
+        ensures answered { StoresThenTidies D.Disk self.old self.new pass.new
             (inserting vector.now) result }
         ensures snapshot { TakesSnapshot self.old self.new pass.old pass.new }
         ensures goes_on { GoesOn D.Disk self.old self.new }
-        ensures fault { FaultIsTold D.Disk self.old self.new result }
         ensures lawful { IfErr result (λ e. IsLawfulRefusal D.Disk self.old (inserting vector.now) e) }
     {
-        let stored = self.store(pass, None, vector);
-        self.frames.keeps_history();
-        stored
+        self.store_and_tidy(pass, None, vector)
     }
 
-    /// A document of this vector in place of the one of a name, committed and flushed: its name.
+    /// A document of this vector in place of the one of a name, committed and flushed: its name. The pending list
+    /// is cleaned up then as after an insert.
     pub fn update(
         &mut self,
         pass: &mut Pass,
@@ -172,16 +175,13 @@ impl<D: Disk> Db<D> {
         requires session { IsSession self.old pass.old }
         ensures session { IsSession self.new pass.new }
         ensures others { KeepsSessions self.old self.new }
-        ensures answered { HasStored D.Disk self.old self.new pass.new
+        ensures answered { StoresThenTidies D.Disk self.old self.new pass.new
             (updating name vector.now) result }
         ensures snapshot { TakesSnapshot self.old self.new pass.old pass.new }
         ensures goes_on { GoesOn D.Disk self.old self.new }
-        ensures fault { FaultIsTold D.Disk self.old self.new result }
         ensures lawful { IfErr result (λ e. IsLawfulRefusal D.Disk self.old (updating name vector.now) e) }
     {
-        let stored = self.store(pass, Some(name), vector);
-        self.frames.keeps_history();
-        stored
+        self.store_and_tidy(pass, Some(name), vector)
     }
 
     /// The document of a name is deleted, committed and flushed.
@@ -202,8 +202,8 @@ impl<D: Disk> Db<D> {
 
     /// The names of the documents of the snapshot that satisfy the query, by serial.
     fn search_now(&mut self, pass: &mut Pass, query: &TsQuery) -> Result<Vec<Name>, DbError>
-        requires session { IsSession self.old pass.old }
-        ensures session { IsSession self.new pass.new }
+        requires session { IsResting self.old pass.old }
+        ensures session { IsResting self.new pass.new }
         ensures found { HasFound D.Disk self.old self.new (Holds query.now) result }
         ensures snapshot { TakesSnapshot self.old self.new pass.old pass.new }
         ensures path { Goes D.Disk self.old self.new [] }
@@ -237,8 +237,8 @@ impl<D: Disk> Db<D> {
 
     /// The names of the commits of the snapshot, in their order.
     fn commits_now(&mut self, pass: &mut Pass) -> Result<Vec<CommitNames>, DbError>
-        requires session { IsSession self.old pass.old }
-        ensures session { IsSession self.new pass.new }
+        requires session { IsResting self.old pass.old }
+        ensures session { IsResting self.new pass.new }
         ensures listed { HasListed D.Disk self.old self.new result }
         ensures snapshot { TakesSnapshot self.old self.new pass.old pass.new }
         ensures path { Goes D.Disk self.old self.new [] }

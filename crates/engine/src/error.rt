@@ -1,9 +1,10 @@
 // Why a store is not opened, and why it refuses a call.
 ghost use Rattle.std.specs.Prelude.{◌≡◌};
-ghost use Rattle.engine.specs.Inner.Refusals.{log_refusal, frame_refusal};
+ghost use Rattle.engine.specs.Inner.Refusals.{log_refusal, frame_refusal, place_refusal};
 ghost use Rattle.engine.specs.declared.error.DbError.TheVariants.{OutOfMemory};
 
 use buffer_frames::{FrameError, LogError, OpenFault};
+use gin_place::PlaceError;
 use std::alloc::AllocError;
 use thiserror::Error;
 
@@ -25,7 +26,8 @@ pub enum DbError {
     /// This transaction deletes the document: it runs, or has committed since the statement began.
     #[error("conflict {xid}")]
     Conflict { xid: u32 },
-    /// There is no page for the document.
+    /// There is no page for the document, or for the tree of keys; or, until long lists become trees, a key's
+    /// list would be too long.
     #[error("store full")]
     StoreFull,
     /// The log would pass its limit.
@@ -80,6 +82,21 @@ impl From<FrameError> for DbError {
             FrameError::DiskFault => DbError::DiskFault,
             FrameError::BadPage { page } => DbError::BadPage { page },
             FrameError::OutOfMemory => DbError::OutOfMemory,
+        }
+    }
+}
+
+impl From<PlaceError> for DbError {
+    ghost from_gives = { λ w e. e ≡ place_refusal w };
+
+    fn from(error: PlaceError) -> DbError {
+        match error {
+            PlaceError::StoreFull => DbError::StoreFull,
+            PlaceError::LogFull => DbError::LogFull,
+            PlaceError::Down { fault } => DbError::Down { fault },
+            PlaceError::DiskFault => DbError::DiskFault,
+            PlaceError::BadPage { page } => DbError::BadPage { page },
+            PlaceError::OutOfMemory => DbError::OutOfMemory,
         }
     }
 }

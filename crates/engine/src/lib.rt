@@ -4,6 +4,7 @@
 
 mod asks;
 mod changes;
+mod cleaning;
 mod commit_names;
 mod db;
 mod error;

@@ -13,7 +13,7 @@ use disk_trait::Disk;
 use page_types::{Body, PAGE_LIMIT, Page};
 
 /// The page that names the first and the last page of the pending list.
-const META_PAGE: u32 = 0;
+pub(crate) const META_PAGE: u32 = 0;
 
 /// The metapage, which is held, the first page of the pending list that it names and how many there
 /// are, and the last page, if there is one, which is held too.

@@ -61,7 +61,15 @@ impl<D: Disk> Db<D> {
         match Frames::open(alloc, store, &settings) {
             Ok((frames, pass)) => {
                 frames.keeps_history();
-                Ok((Db { alloc, frames }, pass))
+                let pending = settings.pending;
+                Ok((
+                    Db {
+                        alloc,
+                        frames,
+                        pending,
+                    },
+                    pass,
+                ))
             }
             Err((store, why)) => Err(Unopened { store, why }),
         }

@@ -22,7 +22,7 @@ impl<D: Disk> Db<D> {
     ghost use Rattle.core_state.specs.History.{Commit};
     ghost use Rattle.buffer_frames.specs.Drawing.{value_by};
     ghost use Rattle.buffer_frames.specs.Passes.{IsPassOf, IsLogged, Seen, view_of, xid_after};
-    ghost use Rattle.engine.specs.Answers.{IsSession, TakesSnapshot};
+    ghost use Rattle.engine.specs.Answers.{IsResting, TakesSnapshot};
     ghost use Rattle.engine.specs.Causes.{IsListedIn, IsListed as IsListedNow, AreXidsSpent, IsDown};
     ghost use Rattle.engine.specs.Db.{state_of, state_then, flushed_of, IsUp, IsFlushed};
     ghost use Rattle.engine.specs.Work.{IsBeginOf, IsCommitOf};
@@ -147,7 +147,7 @@ impl<D: Disk> Db<D> {
         pass: &mut Pass,
         deletes: Option<Name>,
     ) -> Result<Transaction, DbError>
-        requires { IsSession self.old pass.old }
+        requires { IsResting self.old pass.old }
         ensures running { IfOk result (λ t. IsRunning D.Disk self.new pass.new t) }
         ensures snapshot { IfOk result (λ t. t.snapshot ≡ flushed_of self.old) }
         ensures begun { IfOk result (λ t. (b : Record) × IsBeginOf t.xid b
@@ -160,7 +160,7 @@ impl<D: Disk> Db<D> {
 
         // The refusals: nothing has begun.
         ensures refused { OnErr result
-            (IsSession self.new pass.new × Goes D.Disk self.old self.new []) }
+            (IsResting self.new pass.new × Goes D.Disk self.old self.new []) }
         ensures cause { IfErr result (λ e. CannotBegin D.Disk self.old self.new deletes e) }
     {
         let snapshot = self.frames.pin(pass)?;
@@ -210,7 +210,7 @@ impl<D: Disk> Db<D> {
         refusal: DbError,
     ) -> DbError
         requires { IsRunning D.Disk self.old pass.old work }
-        ensures session { IsSession self.new pass.new }
+        ensures session { IsResting self.new pass.new }
         ensures gone { GivesUp D.Disk self.old self.new work.xid }
         ensures keeps { KeepsRoom pass.old pass.new }
         ensures fault { TellsRefusal D.Disk self.old self.new refusal result }
@@ -225,7 +225,7 @@ impl<D: Disk> Db<D> {
         requires pass { IsPassOf self.old.frames pass.old }
         requires idle { (pass.old.held ≡ 0) × (pass.old.xid ≡ None) }
         requires up { IsUp self.old }
-        ensures session { IsSession self.new pass.new }
+        ensures session { IsResting self.new pass.new }
         ensures flushed { OnOk result (IsUp self.new × IsFlushed self.new
             × (flushed_of self.new ≡ length (state_of self.new).deleted)
             × (pass.new.shown ≡ flushed_of self.new)) }
@@ -246,7 +246,7 @@ impl<D: Disk> Db<D> {
         requires running { IsRunning D.Disk self.old pass.old work }
         requires up { IsUp self.old }
         requires changed { (c : Commit) × HasChanged D.Disk self.old pass.old work.xid c }
-        ensures session { IsSession self.new pass.new }
+        ensures session { IsResting self.new pass.new }
         ensures ended { OnOk result ((e : Record) × IsCommitOf work.xid e
             × Goes D.Disk self.old self.new (e ∷ [])) }
         ensures flushed { OnOk result (IsUp self.new × IsFlushed self.new
@@ -274,7 +274,7 @@ impl<D: Disk> Db<D> {
         requires running { IsRunning D.Disk self.old pass.old work }
         requires up { OnOk done (IsUp self.old) }
         requires changed { OnOk done ((c : Commit) × HasChanged D.Disk self.old pass.old work.xid c) }
-        ensures session { IsSession self.new pass.new }
+        ensures session { IsResting self.new pass.new }
         ensures keeps { KeepsRoom pass.old pass.new }
         ensures ended { EndsAs D.Disk self.old self.new pass.new work.xid done result }
     {

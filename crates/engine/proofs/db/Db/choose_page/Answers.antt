@@ -1,5 +1,5 @@
 -- A head goes on the first old heap page with room for it, else on a new page.
-use Rattle.std.proofs.Common.{◌≡◌, [], ◌∷◌, sym, ap, subst, ◌∙◌, inl, inr, arith, below_more}
+use Rattle.std.proofs.Common.{refl, ◌≡◌, [], ◌∷◌, sym, ap, subst, ◌∙◌, inl, inr, arith, below_more}
 use Rattle.std.specs.Prelude.{Option, Some, None, Result, Err, IfSome, IfNone, IfErr, OnErr, slice_get}
 use Rattle.std.proofs.lemmas.Result.{err_from_is_err_and}
 use Rattle.wal.specs.Waiting.{down_of}
@@ -33,23 +33,30 @@ use Rattle.engine.proofs.db.Db.choose_page.Goals.{After-look}
 
 -- the state of the log was asked
 asked : (g : Over) (c : After-look g) → WorksOn g.D.Disk c.args.self.now c.args.pass.now
-    (record { frames = c.look.new.self }) c.look.new.pass
+    (record { frames = c.look.new.self; pending = c.self.inside.pending }) c.look.new.pass
 asked g c =
-    let b : DbValue g.row.D.Denot = record { frames = c.look.new.self } in
+    let b : DbValue g.row.D.Denot = record { frames = c.look.new.self; pending = c.self.inside.pending } in
     let q : Pass = c.look.new.pass in
     let l = c.look.ensures in
     works_in_turn g.D.Disk c.args.self.now c.loop-number.self b c.args.pass.now c.loop-number.pass q
     c.loop-number.invariant.works
     (subst (λ (s : DbValue g.row.D.Denot). WorksOn g.D.Disk s c.loop-number.pass b q) c.self.view_is
-    (looked g.D.Disk (record { frames = c.self.inside.frames }) b c.loop-number.pass q l.pass l.sees_on l.added l.keeps
+    (looked g.D.Disk (record {
+      frames = c.self.inside.frames;
+      pending = c.self.inside.pending;
+    }) b refl c.loop-number.pass q l.pass l.sees_on l.added l.keeps
     l.rises l.keeps.xid l.runs_on l.state l.pins l.others l.calm l.begins))
 
-met : (g : Over) (c : After-look g) → MetNoFault g.D.Disk c.args.self.now (record { frames = c.look.new.self })
+met : (g : Over) (c : After-look g)
+    → MetNoFault g.D.Disk c.args.self.now (record { frames = c.look.new.self; pending = c.self.inside.pending })
 met g c =
-    let b : DbValue g.row.D.Denot = record { frames = c.look.new.self } in
+    let b : DbValue g.row.D.Denot = record { frames = c.look.new.self; pending = c.self.inside.pending } in
     none_in_turn g.D.Disk c.loop-number.invariant.met
     (subst (λ (s : DbValue g.row.D.Denot). MetNoFault g.D.Disk s b) c.self.view_is
-    (calm_fault g.D.Disk (record { frames = c.self.inside.frames }) b c.look.ensures.calm))
+    (calm_fault g.D.Disk (record {
+      frames = c.self.inside.frames;
+      pending = c.self.inside.pending;
+    }) b c.look.ensures.calm))
 
 pub loop-number-init : goal.loop-number-init
 loop-number-init g c =
@@ -80,7 +87,7 @@ returns-in_err-page-clause-fault g c =
     let calm = met g (goal.at.returns-in_err-page-clause-fault g c).After-look in
     let w = err_from_is_err_and c.from_residual.result c.from_residual.ensures.1 in
     let f = c.in_err-page.ensures.error in
-    let b : DbValue g.row.D.Denot = record { frames = c.look.new.self } in
+    let b : DbValue g.row.D.Denot = record { frames = c.look.new.self; pending = c.self.inside.pending } in
     let is : c.from_residual.result ≡ Err (Down f.0) =
     w.1 ∙ ap (λ (x : DbError). Err x) (w.2 ∙ ap frame_refusal f.1) in
     subst (FaultIsTold g.D.Disk c.args.self.now b) (sym is) calm
@@ -104,7 +111,7 @@ returns-in_err-page-clause-cause g c =
 pub returns-in_default-clause-carries : goal.returns-in_default-clause-carries
 returns-in_default-clause-carries g c =
     let before = asked g (goal.at.returns-in_default-clause-carries g c).After-look in
-    let b : DbValue g.row.D.Denot = record { frames = c.look.new.self } in
+    let b : DbValue g.row.D.Denot = record { frames = c.look.new.self; pending = c.self.inside.pending } in
     let q : Pass = c.look.new.pass in
     let d : DbValue g.row.D.Denot = c.place_on_taken.new.self in
     let r : Pass = c.place_on_taken.new.pass in
@@ -114,7 +121,7 @@ returns-in_default-clause-carries g c =
 pub returns-in_default-clause-goes : goal.returns-in_default-clause-goes
 returns-in_default-clause-goes g c =
     let before = asked g (goal.at.returns-in_default-clause-goes g c).After-look in
-    let b : DbValue g.row.D.Denot = record { frames = c.look.new.self } in
+    let b : DbValue g.row.D.Denot = record { frames = c.look.new.self; pending = c.self.inside.pending } in
     let q : Pass = c.look.new.pass in
     let d : DbValue g.row.D.Denot = c.place_on_taken.new.self in
     let r : Pass = c.place_on_taken.new.pass in
@@ -124,7 +131,7 @@ returns-in_default-clause-goes g c =
 pub returns-in_default-clause-keeps : goal.returns-in_default-clause-keeps
 returns-in_default-clause-keeps g c =
     let before = asked g (goal.at.returns-in_default-clause-keeps g c).After-look in
-    let b : DbValue g.row.D.Denot = record { frames = c.look.new.self } in
+    let b : DbValue g.row.D.Denot = record { frames = c.look.new.self; pending = c.self.inside.pending } in
     let q : Pass = c.look.new.pass in
     let d : DbValue g.row.D.Denot = c.place_on_taken.new.self in
     let r : Pass = c.place_on_taken.new.pass in
@@ -135,7 +142,7 @@ pub returns-in_default-clause-fault : goal.returns-in_default-clause-fault
 returns-in_default-clause-fault g c =
     let before = asked g (goal.at.returns-in_default-clause-fault g c).After-look in
     let calm = met g (goal.at.returns-in_default-clause-fault g c).After-look in
-    let b : DbValue g.row.D.Denot = record { frames = c.look.new.self } in
+    let b : DbValue g.row.D.Denot = record { frames = c.look.new.self; pending = c.self.inside.pending } in
     let q : Pass = c.look.new.pass in
     let d : DbValue g.row.D.Denot = c.place_on_taken.new.self in
     let r : Pass = c.place_on_taken.new.pass in
@@ -148,7 +155,7 @@ returns-in_default-clause-chosen g c =
     let before = asked g (goal.at.returns-in_default-clause-chosen g c).After-look in
     let a : DbValue g.row.D.Denot = c.args.self.now in
     let p : Pass = c.args.pass.now in
-    let b : DbValue g.row.D.Denot = record { frames = c.look.new.self } in
+    let b : DbValue g.row.D.Denot = record { frames = c.look.new.self; pending = c.self.inside.pending } in
     let q : Pass = c.look.new.pass in
     let d : DbValue g.row.D.Denot = c.place_on_taken.new.self in
     let r : Pass = c.place_on_taken.new.pass in
@@ -205,7 +212,7 @@ returns-in_default-clause-cause g c =
     let calm = met g (goal.at.returns-in_default-clause-cause g c).After-look in
     let a : DbValue g.row.D.Denot = c.args.self.now in
     let p : Pass = c.args.pass.now in
-    let b : DbValue g.row.D.Denot = record { frames = c.look.new.self } in
+    let b : DbValue g.row.D.Denot = record { frames = c.look.new.self; pending = c.self.inside.pending } in
     let q : Pass = c.look.new.pass in
     let d : DbValue g.row.D.Denot = c.place_on_taken.new.self in
     let r : Pass = c.place_on_taken.new.pass in
@@ -219,7 +226,7 @@ returns-in_default-clause-cause g c =
 pub returns-in_err-placed-clause-carries : goal.returns-in_err-placed-clause-carries
 returns-in_err-placed-clause-carries g c =
     let before = asked g (goal.at.returns-in_err-placed-clause-carries g c).After-look in
-    let b : DbValue g.row.D.Denot = record { frames = c.look.new.self } in
+    let b : DbValue g.row.D.Denot = record { frames = c.look.new.self; pending = c.self.inside.pending } in
     let q : Pass = c.look.new.pass in
     let d : DbValue g.row.D.Denot = c.place_on_old.new.self in
     let r : Pass = c.place_on_old.new.pass in
@@ -229,7 +236,7 @@ returns-in_err-placed-clause-carries g c =
 pub returns-in_err-placed-clause-goes : goal.returns-in_err-placed-clause-goes
 returns-in_err-placed-clause-goes g c =
     let before = asked g (goal.at.returns-in_err-placed-clause-goes g c).After-look in
-    let b : DbValue g.row.D.Denot = record { frames = c.look.new.self } in
+    let b : DbValue g.row.D.Denot = record { frames = c.look.new.self; pending = c.self.inside.pending } in
     let q : Pass = c.look.new.pass in
     let d : DbValue g.row.D.Denot = c.place_on_old.new.self in
     let r : Pass = c.place_on_old.new.pass in
@@ -239,7 +246,7 @@ returns-in_err-placed-clause-goes g c =
 pub returns-in_err-placed-clause-keeps : goal.returns-in_err-placed-clause-keeps
 returns-in_err-placed-clause-keeps g c =
     let before = asked g (goal.at.returns-in_err-placed-clause-keeps g c).After-look in
-    let b : DbValue g.row.D.Denot = record { frames = c.look.new.self } in
+    let b : DbValue g.row.D.Denot = record { frames = c.look.new.self; pending = c.self.inside.pending } in
     let q : Pass = c.look.new.pass in
     let d : DbValue g.row.D.Denot = c.place_on_old.new.self in
     let r : Pass = c.place_on_old.new.pass in
@@ -250,7 +257,7 @@ pub returns-in_err-placed-clause-fault : goal.returns-in_err-placed-clause-fault
 returns-in_err-placed-clause-fault g c =
     let before = asked g (goal.at.returns-in_err-placed-clause-fault g c).After-look in
     let calm = met g (goal.at.returns-in_err-placed-clause-fault g c).After-look in
-    let b : DbValue g.row.D.Denot = record { frames = c.look.new.self } in
+    let b : DbValue g.row.D.Denot = record { frames = c.look.new.self; pending = c.self.inside.pending } in
     let q : Pass = c.look.new.pass in
     let d : DbValue g.row.D.Denot = c.place_on_old.new.self in
     let r : Pass = c.place_on_old.new.pass in
@@ -265,7 +272,7 @@ returns-in_err-placed-clause-cause g c =
     let calm = met g (goal.at.returns-in_err-placed-clause-cause g c).After-look in
     let a : DbValue g.row.D.Denot = c.args.self.now in
     let p : Pass = c.args.pass.now in
-    let b : DbValue g.row.D.Denot = record { frames = c.look.new.self } in
+    let b : DbValue g.row.D.Denot = record { frames = c.look.new.self; pending = c.self.inside.pending } in
     let q : Pass = c.look.new.pass in
     let at : Some c.in-Some.page ≡ slice_get (heap_pages (state_of b)) c.loop-number.number =
     sym c.in-Some.is ∙ c.in_ok-page.ensures.answers in
@@ -284,7 +291,7 @@ returns-in-Some-2 g c =
     let calm = met g (goal.at.returns-in-Some-2 g c).After-look in
     let a : DbValue g.row.D.Denot = c.args.self.now in
     let p : Pass = c.args.pass.now in
-    let b : DbValue g.row.D.Denot = record { frames = c.look.new.self } in
+    let b : DbValue g.row.D.Denot = record { frames = c.look.new.self; pending = c.self.inside.pending } in
     let q : Pass = c.look.new.pass in
     let d : DbValue g.row.D.Denot = c.place_on_old.new.self in
     let r : Pass = c.place_on_old.new.pass in
@@ -321,7 +328,7 @@ loop-number-preserved g c =
     let calm = met g (goal.at.loop-number-preserved g c).After-look in
     let a : DbValue g.row.D.Denot = c.args.self.now in
     let p : Pass = c.args.pass.now in
-    let b : DbValue g.row.D.Denot = record { frames = c.look.new.self } in
+    let b : DbValue g.row.D.Denot = record { frames = c.look.new.self; pending = c.self.inside.pending } in
     let q : Pass = c.look.new.pass in
     let d : DbValue g.row.D.Denot = c.place_on_old.new.self in
     let r : Pass = c.place_on_old.new.pass in

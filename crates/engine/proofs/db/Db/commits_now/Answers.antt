@@ -1,5 +1,5 @@
 -- The commits.
-use Rattle.std.proofs.Common.{◌≡◌, [], sym, ap, subst, ◌∙◌}
+use Rattle.std.proofs.Common.{refl, ◌≡◌, [], sym, ap, subst, ◌∙◌}
 use Rattle.std.specs.Prelude.{Vec, Result, Err, IfErr}
 use Rattle.std.specs.declared.alloc.Global.{Global}
 use Rattle.std.proofs.lemmas.Result.{err_from_is_err_and}
@@ -22,28 +22,34 @@ use Rattle.engine.proofs.db.Db.commits_now.Goals as goal
 
 pub returns-in_err-snapshot-clause-session : goal.returns-in_err-snapshot-clause-session
 returns-in_err-snapshot-clause-session g c =
-    let b : DbValue g.row.D.Denot = record { frames = c.pin.new.self } in
+    let b : DbValue g.row.D.Denot = record { frames = c.pin.new.self; pending = c.self.inside.pending } in
     let p = c.in_err-snapshot.ensures.refused in
     let d = c.in_err-snapshot.ensures.error in
     let down : IsDown c.args.self.now d.0 =
     subst (λ (s : DbValue g.row.D.Denot). IsDown s d.0) c.self.view_is
     ((c.pin.ensures.is_down d.0).0 (c.in_err-snapshot.was ∙ ap Err d.1)) in
     let same : b ≡ c.args.self.now =
-    ap (λ (f : FramesValue g.row.D.Denot). let s : DbValue g.row.D.Denot = record { frames = f } in s) p.0
+    ap (λ (f : FramesValue g.row.D.Denot). let s : DbValue g.row.D.Denot = record {
+      frames = f;
+      pending = c.self.inside.pending;
+    } in s) p.0
     ∙ c.self.view_is in
     let k = rests g.D.Disk c.args.self.now b c.args.pass.now c.pin.new.pass d.0 c.requires.session down same p.1 in
     k.session
 
 pub returns-in_err-snapshot-clause-listed : goal.returns-in_err-snapshot-clause-listed
 returns-in_err-snapshot-clause-listed g c =
-    let b : DbValue g.row.D.Denot = record { frames = c.pin.new.self } in
+    let b : DbValue g.row.D.Denot = record { frames = c.pin.new.self; pending = c.self.inside.pending } in
     let p = c.in_err-snapshot.ensures.refused in
     let d = c.in_err-snapshot.ensures.error in
     let down : IsDown c.args.self.now d.0 =
     subst (λ (s : DbValue g.row.D.Denot). IsDown s d.0) c.self.view_is
     ((c.pin.ensures.is_down d.0).0 (c.in_err-snapshot.was ∙ ap Err d.1)) in
     let same : b ≡ c.args.self.now =
-    ap (λ (f : FramesValue g.row.D.Denot). let s : DbValue g.row.D.Denot = record { frames = f } in s) p.0
+    ap (λ (f : FramesValue g.row.D.Denot). let s : DbValue g.row.D.Denot = record {
+      frames = f;
+      pending = c.self.inside.pending;
+    } in s) p.0
     ∙ c.self.view_is in
     let k = rests g.D.Disk c.args.self.now b c.args.pass.now c.pin.new.pass d.0 c.requires.session down same p.1 in
     let q = err_from_is_err_and c.from_residual.result c.from_residual.ensures.1 in
@@ -52,42 +58,51 @@ returns-in_err-snapshot-clause-listed g c =
 
 pub returns-in_err-snapshot-clause-snapshot : goal.returns-in_err-snapshot-clause-snapshot
 returns-in_err-snapshot-clause-snapshot g c =
-    let b : DbValue g.row.D.Denot = record { frames = c.pin.new.self } in
+    let b : DbValue g.row.D.Denot = record { frames = c.pin.new.self; pending = c.self.inside.pending } in
     let p = c.in_err-snapshot.ensures.refused in
     let d = c.in_err-snapshot.ensures.error in
     let down : IsDown c.args.self.now d.0 =
     subst (λ (s : DbValue g.row.D.Denot). IsDown s d.0) c.self.view_is
     ((c.pin.ensures.is_down d.0).0 (c.in_err-snapshot.was ∙ ap Err d.1)) in
     let same : b ≡ c.args.self.now =
-    ap (λ (f : FramesValue g.row.D.Denot). let s : DbValue g.row.D.Denot = record { frames = f } in s) p.0
+    ap (λ (f : FramesValue g.row.D.Denot). let s : DbValue g.row.D.Denot = record {
+      frames = f;
+      pending = c.self.inside.pending;
+    } in s) p.0
     ∙ c.self.view_is in
     let k = rests g.D.Disk c.args.self.now b c.args.pass.now c.pin.new.pass d.0 c.requires.session down same p.1 in
     k.snapshot
 
 pub returns-in_err-snapshot-clause-path : goal.returns-in_err-snapshot-clause-path
 returns-in_err-snapshot-clause-path g c =
-    let b : DbValue g.row.D.Denot = record { frames = c.pin.new.self } in
+    let b : DbValue g.row.D.Denot = record { frames = c.pin.new.self; pending = c.self.inside.pending } in
     let p = c.in_err-snapshot.ensures.refused in
     let d = c.in_err-snapshot.ensures.error in
     let down : IsDown c.args.self.now d.0 =
     subst (λ (s : DbValue g.row.D.Denot). IsDown s d.0) c.self.view_is
     ((c.pin.ensures.is_down d.0).0 (c.in_err-snapshot.was ∙ ap Err d.1)) in
     let same : b ≡ c.args.self.now =
-    ap (λ (f : FramesValue g.row.D.Denot). let s : DbValue g.row.D.Denot = record { frames = f } in s) p.0
+    ap (λ (f : FramesValue g.row.D.Denot). let s : DbValue g.row.D.Denot = record {
+      frames = f;
+      pending = c.self.inside.pending;
+    } in s) p.0
     ∙ c.self.view_is in
     let k = rests g.D.Disk c.args.self.now b c.args.pass.now c.pin.new.pass d.0 c.requires.session down same p.1 in
     k.path
 
 pub returns-in_err-snapshot-clause-fault : goal.returns-in_err-snapshot-clause-fault
 returns-in_err-snapshot-clause-fault g c =
-    let b : DbValue g.row.D.Denot = record { frames = c.pin.new.self } in
+    let b : DbValue g.row.D.Denot = record { frames = c.pin.new.self; pending = c.self.inside.pending } in
     let p = c.in_err-snapshot.ensures.refused in
     let d = c.in_err-snapshot.ensures.error in
     let down : IsDown c.args.self.now d.0 =
     subst (λ (s : DbValue g.row.D.Denot). IsDown s d.0) c.self.view_is
     ((c.pin.ensures.is_down d.0).0 (c.in_err-snapshot.was ∙ ap Err d.1)) in
     let same : b ≡ c.args.self.now =
-    ap (λ (f : FramesValue g.row.D.Denot). let s : DbValue g.row.D.Denot = record { frames = f } in s) p.0
+    ap (λ (f : FramesValue g.row.D.Denot). let s : DbValue g.row.D.Denot = record {
+      frames = f;
+      pending = c.self.inside.pending;
+    } in s) p.0
     ∙ c.self.view_is in
     let k = rests g.D.Disk c.args.self.now b c.args.pass.now c.pin.new.pass d.0 c.requires.session down same p.1 in
     let q = err_from_is_err_and c.from_residual.result c.from_residual.ensures.1 in
@@ -96,12 +111,12 @@ returns-in_err-snapshot-clause-fault g c =
 
 pub list-listed-requires-clause-up : goal.list-listed-requires-clause-up
 list-listed-requires-clause-up g c =
-    let a : DbValue g.row.D.Denot = record { frames = c.self.inside.frames } in
-    let m : DbValue g.row.D.Denot = record { frames = c.pin.new.self } in
+    let a : DbValue g.row.D.Denot = record { frames = c.self.inside.frames; pending = c.self.inside.pending } in
+    let m : DbValue g.row.D.Denot = record { frames = c.pin.new.self; pending = c.self.inside.pending } in
     let e = c.pin.ensures.keeps in
     let begins : Goes g.D.Disk c.args.self.now m [] =
     subst (λ (s : DbValue g.row.D.Denot). Goes g.D.Disk s m []) c.self.view_is
-    (one_nothing g.D.Disk (pin_step g.D.Disk a m e.added e.journal e.begins c.in_ok-snapshot.ensures.pinned)) in
+    (one_nothing g.D.Disk (pin_step g.D.Disk a m refl e.added e.journal e.begins c.in_ok-snapshot.ensures.pinned)) in
     let same : m.frames.journal ≡ c.args.self.now.frames.journal =
     e.journal ∙ ap (λ (s : DbValue g.row.D.Denot). s.frames.journal) c.self.view_is in
     let n = c.in_ok-snapshot.snapshot in
@@ -113,23 +128,23 @@ list-listed-requires-clause-up g c =
 
 pub returns-clause-session : goal.returns-clause-session
 returns-clause-session g c =
-    let a : DbValue g.row.D.Denot = record { frames = c.self.inside.frames } in
-    let m : DbValue g.row.D.Denot = record { frames = c.pin.new.self } in
+    let a : DbValue g.row.D.Denot = record { frames = c.self.inside.frames; pending = c.self.inside.pending } in
+    let m : DbValue g.row.D.Denot = record { frames = c.pin.new.self; pending = c.self.inside.pending } in
     let e = c.pin.ensures.keeps in
     let begins : Goes g.D.Disk c.args.self.now m [] =
     subst (λ (s : DbValue g.row.D.Denot). Goes g.D.Disk s m []) c.self.view_is
-    (one_nothing g.D.Disk (pin_step g.D.Disk a m e.added e.journal e.begins c.in_ok-snapshot.ensures.pinned)) in
+    (one_nothing g.D.Disk (pin_step g.D.Disk a m refl e.added e.journal e.begins c.in_ok-snapshot.ensures.pinned)) in
     let same : m.frames.journal ≡ c.args.self.now.frames.journal =
     e.journal ∙ ap (λ (s : DbValue g.row.D.Denot). s.frames.journal) c.self.view_is in
     let n = c.in_ok-snapshot.snapshot in
     let pinned = c.in_ok-snapshot.ensures.pinned in
-    let s : DbValue g.row.D.Denot = record { frames = c.self-2.inside.frames } in
-    let b : DbValue g.row.D.Denot = record { frames = c.unpin.new.self } in
+    let s : DbValue g.row.D.Denot = record { frames = c.self-2.inside.frames; pending = c.self-2.inside.pending } in
+    let b : DbValue g.row.D.Denot = record { frames = c.unpin.new.self; pending = c.self-2.inside.pending } in
     let u = c.unpin.ensures in
     let ends : Goes g.D.Disk c.list-listed.new.self b [] =
     subst (λ (s : DbValue g.row.D.Denot). Goes g.D.Disk s b []) c.self-2.view_is
     (one_nothing g.D.Disk
-    (unpin_step g.D.Disk s b c.list-listed.new.pass.pin u.keeps.added u.keeps.journal u.keeps.begins u.pins)) in
+    (unpin_step g.D.Disk s b refl c.list-listed.new.pass.pin u.keeps.added u.keeps.journal u.keeps.begins u.pins)) in
     let kept : b.frames.journal ≡ c.list-listed.new.self.frames.journal =
     u.keeps.journal ∙ ap (λ (s : DbValue g.row.D.Denot). s.frames.journal) c.self-2.view_is in
     session_after c.args.self.now b c.args.pass.now c.pin.new.pass c.list-listed.new.pass c.unpin.new.pass
@@ -139,12 +154,12 @@ returns-clause-session g c =
 
 pub returns-clause-listed : goal.returns-clause-listed
 returns-clause-listed g c =
-    let a : DbValue g.row.D.Denot = record { frames = c.self.inside.frames } in
-    let m : DbValue g.row.D.Denot = record { frames = c.pin.new.self } in
+    let a : DbValue g.row.D.Denot = record { frames = c.self.inside.frames; pending = c.self.inside.pending } in
+    let m : DbValue g.row.D.Denot = record { frames = c.pin.new.self; pending = c.self.inside.pending } in
     let e = c.pin.ensures.keeps in
     let begins : Goes g.D.Disk c.args.self.now m [] =
     subst (λ (s : DbValue g.row.D.Denot). Goes g.D.Disk s m []) c.self.view_is
-    (one_nothing g.D.Disk (pin_step g.D.Disk a m e.added e.journal e.begins c.in_ok-snapshot.ensures.pinned)) in
+    (one_nothing g.D.Disk (pin_step g.D.Disk a m refl e.added e.journal e.begins c.in_ok-snapshot.ensures.pinned)) in
     let same : m.frames.journal ≡ c.args.self.now.frames.journal =
     e.journal ∙ ap (λ (s : DbValue g.row.D.Denot). s.frames.journal) c.self.view_is in
     let n = c.in_ok-snapshot.snapshot in
@@ -152,13 +167,13 @@ returns-clause-listed g c =
     let up : IsUp c.args.self.now =
     subst IsUp c.self.view_is
     (up_at_pin (down_of c.self.inside.frames.journal.wal) c.pin.result n c.pin.ensures.is_down c.in_ok-snapshot.was) in
-    let s : DbValue g.row.D.Denot = record { frames = c.self-2.inside.frames } in
-    let b : DbValue g.row.D.Denot = record { frames = c.unpin.new.self } in
+    let s : DbValue g.row.D.Denot = record { frames = c.self-2.inside.frames; pending = c.self-2.inside.pending } in
+    let b : DbValue g.row.D.Denot = record { frames = c.unpin.new.self; pending = c.self-2.inside.pending } in
     let u = c.unpin.ensures in
     let ends : Goes g.D.Disk c.list-listed.new.self b [] =
     subst (λ (s : DbValue g.row.D.Denot). Goes g.D.Disk s b []) c.self-2.view_is
     (one_nothing g.D.Disk
-    (unpin_step g.D.Disk s b c.list-listed.new.pass.pin u.keeps.added u.keeps.journal u.keeps.begins u.pins)) in
+    (unpin_step g.D.Disk s b refl c.list-listed.new.pass.pin u.keeps.added u.keeps.journal u.keeps.begins u.pins)) in
     let kept : b.frames.journal ≡ c.list-listed.new.self.frames.journal =
     u.keeps.journal ∙ ap (λ (s : DbValue g.row.D.Denot). s.frames.journal) c.self-2.view_is in
     let all : n ≡ flushed_of c.args.self.now =
@@ -170,23 +185,23 @@ returns-clause-listed g c =
 
 pub returns-clause-snapshot : goal.returns-clause-snapshot
 returns-clause-snapshot g c =
-    let a : DbValue g.row.D.Denot = record { frames = c.self.inside.frames } in
-    let m : DbValue g.row.D.Denot = record { frames = c.pin.new.self } in
+    let a : DbValue g.row.D.Denot = record { frames = c.self.inside.frames; pending = c.self.inside.pending } in
+    let m : DbValue g.row.D.Denot = record { frames = c.pin.new.self; pending = c.self.inside.pending } in
     let e = c.pin.ensures.keeps in
     let begins : Goes g.D.Disk c.args.self.now m [] =
     subst (λ (s : DbValue g.row.D.Denot). Goes g.D.Disk s m []) c.self.view_is
-    (one_nothing g.D.Disk (pin_step g.D.Disk a m e.added e.journal e.begins c.in_ok-snapshot.ensures.pinned)) in
+    (one_nothing g.D.Disk (pin_step g.D.Disk a m refl e.added e.journal e.begins c.in_ok-snapshot.ensures.pinned)) in
     let same : m.frames.journal ≡ c.args.self.now.frames.journal =
     e.journal ∙ ap (λ (s : DbValue g.row.D.Denot). s.frames.journal) c.self.view_is in
     let n = c.in_ok-snapshot.snapshot in
     let pinned = c.in_ok-snapshot.ensures.pinned in
-    let s : DbValue g.row.D.Denot = record { frames = c.self-2.inside.frames } in
-    let b : DbValue g.row.D.Denot = record { frames = c.unpin.new.self } in
+    let s : DbValue g.row.D.Denot = record { frames = c.self-2.inside.frames; pending = c.self-2.inside.pending } in
+    let b : DbValue g.row.D.Denot = record { frames = c.unpin.new.self; pending = c.self-2.inside.pending } in
     let u = c.unpin.ensures in
     let ends : Goes g.D.Disk c.list-listed.new.self b [] =
     subst (λ (s : DbValue g.row.D.Denot). Goes g.D.Disk s b []) c.self-2.view_is
     (one_nothing g.D.Disk
-    (unpin_step g.D.Disk s b c.list-listed.new.pass.pin u.keeps.added u.keeps.journal u.keeps.begins u.pins)) in
+    (unpin_step g.D.Disk s b refl c.list-listed.new.pass.pin u.keeps.added u.keeps.journal u.keeps.begins u.pins)) in
     let kept : b.frames.journal ≡ c.list-listed.new.self.frames.journal =
     u.keeps.journal ∙ ap (λ (s : DbValue g.row.D.Denot). s.frames.journal) c.self-2.view_is in
     snapshot_after c.args.self.now m b c.self.inside.frames c.args.pass.now c.pin.new.pass c.list-listed.new.pass
@@ -196,46 +211,46 @@ returns-clause-snapshot g c =
 
 pub returns-clause-path : goal.returns-clause-path
 returns-clause-path g c =
-    let a : DbValue g.row.D.Denot = record { frames = c.self.inside.frames } in
-    let m : DbValue g.row.D.Denot = record { frames = c.pin.new.self } in
+    let a : DbValue g.row.D.Denot = record { frames = c.self.inside.frames; pending = c.self.inside.pending } in
+    let m : DbValue g.row.D.Denot = record { frames = c.pin.new.self; pending = c.self.inside.pending } in
     let e = c.pin.ensures.keeps in
     let begins : Goes g.D.Disk c.args.self.now m [] =
     subst (λ (s : DbValue g.row.D.Denot). Goes g.D.Disk s m []) c.self.view_is
-    (one_nothing g.D.Disk (pin_step g.D.Disk a m e.added e.journal e.begins c.in_ok-snapshot.ensures.pinned)) in
+    (one_nothing g.D.Disk (pin_step g.D.Disk a m refl e.added e.journal e.begins c.in_ok-snapshot.ensures.pinned)) in
     let same : m.frames.journal ≡ c.args.self.now.frames.journal =
     e.journal ∙ ap (λ (s : DbValue g.row.D.Denot). s.frames.journal) c.self.view_is in
     let n = c.in_ok-snapshot.snapshot in
     let pinned = c.in_ok-snapshot.ensures.pinned in
-    let s : DbValue g.row.D.Denot = record { frames = c.self-2.inside.frames } in
-    let b : DbValue g.row.D.Denot = record { frames = c.unpin.new.self } in
+    let s : DbValue g.row.D.Denot = record { frames = c.self-2.inside.frames; pending = c.self-2.inside.pending } in
+    let b : DbValue g.row.D.Denot = record { frames = c.unpin.new.self; pending = c.self-2.inside.pending } in
     let u = c.unpin.ensures in
     let ends : Goes g.D.Disk c.list-listed.new.self b [] =
     subst (λ (s : DbValue g.row.D.Denot). Goes g.D.Disk s b []) c.self-2.view_is
     (one_nothing g.D.Disk
-    (unpin_step g.D.Disk s b c.list-listed.new.pass.pin u.keeps.added u.keeps.journal u.keeps.begins u.pins)) in
+    (unpin_step g.D.Disk s b refl c.list-listed.new.pass.pin u.keeps.added u.keeps.journal u.keeps.begins u.pins)) in
     let kept : b.frames.journal ≡ c.list-listed.new.self.frames.journal =
     u.keeps.journal ∙ ap (λ (s : DbValue g.row.D.Denot). s.frames.journal) c.self-2.view_is in
     read_path g.D.Disk c.args.self.now m c.list-listed.new.self b begins c.list-listed.ensures.goes ends
 
 pub returns-clause-fault : goal.returns-clause-fault
 returns-clause-fault g c =
-    let a : DbValue g.row.D.Denot = record { frames = c.self.inside.frames } in
-    let m : DbValue g.row.D.Denot = record { frames = c.pin.new.self } in
+    let a : DbValue g.row.D.Denot = record { frames = c.self.inside.frames; pending = c.self.inside.pending } in
+    let m : DbValue g.row.D.Denot = record { frames = c.pin.new.self; pending = c.self.inside.pending } in
     let e = c.pin.ensures.keeps in
     let begins : Goes g.D.Disk c.args.self.now m [] =
     subst (λ (s : DbValue g.row.D.Denot). Goes g.D.Disk s m []) c.self.view_is
-    (one_nothing g.D.Disk (pin_step g.D.Disk a m e.added e.journal e.begins c.in_ok-snapshot.ensures.pinned)) in
+    (one_nothing g.D.Disk (pin_step g.D.Disk a m refl e.added e.journal e.begins c.in_ok-snapshot.ensures.pinned)) in
     let same : m.frames.journal ≡ c.args.self.now.frames.journal =
     e.journal ∙ ap (λ (s : DbValue g.row.D.Denot). s.frames.journal) c.self.view_is in
     let n = c.in_ok-snapshot.snapshot in
     let pinned = c.in_ok-snapshot.ensures.pinned in
-    let s : DbValue g.row.D.Denot = record { frames = c.self-2.inside.frames } in
-    let b : DbValue g.row.D.Denot = record { frames = c.unpin.new.self } in
+    let s : DbValue g.row.D.Denot = record { frames = c.self-2.inside.frames; pending = c.self-2.inside.pending } in
+    let b : DbValue g.row.D.Denot = record { frames = c.unpin.new.self; pending = c.self-2.inside.pending } in
     let u = c.unpin.ensures in
     let ends : Goes g.D.Disk c.list-listed.new.self b [] =
     subst (λ (s : DbValue g.row.D.Denot). Goes g.D.Disk s b []) c.self-2.view_is
     (one_nothing g.D.Disk
-    (unpin_step g.D.Disk s b c.list-listed.new.pass.pin u.keeps.added u.keeps.journal u.keeps.begins u.pins)) in
+    (unpin_step g.D.Disk s b refl c.list-listed.new.pass.pin u.keeps.added u.keeps.journal u.keeps.begins u.pins)) in
     let kept : b.frames.journal ≡ c.list-listed.new.self.frames.journal =
     u.keeps.journal ∙ ap (λ (s : DbValue g.row.D.Denot). s.frames.journal) c.self-2.view_is in
     read_told g.D.Disk c.args.self.now m c.list-listed.new.self b begins c.list-listed.ensures.goes ends same kept

@@ -3,8 +3,13 @@ use Rattle.std.proofs.Common.{subst}
 use Rattle.buffer_frames.specs.Beginnings.{HasFlushed}
 use Rattle.engine.specs.Db.{DbValue}
 use Rattle.engine.proofs.Growing.{goes_on_by}
-use Rattle.engine.proofs.PinsRisen.{others_stay}
+use Rattle.engine.proofs.PinsRisen.{others_stay, own_stays}
 use Rattle.engine.proofs.db.Db.delete.Goals as goal
+
+pub returns-clause-session : goal.returns-clause-session
+returns-clause-session g c =
+    own_stays g.D.Disk (c.take_away-deleted.ensures.path).1 c.args.pass.now _ c.requires.session
+    c.take_away-deleted.ensures.session
 
 pub returns-clause-others : goal.returns-clause-others
 returns-clause-others g c =

@@ -1,5 +1,5 @@
 -- A search: a scan begins in the snapshot, is stepped to its end, and ends.
-use Rattle.std.proofs.Common.{◌≡◌, ap, subst, ◌∙◌}
+use Rattle.std.proofs.Common.{◌≡◌, refl, ap, subst, ◌∙◌}
 use Rattle.wal.specs.Waiting.{down_of}
 use Rattle.buffer_frames.specs.Journals.{JournalValue}
 use Rattle.buffer_frames.specs.Passes.{pin_in}
@@ -23,39 +23,43 @@ within-requires-clause-taken g c =
 
 pub returns-in_err-scan-clause-reads : goal.returns-in_err-scan-clause-reads
 returns-in_err-scan-clause-reads g c =
-    let a : DbValue g.row.D.Denot = store_of c.self.inside.frames in
-    let m : DbValue g.row.D.Denot = store_of c.within.new.frames in
+    let a : DbValue g.row.D.Denot = store_of c.self.inside.pending c.self.inside.frames in
+    let m : DbValue g.row.D.Denot = store_of c.self.inside.pending c.within.new.frames in
     let e = c.within.ensures in
     subst (λ (s : DbValue g.row.D.Denot). EndsReading g.D.Disk s c.args.pass.now m c.within.new.pass) c.self.view_is
     (ends_now g.D.Disk a m c.args.pass.now c.within.new.pass
-    (begun_by g.D.Disk a m c.args.pass.now c.within.new.pass e.reads.is_pass e.reads.held e.reads.adds e.reads.lying
+    (begun_by g.D.Disk a m refl c.args.pass.now c.within.new.pass e.reads.is_pass e.reads.held e.reads.adds
+    e.reads.lying
     e.reads.keeps e.pin))
 
 pub returns-in-Ok-clause-reads : goal.returns-in-Ok-clause-reads
 returns-in-Ok-clause-reads g c =
-    let a : DbValue g.row.D.Denot = store_of c.self.inside.frames in
-    let m : DbValue g.row.D.Denot = store_of c.within.new.frames in
+    let a : DbValue g.row.D.Denot = store_of c.self.inside.pending c.self.inside.frames in
+    let m : DbValue g.row.D.Denot = store_of c.self.inside.pending c.within.new.frames in
     let e = c.within.ensures in
     let begun : ReadsOn g.D.Disk c.args.self.now c.args.pass.now m c.within.new.pass =
     subst (λ (s : DbValue g.row.D.Denot). ReadsOn g.D.Disk s c.args.pass.now m c.within.new.pass) c.self.view_is
-    (begun_by g.D.Disk a m c.args.pass.now c.within.new.pass e.reads.is_pass e.reads.held e.reads.adds e.reads.lying
+    (begun_by g.D.Disk a m refl c.args.pass.now c.within.new.pass e.reads.is_pass e.reads.held e.reads.adds
+    e.reads.lying
     e.reads.keeps e.pin) in
     scan_ends g.D.Disk c.read_index.new.scan.core c.args.self.now m c.read_index.new.self
-    (store_of c.self-2.inside.frames) (store_of c.finish.new.frames) c.args.pass.now c.within.new.pass
+    (store_of c.self-2.inside.pending c.self-2.inside.frames)
+    (store_of c.self-2.inside.pending c.finish.new.frames) refl c.args.pass.now c.within.new.pass
     c.read_index.new.pass c.finish.new.pass begun c.read_index.ensures.reads c.self-2.view_is c.finish.ensures.ends
 
 pub returns-in-Ok-clause-found : goal.returns-in-Ok-clause-found
 returns-in-Ok-clause-found g c =
-    let a : DbValue g.row.D.Denot = store_of c.self.inside.frames in
-    let m : DbValue g.row.D.Denot = store_of c.within.new.frames in
-    let b : DbValue g.row.D.Denot = store_of c.finish.new.frames in
+    let a : DbValue g.row.D.Denot = store_of c.self.inside.pending c.self.inside.frames in
+    let m : DbValue g.row.D.Denot = store_of c.self.inside.pending c.within.new.frames in
+    let b : DbValue g.row.D.Denot = store_of c.self-2.inside.pending c.finish.new.frames in
     let e = c.within.ensures in
     let begun : ReadsOn g.D.Disk c.args.self.now c.args.pass.now m c.within.new.pass =
     subst (λ (s : DbValue g.row.D.Denot). ReadsOn g.D.Disk s c.args.pass.now m c.within.new.pass) c.self.view_is
-    (begun_by g.D.Disk a m c.args.pass.now c.within.new.pass e.reads.is_pass e.reads.held e.reads.adds e.reads.lying
+    (begun_by g.D.Disk a m refl c.args.pass.now c.within.new.pass e.reads.is_pass e.reads.held e.reads.adds
+    e.reads.lying
     e.reads.keeps e.pin) in
     let reads = scan_ends g.D.Disk c.read_index.new.scan.core c.args.self.now m c.read_index.new.self
-    (store_of c.self-2.inside.frames) b c.args.pass.now c.within.new.pass
+    (store_of c.self-2.inside.pending c.self-2.inside.frames) b refl c.args.pass.now c.within.new.pass
     c.read_index.new.pass c.finish.new.pass begun c.read_index.ensures.reads c.self-2.view_is c.finish.ensures.ends in
     let up_m : IsUp m = e.reads.calm.down ∙ ap fault_of c.self.view_is ∙ c.requires.up in
     let met : MetNoFault g.D.Disk m c.read_index.new.self = c.in-Ok.ensures.fault in
@@ -73,37 +77,41 @@ returns-in-Ok-clause-found g c =
 
 pub returns-in-Err-clause-reads : goal.returns-in-Err-clause-reads
 returns-in-Err-clause-reads g c =
-    let a : DbValue g.row.D.Denot = store_of c.self.inside.frames in
-    let m : DbValue g.row.D.Denot = store_of c.within.new.frames in
+    let a : DbValue g.row.D.Denot = store_of c.self.inside.pending c.self.inside.frames in
+    let m : DbValue g.row.D.Denot = store_of c.self.inside.pending c.within.new.frames in
     let e = c.within.ensures in
     let begun : ReadsOn g.D.Disk c.args.self.now c.args.pass.now m c.within.new.pass =
     subst (λ (s : DbValue g.row.D.Denot). ReadsOn g.D.Disk s c.args.pass.now m c.within.new.pass) c.self.view_is
-    (begun_by g.D.Disk a m c.args.pass.now c.within.new.pass e.reads.is_pass e.reads.held e.reads.adds e.reads.lying
+    (begun_by g.D.Disk a m refl c.args.pass.now c.within.new.pass e.reads.is_pass e.reads.held e.reads.adds
+    e.reads.lying
     e.reads.keeps e.pin) in
     scan_ends g.D.Disk c.read_index.new.scan.core c.args.self.now m c.read_index.new.self
-    (store_of c.self-2.inside.frames) (store_of c.drop_scan.new.frames) c.args.pass.now c.within.new.pass
+    (store_of c.self-2.inside.pending c.self-2.inside.frames)
+    (store_of c.self-2.inside.pending c.drop_scan.new.frames) refl c.args.pass.now c.within.new.pass
     c.read_index.new.pass c.drop_scan.new.pass begun c.read_index.ensures.reads c.self-2.view_is
     c.drop_scan.ensures.ends
 
 pub returns-in-Err-clause-cause : goal.returns-in-Err-clause-cause
 returns-in-Err-clause-cause g c =
-    let a : DbValue g.row.D.Denot = store_of c.self.inside.frames in
-    let m : DbValue g.row.D.Denot = store_of c.within.new.frames in
+    let a : DbValue g.row.D.Denot = store_of c.self.inside.pending c.self.inside.frames in
+    let m : DbValue g.row.D.Denot = store_of c.self.inside.pending c.within.new.frames in
     let e = c.within.ensures in
     let begun : ReadsOn g.D.Disk c.args.self.now c.args.pass.now m c.within.new.pass =
     subst (λ (s : DbValue g.row.D.Denot). ReadsOn g.D.Disk s c.args.pass.now m c.within.new.pass) c.self.view_is
-    (begun_by g.D.Disk a m c.args.pass.now c.within.new.pass e.reads.is_pass e.reads.held e.reads.adds e.reads.lying
+    (begun_by g.D.Disk a m refl c.args.pass.now c.within.new.pass e.reads.is_pass e.reads.held e.reads.adds
+    e.reads.lying
     e.reads.keeps e.pin) in
     find_later g.D.Disk c.args.self.now m c.in-Err.refusal begun.goes c.in-Err.ensures.cause
 
 pub returns-in-Err-clause-lawful : goal.returns-in-Err-clause-lawful
 returns-in-Err-clause-lawful g c =
-    let a : DbValue g.row.D.Denot = store_of c.self.inside.frames in
-    let m : DbValue g.row.D.Denot = store_of c.within.new.frames in
+    let a : DbValue g.row.D.Denot = store_of c.self.inside.pending c.self.inside.frames in
+    let m : DbValue g.row.D.Denot = store_of c.self.inside.pending c.within.new.frames in
     let e = c.within.ensures in
     let begun : ReadsOn g.D.Disk c.args.self.now c.args.pass.now m c.within.new.pass =
     subst (λ (s : DbValue g.row.D.Denot). ReadsOn g.D.Disk s c.args.pass.now m c.within.new.pass) c.self.view_is
-    (begun_by g.D.Disk a m c.args.pass.now c.within.new.pass e.reads.is_pass e.reads.held e.reads.adds e.reads.lying
+    (begun_by g.D.Disk a m refl c.args.pass.now c.within.new.pass e.reads.is_pass e.reads.held e.reads.adds
+    e.reads.lying
     e.reads.keeps e.pin) in
     let met : MetNoFault g.D.Disk c.args.self.now m =
     subst (λ (s : DbValue g.row.D.Denot). MetNoFault g.D.Disk s m) c.self.view_is
@@ -112,12 +120,13 @@ returns-in-Err-clause-lawful g c =
 
 pub returns-in-Err-clause-way : goal.returns-in-Err-clause-way
 returns-in-Err-clause-way g c =
-    let a : DbValue g.row.D.Denot = store_of c.self.inside.frames in
-    let m : DbValue g.row.D.Denot = store_of c.within.new.frames in
+    let a : DbValue g.row.D.Denot = store_of c.self.inside.pending c.self.inside.frames in
+    let m : DbValue g.row.D.Denot = store_of c.self.inside.pending c.within.new.frames in
     let e = c.within.ensures in
     let begun : ReadsOn g.D.Disk c.args.self.now c.args.pass.now m c.within.new.pass =
     subst (λ (s : DbValue g.row.D.Denot). ReadsOn g.D.Disk s c.args.pass.now m c.within.new.pass) c.self.view_is
-    (begun_by g.D.Disk a m c.args.pass.now c.within.new.pass e.reads.is_pass e.reads.held e.reads.adds e.reads.lying
+    (begun_by g.D.Disk a m refl c.args.pass.now c.within.new.pass e.reads.is_pass e.reads.held e.reads.adds
+    e.reads.lying
     e.reads.keeps e.pin) in
     comes_later g.D.Disk c.args.query.now c.args.self.now m c.in-Err.refusal begun.goes
     (subst (λ (q : Query). ComesToBadPage g.D.Disk m q c.in-Err.refusal) c.in_ok-scan.ensures.query.query

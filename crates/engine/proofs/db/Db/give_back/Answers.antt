@@ -1,5 +1,5 @@
 -- A page is given back.
-use Rattle.std.proofs.Common.{[], ◌∷◌, sym, subst}
+use Rattle.std.proofs.Common.{refl, [], ◌∷◌, sym, subst}
 use Rattle.buffer_frames.specs.Passes.{IsHolding}
 use Rattle.engine.specs.Db.{DbValue}
 use Rattle.engine.specs.Inner.Choosing.{GivesBack}
@@ -15,10 +15,10 @@ release-requires-clause-holding g c = (
 
 pub returns : goal.returns
 returns g c =
-    let a : DbValue g.row.D.Denot = record { frames = c.self.inside.frames } in
-    let b : DbValue g.row.D.Denot = record { frames = c.release.new.self } in
+    let a : DbValue g.row.D.Denot = record { frames = c.self.inside.frames; pending = c.self.inside.pending } in
+    let b : DbValue g.row.D.Denot = record { frames = c.release.new.self; pending = c.self.inside.pending } in
     let f = c.release.ensures in
     subst (λ (s : DbValue g.row.D.Denot). GivesBack g.D.Disk s c.args.pass.now b c.release.new.pass (c.args.held ∷ []))
     c.self.view_is
-    (given_back g.D.Disk a b c.args.pass.now c.release.new.pass c.args.held f.pass f.sees_on f.added f.rises f.same
+    (given_back g.D.Disk a b refl c.args.pass.now c.release.new.pass c.args.held f.pass f.sees_on f.added f.rises f.same
     f.runs_on f.state f.pins f.lies f.others f.calm f.begins f.at_rest f.holding)

@@ -1,5 +1,5 @@
 -- A snapshot is given up after the Abort.
-use Rattle.std.proofs.Common.{[], sym, ap, subst, ◌∙◌, arith}
+use Rattle.std.proofs.Common.{refl, [], sym, ap, subst, ◌∙◌, arith}
 use Rattle.buffer_frames.specs.Passes.{IsPassOf}
 use Rattle.engine.specs.Db.{DbValue}
 use Rattle.engine.specs.Going.{Goes}
@@ -24,13 +24,13 @@ returns-clause-session g c =
 
 pub returns-clause-gone : goal.returns-clause-gone
 returns-clause-gone g c =
-    let s : DbValue g.row.D.Denot = record { frames = c.self.inside.frames } in
-    let b : DbValue g.row.D.Denot = record { frames = c.unpin.new.self } in
+    let s : DbValue g.row.D.Denot = record { frames = c.self.inside.frames; pending = c.self.inside.pending } in
+    let b : DbValue g.row.D.Denot = record { frames = c.unpin.new.self; pending = c.self.inside.pending } in
     let u = c.unpin.ensures in
     let last : Goes g.D.Disk c.abort-answer.new.self b [] =
     subst (λ (x : DbValue g.row.D.Denot). Goes g.D.Disk x b []) c.self.view_is
     (one_nothing g.D.Disk
-    (unpin_step g.D.Disk s b c.abort-answer.new.pass.pin u.keeps.added u.keeps.journal u.keeps.begins u.pins)) in
+    (unpin_step g.D.Disk s b refl c.abort-answer.new.pass.pin u.keeps.added u.keeps.journal u.keeps.begins u.pins)) in
     gives_still g.D.Disk c.abort-answer.ensures.gone last
 
 pub returns-clause-keeps : goal.returns-clause-keeps

@@ -21,23 +21,23 @@ returns-then-page-ge-PAGE_LIMIT-clause-cause g c = (refl, IsNone.past (omega ari
 
 pub returns-in_err-hold-clause-carries : goal.returns-in_err-hold-clause-carries
 returns-in_err-hold-clause-carries g c =
-    let a : DbValue g.row.D.Denot = record { frames = c.self.inside.frames } in
-    let b : DbValue g.row.D.Denot = record { frames = c.hold.new.self } in
+    let a : DbValue g.row.D.Denot = record { frames = c.self.inside.frames; pending = c.self.inside.pending } in
+    let b : DbValue g.row.D.Denot = record { frames = c.hold.new.self; pending = c.self.inside.pending } in
     let e = c.hold.ensures in
     subst (λ (s : DbValue g.row.D.Denot). CarriesOwn g.D.Disk s c.args.pass.now b c.hold.new.pass) c.self.view_is
     (carries g.D.Disk a b c.args.pass.now c.hold.new.pass e.added e.sees_on e.rises e.pass)
 
 pub returns-in_err-hold-clause-goes : goal.returns-in_err-hold-clause-goes
 returns-in_err-hold-clause-goes g c =
-    let a : DbValue g.row.D.Denot = record { frames = c.self.inside.frames } in
-    let b : DbValue g.row.D.Denot = record { frames = c.hold.new.self } in
+    let a : DbValue g.row.D.Denot = record { frames = c.self.inside.frames; pending = c.self.inside.pending } in
+    let b : DbValue g.row.D.Denot = record { frames = c.hold.new.self; pending = c.self.inside.pending } in
     let e = c.hold.ensures in
     subst (λ (s : DbValue g.row.D.Denot). Goes g.D.Disk s b []) c.self.view_is
-    (one_nothing g.D.Disk (hold_step g.D.Disk a b c.hold.result e.added e.state e.runs_on e.begins e.cause e.pins))
+    (one_nothing g.D.Disk (hold_step g.D.Disk a b refl c.hold.result e.added e.state e.runs_on e.begins e.cause e.pins))
 
 pub returns-in_err-hold-clause-cause : goal.returns-in_err-hold-clause-cause
 returns-in_err-hold-clause-cause g c =
-    let a : DbValue g.row.D.Denot = record { frames = c.self.inside.frames } in
+    let a : DbValue g.row.D.Denot = record { frames = c.self.inside.frames; pending = c.self.inside.pending } in
     let e = c.hold.ensures in
     let p = err_from_is_err_and c.from_residual.result c.from_residual.ensures.1 in
     let why = hold_cause g.D.Disk a c.args.page c.hold.result _ c.in_err-hold.was e.is_down e.bad in
@@ -47,16 +47,16 @@ returns-in_err-hold-clause-cause g c =
 
 pub returns-clause-carries : goal.returns-clause-carries
 returns-clause-carries g c =
-    let a : DbValue g.row.D.Denot = record { frames = c.self.inside.frames } in
-    let b : DbValue g.row.D.Denot = record { frames = c.hold.new.self } in
+    let a : DbValue g.row.D.Denot = record { frames = c.self.inside.frames; pending = c.self.inside.pending } in
+    let b : DbValue g.row.D.Denot = record { frames = c.hold.new.self; pending = c.self.inside.pending } in
     let e = c.hold.ensures in
     subst (λ (s : DbValue g.row.D.Denot). CarriesOwn g.D.Disk s c.args.pass.now b c.hold.new.pass) c.self.view_is
     (carries g.D.Disk a b c.args.pass.now c.hold.new.pass e.added e.sees_on e.rises e.pass)
 
 pub returns-clause-goes : goal.returns-clause-goes
 returns-clause-goes g c =
-    let a : DbValue g.row.D.Denot = record { frames = c.self.inside.frames } in
-    let b : DbValue g.row.D.Denot = record { frames = c.hold.new.self } in
+    let a : DbValue g.row.D.Denot = record { frames = c.self.inside.frames; pending = c.self.inside.pending } in
+    let b : DbValue g.row.D.Denot = record { frames = c.hold.new.self; pending = c.self.inside.pending } in
     let e = c.hold.ensures in
     subst (λ (s : DbValue g.row.D.Denot). Goes g.D.Disk s b []) c.self.view_is
-    (one_nothing g.D.Disk (hold_step g.D.Disk a b c.hold.result e.added e.state e.runs_on e.begins e.cause e.pins))
+    (one_nothing g.D.Disk (hold_step g.D.Disk a b refl c.hold.result e.added e.state e.runs_on e.begins e.cause e.pins))

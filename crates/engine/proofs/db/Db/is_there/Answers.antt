@@ -1,5 +1,5 @@
 -- A look logs nothing.
-use Rattle.std.proofs.Common.{◌≡◌, ℕ, [], Bool, sym, ap, subst, ◌∙◌}
+use Rattle.std.proofs.Common.{refl, ◌≡◌, ℕ, [], Bool, sym, ap, subst, ◌∙◌}
 use Rattle.std.specs.Prelude.{Result, Err, IfErr}
 use Rattle.std.proofs.lemmas.Result.{err_from_is_err_and}
 use Rattle.engine.specs.Causes.{IsDown}
@@ -13,19 +13,19 @@ use Rattle.engine.proofs.db.Db.is_there.Goals as goal
 
 pub returns-in_err-look-clause-goes : goal.returns-in_err-look-clause-goes
 returns-in_err-look-clause-goes g c =
-    let a : DbValue g.row.D.Denot = record { frames = c.self.inside.frames } in
-    let b : DbValue g.row.D.Denot = record { frames = c.look.new.self } in
+    let a : DbValue g.row.D.Denot = record { frames = c.self.inside.frames; pending = c.self.inside.pending } in
+    let b : DbValue g.row.D.Denot = record { frames = c.look.new.self; pending = c.self.inside.pending } in
     let e = c.look.ensures in
     subst (λ (s : DbValue g.row.D.Denot). Goes g.D.Disk s b []) c.self.view_is
-    (one_nothing g.D.Disk (calm_step g.D.Disk a b e.added e.state e.runs_on e.begins e.calm e.pins))
+    (one_nothing g.D.Disk (calm_step g.D.Disk a b refl e.added e.state e.runs_on e.begins e.calm e.pins))
 
 pub returns-clause-goes : goal.returns-clause-goes
 returns-clause-goes g c =
-    let a : DbValue g.row.D.Denot = record { frames = c.self.inside.frames } in
-    let b : DbValue g.row.D.Denot = record { frames = c.look.new.self } in
+    let a : DbValue g.row.D.Denot = record { frames = c.self.inside.frames; pending = c.self.inside.pending } in
+    let b : DbValue g.row.D.Denot = record { frames = c.look.new.self; pending = c.self.inside.pending } in
     let e = c.look.ensures in
     subst (λ (s : DbValue g.row.D.Denot). Goes g.D.Disk s b []) c.self.view_is
-    (one_nothing g.D.Disk (calm_step g.D.Disk a b e.added e.state e.runs_on e.begins e.calm e.pins))
+    (one_nothing g.D.Disk (calm_step g.D.Disk a b refl e.added e.state e.runs_on e.begins e.calm e.pins))
 
 pub returns-in_err-look-clause-error : goal.returns-in_err-look-clause-error
 returns-in_err-look-clause-error g c =

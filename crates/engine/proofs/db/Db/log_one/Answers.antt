@@ -1,5 +1,5 @@
 -- A step on one page is logged, or refused.
-use Rattle.std.proofs.Common.{◌≡◌, List, [], ◌∷◌, ◌++◌, sym, ap, subst, ◌∙◌}
+use Rattle.std.proofs.Common.{refl, ◌≡◌, List, [], ◌∷◌, ◌++◌, sym, ap, subst, ◌∙◌}
 use Rattle.std.specs.Prelude.{Result, Err, IfErr, OnErr}
 use Rattle.std.proofs.lemmas.Result.{err_from_is_err_and}
 use Rattle.core_state.specs.Log.{Log, Pages}
@@ -27,16 +27,16 @@ returns-then-is_err-clause-none_held g c =
 
 pub returns-then-is_err-clause-refused : goal.returns-then-is_err-clause-refused
 returns-then-is_err-clause-refused g c =
-    let a : DbValue g.row.D.Denot = record { frames = c.self.inside.frames } in
-    let b : DbValue g.row.D.Denot = record { frames = c.release.new.self } in
+    let a : DbValue g.row.D.Denot = record { frames = c.self.inside.frames; pending = c.self.inside.pending } in
+    let b : DbValue g.row.D.Denot = record { frames = c.release.new.self; pending = c.self.inside.pending } in
     let e = c.release.ensures in
     subst (λ (s : DbValue g.row.D.Denot). Goes g.D.Disk s b []) c.self.view_is
-    (one_nothing g.D.Disk (calm_step g.D.Disk a b e.added e.state e.runs_on e.begins e.calm e.pins))
+    (one_nothing g.D.Disk (calm_step g.D.Disk a b refl e.added e.state e.runs_on e.begins e.calm e.pins))
 
 pub returns-then-is_err-clause-carries : goal.returns-then-is_err-clause-carries
 returns-then-is_err-clause-carries g c =
-    let a : DbValue g.row.D.Denot = record { frames = c.self.inside.frames } in
-    let b : DbValue g.row.D.Denot = record { frames = c.release.new.self } in
+    let a : DbValue g.row.D.Denot = record { frames = c.self.inside.frames; pending = c.self.inside.pending } in
+    let b : DbValue g.row.D.Denot = record { frames = c.release.new.self; pending = c.self.inside.pending } in
     let e = c.release.ensures in
     subst (λ (s : DbValue g.row.D.Denot). CarriesOwn g.D.Disk s c.args.pass.now b c.release.new.pass) c.self.view_is
     (carries g.D.Disk a b c.args.pass.now c.release.new.pass e.added e.sees_on e.rises e.pass)
@@ -54,8 +54,8 @@ log_step-requires-clause-may g c =
 
 pub returns-in_err-log_step-clause-fault : goal.returns-in_err-log_step-clause-fault
 returns-in_err-log_step-clause-fault g c =
-    let a : DbValue g.row.D.Denot = record { frames = c.self.inside.frames } in
-    let b : DbValue g.row.D.Denot = record { frames = c.log_step.new.self } in
+    let a : DbValue g.row.D.Denot = record { frames = c.self.inside.frames; pending = c.self.inside.pending } in
+    let b : DbValue g.row.D.Denot = record { frames = c.log_step.new.self; pending = c.self.inside.pending } in
     let e = c.log_step.ensures in
     let p = err_from_is_err_and c.from_residual.result c.from_residual.ensures.1 in
     subst (λ (s : DbValue g.row.D.Denot). FaultIsTold g.D.Disk s b c.from_residual.result) c.self.view_is
@@ -64,20 +64,21 @@ returns-in_err-log_step-clause-fault g c =
 
 pub returns-in_err-log_step-clause-refused : goal.returns-in_err-log_step-clause-refused
 returns-in_err-log_step-clause-refused g c =
-    let a : DbValue g.row.D.Denot = record { frames = c.self.inside.frames } in
-    let b : DbValue g.row.D.Denot = record { frames = c.log_step.new.self } in
+    let a : DbValue g.row.D.Denot = record { frames = c.self.inside.frames; pending = c.self.inside.pending } in
+    let b : DbValue g.row.D.Denot = record { frames = c.log_step.new.self; pending = c.self.inside.pending } in
     let e = c.log_step.ensures in
     let f = c.in_err-log_step.ensures in
     let p = err_from_is_err_and c.from_residual.result c.from_residual.ensures.1 in
     subst (λ (r : Result Drawn DbError). OnErr r (Goes g.D.Disk c.args.self.now b [])) (sym p.1)
     (subst (λ (s : DbValue g.row.D.Denot). Goes g.D.Disk s b []) c.self.view_is
     (one_nothing g.D.Disk
-    (write_step g.D.Disk a b c.log_step.result f.refused f.refused_state e.runs_on f.refused_begins e.cause e.pins)))
+    (write_step g.D.Disk a b refl c.log_step.result f.refused f.refused_state e.runs_on f.refused_begins e.cause
+    e.pins)))
 
 pub returns-in_err-log_step-clause-carries : goal.returns-in_err-log_step-clause-carries
 returns-in_err-log_step-clause-carries g c =
-    let a : DbValue g.row.D.Denot = record { frames = c.self.inside.frames } in
-    let b : DbValue g.row.D.Denot = record { frames = c.log_step.new.self } in
+    let a : DbValue g.row.D.Denot = record { frames = c.self.inside.frames; pending = c.self.inside.pending } in
+    let b : DbValue g.row.D.Denot = record { frames = c.log_step.new.self; pending = c.self.inside.pending } in
     let e = c.log_step.ensures in
     let f = c.in_err-log_step.ensures in
     let p = err_from_is_err_and c.from_residual.result c.from_residual.ensures.1 in
@@ -88,7 +89,7 @@ returns-in_err-log_step-clause-carries g c =
 
 pub returns-in_err-log_step-clause-cause : goal.returns-in_err-log_step-clause-cause
 returns-in_err-log_step-clause-cause g c =
-    let a : DbValue g.row.D.Denot = record { frames = c.self.inside.frames } in
+    let a : DbValue g.row.D.Denot = record { frames = c.self.inside.frames; pending = c.self.inside.pending } in
     let e = c.log_step.ensures in
     let p = err_from_is_err_and c.from_residual.result c.from_residual.ensures.1 in
     let next = next_record a.frames.journal c.args.step in
@@ -101,8 +102,8 @@ returns-in_err-log_step-clause-cause g c =
 
 pub returns-clause-logged : goal.returns-clause-logged
 returns-clause-logged g c =
-    let a : DbValue g.row.D.Denot = record { frames = c.self.inside.frames } in
-    let b : DbValue g.row.D.Denot = record { frames = c.log_step.new.self } in
+    let a : DbValue g.row.D.Denot = record { frames = c.self.inside.frames; pending = c.self.inside.pending } in
+    let b : DbValue g.row.D.Denot = record { frames = c.log_step.new.self; pending = c.self.inside.pending } in
     let items : c.push_reserved.new.self.items ≡ c.args.held ∷ [] =
     c.push_reserved.ensures.items
     ∙ ap (λ (l : List Sheet). l ++ c.args.held ∷ []) (c.reserve.ensures.items ∙ c.new-pages.ensures.items) in
@@ -112,7 +113,8 @@ returns-clause-logged g c =
     LogsStep g.D.Disk s c.args.pass.now (c.args.held ∷ []) c.args.step b c.log_step.new.pass) c.self.view_is
     (record {
       one =
-          logged_step g.D.Disk a b c.log_step.result _ c.args.step c.in_ok-log_step.was f.added f.logged f.legal f.state
+          logged_step g.D.Disk a b refl c.log_step.result _ c.args.step c.in_ok-log_step.was f.added f.logged f.legal
+          f.state
           e.full e.is_down e.runs_on
           (f.begins (early_of c.args.step.kind c.requires.document)) e.cause e.pins
           (e.rests (rests_of c.args.step.kind c.requires.document));

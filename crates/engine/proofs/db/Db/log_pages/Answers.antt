@@ -1,5 +1,5 @@
 -- A step on pages that are held is logged, or refused.
-use Rattle.std.proofs.Common.{[], sym, ap, subst, ◌∙◌}
+use Rattle.std.proofs.Common.{refl, [], sym, ap, subst, ◌∙◌}
 use Rattle.std.specs.Prelude.{Result, Err, IfErr, OnErr}
 use Rattle.std.proofs.lemmas.Result.{err_from_is_err_and}
 use Rattle.core_state.specs.Log.{Log}
@@ -25,8 +25,8 @@ log_step-requires-clause-may g c =
 
 pub returns-in_err-log_step-clause-fault : goal.returns-in_err-log_step-clause-fault
 returns-in_err-log_step-clause-fault g c =
-    let a : DbValue g.row.D.Denot = record { frames = c.self.inside.frames } in
-    let b : DbValue g.row.D.Denot = record { frames = c.log_step.new.self } in
+    let a : DbValue g.row.D.Denot = record { frames = c.self.inside.frames; pending = c.self.inside.pending } in
+    let b : DbValue g.row.D.Denot = record { frames = c.log_step.new.self; pending = c.self.inside.pending } in
     let e = c.log_step.ensures in
     let p = err_from_is_err_and c.from_residual.result c.from_residual.ensures.1 in
     subst (λ (s : DbValue g.row.D.Denot). FaultIsTold g.D.Disk s b c.from_residual.result) c.self.view_is
@@ -35,20 +35,21 @@ returns-in_err-log_step-clause-fault g c =
 
 pub returns-in_err-log_step-clause-refused : goal.returns-in_err-log_step-clause-refused
 returns-in_err-log_step-clause-refused g c =
-    let a : DbValue g.row.D.Denot = record { frames = c.self.inside.frames } in
-    let b : DbValue g.row.D.Denot = record { frames = c.log_step.new.self } in
+    let a : DbValue g.row.D.Denot = record { frames = c.self.inside.frames; pending = c.self.inside.pending } in
+    let b : DbValue g.row.D.Denot = record { frames = c.log_step.new.self; pending = c.self.inside.pending } in
     let e = c.log_step.ensures in
     let f = c.in_err-log_step.ensures in
     let p = err_from_is_err_and c.from_residual.result c.from_residual.ensures.1 in
     subst (λ (r : Result (Unit {0}) DbError). OnErr r (Goes g.D.Disk c.args.self.now b [])) (sym p.1)
     (subst (λ (s : DbValue g.row.D.Denot). Goes g.D.Disk s b []) c.self.view_is
     (one_nothing g.D.Disk
-    (write_step g.D.Disk a b c.log_step.result f.refused f.refused_state e.runs_on f.refused_begins e.cause e.pins)))
+    (write_step g.D.Disk a b refl c.log_step.result f.refused f.refused_state e.runs_on f.refused_begins e.cause
+    e.pins)))
 
 pub returns-in_err-log_step-clause-carries : goal.returns-in_err-log_step-clause-carries
 returns-in_err-log_step-clause-carries g c =
-    let a : DbValue g.row.D.Denot = record { frames = c.self.inside.frames } in
-    let b : DbValue g.row.D.Denot = record { frames = c.log_step.new.self } in
+    let a : DbValue g.row.D.Denot = record { frames = c.self.inside.frames; pending = c.self.inside.pending } in
+    let b : DbValue g.row.D.Denot = record { frames = c.log_step.new.self; pending = c.self.inside.pending } in
     let e = c.log_step.ensures in
     let f = c.in_err-log_step.ensures in
     let p = err_from_is_err_and c.from_residual.result c.from_residual.ensures.1 in
@@ -59,7 +60,7 @@ returns-in_err-log_step-clause-carries g c =
 
 pub returns-in_err-log_step-clause-cause : goal.returns-in_err-log_step-clause-cause
 returns-in_err-log_step-clause-cause g c =
-    let a : DbValue g.row.D.Denot = record { frames = c.self.inside.frames } in
+    let a : DbValue g.row.D.Denot = record { frames = c.self.inside.frames; pending = c.self.inside.pending } in
     let e = c.log_step.ensures in
     let p = err_from_is_err_and c.from_residual.result c.from_residual.ensures.1 in
     let next = next_record a.frames.journal c.args.step in
@@ -72,8 +73,8 @@ returns-in_err-log_step-clause-cause g c =
 
 pub returns-clause-logged : goal.returns-clause-logged
 returns-clause-logged g c =
-    let a : DbValue g.row.D.Denot = record { frames = c.self.inside.frames } in
-    let b : DbValue g.row.D.Denot = record { frames = c.log_step.new.self } in
+    let a : DbValue g.row.D.Denot = record { frames = c.self.inside.frames; pending = c.self.inside.pending } in
+    let b : DbValue g.row.D.Denot = record { frames = c.log_step.new.self; pending = c.self.inside.pending } in
     let e = c.log_step.ensures in
     let f = c.in_ok-log_step.ensures in
     subst (λ (s : DbValue g.row.D.Denot).
@@ -81,7 +82,8 @@ returns-clause-logged g c =
     c.self.view_is
     (record {
       one =
-          logged_step g.D.Disk a b c.log_step.result _ c.args.step c.in_ok-log_step.was f.added f.logged f.legal f.state
+          logged_step g.D.Disk a b refl c.log_step.result _ c.args.step c.in_ok-log_step.was f.added f.logged f.legal
+          f.state
           e.full e.is_down e.runs_on
           (f.begins (early_of c.args.step.kind c.requires.document)) e.cause e.pins
           (e.rests (rests_of c.args.step.kind c.requires.document));

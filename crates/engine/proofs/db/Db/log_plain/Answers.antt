@@ -1,5 +1,5 @@
 -- A record that leaves no page is logged, or refused.
-use Rattle.std.proofs.Common.{◌≡◌, ℕ, List, [], false, sym, ap, subst, ◌∙◌}
+use Rattle.std.proofs.Common.{refl, ◌≡◌, ℕ, List, [], false, sym, ap, subst, ◌∙◌}
 use Rattle.std.specs.Prelude.{Result, Ok, Err, IfErr}
 use Rattle.std.proofs.lemmas.Result.{err_from_is_err_and}
 use Rattle.core_state.specs.Allowed.{Sheet, Step, MayLog, Owes}
@@ -34,7 +34,7 @@ log_step-requires-clause-holding g c =
 
 pub log_step-requires-clause-may : goal.log_step-requires-clause-may
 log_step-requires-clause-may g c =
-    let a : DbValue g.row.D.Denot = record { frames = c.self.inside.frames } in
+    let a : DbValue g.row.D.Denot = record { frames = c.self.inside.frames; pending = c.self.inside.pending } in
     let f = c.self.inside.frames in
     let pass = c.args.pass.now in
     let may : MayBePlain g.D.Disk a pass c.args.kind c.args.xid =
@@ -48,7 +48,7 @@ log_step-requires-clause-may g c =
 
 pub log_step-requires-clause-owes : goal.log_step-requires-clause-owes
 log_step-requires-clause-owes g c =
-    let a : DbValue g.row.D.Denot = record { frames = c.self.inside.frames } in
+    let a : DbValue g.row.D.Denot = record { frames = c.self.inside.frames; pending = c.self.inside.pending } in
     let f = c.self.inside.frames in
     let pass = c.args.pass.now in
     let of : IsPassOf f pass =
@@ -64,8 +64,8 @@ log_step-requires-clause-owes g c =
 
 pub returns-in_err-drawn-clause-fault : goal.returns-in_err-drawn-clause-fault
 returns-in_err-drawn-clause-fault g c =
-    let a : DbValue g.row.D.Denot = record { frames = c.self.inside.frames } in
-    let b : DbValue g.row.D.Denot = record { frames = c.log_step.new.self } in
+    let a : DbValue g.row.D.Denot = record { frames = c.self.inside.frames; pending = c.self.inside.pending } in
+    let b : DbValue g.row.D.Denot = record { frames = c.log_step.new.self; pending = c.self.inside.pending } in
     let p = err_from_is_err_and c.from_residual.result c.from_residual.ensures.1 in
     let e = c.log_step.ensures in
     subst (λ (s : DbValue g.row.D.Denot). FaultIsTold g.D.Disk s b c.from_residual.result) c.self.view_is
@@ -75,18 +75,19 @@ returns-in_err-drawn-clause-fault g c =
 
 pub returns-in_err-drawn-clause-refused : goal.returns-in_err-drawn-clause-refused
 returns-in_err-drawn-clause-refused g c =
-    let a : DbValue g.row.D.Denot = record { frames = c.self.inside.frames } in
-    let b : DbValue g.row.D.Denot = record { frames = c.log_step.new.self } in
+    let a : DbValue g.row.D.Denot = record { frames = c.self.inside.frames; pending = c.self.inside.pending } in
+    let b : DbValue g.row.D.Denot = record { frames = c.log_step.new.self; pending = c.self.inside.pending } in
     let e = c.in_err-drawn.ensures in
     on_refusal _ c.from_residual.result (subst (λ (s : DbValue g.row.D.Denot). LogsNothing g.D.Disk s b)
     c.self.view_is
-    (write_step g.D.Disk a b c.log_step.result e.refused e.refused_state c.log_step.ensures.runs_on e.refused_begins
+    (write_step g.D.Disk a b refl c.log_step.result e.refused e.refused_state c.log_step.ensures.runs_on
+    e.refused_begins
     c.log_step.ensures.cause c.log_step.ensures.pins))
 
 pub returns-in_err-drawn-clause-runs : goal.returns-in_err-drawn-clause-runs
 returns-in_err-drawn-clause-runs g c =
-    let a : DbValue g.row.D.Denot = record { frames = c.self.inside.frames } in
-    let b : DbValue g.row.D.Denot = record { frames = c.log_step.new.self } in
+    let a : DbValue g.row.D.Denot = record { frames = c.self.inside.frames; pending = c.self.inside.pending } in
+    let b : DbValue g.row.D.Denot = record { frames = c.log_step.new.self; pending = c.self.inside.pending } in
     let e = c.in_err-drawn.ensures in
     let pass = c.args.pass.now in
     on_refusal _ c.from_residual.result (λ x is had.
@@ -96,7 +97,7 @@ returns-in_err-drawn-clause-runs g c =
 
 pub returns-in_err-drawn-clause-cause : goal.returns-in_err-drawn-clause-cause
 returns-in_err-drawn-clause-cause g c =
-    let a : DbValue g.row.D.Denot = record { frames = c.self.inside.frames } in
+    let a : DbValue g.row.D.Denot = record { frames = c.self.inside.frames; pending = c.self.inside.pending } in
     let p = err_from_is_err_and c.from_residual.result c.from_residual.ensures.1 in
     let e = c.log_step.ensures in
     subst (λ (r : Result ℕ DbError). IfErr r (λ w. CannotLog c.args.self.now c.args.kind c.args.xid w))
@@ -108,7 +109,7 @@ returns-in_err-drawn-clause-cause g c =
 
 pub returns-in_err-drawn-clause-spent : goal.returns-in_err-drawn-clause-spent
 returns-in_err-drawn-clause-spent g c =
-    let a : DbValue g.row.D.Denot = record { frames = c.self.inside.frames } in
+    let a : DbValue g.row.D.Denot = record { frames = c.self.inside.frames; pending = c.self.inside.pending } in
     let p = err_from_is_err_and c.from_residual.result c.from_residual.ensures.1 in
     λ up begins many.
     let is : c.log_step.result ≡ Err logs.XidsSpent =
@@ -121,14 +122,14 @@ returns-in_err-drawn-clause-spent g c =
 
 pub returns-clause-logged : goal.returns-clause-logged
 returns-clause-logged g c =
-    let a : DbValue g.row.D.Denot = record { frames = c.self.inside.frames } in
-    let b : DbValue g.row.D.Denot = record { frames = c.log_step.new.self } in
+    let a : DbValue g.row.D.Denot = record { frames = c.self.inside.frames; pending = c.self.inside.pending } in
+    let b : DbValue g.row.D.Denot = record { frames = c.log_step.new.self; pending = c.self.inside.pending } in
     let e = c.in_ok-drawn.ensures in
     let all = c.log_step.ensures in
     subst (λ (s : DbValue g.row.D.Denot). LogsOne g.D.Disk s b (plain_record s c.args.kind c.args.xid))
     c.self.view_is
     (subst (λ (t : Step). LogsOne g.D.Disk a b (next_record a.frames.journal t)) c.new-step.ensures
-    (logged_step g.D.Disk a b c.log_step.result c.in_ok-drawn.drawn c.new-step.result c.in_ok-drawn.was e.added
+    (logged_step g.D.Disk a b refl c.log_step.result c.in_ok-drawn.drawn c.new-step.result c.in_ok-drawn.was e.added
     e.logged e.legal e.state all.full all.is_down all.runs_on
     (e.begins (subst (λ (t : Step). IsEarlyKind t.kind) (sym c.new-step.ensures)
     (plain_early g.D.Disk c.args.self.now c.args.pass.now c.args.xid c.args.kind c.requires.may))) all.cause all.pins
@@ -146,7 +147,7 @@ returns-clause-seen g c =
 
 pub returns-clause-spent : goal.returns-clause-spent
 returns-clause-spent g c =
-    let a : DbValue g.row.D.Denot = record { frames = c.self.inside.frames } in
+    let a : DbValue g.row.D.Denot = record { frames = c.self.inside.frames; pending = c.self.inside.pending } in
     λ up begins many.
     let is : c.log_step.result ≡ Err logs.XidsSpent =
     spent_when a c.args.kind c.args.xid c.new-step.result c.new-step.ensures c.log_step.result

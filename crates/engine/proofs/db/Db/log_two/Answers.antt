@@ -1,5 +1,5 @@
 -- A step on two pages is logged, or refused.
-use Rattle.std.proofs.Common.{◌≡◌, List, [], ◌∷◌, ◌++◌, sym, ap, subst, ◌∙◌}
+use Rattle.std.proofs.Common.{refl, ◌≡◌, List, [], ◌∷◌, ◌++◌, sym, ap, subst, ◌∙◌}
 use Rattle.std.specs.Prelude.{Result, Err, IfErr, OnErr}
 use Rattle.std.proofs.lemmas.Result.{err_from_is_err_and}
 use Rattle.core_state.specs.Log.{Log, Pages}
@@ -27,21 +27,23 @@ returns-then-is_err-clause-none_held g c =
 
 pub returns-then-is_err-clause-refused : goal.returns-then-is_err-clause-refused
 returns-then-is_err-clause-refused g c =
-    let a : DbValue g.row.D.Denot = record { frames = c.self.inside.frames } in
-    let b : DbValue g.row.D.Denot = record { frames = c.release.new.self } in
-    let d : DbValue g.row.D.Denot = record { frames = c.release-then-is_err.new.self } in
+    let a : DbValue g.row.D.Denot = record { frames = c.self.inside.frames; pending = c.self.inside.pending } in
+    let b : DbValue g.row.D.Denot = record { frames = c.release.new.self; pending = c.self.inside.pending } in
+    let d : DbValue g.row.D.Denot =
+    record { frames = c.release-then-is_err.new.self; pending = c.self.inside.pending } in
     let e = c.release.ensures in
     let f = c.release-then-is_err.ensures in
     subst (λ (s : DbValue g.row.D.Denot). Goes g.D.Disk s d []) c.self.view_is
     (nothing
-    (one_nothing g.D.Disk (calm_step g.D.Disk a b e.added e.state e.runs_on e.begins e.calm e.pins))
-    (calm_step g.D.Disk b d f.added f.state f.runs_on f.begins f.calm f.pins))
+    (one_nothing g.D.Disk (calm_step g.D.Disk a b refl e.added e.state e.runs_on e.begins e.calm e.pins))
+    (calm_step g.D.Disk b d refl f.added f.state f.runs_on f.begins f.calm f.pins))
 
 pub returns-then-is_err-clause-carries : goal.returns-then-is_err-clause-carries
 returns-then-is_err-clause-carries g c =
-    let a : DbValue g.row.D.Denot = record { frames = c.self.inside.frames } in
-    let b : DbValue g.row.D.Denot = record { frames = c.release.new.self } in
-    let d : DbValue g.row.D.Denot = record { frames = c.release-then-is_err.new.self } in
+    let a : DbValue g.row.D.Denot = record { frames = c.self.inside.frames; pending = c.self.inside.pending } in
+    let b : DbValue g.row.D.Denot = record { frames = c.release.new.self; pending = c.self.inside.pending } in
+    let d : DbValue g.row.D.Denot =
+    record { frames = c.release-then-is_err.new.self; pending = c.self.inside.pending } in
     let e = c.release.ensures in
     let f = c.release-then-is_err.ensures in
     subst (λ (s : DbValue g.row.D.Denot). CarriesOwn g.D.Disk s c.args.pass.now d c.release-then-is_err.new.pass)
@@ -72,8 +74,8 @@ log_step-requires-clause-may g c =
 
 pub returns-in_err-log_step-clause-fault : goal.returns-in_err-log_step-clause-fault
 returns-in_err-log_step-clause-fault g c =
-    let a : DbValue g.row.D.Denot = record { frames = c.self.inside.frames } in
-    let b : DbValue g.row.D.Denot = record { frames = c.log_step.new.self } in
+    let a : DbValue g.row.D.Denot = record { frames = c.self.inside.frames; pending = c.self.inside.pending } in
+    let b : DbValue g.row.D.Denot = record { frames = c.log_step.new.self; pending = c.self.inside.pending } in
     let e = c.log_step.ensures in
     let p = err_from_is_err_and c.from_residual.result c.from_residual.ensures.1 in
     subst (λ (s : DbValue g.row.D.Denot). FaultIsTold g.D.Disk s b c.from_residual.result) c.self.view_is
@@ -82,20 +84,21 @@ returns-in_err-log_step-clause-fault g c =
 
 pub returns-in_err-log_step-clause-refused : goal.returns-in_err-log_step-clause-refused
 returns-in_err-log_step-clause-refused g c =
-    let a : DbValue g.row.D.Denot = record { frames = c.self.inside.frames } in
-    let b : DbValue g.row.D.Denot = record { frames = c.log_step.new.self } in
+    let a : DbValue g.row.D.Denot = record { frames = c.self.inside.frames; pending = c.self.inside.pending } in
+    let b : DbValue g.row.D.Denot = record { frames = c.log_step.new.self; pending = c.self.inside.pending } in
     let e = c.log_step.ensures in
     let f = c.in_err-log_step.ensures in
     let p = err_from_is_err_and c.from_residual.result c.from_residual.ensures.1 in
     subst (λ (r : Result Drawn DbError). OnErr r (Goes g.D.Disk c.args.self.now b [])) (sym p.1)
     (subst (λ (s : DbValue g.row.D.Denot). Goes g.D.Disk s b []) c.self.view_is
     (one_nothing g.D.Disk
-    (write_step g.D.Disk a b c.log_step.result f.refused f.refused_state e.runs_on f.refused_begins e.cause e.pins)))
+    (write_step g.D.Disk a b refl c.log_step.result f.refused f.refused_state e.runs_on f.refused_begins e.cause
+    e.pins)))
 
 pub returns-in_err-log_step-clause-carries : goal.returns-in_err-log_step-clause-carries
 returns-in_err-log_step-clause-carries g c =
-    let a : DbValue g.row.D.Denot = record { frames = c.self.inside.frames } in
-    let b : DbValue g.row.D.Denot = record { frames = c.log_step.new.self } in
+    let a : DbValue g.row.D.Denot = record { frames = c.self.inside.frames; pending = c.self.inside.pending } in
+    let b : DbValue g.row.D.Denot = record { frames = c.log_step.new.self; pending = c.self.inside.pending } in
     let e = c.log_step.ensures in
     let f = c.in_err-log_step.ensures in
     let p = err_from_is_err_and c.from_residual.result c.from_residual.ensures.1 in
@@ -106,7 +109,7 @@ returns-in_err-log_step-clause-carries g c =
 
 pub returns-in_err-log_step-clause-cause : goal.returns-in_err-log_step-clause-cause
 returns-in_err-log_step-clause-cause g c =
-    let a : DbValue g.row.D.Denot = record { frames = c.self.inside.frames } in
+    let a : DbValue g.row.D.Denot = record { frames = c.self.inside.frames; pending = c.self.inside.pending } in
     let e = c.log_step.ensures in
     let p = err_from_is_err_and c.from_residual.result c.from_residual.ensures.1 in
     let next = next_record a.frames.journal c.args.step in
@@ -119,8 +122,8 @@ returns-in_err-log_step-clause-cause g c =
 
 pub returns-clause-logged : goal.returns-clause-logged
 returns-clause-logged g c =
-    let a : DbValue g.row.D.Denot = record { frames = c.self.inside.frames } in
-    let b : DbValue g.row.D.Denot = record { frames = c.log_step.new.self } in
+    let a : DbValue g.row.D.Denot = record { frames = c.self.inside.frames; pending = c.self.inside.pending } in
+    let b : DbValue g.row.D.Denot = record { frames = c.log_step.new.self; pending = c.self.inside.pending } in
     let items : c.push_reserved-2.new.self.items ≡ c.args.new ∷ c.args.heap ∷ [] =
     c.push_reserved-2.ensures.items
     ∙ ap (λ (l : List Sheet). l ++ c.args.heap ∷ []) (c.push_reserved.ensures.items
@@ -132,7 +135,8 @@ returns-clause-logged g c =
     c.self.view_is
     (record {
       one =
-          logged_step g.D.Disk a b c.log_step.result _ c.args.step c.in_ok-log_step.was f.added f.logged f.legal f.state
+          logged_step g.D.Disk a b refl c.log_step.result _ c.args.step c.in_ok-log_step.was f.added f.logged f.legal
+          f.state
           e.full e.is_down e.runs_on
           (f.begins (early_of c.args.step.kind c.requires.document)) e.cause e.pins
           (e.rests (rests_of c.args.step.kind c.requires.document));

@@ -1,5 +1,5 @@
 -- The document of a name is marked.
-use Rattle.std.proofs.Common.{◌≡◌, [], ◌∷◌, sym, ap, subst, ◌∙◌}
+use Rattle.std.proofs.Common.{refl, ◌≡◌, [], ◌∷◌, sym, ap, subst, ◌∙◌}
 use Rattle.std.specs.Prelude.{Result, Some, Err, IfErr, OnErr}
 use Rattle.std.proofs.lemmas.Result.{err_from_is_err_and}
 use Rattle.core_state.specs.Allowed.{Step}
@@ -49,8 +49,8 @@ may_mark-requires-clause-holding g c =
 
 pub returns-in-Err-clause-running : goal.returns-in-Err-clause-running
 returns-in-Err-clause-running g c =
-    let i : DbValue g.row.D.Denot = record { frames = c.self.inside.frames } in
-    let e : DbValue g.row.D.Denot = record { frames = c.release.new.self } in
+    let i : DbValue g.row.D.Denot = record { frames = c.self.inside.frames; pending = c.self.inside.pending } in
+    let e : DbValue g.row.D.Denot = record { frames = c.release.new.self; pending = c.self.inside.pending } in
     let h = c.hold_page.ensures in
     let m = c.may_mark.ensures in
     let f = c.release.ensures in
@@ -63,12 +63,12 @@ returns-in-Err-clause-running g c =
 
 pub returns-in-Err-clause-refused : goal.returns-in-Err-clause-refused
 returns-in-Err-clause-refused g c =
-    let i : DbValue g.row.D.Denot = record { frames = c.self.inside.frames } in
-    let e : DbValue g.row.D.Denot = record { frames = c.release.new.self } in
+    let i : DbValue g.row.D.Denot = record { frames = c.self.inside.frames; pending = c.self.inside.pending } in
+    let e : DbValue g.row.D.Denot = record { frames = c.release.new.self; pending = c.self.inside.pending } in
     let f = c.release.ensures in
     goes_still g.D.Disk (goes_still g.D.Disk c.hold_page.ensures.goes c.may_mark.ensures.goes)
     (subst (λ (s : DbValue g.row.D.Denot). Goes g.D.Disk s e []) c.self.view_is
-    (one_nothing g.D.Disk (calm_step g.D.Disk i e f.added f.state f.runs_on f.begins f.calm f.pins)))
+    (one_nothing g.D.Disk (calm_step g.D.Disk i e refl f.added f.state f.runs_on f.begins f.calm f.pins)))
 
 pub returns-in-Err-clause-cause : goal.returns-in-Err-clause-cause
 returns-in-Err-clause-cause g c =
@@ -207,8 +207,9 @@ returns-in_ok-log_one-in-Ok-clause-there g c = (
 
 pub returns-in-Err-mark_step-clause-running : goal.returns-in-Err-mark_step-clause-running
 returns-in-Err-mark_step-clause-running g c =
-    let i : DbValue g.row.D.Denot = record { frames = c.self.inside.frames } in
-    let e : DbValue g.row.D.Denot = record { frames = c.release-in-Err-mark_step.new.self } in
+    let i : DbValue g.row.D.Denot = record { frames = c.self.inside.frames; pending = c.self.inside.pending } in
+    let e : DbValue g.row.D.Denot =
+    record { frames = c.release-in-Err-mark_step.new.self; pending = c.self.inside.pending } in
     let h = c.hold_page.ensures in
     let m = c.may_mark.ensures in
     let f = c.release-in-Err-mark_step.ensures in
@@ -221,9 +222,10 @@ returns-in-Err-mark_step-clause-running g c =
 
 pub returns-in-Err-mark_step-clause-refused : goal.returns-in-Err-mark_step-clause-refused
 returns-in-Err-mark_step-clause-refused g c =
-    let i : DbValue g.row.D.Denot = record { frames = c.self.inside.frames } in
-    let e : DbValue g.row.D.Denot = record { frames = c.release-in-Err-mark_step.new.self } in
+    let i : DbValue g.row.D.Denot = record { frames = c.self.inside.frames; pending = c.self.inside.pending } in
+    let e : DbValue g.row.D.Denot =
+    record { frames = c.release-in-Err-mark_step.new.self; pending = c.self.inside.pending } in
     let f = c.release-in-Err-mark_step.ensures in
     goes_still g.D.Disk (goes_still g.D.Disk c.hold_page.ensures.goes c.may_mark.ensures.goes)
     (subst (λ (s : DbValue g.row.D.Denot). Goes g.D.Disk s e []) c.self.view_is
-    (one_nothing g.D.Disk (calm_step g.D.Disk i e f.added f.state f.runs_on f.begins f.calm f.pins)))
+    (one_nothing g.D.Disk (calm_step g.D.Disk i e refl f.added f.state f.runs_on f.begins f.calm f.pins)))

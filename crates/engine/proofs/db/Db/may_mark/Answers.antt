@@ -1,5 +1,5 @@
 -- A name's head on its page, as the state was asked of it.
-use Rattle.std.proofs.Common.{◌≡◌, ◌≢◌, ◌⊎◌, ℕ, [], ◌∷◌, sym, ap, subst, ◌∙◌, inl, inr}
+use Rattle.std.proofs.Common.{refl, ◌≡◌, ◌≢◌, ◌⊎◌, ℕ, [], ◌∷◌, sym, ap, subst, ◌∙◌, inl, inr}
 use Rattle.std.specs.Prelude.{Result, Err, IfErr}
 use Rattle.std.proofs.lemmas.Result.{err_from_is_err_and, on_ok_weaker, IfErr-weaker}
 use Rattle.page_types.specs.Pages.{IsPage}
@@ -27,23 +27,23 @@ returns-in_default-clause-goes g c = stays
 
 pub returns-in_err-standing-clause-carries : goal.returns-in_err-standing-clause-carries
 returns-in_err-standing-clause-carries g c =
-    let a : DbValue g.row.D.Denot = record { frames = c.self.inside.frames } in
-    let b : DbValue g.row.D.Denot = record { frames = c.look.new.self } in
+    let a : DbValue g.row.D.Denot = record { frames = c.self.inside.frames; pending = c.self.inside.pending } in
+    let b : DbValue g.row.D.Denot = record { frames = c.look.new.self; pending = c.self.inside.pending } in
     let e = c.look.ensures in
     subst (λ (s : DbValue g.row.D.Denot). CarriesOwn g.D.Disk s c.args.pass.now b c.look.new.pass) c.self.view_is
     (carries g.D.Disk a b c.args.pass.now c.look.new.pass e.added e.sees_on e.rises e.pass)
 
 pub returns-in_err-standing-clause-goes : goal.returns-in_err-standing-clause-goes
 returns-in_err-standing-clause-goes g c =
-    let a : DbValue g.row.D.Denot = record { frames = c.self.inside.frames } in
-    let b : DbValue g.row.D.Denot = record { frames = c.look.new.self } in
+    let a : DbValue g.row.D.Denot = record { frames = c.self.inside.frames; pending = c.self.inside.pending } in
+    let b : DbValue g.row.D.Denot = record { frames = c.look.new.self; pending = c.self.inside.pending } in
     let e = c.look.ensures in
     subst (λ (s : DbValue g.row.D.Denot). Goes g.D.Disk s b []) c.self.view_is
-    (one_nothing g.D.Disk (calm_step g.D.Disk a b e.added e.state e.runs_on e.begins e.calm e.pins))
+    (one_nothing g.D.Disk (calm_step g.D.Disk a b refl e.added e.state e.runs_on e.begins e.calm e.pins))
 
 pub returns-in_err-standing-clause-cause : goal.returns-in_err-standing-clause-cause
 returns-in_err-standing-clause-cause g c =
-    let b : DbValue g.row.D.Denot = record { frames = c.look.new.self } in
+    let b : DbValue g.row.D.Denot = record { frames = c.look.new.self; pending = c.self.inside.pending } in
     let p = err_from_is_err_and c.from_residual.result c.from_residual.ensures.1 in
     let d = c.in_err-standing.ensures.error in
     let was = (c.look.ensures.is_down d.0).0 (c.in_err-standing.was ∙ ap Err d.1) in
@@ -60,23 +60,23 @@ returns-clause-holding g c = c.look.ensures.holding (c.args.held.now ∷ [])
 
 pub returns-clause-carries : goal.returns-clause-carries
 returns-clause-carries g c =
-    let a : DbValue g.row.D.Denot = record { frames = c.self.inside.frames } in
-    let b : DbValue g.row.D.Denot = record { frames = c.look.new.self } in
+    let a : DbValue g.row.D.Denot = record { frames = c.self.inside.frames; pending = c.self.inside.pending } in
+    let b : DbValue g.row.D.Denot = record { frames = c.look.new.self; pending = c.self.inside.pending } in
     let e = c.look.ensures in
     subst (λ (s : DbValue g.row.D.Denot). CarriesOwn g.D.Disk s c.args.pass.now b c.look.new.pass) c.self.view_is
     (carries g.D.Disk a b c.args.pass.now c.look.new.pass e.added e.sees_on e.rises e.pass)
 
 pub returns-clause-goes : goal.returns-clause-goes
 returns-clause-goes g c =
-    let a : DbValue g.row.D.Denot = record { frames = c.self.inside.frames } in
-    let b : DbValue g.row.D.Denot = record { frames = c.look.new.self } in
+    let a : DbValue g.row.D.Denot = record { frames = c.self.inside.frames; pending = c.self.inside.pending } in
+    let b : DbValue g.row.D.Denot = record { frames = c.look.new.self; pending = c.self.inside.pending } in
     let e = c.look.ensures in
     subst (λ (s : DbValue g.row.D.Denot). Goes g.D.Disk s b []) c.self.view_is
-    (one_nothing g.D.Disk (calm_step g.D.Disk a b e.added e.state e.runs_on e.begins e.calm e.pins))
+    (one_nothing g.D.Disk (calm_step g.D.Disk a b refl e.added e.state e.runs_on e.begins e.calm e.pins))
 
 pub returns-clause-may : goal.returns-clause-may
 returns-clause-may g c =
-    let b : DbValue g.row.D.Denot = record { frames = c.look.new.self } in
+    let b : DbValue g.row.D.Denot = record { frames = c.look.new.self; pending = c.self.inside.pending } in
     let w : HasFields c.args.held.now.content c.args.name c.in-Some.fields =
     subst (λ (p : Page). HasFields p c.args.name c.in-Some.fields) c.page-2.ensures.value c.in-Some.ensures in
     on_ok_weaker c.allows.result
@@ -86,7 +86,7 @@ returns-clause-may g c =
 
 pub returns-clause-cause : goal.returns-clause-cause
 returns-clause-cause g c =
-    let b : DbValue g.row.D.Denot = record { frames = c.look.new.self } in
+    let b : DbValue g.row.D.Denot = record { frames = c.look.new.self; pending = c.self.inside.pending } in
     let w : HasFields c.args.held.now.content c.args.name c.in-Some.fields =
     subst (λ (p : Page). HasFields p c.args.name c.in-Some.fields) c.page-2.ensures.value c.in-Some.ensures in
     let t = c.in_ok-standing.standing in

@@ -206,8 +206,8 @@ returns-in-Ok-clause-placed g c = λ w none changed.
 
 pub returns-clause-running : goal.returns-clause-running
 returns-clause-running g c =
-    let i : DbValue g.row.D.Denot = record { frames = c.self-2.inside.frames } in
-    let e : DbValue g.row.D.Denot = record { frames = c.release.new.self } in
+    let i : DbValue g.row.D.Denot = record { frames = c.self-2.inside.frames; pending = c.self-2.inside.pending } in
+    let e : DbValue g.row.D.Denot = record { frames = c.release.new.self; pending = c.self-2.inside.pending } in
     let h = c.choose_page.ensures in
     let f = c.release.ensures in
     running_back g.D.Disk c.args.self.now c.choose_page.new.self i e c.args.pass.now c.choose_page.new.pass
@@ -216,9 +216,9 @@ returns-clause-running g c =
 
 pub returns-clause-refused : goal.returns-clause-refused
 returns-clause-refused g c =
-    let i : DbValue g.row.D.Denot = record { frames = c.self-2.inside.frames } in
-    let e : DbValue g.row.D.Denot = record { frames = c.release.new.self } in
+    let i : DbValue g.row.D.Denot = record { frames = c.self-2.inside.frames; pending = c.self-2.inside.pending } in
+    let e : DbValue g.row.D.Denot = record { frames = c.release.new.self; pending = c.self-2.inside.pending } in
     let f = c.release.ensures in
     goes_still g.D.Disk c.choose_page.ensures.goes
     (subst (λ (s : DbValue g.row.D.Denot). Goes g.D.Disk s e []) c.self-2.view_is
-    (one_nothing g.D.Disk (calm_step g.D.Disk i e f.added f.state f.runs_on f.begins f.calm f.pins)))
+    (one_nothing g.D.Disk (calm_step g.D.Disk i e refl f.added f.state f.runs_on f.begins f.calm f.pins)))

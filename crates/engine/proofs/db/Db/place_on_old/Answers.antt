@@ -1,5 +1,5 @@
 -- A head is placed on a heap page that is held, or the page is given back.
-use Rattle.std.proofs.Common.{ℕ, [], ◌∷◌, sym, subst, rules}
+use Rattle.std.proofs.Common.{refl, ℕ, [], ◌∷◌, sym, subst, rules}
 use Rattle.buffer_frames.specs.Passes.{IsHolding}
 use Rattle.engine.specs.Db.{DbValue}
 use Rattle.engine.specs.Places.{Lies}
@@ -46,13 +46,13 @@ returns-in-Ok-None-clause-on g c =
     let e = c.in_ok-held.ensures in
     let r = c.release.ensures in
     let a : DbValue g.row.D.Denot = c.args.self.now in
-    let b : DbValue g.row.D.Denot = record { frames = c.self.inside.frames } in
-    let d : DbValue g.row.D.Denot = record { frames = c.release.new.self } in
+    let b : DbValue g.row.D.Denot = record { frames = c.self.inside.frames; pending = c.self.inside.pending } in
+    let d : DbValue g.row.D.Denot = record { frames = c.release.new.self; pending = c.self.inside.pending } in
     let x = c.in_ok-held.held in
     let held = e.holding [] (holds_none g.D.Disk a c.args.pass.now c.requires.pass c.requires.none) in
     let works = held_works g.D.Disk a c.hold_page.new.self c.args.pass.now c.hold_page.new.pass c.args.page
     x [] e.pass e.carries e.goes e.state e.pins e.keeps e.rises e.others e.number held in
-    released g.D.Disk a b d c.args.pass.now c.hold_page.new.pass c.release.new.pass x
+    released g.D.Disk a b d refl c.args.pass.now c.hold_page.new.pass c.release.new.pass x
     (subst (λ (s : DbValue g.row.D.Denot). WorksOn g.D.Disk a c.args.pass.now s c.hold_page.new.pass)
     (sym c.self.view_is) works)
     (subst (λ (n : ℕ). Lies a n x.content) (sym e.number) e.lies)
@@ -71,13 +71,13 @@ returns-in-Err-clause-on g c =
     let e = c.in_ok-held.ensures in
     let r = c.release-in-Err.ensures in
     let a : DbValue g.row.D.Denot = c.args.self.now in
-    let b : DbValue g.row.D.Denot = record { frames = c.self.inside.frames } in
-    let d : DbValue g.row.D.Denot = record { frames = c.release-in-Err.new.self } in
+    let b : DbValue g.row.D.Denot = record { frames = c.self.inside.frames; pending = c.self.inside.pending } in
+    let d : DbValue g.row.D.Denot = record { frames = c.release-in-Err.new.self; pending = c.self.inside.pending } in
     let x = c.in_ok-held.held in
     let held = e.holding [] (holds_none g.D.Disk a c.args.pass.now c.requires.pass c.requires.none) in
     let works = held_works g.D.Disk a c.hold_page.new.self c.args.pass.now c.hold_page.new.pass c.args.page
     x [] e.pass e.carries e.goes e.state e.pins e.keeps e.rises e.others e.number held in
-    released g.D.Disk a b d c.args.pass.now c.hold_page.new.pass c.release-in-Err.new.pass x
+    released g.D.Disk a b d refl c.args.pass.now c.hold_page.new.pass c.release-in-Err.new.pass x
     (subst (λ (s : DbValue g.row.D.Denot). WorksOn g.D.Disk a c.args.pass.now s c.hold_page.new.pass)
     (sym c.self.view_is) works)
     (subst (λ (n : ℕ). Lies a n x.content) (sym e.number) e.lies)

@@ -1,5 +1,5 @@
 -- A head is placed on a new page that is held, or the page is given back.
-use Rattle.std.proofs.Common.{◌≡◌, ◌⊎◌, [], ◌∷◌, sym, subst, inl, inr, rules}
+use Rattle.std.proofs.Common.{refl, ◌≡◌, ◌⊎◌, [], ◌∷◌, sym, subst, inl, inr, rules}
 use Rattle.page_types.specs.declared.page.Page.{Page}
 use Rattle.page_types.specs.declared.page.Gone.{Gone}
 use Rattle.page_types.specs.declared.page.Body.TheVariants as body
@@ -42,9 +42,9 @@ returns-in-Err-clause-on g c =
     let e = c.in_ok-held.ensures in
     let r = c.release.ensures in
     let a : DbValue g.row.D.Denot = c.args.self.now in
-    let b : DbValue g.row.D.Denot = record { frames = c.self.inside.frames } in
-    let d : DbValue g.row.D.Denot = record { frames = c.release.new.self } in
-    released g.D.Disk a b d c.args.pass.now c.hold_new_page.new.pass c.release.new.pass c.in_ok-held.held
+    let b : DbValue g.row.D.Denot = record { frames = c.self.inside.frames; pending = c.self.inside.pending } in
+    let d : DbValue g.row.D.Denot = record { frames = c.release.new.self; pending = c.self.inside.pending } in
+    released g.D.Disk a b d refl c.args.pass.now c.hold_new_page.new.pass c.release.new.pass c.in_ok-held.held
     (subst (λ (s : DbValue g.row.D.Denot). WorksOn g.D.Disk a c.args.pass.now s c.hold_new_page.new.pass)
     (sym c.self.view_is) e.on) e.lies
     r.pass r.sees_on r.added r.rises r.same r.runs_on r.state r.pins r.lies r.others r.calm r.begins

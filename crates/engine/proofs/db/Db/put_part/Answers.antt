@@ -74,8 +74,8 @@ release-requires-clause-holding g c =
 
 pub returns-in-Err-clause-running : goal.returns-in-Err-clause-running
 returns-in-Err-clause-running g c =
-    let i : DbValue g.row.D.Denot = record { frames = c.self.inside.frames } in
-    let e : DbValue g.row.D.Denot = record { frames = c.release.new.self } in
+    let i : DbValue g.row.D.Denot = record { frames = c.self.inside.frames; pending = c.self.inside.pending } in
+    let e : DbValue g.row.D.Denot = record { frames = c.release.new.self; pending = c.self.inside.pending } in
     let run = c.requires.running in
     let held = c.in_ok-heap.ensures.holding []
     (holds_none g.D.Disk c.args.self.now c.args.pass.now run.is_pass run.held) in
@@ -91,7 +91,7 @@ returns-in-Err-clause-running g c =
 
 pub returns-in-Err-clause-fault : goal.returns-in-Err-clause-fault
 returns-in-Err-clause-fault g c =
-    let e : DbValue g.row.D.Denot = record { frames = c.release.new.self } in
+    let e : DbValue g.row.D.Denot = record { frames = c.release.new.self; pending = c.self.inside.pending } in
     let a = c.args.self.now in
     let b = c.hold_page.new.self in
     let m = c.hold_new_page.new.self in
@@ -107,12 +107,12 @@ returns-in-Err-clause-fault g c =
 
 pub returns-in-Err-clause-refused : goal.returns-in-Err-clause-refused
 returns-in-Err-clause-refused g c =
-    let i : DbValue g.row.D.Denot = record { frames = c.self.inside.frames } in
-    let e : DbValue g.row.D.Denot = record { frames = c.release.new.self } in
+    let i : DbValue g.row.D.Denot = record { frames = c.self.inside.frames; pending = c.self.inside.pending } in
+    let e : DbValue g.row.D.Denot = record { frames = c.release.new.self; pending = c.self.inside.pending } in
     let f = c.release.ensures in
     goes_still g.D.Disk (goes_still g.D.Disk c.hold_page.ensures.goes c.hold_new_page.ensures.on.goes)
     (subst (λ (s : DbValue g.row.D.Denot). Goes g.D.Disk s e []) c.self.view_is
-    (one_nothing g.D.Disk (calm_step g.D.Disk i e f.added f.state f.runs_on f.begins f.calm f.pins)))
+    (one_nothing g.D.Disk (calm_step g.D.Disk i e refl f.added f.state f.runs_on f.begins f.calm f.pins)))
 
 pub returns-in-Err-clause-cause : goal.returns-in-Err-clause-cause
 returns-in-Err-clause-cause g c =
@@ -275,9 +275,11 @@ release-requires-in-Err-part_step-2-clause-holding g c =
 
 pub returns-in-Err-part_step-clause-running : goal.returns-in-Err-part_step-clause-running
 returns-in-Err-part_step-clause-running g c =
-    let i : DbValue g.row.D.Denot = record { frames = c.self.inside.frames } in
-    let b : DbValue g.row.D.Denot = record { frames = c.release-in-Err-part_step.new.self } in
-    let e : DbValue g.row.D.Denot = record { frames = c.release-in-Err-part_step-2.new.self } in
+    let i : DbValue g.row.D.Denot = record { frames = c.self.inside.frames; pending = c.self.inside.pending } in
+    let b : DbValue g.row.D.Denot =
+    record { frames = c.release-in-Err-part_step.new.self; pending = c.self.inside.pending } in
+    let e : DbValue g.row.D.Denot =
+    record { frames = c.release-in-Err-part_step-2.new.self; pending = c.self.inside.pending } in
     let m = c.hold_new_page.new.self in
     let run = c.requires.running in
     let held = c.in-Ok.ensures.holding (c.in_ok-heap.heap ∷ []) (c.in_ok-heap.ensures.holding []
@@ -306,16 +308,18 @@ returns-in-Err-part_step-clause-running g c =
 
 pub returns-in-Err-part_step-clause-refused : goal.returns-in-Err-part_step-clause-refused
 returns-in-Err-part_step-clause-refused g c =
-    let i : DbValue g.row.D.Denot = record { frames = c.self.inside.frames } in
-    let b : DbValue g.row.D.Denot = record { frames = c.release-in-Err-part_step.new.self } in
-    let e : DbValue g.row.D.Denot = record { frames = c.release-in-Err-part_step-2.new.self } in
+    let i : DbValue g.row.D.Denot = record { frames = c.self.inside.frames; pending = c.self.inside.pending } in
+    let b : DbValue g.row.D.Denot =
+    record { frames = c.release-in-Err-part_step.new.self; pending = c.self.inside.pending } in
+    let e : DbValue g.row.D.Denot =
+    record { frames = c.release-in-Err-part_step-2.new.self; pending = c.self.inside.pending } in
     let f = c.release-in-Err-part_step.ensures in
     let l = c.release-in-Err-part_step-2.ensures in
     goes_still g.D.Disk (goes_still g.D.Disk c.hold_page.ensures.goes c.hold_new_page.ensures.on.goes)
     (subst (λ (s : DbValue g.row.D.Denot). Goes g.D.Disk s e []) c.self.view_is
     (nothing
-    (one_nothing g.D.Disk (calm_step g.D.Disk i b f.added f.state f.runs_on f.begins f.calm f.pins))
-    (calm_step g.D.Disk b e l.added l.state l.runs_on l.begins l.calm l.pins)))
+    (one_nothing g.D.Disk (calm_step g.D.Disk i b refl f.added f.state f.runs_on f.begins f.calm f.pins))
+    (calm_step g.D.Disk b e refl l.added l.state l.runs_on l.begins l.calm l.pins)))
 
 pub returns-in-Err-part_step-clause-cause : goal.returns-in-Err-part_step-clause-cause
 returns-in-Err-part_step-clause-cause g c =

@@ -1,5 +1,5 @@
 -- The log is flushed, and a snapshot given up.
-use Rattle.std.proofs.Common.{◌≡◌, [], sym, ap, subst, ◌∙◌, arith}
+use Rattle.std.proofs.Common.{refl, ◌≡◌, [], sym, ap, subst, ◌∙◌, arith}
 use Rattle.std.specs.Prelude.{Result, Ok, Err, IfErr}
 use Rattle.std.proofs.lemmas.Result.{err_from_is_err_and}
 use Rattle.wal.specs.Waiting.{down_of}
@@ -45,15 +45,15 @@ returns-in_err-flushed-clause-flushed g c =
 
 pub returns-in_err-flushed-clause-goes : goal.returns-in_err-flushed-clause-goes
 returns-in_err-flushed-clause-goes g c =
-    let a : DbValue g.row.D.Denot = record { frames = c.self.inside.frames } in
-    let f : DbValue g.row.D.Denot = record { frames = c.flush_log-flushed.new.self } in
-    let b : DbValue g.row.D.Denot = record { frames = c.unpin.new.self } in
+    let a : DbValue g.row.D.Denot = record { frames = c.self.inside.frames; pending = c.self.inside.pending } in
+    let f : DbValue g.row.D.Denot = record { frames = c.flush_log-flushed.new.self; pending = c.self.inside.pending } in
+    let b : DbValue g.row.D.Denot = record { frames = c.unpin.new.self; pending = c.self.inside.pending } in
     let e = c.flush_log-flushed.ensures in
     let u = c.unpin.ensures in
     subst (λ (s : DbValue g.row.D.Denot). Goes g.D.Disk s b []) c.self.view_is
     (Goes.nothing (one_nothing g.D.Disk
-    (write_step g.D.Disk a f c.flush_log-flushed.result e.added e.state e.runs_on e.begins e.cause e.pins))
-    (unpin_step g.D.Disk f b c.flush_log-flushed.new.pass.pin u.keeps.added u.keeps.journal u.keeps.begins u.pins))
+    (write_step g.D.Disk a f refl c.flush_log-flushed.result e.added e.state e.runs_on e.begins e.cause e.pins))
+    (unpin_step g.D.Disk f b refl c.flush_log-flushed.new.pass.pin u.keeps.added u.keeps.journal u.keeps.begins u.pins))
 
 pub returns-in_err-flushed-clause-keeps : goal.returns-in_err-flushed-clause-keeps
 returns-in_err-flushed-clause-keeps g c =
@@ -63,9 +63,9 @@ returns-in_err-flushed-clause-keeps g c =
 
 pub returns-in_err-flushed-clause-fault : goal.returns-in_err-flushed-clause-fault
 returns-in_err-flushed-clause-fault g c =
-    let a : DbValue g.row.D.Denot = record { frames = c.self.inside.frames } in
-    let f : DbValue g.row.D.Denot = record { frames = c.flush_log-flushed.new.self } in
-    let b : DbValue g.row.D.Denot = record { frames = c.unpin.new.self } in
+    let a : DbValue g.row.D.Denot = record { frames = c.self.inside.frames; pending = c.self.inside.pending } in
+    let f : DbValue g.row.D.Denot = record { frames = c.flush_log-flushed.new.self; pending = c.self.inside.pending } in
+    let b : DbValue g.row.D.Denot = record { frames = c.unpin.new.self; pending = c.self.inside.pending } in
     let e = c.flush_log-flushed.ensures in
     let w : LogError = (c.in_err-flushed.field-0).0 in
     let p = err_from_is_err_and c.from_residual.result c.from_residual.ensures.1 in
@@ -81,7 +81,8 @@ returns-in_err-flushed-clause-cause g c =
     let w : LogError = (c.in_err-flushed.field-0).0 in
     let p = err_from_is_err_and c.from_residual.result c.from_residual.ensures.1 in
     let e = c.flush_log-flushed.ensures in
-    let up : IsUp (let a : DbValue g.row.D.Denot = record { frames = c.self.inside.frames } in a) =
+    let up : IsUp (let a : DbValue g.row.D.Denot =
+    record { frames = c.self.inside.frames; pending = c.self.inside.pending } in a) =
     subst IsUp (sym c.self.view_is) c.requires.up in
     let is : w ≡ logs.DiskFault =
     subst (λ (r : Result (Unit {0}) LogError). IfErr r (λ v. v ≡ logs.DiskFault)) c.in_err-flushed.was
@@ -103,14 +104,14 @@ returns-clause-session g c =
 
 pub returns-clause-flushed : goal.returns-clause-flushed
 returns-clause-flushed g c =
-    let a : DbValue g.row.D.Denot = record { frames = c.self.inside.frames } in
-    let f : DbValue g.row.D.Denot = record { frames = c.flush_log-flushed.new.self } in
-    let b : DbValue g.row.D.Denot = record { frames = c.unpin.new.self } in
+    let a : DbValue g.row.D.Denot = record { frames = c.self.inside.frames; pending = c.self.inside.pending } in
+    let f : DbValue g.row.D.Denot = record { frames = c.flush_log-flushed.new.self; pending = c.self.inside.pending } in
+    let b : DbValue g.row.D.Denot = record { frames = c.unpin.new.self; pending = c.self.inside.pending } in
     let e = c.flush_log-flushed.ensures in
     let u = c.unpin.ensures in
     let r = c.flush_log-flushed.result in
     let done = c.in_ok-flushed.ensures.done in
-    flushed_all g.D.Disk a f b (write_step g.D.Disk a f r e.added e.state e.runs_on e.begins e.cause e.pins)
+    flushed_all g.D.Disk a f b (write_step g.D.Disk a f refl r e.added e.state e.runs_on e.begins e.cause e.pins)
     u.keeps.journal
     c.flush_log-flushed.new.pass c.unpin.new.pass (subst IsUp (sym c.self.view_is) c.requires.up)
     (write_no_fault g.D.Disk a f r (λ is.
@@ -120,15 +121,15 @@ returns-clause-flushed g c =
 
 pub returns-clause-goes : goal.returns-clause-goes
 returns-clause-goes g c =
-    let a : DbValue g.row.D.Denot = record { frames = c.self.inside.frames } in
-    let f : DbValue g.row.D.Denot = record { frames = c.flush_log-flushed.new.self } in
-    let b : DbValue g.row.D.Denot = record { frames = c.unpin.new.self } in
+    let a : DbValue g.row.D.Denot = record { frames = c.self.inside.frames; pending = c.self.inside.pending } in
+    let f : DbValue g.row.D.Denot = record { frames = c.flush_log-flushed.new.self; pending = c.self.inside.pending } in
+    let b : DbValue g.row.D.Denot = record { frames = c.unpin.new.self; pending = c.self.inside.pending } in
     let e = c.flush_log-flushed.ensures in
     let u = c.unpin.ensures in
     subst (λ (s : DbValue g.row.D.Denot). Goes g.D.Disk s b []) c.self.view_is
     (Goes.nothing (one_nothing g.D.Disk
-    (write_step g.D.Disk a f c.flush_log-flushed.result e.added e.state e.runs_on e.begins e.cause e.pins))
-    (unpin_step g.D.Disk f b c.flush_log-flushed.new.pass.pin u.keeps.added u.keeps.journal u.keeps.begins u.pins))
+    (write_step g.D.Disk a f refl c.flush_log-flushed.result e.added e.state e.runs_on e.begins e.cause e.pins))
+    (unpin_step g.D.Disk f b refl c.flush_log-flushed.new.pass.pin u.keeps.added u.keeps.journal u.keeps.begins u.pins))
 
 pub returns-clause-keeps : goal.returns-clause-keeps
 returns-clause-keeps g c =
@@ -138,9 +139,9 @@ returns-clause-keeps g c =
 
 pub returns-clause-fault : goal.returns-clause-fault
 returns-clause-fault g c =
-    let a : DbValue g.row.D.Denot = record { frames = c.self.inside.frames } in
-    let f : DbValue g.row.D.Denot = record { frames = c.flush_log-flushed.new.self } in
-    let b : DbValue g.row.D.Denot = record { frames = c.unpin.new.self } in
+    let a : DbValue g.row.D.Denot = record { frames = c.self.inside.frames; pending = c.self.inside.pending } in
+    let f : DbValue g.row.D.Denot = record { frames = c.flush_log-flushed.new.self; pending = c.self.inside.pending } in
+    let b : DbValue g.row.D.Denot = record { frames = c.unpin.new.self; pending = c.self.inside.pending } in
     let e = c.flush_log-flushed.ensures in
     let r = c.flush_log-flushed.result in
     subst (λ (s : DbValue g.row.D.Denot). MetNoFault g.D.Disk s b) c.self.view_is

@@ -1,5 +1,5 @@
 -- A new page is taken, once it is held, or is given back.
-use Rattle.std.proofs.Common.{◌≡◌, ℕ, true, false, List, sym, ap, subst, ◌∙◌}
+use Rattle.std.proofs.Common.{refl, ◌≡◌, ℕ, true, false, List, sym, ap, subst, ◌∙◌}
 use Rattle.std.specs.Prelude.{Option, Result, Err, IfErr}
 use Rattle.std.proofs.lemmas.Result.{err_from_is_err_and}
 use Rattle.wal.specs.Waiting.{down_of}
@@ -23,17 +23,18 @@ use Rattle.engine.proofs.db.Db.take_page.Goals as goal
 
 pub returns-in_err-page-clause-on : goal.returns-in_err-page-clause-on
 returns-in_err-page-clause-on g c =
-    let a : DbValue g.row.D.Denot = record { frames = c.self.inside.frames } in
-    let b : DbValue g.row.D.Denot = record { frames = c.look.new.self } in
+    let a : DbValue g.row.D.Denot = record { frames = c.self.inside.frames; pending = c.self.inside.pending } in
+    let b : DbValue g.row.D.Denot = record { frames = c.look.new.self; pending = c.self.inside.pending } in
     let e = c.look.ensures in
     subst (λ (s : DbValue g.row.D.Denot). WorksOn g.D.Disk s c.args.pass.now b c.look.new.pass) c.self.view_is
-    (looked g.D.Disk a b c.args.pass.now c.look.new.pass e.pass e.sees_on e.added e.keeps e.rises e.keeps.xid e.runs_on
+    (looked g.D.Disk a b refl c.args.pass.now c.look.new.pass e.pass e.sees_on e.added e.keeps e.rises e.keeps.xid
+    e.runs_on
     e.state e.pins e.others e.calm e.begins)
 
 pub returns-in_err-page-clause-cause : goal.returns-in_err-page-clause-cause
 returns-in_err-page-clause-cause g c =
     let p = err_from_is_err_and c.from_residual.result c.from_residual.ensures.1 in
-    let b : DbValue g.row.D.Denot = record { frames = c.look.new.self } in
+    let b : DbValue g.row.D.Denot = record { frames = c.look.new.self; pending = c.self.inside.pending } in
     let d = c.in_err-page.ensures.error in
     let was = (c.look.ensures.is_down d.0).0 (c.in_err-page.was ∙ ap Err d.1) in
     subst (λ (r : Result (Result Sheet ℕ) DbError). IfErr r (CannotTake g.D.Disk c.args.self.now b)) (sym p.1)
@@ -42,23 +43,25 @@ returns-in_err-page-clause-cause g c =
 
 pub returns-in_default-clause-on : goal.returns-in_default-clause-on
 returns-in_default-clause-on g c =
-    let a : DbValue g.row.D.Denot = record { frames = c.self.inside.frames } in
-    let b : DbValue g.row.D.Denot = record { frames = c.look.new.self } in
+    let a : DbValue g.row.D.Denot = record { frames = c.self.inside.frames; pending = c.self.inside.pending } in
+    let b : DbValue g.row.D.Denot = record { frames = c.look.new.self; pending = c.self.inside.pending } in
     let e = c.look.ensures in
     subst (λ (s : DbValue g.row.D.Denot). WorksOn g.D.Disk s c.args.pass.now b c.look.new.pass) c.self.view_is
-    (looked g.D.Disk a b c.args.pass.now c.look.new.pass e.pass e.sees_on e.added e.keeps e.rises e.keeps.xid e.runs_on
+    (looked g.D.Disk a b refl c.args.pass.now c.look.new.pass e.pass e.sees_on e.added e.keeps e.rises e.keeps.xid
+    e.runs_on
     e.state e.pins e.others e.calm e.begins)
 
 pub returns-in_err-held-clause-on : goal.returns-in_err-held-clause-on
 returns-in_err-held-clause-on g c =
-    let a : DbValue g.row.D.Denot = record { frames = c.self.inside.frames } in
-    let b : DbValue g.row.D.Denot = record { frames = c.look.new.self } in
+    let a : DbValue g.row.D.Denot = record { frames = c.self.inside.frames; pending = c.self.inside.pending } in
+    let b : DbValue g.row.D.Denot = record { frames = c.look.new.self; pending = c.self.inside.pending } in
     let d : DbValue g.row.D.Denot = c.hold_page.new.self in
     let e = c.look.ensures in
     let h = c.in_err-held.ensures in
     subst (λ (s : DbValue g.row.D.Denot). WorksOn g.D.Disk s c.args.pass.now d c.hold_page.new.pass) c.self.view_is
     (works_in_turn g.D.Disk a b d c.args.pass.now c.look.new.pass c.hold_page.new.pass
-    (looked g.D.Disk a b c.args.pass.now c.look.new.pass e.pass e.sees_on e.added e.keeps e.rises e.keeps.xid e.runs_on
+    (looked g.D.Disk a b refl c.args.pass.now c.look.new.pass e.pass e.sees_on e.added e.keeps e.rises e.keeps.xid
+    e.runs_on
     e.state e.pins e.others e.calm e.begins)
     (refused_works g.D.Disk b d c.look.new.pass c.hold_page.new.pass h.pass h.carries h.goes h.state h.pins h.keeps
     h.rises h.unmoved))
@@ -68,19 +71,20 @@ returns-in_err-held-clause-cause g c =
     let p : Pass = c.args.pass.now in
     let q : Pass = c.look.new.pass in
     let a : DbValue g.row.D.Denot = c.args.self.now in
-    let b : DbValue g.row.D.Denot = record { frames = c.look.new.self } in
+    let b : DbValue g.row.D.Denot = record { frames = c.look.new.self; pending = c.self.inside.pending } in
     let l = c.look.ensures in
     let asked = subst (λ (s : DbValue g.row.D.Denot). WorksOn g.D.Disk s p b q) c.self.view_is
     (looked g.D.Disk (record {
       frames = c.self.inside.frames;
-    }) b p q l.pass l.sees_on l.added l.keeps l.rises l.keeps.xid
+      pending = c.self.inside.pending;
+    }) b refl p q l.pass l.sees_on l.added l.keeps l.rises l.keeps.xid
     l.runs_on l.state l.pins l.others l.calm l.begins) in
     let e = c.in_ok-page.ensures in
     let answer = subst (λ (o : Option (ℕ × ℕ)). new_page_answer (record {}) (state_of b) q.floor q.since o) c.in-Some.is
     e.answers in
     let d : DbValue g.row.D.Denot = c.hold_page.new.self in
     let met = subst (λ (s : DbValue g.row.D.Denot). MetNoFault g.D.Disk s b) c.self.view_is
-    (calm_fault g.D.Disk (record { frames = c.self.inside.frames }) b l.calm) in
+    (calm_fault g.D.Disk (record { frames = c.self.inside.frames; pending = c.self.inside.pending }) b l.calm) in
     let up : IsUp b = l.calm.down
     ∙ up_at_pin (down_of c.self.inside.frames.journal.wal) c.look.result _ l.is_down c.in_ok-page.was in
     let w = err_from_is_err_and c.from_residual-in_err-held.result c.from_residual-in_err-held.ensures.1 in
@@ -91,8 +95,8 @@ returns-in_err-held-clause-cause g c =
 
 pub returns-then-is_new-clause-on : goal.returns-then-is_new-clause-on
 returns-then-is_new-clause-on g c =
-    let a : DbValue g.row.D.Denot = record { frames = c.self.inside.frames } in
-    let b : DbValue g.row.D.Denot = record { frames = c.look.new.self } in
+    let a : DbValue g.row.D.Denot = record { frames = c.self.inside.frames; pending = c.self.inside.pending } in
+    let b : DbValue g.row.D.Denot = record { frames = c.look.new.self; pending = c.self.inside.pending } in
     let d : DbValue g.row.D.Denot = c.hold_page.new.self in
     let e = c.look.ensures in
     let h = c.in_ok-held.ensures in
@@ -101,7 +105,8 @@ returns-then-is_new-clause-on g c =
     (sym c.self.view_is) some.1 in
     subst (λ (s : DbValue g.row.D.Denot). WorksOn g.D.Disk s c.args.pass.now d c.hold_page.new.pass) c.self.view_is
     (works_in_turn g.D.Disk a b d c.args.pass.now c.look.new.pass c.hold_page.new.pass
-    (looked g.D.Disk a b c.args.pass.now c.look.new.pass e.pass e.sees_on e.added e.keeps e.rises e.keeps.xid e.runs_on
+    (looked g.D.Disk a b refl c.args.pass.now c.look.new.pass e.pass e.sees_on e.added e.keeps e.rises e.keeps.xid
+    e.runs_on
     e.state e.pins e.others e.calm e.begins)
     (held_works g.D.Disk b d c.look.new.pass c.hold_page.new.pass c.in-Some.page c.in_ok-held.held some.0 h.pass
     h.carries h.goes h.state h.pins h.keeps h.rises h.others h.number (h.holding some.0 (e.holding some.0 before))))
@@ -111,12 +116,13 @@ returns-then-is_new-clause-new g c =
     let p : Pass = c.args.pass.now in
     let q : Pass = c.look.new.pass in
     let a : DbValue g.row.D.Denot = c.args.self.now in
-    let b : DbValue g.row.D.Denot = record { frames = c.look.new.self } in
+    let b : DbValue g.row.D.Denot = record { frames = c.look.new.self; pending = c.self.inside.pending } in
     let l = c.look.ensures in
     let asked = subst (λ (s : DbValue g.row.D.Denot). WorksOn g.D.Disk s p b q) c.self.view_is
     (looked g.D.Disk (record {
       frames = c.self.inside.frames;
-    }) b p q l.pass l.sees_on l.added l.keeps l.rises l.keeps.xid
+      pending = c.self.inside.pending;
+    }) b refl p q l.pass l.sees_on l.added l.keeps l.rises l.keeps.xid
     l.runs_on l.state l.pins l.others l.calm l.begins) in
     let e = c.in_ok-page.ensures in
     let answer = subst (λ (o : Option (ℕ × ℕ)). new_page_answer (record {}) (state_of b) q.floor q.since o) c.in-Some.is
@@ -140,12 +146,13 @@ returns-clause-on g c =
     let p : Pass = c.args.pass.now in
     let q : Pass = c.look.new.pass in
     let a : DbValue g.row.D.Denot = c.args.self.now in
-    let b : DbValue g.row.D.Denot = record { frames = c.look.new.self } in
+    let b : DbValue g.row.D.Denot = record { frames = c.look.new.self; pending = c.self.inside.pending } in
     let l = c.look.ensures in
     let asked = subst (λ (s : DbValue g.row.D.Denot). WorksOn g.D.Disk s p b q) c.self.view_is
     (looked g.D.Disk (record {
       frames = c.self.inside.frames;
-    }) b p q l.pass l.sees_on l.added l.keeps l.rises l.keeps.xid
+      pending = c.self.inside.pending;
+    }) b refl p q l.pass l.sees_on l.added l.keeps l.rises l.keeps.xid
     l.runs_on l.state l.pins l.others l.calm l.begins) in
     let h = c.in_ok-held.ensures in
     let d : DbValue g.row.D.Denot = c.hold_page.new.self in
@@ -158,7 +165,8 @@ returns-clause-on g c =
     let works = held_works g.D.Disk b d q r c.in-Some.page x some.0 h.pass h.carries h.goes h.state h.pins h.keeps
     h.rises h.others h.number (h.holding some.0 (still some.0 some.1)) in
     let last = c.release.ensures in
-    released g.D.Disk a (record { frames = c.self-2.inside.frames }) (record { frames = c.release.new.self }) p r
+    released g.D.Disk a (record { frames = c.self-2.inside.frames; pending = c.self-2.inside.pending })
+    (record { frames = c.release.new.self; pending = c.self-2.inside.pending }) refl p r
     c.release.new.pass x
     (subst (λ (s : DbValue g.row.D.Denot). WorksOn g.D.Disk a p s r) (sym c.self-2.view_is)
     (works_in_turn g.D.Disk a b d p q r asked works))
@@ -171,17 +179,18 @@ returns-clause-used g c =
     let p : Pass = c.args.pass.now in
     let q : Pass = c.look.new.pass in
     let a : DbValue g.row.D.Denot = c.args.self.now in
-    let b : DbValue g.row.D.Denot = record { frames = c.look.new.self } in
+    let b : DbValue g.row.D.Denot = record { frames = c.look.new.self; pending = c.self.inside.pending } in
     let l = c.look.ensures in
     let asked = subst (λ (s : DbValue g.row.D.Denot). WorksOn g.D.Disk s p b q) c.self.view_is
     (looked g.D.Disk (record {
       frames = c.self.inside.frames;
-    }) b p q l.pass l.sees_on l.added l.keeps l.rises l.keeps.xid
+      pending = c.self.inside.pending;
+    }) b refl p q l.pass l.sees_on l.added l.keeps l.rises l.keeps.xid
     l.runs_on l.state l.pins l.others l.calm l.begins) in
     let e = c.in_ok-page.ensures in
     let answer = subst (λ (o : Option (ℕ × ℕ)). new_page_answer (record {}) (state_of b) q.floor q.since o) c.in-Some.is
     e.answers in
-    let d : DbValue g.row.D.Denot = record { frames = c.release.new.self } in
+    let d : DbValue g.row.D.Denot = record { frames = c.release.new.self; pending = c.self-2.inside.pending } in
     let x : Sheet = c.in_ok-held.held in
     let up : IsUp b = l.calm.down
     ∙ up_at_pin (down_of c.self.inside.frames.journal.wal) c.look.result _ l.is_down c.in_ok-page.was in
