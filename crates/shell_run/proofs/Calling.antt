@@ -1,7 +1,7 @@
 -- What a statement did to the store, by how it was answered.
 use Rattle.std.proofs.Common.{◌≡◌, ◌⊎◌, inl, inr, ℕ, ◌+◌, ◌≤◌, [], ◌∷◌, ◌++◌, length, length-append, arith, refl}
-use Rattle.std.proofs.Common.{sym}
-use Rattle.std.proofs.Common.{ap, subst, map}
+use Rattle.std.proofs.Common.{sym, ◌∙◌, ap, subst, map}
+use Rattle.std.proofs.lemmas.List.{append-nil}
 use Rattle.std.specs.Prelude.{Result, Ok, Err, Vec, IfErr, suc}
 use Rattle.std.specs.declared.alloc.Global.{Global}
 use Rattle.disk_trait.specs.declared.device.Disk.{Ghosts as Disk}
@@ -12,35 +12,109 @@ use Rattle.ts_config.specs.Known.{Known}
 use Rattle.engine.specs.Finding.{Name, Commit, History}
 use Rattle.engine.specs.Db.{DbValue, flushed_of, IsUp}
 use Rattle.engine.specs.Standing.{StandsFor, HasGrown, GoesOn}
-use Rattle.engine.specs.Going.{FaultIsTold, MetNoFault}
+use Rattle.engine.specs.Going.{FaultIsTold, MetFault, MetNoFault}
 use Rattle.engine.specs.Work.{Work, inserting, updating, deleting, commit_of}
-use Rattle.engine.specs.Answers.{HasCommitted, HasRefused, HasStored, HasDeleted, HasFound, HasListed}
+use Rattle.engine.specs.Answers.{HasCommitted, HasRefused, HasDeleted, HasFound, HasListed}
+use Rattle.engine.specs.Cleaning.{HasMoved, HasCleaned, Tidies, StoresThenTidies}
 use Rattle.engine.specs.Answers.{IsRefused}
 use Rattle.engine.specs.Answers.{Refuses, IsLawfulRefusal, MeetsNoBadPage, OnlyReads, Pass}
 use Rattle.engine.specs.declared.commit_names.CommitNames.{CommitNames}
 use Rattle.engine.specs.declared.error.DbError.{DbError}
 use Rattle.engine.specs.declared.error.DbError.TheVariants as errors
-use Rattle.shell_script.specs.Grammar.{Statement, insert, update, delete, search as finding, show, ask, parse}
-use Rattle.shell_script.specs.Grammar.{list_commits, define, invalid, Expr, QuerySource}
+use Rattle.shell_script.specs.Grammar.{Statement, insert, update, delete, search as finding, clean_up, show, ask}
+use Rattle.shell_script.specs.Grammar.{parse, list_commits, define, invalid, Expr, QuerySource}
 use Rattle.shell_script.specs.Docs.{Doc}
-use Rattle.shell_run.specs.Run.{Note, Counts, Reply, stored, removed, lists, shows_commits, refused, memory, down}
+use Rattle.shell_run.specs.Run.{Note, Counts, Reply, stored, removed, lists, shows_commits, refused}
+use Rattle.shell_run.specs.Run.{memory, down}
 use Rattle.shell_run.specs.Run.{device as device_fault, no_statement, IsAnswered, IsInsertion, IsReplacement}
 use Rattle.shell_run.specs.Run.{IsDeletion}
 use Rattle.shell_run.specs.Run.{MayCall, IsOkOfChange}
 use Rattle.shell_run.specs.Values.{IsValueOf, IsQueryOf}
-use Rattle.shell_run.specs.Caused.{IsCaused}
-use Rattle.shell_run.specs.Inner.Refusing.{stored_reply, removed_reply, found_reply, IsListReply, names_line}
+use Rattle.shell_run.specs.Caused.{IsCaused, IsTidied}
+use Rattle.shell_run.specs.Inner.Refusing.{stored_reply, removed_reply, cleaned_reply, found_reply, IsListReply}
+use Rattle.shell_run.specs.Inner.Refusing.{names_line}
 use Rattle.shell_run.specs.Inner.Answering.{HasAnswered}
 use Rattle.shell_run.proofs.OfTexts.{expr_text, query_text_reply, shown_text, queried_text, parsed_text, defined_text}
 use Rattle.shell_run.proofs.OfTexts.{line_text}
-use Rattle.shell_run.proofs.Moving.{Moves, HasNote, Tells, own_is, none_is, work_up, read_up, refuses_of, IsFaultOf}
-use Rattle.shell_run.proofs.Moving.{still_reaches, was_up, rests_moves, err_moves}
-use Rattle.shell_run.proofs.Rows.{work_row, name_row, name_seen, search_row, search_done, list_row, list_done}
+use Rattle.shell_run.proofs.Moving.{Moves, HasNote, Tells, own_is, none_is, work_up, read_up, clean_up as up_or_down}
+use Rattle.shell_run.proofs.Moving.{refuses_of, IsFaultOf, still_reaches, was_up, rested_at, rests_moves, err_moves}
+use Rattle.shell_run.proofs.Rows.{work_row, name_row, name_seen, search_row, search_done, clean_row, list_row}
+use Rattle.shell_run.proofs.Rows.{list_done}
+
+-- a fault of the cleanup that came by itself after a document was stored
+tidied_fault : {D T : Type 0} (device : Disk D) (old mid new : DbValue D) (name : Name) (answer : Result T DbError)
+    → IsUp old → MetNoFault device old mid → GoesOn device old mid → FaultIsTold device mid new answer
+    → IsFaultOf device old new (stored name)
+tidied_fault {D} {T} device old mid new name answer up calm on told = by answer told
+  where
+    stays : MetNoFault device mid new → IsFaultOf device old new (stored name)
+    stays f = inr (λ x. cc, record { writes = f.writes ∙ calm.writes; down = f.down ∙ calm.down })
+
+    meets : MetFault device mid new → IsFaultOf device old new (stored name)
+    meets f = inl (
+      inr tt,
+      record {
+        up = up;
+        rose = omega (arith, on.faults, f.rose);
+        writes = omega (arith, calm.writes, f.writes);
+        down = f.down;
+      },
+    )
+
+    by : (a : Result T DbError) → FaultIsTold device mid new a → IsFaultOf device old new (stored name)
+    by (Ok done) f = stays f
+    by (Err errors.DiskFault) f = meets f
+    by (Err e) f = stays f
 
 module _ {D : Type 0} (device : Disk D) (old new : DbValue D) where
+  -- all commits of a history are flushed, and one more
+  reaches_one : (s : DbValue D) (w : Work) (name : Name) (H : History) → flushed_of s ≡ suc (length H)
+      → length (H ++ commit_of w name ∷ []) ≤ flushed_of s
+  reaches_one s w name H is =
+      let b : length (H ++ commit_of w name ∷ []) ≡ length H + 1 = length-append H (commit_of w name ∷ []) in
+      omega (arith, is, b)
+
+  -- the work was done, and a cleanup may have come by itself after it
+  stored_moves : (pass : Pass) (known : Known) (line : ℕ) (statement : Statement) (w : Work) (name : Name)
+      (mid : DbValue D) → MayCall statement (stored name) → HasCommitted device old mid pass w name
+      → MetNoFault device old mid → GoesOn device old mid → Tidies device mid new → GoesOn device old new
+      → IsCaused device old new known line statement (stored name)
+      → (device.tells → (found H : History) → StandsFor device found old H
+      → (IsUp old → length H ≤ flushed_of old) → (k : Counts) (note : Note) → note.snapshot ≡ length H
+      → HasNote (commit_of w name ∷ []) H note → Tells device old new k note
+      → IsAnswered k (H ++ commit_of w name ∷ []) known line statement (stored name) note)
+      → Moves device old new known line statement (stored name)
+  stored_moves pass known line statement w name mid calls h none before tidies on caused answered = record {
+    more = commit_of w name ∷ [];
+    one = inr (commit_of w name, refl, h.up);
+    caused = caused;
+    ok_up = λ ok. h.up;
+    finds = inr h.up;
+    fell = λ n down. cc;
+    fault = tidied_fault device old mid new name tidies.answer h.up none before tidies.told;
+    flushed = λ ok. (mid, h.still_up, h.is_flushed, tidies);
+    rested = λ ok. record {
+      mid = mid;
+      up = h.still_up;
+      on = inr before;
+      grown = h.grown;
+      reaches = λ t found H s low. reaches_one mid w name H (h.flushed t found H s);
+      then = inr tidies.goes_on;
+    };
+    called = inl calls;
+    on = inr on;
+    grown = λ t found H s. subst (StandsFor device found new) (append-nil (H ++ commit_of w name ∷ []))
+        (tidies.moves.nothing t found (H ++ commit_of w name ∷ []) (h.grown t found H s));
+    reaches = λ t found H s still low.
+        let a : length (H ++ commit_of w name ∷ []) ≤ flushed_of mid =
+        reaches_one mid w name H (h.flushed t found H s) in
+        omega (arith, a, tidies.goes_on.flushed);
+    answered = answered;
+  }
+
   -- the work was done
   done_moves : (pass' : Pass) (known : Known) (line : ℕ) (statement : Statement) (w : Work) (name : Name)
-      (reply : Reply)
+      (reply : Reply) → IsTidied device reply new new
       → MayCall statement reply → ((n : ℕ) → reply ≡ refused (down n) → ⊥) → (reply ≡ refused device_fault → ⊥)
       → HasCommitted device old new pass' w name → MetNoFault device old new → GoesOn device old new
       → IsCaused device old new known line statement reply
@@ -49,7 +123,7 @@ module _ {D : Type 0} (device : Disk D) (old new : DbValue D) where
       → HasNote (commit_of w name ∷ []) H note → Tells device old new k note
       → IsAnswered k (H ++ commit_of w name ∷ []) known line statement reply note)
       → Moves device old new known line statement reply
-  done_moves pass' known line statement w name reply calls not_down not_fault h none on caused answered = record {
+  done_moves pass' known line statement w name reply same calls not_down not_fault h none on caused answered = record {
     more = commit_of w name ∷ [];
     one = inr (commit_of w name, refl, h.up);
     caused = caused;
@@ -57,14 +131,13 @@ module _ {D : Type 0} (device : Disk D) (old new : DbValue D) where
     finds = inr h.up;
     fell = λ n down. absurd (not_down n down);
     fault = inr (not_fault, none);
-    flushed = λ ok. (h.still_up, h.is_flushed);
+    flushed = λ ok. (new, h.still_up, h.is_flushed, same);
+    rested = λ ok. rested_at device old new (commit_of w name ∷ []) h.still_up (inr on) h.grown
+        (λ t found H s low. reaches_one new w name H (h.flushed t found H s));
     called = inl calls;
     on = inr on;
     grown = h.grown;
-    reaches = λ t found H s still low.
-        let a : flushed_of new ≡ suc (length H) = h.flushed t found H s in
-        let b : length (H ++ commit_of w name ∷ []) ≡ length H + 1 = length-append H (commit_of w name ∷ []) in
-        omega (arith, a, b);
+    reaches = λ t found H s still low. reaches_one new w name H (h.flushed t found H s);
     answered = answered;
   }
 
@@ -99,15 +172,29 @@ module _ {D : Type 0} (device : Disk D) (old new : DbValue D) where
   one_or w e r = elim r.one [ inl n ↦ inl n | inr c ↦ inr c.2 ]
 
   -- ── work ──
+  abbrev no_name : DbError → Result Name DbError
+  no_name x = Err x
+
+  -- a refusal is that of the work, after which nothing more is done
+  refusal_then : (pass' : Pass) (w : Work) (x : DbError) → StoresThenTidies device old new pass' w (Err x)
+      → HasRefused device old new w x × FaultIsTold device old new (no_name x)
+  refusal_then pass' w x h = (
+    subst (λ z. HasRefused device old z w x) (sym h.then) h.stored,
+    subst (λ z. FaultIsTold device old z (no_name x)) (sym h.then) h.told,
+  )
+
   inserts : (pass' : Pass) (known : Known) (line : ℕ) (e : Expr) (v : Vector) (answer : Result Name DbError)
-      → IsValueOf known e v → HasStored device old new pass' (inserting v) answer → FaultIsTold device old new answer
+      → IsValueOf known e v → StoresThenTidies device old new pass' (inserting v) answer
       → IfErr answer (IsLawfulRefusal device old (inserting v)) → GoesOn device old new
       → Moves device old new known line (insert e) (stored_reply answer)
-  inserts pass' known line e v (Ok name) value h told lawful on =
-      done_moves pass' known line (insert e) (inserting v) name (stored name) tt (λ n x. cc) (λ x. cc) h told on
-      (inr (v, value, (pass', h)))
+  inserts pass' known line e v (Ok name) value h lawful on =
+      stored_moves h.pass known line (insert e) (inserting v) name h.mid tt h.stored h.told h.goes_on h.then on
+      (inr (v, value, (h.pass, h.mid, h.stored, h.then)))
       (λ t found H s low k note is own tells. inr (v, value, own_is (commit_of (inserting v) name) H note own))
-  inserts pass' known line e v (Err x) value h told lawful on =
+  inserts pass' known line e v (Err x) value stores lawful on =
+      let both = refusal_then pass' (inserting v) x stores in
+      let h : HasRefused device old new (inserting v) x = both.0 in
+      let told : FaultIsTold device old new (no_name x) = both.1 in
       let why : Refuses device old new (inserting v) x = refuses_of device old new (inserting v) x h in
       let r : Refused (inserting v) x = refused_work (inserting v) x h in
       err_moves device old new Name known line (insert e) x r.more tt (λ f. inl tt)
@@ -120,23 +207,26 @@ module _ {D : Type 0} (device : Disk D) (old new : DbValue D) where
       ))
 
   updates : (pass' : Pass) (known : Known) (line : ℕ) (d : Doc) (e : Expr) (v : Vector) (answer : Result Name DbError)
-      → IsValueOf known e v → HasStored device old new pass' (updating d.name v) answer
-      → FaultIsTold device old new answer → IfErr answer (IsLawfulRefusal device old (updating d.name v))
+      → IsValueOf known e v → StoresThenTidies device old new pass' (updating d.name v) answer
+      → IfErr answer (IsLawfulRefusal device old (updating d.name v))
       → GoesOn device old new → Moves device old new known line (update d e) (stored_reply answer)
-  updates pass' known line d e v (Ok name) value h told lawful on =
-      done_moves pass' known line (update d e) (updating d.name v) name (stored name) tt (λ n x. cc) (λ x. cc) h told on
-      (inr (v, value, (pass', h)))
+  updates pass' known line d e v (Ok name) value h lawful on =
+      stored_moves h.pass known line (update d e) (updating d.name v) name h.mid tt h.stored h.told h.goes_on
+      h.then on (inr (v, value, (h.pass, h.mid, h.stored, h.then)))
       (λ t found H s low k note is own tells. inr (
         v,
         value,
         (
           name_seen device old new found H (commit_of (updating d.name v) name ∷ []) k note is own tells t s low
-              (updating d.name v) d.name refl h.up (h.were_there t found H s),
+              (updating d.name v) d.name refl h.stored.up (h.stored.were_there t found H s),
           own_is (commit_of (updating d.name v) name) H note own,
         ),
       ))
-  updates pass' known line d e v (Err x) value h told lawful on =
+  updates pass' known line d e v (Err x) value stores lawful on =
       let w : Work = updating d.name v in
+      let both = refusal_then pass' w x stores in
+      let h : HasRefused device old new w x = both.0 in
+      let told : FaultIsTold device old new (no_name x) = both.1 in
       let why : Refuses device old new w x = refuses_of device old new w x h in
       let r : Refused w x = refused_work w x h in
       err_moves device old new Name known line (update d e) x r.more tt (λ f. inl tt)
@@ -153,7 +243,7 @@ module _ {D : Type 0} (device : Disk D) (old new : DbValue D) where
       → IfErr answer (IsLawfulRefusal device old (deleting d.name)) → GoesOn device old new
       → Moves device old new known line (delete d) (removed_reply answer)
   deletes pass' known line d (Ok done) h told lawful on =
-      done_moves pass' known line (delete d) (deleting d.name) h.0 removed tt (λ n x. cc) (λ x. cc) h.1 told on
+      done_moves pass' known line (delete d) (deleting d.name) h.0 removed refl tt (λ n x. cc) (λ x. cc) h.1 told on
       (pass', h.0, h.1)
       (λ t found H s low k note is own tells. (
         name_seen device old new found H (commit_of (deleting d.name) h.0 ∷ []) k note is own tells t s low
@@ -189,6 +279,9 @@ module _ {D : Type 0} (device : Disk D) (old new : DbValue D) where
         fell = λ n down. absurd (not_down n down);
         fault = fault;
         flushed = λ done. absurd (not_done done);
+        rested = λ ok. rested_at device old new [] (none.down ∙ up) (inr on) reads.nothing
+            (λ t found H s low. still_reaches device old new H on.flushed (was_up device old new reply fault)
+            (none.down ∙ up) low);
         called = inl calls;
         on = inr on;
         grown = reads.nothing;
@@ -242,6 +335,34 @@ module _ {D : Type 0} (device : Disk D) (old new : DbValue D) where
       (λ t found H stands low k note e own tells. list_row device old new found H [] k note e own
       tells t stands low refl x h lawful))
 
+  -- ── a cleanup ──
+  cleans : (known : Known) (line : ℕ) (answer : Result (Unit {0}) DbError) → HasMoved device old new
+      → HasCleaned device old new answer → FaultIsTold device old new answer
+      → IfErr answer (MeetsNoBadPage device old) → GoesOn device old new
+      → Moves device old new known line clean_up (cleaned_reply answer)
+  cleans known line (Ok done) moved h told lawful on = record {
+    more = [];
+    one = inl refl;
+    caused = (moved, h);
+    ok_up = λ ok. h.0;
+    finds = inr h.0;
+    fell = λ n down. cc;
+    fault = inr (λ x. cc, told);
+    flushed = λ change. absurd change;
+    rested = λ ok. rested_at device old new [] (told.down ∙ h.0) (inr on) moved.nothing
+        (λ t found H s low. still_reaches device old new H on.flushed (λ up. h.0) (told.down ∙ h.0) low);
+    called = inl tt;
+    on = inr on;
+    grown = moved.nothing;
+    reaches = λ t found H s still low. still_reaches device old new H on.flushed (λ up. h.0) still low;
+    answered = λ t found H s low k note is own tells. none_is H note own;
+  }
+  cleans known line (Err x) moved h told lawful on =
+      err_moves device old new (Unit {0}) known line clean_up x [] tt (λ f. tt)
+      (up_or_down device old new x h) told on (inl refl) (moved, (x, refl, h)) moved.nothing
+      (λ t found H stands low k note is own tells. clean_row device old new found H [] k note is own
+      tells t stands low refl x h lawful)
+
   -- ── all statements ──
   pub moves : (pass pass' : Pass) (known : Known) (line : ℕ) (statement : Statement) (reply : Reply)
       → HasAnswered device old new pass pass' known line statement reply
@@ -251,15 +372,15 @@ module _ {D : Type 0} (device : Disk D) (old new : DbValue D) where
       (inl (i.1, i.0.0)) (λ k H note n. inl (i.1, n))
   moves pass pass' known line (insert e) reply (inr i) =
       let c = i.2 in
-      subst (λ z. Moves device old new known line (insert e) z) (sym c.6)
-      (inserts pass' known line e i.0 c.0 i.1 c.1 c.2 c.3 c.4)
+      subst (λ z. Moves device old new known line (insert e) z) (sym c.5)
+      (inserts pass' known line e i.0 c.0 i.1 c.1 c.2 c.3)
   moves pass pass' known line (update d e) reply (inl i) =
       rests_moves device old new known line (update d e) reply i.0.0 (expr_text known e reply i.1) (inr i.1)
       (inl (i.1, i.0.0)) (λ k H note n. inl (i.1, n))
   moves pass pass' known line (update d e) reply (inr i) =
       let c = i.2 in
-      subst (λ z. Moves device old new known line (update d e) z) (sym c.6)
-      (updates pass' known line d e i.0 c.0 i.1 c.1 c.2 c.3 c.4)
+      subst (λ z. Moves device old new known line (update d e) z) (sym c.5)
+      (updates pass' known line d e i.0 c.0 i.1 c.1 c.2 c.3)
   moves pass pass' known line (delete d) reply i =
       subst (λ z. Moves device old new known line (delete d) z) (sym i.6)
       (deletes pass' known line d i.0 i.1 i.2 i.3 i.4)
@@ -270,6 +391,10 @@ module _ {D : Type 0} (device : Disk D) (old new : DbValue D) where
       let c = i.2.1 in
       subst (λ z. Moves device old new known line (finding s) z) (sym c.6)
       (searches known line s i.0 c.0 i.1 c.1 c.2 c.3 i.2.0 c.4)
+  moves pass pass' known line clean_up reply i =
+      let c = i.1 in
+      subst (λ z. Moves device old new known line clean_up z) (sym c.6)
+      (cleans known line c.0 i.0 c.1 c.2 c.3 c.4)
   moves pass pass' known line list_commits reply i =
       let c = i.1 in lists_moves known line c.0 reply c.6 c.1 c.2 c.3 i.0 c.4
   moves pass pass' known line (show e) reply i =

@@ -1,7 +1,7 @@
 -- A run grows by one statement, with the store, the log and the device.
 use Rattle.std.proofs.Common.{◌≡◌, ◌⊎◌, inl, inr, ℕ, suc, ◌+◌, ◌^◌, ◌<◌, ◌≤◌, ◌-◌, List, [], ◌∷◌, ◌++◌, length}
 use Rattle.std.proofs.Common.{length-append, append_assoc, arith, refl, sym, ◌∙◌, ap, subst, get_or}
-use Rattle.std.specs.Prelude.{◌↔◌, Option, Some, None, IfSome, take}
+use Rattle.std.specs.Prelude.{Option, Some, None, IfSome, take}
 use Rattle.std.specs.List.{All, Any}
 use Rattle.std.proofs.lemmas.List.{get_or_append_left, take_all}
 use Rattle.std.proofs.lemmas.Bool.{cases_lt}
@@ -14,22 +14,20 @@ use Rattle.engine.specs.Opening.{OpensToOne, KeepsPages, HasPagesOf}
 use Rattle.disk_trait.specs.Runs.{images_now}
 use Rattle.disk_trait.proofs.Runs.{started}
 use Rattle.engine.specs.Finding.{Commit, History}
-use Rattle.engine.specs.Going as going
-use Rattle.engine.specs.Going.{MetNoFault}
 use Rattle.engine.specs.Opened.{IsFixedSince, IsLawfulSince}
 use Rattle.engine.specs.Standing.{StandsFor, GoesOn, IsKept, HistoriesAreLawful}
 use Rattle.engine.specs.Db.{DbValue, disk_of, fault_of, opened_of, flushed_of, IsUp}
 use Rattle.shell_script.specs.Grammar.{Statement}
 use Rattle.shell_run.specs.Run.{Exchange, Note, Place, Counts, Reply, refused, down, device as device_fault, Run}
 use Rattle.shell_run.specs.Run.{AreNoted}
-use Rattle.shell_run.specs.Run.{FindsDown, IsOkOfStore, AreTimed}
+use Rattle.shell_run.specs.Run.{FindsDown, MayBeTidied, AreTimed}
 use Rattle.shell_run.specs.Caused.{IsLeftBy, AreCaused}
 use Rattle.shell_run.specs.Crash.{StartedFrom}
 use Rattle.shell_run.specs.RanOn.{counts_over, IsSeenIn, AreSeenIn}
 use Rattle.shell_run.proofs.Runs.{noted_step, run_step}
 use Rattle.shell_run.proofs.Safety.{Safe, IsSince, StaysKnown, safe_push, fixed_on}
 use Rattle.shell_run.proofs.Timing.{timed_by, timed_push, caused_push, seen_push, seen_more}
-use Rattle.shell_run.proofs.Moving.{Moves, HasNote, Tells, saw_taken}
+use Rattle.shell_run.proofs.Moving.{Moves, Rested, IsFaultOf, HasNote, Tells, saw_taken}
 
 abbrev pub exchange_of : Place → Known → ℕ → Statement → Reply → Note → Exchange
 exchange_of place known line statement reply note =
@@ -163,28 +161,32 @@ module _ {D : Type 0} (device : Disk D) where
     abbrev counts_then : Counts
     counts_then = counts_over device first (disk_of opened) (disk_of new)
 
-    -- a write failed exactly where the device is answered
-    failed_as : (0 < note.writes) ↔ (reply ≡ refused device_fault)
-    failed_as = elim m.fault [
-      | inl f ↦ (
-        λ l. f.0,
-        λ is. let low : device.write_fault_count (disk_of old) < device.write_fault_count (disk_of new) =
-            rises (device.write_fault_count (disk_of old)) (device.write_fault_count (disk_of new))
-            (s.counted.up f.1.up).0 f.1.writes in omega (arith, low),
-      )
-      | inr f ↦ (
-        λ l. absurd (let x : ⊥ = omega (arith, l, f.1.writes) in x),
-        λ is. absurd (f.0 is),
-      )
+    -- a write failed where the device is answered, and else only in a cleanup that came by itself
+    failed_as : reply ≡ refused device_fault → 0 < note.writes
+    failed_as is = elim m.fault [
+      | inl f ↦
+          let low : device.write_fault_count (disk_of old) < device.write_fault_count (disk_of new) =
+          rises (device.write_fault_count (disk_of old)) (device.write_fault_count (disk_of new))
+          (s.counted.up f.1.up).0 f.1.writes in omega (arith, low)
+      | inr f ↦ absurd (f.0 is)
     ]
+
+    failed_only : 0 < note.writes → (reply ≡ refused device_fault) ⊎ MayBeTidied reply
+    failed_only l = elim m.fault [
+      | inl f ↦ f.0
+      | inr f ↦ absurd (let x : ⊥ = omega (arith, l, f.1.writes) in x)
+    ]
+
+    -- such an answer doesn't say that the store is down
+    not_down : (n : ℕ) (r : Reply) → (r ≡ refused device_fault) ⊎ MayBeTidied r → r ≡ refused (down n) → ⊥
+    not_down n r (inl is) d = let y : refused device_fault ≡ refused (down n) = sym is ∙ d in cc
+    not_down n r (inr may) d = subst MayBeTidied d may
 
     counted_then : Counted (fault_of new) (exchanges ++ exchange ∷ []) (device.fault_count first)
         (device.write_fault_count first) (device.fault_count (disk_of new)) (device.write_fault_count (disk_of new))
     counted_then = by m.fault
       where
-        by : ((reply ≡ refused device_fault) × going.MetFault device old new)
-            ⊎ ((reply ≡ refused device_fault → ⊥) × MetNoFault device old new)
-            → Counted (fault_of new) (exchanges ++ exchange ∷ []) (device.fault_count first)
+        by : IsFaultOf device old new reply → Counted (fault_of new) (exchanges ++ exchange ∷ []) (device.fault_count first)
             (device.write_fault_count first) (device.fault_count (disk_of new))
             (device.write_fault_count (disk_of new))
         by (inl f) =
@@ -209,7 +211,7 @@ module _ {D : Type 0} (device : Disk D) where
                     Any-push (FailedAt n) exchanges exchange (some, sym same),
                   );
               told = told_up (fault_of old) (fault_of new) exchanges exchange f.1.up s.counted.told
-                  (λ n x. let y : refused device_fault ≡ refused (down n) = sym f.0 ∙ x in let z : ⊥ = cc in z);
+                  (λ n x. not_down n reply f.0 x);
             }
         by (inr f) =
             let none : note.writes ≡ 0 = omega (arith, f.1.writes) in
@@ -252,6 +254,7 @@ module _ {D : Type 0} (device : Disk D) where
           fell = λ n is. (s.counted.fallen n (m.fell n is)).3;
           one_count = λ n is. told_one (fault_of old) exchanges n s.counted.told (m.fell n is);
           failed = failed_as;
+          failed_only = failed_only;
           called = λ l. elim m.called [
             | inl c ↦ c
             | inr same ↦
@@ -306,27 +309,37 @@ module _ {D : Type 0} (device : Disk D) where
       reaches_then : IsUp new → length (commits ++ m.more) ≤ flushed_of new
       reaches_then still = m.reaches t history commits h.since.stands still h.flushed
 
-      kept_then : IsUp new → IsKept device new (length (commits ++ m.more))
-      kept_then still = by m.on
-        where
-          by : ((new ≡ old) × (m.more ≡ [])) ⊎ GoesOn device old new → IsKept device new (length (commits ++ m.more))
-          by (inl same) =
-              let long : length commits ≡ length (commits ++ m.more) =
-              omega (arith, length-append commits m.more, ap length same.1) in
-              subst (λ n. IsKept device new n) long (subst (λ z. IsKept device z (length commits)) (sym same.0)
-              (h.kept (subst IsUp same.0 still)))
-          by (inr on) = λ n f le by left.
-              let k = on.kept t history (commits ++ m.more) stands_then still n f le by left in
-              (k.0, k.1, omega (arith, k.2, reaches_then still))
+      -- what a store that is up has flushed stays
+      kept_at : (z : DbValue D) → IsUp z → ((z ≡ old) × (m.more ≡ [])) ⊎ GoesOn device old z
+          → StandsFor device history z (commits ++ m.more) → length (commits ++ m.more) ≤ flushed_of z
+          → IsKept device z (length (commits ++ m.more))
+      kept_at z still (inl same) stands reaches =
+          let long : length commits ≡ length (commits ++ m.more) =
+          omega (arith, length-append commits m.more, ap length same.1) in
+          subst (λ n. IsKept device z n) long (subst (λ y. IsKept device y (length commits)) (sym same.0)
+          (h.kept (subst IsUp same.0 still)))
+      kept_at z still (inr on) stands reaches = λ n f le by left.
+          let k = on.kept t history (commits ++ m.more) stands still n f le by left in
+          (k.0, k.1, omega (arith, k.2, reaches))
 
-      -- an answer Ok leaves the store up
-      ok_still : IsOkOfStore reply → IsUp new
-      ok_still ok = by m.fault
+      kept_then : IsUp new → IsKept device new (length (commits ++ m.more))
+      kept_then still = kept_at new still m.on stands_then (reaches_then still)
+
+      -- an answer Ok says that all commits are flushed, and they stay in what comes by itself after it
+      kept_ok : Rested device old new m.more → IsKept device new (length (commits ++ m.more))
+      kept_ok r = by r.then
         where
-          by : ((reply ≡ refused device_fault) × going.MetFault device old new)
-              ⊎ ((reply ≡ refused device_fault → ⊥) × MetNoFault device old new) → IsUp new
-          by (inl f) = absurd (subst IsOkOfStore f.0 ok)
-          by (inr f) = f.1.down ∙ m.ok_up ok
+          stands : StandsFor device history r.mid (commits ++ m.more)
+          stands = r.grown t history commits h.since.stands
+
+          kept : IsKept device r.mid (length (commits ++ m.more))
+          kept = kept_at r.mid r.up r.on stands (r.reaches t history commits h.since.stands h.flushed)
+
+          by : (new ≡ r.mid) ⊎ GoesOn device r.mid new → IsKept device new (length (commits ++ m.more))
+          by (inl same) = subst (λ z. IsKept device z (length (commits ++ m.more))) (sym same) kept
+          by (inr on) = λ n f le by left.
+              on.since t history (commits ++ m.more) stands (device.clock (disk_of r.mid))
+              (length (commits ++ m.more)) (omega arith) kept n f (omega (arith, le, on.time)) by left
 
       own_below : (n : ℕ) (more : History) → IfSome (commit_at n more) (λ p. p < n + length more)
       own_below n [] = tt
@@ -342,7 +355,7 @@ module _ {D : Type 0} (device : Disk D) where
         omega (arith, count_is, length-append commits m.more),
         below_by (commit_at (flushed_of opened + length added) m.more)
             (own_below (flushed_of opened + length added) m.more),
-        kept_then (ok_still ok),
+        kept_ok (m.rested ok),
       )
         where
           below_by : (o : Option ℕ) → IfSome o (λ p. p < flushed_of opened + length added + length m.more)

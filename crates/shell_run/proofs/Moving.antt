@@ -11,13 +11,15 @@ use Rattle.engine.specs.Going as going
 use Rattle.engine.specs.Going.{FaultIsTold, MetNoFault}
 use Rattle.engine.specs.Work.{Work}
 use Rattle.engine.specs.Answers.{HasRefused, Refuses, CannotRead}
+use Rattle.engine.specs.Cleaning.{CannotClean}
 use Rattle.engine.specs.declared.error.DbError.{DbError}
 use Rattle.engine.specs.declared.error.DbError.TheVariants as errors
 use Rattle.shell_script.specs.Grammar.{Statement}
 use Rattle.shell_run.specs.Run.{Note, Counts, Reply, refused, down, device as device_fault, IsAnswered, HasOwn, HasSeen}
 use Rattle.shell_run.specs.Run.{MetFault, IsDownSince, FindsDown, MayCall, IsOfStore, IsOkOfStore, IsOkOfChange}
+use Rattle.shell_run.specs.Run.{MayBeTidied}
 use Rattle.shell_run.specs.Refusing.{refusal_for}
-use Rattle.shell_run.specs.Caused.{IsCaused}
+use Rattle.shell_run.specs.Caused.{IsCaused, IsTidied}
 use Rattle.shell_run.proofs.Runs.{get_last}
 use Rattle.shell_run.proofs.OfTexts.{IsTextReply}
 
@@ -32,6 +34,23 @@ pub record Tells {D : Type 0} (device : Disk D) (old new : DbValue D) (k : Count
   pub met : going.MetFault device old new → MetFault k note
   pub since : (n : ℕ) → fault_of old ≡ Some n → IsDownSince k n
 
+-- A fault was met exactly where the device is answered, but for one of a cleanup that came by itself.
+abbrev pub IsFaultOf : {D : Type 0} → Disk D → DbValue D → DbValue D → Reply → Type 0
+IsFaultOf device old new reply =
+    (((reply ≡ refused device_fault) ⊎ MayBeTidied reply) × going.MetFault device old new)
+    ⊎ ((reply ≡ refused device_fault → ⊥) × MetNoFault device old new)
+
+-- The store as an answer Ok was settled: it was up, had these commits more, and all of them were flushed. From it
+-- the new one came by what changes no document.
+pub record Rested {D : Type 0} (device : Disk D) (old new : DbValue D) (more : History) : Type 0 where
+  pub mid : DbValue D
+  pub up : IsUp mid
+  pub on : ((mid ≡ old) × (more ≡ [])) ⊎ GoesOn device old mid
+  pub grown : device.tells → HasGrown device old mid more
+  pub reaches : device.tells → (found H : History) → StandsFor device found old H
+      → (IsUp old → length H ≤ flushed_of old) → length (H ++ more) ≤ flushed_of mid
+  pub then : (new ≡ mid) ⊎ GoesOn device mid new
+
 -- what a statement that was answered so did to the store
 pub record Moves {D : Type 0} (device : Disk D) (old new : DbValue D) (known : Known) (line : ℕ) (statement : Statement)
     (reply : Reply) : Type 0 where
@@ -41,9 +60,9 @@ pub record Moves {D : Type 0} (device : Disk D) (old new : DbValue D) (known : K
   pub ok_up : IsOkOfStore reply → IsUp old
   pub finds : FindsDown known statement reply ⊎ IsUp old
   pub fell : (n : ℕ) → reply ≡ refused (down n) → fault_of old ≡ Some n
-  pub fault : ((reply ≡ refused device_fault) × going.MetFault device old new)
-      ⊎ ((reply ≡ refused device_fault → ⊥) × MetNoFault device old new)
-  pub flushed : IsOkOfChange reply → IsUp new × IsFlushed new
+  pub fault : IsFaultOf device old new reply
+  pub flushed : IsOkOfChange reply → (mid : DbValue D) × IsUp mid × IsFlushed mid × IsTidied device reply mid new
+  pub rested : IsOkOfStore reply → Rested device old new more
   pub called : MayCall statement reply ⊎ (new ≡ old)
   pub on : ((new ≡ old) × (more ≡ [])) ⊎ GoesOn device old new
   -- of a lawful device
@@ -123,6 +142,15 @@ module _ {D : Type 0} (device : Disk D) (old new : DbValue D) where
   read_up errors.OutOfMemory h = inl (h, λ f x. cc)
   read_up e h = absurd h
 
+  pub clean_up : (e : DbError) → CannotClean device old new e → IsUpOrDown e
+  clean_up (errors.Down m) h = inr (m, refl, h.0, h.1)
+  clean_up errors.DiskFault h = inl (h.up, λ f x. cc)
+  clean_up errors.StoreFull h = inl (h.0, λ f x. cc)
+  clean_up errors.LogFull h = inl (h.0, λ f x. cc)
+  clean_up (errors.BadPage p) h = inl (h.0, λ f x. cc)
+  clean_up errors.OutOfMemory h = inl (h, λ f x. cc)
+  clean_up e h = absurd h
+
   pub refuses_of : (w : Work) (e : DbError) → HasRefused device old new w e → Refuses device old new w e
   refuses_of w errors.DiskFault h = h.0
   refuses_of w e h = h.0
@@ -131,19 +159,15 @@ module _ {D : Type 0} (device : Disk D) (old new : DbValue D) where
   abbrev pub err : (T : Type 0) → DbError → Result T DbError
   err T e = Err e
 
-  abbrev pub IsFaultOf : Reply → Type 0
-  IsFaultOf reply = ((reply ≡ refused device_fault) × going.MetFault device old new)
-      ⊎ ((reply ≡ refused device_fault → ⊥) × MetNoFault device old new)
-
   fault_of_err : (T : Type 0) (e : DbError) → FaultIsTold device old new (err T e)
-      → IsFaultOf (refused (refusal_for e))
+      → IsFaultOf device old new (refused (refusal_for e))
   fault_of_err T errors.NoDocument h = inr (λ x. cc, h)
   fault_of_err T (errors.Conflict y) h = inr (λ x. cc, h)
   fault_of_err T errors.StoreFull h = inr (λ x. cc, h)
   fault_of_err T errors.LogFull h = inr (λ x. cc, h)
   fault_of_err T errors.XidsSpent h = inr (λ x. cc, h)
   fault_of_err T (errors.Down m) h = inr (λ x. cc, h)
-  fault_of_err T errors.DiskFault h = inl (refl, h)
+  fault_of_err T errors.DiskFault h = inl (inl refl, h)
   fault_of_err T (errors.BadPage p) h = inr (λ x. cc, h)
   fault_of_err T errors.OutOfMemory h = inr (λ x. cc, h)
 
@@ -169,7 +193,7 @@ module _ {D : Type 0} (device : Disk D) (old new : DbValue D) where
       let c : length (H ++ []) ≡ length H = ap length (append-nil H) in
       omega (arith, a, b, c)
 
-  pub was_up : (reply : Reply) → IsFaultOf reply → IsUp new → IsUp old
+  pub was_up : (reply : Reply) → IsFaultOf device old new reply → IsUp new → IsUp old
   was_up reply (inl f) up =
       absurd (let x : None ≡ Some (device.fault_count (disk_of new)) = sym up ∙ f.1.down in let y : ⊥ = cc in y)
   was_up reply (inr f) up = sym f.1.down ∙ up
@@ -184,7 +208,7 @@ module _ {D : Type 0} (device : Disk D) (old new : DbValue D) where
         writes = ap (λ z. device.write_fault_count (disk_of z)) same;
         down = ap (λ z. fault_of z) same;
       } in
-      let fault : IsFaultOf reply = inr (text.not_fault, none) in
+      let fault : IsFaultOf device old new reply = inr (text.not_fault, none) in
       record {
         more = [];
         one = inl refl;
@@ -194,6 +218,7 @@ module _ {D : Type 0} (device : Disk D) (old new : DbValue D) where
         fell = λ n is. absurd (text.not_down n is);
         fault = fault;
         flushed = λ ok. absurd (text.not_done ok);
+        rested = λ ok. absurd (text.not_ok ok);
         called = inr same;
         on = inl (same, refl);
         grown = λ t found H h. subst (λ z. StandsFor device found new z) (sym (append-nil H))
@@ -202,6 +227,15 @@ module _ {D : Type 0} (device : Disk D) (old new : DbValue D) where
             ap (λ z. flushed_of z) same in omega (arith, e)) (was_up reply fault) up low;
         answered = λ t found H h low k note e own tells. answered k (H ++ []) note (none_is H note own);
       }
+
+  -- a store that is up, and as a statement left it
+  pub rested_at : (more : History) → IsUp new → ((new ≡ old) × (more ≡ [])) ⊎ GoesOn device old new
+      → (device.tells → HasGrown device old new more)
+      → (device.tells → (found H : History) → StandsFor device found old H
+      → (IsUp old → length H ≤ flushed_of old) → length (H ++ more) ≤ flushed_of new)
+      → Rested device old new more
+  rested_at more up on grown reaches =
+      record { mid = new; up = up; on = on; grown = grown; reaches = reaches; then = inl refl }
 
   -- a call of the store was refused
   pub err_moves : (T : Type 0) (known : Known) (line : ℕ) (statement : Statement) (e : DbError) (more : History)
@@ -216,7 +250,7 @@ module _ {D : Type 0} (device : Disk D) (old new : DbValue D) where
       → IsAnswered k (H ++ more) known line statement (refused (refusal_for e)) note)
       → Moves device old new known line statement (refused (refusal_for e))
   err_moves T known line statement e more of finds up told on one caused grown answered =
-      let fault : IsFaultOf (refused (refusal_for e)) = fault_of_err T e told in
+      let fault : IsFaultOf device old new (refused (refusal_for e)) = fault_of_err T e told in
       record {
         more = more;
         one = elim one [ inl n ↦ inl n | inr c ↦ inr (c.0, c.1, up_at c.2 up) ];
@@ -229,6 +263,7 @@ module _ {D : Type 0} (device : Disk D) (old new : DbValue D) where
         fell = λ n is. fell_at n (down_of e n is) up;
         fault = fault;
         flushed = λ ok. absurd ok;
+        rested = λ ok. absurd ok;
         called = may_call statement e of up;
         on = inr on;
         grown = grown;
@@ -246,7 +281,7 @@ module _ {D : Type 0} (device : Disk D) (old new : DbValue D) where
           let x : errors.Down d.0 ≡ errors.Down n = sym d.1 ∙ is in let same : d.0 ≡ n = cc in
           d.2 ∙ ap (λ z. Some z) same
 
-      reach : IsFaultOf (refused (refusal_for e))
+      reach : IsFaultOf device old new (refused (refusal_for e))
           → (more ≡ []) ⊎ ((c : Commit) × (more ≡ c ∷ []) × (e ≡ errors.DiskFault))
           → (H : History) → IsUp new → (IsUp old → length H ≤ flushed_of old) → length (H ++ more) ≤ flushed_of new
       reach fault (inl n) H still low =

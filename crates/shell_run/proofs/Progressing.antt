@@ -178,6 +178,7 @@ module _ {D : Type 0} (device : Disk D) where
         owed = All-nil _;
         one_count = All-nil _;
         failed = All-nil _;
+        failed_only = All-nil _;
         called = All-nil _;
         counted = All-nil _;
         opening = o.no_fall;

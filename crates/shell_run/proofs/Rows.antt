@@ -12,11 +12,12 @@ use Rattle.engine.specs.Db.{DbValue, flushed_of, IsUp}
 use Rattle.engine.specs.Standing.{StandsFor}
 use Rattle.engine.specs.Work.{Work, deleted_by}
 use Rattle.engine.specs.Answers.{Refuses, CannotRead, IsLawfulRefusal, MeetsNoBadPage}
+use Rattle.engine.specs.Cleaning.{CannotClean}
 use Rattle.engine.specs.declared.commit_names.CommitNames.{CommitNames}
 use Rattle.engine.specs.declared.error.DbError.{DbError}
 use Rattle.engine.specs.declared.error.DbError.TheVariants as errors
 use Rattle.shell_run.specs.Run.{Note, Counts, lists, shows_commits, refused, CommitLine}
-use Rattle.shell_run.specs.Run.{IsOfName, AreListed, line_for, IsSearched, IsRefusedWork}
+use Rattle.shell_run.specs.Run.{IsOfName, AreListed, line_for, IsSearched, IsCleaned, IsRefusedWork}
 use Rattle.shell_run.specs.Run.{MayHaveOwn, HasOwn, HasSeen}
 use Rattle.shell_run.specs.Refusing.{refusal_for}
 use Rattle.shell_run.specs.Inner.Refusing.{names_line}
@@ -137,6 +138,16 @@ module _ {D : Type 0} (device : Disk D) (old new : DbValue D) (found H more : Hi
     subst (λ z. IsFound (Holds q) (docs z) names.items)
         (all_taken H (flushed_of old) (low up) ∙ sym (saw_taken H more note e)) h,
   )
+
+  pub clean_row : more ≡ [] → (x : DbError) → CannotClean device old new x → MeetsNoBadPage device old x
+      → IsCleaned k (refused (refusal_for x)) note
+  clean_row none (errors.Down f) r lawful = (no_commit (errors.Down f) (inl none) (λ z. cc), tells.since f r.0)
+  clean_row none errors.DiskFault r lawful = (none_is H note (subst (λ z. HasNote z H note) none own), tells.met r)
+  clean_row none errors.StoreFull r lawful = no_commit errors.StoreFull (inl none) (λ z. cc)
+  clean_row none errors.LogFull r lawful = no_commit errors.LogFull (inl none) (λ z. cc)
+  clean_row none errors.OutOfMemory r lawful = no_commit errors.OutOfMemory (inl none) (λ z. cc)
+  clean_row none (errors.BadPage p) r lawful = absurd (lawful t found H stands r.0)
+  clean_row none x r lawful = absurd r
 
   pub list_row : more ≡ [] → (x : DbError) → CannotRead device old new x → MeetsNoBadPage device old x
       → AreListed k (H ++ more) (refused (refusal_for x)) note

@@ -2,7 +2,7 @@
 use Rattle.std.proofs.Common.{◌≡◌, ◌≢◌, ◌⊎◌, inl, inr, ℕ, zero, suc, ◌+◌, ◌<◌, ◌≤◌, Bool, true, false, cond, List, []}
 use Rattle.std.proofs.Common.{◌∷◌, ◌++◌, length, length-append, append_assoc, arith, refl, sym, ◌∙◌, ap, subst, get_or}
 use Rattle.std.proofs.Common.{map}
-use Rattle.std.specs.Prelude.{◌↔◌, Option, Some, None, IfSome, count_by, sum_by, ◌==◌}
+use Rattle.std.specs.Prelude.{Option, Some, None, IfSome, count_by, sum_by, ◌==◌}
 use Rattle.std.specs.List.{All, Any, slice_get}
 use Rattle.std.proofs.lemmas.List.{take-append-le, get_or_append_left}
 use Rattle.std.proofs.lemmas.List.Elements.{All-push, All-head, All-tail}
@@ -10,12 +10,13 @@ use Rattle.std.proofs.lemmas.List.Sums.{sum_by_push, sum_by-cons}
 use Rattle.std.proofs.lemmas.Bool.{ne_eqb, eqb-false, eqb-true}
 use Rattle.ts_base.specs.Vectors.{Vector}
 use Rattle.ts_query.specs.Queries.{Query}
-use Rattle.shell_script.specs.Grammar.{Statement, insert, update, delete, search as finding, show, ask, parse}
-use Rattle.shell_script.specs.Grammar.{list_commits, define, invalid}
+use Rattle.shell_script.specs.Grammar.{Statement, insert, update, delete, search as finding, clean_up, show, ask}
+use Rattle.shell_script.specs.Grammar.{parse, list_commits, define, invalid}
 use Rattle.ts_config.specs.Known.{Known}
 use Rattle.engine.specs.Finding.{Commit, History, Name, IsLawful, Begins, docs, IsFound, In}
 use Rattle.ts_match.specs.Meaning.{Holds}
-use Rattle.shell_run.specs.Run.{Exchange, Note, Counts, Reply, stored, removed, lists, shows_commits, refused}
+use Rattle.shell_run.specs.Run.{Exchange, Note, Counts, Reply, stored, removed, maintained, lists, shows_commits}
+use Rattle.shell_run.specs.Run.{refused, IsCleaned, MayBeTidied}
 use Rattle.shell_run.specs.Run.{store_full, log_full, transactions_spent, no_document, conflict, down, device, memory}
 use Rattle.shell_run.specs.Run.{Run, AreNoted, IsWithin, IsAnswered, IsInserted, IsInsertion, IsUpdatedMore}
 use Rattle.shell_run.specs.Run.{IsReplacement, IsDeletedMore, IsDeletion, IsOfName, AreListed, line_for}
@@ -126,6 +127,15 @@ module _ (k l : Counts) (commits more : History) (note : Note) (g : Grows k l)
   search_more q (refused memory) h = h
   search_more q reply h = absurd h
 
+  clean_more : (reply : Reply) → IsCleaned k reply note → IsCleaned l reply note
+  clean_more maintained h = h
+  clean_more (refused store_full) h = h
+  clean_more (refused log_full) h = h
+  clean_more (refused (down count)) h = (h.0, down_more k l count g h.1)
+  clean_more (refused device) h = (h.0, met_more k l note g h.1)
+  clean_more (refused memory) h = h
+  clean_more reply h = absurd h
+
   answered_more : (known : Known) (line : ℕ) (statement : Statement) (reply : Reply)
       → IsAnswered k commits known line statement reply note
       → IsAnswered l (commits ++ more) known line statement reply note
@@ -137,6 +147,7 @@ module _ (k l : Counts) (commits more : History) (note : Note) (g : Grows k l)
   answered_more known line (delete d) reply h = of_name_more d.name reply _ _ (delete_more d.name reply) h
   answered_more known line (finding text) reply (inl h) = inl h
   answered_more known line (finding text) reply (inr h) = inr (h.0, h.1, search_more h.0 reply h.2)
+  answered_more known line clean_up reply h = clean_more reply h
   answered_more known line list_commits reply h = list_more reply h
   answered_more known line (show e) reply h = h
   answered_more known line (ask text) reply h = h
@@ -316,7 +327,8 @@ pub record NotedStep (k l : Counts) (exchanges : List Exchange) (exchange : Exch
       → Any (λ (r : Exchange). (0 < r.note.writes) × (r.note.count ≡ n)) exchanges
   pub one_count : (n : ℕ) → exchange.reply ≡ refused (down n)
       → All (λ (r : Exchange). (m : ℕ) → r.reply ≡ refused (down m) → m ≡ n) exchanges
-  pub failed : (0 < exchange.note.writes) ↔ (exchange.reply ≡ refused device)
+  pub failed : exchange.reply ≡ refused device → 0 < exchange.note.writes
+  pub failed_only : 0 < exchange.note.writes → (exchange.reply ≡ refused device) ⊎ MayBeTidied exchange.reply
   pub called : 0 < exchange.note.faults → MayCall exchange.statement exchange.reply
   pub count : exchange.note.count ≡ l.faults_after
   pub faults : k.faults_after + exchange.note.faults ≡ l.faults_after
@@ -343,8 +355,10 @@ noted_step j l exchanges exchange h = record {
       any_more P P exchanges (exchange ∷ []) (λ x p. p) (h.noted.owed k d m n is))
       (λ n is. any_before n exchanges exchange h.last (h.fell n is));
   one_count = one_count_more exchanges exchange h.noted.one_count h.one_count;
-  failed = All-push (λ (r : Exchange). (0 < r.note.writes) ↔ (r.reply ≡ refused device)) exchanges exchange
+  failed = All-push (λ (r : Exchange). r.reply ≡ refused device → 0 < r.note.writes) exchanges exchange
       h.noted.failed h.failed;
+  failed_only = All-push (λ (r : Exchange). 0 < r.note.writes → (r.reply ≡ refused device) ⊎ MayBeTidied r.reply)
+      exchanges exchange h.noted.failed_only h.failed_only;
   called = All-push (λ (r : Exchange). 0 < r.note.faults → MayCall r.statement r.reply) exchanges exchange
       h.noted.called h.called;
   counted = All-push (λ (r : Exchange). (l.faults_opened + r.note.faults ≤ r.note.count)

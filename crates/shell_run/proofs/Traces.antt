@@ -18,6 +18,7 @@ use Rattle.shell_script.specs.OpeningLines.{Kind, dictionary_opening}
 use Rattle.shell_script.specs.Grammar.{Expr, insert, update, define}
 use Rattle.engine.specs.Finding.{Name}
 use Rattle.engine.specs.Db.{disk_of, IsFlushed}
+use Rattle.shell_run.specs.Caused.{IsTidied}
 use Rattle.shell_run.specs.Defining.{Becomes}
 use Rattle.shell_run.specs.Run.{Exchange, Note, Counts, AreNoted, Before, IsAnswered, stored, done, refused}
 use Rattle.shell_run.specs.Run.{device, shows_commits, AreListed, line_for}
@@ -34,7 +35,7 @@ use Rattle.shell_run.specs.Traces.{NoStoreIsWrittenUnrun, NoPageIsWritten, NoCom
 -- a write failed in a statement that is answered so
 has_failed : (counts : Counts) (a b : Exchange) → a.reply ≡ refused device → AreNoted counts (a ∷ b ∷ [])
     → 0 < a.note.writes
-has_failed counts a b reply noted = (noted.failed 0 a (omega arith)).1 reply
+has_failed counts a b reply noted = noted.failed 0 a (omega arith) reply
 
 pub none_stored_after_failure : NoneIsStoredAfterFailure
 none_stored_after_failure counts a b e f n statement reply ask' reply' before noted =
@@ -68,10 +69,12 @@ no_flush_is_late disk settings first new a b n reply none late ran =
     omega (arith, late, left_a.clock, ap disk.clock still)
 
 pub no_flush_is_owed : {D : Type 0} (disk : Disk D) → NoFlushIsOwed disk
-no_flush_is_owed disk settings first new a b n reply none ran owed =
+no_flush_is_owed disk settings first new a b reply none ran owed =
     let ok : IsOkOfChange a.reply = subst IsOkOfChange (sym reply) tt in
     let next = ran.caused.3 in
-    owed (subst (λ s. IsFlushed s) (sym (next.3 ∙ next.2.uncalled none)) (ran.caused.2.flushed ok).1)
+    let done = ran.caused.2.flushed ok in
+    let after : ran.caused.0 ≡ done.0 = subst (λ r. IsTidied disk r done.0 ran.caused.0) reply done.3 in
+    owed (subst (λ s. IsFlushed s) (sym (next.3 ∙ next.2.uncalled none ∙ after)) done.2)
 
 pub no_commit_is_early : NoCommitIsEarly
 no_commit_is_early files m p first commits a b before early own r below =

@@ -8,15 +8,23 @@ use Rattle.engine.specs.Db.{DbValue, disk_of, IsUp, IsFlushed}
 use Rattle.engine.specs.Finding.{Name}
 use Rattle.engine.specs.Work.{Work, inserting, updating, deleting}
 use Rattle.engine.specs.Answers.{Pass, HasCommitted, HasRefused, OnlyReads, CannotRead}
+use Rattle.engine.specs.Cleaning.{HasMoved, AreMoved, CannotClean, Tidies}
 use Rattle.engine.specs.declared.error.DbError.{DbError}
-use Rattle.shell_script.specs.Grammar.{Statement, insert, update, delete, search, show, ask, parse, list_commits}
-use Rattle.shell_script.specs.Grammar.{define, invalid}
-use Rattle.shell_script.specs.Replies.{Reply, stored, removed, lists, shows_commits, refused, no_statement}
+use Rattle.shell_script.specs.Grammar.{Statement, insert, update, delete, search, clean_up, show, ask, parse}
+use Rattle.shell_script.specs.Grammar.{list_commits, define, invalid}
+use Rattle.shell_script.specs.Replies.{Reply, stored, removed, maintained, lists, shows_commits, refused}
+use Rattle.shell_script.specs.Replies.{no_statement}
 use Rattle.shell_run.specs.Defining.{IsDefined}
 use Rattle.shell_run.specs.Values.{IsValueOf, ExprFails, IsQueryOf, QueryFails, IsRefusedBy, IsShown, IsQueried}
 use Rattle.shell_run.specs.Values.{IsParsed}
 use Rattle.shell_run.specs.Refusing.{refusal_for}
 use Rattle.shell_run.specs.Run.{Exchange, MayCall, IsOkOfChange}
+
+-- The store was so when a reply Ok was settled, and is so at the end: after a document was stored a cleanup may
+-- have come by itself.
+abbrev pub IsTidied : {D : Type 0} → Disk D → Reply → DbValue D → DbValue D → Type 0
+IsTidied device (stored name) mid after = Tidies device mid after
+IsTidied device reply mid after = after ≡ mid
 
 -- The store as a statement found it and as it left it. The exchange's clock and counts are those that its
 -- device then has.
@@ -28,8 +36,9 @@ pub record IsLeftBy {D : Type 0} (device : Disk D) (exchange : Exchange) (before
   pub faults : device.fault_count (disk_of before) + exchange.note.faults ≡ device.fault_count (disk_of after)
   pub writes : device.write_fault_count (disk_of before) + exchange.note.writes
       ≡ device.write_fault_count (disk_of after)
-  -- where it changed documents and answered Ok, the store is up and nothing of it waits for a flush
-  pub flushed : IsOkOfChange exchange.reply → IsUp after × IsFlushed after
+  -- where it changed documents and answered Ok, the store was then up and nothing of it waited for a flush
+  pub flushed : IsOkOfChange exchange.reply
+      → (mid : DbValue D) × IsUp mid × IsFlushed mid × IsTidied device exchange.reply mid after
   -- a statement that can't call the device leaves all as it was
   pub uncalled : (MayCall exchange.statement exchange.reply → ⊥) → after ≡ before
 
@@ -39,14 +48,20 @@ IsReplyFor IsOk Cause (refused why) = (e : DbError) × (why ≡ refusal_for e) �
 IsReplyFor IsOk Cause reply = IsOk reply
 
 module _ {D : Type 0} (device : Disk D) (old new : DbValue D) where
-  -- replies Ok to work: its commit is done
+  -- replies Ok to work: its commit is done, and where it stored a document, a cleanup may have come by itself
   abbrev pub IsStored : Work → Reply → Type 0
-  IsStored w (stored name) = (pass : Pass) × HasCommitted device old new pass w name
+  IsStored w (stored name) =
+      (pass : Pass) × (mid : DbValue D) × HasCommitted device old mid pass w name × Tidies device mid new
   IsStored w reply = ⊥
 
   abbrev pub IsRemoved : Work → Reply → Type 0
   IsRemoved w removed = (pass : Pass) × (name : Name) × HasCommitted device old new pass w name
   IsRemoved w reply = ⊥
+
+  -- a reply Ok to a cleanup: what was pending is moved
+  abbrev pub IsMaintained : Reply → Type 0
+  IsMaintained maintained = IsUp old × AreMoved device old new
+  IsMaintained reply = ⊥
 
   -- replies Ok to what only reads
   abbrev pub IsListOfNames : Reply → Type 0
@@ -76,6 +91,8 @@ module _ {D : Type 0} (device : Disk D) where
       (IsRefusedBy (QueryFails known s) r × (new ≡ old))
       ⊎ ((q : Query) × IsQueryOf known s q × OnlyReads device old new
       × IsReplyFor (IsListOfNames device old new) (CannotRead device old new) r)
+  IsCaused old new known line clean_up r =
+      HasMoved device old new × IsReplyFor (IsMaintained device old new) (CannotClean device old new) r
   IsCaused old new known line list_commits r =
       OnlyReads device old new × IsReplyFor (IsListOfCommits device old new) (CannotRead device old new) r
   IsCaused old new known line (show e) r = IsShown known e r × (new ≡ old)

@@ -1,5 +1,5 @@
 -- What a run is: each statement with its reply and its notes.
-use Rattle.std.specs.Prelude.{◌≡◌, ◌⊎◌, ◌↔◌, ℕ, ◌+◌, ◌-◌, ◌^◌, ◌<◌, ◌≤◌, Bool, false, ◌==◌, List, map, length, take}
+use Rattle.std.specs.Prelude.{◌≡◌, ◌⊎◌, ℕ, ◌+◌, ◌-◌, ◌^◌, ◌<◌, ◌≤◌, Bool, false, ◌==◌, List, map, length, take}
 use Rattle.std.specs.Prelude.{count_by, sum_by}
 use Rattle.std.specs.Prelude.{Option, Some, None, IfSome}
 use Rattle.std.specs.List.{All, Any, slice_get}
@@ -7,16 +7,16 @@ use Rattle.ts_base.specs.Vectors.{Vector}
 use Rattle.ts_query.specs.Queries.{Query}
 use Rattle.ts_match.specs.Meaning.{Holds}
 use Rattle.ts_config.specs.Known.{Known}
-use Rattle.shell_script.specs.Grammar.{Statement, insert, update, delete, search, show, ask, parse, list_commits}
-use Rattle.shell_script.specs.Grammar.{define, invalid}
+use Rattle.shell_script.specs.Grammar.{Statement, insert, update, delete, search, clean_up, show, ask, parse}
+use Rattle.shell_script.specs.Grammar.{list_commits, define, invalid}
 use Rattle.engine.specs.Finding.{Document, Commit, History, Name, docs, IsFound, Begins, IsLawful, IsInSnapshot}
 use Rattle.engine.specs.Finding.{document, insertion, replacement, deletion, names}
 use Rattle.shell_run.specs.Defining.{IsDefined}
 pub use Rattle.shell_script.specs.Replies.{Refusal, no_statement, no_configuration, no_dictionary, no_document}
 pub use Rattle.shell_script.specs.Replies.{conflict, store_full, log_full, transactions_spent, down, device, bad_page}
 pub use Rattle.shell_script.specs.Replies.{memory, text_refused}
-pub use Rattle.shell_script.specs.Replies.{CommitLine, Reply, stored, removed, lists, shows_vector, shows_query}
-pub use Rattle.shell_script.specs.Replies.{shows_tokens, shows_commits, done, refused}
+pub use Rattle.shell_script.specs.Replies.{CommitLine, Reply, stored, removed, maintained, lists, shows_vector}
+pub use Rattle.shell_script.specs.Replies.{shows_query, shows_tokens, shows_commits, done, refused}
 use Rattle.shell_run.specs.Values.{IsValueOf, ExprFails, IsQueryOf, QueryFails, IsRefusedBy, IsShown, IsQueried}
 use Rattle.shell_run.specs.Values.{IsParsed}
 
@@ -179,6 +179,16 @@ IsSearched counts commits q (refused device) note = (note.commit ≡ None) × Me
 IsSearched counts commits q (refused memory) note = note.commit ≡ None
 IsSearched counts commits q reply note = ⊥
 
+-- what a cleanup is answered, which has a snapshot and no commit
+abbrev pub IsCleaned : Counts → Reply → Note → Type 0
+IsCleaned counts maintained note = note.commit ≡ None
+IsCleaned counts (refused store_full) note = note.commit ≡ None
+IsCleaned counts (refused log_full) note = note.commit ≡ None
+IsCleaned counts (refused (down count)) note = (note.commit ≡ None) × IsDownSince counts count
+IsCleaned counts (refused device) note = (note.commit ≡ None) × MetFault counts note
+IsCleaned counts (refused memory) note = note.commit ≡ None
+IsCleaned counts reply note = ⊥
+
 abbrev pub IsLineRefused : ℕ → Reply → Note → Type 0
 IsLineRefused line (refused (no_statement at)) note = (note.commit ≡ None) × (at ≡ line)
 IsLineRefused line reply note = ⊥
@@ -197,6 +207,7 @@ IsAnswered counts commits known line (delete d) reply note =
 IsAnswered counts commits known line (search s) reply note =
     (IsRefusedBy (QueryFails known s) reply × (note.commit ≡ None))
     ⊎ ((q : Query) × IsQueryOf known s q × IsSearched counts commits q reply note)
+IsAnswered counts commits known line clean_up reply note = IsCleaned counts reply note
 IsAnswered counts commits known line (show e) reply note =
     IsShown known e reply × (note.commit ≡ None)
 IsAnswered counts commits known line (ask s) reply note =
@@ -212,6 +223,7 @@ IsAnswered counts commits known line invalid reply note = IsLineRefused line rep
 abbrev pub IsOkOfStore : Reply → Type 0
 IsOkOfStore (stored name) = Unit {0}
 IsOkOfStore removed = Unit {0}
+IsOkOfStore maintained = Unit {0}
 IsOkOfStore (lists found) = Unit {0}
 IsOkOfStore (shows_commits ls) = Unit {0}
 IsOkOfStore reply = ⊥
@@ -225,6 +237,7 @@ abbrev pub FindsDown : Known → Statement → Reply → Type 0
 FindsDown known (insert e) reply = IsDownReply reply ⊎ IsRefusedBy (ExprFails known e) reply
 FindsDown known (update d e) reply = IsDownReply reply ⊎ IsRefusedBy (ExprFails known e) reply
 FindsDown known (delete d) reply = IsDownReply reply
+FindsDown known clean_up reply = IsDownReply reply
 FindsDown known list_commits reply = IsDownReply reply
 FindsDown known (search s) reply = IsDownReply reply ⊎ IsRefusedBy (QueryFails known s) reply
 FindsDown known statement reply = Unit {0}
@@ -235,12 +248,18 @@ IsOkOfChange (stored name) = Unit {0}
 IsOkOfChange removed = Unit {0}
 IsOkOfChange reply = ⊥
 
+-- A document was stored. After it a cleanup may come by itself, whose refusal is not the reply.
+abbrev pub MayBeTidied : Reply → Type 0
+MayBeTidied (stored name) = Unit {0}
+MayBeTidied reply = ⊥
+
 -- the statement is one of the store
 abbrev pub IsOfStore : Statement → Type 0
 IsOfStore (insert e) = Unit {0}
 IsOfStore (update d e) = Unit {0}
 IsOfStore (delete d) = Unit {0}
 IsOfStore (search s) = Unit {0}
+IsOfStore clean_up = Unit {0}
 IsOfStore list_commits = Unit {0}
 IsOfStore statement = ⊥
 
@@ -297,8 +316,11 @@ pub record AreNoted (counts : Counts) (exchanges : List Exchange) : Type 0 where
       → Any (λ (a : Exchange). (Before b a → ⊥) × (0 < a.note.writes) × (a.note.count ≡ n)) exchanges) exchanges
   pub one_count : All (λ (a : Exchange). All (λ (b : Exchange). (m n : ℕ) → a.reply ≡ refused (down m)
       → b.reply ≡ refused (down n) → m ≡ n) exchanges) exchanges
-  -- a write or a sync failed in a statement exactly where it is answered so
-  pub failed : All (λ (r : Exchange). (0 < r.note.writes) ↔ (r.reply ≡ refused device)) exchanges
+  -- a write or a sync failed in a statement that is answered so, and in no other but one that stored a document,
+  -- in the cleanup that came by itself after it
+  pub failed : All (λ (r : Exchange). r.reply ≡ refused device → 0 < r.note.writes) exchanges
+  pub failed_only : All (λ (r : Exchange). 0 < r.note.writes → (r.reply ≡ refused device) ⊎ MayBeTidied r.reply)
+      exchanges
   pub called : All (λ (r : Exchange). 0 < r.note.faults → MayCall r.statement r.reply) exchanges
   -- each rise of the counts was in the opening or in a statement
   pub counted : All (λ (r : Exchange). (counts.faults_opened + r.note.faults ≤ r.note.count)

@@ -14,8 +14,8 @@ use Rattle.shell_script.specs.Docs.{Doc}
 use Rattle.engine.specs.Opened.{Settings}
 use Rattle.engine.specs.Db.{IsFlushed}
 use Rattle.engine.specs.Finding.{Name, History}
-use Rattle.shell_run.specs.Run.{Exchange, Counts, Before, Run, AreNoted, MayCall, HasSeen, stored, done, refused, down}
-use Rattle.shell_run.specs.Run.{CommitLine, shows_commits, device}
+use Rattle.shell_run.specs.Run.{Exchange, Counts, Before, Run, AreNoted, MayCall, HasSeen, stored, removed, done}
+use Rattle.shell_run.specs.Run.{refused, down, CommitLine, shows_commits, device}
 use Rattle.shell_run.specs.Script.{AreExchanges, printed_exchange}
 use Rattle.shell_run.specs.declared.sending.TheConstants.{PIECE_BYTES}
 use Rattle.shell_run.specs.Outcomes.{Answered}
@@ -54,11 +54,11 @@ NoFlushIsLate {D} disk =
     → (MayCall b.statement b.reply → ⊥) → a.note.clock < disk.clock new
     → RanOn disk settings first new (a ∷ b ∷ []) → ⊥
 
--- an insertion that is stored, and a store in which something waits for a flush at the end, though the
+-- a deletion that is done, and a store in which something waits for a flush at the end, though the
 -- statement after it makes no call
 abbrev pub NoFlushIsOwed : {D : Type 0} → Disk D → Type 0
 NoFlushIsOwed {D} disk =
-    (settings : Settings) (first new : D) (a b : Exchange) (n : Name) → a.reply ≡ stored n
+    (settings : Settings) (first new : D) (a b : Exchange) → a.reply ≡ removed
     → (MayCall b.statement b.reply → ⊥)
     → (r : RanOn disk settings first new (a ∷ b ∷ [])) → (IsFlushed r.last → ⊥) → ⊥
 

@@ -7,7 +7,7 @@ pub use Rattle.shell_script.specs.CommandWords.{IsForm}
 
 -- the settings of a store with these options: else the widest
 abbrev pub settings_for : Options → Settings
-settings_for options = record WIDEST { pages = options.pages }
+settings_for options = record WIDEST { pages = options.pages; pending = options.pending }
 
 -- a status that says of the whole run
 abbrev pub IsEnding : ℕ → Type 0

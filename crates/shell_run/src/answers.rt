@@ -6,8 +6,8 @@ ghost use Rattle.shell_script.specs.ReplyView.{refusal, reply, commit_line};
 ghost use Rattle.shell_script.specs.Docs.{Doc};
 ghost use Rattle.shell_script.specs.Grammar.{update};
 ghost use Rattle.shell_script.specs.StatementView.{statement, expr};
-ghost use Rattle.shell_run.specs.Inner.Refusing.{refusal_for, stored_reply, removed_reply, found_reply, names_line};
-ghost use Rattle.shell_run.specs.Inner.Refusing.{IsListReply};
+ghost use Rattle.shell_run.specs.Inner.Refusing.{refusal_for, stored_reply, removed_reply, cleaned_reply};
+ghost use Rattle.shell_run.specs.Inner.Refusing.{found_reply, names_line, IsListReply};
 ghost use Rattle.shell_run.specs.Inner.Answering.{HasAnswered};
 
 use crate::values::{ask_query, expr_value, query_value, show};
@@ -50,6 +50,16 @@ fn removed(answer: Result<(), DbError>) -> Reply
 {
     match answer {
         Ok(()) => Reply::Removed,
+        Err(error) => Reply::Refused(refusal_of(error)),
+    }
+}
+
+/// The reply to a cleanup.
+fn cleaned(answer: Result<(), DbError>) -> Reply
+    ensures { reply result ≡ cleaned_reply answer }
+{
+    match answer {
+        Ok(()) => Reply::Maintained,
         Err(error) => Reply::Refused(refusal_of(error)),
     }
 }
@@ -140,6 +150,7 @@ pub fn answer<D: Disk>(
             Ok(query) => found(store.search(pass, &query)),
             Err(why) => Reply::Refused(why),
         },
+        Statement::Cleanup => cleaned(store.cleanup(pass)),
         Statement::Show(from) => show(alloc, configs, &from),
         Statement::Ask(from) => ask_query(alloc, configs, &from),
         Statement::Parse(text) => Reply::Tokens(text),

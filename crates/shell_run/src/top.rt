@@ -46,6 +46,7 @@ fn settings_of(options: Options) -> Settings
 {
     Settings {
         pages: options.pages,
+        pending: options.pending,
         ..WIDEST
     }
 }

@@ -16,3 +16,4 @@ pub mod TypeLists
 pub mod NameLists
 pub mod Rising
 pub mod OneMapping
+pub mod WordCuts

@@ -99,6 +99,7 @@ pub data Statement : Type 0 where
   update : Doc → Expr → Statement
   delete : Doc → Statement
   search : QuerySource → Statement
+  clean_up : Statement
   show : Expr → Statement
   ask : QuerySource → Statement
   parse : List ℕ → Statement
@@ -112,6 +113,7 @@ body_tokens (insert e) = word (codes "insert") ∷ expr_tokens e
 body_tokens (update d e) = word (codes "update") ∷ word d.text ∷ expr_tokens e
 body_tokens (delete d) = word (codes "delete") ∷ word d.text ∷ []
 body_tokens (search q) = word (codes "search") ∷ query_tokens q
+body_tokens clean_up = word (codes "cleanup") ∷ []
 body_tokens (show e) = word (codes "show") ∷ expr_tokens e
 body_tokens (ask q) = word (codes "ask") ∷ query_tokens q
 body_tokens (parse text) = word (codes "parse") ∷ quote text ∷ []
@@ -133,6 +135,7 @@ HasSession s (insert e) = IsSession s
 HasSession s (update d e) = IsSession s
 HasSession s (delete d) = IsSession s
 HasSession s (search q) = IsSession s
+HasSession s clean_up = IsSession s
 HasSession s (show e) = s ≡ 0
 HasSession s (ask q) = s ≡ 0
 HasSession s (parse text) = s ≡ 0

@@ -35,11 +35,12 @@ pub record CommitLine : Type 0 where
   pub deleted : List Name
   pub inserted : List Name
 
--- A vector or a query is shown by its text, a text by its tokens, and commits in their order. A
--- definition is done.
+-- A vector or a query is shown by its text, a text by its tokens, and commits in their order. What
+-- maintains the store is answered so where it came to its end; a definition is done.
 pub data Reply : Type 0 where
   stored : Name → Reply
   removed : Reply
+  maintained : Reply
   lists : List Name → Reply
   shows_vector : List ℕ → Reply
   shows_query : List ℕ → Reply

@@ -12,7 +12,7 @@ use Rattle.shell_script.specs.declared.replies.Refusal.TheVariants.{Text, NoDocu
 use Rattle.shell_script.specs.declared.replies.Refusal.TheVariants.{TransactionsSpent, Down, Device, BadPage, Memory}
 use Rattle.shell_script.specs.declared.replies.CommitLine.{CommitLine}
 use Rattle.shell_script.specs.declared.replies.Reply.{Reply}
-use Rattle.shell_script.specs.declared.replies.Reply.TheVariants.{Stored, Removed, Lists, Vector}
+use Rattle.shell_script.specs.declared.replies.Reply.TheVariants.{Stored, Removed, Maintained, Lists, Vector}
 use Rattle.shell_script.specs.declared.replies.Reply.TheVariants.{Query, Tokens, Commits, Done, Refused}
 
 abbrev pub text_fault : TextFault → replies.TextFault
@@ -43,6 +43,7 @@ commit_line c = record { deleted = c.deleted.items; inserted = c.inserted.items 
 abbrev pub reply : Reply → replies.Reply
 reply (Stored n) = replies.stored n
 reply Removed = replies.removed
+reply Maintained = replies.maintained
 reply (Lists names) = replies.lists names.items
 reply (Vector text) = replies.shows_vector (string_bytes text)
 reply (Query text) = replies.shows_query (string_bytes text)

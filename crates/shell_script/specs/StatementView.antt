@@ -11,7 +11,7 @@ use Rattle.shell_script.specs.declared.sources.Part.{Part}
 use Rattle.shell_script.specs.declared.sources.Expr.{Expr}
 use Rattle.shell_script.specs.declared.docs.Doc.{Doc}
 use Rattle.shell_script.specs.declared.statement.Statement.{Statement}
-use Rattle.shell_script.specs.declared.statement.Statement.TheVariants.{Insert, Update, Delete, Search}
+use Rattle.shell_script.specs.declared.statement.Statement.TheVariants.{Insert, Update, Delete, Search, Cleanup}
 use Rattle.shell_script.specs.declared.statement.Statement.TheVariants.{Show, Ask, Parse, Commits, Invalid}
 
 abbrev pub vector_source : VectorSource → grammar.VectorSource
@@ -38,6 +38,7 @@ statement (Insert e) = grammar.insert (expr e)
 statement (Update d e) = grammar.update (doc d) (expr e)
 statement (Delete d) = grammar.delete (doc d)
 statement (Search q) = grammar.search (query_source q)
+statement Cleanup = grammar.clean_up
 statement (Show e) = grammar.show (expr e)
 statement (Ask q) = grammar.ask (query_source q)
 statement (Parse text) = grammar.parse (string_bytes text)

@@ -8,7 +8,7 @@ use Rattle.shell_script.specs.Replies.{TextFault, bad_vector, bad_query, long_le
 use Rattle.shell_script.specs.Replies.{Refusal, no_statement, no_configuration, no_dictionary, text_refused}
 use Rattle.shell_script.specs.Replies.{no_document, conflict, store_full, log_full, transactions_spent}
 use Rattle.shell_script.specs.Replies.{down, device, bad_page, memory}
-use Rattle.shell_script.specs.Replies.{CommitLine, Reply, stored, removed, lists, shows_vector}
+use Rattle.shell_script.specs.Replies.{CommitLine, Reply, stored, removed, maintained, lists, shows_vector}
 use Rattle.shell_script.specs.Replies.{shows_query, shows_tokens, shows_commits, done, refused}
 
 abbrev pub name_text : Name → List ℕ
@@ -87,6 +87,7 @@ names_after before names = flat_map (λ (n : Name). before ++ name_text n) names
 abbrev pub reply_text : Reply → List ℕ
 reply_text (stored name) = codes "ok " ++ name_text name
 reply_text removed = codes "ok"
+reply_text maintained = codes "ok"
 reply_text (lists names) = codes "found" ++ names_after (codes " ") names
 reply_text (shows_vector text) = codes "vector" ++ behind_space text
 reply_text (shows_query text) = codes "query" ++ behind_space text

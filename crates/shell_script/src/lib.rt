@@ -20,7 +20,10 @@ mod statement;
 mod texts;
 mod tokens;
 
-pub use command_words::{FEWEST_PAGES, MOST_PAGES, Options, USUAL_PAGES, options_of};
+pub use command_words::{
+    FEWEST_PAGES, FEWEST_PENDING, MOST_PAGES, MOST_PENDING, Options, USUAL_PAGES, USUAL_PENDING,
+    options_of,
+};
 pub use docs::Doc;
 pub use laws::{one_meaning, one_reading, one_spelling};
 pub use line::is_skipped;

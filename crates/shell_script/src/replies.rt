@@ -77,6 +77,8 @@ pub enum Reply {
     Stored(Name),
     /// The document was deleted.
     Removed,
+    /// The store was maintained, by a cleanup.
+    Maintained,
     /// The documents that a search found.
     Lists(Vec<Name>),
     /// The vector that was asked for.

@@ -29,6 +29,8 @@ pub enum Statement<'a> {
     Delete(Doc<'a>),
     /// The documents are asked for that satisfy a query.
     Search(QuerySource<'a>),
+    /// The pending list is to be moved into the index.
+    Cleanup,
     /// The text of an expression's vector is asked for.
     Show(Expr<'a>),
     /// The printed form of a query is asked for.
@@ -141,6 +143,9 @@ fn session_statement<'a>(alloc: Global, first: &[u8], rest: &'a str) -> Read<'a>
             return Ok(None);
         };
         return Ok(Some(Statement::Search(query)));
+    }
+    if is_word(first, "cleanup") && is_all_blank(rest) {
+        return Ok(Some(Statement::Cleanup));
     }
     Ok(None)
 }

@@ -166,7 +166,9 @@ fn push_reply(text: &mut Vec<u8>, answer: &Reply) -> Result<(), AllocError>
             text.extend_from_slice(b"commits ")?;
             push_number(text, commits.len() as u64)
         }
-        Reply::Removed | Reply::Tokens(_) | Reply::Done => text.extend_from_slice(b"ok"),
+        Reply::Removed | Reply::Maintained | Reply::Tokens(_) | Reply::Done => {
+            text.extend_from_slice(b"ok")
+        }
         Reply::Refused(why) => {
             text.extend_from_slice(b"error ")?;
             push_refusal(text, why)

@@ -93,6 +93,7 @@ const ASKING: &str = "\
     @1 delete\t4294967295/00#18446744073709551615 =ScriptLine { session: 1, statement: Delete(Doc { text: \
     ~4294967295/00#18446744073709551615~, name: Name { page: 4294967295, slot: 0, serial: 18446744073709551615 } }) };\
     \x20commits\t=ScriptLine { session: 0, statement: Commits };\
+    @3\tcleanup =ScriptLine { session: 3, statement: Cleanup };\
     @3\tinsert\tvector\t'é'\t=ScriptLine { session: 3, statement: Insert(Expr { first: Part { stripped: false, \
     source: Text(~é~) }, others: [] }) };\
     show c 'a b' || strip _d B 'c'=ScriptLine { session: 0, statement: Show(Expr { first: Part { stripped: false, \
@@ -118,7 +119,8 @@ const NO_STATEMENTS: &str = "\
     dictionary d simple;configuration c;parallel;show c a 'x';show c E 'x';show c A B 'x';show 9 'x';show c A;\
     show c 'x' || A strip 'x';ask c 'x';ask to 'x';ask to c;ask to vector 'x';ask To c 'x';ask to c A 'x';\
     ask web c 'x' 'x';commits now;@1 commits;delete 2/0#1;@1 delete 2/65536#1;@1 delete +2/0#1;@1 delete 2/0;\
-    @1 delete 2/0#;@1 delete 2/0#1 x;@1 update 2/0#1;@1 update vector 'a'";
+    @1 delete 2/0#;@1 delete 2/0#1 x;@1 update 2/0#1;@1 update vector 'a';cleanup;@1 cleanup 'a';@1 cleanup x;\
+    @1 Cleanup";
 
 /// The bytes of a line.
 fn bytes_of(alloc: Global, line: &str) -> Result<Vec<u8>, AllocError> {
@@ -212,6 +214,6 @@ fn scripts(rt: HostRuntime) -> Result<(), Fail> {
     try_rows(&rt, alloc, Kind::Script, STEPS, 8)?;
     try_rows(&rt, alloc, Kind::OpeningLine, OPENING_LINES, 32)?;
     try_rows(&rt, alloc, Kind::Mapping, MAPPINGS, 15)?;
-    try_rows(&rt, alloc, Kind::Statement, ASKING, 18)?;
-    try_rows(&rt, alloc, Kind::Statement, NO_STATEMENTS, 64)
+    try_rows(&rt, alloc, Kind::Statement, ASKING, 19)?;
+    try_rows(&rt, alloc, Kind::Statement, NO_STATEMENTS, 68)
 }

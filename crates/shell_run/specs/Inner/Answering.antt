@@ -10,18 +10,19 @@ use Rattle.engine.specs.Answers.{Pass}
 use Rattle.engine.specs.Finding.{Name}
 use Rattle.engine.specs.Db.{DbValue}
 use Rattle.engine.specs.Work.{Work, inserting, updating, deleting}
-use Rattle.engine.specs.Answers.{HasStored, HasDeleted, HasFound, HasListed, OnlyReads, TakesSnapshot}
+use Rattle.engine.specs.Answers.{HasDeleted, HasFound, HasListed, OnlyReads, TakesSnapshot}
+use Rattle.engine.specs.Cleaning.{HasMoved, HasCleaned, StoresThenTidies}
 use Rattle.engine.specs.Answers.{IsLawfulRefusal, MeetsNoBadPage}
 use Rattle.engine.specs.Going.{FaultIsTold}
 use Rattle.engine.specs.Standing.{GoesOn}
 use Rattle.engine.specs.declared.error.DbError.{DbError}
-use Rattle.shell_script.specs.Grammar.{Statement, insert, update, delete, search, show, ask, parse, list_commits}
-use Rattle.shell_script.specs.Grammar.{define, invalid}
+use Rattle.shell_script.specs.Grammar.{Statement, insert, update, delete, search, clean_up, show, ask, parse}
+use Rattle.shell_script.specs.Grammar.{list_commits, define, invalid}
 use Rattle.shell_script.specs.Replies.{Reply, refused, no_statement}
 use Rattle.shell_run.specs.Defining.{IsDefined}
 use Rattle.shell_run.specs.Values.{IsValueOf, ExprFails, IsQueryOf, QueryFails, IsRefusedBy, IsShown, IsQueried}
 use Rattle.shell_run.specs.Values.{IsParsed}
-use Rattle.shell_run.specs.Inner.Refusing.{stored_reply, removed_reply, found_reply, IsListReply}
+use Rattle.shell_run.specs.Inner.Refusing.{stored_reply, removed_reply, cleaned_reply, found_reply, IsListReply}
 
 module _ {D : Type 0} (device : Disk D) (old new : DbValue D) (pass pass' : Pass) where
   -- the store was not touched
@@ -40,16 +41,24 @@ module _ {D : Type 0} (device : Disk D) (old new : DbValue D) (pass pass' : Pass
       (answer : Result T DbError) × Has answer × FaultIsTold device old new answer × IfErr answer IsLawful
       × GoesOn device old new × TakesSnapshot old new pass pass' × IsReply answer r
 
-  -- what work is answered that stores a document, and what other work is
+  -- what work is answered that stores a document, after which a cleanup may come by itself, and what other work is
   abbrev pub HasStoredWork : Work → Reply → Type 0
   HasStoredWork w r =
-      HasCalled (HasStored device old new pass' w) (IsLawfulRefusal device old w)
-      (λ (a : Result Name DbError). λ r. r ≡ stored_reply a) r
+      (answer : Result Name DbError) × StoresThenTidies device old new pass' w answer
+      × IfErr answer (IsLawfulRefusal device old w) × GoesOn device old new × TakesSnapshot old new pass pass'
+      × (r ≡ stored_reply answer)
 
   abbrev pub HasRemoved : Work → Reply → Type 0
   HasRemoved w r =
       HasCalled (HasDeleted device old new pass' w) (IsLawfulRefusal device old w)
       (λ (a : Result (Unit {0}) DbError). λ r. r ≡ removed_reply a) r
+
+  -- what a cleanup is answered
+  abbrev pub HasTidied : Reply → Type 0
+  HasTidied r =
+      HasMoved device old new
+      × HasCalled (HasCleaned device old new) (MeetsNoBadPage device old)
+      (λ (a : Result (Unit {0}) DbError). λ r. r ≡ cleaned_reply a) r
 
   -- what a call is answered that only reads
   abbrev pub HasSearched : Query → Reply → Type 0
@@ -74,6 +83,7 @@ module _ {D : Type 0} (device : Disk D) (old new : DbValue D) (pass pass' : Pass
   HasAnswered known line (search s) r =
       HasOnlyAnswered (IsRefusedBy (QueryFails known s)) r
       ⊎ ((q : Query) × IsQueryOf known s q × HasSearched q r)
+  HasAnswered known line clean_up r = HasTidied r
   HasAnswered known line list_commits r = HasListedCommits r
   HasAnswered known line (show e) r = HasOnlyAnswered (IsShown known e) r
   HasAnswered known line (ask s) r = HasOnlyAnswered (IsQueried known s) r

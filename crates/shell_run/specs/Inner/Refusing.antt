@@ -38,7 +38,7 @@ line_refusal lines.StopInSample number = replies.no_statement number
 line_refusal lines.UnknownInSample number = replies.no_statement number
 line_refusal lines.Memory number = replies.memory
 
--- the replies to an insertion or an update, to a deletion, and to a search
+-- the replies to an insertion or an update, to a deletion, to a cleanup, and to a search
 abbrev pub stored_reply : Result Name DbError → replies.Reply
 stored_reply (Ok n) = replies.stored n
 stored_reply (Err e) = replies.refused (refusal_for e)
@@ -46,6 +46,10 @@ stored_reply (Err e) = replies.refused (refusal_for e)
 abbrev pub removed_reply : {T : Type 0} → Result T DbError → replies.Reply
 removed_reply (Ok done) = replies.removed
 removed_reply (Err e) = replies.refused (refusal_for e)
+
+abbrev pub cleaned_reply : {T : Type 0} → Result T DbError → replies.Reply
+cleaned_reply (Ok done) = replies.maintained
+cleaned_reply (Err e) = replies.refused (refusal_for e)
 
 abbrev pub found_reply : Result (Vec Name Global) DbError → replies.Reply
 found_reply (Ok names) = replies.lists names.items
