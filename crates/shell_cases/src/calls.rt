@@ -40,21 +40,24 @@ insert a:1 | 2/1#2
 insert a:1 | transactions spent
 delete 2/0#1 | transactions spent
 delete 2/2#3 | no document
+cleanup |
 search a | 2/0#1 2/1#2";
 
-/// What is refused is never found.
+/// What is refused is never found. A cleanup has no room for its first record.
 const SHORT_ROWS: &str = "\
 insert a:1 | 2/0#1
 insert a:1 | log full
 search a | 2/0#1
 delete 2/0#1 | log full
 update 2/0#1 a:2 | log full
+cleanup | log full
 search a | 2/0#1";
 
 const JUST_ROWS: &str = "\
 insert a:1 | 2/0#1
 insert a:1 | 2/1#2
 insert a:1 | log full
+cleanup | log full
 search a | 2/0#1 2/1#2";
 
 const BARELY_ROWS: &str = "\
@@ -62,15 +65,19 @@ insert a:1 | 2/0#1
 insert a:1 | 2/1#2
 delete 2/0#1 | log full
 delete 2/0#1 | log full
+cleanup | log full
 search a | 2/0#1 2/1#2";
 
 /// Such a store, opened again with the widest limits: after one document, and after two.
 const ONE_ROWS: &str = "\
 search a | 2/0#1
+cleanup |
 insert a:1 | 2/1#2
 search a | 2/0#1 2/1#2";
 
 const WIDE_ROWS: &str = "\
+search a | 2/0#1 2/1#2
+cleanup |
 search a | 2/0#1 2/1#2
 delete 2/0#1 |
 delete 2/0#1 | no document
@@ -82,13 +89,16 @@ const SHARED_ROWS: &str = "\
 insert a:1 | 2/0#1
 other search a | 2/0#1
 other insert a:2 | 2/1#2
+cleanup |
 search a | 2/0#1 2/1#2
 other update 2/0#1 a:3 | 2/2#3
 delete 2/0#1 | no document
 insert b:1 | 2/3#4
 other delete 2/1#2 |
 search a | 2/2#3
-other search b | 2/3#4";
+other search b | 2/3#4
+other cleanup |
+search a | 2/2#3";
 
 /// What a call answers.
 type Answer = Result<Vec<Name>, DbError>;
@@ -148,6 +158,10 @@ fn answer(alloc: Global, store: &mut Db<MemoryDisk>, pass: &mut Pass, call: &str
     let (first, rest) = words.split_once(' ').unwrap_or((words, ""));
     if verb == "delete" {
         store.delete(pass, name_of(first))?;
+        return Ok(Vec::new(alloc));
+    }
+    if verb == "cleanup" {
+        store.cleanup(pass)?;
         return Ok(Vec::new(alloc));
     }
     let (old, text) = if verb == "update" {

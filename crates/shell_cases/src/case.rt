@@ -4,6 +4,7 @@ use crate::edits::open_edits;
 use crate::runs::{PIECE, Script, Shell, empty, holding, log_of, only};
 use crate::short::expanded;
 use crate::tally::Tally;
+use crate::tidied::{CLEANUP, DONE, with_after_each};
 use anyhow::{Context, Result, ensure};
 use disk_trait::{MemoryDisk, MemorySink};
 use shell_run::{NoGate, run_shell};
@@ -27,6 +28,8 @@ struct RunFiles<'a> {
     suffix: &'a str,
     /// Whether the texts are written short.
     short: bool,
+    /// Whether each statement of a session has a cleanup after it.
+    tidied: bool,
 }
 
 impl RunFiles<'_> {
@@ -55,11 +58,27 @@ impl RunFiles<'_> {
         }
     }
 
-    /// A text, if it is there.
+    /// A text as it is meant, if it is there.
     fn text(&self, rt: &(impl Files + AllocGlobal), name: &str) -> Result<Option<Vec<u8>>> {
         match self.known(rt, name)? {
             Some(bytes) if self.short => {
                 let text = expanded(rt.alloc(), str::from_utf8(&bytes)?)?;
+                Ok(Some(text.into_bytes()))
+            }
+            known => Ok(known),
+        }
+    }
+
+    /// A text, if it is there, with this line after each line of a session, where it has cleanups.
+    fn tidied_text(
+        &self,
+        rt: &(impl Files + AllocGlobal),
+        name: &str,
+        line: &str,
+    ) -> Result<Option<Vec<u8>>> {
+        match self.text(rt, name)? {
+            Some(bytes) if self.tidied => {
+                let text = with_after_each(rt.alloc(), str::from_utf8(&bytes)?, line)?;
                 Ok(Some(text.into_bytes()))
             }
             known => Ok(known),
@@ -80,7 +99,7 @@ impl RunFiles<'_> {
 
     /// What the run is given, if it has a script.
     fn inputs(&self, rt: &(impl Files + AllocGlobal)) -> Result<Option<Inputs>> {
-        let Some(script) = self.text(rt, "script")? else {
+        let Some(script) = self.tidied_text(rt, "script", CLEANUP)? else {
             return Ok(None);
         };
         let piece = self.number(rt, "piece")?.unwrap_or(PIECE as u64);
@@ -96,11 +115,16 @@ impl RunFiles<'_> {
     /// What the run is to print, how it is to end, and what it is to leave.
     fn wanted(&self, rt: &(impl Files + AllocGlobal)) -> Result<Wanted> {
         let status = self.number(rt, "status")?;
-        let text = self.text(rt, "expected")?;
+        let text = self.tidied_text(rt, "expected", DONE)?;
+        let left = if self.tidied {
+            None
+        } else {
+            self.known(rt, "left")?
+        };
         Ok(Wanted {
             status: status.context("a run ends with a status")?,
             text: text.context("a run prints a text")?,
-            left: self.known(rt, "left")?,
+            left,
         })
     }
 }
@@ -192,7 +216,29 @@ fn store_of(rt: &(impl Files + AllocGlobal), files: &RunFiles<'_>) -> Result<Mem
     Ok(holding(rt.alloc(), bytes, only(rt.alloc(), fails)))
 }
 
-/// Runs a case: its runs, one after another over one store, and the edits of the log that they leave.
+/// Runs the runs of a case, one after another over one store, which is then as they leave it.
+fn run_each<R>(
+    shell: &Shell<'_, R>,
+    name: &str,
+    first: &RunFiles<'_>,
+    tally: &mut Tally,
+) -> Result<MemoryDisk>
+where
+    R: Threads + Wait + Sync + Print + AllocGlobal + Files,
+{
+    let mut files = *first;
+    let mut store = store_of(shell.rt, first)?;
+    for suffix in SUFFIXES {
+        files.suffix = suffix;
+        if !has_run(shell, name, &files, &mut store, tally)? {
+            break;
+        }
+    }
+    Ok(store)
+}
+
+/// Runs a case: its runs, the edits of the log that they leave, and where it has the file `tidied` its runs once more,
+/// with cleanups.
 pub fn run_case<R>(
     shell: &Shell<'_, R>,
     name: &str,
@@ -206,17 +252,16 @@ where
         folder,
         suffix: "",
         short: false,
+        tidied: false,
     };
     files.short = files.known(shell.rt, "short")?.is_some();
-    let first = files;
-    let mut store = store_of(shell.rt, &first)?;
     let before = tally.runs;
-    for suffix in SUFFIXES {
-        files.suffix = suffix;
-        if !has_run(shell, name, &files, &mut store, tally)? {
-            break;
-        }
-    }
+    let mut store = run_each(shell, name, &files, tally)?;
     ensure!(tally.runs > before, "a case has a script");
-    run_edits(shell, name, &first, &mut store, tally)
+    run_edits(shell, name, &files, &mut store, tally)?;
+    if files.known(shell.rt, "tidied")?.is_some() {
+        files.tidied = true;
+        run_each(shell, name, &files, tally)?;
+    }
+    Ok(())
 }

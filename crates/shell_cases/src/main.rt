@@ -17,6 +17,7 @@ mod short;
 mod stops;
 mod streams;
 mod tally;
+mod tidied;
 
 use anyhow::{Context, Result};
 use bench_base::names_in;
