@@ -1,11 +1,13 @@
 // A folder with a log, what is wanted of it, its walks and its edits.
-use crate::history::{history_lines, record_line};
+use crate::history::{commit_line, record_line};
 use crate::judge::{Beginning, Judged, Verdict, judge, records_of};
 use crate::lines::{say, say_counts};
+use crate::parts::test_parts;
 use crate::same::same_in_front;
 use crate::walks::test_walks;
 use anyhow::{Context, Result};
 use bench_base::EditLine;
+use log_walks::Ledger;
 use page_types::Record;
 use std::alloc::Global;
 use std::fs;
@@ -33,22 +35,22 @@ fn is_valid(verdict: Verdict, number: u64) -> bool {
     }
 }
 
-/// Prints each line of which the other text has another; it says how many these are.
-fn compare(rt: &impl Print, what: &str, wanted: &str, lines: &[String]) -> Result<usize> {
-    let mut differ = 0usize;
-    let mut wanted = wanted.lines();
-    for line in lines {
-        let other = wanted.next().unwrap_or("nothing");
-        if line.as_str() != other {
-            say(rt, &[what, ": wanted \"", other, "\""])?;
-            differ = differ.saturating_add(1);
-        }
+/// Whether a printed line differs from the wanted one, which is printed then.
+fn differs(rt: &impl Print, what: &str, line: &str, wanted: &str) -> Result<bool> {
+    if line == wanted {
+        return Ok(false);
     }
-    if let Some(other) = wanted.next() {
-        say(rt, &[what, ": wanted also \"", other, "\""])?;
-        differ = differ.saturating_add(1);
-    }
-    Ok(differ)
+    say(rt, &[what, ": wanted \"", wanted, "\""])?;
+    Ok(true)
+}
+
+/// Prints the next wanted line, to which nothing corresponds; it says how many differ with it.
+fn print_rest(rt: &impl Print, what: &str, wanted: Option<&str>, differ: usize) -> Result<usize> {
+    let Some(wanted) = wanted else {
+        return Ok(differ);
+    };
+    say(rt, &[what, ": wanted also \"", wanted, "\""])?;
+    Ok(differ.saturating_add(1))
 }
 
 /// How many of the records are valid.
@@ -68,15 +70,16 @@ fn print_line(rt: &impl Print, line: &str, valid: bool) -> Result<()> {
     say(rt, &[line, ": ", said])
 }
 
-/// Prints a record with its verdict; its line without that.
+/// Prints a record with its verdict; whether its line differs from the wanted one.
 fn print_record(
     rt: &(impl Print + AllocGlobal),
     record: &Record,
     verdict: Verdict,
-) -> Result<String> {
+    wanted: &str,
+) -> Result<bool> {
     let line = record_line(rt.alloc(), record)?;
     print_line(rt, line.as_str(), is_valid(verdict, record.number))?;
-    Ok(line)
+    differs(rt, "records", line.as_str(), wanted)
 }
 
 /// The text of a file of the folder.
@@ -84,17 +87,22 @@ fn text_in<R: Files + AllocGlobal>(rt: &R, folder: Path<'_>, name: &str) -> Resu
     Ok(fs::read_to_string(rt, &folder.join(rt.alloc(), name)?)?)
 }
 
-/// Prints records with their verdicts; their lines without these.
+/// Prints records with their verdicts; it says how many lines differ from those of a text.
 fn print_each(
     rt: &(impl Print + AllocGlobal),
     records: &[Record],
     verdict: Verdict,
-) -> Result<Vec<String>> {
-    let mut lines = Vec::new(rt.alloc());
+    text: &str,
+) -> Result<usize> {
+    let mut wanted = text.lines();
+    let mut differ = 0usize;
     for record in records {
-        lines.push(print_record(rt, record, verdict)?)?;
+        let line = wanted.next().unwrap_or("nothing");
+        if print_record(rt, record, verdict, line)? {
+            differ = differ.saturating_add(1);
+        }
     }
-    Ok(lines)
+    print_rest(rt, "records", wanted.next(), differ)
 }
 
 /// Prints the records with their verdicts, or of a long log how many there are; it says how many lines differ.
@@ -108,9 +116,33 @@ fn print_records<R: Files + Print + AllocGlobal>(
         say_counts(rt, count, "records", count_valid(judged), "of them valid")?;
         return Ok(0);
     }
-    let lines = print_each(rt, &judged.records, judged.verdict)?;
     let wanted = text_in(rt, folder, "records")?;
-    compare(rt, "records", wanted.as_str(), &lines)
+    print_each(rt, &judged.records, judged.verdict, wanted.as_str())
+}
+
+/// Prints a line of the history; whether it differs from the wanted one.
+fn print_commit(
+    rt: &(impl Print + AllocGlobal),
+    ledger: &Ledger,
+    commit: u32,
+    wanted: &str,
+) -> Result<bool> {
+    let line = commit_line(rt.alloc(), ledger, commit)?;
+    say(rt, &[line.as_str()])?;
+    differs(rt, "commits", line.as_str(), wanted)
+}
+
+/// Prints the history, a line a commit and one for their number; it says how many lines differ from those of a text.
+fn print_commits(rt: &(impl Print + AllocGlobal), ledger: &Ledger, text: &str) -> Result<usize> {
+    let mut wanted = text.lines();
+    let mut differ = 0usize;
+    for commit in 1..ledger.commits.saturating_add(2) {
+        let line = wanted.next().unwrap_or("nothing");
+        if print_commit(rt, ledger, commit, line)? {
+            differ = differ.saturating_add(1);
+        }
+    }
+    print_rest(rt, "commits", wanted.next(), differ)
 }
 
 /// Prints the history; it says how many lines differ.
@@ -119,12 +151,8 @@ fn print_history<R: Files + Print + AllocGlobal>(
     folder: Path<'_>,
     judged: &Judged,
 ) -> Result<usize> {
-    let lines = history_lines(rt.alloc(), &judged.ledger)?;
-    for line in &lines {
-        say(rt, &[line.as_str()])?;
-    }
     let wanted = text_in(rt, folder, "commits")?;
-    compare(rt, "commits", wanted.as_str(), &lines)
+    print_commits(rt, &judged.ledger, wanted.as_str())
 }
 
 /// How many first records each edit leaves as they are in the log with these.
@@ -223,6 +251,19 @@ fn test_each(
     Ok((count, differ))
 }
 
+/// Tests these edits of a log, and prints how many there are; it says how many lines differ.
+fn test_lines(
+    rt: &(impl Print + AllocGlobal),
+    edits: &str,
+    log: &[u8],
+    beginning: &Beginning,
+    asks: Asks,
+) -> Result<usize> {
+    let (count, differ) = test_each(rt, edits, log, beginning, asks)?;
+    say_counts(rt, count, "edits", differ, "differ")?;
+    Ok(differ)
+}
+
 /// Tests all edits of a log; it says how many lines differ.
 fn test_edits<R: Files + Print + AllocGlobal>(
     rt: &R,
@@ -233,9 +274,14 @@ fn test_edits<R: Files + Print + AllocGlobal>(
 ) -> Result<usize> {
     let edits = text_in(rt, folder, "edits")?;
     let beginning = beginning_of(rt.alloc(), log, judged, edits.as_str(), asks.index)?;
-    let (count, differ) = test_each(rt, edits.as_str(), log, &beginning, asks)?;
-    say_counts(rt, count, "edits", differ, "differ")?;
-    Ok(differ)
+    test_lines(rt, edits.as_str(), log, &beginning, asks)
+}
+
+/// Prints a verdict, with the rule that is broken, if one is.
+fn print_verdict(rt: &(impl Print + AllocGlobal), verdict: Verdict) -> Result<()> {
+    let (broken, rule) = verdict.rule();
+    let text = verdict.text(rt.alloc())?;
+    say(rt, &[text.as_str(), broken, rule])
 }
 
 /// Prints what a log is: its records, the verdict and the history; it says how many lines differ.
@@ -245,11 +291,25 @@ fn print_judged<R: Files + Print + AllocGlobal>(
     judged: &Judged,
 ) -> Result<usize> {
     let records = print_records(rt, folder, judged)?;
-    let (broken, rule) = judged.verdict.rule();
-    let verdict = judged.verdict.text(rt.alloc())?;
-    say(rt, &[verdict.as_str(), broken, rule])?;
+    print_verdict(rt, judged.verdict)?;
     let history = print_history(rt, folder, judged)?;
     Ok(records.saturating_add(history))
+}
+
+/// Tests what a log is, its walks and its edits; it says how many lines differ.
+fn test_judged<R: Files + Print + AllocGlobal>(
+    rt: &R,
+    folder: Path<'_>,
+    log: &[u8],
+    judged: &Judged,
+    asks: Asks,
+) -> Result<usize> {
+    let printed = print_judged(rt, folder, judged)?;
+    let parts = test_parts(rt, &judged.records, asks)?;
+    let walks = test_walks(rt, folder, &judged.records)?;
+    let edits = test_edits(rt, folder, log, judged, asks)?;
+    let found = walks.saturating_add(parts);
+    Ok(printed.saturating_add(found).saturating_add(edits))
 }
 
 /// Tests a log of a folder; it says how many lines differ.
@@ -261,10 +321,7 @@ fn test_log<R: Files + Print + AllocGlobal>(
 ) -> Result<usize> {
     let alloc = rt.alloc();
     let judged = judge(alloc, log, &Beginning::new(alloc), asks.index)?;
-    let printed = print_judged(rt, folder, &judged)?;
-    let walks = test_walks(rt, folder, &judged.records)?;
-    let edits = test_edits(rt, folder, log, &judged, asks)?;
-    Ok(printed.saturating_add(walks).saturating_add(edits))
+    test_judged(rt, folder, log, &judged, asks)
 }
 
 /// Tests the log of a folder, its walks and its edits; it says how many lines differ.

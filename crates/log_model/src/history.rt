@@ -109,35 +109,27 @@ fn push_docs(line: &mut String, piece: &str, docs: &[Doc]) -> Result<(), AllocEr
     Ok(())
 }
 
-/// A commit: the names that it deletes, and those that it inserts.
-fn commit_line(
-    alloc: Global,
+/// Puts a commit into an empty line: the names that it deletes, and those that it inserts.
+fn push_commit(
+    line: &mut String,
     commit: u32,
     transaction: &Transaction,
+) -> Result<(), AllocError> {
+    push_number(line, "commit ", u64::from(commit))?;
+    push_docs(line, " -", &transaction.marked)?;
+    push_docs(line, " +", &transaction.placed)
+}
+
+/// A line of the history: a commit with its names, or after the last one how many there are.
+pub(crate) fn commit_line(
+    alloc: Global,
+    ledger: &Ledger,
+    commit: u32,
 ) -> Result<String, AllocError> {
     let mut line = String::new(alloc);
-    push_number(&mut line, "commit ", u64::from(commit))?;
-    push_docs(&mut line, " -", &transaction.marked)?;
-    push_docs(&mut line, " +", &transaction.placed)?;
-    Ok(line)
-}
-
-/// How many commits there are.
-fn commits_line(alloc: Global, commits: u32) -> Result<String, AllocError> {
-    let mut line = String::new(alloc);
-    push_number(&mut line, "commits ", u64::from(commits))?;
-    Ok(line)
-}
-
-/// The history: a line a commit, and how many there are.
-pub(crate) fn history_lines(alloc: Global, ledger: &Ledger) -> Result<Vec<String>, AllocError> {
-    let mut lines = Vec::new(alloc);
-    for number in 0..ledger.commits {
-        let commit = number.saturating_add(1);
-        if let Some(transaction) = transaction_of(ledger, commit) {
-            lines.push(commit_line(alloc, commit, transaction)?)?;
-        }
+    match transaction_of(ledger, commit) {
+        Some(transaction) => push_commit(&mut line, commit, transaction)?,
+        None => push_number(&mut line, "commits ", u64::from(ledger.commits))?,
     }
-    lines.push(commits_line(alloc, ledger.commits)?)?;
-    Ok(lines)
+    Ok(line)
 }

@@ -24,6 +24,8 @@
 //! state has to say what they say after each record. Where it doesn't the verdict is `record N is another to the
 //! core`.
 //!
+//! In `index-logs` each document's keys are in one part of the index after each record.
+//!
 //! Each document of a walk's snapshot that satisfies the query has to be kept, and each that has a yes to satisfy it.
 //!
 //! In `index-logs` a commit asks that its documents are indexed, in `logs` not. Printed are each record of the log
@@ -38,6 +40,7 @@ mod history;
 mod images;
 mod judge;
 mod lines;
+mod parts;
 mod prefix;
 mod same;
 mod told;

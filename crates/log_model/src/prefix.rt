@@ -98,6 +98,12 @@ impl Prefix {
         )
     }
 
+    /// A record may follow, which leaves pages with these bytes, and the core finds the same.
+    fn must_be_valid(&self, step: &Step<'_>, bytes: &[LeftBytes]) -> Result<(), Fault> {
+        must_find(&self.state, step, bytes)?;
+        row(step)
+    }
+
     /// The pages that a record leaves, where it may follow.
     fn pages_behind(
         &self,
@@ -112,8 +118,7 @@ impl Prefix {
             asks_index,
         };
         let step = Step::new(alloc, &self.store, &self.ledger, record, bytes, terms)?;
-        must_find(&self.state, &step, bytes)?;
-        row(&step)?;
+        self.must_be_valid(&step, bytes)?;
         Ok(step.into_left()?)
     }
 
@@ -130,6 +135,14 @@ impl Prefix {
         must_choose(&self.state, &self.ledger, &self.store, &tried, record)
     }
 
+    /// A record comes whose pages have the bytes that it leaves, where it is valid.
+    fn extend(&mut self, alloc: Global, record: &Record, asks_index: bool) -> Result<(), Fault> {
+        let bytes = self.store.bytes_behind(alloc, record)?;
+        let left = self.pages_behind(alloc, record, &bytes, asks_index)?;
+        self.put(alloc, record, left)?;
+        Ok(self.store.put_bytes(bytes)?)
+    }
+
     /// One of these records comes after those before it, of which this is the log, where it is valid.
     pub(crate) fn follow(
         &mut self,
@@ -139,11 +152,8 @@ impl Prefix {
         asks_index: bool,
     ) -> Result<(), Fault> {
         self.must_begin(record)?;
-        let bytes = self.store.bytes_behind(alloc, record)?;
-        let left = self.pages_behind(alloc, record, &bytes, asks_index)?;
         must_have_images(alloc, &self.store, self.ledger.redo, records, record)?;
-        self.put(alloc, record, left)?;
-        self.store.put_bytes(bytes)?;
+        self.extend(alloc, record, asks_index)?;
         self.must_choose(alloc, record)
     }
 }

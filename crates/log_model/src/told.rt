@@ -1,8 +1,13 @@
 // What the core says of a log: its tests of the kinds of records that it has, and its state.
+ghost use Rattle.std.specs.Prelude.{IfOk};
+ghost use Rattle.std.specs.List.{All};
+ghost use Rattle.page_types.specs.Pages.{IsPage};
+
 use core_state::{
-    Fate, PageUse, State, XID_BOUND, valid_abort, valid_add_row, valid_begin, valid_commit,
-    valid_create, valid_link_pending, valid_mark_deleted, valid_place_head, valid_put_overflow,
-    valid_put_pending,
+    Fate, PageUse, State, XID_BOUND, valid_abort, valid_add_items, valid_add_postings,
+    valid_add_row, valid_begin, valid_commit, valid_create, valid_grow_root, valid_link_pending,
+    valid_make_tree, valid_mark_deleted, valid_place_head, valid_put_overflow, valid_put_pending,
+    valid_shift, valid_split,
 };
 use log_rows::{Step, here};
 use log_walks::{Doc, Fault, Ledger, LeftBytes, LeftPage, Rules, Store, Transaction, must};
@@ -22,7 +27,9 @@ pub(crate) fn empty_state(alloc: Global) -> State {
 }
 
 /// The page that the bytes encode.
-fn page_of(alloc: Global, bytes: &[u8]) -> Result<Page, Fault> {
+fn page_of(alloc: Global, bytes: &[u8]) -> Result<Page, Fault>
+    ensures { IfOk result IsPage }
+{
     match decode_page(alloc, bytes) {
         Ok(page) => Ok(page),
         Err(PageError::OutOfMemory) => Err(Fault::OutOfMemory),
@@ -33,7 +40,9 @@ fn page_of(alloc: Global, bytes: &[u8]) -> Result<Page, Fault> {
 }
 
 /// A page of the store; one that no record has changed is of zeros.
-fn page_before(alloc: Global, store: &Store, page: u32) -> Result<Page, Fault> {
+fn page_before(alloc: Global, store: &Store, page: u32) -> Result<Page, Fault>
+    ensures { IfOk result IsPage }
+{
     match store.bytes(page) {
         Some(bytes) => page_of(alloc, bytes.as_slice()),
         None => page_of(alloc, &zero_page(alloc)?),
@@ -51,7 +60,12 @@ struct Pages {
 
 impl Pages {
     /// One page more.
-    fn push(&mut self, alloc: Global, store: &Store, left: &LeftBytes) -> Result<(), Fault> {
+    fn push(&mut self, alloc: Global, store: &Store, left: &LeftBytes) -> Result<(), Fault>
+        requires before { All IsPage self.old.before.items }
+        requires behind { All IsPage self.old.behind.items }
+        ensures before { All IsPage self.new.before.items }
+        ensures behind { All IsPage self.new.behind.items }
+    {
         let before = page_before(alloc, store, left.page)?;
         self.before.push(before)?;
         let behind = page_of(alloc, left.bytes.as_slice())?;
@@ -60,7 +74,10 @@ impl Pages {
 }
 
 /// The pages that a record changes, which have these bytes after it.
-fn pages_of(alloc: Global, store: &Store, bytes: &[LeftBytes]) -> Result<Pages, Fault> {
+fn pages_of(alloc: Global, store: &Store, bytes: &[LeftBytes]) -> Result<Pages, Fault>
+    ensures before { IfOk result (λ p. All IsPage p.before.items) }
+    ensures behind { IfOk result (λ p. All IsPage p.behind.items) }
+{
     let mut pages = Pages {
         before: Vec::new(alloc),
         behind: Vec::new(alloc),
@@ -134,6 +151,27 @@ fn test_rows(state: &State, record: &Record, pages: &Pages) -> Result<Option<boo
     Ok(Some(found?))
 }
 
+/// The same of a record that changes the index.
+fn test_index(state: &State, record: &Record, pages: &Pages) -> Result<Option<bool>, AllocError>
+    requires before { All IsPage pages.now.before.items }
+    requires behind { All IsPage pages.now.behind.items }
+{
+    let floor = state.commits();
+    let since = record.number;
+    let before = pages.before.as_slice();
+    let behind = pages.behind.as_slice();
+    let found = match record.kind {
+        Kind::Shift => valid_shift(state, record, before, behind, floor, since),
+        Kind::AddItems => valid_add_items(state, record, before, behind, floor, since),
+        Kind::MakeTree => valid_make_tree(state, record, before, behind, floor, since),
+        Kind::AddPostings => valid_add_postings(state, record, before, behind, floor, since),
+        Kind::GrowRoot => valid_grow_root(state, record, before, behind, floor, since),
+        Kind::Split => valid_split(state, record, before, behind, floor, since),
+        _ => return Ok(None),
+    };
+    Ok(Some(found?))
+}
+
 /// Whether the core finds that a record may come next, as far as its pages before and after it
 /// say; none of a kind without a test.
 fn core_finds(state: &State, step: &Step<'_>, bytes: &[LeftBytes]) -> Result<Option<bool>, Fault> {
@@ -145,6 +183,12 @@ fn core_finds(state: &State, step: &Step<'_>, bytes: &[LeftBytes]) -> Result<Opt
         Kind::PutPending { .. } | Kind::AddRow { .. } | Kind::LinkPending { .. } => {
             test_rows(state, step.record, &pages)
         }
+        Kind::Shift
+        | Kind::AddItems
+        | Kind::MakeTree
+        | Kind::AddPostings
+        | Kind::GrowRoot
+        | Kind::Split => test_index(state, step.record, &pages),
         _ => test_transaction(state, step.record, &pages),
     };
     Ok(found?)

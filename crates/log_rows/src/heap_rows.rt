@@ -1,10 +1,11 @@
 // The rows of the kinds 6 to 8: heads are placed and marked, parts of long vectors are put.
-use crate::slots::{head_comes, head_in};
+use crate::slots::{head_comes, head_in, with_deleting, with_overflow};
 use crate::step::{Changed, LEFT, RIGHT, Step};
 use log_walks::{
-    Doc, Fate, Fault, PlainBody, Rules, has_no_pair, head_of, must, need, slots_in, whole_keys,
+    Doc, Fate, Fault, PlainBody, PlainHead, Rules, has_no_pair, head_of, must, need, slots_in,
+    whole_keys,
 };
-use page_types::{HeadFields, MOST_BODY_BYTES, MOST_SHORT_BYTES};
+use page_types::{MOST_BODY_BYTES, MOST_SHORT_BYTES};
 
 /// A head may come to the page: an old heap page, which keeps its right link, or a new page, whose right link is 0.
 fn may_take_head(step: &Step<'_>, heap: &Changed<'_>) -> Rules {
@@ -15,7 +16,8 @@ fn may_take_head(step: &Step<'_>, heap: &Changed<'_>) -> Rules {
 }
 
 /// A new head has this serial and the record's xid, the deleting xid 0 and two empty chains.
-fn is_new_head(step: &Step<'_>, doc: Doc, fields: HeadFields) -> bool {
+fn is_new_head(step: &Step<'_>, doc: Doc, head: &PlainHead) -> bool {
+    let fields = &head.fields;
     fields.serial == doc.serial
         && fields.inserted_by == step.record.xid
         && fields.deleted_by == 0
@@ -36,7 +38,7 @@ pub(crate) fn place_head_here(step: &Step<'_>, doc: Doc) -> Result<(), Fault> {
         .and(is_next, "the serial is the next")
         .then(may_take_head(step, heap))
         .and(
-            is_new_head(step, doc, head.fields),
+            is_new_head(step, doc, head),
             "the head is a new one of the record",
         )
         .and(head_comes(was, left, doc.slot()), LEFT)
@@ -62,19 +64,19 @@ fn has_part(new: &Changed<'_>, is_last: bool) -> bool {
 /// first overflow page and becomes the first; it holds 8168 bytes unless it ends the chain.
 pub(crate) fn put_overflow_here(step: &Step<'_>, doc: Doc) -> Result<(), Fault> {
     let (heap, new) = step.two()?;
-    let fields = step.own_head(doc)?.fields;
-    let overflow = new.page;
+    let head = step.own_head(doc)?;
+    let first = head.fields.overflow;
     step.is_new(new)
         .and(
-            fields.bytes > MOST_SHORT_BYTES,
+            head.fields.bytes > MOST_SHORT_BYTES,
             "the vector is too long for its head",
         )
         .and(
-            has_part(new, fields.overflow == 0),
+            has_part(new, first == 0),
             "the new page has a part of the vector",
         )
-        .and(new.leads_to(fields.overflow), RIGHT)
-        .then(heap.gives_head(doc, HeadFields { overflow, ..fields }))
+        .and(new.leads_to(first), RIGHT)
+        .then(heap.gives_head(doc, with_overflow(head, new.page)))
         .end()
 }
 
@@ -86,26 +88,31 @@ pub(crate) fn put_overflow(step: &Step<'_>, doc: Doc) -> Result<(), Fault> {
     must(keys.is_none(), "the document isn't whole")
 }
 
+/// Whether the transaction that inserted the document has committed.
+fn is_inserted(step: &Step<'_>, head: &PlainHead) -> bool {
+    matches!(
+        step.ledger.fate(head.fields.inserted_by),
+        Fate::Committed(_)
+    )
+}
+
+/// Whether no transaction has marked the document deleted but an aborted one.
+fn is_unmarked(step: &Step<'_>, head: &PlainHead) -> bool {
+    let by = head.fields.deleted_by;
+    by == 0 || step.ledger.fate(by) == Fate::Aborted
+}
+
 /// 8 MarkDeleted: the xid runs; the slot's head has the serial, its inserting xid has committed, its deleting xid was 0
 /// or an aborted one and becomes the xid.
 pub(crate) fn mark_deleted(step: &Step<'_>, doc: Doc) -> Result<(), Fault> {
     let heap = step.one()?;
     let head = need(head_of(step.store, doc), "the slot's head has the serial")?;
-    let fields = head.fields;
-    let inserted = step.ledger.fate(fields.inserted_by);
-    let committed = matches!(inserted, Fate::Committed(_));
-    let deleted = step.ledger.fate(fields.deleted_by);
-    let unmarked = fields.deleted_by == 0 || deleted == Fate::Aborted;
-    let deleted_by = step.record.xid;
     step.runs()
-        .and(committed, "the inserting xid has committed")
-        .and(unmarked, "the deleting xid was 0 or an aborted one")
-        .then(heap.gives_head(
-            doc,
-            HeadFields {
-                deleted_by,
-                ..fields
-            },
-        ))
+        .and(is_inserted(step, head), "the inserting xid has committed")
+        .and(
+            is_unmarked(step, head),
+            "the deleting xid was 0 or an aborted one",
+        )
+        .then(heap.gives_head(doc, with_deleting(head, step.record.xid)))
         .end()
 }

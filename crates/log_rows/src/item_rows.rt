@@ -4,7 +4,7 @@ use crate::sizes::item_list;
 use crate::step::{Changed, RIGHT, Step};
 use log_walks::{
     Fault, KeyLeaf, PlainEntry, PlainPostings, PostLeaf, Rules, Store, are_pending, entries_in,
-    key_leaf_in, need, page_for_item, page_for_key, post_leaf_in, root_of,
+    key_leaf_in, must, need, page_for_item, page_for_key, post_leaf_in, root_of,
 };
 use page_types::MOST_INLINE_BYTES;
 use std::alloc::{AllocError, Global};
@@ -102,19 +102,6 @@ fn grows(old: &[u32], new: &[u32], added: &[u32]) -> Rules {
         .and(!added.is_empty(), "an item is added")
 }
 
-/// The key is in this leaf: it is at most the high key, and the way down leads there.
-fn has_place(store: &Store, key: &[u8], high: &[u8], page: u32) -> Rules {
-    Rules::new()
-        .and(
-            high.is_empty() || key <= high,
-            "the key is at most the high key",
-        )
-        .and(
-            page_for_key(store, key) == Some(page),
-            "the way down for the key leads to the leaf",
-        )
-}
-
 /// An entry whose inline items change.
 #[derive(Clone, Copy)]
 struct Grown<'a> {
@@ -145,23 +132,55 @@ fn grown_entry<'a>(leaf: &'a Changed<'_>) -> Option<Grown<'a>> {
     }
 }
 
-/// 13 AddItems: one key within the bounds on the way down from page 1, items with a linked row that has this key, at
-/// least one of them not under it yet; the list has at most 1000 bytes; the entry is made where the key has none.
-pub(crate) fn add_items(step: &Step<'_>) -> Result<(), Fault> {
-    let page = step.one()?;
-    let entry = need(
-        grown_entry(page),
+/// The entry of a changed leaf whose inline items change.
+fn entry_grown<'a>(leaf: &'a Changed<'_>) -> Result<Grown<'a>, Fault> {
+    need(
+        grown_entry(leaf),
         "the inline items of one entry of a leaf change",
-    )?;
-    let added = added_items(step.alloc, entry.old, entry.new)?;
-    let pending = are_pending(step.store, entry.key, &added);
-    grows(entry.old, entry.new, &added)
+    )
+}
+
+/// These items come to the entry up to the leaf's high key, at least one of them not under it yet; the list has at most
+/// 1000 bytes.
+fn items_come(entry: Grown<'_>, added: &[u32]) -> Rules {
+    grows(entry.old, entry.new, added)
         .and(
             item_list(entry.new) <= MOST_INLINE_BYTES,
             "the list has at most 1000 bytes",
         )
-        .then(has_place(step.store, entry.key, entry.high, page.page))
-        .and(pending, "each item has a linked row with the key")
+        .and(
+            entry.high.is_empty() || entry.key <= entry.high,
+            "the key is at most the high key",
+        )
+}
+
+/// The way down from page 1 for the key leads to the leaf, and each of the items has a linked row with this key.
+fn items_belong(store: &Store, page: u32, key: &[u8], added: &[u32]) -> Rules {
+    Rules::new()
+        .and(
+            page_for_key(store, key) == Some(page),
+            "the way down for the key leads to the leaf",
+        )
+        .and(
+            are_pending(store, key, added),
+            "each item has a linked row with the key",
+        )
+}
+
+/// 13 AddItems, without the way down and the rows: items come under one key; the entry is made where the key has none.
+pub(crate) fn add_items_here(step: &Step<'_>) -> Result<(), Fault> {
+    let entry = entry_grown(step.one()?)?;
+    let added = added_items(step.alloc, entry.old, entry.new)?;
+    items_come(entry, &added).end()
+}
+
+/// 13 AddItems: items come under one key, and belong there.
+pub(crate) fn add_items(step: &Step<'_>) -> Result<(), Fault> {
+    let leaf = step.one()?;
+    let entry = entry_grown(leaf)?;
+    let added = added_items(step.alloc, entry.old, entry.new)?;
+    items_come(entry, &added)
+        .then(items_belong(step.store, leaf.page, entry.key, &added))
         .end()
 }
 
@@ -249,18 +268,45 @@ fn are_within(was: PostLeaf<'_>, left: PostLeaf<'_>, items: &[u32]) -> bool {
     was.high == left.high
 }
 
-/// 15 AddPostings: as 13, for the key of an entry whose root leads down to this page for each item.
-pub(crate) fn add_postings(step: &Step<'_>) -> Result<(), Fault> {
-    let page = step.one()?;
+/// A leaf of a posting tree that a record changes.
+#[derive(Clone, Copy)]
+struct GrownLeaf<'a> {
+    /// Before it.
+    was: PostLeaf<'a>,
+    /// After it.
+    left: PostLeaf<'a>,
+}
+
+/// The leaf of a posting tree that a record changes, where its right link stays.
+fn leaf_grown<'a>(page: &'a Changed<'_>) -> Result<GrownLeaf<'a>, Fault> {
+    must(page.keeps_right(), RIGHT)?;
     let was = need(post_leaf_in(page.was_live()), "it changes a posting leaf")?;
     let left = need(post_leaf_in(page.left.live()), "it stays a posting leaf")?;
-    let items = added_items(step.alloc, was.items, left.items)?;
-    grows(was.items, left.items, &items)
-        .and(page.keeps_right(), RIGHT)
-        .and(
-            are_within(was, left, &items),
-            "the items are at most the high item",
-        )
+    Ok(GrownLeaf { was, left })
+}
+
+/// These items come to the leaf up to its high item, at least one of them not there yet.
+fn postings_come(leaf: GrownLeaf<'_>, items: &[u32]) -> Rules {
+    grows(leaf.was.items, leaf.left.items, items).and(
+        are_within(leaf.was, leaf.left, items),
+        "the items are at most the high item",
+    )
+}
+
+/// 15 AddPostings, without the entry and the rows: items come to a leaf of a posting tree.
+pub(crate) fn add_postings_here(step: &Step<'_>) -> Result<(), Fault> {
+    let leaf = leaf_grown(step.one()?)?;
+    let items = added_items(step.alloc, leaf.was.items, leaf.left.items)?;
+    postings_come(leaf, &items).end()
+}
+
+/// 15 AddPostings: items come to a leaf of a posting tree; the root of an entry leads down to it for each item, and
+/// each has a linked row with the entry's key.
+pub(crate) fn add_postings(step: &Step<'_>) -> Result<(), Fault> {
+    let page = step.one()?;
+    let leaf = leaf_grown(page)?;
+    let items = added_items(step.alloc, leaf.was.items, leaf.left.items)?;
+    postings_come(leaf, &items)
         .and(
             may_add(step.store, page.page, &items),
             "an entry's root leads to the page, and each item has a linked row with its key",

@@ -1,6 +1,6 @@
 // The two parts of a page that is split.
 use crate::lists::are_parts;
-use log_walks::{KeyLeaf, PlainBody, PlainChild, PostLeaf, key_leaf_in, post_leaf_in};
+use log_walks::{PlainBody, PlainChild, PlainEntry, key_leaf_in, post_leaf_in};
 use page_types::PostChild;
 
 /// What divides the two parts of a split page: what the first part's bound becomes.
@@ -12,127 +12,97 @@ pub(crate) enum Divider<'a> {
     Item(u32),
 }
 
-/// Where a page is split.
-#[derive(Clone, Copy)]
-pub(crate) struct Place<'a> {
-    /// What divides its parts.
-    pub(crate) divider: Divider<'a>,
-    /// How many members the first part has.
-    pub(crate) count: usize,
-}
-
-/// Of a leaf of the tree of keys: the high key of the first part is at least its last key and below the second's first;
-/// the second keeps the high key.
-fn key_leaf_place<'a>(
-    whole: KeyLeaf<'_>,
-    front: KeyLeaf<'a>,
-    back: KeyLeaf<'_>,
-) -> Option<Place<'a>> {
-    let last = front.entries.last()?;
-    let next = back.entries.first()?;
-    let mid = front.high;
-    let divides = last.key.as_slice() <= mid && mid < next.key.as_slice();
-    let keeps = back.high == whole.high;
-    if divides && keeps && are_parts(whole.entries, front.entries, back.entries) {
-        Some(Place {
-            divider: Divider::Key(mid),
-            count: front.entries.len(),
-        })
-    } else {
-        None
+/// The last bound of children in the tree of keys; no bytes where there is none.
+fn last_key(children: &[PlainChild]) -> &[u8] {
+    match children.last() {
+        Some(child) => &child.bound,
+        None => &[],
     }
 }
 
-/// Of a leaf of a posting tree, likewise.
-fn post_leaf_place(
-    whole: PostLeaf<'_>,
-    front: PostLeaf<'_>,
-    back: PostLeaf<'_>,
-) -> Option<Place<'static>> {
-    let last = front.items.last()?;
-    let next = back.items.first()?;
-    let mid = front.high;
-    let divides = *last <= mid && mid < *next;
-    let keeps = back.high == whole.high;
-    if divides && keeps && are_parts(whole.items, front.items, back.items) {
-        Some(Place {
-            divider: Divider::Item(mid),
-            count: front.items.len(),
-        })
-    } else {
-        None
+/// The last bound of children in a posting tree; 0 where there is none.
+fn last_item(children: &[PostChild]) -> u32 {
+    match children.last() {
+        Some(child) => child.bound,
+        None => 0,
     }
 }
 
-/// Of an inner page of the tree of keys: the first part's last bound divides.
-fn key_inner_place<'a>(
-    whole: &[PlainChild],
-    front: &'a [PlainChild],
-    back: &[PlainChild],
-) -> Option<Place<'a>> {
-    let last = front.last()?;
-    if are_parts(whole, front, back) {
-        Some(Place {
-            divider: Divider::Key(&last.bound),
-            count: front.len(),
-        })
-    } else {
-        None
+/// What divides the first part of a page, which this is, from the second one: its high key or item, or its last bound.
+pub(crate) fn divider_of(front: &PlainBody) -> Divider<'_> {
+    match front {
+        PlainBody::EntryLeaf { high, .. } => Divider::Key(high),
+        PlainBody::EntryInner(children) => Divider::Key(last_key(children)),
+        PlainBody::PostLeaf { high, .. } => Divider::Item(*high),
+        PlainBody::PostInner(children) => Divider::Item(last_item(children)),
+        _ => Divider::Item(0),
     }
 }
 
-/// Of an inner page of a posting tree, likewise.
-fn post_inner_place(
-    whole: &[PostChild],
-    front: &[PostChild],
-    back: &[PostChild],
-) -> Option<Place<'static>> {
-    let last = front.last()?;
-    if are_parts(whole, front, back) {
-        Some(Place {
-            divider: Divider::Item(last.bound),
-            count: front.len(),
-        })
-    } else {
-        None
+/// Whether a key is at least the last of the first entries' keys, and below the first of the others'.
+fn divides_entries(front: &[PlainEntry], mid: &[u8], back: &[PlainEntry]) -> bool {
+    match (front.last(), back.first()) {
+        (Some(last), Some(next)) => last.key.as_slice() <= mid && mid < next.key.as_slice(),
+        _ => false,
     }
 }
 
-/// Of an inner page of either tree.
-fn inner_place<'a>(whole: &PlainBody, front: &'a PlainBody, back: &PlainBody) -> Option<Place<'a>> {
-    match (whole, front, back) {
-        (PlainBody::EntryInner(whole), PlainBody::EntryInner(front), PlainBody::EntryInner(back)) =>
-            { key_inner_place(whole, front, back) }
-        (PlainBody::PostInner(whole), PlainBody::PostInner(front), PlainBody::PostInner(back)) => {
-            post_inner_place(whole, front, back)
+/// Whether an item is at least the last of the first ones, and below the first of the others.
+fn divides_items(front: &[u32], mid: u32, back: &[u32]) -> bool {
+    match (front.last(), back.first()) {
+        (Some(last), Some(next)) => *last <= mid && mid < *next,
+        _ => false,
+    }
+}
+
+/// Whether two leaves of the tree of keys hold these entries, divided by the first one's high key; the second one keeps
+/// the high key.
+fn hold_entries(high: &[u8], all: &[PlainEntry], front: &PlainBody, back: &PlainBody) -> bool {
+    match (key_leaf_in(Some(front)), key_leaf_in(Some(back))) {
+        (Some(front), Some(back)) => {
+            back.high == high
+                && are_parts(all, front.entries, back.entries)
+                && divides_entries(front.entries, front.high, back.entries)
         }
-        _ => None,
+        _ => false,
     }
 }
 
-/// Of a leaf of the tree of keys.
-fn leaf_place<'a>(whole: &PlainBody, front: &'a PlainBody, back: &PlainBody) -> Option<Place<'a>> {
-    let whole = key_leaf_in(Some(whole))?;
-    let front = key_leaf_in(Some(front))?;
-    key_leaf_place(whole, front, key_leaf_in(Some(back))?)
+/// Whether two leaves of a posting tree hold these items, likewise.
+fn hold_items(high: u32, all: &[u32], front: &PlainBody, back: &PlainBody) -> bool {
+    match (post_leaf_in(Some(front)), post_leaf_in(Some(back))) {
+        (Some(front), Some(back)) => {
+            back.high == high
+                && are_parts(all, front.items, back.items)
+                && divides_items(front.items, front.high, back.items)
+        }
+        _ => false,
+    }
 }
 
-/// Of a leaf of a posting tree.
-fn items_place(whole: &PlainBody, front: &PlainBody, back: &PlainBody) -> Option<Place<'static>> {
-    let whole = post_leaf_in(Some(whole))?;
-    let front = post_leaf_in(Some(front))?;
-    post_leaf_place(whole, front, post_leaf_in(Some(back))?)
+/// Whether two inner pages of the tree of keys hold these children.
+fn hold_children(all: &[PlainChild], front: &PlainBody, back: &PlainBody) -> bool {
+    match (front, back) {
+        (PlainBody::EntryInner(front), PlainBody::EntryInner(back)) => are_parts(all, front, back),
+        _ => false,
+    }
 }
 
-/// Where a page's content was split into the content of two pages.
-pub(crate) fn split_place<'a>(
-    whole: &PlainBody,
-    front: &'a PlainBody,
-    back: &PlainBody,
-) -> Option<Place<'a>> {
+/// Whether two inner pages of a posting tree hold these children.
+fn hold_posts(all: &[PostChild], front: &PlainBody, back: &PlainBody) -> bool {
+    match (front, back) {
+        (PlainBody::PostInner(front), PlainBody::PostInner(back)) => are_parts(all, front, back),
+        _ => false,
+    }
+}
+
+/// Whether the content of a tree page was split into that of two pages, neither of them empty.
+pub(crate) fn are_halves(whole: &PlainBody, front: &PlainBody, back: &PlainBody) -> bool {
     match whole {
-        PlainBody::EntryLeaf { .. } => leaf_place(whole, front, back),
-        PlainBody::PostLeaf { .. } => items_place(whole, front, back),
-        _ => inner_place(whole, front, back),
+        PlainBody::EntryLeaf { high, entries } => hold_entries(high, entries, front, back),
+        PlainBody::EntryInner(all) => hold_children(all, front, back),
+        PlainBody::PostLeaf { high, items } => hold_items(*high, items, front, back),
+        PlainBody::PostInner(all) => hold_posts(all, front, back),
+        _ => false,
     }
 }

@@ -1,10 +1,10 @@
 // The rows of the kinds 9 to 12: rows of documents are put and linked, and leave the pending list.
+use crate::slots::with_private;
 use crate::step::{Changed, LEFT, RIGHT, Step};
 use log_walks::{
     Doc, Fault, Line, META, PlainBody, PlainRow, Rules, Store, all_in_main, first_pending,
     has_rows_from, head_at, line_from, must, need, rows_in,
 };
-use page_types::HeadFields;
 
 /// The last of these keys, where each is above the one before it and the first above another; else none.
 fn rise_in<'a>(above: &'a [u8], keys: &'a [Vec<u8>]) -> Option<&'a [u8]> {
@@ -78,18 +78,17 @@ fn have_keys_of(rows: &[PlainRow], keys: &[Vec<u8>]) -> bool {
 /// rising keys; it leads to the head's first private page and becomes the first.
 pub(crate) fn put_pending_here(step: &Step<'_>, doc: Doc) -> Result<(), Fault> {
     let (heap, new) = step.two()?;
-    let fields = step.own_head(doc)?.fields;
+    let head = step.own_head(doc)?;
     let rows = rows_in(new.left.live());
     let rise = rise_on(&[], rows).is_some();
-    let private = new.page;
     step.is_new(new)
         .and(
             have_item(rows, doc.item),
             "its rows, at least one, have the item",
         )
         .and(rise, "the keys of the page rise")
-        .and(new.leads_to(fields.private), RIGHT)
-        .then(heap.gives_head(doc, HeadFields { private, ..fields }))
+        .and(new.leads_to(head.fields.private), RIGHT)
+        .then(heap.gives_head(doc, with_private(head, new.page)))
         .end()
 }
 
@@ -262,11 +261,11 @@ fn links(step: &Step<'_>, to: u32) -> Rules {
 /// last page; the head has none then.
 pub(crate) fn link_pending_here(step: &Step<'_>, doc: Doc) -> Result<(), Fault> {
     let heap = step.first()?;
-    let fields = step.own_head(doc)?.fields;
-    let private = 0;
-    links(step, fields.private)
-        .and(fields.private != 0, "the head has a private chain")
-        .then(heap.gives_head(doc, HeadFields { private, ..fields }))
+    let head = step.own_head(doc)?;
+    let first = head.fields.private;
+    links(step, first)
+        .and(first != 0, "the head has a private chain")
+        .then(heap.gives_head(doc, with_private(head, 0)))
         .end()
 }
 
@@ -329,19 +328,23 @@ fn meta_shifts(page: &Changed<'_>, right: u32) -> bool {
     }
 }
 
+/// All these keys have the item in the main part.
+fn must_be_in_main(step: &Step<'_>, keys: &[Vec<u8>], item: u32) -> Result<(), Fault> {
+    let moved = all_in_main(step.alloc, step.store, keys, item)?;
+    must(moved, "all keys of a row's document are in the main part")
+}
+
 /// The document of a row has all its keys in the main part.
 fn must_be_moved(step: &Step<'_>, item: u32) -> Result<(), Fault> {
     let head = need(head_at(step.store, item), "a row's document has its slot")?;
     let keys = step.keys_of(head)?;
-    let moved = all_in_main(step.alloc, step.store, &keys, item)?;
-    must(moved, "all keys of a row's document are in the main part")
+    must_be_in_main(step, &keys, item)
 }
 
-/// 12 Shift: the document of each row on the first pending page has all its keys in the main part; the page becomes
-/// Deleted.
-pub(crate) fn shift(step: &Step<'_>) -> Result<(), Fault> {
+/// 12 Shift, without the list and the documents: the page that the metapage names first, a pending page, becomes
+/// Deleted and leaves the list.
+pub(crate) fn shift_here(step: &Step<'_>) -> Result<(), Fault> {
     let (meta, page) = step.two()?;
-    pending_list(step)?;
     let is_first = first_pending(step.store) == page.page;
     page.is_deleted()
         .and(is_first, "it changes the first pending page")
@@ -350,7 +353,14 @@ pub(crate) fn shift(step: &Step<'_>) -> Result<(), Fault> {
             meta_shifts(meta, page.left.right),
             "the page leaves the list",
         )
-        .end()?;
+        .end()
+}
+
+/// 12 Shift: besides, the list ends, and the document of each row on the page has all its keys in the main part.
+pub(crate) fn shift(step: &Step<'_>) -> Result<(), Fault> {
+    shift_here(step)?;
+    pending_list(step)?;
+    let (_, page) = step.two()?;
     for row in rows_in(page.was_live()) {
         must_be_moved(step, row.item)?;
     }

@@ -2,11 +2,12 @@
 use crate::heap_rows::{
     mark_deleted, place_head, place_head_here, put_overflow, put_overflow_here,
 };
-use crate::item_rows::{add_items, add_postings, make_tree};
+use crate::item_rows::{add_items, add_items_here, add_postings, add_postings_here, make_tree};
 use crate::pending_rows::{
     add_row, add_row_here, link_pending, link_pending_here, put_pending, put_pending_here, shift,
+    shift_here,
 };
-use crate::shape_rows::{delete_post, grow_root, split};
+use crate::shape_rows::{delete_post, grow_root, grow_root_here, split};
 use crate::step::Step;
 use crate::transaction_rows::{abort, begin, checkpoint, commit, commit_here, create};
 use crate::vacuum_rows::{drop_page, free_slots, remove_items};
@@ -55,8 +56,21 @@ pub fn row(step: &Step<'_>) -> Result<(), Fault> {
     }
 }
 
-/// The same of the rules that speak of the record, of its pages before and after, of transactions and of the numbers
-/// that come next alone, for the kinds 1 to 4 and 6 to 11; none of another kind.
+/// The rules of a record that changes the index which speak of it and its pages alone, for the kinds 12 to 17; none of
+/// another kind.
+fn tree_here(step: &Step<'_>) -> Option<Result<(), Fault>> {
+    match step.record.kind {
+        Kind::Shift => Some(shift_here(step)),
+        Kind::AddItems => Some(add_items_here(step)),
+        Kind::AddPostings => Some(add_postings_here(step)),
+        Kind::GrowRoot => Some(grow_root_here(step)),
+        Kind::MakeTree | Kind::Split => Some(tree_row(step)),
+        _ => None,
+    }
+}
+
+/// The first broken rule of those that speak of the record, of its pages before and after, of transactions and of the
+/// numbers that come next alone, for the kinds 1 to 4 and 6 to 17; none of another kind.
 pub fn here(step: &Step<'_>) -> Option<Result<(), Fault>> {
     match step.record.kind {
         Kind::Commit { commit: number } => Some(commit_here(step, number)),
@@ -66,6 +80,6 @@ pub fn here(step: &Step<'_>) -> Option<Result<(), Fault>> {
         Kind::AddRow { item, serial } => Some(add_row_here(step, Doc { item, serial })),
         Kind::LinkPending { item, serial } => Some(link_pending_here(step, Doc { item, serial })),
         Kind::Create | Kind::Begin | Kind::Abort | Kind::MarkDeleted { .. } => Some(row(step)),
-        _ => None,
+        _ => tree_here(step),
     }
 }

@@ -1,11 +1,11 @@
 // The rows of the kinds 16, 17 and 19: trees grow, pages are split, empty leaves are deleted.
-use crate::cuts::may_cut_at;
-use crate::parts::{Divider, Place, split_place};
+use crate::cuts::{may_cut_at, members};
+use crate::parts::{Divider, are_halves, divider_of};
 use crate::sizes::{HALF_BODY, tree_body};
 use crate::step::{Changed, LEFT, RIGHT, Step};
 use log_walks::{
-    Fault, PlainBody, PlainChild, PlainEntry, PlainPage, ROOT, Rules, Store, entries_in, need,
-    post_leaf_in, root_of,
+    Fault, PlainBody, PlainChild, PlainEntry, PlainPage, ROOT, Rules, Store, entries_in, must,
+    need, post_leaf_in, root_of,
 };
 use page_types::{NO_BOUND, PostChild};
 
@@ -69,20 +69,26 @@ fn large_body<'a>(page: &'a Changed<'_>) -> Option<&'a PlainBody> {
     }
 }
 
-/// 16 GrowRoot: the root's body has more than 4084 bytes; it moves to the new page, which becomes the root's one child,
-/// without bound.
-pub(crate) fn grow_root(step: &Step<'_>) -> Result<(), Fault> {
+/// 16 GrowRoot, of a page that may be no root: its body has more than 4084 bytes; it moves to the new page, which
+/// becomes the page's one child, without bound.
+pub(crate) fn grow_root_here(step: &Step<'_>) -> Result<(), Fault> {
     let (root, new) = step.two()?;
     let body = need(
         large_body(root),
         "the body of a tree's page has more than 4084 bytes",
     )?;
     step.is_new(new)
-        .and(is_root(step.store, root.page), "it changes a root")
         .and(root.keeps_right(), RIGHT)
         .and(has_one_child(root, body, new.page), LEFT)
         .then(new.becomes(0, body))
         .end()
+}
+
+/// 16 GrowRoot: besides, the page is a root.
+pub(crate) fn grow_root(step: &Step<'_>) -> Result<(), Fault> {
+    grow_root_here(step)?;
+    let (root, _) = step.two()?;
+    must(is_root(step.store, root.page), "it changes a root")
 }
 
 /// A page that was split.
@@ -241,9 +247,35 @@ fn parent_gets(parent: &Changed<'_>, halves: Halves<'_>) -> Rules {
         .and(gets, "the parent gets the new page after the page")
 }
 
-/// Where the page's content was split into what is on the page and on the new one.
-fn place_of<'a>(body: &PlainBody, page: &'a Changed<'_>, new: &Changed<'_>) -> Option<Place<'a>> {
-    split_place(body, page.left.live()?, new.left.live()?)
+/// The page's content was split into what is on the page and on the new one.
+fn is_halved(body: &PlainBody, page: &Changed<'_>, new: &Changed<'_>) -> Rules {
+    let front = &page.left.body;
+    Rules::new()
+        .and(!page.left.deleted && !new.left.deleted, LEFT)
+        .and(
+            are_halves(body, front, &new.left.body),
+            "the two pages hold the content",
+        )
+        .and(
+            may_cut_at(body, members(front)),
+            "the first part has the right length",
+        )
+}
+
+/// The page leads to the new one, which takes its right link.
+fn links_new(page: &Changed<'_>, new: &Changed<'_>) -> Rules {
+    Rules::new()
+        .and(page.leads_to(new.page), RIGHT)
+        .and(new.leads_to(page.right_before()), RIGHT)
+}
+
+/// The page and the new one, as the parent has them.
+fn halves_of<'a>(page: &'a Changed<'_>, new: &Changed<'_>) -> Halves<'a> {
+    Halves {
+        page: page.page,
+        new: new.page,
+        divider: divider_of(&page.left.body),
+    }
 }
 
 /// 17 Split: the page's body has more than 4084 bytes; it keeps a first part with at least half of the bytes where both
@@ -255,20 +287,10 @@ pub(crate) fn split(step: &Step<'_>) -> Result<(), Fault> {
         large_body(page),
         "the body of a tree's page has more than 4084 bytes",
     )?;
-    let place = need(place_of(body, page, new), "the two pages hold the content")?;
-    let halves = Halves {
-        page: page.page,
-        new: new.page,
-        divider: place.divider,
-    };
-    let links = page.leads_to(new.page) && new.leads_to(page.right_before());
     step.is_new(new)
-        .and(
-            may_cut_at(body, place.count),
-            "the first part has the right length",
-        )
-        .and(links, RIGHT)
-        .then(parent_gets(parent, halves))
+        .then(is_halved(body, page, new))
+        .then(links_new(page, new))
+        .then(parent_gets(parent, halves_of(page, new)))
         .end()
 }
 

@@ -41,6 +41,30 @@ pub(crate) fn head_comes(
     head_in(was, slot).is_none() && agree_beside(was, left, slot)
 }
 
+/// The fields of a head, with another first overflow page.
+pub(crate) fn with_overflow(head: &PlainHead, overflow: u32) -> HeadFields {
+    HeadFields {
+        overflow,
+        ..head.fields
+    }
+}
+
+/// The fields of a head, with another first private page.
+pub(crate) fn with_private(head: &PlainHead, private: u32) -> HeadFields {
+    HeadFields {
+        private,
+        ..head.fields
+    }
+}
+
+/// The fields of a head, with another deleting transaction.
+pub(crate) fn with_deleting(head: &PlainHead, deleted_by: u32) -> HeadFields {
+    HeadFields {
+        deleted_by,
+        ..head.fields
+    }
+}
+
 /// Whether two heads have the same vector, and the second these fields.
 fn has_fields(was: Option<&PlainHead>, left: Option<&PlainHead>, fields: HeadFields) -> bool {
     match (was, left) {

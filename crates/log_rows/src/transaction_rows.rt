@@ -1,24 +1,34 @@
 // The rows of the kinds 1 to 5: the store is made, transactions begin and end, checkpoints.
-use crate::step::Step;
-use log_walks::{Doc, Fault, META, PlainBody, ROOT, head_of, is_indexed, must, need};
+use crate::step::{Changed, LEFT, RIGHT, Step};
+use log_walks::{
+    Doc, Fault, META, PlainBody, ROOT, Rules, head_of, is_indexed, key_leaf_in, must, need,
+};
 
 /// Xids are below this.
 const XID_BOUND: u32 = 16_777_216;
 
+/// Whether a metapage names no page.
+fn is_empty_meta(meta: &Changed<'_>) -> bool {
+    match meta.left.live() {
+        Some(PlainBody::Meta { first, last, pages }) => *first == 0 && *last == 0 && *pages == 0,
+        _ => false,
+    }
+}
+
+/// Whether a leaf of the tree of keys has no high key and no entry.
+fn is_empty_leaf(leaf: &Changed<'_>) -> bool {
+    match key_leaf_in(leaf.left.live()) {
+        Some(leaf) => leaf.high.is_empty() && leaf.entries.is_empty(),
+        None => false,
+    }
+}
+
 /// 1 Create: the log is empty; an empty Meta and an empty EntryLeaf.
 pub(crate) fn create(step: &Step<'_>) -> Result<(), Fault> {
     let (meta, root) = step.two()?;
-    let empty = PlainBody::Meta {
-        first: 0,
-        last: 0,
-        pages: 0,
-    };
-    let leaf = PlainBody::EntryLeaf {
-        high: Vec::new(step.alloc),
-        entries: Vec::new(step.alloc),
-    };
-    meta.becomes(0, &empty)
-        .then(root.becomes(0, &leaf))
+    Rules::new()
+        .and(meta.leads_to(0) && root.leads_to(0), RIGHT)
+        .and(is_empty_meta(meta) && is_empty_leaf(root), LEFT)
         .and(step.ledger.records == 0, "the log is empty")
         .and(meta.page == META, "it changes the page 0")
         .and(root.page == ROOT, "it changes the page 1")
@@ -37,13 +47,20 @@ pub(crate) fn begin(step: &Step<'_>) -> Result<(), Fault> {
         .end()
 }
 
+/// The item has all these keys in one part of the index, where that is asked.
+fn must_be_indexed(step: &Step<'_>, keys: &[Vec<u8>], item: u32) -> Result<(), Fault> {
+    if !step.terms.asks_index {
+        return Ok(());
+    }
+    let indexed = is_indexed(step.alloc, step.store, keys, item)?;
+    must(indexed, "each placed document is indexed")
+}
+
 /// A document that a committing transaction placed is whole, and indexed where that is asked.
 fn may_commit(step: &Step<'_>, doc: Doc) -> Result<(), Fault> {
     let head = need(head_of(step.store, doc), "a placed document has its slot")?;
     let keys = step.keys_of(head)?;
-    let asked = step.terms.asks_index;
-    let indexed = !asked || is_indexed(step.alloc, step.store, &keys, doc.item)?;
-    must(indexed, "each placed document is indexed")
+    must_be_indexed(step, &keys, doc.item)
 }
 
 /// 3 Commit, without its documents: the xid runs, the commit number is the next.

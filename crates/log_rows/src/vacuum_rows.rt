@@ -1,6 +1,7 @@
 // The rows of the kinds 18, 20 and 21: items of dead documents leave their lists, their chains lose pages, and their
 // slots become free.
 use crate::lists::are_among;
+use crate::slots::{with_overflow, with_private};
 use crate::step::{Changed, RIGHT, Step};
 use log_walks::{
     Doc, Fate, Fault, PlainBody, PlainEntry, PlainHead, PlainPostings, Rules, has_no_pair, has_row,
@@ -22,22 +23,18 @@ fn is_dead(step: &Step<'_>, doc: Doc) -> Rules {
 
 /// Whether a head says that its document is dead: its inserting xid was aborted, or its deleting xid is among the
 /// first `floor` commits.
-fn tells_dead(step: &Step<'_>, fields: HeadFields) -> bool {
-    let aborted = step.ledger.fate(fields.inserted_by) == Fate::Aborted;
-    match step.ledger.fate(fields.deleted_by) {
+fn tells_dead(step: &Step<'_>, head: &PlainHead) -> bool {
+    let aborted = step.ledger.fate(head.fields.inserted_by) == Fate::Aborted;
+    match step.ledger.fate(head.fields.deleted_by) {
         Fate::Committed(number) => aborted || number <= step.terms.floor,
         _ => aborted,
     }
 }
 
 /// The document is dead, its head says so too, and no pair has its item.
-fn is_dead_and_unlisted(
-    step: &Step<'_>,
-    doc: Doc,
-    fields: HeadFields,
-) -> Result<Rules, AllocError> {
+fn is_dead_and_unlisted(step: &Step<'_>, doc: Doc, head: &PlainHead) -> Result<Rules, AllocError> {
     let no_pair = has_no_pair(step.alloc, step.store, doc.item)?;
-    let told = tells_dead(step, fields);
+    let told = tells_dead(step, head);
     Ok(
         is_dead(step, doc)
             .and(told, "the head says that the document is dead")
@@ -146,17 +143,15 @@ pub(crate) fn remove_items(step: &Step<'_>) -> Result<(), Fault> {
 }
 
 /// The head's fields where the page is the first of one of its chains, which goes on to the next.
-fn without_page(fields: HeadFields, page: &Changed<'_>) -> Option<HeadFields> {
+fn without_page(head: &PlainHead, page: &Changed<'_>) -> Option<HeadFields> {
     let right = page.left.right;
     match page.was_live()? {
-        PlainBody::Overflow(_) if fields.overflow == page.page => Some(HeadFields {
-            overflow: right,
-            ..fields
-        }),
-        PlainBody::Pending(_) if fields.private == page.page => Some(HeadFields {
-            private: right,
-            ..fields
-        }),
+        PlainBody::Overflow(_) if head.fields.overflow == page.page => {
+            Some(with_overflow(head, right))
+        }
+        PlainBody::Pending(_) if head.fields.private == page.page => {
+            Some(with_private(head, right))
+        }
         _ => None,
     }
 }
@@ -166,19 +161,19 @@ fn without_page(fields: HeadFields, page: &Changed<'_>) -> Option<HeadFields> {
 pub(crate) fn drop_page(step: &Step<'_>, doc: Doc) -> Result<(), Fault> {
     let (heap, page) = step.two()?;
     let head = need(head_of(step.store, doc), "the document has its slot")?;
-    let fields = without_page(head.fields, page);
+    let fields = without_page(head, page);
     let fields = need(fields, "the page is the first of one of the head's chains")?;
-    is_dead_and_unlisted(step, doc, head.fields)?
+    is_dead_and_unlisted(step, doc, head)?
         .then(page.is_deleted())
         .then(heap.gives_head(doc, fields))
         .end()
 }
 
 /// A slot becomes free: its document is dead, its chains are empty, and no pair of the item.
-fn may_free(step: &Step<'_>, item: u32, fields: HeadFields) -> Result<Rules, AllocError> {
-    let serial = fields.serial;
-    let empty = fields.overflow == 0 && fields.private == 0;
-    let rules = is_dead_and_unlisted(step, Doc { item, serial }, fields)?;
+fn may_free(step: &Step<'_>, item: u32, head: &PlainHead) -> Result<Rules, AllocError> {
+    let serial = head.fields.serial;
+    let empty = head.fields.overflow == 0 && head.fields.private == 0;
+    let rules = is_dead_and_unlisted(step, Doc { item, serial }, head)?;
     Ok(rules.and(empty, "the chains of a freed document are empty"))
 }
 
@@ -190,7 +185,7 @@ fn slot_loses(
     new: &Option<PlainHead>,
 ) -> Result<Rules, AllocError> {
     match (old, new) {
-        (Some(head), None) => may_free(step, item, head.fields),
+        (Some(head), None) => may_free(step, item, head),
         _ => Ok(Rules::new().and(old == new, "the other slots stay")),
     }
 }

@@ -27,6 +27,10 @@
 //! both, and for a yes an absent key is Maybe in both. An item is kept where some judging doesn't leave it out, and
 //! has a yes where some judging says so.
 //!
+//! **A log that was left.** Of a legal log each document's keys are in one part of the index, all in linked rows or all
+//! in the main part, after each record that moves items within it. A search over the pages that it leaves reads each
+//! page as it is then.
+//!
 //! All is written from these rules and shares no code with the store.
 #![tactic(auto)]
 
@@ -34,12 +38,14 @@ mod found;
 mod query;
 mod replay;
 mod scan;
+mod search;
 mod sought;
 mod words;
 
 pub use found::{WalkResult, found_in, told_wrong};
 pub use query::{Asked, Query, Tri};
-pub use replay::{Moment, Pin, Read, Reading, Snapshot, read_moments};
-pub use scan::{NoWalk, Posting, Scan, scan_pages};
+pub use replay::{Moment, Pin, Read, Reading, Snapshot, read_left, read_moments};
+pub use scan::{NoWalk, Posting, Scan, scan_left, scan_pages};
+pub use search::{judge_log, search_left};
 pub use sought::{Sought, all_sought};
 pub use words::query_in;

@@ -1,7 +1,8 @@
 // Pages as they were read at moments of a log.
 use log_rows::{Step, Terms, row};
 use log_walks::{
-    Doc, Fault, Ledger, LeftBytes, LeftPage, PlainPage, Store, head_of, must, page_in, whole_keys,
+    Doc, Fault, Ledger, LeftBytes, LeftPage, PlainPage, Store, head_of, is_indexed, must, page_in,
+    whole_keys,
 };
 use page_types::{Kind, Record};
 use std::alloc::{AllocError, Global};
@@ -23,6 +24,13 @@ pub struct Moment {
     /// The page.
     pub page: u32,
 }
+
+/// With it records are judged as those of a log that keeps no snapshot: by all commits before each, and with pages
+/// that were deleted before it.
+const NO_PIN: Pin = Pin {
+    commits: u32::MAX,
+    length: u64::MAX,
+};
 
 /// A page as it was read.
 #[derive(Drop)]
@@ -66,7 +74,33 @@ struct Replay {
     docs: Vec<Snapshot>,
 }
 
+/// Whether a record of this kind moves items within the index.
+fn moves_items(kind: Kind) -> bool {
+    matches!(
+        kind,
+        Kind::Shift
+            | Kind::AddItems
+            | Kind::MakeTree
+            | Kind::AddPostings
+            | Kind::GrowRoot
+            | Kind::Split
+            | Kind::RemoveItems
+            | Kind::DeletePost
+    )
+}
+
 impl Replay {
+    /// The empty log, whose records are to keep this pin.
+    fn new(alloc: Global, pin: Pin) -> Replay {
+        Replay {
+            alloc,
+            pin,
+            store: Store::new(alloc),
+            ledger: Ledger::new(alloc),
+            docs: Vec::new(alloc),
+        }
+    }
+
     /// The number from which on deleted pages may not be taken by a record of this number.
     fn since(&self, number: u64) -> u64 {
         if number > self.pin.length {
@@ -216,15 +250,60 @@ pub fn read_moments(
     pin: Pin,
     moments: &[Moment],
 ) -> Result<Reading, Fault> {
-    let mut replay = Replay {
-        alloc,
-        pin,
-        store: Store::new(alloc),
-        ledger: Ledger::new(alloc),
-        docs: Vec::new(alloc),
-    };
+    let mut replay = Replay::new(alloc, pin);
     replay.go_to_pin(records)?;
     let reads = replay.read_all(records, moments)?;
+    let docs = replay.docs;
+    Ok(Reading { reads, docs })
+}
+
+impl Replay {
+    /// Each document of the snapshot has its keys in one part of the index: all in linked rows, or all in the main
+    /// part.
+    fn must_be_indexed(&self) -> Result<(), Fault> {
+        for known in &self.docs {
+            let indexed = is_indexed(self.alloc, &self.store, &known.keys, known.doc.item)?;
+            must(indexed, "the keys of each document are in one part")?;
+        }
+        Ok(())
+    }
+
+    /// The next record comes, after which the documents are still indexed.
+    fn extend(&mut self, record: &Record) -> Result<(), Fault> {
+        self.follow(record)?;
+        if moves_items(record.kind) {
+            self.must_be_indexed()?;
+        }
+        Ok(())
+    }
+
+    /// All these records come.
+    fn extend_all(&mut self, records: &[Record]) -> Result<(), Fault> {
+        for record in records {
+            self.extend(record)?;
+        }
+        self.must_be_indexed()
+    }
+
+    /// All pages as they are now.
+    fn read_pages(&self) -> Result<Vec<Read>, Fault> {
+        let mut reads = Vec::new(self.alloc);
+        for left in self.store.pages() {
+            reads.push(Read {
+                page: left.page,
+                left: self.shown(left.page)?,
+            })?;
+        }
+        Ok(reads)
+    }
+}
+
+/// The pages that a legal log leaves, by rising numbers, and the documents of all its commits. Their keys are in one
+/// part of the index, also after each record that moves items within it.
+pub fn read_left(alloc: Global, records: &[Record]) -> Result<Reading, Fault> {
+    let mut replay = Replay::new(alloc, NO_PIN);
+    replay.extend_all(records)?;
+    let reads = replay.read_pages()?;
     let docs = replay.docs;
     Ok(Reading { reads, docs })
 }

@@ -48,15 +48,36 @@ pub struct Scan<'a> {
     pub postings: Vec<Posting<'a>>,
 }
 
-/// Reads, one after another.
+/// How pages are read.
+#[derive(Clone, Copy)]
+enum Order {
+    /// One after another.
+    InTurn,
+    /// Each when it is wanted, of all pages as they are at one moment.
+    Wanted,
+}
+
+/// Pages, of which a walk takes one after another.
 #[derive(Drop)]
 struct Steps<'a> {
     /// What lists are made on.
     alloc: Global,
-    /// The reads.
+    /// The pages.
     reads: &'a [Read],
+    /// How they are read.
+    order: Order,
     /// So many were taken.
     taken: usize,
+}
+
+/// The page with this number.
+fn find(reads: &[Read], page: u32) -> Option<&Read> {
+    for read in reads {
+        if read.page == page {
+            return Some(read);
+        }
+    }
+    None
 }
 
 /// What is on a page that is live.
@@ -171,10 +192,18 @@ impl Way {
 }
 
 impl<'a> Steps<'a> {
+    /// The page that is read next.
+    fn next(&self, page: u32) -> Option<&'a Read> {
+        match self.order {
+            Order::InTurn => self.reads.get(self.taken),
+            Order::Wanted => find(self.reads, page),
+        }
+    }
+
     /// The next read, which has to be of this page.
     fn take(&mut self, page: u32) -> Result<&'a Read, NoWalk> {
         let number = self.taken.saturating_add(1);
-        match self.reads.get(self.taken) {
+        match self.next(page) {
             Some(read) if read.page == page => {
                 self.taken = number;
                 Ok(read)
@@ -183,9 +212,17 @@ impl<'a> Steps<'a> {
         }
     }
 
+    /// Whether all that was to be read was taken.
+    fn has_ended(&self) -> bool {
+        match self.order {
+            Order::InTurn => self.taken == self.reads.len(),
+            Order::Wanted => true,
+        }
+    }
+
     /// Nothing was read after.
     fn end(&self) -> Result<(), NoWalk> {
-        if self.taken == self.reads.len() {
+        if self.has_ended() {
             Ok(())
         } else {
             Err(NoWalk::At(self.taken.saturating_add(1)))
@@ -304,6 +341,20 @@ impl<'a> Steps<'a> {
     }
 }
 
+impl<'a> Steps<'a> {
+    /// What is read: the metapage, the pending pages, and then the leaves for all that is sought, one after another,
+    /// with their posting trees.
+    fn walk(&mut self, all: &[Sought<'_>]) -> Result<Scan<'a>, NoWalk> {
+        let pending = self.pending()?;
+        let postings = self.all_leaves(all)?;
+        Ok(Scan {
+            rows: all_rows(self.alloc, &pending)?,
+            first: first_item(&pending),
+            postings,
+        })
+    }
+}
+
 /// What was read, where that is a walk: the metapage, the pending pages, and then the leaves for all that is sought,
 /// one after another, with their posting trees.
 pub fn scan_pages<'a>(
@@ -314,13 +365,23 @@ pub fn scan_pages<'a>(
     let mut steps = Steps {
         alloc,
         reads,
+        order: Order::InTurn,
         taken: 0,
     };
-    let pending = steps.pending()?;
-    let postings = steps.all_leaves(all)?;
-    Ok(Scan {
-        rows: all_rows(alloc, &pending)?,
-        first: first_item(&pending),
-        postings,
-    })
+    steps.walk(all)
+}
+
+/// What a walk reads on all pages, as they are at one moment.
+pub fn scan_left<'a>(
+    alloc: Global,
+    pages: &'a [Read],
+    all: &[Sought<'_>],
+) -> Result<Scan<'a>, NoWalk> {
+    let mut steps = Steps {
+        alloc,
+        reads: pages,
+        order: Order::Wanted,
+        taken: 0,
+    };
+    steps.walk(all)
 }
