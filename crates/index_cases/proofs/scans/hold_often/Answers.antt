@@ -1,6 +1,6 @@
 -- The pass holds one page, and then none.
-use Rattle.std.proofs.Common.{[], sym, ◌∙◌}
-use Rattle.index_bench.proofs.scans.hold_often.Goals as goal
+use Rattle.std.proofs.Common.{[], sym}
+use Rattle.index_cases.proofs.scans.hold_often.Goals as goal
 
 pub release-requires-clause-holding : goal.release-requires-clause-holding
 release-requires-clause-holding g c = ([], c.in_ok-held.ensures.holding [] c.loop.invariant.idle)
@@ -11,7 +11,6 @@ loop-preserved g c =
     let idle = e.holding [] (c.in_ok-held.ensures.holding [] c.loop.invariant.idle) in
     record {
       pass = e.pass;
-      none = e.same.0 ∙ c.hold.ensures.same.0 ∙ c.loop.invariant.none;
       held = sym idle.all;
       idle = idle;
     }

@@ -1,6 +1,6 @@
 use Rattle.std.proofs.Common.{◌≡◌}
 use Rattle.engine.specs.Answers.{IsSession}
-use Rattle.index_bench.proofs.stores.insert_all.Given as goal
+use Rattle.index_cases.proofs.stores.search_often.Given as goal
 
 abbrev pub invariant-loop : goal.invariant-loop
 invariant-loop l = record {

@@ -1,9 +1,0 @@
-use Rattle.std.proofs.Common.{◌≡◌}
-use Rattle.engine.specs.Answers.{IsSession}
-use Rattle.index_bench.proofs.stores.search_often.Given as goal
-
-abbrev pub invariant-loop : goal.invariant-loop
-invariant-loop l = record {
-  session : IsSession l.store l.pass;
-  room : l.pass.room ≡ l.fn.pass.room;
-}

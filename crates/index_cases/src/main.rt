@@ -1,0 +1,56 @@
+//! Runs rows of calls over a store in memory, and prints what they find: by calls of the store, and by scans over its
+//! pages, which say how many heads and pages they read. With the word `time` some rows have more documents, searches
+//! and holds, and it is also printed what each takes.
+#![tactic(auto)]
+
+mod cleaning;
+mod documents;
+mod rows;
+mod scans;
+mod stores;
+
+use anyhow::{Result, ensure};
+use bench_base::Bench;
+use disk_trait::{Disk, File, MemoryDisk};
+use rows::{ROWS, Row};
+use std::alloc::Global;
+
+/// Puts bytes at a place of the log.
+fn put(alloc: Global, disk: &mut MemoryDisk, row: Row<'_>) -> Result<()> {
+    let bytes = hex::decode(alloc, row.words)?;
+    let is_put = bytes.len() <= 1000
+        && disk
+            .write_at(File::Log, u64::from(row.some), &bytes)
+            .is_ok()
+        && disk.sync(File::Log).is_ok();
+    ensure!(is_put, "the log takes no bytes");
+    Ok(())
+}
+
+/// Does what a row says with a device.
+fn run_row(bench: &Bench<'_>, disk: &mut MemoryDisk, row: Row<'_>) -> Result<()> {
+    let alloc = bench.alloc();
+    match row.verb {
+        "new" => *disk = MemoryDisk::new(alloc, Vec::new(alloc)),
+        "log" => put(alloc, disk, row)?,
+        "insert" | "search" => stores::run(bench, disk, row)?,
+        "clean" => cleaning::run(bench, disk, row)?,
+        _ => scans::run(bench, disk, row)?,
+    }
+    Ok(())
+}
+
+/// The whole program.
+fn run(bench: &Bench<'_>) -> Result<()> {
+    let alloc = bench.alloc();
+    let mut disk = MemoryDisk::new(alloc, Vec::new(alloc));
+    for line in ROWS.lines() {
+        run_row(bench, &mut disk, Row::new(line.trim()))?;
+    }
+    Ok(())
+}
+
+/// The whole program, at the process's own output.
+fn main(rt: HostRuntime) -> Result<()> {
+    run(&Bench::new(&rt)?)
+}

@@ -1,0 +1,162 @@
+// The rows, and what their words stand for.
+
+/// What is done with a device: how often, and how often where time is asked for, with what, and after `|` what is
+/// printed after the first count. `new` begins another device; `log` puts bytes at a place of its log. `insert` has the
+/// vector of the documents: `-` is the one without words, `long` one of a word of 2,046 letters, each time another, and
+/// where it has none, each has eight words that are drawn. `search` has a query; both also print the serial of the last
+/// document that they stored or found. `scan` has a query: it is printed how many documents are found, how many the
+/// judge does not leave out, and how many heads and pages are read in how many steps. `clean` moves the pending list to
+/// the tree, of a store of so many pages; it is printed in how many steps, or that no page was left. `tree` has a word:
+/// it is printed how many items the leaves have for it, and how many pages are read, the leftmost way and all leaves.
+/// `hold` holds a page.
+///
+/// No head is read for a word that no document has. 816 rows of one key of a letter have room on a page, and 204 heads
+/// with their vectors: so 2,000 documents have 3 pages of the list and 10 heap pages, and the metapage is read too.
+///
+/// In the log are three inserts: the second one, of `b:1`, is aborted when its row is linked. The row stays, and the
+/// document is never found.
+///
+/// 995 documents of one word make a list of 1000 bytes, so the next one stays on the pending list, and is found.
+pub(crate) const ROWS: &str = "\
+    new
+    insert 1 1 a:1 b:2 | insert of a and b
+    search 1 1 b | with b
+    new
+    scan 1 1 a | with a among none
+    insert 2000 2000 b:1 | inserts of b
+    scan 1 1 a | with a
+    scan 1 1 a & b | with a and b
+    scan 1 1 b | with b
+    scan 1 1 !a | without a
+    insert 1 1 a:1 | insert of a
+    scan 1 1 a | with a
+    scan 1 1 a & b | with a and b
+    new
+    log 0 0 0147494e5348204452414654203030303401b7e00000184000000100000000010000000000000002000000000001
+    log 53 0 01000000000000000c
+    log 8237 0 0100000000050000000000000001
+    log 16434 0 0e00000002010000000200000000000000001f200000060100000003000000000000000010000001000000000000
+    log 16481 0 01020000000002000100000000000300000000000000280000000000000001010000000000000001000000000000
+    log 16536 0 0b00000001000000010061010001
+    log 24679 0 24400000090100000004000000000000000010000001000000000000000202000000000200010000000000040000
+    log 24730 0 2800000000000000010100000000000000010000000000000000000000030000000b000000010000000100610100
+    log 24776 0 01
+    log 32906 0 0300000000040001000000000004000000000000000a0000000000000000100000010002000061
+    log 41103 0 244000000b0100000005000000000000000010000001000000000000000202000000000200010000000000050000
+    log 41154 0 2800000000000000010100000000000000010000000000000000000000000000000b000000010000000100610100
+    log 41200 0 01
+    log 49335 0 010000000000000005000000000000000c00000000000000030000000300000001
+    log 57527 0 1200000003010000000600000000000000010000000001d88000000e00000002020000000700000000000000001f
+    log 57573 0 20000006020000000800000000000000011000000200000000000000010200000000020002000000000008000000
+    log 57623 0 5000000000000000010100000000000000010000000000000000000000000000000b000000010000000100610100
+    log 57669 0 0100010200000000000000020000000000000000000000000000000b00000001000000010062010001
+    log 65799 0 1f2000000a0200000009000000000000000110000002000000000000000103000000000400020000000000090000
+    log 65850 0 14000000000000000010000001000200006101100000010002000062
+    log 74026 0 0e00000004020000000a00000000000000000e00000002030000000b00000000000000001f20000006030000000c
+    log 74079 0 02100000030000000000000001020000000002000300000000000c00000000000000780000000000000001010000
+    log 74130 0 010000000000000000000000000000000b0000000100000001006101000100010200000000000000020000000000
+    log 74186 0 0b0000000100000001006201000100010300000000000000030000000000000000000000000000000b0000000100
+    log 74234 0 010063010001
+    log 82289 0 1f2000000a030000000d0000000000000002100000030000000000000001030000000004000300000000000d0000
+    log 82340 0 1e00000000000000001000000100020000610110000001000200006202100000010002000063
+    log 90516 0 1200000003030000000e00000000000000020000000000
+    scan 1 1 a | with a in the log
+    scan 1 1 b | with b, whose insert is aborted
+    scan 1 1 c | with c
+    scan 1 1 !z | without z
+    insert 1 1 b:1 | insert of b
+    scan 1 1 b | with b
+    new
+    insert 1 1 - | insert of no word
+    clean 1 1 | steps of a cleanup
+    tree 1 1 - | items of the placeholder
+    new
+    insert 995 995 a:1 | inserts of a
+    clean 1 1 | steps of a cleanup
+    tree 1 1 a | items of a
+    scan 1 1 a | with a
+    clean 1 1 | steps of a cleanup
+    insert 1 1 a:1 | insert of a
+    clean 1 1 | steps of a cleanup
+    tree 1 1 a | items of a
+    scan 1 1 a | with a
+    new
+    insert 8 8 long | inserts of long words
+    clean 1 1 16 | steps of a cleanup
+    clean 1 1 | steps of a cleanup
+    tree 1 1 a | items of a
+    new
+    insert 1000 20000 | inserts of eight words
+    search 1 100 w241 | with w241
+    search 1 100 z | with z
+    search 1 100 w241 & w5 | with w241 and w5
+    search 1 100 w241 | w5 | with w241 or w5
+    search 1 100 w24:* | with a word that begins with w24
+    search 1 100 !w241 | without w241
+    search 1 100 w241 <-> w5 | with w241 before w5
+    hold 1000 1000000 | holds
+    scan 1 1 w241 | with w241
+    scan 1 1 z | with z
+    scan 1 1 w241 & w5 | with w241 and w5
+    scan 1 1 w241 | w5 | with w241 or w5
+    scan 1 1 w24:* | with a word that begins with w24
+    scan 1 1 !w241 | without w241
+    scan 1 1 w241 <-> w5 | with w241 before w5
+    clean 1 1 | steps of a cleanup
+    tree 1 1 w241 | items of w241
+    scan 1 1 w241 | with w241
+    scan 1 1 z | with z
+    scan 1 1 w241 & w5 | with w241 and w5
+    scan 1 1 w24:* | with a word that begins with w24
+    scan 1 1 !w241 | without w241
+    search 1 1000 w241 | with w241
+    search 1 1000 z | with z
+    search 1 1000 w241 & w5 | with w241 and w5
+    search 1 100 w24:* | with a word that begins with w24
+    search 1 1000 w241 <-> w5 | with w241 before w5
+    search 1 1000 w241 & !w5 | with w241 and without w5
+    search 1 10 !w241 | without w241
+";
+
+/// The first word, and the words after it.
+fn word(words: &str) -> (&str, &str) {
+    words.split_once(' ').unwrap_or((words, ""))
+}
+
+/// The number that a word is; the greatest where it is none.
+fn number(word: &str) -> u32 {
+    word.parse().unwrap_or(u32::MAX)
+}
+
+/// A row: what is done, how often and how often where time is asked for, with what, and what is printed after its
+/// count. The first number of bytes for the log is their place.
+#[derive(Clone, Copy)]
+pub(crate) struct Row<'a> {
+    pub(crate) verb: &'a str,
+    pub(crate) some: u32,
+    many: u32,
+    pub(crate) words: &'a str,
+    pub(crate) title: &'a str,
+}
+
+impl<'a> Row<'a> {
+    /// The row of a line.
+    pub(crate) fn new(line: &'a str) -> Row<'a> {
+        let (words, title) = line.rsplit_once(" | ").unwrap_or((line, ""));
+        let (verb, words) = word(words);
+        let (some, words) = word(words);
+        let (many, words) = word(words);
+        Row {
+            verb,
+            some: number(some),
+            many: number(many),
+            words,
+            title,
+        }
+    }
+
+    /// How often it is done.
+    pub(crate) fn times(self, is_timed: bool) -> u32 {
+        if is_timed { self.many } else { self.some }
+    }
+}
