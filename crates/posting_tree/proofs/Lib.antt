@@ -10,3 +10,4 @@ mod SplitPages
 mod SplitsLogged
 mod LoggedPages
 mod FullPages
+mod Unlinked

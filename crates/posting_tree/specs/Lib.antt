@@ -5,5 +5,6 @@ pub mod Adding
 pub mod Growing
 pub mod Splitting
 pub mod Adopting
+pub mod Unlinking
 pub mod Full
 pub mod Logging

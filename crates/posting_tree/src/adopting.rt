@@ -1,5 +1,5 @@
 // A parent that takes the new page of a split.
-ghost use Rattle.std.specs.Prelude.{◌≡◌, ◌≢◌, ◌↔◌, ◌<◌, IfOk, IfSome, IfNone, Some, None};
+ghost use Rattle.std.specs.Prelude.{◌≡◌, ◌≢◌, ◌↔◌, ℕ, ◌<◌, IfOk, IfSome, IfNone, Some, None};
 ghost use Rattle.std.specs.List.{slice_get};
 ghost use Rattle.page_types.specs.Numbers.{page_limit};
 ghost use Rattle.page_types.specs.Pages.{IsPage};
@@ -14,9 +14,11 @@ use page_types::{Body, Page, PostChild};
 use std::alloc::AllocError;
 
 /// The number of the first child with this page, and its bound.
-fn place_of(children: &[PostChild], page: u32) -> Option<(usize, u32)>
+pub(crate) fn place_of(children: &[PostChild], page: u32) -> Option<(usize, u32)>
     ensures some { IfSome result (λ at. slice_get children.now at.0
         ≡ Some (record { page = page; bound = at.1 })) }
+    ensures first { IfSome result (λ at. (j : ℕ) (c : PostChild) → j < at.0
+        → slice_get children.now j ≡ Some c → c.page ≢ page) }
     ensures none { IfNone result ((c : PostChild) → In c children.now → c.page ≢ page) }
 {
     for (k, child) in children.iter().enumerate() {

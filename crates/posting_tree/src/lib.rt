@@ -1,5 +1,5 @@
 //! Pages of posting trees: an item is sought on one, a tree's first leaf is made, items are added to a leaf, a page is
-//! split, a root grows, and a parent takes the new page of a page that was split.
+//! split, a root grows, and a parent takes the new page of a page that was split, or loses a child.
 //!
 //! A posting tree is a B-tree of the items of one key. A leaf has an item list; an inner page has children, each with
 //! the greatest item that may be below it.
@@ -12,6 +12,7 @@ mod growing;
 mod laws;
 mod pages;
 mod splitting;
+mod unlinking;
 
 pub use adding::{Added, MOST_LIST_BYTES, add, leaf};
 pub use adopting::adopt;
@@ -20,3 +21,4 @@ pub use growing::grow;
 pub use laws::{found_leads_down, full_pages_are_large, pages_may_be_logged};
 pub use pages::{first_child, has_room, upper};
 pub use splitting::split;
+pub use unlinking::unlink;
