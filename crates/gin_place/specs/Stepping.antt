@@ -48,9 +48,9 @@ IsNearer f f' old new =
 
 -- The way for the key has gone on, or all items are under it, and false is answered exactly where they are.
 -- At most one record was logged, and no page is held. A refusal logs nothing and leaves placing as it was;
--- its cause is said; a lawful store meets no bad page. As long as no room is to be made nothing is logged where all items are under the key
--- already, nor where its list takes no more of them; that step then never ends well. Where room was made, a
--- new page was left. A step after which more are to come brings the end nearer.
+-- its cause is said; a lawful store meets no bad page. As long as no room is to be made nothing is logged where
+-- all items are under the key already, nor where its list takes no more of them; that step then never ends well.
+-- Where room was made, a new page was left. A step after which more are to come brings the end nearer.
 pub record HasStepped {D : Type 0} (device : Disk D) (f : FramesValue D) (pass : Pass) (f' : FramesValue D)
     (pass' : Pass) (k : Key) (items : List ℕ) (old new : Placing) (result : Result Bool PlaceError) : Type 0 where
   pub placing : IsPlacing device f' pass' k items new

@@ -14,9 +14,9 @@ abbrev pub most_on_ways : ScanCore → ℕ
 most_on_ways s = most_on s (length (sought_in s)) (length s.roots.items)
 
 -- So many pages were held before the scan, and it has held at most these: the metapage, as many pages of the
--- list as there are pages, as many for each walk through the tree and for each posting tree, one for each kept item whose
--- head was read, and as many as there are pages for each vector that waited. While a chain or a walk is read, what may
--- still be read of it is counted with what was held.
+-- list as there are pages, as many for each walk through the tree and for each posting tree, one for each kept
+-- item whose head was read, and as many as there are pages for each vector that waited. While a chain or a walk
+-- is read, what may still be read of it is counted with what was held.
 abbrev pub IsBounded : ℕ → ScanCore → ℕ → Stage → Type 0
 IsBounded before s holds stage.Meta = holds ≤ before
 IsBounded before s holds (stage.Pending page left) = holds + left ≤ before + suc s.extent
