@@ -11,23 +11,10 @@ use Rattle.core_state.specs.Legal.{IsLegal}
 use Rattle.core_state.specs.Stores.{PagesStand}
 use Rattle.buffer_frames.specs.Counted.{IsCounted}
 
--- the kinds of record of a store whose keys keep lists: it has no posting tree, no vacuum and no checkpoint
+-- the kinds of record of a log that replays from its first record: it has no checkpoint
 abbrev pub IsEarlyKind : Kind → Type 0
-IsEarlyKind kind.Create = ⊤
-IsEarlyKind kind.Begin = ⊤
-IsEarlyKind (kind.Commit number) = ⊤
-IsEarlyKind kind.Abort = ⊤
-IsEarlyKind (kind.PlaceHead item serial) = ⊤
-IsEarlyKind (kind.PutOverflow item serial) = ⊤
-IsEarlyKind (kind.MarkDeleted item serial) = ⊤
-IsEarlyKind (kind.PutPending item serial) = ⊤
-IsEarlyKind (kind.AddRow item serial) = ⊤
-IsEarlyKind (kind.LinkPending item serial) = ⊤
-IsEarlyKind kind.Shift = ⊤
-IsEarlyKind kind.AddItems = ⊤
-IsEarlyKind kind.GrowRoot = ⊤
-IsEarlyKind kind.Split = ⊤
-IsEarlyKind _ = ⊥
+IsEarlyKind (kind.Checkpoint redo) = ⊥
+IsEarlyKind _ = ⊤
 
 -- the kinds that a session logs: no checkpoint, and no slot is freed
 abbrev pub IsLoggedKind : Kind → Type 0
@@ -35,7 +22,7 @@ IsLoggedKind (kind.Checkpoint redo) = ⊥
 IsLoggedKind kind.FreeSlots = ⊥
 IsLoggedKind _ = ⊤
 
--- A legal log with its history. It has no record that only a posting tree, vacuum or a checkpoint needs.
+-- A legal log with its history. It has no checkpoint.
 pub record IsLogOf (R : Log) (H : History) : Type 0 where
   pub legal : IsLegal R
   pub history : IsHistory R H
