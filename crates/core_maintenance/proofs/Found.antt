@@ -76,6 +76,7 @@ module _ (R R' : Log) (P Q : Pages) (legal : IsLegal R) (shown : Shows R P) (sta
     high_post = λ root i p h top way is. high_post_kept P Q root (λ q b. stay.trees root q top b) h p
         (toward_item_below P root i root p Below.root way) is;
     same = λ k p way. stay.trees 1 p IsRoot.of_entries (toward_below P 1 k 1 p Below.root way);
+    same_post = λ root i p top way. stay.trees root p top (toward_item_below P root i root p Below.root way);
   }
 
 pub found_holds : FoundHolds

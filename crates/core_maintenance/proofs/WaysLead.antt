@@ -1,5 +1,5 @@
 -- The ways down the trees of a legal log, by the places and bounds of their pages.
-use Rattle.std.proofs.Common.{◌≡◌, ◌≢◌, ◌⊎◌, ◌<◌, ◌≤◌, ℕ, zero, suc, List, [], ◌∷◌, ◌++◌, length, map, sym, ap, subst}
+use Rattle.std.proofs.Common.{◌≡◌, ◌≢◌, ◌⊎◌, ◌<◌, ◌≤◌, ℕ, zero, suc, List, [], ◌∷◌, ◌++◌, length, map, refl, sym, ap, subst}
 use Rattle.std.proofs.Common.{◌∙◌, inl, inr, arith}
 use Rattle.ts_base.specs.Keys.{Key}
 use Rattle.page_types.specs.Numbers.{no_bound, item_limit}
@@ -24,7 +24,9 @@ use Rattle.core_state.specs.Inner.Kinds.{Fits}
 use Rattle.core_state.proofs.Trees.Members.{in_map, in_middle}
 use Rattle.core_state.proofs.Trees.FromNodes.{leaf_shows}
 use Rattle.core_state.proofs.Trees.Find.{kids_here, child_here}
-use Rattle.core_state.proofs.Trees.Orders.{keys, items, up_to_bound, child_bound_is}
+use Rattle.core_state.proofs.Trees.Orders.{keys, items, up_to_bound, child_bound_is, high_bound_is}
+use Rattle.core_state.proofs.Trees.Order.{at_most_trans}
+use Rattle.core_state.proofs.Trees.Kids.{kid_place}
 use Rattle.core_state.proofs.Trees.EntryViews as entries
 use Rattle.core_state.proofs.Trees.PostViews as posts
 use Rattle.core_state.proofs.Trees.LeafOrder.{kids_last}
@@ -73,6 +75,19 @@ item_up i b small m = elim (child_bound_is b) [
     at_most : (i j : ℕ) → AtMost items greatest (at i) (at j) → i ≤ j
     at_most i j (inl l) = omega (arith, l)
     at_most i j (inr e) = let s = same_at i j e in omega (arith, s)
+
+up_high : (i high : ℕ) → ItemUpTo i high → AtMost items greatest (at i) (high_bound high)
+up_high i high up = elim (high_bound_is high) [
+  | inl e ↦ subst (AtMost items greatest (at i)) (sym e.1) (inl tt)
+  | inr e ↦ subst (AtMost items greatest (at i)) (sym e.1) (within e.0 up)
+]
+  where
+    either : (i b : ℕ) → i ≤ b → (i < b) ⊎ (i ≡ b)
+    either i b le = grind (arith, le)
+
+    within : (high ≢ 0) → ItemUpTo i high → AtMost items greatest (at i) (at high)
+    within some (inl none) = absurd (some none)
+    within some (inr le) = elim (either i high le) [ inl l ↦ inl l | inr e ↦ inr (ap at e) ]
 
 not_free : (b c : Body) → b ≡ c → (c ≡ body.Free → ⊥) → b ≢ body.Free
 not_free b c e off f = off (sym e ∙ f)
@@ -177,6 +192,43 @@ module _ (n L : ℕ) (R : Log) (P : Pages) (g : Ghost) (v : Inv n L R P g) where
       let kid = post_kid p place.0 place.1 (front ++ c ∷ back) place.2 is c (in_middle front c back) in
       post_way i c.page q rest (subst (AtMost items greatest (at i)) (sym kid.1) (up_item i c.bound up))
 
+  -- no page below another has a higher bound
+  post_lower : (i p q r h : ℕ) → g.place p ≡ post r h → TowardItem P i p q
+      → AtMost items greatest (g.high_item q) (g.high_item p)
+  post_lower i p q r h e TowardItem.here = inr refl
+  post_lower i p q r h e (TowardItem.down front back c is low up rest) =
+      let place = place_for L (g.place p) (P p) (body.PostInner (front ++ c ∷ back)) (v.kinds p) is in
+      let kid = post_kid p place.0 place.1 (front ++ c ∷ back) place.2 is c (in_middle front c back) in
+      let kids = kids_here items greatest (post_nodes P) (post_ghost g) v.posts p place.0 place.1 (P p).right
+      (map post_child (front ++ c ∷ back)) (ap post_place place.2) (posts.inner_node (P p) (front ++ c ∷ back) is) in
+      let within = (kid_place items greatest (post_ghost g) place.0 place.1 (g.low_item p) (g.high_item p)
+      (map post_child (front ++ c ∷ back)) (λ x at_x. v.posts.span x place.0 place.1 at_x) kids (post_child c)
+      (in_map post_child c (front ++ c ∷ back) (in_middle front c back))).2 in
+      at_most_trans items greatest (g.high_item q) (g.high_item c.page) (g.high_item p)
+      (post_lower i c.page q place.0 place.1 kid.0 rest) within
+
+  -- a greater item up to the bound of the page has the same way
+  post_same : (i j p q r h : ℕ) → g.place p ≡ post r h → i ≤ j → j < item_limit
+      → AtMost items greatest (at j) (g.high_item q) → TowardItem P i p q → TowardItem P j p q
+  post_same i j p q r h e le small m TowardItem.here = TowardItem.here
+  post_same i j p q r h e le small m (TowardItem.down front back c is low up rest) =
+      let place = place_for L (g.place p) (P p) (body.PostInner (front ++ c ∷ back)) (v.kinds p) is in
+      let kid = post_kid p place.0 place.1 (front ++ c ∷ back) place.2 is c (in_middle front c back) in
+      let lower = post_lower i c.page q place.0 place.1 kid.0 rest in
+      let below : j ≤ c.bound =
+      item_up j c.bound small (subst (AtMost items greatest (at j)) kid.1
+      (at_most_trans items greatest (at j) (g.high_item q) (g.high_item c.page) m lower)) in
+      TowardItem.down front back c is (λ b on. let l = low b on in omega (arith, l, le)) below
+      (post_same i j c.page q place.0 place.1 kid.0 le small m rest)
+
+  post_leaf_to : (j p high : ℕ) (is : List ℕ) → ItemUpTo j high → (P p).body ≡ body.PostLeaf high is
+      → AtMost items greatest (at j) (g.high_item p)
+  post_leaf_to j p high is up b =
+      let place = place_for L (g.place p) (P p) (body.PostLeaf high is) (v.kinds p) b in
+      let shows = leaf_shows items least greatest (post_nodes P) (post_nodes P) (post_ghost g) v.posts p place.0
+      (P p).right (high_bound high) (map at (items_of is)) (ap post_place place.1) (posts.leaf_node (P p) high is b) in
+      subst (AtMost items greatest (at j)) shows.0 (up_high j high up)
+
   post_high : (h q r : ℕ) → g.place q ≡ post r h → IsHighPost P h q
   post_high zero q r e =
       let f : Fits L (post r 0) (P q) = subst (λ (x : Place). Fits L x (P q)) e (v.kinds q) in
@@ -245,6 +297,9 @@ module _ (n L : ℕ) (R : Log) (P : Pages) (g : Ghost) (v : Inv n L R P g) where
           (post_way i r p way (item_to k r i named)) b;
       post_child = λ k r i p cs named small way is. post_child_up i p cs small
           (post_way i r p way (item_to k r i named)) is;
+      post_near = λ k r i j p high is named le small way b up.
+          let top = root k r named in
+          post_same i j r p r top.0 top.1 le small (post_leaf_to j p high is up b) way;
     }
 
 pub ways_hold : WaysHold

@@ -32,7 +32,7 @@ IsWithin P h = (n : ℕ) → ((p : ℕ) → (P p).body ≢ body.Free → p < n) 
 
 -- The trees have their heights, which are less than the number of pages. On the way of a key a leaf may
 -- have it by its high key, and an inner page has a child that may, by its bound; so it is of an item
--- from the root that an entry names.
+-- from the root that an entry names. A greater item up to the high item of an item's leaf has the same way.
 pub record WaysLead (P : Pages) : Type 0 where
   pub height : (h : ℕ) × IsHigh P h 1 × IsWithin P h
   pub leaf : (k : Key) (p : ℕ) (high : Key) (es : List Entry) → Toward P k 1 p
@@ -46,6 +46,9 @@ pub record WaysLead (P : Pages) : Type 0 where
   pub post_child : (k : Key) (root i p : ℕ) (cs : List PostChild) → IsNamed P k root
       → i < item_limit → TowardItem P i root p → (P p).body ≡ body.PostInner cs
       → (c : PostChild) × In c cs × (i ≤ c.bound)
+  pub post_near : (k : Key) (root i j p high : ℕ) (items : List ℕ) → IsNamed P k root → i ≤ j
+      → j < item_limit → TowardItem P i root p → (P p).body ≡ body.PostLeaf high items → ItemUpTo j high
+      → TowardItem P j root p
 
 -- so they do in every legal log that isn't empty
 abbrev pub WaysHold : Type 0

@@ -26,6 +26,7 @@ pub record FoundStays (P Q : Pages) : Type 0 where
   pub high_post : (root i p h : ℕ) → IsRoot P root → TowardItem P i root p → IsHighPost P h p
       → IsHighPost Q h p
   pub same : (k : Key) (p : ℕ) → Toward P k 1 p → Q p ≡ P p
+  pub same_post : (root i p : ℕ) → IsRoot P root → TowardItem P i root p → Q p ≡ P p
 
 -- it is so over later records of none of the kinds 12 to 21
 abbrev pub FoundHolds : Type 0
