@@ -11,3 +11,6 @@ mod SplitsLogged
 mod LoggedPages
 mod FullPages
 mod Unlinked
+mod LeftLists
+mod LeftPages
+mod LeftLogged

@@ -30,7 +30,7 @@ same_or_not i j =
       ]
     ]
 
-in_or_not : (i : ℕ) (is : List ℕ) → In i is ⊎ (In i is → ⊥)
+pub in_or_not : (i : ℕ) (is : List ℕ) → In i is ⊎ (In i is → ⊥)
 in_or_not i [] = inr (λ on. on)
 in_or_not i (j ∷ is) =
     elim (same_or_not i j) [
@@ -67,7 +67,7 @@ all_later : (low last : ℕ) (is : List ℕ) → low ≤ last → AreItemsFrom l
 all_later low last [] le h = tt
 all_later low last (i ∷ is) le h = (omega (arith, h.0), all_later low i is (omega (arith, h.0)) h.2)
 
-items_rise : (last : ℕ) (is : List ℕ) → AreItemsFrom last is → Rising (λ (i j : ℕ). i < j) is
+pub items_rise : (last : ℕ) (is : List ℕ) → AreItemsFrom last is → Rising (λ (i j : ℕ). i < j) is
 items_rise last [] h = tt
 items_rise last (i ∷ is) h = (all_later i i is (omega arith) h.2, items_rise i is h.2)
 

@@ -5,6 +5,8 @@ pub mod Adding
 pub mod Growing
 pub mod Splitting
 pub mod Adopting
+pub mod Removing
+pub mod RemovalLogging
 pub mod Unlinking
 pub mod Full
 pub mod Logging
