@@ -1,0 +1,9 @@
+pub mod Inner
+pub mod Leaving
+pub mod VacuumSteps
+pub mod Staying
+pub mod Keeping
+pub mod Leaves
+pub mod Entries
+pub mod DeadHeads
+pub mod HeapPages
