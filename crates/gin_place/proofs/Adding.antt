@@ -1,5 +1,5 @@
 -- The step by which items come to a leaf of the entry tree, and what is under the key then.
-use Rattle.std.proofs.Common.{◌≡◌, ◌≢◌, ◌<◌, ⊎_elim, ℕ, List, [], ◌∷◌, ◌++◌, refl, sym, ap}
+use Rattle.std.proofs.Common.{◌≡◌, ◌≢◌, ◌<◌, ⊎_elim, ℕ, List, [], ◌∷◌, ◌++◌, take, refl, sym, ap}
 use Rattle.std.proofs.Common.{subst, ◌∙◌, inl, inr, arith}
 use Rattle.std.specs.List.{Contains}
 use Rattle.disk_trait.specs.declared.device.Disk.{Ghosts as Disk}
@@ -33,6 +33,7 @@ use Rattle.gin_place.specs.Placing.{HasRight, ArePending, ArePlaced, IsOnWay}
 use Rattle.gin_place.specs.Inner.Logging.{MayLogStep}
 use Rattle.gin_place.specs.Inner.Reading.{HasItem, IsReading}
 use Rattle.gin_place.specs.declared.reading.Reading.TheVariants as reading
+use Rattle.gin_place.specs.declared.sought.Sought.TheVariants as sought
 use Rattle.gin_place.proofs.Lists.{in_list, contained}
 use Rattle.gin_place.proofs.Owing.{owes_of, right_of}
 
@@ -48,10 +49,10 @@ pub record AddsTo (c : Page) (key items : List ℕ) (p : Page) : Type 0 where
   pub fresh : (i : ℕ) × Contains items i × IsNewUnder c.body key i
   pub is_page : IsPage p
 
-pub adds_to : (c : Page) (key items : List ℕ) (p : Page) → IsReading c key items (reading.Added p)
-    → AddsTo c key items p
-adds_to c key items p (IsReading.more q leaf added within fresh is_page no_tree) = record {
-  leaf = leaf;
+pub adds_to : (c : Page) (key items : List ℕ) (p : Page) (n : ℕ) → IsReading c key items (reading.Added p n)
+    → AddsTo c key (take n items) p
+adds_to c key items p n (IsReading.more q m is_leaf some most added within fresh is_page no_tree) = record {
+  leaf = is_leaf;
   added = added;
   within = within;
   fresh = fresh;
@@ -103,7 +104,7 @@ module _ {D : Type 0} (device : Disk D) (f : FramesValue D) (pass : Pass) (held 
       let e : leaf_with u ≡ body.Free = sym is ∙ free in
       let z : ⊥ = cc in z
 
-  items_allowed : IsPassOf f pass → HasRight pass → IsOnWay device f pass key held.page
+  items_allowed : IsPassOf f pass → HasRight pass → IsOnWay device f pass key sought.Key held.page
       → ArePending device f pass key items → MayBy CanAddItems → ItemsServe → AddedItemsAreLogged
       → Behind device f (λ (R : Log). MayLog (view_of f pass R (held ∷ [])) (items_step held.page new))
   items_allowed of right way rows may serve logged t up R stands legal =
@@ -119,7 +120,7 @@ module _ {D : Type 0} (device : Disk D) (f : FramesValue D) (pass : Pass) (held 
         rows = λ i on. rows i on t up R stands legal P shown;
       }))
 
-  pub items_may_log : IsPassOf f pass → HasRight pass → IsOnWay device f pass key held.page
+  pub items_may_log : IsPassOf f pass → HasRight pass → IsOnWay device f pass key sought.Key held.page
       → ArePending device f pass key items → MayBy CanAddItems → ItemsServe → AddedItemsAreLogged
       → MayLogStep device f pass (held ∷ []) (items_step held.page new)
   items_may_log of right way rows may serve logged = record {
@@ -133,10 +134,11 @@ module _ {D : Type 0} (device : Disk D) (f : FramesValue D) (pass : Pass) (held 
       once = (tt, tt);
     };
     kind = tt;
-    placing = inl refl;
+    placing = (omega arith, omega arith);
     pages = omega arith;
     may = items_allowed of right way rows may serve logged;
-    owes = owes_of device f pass (held ∷ []) (items_step held.page new) of right refl (inl refl) (λ p i. i) (tt, tt)
+    owes = owes_of device f pass (held ∷ []) (items_step held.page new) of right refl (omega arith, omega arith)
+        (λ p i. i) (tt, tt)
         (λ x i. ⊎_elim (λ (e : x ≡ sheet held.page new). subst (λ (z : Sheet). IsPage z.content) (sym e) a.is_page)
         absurd i);
   }

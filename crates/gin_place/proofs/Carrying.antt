@@ -7,19 +7,15 @@ use Rattle.ts_base.specs.Keys.{Key}
 use Rattle.page_types.specs.declared.page.Page.{Page}
 use Rattle.core_state.specs.Log.{Log, Pages, Shows, cut}
 use Rattle.core_state.specs.Allowed.{Sheet}
-use Rattle.core_state.specs.Index.{Pending, Main}
-use Rattle.core_state.specs.TreeRules.{Toward}
+use Rattle.core_state.specs.Index.{Pending, Main, IsNamed}
+use Rattle.core_state.specs.TreeRules.{IsRoot}
 use Rattle.core_state.specs.States.{StateTells}
 use Rattle.core_state.specs.Steps.{IsNewSheet}
 use Rattle.page_space.specs.Taking.{IsTaken, TakenIsNew}
 use Rattle.core_state.proofs.Showing.{shown_one}
 use Rattle.core_state.proofs.Steps.Seen.{seen_shown}
-use Rattle.core_maintenance.specs.Leading.{IsHigh}
 use Rattle.core_maintenance.specs.Right as maintenance
 use Rattle.core_maintenance.specs.Staying.{FoundStays, RightKeepsFound}
-use Rattle.entry_tree.specs.Finding.{IsFound}
-use Rattle.entry_tree.specs.Reading.{HasRoomForChild}
-use Rattle.entry_tree.specs.declared.finding.Found.TheVariants as found
 use Rattle.buffer_frames.specs.Frames.{FramesValue, Stands}
 use Rattle.buffer_frames.specs.Passes.{IsPassOf, IsHolding, HasAdded, PassRises, Seen, SeesOn, view_of}
 use Rattle.buffer_frames.specs.declared.pass.Pass.{Pass}
@@ -27,9 +23,11 @@ use Rattle.buffer_frames.proofs.Added.{added_in_turn, on_by_none}
 use Rattle.buffer_frames.proofs.AtHand.{cut_length, cut_whole, log_length}
 use Rattle.buffer_frames.proofs.Begun.{same_by_none}
 use Rattle.gin_place.specs.Running.{StoreGoesOn}
-use Rattle.gin_place.specs.Placing.{HasRight, IsLeft, IsRoomAbove}
-use Rattle.gin_place.specs.Going.{IsPlacingKind, KeepsPairs, KeepsWays, WorksOn}
-use Rattle.gin_place.specs.Overfull.{IsOverlong, IsOverfull}
+use Rattle.gin_place.specs.Trees.{root_of, HasRoomIn, GoesDown, Leads, IsHighIn}
+use Rattle.gin_place.specs.Placing.{HasRight, IsRootOf, IsLeft, IsRoomAbove}
+use Rattle.gin_place.specs.Going.{IsPlacingKind, KeepsPairs, KeepsTrees, KeepsWays, WorksOn}
+use Rattle.gin_place.specs.declared.sought.Sought.{Sought}
+use Rattle.gin_place.proofs.TreeWays.{leads_then, high_then, same_then}
 use Rattle.gin_place.proofs.Running.{goes_still, goes_in_turn}
 use Rattle.gin_place.specs.Holding.{ReadsOn, HoldsNoMore, IsNewHeld}
 
@@ -88,27 +86,29 @@ module _ {D : Type 0} (device : Disk D) (law : RightKeepsFound) (f g : FramesVal
     placed = λ k i. found_then (λ P. Main P k i) (λ P Q s. s.main k i);
   }
 
+  keeps_trees : KeepsTrees device f p g q
+  keeps_trees k root = found_then (λ P. IsNamed P k root) (λ P Q s. s.named k root)
+
   pub keeps_ways : KeepsWays device f p g q
-  keeps_ways k n = found_then (λ P. Toward P k 1 n) (λ P Q s. s.toward k n)
+  keeps_ways k t n = found_then (λ P. Leads P k t n) (λ P Q s. leads_then P Q s k t n)
 
-  keeps_left : (k : Key) (page n : ℕ) → IsLeft device f p k page n → IsLeft device g q k page n
-  keeps_left k page n =
-      found_then (λ P. Toward P k 1 page × (h : ℕ) × IsHigh P h page × (h < n))
-      (λ P Q s x. (s.toward k page x.0, x.1, s.high k page x.1 x.0 x.2, x.3))
+  keeps_left : (k : Key) (t : Sought) (page n : ℕ) → IsLeft device f p k t page n → IsLeft device g q k t page n
+  keeps_left k t page n =
+      found_then (λ P. Leads P k t page × (h : ℕ) × IsHighIn P t h page × (h < n))
+      (λ P Q s x. (leads_then P Q s k t page x.0, x.1, high_then P Q s k t page x.1 x.0 x.2, x.3))
 
-  keeps_over : (k : Key) (items : List ℕ) → IsOverfull device f p k items → IsOverfull device g q k items
-  keeps_over k items =
-      found_then (λ P. (n : ℕ) × Toward P k 1 n × IsOverlong k items (P n))
-      (λ P Q s x. (x.0, s.toward k x.0 x.1, subst (IsOverlong k items) (sym (s.same k x.0 x.1)) x.2))
+  keeps_roots : (t : Sought) → IsRootOf device f p t → IsRootOf device g q t
+  keeps_roots t = found_then (λ P. IsRoot P (root_of t)) (λ P Q s. s.roots (root_of t))
 
-  keeps_above : (k : Key) (parent page : ℕ) → IsRoomAbove device f p k parent page → IsRoomAbove device g q k parent page
-  keeps_above k parent page =
+  keeps_above : (k : Key) (t : Sought) (parent page : ℕ) → IsRoomAbove device f p k t parent page
+      → IsRoomAbove device g q k t parent page
+  keeps_above k t parent page =
       found_then
-      (λ P. Toward P k 1 parent × IsFound (P parent) k (found.Down page) × HasRoomForChild (P parent))
+      (λ P. Leads P k t parent × GoesDown k t (P parent) page × HasRoomIn t (P parent))
       (λ P Q s x. (
-        s.toward k parent x.0,
-        subst (λ (c : Page). IsFound c k (found.Down page)) (sym (s.same k parent x.0)) x.1,
-        subst HasRoomForChild (sym (s.same k parent x.0)) x.2,
+        leads_then P Q s k t parent x.0,
+        subst (λ (c : Page). GoesDown k t c page) (sym (same_then P Q s k t parent x.0)) x.1,
+        subst (HasRoomIn t) (sym (same_then P Q s k t parent x.0)) x.2,
       ))
 
   pub reads_by : q.pin ≡ p.pin → q.room ≡ p.room → q.xid ≡ p.xid → q.work ≡ p.work → g.pins ≡ f.pins
@@ -119,6 +119,7 @@ module _ {D : Type 0} (device : Disk D) (law : RightKeepsFound) (f g : FramesVal
       added = added;
       placing = tt;
       pairs = keeps_pairs;
+      trees = keeps_trees;
       rises = rises;
       pin = pin;
       room = room;
@@ -129,7 +130,7 @@ module _ {D : Type 0} (device : Disk D) (law : RightKeepsFound) (f g : FramesVal
     };
     ways = keeps_ways;
     left = keeps_left;
-    over = keeps_over;
+    roots = keeps_roots;
     above = keeps_above;
   }
 
@@ -161,6 +162,7 @@ module _ {D : Type 0} (device : Disk D) where
       pending = λ k i had. y.pairs.pending k i (x.pairs.pending k i had);
       placed = λ k i had. y.pairs.placed k i (x.pairs.placed k i had);
     };
+    trees = λ k root had. y.trees k root (x.trees k root had);
     rises = rises_on p q r x.rises y.rises;
     pin = y.pin ∙ x.pin;
     room = y.room ∙ x.room;
@@ -178,10 +180,10 @@ module _ {D : Type 0} (device : Disk D) where
       → ReadsOn device f p h r
   reads_in_turn f g h p q r x y = record {
     works = works_in_turn f g h p q r [] [] x.works y.works;
-    ways = λ k n had. y.ways k n (x.ways k n had);
-    left = λ k page n had. y.left k page n (x.left k page n had);
-    over = λ k items had. y.over k items (x.over k items had);
-    above = λ k parent page had. y.above k parent page (x.above k parent page had);
+    ways = λ k t n had. y.ways k t n (x.ways k t n had);
+    left = λ k t page n had. y.left k t page n (x.left k t page n had);
+    roots = λ t had. y.roots t (x.roots t had);
+    above = λ k t parent page had. y.above k t parent page (x.above k t parent page had);
   }
 
   -- nothing is done
@@ -192,6 +194,7 @@ module _ {D : Type 0} (device : Disk D) where
       added = added;
       placing = tt;
       pairs = record { pending = λ k i had. had; placed = λ k i had. had };
+      trees = λ k root had. had;
       rises = record { seen = omega arith; shown = omega arith; floor = omega arith; since = omega arith };
       pin = refl;
       room = refl;
@@ -200,10 +203,10 @@ module _ {D : Type 0} (device : Disk D) where
       pins = refl;
       goes = goes_still device f added;
     };
-    ways = λ k n had. had;
-    left = λ k page n had. had;
-    over = λ k items had. had;
-    above = λ k parent page had. had;
+    ways = λ k t n had. had;
+    left = λ k t page n had. had;
+    roots = λ t had. had;
+    above = λ k t parent page had. had;
   }
 
   pub no_more_in_turn : (f g h : FramesValue D) (p q r : Pass) → HoldsNoMore device f p g q

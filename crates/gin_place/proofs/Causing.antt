@@ -1,5 +1,5 @@
 -- Why calls are refused.
-use Rattle.std.proofs.Common.{◌≡◌, ◌↔◌, ◌≤◌, ℕ, List, [], ◌++◌, length, refl, sym, ap, subst, ◌∙◌, inl, inr, arith}
+use Rattle.std.proofs.Common.{◌≡◌, ◌↔◌, ◌≤◌, ℕ, List, [], ◌++◌, length, refl, sym, ap, subst, ◌∙◌, arith}
 use Rattle.std.proofs.Common.{Result, Err}
 use Rattle.std.specs.Prelude.{Option, Some, None, IfErr, ⊤}
 use Rattle.disk_trait.specs.declared.device.Disk.{Ghosts as Disk}
@@ -118,15 +118,15 @@ module _ {D : Type 0} (device : Disk D) where
   log_lawful f l g p (BadPage n) c = absurd c
 
   -- and a bad page that is met then
-  pub found_lawful : (Bad : FramesValue D → Pass → ℕ → Type 0) (Long : FramesValue D → Type 0) (f l : FramesValue D)
-      (p : Pass) (e : PlaceError) → (m : Finds device f p (IsWhy device Bad Long l e))
+  pub found_lawful : (Bad : FramesValue D → Pass → ℕ → Type 0) (f l : FramesValue D)
+      (p : Pass) (e : PlaceError) → (m : Finds device f p (IsWhy device Bad l e))
       → ((n : ℕ) → Bad m.0 m.1 n → HasNumbers m.0 → Behind device m.0 (λ (R : Log). ⊥)) → NoBadPage device f e
-  found_lawful Bad Long f l p StoreFull m never = tt
-  found_lawful Bad Long f l p LogFull m never = tt
-  found_lawful Bad Long f l p DiskFault m never = tt
-  found_lawful Bad Long f l p (Down n) m never = tt
-  found_lawful Bad Long f l p OutOfMemory m never = tt
-  found_lawful Bad Long f l p (BadPage n) m never = none_before f m.0 p m.1 m.2 m.3 (never n m.4)
+  found_lawful Bad f l p StoreFull m never = tt
+  found_lawful Bad f l p LogFull m never = tt
+  found_lawful Bad f l p DiskFault m never = tt
+  found_lawful Bad f l p (Down n) m never = tt
+  found_lawful Bad f l p OutOfMemory m never = tt
+  found_lawful Bad f l p (BadPage n) m never = none_before f m.0 p m.1 m.2 m.3 (never n m.4)
 
   -- the count of faults never falls
   abbrev pub Later : FramesValue D → FramesValue D → Type 0
@@ -144,9 +144,9 @@ module _ {D : Type 0} (device : Disk D) where
   hold_later page l m (BadPage q) le f p c = c
   hold_later page l m OutOfMemory le f p c = c
 
-  module _ (Bad : FramesValue D → Pass → ℕ → Type 0) (Long : FramesValue D → Type 0) where
+  module _ (Bad : FramesValue D → Pass → ℕ → Type 0) where
     pub why_later : (l m : FramesValue D) (e : PlaceError) → Later l m → (f : FramesValue D) (p : Pass)
-        → IsWhy device Bad Long l e f p → IsWhy device Bad Long m e f p
+        → IsWhy device Bad l e f p → IsWhy device Bad m e f p
     why_later l m StoreFull le f p c = c
     why_later l m LogFull le f p c = c
     why_later l m DiskFault le f p c = fault_later f l m le c
@@ -157,7 +157,7 @@ module _ {D : Type 0} (device : Disk D) where
     -- a page that is not held, and a step that is not logged
     pub hold_why : (page : ℕ) (l : FramesValue D) (e : PlaceError) (f : FramesValue D) (p : Pass)
         → (CannotUse f (λ (c : Page). ⊤) page → Bad f p page) → CannotHold device page l e f p
-        → IsWhy device Bad Long l e f p
+        → IsWhy device Bad l e f p
     hold_why page l StoreFull f p bad c = absurd c
     hold_why page l LogFull f p bad c = absurd c
     hold_why page l DiskFault f p bad c = c
@@ -167,7 +167,7 @@ module _ {D : Type 0} (device : Disk D) where
     hold_why page l OutOfMemory f p bad c = tt
 
     pub log_why : (l : FramesValue D) (e : PlaceError) (f : FramesValue D) (p : Pass) → CannotLog device l e f p
-        → IsWhy device Bad Long l e f p
+        → IsWhy device Bad l e f p
     log_why l StoreFull f p c = absurd c
     log_why l LogFull f p c = c
     log_why l DiskFault f p c = c
@@ -175,16 +175,15 @@ module _ {D : Type 0} (device : Disk D) where
     log_why l (BadPage q) f p c = absurd c
     log_why l OutOfMemory f p c = tt
 
-    pub why_as : (Bad' : FramesValue D → Pass → ℕ → Type 0) (Long' : FramesValue D → Type 0) (l : FramesValue D)
-        (e : PlaceError) (f : FramesValue D) (p : Pass) → ((q : ℕ) → Bad f p q → Bad' f p q) → (Long f → Long' f)
-        → IsWhy device Bad Long l e f p → IsWhy device Bad' Long' l e f p
-    why_as Bad' Long' l StoreFull f p to long (inl c) = inl c
-    why_as Bad' Long' l StoreFull f p to long (inr c) = inr (long c)
-    why_as Bad' Long' l LogFull f p to long c = c
-    why_as Bad' Long' l DiskFault f p to long c = c
-    why_as Bad' Long' l (Down n) f p to long c = c
-    why_as Bad' Long' l (BadPage q) f p to long c = to q c
-    why_as Bad' Long' l OutOfMemory f p to long c = c
+    pub why_as : (Bad' : FramesValue D → Pass → ℕ → Type 0) (l : FramesValue D)
+        (e : PlaceError) (f : FramesValue D) (p : Pass) → ((q : ℕ) → Bad f p q → Bad' f p q)
+        → IsWhy device Bad l e f p → IsWhy device Bad' l e f p
+    why_as Bad' l StoreFull f p to c = c
+    why_as Bad' l LogFull f p to c = c
+    why_as Bad' l DiskFault f p to c = c
+    why_as Bad' l (Down n) f p to c = c
+    why_as Bad' l (BadPage q) f p to c = to q c
+    why_as Bad' l OutOfMemory f p to c = c
 
   -- ── what the calls below refuse ──
 

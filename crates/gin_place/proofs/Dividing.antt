@@ -1,5 +1,5 @@
--- The step by which a page of the entry tree is split.
-use Rattle.std.proofs.Common.{◌≡◌, ◌≢◌, ◌<◌, ◌≤◌, ◌^◌, ℕ, List, [], ◌∷◌, length, refl, sym, ap, subst}
+-- The step by which a page of a tree is split.
+use Rattle.std.proofs.Common.{◌≡◌, ◌≢◌, ◌<◌, ◌≤◌, ◌^◌, ℕ, List, [], ◌∷◌, length, refl, sym, ap, subst, ◌∙◌}
 use Rattle.std.proofs.Common.{inl, inr, arith}
 use Rattle.std.specs.List.{AllByRecursion}
 use Rattle.disk_trait.specs.declared.device.Disk.{Ghosts as Disk}
@@ -8,19 +8,20 @@ use Rattle.page_types.specs.Keys.{Rising}
 use Rattle.page_types.specs.Pages.{IsPage}
 use Rattle.page_types.specs.Records.{IsKind, kind_number}
 use Rattle.page_types.specs.declared.page.Page.{Page}
-use Rattle.page_types.specs.declared.page.Body.{Body}
 use Rattle.page_types.specs.declared.page.Body.TheVariants as body
 use Rattle.page_types.specs.declared.record.Kind.{Kind}
 use Rattle.page_types.specs.declared.record.Kind.TheVariants as kind
-use Rattle.core_state.specs.Log.{Log, In}
+use Rattle.page_types.specs.declared.record.Record.{Record}
+use Rattle.core_state.specs.Log.{Log, In, changed}
 use Rattle.core_state.specs.Allowed.{Sheet, Step, MayLog, sheet_pages}
 use Rattle.core_state.specs.Steps.{MayBy, sheet}
-use Rattle.core_state.specs.TreeRules.{EntryParent}
+use Rattle.core_state.specs.TreeRules.{IsSplitHere}
+use Rattle.core_state.specs.Known.{Known}
+use Rattle.core_state.specs.Changes.{made_with, IsNew}
 use Rattle.core_maintenance.specs.TreeSteps.{CanSplit}
 use Rattle.core_maintenance.specs.TreePages.{SplitPagesServe}
-use Rattle.entry_tree.specs.Finding.{IsEntryBody}
-use Rattle.entry_tree.specs.Logging.{SplitPagesAreLogged}
-use Rattle.entry_tree.specs.Reading.{upper_in}
+use Rattle.entry_tree.specs.Logging as entry_laws
+use Rattle.posting_tree.specs.Logging as post_laws
 use Rattle.buffer_frames.specs.Drawing.{IsSheet}
 use Rattle.buffer_frames.specs.Opens.{IsLoggedKind}
 use Rattle.buffer_frames.specs.Frames.{FramesValue, Behind}
@@ -29,79 +30,91 @@ use Rattle.buffer_frames.specs.declared.pass.Pass.{Pass}
 use Rattle.gin_place.specs.Going.{IsPlacingKind}
 use Rattle.gin_place.specs.Placing.{HasRight}
 use Rattle.gin_place.specs.Holding.{IsNewHeld}
-use Rattle.gin_place.specs.Inner.Logging.{MayLogStep, IsSplitStep}
 use Rattle.gin_place.specs.Inner.Dividing.{AreSplit}
+use Rattle.gin_place.specs.Inner.Logging.{MayLogStep, Adopts, AreSplitIn, IsSplitStep}
+use Rattle.gin_place.specs.declared.sought.Sought.{Sought}
+use Rattle.gin_place.specs.declared.sought.Sought.TheVariants as sought
 use Rattle.gin_place.proofs.Owing.{owes_of}
-use Rattle.gin_place.proofs.Parts.{not_free}
 
 -- the step of these three pages
-pub split_made : (old new above : Sheet) (left right adopted : Page) (s : Step)
-    → AreSplit old.content new.page left right
-    → EntryParent old.page new.page (upper_in left.body) above.content.body adopted.body
-    → adopted ≡ record above.content { body = adopted.body } → IsPage adopted
+pub split_made : (t : Sought) (old new above : Sheet) (left right adopted : Page) (s : Step)
+    → AreSplitIn t old new above left right adopted
     → s ≡ record {
       kind = kind.Split;
       xid = 0;
       after = sheet old.page left ∷ sheet new.page right ∷ sheet above.page adopted ∷ [];
     }
-    → IsSplitStep old new above s
-split_made old new above left right adopted s parts adopts same is_page made = record {
-  keep = parts.keep;
+    → IsSplitStep t old new above s
+split_made t old new above left right adopted s parts made = record {
   left = left;
   right = right;
   adopted = adopted;
   kind_is = ap (λ (t : Step). t.kind) made;
   xid = ap (λ (t : Step). t.xid) made;
   after_is = ap (λ (t : Step). t.after) made;
-  entries = parts.entries;
-  large = parts.large;
-  parts = parts.parts;
-  adopts = adopts;
-  same = same;
-  pages = (parts.pages.0, parts.pages.1, is_page);
-  used = (parts.used.0, parts.used.1, inner_used adopted.body adopts);
+  split = parts;
 }
-  where
-    inner_used : (b : Body) → EntryParent old.page new.page (upper_in left.body) above.content.body b → b ≢ body.Free
-    inner_used b a free = not_free b (subst IsEntryBody (sym a.after) (IsEntryBody.inner _)) free
 
--- likewise, by what the calls that made it were given
-pub split_from : (old new above : Sheet) (c d : Page) (n m : ℕ) (mid : List ℕ) (left right adopted : Page) (s : Step)
-    → c ≡ old.content → d ≡ above.content → n ≡ old.page → m ≡ new.page → mid ≡ upper_in left.body
-    → AreSplit c m left right → EntryParent n m mid d.body adopted.body
-    → adopted ≡ record d { body = adopted.body } → IsPage adopted
-    → s ≡ record {
-      kind = kind.Split;
-      xid = 0;
-      after = sheet old.page left ∷ sheet new.page right ∷ sheet above.page adopted ∷ [];
+-- the parent that has taken the new page is used
+pub adopted_used : (t : Sought) (page new : ℕ) (left parent adopted : Page) → Adopts t page new left parent adopted
+    → adopted.body ≢ body.Free
+adopted_used sought.Key page new left parent adopted a free =
+    let e : body.EntryInner _ ≡ body.Free = sym a.after ∙ free in let z : ⊥ = cc in z
+adopted_used (sought.Item root item) page new left parent adopted a free =
+    let e : body.PostInner _ ≡ body.Free = sym a.after ∙ free in let z : ⊥ = cc in z
+
+-- the parts of the page that is held, and its parent with the new page
+pub parts_in : (t : Sought) (old new above : Sheet) (c p : Page) (number n : ℕ) (left right adopted : Page)
+    → c ≡ old.content → p ≡ above.content → number ≡ old.page → n ≡ new.page → AreSplit t c n left right
+    → Adopts t number n left p adopted → adopted ≡ record p { body = adopted.body } → IsPage adopted
+    → AreSplitIn t old new above left right adopted
+parts_in t old new above c p number n left right adopted is above_is at at_new parts adopts same ok =
+    let x = subst (λ (m : ℕ). AreSplit t old.content m left right) at_new
+    (subst (λ (y : Page). AreSplit t y n left right) is parts) in
+    let a = subst (λ (y : Page). Adopts t number n left y adopted) above_is adopts in
+    let b = subst (λ (m : ℕ). Adopts t m n left above.content adopted) at a in
+    let d = subst (λ (m : ℕ). Adopts t old.page m left above.content adopted) at_new b in
+    record {
+      keep = x.keep;
+      on_tree = x.on_tree;
+      large = x.large;
+      parts = x.parts;
+      adopts = d;
+      same = subst (λ (y : Page). adopted ≡ record y { body = adopted.body }) above_is same;
+      pages = (x.pages.0, x.pages.1, ok);
+      used = (x.used.0, x.used.1, adopted_used t old.page new.page left above.content adopted d);
     }
-    → IsSplitStep old new above s
-split_from old new above c d n m mid left right adopted s is above_is number new_number upper parts adopts same is_page
-    made =
-    let parts1 = subst (λ (x : Page). AreSplit x m left right) is parts in
-    let parts2 = subst (λ (x : ℕ). AreSplit old.content x left right) new_number parts1 in
-    let adopts1 = subst (λ (x : ℕ). EntryParent x m mid d.body adopted.body) number adopts in
-    let adopts2 = subst (λ (x : ℕ). EntryParent old.page x mid d.body adopted.body) new_number adopts1 in
-    let adopts3 = subst (λ (x : List ℕ). EntryParent old.page new.page x d.body adopted.body) upper adopts2 in
-    let adopts4 = subst (λ (x : Page). EntryParent old.page new.page (upper_in left.body) x.body adopted.body)
-    above_is adopts3 in
-    split_made old new above left right adopted s parts2 adopts4
-    (subst (λ (x : Page). adopted ≡ record x { body = adopted.body }) above_is same) is_page made
 
-module _ {D : Type 0} (device : Disk D) (f : FramesValue D) (pass : Pass) (old new above : Sheet) (s : Step)
-    (made : IsSplitStep old new above s) (hold : IsHolding device f pass (new ∷ old ∷ above ∷ []))
+-- the pages of either tree are what a Split asks of its pages
+split_in : (t : Sought) → entry_laws.SplitPagesAreLogged → post_laws.SplitPagesAreLogged → (k : Known) (r : Record)
+    (since : ℕ) (old new above : Sheet) (left right adopted : Page) → IsPage old.content
+    → AreSplitIn t old new above left right adopted → r.kind ≡ kind.Split
+    → changed r ≡ old.page ∷ new.page ∷ above.page ∷ [] → IsNew k.uses since new.page
+    → IsSplitHere since k r (old.content ∷ new.content ∷ above.content ∷ [])
+    (made_with r left.right left.body ∷ made_with r right.right right.body
+    ∷ made_with r adopted.right adopted.body ∷ [])
+split_in sought.Key e p k r since old new above left right adopted is_page x =
+    e k r since old.page new.page above.page x.keep old.content new.content above.content left right adopted x.on_tree
+    is_page x.large x.parts x.adopts x.same
+split_in (sought.Item root item) e p k r since old new above left right adopted is_page x =
+    p k r since old.page new.page above.page x.keep old.content new.content above.content left right adopted x.on_tree
+    is_page x.large x.parts x.adopts x.same
+
+module _ {D : Type 0} (device : Disk D) (f : FramesValue D) (pass : Pass) (t : Sought) (old new above : Sheet)
+    (s : Step) (made : IsSplitStep t old new above s) (hold : IsHolding device f pass (new ∷ old ∷ above ∷ []))
     (is_page : IsPage old.content) (low : (old.page < page_limit) × (new.page < page_limit) × (above.page < page_limit))
   where
-    split_allowed : MayBy CanSplit → SplitPagesServe → SplitPagesAreLogged → IsNewHeld device f pass new
+    split_allowed : MayBy CanSplit → SplitPagesServe → entry_laws.SplitPagesAreLogged
+        → post_laws.SplitPagesAreLogged → IsNewHeld device f pass new
         → Behind device f (λ (R : Log). MayLog (view_of f pass R (new ∷ old ∷ above ∷ [])) s)
-    split_allowed may serve logged is_new t up R stands legal =
+    split_allowed may serve entries posts is_new told up R stands legal =
         may (view_of f pass R (new ∷ old ∷ above ∷ [])) s (λ P seen_is shown.
         serve (view_of f pass R (new ∷ old ∷ above ∷ [])) P s old.page new.page above.page old.content new.content
         above.content made.left made.right made.adopted made.kind_is made.after_is (inr (inl refl)) (inl refl)
-        (inr (inr (inl refl))) (is_new t up R stands legal P shown)
+        (inr (inr (inl refl))) (is_new told up R stands legal P shown)
         (λ k r kd ch fresh.
-        logged k r pass.since old.page new.page above.page made.keep old.content new.content above.content made.left
-        made.right made.adopted made.entries is_page made.large made.parts made.adopts made.same kd ch fresh))
+        split_in t entries posts k r pass.since old new above made.left made.right made.adopted is_page made.split kd ch
+        fresh))
 
     split_pages : sheet_pages s.after ≡ old.page ∷ new.page ∷ above.page ∷ []
     split_pages = ap sheet_pages made.after_is
@@ -110,12 +123,12 @@ module _ {D : Type 0} (device : Disk D) (f : FramesValue D) (pass : Pass) (old n
     apart = subst (Rising (λ (p q : ℕ). p ≢ q)) (sym split_pages)
         (((λ e. (hold.once).0.0 (sym e)), ((hold.once).1.0.0, tt)), (((hold.once).0.1.0, tt), (tt, tt)))
 
-    pub split_may_log : IsPassOf f pass → HasRight pass → MayBy CanSplit → SplitPagesServe → SplitPagesAreLogged
-        → IsNewHeld device f pass new
+    pub split_may_log : IsPassOf f pass → HasRight pass → MayBy CanSplit → SplitPagesServe
+        → entry_laws.SplitPagesAreLogged → post_laws.SplitPagesAreLogged → IsNewHeld device f pass new
         → MayLogStep device f pass (new ∷ old ∷ above ∷ []) s
-    split_may_log of right may serve logged is_new =
+    split_may_log of right may serve entries posts is_new =
         let placing : IsPlacingKind (kind_number s.kind) =
-        subst (λ (k : Kind). IsPlacingKind (kind_number k)) (sym made.kind_is) (inr (inr refl)) in
+        subst (λ (k : Kind). IsPlacingKind (kind_number k)) (sym made.kind_is) (omega arith, omega arith) in
         record {
           is_pass = of;
           right = right;
@@ -124,10 +137,10 @@ module _ {D : Type 0} (device : Disk D) (f : FramesValue D) (pass : Pass) (old n
             kind = subst IsKind (sym made.kind_is) tt;
             few = subst (λ (xs : List Sheet). length xs < 2 ^ 8) (sym made.after_is) (omega arith);
             each = subst (AllByRecursion IsSheet) (sym made.after_is) (
-              record { page = low.0; content = made.pages.0; used = made.used.0 },
+              record { page = low.0; content = made.split.pages.0; used = made.split.used.0 },
               (
-                record { page = low.1; content = made.pages.1; used = made.used.1 },
-                (record { page = low.2; content = made.pages.2; used = made.used.2 }, tt),
+                record { page = low.1; content = made.split.pages.1; used = made.split.used.1 },
+                (record { page = low.2; content = made.split.pages.2; used = made.split.used.2 }, tt),
               ),
             );
             once = apart;
@@ -135,7 +148,7 @@ module _ {D : Type 0} (device : Disk D) (f : FramesValue D) (pass : Pass) (old n
           kind = subst IsLoggedKind (sym made.kind_is) tt;
           placing = placing;
           pages = subst (λ (xs : List Sheet). length xs ≤ 3) (sym made.after_is) (omega arith);
-          may = split_allowed may serve logged is_new;
+          may = split_allowed may serve entries posts is_new;
           owes = owes_of device f pass (new ∷ old ∷ above ∷ []) s of right made.xid placing
               (λ p i. in_held p (subst (In p) split_pages i)) apart
               (λ x i. are_pages x (subst (In x) made.after_is i));
@@ -150,7 +163,7 @@ module _ {D : Type 0} (device : Disk D) (f : FramesValue D) (pass : Pass) (old n
         are_pages : (x : Sheet)
             → In x (sheet old.page made.left ∷ sheet new.page made.right ∷ sheet above.page made.adopted ∷ [])
             → IsPage x.content
-        are_pages x (inl e) = subst (λ (z : Sheet). IsPage z.content) (sym e) made.pages.0
-        are_pages x (inr (inl e)) = subst (λ (z : Sheet). IsPage z.content) (sym e) made.pages.1
-        are_pages x (inr (inr (inl e))) = subst (λ (z : Sheet). IsPage z.content) (sym e) made.pages.2
+        are_pages x (inl e) = subst (λ (z : Sheet). IsPage z.content) (sym e) made.split.pages.0
+        are_pages x (inr (inl e)) = subst (λ (z : Sheet). IsPage z.content) (sym e) made.split.pages.1
+        are_pages x (inr (inr (inl e))) = subst (λ (z : Sheet). IsPage z.content) (sym e) made.split.pages.2
         are_pages x (inr (inr (inr i))) = absurd i

@@ -1,10 +1,11 @@
--- A page of the entry tree that takes no more has a large body, and two members at least.
-use Rattle.std.proofs.Common.{◌≡◌, ◌+◌, ◌<◌, ◌≤◌, ℕ, zero, suc, List, [], ◌∷◌, ◌++◌, length, sym, ap, subst, ◌∙◌, inl}
-use Rattle.std.proofs.Common.{inr, arith}
+-- A page of a tree that takes no more has a large body, and two members at least.
+use Rattle.std.proofs.Common.{◌≡◌, ◌+◌, ◌<◌, ◌≤◌, ℕ, zero, suc, List, [], ◌∷◌, ◌++◌, length, take, sym, ap, subst, inl}
+use Rattle.std.proofs.Common.{◌∙◌, inr, arith}
 use Rattle.std.specs.List.{flat_map}
 use Rattle.std.proofs.lemmas.List.{length-append}
 use Rattle.std.proofs.lemmas.List.Concat.{flat_map-append}
 use Rattle.page_types.specs.Numbers.{most_inline, most_body}
+use Rattle.page_types.specs.Items.{AreItems}
 use Rattle.page_types.specs.Keys.{IsKey}
 use Rattle.page_types.specs.Pages.{IsPage, IsBody, IsHighKey, ArePostings, IsEntry, AreEntries, IsEntryChild}
 use Rattle.page_types.specs.Pages.{AreEntryChildren}
@@ -22,8 +23,19 @@ use Rattle.page_types.proofs.BodySizes.{length-key_field, length-entry_bytes, le
 use Rattle.page_types.proofs.BodySizes.{length-root}
 use Rattle.core_state.specs.TreeRules.{IsEntryBetween, half_body}
 use Rattle.entry_tree.specs.Adding.{IsEntryLeaf, list_entry, IsAnswer, IsAdded}
+use Rattle.entry_tree.specs.Finding.{IsEntryBody, IsFoundIn}
 use Rattle.entry_tree.specs.Reading.{upper_in, HasRoomForChild}
 use Rattle.entry_tree.specs.declared.adding.Added.TheVariants as added
+use Rattle.posting_code.proofs.Places.{AreItemsFrom-front}
+use Rattle.posting_tree.specs.Finding as posts_found
+use Rattle.posting_tree.specs.Full as posts
+use Rattle.posting_tree.specs.Reading.{IsPostBody}
+use Rattle.gin_place.specs.Causes.{CanDivide}
+use Rattle.gin_place.specs.Inner.Reading.{IsReading}
+use Rattle.gin_place.specs.Inner.ReadingItems.{IsReadingOf, IsReadingIn}
+use Rattle.gin_place.specs.declared.reading.Reading.TheVariants as reading
+use Rattle.gin_place.specs.declared.sought.Sought.{Sought}
+use Rattle.gin_place.specs.declared.sought.Sought.TheVariants as sought
 
 -- what a page has that may be divided
 abbrev pub IsLarge : Body → Type 0
@@ -166,3 +178,36 @@ full_inner c cs page is none =
     let same = ap (λ (b : Body). length (body_bytes b)) is in
     let long : 6116 ≤ length (body_bytes (body.EntryInner cs)) = omega (arith, much, same) in
     subst IsLarge (sym is) (omega (arith, long), many_children c.right cs on long)
+
+-- ── in either tree ──
+
+leaf_body : (b : Body) → IsEntryLeaf b → IsEntryBody b
+leaf_body _ (IsEntryLeaf.leaf high es) = IsEntryBody.leaf high es
+
+entries_divide : (c : Page) (k items : List ℕ) → IsPage c → IsKey k → IsReading c k items reading.Full
+    → CanDivide sought.Key c
+entries_divide c k items page is (IsReading.full_leaf n is_leaf full fresh none) =
+    let large = full_leaf c k (take n items) page is is_leaf full in
+    (leaf_body c.body is_leaf, large.0, large.1)
+entries_divide c k items page is (IsReading.full_inner child (IsFoundIn.down front back e content low up) none) =
+    let large = full_inner c (front ++ e ∷ back) page content none in
+    (subst IsEntryBody (sym content) (IsEntryBody.inner _), large.0, large.1)
+
+posts_divide : posts.FullLeafIsLarge → posts.FullInnerIsLarge → (root item : ℕ) (c : Page) (items : List ℕ) → IsPage c
+    → AreItems items → IsReadingOf c items reading.Full → CanDivide (sought.Item root item) c
+posts_divide leaf inner root item c items page rise (IsReadingOf.full_inner first _ rest is
+    (posts_found.IsFoundIn.down front back e content low up) none) =
+    let large = inner c (front ++ e ∷ back) content none in
+    (subst IsPostBody (sym content) (IsPostBody.inner _), large.bytes, large.members)
+posts_divide leaf inner root item c items page rise (IsReadingOf.full_leaf high list within rest content parts some
+    takes fresh) =
+    let are = (AreItemsFrom-front 0 within rest (subst AreItems parts rise)).0 in
+    let large = leaf c high list within page content are some takes in
+    (subst IsPostBody (sym content) (IsPostBody.leaf high list), large.bytes, large.members)
+
+-- a page that is read as full can be divided
+pub full_divides_in : posts.FullLeafIsLarge → posts.FullInnerIsLarge → (t : Sought) (c : Page) (k items : List ℕ)
+    → IsPage c → IsKey k → AreItems items → IsReadingIn t c k items reading.Full → CanDivide t c
+full_divides_in leaf inner sought.Key c k items page is rise full = entries_divide c k items page is full
+full_divides_in leaf inner (sought.Item root item) c k items page is rise full =
+    posts_divide leaf inner root item c items page rise full

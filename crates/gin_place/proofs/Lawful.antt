@@ -1,8 +1,7 @@
 -- No page of the way is bad in a legal log.
-use Rattle.std.proofs.Common.{◌≡◌, ◌≢◌, ◌<◌, ◌≤◌, ℕ, suc, List, [], ◌∷◌, ◌++◌, length, sym, ap, subst, ◌∙◌, inl}
+use Rattle.std.proofs.Common.{◌≡◌, ◌≢◌, ◌<◌, ◌≤◌, ℕ, List, [], ◌∷◌, length, sym, ap, subst, ◌∙◌, inl}
 use Rattle.std.proofs.Common.{inr}
 use Rattle.std.proofs.Common.{arith, refl}
-use Rattle.std.proofs.lemmas.Cmp.{nat_list_cmp_total}
 use Rattle.std.specs.Prelude.{None}
 use Rattle.std.specs.List.{AllByRecursion}
 use Rattle.disk_trait.specs.declared.device.Disk.{Ghosts as Disk}
@@ -13,7 +12,6 @@ use Rattle.page_types.specs.Pages.{IsPage}
 use Rattle.page_types.specs.Records.{IsChange}
 use Rattle.page_types.specs.Views.{free_page}
 use Rattle.page_types.specs.declared.page.Page.{Page}
-use Rattle.page_types.specs.declared.page.EntryChild.{EntryChild}
 use Rattle.page_types.specs.declared.page.Body.{Body}
 use Rattle.page_types.specs.declared.page.Body.TheVariants as body
 use Rattle.page_types.specs.declared.record.Change.{Change}
@@ -25,15 +23,10 @@ use Rattle.core_state.specs.Known.{use_by}
 use Rattle.core_state.specs.PageChoice.{IsLeast, AreBelow}
 use Rattle.core_state.specs.States.{StateTells}
 use Rattle.core_state.specs.declared.answers.PageUse.TheVariants as usage
-use Rattle.core_state.specs.Changes.{UpTo}
-use Rattle.core_state.specs.TreeRules.{Toward}
 use Rattle.core_state.proofs.Showing.{shown_one, others_stay, none_yet, shown_none}
 use Rattle.core_state.proofs.Steps.Seen.{seen_shown, seen_legal}
-use Rattle.core_state.proofs.Trees.Members.{in_middle}
-use Rattle.core_maintenance.specs.Leading.{IsHigh, WaysLead, WaysHold}
+use Rattle.core_maintenance.specs.Leading.{WaysHold}
 use Rattle.core_maintenance.specs.Staying.{RightKeepsFound}
-use Rattle.entry_tree.specs.Finding.{IsEntryBody, IsBelow, IsFound, IsFoundIn}
-use Rattle.entry_tree.specs.declared.finding.Found.TheVariants as found
 use Rattle.buffer_frames.specs.Frames.{FramesValue, Stands, Behind, Lies}
 use Rattle.buffer_frames.specs.Homes.{home_at, ShowsBytes, IsNoPageHere}
 use Rattle.buffer_frames.specs.Passes.{IsPassOf, IsHolding, Seen, view_of}
@@ -44,9 +37,11 @@ use Rattle.buffer_frames.proofs.AtHand.{none_held, log_length, cut_length}
 use Rattle.buffer_frames.proofs.HomesLie.{lies_shown}
 use Rattle.gin_place.specs.Placing.{HasRight, IsOnWay, IsLeft}
 use Rattle.gin_place.specs.Causes.{CannotUse, HasPlace}
+use Rattle.gin_place.specs.Trees.{root_of}
+use Rattle.gin_place.specs.declared.sought.Sought.{Sought}
+use Rattle.gin_place.proofs.LawfulWays.{IsSmall, has_place, root_high, not_free_in}
+use Rattle.gin_place.proofs.TreeWays.{leads_then}
 use Rattle.gin_place.proofs.Owing.{right_of}
-use Rattle.gin_place.proofs.Parts.{not_free}
-use Rattle.gin_place.proofs.ReadPages.{less_same}
 
 -- ── numbers that pages have ──
 
@@ -91,58 +86,20 @@ module _ {D : Type 0} (device : Disk D) (f : FramesValue D) (R : Log) (told : de
 
 -- ── the pages of a way ──
 
-pub same_children : (a b : List EntryChild) → body.EntryInner a ≡ body.EntryInner b → a ≡ b
-same_children a b e = cc
-
--- what is below a page that is high
-pub child_high : (P : Pages) (h p : ℕ) (cs : List EntryChild) (c : EntryChild) → (P p).body ≡ body.EntryInner cs
-    → IsHigh P h p → In c cs → (i : ℕ) × (h ≡ suc i) × IsHigh P i c.page
-child_high P _ p cs c content (IsHigh.leaf high es is) on =
-    let two : body.EntryLeaf high es ≡ body.EntryInner cs = sym is ∙ content in
-    let z : ⊥ = cc in absurd z
-child_high P _ p cs c content (IsHigh.inner {h} ds is each) on =
-    (h, refl, each c (subst (In c) (same_children cs ds (sym content ∙ is)) on))
-
-toward_high : (P : Pages) (k : Key) (p q h : ℕ) → Toward P k p q → IsHigh P h p → (i : ℕ) × IsHigh P i q
-toward_high P k p q h Toward.here high = (h, high)
-toward_high P k p q h (Toward.down front back c content below within rest) high =
-    let low = child_high P h p (front ++ c ∷ back) c content high (in_middle front c back) in
-    toward_high P k c.page q low.0 rest low.2
-
-high_entries : (P : Pages) (h p : ℕ) → IsHigh P h p → IsEntryBody (P p).body
-high_entries P _ p (IsHigh.leaf high es is) = subst IsEntryBody (sym is) (IsEntryBody.leaf high es)
-high_entries P _ p (IsHigh.inner cs is each) = subst IsEntryBody (sym is) (IsEntryBody.inner cs)
-
-pub not_both : (k b : Key) → UpTo k b → IsBelow b k → ⊥
-not_both k b (inl none) below = below.0 none
-not_both k b (inr (inl less)) below = less_same k k (nat_list_cmp_total.trans k b k less below.1) refl
-not_both k b (inr (inr same)) below = less_same b k below.1 (sym same)
-
-not_past : (P : Pages) (k : Key) (p : ℕ) → WaysLead P → Toward P k 1 p → (q : ℕ) → IsFound (P p) k (found.Right q) → ⊥
-not_past P k p lead way q (IsFoundIn.past_leaf high es content below) =
-    not_both k high (lead.leaf k p high es way content) below
-not_past P k p lead way q (IsFoundIn.past_inner cs content below) =
-    let c = lead.child k p cs way content in
-    not_both k c.0.bound c.2 (below c.0 c.1)
-
-has_place : (P : Pages) (k : Key) (p : ℕ) → WaysLead P → Toward P k 1 p → HasPlace k (P p)
-has_place P k p lead way =
-    let high = toward_high P k 1 p lead.height.0 way lead.height.1 in
-    record { entries = high_entries P high.0 p high.1; not_past = not_past P k p lead way }
-
 -- so none of them is bad
-pub never_bad : {D : Type 0} (device : Disk D) (f : FramesValue D) (p : Pass) (k : Key) (page : ℕ) → RightKeepsFound
-    → WaysHold → IsPassOf f p → HasRight p → p.held ≡ 0 → IsOnWay device f p k page
-    → CannotUse f (HasPlace k) page → Behind device f (λ (R : Log). ⊥)
-never_bad device f p k page law ways of right none way cannot told up R stands legal =
+pub never_bad : {D : Type 0} (device : Disk D) (f : FramesValue D) (p : Pass) (k : Key) (t : Sought) (page : ℕ)
+    → RightKeepsFound → WaysHold → IsPassOf f p → HasRight p → p.held ≡ 0 → IsSmall t → IsOnWay device f p k t page
+    → CannotUse f (HasPlace k t) page → Behind device f (λ (R : Log). ⊥)
+never_bad device f p k t page law ways of right none small way cannot told up R stands legal =
     let a = (none_held device f p of none).allowed told up R stands legal in
     let S = seen_shown (view_of f p R []) R a in
     let then = law (view_of f p R []) R a S.0 (right_of device f p [] R of right stands) S.1 in
     let long : f.journal.state.records ≡ length R = log_length device f.journal R stands.journal in
     let lead = ways R a.pages (λ e. omega (arith, of.some, of.seen, long, ap length e)) legal a.shown in
-    let place = has_place a.pages k page lead (then.toward k page (way told up R stands legal S.0 S.1)) in
-    usable device f R told up stands legal a.pages a.shown (HasPlace k) page place
-    (not_free (a.pages page).body place.entries) cannot
+    let now = leads_then S.0 a.pages then k t page (way told up R stands legal S.0 S.1) in
+    let place = has_place a.pages k t page lead small now in
+    usable device f R told up stands legal a.pages a.shown (HasPlace k t) page place
+    (not_free_in t (a.pages page).body place.on_tree) cannot
 
 -- ── how many pages a way has ──
 
@@ -154,26 +111,30 @@ free_by stamp _ is = absurd cc
 module _ {D : Type 0} (device : Disk D) (f : FramesValue D) (p : Pass) (held : List Sheet)
     (hold : IsHolding device f p held) (of : IsPassOf f p) where
   -- from the root no way has as many as pages have numbers
-  pub root_left : (k : Key) (extent : ℕ) → WaysHold → Seen device f p (λ S P. StateTells S f.journal.state)
-      → IsLeast (AreBelow f.journal.state) extent → IsLeft device f p k 1 extent
-  root_left k extent ways tells least told up R stands legal P shown =
+  pub root_left : (k : Key) (t : Sought) (extent : ℕ) → WaysHold → IsOnWay device f p k t (root_of t)
+      → Seen device f p (λ S P. StateTells S f.journal.state) → IsLeast (AreBelow f.journal.state) extent
+      → IsLeft device f p k t (root_of t) extent
+  root_left k t extent ways way tells least told up R stands legal P shown =
       let a = hold.allowed told up R stands legal in
       let S : Log = cut p.seen R in
       let long : f.journal.state.records ≡ length R = log_length device f.journal R stands.journal in
       let size : length S ≡ p.seen = cut_length p.seen R (omega (arith, of.seen, long)) in
       let lead =
       ways S P (λ e. omega (arith, of.some, size, ap length e)) (seen_legal (view_of f p R held) R a) shown in
-      let uses = (tells told up R stands legal P shown).uses P shown in (
-        Toward.here,
-        lead.height.0,
-        lead.height.1,
-        lead.height.2 extent (λ q used. (least.holds).changed q (λ none.
+      let uses = (tells told up R stands legal P shown).uses P shown in
+      let here = way told up R stands legal P shown in
+      let high = root_high P k t lead here in (
+        here,
+        high.0,
+        high.1,
+        high.2 extent (λ q used. (least.holds).changed q (λ none.
             used (free_by (P q).stamp (P q).body (sym (uses q) ∙ none)))),
       )
 
   -- so none is spent
-  pub never_spent : (k : Key) (page n : ℕ) → IsLeft device f p k page n → n ≡ 0 → Behind device f (λ (R : Log). ⊥)
-  never_spent k page n enough none told up R stands legal =
+  pub never_spent : (k : Key) (t : Sought) (page n : ℕ) → IsLeft device f p k t page n → n ≡ 0
+      → Behind device f (λ (R : Log). ⊥)
+  never_spent k t page n enough none told up R stands legal =
       let S = seen_shown (view_of f p R held) R (hold.allowed told up R stands legal) in
       let e = enough told up R stands legal S.0 S.1 in
       omega (arith, e.3, none)

@@ -1,13 +1,11 @@
 -- No page by which room is made is bad in a legal log.
-use Rattle.std.proofs.Common.{◌≡◌, ◌≢◌, ◌⊎◌, ◌≤◌, ℕ, List, [], ◌∷◌, ◌++◌, length, refl, sym, ap, subst, ◌∙◌, inl}
+use Rattle.std.proofs.Common.{◌≡◌, ◌≢◌, ◌⊎◌, ◌≤◌, ℕ, [], ◌∷◌, ◌++◌, length, refl, sym, ap, subst, ◌∙◌, inl}
 use Rattle.std.proofs.Common.{inr, arith}
 use Rattle.std.specs.Prelude.{None, ⊤}
 use Rattle.disk_trait.specs.declared.device.Disk.{Ghosts as Disk}
 use Rattle.wal.specs.Waiting.{down_of}
 use Rattle.ts_base.specs.Keys.{Key}
-use Rattle.page_types.specs.Keys.{IsKey}
 use Rattle.page_types.specs.Numbers.{page_limit}
-use Rattle.page_types.specs.Pages.{IsPage}
 use Rattle.page_types.specs.declared.page.Page.{Page}
 use Rattle.page_types.specs.declared.page.Body.{Body}
 use Rattle.core_state.specs.Log.{Log, Pages, Shows, commits}
@@ -27,11 +25,12 @@ use Rattle.core_state.proofs.Law.Runs.{plain_run}
 use Rattle.core_state.proofs.Law.TreeFields.{has_meta}
 use Rattle.core_maintenance.specs.Staying.{RightKeepsFound}
 use Rattle.page_space.specs.Taking.{IsTaken}
-use Rattle.entry_tree.specs.Adding.{IsEntryLeaf}
-use Rattle.entry_tree.specs.Finding.{IsEntryBody, IsFound, IsFoundIn}
-use Rattle.entry_tree.specs.Reading.{upper_in, HasRoomForChild}
+use Rattle.entry_tree.specs.Finding as entries
+use Rattle.entry_tree.specs.Reading as entry_rooms
 use Rattle.entry_tree.specs.Splitting.{body_cutting, AreParts}
-use Rattle.entry_tree.specs.declared.finding.Found.TheVariants as found
+use Rattle.posting_tree.specs.Finding as posts
+use Rattle.posting_tree.specs.Reading as post_rooms
+use Rattle.posting_tree.specs.Reading.{IsPostBody}
 use Rattle.buffer_frames.specs.Homes.{home_at}
 use Rattle.buffer_frames.specs.Frames.{FramesValue, Stands, Behind}
 use Rattle.buffer_frames.specs.Passes.{IsPassOf, IsHolding, HasAdded, view_of}
@@ -40,27 +39,19 @@ use Rattle.buffer_frames.proofs.AtHand.{log_length}
 use Rattle.buffer_frames.proofs.Begun.{same_by_none}
 use Rattle.buffer_frames.proofs.LastingStates.{told_alike}
 use Rattle.gin_place.specs.Placing.{HasRight, IsOnWay, IsRoomAbove}
-use Rattle.gin_place.specs.Adopting.{CanTake}
-use Rattle.gin_place.specs.Causes.{CannotUse, CanGrow, CanDivide, IsMiddle, IsBadRoom, HasNumbers}
-use Rattle.gin_place.specs.Inner.Reading.{IsReading}
-use Rattle.gin_place.specs.declared.reading.Reading.TheVariants as reading
-use Rattle.gin_place.proofs.FullPages.{full_leaf, full_inner}
+use Rattle.gin_place.specs.Trees.{root_of, IsTreeBody, HasRoomIn, GoesDown, Leads}
+use Rattle.gin_place.specs.Causes.{CannotUse, CanGrow, CanDivide, HasFirstPart, CannotAdopt, IsBadNew, IsBadRoom}
+use Rattle.gin_place.specs.Causes.{HasNumbers}
+use Rattle.gin_place.specs.Inner.Dividing.{Takes}
+use Rattle.gin_place.specs.declared.sought.Sought.{Sought}
+use Rattle.gin_place.specs.declared.sought.Sought.TheVariants as sought
 use Rattle.gin_place.proofs.Lawful.{past_free, lies_as, no_bytes, usable}
 use Rattle.gin_place.proofs.LawfulTrees.{root_right, halves_between, child_divides}
+use Rattle.gin_place.proofs.LawfulPosts as in_posts
+use Rattle.gin_place.proofs.LawfulWays.{not_free_in}
+use Rattle.gin_place.proofs.TreeWays.{leads_then, same_then}
 use Rattle.gin_place.proofs.Owing.{right_of}
-use Rattle.gin_place.proofs.Parts.{not_free, cut_divides}
-
--- a page that is read as full can be divided
-pub full_divides : (c : Page) (k items : List ℕ) → IsPage c → IsKey k → IsReading c k items reading.Full → CanDivide c
-full_divides c k items page is (IsReading.full_leaf is_leaf full fresh none) =
-    let large = full_leaf c k items page is is_leaf full in
-    (leaf_body c.body is_leaf, large.0, large.1)
-  where
-    leaf_body : (b : Body) → IsEntryLeaf b → IsEntryBody b
-    leaf_body _ (IsEntryLeaf.leaf high es) = IsEntryBody.leaf high es
-full_divides c k items page is (IsReading.full_inner child (IsFoundIn.down front back e content low up) none) =
-    let large = full_inner c (front ++ e ∷ back) page content none in
-    (subst IsEntryBody (sym content) (IsEntryBody.inner _), large.0, large.1)
+use Rattle.gin_place.proofs.Parts.{cut_divides}
 
 -- ── new pages ──
 
@@ -113,74 +104,116 @@ module _ {D : Type 0} (device : Disk D) (f : FramesValue D) (R : Log) (told : de
 -- ── the pages by which room is made ──
 
 -- the page is full, and its parent has room; in the pages of a log
-pub record IsToDivide (P : Pages) (k : Key) (parent page : ℕ) : Type 0 where
-  pub large : CanDivide (P page)
-  pub above : page ≢ 1 → IsFound (P parent) k (found.Down page) × HasRoomForChild (P parent)
+pub record IsToDivide (P : Pages) (k : Key) (t : Sought) (parent page : ℕ) : Type 0 where
+  pub large : CanDivide t (P page)
+  pub above : page ≢ root_of t → GoesDown k t (P parent) page × HasRoomIn t (P parent)
 
-found_inner : (c : Page) (k : Key) (child : ℕ) → IsFound c k (found.Down child) → IsEntryBody c.body
-found_inner c k _ (IsFoundIn.down front back e content low up) = subst IsEntryBody (sym content) (IsEntryBody.inner _)
+goes_down_on : (t : Sought) (c : Page) (k : Key) (child : ℕ) → GoesDown k t c child → IsTreeBody t c.body
+goes_down_on sought.Key c k _ (entries.IsFoundIn.down front back e content low up) =
+    subst entries.IsEntryBody (sym content) (entries.IsEntryBody.inner _)
+goes_down_on (sought.Item root item) c k _ (posts.IsFoundIn.down front back e content low up) =
+    subst IsPostBody (sym content) (IsPostBody.inner _)
 
-takes : (n L : ℕ) (R : Log) (P : Pages) (g : Ghost) → Inv n L R P g → Shows R P → (k : Key) (parent page : ℕ)
-    (mid : List ℕ) (left right : Body) → IsFound (P parent) k (found.Down page) → HasRoomForChild (P parent)
-    → IsEntryBody (P page).body → Halves (P page).body left right → mid ≡ upper_in left → CanTake page mid (P parent)
-takes n L R P g v shown k parent _ mid left right (IsFoundIn.down front back e content low up) room is halves same =
-    let between = halves_between n L R P g v shown e.page (P e.page).body left right refl is halves in
-    let divides = child_divides n L R P g v shown parent front back e (upper_in left) content between in
-    subst (λ (m : List ℕ). CanTake e.page m (P parent)) (sym same)
-    (record { children = front ++ e ∷ back; content = content; room = room; divides = divides })
+takes : (n L : ℕ) (R : Log) (P : Pages) (g : Ghost) → Inv n L R P g → Shows R P → (t : Sought) (k : Key)
+    (parent page : ℕ) (left : Page) (right : Body) → GoesDown k t (P parent) page → HasRoomIn t (P parent)
+    → IsTreeBody t (P page).body → Halves (P page).body left.body right → Takes t page left (P parent)
+takes n L R P g v shown sought.Key k parent _ left right (entries.IsFoundIn.down front back e content low up) room is
+    halves =
+    let between = halves_between n L R P g v shown e.page (P e.page).body left.body right refl is halves in
+    let divides = child_divides n L R P g v shown parent front back e (entry_rooms.upper_in left.body) content between
+    in
+    record { children = front ++ e ∷ back; content = content; room = room; divides = divides }
+takes n L R P g v shown (sought.Item root item) k parent _ left right
+    (posts.IsFoundIn.down front back e content low up) room is halves =
+    let between = in_posts.halves_between n L R P g v shown e.page (P e.page).body left.body right refl is halves in
+    let divides = in_posts.child_divides n L R P g v shown parent front back e (post_rooms.upper_in left.body) content
+    between
+    in
+    record { children = front ++ e ∷ back; content = content; room = room; divides = divides }
+
+cannot_take : {D : Type 0} (t : Sought) (f : FramesValue D) (page p : ℕ) → CannotAdopt t f page p
+    → (left : Page) × HasFirstPart f page left × CannotUse f (Takes t page left) p
+cannot_take sought.Key f page p cannot = cannot
+cannot_take (sought.Item root item) f page p cannot = cannot
+
+-- the root has no right link
+root_ends : (n L : ℕ) (R : Log) (P : Pages) (g : Ghost) → Inv n L R P g → Shows R P → R ≢ [] → (t : Sought) (k : Key)
+    (page : ℕ) → Leads P k t page → IsTreeBody t (P (root_of t)).body → (P (root_of t)).right ≡ 0
+root_ends n L R P g v shown some sought.Key k page way is = root_right n L R P g v shown some is
+root_ends n L R P g v shown some (sought.Item root item) k page way is =
+    in_posts.root_right n L R P g v shown k root way.0 is
 
 module _ {D : Type 0} (device : Disk D) (f : FramesValue D) (R : Log) (told : device.tells)
     (up : down_of f.journal.wal ≡ None) (stands : Stands device f R) (legal : IsLegal R) (P : Pages)
-    (shown : Shows R P) (some : R ≢ []) (k : Key) (parent page : ℕ) (to : IsToDivide P k parent page) where
+    (shown : Shows R P) (some : R ≢ []) (k : Key) (t : Sought) (parent page : ℕ) (way : Leads P k t page)
+    (to : IsToDivide P k t parent page) where
   held : (g : Ghost) × Inv (commits R) (length R) R P g
   held = plain_run all_steps R legal.valid P shown
 
-  can_use : (Is : Page → Type 0) (p : ℕ) → Is (P p) → IsEntryBody (P p).body → CannotUse f Is p → ⊥
-  can_use Is p is entries = usable device f R told up stands legal P shown Is p is (not_free (P p).body entries)
+  can_use : (Is : Page → Type 0) (p : ℕ) → Is (P p) → IsTreeBody t (P p).body → CannotUse f Is p → ⊥
+  can_use Is p is on = usable device f R told up stands legal P shown Is p is (not_free_in t (P p).body on)
 
-  root_grows : page ≡ 1 → CanGrow (P 1)
+  root_grows : page ≡ root_of t → CanGrow t (P (root_of t))
   root_grows root =
-      let large = subst (λ (p : ℕ). CanDivide (P p)) root to.large in
-      (large.0, large.1, root_right (commits R) (length R) R P held.0 held.1 shown some large.0)
+      let large = subst (λ (p : ℕ). CanDivide t (P p)) root to.large in
+      (large.0, large.1, root_ends (commits R) (length R) R P held.0 held.1 shown some t k page way large.0)
 
-  parent_takes : page ≢ 1 → (mid : List ℕ) → IsMiddle f page mid → CanTake page mid (P parent)
-  parent_takes other mid m =
+  parent_takes : page ≢ root_of t → (left : Page) → HasFirstPart f page left → Takes t page left (P parent)
+  parent_takes other left m =
       let above = to.above other in
       let same : m.0 ≡ P page = lies_as device f R told up stands legal P shown page m.0 m.1 m.2 in
-      let parts = subst (λ (c : Page). AreParts c m.3 m.4 m.5 m.6) same m.7 in
-      takes (commits R) (length R) R P held.0 held.1 shown k parent page mid m.5.body m.6.body above.0 above.1
-      to.large.0 (cut_divides (body_cutting (P page).body) m.5.body m.6.body m.4 parts.cut) m.8
+      let parts = subst (λ (c : Page). AreParts c m.3 m.4 left m.5) same m.6 in
+      takes (commits R) (length R) R P held.0 held.1 shown t k parent page left m.5.body above.0 above.1
+      to.large.0 (cut_divides (body_cutting (P page).body) left.body m.5.body m.4 parts.cut)
 
-  pub none_bad : HasNumbers f → (q : Pass) (p : ℕ) → IsBadRoom parent page f q p → ⊥
+  adopts : page ≢ root_of t → (p : ℕ) → p ≡ parent → CannotAdopt t f page p → ⊥
+  adopts other p is cannot =
+      let inner = goes_down_on t (P parent) k page (to.above other).0 in
+      let c = cannot_take t f page p cannot in
+      can_use (Takes t page c.0) p
+      (subst (λ (n : ℕ). Takes t page c.0 (P n)) (sym is) (parent_takes other c.0 c.1))
+      (subst (λ (n : ℕ). IsTreeBody t (P n).body) (sym is) inner) c.2
+
+  pub none_bad : HasNumbers f → (q : Pass) (p : ℕ) → IsBadRoom t parent page f q p → ⊥
   none_bad few q p (IsBadRoom.root root is cannot) =
       let grows = root_grows root in
-      can_use CanGrow p (subst (λ (n : ℕ). CanGrow (P n)) (sym is) grows)
-      (subst (λ (n : ℕ). IsEntryBody (P n).body) (sym is) grows.0) cannot
+      let at : p ≡ root_of t = is ∙ root in
+      can_use (CanGrow t) p (subst (λ (n : ℕ). CanGrow t (P n)) (sym at) grows)
+      (subst (λ (n : ℕ). IsTreeBody t (P n).body) (sym at) grows.0) cannot
   none_bad few q p (IsBadRoom.split other is cannot) =
-      let large = subst (λ (n : ℕ). CanDivide (P n)) (sym is) to.large in
-      can_use CanDivide p large large.0 cannot
+      let large = subst (λ (n : ℕ). CanDivide t (P n)) (sym is) to.large in
+      can_use (CanDivide t) p large large.0 cannot
   none_bad few q p (IsBadRoom.above other is cannot) =
-      let inner = found_inner (P parent) k page (to.above other).0 in
-      can_use (λ c. ⊤) p tt (subst (λ (n : ℕ). IsEntryBody (P n).body) (sym is) inner) cannot
-  none_bad few q p (IsBadRoom.adopts other mid is m cannot) =
-      let inner = found_inner (P parent) k page (to.above other).0 in
-      can_use (CanTake page mid) p (subst (λ (n : ℕ). CanTake page mid (P n)) (sym is) (parent_takes other mid m))
-      (subst (λ (n : ℕ). IsEntryBody (P n).body) (sym is) inner) cannot
+      let inner = goes_down_on t (P parent) k page (to.above other).0 in
+      can_use (λ c. ⊤) p tt (subst (λ (n : ℕ). IsTreeBody t (P n).body) (sym is) inner) cannot
+  none_bad few q p (IsBadRoom.adopts other is cannot) = adopts other p is cannot
   none_bad few q p (IsBadRoom.new bad) =
       new_usable device f R told up stands legal P shown few
       (has_meta (length R) P held.0 held.1.kinds R held.1.starts some) q.since p bad.taken bad.bad
 
 -- ── at the page that was read ──
 
-module _ {D : Type 0} (device : Disk D) (f g : FramesValue D) (p q : Pass) (held : Sheet) (law : RightKeepsFound)
-    (hold : IsHolding device f p (held ∷ [])) (of : IsPassOf f p) (right : HasRight p)
-    (added : HasAdded device f g []) where
-  -- so a bad page is met where room is made only where the log is not legal
-  pub never_room : (k : Key) (items : List ℕ) (parent page : ℕ) → held.page ≡ page → IsPage held.content → IsKey k
-      → IsReading held.content k items reading.Full → IsOnWay device f p k page
-      → (page ≢ 1 → IsRoomAbove device f p k parent page) → (n : ℕ) → IsBadRoom parent page g q n → HasNumbers g
-      → Behind device g (λ (R : Log). ⊥)
-  never_room k items parent page number is_page key full way above n bad few told up R stands legal =
+module _ {D : Type 0} (device : Disk D) (f g : FramesValue D) (p q : Pass) (held : Sheet)
+    (hold : IsHolding device f p (held ∷ [])) (of : IsPassOf f p) (added : HasAdded device f g []) where
+  -- a new page is bad only where the log is not legal
+  pub never_new : (n : ℕ) → IsBadNew g q n → HasNumbers g → Behind device g (λ (R : Log). ⊥)
+  never_new n bad few told up R stands legal =
+      let back = added.back told up R stands in
+      let same : back.0 ≡ R = sym (same_by_none f.journal.owes back.0 R back.2) in
+      let was = subst (Stands device f) same back.1 in
+      let a = hold.allowed told (added.was_up up) R was legal in
+      let long : f.journal.state.records ≡ length R = log_length device f.journal R was.journal in
+      let run = plain_run all_steps R legal.valid a.pages a.shown in
+      new_usable device g R told up stands legal a.pages a.shown few
+      (has_meta (length R) a.pages run.0 run.1.kinds R run.1.starts
+      (λ e. omega (arith, of.some, of.seen, long, ap length e))) q.since n bad.taken bad.bad
+
+  -- so a bad page is met where room is made only there
+  pub never_room : RightKeepsFound → HasRight p → (k : Key) (t : Sought) (parent page : ℕ) → held.page ≡ page
+      → CanDivide t held.content
+      → IsOnWay device f p k t page → (page ≢ root_of t → IsRoomAbove device f p k t parent page) → (n : ℕ)
+      → IsBadRoom t parent page g q n → HasNumbers g → Behind device g (λ (R : Log). ⊥)
+  never_room law right k t parent page number large way above n bad few told up R stands legal =
       let back = added.back told up R stands in
       let same : back.0 ≡ R = sym (same_by_none f.journal.owes back.0 R back.2) in
       let was = subst (Stands device f) same back.1 in
@@ -191,13 +224,14 @@ module _ {D : Type 0} (device : Disk D) (f g : FramesValue D) (p q : Pass) (held
       (right_of device f p (held ∷ []) R of right was) S.1 in
       let here : a.pages page ≡ held.content = subst (λ (m : ℕ). a.pages m ≡ held.content) number (a.held).0 in
       let long : f.journal.state.records ≡ length R = log_length device f.journal R was.journal in
-      none_bad device g R told up stands legal a.pages a.shown (λ e. omega (arith, of.some, of.seen, long, ap length e)) k
-      parent page (record {
-        large = subst CanDivide (sym here) (full_divides held.content k items is_page key full);
+      none_bad device g R told up stands legal a.pages a.shown
+      (λ e. omega (arith, of.some, of.seen, long, ap length e)) k t
+      parent page (leads_then S.0 a.pages then k t page (way told was_up R was legal S.0 S.1)) (record {
+        large = subst (CanDivide t) (sym here) large;
         above = λ other.
             let there = above other told was_up R was legal S.0 S.1 in
-            let kept = then.same k parent there.0 in (
-              subst (λ (c : Page). IsFound c k (found.Down page)) (sym kept) there.1,
-              subst HasRoomForChild (sym kept) there.2,
+            let kept = same_then S.0 a.pages then k t parent there.0 in (
+              subst (λ (c : Page). GoesDown k t c page) (sym kept) there.1,
+              subst (HasRoomIn t) (sym kept) there.2,
             );
       }) few q n bad

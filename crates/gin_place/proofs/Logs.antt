@@ -1,6 +1,6 @@
 -- What a pass goes by is so still once a step of placing is logged.
-use Rattle.std.proofs.Common.{◌≡◌, ◌⊎◌, ◌≤◌, ℕ, List, [], ◌∷◌, ◌++◌, length, refl, sym, ap, subst, ◌∙◌, inl}
-use Rattle.std.proofs.Common.{inr, arith, length-append}
+use Rattle.std.proofs.Common.{◌≡◌, ◌≤◌, ℕ, List, [], ◌∷◌, ◌++◌, length, refl, sym, ap, subst, ◌∙◌}
+use Rattle.std.proofs.Common.{inl, inr, arith, length-append}
 use Rattle.std.specs.Prelude.{Option}
 use Rattle.disk_trait.specs.declared.device.Disk.{Ghosts as Disk}
 use Rattle.page_types.specs.Records.{kind_number}
@@ -8,7 +8,7 @@ use Rattle.page_types.specs.declared.record.Kind.{Kind}
 use Rattle.page_types.specs.declared.record.Kind.TheVariants as kind
 use Rattle.page_types.specs.declared.record.Record.{Record}
 use Rattle.core_state.specs.Log.{Log, Pages, In, Shows, cut}
-use Rattle.core_state.specs.Index.{Pending, Main}
+use Rattle.core_state.specs.Index.{Pending, Main, IsNamed}
 use Rattle.core_state.specs.Legal.{IsLegal}
 use Rattle.core_state.specs.Allowed.{Sheet, Step, drawn_kind}
 use Rattle.core_state.proofs.Newest.{cut_less}
@@ -23,10 +23,12 @@ use Rattle.buffer_frames.specs.declared.pass.Pass.{Pass}
 use Rattle.buffer_frames.proofs.AtHand.{cut_length, cut_whole, log_length}
 use Rattle.buffer_frames.proofs.Beginning.{owed_begins}
 use Rattle.buffer_frames.proofs.HistoryParts.{legal_before}
+use Rattle.ts_base.specs.Keys.{Key}
+use Rattle.core_maintenance.specs.TreeSteps.{NamesStay}
 use Rattle.gin_place.specs.Running.{StoreGoesOn}
 use Rattle.gin_place.specs.Going.{IsPlacingKind}
 use Rattle.gin_place.specs.Inner.Logging.{MayLogStep, LogsStep}
-use Rattle.gin_place.proofs.Carrying.{view_right}
+use Rattle.gin_place.proofs.Carrying.{cut_cut, view_right}
 
 -- a log that is longer begins the same
 pub cut_front : (n : ℕ) (xs R : Log) → n ≤ length R → cut n (xs ++ R) ≡ cut n R
@@ -34,41 +36,12 @@ cut_front n [] R le = refl
 cut_front n (x ∷ xs) R le = cut_less n x (xs ++ R) (omega (arith, le, length-append xs R)) ∙ cut_front n xs R le
 
 pub within : (n : ℕ) → IsPlacingKind n → (13 ≤ n) × (n ≤ 17)
-within n (inl e) = (omega (arith, e), omega (arith, e))
-within n (inr (inl e)) = (omega (arith, e), omega (arith, e))
-within n (inr (inr e)) = (omega (arith, e), omega (arith, e))
-
-no_posting : (n : ℕ) → IsPlacingKind n → (n ≡ 14) ⊎ (n ≡ 15) → ⊥
-no_posting n (inl e) (inl f) = omega (arith, e, f)
-no_posting n (inl e) (inr f) = omega (arith, e, f)
-no_posting n (inr (inl e)) (inl f) = omega (arith, e, f)
-no_posting n (inr (inl e)) (inr f) = omega (arith, e, f)
-no_posting n (inr (inr e)) (inl f) = omega (arith, e, f)
-no_posting n (inr (inr e)) (inr f) = omega (arith, e, f)
+within n is = is
 
 -- a store opens with such a step
 pub early_placing : (k : Kind) → IsPlacingKind (kind_number k) → IsEarlyKind k
-early_placing kind.Create p = tt
-early_placing kind.Begin p = tt
-early_placing (kind.Commit n) p = tt
-early_placing kind.Abort p = tt
-early_placing (kind.Checkpoint redo) p = absurd (let z : ⊥ = omega (arith, (within 5 p).0) in z)
-early_placing (kind.PlaceHead i s) p = tt
-early_placing (kind.PutOverflow i s) p = tt
-early_placing (kind.MarkDeleted i s) p = tt
-early_placing (kind.PutPending i s) p = tt
-early_placing (kind.AddRow i s) p = tt
-early_placing (kind.LinkPending i s) p = tt
-early_placing kind.Shift p = tt
-early_placing kind.AddItems p = tt
-early_placing kind.MakeTree p = absurd (no_posting 14 p (inl refl))
-early_placing kind.AddPostings p = absurd (no_posting 15 p (inr refl))
-early_placing kind.GrowRoot p = tt
-early_placing kind.Split p = tt
-early_placing kind.RemoveItems p = absurd (let z : ⊥ = omega (arith, (within 18 p).1) in z)
-early_placing kind.DeletePost p = absurd (let z : ⊥ = omega (arith, (within 19 p).1) in z)
-early_placing (kind.DropPage i s) p = absurd (let z : ⊥ = omega (arith, (within 20 p).1) in z)
-early_placing kind.FreeSlots p = absurd (let z : ⊥ = omega (arith, (within 21 p).1) in z)
+early_placing (kind.Checkpoint redo) p = absurd (let z : ⊥ = omega (arith, p.0) in z)
+early_placing _ p = tt
 
 -- a record of such a step is of its kind
 kind_placing : (R : Log) (k : Kind) → IsPlacingKind (kind_number k) → IsPlacing (drawn_kind R k)
@@ -76,46 +49,57 @@ kind_placing R (kind.Commit n) p = absurd (let z : ⊥ = omega (arith, (within 3
 kind_placing R (kind.PlaceHead i s) p = absurd (let z : ⊥ = omega (arith, (within 6 p).0) in z)
 kind_placing R k p = within (kind_number k) p
 
+newest_number : (R : Log) (n : Record) (k : Kind) → IsPlacingKind (kind_number k) → n.kind ≡ drawn_kind R k
+    → (13 ≤ kind_number n.kind) × (kind_number n.kind ≤ 17)
+newest_number R n k p is = subst IsPlacing (sym is) (kind_placing R k p)
+
 newest_kind : {r : Record} {k : Kind} (n : Record) → In n (r ∷ []) → r.kind ≡ k → n.kind ≡ k
 newest_kind n (inl e) is = ap (λ (x : Record). x.kind) e ∙ is
 newest_kind n (inr i) is = absurd i
 
-module _ {D : Type 0} (device : Disk D) (law : RightKeepsFound) (pairs : PairsHold) (f g : FramesValue D) (p q : Pass)
-    (held : List Sheet) (step : Step) (may : MayLogStep device f p held step)
+module _ {D : Type 0} (device : Disk D) (f g : FramesValue D) (p q : Pass) (kd : ℕ) (was : IsPassOf f p)
+    (added : HasAdded device f g (kd ∷ [])) (rises : PassRises p q) (of : IsPassOf g q) where
+  -- what the pass had seen before a record was logged, by the log that it has seen now
+  pub seen_before : (X : Log → Pages → Type 0) → Seen device f p X
+      → Seen device g q (λ (S : Log) (Q : Pages). (P : Pages) → Shows (cut p.seen S) P → X (cut p.seen S) P)
+  seen_before X had t up R stands legal Q shown P before =
+      let back = added.back t up R stands in
+      let older : Log = back.0 in
+      let more = owed_begins f.journal.owes older in
+      let size : f.journal.state.records ≡ length older = log_length device f.journal older back.1.journal in
+      let long : g.journal.state.records ≡ length R = log_length device g.journal R stands.journal in
+      let within : p.seen ≤ length older = omega (arith, was.seen, size) in
+      let parts : R ≡ back.2.added ++ (more.0 ++ older) =
+      back.2.log_is ∙ ap (λ (l : Log). back.2.added ++ l) more.1 in
+      let cuts : cut p.seen (cut q.seen R) ≡ cut p.seen older =
+      cut_cut p.seen q.seen R rises.seen (omega (arith, of.seen, long))
+      ∙ ap (cut p.seen) parts
+      ∙ cut_front p.seen back.2.added (more.0 ++ older) (omega (arith, within, length-append more.0 older))
+      ∙ cut_front p.seen more.0 older within in
+      let legal_then : IsLegal older =
+      legal_before more.0 older (legal_before back.2.added (more.0 ++ older) (subst IsLegal parts legal)) in
+      subst (λ (S : Log). X S P) (sym cuts)
+      (had t (added.was_up up) older back.1 legal_then P (subst (λ (S : Log). Shows S P) cuts before))
+
+module _ {D : Type 0} (device : Disk D) (law : RightKeepsFound) (pairs : PairsHold) (names : NamesStay)
+    (f g : FramesValue D) (p q : Pass) (held : List Sheet) (step : Step) (may : MayLogStep device f p held step)
     (added : HasAdded device f g (kind_number step.kind ∷ []))
     (seen : Seen device g q (λ S P. IsLogged (view_of g p S held) step S P))
     (all : q.seen ≡ g.journal.state.records) (rises : PassRises p q) (of : IsPassOf g q) where
   kept_then : (X : Pages → Type 0) → ((P Q : Pages) → FoundStays P Q → X P → X Q)
-      → ((P Q : Pages) → PairsStay P Q → X P → X Q) → Seen device f p (λ S P. X P) → Seen device g q (λ S P. X P)
+      → ((P Q : Pages) → PairsStay P Q → ((k : Key) (root : ℕ) → IsNamed P k root → IsNamed Q k root) → X P → X Q)
+      → Seen device f p (λ S P. X P) → Seen device g q (λ S P. X P)
   kept_then X stay keep had t up R stands legal Q shown =
       let S : Log = cut q.seen R in
       let l = seen t up R stands legal Q shown in
-      let back = added.back t up R stands in
-      let before : Log = back.0 in
-      let more = owed_begins f.journal.owes before in
-      let long : f.journal.state.records ≡ length before = log_length device f.journal before back.1.journal in
-      let within : p.seen ≤ length before = omega (arith, (may.is_pass).seen, long) in
-      let parts : R ≡ back.2.added ++ (more.0 ++ before) =
-      back.2.log_is ∙ ap (λ (l : Log). back.2.added ++ l) more.1 in
       let whole : S ≡ R = cut_whole q.seen R (all ∙ log_length device g.journal R stands.journal) in
-      let cuts : cut p.seen S ≡ cut p.seen before =
-      ap (cut p.seen) (whole ∙ parts)
-      ∙ cut_front p.seen back.2.added (more.0 ++ before) (omega (arith, within, length-append more.0 before))
-      ∙ cut_front p.seen more.0 before within in
-      let was : IsLegal before =
-      legal_before more.0 before (legal_before back.2.added (more.0 ++ before) (subst IsLegal parts legal)) in
       let v = view_of g p S held in
       let some : 1 ≤ p.seen = omega (arith, (may.is_pass).some) in
       let far : p.seen ≤ length S =
-      omega (
-        arith,
-        within,
-        ap length (whole ∙ parts),
-        length-append back.2.added (more.0 ++ before),
-        length-append more.0 before,
-      ) in
+      omega (arith, rises.seen, of.seen, log_length device g.journal R stands.journal, ap length whole) in
       let P = seen_shown v l.log l.allowed in
-      let x : X P.0 = had t (added.was_up up) before back.1 was P.0 (subst (λ (T : Log). Shows T P.0) cuts P.1) in
+      let x : X P.0 = seen_before device f g p q (kind_number step.kind) may.is_pass added rises of (λ T U. X U) had t
+      up R stands legal Q shown P.0 P.1 in
       let r : maintenance.HasRight v = view_right g p S held may.right some far in
       let y : X (l.allowed).pages =
       stay P.0 (l.allowed).pages (law v l.log l.allowed P.0 r P.1) x in
@@ -132,7 +116,11 @@ module _ {D : Type 0} (device : Disk D) (law : RightKeepsFound) (pairs : PairsHo
       (subst IsLegal (sym whole) legal) (l.allowed).shown shown
       (λ n i. inr (subst IsPlacing (sym (newest_kind n i (l.drawn).kind)) (kind_placing l.log step.kind may.placing)))
       in
-      keep (l.allowed).pages Q kept y
+      let legal_then : IsLegal (l.newest ∷ l.log) = subst IsLegal (sym whole ∙ l.log_is) legal in
+      let same_kind = newest_number l.log l.newest step.kind may.placing (l.drawn).kind in
+      keep (l.allowed).pages Q kept (λ k root named.
+      names l.log l.newest (l.allowed).pages Q k root legal_then (l.allowed).shown
+      (subst (λ (T : Log). Shows T Q) l.log_is shown) same_kind.0 same_kind.1 named) y
 
   pub logs_by : q.pin ≡ p.pin → q.room ≡ p.room → q.xid ≡ p.xid → q.work ≡ p.work → g.pins ≡ f.pins
       → StoreGoesOn device f g (kind_number step.kind ∷ []) → LogsStep device f p held step g q
@@ -142,9 +130,10 @@ module _ {D : Type 0} (device : Disk D) (law : RightKeepsFound) (pairs : PairsHo
       added = added;
       placing = (may.placing, tt);
       pairs = record {
-        pending = λ k i. kept_then (λ P. Pending P k i) (λ P Q s. s.pending k i) (λ P Q s. s.pending k i);
-        placed = λ k i. kept_then (λ P. Main P k i) (λ P Q s. s.main k i) (λ P Q s. s.main k i);
+        pending = λ k i. kept_then (λ P. Pending P k i) (λ P Q s. s.pending k i) (λ P Q s named. s.pending k i);
+        placed = λ k i. kept_then (λ P. Main P k i) (λ P Q s. s.main k i) (λ P Q s named. s.main k i);
       };
+      trees = λ k root. kept_then (λ P. IsNamed P k root) (λ P Q s. s.named k root) (λ P Q s named. named k root);
       rises = rises;
       pin = pin;
       room = room;

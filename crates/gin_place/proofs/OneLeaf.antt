@@ -1,5 +1,5 @@
 -- The way of a key leads to one leaf, where its pairs in the main part are.
-use Rattle.std.proofs.Common.{◌≡◌, ℕ, List, [], ◌∷◌, ◌++◌, refl, sym, subst, ◌∙◌, inl, inr}
+use Rattle.std.proofs.Common.{◌≡◌, ℕ, List, [], ◌∷◌, ◌++◌, take, refl, sym, subst, ◌∙◌, inl, inr}
 use Rattle.disk_trait.specs.declared.device.Disk.{Ghosts as Disk}
 use Rattle.ts_base.specs.Keys.{Key}
 use Rattle.page_types.specs.Items.{items_of}
@@ -20,8 +20,7 @@ use Rattle.core_state.specs.Index.{Under, Main}
 use Rattle.core_state.specs.TreeRules.{Toward}
 use Rattle.core_state.proofs.Steps.Seen.{seen_shown, seen_legal}
 use Rattle.core_state.proofs.Trees.Members.{in_middle}
-use Rattle.entry_tree.specs.Adding.{IsEntryLeaf, HasNoTree, IsAdded}
-use Rattle.entry_tree.specs.declared.adding.Added.TheVariants as added
+use Rattle.entry_tree.specs.Adding.{IsEntryLeaf, HasNoTree}
 use Rattle.entry_tree.specs.Logging.{IsNewUnder}
 use Rattle.buffer_frames.specs.Frames.{FramesValue, Behind}
 use Rattle.buffer_frames.specs.Passes.{IsHolding, Seen, view_of}
@@ -29,8 +28,10 @@ use Rattle.buffer_frames.specs.declared.pass.Pass.{Pass}
 use Rattle.gin_place.specs.Placing.{ArePlaced, IsOnWay}
 use Rattle.gin_place.specs.Inner.Reading.{HasFresh, IsReading}
 use Rattle.gin_place.specs.declared.reading.Reading.TheVariants as reading
-use Rattle.gin_place.proofs.Lawful.{not_both, same_children}
-use Rattle.gin_place.proofs.Lists.{in_list, contained}
+use Rattle.gin_place.specs.declared.sought.Sought.TheVariants as sought
+use Rattle.gin_place.proofs.LawfulWays.{not_both}
+use Rattle.gin_place.proofs.TreesOn.{same_children}
+use Rattle.gin_place.proofs.Lists.{in_list, contained, of_first}
 use Rattle.gin_place.proofs.ReadPages.{all_in, entry_of, no_leaf, leaf_is, no_down}
 
 -- of children whose bounds rise, one is the first whose bound is not below the key
@@ -104,31 +105,37 @@ module _ (P : Pages) (each : (p : ℕ) → IsPage (P p)) (k : Key) where
       let same : m.page ≡ p = one_leaf 1 m.page p there.0 here.0 there.1 here.1 to way there.2 here.2 in
       away (P p).body m.entry i (subst (λ (q : ℕ). In m.entry (entries_in (P q).body)) same m.on) m.key none new m.under
 
--- what is told of a page that gets items, and of a leaf that has no room for them
+-- what is known of a leaf that lacks some of the items
 pub record IsLacking (c : Page) (k items : List ℕ) : Type 0 where
   pub leaf : IsEntryLeaf c.body
   pub fresh : HasFresh c.body k items
   pub no_tree : HasNoTree c.body k
 
-pub added_lacks : (c : Page) (k items : List ℕ) (p : Page) → IsReading c k items (reading.Added p) → IsLacking c k items
-added_lacks c k items p (IsReading.more q is_leaf added within fresh is_page none) =
-    record { leaf = is_leaf; fresh = fresh; no_tree = none }
+fresh_first : (b : Body) (k items : List ℕ) (n : ℕ) → HasFresh b k (take n items) → HasFresh b k items
+fresh_first b k items n fresh = (fresh.0, of_first n items fresh.0 fresh.1, fresh.2)
 
-pub record IsFullOf (c : Page) (k items : List ℕ) : Type 0 where
-  pub lacks : IsLacking c k items
-  pub added : IsAdded c k items added.Full
+-- one that gets the first of them, one whose list would be too long, and one without room for them
+pub added_lacks : (c : Page) (k items : List ℕ) (p : Page) (n : ℕ) → IsReading c k items (reading.Added p n)
+    → IsLacking c k items
+added_lacks c k items p n (IsReading.more q m is_leaf some among added within fresh is_page none) =
+    record { leaf = is_leaf; fresh = fresh_first c.body k items n fresh; no_tree = none }
+
+pub long_lacks : (c : Page) (k items : List ℕ) (place : ℕ) → IsReading c k items (reading.Long place)
+    → IsLacking c k items
+long_lacks c k items place (IsReading.long at there added fresh none) =
+    record { leaf = there.leaf; fresh = fresh; no_tree = none }
 
 pub full_lacks : (c : Page) (k items : List ℕ) → IsReading c k items reading.Full → IsEntryLeaf c.body
-    → IsFullOf c k items
-full_lacks c k items (IsReading.full_leaf is_leaf is_added fresh none) is =
-    record { lacks = record { leaf = is_leaf; fresh = fresh; no_tree = none }; added = is_added }
+    → IsLacking c k items
+full_lacks c k items (IsReading.full_leaf n is_leaf is_added fresh none) is =
+    record { leaf = is_leaf; fresh = fresh; no_tree = none }
 full_lacks c k items (IsReading.full_inner child is_found no_room) is =
     absurd (no_down c k child is is_found)
 
 -- so where all items are under the key none is new on the leaf that the way leads to
 pub never_fresh : {D : Type 0} (device : Disk D) (f : FramesValue D) (p : Pass) (held : List Sheet) → BulletsHold
     → IsHolding device f p held → (k : Key) (items : List ℕ) (page : ℕ) (c : Page)
-    → Seen device f p (λ S P. P page ≡ c) → IsOnWay device f p k page → IsLacking c k items
+    → Seen device f p (λ S P. P page ≡ c) → IsOnWay device f p k sought.Key page → IsLacking c k items
     → ArePlaced device f p k items → Behind device f (λ (R : Log). ⊥)
 never_fresh device f p held law hold k items page c seen way lacks placed told up R stands legal =
     let a = hold.allowed told up R stands legal in

@@ -1,5 +1,5 @@
 -- What a pass with the right of maintenance owes of a step by which items come into the entry tree.
-use Rattle.std.proofs.Common.{◌≡◌, ◌≢◌, ◌-◌, ℕ, List, length, ap, subst, inl, inr, arith, length-drop}
+use Rattle.std.proofs.Common.{◌≡◌, ◌≢◌, ◌-◌, ℕ, List, length, ap, subst, inl, arith, length-drop}
 use Rattle.disk_trait.specs.declared.device.Disk.{Ghosts as Disk}
 use Rattle.page_types.specs.Keys.{Rising}
 use Rattle.page_types.specs.Pages.{IsPage}
@@ -18,12 +18,8 @@ use Rattle.gin_place.specs.Placing.{HasRight}
 use Rattle.gin_place.proofs.Carrying.{view_right}
 
 no_abort : (k : Kind) → IsPlacingKind (kind_number k) → k ≢ kind.Abort
-no_abort k placing is = go (subst (λ (j : Kind). IsPlacingKind (kind_number j)) is placing)
-  where
-    go : IsPlacingKind 4 → ⊥
-    go (inl e) = omega (arith, e)
-    go (inr (inl e)) = omega (arith, e)
-    go (inr (inr e)) = omega (arith, e)
+no_abort k placing is =
+    let z = subst (λ (j : Kind). IsPlacingKind (kind_number j)) is placing in omega (arith, z.0)
 
 pub owes_of : {D : Type 0} (device : Disk D) (f : FramesValue D) (pass : Pass) (held : List Sheet) (step : Step)
     → IsPassOf f pass → HasRight pass → step.xid ≡ 0 → IsPlacingKind (kind_number step.kind)

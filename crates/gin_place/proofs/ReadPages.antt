@@ -1,5 +1,5 @@
 -- What a page says of items that are to come under a key.
-use Rattle.std.proofs.Common.{◌≡◌, ◌≤◌, ◌⊎◌, ⊎_elim, ℕ, List, [], ◌∷◌, ◌++◌, length, refl, sym, ap}
+use Rattle.std.proofs.Common.{◌≡◌, ◌≤◌, ℕ, List, [], ◌∷◌, ◌++◌, length, refl, sym, ap}
 use Rattle.std.proofs.Common.{subst, ◌∙◌, inl, inr, arith, length-append, Less, Equal}
 use Rattle.std.proofs.lemmas.Cmp.{nat_list_cmp_total, tied_itself}
 use Rattle.std.specs.Prelude.{Some}
@@ -17,17 +17,17 @@ use Rattle.page_types.specs.declared.page.Body.{Body}
 use Rattle.page_types.specs.declared.page.Body.TheVariants as body
 use Rattle.core_state.specs.Log.{In}
 use Rattle.core_state.specs.Changes.{UpTo}
-use Rattle.core_state.proofs.RunningOnes.{same_or_other}
-use Rattle.entry_tree.specs.Adding.{IsEntryLeaf, list_entry, tree_entry, HasNoTree}
+use Rattle.entry_tree.specs.Adding.{IsEntryLeaf, list_entry, tree_entry, HasNoTree, IsUnder}
 use Rattle.entry_tree.specs.Finding.{IsEntryBody, IsFound, IsFoundIn}
 use Rattle.entry_tree.specs.Logging.{IsNewUnder}
 use Rattle.entry_tree.specs.Reading.{upper_in}
 use Rattle.entry_tree.specs.declared.finding.Found.TheVariants as found
 use Rattle.gin_place.specs.Inner.Reading.{HasItem, IsReading, IsRoomy, IsFullLeaf}
+use Rattle.gin_place.specs.declared.sought.Sought.TheVariants as sought
 use Rattle.gin_place.specs.declared.reading.Next.TheVariants as next
 use Rattle.gin_place.specs.declared.reading.Reading.{Reading}
 use Rattle.gin_place.specs.declared.reading.Reading.TheVariants as reading
-use Rattle.gin_place.proofs.Lists.{in_list, contained}
+use Rattle.gin_place.proofs.Lists.{in_list, contained, none_lacks}
 
 pub less_same : (a b : List ℕ) → KeyLess a b → a ≡ b → ⊥
 less_same a b less same =
@@ -42,7 +42,7 @@ all_in P [] x all i = absurd i
 all_in P (y ∷ xs) x all (inl e) = subst P (sym e) all.0
 all_in P (y ∷ xs) x all (inr i) = all_in P xs x all.1 i
 
-in_middle : (front back : List Entry) (e : Entry) → In e (front ++ e ∷ back)
+pub in_middle : (front back : List Entry) (e : Entry) → In e (front ++ e ∷ back)
 in_middle [] back e = inl refl
 in_middle (x ∷ front) back e = inr (in_middle front back e)
 
@@ -118,6 +118,13 @@ are_entries c high entries is content =
     let b : IsBody c.right c.stamp (body.EntryLeaf high entries) = subst (IsBody c.right c.stamp) content is.body in
     b.1
 
+-- no entry between those below a key and those above it has the key
+no_key : (key : List ℕ) (front back : List Entry) → ((e : Entry) → In e front → KeyLess e.key key)
+    → ((e : Entry) → In e back → KeyLess key e.key) → (d : Entry) → In d (front ++ back) → d.key ≡ key → ⊥
+no_key key [] back below above d i k = less_same key d.key (above d i) (sym k)
+no_key key (x ∷ front) back below above d (inl e) k = less_same d.key key (below d (inl e)) k
+no_key key (x ∷ front) back below above d (inr i) k = no_key key front back (λ y j. below y (inr j)) above d i k
+
 module _ (c : Page) (key : List ℕ) (is : IsPage c) where
   -- ── the key has an entry ──
 
@@ -167,7 +174,7 @@ module _ (c : Page) (key : List ℕ) (is : IsPage c) where
           subst ArePostings (ap (λ (d : Entry). d.postings) (sym same) ∙ is_list) entry.postings in
           on.1
 
-      list_is : e ≡ list_entry key list
+      pub list_is : e ≡ list_entry key list
       list_is = entry_of key (Inline list) e (ap (λ (d : Entry). d.key) same ∙ h.key_is) is_list
 
       pub no_tree_here : HasNoTree c.body key
@@ -190,30 +197,29 @@ module _ (c : Page) (key : List ℕ) (is : IsPage c) where
       stands_here items none i on = record {
         list = list;
         entry = subst (λ (d : Entry). In d (entries_in c.body)) list_is (in_here e same);
-        item = in_list i (items_of list) (⊎_elim (λ has. has) (λ (lacks : Contains (items_of list) i → ⊥).
-            absurd (none (i, contained i items on, lacks))) (in_or i (items_of list)));
+        item = in_list i (items_of list) (none_lacks items (items_of list) none i (contained i items on));
       }
-        where
-          in_or : (i : ℕ) (xs : List ℕ) → Contains xs i ⊎ (Contains xs i → ⊥)
-          in_or i [] = inr (λ has. in_list i [] has)
-          in_or i (x ∷ xs) = elim (same_or_other i x) [
-            | inl e ↦ inl (contained i (x ∷ xs) (inl e))
-            | inr d ↦ ⊎_elim (λ (has : Contains xs i). inl (contained i (x ∷ xs) (inr (in_list i xs has))))
-                (λ (lacks : Contains xs i → ⊥). inr (λ has.
-                ⊎_elim (λ (e : i ≡ x). d e) (λ (on : In i xs). lacks (contained i xs on)) (in_list i (x ∷ xs) has)))
-                (in_or i xs)
-          ]
+
+      -- its old list is the one that is there
+      pub old_here : (items : List ℕ) (u : IsUnder c.body key items) → u.old ≡ list
+      old_here items u = elim u.entry [
+        | inl there ↦
+            let d : list_entry key u.old ≡ list_entry key list =
+            only_here (list_entry key u.old) (subst (In (list_entry key u.old)) (sym there)
+            (in_middle u.front u.back (list_entry key u.old))) refl ∙ sym same ∙ list_is in
+            let both : Inline u.old ≡ Inline list = ap (λ (x : Entry). x.postings) d in
+            let lists : u.old ≡ list = cc in
+            lists
+        | inr none ↦ absurd (no_key key u.front u.back u.above u.below h.entry
+            (subst (In h.entry) none.0 (in_here h.entry refl)) h.key_is)
+      ]
 
   -- ── it has none ──
 
   module _ (h : IsAbsent c key) where
-    none_here : (d : Entry) → In d (entries_in c.body) → d.key ≡ key → ⊥
-    none_here d i k = go h.front h.below (subst (λ (b : Body). In d (entries_in b)) h.content i)
-      where
-        go : (front : List Entry) → ((e : Entry) → In e front → KeyLess e.key key) → In d (front ++ h.back) → ⊥
-        go [] below i = less_same key d.key (h.above d i) (sym k)
-        go (x ∷ front) below (inl e) = less_same d.key key (below d (inl e)) k
-        go (x ∷ front) below (inr i) = go front (λ y j. below y (inr j)) i
+    pub none_here : (d : Entry) → In d (entries_in c.body) → d.key ≡ key → ⊥
+    none_here d i k =
+        no_key key h.front h.back h.below h.above d (subst (λ (b : Body). In d (entries_in b)) h.content i) k
 
     pub leaf_absent : IsEntryLeaf c.body
     leaf_absent = subst IsEntryLeaf (sym h.content) (IsEntryLeaf.leaf h.high (h.front ++ h.back))
@@ -256,16 +262,18 @@ no_down c k child is_leaf (IsFoundIn.down front back x content below within) =
     no_leaf c.body here.0 here.1 (front ++ x ∷ back) here.2 content
 
 pub leaf_roomy : (c : Page) (k items : List ℕ) → IsEntryLeaf c.body → (r : Reading) → IsReading c k items r
-    → IsRoomy c r
+    → IsRoomy sought.Key c r
 leaf_roomy c k items is_leaf (reading.On (next.Down child)) (IsReading.down ch entry is) =
     absurd (no_down c k child is_leaf is)
-leaf_roomy c k items is_leaf (reading.On next.Stand) read = tt
-leaf_roomy c k items is_leaf (reading.On next.TooLong) read = tt
+leaf_roomy c k items is_leaf (reading.On (next.Tree root)) read = tt
+leaf_roomy c k items is_leaf (reading.On (next.Stand n)) read = tt
 leaf_roomy c k items is_leaf (reading.On next.Bad) read = tt
-leaf_roomy c k items is_leaf (reading.Added p) read = tt
+leaf_roomy c k items is_leaf (reading.Added p n) read = tt
+leaf_roomy c k items is_leaf (reading.Long place) read = tt
 leaf_roomy c k items is_leaf reading.Full read = tt
 
 pub full_leaf : (c : Page) → IsEntryLeaf c.body → (r : Reading) → IsFullLeaf c r
 full_leaf c is_leaf (reading.On n) = tt
-full_leaf c is_leaf (reading.Added p) = tt
+full_leaf c is_leaf (reading.Added p n) = tt
+full_leaf c is_leaf (reading.Long place) = tt
 full_leaf c is_leaf reading.Full = is_leaf

@@ -1,6 +1,6 @@
--- Placing where all items are under the key already, or where the key takes no more of them.
-use Rattle.std.proofs.Common.{◌≡◌, ◌≢◌, ℕ, List, [], sym, subst}
-use Rattle.std.specs.Prelude.{Bool, true, false, None, Result, Ok}
+-- Placing where all items are under the key already.
+use Rattle.std.proofs.Common.{◌≡◌, ℕ, List, [], sym, subst}
+use Rattle.std.specs.Prelude.{Bool, false, None, Result, Ok}
 use Rattle.disk_trait.specs.declared.device.Disk.{Ghosts as Disk}
 use Rattle.wal.specs.Waiting.{down_of}
 use Rattle.ts_base.specs.Keys.{Key}
@@ -12,13 +12,11 @@ use Rattle.buffer_frames.specs.declared.pass.Pass.{Pass}
 use Rattle.buffer_frames.proofs.Begun.{same_by_none}
 use Rattle.gin_place.specs.Going.{WorksOn}
 use Rattle.gin_place.specs.Placing.{ArePlaced}
-use Rattle.gin_place.specs.Overfull.{IsOverfull}
-use Rattle.gin_place.specs.Stepping.{HasRested, StaysFull, HasStepped}
+use Rattle.gin_place.specs.Stepping.{HasRested, HasStepped}
 use Rattle.gin_place.specs.declared.error.PlaceError.{PlaceError}
 use Rattle.gin_place.specs.declared.placing.Placing.{Placing}
-use Rattle.gin_place.specs.declared.placing.Stage.TheVariants as stage
 use Rattle.gin_place.proofs.Carrying.{reads_still, same_added, works_in_turn}
-use Rattle.gin_place.proofs.Stepped.{placed_still, true_false}
+use Rattle.gin_place.proofs.Kept.{placed_still}
 
 -- nothing was logged, no room is to be made, and the log is up
 pub record IsAtRest {D : Type 0} (device : Disk D) (f : FramesValue D) (p : Pass) (g : FramesValue D) (q : Pass)
@@ -26,13 +24,6 @@ pub record IsAtRest {D : Type 0} (device : Disk D) (f : FramesValue D) (p : Pass
   pub works : WorksOn device f p g q []
   pub first : s.making_room ≡ false
   pub up : down_of g.journal.wal ≡ None
-
--- and the way has not ended, since the key takes no more items
-pub record IsStillFull {D : Type 0} (device : Disk D) (f : FramesValue D) (p : Pass) (k : Key) (items : List ℕ)
-    (g : FramesValue D) (q : Pass) (s : Placing) : Type 0 where
-  pub rest : IsAtRest device f p g q s
-  pub begun : s.stage ≢ stage.Done
-  pub over : IsOverfull device g q k items
 
 module _ {D : Type 0} (device : Disk D) (f : FramesValue D) (p : Pass) (k : Key) (items : List ℕ) where
   -- at the beginning it is so
@@ -71,49 +62,3 @@ module _ {D : Type 0} (device : Disk D) (f : FramesValue D) (p : Pass) (k : Key)
     pub nothing_logged : (result : Result Bool PlaceError) → HasStepped device g q h r k items s s' result
         → ArePlaced device f p k items → Behind device f (λ (R : Log). WorksOn device f p h r [])
     nothing_logged result step placed t up R stands legal = (rests_then result step placed t up R stands legal).works
-
-  -- likewise where the key takes no more items
-  pub full_first : IsPassOf f p → (s : Placing) → s.making_room ≡ false → s.stage ≢ stage.Done
-      → IsOverfull device f p k items → Behind device f (λ (R : Log). IsStillFull device f p k items f p s)
-  full_first of s first begun over t up R stands legal = record {
-    rest = record {
-      works = (reads_still device f p of (same_added device f)).works;
-      first = first;
-      up = up;
-    };
-    begun = begun;
-    over = over;
-  }
-
-  module _ (g h : FramesValue D) (q r : Pass) (s s' : Placing)
-      (was : IsOverfull device f p k items → Behind device f (λ (R : Log). IsStillFull device f p k items g q s)) where
-    full_then : (result : Result Bool PlaceError) → HasStepped device g q h r k items s s' result
-        → IsOverfull device f p k items
-        → Behind device f (λ (R : Log). WorksOn device f p h r [] × StaysFull device g q h r k items s' result)
-    full_then result step over t up R stands legal =
-        let full = was over t up R stands legal in
-        let on = full.rest.works.added.on R stands in
-        let same : on.0 ≡ R = same_by_none f.journal.owes R on.0 on.2 in
-        let now = step.full full.over full.begun full.rest.first t full.rest.up on.0 on.1
-        (subst IsLegal (sym same) legal) in
-        (works_in_turn device f g h p q r [] [] full.rest.works now.rested.works, now)
-
-    pub full_on : HasStepped device g q h r k items s s' (Ok true) → IsOverfull device f p k items
-        → Behind device f (λ (R : Log). IsStillFull device f p k items h r s')
-    full_on step over t up R stands legal =
-        let now = full_then (Ok true) step over t up R stands legal in
-        record {
-          rest = record { works = now.0; first = now.1.rested.first; up = now.1.rested.up };
-          begun = λ e. true_false (step.done.1 e);
-          over = now.1.still;
-        }
-
-    pub never_ended : HasStepped device g q h r k items s s' (Ok false) → IsOverfull device f p k items
-        → Behind device f (λ (R : Log). ⊥)
-    never_ended step over t up R stands legal =
-        let now = full_then (Ok false) step over t up R stands legal in
-        true_false (sym now.1.goes_on)
-
-    pub full_logs_nothing : (result : Result Bool PlaceError) → HasStepped device g q h r k items s s' result
-        → IsOverfull device f p k items → Behind device f (λ (R : Log). WorksOn device f p h r [])
-    full_logs_nothing result step over t up R stands legal = (full_then result step over t up R stands legal).0

@@ -1,19 +1,24 @@
 -- Why a page is not split, of the store as it was.
-use Rattle.std.proofs.Common.{◌≡◌, ◌≢◌, ⊎_elim, ℕ, [], ◌∷◌, refl, sym, subst, inl, inr}
+use Rattle.std.proofs.Common.{◌≡◌, ◌≢◌, ⊎_elim, ℕ, [], ◌∷◌, sym, subst, inl, inr}
 use Rattle.disk_trait.specs.declared.device.Disk.{Ghosts as Disk}
+use Rattle.page_types.specs.Pages.{IsPage}
 use Rattle.page_types.specs.declared.page.Page.{Page}
 use Rattle.core_state.specs.Allowed.{Sheet}
 use Rattle.core_state.proofs.RunningOnes.{same_or_other}
-use Rattle.entry_tree.specs.Reading.{upper_in}
+use Rattle.entry_tree.specs.Reading as entry_rooms
+use Rattle.posting_tree.specs.Reading as post_rooms
 use Rattle.buffer_frames.specs.Homes.{home_at, IsAway, LiesAs}
 use Rattle.buffer_frames.specs.Frames.{FramesValue, Lies, KeepsOthers}
 use Rattle.buffer_frames.specs.Passes.{IsPassOf}
 use Rattle.buffer_frames.specs.declared.home.Home.{Home}
 use Rattle.buffer_frames.specs.declared.pass.Pass.{Pass}
-use Rattle.gin_place.specs.Adopting.{CanTake}
-use Rattle.gin_place.specs.Causes.{Finds, CannotUse, IsBadRoom, IsWhy}
+use Rattle.gin_place.specs.Adopting.{CanTake, CanTakeItem}
+use Rattle.gin_place.specs.Causes.{Finds, CannotUse, CannotAdopt, IsBadRoom, IsWhy}
 use Rattle.gin_place.specs.Faults.{MetNoFault, FaultBy}
-use Rattle.gin_place.specs.Inner.Dividing.{WhyNoSplit}
+use Rattle.gin_place.specs.Inner.Dividing.{AreSplit, Takes, WhyNoSplit}
+use Rattle.gin_place.specs.Trees.{root_of}
+use Rattle.gin_place.specs.declared.sought.Sought.{Sought}
+use Rattle.gin_place.specs.declared.sought.Sought.TheVariants as sought
 use Rattle.gin_place.specs.declared.error.PlaceError.{PlaceError}
 use Rattle.gin_place.specs.declared.error.PlaceError.TheVariants.{BadPage, OutOfMemory}
 use Rattle.gin_place.proofs.Causing.{finds_now}
@@ -27,18 +32,35 @@ lies_before f g other page c keeps away lies = elim (same_or_other page other) [
   | inr off ↦ subst (λ (h : Home). LiesAs h c) (keeps page (λ i. ⊎_elim off (λ n. n) i)) lies
 ]
 
-module _ {D : Type 0} (device : Disk D) (f : FramesValue D) (p : Pass) (l : FramesValue D) (parent page : ℕ)
-    (old above : Sheet) (of : IsPassOf f p) (numbers : (old.page ≡ page) × (above.page ≡ parent))
+module _ {D : Type 0} (device : Disk D) (f : FramesValue D) (p : Pass) (l : FramesValue D) (t : Sought)
+    (parent page : ℕ) (old above : Sheet) (of : IsPassOf f p) (numbers : (old.page ≡ page) × (above.page ≡ parent))
     (lies : Lies f page old.content × Lies f parent above.content) where
   So : PlaceError → Type 0
-  So e = Finds device f p (IsWhy device (IsBadRoom parent page) (λ g. ⊥) l e)
+  So e = Finds device f p (IsWhy device (IsBadRoom t parent page) l e)
 
-  now : (e : PlaceError) → IsWhy device (IsBadRoom parent page) (λ g. ⊥) l e f p → So e
+  now : (e : PlaceError) → IsWhy device (IsBadRoom t parent page) l e f p → So e
   unfolding So
-  now e why = finds_now device f p (IsWhy device (IsBadRoom parent page) (λ g. ⊥) l e) of why
+  now e why = finds_now device f p (IsWhy device (IsBadRoom t parent page) l e) of why
 
-  pub split_why : page ≢ 1 → (e : PlaceError) → WhyNoSplit old above e
-      → Finds device f p (IsWhy device (IsBadRoom parent page) (λ g. ⊥) l e)
+  -- the parent does not take the new page
+  not_adopted : (s : Sought) (new : ℕ) (left right : Page) → IsPage old.content → IsPage above.content
+      → AreSplit s old.content new left right → (Takes s old.page left above.content → ⊥)
+      → CannotAdopt s f page above.page
+  not_adopted sought.Key new left right ok ok_above x off = (
+    left,
+    (old.content, ok, lies.0, new, x.keep, right, x.parts),
+    CannotUse.other above.content ok_above (subst (λ (n : ℕ). Lies f n above.content) (sym numbers.1) lies.1)
+        (subst (λ (n : ℕ). CanTake n (entry_rooms.upper_in left.body) above.content → ⊥) numbers.0 off),
+  )
+  not_adopted (sought.Item root item) new left right ok ok_above x off = (
+    left,
+    (old.content, ok, lies.0, new, x.keep, right, x.parts),
+    CannotUse.other above.content ok_above (subst (λ (n : ℕ). Lies f n above.content) (sym numbers.1) lies.1)
+        (subst (λ (n : ℕ). CanTakeItem n (post_rooms.upper_in left.body) above.content → ⊥) numbers.0 off),
+  )
+
+  pub split_why : page ≢ root_of t → (e : PlaceError) → WhyNoSplit t old above e
+      → Finds device f p (IsWhy device (IsBadRoom t parent page) l e)
   unfolding So
   split_why other e (inl none) = subst So (sym none) (now OutOfMemory tt)
   split_why other e (inr (inl bad)) =
@@ -46,15 +68,13 @@ module _ {D : Type 0} (device : Disk D) (f : FramesValue D) (p : Pass) (l : Fram
       (now (BadPage old.page) (IsBadRoom.split other numbers.0 (CannotUse.other old.content bad.1
       (subst (λ (n : ℕ). Lies f n old.content) (sym numbers.0) lies.0) bad.2)))
   split_why other e (inr (inr bad)) =
-      let off = subst (λ (n : ℕ). CanTake n (upper_in bad.4.body) above.content → ⊥) numbers.0 bad.7 in
       subst So (sym bad.0)
-      (now (BadPage above.page) (IsBadRoom.adopts other (upper_in bad.4.body) numbers.1
-      (old.content, bad.1, lies.0, bad.3, bad.6.keep, bad.4, bad.5, bad.6.parts, refl)
-      (CannotUse.other above.content bad.2 (subst (λ (n : ℕ). Lies f n above.content) (sym numbers.1) lies.1) off)))
+      (now (BadPage above.page) (IsBadRoom.adopts other numbers.1
+      (not_adopted t bad.3 bad.4 bad.5 bad.1 bad.2 bad.6 bad.7)))
 
 -- and no fault is met then
-pub split_fault : {D : Type 0} (device : Disk D) (f g : FramesValue D) (old above : Sheet) (e : PlaceError)
-    → MetNoFault device f g → WhyNoSplit old above e → FaultBy device f g e
-split_fault device f g old above e fine (inl none) = subst (FaultBy device f g) (sym none) fine
-split_fault device f g old above e fine (inr (inl bad)) = subst (FaultBy device f g) (sym bad.0) fine
-split_fault device f g old above e fine (inr (inr bad)) = subst (FaultBy device f g) (sym bad.0) fine
+pub split_fault : {D : Type 0} (device : Disk D) (f g : FramesValue D) (t : Sought) (old above : Sheet)
+    (e : PlaceError) → MetNoFault device f g → WhyNoSplit t old above e → FaultBy device f g e
+split_fault device f g t old above e fine (inl none) = subst (FaultBy device f g) (sym none) fine
+split_fault device f g t old above e fine (inr (inl bad)) = subst (FaultBy device f g) (sym bad.0) fine
+split_fault device f g t old above e fine (inr (inr bad)) = subst (FaultBy device f g) (sym bad.0) fine

@@ -7,32 +7,31 @@ use Rattle.page_types.specs.Encoding.{body_bytes, count_of}
 use Rattle.page_types.specs.Numbers.{page_limit}
 use Rattle.page_types.specs.Pages.{IsPage}
 use Rattle.page_types.specs.Records.{kind_number}
-use Rattle.page_types.specs.Views.{entries_in}
 use Rattle.page_types.specs.declared.page.Page.{Page}
-use Rattle.core_state.specs.Log.{Log, In}
+use Rattle.core_state.specs.Log.{Log}
 use Rattle.core_state.specs.Allowed.{Step}
 use Rattle.core_state.specs.PageChoice.{IsLeast, AreBelow}
 use Rattle.core_state.specs.TreeRules.{half_body}
 use Rattle.posting_code.specs.declared.dividing.Keep.{Keep}
 use Rattle.page_space.specs.Taking.{IsTaken, HasNoPage}
-use Rattle.entry_tree.specs.Adding.{tree_entry, IsAdded}
-use Rattle.entry_tree.specs.Finding.{IsEntryBody, IsFound}
-use Rattle.entry_tree.specs.Reading.{upper_in}
+use Rattle.entry_tree.specs.Reading as entry_rooms
 use Rattle.entry_tree.specs.Splitting.{AreParts}
-use Rattle.entry_tree.specs.declared.adding.Added.TheVariants as added
-use Rattle.entry_tree.specs.declared.finding.Found.TheVariants as found
+use Rattle.posting_tree.specs.Reading as post_rooms
 use Rattle.buffer_frames.specs.Homes.{IsNoPage}
 use Rattle.buffer_frames.specs.Journals.{logged_bytes, next_record}
 use Rattle.buffer_frames.specs.Frames.{FramesValue, Lies, Behind}
 use Rattle.buffer_frames.specs.declared.pass.Pass.{Pass}
 use Rattle.gin_place.specs.Going.{IsPlacingKind, WorksOn}
-use Rattle.gin_place.specs.Adopting.{CanTake}
+use Rattle.gin_place.specs.Trees.{root_of, IsTreeBody, IsPast}
+use Rattle.gin_place.specs.Adopting.{CanTake, CanTakeItem}
 use Rattle.gin_place.specs.Faults.{MetNoFault}
 use Rattle.gin_place.specs.declared.error.PlaceError.{PlaceError}
 use Rattle.gin_place.specs.declared.error.PlaceError.TheVariants.{StoreFull, LogFull, DiskFault, Down, BadPage}
 use Rattle.gin_place.specs.declared.error.PlaceError.TheVariants.{OutOfMemory}
 use Rattle.gin_place.specs.declared.placing.Placing.{Placing}
 use Rattle.gin_place.specs.declared.placing.Stage.TheVariants as stage
+use Rattle.gin_place.specs.declared.sought.Sought.{Sought}
+use Rattle.gin_place.specs.declared.sought.Sought.TheVariants as sought
 
 -- calls that logged records of such kinds, or none, came to frames and a pass of which this holds
 abbrev pub Meets : {D : Type 0} → Disk D → FramesValue D → Pass → (FramesValue D → Pass → Type 0) → Type 0
@@ -50,26 +49,17 @@ pub data CannotUse {D : Type 0} (f : FramesValue D) (Is : Page → Type 0) (p : 
   bytes : IsNoPage f.homes p → CannotUse f Is p
   other : (c : Page) → IsPage c → Lies f p c → (Is c → ⊥) → CannotUse f Is p
 
--- a page of the entry tree that has a place for the key
-pub record HasPlace (key : List ℕ) (c : Page) : Type 0 where
-  pub entries : IsEntryBody c.body
-  pub not_past : (q : ℕ) → IsFound c key (found.Right q) → ⊥
+-- a page of the tree where something is sought that has a place for it
+pub record HasPlace (key : List ℕ) (s : Sought) (c : Page) : Type 0 where
+  pub on_tree : IsTreeBody s c.body
+  pub not_past : (q : ℕ) → IsPast key s c q → ⊥
 
 -- a root that may grow, and a page that may be split
-abbrev pub CanGrow : Page → Type 0
-CanGrow c = IsEntryBody c.body × (half_body < length (body_bytes c.body)) × (c.right ≡ 0)
+abbrev pub CanGrow : Sought → Page → Type 0
+CanGrow s c = IsTreeBody s c.body × (half_body < length (body_bytes c.body)) × (c.right ≡ 0)
 
-abbrev pub CanDivide : Page → Type 0
-CanDivide c = IsEntryBody c.body × (half_body < length (body_bytes c.body)) × (2 ≤ count_of c.body)
-
--- the key's list would have more than 1000 bytes with the items, or is a tree
-pub data IsLong (key items : List ℕ) (c : Page) : Type 0 where
-  list : IsAdded c key items added.TooLong → IsLong key items c
-  tree : (root : ℕ) → In (tree_entry key root) (entries_in c.body) → IsLong key items c
-
--- it is so on a page that lies there
-abbrev pub HasLong : {D : Type 0} → List ℕ → List ℕ → FramesValue D → Type 0
-HasLong key items f = (p : ℕ) × (c : Page) × Lies f p c × IsLong key items c
+abbrev pub CanDivide : Sought → Page → Type 0
+CanDivide s c = IsTreeBody s c.body × (half_body < length (body_bytes c.body)) × (2 ≤ count_of c.body)
 
 -- the log would pass its limit with the record of a step by which items come into the tree
 pub record HasNoRoom {D : Type 0} (f : FramesValue D) : Type 0 where
@@ -83,21 +73,27 @@ pub record IsBadNew {D : Type 0} (f : FramesValue D) (pass : Pass) (p : ℕ) : T
   pub taken : IsTaken f.journal.state pass.since p
   pub bad : (p ≡ 0) ⊎ CannotUse f (λ (c : Page). ⊤) p
 
--- the key is the greatest one of the first part of the page that lies there, in two parts
-abbrev pub IsMiddle : {D : Type 0} → FramesValue D → ℕ → List ℕ → Type 0
-IsMiddle f page mid =
-    (c : Page) × IsPage c × Lies f page c × (new : ℕ) × (keep : Keep) × (left : Page) × (right : Page)
-    × AreParts c new keep left right × (mid ≡ upper_in left.body)
+-- the page that lies there, in two parts, the first of which is this one
+abbrev pub HasFirstPart : {D : Type 0} → FramesValue D → ℕ → Page → Type 0
+HasFirstPart f page left =
+    (c : Page) × IsPage c × Lies f page c × (new : ℕ) × (keep : Keep) × (right : Page) × AreParts c new keep left right
+
+-- The parent does not take the new page: it has no room, or what the first part ends with does not divide what is
+-- below the child.
+abbrev pub CannotAdopt : {D : Type 0} → Sought → FramesValue D → ℕ → ℕ → Type 0
+CannotAdopt sought.Key f page p =
+    (left : Page) × HasFirstPart f page left × CannotUse f (CanTake page (entry_rooms.upper_in left.body)) p
+CannotAdopt (sought.Item root item) f page p =
+    (left : Page) × HasFirstPart f page left × CannotUse f (CanTakeItem page (post_rooms.upper_in left.body)) p
 
 -- A bad page: no root that may grow, where the root is to grow; another page that is to be split, or its
 -- parent, which does not take the new page; or the new page.
-pub data IsBadRoom {D : Type 0} (parent page : ℕ) (f : FramesValue D) (pass : Pass) (p : ℕ) : Type 0 where
-  root : page ≡ 1 → p ≡ 1 → CannotUse f CanGrow p → IsBadRoom parent page f pass p
-  split : page ≢ 1 → p ≡ page → CannotUse f CanDivide p → IsBadRoom parent page f pass p
-  above : page ≢ 1 → p ≡ parent → CannotUse f (λ (c : Page). ⊤) p → IsBadRoom parent page f pass p
-  adopts : page ≢ 1 → (mid : List ℕ) → p ≡ parent → IsMiddle f page mid → CannotUse f (CanTake page mid) p
-      → IsBadRoom parent page f pass p
-  new : IsBadNew f pass p → IsBadRoom parent page f pass p
+pub data IsBadRoom {D : Type 0} (s : Sought) (parent page : ℕ) (f : FramesValue D) (pass : Pass) (p : ℕ) : Type 0 where
+  root : page ≡ root_of s → p ≡ page → CannotUse f (CanGrow s) p → IsBadRoom s parent page f pass p
+  split : page ≢ root_of s → p ≡ page → CannotUse f (CanDivide s) p → IsBadRoom s parent page f pass p
+  above : page ≢ root_of s → p ≡ parent → CannotUse f (λ (c : Page). ⊤) p → IsBadRoom s parent page f pass p
+  adopts : page ≢ root_of s → p ≡ parent → CannotAdopt s f page p → IsBadRoom s parent page f pass p
+  new : IsBadNew f pass p → IsBadRoom s parent page f pass p
 
 -- each page that the store may have has a number
 abbrev pub HasNumbers : {D : Type 0} → FramesValue D → Type 0
@@ -107,16 +103,16 @@ HasNumbers f = f.journal.state.pages ≤ page_limit
 abbrev pub IsSpent : {D : Type 0} → Placing → FramesValue D → Type 0
 IsSpent s f = (s.left ≡ Some 0) ⊎ ((s.left ≡ None) × IsLeast (AreBelow f.journal.state) 0)
 
--- A bad page of a step: the one that it reads has no place for the key, the way has read as many pages as
--- it may, or it is one of those by which room is made; which are so in no legal log.
+-- A bad page of a step: the one that it reads has no place for what is sought, the way has read as many pages as
+-- it may, or it is one of those by which room is made, or the new page of a tree; which are so in no legal log.
 pub data IsBad {D : Type 0} (device : Disk D) (key : List ℕ) (s : Placing) (f : FramesValue D) (pass : Pass) (p : ℕ)
     : Type 0 where
-  read : (parent : ℕ) → s.stage ≡ stage.Entries parent p → CannotUse f (HasPlace key) p
+  read : (t : Sought) (parent : ℕ) → s.stage ≡ stage.At t parent p → CannotUse f (HasPlace key t) p
       → Behind device f (λ (R : Log). ⊥)
       → IsBad device key s f pass p
-  far : (parent : ℕ) → s.stage ≡ stage.Entries parent p → IsSpent s f → Behind device f (λ (R : Log). ⊥)
+  far : (t : Sought) (parent : ℕ) → s.stage ≡ stage.At t parent p → IsSpent s f → Behind device f (λ (R : Log). ⊥)
       → IsBad device key s f pass p
-  room : (parent page : ℕ) → s.stage ≡ stage.Entries parent page → IsBadRoom parent page f pass p
+  room : (t : Sought) (parent page : ℕ) → s.stage ≡ stage.At t parent page → IsBadRoom t parent page f pass p
       → (HasNumbers f → Behind device f (λ (R : Log). ⊥))
       → IsBad device key s f pass p
 
@@ -138,15 +134,15 @@ module _ {D : Type 0} (device : Disk D) where
   abbrev pub HasFault : FramesValue D → FramesValue D → Type 0
   HasFault f left = Rose (device.fault_count f.journal.disk) (device.fault_count left.journal.disk)
 
-  -- why a call is refused that leaves the frames so, where `Bad` is said of bad pages, and `Long` of lists
-  abbrev pub IsWhy : (FramesValue D → Pass → ℕ → Type 0) → (FramesValue D → Type 0) → FramesValue D → PlaceError
-      → FramesValue D → Pass → Type 0
-  IsWhy Bad Long left StoreFull f pass = HasNoPage f.journal.state pass.since ⊎ Long f
-  IsWhy Bad Long left LogFull f pass = HasNoRoom f
-  IsWhy Bad Long left DiskFault f pass = HasFault f left
-  IsWhy Bad Long left (Down fault) f pass = down_of f.journal.wal ≡ Some fault
-  IsWhy Bad Long left (BadPage p) f pass = Bad f pass p
-  IsWhy Bad Long left OutOfMemory f pass = ⊤
+  -- Why a call is refused that leaves the frames so, where `Bad` is said of bad pages. The store is full where no
+  -- new page is left, and only there.
+  abbrev pub IsWhy : (FramesValue D → Pass → ℕ → Type 0) → FramesValue D → PlaceError → FramesValue D → Pass → Type 0
+  IsWhy Bad left StoreFull f pass = HasNoPage f.journal.state pass.since
+  IsWhy Bad left LogFull f pass = HasNoRoom f
+  IsWhy Bad left DiskFault f pass = HasFault f left
+  IsWhy Bad left (Down fault) f pass = down_of f.journal.wal ≡ Some fault
+  IsWhy Bad left (BadPage p) f pass = Bad f pass p
+  IsWhy Bad left OutOfMemory f pass = ⊤
 
   -- why a page is not held
   abbrev pub CannotHold : ℕ → FramesValue D → PlaceError → FramesValue D → Pass → Type 0

@@ -8,18 +8,19 @@ use Rattle.buffer_frames.specs.Frames.{FramesValue}
 use Rattle.buffer_frames.specs.Passes.{IsHolding, Seen}
 use Rattle.buffer_frames.specs.declared.pass.Pass.{Pass}
 use Rattle.gin_place.specs.Going.{KeepsWays, WorksOn}
-use Rattle.gin_place.specs.Overfull.{IsOverfull}
-use Rattle.gin_place.specs.Placing.{IsLeft, IsRoomAbove}
+use Rattle.gin_place.specs.Placing.{IsRootOf, IsLeft, IsRoomAbove}
+use Rattle.gin_place.specs.declared.sought.Sought.{Sought}
 
 module _ {D : Type 0} (device : Disk D) (f : FramesValue D) (pass : Pass) (f' : FramesValue D) (pass' : Pass) where
   -- nothing is logged, and all that was found is so still
   pub record ReadsOn : Type 0 where
     pub works : WorksOn device f pass f' pass' []
     pub ways : KeepsWays device f pass f' pass'
-    pub left : (k : Key) (page n : ℕ) → IsLeft device f pass k page n → IsLeft device f' pass' k page n
-    pub over : (k : Key) (items : List ℕ) → IsOverfull device f pass k items → IsOverfull device f' pass' k items
-    pub above : (k : Key) (parent page : ℕ) → IsRoomAbove device f pass k parent page
-        → IsRoomAbove device f' pass' k parent page
+    pub left : (k : Key) (s : Sought) (page n : ℕ) → IsLeft device f pass k s page n
+        → IsLeft device f' pass' k s page n
+    pub roots : (s : Sought) → IsRootOf device f pass s → IsRootOf device f' pass' s
+    pub above : (k : Key) (s : Sought) (parent page : ℕ) → IsRoomAbove device f pass k s parent page
+        → IsRoomAbove device f' pass' k s parent page
 
   -- the same pages are held
   pub record HoldsNoMore : Type 0 where

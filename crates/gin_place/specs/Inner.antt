@@ -2,6 +2,7 @@
 pub mod Refusals
 pub mod Asked
 pub mod Reading
+pub mod ReadingItems
 pub mod Making
 pub mod Logging
 pub mod Dividing

@@ -5,7 +5,7 @@ pub mod Going
 pub mod Holding
 pub mod Adopting
 pub mod Causes
-pub mod Overfull
+pub mod Trees
 pub mod Stepping
 pub mod Inner
 pub use Rattle.core_state.specs.Index

@@ -10,7 +10,7 @@ use thiserror::Error;
 /// Why items are not put under their key.
 #[derive(Clone, Copy, Debug, PartialEq, Eq, Error)]
 pub enum PlaceError {
-    /// No page is left for the tree; or, until lists become trees, the key's list would be too long.
+    /// No page is left for the trees.
     #[error("store full")]
     StoreFull,
     /// A page is not read, or a record not logged: the device failed in this call.
@@ -23,7 +23,7 @@ pub enum PlaceError {
     /// of faults was at this number.
     #[error("down {fault}")]
     Down { fault: u64 },
-    /// This page is not what the entry tree has there.
+    /// This page is not what the trees have there.
     #[error("bad page {page}")]
     BadPage { page: u32 },
     /// There was no memory for this call, or somebody else holds a page that it needs.

@@ -113,7 +113,7 @@ fn take_page<D: Disk>(frames: &mut Frames<D>, pass: &mut Pass) -> Result<Option<
     ensures full { IsErrOf result StoreFull
         → HasNoPage frames.new.journal.state pass.new.since }
     ensures cause { IfErr result (λ e. Finds D.Disk frames.old pass.old
-        (IsWhy D.Disk IsBadNew (λ g. ⊥) frames.new e)) }
+        (IsWhy D.Disk IsBadNew frames.new e)) }
     ensures fine { OnOk result (MetNoFault D.Disk frames.old frames.new) }
     ensures fault { IfErr result (λ e. FaultBy D.Disk frames.old frames.new e) }
 {
@@ -158,7 +158,7 @@ pub fn hold_new<D: Disk>(frames: &mut Frames<D>, pass: &mut Pass) -> Result<Held
     ensures full { IsErrOf result StoreFull
         → HasNoPage frames.new.journal.state pass.new.since }
     ensures cause { IfErr result (λ e. Finds D.Disk frames.old pass.old
-        (IsWhy D.Disk IsBadNew (λ g. ⊥) frames.new e)) }
+        (IsWhy D.Disk IsBadNew frames.new e)) }
     ensures fine { OnOk result (MetNoFault D.Disk frames.old frames.new) }
     ensures fault { IfErr result (λ e. FaultBy D.Disk frames.old frames.new e) }
 {

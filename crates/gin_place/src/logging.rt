@@ -14,7 +14,7 @@ ghost use Rattle.gin_place.specs.Inner.Logging.{MayLogStep, LogsStep};
 
 use crate::error::PlaceError;
 use buffer_frames::{Frames, Held, Pass, Sheet, Step};
-use core_maintenance::{found_stays, placing_keeps};
+use core_maintenance::{found_stays, placing_keeps, tree_names_hold};
 use disk_trait::Disk;
 use page_types::{Kind, Page};
 use std::alloc::{AllocError, Global};
@@ -56,6 +56,7 @@ fn log_pages<D: Disk>(
 {
     found_stays();
     placing_keeps();
+    tree_names_hold();
     frames.log_step(pass, pages, step)?;
     Ok(())
 }
@@ -81,11 +82,13 @@ pub(crate) fn two_step(
     first: (&Held, Page),
     second: (&Held, Page),
 ) -> Result<Step, AllocError>
-    ensures { IfOk result (λ s. s ≡ record {
+    ensures step { IfOk result (λ s. s ≡ record {
       kind = kind;
       xid = 0;
       after = sheet (first.entry.0).now.page first.entry.1 ∷ sheet (second.entry.0).now.page second.entry.1 ∷ [];
     }) }
+    ensures low { OnOk result (((first.entry.0).now.page < page_limit)
+        × ((second.entry.0).now.page < page_limit)) }
 {
     let mut step = one_step(alloc, kind, first)?;
     step.leave(Sheet::new(second.0.number(), second.1))?;
@@ -100,12 +103,14 @@ pub(crate) fn three_step(
     second: (&Held, Page),
     third: (&Held, Page),
 ) -> Result<Step, AllocError>
-    ensures { IfOk result (λ s. s ≡ record {
+    ensures step { IfOk result (λ s. s ≡ record {
       kind = kind;
       xid = 0;
       after = sheet (first.entry.0).now.page first.entry.1 ∷ sheet (second.entry.0).now.page second.entry.1
           ∷ sheet (third.entry.0).now.page third.entry.1 ∷ [];
     }) }
+    ensures low { OnOk result (((first.entry.0).now.page < page_limit) × ((second.entry.0).now.page < page_limit)
+        × ((third.entry.0).now.page < page_limit)) }
 {
     let mut step = two_step(alloc, kind, first, second)?;
     step.leave(Sheet::new(third.0.number(), third.1))?;

@@ -5,35 +5,41 @@ ghost use Rattle.page_types.specs.Parts.{entry_shown};
 ghost use Rattle.page_types.specs.Views.{entries_in};
 ghost use Rattle.core_state.specs.Changes.{UpTo};
 ghost use Rattle.entry_tree.specs.Adding.{IsEntryLeaf, HasNoTree};
-ghost use Rattle.entry_tree.specs.Finding.{IsEntryBody, IsFound};
+ghost use Rattle.entry_tree.specs.Finding.{IsFound};
 ghost use Rattle.entry_tree.specs.Reading.{upper_in};
 ghost use Rattle.entry_tree.specs.declared.finding.Found.TheVariants as found;
-ghost use Rattle.gin_place.specs.Inner.Reading.{IsAsked, HasFresh, IsReading, IsRoomy, IsFullLeaf};
+ghost use Rattle.entry_tree.specs.Adding.{IsAdded};
+ghost use Rattle.entry_tree.specs.declared.adding.Added.TheVariants as added;
+ghost use Rattle.gin_place.specs.Inner.Reading.{IsAsked, HasFresh, IsShortList, IsReading, IsRoomy, IsFullLeaf};
+ghost use Rattle.gin_place.specs.declared.sought.Sought.TheVariants as soughts;
 
+use crate::sought::{Sought, is_tree_page};
 use entry_tree::{Added, Found, add, find, has_room};
 use gin_opclass::{CompareKeys, Judge, Meaning, OpClass};
-use page_types::{Body, EntryRef, Page, PostingsRef};
-use posting_code::lacks;
+use page_types::{Body, EntryRef, MOST_INLINE_BYTES, Page, PostingsRef};
+use posting_code::{fitting, lacks};
 use std::alloc::{AllocError, Global};
 
 /// What a page says of items that are to come under a key, where nothing is to be logged.
 #[derive(Clone, Copy, Debug, PartialEq, Eq)]
 pub(crate) enum Next {
-    /// The way for the key goes on to this child.
+    /// The way goes on to this child.
     Down(u32),
-    /// All items are under the key.
-    Stand,
-    /// The key's list would be too long, or its items are in a tree of their own.
-    TooLong,
-    /// The key has no place on the page.
+    /// The key's items are in the posting tree with this root.
+    Tree(u32),
+    /// So many of the items, the first of them, are under the key.
+    Stand(usize),
+    /// What is sought has no place on the page.
     Bad,
 }
 
 /// What a page says of items that are to come under a key.
 #[derive(Drop)]
 pub(crate) enum Reading {
-    /// The page with the items under the key.
-    Added(Page),
+    /// The page with so many of the items, the first of them, under the key.
+    Added(Page, usize),
+    /// The list of the entry with this number would be too long, and is to become a posting tree.
+    Long(usize),
     /// The page has no room: for a child more, or for the items.
     Full,
     /// Nothing is to be logged.
@@ -52,25 +58,52 @@ fn entry_at(page: &Page, place: usize) -> Option<EntryRef<'_>>
     }
 }
 
-/// What a leaf says that has room for the key: with the items, where it has room for them.
+/// What a leaf says of items that some are to be added of: with all of them; nothing where the key's list
+/// would be too long.
 fn with_items<Q, W: Meaning<Q>, C: CompareKeys, J: Judge<Q, W>>(
     alloc: Global,
     page: &Page,
     class: &OpClass<Q, W, C, J>,
     key: &[u8],
     items: &[u32],
-) -> Result<Reading, AllocError>
-    requires leaf { IsEntryLeaf page.now.body }
+) -> Result<Option<Reading>, AllocError>
     requires asked { IsAsked page.now key.now items.now }
-    requires no_tree { HasNoTree page.now.body key.now }
+    requires leaf { IsEntryLeaf page.now.body }
     requires within { UpTo key.now (upper_in page.now.body) }
+    requires no_tree { HasNoTree page.now.body key.now }
     requires fresh { HasFresh page.now.body key.now items.now }
-    ensures { IfOk result (λ r. IsReading page.now key.now items.now r) }
+    ensures some { IfOk result (λ o. IfSome o (λ r. IsReading page.now key.now items.now r)) }
+    ensures none { IfOk result (λ o. IfNone o (IsAdded page.now key.now items.now added.TooLong)) }
 {
     match add(alloc, page, class, key, items)? {
-        Added::Done(page) => Ok(Reading::Added(page)),
-        Added::TooLong => Ok(Reading::On(Next::TooLong)),
+        Added::Done(new) => Ok(Some(Reading::Added(new, items.len()))),
+        Added::Full => Ok(Some(Reading::Full)),
+        Added::TooLong => Ok(None),
+    }
+}
+
+/// What a leaf says of items that are too many for the key's list, which has fewer than two bytes: with
+/// the first of them, as many as the list takes.
+fn with_first<Q, W: Meaning<Q>, C: CompareKeys, J: Judge<Q, W>>(
+    alloc: Global,
+    page: &Page,
+    class: &OpClass<Q, W, C, J>,
+    key: &[u8],
+    list: &[u8],
+    items: &[u32],
+) -> Result<Reading, AllocError>
+    requires asked { IsAsked page.now key.now items.now }
+    requires leaf { IsEntryLeaf page.now.body }
+    requires within { UpTo key.now (upper_in page.now.body) }
+    requires list { IsShortList page.now key.now list.now }
+    requires long { IsAdded page.now key.now items.now added.TooLong }
+    ensures { IfOk result (λ r. IsReading page.now key.now items.now r) }
+{
+    let count = fitting(list, items, MOST_INLINE_BYTES);
+    match add(alloc, page, class, key, &items[..count])? {
+        Added::Done(new) => Ok(Reading::Added(new, count)),
         Added::Full => Ok(Reading::Full),
+        Added::TooLong => unreachable!(),
     }
 }
 
@@ -91,12 +124,16 @@ fn read_entry<Q, W: Meaning<Q>, C: CompareKeys, J: Judge<Q, W>>(
         return Ok(Reading::On(Next::Bad));
     };
     match entry.postings {
-        PostingsRef::Root(_) => Ok(Reading::On(Next::TooLong)),
+        PostingsRef::Root(root) => Ok(Reading::On(Next::Tree(root))),
         PostingsRef::Inline(list) => {
-            if lacks(list, items) {
-                return with_items(alloc, page, class, key, items);
+            if !lacks(list, items) {
+                return Ok(Reading::On(Next::Stand(items.len())));
             }
-            Ok(Reading::On(Next::Stand))
+            match with_items(alloc, page, class, key, items)? {
+                Some(reading) => Ok(reading),
+                None if list.len() < 2 => with_first(alloc, page, class, key, list, items),
+                None => Ok(Reading::Long(place)),
+            }
         }
     }
 }
@@ -114,14 +151,17 @@ fn read_none<Q, W: Meaning<Q>, C: CompareKeys, J: Judge<Q, W>>(
     ensures { IfOk result (λ r. IsReading page.now key.now items.now r) }
 {
     if items.is_empty() {
-        return Ok(Reading::On(Next::Stand));
+        return Ok(Reading::On(Next::Stand(0)));
     }
-    with_items(alloc, page, class, key, items)
+    match with_items(alloc, page, class, key, items)? {
+        Some(reading) => Ok(reading),
+        None => with_first(alloc, page, class, key, &[], items),
+    }
 }
 
-/// What a page says of items that are to come under a key. An inner page without room for a child more
-/// is full on a way on which room is made.
-pub(crate) fn read<Q, W: Meaning<Q>, C: CompareKeys, J: Judge<Q, W>>(
+/// What a page of the entry tree says of items that are to come under a key. An inner page without room
+/// for a child more is full on a way on which room is made.
+pub(crate) fn read_entries<Q, W: Meaning<Q>, C: CompareKeys, J: Judge<Q, W>>(
     alloc: Global,
     page: &Page,
     class: &OpClass<Q, W, C, J>,
@@ -131,10 +171,10 @@ pub(crate) fn read<Q, W: Meaning<Q>, C: CompareKeys, J: Judge<Q, W>>(
 ) -> Result<Reading, AllocError>
     requires asked { IsAsked page.now key.now items.now }
     ensures reading { IfOk result (λ r. IsReading page.now key.now items.now r) }
-    ensures room { IfOk result (λ r. IsTrue making_room → IsRoomy page.now r) }
+    ensures room { IfOk result (λ r. IsTrue making_room → IsRoomy soughts.Key page.now r) }
     ensures leaf { IfOk result (λ r. making_room ≡ false → IsFullLeaf page.now r) }
 {
-    if !is_entry_page(page) {
+    if !is_tree_page(Sought::Key, page) {
         return Ok(Reading::On(Next::Bad));
     }
     match find(page, class, key) {
@@ -148,11 +188,4 @@ pub(crate) fn read<Q, W: Meaning<Q>, C: CompareKeys, J: Judge<Q, W>>(
         }
         Found::Right { .. } => Ok(Reading::On(Next::Bad)),
     }
-}
-
-/// Whether it is a page of the entry tree.
-pub(crate) fn is_entry_page(page: &Page) -> bool
-    ensures { IsTrue result ↔ IsEntryBody page.now.body }
-{
-    matches!(page.body, Body::EntryLeaf { .. } | Body::EntryInner(_))
 }

@@ -1,4 +1,4 @@
-// A page of the entry tree is split.
+// A page of a tree is split.
 ghost use Rattle.std.specs.Prelude.{◌≡◌, ◌≢◌, ◌⊎◌, ◌↔◌, ◌<◌, List, [], ◌∷◌, ◌++◌, IfOk, IfErr, IfSome, IfNone};
 ghost use Rattle.std.specs.Prelude.{OnOk, OnErr, IsTrue, true};
 ghost use Rattle.page_types.specs.Encoding.{count_of};
@@ -11,6 +11,7 @@ ghost use Rattle.core_state.specs.TreeRules.{EntryParent};
 ghost use Rattle.buffer_frames.specs.Frames.{Lies};
 ghost use Rattle.buffer_frames.specs.Passes.{IsPassOf, IsHolding};
 ghost use Rattle.entry_tree.specs.Finding.{IsEntryBody, IsBelow};
+ghost use Rattle.gin_place.specs.Trees.{root_of};
 ghost use Rattle.gin_place.specs.Placing.{HasRight};
 ghost use Rattle.gin_place.specs.Going.{WorksOn};
 ghost use Rattle.gin_place.specs.Adopting.{Divides, CanTake};
@@ -18,14 +19,18 @@ ghost use Rattle.gin_place.specs.Causes.{CanDivide, HadPage};
 ghost use Rattle.gin_place.specs.Faults.{MetNoFault, FaultBy};
 ghost use Rattle.gin_place.specs.Holding.{ReadsOn, IsNewHeld};
 ghost use Rattle.gin_place.specs.Inner.Making.{WhyNoRoom};
-ghost use Rattle.gin_place.specs.Inner.Logging.{IsSplitStep};
+ghost use Rattle.gin_place.specs.Inner.Logging.{AreSplitIn, IsSplitStep};
 ghost use Rattle.gin_place.specs.Inner.Dividing.{AreSplit, Passed, Bars, WhyNoSplit};
 ghost use Rattle.gin_place.specs.declared.error.PlaceError.TheVariants.{OutOfMemory};
+ghost use Rattle.gin_place.specs.declared.sought.Sought.{Sought as SoughtValue};
+ghost use Rattle.gin_place.specs.declared.sought.Sought.TheVariants as soughts;
 
 use crate::error::PlaceError;
 use crate::growing::is_large;
 use crate::holding::{hold_new, hold_page};
 use crate::logging::{Three, give_back, log_three, release, three_step};
+use crate::posting_splits::posting_parts;
+use crate::sought::Sought;
 use buffer_frames::{Frames, Pass, Step};
 use core_maintenance::{tree_pages_serve, tree_steps_hold};
 use disk_trait::Disk;
@@ -185,28 +190,27 @@ fn parts_of<Q, W: Meaning<Q>, C: CompareKeys, J: Judge<Q, W>>(
 ) -> Result<Option<(Page, Page)>, AllocError>
     requires page { IsPage page.now }
     requires new { (new ≢ 0) × (new < page_limit) }
-    ensures parts { IfOk result (λ o. IfSome o (λ r. AreSplit page.now new r.0 r.1)) }
-    ensures none { IfOk result (λ o. IfNone o (CanDivide page.now → ⊥)) }
+    ensures parts { IfOk result (λ o. IfSome o (λ r. AreSplit soughts.Key page.now new r.0 r.1)) }
+    ensures none { IfOk result (λ o. IfNone o (CanDivide soughts.Key page.now → ⊥)) }
 {
-    if !is_large(page) || members(page) < 2 {
+    if !is_large(Sought::Key, page) || members(page) < 2 {
         return Ok(None);
     }
     Ok(Some(split(alloc, page, new, keep_for(page, class, key))?))
 }
 
-/// The step by which a page is split.
-fn split_step<Q, W: Meaning<Q>, C: CompareKeys, J: Judge<Q, W>>(
+/// The two parts of a page of the entry tree, and its parent with the new page.
+fn entry_parts<Q, W: Meaning<Q>, C: CompareKeys, J: Judge<Q, W>>(
     alloc: Global,
     class: &OpClass<Q, W, C, J>,
     key: &[u8],
     three: &Three,
-) -> Result<Step, PlaceError>
+) -> Result<(Page, Page, Page), PlaceError>
     requires { three.now.new.page ≢ 0 }
-    ensures step { IfOk result (IsSplitStep (three.now.page) (three.now.new) (three.now.parent)) }
+    ensures parts { IfOk result (λ r. AreSplitIn soughts.Key three.now.page three.now.new three.now.parent
+        r.0 r.1 r.2) }
     ensures page { OnOk result (IsPage three.now.page.content) }
-    ensures low { OnOk result ((three.now.page.page < page_limit) × (three.now.new.page < page_limit)
-        × (three.now.parent.page < page_limit)) }
-    ensures cause { IfErr result (WhyNoSplit three.now.page three.now.parent) }
+    ensures cause { IfErr result (WhyNoSplit soughts.Key three.now.page three.now.parent) }
 {
     let (page, new, parent) = (&three.page, &three.new, &three.parent);
     let (number, new_number, above) = (page.number(), new.number(), parent.number());
@@ -216,12 +220,50 @@ fn split_step<Q, W: Meaning<Q>, C: CompareKeys, J: Judge<Q, W>>(
     let Some(adopted) = adopting(parent.page(), class, number, new_number, upper(&left))? else {
         return Err(PlaceError::BadPage { page: above });
     };
+    Ok((left, right, adopted))
+}
+
+/// Likewise of the tree where something is sought.
+fn tree_parts<Q, W: Meaning<Q>, C: CompareKeys, J: Judge<Q, W>>(
+    alloc: Global,
+    class: &OpClass<Q, W, C, J>,
+    key: &[u8],
+    sought: Sought,
+    three: &Three,
+) -> Result<(Page, Page, Page), PlaceError>
+    requires { three.now.new.page ≢ 0 }
+    ensures parts { IfOk result (λ r. AreSplitIn sought three.now.page three.now.new three.now.parent r.0 r.1 r.2) }
+    ensures page { OnOk result (IsPage three.now.page.content) }
+    ensures cause { IfErr result (WhyNoSplit sought three.now.page three.now.parent) }
+{
+    match sought {
+        Sought::Key => entry_parts(alloc, class, key, three),
+        Sought::Item { root, item } => posting_parts(alloc, root, item, three),
+    }
+}
+
+/// The step by which a page of the tree where something is sought is split.
+fn split_step<Q, W: Meaning<Q>, C: CompareKeys, J: Judge<Q, W>>(
+    alloc: Global,
+    class: &OpClass<Q, W, C, J>,
+    key: &[u8],
+    sought: Sought,
+    three: &Three,
+) -> Result<Step, PlaceError>
+    requires { three.now.new.page ≢ 0 }
+    ensures step { IfOk result (IsSplitStep sought (three.now.page) (three.now.new) (three.now.parent)) }
+    ensures page { OnOk result (IsPage three.now.page.content) }
+    ensures low { OnOk result ((three.now.page.page < page_limit) × (three.now.new.page < page_limit)
+        × (three.now.parent.page < page_limit)) }
+    ensures cause { IfErr result (WhyNoSplit sought three.now.page three.now.parent) }
+{
+    let (left, right, adopted) = tree_parts(alloc, class, key, sought, three)?;
     let step = three_step(
         alloc,
         Kind::Split,
-        (page, left),
-        (new, right),
-        (parent, adopted),
+        (&three.page, left),
+        (&three.new, right),
+        (&three.parent, adopted),
     )?;
     Ok(step)
 }
@@ -248,8 +290,8 @@ fn hold_three<D: Disk>(
 
     // The refusals: no page is held.
     ensures still { OnErr result (pass.new.held ≡ 0) }
-    ensures cause { page ≢ 1
-        → IfErr result (WhyNoRoom D.Disk frames.old pass.old parent page frames.new) }
+    ensures cause { (t : SoughtValue) → page ≢ root_of t
+        → IfErr result (WhyNoRoom D.Disk t frames.old pass.old parent page frames.new) }
     ensures fine { OnOk result (MetNoFault D.Disk frames.old frames.new) }
     ensures fault { IfErr result (λ e. FaultBy D.Disk frames.old frames.new e) }
 {
@@ -280,6 +322,7 @@ pub(crate) fn split_page<D: Disk, Q, W: Meaning<Q>, C: CompareKeys, J: Judge<Q, 
     page: u32,
     class: &OpClass<Q, W, C, J>,
     key: &[u8],
+    sought: Sought,
 ) -> Result<(), PlaceError>
     requires pass { IsPassOf frames.old pass.old }
     requires right { HasRight pass.old }
@@ -288,16 +331,17 @@ pub(crate) fn split_page<D: Disk, Q, W: Meaning<Q>, C: CompareKeys, J: Judge<Q, 
     ensures divided { OnOk result (WorksOn D.Disk frames.old pass.old frames.new pass.new (17 ∷ [])) }
     ensures took { OnOk result (HadPage D.Disk frames.old pass.old) }
     ensures refused { OnErr result (ReadsOn D.Disk frames.old pass.old frames.new pass.new) }
-    ensures cause { page ≢ 1
-        → IfErr result (WhyNoRoom D.Disk frames.old pass.old parent page frames.new) }
+    ensures cause { page ≢ root_of sought
+        → IfErr result (WhyNoRoom D.Disk sought frames.old pass.old parent page frames.new) }
     ensures fine { OnOk result (MetNoFault D.Disk frames.old frames.new) }
     ensures fault { IfErr result (λ e. FaultBy D.Disk frames.old frames.new e) }
 {
     pages_may_be_logged();
+    posting_tree::pages_may_be_logged();
     tree_pages_serve();
     tree_steps_hold();
     let three = hold_three(frames, pass, parent, page)?;
-    match split_step(alloc, class, key, &three) {
+    match split_step(alloc, class, key, sought, &three) {
         Ok(step) => log_three(alloc, frames, pass, three, step),
         Err(error) => {
             give_back(frames, pass, three);

@@ -1,4 +1,4 @@
-use Rattle.std.proofs.Common.{[], ◌∷◌, refl, sym, subst, arith, rules}
+use Rattle.std.proofs.Common.{[], ◌∷◌, ◌∙◌, refl, sym, subst, arith, rules}
 use Rattle.std.proofs.lemmas.Result.{err_from_is_err_and}
 use Rattle.page_types.specs.Records.{kind_number}
 use Rattle.page_types.specs.declared.record.Kind.{Kind}
@@ -8,6 +8,7 @@ use Rattle.gin_place.specs.Going.{WorksOn}
 use Rattle.gin_place.specs.Causes.{Finds, CannotUse, CanGrow, IsBadNew, IsBadRoom, HadPage, IsWhy, CannotLog}
 use Rattle.gin_place.specs.Holding.{ReadsOn}
 use Rattle.gin_place.specs.Inner.Logging.{LogsStep}
+use Rattle.gin_place.specs.Trees.{root_of}
 use Rattle.gin_place.specs.declared.error.PlaceError.TheVariants.{BadPage}
 use Rattle.gin_place.proofs.Carrying.{reads_in_turn, works_in_turn, right_on}
 use Rattle.gin_place.proofs.Causing.{at_exit, weaker, had_page, finds_now, finds_after, finds_as, hold_why, log_why}
@@ -22,15 +23,18 @@ use Rattle.gin_place.proofs.growing.grow_root.Goals as goal
 pub returns-in_err-root-clause-cause : goal.returns-in_err-root-clause-cause
 returns-in_err-root-clause-cause g c =
     λ parent.
+    let t = c.args.sought in
+    let at = c.root-page.result in
     let p = err_from_is_err_and c.from_residual.result c.from_residual.ensures.1 in
     let w = c.in_err-root.field-0.0 in
     at_exit (λ x. Finds g.D.Disk c.args.frames.now c.args.pass.now
-    (IsWhy g.D.Disk (IsBadRoom parent 1) (λ f. ⊥) c.hold_page.new.frames x))
+    (IsWhy g.D.Disk (IsBadRoom t parent (root_of t)) c.hold_page.new.frames x))
     c.from_residual.result p.0 w p.1 p.2
     (finds_now g.D.Disk c.args.frames.now c.args.pass.now
-    (IsWhy g.D.Disk (IsBadRoom parent 1) (λ f. ⊥) c.hold_page.new.frames w) c.requires.pass
-    (hold_why g.D.Disk (IsBadRoom parent 1) (λ f. ⊥) 1 c.hold_page.new.frames w c.args.frames.now c.args.pass.now
-    (λ bad. IsBadRoom.root refl refl (weaker c.args.frames.now CanGrow 1 bad)) c.in_err-root.ensures.cause))
+    (IsWhy g.D.Disk (IsBadRoom t parent (root_of t)) c.hold_page.new.frames w) c.requires.pass
+    (hold_why g.D.Disk (IsBadRoom t parent (root_of t)) at c.hold_page.new.frames w c.args.frames.now
+    c.args.pass.now (λ bad. IsBadRoom.root refl c.root-page.ensures (weaker c.args.frames.now (CanGrow t) at bad))
+    c.in_err-root.ensures.cause))
 
 pub release-requires-clause-holding : goal.release-requires-clause-holding
 release-requires-clause-holding g c =
@@ -52,11 +56,13 @@ returns-then-not-can_grow-clause-refused g c =
 pub returns-then-not-can_grow-clause-cause : goal.returns-then-not-can_grow-clause-cause
 returns-then-not-can_grow-clause-cause g c =
     λ parent.
-    let off : CanGrow c.page.result.now → ⊥ = λ can. let z : ⊥ = search (rules, c.can_grow.ensures.1 can) in z in
-    let lies = subst (Lies c.args.frames.now 1) (sym c.page.ensures.value) c.in_ok-root.ensures.lies in
+    let t = c.args.sought in
+    let at = c.root-page.result in
+    let off : CanGrow t c.page.result.now → ⊥ = λ can. let z : ⊥ = search (rules, c.can_grow.ensures.1 can) in z in
+    let lies = subst (Lies c.args.frames.now at) (sym c.page.ensures.value) c.in_ok-root.ensures.lies in
     finds_now g.D.Disk c.args.frames.now c.args.pass.now
-    (IsWhy g.D.Disk (IsBadRoom parent 1) (λ f. ⊥) c.release.new.frames (BadPage 1)) c.requires.pass
-    (IsBadRoom.root refl refl (CannotUse.other c.page.result.now c.page.ensures.is_page lies off))
+    (IsWhy g.D.Disk (IsBadRoom t parent (root_of t)) c.release.new.frames (BadPage at)) c.requires.pass
+    (IsBadRoom.root refl c.root-page.ensures (CannotUse.other c.page.result.now c.page.ensures.is_page lies off))
 
 pub hold_new-requires-clause-few : goal.hold_new-requires-clause-few
 hold_new-requires-clause-few g c =
@@ -94,16 +100,17 @@ returns-in-Err-clause-refused g c =
 pub returns-in-Err-clause-cause : goal.returns-in-Err-clause-cause
 returns-in-Err-clause-cause g c =
     λ parent.
+    let t = c.args.sought in
     let w = c.in-Err.error in
     finds_after g.D.Disk c.args.frames.now c.hold_page.new.frames c.args.pass.now c.hold_page.new.pass
-    (IsWhy g.D.Disk (IsBadRoom parent 1) (λ f. ⊥) c.release-in-Err.new.frames w) c.hold_page.ensures.reads.works
+    (IsWhy g.D.Disk (IsBadRoom t parent (root_of t)) c.release-in-Err.new.frames w) c.hold_page.ensures.reads.works
     c.in_ok-root.ensures.fine
     (finds_as g.D.Disk c.hold_page.new.frames c.hold_page.new.pass
-    (IsWhy g.D.Disk IsBadNew (λ f. ⊥) c.hold_new.new.frames w)
-    (IsWhy g.D.Disk (IsBadRoom parent 1) (λ f. ⊥) c.release-in-Err.new.frames w)
-    (λ f q why. why_as g.D.Disk IsBadNew (λ x. ⊥) (IsBadRoom parent 1) (λ x. ⊥) c.release-in-Err.new.frames w f q
-    (λ n bad. IsBadRoom.new bad) (λ x. x)
-    (why_later g.D.Disk IsBadNew (λ x. ⊥) c.hold_new.new.frames c.release-in-Err.new.frames w
+    (IsWhy g.D.Disk IsBadNew c.hold_new.new.frames w)
+    (IsWhy g.D.Disk (IsBadRoom t parent (root_of t)) c.release-in-Err.new.frames w)
+    (λ f q why. why_as g.D.Disk IsBadNew (IsBadRoom t parent (root_of t)) c.release-in-Err.new.frames w f q
+    (λ n bad. IsBadRoom.new bad)
+    (why_later g.D.Disk IsBadNew c.hold_new.new.frames c.release-in-Err.new.frames w
     c.release-in-Err.ensures.faults f q why)) c.in-Err.ensures.cause)
 
 pub log_two-requires : goal.log_two-requires
@@ -113,14 +120,16 @@ log_two-requires g c =
     let h1 = c.in_ok-root.ensures.holding []
     (none_held g.D.Disk c.args.frames.now c.args.pass.now c.requires.pass c.requires.none) in
     let h2 = c.in-Ok.ensures.holding (c.in_ok-root.root ∷ []) h1 in
-    let can : CanGrow c.in_ok-root.root.content =
-    subst CanGrow c.page.ensures.value (c.can_grow.ensures.0 (search rules)) in
-    grow_may_log g.D.Disk c.hold_new.new.frames c.hold_new.new.pass c.in_ok-root.root c.in-Ok.new
-    c.in-Ok-grow_step.step c.in-Ok-grow_step.ensures.step h2 can.0 can.1 c.in_ok-root.ensures.number
-    c.in-Ok-grow_step.ensures.low r2.works.is_pass
+    let t = c.args.sought in
+    let can : CanGrow t c.in_ok-root.root.content =
+    subst (CanGrow t) c.page.ensures.value (c.can_grow.ensures.0 (search rules)) in
+    grow_may_log g.D.Disk c.hold_new.new.frames c.hold_new.new.pass t c.in_ok-root.root c.in-Ok.new
+    c.in-Ok-grow_step.step c.in-Ok-grow_step.ensures.step h2 can.0 can.1
+    (c.in_ok-root.ensures.number ∙ c.root-page.ensures) (r2.roots t c.requires.root) c.in-Ok-grow_step.ensures.low.0
+    c.in-Ok-grow_step.ensures.low.1 r2.works.is_pass
     (right_on g.D.Disk c.args.frames.now c.hold_new.new.frames c.args.pass.now c.hold_new.new.pass [] c.requires.right
     r2.works) c.tree_steps_hold.ensures.grow_root c.tree_pages_serve.ensures.grown c.pages_may_be_logged.ensures.grown
-    c.in-Ok.ensures.new
+    c.pages_may_be_logged-2.ensures.grown c.in-Ok.ensures.new
 
 pub returns-in-Ok-grow_step-clause-grown : goal.returns-in-Ok-grow_step-clause-grown
 returns-in-Ok-grow_step-clause-grown g c =
@@ -150,17 +159,18 @@ returns-in-Ok-grow_step-clause-cause g c =
     let r2 = reads_in_turn g.D.Disk c.args.frames.now c.hold_page.new.frames c.hold_new.new.frames c.args.pass.now
     c.hold_page.new.pass c.hold_new.new.pass c.hold_page.ensures.reads c.hold_new.ensures.reads in
     λ parent.
+    let t = c.args.sought in
     if_err c.log_two.result
     (λ e. CannotLog g.D.Disk c.log_two.new.frames e c.hold_new.new.frames c.hold_new.new.pass)
     (λ e. Finds g.D.Disk c.args.frames.now c.args.pass.now
-    (IsWhy g.D.Disk (IsBadRoom parent 1) (λ f. ⊥) c.log_two.new.frames e))
+    (IsWhy g.D.Disk (IsBadRoom t parent (root_of t)) c.log_two.new.frames e))
     (λ e why. (
       c.hold_new.new.frames,
       c.hold_new.new.pass,
       r2.works,
       fine_then g.D.Disk c.args.frames.now c.hold_page.new.frames c.hold_new.new.frames c.in_ok-root.ensures.fine
           c.in-Ok.ensures.fine,
-      log_why g.D.Disk (IsBadRoom parent 1) (λ f. ⊥) c.log_two.new.frames e c.hold_new.new.frames
+      log_why g.D.Disk (IsBadRoom t parent (root_of t)) c.log_two.new.frames e c.hold_new.new.frames
           c.hold_new.new.pass why,
     )) c.log_two.ensures.cause
 

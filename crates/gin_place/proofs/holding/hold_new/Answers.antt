@@ -86,9 +86,9 @@ returns-in_err-held-clause-cause g c =
     let p = err_from_is_err_and c.from_residual.result c.from_residual.ensures.1 in
     let w = c.in_err-held.field-0.0 in
     at_exit (λ x. Finds g.D.Disk c.args.frames.now c.args.pass.now
-    (IsWhy g.D.Disk IsBadNew (λ f. ⊥) c.take_page.new.frames x)) c.from_residual.result p.0 w p.1 p.2
+    (IsWhy g.D.Disk IsBadNew c.take_page.new.frames x)) c.from_residual.result p.0 w p.1 p.2
     (finds_after g.D.Disk c.args.frames.now c.loop.frames c.args.pass.now c.loop.pass
-    (IsWhy g.D.Disk IsBadNew (λ f. ⊥) c.take_page.new.frames w) c.loop.invariant.reads.works c.loop.invariant.fine
+    (IsWhy g.D.Disk IsBadNew c.take_page.new.frames w) c.loop.invariant.reads.works c.loop.invariant.fine
     c.in_err-held.ensures.cause)
 
 pub returns-clause-cause : goal.returns-clause-cause

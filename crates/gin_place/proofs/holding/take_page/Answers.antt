@@ -31,10 +31,10 @@ returns-in_err-page-clause-cause g c =
     let p = err_from_is_err_and c.from_residual.result c.from_residual.ensures.1 in
     let d = look_down g.D.Disk c.args.frames.now c.look.result c.in_err-page.field-0.0 c.in_err-page.was
     c.look.ensures.is_down c.in_err-page.ensures.error in
-    at_exit (λ x. Finds g.D.Disk c.args.frames.now c.args.pass.now (IsWhy g.D.Disk IsBadNew (λ f. ⊥) c.look.new.self x))
+    at_exit (λ x. Finds g.D.Disk c.args.frames.now c.args.pass.now (IsWhy g.D.Disk IsBadNew c.look.new.self x))
     c.from_residual.result p.0 (frame_refusal c.in_err-page.field-0.0) p.1 p.2
     (subst (λ (x : PlaceError). Finds g.D.Disk c.args.frames.now c.args.pass.now
-    (IsWhy g.D.Disk IsBadNew (λ f. ⊥) c.look.new.self x)) (sym d.1)
+    (IsWhy g.D.Disk IsBadNew c.look.new.self x)) (sym d.1)
     (finds_now g.D.Disk c.args.frames.now c.args.pass.now (λ f p. _) c.requires.pass d.2))
 
 pub returns-in_default-clause-reads : goal.returns-in_default-clause-reads
@@ -58,7 +58,7 @@ returns-in_default-clause-cause g c =
       c.look.new.pass,
       r1.works,
       calm_fine g.D.Disk c.args.frames.now c.look.new.self c.look.ensures.calm,
-      inl none,
+      none,
     )
 
 pub returns-then-page-eq0-clause-reads : goal.returns-then-page-eq0-clause-reads
@@ -112,13 +112,13 @@ returns-in_err-held-clause-cause g c =
     let p = err_from_is_err_and c.from_residual-in_err-held.result c.from_residual-in_err-held.ensures.1 in
     let w = c.in_err-held.field-0.0 in
     at_exit (λ x. Finds g.D.Disk c.args.frames.now c.args.pass.now
-    (IsWhy g.D.Disk IsBadNew (λ f. ⊥) c.hold_page.new.frames x))
+    (IsWhy g.D.Disk IsBadNew c.hold_page.new.frames x))
     c.from_residual-in_err-held.result p.0 w p.1 p.2 (
       c.look.new.self,
       c.look.new.pass,
       r1.works,
       calm_fine g.D.Disk c.args.frames.now c.look.new.self c.look.ensures.calm,
-      hold_why g.D.Disk IsBadNew (λ f. ⊥) c.in-Some.page c.hold_page.new.frames w c.look.new.self c.look.new.pass
+      hold_why g.D.Disk IsBadNew c.in-Some.page c.hold_page.new.frames w c.look.new.self c.look.new.pass
           (λ bad. record { taken = taken; bad = inr bad }) c.in_err-held.ensures.cause,
     )
 
@@ -244,9 +244,8 @@ returns-in-Err-clause-cause g c =
       r2.works,
       fine_then g.D.Disk c.args.frames.now c.look.new.self c.hold_page.new.frames
           (calm_fine g.D.Disk c.args.frames.now c.look.new.self c.look.ensures.calm) c.in_ok-held.ensures.fine,
-      subst (λ (x : PlaceError). IsWhy g.D.Disk IsBadNew
-          (λ f. ⊥) c.release-in-Err.new.frames x c.hold_page.new.frames c.hold_page.new.pass)
-          (sym (c.from.ensures ∙ d.1)) d.2,
+      subst (λ (x : PlaceError). IsWhy g.D.Disk IsBadNew c.release-in-Err.new.frames x c.hold_page.new.frames
+          c.hold_page.new.pass) (sym (c.from.ensures ∙ d.1)) d.2,
     )
 
 pub returns-in-Ok-Some-clause-taken : goal.returns-in-Ok-Some-clause-taken

@@ -36,7 +36,8 @@ returns-clause-logged g c =
     let e = c.log_step.ensures in
     let f = c.in_ok-log_step.ensures in
     let kinds = within (kind_number c.args.step.kind) c.requires.placing in
-    logs_by g.D.Disk c.found_stays.ensures.right c.placing_keeps.ensures.pairs c.args.frames.now c.log_step.new.self
+    logs_by g.D.Disk c.found_stays.ensures.right c.placing_keeps.ensures.pairs c.tree_names_hold.ensures.stay
+    c.args.frames.now c.log_step.new.self
     c.args.pass.now c.log_step.new.pass c.args.pages.items c.args.step c.requires f.added f.seen f.all e.rises e.pass
     e.same.0 e.same.1 (xid_same c.args.step.kind c.requires.placing _ c.args.pass.now.xid f.xid) e.work e.pins
     (logged_goes g.D.Disk c.args.frames.now c.log_step.new.self c.args.step c.log_step.result

@@ -1,16 +1,12 @@
-use Rattle.std.proofs.Common.{refl, [], ◌++◌, ◌∙◌, Result, sym, ap, subst, rules}
-use Rattle.std.specs.Prelude.{Bool, Ok, OnOk}
+use Rattle.std.proofs.Common.{[], ◌++◌, sym, ap, subst, rules}
 use Rattle.std.proofs.lemmas.Result.{err_from_is_err_and}
 use Rattle.gin_place.specs.Placing.{IsAt, IsPlacing}
-use Rattle.gin_place.specs.Causes.{Meets, HasLong, IsBad, IsBadIn, IsWhy}
-use Rattle.gin_place.specs.Stepping.{HasStepped}
+use Rattle.gin_place.specs.Causes.{Meets, IsBad, IsBadIn, IsWhy}
 use Rattle.gin_place.proofs.Carrying.{reads_still, same_added, works_in_turn, right_on}
 use Rattle.gin_place.proofs.Causing.{at_exit, meets_after, meets_as, meets_found, why_as}
-use Rattle.gin_place.specs.declared.error.PlaceError.{PlaceError}
 use Rattle.gin_place.specs.declared.placing.Placing.{Placing}
-use Rattle.gin_place.proofs.Resting.{rests_first, rests_on, nothing_logged, full_first, full_on}
-use Rattle.gin_place.proofs.Resting.{never_ended, full_logs_nothing}
-use Rattle.gin_place.proofs.Stepped.{root_way, not_done}
+use Rattle.gin_place.proofs.Resting.{rests_first, rests_on, nothing_logged}
+use Rattle.gin_place.proofs.Kept.{begins_placing}
 use Rattle.gin_place.specs.Faults.{FaultBy}
 use Rattle.gin_place.proofs.Faults.{fine_still, fine_then, told_then}
 use Rattle.gin_place.proofs.placing.place.Goals as goal
@@ -27,12 +23,9 @@ loop-init g c =
       fine = fine_still g.D.Disk c.args.frames.now;
       placing = subst (IsPlacing g.D.Disk c.args.frames.now c.args.pass.now c.args.key.now c.args.items.now)
           (sym c.begin-placing.ensures)
-          (root_way g.D.Disk c.args.frames.now c.args.pass.now c.args.key.now, refl, λ making other. absurd (other refl));
+          (begins_placing g.D.Disk c.args.frames.now c.args.pass.now c.args.key.now c.args.items.now);
       standing = rests_first g.D.Disk c.args.frames.now c.args.pass.now c.args.key.now c.args.items.now c.requires.pass
           c.begin-placing.result (ap (λ (s : Placing). s.making_room) c.begin-placing.ensures);
-      full = full_first g.D.Disk c.args.frames.now c.args.pass.now c.args.key.now c.args.items.now c.requires.pass
-          c.begin-placing.result (ap (λ (s : Placing). s.making_room) c.begin-placing.ensures)
-          (λ e. not_done 0 1 (sym (ap (λ (s : Placing). s.stage) c.begin-placing.ensures) ∙ e));
     }
 
 pub step-requires : goal.step-requires
@@ -63,17 +56,12 @@ loop-preserved g c =
       standing = rests_on g.D.Disk c.args.frames.now c.args.pass.now c.args.key.now c.args.items.now c.loop.frames
           c.step.new.frames c.loop.pass c.step.new.pass c.loop.placing c.step.new.self was.standing
           c.in_ok-more.more e;
-      full = full_on g.D.Disk c.args.frames.now c.args.pass.now c.args.key.now c.args.items.now c.loop.frames
-          c.step.new.frames c.loop.pass c.step.new.pass c.loop.placing c.step.new.self was.full
-          (subst (λ (b : Bool). HasStepped g.D.Disk c.loop.frames c.loop.pass c.step.new.frames c.step.new.pass
-          c.args.key.now c.args.items.now c.loop.placing c.step.new.self (Ok b))
-          (search (rules, c.if-not-more.false)) e);
     }
 
 pub returns-then-not-more-clause-placed : goal.returns-then-not-more-clause-placed
 returns-then-not-more-clause-placed g c =
     let e = c.in_ok-more.ensures in
-    subst (IsAt g.D.Disk c.step.new.frames c.step.new.pass c.args.key.now c.args.items.now)
+    subst (IsAt g.D.Disk c.step.new.frames c.step.new.pass c.args.key.now c.args.items.now c.step.new.self.from)
     (e.done.0 (search rules)) e.placing.0
 
 pub returns-then-not-more-clause-none_held : goal.returns-then-not-more-clause-none_held
@@ -106,17 +94,16 @@ returns-in_err-more-clause-cause g c =
     let p = err_from_is_err_and c.from_residual.result c.from_residual.ensures.1 in
     let w = c.in_err-more.field-0.0 in
     at_exit (λ x. Meets g.D.Disk c.args.frames.now c.args.pass.now (IsWhy g.D.Disk (IsBadIn g.D.Disk c.args.key.now)
-    (HasLong c.args.key.now c.args.items.now) c.step.new.frames x)) c.from_residual.result p.0 w p.1 p.2
+    c.step.new.frames x)) c.from_residual.result p.0 w p.1 p.2
     (meets_after g.D.Disk c.args.frames.now c.loop.frames c.args.pass.now c.loop.pass was.works.0 (IsWhy g.D.Disk
-    (IsBadIn g.D.Disk c.args.key.now) (HasLong c.args.key.now c.args.items.now) c.step.new.frames w) was.works.1
+    (IsBadIn g.D.Disk c.args.key.now) c.step.new.frames w) was.works.1
     (meets_as g.D.Disk c.loop.frames c.loop.pass (IsWhy g.D.Disk (IsBad g.D.Disk c.args.key.now c.loop.placing)
-    (HasLong c.args.key.now c.args.items.now) c.step.new.frames w)
-    (IsWhy g.D.Disk (IsBadIn g.D.Disk c.args.key.now) (HasLong c.args.key.now c.args.items.now) c.step.new.frames w)
-    (λ f q why. why_as g.D.Disk (IsBad g.D.Disk c.args.key.now c.loop.placing) (HasLong c.args.key.now c.args.items.now)
-    (IsBadIn g.D.Disk c.args.key.now) (HasLong c.args.key.now c.args.items.now) c.step.new.frames w f q
-    (λ n bad. (c.loop.placing, bad)) (λ x. x) why)
+    c.step.new.frames w)
+    (IsWhy g.D.Disk (IsBadIn g.D.Disk c.args.key.now) c.step.new.frames w)
+    (λ f q why. why_as g.D.Disk (IsBad g.D.Disk c.args.key.now c.loop.placing)
+    (IsBadIn g.D.Disk c.args.key.now) c.step.new.frames w f q (λ n bad. (c.loop.placing, bad)) why)
     (meets_found g.D.Disk c.loop.frames c.loop.pass (IsWhy g.D.Disk (IsBad g.D.Disk c.args.key.now c.loop.placing)
-    (HasLong c.args.key.now c.args.items.now) c.step.new.frames w) c.in_err-more.ensures.cause)))
+    c.step.new.frames w) c.in_err-more.ensures.cause)))
 
 pub returns-clause-none_held : goal.returns-clause-none_held
 returns-clause-none_held g c =
@@ -146,27 +133,6 @@ returns-in_err-more-clause-standing g c =
 pub returns-clause-standing : goal.returns-clause-standing
 returns-clause-standing g c = λ placed t up R stands legal.
     (c.loop.invariant.standing placed t up R stands legal).works
-
-pub returns-then-not-more-clause-full : goal.returns-then-not-more-clause-full
-returns-then-not-more-clause-full g c = λ over t up R stands legal.
-    absurd (never_ended g.D.Disk c.args.frames.now c.args.pass.now c.args.key.now c.args.items.now c.loop.frames
-    c.step.new.frames c.loop.pass c.step.new.pass c.loop.placing c.step.new.self c.loop.invariant.full
-    (subst (λ (b : Bool). HasStepped g.D.Disk c.loop.frames c.loop.pass c.step.new.frames c.step.new.pass
-    c.args.key.now c.args.items.now c.loop.placing c.step.new.self (Ok b)) (search (rules, c.if-not-more.true))
-    c.in_ok-more.ensures) over t up R stands legal)
-
-pub returns-in_err-more-clause-full : goal.returns-in_err-more-clause-full
-returns-in_err-more-clause-full g c = λ over t up R stands legal.
-    let p = err_from_is_err_and c.from_residual.result c.from_residual.ensures.1 in (
-      subst (λ (r : Result _ PlaceError). OnOk r ⊥) (sym p.1) tt,
-      full_logs_nothing g.D.Disk c.args.frames.now c.args.pass.now c.args.key.now c.args.items.now c.loop.frames
-          c.step.new.frames c.loop.pass c.step.new.pass c.loop.placing c.step.new.self c.loop.invariant.full
-          c.step.result c.step.ensures over t up R stands legal,
-    )
-
-pub returns-clause-full : goal.returns-clause-full
-returns-clause-full g c = λ over t up R stands legal.
-    (tt, (c.loop.invariant.full over t up R stands legal).rest.works)
 
 pub returns-then-not-more-clause-fine : goal.returns-then-not-more-clause-fine
 returns-then-not-more-clause-fine g c =

@@ -3,9 +3,8 @@ use Rattle.core_state.specs.Log.{Log}
 use Rattle.buffer_frames.specs.Frames.{Behind}
 use Rattle.gin_place.specs.Going.{WorksOn}
 use Rattle.gin_place.specs.Faults.{MetNoFault}
-use Rattle.gin_place.specs.Overfull.{IsOverfull}
 use Rattle.gin_place.specs.Placing.{ArePlaced, IsPlacing}
-use Rattle.gin_place.proofs.Resting.{IsAtRest, IsStillFull}
+use Rattle.gin_place.proofs.Resting.{IsAtRest}
 use Rattle.gin_place.proofs.placing.place.Given as goal
 
 abbrev pub invariant-loop : goal.invariant-loop
@@ -16,7 +15,4 @@ invariant-loop g l = record {
   placing : IsPlacing g.D.Disk l.frames l.pass l.key l.items l.placing;
   standing : ArePlaced g.D.Disk l.fn.frames l.fn.pass l.key l.items
       → Behind g.D.Disk l.fn.frames (λ (R : Log). IsAtRest g.D.Disk l.fn.frames l.fn.pass l.frames l.pass l.placing);
-  full : IsOverfull g.D.Disk l.fn.frames l.fn.pass l.key l.items
-      → Behind g.D.Disk l.fn.frames (λ (R : Log).
-      IsStillFull g.D.Disk l.fn.frames l.fn.pass l.key l.items l.frames l.pass l.placing);
 }

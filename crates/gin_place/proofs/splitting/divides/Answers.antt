@@ -3,7 +3,7 @@ use Rattle.std.proofs.lemmas.List.{take_all}
 use Rattle.page_types.specs.Parts.{child_shown}
 use Rattle.page_types.specs.declared.page.EntryChild.{EntryChild}
 use Rattle.page_types.proofs.Cutting.{take_get}
-use Rattle.gin_place.specs.Adopting.{Divides}
+use Rattle.gin_place.specs.Adopting.{Divides, key_divider}
 use Rattle.gin_place.specs.Inner.Dividing.{Passed}
 use Rattle.gin_place.proofs.Passing.{at_place, barred, told}
 use Rattle.gin_place.proofs.splitting.divides.Goals as goal
@@ -23,15 +23,14 @@ returns-in_default-named_by g c =
     let x = child_shown c.in-Some.child in
     let whole = at_place c.loop-k.k xs x (take_get xs c.loop-k.k x c.in-Some.ensures.some) in (
       λ t. let z : ⊥ = cc in absurd z,
-      λ d. absurd (barred (take c.loop-k.k xs) (drop (c.loop-k.k + 1) xs) x c.args.page c.args.mid.now
+      λ d. absurd (barred (key_divider c.args.mid.now) c.args.page (take c.loop-k.k xs) (drop (c.loop-k.k + 1) xs) x
           (subst (λ (l : List EntryChild). Divides l c.args.page c.args.mid.now) whole d) c.loop-k.named
-          c.loop-k.invariant
-          c.in_default-named_by.ensures.none),
+          c.loop-k.invariant c.in_default-named_by.ensures.none),
     )
 
 pub returns : goal.returns
 returns g c =
     let far : length c.args.children.now ≤ c.loop-k.k = omega (arith, c.loop-k-test.false, c.len-k-end.ensures) in
-    told c.loop-k.named c.args.children.now c.args.page c.args.mid.now
+    told (key_divider c.args.mid.now) c.args.page c.loop-k.named c.args.children.now
     (subst (λ (xs : List EntryChild). Passed c.loop-k.named xs c.args.page c.args.mid.now)
     (take_all c.loop-k.k c.args.children.now far) c.loop-k.invariant)

@@ -11,15 +11,15 @@ use Rattle.gin_place.proofs.Faults.{fine_then, told_then, told_back}
 use Rattle.gin_place.proofs.splitting.hold_three.Goals as goal
 
 pub returns-in_err-parent-clause-cause : goal.returns-in_err-parent-clause-cause
-returns-in_err-parent-clause-cause g c = λ other.
+returns-in_err-parent-clause-cause g c = λ t other.
     let p = err_from_is_err_and c.from_residual.result c.from_residual.ensures.1 in
     let w = c.in_err-parent.field-0.0 in
     at_exit (λ x. Finds g.D.Disk c.args.frames.now c.args.pass.now
-    (IsWhy g.D.Disk (IsBadRoom c.args.parent c.args.page) (λ f. ⊥) c.hold_page.new.frames x))
+    (IsWhy g.D.Disk (IsBadRoom t c.args.parent c.args.page) c.hold_page.new.frames x))
     c.from_residual.result p.0 w p.1 p.2
     (finds_now g.D.Disk c.args.frames.now c.args.pass.now
-    (IsWhy g.D.Disk (IsBadRoom c.args.parent c.args.page) (λ f. ⊥) c.hold_page.new.frames w) c.requires.pass
-    (hold_why g.D.Disk (IsBadRoom c.args.parent c.args.page) (λ f. ⊥) c.args.parent c.hold_page.new.frames w
+    (IsWhy g.D.Disk (IsBadRoom t c.args.parent c.args.page) c.hold_page.new.frames w) c.requires.pass
+    (hold_why g.D.Disk (IsBadRoom t c.args.parent c.args.page) c.args.parent c.hold_page.new.frames w
     c.args.frames.now c.args.pass.now (λ bad. IsBadRoom.above other refl bad) c.in_err-parent.ensures.cause))
 
 pub hold_page-requires-2-clause-few : goal.hold_page-requires-2-clause-few
@@ -50,15 +50,15 @@ returns-in-Err-clause-still g c =
     sym (c.release.ensures.holding [] h2).all
 
 pub returns-in-Err-clause-cause : goal.returns-in-Err-clause-cause
-returns-in-Err-clause-cause g c = λ other.
+returns-in-Err-clause-cause g c = λ t other.
     let w = c.in-Err.error in (
       c.hold_page.new.frames,
       c.hold_page.new.pass,
       c.hold_page.ensures.reads.works,
       c.in_ok-parent.ensures.fine,
-      hold_why g.D.Disk (IsBadRoom c.args.parent c.args.page) (λ f. ⊥) c.args.page c.release.new.frames w
+      hold_why g.D.Disk (IsBadRoom t c.args.parent c.args.page) c.args.page c.release.new.frames w
           c.hold_page.new.frames c.hold_page.new.pass
-          (λ bad. IsBadRoom.split other refl (weaker c.hold_page.new.frames CanDivide c.args.page bad))
+          (λ bad. IsBadRoom.split other refl (weaker c.hold_page.new.frames (CanDivide t) c.args.page bad))
           (hold_later g.D.Disk c.args.page c.hold_page-2.new.frames c.release.new.frames w c.release.ensures.faults
           c.hold_page.new.frames c.hold_page.new.pass c.in-Err.ensures.cause),
     )
@@ -141,7 +141,7 @@ returns-in-Err-hold_new-clause-still g c =
     (c.release-in-Err-hold_new.ensures.holding (c.in_ok-parent.parent ∷ []) h3)).all
 
 pub returns-in-Err-hold_new-clause-cause : goal.returns-in-Err-hold_new-clause-cause
-returns-in-Err-hold_new-clause-cause g c = λ other.
+returns-in-Err-hold_new-clause-cause g c = λ t other.
     let r2 = reads_in_turn g.D.Disk c.args.frames.now c.hold_page.new.frames c.hold_page-2.new.frames c.args.pass.now
     c.hold_page.new.pass c.hold_page-2.new.pass c.hold_page.ensures.reads c.hold_page-2.ensures.reads in
     let w = c.in-Err-hold_new.error in
@@ -149,15 +149,15 @@ returns-in-Err-hold_new-clause-cause g c = λ other.
     let later : Later g.D.Disk c.hold_new.new.frames last =
     omega (arith, c.release-in-Err-hold_new.ensures.faults, c.release-in-Err-hold_new-2.ensures.faults) in
     finds_after g.D.Disk c.args.frames.now c.hold_page-2.new.frames c.args.pass.now c.hold_page-2.new.pass
-    (IsWhy g.D.Disk (IsBadRoom c.args.parent c.args.page) (λ f. ⊥) last w) r2.works
+    (IsWhy g.D.Disk (IsBadRoom t c.args.parent c.args.page) last w) r2.works
     (fine_then g.D.Disk c.args.frames.now c.hold_page.new.frames c.hold_page-2.new.frames c.in_ok-parent.ensures.fine
     c.in-Ok.ensures.fine)
     (finds_as g.D.Disk c.hold_page-2.new.frames c.hold_page-2.new.pass
-    (IsWhy g.D.Disk IsBadNew (λ f. ⊥) c.hold_new.new.frames w)
-    (IsWhy g.D.Disk (IsBadRoom c.args.parent c.args.page) (λ f. ⊥) last w)
-    (λ f q why. why_as g.D.Disk IsBadNew (λ x. ⊥) (IsBadRoom c.args.parent c.args.page) (λ x. ⊥) last w f q
-    (λ n bad. IsBadRoom.new bad) (λ x. x)
-    (why_later g.D.Disk IsBadNew (λ x. ⊥) c.hold_new.new.frames last w later f q why)) c.in-Err-hold_new.ensures.cause)
+    (IsWhy g.D.Disk IsBadNew c.hold_new.new.frames w)
+    (IsWhy g.D.Disk (IsBadRoom t c.args.parent c.args.page) last w)
+    (λ f q why. why_as g.D.Disk IsBadNew (IsBadRoom t c.args.parent c.args.page) last w f q
+    (λ n bad. IsBadRoom.new bad)
+    (why_later g.D.Disk IsBadNew c.hold_new.new.frames last w later f q why)) c.in-Err-hold_new.ensures.cause)
 
 pub returns-in-Ok-hold_new-clause-took : goal.returns-in-Ok-hold_new-clause-took
 returns-in-Ok-hold_new-clause-took g c =

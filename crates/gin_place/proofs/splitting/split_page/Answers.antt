@@ -18,11 +18,13 @@ pub log_three-requires : goal.log_three-requires
 log_three-requires g c =
     let t = c.in_ok-three.three in
     let low = c.in-Ok.ensures.low in
-    split_may_log g.D.Disk c.hold_three.new.frames c.hold_three.new.pass t.page t.new t.parent c.in-Ok.step
-    c.in-Ok.ensures.step c.in_ok-three.ensures.holding c.in-Ok.ensures.page low c.hold_three.ensures.reads.works.is_pass
+    split_may_log g.D.Disk c.hold_three.new.frames c.hold_three.new.pass c.args.sought t.page t.new t.parent
+    c.in-Ok.step c.in-Ok.ensures.step c.in_ok-three.ensures.holding c.in-Ok.ensures.page low
+    c.hold_three.ensures.reads.works.is_pass
     (right_on g.D.Disk c.args.frames.now c.hold_three.new.frames c.args.pass.now c.hold_three.new.pass []
     c.requires.right c.hold_three.ensures.reads.works) c.tree_steps_hold.ensures.split
-    c.tree_pages_serve.ensures.split c.pages_may_be_logged.ensures.split c.in_ok-three.ensures.new
+    c.tree_pages_serve.ensures.split c.pages_may_be_logged.ensures.split c.pages_may_be_logged-2.ensures.split
+    c.in_ok-three.ensures.new
 
 pub returns-in-Ok-clause-divided : goal.returns-in-Ok-clause-divided
 returns-in-Ok-clause-divided g c =
@@ -50,14 +52,14 @@ returns-in-Ok-clause-cause g c = λ other.
     if_err c.log_three.result
     (λ e. CannotLog g.D.Disk c.log_three.new.frames e c.hold_three.new.frames c.hold_three.new.pass)
     (λ e. Finds g.D.Disk c.args.frames.now c.args.pass.now
-    (IsWhy g.D.Disk (IsBadRoom c.args.parent c.args.page) (λ f. ⊥) c.log_three.new.frames e))
+    (IsWhy g.D.Disk (IsBadRoom c.args.sought c.args.parent c.args.page) c.log_three.new.frames e))
     (λ e why. (
       c.hold_three.new.frames,
       c.hold_three.new.pass,
       c.hold_three.ensures.reads.works,
       c.in_ok-three.ensures.fine,
-      log_why g.D.Disk (IsBadRoom c.args.parent c.args.page) (λ f. ⊥) c.log_three.new.frames e c.hold_three.new.frames
-          c.hold_three.new.pass why,
+      log_why g.D.Disk (IsBadRoom c.args.sought c.args.parent c.args.page) c.log_three.new.frames e
+          c.hold_three.new.frames c.hold_three.new.pass why,
     )) c.log_three.ensures.cause
 
 pub returns-in-Err-clause-refused : goal.returns-in-Err-clause-refused
@@ -68,9 +70,8 @@ returns-in-Err-clause-refused g c =
 pub returns-in-Err-clause-cause : goal.returns-in-Err-clause-cause
 returns-in-Err-clause-cause g c = λ other.
     let t = c.in_ok-three.three in
-    split_why g.D.Disk c.args.frames.now c.args.pass.now c.give_back.new.frames c.args.parent c.args.page t.page
-    t.parent
-    c.requires.pass c.in_ok-three.ensures.numbers c.in_ok-three.ensures.lies other c.in-Err.error
+    split_why g.D.Disk c.args.frames.now c.args.pass.now c.give_back.new.frames c.args.sought c.args.parent c.args.page
+    t.page t.parent c.requires.pass c.in_ok-three.ensures.numbers c.in_ok-three.ensures.lies other c.in-Err.error
     c.in-Err.ensures.cause
 
 pub returns-in-Ok-clause-took : goal.returns-in-Ok-clause-took
@@ -97,7 +98,7 @@ returns-in-Ok-clause-fault g c =
 pub returns-in-Err-clause-fault : goal.returns-in-Err-clause-fault
 returns-in-Err-clause-fault g c =
     let t = c.in_ok-three.three in
-    split_fault g.D.Disk c.args.frames.now c.give_back.new.frames t.page t.parent c.in-Err.error
+    split_fault g.D.Disk c.args.frames.now c.give_back.new.frames c.args.sought t.page t.parent c.in-Err.error
     (fine_then g.D.Disk c.args.frames.now c.hold_three.new.frames c.give_back.new.frames c.in_ok-three.ensures.fine
     (calm_fine g.D.Disk c.hold_three.new.frames c.give_back.new.frames c.give_back.ensures.calm))
     c.in-Err.ensures.cause
