@@ -15,19 +15,18 @@ use Rattle.gin_place.specs.declared.error.PlaceError.TheVariants.{StoreFull, Log
 use Rattle.gin_place.specs.declared.error.PlaceError.TheVariants.{OutOfMemory}
 use Rattle.gin_place.proofs.Causing.{weaker, hold_why, none_before}
 use Rattle.gin_place.proofs.Lawful.{usable}
-use Rattle.gin_cleanup.specs.Going.{IsMetaPage, IsBadList, HasLongAt, IsCause}
-use Rattle.gin_cleanup.specs.declared.cleanup.Stage.{Stage}
+use Rattle.gin_cleanup.specs.Going.{IsMetaPage, IsBadList, IsCause}
 
 module _ {D : Type 0} (device : Disk D) where
   -- the causes of placing are causes here
-  pub why_cause : (s : Stage) (l : FramesValue D) (e : PlaceError) (f : FramesValue D) (p : Pass)
-      → IsWhy device (IsBadList device) (HasLongAt s) l e f p → IsCause device s l e f p
-  why_cause s l StoreFull f p c = c
-  why_cause s l LogFull f p c = inl c
-  why_cause s l DiskFault f p c = c
-  why_cause s l (Down n) f p c = c
-  why_cause s l (BadPage n) f p c = c
-  why_cause s l OutOfMemory f p c = c
+  pub why_cause : (l : FramesValue D) (e : PlaceError) (f : FramesValue D) (p : Pass)
+      → IsWhy device (IsBadList device) l e f p → IsCause device l e f p
+  why_cause l StoreFull f p c = c
+  why_cause l LogFull f p c = inl c
+  why_cause l DiskFault f p c = c
+  why_cause l (Down n) f p c = c
+  why_cause l (BadPage n) f p c = c
+  why_cause l OutOfMemory f p c = c
 
   -- in no legal log the metapage is another page
   pub never_meta : PagesHold → (f : FramesValue D) (p : Pass) → IsPassOf f p → CannotUse f IsMetaPage 0
@@ -47,15 +46,15 @@ module _ {D : Type 0} (device : Disk D) where
   bad_meta told f p of cannot = IsBadList.meta refl cannot (never_meta told f p of cannot)
 
   -- the metapage is not held
-  pub meta_cause : PagesHold → (s : Stage) (l : FramesValue D) (e : PlaceError) (f : FramesValue D) (p : Pass)
-      → Finds device f p (CannotHold device 0 l e) → Finds device f p (IsCause device s l e)
-  meta_cause told s l e f p m = (
+  pub meta_cause : PagesHold → (l : FramesValue D) (e : PlaceError) (f : FramesValue D) (p : Pass)
+      → Finds device f p (CannotHold device 0 l e) → Finds device f p (IsCause device l e)
+  meta_cause told l e f p m = (
     m.0,
     m.1,
     m.2,
     m.3,
-    why_cause s l e m.0 m.1
-        (hold_why device (IsBadList device) (HasLongAt s) 0 l e m.0 m.1
+    why_cause l e m.0 m.1
+        (hold_why device (IsBadList device) 0 l e m.0 m.1
         (λ c. bad_meta told m.0 m.1 (m.2).is_pass (weaker m.0 IsMetaPage 0 c)) m.4),
   )
 
@@ -64,15 +63,15 @@ module _ {D : Type 0} (device : Disk D) where
       → Behind device f (λ (R : Log). ⊥)
   never_bad f p n (IsBadList.meta zero cannot never) few = never
   never_bad f p n (IsBadList.rows cannot never) few = never
-  never_bad f p n (IsBadList.place key (s, IsBad.read parent at cannot never)) few = never
-  never_bad f p n (IsBadList.place key (s, IsBad.far parent at spent never)) few = never
-  never_bad f p n (IsBadList.place key (s, IsBad.room parent page at bad never)) few = never few
+  never_bad f p n (IsBadList.place key (s, IsBad.read t parent at cannot never)) few = never
+  never_bad f p n (IsBadList.place key (s, IsBad.far t parent at spent never)) few = never
+  never_bad f p n (IsBadList.place key (s, IsBad.room t parent page at bad never)) few = never few
 
-  pub lawful_cause : (s : Stage) (l : FramesValue D) (e : PlaceError) (f : FramesValue D) (p : Pass)
-      → Finds device f p (IsCause device s l e) → NoBadPage device f e
-  lawful_cause s l StoreFull f p m = tt
-  lawful_cause s l LogFull f p m = tt
-  lawful_cause s l DiskFault f p m = tt
-  lawful_cause s l (Down n) f p m = tt
-  lawful_cause s l (BadPage n) f p m = none_before device f m.0 p m.1 m.2 m.3 (never_bad m.0 m.1 n m.4)
-  lawful_cause s l OutOfMemory f p m = tt
+  pub lawful_cause : (l : FramesValue D) (e : PlaceError) (f : FramesValue D) (p : Pass)
+      → Finds device f p (IsCause device l e) → NoBadPage device f e
+  lawful_cause l StoreFull f p m = tt
+  lawful_cause l LogFull f p m = tt
+  lawful_cause l DiskFault f p m = tt
+  lawful_cause l (Down n) f p m = tt
+  lawful_cause l (BadPage n) f p m = none_before device f m.0 p m.1 m.2 m.3 (never_bad m.0 m.1 n m.4)
+  lawful_cause l OutOfMemory f p m = tt

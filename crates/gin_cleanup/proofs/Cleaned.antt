@@ -15,7 +15,7 @@ use Rattle.gin_place.specs.Going.{IsPlacingKind, WorksOn}
 use Rattle.gin_place.proofs.Carrying.{rises_on}
 use Rattle.gin_place.proofs.Running.{goes_in_turn}
 use Rattle.gin_cleanup.specs.Going.{IsCleaningKind, CleansOn}
-use Rattle.gin_cleanup.proofs.ListKept.{in_kinds, all_in, placing_adds}
+use Rattle.gin_cleanup.proofs.ListKept.{in_kinds, all_in}
 
 -- an Abort leaves the history
 owed_history : (owes : Bool) (ks : List ℕ) (R : Log) (H : History) → IsHistory R H → IsHistory (before_more owes ks R) H
@@ -25,7 +25,7 @@ owed_history false (k ∷ ks) R H h = h
 
 index_work : (k : ℕ) → IsCleaningKind k → (12 ≤ k) × (k ≤ 21)
 index_work k (inl e) = (omega (arith, e), omega (arith, e))
-index_work k (inr p) = let w = placing_adds k p in (omega (arith, w.0), omega (arith, w.1))
+index_work k (inr p) = (omega (arith, p.0), omega (arith, p.1))
 
 -- so do these records
 pub history_on : HistoryHolds → (owes : Bool) (ks : List ℕ) → AllByRecursion IsCleaningKind ks → (R R' : Log)

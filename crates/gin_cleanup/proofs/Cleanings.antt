@@ -21,7 +21,7 @@ use Rattle.buffer_frames.proofs.HistoryParts.{legal_before}
 use Rattle.gin_place.specs.Going.{WorksOn}
 use Rattle.gin_place.specs.Placing.{HasRight}
 use Rattle.gin_place.specs.Holding.{ReadsOn}
-use Rattle.gin_place.proofs.Stepped.{placing_still}
+use Rattle.gin_place.proofs.Kept.{placing_still}
 use Rattle.gin_cleanup.specs.Cleaning.{waits_of, IsReadingAt, IsAt, IsKeyAt, AreLeft, IsCleaning}
 use Rattle.gin_cleanup.specs.Gathered.{KeyItems}
 use Rattle.gin_cleanup.specs.Gathering.{Wait, IsGathered}

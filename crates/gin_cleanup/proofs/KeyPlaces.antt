@@ -12,7 +12,7 @@ use Rattle.buffer_frames.specs.Frames.{FramesValue}
 use Rattle.buffer_frames.specs.Passes.{IsPassOf, IsHolding}
 use Rattle.buffer_frames.specs.declared.pass.Pass.{Pass}
 use Rattle.buffer_frames.proofs.AtHand.{none_held}
-use Rattle.gin_place.specs.Causes.{Finds, HasLong, IsBad, IsWhy}
+use Rattle.gin_place.specs.Causes.{Finds, IsBad, IsWhy}
 use Rattle.gin_place.specs.Going.{WorksOn}
 use Rattle.gin_place.specs.Placing.{HasRight, ArePending, ArePlaced, IsPlacing, IsAt as IsKeyIn}
 use Rattle.gin_place.specs.Stepping.{HasStepped}
@@ -22,7 +22,7 @@ use Rattle.gin_place.specs.declared.placing.Stage.TheVariants as way
 use Rattle.gin_place.proofs.Causing.{finds_as, why_as}
 use Rattle.gin_cleanup.specs.Cleaning.{waits_under, waits_in, waits_of, IsAt, AreGone, IsKeyAt, AreLeft, IsCleaning}
 use Rattle.gin_cleanup.specs.Gathering.{Wait, wait}
-use Rattle.gin_cleanup.specs.Going.{IsBadList, HasLongAt, IsCause}
+use Rattle.gin_cleanup.specs.Going.{IsBadList, IsCause}
 use Rattle.gin_cleanup.specs.Inner.Between.{HasNext}
 use Rattle.gin_cleanup.specs.declared.cleanup.Cleanup.{Cleanup}
 use Rattle.gin_cleanup.specs.declared.cleanup.Stage.{Stage}
@@ -75,18 +75,13 @@ rows_pending device f p from c key items old at x i on =
     (has_under key.items items.items i on)))
 
 -- a refusal of placing is one of the cleanup
-pub place_cause : {D : Type 0} (device : Disk D) (f : FramesValue D) (p : Pass) (key items : Vec ℕ Global)
-    (old : Placing)
-    (s : Stage) → s ≡ stage.Placing key items old → (l : FramesValue D) (e : PlaceError)
-    → Finds device f p (IsWhy device (IsBad device key.items old) (HasLong key.items items.items) l e)
-    → Finds device f p (IsCause device s l e)
-place_cause device f p key items old s is l e =
-    finds_as device f p (IsWhy device (IsBad device key.items old) (HasLong key.items items.items) l e)
-    (IsCause device s l e)
-    (λ g q why. subst (λ (x : Stage). IsCause device x l e g q) (sym is)
-    (why_cause device (stage.Placing key items old) l e g q
-    (why_as device (IsBad device key.items old) (HasLong key.items items.items) (IsBadList device)
-    (HasLongAt (stage.Placing key items old)) l e g q (λ n bad. IsBadList.place key.items (old, bad)) (λ x. x) why)))
+place_cause : {D : Type 0} (device : Disk D) (f : FramesValue D) (p : Pass) (k : List ℕ) (old : Placing)
+    (l : FramesValue D) (e : PlaceError) → Finds device f p (IsWhy device (IsBad device k old) l e)
+    → Finds device f p (IsCause device l e)
+place_cause device f p k old l e =
+    finds_as device f p (IsWhy device (IsBad device k old) l e) (IsCause device l e)
+    (λ g q why. why_cause device l e g q
+    (why_as device (IsBad device k old) (IsBadList device) l e g q (λ n bad. IsBadList.place k (old, bad)) why))
 
 -- what a step of placing says, by the key and the items as it was given them
 module _ {D : Type 0} (device : Disk D) (line : LineHolds) (fresh : FreshHolds) (pairs : PairsHold)
@@ -108,17 +103,13 @@ module _ {D : Type 0} (device : Disk D) (line : LineHolds) (fresh : FreshHolds) 
       → HasNext (record c { stage = stage.Placing key items new }) then → (from : ℕ) → IsCleaning device f p from c
       → IsCleaning device g q from then
   next_on done then next from was =
-      let placed : ArePlaced device g q k is = subst (IsKeyIn device g q k is) done (s.placing).0 in
+      let placed : ArePlaced device g q k is = subst (IsKeyIn device g q k is new.from) done (s.placing).0 in
       next_cleaning device g q from (record c { stage = stage.Placing key items new }) then
       (key_placed device g q from (record c { stage = stage.Placing key items new }) key items new refl
       (step_on from was)
       (subst (λ (x : List ℕ). ArePlaced device g q x items.items) k_is
       (subst (λ (x : List ℕ). ArePlaced device g q k x) is_is placed))) next
 
-  pub step_cause : (l : FramesValue D) (e : PlaceError)
-      → Finds device f p (IsWhy device (IsBad device k old) (HasLong k is) l e)
-      → Finds device f p (IsCause device c.stage l e)
-  step_cause l e m =
-      place_cause device f p key items old c.stage at l e
-      (subst (λ (x : List ℕ). Finds device f p (IsWhy device (IsBad device x old) (HasLong x items.items) l e)) k_is
-      (subst (λ (x : List ℕ). Finds device f p (IsWhy device (IsBad device k old) (HasLong k x) l e)) is_is m))
+  pub step_cause : (l : FramesValue D) (e : PlaceError) → Finds device f p (IsWhy device (IsBad device k old) l e)
+      → Finds device f p (IsCause device l e)
+  step_cause l e = place_cause device f p k old l e

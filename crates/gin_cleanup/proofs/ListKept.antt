@@ -50,11 +50,6 @@ all_in T [] k all i = absurd i
 all_in T (j ∷ ks) k all (inl e) = subst T (sym e) all.0
 all_in T (j ∷ ks) k all (inr i) = all_in T ks k all.1 i
 
-pub placing_adds : (k : ℕ) → IsPlacingKind k → (13 ≤ k) × (k ≤ 17)
-placing_adds k (inl e) = (omega (arith, e), omega (arith, e))
-placing_adds k (inr (inl e)) = (omega (arith, e), omega (arith, e))
-placing_adds k (inr (inr e)) = (omega (arith, e), omega (arith, e))
-
 -- what came before records of such kinds, where an Abort was owed
 owed_adds : (owes : Bool) (ks : List ℕ) (B : Log)
     → (more : Log) × (before_more owes ks B ≡ more ++ B) × ((r : Record) → In r more → Adds r)
@@ -109,9 +104,8 @@ module _ {D : Type 0} (device : Disk D) (f g : FramesValue D) (p q : Pass) (ks :
         later = drop k all;
         seen_is = ap (λ (l : Log). drop k l) whole ∙ drop-append-le k all C within;
         adds = λ r i. elim (in_either r on.added (m.0 ++ a.later) (in_drop k r all i)) [
-          | inl j ↦ inr (placing_adds (kind_number r.kind)
-              (all_in IsPlacingKind ks (kind_number r.kind) works.placing
-              (subst (In (kind_number r.kind)) on.kinds_are (in_kinds on.added r j))))
+          | inl j ↦ inr (all_in IsPlacingKind ks (kind_number r.kind) works.placing
+              (subst (In (kind_number r.kind)) on.kinds_are (in_kinds on.added r j)))
           | inr j ↦ elim (in_either r m.0 a.later j) [ inl i ↦ m.2 r i | inr i ↦ inl (early r i) ]
         ];
         size = size;

@@ -22,8 +22,8 @@ use Rattle.gin_cleanup.specs.declared.cleanup.Stage.{Stage}
 use Rattle.gin_cleanup.specs.declared.cleanup.Stage.TheVariants as stage
 
 -- the steps of a cleanup at this stage
-steps_at : (c : Cleanup) (s : Stage) → c.stage ≡ s → steps_of c ≡ c.turns * 2 ^ 130 + stage_steps c s
-steps_at c s is = ap (λ (x : Stage). c.turns * 2 ^ 130 + stage_steps c x) is
+steps_at : (c : Cleanup) (s : Stage) → c.stage ≡ s → steps_of c ≡ c.turns * 2 ^ 170 + stage_steps c s
+steps_at c s is = ap (λ (x : Stage). c.turns * 2 ^ 170 + stage_steps c x) is
 
 -- those of another that is so
 same_steps : (c d : Cleanup) (n : ℕ) → d ≡ c → steps_of c < n → steps_of d < n
@@ -32,23 +32,32 @@ same_steps c d n is less = subst (λ (x : Cleanup). steps_of x < n) (sym is) les
 -- ── a key is next ──
 
 -- fewer keys than a map may have want fewer steps than the pages of the list
-small_keys : (n : ℕ) → n < 2 ^ 63 → n * 2 ^ 40 < 2 ^ 104
+small_keys : (n : ℕ) → n < 2 ^ 63 → n * 2 ^ 100 < 2 ^ 164
 small_keys n few =
-    let most : n * 2 ^ 40 ≤ 2 ^ 63 * 2 ^ 40 = mul-le n (2 ^ 40) (2 ^ 63) (2 ^ 40) (omega (arith, few)) (omega arith) in
+    let most : n * 2 ^ 100 ≤ 2 ^ 63 * 2 ^ 100 =
+    mul-le n (2 ^ 100) (2 ^ 63) (2 ^ 100) (omega (arith, few)) (omega arith) in
     omega (arith, most)
+
+-- those of a key are few, since a Vec has no more items than it may
+few_steps : (items : Vec ℕ Global) → steps_left items.items at_root < 2 ^ 100
+few_steps items = by (length items.items) (omega (arith, items.ok))
+  where
+    by : (n : ℕ) → n < 2 ^ 63 → (n - 0) * (2 ^ 32 + 1) + (2 ^ 32 + 1) + (2 ^ 32 + 1) + 2 ^ 32 < 2 ^ 100
+    by n few = omega (arith, few)
 
 -- after the pages were read
 pub next_read : (old new : Cleanup) (page : ℕ) (before : Vec ℕ Global) → old.stage ≡ stage.Reading page before
     → HasNext old new → steps_of new < steps_of old
 next_read old new page before at (HasNext.key key items first few is) =
     let small = small_keys (length new.gathered) few in
+    let most = few_steps items in
     subst (λ (n : ℕ). steps_of new < n) (sym (steps_at old (stage.Reading page before) at))
     (same_steps (record old { gathered = new.gathered; stage = stage.Placing key items at_root }) new
-    (old.turns * 2 ^ 130 + stage_steps old (stage.Reading page before)) is (omega (arith, small)))
+    (old.turns * 2 ^ 170 + stage_steps old (stage.Reading page before)) is (omega (arith, small, most)))
 next_read old new page before at (HasNext.none none is) =
     subst (λ (n : ℕ). steps_of new < n) (sym (steps_at old (stage.Reading page before) at))
     (same_steps (record old { gathered = []; stage = stage.Shifting }) new
-    (old.turns * 2 ^ 130 + stage_steps old (stage.Reading page before)) is (omega arith))
+    (old.turns * 2 ^ 170 + stage_steps old (stage.Reading page before)) is (omega arith))
 
 -- after a key was placed
 pub next_placed : (c then : Cleanup) (key items : Vec ℕ Global) (old new : Placing)
@@ -58,15 +67,17 @@ next_placed c then key items old new at (HasNext.key k is first few same) =
     let more : length c.gathered ≡ suc (length then.gathered) = ap (λ (es : KeyItems). length es) first.first in
     subst (λ (n : ℕ). steps_of then < n) (sym (steps_at c (stage.Placing key items old) at))
     (same_steps (record c { gathered = then.gathered; stage = stage.Placing k is at_root }) then
-    (c.turns * 2 ^ 130 + stage_steps c (stage.Placing key items old)) same
-    (by (length c.gathered) (length then.gathered) (c.turns * 2 ^ 130) (steps_left old) more))
+    (c.turns * 2 ^ 170 + stage_steps c (stage.Placing key items old)) same
+    (by (length c.gathered) (length then.gathered) (c.turns * 2 ^ 170) (steps_left items.items old)
+    (steps_left is.items at_root) more (few_steps is)))
   where
-    by : (n m t s : ℕ) → n ≡ suc m → t + (2 ^ 128 + m * 2 ^ 40 + (2 ^ 33 + 1)) < t + (2 ^ 128 + n * 2 ^ 40 + s)
-    by n m t s is = omega (arith, is)
+    by : (n m t s r : ℕ) → n ≡ suc m → r < 2 ^ 100
+        → t + (2 ^ 168 + m * 2 ^ 100 + r) < t + (2 ^ 168 + n * 2 ^ 100 + s)
+    by n m t s r is most = omega (arith, is, most)
 next_placed c then key items old new at (HasNext.none none same) =
     subst (λ (n : ℕ). steps_of then < n) (sym (steps_at c (stage.Placing key items old) at))
     (same_steps (record c { gathered = []; stage = stage.Shifting }) then
-    (c.turns * 2 ^ 130 + stage_steps c (stage.Placing key items old)) same (omega arith))
+    (c.turns * 2 ^ 170 + stage_steps c (stage.Placing key items old)) same (omega arith))
 
 -- ── within a stage ──
 
@@ -77,9 +88,9 @@ taken_nearer : (rows : List Row) (right : ℕ) (old new : Cleanup) (page : ℕ) 
 taken_nearer rows right old new page before at few t =
     let one : length new.counts.items ≡ length old.counts.items + 1 =
     ap (λ (ns : List ℕ). length ns) t.counts ∙ length-append old.counts.items (length rows ∷ []) in
-    let turns : new.turns * 2 ^ 130 ≡ old.turns * 2 ^ 130 = ap (λ (n : ℕ). n * 2 ^ 130) t.turns in
+    let turns : new.turns * 2 ^ 170 ≡ old.turns * 2 ^ 170 = ap (λ (n : ℕ). n * 2 ^ 170) t.turns in
     subst (λ (n : ℕ). steps_of new < n) (sym (steps_at old (stage.Reading page before) at))
-    (subst (λ (n : ℕ). n < old.turns * 2 ^ 130 + (2 * 2 ^ 128 + (old.left - length old.counts.items)))
+    (subst (λ (n : ℕ). n < old.turns * 2 ^ 170 + (2 * 2 ^ 168 + (old.left - length old.counts.items)))
     (sym (steps_at new (stage.Reading right t.before) t.stage_is)) (omega (arith, one, turns, t.left, few)))
 
 pub noted_nearer : (content : Page) (old new : Cleanup) (r : Result Bool AllocError) (page : ℕ) (before : Vec ℕ Global)
@@ -94,7 +105,8 @@ noted_nearer content old new r page before at few (HasNoted.kept rows is above k
 
 -- a step of the key that is placed
 placed_nearer : (c : Cleanup) (key items : Vec ℕ Global) (old new : Placing) → c.stage ≡ stage.Placing key items old
-    → steps_left new < steps_left old → steps_of (record c { stage = stage.Placing key items new }) < steps_of c
+    → steps_left items.items new < steps_left items.items old
+    → steps_of (record c { stage = stage.Placing key items new }) < steps_of c
 placed_nearer c key items old new at less =
     subst (λ (n : ℕ). steps_of (record c { stage = stage.Placing key items new }) < n)
     (sym (steps_at c (stage.Placing key items old) at)) (omega (arith, less))
@@ -112,7 +124,7 @@ again_nearer page old new some again =
     (omega (arith, t.left, again.few)))
   where
     by : (n m left read s : ℕ) → 0 < m → n ≡ m - 1 → left < 2 ^ 32
-        → n * 2 ^ 130 + (2 * 2 ^ 128 + (left - read)) < m * 2 ^ 130 + s
+        → n * 2 ^ 170 + (2 * 2 ^ 168 + (left - read)) < m * 2 ^ 170 + s
     by n m left read s some is few = omega (arith, some, is, few)
 
 -- ── with what was logged ──
@@ -126,6 +138,12 @@ module _ {D : Type 0} (f g : FramesValue D) where
   by_kinds old new (k ∷ kinds) rise less = inl rise
 
   pub by_step : (c : Cleanup) (key items : Vec ℕ Global) (old new : Placing) → c.stage ≡ stage.Placing key items old
-      → IsNearer f g old new → ComesNearer f g c (record c { stage = stage.Placing key items new })
-  by_step c key items old new at (inl rise) = inl rise
-  by_step c key items old new at (inr less) = inr (less.0, placed_nearer c key items old new at less.1)
+      → (is : List ℕ) → is ≡ items.items → IsNearer f g is old new
+      → ComesNearer f g c (record c { stage = stage.Placing key items new })
+  by_step c key items old new at is same (inl rise) = inl rise
+  by_step c key items old new at is same (inr less) =
+      inr (
+        less.0,
+        placed_nearer c key items old new at
+            (subst (λ (x : List ℕ). steps_left x new < steps_left x old) same less.1),
+      )

@@ -15,7 +15,7 @@ use Rattle.core_state.specs.Index.{Main}
 use Rattle.gin_place.specs.Placing.{ArePlaced, IsPlacing}
 use Rattle.gin_place.specs.Placing.{at_root}
 use Rattle.gin_place.specs.declared.placing.Placing.{Placing}
-use Rattle.gin_place.proofs.Stepped.{root_way}
+use Rattle.gin_place.proofs.Kept.{begins_placing}
 use Rattle.gin_cleanup.specs.Cleaning.{waits_under, waits_in, waits_of, IsAt, AreGone, IsCleaning}
 use Rattle.gin_cleanup.specs.Gathered.{KeyItems, Has, GivesFirst}
 use Rattle.gin_cleanup.specs.Gathering.{Wait, wait, IsBatch}
@@ -157,6 +157,6 @@ pub next_cleaning : {D : Type 0} (device : Disk D) (f : FramesValue D) (p : Pass
 next_cleaning device f p from old new was (HasNext.key key items first few is) =
     subst (IsCleaning device f p from) (sym is)
     (key_next device f p from old was key items at_root new.gathered first
-    (λ k is. (root_way device f p k, refl, λ making other. absurd (other refl))))
+    (begins_placing device f p))
 next_cleaning device f p from old new was (HasNext.none none is) =
     subst (IsCleaning device f p from) (sym is) (none_left device f p from old was none)

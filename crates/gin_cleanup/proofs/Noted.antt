@@ -90,20 +90,20 @@ noted_bad content old new r (HasNoted.taken rows is above t ok) e = absurd (cc)
 noted_bad content old new r (HasNoted.kept rows is above k w err) e = absurd (cc)
 
 -- why the page is not held
-pub read_cause : {D : Type 0} (device : Disk D) (s : Stage) (f l : FramesValue D) (p : Pass) (page : ℕ) → IsPassOf f p
+pub read_cause : {D : Type 0} (device : Disk D) (f l : FramesValue D) (p : Pass) (page : ℕ) → IsPassOf f p
     → (CannotUse f IsRowPage page → IsBadList device f p page) → (e : PlaceError)
     → Finds device f p (CannotHold device page l e)
-    → ((n : ℕ) → e ≡ BadPage n → (n ≡ page) × CannotUse f (λ (c : Page). ⊤) n) → Finds device f p (IsCause device s l e)
-read_cause device s f l p page of bad StoreFull m b = absurd m.4
-read_cause device s f l p page of bad LogFull m b = absurd m.4
-read_cause device s f l p page of bad DiskFault m b = m
-read_cause device s f l p page of bad (Down n) m b = m
-read_cause device s f l p page of bad (BadPage n) m b =
+    → ((n : ℕ) → e ≡ BadPage n → (n ≡ page) × CannotUse f (λ (c : Page). ⊤) n) → Finds device f p (IsCause device l e)
+read_cause device f l p page of bad StoreFull m b = absurd m.4
+read_cause device f l p page of bad LogFull m b = absurd m.4
+read_cause device f l p page of bad DiskFault m b = m
+read_cause device f l p page of bad (Down n) m b = m
+read_cause device f l p page of bad (BadPage n) m b =
     let c = b n refl in
-    finds_now device f p (IsCause device s l (BadPage n)) of
+    finds_now device f p (IsCause device l (BadPage n)) of
     (subst (IsBadList device f p) (sym c.0)
     (bad (weaker f IsRowPage page (subst (CannotUse f (λ (x : Page). ⊤)) c.0 c.1))))
-read_cause device s f l p page of bad OutOfMemory m b = (m.0, m.1, m.2, m.3, tt)
+read_cause device f l p page of bad OutOfMemory m b = (m.0, m.1, m.2, m.3, tt)
 
 -- a page is held and seen, its rows are noted, and it is given back
 module _ {D : Type 0} (device : Disk D) (line : LineHolds) (fresh : FreshHolds) (pairs : PairsHold) (told : PagesHold)

@@ -16,17 +16,16 @@ use Rattle.gin_place.specs.Causes.{CannotUse, CannotHold}
 use Rattle.gin_place.specs.Inner.Refusals.{log_refusal}
 use Rattle.gin_place.specs.declared.error.PlaceError.{PlaceError}
 use Rattle.gin_place.proofs.Causing.{Later, weaker, hold_why, hold_later}
-use Rattle.gin_cleanup.specs.Going.{IsRowPage, IsBadList, HasLongAt, IsCause}
-use Rattle.gin_cleanup.specs.declared.cleanup.Stage.TheVariants as stage
+use Rattle.gin_cleanup.specs.Going.{IsRowPage, IsBadList, IsCause}
 use Rattle.gin_cleanup.proofs.Causes.{why_cause}
 
 module _ {D : Type 0} (device : Disk D) (f : FramesValue D) (p : Pass) where
   -- the first page is not held
   pub first_cause : (page : ℕ) → (CannotUse f IsRowPage page → IsBadList device f p page) → (l m : FramesValue D)
-      (e : PlaceError) → Later device l m → CannotHold device page l e f p → IsCause device stage.Shifting m e f p
+      (e : PlaceError) → Later device l m → CannotHold device page l e f p → IsCause device m e f p
   first_cause page bad l m e le c =
-      why_cause device stage.Shifting m e f p
-      (hold_why device (IsBadList device) (HasLongAt stage.Shifting) page m e f p
+      why_cause device m e f p
+      (hold_why device (IsBadList device) page m e f p
       (λ cannot. bad (weaker f IsRowPage page cannot)) (hold_later device page l m e le f p c))
 
   -- the Shift is not logged
@@ -36,7 +35,7 @@ module _ {D : Type 0} (device : Disk D) (f : FramesValue D) (p : Pass) where
       (length_with f.journal.wal (logged_bytes f.journal (next_record f.journal step))) r
       → ((n : ℕ) → (r ≡ Err (logs.Down n)) ↔ (down_of f.journal.wal ≡ Some n))
       → WriteHasCause device f.journal.disk g.journal.disk r
-      → IsCause device stage.Shifting g (log_refusal w) f p
+      → IsCause device g (log_refusal w) f p
   shift_cause g step r logs.DiskFault shift few is full down cause = cause.fault is
   shift_cause g step {T} r logs.LogFull shift few is full down cause =
       let over = subst (LogFullWhere {T = T} (limit_of f.journal.wal)

@@ -39,11 +39,11 @@ fate_gone meta page noted turns s (IsFate.goes _ few is) = (few, is)
 pub no_fate_cause : {D : Type 0} (device : Disk D) (f l : FramesValue D) (p : Pass) (page : Sheet) (e : PlaceError)
     → IsPassOf f p → HasNoFate page e
     → ((IsRowPage page.content → ⊥) → Finds device f p (λ g q. IsBadList device g q page.page))
-    → Finds device f p (IsCause device stage.Shifting l e)
+    → Finds device f p (IsCause device l e)
 no_fate_cause device f l p page (BadPage n) of why bad =
     subst (λ (k : ℕ). Finds device f p (λ g q. IsBadList device g q k)) (sym why.0) (bad (λ x. why.1 x.0 x.1))
 no_fate_cause device f l p page OutOfMemory of why bad =
-    finds_now device f p (IsCause device stage.Shifting l OutOfMemory) of tt
+    finds_now device f p (IsCause device l OutOfMemory) of tt
 no_fate_cause device f l p page StoreFull of why bad = absurd why
 no_fate_cause device f l p page LogFull of why bad = absurd why
 no_fate_cause device f l p page DiskFault of why bad = absurd why

@@ -20,16 +20,14 @@ use Rattle.gin_place.specs.Running.{StoreGoesOn}
 use Rattle.gin_place.specs.Faults.{MetNoFault, FaultBy}
 use Rattle.gin_place.specs.Going.{IsPlacingKind}
 use Rattle.gin_place.specs.Placing.{IsPlaced}
-use Rattle.gin_place.specs.Causes.{Finds, CannotUse, HasLong, IsBadIn, NoBadPage, IsWhy}
+use Rattle.gin_place.specs.Causes.{Finds, CannotUse, IsBadIn, NoBadPage, IsWhy}
 use Rattle.gin_place.specs.declared.error.PlaceError.{PlaceError}
 use Rattle.gin_place.specs.declared.error.PlaceError.TheVariants.{LogFull}
 use Rattle.gin_cleanup.specs.Cleaning.{IsCleaning, SaysWhether}
 use Rattle.gin_cleanup.specs.Measure.{ComesNearer}
 use Rattle.gin_cleanup.specs.declared.cleanup.Cleanup.{Cleanup}
-use Rattle.gin_cleanup.specs.declared.cleanup.Stage.{Stage}
-use Rattle.gin_cleanup.specs.declared.cleanup.Stage.TheVariants as stage
 
--- the kinds of the records of a cleanup: Shift, and those by which items come into the entry tree
+-- the kinds of the records of a cleanup: Shift, and those by which items come into the trees
 abbrev pub IsCleaningKind : ℕ → Type 0
 IsCleaningKind k = (k ≡ 12) ⊎ IsPlacingKind k
 
@@ -63,11 +61,6 @@ pub data IsBadList {D : Type 0} (device : Disk D) (f : FramesValue D) (pass : Pa
   rows : CannotUse f IsRowPage p → Behind device f (λ (R : Log). ⊥) → IsBadList device f pass p
   place : (key : List ℕ) → IsBadIn device key f pass p → IsBadList device f pass p
 
--- the list of the key at work would be too long
-abbrev pub HasLongAt : {D : Type 0} → Stage → FramesValue D → Type 0
-HasLongAt (stage.Placing key items placing) f = HasLong key.items items.items f
-HasLongAt _ f = ⊥
-
 -- the log would pass its limit with the record of a Shift
 pub record HasNoRoomToShift {D : Type 0} (f : FramesValue D) : Type 0 where
   pub step : Step
@@ -77,9 +70,9 @@ pub record HasNoRoomToShift {D : Type 0} (f : FramesValue D) : Type 0 where
 
 module _ {D : Type 0} (device : Disk D) where
   -- why a step is refused that leaves the frames so
-  abbrev pub IsCause : Stage → FramesValue D → PlaceError → FramesValue D → Pass → Type 0
-  IsCause s left LogFull f pass = IsWhy device (IsBadList device) (HasLongAt s) left LogFull f pass ⊎ HasNoRoomToShift f
-  IsCause s left e f pass = IsWhy device (IsBadList device) (HasLongAt s) left e f pass
+  abbrev pub IsCause : FramesValue D → PlaceError → FramesValue D → Pass → Type 0
+  IsCause left LogFull f pass = IsWhy device (IsBadList device) left LogFull f pass ⊎ HasNoRoomToShift f
+  IsCause left e f pass = IsWhy device (IsBadList device) left e f pass
 
 -- The cleanup has gone on, and false is answered exactly where no row that was linked when it began is still
 -- linked; true brings the end nearer. At most one record was logged, none where it is refused, and no page is
@@ -93,7 +86,7 @@ pub record HasCleaned {D : Type 0} (device : Disk D) (f : FramesValue D) (pass :
   pub works : (kinds : List ℕ) × (length kinds ≤ 1) × CleansOn device f pass f' pass' kinds
   pub refused : OnErr result (CleansOn device f pass f' pass' [])
   pub lower : IfOk result (λ more. more ≡ true → ComesNearer f f' old new)
-  pub cause : IfErr result (λ e. Finds device f pass (IsCause device old.stage f' e))
+  pub cause : IfErr result (λ e. Finds device f pass (IsCause device f' e))
   pub lawful : IfErr result (NoBadPage device f)
   pub fine : OnOk result (MetNoFault device f f')
   pub fault : IfErr result (FaultBy device f f')

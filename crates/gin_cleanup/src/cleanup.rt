@@ -10,7 +10,6 @@ ghost use Rattle.gin_cleanup.specs.Measure.{ComesNearer};
 ghost use Rattle.gin_cleanup.specs.Going.{IsCause};
 ghost use Rattle.gin_cleanup.specs.Inner.Noting.{IsReadNext, HasTaken, HasKept, EndsBefore, HasNoted};
 ghost use Rattle.gin_cleanup.specs.Inner.Between.{HasNext};
-ghost use Rattle.gin_cleanup.specs.declared.cleanup.Stage.TheVariants as stages;
 
 use crate::gathered::Gathered;
 use crate::listed::{META_PAGE, are_documents, goes_on, items_of, named_by, rows_of};
@@ -74,7 +73,7 @@ impl Cleanup {
         ensures reads { ReadsOn D.Disk frames.old pass.old frames.new pass.new }
         ensures none_held { pass.new.held ≡ 0 }
         ensures cause { IfErr result (λ e. Finds D.Disk frames.old pass.old
-            (IsCause D.Disk stages.Shifting frames.new e)) }
+            (IsCause D.Disk frames.new e)) }
         ensures lawful { IfErr result (NoBadPage D.Disk frames.old) }
         ensures fine { OnOk result (MetNoFault D.Disk frames.old frames.new) }
         ensures fault { IfErr result (λ e. FaultBy D.Disk frames.old frames.new e) }
@@ -189,7 +188,7 @@ impl Cleanup {
         ensures none_held { pass.new.held ≡ 0 }
         ensures lower { OnOk result (ComesNearer frames.old frames.new self.old self.new) }
         ensures cause { IfErr result (λ e. Finds D.Disk frames.old pass.old
-            (IsCause D.Disk self.old.stage frames.new e)) }
+            (IsCause D.Disk frames.new e)) }
         ensures fine { OnOk result (MetNoFault D.Disk frames.old frames.new) }
         ensures fault { IfErr result (λ e. FaultBy D.Disk frames.old frames.new e) }
     {

@@ -67,7 +67,7 @@ fn hold_meta<D: Disk>(
     // The refusals: no page is held.
     ensures still { OnErr result (pass.new.held ≡ 0) }
     ensures cause { IfErr result (λ e. Finds D.Disk frames.old pass.old
-        (IsCause D.Disk stages.Shifting frames.new e)) }
+        (IsCause D.Disk frames.new e)) }
     ensures fine { OnOk result (MetNoFault D.Disk frames.old frames.new) }
     ensures fault { IfErr result (λ e. FaultBy D.Disk frames.old frames.new e) }
 {
@@ -112,7 +112,7 @@ fn hold_first<D: Disk>(frames: &mut Frames<D>, pass: &mut Pass) -> Result<First,
     // The refusals: no page is held.
     ensures still { OnErr result (pass.new.held ≡ 0) }
     ensures cause { IfErr result (λ e. Finds D.Disk frames.old pass.old
-        (IsCause D.Disk stages.Shifting frames.new e)) }
+        (IsCause D.Disk frames.new e)) }
     ensures fine { OnOk result (MetNoFault D.Disk frames.old frames.new) }
     ensures fault { IfErr result (λ e. FaultBy D.Disk frames.old frames.new e) }
 {
@@ -236,7 +236,7 @@ fn log_shift<D: Disk>(
         (first.page ∷ first.meta ∷ []) step frames.new pass.new) }
     ensures refused { OnErr result (ReadsOn D.Disk frames.old pass.old frames.new pass.new) }
     ensures cause { IfErr result (λ e.
-        IsCause D.Disk stages.Shifting frames.new e frames.old pass.old) }
+        IsCause D.Disk frames.new e frames.old pass.old) }
     ensures fine { OnOk result (MetNoFault D.Disk frames.old frames.new) }
     ensures fault { IfErr result (λ e. FaultBy D.Disk frames.old frames.new e) }
 {
@@ -264,7 +264,7 @@ fn log_pages<D: Disk>(
         (LogsShift D.Disk frames.old pass.old pages.items step frames.new pass.new) }
     ensures refused { OnErr result (ReadsOn D.Disk frames.old pass.old frames.new pass.new) }
     ensures cause { IfErr result (λ e.
-        IsCause D.Disk stages.Shifting frames.new e frames.old pass.old) }
+        IsCause D.Disk frames.new e frames.old pass.old) }
     ensures fine { OnOk result (MetNoFault D.Disk frames.old frames.new) }
     ensures fault { IfErr result (λ e. FaultBy D.Disk frames.old frames.new e) }
 {
@@ -343,7 +343,7 @@ impl Cleanup {
         ensures refused { OnErr result (CleansOn D.Disk frames.old pass.old frames.new pass.new []) }
         ensures lower { OnOk result (ComesNearer frames.old frames.new self.old self.new) }
         ensures cause { IfErr result (λ e. Finds D.Disk frames.old pass.old
-            (IsCause D.Disk stages.Shifting frames.new e)) }
+            (IsCause D.Disk frames.new e)) }
         ensures fine { OnOk result (MetNoFault D.Disk frames.old frames.new) }
         ensures fault { IfErr result (λ e. FaultBy D.Disk frames.old frames.new e) }
     {

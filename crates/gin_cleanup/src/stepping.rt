@@ -38,7 +38,7 @@ impl Cleanup {
         ensures refused { OnErr result (CleansOn D.Disk frames.old pass.old frames.new pass.new []) }
         ensures lower { OnOk result (ComesNearer frames.old frames.new self.old self.new) }
         ensures cause { IfErr result (λ e. Finds D.Disk frames.old pass.old
-            (IsCause D.Disk self.old.stage frames.new e)) }
+            (IsCause D.Disk frames.new e)) }
         ensures fine { OnOk result (MetNoFault D.Disk frames.old frames.new) }
         ensures fault { IfErr result (λ e. FaultBy D.Disk frames.old frames.new e) }
     {
@@ -87,7 +87,7 @@ impl Cleanup {
         ensures refused { OnErr result (CleansOn D.Disk frames.old pass.old frames.new pass.new []) }
         ensures lower { OnOk result (ComesNearer frames.old frames.new self.old self.new) }
         ensures cause { IfErr result (λ e. Finds D.Disk frames.old pass.old
-            (IsCause D.Disk self.old.stage frames.new e)) }
+            (IsCause D.Disk frames.new e)) }
         ensures fine { OnOk result (MetNoFault D.Disk frames.old frames.new) }
         ensures fault { IfErr result (λ e. FaultBy D.Disk frames.old frames.new e) }
     {

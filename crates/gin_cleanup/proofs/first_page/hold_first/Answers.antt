@@ -9,7 +9,6 @@ use Rattle.gin_place.proofs.Carrying.{reads_by, reads_in_turn, right_on}
 use Rattle.gin_place.proofs.Causing.{at_exit, look_down}
 use Rattle.gin_place.proofs.Faults.{calm_then, calm_fine, fine_then, told_then, told_back, down_told}
 use Rattle.gin_cleanup.specs.Going.{IsBadList, IsCause}
-use Rattle.gin_cleanup.specs.declared.cleanup.Stage.TheVariants as stages
 use Rattle.gin_cleanup.proofs.FirstHeld.{first_stays, first_bad, both_seen}
 use Rattle.gin_cleanup.proofs.ShiftCauses.{first_cause}
 use Rattle.gin_cleanup.proofs.first_page.hold_first.Goals as goal
@@ -128,7 +127,7 @@ returns-in-Err-look-clause-cause g c =
       r2.works,
       fine_then g.D.Disk c.args.frames.now c.hold_meta.new.frames c.hold_page.new.frames c.in_ok-meta.ensures.fine
           c.in-Ok.ensures.fine,
-      subst (λ (x : PlaceError). IsCause g.D.Disk stages.Shifting c.give_back.new.frames x c.hold_page.new.frames
+      subst (λ (x : PlaceError). IsCause g.D.Disk c.give_back.new.frames x c.hold_page.new.frames
           c.hold_page.new.pass) (sym (c.from.ensures ∙ d.1)) d.2,
     )
 

@@ -10,7 +10,6 @@ use Rattle.gin_place.proofs.Causing.{at_exit, finds_now}
 use Rattle.gin_place.proofs.Faults.{calm_fine, fine_then}
 use Rattle.gin_place.specs.declared.error.PlaceError.TheVariants.{BadPage}
 use Rattle.gin_cleanup.specs.Going.{IsCause, IsMetaPage}
-use Rattle.gin_cleanup.specs.declared.cleanup.Stage.TheVariants as stages
 use Rattle.gin_cleanup.proofs.Causes.{bad_meta, meta_cause}
 use Rattle.gin_cleanup.proofs.first_page.hold_meta.Goals as goal
 
@@ -19,8 +18,8 @@ returns-in_err-held-clause-cause g c =
     let p = err_from_is_err_and c.from_residual.result c.from_residual.ensures.1 in
     let w = c.in_err-held.field-0.0 in
     at_exit (λ x. Finds g.D.Disk c.args.frames.now c.args.pass.now
-    (IsCause g.D.Disk stages.Shifting c.hold_seen.new.frames x)) c.from_residual.result p.0 w p.1 p.2
-    (meta_cause g.D.Disk c.pages_hold.ensures stages.Shifting c.hold_seen.new.frames w c.args.frames.now
+    (IsCause g.D.Disk c.hold_seen.new.frames x)) c.from_residual.result p.0 w p.1 p.2
+    (meta_cause g.D.Disk c.pages_hold.ensures c.hold_seen.new.frames w c.args.frames.now
     c.args.pass.now c.in_err-held.ensures.cause)
 
 pub returns-in-Some-clause-names : goal.returns-in-Some-clause-names
@@ -49,7 +48,7 @@ returns-in-None-clause-cause g c =
     let off : IsMetaPage c.page.result.now → ⊥ = c.in-None.ensures.none in
     let lies = subst (Lies c.args.frames.now 0) (sym c.page.ensures.value) c.in_ok-held.ensures.lies in
     finds_now g.D.Disk c.args.frames.now c.args.pass.now
-    (IsCause g.D.Disk stages.Shifting c.release.new.frames (BadPage 0)) c.requires.pass
+    (IsCause g.D.Disk c.release.new.frames (BadPage 0)) c.requires.pass
     (bad_meta g.D.Disk c.pages_hold.ensures c.args.frames.now c.args.pass.now c.requires.pass
     (CannotUse.other c.page.result.now c.page.ensures.is_page lies off))
 

@@ -14,7 +14,6 @@ use Rattle.gin_place.proofs.Carrying.{reads_by}
 use Rattle.gin_place.proofs.Causing.{at_exit}
 use Rattle.gin_place.proofs.Faults.{log_fine, log_told}
 use Rattle.gin_cleanup.specs.Going.{IsCause}
-use Rattle.gin_cleanup.specs.declared.cleanup.Stage.TheVariants as stages
 use Rattle.gin_cleanup.proofs.Shifted.{shift_logs}
 use Rattle.gin_cleanup.proofs.ShiftCauses.{shift_cause}
 use Rattle.gin_cleanup.proofs.first_page.log_pages.Goals as goal
@@ -65,7 +64,7 @@ pub returns-in_err-log_step-clause-cause : goal.returns-in_err-log_step-clause-c
 returns-in_err-log_step-clause-cause g c =
     let p = err_from_is_err_and c.from_residual.result c.from_residual.ensures.1 in
     let e = c.log_step.ensures in
-    at_exit (λ x. IsCause g.D.Disk stages.Shifting c.log_step.new.self x c.args.frames.now c.args.pass.now)
+    at_exit (λ x. IsCause g.D.Disk c.log_step.new.self x c.args.frames.now c.args.pass.now)
     c.from_residual.result p.0 (log_refusal c.in_err-log_step.field-0.0) p.1 p.2
     (shift_cause g.D.Disk c.args.frames.now c.args.pass.now c.log_step.new.self c.args.step c.log_step.result
     c.in_err-log_step.field-0.0 c.requires.kind_is c.requires.pages c.in_err-log_step.was e.full e.is_down e.cause)

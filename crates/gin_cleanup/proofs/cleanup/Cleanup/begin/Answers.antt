@@ -10,7 +10,6 @@ use Rattle.gin_place.proofs.Causing.{at_exit, finds_now}
 use Rattle.gin_place.specs.declared.error.PlaceError.TheVariants.{BadPage}
 use Rattle.gin_place.proofs.Faults.{calm_fine, fine_then}
 use Rattle.gin_cleanup.specs.Going.{IsCause, IsMetaPage}
-use Rattle.gin_cleanup.specs.declared.cleanup.Stage.TheVariants as stages
 use Rattle.gin_cleanup.proofs.Cleanings.{begun}
 use Rattle.gin_cleanup.proofs.Causes.{never_meta, bad_meta, meta_cause, lawful_cause}
 use Rattle.gin_cleanup.proofs.cleanup.Cleanup.begin.Goals as goal
@@ -20,8 +19,8 @@ returns-in_err-meta-clause-cause g c =
     let p = err_from_is_err_and c.from_residual.result c.from_residual.ensures.1 in
     let w = c.in_err-meta.field-0.0 in
     at_exit (λ x. Finds g.D.Disk c.args.frames.now c.args.pass.now
-    (IsCause g.D.Disk stages.Shifting c.hold_seen.new.frames x)) c.from_residual.result p.0 w p.1 p.2
-    (meta_cause g.D.Disk c.pages_hold.ensures stages.Shifting c.hold_seen.new.frames w c.args.frames.now
+    (IsCause g.D.Disk c.hold_seen.new.frames x)) c.from_residual.result p.0 w p.1 p.2
+    (meta_cause g.D.Disk c.pages_hold.ensures c.hold_seen.new.frames w c.args.frames.now
     c.args.pass.now c.in_err-meta.ensures.cause)
 
 pub release-requires-clause-right : goal.release-requires-clause-right
@@ -46,7 +45,7 @@ returns-in_default-clause-cause g c =
     let off : IsMetaPage c.page.result.now → ⊥ = c.in_default.ensures.none in
     let lies = subst (Lies c.args.frames.now 0) (sym c.page.ensures.value) c.in_ok-meta.ensures.lies in
     finds_now g.D.Disk c.args.frames.now c.args.pass.now
-    (IsCause g.D.Disk stages.Shifting c.release.new.frames (BadPage 0)) c.requires.pass
+    (IsCause g.D.Disk c.release.new.frames (BadPage 0)) c.requires.pass
     (bad_meta g.D.Disk c.pages_hold.ensures c.args.frames.now c.args.pass.now c.requires.pass
     (CannotUse.other c.page.result.now c.page.ensures.is_page lies off))
 
@@ -95,8 +94,8 @@ returns-in_err-meta-clause-lawful g c =
     let p = err_from_is_err_and c.from_residual.result c.from_residual.ensures.1 in
     let w = c.in_err-meta.field-0.0 in
     at_exit (NoBadPage g.D.Disk c.args.frames.now) c.from_residual.result p.0 w p.1 p.2
-    (lawful_cause g.D.Disk stages.Shifting c.hold_seen.new.frames w c.args.frames.now c.args.pass.now
-    (meta_cause g.D.Disk c.pages_hold.ensures stages.Shifting c.hold_seen.new.frames w c.args.frames.now
+    (lawful_cause g.D.Disk c.hold_seen.new.frames w c.args.frames.now c.args.pass.now
+    (meta_cause g.D.Disk c.pages_hold.ensures c.hold_seen.new.frames w c.args.frames.now
     c.args.pass.now c.in_err-meta.ensures.cause))
 
 pub returns-in_default-clause-lawful : goal.returns-in_default-clause-lawful

@@ -1,17 +1,8 @@
-use Rattle.std.proofs.Common.{[], sym, subst, arith}
-use Rattle.std.specs.Prelude.{IfErr}
+use Rattle.std.proofs.Common.{[], arith}
 use Rattle.buffer_frames.proofs.Exits.{on_refusal}
-use Rattle.gin_place.specs.Causes.{Finds}
-use Rattle.gin_cleanup.specs.Going.{IsCause}
-use Rattle.gin_cleanup.specs.declared.cleanup.Stage.{Stage}
 use Rattle.gin_cleanup.proofs.Cleaned.{cleans_by}
 use Rattle.gin_cleanup.proofs.Tests.{on_answer}
 use Rattle.gin_cleanup.proofs.cleanup.Cleanup.go_on.Goals as goal
-
-pub returns-in-Shifting-clause-cause : goal.returns-in-Shifting-clause-cause
-returns-in-Shifting-clause-cause g c =
-    subst (λ (s : Stage). IfErr c.shift.result (λ e. Finds g.D.Disk c.args.frames.now c.args.pass.now
-    (IsCause g.D.Disk s c.shift.new.frames e))) (sym c.in-Shifting.is) c.shift.ensures.cause
 
 pub returns-in-Reading-clause-works : goal.returns-in-Reading-clause-works
 returns-in-Reading-clause-works g c =

@@ -3,8 +3,9 @@ use Rattle.std.proofs.lemmas.Result.{err_from_is_err_and}
 use Rattle.buffer_frames.proofs.Exits.{on_refusal}
 use Rattle.gin_place.specs.Causes.{Finds}
 use Rattle.gin_place.specs.Faults.{FaultBy}
-use Rattle.gin_place.specs.Placing.{ArePending}
+use Rattle.gin_place.specs.Placing.{ArePending, IsPlacing}
 use Rattle.gin_place.proofs.Causing.{at_exit}
+use Rattle.gin_cleanup.specs.Cleaning.{IsKeyAt}
 use Rattle.gin_cleanup.specs.Going.{IsCause}
 use Rattle.gin_cleanup.proofs.Cleaned.{cleans_by}
 use Rattle.gin_cleanup.proofs.KeyPlaces.{rows_pending, step_on, next_on, step_cause}
@@ -20,6 +21,15 @@ step-requires-clause-rows g c =
     c.requires.cleaning.1 in
     subst (λ (x : List ℕ). ArePending g.D.Disk f p x c.as_slice-2.result.now) (sym c.as_slice.ensures.value)
     (subst (λ (x : List ℕ). ArePending g.D.Disk f p k.key.items x) (sym c.as_slice-2.ensures.value) rows)
+
+pub step-requires-clause-placing : goal.step-requires-clause-placing
+step-requires-clause-placing g c =
+    let f = c.args.frames.now in
+    let p = c.args.pass.now in
+    let k = c.in-Placing in
+    let is = subst (IsKeyAt g.D.Disk f p) k.is c.requires.cleaning.1.placing in
+    subst (λ (x : List ℕ). IsPlacing g.D.Disk f p x c.as_slice-2.result.now k.placing) (sym c.as_slice.ensures.value)
+    (subst (λ (x : List ℕ). IsPlacing g.D.Disk f p k.key.items x k.placing) (sym c.as_slice-2.ensures.value) is.2)
 
 pub returns-in_err-more-clause-cleaning : goal.returns-in_err-more-clause-cleaning
 returns-in_err-more-clause-cleaning g c =
@@ -47,7 +57,7 @@ returns-in_err-more-clause-cause g c =
     let r = err_from_is_err_and c.from_residual.result c.from_residual.ensures.1 in
     let w = c.in_err-more.field-0.0 in
     at_exit (λ x. Finds g.D.Disk c.args.frames.now c.args.pass.now
-    (IsCause g.D.Disk c.args.self.now.stage c.step.new.frames x)) c.from_residual.result r.0 w r.1 r.2
+    (IsCause g.D.Disk c.step.new.frames x)) c.from_residual.result r.0 w r.1 r.2
     (step_cause g.D.Disk c.placing_keeps.ensures.line c.fresh_rows_hold.ensures.records c.placing_keeps.ensures.pairs
     c.args.frames.now c.step.new.frames c.args.pass.now c.step.new.pass c.requires.pass c.requires.right
     c.requires.none c.args.self.now k.key k.items k.placing c.step.new.self k.is c.as_slice.result.now
@@ -103,7 +113,7 @@ pub returns-else-not-more-clause-lower : goal.returns-else-not-more-clause-lower
 returns-else-not-more-clause-lower g c =
     let k = c.in-Placing in
     by_step c.args.frames.now c.step.new.frames c.args.self.now k.key k.items k.placing c.step.new.self k.is
-    (c.in_ok-more.ensures.lower c.if-not-more.false)
+    c.as_slice-2.result.now c.as_slice-2.ensures.value (c.in_ok-more.ensures.lower c.if-not-more.false)
 
 pub returns-else-not-more-clause-fine : goal.returns-else-not-more-clause-fine
 returns-else-not-more-clause-fine g c = c.in_ok-more.ensures.fine

@@ -54,9 +54,9 @@ returns-in_err-held-clause-cause g c =
     (none_held g.D.Disk f p c.requires.pass c.requires.none) c.requires.pass c.requires.right c.args.page
     (on_list g.D.Disk f p c.requires.cleaning.0 c.args.self.now c.args.page c.requires.next.0 c.requires.next.1 few
     c.requires.cleaning.1) in
-    at_exit (λ x. Finds g.D.Disk f p (IsCause g.D.Disk c.args.self.now.stage c.hold_seen.new.frames x))
+    at_exit (λ x. Finds g.D.Disk f p (IsCause g.D.Disk c.hold_seen.new.frames x))
     c.from_residual.result r.0 w r.1 r.2
-    (read_cause g.D.Disk c.args.self.now.stage f c.hold_seen.new.frames p c.args.page c.requires.pass bad w
+    (read_cause g.D.Disk f c.hold_seen.new.frames p c.args.page c.requires.pass bad w
     c.in_err-held.ensures.cause (λ n same. c.hold_seen.ensures.bad n (c.in_err-held.was ∙ ap Err same)))
 
 pub returns-in-Ok-true-clause-cleaning : goal.returns-in-Ok-true-clause-cleaning
@@ -134,7 +134,7 @@ returns-in-Ok-false-clause-cause g c =
     c.requires.cleaning.1) in
     let lies = subst (Lies f c.args.page) (sym c.page.ensures.value) c.in_ok-held.ensures.lies in
     let is : c.note-noted.result ≡ Ok false = cc (c.in-Ok-false.is, c.in-Ok-false.field-0-test) in
-    finds_now g.D.Disk f p (IsCause g.D.Disk c.args.self.now.stage c.release.new.frames (BadPage c.args.page))
+    finds_now g.D.Disk f p (IsCause g.D.Disk c.release.new.frames (BadPage c.args.page))
     c.requires.pass
     (bad (CannotUse.other c.page.result.now c.page.ensures.is_page lies
     (noted_bad c.page.result.now c.args.self.now c.note-noted.new.self c.note-noted.result c.note-noted.ensures is)))

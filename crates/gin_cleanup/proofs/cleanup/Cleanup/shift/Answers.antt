@@ -11,7 +11,6 @@ use Rattle.gin_place.proofs.Causing.{at_exit}
 use Rattle.gin_place.proofs.Faults.{calm_fine, fine_then, told_then}
 use Rattle.gin_cleanup.specs.Going.{IsCause}
 use Rattle.gin_cleanup.specs.Inner.Shifting.{IsFate}
-use Rattle.gin_cleanup.specs.declared.cleanup.Stage.TheVariants as stages
 use Rattle.gin_cleanup.proofs.Cleaned.{cleans_by, cleans_after}
 use Rattle.gin_cleanup.proofs.Cleanings.{cleaning_still}
 use Rattle.gin_cleanup.proofs.FirstHeld.{has_first}
@@ -43,8 +42,8 @@ pub returns-in_err-first-clause-cause : goal.returns-in_err-first-clause-cause
 returns-in_err-first-clause-cause g c =
     let p = err_from_is_err_and c.from_residual.result c.from_residual.ensures.1 in
     let w = c.in_err-first.field-0.0 in
-    at_exit (λ x. Finds g.D.Disk c.args.frames.now c.args.pass.now (IsCause g.D.Disk stages.Shifting
-    c.hold_first.new.frames x)) c.from_residual.result p.0 w p.1 p.2 c.in_err-first.ensures.cause
+    at_exit (λ x. Finds g.D.Disk c.args.frames.now c.args.pass.now (IsCause g.D.Disk c.hold_first.new.frames x))
+    c.from_residual.result p.0 w p.1 p.2 c.in_err-first.ensures.cause
 
 pub log_shift-requires : goal.log_shift-requires
 log_shift-requires g c =
@@ -78,8 +77,8 @@ returns-in_err-log_shift-in-Ok-Gone-clause-cause g c =
     let p = err_from_is_err_and c.from_residual-in_err-log_shift-in-Ok-Gone.result
     c.from_residual-in_err-log_shift-in-Ok-Gone.ensures.1 in
     let w = c.in_err-log_shift-in-Ok-Gone.field-0.0 in
-    at_exit (λ x. Finds g.D.Disk c.args.frames.now c.args.pass.now (IsCause g.D.Disk stages.Shifting
-    c.log_shift.new.frames x)) c.from_residual-in_err-log_shift-in-Ok-Gone.result p.0 w p.1 p.2 (
+    at_exit (λ x. Finds g.D.Disk c.args.frames.now c.args.pass.now (IsCause g.D.Disk c.log_shift.new.frames x))
+    c.from_residual-in_err-log_shift-in-Ok-Gone.result p.0 w p.1 p.2 (
       c.hold_first.new.frames,
       c.hold_first.new.pass,
       c.hold_first.ensures.reads.works,

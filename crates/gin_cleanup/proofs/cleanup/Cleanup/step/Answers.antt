@@ -45,7 +45,7 @@ returns-in_err-go_on g c = λ from was.
       refused = c.in_err-go_on.ensures.refused;
       lower = tt;
       cause = c.in_err-go_on.ensures.cause;
-      lawful = lawful_cause g.D.Disk c.args.self.now.stage c.go_on.new.frames w c.args.frames.now
+      lawful = lawful_cause g.D.Disk c.go_on.new.frames w c.args.frames.now
           c.args.pass.now c.in_err-go_on.ensures.cause;
       fine = tt;
       fault = c.in_err-go_on.ensures.fault;
