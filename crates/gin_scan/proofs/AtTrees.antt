@@ -8,15 +8,16 @@ use Rattle.core_state.specs.Readings.{Read}
 use Rattle.gin_opclass.specs.Class.{Asked}
 use Rattle.core_moments.specs.Walk.{Walk, KeyWalk, LeafRead, Sought, along}
 use Rattle.core_moments.specs.OpenWalk.{NamedTree, LeadOn}
-use Rattle.gin_scan.specs.Entries.{entries_read, posting_entry, AreNotedUnder}
+use Rattle.gin_hits.specs.Entries.{entries_read, posting_entry, AreNotedUnder}
+use Rattle.gin_hits.specs.Trees.{named_by}
+use Rattle.gin_hits.proofs.JudgedScan.{element_at}
 use Rattle.gin_scan.specs.Reading.{IsUnjudged, ReadsKeysBy}
-use Rattle.gin_scan.specs.Scanning.{named_by, trees_in, trees_from}
+use Rattle.gin_scan.specs.Scanning.{trees_in, trees_from}
 use Rattle.gin_scan.specs.Ways.{IsGoingAlong, IsGoingInTrees}
 use Rattle.gin_scan.specs.Inner.Ways.{GoesToTree}
 use Rattle.gin_scan.specs.declared.scan_core.ScanCore.{ScanCore}
 use Rattle.gin_scan.specs.declared.stage.Stage.{Stage}
 use Rattle.gin_scan.specs.declared.stage.Stage.TheVariants as stage
-use Rattle.gin_scan.proofs.JudgedScan.{element_at}
 use Rattle.gin_scan.proofs.WaySteps.{IsAtTrees}
 use Rattle.gin_scan.proofs.WayTrees.{with_trees, all_trees, begins_tree, more_in_tree, ends_tree}
 use Rattle.gin_scan.proofs.WayTrees.{begun_reads, more_reads, same_path, begun_entries, more_entries}

@@ -22,17 +22,17 @@ use Rattle.buffer_frames.specs.Journals.{JournalValue}
 use Rattle.buffer_frames.specs.Passes.{IsPassOf, pin_in}
 use Rattle.buffer_frames.specs.declared.pass.Pass.{Pass}
 use Rattle.buffer_frames.proofs.LastingStates.{told_alike}
+use Rattle.gin_hits.specs.Rows.{asked_by, lists_of}
+use Rattle.gin_hits.specs.Ordered.{AreOrdered, asked_at}
+use Rattle.gin_hits.specs.declared.hits.Hits.{Hits}
 use Rattle.gin_scan.proofs.GoingOn.{kept_pin}
 use Rattle.gin_opclass.specs.Class.{Meaning}
 use Rattle.gin_opclass.specs.declared.QueryKeys.{QueryKeys}
-use Rattle.gin_scan.specs.Rows.{asked_by, lists_of}
-use Rattle.gin_scan.specs.Ways.{AreOrdered, asked_at}
 use Rattle.gin_scan.specs.Reading.{IsNoHit, IsUnread}
 use Rattle.gin_scan.specs.Reaching.{IsReached}
 use Rattle.gin_scan.specs.Scanning.{IsWithin, IsScanning, Scanning, HasRead, IsScanOf, asked_in}
 use Rattle.gin_scan.specs.Counting.{IsBounded, IsCounted}
 use Rattle.gin_scan.specs.Inner.Begun.{IsNewScan, IsBegun}
-use Rattle.gin_scan.specs.declared.hits.Hits.{Hits}
 use Rattle.gin_scan.specs.declared.scan_core.ScanCore.{ScanCore}
 use Rattle.gin_scan.specs.declared.stage.Stage.TheVariants as stage
 

@@ -4,7 +4,7 @@ use Rattle.std.proofs.Common.{◌∙◌}
 use Rattle.std.proofs.Common.{arith, append_assoc, length-append, slice_get}
 use Rattle.std.proofs.lemmas.Option.{same_Some}
 use Rattle.core_moments.specs.Walk.{KeyWalk, Sought, leaf_reads, key_reads}
-use Rattle.gin_scan.specs.Entries.{entries_on, entries_read}
+use Rattle.gin_hits.specs.Entries.{entries_on, entries_read}
 use Rattle.gin_scan.specs.Ways.{AreEach, AreWalks, IsGoingDown}
 use Rattle.core_moments.specs.OpenWalk.{IsOnWay}
 

@@ -10,7 +10,9 @@ use Rattle.core_state.specs.Changes.{KeyAtMost}
 use Rattle.gin_opclass.specs.Class.{Asked, Meaning}
 use Rattle.core_moments.specs.Walk.{Sought, KeyWalk, IsKeyWalk, AreKeyWalks, first_key, sought_of}
 use Rattle.core_moments.specs.Law.{AreSought}
-use Rattle.gin_scan.specs.Ways.{AskedLess, AreOrdered, AreEach, AreWalks, sought_by}
+use Rattle.gin_hits.specs.Ordered.{AskedLess, AreOrdered}
+use Rattle.gin_hits.proofs.MappedLists.{in_map, of_map}
+use Rattle.gin_scan.specs.Ways.{AreEach, AreWalks, sought_by}
 
 -- ── lists of pairs ──
 
@@ -29,16 +31,6 @@ all_of : {A : Type 0} (P : A → Type 0) (xs : List A) → ((x : A) → In x xs 
 all_of P [] f i d l = absurd (omega (arith, l))
 all_of P (x ∷ xs) f zero d l = f x (inl refl)
 all_of P (x ∷ xs) f (suc i) d l = all_of P xs (λ y m. f y (inr m)) i d (omega (arith, l))
-
-pub in_map : {A B : Type 0} (f : A → B) (x : A) (xs : List A) → In x xs → In (f x) (map f xs)
-in_map f x [] m = absurd m
-in_map f x (y ∷ ys) (inl e) = inl (ap f e)
-in_map f x (y ∷ ys) (inr m) = inr (in_map f x ys m)
-
-pub of_map : {A B : Type 0} (f : A → B) (y : B) (xs : List A) → In y (map f xs) → (x : A) × In x xs × (y ≡ f x)
-of_map f y [] m = absurd m
-of_map f y (x ∷ xs) (inl e) = (x, inl refl, e)
-of_map f y (x ∷ xs) (inr m) = let r = of_map f y xs m in (r.0, inr r.1, r.2)
 
 pairs_map : {A B : Type 0} (R : A → A → Type 0) (S : B → B → Type 0) (f : A → B)
     → ((a b : A) → R a b → S (f a) (f b)) → (xs : List A) → AllPairs R xs → AllPairs S (map f xs)

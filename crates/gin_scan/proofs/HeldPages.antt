@@ -9,12 +9,12 @@ use Rattle.core_state.specs.Documents.{page_of}
 use Rattle.core_state.specs.Readings.{Read, AreReads}
 use Rattle.core_state.proofs.PageLists.{in_either}
 use Rattle.core_moments.specs.Walk.{Walk, reads_of}
+use Rattle.gin_hits.proofs.JudgedScan.{in_all}
 use Rattle.gin_scan.specs.Reading.{LeadOn}
 use Rattle.gin_scan.specs.Taking.{first_items}
 use Rattle.gin_scan.specs.Held.{AreChains, ArePages}
 use Rattle.gin_scan.specs.declared.stage.LongVector.{LongVector}
 use Rattle.gin_scan.proofs.Growing.{reads_since}
-use Rattle.gin_scan.proofs.JudgedScan.{in_all}
 
 abbrev all_reads : List (List Read) → List Read
 all_reads xs = flat_map (λ (x : List Read). x) xs

@@ -13,10 +13,13 @@ use Rattle.core_moments.specs.Walk.{AreLeaves, beyond, reads_of}
 use Rattle.core_moments.specs.OpenWalk.{AreOfTrees, ReadsTree, trees_on}
 use Rattle.core_moments.proofs.NamedTrees.{trees_named}
 use Rattle.core_moments.specs.Law.{IsWalkFrom}
-use Rattle.gin_scan.specs.Entries.{HaveTrees}
-use Rattle.gin_scan.specs.Inner.Judged.{AreJudged}
-use Rattle.gin_scan.specs.Sides.{AreInOrder, HaveSame, TellOfWalk, WasRead, AreKeptOf, AreKept}
-use Rattle.gin_scan.specs.Ways.{AreOrdered, IsGoingDown}
+use Rattle.gin_hits.specs.Entries.{HaveTrees}
+use Rattle.gin_hits.specs.Judged.{AreJudged}
+use Rattle.gin_hits.specs.Sides.{AreInOrder, HaveSame, TellOfWalk, WasRead, AreKeptOf, AreKept}
+use Rattle.gin_hits.specs.Ordered.{AreOrdered}
+use Rattle.gin_hits.proofs.JudgedScan.{in_all, may_was_read, are_kept}
+use Rattle.gin_hits.proofs.ToldHits.{pending_told, main_told}
+use Rattle.gin_scan.specs.Ways.{IsGoingDown}
 use Rattle.gin_scan.specs.Reading.{ReadsWalkBy, ReadsKeysBy, WereReadOn}
 use Rattle.gin_scan.specs.Taking.{AreTaken}
 use Rattle.gin_scan.specs.Scanning.{AsksFor, IsScan, HasRead, HasJudged, HasTaken, order_in, sought_in}
@@ -25,9 +28,7 @@ use Rattle.gin_scan.specs.declared.stage.LongVector.{LongVector}
 use Rattle.gin_scan.specs.declared.stage.Stage.TheVariants as stage
 use Rattle.gin_scan.proofs.EndedWalks.{order_sought, all_ended}
 use Rattle.gin_scan.proofs.Growing.{reads_since, follows}
-use Rattle.gin_scan.proofs.JudgedScan.{in_all, may_was_read, are_kept}
 use Rattle.gin_scan.proofs.HeldPages.{walk_pages}
-use Rattle.gin_scan.proofs.ToldHits.{pending_told, main_told}
 
 -- ── what was done ──
 

@@ -18,12 +18,12 @@ use Rattle.core_moments.specs.Walk.{rightward}
 use Rattle.buffer_frames.specs.Frames.{FramesValue, Stands, Lies}
 use Rattle.buffer_frames.specs.Homes.{home_at}
 use Rattle.buffer_frames.proofs.HomesLie.{lies_shown}
-use Rattle.gin_scan.specs.Rows.{items_with, lists_of, rows_read, first_of_rows, first_read, AreNoted}
+use Rattle.gin_hits.specs.Rows.{items_with, lists_of, rows_read, first_of_rows, first_read, AreNoted}
+use Rattle.gin_hits.proofs.Noted.{rows_more}
 use Rattle.gin_scan.specs.Reading.{IsNoHit, IsUnjudged, IsUnread, ReadsListBy, has_read}
 use Rattle.gin_scan.specs.declared.scan_core.ScanCore.{ScanCore}
 use Rattle.gin_scan.specs.declared.stage.Stage.{Stage}
 use Rattle.gin_scan.proofs.Growing.{lead_more}
-use Rattle.gin_scan.proofs.Noted.{rows_more}
 
 -- ── a page that lies in memory is one of the log ──
 

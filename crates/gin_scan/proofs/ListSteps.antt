@@ -18,15 +18,16 @@ use Rattle.buffer_frames.specs.Passes.{IsPassOf}
 use Rattle.buffer_frames.specs.declared.pass.Pass.{Pass}
 use Rattle.buffer_frames.proofs.AtHand.{log_length}
 use Rattle.buffer_frames.proofs.FirstLogs.{shown_by}
-use Rattle.gin_scan.specs.Rows.{asked_by, lists_of, first_of_rows, AreNoted}
+use Rattle.gin_hits.specs.Rows.{asked_by, lists_of, first_of_rows, AreNoted}
+use Rattle.gin_hits.specs.Ordered.{asked_at}
+use Rattle.gin_hits.proofs.ToldHits.{lists_length}
 use Rattle.gin_scan.specs.Reading.{ReadsList}
 use Rattle.gin_scan.specs.Scanning.{AsksFor, IsScan, HasRead, IsScanOf, asked_in, order_in, sought_in, stages_left}
 use Rattle.gin_scan.specs.Scanning.{steps_of, steps_left}
-use Rattle.gin_scan.specs.Ways.{asked_at, sought_by}
+use Rattle.gin_scan.specs.Ways.{sought_by}
 use Rattle.gin_scan.specs.declared.scan_core.ScanCore.{ScanCore}
 use Rattle.gin_scan.specs.declared.stage.Stage.{Stage}
 use Rattle.gin_scan.specs.declared.stage.Stage.TheVariants as stage
-use Rattle.gin_scan.proofs.ToldHits.{lists_length}
 use Rattle.gin_scan.proofs.Growing.{reads_more}
 use Rattle.gin_scan.proofs.ListRead.{now, read_now, meta_read, page_read, list_further}
 use Rattle.gin_scan.proofs.StepsTaken.{Known}

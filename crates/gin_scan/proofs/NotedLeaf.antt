@@ -14,10 +14,11 @@ use Rattle.core_moments.specs.Walk as walk
 use Rattle.core_moments.specs.Walk.{Sought, fits, first_key, sought_of}
 use Rattle.core_moments.specs.Judging.{fits_asked}
 use Rattle.core_moments.specs.OpenWalk.{NamedTree, tree_of, trees_on}
-use Rattle.gin_scan.specs.Entries.{entries_with, AreNotedUnder}
+use Rattle.gin_hits.specs.Entries.{entries_with, AreNotedUnder}
+use Rattle.gin_hits.specs.Trees.{trees_under}
+use Rattle.gin_hits.specs.declared.hits.Hits.{Hits}
 use Rattle.gin_scan.specs.Scanning.{sought_for, walked_by}
-use Rattle.gin_scan.specs.Inner.Ways.{NotesEntries, NamesTrees, trees_under}
-use Rattle.gin_scan.specs.declared.hits.Hits.{Hits}
+use Rattle.gin_scan.specs.Inner.Ways.{NotesEntries, NamesTrees}
 use Rattle.gin_scan.proofs.SoughtFor.{IsFor, is_for}
 
 -- the trees that entries name which fit are those of the entries that fit

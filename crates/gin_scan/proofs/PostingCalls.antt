@@ -10,6 +10,7 @@ use Rattle.buffer_frames.specs.Frames.{FramesValue}
 use Rattle.buffer_frames.specs.declared.frame_error.FrameError.{FrameError}
 use Rattle.buffer_frames.specs.declared.frame_error.FrameError.TheVariants.{Down}
 use Rattle.buffer_frames.specs.declared.pass.Pass.{Pass}
+use Rattle.gin_hits.proofs.JudgedScan.{element_at}
 use Rattle.gin_scan.specs.Calls.{LieStill, ReadsOn}
 use Rattle.gin_scan.specs.Causes.{CannotRead, CannotStep}
 use Rattle.gin_scan.specs.Scanning.{IsScan, IsWithin, sought_in}
@@ -18,7 +19,6 @@ use Rattle.gin_scan.specs.Inner.Ways.{GoesToTree}
 use Rattle.gin_scan.specs.declared.scan_core.ScanCore.{ScanCore}
 use Rattle.gin_scan.specs.declared.stage.Stage.{Stage}
 use Rattle.gin_scan.specs.declared.stage.Stage.TheVariants as stage
-use Rattle.gin_scan.proofs.JudgedScan.{element_at}
 use Rattle.gin_scan.proofs.StepsTaken.{stepped_by}
 use Rattle.gin_scan.proofs.PostingCauses.{tree_ends, posting_cause}
 use Rattle.gin_scan.proofs.PostingCounted.{over_counted, posting_further_counted}

@@ -9,13 +9,13 @@ use Rattle.core_moments.specs.Walk.{Sought, along}
 use Rattle.core_moments.specs.OpenLaws.{IsPostingPage}
 use Rattle.core_moments.specs.OpenWalk.{ReadsInTree}
 use Rattle.buffer_frames.specs.Frames.{FramesValue, Lies}
+use Rattle.gin_hits.specs.Entries.{AreNotedUnder, posting_entry}
+use Rattle.gin_hits.specs.declared.hits.Hits.{Hits}
 use Rattle.gin_scan.specs.Calls.{LieStill}
-use Rattle.gin_scan.specs.Entries.{AreNotedUnder, posting_entry}
 use Rattle.gin_scan.specs.Ways.{IsGoingInTrees}
 use Rattle.gin_scan.specs.Reaching.{WalkLies, LeadsSomewhere, IsOnTree, IsReached}
 use Rattle.gin_scan.specs.Scanning.{AsksFor, sought_in, trees_in, trees_from}
 use Rattle.gin_scan.specs.Inner.Ways.{NotesPosting, GoesToTree}
-use Rattle.gin_scan.specs.declared.hits.Hits.{Hits}
 use Rattle.gin_scan.specs.declared.scan_core.ScanCore.{ScanCore}
 use Rattle.gin_scan.specs.declared.stage.Stage.{Stage}
 use Rattle.gin_scan.specs.declared.stage.Stage.TheVariants as stage

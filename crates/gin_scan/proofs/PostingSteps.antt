@@ -11,13 +11,13 @@ use Rattle.gin_opclass.specs.Class.{Asked, Meaning}
 use Rattle.core_moments.specs.Walk.{Walk, KeyWalk, Sought, IsKeyWalk, along, reads_of, leaf_reads}
 use Rattle.core_moments.specs.OpenWalk.{ReadsTree}
 use Rattle.buffer_frames.specs.Frames.{FramesValue, Lies}
-use Rattle.gin_scan.specs.Entries.{AreNotedUnder, posting_entry}
+use Rattle.gin_hits.specs.Entries.{AreNotedUnder, posting_entry}
+use Rattle.gin_hits.specs.declared.hits.Hits.{Hits}
 use Rattle.gin_scan.specs.Ways.{IsGoingInTrees}
 use Rattle.gin_scan.specs.Reading.{ReadsKeysBy, WereReadOn}
 use Rattle.gin_scan.specs.Scanning.{AsksFor, HasRead, IsScanOf, sought_in, steps_left, steps_on_way}
 use Rattle.gin_scan.specs.Scanning.{trees_in, trees_from}
 use Rattle.gin_scan.specs.Inner.Ways.{NotesPosting, GoesToTree}
-use Rattle.gin_scan.specs.declared.hits.Hits.{Hits}
 use Rattle.gin_scan.specs.declared.scan_core.ScanCore.{ScanCore}
 use Rattle.gin_scan.specs.declared.stage.Stage.{Stage}
 use Rattle.gin_scan.specs.declared.stage.Stage.TheVariants as stage

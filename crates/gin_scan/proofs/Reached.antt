@@ -26,6 +26,10 @@ use Rattle.core_moments.specs.Judging.{IsKept}
 use Rattle.buffer_frames.specs.Frames.{FramesValue, Lies}
 use Rattle.buffer_frames.specs.declared.frame_error.FrameError.TheVariants.{BadPage, OutOfMemory}
 use Rattle.buffer_frames.specs.declared.pass.Pass.{Pass}
+use Rattle.gin_hits.specs.Rows.{lists_of, first_of_rows, AreNoted}
+use Rattle.gin_hits.specs.Ordered.{AreOrdered}
+use Rattle.gin_hits.specs.Sides.{AreKept}
+use Rattle.gin_hits.proofs.JudgedScan.{element_in, element_at}
 use Rattle.gin_scan.specs.Calls.{LieStill}
 use Rattle.gin_scan.specs.Counting.{IsCounted}
 use Rattle.gin_scan.specs.Causes.{HasMeta, HasRows, HasWay, HasPart, HasSlots, CannotUse, CannotStep}
@@ -33,13 +37,11 @@ use Rattle.gin_scan.specs.Reading.{ReadsListBy, ReadsKeysBy}
 use Rattle.gin_scan.specs.Reaching.{posting_reads, AreLying, ListLies, ListLeads, WayLies}
 use Rattle.gin_scan.specs.Reaching.{WalkLies, WalkLeads, LeadsSomewhere}
 use Rattle.gin_scan.specs.Reaching.{HeadLeads, PartsLead, HasMet, HasMetLong, IsOnTree, IsReached, IsBadOnPath}
-use Rattle.gin_scan.specs.Rows.{lists_of, first_of_rows, AreNoted}
-use Rattle.gin_scan.specs.Ways.{AreOrdered, IsGoingDown, IsGoingAlong, IsGoingInTrees}
+use Rattle.gin_scan.specs.Ways.{IsGoingDown, IsGoingAlong, IsGoingInTrees}
 use Rattle.core_moments.specs.OpenLaws.{IsLeaf, IsPostingPage}
 use Rattle.core_moments.specs.OpenWalk.{ReadsInTree, IsOnWay, IsAmongLeaves, IsInTrees}
 use Rattle.gin_scan.specs.Scanning.{AsksFor, IsScan, IsWithin, asked_in, order_in, sought_in, trees_from}
 use Rattle.gin_scan.specs.Seen.{AreSeen}
-use Rattle.gin_scan.specs.Sides.{AreKept}
 use Rattle.gin_scan.specs.Inner.Heads.{Takes, TakesIfSeen, TakesDocuments, long_at}
 use Rattle.gin_scan.specs.Inner.Parts.{BeginsLong}
 use Rattle.gin_scan.specs.Inner.Steps.{HasStepped}
@@ -51,7 +53,6 @@ use Rattle.gin_scan.proofs.Growing.{lead_more}
 use Rattle.gin_scan.proofs.HeadsRead.{seen_at, seen_length, range_length, get_range}
 use Rattle.gin_scan.proofs.EndedWalks.{order_sought}
 use Rattle.gin_scan.proofs.ListRead.{meta_read, page_read, list_further}
-use Rattle.gin_scan.proofs.JudgedScan.{element_in, element_at}
 use Rattle.gin_scan.proofs.WaysRead.{one_down, one_along, one_in_trees}
 
 -- ── pages that lie still ──

@@ -12,10 +12,11 @@ use Rattle.gin_opclass.specs.declared.QueryKeys.{QueryKeys}
 use Rattle.core_moments.specs.Walk as walk
 use Rattle.core_moments.specs.Walk.{Sought, first_key, fits, sought_of, is_empty}
 use Rattle.core_moments.specs.Judging.{fits_asked}
-use Rattle.gin_scan.specs.Rows.{asked_for}
-use Rattle.gin_scan.specs.Entries.{entries_with}
+use Rattle.gin_hits.specs.Rows.{asked_for}
+use Rattle.gin_hits.specs.Entries.{entries_with}
+use Rattle.gin_hits.specs.Ordered.{asked_at}
 use Rattle.gin_scan.specs.Scanning.{sought_for, walked_by}
-use Rattle.gin_scan.specs.Ways.{asked_at, sought_by}
+use Rattle.gin_scan.specs.Ways.{sought_by}
 use Rattle.gin_scan.proofs.EndedWalks.{key_of}
 
 -- ── what the code takes ──

@@ -12,12 +12,13 @@ use Rattle.buffer_frames.specs.Passes.{IsPassOf, HasAdded, GoesOnBy, pin_in}
 use Rattle.buffer_frames.specs.declared.pass.Pass.{Pass}
 use Rattle.buffer_frames.proofs.Added.{none_by_kinds}
 use Rattle.gin_opclass.specs.declared.QueryKeys.{QueryKeys}
-use Rattle.gin_scan.specs.Rows.{asked_by}
+use Rattle.gin_hits.specs.Rows.{asked_by}
+use Rattle.gin_hits.specs.Sides.{AreKept}
+use Rattle.gin_hits.specs.Ordered.{AreOrdered, asked_at}
 use Rattle.gin_scan.specs.Calls.{ReadsOn}
 use Rattle.gin_scan.specs.Counting.{CountsOn}
-use Rattle.gin_scan.specs.Sides.{AreKept}
 use Rattle.gin_scan.specs.Reaching.{IsReached}
-use Rattle.gin_scan.specs.Ways.{AreOrdered, asked_at, sought_by}
+use Rattle.gin_scan.specs.Ways.{sought_by}
 use Rattle.gin_scan.specs.Scanning.{IsScan, IsWithin, HasJudged, IsScanning, IsScanOf, Scanning, steps_left, sought_in}
 use Rattle.gin_scan.specs.Inner.Steps.{MayStep, HasStepped}
 use Rattle.gin_scan.specs.declared.scan_core.ScanCore.{ScanCore}

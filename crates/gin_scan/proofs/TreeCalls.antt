@@ -10,6 +10,7 @@ use Rattle.buffer_frames.specs.Frames.{FramesValue}
 use Rattle.buffer_frames.specs.declared.frame_error.FrameError.{FrameError}
 use Rattle.buffer_frames.specs.declared.frame_error.FrameError.TheVariants.{Down}
 use Rattle.buffer_frames.specs.declared.pass.Pass.{Pass}
+use Rattle.gin_hits.proofs.JudgedScan.{element_at}
 use Rattle.gin_scan.specs.Calls.{LieStill, ReadsOn}
 use Rattle.core_moments.specs.OpenLaws.{IsLeaf}
 use Rattle.gin_scan.specs.Causes.{HasWay, CannotRead, CannotStep}
@@ -19,7 +20,6 @@ use Rattle.gin_scan.specs.Inner.Ways.{IsOnWalk, stage_with}
 use Rattle.gin_scan.specs.declared.scan_core.ScanCore.{ScanCore}
 use Rattle.gin_scan.specs.declared.stage.Stage.{Stage}
 use Rattle.gin_scan.specs.declared.stage.Stage.TheVariants as stage
-use Rattle.gin_scan.proofs.JudgedScan.{element_at}
 use Rattle.gin_scan.proofs.ListCauses.{tree_any}
 use Rattle.gin_scan.proofs.StepsTaken.{stepped_by}
 use Rattle.gin_scan.proofs.TreeCauses.{way_ends, leaves_end, way_cause, leaf_cause}

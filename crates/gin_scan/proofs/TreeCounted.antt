@@ -9,12 +9,13 @@ use Rattle.page_types.specs.Views.{entries_of}
 use Rattle.page_types.specs.declared.page.Page.{Page}
 use Rattle.core_moments.specs.Walk.{Sought, beyond}
 use Rattle.core_moments.specs.OpenWalk.{trees_on}
+use Rattle.gin_hits.specs.Trees.{named_by}
+use Rattle.gin_hits.specs.declared.entries.TreeRoot.{TreeRoot}
 use Rattle.gin_scan.specs.Inner.Ways.{NotesLeaf, GoesOn, GoesToTree}
 use Rattle.gin_scan.specs.Counting.{IsBounded, CountsOn, most_on_ways}
-use Rattle.gin_scan.specs.Scanning.{sought_in, named_by, trees_in}
+use Rattle.gin_scan.specs.Scanning.{sought_in, trees_in}
 use Rattle.gin_scan.specs.declared.scan_core.ScanCore.{ScanCore}
 use Rattle.gin_scan.specs.declared.stage.Stage.{Stage}
-use Rattle.gin_scan.specs.declared.stage.TreeRoot.{TreeRoot}
 use Rattle.gin_scan.specs.declared.stage.Stage.TheVariants as stage
 use Rattle.gin_scan.proofs.Counted.{counts_by}
 use Rattle.gin_scan.proofs.TreeSteps.{goes_as}

@@ -18,18 +18,19 @@ use Rattle.core_moments.specs.Walk.{Walk, KeyWalk, LeafRead, Sought, toward, bey
 use Rattle.core_moments.specs.OpenLaws.{IsLeaf, IsPostingPage}
 use Rattle.core_moments.specs.OpenWalk.{AreOfTrees, ReadsInTree, LeavesLead, WayLeads, trees_on}
 use Rattle.buffer_frames.specs.Frames.{FramesValue, Lies}
+use Rattle.gin_hits.specs.Entries.{AreNotedUnder, entries_with}
+use Rattle.gin_hits.specs.Trees.{trees_of}
+use Rattle.gin_hits.specs.declared.hits.Hits.{Hits}
+use Rattle.gin_hits.specs.declared.entries.TreeRoot.{TreeRoot}
 use Rattle.gin_scan.specs.Calls.{LieStill}
 use Rattle.gin_scan.specs.Causes.{HasWay}
-use Rattle.gin_scan.specs.Entries.{AreNotedUnder, entries_with}
 use Rattle.gin_scan.specs.Reading.{ReadsListBy, ReadsKeysBy}
 use Rattle.gin_scan.specs.Reaching.{AreLying, ListLies, WayLies, WaysLie, WalkLies, WalkLeads, LeadsSomewhere, IsOnTree}
 use Rattle.gin_scan.specs.Reaching.{IsReached, posting_reads}
-use Rattle.gin_scan.specs.Scanning.{AsksFor, IsScan, sought_in, trees_of, trees_from}
+use Rattle.gin_scan.specs.Scanning.{AsksFor, IsScan, sought_in, trees_from}
 use Rattle.gin_scan.specs.Ways.{AreEach, AreWalks, IsGoingDown, IsGoingAlong, IsGoingInTrees}
 use Rattle.gin_scan.specs.Inner.Ways.{NotesLeaf, GoesOn, GoesToTree}
-use Rattle.gin_scan.specs.declared.hits.Hits.{Hits}
 use Rattle.gin_scan.specs.declared.scan_core.ScanCore.{ScanCore}
-use Rattle.gin_scan.specs.declared.stage.TreeRoot.{TreeRoot}
 use Rattle.gin_scan.specs.declared.stage.Stage.TheVariants as stage
 use Rattle.gin_scan.proofs.AtTrees.{IsGoingToTrees, goes_on}
 use Rattle.gin_scan.proofs.BegunWalks.{fresh_for}

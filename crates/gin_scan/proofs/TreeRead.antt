@@ -10,12 +10,12 @@ use Rattle.gin_opclass.specs.Class.{Asked}
 use Rattle.core_moments.specs.Walk.{Walk, KeyWalk, LeafRead, Sought, toward, beyond, first_key, fits, reads_of}
 use Rattle.core_moments.specs.Walk.{leaf_reads}
 use Rattle.core_moments.specs.Law.{path_of}
-use Rattle.gin_scan.specs.Rows.{lists_of}
-use Rattle.gin_scan.specs.Entries.{entries_with, entries_read, AreNotedUnder}
+use Rattle.gin_hits.specs.Rows.{lists_of}
+use Rattle.gin_hits.specs.Entries.{entries_with, entries_read, AreNotedUnder}
+use Rattle.gin_hits.specs.declared.hits.Hits.{Hits}
 use Rattle.gin_scan.specs.Ways.{IsGoingDown, IsGoingAlong}
 use Rattle.core_moments.specs.OpenWalk.{IsOnWay, IsAmongLeaves, trees_on}
 use Rattle.gin_scan.specs.Reading.{IsUnjudged, ReadsListBy, ReadsKeysBy}
-use Rattle.gin_scan.specs.declared.hits.Hits.{Hits}
 use Rattle.gin_scan.specs.declared.scan_core.ScanCore.{ScanCore}
 use Rattle.gin_scan.specs.declared.stage.Stage.{Stage}
 use Rattle.gin_scan.proofs.BegunWalks.{fresh_for, first_walk, first_last, next_walk, next_last}

@@ -20,19 +20,21 @@ use Rattle.core_moments.specs.Walk.{leaf_reads}
 use Rattle.core_moments.specs.OpenLaws.{IsLeaf}
 use Rattle.core_moments.specs.OpenWalk.{NamedTree, ReadsTree, trees_on}
 use Rattle.buffer_frames.specs.Frames.{FramesValue, Lies}
-use Rattle.gin_scan.specs.Rows.{lists_of}
+use Rattle.gin_hits.specs.Rows.{lists_of}
+use Rattle.gin_hits.specs.Entries.{AreNotedUnder, entries_with}
+use Rattle.gin_hits.specs.Trees.{named_by, trees_of}
+use Rattle.gin_hits.specs.declared.hits.Hits.{Hits}
+use Rattle.gin_hits.specs.declared.entries.TreeRoot.{TreeRoot}
+use Rattle.gin_hits.proofs.ToldHits.{lists_length}
 use Rattle.gin_scan.specs.Causes.{HasWay}
-use Rattle.gin_scan.specs.Entries.{AreNotedUnder, entries_with}
 use Rattle.gin_scan.specs.Ways.{IsGoingDown, IsGoingAlong, IsGoingInTrees}
 use Rattle.gin_scan.specs.Reading.{ReadsList, ReadsKeysBy, WereReadOn}
 use Rattle.gin_scan.specs.Scanning.{AsksFor, IsScan, IsWithin, HasRead, IsScanOf, sought_in, stages_left}
 use Rattle.gin_scan.specs.Scanning.{steps_of}
-use Rattle.gin_scan.specs.Scanning.{steps_left, named_by, trees_of, trees_in, trees_from}
+use Rattle.gin_scan.specs.Scanning.{steps_left, trees_in, trees_from}
 use Rattle.gin_scan.specs.Inner.Ways.{NotesLeaf, NamesTrees, GoesOn, GoesToTree}
-use Rattle.gin_scan.specs.declared.hits.Hits.{Hits}
 use Rattle.gin_scan.specs.declared.scan_core.ScanCore.{ScanCore}
 use Rattle.gin_scan.specs.declared.stage.Stage.{Stage}
-use Rattle.gin_scan.specs.declared.stage.TreeRoot.{TreeRoot}
 use Rattle.gin_scan.specs.declared.stage.Stage.TheVariants as stage
 use Rattle.gin_scan.proofs.AtTrees.{IsGoingToTrees, goes_on}
 use Rattle.gin_scan.proofs.Growing.{reads_more}
@@ -40,7 +42,6 @@ use Rattle.gin_scan.proofs.JudgedList.{JudgesAll, judged_all}
 use Rattle.gin_scan.proofs.ListRead.{now}
 use Rattle.gin_scan.proofs.ListSteps.{was_shown, keys_asked, steps_at}
 use Rattle.gin_scan.proofs.StepsTaken.{Known}
-use Rattle.gin_scan.proofs.ToldHits.{lists_length}
 use Rattle.gin_scan.proofs.TreeRead.{first_reads, next_reads}
 use Rattle.gin_scan.proofs.TreeRead.{tree_begun, next_begun, keys_further, way_read, end_read, leaf_more}
 use Rattle.gin_scan.proofs.WaySteps.{more_down, at_leaf, more_leaves, down_reads, leaf_read, leaves_read, ends}

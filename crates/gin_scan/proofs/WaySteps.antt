@@ -11,7 +11,7 @@ use Rattle.core_moments.specs.Walk.{toward, beyond, first_key, fits, leaf_reads,
 use Rattle.core_moments.specs.OpenWalk.{NamedTree, AreOfTrees, ReadsTree, LeavesLead, IsOnWay, HasComeDown}
 use Rattle.core_moments.specs.OpenWalk.{IsAmongLeaves, trees_on}
 use Rattle.core_moments.proofs.NamedTrees.{trees_read}
-use Rattle.gin_scan.specs.Entries.{entries_with, entries_in_trees, entries_under, entries_on, entries_read}
+use Rattle.gin_hits.specs.Entries.{entries_with, entries_in_trees, entries_under, entries_on, entries_read}
 
 -- ── chains ──
 

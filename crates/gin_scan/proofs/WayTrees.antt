@@ -12,8 +12,8 @@ use Rattle.core_moments.specs.Law.{path_of}
 use Rattle.core_moments.specs.OpenWalk.{NamedTree, AreOfTrees, ReadsTree, ReadsInTree, LeavesLead, HasComeDown}
 use Rattle.core_moments.specs.OpenWalk.{IsAmongLeaves, IsInTrees, LeadOn, trees_on}
 use Rattle.core_moments.proofs.OpenTrees.{lead_then}
-use Rattle.gin_scan.specs.Entries.{entries_with, entries_in_trees, entries_under, entries_on, entries_read}
-use Rattle.gin_scan.specs.Entries.{posting_entry}
+use Rattle.gin_hits.specs.Entries.{entries_with, entries_in_trees, entries_under, entries_on, entries_read}
+use Rattle.gin_hits.specs.Entries.{posting_entry}
 use Rattle.gin_scan.proofs.WaySteps.{IsAtTrees, entries_join, leaves_more, none_in_trees}
 
 -- ── the walk ──

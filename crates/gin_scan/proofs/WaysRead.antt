@@ -7,8 +7,8 @@ use Rattle.core_state.specs.Readings.{Read}
 use Rattle.gin_opclass.specs.Class.{Asked}
 use Rattle.core_moments.specs.Walk.{Walk, KeyWalk, Sought, leaf_reads, key_reads, reads_of}
 use Rattle.core_moments.specs.Law.{path_of}
-use Rattle.gin_scan.specs.Rows.{rows_read, AreNoted}
-use Rattle.gin_scan.specs.Entries.{entries_read, AreNotedUnder}
+use Rattle.gin_hits.specs.Rows.{rows_read, AreNoted}
+use Rattle.gin_hits.specs.Entries.{entries_read, AreNotedUnder}
 use Rattle.gin_scan.specs.Ways.{AreWalks, IsGoingDown, IsGoingAlong, IsGoingInTrees}
 use Rattle.core_moments.specs.OpenWalk.{NamedTree, IsOnWay, IsAmongLeaves, IsInTrees}
 use Rattle.gin_scan.specs.Reading.{IsUnjudged, ReadsKeysBy}

@@ -8,7 +8,7 @@ use Rattle.core_state.specs.Legal.{Pin}
 use Rattle.gin_opclass.specs.Class.{Meaning}
 use Rattle.core_moments.specs.Walk.{Walk}
 use Rattle.core_moments.specs.Law.{IsWalkFrom}
-use Rattle.gin_scan.specs.Sides.{AreKept}
+use Rattle.gin_hits.specs.Sides.{AreKept}
 use Rattle.gin_scan.specs.Held.{AreLong, ArePages}
 use Rattle.gin_scan.specs.declared.found.Found.{Found}
 use Rattle.gin_scan.specs.declared.stage.LongVector.{LongVector}

@@ -1,11 +1,6 @@
-pub mod Searching
 pub mod Begun
-pub mod Judged
 pub mod Steps
 pub mod Looks
 pub mod Heads
 pub mod Parts
 pub mod Ways
-pub mod Keys
-pub mod Near
-pub mod Marks

@@ -1,7 +1,4 @@
-pub mod Rows
-pub mod Sides
 pub mod Seen
-pub mod Entries
 pub mod Ways
 pub mod Reading
 pub mod Taking

@@ -15,13 +15,13 @@ use Rattle.core_moments.specs.Walk.{Walk, KeyWalk, LeafRead, Sought, tree_reads}
 use Rattle.core_moments.specs.Law.{AreSought}
 use Rattle.core_moments.specs.Judging.{IsKept}
 use Rattle.buffer_frames.specs.Frames.{FramesValue, Lies}
+use Rattle.gin_hits.specs.Sides.{AreKept}
 use Rattle.gin_scan.specs.Causes.{HasMeta, HasRows, HasWay, HasSlots, HasPart, CannotUse}
 use Rattle.gin_scan.specs.Ways.{IsGoingDown, IsGoingAlong, IsGoingInTrees}
 use Rattle.core_moments.specs.OpenLaws.{IsLeaf, IsPostingPage}
 use Rattle.core_moments.specs.OpenWalk.{NamedTree, ReadsInTree, IsOnWay, IsAmongLeaves, IsInTrees, WayLeads}
 use Rattle.gin_scan.specs.Reading.{LeadOn, IsUnread, ReadsListBy, ReadsKeysBy}
 use Rattle.gin_scan.specs.Scanning.{sought_in, trees_from}
-use Rattle.gin_scan.specs.Sides.{AreKept}
 use Rattle.gin_scan.specs.declared.scan_core.ScanCore.{ScanCore}
 use Rattle.gin_scan.specs.declared.stage.Stage.{Stage}
 use Rattle.gin_scan.specs.declared.stage.Stage.TheVariants as stage

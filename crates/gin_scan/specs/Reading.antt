@@ -8,10 +8,10 @@ use Rattle.gin_opclass.specs.Class.{Asked}
 use Rattle.core_moments.specs.Walk.{Sought, KeyWalk, Walk, rightward, reads_of}
 use Rattle.core_moments.specs.Law.{path_of}
 use Rattle.core_moments.specs.OpenWalk as open_walk
-use Rattle.gin_scan.specs.Rows.{lists_of, rows_read, first_read, AreNoted}
-use Rattle.gin_scan.specs.Entries.{entries_read, AreNotedUnder}
+use Rattle.gin_hits.specs.Rows.{lists_of, rows_read, first_read, AreNoted}
+use Rattle.gin_hits.specs.Entries.{entries_read, AreNotedUnder}
+use Rattle.gin_hits.specs.declared.hits.Hits.{Hits}
 use Rattle.gin_scan.specs.Ways.{AreWalks}
-use Rattle.gin_scan.specs.declared.hits.Hits.{Hits}
 use Rattle.gin_scan.specs.declared.scan_core.ScanCore.{ScanCore}
 use Rattle.gin_scan.specs.declared.stage.LongVector.{LongVector}
 

@@ -17,10 +17,12 @@ use Rattle.core_moments.specs.Law.{IsWalkFrom}
 use Rattle.buffer_frames.specs.Frames.{FramesValue, Behind}
 use Rattle.buffer_frames.specs.Passes.{IsPassOf, pin_in}
 use Rattle.buffer_frames.specs.declared.pass.Pass.{Pass}
-use Rattle.gin_scan.specs.Rows.{asked_by, asked_for}
-use Rattle.gin_scan.specs.Sides.{AreKept}
+use Rattle.gin_hits.specs.Rows.{asked_by, asked_for}
+use Rattle.gin_hits.specs.Sides.{AreKept}
 use Rattle.core_moments.specs.OpenWalk.{NamedTree, ReadsTree}
-use Rattle.gin_scan.specs.Ways.{AreOrdered, IsGoingDown, IsGoingAlong, IsGoingInTrees, asked_at, sought_by}
+use Rattle.gin_hits.specs.Ordered.{AreOrdered, asked_at}
+use Rattle.gin_hits.specs.Trees.{trees_of}
+use Rattle.gin_scan.specs.Ways.{IsGoingDown, IsGoingAlong, IsGoingInTrees, sought_by}
 use Rattle.gin_scan.specs.Reading.{IsUnread, ReadsList, ReadsKeysBy, WereReadOn, ReadsParts}
 use Rattle.gin_scan.specs.Taking.{AreTaken, first_items}
 use Rattle.gin_scan.specs.Held.{ArePages}
@@ -28,7 +30,6 @@ use Rattle.gin_scan.specs.declared.scan_core.ScanCore.{ScanCore}
 use Rattle.gin_scan.specs.declared.stage.Stage.{Stage}
 use Rattle.gin_scan.specs.declared.stage.Stage.TheVariants as stage
 use Rattle.gin_scan.specs.declared.stage.LongVector.{LongVector}
-use Rattle.gin_scan.specs.declared.stage.TreeRoot.{TreeRoot}
 use Rattle.gin_opclass.specs.declared.QueryKeys.{QueryKeys}
 
 -- ── of every device ──
@@ -53,15 +54,6 @@ abbrev pub sought_in : ScanCore → List Sought
 sought_in s = sought_for s.keys s.order.items
 
 -- the posting trees that the leaves which it has read named
-abbrev pub named_tree : List ℕ → ℕ → NamedTree
-named_tree k r = record { key = k; root = r }
-
-abbrev pub named_by : TreeRoot → NamedTree
-named_by t = named_tree t.key.items t.root
-
-abbrev pub trees_of : List TreeRoot → List NamedTree
-trees_of ts = map named_by ts
-
 abbrev pub trees_in : ScanCore → List NamedTree
 trees_in s = trees_of s.roots.items
 

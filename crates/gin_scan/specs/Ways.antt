@@ -1,31 +1,12 @@
 -- How far the walks through the tree have come, key by key.
-use Rattle.std.specs.Prelude.{◌≡◌, ◌⊎◌, ◌↔◌, ℕ, ◌+◌, Bool, true, false, cond, ⊤, List, [], ◌∷◌, ◌++◌, map, length}
-use Rattle.std.specs.Prelude.{get_or, Some, None, Vec}
-use Rattle.std.specs.List.{slice_get, AllPairs}
-use Rattle.std.specs.declared.alloc.Global.{Global}
-use Rattle.page_types.specs.Keys.{KeyLess}
-use Rattle.core_state.specs.Log.{In}
+use Rattle.std.specs.Prelude.{◌≡◌, ℕ, ◌+◌, Bool, cond, ⊤, List, [], ◌∷◌, ◌++◌, map, length}
+use Rattle.std.specs.Prelude.{Some, None}
+use Rattle.std.specs.List.{slice_get}
 use Rattle.core_state.specs.Readings.{Read}
 use Rattle.gin_opclass.specs.Class.{Asked}
 use Rattle.core_moments.specs.Walk.{Sought, KeyWalk}
 use Rattle.core_moments.specs.Walk.{sought_of}
 use Rattle.core_moments.specs.OpenWalk.{NamedTree, IsOnWay, IsAmongLeaves, IsInTrees}
-use Rattle.gin_scan.specs.Rows.{asked_by, asked_for}
-
--- ── the order of the keys ──
-
--- the key with this number, no bytes where there is none
-abbrev pub asked_at : List (Vec ℕ Global × Bool) → ℕ → Asked
-asked_at keys k = get_or (map asked_by keys) k (asked_for [] false)
-
--- in key order, a key before its prefix twin
-abbrev pub AskedLess : Asked → Asked → Type 0
-AskedLess a b = KeyLess a.key b.key ⊎ ((a.key ≡ b.key) × (a.prefix ≡ false) × (b.prefix ≡ true))
-
--- the keys that are asked, each once, in their order
-pub record AreOrdered (asked order : List Asked) : Type 0 where
-  pub rising : AllPairs AskedLess order
-  pub just : (a : Asked) → In a order ↔ In a asked
 
 -- what the walks look for, one after another
 abbrev pub sought_by : Bool → List Asked → List Sought

@@ -6,20 +6,18 @@ ghost use Rattle.buffer_frames.specs.declared.frame_error.FrameError.TheVariants
 ghost use Rattle.gin_opclass.specs.Class.{Asked, meaning};
 ghost use Rattle.core_moments.specs.Walk as walk;
 ghost use Rattle.core_moments.specs.Walk.{Sought};
-ghost use Rattle.gin_scan.specs.Rows.{asked_by, asked_for};
+ghost use Rattle.gin_hits.specs.Rows.{asked_by, asked_for};
 ghost use Rattle.core_moments.specs.OpenLaws.{IsLeaf};
-ghost use Rattle.gin_scan.specs.Scanning.{walked_by, sought_for, trees_of};
+ghost use Rattle.gin_hits.specs.Trees.{trees_of};
+ghost use Rattle.gin_scan.specs.Scanning.{walked_by, sought_for};
 ghost use Rattle.gin_scan.specs.Inner.Ways.{NotesEntries, NamesTrees};
 
 use crate::asks::Extent;
-use crate::hits::Hits;
-use crate::judged::judge_met;
-use crate::leaves::{beyond, toward};
-use crate::order::key_at;
 use crate::scan_core::{ScanCore, hold_page, look_on, one_more};
-use crate::stage::{Stage, TreeRoot};
+use crate::stage::Stage;
 use buffer_frames::{FrameError, Frames, Pass};
 use disk_trait::Disk;
+use gin_hits::{Hits, TreeRoot, beyond, judge_met, key_at, toward};
 use gin_opclass::{CompareKeys, Judge, Meaning, OpClass, QueryKeys};
 use page_types::{Body, Page};
 use std::alloc::{AllocError, Global};

@@ -8,18 +8,10 @@
 
 mod asks;
 mod check;
-mod entries;
-mod fitting;
 mod found;
 mod heads;
-mod hits;
-mod judged;
 mod keys;
 mod laws;
-mod leaves;
-mod marks;
-mod near;
-mod order;
 mod parts;
 mod pending;
 mod postings;

@@ -4,7 +4,7 @@ ghost use Rattle.page_types.specs.Views.{kept_rows_of, first_of};
 ghost use Rattle.page_types.specs.declared.page.Row.{Row};
 ghost use Rattle.buffer_frames.specs.declared.frame_error.FrameError.TheVariants.{BadPage, OutOfMemory};
 ghost use Rattle.gin_opclass.specs.Class.{meaning};
-ghost use Rattle.gin_scan.specs.Rows.{first_of_rows};
+ghost use Rattle.gin_hits.specs.Rows.{first_of_rows};
 ghost use Rattle.gin_scan.specs.Causes.{HasMeta, HasRows};
 
 use crate::asks::Extent;
@@ -51,7 +51,7 @@ fn first_item(rows: &Rows) -> Option<u32>
 impl ScanCore {
     ghost use Rattle.std.specs.Prelude.{◌≢◌, ◌-◌, ◌^◌, ◌<◌, [], ◌∷◌, ◌++◌, length, true, false, cond};
     ghost use Rattle.page_types.specs.Pages.{IsPage};
-    ghost use Rattle.gin_scan.specs.Rows.{AreNoted};
+    ghost use Rattle.gin_hits.specs.Rows.{AreNoted};
     ghost use Rattle.gin_scan.specs.Scanning.{IsScan, AsksFor, asked_in};
     ghost use Rattle.gin_scan.specs.Inner.Steps.{MayStep, IsStepOf};
     ghost use Rattle.gin_scan.specs.declared.stage.Stage.TheVariants as stages;

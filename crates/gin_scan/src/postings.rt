@@ -6,7 +6,7 @@ ghost use Rattle.buffer_frames.specs.declared.frame_error.FrameError.TheVariants
 ghost use Rattle.gin_opclass.specs.Class.{meaning};
 ghost use Rattle.core_moments.specs.Walk as walk;
 ghost use Rattle.core_moments.specs.OpenLaws.{IsPostingPage};
-ghost use Rattle.gin_scan.specs.Entries.{posting_list_in};
+ghost use Rattle.gin_hits.specs.Entries.{posting_list_in};
 
 use crate::asks::Extent;
 use crate::scan_core::{ScanCore, hold_page, look_on, one_more};

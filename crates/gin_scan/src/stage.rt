@@ -86,15 +86,6 @@ impl Stage {
     }
 }
 
-/// A posting tree that an entry of a leaf named.
-#[derive(Debug, Drop)]
-pub(crate) struct TreeRoot {
-    /// The entry's key.
-    pub(crate) key: Vec<u8>,
-    /// The root.
-    pub(crate) root: u32,
-}
-
 /// A document of the snapshot whose vector is on overflow pages, and is still to be matched.
 #[derive(Clone, Copy, Debug)]
 pub(crate) struct LongVector {

@@ -4,10 +4,10 @@ use Rattle.std.specs.declared.alloc.Global.{Global}
 use Rattle.core_state.specs.PageChoice.{IsLeast, AreBelow}
 use Rattle.gin_opclass.specs.declared.QueryKeys.{QueryKeys}
 use Rattle.buffer_frames.specs.Frames.{FramesValue}
-use Rattle.gin_scan.specs.Rows.{asked_by, lists_of}
-use Rattle.gin_scan.specs.Ways.{AreOrdered, asked_at}
+use Rattle.gin_hits.specs.Rows.{asked_by, lists_of}
+use Rattle.gin_hits.specs.Ordered.{AreOrdered, asked_at}
+use Rattle.gin_hits.specs.declared.hits.Hits.{Hits}
 use Rattle.gin_scan.specs.Reading.{IsNoHit, IsUnread}
-use Rattle.gin_scan.specs.declared.hits.Hits.{Hits}
 use Rattle.gin_scan.specs.declared.scan_core.ScanCore.{ScanCore}
 use Rattle.gin_scan.specs.declared.stage.Stage.TheVariants as stage
 

@@ -1,16 +1,16 @@
 -- What a page more of a walk through the tree adds.
-use Rattle.std.specs.Prelude.{◌≡◌, ◌≢◌, ◌⊎◌, ℕ, ◌-◌, ◌≤◌, true, List, [], ◌∷◌, ◌++◌, length, Some}
-use Rattle.std.specs.List.{slice_get, flat_map}
+use Rattle.std.specs.Prelude.{◌≡◌, ◌≢◌, ◌⊎◌, ℕ, ◌-◌, ◌≤◌, List, [], ◌∷◌, ◌++◌, length, Some}
+use Rattle.std.specs.List.{slice_get}
 use Rattle.page_types.specs.Views.{entries_of}
 use Rattle.page_types.specs.declared.page.Page.{Page}
 use Rattle.page_types.specs.declared.page.Entry.{Entry}
 use Rattle.gin_opclass.specs.Class.{Asked}
 use Rattle.core_moments.specs.Walk.{Sought, fits, first_key, toward, beyond}
 use Rattle.entry_tree.specs.Adding.{list_entry}
-use Rattle.core_moments.specs.OpenWalk.{NamedTree, tree_of, trees_on}
-use Rattle.gin_scan.specs.Entries.{AreNotedUnder, entries_with, posting_list_in}
+use Rattle.core_moments.specs.OpenWalk.{NamedTree, trees_on}
+use Rattle.gin_hits.specs.Entries.{AreNotedUnder, entries_with, posting_list_in}
+use Rattle.gin_hits.specs.declared.hits.Hits.{Hits}
 use Rattle.gin_scan.specs.Scanning.{asked_in, sought_in, trees_in}
-use Rattle.gin_scan.specs.declared.hits.Hits.{Hits}
 use Rattle.gin_scan.specs.declared.scan_core.ScanCore.{ScanCore}
 use Rattle.gin_scan.specs.declared.stage.Stage.{Stage}
 use Rattle.gin_scan.specs.declared.stage.Stage.TheVariants as stage
@@ -20,10 +20,6 @@ abbrev pub NotesEntries : List Asked → Sought → Page → Hits → Hits → T
 NotesEntries asked w c old new =
     (es : List Entry) → AreNotedUnder asked es old
     → AreNotedUnder asked (es ++ entries_with (fits w) (entries_of c)) new
-
--- the posting trees that these entries name
-abbrev pub trees_under : List Entry → List NamedTree
-trees_under es = flat_map (λ (e : Entry). tree_of true e.key e.postings []) es
 
 -- the posting trees that such entries name come after these
 abbrev pub NamesTrees : Sought → Page → List NamedTree → List NamedTree → Type 0

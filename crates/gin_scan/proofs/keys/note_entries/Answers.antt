@@ -2,9 +2,9 @@
 use Rattle.std.proofs.Common.{List, ◌++◌, map, subst}
 use Rattle.page_types.specs.declared.page.Entry.{Entry}
 use Rattle.core_moments.specs.Judging.{fits_asked}
-use Rattle.gin_scan.specs.Rows.{asked_by, asked_for}
-use Rattle.gin_scan.specs.Entries.{entries_with, AreNotedUnder}
-use Rattle.gin_scan.specs.Scanning.{trees_of}
+use Rattle.gin_hits.specs.Rows.{asked_by, asked_for}
+use Rattle.gin_hits.specs.Entries.{entries_with, AreNotedUnder}
+use Rattle.gin_hits.specs.Trees.{trees_of}
 use Rattle.gin_scan.proofs.NotedLeaf.{walks_for, names, notes, goes_beyond}
 use Rattle.gin_scan.proofs.keys.note_entries.Goals as goal
 

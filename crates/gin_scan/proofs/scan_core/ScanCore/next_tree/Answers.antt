@@ -1,7 +1,7 @@
 -- The next posting tree, or the next leaf.
 use Rattle.std.proofs.Common.{Some, ℕ, ◌<◌, ◌^◌, sym, ap, ◌∙◌, inl, arith, option_map}
 use Rattle.std.proofs.lemmas.Option.{slice_get-get_or, slice_get-map}
-use Rattle.gin_scan.specs.Scanning.{named_by}
+use Rattle.gin_hits.specs.Trees.{named_by}
 use Rattle.gin_scan.specs.declared.stage.Stage.TheVariants as stage
 use Rattle.gin_scan.proofs.scan_core.ScanCore.next_tree.Goals as goal
 

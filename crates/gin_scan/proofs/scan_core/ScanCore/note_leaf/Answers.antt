@@ -3,8 +3,9 @@ use Rattle.std.proofs.Common.{◌≡◌, ℕ, List, map, Some, subst, slice_get}
 use Rattle.std.specs.Prelude.{IfOk}
 use Rattle.core_moments.specs.Walk as walk
 use Rattle.core_moments.specs.Walk.{Sought}
-use Rattle.gin_scan.specs.Rows.{asked_by}
-use Rattle.gin_scan.specs.Scanning.{sought_for, trees_of}
+use Rattle.gin_hits.specs.Rows.{asked_by}
+use Rattle.gin_hits.specs.Trees.{trees_of}
+use Rattle.gin_scan.specs.Scanning.{sought_for}
 use Rattle.gin_scan.proofs.PostingNoted.{leaf_noted}
 use Rattle.gin_scan.proofs.scan_core.ScanCore.note_leaf.Goals as goal
 

@@ -5,8 +5,8 @@ use Rattle.buffer_frames.specs.declared.frame_error.FrameError.{FrameError}
 use Rattle.buffer_frames.specs.declared.frame_error.FrameError.TheVariants.{BadPage, OutOfMemory}
 use Rattle.core_moments.specs.Walk as walk
 use Rattle.core_moments.specs.Walk.{Sought, first_key}
+use Rattle.gin_hits.specs.Rows.{asked_for}
 use Rattle.gin_scan.specs.Causes.{HasWay}
-use Rattle.gin_scan.specs.Rows.{asked_for}
 use Rattle.gin_scan.specs.Scanning.{sought_for, sought_in}
 use Rattle.gin_scan.specs.Inner.Ways.{GoesToTree}
 use Rattle.gin_scan.specs.declared.stage.Stage.TheVariants as stages

@@ -6,10 +6,10 @@ use Rattle.core_moments.specs.OpenLaws.{IsPostingPage}
 use Rattle.core_moments.specs.Walk.{along}
 use Rattle.buffer_frames.specs.Frames.{Lies}
 use Rattle.buffer_frames.specs.Passes.{holds_after}
+use Rattle.gin_hits.proofs.JudgedScan.{element_at}
 use Rattle.gin_scan.specs.Scanning.{sought_in}
 use Rattle.gin_scan.specs.declared.scan_core.ScanCore.{ScanCore}
 use Rattle.gin_scan.specs.declared.stage.Stage.TheVariants as stage
-use Rattle.gin_scan.proofs.JudgedScan.{element_at}
 use Rattle.gin_scan.proofs.ReadCalls.{held_at, held_calm, calm_then}
 use Rattle.gin_scan.proofs.Refused.{weaker_read, other_page, other_calm}
 use Rattle.gin_scan.proofs.StepsOf.{goes, refused, fails}

@@ -1,9 +1,9 @@
 -- A scan for the keys of a query has begun, or is refused.
 use Rattle.std.proofs.Common.{◌≡◌, ℕ, List, [], length, map, replicate, sym, ap, subst, ◌∙◌, arith}
 use Rattle.std.proofs.lemmas.Result.{err_from_is_err_and}
+use Rattle.gin_hits.specs.Rows.{asked_by}
+use Rattle.gin_hits.specs.Ordered.{AreOrdered, asked_at}
 use Rattle.gin_scan.specs.Causes.{CannotBegin}
-use Rattle.gin_scan.specs.Rows.{asked_by}
-use Rattle.gin_scan.specs.Ways.{AreOrdered, asked_at}
 use Rattle.gin_scan.proofs.BegunScans.{is_begun}
 use Rattle.gin_scan.proofs.ListCalls.{still_looks}
 use Rattle.gin_scan.proofs.Refused.{at_exit}

@@ -1,0 +1,4 @@
+pub mod Searching
+pub mod Keys
+pub mod Near
+pub mod Marks

@@ -1,0 +1,10 @@
+pub mod Rows
+pub mod Entries
+pub mod Trees
+pub mod Ordered
+pub mod Sides
+pub mod Judged
+pub mod Inner
+pub use Rattle.core_moments.specs.Walk
+pub use Rattle.core_moments.specs.Judging
+pub use Rattle.entry_tree.specs.Adding

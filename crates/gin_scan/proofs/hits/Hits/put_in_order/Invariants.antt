@@ -1,7 +1,0 @@
-use Rattle.std.proofs.Common.{map}
-use Rattle.gin_scan.proofs.PutInOrder.{AreFirst}
-use Rattle.gin_scan.proofs.hits.Hits.put_in_order.Given as goal
-
-abbrev pub invariant-loop-items : goal.invariant-loop-items
-invariant-loop-items l =
-    AreFirst l.items-index (map (λ v. v.items) l.initial.items-items) (map (λ v. v.items) l.items-items)
