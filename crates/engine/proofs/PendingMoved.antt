@@ -36,7 +36,7 @@ use Rattle.buffer_frames.proofs.FirstLogs.{shown_by}
 use Rattle.gin_place.proofs.Logs.{cut_front}
 use Rattle.gin_cleanup.specs.Cleaning.{IsStillIn}
 use Rattle.gin_cleanup.specs.Going.{IsCleaningKind}
-use Rattle.gin_cleanup.proofs.ListKept.{in_kinds, all_in, placing_adds}
+use Rattle.gin_cleanup.proofs.ListKept.{in_kinds, all_in}
 use Rattle.engine.specs.Inner.Cleaned.{AreGoneSince}
 
 -- the record only adds, or is a Shift
@@ -178,7 +178,7 @@ cleaning_moves r (inl e) = inr (shift_of r.kind e)
     shift_of kind.DeletePost e = absurd (let z : ⊥ = omega (arith, e) in z)
     shift_of (kind.DropPage i s) e = absurd (let z : ⊥ = omega (arith, e) in z)
     shift_of kind.FreeSlots e = absurd (let z : ⊥ = omega (arith, e) in z)
-cleaning_moves r (inr p) = inl (inr (placing_adds (kind_number r.kind) p))
+cleaning_moves r (inr p) = inl (inr p)
 
 -- what came between, with the owed Abort
 record Between (R R' : Log) : Type 0 where

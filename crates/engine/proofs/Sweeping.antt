@@ -28,7 +28,6 @@ use Rattle.gin_place.proofs.Carrying.{cut_cut}
 use Rattle.gin_place.proofs.Faults.{fine_then}
 use Rattle.gin_cleanup.specs.Cleaning.{IsStillIn, SaysWhether}
 use Rattle.gin_cleanup.specs.Going.{IsCause}
-use Rattle.gin_cleanup.specs.declared.cleanup.Stage.{Stage}
 use Rattle.engine.specs.Answers.{MeetsNoBadPage}
 use Rattle.engine.specs.Cleaning.{Comes, AreMoved, CannotClean}
 use Rattle.engine.specs.Db.{DbValue, state_of, IsUp}
@@ -76,12 +75,12 @@ module _ {D : Type 0} (device : Disk D) where
   -- ── why it ends ──
 
   -- a step is refused, after others
-  pub ends_by : (f m g : FramesValue D) (p q r : Pass) (ks : List ℕ) (stage : Stage) (e : PlaceError)
+  pub ends_by : (f m g : FramesValue D) (p q r : Pass) (ks : List ℕ) (e : PlaceError)
       → down_of f.journal.wal ≡ None → CleansThrough device f p m q ks → HasAdded device m g []
-      → FaultBy device f g e → Finds device m q (IsCause device stage g e) → EndsBy device f g e
-  ends_by f m g p q r ks stage e up through refused told found = by e told found
+      → FaultBy device f g e → Finds device m q (IsCause device g e) → EndsBy device f g e
+  ends_by f m g p q r ks e up through refused told found = by e told found
     where
-      comes : (x : PlaceError) → Finds device m q (IsCause device stage g x) → Comes device f g x
+      comes : (x : PlaceError) → Finds device m q (IsCause device g x) → Comes device f g x
       comes x (h, u, works, met, why) = record {
         frames = h;
         pass = u;
@@ -96,12 +95,11 @@ module _ {D : Type 0} (device : Disk D) where
               subst (Stands device h) (same_by_none m.journal.owes on.0 there.0 there.2) there.1,
               subst (Stands device g) (same_by_none m.journal.owes on.0 left.0 left.2) left.1,
             );
-        stage = stage;
         left = g;
         cause = why;
       }
 
-      by : (x : PlaceError) → FaultBy device f g x → Finds device m q (IsCause device stage g x) → EndsBy device f g x
+      by : (x : PlaceError) → FaultBy device f g x → Finds device m q (IsCause device g x) → EndsBy device f g x
       by StoreFull told found = comes StoreFull found
       by LogFull told found = comes LogFull found
       by (BadPage p) told found = comes (BadPage p) found
@@ -122,7 +120,6 @@ module _ {D : Type 0} (device : Disk D) where
         let same : on.0 ≡ R = same_by_none f.journal.owes R on.0 on.2 in
         let l = c.logs R (subst (Stands device m) same on.1) in
         (l.0, subst (λ (o : Bool). GoesOnBy o R l.0 c.kinds) added.owes l.1, l.2, l.3);
-    stage = c.stage;
     left = c.left;
     cause = c.cause;
   }
@@ -138,7 +135,6 @@ module _ {D : Type 0} (device : Disk D) where
         let l = c.logs R s in
         let on = added.on l.0 l.3 in
         (l.0, l.1, l.2, subst (Stands device h) (same_by_none g.journal.owes l.0 on.0 on.2) on.1);
-    stage = c.stage;
     left = c.left;
     cause = c.cause;
   }

@@ -19,7 +19,6 @@ use Rattle.gin_place.specs.declared.error.PlaceError.{PlaceError}
 use Rattle.gin_place.specs.declared.error.PlaceError.TheVariants as places
 use Rattle.gin_cleanup.specs.Cleaning.{IsStillIn}
 use Rattle.gin_cleanup.specs.Going.{IsCleaningKind, IsCause}
-use Rattle.gin_cleanup.specs.declared.cleanup.Stage.{Stage}
 use Rattle.engine.specs.Finding.{Name}
 use Rattle.engine.specs.Db.{DbValue, state_of, IsUp}
 use Rattle.engine.specs.Places.{Lies}
@@ -31,7 +30,7 @@ use Rattle.engine.specs.Answers.{HasLogged, ChangesNothing, HasStored}
 use Rattle.engine.specs.declared.error.DbError.{DbError}
 use Rattle.engine.specs.declared.error.DbError.TheVariants.{StoreFull, LogFull, Down, DiskFault, BadPage, OutOfMemory}
 
--- the records of a cleanup: Shift, and those by which items come into the entry tree
+-- the records of a cleanup: Shift, and those by which items come into the entry tree and posting trees
 abbrev pub AreCleaning : List Record → Type 0
 AreCleaning rs = AllByRecursion (λ (r : Record). IsCleaningKind (kind_number r.kind)) rs
 
@@ -44,9 +43,8 @@ pub record Comes {D : Type 0} (device : Disk D) (f new : FramesValue D) (e : Pla
   pub cleaning : AllByRecursion IsCleaningKind kinds
   pub logs : (R : Log) → Stands device f R
       → (R' : Log) × GoesOnBy f.journal.owes R R' kinds × Stands device frames R' × Stands device new R'
-  pub stage : Stage
   pub left : FramesValue D
-  pub cause : IsCause device stage left e frames pass
+  pub cause : IsCause device left e frames pass
 
 module _ {D : Type 0} (device : Disk D) (old new : DbValue D) where
   -- Whatever is answered: no document has changed, and only records of a cleanup were logged.
@@ -62,7 +60,7 @@ module _ {D : Type 0} (device : Disk D) (old new : DbValue D) where
         → Shows R Q → (k : Key) (i : ℕ) → Pending P k i → Main Q k i)
 
   -- Why it is refused: the store was down, and then nothing is done; or somewhere on its way there was no page,
-  -- or a list that is too long, no room in the log for the next record, or a bad page.
+  -- no room in the log for the next record, or a bad page.
   abbrev pub CannotClean : DbError → Type 0
   CannotClean (Down fault) = IsDown old fault × (new ≡ old)
   CannotClean DiskFault = MetFault device old new

@@ -145,7 +145,7 @@ impl<D: Disk> Db<D> {
         Ok(cleaned?)
     }
 
-    /// Moves the rows of the pending list into the tree of keys. What is refused keeps the steps that it made.
+    /// Moves the rows of the pending list into the trees of the index. What is refused keeps the steps that it made.
     pub fn cleanup(&mut self, pass: &mut Pass) -> Result<(), DbError>
         requires session { IsSession self.old pass.old }
         ensures session { IsSession self.new pass.new }

@@ -26,8 +26,7 @@ pub enum DbError {
     /// This transaction deletes the document: it runs, or has committed since the statement began.
     #[error("conflict {xid}")]
     Conflict { xid: u32 },
-    /// There is no page for the document, or for the tree of keys; or, until long lists become trees, a key's
-    /// list would be too long.
+    /// There is no page for the document, or for the trees of the index.
     #[error("store full")]
     StoreFull,
     /// The log would pass its limit.

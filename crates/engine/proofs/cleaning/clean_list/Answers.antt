@@ -6,7 +6,6 @@ use Rattle.gin_place.specs.declared.error.PlaceError.{PlaceError}
 use Rattle.gin_place.proofs.Carrying.{reads_still, same_added, right_on}
 use Rattle.gin_place.proofs.Causing.{at_exit}
 use Rattle.gin_place.proofs.Faults.{fine_then, told_then}
-use Rattle.gin_cleanup.specs.declared.cleanup.Stage.TheVariants.{Shifting}
 use Rattle.engine.specs.Inner.Cleaned.{EndsBy, NeverBad}
 use Rattle.engine.proofs.Cleanups.{through_reads, through_in_turn}
 use Rattle.engine.proofs.ReadSteps.{if_err}
@@ -37,7 +36,7 @@ returns-in_err-cleanup-clause-cause g c =
     let p = err_from_is_err_and c.from_residual.result c.from_residual.ensures.1 in
     let w : PlaceError = c.in_err-cleanup.field-0.0 in
     at_exit (λ x. EndsBy g.D.Disk f c.begin.new.frames x) c.from_residual.result p.0 w p.1 p.2
-    (ends_by g.D.Disk f f c.begin.new.frames q q c.begin.new.pass [] Shifting w c.requires.up
+    (ends_by g.D.Disk f f c.begin.new.frames q q c.begin.new.pass [] w c.requires.up
     (through_reads g.D.Disk f f q q (reads_still g.D.Disk f q c.requires.pass (same_added g.D.Disk f)).works)
     c.begin.ensures.reads.works.added c.in_err-cleanup.ensures.fault c.in_err-cleanup.ensures.cause)
 

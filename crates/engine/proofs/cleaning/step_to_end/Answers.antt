@@ -130,7 +130,7 @@ returns-in_err-more-clause-cause g c =
     let w : PlaceError = c.in_err-more.field-0.0 in
     at_exit (λ x. EndsBy g.D.Disk c.args.frames.now c.step.new.frames x) c.from_residual.result p.0 w p.1 p.2
     (ends_by g.D.Disk c.args.frames.now c.loop.frames c.step.new.frames c.args.pass.now c.loop.pass c.step.new.pass
-    was.through.0 c.loop.cleanup.stage w c.requires.up was.through.1 h.refused.added
+    was.through.0 w c.requires.up was.through.1 h.refused.added
     (told_then g.D.Disk c.args.frames.now c.loop.frames c.step.new.frames w was.met h.fault) h.cause)
 
 pub returns-in_err-more-clause-lawful : goal.returns-in_err-more-clause-lawful
