@@ -2,13 +2,21 @@
 
 /// What is done with a device: how often, and how often where time is asked for, with what, and after `|` what is
 /// printed after the first count. `new` begins another device; `log` puts bytes at a place of its log. `insert` has the
-/// vector of the documents: `-` is the one without words, `long` one of a word of 2,046 letters, each time another, and
-/// where it has none, each has eight words that are drawn. `search` has a query; both also print the serial of the last
-/// document that they stored or found. `scan` has a query: it is printed how many documents are found, how many the
-/// judge does not leave out, and how many heads and pages are read in how many steps. `clean` moves the pending list to
-/// the tree, of a store of so many pages; it is printed in how many steps, or that no page was left. `tree` has a word:
-/// it is printed how many items the leaves have for it, and how many pages are read, the leftmost way and all leaves.
-/// `hold` holds a page.
+/// vector of the documents: `-` is the one without words, `long` one of a word of 2,046 letters, each time another,
+/// where it has none, each has eight words that are drawn, and of `half` about every other one has the word `common`
+/// too. `search` has a query; both also print the serial of the last document that they stored or found. `scan` has a
+/// query: it is printed how many documents are found, how many the judge does not leave out, and how many heads and
+/// pages are read in how many steps. `clean` moves the pending list to the trees; it is printed how many records it
+/// logs, and where no page or no byte of the log was left. Its words are how many pages there may be, and how many
+/// bytes. `tree` has a word: it is printed how many items the trees have for it, and how many pages are read, the
+/// leftmost way and all leaves, and so of the word's posting tree. `judge` has a query: it is printed how many
+/// documents the model doesn't leave out, and of how many it is sure without their vector; the log is legal, each
+/// document in one part of the index after each record, and each judged rightly. `hold` holds a page.
+///
+/// `place` puts items, that no row has, under so many keys: its words are how many letters each has, the first item,
+/// how many there are, the step from one to the next, how many are put at once, and then those of `clean`. It is
+/// printed how many records that takes. `fail` has `place` or `clean` before the words of that, which is not done with
+/// the device but with images of it: each call of the device fails in turn, and what is left takes the work again.
 ///
 /// No head is read for a word that no document has. 816 rows of one key of a letter have room on a page, and 204 heads
 /// with their vectors: so 2,000 documents have 3 pages of the list and 10 heap pages, and the metapage is read too.
@@ -16,7 +24,9 @@
 /// In the log are three inserts: the second one, of `b:1`, is aborted when its row is linked. The row stays, and the
 /// document is never found.
 ///
-/// 995 documents of one word make a list of 1000 bytes, so the next one stays on the pending list, and is found.
+/// 995 documents of one word make a list of 1000 bytes, and with one more the list is a posting tree. A leaf of it has
+/// room for some 8,100 of these items. 9,000 documents of two words are on 54 heap pages and 16 of the list, so that of
+/// 73 pages there are two for the trees; what comes into them stays there, and the rest comes with more pages.
 pub(crate) const ROWS: &str = "\
     new
     insert 1 1 a:1 b:2 | insert of a and b
@@ -32,7 +42,7 @@ pub(crate) const ROWS: &str = "\
     scan 1 1 a | with a
     scan 1 1 a & b | with a and b
     new
-    log 0 0 0147494e5348204452414654203030303401b7e00000184000000100000000010000000000000002000000000001
+    log 0 0 0147494e5348204452414654203030303501b7e00000184000000100000000010000000000000002000000000001
     log 53 0 01000000000000000c
     log 8237 0 0100000000050000000000000001
     log 16434 0 0e00000002010000000200000000000000001f200000060100000003000000000000000010000001000000000000
@@ -68,23 +78,99 @@ pub(crate) const ROWS: &str = "\
     scan 1 1 b | with b
     new
     insert 1 1 - | insert of no word
-    clean 1 1 | steps of a cleanup
+    clean 1 1 | records of a cleanup
     tree 1 1 - | items of the placeholder
     new
     insert 995 995 a:1 | inserts of a
-    clean 1 1 | steps of a cleanup
+    clean 1 1 | records of a cleanup
     tree 1 1 a | items of a
     scan 1 1 a | with a
-    clean 1 1 | steps of a cleanup
+    clean 1 1 | records of a cleanup
     insert 1 1 a:1 | insert of a
-    clean 1 1 | steps of a cleanup
+    clean 1 1 | records of a cleanup
     tree 1 1 a | items of a
     scan 1 1 a | with a
+    scan 1 1 !b | without b
+    judge 1 1 a | with a to the model
+    insert 500 500 a:1 b:1 | inserts of a and b
+    scan 1 1 a & !b | with a without b
+    clean 1 1 | records of a cleanup
+    tree 1 1 a | items of a
+    tree 1 1 b | items of b
+    scan 1 1 a & !b | with a without b
+    judge 1 1 a & !b | with a without b to the model
+    new
+    insert 9000 9000 a:1 b:1 | inserts of a and b
+    clean 1 1 73 | records of a cleanup on 73 pages
+    tree 1 1 a | items of a
+    scan 1 1 a & b | with a and b
+    clean 1 1 | records of a cleanup
+    tree 1 1 a | items of a
+    tree 1 1 b | items of b
+    scan 1 1 a & b | with a and b
+    search 1 1 a | with a
     new
     insert 8 8 long | inserts of long words
-    clean 1 1 16 | steps of a cleanup
-    clean 1 1 | steps of a cleanup
-    tree 1 1 a | items of a
+    clean 1 1 16 | records of a cleanup
+    scan 1 1 !z | without z
+    clean 1 1 65536 520000 | records of a cleanup
+    scan 1 1 !z | without z
+    clean 1 1 | records of a cleanup
+    tree 1 1 * | items of all keys
+    scan 1 1 !z | without z
+    judge 1 1 !z | without z to the model
+    new
+    insert 200 200 | inserts of eight words
+    clean 1 1 | records of a cleanup
+    judge 1 1 w2* | with a word that begins with w2 to the model
+    new
+    insert 2 2 long | inserts of long words
+    insert 2 2 a:1 b:1 | inserts of a and b
+    fail 1 1 clean | items of a cleanup
+    new
+    place 24 24 2046 1 1 1 1 | records of 24 long keys
+    place 24 24 2046 1 1 1 1 | records of them once more
+    tree 1 1 * | items of all keys
+    new
+    place 24 24 2046 1 1 1 1 16 | records of long keys on 16 pages
+    place 24 24 2046 1 1 1 1 | records of the rest, on more pages
+    tree 1 1 * | items of all keys
+    new
+    place 24 24 2046 1 1 1 1 65536 300000 | records of long keys in a short log
+    place 24 24 2046 1 1 1 1 | records of the rest, in a longer one
+    tree 1 1 * | items of all keys
+    new
+    place 1 1 6 1 5000 1 5000 | records of 5,000 items of a new key
+    tree 1 1 100000 | items of the key
+    new
+    place 1 1 6 1 10 1 10 | records of ten items
+    place 1 1 6 11 5000 1 5000 | records of 5,000 more
+    tree 1 1 100000 | items of the key
+    new
+    place 1 1 6 1 40000 1 40000 | records of 40,000 items at once
+    place 1 1 6 1 40000 1 40000 | records of them once more
+    tree 1 1 100000 | items of the key
+    new
+    place 1 1 6 1 40000 1 1000 | records of 40,000 items in 40 parts
+    tree 1 1 100000 | items of the key
+    new
+    place 1 1 6 2 40000 2 40000 | records of 40,000 even items
+    place 1 1 6 1 40000 2 40000 | records of the odd ones
+    tree 1 1 100000 | items of the key
+    new
+    place 2 2 6 1 9000 1 9000 | records of 9,000 items of two keys
+    tree 1 1 100000 | items of the first key
+    tree 1 1 100001 | items of the second
+    new
+    place 1 1 6 1 40000 1 40000 5 | records of 40,000 items on five pages
+    tree 1 1 100000 | items of the key
+    place 1 1 6 1 40000 1 40000 | records of the rest, on more pages
+    tree 1 1 100000 | items of the key
+    new
+    fail 5 5 place 2046 1 1 1 1 | items of five long keys
+    fail 1 1 place 6 1 5000 1 1000 | items of one key
+    place 1 1 6 2 9000 2 9000 | records of 9,000 even items
+    fail 1 1 place 6 1 9000 2 3000 | items with the odd ones, in three parts
     new
     insert 1000 20000 | inserts of eight words
     search 1 100 w241 | with w241
@@ -102,7 +188,7 @@ pub(crate) const ROWS: &str = "\
     scan 1 1 w24:* | with a word that begins with w24
     scan 1 1 !w241 | without w241
     scan 1 1 w241 <-> w5 | with w241 before w5
-    clean 1 1 | steps of a cleanup
+    clean 1 1 | records of a cleanup
     tree 1 1 w241 | items of w241
     scan 1 1 w241 | with w241
     scan 1 1 z | with z
@@ -116,15 +202,27 @@ pub(crate) const ROWS: &str = "\
     search 1 1000 w241 <-> w5 | with w241 before w5
     search 1 1000 w241 & !w5 | with w241 and without w5
     search 1 10 !w241 | without w241
+    new
+    insert 1000 20000 common:1 | inserts of one word
+    clean 1 1 | records of a cleanup
+    tree 1 1 common | items of the word
+    search 1 100 common | with the word
+    new
+    insert 1000 20000 half | inserts of eight words, half of them with one more
+    clean 1 1 | records of a cleanup
+    insert 100 1000 half | more of them
+    clean 1 1 | records of a cleanup
+    tree 1 1 common | items of the word
+    search 1 100 common | with the word
 ";
 
 /// The first word, and the words after it.
-fn word(words: &str) -> (&str, &str) {
+pub(crate) fn word(words: &str) -> (&str, &str) {
     words.split_once(' ').unwrap_or((words, ""))
 }
 
 /// The number that a word is; the greatest where it is none.
-fn number(word: &str) -> u32 {
+pub(crate) fn number(word: &str) -> u32 {
     word.parse().unwrap_or(u32::MAX)
 }
 

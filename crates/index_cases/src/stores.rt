@@ -158,10 +158,9 @@ fn run_over(bench: &Bench<'_>, disk: MemoryDisk, row: Row<'_>) -> Result<MemoryD
     Ok(store.close(pass))
 }
 
-/// The same. The device is away meanwhile.
+/// The same with what is synced of a device, which is left as it is where the row is refused.
 pub(crate) fn run(bench: &Bench<'_>, disk: &mut MemoryDisk, row: Row<'_>) -> Result<()> {
-    let alloc = bench.alloc();
-    let taken = std::mem::replace(disk, MemoryDisk::new(alloc, Vec::new(alloc)));
-    *disk = run_over(bench, taken, row)?;
+    let image = disk.image(bench.alloc(), disk.calls(), 0)?;
+    *disk = run_over(bench, image, row)?;
     Ok(())
 }

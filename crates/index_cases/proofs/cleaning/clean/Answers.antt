@@ -1,107 +1,62 @@
--- The pass has the right of maintenance, and a cleanup goes on.
-use Rattle.std.proofs.Common.{◌≡◌, ◌≤◌, ◌∙◌, ap, arith}
-use Rattle.std.specs.Prelude.{Some}
+-- The pass keeps its right, and the cleanup goes on.
+use Rattle.std.proofs.Common.{◌∙◌, ℕ, Bool}
+use Rattle.std.specs.Prelude.{Result}
+use Rattle.disk_trait.specs.declared.device.Disk.{Ghosts as Disk}
+use Rattle.buffer_frames.specs.Frames.{FramesValue}
 use Rattle.buffer_frames.specs.declared.pass.Pass.{Pass}
-use Rattle.gin_place.specs.Placing.{HasRight}
+use Rattle.gin_place.specs.declared.error.PlaceError.{PlaceError}
+use Rattle.gin_cleanup.specs.Going.{HasCleaned}
+use Rattle.gin_cleanup.specs.declared.cleanup.Cleanup.{Cleanup}
+use Rattle.index_cases.specs.Working.{Works}
+use Rattle.index_cases.proofs.Rights.{right_stays}
 use Rattle.index_cases.proofs.cleaning.clean.Goals as goal
 
--- the right that was claimed stays, where the pass has seen no less
-stays : (p q : Pass) → HasRight p → q.work ≡ p.work → p.seen ≤ q.seen → HasRight q
-stays p q right same le = record { at = right.at; has = same ∙ right.has; within = omega (arith, right.within, le) }
+-- after a step it works still
+works_on : {D : Type 0} (device : Disk D) (f : FramesValue D) (p : Pass) (f' : FramesValue D) (p' : Pass) (from : ℕ)
+    (old new : Cleanup) (r : Result Bool PlaceError) → Works f p 16 → HasCleaned device f p f' p' from old new r
+    → Works f' p' 16
+works_on device f p f' p' from old new r w h = record {
+  is_pass = h.works.2.is_pass;
+  right = right_stays p p' w.right h.works.2.work h.works.2.rises.seen;
+  none = h.none_held;
+  room_is = h.works.2.room ∙ w.room_is;
+}
 
-pub begin-requires-clause-right : goal.begin-requires-clause-right
-begin-requires-clause-right g c =
-    record {
-      at = c.args.frames.now.journal.state.records;
-      has = c.look.ensures.keeps.work ∙ ap (λ (p : Pass). p.work) (c.try_claim_work.ensures.claimed c.if-not-try_claim_work.false).pass;
-      within = omega (arith, c.in_ok-look.ensures.all, c.look.ensures.added.longer, c.try_claim_work.ensures.added.longer);
-    }
-
-pub begin-requires-clause-none : goal.begin-requires-clause-none
-begin-requires-clause-none g c =
-    c.look.ensures.keeps.held ∙ ap (λ (p : Pass). p.held) (c.try_claim_work.ensures.claimed c.if-not-try_claim_work.false).pass ∙ c.requires.held
-
-pub loop-steps-init : goal.loop-steps-init
-loop-steps-init g c =
-    let right : HasRight c.look.new.pass = record {
-      at = c.args.frames.now.journal.state.records;
-      has = c.look.ensures.keeps.work ∙ ap (λ (p : Pass). p.work) (c.try_claim_work.ensures.claimed c.if-not-try_claim_work.false).pass;
-      within = omega (arith, c.in_ok-look.ensures.all, c.look.ensures.added.longer, c.try_claim_work.ensures.added.longer);
-    } in
+pub loop-init : goal.loop-init
+loop-init g c =
     let works = c.begin.ensures.reads.works in
     record {
-      pass = works.is_pass;
-      held = c.begin.ensures.none_held;
-      room = works.room ∙ c.look.ensures.keeps.room ∙ ap (λ (p : Pass). p.room) (c.try_claim_work.ensures.claimed c.if-not-try_claim_work.false).pass;
-      right = stays c.look.new.pass c.begin.new.pass right works.work works.rises.seen;
+      working = record {
+        is_pass = works.is_pass;
+        right = right_stays c.args.pass.now c.begin.new.pass c.requires.working.right works.work works.rises.seen;
+        none = c.begin.ensures.none_held;
+        room_is = works.room ∙ c.requires.working.room_is;
+      };
       cleaning = (c.in_ok-cleanup.ensures.cleaning.0, c.in_ok-cleanup.ensures.cleaning.2);
     }
 
-pub loop-steps-preserved : goal.loop-steps-preserved
-loop-steps-preserved g c =
-    let w = c.loop-steps.invariant in
+pub loop-preserved : goal.loop-preserved
+loop-preserved g c =
+    let w = c.loop.invariant in
     let h = c.step.ensures w.cleaning.0 w.cleaning.1 in
     record {
-      pass = h.works.2.is_pass;
-      held = h.none_held;
-      room = h.works.2.room ∙ w.room;
-      right = stays c.loop-steps.pass c.step.new.pass w.right h.works.2.work h.works.2.rises.seen;
+      working = works_on g.D.Disk c.loop.frames c.loop.pass c.step.new.frames c.step.new.pass w.cleaning.0
+          c.loop.cleanup c.step.new.self c.step.result w.working h;
       cleaning = (w.cleaning.0, h.cleaning);
     }
 
-pub returns-in_err-look-clause-held : goal.returns-in_err-look-clause-held
-returns-in_err-look-clause-held g c =
-    c.look.ensures.keeps.held ∙ ap (λ (p : Pass). p.held) (c.try_claim_work.ensures.claimed c.if-not-try_claim_work.false).pass ∙ c.requires.held
+pub returns-in_err-more : goal.returns-in_err-more
+returns-in_err-more g c =
+    let w = c.loop.invariant in
+    record {
+      working = works_on g.D.Disk c.loop.frames c.loop.pass c.step.new.frames c.step.new.pass w.cleaning.0
+          c.loop.cleanup c.step.new.self c.step.result w.working (c.step.ensures w.cleaning.0 w.cleaning.1);
+    }
 
-pub returns-in_err-look-clause-room : goal.returns-in_err-look-clause-room
-returns-in_err-look-clause-room g c =
-    c.look.ensures.keeps.room ∙ ap (λ (p : Pass). p.room) (c.try_claim_work.ensures.claimed c.if-not-try_claim_work.false).pass
-
-pub returns-in_err-cleanup-clause-room : goal.returns-in_err-cleanup-clause-room
-returns-in_err-cleanup-clause-room g c =
-    c.begin.ensures.reads.works.room ∙ c.look.ensures.keeps.room ∙ ap (λ (p : Pass). p.room) (c.try_claim_work.ensures.claimed c.if-not-try_claim_work.false).pass
-
-pub returns-in_err-more-clause-pass : goal.returns-in_err-more-clause-pass
-returns-in_err-more-clause-pass g c =
-    let w = c.loop-steps.invariant in
-    let h = c.step.ensures w.cleaning.0 w.cleaning.1 in
-    h.works.2.is_pass
-
-pub returns-in_err-more-clause-held : goal.returns-in_err-more-clause-held
-returns-in_err-more-clause-held g c =
-    let w = c.loop-steps.invariant in
-    let h = c.step.ensures w.cleaning.0 w.cleaning.1 in
-    h.none_held
-
-pub returns-in_err-more-clause-room : goal.returns-in_err-more-clause-room
-returns-in_err-more-clause-room g c =
-    let w = c.loop-steps.invariant in
-    let h = c.step.ensures w.cleaning.0 w.cleaning.1 in
-    h.works.2.room ∙ w.room
-
-pub returns-then-not-more-clause-pass : goal.returns-then-not-more-clause-pass
-returns-then-not-more-clause-pass g c =
-    let w = c.loop-steps.invariant in
-    let h = c.step.ensures w.cleaning.0 w.cleaning.1 in
-    h.works.2.is_pass
-
-pub returns-then-not-more-clause-held : goal.returns-then-not-more-clause-held
-returns-then-not-more-clause-held g c =
-    let w = c.loop-steps.invariant in
-    let h = c.step.ensures w.cleaning.0 w.cleaning.1 in
-    h.none_held
-
-pub returns-then-not-more-clause-room : goal.returns-then-not-more-clause-room
-returns-then-not-more-clause-room g c =
-    let w = c.loop-steps.invariant in
-    let h = c.step.ensures w.cleaning.0 w.cleaning.1 in
-    h.works.2.room ∙ w.room
-
-pub returns-clause-pass : goal.returns-clause-pass
-returns-clause-pass g c = c.loop-steps.invariant.pass
-
-pub returns-clause-held : goal.returns-clause-held
-returns-clause-held g c = c.loop-steps.invariant.held
-
-pub returns-clause-room : goal.returns-clause-room
-returns-clause-room g c = c.loop-steps.invariant.room
+pub returns-then-not-more : goal.returns-then-not-more
+returns-then-not-more g c =
+    let w = c.loop.invariant in
+    record {
+      working = works_on g.D.Disk c.loop.frames c.loop.pass c.step.new.frames c.step.new.pass w.cleaning.0
+          c.loop.cleanup c.step.new.self c.step.result w.working (c.step.ensures w.cleaning.0 w.cleaning.1);
+    }

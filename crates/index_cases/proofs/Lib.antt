@@ -1,0 +1,3 @@
+mod FirstKey
+mod Rights
+mod Rising
